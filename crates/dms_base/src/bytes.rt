@@ -1,0 +1,63 @@
+ghost use Rattle.std.specs.Prelude.{◌≡◌, ◌++◌, ◌∷◌, [], IfOk, OnOk, OnErr};
+
+use crate::Memory;
+use std::alloc::Global;
+use std::marker::Model;
+
+/// A list of bytes.
+#[derive(Debug, Drop)]
+pub struct Bytes {
+    kept: Vec<u8>,
+}
+
+impl Model for Bytes {
+    ghost use Rattle.std.specs.Prelude.{List, ℕ};
+
+    ghost Value = { List ℕ };
+
+    ghost view = { λ b. b.kept.items };
+}
+
+impl Bytes {
+    /// The empty list.
+    pub fn new(alloc: Global) -> Bytes
+        ensures { result ≡ [] }
+    {
+        Bytes {
+            kept: Vec::new(alloc),
+        }
+    }
+
+    /// A copy of these bytes.
+    pub fn copied(alloc: Global, bytes: &[u8]) -> Result<Bytes, Memory>
+        ensures { IfOk result (λ b. b ≡ bytes.now) }
+    {
+        Ok(Bytes {
+            kept: bytes.to_vec(alloc)?,
+        })
+    }
+
+    pub fn as_slice(&self) -> &[u8]
+        ensures { result.now ≡ self.now }
+    {
+        self.kept.as_slice()
+    }
+
+    /// Adds a byte at the end.
+    pub fn push(&mut self, byte: u8) -> Result<(), Memory>
+        ensures ok { OnOk result (self.new ≡ self.old ++ byte ∷ []) }
+        ensures err { OnErr result (self.new ≡ self.old) }
+    {
+        self.kept.push(byte)?;
+        Ok(())
+    }
+
+    /// Adds these bytes at the end.
+    pub fn extend(&mut self, bytes: &[u8]) -> Result<(), Memory>
+        ensures ok { OnOk result (self.new ≡ self.old ++ bytes.now) }
+        ensures err { OnErr result (self.new ≡ self.old) }
+    {
+        self.kept.extend_from_slice(bytes)?;
+        Ok(())
+    }
+}
