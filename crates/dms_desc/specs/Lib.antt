@@ -1,2 +1,2 @@
 pub mod Conds
-pub mod Trees
+pub mod Shape
