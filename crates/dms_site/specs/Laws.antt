@@ -1,0 +1,75 @@
+-- What a write leaves of the ranges of a file.
+use Rattle.std.proofs.Common.{ℕ, ◌+◌, ◌-◌, ◌<◌, ◌≤◌, min, max, ◌≡◌, ◌≢◌, List, ◌++◌, length, take, drop, get_or, replicate, refl, sym, ◌∙◌, ap, subst, arith, length-append, length-take, length-drop}
+use Rattle.std.proofs.lemmas.List.{places, length-replicate, get_or-drop, get_or-take, take_at, drop_at, ext_get_or, append_assoc}
+use Rattle.std.proofs.lemmas.Bool.Decides.{nat_tests}
+use Rattle.dms_site.specs.Files.{Files, with_file, range, padded, overlaid, InFile, Torn}
+
+pub with_file_here : (files : Files) (f : ℕ) (bytes : List ℕ) → with_file files f bytes f ≡ bytes
+unfolding with_file
+with_file_here files f bytes = grind (arith, nat_tests)
+
+pub with_file_other : (files : Files) (f : ℕ) (bytes : List ℕ) (g : ℕ) → g ≢ f → with_file files f bytes g ≡ files g
+unfolding with_file
+with_file_other files f bytes g other = grind (arith, nat_tests)
+
+-- a byte of a range
+pub get_or-range : (at n i : ℕ) (file : List ℕ) → i < n → get_or (range at n file) i 0 ≡ get_or file (at + i) 0
+unfolding range
+get_or-range at n i file low = get_or-take n (drop at file) i 0 low ∙ get_or-drop at file i 0
+
+pub length-range : (at n : ℕ) (file : List ℕ) → length (range at n file) ≡ min n (length file - at)
+unfolding range
+length-range at n file = omega (arith, length-take n (drop at file), length-drop at file)
+
+-- a range in which two files agree
+pub range_same : (at n : ℕ) (old new : List ℕ) → at + n ≤ length old → at + n ≤ length new → ((i : ℕ) → at ≤ i → i < at + n → get_or new i 0 ≡ get_or old i 0) → range at n new ≡ range at n old
+range_same at n old new long longer same =
+    let el : length (range at n old) ≡ n = omega (arith, length-range at n old) in
+    let en : length (range at n new) ≡ n = omega (arith, length-range at n new) in
+    ext_get_or 0 (range at n new) (range at n old) (en ∙ sym el) (λ k h.
+    let low : k < n = omega arith in
+    get_or-range at n k new low ∙ same (at + k) (omega arith) (omega arith) ∙ sym (get_or-range at n k old low))
+
+length-padded : (file : List ℕ) (len : ℕ) → length (padded file len) ≡ max (length file) len
+unfolding padded
+length-padded file len = omega (arith, length-append file (replicate (len - length file) 0), length-replicate {A = ℕ} (len - length file) 0)
+
+front : (at : ℕ) (file : List ℕ) → length (take at (padded file at)) ≡ at
+front at file = omega (arith, length-take at (padded file at), length-padded file at)
+
+pub length-overlaid : (at : ℕ) (bytes file : List ℕ) → length (overlaid at bytes file) ≡ max (length file) (at + length bytes)
+unfolding overlaid
+length-overlaid at bytes file =
+    omega (arith, front at file, length-append (take at (padded file at)) bytes, length-append (take at (padded file at) ++ bytes) (drop (at + length bytes) file), length-drop (at + length bytes) file)
+
+-- a whole write is one that may be cut short
+pub torn_overlaid : (at : ℕ) (bytes file : List ℕ) → Torn at (length bytes) file (overlaid at bytes file)
+unfolding overlaid padded
+torn_overlaid at bytes file = record {
+  no_shorter = omega (arith, length-overlaid at bytes file);
+  no_longer = omega (arith, length-overlaid at bytes file);
+  below = λ i within low. grind (arith, places, front at file);
+  above = λ i within high. grind (arith, places, front at file);
+}
+
+-- what was written is read
+pub range_overlaid : (at : ℕ) (bytes file : List ℕ) → range at (length bytes) (overlaid at bytes file) ≡ bytes
+unfolding overlaid range
+range_overlaid at bytes file =
+    let before = take at (padded file at) in
+    let after = drop (at + length bytes) file in
+    ap (λ (l : List ℕ). take (length bytes) (drop at l)) (append_assoc before bytes after)
+    ∙ ap (λ (l : List ℕ). take (length bytes) l) (drop_at before (bytes ++ after) at (front at file))
+    ∙ take_at bytes after (length bytes) refl
+
+pub torn_refl : (at n : ℕ) (file : List ℕ) → Torn at n file file
+torn_refl at n file = record { no_shorter = omega arith; no_longer = omega arith; below = λ i within low. refl; above = λ i within high. refl }
+
+pub in_file_same : (f : ℕ) (step : List ℕ → List ℕ → Type 0) (files : Files) → step (files f) (files f) → InFile f step files files
+in_file_same f step files here = record { here = here; others = λ g other. refl }
+
+pub in_file_with : (f : ℕ) (step : List ℕ → List ℕ → Type 0) (files : Files) (bytes : List ℕ) → step (files f) bytes → InFile f step files (with_file files f bytes)
+in_file_with f step files bytes here = record {
+  here = subst (λ (l : List ℕ). step (files f) l) (sym (with_file_here files f bytes)) here;
+  others = with_file_other files f bytes;
+}
