@@ -1,0 +1,5 @@
+pub mod Db
+pub mod Members
+pub mod Points
+pub mod Session
+pub mod Stores

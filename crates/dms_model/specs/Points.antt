@@ -1,0 +1,66 @@
+-- What a stop leaves of a store: its quiet points, the next number, and the text.
+use Rattle.std.specs.Prelude.{ℕ, ◌≤◌, ◌≡◌, ◌++◌, List, length, take, Some}
+use Rattle.std.specs.declared.option.Option.{Option}
+use Rattle.dms_block.specs.Moments.{Clock, Runs}
+use Rattle.dms_model.specs.Db.{Db}
+
+-- a quiet point that stands on a disk: its number, its blocks by file, the bytes of its description, and the database that
+-- they spell, if they do
+pub record Point : Type 0 where
+  pub number : ℕ
+  pub blocks : ℕ → List (List ℕ)
+  pub schema : List ℕ
+  pub db : Option Db
+
+-- a quiet point of the verbs: its number and its database
+abbrev pub Quiet : Type 0
+Quiet = ℕ × Db
+
+-- what a stop leaves
+pub record Stop : Type 0 where
+  pub points : List Point
+  pub next : ℕ
+  pub said : List ℕ
+
+-- the first so many of the points, not fewer than were made sure, and a next number that has not fallen
+pub record Front (sure : ℕ) (points : List Point) (next : ℕ) (stop : Stop) : Type 0 where
+  pub count : ℕ
+  pub enough : sure ≤ count
+  pub within : count ≤ length points
+  pub is : stop.points ≡ take count points
+  pub not_fallen : next ≤ stop.next
+
+-- the text of a stop is this one, where it is told
+abbrev pub TextIs : Option (List ℕ) → Stop → Type 0
+TextIs said stop = (t : List ℕ) → said ≡ Some t → stop.said ≡ t
+
+-- the text of then and a front of these bytes, where it is told
+abbrev pub TextGrows : Option (List ℕ) → List ℕ → Stop → Type 0
+TextGrows said bytes stop = (t : List ℕ) → said ≡ Some t → (n : ℕ) × (stop.said ≡ t ++ take n bytes)
+
+-- at each moment of a call that prints nothing
+abbrev pub Leaves : Clock Stop → Clock Stop → ℕ → List Point → ℕ → Option (List ℕ) → Type 0
+Leaves old new sure points next said = Runs old new (λ stop. Front sure points next stop × TextIs said stop)
+
+-- at each moment of a call that prints these bytes
+abbrev pub LeavesText : Clock Stop → Clock Stop → ℕ → List Point → ℕ → Option (List ℕ) → List ℕ → Type 0
+LeavesText old new sure points next said bytes = Runs old new (λ stop. Front sure points next stop × TextGrows said bytes stop)
+
+-- a call makes no point, and as many stay sure
+abbrev pub Stays : List Point → ℕ → List Point → ℕ → Type 0
+Stays points sure points' sure' = (points' ≡ points) × (sure ≤ sure')
+
+-- what definitions know of a point
+abbrev pub told : Point → ℕ × Option Db
+told p = (p.number, p.db)
+
+abbrev pub known : Quiet → ℕ × Option Db
+known q = (q.0, Some q.1)
+
+-- told text grew by these bytes
+abbrev pub Prints : Option (List ℕ) → Option (List ℕ) → List ℕ → Type 0
+Prints old new bytes = (t : List ℕ) → old ≡ Some t → new ≡ Some (t ++ bytes)
+
+-- told text grew by a front of these bytes
+abbrev pub PrintsFront : Option (List ℕ) → Option (List ℕ) → List ℕ → Type 0
+PrintsFront old new bytes = (t : List ℕ) → old ≡ Some t → (n : ℕ) × (new ≡ Some (t ++ take n bytes))

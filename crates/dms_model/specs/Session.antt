@@ -1,0 +1,486 @@
+-- The machine of verbs: what each verb of each program answers and leaves.
+use Rattle.std.specs.Prelude.{ℕ, ◌+◌, ◌-◌, ◌^◌, min, List, [], ◌∷◌, ◌++◌, Bool, true, false, not, ◌||◌, ◌&&◌, ◌==◌, map, filter, length, Some, None, slice_get, slice_set, if◌then◌else◌, nat_le, suc, zero, replicate, is_some, codes}
+use Rattle.std.specs.declared.option.Option.{Option}
+use Rattle.std.specs.List.{list_any}
+use Rattle.std.specs.Str.{bytes_eq}
+use Rattle.dms_base.specs.declared.value.Value.{Value}
+use Rattle.dms_base.specs.declared.kind.Literal.{Literal}
+use Rattle.dms_base.specs.declared.category.Category.{Category}
+use Rattle.dms_base.specs.declared.category.Category.TheVariants.{NotFound, Duplicates, DataError, NotLocked, ReadOnly, LimitError, OpenError, NoRecord, AuditError, Abort as AbortDue}
+use Rattle.dms_base.specs.Fits.{value_of}
+use Rattle.dms_base.specs.Texts.{value_text}
+use Rattle.dms_desc.specs.declared.structure.Item.{Item}
+use Rattle.dms_desc.specs.declared.structure.KeyPart.{KeyPart}
+use Rattle.dms_desc.specs.declared.record.Record.{Record}
+use Rattle.dms_desc.specs.declared.bound.Bound.TheVariants.{Start, End as Behind}
+use Rattle.dms_desc.specs.Shape.{Shape, Described}
+use Rattle.dms_desc.specs.Conds.{meets, item_of, or_null, is_null}
+use Rattle.dms_model.specs.declared.program.Program.{Program}
+use Rattle.dms_model.specs.declared.program.Mode.{Mode}
+use Rattle.dms_model.specs.declared.program.Mode.TheVariants.{Update, Inquiry}
+use Rattle.dms_model.specs.declared.program.Area.{Area}
+use Rattle.dms_model.specs.declared.program.Area.TheVariants.{New, Old}
+use Rattle.dms_model.specs.declared.program.Work.{Work}
+use Rattle.dms_model.specs.declared.program.Lock.{Lock}
+use Rattle.dms_model.specs.declared.verb.Verb.{Verb}
+use Rattle.dms_model.specs.declared.verb.Verb.TheVariants.{OpenUpdate, OpenInquiry, Close, Find, Create, Put as PutItems, Get, Store, Begin, End, Abort}
+use Rattle.dms_model.specs.declared.verb.Path.{Path}
+use Rattle.dms_model.specs.declared.verb.Path.TheVariants.{First, Last, At}
+use Rattle.dms_model.specs.declared.verb.Setting.{Setting}
+use Rattle.dms_model.specs.declared.reply.Reply.{Reply}
+use Rattle.dms_model.specs.declared.reply.Reply.TheVariants.{Done, Exception, Waits}
+use Rattle.dms_model.specs.declared.put.Put.{Put}
+use Rattle.dms_model.specs.declared.put.Put.TheVariants.{Stored, Duplicate, Full}
+use Rattle.dms_model.specs.declared.spot.Spot.{Spot}
+use Rattle.dms_model.specs.Db.{Db}
+use Rattle.dms_model.specs.Points.{Quiet}
+use Rattle.dms_model.specs.Members.{structure_of, name_of, items_of, over_of, first_member, last_member, at_member}
+use Rattle.dms_model.specs.Stores.{put_answer, put_after}
+
+-- what the verbs change: the database, that of the last quiet point or else of the beginning, the number of the next quiet
+-- point, the open programs in the order of their opening (each with its locks), whether a syncpoint is pending, and the
+-- transactions that ended since the last one
+pub record Session : Type 0 where
+  pub db : Db
+  pub mark : Db
+  pub next : ℕ
+  pub programs : List Program
+  pub pending : Bool
+  pub since : ℕ
+
+-- what a step gives: the session after it, the reply, the syncpoint that it took, and the quiet point that it made
+pub record Outcome : Type 0 where
+  pub session : Session
+  pub reply : Reply
+  pub sync : Option ℕ
+  pub quiets : List Quiet
+
+-- a refusal leaves the session as it was
+abbrev pub refuse : Session → Category → List ℕ → Outcome
+refuse s category name = record { session = s; reply = Exception category name; sync = None; quiets = [] }
+
+abbrev pub shows : Session → List ℕ → Outcome
+shows s text = record { session = s; reply = Done text; sync = None; quiets = [] }
+
+abbrev pub done : Session → Outcome
+done s = shows s []
+
+-- Programs
+
+-- the place of a program, or how many there are
+abbrev pub place_of : List ℕ → List Program → ℕ
+place_of name [] = 0
+place_of name (p ∷ ps) = if bytes_eq p.name name then 0 else suc (place_of name ps)
+
+abbrev pub with_program : Session → ℕ → Program → Session
+with_program s i p = record s { programs = slice_set s.programs i p }
+
+-- a verb of this program was carried out, and left it so
+abbrev pub carried : Program → Program
+carried p = record p { active = true }
+
+abbrev pub no_work : Work
+no_work = record { current = None; area = None }
+
+abbrev pub or_none : Option Work → Work
+or_none None = no_work
+or_none (Some w) = w
+
+-- what a program has at hand of a data set
+abbrev pub work_of : Program → ℕ → Work
+work_of p set = or_none (slice_get p.works (set - 1))
+
+abbrev pub with_work : Program → ℕ → Work → Program
+with_work p set w = record p { works = slice_set p.works (set - 1) w }
+
+abbrev pub is_lock : ℕ → ℕ → Lock → Bool
+is_lock set number l = (l.set == set) && (l.number == number)
+
+-- the program holds this record locked
+abbrev pub holds : Program → ℕ → Option ℕ → Bool
+holds p set None = false
+holds p set (Some number) = list_any (is_lock set number) p.locks
+
+-- the record is locked for the program
+abbrev pub with_lock : Program → ℕ → ℕ → Program
+with_lock p set number = if list_any (is_lock set number) p.locks then p else record p { locks = p.locks ++ record { set = set; number = number } ∷ [] }
+
+abbrev pub is_elsewhere : ℕ → Lock → Bool
+is_elsewhere set l = not (l.set == set)
+
+-- outside transaction state the program's lock on the data set is freed
+abbrev pub let_go : Program → ℕ → Program
+let_go p set = if p.in_transaction then p else record p { locks = filter (is_elsewhere set) p.locks }
+
+abbrev pub someone_works : List Program → Bool
+someone_works ps = list_any (λ p. p.in_transaction) ps
+
+-- the programs in transaction state, in the order of their opening
+abbrev pub workers : List Program → List (List ℕ)
+workers [] = []
+workers (p ∷ ps) = if p.in_transaction then p.name ∷ workers ps else workers ps
+
+-- Quiet points
+
+abbrev pub idle : Program → Program
+idle p = record p { active = false }
+
+-- after an END: where no program is in transaction state any more a quiet point is made, every program's `active` is
+-- cleared, and a syncpoint that is pending is taken
+unfoldable pub settle : Session → Outcome
+settle s =
+    if someone_works s.programs then done s
+    else (if s.pending
+    then record { session = record s { mark = s.db; next = s.next + 1; programs = map idle s.programs; pending = false; since = 0 }; reply = Done []; sync = Some s.next; quiets = (s.next, s.db) ∷ [] }
+    else record { session = record s { mark = s.db; next = s.next + 1; programs = map idle s.programs }; reply = Done []; sync = None; quiets = (s.next, s.db) ∷ [] })
+
+-- Storing
+
+-- the first REQUIRED item that is null, from the k-th value on
+abbrev pub missing_from : ℕ → List Item → List Value → Option (List ℕ)
+missing_from k [] values = None
+missing_from k (i ∷ is) values = if i.required && is_null (or_null (slice_get values k)) then Some i.name else missing_from (k + 1) is values
+
+abbrev pub verified : Option Shape → List Value → Bool
+verified None values = true
+verified (Some s) values = meets s.cond values
+
+abbrev pub area_values : Area → List Value
+area_values (New values owner) = values
+area_values (Old values) = values
+
+abbrev pub area_owner : Area → ℕ
+area_owner (New values owner) = owner
+area_owner (Old values) = 0
+
+-- the record that an area replaces
+abbrev pub area_number : Area → Option ℕ → Option ℕ
+area_number (New values owner) current = None
+area_number (Old values) current = current
+
+abbrev pub is_free : Area → Program → ℕ → Option ℕ → Bool
+is_free (New values owner) p set current = true
+is_free (Old values) p set current = holds p set current
+
+-- a refusal, or the program and the database after storing
+pub data Kept : Type 0 where
+  Refused : Category → List ℕ → Kept
+  Keeps : Program → Db → Kept
+
+abbrev pub record_of : Area → Record
+record_of a = record { owner = area_owner a; values = area_values a }
+
+-- the program after its record was stored under a number: it is current, locked for the program, and the area is Old
+abbrev pub stored_program : Program → ℕ → ℕ → Area → Program
+stored_program p set number a = with_lock (with_work p set (record { current = Some number; area = Some (Old (area_values a)) })) set number
+
+abbrev pub put_kept : Put → Described → Program → Db → ℕ → Area → Kept
+put_kept (Stored number) desc p db set a = Keeps (stored_program p set number a) (put_after (Stored number) desc db set (record_of a))
+put_kept (Duplicate d) desc p db set a = Refused Duplicates (name_of (structure_of desc d))
+put_kept Full desc p db set a = Refused LimitError (name_of (structure_of desc set))
+
+abbrev pub kept_unless : Option (List ℕ) → Described → Program → Db → ℕ → Area → Option ℕ → Kept
+kept_unless (Some item) desc p db set a current = Refused DataError item
+kept_unless None desc p db set a current =
+    if verified (structure_of desc set) (area_values a)
+    then put_kept (put_answer desc db set (area_number a current) (record_of a)) desc p db set a
+    else Refused DataError (name_of (structure_of desc set))
+
+abbrev pub area_kept : Option Area → Described → Program → Db → ℕ → Option ℕ → Kept
+area_kept None desc p db set current = Refused NoRecord (name_of (structure_of desc set))
+area_kept (Some a) desc p db set current =
+    if is_free a p set current
+    then kept_unless (missing_from 0 (items_of (structure_of desc set)) (area_values a)) desc p db set a current
+    else Refused NotLocked (name_of (structure_of desc set))
+
+-- storing a program's area of a data set. Refused in this order: no area; an Old one whose record the program doesn't hold
+-- locked; a REQUIRED item that is null; VERIFY not met; an equal key in a structure with NO DUPLICATES; POPULATION
+unfoldable pub keep : Described → Program → Db → ℕ → Kept
+keep desc p db set = area_kept (work_of p set).area desc p db set (work_of p set).current
+
+abbrev pub after_store : Kept → ℕ → Session → Outcome
+after_store (Refused category name) i s = refuse s category name
+after_store (Keeps p db) i s = done (record s { db = db; programs = slice_set s.programs i (carried p) })
+
+unfoldable pub store_step : Described → ℕ → Program → Session → ℕ → Outcome
+store_step desc i p s set = if p.in_transaction then after_store (keep desc p s.db set) i s else refuse s AuditError p.name
+
+-- Transactions
+
+-- the number of the restart data set
+abbrev pub restart_in : List Shape → ℕ
+restart_in [] = 0
+restart_in (s ∷ ss) = if s.kind == 2 then s.number else restart_in ss
+
+abbrev pub restart_of : Described → ℕ
+restart_of desc = restart_in desc.structures
+
+abbrev pub entered : Program → Program
+entered p = carried (record p { in_transaction = true })
+
+abbrev pub after_begin : Kept → ℕ → Session → Outcome
+after_begin (Refused category name) i s = refuse s category name
+after_begin (Keeps p db) i s = done (record s { db = db; programs = slice_set s.programs i (entered p) })
+
+-- for whom a BEGIN-TRANSACTION waits: while a syncpoint is pending, for all programs in transaction state
+abbrev pub awaited : Session → List (List ℕ)
+awaited s = if s.pending then workers s.programs else []
+
+abbrev pub begin_unless : List (List ℕ) → Described → ℕ → Program → Session → Bool → Outcome
+begin_unless (q ∷ qs) desc i p s audit = record { session = s; reply = Waits (q ∷ qs); sync = None; quiets = [] }
+begin_unless [] desc i p s audit = after_begin (if audit then keep desc p s.db (restart_of desc) else Keeps p s.db) i s
+
+-- with AUDIT the restart record is stored: its area is asked for first, the rest once there is nobody to wait for
+unfoldable pub begin_step : Described → ℕ → Program → Session → Bool → Outcome
+begin_step desc i p s audit =
+    if p.in_transaction then refuse s AuditError p.name
+    else (if audit && not (is_some (work_of p (restart_of desc)).area) then refuse s NoRecord (name_of (structure_of desc (restart_of desc)))
+    else begin_unless (awaited s) desc i p s audit)
+
+-- transaction state is left, and all locks are freed
+abbrev pub left : Program → Program
+left p = carried (record p { in_transaction = false; locks = [] })
+
+-- one more transaction since the last syncpoint; the count stands still at its type's end
+abbrev pub one_more : ℕ → ℕ
+one_more n = min (n + 1) (2 ^ 64 - 1)
+
+abbrev pub after_end : Kept → Described → ℕ → Session → Bool → Outcome
+after_end (Refused category name) desc i s sync = refuse s category name
+after_end (Keeps p db) desc i s sync =
+    settle (record s { db = db; programs = slice_set s.programs i (left p); pending = s.pending || sync || nat_le desc.syncpoint (one_more s.since); since = one_more s.since })
+
+-- a syncpoint becomes pending by SYNC, and by the n-th END-TRANSACTION since the last one
+unfoldable pub end_step : Described → ℕ → Program → Session → Bool → Bool → Outcome
+end_step desc i p s audit sync =
+    if p.in_transaction then after_end (if audit then keep desc p s.db (restart_of desc) else Keeps p s.db) desc i s sync
+    else refuse s AuditError p.name
+
+-- what a back-out leaves of a program. All leave transaction state; each that was active loses its locks, current records
+-- and areas, and owes an ABORT, but for the one that asks
+unfoldable pub backed_out : List ℕ → Program → Program
+backed_out name p =
+    if p.active
+    then record p { in_transaction = false; owes_abort = p.owes_abort || not (bytes_eq p.name name); works = map (λ (w : Work). no_work) p.works; locks = [] }
+    else record p { in_transaction = false }
+
+-- the database goes back to the last quiet point, or to the beginning; a pending syncpoint is dropped
+unfoldable pub abort_step : ℕ → Program → Session → Outcome
+abort_step i p s =
+    if p.in_transaction
+    then done (record s { db = s.mark; programs = map (backed_out p.name) s.programs; pending = false; since = 0 })
+    else refuse s AuditError p.name
+
+-- Finding
+
+-- the value that a literal spells for an item; none where it doesn't fit
+abbrev pub fitted : Option Item → Literal → Option Value
+fitted None l = None
+fitted (Some i) l = value_of i.kind l
+
+abbrev pub onto : Option Value → Option (List Value) → Option (List Value)
+onto None vs = None
+onto (Some v) None = None
+onto (Some v) (Some vs) = Some (v ∷ vs)
+
+-- the values of the first key items; none where a literal doesn't fit, which equals nothing
+abbrev pub key_values : List KeyPart → List Item → List Literal → Option (List Value)
+key_values parts items [] = Some []
+key_values [] items (l ∷ ls) = None
+key_values (p ∷ ps) items (l ∷ ls) = onto (fitted (slice_get items (p.item - 1)) l) (key_values ps items ls)
+
+abbrev pub parts_of : Option Shape → List KeyPart
+parts_of None = []
+parts_of (Some s) = s.parts
+
+abbrev pub at_values : Option (List Value) → Described → Db → ℕ → Option Spot
+at_values None desc db x = None
+at_values (Some key) desc db x = at_member desc db x 0 key
+
+-- the data set whose records a structure holds
+abbrev pub set_of : Described → ℕ → ℕ
+set_of desc x = over_of (structure_of desc x)
+
+-- the member that a path names
+unfoldable pub found_by : Described → Db → Path → Option Spot
+found_by desc db (First x) = first_member desc db x 0 Start
+found_by desc db (Last x) = last_member desc db x 0 Behind
+found_by desc db (At x literals) = at_values (key_values (parts_of (structure_of desc x)) (items_of (structure_of desc (set_of desc x))) literals) desc db x
+
+abbrev pub path_of : Path → ℕ
+path_of (First x) = x
+path_of (Last x) = x
+path_of (At x literals) = x
+
+-- the found record is current, and the area is Old with its values
+abbrev pub found_program : Program → ℕ → Spot → Program
+found_program p set r = let_go (with_work p set (record { current = Some r.number; area = Some (Old r.rec.values) })) set
+
+abbrev pub after_find : Option Spot → Described → ℕ → Program → Session → ℕ → Outcome
+after_find None desc i p s x = refuse s NotFound (name_of (structure_of desc x))
+after_find (Some r) desc i p s x = done (with_program s i (carried (found_program p (set_of desc x) r)))
+
+unfoldable pub find_step : Described → ℕ → Program → Session → Path → Outcome
+find_step desc i p s path = after_find (found_by desc s.db path) desc i p s (path_of path)
+
+-- Areas
+
+-- no current record, and a new area with the initial values; links are null there
+unfoldable pub create_step : Described → ℕ → Program → Session → ℕ → Outcome
+create_step desc i p s set =
+    done (with_program s i (carried (let_go (with_work p set (record { current = None; area = Some (New (map (λ (t : Item). t.initial) (items_of (structure_of desc set))) 0) })) set)))
+
+-- the values of an area after a PUT, or the first item whose literal doesn't fit
+pub data Filled : Type 0 where
+  Misfit : List ℕ → Filled
+  Values' : List Value → Filled
+
+abbrev pub item_name : Option Item → List ℕ
+item_name None = []
+item_name (Some t) = t.name
+
+abbrev pub setting_value : List Item → Setting → Option Value
+setting_value items t = fitted (slice_get items (t.item - 1)) t.literal
+
+abbrev pub filled : List Item → List Setting → List Value → Filled
+filled items [] values = Values' values
+filled items (t ∷ ts) values =
+    if is_some (setting_value items t) then filled items ts (slice_set values (t.item - 1) (or_null (setting_value items t)))
+    else Misfit (item_name (slice_get items (t.item - 1)))
+
+abbrev pub with_values : Area → List Value → Area
+with_values (New values owner) new = New new owner
+with_values (Old values) new = Old new
+
+abbrev pub after_put : Filled → ℕ → Program → Session → ℕ → Area → Outcome
+after_put (Misfit item) i p s set a = refuse s DataError item
+after_put (Values' values) i p s set a = done (with_program s i (carried (with_work p set (record { current = (work_of p set).current; area = Some (with_values a values) }))))
+
+abbrev pub put_area : Option Area → Described → ℕ → Program → Session → ℕ → List Setting → Outcome
+put_area None desc i p s set settings = refuse s NoRecord (name_of (structure_of desc set))
+put_area (Some a) desc i p s set settings = after_put (filled (items_of (structure_of desc set)) settings (area_values a)) i p s set a
+
+unfoldable pub put_step : Described → ℕ → Program → Session → ℕ → List Setting → Outcome
+put_step desc i p s set settings = put_area (work_of p set).area desc i p s set settings
+
+-- an item and its value as GET shows them
+abbrev pub item_text : Option Item → Value → List ℕ
+item_text None value = []
+item_text (Some t) value = t.name ++ codes "=" ++ value_text t.kind value
+
+-- further items, each after a comma and a blank
+abbrev pub more_text : List Item → List ℕ → List Value → List ℕ
+more_text items [] values = []
+more_text items (n ∷ ns) values = codes ", " ++ item_text (slice_get items (n - 1)) (item_of values n) ++ more_text items ns values
+
+abbrev pub get_text : List Item → List ℕ → List Value → List ℕ
+get_text items [] values = []
+get_text items (n ∷ ns) values = item_text (slice_get items (n - 1)) (item_of values n) ++ more_text items ns values
+
+abbrev pub get_area : Option Area → Described → ℕ → Program → Session → ℕ → List ℕ → Outcome
+get_area None desc i p s set numbers = refuse s NoRecord (name_of (structure_of desc set))
+get_area (Some a) desc i p s set numbers = shows (with_program s i (carried p)) (get_text (items_of (structure_of desc set)) numbers (area_values a))
+
+unfoldable pub get_step : Described → ℕ → Program → Session → ℕ → List ℕ → Outcome
+get_step desc i p s set numbers = get_area (work_of p set).area desc i p s set numbers
+
+-- Opening and closing
+
+-- the other programs stay as they are, in their order
+abbrev pub without : ℕ → List Program → List Program
+without i [] = []
+without zero (p ∷ ps) = ps
+without (suc i) (p ∷ ps) = p ∷ without i ps
+
+unfoldable pub close_step : ℕ → Program → Session → Outcome
+close_step i p s = if p.in_transaction then refuse s AuditError p.name else done (record s { programs = without i s.programs })
+
+abbrev pub new_program : Described → List ℕ → Mode → Program
+new_program desc name mode = record { name = name; mode = mode; in_transaction = false; owes_abort = false; active = true; works = replicate (length desc.structures) no_work; locks = [] }
+
+abbrev pub open_as : Described → Session → List ℕ → Mode → Outcome
+open_as desc s name mode =
+    if nat_le 64 (length s.programs) then refuse s LimitError name
+    else done (record s { programs = s.programs ++ new_program desc name mode ∷ [] })
+
+-- a verb of a program that isn't open
+unfoldable pub open_step : Described → Session → List ℕ → Verb → Outcome
+open_step desc s name OpenUpdate = open_as desc s name Update
+open_step desc s name OpenInquiry = open_as desc s name Inquiry
+open_step desc s name Close = refuse s OpenError name
+open_step desc s name (Find path) = refuse s OpenError name
+open_step desc s name (Create set) = refuse s OpenError name
+open_step desc s name (PutItems set settings) = refuse s OpenError name
+open_step desc s name (Get set items) = refuse s OpenError name
+open_step desc s name (Store set) = refuse s OpenError name
+open_step desc s name (Begin audit) = refuse s OpenError name
+open_step desc s name (End audit sync) = refuse s OpenError name
+open_step desc s name Abort = refuse s OpenError name
+
+-- One step
+
+abbrev pub is_inquiry : Mode → Bool
+is_inquiry Update = false
+is_inquiry Inquiry = true
+
+abbrev pub opens : Verb → Bool
+opens OpenUpdate = true
+opens OpenInquiry = true
+opens Close = false
+opens (Find path) = false
+opens (Create set) = false
+opens (PutItems set settings) = false
+opens (Get set items) = false
+opens (Store set) = false
+opens (Begin audit) = false
+opens (End audit sync) = false
+opens Abort = false
+
+-- the verbs that a program which opened for inquiry is refused
+abbrev pub changes : Verb → Bool
+changes OpenUpdate = false
+changes OpenInquiry = false
+changes Close = false
+changes (Find path) = false
+changes (Create set) = false
+changes (PutItems set settings) = false
+changes (Get set items) = false
+changes (Store set) = true
+changes (Begin audit) = true
+changes (End audit sync) = true
+changes Abort = true
+
+-- the verb of an open program that owes no ABORT and may do it
+unfoldable pub verb_step : Described → ℕ → Program → Session → Verb → Outcome
+verb_step desc i p s OpenUpdate = refuse s OpenError p.name
+verb_step desc i p s OpenInquiry = refuse s OpenError p.name
+verb_step desc i p s Close = close_step i p s
+verb_step desc i p s (Find path) = find_step desc i p s path
+verb_step desc i p s (Create set) = create_step desc i p s set
+verb_step desc i p s (PutItems set settings) = put_step desc i p s set settings
+verb_step desc i p s (Get set items) = get_step desc i p s set items
+verb_step desc i p s (Store set) = store_step desc i p s set
+verb_step desc i p s (Begin audit) = begin_step desc i p s audit
+verb_step desc i p s (End audit sync) = end_step desc i p s audit sync
+verb_step desc i p s Abort = abort_step i p s
+
+-- For every verb in this order: OPENERROR; a due ABORT, which clears it; READONLY; then the verb's own
+abbrev pub step_at : Described → Option Program → ℕ → Session → List ℕ → Verb → Outcome
+step_at desc None i s name verb = open_step desc s name verb
+step_at desc (Some p) i s name verb =
+    if opens verb then refuse s OpenError name
+    else (if p.owes_abort then record { session = with_program s i (record p { owes_abort = false }); reply = Exception AbortDue name; sync = None; quiets = [] }
+    else (if is_inquiry p.mode && changes verb then refuse s ReadOnly name
+    else verb_step desc i p s verb))
+
+-- one step of a program
+unfoldable pub step : Described → Session → List ℕ → Verb → Outcome
+step desc s name verb = step_at desc (slice_get s.programs (place_of name s.programs)) (place_of name s.programs) s name verb
+
+-- the silent back-out at the end, where a program is in transaction state
+abbrev pub ended : Session → Session
+ended s = if someone_works s.programs then record s { db = s.mark } else s
+
+-- a session without programs over a database
+abbrev pub fresh_session : Db → ℕ → Session
+fresh_session db first = record { db = db; mark = db; next = first; programs = []; pending = false; since = 0 }

@@ -1,0 +1,27 @@
+//! The database as a map of records, the verbs, what each of them does, and what keeps a database.
+#![tactic(auto)]
+
+mod item_numbers;
+mod literals;
+mod locks;
+mod program;
+mod put;
+mod reply;
+mod settings;
+mod spot;
+mod store;
+mod verb;
+mod works;
+
+pub use dms_desc::{Bound, Record, Values};
+pub use item_numbers::ItemNumbers;
+pub use literals::Literals;
+pub use locks::Locks;
+pub use program::{Area, Lock, Mode, Program, Work};
+pub use put::Put;
+pub use reply::{Answer, Reply};
+pub use settings::Settings;
+pub use spot::Spot;
+pub use store::Store;
+pub use verb::{Path, Setting, Verb};
+pub use works::Works;
