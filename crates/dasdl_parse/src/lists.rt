@@ -99,7 +99,12 @@ impl Model for Declarations {
     ghost use Rattle.std.specs.Prelude.{List};
     ghost use Rattle.dasdl_parse.specs.declared.declarations.Declaration.{Declaration};
 
+    ghost use Rattle.dasdl_parse.specs.contracts.declarations.Declaration as declaration;
+    ghost use Rattle.std.specs.Coded.{coded_list};
+
     ghost Value = { List Declaration };
+
+    ghost coded = { coded_list declaration.the_row.coded };
 
     ghost view = { λ v. v.kept.items };
 }
