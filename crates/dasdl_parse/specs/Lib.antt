@@ -1,2 +1,4 @@
+pub mod Lexing
+pub mod Tokens
 pub mod TreeCodes
 pub mod Trees
