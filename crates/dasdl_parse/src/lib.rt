@@ -3,13 +3,16 @@
 
 mod bytes;
 mod conditions;
+mod cursor;
 mod declarations;
 mod fault;
 mod lexer;
 mod lists;
 mod reading;
+mod reserved;
 mod schema;
 mod token;
+mod turns;
 
 pub use conditions::{CondDecl, CondTree};
 pub use declarations::{DataSetDecl, DataSetEnd, Declaration, GroupDecl, ItemDecl, KeyDecl, LinkDecl, PartDecl, SetDecl};
