@@ -1,0 +1,7 @@
+pub mod Cursors
+pub mod Lexing
+pub mod Reads
+pub mod Reserved
+pub mod Tokens
+pub mod TreeCodes
+pub mod Trees
