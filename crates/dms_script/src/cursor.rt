@@ -2,11 +2,14 @@ ghost use Rattle.std.specs.Prelude.{◌≡◌, IfOk, drop, if◌then◌else◌};
 ghost use Rattle.std.specs.Option.{option_copied};
 ghost use Rattle.dasdl_parse.specs.Cursors.{place_at, is_word, is_the_sign, is_end, starts};
 ghost use Rattle.dms_desc.specs.Shape.{shape_of, described};
+ghost use Rattle.dms_base.specs.Text.{text_of};
 ghost use Rattle.dms_script.specs.Reads.{Takes, TakesAs, Passes};
-ghost use Rattle.dms_script.specs.Cursors.{word_at, sign_at, equal_at, end_at, name_in, name_at, literal_in, literal_at, structure_at, target_at, key_item_at, run_at};
+ghost use Rattle.dms_script.specs.Cursors.{word_at, sign_at, equal_at, end_at, name_in, name_at, word_literal, text_literal, literal_in, if_kind, literal_at, structure_at, target_at, key_item_at, run_at};
 
 use crate::fault::Fault;
-use crate::look::{Run, Target, Wanted, has_kind, kind_named, run_named, structure_named, target_named};
+use crate::look::{
+    Run, Target, Wanted, has_kind, kind_named, run_named, structure_named, target_named,
+};
 use dasdl_parse::{Lexeme, Token, is_end, is_equal, is_sign, is_word, place_at};
 use dms_base::{ItemKind, Literal, Memory, Name, Text};
 use dms_desc::{Description, Item, Structure};
@@ -55,16 +58,6 @@ fn word_literal(word: &[u8]) -> Option<Literal>
     None
 }
 
-/// At most 18 digits, one of them before the point.
-fn number_literal(minus: bool, digits: u64, places: u8) -> Option<Literal>
-    ensures { result ≡ number_literal minus digits places }
-{
-    if digits < 1_000_000_000_000_000_000 && places < 18 {
-        return Some(Literal::Number(minus, digits, places));
-    }
-    None
-}
-
 fn text_literal(alloc: Global, bytes: &[u8]) -> Result<Option<Literal>, Memory>
     ensures { IfOk result (λ l. l ≡ text_literal (text_of bytes.now)) }
 {
@@ -81,8 +74,10 @@ fn literal_in(alloc: Global, token: &Token) -> Result<Option<Literal>, Memory>
 {
     match token {
         Token::Word(word) => Ok(word_literal(word.as_slice())),
-        Token::Number(digits) => Ok(number_literal(false, *digits, 0)),
-        Token::Decimal(minus, digits, places) => Ok(number_literal(*minus, *digits, *places)),
+        Token::Number(digits) => Ok(Some(Literal::Number(false, *digits, 0))),
+        Token::Decimal(minus, digits, places) => {
+            Ok(Some(Literal::Number(*minus, *digits, *places)))
+        },
         Token::Quoted(bytes) => text_literal(alloc, bytes.as_slice()),
         _ => Ok(None),
     }
@@ -245,7 +240,11 @@ impl<'a> Cursor<'a> {
 
     /// The name of a structure.
     #[tactic(auto, unfolding(crate::specs::Cursors::structure_at))]
-    pub fn structure<'d>(&mut self, wanted: Wanted, desc: &'d Description) -> Result<&'d Structure, Fault>
+    pub fn structure<'d>(
+        &mut self,
+        wanted: Wanted,
+        desc: &'d Description,
+    ) -> Result<&'d Structure, Fault>
         ensures { TakesAs (λ s. shape_of s.now) result self.new (structure_at wanted (described desc.now) self.old) }
     {
         let place = self.place();

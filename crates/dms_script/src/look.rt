@@ -1,11 +1,14 @@
-ghost use Rattle.std.specs.Prelude.{◌≡◌, ◌≤◌, ◌+◌, map, option_map, take, length, min, OnOk, ◌++◌};
+ghost use Rattle.std.specs.Prelude.{◌≡◌, ◌≤◌, ◌+◌, map, option_map, length, min, OnOk, ◌++◌, Some, ◌<◌};
 ghost use Rattle.std.specs.Option.{option_copied};
-ghost use Rattle.dms_desc.specs.Shape.{shape_of, described};
+ghost use Rattle.std.specs.List.{list_any};
+ghost use Rattle.dms_desc.specs.Shape.{shape_of, described, Described};
 ghost use Rattle.dms_model.specs.Members.{structure_of, items_of, over};
-ghost use Rattle.dms_script.specs.Looks.{named, is_wanted, structure_named, is_link, has_kind, counted, item_named, if_settable, target_named, key_item, kind_named, group_named, run_of, run_named, whole_run, numbers};
+ghost use Rattle.dms_model.specs.declared.verb.Setting.{Setting};
+ghost use Rattle.dms_script.specs.declared.look.Target.{Target};
+ghost use Rattle.dms_script.specs.Looks.{named, is_wanted, structure_named, is_link, has_kind, counted, item_named, if_settable, target_named, key_item_of, key_item, kind_named, group_named, run_of, run_named, whole_run, numbers};
 
 use dms_base::{ItemKind, Literal, Memory, Name};
-use dms_desc::{Description, Group, Item, Structure};
+use dms_desc::{Description, Group, Item, KeyPart, Structure};
 use dms_model::{ItemNumbers, Setting};
 
 /// What a name in a script line has to be the name of.
@@ -55,7 +58,11 @@ fn is_wanted(wanted: Wanted, s: &Structure) -> bool
 
 /// The structure with this name, where it is such a one.
 #[tactic(auto, unfolding(crate::specs::Looks::structure_named))]
-pub fn structure_named<'a>(wanted: Wanted, name: &Name, desc: &'a Description) -> Option<&'a Structure>
+pub fn structure_named<'a>(
+    wanted: Wanted,
+    name: &Name,
+    desc: &'a Description,
+) -> Option<&'a Structure>
     ensures { option_map shape_of (option_copied result) ≡ structure_named wanted name.now (described desc.now) }
 {
     match named(desc.structures.as_slice(), name) {
