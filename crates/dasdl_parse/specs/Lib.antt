@@ -1,5 +1,6 @@
 pub mod Cursors
 pub mod Lexing
+pub mod Parameters
 pub mod Reads
 pub mod Reserved
 pub mod Tokens

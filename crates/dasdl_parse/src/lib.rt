@@ -8,6 +8,7 @@ mod declarations;
 mod fault;
 mod lexer;
 mod lists;
+mod parameters;
 mod reading;
 mod reserved;
 mod schema;
