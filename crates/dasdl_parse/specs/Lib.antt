@@ -1,4 +1,6 @@
 pub mod Cursors
+pub mod Items
+pub mod Kinds
 pub mod Lexing
 pub mod Parameters
 pub mod Reads

@@ -6,6 +6,8 @@ mod conditions;
 mod cursor;
 mod declarations;
 mod fault;
+mod items;
+mod kinds;
 mod lexer;
 mod lists;
 mod parameters;
