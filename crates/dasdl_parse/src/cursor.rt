@@ -38,7 +38,8 @@ fn fault_at(tokens: &[Lexeme]) -> ParseFault
     }
 }
 
-fn place_at(tokens: &[Lexeme]) -> u32
+/// The place of the first token.
+pub fn place_at(tokens: &[Lexeme]) -> u32
     ensures { result ≡ place_at tokens.now }
 {
     match tokens {
@@ -47,7 +48,8 @@ fn place_at(tokens: &[Lexeme]) -> u32
     }
 }
 
-fn is_word(tokens: &[Lexeme], word: &[u8]) -> bool
+/// Whether the first token is this word.
+pub fn is_word(tokens: &[Lexeme], word: &[u8]) -> bool
     ensures { result ≡ starts (is_word word.now) tokens.now }
 {
     match tokens {
@@ -59,7 +61,8 @@ fn is_word(tokens: &[Lexeme], word: &[u8]) -> bool
     }
 }
 
-fn is_sign(tokens: &[Lexeme], sign: u8) -> bool
+/// Whether the first token is this sign.
+pub fn is_sign(tokens: &[Lexeme], sign: u8) -> bool
     ensures { result ≡ starts (is_the_sign sign) tokens.now }
 {
     match tokens {
@@ -71,7 +74,8 @@ fn is_sign(tokens: &[Lexeme], sign: u8) -> bool
     }
 }
 
-fn is_equal(tokens: &[Lexeme]) -> bool
+/// Whether the first token is `=`.
+pub fn is_equal(tokens: &[Lexeme]) -> bool
     ensures { result ≡ starts is_equal tokens.now }
 {
     match tokens {
@@ -83,7 +87,8 @@ fn is_equal(tokens: &[Lexeme]) -> bool
     }
 }
 
-fn is_end(tokens: &[Lexeme]) -> bool
+/// Whether the text ends here.
+pub fn is_end(tokens: &[Lexeme]) -> bool
     ensures { result ≡ starts is_end tokens.now }
 {
     match tokens {

@@ -1,7 +1,7 @@
-ghost use Rattle.std.specs.Prelude.{◌≡◌, ◌++◌, ◌≤◌, length, IfOk, ◌∷◌, [], List, ℕ, true};
+ghost use Rattle.std.specs.Prelude.{◌≡◌, ◌++◌, ◌≤◌, ◌+◌, length, IfOk, ◌∷◌, [], List, ℕ, true};
 ghost use Rattle.dasdl_parse.specs.Lexing.{is_digit};
-ghost use Rattle.dasdl_parse.specs.Tokens.{first_digit, whole_digit, point_digit, number_token, character, fresh_byte, comment_byte, word_byte, dashes_byte, signed_byte, whole_byte, point_byte, fraction_byte, quoted_byte, quote_byte, less_byte, greater_byte, byte_turn, end_turn, then_end, then_bad, tokens_of, lexeme};
-ghost use Rattle.dasdl_parse.specs.declared.reading.Reading.TheVariants.{Stopped};
+ghost use Rattle.dasdl_parse.specs.Tokens.{first_digit, whole_digit, point_digit, number_token, character, fresh_byte, comment_byte, word_byte, dashes_byte, signed_byte, whole_byte, point_byte, fraction_byte, quoted_byte, quote_byte, less_byte, greater_byte, byte_turn, end_turn, then_end, then_bad, tokens_from, tokens_of, lexeme};
+ghost use Rattle.dasdl_parse.specs.declared.reading.Reading.TheVariants.{Between, Stopped};
 ghost use Rattle.dasdl_parse.specs.declared.token.Token.TheVariants.{Bad};
 
 use crate::bytes::{counted_on, is_blank, is_digit, is_letter, is_plain, is_printable, is_sign, upper, with_digit};
@@ -357,9 +357,17 @@ pub fn tokens(alloc: Global, text: &[u8]) -> Result<Lexemes, Memory>
     requires { length text.now ≤ 1000000 }
     ensures { IfOk result (λ out. out ≡ tokens_of text.now) }
 {
+    tokens_from(alloc, 1, text)
+}
+
+/// The tokens of what follows in a text, its first byte at this place.
+pub fn tokens_from(alloc: Global, first: u32, text: &[u8]) -> Result<Lexemes, Memory>
+    requires { first + length text.now ≤ 1000001 }
+    ensures { IfOk result (λ out. out ≡ tokens_from Between first text.now) }
+{
     let mut out = Lexemes::new(alloc);
     let mut reading = Reading::Between;
-    let mut place = 1u32;
+    let mut place = first;
     for b in text {
         reading = byte_turn(alloc, reading, place, *b, &mut out)?;
         place += 1;
