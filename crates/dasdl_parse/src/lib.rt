@@ -19,7 +19,9 @@ mod turns;
 
 pub use conditions::{CondDecl, CondTree};
 pub use cursor::{is_end, is_equal, is_sign, is_word, place_at};
-pub use declarations::{DataSetDecl, DataSetEnd, Declaration, GroupDecl, ItemDecl, KeyDecl, LinkDecl, PartDecl, SetDecl};
+pub use declarations::{
+    DataSetDecl, DataSetEnd, Declaration, GroupDecl, ItemDecl, KeyDecl, LinkDecl, PartDecl, SetDecl,
+};
 pub use fault::ParseFault;
 pub use lexer::{tokens, tokens_from};
 pub use lists::{Declarations, ItemDecls, PartDecls};
