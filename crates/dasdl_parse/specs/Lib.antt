@@ -1,0 +1,10 @@
+pub mod Cursors
+pub mod Items
+pub mod Kinds
+pub mod Lexing
+pub mod Parameters
+pub mod Reads
+pub mod Reserved
+pub mod Tokens
+pub mod TreeCodes
+pub mod Trees
