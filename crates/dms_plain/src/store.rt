@@ -1,9 +1,10 @@
 ghost use Rattle.std.specs.Prelude.{◌≡◌, ⊤, IfErr, IfOk, IsTrue, Some, [], false, refl};
 ghost use Rattle.std.proofs.Common.{◌∙◌};
+ghost use Rattle.std.proofs.lemmas.Bool.{false≢true};
 ghost use Rattle.dms_desc.specs.Shape.{described};
 ghost use Rattle.dms_model.specs.Db.{empty_db};
 ghost use Rattle.dms_plain.specs.Rows.{db_of, records_in, undone, IsInOrder};
-ghost use Rattle.dms_plain.specs.Told.{told, no_point, no_clock, untold};
+ghost use Rattle.dms_plain.specs.Told.{told, no_point, no_clock};
 
 use crate::rows::{Row, Undo};
 use crate::state;
@@ -94,22 +95,17 @@ impl<S: Site> Store for PlainStore<S> {
 
     ghost damages = { λ _. 0 };
 
-    ghost now_front = { λ s stop sound tells. untold tells };
+    ghost now_front = { λ s stop sound tells. absurd (false≢true tells) };
 
-    ghost here_is = { λ s sound tells. untold tells };
+    ghost here_is = { λ s sound tells. absurd (false≢true tells) };
 
-    ghost sure_within = { λ s sound tells. untold tells };
+    ghost sure_within = { λ s sound tells. absurd (false≢true tells) };
 
     ghost same_again = { λ s. (S.same_again s.site, refl, λ tells. refl) };
 
     ghost same_then = { λ a b c one two. (S.same_then a.site b.site c.site one.0 two.0, two.1 ∙ one.1, λ tells. two.2 tells ∙ one.2 tells) };
 
-    fn get(
-        &mut self,
-        alloc: Global,
-        set: u16,
-        number: u64,
-    ) -> Result<Option<Record>, BlockFault> {
+    fn get(&mut self, alloc: Global, set: u16, number: u64) -> Result<Option<Record>, BlockFault> {
         Ok(state::get(alloc, self.rows.as_slice(), set, number)?)
     }
 
@@ -120,14 +116,7 @@ impl<S: Site> Store for PlainStore<S> {
         owner: u64,
         from: &Bound,
     ) -> Result<Option<Spot>, BlockFault> {
-        Ok(state::first_member(
-            alloc,
-            &self.desc,
-            self.rows.as_slice(),
-            path,
-            owner,
-            from,
-        )?)
+        Ok(state::first_member(alloc, &self.desc, self.rows.as_slice(), path, owner, from)?)
     }
 
     fn last_to(
@@ -137,14 +126,7 @@ impl<S: Site> Store for PlainStore<S> {
         owner: u64,
         to: &Bound,
     ) -> Result<Option<Spot>, BlockFault> {
-        Ok(state::last_member(
-            alloc,
-            &self.desc,
-            self.rows.as_slice(),
-            path,
-            owner,
-            to,
-        )?)
+        Ok(state::last_member(alloc, &self.desc, self.rows.as_slice(), path, owner, to)?)
     }
 
     fn put(
