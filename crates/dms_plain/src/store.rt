@@ -39,6 +39,10 @@ impl<S: Site> PlainStore<S> {
         ensures said { IfOk result (λ s. ⟦<PlainStore<S> as Store>⟧.said s ≡ told S.tells_said (S.said site)) }
         ensures disk_faults { IfOk result (λ s. ⟦<PlainStore<S> as Store>⟧.disk_faults s ≡ S.disk_faults site) }
         ensures say_faults { IfOk result (λ s. ⟦<PlainStore<S> as Store>⟧.say_faults s ≡ S.say_faults site) }
+        ensures fulls { IfOk result (λ s. ⟦<PlainStore<S> as Store>⟧.fulls s ≡ 0) }
+        ensures damages { IfOk result (λ s. ⟦<PlainStore<S> as Store>⟧.damages s ≡ 0) }
+        ensures points { IfOk result (λ s. ⟦<PlainStore<S> as Store>⟧.points s ≡ []) }
+        ensures sure { IfOk result (λ s. ⟦<PlainStore<S> as Store>⟧.sure s ≡ 0) }
         ensures site { IfOk result (λ s. s.site ≡ site) }
         ensures site_back { IfErr result (λ e. e.1 ≡ site) }
     {
