@@ -1,4 +1,4 @@
-ghost use Rattle.std.specs.Prelude.{◌≡◌, List, ℕ, ◌≤◌, ◌<◌, IfOk};
+ghost use Rattle.std.specs.Prelude.{◌≡◌, List, ℕ, ◌≤◌, ◌<◌, IfOk, true};
 ghost use Rattle.dasdl_parse.specs.Reads.{Takes};
 ghost use Rattle.dasdl_parse.specs.Cursors.{until_close, until_semicolon};
 ghost use Rattle.dasdl_parse.specs.Items.{item_option_at, next_item_option_at, item_at, group_item_at, next_group_item_at, group_at, counted_at, link_at};
@@ -153,13 +153,14 @@ pub fn group(cursor: &mut Cursor<'_>, count: u8) -> Result<GroupItems, ParseFaul
 }
 
 #[tactic(auto, unfolding(crate::specs::Items::counted_at))]
-fn counted(cursor: &mut Cursor<'_>, counted: u16) -> Result<bool, ParseFault>
-    ensures { Takes result cursor.new (counted_at counted cursor.old) }
+fn counted(cursor: &mut Cursor<'_>, counted_links: u16) -> Result<bool, ParseFault>
+    ensures gives { Takes result cursor.new (counted_at counted_links cursor.old) }
+    ensures within { IfOk result (λ c. c ≡ true → counted_links < 4000) }
 {
     if !cursor.starts_word(b"COUNTED") {
         return Ok(false);
     }
-    if counted >= COUNTED_LINKS {
+    if counted_links >= COUNTED_LINKS {
         return Err(ParseFault::TooMany(4_000));
     }
     cursor.word(b"COUNTED")?;
@@ -174,7 +175,8 @@ pub fn link(
     place: u32,
     name: Name,
 ) -> Result<LinkDecl, ParseFault>
-    ensures { Takes result cursor.new (link_at counted_links place name cursor.old) }
+    ensures gives { Takes result cursor.new (link_at counted_links place name cursor.old) }
+    ensures within { IfOk result (λ l. l.counted ≡ true → counted_links < 4000) }
 {
     cursor.word(b"LINK")?;
     cursor.word(b"TO")?;

@@ -1,15 +1,15 @@
-use Rattle.std.proofs.Common.{◌≡◌, ◌≤◌, ◌<◌, ◌^◌, ℕ, ℤ, pos, negsuc, neg_ℤ, zero, suc, List, length, Bool, true, false, cond, eqb, refl, sym, ap, ◌∙◌, subst, arith}
-use Rattle.std.specs.Prelude.{◌&&◌, ◌||◌, not, nat_lt, nat_le, ◌==◌, IfSome, IsTrue, unsigned_abs, int_lt, Some, None}
+use Rattle.std.proofs.Common.{◌≡◌, ◌^◌, ℕ, pos, zero, suc, Bool, true, false, cond, refl, ap, ◌∙◌, arith}
+use Rattle.std.specs.Prelude.{◌||◌, not, nat_lt, ◌==◌, IfSome, IsTrue, unsigned_abs, int_lt, Some, None}
 use Rattle.std.specs.declared.option.Option.{Option}
 use Rattle.std.proofs.lemmas.Bool.{and_parts, and_from}
 use Rattle.std.proofs.lemmas.Int.{ints}
 use Rattle.dms_base.specs.declared.value.Value.{Value}
-use Rattle.dms_base.specs.declared.value.Value.TheVariants.{Null, Text, Number, Bool as Truth, Bits, Link as Reference}
+use Rattle.dms_base.specs.declared.value.Value.TheVariants.{Text}
 use Rattle.dms_base.specs.declared.kind.ItemKind.{ItemKind}
 use Rattle.dms_base.specs.declared.kind.ItemKind.TheVariants.{Alpha, Number as Decimal, Bool as OneBit, Field, Link}
 use Rattle.dms_base.specs.declared.kind.Literal.{Literal}
 use Rattle.dms_base.specs.declared.kind.Literal.TheVariants.{Null as NoValue, Text as Quoted, Number as Digits, Bool as Word}
-use Rattle.dms_base.specs.Fits.{fits, scaled, signed, ranged, bits_of, alpha_of, value_of}
+use Rattle.dms_base.specs.Fits.{fits, scaled, signed, ranged, bits_of, value_of}
 
 -- a value that is given where a test holds passes what the test shows
 if_some : (P : Value → Type 0) (t : Bool) (v : Value) → (t ≡ true → P v) → IfSome (cond t (Some v) None) P

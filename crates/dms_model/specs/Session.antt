@@ -484,3 +484,9 @@ ended s = if someone_works s.programs then record s { db = s.mark } else s
 -- a session without programs over a database
 abbrev pub fresh_session : Db → ℕ → Session
 fresh_session db first = record { db = db; mark = db; next = first; programs = []; pending = false; since = 0 }
+
+-- a reply that says for whom a line waits
+abbrev pub is_waits : Reply → Bool
+is_waits (Done text) = false
+is_waits (Exception category name) = false
+is_waits (Waits names) = true

@@ -1,5 +1,5 @@
 -- The tokens in front of a reader.
-use Rattle.std.specs.Prelude.{ℕ, ◌^◌, List, [], ◌∷◌, Bool, ◌&&◌, ◌||◌, nat_lt, codes, drop, Some, None, if◌then◌else◌}
+use Rattle.std.specs.Prelude.{ℕ, List, [], ◌∷◌, Bool, true, false, codes, Some, None, if◌then◌else◌}
 use Rattle.std.specs.declared.option.Option.{Option}
 use Rattle.std.specs.declared.result.Result.TheVariants.{Ok, Err}
 use Rattle.std.specs.Str.{bytes_eq}
@@ -57,10 +57,6 @@ word_literal b =
     else (if bytes_eq b (codes "FALSE") then Some (Truth false)
     else (if bytes_eq b (codes "NULL") then Some Null else None))
 
--- at most 18 digits, one of them before the point
-abbrev pub number_literal : Bool → ℕ → ℕ → Option Literal
-number_literal minus digits places = if nat_lt digits (10 ^ 18) && nat_lt places 18 then Some (Digits minus digits places) else None
-
 abbrev pub text_literal : Option (List ℕ) → Option Literal
 text_literal None = None
 text_literal (Some bytes) = Some (Text bytes)
@@ -68,8 +64,8 @@ text_literal (Some bytes) = Some (Text bytes)
 -- the literal that a token is; a number is a decimal, too
 unfoldable pub literal_in : Token → Option Literal
 literal_in (Word b) = word_literal b
-literal_in (Number n) = number_literal false n 0
-literal_in (Decimal minus n places) = number_literal minus n places
+literal_in (Number n) = Some (Digits false n 0)
+literal_in (Decimal minus n places) = Some (Digits minus n places)
 literal_in (Quoted b) = text_literal (text_of b)
 literal_in token = None
 

@@ -7,6 +7,8 @@ mod line;
 mod look;
 mod replies;
 mod shown;
+#[cfg(test)]
+mod tests;
 mod verbs;
 
 pub use line::{LINE_BYTES, Line, read_line};
