@@ -1,0 +1,8 @@
+//! The machine of verbs over any store.
+#![tactic(auto)]
+
+mod areas;
+mod programs;
+mod refusal;
+mod schema;
+mod storing;
