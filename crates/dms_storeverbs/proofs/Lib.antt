@@ -1,1 +1,3 @@
+pub mod KeyValues
 pub mod Stored
+pub mod Works

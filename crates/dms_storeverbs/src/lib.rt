@@ -2,6 +2,8 @@
 #![tactic(auto)]
 
 mod areas;
+mod filling;
+mod keys;
 mod programs;
 mod refusal;
 mod schema;
