@@ -1,3 +1,5 @@
+pub mod Calls
+pub mod Closed
 pub mod KeyValues
 pub mod Stored
 pub mod Works

@@ -3,7 +3,7 @@ ghost use Rattle.std.specs.List.{list_any};
 ghost use Rattle.std.specs.Option.{option_copied};
 ghost use Rattle.dms_desc.specs.Conds.{is_null, or_null};
 ghost use Rattle.dms_desc.specs.declared.structure.Item.{Item};
-ghost use Rattle.dms_model.specs.Session.{work_of, or_none, is_lock, holds, let_go, with_work, with_lock, found_program, area_values, area_number, is_free, record_of, left, carried, entered, missing_from};
+ghost use Rattle.dms_model.specs.Session.{work_of, or_none, is_lock, holds, let_go, with_work, with_lock, found_program, area_values, area_owner, area_number, is_free, record_of, left, carried, entered, missing_from};
 ghost use Rattle.dms_model.specs.declared.program.Area.{Area};
 ghost use Rattle.dms_storeverbs.specs.Storing.{with_stored};
 
@@ -66,20 +66,34 @@ pub fn area_number(area: &Area, current: Option<u64>) -> Option<u64>
     }
 }
 
+/// A copy of an area's values.
+pub fn copied(alloc: Global, area: &Area) -> Result<Values, Memory>
+    ensures { IfOk result (λ v. v ≡ area_values area.now) }
+{
+    match area {
+        Area::New(values, _) => values.copy(alloc),
+        Area::Old(values) => values.copy(alloc),
+    }
+}
+
+/// The number of the record that owns an area's record, 0 where it is disjoint.
+fn area_owner(area: &Area) -> u64
+    ensures { result ≡ area_owner area.now }
+{
+    match area {
+        Area::New(_, owner) => *owner,
+        Area::Old(_) => 0,
+    }
+}
+
 /// The record that an area stands for.
 pub fn record_of(alloc: Global, area: &Area) -> Result<Record, Memory>
     ensures { IfOk result (λ r. r ≡ record_of area.now) }
 {
-    match area {
-        Area::New(values, owner) => Ok(Record {
-            owner: *owner,
-            values: values.copy(alloc)?,
-        }),
-        Area::Old(values) => Ok(Record {
-            owner: 0,
-            values: values.copy(alloc)?,
-        }),
-    }
+    Ok(Record {
+        owner: area_owner(area),
+        values: copied(alloc, area)?,
+    })
 }
 
 /// Whether a record is among these locks.
@@ -164,6 +178,18 @@ pub fn create(program: &mut Program, set: u16, values: Values)
     };
     program.works.set(place_of(set), work);
     let_go(program, set);
+    program.active = true;
+}
+
+/// The area of a data set changes, and the current record stays.
+pub fn put(program: &mut Program, set: u16, area: Area)
+    ensures { program.new ≡ carried (with_work program.old set (record { current = (work_of program.old set).current; area = Some area })) }
+{
+    let work = Work {
+        current: current_at(program, set),
+        area: Some(area),
+    };
+    program.works.set(place_of(set), work);
     program.active = true;
 }
 

@@ -1,10 +1,16 @@
 //! The machine of verbs over any store.
 #![tactic(auto)]
 
+mod apart;
 mod areas;
+mod engine;
 mod filling;
 mod keys;
 mod programs;
 mod refusal;
 mod schema;
 mod storing;
+mod transactions;
+mod verbs;
+
+pub use engine::Engine;

@@ -1,4 +1,4 @@
-ghost use Rattle.std.specs.Prelude.{◌≡◌, ◌≤◌, ◌<◌, length, map, replicate, List, ℕ, IfOk};
+ghost use Rattle.std.specs.Prelude.{◌≡◌, ◌≤◌, ◌<◌, length, map, replicate, List, ℕ, IfOk, [], if◌then◌else◌};
 ghost use Rattle.dms_desc.specs.Shape.{described};
 ghost use Rattle.dms_model.specs.Session.{place_of, someone_works, workers, idle, backed_out, no_work, new_program};
 
@@ -38,6 +38,17 @@ pub fn workers(alloc: Global, programs: &[Program]) -> Result<Names, Memory>
         }
     }
     Ok(names)
+}
+
+/// For whom a BEGIN-TRANSACTION waits: nobody, but while a syncpoint is pending for the programs in
+/// transaction state.
+pub fn awaited(alloc: Global, pending: bool, programs: &[Program]) -> Result<Names, Memory>
+    ensures { IfOk result (λ names. names ≡ (if pending then workers programs.now else [])) }
+{
+    if pending {
+        return workers(alloc, programs);
+    }
+    Ok(Names::new(alloc))
 }
 
 /// No verb was carried out since the quiet point that was made now.
