@@ -25,9 +25,9 @@ is_literal (Digits minus digits places) = nat_lt digits (10 ^ 18) && nat_lt plac
 is_literal (Word b) = true
 
 -- the value that a literal spells for a kind; none where no schema has this kind or no text this literal
-abbrev pub spelled : ItemKind → Literal → Option Value
-spelled k l = if is_kind k && is_literal l then value_of k l else None
+abbrev pub value_for : ItemKind → Literal → Option Value
+value_for k l = if is_kind k && is_literal l then value_of k l else None
 
 -- a value as a reply shows it; a kind that no schema has shows nothing
-abbrev pub shown : ItemKind → Value → List ℕ
-shown k v = if is_kind k then value_text k v else []
+abbrev pub text_for : ItemKind → Value → List ℕ
+text_for k v = if is_kind k then value_text k v else []

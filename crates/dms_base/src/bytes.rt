@@ -28,7 +28,7 @@ impl Bytes {
         }
     }
 
-    /// A copy of these bytes.
+    /// The list of these bytes.
     pub fn copied(alloc: Global, bytes: &[u8]) -> Result<Bytes, Memory>
         ensures { IfOk result (λ b. b ≡ bytes.now) }
     {
@@ -37,13 +37,14 @@ impl Bytes {
         })
     }
 
+    /// The bytes in their order.
     pub fn as_slice(&self) -> &[u8]
         ensures { result.now ≡ self.now }
     {
         self.kept.as_slice()
     }
 
-    /// Adds a byte at the end.
+    /// Adds a byte at the end. After want of memory the list is unchanged.
     pub fn push(&mut self, byte: u8) -> Result<(), Memory>
         ensures ok { OnOk result (self.new ≡ self.old ++ byte ∷ []) }
         ensures err { OnErr result (self.new ≡ self.old) }
@@ -52,12 +53,19 @@ impl Bytes {
         Ok(())
     }
 
-    /// Adds these bytes at the end.
+    /// Adds these bytes at the end. After want of memory the list is unchanged.
     pub fn extend(&mut self, bytes: &[u8]) -> Result<(), Memory>
         ensures ok { OnOk result (self.new ≡ self.old ++ bytes.now) }
         ensures err { OnErr result (self.new ≡ self.old) }
     {
         self.kept.extend_from_slice(bytes)?;
         Ok(())
+    }
+
+    /// A copy of this list.
+    pub fn copy(&self, alloc: Global) -> Result<Bytes, Memory>
+        ensures { IfOk result (λ b. b ≡ self.now) }
+    {
+        Bytes::copied(alloc, self.kept.as_slice())
     }
 }

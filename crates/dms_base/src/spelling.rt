@@ -1,6 +1,6 @@
 ghost use Rattle.std.specs.Prelude.{◌≡◌, IfOk, IsTrue};
 ghost use Rattle.dms_base.specs.Fits.{IsKind, IsLiteral};
-ghost use Rattle.dms_base.specs.Spelling.{is_kind, is_literal, spelled, shown};
+ghost use Rattle.dms_base.specs.Spelling.{is_kind, is_literal, value_for, text_for};
 
 use crate::{Bytes, ItemKind, Literal, Memory, Value, value_of, value_text};
 use std::alloc::Global;
@@ -36,8 +36,8 @@ fn is_literal(literal: &Literal) -> bool
 
 /// The value that a literal spells for a kind, by `value_of`; none where no schema has this kind or no
 /// text spells this literal.
-pub fn spelled(alloc: Global, kind: &ItemKind, literal: &Literal) -> Result<Option<Value>, Memory>
-    ensures { IfOk result (λ v. v ≡ spelled kind.now literal.now) }
+pub fn value_for(alloc: Global, kind: &ItemKind, literal: &Literal) -> Result<Option<Value>, Memory>
+    ensures { IfOk result (λ v. v ≡ value_for kind.now literal.now) }
 {
     if is_kind(kind) && is_literal(literal) {
         return value_of(alloc, kind, literal);
@@ -46,8 +46,8 @@ pub fn spelled(alloc: Global, kind: &ItemKind, literal: &Literal) -> Result<Opti
 }
 
 /// A value as a reply shows it, by `value_text`; nothing where no schema has this kind.
-pub fn shown(alloc: Global, kind: &ItemKind, value: &Value) -> Result<Bytes, Memory>
-    ensures { IfOk result (λ t. t ≡ shown kind.now value.now) }
+pub fn text_for(alloc: Global, kind: &ItemKind, value: &Value) -> Result<Bytes, Memory>
+    ensures { IfOk result (λ t. t ≡ text_for kind.now value.now) }
 {
     if is_kind(kind) {
         return value_text(alloc, kind, value);

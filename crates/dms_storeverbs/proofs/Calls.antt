@@ -7,7 +7,7 @@ use Rattle.dms_model.specs.declared.program.Program.{Program}
 use Rattle.dms_model.specs.declared.reply.Answer.{Answer}
 use Rattle.dms_model.specs.Db.{Db}
 use Rattle.dms_model.specs.Points.{Point, Quiet, Stop, Front, TextIs, told, known, Leaves, Stays}
-use Rattle.dms_model.specs.Session.{Session, Outcome}
+use Rattle.dms_model.specs.Session.{Session, Outcome, settle, someone_works}
 use Rattle.dms_storeverbs.specs.Apart.{Alone}
 use Rattle.dms_storeverbs.specs.View.{View, Stands, Is, view, Grew, Left, Made}
 
@@ -62,12 +62,20 @@ pub made_one : (answer : Answer) {sure sure' : ℕ} {points points' : List Point
 made_one answer p q same none stays = record { grew = record { more = p ∷ []; is = stays.0; spells = ap (λ (x : ℕ × Option Db). x ∷ []) same }; later = stays.1; synced = λ n is. absurd (let no : ◌≡◌ {A = Option ℕ} None (Some n) = sym none ∙ is in cc) }
 
 -- the quiet point of a call, of which a stop may leave nothing yet
-module _ (here : Point) (q : Quiet) (same : told here ≡ known q) {sure next : ℕ} {points : List Point} {said : Option (List ℕ)} where
-  pub quieted : {a b : Clock Stop} → Leaves a b sure (points ++ here ∷ []) next said → Runs a b (λ stop. Left sure points next (q ∷ []) stop × TextIs said stop)
-  quieted run = runs_weaken run (λ x p. (one here q same p.0, p.1))
+module _ (here : Point) (q : Quiet) (same : told here ≡ known q) (quiets : List Quiet) (is : quiets ≡ q ∷ []) {sure next : ℕ} {points : List Point} {said : Option (List ℕ)} where
+  pub quieted : {a b : Clock Stop} → Leaves a b sure (points ++ here ∷ []) next said → Runs a b (λ stop. Left sure points next quiets stop × TextIs said stop)
+  quieted run = runs_weaken run (λ x p. (subst (λ (qs : List Quiet). Left sure points next qs x) (sym is) (one here q same p.0), p.1))
 
-  pub synced : {a b c : Clock Stop} {sure' next' : ℕ} {points' : List Point} {said' : Option (List ℕ)} → Leaves a b sure (points ++ here ∷ []) next said → (points' ≡ points ++ here ∷ []) × (sure ≤ sure') → next ≤ next' → said' ≡ said → Leaves b c sure' points' next' said' → Runs a c (λ stop. Left sure points next (q ∷ []) stop × TextIs said stop)
-  synced {sure' = sure'} {next' = next'} first is more text last = runs_on (quieted first) (runs_weaken last (λ x p. (one here q same (lower is.1 more (subst (λ (ps : List Point). Front sure' ps next' x) is.0 p.0)), λ t e. p.1 t (text ∙ e)))) (λ x p. p)
+  pub synced : {a b c : Clock Stop} {sure' next' : ℕ} {points' : List Point} {said' : Option (List ℕ)} → Leaves a b sure (points ++ here ∷ []) next said → (points' ≡ points ++ here ∷ []) × (sure ≤ sure') → next ≤ next' → said' ≡ said → Leaves b c sure' points' next' said' → Runs a c (λ stop. Left sure points next quiets stop × TextIs said stop)
+  synced {sure' = sure'} {next' = next'} first grown more text last = runs_on (quieted first) (runs_weaken last (λ x p. (subst (λ (qs : List Quiet). Left sure points next qs x) (sym is) (one here q same (lower grown.1 more (subst (λ (ps : List Point). Front sure' ps next' x) grown.0 p.0))), λ t e. p.1 t (text ∙ e)))) (λ x p. p)
+
+if_same : (b : Bool) (x y : Outcome) (qs : List Quiet) → x.quiets ≡ qs → y.quiets ≡ qs → (cond b x y).quiets ≡ qs
+if_same true x y qs ex ey = ex
+if_same false x y qs ex ey = ey
+
+pub settled_quiets : (s : Session) → someone_works s.programs ≡ false → (settle s).quiets ≡ (s.next, s.db) ∷ []
+unfolding settle
+settled_quiets s nobody = rw nobody (if_same s.pending _ _ ((s.next, s.db) ∷ []) refl refl)
 
 -- a call that first stores a record, and then may make a quiet point
 pub then_settles : {a b c : Clock Stop} {sure sure' next next' : ℕ} {points points' : List Point} {said said' : Option (List ℕ)} (quiets : List Quiet) → Leaves a b sure points next said → Stays points sure points' sure' → next' ≡ next → said' ≡ said → Runs b c (λ stop. Left sure' points' next' quiets stop × TextIs said' stop) → Runs a c (λ stop. Left sure points next quiets stop × TextIs said stop)

@@ -3,3 +3,4 @@ pub mod Closed
 pub mod KeyValues
 pub mod Stored
 pub mod Works
+pub mod Quiet

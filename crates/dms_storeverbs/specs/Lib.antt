@@ -1,5 +1,5 @@
 pub mod Apart
 pub mod Keeping
-pub mod Keys
+pub mod Laws
 pub mod Storing
 pub mod View

@@ -1,6 +1,6 @@
 ghost use Rattle.std.specs.Prelude.{◌≡◌, ◌-◌, ◌++◌, IfOk, OnOk, List, map, slice_get};
 ghost use Rattle.dms_base.specs.declared.value.Value.{Value};
-ghost use Rattle.dms_base.specs.Spelling.{shown};
+ghost use Rattle.dms_base.specs.Spelling.{text_for};
 ghost use Rattle.dms_desc.specs.declared.structure.Item.{Item};
 ghost use Rattle.dms_desc.specs.Conds.{item_of};
 ghost use Rattle.dms_model.specs.declared.program.Area.{Area};
@@ -8,7 +8,7 @@ ghost use Rattle.dms_model.specs.Session.{filled, item_name, item_text, more_tex
 ghost use Rattle.dms_storeverbs.specs.Storing.{Fills};
 
 use crate::keys::fitted;
-use dms_base::{Bytes, ItemKind, Memory, Name, Value, shown};
+use dms_base::{Bytes, ItemKind, Memory, Name, Value, text_for};
 use dms_desc::{Item, Values};
 use dms_model::{Area, Setting};
 use std::alloc::Global;
@@ -29,7 +29,7 @@ fn item_name(items: &[Item], item: u8) -> Name
     ensures { result ≡ item_name (slice_get items.now (item - 1)) }
 {
     match items.get((item as usize).saturating_sub(1)) {
-        None => Name::none(),
+        None => Name::unknown(),
         Some(item) => item.name,
     }
 }
@@ -69,11 +69,11 @@ fn value_shown(
     values: &[Value],
     item: u8,
 ) -> Result<Bytes, Memory>
-    ensures { IfOk result (λ t. t ≡ shown kind.now (item_of values.now item)) }
+    ensures { IfOk result (λ t. t ≡ text_for kind.now (item_of values.now item)) }
 {
     match values.get((item as usize).saturating_sub(1)) {
-        None => shown(alloc, kind, &Value::Null),
-        Some(value) => shown(alloc, kind, value),
+        None => text_for(alloc, kind, &Value::Null),
+        Some(value) => text_for(alloc, kind, value),
     }
 }
 

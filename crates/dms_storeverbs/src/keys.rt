@@ -4,9 +4,9 @@ ghost use Rattle.dms_base.specs.Orders.{value_cmp};
 ghost use Rattle.dms_desc.specs.Conds.{or_null};
 ghost use Rattle.dms_model.specs.Members.{turned, agrees, key_cmp};
 ghost use Rattle.dms_model.specs.Session.{fitted, key_values};
-ghost use Rattle.dms_storeverbs.specs.Keys.{agreeing};
+ghost use Rattle.dms_model.specs.Sorted.{that_passes};
 
-use dms_base::{Literal, Memory, Value, order, spelled};
+use dms_base::{Literal, Memory, Value, order, value_for};
 use dms_desc::{Item, KeyPart, Values};
 use dms_model::Spot;
 use std::alloc::Global;
@@ -23,7 +23,7 @@ pub fn fitted(
 {
     match items.get((item as usize).saturating_sub(1)) {
         None => Ok(None),
-        Some(item) => spelled(alloc, &item.kind, literal),
+        Some(item) => value_for(alloc, &item.kind, literal),
     }
 }
 
@@ -104,7 +104,7 @@ fn agrees(parts: &[KeyPart], key: &[Value], spot: &Spot) -> bool
 
 /// A found member, where its first key items are these.
 pub fn agreeing(parts: &[KeyPart], key: &[Value], spot: Option<Spot>) -> Option<Spot>
-    ensures { result ≡ agreeing parts.now key.now spot }
+    ensures { result ≡ that_passes (agrees parts.now key.now) spot }
 {
     match spot {
         None => None,

@@ -6,6 +6,7 @@ mod areas;
 mod engine;
 mod filling;
 mod keys;
+mod laws;
 mod programs;
 mod refusal;
 mod schema;
@@ -14,3 +15,4 @@ mod transactions;
 mod verbs;
 
 pub use engine::Engine;
+pub use laws::quiet_rule;

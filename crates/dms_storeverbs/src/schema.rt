@@ -22,7 +22,7 @@ pub fn name_of(desc: &Description, number: u16) -> Name
     ensures { result ≡ name_of (structure_of (described desc.now) number) }
 {
     match structure_of(desc, number) {
-        None => Name::none(),
+        None => Name::unknown(),
         Some(structure) => structure.name,
     }
 }

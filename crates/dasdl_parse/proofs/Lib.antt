@@ -1,0 +1,2 @@
+pub mod Nots
+pub mod Turning

@@ -1,0 +1,69 @@
+-- A condition as a tree, and as the list of its parts, each operand before what joins it.
+use Rattle.std.specs.Prelude.{ℕ, zero, suc, ◌≡◌, ◌⊎◌, refl, List, [], ◌∷◌, ◌++◌}
+use Rattle.std.specs.Coded.{Coded, code_by, coded×, coded_ℕ, coded_list, coded⊎}
+use Rattle.std.proofs.Common.{ap, sym, ◌∙◌, append_assoc, inl, inr}
+use Rattle.dms_base.specs.declared.op.Op.{Op}
+use Rattle.dms_base.specs.declared.op.Op.TheVariants.{Equal}
+use Rattle.dms_base.specs.declared.kind.Literal.{Literal}
+use Rattle.dms_base.specs.declared.kind.Literal.TheVariants.{Null}
+use Rattle.dms_base.specs.contracts.op.Op as op_row
+use Rattle.dms_base.specs.contracts.kind.Literal as literal_row
+
+-- what is compared, or two conditions joined, or one turned
+pub data Tree : Type 0 where
+  Test : List ℕ → Op → Literal → Tree
+  Both : Tree → Tree → Tree
+  Either : Tree → Tree → Tree
+  Turned : Tree → Tree
+
+-- a comparison, or 0 for AND, 1 for OR, 2 for NOT
+abbrev pub Part : Type 0
+Part = (List ℕ × (Op × Literal)) ⊎ ℕ
+
+abbrev pub parts : Tree → List Part
+parts (Test name op literal) = inl (name, (op, literal)) ∷ []
+parts (Both a b) = parts a ++ (parts b ++ inr 0 ∷ [])
+parts (Either a b) = parts a ++ (parts b ++ inr 1 ∷ [])
+parts (Turned a) = parts a ++ inr 2 ∷ []
+
+-- a part takes its operands, the last one first
+abbrev pub taken : Part → List Tree → List Tree
+taken (inl c) ts = Test c.0 c.1.0 c.1.1 ∷ ts
+taken (inr zero) (b ∷ a ∷ ts) = Both a b ∷ ts
+taken (inr (suc zero)) (b ∷ a ∷ ts) = Either a b ∷ ts
+taken (inr (suc (suc n))) (a ∷ ts) = Turned a ∷ ts
+taken (inr n) ts = ts
+
+abbrev pub built : List Part → List Tree → List Tree
+built [] ts = ts
+built (p ∷ ps) ts = built ps (taken p ts)
+
+abbrev pub first_tree : List Tree → Tree
+first_tree [] = Test [] Equal Null
+first_tree (t ∷ ts) = t
+
+built-append : (ps qs : List Part) (ts : List Tree) → built (ps ++ qs) ts ≡ built qs (built ps ts)
+built-append [] qs ts = refl
+built-append (p ∷ ps) qs ts = built-append ps qs (taken p ts)
+
+built-parts : (t : Tree) (ts : List Tree) → built (parts t) ts ≡ t ∷ ts
+built-parts (Test name op literal) ts = refl
+built-parts (Both a b) ts =
+    built-append (parts a) (parts b ++ inr 0 ∷ []) ts
+    ∙ ap (λ (us : List Tree). built (parts b ++ inr 0 ∷ []) us) (built-parts a ts)
+    ∙ built-append (parts b) (inr 0 ∷ []) (a ∷ ts)
+    ∙ ap (λ (us : List Tree). built (inr 0 ∷ []) us) (built-parts b (a ∷ ts))
+built-parts (Either a b) ts =
+    built-append (parts a) (parts b ++ inr 1 ∷ []) ts
+    ∙ ap (λ (us : List Tree). built (parts b ++ inr 1 ∷ []) us) (built-parts a ts)
+    ∙ built-append (parts b) (inr 1 ∷ []) (a ∷ ts)
+    ∙ ap (λ (us : List Tree). built (inr 1 ∷ []) us) (built-parts b (a ∷ ts))
+built-parts (Turned a) ts =
+    built-append (parts a) (inr 2 ∷ []) ts
+    ∙ ap (λ (us : List Tree). built (inr 2 ∷ []) us) (built-parts a ts)
+
+pub tree_again : (t : Tree) → first_tree (built (parts t) []) ≡ t
+tree_again t = ap first_tree (built-parts t [])
+
+abbrev pub tree_code : Coded Tree
+tree_code = code_by (List Part) (coded_list (coded⊎ (coded× (coded_list coded_ℕ) (coded× op_row.the_row.coded literal_row.the_row.coded)) coded_ℕ)) parts (λ ps. first_tree (built ps [])) tree_again

@@ -1,0 +1,163 @@
+ghost use Rattle.std.specs.Prelude.{◌≡◌, ◌≤◌, ◌<◌, ◌+◌, length, IfOk, drop, List, ℕ};
+ghost use Rattle.std.specs.declared.result.Result.{Result};
+ghost use Rattle.dms_model.specs.declared.verb.Verb.{Verb};
+ghost use Rattle.dasdl_parse.specs.Cursors.{place_at, starts};
+ghost use Rattle.dasdl_parse.specs.declared.token.Lexeme.{Lexeme};
+ghost use Rattle.dms_desc.specs.Shape.{described};
+ghost use Rattle.dms_script.specs.Reads.{Gives};
+ghost use Rattle.dms_script.specs.Lines.{is_line_byte, sound_part, is_unreadable, colon_at, program_at, whole_verb_at, spoken_at, line_from, sound_line, bad_by, line_of};
+
+use crate::cursor::Cursor;
+use crate::fault::Fault;
+use dasdl_parse::{Lexeme, Token, is_end, place_at, tokens, tokens_from};
+use dms_base::{Memory, Name};
+use dms_desc::Description;
+use dms_model::Verb;
+use std::alloc::Global;
+
+/// The bytes that a script line may have.
+pub const LINE_BYTES: usize = 2000;
+
+/// What a script line says.
+#[derive(Debug, Drop)]
+pub enum Line {
+    /// Nothing: blanks, or a comment alone.
+    Empty,
+    /// A program's name, and what it asks.
+    Verb(Name, Verb),
+    /// The place of its first bad byte or token, counted from 1. It is the line's length + 1 where something is
+    /// missing, and 2,001 where the line is longer than 2,000 bytes.
+    Bad(u32),
+}
+
+fn is_line_byte(b: u8) -> bool
+    ensures { result ≡ is_line_byte b }
+{
+    b == b'\t' || (b' ' <= b && b <= b'~')
+}
+
+/// A line up to its first byte that it may not hold.
+fn sound_part(line: &[u8]) -> &[u8]
+    ensures value { result.now ≡ sound_part line.now }
+    ensures bound { length result.now ≤ length line.now }
+{
+    let mut end = 0usize;
+    for b in line {
+        if !is_line_byte(*b) {
+            return &line[..end];
+        }
+        end += 1;
+    }
+    line
+}
+
+fn is_unreadable(tokens: &[Lexeme]) -> bool
+    ensures { result ≡ starts is_unreadable tokens.now }
+{
+    match tokens {
+        [] => false,
+        [first, ..] => match &first.token {
+            Token::Bad => true,
+            _ => false,
+        },
+    }
+}
+
+/// The place of the colon that the program's name ends with.
+fn colon(line: &[u8], tokens: &[Lexeme]) -> Result<usize, Fault>
+    ensures gives { Gives result (colon_at line.now tokens.now) }
+    ensures within { IfOk result (λ n. n ≤ length line.now) }
+{
+    let place = place_at(tokens);
+    let i = place.saturating_sub(1) as usize;
+    if i < line.len() && is_unreadable(tokens) && line[i] == b':' {
+        return Ok(place as usize);
+    }
+    Err(Fault::Bad(place))
+}
+
+/// The program's name, and how much of the line it and its colon take.
+#[tactic(auto, unfolding(crate::specs::Lines::program_at))]
+fn program(alloc: Global, line: &[u8]) -> Result<(Name, usize), Fault>
+    requires { length line.now ≤ 2000 }
+    ensures gives { Gives result (program_at line.now) }
+    ensures within { IfOk result (λ r. r.1 ≤ length line.now) }
+{
+    let lexemes = tokens(alloc, line)?;
+    let mut cursor = Cursor::new(alloc, lexemes.as_slice());
+    let name = cursor.name()?;
+    let colon = colon(line, cursor.rest())?;
+    Ok((name, colon))
+}
+
+/// A verb up to the line's end.
+#[tactic(auto, unfolding(crate::specs::Lines::whole_verb_at))]
+fn whole_verb(alloc: Global, desc: &Description, tokens: &[Lexeme]) -> Result<Verb, Fault>
+    ensures { Gives result (whole_verb_at (described desc.now) tokens.now) }
+{
+    let mut cursor = Cursor::new(alloc, tokens);
+    let verb = cursor.verb(desc)?;
+    cursor.close_line()?;
+    Ok(verb)
+}
+
+/// program : verb
+#[tactic(auto, unfolding(crate::specs::Lines::spoken_at))]
+fn spoken(alloc: Global, desc: &Description, line: &[u8]) -> Result<(Name, Verb), Fault>
+    requires { length line.now ≤ 2000 }
+    ensures { Gives result (spoken_at (described desc.now) line.now) }
+{
+    let (name, colon) = program(alloc, line)?;
+    let lexemes = tokens_from(alloc, colon as u32 + 1, &line[colon..])?;
+    let verb = whole_verb(alloc, desc, lexemes.as_slice())?;
+    Ok((name, verb))
+}
+
+fn line_from(read: Result<(Name, Verb), Fault>) -> Result<Line, Memory>
+    ensures { (r : Result (List ℕ × Verb) ℕ) → Gives read r → IfOk result (λ l. l ≡ line_from r) }
+{
+    match read {
+        Ok((name, verb)) => Ok(Line::Verb(name, verb)),
+        Err(Fault::Bad(place)) => Ok(Line::Bad(place)),
+        Err(Fault::Memory) => Err(Memory),
+    }
+}
+
+/// What a line says that holds no byte that it may not hold.
+#[tactic(auto, unfolding(crate::specs::Lines::sound_line))]
+fn sound_line(alloc: Global, desc: &Description, line: &[u8]) -> Result<Line, Memory>
+    requires { length line.now ≤ 2000 }
+    ensures { IfOk result (λ l. l ≡ sound_line (described desc.now) line.now) }
+{
+    let lexemes = tokens(alloc, line)?;
+    if is_end(lexemes.as_slice()) {
+        return Ok(Line::Empty);
+    }
+    line_from(spoken(alloc, desc, line))
+}
+
+/// Bad at its first bad place, or else at this one.
+fn bad_by(place: u32, line: Line) -> Line
+    ensures { result ≡ bad_by place line }
+{
+    match line {
+        Line::Empty | Line::Verb(_, _) => Line::Bad(place),
+        Line::Bad(p) => Line::Bad(p),
+    }
+}
+
+/// Reads a line, given without its LF and without a CR before that.
+#[tactic(auto, unfolding(crate::specs::Lines::line_of))]
+pub fn read_line(alloc: Global, desc: &Description, bytes: &[u8]) -> Result<Line, Memory>
+    ensures { IfOk result (λ l. l ≡ line_of (described desc.now) bytes.now) }
+{
+    if bytes.len() > LINE_BYTES {
+        return Ok(Line::Bad(2001));
+    }
+    let sound = sound_part(bytes);
+    if sound.len() < bytes.len() {
+        let line = sound_line(alloc, desc, sound)?;
+        return Ok(bad_by(sound.len() as u32 + 1, line));
+    }
+    sound_line(alloc, desc, bytes)
+}

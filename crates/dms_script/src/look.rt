@@ -1,0 +1,283 @@
+ghost use Rattle.std.specs.Prelude.{◌≡◌, ◌≤◌, ◌+◌, map, option_map, length, min, OnOk, ◌++◌, Some, ◌<◌};
+ghost use Rattle.std.specs.Option.{option_copied};
+ghost use Rattle.std.specs.List.{list_any};
+ghost use Rattle.dms_desc.specs.Shape.{shape_of, described, Described};
+ghost use Rattle.dms_model.specs.Members.{structure_of, items_of, over};
+ghost use Rattle.dms_model.specs.declared.verb.Setting.{Setting};
+ghost use Rattle.dms_script.specs.declared.look.Target.{Target};
+ghost use Rattle.dms_script.specs.Looks.{named, is_wanted, structure_named, is_link, has_kind, counted, item_named, if_settable, target_named, key_item_of, key_item, kind_named, group_named, run_of, run_named, whole_run, numbers};
+
+use dms_base::{ItemKind, Literal, Memory, Name};
+use dms_desc::{Description, Group, Item, KeyPart, Structure};
+use dms_model::{ItemNumbers, Setting};
+
+/// What a name in a script line has to be the name of.
+#[derive(Clone, Copy, Debug, PartialEq, Eq)]
+pub enum Wanted {
+    DataSet,
+    /// A data set, a set or an automatic subset.
+    Path,
+    /// The restart data set.
+    Restart,
+}
+
+/// An item or a link: its number, counted from 1, and its kind.
+#[derive(Clone, Copy, Debug, PartialEq, Eq)]
+pub struct Target {
+    pub item: u8,
+    pub kind: ItemKind,
+}
+
+/// The items from `first` on up to the one before `end`.
+#[derive(Clone, Copy, Debug, PartialEq, Eq)]
+pub struct Run {
+    pub first: u8,
+    pub end: u8,
+}
+
+fn named<'a>(structures: &'a [Structure], name: &Name) -> Option<&'a Structure>
+    ensures { option_map shape_of (option_copied result) ≡ named name.now (map shape_of structures.now) }
+{
+    for s in structures {
+        if s.name.is(name) {
+            return Some(s);
+        }
+    }
+    None
+}
+
+fn is_wanted(wanted: Wanted, s: &Structure) -> bool
+    ensures { result ≡ is_wanted wanted (shape_of s.now) }
+{
+    match wanted {
+        Wanted::DataSet => s.kind < 3 && s.owner == 0,
+        Wanted::Path => s.kind < 5 && s.owner == 0,
+        Wanted::Restart => s.kind == 2 && s.owner == 0,
+    }
+}
+
+/// The structure with this name, where it is such a one.
+#[tactic(auto, unfolding(crate::specs::Looks::structure_named))]
+pub fn structure_named<'a>(
+    wanted: Wanted,
+    name: &Name,
+    desc: &'a Description,
+) -> Option<&'a Structure>
+    ensures { option_map shape_of (option_copied result) ≡ structure_named wanted name.now (described desc.now) }
+{
+    match named(desc.structures.as_slice(), name) {
+        None => None,
+        Some(s) => {
+            if is_wanted(wanted, s) {
+                return Some(s);
+            }
+            None
+        }
+    }
+}
+
+fn is_link(kind: &ItemKind) -> bool
+    ensures { result ≡ is_link kind.now }
+{
+    match kind {
+        ItemKind::Link(_, _) => true,
+        _ => false,
+    }
+}
+
+/// Whether a literal has the kind of an item.
+pub fn has_kind(kind: &ItemKind, literal: &Literal) -> bool
+    ensures { result ≡ has_kind kind.now literal.now }
+{
+    match (kind, literal) {
+        (_, Literal::Null) => true,
+        (ItemKind::Alpha(_), Literal::Text(_)) => true,
+        (ItemKind::Number(_, _, _), Literal::Number(_, _, _)) => true,
+        (ItemKind::Field(_), Literal::Number(_, _, _)) => true,
+        (ItemKind::Bool, Literal::Bool(_)) => true,
+        _ => false,
+    }
+}
+
+/// The items and links that are counted, at most 60.
+fn counted(items: &[Item]) -> &[Item]
+    ensures items { result.now ≡ counted items.now }
+    ensures few { length result.now ≤ 60 }
+{
+    if items.len() > 60 {
+        return &items[..60];
+    }
+    items
+}
+
+/// The item or link with this name among at most 60.
+fn item_named(name: &Name, items: &[Item]) -> Option<Target>
+    requires { length items.now ≤ 60 }
+    ensures { result ≡ item_named 1 name.now items.now }
+{
+    let mut number = 1u8;
+    for item in items {
+        if item.name.is(name) {
+            return Some(Target {
+                item: number,
+                kind: item.kind,
+            });
+        }
+        number += 1;
+    }
+    None
+}
+
+fn was_set(done: &[Setting], item: u8) -> bool
+    ensures { result ≡ list_any (λ (s : Setting). s.item == item) done.now }
+{
+    done.iter().any(|s| s.item == item)
+}
+
+/// The item that a PUT may set behind these.
+#[tactic(auto, unfolding(crate::specs::Looks::target_named))]
+pub fn target_named(name: &Name, items: &[Item], done: &[Setting]) -> Option<Target>
+    ensures { result ≡ target_named name.now items.now done.now }
+{
+    match item_named(name, counted(items)) {
+        None => None,
+        Some(target) => {
+            if is_link(&target.kind) || was_set(done, target.item) {
+                return None;
+            }
+            Some(target)
+        }
+    }
+}
+
+/// A structure by its number.
+fn structure_of(structures: &[Structure], n: u16) -> Option<&Structure>
+    ensures { (desc : Described) → desc.structures ≡ map shape_of structures.now → option_map shape_of (option_copied result) ≡ structure_of desc n }
+{
+    if n == 0 {
+        return None;
+    }
+    structures.get(n as usize - 1)
+}
+
+fn over(s: &Structure) -> u16
+    ensures { result ≡ over (shape_of s.now) }
+{
+    if s.kind < 3 {
+        return s.number;
+    }
+    s.set
+}
+
+fn items_of(s: Option<&Structure>) -> &[Item]
+    ensures { result.now ≡ items_of (option_map shape_of (option_copied s.entry)) }
+{
+    match s {
+        None => &[],
+        Some(s) => s.items.as_slice(),
+    }
+}
+
+fn key_item_of<'a>(parts: &[KeyPart], items: &'a [Item]) -> Option<&'a Item>
+    ensures { option_copied result ≡ key_item_of parts.now items.now }
+{
+    match parts {
+        [] => None,
+        [first, ..] => items.get(usize::from(first.item).saturating_sub(1)),
+    }
+}
+
+/// The first item of a structure's key.
+#[tactic(auto, unfolding(crate::specs::Looks::key_item))]
+pub fn key_item<'a>(desc: &'a Description, s: &Structure) -> Option<&'a Item>
+    ensures { option_copied result ≡ key_item (described desc.now) (shape_of s.now) }
+{
+    let of = structure_of(desc.structures.as_slice(), over(s));
+    key_item_of(s.parts.as_slice(), items_of(of))
+}
+
+/// The kind of this item where it has this name and is no link.
+pub fn kind_named(name: &Name, item: Option<&Item>) -> Option<ItemKind>
+    ensures { result ≡ kind_named name.now (option_copied item.entry) }
+{
+    match item {
+        None => None,
+        Some(item) => {
+            if item.name.is(name) && !is_link(&item.kind) {
+                return Some(item.kind);
+            }
+            None
+        }
+    }
+}
+
+fn group_named(name: &Name, groups: &[Group]) -> Option<Group>
+    ensures { result ≡ group_named name.now groups.now }
+{
+    for group in groups {
+        if group.name.is(name) {
+            return Some(*group);
+        }
+    }
+    None
+}
+
+fn run_of(target: Option<Target>, group: Option<Group>) -> Option<Run>
+    requires { (t : Target) → target ≡ Some t → t.item < 255 }
+    ensures { result ≡ run_of target group }
+{
+    match (target, group) {
+        (Some(target), _) => {
+            if is_link(&target.kind) {
+                return None;
+            }
+            Some(Run {
+                first: target.item,
+                end: target.item + 1,
+            })
+        }
+        (None, None) => None,
+        (None, Some(group)) => Some(Run {
+            first: group.first,
+            end: group_end(&group),
+        }),
+    }
+}
+
+fn group_end(group: &Group) -> u8
+    ensures { result ≡ min (group.now.first + group.now.count) 61 }
+{
+    if group.first > 61 || group.count > 61 {
+        return 61;
+    }
+    (group.first + group.count).min(61)
+}
+
+/// The items that a name stands for in GET.
+#[tactic(auto, unfolding(crate::specs::Looks::run_named))]
+pub fn run_named(name: &Name, s: &Structure) -> Option<Run>
+    ensures { result ≡ run_named name.now (shape_of s.now) }
+{
+    let target = item_named(name, counted(s.items.as_slice()));
+    run_of(target, group_named(name, s.groups.as_slice()))
+}
+
+/// All items and links of a data set, in text order.
+pub fn whole_run(s: &Structure) -> Run
+    ensures { result ≡ whole_run (shape_of s.now) }
+{
+    Run {
+        first: 1,
+        end: counted(s.items.as_slice()).len() as u8 + 1,
+    }
+}
+
+/// Adds the numbers of these items.
+pub fn push_numbers(done: &mut ItemNumbers, run: Run) -> Result<(), Memory>
+    ensures { OnOk result (done.new ≡ done.old ++ numbers run) }
+{
+    for number in run.first..run.end {
+        done.push(number)?;
+    }
+    Ok(())
+}
