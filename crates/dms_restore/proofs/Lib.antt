@@ -1,0 +1,15 @@
+pub mod Picks
+pub mod AtPoints
+pub mod HalfDone
+pub mod Runs
+pub mod Base
+pub mod Converse
+pub mod Given
+pub mod Stops
+pub mod Order
+pub mod Turns
+pub mod Splits
+pub mod Whole
+pub mod Again
+pub mod Removed
+pub mod Patches
