@@ -2,7 +2,7 @@
 use Rattle.std.proofs.Common.{ℕ, ◌≡◌, ◌==◌, ◌||◌, inl, inr, Bool, true, false, List, [], ◌∷◌, ◌++◌, Some, None, refl, sym, ◌∙◌, ap, subst}
 use Rattle.dms_restore.specs.Events.{Content, Stored, Counts, Event, change, quiet, control, begin}
 use Rattle.dms_restore.specs.Lists.{has}
-use Rattle.dms_restore.specs.Places.{is_control, is_described, is_point, IsLive}
+use Rattle.dms_restore.specs.Places.{is_described, is_point, IsLive}
 use Rattle.dms_restore.specs.Pick.{blocks_at, Dumps}
 use Rattle.dms_restore.specs.Base.{Sound, from_control}
 use Rattle.dms_restore.specs.History.{History, after_event}

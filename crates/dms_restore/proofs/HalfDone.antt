@@ -1,15 +1,9 @@
 -- A restore, however often it is stopped.
-use Rattle.std.proofs.Common.{ℕ, ◌<◌, ◌≡◌, ◌||◌, ◌⊎◌, inl, inr, Bool, true, false, cond, List, [], ◌∷◌, ◌++◌, map, length, Option, Some, None, refl, sym, ◌∙◌, ap, subst}
-use Rattle.std.specs.List.{range_with_len}
-use Rattle.dms_restore.specs.Events.{Block, Content, Stored, Counts, Event, change, quiet, control, begin, block_in}
+use Rattle.std.proofs.Common.{ℕ, ◌≡◌, ◌||◌, ◌⊎◌, inl, inr, Bool, true, false, cond, List, [], ◌∷◌, ◌++◌, length, refl, sym, ◌∙◌}
+use Rattle.dms_restore.specs.Events.{Content, Counts, Event, change, quiet, control, begin}
 use Rattle.dms_restore.specs.Replay.{Chain, replay, with_block}
-use Rattle.dms_restore.specs.Images.{last_after, first_before, value, choice}
-use Rattle.dms_restore.specs.Lists.{has, until_first, after_first, after_last}
-use Rattle.dms_restore.specs.Pick.{last_counts, raised_count, blocks_at}
-use Rattle.dms_restore.specs.Places.{is_control, is_point, IsLive}
-use Rattle.dms_restore.specs.Base.{Sound}
-use Rattle.dms_restore.proofs.Picks.{chain_split, option_cases}
-use Rattle.dms_restore.proofs.AtPoints.{each_point, split_first, replay_append, true_or, or_true_right}
+use Rattle.dms_restore.specs.Lists.{has, until_first}
+use Rattle.dms_restore.proofs.AtPoints.{true_or, or_true_right}
 
 false_is_true : false ≡ true → ⊥
 false_is_true e = absurd cc
@@ -58,4 +52,3 @@ chain_control (change g b before after ∷ es) c m next counts described chain a
 chain_control (quiet n ∷ es) c m next counts described chain are = chain_control es c m next counts described chain are
 chain_control (control n later others whole ∷ es) c m next counts described chain are = (chain.0, chain_control es c m next counts described chain.1 are)
 chain_control (begin n how ∷ es) c m next counts described chain are = absurd chain
-

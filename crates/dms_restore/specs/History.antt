@@ -1,6 +1,6 @@
 -- The live entries, and the restore that is pending.
 use Rattle.std.specs.Prelude.{ℕ, ◌+◌, ◌-◌, ◌^◌, ◌≡◌, min, max, List, [], ◌∷◌, ◌++◌, Option, Some, None}
-use Rattle.dms_restore.specs.Events.{Counts, How, Event, change, quiet, control, begin}
+use Rattle.dms_restore.specs.Events.{How, Event, change, quiet, control, begin}
 use Rattle.dms_restore.specs.Lists.{until_first}
 use Rattle.dms_restore.specs.Places.{is_point}
 

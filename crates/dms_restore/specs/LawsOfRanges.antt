@@ -1,6 +1,6 @@
 -- Laws: entries with Ranges are a list of changes with whole images.
 use Rattle.std.specs.Prelude.{ℕ, ◌+◌, ◌<◌, ◌≤◌, ◌≡◌, ◌⊎◌, Bool, true, false, List, [], ◌∷◌, ◌++◌, map, length, take, drop, slice_index_or, Some, None}
-use Rattle.dms_restore.specs.Events.{Block, Content, Stored, Counts, How, Event, control, begin, block_in}
+use Rattle.dms_restore.specs.Events.{Block, Content, Stored, Counts, Event, control, block_in}
 use Rattle.dms_restore.specs.Replay.{replay, with_block}
 use Rattle.dms_restore.specs.Lists.{has, until_first, after_last}
 use Rattle.dms_restore.specs.Images.{last_after}

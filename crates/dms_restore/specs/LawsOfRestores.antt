@@ -1,6 +1,6 @@
 -- Laws: a restore of any kind begins, writes and ends, over a half-done one too.
-use Rattle.std.specs.Prelude.{ℕ, ◌<◌, ◌≡◌, if◌then◌else◌, Bool, true, false, List, [], ◌∷◌, ◌++◌, length, Some}
-use Rattle.dms_restore.specs.Events.{Content, Stored, Counts, How, reconstruct, Event, control, begin}
+use Rattle.std.specs.Prelude.{ℕ, ◌<◌, ◌≡◌, if◌then◌else◌, Bool, true, false, [], ◌∷◌, ◌++◌, length, Some}
+use Rattle.dms_restore.specs.Events.{Content, Stored, Counts, How, reconstruct, control, begin}
 use Rattle.dms_restore.specs.Lists.{until_first}
 use Rattle.dms_restore.specs.Places.{is_point, IsLive}
 use Rattle.dms_restore.specs.History.{Pending, History, after_event}

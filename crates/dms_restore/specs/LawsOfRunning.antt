@@ -1,12 +1,12 @@
 -- Laws: each step of a database that runs keeps it steady.
-use Rattle.std.specs.Prelude.{ℕ, ◌<◌, ◌≡◌, Bool, true, List, [], ◌∷◌, ◌++◌, length, Option, Some, None}
+use Rattle.std.specs.Prelude.{ℕ, ◌<◌, ◌≡◌, Bool, true, List, [], ◌∷◌, ◌++◌, length, Option, None}
 use Rattle.dms_restore.specs.Events.{Block, Content, Stored, Counts, Event, change, quiet, control, block_in}
 use Rattle.dms_restore.specs.Replay.{Tells, replay}
 use Rattle.dms_restore.specs.Lists.{has, after_last}
-use Rattle.dms_restore.specs.Places.{is_control, is_point, IsLive}
+use Rattle.dms_restore.specs.Places.{is_control}
 use Rattle.dms_restore.specs.History.{History, after_event}
 use Rattle.dms_restore.specs.Images.{last_after}
-use Rattle.dms_restore.specs.Pick.{Dumps, blocks_at}
+use Rattle.dms_restore.specs.Pick.{Dumps}
 use Rattle.dms_restore.specs.Base.{from_control, Sound}
 use Rattle.dms_restore.specs.Restores.{Steady}
 

@@ -1,5 +1,5 @@
 -- A block at a point, by the audit or by a dump.
-use Rattle.std.specs.Prelude.{ℕ, ◌+◌, ◌==◌, if◌then◌else◌, List, [], ◌∷◌, map, Option, Some, None}
+use Rattle.std.specs.Prelude.{ℕ, ◌+◌, ◌==◌, if◌then◌else◌, List, [], ◌∷◌, map, Some, None}
 use Rattle.std.specs.List.{range_with_len}
 use Rattle.dms_restore.specs.Events.{Content, Stored, Counts, Event, change, quiet, control, begin, block_in}
 use Rattle.dms_restore.specs.Lists.{until_first, after_first, after_last}
