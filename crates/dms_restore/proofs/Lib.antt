@@ -13,3 +13,5 @@ pub mod Whole
 pub mod Again
 pub mod Removed
 pub mod Patches
+pub mod Schemas
+pub mod Sealed

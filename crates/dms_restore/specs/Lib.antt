@@ -17,3 +17,7 @@ pub mod LawsOfBase
 pub mod LawsOfRunning
 pub mod LawsOfRestores
 pub mod LawsOfRanges
+pub mod Entries
+pub mod Schemas
+pub mod EntryEvents
+pub mod LawsOfEntries

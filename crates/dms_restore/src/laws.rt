@@ -6,6 +6,7 @@ ghost use Rattle.dms_restore.specs.LawsOfRunning.{Changes, Quiets, WritesEarly, 
 ghost use Rattle.dms_restore.specs.LawsOfRestores.{RestoreBegins, RestoreWrites, RestoreEnds, PendingEndsFirst, PendingWritesFirst};
 ghost use Rattle.dms_restore.specs.Often.{HoweverOften, FromAnything};
 ghost use Rattle.dms_restore.specs.Numbers.{RollsBack, LastPoints, NextStays, UsedOnce, NumbersChange, NumbersQuiet, NumbersBegin, NumbersControl, NumbersFirst, TrueDumpServes};
+ghost use Rattle.dms_restore.specs.LawsOfEntries.{WholeSchemas, LiveOfEntries, RowsOfBlocks, SchemaSealed, ImageSealed, RangeSealed, QuietSealed, ControlSealed, BeginSealed, OneMoreEvent, AgreesGivesBase, BaseGivesAgrees};
 ghost use Rattle.dms_restore.specs.LawsOfRanges.{NoRanges, LiveOfRanges, LeftOut, RangeChanges, RangesSplit, ImagesGoOn, RangeFits};
 
 /// Each live point has exactly the content that the entries up to its place give: changes before it are redone, changes after it undone.
@@ -77,4 +78,28 @@ pub fn ranges_are_changes()
     ensures splits { RangesSplit }
     ensures goes_on { ImagesGoOn }
     ensures fits { RangeFits }
+{}
+
+/// A whole Schema is its parts 1 to the last, one directly after another; the live events are those of the live entries; a row is 16 blocks.
+pub fn entries_are_read()
+    ensures schemas { WholeSchemas }
+    ensures live { LiveOfEntries }
+    ensures rows { RowsOfBlocks }
+{}
+
+/// One more entry that is sealed is one more event: an Image a change, a Range a change with whole images, a Control after its whole Schema a described one.
+pub fn entries_are_sealed()
+    ensures schema { SchemaSealed }
+    ensures image { ImageSealed }
+    ensures range { RangeSealed }
+    ensures quiet { QuietSealed }
+    ensures control { ControlSealed }
+    ensures begin { BeginSealed }
+    ensures event { OneMoreEvent }
+{}
+
+/// Where the entries agree with the dumps and blocks there is a base and the database is steady, and the other way round.
+pub fn agreement_is_steady()
+    ensures base { AgreesGivesBase }
+    ensures agrees { BaseGivesAgrees }
 {}
