@@ -1,20 +1,25 @@
 -- Restores one after another.
 use Rattle.std.proofs.Common.{ℕ, ◌≡◌, ◌==◌, ◌||◌, inl, inr, Bool, true, false, List, [], ◌∷◌, ◌++◌, Some, None, refl, sym, ◌∙◌, ap, subst}
-use Rattle.dms_restore.specs.Events.{Content, Stored, Counts, Event, change, quiet, control, begin}
+use Rattle.dms_restore.specs.Events.{Block, block_in, Content, Stored, Counts, Event, change, quiet, control, begin}
 use Rattle.dms_restore.specs.Lists.{has}
 use Rattle.dms_restore.specs.Places.{is_described, is_point, IsLive}
 use Rattle.dms_restore.specs.Pick.{blocks_at, Dumps}
-use Rattle.dms_restore.specs.Base.{Sound, from_control}
-use Rattle.dms_restore.specs.History.{History, after_event}
+use Rattle.dms_restore.specs.Base.{Sound, opening, from_control}
+use Rattle.dms_restore.specs.History.{History, history_from, after_event}
 use Rattle.dms_restore.specs.Here.{here_by, here}
 use Rattle.dms_restore.specs.Restores.{Steady}
 use Rattle.dms_restore.specs.Often.{Disk, RestoreStep, began, wrote, ended, moved, May, HoweverOften, FromAnything}
 use Rattle.dms_restore.specs.LawsOfRunning.{RunsSteady}
-use Rattle.dms_restore.proofs.AtPoints.{bool_cases}
+use Rattle.dms_restore.specs.Replay.{replay, with_block}
+use Rattle.dms_restore.specs.Images.{or_else, last_after}
+use Rattle.dms_restore.specs.Ranges.{patched, range_change}
+use Rattle.dms_restore.specs.LawsOfRanges.{RangesSteady}
+use Rattle.dms_restore.proofs.Picks.{last_append, last_stands}
+use Rattle.dms_restore.proofs.AtPoints.{bool_cases, replay_append}
 use Rattle.dms_restore.proofs.HalfDone.{or_at}
 use Rattle.dms_restore.proofs.Runs.{changes, quiets, writes_early, controls}
-use Rattle.dms_restore.proofs.Base.{has_append}
-use Rattle.dms_restore.proofs.Converse.{opening_append}
+use Rattle.dms_restore.proofs.Base.{has_append, parts}
+use Rattle.dms_restore.proofs.Converse.{opening_append, logged_below}
 use Rattle.dms_restore.proofs.Order.{eq_of}
 use Rattle.dms_restore.proofs.Stops.{begins_by, writes_by, ends_by, live_in, upto_append}
 
@@ -89,6 +94,19 @@ runs_steady dumps t base stored none controlled steady =
       λ written n next counts described count stand.
           let e = control n next counts described in
           steady_of dumps (after_event t e) base written refl (subst (λ (l : List Event). Sound l base written) (grown e) (controls (from_control t.live) base stored written n next counts described sound count stand)),
+    )
+
+pub ranges_steady : RangesSteady
+ranges_steady dumps t base stored f b place bytes old none found steady last =
+    let all = from_control t.live in
+    let e = change f b (Some old) (patched place bytes old) in
+    let live_last : last_after f b t.live ≡ Some old = ap (λ (l : List Event). last_after f b l) (sym (parts t.live)) ∙ last_append (opening t.live) all f b ∙ ap (λ o. or_else o (last_after f b (opening t.live))) last in
+    let chain = steady.sound.chain in
+    let stands : old ≡ block_in (replay all base) f b = sym (last_stands all base f b old chain last) in
+    let grown : from_control (t.live ++ e ∷ []) ≡ all ++ e ∷ [] = (opening_append t.live (e ∷ []) found).1 in (
+      ap (λ o. history_from t (range_change f b place bytes o)) live_last,
+      (runs_steady dumps t base stored none found steady).0 f b (Some old) (patched place bytes old) (logged_below all base f b old chain last, stands),
+      ap (λ (l : List Event). replay l base) grown ∙ replay_append all (e ∷ []) base ∙ ap (λ x. with_block (replay all base) f b (patched place bytes x)) stands,
     )
 
 pub from_anything : FromAnything

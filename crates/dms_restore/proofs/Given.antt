@@ -10,6 +10,8 @@ use Rattle.dms_restore.specs.Places.{is_control, is_point, is_described, IsLive}
 use Rattle.dms_restore.specs.Base.{Sound, opening, from_control}
 use Rattle.dms_restore.specs.Here.{restore_pick, outcome}
 use Rattle.dms_restore.specs.Restores.{may_hold_anything, DumpServes, HasDump}
+use Rattle.dms_restore.specs.LawsOfBase.{OpeningStays}
+use Rattle.dms_restore.proofs.Converse.{opening_append}
 use Rattle.dms_restore.specs.LawsOfPoints.{OpeningNeverCounts}
 use Rattle.dms_restore.proofs.Picks.{chain_split, option_cases, none_stands, last_stands}
 use Rattle.dms_restore.proofs.AtPoints.{bool_cases, each_point, split_first, replay_append, true_or}
@@ -127,6 +129,24 @@ pub at_point : (entries : List Event) (base : Content) (counted : Stored) (n : �
 at_point entries base counted n sound at =
     let more = live_behind entries n at in
     at_behind entries n counted at ∙ each_point (from_control entries) base counted n sound more.found (controlled (from_control entries) n more)
+
+opening_upto : (p : Event → Bool) (es : List Event) → has is_control (until_first p es) ≡ true → opening (until_first p es) ≡ opening es
+opening_upto p [] found = refl
+opening_upto p (e ∷ es) found = elim (bool_cases (is_control e)) [
+  | inl on ↦ first (p e) (has p es) on
+  | inr off ↦
+      let r = peel (p e) (has p es) e (until_first p es) off found in
+      (λ i. opening (cond (r.0 i) (e ∷ []) (cond (r.1 i) (e ∷ until_first p es) [])))
+      ∙ ap (λ k. cond k [] (e ∷ opening (until_first p es))) off ∙ ap (λ (l : List Event). e ∷ l) (opening_upto p es r.2) ∙ ap (λ k. cond k [] (e ∷ opening es)) (sym off)
+]
+  where
+    first : (b c : Bool) → is_control e ≡ true → opening (cond b (e ∷ []) (cond c (e ∷ until_first p es) [])) ≡ cond (is_control e) [] (e ∷ opening es)
+    first true c on = ap (λ k. cond k [] (e ∷ [])) on ∙ ap (λ k. cond k [] (e ∷ opening es)) (sym on)
+    first false true on = ap (λ k. cond k [] (e ∷ opening (until_first p es))) on ∙ ap (λ k. cond k [] (e ∷ opening es)) (sym on)
+    first false false on = ap (λ k. cond k [] (e ∷ opening es)) (sym on)
+
+pub opening_stays : OpeningStays
+opening_stays live = (λ e found. (opening_append live (e ∷ []) found).0, λ n at. opening_upto (is_point n) live (controlled live n at))
 
 pub opening_never_counts : OpeningNeverCounts
 opening_never_counts live counted n at = (live_behind live n at, at_behind live n counted at)

@@ -1,7 +1,7 @@
 -- Laws: where the entries and the blocks agree there is a base, and the other way round.
-use Rattle.std.specs.Prelude.{ℕ, ◌≡◌, Bool, true, false, List, ◌++◌, length, Some}
+use Rattle.std.specs.Prelude.{ℕ, ◌≡◌, Bool, true, false, List, [], ◌∷◌, ◌++◌, length, Some}
 use Rattle.dms_restore.specs.Events.{Content, Stored, Event}
-use Rattle.dms_restore.specs.Lists.{has}
+use Rattle.dms_restore.specs.Lists.{has, until_first}
 use Rattle.dms_restore.specs.Places.{is_control, is_point, is_begin, IsLive}
 use Rattle.dms_restore.specs.History.{Pending, history, next_number}
 use Rattle.dms_restore.specs.Pick.{Dumps, blocks_at}
@@ -39,3 +39,8 @@ abbrev pub FrontGoes : Type 0
 FrontGoes = (xs ys : List Event) (base : Content) (here : Stored) → Sound (from_control (xs ++ ys)) base here → Opened (opening (xs ++ ys)) base → has is_control ys ≡ true
     → (later : Content) × Sound (from_control ys) later here × Opened (opening ys) later
     × ((n : ℕ) → IsLive ys n → has (is_point n) xs ≡ false → IsLive (xs ++ ys) n × (blocks_at ys here n ≡ blocks_at (xs ++ ys) here n))
+
+-- What stands before the first Control stays as it is, whatever follows and wherever a Begin cuts behind that Control.
+abbrev pub OpeningStays : Type 0
+OpeningStays = (live : List Event) → ((e : Event) → has is_control live ≡ true → opening (live ++ e ∷ []) ≡ opening live)
+    × ((n : ℕ) → IsLive live n → opening (until_first (is_point n) live) ≡ opening live)

@@ -1,11 +1,14 @@
 -- Laws: entries with Ranges are a list of changes with whole images.
 use Rattle.std.specs.Prelude.{ℕ, ◌+◌, ◌<◌, ◌≤◌, ◌≡◌, ◌⊎◌, Bool, true, false, List, [], ◌∷◌, ◌++◌, map, length, take, drop, slice_index_or, Some, None}
-use Rattle.dms_restore.specs.Events.{Block, Content, Stored, Counts, Event, control, block_in}
+use Rattle.dms_restore.specs.Events.{Block, Content, Stored, Counts, Event, change, control, block_in}
 use Rattle.dms_restore.specs.Replay.{replay, with_block}
 use Rattle.dms_restore.specs.Lists.{has, until_first, after_last}
 use Rattle.dms_restore.specs.Images.{last_after}
-use Rattle.dms_restore.specs.History.{history}
-use Rattle.dms_restore.specs.Base.{Sound}
+use Rattle.dms_restore.specs.History.{History, after_event, history_from, history}
+use Rattle.dms_restore.specs.Base.{from_control, Sound}
+use Rattle.dms_restore.specs.Places.{is_control}
+use Rattle.dms_restore.specs.Pick.{Dumps}
+use Rattle.dms_restore.specs.Restores.{Steady}
 use Rattle.dms_restore.specs.Ranges.{Logged, event, range, patched, changes_of, all_changes, told_events, is_point_logged, is_control_logged, is_image, live_logged}
 
 -- A list without Ranges stays as it is.
@@ -25,6 +28,15 @@ abbrev pub RangeChanges : Type 0
 RangeChanges = (entries : List Event) (base : Content) (stored : Stored) (f b place : ℕ) (bytes : List ℕ) (old : Block) → Sound entries base stored → last_after f b entries ≡ Some old
     → Sound (entries ++ changes_of entries (range f b place bytes)) base stored
     × (replay (entries ++ changes_of entries (range f b place bytes)) base ≡ with_block (replay entries base) f b (patched place bytes (block_in (replay entries base) f b)))
+
+-- The same over a whole history without a pending restore: a Range of a block with a change since the first Control.
+abbrev pub RangesSteady : Type 0
+RangesSteady = (dumps : Dumps) (h : History) (base : Content) (stored : Stored) (f b place : ℕ) (bytes : List ℕ) (old : Block) → h.pending ≡ None → has is_control h.live ≡ true
+    → Steady dumps h base stored → last_after f b (from_control h.live) ≡ Some old
+    → (history_from h (changes_of h.live (range f b place bytes)) ≡ after_event h (change f b (Some old) (patched place bytes old)))
+    × Steady dumps (after_event h (change f b (Some old) (patched place bytes old))) base stored
+    × (replay (from_control (after_event h (change f b (Some old) (patched place bytes old))).live) base
+    ≡ with_block (replay (from_control h.live) base) f b (patched place bytes (block_in (replay (from_control h.live) base) f b)))
 
 -- Every live Range that isn't left out has a live Image itself of its block before it: after the last live Control before the Range,
 -- or anywhere from the front where there is no such Control.

@@ -1,13 +1,13 @@
 //! Laws of the definitions. Each stands on a function with an empty body, so that the check proves it.
 
 ghost use Rattle.dms_restore.specs.LawsOfPoints.{ChoiceGivesContent, EachPoint, EachLivePoint, OpeningNeverCounts};
-ghost use Rattle.dms_restore.specs.LawsOfBase.{AgreesHasBase, AgreesLeadsToBase, BaseAgrees, AgreesIsSteady, SteadyAgrees, FrontGoes};
+ghost use Rattle.dms_restore.specs.LawsOfBase.{AgreesHasBase, AgreesLeadsToBase, BaseAgrees, AgreesIsSteady, SteadyAgrees, OpeningStays, FrontGoes};
 ghost use Rattle.dms_restore.specs.LawsOfRunning.{Changes, Quiets, WritesEarly, Controls, RunsSteady};
 ghost use Rattle.dms_restore.specs.LawsOfRestores.{RestoreBegins, RestoreWrites, RestoreEnds, PendingEndsFirst, PendingWritesFirst};
 ghost use Rattle.dms_restore.specs.Often.{HoweverOften, FromAnything};
 ghost use Rattle.dms_restore.specs.Numbers.{RollsBack, LastPoints, NextStays, UsedOnce, NumbersChange, NumbersQuiet, NumbersBegin, NumbersControl, NumbersFirst, TrueDumpServes};
 ghost use Rattle.dms_restore.specs.LawsOfEntries.{WholeSchemas, LiveOfEntries, RowsOfBlocks, SchemaSealed, ImageSealed, RangeSealed, QuietSealed, ControlSealed, BeginSealed, OneMoreEvent, AgreesGivesBase, BaseGivesAgrees};
-ghost use Rattle.dms_restore.specs.LawsOfRanges.{NoRanges, LiveOfRanges, LeftOut, RangeChanges, RangesSplit, ImagesGoOn, RangeFits};
+ghost use Rattle.dms_restore.specs.LawsOfRanges.{NoRanges, LiveOfRanges, LeftOut, RangeChanges, RangesSteady, RangesSplit, ImagesGoOn, RangeFits};
 
 /// Each live point has exactly the content that the entries up to its place give: changes before it are redone, changes after it undone.
 pub fn points_have_content()
@@ -28,6 +28,7 @@ pub fn agrees_has_base()
 pub fn stays_steady()
     ensures steady { AgreesIsSteady }
     ensures agrees { SteadyAgrees }
+    ensures opening { OpeningStays }
     ensures front { FrontGoes }
 {}
 
@@ -75,6 +76,7 @@ pub fn ranges_are_changes()
     ensures live { LiveOfRanges }
     ensures left_out { LeftOut }
     ensures changes { RangeChanges }
+    ensures steady { RangesSteady }
     ensures splits { RangesSplit }
     ensures goes_on { ImagesGoOn }
     ensures fits { RangeFits }
