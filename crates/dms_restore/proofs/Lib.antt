@@ -15,3 +15,5 @@ pub mod Removed
 pub mod Patches
 pub mod Schemas
 pub mod Sealed
+pub mod Cuts
+pub mod HistoryMore

@@ -7,6 +7,7 @@ use Rattle.dms_restore.specs.Places.{is_described, is_point, IsLive, point_numbe
 use Rattle.dms_restore.specs.History.{last_number, pending_point, next_after, next_number}
 use Rattle.dms_restore.specs.Agrees.{ends_restore, Numbered}
 use Rattle.dms_restore.specs.Numbers.{RollsBack, LastPoints, Carries, NextStays, UsedOnce, NumbersChange, NumbersQuiet, NumbersBegin, NumbersControl, TrueDumpServes, NumbersFirst}
+use Rattle.dms_restore.proofs.Cuts.{until_none}
 use Rattle.dms_restore.proofs.AtPoints.{or_no, bool_cases, split_first}
 use Rattle.dms_restore.proofs.HalfDone.{upto_upto, or_at}
 use Rattle.dms_restore.proofs.Base.{has_append}
@@ -157,10 +158,6 @@ last_front (control n next counts described ∷ es) k m found = elim (or_at (n =
   | inr more ↦ (λ i. last_number k (cond (more.0 i) (control n next counts described ∷ []) (cond (more.1 i) (control n next counts described ∷ until_first (is_point m) es) []))) ∙ last_front es (Some n) m more.1
 ]
 last_front (begin n how ∷ es) k m found = ap (λ t. last_number k (cond t (begin n how ∷ until_first (is_point m) es) [])) found ∙ last_front es k m found
-
-until_none : (p : Event → Bool) (es : List Event) → has p es ≡ false → until_first p es ≡ []
-until_none p [] off = refl
-until_none p (e ∷ es) off = let both = or_no (p e) (has p es) off in λ i. cond (both.0 i) (e ∷ []) (cond (both.1 i) (e ∷ until_first p es) [])
 
 pub last_points : LastPoints
 last_points h m = (

@@ -4,10 +4,12 @@ use Rattle.std.proofs.lemmas.Bool.Decides.{nat_tests}
 use Rattle.dms_restore.specs.Events.{change, quiet, control, begin}
 use Rattle.dms_restore.specs.Lists.{has, until_first}
 use Rattle.dms_restore.specs.Ranges.{Logged, event, range, is_point_logged, live_logged}
-use Rattle.dms_restore.specs.Entries.{FileCount, Kind, Entry, schema_part, image, byte_range, quiet_point, control_point, begin_restore, counts_in, how_of, is_in_row}
+use Rattle.dms_restore.specs.declared.event.FileCount.{FileCount}
+use Rattle.dms_restore.specs.Entries.{Kind, Entry, schema_part, image, byte_range, quiet_point, control_point, begin_restore, counts_in, how_of, is_in_row}
 use Rattle.dms_restore.specs.Schemas.{Parts, no_parts, after_entry, parts_from, is_whole, parts_of_schema, schema_entries}
 use Rattle.dms_restore.specs.EntryEvents.{said_by, logged_from, logged, is_place, live_after, live_entries_from}
 use Rattle.dms_restore.specs.LawsOfEntries.{WholeSchemas, LiveOfEntries, RowsOfBlocks}
+use Rattle.dms_restore.proofs.Cuts.{until_none}
 use Rattle.dms_restore.proofs.AtPoints.{bool_cases, or_no}
 use Rattle.dms_restore.proofs.HalfDone.{or_at}
 use Rattle.dms_restore.proofs.Order.{append_none, eq_of}
@@ -143,10 +145,6 @@ says p true c e u x is = ap (λ (l : List Logged). l ++ []) is
 says p false true e u x is = ap (λ (l : List Logged). l ++ logged_from (after_entry p e) u) is
 says p false false e u x is = refl
 
-none_cut : (n : ℕ) (xs : List Logged) → has (is_point_logged n) xs ≡ false → until_first (is_point_logged n) xs ≡ []
-none_cut n [] off = refl
-none_cut n (x ∷ xs) off = let both = or_no (is_point_logged n x) (has (is_point_logged n) xs) off in λ i. cond (both.0 i) (x ∷ []) (cond (both.1 i) (x ∷ until_first (is_point_logged n) xs) [])
-
 cut_logged : (n : ℕ) (xs : List Entry) (p : Parts) → logged_from p (until_first (is_place n) xs) ≡ until_first (is_point_logged n) (logged_from p xs)
 cut_logged n [] p = refl
 cut_logged n (schema_part part parts bytes ∷ xs) p = go (has (is_place n) xs) (has_logged n xs (after_entry p (schema_part part parts bytes))) (cut_logged n xs (after_entry p (schema_part part parts bytes)))
@@ -155,7 +153,7 @@ cut_logged n (schema_part part parts bytes ∷ xs) p = go (has (is_place n) xs) 
         → logged_from (after_entry p (schema_part part parts bytes)) (until_first (is_place n) xs) ≡ until_first (is_point_logged n) (logged_from (after_entry p (schema_part part parts bytes)) xs)
         → logged_from p (cond c (schema_part part parts bytes ∷ until_first (is_place n) xs) []) ≡ until_first (is_point_logged n) (logged_from (after_entry p (schema_part part parts bytes)) xs)
     go true found rest = rest
-    go false off rest = sym (none_cut n (logged_from (after_entry p (schema_part part parts bytes)) xs) off)
+    go false off rest = sym (until_none (is_point_logged n) (logged_from (after_entry p (schema_part part parts bytes)) xs) off)
 cut_logged n (image f b before after ∷ xs) p =
     let x = event (change f b before after) in
     says p false (has (is_place n) xs) (image f b before after) (until_first (is_place n) xs) x refl ∙ (λ i. cond (sym (has_logged n xs no_parts) i) (x ∷ cut_logged n xs no_parts i) [])
@@ -189,14 +187,10 @@ cut_found n (control_point m next counts ∷ xs) p found = elim (or_at (m == n) 
 ]
 cut_found n (begin_restore m kind ∷ xs) p found = ap (λ c. parts_from p (cond c (begin_restore m kind ∷ until_first (is_place n) xs) [])) found ∙ cut_found n xs no_parts found
 
-entries_none : (n : ℕ) (xs : List Entry) → has (is_place n) xs ≡ false → until_first (is_place n) xs ≡ []
-entries_none n [] off = refl
-entries_none n (x ∷ xs) off = let both = or_no (is_place n x) (has (is_place n) xs) off in λ i. cond (both.0 i) (x ∷ []) (cond (both.1 i) (x ∷ until_first (is_place n) xs) [])
-
 cut_parts : (n : ℕ) (xs : List Entry) → parts_from no_parts (until_first (is_place n) xs) ≡ no_parts
 cut_parts n xs = elim (bool_cases (has (is_place n) xs)) [
   | inl found ↦ cut_found n xs no_parts found
-  | inr off ↦ ap (λ (l : List Entry). parts_from no_parts l) (entries_none n xs off)
+  | inr off ↦ ap (λ (l : List Entry). parts_from no_parts l) (until_none (is_place n) xs off)
 ]
 
 -- what the live entries say is live, and a Schema that is begun among them is begun among all

@@ -9,6 +9,7 @@ use Rattle.dms_restore.specs.Base.{Sound}
 use Rattle.dms_restore.specs.History.{History, after_event, history_from, history}
 use Rattle.dms_restore.specs.Ranges.{Logged, event, range, patched, range_change, changes_of, changes_from, all_changes, events_from, told_events, is_point_logged, live_step, live_logged, is_image}
 use Rattle.dms_restore.specs.LawsOfRanges.{NoRanges, LiveOfRanges, LeftOut, RangeChanges}
+use Rattle.dms_restore.proofs.Cuts.{until_none}
 use Rattle.dms_restore.proofs.Picks.{place_cases, if_none, or_none, last_append, last_stands}
 use Rattle.dms_restore.proofs.AtPoints.{bool_cases, replay_append, or_true_right, true_or, or_no}
 use Rattle.dms_restore.proofs.Runs.{changes}
@@ -73,10 +74,6 @@ upto_right p (x ∷ acc) e zs off on =
     let found : has p (acc ++ e ∷ zs) ≡ true = has_append p acc (e ∷ zs) ∙ or_true_right (has p acc) (p e || has p zs) (true_or (p e) (has p zs) on) in
     (λ i. cond (both.0 i) (x ∷ []) (cond (found i) (x ∷ until_first p (acc ++ e ∷ zs)) [])) ∙ ap (λ (l : List Event). x ∷ l) (upto_right p acc e zs both.1 on)
 
-upto_none : (p : Event → Bool) (es : List Event) → has p es ≡ false → until_first p es ≡ []
-upto_none p [] off = refl
-upto_none p (e ∷ es) off = let both = or_no (p e) (has p es) off in λ i. cond (both.0 i) (e ∷ []) (cond (both.1 i) (e ∷ until_first p es) [])
-
 turn_has : (n : ℕ) (xs : List Logged) (acc : List Event) → has (is_point n) (changes_from acc xs) ≡ (has (is_point n) acc || has (is_point_logged n) xs)
 turn_has n [] acc = sym (or_nothing (has (is_point n) acc))
   where
@@ -123,7 +120,7 @@ pub turn_upto : (n : ℕ) (xs : List Logged) → all_changes (until_first (is_po
 unfolding all_changes
 turn_upto n xs = elim (bool_cases (has (is_point_logged n) xs)) [
   | inl found ↦ turn_cut n xs [] refl found
-  | inr none ↦ ap (λ (l : List Logged). changes_from [] l) (entry_none (is_point_logged n) xs none) ∙ sym (upto_none (is_point n) (changes_from [] xs) (turn_has n xs [] ∙ none))
+  | inr none ↦ ap (λ (l : List Logged). changes_from [] l) (entry_none (is_point_logged n) xs none) ∙ sym (until_none (is_point n) (changes_from [] xs) (turn_has n xs [] ∙ none))
 ]
 
 pub turn_push : (xs : List Logged) (x : Logged) → all_changes (xs ++ x ∷ []) ≡ all_changes xs ++ changes_of (all_changes xs) x

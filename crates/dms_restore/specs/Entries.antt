@@ -2,16 +2,8 @@
 use Rattle.std.specs.Prelude.{ℕ, ◌+◌, ◌*◌, ◌==◌, ◌&&◌, nat_le, nat_lt, if◌then◌else◌, Bool, false, List, [], ◌∷◌, Option}
 use Rattle.dms_restore.specs.Events.{Block, Counts, How, halt_load, back_out, roll_back, rebuild, reconstruct}
 use Rattle.dms_restore.specs.Lists.{has}
-
--- how many blocks one structure file has
-pub record FileCount : Type 0 where
-  pub file : ℕ
-  pub blocks : ℕ
-
--- a row of a structure file: row r is its blocks 16 r to 16 r + 15
-pub record Row : Type 0 where
-  pub file : ℕ
-  pub row : ℕ
+use Rattle.dms_restore.specs.declared.event.FileCount.{FileCount}
+use Rattle.dms_restore.specs.declared.event.Row.{Row}
 
 -- how a restore goes, as its Begin says it: rebuild and reconstruct with the dump's number, reconstruct with the rows
 pub data Kind : Type 0 where

@@ -12,7 +12,9 @@ use Rattle.dms_restore.specs.Agrees.{Numbered}
 use Rattle.dms_restore.specs.Restores.{Steady}
 use Rattle.dms_restore.specs.Ranges.{Logged, event, patched, live_logged}
 use Rattle.dms_restore.specs.LawsOfRanges.{HasImages}
-use Rattle.dms_restore.specs.Entries.{FileCount, Kind, Row, Entry, schema_part, image, byte_range, quiet_point, control_point, begin_restore, counts_in, how_of, is_in_row, named_by}
+use Rattle.dms_restore.specs.declared.event.FileCount.{FileCount}
+use Rattle.dms_restore.specs.declared.event.Row.{Row}
+use Rattle.dms_restore.specs.Entries.{Kind, Entry, schema_part, image, byte_range, quiet_point, control_point, begin_restore, counts_in, how_of, is_in_row, named_by}
 use Rattle.dms_restore.specs.Schemas.{no_parts, parts_from, is_whole, schema_entries}
 use Rattle.dms_restore.specs.EntryEvents.{logged, events, live_entries, ends_restore_logged, Agrees}
 

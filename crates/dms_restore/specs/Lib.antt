@@ -21,3 +21,5 @@ pub mod Entries
 pub mod Schemas
 pub mod EntryEvents
 pub mod LawsOfEntries
+pub mod Plain
+pub mod PlainHistory
