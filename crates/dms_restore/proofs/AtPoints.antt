@@ -87,7 +87,7 @@ pub or_no : (b c : Bool) → b || c ≡ false → (b ≡ false) × (c ≡ false)
 or_no true c e = absurd cc
 or_no false c e = (refl, e)
 
-no_counts : (k : Counts) (es : List Event) → has is_control es ≡ false → last_counts k es ≡ k
+pub no_counts : (k : Counts) (es : List Event) → has is_control es ≡ false → last_counts k es ≡ k
 no_counts k [] off = refl
 no_counts k (change f b before after ∷ es) off = no_counts k es off
 no_counts k (quiet n ∷ es) off = no_counts k es off

@@ -139,7 +139,7 @@ logged_some xs ys f b before after none =
     true_not_false (sym (at_self f b) ∙ if_none (is_at f b f b) after last.1)
 
 -- with no Control all stands from_control the last one
-all_after : (es : List Event) → has is_control es ≡ false → after_last is_control es ≡ es
+pub all_after : (es : List Event) → has is_control es ≡ false → after_last is_control es ≡ es
 all_after [] off = refl
 all_after (e ∷ es) off = ap (λ b. cond b (after_last is_control es) (e ∷ es)) off
 

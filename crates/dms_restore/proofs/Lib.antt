@@ -17,3 +17,4 @@ pub mod Schemas
 pub mod Sealed
 pub mod Cuts
 pub mod HistoryMore
+pub mod PlainPick
