@@ -18,3 +18,4 @@ pub mod Sealed
 pub mod Cuts
 pub mod HistoryMore
 pub mod PlainPick
+pub mod PlainHere

@@ -3,9 +3,13 @@
 
 pub mod event;
 pub mod laws;
+mod dumped;
+mod half_done;
 mod history;
 mod plain;
 
+pub use dumped::Dumped;
 pub use event::{Begin, Change, Control, Event, FileCount, How, Row};
 pub use history::{History, Pending, last_point, read_history};
-pub use plain::place;
+pub use half_done::{dump_pick, here, restore_pick};
+pub use plain::{blocks_at, count_at, last_after, pick, place};

@@ -73,7 +73,7 @@ fn is_of(change: &Change, file: u32, block: u64) -> bool
 }
 
 /// The last after-image of a block.
-fn last_after<'a>(events: &[Event<'a>], file: u32, block: u64) -> Option<&'a [u8]>
+pub fn last_after<'a>(events: &[Event<'a>], file: u32, block: u64) -> Option<&'a [u8]>
     ensures { option_copied result ≡ last_after file block (events_seen events.now) }
 {
     let mut last = None;
@@ -206,7 +206,7 @@ fn is_in_row(row: &Row, file: u32, block: u64) -> bool
 }
 
 /// Whether a block of a file is in one of some rows.
-fn is_named(rows: &[Row], file: u32, block: u64) -> bool
+pub fn is_named(rows: &[Row], file: u32, block: u64) -> bool
     ensures { result ≡ named_by rows.now file block }
 {
     for row in rows {
