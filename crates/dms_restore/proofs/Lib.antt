@@ -19,3 +19,5 @@ pub mod Cuts
 pub mod HistoryMore
 pub mod PlainPick
 pub mod PlainHere
+pub mod Examples
+pub mod Counterexamples

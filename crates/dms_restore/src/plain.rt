@@ -4,7 +4,7 @@ ghost use Rattle.std.specs.Prelude.{◌≡◌, ℕ, ◌≤◌, true, false, leng
 ghost use Rattle.std.specs.Option.{option_copied};
 ghost use Rattle.dms_restore.specs.Events.{block_in};
 ghost use Rattle.dms_restore.specs.Lists.{has, until_first, after_first, after_last};
-ghost use Rattle.dms_restore.specs.Places.{is_control, is_point};
+ghost use Rattle.dms_restore.specs.Places.{is_control, is_described, is_point, IsLive};
 ghost use Rattle.dms_restore.specs.Images.{is_at, last_after, first_before, else_stored};
 ghost use Rattle.dms_restore.specs.Pick.{Dump, count_at, pick, dump_pick, blocks_at};
 ghost use Rattle.dms_restore.specs.Agrees.{reached_count};
@@ -39,6 +39,30 @@ pub fn place(live: &[Event], point: u64) -> Option<usize>
         }
     }
     None
+}
+
+/// Whether one of the events is a Control directly after a whole Schema.
+fn has_described(events: &[Event]) -> bool
+    ensures { result ≡ has is_described (events_seen events.now) }
+{
+    for event in events {
+        if let Event::Controlled(control) = event {
+            if control.described {
+                return true;
+            }
+        }
+    }
+    false
+}
+
+/// Whether a point is live: it has a place, and a Control directly after a whole Schema stands at or before that place.
+pub fn is_live(live: &[Event], point: u64) -> bool
+    ensures { IsTrue result ↔ IsLive (events_seen live.now) point }
+{
+    match place(live, point) {
+        Some(end) => has_described(&live[..end]),
+        None => false,
+    }
 }
 
 /// Whether an event is a Control.
