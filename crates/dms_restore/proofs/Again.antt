@@ -1,6 +1,6 @@
 -- Restores one after another.
 use Rattle.std.proofs.Common.{ℕ, ◌≡◌, ◌==◌, ◌||◌, inl, inr, Bool, true, false, List, [], ◌∷◌, ◌++◌, Some, None, refl, sym, ◌∙◌, ap, subst}
-use Rattle.dms_restore.specs.Events.{Block, block_in, Content, Stored, Counts, Event, change, quiet, control, begin}
+use Rattle.dms_restore.specs.Events.{block_in, Content, Stored, Counts, Event, change, quiet, control, begin}
 use Rattle.dms_restore.specs.Lists.{has}
 use Rattle.dms_restore.specs.Places.{is_described, is_point, IsLive}
 use Rattle.dms_restore.specs.Pick.{blocks_at, Dumps}

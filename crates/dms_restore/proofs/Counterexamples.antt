@@ -1,10 +1,10 @@
 -- Small trails that show why two sentences of the agreement are needed, and what a place before the first Control means.
 use Rattle.std.proofs.Common.{ℕ, ◌<◌, ◌≡◌, true, false, List, [], ◌∷◌, ◌++◌, length, get_or, Option, Some, None, refl, sym, ◌∙◌, ap, arith, inl, inr}
 use Rattle.dms_restore.specs.Events.{Block, Content, Stored, Counts, rebuild, Event, change, quiet, control, begin}
-use Rattle.dms_restore.specs.Lists.{has, after_last}
-use Rattle.dms_restore.specs.Places.{is_control, is_begin, IsLive}
+use Rattle.dms_restore.specs.Lists.{has}
+use Rattle.dms_restore.specs.Places.{is_begin, IsLive}
 use Rattle.dms_restore.specs.History.{history, next_number}
-use Rattle.dms_restore.specs.Images.{is_at, last_after, choice}
+use Rattle.dms_restore.specs.Images.{is_at, choice}
 use Rattle.dms_restore.specs.Pick.{Dumps, count_at, pick, dump_pick, content_of, blocks_at}
 use Rattle.dms_restore.specs.Here.{restore_pick, outcome, here}
 use Rattle.dms_restore.specs.Base.{from_control, Sound}

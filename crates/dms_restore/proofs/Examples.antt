@@ -1,14 +1,14 @@
 -- Worked values: each holds by computing the definitions.
-use Rattle.std.proofs.Common.{ℕ, ◌≡◌, true, false, List, [], ◌∷◌, ◌++◌, Some, None, refl}
-use Rattle.dms_restore.specs.Events.{Stored, Counts, halt_load, back_out, roll_back, rebuild, reconstruct, Event, change, quiet, control, begin}
+use Rattle.std.proofs.Common.{◌≡◌, true, false, List, [], ◌∷◌, ◌++◌, Some, None, refl}
+use Rattle.dms_restore.specs.Events.{Stored, roll_back, rebuild, Event, change, quiet, control, begin}
 use Rattle.dms_restore.specs.Lists.{has}
-use Rattle.dms_restore.specs.Places.{is_described, IsLive}
+use Rattle.dms_restore.specs.Places.{is_described}
 use Rattle.dms_restore.specs.History.{history, live, last_point, next_number}
 use Rattle.dms_restore.specs.Images.{choice}
 use Rattle.dms_restore.specs.Pick.{Dumps, count_at, pick, dump_pick, content_of, blocks_at}
 use Rattle.dms_restore.specs.Here.{restore_pick, outcome, here}
 use Rattle.dms_restore.specs.Ranges.{told_events, patched}
-use Rattle.dms_restore.specs.Entries.{Entry, schema_part, image, byte_range, quiet_point, control_point, begin_restore, by_rebuild, by_reconstruct, counts_in, named_by}
+use Rattle.dms_restore.specs.Entries.{schema_part, image, byte_range, quiet_point, control_point, counts_in, named_by}
 use Rattle.dms_restore.specs.EntryEvents.{events}
 
 -- two points; block 0 of file 30001 is made before point 1 and changed after it
@@ -100,13 +100,13 @@ half_done_content stored = refl
 
 -- A Range of a block without an Image before it is left out, and one behind its Image is a change with whole images.
 ranges : events (
-  byte_range 30001 0 1 (4 ∷ [])
+    byte_range 30001 0 1 (4 ∷ [])
     ∷ schema_part 1 1 []
     ∷ control_point 0 1 (record { file = 30001; blocks = 1 } ∷ [])
     ∷ image 30001 0 (Some (1 ∷ 2 ∷ 3 ∷ [])) (5 ∷ 2 ∷ 3 ∷ [])
     ∷ byte_range 30001 0 1 (6 ∷ [])
     ∷ []
-) ≡ control 0 1 (counts_in (record { file = 30001; blocks = 1 } ∷ [])) true ∷ change 30001 0 (Some (1 ∷ 2 ∷ 3 ∷ [])) (5 ∷ 2 ∷ 3 ∷ []) ∷ change 30001 0 (Some (5 ∷ 2 ∷ 3 ∷ [])) (5 ∷ 6 ∷ 3 ∷ []) ∷ []
+    ) ≡ control 0 1 (counts_in (record { file = 30001; blocks = 1 } ∷ [])) true ∷ change 30001 0 (Some (1 ∷ 2 ∷ 3 ∷ [])) (5 ∷ 2 ∷ 3 ∷ []) ∷ change 30001 0 (Some (5 ∷ 2 ∷ 3 ∷ [])) (5 ∷ 6 ∷ 3 ∷ []) ∷ []
 unfolding told_events patched
 ranges = refl
 

@@ -8,7 +8,7 @@ use Rattle.dms_restore.specs.History.{last_number, pending_point, next_after, ne
 use Rattle.dms_restore.specs.Agrees.{ends_restore, Numbered}
 use Rattle.dms_restore.specs.Numbers.{RollsBack, LastPoints, Carries, NextStays, UsedOnce, NumbersChange, NumbersQuiet, NumbersBegin, NumbersControl, TrueDumpServes, NumbersFirst}
 use Rattle.dms_restore.proofs.Cuts.{until_none}
-use Rattle.dms_restore.proofs.AtPoints.{or_no, bool_cases, split_first}
+use Rattle.dms_restore.proofs.AtPoints.{bool_cases, split_first}
 use Rattle.dms_restore.proofs.HalfDone.{upto_upto, or_at}
 use Rattle.dms_restore.proofs.Base.{has_append}
 use Rattle.dms_restore.proofs.Stops.{has_self}

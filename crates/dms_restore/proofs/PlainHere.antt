@@ -1,5 +1,5 @@
 -- What counts as a block, put together from its parts.
-use Rattle.std.proofs.Common.{ℕ, ◌<◌, ◌≤◌, ◌≡◌, true, false, cond, List, [], Option, Some, None, length, get_or, sym, ◌∙◌, ap, subst, arith}
+use Rattle.std.proofs.Common.{ℕ, ◌<◌, ◌≤◌, ◌≡◌, true, false, cond, List, [], Option, Some, None, sym, ◌∙◌, ap, subst, arith}
 use Rattle.std.proofs.lemmas.List.{get_or_past}
 use Rattle.dms_restore.specs.declared.dumped.Dumped.{Dumped}
 use Rattle.dms_restore.specs.Events.{Block, Stored, How, halt_load, back_out, roll_back, rebuild, reconstruct, Event, block_in}

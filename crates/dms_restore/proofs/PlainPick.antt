@@ -15,6 +15,11 @@ use Rattle.dms_restore.proofs.AtPoints.{bool_cases, no_counts}
 use Rattle.dms_restore.proofs.Converse.{all_after}
 use Rattle.dms_restore.proofs.Cuts.{until_none, after_none}
 
+-- the before-image that was found, else that of what follows, else what is stored
+abbrev pub undone_so_far : Option Block → Option (Option Block) → Block → Block
+undone_so_far None first stored = else_stored first stored
+undone_so_far (Some x) first stored = x
+
 -- a slice up to the end
 pub to_end : {A : Type 0} (k : ℕ) (xs : List A) → take (length xs - k) (drop k xs) ≡ drop k xs
 to_end k xs = take_all (length xs - k) (drop k xs) (omega (arith, length-drop k xs))

@@ -1,16 +1,15 @@
 -- Whole Schemas, and the live entries.
-use Rattle.std.proofs.Common.{ℕ, ◌+◌, ◌*◌, ◌<◌, ◌≤◌, ◌≡◌, ◌≢◌, ◌==◌, ◌&&◌, ◌||◌, ◌⊎◌, inl, inr, Bool, true, false, cond, List, [], ◌∷◌, ◌++◌, length, length-append, refl, sym, ◌∙◌, ap, subst, arith, append_assoc}
+use Rattle.std.proofs.Common.{ℕ, ◌+◌, ◌*◌, ◌<◌, ◌≤◌, ◌≡◌, ◌==◌, ◌&&◌, ◌||◌, ◌⊎◌, inl, inr, Bool, true, false, cond, List, [], ◌∷◌, ◌++◌, length, length-append, refl, sym, ◌∙◌, ap, subst, arith, append_assoc}
 use Rattle.std.proofs.lemmas.Bool.Decides.{nat_tests}
 use Rattle.dms_restore.specs.Events.{change, quiet, control, begin}
 use Rattle.dms_restore.specs.Lists.{has, until_first}
 use Rattle.dms_restore.specs.Ranges.{Logged, event, range, is_point_logged, live_logged}
-use Rattle.dms_restore.specs.declared.event.FileCount.{FileCount}
-use Rattle.dms_restore.specs.Entries.{Kind, Entry, schema_part, image, byte_range, quiet_point, control_point, begin_restore, counts_in, how_of, is_in_row}
+use Rattle.dms_restore.specs.Entries.{Entry, schema_part, image, byte_range, quiet_point, control_point, begin_restore, counts_in, how_of, is_in_row}
 use Rattle.dms_restore.specs.Schemas.{Parts, no_parts, after_entry, parts_from, is_whole, parts_of_schema, schema_entries}
-use Rattle.dms_restore.specs.EntryEvents.{said_by, logged_from, logged, is_place, live_after, live_entries_from}
+use Rattle.dms_restore.specs.EntryEvents.{said_by, logged_from, logged, is_place, live_entries_from}
 use Rattle.dms_restore.specs.LawsOfEntries.{WholeSchemas, LiveOfEntries, RowsOfBlocks}
 use Rattle.dms_restore.proofs.Cuts.{until_none}
-use Rattle.dms_restore.proofs.AtPoints.{bool_cases, or_no}
+use Rattle.dms_restore.proofs.AtPoints.{bool_cases}
 use Rattle.dms_restore.proofs.HalfDone.{or_at}
 use Rattle.dms_restore.proofs.Order.{append_none, eq_of}
 

@@ -1,14 +1,11 @@
 -- One more entry is sealed.
-use Rattle.std.proofs.Common.{ℕ, ◌<◌, ◌≡◌, Bool, true, List, [], ◌∷◌, ◌++◌, length, Some, None, refl, sym, ◌∙◌, ap, append_assoc}
-use Rattle.dms_restore.specs.Events.{Block, Event, change, quiet, control, begin, block_in}
-use Rattle.dms_restore.specs.Replay.{Tells, replay}
-use Rattle.dms_restore.specs.Images.{last_after}
-use Rattle.dms_restore.specs.History.{History, after_event, history_from, history, next_number}
+use Rattle.std.proofs.Common.{ℕ, ◌≡◌, true, List, [], ◌∷◌, ◌++◌, length, None, refl, sym, ◌∙◌, ap, append_assoc}
+use Rattle.dms_restore.specs.Events.{Event, change, quiet, control, begin}
+use Rattle.dms_restore.specs.History.{History, history_from, history, next_number}
 use Rattle.dms_restore.specs.Here.{here}
-use Rattle.dms_restore.specs.Restores.{Steady}
-use Rattle.dms_restore.specs.Ranges.{Logged, event, range, patched, range_change, changes_of, events_from, told_events}
+use Rattle.dms_restore.specs.Ranges.{Logged, event, range, range_change, changes_of, events_from, told_events}
 use Rattle.dms_restore.specs.Entries.{Entry, schema_part, image, byte_range, quiet_point, control_point, begin_restore, counts_in, how_of}
-use Rattle.dms_restore.specs.Schemas.{Parts, no_parts, parts_from, is_whole, parts_of_schema, schema_entries}
+use Rattle.dms_restore.specs.Schemas.{Parts, no_parts, parts_from, parts_of_schema, schema_entries}
 use Rattle.dms_restore.specs.EntryEvents.{said_by, logged_from, logged, events}
 use Rattle.dms_restore.specs.LawsOfEntries.{SchemaSealed, ImageSealed, RangeSealed, QuietSealed, ControlSealed, BeginSealed, OneMoreEvent, AgreesGivesBase, BaseGivesAgrees}
 use Rattle.dms_restore.proofs.Order.{append_none}

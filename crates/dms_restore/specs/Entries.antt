@@ -1,5 +1,5 @@
 -- The entries of the audit, as its sealed blocks hold them one after another.
-use Rattle.std.specs.Prelude.{ℕ, ◌+◌, ◌*◌, ◌==◌, ◌&&◌, nat_le, nat_lt, if◌then◌else◌, Bool, false, List, [], ◌∷◌, Option}
+use Rattle.std.specs.Prelude.{ℕ, ◌+◌, ◌*◌, ◌==◌, ◌&&◌, nat_le, nat_lt, if◌then◌else◌, Bool, List, [], ◌∷◌, Option}
 use Rattle.dms_restore.specs.Events.{Block, Counts, How, halt_load, back_out, roll_back, rebuild, reconstruct}
 use Rattle.dms_restore.specs.Lists.{has}
 use Rattle.dms_restore.specs.declared.event.FileCount.{FileCount}

@@ -7,7 +7,7 @@ use Rattle.dms_restore.specs.Agrees.{ends_restore, EventsAgree}
 use Rattle.dms_restore.specs.Ranges.{Logged, event, range, told_events, live_logged}
 use Rattle.dms_restore.specs.LawsOfRanges.{HasImages}
 use Rattle.dms_restore.specs.Entries.{Entry, schema_part, image, byte_range, quiet_point, control_point, begin_restore, counts_in, how_of}
-use Rattle.dms_restore.specs.Schemas.{Parts, no_parts, after_entry, parts_from, is_whole}
+use Rattle.dms_restore.specs.Schemas.{Parts, no_parts, after_entry, is_whole}
 
 -- what an entry says by itself, after so much of a Schema: a Schema part says nothing, and a Control says whether a whole Schema stands directly before it
 abbrev pub said_by : Parts → Entry → List Logged

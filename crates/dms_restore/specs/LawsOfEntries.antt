@@ -2,7 +2,7 @@
 use Rattle.std.specs.Prelude.{ℕ, ◌+◌, ◌*◌, ◌≤◌, ◌<◌, ◌≡◌, ◌≢◌, Bool, true, false, List, [], ◌∷◌, ◌++◌, length, Option, Some, None}
 use Rattle.dms_restore.specs.Events.{Block, Content, Stored, How, Event, change, quiet, control, begin}
 use Rattle.dms_restore.specs.Images.{last_after}
-use Rattle.dms_restore.specs.History.{Pending, History, after_event, history, next_number}
+use Rattle.dms_restore.specs.History.{Pending, after_event, history, next_number}
 use Rattle.dms_restore.specs.Places.{is_control, IsLive}
 use Rattle.dms_restore.specs.Lists.{has}
 use Rattle.dms_restore.specs.Pick.{Dumps}
@@ -13,8 +13,7 @@ use Rattle.dms_restore.specs.Restores.{Steady}
 use Rattle.dms_restore.specs.Ranges.{Logged, event, patched, live_logged}
 use Rattle.dms_restore.specs.LawsOfRanges.{HasImages}
 use Rattle.dms_restore.specs.declared.event.FileCount.{FileCount}
-use Rattle.dms_restore.specs.declared.event.Row.{Row}
-use Rattle.dms_restore.specs.Entries.{Kind, Entry, schema_part, image, byte_range, quiet_point, control_point, begin_restore, counts_in, how_of, is_in_row, named_by}
+use Rattle.dms_restore.specs.Entries.{Kind, Entry, schema_part, image, byte_range, quiet_point, control_point, begin_restore, counts_in, how_of, is_in_row}
 use Rattle.dms_restore.specs.Schemas.{no_parts, parts_from, is_whole, schema_entries}
 use Rattle.dms_restore.specs.EntryEvents.{logged, events, live_entries, ends_restore_logged, Agrees}
 

@@ -1,5 +1,5 @@
 -- Events of the plain program as the events of the definitions.
-use Rattle.std.specs.Prelude.{ℕ, List, [], map, Option, Some, None, slice_index_or}
+use Rattle.std.specs.Prelude.{ℕ, List, [], map, slice_index_or}
 use Rattle.std.specs.Borrow.{Bor}
 use Rattle.std.specs.Option.{option_copied}
 use Rattle.dms_restore.specs.declared.event.How as declared_how

@@ -1,7 +1,6 @@
 -- Whole Schemas among the entries.
-use Rattle.std.specs.Prelude.{ℕ, ◌+◌, ◌==◌, ◌&&◌, nat_lt, if◌then◌else◌, Bool, List, [], ◌∷◌, ◌++◌, length}
-use Rattle.dms_restore.specs.declared.event.FileCount.{FileCount}
-use Rattle.dms_restore.specs.Entries.{Kind, Entry, schema_part, image, byte_range, quiet_point, control_point, begin_restore}
+use Rattle.std.specs.Prelude.{ℕ, ◌+◌, ◌==◌, ◌&&◌, nat_lt, if◌then◌else◌, Bool, List, [], ◌∷◌, length}
+use Rattle.dms_restore.specs.Entries.{Entry, schema_part, image, byte_range, quiet_point, control_point, begin_restore}
 
 -- How much of a Schema the entries end with: its parts 1 to `read` of `all`, one directly after another. Nothing of one is 0 of 0.
 pub record Parts : Type 0 where

@@ -82,7 +82,15 @@ pub fn here<'a>(
         Some(pending) => {
             let entries = pending.entries.as_slice();
             if block < count_at(entries, pending.point, file) {
-                restore_pick(&pending.how, entries, dumped, pending.point, file, block, stored)
+                restore_pick(
+                    &pending.how,
+                    entries,
+                    dumped,
+                    pending.point,
+                    file,
+                    block,
+                    stored,
+                )
             } else {
                 &[]
             }

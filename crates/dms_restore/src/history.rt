@@ -48,12 +48,22 @@ fn after_event<'a>(
     match event {
         Event::Begun(begin) => {
             let kept = front(alloc, live.as_slice(), begin.point)?;
-            let pending = Pending { entries: live, point: begin.point, how: begin.how };
-            Ok(History { live: kept, pending: Some(pending) })
+            let pending = Pending {
+                entries: live,
+                point: begin.point,
+                how: begin.how,
+            };
+            Ok(History {
+                live: kept,
+                pending: Some(pending),
+            })
         }
         Event::Controlled(_) => {
             live.push(*event)?;
-            Ok(History { live, pending: None })
+            Ok(History {
+                live,
+                pending: None,
+            })
         }
         _ => {
             live.push(*event)?;
@@ -66,7 +76,10 @@ fn after_event<'a>(
 pub fn read_history<'a>(alloc: Global, events: &[Event<'a>]) -> Result<History<'a>, AllocError>
     ensures { IfOk result (λ h. history_seen h ≡ history (events_seen events.now)) }
 {
-    let mut read = History { live: Vec::new(alloc), pending: None };
+    let mut read = History {
+        live: Vec::new(alloc),
+        pending: None,
+    };
     for event in events {
         read = after_event(alloc, read, event)?;
     }

@@ -115,24 +115,19 @@ pub fn last_after<'a>(events: &[Event<'a>], file: u32, block: u64) -> Option<&'a
 fn undone<'a>(events: &[Event<'a>], file: u32, block: u64, stored: &'a [u8]) -> &'a [u8]
     ensures { result.now ≡ else_stored (first_before file block (events_seen events.now)) stored.now }
 {
+    let mut before: Option<&[u8]> = None;
     for event in events {
         if let Event::Changed(change) = event {
-            if is_of(change, file, block) {
-                return change.before.unwrap_or(&[]);
+            if before.is_none() && is_of(change, file, block) {
+                before = Some(change.before.unwrap_or(&[]));
             }
         }
     }
-    stored
+    before.unwrap_or(stored)
 }
 
 /// A block at a point by the audit: redone from the changes between the last Control and the point, else undone from those behind the point, else as it is stored.
-pub fn pick<'a>(
-    live: &[Event<'a>],
-    point: u64,
-    file: u32,
-    block: u64,
-    stored: &'a [u8],
-) -> &'a [u8]
+pub fn pick<'a>(live: &[Event<'a>], point: u64, file: u32, block: u64, stored: &'a [u8]) -> &'a [u8]
     ensures { result.now ≡ pick (events_seen live.now) point (λ _ _. stored.now) file block }
 {
     match place(live, point) {
@@ -193,13 +188,7 @@ fn block_of<'a>(blocks: &[&'a [u8]], block: u64) -> &'a [u8]
     ensures { result.now ≡ block_of blocks.now block }
 {
     match usize::try_from(block) {
-        Ok(i) => {
-            if i < blocks.len() {
-                blocks[i]
-            } else {
-                &[]
-            }
-        }
+        Ok(i) => { if i < blocks.len() { blocks[i] } else { &[] } }
         Err(_) => &[],
     }
 }
