@@ -1,1 +1,2 @@
+pub mod Nots
 pub mod Turning

@@ -106,3 +106,11 @@ turns done one (suc more) s ts = if done s ts then Ok (s, ts) else (one s ts >>=
 -- one turn after another up to where they are done: each takes a token at least
 unfoldable pub turns_at : {S : Type 0} → (S → List Lexeme → Bool) → (S → List Lexeme → Read S) → S → List Lexeme → Read S
 turns_at done one s ts = turns done one (length ts) s ts
+
+-- up to a closing bracket
+abbrev pub until_close : {S : Type 0} → S → List Lexeme → Bool
+until_close s ts = starts (is_the_sign 41) ts
+
+-- up to a semicolon
+abbrev pub until_semicolon : {S : Type 0} → S → List Lexeme → Bool
+until_semicolon s ts = starts (is_the_sign 59) ts

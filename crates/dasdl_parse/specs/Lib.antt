@@ -1,7 +1,14 @@
+pub mod Branches
+pub mod Conditions
 pub mod Cursors
+pub mod Grammar
+pub mod Items
+pub mod Kinds
 pub mod Lexing
+pub mod Parameters
 pub mod Reads
 pub mod Reserved
 pub mod Tokens
+pub mod Sets
 pub mod TreeCodes
 pub mod Trees

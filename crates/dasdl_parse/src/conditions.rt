@@ -1,5 +1,7 @@
 ghost use Rattle.std.specs.Prelude.{◌≡◌, IfOk};
 ghost use Rattle.dasdl_parse.specs.Trees.{tree_of};
+ghost use Rattle.dasdl_parse.specs.Branches.{negated, with_and, with_or};
+ghost use Rattle.dasdl_parse.specs.TreeCodes.Tree.{Test, Turned};
 
 use dms_base::{Literal, Memory, Name, Op};
 use std::alloc::Global;
@@ -50,5 +52,87 @@ impl CondDecl {
         ensures { tree_of result.now ≡ self.now.tree }
     {
         &self.tree
+    }
+}
+
+/// A condition, as a part of a larger one.
+#[derive(Debug, Drop)]
+pub struct Branch {
+    tree: CondTree,
+}
+
+impl Model for Branch {
+    ghost use Rattle.dasdl_parse.specs.TreeCodes.{Tree, tree_code};
+
+    ghost Value = { Tree };
+
+    ghost coded = { tree_code };
+
+    ghost use Rattle.dasdl_parse.specs.Trees.{tree_of};
+
+    ghost view = { λ b. tree_of b.tree };
+}
+
+impl Branch {
+    pub fn compare(name: Name, op: Op, literal: Literal) -> Branch
+        ensures { result ≡ Test name op literal }
+    {
+        Branch {
+            tree: CondTree::Compare(name, op, literal),
+        }
+    }
+
+    fn turned(self, alloc: Global) -> Result<Branch, Memory>
+        ensures { IfOk result (λ b. b ≡ Turned self) }
+    {
+        let tree = CondTree::Not(Box::new(alloc, self.tree)?);
+        Ok(Branch { tree })
+    }
+
+    /// Behind so many NOTs.
+    pub fn negated(self, alloc: Global, nots: u8) -> Result<Branch, Memory>
+        ensures { IfOk result (λ b. b ≡ negated nots self) }
+    {
+        let mut branch = self;
+        for _not in 0..nots {
+            branch = branch.turned(alloc)?;
+        }
+        Ok(branch)
+    }
+
+    /// Behind AND, where there is one.
+    pub fn with_and(self, alloc: Global, left: Option<Branch>) -> Result<Branch, Memory>
+        ensures { IfOk result (λ b. b ≡ with_and left self) }
+    {
+        match left {
+            None => Ok(self),
+            Some(left) => {
+                let tree = CondTree::And(Box::new(alloc, left.tree)?, Box::new(alloc, self.tree)?);
+                Ok(Branch { tree })
+            }
+        }
+    }
+
+    /// Behind OR, where there is one.
+    pub fn with_or(self, alloc: Global, left: Option<Branch>) -> Result<Branch, Memory>
+        ensures { IfOk result (λ b. b ≡ with_or left self) }
+    {
+        match left {
+            None => Ok(self),
+            Some(left) => {
+                let tree = CondTree::Or(Box::new(alloc, left.tree)?, Box::new(alloc, self.tree)?);
+                Ok(Branch { tree })
+            }
+        }
+    }
+
+    /// The condition behind the word at this place.
+    pub fn declared(self, place: u32) -> CondDecl
+        ensures { result ≡ record { place = place; tree = self } }
+    {
+        CondDecl {
+            place,
+            tree: self.tree,
+        }
     }
 }

@@ -1,4 +1,4 @@
-ghost use Rattle.std.specs.Prelude.{◌≡◌, ◌≤◌, IfOk, List, length};
+ghost use Rattle.std.specs.Prelude.{◌≡◌, ◌≤◌, IfOk, List, length, drop};
 ghost use Rattle.dasdl_parse.specs.declared.token.Lexeme.{Lexeme};
 ghost use Rattle.dasdl_parse.specs.Reads.{Read, Takes, Passes};
 ghost use Rattle.dasdl_parse.specs.Cursors.{fault_at, place_at, is_word, is_the_sign, is_equal, is_end, is_free, starts, word_at, sign_at, equal_at, comma_at, name_at, number_at};
@@ -146,6 +146,15 @@ impl<'a> Cursor<'a> {
         ensures { result ≡ fault_at self.now }
     {
         fault_at(self.rest)
+    }
+
+    /// Leaves the next token behind.
+    pub fn skip(&mut self)
+        ensures { self.new ≡ drop 1 self.old }
+    {
+        if let [_, rest @ ..] = self.rest {
+            self.rest = rest;
+        }
     }
 
     pub fn starts_word(&self, word: &[u8]) -> bool

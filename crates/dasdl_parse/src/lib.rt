@@ -2,15 +2,22 @@
 #![tactic(auto)]
 
 mod bytes;
+mod cond;
 mod conditions;
 mod cursor;
 mod declarations;
 mod fault;
+mod grammar;
+mod items;
+mod kinds;
+mod levels;
 mod lexer;
 mod lists;
+mod parameters;
 mod reading;
 mod reserved;
 mod schema;
+mod sets;
 mod token;
 mod turns;
 
@@ -20,6 +27,7 @@ pub use declarations::{
     DataSetDecl, DataSetEnd, Declaration, GroupDecl, ItemDecl, KeyDecl, LinkDecl, PartDecl, SetDecl,
 };
 pub use fault::ParseFault;
+pub use grammar::parse;
 pub use lexer::{tokens, tokens_from};
 pub use lists::{Declarations, ItemDecls, PartDecls};
 pub use schema::{Parameters, Schema};

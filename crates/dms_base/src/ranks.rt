@@ -4,6 +4,7 @@ ghost use Rattle.dms_base.specs.Orders.{rank, value_cmp};
 use crate::Value;
 use std::cmp::Ordering;
 
+/// The place of a value's kind, null above the others.
 fn rank(a: &Value) -> u8
     ensures { result ≡ rank a.now }
 {
@@ -17,7 +18,8 @@ fn rank(a: &Value) -> u8
     }
 }
 
-/// The order of two values, null above the others. Values of two kinds go by kind.
+/// The order of two values, null above the others. Texts go by their bytes, FALSE is below TRUE, and values of two
+/// kinds go by kind.
 pub fn order(a: &Value, b: &Value) -> Ordering
     ensures { result ≡ value_cmp a.now b.now }
 {

@@ -1,0 +1,171 @@
+-- Keys, sets and subsets.
+use Rattle.std.specs.Prelude.{◌≡◌, ℕ, zero, suc, ◌+◌, List, [], ◌∷◌, ◌++◌, Bool, true, false, ◌&&◌, ◌||◌, not, min, ◌^◌, ◌-◌, nat_le, nat_lt, length, codes, is_none, is_some, Some, None, if◌then◌else◌, ◌==◌}
+use Rattle.std.specs.declared.option.Option.{Option}
+use Rattle.std.specs.declared.result.Result.{Result}
+use Rattle.std.specs.declared.result.Result.TheVariants.{Ok, Err}
+use Rattle.dasdl_parse.specs.declared.fault.ParseFault.{ParseFault}
+use Rattle.dasdl_parse.specs.declared.fault.ParseFault.TheVariants.{BadCharacter, Expected, NumberRange, TooMany}
+use Rattle.dasdl_parse.specs.declared.token.Token.{Token}
+use Rattle.dasdl_parse.specs.declared.token.Lexeme.{Lexeme}
+use Rattle.dasdl_parse.specs.Reads.{Read, Pass, ◌>>=◌}
+use Rattle.dasdl_parse.specs.Trees.{Condition}
+use Rattle.dasdl_parse.specs.declared.declarations.PartDecl.{PartDecl}
+use Rattle.dasdl_parse.specs.declared.declarations.KeyDecl.{KeyDecl}
+use Rattle.dasdl_parse.specs.declared.declarations.SetDecl.{SetDecl}
+use Rattle.dasdl_parse.specs.declared.sets.SetOptions.{SetOptions}
+use Rattle.dasdl_parse.specs.Cursors.{fault_at, place_at, starts, is_word, is_the_sign, is_free, word_at, sign_at, equal_at, comma_at, name_at, number_at, turns_at, until_close, until_semicolon}
+use Rattle.dasdl_parse.specs.Conditions.{cond_decl_at}
+
+-- [ ASCENDING | DESCENDING ]
+unfoldable pub direction_at : List Lexeme → Read Bool
+direction_at ts =
+    if starts (is_word (codes "ASCENDING")) ts then (do
+      t1 ← word_at (codes "ASCENDING") ts
+      Ok (false, t1))
+    else (if starts (is_word (codes "DESCENDING")) ts then (do
+      t1 ← word_at (codes "DESCENDING") ts
+      Ok (true, t1))
+    else Ok (false, ts))
+
+-- one more part, where there are fewer than 16
+unfoldable pub part_at : List PartDecl → List Lexeme → Read (List PartDecl)
+part_at parts ts =
+    if not (starts is_free ts) then Err (fault_at ts)
+    else (if nat_le 16 (length parts) then Err (TooMany 16)
+    else (do
+      name ← name_at ts
+      d ← direction_at name.1
+      Ok (parts ++ record { name = name.0; descending = d.0 } ∷ [], d.1)))
+
+unfoldable pub next_part_at : List PartDecl → List Lexeme → Read (List PartDecl)
+next_part_at parts ts = do
+  t1 ← sign_at 44 ts
+  part_at parts t1
+
+-- part | ( part { , part } )
+unfoldable pub parts_at : List Lexeme → Read (List PartDecl)
+parts_at ts =
+    if not (starts (is_the_sign 40) ts) then part_at [] ts
+    else (do
+      t1 ← sign_at 40 ts
+      first ← part_at [] t1
+      all ← turns_at until_close next_part_at first.0 first.1
+      t2 ← sign_at 41 all.1
+      Ok (all.0, t2))
+
+-- KEY IS parts
+unfoldable pub key_at : List Lexeme → Read KeyDecl
+key_at ts = do
+  t1 ← word_at (codes "KEY") ts
+  t2 ← word_at (codes "IS") t1
+  parts ← parts_at t2
+  Ok (record { place = place_at ts; parts = parts.0 }, parts.1)
+
+-- POPULATION = number
+unfoldable pub population_at : List Lexeme → Read ℕ
+population_at ts = do
+  t1 ← word_at (codes "POPULATION") ts
+  t2 ← equal_at t1
+  number_at 1 1000000 t2
+
+-- [ NO ] DUPLICATES
+unfoldable pub duplicates_at : List Lexeme → Read Bool
+duplicates_at ts =
+    if starts (is_word (codes "DUPLICATES")) ts then (do
+      t1 ← word_at (codes "DUPLICATES") ts
+      Ok (true, t1))
+    else (do
+      t1 ← word_at (codes "NO") ts
+      t2 ← word_at (codes "DUPLICATES") t1
+      Ok (false, t2))
+
+-- INDEX SEQUENTIAL, which is 1, or ORDERED LIST, which is 2
+unfoldable pub form_at : List Lexeme → Read ℕ
+form_at ts =
+    if starts (is_word (codes "INDEX")) ts then (do
+      t1 ← word_at (codes "INDEX") ts
+      t2 ← word_at (codes "SEQUENTIAL") t1
+      Ok (1, t2))
+    else (do
+      t1 ← word_at (codes "ORDERED") ts
+      t2 ← word_at (codes "LIST") t1
+      Ok (2, t2))
+
+abbrev pub no_set_options : SetOptions
+no_set_options = record { cond = None; key = None; duplicates = None; form = None; population = None }
+
+abbrev pub starts_duplicates : List Lexeme → Bool
+starts_duplicates ts = starts (is_word (codes "DUPLICATES")) ts || starts (is_word (codes "NO")) ts
+
+abbrev pub starts_form : List Lexeme → Bool
+starts_form ts = starts (is_word (codes "INDEX")) ts || starts (is_word (codes "ORDERED")) ts
+
+-- DUPLICATES or NO DUPLICATES, INDEX SEQUENTIAL or ORDERED LIST, or POPULATION, where it hasn't been said
+unfoldable pub plain_option_at : SetOptions → List Lexeme → Read SetOptions
+plain_option_at s ts =
+    if starts_duplicates ts && is_none s.duplicates then (do
+      d ← duplicates_at ts
+      Ok (record { cond = s.cond; key = s.key; duplicates = Some d.0; form = s.form; population = s.population }, d.1))
+    else (if starts_form ts && is_none s.form then (do
+      f ← form_at ts
+      Ok (record { cond = s.cond; key = s.key; duplicates = s.duplicates; form = Some f.0; population = s.population }, f.1))
+    else (if starts (is_word (codes "POPULATION")) ts && is_none s.population then (do
+      n ← population_at ts
+      Ok (record { cond = s.cond; key = s.key; duplicates = s.duplicates; form = s.form; population = Some n.0 }, n.1))
+    else Err (fault_at ts)))
+
+-- an option that hasn't been said
+unfoldable pub set_option_at : SetOptions → List Lexeme → Read SetOptions
+set_option_at s ts =
+    if starts (is_word (codes "WHERE")) ts && is_none s.cond then (do
+      c ← cond_decl_at (codes "WHERE") ts
+      Ok (record { cond = Some c.0; key = s.key; duplicates = s.duplicates; form = s.form; population = s.population }, c.1))
+    else (if starts (is_word (codes "KEY")) ts && is_none s.key then (do
+      k ← key_at ts
+      Ok (record { cond = s.cond; key = Some k.0; duplicates = s.duplicates; form = s.form; population = s.population }, k.1))
+    else plain_option_at s ts)
+
+-- [ , ] option
+unfoldable pub next_set_option_at : SetOptions → List Lexeme → Read SetOptions
+next_set_option_at s ts = do
+  t1 ← comma_at ts
+  set_option_at s t1
+
+-- SET or SUBSET: whether it is SUBSET
+unfoldable pub set_word_at : List Lexeme → Read Bool
+set_word_at ts =
+    if starts (is_word (codes "SUBSET")) ts then (do
+      t1 ← word_at (codes "SUBSET") ts
+      Ok (true, t1))
+    else (do
+      t1 ← word_at (codes "SET") ts
+      Ok (false, t1))
+
+-- what was said, or else this
+abbrev pub or_else : {A : Type 0} → A → Option A → A
+or_else default None = default
+or_else default (Some x) = x
+
+-- a set and what its options say: without DUPLICATES, INDEX SEQUENTIAL and of 1,000,000 entries where they say nothing
+abbrev pub set_of : ℕ → List ℕ → Bool → List ℕ → SetOptions → SetDecl
+set_of place name subset of s = record {
+  place = place;
+  name = name;
+  subset = subset;
+  of = of;
+  cond = s.cond;
+  key = s.key;
+  duplicates = or_else false s.duplicates;
+  form = or_else 1 s.form;
+  population = or_else 1000000 s.population;
+}
+
+-- ( SET | SUBSET ) OF name { [ , ] option } ; behind a set's name
+unfoldable pub set_at : ℕ → List ℕ → List Lexeme → Read SetDecl
+set_at place name ts = do
+  subset ← set_word_at ts
+  t1 ← word_at (codes "OF") subset.1
+  of ← name_at t1
+  said ← turns_at until_semicolon next_set_option_at no_set_options of.1
+  t2 ← sign_at 59 said.1
+  Ok (set_of place name subset.0 of.0 said.0, t2)

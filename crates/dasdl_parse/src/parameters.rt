@@ -1,0 +1,167 @@
+ghost use Rattle.std.specs.Prelude.{◌≡◌, List, ℕ, ◌<◌, ◌^◌};
+ghost use Rattle.dasdl_parse.specs.Reads.{Takes};
+ghost use Rattle.dasdl_parse.specs.Cursors.{starts, is_the_sign, until_close};
+ghost use Rattle.dasdl_parse.specs.Parameters.{setting_at, measure_at, pair_at, next_pair_at, parameters_at, audit_pair_at, next_audit_pair_at, audit_at};
+
+use crate::cursor::Cursor;
+use crate::fault::ParseFault;
+use crate::turns::{Turns, read_turns};
+
+/// What PARAMETERS has said so far.
+#[derive(Clone, Copy, Debug)]
+pub struct Pairs {
+    pub syncpoint: Option<u16>,
+    pub controlpoint: Option<u16>,
+    pub buffers: Option<u16>,
+}
+
+/// What AUDIT TRAIL has said so far.
+#[derive(Clone, Copy, Debug)]
+pub struct AuditPairs {
+    pub blocks: Option<u16>,
+    pub files: Option<u16>,
+}
+
+/// `word = number`.
+#[tactic(auto, unfolding(crate::specs::Parameters::setting_at))]
+fn setting(cursor: &mut Cursor<'_>, word: &[u8], low: u16, high: u16) -> Result<u16, ParseFault>
+    ensures { Takes result cursor.new (setting_at word.now low high cursor.old) }
+{
+    cursor.word(word)?;
+    cursor.equal()?;
+    let number = cursor.number(u64::from(low), u64::from(high))?;
+    Ok(number as u16)
+}
+
+/// `word = number unit`.
+#[tactic(auto, unfolding(crate::specs::Parameters::measure_at))]
+fn measure(
+    cursor: &mut Cursor<'_>,
+    word: &[u8],
+    low: u16,
+    high: u16,
+    unit: &[u8],
+) -> Result<u16, ParseFault>
+    ensures { Takes result cursor.new (measure_at word.now low high unit.now cursor.old) }
+{
+    let number = setting(cursor, word, low, high)?;
+    cursor.word(unit)?;
+    Ok(number)
+}
+
+#[tactic(auto, unfolding(crate::specs::Parameters::pair_at))]
+fn pair(pairs: Pairs, cursor: &mut Cursor<'_>) -> Result<Pairs, ParseFault>
+    ensures { Takes result cursor.new (pair_at pairs cursor.old) }
+{
+    if cursor.starts_word(b"SYNCPOINT") && pairs.syncpoint.is_none() {
+        let number = measure(cursor, b"SYNCPOINT", 1, 10_000, b"TRANSACTIONS")?;
+        return Ok(Pairs {
+            syncpoint: Some(number),
+            ..pairs
+        });
+    }
+    if cursor.starts_word(b"CONTROLPOINT") && pairs.controlpoint.is_none() {
+        let number = measure(cursor, b"CONTROLPOINT", 1, 10_000, b"SYNCPOINTS")?;
+        return Ok(Pairs {
+            controlpoint: Some(number),
+            ..pairs
+        });
+    }
+    if cursor.starts_word(b"BUFFERS") && pairs.buffers.is_none() {
+        let number = measure(cursor, b"BUFFERS", 8, 4_096, b"BLOCKS")?;
+        return Ok(Pairs {
+            buffers: Some(number),
+            ..pairs
+        });
+    }
+    Err(cursor.fault())
+}
+
+impl Turns for Pairs {
+    ghost done_at = { until_close };
+    ghost turn_at = { next_pair_at };
+
+    fn is_done(&self, cursor: &Cursor<'_>) -> bool {
+        cursor.starts_sign(b')')
+    }
+
+    #[tactic(auto, unfolding(crate::specs::Parameters::next_pair_at))]
+    fn turn(self, cursor: &mut Cursor<'_>) -> Result<Pairs, ParseFault> {
+        cursor.sign(b',')?;
+        pair(self, cursor)
+    }
+}
+
+/// `PARAMETERS ( pair {, pair} ) ;`.
+#[tactic(auto, unfolding(crate::specs::Parameters::parameters_at))]
+pub fn parameters(cursor: &mut Cursor<'_>) -> Result<Pairs, ParseFault>
+    ensures { Takes result cursor.new (parameters_at cursor.old) }
+{
+    cursor.word(b"PARAMETERS")?;
+    cursor.sign(b'(')?;
+    let nothing = Pairs {
+        syncpoint: None,
+        controlpoint: None,
+        buffers: None,
+    };
+    let first = pair(nothing, cursor)?;
+    let all = read_turns(first, cursor)?;
+    cursor.sign(b')')?;
+    cursor.sign(b';')?;
+    Ok(all)
+}
+
+#[tactic(auto, unfolding(crate::specs::Parameters::audit_pair_at))]
+fn audit_pair(pairs: AuditPairs, cursor: &mut Cursor<'_>) -> Result<AuditPairs, ParseFault>
+    ensures { Takes result cursor.new (audit_pair_at pairs cursor.old) }
+{
+    if cursor.starts_word(b"BLOCKS") && pairs.blocks.is_none() {
+        let number = setting(cursor, b"BLOCKS", 8, 512)?;
+        return Ok(AuditPairs {
+            blocks: Some(number),
+            ..pairs
+        });
+    }
+    if cursor.starts_word(b"FILES") && pairs.files.is_none() {
+        let number = setting(cursor, b"FILES", 2, 9_999)?;
+        return Ok(AuditPairs {
+            files: Some(number),
+            ..pairs
+        });
+    }
+    Err(cursor.fault())
+}
+
+impl Turns for AuditPairs {
+    ghost done_at = { until_close };
+    ghost turn_at = { next_audit_pair_at };
+
+    fn is_done(&self, cursor: &Cursor<'_>) -> bool {
+        cursor.starts_sign(b')')
+    }
+
+    #[tactic(auto, unfolding(crate::specs::Parameters::next_audit_pair_at))]
+    fn turn(self, cursor: &mut Cursor<'_>) -> Result<AuditPairs, ParseFault> {
+        cursor.sign(b',')?;
+        audit_pair(self, cursor)
+    }
+}
+
+/// `AUDIT TRAIL ( pair {, pair} ) ;`.
+#[tactic(auto, unfolding(crate::specs::Parameters::audit_at))]
+pub fn audit(cursor: &mut Cursor<'_>) -> Result<AuditPairs, ParseFault>
+    ensures { Takes result cursor.new (audit_at cursor.old) }
+{
+    cursor.word(b"AUDIT")?;
+    cursor.word(b"TRAIL")?;
+    cursor.sign(b'(')?;
+    let nothing = AuditPairs {
+        blocks: None,
+        files: None,
+    };
+    let first = audit_pair(nothing, cursor)?;
+    let all = read_turns(first, cursor)?;
+    cursor.sign(b')')?;
+    cursor.sign(b';')?;
+    Ok(all)
+}

@@ -1,0 +1,263 @@
+ghost use Rattle.std.specs.Prelude.{◌≡◌, List, ℕ, ◌≤◌, ◌<◌, IfOk};
+ghost use Rattle.dasdl_parse.specs.Reads.{Takes};
+ghost use Rattle.dasdl_parse.specs.Cursors.{until_close, until_semicolon};
+ghost use Rattle.dasdl_parse.specs.Sets.{direction_at, part_at, next_part_at, parts_at, key_at, population_at, duplicates_at, form_at, starts_duplicates, starts_form, plain_option_at, set_option_at, next_set_option_at, set_word_at, set_of, set_at};
+
+use crate::cond::cond_decl;
+use crate::conditions::CondDecl;
+use crate::cursor::Cursor;
+use crate::declarations::{KeyDecl, PartDecl, SetDecl};
+use crate::fault::ParseFault;
+use crate::lists::PartDecls;
+use crate::turns::{Turns, read_turns};
+use dms_base::Name;
+
+/// The parts that a key may have.
+pub const PARTS: usize = 16;
+
+/// The most entries or records that a structure may have.
+pub const POPULATION: u32 = 1_000_000;
+
+/// What a set's options have said so far.
+#[derive(Debug, Drop)]
+pub struct SetOptions {
+    pub cond: Option<CondDecl>,
+    pub key: Option<KeyDecl>,
+    pub duplicates: Option<bool>,
+    pub form: Option<u8>,
+    pub population: Option<u32>,
+}
+
+/// `[ASCENDING | DESCENDING]`: whether it is DESCENDING.
+#[tactic(auto, unfolding(crate::specs::Sets::direction_at))]
+fn direction(cursor: &mut Cursor<'_>) -> Result<bool, ParseFault>
+    ensures { Takes result cursor.new (direction_at cursor.old) }
+{
+    if cursor.starts_word(b"ASCENDING") {
+        cursor.word(b"ASCENDING")?;
+        return Ok(false);
+    }
+    if cursor.starts_word(b"DESCENDING") {
+        cursor.word(b"DESCENDING")?;
+        return Ok(true);
+    }
+    Ok(false)
+}
+
+/// One more part of a key.
+#[tactic(auto, unfolding(crate::specs::Sets::part_at))]
+fn part(mut parts: PartDecls, cursor: &mut Cursor<'_>) -> Result<PartDecls, ParseFault>
+    ensures { Takes result cursor.new (part_at parts cursor.old) }
+{
+    if !cursor.starts_free() {
+        return Err(cursor.fault());
+    }
+    if parts.as_slice().len() >= PARTS {
+        return Err(ParseFault::TooMany(16));
+    }
+    let name = cursor.name()?;
+    let descending = direction(cursor)?;
+    parts.push(PartDecl { name, descending })?;
+    Ok(parts)
+}
+
+impl Turns for PartDecls {
+    ghost done_at = { until_close };
+    ghost turn_at = { next_part_at };
+
+    fn is_done(&self, cursor: &Cursor<'_>) -> bool {
+        cursor.starts_sign(b')')
+    }
+
+    #[tactic(auto, unfolding(crate::specs::Sets::next_part_at))]
+    fn turn(self, cursor: &mut Cursor<'_>) -> Result<PartDecls, ParseFault> {
+        cursor.sign(b',')?;
+        part(self, cursor)
+    }
+}
+
+/// `part | ( part {, part} )`.
+#[tactic(auto, unfolding(crate::specs::Sets::parts_at))]
+fn parts(cursor: &mut Cursor<'_>) -> Result<PartDecls, ParseFault>
+    ensures { Takes result cursor.new (parts_at cursor.old) }
+{
+    let nothing = PartDecls::new(cursor.alloc());
+    if !cursor.starts_sign(b'(') {
+        return part(nothing, cursor);
+    }
+    cursor.sign(b'(')?;
+    let first = part(nothing, cursor)?;
+    let all = read_turns(first, cursor)?;
+    cursor.sign(b')')?;
+    Ok(all)
+}
+
+/// `KEY IS parts`.
+#[tactic(auto, unfolding(crate::specs::Sets::key_at))]
+fn key(cursor: &mut Cursor<'_>) -> Result<KeyDecl, ParseFault>
+    ensures { Takes result cursor.new (key_at cursor.old) }
+{
+    let place = cursor.place();
+    cursor.word(b"KEY")?;
+    cursor.word(b"IS")?;
+    let parts = parts(cursor)?;
+    Ok(KeyDecl { place, parts })
+}
+
+/// `POPULATION = number`.
+#[tactic(auto, unfolding(crate::specs::Sets::population_at))]
+pub fn population(cursor: &mut Cursor<'_>) -> Result<u32, ParseFault>
+    ensures { Takes result cursor.new (population_at cursor.old) }
+{
+    cursor.word(b"POPULATION")?;
+    cursor.equal()?;
+    let number = cursor.number(1, 1_000_000)?;
+    Ok(number as u32)
+}
+
+/// `[NO] DUPLICATES`: whether they are allowed.
+#[tactic(auto, unfolding(crate::specs::Sets::duplicates_at))]
+fn duplicates(cursor: &mut Cursor<'_>) -> Result<bool, ParseFault>
+    ensures { Takes result cursor.new (duplicates_at cursor.old) }
+{
+    if cursor.starts_word(b"DUPLICATES") {
+        cursor.word(b"DUPLICATES")?;
+        return Ok(true);
+    }
+    cursor.word(b"NO")?;
+    cursor.word(b"DUPLICATES")?;
+    Ok(false)
+}
+
+/// `INDEX SEQUENTIAL`, which is 1, or `ORDERED LIST`, which is 2.
+#[tactic(auto, unfolding(crate::specs::Sets::form_at))]
+fn form(cursor: &mut Cursor<'_>) -> Result<u8, ParseFault>
+    ensures { Takes result cursor.new (form_at cursor.old) }
+{
+    if cursor.starts_word(b"INDEX") {
+        cursor.word(b"INDEX")?;
+        cursor.word(b"SEQUENTIAL")?;
+        return Ok(1);
+    }
+    cursor.word(b"ORDERED")?;
+    cursor.word(b"LIST")?;
+    Ok(2)
+}
+
+fn starts_duplicates(cursor: &Cursor<'_>) -> bool
+    ensures { result ≡ starts_duplicates cursor.now }
+{
+    cursor.starts_word(b"DUPLICATES") || cursor.starts_word(b"NO")
+}
+
+fn starts_form(cursor: &Cursor<'_>) -> bool
+    ensures { result ≡ starts_form cursor.now }
+{
+    cursor.starts_word(b"INDEX") || cursor.starts_word(b"ORDERED")
+}
+
+/// An option on duplicates, the form or the population.
+#[tactic(auto, unfolding(crate::specs::Sets::plain_option_at))]
+fn plain_option(mut options: SetOptions, cursor: &mut Cursor<'_>) -> Result<SetOptions, ParseFault>
+    ensures { Takes result cursor.new (plain_option_at options cursor.old) }
+{
+    if starts_duplicates(cursor) && options.duplicates.is_none() {
+        let said = duplicates(cursor)?;
+        options.duplicates = Some(said);
+        return Ok(options);
+    }
+    if starts_form(cursor) && options.form.is_none() {
+        let said = form(cursor)?;
+        options.form = Some(said);
+        return Ok(options);
+    }
+    if cursor.starts_word(b"POPULATION") && options.population.is_none() {
+        let said = population(cursor)?;
+        options.population = Some(said);
+        return Ok(options);
+    }
+    Err(cursor.fault())
+}
+
+/// An option of a set.
+#[tactic(auto, unfolding(crate::specs::Sets::set_option_at))]
+fn set_option(mut options: SetOptions, cursor: &mut Cursor<'_>) -> Result<SetOptions, ParseFault>
+    ensures { Takes result cursor.new (set_option_at options cursor.old) }
+{
+    if cursor.starts_word(b"WHERE") && options.cond.is_none() {
+        let said = cond_decl(cursor, b"WHERE")?;
+        options.cond = Some(said);
+        return Ok(options);
+    }
+    if cursor.starts_word(b"KEY") && options.key.is_none() {
+        let said = key(cursor)?;
+        options.key = Some(said);
+        return Ok(options);
+    }
+    plain_option(options, cursor)
+}
+
+impl Turns for SetOptions {
+    ghost done_at = { until_semicolon };
+    ghost turn_at = { next_set_option_at };
+
+    fn is_done(&self, cursor: &Cursor<'_>) -> bool {
+        cursor.starts_sign(b';')
+    }
+
+    #[tactic(auto, unfolding(crate::specs::Sets::next_set_option_at))]
+    fn turn(self, cursor: &mut Cursor<'_>) -> Result<SetOptions, ParseFault> {
+        cursor.comma();
+        set_option(self, cursor)
+    }
+}
+
+/// SET or SUBSET: whether it is SUBSET.
+#[tactic(auto, unfolding(crate::specs::Sets::set_word_at))]
+fn set_word(cursor: &mut Cursor<'_>) -> Result<bool, ParseFault>
+    ensures { Takes result cursor.new (set_word_at cursor.old) }
+{
+    if cursor.starts_word(b"SUBSET") {
+        cursor.word(b"SUBSET")?;
+        return Ok(true);
+    }
+    cursor.word(b"SET")?;
+    Ok(false)
+}
+
+/// A set and what its options say.
+fn set_of(place: u32, name: Name, subset: bool, of: Name, options: SetOptions) -> SetDecl
+    ensures { result ≡ set_of place name subset of options }
+{
+    SetDecl {
+        place,
+        name,
+        subset,
+        of,
+        cond: options.cond,
+        key: options.key,
+        duplicates: options.duplicates.unwrap_or(false),
+        form: options.form.unwrap_or(1),
+        population: options.population.unwrap_or(POPULATION),
+    }
+}
+
+/// `(SET | SUBSET) OF name {[,] option} ;` behind a set's name.
+#[tactic(auto, unfolding(crate::specs::Sets::set_at))]
+pub fn set(cursor: &mut Cursor<'_>, place: u32, name: Name) -> Result<SetDecl, ParseFault>
+    ensures { Takes result cursor.new (set_at place name cursor.old) }
+{
+    let subset = set_word(cursor)?;
+    cursor.word(b"OF")?;
+    let of = cursor.name()?;
+    let nothing = SetOptions {
+        cond: None,
+        key: None,
+        duplicates: None,
+        form: None,
+        population: None,
+    };
+    let said = read_turns(nothing, cursor)?;
+    cursor.sign(b';')?;
+    Ok(set_of(place, name, subset, of, said))
+}

@@ -1,0 +1,113 @@
+ghost use Rattle.std.specs.Prelude.{◌≡◌, ◌≤◌, ◌<◌, ◌+◌, ◌^◌, [], ◌++◌, length, take, IfOk, IsErrOf, IfSome, IsNone, List, ℕ, ◌⊎◌, ◌↔◌, ◌∷◌, OnOk, nat_lt, if◌then◌else◌, ◌==◌, Some, None};
+ghost use Rattle.dms_base.specs.Causes.{HasCause, Rose};
+ghost use Rattle.dms_feed.specs.Feeds.{Remains};
+ghost use Rattle.dms_feed.specs.Lines.{first_line, after_line, is_end, line_text};
+ghost use Rattle.dms_feed.specs.Raws.{TakesLine, OverRoom};
+
+use crate::Feed;
+use dms_base::{Bytes, Memory};
+use dms_site::Source;
+use std::alloc::Global;
+
+/// So many bytes of a line are kept; a longer one is told from all others by its length alone.
+pub const KEPT: u64 = 2003;
+
+/// A line as it stands in the input, with its line feed if it has one.
+#[derive(Debug, Drop)]
+pub struct Raw {
+    /// Its first bytes, at most `KEPT`.
+    pub kept: Bytes,
+    /// How many bytes it has.
+    pub length: u64,
+}
+
+/// Why a line can't be taken.
+#[derive(Clone, Copy, Debug, PartialEq, Eq)]
+pub enum RawFault {
+    Input,
+    Memory,
+    /// The line has more bytes than there is room for.
+    Bytes,
+}
+
+/// Keeps a byte that stands at this place of a line, if it is one of the first.
+fn keep(kept: &mut Bytes, place: u64, byte: u8) -> Result<(), Memory>
+    ensures { OnOk result (kept.new ≡ (if nat_lt place 2003 then kept.old ++ byte ∷ [] else kept.old)) }
+{
+    if place < KEPT {
+        return kept.push(byte);
+    }
+    Ok(())
+}
+
+/// The line at the input's end, if it has bytes.
+fn at_end(kept: Bytes, length: u64) -> Option<Raw>
+    ensures { result ≡ (if length == 0 then None else Some (record { kept = kept; length = length })) }
+{
+    if length == 0 {
+        return None;
+    }
+    Some(Raw { kept, length })
+}
+
+/// Whether a line ends with these bytes.
+fn is_end(rest: &[u8]) -> bool
+    ensures { result ≡ is_end rest.now }
+{
+    match rest {
+        [b] => *b == b'\n',
+        [b, c] => *b == b'\r' && *c == b'\n',
+        _ => false,
+    }
+}
+
+/// A line without its line feed, and without a carriage return that stands before it.
+pub fn line_text(line: &[u8]) -> &[u8]
+    ensures { result.now ≡ line_text line.now }
+{
+    for place in 0..line.len() {
+        if is_end(&line[place..]) {
+            return &line[..place];
+        }
+    }
+    line
+}
+
+/// The next line, or none at the end. At most `room` bytes are taken as its own.
+pub fn next_raw<I: Source>(
+    alloc: Global,
+    feed: &mut Feed,
+    source: &mut I,
+    room: u64,
+) -> Result<Option<Raw>, RawFault>
+    requires { room < 2 ^ 40 }
+    ensures line { IfOk result (TakesLine feed.old (I.left source.old) feed.new (I.left source.new) room) }
+    ensures bytes { IsErrOf result RawFault.Bytes → OverRoom feed.old (I.left source.old) room }
+    ensures same { I.same_source source.old source.new }
+    ensures later { I.faults source.old ≤ I.faults source.new }
+    ensures input { IsErrOf result RawFault.Input → Rose (I.faults source.old) (I.faults source.new) }
+{
+    let mut kept = Bytes::new(alloc);
+    for turn in 0..room + 1 {
+        match feed.next(source) {
+            Err(_) => return Err(RawFault::Input),
+            Ok(None) => return Ok(at_end(kept, turn)),
+            Ok(Some(byte)) => {
+                if turn == room {
+                    return Err(RawFault::Bytes);
+                }
+                match keep(&mut kept, turn, byte) {
+                    Ok(()) => {}
+                    Err(_) => return Err(RawFault::Memory),
+                }
+                if byte == b'\n' {
+                    return Ok(Some(Raw {
+                        kept,
+                        length: turn + 1,
+                    }));
+                }
+            }
+        }
+    }
+    Err(RawFault::Bytes)
+}

@@ -1,0 +1,7 @@
+mod Answering
+mod Fresh
+mod Joining
+mod Maps
+mod Members
+mod Placing
+mod Turns

@@ -1,0 +1,9 @@
+use Rattle.std.proofs.Common.{◌≡◌, ◌-◌, drop, length}
+use Rattle.std.specs.Option.{option_copied}
+use Rattle.dms_desc.specs.Shape.{shape_of}
+use Rattle.dms_plain.specs.Rows.{entries_of}
+use Rattle.dms_plain.specs.Scans.{spot_at, latest}
+use Rattle.dms_plain.proofs.scan.last.Given as goal
+
+abbrev pub invariant-loop-k : goal.invariant-loop-k
+invariant-loop-k l = spot_at (shape_of l.s) (option_copied l.best) ≡ latest (shape_of l.s) l.owner l.upto (entries_of (drop (length l.rows - l.k) l.rows))

@@ -1,0 +1,4 @@
+pub mod Clashes
+pub mod Rows
+pub mod Scans
+pub mod Told

@@ -1,0 +1,44 @@
+-- Rows in the order of their places, the database that they stand for, and changes that are taken back.
+use Rattle.std.specs.Prelude.{List, [], ◌∷◌, map, T, Some, None, ◌≡◌, ◌<◌, ◌≤◌, length, slice_set, slice_index_or, insert as insert_at}
+use Rattle.std.specs.declared.option.Option.{Option}
+use Rattle.std.specs.FinMap.{from_sorted, is_sorted, remove, insert, put}
+use Rattle.dms_desc.specs.declared.record.Record.{Record}
+use Rattle.dms_model.specs.Db.{Db, Place, Records, place_cmp}
+use Rattle.dms_plain.specs.declared.rows.Row.{Row}
+use Rattle.dms_plain.specs.declared.rows.Undo.{Undo}
+use Rattle.dms_plain.specs.declared.rows.Where.{Where}
+use Rattle.dms_plain.specs.declared.rows.Where.TheVariants.{At as AtRow, Before as BeforeRow}
+
+abbrev pub entry_of : Row → Place × Record
+entry_of r = ((r.set, r.number), r.rec)
+
+-- the entries that rows stand for
+abbrev pub entries_of : List Row → List (Place × Record)
+entries_of rows = map entry_of rows
+
+-- the rows stand in the order of their places, each place once
+abbrev pub IsInOrder : List Row → Type 0
+IsInOrder rows = T (is_sorted place_cmp (entries_of rows))
+
+-- the records of rows in order
+abbrev pub records_in : List Row → Records
+records_in rows = from_sorted (entries_of rows)
+
+-- records in which a place is as it was
+abbrev pub restore : Place → Option Record → Records → Records
+restore place None records = remove records place
+restore place (Some rec) records = insert records place rec
+
+-- the records before what was done, oldest first
+abbrev pub undone : List Undo → Records → Records
+undone [] records = records
+undone (u ∷ us) records = restore (u.set, u.number) u.old (undone us records)
+
+-- the database of these records; no manual subset has an entry
+abbrev pub db_of : Records → Db
+db_of records = record { records = records; entries = [] }
+
+-- a place is that of the i-th entry, or would be before it
+abbrev pub IsWhere : Place → List (Place × Record) → Where → Type 0
+IsWhere k es (AtRow i) = (i < length es) × ((v : Record) (d : Place × Record) → put place_cmp k v es ≡ slice_set es i ((slice_index_or es i d).0, v))
+IsWhere k es (BeforeRow i) = (i ≤ length es) × ((v : Record) → put place_cmp k v es ≡ insert_at es i (k, v))

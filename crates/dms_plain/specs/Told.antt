@@ -1,0 +1,19 @@
+-- What a plain store tells of its text and of its quiet points.
+use Rattle.std.specs.Prelude.{ℕ, Bool, true, false, List, [], Some, None}
+use Rattle.std.specs.declared.option.Option.{Option}
+use Rattle.dms_block.specs.Moments.{Clock}
+use Rattle.dms_model.specs.Db.{Db}
+use Rattle.dms_model.specs.Points.{Point, Stop}
+
+-- the text, where the site tells it
+abbrev pub told : Bool → List ℕ → Option (List ℕ)
+told true text = Some text
+told false text = None
+
+-- a point without blocks: nothing stands on a disk
+abbrev pub no_point : ℕ → Db → Point
+no_point number db = record { number = number; blocks = λ file. []; schema = []; db = Some db }
+
+-- stops are not told
+abbrev pub no_clock : Clock Stop
+no_clock = record { now = 0; left = λ moment stop. ⊥ }

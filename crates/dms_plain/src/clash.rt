@@ -1,0 +1,142 @@
+ghost use Rattle.std.specs.Prelude.{◌≡◌, [], IfOk, map, slice_get};
+ghost use Rattle.std.specs.Option.{option_copied, option_map};
+ghost use Rattle.dms_desc.specs.Conds.{or_null};
+ghost use Rattle.dms_desc.specs.Shape.{shape_of, described};
+ghost use Rattle.dms_model.specs.Members.{structure_of};
+ghost use Rattle.dms_model.specs.Stores.{is_closed, is_link, is_other, has_equal, kept_value, linked_from};
+ghost use Rattle.dms_plain.specs.Rows.{entries_of};
+ghost use Rattle.dms_plain.specs.Clashes.{clash_in};
+
+use crate::keys::{order_of_keys, value_here};
+use crate::rows::Row;
+use crate::scan::{belongs, takes};
+use dms_base::{ItemKind, Memory, Value};
+use dms_desc::{Description, Item, Record, Structure, Values};
+use std::alloc::Global;
+
+/// A structure by its number.
+pub fn structure_of(desc: &Description, n: u16) -> Option<&Structure>
+    ensures { option_map shape_of (option_copied result) ≡ structure_of (described desc.now) n }
+{
+    if n == 0 {
+        return None;
+    }
+    desc.structures.as_slice().get(n as usize - 1)
+}
+
+fn is_other(number: Option<u64>, m: u64) -> bool
+    ensures { result ≡ is_other number m }
+{
+    match number {
+        None => true,
+        Some(n) => n != m,
+    }
+}
+
+/// Whether another record of the owner stands in the structure with an equal key.
+fn has_equal(s: &Structure, number: Option<u64>, rec: &Record, rows: &[Row]) -> bool
+    ensures { result ≡ has_equal (shape_of s.now) [] number rec.now (entries_of rows.now) }
+{
+    for row in rows {
+        if belongs(s, rec.owner, row)
+            && is_other(number, row.number)
+            && order_of_keys(
+                s.parts.as_slice(),
+                row.rec.values.as_slice(),
+                rec.values.as_slice(),
+            )
+            .is_eq()
+        {
+            return true;
+        }
+    }
+    false
+}
+
+/// Whether a structure may refuse a record of the data set.
+fn is_closed(s: &Structure, set: u16, values: &[Value]) -> bool
+    ensures { result ≡ is_closed (shape_of s.now) set values.now }
+{
+    2 < s.kind && s.kind < 5 && s.set == set && !s.duplicates && takes(s, values)
+}
+
+/// The first structure that refuses a record.
+pub fn clash(
+    structures: &[Structure],
+    rows: &[Row],
+    set: u16,
+    number: Option<u64>,
+    rec: &Record,
+) -> Option<u16>
+    ensures { result ≡ clash_in (map shape_of structures.now) (entries_of rows.now) set number rec.now }
+{
+    for s in structures {
+        if is_closed(s, set, rec.values.as_slice()) && has_equal(s, number, rec, rows) {
+            return Some(s.number);
+        }
+    }
+    None
+}
+
+fn is_link(kind: ItemKind) -> bool
+    ensures { result ≡ is_link kind }
+{
+    match kind {
+        ItemKind::Alpha(_) => false,
+        ItemKind::Number(_, _, _) => false,
+        ItemKind::Bool => false,
+        ItemKind::Field(_) => false,
+        ItemKind::Link(_, _) => true,
+    }
+}
+
+fn copy_of(alloc: Global, value: Option<&Value>) -> Result<Value, Memory>
+    ensures { IfOk result (λ v. v ≡ or_null (option_copied value.entry)) }
+{
+    match value {
+        None => Ok(Value::Null),
+        Some(value) => value.copy(alloc),
+    }
+}
+
+/// A copy of a link as it stood, and else of the new value.
+fn kept_value(
+    alloc: Global,
+    item: Option<&Item>,
+    old: Option<&Value>,
+    new: &Value,
+) -> Result<Value, Memory>
+    ensures { IfOk result (λ v. v ≡ kept_value (option_copied item.entry) (or_null (option_copied old.entry)) new.now) }
+{
+    match item {
+        None => new.copy(alloc),
+        Some(item) => {
+            if is_link(item.kind) {
+                return copy_of(alloc, old);
+            }
+            new.copy(alloc)
+        }
+    }
+}
+
+fn item_here(items: &[Item], i: usize) -> Option<&Item>
+    ensures { option_copied result ≡ slice_get items.now i }
+{
+    items.get(i)
+}
+
+/// These values, but the links as they stood.
+pub fn linked(
+    alloc: Global,
+    items: &[Item],
+    olds: &[Value],
+    news: &[Value],
+) -> Result<Values, Memory>
+    ensures { IfOk result (λ v. v ≡ linked_from 0 items.now olds.now news.now) }
+{
+    let mut made = Values::new(alloc);
+    for (i, value) in news.iter().enumerate() {
+        made.push(kept_value(alloc, item_here(items, i), value_here(olds, i), value)?)?;
+    }
+    Ok(made)
+}

@@ -1,0 +1,270 @@
+ghost use Rattle.std.specs.Prelude.{◌≡◌, [], IfOk, OnOk, OnErr, List, ℕ};
+ghost use Rattle.std.specs.Option.{option_copied, option_map};
+ghost use Rattle.std.specs.FinMap.{insert, get};
+ghost use Rattle.dms_desc.specs.Shape.{shape_of, described};
+ghost use Rattle.dms_model.specs.Members.{structure_of, items_of, first_member, last_member};
+ghost use Rattle.dms_model.specs.Stores.{is_full, values_of, linked, put_answer};
+ghost use Rattle.dms_plain.specs.Rows.{entries_of, records_in, db_of, IsInOrder, restore, undone};
+ghost use Rattle.dms_plain.specs.Clashes.{put_in};
+ghost use Rattle.dms_plain.specs.Scans.{spot_at, soonest, latest};
+
+use crate::clash::{clash, linked, structure_of};
+use crate::keys::key_of;
+use crate::rows::{self, Row, Undo};
+use crate::scan;
+use dms_base::{Memory, Value};
+use dms_desc::{Bound, Description, Item, Record, Structure};
+use dms_model::{Put, Spot};
+use std::alloc::Global;
+
+/// The record at a place of the database.
+pub fn get(alloc: Global, rows: &[Row], set: u16, number: u64) -> Result<Option<Record>, Memory>
+    requires { IsInOrder rows.now }
+    ensures { IfOk result (λ r. r ≡ get (records_in rows.now) (set, number)) }
+{
+    rows::get(alloc, rows, set, number)
+}
+
+fn is_full(s: Option<&Structure>, count: usize) -> bool
+    ensures { result ≡ is_full (option_map shape_of (option_copied s.entry)) count }
+{
+    match s {
+        None => true,
+        Some(s) => s.population as usize <= count,
+    }
+}
+
+fn put_in(desc: &Description, rows: &[Row], set: u16, number: Option<u64>, rec: &Record) -> Put
+    ensures { result ≡ put_in (described desc.now) (entries_of rows.now) set number rec.now }
+{
+    if let Some(s) = clash(desc.structures.as_slice(), rows, set, number, rec) {
+        return Put::Duplicate(s);
+    }
+    match number {
+        Some(n) => Put::Stored(n),
+        None => {
+            if is_full(structure_of(desc, set), rows::count(rows, set)) {
+                return Put::Full;
+            }
+            Put::Stored(rows::fresh(rows, set))
+        }
+    }
+}
+
+/// What putting a record answers.
+pub fn put_answer(
+    desc: &Description,
+    rows: &[Row],
+    set: u16,
+    number: Option<u64>,
+    rec: &Record,
+) -> Put
+    requires { IsInOrder rows.now }
+    ensures { result ≡ put_answer (described desc.now) (db_of (records_in rows.now)) set number rec.now }
+{
+    put_in(desc, rows, set, number, rec)
+}
+
+fn items_of(s: Option<&Structure>) -> &[Item]
+    ensures { result.now ≡ items_of (option_map shape_of (option_copied s.entry)) }
+{
+    match s {
+        None => &[],
+        Some(s) => s.items.as_slice(),
+    }
+}
+
+fn values_of(old: &Option<Record>) -> &[Value]
+    ensures { result.now ≡ values_of old.now }
+{
+    match old {
+        None => &[],
+        Some(rec) => rec.values.as_slice(),
+    }
+}
+
+/// What is stored for a record.
+fn linked_record(
+    alloc: Global,
+    desc: &Description,
+    set: u16,
+    old: &Option<Record>,
+    rec: &Record,
+) -> Result<Record, Memory>
+    ensures { IfOk result (λ r. r ≡ linked (items_of (structure_of (described desc.now) set)) old.now rec.now) }
+{
+    let items = items_of(structure_of(desc, set));
+    Ok(Record {
+        owner: rec.owner,
+        values: linked(alloc, items, values_of(old), rec.values.as_slice())?,
+    })
+}
+
+/// Stores a row, and keeps what stood there.
+pub fn store_row(
+    rows: &mut Vec<Row>,
+    undo: &mut Vec<Undo>,
+    row: Row,
+    old: Option<Record>,
+) -> Result<(), Memory>
+    requires in_order { IsInOrder rows.old.items }
+    requires old { old ≡ get (records_in rows.old.items) (row.set, row.number) }
+    ensures in_order { IsInOrder rows.new.items }
+    ensures db { OnOk result (records_in rows.new.items ≡ insert (records_in rows.old.items) (row.set, row.number) row.rec) }
+    ensures mark { OnOk result (undone undo.new.items (records_in rows.new.items) ≡ undone undo.old.items (records_in rows.old.items)) }
+    ensures err_rows { OnErr result (rows.new.items ≡ rows.old.items) }
+    ensures err_undo { OnErr result (undo.new.items ≡ undo.old.items) }
+{
+    undo.push(Undo {
+        set: row.set,
+        number: row.number,
+        old,
+    })?;
+    match rows::place_row(rows, row) {
+        Ok(()) => Ok(()),
+        Err(e) => {
+            let _undo = undo.pop();
+            Err(e)
+        }
+    }
+}
+
+/// Puts a record with a number.
+pub fn change(
+    alloc: Global,
+    desc: &Description,
+    rows: &mut Vec<Row>,
+    undo: &mut Vec<Undo>,
+    set: u16,
+    number: u64,
+    rec: &Record,
+) -> Result<(), Memory>
+    requires { IsInOrder rows.old.items }
+    ensures in_order { IsInOrder rows.new.items }
+    ensures db { OnOk result (records_in rows.new.items ≡ insert (records_in rows.old.items) (set, number) (linked (items_of (structure_of (described desc.now) set)) (get (records_in rows.old.items) (set, number)) rec.now)) }
+    ensures mark { OnOk result (undone undo.new.items (records_in rows.new.items) ≡ undone undo.old.items (records_in rows.old.items)) }
+    ensures err_rows { OnErr result (rows.new.items ≡ rows.old.items) }
+    ensures err_undo { OnErr result (undo.new.items ≡ undo.old.items) }
+{
+    let old = get(alloc, rows.as_slice(), set, number)?;
+    let made = linked_record(alloc, desc, set, &old, rec)?;
+    store_row(
+        rows,
+        undo,
+        Row {
+            set,
+            number,
+            rec: made,
+        },
+        old,
+    )
+}
+
+/// Takes one change back.
+fn restore_row(rows: &mut Vec<Row>, undo: Undo) -> Result<(), Memory>
+    requires { IsInOrder rows.old.items }
+    ensures in_order { IsInOrder rows.new.items }
+    ensures db { OnOk result (records_in rows.new.items ≡ restore (undo.set, undo.number) undo.old (records_in rows.old.items)) }
+{
+    let Undo { set, number, old } = undo;
+    match old {
+        None => {
+            rows::remove_row(rows, set, number);
+            Ok(())
+        }
+        Some(rec) => {
+            rows::place_row(rows, Row { set, number, rec })?;
+            Ok(())
+        }
+    }
+}
+
+/// Takes all changes back, the newest first.
+pub fn take_back(rows: &mut Vec<Row>, undo: &mut Vec<Undo>) -> Result<(), Memory>
+    requires { IsInOrder rows.old.items }
+    ensures in_order { IsInOrder rows.new.items }
+    ensures db { OnOk result (records_in rows.new.items ≡ undone undo.old.items (records_in rows.old.items)) }
+    ensures undo { OnOk result (undo.new.items ≡ []) }
+{
+    for _turn in 0..undo.len() {
+        match undo.pop() {
+            None => return Ok(()),
+            Some(u) => restore_row(rows, u)?,
+        }
+    }
+    Ok(())
+}
+
+/// The spot of a row that was found.
+fn spot_of(alloc: Global, s: &Structure, best: Option<&Row>) -> Result<Option<Spot>, Memory>
+    ensures { IfOk result (λ r. r ≡ spot_at (shape_of s.now) (option_copied best.entry)) }
+{
+    match best {
+        None => Ok(None),
+        Some(row) => Ok(Some(Spot {
+            number: row.number,
+            key: key_of(alloc, s.parts.as_slice(), row.rec.values.as_slice())?,
+            rec: row.rec.copy(alloc)?,
+        })),
+    }
+}
+
+fn soonest(
+    alloc: Global,
+    s: &Structure,
+    rows: &[Row],
+    owner: u64,
+    from: &Bound,
+) -> Result<Option<Spot>, Memory>
+    ensures { IfOk result (λ r. r ≡ soonest (shape_of s.now) owner from.now (entries_of rows.now)) }
+{
+    spot_of(alloc, s, scan::first(rows, s, owner, from))
+}
+
+fn latest(
+    alloc: Global,
+    s: &Structure,
+    rows: &[Row],
+    owner: u64,
+    upto: &Bound,
+) -> Result<Option<Spot>, Memory>
+    ensures { IfOk result (λ r. r ≡ latest (shape_of s.now) owner upto.now (entries_of rows.now)) }
+{
+    spot_of(alloc, s, scan::last(rows, s, owner, upto))
+}
+
+/// The first member of a path after a bound.
+pub fn first_member(
+    alloc: Global,
+    desc: &Description,
+    rows: &[Row],
+    path: u16,
+    owner: u64,
+    from: &Bound,
+) -> Result<Option<Spot>, Memory>
+    requires { IsInOrder rows.now }
+    ensures { IfOk result (λ r. r ≡ first_member (described desc.now) (db_of (records_in rows.now)) path owner from.now) }
+{
+    match structure_of(desc, path) {
+        None => Ok(None),
+        Some(s) => soonest(alloc, s, rows, owner, from),
+    }
+}
+
+/// The last member of a path before a bound.
+pub fn last_member(
+    alloc: Global,
+    desc: &Description,
+    rows: &[Row],
+    path: u16,
+    owner: u64,
+    upto: &Bound,
+) -> Result<Option<Spot>, Memory>
+    requires { IsInOrder rows.now }
+    ensures { IfOk result (λ r. r ≡ last_member (described desc.now) (db_of (records_in rows.now)) path owner upto.now) }
+{
+    match structure_of(desc, path) {
+        None => Ok(None),
+        Some(s) => latest(alloc, s, rows, owner, upto),
+    }
+}

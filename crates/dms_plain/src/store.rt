@@ -1,0 +1,184 @@
+ghost use Rattle.std.specs.Prelude.{◌≡◌, ⊤, IfErr, IfOk, IsTrue, Some, [], false, refl};
+ghost use Rattle.std.proofs.Common.{◌∙◌};
+ghost use Rattle.std.proofs.lemmas.Bool.{false≢true};
+ghost use Rattle.dms_desc.specs.Shape.{described};
+ghost use Rattle.dms_model.specs.Db.{empty_db};
+ghost use Rattle.dms_plain.specs.Rows.{db_of, records_in, undone, IsInOrder};
+ghost use Rattle.dms_plain.specs.Told.{told, no_point, no_clock};
+
+use crate::rows::{Row, Undo};
+use crate::state;
+use dms_base::Memory;
+use dms_block::BlockFault;
+use dms_desc::{Bound, Description, Record};
+use dms_model::{Put, Spot, Store};
+use dms_site::Site;
+use std::alloc::Global;
+
+/// A database that is a list of records, with nothing indexed. It writes no file, and forgets all when it is dropped. It
+/// keeps what stood before each change since the last quiet point.
+#[derive(Drop)]
+pub struct PlainStore<S> {
+    desc: Description,
+    rows: Vec<Row>,
+    undo: Vec<Undo>,
+    next: u64,
+    site: S,
+    ghost in_order: { IsInOrder rows.items },
+}
+
+impl<S: Site> PlainStore<S> {
+    /// A database without a record, under a copy of the description, whose next quiet point has the number 1. Where memory
+    /// is refused the site comes back.
+    pub fn new(alloc: Global, desc: &Description, site: S) -> Result<PlainStore<S>, (Memory, S)>
+        ensures desc { IfOk result (λ s. ⟦<PlainStore<S> as Store>⟧.desc s ≡ described desc.now) }
+        ensures db { IfOk result (λ s. ⟦<PlainStore<S> as Store>⟧.db s ≡ Some empty_db) }
+        ensures mark { IfOk result (λ s. ⟦<PlainStore<S> as Store>⟧.mark s ≡ Some empty_db) }
+        ensures next { IfOk result (λ s. ⟦<PlainStore<S> as Store>⟧.next s ≡ 1) }
+        ensures sound { IfOk result (λ s. ⟦<PlainStore<S> as Store>⟧.sound s) }
+        ensures said { IfOk result (λ s. ⟦<PlainStore<S> as Store>⟧.said s ≡ told S.tells_said (S.said site)) }
+        ensures disk_faults { IfOk result (λ s. ⟦<PlainStore<S> as Store>⟧.disk_faults s ≡ S.disk_faults site) }
+        ensures say_faults { IfOk result (λ s. ⟦<PlainStore<S> as Store>⟧.say_faults s ≡ S.say_faults site) }
+        ensures fulls { IfOk result (λ s. ⟦<PlainStore<S> as Store>⟧.fulls s ≡ 0) }
+        ensures damages { IfOk result (λ s. ⟦<PlainStore<S> as Store>⟧.damages s ≡ 0) }
+        ensures points { IfOk result (λ s. ⟦<PlainStore<S> as Store>⟧.points s ≡ []) }
+        ensures sure { IfOk result (λ s. ⟦<PlainStore<S> as Store>⟧.sure s ≡ 0) }
+        ensures site { IfOk result (λ s. s.site ≡ site) }
+        ensures site_back { IfErr result (λ e. e.1 ≡ site) }
+    {
+        match desc.copy(alloc) {
+            Ok(desc) => Ok(PlainStore {
+                desc,
+                rows: Vec::new(alloc),
+                undo: Vec::new(alloc),
+                next: 1,
+                site,
+            }),
+            Err(e) => Err((e, site)),
+        }
+    }
+
+    /// The site.
+    pub fn into_site(self) -> S
+        ensures { result ≡ self.site }
+    {
+        self.site
+    }
+}
+
+impl<S: Site> Store for PlainStore<S> {
+    ghost tells_moments = { false };
+
+    ghost sound = { λ _. ⊤ };
+
+    ghost same_store = { λ a b. S.same_site a.site b.site × (S.disk_faults b.site ≡ S.disk_faults a.site) × (IsTrue S.tells → S.files b.site ≡ S.files a.site) };
+
+    ghost desc = { λ s. described s.desc };
+
+    ghost db = { λ s. Some (db_of (records_in s.rows.items)) };
+
+    ghost mark = { λ s. Some (db_of (undone s.undo.items (records_in s.rows.items))) };
+
+    ghost next = { λ s. s.next };
+
+    ghost said = { λ s. told S.tells_said (S.said s.site) };
+
+    ghost points = { λ _. [] };
+
+    ghost sure = { λ _. 0 };
+
+    ghost here = { λ s. no_point s.next (db_of (records_in s.rows.items)) };
+
+    ghost clock = { λ _. no_clock };
+
+    ghost disk_faults = { λ s. S.disk_faults s.site };
+
+    ghost say_faults = { λ s. S.say_faults s.site };
+
+    ghost fulls = { λ _. 0 };
+
+    ghost damages = { λ _. 0 };
+
+    ghost now_front = { λ s stop sound tells. absurd (false≢true tells) };
+
+    ghost here_is = { λ s sound tells. absurd (false≢true tells) };
+
+    ghost sure_within = { λ s sound tells. absurd (false≢true tells) };
+
+    ghost same_again = { λ s. (S.same_again s.site, refl, λ tells. refl) };
+
+    ghost same_then = { λ a b c one two. (S.same_then a.site b.site c.site one.0 two.0, two.1 ∙ one.1, λ tells. two.2 tells ∙ one.2 tells) };
+
+    fn get(&mut self, alloc: Global, set: u16, number: u64) -> Result<Option<Record>, BlockFault> {
+        Ok(state::get(alloc, self.rows.as_slice(), set, number)?)
+    }
+
+    fn first_from(
+        &mut self,
+        alloc: Global,
+        path: u16,
+        owner: u64,
+        from: &Bound,
+    ) -> Result<Option<Spot>, BlockFault> {
+        Ok(state::first_member(alloc, &self.desc, self.rows.as_slice(), path, owner, from)?)
+    }
+
+    fn last_to(
+        &mut self,
+        alloc: Global,
+        path: u16,
+        owner: u64,
+        to: &Bound,
+    ) -> Result<Option<Spot>, BlockFault> {
+        Ok(state::last_member(alloc, &self.desc, self.rows.as_slice(), path, owner, to)?)
+    }
+
+    fn put(
+        &mut self,
+        alloc: Global,
+        set: u16,
+        number: Option<u64>,
+        rec: &Record,
+    ) -> Result<Put, BlockFault> {
+        let answer = state::put_answer(&self.desc, self.rows.as_slice(), set, number, rec);
+        match answer {
+            Put::Stored(n) => {
+                state::change(
+                    alloc,
+                    &self.desc,
+                    &mut self.rows,
+                    &mut self.undo,
+                    set,
+                    n,
+                    rec,
+                )?;
+                Ok(Put::Stored(n))
+            }
+            Put::Duplicate(s) => Ok(Put::Duplicate(s)),
+            Put::Full => Ok(Put::Full),
+        }
+    }
+
+    fn quiet(&mut self) -> Result<u64, BlockFault> {
+        let number = self.next;
+        self.undo.clear();
+        self.next = number.saturating_add(1);
+        Ok(number)
+    }
+
+    fn sync(&mut self) -> Result<(), BlockFault> {
+        Ok(())
+    }
+
+    fn back_out(&mut self, _alloc: Global) -> Result<(), BlockFault> {
+        state::take_back(&mut self.rows, &mut self.undo)?;
+        Ok(())
+    }
+
+    fn say(&mut self, bytes: &[u8]) -> Result<(), BlockFault> {
+        match self.site.say(bytes) {
+            Ok(()) => Ok(()),
+            Err(_) => Err(BlockFault::Say),
+        }
+    }
+}

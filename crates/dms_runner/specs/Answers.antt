@@ -1,0 +1,106 @@
+-- What a script answers: its lines, one after another.
+use Rattle.std.specs.Prelude.{◌≡◌, ◌<◌, ◌^◌, ℕ, ◌+◌, List, [], ◌∷◌, ◌++◌, Bool, true, false, not, ◌&&◌, ◌||◌, Some, None, if◌then◌else◌, nat_le, length, map}
+use Rattle.std.specs.declared.option.Option.{Option}
+use Rattle.dms_desc.specs.Shape.{Described}
+use Rattle.dms_feed.specs.Lines.{raw_lines, line_text}
+use Rattle.dms_model.specs.declared.verb.Verb.{Verb}
+use Rattle.dms_model.specs.Db.{Db}
+use Rattle.dms_model.specs.Points.{Quiet}
+use Rattle.dms_model.specs.Session.{Session, Outcome, step, fresh_session, is_waits}
+use Rattle.dms_script.specs.declared.line.Line.{Line}
+use Rattle.dms_script.specs.declared.line.Line.TheVariants.{Empty, Verb as Spoken, Bad}
+use Rattle.dms_script.specs.Lines.{line_of}
+use Rattle.dms_script.specs.Replies.{bad_text, unanswered_text}
+use Rattle.dms_runner.specs.declared.held.Held.{Held}
+use Rattle.dms_runner.specs.Held.{has_line, answer_text, Walk, walks, saying}
+
+-- how a run stands: the session, the held lines in order of line number, and how many lines were taken
+pub record Going : Type 0 where
+  pub session : Session
+  pub held : List Held
+  pub line : ℕ
+
+-- one line more was taken
+abbrev pub counted : Going → Going
+counted g = record g { line = g.line + 1 }
+
+-- room for the numbers of the quiet points that one more line may lead to: a step makes one at most
+abbrev pub Roomy : Going → Type 0
+Roomy g = g.session.next + length g.held + 3 < 2 ^ 64
+
+-- what a line, or a row of lines, leaves and says, the quiet points that it made, and whether one line too many would be
+-- held
+pub record Lined : Type 0 where
+  pub going : Going
+  pub text : List ℕ
+  pub quiets : List Quiet
+  pub full : Bool
+
+abbrev pub going_on : Going → Lined
+going_on g = record { going = g; text = []; quiets = []; full = false }
+
+abbrev pub walked : ℕ → Walk → Lined
+walked line w = record { going = record { session = w.session; held = w.held; line = line }; text = w.text; quiets = w.quiets; full = false }
+
+-- at most so many lines are held; the next one is the limit
+abbrev pub held_on : Going → Session → Held → List ℕ → Lined
+held_on g s h text =
+    if nat_le 10000 (length g.held) then record { going = record g { session = s }; text = []; quiets = []; full = true }
+    else record { going = record { session = s; held = g.held ++ h ∷ []; line = g.line }; text = text; quiets = []; full = false }
+
+abbrev pub first_line : ℕ → List ℕ → Verb → Bool → Held
+first_line line name verb printed = record { line = line; program = name; verb = verb; printed = printed }
+
+-- a line was tried for the first time: it is held, or answered, and then the held lines are walked
+abbrev pub tried : Described → Going → List ℕ → Verb → Outcome → Lined
+tried desc g name verb o =
+    if is_waits o.reply then held_on g o.session (first_line g.line name verb true) (answer_text g.line name o.reply o.sync)
+    else walked g.line (saying (answer_text g.line name o.reply o.sync) o.quiets (walks (length g.held) desc o.session g.held))
+
+-- what a line says and leaves; g counts it already. A line whose program has a held line is held without a try
+abbrev pub spoken : Described → Going → Line → Lined
+spoken desc g Empty = going_on g
+spoken desc g (Bad place) = walked g.line (saying (bad_text g.line place) [] (walks (length g.held) desc g.session g.held))
+spoken desc g (Spoken name verb) =
+    if has_line g.held name then held_on g g.session (first_line g.line name verb false) []
+    else tried desc g name verb (step desc g.session name verb)
+
+unfoldable pub line_step : Described → Going → List ℕ → Lined
+line_step desc g raw = spoken desc (counted g) (line_of desc (line_text raw))
+
+abbrev pub onto : Lined → Lined → Lined
+onto before after = record after { text = before.text ++ after.text; quiets = before.quiets ++ after.quiets }
+
+-- the lines in their order, up to the first that would be one too many to hold
+unfoldable pub lines_run : Described → Going → List (List ℕ) → Lined
+lines_run desc g [] = going_on g
+lines_run desc g (l ∷ ls) = if (line_step desc g l).full then line_step desc g l else onto (line_step desc g l) (lines_run desc (line_step desc g l).going ls)
+
+-- the lines that are still held
+abbrev pub unanswered : List Held → List ℕ
+unanswered [] = []
+unanswered (h ∷ hs) = unanswered_text h.line h.program ++ unanswered hs
+
+-- at the beginning: no program, nothing held
+abbrev pub begun : Db → ℕ → Going
+begun db first = record { session = fresh_session db first; held = []; line = 0 }
+
+abbrev pub script_run : Described → Db → ℕ → List ℕ → Lined
+script_run desc db first input = lines_run desc (begun db first) (raw_lines input)
+
+-- what a script answers over a database whose next quiet point has this number: the replies, and at the end each line that
+-- is still held
+unfoldable pub answers_text : Described → Db → ℕ → List ℕ → List ℕ
+answers_text desc db first input = (script_run desc db first input).text ++ unanswered (script_run desc db first input).going.held
+
+-- the quiet points that it makes
+unfoldable pub answers_quiets : Described → Db → ℕ → List ℕ → List Quiet
+answers_quiets desc db first input = (script_run desc db first input).quiets
+
+abbrev pub last_quiet : Db → List Quiet → Db
+last_quiet db [] = db
+last_quiet db (q ∷ qs) = last_quiet q.1 qs
+
+-- the database that a script leaves: that of its last quiet point, or the one that it began with
+abbrev pub left_by : Described → Db → ℕ → List ℕ → Db
+left_by desc db first input = last_quiet db (answers_quiets desc db first input)

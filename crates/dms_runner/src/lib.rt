@@ -1,0 +1,10 @@
+//! Runs the lines of a script, and holds those that wait.
+#![tactic(auto)]
+
+mod held;
+mod lines;
+mod saying;
+mod walking;
+
+pub use held::Held;
+pub use lines::HELD_LINES;

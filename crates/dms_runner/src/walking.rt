@@ -1,0 +1,88 @@
+ghost use Rattle.std.specs.Prelude.{◌≡◌, ◌≤◌, ◌<◌, ◌+◌, ◌^◌, ◌++◌, [], ◌∷◌, ℕ, List, Bool, true, false, not, Some, None, IfOk, OnOk, IsErrOf, IsTrue, length};
+ghost use Rattle.dms_base.specs.Causes.{Rose};
+ghost use Rattle.dms_desc.specs.Shape.{described};
+ghost use Rattle.dms_model.specs.Points.{Prints, PrintsFront};
+ghost use Rattle.dms_model.specs.Session.{Session, step, is_waits};
+ghost use Rattle.dms_storeverbs.specs.View.{View, view, Stands, Room};
+ghost use Rattle.dms_runner.specs.Held.{has_line, walk, walks};
+ghost use Rattle.dms_runner.specs.Trying.{Passes, Walks};
+
+use crate::Held;
+use crate::saying::try_line;
+use dms_base::Name;
+use dms_block::BlockFault;
+use dms_model::Store;
+use dms_storeverbs::Engine;
+use std::alloc::Global;
+
+/// Whether a line of this program is among these.
+pub fn has_line(held: &[Held], name: &Name) -> bool
+    ensures { result ≡ has_line held.now name.now }
+{
+    held.iter().any(|h| h.program.is(name))
+}
+
+/// Tries the held lines from the front, up to the first that is answered, and answers its place.
+fn pass<St: Store>(
+    alloc: Global,
+    engine: &mut Engine<St>,
+    held: &mut [Held],
+) -> Result<Option<usize>, BlockFault>
+    requires sound { St.sound engine.old.store }
+    requires desc { St.desc engine.old.store ≡ described engine.old.desc }
+    ensures passes { IfOk result (λ found. (s : Session) → Stands (view (St.db engine.old.store) (St.mark engine.old.store) (St.next engine.old.store) engine.old.programs.items engine.old.pending engine.old.since) s → Room s.next → Passes (walk (described engine.old.desc) s [] held.old) (view (St.db engine.new.store) (St.mark engine.new.store) (St.next engine.new.store) engine.new.programs.items engine.new.pending engine.new.since) held.new found (St.said engine.old.store) (St.said engine.new.store)) }
+    ensures part { (s : Session) → Stands (view (St.db engine.old.store) (St.mark engine.old.store) (St.next engine.old.store) engine.old.programs.items engine.old.pending engine.old.since) s → Room s.next → PrintsFront (St.said engine.old.store) (St.said engine.new.store) (walk (described engine.old.desc) s [] held.old).text }
+    ensures sound { OnOk result (St.sound engine.new.store) }
+    ensures description { engine.new.desc ≡ engine.old.desc }
+    ensures desc { St.desc engine.new.store ≡ St.desc engine.old.store }
+    ensures same { St.same_store engine.old.store engine.new.store }
+    ensures later { (St.disk_faults engine.old.store ≤ St.disk_faults engine.new.store) × (St.say_faults engine.old.store ≤ St.say_faults engine.new.store) × (St.fulls engine.old.store ≤ St.fulls engine.new.store) × (St.damages engine.old.store ≤ St.damages engine.new.store) }
+    ensures disk { IsErrOf result BlockFault.Disk → Rose (St.disk_faults engine.old.store) (St.disk_faults engine.new.store) }
+    ensures say { IsErrOf result BlockFault.Say → Rose (St.say_faults engine.old.store) (St.say_faults engine.new.store) }
+    ensures full { (f : ℕ) → IsErrOf result (BlockFault.Full f) → Rose (St.fulls engine.old.store) (St.fulls engine.new.store) }
+    ensures damaged { (f b : ℕ) → IsErrOf result (BlockFault.Damaged f b) → Rose (St.damages engine.old.store) (St.damages engine.new.store) }
+{
+    for i in 0..held.len() {
+        if has_line(&held[..i], &held[i].program) {
+            continue;
+        }
+        if try_line(alloc, engine, &held[i])? {
+            return Ok(Some(i));
+        }
+        held[i].printed = true;
+    }
+    Ok(None)
+}
+
+/// Walks over the held lines until nothing in them is answered.
+pub fn walk_all<St: Store>(
+    alloc: Global,
+    engine: &mut Engine<St>,
+    held: &mut Vec<Held>,
+) -> Result<(), BlockFault>
+    requires sound { St.sound engine.old.store }
+    requires desc { St.desc engine.old.store ≡ described engine.old.desc }
+    ensures walks { OnOk result ((s : Session) → Stands (view (St.db engine.old.store) (St.mark engine.old.store) (St.next engine.old.store) engine.old.programs.items engine.old.pending engine.old.since) s → s.next + length held.old.items + 2 < 2 ^ 64 → Walks (walks (length held.old.items) (described engine.old.desc) s held.old.items) (view (St.db engine.new.store) (St.mark engine.new.store) (St.next engine.new.store) engine.new.programs.items engine.new.pending engine.new.since) held.new.items (St.said engine.old.store) (St.said engine.new.store)) }
+    ensures part { (s : Session) → Stands (view (St.db engine.old.store) (St.mark engine.old.store) (St.next engine.old.store) engine.old.programs.items engine.old.pending engine.old.since) s → s.next + length held.old.items + 2 < 2 ^ 64 → PrintsFront (St.said engine.old.store) (St.said engine.new.store) (walks (length held.old.items) (described engine.old.desc) s held.old.items).text }
+    ensures sound { OnOk result (St.sound engine.new.store) }
+    ensures description { engine.new.desc ≡ engine.old.desc }
+    ensures desc { St.desc engine.new.store ≡ St.desc engine.old.store }
+    ensures same { St.same_store engine.old.store engine.new.store }
+    ensures later { (St.disk_faults engine.old.store ≤ St.disk_faults engine.new.store) × (St.say_faults engine.old.store ≤ St.say_faults engine.new.store) × (St.fulls engine.old.store ≤ St.fulls engine.new.store) × (St.damages engine.old.store ≤ St.damages engine.new.store) }
+    ensures disk { IsErrOf result BlockFault.Disk → Rose (St.disk_faults engine.old.store) (St.disk_faults engine.new.store) }
+    ensures say { IsErrOf result BlockFault.Say → Rose (St.say_faults engine.old.store) (St.say_faults engine.new.store) }
+    ensures full { (f : ℕ) → IsErrOf result (BlockFault.Full f) → Rose (St.fulls engine.old.store) (St.fulls engine.new.store) }
+    ensures damaged { (f b : ℕ) → IsErrOf result (BlockFault.Damaged f b) → Rose (St.damages engine.old.store) (St.damages engine.new.store) }
+{
+    for _turn in 0..held.len() {
+        match pass(alloc, engine, held.as_mut_slice())? {
+            None => return Ok(()),
+            Some(i) => {
+                if i < held.len() {
+                    let _answered = held.remove(i);
+                }
+            }
+        }
+    }
+    Ok(())
+}

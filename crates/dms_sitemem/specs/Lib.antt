@@ -1,0 +1,4 @@
+pub mod Slots
+pub mod Events
+pub mod Replay
+pub mod Picks
