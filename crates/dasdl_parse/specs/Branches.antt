@@ -7,7 +7,7 @@ use Rattle.dasdl_parse.specs.TreeCodes.Tree.{Test, Both, Either, Turned}
 -- behind so many NOTs
 abbrev pub negated : ℕ → Tree → Tree
 negated zero t = t
-negated (suc n) t = negated n (Turned t)
+negated (suc n) t = Turned (negated n t)
 
 -- behind AND, where there is one
 abbrev pub with_and : Option Tree → Tree → Tree

@@ -57,18 +57,21 @@ compare_turn_at s ts =
       t ← compare_at ts
       Ok (completed s.outer s.level (s.nodes + 1) t.0, t.1)))
 
--- NOT is one of 100 nodes; so their count never reaches its type's end
+-- NOT is one of 100 nodes, and so there are no more before one factor
 unfoldable pub not_turn_at : CondRead → List Lexeme → Read CondRead
 not_turn_at s ts =
-    if nat_le 100 s.nodes then Err (TooMany 100)
+    if nat_le 100 s.nodes || nat_le 100 s.level.nots then Err (TooMany 100)
     else (do
       t1 ← word_at (codes "NOT") ts
-      Ok (record {
-        outer = s.outer;
-        level = record { either = s.level.either; both = s.level.both; nots = min (s.level.nots + 1) (2 ^ 8 - 1) };
-        done = None;
-        nodes = s.nodes + 1;
-      }, t1))
+      Ok (
+        record {
+          outer = s.outer;
+          level = record { either = s.level.either; both = s.level.both; nots = s.level.nots + 1 };
+          done = None;
+          nodes = s.nodes + 1;
+        },
+        t1,
+      ))
 
 unfoldable pub open_turn_at : CondRead → List Lexeme → Read CondRead
 open_turn_at s ts = do

@@ -11,7 +11,8 @@ use Rattle.dasdl_parse.specs.declared.token.Token.{Token}
 use Rattle.dasdl_parse.specs.declared.token.Token.TheVariants.{Word, Number, Decimal, Long, Quoted, Sign, Compare, Bad, End}
 use Rattle.dasdl_parse.specs.declared.token.Lexeme.{Lexeme}
 use Rattle.dasdl_parse.specs.Reads.{Read, Pass, ◌>>=◌}
-use Rattle.dasdl_parse.specs.Reserved.{is_reserved}
+use Rattle.dms_base.specs.Name.{is_name}
+use Rattle.dms_base.specs.Reserved.{is_reserved}
 
 -- the fault of a token that isn't allowed where it stands
 abbrev pub fault_of : Token → ℕ → ParseFault
@@ -73,10 +74,11 @@ unfoldable pub comma_at : List Lexeme → Pass
 comma_at [] = Ok []
 comma_at (l ∷ ls) = if is_the_sign 44 l.token then Ok ls else Ok (l ∷ ls)
 
--- a name is a word of at most 30 bytes that isn't reserved
+-- a name is a word of at most 30 bytes that isn't reserved (each word of a text has the form of one)
 abbrev pub name_of : Token → ℕ → List Lexeme → Read (List ℕ)
 name_of (Word b) place ls =
-    if is_reserved b then Err (Expected place) else (if nat_lt 30 (length b) then Err (TooMany 30) else Ok (b, ls))
+    if is_reserved b then Err (Expected place) else (if nat_lt 30 (length b) then Err (TooMany 30)
+    else (if is_name b then Ok (b, ls) else Err (Expected place)))
 name_of token place ls = Err (fault_of token place)
 
 unfoldable pub name_at : List Lexeme → Read (List ℕ)

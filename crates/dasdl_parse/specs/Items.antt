@@ -8,7 +8,6 @@ use Rattle.dms_base.specs.declared.kind.ItemKind.{ItemKind}
 use Rattle.dms_base.specs.declared.kind.ItemKind.TheVariants.{Alpha, Number as Digits, Bool as Truth, Field}
 use Rattle.dms_base.specs.declared.kind.Literal.{Literal}
 use Rattle.dms_base.specs.declared.kind.Literal.TheVariants.{Null, Text, Number as Amount, Bool as Boolean}
-use Rattle.dms_base.specs.Fits.{trimmed}
 use Rattle.dasdl_parse.specs.declared.fault.ParseFault.{ParseFault}
 use Rattle.dasdl_parse.specs.declared.fault.ParseFault.TheVariants.{BadCharacter, Expected, NumberRange, TooMany}
 use Rattle.dasdl_parse.specs.declared.token.Token.{Token}

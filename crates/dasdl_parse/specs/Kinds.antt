@@ -8,7 +8,7 @@ use Rattle.dms_base.specs.declared.kind.ItemKind.{ItemKind}
 use Rattle.dms_base.specs.declared.kind.ItemKind.TheVariants.{Alpha, Number as Digits, Bool as Truth, Field}
 use Rattle.dms_base.specs.declared.kind.Literal.{Literal}
 use Rattle.dms_base.specs.declared.kind.Literal.TheVariants.{Null, Text, Number as Amount, Bool as Boolean}
-use Rattle.dms_base.specs.Fits.{trimmed}
+use Rattle.dms_base.specs.Text.{text_of}
 use Rattle.dasdl_parse.specs.declared.fault.ParseFault.{ParseFault}
 use Rattle.dasdl_parse.specs.declared.fault.ParseFault.TheVariants.{BadCharacter, Expected, NumberRange, TooMany}
 use Rattle.dasdl_parse.specs.declared.token.Token.{Token}
@@ -29,8 +29,13 @@ abbrev pub constant_of : Option Literal → ℕ → List Lexeme → Read Literal
 constant_of (Some literal) place ls = Ok (literal, ls)
 constant_of None place ls = Err (Expected place)
 
+-- a string of a text holds what a text may have
+abbrev pub quoted_of : Option (List ℕ) → ℕ → List Lexeme → Read Literal
+quoted_of (Some text) place ls = Ok (Text text, ls)
+quoted_of None place ls = Err (BadCharacter place)
+
 abbrev pub literal_of : Token → ℕ → List Lexeme → Read Literal
-literal_of (Quoted text) place ls = Ok (Text (trimmed text), ls)
+literal_of (Quoted text) place ls = quoted_of (text_of text) place ls
 literal_of (Number n) place ls = Ok (Amount false n 0, ls)
 literal_of (Decimal minus digits places) place ls = Ok (Amount minus digits places, ls)
 literal_of Long place ls = Err (NumberRange place)

@@ -4,7 +4,9 @@ ghost use Rattle.dasdl_parse.specs.Tokens.{first_digit, whole_digit, point_digit
 ghost use Rattle.dasdl_parse.specs.declared.reading.Reading.TheVariants.{Stopped};
 ghost use Rattle.dasdl_parse.specs.declared.token.Token.TheVariants.{Bad};
 
-use crate::bytes::{counted_on, is_blank, is_digit, is_letter, is_plain, is_printable, is_sign, upper, with_digit};
+use crate::bytes::{
+    counted_on, is_blank, is_digit, is_letter, is_plain, is_printable, is_sign, upper, with_digit,
+};
 use crate::reading::{Digits, Reading};
 use crate::token::{Lexeme, Lexemes, Token};
 use dms_base::{Bytes, Memory, Op};
@@ -133,7 +135,14 @@ fn comment_byte(place: u32, b: u8, out: &mut Lexemes) -> Result<Reading, Memory>
 
 /// Takes a byte behind a word.
 #[tactic(auto, unfolding(crate::specs::Tokens::word_byte))]
-fn word_byte(alloc: Global, start: u32, mut word: Bytes, place: u32, b: u8, out: &mut Lexemes) -> Result<Reading, Memory>
+fn word_byte(
+    alloc: Global,
+    start: u32,
+    mut word: Bytes,
+    place: u32,
+    b: u8,
+    out: &mut Lexemes,
+) -> Result<Reading, Memory>
     ensures reading { IfOk result (λ r. r ≡ (word_byte start word place b).1) }
     ensures given { IfOk result (λ r. out.new ≡ out.old ++ (word_byte start word place b).0) }
 {
@@ -150,7 +159,14 @@ fn word_byte(alloc: Global, start: u32, mut word: Bytes, place: u32, b: u8, out:
 
 /// Takes a byte behind a word and `-`.
 #[tactic(auto, unfolding(crate::specs::Tokens::dashes_byte))]
-fn dashes_byte(start: u32, mut word: Bytes, at: u32, mut dashes: Bytes, b: u8, out: &mut Lexemes) -> Result<Reading, Memory>
+fn dashes_byte(
+    start: u32,
+    mut word: Bytes,
+    at: u32,
+    mut dashes: Bytes,
+    b: u8,
+    out: &mut Lexemes,
+) -> Result<Reading, Memory>
     ensures reading { IfOk result (λ r. r ≡ (dashes_byte start word at dashes b).1) }
     ensures given { IfOk result (λ r. out.new ≡ out.old ++ (dashes_byte start word at dashes b).0) }
 {
@@ -181,7 +197,14 @@ fn signed_byte(start: u32, minus: bool, b: u8, out: &mut Lexemes) -> Result<Read
 
 /// Takes a byte behind digits.
 #[tactic(auto, unfolding(crate::specs::Tokens::whole_byte))]
-fn whole_byte(alloc: Global, start: u32, digits: Digits, place: u32, b: u8, out: &mut Lexemes) -> Result<Reading, Memory>
+fn whole_byte(
+    alloc: Global,
+    start: u32,
+    digits: Digits,
+    place: u32,
+    b: u8,
+    out: &mut Lexemes,
+) -> Result<Reading, Memory>
     ensures reading { IfOk result (λ r. r ≡ (whole_byte start digits place b).1) }
     ensures given { IfOk result (λ r. out.new ≡ out.old ++ (whole_byte start digits place b).0) }
 {
@@ -197,7 +220,13 @@ fn whole_byte(alloc: Global, start: u32, digits: Digits, place: u32, b: u8, out:
 
 /// Takes a byte behind a point.
 #[tactic(auto, unfolding(crate::specs::Tokens::point_byte))]
-fn point_byte(start: u32, digits: Digits, at: u32, b: u8, out: &mut Lexemes) -> Result<Reading, Memory>
+fn point_byte(
+    start: u32,
+    digits: Digits,
+    at: u32,
+    b: u8,
+    out: &mut Lexemes,
+) -> Result<Reading, Memory>
     ensures reading { IfOk result (λ r. r ≡ (point_byte start digits at b).1) }
     ensures given { IfOk result (λ r. out.new ≡ out.old ++ (point_byte start digits at b).0) }
 {
@@ -210,7 +239,14 @@ fn point_byte(start: u32, digits: Digits, at: u32, b: u8, out: &mut Lexemes) -> 
 
 /// Takes a byte behind digits that follow a point.
 #[tactic(auto, unfolding(crate::specs::Tokens::fraction_byte))]
-fn fraction_byte(alloc: Global, start: u32, digits: Digits, place: u32, b: u8, out: &mut Lexemes) -> Result<Reading, Memory>
+fn fraction_byte(
+    alloc: Global,
+    start: u32,
+    digits: Digits,
+    place: u32,
+    b: u8,
+    out: &mut Lexemes,
+) -> Result<Reading, Memory>
     ensures reading { IfOk result (λ r. r ≡ (fraction_byte start digits place b).1) }
     ensures given { IfOk result (λ r. out.new ≡ out.old ++ (fraction_byte start digits place b).0) }
 {
@@ -251,7 +287,14 @@ fn quoted_byte(start: u32, text: Bytes, b: u8, out: &mut Lexemes) -> Result<Read
 
 /// Takes a byte behind a quote within a string.
 #[tactic(auto, unfolding(crate::specs::Tokens::quote_byte))]
-fn quote_byte(alloc: Global, start: u32, text: Bytes, place: u32, b: u8, out: &mut Lexemes) -> Result<Reading, Memory>
+fn quote_byte(
+    alloc: Global,
+    start: u32,
+    text: Bytes,
+    place: u32,
+    b: u8,
+    out: &mut Lexemes,
+) -> Result<Reading, Memory>
     ensures reading { IfOk result (λ r. r ≡ (quote_byte start text place b).1) }
     ensures given { IfOk result (λ r. out.new ≡ out.old ++ (quote_byte start text place b).0) }
 {
@@ -264,7 +307,13 @@ fn quote_byte(alloc: Global, start: u32, text: Bytes, place: u32, b: u8, out: &m
 
 /// Takes a byte behind `<`.
 #[tactic(auto, unfolding(crate::specs::Tokens::less_byte))]
-fn less_byte(alloc: Global, start: u32, place: u32, b: u8, out: &mut Lexemes) -> Result<Reading, Memory>
+fn less_byte(
+    alloc: Global,
+    start: u32,
+    place: u32,
+    b: u8,
+    out: &mut Lexemes,
+) -> Result<Reading, Memory>
     ensures reading { IfOk result (λ r. r ≡ (less_byte start place b).1) }
     ensures given { IfOk result (λ r. out.new ≡ out.old ++ (less_byte start place b).0) }
 {
@@ -282,7 +331,13 @@ fn less_byte(alloc: Global, start: u32, place: u32, b: u8, out: &mut Lexemes) ->
 
 /// Takes a byte behind `>`.
 #[tactic(auto, unfolding(crate::specs::Tokens::greater_byte))]
-fn greater_byte(alloc: Global, start: u32, place: u32, b: u8, out: &mut Lexemes) -> Result<Reading, Memory>
+fn greater_byte(
+    alloc: Global,
+    start: u32,
+    place: u32,
+    b: u8,
+    out: &mut Lexemes,
+) -> Result<Reading, Memory>
     ensures reading { IfOk result (λ r. r ≡ (greater_byte start place b).1) }
     ensures given { IfOk result (λ r. out.new ≡ out.old ++ (greater_byte start place b).0) }
 {
@@ -296,7 +351,13 @@ fn greater_byte(alloc: Global, start: u32, place: u32, b: u8, out: &mut Lexemes)
 
 /// Takes a byte.
 #[tactic(auto, unfolding(crate::specs::Tokens::byte_turn))]
-fn byte_turn(alloc: Global, reading: Reading, place: u32, b: u8, out: &mut Lexemes) -> Result<Reading, Memory>
+fn byte_turn(
+    alloc: Global,
+    reading: Reading,
+    place: u32,
+    b: u8,
+    out: &mut Lexemes,
+) -> Result<Reading, Memory>
     ensures reading { IfOk result (λ r. r ≡ (byte_turn reading place b).1) }
     ensures given { IfOk result (λ r. out.new ≡ out.old ++ (byte_turn reading place b).0) }
 {

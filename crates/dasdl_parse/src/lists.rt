@@ -98,7 +98,6 @@ pub struct Declarations {
 impl Model for Declarations {
     ghost use Rattle.std.specs.Prelude.{List};
     ghost use Rattle.dasdl_parse.specs.declared.declarations.Declaration.{Declaration};
-
     ghost use Rattle.dasdl_parse.specs.contracts.declarations.Declaration as declaration;
     ghost use Rattle.std.specs.Coded.{coded_list};
 
