@@ -1,31 +1,27 @@
 -- Each condition of the grammar is read, where it has at most 100 nodes.
-use Rattle.std.proofs.Common.{◌+◌, ◌≡◌, ◌≤◌, ◌<◌, ℕ, zero, suc, List, [], ◌∷◌, ◌++◌, map, length, Bool, true, false, cond, not, ◌&&◌, ◌||◌, refl, sym, ap, ◌∙◌, subst, arith, append_assoc, IsTrue}
-use Rattle.std.proofs.lemmas.List.{append-nil}
+use Rattle.std.proofs.Common.{◌+◌, ◌≡◌, ◌≤◌, ◌<◌, ℕ, zero, suc, List, [], ◌∷◌, ◌++◌, map, length, Bool, true, false, not, ◌&&◌, refl, sym, ap, ◌∙◌, subst, arith, append_assoc}
 use Rattle.std.proofs.lemmas.Bool.Decides.{nat_tests}
 use Rattle.std.proofs.lemmas.Slice.Eq.{bytes_eq-Decides}
 use Rattle.std.specs.Str.{bytes_eq}
-use Rattle.std.specs.Prelude.{codes, nat_le, nat_lt, Some, None, is_some}
+use Rattle.std.specs.Prelude.{codes, nat_le, nat_lt, Some, None}
 use Rattle.std.specs.declared.option.Option.{Option}
-use Rattle.std.specs.declared.result.Result.{Result}
-use Rattle.std.specs.declared.result.Result.TheVariants.{Ok, Err}
+use Rattle.std.specs.declared.result.Result.TheVariants.{Ok}
 use Rattle.dms_base.specs.declared.op.Op.{Op}
 use Rattle.dms_base.specs.declared.kind.Literal.{Literal}
 use Rattle.dms_base.specs.Name.{is_name}
 use Rattle.dms_base.specs.Reserved.{is_reserved}
-use Rattle.dms_base.specs.Text.{text_of}
-use Rattle.dasdl_parse.specs.declared.fault.ParseFault.{ParseFault}
 use Rattle.dasdl_parse.specs.declared.token.Token.{Token}
-use Rattle.dasdl_parse.specs.declared.token.Token.TheVariants.{Word, Number, Decimal, Quoted, Sign, Compare}
+use Rattle.dasdl_parse.specs.declared.token.Token.TheVariants.{Word, Sign, Compare}
 use Rattle.dasdl_parse.specs.declared.token.Lexeme.{Lexeme}
 use Rattle.dasdl_parse.specs.declared.levels.Level.{Level}
 use Rattle.dasdl_parse.specs.declared.cond.CondRead.{CondRead}
 use Rattle.dasdl_parse.specs.TreeCodes.{Tree}
 use Rattle.dasdl_parse.specs.TreeCodes.Tree.{Test, Both, Either, Turned}
-use Rattle.dasdl_parse.specs.Branches.{negated, with_and, with_or, is_nil}
-use Rattle.dasdl_parse.specs.Reads.{◌>>=◌, Read}
-use Rattle.dasdl_parse.specs.Cursors.{turns, turns_at, fault_at, starts, is_word, is_the_sign, is_free, word_at, sign_at, name_at, name_of}
-use Rattle.dasdl_parse.specs.Kinds.{literal_at, literal_of, quoted_of}
-use Rattle.dasdl_parse.specs.Conditions.{completed, no_level, no_cond, op_at, compare_at, compare_turn_at, not_turn_at, open_turn_at, factor_turn_at, and_turn_at, or_turn_at, close_turn_at, join_turn_at, cond_turn_at, cond_done, cond_at, finished}
+use Rattle.dasdl_parse.specs.Branches.{negated, with_or}
+use Rattle.dasdl_parse.specs.Reads.{Read}
+use Rattle.dasdl_parse.specs.Cursors.{turns, turns_at, starts, is_word, is_the_sign, is_free, word_at, sign_at, name_at}
+use Rattle.dasdl_parse.specs.Kinds.{literal_at, literal_of}
+use Rattle.dasdl_parse.specs.Conditions.{completed, no_level, no_cond, op_at, compare_at, compare_turn_at, not_turn_at, open_turn_at, factor_turn_at, and_turn_at, or_turn_at, close_turn_at, join_turn_at, cond_turn_at, cond_done, cond_at}
 use Rattle.dasdl_parse.specs.CondSpelling.{token_of, IsLiteral, Part, IsCond, nodes}
 use Rattle.dasdl_parse.specs.CondSpelling.IsLiteral.{a_text, a_number, a_decimal, a_true, a_false, a_null}
 use Rattle.dasdl_parse.specs.CondSpelling.Part.{Whole, Term, Factor}

@@ -1,16 +1,14 @@
 -- A condition that was read has at most 100 nodes.
-use Rattle.std.proofs.Common.{◌+◌, ◌≡◌, ◌≤◌, ◌<◌, ℕ, zero, suc, List, [], ◌∷◌, ◌++◌, Bool, true, false, cond, not, ◌&&◌, ◌||◌, refl, sym, ap, ◌∙◌, subst, arith}
+use Rattle.std.proofs.Common.{◌+◌, ◌≡◌, ◌≤◌, ℕ, zero, suc, List, [], ◌∷◌, Bool, true, false, cond, not, ◌||◌, refl, sym, ap, subst, arith}
 use Rattle.std.proofs.lemmas.Bool.Decides.{nat_tests}
 use Rattle.std.specs.Prelude.{codes, nat_le, Some, None}
 use Rattle.std.specs.declared.option.Option.{Option}
-use Rattle.std.specs.declared.result.Result.{Result}
 use Rattle.std.specs.declared.result.Result.TheVariants.{Ok, Err}
-use Rattle.dasdl_parse.specs.declared.fault.ParseFault.{ParseFault}
 use Rattle.dasdl_parse.specs.declared.token.Lexeme.{Lexeme}
 use Rattle.dasdl_parse.specs.declared.levels.Level.{Level}
 use Rattle.dasdl_parse.specs.declared.cond.CondRead.{CondRead}
 use Rattle.dasdl_parse.specs.TreeCodes.{Tree}
-use Rattle.dasdl_parse.specs.TreeCodes.Tree.{Test, Both, Either, Turned}
+use Rattle.dasdl_parse.specs.TreeCodes.Tree.{Test}
 use Rattle.dasdl_parse.specs.Branches.{negated, with_and, with_or}
 use Rattle.dasdl_parse.specs.Reads.{◌>>=◌, Read}
 use Rattle.dasdl_parse.specs.Cursors.{turns, turns_at, fault_at, starts, is_word, is_the_sign, is_free, word_at, sign_at, name_at}
@@ -30,9 +28,9 @@ module _ {S : Type 0} (P : S → Type 0) (done : S → List Lexeme → Bool) (on
       pick {A = S × List Lexeme} (done s ts) (Ok (s, ts)) (Err (fault_at ts)) (t, rest) (λ f. stays s t ts rest h (ok_same (s, ts) (t, rest) f)) (λ f. absurd (cc)) e
   turns-keep (suc n) s t ts rest h e =
       pick {A = S × List Lexeme} (done s ts) (Ok (s, ts)) (one s ts >>= λ r. turns done one n r.0 r.1) (t, rest) (λ f. stays s t ts rest h (ok_same (s, ts) (t, rest) f))
-        (λ f.
-          let b = bind_ok (one s ts) (λ (r : S × List Lexeme). turns done one n r.0 r.1) (t, rest) f in
-          turns-keep n b.0.0 t b.0.1 rest (keeps s b.0.0 ts b.0.1 h b.1) b.2) e
+      (λ f.
+      let b = bind_ok (one s ts) (λ (r : S × List Lexeme). turns done one n r.0 r.1) (t, rest) f in
+      turns-keep n b.0.0 t b.0.1 rest (keeps s b.0.0 ts b.0.1 h b.1) b.2) e
 
   -- what each turn keeps holds where turns end
   pub turns_at-keep : (s t : S) (ts rest : List Lexeme) → P s → turns_at done one s ts ≡ Ok (t, rest) → P t
@@ -103,7 +101,7 @@ compare_counts s ts k t rest h =
     let b = skip_ok (nat_le 100 s.nodes) _ _ _ a.1 in
     let c = bind_ok (compare_at ts) _ _ b.1 in
     subst (λ (x : CondRead × List Lexeme). Counted x.0) (ok_same (completed s.outer s.level (s.nodes + 1) c.0.0, c.0.1) (t, rest) c.2)
-      (completed_counts s.outer s.level (s.nodes + 1) c.0.0 (omega (arith, k.all, test_nodes ts c.0.0 c.0.1 c.1)) (below s.nodes b.0))
+    (completed_counts s.outer s.level (s.nodes + 1) c.0.0 (omega (arith, k.all, test_nodes ts c.0.0 c.0.1 c.1)) (below s.nodes b.0))
 
 either_false : (a b : Bool) → a || b ≡ false → a ≡ false
 either_false true b h = absurd (cc)
@@ -115,21 +113,21 @@ not_counts s ts k t rest h =
     let a = skip_ok (nat_le 100 s.nodes || nat_le 100 s.level.nots) _ _ _ h in
     let b = bind_ok (word_at (codes "NOT") ts) _ _ a.1 in
     subst (λ (x : CondRead × List Lexeme). Counted x.0) (ok_same (record { outer = s.outer; level = record { either = s.level.either; both = s.level.both; nots = s.level.nots + 1 }; done = None; nodes = s.nodes + 1 }, b.0) (t, rest) b.2)
-      (record { all = omega (arith, k.all); few = below s.nodes (either_false (nat_le 100 s.nodes) (nat_le 100 s.level.nots) a.0) })
+    (record { all = omega (arith, k.all); few = below s.nodes (either_false (nat_le 100 s.nodes) (nat_le 100 s.level.nots) a.0) })
 
 open_counts : (s : CondRead) (ts : List Lexeme) → Counts s.outer s.level None s.nodes → Keeps (open_turn_at s ts)
 unfolding open_turn_at
 open_counts s ts k t rest h =
     let b = bind_ok (sign_at 40 ts) _ _ h in
     subst (λ (x : CondRead × List Lexeme). Counted x.0) (ok_same (record { outer = s.level ∷ s.outer; level = no_level; done = None; nodes = s.nodes }, b.0) (t, rest) b.2)
-      (record { all = omega (arith, k.all); few = k.few })
+    (record { all = omega (arith, k.all); few = k.few })
 
 factor_counts : (s : CondRead) (ts : List Lexeme) → Counts s.outer s.level None s.nodes → Keeps (factor_turn_at s ts)
 unfolding factor_turn_at
 factor_counts s ts k t rest h =
     pick (starts (is_word (codes "NOT")) ts) (not_turn_at s ts) (cond (starts (is_the_sign 40) ts) (open_turn_at s ts) (compare_turn_at s ts)) (t, rest)
-      (not_counts s ts k t rest)
-      (pick (starts (is_the_sign 40) ts) (open_turn_at s ts) (compare_turn_at s ts) (t, rest) (open_counts s ts k t rest) (compare_counts s ts k t rest)) h
+    (not_counts s ts k t rest)
+    (pick (starts (is_the_sign 40) ts) (open_turn_at s ts) (compare_turn_at s ts) (t, rest) (open_counts s ts k t rest) (compare_counts s ts k t rest)) h
 
 and_counts : (outer : List Level) (level : Level) (n : ℕ) (left : Tree) (ts : List Lexeme) → Counts outer level (Some left) n → Keeps (and_turn_at outer level n left ts)
 unfolding and_turn_at
@@ -137,7 +135,7 @@ and_counts outer level n left ts k t rest h =
     let a = skip_ok (nat_le 100 n) _ _ _ h in
     let b = bind_ok (word_at (codes "AND") ts) _ _ a.1 in
     subst (λ (x : CondRead × List Lexeme). Counted x.0) (ok_same (record { outer = outer; level = record { either = level.either; both = Some left; nots = 0 }; done = None; nodes = n + 1 }, b.0) (t, rest) b.2)
-      (record { all = omega (arith, k.all); few = below n a.0 })
+    (record { all = omega (arith, k.all); few = below n a.0 })
 
 or_counts : (outer : List Level) (level : Level) (n : ℕ) (left : Tree) (ts : List Lexeme) → Counts outer level (Some left) n → Keeps (or_turn_at outer level n left ts)
 unfolding or_turn_at
@@ -145,7 +143,7 @@ or_counts outer level n left ts k t rest h =
     let a = skip_ok (nat_le 100 n) _ _ _ h in
     let b = bind_ok (word_at (codes "OR") ts) _ _ a.1 in
     subst (λ (x : CondRead × List Lexeme). Counted x.0) (ok_same (record { outer = outer; level = record { either = Some (with_or level.either left); both = None; nots = 0 }; done = None; nodes = n + 1 }, b.0) (t, rest) b.2)
-      (record { all = omega (arith, k.all, nodes_or level.either left); few = below n a.0 })
+    (record { all = omega (arith, k.all, nodes_or level.either left); few = below n a.0 })
 
 close_counts : (outer : List Level) (level : Level) (n : ℕ) (left : Tree) (ts : List Lexeme) → Counts outer level (Some left) n → Keeps (close_turn_at outer level n left ts)
 unfolding close_turn_at
@@ -153,14 +151,14 @@ close_counts [] level n left ts k t rest h = absurd (cc)
 close_counts (up ∷ outer) level n left ts k t rest h =
     let b = bind_ok (sign_at 41 ts) _ _ h in
     subst (λ (x : CondRead × List Lexeme). Counted x.0) (ok_same (completed outer up n (with_or level.either left), b.0) (t, rest) b.2)
-      (completed_counts outer up n (with_or level.either left) (omega (arith, k.all, nodes_or level.either left)) k.few)
+    (completed_counts outer up n (with_or level.either left) (omega (arith, k.all, nodes_or level.either left)) k.few)
 
 join_counts : (outer : List Level) (level : Level) (n : ℕ) (left : Tree) (ts : List Lexeme) → Counts outer level (Some left) n → Keeps (join_turn_at outer level n left ts)
 unfolding join_turn_at
 join_counts outer level n left ts k t rest h =
     pick (starts (is_word (codes "AND")) ts) (and_turn_at outer level n left ts) (cond (starts (is_word (codes "OR")) ts) (or_turn_at outer level n left ts) (close_turn_at outer level n left ts)) (t, rest)
-      (and_counts outer level n left ts k t rest)
-      (pick (starts (is_word (codes "OR")) ts) (or_turn_at outer level n left ts) (close_turn_at outer level n left ts) (t, rest) (or_counts outer level n left ts k t rest) (close_counts outer level n left ts k t rest)) h
+    (and_counts outer level n left ts k t rest)
+    (pick (starts (is_word (codes "OR")) ts) (or_turn_at outer level n left ts) (close_turn_at outer level n left ts) (t, rest) (or_counts outer level n left ts k t rest) (close_counts outer level n left ts k t rest)) h
 
 turn_counts_by : (done : Option Tree) (s : CondRead) (ts : List Lexeme) → Counts s.outer s.level done s.nodes → Keeps (cond_turn_by done s ts)
 turn_counts_by None s ts k = factor_counts s ts k

@@ -1,31 +1,26 @@
 -- A condition that was read is one of the grammar, with the tree that it spells.
-use Rattle.std.proofs.Common.{◌+◌, ◌≡◌, ℕ, zero, suc, List, [], ◌∷◌, ◌++◌, map, replicate, Bool, true, false, cond, not, ◌&&◌, ◌||◌, refl, sym, ap, ◌∙◌, subst, arith, append_assoc, IsTrue}
+use Rattle.std.proofs.Common.{◌+◌, ◌≡◌, ℕ, zero, suc, List, [], ◌∷◌, ◌++◌, map, replicate, Bool, true, false, cond, not, ◌&&◌, ◌||◌, refl, sym, ap, ◌∙◌, subst, arith, append_assoc}
 use Rattle.std.proofs.lemmas.List.{append-nil}
 use Rattle.std.specs.Prelude.{codes, nat_le, Some, None, is_some}
 use Rattle.std.specs.declared.option.Option.{Option}
 use Rattle.std.specs.declared.result.Result.{Result}
-use Rattle.std.specs.declared.result.Result.TheVariants.{Ok, Err}
-use Rattle.dms_base.specs.declared.op.Op.{Op}
-use Rattle.dms_base.specs.declared.kind.Literal.{Literal}
-use Rattle.dms_base.specs.Name.{is_name}
+use Rattle.std.specs.declared.result.Result.TheVariants.{Ok}
 use Rattle.dasdl_parse.specs.declared.fault.ParseFault.{ParseFault}
-use Rattle.dasdl_parse.specs.declared.fault.ParseFault.TheVariants.{TooMany}
 use Rattle.dasdl_parse.specs.declared.token.Token.{Token}
-use Rattle.dasdl_parse.specs.declared.token.Token.TheVariants.{Word, Sign, Compare}
+use Rattle.dasdl_parse.specs.declared.token.Token.TheVariants.{Word, Sign}
 use Rattle.dasdl_parse.specs.declared.token.Lexeme.{Lexeme}
 use Rattle.dasdl_parse.specs.declared.levels.Level.{Level}
 use Rattle.dasdl_parse.specs.declared.cond.CondRead.{CondRead}
 use Rattle.dasdl_parse.specs.TreeCodes.{Tree}
-use Rattle.dasdl_parse.specs.TreeCodes.Tree.{Test, Both, Either, Turned}
+use Rattle.dasdl_parse.specs.TreeCodes.Tree.{Test}
 use Rattle.dasdl_parse.specs.Branches.{negated, with_and, with_or, is_nil}
-use Rattle.dasdl_parse.specs.Reads.{◌>>=◌, Read}
-use Rattle.dasdl_parse.specs.Cursors.{fault_at, starts, is_word, is_the_sign, is_free, word_at, sign_at, name_at, turns_at}
+use Rattle.dasdl_parse.specs.Cursors.{starts, is_word, is_the_sign, is_free, word_at, sign_at, name_at, turns_at}
 use Rattle.dasdl_parse.specs.Kinds.{literal_at}
 use Rattle.dasdl_parse.specs.Conditions.{completed, no_level, no_cond, op_at, compare_at, compare_turn_at, not_turn_at, open_turn_at, factor_turn_at, and_turn_at, or_turn_at, close_turn_at, join_turn_at, cond_turn_by, cond_turn_at, cond_done, cond_at, finished}
-use Rattle.dasdl_parse.specs.CondSpelling.{token_of, IsLiteral, Part, IsCond, Reads}
+use Rattle.dasdl_parse.specs.CondSpelling.{token_of, IsCond, Reads}
 use Rattle.dasdl_parse.specs.CondSpelling.Part.{Whole, Term, Factor}
 use Rattle.dasdl_parse.specs.CondSpelling.IsCond.{a_term, an_or, a_factor, an_and, a_not, brackets, a_test}
-use Rattle.dasdl_parse.proofs.Inverting.{bind_ok, guard_ok, skip_ok, ok_same}
+use Rattle.dasdl_parse.proofs.Inverting.{bind_ok, skip_ok, ok_same}
 use Rattle.dasdl_parse.proofs.SpelledTokens.{word_spelled, sign_spelled, name_spelled, op_spelled, literal_spelled}
 use Rattle.dasdl_parse.proofs.TurnsSound.{Goes, turns_at-goes, turns_at-ends}
 

@@ -1,21 +1,18 @@
 -- An item and a link are read exactly.
-use Rattle.std.proofs.Common.{◌+◌, ◌≡◌, ◌≤◌, ◌<◌, ℕ, zero, suc, List, [], ◌∷◌, ◌++◌, map, length, Bool, true, false, cond, not, ◌&&◌, refl, sym, ap, ◌∙◌, subst, arith, append_assoc, IsTrue}
-use Rattle.std.proofs.lemmas.List.{append-nil, map-append}
+use Rattle.std.proofs.Common.{◌≡◌, ◌<◌, ℕ, List, [], ◌∷◌, ◌++◌, map, Bool, true, false, not, refl, sym, ap, ◌∙◌, subst, arith, append_assoc, IsTrue}
+use Rattle.std.proofs.lemmas.List.{map-append}
 use Rattle.std.proofs.lemmas.Bool.Decides.{nat_tests}
-use Rattle.std.specs.Prelude.{codes, nat_le, nat_lt, Some, None}
-use Rattle.std.specs.declared.result.Result.{Result}
-use Rattle.std.specs.declared.result.Result.TheVariants.{Ok, Err}
+use Rattle.std.specs.Prelude.{codes, nat_le}
+use Rattle.std.specs.declared.result.Result.TheVariants.{Ok}
 use Rattle.dms_base.specs.Name.{is_name}
 use Rattle.dms_base.specs.declared.kind.ItemKind.{ItemKind}
-use Rattle.dasdl_parse.specs.declared.fault.ParseFault.{ParseFault}
 use Rattle.dasdl_parse.specs.declared.token.Token.{Token}
 use Rattle.dasdl_parse.specs.declared.token.Token.TheVariants.{Word, Sign}
 use Rattle.dasdl_parse.specs.declared.token.Lexeme.{Lexeme}
 use Rattle.dasdl_parse.specs.declared.declarations.ItemDecl.{ItemDecl}
 use Rattle.dasdl_parse.specs.declared.declarations.LinkDecl.{LinkDecl}
 use Rattle.dasdl_parse.specs.declared.items.ItemOptions.{ItemOptions}
-use Rattle.dasdl_parse.specs.Reads.{◌>>=◌, Read}
-use Rattle.dasdl_parse.specs.Cursors.{fault_at, starts, is_word, is_the_sign, word_at, sign_at, name_at, turns_at, until_semicolon}
+use Rattle.dasdl_parse.specs.Cursors.{starts, is_word, is_the_sign, word_at, sign_at, name_at, turns_at, until_semicolon}
 use Rattle.dasdl_parse.specs.Kinds.{kind_at}
 use Rattle.dasdl_parse.specs.Items.{no_options, next_item_option_at, item_at, counted_at, link_at}
 use Rattle.dasdl_parse.specs.CondSpelling.{token_of, Reads}
@@ -24,10 +21,10 @@ use Rattle.dasdl_parse.specs.OptionSpelling.{AreItemOptions}
 use Rattle.dasdl_parse.specs.ItemSpelling.{IsItem, IsLink}
 use Rattle.dasdl_parse.specs.ItemSpelling.IsItem.{an_item}
 use Rattle.dasdl_parse.specs.ItemSpelling.IsLink.{a_link, a_counted_link}
-use Rattle.dasdl_parse.proofs.Inverting.{bind_ok, guard_ok, skip_ok, ok_same}
+use Rattle.dasdl_parse.proofs.Inverting.{bind_ok, skip_ok, ok_same}
 use Rattle.dasdl_parse.proofs.SpelledTokens.{Starts, word_spelled, sign_spelled, name_spelled}
 use Rattle.dasdl_parse.proofs.CondSound.{pick}
-use Rattle.dasdl_parse.proofs.CondComplete.{Splits, splits, Heads, heads, none_left, word_reads, sign_reads, name_reads}
+use Rattle.dasdl_parse.proofs.CondComplete.{splits, heads, none_left, word_reads, sign_reads, name_reads}
 use Rattle.dasdl_parse.proofs.KindExact.{kind_sound, kind_complete}
 use Rattle.dasdl_parse.proofs.ItemOptionsExact.{item_options_sound, item_options_complete}
 
@@ -43,7 +40,7 @@ item_sound place name ts item rest h =
     let toks : map token_of (k.used ++ (o.used ++ (z.first ∷ []))) ≡ map token_of k.used ++ (map token_of o.used ++ (Sign 59 ∷ [])) = rw (map-append token_of k.used (o.used ++ (z.first ∷ [])), map-append token_of o.used (z.first ∷ []), z.token) refl in
     let all : ts ≡ (k.used ++ (o.used ++ (z.first ∷ []))) ++ c.0 = k.all ∙ ap (λ (xs : List Lexeme). k.used ++ xs) (o.all ∙ ap (λ (xs : List Lexeme). o.used ++ xs) z.all) ∙ simp append_assoc in
     subst (λ (x : ItemDecl × List Lexeme). Reads (IsItem place name) ts x.0 x.1) (ok_same (record { place = place; name = name; kind = a.0.0; required = b.0.0.required; initial = b.0.0.initial }, c.0) (item, rest) c.2)
-      (record { used = k.used ++ (o.used ++ (z.first ∷ [])); is = rw toks (an_item place name a.0.0 b.0.0 (map token_of k.used) (map token_of o.used) k.is o.is); all = all })
+    (record { used = k.used ++ (o.used ++ (z.first ∷ [])); is = rw toks (an_item place name a.0.0 b.0.0 (map token_of k.used) (map token_of o.used) k.is o.is); all = all })
 
 item_step : (place : ℕ) (name : List ℕ) (kind : ItemKind) (said : ItemOptions) (ts mid rest : List Lexeme) (z : Lexeme) → kind_at ts ≡ Ok (kind, mid) → turns_at until_semicolon next_item_option_at no_options mid ≡ Ok (said, z ∷ rest) → z.token ≡ Sign 59 → item_at place name ts ≡ Ok (record { place = place; name = name; kind = kind; required = said.required; initial = said.initial }, rest)
 unfolding item_at
@@ -72,12 +69,12 @@ counted_sound : (n : ℕ) (ts : List Lexeme) (c : Bool) (rest : List Lexeme) →
 unfolding counted_at
 counted_sound n ts c rest h =
     pick {A = Bool × List Lexeme} (not (starts (is_word (codes "COUNTED")) ts)) _ _ (c, rest)
-      (λ e. subst (λ (x : Bool × List Lexeme). CountedRead n ts x.0 x.1) (ok_same (false, ts) (c, rest) e) refl)
-      (λ e.
-        let a = skip_ok (nat_le 4000 n) _ _ _ e in
-        let b = bind_ok (word_at (codes "COUNTED") ts) _ _ a.1 in
-        let below : nat_le 4000 n ≡ false = a.0 in
-        subst (λ (x : Bool × List Lexeme). CountedRead n ts x.0 x.1) (ok_same (true, b.0) (c, rest) b.2) (word_spelled (codes "COUNTED") ts b.0 b.1, grind (arith, nat_tests))) h
+    (λ e. subst (λ (x : Bool × List Lexeme). CountedRead n ts x.0 x.1) (ok_same (false, ts) (c, rest) e) refl)
+    (λ e.
+    let a = skip_ok (nat_le 4000 n) _ _ _ e in
+    let b = bind_ok (word_at (codes "COUNTED") ts) _ _ a.1 in
+    let below : nat_le 4000 n ≡ false = a.0 in
+    subst (λ (x : Bool × List Lexeme). CountedRead n ts x.0 x.1) (ok_same (true, b.0) (c, rest) b.2) (word_spelled (codes "COUNTED") ts b.0 b.1, grind (arith, nat_tests))) h
 
 -- a link, and where it is counted, fewer than 4,000 were before it
 record LinkRead (n place : ℕ) (name : List ℕ) (ts : List Lexeme) (link : LinkDecl) (rest : List Lexeme) : Type 0 where
@@ -116,7 +113,7 @@ link_read n place name ts link rest h =
     let z = sign_spelled 59 c.0.1 d.0 d.1 in
     let all : ts ≡ k.first ∷ l.first ∷ m.1.first ∷ t.0.1 = k.all ∙ ap (λ (xs : List Lexeme). k.first ∷ xs) (l.all ∙ ap (λ (xs : List Lexeme). l.first ∷ xs) m.1.all) in
     subst (λ (x : LinkDecl × List Lexeme). LinkRead n place name ts x.0 x.1) (ok_same (record { place = place; name = name; target = t.0.0; counted = c.0.0 }, d.0) (link, rest) d.2)
-      (by_counted n place name t.0.0 c.0.0 ts t.0.1 c.0.1 d.0 k.first l.first m.1.first k.token l.token m.1.token m.0 all (counted_sound n t.0.1 c.0.0 c.0.1 c.1) z)
+    (by_counted n place name t.0.0 c.0.0 ts t.0.1 c.0.1 d.0 k.first l.first m.1.first k.token l.token m.1.token m.0 all (counted_sound n t.0.1 c.0.0 c.0.1 c.1) z)
 
 pub link_sound : (n place : ℕ) (name : List ℕ) (ts : List Lexeme) (link : LinkDecl) (rest : List Lexeme) → link_at n place name ts ≡ Ok (link, rest) → Reads (IsLink place name) ts link rest × (link.counted ≡ true → n < 4000)
 link_sound n place name ts link rest h = let r = link_read n place name ts link rest h in (r.reads, r.few)

@@ -1,18 +1,14 @@
 -- Each key of at most 16 parts is read.
-use Rattle.std.proofs.Common.{◌+◌, ◌≡◌, ◌≤◌, ◌<◌, ℕ, zero, suc, List, [], ◌∷◌, ◌++◌, map, length, length-append, Bool, true, false, cond, not, ◌&&◌, refl, sym, ap, ◌∙◌, subst, arith, append_assoc, IsTrue}
+use Rattle.std.proofs.Common.{◌≡◌, ◌≤◌, ◌<◌, ℕ, List, [], ◌∷◌, ◌++◌, map, length, length-append, Bool, true, false, refl, ap, ◌∙◌, arith, append_assoc}
 use Rattle.std.proofs.lemmas.Bool.Decides.{nat_tests}
 use Rattle.std.specs.Prelude.{codes, nat_le}
-use Rattle.std.specs.declared.result.Result.{Result}
-use Rattle.std.specs.declared.result.Result.TheVariants.{Ok, Err}
+use Rattle.std.specs.declared.result.Result.TheVariants.{Ok}
 use Rattle.dms_base.specs.Name.{is_name}
-use Rattle.dms_base.specs.Reserved.{is_reserved}
-use Rattle.dasdl_parse.specs.declared.fault.ParseFault.{ParseFault}
 use Rattle.dasdl_parse.specs.declared.token.Token.{Token}
 use Rattle.dasdl_parse.specs.declared.token.Token.TheVariants.{Word, Sign}
 use Rattle.dasdl_parse.specs.declared.token.Lexeme.{Lexeme}
 use Rattle.dasdl_parse.specs.declared.declarations.PartDecl.{PartDecl}
-use Rattle.dasdl_parse.specs.Reads.{◌>>=◌, Read}
-use Rattle.dasdl_parse.specs.Cursors.{fault_at, starts, is_word, is_the_sign, is_free, word_at, sign_at, name_at, turns_at, until_close}
+use Rattle.dasdl_parse.specs.Cursors.{starts, is_word, is_the_sign, is_free, word_at, sign_at, turns_at, until_close}
 use Rattle.dasdl_parse.specs.Sets.{direction_at, part_at, next_part_at, parts_at}
 use Rattle.dasdl_parse.specs.CondSpelling.{token_of}
 use Rattle.dasdl_parse.specs.KeySpelling.{IsDirection, IsPart, AreParts, IsKey}
@@ -20,7 +16,7 @@ use Rattle.dasdl_parse.specs.KeySpelling.IsDirection.{not_said, ascending, desce
 use Rattle.dasdl_parse.specs.KeySpelling.IsPart.{a_part}
 use Rattle.dasdl_parse.specs.KeySpelling.AreParts.{first_part, next_part}
 use Rattle.dasdl_parse.specs.KeySpelling.IsKey.{lone_part, in_brackets}
-use Rattle.dasdl_parse.proofs.CondComplete.{Runs, joins, turns_at-runs, Splits, splits, Heads, heads, none_left, name_reads, is_unreserved, word_reads, sign_reads}
+use Rattle.dasdl_parse.proofs.CondComplete.{Runs, joins, turns_at-runs, splits, heads, none_left, name_reads, is_unreserved, sign_reads}
 use Rattle.dasdl_parse.proofs.CondComplete.Runs.{here, step}
 
 -- no direction follows

@@ -1,19 +1,14 @@
 -- A key is read exactly where it is one of at most 16 parts.
-use Rattle.std.proofs.Common.{◌+◌, ◌≡◌, ◌≤◌, ◌<◌, ℕ, zero, suc, List, [], ◌∷◌, ◌++◌, map, length, length-append, Bool, true, false, cond, not, ◌&&◌, refl, sym, ap, ◌∙◌, subst, arith, append_assoc, IsTrue}
-use Rattle.std.proofs.lemmas.List.{append-nil, map-append}
+use Rattle.std.proofs.Common.{◌≡◌, ◌≤◌, ◌<◌, List, [], ◌∷◌, ◌++◌, map, length, length-append, Bool, true, false, not, refl, sym, ap, ◌∙◌, subst, arith, append_assoc}
+use Rattle.std.proofs.lemmas.List.{map-append}
 use Rattle.std.proofs.lemmas.Bool.Decides.{nat_tests}
 use Rattle.std.specs.Prelude.{codes, nat_le}
-use Rattle.std.specs.declared.result.Result.{Result}
-use Rattle.std.specs.declared.result.Result.TheVariants.{Ok, Err}
-use Rattle.dms_base.specs.Name.{is_name}
-use Rattle.dms_base.specs.Reserved.{is_reserved}
-use Rattle.dasdl_parse.specs.declared.fault.ParseFault.{ParseFault}
+use Rattle.std.specs.declared.result.Result.TheVariants.{Ok}
 use Rattle.dasdl_parse.specs.declared.token.Token.{Token}
-use Rattle.dasdl_parse.specs.declared.token.Token.TheVariants.{Word, Sign}
+use Rattle.dasdl_parse.specs.declared.token.Token.TheVariants.{Sign}
 use Rattle.dasdl_parse.specs.declared.token.Lexeme.{Lexeme}
 use Rattle.dasdl_parse.specs.declared.declarations.PartDecl.{PartDecl}
-use Rattle.dasdl_parse.specs.Reads.{◌>>=◌, Read}
-use Rattle.dasdl_parse.specs.Cursors.{fault_at, starts, is_word, is_the_sign, is_free, word_at, sign_at, name_at, turns_at, until_close}
+use Rattle.dasdl_parse.specs.Cursors.{starts, is_word, is_the_sign, is_free, word_at, sign_at, name_at, turns_at, until_close}
 use Rattle.dasdl_parse.specs.Sets.{direction_at, part_at, next_part_at, parts_at}
 use Rattle.dasdl_parse.specs.CondSpelling.{token_of, Reads}
 use Rattle.dasdl_parse.specs.KeySpelling.{IsDirection, IsPart, AreParts, IsKey}
@@ -30,16 +25,16 @@ direction_sound : (ts : List Lexeme) (d : Bool) (rest : List Lexeme) → directi
 unfolding direction_at
 direction_sound ts d rest h =
     pick {A = Bool × List Lexeme} (starts (is_word (codes "ASCENDING")) ts) _ _ (d, rest)
-      (λ e.
-        let b = bind_ok (word_at (codes "ASCENDING") ts) _ _ e in
-        let k = word_spelled (codes "ASCENDING") ts b.0 b.1 in
-        subst (λ (x : Bool × List Lexeme). Reads IsDirection ts x.0 x.1) (ok_same (false, b.0) (d, rest) b.2) (record { used = k.first ∷ []; is = rw k.token ascending; all = k.all }))
-      (pick {A = Bool × List Lexeme} (starts (is_word (codes "DESCENDING")) ts) _ _ (d, rest)
-        (λ e.
-          let b = bind_ok (word_at (codes "DESCENDING") ts) _ _ e in
-          let k = word_spelled (codes "DESCENDING") ts b.0 b.1 in
-          subst (λ (x : Bool × List Lexeme). Reads IsDirection ts x.0 x.1) (ok_same (true, b.0) (d, rest) b.2) (record { used = k.first ∷ []; is = rw k.token descending; all = k.all }))
-        (λ e. subst (λ (x : Bool × List Lexeme). Reads IsDirection ts x.0 x.1) (ok_same (false, ts) (d, rest) e) (record { used = []; is = not_said; all = refl }))) h
+    (λ e.
+    let b = bind_ok (word_at (codes "ASCENDING") ts) _ _ e in
+    let k = word_spelled (codes "ASCENDING") ts b.0 b.1 in
+    subst (λ (x : Bool × List Lexeme). Reads IsDirection ts x.0 x.1) (ok_same (false, b.0) (d, rest) b.2) (record { used = k.first ∷ []; is = rw k.token ascending; all = k.all }))
+    (pick {A = Bool × List Lexeme} (starts (is_word (codes "DESCENDING")) ts) _ _ (d, rest)
+    (λ e.
+    let b = bind_ok (word_at (codes "DESCENDING") ts) _ _ e in
+    let k = word_spelled (codes "DESCENDING") ts b.0 b.1 in
+    subst (λ (x : Bool × List Lexeme). Reads IsDirection ts x.0 x.1) (ok_same (true, b.0) (d, rest) b.2) (record { used = k.first ∷ []; is = rw k.token descending; all = k.all }))
+    (λ e. subst (λ (x : Bool × List Lexeme). Reads IsDirection ts x.0 x.1) (ok_same (false, ts) (d, rest) e) (record { used = []; is = not_said; all = refl }))) h
 
 -- one more part was read
 record OneMore (parts all : List PartDecl) (ts rest : List Lexeme) : Type 0 where
@@ -92,22 +87,22 @@ pub key_sound : (ts : List Lexeme) (parts : List PartDecl) (rest : List Lexeme) 
 unfolding parts_at
 key_sound ts parts rest h =
     pick {A = List PartDecl × List Lexeme} (not (starts (is_the_sign 40) ts)) _ _ (parts, rest)
-      (λ e.
-        let m = part_sound [] parts ts rest e in
-        let is : IsKey (m.part ∷ []) (map token_of m.used) = lone_part m.part (map token_of m.used) m.is in
-        (record { used = m.used; is = subst (λ (x : List PartDecl). IsKey x (map token_of m.used)) (sym m.together) is; all = m.tokens }, subst (λ (x : List PartDecl). length x ≤ 16) (sym m.together) (omega arith)))
-      (λ e.
-        let a = bind_ok (sign_at 40 ts) _ _ e in
-        let b = bind_ok (part_at [] a.0) _ _ a.2 in
-        let c = bind_ok (turns_at until_close next_part_at b.0.0 b.0.1) _ _ b.2 in
-        let d = bind_ok (sign_at 41 c.0.1) _ _ c.2 in
-        let k = sign_spelled 40 ts a.0 a.1 in
-        let m = part_sound [] b.0.0 a.0 b.0.1 b.1 in
-        let start : Some16 b.0.0 (map token_of m.used) = subst (λ (x : List PartDecl). Some16 x (map token_of m.used)) (sym m.together) (record { are = first_part m.part (map token_of m.used) m.is; few = omega arith }) in
-        let g = turns_at-goes Some16 until_close next_part_at next_sound b.0.0 c.0.0 (map token_of m.used) b.0.1 c.0.1 start c.1 in
-        let n = sign_spelled 41 c.0.1 d.0 d.1 in
-        let toks : map token_of (k.first ∷ ((m.used ++ g.used) ++ (n.first ∷ []))) ≡ Sign 40 ∷ ((map token_of m.used ++ map token_of g.used) ++ (Sign 41 ∷ [])) = rw (k.token, map-append token_of (m.used ++ g.used) (n.first ∷ []), map-append token_of m.used g.used, n.token) refl in
-        let is : IsKey c.0.0 (Sign 40 ∷ ((map token_of m.used ++ map token_of g.used) ++ (Sign 41 ∷ []))) = in_brackets c.0.0 (map token_of m.used ++ map token_of g.used) g.is.are in
-        let all : ts ≡ (k.first ∷ ((m.used ++ g.used) ++ (n.first ∷ []))) ++ d.0 = k.all ∙ ap (λ (xs : List Lexeme). k.first ∷ xs) (m.tokens ∙ ap (λ (xs : List Lexeme). m.used ++ xs) (g.all ∙ ap (λ (xs : List Lexeme). g.used ++ xs) n.all) ∙ simp append_assoc) in
-        subst (λ (x : List PartDecl × List Lexeme). Reads IsKey ts x.0 x.1 × (length x.0 ≤ 16)) (ok_same (c.0.0, d.0) (parts, rest) d.2)
-          (record { used = k.first ∷ ((m.used ++ g.used) ++ (n.first ∷ [])); is = rw toks is; all = all }, g.is.few)) h
+    (λ e.
+    let m = part_sound [] parts ts rest e in
+    let is : IsKey (m.part ∷ []) (map token_of m.used) = lone_part m.part (map token_of m.used) m.is in
+    (record { used = m.used; is = subst (λ (x : List PartDecl). IsKey x (map token_of m.used)) (sym m.together) is; all = m.tokens }, subst (λ (x : List PartDecl). length x ≤ 16) (sym m.together) (omega arith)))
+    (λ e.
+    let a = bind_ok (sign_at 40 ts) _ _ e in
+    let b = bind_ok (part_at [] a.0) _ _ a.2 in
+    let c = bind_ok (turns_at until_close next_part_at b.0.0 b.0.1) _ _ b.2 in
+    let d = bind_ok (sign_at 41 c.0.1) _ _ c.2 in
+    let k = sign_spelled 40 ts a.0 a.1 in
+    let m = part_sound [] b.0.0 a.0 b.0.1 b.1 in
+    let start : Some16 b.0.0 (map token_of m.used) = subst (λ (x : List PartDecl). Some16 x (map token_of m.used)) (sym m.together) (record { are = first_part m.part (map token_of m.used) m.is; few = omega arith }) in
+    let g = turns_at-goes Some16 until_close next_part_at next_sound b.0.0 c.0.0 (map token_of m.used) b.0.1 c.0.1 start c.1 in
+    let n = sign_spelled 41 c.0.1 d.0 d.1 in
+    let toks : map token_of (k.first ∷ ((m.used ++ g.used) ++ (n.first ∷ []))) ≡ Sign 40 ∷ ((map token_of m.used ++ map token_of g.used) ++ (Sign 41 ∷ [])) = rw (k.token, map-append token_of (m.used ++ g.used) (n.first ∷ []), map-append token_of m.used g.used, n.token) refl in
+    let is : IsKey c.0.0 (Sign 40 ∷ ((map token_of m.used ++ map token_of g.used) ++ (Sign 41 ∷ []))) = in_brackets c.0.0 (map token_of m.used ++ map token_of g.used) g.is.are in
+    let all : ts ≡ (k.first ∷ ((m.used ++ g.used) ++ (n.first ∷ []))) ++ d.0 = k.all ∙ ap (λ (xs : List Lexeme). k.first ∷ xs) (m.tokens ∙ ap (λ (xs : List Lexeme). m.used ++ xs) (g.all ∙ ap (λ (xs : List Lexeme). g.used ++ xs) n.all) ∙ simp append_assoc) in
+    subst (λ (x : List PartDecl × List Lexeme). Reads IsKey ts x.0 x.1 × (length x.0 ≤ 16)) (ok_same (c.0.0, d.0) (parts, rest) d.2)
+    (record { used = k.first ∷ ((m.used ++ g.used) ++ (n.first ∷ [])); is = rw toks is; all = all }, g.is.few)) h

@@ -1,32 +1,30 @@
 -- An item's type is read exactly.
-use Rattle.std.proofs.Common.{◌+◌, ◌≡◌, ◌≤◌, ◌<◌, ℕ, zero, suc, List, [], ◌∷◌, ◌++◌, map, length, Bool, true, false, cond, not, ◌&&◌, refl, sym, ap, ◌∙◌, subst, arith, append_assoc}
-use Rattle.std.proofs.lemmas.List.{append-nil, map-append}
+use Rattle.std.proofs.Common.{◌≡◌, ◌≤◌, ℕ, List, [], ◌∷◌, ◌++◌, map, Bool, true, false, cond, ◌&&◌, refl, sym, ap, ◌∙◌, subst, arith, append_assoc}
+use Rattle.std.proofs.lemmas.List.{map-append}
 use Rattle.std.proofs.lemmas.Bool.Decides.{nat_tests}
 use Rattle.std.proofs.lemmas.Slice.Eq.{bytes_eq-Decides}
 use Rattle.std.specs.Str.{bytes_eq}
-use Rattle.std.specs.Prelude.{codes, nat_le, nat_lt, Some, None}
+use Rattle.std.specs.Prelude.{codes, nat_le, Some, None}
 use Rattle.std.specs.declared.option.Option.{Option}
-use Rattle.std.specs.declared.result.Result.{Result}
 use Rattle.std.specs.declared.result.Result.TheVariants.{Ok, Err}
 use Rattle.dms_base.specs.declared.kind.ItemKind.{ItemKind}
 use Rattle.dms_base.specs.declared.kind.ItemKind.TheVariants.{Alpha, Number as Digits, Bool as Truth, Field}
-use Rattle.dasdl_parse.specs.declared.fault.ParseFault.{ParseFault}
-use Rattle.dasdl_parse.specs.declared.fault.ParseFault.TheVariants.{NumberRange, Expected}
+use Rattle.dasdl_parse.specs.declared.fault.ParseFault.TheVariants.{NumberRange}
 use Rattle.dasdl_parse.specs.declared.token.Token.{Token}
 use Rattle.dasdl_parse.specs.declared.token.Token.TheVariants.{Word, Number, Decimal, Long, Quoted, Sign, Compare, Bad, End}
 use Rattle.dasdl_parse.specs.declared.token.Lexeme.{Lexeme}
-use Rattle.dasdl_parse.specs.Reads.{◌>>=◌, Read}
-use Rattle.dasdl_parse.specs.Cursors.{fault_at, starts, is_word, is_the_sign, word_at, sign_at, number_at, number_of}
+use Rattle.dasdl_parse.specs.Reads.{Read}
+use Rattle.dasdl_parse.specs.Cursors.{starts, is_word, is_the_sign, word_at, sign_at, number_at, number_of}
 use Rattle.dasdl_parse.specs.Kinds.{joined, joined_of, behind, signed, unsigned, is_any_word, signed_width_of, signed_width_at, width_at, size_at, places_at, alpha_at, field_at, decimal_at, truth_at, kind_at}
 use Rattle.dasdl_parse.specs.CondSpelling.{token_of, Reads}
 use Rattle.dasdl_parse.specs.KindSpelling.{IsWidth, ArePlaces, IsKind}
 use Rattle.dasdl_parse.specs.KindSpelling.IsWidth.{without_sign, with_sign, joined_sign}
 use Rattle.dasdl_parse.specs.KindSpelling.ArePlaces.{no_places, some_places}
 use Rattle.dasdl_parse.specs.KindSpelling.IsKind.{an_alpha, a_number, a_truth, a_field}
-use Rattle.dasdl_parse.proofs.Inverting.{bind_ok, guard_ok, skip_ok, ok_same}
+use Rattle.dasdl_parse.proofs.Inverting.{bind_ok, guard_ok, ok_same}
 use Rattle.dasdl_parse.proofs.SpelledTokens.{Starts, word_spelled, sign_spelled}
 use Rattle.dasdl_parse.proofs.CondSound.{pick}
-use Rattle.dasdl_parse.proofs.CondComplete.{Splits, splits, Heads, heads, none_left, word_reads, sign_reads, never}
+use Rattle.dasdl_parse.proofs.CondComplete.{splits, heads, none_left, word_reads, sign_reads, never}
 
 -- a number in its range
 record InRange (low high n : ℕ) (ts rest : List Lexeme) : Type 0 where
@@ -82,7 +80,7 @@ size_sound high ts n rest h =
     let all : ts ≡ (k.first ∷ (m.is.first ∷ (z.first ∷ []))) ++ c.0 = k.all ∙ ap (λ (xs : List Lexeme). k.first ∷ xs) (m.is.all ∙ ap (λ (xs : List Lexeme). m.is.first ∷ xs) z.all) in
     let toks : map token_of (k.first ∷ (m.is.first ∷ (z.first ∷ []))) ≡ Sign 40 ∷ (Number b.0.0 ∷ (Sign 41 ∷ [])) = rw (k.token, m.is.token, z.token) refl in
     subst (λ (x : ℕ × List Lexeme). (used : List Lexeme) × (map token_of used ≡ Sign 40 ∷ (Number x.0 ∷ (Sign 41 ∷ []))) × (ts ≡ used ++ x.1) × (1 ≤ x.0) × (x.0 ≤ high)) (ok_same (b.0.0, c.0) (n, rest) c.2)
-      (k.first ∷ (m.is.first ∷ (z.first ∷ [])), toks, all, m.least, m.most)
+    (k.first ∷ (m.is.first ∷ (z.first ∷ [])), toks, all, m.least, m.most)
 
 size_reads : (high : ℕ) (k l m : Lexeme) (rest : List Lexeme) (n : ℕ) → k.token ≡ Sign 40 → l.token ≡ Number n → m.token ≡ Sign 41 → 1 ≤ n → n ≤ high → size_at high (k ∷ l ∷ m ∷ rest) ≡ Ok (n, rest)
 unfolding size_at
@@ -96,7 +94,7 @@ alpha_sound ts kind rest h =
     let k = word_spelled (codes "ALPHA") ts a.0 a.1 in
     let s = size_sound 200 a.0 b.0.0 b.0.1 b.1 in
     subst (λ (x : ItemKind × List Lexeme). Reads IsKind ts x.0 x.1) (ok_same (Alpha b.0.0, b.0.1) (kind, rest) b.2)
-      (record { used = k.first ∷ s.0; is = rw (k.token, s.1) (an_alpha b.0.0 s.3 s.4); all = k.all ∙ ap (λ (xs : List Lexeme). k.first ∷ xs) s.2 })
+    (record { used = k.first ∷ s.0; is = rw (k.token, s.1) (an_alpha b.0.0 s.3 s.4); all = k.all ∙ ap (λ (xs : List Lexeme). k.first ∷ xs) s.2 })
 
 field_sound : (ts : List Lexeme) (kind : ItemKind) (rest : List Lexeme) → field_at ts ≡ Ok (kind, rest) → Reads IsKind ts kind rest
 unfolding field_at
@@ -106,7 +104,7 @@ field_sound ts kind rest h =
     let k = word_spelled (codes "FIELD") ts a.0 a.1 in
     let s = size_sound 48 a.0 b.0.0 b.0.1 b.1 in
     subst (λ (x : ItemKind × List Lexeme). Reads IsKind ts x.0 x.1) (ok_same (Field b.0.0, b.0.1) (kind, rest) b.2)
-      (record { used = k.first ∷ s.0; is = rw (k.token, s.1) (a_field b.0.0 s.3 s.4); all = k.all ∙ ap (λ (xs : List Lexeme). k.first ∷ xs) s.2 })
+    (record { used = k.first ∷ s.0; is = rw (k.token, s.1) (a_field b.0.0 s.3 s.4); all = k.all ∙ ap (λ (xs : List Lexeme). k.first ∷ xs) s.2 })
 
 truth_sound : (ts : List Lexeme) (kind : ItemKind) (rest : List Lexeme) → truth_at ts ≡ Ok (kind, rest) → Reads IsKind ts kind rest
 unfolding truth_at
@@ -114,7 +112,7 @@ truth_sound ts kind rest h =
     let a = bind_ok (word_at (codes "BOOLEAN") ts) _ _ h in
     let k = word_spelled (codes "BOOLEAN") ts a.0 a.1 in
     subst (λ (x : ItemKind × List Lexeme). Reads IsKind ts x.0 x.1) (ok_same (Truth, a.0) (kind, rest) a.2)
-      (record { used = k.first ∷ []; is = rw k.token a_truth; all = k.all })
+    (record { used = k.first ∷ []; is = rw k.token a_truth; all = k.all })
 
 abbrev WidthRead : List Lexeme → Bool × ℕ → List Lexeme → Type 0
 WidthRead ts x rest = (used : List Lexeme) × IsWidth x.0 x.1 (map token_of used) × (ts ≡ used ++ rest)
@@ -142,11 +140,11 @@ sign_ok : (b : List ℕ) (place : ℕ) (l : Lexeme) (x : Bool × ℕ) (ls rest :
 sign_ok b place l x ls rest t h =
     let P : Bool → Type 0 = λ (v : Bool). bytes_eq b (codes "S") ≡ v → cond v (signed (number_at 1 18 ls)) (joined_of (joined b) place ls) ≡ Ok (x, rest) → WidthRead (l ∷ ls) x rest in
     let by : (v : Bool) → P v = λ v. elim v as P [
-      true ↦ (λ q e.
-        let s = signed_ok (number_at 1 18 ls) x rest e in
-        let m = number_spelled 1 18 ls s.0 rest s.1 in
-        let named : l.token ≡ Word (codes "S") = t ∙ ap (λ (w : List ℕ). Word w) ((bytes_eq-Decides b (codes "S")).0 q) in
-        subst (λ (y : Bool × ℕ). WidthRead (l ∷ ls) y rest) s.2 (l ∷ (m.is.first ∷ []), rw (named, m.is.token) (with_sign s.0 m.least m.most), ap (λ (xs : List Lexeme). l ∷ xs) m.is.all))
+      | true ↦ (λ q e.
+          let s = signed_ok (number_at 1 18 ls) x rest e in
+          let m = number_spelled 1 18 ls s.0 rest s.1 in
+          let named : l.token ≡ Word (codes "S") = t ∙ ap (λ (w : List ℕ). Word w) ((bytes_eq-Decides b (codes "S")).0 q) in
+          subst (λ (y : Bool × ℕ). WidthRead (l ∷ ls) y rest) s.2 (l ∷ (m.is.first ∷ []), rw (named, m.is.token) (with_sign s.0 m.least m.most), ap (λ (xs : List Lexeme). l ∷ xs) m.is.all))
       | false ↦ (λ q e. joined_ok (joined b) b place l x ls rest refl t e)
     ] in
     by (bytes_eq b (codes "S")) refl h
@@ -171,22 +169,22 @@ width_sound : (ts : List Lexeme) (x : Bool × ℕ) (rest : List Lexeme) → widt
 unfolding width_at
 width_sound ts x rest h =
     pick {A = (Bool × ℕ) × List Lexeme} (starts is_any_word ts) (signed_width_at ts) (unsigned (number_at 1 18 ts)) (x, rest)
-      (signed_width_sound ts x rest)
-      (λ e.
-        let s = unsigned_ok (number_at 1 18 ts) x rest e in
-        let m = number_spelled 1 18 ts s.0 rest s.1 in
-        subst (λ (y : Bool × ℕ). WidthRead ts y rest) s.2 (m.is.first ∷ [], rw m.is.token (without_sign s.0 m.least m.most), m.is.all)) h
+    (signed_width_sound ts x rest)
+    (λ e.
+    let s = unsigned_ok (number_at 1 18 ts) x rest e in
+    let m = number_spelled 1 18 ts s.0 rest s.1 in
+    subst (λ (y : Bool × ℕ). WidthRead ts y rest) s.2 (m.is.first ∷ [], rw m.is.token (without_sign s.0 m.least m.most), m.is.all)) h
 
 places_sound : (high : ℕ) (ts : List Lexeme) (m : ℕ) (rest : List Lexeme) → places_at high ts ≡ Ok (m, rest) → Reads (ArePlaces high) ts m rest
 unfolding places_at
 places_sound high ts m rest h =
     pick {A = ℕ × List Lexeme} (starts (is_the_sign 44) ts) _ _ (m, rest)
-      (λ e.
-        let a = bind_ok (sign_at 44 ts) _ _ e in
-        let k = sign_spelled 44 ts a.0 a.1 in
-        let n = number_spelled 0 high a.0 m rest a.2 in
-        record { used = k.first ∷ (n.is.first ∷ []); is = rw (k.token, n.is.token) (some_places high m n.most); all = k.all ∙ ap (λ (xs : List Lexeme). k.first ∷ xs) n.is.all })
-      (λ e. subst (λ (x : ℕ × List Lexeme). Reads (ArePlaces high) ts x.0 x.1) (ok_same (0, ts) (m, rest) e) (record { used = []; is = no_places high; all = refl })) h
+    (λ e.
+    let a = bind_ok (sign_at 44 ts) _ _ e in
+    let k = sign_spelled 44 ts a.0 a.1 in
+    let n = number_spelled 0 high a.0 m rest a.2 in
+    record { used = k.first ∷ (n.is.first ∷ []); is = rw (k.token, n.is.token) (some_places high m n.most); all = k.all ∙ ap (λ (xs : List Lexeme). k.first ∷ xs) n.is.all })
+    (λ e. subst (λ (x : ℕ × List Lexeme). Reads (ArePlaces high) ts x.0 x.1) (ok_same (0, ts) (m, rest) e) (record { used = []; is = no_places high; all = refl })) h
 
 decimal_sound : (ts : List Lexeme) (kind : ItemKind) (rest : List Lexeme) → decimal_at ts ≡ Ok (kind, rest) → Reads IsKind ts kind rest
 unfolding decimal_at
@@ -204,14 +202,14 @@ decimal_sound ts kind rest h =
     let toks : map token_of (k.first ∷ (l.first ∷ (w.0 ++ (p.used ++ (z.first ∷ []))))) ≡ Word (codes "NUMBER") ∷ (Sign 40 ∷ (map token_of w.0 ++ (map token_of p.used ++ (Sign 41 ∷ [])))) = rw (k.token, l.token, map-append token_of w.0 (p.used ++ (z.first ∷ [])), map-append token_of p.used (z.first ∷ []), z.token) refl in
     let all : ts ≡ (k.first ∷ (l.first ∷ (w.0 ++ (p.used ++ (z.first ∷ []))))) ++ e.0 = k.all ∙ ap (λ (xs : List Lexeme). k.first ∷ xs) (l.all ∙ ap (λ (xs : List Lexeme). l.first ∷ xs) (w.2 ∙ ap (λ (xs : List Lexeme). w.0 ++ xs) (p.all ∙ ap (λ (xs : List Lexeme). p.used ++ xs) z.all) ∙ simp append_assoc)) in
     subst (λ (x : ItemKind × List Lexeme). Reads IsKind ts x.0 x.1) (ok_same (Digits c.0.0.1 d.0.0 c.0.0.0, e.0) (kind, rest) e.2)
-      (record { used = k.first ∷ (l.first ∷ (w.0 ++ (p.used ++ (z.first ∷ [])))); is = rw toks (a_number c.0.0.1 d.0.0 c.0.0.0 (map token_of w.0) (map token_of p.used) w.1 p.is); all = all })
+    (record { used = k.first ∷ (l.first ∷ (w.0 ++ (p.used ++ (z.first ∷ [])))); is = rw toks (a_number c.0.0.1 d.0.0 c.0.0.0 (map token_of w.0) (map token_of p.used) w.1 p.is); all = all })
 
 pub kind_sound : (ts : List Lexeme) (kind : ItemKind) (rest : List Lexeme) → kind_at ts ≡ Ok (kind, rest) → Reads IsKind ts kind rest
 unfolding kind_at
 kind_sound ts kind rest h =
     pick (starts (is_word (codes "ALPHA")) ts) (alpha_at ts) _ (kind, rest) (alpha_sound ts kind rest)
-      (pick (starts (is_word (codes "NUMBER")) ts) (decimal_at ts) _ (kind, rest) (decimal_sound ts kind rest)
-        (pick (starts (is_word (codes "BOOLEAN")) ts) (truth_at ts) (field_at ts) (kind, rest) (truth_sound ts kind rest) (field_sound ts kind rest))) h
+    (pick (starts (is_word (codes "NUMBER")) ts) (decimal_at ts) _ (kind, rest) (decimal_sound ts kind rest)
+    (pick (starts (is_word (codes "BOOLEAN")) ts) (truth_at ts) (field_at ts) (kind, rest) (truth_sound ts kind rest) (field_sound ts kind rest))) h
 
 places_reads : (n m : ℕ) (ys : List Token) → ArePlaces n m ys → (us : List Lexeme) (z : Lexeme) (rest : List Lexeme) → map token_of us ≡ ys → z.token ≡ Sign 41 → places_at n (us ++ (z ∷ rest)) ≡ Ok (m, z ∷ rest)
 unfolding places_at

@@ -1,9 +1,6 @@
 -- Options are read exactly where they are some, and for what they say together.
-use Rattle.std.proofs.Common.{◌+◌, ◌≡◌, ◌<◌, ℕ, zero, suc, List, [], ◌∷◌, ◌++◌, map, length, length-append, Bool, true, false, cond, not, ◌&&◌, ◌⊎◌, inl, inr, refl, sym, ap, ◌∙◌, subst, arith, append_assoc}
-use Rattle.std.proofs.lemmas.List.{append-nil, map-append}
-use Rattle.std.specs.declared.result.Result.{Result}
-use Rattle.std.specs.declared.result.Result.TheVariants.{Ok, Err}
-use Rattle.dasdl_parse.specs.declared.fault.ParseFault.{ParseFault}
+use Rattle.std.proofs.Common.{◌≡◌, ◌<◌, ℕ, List, [], ◌∷◌, ◌++◌, map, length, length-append, Bool, true, false, cond, ◌⊎◌, inl, inr, refl, sym, ap, ◌∙◌, subst, arith, append_assoc}
+use Rattle.std.specs.declared.result.Result.TheVariants.{Ok}
 use Rattle.dasdl_parse.specs.declared.token.Token.{Token}
 use Rattle.dasdl_parse.specs.declared.token.Token.TheVariants.{Word, Sign}
 use Rattle.dasdl_parse.specs.declared.token.Lexeme.{Lexeme}
@@ -15,7 +12,7 @@ use Rattle.dasdl_parse.specs.OptionSpelling.Options.{none_said, one_more, behind
 use Rattle.dasdl_parse.proofs.Inverting.{bind_ok, ok_same}
 use Rattle.dasdl_parse.proofs.SpelledTokens.{is_sign_is}
 use Rattle.dasdl_parse.proofs.TurnsSound.{Goes, turns_at-goes}
-use Rattle.dasdl_parse.proofs.CondComplete.{Runs, joins, turns_at-runs, Splits, splits, Heads, heads, none_left}
+use Rattle.dasdl_parse.proofs.CondComplete.{Runs, joins, turns_at-runs, splits, heads, none_left}
 use Rattle.dasdl_parse.proofs.CondComplete.Runs.{here, step}
 
 -- a comma was left behind, or there was none

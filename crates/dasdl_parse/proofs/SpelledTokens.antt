@@ -1,9 +1,8 @@
 -- Which tokens were read.
-use Rattle.std.proofs.Common.{◌≡◌, ℕ, List, [], ◌∷◌, ◌++◌, map, Bool, true, false, cond, not, refl, sym, ap, ◌∙◌, subst, arith, length, eqb, IsTrue}
+use Rattle.std.proofs.Common.{◌≡◌, ℕ, List, [], ◌∷◌, Bool, true, false, cond, refl, sym, ap, ◌∙◌, subst, length, IsTrue}
 use Rattle.std.specs.Prelude.{codes, nat_lt, Some, None}
 use Rattle.std.specs.declared.option.Option.{Option}
 use Rattle.std.specs.Str.{bytes_eq}
-use Rattle.std.specs.declared.result.Result.{Result}
 use Rattle.std.specs.declared.result.Result.TheVariants.{Ok, Err}
 use Rattle.std.proofs.lemmas.Slice.Eq.{bytes_eq-Decides}
 use Rattle.std.proofs.lemmas.Bool.Decides.{Decides-eqb}
@@ -14,18 +13,16 @@ use Rattle.dms_base.specs.declared.kind.Literal.TheVariants.{Null, Text, Number 
 use Rattle.dms_base.specs.Name.{is_name}
 use Rattle.dms_base.specs.Reserved.{is_reserved}
 use Rattle.dms_base.specs.Text.{text_of}
-use Rattle.dasdl_parse.specs.declared.fault.ParseFault.{ParseFault}
-use Rattle.dasdl_parse.specs.declared.fault.ParseFault.TheVariants.{BadCharacter, Expected, NumberRange, TooMany}
+use Rattle.dasdl_parse.specs.declared.fault.ParseFault.TheVariants.{Expected, TooMany}
 use Rattle.dasdl_parse.specs.declared.token.Token.{Token}
 use Rattle.dasdl_parse.specs.declared.token.Token.TheVariants.{Word, Number, Decimal, Long, Quoted, Sign, Compare, Bad, End}
 use Rattle.dasdl_parse.specs.declared.token.Lexeme.{Lexeme}
-use Rattle.dasdl_parse.specs.Reads.{◌>>=◌}
 use Rattle.dasdl_parse.specs.Cursors.{is_word, is_the_sign, is_equal, one_at, word_at, sign_at, equal_at, name_at, name_of, fault_of}
 use Rattle.dasdl_parse.specs.Kinds.{literal_at, literal_of, quoted_of, constant, constant_of}
 use Rattle.dasdl_parse.specs.Conditions.{op_at, op_of}
-use Rattle.dasdl_parse.specs.CondSpelling.{token_of, IsLiteral}
+use Rattle.dasdl_parse.specs.CondSpelling.{IsLiteral}
 use Rattle.dasdl_parse.specs.CondSpelling.IsLiteral.{a_text, a_number, a_decimal, a_true, a_false, a_null}
-use Rattle.dasdl_parse.proofs.Inverting.{bind_ok, guard_ok, skip_ok, ok_same}
+use Rattle.dasdl_parse.proofs.Inverting.{guard_ok, skip_ok, ok_same}
 
 pub is_word_is : (w : List ℕ) (t : Token) → is_word w t ≡ true → t ≡ Word w
 is_word_is w (Word b) h = ap (λ (x : List ℕ). Word x) ((bytes_eq-Decides b w).0 h)

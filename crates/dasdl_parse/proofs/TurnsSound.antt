@@ -1,15 +1,13 @@
 -- What holds of what was read so far is kept by turns.
-use Rattle.std.proofs.Common.{◌+◌, ◌≡◌, ℕ, zero, suc, List, [], ◌∷◌, ◌++◌, map, Bool, true, false, cond, refl, sym, ap, ◌∙◌, subst, append_assoc}
+use Rattle.std.proofs.Common.{◌≡◌, ℕ, zero, suc, List, [], ◌++◌, map, Bool, true, false, cond, refl, sym, ap, ◌∙◌, subst, append_assoc}
 use Rattle.std.proofs.lemmas.List.{append-nil, map-append}
-use Rattle.std.specs.declared.result.Result.{Result}
 use Rattle.std.specs.declared.result.Result.TheVariants.{Ok, Err}
-use Rattle.dasdl_parse.specs.declared.fault.ParseFault.{ParseFault}
 use Rattle.dasdl_parse.specs.declared.token.Token.{Token}
 use Rattle.dasdl_parse.specs.declared.token.Lexeme.{Lexeme}
 use Rattle.dasdl_parse.specs.Reads.{◌>>=◌, Read}
 use Rattle.dasdl_parse.specs.Cursors.{turns, turns_at, fault_at}
 use Rattle.dasdl_parse.specs.CondSpelling.{token_of}
-use Rattle.dasdl_parse.proofs.Inverting.{bind_ok, guard_ok, ok_same}
+use Rattle.dasdl_parse.proofs.Inverting.{bind_ok, ok_same}
 
 -- these tokens more are read, and it holds of all
 pub record Goes {S : Type 0} (holds : S → List Token → Type 0) (t : S) (toks : List Token) (ts rest : List Lexeme) : Type 0 where

@@ -2,7 +2,7 @@
 use Rattle.std.specs.Prelude.{◌≡◌, ℕ, zero, suc, List, [], ◌∷◌, Bool, true, false, Some, None}
 use Rattle.std.specs.declared.option.Option.{Option}
 use Rattle.dasdl_parse.specs.TreeCodes.{Tree}
-use Rattle.dasdl_parse.specs.TreeCodes.Tree.{Test, Both, Either, Turned}
+use Rattle.dasdl_parse.specs.TreeCodes.Tree.{Both, Either, Turned}
 
 -- behind so many NOTs
 abbrev pub negated : ℕ → Tree → Tree

@@ -1,5 +1,5 @@
 -- What the tokens behind the name of an item or a link are.
-use Rattle.std.specs.Prelude.{ℕ, List, [], ◌∷◌, ◌++◌, Bool, true, false, codes, IsTrue}
+use Rattle.std.specs.Prelude.{ℕ, List, [], ◌∷◌, ◌++◌, true, false, codes, IsTrue}
 use Rattle.dms_base.specs.Name.{is_name}
 use Rattle.dasdl_parse.specs.declared.token.Token.{Token}
 use Rattle.dasdl_parse.specs.declared.token.Token.TheVariants.{Word, Sign}

@@ -38,27 +38,23 @@ pub fn item_options_law()
 pub fn key_law()
     ensures sound { (ts rest : List Lexeme) (parts : List PartDecl) → parts_at ts ≡ Ok (parts, rest) → Reads IsKey ts parts rest × (length parts ≤ 16) }
     ensures complete { (us rest : List Lexeme) (parts : List PartDecl) → IsKey parts (map token_of us) → length parts ≤ 16 → starts (is_word (codes "ASCENDING")) rest ≡ false → starts (is_word (codes "DESCENDING")) rest ≡ false → parts_at (us ++ rest) ≡ Ok (parts, rest) }
-{
-}
+{}
 
 /// An item's type is read exactly where it is one, with its numbers in their ranges.
 pub fn kind_law()
     ensures sound { (ts rest : List Lexeme) (kind : ItemKind) → kind_at ts ≡ Ok (kind, rest) → Reads IsKind ts kind rest }
     ensures complete { (us rest : List Lexeme) (kind : ItemKind) → IsKind kind (map token_of us) → kind_at (us ++ rest) ≡ Ok (kind, rest) }
-{
-}
+{}
 
 /// What stands behind an item's name is read exactly where it is a type, options and a semicolon.
 pub fn item_law()
     ensures sound { (place : ℕ) (name : List ℕ) (ts rest : List Lexeme) (item : ItemDecl) → item_at place name ts ≡ Ok (item, rest) → Reads (IsItem place name) ts item rest }
     ensures complete { (place : ℕ) (name : List ℕ) (us rest : List Lexeme) (item : ItemDecl) → IsItem place name item (map token_of us) → item_at place name (us ++ rest) ≡ Ok (item, rest) }
-{
-}
+{}
 
 /// What stands behind a link's name is read exactly where it is LINK TO, a name, and COUNTED or not, which at most
 /// 4,000 links of a schema are.
 pub fn link_law()
     ensures sound { (counted place : ℕ) (name : List ℕ) (ts rest : List Lexeme) (link : LinkDecl) → link_at counted place name ts ≡ Ok (link, rest) → Reads (IsLink place name) ts link rest × (link.counted ≡ true → counted < 4000) }
     ensures complete { (counted place : ℕ) (name : List ℕ) (us rest : List Lexeme) (link : LinkDecl) → IsLink place name link (map token_of us) → (link.counted ≡ true → counted < 4000) → link_at counted place name (us ++ rest) ≡ Ok (link, rest) }
-{
-}
+{}

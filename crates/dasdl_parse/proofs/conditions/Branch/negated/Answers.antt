@@ -1,4 +1,4 @@
-use Rattle.std.proofs.Common.{◌≡◌, ◌+◌, sym, ◌∙◌, ap}
+use Rattle.std.proofs.Common.{sym, ◌∙◌, ap}
 use Rattle.dasdl_parse.specs.TreeCodes.{Tree}
 use Rattle.dasdl_parse.specs.TreeCodes.Tree.{Turned}
 use Rattle.dasdl_parse.proofs.Nots.{negated-one}
