@@ -1,5 +1,3 @@
-ghost use Rattle.std.specs.Prelude.{◌≡◌};
-ghost use Rattle.dms_sitemem.specs.Picks.{fill_of};
 
 /// What a stop leaves where something was written since the last sync.
 #[derive(Clone, Copy, Drop)]
