@@ -3,6 +3,7 @@ use Rattle.std.proofs.Common.{ℕ, ◌+◌, ◌≤◌, ◌≡◌, ◌⊎◌, inl
 use Rattle.std.specs.declared.alloc.Global.{Global}
 use Rattle.std.proofs.lemmas.List.{take_all, append-nil}
 use Rattle.std.proofs.lemmas.Bool.{false≢true}
+use Rattle.std.proofs.lemmas.Bool.Decides.{nat_tests}
 use Rattle.dms_block.specs.Moments.{Steps}
 use Rattle.dms_site.specs.Files.{Files, Left, with_file, overlaid, InFile, Torn, Cut, OnDisk, Prints, Only}
 use Rattle.dms_site.specs.Laws.{torn_overlaid, torn_refl, in_file_with, in_file_same}
@@ -107,3 +108,10 @@ say_steps events all v ok bytes is more = subst (λ (l : List ℕ). Steps (Print
 pub sync_only : (events all : List Event) (ok : Bool) (old : Files) → More events (Synced ok) all → old ≡ (state_of events).files → IsTrue ok → Only old (clock_of all)
 sync_only events all true old more was yes' x now = subst (λ (l : List Event). Only (state_of events).files (clock_of l)) (sym more) (synced_only events) x now ∙ sym was
 sync_only events all false old more was yes' x now = absurd (false≢true yes')
+
+pub same_file : (files : Files) (f : ℕ) → files ≡ with_file files f (files f)
+unfolding with_file
+same_file files f = λ i g. one g i
+  where
+    one : (g : ℕ) → files g ≡ (if g == f then files f else files g)
+    one g = grind (arith, nat_tests)

@@ -1,3 +1,4 @@
-pub mod Ending
+pub mod Crashes
+pub mod Draws
 pub mod Kept
 pub mod Laid

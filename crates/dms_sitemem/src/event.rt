@@ -1,5 +1,5 @@
 ghost use Rattle.std.specs.Prelude.{◌≡◌, if◌then◌else◌};
-ghost use Rattle.dms_sitemem.specs.Events.{is_call};
+ghost use Rattle.dms_sitemem.specs.Events.{is_call, is_sync};
 
 /// What was done to a site. A flag says whether the call succeeded.
 #[derive(Drop)]
@@ -28,6 +28,16 @@ impl Event {
         match self {
             Event::Replaced(_, _) | Event::Recalled(_) => 0,
             _ => 1,
+        }
+    }
+
+    /// Whether it is a sync that succeeded.
+    pub fn is_sync(&self) -> bool
+        ensures { result ≡ is_sync self.now }
+    {
+        match self {
+            Event::Synced(done) => *done,
+            _ => false,
         }
     }
 }

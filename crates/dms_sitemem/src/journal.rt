@@ -29,6 +29,9 @@ impl Journal {
     pub fn new(alloc: Global, plan: Plan) -> Journal
         ensures plan { result.plan ≡ plan }
         ensures events { result.events.items ≡ [] }
+        ensures files { (f : ℕ) → files_of result.image.files f ≡ [] }
+        ensures said { result.image.said.items ≡ [] }
+        ensures made { result.made ≡ 0 }
     {
         Journal {
             plan,

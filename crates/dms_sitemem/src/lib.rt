@@ -2,9 +2,15 @@
 #![tactic(auto)]
 
 mod calls;
+mod crash;
 mod event;
 mod image;
 mod journal;
+mod mem_site;
+mod mem_source;
 mod pick;
 mod plan;
 mod tally;
+
+pub use mem_site::MemSite;
+pub use mem_source::MemSource;
