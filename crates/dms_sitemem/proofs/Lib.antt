@@ -2,3 +2,4 @@ pub mod Crashes
 pub mod Draws
 pub mod Kept
 pub mod Laid
+pub mod Placed

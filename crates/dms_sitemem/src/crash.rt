@@ -1,4 +1,6 @@
-ghost use Rattle.std.specs.Prelude.{◌≡◌, ◌+◌, ◌<◌, ◌≤◌, ℕ, [], length, take, OnOk, IfOk, false, None, Some, slice_get};
+ghost use Rattle.std.specs.Prelude.{◌≡◌, ◌+◌, ◌<◌, ◌≤◌, ℕ, [], length, take, OnOk, IfOk, IfSome, IfNone, if◌then◌else◌, ◌==◌, false, None, Some, slice_get};
+ghost use Rattle.std.specs.Ordering.{nat_cmp};
+ghost use Rattle.std.specs.BTreeMap.{get, btree_map_len};
 ghost use Rattle.dms_site.specs.Files.{with_file};
 ghost use Rattle.dms_sitemem.specs.Slots.{files_of};
 ghost use Rattle.dms_sitemem.specs.Events.{said_after, is_sync, through};
@@ -137,6 +139,16 @@ pub fn strike_all(
     Ok(())
 }
 
+/// Takes a file out.
+fn take_first(files: &mut BTreeMap<u32, Vec<u8>>) -> Option<(u32, Vec<u8>)>
+    ensures found { IfSome result (λ p. get nat_cmp files.old p.0 ≡ Some p.1) }
+    ensures gone { IfSome result (λ p. (g : ℕ) → get nat_cmp files.new g ≡ (if g == p.0 then None else get nat_cmp files.old g)) }
+    ensures fewer { IfSome result (λ p. btree_map_len files.new < btree_map_len files.old) }
+    ensures none { IfNone result ((g : ℕ) → get nat_cmp files.new g ≡ None) }
+{
+    files.pop_first()
+}
+
 /// Puts all these files into a journal that has none.
 fn place_all(
     journal: &mut Journal,
@@ -149,7 +161,7 @@ fn place_all(
     ensures plan { journal.new.plan ≡ journal.old.plan }
 {
     let mut left = files;
-    while let Some((file, bytes)) = left.pop_first() {
+    while let Some((file, bytes)) = take_first(&mut left) {
         journal.replace(file, &bytes)?;
     }
     Ok(())

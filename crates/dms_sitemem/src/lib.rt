@@ -11,6 +11,8 @@ mod mem_source;
 mod pick;
 mod plan;
 mod tally;
+#[cfg(test)]
+mod tests;
 
 pub use mem_site::MemSite;
 pub use mem_source::MemSource;

@@ -14,7 +14,7 @@ use crate::plan::Plan;
 use crate::tally::Tally;
 use dms_base::Memory;
 use dms_site::{Failed, Site};
-use std::alloc::Global;
+use std::alloc::{AllocError, Global};
 
 /// A site in memory that keeps all its calls. It tells its files, its text and what a stop may leave.
 ///
@@ -108,16 +108,28 @@ impl MemSite {
         ensures refused { IfOk result (λ s. s.tally.refused ≡ 0) }
         ensures given { IfOk result (λ s. s.tally.given ≡ 0) }
     {
-        let upto = end_of(&self.journal.events, call);
-        let events = &self.journal.events[..upto];
-        let synced = last_sync(events);
-        let mut image = replay(alloc, &events[..synced])?;
-        strike_all(&mut image, events, synced, pick)?;
+        let journal = left_by(alloc, &self.journal, call, pick)?;
         Ok(MemSite {
-            journal: journal_of(alloc, image)?,
+            journal,
             tally: Tally::new(),
         })
     }
+}
+
+/// The files and the text that a stop within a call may leave.
+fn left_by(alloc: Global, journal: &Journal, call: u64, pick: u64) -> Result<Journal, AllocError>
+    ensures files { IfOk result (λ j. files_of j.image.files ≡ (picked_after pick (through call journal.now.events.items)).files) }
+    ensures said { IfOk result (λ j. j.image.said.items ≡ (state_of (through call journal.now.events.items)).said) }
+    ensures made { IfOk result (λ j. j.made ≡ 0) }
+    ensures fails { IfOk result (λ j. j.plan.fails.items ≡ []) }
+    ensures stop { IfOk result (λ j. j.plan.stop ≡ None) }
+{
+    let upto = end_of(&journal.events, call);
+    let events = &journal.events[..upto];
+    let synced = last_sync(events);
+    let mut image = replay(alloc, &events[..synced])?;
+    strike_all(&mut image, events, synced, pick)?;
+    journal_of(alloc, image)
 }
 
 impl Site for MemSite {

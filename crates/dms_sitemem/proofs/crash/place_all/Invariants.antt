@@ -1,17 +1,16 @@
-use Rattle.std.proofs.Common.{ℕ, ◌≡◌, ◌⊎◌, [], None}
-use Rattle.std.specs.Ordering.{nat_cmp}
-use Rattle.std.specs.BTreeMap.{get, btree_map_len}
+use Rattle.std.proofs.Common.{◌≡◌}
+use Rattle.std.specs.BTreeMap.{btree_map_len}
 use Rattle.dms_sitemem.specs.Slots.{files_of}
+use Rattle.dms_sitemem.proofs.Placed.{Placed}
 use Rattle.dms_sitemem.proofs.crash.place_all.Given as goal
 
-abbrev pub invariant-loop : goal.invariant-loop
-invariant-loop l = record {
-  each : (g : ℕ) → ((files_of l.journal.image.files g ≡ files_of l.fn.files g) × (get nat_cmp l.left g ≡ None))
-      ⊎ ((files_of l.journal.image.files g ≡ []) × (files_of l.left g ≡ files_of l.fn.files g));
+abbrev pub invariant-loop-file : goal.invariant-loop-file
+invariant-loop-file l = record {
+  placed : Placed (files_of l.fn.files) (files_of l.journal.image.files) l.left;
   said : l.journal.image.said.items ≡ l.fn.journal.image.said.items;
   made : l.journal.made ≡ l.fn.journal.made;
   plan : l.journal.plan ≡ l.fn.journal.plan;
 }
 
-abbrev pub decreases-loop : goal.decreases-loop
-decreases-loop l = btree_map_len l.left
+abbrev pub decreases-loop-file : goal.decreases-loop-file
+decreases-loop-file l = btree_map_len l.left
