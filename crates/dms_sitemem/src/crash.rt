@@ -144,7 +144,7 @@ fn take_first(files: &mut BTreeMap<u32, Vec<u8>>) -> Option<(u32, Vec<u8>)>
     ensures found { IfSome result (λ p. get nat_cmp files.old p.0 ≡ Some p.1) }
     ensures gone { IfSome result (λ p. (g : ℕ) → get nat_cmp files.new g ≡ (if g == p.0 then None else get nat_cmp files.old g)) }
     ensures fewer { IfSome result (λ p. btree_map_len files.new < btree_map_len files.old) }
-    ensures none { IfNone result ((g : ℕ) → get nat_cmp files.new g ≡ None) }
+    ensures none { IfNone result ((g : ℕ) → get nat_cmp files.old g ≡ None) }
 {
     files.pop_first()
 }
