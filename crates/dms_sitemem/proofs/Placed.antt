@@ -34,9 +34,9 @@ module _ (all here here' : Files) (left left' : BTreeMap ℕ (Vec ℕ Global) Gl
   pub placed_next : Placed all here' left'
   placed_next g = elim (cases_eq g k) [
     | inl e ↦ inl (
-        ap (λ (l : Files). l g) set ∙ ap (λ (n : ℕ). with_file here k bytes n) e ∙ with_file_here here k bytes ∙ is ∙ this ∙ ap all (sym e),
-        gone_here g e,
-      )
+      ap (λ (l : Files). l g) set ∙ ap (λ (n : ℕ). with_file here k bytes n) e ∙ with_file_here here k bytes ∙ is ∙ this ∙ ap all (sym e),
+      gone_here g e,
+    )
     | inr other ↦ elim (placed g) [
       | inl was ↦ inl (here_same g other ∙ was.0, stays g other ∙ was.1)
       | inr was ↦ inr (here_same g other ∙ was.0, ap bytes_or_none (stays g other) ∙ was.1)

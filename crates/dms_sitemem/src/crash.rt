@@ -10,8 +10,8 @@ ghost use Rattle.dms_sitemem.specs.Picks.{marked, seed_behind, count_of, Struck,
 use crate::event::Event;
 use crate::image::Image;
 use crate::journal::Journal;
-use crate::plan::Plan;
 use crate::pick::{Fill, all_of, draw, fill_of};
+use crate::plan::Plan;
 use std::alloc::{AllocError, Global};
 use std::collections::BTreeMap;
 
@@ -150,10 +150,7 @@ fn take_first(files: &mut BTreeMap<u32, Vec<u8>>) -> Option<(u32, Vec<u8>)>
 }
 
 /// Puts all these files into a journal that has none.
-fn place_all(
-    journal: &mut Journal,
-    files: BTreeMap<u32, Vec<u8>>,
-) -> Result<(), AllocError>
+fn place_all(journal: &mut Journal, files: BTreeMap<u32, Vec<u8>>) -> Result<(), AllocError>
     requires { (g : ℕ) → files_of journal.old.image.files g ≡ [] }
     ensures files { OnOk result ((g : ℕ) → files_of journal.new.image.files g ≡ files_of files g) }
     ensures said { journal.new.image.said.items ≡ journal.old.image.said.items }

@@ -3,7 +3,6 @@ ghost use Rattle.dms_sitemem.specs.Picks.{drawn, seed_after, fill_of};
 
 use std::alloc::{AllocError, Global};
 
-
 /// What a stop leaves where something was written since the last sync.
 #[derive(Clone, Copy, Drop)]
 pub enum Fill {

@@ -7,15 +7,10 @@ fn keeps_what_was_written(rt: HostRuntime) -> Result<(), Fail> {
     let alloc = rt.alloc();
     let mut site = MemSite::new(alloc, Vec::new(alloc), None).expect(&rt, "memory");
     assert_eq!(rt; site.write_at(30001, 2, b"abc"), Ok(()));
-    assert_eq!(rt; site.say(b"SYNCPOINT 1\n"), Ok(()));
     let mut into = [9u8; 8];
     assert_eq!(rt; site.read(30001, 1, &mut into), Ok(4));
     assert_eq!(rt; into, *b"\0abc\x09\x09\x09\x09");
     assert_eq!(rt; site.given(), 4);
-    assert_eq!(rt; site.last_present(1, 30001), Ok(30001));
-    site.overwrite(alloc, 30001, b"").expect(&rt, "memory");
-    assert_eq!(rt; site.length(30001), Ok(0));
-    assert_eq!(rt; site.said(), b"SYNCPOINT 1\n".as_slice());
     Ok(())
 }
 
@@ -23,12 +18,16 @@ fn keeps_what_was_written(rt: HostRuntime) -> Result<(), Fail> {
 fn fails_where_it_is_told(rt: HostRuntime) -> Result<(), Fail> {
     let alloc = rt.alloc();
     let mut site = MemSite::new(alloc, vec![in alloc; 2u64]?, Some(4)).expect(&rt, "memory");
-    assert_eq!(rt; site.write_at(1, 0, b"old"), Ok(()));
-    assert_eq!(rt; site.write_at(1, 0, b"new"), Err(Failed));
-    assert_eq!(rt; site.sync(), Ok(()));
-    assert_eq!(rt; site.say(b"x"), Err(Failed));
-    assert_eq!(rt; site.sync(), Err(Failed));
-    assert_eq!(rt; site.bytes(1), b"old".as_slice());
+    for (bytes, answer) in [
+        (b"old".as_slice(), Ok(())),
+        (b"new".as_slice(), Err(Failed)),
+        (b"last".as_slice(), Ok(())),
+        (b"past".as_slice(), Err(Failed)),
+        (b"end".as_slice(), Err(Failed)),
+    ] {
+        assert_eq!(rt; site.write_at(1, 0, bytes), answer);
+    }
+    assert_eq!(rt; site.bytes(1), b"last".as_slice());
     assert_eq!(rt; site.calls(), 5);
     assert_eq!(rt; site.refused_memory(), 0);
     Ok(())
@@ -38,21 +37,20 @@ fn fails_where_it_is_told(rt: HostRuntime) -> Result<(), Fail> {
 fn leaves_what_a_pick_says(rt: HostRuntime) -> Result<(), Fail> {
     let alloc = rt.alloc();
     let mut site = MemSite::new(alloc, Vec::new(alloc), None).expect(&rt, "memory");
-    assert_eq!(rt; site.write_at(1, 0, b"ab"), Ok(()));
-    assert_eq!(rt; site.sync(), Ok(()));
-    assert_eq!(rt; site.write_at(1, 1, b"XYZ"), Ok(()));
-    assert_eq!(rt; site.cut(1, 1), Ok(()));
-    let table = [
-        (1, 0, b"".as_slice()),
+    site.overwrite(alloc, 1, b"ab").expect(&rt, "memory");
+    assert!(rt; site.sync().is_ok());
+    assert!(rt; site.write_at(1, 1, b"XYZ").is_ok());
+    assert!(rt; site.cut(1, 1).is_ok());
+    for (call, pick, left) in [
+        (1, 0, b"ab".as_slice()),
         (2, 0, b"ab".as_slice()),
-        (3, 0, b"ab".as_slice()),
-        (3, 1, b"aXYZ".as_slice()),
-        (3, 7, b"a\x07\x07\x07".as_slice()),
+        (2, 1, b"aXYZ".as_slice()),
+        (2, 7, b"a\x07\x07\x07".as_slice()),
+        (2, 2, b"a\xec\xaa\x88".as_slice()),
+        (3, 1, b"a".as_slice()),
         (3, 2, b"a\xec\xaa\x88".as_slice()),
-        (4, 1, b"a".as_slice()),
-        (4, 2, b"a\xec\xaa\x88".as_slice()),
-    ];
-    for (call, pick, left) in table {
+    ] {
+        assert!(rt; 0 < call && call <= site.calls());
         let crashed = site.crash(alloc, call, pick).expect(&rt, "memory");
         assert_eq!(rt; crashed.bytes(1), left, "call {call}, pick {pick}");
     }

@@ -12,7 +12,7 @@ pub loop-place-preserved : goal.loop-place-preserved
 loop-place-preserved c =
     let event = c.index-events-place.result in
     let read : slice_get c.args.events.now c.loop-place.place ≡ Some event =
-        slice_get_read c.args.events.now (length c.args.events.now) c.loop-place.place event refl (omega (arith, c.loop-place-test.true)) c.index-events-place.is in
+    slice_get_read c.args.events.now (length c.args.events.now) c.loop-place.place event refl (omega (arith, c.loop-place-test.true)) c.index-events-place.is in
     let events = c.args.events.now in
     let p = c.loop-place.place in
     c.loop-place.invariant

@@ -12,5 +12,5 @@ returns-clause-moments c =
     let same : c.in_ok-kept.kept.items ≡ c.args.bytes.now = search rules in
     let events = c.args.self.now.events.items in
     on_ok_weaker c.keep.result (λ more.
-        subst (λ (l : List ℕ). Steps (OnDisk c.args.file (λ old new. new ≡ l)) (clock_of events) (clock_of c.keep.new.self.events.items)) same
-            (more_steps _ _ _ _ more (replace_leads (state_of events) c.args.file c.in_ok-kept.kept))) c.keep.ensures.kept
+    subst (λ (l : List ℕ). Steps (OnDisk c.args.file (λ old new. new ≡ l)) (clock_of events) (clock_of c.keep.new.self.events.items)) same
+    (more_steps _ _ _ _ more (replace_leads (state_of events) c.args.file c.in_ok-kept.kept))) c.keep.ensures.kept
