@@ -21,6 +21,10 @@ pub const SCRIPT_LINES: u32 = 1_000_000;
 /// The bytes that a script may have.
 pub const SCRIPT_BYTES: u64 = 2_147_483_648;
 
+/// So many bytes of a line are kept: a line with more is bad whatever it holds, since more than 2,000 bytes stand before its
+/// end.
+const KEPT_BYTES: u64 = 2003;
+
 /// Why a run stops before its script's end.
 #[derive(Clone, Copy, Debug, PartialEq, Eq)]
 pub enum RunFault {
@@ -120,7 +124,7 @@ fn one_line<St: Store, I: Source>(
     ensures full { (f : ℕ) → IsErrOf result (RunFault.Block (BlockFault.Full f)) → Rose (St.fulls engine.old.store) (St.fulls engine.new.store) }
     ensures damaged { (f b : ℕ) → IsErrOf result (RunFault.Block (BlockFault.Damaged f b)) → Rose (St.damages engine.old.store) (St.damages engine.new.store) }
 {
-    match next_raw(alloc, feed, source, *room) {
+    match next_raw(alloc, feed, source, KEPT_BYTES, *room) {
         Err(RawFault::Input) => Err(RunFault::Input),
         Err(RawFault::Memory) => Err(RunFault::Memory),
         Err(RawFault::Bytes) => Err(RunFault::Bytes),
@@ -144,7 +148,7 @@ fn after_last<I: Source>(alloc: Global, feed: &mut Feed, source: &mut I) -> Resu
     ensures input { IsErrOf result RunFault.Input → Rose (I.faults source.old) (I.faults source.new) }
     ensures block { (e : Fault) → IsErrOf result (RunFault.Block e) → ⊥ }
 {
-    match next_raw(alloc, feed, source, 0) {
+    match next_raw(alloc, feed, source, KEPT_BYTES, 0) {
         Err(RawFault::Input) => return Err(RunFault::Input),
         Err(RawFault::Memory) => return Err(RunFault::Memory),
         Err(RawFault::Bytes) => return Err(RunFault::Lines),
