@@ -84,3 +84,16 @@ then_settles {sure = sure} {sure' = sure'} {next = next} {next' = next'} {points
 
 pub then_made : {answer : Answer} {sure sure' sure'' : ℕ} {points points' points'' : List Point} (quiets : List Quiet) → Stays points sure points' sure' → Made answer sure' points' quiets sure'' points'' → Made answer sure points quiets sure'' points''
 then_made quiets stayed made = record { grew = record { more = made.grew.more; is = made.grew.is ∙ ap (λ (ps : List Point). ps ++ made.grew.more) stayed.0; spells = made.grew.spells }; later = omega (arith, stayed.1, made.later); synced = made.synced }
+
+-- what is told of an outcome is told of an equal one
+pub is_from : {o o' : Outcome} {answer : Answer} {v : View} → o ≡ o' → Is o' answer v → Is o answer v
+is_from {answer = answer} {v = v} same is = subst (λ (x : Outcome). Is x answer v) (sym same) is
+
+pub made_from : {answer : Answer} {sure sure' : ℕ} {points points' : List Point} {qs qs' : List Quiet} → qs ≡ qs' → Made answer sure points qs' sure' points' → Made answer sure points qs sure' points'
+made_from {answer} {sure} {sure'} {points} {points'} same made = subst (λ (x : List Quiet). Made answer sure points x sure' points') (sym same) made
+
+pub runs_from : {a b : Clock Stop} {sure next : ℕ} {points : List Point} {said : Option (List ℕ)} {qs qs' : List Quiet} → qs ≡ qs' → Runs a b (λ stop. Left sure points next qs' stop × TextIs said stop) → Runs a b (λ stop. Left sure points next qs stop × TextIs said stop)
+runs_from {sure = sure} {next = next} {points = points} same run = runs_weaken run (λ x p. (subst (λ (qs : List Quiet). Left sure points next qs x) (sym same) p.0, p.1))
+
+pub none_made : {answer : Answer} {sure sure' : ℕ} {points points' : List Point} {qs : List Quiet} → qs ≡ [] → answer.sync ≡ None → Stays points sure points' sure' → Made answer sure points qs sure' points'
+none_made {answer = answer} same none stays = made_from same (no_more answer none stays)

@@ -1,8 +1,11 @@
 pub mod Calls
 pub mod Closed
+pub mod Ends
 pub mod FoundAt
 pub mod Keepings
 pub mod KeyValues
-pub mod Stored
-pub mod Works
+pub mod Places
 pub mod Quiet
+pub mod Stored
+pub mod Unfolds
+pub mod Works

@@ -4,12 +4,13 @@ use Rattle.std.specs.Prelude.{slice_get, slice_set, is_some}
 use Rattle.std.specs.declared.option.Option.{Option}
 use Rattle.dms_desc.specs.Shape.{Described}
 use Rattle.dms_base.specs.declared.category.Category.{Category}
-use Rattle.dms_base.specs.declared.category.Category.TheVariants.{LimitError, NoRecord, AuditError, Duplicates, DataError, NotLocked}
+use Rattle.dms_base.specs.declared.category.Category.TheVariants.{LimitError, NoRecord, AuditError, Duplicates, DataError, NotLocked, Abort as AbortDue}
 use Rattle.dms_model.specs.declared.program.Program.{Program}
 use Rattle.dms_model.specs.declared.program.Area.{Area}
 use Rattle.dms_model.specs.declared.program.Mode.{Mode}
 use Rattle.dms_model.specs.declared.verb.Verb.{Verb}
 use Rattle.dms_model.specs.declared.verb.Verb.TheVariants.{OpenUpdate, OpenInquiry, Close, Find, Create, Put as PutItems, Get, Store, Begin, End, Abort}
+use Rattle.dms_model.specs.declared.reply.Reply.TheVariants.{Exception}
 use Rattle.dms_model.specs.declared.put.Put.{Put}
 use Rattle.dms_model.specs.declared.put.Put.TheVariants.{Stored, Duplicate, Full}
 use Rattle.dms_model.specs.declared.spot.Spot.{Spot}
@@ -169,21 +170,21 @@ module _ (s : Session) (i : ℕ) (p : Program) (at : slice_get s.programs i ≡ 
 
 settle_at : (verb : Verb) (s t : Session) (w b : Bool) → is_back_out verb ≡ false → someone_works s.programs ≡ true → t.next ≡ s.next → t.mark ≡ s.mark → (s.pending ≡ true → t.pending ≡ true) → someone_works t.programs ≡ w → t.pending ≡ b → Makes (falls_quiet verb s (settle t).session) s (settle t)
 unfolding settle
-settle_at verb s t true b no works number mark pending e f = rw e (by_steady verb s (done t) (steady_shows s t [] number mark (λ h. e)))
-settle_at verb s t false true no works number mark pending e f =
-    rw (e, f, no, works, idle_works t.programs, e) (record { quiets = ap (λ (n : ℕ). (n, t.db) ∷ []) number; next = ap (λ (n : ℕ). n + 1) number; mark = refl; idle = idle_twice t.programs; taken = refl; synced = λ h. ap (λ (n : ℕ). Some n) number })
-settle_at verb s t false false no works number mark pending e f =
-    rw (e, f, no, works, idle_works t.programs, e) (record { quiets = ap (λ (n : ℕ). (n, t.db) ∷ []) number; next = ap (λ (n : ℕ). n + 1) number; mark = refl; idle = idle_twice t.programs; taken = refl; synced = λ h. absurd (let p = pending h in cc) })
+settle_at verb s t true b other works number mark pending e f = rw e (by_steady verb s (done t) (steady_shows s t [] number mark (λ h. e)))
+settle_at verb s t false true other works number mark pending e f =
+    rw (e, f, other, works, idle_works t.programs, e) (record { quiets = ap (λ (n : ℕ). (n, t.db) ∷ []) number; next = ap (λ (n : ℕ). n + 1) number; mark = refl; idle = idle_twice t.programs; taken = refl; synced = λ h. ap (λ (n : ℕ). Some n) number })
+settle_at verb s t false false other works number mark pending e f =
+    rw (e, f, other, works, idle_works t.programs, e) (record { quiets = ap (λ (n : ℕ). (n, t.db) ∷ []) number; next = ap (λ (n : ℕ). n + 1) number; mark = refl; idle = idle_twice t.programs; taken = refl; synced = λ h. absurd (let p = pending h in cc) })
 
 or_pending : (a b c : Bool) → a ≡ true → (a || b || c) ≡ true
 or_pending true b c h = refl
 or_pending false b c h = absurd (cc)
 
 end_rule : (desc : Described) (s : Session) (i : ℕ) (p : Program) (verb : Verb) (k : Kept) (sync : Bool) → is_back_out verb ≡ false → someone_works s.programs ≡ true → Makes (falls_quiet verb s (after_end k desc i s sync).session) s (after_end k desc i s sync)
-end_rule desc s i p verb (Refused c n) sync no works = by_steady verb s (refuse s c n) (steady_refuse s c n)
-end_rule desc s i p verb (Keeps q db) sync no works =
+end_rule desc s i p verb (Refused c n) sync other works = by_steady verb s (refuse s c n) (steady_refuse s c n)
+end_rule desc s i p verb (Keeps q db) sync other works =
     let t : Session = record s { db = db; programs = slice_set s.programs i (left q); pending = s.pending || sync || nat_le desc.syncpoint (one_more s.since); since = one_more s.since } in
-    settle_at verb s t (someone_works t.programs) t.pending no works refl refl (or_pending s.pending sync (nat_le desc.syncpoint (one_more s.since))) refl refl
+    settle_at verb s t (someone_works t.programs) t.pending other works refl refl (or_pending s.pending sync (nat_le desc.syncpoint (one_more s.since))) refl refl
 
 end_at : (desc : Described) (s : Session) (i : ℕ) (p : Program) (at : slice_get s.programs i ≡ Some p) (b audit sync : Bool) → p.in_transaction ≡ b → Makes (falls_quiet (End audit sync) s (cond b (after_end (cond audit (keep desc p s.db (restart_of desc)) (Keeps p s.db)) desc i s sync) (refuse s AuditError p.name)).session) s (cond b (after_end (cond audit (keep desc p s.db (restart_of desc)) (Keeps p s.db)) desc i s sync) (refuse s AuditError p.name))
 end_at desc s i p at true audit sync is = end_rule desc s i p (End audit sync) (cond audit (keep desc p s.db (restart_of desc)) (Keeps p s.db)) sync refl (works_at s.programs i p at is)
@@ -226,11 +227,14 @@ open_steady desc s name (Begin audit) = steady_refuse s _ _
 open_steady desc s name (End audit sync) = steady_refuse s _ _
 open_steady desc s name Abort = steady_refuse s _ _
 
+abbrev due_outcome : Session → ℕ → Program → List ℕ → Outcome
+due_outcome s i p name = record { session = with_program s i (record p { owes_abort = false }); reply = Exception AbortDue name; sync = None; quiets = [] }
+
 step_at_rule : (desc : Described) (o : Option Program) (i : ℕ) (s : Session) (name : List ℕ) (v : Verb) → slice_get s.programs i ≡ o → Makes (falls_quiet v s (step_at desc o i s name v).session) s (step_at desc o i s name v)
 step_at_rule desc None i s name v at = by_steady v s _ (open_steady desc s name v)
 step_at_rule desc (Some p) i s name v at =
     makes_if v s (opens v) _ _ (by_steady v s _ (steady_refuse s _ _))
-    (makes_if v s p.owes_abort _ _ (by_steady v s _ (record { none = record { quiets = refl; next = refl; mark = refl; unsynced = refl }; works = λ w. set_works s.programs i p (record p { owes_abort = false }) at refl ∙ w }))
+    (makes_if v s p.owes_abort (due_outcome s i p name) _ (by_steady v s (due_outcome s i p name) (record { none = record { quiets = refl; next = refl; mark = refl; unsynced = refl }; works = λ w. set_works s.programs i p (record p { owes_abort = false }) at refl ∙ w }))
     (makes_if v s (is_inquiry p.mode && changes v) _ _ (by_steady v s _ (steady_refuse s _ _)) (verb_rule desc i p s v at)))
 
 pub quiet_rule : QuietRule

@@ -1,5 +1,5 @@
 -- What storing a program's area leaves of an engine.
-use Rattle.std.specs.Prelude.{◌≡◌, ℕ, Bool, Some, None, if◌then◌else◌, slice_set}
+use Rattle.std.specs.Prelude.{◌≡◌, ℕ, List, [], Bool, Some, None, if◌then◌else◌, slice_set}
 use Rattle.std.specs.declared.option.Option.{Option}
 use Rattle.dms_desc.specs.Shape.{Described}
 use Rattle.dms_model.specs.declared.program.Program.{Program}
@@ -16,3 +16,8 @@ KeptIs (Keeps p db) i s answer new = (answer ≡ None) × Stands new (record s {
 -- with AUDIT the area of the restart data set is stored
 abbrev pub kept_if : Bool → Described → Program → Db → Kept
 kept_if audit desc p db = if audit then keep desc p db (restart_of desc) else Keeps p db
+
+-- these programs are waited for, or nobody is
+abbrev pub Awaits : Option (List (List ℕ)) → List (List ℕ) → Type 0
+Awaits None who = who ≡ []
+Awaits (Some names) who = (names ≡ who) × (who ≡ [] → ⊥)

@@ -11,7 +11,7 @@ use crate::refusal::{done, refused};
 use crate::schema::{items_of, name_of};
 use dms_base::{Category, Memory, Name};
 use dms_desc::Description;
-use dms_model::{Answer, Mode, Path, Program, Reply, Setting, Verb};
+use dms_model::{Answer, ItemNumbers, Mode, Path, Program, Reply, Settings, Verb};
 use std::alloc::Global;
 
 /// The structure that a path names.
@@ -97,9 +97,10 @@ fn is_inquiry(mode: Mode) -> bool
 /// Answers a verb of an open program before it is carried out: it is open already; an ABORT is due, which
 /// this clears; it may only inquire.
 #[tactic(auto, using(std::proofs::lemmas::Option::gets))]
-pub fn admit(programs: &mut [Program], i: usize, name: &Name, verb: &Verb) -> Option<Answer>
-    requires { i < length programs.old }
-    ensures { (desc : Described) (p : Program) → slice_get programs.old i ≡ Some p → Admits result desc p i name.now verb.now programs.old programs.new }
+pub fn admit(programs: &mut Vec<Program>, i: usize, name: &Name, verb: &Verb) -> Option<Answer>
+    requires { i < length programs.old.items }
+    ensures count { length programs.new.items ≡ length programs.old.items }
+    ensures admits { (desc : Described) (p : Program) → slice_get programs.old.items i ≡ Some p → Admits result desc p i name.now verb.now programs.old.items programs.new.items }
 {
     if opens(verb) {
         return Some(refused(Category::OpenError, *name));
@@ -132,12 +133,12 @@ pub fn close(alloc: Global, programs: &mut Vec<Program>, i: usize) -> Result<Ans
 pub fn create(
     alloc: Global,
     desc: &Description,
-    programs: &mut [Program],
+    programs: &mut Vec<Program>,
     i: usize,
     set: u16,
 ) -> Result<Answer, Memory>
-    requires { i < length programs.old }
-    ensures { (p : Program) → slice_get programs.old i ≡ Some p → Apart (λ s. create_step (described desc.now) i p s set) programs.old result programs.new }
+    requires { i < length programs.old.items }
+    ensures { (p : Program) → slice_get programs.old.items i ≡ Some p → Apart (λ s. create_step (described desc.now) i p s set) programs.old.items result programs.new.items }
 {
     let values = initial_values(alloc, items_of(desc, set))?;
     areas::create(&mut programs[i], set, values);
@@ -149,19 +150,19 @@ pub fn create(
 pub fn put(
     alloc: Global,
     desc: &Description,
-    programs: &mut [Program],
+    programs: &mut Vec<Program>,
     i: usize,
     set: u16,
-    settings: &[Setting],
+    settings: &Settings,
 ) -> Result<Answer, Memory>
-    requires { i < length programs.old }
-    ensures { (p : Program) → slice_get programs.old i ≡ Some p → Apart (λ s. put_step (described desc.now) i p s set settings.now) programs.old result programs.new }
+    requires { i < length programs.old.items }
+    ensures { (p : Program) → slice_get programs.old.items i ≡ Some p → Apart (λ s. put_step (described desc.now) i p s set settings.now) programs.old.items result programs.new.items }
 {
     let Some(area) = areas::area_at(&programs[i], set) else {
         return Ok(refused(Category::NoRecord, name_of(desc, set)));
     };
     let mut values = areas::copied(alloc, area)?;
-    if let Some(item) = fill(alloc, items_of(desc, set), settings, &mut values)? {
+    if let Some(item) = fill(alloc, items_of(desc, set), settings.as_slice(), &mut values)? {
         return Ok(refused(Category::DataError, item));
     }
     let new = with_values(area, values);
@@ -174,19 +175,19 @@ pub fn put(
 pub fn get(
     alloc: Global,
     desc: &Description,
-    programs: &mut [Program],
+    programs: &mut Vec<Program>,
     i: usize,
     set: u16,
-    numbers: &[u8],
+    numbers: &ItemNumbers,
 ) -> Result<Answer, Memory>
-    requires { i < length programs.old }
-    ensures { (p : Program) → slice_get programs.old i ≡ Some p → Apart (λ s. get_step (described desc.now) i p s set numbers.now) programs.old result programs.new }
+    requires { i < length programs.old.items }
+    ensures { (p : Program) → slice_get programs.old.items i ≡ Some p → Apart (λ s. get_step (described desc.now) i p s set numbers.now) programs.old.items result programs.new.items }
 {
     let Some(area) = areas::area_at(&programs[i], set) else {
         return Ok(refused(Category::NoRecord, name_of(desc, set)));
     };
     let values = areas::area_values(area);
-    let text = get_text(alloc, items_of(desc, set), values, numbers)?;
+    let text = get_text(alloc, items_of(desc, set), values, numbers.as_slice())?;
     programs[i].active = true;
     Ok(Answer {
         reply: Reply::Done(text),

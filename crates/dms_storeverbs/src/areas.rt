@@ -1,4 +1,4 @@
-ghost use Rattle.std.specs.Prelude.{◌≡◌, ◌-◌, Some, None, OnOk, IfOk, slice_get, map, List};
+ghost use Rattle.std.specs.Prelude.{◌≡◌, ◌-◌, Some, None, OnOk, IfOk, slice_get, map, List, ◌&&◌, not, is_some};
 ghost use Rattle.std.specs.List.{list_any};
 ghost use Rattle.std.specs.Option.{option_copied};
 ghost use Rattle.dms_desc.specs.Conds.{is_null, or_null};
@@ -34,6 +34,13 @@ pub fn area_at(program: &Program, set: u16) -> Option<&Area>
         None => None,
         Some(work) => work.area.as_ref(),
     }
+}
+
+/// Whether a program that is to store a data set's area has none.
+pub fn lacks(program: &Program, set: u16, audit: bool) -> bool
+    ensures { result ≡ (audit && not (is_some (work_of program.now set).area)) }
+{
+    audit && area_at(program, set).is_none()
 }
 
 /// A program's current record of a data set.

@@ -1,6 +1,7 @@
-ghost use Rattle.std.specs.Prelude.{◌≡◌, ◌≤◌, ◌<◌, length, map, replicate, List, ℕ, IfOk, [], if◌then◌else◌};
+ghost use Rattle.std.specs.Prelude.{◌≡◌, ◌≤◌, ◌<◌, length, map, replicate, List, ℕ, IfOk, [], if◌then◌else◌, ◌||◌, nat_le};
 ghost use Rattle.dms_desc.specs.Shape.{described};
-ghost use Rattle.dms_model.specs.Session.{place_of, someone_works, workers, idle, backed_out, no_work, new_program};
+ghost use Rattle.dms_model.specs.Session.{place_of, someone_works, workers, idle, backed_out, no_work, new_program, one_more};
+ghost use Rattle.dms_storeverbs.specs.Keeping.{Awaits};
 
 use dms_base::{Memory, Name, Names};
 use dms_desc::Description;
@@ -40,15 +41,37 @@ pub fn workers(alloc: Global, programs: &[Program]) -> Result<Names, Memory>
     Ok(names)
 }
 
-/// For whom a BEGIN-TRANSACTION waits: nobody, but while a syncpoint is pending for the programs in
-/// transaction state.
-pub fn awaited(alloc: Global, pending: bool, programs: &[Program]) -> Result<Names, Memory>
-    ensures { IfOk result (λ names. names ≡ (if pending then workers programs.now else [])) }
+/// For whom a BEGIN-TRANSACTION waits: while a syncpoint is pending for the programs in transaction state,
+/// where there are any, and else for nobody.
+pub fn awaited(
+    alloc: Global,
+    pending: bool,
+    programs: &[Program],
+) -> Result<Option<Names>, Memory>
+    ensures { IfOk result (λ names. Awaits names (if pending then workers programs.now else [])) }
 {
-    if pending {
-        return workers(alloc, programs);
+    if !pending {
+        return Ok(None);
     }
-    Ok(Names::new(alloc))
+    let names = workers(alloc, programs)?;
+    if names.as_slice().is_empty() {
+        return Ok(None);
+    }
+    Ok(Some(names))
+}
+
+/// One more transaction. The count stands still at its type's end.
+pub fn one_more(n: u64) -> u64
+    ensures { result ≡ one_more n }
+{
+    n.saturating_add(1)
+}
+
+/// Whether a syncpoint is pending after so many transactions since the last one.
+pub fn is_due(pending: bool, sync: bool, syncpoint: u16, since: u64) -> bool
+    ensures { result ≡ (pending || sync || nat_le syncpoint since) }
+{
+    pending || sync || u64::from(syncpoint) <= since
 }
 
 /// No verb was carried out since the quiet point that was made now.

@@ -26,6 +26,7 @@ impl<St: Store> Engine<St> {
         requires sound { St.sound self.old.store }
         requires desc { St.desc self.old.store ≡ described self.old.desc }
         ensures kept { IfOk result (λ r. (p : Program) → slice_get self.old.programs.items i ≡ Some p → (s : Session) → Stands (view (St.db self.old.store) (St.mark self.old.store) (St.next self.old.store) self.old.programs.items self.old.pending self.old.since) s → KeptIs (keep (described self.old.desc) p s.db set) i s r (view (St.db self.new.store) (St.mark self.new.store) (St.next self.new.store) self.new.programs.items self.new.pending self.new.since)) }
+        ensures count { OnOk result (length self.new.programs.items ≡ length self.old.programs.items) }
         ensures points { OnOk result (IsTrue St.tells_moments → St.next self.old.store + 1 < 2 ^ 64 → Stays (St.points self.old.store) (St.sure self.old.store) (St.points self.new.store) (St.sure self.new.store)) }
         ensures moments { IsTrue St.tells_moments → St.next self.old.store + 1 < 2 ^ 64 → Leaves (St.clock self.old.store) (St.clock self.new.store) (St.sure self.old.store) (St.points self.old.store) (St.next self.old.store) (St.said self.old.store) }
         ensures sound { OnOk result (St.sound self.new.store) }
@@ -72,6 +73,7 @@ impl<St: Store> Engine<St> {
         requires sound { St.sound self.old.store }
         requires desc { St.desc self.old.store ≡ described self.old.desc }
         ensures kept { IfOk result (λ r. (p : Program) → slice_get self.old.programs.items i ≡ Some p → (s : Session) → Stands (view (St.db self.old.store) (St.mark self.old.store) (St.next self.old.store) self.old.programs.items self.old.pending self.old.since) s → KeptIs (kept_if audit (described self.old.desc) p s.db) i s r (view (St.db self.new.store) (St.mark self.new.store) (St.next self.new.store) self.new.programs.items self.new.pending self.new.since)) }
+        ensures count { OnOk result (length self.new.programs.items ≡ length self.old.programs.items) }
         ensures points { OnOk result (IsTrue St.tells_moments → St.next self.old.store + 1 < 2 ^ 64 → Stays (St.points self.old.store) (St.sure self.old.store) (St.points self.new.store) (St.sure self.new.store)) }
         ensures moments { IsTrue St.tells_moments → St.next self.old.store + 1 < 2 ^ 64 → Leaves (St.clock self.old.store) (St.clock self.new.store) (St.sure self.old.store) (St.points self.old.store) (St.next self.old.store) (St.said self.old.store) }
         ensures sound { OnOk result (St.sound self.new.store) }
@@ -132,7 +134,7 @@ impl<St: Store> Engine<St> {
     }
 
     /// STORE.
-    #[tactic(none)]
+    #[tactic(auto, using(std::proofs::lemmas::Option::gets), unfolding(dms_model::specs::Session::store_step))]
     pub(crate) fn store(&mut self, alloc: Global, i: usize, set: u16) -> Result<Answer, BlockFault>
         requires place { i < length self.old.programs.items }
         requires sound { St.sound self.old.store }
@@ -163,7 +165,7 @@ impl<St: Store> Engine<St> {
     }
 
     /// BEGIN-TRANSACTION.
-    #[tactic(none)]
+    #[tactic(auto, using(std::proofs::lemmas::Option::gets), unfolding(dms_model::specs::Session::begin_step))]
     pub(crate) fn begin(
         &mut self,
         alloc: Global,
@@ -192,11 +194,11 @@ impl<St: Store> Engine<St> {
             return Ok(refused(Category::AuditError, self.programs[i].name));
         }
         let restart = restart_of(&self.desc);
-        if audit && areas::area_at(&self.programs[i], restart).is_none() {
+        if areas::lacks(&self.programs[i], restart, audit) {
             return Ok(refused(Category::NoRecord, name_of(&self.desc, restart)));
         }
-        let names = programs::awaited(alloc, self.pending, self.programs.as_slice())?;
-        if !names.as_slice().is_empty() {
+        let awaited = programs::awaited(alloc, self.pending, self.programs.as_slice())?;
+        if let Some(names) = awaited {
             return Ok(Answer {
                 reply: Reply::Waits(names),
                 sync: None,
@@ -210,7 +212,7 @@ impl<St: Store> Engine<St> {
     }
 
     /// END-TRANSACTION.
-    #[tactic(none)]
+    #[tactic(auto, using(std::proofs::lemmas::Option::gets), unfolding(dms_model::specs::Session::end_step))]
     pub(crate) fn end_transaction(
         &mut self,
         alloc: Global,
@@ -243,8 +245,8 @@ impl<St: Store> Engine<St> {
             return Ok(refused(refusal.category, refusal.name));
         }
         areas::leave(&mut self.programs[i]);
-        self.since = self.since.saturating_add(1);
-        self.pending = self.pending || sync || u64::from(self.desc.syncpoint) <= self.since;
+        self.since = programs::one_more(self.since);
+        self.pending = programs::is_due(self.pending, sync, self.desc.syncpoint, self.since);
         self.settle(alloc)
     }
 

@@ -32,7 +32,7 @@ impl<St: Store> Engine<St> {
         requires desc { St.desc self.old.store ≡ described self.old.desc }
         ensures found { IfOk result (λ r. (d : Db) → St.db self.old.store ≡ Some d → r ≡ at_values (key_values (parts_of (structure_of (described self.old.desc) x)) (items_of (structure_of (described self.old.desc) (set_of (described self.old.desc) x))) literals.now) (described self.old.desc) d x) }
         ensures stands { OnOk result ((s : Session) → Stands (view (St.db self.old.store) (St.mark self.old.store) (St.next self.old.store) self.old.programs.items self.old.pending self.old.since) s → Stands (view (St.db self.new.store) (St.mark self.new.store) (St.next self.new.store) self.new.programs.items self.new.pending self.new.since) s) }
-        ensures programs { self.new.programs ≡ self.old.programs }
+        ensures programs { self.new.programs.items ≡ self.old.programs.items }
         ensures points { OnOk result (IsTrue St.tells_moments → St.next self.old.store + 1 < 2 ^ 64 → Stays (St.points self.old.store) (St.sure self.old.store) (St.points self.new.store) (St.sure self.new.store)) }
         ensures moments { IsTrue St.tells_moments → St.next self.old.store + 1 < 2 ^ 64 → Leaves (St.clock self.old.store) (St.clock self.new.store) (St.sure self.old.store) (St.points self.old.store) (St.next self.old.store) (St.said self.old.store) }
         ensures sound { OnOk result (St.sound self.new.store) }
@@ -63,7 +63,7 @@ impl<St: Store> Engine<St> {
         requires desc { St.desc self.old.store ≡ described self.old.desc }
         ensures found { IfOk result (λ r. (d : Db) → St.db self.old.store ≡ Some d → r ≡ found_by (described self.old.desc) d path.now) }
         ensures stands { OnOk result ((s : Session) → Stands (view (St.db self.old.store) (St.mark self.old.store) (St.next self.old.store) self.old.programs.items self.old.pending self.old.since) s → Stands (view (St.db self.new.store) (St.mark self.new.store) (St.next self.new.store) self.new.programs.items self.new.pending self.new.since) s) }
-        ensures programs { self.new.programs ≡ self.old.programs }
+        ensures programs { self.new.programs.items ≡ self.old.programs.items }
         ensures points { OnOk result (IsTrue St.tells_moments → St.next self.old.store + 1 < 2 ^ 64 → Stays (St.points self.old.store) (St.sure self.old.store) (St.points self.new.store) (St.sure self.new.store)) }
         ensures moments { IsTrue St.tells_moments → St.next self.old.store + 1 < 2 ^ 64 → Leaves (St.clock self.old.store) (St.clock self.new.store) (St.sure self.old.store) (St.points self.old.store) (St.next self.old.store) (St.said self.old.store) }
         ensures sound { OnOk result (St.sound self.new.store) }
@@ -86,7 +86,7 @@ impl<St: Store> Engine<St> {
     }
 
     /// FIND.
-    #[tactic(none)]
+    #[tactic(auto, using(std::proofs::lemmas::Option::gets), unfolding(dms_model::specs::Session::find_step))]
     fn find(&mut self, alloc: Global, i: usize, path: &Path) -> Result<Answer, BlockFault>
         requires place { i < length self.old.programs.items }
         requires sound { St.sound self.old.store }
@@ -107,16 +107,17 @@ impl<St: Store> Engine<St> {
         ensures damaged { (f b : ℕ) → IsErrOf result (BlockFault.Damaged f b) → Rose (St.damages self.old.store) (St.damages self.new.store) }
     {
         let x = apart::path_of(path);
-        let Some(spot) = self.found(alloc, path)? else {
-            return Ok(refused(Category::NotFound, name_of(&self.desc, x)));
-        };
+        let name = name_of(&self.desc, x);
         let set = set_of(&self.desc, x);
+        let Some(spot) = self.found(alloc, path)? else {
+            return Ok(refused(Category::NotFound, name));
+        };
         areas::find(&mut self.programs[i], set, spot);
         Ok(done(alloc))
     }
 
     /// The verb of an open program that owes no ABORT and may do it.
-    #[tactic(none)]
+    #[tactic(auto, using(std::proofs::lemmas::Option::gets), unfolding(dms_model::specs::Session::verb_step))]
     fn verb(&mut self, alloc: Global, i: usize, verb: &Verb) -> Result<Answer, BlockFault>
         requires place { i < length self.old.programs.items }
         requires sound { St.sound self.old.store }
@@ -155,7 +156,7 @@ impl<St: Store> Engine<St> {
                 &mut self.programs,
                 i,
                 *set,
-                settings.as_slice(),
+                settings,
             )?),
             Verb::Get(set, numbers) => Ok(apart::get(
                 alloc,
@@ -163,7 +164,7 @@ impl<St: Store> Engine<St> {
                 &mut self.programs,
                 i,
                 *set,
-                numbers.as_slice(),
+                numbers,
             )?),
             Verb::Store(set) => self.store(alloc, i, *set),
             Verb::Begin(audit) => self.begin(alloc, i, *audit),
@@ -173,7 +174,7 @@ impl<St: Store> Engine<St> {
     }
 
     /// One step of a program: what its verb answers and leaves.
-    #[tactic(none)]
+    #[tactic(auto, using(std::proofs::lemmas::Option::gets), unfolding(dms_model::specs::Session::step))]
     pub fn call(
         &mut self,
         alloc: Global,

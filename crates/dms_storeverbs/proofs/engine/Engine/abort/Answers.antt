@@ -18,4 +18,19 @@ pub returns-clause-step : goal.returns-clause-step
 unfolding abort_step
 returns-clause-step g c = λ p at s stands room.
     let works : p.in_transaction ≡ true = grind (arith, common_steps, gets) in
-    ?
+    let p_is : c.index.result.now ≡ p = grind (arith, common_steps, gets) in
+    let name_is = ap (λ (q : Program). q.name) p_is in
+    let items_is = c.as_mut_slice.ensures.value ∙ stands.programs in
+    let mapped : c.back_out-2.new.programs ≡ map (backed_out p.name) s.programs = c.back_out-2.ensures ∙ (λ j. map (backed_out (name_is j)) (items_is j)) in
+    rw works (record {
+      reply = c.done.ensures.reply;
+      sync = c.done.ensures.sync;
+      session = record {
+        db = c.in_ok-back_out.ensures.db ∙ stands.mark;
+        mark = c.in_ok-back_out.ensures.mark ∙ stands.mark;
+        next = c.back_out.ensures.next ∙ stands.next;
+        programs = with_items_is c.args.self.now.programs c.back_out-2.new.programs (ap length c.back_out-2.ensures ∙ length-map c.as_mut_slice.result.now (backed_out c.index.result.now.name) ∙ c.as_mut_slice.ensures.len) ∙ mapped;
+        pending = refl;
+        since = refl;
+      };
+    })

@@ -1,4 +1,16 @@
+use Rattle.std.proofs.Common.{◌≡◌, ◌∙◌, ℕ, ap, sym, List, Some}
+use Rattle.dms_desc.specs.Shape.{described}
+use Rattle.dms_model.specs.Members.{structure_of, items_of}
+use Rattle.dms_model.specs.Session.{key_values, parts_of, set_of}
+use Rattle.dms_storeverbs.proofs.FoundAt.{found_at_is}
 use Rattle.dms_storeverbs.proofs.engine.Engine.found_at.Goals as goal
 
 pub returns-clause-found : goal.returns-clause-found
-returns-clause-found g c = ?
+returns-clause-found g c = λ d told.
+    let desc = described c.args.self.now.desc in
+    let lits = c.args.literals.now in
+    let parts_is : c.parts_of.result.now ≡ parts_of (structure_of desc c.args.x) = c.parts_of.ensures in
+    let items_is : c.items_of-items.result.now ≡ items_of (structure_of desc (set_of desc c.args.x)) = c.items_of-items.ensures ∙ ap (λ (n : ℕ). items_of (structure_of desc n)) c.set_of.ensures in
+    let key_is : key_values (parts_of (structure_of desc c.args.x)) (items_of (structure_of desc (set_of desc c.args.x))) lits ≡ Some c.in-Some.values = (λ j. key_values (sym parts_is j) (sym items_is j) lits) ∙ sym c.in_ok-values.ensures ∙ c.in-Some.is in
+    found_at_is desc (g.St.Store.desc c.args.self.now.store) (g.St.Store.db c.args.self.now.store) d c.args.x c.as_slice.result.now c.in-Some.values _ c.in_ok-spot.spot c.agreeing.result c.parts_of-2.result.now
+    c.requires.desc told key_is (c.as_slice.ensures ∙ c.in_ok-key.ensures) c.parts_of-2.ensures c.in_ok-spot.ensures.found c.agreeing.ensures

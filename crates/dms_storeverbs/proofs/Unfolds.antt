@@ -1,0 +1,77 @@
+-- Steps, as the tests before their turn leave them.
+use Rattle.std.proofs.Common.{◌≡◌, ◌≤◌, ◌<◌, ℕ, zero, suc, List, [], ◌∷◌, Bool, true, false, cond, not, ◌&&◌, Some, None, refl, sym, ap, ◌∙◌, subst, length, arith}
+use Rattle.std.specs.Prelude.{slice_get, is_some}
+use Rattle.std.specs.declared.option.Option.{Option}
+use Rattle.std.proofs.lemmas.Option.{slice_get_past}
+use Rattle.dms_base.specs.declared.category.Category.TheVariants.{NoRecord, NotFound, AuditError}
+use Rattle.dms_desc.specs.Shape.{Described}
+use Rattle.dms_model.specs.declared.program.Program.{Program}
+use Rattle.dms_model.specs.declared.reply.Reply.TheVariants.{Waits}
+use Rattle.dms_model.specs.declared.spot.Spot.{Spot}
+use Rattle.dms_model.specs.declared.verb.Verb.{Verb}
+use Rattle.dms_model.specs.declared.verb.Path.{Path}
+use Rattle.dms_model.specs.Members.{structure_of, name_of}
+use Rattle.dms_model.specs.Session.{Session, Outcome, refuse, done, keep, store_step, after_store, begin_step, after_begin, begin_unless, awaited, end_step, after_end, find_step, after_find, found_by, found_program, with_program, carried, path_of, set_of, restart_of, work_of, step, step_at, open_step, place_of}
+use Rattle.dms_storeverbs.specs.Keeping.{kept_if}
+
+pub there_is : {A : Type 0} (xs : List A) (i : ℕ) → i < length xs → (x : A) × (slice_get xs i ≡ Some x)
+there_is [] i low = absurd (omega arith)
+there_is (x ∷ xs) zero low = (x, refl)
+there_is (x ∷ xs) (suc i) low = let less : i < length xs = omega arith in there_is xs i less
+
+pub store_goes : (desc : Described) (i : ℕ) (p : Program) (s : Session) (set : ℕ) → p.in_transaction ≡ true → store_step desc i p s set ≡ after_store (keep desc p s.db set) i s
+unfolding store_step
+store_goes desc i p s set works = rw works refl
+
+pub begin_lacks : (desc : Described) (i : ℕ) (p : Program) (s : Session) (audit : Bool) → p.in_transaction ≡ false → (audit && not (is_some (work_of p (restart_of desc)).area)) ≡ true → begin_step desc i p s audit ≡ refuse s NoRecord (name_of (structure_of desc (restart_of desc)))
+unfolding begin_step
+begin_lacks desc i p s audit idle lacks = rw (idle, lacks) refl
+
+begin_at : (who : List (List ℕ)) (desc : Described) (i : ℕ) (p : Program) (s : Session) (audit : Bool) → (who ≡ [] → ⊥) → begin_unless who desc i p s audit ≡ record { session = s; reply = Waits who; sync = None; quiets = [] }
+begin_at [] desc i p s audit some = absurd (some refl)
+begin_at (q ∷ qs) desc i p s audit some = refl
+
+end_if : (a : Bool) (x y : Outcome) → a ≡ false → cond a x y ≡ y
+end_if a x y p = rw p refl
+
+begin_if : (a b : Bool) (x y z : Outcome) → a ≡ false → b ≡ false → cond a x (cond b y z) ≡ z
+begin_if a b x y z p q = rw (p, q) refl
+
+-- nothing is refused before the turn of BEGIN's wait
+begin_turn : (desc : Described) (i : ℕ) (p : Program) (s : Session) (audit : Bool) → p.in_transaction ≡ false → (audit && not (is_some (work_of p (restart_of desc)).area)) ≡ false → begin_step desc i p s audit ≡ begin_unless (awaited s) desc i p s audit
+unfolding begin_step
+begin_turn desc i p s audit idle has = begin_if p.in_transaction (audit && not (is_some (work_of p (restart_of desc)).area)) (refuse s AuditError p.name) (refuse s NoRecord (name_of (structure_of desc (restart_of desc)))) (begin_unless (awaited s) desc i p s audit) idle has
+
+pub begin_waits : (desc : Described) (i : ℕ) (p : Program) (s : Session) (audit : Bool) → p.in_transaction ≡ false → (audit && not (is_some (work_of p (restart_of desc)).area)) ≡ false → (awaited s ≡ [] → ⊥) → begin_step desc i p s audit ≡ record { session = s; reply = Waits (awaited s); sync = None; quiets = [] }
+begin_waits desc i p s audit idle has some = begin_turn desc i p s audit idle has ∙ begin_at (awaited s) desc i p s audit some
+
+pub begin_goes : (desc : Described) (i : ℕ) (p : Program) (s : Session) (audit : Bool) → p.in_transaction ≡ false → (audit && not (is_some (work_of p (restart_of desc)).area)) ≡ false → awaited s ≡ [] → begin_step desc i p s audit ≡ after_begin (kept_if audit desc p s.db) i s
+begin_goes desc i p s audit idle has nobody = begin_turn desc i p s audit idle has ∙ ap (λ (who : List (List ℕ)). begin_unless who desc i p s audit) nobody
+
+pub end_step_goes : (desc : Described) (i : ℕ) (p : Program) (s : Session) (audit sync : Bool) → p.in_transaction ≡ true → end_step desc i p s audit sync ≡ after_end (kept_if audit desc p s.db) desc i s sync
+unfolding end_step
+end_step_goes desc i p s audit sync works = rw works refl
+
+pub end_outside : (desc : Described) (i : ℕ) (p : Program) (s : Session) (audit sync : Bool) → p.in_transaction ≡ false → end_step desc i p s audit sync ≡ refuse s AuditError p.name
+unfolding end_step
+end_outside desc i p s audit sync idle = end_if p.in_transaction (after_end (kept_if audit desc p s.db) desc i s sync) (refuse s AuditError p.name) idle
+
+pub find_none : (desc : Described) (i : ℕ) (p : Program) (s : Session) (path : Path) → found_by desc s.db path ≡ None → find_step desc i p s path ≡ refuse s NotFound (name_of (structure_of desc (path_of path)))
+unfolding find_step
+find_none desc i p s path none = ap (λ (r : Option Spot). after_find r desc i p s (path_of path)) none
+
+pub find_some : (desc : Described) (i : ℕ) (p : Program) (s : Session) (path : Path) (r : Spot) → found_by desc s.db path ≡ Some r → find_step desc i p s path ≡ done (with_program s i (carried (found_program p (set_of desc (path_of path)) r)))
+unfolding find_step
+find_some desc i p s path r some = ap (λ (t : Option Spot). after_find t desc i p s (path_of path)) some
+
+pub step_opens : (desc : Described) (s : Session) (name : List ℕ) (v : Verb) (i : ℕ) → i ≡ place_of name s.programs → length s.programs ≤ i → step desc s name v ≡ open_step desc s name v
+unfolding step
+step_opens desc s name v i place past =
+    let at : slice_get s.programs (place_of name s.programs) ≡ None = slice_get_past s.programs (place_of name s.programs) (omega (arith, place, past)) in
+    ap (λ (o : Option Program). step_at desc o (place_of name s.programs) s name v) at
+
+pub step_is_at : (desc : Described) (s : Session) (name : List ℕ) (v : Verb) (i : ℕ) (p : Program) → i ≡ place_of name s.programs → slice_get s.programs i ≡ Some p → step desc s name v ≡ step_at desc (Some p) i s name v
+unfolding step
+step_is_at desc s name v i p place at =
+    let there : slice_get s.programs (place_of name s.programs) ≡ Some p = subst (λ (k : ℕ). slice_get s.programs k ≡ Some p) place at in
+    ap (λ (o : Option Program). step_at desc o (place_of name s.programs) s name v) there ∙ ap (λ (k : ℕ). step_at desc (Some p) k s name v) (sym place)

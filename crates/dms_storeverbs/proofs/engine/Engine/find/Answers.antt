@@ -1,0 +1,65 @@
+use Rattle.std.proofs.Common.{◌≡◌, ◌∙◌, ◌<◌, ◌+◌, ◌^◌, ℕ, List, [], Bool, true, false, not, ◌&&◌, ◌||◌, nat_le, Some, None, refl, sym, ap, subst, arith, length, get_or}
+use Rattle.std.specs.Prelude.{slice_get, slice_set, is_some}
+use Rattle.std.specs.declared.option.Option.{Option}
+use Rattle.std.proofs.lemmas.Grind.{common_steps}
+use Rattle.std.proofs.lemmas.Option.{gets, get_or_from_slice_get}
+use Rattle.std.proofs.lemmas.Result.{IfOk-weaker}
+use Rattle.dms_desc.specs.Shape.{Described, described}
+use Rattle.dms_desc.specs.declared.description.Description.{Description}
+use Rattle.dms_model.specs.declared.program.Program.{Program}
+use Rattle.dms_model.specs.declared.reply.Answer.{Answer}
+use Rattle.dms_model.specs.declared.spot.Spot.{Spot}
+use Rattle.dms_model.specs.Points.{Quiet, Stop, TextIs, Stays}
+use Rattle.dms_model.specs.Session.{Session, Outcome}
+use Rattle.dms_block.specs.Moments.{Runs}
+use Rattle.dms_block.specs.MomentLaws.{runs_none}
+use Rattle.dms_storeverbs.specs.View.{Is, Made, Left, Stands, Room}
+use Rattle.dms_storeverbs.proofs.Calls.{still, no_more, none_made, is_from, made_from, runs_from, apart, apart_made, then_settles, then_made}
+use Rattle.dms_base.specs.declared.category.Category.TheVariants.{NotFound}
+use Rattle.dms_model.specs.declared.reply.Reply.TheVariants.{Exception}
+use Rattle.dms_model.specs.Members.{name_of, structure_of}
+use Rattle.dms_model.specs.Session.{find_step, found_by, found_program, carried, set_of, path_of}
+use Rattle.dms_storeverbs.proofs.Unfolds.{find_none, find_some}
+use Rattle.dms_storeverbs.proofs.engine.Engine.find.Goals as goal
+
+pub returns-in_default-clause-step : goal.returns-in_default-clause-step
+returns-in_default-clause-step g c = λ p at s stands room.
+    let d = described c.args.self.now.desc in
+    let none = find_none d c.args.i p s c.args.path.now (sym (c.in_ok-spot.ensures.found s.db stands.db) ∙ c.in_default.is) in
+    is_from none (record { reply = c.refused.ensures.reply ∙ ap (λ (n : List ℕ). Exception NotFound n) (c.name_of-name.ensures ∙ ap (λ (x : ℕ). name_of (structure_of d x)) c.path_of-x.ensures); sync = c.refused.ensures.sync; session = c.in_ok-spot.ensures.stands s stands })
+
+pub returns-clause-step : goal.returns-clause-step
+returns-clause-step g c = λ p at s stands room.
+    let d = described c.args.self.now.desc in
+    let some = find_some d c.args.i p s c.args.path.now c.in-Some.spot (sym (c.in_ok-spot.ensures.found s.db stands.db) ∙ c.in-Some.is) in
+    let st = c.in_ok-spot.ensures.stands s stands in
+    let x_is : c.index_mut.result.now ≡ p = c.index_mut.ensures.value ∙ ap (λ (ps : List Program). get_or ps c.args.i c.index_mut.result.now) c.found.ensures.programs ∙ get_or_from_slice_get c.args.self.now.programs.items c.args.i p c.index_mut.result.now at in
+    let set_is : c.set_of-set.result ≡ set_of d (path_of c.args.path.now) = c.set_of-set.ensures ∙ ap (λ (x : ℕ). set_of d x) c.path_of-x.ensures in
+    let y_is : c.find.new.program ≡ carried (found_program p (set_of d (path_of c.args.path.now)) c.in-Some.spot) = c.find.ensures ∙ (λ j. carried (found_program (x_is j) (set_is j) c.in-Some.spot)) in
+    is_from some (record { reply = c.done.ensures.reply; sync = c.done.ensures.sync; session = record { db = st.db; mark = st.mark; next = st.next; programs = (λ j. slice_set (st.programs j) c.args.i (y_is j)); pending = st.pending; since = st.since } })
+
+pub returns-in_default-clause-makes : goal.returns-in_default-clause-makes
+returns-in_default-clause-makes g c = λ tells p at s stands room.
+    let d = described c.args.self.now.desc in
+    let none = find_none d c.args.i p s c.args.path.now (sym (c.in_ok-spot.ensures.found s.db stands.db) ∙ c.in_default.is) in
+    let r : g.St.Store.next c.args.self.now.store + 1 < 2 ^ 64 = omega (arith, stands.next, room) in
+    none_made (ap (λ (o : Outcome). o.quiets) none) c.refused.ensures.sync (c.in_ok-spot.ensures.points tells r)
+
+pub returns-clause-makes : goal.returns-clause-makes
+returns-clause-makes g c = λ tells p at s stands room.
+    let d = described c.args.self.now.desc in
+    let some = find_some d c.args.i p s c.args.path.now c.in-Some.spot (sym (c.in_ok-spot.ensures.found s.db stands.db) ∙ c.in-Some.is) in
+    let r : g.St.Store.next c.args.self.now.store + 1 < 2 ^ 64 = omega (arith, stands.next, room) in
+    none_made (ap (λ (o : Outcome). o.quiets) some) c.done.ensures.sync (c.in_ok-spot.ensures.points tells r)
+
+pub returns-in_err-spot-clause-moments : goal.returns-in_err-spot-clause-moments
+returns-in_err-spot-clause-moments g c = λ tells p at s stands room.
+    still _ (c.found.ensures.moments tells (omega (arith, stands.next, room)))
+
+pub returns-in_default-clause-moments : goal.returns-in_default-clause-moments
+returns-in_default-clause-moments g c = λ tells p at s stands room.
+    still _ (c.found.ensures.moments tells (omega (arith, stands.next, room)))
+
+pub returns-clause-moments : goal.returns-clause-moments
+returns-clause-moments g c = λ tells p at s stands room.
+    still _ (c.found.ensures.moments tells (omega (arith, stands.next, room)))

@@ -1,0 +1,62 @@
+use Rattle.std.proofs.Common.{◌≡◌, ◌∙◌, ◌<◌, ◌+◌, ◌^◌, ℕ, List, [], Bool, true, false, not, ◌&&◌, ◌||◌, nat_le, Some, None, refl, sym, ap, subst, arith, length, get_or}
+use Rattle.std.specs.Prelude.{slice_get, slice_set, is_some}
+use Rattle.std.specs.declared.option.Option.{Option}
+use Rattle.std.proofs.lemmas.Grind.{common_steps}
+use Rattle.std.proofs.lemmas.Option.{gets, get_or_from_slice_get}
+use Rattle.std.proofs.lemmas.Result.{IfOk-weaker}
+use Rattle.dms_desc.specs.Shape.{Described, described}
+use Rattle.dms_desc.specs.declared.description.Description.{Description}
+use Rattle.dms_model.specs.declared.program.Program.{Program}
+use Rattle.dms_model.specs.declared.reply.Answer.{Answer}
+use Rattle.dms_model.specs.declared.spot.Spot.{Spot}
+use Rattle.dms_model.specs.Points.{Quiet, Stop, TextIs, Stays}
+use Rattle.dms_model.specs.Session.{Session, Outcome}
+use Rattle.dms_block.specs.Moments.{Runs}
+use Rattle.dms_block.specs.MomentLaws.{runs_none}
+use Rattle.dms_storeverbs.specs.View.{Is, Made, Left, Stands, Room}
+use Rattle.dms_storeverbs.proofs.Calls.{still, no_more, none_made, is_from, made_from, runs_from, apart, apart_made, then_settles, then_made}
+use Rattle.dms_model.specs.Session.{store_step, after_store, keep}
+use Rattle.dms_storeverbs.proofs.Ends.{store_refused, store_done, store_quiets}
+use Rattle.dms_storeverbs.proofs.Unfolds.{store_goes}
+use Rattle.dms_storeverbs.proofs.engine.Engine.store.Goals as goal
+
+pub returns-in_err-refusal-clause-moments : goal.returns-in_err-refusal-clause-moments
+returns-in_err-refusal-clause-moments g c = λ tells p at s stands room.
+    still _ (c.keep.ensures.moments tells (omega (arith, stands.next, room)))
+
+pub returns-in-Some-clause-moments : goal.returns-in-Some-clause-moments
+returns-in-Some-clause-moments g c = λ tells p at s stands room.
+    still _ (c.keep.ensures.moments tells (omega (arith, stands.next, room)))
+
+pub returns-clause-moments : goal.returns-clause-moments
+returns-clause-moments g c = λ tells p at s stands room.
+    still _ (c.keep.ensures.moments tells (omega (arith, stands.next, room)))
+
+pub returns-in-Some-clause-step : goal.returns-in-Some-clause-step
+returns-in-Some-clause-step g c = λ p at s stands room.
+    let d = described c.args.self.now.desc in
+    let works : p.in_transaction ≡ true = grind (arith, common_steps, gets) in
+    let kept = rw c.in-Some.is at (c.in_ok-refusal.ensures.kept p at s stands) in
+    is_from (store_goes d c.args.i p s c.args.set works) (store_refused (keep d p s.db c.args.set) c.args.i s c.in-Some.refusal _ c.refused-in-Some.result kept c.refused-in-Some.ensures.reply c.refused-in-Some.ensures.sync)
+
+pub returns-clause-step : goal.returns-clause-step
+returns-clause-step g c = λ p at s stands room.
+    let d = described c.args.self.now.desc in
+    let works : p.in_transaction ≡ true = grind (arith, common_steps, gets) in
+    let low : c.args.i < length s.programs = subst (λ (ps : List Program). c.args.i < length ps) stands.programs c.requires.place in
+    let kept = rw c.in_default.is at (c.in_ok-refusal.ensures.kept p at s stands) in
+    is_from (store_goes d c.args.i p s c.args.set works) (store_done (keep d p s.db c.args.set) c.args.i s c.index_mut.result.now _ c.done.result _ _ _ _ _ _ low kept c.index_mut.ensures.value refl c.done.ensures.reply c.done.ensures.sync)
+
+pub returns-in-Some-clause-makes : goal.returns-in-Some-clause-makes
+returns-in-Some-clause-makes g c = λ tells p at s stands room.
+    let d = described c.args.self.now.desc in
+    let works : p.in_transaction ≡ true = grind (arith, common_steps, gets) in
+    let r : g.St.Store.next c.args.self.now.store + 1 < 2 ^ 64 = omega (arith, stands.next, room) in
+    none_made (ap (λ (o : Outcome). o.quiets) (store_goes d c.args.i p s c.args.set works) ∙ store_quiets (keep d p s.db c.args.set) c.args.i s) c.refused-in-Some.ensures.sync (c.in_ok-refusal.ensures.points tells r)
+
+pub returns-clause-makes : goal.returns-clause-makes
+returns-clause-makes g c = λ tells p at s stands room.
+    let d = described c.args.self.now.desc in
+    let works : p.in_transaction ≡ true = grind (arith, common_steps, gets) in
+    let r : g.St.Store.next c.args.self.now.store + 1 < 2 ^ 64 = omega (arith, stands.next, room) in
+    none_made (ap (λ (o : Outcome). o.quiets) (store_goes d c.args.i p s c.args.set works) ∙ store_quiets (keep d p s.db c.args.set) c.args.i s) c.done.ensures.sync (c.in_ok-refusal.ensures.points tells r)
