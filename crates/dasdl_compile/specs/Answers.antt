@@ -1,5 +1,5 @@
 -- What judging a schema gives, and what a function that judges answers.
-use Rattle.std.specs.Prelude.{◌≡◌, List, [], ◌∷◌}
+use Rattle.std.specs.Prelude.{◌≡◌, ℕ, List, [], ◌∷◌, set}
 use Rattle.std.specs.declared.result.Result.{Result}
 use Rattle.std.specs.declared.result.Result.TheVariants.{Ok, Err}
 use Rattle.dasdl_compile.specs.declared.fault.CompileFault.{CompileFault}
@@ -41,3 +41,8 @@ Makes (Err e) new read = Fails e read
 unfoldable pub steps : {C S T : Type 0} → (C → S → T → Judged S) → C → S → List T → Judged S
 steps one c s [] = Ok s
 steps one c s (x ∷ xs) = one c s x >>= λ t. steps one c t xs
+
+-- what judging gives stands at its place in a list
+abbrev pub in_place : {T : Type 0} → List T → ℕ → Judged T → Judged (List T)
+in_place xs at (Ok x) = Ok (set xs at x)
+in_place xs at (Err e) = Err e

@@ -64,9 +64,17 @@ abbrev pub no_parts : List KeyPart → Bool
 no_parts [] = true
 no_parts (p ∷ ps) = false
 
--- a set or subset: population counts in a manual subset alone, and without a key two members may be equal
+-- population counts in a manual subset alone
+abbrev pub population_of : SetDecl → ℕ
+population_of s = if set_kind s == 5 then s.population else 0
+
+-- without a key two members may be equal
+abbrev pub has_duplicates : SetDecl → List KeyPart → Bool
+has_duplicates s ps = s.duplicates || no_parts ps
+
+-- a set or subset as it stands in the description
 abbrev pub set_draft : Work → SetDecl → Draft → SetOptions → Draft
-set_draft w s d o = record { number = next_structure w.made; kind = set_kind s; name = s.name; owner = w.within; population = if set_kind s == 5 then s.population else 0; items = []; groups = []; cond = o.cond; set = d.number; form = s.form; duplicates = s.duplicates || no_parts o.parts; parts = o.parts }
+set_draft w s d o = record { number = next_structure w.made; kind = set_kind s; name = s.name; owner = w.within; population = population_of s; items = []; groups = []; cond = o.cond; set = d.number; form = s.form; duplicates = has_duplicates s o.parts; parts = o.parts }
 
 -- its place, then KEY and WHERE in text order, then whether it has a key
 unfoldable pub set_over : SetDecl → Draft → Work → Judged Work

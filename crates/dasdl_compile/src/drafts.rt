@@ -1,6 +1,5 @@
-ghost use Rattle.std.specs.Prelude.{◌≡◌, ◌<◌, ◌++◌, ◌∷◌, [], OnErr, OnOk, length, slice_get, set, Some};
-ghost use Rattle.std.specs.declared.result.Result.TheVariants.{Ok};
-ghost use Rattle.dasdl_compile.specs.Answers.{Makes, ◌>>=◌};
+ghost use Rattle.std.specs.Prelude.{◌≡◌, ◌<◌, ◌++◌, ◌∷◌, [], OnErr, OnOk, length, slice_get, Some};
+ghost use Rattle.dasdl_compile.specs.Answers.{Makes, in_place};
 ghost use Rattle.dasdl_compile.specs.Members.{member_at};
 ghost use Rattle.dasdl_compile.specs.Outlines.{outlined_member};
 ghost use Rattle.dasdl_compile.specs.declared.draft.Draft.{Draft};
@@ -70,7 +69,7 @@ impl Drafts {
         declaration: &Declaration,
     ) -> Result<(), CompileFault>
         requires { at < length self.old }
-        ensures { (d : Draft) → slice_get self.old at ≡ Some d → Makes result self.new (member_at outline.now declaration.now d >>= λ t. Ok (set self.old at t)) }
+        ensures { (d : Draft) → slice_get self.old at ≡ Some d → Makes result self.new (in_place self.old at (member_at outline.now declaration.now d)) }
     {
         member_at(&mut self.kept[at], alloc, outline, declaration)
     }
@@ -85,7 +84,7 @@ impl Drafts {
         declaration: &Declaration,
     ) -> Result<(), CompileFault>
         requires { at < length self.old }
-        ensures { (d : Draft) → slice_get self.old at ≡ Some d → Makes result self.new (outlined_member plain.now declaration.now d >>= λ t. Ok (set self.old at t)) }
+        ensures { (d : Draft) → slice_get self.old at ≡ Some d → Makes result self.new (in_place self.old at (outlined_member plain.now declaration.now d)) }
     {
         outlined_member(&mut self.kept[at], alloc, plain, declaration)
     }

@@ -1,6 +1,6 @@
 ghost use Rattle.std.specs.Prelude.{◌≡◌};
 ghost use Rattle.dasdl_compile.specs.Answers.{Gives, Makes};
-ghost use Rattle.dasdl_compile.specs.Sets.{set_kind, where_of, key_of, key_is_first, options_at, is_misplaced, lacks_key, no_parts, set_draft, set_over, set_at};
+ghost use Rattle.dasdl_compile.specs.Sets.{set_kind, where_of, key_of, key_is_first, options_at, is_misplaced, lacks_key, no_parts, population_of, has_duplicates, set_draft, set_over, set_at};
 
 use crate::condition::Condition;
 use crate::conditions::condition;
@@ -113,6 +113,23 @@ fn no_parts(parts: &[KeyPart]) -> bool
     parts.is_empty()
 }
 
+/// How many entries a manual subset may have, 0 for the others.
+fn population_of(set: &SetDecl) -> u32
+    ensures { result ≡ population_of set.now }
+{
+    if set_kind(set) == 5 {
+        return set.population;
+    }
+    0
+}
+
+/// Whether two members may have equal keys, which they may without a key.
+fn has_duplicates(set: &SetDecl, parts: &[KeyPart]) -> bool
+    ensures { result ≡ has_duplicates set.now parts.now }
+{
+    set.duplicates || no_parts(parts)
+}
+
 /// A set or subset of a data set.
 fn set_draft(
     alloc: Global,
@@ -123,19 +140,22 @@ fn set_draft(
 ) -> Draft
     ensures { result ≡ set_draft work.now set.now data_set.now options }
 {
+    let number = next_structure(work.made.as_slice());
     let kind = set_kind(set);
+    let population = population_of(set);
+    let duplicates = has_duplicates(set, options.parts.as_slice());
     Draft {
-        number: next_structure(work.made.as_slice()),
+        number,
         kind,
         name: set.name,
         owner: work.within,
-        population: if kind == 5 { set.population } else { 0 },
+        population,
         items: Items::new(alloc),
         groups: Groups::new(alloc),
         cond: options.cond,
         set: data_set.number,
         form: set.form,
-        duplicates: set.duplicates || no_parts(options.parts.as_slice()),
+        duplicates,
         parts: options.parts,
     }
 }
