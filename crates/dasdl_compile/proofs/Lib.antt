@@ -1,2 +1,2 @@
 pub mod Maps
-pub mod Stepping
+pub mod Parts

@@ -31,11 +31,7 @@ fn is_misplaced(work: &Work, data_set: &DataSetDecl) -> bool
 
 /// A data set begins.
 #[tactic(auto, unfolding(crate::specs::Compile::data_set_at))]
-fn data_set_at(
-    work: &mut Work,
-    alloc: Global,
-    data_set: &DataSetDecl,
-) -> Result<(), CompileFault>
+fn data_set_at(work: &mut Work, alloc: Global, data_set: &DataSetDecl) -> Result<(), CompileFault>
     ensures { Makes result work.new (data_set_at data_set.now work.old) }
 {
     if is_structure(work.made.as_slice(), &data_set.name) {

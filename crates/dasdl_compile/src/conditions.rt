@@ -50,11 +50,7 @@ fn compared(
 
 /// A condition on the records with these items.
 #[tactic(auto, unfolding(crate::specs::Conditions::condition))]
-pub fn condition(
-    alloc: Global,
-    items: &[Item],
-    tree: &CondTree,
-) -> Result<Condition, CompileFault>
+pub fn condition(alloc: Global, items: &[Item], tree: &CondTree) -> Result<Condition, CompileFault>
     ensures { Gives result (condition items.now (tree_of tree.now)) }
 {
     match tree {

@@ -119,7 +119,12 @@ impl Steps<Draft, PartDecl> for KeySoFar {
     ghost step_at = { part_at };
 
     #[tactic(auto, unfolding(crate::specs::Keys::part_at))]
-    fn step(&mut self, alloc: Global, data_set: &Draft, part: &PartDecl) -> Result<(), CompileFault> {
+    fn step(
+        &mut self,
+        alloc: Global,
+        data_set: &Draft,
+        part: &PartDecl,
+    ) -> Result<(), CompileFault> {
         let run = run_of(data_set, part)?;
         self.next = 1;
         all_steps(self, alloc, &run, data_set.items.as_slice())

@@ -21,11 +21,7 @@ fn is_kind(kind: &ItemKind) -> bool
 
 /// The value that a literal spells for an item of a kind, none where it doesn't fit.
 #[tactic(auto, unfolding(crate::specs::Conditions::value_in))]
-pub fn value_in(
-    alloc: Global,
-    kind: &ItemKind,
-    literal: &Literal,
-) -> Result<Option<Value>, Memory>
+pub fn value_in(alloc: Global, kind: &ItemKind, literal: &Literal) -> Result<Option<Value>, Memory>
     ensures { IfOk result (λ v. v ≡ value_in kind.now literal.now) }
 {
     if is_kind(kind) {

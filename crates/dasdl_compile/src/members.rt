@@ -42,7 +42,12 @@ impl Steps<Drafts, ItemDecl> for Draft {
     ghost step_at = { item_at };
 
     #[tactic(auto, unfolding(crate::specs::Members::item_at))]
-    fn step(&mut self, alloc: Global, _known: &Drafts, item: &ItemDecl) -> Result<(), CompileFault> {
+    fn step(
+        &mut self,
+        alloc: Global,
+        _known: &Drafts,
+        item: &ItemDecl,
+    ) -> Result<(), CompileFault> {
         if is_taken(self, &item.name) {
             return Err(CompileFault::Twice(item.name));
         }
@@ -98,11 +103,7 @@ fn link_kind(outline: &Drafts, link: &LinkDecl) -> Result<ItemKind, CompileFault
 
 /// A link of the data set.
 #[tactic(auto, unfolding(crate::specs::Members::link_at))]
-fn link_at(
-    draft: &mut Draft,
-    outline: &Drafts,
-    link: &LinkDecl,
-) -> Result<(), CompileFault>
+fn link_at(draft: &mut Draft, outline: &Drafts, link: &LinkDecl) -> Result<(), CompileFault>
     ensures { Makes result draft.new (link_at outline.now draft.old link.now) }
 {
     if is_taken(draft, &link.name) {

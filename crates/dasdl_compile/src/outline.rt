@@ -24,7 +24,12 @@ impl Steps<Plain, ItemDecl> for Draft {
     ghost step_at = { outlined_item };
 
     #[tactic(auto, unfolding(crate::specs::Outlines::outlined_item))]
-    fn step(&mut self, _alloc: Global, _known: &Plain, item: &ItemDecl) -> Result<(), CompileFault> {
+    fn step(
+        &mut self,
+        _alloc: Global,
+        _known: &Plain,
+        item: &ItemDecl,
+    ) -> Result<(), CompileFault> {
         self.items.push(Item {
             name: item.name,
             kind: item.kind,
@@ -94,7 +99,11 @@ fn outlined_inside(
 
 /// A data set is noted, and is open.
 #[tactic(auto, unfolding(crate::specs::Outlines::outlined_data_set))]
-fn outlined_data_set(work: &mut Work, alloc: Global, data_set: &DataSetDecl) -> Result<(), CompileFault>
+fn outlined_data_set(
+    work: &mut Work,
+    alloc: Global,
+    data_set: &DataSetDecl,
+) -> Result<(), CompileFault>
     ensures { Makes result work.new (outlined_data_set data_set.now work.old) }
 {
     let number = next_structure(work.made.as_slice());
@@ -110,7 +119,8 @@ fn outlined_set(work: &mut Work, alloc: Global, set: &SetDecl) -> Result<(), Com
     ensures { Makes result work.new (outlined_set set.now work.old) }
 {
     let number = next_structure(work.made.as_slice());
-    work.made.push(Draft::new(alloc, number, 3, set.name, work.within))?;
+    work.made
+        .push(Draft::new(alloc, number, 3, set.name, work.within))?;
     Ok(())
 }
 
@@ -118,7 +128,12 @@ impl Steps<Plain, Declaration> for Work {
     ghost step_at = { outlined_one };
 
     #[tactic(auto, unfolding(crate::specs::Outlines::outlined_one))]
-    fn step(&mut self, alloc: Global, plain: &Plain, declaration: &Declaration) -> Result<(), CompileFault> {
+    fn step(
+        &mut self,
+        alloc: Global,
+        plain: &Plain,
+        declaration: &Declaration,
+    ) -> Result<(), CompileFault> {
         match declaration {
             Declaration::DataSet(data_set) => outlined_data_set(self, alloc, data_set),
             Declaration::SetOf(set) => outlined_set(self, alloc, set),

@@ -62,8 +62,12 @@ fn condition_width(cond: &Cond) -> u32
     match cond {
         Cond::Nothing => 1,
         Cond::Compare(_, _, value) => 3u32.saturating_add(value_width(value)),
-        Cond::And(a, b) => 1u32.saturating_add(condition_width(a)).saturating_add(condition_width(b)),
-        Cond::Or(a, b) => 1u32.saturating_add(condition_width(a)).saturating_add(condition_width(b)),
+        Cond::And(a, b) => 1u32
+            .saturating_add(condition_width(a))
+            .saturating_add(condition_width(b)),
+        Cond::Or(a, b) => 1u32
+            .saturating_add(condition_width(a))
+            .saturating_add(condition_width(b)),
         Cond::Not(a) => 1u32.saturating_add(condition_width(a)),
     }
 }
@@ -88,7 +92,9 @@ fn groups_width(before: u32, groups: &[Group]) -> u32
 {
     let mut width = before;
     for group in groups {
-        width = width.saturating_add(3).saturating_add(size_of(group.name.bytes()));
+        width = width
+            .saturating_add(3)
+            .saturating_add(size_of(group.name.bytes()));
     }
     width
 }
@@ -128,7 +134,9 @@ fn set_width(before: u32, draft: &Draft) -> u32
 fn with_structure(before: u32, draft: &Draft) -> u32
     ensures { result ≡ with_structure before draft.now }
 {
-    let head = before.saturating_add(4).saturating_add(size_of(draft.name.bytes()));
+    let head = before
+        .saturating_add(4)
+        .saturating_add(size_of(draft.name.bytes()));
     if draft.kind < 3 {
         return data_set_width(head, draft);
     }

@@ -10,5 +10,5 @@ loop-draft-preserved c =
     let low : c.loop-draft.draft-index < length c.args.drafts.now = c.loop-draft-test.true in
     let pushed : c.push.new.self ≡ c.loop-draft.made ++ c.in_ok-structure_of.field-0 ∷ [] = c.in_ok-push.ensures.ok in
     ap (λ (l : List Structure). map shape_of l) pushed
-    ∙ map_taken shape_of shape_in c.args.drafts.now c.loop-draft.draft-index c.in_ok-structure_of.field-0 c.draft.result c.loop-draft.made low c.loop-draft.invariant
-    (c.in_ok-structure_of.ensures ∙ ap shape_in c.draft.is)
+    ∙ map_taken shape_of shape_in c.args.drafts.now c.loop-draft.draft-index c.in_ok-structure_of.field-0 c.draft-item.result c.loop-draft.made low c.loop-draft.invariant
+    (c.in_ok-structure_of.ensures ∙ ap shape_in c.draft-item.is)
