@@ -7,6 +7,7 @@ use Rattle.std.specs.declared.cmp.Ordering.{Ordering}
 use Rattle.std.specs.declared.cmp.Ordering.TheVariants.{Less, Equal, Greater}
 use Rattle.std.specs.FinMap.{entries}
 use Rattle.dms_base.specs.declared.value.Value.{Value}
+use Rattle.dms_base.specs.Name.{unknown_name}
 use Rattle.dms_base.specs.Orders.{value_cmp}
 use Rattle.dms_desc.specs.declared.structure.Item.{Item}
 use Rattle.dms_desc.specs.declared.structure.KeyPart.{KeyPart}
@@ -116,7 +117,7 @@ abbrev pub structure_of : Described → ℕ → Option Shape
 structure_of desc n = if n == 0 then None else slice_get desc.structures (n - 1)
 
 abbrev pub name_of : Option Shape → List ℕ
-name_of None = []
+name_of None = unknown_name
 name_of (Some s) = s.name
 
 abbrev pub items_of : Option Shape → List Item

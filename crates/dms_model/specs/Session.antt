@@ -7,8 +7,8 @@ use Rattle.dms_base.specs.declared.value.Value.{Value}
 use Rattle.dms_base.specs.declared.kind.Literal.{Literal}
 use Rattle.dms_base.specs.declared.category.Category.{Category}
 use Rattle.dms_base.specs.declared.category.Category.TheVariants.{NotFound, Duplicates, DataError, NotLocked, ReadOnly, LimitError, OpenError, NoRecord, AuditError, Abort as AbortDue}
-use Rattle.dms_base.specs.Fits.{value_of}
-use Rattle.dms_base.specs.Texts.{value_text}
+use Rattle.dms_base.specs.Name.{unknown_name}
+use Rattle.dms_base.specs.Spelling.{value_for, text_for}
 use Rattle.dms_desc.specs.declared.structure.Item.{Item}
 use Rattle.dms_desc.specs.declared.structure.KeyPart.{KeyPart}
 use Rattle.dms_desc.specs.declared.record.Record.{Record}
@@ -276,7 +276,7 @@ abort_step i p s =
 -- the value that a literal spells for an item; none where it doesn't fit
 abbrev pub fitted : Option Item → Literal → Option Value
 fitted None l = None
-fitted (Some i) l = value_of i.kind l
+fitted (Some i) l = value_for i.kind l
 
 abbrev pub onto : Option Value → Option (List Value) → Option (List Value)
 onto None vs = None
@@ -336,7 +336,7 @@ pub data Filled : Type 0 where
   Values' : List Value → Filled
 
 abbrev pub item_name : Option Item → List ℕ
-item_name None = []
+item_name None = unknown_name
 item_name (Some t) = t.name
 
 abbrev pub setting_value : List Item → Setting → Option Value
@@ -366,7 +366,7 @@ put_step desc i p s set settings = put_area (work_of p set).area desc i p s set 
 -- an item and its value as GET shows them
 abbrev pub item_text : Option Item → Value → List ℕ
 item_text None value = []
-item_text (Some t) value = t.name ++ codes "=" ++ value_text t.kind value
+item_text (Some t) value = t.name ++ codes "=" ++ text_for t.kind value
 
 -- further items, each after a comma and a blank
 abbrev pub more_text : List Item → List ℕ → List Value → List ℕ

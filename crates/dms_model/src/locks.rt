@@ -1,4 +1,5 @@
-ghost use Rattle.std.specs.Prelude.{◌≡◌, ◌++◌, ◌∷◌, [], OnErr, OnOk};
+ghost use Rattle.std.specs.Prelude.{◌≡◌, ◌++◌, ◌∷◌, [], OnErr, OnOk, filter};
+ghost use Rattle.dms_model.specs.Session.{is_elsewhere};
 
 use crate::Lock;
 use dms_base::Memory;
@@ -43,5 +44,19 @@ impl Locks {
         ensures { result.now ≡ self.now }
     {
         self.kept.as_slice()
+    }
+
+    /// Frees the locks on a data set.
+    pub fn free(&mut self, set: u16)
+        ensures { self.new ≡ filter (is_elsewhere set) self.old }
+    {
+        self.kept.retain(|lock| lock.set != set);
+    }
+
+    /// Frees all locks.
+    pub fn free_all(&mut self)
+        ensures { self.new ≡ [] }
+    {
+        self.kept.clear();
     }
 }

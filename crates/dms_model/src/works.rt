@@ -1,4 +1,6 @@
-ghost use Rattle.std.specs.Prelude.{◌≡◌, ◌++◌, ◌∷◌, [], OnErr, OnOk, slice_set};
+ghost use Rattle.std.specs.Prelude.{◌≡◌, ◌++◌, ◌∷◌, [], OnErr, OnOk, slice_set, map};
+ghost use Rattle.dms_model.specs.declared.program.Work.{Work};
+ghost use Rattle.dms_model.specs.Session.{no_work};
 
 use crate::Work;
 use dms_base::Memory;
@@ -51,6 +53,18 @@ impl Works {
     {
         if place < self.kept.len() {
             self.kept[place] = e;
+        }
+    }
+
+    /// Leaves no current record and no area anywhere.
+    pub fn forget(&mut self)
+        ensures { self.new ≡ map (λ (w : Work). no_work) self.old }
+    {
+        for work in self.kept.iter_mut() {
+            *work = Work {
+                current: None,
+                area: None,
+            };
         }
     }
 }

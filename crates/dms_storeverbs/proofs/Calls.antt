@@ -1,0 +1,86 @@
+-- What a stop within a call of the engine leaves.
+use Rattle.std.proofs.Common.{ℕ, ◌+◌, ◌<◌, ◌≤◌, ◌≡◌, List, [], ◌∷◌, ◌++◌, length, take, map, Some, None, refl, sym, ◌∙◌, ap, subst, arith, append-nil, Bool, true, false, cond}
+use Rattle.std.specs.declared.option.Option.{Option}
+use Rattle.dms_block.specs.Moments.{Clock, Now, Runs}
+use Rattle.dms_block.specs.MomentLaws.{runs_on, runs_weaken, runs_none}
+use Rattle.dms_model.specs.declared.program.Program.{Program}
+use Rattle.dms_model.specs.declared.reply.Answer.{Answer}
+use Rattle.dms_model.specs.Db.{Db}
+use Rattle.dms_model.specs.Points.{Point, Quiet, Stop, Front, TextIs, told, known, Leaves, Stays}
+use Rattle.dms_model.specs.Session.{Session, Outcome, settle, someone_works}
+use Rattle.dms_storeverbs.specs.Apart.{Alone}
+use Rattle.dms_storeverbs.specs.View.{View, Stands, Is, view, Grew, Left, Made}
+
+-- fewer points are sure, and the number was lower
+pub lower : {a b m n : ℕ} {ps : List Point} {stop : Stop} → a ≤ b → m ≤ n → Front b ps n stop → Front a ps m stop
+lower low fell front = record { count = front.count; enough = omega (arith, low, front.enough); within = front.within; is = front.is; not_fallen = omega (arith, fell, front.not_fallen) }
+
+-- nothing of a call's quiet points was made yet
+pub stays : {sure next : ℕ} {points : List Point} {stop : Stop} (quiets : List Quiet) → Front sure points next stop → Left sure points next quiets stop
+stays {points = points} quiets front = record { made = []; rest = quiets; all = points; front_of = refl; grew = record { more = []; is = sym (append-nil points); spells = refl }; front = front }
+
+pub still : {old new : Clock Stop} {sure next : ℕ} {points : List Point} {said : Option (List ℕ)} (quiets : List Quiet) → Leaves old new sure points next said → Runs old new (λ stop. Left sure points next quiets stop × TextIs said stop)
+still quiets run = runs_weaken run (λ x p. (stays quiets p.0, p.1))
+
+-- a call that makes no point
+pub no_more : (answer : Answer) {sure sure' : ℕ} {points points' : List Point} → answer.sync ≡ None → Stays points sure points' sure' → Made answer sure points [] sure' points'
+no_more answer {points = points} none stays = record { grew = record { more = []; is = stays.0 ∙ sym (append-nil points); spells = refl }; later = stays.1; synced = λ n is. absurd (let no : ◌≡◌ {A = Option ℕ} None (Some n) = sym none ∙ is in cc) }
+
+-- a call that leaves its store alone
+module _ {db mark : Option Db} {next since : ℕ} {programs new : List Program} {pending : Bool} {o : Outcome} {s : Session} {answer : Answer} where
+  pub apart : Alone o s answer new → Stands (view db mark next programs pending since) s → Is o answer (view db mark next new pending since)
+  apart alone stands = record {
+    reply = alone.reply;
+    sync = alone.unsynced ∙ sym alone.sync;
+    session = record {
+      db = stands.db ∙ ap (λ (t : Session). Some t.db) (sym alone.session);
+      mark = stands.mark ∙ ap (λ (t : Session). Some t.mark) (sym alone.session);
+      next = stands.next ∙ ap (λ (t : Session). t.next) (sym alone.session);
+      programs = ap (λ (t : Session). t.programs) (sym alone.session);
+      pending = stands.pending ∙ ap (λ (t : Session). t.pending) (sym alone.session);
+      since = stands.since ∙ ap (λ (t : Session). t.since) (sym alone.session);
+    };
+  }
+
+pub apart_made : {o : Outcome} {s : Session} {answer : Answer} {new : List Program} (sure : ℕ) (points : List Point) → Alone o s answer new → Made answer sure points o.quiets sure points
+apart_made {answer = answer} sure points alone = subst (λ (qs : List Quiet). Made answer sure points qs sure points) (sym alone.quiets) (no_more answer alone.unsynced (refl, omega arith))
+
+pub nothing : (c : Clock Stop) (sure : ℕ) (points : List Point) (next : ℕ) (said : Option (List ℕ)) (quiets : List Quiet) → Runs c c (λ stop. Left sure points next quiets stop × TextIs said stop)
+nothing c sure points next said quiets = runs_none c _
+
+pub no_time : (c : Clock Stop) (sure : ℕ) (points : List Point) (next : ℕ) (said : Option (List ℕ)) → Leaves c c sure points next said
+no_time c sure points next said = runs_none c _
+
+-- one quiet point was made, or was not
+pub one : {sure next : ℕ} {points : List Point} {stop : Stop} (p : Point) (q : Quiet) → told p ≡ known q → Front sure (points ++ p ∷ []) next stop → Left sure points next (q ∷ []) stop
+one {points = points} p q same front = record { made = q ∷ []; rest = []; all = points ++ p ∷ []; front_of = refl; grew = record { more = p ∷ []; is = refl; spells = ap (λ (x : ℕ × Option Db). x ∷ []) same }; front = front }
+
+pub told_known : (p : Point) (next : ℕ) (db : Option Db) (s : Session) → (p.number ≡ next) × (p.db ≡ db) → next ≡ s.next → db ≡ Some s.db → told p ≡ known (s.next, s.db)
+told_known p next db s is n d = λ i. ((is.0 ∙ n) i, (is.1 ∙ d) i)
+
+pub made_one : (answer : Answer) {sure sure' : ℕ} {points points' : List Point} (p : Point) (q : Quiet) → told p ≡ known q → answer.sync ≡ None → Stays (points ++ p ∷ []) sure points' sure' → Made answer sure points (q ∷ []) sure' points'
+made_one answer p q same none stays = record { grew = record { more = p ∷ []; is = stays.0; spells = ap (λ (x : ℕ × Option Db). x ∷ []) same }; later = stays.1; synced = λ n is. absurd (let no : ◌≡◌ {A = Option ℕ} None (Some n) = sym none ∙ is in cc) }
+
+-- the quiet point of a call, of which a stop may leave nothing yet
+module _ (here : Point) (q : Quiet) (same : told here ≡ known q) (quiets : List Quiet) (is : quiets ≡ q ∷ []) {sure next : ℕ} {points : List Point} {said : Option (List ℕ)} where
+  pub quieted : {a b : Clock Stop} → Leaves a b sure (points ++ here ∷ []) next said → Runs a b (λ stop. Left sure points next quiets stop × TextIs said stop)
+  quieted run = runs_weaken run (λ x p. (subst (λ (qs : List Quiet). Left sure points next qs x) (sym is) (one here q same p.0), p.1))
+
+  pub synced : {a b c : Clock Stop} {sure' next' : ℕ} {points' : List Point} {said' : Option (List ℕ)} → Leaves a b sure (points ++ here ∷ []) next said → (points' ≡ points ++ here ∷ []) × (sure ≤ sure') → next ≤ next' → said' ≡ said → Leaves b c sure' points' next' said' → Runs a c (λ stop. Left sure points next quiets stop × TextIs said stop)
+  synced {sure' = sure'} {next' = next'} first grown more text last = runs_on (quieted first) (runs_weaken last (λ x p. (subst (λ (qs : List Quiet). Left sure points next qs x) (sym is) (one here q same (lower grown.1 more (subst (λ (ps : List Point). Front sure' ps next' x) grown.0 p.0))), λ t e. p.1 t (text ∙ e)))) (λ x p. p)
+
+if_same : (b : Bool) (x y : Outcome) (qs : List Quiet) → x.quiets ≡ qs → y.quiets ≡ qs → (cond b x y).quiets ≡ qs
+if_same true x y qs ex ey = ex
+if_same false x y qs ex ey = ey
+
+pub settled_quiets : (s : Session) → someone_works s.programs ≡ false → (settle s).quiets ≡ (s.next, s.db) ∷ []
+unfolding settle
+settled_quiets s nobody = rw nobody (if_same s.pending _ _ ((s.next, s.db) ∷ []) refl refl)
+
+-- a call that first stores a record, and then may make a quiet point
+pub then_settles : {a b c : Clock Stop} {sure sure' next next' : ℕ} {points points' : List Point} {said said' : Option (List ℕ)} (quiets : List Quiet) → Leaves a b sure points next said → Stays points sure points' sure' → next' ≡ next → said' ≡ said → Runs b c (λ stop. Left sure' points' next' quiets stop × TextIs said' stop) → Runs a c (λ stop. Left sure points next quiets stop × TextIs said stop)
+then_settles {sure = sure} {sure' = sure'} {next = next} {next' = next'} {points = points} {points' = points'} quiets first stayed number text last =
+    runs_on (still quiets first) last (λ x p. (let left = p.0 in record { made = left.made; rest = left.rest; all = left.all; front_of = left.front_of; grew = record { more = left.grew.more; is = left.grew.is ∙ ap (λ (ps : List Point). ps ++ left.grew.more) stayed.0; spells = left.grew.spells }; front = lower stayed.1 (omega (arith, number)) left.front }, λ t e. p.1 t (text ∙ e)))
+
+pub then_made : {answer : Answer} {sure sure' sure'' : ℕ} {points points' points'' : List Point} (quiets : List Quiet) → Stays points sure points' sure' → Made answer sure' points' quiets sure'' points'' → Made answer sure points quiets sure'' points''
+then_made quiets stayed made = record { grew = record { more = made.grew.more; is = made.grew.is ∙ ap (λ (ps : List Point). ps ++ made.grew.more) stayed.0; spells = made.grew.spells }; later = omega (arith, stayed.1, made.later); synced = made.synced }

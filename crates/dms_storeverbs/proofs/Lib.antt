@@ -1,0 +1,6 @@
+pub mod Calls
+pub mod Closed
+pub mod KeyValues
+pub mod Stored
+pub mod Works
+pub mod Quiet

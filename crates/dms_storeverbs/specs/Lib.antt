@@ -1,0 +1,5 @@
+pub mod Apart
+pub mod Keeping
+pub mod Laws
+pub mod Storing
+pub mod View

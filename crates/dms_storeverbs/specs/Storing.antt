@@ -1,0 +1,39 @@
+-- A record that is ready to be stored, and what storing it leaves of its program.
+use Rattle.std.specs.Prelude.{◌≡◌, ℕ, List, Some, None, if◌then◌else◌, Bool, true, false, slice_set}
+use Rattle.std.specs.declared.option.Option.{Option}
+use Rattle.dms_base.specs.declared.name.Name.{Name}
+use Rattle.dms_base.specs.declared.category.Category.TheVariants.{Duplicates, LimitError}
+use Rattle.dms_desc.specs.declared.record.Record.{Record}
+use Rattle.dms_desc.specs.Shape.{Described}
+use Rattle.dms_model.specs.declared.program.Program.{Program}
+use Rattle.dms_model.specs.declared.program.Area.TheVariants.{Old}
+use Rattle.dms_model.specs.declared.put.Put.{Put}
+use Rattle.dms_model.specs.declared.put.Put.TheVariants.{Stored, Duplicate, Full}
+use Rattle.dms_model.specs.Db.{Db}
+use Rattle.dms_model.specs.Members.{structure_of, name_of}
+use Rattle.dms_model.specs.Stores.{put_answer, put_after}
+use Rattle.dms_model.specs.Session.{Session, Kept, Refused, Keeps, keep, with_work, with_lock, Filled, Misfit, Values'}
+use Rattle.dms_base.specs.declared.value.Value.{Value}
+use Rattle.dms_storeverbs.specs.declared.refusal.Refusal.{Refusal}
+use Rattle.dms_storeverbs.specs.declared.storing.Judged.{Judged}
+use Rattle.dms_storeverbs.specs.declared.storing.Judged.TheVariants.{Refused as Not, Ready}
+
+-- the program after its record of these values was stored under a number
+abbrev pub with_stored : Program → ℕ → ℕ → List Value → Program
+with_stored p set number values = with_lock (with_work p set (record { current = Some number; area = Some (Old values) })) set number
+
+-- what the answer of a store says of a record
+abbrev pub put_record : Put → Described → Program → Db → ℕ → Record → Kept
+put_record (Stored number) desc p db set rec = Keeps (with_stored p set number rec.values) (put_after (Stored number) desc db set rec)
+put_record (Duplicate d) desc p db set rec = Refused Duplicates (name_of (structure_of desc d))
+put_record Full desc p db set rec = Refused LimitError (name_of (structure_of desc set))
+
+-- a program's area was refused, or the rest is what the store answers to this record, under this number
+abbrev pub Judges : Judged → Described → Program → Db → ℕ → Type 0
+Judges (Not r) desc p db set = keep desc p db set ≡ Refused r.category r.name
+Judges (Ready number rec) desc p db set = keep desc p db set ≡ put_record (put_answer desc db set number rec) desc p db set rec
+
+-- all literals went in, or the first one that doesn't fit is that of this item
+abbrev pub Fills : Option (List ℕ) → List Value → Filled → Type 0
+Fills None values made = made ≡ Values' values
+Fills (Some item) values made = made ≡ Misfit item

@@ -1,0 +1,195 @@
+ghost use Rattle.std.specs.Prelude.{◌≡◌, ◌<◌, ℕ, Some, length, slice_get};
+ghost use Rattle.dms_desc.specs.Shape.{Described, described};
+ghost use Rattle.dms_model.specs.declared.program.Program.{Program};
+ghost use Rattle.dms_model.specs.Session.{path_of, open_as, open_step, close_step, create_step, put_step, get_step, opens, changes, is_inquiry};
+ghost use Rattle.dms_storeverbs.specs.Apart.{Apart, Admits};
+
+use crate::areas;
+use crate::filling::{fill, get_text, initial_values, with_values};
+use crate::programs::new_program;
+use crate::refusal::{done, refused};
+use crate::schema::{items_of, name_of};
+use dms_base::{Category, Memory, Name};
+use dms_desc::Description;
+use dms_model::{Answer, Mode, Path, Program, Reply, Setting, Verb};
+use std::alloc::Global;
+
+/// The structure that a path names.
+pub fn path_of(path: &Path) -> u16
+    ensures { result ≡ path_of path.now }
+{
+    match path {
+        Path::First(x) => *x,
+        Path::Last(x) => *x,
+        Path::At(x, _) => *x,
+    }
+}
+
+/// Opens the database for a program.
+fn open_as(
+    alloc: Global,
+    desc: &Description,
+    programs: &mut Vec<Program>,
+    name: &Name,
+    mode: Mode,
+) -> Result<Answer, Memory>
+    ensures { Apart (λ s. open_as (described desc.now) s name.now mode) programs.old.items result programs.new.items }
+{
+    if programs.len() >= 64 {
+        return Ok(refused(Category::LimitError, *name));
+    }
+    programs.push(new_program(alloc, desc, name, mode)?)?;
+    Ok(done(alloc))
+}
+
+/// A verb of a program that isn't open.
+#[tactic(auto, unfolding(dms_model::specs::Session::open_step))]
+pub fn open(
+    alloc: Global,
+    desc: &Description,
+    programs: &mut Vec<Program>,
+    name: &Name,
+    verb: &Verb,
+) -> Result<Answer, Memory>
+    ensures { Apart (λ s. open_step (described desc.now) s name.now verb.now) programs.old.items result programs.new.items }
+{
+    match verb {
+        Verb::OpenUpdate => open_as(alloc, desc, programs, name, Mode::Update),
+        Verb::OpenInquiry => open_as(alloc, desc, programs, name, Mode::Inquiry),
+        Verb::Close
+        | Verb::Find(_)
+        | Verb::Create(_)
+        | Verb::Put(_, _)
+        | Verb::Get(_, _)
+        | Verb::Store(_)
+        | Verb::Begin(_)
+        | Verb::End(_, _)
+        | Verb::Abort => Ok(refused(Category::OpenError, *name)),
+    }
+}
+
+/// Whether a verb opens the database.
+fn opens(verb: &Verb) -> bool
+    ensures { result ≡ opens verb.now }
+{
+    matches!(verb, Verb::OpenUpdate | Verb::OpenInquiry)
+}
+
+/// Whether a program that opened the database for inquiry is refused a verb.
+fn changes(verb: &Verb) -> bool
+    ensures { result ≡ changes verb.now }
+{
+    matches!(
+        verb,
+        Verb::Store(_) | Verb::Begin(_) | Verb::End(_, _) | Verb::Abort
+    )
+}
+
+fn is_inquiry(mode: Mode) -> bool
+    ensures { result ≡ is_inquiry mode }
+{
+    match mode {
+        Mode::Update => false,
+        Mode::Inquiry => true,
+    }
+}
+
+/// Answers a verb of an open program before it is carried out: it is open already; an ABORT is due, which
+/// this clears; it may only inquire.
+#[tactic(auto, using(std::proofs::lemmas::Option::gets))]
+pub fn admit(programs: &mut [Program], i: usize, name: &Name, verb: &Verb) -> Option<Answer>
+    requires { i < length programs.old }
+    ensures { (desc : Described) (p : Program) → slice_get programs.old i ≡ Some p → Admits result desc p i name.now verb.now programs.old programs.new }
+{
+    if opens(verb) {
+        return Some(refused(Category::OpenError, *name));
+    }
+    if programs[i].owes_abort {
+        programs[i].owes_abort = false;
+        return Some(refused(Category::Abort, *name));
+    }
+    if is_inquiry(programs[i].mode) && changes(verb) {
+        return Some(refused(Category::ReadOnly, *name));
+    }
+    None
+}
+
+/// CLOSE.
+#[tactic(auto, using(std::proofs::lemmas::Option::gets, crate::proofs::Closed::removed), unfolding(dms_model::specs::Session::close_step))]
+pub fn close(alloc: Global, programs: &mut Vec<Program>, i: usize) -> Result<Answer, Memory>
+    requires { i < length programs.old.items }
+    ensures { (p : Program) → slice_get programs.old.items i ≡ Some p → Apart (λ s. close_step i p s) programs.old.items result programs.new.items }
+{
+    if programs[i].in_transaction {
+        return Ok(refused(Category::AuditError, programs[i].name));
+    }
+    let _closed = programs.remove(i);
+    Ok(done(alloc))
+}
+
+/// CREATE.
+#[tactic(auto, using(std::proofs::lemmas::Option::gets), unfolding(dms_model::specs::Session::create_step))]
+pub fn create(
+    alloc: Global,
+    desc: &Description,
+    programs: &mut [Program],
+    i: usize,
+    set: u16,
+) -> Result<Answer, Memory>
+    requires { i < length programs.old }
+    ensures { (p : Program) → slice_get programs.old i ≡ Some p → Apart (λ s. create_step (described desc.now) i p s set) programs.old result programs.new }
+{
+    let values = initial_values(alloc, items_of(desc, set))?;
+    areas::create(&mut programs[i], set, values);
+    Ok(done(alloc))
+}
+
+/// PUT.
+#[tactic(auto, using(std::proofs::lemmas::Option::gets), unfolding(dms_model::specs::Session::put_step))]
+pub fn put(
+    alloc: Global,
+    desc: &Description,
+    programs: &mut [Program],
+    i: usize,
+    set: u16,
+    settings: &[Setting],
+) -> Result<Answer, Memory>
+    requires { i < length programs.old }
+    ensures { (p : Program) → slice_get programs.old i ≡ Some p → Apart (λ s. put_step (described desc.now) i p s set settings.now) programs.old result programs.new }
+{
+    let Some(area) = areas::area_at(&programs[i], set) else {
+        return Ok(refused(Category::NoRecord, name_of(desc, set)));
+    };
+    let mut values = areas::copied(alloc, area)?;
+    if let Some(item) = fill(alloc, items_of(desc, set), settings, &mut values)? {
+        return Ok(refused(Category::DataError, item));
+    }
+    let new = with_values(area, values);
+    areas::put(&mut programs[i], set, new);
+    Ok(done(alloc))
+}
+
+/// GET.
+#[tactic(auto, using(std::proofs::lemmas::Option::gets), unfolding(dms_model::specs::Session::get_step))]
+pub fn get(
+    alloc: Global,
+    desc: &Description,
+    programs: &mut [Program],
+    i: usize,
+    set: u16,
+    numbers: &[u8],
+) -> Result<Answer, Memory>
+    requires { i < length programs.old }
+    ensures { (p : Program) → slice_get programs.old i ≡ Some p → Apart (λ s. get_step (described desc.now) i p s set numbers.now) programs.old result programs.new }
+{
+    let Some(area) = areas::area_at(&programs[i], set) else {
+        return Ok(refused(Category::NoRecord, name_of(desc, set)));
+    };
+    let values = areas::area_values(area);
+    let text = get_text(alloc, items_of(desc, set), values, numbers)?;
+    programs[i].active = true;
+    Ok(Answer {
+        reply: Reply::Done(text),
+        sync: None,
+    })
+}

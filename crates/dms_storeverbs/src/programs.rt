@@ -1,0 +1,120 @@
+ghost use Rattle.std.specs.Prelude.{◌≡◌, ◌≤◌, ◌<◌, length, map, replicate, List, ℕ, IfOk, [], if◌then◌else◌};
+ghost use Rattle.dms_desc.specs.Shape.{described};
+ghost use Rattle.dms_model.specs.Session.{place_of, someone_works, workers, idle, backed_out, no_work, new_program};
+
+use dms_base::{Memory, Name, Names};
+use dms_desc::Description;
+use dms_model::{Locks, Mode, Program, Work, Works};
+use std::alloc::Global;
+
+/// The place of a program, or how many there are.
+pub fn place_of(programs: &[Program], name: &Name) -> usize
+    ensures place { result ≡ place_of name.now programs.now }
+    ensures within { result ≤ length programs.now }
+{
+    for (i, program) in programs.iter().enumerate() {
+        if program.name.is(name) {
+            return i;
+        }
+    }
+    programs.len()
+}
+
+/// Whether a program is in transaction state.
+pub fn someone_works(programs: &[Program]) -> bool
+    ensures { result ≡ someone_works programs.now }
+{
+    programs.iter().any(|p| p.in_transaction)
+}
+
+/// The programs in transaction state.
+pub fn workers(alloc: Global, programs: &[Program]) -> Result<Names, Memory>
+    ensures { IfOk result (λ names. names ≡ workers programs.now) }
+{
+    let mut names = Names::new(alloc);
+    for program in programs {
+        if program.in_transaction {
+            names.push(program.name)?;
+        }
+    }
+    Ok(names)
+}
+
+/// For whom a BEGIN-TRANSACTION waits: nobody, but while a syncpoint is pending for the programs in
+/// transaction state.
+pub fn awaited(alloc: Global, pending: bool, programs: &[Program]) -> Result<Names, Memory>
+    ensures { IfOk result (λ names. names ≡ (if pending then workers programs.now else [])) }
+{
+    if pending {
+        return workers(alloc, programs);
+    }
+    Ok(Names::new(alloc))
+}
+
+/// No verb was carried out since the quiet point that was made now.
+pub fn clear_active(programs: &mut [Program])
+    ensures { programs.new ≡ map idle programs.old }
+{
+    for program in programs.iter_mut() {
+        program.active = false;
+    }
+}
+
+/// What a back-out leaves of one program.
+#[tactic(auto, unfolding(dms_model::specs::Session::backed_out))]
+fn back_out_one(program: &mut Program, name: &Name)
+    ensures { program.new ≡ backed_out name.now program.old }
+{
+    program.in_transaction = false;
+    if program.active {
+        if !program.name.is(name) {
+            program.owes_abort = true;
+        }
+        program.works.forget();
+        program.locks.free_all();
+    }
+}
+
+/// What a back-out leaves of the programs, where the one with this name asked for it.
+pub fn back_out(programs: &mut [Program], name: &Name)
+    ensures { programs.new ≡ map (backed_out name.now) programs.old }
+{
+    for program in programs.iter_mut() {
+        back_out_one(program, name);
+    }
+}
+
+/// Nothing at hand of so many data sets.
+fn no_works(alloc: Global, count: usize) -> Result<Works, Memory>
+    ensures { IfOk result (λ works. works ≡ replicate count no_work) }
+{
+    let mut works = Works::new(alloc);
+    for _set in 0..count {
+        works.push(Work {
+            current: None,
+            area: None,
+        })?;
+    }
+    Ok(works)
+}
+
+/// A program that opened the database now.
+pub fn new_program(
+    alloc: Global,
+    desc: &Description,
+    name: &Name,
+    mode: Mode,
+) -> Result<Program, Memory>
+    ensures { IfOk result (λ p. p ≡ new_program (described desc.now) name.now mode) }
+{
+    let works = no_works(alloc, desc.structures.as_slice().len())?;
+    Ok(Program {
+        name: *name,
+        mode,
+        in_transaction: false,
+        owes_abort: false,
+        active: true,
+        works,
+        locks: Locks::new(alloc),
+    })
+}

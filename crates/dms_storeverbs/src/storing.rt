@@ -1,0 +1,54 @@
+ghost use Rattle.std.specs.Prelude.{◌≡◌, IfOk};
+ghost use Rattle.dms_desc.specs.Shape.{described};
+ghost use Rattle.dms_model.specs.Db.{Db};
+ghost use Rattle.dms_storeverbs.specs.Storing.{Judges};
+
+use crate::areas::{area_at, area_number, area_values, current_at, is_free, missing, record_of};
+use crate::refusal::Refusal;
+use crate::schema::{items_of, name_of, verified};
+use dms_base::{Category, Memory, Name};
+use dms_desc::{Description, Record};
+use dms_model::Program;
+use std::alloc::Global;
+
+/// What is to be stored of a program's area.
+#[derive(Debug, Drop)]
+pub enum Judged {
+    Refused(Refusal),
+    /// This record, for the one with this number or else as a new one.
+    Ready(Option<u64>, Record),
+}
+
+fn refused(category: Category, name: Name) -> Judged
+    ensures { result ≡ Judged.Refused (record { category = category; name = name }) }
+{
+    Judged::Refused(Refusal { category, name })
+}
+
+/// Judges a program's area of a data set before it is stored. Refused in this order: no area; that of a
+/// record that the program doesn't hold locked; a REQUIRED item that is null; VERIFY not met.
+#[tactic(auto, using(crate::proofs::Stored::put_records), unfolding(dms_model::specs::Session::keep))]
+pub fn judge(
+    alloc: Global,
+    desc: &Description,
+    program: &Program,
+    set: u16,
+) -> Result<Judged, Memory>
+    ensures { IfOk result (λ j. (db : Db) → Judges j (described desc.now) program.now db set) }
+{
+    let Some(area) = area_at(program, set) else {
+        return Ok(refused(Category::NoRecord, name_of(desc, set)));
+    };
+    let current = current_at(program, set);
+    if !is_free(area, program, set, current) {
+        return Ok(refused(Category::NotLocked, name_of(desc, set)));
+    }
+    if let Some(item) = missing(items_of(desc, set), area_values(area)) {
+        return Ok(refused(Category::DataError, item));
+    }
+    if !verified(desc, set, area_values(area)) {
+        return Ok(refused(Category::DataError, name_of(desc, set)));
+    }
+    let rec = record_of(alloc, area)?;
+    Ok(Judged::Ready(area_number(area, current), rec))
+}

@@ -1,0 +1,215 @@
+ghost use Rattle.std.specs.Prelude.{◌≡◌, ◌≤◌, ◌<◌, ◌+◌, ◌^◌, ℕ, List, Bool, Some, None, IfOk, OnOk, IsErrOf, IsTrue, slice_get, length, if◌then◌else◌, []};
+ghost use Rattle.dms_base.specs.Causes.{Rose};
+ghost use Rattle.dms_desc.specs.Shape.{described};
+ghost use Rattle.dms_model.specs.declared.program.Program.{Program};
+ghost use Rattle.dms_model.specs.Db.{Db};
+ghost use Rattle.dms_model.specs.Points.{Stays, Leaves};
+ghost use Rattle.dms_model.specs.Session.{Session, find_step, found_by, verb_step, step, parts_of, key_values, set_of, at_values};
+ghost use Rattle.dms_model.specs.Members.{structure_of, items_of};
+ghost use Rattle.dms_storeverbs.specs.View.{view, Stands, Does, Makes, LeavesCall};
+
+use crate::Engine;
+use crate::apart;
+use crate::areas;
+use crate::keys::{agreeing, key_values};
+use crate::programs;
+use crate::refusal::{done, refused};
+use crate::schema::{items_of, name_of, parts_of, set_of};
+use dms_base::{Category, Literal, Name};
+use dms_block::BlockFault;
+use dms_model::{Answer, Bound, Path, Spot, Store, Verb};
+use std::alloc::Global;
+
+impl<St: Store> Engine<St> {
+    /// The first member of a path whose first key items these literals spell.
+    fn found_at(
+        &mut self,
+        alloc: Global,
+        x: u16,
+        literals: &[Literal],
+    ) -> Result<Option<Spot>, BlockFault>
+        requires sound { St.sound self.old.store }
+        requires desc { St.desc self.old.store ≡ described self.old.desc }
+        ensures found { IfOk result (λ r. (d : Db) → St.db self.old.store ≡ Some d → r ≡ at_values (key_values (parts_of (structure_of (described self.old.desc) x)) (items_of (structure_of (described self.old.desc) (set_of (described self.old.desc) x))) literals.now) (described self.old.desc) d x) }
+        ensures stands { OnOk result ((s : Session) → Stands (view (St.db self.old.store) (St.mark self.old.store) (St.next self.old.store) self.old.programs.items self.old.pending self.old.since) s → Stands (view (St.db self.new.store) (St.mark self.new.store) (St.next self.new.store) self.new.programs.items self.new.pending self.new.since) s) }
+        ensures programs { self.new.programs ≡ self.old.programs }
+        ensures points { OnOk result (IsTrue St.tells_moments → St.next self.old.store + 1 < 2 ^ 64 → Stays (St.points self.old.store) (St.sure self.old.store) (St.points self.new.store) (St.sure self.new.store)) }
+        ensures moments { IsTrue St.tells_moments → St.next self.old.store + 1 < 2 ^ 64 → Leaves (St.clock self.old.store) (St.clock self.new.store) (St.sure self.old.store) (St.points self.old.store) (St.next self.old.store) (St.said self.old.store) }
+        ensures sound { OnOk result (St.sound self.new.store) }
+        ensures next { St.next self.new.store ≡ St.next self.old.store }
+        ensures said { St.said self.new.store ≡ St.said self.old.store }
+        ensures description { self.new.desc ≡ self.old.desc }
+        ensures desc { St.desc self.new.store ≡ St.desc self.old.store }
+        ensures same { St.same_store self.old.store self.new.store }
+        ensures later { (St.disk_faults self.old.store ≤ St.disk_faults self.new.store) × (St.say_faults self.old.store ≤ St.say_faults self.new.store) × (St.fulls self.old.store ≤ St.fulls self.new.store) × (St.damages self.old.store ≤ St.damages self.new.store) }
+        ensures disk { IsErrOf result BlockFault.Disk → Rose (St.disk_faults self.old.store) (St.disk_faults self.new.store) }
+        ensures say { IsErrOf result BlockFault.Say → Rose (St.say_faults self.old.store) (St.say_faults self.new.store) }
+        ensures full { (f : ℕ) → IsErrOf result (BlockFault.Full f) → Rose (St.fulls self.old.store) (St.fulls self.new.store) }
+        ensures damaged { (f b : ℕ) → IsErrOf result (BlockFault.Damaged f b) → Rose (St.damages self.old.store) (St.damages self.new.store) }
+    {
+        let items = items_of(&self.desc, set_of(&self.desc, x));
+        let Some(values) = key_values(alloc, parts_of(&self.desc, x), items, literals)? else {
+            return Ok(None);
+        };
+        let key = values.copy(alloc)?;
+        let spot = self.store.first_from(alloc, x, 0, &Bound::From(values))?;
+        Ok(agreeing(parts_of(&self.desc, x), key.as_slice(), spot))
+    }
+
+    /// The member that a path names.
+    #[tactic(auto, using(std::proofs::lemmas::Option::gets), unfolding(dms_model::specs::Session::found_by))]
+    fn found(&mut self, alloc: Global, path: &Path) -> Result<Option<Spot>, BlockFault>
+        requires sound { St.sound self.old.store }
+        requires desc { St.desc self.old.store ≡ described self.old.desc }
+        ensures found { IfOk result (λ r. (d : Db) → St.db self.old.store ≡ Some d → r ≡ found_by (described self.old.desc) d path.now) }
+        ensures stands { OnOk result ((s : Session) → Stands (view (St.db self.old.store) (St.mark self.old.store) (St.next self.old.store) self.old.programs.items self.old.pending self.old.since) s → Stands (view (St.db self.new.store) (St.mark self.new.store) (St.next self.new.store) self.new.programs.items self.new.pending self.new.since) s) }
+        ensures programs { self.new.programs ≡ self.old.programs }
+        ensures points { OnOk result (IsTrue St.tells_moments → St.next self.old.store + 1 < 2 ^ 64 → Stays (St.points self.old.store) (St.sure self.old.store) (St.points self.new.store) (St.sure self.new.store)) }
+        ensures moments { IsTrue St.tells_moments → St.next self.old.store + 1 < 2 ^ 64 → Leaves (St.clock self.old.store) (St.clock self.new.store) (St.sure self.old.store) (St.points self.old.store) (St.next self.old.store) (St.said self.old.store) }
+        ensures sound { OnOk result (St.sound self.new.store) }
+        ensures next { St.next self.new.store ≡ St.next self.old.store }
+        ensures said { St.said self.new.store ≡ St.said self.old.store }
+        ensures description { self.new.desc ≡ self.old.desc }
+        ensures desc { St.desc self.new.store ≡ St.desc self.old.store }
+        ensures same { St.same_store self.old.store self.new.store }
+        ensures later { (St.disk_faults self.old.store ≤ St.disk_faults self.new.store) × (St.say_faults self.old.store ≤ St.say_faults self.new.store) × (St.fulls self.old.store ≤ St.fulls self.new.store) × (St.damages self.old.store ≤ St.damages self.new.store) }
+        ensures disk { IsErrOf result BlockFault.Disk → Rose (St.disk_faults self.old.store) (St.disk_faults self.new.store) }
+        ensures say { IsErrOf result BlockFault.Say → Rose (St.say_faults self.old.store) (St.say_faults self.new.store) }
+        ensures full { (f : ℕ) → IsErrOf result (BlockFault.Full f) → Rose (St.fulls self.old.store) (St.fulls self.new.store) }
+        ensures damaged { (f b : ℕ) → IsErrOf result (BlockFault.Damaged f b) → Rose (St.damages self.old.store) (St.damages self.new.store) }
+    {
+        match path {
+            Path::First(x) => self.store.first_from(alloc, *x, 0, &Bound::Start),
+            Path::Last(x) => self.store.last_to(alloc, *x, 0, &Bound::End),
+            Path::At(x, literals) => self.found_at(alloc, *x, literals.as_slice()),
+        }
+    }
+
+    /// FIND.
+    #[tactic(auto, using(std::proofs::lemmas::Option::gets), unfolding(dms_model::specs::Session::find_step))]
+    fn find(&mut self, alloc: Global, i: usize, path: &Path) -> Result<Answer, BlockFault>
+        requires place { i < length self.old.programs.items }
+        requires sound { St.sound self.old.store }
+        requires desc { St.desc self.old.store ≡ described self.old.desc }
+        ensures step { (p : Program) → slice_get self.old.programs.items i ≡ Some p → Does (view (St.db self.old.store) (St.mark self.old.store) (St.next self.old.store) self.old.programs.items self.old.pending self.old.since) (view (St.db self.new.store) (St.mark self.new.store) (St.next self.new.store) self.new.programs.items self.new.pending self.new.since) result (λ s. find_step (described self.old.desc) i p s path.now) }
+        ensures makes { IsTrue St.tells_moments → (p : Program) → slice_get self.old.programs.items i ≡ Some p → Makes (view (St.db self.old.store) (St.mark self.old.store) (St.next self.old.store) self.old.programs.items self.old.pending self.old.since) result (λ s. find_step (described self.old.desc) i p s path.now) (St.sure self.old.store) (St.points self.old.store) (St.sure self.new.store) (St.points self.new.store) }
+        ensures moments { IsTrue St.tells_moments → (p : Program) → slice_get self.old.programs.items i ≡ Some p → LeavesCall (view (St.db self.old.store) (St.mark self.old.store) (St.next self.old.store) self.old.programs.items self.old.pending self.old.since) (λ s. find_step (described self.old.desc) i p s path.now) (St.clock self.old.store) (St.clock self.new.store) (St.sure self.old.store) (St.points self.old.store) (St.next self.old.store) (St.said self.old.store) }
+        ensures sound { OnOk result (St.sound self.new.store) }
+        ensures not_fallen { St.next self.old.store ≤ St.next self.new.store }
+        ensures said { St.said self.new.store ≡ St.said self.old.store }
+        ensures description { self.new.desc ≡ self.old.desc }
+        ensures desc { St.desc self.new.store ≡ St.desc self.old.store }
+        ensures same { St.same_store self.old.store self.new.store }
+        ensures later { (St.disk_faults self.old.store ≤ St.disk_faults self.new.store) × (St.say_faults self.old.store ≤ St.say_faults self.new.store) × (St.fulls self.old.store ≤ St.fulls self.new.store) × (St.damages self.old.store ≤ St.damages self.new.store) }
+        ensures disk { IsErrOf result BlockFault.Disk → Rose (St.disk_faults self.old.store) (St.disk_faults self.new.store) }
+        ensures say { IsErrOf result BlockFault.Say → Rose (St.say_faults self.old.store) (St.say_faults self.new.store) }
+        ensures full { (f : ℕ) → IsErrOf result (BlockFault.Full f) → Rose (St.fulls self.old.store) (St.fulls self.new.store) }
+        ensures damaged { (f b : ℕ) → IsErrOf result (BlockFault.Damaged f b) → Rose (St.damages self.old.store) (St.damages self.new.store) }
+    {
+        let x = apart::path_of(path);
+        let Some(spot) = self.found(alloc, path)? else {
+            return Ok(refused(Category::NotFound, name_of(&self.desc, x)));
+        };
+        let set = set_of(&self.desc, x);
+        areas::find(&mut self.programs[i], set, spot);
+        Ok(done(alloc))
+    }
+
+    /// The verb of an open program that owes no ABORT and may do it.
+    #[tactic(auto, using(std::proofs::lemmas::Option::gets), unfolding(dms_model::specs::Session::verb_step))]
+    fn verb(&mut self, alloc: Global, i: usize, verb: &Verb) -> Result<Answer, BlockFault>
+        requires place { i < length self.old.programs.items }
+        requires sound { St.sound self.old.store }
+        requires desc { St.desc self.old.store ≡ described self.old.desc }
+        ensures step { (p : Program) → slice_get self.old.programs.items i ≡ Some p → Does (view (St.db self.old.store) (St.mark self.old.store) (St.next self.old.store) self.old.programs.items self.old.pending self.old.since) (view (St.db self.new.store) (St.mark self.new.store) (St.next self.new.store) self.new.programs.items self.new.pending self.new.since) result (λ s. verb_step (described self.old.desc) i p s verb.now) }
+        ensures makes { IsTrue St.tells_moments → (p : Program) → slice_get self.old.programs.items i ≡ Some p → Makes (view (St.db self.old.store) (St.mark self.old.store) (St.next self.old.store) self.old.programs.items self.old.pending self.old.since) result (λ s. verb_step (described self.old.desc) i p s verb.now) (St.sure self.old.store) (St.points self.old.store) (St.sure self.new.store) (St.points self.new.store) }
+        ensures moments { IsTrue St.tells_moments → (p : Program) → slice_get self.old.programs.items i ≡ Some p → LeavesCall (view (St.db self.old.store) (St.mark self.old.store) (St.next self.old.store) self.old.programs.items self.old.pending self.old.since) (λ s. verb_step (described self.old.desc) i p s verb.now) (St.clock self.old.store) (St.clock self.new.store) (St.sure self.old.store) (St.points self.old.store) (St.next self.old.store) (St.said self.old.store) }
+        ensures sound { OnOk result (St.sound self.new.store) }
+        ensures not_fallen { St.next self.old.store ≤ St.next self.new.store }
+        ensures said { St.said self.new.store ≡ St.said self.old.store }
+        ensures description { self.new.desc ≡ self.old.desc }
+        ensures desc { St.desc self.new.store ≡ St.desc self.old.store }
+        ensures same { St.same_store self.old.store self.new.store }
+        ensures later { (St.disk_faults self.old.store ≤ St.disk_faults self.new.store) × (St.say_faults self.old.store ≤ St.say_faults self.new.store) × (St.fulls self.old.store ≤ St.fulls self.new.store) × (St.damages self.old.store ≤ St.damages self.new.store) }
+        ensures disk { IsErrOf result BlockFault.Disk → Rose (St.disk_faults self.old.store) (St.disk_faults self.new.store) }
+        ensures say { IsErrOf result BlockFault.Say → Rose (St.say_faults self.old.store) (St.say_faults self.new.store) }
+        ensures full { (f : ℕ) → IsErrOf result (BlockFault.Full f) → Rose (St.fulls self.old.store) (St.fulls self.new.store) }
+        ensures damaged { (f b : ℕ) → IsErrOf result (BlockFault.Damaged f b) → Rose (St.damages self.old.store) (St.damages self.new.store) }
+    {
+        match verb {
+            Verb::OpenUpdate | Verb::OpenInquiry => {
+                Ok(refused(Category::OpenError, self.programs[i].name))
+            }
+            Verb::Close => Ok(apart::close(alloc, &mut self.programs, i)?),
+            Verb::Find(path) => self.find(alloc, i, path),
+            Verb::Create(set) => Ok(apart::create(
+                alloc,
+                &self.desc,
+                &mut self.programs,
+                i,
+                *set,
+            )?),
+            Verb::Put(set, settings) => Ok(apart::put(
+                alloc,
+                &self.desc,
+                &mut self.programs,
+                i,
+                *set,
+                settings.as_slice(),
+            )?),
+            Verb::Get(set, numbers) => Ok(apart::get(
+                alloc,
+                &self.desc,
+                &mut self.programs,
+                i,
+                *set,
+                numbers.as_slice(),
+            )?),
+            Verb::Store(set) => self.store(alloc, i, *set),
+            Verb::Begin(audit) => self.begin(alloc, i, *audit),
+            Verb::End(audit, sync) => self.end_transaction(alloc, i, *audit, *sync),
+            Verb::Abort => self.abort(alloc, i),
+        }
+    }
+
+    /// One step of a program: what its verb answers and leaves.
+    #[tactic(auto, using(std::proofs::lemmas::Option::gets), unfolding(dms_model::specs::Session::step))]
+    pub fn call(
+        &mut self,
+        alloc: Global,
+        program: &Name,
+        verb: &Verb,
+    ) -> Result<Answer, BlockFault>
+        requires sound { St.sound self.old.store }
+        requires desc { St.desc self.old.store ≡ described self.old.desc }
+        ensures step { Does (view (St.db self.old.store) (St.mark self.old.store) (St.next self.old.store) self.old.programs.items self.old.pending self.old.since) (view (St.db self.new.store) (St.mark self.new.store) (St.next self.new.store) self.new.programs.items self.new.pending self.new.since) result (λ s. step (described self.old.desc) s program.now verb.now) }
+        ensures makes { IsTrue St.tells_moments → Makes (view (St.db self.old.store) (St.mark self.old.store) (St.next self.old.store) self.old.programs.items self.old.pending self.old.since) result (λ s. step (described self.old.desc) s program.now verb.now) (St.sure self.old.store) (St.points self.old.store) (St.sure self.new.store) (St.points self.new.store) }
+        ensures moments { IsTrue St.tells_moments → LeavesCall (view (St.db self.old.store) (St.mark self.old.store) (St.next self.old.store) self.old.programs.items self.old.pending self.old.since) (λ s. step (described self.old.desc) s program.now verb.now) (St.clock self.old.store) (St.clock self.new.store) (St.sure self.old.store) (St.points self.old.store) (St.next self.old.store) (St.said self.old.store) }
+        ensures sound { OnOk result (St.sound self.new.store) }
+        ensures not_fallen { St.next self.old.store ≤ St.next self.new.store }
+        ensures said { St.said self.new.store ≡ St.said self.old.store }
+        ensures description { self.new.desc ≡ self.old.desc }
+        ensures desc { St.desc self.new.store ≡ St.desc self.old.store }
+        ensures same { St.same_store self.old.store self.new.store }
+        ensures later { (St.disk_faults self.old.store ≤ St.disk_faults self.new.store) × (St.say_faults self.old.store ≤ St.say_faults self.new.store) × (St.fulls self.old.store ≤ St.fulls self.new.store) × (St.damages self.old.store ≤ St.damages self.new.store) }
+        ensures disk { IsErrOf result BlockFault.Disk → Rose (St.disk_faults self.old.store) (St.disk_faults self.new.store) }
+        ensures say { IsErrOf result BlockFault.Say → Rose (St.say_faults self.old.store) (St.say_faults self.new.store) }
+        ensures full { (f : ℕ) → IsErrOf result (BlockFault.Full f) → Rose (St.fulls self.old.store) (St.fulls self.new.store) }
+        ensures damaged { (f b : ℕ) → IsErrOf result (BlockFault.Damaged f b) → Rose (St.damages self.old.store) (St.damages self.new.store) }
+    {
+        let i = programs::place_of(self.programs.as_slice(), program);
+        if i >= self.programs.len() {
+            return Ok(apart::open(
+                alloc,
+                &self.desc,
+                &mut self.programs,
+                program,
+                verb,
+            )?);
+        }
+        if let Some(answer) = apart::admit(&mut self.programs, i, program, verb) {
+            return Ok(answer);
+        }
+        self.verb(alloc, i, verb)
+    }
+}
