@@ -1,11 +1,9 @@
 -- Literals and conditions, as they are judged.
-use Rattle.std.specs.Prelude.{ℕ, List, [], ◌∷◌, Bool, true, false, ◌&&◌, nat_le, Some, None, if◌then◌else◌}
+use Rattle.std.specs.Prelude.{ℕ, List, Bool, true, false, ◌&&◌, nat_le, Some, None, if◌then◌else◌}
 use Rattle.std.specs.declared.option.Option.{Option}
-use Rattle.std.specs.declared.result.Result.{Result}
 use Rattle.std.specs.declared.result.Result.TheVariants.{Ok, Err}
 use Rattle.dms_base.specs.declared.op.Op.{Op}
 use Rattle.dms_base.specs.declared.value.Value.{Value}
-use Rattle.dms_base.specs.declared.value.Value.TheVariants.{Null}
 use Rattle.dms_base.specs.declared.kind.ItemKind.{ItemKind}
 use Rattle.dms_base.specs.declared.kind.ItemKind.TheVariants.{Alpha, Number as Decimal, Bool as OneBit, Field, Link}
 use Rattle.dms_base.specs.declared.kind.Literal.{Literal}
@@ -16,7 +14,6 @@ use Rattle.dms_desc.specs.Shape.Tree.{Empty, Test, Both, Either, Contrary}
 use Rattle.dasdl_parse.specs.TreeCodes.{Tree as Written}
 use Rattle.dasdl_parse.specs.TreeCodes.Tree.{Test as Compared, Both as And', Either as Or', Turned}
 use Rattle.dasdl_parse.specs.Trees.{Condition}
-use Rattle.dasdl_compile.specs.declared.fault.CompileFault.{CompileFault}
 use Rattle.dasdl_compile.specs.declared.fault.CompileFault.TheVariants.{Unknown, CondKind}
 use Rattle.dasdl_compile.specs.declared.find.Found.{Found}
 use Rattle.dasdl_compile.specs.Answers.{Judged, ◌>>=◌}

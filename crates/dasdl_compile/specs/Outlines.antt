@@ -1,8 +1,7 @@
 -- What is declared, before anything is judged: names may be used before they are declared.
-use Rattle.std.specs.Prelude.{ℕ, ◌-◌, List, [], ◌∷◌, ◌++◌, Bool, true, false, slice_get, set, Some, None, if◌then◌else◌}
+use Rattle.std.specs.Prelude.{ℕ, ◌-◌, [], ◌∷◌, ◌++◌, Bool, false, slice_get, set, Some, None, if◌then◌else◌}
 use Rattle.std.specs.declared.option.Option.{Option}
-use Rattle.std.specs.declared.result.Result.{Result}
-use Rattle.std.specs.declared.result.Result.TheVariants.{Ok, Err}
+use Rattle.std.specs.declared.result.Result.TheVariants.{Ok}
 use Rattle.dms_base.specs.declared.value.Value.TheVariants.{Null}
 use Rattle.dms_base.specs.declared.kind.ItemKind.TheVariants.{Link as LinkTo}
 use Rattle.dasdl_parse.specs.declared.declarations.Declaration.{Declaration}
@@ -10,7 +9,6 @@ use Rattle.dasdl_parse.specs.declared.declarations.Declaration.TheVariants.{Data
 use Rattle.dasdl_parse.specs.declared.declarations.DataSetDecl.{DataSetDecl}
 use Rattle.dasdl_parse.specs.declared.declarations.SetDecl.{SetDecl}
 use Rattle.dasdl_parse.specs.declared.declarations.ItemDecl.{ItemDecl}
-use Rattle.dasdl_compile.specs.declared.fault.CompileFault.{CompileFault}
 use Rattle.dasdl_compile.specs.declared.draft.Draft.{Draft}
 use Rattle.dasdl_compile.specs.declared.work.Plain.{Plain}
 use Rattle.dasdl_compile.specs.declared.work.Work.{Work}

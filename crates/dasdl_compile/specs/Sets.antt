@@ -1,7 +1,6 @@
 -- Sets and subsets, as they are judged.
-use Rattle.std.specs.Prelude.{ℕ, List, [], ◌∷◌, ◌++◌, length, Bool, true, false, not, ◌&&◌, ◌||◌, ◌==◌, nat_lt, is_some, is_none, Some, None, if◌then◌else◌}
+use Rattle.std.specs.Prelude.{ℕ, List, [], ◌∷◌, ◌++◌, Bool, true, false, not, ◌&&◌, ◌||◌, ◌==◌, nat_lt, is_some, is_none, Some, None, if◌then◌else◌}
 use Rattle.std.specs.declared.option.Option.{Option}
-use Rattle.std.specs.declared.result.Result.{Result}
 use Rattle.std.specs.declared.result.Result.TheVariants.{Ok, Err}
 use Rattle.dms_desc.specs.declared.structure.KeyPart.{KeyPart}
 use Rattle.dms_desc.specs.Shape.{Tree}
@@ -9,7 +8,6 @@ use Rattle.dms_desc.specs.Shape.Tree.{Empty}
 use Rattle.dasdl_parse.specs.Trees.{Condition}
 use Rattle.dasdl_parse.specs.declared.declarations.SetDecl.{SetDecl}
 use Rattle.dasdl_parse.specs.declared.declarations.KeyDecl.{KeyDecl}
-use Rattle.dasdl_compile.specs.declared.fault.CompileFault.{CompileFault}
 use Rattle.dasdl_compile.specs.declared.fault.CompileFault.TheVariants.{Twice, Unknown, KeyItem, CondKind, Embedding}
 use Rattle.dasdl_compile.specs.declared.draft.Draft.{Draft}
 use Rattle.dasdl_compile.specs.declared.work.Work.{Work}

@@ -1,6 +1,5 @@
-use Rattle.std.proofs.Common.{◌≡◌, ◌+◌, ◌<◌, ℕ, List, drop, length, ap, sym, ◌∙◌}
-use Rattle.dms_desc.specs.declared.structure.KeyPart.{KeyPart}
-use Rattle.dasdl_compile.specs.Widths.{plus, parts_width}
+use Rattle.std.proofs.Common.{◌+◌, ◌<◌, ℕ, drop, length, ap, sym, ◌∙◌}
+use Rattle.dasdl_compile.specs.Widths.{parts_width}
 use Rattle.dasdl_compile.proofs.Parts.{parts-one}
 use Rattle.dasdl_compile.proofs.widths.parts_width.Goals as goal
 
