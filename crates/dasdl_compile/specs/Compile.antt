@@ -35,7 +35,7 @@ abbrev pub inside_in : List Draft → Declaration → Work → Option Draft → 
 inside_in outline decl w None = Ok w
 inside_in outline decl w (Some d) = member_at outline decl d >>= λ t. Ok (record { made = set w.made (w.within - 1) t; within = open_after decl d.owner w.within })
 
--- in the data set that is open
+-- in the data set that is open; in a text of the grammar one is open wherever a member stands
 unfoldable pub inside_at : List Draft → Declaration → Work → Judged Work
 inside_at outline decl w = inside_in outline decl w (slice_get w.made (w.within - 1))
 

@@ -37,7 +37,7 @@ abbrev pub outlined_in : Plain → Declaration → Work → Option Draft → Jud
 outlined_in plain decl w None = Ok w
 outlined_in plain decl w (Some d) = outlined_member plain decl d >>= λ t. Ok (record { made = set w.made (w.within - 1) t; within = open_after decl d.owner w.within })
 
--- in the data set that is open
+-- in the data set that is open; in a text of the grammar one is open wherever a member stands
 unfoldable pub outlined_inside : Plain → Declaration → Work → Judged Work
 outlined_inside plain decl w = outlined_in plain decl w (slice_get w.made (w.within - 1))
 
