@@ -1,5 +1,5 @@
 -- What one element more of a list does.
-use Rattle.std.proofs.Common.{◌+◌, ◌≡◌, ℕ, zero, suc, List, [], ◌∷◌, true, false, if◌then◌else◌, refl, ◌∙◌, drop, arith}
+use Rattle.std.proofs.Common.{◌+◌, ◌≡◌, ℕ, suc, List, true, false, if◌then◌else◌, refl, ◌∙◌, drop, arith}
 use Rattle.std.specs.declared.result.Result.TheVariants.{Ok, Err}
 use Rattle.dasdl_parse.specs.declared.token.Lexeme.{Lexeme}
 use Rattle.dasdl_parse.specs.Cursors.{starts, is_the_sign, place_at}

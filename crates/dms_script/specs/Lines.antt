@@ -15,7 +15,7 @@ use Rattle.dms_script.specs.declared.line.Line.{Line}
 use Rattle.dms_script.specs.declared.line.Line.TheVariants.{Empty, Verb as Spoken, Bad}
 use Rattle.dms_script.specs.Cursors.{name_at}
 use Rattle.dms_script.specs.Verbs.{verb_at, close_line_at}
-use Rattle.dms_script.specs.Reads.{Read, ◌>>=◌}
+use Rattle.dms_script.specs.Reads.{◌>>=◌}
 
 -- what a line may hold: characters from the space to `~`, and tabs
 abbrev pub is_line_byte : ℕ → Bool

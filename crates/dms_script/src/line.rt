@@ -1,4 +1,4 @@
-ghost use Rattle.std.specs.Prelude.{◌≡◌, ◌≤◌, ◌<◌, ◌+◌, length, IfOk, drop, List, ℕ};
+ghost use Rattle.std.specs.Prelude.{◌≡◌, ◌≤◌, ◌<◌, ◌+◌, length, IfOk, List, ℕ};
 ghost use Rattle.std.specs.declared.result.Result.{Result};
 ghost use Rattle.dms_model.specs.declared.verb.Verb.{Verb};
 ghost use Rattle.dasdl_parse.specs.Cursors.{place_at, starts};

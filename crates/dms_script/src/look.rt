@@ -1,11 +1,11 @@
 ghost use Rattle.std.specs.Prelude.{◌≡◌, ◌≤◌, ◌+◌, map, option_map, take, length, min, OnOk, ◌++◌, IfSome, ◌==◌};
 ghost use Rattle.std.specs.Option.{option_copied};
 ghost use Rattle.std.specs.List.{list_any};
-ghost use Rattle.dms_desc.specs.Shape.{shape_of, described, Described};
+ghost use Rattle.dms_desc.specs.Shape.{shape_of, described};
 ghost use Rattle.dms_model.specs.Members.{structure_of, items_of, over};
 ghost use Rattle.dms_model.specs.declared.verb.Setting.{Setting};
 ghost use Rattle.dms_script.specs.declared.look.Target.{Target};
-ghost use Rattle.dms_script.specs.Looks.{named, is_wanted, structure_named, is_link, has_kind, counted, item_named, if_settable, target_named, key_item_of, key_item, kind_named, group_named, run_of, run_named, whole_run, numbers};
+ghost use Rattle.dms_script.specs.Looks.{named, is_wanted, structure_named, is_link, has_kind, counted, item_named, target_named, key_item_of, key_item, kind_named, group_named, run_of, run_named, whole_run, numbers};
 
 use dms_base::{ItemKind, Literal, Memory, Name};
 use dms_desc::{Description, Group, Item, KeyPart, Structure};

@@ -173,7 +173,7 @@ settle_at verb s t true b no works number mark pending e f = rw e (by_steady ver
 settle_at verb s t false true no works number mark pending e f =
     rw (e, f, no, works, idle_works t.programs, e) (record { quiets = ap (λ (n : ℕ). (n, t.db) ∷ []) number; next = ap (λ (n : ℕ). n + 1) number; mark = refl; idle = idle_twice t.programs; taken = refl; synced = λ h. ap (λ (n : ℕ). Some n) number })
 settle_at verb s t false false no works number mark pending e f =
-    rw (e, f, no, works, idle_works t.programs, e) (record { quiets = ap (λ (n : ℕ). (n, t.db) ∷ []) number; next = ap (λ (n : ℕ). n + 1) number; mark = refl; idle = idle_twice t.programs; taken = f; synced = λ h. absurd (let p = pending h in cc) })
+    rw (e, f, no, works, idle_works t.programs, e) (record { quiets = ap (λ (n : ℕ). (n, t.db) ∷ []) number; next = ap (λ (n : ℕ). n + 1) number; mark = refl; idle = idle_twice t.programs; taken = refl; synced = λ h. absurd (let p = pending h in cc) })
 
 or_pending : (a b c : Bool) → a ≡ true → (a || b || c) ≡ true
 or_pending true b c h = refl

@@ -132,7 +132,7 @@ impl<St: Store> Engine<St> {
     }
 
     /// STORE.
-    #[tactic(auto, using(std::proofs::lemmas::Option::gets), unfolding(dms_model::specs::Session::store_step))]
+    #[tactic(none)]
     pub(crate) fn store(&mut self, alloc: Global, i: usize, set: u16) -> Result<Answer, BlockFault>
         requires place { i < length self.old.programs.items }
         requires sound { St.sound self.old.store }
@@ -163,7 +163,7 @@ impl<St: Store> Engine<St> {
     }
 
     /// BEGIN-TRANSACTION.
-    #[tactic(auto, using(std::proofs::lemmas::Option::gets), unfolding(dms_model::specs::Session::begin_step))]
+    #[tactic(none)]
     pub(crate) fn begin(
         &mut self,
         alloc: Global,
@@ -210,7 +210,7 @@ impl<St: Store> Engine<St> {
     }
 
     /// END-TRANSACTION.
-    #[tactic(auto, using(std::proofs::lemmas::Option::gets), unfolding(dms_model::specs::Session::end_step))]
+    #[tactic(none)]
     pub(crate) fn end_transaction(
         &mut self,
         alloc: Global,

@@ -86,7 +86,7 @@ impl<St: Store> Engine<St> {
     }
 
     /// FIND.
-    #[tactic(auto, using(std::proofs::lemmas::Option::gets), unfolding(dms_model::specs::Session::find_step))]
+    #[tactic(none)]
     fn find(&mut self, alloc: Global, i: usize, path: &Path) -> Result<Answer, BlockFault>
         requires place { i < length self.old.programs.items }
         requires sound { St.sound self.old.store }
@@ -116,7 +116,7 @@ impl<St: Store> Engine<St> {
     }
 
     /// The verb of an open program that owes no ABORT and may do it.
-    #[tactic(auto, using(std::proofs::lemmas::Option::gets), unfolding(dms_model::specs::Session::verb_step))]
+    #[tactic(none)]
     fn verb(&mut self, alloc: Global, i: usize, verb: &Verb) -> Result<Answer, BlockFault>
         requires place { i < length self.old.programs.items }
         requires sound { St.sound self.old.store }
@@ -173,7 +173,7 @@ impl<St: Store> Engine<St> {
     }
 
     /// One step of a program: what its verb answers and leaves.
-    #[tactic(auto, using(std::proofs::lemmas::Option::gets), unfolding(dms_model::specs::Session::step))]
+    #[tactic(none)]
     pub fn call(
         &mut self,
         alloc: Global,
