@@ -21,7 +21,7 @@ use Rattle.dms_restore.proofs.Runs.{changes, quiets, writes_early, controls}
 use Rattle.dms_restore.proofs.Base.{has_append, parts}
 use Rattle.dms_restore.proofs.Converse.{opening_append, logged_below}
 use Rattle.dms_restore.proofs.Order.{eq_of}
-use Rattle.dms_restore.proofs.Stops.{begins_by, writes_by, ends_by, live_in, upto_append}
+use Rattle.dms_restore.proofs.Stops.{restore_begins, restore_writes, restore_ends, live_in, until_append}
 
 true_not_false : true ≡ false → ⊥
 true_not_false e = absurd cc
@@ -37,7 +37,7 @@ record Kept (dumps : Dumps) (base : Content) (old new : Disk) : Type 0 where
 -- a point that is live with the Control of a live point was live
 was_live : (live : List Event) (m n next : ℕ) (counts : Counts) (described : Bool) → IsLive live m → IsLive (live ++ control m next counts described ∷ []) n → IsLive live n
 was_live live m n next counts described at on = elim (bool_cases (has (is_point n) live)) [
-  | inl found ↦ record { found = found; described = ap (λ (l : List Event). has is_described l) (sym (upto_append (is_point n) live (control m next counts described ∷ []) found)) ∙ on.described }
+  | inl found ↦ record { found = found; described = ap (λ (l : List Event). has is_described l) (sym (until_append (is_point n) live (control m next counts described ∷ []) found)) ∙ on.described }
   | inr off ↦
       let last : (m == n) || false ≡ true = ap (λ k. k || ((m == n) || false)) (sym off) ∙ sym (has_append (is_point n) live (control m next counts described ∷ [])) ∙ on.found in
       elim (or_at (m == n) false last) [
@@ -48,14 +48,14 @@ was_live live m n next counts described at on = elim (bool_cases (has (is_point 
 
 one_step : (dumps : Dumps) (base : Content) (d : Disk) (s : RestoreStep) → Steady dumps d.history base d.stored → May dumps base d s → Kept dumps base d (moved d s)
 one_step dumps base d (began how m) steady ready =
-    let r = begins_by how dumps d.history base (here dumps d.history d.stored) d.stored m ready in
+    let r = restore_begins how dumps d.history base (here dumps d.history d.stored) d.stored m ready in
     record { steady = r.0; points = λ n at. (live_in d.history.live m n at, r.2 n at) }
 one_step dumps base d (wrote written) steady may =
-    let r = writes_by dumps d.history base d.stored written may.0 may.1 steady may.2 in
+    let r = restore_writes dumps d.history base d.stored written may.0 may.1 steady may.2 in
     record { steady = r.0; points = λ n at. (at, ap (λ (s : Stored). blocks_at d.history.live s n) r.1) }
 one_step dumps base d (ended written m next counts described) steady may =
     let p = may.0 in
-    let r = ends_by dumps d.history base d.stored written p next counts described may.1 steady may.3 may.4 in
+    let r = restore_ends dumps d.history base d.stored written p next counts described may.1 steady may.3 may.4 in
     let new : Disk = moved d (ended written p.point next counts described) in
     let kept : Kept dumps base d new = record {
       steady = r.0;
@@ -72,19 +72,19 @@ however_often dumps base d (s ∷ ss) steady may =
 
 -- ---- a database that runs
 
-none_source : (dumps : Dumps) (t : History) (stored : Stored) → t.pending ≡ None → here dumps t stored ≡ stored
-none_source dumps t stored none = ap (λ o. here_by o dumps stored) none
+here_unpending : (dumps : Dumps) (t : History) (stored : Stored) → t.pending ≡ None → here dumps t stored ≡ stored
+here_unpending dumps t stored none = ap (λ o. here_by o dumps stored) none
 
 steady_of : (dumps : Dumps) (t : History) (base : Content) (stored : Stored) → t.pending ≡ None → Sound (from_control t.live) base stored → Steady dumps t base stored
 steady_of dumps t base stored none sound = record {
-  sound = subst (λ (s : Stored). Sound (from_control t.live) base s) (sym (none_source dumps t stored none)) sound;
+  sound = subst (λ (s : Stored). Sound (from_control t.live) base s) (sym (here_unpending dumps t stored none)) sound;
   restored = λ p is. absurd (none_not_some p (sym none ∙ is));
   point_lives = λ p is. absurd (none_not_some p (sym none ∙ is));
 }
 
 pub runs_steady : RunsSteady
 runs_steady dumps t base stored none controlled steady =
-    let sound : Sound (from_control t.live) base stored = subst (λ (s : Stored). Sound (from_control t.live) base s) (none_source dumps t stored none) steady.sound in
+    let sound : Sound (from_control t.live) base stored = subst (λ (s : Stored). Sound (from_control t.live) base s) (here_unpending dumps t stored none) steady.sound in
     let grown : (e : Event) → from_control t.live ++ e ∷ [] ≡ from_control (t.live ++ e ∷ []) = λ e. sym (opening_append t.live (e ∷ []) controlled).1 in (
       λ f b before after tells.
           let e = change f b before after in
@@ -112,6 +112,6 @@ ranges_steady dumps t base stored f b place bytes old none found steady last =
 pub from_anything : FromAnything
 from_anything how dumps t base counted stored m steps ready may n at =
     let d : Disk = record { history = after_event t (begin m how); stored = stored } in
-    let begun = begins_by how dumps t base counted stored m ready in
+    let begun = restore_begins how dumps t base counted stored m ready in
     let rest = (however_often dumps base d steps begun.0 may).1 n at in
     (live_in t.live m n rest.0, rest.1 ∙ begun.2 n rest.0)

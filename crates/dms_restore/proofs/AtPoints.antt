@@ -1,5 +1,5 @@
 -- The content at each live point is what the entries tell.
-use Rattle.std.proofs.Common.{ℕ, ◌+◌, ◌<◌, ◌≡◌, ◌||◌, ◌⊎◌, inl, inr, Bool, true, false, cond, List, [], ◌∷◌, ◌++◌, length, Option, Some, None, refl, sym, ◌∙◌, ap, subst, arith, append_assoc}
+use Rattle.std.proofs.Common.{ℕ, ◌+◌, ◌==◌, max, ◌<◌, ◌≡◌, ◌||◌, ◌⊎◌, inl, inr, Bool, true, false, cond, List, [], ◌∷◌, ◌++◌, length, Option, Some, None, refl, sym, ◌∙◌, ap, subst, arith, append_assoc}
 use Rattle.std.proofs.lemmas.List.FromFn.{fill_by_all}
 use Rattle.std.proofs.lemmas.Bool.{cases_eq}
 use Rattle.std.proofs.lemmas.Bool.Decides.{nat_tests}
@@ -10,7 +10,7 @@ use Rattle.dms_restore.specs.Lists.{has, until_last, after_last, until_first, af
 use Rattle.dms_restore.specs.Places.{is_control, is_point}
 use Rattle.dms_restore.specs.Pick.{last_counts, raised_count, count_at, pick, content_of, blocks_at}
 use Rattle.dms_restore.specs.LawsOfPoints.{EachPoint}
-use Rattle.dms_restore.proofs.Picks.{picks, chain_split, laid_length, in_file, in_others, or_none, last_append, none_stands, replay_length}
+use Rattle.dms_restore.proofs.Picks.{choice_gives_content, chain_split, laid_length, in_file, in_others, or_none, last_append, none_stands, replay_length}
 
 pub bool_cases : (b : Bool) → (b ≡ true) ⊎ (b ≡ false)
 bool_cases true = inl refl
@@ -36,10 +36,10 @@ pub split_first : (p : Event → Bool) (es : List Event) → has p es ≡ true �
 split_first p [] found = absurd cc
 split_first p (e ∷ es) found = split_first_case (p e) (has p es) e es (until_first p es) (after_first p es) found (λ more. split_first p es more)
 
-has_upto : (p : Event → Bool) (es : List Event) → has p (until_last p es) ≡ has p es
-has_upto p [] = refl
-has_upto p (e ∷ es) = elim (bool_cases (has p (e ∷ es))) [
-  | inl sure ↦ ap (λ b. has p (cond b (e ∷ until_last p es) [])) sure ∙ ap (λ b. p e || b) (has_upto p es)
+has_until : (p : Event → Bool) (es : List Event) → has p (until_last p es) ≡ has p es
+has_until p [] = refl
+has_until p (e ∷ es) = elim (bool_cases (has p (e ∷ es))) [
+  | inl sure ↦ ap (λ b. has p (cond b (e ∷ until_last p es) [])) sure ∙ ap (λ b. p e || b) (has_until p es)
   | inr off ↦ ap (λ b. has p (cond b (e ∷ until_last p es) [])) off ∙ sym off
 ]
 
@@ -66,13 +66,13 @@ pub suffix_none : (p : Event → Bool) (es : List Event) (f b : ℕ) → last_af
 suffix_none p es f b none =
     (or_none (last_after f b (after_last p es)) (last_after f b (until_last p es)) (sym (last_append (until_last p es) (after_last p es) f b) ∙ ap (λ (l : List Event). last_after f b l) (split_last p es) ∙ none)).0
 
--- from_control the last Control of a front that ends with one
+-- behind the last Control of a front that ends with one
 after_front : (p : Event → Bool) (xs ys : List Event) (f b : ℕ) → last_after f b ys ≡ None → last_after f b (after_last p (until_last p xs ++ ys)) ≡ None
 after_front p [] ys f b none = suffix_none p ys f b none
 after_front p (e ∷ xs) ys f b none = elim (bool_cases (has p (e ∷ xs))) [
   | inl sure ↦
       let found : has p (e ∷ (until_last p xs ++ ys)) ≡ true =
-      has_append_left p (e ∷ until_last p xs) ys (ap (λ c. p e || c) (has_upto p xs) ∙ sure) in
+      has_append_left p (e ∷ until_last p xs) ys (ap (λ c. p e || c) (has_until p xs) ∙ sure) in
       ap (λ c. last_after f b (after_last p (cond c (e ∷ until_last p xs) [] ++ ys))) sure
       ∙ ap (λ c. last_after f b (cond c (after_last p (until_last p xs ++ ys)) (e ∷ (until_last p xs ++ ys)))) found
       ∙ after_front p xs ys f b none
@@ -113,7 +113,9 @@ counts_are k (begin n how ∷ es) c f chain found = absurd chain
 pub count_one : (c : Content) (f g b : ℕ) (before : Option Block) (after : Block) → Tells b before (c g) → raised_count f (change g b before after ∷ []) (length (c f)) ≡ length (with_block c g b after f)
 count_one c f g b None after tells = elim (cases_eq g f) [
   | inl same ↦
-      let here : raised_count f (change g b None after ∷ []) (length (c f)) ≡ b + 1 = grind (arith, nat_tests) in
+      let long : b ≡ length (c f) = tells ∙ ap (λ j. length (c j)) same in
+      let on : (g == f) ≡ true = grind (arith, nat_tests) in
+      let here : raised_count f (change g b None after ∷ []) (length (c f)) ≡ b + 1 = ap (λ t. cond t (max (length (c f)) (b + 1)) (length (c f))) on ∙ omega (arith, long) in
       let there : length (with_block c g b after g) ≡ b + 1 = omega (arith, ap length (in_file c g b after), laid_length b after (c g) (omega (arith, tells)), tells) in
       here ∙ sym there ∙ ap (λ j. length (with_block c g b after j)) same
   | inr other ↦
@@ -171,5 +173,5 @@ each_point entries base stored n sound found from_control =
     let count : (f : ℕ) → raised_count f mid (last_counts (λ _. 0) before f) ≡ length (replay mid start f) =
     λ f. ap (λ k. raised_count f mid k) (counts_are (λ _. 0) before base f before_chain from_control) ∙ count_is mid start f mid_chain in
     (λ i f. sym (fill_by_all (choice mid late stored f) (replay mid start f) (raised_count f mid (last_counts (λ _. 0) before f)) [] (sym (count f))
-    (λ k low. sym (picks mid late start stored behind_chain kept f k (omega (arith, low, count f))))) i)
+    (λ k low. sym (choice_gives_content mid late start stored behind_chain kept f k (omega (arith, low, count f))))) i)
     ∙ sym there

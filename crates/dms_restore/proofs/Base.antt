@@ -1,5 +1,5 @@
 -- Where a trail and its blocks agree, they have a base.
-use Rattle.std.proofs.Common.{ℕ, ◌+◌, ◌<◌, ◌≡◌, ◌==◌, ◌||◌, ◌⊎◌, inl, inr, Bool, true, false, cond, List, [], ◌∷◌, ◌++◌, length, Option, Some, None, refl, sym, ◌∙◌, ap, subst, arith, append_assoc}
+use Rattle.std.proofs.Common.{ℕ, ◌+◌, max, ◌<◌, ◌≡◌, ◌==◌, ◌||◌, ◌⊎◌, inl, inr, Bool, true, false, cond, List, [], ◌∷◌, ◌++◌, length, Option, Some, None, refl, sym, ◌∙◌, ap, subst, arith, append_assoc}
 use Rattle.std.proofs.lemmas.List.FromFn.{length-map-range_with_len, get_or-map-range_with_len}
 use Rattle.std.proofs.lemmas.Bool.Decides.{nat_tests}
 use Rattle.dms_restore.specs.Events.{Block, Content, Stored, Counts, Event, change, quiet, control, begin, block_in}
@@ -16,13 +16,13 @@ use Rattle.dms_restore.proofs.AtPoints.{count_one, or_no, true_or, or_true_right
 
 -- ---- lists
 
-pub listed_length : (counts : Counts) (s : Stored) (f : ℕ) → length (content_of counts s f) ≡ counts f
+pub content_length : (counts : Counts) (s : Stored) (f : ℕ) → length (content_of counts s f) ≡ counts f
 unfolding content_of
-listed_length counts s f = length-map-range_with_len (s f) 0 (counts f)
+content_length counts s f = length-map-range_with_len (s f) 0 (counts f)
 
-pub listed_block : (counts : Counts) (s : Stored) (f b : ℕ) → b < counts f → block_in (content_of counts s) f b ≡ s f b
+pub content_block : (counts : Counts) (s : Stored) (f b : ℕ) → b < counts f → block_in (content_of counts s) f b ≡ s f b
 unfolding content_of
-listed_block counts s f b low = get_or-map-range_with_len (s f) 0 (counts f) b b [] low (omega arith)
+content_block counts s f b low = get_or-map-range_with_len (s f) 0 (counts f) b b [] low (omega arith)
 
 true_not_false : true ≡ false → ⊥
 true_not_false e = absurd cc
@@ -30,26 +30,26 @@ true_not_false e = absurd cc
 pub at_self : (f b : ℕ) → is_at f b f b ≡ true
 at_self f b = grind (arith, nat_tests)
 
-pub reach_append : (xs ys : List Event) (f k : ℕ) → reached_count f k (xs ++ ys) ≡ reached_count f (reached_count f k xs) ys
-reach_append [] ys f k = refl
-reach_append (change g b None after ∷ xs) ys f k = reach_append xs ys f (cond (g == f) (b + 1) k)
-reach_append (change g b (Some old) after ∷ xs) ys f k = reach_append xs ys f k
-reach_append (quiet n ∷ xs) ys f k = reach_append xs ys f k
-reach_append (control n next counts described ∷ xs) ys f k = reach_append xs ys f (counts f)
-reach_append (begin n how ∷ xs) ys f k = reach_append xs ys f k
+pub reached_append : (xs ys : List Event) (f k : ℕ) → reached_count f k (xs ++ ys) ≡ reached_count f (reached_count f k xs) ys
+reached_append [] ys f k = refl
+reached_append (change g b None after ∷ xs) ys f k = reached_append xs ys f (cond (g == f) (max k (b + 1)) k)
+reached_append (change g b (Some old) after ∷ xs) ys f k = reached_append xs ys f k
+reached_append (quiet n ∷ xs) ys f k = reached_append xs ys f k
+reached_append (control n next counts described ∷ xs) ys f k = reached_append xs ys f (counts f)
+reached_append (begin n how ∷ xs) ys f k = reached_append xs ys f k
 
--- from_control a Control it doesn't count what was before
-pub reach_any : (xs : List Event) (f k j : ℕ) → has is_control xs ≡ true → reached_count f k xs ≡ reached_count f j xs
-reach_any [] f k j found = absurd cc
-reach_any (change g b None after ∷ xs) f k j found = reach_any xs f _ _ found
-reach_any (change g b (Some old) after ∷ xs) f k j found = reach_any xs f k j found
-reach_any (quiet n ∷ xs) f k j found = reach_any xs f k j found
-reach_any (control n next counts described ∷ xs) f k j found = refl
-reach_any (begin n how ∷ xs) f k j found = reach_any xs f k j found
+-- behind a Control it doesn't count what was before
+pub reached_any : (xs : List Event) (f k j : ℕ) → has is_control xs ≡ true → reached_count f k xs ≡ reached_count f j xs
+reached_any [] f k j found = absurd cc
+reached_any (change g b None after ∷ xs) f k j found = reached_any xs f _ _ found
+reached_any (change g b (Some old) after ∷ xs) f k j found = reached_any xs f k j found
+reached_any (quiet n ∷ xs) f k j found = reached_any xs f k j found
+reached_any (control n next counts described ∷ xs) f k j found = refl
+reached_any (begin n how ∷ xs) f k j found = reached_any xs f k j found
 
-pub reach_one : (f k g b : ℕ) (before : Option Block) (after : Block) → reached_count f k (change g b before after ∷ []) ≡ raised_count f (change g b before after ∷ []) k
-reach_one f k g b None after = refl
-reach_one f k g b (Some old) after = refl
+pub reached_one : (f k g b : ℕ) (before : Option Block) (after : Block) → reached_count f k (change g b before after ∷ []) ≡ raised_count f (change g b before after ∷ []) k
+reached_one f k g b None after = refl
+reached_one f k g b (Some old) after = refl
 
 pub has_append : (p : Event → Bool) (xs ys : List Event) → has p (xs ++ ys) ≡ (has p xs || has p ys)
 has_append p [] ys = refl
@@ -82,7 +82,7 @@ none_first (quiet n ∷ es) f b none = none_first es f b none
 none_first (control n next counts described ∷ es) f b none = none_first es f b none
 none_first (begin n how ∷ es) f b none = none_first es f b none
 
--- ---- the fields of what stands from_control the first Control
+-- ---- the fields of what stands behind the first Control
 
 record Fields (all : List Event) : Type 0 where
   linked : (xs ys : List Event) (f b : ℕ) (before : Option Block) (after old : Block) → xs ++ change f b before after ∷ ys ≡ all → last_after f b xs ≡ Some old → before ≡ Some old
@@ -111,7 +111,7 @@ moves xs es c f b before after walk tells =
     let e = change f b before after in
     let le = tells_le b before (c f) tells in
     record {
-      lengths = λ g. sym (reach_append xs (e ∷ []) g 0 ∙ ap (λ k. reached_count g k (e ∷ [])) (sym (walk.lengths g)) ∙ reach_one g (length (c g)) f b before after ∙ count_one c g f b before after tells);
+      lengths = λ g. sym (reached_append xs (e ∷ []) g 0 ∙ ap (λ k. reached_count g k (e ∷ [])) (sym (walk.lengths g)) ∙ reached_one g (length (c g)) f b before after ∙ count_one c g f b before after tells);
       afters = λ g k x last.
           let both : or_else (cond (is_at g k f b) (Some after) None) (last_after g k xs) ≡ Some x = sym (last_append xs (e ∷ []) g k) ∙ last in
           elim (place_cases g k f b) [
@@ -146,7 +146,7 @@ walks all fields (change f b before after ∷ es) xs c is found off walk =
     )
 walks all fields (quiet n ∷ es) xs c is found off walk =
     walks all fields es (xs ++ quiet n ∷ []) c (append_assoc xs (quiet n ∷ []) es ∙ is) (has_append is_control xs (quiet n ∷ []) ∙ true_or (has is_control xs) false found) off (record {
-      lengths = λ f. walk.lengths f ∙ sym (reach_append xs (quiet n ∷ []) f 0);
+      lengths = λ f. walk.lengths f ∙ sym (reached_append xs (quiet n ∷ []) f 0);
       afters = λ f b x last. walk.afters f b x (sym (last_append xs (quiet n ∷ []) f b) ∙ last);
       firsts = λ f b o none low first. walk.firsts f b o (sym (last_append xs (quiet n ∷ []) f b) ∙ none) low first;
     })
@@ -155,7 +155,7 @@ walks all fields (control n next counts described ∷ es) xs c is found off walk
     let count : (f : ℕ) → counts f ≡ length (c f) = λ f. fields.recounts xs es n next counts described is found f ∙ sym (walk.lengths f) in (
       count,
       walks all fields es (xs ++ e ∷ []) c (append_assoc xs (e ∷ []) es ∙ is) (has_append is_control xs (e ∷ []) ∙ or_true_right (has is_control xs) true refl) off (record {
-        lengths = λ f. sym (count f) ∙ sym (reach_append xs (e ∷ []) f 0);
+        lengths = λ f. sym (count f) ∙ sym (reached_append xs (e ∷ []) f 0);
         afters = λ f b x last. walk.afters f b x (sym (last_append xs (e ∷ []) f b) ∙ last);
         firsts = λ f b o none low first. walk.firsts f b o (sym (last_append xs (e ∷ []) f b) ∙ none) low first;
       }),
@@ -171,10 +171,10 @@ fields_of first entries live next counted agrees =
     record {
       linked = λ xs ys f b before after old is last. agrees.linked (os ++ xs) ys f b before after old (whole xs ys (change f b before after) is)
           (last_append os xs f b ∙ ap (λ o. or_else o (last_after f b os)) last);
-      grows = λ xs ys f b before after is found. subst (λ k. FitsCount before b k) (reach_append os xs f 0 ∙ reach_any xs f _ 0 found)
+      grows = λ xs ys f b before after is found. subst (λ k. FitsCount before b k) (reached_append os xs f 0 ∙ reached_any xs f _ 0 found)
           (agrees.grows (os ++ xs) ys f b before after (whole xs ys (change f b before after) is) (has_append is_control os xs ∙ or_true_right (has is_control os) (has is_control xs) found));
       recounts = λ xs ys n later counts described is found f. agrees.recounts (os ++ xs) ys n later counts described (whole xs ys (control n later counts described) is) (has_append is_control os xs ∙ or_true_right (has is_control os) (has is_control xs) found) f
-          ∙ reach_append os xs f 0 ∙ reach_any xs f _ 0 found;
+          ∙ reached_append os xs f 0 ∙ reached_any xs f _ 0 found;
     }
 
 -- ---- all that starts with a Control
@@ -182,12 +182,12 @@ fields_of first entries live next counted agrees =
 abbrev pub Starts : List Event → Counts → Type 0
 Starts es k = (n : ℕ) × (later : ℕ) × (rest : List Event) × (described : Bool) × (es ≡ control n later k described ∷ rest)
 
-pub behind_cases : (es : List Event) → (from_control es ≡ []) ⊎ Starts (from_control es) (first_counts es)
-behind_cases [] = inl refl
-behind_cases (change f b before after ∷ es) = behind_cases es
-behind_cases (quiet n ∷ es) = behind_cases es
-behind_cases (control n next counts described ∷ es) = inr (n, next, es, described, refl)
-behind_cases (begin n how ∷ es) = behind_cases es
+pub from_cases : (es : List Event) → (from_control es ≡ []) ⊎ Starts (from_control es) (first_counts es)
+from_cases [] = inl refl
+from_cases (change f b before after ∷ es) = from_cases es
+from_cases (quiet n ∷ es) = from_cases es
+from_cases (control n next counts described ∷ es) = inr (n, next, es, described, refl)
+from_cases (begin n how ∷ es) = from_cases es
 
 first_none_counts : (es : List Event) → from_control es ≡ [] → (f : ℕ) → first_counts es f ≡ 0
 first_none_counts [] none f = refl
@@ -199,9 +199,9 @@ first_none_counts (begin n how ∷ es) none f = first_none_counts es none f
 start_walk : (n later : ℕ) (k : Counts) (described : Bool) (rest : List Event) (counted : Stored) → Walk (control n later k described ∷ []) rest (content_of k (choice [] (control n later k described ∷ rest) counted))
 unfolding choice
 start_walk n later k described rest counted = record {
-  lengths = λ f. listed_length k _ f;
+  lengths = λ f. content_length k _ f;
   afters = λ f b x last. absurd (not_some x last);
-  firsts = λ f b o none low first. listed_block k _ f b (subst (λ j. b < j) (listed_length k _ f) low) ∙ ap (λ t. value None t (counted f b)) first;
+  firsts = λ f b o none low first. content_block k _ f b (subst (λ j. b < j) (content_length k _ f) low) ∙ ap (λ t. value None t (counted f b)) first;
 }
   where
     not_some : (x : Block) → None ≡ Some x → ⊥
@@ -213,7 +213,7 @@ chain_from all k counted fields off (n, later, rest, described, is) =
     let same : content_of k (choice [] (control n later k described ∷ rest) counted) ≡ base = ap (λ (l : List Event). content_of k (choice [] l counted)) (sym is) in
     let off_rest : has is_begin rest ≡ false = sym (ap (λ (l : List Event). has is_begin l) is) ∙ off in
     subst (λ (l : List Event). Chain l base) (sym is) (
-      (λ f. sym (listed_length k (choice [] all counted) f)),
+      (λ f. sym (content_length k (choice [] all counted) f)),
       subst (λ (c : Content). Chain rest c) same (walks all fields rest (control n later k described ∷ []) (content_of k (choice [] (control n later k described ∷ rest) counted)) (sym is) refl off_rest (start_walk n later k described rest counted)),
     )
 
@@ -222,8 +222,8 @@ after_behind p [] xs found = refl
 after_behind p (e ∷ os) xs found =
     ap (λ b. cond b (after_last p (os ++ xs)) (e ∷ (os ++ xs))) (or_true_right (p e) (has p (os ++ xs)) (has_append p os xs ∙ or_true_right (has p os) (has p xs) found)) ∙ after_behind p os xs found
 
-no_begin_behind : (es : List Event) → has is_begin es ≡ false → has is_begin (from_control es) ≡ false
-no_begin_behind es off = (or_no (has is_begin (opening es)) (has is_begin (from_control es)) (sym (has_append is_begin (opening es) (from_control es)) ∙ ap (λ (l : List Event). has is_begin l) (parts es) ∙ off)).1
+no_begin_from : (es : List Event) → has is_begin es ≡ false → has is_begin (from_control es) ≡ false
+no_begin_from es off = (or_no (has is_begin (opening es)) (has is_begin (from_control es)) (sym (has_append is_begin (opening es) (from_control es)) ∙ ap (λ (l : List Event). has is_begin l) (parts es) ∙ off)).1
 
 pub starts_has : (es : List Event) (k : Counts) → Starts es k → has is_control es ≡ true
 starts_has es k (n, later, rest, described, is) = ap (λ (l : List Event). has is_control l) is
@@ -232,20 +232,20 @@ pub stored_pick : (es : List Event) (s : Stored) (f b : ℕ) → first_before f 
 unfolding choice
 stored_pick es s f b none = ap (λ t. value None t (s f b)) none
 
-pub agrees_sound : AgreesHasBase
+pub agrees_has_base : AgreesHasBase
 unfolding base_of
-agrees_sound first entries live next counted off agrees = elim (behind_cases live) [
+agrees_has_base first entries live next counted off agrees = elim (from_cases live) [
   | inl none ↦ record {
     chain = subst (λ (l : List Event). Chain l (base_of live counted)) (sym none) tt;
     stands = λ f b low out.
         let low2 : b < length (base_of live counted f) = subst (λ (l : List Event). b < length (replay l (base_of live counted) f)) none low in
-        absurd (omega (arith, low2, listed_length (first_counts live) (choice [] (from_control live) counted) f, first_none_counts live none f));
+        absurd (omega (arith, low2, content_length (first_counts live) (choice [] (from_control live) counted) f, first_none_counts live none f));
   }
   | inr starts ↦
       let all = from_control live in
       let base = base_of live counted in
       let found : has is_control all ≡ true = starts_has all (first_counts live) starts in
-      let chain : Chain all base = chain_from all (first_counts live) counted (fields_of first entries live next counted agrees) (no_begin_behind live off) starts in
+      let chain : Chain all base = chain_from all (first_counts live) counted (fields_of first entries live next counted agrees) (no_begin_from live off) starts in
       let late : after_last is_control live ≡ after_last is_control all = ap (λ (l : List Event). after_last is_control l) (sym (parts live)) ∙ after_behind is_control (opening live) all found in
       record {
         chain = chain;
@@ -255,8 +255,8 @@ agrees_sound first entries live next counted off agrees = elim (behind_cases liv
               agrees.stands f b x is_last (ap (λ (l : List Event). last_after f b l) late ∙ out) ∙ sym (last_stands all base f b x chain is)
           | inl none ↦
               let (old, same) = none_stands all base f b chain none low in
-              let count : b < first_counts live f = omega (arith, old, listed_length (first_counts live) (choice [] all counted) f) in
-              sym (same ∙ listed_block (first_counts live) (choice [] all counted) f b count ∙ stored_pick all counted f b (none_first all f b none))
+              let count : b < first_counts live f = omega (arith, old, content_length (first_counts live) (choice [] all counted) f) in
+              sym (same ∙ content_block (first_counts live) (choice [] all counted) f b count ∙ stored_pick all counted f b (none_first all f b none))
         ];
       }
 ]

@@ -10,7 +10,7 @@ use Rattle.dms_restore.specs.Agrees.{reached_count, FitsCount}
 use Rattle.dms_restore.specs.LawsOfBase.{AgreesLeadsToBase, BaseAgrees}
 use Rattle.dms_restore.proofs.Picks.{tells_le, place_cases, laid_length, in_file, replay_length, first_none, option_cases, or_none, if_none, if_some, some_is, last_append, last_stands, none_stands, chain_split}
 use Rattle.dms_restore.proofs.AtPoints.{suffix_none, bool_cases, count_one}
-use Rattle.dms_restore.proofs.Base.{listed_length, listed_block, at_self, reach_append, reach_any, reach_one, has_append, parts, opens, behind_cases, after_behind, stored_pick, Starts, starts_has}
+use Rattle.dms_restore.proofs.Base.{content_length, content_block, at_self, reached_append, reached_any, reached_one, has_append, parts, opens, from_cases, after_behind, stored_pick, Starts, starts_has}
 
 true_not_false : true ≡ false → ⊥
 true_not_false e = absurd cc
@@ -50,17 +50,17 @@ first_is (begin m how ∷ os) n later k described zs off = first_is os n later k
 
 -- ---- counts and blocks by the chain
 
-pub chain_reach : (es : List Event) (c : Content) (f : ℕ) → Chain es c → reached_count f (length (c f)) es ≡ length (replay es c f)
-chain_reach [] c f chain = refl
-chain_reach (change g b before after ∷ es) c f chain =
-    reach_append (change g b before after ∷ []) es f (length (c f)) ∙ ap (λ k. reached_count f k es) (reach_one f (length (c f)) g b before after ∙ count_one c f g b before after chain.0) ∙ chain_reach es (with_block c g b after) f chain.1
-chain_reach (quiet n ∷ es) c f chain = chain_reach es c f chain
-chain_reach (control n next counts described ∷ es) c f chain = ap (λ k. reached_count f k es) (chain.0 f) ∙ chain_reach es c f chain.1
-chain_reach (begin n how ∷ es) c f chain = absurd chain
+pub chain_reached : (es : List Event) (c : Content) (f : ℕ) → Chain es c → reached_count f (length (c f)) es ≡ length (replay es c f)
+chain_reached [] c f chain = refl
+chain_reached (change g b before after ∷ es) c f chain =
+    reached_append (change g b before after ∷ []) es f (length (c f)) ∙ ap (λ k. reached_count f k es) (reached_one f (length (c f)) g b before after ∙ count_one c f g b before after chain.0) ∙ chain_reached es (with_block c g b after) f chain.1
+chain_reached (quiet n ∷ es) c f chain = chain_reached es c f chain
+chain_reached (control n next counts described ∷ es) c f chain = ap (λ k. reached_count f k es) (chain.0 f) ∙ chain_reached es c f chain.1
+chain_reached (begin n how ∷ es) c f chain = absurd chain
 
 reached : (xs : List Event) (base : Content) (f : ℕ) → Chain (from_control xs) base → has is_control (from_control xs) ≡ true → reached_count f 0 xs ≡ length (replay (from_control xs) base f)
 reached xs base f chain found =
-    ap (λ (l : List Event). reached_count f 0 l) (sym (parts xs)) ∙ reach_append (opening xs) (from_control xs) f 0 ∙ reach_any (from_control xs) f _ (length (base f)) found ∙ chain_reach (from_control xs) base f chain
+    ap (λ (l : List Event). reached_count f 0 l) (sym (parts xs)) ∙ reached_append (opening xs) (from_control xs) f 0 ∙ reached_any (from_control xs) f _ (length (base f)) found ∙ chain_reached (from_control xs) base f chain
 
 -- a block that was logged is there
 pub logged_below : (es : List Event) (c : Content) (f b : ℕ) (x : Block) → Chain es c → last_after f b es ≡ Some x → b < length (replay es c f)
@@ -138,24 +138,24 @@ logged_some xs ys f b before after none =
     let last = or_none (last_after f b ys) (cond (is_at f b f b) (Some after) None) both.0 in
     true_not_false (sym (at_self f b) ∙ if_none (is_at f b f b) after last.1)
 
--- with no Control all stands from_control the last one
+-- with no Control all stands behind the last one
 pub all_after : (es : List Event) → has is_control es ≡ false → after_last is_control es ≡ es
 all_after [] off = refl
 all_after (e ∷ es) off = ap (λ b. cond b (after_last is_control es) (e ∷ es)) off
 
--- ---- from ListAgrees
+-- ---- from the agreement
 
 has_starts : (es : List Event) → has is_control es ≡ true → Starts (from_control es) (first_counts es)
-has_starts es found = elim (behind_cases es) [
+has_starts es found = elim (from_cases es) [
   | inr starts ↦ starts
   | inl none ↦
       let off : has is_control es ≡ false = ap (λ (l : List Event). has is_control l) (sym (parts es)) ∙ has_append is_control (opening es) (from_control es) ∙ (λ i. opens es i || has is_control (none i)) in
       absurd (true_not_false (sym found ∙ off))
 ]
 
-pub agrees_opened : AgreesLeadsToBase
+pub agrees_leads : AgreesLeadsToBase
 unfolding base_of
-agrees_opened first entries live next counted agrees found =
+agrees_leads first entries live next counted agrees found =
     let os = opening live in
     let all = from_control live in
     let k = first_counts live in
@@ -182,17 +182,17 @@ agrees_opened first entries live next counted agrees found =
                   let was : o ≡ Some x = agrees.linked (os ++ s.0) s.1 f b o s.2 x at (last_append os s.0 f b ∙ ap (λ t. or_else t (last_after f b os)) s.4 ∙ last) in
                   first_pick all counted f b x (is ∙ ap (λ t. Some t) was)
             ] in
-            (omega (arith, low, listed_length k (choice [] all counted) f), listed_block k (choice [] all counted) f b low ∙ is_here);
+            (omega (arith, low, content_length k (choice [] all counted) f), content_block k (choice [] all counted) f b low ∙ is_here);
         linked = λ xs ys f b before after old is last.
             agrees.linked xs (ys ++ all) f b before after old (sym (parts live) ∙ ap (λ (l : List Event). l ++ all) is ∙ append_assoc xs (change f b before after ∷ ys) all) last;
       },
-      λ yes f. listed_length k (choice [] all counted) f ∙ agrees.empty os starts.2 starts.0 starts.1 k starts.3 yes whole (opens live) f,
+      λ yes f. content_length k (choice [] all counted) f ∙ agrees.empty os starts.2 starts.0 starts.1 k starts.3 yes whole (opens live) f,
     )
 
--- ---- to ListAgrees
+-- ---- to the agreement
 
 module _ (live : List Event) (base : Content) (counted : Stored) (sound : Sound (from_control live) base counted) (opened : Opened (opening live) base) where
-  -- a split from_control the first Control
+  -- a split behind the first Control
   behind_split : (xs ys : List Event) (e : Event) → live ≡ xs ++ e ∷ ys → has is_control xs ≡ true → Chain (from_control xs) base × Chain (e ∷ ys) (replay (from_control xs) base)
   behind_split xs ys e is found =
       chain_split (from_control xs) (e ∷ ys) base (subst (λ (l : List Event). Chain l base) (ap (λ (l : List Event). from_control l) is ∙ (opening_append xs (e ∷ ys) found).1) sound.chain)
@@ -263,8 +263,8 @@ module _ (live : List Event) (base : Content) (counted : Stored) (sound : Sound 
         ]
   ]
 
-pub sound_agrees : BaseAgrees
-sound_agrees first entries live next counted base sound opened numbered empty = record {
+pub base_agrees : BaseAgrees
+base_agrees first entries live next counted base sound opened numbered empty = record {
   never_fall = numbered.never_fall;
   below_next = numbered.below_next;
   alone = numbered.alone;

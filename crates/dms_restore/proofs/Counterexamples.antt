@@ -13,7 +13,7 @@ use Rattle.dms_restore.specs.Numbers.{NothingBegun}
 use Rattle.dms_restore.proofs.Picks.{last_stands, place_cases, write_old, if_none}
 use Rattle.dms_restore.proofs.AtPoints.{or_true_right}
 use Rattle.dms_restore.proofs.Base.{has_append}
-use Rattle.dms_restore.proofs.Converse.{logged_below, sound_agrees}
+use Rattle.dms_restore.proofs.Converse.{logged_below, base_agrees}
 use Rattle.dms_restore.proofs.Order.{not_empty, numbers_first, numbers_change, numbers_quiet, numbers_begin}
 
 one_block : Counts
@@ -79,7 +79,7 @@ nothing f = []
 
 lists_agree : (stored : Stored) → ListAgrees true rebuilding logged (next_number rebuilding) (here false_dumps (history rebuilding) stored)
 unfolding nothing
-lists_agree stored = sound_agrees true rebuilding logged (next_number rebuilding) (here false_dumps (history rebuilding) stored) nothing
+lists_agree stored = base_agrees true rebuilding logged (next_number rebuilding) (here false_dumps (history rebuilding) stored) nothing
     (record {
       chain = ((λ f. refl), ((refl, tt)));
       stands = λ f b low none. elim (place_cases f b 3 0) [

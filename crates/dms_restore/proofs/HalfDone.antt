@@ -23,9 +23,9 @@ has_front p q (e ∷ es) found = go (p e) (has p es) (λ more. has_front p q es 
     go false false rest at = absurd (false_is_true at)
 
 -- a front of a front
-pub upto_upto : (p q : Event → Bool) (es : List Event) → has q (until_first p es) ≡ true → until_first q (until_first p es) ≡ until_first q es
-upto_upto p q [] found = refl
-upto_upto p q (e ∷ es) found = go (p e) (has p es) (λ more. upto_upto p q es more) (λ more. has_front p q es more) found
+pub until_until : (p q : Event → Bool) (es : List Event) → has q (until_first p es) ≡ true → until_first q (until_first p es) ≡ until_first q es
+until_until p q [] found = refl
+until_until p q (e ∷ es) found = go (p e) (has p es) (λ more. until_until p q es more) (λ more. has_front p q es more) found
   where
     whole : Type 0
     whole = until_first q (e ∷ es) ≡ until_first q (e ∷ es)

@@ -1,4 +1,4 @@
--- The numbers of point_numbers stay in order.
+-- The numbers of points stay in order.
 use Rattle.std.proofs.Common.{ℕ, ◌+◌, ◌-◌, ◌^◌, ◌<◌, ◌≤◌, max, ◌≡◌, ◌==◌, ◌||◌, ◌⊎◌, inl, inr, Bool, true, false, cond, Option, Some, None, List, [], ◌∷◌, ◌++◌, refl, sym, ◌∙◌, ap, subst, arith, append_assoc}
 use Rattle.std.proofs.lemmas.Bool.Decides.{nat_tests}
 use Rattle.dms_restore.specs.Events.{Counts, How, Event, change, quiet, control, begin}
@@ -9,7 +9,7 @@ use Rattle.dms_restore.specs.Agrees.{ends_restore, Numbered}
 use Rattle.dms_restore.specs.Numbers.{RollsBack, LastPoints, Carries, NextStays, UsedOnce, NumbersChange, NumbersQuiet, NumbersBegin, NumbersControl, TrueDumpServes, NumbersFirst}
 use Rattle.dms_restore.proofs.Cuts.{until_none}
 use Rattle.dms_restore.proofs.AtPoints.{bool_cases, split_first}
-use Rattle.dms_restore.proofs.HalfDone.{upto_upto, or_at}
+use Rattle.dms_restore.proofs.HalfDone.{until_until, or_at}
 use Rattle.dms_restore.proofs.Base.{has_append}
 use Rattle.dms_restore.proofs.Stops.{has_self}
 
@@ -123,7 +123,7 @@ module _ (entries live : List Event) (next m : ℕ) (numbered : Numbered entries
             let same : n ≡ m = omega (arith, up, le) in
             subst (λ k. has (is_point k) front ≡ true) (sym same) (has_self (is_point m) live at.found)
       ] in
-      record { found = found; described = ap (λ (l : List Event). has is_described l) (upto_upto (is_point m) (is_point n) live found) ∙ lives.described }
+      record { found = found; described = ap (λ (l : List Event). has is_described l) (until_until (is_point m) (is_point n) live found) ∙ lives.described }
 
   none_with : (n later : ℕ) (counts : Counts) (described : Bool) → m < n → has (is_point n) (front ++ control m later counts described ∷ []) ≡ false
   none_with n later counts described above =
@@ -239,25 +239,25 @@ below_push pl n k all low xs ys a is =
     ]
 
 pub numbers_change : NumbersChange
-numbers_change entries live f b before after numbered unpending =
+numbers_change entries live f b before after numbered not_pending =
     let e = change f b before after in
     let same : point_numbers (live ++ e ∷ []) ≡ point_numbers live = points_append live (e ∷ []) ∙ append_none (point_numbers live) in
     let stays = next_stays entries e tt in
     record {
       never_fall = λ xs ys zs n m is. numbered.never_fall xs ys zs n m (sym same ∙ is);
       below_next = λ xs ys n is. let low = numbered.below_next xs ys n (sym same ∙ is) in omega (arith, low, stays);
-      alone = alone_push entries e numbered.alone (λ xs m how is. absurd (true_not_false (sym (unpending xs m how is))));
+      alone = alone_push entries e numbered.alone (λ xs m how is. absurd (true_not_false (sym (not_pending xs m how is))));
     }
 
 pub numbers_quiet : NumbersQuiet
-numbers_quiet entries live n numbered unpending next low =
+numbers_quiet entries live n numbered not_pending next low =
     let e = quiet n in
     let same : point_numbers (live ++ e ∷ []) ≡ point_numbers live ++ n ∷ [] = points_append live (e ∷ []) in
     let stays = next_stays entries e tt in
     record {
       never_fall = λ xs ys zs a b is. fall_push (point_numbers live) n numbered.never_fall (λ us vs c at. let k = numbered.below_next us vs c at in omega (arith, k, next)) xs ys zs a b (sym same ∙ is);
       below_next = λ xs ys a is. below_push (point_numbers live) n (next_number (entries ++ e ∷ [])) (λ us vs c at. let k = numbered.below_next us vs c at in omega (arith, k, stays)) (above entries n low) xs ys a (sym same ∙ is);
-      alone = alone_push entries e numbered.alone (λ xs m how is. absurd (true_not_false (sym (unpending xs m how is))));
+      alone = alone_push entries e numbered.alone (λ xs m how is. absurd (true_not_false (sym (not_pending xs m how is))));
     }
 
 pub numbers_begin : NumbersBegin
@@ -290,8 +290,8 @@ numbers_control entries live m next counts described us numbered ends carried =
       alone = alone_push entries e numbered.alone (λ xs n how is. refl);
     }
 
-pub dump_can : TrueDumpServes
-dump_can entries live next m dump counted numbered at true_dump le = record {
+pub true_dump_serves : TrueDumpServes
+true_dump_serves entries live next m dump counted numbered at true_dump le = record {
   point_lives = (rolls_back entries live next m numbered at).kept dump.point le true_dump.point_lives;
   same = true_dump.same;
 }

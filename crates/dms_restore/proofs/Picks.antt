@@ -212,9 +212,9 @@ last_append (quiet n ∷ xs) ys f b = last_append xs ys f b
 last_append (control n next counts described ∷ xs) ys f b = last_append xs ys f b
 last_append (begin n how ∷ xs) ys f b = last_append xs ys f b
 
-pub picks : ChoiceGivesContent
+pub choice_gives_content : ChoiceGivesContent
 unfolding choice
-picks earlier later start stored chain kept f b low =
+choice_gives_content earlier later start stored chain kept f b low =
     let (before, from_control) = chain_split earlier later start chain in
     elim (option_cases (last_after f b earlier)) [
       | inr (x, is) ↦ ap (λ o. value o (first_before f b later) (stored f b)) is ∙ sym (last_stands earlier start f b x before is)

@@ -12,7 +12,7 @@ use Rattle.dms_restore.specs.Here.{restore_pick, outcome, here_by}
 use Rattle.dms_restore.specs.Restores.{may_hold_anything}
 use Rattle.dms_restore.specs.PlainHistory.{IsDumped, GoesBy}
 use Rattle.dms_restore.proofs.Cuts.{until_none, after_none}
-use Rattle.dms_restore.proofs.Stops.{to_be_block, to_be_length}
+use Rattle.dms_restore.proofs.Stops.{outcome_block, outcome_length}
 
 pub late_unreached : (live : List Event) (n p : ℕ) → has (is_point n) live ≡ false → between p n live ≡ []
 late_unreached live n p off = ap (λ (l : List Event). after_first (is_point p) l) (until_none (is_point n) live off)
@@ -54,10 +54,10 @@ restore_by_audit (reconstruct d named) dumps live n f b stored x off is = is ∙
 -- ---- what counts
 
 pub here_there : (p : Pending) (dumps : Dumps) (stored : Stored) (f b : ℕ) (x : Block) → b < count_at p.entries p.point f → x ≡ restore_pick p.how dumps p.entries p.point stored f b → x ≡ here_by (Some p) dumps stored f b
-here_there p dumps stored f b x low is = is ∙ sym (to_be_block p.how dumps p.entries p.point f b stored low)
+here_there p dumps stored f b x low is = is ∙ sym (outcome_block p.how dumps p.entries p.point f b stored low)
 
 pub here_beyond : (p : Pending) (dumps : Dumps) (stored : Stored) (f b : ℕ) → count_at p.entries p.point f ≤ b → [] ≡ here_by (Some p) dumps stored f b
-here_beyond p dumps stored f b high = sym (get_or_past (outcome p.how dumps p.entries p.point stored f) b [] (omega (arith, high, to_be_length p.how dumps p.entries p.point f stored)))
+here_beyond p dumps stored f b high = sym (get_or_past (outcome p.how dumps p.entries p.point stored f) b [] (omega (arith, high, outcome_length p.how dumps p.entries p.point f stored)))
 
 pub here_at : (o : Option Pending) (p : Pending) (dumps : Dumps) (stored : Stored) (f b k : ℕ) (x : Block) → o ≡ Some p → k ≡ count_at p.entries p.point f → b < k
     → x ≡ restore_pick p.how dumps p.entries p.point stored f b → x ≡ here_by o dumps stored f b

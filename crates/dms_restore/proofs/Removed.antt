@@ -11,18 +11,18 @@ use Rattle.dms_restore.proofs.Picks.{last_append, last_stands, chain_split}
 use Rattle.dms_restore.proofs.AtPoints.{bool_cases, or_no, replay_append, or_true_right}
 use Rattle.dms_restore.proofs.Base.{has_append, parts, after_behind}
 use Rattle.dms_restore.proofs.Converse.{opening_append, logged_below, told}
-use Rattle.dms_restore.proofs.Given.{controlled, peel, behind_has, at_point}
+use Rattle.dms_restore.proofs.Given.{controlled, peel, from_has, at_point}
 
 true_not_false : true ≡ false → ⊥
 true_not_false e = absurd cc
 
 -- a front without the point
-upto_behind : (p : Event → Bool) (xs ys : List Event) → has p xs ≡ false → has p ys ≡ true → until_first p (xs ++ ys) ≡ xs ++ until_first p ys
-upto_behind p [] ys off found = refl
-upto_behind p (x ∷ xs) ys off found =
+until_past : (p : Event → Bool) (xs ys : List Event) → has p xs ≡ false → has p ys ≡ true → until_first p (xs ++ ys) ≡ xs ++ until_first p ys
+until_past p [] ys off found = refl
+until_past p (x ∷ xs) ys off found =
     let both = or_no (p x) (has p xs) off in
     let more : has p (xs ++ ys) ≡ true = has_append p xs ys ∙ or_true_right (has p xs) (has p ys) found in
-    (λ i. cond (both.0 i) (x ∷ []) (cond (more i) (x ∷ until_first p (xs ++ ys)) [])) ∙ ap (λ (l : List Event). x ∷ l) (upto_behind p xs ys both.1 found)
+    (λ i. cond (both.0 i) (x ∷ []) (cond (more i) (x ∷ until_first p (xs ++ ys)) [])) ∙ ap (λ (l : List Event). x ∷ l) (until_past p xs ys both.1 found)
 
 -- without a Control in front
 behind_none : (xs ys : List Event) → has is_control xs ≡ false → (opening (xs ++ ys) ≡ xs ++ opening ys) × (from_control (xs ++ ys) ≡ from_control ys)
@@ -54,7 +54,7 @@ tail_opened xs os base opened = record {
 live_whole : (xs ys : List Event) (n : ℕ) → IsLive ys n → has (is_point n) xs ≡ false → IsLive (xs ++ ys) n
 live_whole xs ys n at off = record {
   found = has_append (is_point n) xs ys ∙ or_true_right (has (is_point n) xs) (has (is_point n) ys) at.found;
-  described = ap (λ (l : List Event). has is_described l) (upto_behind (is_point n) xs ys off at.found) ∙ has_append is_described xs (until_first (is_point n) ys)
+  described = ap (λ (l : List Event). has is_described l) (until_past (is_point n) xs ys off at.found) ∙ has_append is_described xs (until_first (is_point n) ys)
       ∙ or_true_right (has is_described xs) (has is_described (until_first (is_point n) ys)) at.described;
 }
 
@@ -97,7 +97,7 @@ front_goes xs ys base counted sound opened found = elim (bool_cases (has is_cont
       let through : replay front base ≡ replay os (replay (from_control xs) base) = replay_append (from_control xs) os base in
       let now : replay (from_control (xs ++ ys)) base ≡ replay all later = ap (λ (l : List Event). replay l base) joint ∙ replay_append front all base in
       let late : after_last is_control (from_control (xs ++ ys)) ≡ after_last is_control all =
-      ap (λ (l : List Event). after_last is_control l) joint ∙ after_behind is_control front all (behind_has ys found) in
+      ap (λ (l : List Event). after_last is_control l) joint ∙ after_behind is_control front all (from_has ys found) in
       let same : Sound all later counted = record {
         chain = chains.1;
         stands = λ f b low none.
@@ -112,7 +112,7 @@ front_goes xs ys base counted sound opened found = elim (bool_cases (has is_cont
             let none_behind : has (is_point n) (from_control xs) ≡ false =
             (or_no (has (is_point n) (opening xs)) (has (is_point n) (from_control xs)) (sym (has_append (is_point n) (opening xs) (from_control xs)) ∙ ap (λ (l : List Event). has (is_point n) l) (parts xs) ∙ none)).1 in
             let cut : until_first (is_point n) (from_control (xs ++ ys)) ≡ front ++ until_first (is_point n) all =
-            ap (λ (l : List Event). until_first (is_point n) l) r.1 ∙ upto_behind (is_point n) (from_control xs) ys none_behind at.found
+            ap (λ (l : List Event). until_first (is_point n) l) r.1 ∙ until_past (is_point n) (from_control xs) ys none_behind at.found
             ∙ ap (λ (l : List Event). from_control xs ++ l) (not_opening ys n at) ∙ sym (append_assoc (from_control xs) os (until_first (is_point n) all)) in
             (whole, at_point ys later counted n same at ∙ sym (replay_append front (until_first (is_point n) all) base) ∙ ap (λ (l : List Event). replay l base) (sym cut) ∙ sym (at_point (xs ++ ys) base counted n sound whole)),
       )

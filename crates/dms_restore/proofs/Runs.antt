@@ -32,7 +32,7 @@ pub has_push : (p : Event → Bool) (es : List Event) (x : Event) → p x ≡ fa
 has_push p [] x off = ap (λ b. b || false) off
 has_push p (e ∷ es) x off = ap (λ b. p e || b) (has_push p es x off)
 
--- from_control the last Control there is one entry more
+-- behind the last Control there is one entry more
 pub after_push : (p : Event → Bool) (es : List Event) (x : Event) → p x ≡ false → after_last p (es ++ x ∷ []) ≡ after_last p es ++ x ∷ []
 after_push p [] x off = ap (λ b. cond (b || false) [] (x ∷ [])) off
 after_push p (e ∷ es) x off = elim (bool_cases (has p (e ∷ es))) [

@@ -9,10 +9,10 @@ use Rattle.dms_restore.specs.Schemas.{Parts, no_parts, parts_from, parts_of_sche
 use Rattle.dms_restore.specs.EntryEvents.{said_by, logged_from, logged, events}
 use Rattle.dms_restore.specs.LawsOfEntries.{SchemaSealed, ImageSealed, RangeSealed, QuietSealed, ControlSealed, BeginSealed, OneMoreEvent, AgreesGivesBase, BaseGivesAgrees}
 use Rattle.dms_restore.proofs.Order.{append_none}
-use Rattle.dms_restore.proofs.Turns.{scan_append}
+use Rattle.dms_restore.proofs.Turns.{history_append}
 use Rattle.dms_restore.proofs.Schemas.{logged_append, schema_is_whole}
-use Rattle.dms_restore.proofs.Whole.{agrees_steady, steady_agrees}
-use Rattle.dms_restore.proofs.Converse.{agrees_opened}
+use Rattle.dms_restore.proofs.Whole.{agrees_is_steady, steady_agrees}
+use Rattle.dms_restore.proofs.Converse.{agrees_leads}
 
 told_append : (xs ys : List Logged) (h : History) → events_from h (xs ++ ys) ≡ events_from h xs ++ events_from (history_from h (events_from h xs)) ys
 told_append [] ys h = refl
@@ -21,7 +21,7 @@ told_append (x ∷ xs) ys h =
     let then : History = history_from h first in
     ap (λ (l : List Event). first ++ l) (told_append xs ys then)
     ∙ sym (append_assoc first (events_from then xs) (events_from (history_from then (events_from then xs)) ys))
-    ∙ ap (λ (g : History). (first ++ events_from then xs) ++ events_from g ys) (sym (scan_append first (events_from then xs) h))
+    ∙ ap (λ (g : History). (first ++ events_from then xs) ++ events_from g ys) (sym (history_append first (events_from then xs) h))
 
 told_push : (xs : List Logged) (x : Logged) → told_events (xs ++ x ∷ []) ≡ told_events xs ++ changes_of (history (told_events xs)).live x
 unfolding told_events history
@@ -67,12 +67,12 @@ control_sealed entries first rest n next counts =
 
 pub one_more_event : OneMoreEvent
 unfolding history
-one_more_event es e = scan_append es (e ∷ []) (record { live = []; pending = None })
+one_more_event es e = history_append es (e ∷ []) (record { live = []; pending = None })
 
 pub agrees_gives_base : AgreesGivesBase
 agrees_gives_base first entries dumps stored agrees points = (
-  agrees_steady first (events entries) dumps stored agrees.events_agree points,
-  λ found. agrees_opened first (events entries) (history (events entries)).live (next_number (events entries)) (here dumps (history (events entries)) stored) agrees.events_agree.lists found,
+  agrees_is_steady first (events entries) dumps stored agrees.events_agree points,
+  λ found. agrees_leads first (events entries) (history (events entries)).live (next_number (events entries)) (here dumps (history (events entries)) stored) agrees.events_agree.lists found,
 )
 
 pub base_gives_agrees : BaseGivesAgrees

@@ -1,4 +1,4 @@
--- What follows a Control is changes_of by itself.
+-- What follows a Control is turned by itself.
 use Rattle.std.proofs.Common.{ℕ, ◌≡◌, ◌⊎◌, inl, inr, Bool, true, false, cond, List, [], ◌∷◌, ◌++◌, None, refl, sym, ◌∙◌, ap, append_assoc}
 use Rattle.dms_restore.specs.Events.{Event, control}
 use Rattle.dms_restore.specs.Images.{or_else, last_after}
@@ -13,26 +13,26 @@ use Rattle.dms_restore.proofs.Turns.{out_right}
 true_not_false : true ≡ false → ⊥
 true_not_false e = absurd cc
 
-turned_behind : (P Q : List Event) (x : Logged) → ((f b place : ℕ) (bytes : List ℕ) → x ≡ range f b place bytes → last_after f b Q ≡ None → ⊥) → changes_of (P ++ Q) x ≡ changes_of Q x
-turned_behind P Q (event e) some = refl
-turned_behind P Q (range f b place bytes) some =
+change_behind : (P Q : List Event) (x : Logged) → ((f b place : ℕ) (bytes : List ℕ) → x ≡ range f b place bytes → last_after f b Q ≡ None → ⊥) → changes_of (P ++ Q) x ≡ changes_of Q x
+change_behind P Q (event e) some = refl
+change_behind P Q (range f b place bytes) some =
     ap (λ o. range_change f b place bytes o) (last_append P Q f b ∙ elim (option_cases (last_after f b Q)) [
       | inl none ↦ absurd (some f b place bytes refl none)
       | inr (y, is) ↦ ap (λ o. or_else o (last_after f b P)) is ∙ sym is
     ])
 
-turn_behind : (ys : List Logged) (P Q : List Event)
+changes_behind : (ys : List Logged) (P Q : List Event)
     → ((us vs : List Logged) (f b place : ℕ) (bytes : List ℕ) → ys ≡ us ++ range f b place bytes ∷ vs → last_after f b (changes_from Q us) ≡ None → ⊥)
     → changes_from (P ++ Q) ys ≡ P ++ changes_from Q ys
-turn_behind [] P Q some = refl
-turn_behind (x ∷ ys) P Q some =
-    ap (λ (l : List Event). changes_from ((P ++ Q) ++ l) ys) (turned_behind P Q x (λ f b place bytes is none. some [] ys f b place bytes (ap (λ y. y ∷ ys) is) none))
+changes_behind [] P Q some = refl
+changes_behind (x ∷ ys) P Q some =
+    ap (λ (l : List Event). changes_from ((P ++ Q) ++ l) ys) (change_behind P Q x (λ f b place bytes is none. some [] ys f b place bytes (ap (λ y. y ∷ ys) is) none))
     ∙ ap (λ (l : List Event). changes_from l ys) (append_assoc P Q (changes_of Q x))
-    ∙ turn_behind ys P (Q ++ changes_of Q x) (λ us vs f b place bytes is none. some (x ∷ us) vs f b place bytes (ap (λ (l : List Logged). x ∷ l) is) none)
+    ∙ changes_behind ys P (Q ++ changes_of Q x) (λ us vs f b place bytes is none. some (x ∷ us) vs f b place bytes (ap (λ (l : List Logged). x ∷ l) is) none)
 
-turn_two : (xs ys : List Logged) (acc : List Event) → changes_from acc (xs ++ ys) ≡ changes_from (changes_from acc xs) ys
-turn_two [] ys acc = refl
-turn_two (x ∷ xs) ys acc = turn_two xs ys (acc ++ changes_of acc x)
+changes_two : (xs ys : List Logged) (acc : List Event) → changes_from acc (xs ++ ys) ≡ changes_from (changes_from acc xs) ys
+changes_two [] ys acc = refl
+changes_two (x ∷ xs) ys acc = changes_two xs ys (acc ++ changes_of acc x)
 
 some_append : (p : Logged → Bool) (xs ys : List Logged) → has p ys ≡ true → has p (xs ++ ys) ≡ true
 some_append p [] ys found = found
@@ -50,12 +50,12 @@ some_behind p (x ∷ us) found = elim (bool_cases (has is_control_logged (x ∷ 
   | inr off ↦ ap (λ k. has p (cond k (after_last is_control_logged us) (x ∷ us))) (sym off) ∙ found
 ]
 
-pub turn_splits : RangesSplit
+pub ranges_split : RangesSplit
 unfolding all_changes
-turn_splits xs ys n next counts described ranged =
+ranges_split xs ys n next counts described ranged =
     let c = event (control n next counts described) in
     let e = control n next counts described in
-    turn_two xs (c ∷ ys) [] ∙ turn_behind ys (changes_from [] xs) (e ∷ []) (λ us vs f b place bytes is none.
+    changes_two xs (c ∷ ys) [] ∙ changes_behind ys (changes_from [] xs) (e ∷ []) (λ us vs f b place bytes is none.
     let all : xs ++ c ∷ ys ≡ (xs ++ c ∷ us) ++ range f b place bytes ∷ vs = ap (λ (l : List Logged). xs ++ c ∷ l) is ∙ sym (append_assoc xs (c ∷ us) (range f b place bytes ∷ vs)) in
     let image = ranged.images (xs ++ c ∷ us) vs f b place bytes all (inr (some_append is_control_logged xs (c ∷ us) refl)) in
     let late : after_last is_control_logged (xs ++ c ∷ us) ≡ after_last is_control_logged us = behind_append xs (c ∷ us) refl in
@@ -78,8 +78,8 @@ split_entry p (x ∷ xs) = go (p x) (has p xs) (split_entry p xs)
       | inr is ↦ (r.0, inr (ap (λ (l : List Logged). x ∷ l) is))
     ]
 
-pub ranged_goes_on : ImagesGoOn
-ranged_goes_on live ranged = (
+pub images_go_on : ImagesGoOn
+images_go_on live ranged = (
   λ x off. record {
     images = λ xs ys f b place bytes is some. elim (split_push xs (range f b place bytes) ys live x (sym is)) [
       | inl end ↦ absurd (not_range x f b place bytes off end.1)

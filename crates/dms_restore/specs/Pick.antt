@@ -1,5 +1,5 @@
 -- A block at a point, by the audit or by a dump.
-use Rattle.std.specs.Prelude.{ℕ, ◌+◌, ◌==◌, if◌then◌else◌, List, [], ◌∷◌, map, Some, None}
+use Rattle.std.specs.Prelude.{ℕ, ◌+◌, ◌==◌, max, if◌then◌else◌, List, [], ◌∷◌, map, Some, None}
 use Rattle.std.specs.List.{range_with_len}
 use Rattle.dms_restore.specs.Events.{Content, Stored, Counts, Event, change, quiet, control, begin, block_in}
 use Rattle.dms_restore.specs.Lists.{until_first, after_first, after_last}
@@ -14,10 +14,10 @@ last_counts k (quiet n ∷ es) = last_counts k es
 last_counts k (control n next counts described ∷ es) = last_counts counts es
 last_counts k (begin n how ∷ es) = last_counts k es
 
--- a count, raised to b + 1 by each change of a new block b of the file
+-- a count, raised to b + 1 by each change of a new block b of the file; it never falls
 abbrev pub raised_count : ℕ → List Event → ℕ → ℕ
 raised_count f [] k = k
-raised_count f (change g b None after ∷ es) k = raised_count f es (if g == f then b + 1 else k)
+raised_count f (change g b None after ∷ es) k = raised_count f es (if g == f then max k (b + 1) else k)
 raised_count f (change g b (Some before) after ∷ es) k = raised_count f es k
 raised_count f (quiet n ∷ es) k = raised_count f es k
 raised_count f (control n next counts described ∷ es) k = raised_count f es k

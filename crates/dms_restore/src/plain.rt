@@ -164,7 +164,7 @@ fn reached_count(events: &[Event], file: u32) -> u64
             Event::Controlled(control) => count = u64::from(count_in(control.counts, file)),
             Event::Changed(change) => {
                 if change.file == file && change.before.is_none() {
-                    count = u64::from(change.block) + 1;
+                    count = count.max(u64::from(change.block) + 1);
                 }
             }
             _ => {}

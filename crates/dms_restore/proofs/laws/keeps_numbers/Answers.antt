@@ -1,4 +1,4 @@
-use Rattle.dms_restore.proofs.Order.{rolls_back, last_points, next_stays, used_once, numbers_change, numbers_quiet, numbers_begin, numbers_control, numbers_first, dump_can}
+use Rattle.dms_restore.proofs.Order.{rolls_back, last_points, next_stays, used_once, numbers_change, numbers_quiet, numbers_begin, numbers_control, numbers_first, true_dump_serves}
 use Rattle.dms_restore.proofs.laws.keeps_numbers.Goals as goal
 
 pub returns : goal.returns
@@ -12,5 +12,5 @@ returns c = record {
   begin = numbers_begin;
   control = numbers_control;
   first = numbers_first;
-  dump = dump_can;
+  dump = true_dump_serves;
 }
