@@ -24,7 +24,6 @@ kept_refused k r i s v is stands = subst (λ (x : Kept). KeptIs x i s (Some r) v
 module _ (desc desc' : Described) (told new mark : Option Db) (next since : ℕ) (programs : List Program) (pending : Bool) (p : Program) (s : Session) (i set : ℕ) (number : Option ℕ) (rec : Record) (k : Kept)
     (desc_is : desc' ≡ desc) (told_is : told ≡ Some s.db) (mark_is : mark ≡ Some s.mark) (next_is : next ≡ s.next) (pending_is : pending ≡ s.pending) (since_is : since ≡ s.since)
     (k_is : k ≡ put_record (put_answer desc s.db set number rec) desc p s.db set rec) where
-
   puts_of : (a : Put) → Puts told new desc' set number rec a → Puts (Some s.db) new desc' set number rec a
   puts_of a puts = subst (λ (t : Option Db). Puts t new desc' set number rec a) told_is puts
 

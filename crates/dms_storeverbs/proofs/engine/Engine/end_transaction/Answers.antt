@@ -25,7 +25,7 @@ pub returns-then-not-index-clause-makes : goal.returns-then-not-index-clause-mak
 returns-then-not-index-clause-makes g c = λ tells p at s stands room.
     let d = described c.args.self.now.desc in
     let idle : p.in_transaction ≡ false = grind (arith, common_steps, gets) in
-    none_made (ap (λ (o : Outcome). o.quiets) (end_outside d c.args.i p s c.args.audit c.args.sync idle)) c.refused-then-not-index.ensures.sync (refl, omega arith)
+    none_made (ap (λ (o : Outcome). o.quiets) (end_outside d c.args.i p s c.args.audit c.args.sync idle)) c.refused.ensures.sync (refl, omega arith)
 
 pub returns-in-Some-clause-step : goal.returns-in-Some-clause-step
 returns-in-Some-clause-step g c = λ p at s stands room.
