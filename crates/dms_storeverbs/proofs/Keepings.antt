@@ -12,7 +12,7 @@ use Rattle.dms_model.specs.declared.put.Put.TheVariants.{Stored, Duplicate, Full
 use Rattle.dms_model.specs.Db.{Db}
 use Rattle.dms_model.specs.Members.{structure_of, name_of}
 use Rattle.dms_model.specs.Stores.{put_answer, put_after, Puts}
-use Rattle.dms_model.specs.Session.{Session, Kept, Refused, Keeps}
+use Rattle.dms_model.specs.Session.{Session, Kept, Refused}
 use Rattle.dms_storeverbs.specs.declared.refusal.Refusal.{Refusal}
 use Rattle.dms_storeverbs.specs.Keeping.{KeptIs}
 use Rattle.dms_storeverbs.specs.Storing.{put_record, with_stored}
