@@ -4,5 +4,5 @@ use Rattle.dasdl_parse.specs.TreeCodes.{Tree}
 use Rattle.dasdl_parse.specs.TreeCodes.Tree.{Turned}
 use Rattle.dasdl_parse.specs.Branches.{negated}
 
-pub negated-one : (n m : ℕ) (t : Tree) → m ≡ n + 1 → negated m t ≡ negated n (Turned t)
-negated-one n m t is = let k : m ≡ suc n = omega arith in rw k refl
+pub negated-one : (n : ℕ) (t : Tree) → negated (n + 1) t ≡ Turned (negated n t)
+negated-one n t = let k : n + 1 ≡ suc n = omega arith in rw k refl

@@ -1,5 +1,5 @@
 -- What one turn more does.
-use Rattle.std.proofs.Common.{◌+◌, ◌≡◌, ℕ, zero, suc, List, [], ◌∷◌, Bool, true, false, refl, sym, ap, ◌∙◌, arith}
+use Rattle.std.proofs.Common.{◌+◌, ◌≡◌, ℕ, zero, suc, List, [], ◌∷◌, Bool, true, false, refl, arith}
 use Rattle.std.specs.declared.result.Result.{Result}
 use Rattle.std.specs.declared.result.Result.TheVariants.{Ok, Err}
 use Rattle.dasdl_parse.specs.declared.fault.ParseFault.{ParseFault}
@@ -7,7 +7,7 @@ use Rattle.dasdl_parse.specs.declared.fault.ParseFault.TheVariants.{BadCharacter
 use Rattle.dasdl_parse.specs.declared.token.Token.{Token}
 use Rattle.dasdl_parse.specs.declared.token.Token.TheVariants.{Word, Number, Decimal, Long, Quoted, Sign, Compare, Bad, End}
 use Rattle.dasdl_parse.specs.declared.token.Lexeme.{Lexeme}
-use Rattle.dasdl_parse.specs.Reads.{◌>>=◌, Read, Fails}
+use Rattle.dasdl_parse.specs.Reads.{Read, Fails}
 use Rattle.dasdl_parse.specs.Cursors.{turns, fault_at, fault_of}
 
 module _ {S : Type 0} (done : S → List Lexeme → Bool) (one : S → List Lexeme → Read S) where

@@ -2,12 +2,12 @@
 use Rattle.std.specs.Prelude.{◌≡◌, ℕ, zero, suc, List, [], ◌∷◌, Bool, true, false, Some, None}
 use Rattle.std.specs.declared.option.Option.{Option}
 use Rattle.dasdl_parse.specs.TreeCodes.{Tree}
-use Rattle.dasdl_parse.specs.TreeCodes.Tree.{Test, Both, Either, Turned}
+use Rattle.dasdl_parse.specs.TreeCodes.Tree.{Both, Either, Turned}
 
 -- behind so many NOTs
 abbrev pub negated : ℕ → Tree → Tree
 negated zero t = t
-negated (suc n) t = negated n (Turned t)
+negated (suc n) t = Turned (negated n t)
 
 -- behind AND, where there is one
 abbrev pub with_and : Option Tree → Tree → Tree

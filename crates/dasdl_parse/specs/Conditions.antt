@@ -1,17 +1,15 @@
 -- Conditions, token by token.
-use Rattle.std.specs.Prelude.{◌≡◌, ℕ, zero, suc, ◌+◌, List, [], ◌∷◌, ◌++◌, Bool, true, false, ◌&&◌, ◌||◌, not, min, ◌^◌, ◌-◌, nat_le, nat_lt, length, codes, is_none, is_some, Some, None, if◌then◌else◌, ◌==◌}
+use Rattle.std.specs.Prelude.{ℕ, ◌+◌, List, [], ◌∷◌, Bool, ◌&&◌, ◌||◌, not, nat_le, codes, is_some, Some, None, if◌then◌else◌}
 use Rattle.std.specs.declared.option.Option.{Option}
-use Rattle.std.specs.declared.result.Result.{Result}
 use Rattle.std.specs.declared.result.Result.TheVariants.{Ok, Err}
 use Rattle.dms_base.specs.declared.op.Op.{Op}
-use Rattle.dasdl_parse.specs.declared.fault.ParseFault.{ParseFault}
-use Rattle.dasdl_parse.specs.declared.fault.ParseFault.TheVariants.{BadCharacter, Expected, NumberRange, TooMany}
+use Rattle.dasdl_parse.specs.declared.fault.ParseFault.TheVariants.{Expected, TooMany}
 use Rattle.dasdl_parse.specs.declared.token.Token.{Token}
-use Rattle.dasdl_parse.specs.declared.token.Token.TheVariants.{Word, Number, Decimal, Long, Quoted, Sign, Compare, Bad, End}
+use Rattle.dasdl_parse.specs.declared.token.Token.TheVariants.{Compare}
 use Rattle.dasdl_parse.specs.declared.token.Lexeme.{Lexeme}
-use Rattle.dasdl_parse.specs.Reads.{Read, Pass, ◌>>=◌}
+use Rattle.dasdl_parse.specs.Reads.{Read, ◌>>=◌}
 use Rattle.dasdl_parse.specs.TreeCodes.{Tree}
-use Rattle.dasdl_parse.specs.TreeCodes.Tree.{Test, Both, Either, Turned}
+use Rattle.dasdl_parse.specs.TreeCodes.Tree.{Test}
 use Rattle.dasdl_parse.specs.Trees.{Condition}
 use Rattle.dasdl_parse.specs.Branches.{negated, with_and, with_or, is_nil}
 use Rattle.dasdl_parse.specs.declared.levels.Level.{Level}
@@ -57,18 +55,21 @@ compare_turn_at s ts =
       t ← compare_at ts
       Ok (completed s.outer s.level (s.nodes + 1) t.0, t.1)))
 
--- NOT is one of 100 nodes; so their count never reaches its type's end
+-- NOT is one of 100 nodes, and so there are no more before one factor
 unfoldable pub not_turn_at : CondRead → List Lexeme → Read CondRead
 not_turn_at s ts =
-    if nat_le 100 s.nodes then Err (TooMany 100)
+    if nat_le 100 s.nodes || nat_le 100 s.level.nots then Err (TooMany 100)
     else (do
       t1 ← word_at (codes "NOT") ts
-      Ok (record {
-        outer = s.outer;
-        level = record { either = s.level.either; both = s.level.both; nots = min (s.level.nots + 1) (2 ^ 8 - 1) };
-        done = None;
-        nodes = s.nodes + 1;
-      }, t1))
+      Ok (
+        record {
+          outer = s.outer;
+          level = record { either = s.level.either; both = s.level.both; nots = s.level.nots + 1 };
+          done = None;
+          nodes = s.nodes + 1;
+        },
+        t1,
+      ))
 
 unfoldable pub open_turn_at : CondRead → List Lexeme → Read CondRead
 open_turn_at s ts = do

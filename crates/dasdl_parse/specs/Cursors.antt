@@ -1,17 +1,16 @@
 -- The tokens in front of a reader.
-use Rattle.std.specs.Prelude.{ℕ, zero, suc, List, [], ◌∷◌, Bool, true, false, ◌&&◌, ◌||◌, not, nat_le, nat_lt, length, codes, if◌then◌else◌, ◌==◌}
+use Rattle.std.specs.Prelude.{ℕ, zero, suc, List, [], ◌∷◌, Bool, true, false, ◌&&◌, not, nat_le, nat_lt, length, if◌then◌else◌, ◌==◌}
 use Rattle.std.specs.Str.{bytes_eq}
-use Rattle.std.specs.declared.result.Result.{Result}
 use Rattle.std.specs.declared.result.Result.TheVariants.{Ok, Err}
-use Rattle.dms_base.specs.declared.op.Op.{Op}
-use Rattle.dms_base.specs.declared.op.Op.TheVariants.{Equal, NotEqual, Less, LessEqual, Greater, GreaterEqual}
+use Rattle.dms_base.specs.declared.op.Op.TheVariants.{Equal}
 use Rattle.dasdl_parse.specs.declared.fault.ParseFault.{ParseFault}
 use Rattle.dasdl_parse.specs.declared.fault.ParseFault.TheVariants.{BadCharacter, Expected, NumberRange, TooMany}
 use Rattle.dasdl_parse.specs.declared.token.Token.{Token}
-use Rattle.dasdl_parse.specs.declared.token.Token.TheVariants.{Word, Number, Decimal, Long, Quoted, Sign, Compare, Bad, End}
+use Rattle.dasdl_parse.specs.declared.token.Token.TheVariants.{Word, Number, Long, Sign, Compare, Bad, End}
 use Rattle.dasdl_parse.specs.declared.token.Lexeme.{Lexeme}
 use Rattle.dasdl_parse.specs.Reads.{Read, Pass, ◌>>=◌}
-use Rattle.dasdl_parse.specs.Reserved.{is_reserved}
+use Rattle.dms_base.specs.Name.{is_name}
+use Rattle.dms_base.specs.Reserved.{is_reserved}
 
 -- the fault of a token that isn't allowed where it stands
 abbrev pub fault_of : Token → ℕ → ParseFault
@@ -73,10 +72,11 @@ unfoldable pub comma_at : List Lexeme → Pass
 comma_at [] = Ok []
 comma_at (l ∷ ls) = if is_the_sign 44 l.token then Ok ls else Ok (l ∷ ls)
 
--- a name is a word of at most 30 bytes that isn't reserved
+-- a name is a word of at most 30 bytes that isn't reserved (each word of a text has the form of one)
 abbrev pub name_of : Token → ℕ → List Lexeme → Read (List ℕ)
 name_of (Word b) place ls =
-    if is_reserved b then Err (Expected place) else (if nat_lt 30 (length b) then Err (TooMany 30) else Ok (b, ls))
+    if is_reserved b then Err (Expected place) else (if nat_lt 30 (length b) then Err (TooMany 30)
+    else (if is_name b then Ok (b, ls) else Err (Expected place)))
 name_of token place ls = Err (fault_of token place)
 
 unfoldable pub name_at : List Lexeme → Read (List ℕ)

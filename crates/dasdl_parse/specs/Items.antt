@@ -1,26 +1,15 @@
 -- Items, groups and links.
-use Rattle.std.specs.Prelude.{ℕ, ◌+◌, List, [], ◌∷◌, ◌++◌, Bool, true, false, ◌&&◌, ◌||◌, not, min, ◌^◌, ◌-◌, nat_le, nat_lt, length, codes, is_none, is_some, Some, None, if◌then◌else◌, ◌==◌}
-use Rattle.std.specs.Str.{bytes_eq}
-use Rattle.std.specs.declared.option.Option.{Option}
-use Rattle.std.specs.declared.result.Result.{Result}
+use Rattle.std.specs.Prelude.{ℕ, ◌+◌, List, [], ◌∷◌, ◌++◌, Bool, true, false, ◌&&◌, not, nat_le, codes, is_none, Some, None, if◌then◌else◌}
 use Rattle.std.specs.declared.result.Result.TheVariants.{Ok, Err}
-use Rattle.dms_base.specs.declared.kind.ItemKind.{ItemKind}
-use Rattle.dms_base.specs.declared.kind.ItemKind.TheVariants.{Alpha, Number as Digits, Bool as Truth, Field}
-use Rattle.dms_base.specs.declared.kind.Literal.{Literal}
-use Rattle.dms_base.specs.declared.kind.Literal.TheVariants.{Null, Text, Number as Amount, Bool as Boolean}
-use Rattle.dms_base.specs.Fits.{trimmed}
-use Rattle.dasdl_parse.specs.declared.fault.ParseFault.{ParseFault}
-use Rattle.dasdl_parse.specs.declared.fault.ParseFault.TheVariants.{BadCharacter, Expected, NumberRange, TooMany}
-use Rattle.dasdl_parse.specs.declared.token.Token.{Token}
-use Rattle.dasdl_parse.specs.declared.token.Token.TheVariants.{Word, Number, Decimal, Long, Quoted, Sign, Compare, Bad, End}
+use Rattle.dms_base.specs.declared.kind.Literal.TheVariants.{Null}
+use Rattle.dasdl_parse.specs.declared.fault.ParseFault.TheVariants.{TooMany}
 use Rattle.dasdl_parse.specs.declared.token.Lexeme.{Lexeme}
-use Rattle.dasdl_parse.specs.Reads.{Read, Pass, ◌>>=◌}
+use Rattle.dasdl_parse.specs.Reads.{Read, ◌>>=◌}
 use Rattle.dasdl_parse.specs.declared.declarations.ItemDecl.{ItemDecl}
-use Rattle.dasdl_parse.specs.declared.declarations.GroupDecl.{GroupDecl}
 use Rattle.dasdl_parse.specs.declared.declarations.LinkDecl.{LinkDecl}
 use Rattle.dasdl_parse.specs.declared.items.ItemOptions.{ItemOptions}
 use Rattle.dasdl_parse.specs.declared.items.GroupItems.{GroupItems}
-use Rattle.dasdl_parse.specs.Cursors.{fault_of, fault_at, place_at, starts, is_word, is_the_sign, word_at, sign_at, equal_at, comma_at, name_at, turns_at, until_close, until_semicolon}
+use Rattle.dasdl_parse.specs.Cursors.{fault_at, place_at, starts, is_word, word_at, sign_at, equal_at, comma_at, name_at, turns_at, until_close, until_semicolon}
 use Rattle.dasdl_parse.specs.Kinds.{literal_at, kind_at, starts_kind}
 
 abbrev pub no_options : ItemOptions

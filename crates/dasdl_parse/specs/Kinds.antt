@@ -1,22 +1,20 @@
 -- Literals, and what an item may hold.
-use Rattle.std.specs.Prelude.{ℕ, ◌+◌, List, [], ◌∷◌, ◌++◌, Bool, true, false, ◌&&◌, ◌||◌, not, min, ◌^◌, ◌-◌, nat_le, nat_lt, length, codes, is_none, is_some, Some, None, if◌then◌else◌, ◌==◌}
+use Rattle.std.specs.Prelude.{ℕ, ◌+◌, List, [], ◌∷◌, Bool, true, false, ◌&&◌, ◌||◌, min, ◌^◌, ◌-◌, nat_le, nat_lt, length, codes, Some, None, if◌then◌else◌, ◌==◌}
 use Rattle.std.specs.Str.{bytes_eq}
 use Rattle.std.specs.declared.option.Option.{Option}
-use Rattle.std.specs.declared.result.Result.{Result}
 use Rattle.std.specs.declared.result.Result.TheVariants.{Ok, Err}
 use Rattle.dms_base.specs.declared.kind.ItemKind.{ItemKind}
 use Rattle.dms_base.specs.declared.kind.ItemKind.TheVariants.{Alpha, Number as Digits, Bool as Truth, Field}
 use Rattle.dms_base.specs.declared.kind.Literal.{Literal}
 use Rattle.dms_base.specs.declared.kind.Literal.TheVariants.{Null, Text, Number as Amount, Bool as Boolean}
-use Rattle.dms_base.specs.Fits.{trimmed}
-use Rattle.dasdl_parse.specs.declared.fault.ParseFault.{ParseFault}
-use Rattle.dasdl_parse.specs.declared.fault.ParseFault.TheVariants.{BadCharacter, Expected, NumberRange, TooMany}
+use Rattle.dms_base.specs.Text.{text_of}
+use Rattle.dasdl_parse.specs.declared.fault.ParseFault.TheVariants.{BadCharacter, Expected, NumberRange}
 use Rattle.dasdl_parse.specs.declared.token.Token.{Token}
-use Rattle.dasdl_parse.specs.declared.token.Token.TheVariants.{Word, Number, Decimal, Long, Quoted, Sign, Compare, Bad, End}
+use Rattle.dasdl_parse.specs.declared.token.Token.TheVariants.{Word, Number, Decimal, Long, Quoted}
 use Rattle.dasdl_parse.specs.declared.token.Lexeme.{Lexeme}
-use Rattle.dasdl_parse.specs.Reads.{Read, Pass, ◌>>=◌}
+use Rattle.dasdl_parse.specs.Reads.{Read, ◌>>=◌}
 use Rattle.dasdl_parse.specs.Lexing.{is_digit, with_digit}
-use Rattle.dasdl_parse.specs.Cursors.{fault_of, fault_at, starts, is_word, is_the_sign, word_at, sign_at, number_at, number_of}
+use Rattle.dasdl_parse.specs.Cursors.{fault_of, starts, is_word, is_the_sign, word_at, sign_at, number_at}
 
 -- TRUE, FALSE or NULL
 abbrev pub constant : List ℕ → Option Literal
@@ -29,8 +27,13 @@ abbrev pub constant_of : Option Literal → ℕ → List Lexeme → Read Literal
 constant_of (Some literal) place ls = Ok (literal, ls)
 constant_of None place ls = Err (Expected place)
 
+-- a string of a text holds what a text may have
+abbrev pub quoted_of : Option (List ℕ) → ℕ → List Lexeme → Read Literal
+quoted_of (Some text) place ls = Ok (Text text, ls)
+quoted_of None place ls = Err (BadCharacter place)
+
 abbrev pub literal_of : Token → ℕ → List Lexeme → Read Literal
-literal_of (Quoted text) place ls = Ok (Text (trimmed text), ls)
+literal_of (Quoted text) place ls = quoted_of (text_of text) place ls
 literal_of (Number n) place ls = Ok (Amount false n 0, ls)
 literal_of (Decimal minus digits places) place ls = Ok (Amount minus digits places, ls)
 literal_of Long place ls = Err (NumberRange place)

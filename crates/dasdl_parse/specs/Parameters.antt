@@ -1,14 +1,9 @@
 -- PARAMETERS and AUDIT TRAIL.
-use Rattle.std.specs.Prelude.{ℕ, ◌+◌, List, [], ◌∷◌, ◌++◌, Bool, true, false, ◌&&◌, ◌||◌, not, nat_le, nat_lt, length, codes, is_none, is_some, Some, None, if◌then◌else◌, ◌==◌}
-use Rattle.std.specs.declared.option.Option.{Option}
-use Rattle.std.specs.declared.result.Result.{Result}
+use Rattle.std.specs.Prelude.{ℕ, List, ◌&&◌, codes, is_none, Some, None, if◌then◌else◌}
 use Rattle.std.specs.declared.result.Result.TheVariants.{Ok, Err}
-use Rattle.dasdl_parse.specs.declared.fault.ParseFault.{ParseFault}
-use Rattle.dasdl_parse.specs.declared.fault.ParseFault.TheVariants.{BadCharacter, Expected, NumberRange, TooMany}
-use Rattle.dasdl_parse.specs.declared.token.Token.{Token}
 use Rattle.dasdl_parse.specs.declared.token.Lexeme.{Lexeme}
-use Rattle.dasdl_parse.specs.Reads.{Read, Pass, ◌>>=◌}
-use Rattle.dasdl_parse.specs.Cursors.{fault_at, starts, is_word, is_the_sign, word_at, sign_at, equal_at, number_at, turns_at, until_close}
+use Rattle.dasdl_parse.specs.Reads.{Read, ◌>>=◌}
+use Rattle.dasdl_parse.specs.Cursors.{fault_at, starts, is_word, word_at, sign_at, equal_at, number_at, turns_at, until_close}
 use Rattle.dasdl_parse.specs.declared.parameters.Pairs.{Pairs}
 use Rattle.dasdl_parse.specs.declared.parameters.AuditPairs.{AuditPairs}
 

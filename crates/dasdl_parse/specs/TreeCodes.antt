@@ -1,7 +1,7 @@
 -- A condition as a tree, and as the list of its parts, each operand before what joins it.
 use Rattle.std.specs.Prelude.{ℕ, zero, suc, ◌≡◌, ◌⊎◌, refl, List, [], ◌∷◌, ◌++◌}
 use Rattle.std.specs.Coded.{Coded, code_by, coded×, coded_ℕ, coded_list, coded⊎}
-use Rattle.std.proofs.Common.{ap, sym, ◌∙◌, append_assoc, inl, inr}
+use Rattle.std.proofs.Common.{ap, ◌∙◌, inl, inr}
 use Rattle.dms_base.specs.declared.op.Op.{Op}
 use Rattle.dms_base.specs.declared.op.Op.TheVariants.{Equal}
 use Rattle.dms_base.specs.declared.kind.Literal.{Literal}

@@ -1,8 +1,6 @@
 -- Conditions as trees.
-use Rattle.std.specs.Prelude.{ℕ, List, refl}
+use Rattle.std.specs.Prelude.{ℕ, refl}
 use Rattle.std.specs.Coded.{Coded, code_by, coded×, coded_ℕ}
-use Rattle.dms_base.specs.declared.op.Op.{Op}
-use Rattle.dms_base.specs.declared.kind.Literal.{Literal}
 use Rattle.dasdl_parse.specs.declared.conditions.CondTree.{CondTree, Compare, And', Or', Not'}
 use Rattle.dasdl_parse.specs.TreeCodes.{Tree, tree_code}
 use Rattle.dasdl_parse.specs.TreeCodes.Tree.{Test, Both, Either, Turned}

@@ -15,7 +15,7 @@ use std::alloc::Global;
 pub const NODES: u8 = 100;
 
 /// A condition so far.
-#[derive(Debug, Drop)]
+#[derive(Drop)]
 pub struct CondRead {
     /// What stands outside the innermost brackets.
     pub outer: Levels,
@@ -88,7 +88,13 @@ fn compare_turn(state: CondRead, cursor: &mut Cursor<'_>) -> Result<CondRead, Pa
         return Err(ParseFault::TooMany(100));
     }
     let factor = compare(cursor)?;
-    let next = completed(cursor.alloc(), state.outer, state.level, state.nodes + 1, factor)?;
+    let next = completed(
+        cursor.alloc(),
+        state.outer,
+        state.level,
+        state.nodes + 1,
+        factor,
+    )?;
     Ok(next)
 }
 
@@ -96,7 +102,7 @@ fn compare_turn(state: CondRead, cursor: &mut Cursor<'_>) -> Result<CondRead, Pa
 fn not_turn(state: CondRead, cursor: &mut Cursor<'_>) -> Result<CondRead, ParseFault>
     ensures { Takes result cursor.new (not_turn_at state cursor.old) }
 {
-    if state.nodes >= NODES {
+    if state.nodes >= NODES || state.level.nots >= NODES {
         return Err(ParseFault::TooMany(100));
     }
     cursor.word(b"NOT")?;
@@ -112,7 +118,7 @@ fn not_turn(state: CondRead, cursor: &mut Cursor<'_>) -> Result<CondRead, ParseF
         level: Level {
             either,
             both,
-            nots: nots.saturating_add(1),
+            nots: nots + 1,
         },
         done: None,
         nodes: nodes + 1,
@@ -249,6 +255,7 @@ fn join_turn(
 
 impl Turns for CondRead {
     ghost done_at = { cond_done };
+
     ghost turn_at = { cond_turn_at };
 
     fn is_done(&self, cursor: &Cursor<'_>) -> bool {

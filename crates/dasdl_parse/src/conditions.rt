@@ -56,7 +56,7 @@ impl CondDecl {
 }
 
 /// A condition, as a part of a larger one.
-#[derive(Debug, Drop)]
+#[derive(Drop)]
 pub struct Branch {
     tree: CondTree,
 }

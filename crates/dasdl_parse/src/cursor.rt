@@ -4,9 +4,8 @@ ghost use Rattle.dasdl_parse.specs.Reads.{Read, Takes, Passes};
 ghost use Rattle.dasdl_parse.specs.Cursors.{fault_at, place_at, is_word, is_the_sign, is_equal, is_end, is_free, starts, word_at, sign_at, equal_at, comma_at, name_at, number_at};
 
 use crate::fault::ParseFault;
-use crate::reserved::is_reserved;
 use crate::token::{Lexeme, Token};
-use dms_base::{Name, Op};
+use dms_base::{NAME_BYTES, Name, Op, is_reserved};
 use std::alloc::Global;
 use std::marker::Model;
 
@@ -242,8 +241,11 @@ impl<'a> Cursor<'a> {
         if is_reserved(bytes) {
             return Err(ParseFault::Expected(first.place));
         }
+        if bytes.len() > NAME_BYTES {
+            return Err(ParseFault::TooMany(30));
+        }
         match Name::read(bytes) {
-            None => Err(ParseFault::TooMany(30)),
+            None => Err(ParseFault::Expected(first.place)),
             Some(name) => {
                 self.rest = rest;
                 Ok(name)

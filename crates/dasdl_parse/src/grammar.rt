@@ -27,7 +27,7 @@ pub const STRUCTURES: u8 = 200;
 pub const TEXT_BYTES: usize = 1_000_000;
 
 /// The data sets that are open, the innermost last, with the items that each has so far.
-#[derive(Clone, Copy, Debug)]
+#[derive(Clone, Copy)]
 pub enum Open {
     Outside,
     One(u8),
@@ -36,14 +36,14 @@ pub enum Open {
 }
 
 /// What a data set's options have said so far.
-#[derive(Debug, Drop)]
+#[derive(Drop)]
 pub struct DataSetOptions {
     pub verify: Option<CondDecl>,
     pub population: Option<u32>,
 }
 
 /// A schema so far.
-#[derive(Debug, Drop)]
+#[derive(Drop)]
 pub struct Progress {
     pub parameters: Parameters,
     pub has_parameters: bool,
@@ -211,7 +211,14 @@ fn item_turn(
     let within = state.within.with_items(items + 1);
     let structures = state.structures;
     let counted = state.counted;
-    let next = declared(state, within, structures, counted, false, Declaration::Item(item))?;
+    let next = declared(
+        state,
+        within,
+        structures,
+        counted,
+        false,
+        Declaration::Item(item),
+    )?;
     Ok(next)
 }
 
@@ -233,7 +240,14 @@ fn group_turn(
         name,
         items: all.items,
     };
-    let next = declared(state, within, structures, counted, false, Declaration::Group(group))?;
+    let next = declared(
+        state,
+        within,
+        structures,
+        counted,
+        false,
+        Declaration::Group(group),
+    )?;
     Ok(next)
 }
 
@@ -261,7 +275,14 @@ fn link_turn(
     let within = state.within.with_items(items + 1);
     let structures = state.structures;
     let counted = counted_with(state.counted, link.counted);
-    let next = declared(state, within, structures, counted, false, Declaration::Link(link))?;
+    let next = declared(
+        state,
+        within,
+        structures,
+        counted,
+        false,
+        Declaration::Link(link),
+    )?;
     Ok(next)
 }
 
@@ -326,12 +347,26 @@ fn structure_turn(
     let counted = state.counted;
     if starts_set(cursor) {
         let set = set(cursor, place, name)?;
-        let next = declared(state, within, structures, counted, false, Declaration::SetOf(set))?;
+        let next = declared(
+            state,
+            within,
+            structures,
+            counted,
+            false,
+            Declaration::SetOf(set),
+        )?;
         return Ok(next);
     }
     let head = data_set(cursor, place, name)?;
     let inner = within.opened();
-    let next = declared(state, inner, structures, counted, true, Declaration::DataSet(head))?;
+    let next = declared(
+        state,
+        inner,
+        structures,
+        counted,
+        true,
+        Declaration::DataSet(head),
+    )?;
     Ok(next)
 }
 
@@ -382,6 +417,7 @@ fn data_set_option(
 
 impl Turns for DataSetOptions {
     ghost done_at = { until_semicolon };
+
     ghost turn_at = { next_data_set_option_at };
 
     fn is_done(&self, cursor: &Cursor<'_>) -> bool {
@@ -421,7 +457,14 @@ fn end_turn(state: Progress, cursor: &mut Cursor<'_>) -> Result<Progress, ParseF
     let within = state.within.closed();
     let structures = state.structures;
     let counted = state.counted;
-    let next = declared(state, within, structures, counted, false, Declaration::End(end))?;
+    let next = declared(
+        state,
+        within,
+        structures,
+        counted,
+        false,
+        Declaration::End(end),
+    )?;
     Ok(next)
 }
 
@@ -436,6 +479,7 @@ fn named_turn(state: Progress, cursor: &mut Cursor<'_>) -> Result<Progress, Pars
 
 impl Turns for Progress {
     ghost done_at = { schema_done };
+
     ghost turn_at = { schema_turn_at };
 
     fn is_done(&self, cursor: &Cursor<'_>) -> bool {

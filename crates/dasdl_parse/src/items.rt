@@ -18,14 +18,14 @@ pub const ITEMS: u8 = 60;
 pub const COUNTED_LINKS: u16 = 4_000;
 
 /// What an item's options have said so far.
-#[derive(Debug, Drop)]
+#[derive(Drop)]
 pub struct ItemOptions {
     pub required: bool,
     pub initial: Option<Literal>,
 }
 
 /// The items of a group so far, and how many its data set has.
-#[derive(Debug, Drop)]
+#[derive(Drop)]
 pub struct GroupItems {
     pub items: ItemDecls,
     pub count: u8,
@@ -63,6 +63,7 @@ fn item_option(options: ItemOptions, cursor: &mut Cursor<'_>) -> Result<ItemOpti
 
 impl Turns for ItemOptions {
     ghost done_at = { until_semicolon };
+
     ghost turn_at = { next_item_option_at };
 
     fn is_done(&self, cursor: &Cursor<'_>) -> bool {
@@ -120,6 +121,7 @@ fn group_item(
 
 impl Turns for GroupItems {
     ghost done_at = { until_close };
+
     ghost turn_at = { next_group_item_at };
 
     fn is_done(&self, cursor: &Cursor<'_>) -> bool {

@@ -7,7 +7,7 @@ use crate::bytes::{is_digit, with_digit};
 use crate::cursor::Cursor;
 use crate::fault::ParseFault;
 use crate::token::Token;
-use dms_base::{ItemKind, Literal, Text, trimmed};
+use dms_base::{ItemKind, Literal, Text};
 
 /// TRUE, FALSE or NULL.
 fn constant(word: &[u8]) -> Option<Literal>
@@ -34,7 +34,10 @@ pub fn literal(cursor: &mut Cursor<'_>) -> Result<Literal, ParseFault>
         return Err(ParseFault::Expected(0));
     };
     let literal = match &first.token {
-        Token::Quoted(text) => Literal::Text(Text::new(cursor.alloc(), trimmed(text.as_slice()))?),
+        Token::Quoted(bytes) => match Text::read(cursor.alloc(), bytes.as_slice())? {
+            None => return Err(ParseFault::BadCharacter(first.place)),
+            Some(text) => Literal::Text(text),
+        },
         Token::Number(digits) => Literal::Number(false, *digits, 0),
         Token::Decimal(minus, digits, places) => Literal::Number(*minus, *digits, *places),
         Token::Long => return Err(ParseFault::NumberRange(first.place)),

@@ -7,7 +7,7 @@ use std::alloc::Global;
 use std::marker::Model;
 
 /// What is read within a pair of brackets.
-#[derive(Debug, Drop)]
+#[derive(Drop)]
 pub struct Level {
     /// What stands before OR.
     pub either: Option<Branch>,
@@ -18,7 +18,7 @@ pub struct Level {
 }
 
 /// What is read outside the innermost brackets, the innermost first.
-#[derive(Debug, Drop)]
+#[derive(Drop)]
 pub struct Levels {
     kept: Vec<Level>,
 }

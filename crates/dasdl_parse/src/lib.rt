@@ -10,14 +10,16 @@ mod fault;
 mod grammar;
 mod items;
 mod kinds;
+mod laws;
 mod levels;
 mod lexer;
 mod lists;
 mod parameters;
 mod reading;
-mod reserved;
 mod schema;
 mod sets;
+#[cfg(test)]
+mod tests;
 mod token;
 mod turns;
 
@@ -28,6 +30,7 @@ pub use declarations::{
 };
 pub use fault::ParseFault;
 pub use grammar::parse;
+pub use laws::{condition_law, item_law, item_options_law, key_law, kind_law, link_law};
 pub use lexer::{tokens, tokens_from};
 pub use lists::{Declarations, ItemDecls, PartDecls};
 pub use schema::{Parameters, Schema};

@@ -8,7 +8,7 @@ use crate::fault::ParseFault;
 use crate::turns::{Turns, read_turns};
 
 /// What PARAMETERS has said so far.
-#[derive(Clone, Copy, Debug)]
+#[derive(Clone, Copy)]
 pub struct Pairs {
     pub syncpoint: Option<u16>,
     pub controlpoint: Option<u16>,
@@ -16,7 +16,7 @@ pub struct Pairs {
 }
 
 /// What AUDIT TRAIL has said so far.
-#[derive(Clone, Copy, Debug)]
+#[derive(Clone, Copy)]
 pub struct AuditPairs {
     pub blocks: Option<u16>,
     pub files: Option<u16>,
@@ -79,6 +79,7 @@ fn pair(pairs: Pairs, cursor: &mut Cursor<'_>) -> Result<Pairs, ParseFault>
 
 impl Turns for Pairs {
     ghost done_at = { until_close };
+
     ghost turn_at = { next_pair_at };
 
     fn is_done(&self, cursor: &Cursor<'_>) -> bool {
@@ -134,6 +135,7 @@ fn audit_pair(pairs: AuditPairs, cursor: &mut Cursor<'_>) -> Result<AuditPairs, 
 
 impl Turns for AuditPairs {
     ghost done_at = { until_close };
+
     ghost turn_at = { next_audit_pair_at };
 
     fn is_done(&self, cursor: &Cursor<'_>) -> bool {

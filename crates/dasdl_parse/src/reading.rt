@@ -1,7 +1,7 @@
 use dms_base::Bytes;
 
 /// The digits of a number so far.
-#[derive(Clone, Copy, Debug)]
+#[derive(Clone, Copy)]
 pub struct Digits {
     /// Whether it begins with a sign.
     pub signed: bool,
@@ -15,7 +15,7 @@ pub struct Digits {
 }
 
 /// What is being read of a text. The first field of each case is where it began.
-#[derive(Debug, Drop)]
+#[derive(Drop)]
 pub enum Reading {
     Between,
     Comment,

@@ -19,7 +19,7 @@ pub const PARTS: usize = 16;
 pub const POPULATION: u32 = 1_000_000;
 
 /// What a set's options have said so far.
-#[derive(Debug, Drop)]
+#[derive(Drop)]
 pub struct SetOptions {
     pub cond: Option<CondDecl>,
     pub key: Option<KeyDecl>,
@@ -63,6 +63,7 @@ fn part(mut parts: PartDecls, cursor: &mut Cursor<'_>) -> Result<PartDecls, Pars
 
 impl Turns for PartDecls {
     ghost done_at = { until_close };
+
     ghost turn_at = { next_part_at };
 
     fn is_done(&self, cursor: &Cursor<'_>) -> bool {
@@ -199,6 +200,7 @@ fn set_option(mut options: SetOptions, cursor: &mut Cursor<'_>) -> Result<SetOpt
 
 impl Turns for SetOptions {
     ghost done_at = { until_semicolon };
+
     ghost turn_at = { next_set_option_at };
 
     fn is_done(&self, cursor: &Cursor<'_>) -> bool {

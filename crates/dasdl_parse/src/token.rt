@@ -5,7 +5,7 @@ use std::alloc::Global;
 use std::marker::Model;
 
 /// A token of a text, or how the text ends.
-#[derive(Debug, Drop)]
+#[derive(Drop)]
 pub enum Token {
     /// A word in upper case.
     Word(Bytes),
@@ -29,7 +29,7 @@ pub enum Token {
 }
 
 /// A token, and the place of its first byte.
-#[derive(Debug, Drop)]
+#[derive(Drop)]
 pub struct Lexeme {
     pub token: Token,
     /// Counts bytes from 1. The end of a text stands at its length + 1.
@@ -37,7 +37,7 @@ pub struct Lexeme {
 }
 
 /// The tokens of a text.
-#[derive(Debug, Drop)]
+#[derive(Drop)]
 pub struct Lexemes {
     kept: Vec<Lexeme>,
 }

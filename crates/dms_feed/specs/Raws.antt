@@ -5,14 +5,14 @@ use Rattle.dms_feed.specs.declared.raw.Raw.{Raw}
 use Rattle.dms_feed.specs.Feeds.{Remains}
 use Rattle.dms_feed.specs.Lines.{first_line, after_line}
 
--- the first line of these bytes, by its first 2,003 bytes and its length; none where there are no bytes
-abbrev pub IsTaken : Option Raw → ℕ → List ℕ → Type 0
-IsTaken None room all = all ≡ []
-IsTaken (Some r) room all = (all ≢ []) × (r.kept ≡ take 2003 (first_line all)) × (r.length ≡ length (first_line all)) × (r.length ≤ room)
+-- the first line of these bytes, by its first bytes, at most cap, and its length; none where there are no bytes
+abbrev pub IsTaken : ℕ → Option Raw → ℕ → List ℕ → Type 0
+IsTaken cap None room all = all ≡ []
+IsTaken cap (Some r) room all = (all ≢ []) × (r.kept ≡ take cap (first_line all)) × (r.length ≡ length (first_line all)) × (r.length ≤ room)
 
 -- where what remains is told, its first line was taken
-abbrev pub TakesLine : List ℕ → Option (List ℕ) → List ℕ → Option (List ℕ) → ℕ → Option Raw → Type 0
-TakesLine held left held' left' room line = (all : List ℕ) → Remains held left all → IsTaken line room all × Remains held' left' (after_line all)
+abbrev pub TakesLine : ℕ → List ℕ → Option (List ℕ) → List ℕ → Option (List ℕ) → ℕ → Option Raw → Type 0
+TakesLine cap held left held' left' room line = (all : List ℕ) → Remains held left all → IsTaken cap line room all × Remains held' left' (after_line all)
 
 -- where what remains is told, its first line has more bytes than these
 abbrev pub OverRoom : List ℕ → Option (List ℕ) → ℕ → Type 0

@@ -9,13 +9,10 @@ use dms_base::{Bytes, Memory};
 use dms_site::Source;
 use std::alloc::Global;
 
-/// So many bytes of a line are kept; a longer one is told from all others by its length alone.
-pub const KEPT: u64 = 2003;
-
 /// A line as it stands in the input, with its line feed if it has one.
 #[derive(Debug, Drop)]
 pub struct Raw {
-    /// Its first bytes, at most `KEPT`.
+    /// Its first bytes, at most as many as were asked for.
     pub kept: Bytes,
     /// How many bytes it has.
     pub length: u64,
@@ -31,10 +28,10 @@ pub enum RawFault {
 }
 
 /// Keeps a byte that stands at this place of a line, if it is one of the first.
-fn keep(kept: &mut Bytes, place: u64, byte: u8) -> Result<(), Memory>
-    ensures { OnOk result (kept.new ≡ (if nat_lt place 2003 then kept.old ++ byte ∷ [] else kept.old)) }
+fn keep(kept: &mut Bytes, place: u64, byte: u8, cap: u64) -> Result<(), Memory>
+    ensures { OnOk result (kept.new ≡ (if nat_lt place cap then kept.old ++ byte ∷ [] else kept.old)) }
 {
-    if place < KEPT {
+    if place < cap {
         return kept.push(byte);
     }
     Ok(())
@@ -73,15 +70,16 @@ pub fn line_text(line: &[u8]) -> &[u8]
     line
 }
 
-/// The next line, or none at the end. At most `room` bytes are taken as its own.
+/// The next line by its first `cap` bytes, or none at the end. At most `room` bytes are taken as its own.
 pub fn next_raw<I: Source>(
     alloc: Global,
     feed: &mut Feed,
     source: &mut I,
+    cap: u64,
     room: u64,
 ) -> Result<Option<Raw>, RawFault>
     requires { room < 2 ^ 40 }
-    ensures line { IfOk result (TakesLine feed.old (I.left source.old) feed.new (I.left source.new) room) }
+    ensures line { IfOk result (TakesLine cap feed.old (I.left source.old) feed.new (I.left source.new) room) }
     ensures bytes { IsErrOf result RawFault.Bytes → OverRoom feed.old (I.left source.old) room }
     ensures same { I.same_source source.old source.new }
     ensures later { I.faults source.old ≤ I.faults source.new }
@@ -96,7 +94,7 @@ pub fn next_raw<I: Source>(
                 if turn == room {
                     return Err(RawFault::Bytes);
                 }
-                match keep(&mut kept, turn, byte) {
+                match keep(&mut kept, turn, byte, cap) {
                     Ok(()) => {}
                     Err(_) => return Err(RawFault::Memory),
                 }

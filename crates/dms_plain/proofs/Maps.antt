@@ -1,8 +1,8 @@
-use Rattle.std.proofs.Common.{◌≡◌, ℕ, List, [], ◌∷◌, ◌++◌, Bool, true, false, cond, Some, None, refl, sym, ap, ◌∙◌, subst, length}
+use Rattle.std.proofs.Common.{◌≡◌, List, [], ◌∷◌, ◌++◌, Bool, true, false, cond, Some, None, refl, sym, ap, ◌∙◌, subst, length}
 use Rattle.std.specs.Prelude.{T, not}
 use Rattle.std.specs.List.{filter}
 use Rattle.std.specs.declared.option.Option.{Option}
-use Rattle.std.specs.FinMap.{FinMap, put, find, is_sorted, insert, entries, from_sorted, entries-insert, entries-from_sorted, entries_sorted, same_entries_map, get, remove, get-remove, get-insert, get-entries, get_tied, same_map, IsAntisymmetric, nat_cmp-IsAntisymmetric, empty, empty_of_len, len-entries}
+use Rattle.std.specs.FinMap.{put, find, is_sorted, insert, entries, entries-insert, entries-from_sorted, entries_sorted, same_entries_map, get, remove, get-remove, get-insert, get-entries, get_tied, same_map, IsAntisymmetric, nat_cmp-IsAntisymmetric, empty, empty_of_len, len-entries}
 use Rattle.std.specs.Ordering.{eq_by_cmp, is_eq, nat_cmp, ordering_then}
 use Rattle.std.specs.declared.cmp.Ordering.{Ordering}
 use Rattle.std.specs.declared.cmp.Ordering.TheVariants.{Less, Equal, Greater}

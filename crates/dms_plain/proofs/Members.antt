@@ -1,5 +1,5 @@
 -- The first and the last that pass in a sorted list are the least and the greatest that pass.
-use Rattle.std.proofs.Common.{◌≡◌, ℕ, List, [], ◌∷◌, Bool, true, false, cond, Some, None, refl, sym, ap, ◌∙◌, subst}
+use Rattle.std.proofs.Common.{◌≡◌, List, [], ◌∷◌, Bool, true, false, cond, Some, None, refl, sym, ap, ◌∙◌}
 use Rattle.std.specs.declared.option.Option.{Option}
 use Rattle.dms_model.specs.Members.{place_in, sorted, first, last, or_else}
 use Rattle.dms_model.specs.Sorted.{NoneLess, InOrder, InOrder-sorted}

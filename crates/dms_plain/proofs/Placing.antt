@@ -1,8 +1,7 @@
-use Rattle.std.proofs.Common.{◌≡◌, ◌+◌, ◌<◌, ℕ, zero, suc, List, [], ◌∷◌, ◌++◌, Bool, true, false, cond, refl, sym, ap, subst, ◌∙◌, arith, append_assoc, length, get_or, take, drop, map, add-one}
+use Rattle.std.proofs.Common.{◌≡◌, ◌+◌, ◌<◌, ℕ, zero, suc, List, [], ◌∷◌, ◌++◌, Bool, true, false, cond, refl, sym, ap, subst, ◌∙◌, arith, append_assoc, length, get_or, take, drop, add-one}
 use Rattle.std.specs.Prelude.{insert, slice_set, slice_index_or}
 use Rattle.std.specs.FinMap.{put}
 use Rattle.std.specs.List.{filter, drop-map}
-use Rattle.std.specs.declared.cmp.Ordering.{Ordering}
 use Rattle.std.specs.declared.cmp.Ordering.TheVariants.{Less, Equal, Greater}
 use Rattle.std.proofs.lemmas.List.{drop_more, take_more, drop_all, map-append, take-map, map-set}
 use Rattle.dms_desc.specs.declared.record.Record.{Record}

@@ -1,5 +1,5 @@
 -- Rows in the order of their places, the database that they stand for, and changes that are taken back.
-use Rattle.std.specs.Prelude.{ℕ, List, [], ◌∷◌, map, T, Some, None, ◌≡◌, ◌<◌, ◌≤◌, length, slice_set, slice_index_or, insert as insert_at}
+use Rattle.std.specs.Prelude.{List, [], ◌∷◌, map, T, Some, None, ◌≡◌, ◌<◌, ◌≤◌, length, slice_set, slice_index_or, insert as insert_at}
 use Rattle.std.specs.declared.option.Option.{Option}
 use Rattle.std.specs.FinMap.{from_sorted, is_sorted, remove, insert, put}
 use Rattle.dms_desc.specs.declared.record.Record.{Record}

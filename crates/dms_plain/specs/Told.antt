@@ -1,5 +1,5 @@
 -- What a plain store tells of its text and of its quiet points.
-use Rattle.std.specs.Prelude.{ℕ, Bool, true, false, List, [], Some, None, IsTrue}
+use Rattle.std.specs.Prelude.{ℕ, Bool, true, false, List, [], Some, None}
 use Rattle.std.specs.declared.option.Option.{Option}
 use Rattle.dms_block.specs.Moments.{Clock}
 use Rattle.dms_model.specs.Db.{Db}
@@ -17,6 +17,3 @@ no_point number db = record { number = number; blocks = λ file. []; schema = []
 -- stops are not told
 abbrev pub no_clock : Clock Stop
 no_clock = record { now = 0; left = λ moment stop. ⊥ }
-
-pub untold : {A : Type 0} → IsTrue false → A
-untold tells = absurd (cc tells)

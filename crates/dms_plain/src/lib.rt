@@ -1,4 +1,4 @@
-//! A store that is a list of rows.
+//! The store that is a list of records, which is the plain program of the definitions.
 #![tactic(auto)]
 
 mod clash;
@@ -8,7 +8,8 @@ mod rows;
 mod scan;
 mod state;
 mod store;
+#[cfg(test)]
+mod tests;
 
 pub use laws::number_law;
-pub use rows::{Row, Undo};
 pub use store::PlainStore;

@@ -1,9 +1,10 @@
 ghost use Rattle.std.specs.Prelude.{◌≡◌, ⊤, IfErr, IfOk, IsTrue, Some, [], false, refl};
 ghost use Rattle.std.proofs.Common.{◌∙◌};
+ghost use Rattle.std.proofs.lemmas.Bool.{false≢true};
 ghost use Rattle.dms_desc.specs.Shape.{described};
 ghost use Rattle.dms_model.specs.Db.{empty_db};
 ghost use Rattle.dms_plain.specs.Rows.{db_of, records_in, undone, IsInOrder};
-ghost use Rattle.dms_plain.specs.Told.{told, no_point, no_clock, untold};
+ghost use Rattle.dms_plain.specs.Told.{told, no_point, no_clock};
 
 use crate::rows::{Row, Undo};
 use crate::state;
@@ -38,6 +39,10 @@ impl<S: Site> PlainStore<S> {
         ensures said { IfOk result (λ s. ⟦<PlainStore<S> as Store>⟧.said s ≡ told S.tells_said (S.said site)) }
         ensures disk_faults { IfOk result (λ s. ⟦<PlainStore<S> as Store>⟧.disk_faults s ≡ S.disk_faults site) }
         ensures say_faults { IfOk result (λ s. ⟦<PlainStore<S> as Store>⟧.say_faults s ≡ S.say_faults site) }
+        ensures fulls { IfOk result (λ s. ⟦<PlainStore<S> as Store>⟧.fulls s ≡ 0) }
+        ensures damages { IfOk result (λ s. ⟦<PlainStore<S> as Store>⟧.damages s ≡ 0) }
+        ensures points { IfOk result (λ s. ⟦<PlainStore<S> as Store>⟧.points s ≡ []) }
+        ensures sure { IfOk result (λ s. ⟦<PlainStore<S> as Store>⟧.sure s ≡ 0) }
         ensures site { IfOk result (λ s. s.site ≡ site) }
         ensures site_back { IfErr result (λ e. e.1 ≡ site) }
     {
@@ -94,22 +99,17 @@ impl<S: Site> Store for PlainStore<S> {
 
     ghost damages = { λ _. 0 };
 
-    ghost now_front = { λ s stop sound tells. untold tells };
+    ghost now_front = { λ s stop sound tells. absurd (false≢true tells) };
 
-    ghost here_is = { λ s sound tells. untold tells };
+    ghost here_is = { λ s sound tells. absurd (false≢true tells) };
 
-    ghost sure_within = { λ s sound tells. untold tells };
+    ghost sure_within = { λ s sound tells. absurd (false≢true tells) };
 
     ghost same_again = { λ s. (S.same_again s.site, refl, λ tells. refl) };
 
     ghost same_then = { λ a b c one two. (S.same_then a.site b.site c.site one.0 two.0, two.1 ∙ one.1, λ tells. two.2 tells ∙ one.2 tells) };
 
-    fn get(
-        &mut self,
-        alloc: Global,
-        set: u16,
-        number: u64,
-    ) -> Result<Option<Record>, BlockFault> {
+    fn get(&mut self, alloc: Global, set: u16, number: u64) -> Result<Option<Record>, BlockFault> {
         Ok(state::get(alloc, self.rows.as_slice(), set, number)?)
     }
 
@@ -120,14 +120,7 @@ impl<S: Site> Store for PlainStore<S> {
         owner: u64,
         from: &Bound,
     ) -> Result<Option<Spot>, BlockFault> {
-        Ok(state::first_member(
-            alloc,
-            &self.desc,
-            self.rows.as_slice(),
-            path,
-            owner,
-            from,
-        )?)
+        Ok(state::first_member(alloc, &self.desc, self.rows.as_slice(), path, owner, from)?)
     }
 
     fn last_to(
@@ -137,14 +130,7 @@ impl<S: Site> Store for PlainStore<S> {
         owner: u64,
         to: &Bound,
     ) -> Result<Option<Spot>, BlockFault> {
-        Ok(state::last_member(
-            alloc,
-            &self.desc,
-            self.rows.as_slice(),
-            path,
-            owner,
-            to,
-        )?)
+        Ok(state::last_member(alloc, &self.desc, self.rows.as_slice(), path, owner, to)?)
     }
 
     fn put(

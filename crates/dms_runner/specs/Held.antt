@@ -22,9 +22,12 @@ sync_text (Some n) = syncpoint_text n
 unfoldable pub answer_text : ℕ → List ℕ → Reply → Option ℕ → List ℕ
 answer_text line program reply sync = reply_text line program reply ++ sync_text sync
 
--- what a try says of its line: that it waits is said once
+-- what is said of a line that was tried: that it waits is said once
+abbrev pub said_of : Held → Reply → Option ℕ → List ℕ
+said_of h reply sync = if is_waits reply && h.printed then [] else answer_text h.line h.program reply sync
+
 abbrev pub tried_text : Held → Outcome → List ℕ
-tried_text h o = if is_waits o.reply && h.printed then [] else answer_text h.line h.program o.reply o.sync
+tried_text h o = said_of h o.reply o.sync
 
 -- it was said that the line waits
 abbrev pub waiting : Held → Held

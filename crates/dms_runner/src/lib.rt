@@ -3,8 +3,10 @@
 
 mod held;
 mod lines;
+mod run;
 mod saying;
 mod walking;
 
 pub use held::Held;
 pub use lines::HELD_LINES;
+pub use run::{RunFault, SCRIPT_BYTES, SCRIPT_LINES, run_lines};

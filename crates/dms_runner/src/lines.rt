@@ -34,8 +34,6 @@ fn bad_line<St: Store>(
 ) -> Result<bool, BlockFault>
     requires sound { St.sound engine.old.store }
     requires desc { St.desc engine.old.store ≡ described engine.old.desc }
-    ensures lined { IfOk result (λ on. (g : Going) → Stands (view (St.db engine.old.store) (St.mark engine.old.store) (St.next engine.old.store) engine.old.programs.items engine.old.pending engine.old.since) g.session → g.held ≡ held.old.items → line ≡ g.line + 1 → Roomy g → GoesOn (spoken (described engine.old.desc) (counted g) (Bad place)) on (view (St.db engine.new.store) (St.mark engine.new.store) (St.next engine.new.store) engine.new.programs.items engine.new.pending engine.new.since) held.new.items (St.said engine.old.store) (St.said engine.new.store)) }
-    ensures part { (g : Going) → Stands (view (St.db engine.old.store) (St.mark engine.old.store) (St.next engine.old.store) engine.old.programs.items engine.old.pending engine.old.since) g.session → g.held ≡ held.old.items → line ≡ g.line + 1 → Roomy g → PrintsFront (St.said engine.old.store) (St.said engine.new.store) (spoken (described engine.old.desc) (counted g) (Bad place)).text }
     ensures sound { OnOk result (St.sound engine.new.store) }
     ensures description { engine.new.desc ≡ engine.old.desc }
     ensures desc { St.desc engine.new.store ≡ St.desc engine.old.store }
@@ -63,8 +61,6 @@ fn first_try<St: Store>(
 ) -> Result<bool, BlockFault>
     requires sound { St.sound engine.old.store }
     requires desc { St.desc engine.old.store ≡ described engine.old.desc }
-    ensures lined { IfOk result (λ on. (g : Going) → Stands (view (St.db engine.old.store) (St.mark engine.old.store) (St.next engine.old.store) engine.old.programs.items engine.old.pending engine.old.since) g.session → g.held ≡ held.old.items → line ≡ g.line + 1 → Roomy g → GoesOn (tried (described engine.old.desc) (counted g) name verb (step (described engine.old.desc) g.session name verb)) on (view (St.db engine.new.store) (St.mark engine.new.store) (St.next engine.new.store) engine.new.programs.items engine.new.pending engine.new.since) held.new.items (St.said engine.old.store) (St.said engine.new.store)) }
-    ensures part { (g : Going) → Stands (view (St.db engine.old.store) (St.mark engine.old.store) (St.next engine.old.store) engine.old.programs.items engine.old.pending engine.old.since) g.session → g.held ≡ held.old.items → line ≡ g.line + 1 → Roomy g → PrintsFront (St.said engine.old.store) (St.said engine.new.store) (tried (described engine.old.desc) (counted g) name verb (step (described engine.old.desc) g.session name verb)).text }
     ensures sound { OnOk result (St.sound engine.new.store) }
     ensures description { engine.new.desc ≡ engine.old.desc }
     ensures desc { St.desc engine.new.store ≡ St.desc engine.old.store }
@@ -105,8 +101,6 @@ fn spoken_line<St: Store>(
 ) -> Result<bool, BlockFault>
     requires sound { St.sound engine.old.store }
     requires desc { St.desc engine.old.store ≡ described engine.old.desc }
-    ensures lined { IfOk result (λ on. (g : Going) → Stands (view (St.db engine.old.store) (St.mark engine.old.store) (St.next engine.old.store) engine.old.programs.items engine.old.pending engine.old.since) g.session → g.held ≡ held.old.items → line ≡ g.line + 1 → Roomy g → GoesOn (spoken (described engine.old.desc) (counted g) (Spoken name verb)) on (view (St.db engine.new.store) (St.mark engine.new.store) (St.next engine.new.store) engine.new.programs.items engine.new.pending engine.new.since) held.new.items (St.said engine.old.store) (St.said engine.new.store)) }
-    ensures part { (g : Going) → Stands (view (St.db engine.old.store) (St.mark engine.old.store) (St.next engine.old.store) engine.old.programs.items engine.old.pending engine.old.since) g.session → g.held ≡ held.old.items → line ≡ g.line + 1 → Roomy g → PrintsFront (St.said engine.old.store) (St.said engine.new.store) (spoken (described engine.old.desc) (counted g) (Spoken name verb)).text }
     ensures sound { OnOk result (St.sound engine.new.store) }
     ensures description { engine.new.desc ≡ engine.old.desc }
     ensures desc { St.desc engine.new.store ≡ St.desc engine.old.store }
@@ -143,8 +137,6 @@ pub fn take_line<St: Store>(
 ) -> Result<bool, BlockFault>
     requires sound { St.sound engine.old.store }
     requires desc { St.desc engine.old.store ≡ described engine.old.desc }
-    ensures lined { IfOk result (λ on. (g : Going) → Stands (view (St.db engine.old.store) (St.mark engine.old.store) (St.next engine.old.store) engine.old.programs.items engine.old.pending engine.old.since) g.session → g.held ≡ held.old.items → line ≡ g.line + 1 → Roomy g → GoesOn (line_step (described engine.old.desc) g raw.now) on (view (St.db engine.new.store) (St.mark engine.new.store) (St.next engine.new.store) engine.new.programs.items engine.new.pending engine.new.since) held.new.items (St.said engine.old.store) (St.said engine.new.store)) }
-    ensures part { (g : Going) → Stands (view (St.db engine.old.store) (St.mark engine.old.store) (St.next engine.old.store) engine.old.programs.items engine.old.pending engine.old.since) g.session → g.held ≡ held.old.items → line ≡ g.line + 1 → Roomy g → PrintsFront (St.said engine.old.store) (St.said engine.new.store) (line_step (described engine.old.desc) g raw.now).text }
     ensures sound { OnOk result (St.sound engine.new.store) }
     ensures description { engine.new.desc ≡ engine.old.desc }
     ensures desc { St.desc engine.new.store ≡ St.desc engine.old.store }

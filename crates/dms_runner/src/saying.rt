@@ -1,10 +1,10 @@
-ghost use Rattle.std.specs.Prelude.{◌≡◌, ◌≤◌, ◌<◌, ◌+◌, ◌^◌, ◌++◌, [], ◌∷◌, ℕ, List, Bool, true, false, not, Some, None, IfOk, OnOk, IsErrOf, IsTrue, length};
+ghost use Rattle.std.specs.Prelude.{◌≡◌, ◌≤◌, ◌<◌, ◌+◌, ◌^◌, ◌++◌, [], ◌∷◌, ℕ, List, Bool, true, false, not, ◌&&◌, Some, None, IfOk, OnOk, IsErrOf, IsTrue, length};
 ghost use Rattle.dms_base.specs.Causes.{Rose};
 ghost use Rattle.dms_desc.specs.Shape.{described};
 ghost use Rattle.dms_model.specs.Points.{Prints, PrintsFront};
 ghost use Rattle.dms_model.specs.Session.{Session, step, is_waits};
 ghost use Rattle.dms_storeverbs.specs.View.{View, view, Stands, Room};
-ghost use Rattle.dms_runner.specs.Held.{answer_text, tried_text, sync_text};
+ghost use Rattle.dms_runner.specs.Held.{answer_text, said_of, tried_text, sync_text};
 ghost use Rattle.dms_runner.specs.Trying.{Tries};
 
 use crate::Held;
@@ -81,6 +81,41 @@ pub fn say_answer<St: Store>(
     engine.say(text.as_slice())
 }
 
+/// Says what a held line was answered; that it waits is said once.
+fn say_tried<St: Store>(
+    alloc: Global,
+    engine: &mut Engine<St>,
+    held: &Held,
+    answer: &Answer,
+) -> Result<(), BlockFault>
+    requires sound { St.sound engine.old.store }
+    requires desc { St.desc engine.old.store ≡ described engine.old.desc }
+    ensures text { OnOk result (Prints (St.said engine.old.store) (St.said engine.new.store) (said_of held.now answer.now.reply answer.now.sync)) }
+    ensures part { PrintsFront (St.said engine.old.store) (St.said engine.new.store) (said_of held.now answer.now.reply answer.now.sync) }
+    ensures stands { OnOk result ((s : Session) → Stands (view (St.db engine.old.store) (St.mark engine.old.store) (St.next engine.old.store) engine.old.programs.items engine.old.pending engine.old.since) s → Stands (view (St.db engine.new.store) (St.mark engine.new.store) (St.next engine.new.store) engine.new.programs.items engine.new.pending engine.new.since) s) }
+    ensures sound { OnOk result (St.sound engine.new.store) }
+    ensures description { engine.new.desc ≡ engine.old.desc }
+    ensures desc { St.desc engine.new.store ≡ St.desc engine.old.store }
+    ensures same { St.same_store engine.old.store engine.new.store }
+    ensures later { (St.disk_faults engine.old.store ≤ St.disk_faults engine.new.store) × (St.say_faults engine.old.store ≤ St.say_faults engine.new.store) × (St.fulls engine.old.store ≤ St.fulls engine.new.store) × (St.damages engine.old.store ≤ St.damages engine.new.store) }
+    ensures disk { IsErrOf result BlockFault.Disk → Rose (St.disk_faults engine.old.store) (St.disk_faults engine.new.store) }
+    ensures say { IsErrOf result BlockFault.Say → Rose (St.say_faults engine.old.store) (St.say_faults engine.new.store) }
+    ensures full { (f : ℕ) → IsErrOf result (BlockFault.Full f) → Rose (St.fulls engine.old.store) (St.fulls engine.new.store) }
+    ensures damaged { (f b : ℕ) → IsErrOf result (BlockFault.Damaged f b) → Rose (St.damages engine.old.store) (St.damages engine.new.store) }
+{
+    if is_silent(&answer.reply, held.printed) {
+        return Ok(());
+    }
+    say_answer(alloc, engine, held.line, &held.program, answer)
+}
+
+/// Whether nothing is said: a line waits, of which that was said.
+fn is_silent(reply: &Reply, printed: bool) -> bool
+    ensures { result ≡ (is_waits reply.now && printed) }
+{
+    is_waits(reply) && printed
+}
+
 /// Tries a held line, and answers whether it was answered.
 pub fn try_line<St: Store>(
     alloc: Global,
@@ -102,10 +137,6 @@ pub fn try_line<St: Store>(
     ensures damaged { (f b : ℕ) → IsErrOf result (BlockFault.Damaged f b) → Rose (St.damages engine.old.store) (St.damages engine.new.store) }
 {
     let answer = engine.call(alloc, &held.program, &held.verb)?;
-    let waits = is_waits(&answer.reply);
-    if waits && held.printed {
-        return Ok(false);
-    }
-    say_answer(alloc, engine, held.line, &held.program, &answer)?;
-    Ok(!waits)
+    say_tried(alloc, engine, held, &answer)?;
+    Ok(!is_waits(&answer.reply))
 }

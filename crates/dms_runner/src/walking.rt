@@ -4,8 +4,10 @@ ghost use Rattle.dms_desc.specs.Shape.{described};
 ghost use Rattle.dms_model.specs.Points.{Prints, PrintsFront};
 ghost use Rattle.dms_model.specs.Session.{Session, step, is_waits};
 ghost use Rattle.dms_storeverbs.specs.View.{View, view, Stands, Room};
-ghost use Rattle.dms_runner.specs.Held.{has_line, walk, walks};
-ghost use Rattle.dms_runner.specs.Trying.{Passes, Walks};
+ghost use Rattle.std.specs.Prelude.{slice_get, take};
+ghost use Rattle.dms_runner.specs.declared.held.Held.{Held as HeldLine};
+ghost use Rattle.dms_runner.specs.Held.{has_line, tried_text, walk, walks};
+ghost use Rattle.dms_runner.specs.Trying.{Passes, Tries, Walks};
 
 use crate::Held;
 use crate::saying::try_line;
@@ -22,6 +24,37 @@ pub fn has_line(held: &[Held], name: &Name) -> bool
     held.iter().any(|h| h.program.is(name))
 }
 
+/// Whether a held line is passed over: an earlier line of its program is held, too.
+fn is_passed(held: &[Held], i: usize) -> bool
+    requires { i < length held.now }
+    ensures { (h : HeldLine) → slice_get held.now i ≡ Some h → result ≡ has_line (take i held.now) h.program }
+{
+    has_line(&held[..i], &held[i].program)
+}
+
+/// Tries the held line at a place.
+fn try_at<St: Store>(
+    alloc: Global,
+    engine: &mut Engine<St>,
+    held: &[Held],
+    i: usize,
+) -> Result<bool, BlockFault>
+    requires sound { St.sound engine.old.store }
+    requires desc { St.desc engine.old.store ≡ described engine.old.desc }
+    requires place { i < length held.now }
+    ensures sound { OnOk result (St.sound engine.new.store) }
+    ensures description { engine.new.desc ≡ engine.old.desc }
+    ensures desc { St.desc engine.new.store ≡ St.desc engine.old.store }
+    ensures same { St.same_store engine.old.store engine.new.store }
+    ensures later { (St.disk_faults engine.old.store ≤ St.disk_faults engine.new.store) × (St.say_faults engine.old.store ≤ St.say_faults engine.new.store) × (St.fulls engine.old.store ≤ St.fulls engine.new.store) × (St.damages engine.old.store ≤ St.damages engine.new.store) }
+    ensures disk { IsErrOf result BlockFault.Disk → Rose (St.disk_faults engine.old.store) (St.disk_faults engine.new.store) }
+    ensures say { IsErrOf result BlockFault.Say → Rose (St.say_faults engine.old.store) (St.say_faults engine.new.store) }
+    ensures full { (f : ℕ) → IsErrOf result (BlockFault.Full f) → Rose (St.fulls engine.old.store) (St.fulls engine.new.store) }
+    ensures damaged { (f b : ℕ) → IsErrOf result (BlockFault.Damaged f b) → Rose (St.damages engine.old.store) (St.damages engine.new.store) }
+{
+    try_line(alloc, engine, &held[i])
+}
+
 /// Tries the held lines from the front, up to the first that is answered, and answers its place.
 fn pass<St: Store>(
     alloc: Global,
@@ -30,8 +63,6 @@ fn pass<St: Store>(
 ) -> Result<Option<usize>, BlockFault>
     requires sound { St.sound engine.old.store }
     requires desc { St.desc engine.old.store ≡ described engine.old.desc }
-    ensures passes { IfOk result (λ found. (s : Session) → Stands (view (St.db engine.old.store) (St.mark engine.old.store) (St.next engine.old.store) engine.old.programs.items engine.old.pending engine.old.since) s → Room s.next → Passes (walk (described engine.old.desc) s [] held.old) (view (St.db engine.new.store) (St.mark engine.new.store) (St.next engine.new.store) engine.new.programs.items engine.new.pending engine.new.since) held.new found (St.said engine.old.store) (St.said engine.new.store)) }
-    ensures part { (s : Session) → Stands (view (St.db engine.old.store) (St.mark engine.old.store) (St.next engine.old.store) engine.old.programs.items engine.old.pending engine.old.since) s → Room s.next → PrintsFront (St.said engine.old.store) (St.said engine.new.store) (walk (described engine.old.desc) s [] held.old).text }
     ensures sound { OnOk result (St.sound engine.new.store) }
     ensures description { engine.new.desc ≡ engine.old.desc }
     ensures desc { St.desc engine.new.store ≡ St.desc engine.old.store }
@@ -43,10 +74,10 @@ fn pass<St: Store>(
     ensures damaged { (f b : ℕ) → IsErrOf result (BlockFault.Damaged f b) → Rose (St.damages engine.old.store) (St.damages engine.new.store) }
 {
     for i in 0..held.len() {
-        if has_line(&held[..i], &held[i].program) {
+        if is_passed(held, i) {
             continue;
         }
-        if try_line(alloc, engine, &held[i])? {
+        if try_at(alloc, engine, held, i)? {
             return Ok(Some(i));
         }
         held[i].printed = true;
@@ -62,8 +93,6 @@ pub fn walk_all<St: Store>(
 ) -> Result<(), BlockFault>
     requires sound { St.sound engine.old.store }
     requires desc { St.desc engine.old.store ≡ described engine.old.desc }
-    ensures walks { OnOk result ((s : Session) → Stands (view (St.db engine.old.store) (St.mark engine.old.store) (St.next engine.old.store) engine.old.programs.items engine.old.pending engine.old.since) s → s.next + length held.old.items + 2 < 2 ^ 64 → Walks (walks (length held.old.items) (described engine.old.desc) s held.old.items) (view (St.db engine.new.store) (St.mark engine.new.store) (St.next engine.new.store) engine.new.programs.items engine.new.pending engine.new.since) held.new.items (St.said engine.old.store) (St.said engine.new.store)) }
-    ensures part { (s : Session) → Stands (view (St.db engine.old.store) (St.mark engine.old.store) (St.next engine.old.store) engine.old.programs.items engine.old.pending engine.old.since) s → s.next + length held.old.items + 2 < 2 ^ 64 → PrintsFront (St.said engine.old.store) (St.said engine.new.store) (walks (length held.old.items) (described engine.old.desc) s held.old.items).text }
     ensures sound { OnOk result (St.sound engine.new.store) }
     ensures description { engine.new.desc ≡ engine.old.desc }
     ensures desc { St.desc engine.new.store ≡ St.desc engine.old.store }

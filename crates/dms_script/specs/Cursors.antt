@@ -11,7 +11,7 @@ use Rattle.dms_base.specs.declared.kind.Literal.TheVariants.{Null, Text, Number 
 use Rattle.dasdl_parse.specs.declared.token.Token.{Token}
 use Rattle.dasdl_parse.specs.declared.token.Token.TheVariants.{Word, Number, Decimal, Quoted}
 use Rattle.dasdl_parse.specs.declared.token.Lexeme.{Lexeme}
-use Rattle.dasdl_parse.specs.Cursors.{place_at, is_word, is_the_sign, is_equal, is_end, starts}
+use Rattle.dasdl_parse.specs.Cursors.{place_at, is_word, is_the_sign, is_equal, is_end}
 use Rattle.dms_desc.specs.declared.structure.Item.{Item}
 use Rattle.dms_desc.specs.Shape.{Shape, Described}
 use Rattle.dms_model.specs.declared.verb.Setting.{Setting}

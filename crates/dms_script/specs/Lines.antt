@@ -1,5 +1,6 @@
 -- Script lines.
-use Rattle.std.specs.Prelude.{ℕ, ◌+◌, ◌-◌, List, Bool, ◌&&◌, ◌||◌, ◌==◌, nat_le, nat_lt, drop, length, take_while, slice_index, if◌then◌else◌}
+use Rattle.std.specs.Prelude.{ℕ, ◌+◌, ◌-◌, List, Bool, true, false, ◌&&◌, ◌||◌, ◌==◌, nat_le, nat_lt, drop, length, take, slice_index, if◌then◌else◌}
+use Rattle.std.specs.List.{prefix_len}
 use Rattle.std.specs.declared.result.Result.{Result}
 use Rattle.std.specs.declared.result.Result.TheVariants.{Ok, Err}
 use Rattle.dasdl_parse.specs.declared.token.Token.{Token}
@@ -14,15 +15,15 @@ use Rattle.dms_script.specs.declared.line.Line.{Line}
 use Rattle.dms_script.specs.declared.line.Line.TheVariants.{Empty, Verb as Spoken, Bad}
 use Rattle.dms_script.specs.Cursors.{name_at}
 use Rattle.dms_script.specs.Verbs.{verb_at, close_line_at}
-use Rattle.dms_script.specs.Reads.{Read, ◌>>=◌}
+use Rattle.dms_script.specs.Reads.{◌>>=◌}
 
 -- what a line may hold: characters from the space to `~`, and tabs
 abbrev pub is_line_byte : ℕ → Bool
 is_line_byte b = b == 9 || (nat_le 32 b && nat_le b 126)
 
--- a line up to its first byte that it may not hold
-abbrev pub sound_part : List ℕ → List ℕ
-sound_part line = take_while is_line_byte line
+-- how many bytes stand before the first one that a line may not hold
+abbrev pub sound_len : List ℕ → ℕ
+sound_len line = prefix_len is_line_byte line
 
 abbrev pub is_unreadable : Token → Bool
 is_unreadable Unreadable = true
@@ -72,5 +73,5 @@ bad_by place (Bad p) = Bad p
 unfoldable pub line_of : Described → List ℕ → Line
 line_of desc line =
     if nat_lt 2000 (length line) then Bad 2001
-    else (if nat_lt (length (sound_part line)) (length line) then bad_by (length (sound_part line) + 1) (sound_line desc (sound_part line))
+    else (if nat_lt (sound_len line) (length line) then bad_by (sound_len line + 1) (sound_line desc (take (sound_len line) line))
     else sound_line desc line)

@@ -55,7 +55,7 @@ has_kind OneBit (Truth b) = true
 has_kind kind literal = false
 
 -- a data set has at most 60 items and links
-abbrev pub counted : List Item → List Item
+unfoldable pub counted : List Item → List Item
 counted items = take 60 items
 
 -- the item or link with this name; n is the number of the list's first

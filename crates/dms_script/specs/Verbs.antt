@@ -15,21 +15,18 @@ use Rattle.dms_script.specs.Looks.{key_item, whole_run, numbers}
 use Rattle.dms_script.specs.Cursors.{word_at, sign_at, equal_at, end_at, literal_at, structure_at, target_at, key_item_at, run_at}
 use Rattle.dms_script.specs.Reads.{Read, Pass, ◌>>=◌}
 
+-- a word that stands for this
+abbrev pub word_then : {A : Type 0} → List ℕ → A → List Lexeme → Read A
+word_then word x ts = word_at word ts >>= λ rest. Ok (x, rest)
+
 -- OPEN UPDATE, OPEN INQUIRY
 unfoldable pub open_at : List Lexeme → Read Verb
 open_at ts = do
   t1 ← word_at (codes "OPEN") ts
-  if starts (is_word (codes "UPDATE")) t1 then (do
-    t2 ← word_at (codes "UPDATE") t1
-    Ok (OpenUpdate, t2))
-  else (do
-    t2 ← word_at (codes "INQUIRY") t1
-    Ok (OpenInquiry, t2))
+  if starts (is_word (codes "UPDATE")) t1 then word_then (codes "UPDATE") OpenUpdate t1 else word_then (codes "INQUIRY") OpenInquiry t1
 
 unfoldable pub close_at : List Lexeme → Read Verb
-close_at ts = do
-  t1 ← word_at (codes "CLOSE") ts
-  Ok (Close, t1)
+close_at ts = word_then (codes "CLOSE") Close ts
 
 -- FIRST x
 unfoldable pub first_at : Described → List Lexeme → Read Path
@@ -136,13 +133,7 @@ get_at desc ts = do
 
 -- AUDIT or NO-AUDIT: whether the restart record is stored
 unfoldable pub mode_at : List Lexeme → Read Bool
-mode_at ts =
-    if starts (is_word (codes "AUDIT")) ts then (do
-      t1 ← word_at (codes "AUDIT") ts
-      Ok (true, t1))
-    else (do
-      t1 ← word_at (codes "NO-AUDIT") ts
-      Ok (false, t1))
+mode_at ts = if starts (is_word (codes "AUDIT")) ts then word_then (codes "AUDIT") true ts else word_then (codes "NO-AUDIT") false ts
 
 -- BEGIN-TRANSACTION mode R
 unfoldable pub begin_at : Described → List Lexeme → Read Verb
@@ -154,11 +145,7 @@ begin_at desc ts = do
 
 -- SYNC, or not
 unfoldable pub sync_at : List Lexeme → Read Bool
-sync_at ts =
-    if starts (is_word (codes "SYNC")) ts then (do
-      t1 ← word_at (codes "SYNC") ts
-      Ok (true, t1))
-    else Ok (false, ts)
+sync_at ts = if starts (is_word (codes "SYNC")) ts then word_then (codes "SYNC") true ts else Ok (false, ts)
 
 -- END-TRANSACTION mode R [SYNC]
 unfoldable pub finish_at : Described → List Lexeme → Read Verb
@@ -202,8 +189,4 @@ verb_at desc ts =
 
 -- a semicolon or none, and the end
 unfoldable pub close_line_at : List Lexeme → Pass
-close_line_at ts =
-    if starts (is_the_sign 59) ts then (do
-      t1 ← sign_at 59 ts
-      end_at t1)
-    else end_at ts
+close_line_at ts = if starts (is_the_sign 59) ts then (sign_at 59 ts >>= end_at) else end_at ts

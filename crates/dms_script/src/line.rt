@@ -1,11 +1,11 @@
-ghost use Rattle.std.specs.Prelude.{◌≡◌, ◌≤◌, ◌<◌, ◌+◌, length, IfOk, drop, List, ℕ};
+ghost use Rattle.std.specs.Prelude.{◌≡◌, ◌≤◌, ◌<◌, ◌+◌, length, IfOk, List, ℕ};
 ghost use Rattle.std.specs.declared.result.Result.{Result};
 ghost use Rattle.dms_model.specs.declared.verb.Verb.{Verb};
 ghost use Rattle.dasdl_parse.specs.Cursors.{place_at, starts};
 ghost use Rattle.dasdl_parse.specs.declared.token.Lexeme.{Lexeme};
 ghost use Rattle.dms_desc.specs.Shape.{described};
 ghost use Rattle.dms_script.specs.Reads.{Gives};
-ghost use Rattle.dms_script.specs.Lines.{is_line_byte, sound_part, is_unreadable, colon_at, program_at, whole_verb_at, spoken_at, line_from, sound_line, bad_by, line_of};
+ghost use Rattle.dms_script.specs.Lines.{is_line_byte, sound_len, is_unreadable, colon_at, program_at, whole_verb_at, spoken_at, line_from, sound_line, bad_by, line_of};
 
 use crate::cursor::Cursor;
 use crate::fault::Fault;
@@ -36,19 +36,19 @@ fn is_line_byte(b: u8) -> bool
     b == b'\t' || (b' ' <= b && b <= b'~')
 }
 
-/// A line up to its first byte that it may not hold.
-fn sound_part(line: &[u8]) -> &[u8]
-    ensures value { result.now ≡ sound_part line.now }
-    ensures bound { length result.now ≤ length line.now }
+/// How many bytes stand before the first one that a line may not hold.
+fn sound_len(line: &[u8]) -> usize
+    ensures value { result ≡ sound_len line.now }
+    ensures bound { result ≤ length line.now }
 {
-    let mut end = 0usize;
+    let mut sound = 0usize;
     for b in line {
         if !is_line_byte(*b) {
-            return &line[..end];
+            return sound;
         }
-        end += 1;
+        sound += 1;
     }
-    line
+    sound
 }
 
 fn is_unreadable(tokens: &[Lexeme]) -> bool
@@ -154,10 +154,10 @@ pub fn read_line(alloc: Global, desc: &Description, bytes: &[u8]) -> Result<Line
     if bytes.len() > LINE_BYTES {
         return Ok(Line::Bad(2001));
     }
-    let sound = sound_part(bytes);
-    if sound.len() < bytes.len() {
-        let line = sound_line(alloc, desc, sound)?;
-        return Ok(bad_by(sound.len() as u32 + 1, line));
+    let sound = sound_len(bytes);
+    if sound < bytes.len() {
+        let line = sound_line(alloc, desc, &bytes[..sound])?;
+        return Ok(bad_by(sound as u32 + 1, line));
     }
     sound_line(alloc, desc, bytes)
 }

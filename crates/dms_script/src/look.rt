@@ -1,11 +1,11 @@
-ghost use Rattle.std.specs.Prelude.{◌≡◌, ◌≤◌, ◌+◌, map, option_map, length, min, OnOk, ◌++◌, Some, ◌<◌};
+ghost use Rattle.std.specs.Prelude.{◌≡◌, ◌≤◌, ◌+◌, map, option_map, take, length, min, OnOk, ◌++◌, IfSome, ◌==◌};
 ghost use Rattle.std.specs.Option.{option_copied};
 ghost use Rattle.std.specs.List.{list_any};
-ghost use Rattle.dms_desc.specs.Shape.{shape_of, described, Described};
+ghost use Rattle.dms_desc.specs.Shape.{shape_of, described};
 ghost use Rattle.dms_model.specs.Members.{structure_of, items_of, over};
 ghost use Rattle.dms_model.specs.declared.verb.Setting.{Setting};
 ghost use Rattle.dms_script.specs.declared.look.Target.{Target};
-ghost use Rattle.dms_script.specs.Looks.{named, is_wanted, structure_named, is_link, has_kind, counted, item_named, if_settable, target_named, key_item_of, key_item, kind_named, group_named, run_of, run_named, whole_run, numbers};
+ghost use Rattle.dms_script.specs.Looks.{named, is_wanted, structure_named, is_link, has_kind, counted, item_named, target_named, key_item_of, key_item, kind_named, group_named, run_of, run_named, whole_run, numbers};
 
 use dms_base::{ItemKind, Literal, Memory, Name};
 use dms_desc::{Description, Group, Item, KeyPart, Structure};
@@ -99,21 +99,31 @@ pub fn has_kind(kind: &ItemKind, literal: &Literal) -> bool
     }
 }
 
-/// The items and links that are counted, at most 60.
+/// The first ones of these items.
+fn front(items: &[Item], most: usize) -> &[Item]
+    ensures items { result.now ≡ take most items.now }
+    ensures few { length result.now ≤ most }
+{
+    if items.len() > most {
+        return &items[..most];
+    }
+    items
+}
+
+/// The items and links that a data set may have, at most 60.
+#[tactic(auto, unfolding(crate::specs::Looks::counted))]
 fn counted(items: &[Item]) -> &[Item]
     ensures items { result.now ≡ counted items.now }
     ensures few { length result.now ≤ 60 }
 {
-    if items.len() > 60 {
-        return &items[..60];
-    }
-    items
+    front(items, 60)
 }
 
 /// The item or link with this name among at most 60.
 fn item_named(name: &Name, items: &[Item]) -> Option<Target>
     requires { length items.now ≤ 60 }
-    ensures { result ≡ item_named 1 name.now items.now }
+    ensures value { result ≡ item_named 1 name.now items.now }
+    ensures few { IfSome result (λ t. t.item ≤ 60) }
 {
     let mut number = 1u8;
     for item in items {
@@ -151,13 +161,13 @@ pub fn target_named(name: &Name, items: &[Item], done: &[Setting]) -> Option<Tar
 }
 
 /// A structure by its number.
-fn structure_of(structures: &[Structure], n: u16) -> Option<&Structure>
-    ensures { (desc : Described) → desc.structures ≡ map shape_of structures.now → option_map shape_of (option_copied result) ≡ structure_of desc n }
+fn structure_of(desc: &Description, n: u16) -> Option<&Structure>
+    ensures { option_map shape_of (option_copied result) ≡ structure_of (described desc.now) n }
 {
     if n == 0 {
         return None;
     }
-    structures.get(n as usize - 1)
+    desc.structures.as_slice().get(n as usize - 1)
 }
 
 fn over(s: &Structure) -> u16
@@ -192,7 +202,7 @@ fn key_item_of<'a>(parts: &[KeyPart], items: &'a [Item]) -> Option<&'a Item>
 pub fn key_item<'a>(desc: &'a Description, s: &Structure) -> Option<&'a Item>
     ensures { option_copied result ≡ key_item (described desc.now) (shape_of s.now) }
 {
-    let of = structure_of(desc.structures.as_slice(), over(s));
+    let of = structure_of(desc, over(s));
     key_item_of(s.parts.as_slice(), items_of(of))
 }
 
@@ -223,7 +233,7 @@ fn group_named(name: &Name, groups: &[Group]) -> Option<Group>
 }
 
 fn run_of(target: Option<Target>, group: Option<Group>) -> Option<Run>
-    requires { (t : Target) → target ≡ Some t → t.item < 255 }
+    requires { IfSome target (λ t. t.item ≤ 60) }
     ensures { result ≡ run_of target group }
 {
     match (target, group) {

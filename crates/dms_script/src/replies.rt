@@ -1,4 +1,4 @@
-ghost use Rattle.std.specs.Prelude.{◌≡◌, ◌++◌, ◌∷◌, [], IfOk, OnOk, decimal, List, ℕ};
+ghost use Rattle.std.specs.Prelude.{◌≡◌, ◌++◌, [], IfOk, OnOk, decimal};
 ghost use Rattle.dms_script.specs.Replies.{category_text, more_names, names_text, shown_text, answer_text, line_head, reply_text, bad_text, unanswered_text, syncpoint_text};
 
 use dms_base::{Bytes, Category, Memory, Name};

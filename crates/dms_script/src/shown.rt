@@ -1,6 +1,5 @@
-ghost use Rattle.std.specs.Prelude.{◌≡◌, [], ◌++◌, ◌∷◌};
 ghost use Rattle.dms_desc.specs.Shape.{shape_of};
-ghost use Rattle.dms_script.specs.Reads.{Takes, Passes};
+ghost use Rattle.dms_script.specs.Reads.{Takes};
 ghost use Rattle.dms_script.specs.Verbs.{list_at, setting_at, shown_at};
 
 use crate::cursor::Cursor;

@@ -1,16 +1,12 @@
-ghost use Rattle.std.specs.Prelude.{◌≡◌};
-ghost use Rattle.std.specs.Option.{option_copied};
-ghost use Rattle.dasdl_parse.specs.Cursors.{is_word, is_the_sign, is_end, starts};
 ghost use Rattle.dms_desc.specs.Shape.{shape_of, described};
 ghost use Rattle.dms_script.specs.Reads.{Takes, Passes};
-ghost use Rattle.dms_script.specs.Verbs.{open_at, close_at, first_at, last_at, member_at, path_at, find_at, create_at, store_at, list_at, setting_at, put_at, shown_at, is_over, all_shown_at, get_at, mode_at, begin_at, sync_at, finish_at, abort_at, transaction_at, area_at, verb_at, close_line_at};
+ghost use Rattle.dms_script.specs.Verbs.{open_at, close_at, first_at, last_at, member_at, path_at, find_at, create_at, store_at, put_at, all_shown_at, get_at, mode_at, begin_at, sync_at, finish_at, abort_at, transaction_at, area_at, verb_at, close_line_at};
 
 use crate::cursor::Cursor;
 use crate::fault::Fault;
 use crate::look::{Wanted, key_item, push_numbers, whole_run};
-use crate::shown;
-use dms_desc::{Description, Item, Structure};
-use dms_model::{ItemNumbers, Literals, Path, Setting, Settings, Verb};
+use dms_desc::{Description, Structure};
+use dms_model::{ItemNumbers, Literals, Path, Verb};
 
 impl<'a> Cursor<'a> {
     /// OPEN UPDATE, OPEN INQUIRY

@@ -1,2 +1,5 @@
+pub mod Crashes
+pub mod Draws
 pub mod Kept
 pub mod Laid
+pub mod Placed

@@ -5,7 +5,7 @@ use Rattle.dms_sitemem.specs.declared.event.Event.{Event}
 use Rattle.dms_sitemem.specs.declared.event.Event.TheVariants.{Looked, Wrote, Shortened, Synced, Said, Replaced, Recalled}
 use Rattle.dms_sitemem.specs.declared.pick.Fill.{Fill}
 use Rattle.dms_sitemem.specs.declared.pick.Fill.TheVariants.{Old, New, Sevens, Drawn}
-use Rattle.dms_sitemem.specs.Events.{files_after}
+use Rattle.dms_sitemem.specs.Replay.{State, state_of}
 
 -- what a draw makes of the seed
 unfoldable pub next_seed : ℕ → ℕ
@@ -72,3 +72,7 @@ cuts_of pick = pick % 2 == 1
 unfoldable pub picked : ℕ → Files → List Event → Struck
 picked pick stable [] = record { files = stable; seed = pick }
 picked pick stable (event ∷ earlier) = struck (fill_of pick) (cuts_of pick) event (picked pick stable earlier)
+
+-- the files that a stop leaves by a pick after these events
+abbrev pub picked_after : ℕ → List Event → Struck
+picked_after pick events = picked pick (state_of events).stable (state_of events).pending

@@ -1,3 +1,6 @@
+ghost use Rattle.std.specs.Prelude.{◌≡◌, if◌then◌else◌};
+ghost use Rattle.dms_sitemem.specs.Events.{is_call, is_sync};
+
 /// What was done to a site. A flag says whether the call succeeded.
 #[derive(Drop)]
 pub enum Event {
@@ -15,4 +18,26 @@ pub enum Event {
     Replaced(u32, Vec<u8>),
     /// This text stood there before the first call. It isn't a call.
     Recalled(Vec<u8>),
+}
+
+impl Event {
+    /// 1 for one of the seven calls, else 0.
+    pub fn calls(&self) -> u64
+        ensures { result ≡ (if is_call self.now then 1 else 0) }
+    {
+        match self {
+            Event::Replaced(_, _) | Event::Recalled(_) => 0,
+            _ => 1,
+        }
+    }
+
+    /// Whether it is a sync that succeeded.
+    pub fn is_sync(&self) -> bool
+        ensures { result ≡ is_sync self.now }
+    {
+        match self {
+            Event::Synced(done) => *done,
+            _ => false,
+        }
+    }
 }

@@ -1,7 +1,7 @@
 ghost use Rattle.std.specs.Prelude.{◌≡◌, ◌+◌, ◌<◌, ◌≤◌, ℕ, List, [], ◌++◌, length, vec_len, take, drop, OnOk, OnErr, IsSome, if◌then◌else◌, ◌==◌};
 ghost use Rattle.std.specs.Ordering.{nat_cmp};
 ghost use Rattle.std.specs.BTreeMap.{get};
-ghost use Rattle.dms_site.specs.Files.{Files, with_file, padded, overlaid};
+ghost use Rattle.dms_site.specs.Files.{with_file, range, padded, overlaid, IsLastPresent};
 ghost use Rattle.dms_sitemem.specs.Slots.{files_of};
 ghost use Rattle.dms_sitemem.specs.Events.{files_after, said_after};
 
@@ -176,5 +176,32 @@ impl Image {
             Event::Recalled(bytes) => self.say(bytes),
             _ => Ok(()),
         }
+    }
+
+    /// The greatest number of a file that isn't empty from `from` to `upto`, or 0.
+    pub fn last_present(&self, from: u32, upto: u32) -> u32
+        ensures { IsLastPresent (files_of self.now.files) from upto result }
+    {
+        let mut last = 0;
+        for file in from..=upto {
+            if !self.bytes(file).is_empty() {
+                last = file;
+            }
+        }
+        last
+    }
+
+    /// Reads from a position on, and answers how many bytes it gave.
+    #[tactic(auto, using(std::proofs::lemmas::List::places), unfolding(dms_site::specs::Files::range))]
+    pub fn read(&self, file: u32, at: u64, into: &mut [u8]) -> usize
+        ensures count { result ≡ length (range at (length into.old) (files_of self.now.files file)) }
+        ensures room { result ≤ length into.old }
+        ensures bytes { into.new ≡ range at (length into.old) (files_of self.now.files file) ++ drop result into.old }
+    {
+        let bytes = self.bytes(file);
+        let start = (at as usize).min(bytes.len());
+        let count = (bytes.len() - start).min(into.len());
+        into[..count].copy_from_slice(&bytes[start..start + count]);
+        count
     }
 }

@@ -1,6 +1,18 @@
 //! A site and a source in memory, which tell everything, fail where they are told to, and show what a stop may leave.
 #![tactic(auto)]
 
+mod calls;
+mod crash;
 mod event;
 mod image;
+mod journal;
+mod mem_site;
+mod mem_source;
 mod pick;
+mod plan;
+mod tally;
+#[cfg(test)]
+mod tests;
+
+pub use mem_site::MemSite;
+pub use mem_source::MemSource;

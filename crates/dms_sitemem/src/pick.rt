@@ -1,5 +1,7 @@
-ghost use Rattle.std.specs.Prelude.{◌≡◌};
-ghost use Rattle.dms_sitemem.specs.Picks.{fill_of};
+ghost use Rattle.std.specs.Prelude.{◌≡◌, ◌+◌, ◌<◌, ◌≤◌, ℕ, length, replicate, OnOk, IfOk};
+ghost use Rattle.dms_sitemem.specs.Picks.{drawn, seed_after, fill_of};
+
+use std::alloc::{AllocError, Global};
 
 /// What a stop leaves where something was written since the last sync.
 #[derive(Clone, Copy, Drop)]
@@ -12,4 +14,40 @@ pub enum Fill {
     Sevens,
     /// Bytes that are drawn from a seed.
     Drawn,
+}
+
+/// What a pick leaves where something was written.
+pub fn fill_of(pick: u64) -> Fill
+    ensures { result ≡ fill_of pick }
+{
+    match pick {
+        0 => Fill::Old,
+        1 => Fill::New,
+        7 => Fill::Sevens,
+        _ => Fill::Drawn,
+    }
+}
+
+/// Draws so many bytes.
+pub fn draw(alloc: Global, count: usize, seed: &mut u64) -> Result<Vec<u8>, AllocError>
+    ensures bytes { IfOk result (λ v. v.items ≡ drawn count seed.old) }
+    ensures seed { OnOk result (seed.new ≡ seed_after count seed.old) }
+{
+    let mut bytes = Vec::new(alloc);
+    for _place in 0..count {
+        *seed = seed
+            .wrapping_mul(6364136223846793005)
+            .wrapping_add(1442695040888963407);
+        bytes.push(((*seed >> 33) % 256) as u8)?;
+    }
+    Ok(bytes)
+}
+
+/// Fills so many bytes with a byte.
+pub fn all_of(alloc: Global, count: usize, byte: u8) -> Result<Vec<u8>, AllocError>
+    ensures { IfOk result (λ v. v.items ≡ replicate count byte) }
+{
+    let mut bytes = Vec::new(alloc);
+    bytes.resize(count, byte)?;
+    Ok(bytes)
 }

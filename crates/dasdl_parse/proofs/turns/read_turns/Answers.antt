@@ -1,6 +1,6 @@
 use Rattle.std.proofs.Common.{◌≡◌, ◌-◌, ◌+◌, length, true, false, sym, ◌∙◌, arith}
 use Rattle.std.proofs.lemmas.Result.{err_from_is_err_and}
-use Rattle.dasdl_parse.specs.Cursors.{turns, turns_at, fault_at}
+use Rattle.dasdl_parse.specs.Cursors.{fault_at}
 use Rattle.dasdl_parse.proofs.Turning.{turns-done, turns-one, turns-fault, turns-full, Fails-from, Fails-at}
 use Rattle.dasdl_parse.proofs.turns.read_turns.Goals as goal
 

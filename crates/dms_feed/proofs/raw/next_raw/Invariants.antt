@@ -9,5 +9,5 @@ invariant-loop-turn g l =
     record {
       same : g.I.Source.same_source l.fn.source l.source;
       later : g.I.Source.faults l.fn.source ≤ g.I.Source.faults l.source;
-      reads : (all : List ℕ) → Remains l.fn.feed (left l.fn.source) all → (rest : List ℕ) × Remains l.feed (left l.source) rest × Reads l.kept l.turn rest all;
+      reads : (all : List ℕ) → Remains l.fn.feed (left l.fn.source) all → (rest : List ℕ) × Remains l.feed (left l.source) rest × Reads l.cap l.kept l.turn rest all;
     }

@@ -1,4 +1,4 @@
-use Rattle.std.proofs.Common.{◌≡◌, sym, ◌∙◌, ap, List, take, length}
+use Rattle.std.proofs.Common.{sym, ◌∙◌, ap, List, take, length}
 use Rattle.dms_base.specs.declared.value.Value.{Value}
 use Rattle.dms_desc.specs.declared.bound.Bound.{Bound}
 use Rattle.dms_model.specs.Members.{bound_cmp, spot_of}

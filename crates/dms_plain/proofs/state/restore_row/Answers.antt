@@ -1,4 +1,4 @@
-use Rattle.std.proofs.Common.{◌≡◌, ◌∙◌, ap, sym}
+use Rattle.std.proofs.Common.{◌∙◌, ap, sym}
 use Rattle.std.specs.declared.option.Option.{Option}
 use Rattle.dms_desc.specs.declared.record.Record.{Record}
 use Rattle.dms_plain.specs.Rows.{records_in, restore}

@@ -1,4 +1,4 @@
-use Rattle.std.proofs.Common.{◌≡◌, ◌∙◌, ap, sym, List}
+use Rattle.std.proofs.Common.{◌∙◌, ap, sym, List}
 use Rattle.dms_model.specs.Db.{Records, Place}
 use Rattle.dms_plain.specs.declared.rows.Undo.{Undo}
 use Rattle.dms_plain.specs.Rows.{records_in, undone, restore}

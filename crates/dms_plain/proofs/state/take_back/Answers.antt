@@ -1,4 +1,4 @@
-use Rattle.std.proofs.Common.{◌≡◌, ◌∙◌, ap, sym, List, [], ◌∷◌, ◌++◌, length, length-append, arith}
+use Rattle.std.proofs.Common.{◌∙◌, ap, sym, List, [], ◌∷◌, length, length-append, arith}
 use Rattle.dms_plain.specs.declared.rows.Undo.{Undo}
 use Rattle.dms_plain.specs.Rows.{records_in, undone}
 use Rattle.dms_plain.proofs.Maps.{undone-push}

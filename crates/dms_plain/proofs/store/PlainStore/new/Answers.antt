@@ -1,4 +1,4 @@
-use Rattle.std.proofs.Common.{◌≡◌, ◌∙◌, ap, List, Some}
+use Rattle.std.proofs.Common.{◌∙◌, ap, List, Some}
 use Rattle.dms_model.specs.Db.{Records}
 use Rattle.dms_plain.specs.declared.rows.Row.{Row}
 use Rattle.dms_plain.specs.Rows.{records_in, db_of, undone}

@@ -10,4 +10,4 @@ returns-clause-written c =
     let f = c.args.file in
     let same = c.in_ok-ensure_entry.ensures.same in
     on_ok_weaker c.lay_in.result (λ laid.
-        kept_file (files_of c.args.self.now.files) _ f _ _ (λ g. laid g ∙ (λ j. if g == f then overlaid c.args.at c.args.bytes.now (same f j) else same g j)) refl) c.lay_in.ensures.laid
+    kept_file (files_of c.args.self.now.files) _ f _ _ (λ g. laid g ∙ (λ j. if g == f then overlaid c.args.at c.args.bytes.now (same f j) else same g j)) refl) c.lay_in.ensures.laid

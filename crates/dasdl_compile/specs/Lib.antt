@@ -1,0 +1,10 @@
+pub mod Answers
+pub mod Compile
+pub mod Conditions
+pub mod Finding
+pub mod Keys
+pub mod Members
+pub mod Outlines
+pub mod Sets
+pub mod TreeCodes
+pub mod Widths

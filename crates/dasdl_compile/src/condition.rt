@@ -1,0 +1,78 @@
+ghost use Rattle.std.specs.Prelude.{◌≡◌, IfOk};
+ghost use Rattle.dms_desc.specs.Shape.{tree_of};
+ghost use Rattle.dms_desc.specs.Shape.Tree.{Empty, Test, Both, Either, Contrary};
+
+use dms_base::{Memory, Op, Value};
+use dms_desc::Cond;
+use std::alloc::Global;
+use std::marker::Model;
+
+/// A condition, seen as a tree.
+#[derive(Drop)]
+pub struct Condition {
+    kept: Cond,
+}
+
+impl Model for Condition {
+    ghost use Rattle.dms_desc.specs.Shape.{Tree};
+    ghost use Rattle.dasdl_compile.specs.TreeCodes.{tree_code};
+
+    ghost Value = { Tree };
+
+    ghost coded = { tree_code };
+
+    ghost use Rattle.dms_desc.specs.Shape.{tree_of};
+
+    ghost view = { λ c. tree_of c.kept };
+}
+
+impl Condition {
+    /// The condition that each record meets.
+    pub fn nothing() -> Condition
+        ensures { result ≡ Empty }
+    {
+        Condition {
+            kept: Cond::Nothing,
+        }
+    }
+
+    /// An item, counted from 1, compared with a value.
+    pub fn test(item: u8, op: Op, value: Value) -> Condition
+        ensures { result ≡ Test item op value }
+    {
+        Condition {
+            kept: Cond::Compare(item, op, value),
+        }
+    }
+
+    /// Both of two.
+    pub fn and(self, alloc: Global, other: Condition) -> Result<Condition, Memory>
+        ensures { IfOk result (λ c. c ≡ Both self other) }
+    {
+        let kept = Cond::And(Box::new(alloc, self.kept)?, Box::new(alloc, other.kept)?);
+        Ok(Condition { kept })
+    }
+
+    /// One of two.
+    pub fn or(self, alloc: Global, other: Condition) -> Result<Condition, Memory>
+        ensures { IfOk result (λ c. c ≡ Either self other) }
+    {
+        let kept = Cond::Or(Box::new(alloc, self.kept)?, Box::new(alloc, other.kept)?);
+        Ok(Condition { kept })
+    }
+
+    /// Not this one.
+    pub fn negated(self, alloc: Global) -> Result<Condition, Memory>
+        ensures { IfOk result (λ c. c ≡ Contrary self) }
+    {
+        let kept = Cond::Not(Box::new(alloc, self.kept)?);
+        Ok(Condition { kept })
+    }
+
+    /// The condition itself.
+    pub fn cond(&self) -> &Cond
+        ensures { tree_of result.now ≡ self.now }
+    {
+        &self.kept
+    }
+}

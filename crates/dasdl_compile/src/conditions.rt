@@ -1,0 +1,88 @@
+ghost use Rattle.std.specs.Prelude.{◌≡◌};
+ghost use Rattle.dasdl_parse.specs.Trees.{tree_of};
+ghost use Rattle.dasdl_compile.specs.Answers.{Gives};
+ghost use Rattle.dasdl_compile.specs.Conditions.{literal_of, compared, condition, verified};
+
+use crate::condition::Condition;
+use crate::fault::CompileFault;
+use crate::find::item_named;
+use crate::kinds::value_in;
+use dasdl_parse::{CondDecl, CondTree};
+use dms_base::{ItemKind, Literal, Name, Op, Value};
+use dms_desc::Item;
+use std::alloc::Global;
+
+/// The value of a literal for an item.
+#[tactic(auto, unfolding(crate::specs::Conditions::literal_of))]
+pub fn literal_of(
+    alloc: Global,
+    name: &Name,
+    kind: &ItemKind,
+    literal: &Literal,
+) -> Result<Value, CompileFault>
+    ensures { Gives result (literal_of name.now kind.now literal.now) }
+{
+    match value_in(alloc, kind, literal)? {
+        None => Err(CompileFault::CondKind(*name)),
+        Some(value) => Ok(value),
+    }
+}
+
+/// The comparison of an item with a literal.
+#[tactic(auto, unfolding(crate::specs::Conditions::compared))]
+fn compared(
+    alloc: Global,
+    items: &[Item],
+    name: &Name,
+    op: Op,
+    literal: &Literal,
+) -> Result<Condition, CompileFault>
+    ensures { Gives result (compared items.now name.now op literal.now) }
+{
+    match item_named(items, name) {
+        None => Err(CompileFault::Unknown(*name)),
+        Some(found) => {
+            let value = literal_of(alloc, name, &found.kind, literal)?;
+            Ok(Condition::test(found.number, op, value))
+        }
+    }
+}
+
+/// A condition on the records with these items.
+#[tactic(auto, unfolding(crate::specs::Conditions::condition))]
+pub fn condition(alloc: Global, items: &[Item], tree: &CondTree) -> Result<Condition, CompileFault>
+    ensures { Gives result (condition items.now (tree_of tree.now)) }
+{
+    match tree {
+        CondTree::Compare(name, op, literal) => compared(alloc, items, name, *op, literal),
+        CondTree::And(a, b) => {
+            let left = condition(alloc, items, a)?;
+            let right = condition(alloc, items, b)?;
+            Ok(left.and(alloc, right)?)
+        }
+        CondTree::Or(a, b) => {
+            let left = condition(alloc, items, a)?;
+            let right = condition(alloc, items, b)?;
+            Ok(left.or(alloc, right)?)
+        }
+        CondTree::Not(a) => {
+            let inner = condition(alloc, items, a)?;
+            Ok(inner.negated(alloc)?)
+        }
+    }
+}
+
+/// The condition of VERIFY.
+#[tactic(auto, unfolding(crate::specs::Conditions::verified))]
+pub fn verified(
+    alloc: Global,
+    items: &[Item],
+    verify: &Option<CondDecl>,
+) -> Result<Condition, CompileFault>
+    ensures { Gives result (verified items.now verify.now) }
+{
+    match verify {
+        None => Ok(Condition::nothing()),
+        Some(decl) => condition(alloc, items, decl.tree()),
+    }
+}

@@ -1,0 +1,54 @@
+ghost use Rattle.std.specs.Prelude.{◌≡◌, []};
+ghost use Rattle.dasdl_compile.specs.Finding.{drafted};
+
+use crate::condition::Condition;
+use dms_base::Name;
+use dms_desc::{Groups, Items, KeyParts};
+use std::alloc::Global;
+
+/// A structure as far as it was declared. Its `kind` is 1 for a data set, 2 for the restart data
+/// set, 3 for a set, 4 for an automatic subset and 5 for a manual subset.
+#[derive(Drop)]
+pub struct Draft {
+    /// From 1, in text order.
+    pub number: u16,
+    pub kind: u8,
+    pub name: Name,
+    /// The number of the data set that it stands in, 0 for none.
+    pub owner: u16,
+    /// How many records a data set, or entries a manual subset, may have; 0 for the others.
+    pub population: u32,
+    pub items: Items,
+    pub groups: Groups,
+    /// VERIFY of a data set, WHERE of an automatic subset.
+    pub cond: Condition,
+    /// The number of the data set whose records a set or subset refers to; 0 for a data set.
+    pub set: u16,
+    /// 1 for index sequential, 2 for an ordered list; 0 for a data set.
+    pub form: u8,
+    /// Whether two members may have equal keys.
+    pub duplicates: bool,
+    pub parts: KeyParts,
+}
+
+impl Draft {
+    /// A structure of which no more is known than its name and where it stands.
+    pub fn new(alloc: Global, number: u16, kind: u8, name: Name, owner: u16) -> Draft
+        ensures { result ≡ drafted number kind name owner }
+    {
+        Draft {
+            number,
+            kind,
+            name,
+            owner,
+            population: 0,
+            items: Items::new(alloc),
+            groups: Groups::new(alloc),
+            cond: Condition::nothing(),
+            set: 0,
+            form: 0,
+            duplicates: false,
+            parts: KeyParts::new(alloc),
+        }
+    }
+}

@@ -1,0 +1,133 @@
+ghost use Rattle.std.specs.Prelude.{◌≡◌};
+ghost use Rattle.std.specs.Option.{option_copied};
+ghost use Rattle.dasdl_compile.specs.Finding.{next_structure, after_item, next_item, is_structure, has_restart, kind_of, data_set_named, item_named, group_named, is_taken};
+
+use crate::draft::Draft;
+use dms_base::{ItemKind, Name};
+use dms_desc::{Group, Item};
+
+/// An item or a link: its number, counted from 1, and its kind.
+#[derive(Clone, Copy, Debug, PartialEq, Eq)]
+pub struct Found {
+    pub number: u8,
+    pub kind: ItemKind,
+}
+
+/// The number of the structure behind these.
+pub fn next_structure(drafts: &[Draft]) -> u16
+    ensures { result ≡ next_structure drafts.now }
+{
+    if drafts.len() >= 65_535 {
+        return 65_535;
+    }
+    (drafts.len() + 1) as u16
+}
+
+/// The number of the item behind one.
+pub fn after_item(number: u8) -> u8
+    ensures { result ≡ after_item number }
+{
+    number.saturating_add(1)
+}
+
+/// The number of the item behind these.
+pub fn next_item(items: &[Item]) -> u8
+    ensures { result ≡ next_item items.now }
+{
+    if items.len() >= 255 {
+        return 255;
+    }
+    (items.len() + 1) as u8
+}
+
+/// Whether a structure has this name.
+#[tactic(auto, unfolding(crate::specs::Finding::is_structure))]
+pub fn is_structure(drafts: &[Draft], name: &Name) -> bool
+    ensures { result ≡ is_structure name.now drafts.now }
+{
+    for draft in drafts {
+        if draft.name.is(name) {
+            return true;
+        }
+    }
+    false
+}
+
+/// Whether one of these is a restart data set.
+#[tactic(auto, unfolding(crate::specs::Finding::has_restart))]
+pub fn has_restart(drafts: &[Draft]) -> bool
+    ensures { result ≡ has_restart drafts.now }
+{
+    for draft in drafts {
+        if draft.kind == 2 {
+            return true;
+        }
+    }
+    false
+}
+
+/// The kind of the structure with this number, 0 where there is none.
+#[tactic(auto, unfolding(crate::specs::Finding::kind_of))]
+pub fn kind_of(drafts: &[Draft], number: u16) -> u8
+    ensures { result ≡ kind_of number drafts.now }
+{
+    for draft in drafts {
+        if draft.number == number {
+            return draft.kind;
+        }
+    }
+    0
+}
+
+/// The data set with this name.
+#[tactic(auto, unfolding(crate::specs::Finding::data_set_named))]
+pub fn data_set_named<'a>(drafts: &'a [Draft], name: &Name) -> Option<&'a Draft>
+    ensures { option_copied result ≡ data_set_named name.now drafts.now }
+{
+    for draft in drafts {
+        if draft.kind < 3 && draft.name.is(name) {
+            return Some(draft);
+        }
+    }
+    None
+}
+
+/// The item or link with this name.
+#[tactic(auto, unfolding(crate::specs::Finding::item_named))]
+pub fn item_named(items: &[Item], name: &Name) -> Option<Found>
+    ensures { result ≡ item_named name.now 1 items.now }
+{
+    let mut number = 1u8;
+    for item in items {
+        if item.name.is(name) {
+            return Some(Found {
+                number,
+                kind: item.kind,
+            });
+        }
+        number = after_item(number);
+    }
+    None
+}
+
+/// The group with this name.
+#[tactic(auto, unfolding(crate::specs::Finding::group_named))]
+pub fn group_named(groups: &[Group], name: &Name) -> Option<Group>
+    ensures { result ≡ group_named name.now groups.now }
+{
+    for group in groups {
+        if group.name.is(name) {
+            return Some(*group);
+        }
+    }
+    None
+}
+
+/// Whether an item, link or group of a data set has this name.
+#[tactic(auto, unfolding(crate::specs::Finding::is_taken))]
+pub fn is_taken(draft: &Draft, name: &Name) -> bool
+    ensures { result ≡ is_taken name.now draft.now }
+{
+    item_named(draft.items.as_slice(), name).is_some()
+        || group_named(draft.groups.as_slice(), name).is_some()
+}

@@ -1,0 +1,4 @@
+pub mod Always
+pub mod Passes
+pub mod Texts
+pub mod Tried

@@ -1,0 +1,50 @@
+-- Told text that grows, one text behind another.
+use Rattle.std.proofs.Common.{◌≡◌, ◌+◌, ◌≤◌, ℕ, List, [], ◌∷◌, ◌++◌, Some, None, refl, sym, ap, ◌∙◌, subst, arith, append_assoc, length, take, drop, Bool, true, false, nat_le}
+use Rattle.std.proofs.Math.Seq.{take-append-add}
+use Rattle.std.proofs.lemmas.Bool.Decides.{nat_tests}
+use Rattle.std.specs.declared.option.Option.{Option}
+use Rattle.std.proofs.lemmas.List.{append-nil, take_at, take-append-drop, take-append-le, take_all}
+use Rattle.std.proofs.lemmas.Option.{same_Some}
+use Rattle.dms_model.specs.Points.{Prints, PrintsFront}
+
+pub prints_none : (a b : Option (List ℕ)) → b ≡ a → Prints a b []
+prints_none a b same = λ t is. same ∙ is ∙ ap (λ (x : List ℕ). Some x) (sym (append-nil t))
+
+pub prints_on : (a b c : Option (List ℕ)) (x y : List ℕ) → Prints a b x → Prints b c y → Prints a c (x ++ y)
+prints_on a b c x y first then_ = λ t is. then_ (t ++ x) (first t is) ∙ ap (λ (z : List ℕ). Some z) (append_assoc t x y)
+
+-- nothing more was said
+pub prints_same : (a b c : Option (List ℕ)) (x : List ℕ) → Prints a b x → c ≡ b → Prints a c x
+prints_same a b c x first same = λ t is. same ∙ first t is
+
+pub prints_before : (a b c : Option (List ℕ)) (x : List ℕ) → b ≡ a → Prints b c x → Prints a c x
+prints_before a b c x same then_ = λ t is. then_ t (same ∙ is)
+
+-- no text at all is a front
+pub front_none : (a b : Option (List ℕ)) (x : List ℕ) → b ≡ a → PrintsFront a b x
+front_none a b x same = λ t is. (0, same ∙ is ∙ ap (λ (z : List ℕ). Some z) (sym (append-nil t)))
+
+-- the whole text is a front
+pub front_all : (a b : Option (List ℕ)) (x : List ℕ) → Prints a b x → PrintsFront a b x
+front_all a b x all = λ t is. (length x, all t is ∙ ap (λ (z : List ℕ). Some (t ++ z)) (sym (take_all (length x) x (omega arith))))
+
+pub front_before : (a b c : Option (List ℕ)) (x : List ℕ) → b ≡ a → PrintsFront b c x → PrintsFront a c x
+front_before a b c x same then_ = λ t is. then_ t (same ∙ is)
+
+capped : (b : Bool) (k : ℕ) (x : List ℕ) → b ≡ nat_le (length x) k → (n : ℕ) × (take k x ≡ take n x) × (n ≤ length x)
+capped true k x e =
+    let long : length x ≤ k = grind (arith, nat_tests) in
+    (length x, take_all k x long ∙ sym (take_all (length x) x (omega arith)), omega arith)
+capped false k x e = (k, refl, grind (arith, nat_tests))
+
+-- a front of the first part is a front of the whole
+pub front_of_first : (a b : Option (List ℕ)) (x y : List ℕ) → PrintsFront a b x → PrintsFront a b (x ++ y)
+front_of_first a b x y part = λ t is.
+    let p = part t is in
+    let n = capped (nat_le (length x) p.0) p.0 x refl in
+    (n.0, p.1 ∙ ap (λ (z : List ℕ). Some (t ++ z)) (n.1 ∙ sym (take-append-le n.0 x y n.2)))
+
+-- what was said, and then a front of the next
+pub front_on : (a b c : Option (List ℕ)) (x y : List ℕ) → Prints a b x → PrintsFront b c y → PrintsFront a c (x ++ y)
+front_on a b c x y first then_ = λ t is. let p = then_ (t ++ x) (first t is) in
+    (length x + p.0, p.1 ∙ ap (λ (z : List ℕ). Some z) (append_assoc t x (take p.0 y)) ∙ ap (λ (z : List ℕ). Some (t ++ z)) (sym (take-append-add x y p.0)))

@@ -1,0 +1,9 @@
+use Rattle.std.proofs.Common.{◌≡◌, List, ℕ, [], ap, subst}
+use Rattle.dms_feed.specs.Feeds.{Remains}
+use Rattle.dms_feed.specs.Lines.{after_line}
+use Rattle.dms_runner.proofs.run.after_last.Goals as goal
+
+pub returns-in-Ok-None-clause-end : goal.returns-in-Ok-None-clause-end
+returns-in-Ok-None-clause-end g c = λ all remains.
+    let e = (rw c.in-Ok-None.field-0-is at c.in-Ok-None.ensures.line) all remains in
+    subst (λ (r : List ℕ). Remains c.next_raw.new.feed (g.I.Source.left c.next_raw.new.source) r) (ap after_line e.0) e.1

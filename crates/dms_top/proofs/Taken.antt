@@ -1,0 +1,116 @@
+-- The text of a schema, a line at a time.
+use Rattle.std.proofs.Common.{◌≡◌, ◌≢◌, ◌<◌, ◌≤◌, ◌+◌, ℕ, List, [], ◌∷◌, ◌++◌, Bool, true, false, cond, eqb, refl, sym, ap, ◌∙◌, subst, arith, append_assoc, length, take, length-append, ◌&&◌}
+use Rattle.std.specs.Prelude.{codes}
+use Rattle.std.specs.Str.{bytes_eq}
+use Rattle.std.specs.declared.option.Option.{Option}
+use Rattle.std.proofs.lemmas.List.{append-nil, take_all}
+use Rattle.std.proofs.lemmas.Slice.Eq.{bytes_eq-Decides}
+use Rattle.dms_feed.specs.Feeds.{Remains}
+use Rattle.dms_feed.specs.Lines.{raw_lines, first_line, after_line, onto_first, is_end, line_text}
+use Rattle.dms_top.specs.Schema.{is_script, schema_part, script_part, schema_text}
+use Rattle.dms_top.specs.Taking.{GoesOn, Ends, IsLong, IsText}
+
+at_test : (t : Bool) (b : ℕ) (bs : List ℕ) → onto_first b (raw_lines bs) ≡ (b ∷ first_line bs) ∷ raw_lines (after_line bs) → cond t ((b ∷ []) ∷ raw_lines bs) (onto_first b (raw_lines bs)) ≡ cond t (b ∷ []) (b ∷ first_line bs) ∷ raw_lines (cond t bs (after_line bs))
+at_test true b bs h = refl
+at_test false b bs h = h
+
+first_of_lines : (b : ℕ) (bs : List ℕ) → raw_lines (b ∷ bs) ≡ first_line (b ∷ bs) ∷ raw_lines (after_line (b ∷ bs))
+first_of_lines b [] = at_test (eqb b 10) b [] refl
+first_of_lines b (c ∷ cs) = at_test (eqb b 10) b (c ∷ cs) (ap (onto_first b) (first_of_lines c cs))
+
+pub lines_step : (all : List ℕ) → all ≢ [] → raw_lines all ≡ first_line all ∷ raw_lines (after_line all)
+lines_step [] some = absurd (some refl)
+lines_step (b ∷ bs) some = first_of_lines b bs
+
+pub text_on : (all : List ℕ) → all ≢ [] → is_script (first_line all) ≡ false → schema_text all ≡ first_line all ++ schema_text (after_line all)
+text_on all some other = ap schema_part (lines_step all some) ∙ ap (λ (t : Bool). cond t [] (first_line all ++ schema_text (after_line all))) other
+
+pub script_on : (all : List ℕ) → all ≢ [] → is_script (first_line all) ≡ false → script_part (raw_lines all) ≡ script_part (raw_lines (after_line all))
+script_on all some other = ap script_part (lines_step all some) ∙ ap (λ (t : Bool). cond t (raw_lines (after_line all)) (script_part (raw_lines (after_line all)))) other
+
+pub text_here : (all : List ℕ) → all ≢ [] → is_script (first_line all) ≡ true → schema_text all ≡ []
+text_here all some here = ap schema_part (lines_step all some) ∙ ap (λ (t : Bool). cond t [] (first_line all ++ schema_text (after_line all))) here
+
+pub script_here : (all : List ℕ) → all ≢ [] → is_script (first_line all) ≡ true → script_part (raw_lines all) ≡ raw_lines (after_line all)
+script_here all some here = ap script_part (lines_step all some) ∙ ap (λ (t : Bool). cond t (raw_lines (after_line all)) (script_part (raw_lines (after_line all)))) here
+
+-- an end of a line has two bytes at most
+end_short : (b : ℕ) (bs : List ℕ) → is_end (b ∷ bs) ≡ true → length (b ∷ bs) ≤ 2
+end_short b [] e = omega arith
+end_short b (c ∷ []) e = omega arith
+end_short b (c ∷ d ∷ ds) e = absurd (cc)
+
+text_long : (t : Bool) (b : ℕ) (bs : List ℕ) → t ≡ is_end (b ∷ bs) → length bs ≤ length (line_text bs) + 2 → length (b ∷ bs) ≤ length (cond t [] (b ∷ line_text bs)) + 2
+text_long true b bs e h = omega (arith, end_short b bs (sym e))
+text_long false b bs e h = omega (arith, h)
+
+pub line_text_long : (l : List ℕ) → length l ≤ length (line_text l) + 2
+line_text_long [] = omega arith
+line_text_long (b ∷ bs) = text_long (is_end (b ∷ bs)) b bs refl (line_text_long bs)
+
+not_script : (t : Bool) (l : List ℕ) → t ≡ is_script l → 8 < length l → t ≡ false
+not_script false l e long = refl
+not_script true l e long =
+    let same : line_text l ≡ codes "SCRIPT" = (bytes_eq-Decides (line_text l) (codes "SCRIPT")).0 (sym e) in
+    absurd (omega (arith, line_text_long l, ap length same, long))
+
+pub long_line : (all text : List ℕ) → all ≢ [] → 1000008 < length (first_line all) → IsLong text all
+long_line all text some long =
+    let other : is_script (first_line all) ≡ false = not_script (is_script (first_line all)) (first_line all) refl (omega (arith, long)) in
+    omega (arith, long, length-append text (schema_text all), ap length (text_on all some other), length-append (first_line all) (schema_text (after_line all)))
+
+some_line : (all : List ℕ) → 0 < length (first_line all) → all ≢ []
+some_line [] h none = omega (arith, h)
+some_line (b ∷ bs) h none = cc
+
+pub long_first : (all text : List ℕ) → 1000008 < length (first_line all) → IsLong text all
+long_first all text long = long_line all text (some_line all (omega (arith, long))) long
+
+whole : (l kept : List ℕ) (n : ℕ) → kept ≡ take 1000008 l → n ≡ length l → n ≤ 1000008 → kept ≡ l
+whole l kept n is len small = is ∙ take_all 1000008 l (omega (arith, len, small))
+
+line_some : (all : List ℕ) → all ≢ [] → 0 < length (first_line all)
+line_some [] some = absurd (some refl)
+line_some (b ∷ bs) some = at (eqb b 10) b bs
+  where
+    at : (t : Bool) (b : ℕ) (bs : List ℕ) → 0 < length (cond t (b ∷ []) (b ∷ first_line bs))
+    at true b bs = omega arith
+    at false b bs = omega arith
+
+-- a line that isn't SCRIPT was added
+pub goes_on : (all old new kept held : List ℕ) (n : ℕ) (left : Option (List ℕ)) → all ≢ [] → kept ≡ take 1000008 (first_line all) → n ≡ length (first_line all) → n ≤ 1000008
+    → is_script kept ≡ false → new ≡ old ++ kept → Remains held left (after_line all) → GoesOn old new all held left
+goes_on all old new kept held n left some is len small other added remains =
+    let w : kept ≡ first_line all = whole (first_line all) kept n is len small in
+    let o : is_script (first_line all) ≡ false = ap is_script (sym w) ∙ other in
+    record {
+      rest = after_line all;
+      remains = remains;
+      text = ap (λ (t : List ℕ). old ++ t) (text_on all some o) ∙ sym (append_assoc old (first_line all) (schema_text (after_line all))) ∙ ap (λ (k : List ℕ). (old ++ k) ++ schema_text (after_line all)) (sym w) ∙ ap (λ (t : List ℕ). t ++ schema_text (after_line all)) (sym added);
+      script = script_on all some o;
+      longer = omega (arith, ap length added, length-append old kept, ap length w, line_some all some);
+    }
+
+pub ends_at : (all old kept held : List ℕ) (n : ℕ) (left : Option (List ℕ)) → all ≢ [] → kept ≡ take 1000008 (first_line all) → n ≡ length (first_line all) → n ≤ 1000008
+    → is_script kept ≡ true → Remains held left (after_line all) → Ends old old all held left
+ends_at all old kept held n left some is len small here remains =
+    let w : kept ≡ first_line all = whole (first_line all) kept n is len small in
+    let h : is_script (first_line all) ≡ true = ap is_script (sym w) ∙ here in
+    record { rest = after_line all; remains = remains; text = refl; none = text_here all some h; script = sym (script_here all some h) }
+
+pub ends_none : (all old held : List ℕ) (left : Option (List ℕ)) → all ≡ [] → Remains held left (after_line all) → Ends old old all held left
+ends_none all old held left none remains = record {
+  rest = after_line all;
+  remains = remains;
+  text = refl;
+  none = ap schema_text none;
+  script = ap (λ (l : List ℕ). raw_lines (after_line l)) none ∙ sym (ap (λ (l : List ℕ). script_part (raw_lines l)) none);
+}
+
+-- the text is too long already
+pub too_long : (all old new kept : List ℕ) (n : ℕ) → all ≢ [] → kept ≡ take 1000008 (first_line all) → n ≡ length (first_line all) → n ≤ 1000008
+    → is_script kept ≡ false → new ≡ old ++ kept → 1000000 < length new → IsLong old all
+too_long all old new kept n some is len small other added long =
+    let w : kept ≡ first_line all = whole (first_line all) kept n is len small in
+    let o : is_script (first_line all) ≡ false = ap is_script (sym w) ∙ other in
+    omega (arith, long, ap length added, length-append old kept, ap length w, length-append old (schema_text all), ap length (text_on all some o), length-append (first_line all) (schema_text (after_line all)))

@@ -1,0 +1,14 @@
+-- What the judging of a text answers.
+use Rattle.std.specs.Prelude.{◌≡◌, ⊤}
+use Rattle.std.specs.declared.result.Result.{Result}
+use Rattle.std.specs.declared.result.Result.TheVariants.{Ok, Err}
+use Rattle.dms_desc.specs.Shape.{Described, described}
+use Rattle.dms_top.specs.declared.status.SchemaFault.{SchemaFault}
+use Rattle.dms_top.specs.declared.judge.Judged.{Judged}
+use Rattle.dms_top.specs.declared.judge.Judged.TheVariants.{Description, Refused, Memory}
+
+-- the answer is this description or fault; want of memory says nothing
+abbrev pub Judges : Judged → Result Described SchemaFault → Type 0
+Judges (Description d) judged = judged ≡ Ok (described d)
+Judges (Refused e) judged = judged ≡ Err e
+Judges Memory judged = ⊤

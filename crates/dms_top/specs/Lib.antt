@@ -1,0 +1,5 @@
+pub mod Judged
+pub mod Judging
+pub mod Schema
+pub mod Taking
+pub mod Words

@@ -1,0 +1,19 @@
+-- The words of the command line, and how far a command came.
+use Rattle.std.specs.Prelude.{◌≡◌, ℕ, List, [], ◌∷◌, codes, ⊤}
+use Rattle.dms_top.specs.declared.status.Status.{Status}
+use Rattle.dms_top.specs.declared.status.Status.TheVariants.{Ok, BadWords, SchemaRefused, InputFault, Memory, Limit, SayFault, DiskFault}
+
+-- the one form that is built: the word `try`
+abbrev pub IsTry : List (List ℕ) → Type 0
+IsTry words = words ≡ codes "try" ∷ []
+
+-- the statuses that come only where the schema was taken
+abbrev pub IsPast : Status → Type 0
+IsPast Ok = ⊤
+IsPast BadWords = ⊥
+IsPast (SchemaRefused f) = ⊥
+IsPast InputFault = ⊥
+IsPast Memory = ⊥
+IsPast (Limit l) = ⊤
+IsPast SayFault = ⊤
+IsPast DiskFault = ⊤

@@ -1,0 +1,40 @@
+ghost use Rattle.std.specs.Prelude.{◌≡◌, Ok, Err};
+ghost use Rattle.dasdl_compile.specs.Compile.{compiled};
+ghost use Rattle.dms_top.specs.Judging.{compiled_as, judged};
+ghost use Rattle.dms_top.specs.Judged.{Judges};
+
+use crate::status::SchemaFault;
+use dasdl_compile::{CompileFault, compile};
+use dasdl_parse::{ParseFault, Schema, parse};
+use dms_desc::Description;
+use std::alloc::Global;
+
+/// What a text of the schema language is.
+#[derive(Drop)]
+pub enum Judged {
+    Description(Description),
+    Refused(SchemaFault),
+    Memory,
+}
+
+fn compiled(alloc: Global, schema: &Schema) -> Judged
+    ensures { Judges result (compiled_as (compiled schema.now.parameters schema.now.declarations)) }
+{
+    match compile(alloc, schema) {
+        Ok(desc) => Judged::Description(desc),
+        Err(CompileFault::Memory) => Judged::Memory,
+        Err(fault) => Judged::Refused(SchemaFault::Compile(fault)),
+    }
+}
+
+/// The description that a text spells, or its first fault.
+#[tactic(auto, unfolding(crate::specs::Judging::judged))]
+pub fn judge(alloc: Global, text: &[u8]) -> Judged
+    ensures { Judges result (judged text.now) }
+{
+    match parse(alloc, text) {
+        Ok(schema) => compiled(alloc, &schema),
+        Err(ParseFault::Memory) => Judged::Memory,
+        Err(fault) => Judged::Refused(SchemaFault::Parse(fault)),
+    }
+}

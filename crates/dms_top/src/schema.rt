@@ -1,0 +1,88 @@
+ghost use Rattle.std.specs.Prelude.{◌≡◌, ◌≤◌, ◌<◌, [], ℕ, List, IfOk, IsErrOf, length};
+ghost use Rattle.dms_base.specs.Causes.{Rose};
+ghost use Rattle.dms_feed.specs.Feeds.{Remains};
+ghost use Rattle.dms_top.specs.Schema.{is_script, schema_text as text_of};
+ghost use Rattle.dms_top.specs.Taking.{Took, IsLong, IsText};
+
+use dms_base::Bytes;
+use dms_feed::{Feed, RawFault, line_text, next_raw};
+use dms_site::Source;
+use std::alloc::Global;
+
+/// So many bytes of a line are taken: more than a schema's text may have with a line SCRIPT behind it.
+const LINE_ROOM: u64 = 1_000_008;
+
+/// The bytes that the text of a schema may have.
+const TEXT_BYTES: usize = 1_000_000;
+
+/// Why the text of a schema can't be taken.
+#[derive(Clone, Copy, Debug, PartialEq, Eq)]
+pub enum TextFault {
+    Input,
+    Memory,
+    /// It has more than 1,000,000 bytes.
+    Long,
+}
+
+fn is_script(line: &[u8]) -> bool
+    ensures { result ≡ is_script line.now }
+{
+    line_text(line) == b"SCRIPT".as_slice()
+}
+
+/// Takes one more line of the text of a schema, and answers whether the text goes on behind it.
+fn schema_line<I: Source>(
+    alloc: Global,
+    feed: &mut Feed,
+    source: &mut I,
+    text: &mut Bytes,
+) -> Result<bool, TextFault>
+    ensures line { IfOk result (λ more. (all : List ℕ) → Remains feed.old (I.left source.old) all → Took more text.old text.new all feed.new (I.left source.new)) }
+    ensures long { IsErrOf result TextFault.Long → (all : List ℕ) → Remains feed.old (I.left source.old) all → IsLong text.old all }
+    ensures same { I.same_source source.old source.new }
+    ensures later { I.faults source.old ≤ I.faults source.new }
+    ensures input { IsErrOf result TextFault.Input → Rose (I.faults source.old) (I.faults source.new) }
+{
+    match next_raw(alloc, feed, source, LINE_ROOM, LINE_ROOM) {
+        Err(RawFault::Input) => return Err(TextFault::Input),
+        Err(RawFault::Memory) => return Err(TextFault::Memory),
+        Err(RawFault::Bytes) => return Err(TextFault::Long),
+        Ok(None) => return Ok(false),
+        Ok(Some(raw)) => {
+            if is_script(raw.kept.as_slice()) {
+                return Ok(false);
+            }
+            match text.extend(raw.kept.as_slice()) {
+                Ok(()) => {}
+                Err(_) => return Err(TextFault::Memory),
+            }
+            if text.as_slice().len() > TEXT_BYTES {
+                return Err(TextFault::Long);
+            }
+            Ok(true)
+        }
+    }
+}
+
+/// The text of a schema: what stands before the first line SCRIPT. Behind it what was taken is left.
+pub fn schema_text<I: Source>(
+    alloc: Global,
+    feed: &mut Feed,
+    source: &mut I,
+) -> Result<Bytes, TextFault>
+    ensures text { IfOk result (λ text. (all : List ℕ) → Remains feed.old (I.left source.old) all → IsText text all feed.new (I.left source.new)) }
+    ensures long { IsErrOf result TextFault.Long → (all : List ℕ) → Remains feed.old (I.left source.old) all → 1000000 < length (text_of all) }
+    ensures same { I.same_source source.old source.new }
+    ensures later { I.faults source.old ≤ I.faults source.new }
+    ensures input { IsErrOf result TextFault.Input → Rose (I.faults source.old) (I.faults source.new) }
+{
+    let mut text = Bytes::new(alloc);
+    for _line in 0..1_000_001u32 {
+        match schema_line(alloc, feed, source, &mut text) {
+            Err(fault) => return Err(fault),
+            Ok(true) => {}
+            Ok(false) => return Ok(text),
+        }
+    }
+    Err(TextFault::Long)
+}

@@ -1,0 +1,71 @@
+ghost use Rattle.std.specs.Prelude.{◌≡◌, ◌≢◌, ◌≤◌, [], ℕ, List, IsTrue};
+ghost use Rattle.dms_base.specs.Causes.{Rose};
+ghost use Rattle.dms_feed.specs.Feeds.{Remains};
+ghost use Rattle.dms_top.specs.declared.status.SchemaFault.{SchemaFault as Refusal};
+
+use crate::status::{LimitKind, Status};
+use dms_block::BlockFault;
+use dms_desc::Description;
+use dms_feed::Feed;
+use dms_plain::PlainStore;
+use dms_runner::{RunFault, run_lines};
+use dms_site::{Site, Source};
+use dms_storeverbs::Engine;
+use std::alloc::Global;
+
+/// The status that a fault of a run ends with. A run over a list never answers a full audit or a damaged block.
+fn status_of(fault: RunFault) -> Status
+    ensures ok { result ≢ Status.Ok }
+    ensures words { result ≢ Status.BadWords }
+    ensures schema { (f : Refusal) → result ≢ Status.SchemaRefused f }
+    ensures input { result ≡ Status.InputFault → fault ≡ RunFault.Input }
+    ensures disk { result ≡ Status.DiskFault → fault ≡ RunFault.Block BlockFault.Disk }
+    ensures say { result ≡ Status.SayFault → fault ≡ RunFault.Block BlockFault.Say }
+{
+    match fault {
+        RunFault::Block(BlockFault::Disk) => Status::DiskFault,
+        RunFault::Block(BlockFault::Say) => Status::SayFault,
+        RunFault::Block(_) => Status::Memory,
+        RunFault::Input => Status::InputFault,
+        RunFault::Lines => Status::Limit(LimitKind::Lines),
+        RunFault::Bytes => Status::Limit(LimitKind::Bytes),
+        RunFault::Held => Status::Limit(LimitKind::Held),
+        RunFault::Memory => Status::Memory,
+    }
+}
+
+/// Runs the lines that a feed and its source have left over a database in memory that begins empty.
+pub fn try_lines<S: Site, I: Source>(
+    alloc: Global,
+    desc: &Description,
+    site: &mut S,
+    feed: &mut Feed,
+    source: &mut I,
+) -> Status
+    ensures words { result ≢ Status.BadWords }
+    ensures schema { (f : Refusal) → result ≢ Status.SchemaRefused f }
+    ensures end { result ≡ Status.Ok → (all : List ℕ) → Remains feed.old (I.left source.old) all → Remains feed.new (I.left source.new) [] }
+    ensures input { result ≡ Status.InputFault → Rose (I.faults source.old) (I.faults source.new) }
+    ensures disk { result ≡ Status.DiskFault → Rose (S.disk_faults site.old) (S.disk_faults site.new) }
+    ensures say { result ≡ Status.SayFault → Rose (S.say_faults site.old) (S.say_faults site.new) }
+    ensures disk_same { S.disk_faults site.new ≡ S.disk_faults site.old }
+    ensures files { IsTrue S.tells → S.files site.new ≡ S.files site.old }
+    ensures same { S.same_site site.old site.new }
+    ensures same_source { I.same_source source.old source.new }
+    ensures later { I.faults source.old ≤ I.faults source.new }
+{
+    let store = match PlainStore::new(alloc, desc, site) {
+        Ok(store) => store,
+        Err(_) => return Status::Memory,
+    };
+    let mut engine = match Engine::new(alloc, desc, store) {
+        Ok(engine) => engine,
+        Err(_) => return Status::Memory,
+    };
+    let ran = run_lines(alloc, &mut engine, feed, source);
+    let _site = engine.into_store().into_site();
+    match ran {
+        Ok(()) => Status::Ok,
+        Err(fault) => status_of(fault),
+    }
+}
