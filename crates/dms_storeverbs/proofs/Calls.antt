@@ -1,7 +1,7 @@
 -- What a stop within a call of the engine leaves.
-use Rattle.std.proofs.Common.{ℕ, ◌+◌, ◌<◌, ◌≤◌, ◌≡◌, List, [], ◌∷◌, ◌++◌, length, take, map, Some, None, refl, sym, ◌∙◌, ap, subst, arith, append-nil, Bool, true, false, cond}
+use Rattle.std.proofs.Common.{ℕ, ◌≤◌, ◌≡◌, List, [], ◌∷◌, ◌++◌, Some, None, refl, sym, ◌∙◌, ap, subst, arith, append-nil, Bool, true, false, cond}
 use Rattle.std.specs.declared.option.Option.{Option}
-use Rattle.dms_block.specs.Moments.{Clock, Now, Runs}
+use Rattle.dms_block.specs.Moments.{Clock, Runs}
 use Rattle.dms_block.specs.MomentLaws.{runs_on, runs_weaken, runs_none}
 use Rattle.dms_model.specs.declared.program.Program.{Program}
 use Rattle.dms_model.specs.declared.reply.Answer.{Answer}
@@ -9,7 +9,7 @@ use Rattle.dms_model.specs.Db.{Db}
 use Rattle.dms_model.specs.Points.{Point, Quiet, Stop, Front, TextIs, told, known, Leaves, Stays}
 use Rattle.dms_model.specs.Session.{Session, Outcome, settle, someone_works}
 use Rattle.dms_storeverbs.specs.Apart.{Alone}
-use Rattle.dms_storeverbs.specs.View.{View, Stands, Is, view, Grew, Left, Made}
+use Rattle.dms_storeverbs.specs.View.{View, Stands, Is, view, Left, Made}
 
 -- fewer points are sure, and the number was lower
 pub lower : {a b m n : ℕ} {ps : List Point} {stop : Stop} → a ≤ b → m ≤ n → Front b ps n stop → Front a ps m stop

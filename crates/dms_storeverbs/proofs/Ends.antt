@@ -5,7 +5,6 @@ use Rattle.std.specs.declared.option.Option.{Option}
 use Rattle.dms_desc.specs.Shape.{Described}
 use Rattle.dms_model.specs.declared.program.Program.{Program}
 use Rattle.dms_model.specs.declared.reply.Answer.{Answer}
-use Rattle.dms_model.specs.declared.reply.Reply.{Reply}
 use Rattle.dms_model.specs.declared.reply.Reply.TheVariants.{Done, Exception}
 use Rattle.dms_model.specs.Db.{Db}
 use Rattle.dms_model.specs.Session.{Session, Outcome, Kept, Refused, Keeps, refuse, done, after_store, after_begin, after_end, settle, carried, entered, left, one_more}

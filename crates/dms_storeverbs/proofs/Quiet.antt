@@ -4,7 +4,7 @@ use Rattle.std.specs.Prelude.{slice_get, slice_set, is_some}
 use Rattle.std.specs.declared.option.Option.{Option}
 use Rattle.dms_desc.specs.Shape.{Described}
 use Rattle.dms_base.specs.declared.category.Category.{Category}
-use Rattle.dms_base.specs.declared.category.Category.TheVariants.{LimitError, NoRecord, AuditError, Duplicates, DataError, NotLocked, Abort as AbortDue}
+use Rattle.dms_base.specs.declared.category.Category.TheVariants.{LimitError, NoRecord, AuditError, DataError, NotLocked, Abort as AbortDue}
 use Rattle.dms_model.specs.declared.program.Program.{Program}
 use Rattle.dms_model.specs.declared.program.Area.{Area}
 use Rattle.dms_model.specs.declared.program.Mode.{Mode}
@@ -18,8 +18,8 @@ use Rattle.dms_model.specs.declared.verb.Setting.{Setting}
 use Rattle.dms_model.specs.Db.{Db}
 use Rattle.dms_model.specs.Members.{name_of, structure_of, items_of}
 use Rattle.dms_model.specs.Stores.{put_answer}
-use Rattle.dms_model.specs.Session.{Session, Outcome, Kept, Refused, Keeps, Filled, Misfit, Values', refuse, done, shows, settle, keep, store_step, after_store, begin_step, after_begin, begin_unless, awaited, end_step, after_end, abort_step, find_step, after_find, found_by, create_step, put_step, put_area, after_put, filled, get_step, get_area, close_step, open_as, open_step, verb_step, step_at, step, with_program, work_of, restart_of, someone_works, is_inquiry, opens, changes, path_of, new_program, place_of, carried, entered, left, without, idle, found_program, let_go, with_work, with_lock, area_kept, kept_unless, put_kept, missing_from, verified, area_values, area_number, record_of, is_free, one_more, set_of}
-use Rattle.dms_storeverbs.specs.Laws.{MakesQuiet, MakesNone, Makes, falls_quiet, is_back_out, QuietRule}
+use Rattle.dms_model.specs.Session.{Session, Outcome, Kept, Refused, Keeps, Filled, Misfit, Values', refuse, done, shows, settle, keep, store_step, after_store, begin_step, after_begin, begin_unless, awaited, end_step, after_end, abort_step, find_step, after_find, found_by, create_step, put_step, put_area, after_put, filled, get_step, get_area, close_step, open_as, open_step, verb_step, step_at, step, with_program, work_of, restart_of, someone_works, is_inquiry, opens, changes, path_of, new_program, place_of, carried, entered, left, without, idle, found_program, let_go, area_kept, kept_unless, put_kept, missing_from, verified, area_values, area_number, record_of, is_free, one_more, set_of}
+use Rattle.dms_storeverbs.specs.Laws.{MakesNone, Makes, falls_quiet, is_back_out, QuietRule}
 
 -- no quiet point was made, and someone who worked still works
 record Steady (s : Session) (o : Outcome) : Type 0 where

@@ -1,7 +1,6 @@
 -- A record that is ready to be stored, and what storing it leaves of its program.
-use Rattle.std.specs.Prelude.{◌≡◌, ℕ, List, Some, None, if◌then◌else◌, Bool, true, false, slice_set}
+use Rattle.std.specs.Prelude.{◌≡◌, ℕ, List, Some, None}
 use Rattle.std.specs.declared.option.Option.{Option}
-use Rattle.dms_base.specs.declared.name.Name.{Name}
 use Rattle.dms_base.specs.declared.category.Category.TheVariants.{Duplicates, LimitError}
 use Rattle.dms_desc.specs.declared.record.Record.{Record}
 use Rattle.dms_desc.specs.Shape.{Described}
@@ -12,9 +11,8 @@ use Rattle.dms_model.specs.declared.put.Put.TheVariants.{Stored, Duplicate, Full
 use Rattle.dms_model.specs.Db.{Db}
 use Rattle.dms_model.specs.Members.{structure_of, name_of}
 use Rattle.dms_model.specs.Stores.{put_answer, put_after}
-use Rattle.dms_model.specs.Session.{Session, Kept, Refused, Keeps, keep, with_work, with_lock, Filled, Misfit, Values'}
+use Rattle.dms_model.specs.Session.{Kept, Refused, Keeps, keep, with_work, with_lock, Filled, Misfit, Values'}
 use Rattle.dms_base.specs.declared.value.Value.{Value}
-use Rattle.dms_storeverbs.specs.declared.refusal.Refusal.{Refusal}
 use Rattle.dms_storeverbs.specs.declared.storing.Judged.{Judged}
 use Rattle.dms_storeverbs.specs.declared.storing.Judged.TheVariants.{Refused as Not, Ready}
 

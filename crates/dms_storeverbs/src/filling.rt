@@ -63,12 +63,7 @@ pub fn with_values(area: &Area, values: Values) -> Area
 }
 
 /// The value of an item, counted from 1, as GET shows it.
-fn value_shown(
-    alloc: Global,
-    kind: &ItemKind,
-    values: &[Value],
-    item: u8,
-) -> Result<Bytes, Memory>
+fn value_shown(alloc: Global, kind: &ItemKind, values: &[Value], item: u8) -> Result<Bytes, Memory>
     ensures { IfOk result (λ t. t ≡ text_for kind.now (item_of values.now item)) }
 {
     match values.get((item as usize).saturating_sub(1)) {

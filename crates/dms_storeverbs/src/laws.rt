@@ -5,5 +5,4 @@ ghost use Rattle.dms_storeverbs.specs.Laws.{QuietRule};
 /// and a pending syncpoint is taken.
 pub fn quiet_rule()
     ensures { QuietRule }
-{
-}
+{}

@@ -43,11 +43,7 @@ pub fn workers(alloc: Global, programs: &[Program]) -> Result<Names, Memory>
 
 /// For whom a BEGIN-TRANSACTION waits: while a syncpoint is pending for the programs in transaction state,
 /// where there are any, and else for nobody.
-pub fn awaited(
-    alloc: Global,
-    pending: bool,
-    programs: &[Program],
-) -> Result<Option<Names>, Memory>
+pub fn awaited(alloc: Global, pending: bool, programs: &[Program]) -> Result<Option<Names>, Memory>
     ensures { IfOk result (λ names. Awaits names (if pending then workers programs.now else [])) }
 {
     if !pending {

@@ -7,12 +7,10 @@ ghost use Rattle.dms_model.specs.Session.{Session, keep, settle, store_step, beg
 ghost use Rattle.dms_storeverbs.specs.Keeping.{KeptIs, kept_if};
 ghost use Rattle.dms_storeverbs.specs.View.{view, Stands, Does, Makes, LeavesCall};
 
-use crate::Engine;
-use crate::areas;
-use crate::programs;
 use crate::refusal::{Refusal, done, refused};
 use crate::schema::{name_of, restart_of};
 use crate::storing::{Judged, judge};
+use crate::{Engine, areas, programs};
 use dms_base::{Bytes, Category};
 use dms_block::BlockFault;
 use dms_model::{Answer, Put, Reply, Store};

@@ -8,13 +8,10 @@ ghost use Rattle.dms_model.specs.Session.{Session, find_step, found_by, verb_ste
 ghost use Rattle.dms_model.specs.Members.{structure_of, items_of};
 ghost use Rattle.dms_storeverbs.specs.View.{view, Stands, Does, Makes, LeavesCall};
 
-use crate::Engine;
-use crate::apart;
-use crate::areas;
 use crate::keys::{agreeing, key_values};
-use crate::programs;
 use crate::refusal::{done, refused};
 use crate::schema::{items_of, name_of, parts_of, set_of};
+use crate::{Engine, apart, areas, programs};
 use dms_base::{Category, Literal, Name};
 use dms_block::BlockFault;
 use dms_model::{Answer, Bound, Path, Spot, Store, Verb};
@@ -143,13 +140,7 @@ impl<St: Store> Engine<St> {
             }
             Verb::Close => Ok(apart::close(alloc, &mut self.programs, i)?),
             Verb::Find(path) => self.find(alloc, i, path),
-            Verb::Create(set) => Ok(apart::create(
-                alloc,
-                &self.desc,
-                &mut self.programs,
-                i,
-                *set,
-            )?),
+            Verb::Create(set) => Ok(apart::create(alloc, &self.desc, &mut self.programs, i, *set)?),
             Verb::Put(set, settings) => Ok(apart::put(
                 alloc,
                 &self.desc,
@@ -175,12 +166,7 @@ impl<St: Store> Engine<St> {
 
     /// One step of a program: what its verb answers and leaves.
     #[tactic(auto, using(std::proofs::lemmas::Option::gets), unfolding(dms_model::specs::Session::step))]
-    pub fn call(
-        &mut self,
-        alloc: Global,
-        program: &Name,
-        verb: &Verb,
-    ) -> Result<Answer, BlockFault>
+    pub fn call(&mut self, alloc: Global, program: &Name, verb: &Verb) -> Result<Answer, BlockFault>
         requires sound { St.sound self.old.store }
         requires desc { St.desc self.old.store ≡ described self.old.desc }
         ensures step { Does (view (St.db self.old.store) (St.mark self.old.store) (St.next self.old.store) self.old.programs.items self.old.pending self.old.since) (view (St.db self.new.store) (St.mark self.new.store) (St.next self.new.store) self.new.programs.items self.new.pending self.new.since) result (λ s. step (described self.old.desc) s program.now verb.now) }
@@ -200,13 +186,7 @@ impl<St: Store> Engine<St> {
     {
         let i = programs::place_of(self.programs.as_slice(), program);
         if i >= self.programs.len() {
-            return Ok(apart::open(
-                alloc,
-                &self.desc,
-                &mut self.programs,
-                program,
-                verb,
-            )?);
+            return Ok(apart::open(alloc, &self.desc, &mut self.programs, program, verb)?);
         }
         if let Some(answer) = apart::admit(&mut self.programs, i, program, verb) {
             return Ok(answer);

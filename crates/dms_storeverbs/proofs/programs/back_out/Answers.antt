@@ -1,4 +1,4 @@
-use Rattle.std.proofs.Common.{get_or, arith, ap, ◌∙◌, List}
+use Rattle.std.proofs.Common.{get_or, arith, ap, ◌∙◌}
 use Rattle.std.proofs.Math.ListN.{set}
 use Rattle.std.proofs.lemmas.List.{get_or_default}
 use Rattle.std.proofs.lemmas.List.Edits.{map_over_more}

@@ -1,10 +1,9 @@
-use Rattle.std.proofs.Common.{◌≡◌, arith, true, sym, Some, refl, ap, ◌∙◌, List, length, map}
+use Rattle.std.proofs.Common.{◌≡◌, arith, true, refl, ap, ◌∙◌, length, map}
 use Rattle.std.proofs.lemmas.List.{with_items_is, length-map}
 use Rattle.std.proofs.lemmas.Grind.{common_steps}
-use Rattle.std.proofs.lemmas.Option.{gets, get_or_from_slice_get}
+use Rattle.std.proofs.lemmas.Option.{gets}
 use Rattle.dms_model.specs.Session.{abort_step, backed_out}
 use Rattle.dms_model.specs.declared.program.Program.{Program}
-use Rattle.dms_storeverbs.specs.View.{Stands}
 use Rattle.dms_storeverbs.proofs.Calls.{still}
 use Rattle.dms_storeverbs.proofs.engine.Engine.abort.Goals as goal
 

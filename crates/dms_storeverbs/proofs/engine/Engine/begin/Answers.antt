@@ -1,24 +1,16 @@
-use Rattle.std.proofs.Common.{◌≡◌, ◌∙◌, ◌<◌, ◌+◌, ◌^◌, ℕ, List, [], Bool, true, false, not, ◌&&◌, ◌||◌, nat_le, Some, None, refl, sym, ap, subst, arith, length, get_or}
-use Rattle.std.specs.Prelude.{slice_get, slice_set, is_some}
-use Rattle.std.specs.declared.option.Option.{Option}
+use Rattle.std.proofs.Common.{◌≡◌, ◌∙◌, ◌<◌, ◌+◌, ◌^◌, ℕ, List, [], true, false, not, ◌&&◌, refl, sym, ap, subst, arith, length}
+use Rattle.std.specs.Prelude.{is_some}
 use Rattle.std.proofs.lemmas.Grind.{common_steps}
-use Rattle.std.proofs.lemmas.Option.{gets, get_or_from_slice_get}
-use Rattle.std.proofs.lemmas.Result.{IfOk-weaker}
-use Rattle.dms_desc.specs.Shape.{Described, described}
-use Rattle.dms_desc.specs.declared.description.Description.{Description}
+use Rattle.std.proofs.lemmas.Option.{gets}
+use Rattle.dms_desc.specs.Shape.{described}
 use Rattle.dms_model.specs.declared.program.Program.{Program}
-use Rattle.dms_model.specs.declared.reply.Answer.{Answer}
-use Rattle.dms_model.specs.declared.spot.Spot.{Spot}
-use Rattle.dms_model.specs.Points.{Quiet, Stop, TextIs, Stays}
-use Rattle.dms_model.specs.Session.{Session, Outcome}
-use Rattle.dms_block.specs.Moments.{Runs}
+use Rattle.dms_model.specs.Session.{Outcome}
 use Rattle.dms_block.specs.MomentLaws.{runs_none}
-use Rattle.dms_storeverbs.specs.View.{Is, Made, Left, Stands, Room}
-use Rattle.dms_storeverbs.proofs.Calls.{still, no_more, none_made, is_from, made_from, runs_from, apart, apart_made, then_settles, then_made}
+use Rattle.dms_storeverbs.proofs.Calls.{still, none_made, is_from}
 use Rattle.dms_base.specs.declared.category.Category.TheVariants.{NoRecord}
 use Rattle.dms_model.specs.declared.reply.Reply.TheVariants.{Exception, Waits}
 use Rattle.dms_model.specs.Members.{name_of, structure_of}
-use Rattle.dms_model.specs.Session.{begin_step, after_begin, awaited, work_of, restart_of, workers}
+use Rattle.dms_model.specs.Session.{awaited, work_of, restart_of, workers}
 use Rattle.std.proofs.Common.{cond}
 use Rattle.dms_storeverbs.specs.Keeping.{kept_if}
 use Rattle.dms_storeverbs.proofs.Ends.{begin_refused, begin_done, begin_quiets}

@@ -1,21 +1,12 @@
-use Rattle.std.proofs.Common.{◌≡◌, ◌∙◌, ◌<◌, ◌+◌, ◌^◌, ℕ, List, [], Bool, true, false, not, ◌&&◌, ◌||◌, nat_le, Some, None, refl, sym, ap, subst, arith, length, get_or}
-use Rattle.std.specs.Prelude.{slice_get, slice_set, is_some}
-use Rattle.std.specs.declared.option.Option.{Option}
+use Rattle.std.proofs.Common.{◌≡◌, ◌∙◌, ◌<◌, ◌+◌, ◌^◌, List, true, false, ◌||◌, nat_le, refl, sym, ap, subst, arith, length}
 use Rattle.std.proofs.lemmas.Grind.{common_steps}
-use Rattle.std.proofs.lemmas.Option.{gets, get_or_from_slice_get}
+use Rattle.std.proofs.lemmas.Option.{gets}
 use Rattle.std.proofs.lemmas.Result.{IfOk-weaker}
-use Rattle.dms_desc.specs.Shape.{Described, described}
-use Rattle.dms_desc.specs.declared.description.Description.{Description}
+use Rattle.dms_desc.specs.Shape.{described}
 use Rattle.dms_model.specs.declared.program.Program.{Program}
-use Rattle.dms_model.specs.declared.reply.Answer.{Answer}
-use Rattle.dms_model.specs.declared.spot.Spot.{Spot}
-use Rattle.dms_model.specs.Points.{Quiet, Stop, TextIs, Stays}
-use Rattle.dms_model.specs.Session.{Session, Outcome}
-use Rattle.dms_block.specs.Moments.{Runs}
-use Rattle.dms_block.specs.MomentLaws.{runs_none}
-use Rattle.dms_storeverbs.specs.View.{Is, Made, Left, Stands, Room}
-use Rattle.dms_storeverbs.proofs.Calls.{still, no_more, none_made, is_from, made_from, runs_from, apart, apart_made, then_settles, then_made}
-use Rattle.dms_model.specs.Session.{end_step, after_end, settle, one_more}
+use Rattle.dms_model.specs.Session.{Outcome}
+use Rattle.dms_storeverbs.proofs.Calls.{still, none_made, is_from, made_from, runs_from, then_settles, then_made}
+use Rattle.dms_model.specs.Session.{settle}
 use Rattle.dms_storeverbs.specs.Keeping.{kept_if}
 use Rattle.dms_storeverbs.proofs.Ends.{end_refused, end_refused_quiets, end_does, end_makes, end_leaves}
 use Rattle.dms_storeverbs.proofs.Unfolds.{end_step_goes, end_outside}
@@ -25,7 +16,7 @@ pub returns-then-not-index-clause-makes : goal.returns-then-not-index-clause-mak
 returns-then-not-index-clause-makes g c = λ tells p at s stands room.
     let d = described c.args.self.now.desc in
     let idle : p.in_transaction ≡ false = grind (arith, common_steps, gets) in
-    none_made (ap (λ (o : Outcome). o.quiets) (end_outside d c.args.i p s c.args.audit c.args.sync idle)) c.refused-then-not-index.ensures.sync (refl, omega arith)
+    none_made (ap (λ (o : Outcome). o.quiets) (end_outside d c.args.i p s c.args.audit c.args.sync idle)) c.refused.ensures.sync (refl, omega arith)
 
 pub returns-in-Some-clause-step : goal.returns-in-Some-clause-step
 returns-in-Some-clause-step g c = λ p at s stands room.

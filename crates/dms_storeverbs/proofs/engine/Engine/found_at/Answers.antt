@@ -1,4 +1,4 @@
-use Rattle.std.proofs.Common.{◌≡◌, ◌∙◌, ℕ, ap, sym, List, Some}
+use Rattle.std.proofs.Common.{◌≡◌, ◌∙◌, ℕ, ap, sym, Some}
 use Rattle.dms_desc.specs.Shape.{described}
 use Rattle.dms_model.specs.Members.{structure_of, items_of}
 use Rattle.dms_model.specs.Session.{key_values, parts_of, set_of}

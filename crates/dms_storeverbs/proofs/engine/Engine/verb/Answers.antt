@@ -1,20 +1,6 @@
-use Rattle.std.proofs.Common.{◌≡◌, ◌∙◌, ◌<◌, ◌+◌, ◌^◌, ℕ, List, [], Bool, true, false, not, ◌&&◌, ◌||◌, nat_le, Some, None, refl, sym, ap, subst, arith, length, get_or}
-use Rattle.std.specs.Prelude.{slice_get, slice_set, is_some}
-use Rattle.std.specs.declared.option.Option.{Option}
-use Rattle.std.proofs.lemmas.Grind.{common_steps}
-use Rattle.std.proofs.lemmas.Option.{gets, get_or_from_slice_get}
-use Rattle.std.proofs.lemmas.Result.{IfOk-weaker}
-use Rattle.dms_desc.specs.Shape.{Described, described}
-use Rattle.dms_desc.specs.declared.description.Description.{Description}
-use Rattle.dms_model.specs.declared.program.Program.{Program}
-use Rattle.dms_model.specs.declared.reply.Answer.{Answer}
-use Rattle.dms_model.specs.declared.spot.Spot.{Spot}
-use Rattle.dms_model.specs.Points.{Quiet, Stop, TextIs, Stays}
-use Rattle.dms_model.specs.Session.{Session, Outcome}
-use Rattle.dms_block.specs.Moments.{Runs}
+use Rattle.std.proofs.Common.{sym}
 use Rattle.dms_block.specs.MomentLaws.{runs_none}
-use Rattle.dms_storeverbs.specs.View.{Is, Made, Left, Stands, Room}
-use Rattle.dms_storeverbs.proofs.Calls.{still, no_more, none_made, is_from, made_from, runs_from, apart, apart_made, then_settles, then_made}
+use Rattle.dms_storeverbs.proofs.Calls.{apart, apart_made}
 use Rattle.dms_model.specs.Session.{verb_step}
 use Rattle.dms_storeverbs.proofs.engine.Engine.verb.Goals as goal
 
