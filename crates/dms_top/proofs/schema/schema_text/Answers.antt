@@ -1,0 +1,26 @@
+use Rattle.std.proofs.Common.{Err, ap, ◌≡◌, ◌∙◌, List, ℕ, arith}
+use Rattle.dms_top.proofs.Taken.{reaches_on, reaches_end, reaches_long, reaches_over}
+use Rattle.dms_top.proofs.schema.schema_text.Goals as goal
+
+pub returns-in-Err-Long-clause-long : goal.returns-in-Err-Long-clause-long
+returns-in-Err-Long-clause-long g c = λ _ all remains.
+    let r = c.loop-line.invariant.reaches all remains in
+    reaches_long _ _ all _ _ r (c.in-Err-Long.ensures.long (ap Err c.in-Err-Long.field-0-is) r.rest r.remains)
+
+pub returns-in-Ok-false-clause-text : goal.returns-in-Ok-false-clause-text
+returns-in-Ok-false-clause-text g c = λ all remains.
+    let r = c.loop-line.invariant.reaches all remains in
+    reaches_end _ _ _ all _ _ _ _ r ((rw c.in-Ok-false.field-0-test at c.in-Ok-false.ensures.line) r.rest r.remains)
+
+pub loop-line-preserved : goal.loop-line-preserved
+loop-line-preserved g c = record {
+  same = g.met.I.Source.same_then _ _ _ c.loop-line.invariant.same c.schema_line.ensures.same;
+  later = omega (arith, c.loop-line.invariant.later, c.schema_line.ensures.later);
+  reaches = λ all remains.
+      let r = c.loop-line.invariant.reaches all remains in
+      reaches_on _ _ _ all _ _ _ _ r ((rw c.in-Ok-true.field-0-test at c.in-Ok-true.ensures.line) r.rest r.remains);
+}
+
+pub returns-clause-long : goal.returns-clause-long
+returns-clause-long g c = λ _ all remains.
+    reaches_over _ _ all _ _ (c.loop-line.invariant.reaches all remains) (omega (arith, c.loop-line-test.false))
