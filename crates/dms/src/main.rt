@@ -52,10 +52,10 @@ fn main(rt: HostRuntime) -> io::Result<ExitCode> {
         print!(rt; "{}", text)?;
         return Ok(ExitCode::from(0));
     }
-    let status = match FolderSite::new(rt.clone(), alloc) {
+    let status = match FolderSite::new(rt.clone()?, alloc) {
         Err(_) => Status::Memory,
         Ok(mut site) => {
-            let mut input = StdinSource::new(rt.clone());
+            let mut input = StdinSource::new(rt.clone()?);
             dms(alloc, words.as_slice(), &mut site, &mut input)
         }
     };

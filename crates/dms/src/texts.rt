@@ -32,7 +32,9 @@ fn parse_line(alloc: Global, fault: ParseFault) -> Result<String, AllocError> {
     match fault {
         ParseFault::BadCharacter(place) => format!(in alloc; "schema: bad character at {place}"),
         ParseFault::Expected(place) => format!(in alloc; "schema: unexpected at {place}"),
-        ParseFault::NumberRange(place) => format!(in alloc; "schema: number out of range at {place}"),
+        ParseFault::NumberRange(place) => format!(in alloc;
+            "schema: number out of range at {place}"
+        ),
         ParseFault::TooMany(limit) => format!(in alloc; "schema: more than {limit}"),
         ParseFault::Memory => format!(in alloc; "no memory"),
     }
@@ -48,7 +50,9 @@ fn compile_line(alloc: Global, fault: CompileFault) -> Result<String, AllocError
         CompileFault::KeyLong(bytes) => format!(in alloc; "schema: key of {bytes} bytes"),
         CompileFault::NoRestart => format!(in alloc; "schema: no restart data set"),
         CompileFault::Embedding(name) => named(alloc, "schema: bad place ", &name),
-        CompileFault::DescriptionLong(bytes) => format!(in alloc; "schema: description of {bytes} bytes"),
+        CompileFault::DescriptionLong(bytes) => format!(in alloc;
+            "schema: description of {bytes} bytes"
+        ),
         CompileFault::Memory => format!(in alloc; "no memory"),
     }
 }

@@ -67,11 +67,7 @@ fn say_held<St: Store>(
 
 /// Says of each line that it is still held, and goes back to the last quiet point where a program is in
 /// transaction state.
-fn end_run<St: Store>(
-    alloc: Global,
-    engine: &mut Engine<St>,
-    held: &[Held],
-) -> Result<(), RunFault>
+fn end_run<St: Store>(alloc: Global, engine: &mut Engine<St>, held: &[Held]) -> Result<(), RunFault>
     requires sound { St.sound engine.old.store }
     requires desc { St.desc engine.old.store ≡ described engine.old.desc }
     ensures sound { OnOk result (St.sound engine.new.store) }

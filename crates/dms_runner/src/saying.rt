@@ -41,12 +41,7 @@ fn push_sync(alloc: Global, text: &mut Bytes, sync: Option<u64>) -> Result<(), M
 
 /// A reply, and then the syncpoint that its step took.
 #[tactic(auto, unfolding(crate::specs::Held::answer_text))]
-fn answer_text(
-    alloc: Global,
-    line: u32,
-    program: &Name,
-    answer: &Answer,
-) -> Result<Bytes, Memory>
+fn answer_text(alloc: Global, line: u32, program: &Name, answer: &Answer) -> Result<Bytes, Memory>
     ensures { IfOk result (λ t. t ≡ answer_text line program.now answer.now.reply answer.now.sync) }
 {
     let mut text = reply_text(alloc, line, program, &answer.reply)?;
