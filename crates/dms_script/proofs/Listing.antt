@@ -6,7 +6,7 @@ use Rattle.dasdl_parse.specs.Cursors.{starts, is_the_sign, place_at}
 use Rattle.dms_script.specs.declared.fault.Fault.{Fault}
 use Rattle.dms_script.specs.declared.fault.Fault.TheVariants.{Bad, Memory}
 use Rattle.std.specs.declared.result.Result.{Result}
-use Rattle.dms_script.specs.Reads.{◌>>=◌, Read, Fails}
+use Rattle.dms_script.specs.Reads.{Read, Fails}
 use Rattle.dms_script.specs.Verbs.{list_of}
 
 module _ {A : Type 0} (one : List A → List Lexeme → Read (List A)) where
