@@ -1,0 +1,11 @@
+pub mod CondComplete
+pub mod GroupExact
+pub mod ItemOptionsExact
+pub mod KindExact
+pub mod OptionsExact
+pub mod ParametersExact
+pub mod SaidExact
+pub mod SchemaComplete
+pub mod SchemaSound
+pub mod SetComplete
+pub mod SetExact

@@ -1,0 +1,5 @@
+pub mod GroupSpelling
+pub mod ParameterSpelling
+pub mod SaidSpelling
+pub mod SchemaSpelling
+pub mod SetSpelling

@@ -1,0 +1,84 @@
+ghost use Rattle.dasdl_grammar.specs.SchemaSpelling.{IsSchema};
+ghost use Rattle.dasdl_parse.specs.Tokens.{tokens_of};
+ghost use Rattle.dasdl_parse.specs.Grammar.{schema_of};
+ghost use Rattle.dasdl_parse.specs.declared.schema.Schema.{Schema};
+ghost use Rattle.dasdl_grammar.specs.SaidSpelling.{Left};
+ghost use Rattle.dasdl_grammar.specs.GroupSpelling.{IsGroup};
+ghost use Rattle.dasdl_grammar.specs.SetSpelling.{IsSet, IsHead, IsEnd};
+ghost use Rattle.dasdl_grammar.specs.ParameterSpelling.{AreParameters, IsTrail};
+ghost use Rattle.dasdl_parse.specs.Items.{group_at};
+ghost use Rattle.dasdl_parse.specs.Sets.{set_at};
+ghost use Rattle.dasdl_parse.specs.Grammar.{data_set_at, data_set_end_at};
+ghost use Rattle.dasdl_parse.specs.Parameters.{parameters_at, audit_at};
+ghost use Rattle.dasdl_parse.specs.declared.items.GroupItems.{GroupItems};
+ghost use Rattle.dasdl_parse.specs.declared.declarations.SetDecl.{SetDecl};
+ghost use Rattle.dasdl_parse.specs.declared.declarations.DataSetDecl.{DataSetDecl};
+ghost use Rattle.dasdl_parse.specs.declared.declarations.DataSetEnd.{DataSetEnd};
+ghost use Rattle.dasdl_parse.specs.declared.parameters.Pairs.{Pairs};
+ghost use Rattle.dasdl_parse.specs.declared.parameters.AuditPairs.{AuditPairs};
+ghost use Rattle.std.specs.Prelude.{◌≡◌, ◌≤◌, ◌<◌, ◌+◌, ◌++◌, ℕ, List, map, length, true, false, codes};
+ghost use Rattle.std.specs.declared.result.Result.TheVariants.{Ok};
+ghost use Rattle.dasdl_parse.specs.declared.token.Lexeme.{Lexeme};
+ghost use Rattle.dasdl_parse.specs.TreeCodes.{Tree};
+ghost use Rattle.dasdl_parse.specs.Conditions.{cond_at};
+ghost use Rattle.dasdl_parse.specs.Cursors.{starts, is_word, is_the_sign, turns_at, until_semicolon};
+ghost use Rattle.dasdl_parse.specs.declared.items.ItemOptions.{ItemOptions};
+ghost use Rattle.dasdl_parse.specs.Items.{next_item_option_at, no_options, item_at, link_at};
+ghost use Rattle.dasdl_parse.specs.OptionSpelling.{AreItemOptions};
+ghost use Rattle.dasdl_parse.specs.declared.declarations.PartDecl.{PartDecl};
+ghost use Rattle.dasdl_parse.specs.KeySpelling.{IsKey};
+ghost use Rattle.dasdl_parse.specs.ItemSpelling.{IsItem, IsLink};
+ghost use Rattle.dasdl_parse.specs.declared.declarations.ItemDecl.{ItemDecl};
+ghost use Rattle.dasdl_parse.specs.declared.declarations.LinkDecl.{LinkDecl};
+ghost use Rattle.dasdl_parse.specs.KindSpelling.{IsKind};
+ghost use Rattle.dasdl_parse.specs.Kinds.{kind_at};
+ghost use Rattle.dms_base.specs.declared.kind.ItemKind.{ItemKind};
+ghost use Rattle.dasdl_parse.specs.Sets.{parts_at};
+ghost use Rattle.dasdl_parse.specs.CondSpelling.{IsCond, Reads, nodes, token_of};
+ghost use Rattle.dasdl_parse.specs.CondSpelling.Part.{Whole};
+
+/// What stands behind a group's name is read exactly where it is GROUP and items in brackets, by which its data set has
+/// no more than 60.
+pub fn group_law()
+    ensures sound { (count : ℕ) (ts rest : List Lexeme) (group : GroupItems) → group_at count ts ≡ Ok (group, rest) → Left IsGroup ts group.items rest × (group.count ≡ count + length group.items) × (group.count ≤ 60) }
+    ensures complete { (count : ℕ) (us rest : List Lexeme) (items : List ItemDecl) → IsGroup items us → count + length items ≤ 60 → group_at count (us ++ rest) ≡ Ok (record { items = items; count = count + length items }, rest) }
+{}
+
+/// What stands behind a set's name is read exactly where it is SET or SUBSET, OF and a name, options in any order, each
+/// with a comma before it or without one and each said once at most, and a semicolon.
+pub fn set_law()
+    ensures sound { (place : ℕ) (name : List ℕ) (ts rest : List Lexeme) (set : SetDecl) → set_at place name ts ≡ Ok (set, rest) → Left (IsSet place name) ts set rest }
+    ensures complete { (place : ℕ) (name : List ℕ) (us rest : List Lexeme) (set : SetDecl) → IsSet place name set us → set_at place name (us ++ rest) ≡ Ok (set, rest) }
+{}
+
+/// What stands behind a data set's name, before its members, is read exactly where it is RESTART or not, DATA SET and a
+/// bracket.
+pub fn head_law()
+    ensures sound { (place : ℕ) (name : List ℕ) (ts rest : List Lexeme) (head : DataSetDecl) → data_set_at place name ts ≡ Ok (head, rest) → Reads (IsHead place name) ts head rest }
+    ensures complete { (place : ℕ) (name : List ℕ) (us rest : List Lexeme) (head : DataSetDecl) → IsHead place name head (map token_of us) → data_set_at place name (us ++ rest) ≡ Ok (head, rest) }
+{}
+
+/// What stands behind a data set's members is read exactly where it is a bracket, options in any order, each said once
+/// at most, and a semicolon.
+pub fn end_law()
+    ensures sound { (ts rest : List Lexeme) (end : DataSetEnd) → data_set_end_at ts ≡ Ok (end, rest) → Left IsEnd ts end rest }
+    ensures complete { (us rest : List Lexeme) (end : DataSetEnd) → IsEnd end us → data_set_end_at (us ++ rest) ≡ Ok (end, rest) }
+{}
+
+/// PARAMETERS is read exactly where it has pairs in any order, each once at most, with its number in its range.
+pub fn parameters_law()
+    ensures sound { (ts rest : List Lexeme) (said : Pairs) → parameters_at ts ≡ Ok (said, rest) → Reads AreParameters ts said rest }
+    ensures complete { (us rest : List Lexeme) (said : Pairs) → AreParameters said (map token_of us) → parameters_at (us ++ rest) ≡ Ok (said, rest) }
+{}
+
+/// AUDIT TRAIL is read exactly where it has pairs in any order, each once at most, with its number in its range.
+pub fn audit_law()
+    ensures sound { (ts rest : List Lexeme) (said : AuditPairs) → audit_at ts ≡ Ok (said, rest) → Reads IsTrail ts said rest }
+    ensures complete { (us rest : List Lexeme) (said : AuditPairs) → IsTrail said (map token_of us) → audit_at (us ++ rest) ≡ Ok (said, rest) }
+{}
+
+/// A text is read exactly where it is a schema of the grammar within the limits, and as the declarations that it spells.
+pub fn schema_law()
+    ensures sound { (text : List ℕ) (schema : Schema) → schema_of text ≡ Ok schema → IsSchema schema (tokens_of text) × (length text ≤ 1000000) }
+    ensures complete { (text : List ℕ) (schema : Schema) → IsSchema schema (tokens_of text) → length text ≤ 1000000 → schema_of text ≡ Ok schema }
+{}
