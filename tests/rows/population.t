@@ -1,0 +1,23 @@
+A data set that is full at two records.
+
+  $ "$DMS" try <<'END'
+  > RDS RESTART DATA SET (PID ALPHA(10););
+  > D DATA SET (X NUMBER(4);) POPULATION = 2;
+  > SCRIPT
+  > A: OPEN UPDATE
+  > A: BEGIN-TRANSACTION NO-AUDIT RDS
+  > A: CREATE D
+  > A: STORE D
+  > A: CREATE D
+  > A: STORE D
+  > A: CREATE D
+  > A: STORE D
+  > END
+  1 A DONE
+  2 A DONE
+  3 A DONE
+  4 A DONE
+  5 A DONE
+  6 A DONE
+  7 A DONE
+  8 A EXCEPTION LIMITERROR D

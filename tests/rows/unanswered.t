@@ -1,0 +1,22 @@
+A line that is still held at the end is said to be unanswered.
+
+  $ "$DMS" try <<'END'
+  > RDS RESTART DATA SET (PID ALPHA(10););
+  > D DATA SET (X NUMBER(4););
+  > SCRIPT
+  > A: OPEN UPDATE
+  > B: OPEN UPDATE
+  > C: OPEN UPDATE
+  > A: BEGIN-TRANSACTION NO-AUDIT RDS
+  > B: BEGIN-TRANSACTION NO-AUDIT RDS
+  > A: END-TRANSACTION NO-AUDIT RDS SYNC
+  > C: BEGIN-TRANSACTION NO-AUDIT RDS
+  > END
+  1 A DONE
+  2 B DONE
+  3 C DONE
+  4 A DONE
+  5 B DONE
+  6 A DONE
+  7 C WAITS FOR B
+  7 C UNANSWERED
