@@ -24,7 +24,8 @@ pub fn agrees_has_base()
     ensures agrees { BaseAgrees }
 {}
 
-/// What agrees is steady, with its dumps and a restore that may be pending, and the other way round; old audit files may be removed from the front.
+/// What agrees is steady, with its dumps and a restore that may be pending, and the other way round. Where none is pending, entries may be removed from the
+/// front of the list of live entries.
 pub fn stays_steady()
     ensures steady { AgreesIsSteady }
     ensures agrees { SteadyAgrees }
