@@ -1,0 +1,6 @@
+//! The bytes of a description.
+#![tactic(auto)]
+
+mod writing;
+
+pub use writing::encode;
