@@ -1,11 +1,15 @@
+ghost use Rattle.std.specs.Prelude.{◌≡◌};
+ghost use Rattle.dms.specs.Numbers.{number_of};
+
 use dasdl_compile::CompileFault;
-use dasdl_parse::ParseFault;
 use dms_base::Name;
 use dms_top::{LimitKind, SchemaFault, Status};
 use std::alloc::{AllocError, Global};
 
 /// The number of a status.
-pub fn code_of(status: Status) -> u8 {
+pub fn code_of(status: Status) -> u8
+    ensures { result ≡ number_of status }
+{
     match status {
         Status::Ok => 0,
         Status::BadWords => 1,
@@ -28,32 +32,14 @@ fn named(alloc: Global, words: &str, name: &Name) -> Result<String, AllocError> 
     Ok(text)
 }
 
-fn parse_line(alloc: Global, fault: ParseFault) -> Result<String, AllocError> {
-    match fault {
-        ParseFault::BadCharacter(place) => format!(in alloc; "schema: bad character at {place}"),
-        ParseFault::Expected(place) => format!(in alloc; "schema: unexpected at {place}"),
-        ParseFault::NumberRange(place) => format!(in alloc;
-            "schema: number out of range at {place}"
-        ),
-        ParseFault::TooMany(limit) => format!(in alloc; "schema: more than {limit}"),
-        ParseFault::Memory => format!(in alloc; "no memory"),
-    }
-}
-
 fn compile_line(alloc: Global, fault: CompileFault) -> Result<String, AllocError> {
     match fault {
         CompileFault::Twice(name) => named(alloc, "schema: twice ", &name),
         CompileFault::Unknown(name) => named(alloc, "schema: unknown ", &name),
         CompileFault::KeyItem(name) => named(alloc, "schema: bad key ", &name),
         CompileFault::CondKind(name) => named(alloc, "schema: bad condition ", &name),
-        CompileFault::RecordLong(bytes) => format!(in alloc; "schema: record of {bytes} bytes"),
-        CompileFault::KeyLong(bytes) => format!(in alloc; "schema: key of {bytes} bytes"),
-        CompileFault::NoRestart => format!(in alloc; "schema: no restart data set"),
         CompileFault::Embedding(name) => named(alloc, "schema: bad place ", &name),
-        CompileFault::DescriptionLong(bytes) => format!(in alloc;
-            "schema: description of {bytes} bytes"
-        ),
-        CompileFault::Memory => format!(in alloc; "no memory"),
+        _ => format!(in alloc; "schema: {fault}"),
     }
 }
 
@@ -62,7 +48,7 @@ pub fn fault_line(alloc: Global, status: Status) -> Result<String, AllocError> {
     match status {
         Status::Ok => format!(in alloc; ""),
         Status::BadWords => format!(in alloc; "bad words"),
-        Status::SchemaRefused(SchemaFault::Parse(fault)) => parse_line(alloc, fault),
+        Status::SchemaRefused(SchemaFault::Parse(fault)) => format!(in alloc; "schema: {fault}"),
         Status::SchemaRefused(SchemaFault::Compile(fault)) => compile_line(alloc, fault),
         Status::DiskFault => format!(in alloc; "disk fault"),
         Status::InputFault => format!(in alloc; "input fault"),

@@ -2,7 +2,7 @@
 use Rattle.std.specs.Prelude.{◌≡◌, ◌<◌, ◌^◌, ℕ, ◌+◌, List, [], ◌∷◌, ◌++◌, Bool, true, false, not, ◌&&◌, ◌||◌, Some, None, if◌then◌else◌, nat_le, length, map}
 use Rattle.std.specs.declared.option.Option.{Option}
 use Rattle.dms_desc.specs.Shape.{Described}
-use Rattle.dms_feed.specs.Lines.{raw_lines, line_text}
+use Rattle.dms_feed.specs.Lines.{line_text}
 use Rattle.dms_model.specs.declared.verb.Verb.{Verb}
 use Rattle.dms_model.specs.Db.{Db}
 use Rattle.dms_model.specs.Points.{Quiet}
@@ -85,22 +85,23 @@ unanswered (h ∷ hs) = unanswered_text h.line h.program ++ unanswered hs
 abbrev pub begun : Db → ℕ → Going
 begun db first = record { session = fresh_session db first; held = []; line = 0 }
 
-abbrev pub script_run : Described → Db → ℕ → List ℕ → Lined
-script_run desc db first input = lines_run desc (begun db first) (raw_lines input)
+-- the lines of a script as they stand in the input, each with the line feed that ends it, over a database whose next quiet
+-- point has this number
+abbrev pub script_run : Described → Db → ℕ → List (List ℕ) → Lined
+script_run desc db first lines = lines_run desc (begun db first) lines
 
--- what a script answers over a database whose next quiet point has this number: the replies, and at the end each line that
--- is still held
-unfoldable pub answers_text : Described → Db → ℕ → List ℕ → List ℕ
-answers_text desc db first input = (script_run desc db first input).text ++ unanswered (script_run desc db first input).going.held
+-- what a script answers: the replies, and at the end each line that is still held
+unfoldable pub answers_text : Described → Db → ℕ → List (List ℕ) → List ℕ
+answers_text desc db first lines = (script_run desc db first lines).text ++ unanswered (script_run desc db first lines).going.held
 
 -- the quiet points that it makes
-unfoldable pub answers_quiets : Described → Db → ℕ → List ℕ → List Quiet
-answers_quiets desc db first input = (script_run desc db first input).quiets
+unfoldable pub answers_quiets : Described → Db → ℕ → List (List ℕ) → List Quiet
+answers_quiets desc db first lines = (script_run desc db first lines).quiets
 
 abbrev pub last_quiet : Db → List Quiet → Db
 last_quiet db [] = db
 last_quiet db (q ∷ qs) = last_quiet q.1 qs
 
 -- the database that a script leaves: that of its last quiet point, or the one that it began with
-abbrev pub left_by : Described → Db → ℕ → List ℕ → Db
-left_by desc db first input = last_quiet db (answers_quiets desc db first input)
+abbrev pub left_by : Described → Db → ℕ → List (List ℕ) → Db
+left_by desc db first lines = last_quiet db (answers_quiets desc db first lines)

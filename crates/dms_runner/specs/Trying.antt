@@ -1,7 +1,6 @@
 -- What the tries of held lines leave.
 use Rattle.std.specs.Prelude.{◌≡◌, ◌<◌, ◌≤◌, ◌+◌, ℕ, List, Bool, true, false, not, Some, None, length, remove, []}
 use Rattle.std.specs.declared.option.Option.{Option}
-use Rattle.dms_feed.specs.Feeds.{Remains}
 use Rattle.dms_model.specs.Points.{Prints}
 use Rattle.dms_model.specs.Session.{Session, Outcome, is_waits}
 use Rattle.dms_storeverbs.specs.View.{View, Stands}
@@ -37,8 +36,3 @@ pub record GoesOn (l : Lined) (on : Bool) (now : View) (held : List Held) (befor
   pub session : Stands now l.going.session
   pub held_is : held ≡ l.going.held
   pub text : Prints before after l.text
-
--- where no more line was there the input is at its end
-abbrev pub Ended : Bool → List ℕ → Option (List ℕ) → Type 0
-Ended true held left = (rest : List ℕ) × Remains held left rest
-Ended false held left = Remains held left []

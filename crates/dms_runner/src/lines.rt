@@ -1,4 +1,4 @@
-ghost use Rattle.std.specs.Prelude.{◌≡◌, ◌≤◌, ◌<◌, ◌+◌, ◌^◌, ◌++◌, [], ◌∷◌, ℕ, List, Bool, true, false, not, Some, None, IfOk, OnOk, IsErrOf, IsTrue, length, OnErr};
+ghost use Rattle.std.specs.Prelude.{◌≡◌, ◌≤◌, ◌<◌, ◌+◌, ◌^◌, ◌++◌, [], ◌∷◌, take, ℕ, List, Bool, true, false, not, Some, None, IfOk, OnOk, IsErrOf, IsTrue, length, OnErr};
 ghost use Rattle.dms_base.specs.Causes.{Rose};
 ghost use Rattle.dms_desc.specs.Shape.{described};
 ghost use Rattle.dms_model.specs.Points.{Prints, PrintsFront};
@@ -34,6 +34,8 @@ fn bad_line<St: Store>(
 ) -> Result<bool, BlockFault>
     requires sound { St.sound engine.old.store }
     requires desc { St.desc engine.old.store ≡ described engine.old.desc }
+    ensures lined { IfOk result (λ on. (g : Going) → Stands (view (St.db engine.old.store) (St.mark engine.old.store) (St.next engine.old.store) engine.old.programs.items engine.old.pending engine.old.since) g.session → g.held ≡ held.old.items → g.line ≡ line → Roomy g → GoesOn (spoken (described engine.old.desc) g (Bad place)) on (view (St.db engine.new.store) (St.mark engine.new.store) (St.next engine.new.store) engine.new.programs.items engine.new.pending engine.new.since) held.new.items (St.said engine.old.store) (St.said engine.new.store)) }
+    ensures part { (g : Going) → Stands (view (St.db engine.old.store) (St.mark engine.old.store) (St.next engine.old.store) engine.old.programs.items engine.old.pending engine.old.since) g.session → g.held ≡ held.old.items → g.line ≡ line → Roomy g → PrintsFront (St.said engine.old.store) (St.said engine.new.store) (spoken (described engine.old.desc) g (Bad place)).text }
     ensures sound { OnOk result (St.sound engine.new.store) }
     ensures description { engine.new.desc ≡ engine.old.desc }
     ensures desc { St.desc engine.new.store ≡ St.desc engine.old.store }
@@ -61,6 +63,8 @@ fn first_try<St: Store>(
 ) -> Result<bool, BlockFault>
     requires sound { St.sound engine.old.store }
     requires desc { St.desc engine.old.store ≡ described engine.old.desc }
+    ensures lined { IfOk result (λ on. (g : Going) → Stands (view (St.db engine.old.store) (St.mark engine.old.store) (St.next engine.old.store) engine.old.programs.items engine.old.pending engine.old.since) g.session → g.held ≡ held.old.items → g.line ≡ line → Roomy g → GoesOn (tried (described engine.old.desc) g name verb (step (described engine.old.desc) g.session name verb)) on (view (St.db engine.new.store) (St.mark engine.new.store) (St.next engine.new.store) engine.new.programs.items engine.new.pending engine.new.since) held.new.items (St.said engine.old.store) (St.said engine.new.store)) }
+    ensures part { (g : Going) → Stands (view (St.db engine.old.store) (St.mark engine.old.store) (St.next engine.old.store) engine.old.programs.items engine.old.pending engine.old.since) g.session → g.held ≡ held.old.items → g.line ≡ line → Roomy g → PrintsFront (St.said engine.old.store) (St.said engine.new.store) (tried (described engine.old.desc) g name verb (step (described engine.old.desc) g.session name verb)).text }
     ensures sound { OnOk result (St.sound engine.new.store) }
     ensures description { engine.new.desc ≡ engine.old.desc }
     ensures desc { St.desc engine.new.store ≡ St.desc engine.old.store }
@@ -101,6 +105,8 @@ fn spoken_line<St: Store>(
 ) -> Result<bool, BlockFault>
     requires sound { St.sound engine.old.store }
     requires desc { St.desc engine.old.store ≡ described engine.old.desc }
+    ensures lined { IfOk result (λ on. (g : Going) → Stands (view (St.db engine.old.store) (St.mark engine.old.store) (St.next engine.old.store) engine.old.programs.items engine.old.pending engine.old.since) g.session → g.held ≡ held.old.items → g.line ≡ line → Roomy g → GoesOn (spoken (described engine.old.desc) g (Spoken name verb)) on (view (St.db engine.new.store) (St.mark engine.new.store) (St.next engine.new.store) engine.new.programs.items engine.new.pending engine.new.since) held.new.items (St.said engine.old.store) (St.said engine.new.store)) }
+    ensures part { (g : Going) → Stands (view (St.db engine.old.store) (St.mark engine.old.store) (St.next engine.old.store) engine.old.programs.items engine.old.pending engine.old.since) g.session → g.held ≡ held.old.items → g.line ≡ line → Roomy g → PrintsFront (St.said engine.old.store) (St.said engine.new.store) (spoken (described engine.old.desc) g (Spoken name verb)).text }
     ensures sound { OnOk result (St.sound engine.new.store) }
     ensures description { engine.new.desc ≡ engine.old.desc }
     ensures desc { St.desc engine.new.store ≡ St.desc engine.old.store }
@@ -137,6 +143,8 @@ pub fn take_line<St: Store>(
 ) -> Result<bool, BlockFault>
     requires sound { St.sound engine.old.store }
     requires desc { St.desc engine.old.store ≡ described engine.old.desc }
+    ensures lined { IfOk result (λ on. (g : Going) (whole : List ℕ) → raw.now ≡ take 2003 whole → Stands (view (St.db engine.old.store) (St.mark engine.old.store) (St.next engine.old.store) engine.old.programs.items engine.old.pending engine.old.since) g.session → g.held ≡ held.old.items → g.line + 1 ≡ line → Roomy g → GoesOn (line_step (described engine.old.desc) g whole) on (view (St.db engine.new.store) (St.mark engine.new.store) (St.next engine.new.store) engine.new.programs.items engine.new.pending engine.new.since) held.new.items (St.said engine.old.store) (St.said engine.new.store)) }
+    ensures part { (g : Going) (whole : List ℕ) → raw.now ≡ take 2003 whole → Stands (view (St.db engine.old.store) (St.mark engine.old.store) (St.next engine.old.store) engine.old.programs.items engine.old.pending engine.old.since) g.session → g.held ≡ held.old.items → g.line + 1 ≡ line → Roomy g → PrintsFront (St.said engine.old.store) (St.said engine.new.store) (line_step (described engine.old.desc) g whole).text }
     ensures sound { OnOk result (St.sound engine.new.store) }
     ensures description { engine.new.desc ≡ engine.old.desc }
     ensures desc { St.desc engine.new.store ≡ St.desc engine.old.store }

@@ -1,9 +1,15 @@
-ghost use Rattle.std.specs.Prelude.{◌≡◌, ◌≤◌, ◌<◌, ◌+◌, ◌^◌, [], ℕ, List, IfOk, OnOk, IsErrOf, length};
+ghost use Rattle.std.specs.Prelude.{◌≡◌, ◌≢◌, ◌≤◌, ◌<◌, ◌+◌, ◌^◌, [], ℕ, List, true, false, IfOk, OnOk, IsErrOf, length};
 ghost use Rattle.dms_block.specs.declared.block_fault.BlockFault.{BlockFault as Fault};
-ghost use Rattle.dms_runner.specs.Trying.{Ended};
 ghost use Rattle.dms_base.specs.Causes.{Rose};
 ghost use Rattle.dms_desc.specs.Shape.{described};
 ghost use Rattle.dms_feed.specs.Feeds.{Remains};
+ghost use Rattle.dms_feed.specs.Lines.{raw_lines, first_line};
+ghost use Rattle.dms_model.specs.Db.{Db};
+ghost use Rattle.dms_model.specs.Points.{Prints, PrintsFront};
+ghost use Rattle.dms_model.specs.Session.{fresh_session};
+ghost use Rattle.dms_storeverbs.specs.View.{view, Stands};
+ghost use Rattle.dms_runner.specs.Answers.{Going, Roomy, line_step, lines_run, unanswered, answers_text};
+ghost use Rattle.dms_runner.specs.Running.{TookLine, Answered, PassesLines, PassesBytes, PassesHeld};
 
 use crate::Held;
 use crate::lines::take_line;
@@ -48,6 +54,8 @@ fn say_held<St: Store>(
 ) -> Result<(), BlockFault>
     requires sound { St.sound engine.old.store }
     requires desc { St.desc engine.old.store ≡ described engine.old.desc }
+    ensures text { OnOk result (Prints (St.said engine.old.store) (St.said engine.new.store) (unanswered held.now)) }
+    ensures part { PrintsFront (St.said engine.old.store) (St.said engine.new.store) (unanswered held.now) }
     ensures sound { OnOk result (St.sound engine.new.store) }
     ensures description { engine.new.desc ≡ engine.old.desc }
     ensures desc { St.desc engine.new.store ≡ St.desc engine.old.store }
@@ -70,6 +78,9 @@ fn say_held<St: Store>(
 fn end_run<St: Store>(alloc: Global, engine: &mut Engine<St>, held: &[Held]) -> Result<(), RunFault>
     requires sound { St.sound engine.old.store }
     requires desc { St.desc engine.old.store ≡ described engine.old.desc }
+    ensures text { OnOk result (Prints (St.said engine.old.store) (St.said engine.new.store) (unanswered held.now)) }
+    ensures part { PrintsFront (St.said engine.old.store) (St.said engine.new.store) (unanswered held.now) }
+    ensures limits { (IsErrOf result RunFault.Lines → ⊥) × (IsErrOf result RunFault.Bytes → ⊥) × (IsErrOf result RunFault.Held → ⊥) }
     ensures sound { OnOk result (St.sound engine.new.store) }
     ensures description { engine.new.desc ≡ engine.old.desc }
     ensures desc { St.desc engine.new.store ≡ St.desc engine.old.store }
@@ -105,12 +116,18 @@ fn one_line<St: Store, I: Source>(
     requires desc { St.desc engine.old.store ≡ described engine.old.desc }
     requires room { room.old ≤ 2147483648 }
     requires line { line < 4294967295 }
+    ensures took { IfOk result (λ more. more ≡ true → (g : Going) (all : List ℕ) → Stands (view (St.db engine.old.store) (St.mark engine.old.store) (St.next engine.old.store) engine.old.programs.items engine.old.pending engine.old.since) g.session → g.held ≡ held.old.items → g.line ≡ line → Roomy g → Remains feed.old (I.left source.old) all → TookLine (described engine.old.desc) g all room.old room.new (view (St.db engine.new.store) (St.mark engine.new.store) (St.next engine.new.store) engine.new.programs.items engine.new.pending engine.new.since) held.new.items feed.new (I.left source.new) (St.said engine.old.store) (St.said engine.new.store)) }
+    ensures none { IfOk result (λ more. more ≡ false → (St.said engine.new.store ≡ St.said engine.old.store) × (held.new ≡ held.old) × ((all : List ℕ) → Remains feed.old (I.left source.old) all → (all ≡ []) × Remains feed.new (I.left source.new) [])) }
+    ensures part { (g : Going) (all : List ℕ) → Stands (view (St.db engine.old.store) (St.mark engine.old.store) (St.next engine.old.store) engine.old.programs.items engine.old.pending engine.old.since) g.session → g.held ≡ held.old.items → g.line ≡ line → Roomy g → Remains feed.old (I.left source.old) all → PrintsFront (St.said engine.old.store) (St.said engine.new.store) (lines_run (described engine.old.desc) g (raw_lines all)).text }
+    ensures bytes { IsErrOf result RunFault.Bytes → (St.said engine.new.store ≡ St.said engine.old.store) × ((all : List ℕ) → Remains feed.old (I.left source.old) all → room.old < length (first_line all)) }
+    ensures full_list { IsErrOf result RunFault.Held → (g : Going) (all : List ℕ) → Stands (view (St.db engine.old.store) (St.mark engine.old.store) (St.next engine.old.store) engine.old.programs.items engine.old.pending engine.old.since) g.session → g.held ≡ held.old.items → g.line ≡ line → Roomy g → Remains feed.old (I.left source.old) all → Prints (St.said engine.old.store) (St.said engine.new.store) [] × (all ≢ []) × ((line_step (described engine.old.desc) g (first_line all)).full ≡ true) }
+    ensures no_lines { IsErrOf result RunFault.Lines → ⊥ }
+    ensures rest { OnOk result ((all : List ℕ) → Remains feed.old (I.left source.old) all → (rest : List ℕ) × Remains feed.new (I.left source.new) rest) }
     ensures sound { OnOk result (St.sound engine.new.store) }
     ensures description { engine.new.desc ≡ engine.old.desc }
     ensures desc { St.desc engine.new.store ≡ St.desc engine.old.store }
     ensures same { St.same_store engine.old.store engine.new.store }
     ensures later { (St.disk_faults engine.old.store ≤ St.disk_faults engine.new.store) × (St.say_faults engine.old.store ≤ St.say_faults engine.new.store) × (St.fulls engine.old.store ≤ St.fulls engine.new.store) × (St.damages engine.old.store ≤ St.damages engine.new.store) }
-    ensures end { IfOk result (λ more. (all : List ℕ) → Remains feed.old (I.left source.old) all → Ended more feed.new (I.left source.new)) }
     ensures room { room.new ≤ room.old }
     ensures same_source { I.same_source source.old source.new }
     ensures taken { I.faults source.old ≤ I.faults source.new }
@@ -138,7 +155,9 @@ fn one_line<St: Store, I: Source>(
 
 /// What follows the last line that a script may have: the input's end, or a line too many.
 fn after_last<I: Source>(alloc: Global, feed: &mut Feed, source: &mut I) -> Result<(), RunFault>
-    ensures end { OnOk result ((all : List ℕ) → Remains feed.old (I.left source.old) all → Remains feed.new (I.left source.new) []) }
+    ensures end { OnOk result ((all : List ℕ) → Remains feed.old (I.left source.old) all → (all ≡ []) × Remains feed.new (I.left source.new) []) }
+    ensures lines { IsErrOf result RunFault.Lines → (all : List ℕ) → Remains feed.old (I.left source.old) all → all ≢ [] }
+    ensures limits { (IsErrOf result RunFault.Bytes → ⊥) × (IsErrOf result RunFault.Held → ⊥) }
     ensures same_source { I.same_source source.old source.new }
     ensures taken { I.faults source.old ≤ I.faults source.new }
     ensures input { IsErrOf result RunFault.Input → Rose (I.faults source.old) (I.faults source.new) }
@@ -164,6 +183,11 @@ pub fn run_lines<St: Store, I: Source>(
 ) -> Result<(), RunFault>
     requires sound { St.sound engine.old.store }
     requires desc { St.desc engine.old.store ≡ described engine.old.desc }
+    ensures answers { OnOk result ((db : Db) (first : ℕ) (all : List ℕ) → Stands (view (St.db engine.old.store) (St.mark engine.old.store) (St.next engine.old.store) engine.old.programs.items engine.old.pending engine.old.since) (fresh_session db first) → first + 1000003 < 2 ^ 64 → Remains feed.old (I.left source.old) all → Answered (described engine.old.desc) db first (raw_lines all) (St.said engine.old.store) (St.said engine.new.store)) }
+    ensures part { (db : Db) (first : ℕ) (all : List ℕ) → Stands (view (St.db engine.old.store) (St.mark engine.old.store) (St.next engine.old.store) engine.old.programs.items engine.old.pending engine.old.since) (fresh_session db first) → first + 1000003 < 2 ^ 64 → Remains feed.old (I.left source.old) all → PrintsFront (St.said engine.old.store) (St.said engine.new.store) (answers_text (described engine.old.desc) db first (raw_lines all)) }
+    ensures lines { IsErrOf result RunFault.Lines → (db : Db) (first : ℕ) (all : List ℕ) → Stands (view (St.db engine.old.store) (St.mark engine.old.store) (St.next engine.old.store) engine.old.programs.items engine.old.pending engine.old.since) (fresh_session db first) → first + 1000003 < 2 ^ 64 → Remains feed.old (I.left source.old) all → PassesLines (described engine.old.desc) db first (raw_lines all) (St.said engine.old.store) (St.said engine.new.store) }
+    ensures bytes { IsErrOf result RunFault.Bytes → (db : Db) (first : ℕ) (all : List ℕ) → Stands (view (St.db engine.old.store) (St.mark engine.old.store) (St.next engine.old.store) engine.old.programs.items engine.old.pending engine.old.since) (fresh_session db first) → first + 1000003 < 2 ^ 64 → Remains feed.old (I.left source.old) all → PassesBytes (described engine.old.desc) db first (raw_lines all) (St.said engine.old.store) (St.said engine.new.store) }
+    ensures full_list { IsErrOf result RunFault.Held → (db : Db) (first : ℕ) (all : List ℕ) → Stands (view (St.db engine.old.store) (St.mark engine.old.store) (St.next engine.old.store) engine.old.programs.items engine.old.pending engine.old.since) (fresh_session db first) → first + 1000003 < 2 ^ 64 → Remains feed.old (I.left source.old) all → PassesHeld (described engine.old.desc) db first (raw_lines all) (St.said engine.old.store) (St.said engine.new.store) }
     ensures sound { OnOk result (St.sound engine.new.store) }
     ensures description { engine.new.desc ≡ engine.old.desc }
     ensures desc { St.desc engine.new.store ≡ St.desc engine.old.store }

@@ -1,3 +1,4 @@
 pub mod Judgements
+pub mod Printing
 pub mod Taken
 pub mod Words

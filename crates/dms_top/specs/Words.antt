@@ -17,3 +17,14 @@ IsPast Memory = ⊥
 IsPast (Limit l) = ⊤
 IsPast SayFault = ⊤
 IsPast DiskFault = ⊤
+
+-- the statuses that come before anything is printed
+abbrev pub IsSilent : Status → Type 0
+IsSilent Ok = ⊥
+IsSilent BadWords = ⊤
+IsSilent (SchemaRefused f) = ⊤
+IsSilent InputFault = ⊥
+IsSilent Memory = ⊥
+IsSilent (Limit l) = ⊥
+IsSilent SayFault = ⊥
+IsSilent DiskFault = ⊥

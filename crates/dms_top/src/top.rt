@@ -1,9 +1,12 @@
-ghost use Rattle.std.specs.Prelude.{◌≡◌, ◌≤◌, ◌↔◌, [], ℕ, List, Some, Err, map, string_bytes, IsTrue, IsOk};
+ghost use Rattle.std.specs.Prelude.{◌≡◌, ◌≤◌, ◌↔◌, [], ℕ, List, Some, Ok, Err, map, string_bytes, IsTrue, IsOk};
 ghost use Rattle.dms_base.specs.Causes.{Rose};
 ghost use Rattle.dms_top.specs.declared.status.SchemaFault.{SchemaFault as Refusal};
 ghost use Rattle.dms_top.specs.Judging.{judged};
 ghost use Rattle.dms_top.specs.Schema.{schema_text as text_of};
-ghost use Rattle.dms_top.specs.Words.{IsTry, IsPast};
+ghost use Rattle.dms_desc.specs.Shape.{Described};
+ghost use Rattle.dms_top.specs.declared.status.LimitKind.{LimitKind as Kind};
+ghost use Rattle.dms_top.specs.Answering.{Printed, PrintedFront, WithinLimits, Passes, try_text, script_of};
+ghost use Rattle.dms_top.specs.Words.{IsTry, IsPast, IsSilent};
 
 use crate::judge::{Judged, judge};
 use crate::schema::{TextFault, schema_text};
@@ -32,6 +35,11 @@ pub fn dms<S: Site, I: Source>(
     ensures refused { (f : Refusal) → result ≡ Status.SchemaRefused f → (all : List ℕ) → I.left input.old ≡ Some all → judged (text_of all) ≡ Err f }
     ensures accepted { IsPast result → (all : List ℕ) → I.left input.old ≡ Some all → IsOk (judged (text_of all)) }
     ensures end { result ≡ Status.Ok → (all : List ℕ) → I.left input.old ≡ Some all → I.left input.new ≡ Some [] }
+    ensures answers { result ≡ Status.Ok → IsTrue S.tells_said → (all : List ℕ) → I.left input.old ≡ Some all → Printed (S.said site.old) (S.said site.new) (try_text all) }
+    ensures part { IsTrue S.tells_said → (all : List ℕ) → I.left input.old ≡ Some all → PrintedFront (S.said site.old) (S.said site.new) (try_text all) }
+    ensures silent { IsTrue S.tells_said → IsSilent result → S.said site.new ≡ S.said site.old }
+    ensures within { result ≡ Status.Ok → IsTrue S.tells_said → (all : List ℕ) → I.left input.old ≡ Some all → (d : Described) → judged (text_of all) ≡ Ok d → WithinLimits d (script_of all) }
+    ensures limit { (k : Kind) → result ≡ Status.Limit k → IsTrue S.tells_said → (all : List ℕ) → I.left input.old ≡ Some all → (d : Described) → judged (text_of all) ≡ Ok d → Passes k d (script_of all) (S.said site.old) (S.said site.new) }
     ensures input { result ≡ Status.InputFault → Rose (I.faults input.old) (I.faults input.new) }
     ensures disk { result ≡ Status.DiskFault → Rose (S.disk_faults site.old) (S.disk_faults site.new) }
     ensures say { result ≡ Status.SayFault → Rose (S.say_faults site.old) (S.say_faults site.new) }

@@ -1,6 +1,12 @@
 ghost use Rattle.std.specs.Prelude.{◌≡◌, ◌≢◌, ◌≤◌, [], ℕ, List, IsTrue, IsOk, IsErrOf};
 ghost use Rattle.dms_base.specs.Causes.{Rose};
+ghost use Rattle.dms_desc.specs.Shape.{described};
 ghost use Rattle.dms_feed.specs.Feeds.{Remains};
+ghost use Rattle.dms_feed.specs.Lines.{raw_lines};
+ghost use Rattle.dms_model.specs.Db.{empty_db};
+ghost use Rattle.dms_runner.specs.Answers.{answers_text};
+ghost use Rattle.dms_top.specs.Answering.{Printed, PrintedFront, WithinLimits, Passes};
+ghost use Rattle.dms_top.specs.declared.status.LimitKind.{LimitKind as Kind};
 ghost use Rattle.dms_top.specs.declared.status.SchemaFault.{SchemaFault as Refusal};
 
 use crate::status::{LimitKind, Status};
@@ -21,6 +27,9 @@ fn status_of(fault: RunFault) -> Status
     ensures input { result ≡ Status.InputFault → fault ≡ RunFault.Input }
     ensures disk { result ≡ Status.DiskFault → fault ≡ RunFault.Block BlockFault.Disk }
     ensures say { result ≡ Status.SayFault → fault ≡ RunFault.Block BlockFault.Say }
+    ensures lines { result ≡ Status.Limit LimitKind.Lines → fault ≡ RunFault.Lines }
+    ensures bytes { result ≡ Status.Limit LimitKind.Bytes → fault ≡ RunFault.Bytes }
+    ensures held { result ≡ Status.Limit LimitKind.Held → fault ≡ RunFault.Held }
 {
     match fault {
         RunFault::Block(BlockFault::Disk) => Status::DiskFault,
@@ -42,6 +51,9 @@ fn status_after(ran: Result<(), RunFault>) -> Status
     ensures input { result ≡ Status.InputFault → IsErrOf ran RunFault.Input }
     ensures disk { result ≡ Status.DiskFault → IsErrOf ran (RunFault.Block BlockFault.Disk) }
     ensures say { result ≡ Status.SayFault → IsErrOf ran (RunFault.Block BlockFault.Say) }
+    ensures lines { result ≡ Status.Limit LimitKind.Lines → IsErrOf ran RunFault.Lines }
+    ensures bytes { result ≡ Status.Limit LimitKind.Bytes → IsErrOf ran RunFault.Bytes }
+    ensures held { result ≡ Status.Limit LimitKind.Held → IsErrOf ran RunFault.Held }
 {
     match ran {
         Ok(()) => Status::Ok,
@@ -60,6 +72,9 @@ pub fn try_lines<S: Site, I: Source>(
     ensures words { result ≢ Status.BadWords }
     ensures schema { (f : Refusal) → result ≢ Status.SchemaRefused f }
     ensures end { result ≡ Status.Ok → (all : List ℕ) → Remains feed.old (I.left source.old) all → Remains feed.new (I.left source.new) [] }
+    ensures answers { result ≡ Status.Ok → IsTrue S.tells_said → (all : List ℕ) → Remains feed.old (I.left source.old) all → Printed (S.said site.old) (S.said site.new) (answers_text (described desc.now) empty_db 1 (raw_lines all)) × WithinLimits (described desc.now) (raw_lines all) }
+    ensures part { IsTrue S.tells_said → (all : List ℕ) → Remains feed.old (I.left source.old) all → PrintedFront (S.said site.old) (S.said site.new) (answers_text (described desc.now) empty_db 1 (raw_lines all)) }
+    ensures limit { (k : Kind) → result ≡ Status.Limit k → IsTrue S.tells_said → (all : List ℕ) → Remains feed.old (I.left source.old) all → Passes k (described desc.now) (raw_lines all) (S.said site.old) (S.said site.new) }
     ensures input { result ≡ Status.InputFault → Rose (I.faults source.old) (I.faults source.new) }
     ensures disk { result ≡ Status.DiskFault → Rose (S.disk_faults site.old) (S.disk_faults site.new) }
     ensures say { result ≡ Status.SayFault → Rose (S.say_faults site.old) (S.say_faults site.new) }

@@ -1,14 +1,74 @@
-use Rattle.std.proofs.Common.{◌≡◌, List, ℕ, [], ap, subst}
+use Rattle.std.proofs.Common.{◌≡◌, ◌≢◌, ◌+◌, ◌<◌, ◌≤◌, ◌∙◌, List, ℕ, [], Ok, Err, true, false, refl, sym, ap, subst, arith, length, take}
+use Rattle.dms_desc.specs.Shape.{described}
 use Rattle.dms_feed.specs.Feeds.{Remains}
-use Rattle.dms_feed.specs.Lines.{after_line}
+use Rattle.dms_feed.specs.Lines.{after_line, first_line, raw_lines}
+use Rattle.dms_model.specs.Points.{Prints, PrintsFront}
+use Rattle.dms_storeverbs.specs.View.{view, Stands}
+use Rattle.dms_runner.specs.Answers.{Going, lines_run, line_step}
+use Rattle.dms_runner.specs.Trying.{GoesOn}
+use Rattle.dms_runner.specs.Running.{TookLine}
+use Rattle.dms_runner.proofs.Texts.{front_none, front_all, prints_none}
+use Rattle.dms_runner.proofs.Lining.{line_silent}
+use Rattle.dms_runner.proofs.Running.{line_part}
 use Rattle.dms_runner.proofs.run.one_line.Goals as goal
 
-pub returns-in-Ok-None-clause-end : goal.returns-in-Ok-None-clause-end
-returns-in-Ok-None-clause-end g c = λ all remains.
-    let e = (rw c.in-Ok-None.field-0-is at c.in-Ok-None.ensures.line) all remains in
-    subst (λ (r : List ℕ). Remains c.next_raw.new.feed (g.I.Source.left c.next_raw.new.source) r) (ap after_line e.0) e.1
+pub returns-in-Err-Input-clause-part : goal.returns-in-Err-Input-clause-part
+returns-in-Err-Input-clause-part g c = λ now all stands same line room remains. front_none _ _ _ refl
 
-pub returns-in-Ok-true-clause-end : goal.returns-in-Ok-true-clause-end
-returns-in-Ok-true-clause-end g c = λ all remains.
+pub returns-in-Err-Memory-clause-part : goal.returns-in-Err-Memory-clause-part
+returns-in-Err-Memory-clause-part g c = λ now all stands same line room remains. front_none _ _ _ refl
+
+pub returns-in-Err-Bytes-clause-part : goal.returns-in-Err-Bytes-clause-part
+returns-in-Err-Bytes-clause-part g c = λ now all stands same line room remains. front_none _ _ _ refl
+
+pub returns-in-Err-Bytes-clause-bytes : goal.returns-in-Err-Bytes-clause-bytes
+returns-in-Err-Bytes-clause-bytes g c = λ _. (refl, λ all remains. c.in-Err-Bytes.ensures.bytes (ap Err c.in-Err-Bytes.field-0-is) all remains)
+
+pub returns-in-Ok-None-clause-none : goal.returns-in-Ok-None-clause-none
+returns-in-Ok-None-clause-none g c = λ _. (refl, refl, λ all remains.
+    let e = (rw c.in-Ok-None.field-0-is at c.in-Ok-None.ensures.line) all remains in
+    (e.0, subst (λ (r : List ℕ). Remains c.next_raw.new.feed (g.I.Source.left c.next_raw.new.source) r) (ap after_line e.0) e.1))
+
+pub returns-in-Ok-None-clause-part : goal.returns-in-Ok-None-clause-part
+returns-in-Ok-None-clause-part g c = λ now all stands same line room remains. front_none _ _ _ refl
+
+pub returns-in-Ok-true-clause-took : goal.returns-in-Ok-true-clause-took
+returns-in-Ok-true-clause-took g c = λ _ now all stands same line room remains.
+    let e = (rw c.in-Ok-Some.field-0-is at c.in-Ok-Some.ensures.line) all remains in
+    record {
+      some = e.0.0;
+      remains = e.1;
+      bytes = omega (arith, c.saturating_sub.ensures, e.0.2, e.0.3);
+      goes = (rw c.in-Ok-true.field-0-test at c.in-Ok-true.ensures.lined) now (first_line all) (c.as_slice.ensures ∙ e.0.1) stands same (ap (λ (n : ℕ). n + 1) line) room;
+    }
+
+pub returns-in-Ok-true-clause-part : goal.returns-in-Ok-true-clause-part
+returns-in-Ok-true-clause-part g c = λ now all stands same line room remains.
+    let e = (rw c.in-Ok-Some.field-0-is at c.in-Ok-Some.ensures.line) all remains in
+    line_part _ now all _ _ e.0.0 (c.take_line.ensures.part now (first_line all) (c.as_slice.ensures ∙ e.0.1) stands same (ap (λ (n : ℕ). n + 1) line) room)
+
+pub returns-in-Ok-false-clause-full_list : goal.returns-in-Ok-false-clause-full_list
+returns-in-Ok-false-clause-full_list g c = λ _ now all stands same line room remains.
+    let e = (rw c.in-Ok-Some.field-0-is at c.in-Ok-Some.ensures.line) all remains in
+    let goes = (rw c.in-Ok-false.field-0-test at c.in-Ok-false.ensures.lined) now (first_line all) (c.as_slice.ensures ∙ e.0.1) stands same (ap (λ (n : ℕ). n + 1) line) room in
+    (subst (λ (t : List ℕ). Prints (g.St.Store.said c.args.engine.now.store) (g.St.Store.said c.take_line.new.engine.store) t) (line_silent (described c.args.engine.now.desc) now (first_line all) goes.full) goes.text, e.0.0, goes.full)
+
+pub returns-in-Ok-false-clause-part : goal.returns-in-Ok-false-clause-part
+returns-in-Ok-false-clause-part g c = λ now all stands same line room remains.
+    let e = (rw c.in-Ok-Some.field-0-is at c.in-Ok-Some.ensures.line) all remains in
+    line_part _ now all _ _ e.0.0 (c.take_line.ensures.part now (first_line all) (c.as_slice.ensures ∙ e.0.1) stands same (ap (λ (n : ℕ). n + 1) line) room)
+
+pub returns-clause-part : goal.returns-clause-part
+returns-clause-part g c = λ now all stands same line room remains.
+    let e = (rw c.in-Ok-Some.field-0-is at c.in-Ok-Some.ensures.line) all remains in
+    line_part _ now all _ _ e.0.0 (c.take_line.ensures.part now (first_line all) (c.as_slice.ensures ∙ e.0.1) stands same (ap (λ (n : ℕ). n + 1) line) room)
+
+pub returns-in-Ok-None-clause-rest : goal.returns-in-Ok-None-clause-rest
+returns-in-Ok-None-clause-rest g c = λ all remains.
+    let e = (rw c.in-Ok-None.field-0-is at c.in-Ok-None.ensures.line) all remains in
+    (after_line all, e.1)
+
+pub returns-in-Ok-true-clause-rest : goal.returns-in-Ok-true-clause-rest
+returns-in-Ok-true-clause-rest g c = λ all remains.
     let e = (rw c.in-Ok-Some.field-0-is at c.in-Ok-Some.ensures.line) all remains in
     (after_line all, e.1)

@@ -1,13 +1,88 @@
-use Rattle.std.proofs.Common.{◌≡◌, ◌∙◌, ap, sym, List, ℕ, [], arith}
+use Rattle.std.proofs.Common.{◌≡◌, ◌+◌, ◌<◌, ◌≤◌, ◌^◌, ◌∙◌, ap, refl, sym, subst, Vec, Global, List, ℕ, [], true, false, arith, length}
+use Rattle.dms_desc.specs.declared.description.Description.{Description}
 use Rattle.dms_desc.specs.Shape.{described}
 use Rattle.dms_feed.specs.Feeds.{Remains}
-use Rattle.dms_runner.proofs.Always.{always_ok}
+use Rattle.dms_feed.specs.Lines.{raw_lines}
+use Rattle.dms_model.specs.Db.{Db}
+use Rattle.dms_model.specs.Points.{Prints, PrintsFront}
+use Rattle.dms_model.specs.Session.{fresh_session}
+use Rattle.dms_storeverbs.specs.View.{view, Stands}
+use Rattle.dms_runner.specs.declared.held.Held.{Held}
+use Rattle.dms_runner.specs.Answers.{begun, lines_run, unanswered, answers_text}
+use Rattle.dms_runner.specs.Running.{Answered, PassesBytes, PassesHeld}
+use Rattle.dms_runner.proofs.Always.{always_ok, then_on, fault_as}
+use Rattle.dms_runner.proofs.Texts.{front_none, front_before, prints_none, prints_before}
+use Rattle.dms_runner.proofs.Running.{Runs, runs_start, runs_room, runs_on, runs_lines, runs_bytes, runs_held, runs_end, runs_part, runs_end_part}
 use Rattle.dms_runner.proofs.run.run_lines.Goals as goal
+
+pub loop-line-init : goal.loop-line-init
+loop-line-init g c = record {
+  sound = c.requires.sound;
+  description = refl;
+  desc = c.requires.desc;
+  kept = refl;
+  same = g.met.St.Store.same_again _;
+  disk = omega arith;
+  say = omega arith;
+  full = omega arith;
+  damaged = omega arith;
+  taken = omega arith;
+  same_source = g.met.I.Source.same_again _;
+  small = omega arith;
+  few = omega arith;
+  rest = λ all remains. (all, remains);
+  runs = λ db first all stands small remains. subst (λ (hs : List Held). Runs (described c.args.engine.now.desc) (begun db first) 0 2147483648 all (view (g.St.Store.db c.args.engine.now.store) (g.St.Store.mark c.args.engine.now.store) (g.St.Store.next c.args.engine.now.store) c.args.engine.now.programs.items c.args.engine.now.pending c.args.engine.now.since) hs c.args.feed.now (g.I.Source.left c.args.source.now) (g.St.Store.said c.args.engine.now.store) (g.St.Store.said c.args.engine.now.store)) (sym c.new-held.ensures.items) (runs_start _ db first all _ _ _ _ stands remains);
+}
+
+pub returns-in-Err-clause-part : goal.returns-in-Err-clause-part
+returns-in-Err-clause-part g c = λ db first all stands small remains.
+    let r = subst (λ (d : Description). Runs (described d) (begun db first) c.loop-line.line c.loop-line.room all (view (g.St.Store.db c.loop-line.engine.store) (g.St.Store.mark c.loop-line.engine.store) (g.St.Store.next c.loop-line.engine.store) c.loop-line.engine.programs.items c.loop-line.engine.pending c.loop-line.engine.since) c.loop-line.held.items c.loop-line.feed (g.I.Source.left c.loop-line.source) (g.St.Store.said c.args.engine.now.store) (g.St.Store.said c.loop-line.engine.store)) (sym c.loop-line.invariant.description) (c.loop-line.invariant.runs db first all stands small remains) in
+    subst (λ (d : Description). PrintsFront (g.St.Store.said c.args.engine.now.store) (g.St.Store.said c.one_line.new.engine.store) (answers_text (described d) db first (raw_lines all))) c.loop-line.invariant.description (runs_part _ db first _ _ all _ _ _ _ _ _ _ r (c.one_line.ensures.part (lines_run (described c.loop-line.engine.desc) (begun db first) r.done).going r.rest r.stands (sym r.held_is) r.line (runs_room (described c.loop-line.engine.desc) db first _ _ all _ _ _ _ _ _ r (omega (arith, c.loop-line-test.true)) small) r.remains))
+
+pub returns-in-Err-clause-lines : goal.returns-in-Err-clause-lines
+returns-in-Err-clause-lines g c = λ e. absurd (c.in-Err.ensures.no_lines (fault_as _ _ c.in-Err.fault _ refl refl e))
+
+pub returns-in-Err-clause-bytes : goal.returns-in-Err-clause-bytes
+returns-in-Err-clause-bytes g c = λ e db first all stands small remains.
+    let r = subst (λ (d : Description). Runs (described d) (begun db first) c.loop-line.line c.loop-line.room all (view (g.St.Store.db c.loop-line.engine.store) (g.St.Store.mark c.loop-line.engine.store) (g.St.Store.next c.loop-line.engine.store) c.loop-line.engine.programs.items c.loop-line.engine.pending c.loop-line.engine.since) c.loop-line.held.items c.loop-line.feed (g.I.Source.left c.loop-line.source) (g.St.Store.said c.args.engine.now.store) (g.St.Store.said c.loop-line.engine.store)) (sym c.loop-line.invariant.description) (c.loop-line.invariant.runs db first all stands small remains) in
+    let b = c.in-Err.ensures.bytes (fault_as _ _ c.in-Err.fault _ refl refl e) in
+    subst (λ (d : Description). PassesBytes (described d) db first (raw_lines all) (g.St.Store.said c.args.engine.now.store) (g.St.Store.said c.one_line.new.engine.store)) c.loop-line.invariant.description (runs_bytes _ db first _ _ all _ _ _ _ _ _ _ r (prints_none _ _ b.0) (b.1 r.rest r.remains))
+
+pub returns-in-Err-clause-full_list : goal.returns-in-Err-clause-full_list
+returns-in-Err-clause-full_list g c = λ e db first all stands small remains.
+    let r = subst (λ (d : Description). Runs (described d) (begun db first) c.loop-line.line c.loop-line.room all (view (g.St.Store.db c.loop-line.engine.store) (g.St.Store.mark c.loop-line.engine.store) (g.St.Store.next c.loop-line.engine.store) c.loop-line.engine.programs.items c.loop-line.engine.pending c.loop-line.engine.since) c.loop-line.held.items c.loop-line.feed (g.I.Source.left c.loop-line.source) (g.St.Store.said c.args.engine.now.store) (g.St.Store.said c.loop-line.engine.store)) (sym c.loop-line.invariant.description) (c.loop-line.invariant.runs db first all stands small remains) in
+    let f = c.in-Err.ensures.full_list (fault_as _ _ c.in-Err.fault _ refl refl e) (lines_run (described c.loop-line.engine.desc) (begun db first) r.done).going r.rest r.stands (sym r.held_is) r.line (runs_room (described c.loop-line.engine.desc) db first _ _ all _ _ _ _ _ _ r (omega (arith, c.loop-line-test.true)) small) r.remains in
+    subst (λ (d : Description). PassesHeld (described d) db first (raw_lines all) (g.St.Store.said c.args.engine.now.store) (g.St.Store.said c.one_line.new.engine.store)) c.loop-line.invariant.description (runs_held _ db first _ _ all _ _ _ _ _ _ _ r f.0 f.1 f.2)
+
+pub returns-in-Ok-false-clause-answers : goal.returns-in-Ok-false-clause-answers
+returns-in-Ok-false-clause-answers g c = then_on c.end_run.result _ _ (λ text.
+    λ db first all stands small remains.
+    let none = (rw c.in-Ok-false.field-0-test at c.in-Ok-false.ensures.none) refl in
+    let r = c.loop-line.invariant.runs db first all stands small remains in
+    let last : Prints (g.St.Store.said c.loop-line.engine.store) (g.St.Store.said c.end_run.new.engine.store) (unanswered c.loop-line.held.items) = prints_before _ _ _ _ none.0 (subst (λ (l : List Held). Prints (g.St.Store.said c.one_line.new.engine.store) (g.St.Store.said c.end_run.new.engine.store) (unanswered l)) (c.as_slice.ensures.value ∙ ap (λ (v : Vec Held Global). v.items) none.1) text) in
+    runs_end _ db first _ _ all _ _ _ _ _ _ _ r c.loop-line.invariant.few (none.2 r.rest r.remains).0 last) c.end_run.ensures.text
+
+pub returns-in-Ok-false-clause-part : goal.returns-in-Ok-false-clause-part
+returns-in-Ok-false-clause-part g c = λ db first all stands small remains.
+    let none = (rw c.in-Ok-false.field-0-test at c.in-Ok-false.ensures.none) refl in
+    let r = c.loop-line.invariant.runs db first all stands small remains in
+    let last : PrintsFront (g.St.Store.said c.loop-line.engine.store) (g.St.Store.said c.end_run.new.engine.store) (unanswered c.loop-line.held.items) = front_before _ _ _ _ none.0 (subst (λ (l : List Held). PrintsFront (g.St.Store.said c.one_line.new.engine.store) (g.St.Store.said c.end_run.new.engine.store) (unanswered l)) (c.as_slice.ensures.value ∙ ap (λ (v : Vec Held Global). v.items) none.1) c.end_run.ensures.part) in
+    runs_end_part _ db first _ _ all _ _ _ _ _ _ _ r (none.2 r.rest r.remains).0 last
+
+pub returns-in-Ok-false-clause-lines : goal.returns-in-Ok-false-clause-lines
+returns-in-Ok-false-clause-lines g c = λ e. absurd (c.end_run.ensures.limits.0 e)
+
+pub returns-in-Ok-false-clause-bytes : goal.returns-in-Ok-false-clause-bytes
+returns-in-Ok-false-clause-bytes g c = λ e. absurd (c.end_run.ensures.limits.1 e)
+
+pub returns-in-Ok-false-clause-full_list : goal.returns-in-Ok-false-clause-full_list
+returns-in-Ok-false-clause-full_list g c = λ e. absurd (c.end_run.ensures.limits.2 e)
 
 pub returns-in-Ok-false-clause-end : goal.returns-in-Ok-false-clause-end
 returns-in-Ok-false-clause-end g c = always_ok c.end_run.result _ (λ all remains.
+    let none = (rw c.in-Ok-false.field-0-test at c.in-Ok-false.ensures.none) refl in
     let kept = c.loop-line.invariant.rest all remains in
-    (rw c.in-Ok-false.field-0-test at c.in-Ok-false.ensures.end) kept.0 kept.1)
+    (none.2 kept.0 kept.1).1)
 
 pub returns-in-Ok-false-clause-same_source : goal.returns-in-Ok-false-clause-same_source
 returns-in-Ok-false-clause-same_source g c = g.met.I.Source.same_then _ _ _ c.loop-line.invariant.same_source c.one_line.ensures.same_source
@@ -26,10 +101,58 @@ loop-line-preserved g c = record {
   taken = omega (arith, c.loop-line.invariant.taken, c.one_line.ensures.taken);
   same_source = g.met.I.Source.same_then _ _ _ c.loop-line.invariant.same_source c.one_line.ensures.same_source;
   small = omega (arith, c.loop-line.invariant.small, c.one_line.ensures.room);
+  few = omega (arith, c.loop-line-test.true);
   rest = λ all remains.
       let kept = c.loop-line.invariant.rest all remains in
-      (rw c.in-Ok-true.field-0-test at c.in-Ok-true.ensures.end) kept.0 kept.1;
+      c.in-Ok-true.ensures.rest kept.0 kept.1;
+  runs = λ db first all stands small remains.
+      let r = subst (λ (d : Description). Runs (described d) (begun db first) c.loop-line.line c.loop-line.room all (view (g.St.Store.db c.loop-line.engine.store) (g.St.Store.mark c.loop-line.engine.store) (g.St.Store.next c.loop-line.engine.store) c.loop-line.engine.programs.items c.loop-line.engine.pending c.loop-line.engine.since) c.loop-line.held.items c.loop-line.feed (g.I.Source.left c.loop-line.source) (g.St.Store.said c.args.engine.now.store) (g.St.Store.said c.loop-line.engine.store)) (sym c.loop-line.invariant.description) (c.loop-line.invariant.runs db first all stands small remains) in
+      subst (λ (d : Description). Runs (described d) (begun db first) (c.loop-line.line + 1) c.one_line.new.room all (view (g.St.Store.db c.one_line.new.engine.store) (g.St.Store.mark c.one_line.new.engine.store) (g.St.Store.next c.one_line.new.engine.store) c.one_line.new.engine.programs.items c.one_line.new.engine.pending c.one_line.new.engine.since) c.one_line.new.held.items c.one_line.new.feed (g.I.Source.left c.one_line.new.source) (g.St.Store.said c.args.engine.now.store) (g.St.Store.said c.one_line.new.engine.store)) c.loop-line.invariant.description (runs_on _ (begun db first) _ _ _ all _ _ _ _ _ _ _ _ _ _ _ r ((rw c.in-Ok-true.field-0-test at c.in-Ok-true.ensures.took) refl (lines_run (described c.loop-line.engine.desc) (begun db first) r.done).going r.rest r.stands (sym r.held_is) r.line (runs_room (described c.loop-line.engine.desc) db first _ _ all _ _ _ _ _ _ r (omega (arith, c.loop-line-test.true)) small) r.remains));
 }
+
+pub returns-in-Err-after_last-clause-part : goal.returns-in-Err-after_last-clause-part
+returns-in-Err-after_last-clause-part g c = λ db first all stands small remains.
+    let r = c.loop-line.invariant.runs db first all stands small remains in
+    runs_part _ db first _ _ all _ _ _ _ _ _ _ r (front_none _ _ _ refl)
+
+pub returns-in-Err-after_last-clause-lines : goal.returns-in-Err-after_last-clause-lines
+returns-in-Err-after_last-clause-lines g c = λ e db first all stands small remains.
+    let r = c.loop-line.invariant.runs db first all stands small remains in
+    runs_lines _ db first _ _ all _ _ _ _ _ _ _ r (prints_none _ _ refl) (omega (arith, c.loop-line-test.false, c.loop-line.invariant.few)) (c.in-Err-after_last.ensures.lines e r.rest r.remains)
+
+pub returns-in-Err-after_last-clause-bytes : goal.returns-in-Err-after_last-clause-bytes
+returns-in-Err-after_last-clause-bytes g c = λ e. absurd (c.in-Err-after_last.ensures.limits.0 e)
+
+pub returns-in-Err-after_last-clause-full_list : goal.returns-in-Err-after_last-clause-full_list
+returns-in-Err-after_last-clause-full_list g c = λ e. absurd (c.in-Err-after_last.ensures.limits.1 e)
+
+pub returns-in-Err-after_last-clause-same_source : goal.returns-in-Err-after_last-clause-same_source
+returns-in-Err-after_last-clause-same_source g c = g.met.I.Source.same_then _ _ _ c.loop-line.invariant.same_source c.after_last.ensures.same_source
+
+pub returns-clause-answers : goal.returns-clause-answers
+returns-clause-answers g c = then_on c.end_run-2.result _ _ (λ text.
+    λ db first all stands small remains.
+    let r = c.loop-line.invariant.runs db first all stands small remains in
+    let last : Prints (g.St.Store.said c.loop-line.engine.store) (g.St.Store.said c.end_run-2.new.engine.store) (unanswered c.loop-line.held.items) = subst (λ (l : List Held). Prints (g.St.Store.said c.loop-line.engine.store) (g.St.Store.said c.end_run-2.new.engine.store) (unanswered l)) c.as_slice-2.ensures.value text in
+    runs_end _ db first _ _ all _ _ _ _ _ _ _ r c.loop-line.invariant.few (c.in-Ok.ensures.end r.rest r.remains).0 last) c.end_run-2.ensures.text
+
+pub returns-clause-part : goal.returns-clause-part
+returns-clause-part g c = λ db first all stands small remains.
+    let r = c.loop-line.invariant.runs db first all stands small remains in
+    let last : PrintsFront (g.St.Store.said c.loop-line.engine.store) (g.St.Store.said c.end_run-2.new.engine.store) (unanswered c.loop-line.held.items) = subst (λ (l : List Held). PrintsFront (g.St.Store.said c.loop-line.engine.store) (g.St.Store.said c.end_run-2.new.engine.store) (unanswered l)) c.as_slice-2.ensures.value c.end_run-2.ensures.part in
+    runs_end_part _ db first _ _ all _ _ _ _ _ _ _ r (c.in-Ok.ensures.end r.rest r.remains).0 last
+
+pub returns-clause-lines : goal.returns-clause-lines
+returns-clause-lines g c = λ e. absurd (c.end_run-2.ensures.limits.0 e)
+
+pub returns-clause-bytes : goal.returns-clause-bytes
+returns-clause-bytes g c = λ e. absurd (c.end_run-2.ensures.limits.1 e)
+
+pub returns-clause-full_list : goal.returns-clause-full_list
+returns-clause-full_list g c = λ e. absurd (c.end_run-2.ensures.limits.2 e)
+
+pub returns-clause-same : goal.returns-clause-same
+returns-clause-same g c = g.met.St.Store.same_then _ _ _ c.loop-line.invariant.same c.end_run-2.ensures.same
 
 pub returns-clause-same_source : goal.returns-clause-same_source
 returns-clause-same_source g c = g.met.I.Source.same_then _ _ _ c.loop-line.invariant.same_source c.after_last.ensures.same_source
@@ -37,4 +160,4 @@ returns-clause-same_source g c = g.met.I.Source.same_then _ _ _ c.loop-line.inva
 pub returns-clause-end : goal.returns-clause-end
 returns-clause-end g c = always_ok c.end_run-2.result _ (λ all remains.
     let kept = c.loop-line.invariant.rest all remains in
-    c.in-Ok.ensures.end kept.0 kept.1)
+    (c.in-Ok.ensures.end kept.0 kept.1).1)

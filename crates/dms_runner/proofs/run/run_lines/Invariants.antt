@@ -1,8 +1,10 @@
-use Rattle.std.proofs.Common.{◌≡◌, ◌≤◌, ◌<◌, ◌+◌, ℕ, List, [], length, take, drop}
+use Rattle.std.proofs.Common.{◌≡◌, ◌≤◌, ◌<◌, ◌+◌, ◌^◌, ℕ, List, [], length, take, drop}
 use Rattle.dms_desc.specs.Shape.{described}
-use Rattle.dms_model.specs.Session.{Session}
-use Rattle.dms_storeverbs.specs.View.{view, Stands, Room}
-use Rattle.dms_runner.proofs.Passes.{Passing}
+use Rattle.dms_model.specs.Session.{fresh_session}
+use Rattle.dms_storeverbs.specs.View.{view, Stands}
+use Rattle.dms_runner.proofs.Running.{Runs}
+use Rattle.dms_runner.specs.Answers.{begun}
+use Rattle.dms_model.specs.Db.{Db}
 use Rattle.dms_feed.specs.Feeds.{Remains}
 use Rattle.dms_runner.proofs.run.run_lines.Given as goal
 
@@ -20,5 +22,8 @@ invariant-loop-line g l = record {
   taken : g.I.Source.faults l.fn.source ≤ g.I.Source.faults l.source;
   same_source : g.I.Source.same_source l.fn.source l.source;
   small : l.room ≤ 2147483648;
+  few : l.line ≤ 1000000;
   rest : (all : List ℕ) → Remains l.fn.feed (g.I.Source.left l.fn.source) all → (rest : List ℕ) × Remains l.feed (g.I.Source.left l.source) rest;
+  runs : (db : Db) (first : ℕ) (all : List ℕ) → Stands (view (g.St.Store.db l.fn.engine.store) (g.St.Store.mark l.fn.engine.store) (g.St.Store.next l.fn.engine.store) l.fn.engine.programs.items l.fn.engine.pending l.fn.engine.since) (fresh_session db first) → first + 1000003 < 2 ^ 64 → Remains l.fn.feed (g.I.Source.left l.fn.source) all
+      → Runs (described l.fn.engine.desc) (begun db first) l.line l.room all (view (g.St.Store.db l.engine.store) (g.St.Store.mark l.engine.store) (g.St.Store.next l.engine.store) l.engine.programs.items l.engine.pending l.engine.since) l.held.items l.feed (g.I.Source.left l.source) (g.St.Store.said l.fn.engine.store) (g.St.Store.said l.engine.store);
 }

@@ -1,8 +1,7 @@
 use Rattle.std.proofs.Common.{◌≡◌, ◌≤◌, ◌<◌, ◌+◌, ℕ, List, [], length, take, drop}
 use Rattle.dms_desc.specs.Shape.{described}
-use Rattle.dms_model.specs.Session.{Session}
-use Rattle.dms_storeverbs.specs.View.{view, Stands, Room}
-use Rattle.dms_runner.proofs.Passes.{Passing}
+use Rattle.dms_model.specs.Points.{Prints}
+use Rattle.dms_runner.specs.Answers.{unanswered}
 use Rattle.dms_runner.proofs.run.say_held.Given as goal
 
 abbrev pub invariant-loop-line : goal.invariant-loop-line
@@ -16,4 +15,5 @@ invariant-loop-line g l = record {
   say : g.St.Store.say_faults l.fn.engine.store ≤ g.St.Store.say_faults l.engine.store;
   full : g.St.Store.fulls l.fn.engine.store ≤ g.St.Store.fulls l.engine.store;
   damaged : g.St.Store.damages l.fn.engine.store ≤ g.St.Store.damages l.engine.store;
+  text : Prints (g.St.Store.said l.fn.engine.store) (g.St.Store.said l.engine.store) (unanswered (take l.line-index l.held));
 }

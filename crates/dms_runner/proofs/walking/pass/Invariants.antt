@@ -16,4 +16,6 @@ invariant-loop-i g l = record {
   say : g.St.Store.say_faults l.fn.engine.store ≤ g.St.Store.say_faults l.engine.store;
   full : g.St.Store.fulls l.fn.engine.store ≤ g.St.Store.fulls l.engine.store;
   damaged : g.St.Store.damages l.fn.engine.store ≤ g.St.Store.damages l.engine.store;
+  long : length l.held ≡ length l.fn.held;
+  passing : (s : Session) → Stands (view (g.St.Store.db l.fn.engine.store) (g.St.Store.mark l.fn.engine.store) (g.St.Store.next l.fn.engine.store) l.fn.engine.programs.items l.fn.engine.pending l.fn.engine.since) s → Room s.next → Passing (described l.fn.engine.desc) s l.fn.held l.held l.i (view (g.St.Store.db l.engine.store) (g.St.Store.mark l.engine.store) (g.St.Store.next l.engine.store) l.engine.programs.items l.engine.pending l.engine.since) (g.St.Store.said l.fn.engine.store) (g.St.Store.said l.engine.store);
 }

@@ -1,0 +1,252 @@
+-- How a run goes on from line to line, and where it stops.
+use Rattle.std.proofs.Common.{◌≡◌, ◌≢◌, ◌+◌, ◌-◌, ◌<◌, ◌≤◌, ◌^◌, ℕ, zero, suc, List, [], ◌∷◌, ◌++◌, Bool, true, false, cond, eqb, refl, sym, ap, ◌∙◌, subst, arith, append_assoc, length, length-append, take}
+use Rattle.std.specs.declared.option.Option.{Option}
+use Rattle.std.proofs.lemmas.List.{append-nil, take_at, take_all}
+use Rattle.dms_desc.specs.Shape.{Described}
+use Rattle.dms_feed.specs.Feeds.{Remains}
+use Rattle.dms_feed.specs.Lines.{raw_lines, first_line, after_line, onto_first}
+use Rattle.dms_model.specs.Db.{Db}
+use Rattle.dms_model.specs.Points.{Quiet, Prints, PrintsFront}
+use Rattle.dms_model.specs.Session.{Session}
+use Rattle.dms_storeverbs.specs.View.{View, Stands}
+use Rattle.dms_runner.specs.declared.held.Held.{Held}
+use Rattle.dms_runner.specs.Answers.{Going, Lined, Roomy, going_on, line_step, lines_run, onto, begun, script_run, unanswered, answers_text}
+use Rattle.dms_runner.specs.Trying.{GoesOn}
+use Rattle.dms_runner.specs.Running.{bytes_of, TookLine, Answered, Took, PassesLines, PassesBytes, PassesHeld}
+use Rattle.dms_runner.proofs.Texts.{prints_none, prints_on, front_on, front_of_first, front_all}
+use Rattle.dms_runner.proofs.Lining.{line_low}
+
+-- Lines of a text
+
+at_test : (t : Bool) (b : ℕ) (bs : List ℕ) → onto_first b (raw_lines bs) ≡ (b ∷ first_line bs) ∷ raw_lines (after_line bs) → cond t ((b ∷ []) ∷ raw_lines bs) (onto_first b (raw_lines bs)) ≡ cond t (b ∷ []) (b ∷ first_line bs) ∷ raw_lines (cond t bs (after_line bs))
+at_test true b bs h = refl
+at_test false b bs h = h
+
+first_of_lines : (b : ℕ) (bs : List ℕ) → raw_lines (b ∷ bs) ≡ first_line (b ∷ bs) ∷ raw_lines (after_line (b ∷ bs))
+first_of_lines b [] = at_test (eqb b 10) b [] refl
+first_of_lines b (c ∷ cs) = at_test (eqb b 10) b (c ∷ cs) (ap (onto_first b) (first_of_lines c cs))
+
+-- a text with bytes has a first line, and those of what follows it
+pub lines_step : (all : List ℕ) → all ≢ [] → raw_lines all ≡ first_line all ∷ raw_lines (after_line all)
+lines_step [] some = absurd (some refl)
+lines_step (b ∷ bs) some = first_of_lines b bs
+
+bytes_on : (xs ys : List (List ℕ)) → bytes_of (xs ++ ys) ≡ bytes_of xs + bytes_of ys
+bytes_on [] ys = omega arith
+bytes_on (x ∷ xs) ys = omega (arith, bytes_on xs ys)
+
+-- The fold over lines
+
+run_none : (desc : Described) (g : Going) → lines_run desc g [] ≡ going_on g
+unfolding lines_run
+run_none desc g = refl
+
+run_step : (desc : Described) (g : Going) (l : List ℕ) (ls : List (List ℕ)) → (line_step desc g l).full ≡ false → lines_run desc g (l ∷ ls) ≡ onto (line_step desc g l) (lines_run desc (line_step desc g l).going ls)
+unfolding lines_run
+run_step desc g l ls room = rw room refl
+
+run_full : (desc : Described) (g : Going) (l : List ℕ) (ls : List (List ℕ)) → (line_step desc g l).full ≡ true → lines_run desc g (l ∷ ls) ≡ line_step desc g l
+unfolding lines_run
+run_full desc g l ls full = rw full refl
+
+onto_again : (a b c : Lined) → onto a (onto b c) ≡ onto (onto a b) c
+onto_again a b c = λ j. record c { text = sym (append_assoc a.text b.text c.text) j; quiets = sym (append_assoc a.quiets b.quiets c.quiets) j }
+
+not_both : (b : Bool) (X : Type 0) → b ≡ true → b ≡ false → X
+not_both true X p q = absurd (cc)
+not_both false X p q = absurd (cc)
+
+-- lines behind lines
+pub run_on : (desc : Described) (g : Going) (xs ys : List (List ℕ)) → (lines_run desc g xs).full ≡ false → lines_run desc g (xs ++ ys) ≡ onto (lines_run desc g xs) (lines_run desc (lines_run desc g xs).going ys)
+run_on desc g [] ys room = sym (ap (λ (l : Lined). onto l (lines_run desc l.going ys)) (run_none desc g))
+run_on desc g (x ∷ xs) ys room = at (line_step desc g x).full refl (run_on desc (line_step desc g x).going xs ys)
+  where
+    s : Lined
+    s = line_step desc g x
+    at : (b : Bool) → s.full ≡ b → ((lines_run desc s.going xs).full ≡ false → lines_run desc s.going (xs ++ ys) ≡ onto (lines_run desc s.going xs) (lines_run desc (lines_run desc s.going xs).going ys))
+        → lines_run desc g (x ∷ (xs ++ ys)) ≡ onto (lines_run desc g (x ∷ xs)) (lines_run desc (lines_run desc g (x ∷ xs)).going ys)
+    at true is rest = not_both s.full _ is (sym (ap (λ (l : Lined). l.full) (run_full desc g x xs is)) ∙ room)
+    at false is rest =
+        let e : lines_run desc g (x ∷ xs) ≡ onto s (lines_run desc s.going xs) = run_step desc g x xs is in
+        let r : (lines_run desc s.going xs).full ≡ false = sym (ap (λ (l : Lined). l.full) e) ∙ room in
+        run_step desc g x (xs ++ ys) is ∙ ap (onto s) (rest r) ∙ onto_again s (lines_run desc s.going xs) (lines_run desc (lines_run desc s.going xs).going ys)
+        ∙ sym (ap (λ (l : Lined). onto l (lines_run desc l.going ys)) e)
+
+-- How a run stands
+
+-- after so many lines: those done, the bytes that are left, and what was said
+pub record Runs (desc : Described) (g : Going) (i room : ℕ) (all : List ℕ) (v : View) (held : List Held) (feed : List ℕ) (left : Option (List ℕ)) (before after : Option (List ℕ)) : Type 0 where
+  pub done : List (List ℕ)
+  pub rest : List ℕ
+  pub remains : Remains feed left rest
+  pub split : raw_lines all ≡ done ++ raw_lines rest
+  pub count : length done ≡ i
+  pub bytes : bytes_of done + room ≡ 2147483648
+  pub roomy : (lines_run desc g done).full ≡ false
+  pub stands : Stands v (lines_run desc g done).going.session
+  pub held_is : held ≡ (lines_run desc g done).going.held
+  pub line : (lines_run desc g done).going.line ≡ i
+  pub low : (lines_run desc g done).going.session.next + length (lines_run desc g done).going.held ≤ g.session.next + length g.held + i
+  pub said : Prints before after (lines_run desc g done).text
+
+pub runs_start : (desc : Described) (db : Db) (first : ℕ) (all : List ℕ) (v : View) (feed : List ℕ) (left said : Option (List ℕ)) → Stands v (begun db first).session → Remains feed left all
+    → Runs desc (begun db first) 0 2147483648 all v [] feed left said said
+runs_start desc db first all v feed left said stands remains =
+    let e : lines_run desc (begun db first) [] ≡ going_on (begun db first) = run_none desc (begun db first) in
+    record {
+      done = [];
+      rest = all;
+      remains = remains;
+      split = refl;
+      count = refl;
+      bytes = refl;
+      roomy = ap (λ (l : Lined). l.full) e;
+      stands = subst (λ (s : Session). Stands v s) (sym (ap (λ (l : Lined). l.going.session) e)) stands;
+      held_is = sym (ap (λ (l : Lined). l.going.held) e);
+      line = ap (λ (l : Lined). l.going.line) e;
+      low = omega (arith, ap (λ (l : Lined). l.going.session.next) e, ap (λ (l : Lined). length l.going.held) e);
+      said = subst (λ (t : List ℕ). Prints said said t) (sym (ap (λ (l : Lined). l.text) e)) (prints_none said said refl);
+    }
+
+-- room for the numbers of the quiet points that the next line may lead to
+pub runs_room : (desc : Described) (db : Db) (first : ℕ) (i room : ℕ) (all : List ℕ) (v : View) (held : List Held) (feed : List ℕ) (left : Option (List ℕ)) (before after : Option (List ℕ))
+    (r : Runs desc (begun db first) i room all v held feed left before after) → i < 1000000 → first + 1000003 < 2 ^ 64 → Roomy (lines_run desc (begun db first) r.done).going
+runs_room desc db first i room all v held feed left before after r more small = omega (arith, r.low, more, small)
+
+one_more : (desc : Described) (g : Going) (done : List (List ℕ)) (l : List ℕ) → (lines_run desc g done).full ≡ false → (line_step desc (lines_run desc g done).going l).full ≡ false
+    → lines_run desc g (done ++ l ∷ []) ≡ onto (lines_run desc g done) (onto (line_step desc (lines_run desc g done).going l) (going_on (line_step desc (lines_run desc g done).going l).going))
+one_more desc g done l room more =
+    let now = (lines_run desc g done).going in
+    run_on desc g done (l ∷ []) room ∙ ap (onto (lines_run desc g done)) (run_step desc now l [] more ∙ ap (onto (line_step desc now l)) (run_none desc (line_step desc now l).going))
+
+-- one line more was taken
+pub runs_on : (desc : Described) (g : Going) (i room room' : ℕ) (all : List ℕ) (v w : View) (held next : List Held) (feed feed' : List ℕ) (left left' : Option (List ℕ)) (before mid after : Option (List ℕ))
+    (r : Runs desc g i room all v held feed left before mid) → TookLine desc (lines_run desc g r.done).going r.rest room room' w next feed' left' mid after → Runs desc g (i + 1) room' all w next feed' left' before after
+runs_on desc g i room room' all v w held next feed feed' left left' before mid after r t =
+    let now = (lines_run desc g r.done).going in
+    let l = first_line r.rest in
+    let s = line_step desc now l in
+    let e = one_more desc g r.done l r.roomy t.goes.full in
+    let low = line_low desc now l in
+    record {
+      done = r.done ++ l ∷ [];
+      rest = after_line r.rest;
+      remains = t.remains;
+      split = r.split ∙ ap (λ (ls : List (List ℕ)). r.done ++ ls) (lines_step r.rest t.some) ∙ sym (append_assoc r.done (l ∷ []) (raw_lines (after_line r.rest)));
+      count = omega (arith, length-append r.done (l ∷ []), r.count);
+      bytes = omega (arith, bytes_on r.done (l ∷ []), r.bytes, t.bytes);
+      roomy = ap (λ (x : Lined). x.full) e;
+      stands = subst (λ (x : Session). Stands w x) (sym (ap (λ (x : Lined). x.going.session) e)) t.goes.session;
+      held_is = t.goes.held_is ∙ sym (ap (λ (x : Lined). x.going.held) e);
+      line = ap (λ (x : Lined). x.going.line) e ∙ low.1 ∙ ap (λ (n : ℕ). n + 1) r.line;
+      low = omega (arith, r.low, low.0, ap (λ (x : Lined). x.going.session.next) e, ap (λ (x : Lined). length x.going.held) e);
+      said = subst (λ (x : List ℕ). Prints before after x) (sym (ap (λ (x : Lined). x.text) e ∙ ap (λ (x : List ℕ). (lines_run desc g r.done).text ++ x) (append-nil s.text))) (prints_on before mid after (lines_run desc g r.done).text s.text r.said t.goes.text);
+    }
+
+taken : (all : List ℕ) (done more : List (List ℕ)) (i : ℕ) → raw_lines all ≡ done ++ more → length done ≡ i → take i (raw_lines all) ≡ done
+taken all done more i split count = ap (take i) split ∙ take_at done more i count
+
+-- the lines that were done, and what they answered
+pub runs_took : (desc : Described) (db : Db) (first : ℕ) (i room : ℕ) (all : List ℕ) (v : View) (held : List Held) (feed : List ℕ) (left : Option (List ℕ)) (before mid after : Option (List ℕ))
+    → Runs desc (begun db first) i room all v held feed left before mid → Prints mid after [] → Took desc db first (raw_lines all) i before after
+runs_took desc db first i room all v held feed left before mid after r same =
+    let t : take i (raw_lines all) ≡ r.done = taken all r.done (raw_lines r.rest) i r.split r.count in
+    record {
+      within = omega (arith, ap length r.split, length-append r.done (raw_lines r.rest), r.count);
+      room = ap (λ (ls : List (List ℕ)). (script_run desc db first ls).full) t ∙ r.roomy;
+      text = subst (λ (ls : List (List ℕ)). Prints before after (script_run desc db first ls).text) (sym t) (subst (λ (x : List ℕ). Prints before after x) (append-nil _) (prints_on before mid after _ [] r.said same));
+    }
+
+taken_more : (all rest : List ℕ) (done : List (List ℕ)) (i : ℕ) → raw_lines all ≡ done ++ raw_lines rest → length done ≡ i → rest ≢ [] → take (i + 1) (raw_lines all) ≡ done ++ first_line rest ∷ []
+taken_more all rest done i split count some =
+    taken all (done ++ first_line rest ∷ []) (raw_lines (after_line rest)) (i + 1) (split ∙ ap (λ (ls : List (List ℕ)). done ++ ls) (lines_step rest some) ∙ sym (append_assoc done (first_line rest ∷ []) (raw_lines (after_line rest)))) (omega (arith, length-append done (first_line rest ∷ []), count))
+
+some_lines : (rest : List ℕ) → rest ≢ [] → 0 < length (raw_lines rest)
+some_lines rest some = omega (arith, ap length (lines_step rest some))
+
+some_first : (rest : List ℕ) → 0 < length (first_line rest) → rest ≢ []
+some_first [] h none = omega (arith, h)
+some_first (b ∷ bs) h none = cc
+
+-- the script has a line too many
+pub runs_lines : (desc : Described) (db : Db) (first : ℕ) (i room : ℕ) (all : List ℕ) (v : View) (held : List Held) (feed : List ℕ) (left : Option (List ℕ)) (before mid after : Option (List ℕ))
+    (r : Runs desc (begun db first) i room all v held feed left before mid) → Prints mid after [] → i ≡ 1000000 → r.rest ≢ [] → PassesLines desc db first (raw_lines all) before after
+runs_lines desc db first i room all v held feed left before mid after r same end some = (
+  omega (arith, ap length r.split, length-append r.done (raw_lines r.rest), r.count, end, some_lines r.rest some),
+  subst (λ (n : ℕ). Took desc db first (raw_lines all) n before after) end (runs_took desc db first i room all v held feed left before mid after r same),
+)
+
+-- the script has a byte too many
+pub runs_bytes : (desc : Described) (db : Db) (first : ℕ) (i room : ℕ) (all : List ℕ) (v : View) (held : List Held) (feed : List ℕ) (left : Option (List ℕ)) (before mid after : Option (List ℕ))
+    (r : Runs desc (begun db first) i room all v held feed left before mid) → Prints mid after [] → room < length (first_line r.rest) → PassesBytes desc db first (raw_lines all) before after
+runs_bytes desc db first i room all v held feed left before mid after r same over = record {
+  n = i;
+  took = runs_took desc db first i room all v held feed left before mid after r same;
+  short = omega (arith, ap bytes_of (taken all r.done (raw_lines r.rest) i r.split r.count), r.bytes);
+  over = omega (arith, ap bytes_of (taken_more all r.rest r.done i r.split r.count (some_first r.rest (omega (arith, over)))), bytes_on r.done (first_line r.rest ∷ []), r.bytes, over);
+}
+
+-- a line would be one too many to hold
+pub runs_held : (desc : Described) (db : Db) (first : ℕ) (i room : ℕ) (all : List ℕ) (v : View) (held : List Held) (feed : List ℕ) (left : Option (List ℕ)) (before mid after : Option (List ℕ))
+    (r : Runs desc (begun db first) i room all v held feed left before mid) → Prints mid after [] → r.rest ≢ [] → (line_step desc (lines_run desc (begun db first) r.done).going (first_line r.rest)).full ≡ true
+    → PassesHeld desc db first (raw_lines all) before after
+runs_held desc db first i room all v held feed left before mid after r same some full =
+    let g = begun db first in
+    let t = taken_more all r.rest r.done i r.split r.count some in
+    record {
+      n = i;
+      took = runs_took desc db first i room all v held feed left before mid after r same;
+      full = ap (λ (ls : List (List ℕ)). (script_run desc db first ls).full) t ∙ ap (λ (l : Lined). l.full) (run_on desc g r.done (first_line r.rest ∷ []) r.roomy) ∙ ap (λ (l : Lined). l.full) (run_full desc (lines_run desc g r.done).going (first_line r.rest) [] full) ∙ full;
+    }
+
+lines_none : (rest : List ℕ) → rest ≡ [] → raw_lines rest ≡ []
+lines_none rest none = ap raw_lines none
+
+-- the input's end: what is said now ends the answers
+pub runs_end : (desc : Described) (db : Db) (first : ℕ) (i room : ℕ) (all : List ℕ) (v : View) (held : List Held) (feed : List ℕ) (left : Option (List ℕ)) (before mid after : Option (List ℕ))
+    (r : Runs desc (begun db first) i room all v held feed left before mid) → i ≤ 1000000 → r.rest ≡ [] → Prints mid after (unanswered held) → Answered desc db first (raw_lines all) before after
+unfolding answers_text
+runs_end desc db first i room all v held feed left before mid after r small none last =
+    let g = begun db first in
+    let whole : raw_lines all ≡ r.done = r.split ∙ ap (λ (ls : List (List ℕ)). r.done ++ ls) (lines_none r.rest none) ∙ append-nil r.done in
+    record {
+      few = omega (arith, ap length whole, r.count, small);
+      short = omega (arith, ap bytes_of whole, r.bytes);
+      room = ap (λ (ls : List (List ℕ)). (script_run desc db first ls).full) whole ∙ r.roomy;
+      text = subst (λ (ls : List (List ℕ)). Prints before after ((script_run desc db first ls).text ++ unanswered (script_run desc db first ls).going.held)) (sym whole)
+          (prints_on before mid after (lines_run desc g r.done).text (unanswered (lines_run desc g r.done).going.held) r.said (subst (λ (hs : List Held). Prints mid after (unanswered hs)) r.held_is last));
+    }
+
+-- a front of what the lines to come answer is, behind what was said, a front of all answers
+pub runs_part : (desc : Described) (db : Db) (first : ℕ) (i room : ℕ) (all : List ℕ) (v : View) (held : List Held) (feed : List ℕ) (left : Option (List ℕ)) (before mid after : Option (List ℕ))
+    (r : Runs desc (begun db first) i room all v held feed left before mid) → PrintsFront mid after (lines_run desc (lines_run desc (begun db first) r.done).going (raw_lines r.rest)).text
+    → PrintsFront before after (answers_text desc db first (raw_lines all))
+unfolding answers_text
+runs_part desc db first i room all v held feed left before mid after r part =
+    let g = begun db first in
+    let e : lines_run desc g (raw_lines all) ≡ onto (lines_run desc g r.done) (lines_run desc (lines_run desc g r.done).going (raw_lines r.rest)) = ap (lines_run desc g) r.split ∙ run_on desc g r.done (raw_lines r.rest) r.roomy in
+    front_of_first before after (lines_run desc g (raw_lines all)).text (unanswered (lines_run desc g (raw_lines all)).going.held)
+        (subst (λ (t : List ℕ). PrintsFront before after t) (sym (ap (λ (l : Lined). l.text) e)) (front_on before mid after (lines_run desc g r.done).text (lines_run desc (lines_run desc g r.done).going (raw_lines r.rest)).text r.said part))
+
+-- a front of what is said at the end
+pub runs_end_part : (desc : Described) (db : Db) (first : ℕ) (i room : ℕ) (all : List ℕ) (v : View) (held : List Held) (feed : List ℕ) (left : Option (List ℕ)) (before mid after : Option (List ℕ))
+    (r : Runs desc (begun db first) i room all v held feed left before mid) → r.rest ≡ [] → PrintsFront mid after (unanswered held) → PrintsFront before after (answers_text desc db first (raw_lines all))
+unfolding answers_text
+runs_end_part desc db first i room all v held feed left before mid after r none part =
+    let g = begun db first in
+    let whole : raw_lines all ≡ r.done = r.split ∙ ap (λ (ls : List (List ℕ)). r.done ++ ls) (lines_none r.rest none) ∙ append-nil r.done in
+    subst (λ (ls : List (List ℕ)). PrintsFront before after ((script_run desc db first ls).text ++ unanswered (script_run desc db first ls).going.held)) (sym whole)
+        (front_on before mid after (lines_run desc g r.done).text (unanswered (lines_run desc g r.done).going.held) r.said (subst (λ (hs : List Held). PrintsFront mid after (unanswered hs)) r.held_is part))
+
+-- a front of what a line says is one of what it and those behind it say
+pub line_part : (desc : Described) (g : Going) (all : List ℕ) (before after : Option (List ℕ)) → all ≢ [] → PrintsFront before after (line_step desc g (first_line all)).text → PrintsFront before after (lines_run desc g (raw_lines all)).text
+line_part desc g all before after some part = at (line_step desc g l).full refl
+  where
+    l : List ℕ
+    l = first_line all
+    more : List (List ℕ)
+    more = raw_lines (after_line all)
+    at : (b : Bool) → (line_step desc g l).full ≡ b → PrintsFront before after (lines_run desc g (raw_lines all)).text
+    at true is = subst (λ (t : List ℕ). PrintsFront before after t) (sym (ap (λ (ls : List (List ℕ)). (lines_run desc g ls).text) (lines_step all some) ∙ ap (λ (x : Lined). x.text) (run_full desc g l more is))) part
+    at false is = subst (λ (t : List ℕ). PrintsFront before after t) (sym (ap (λ (ls : List (List ℕ)). (lines_run desc g ls).text) (lines_step all some) ∙ ap (λ (x : Lined). x.text) (run_step desc g l more is)))
+        (front_of_first before after (line_step desc g l).text (lines_run desc (line_step desc g l).going more).text part)

@@ -1,0 +1,13 @@
+use Rattle.std.proofs.Common.{◌≡◌, List, ℕ, ◌∙◌, subst}
+use Rattle.std.proofs.lemmas.Option.{get_or_from_slice_get}
+use Rattle.dms_desc.specs.Shape.{described}
+use Rattle.dms_model.specs.Points.{PrintsFront}
+use Rattle.dms_model.specs.Session.{step}
+use Rattle.dms_runner.specs.declared.held.Held.{Held as HeldLine}
+use Rattle.dms_runner.specs.Held.{tried_text}
+use Rattle.dms_runner.proofs.walking.try_at.Goals as goal
+
+pub returns-clause-part : goal.returns-clause-part
+returns-clause-part g c = λ h is s stands room.
+    let e : c.index-held-i.result ≡ h = c.index-held-i.is ∙ get_or_from_slice_get c.args.held.now c.args.i h c.index-held-i.result is in
+    subst (λ (x : HeldLine). PrintsFront (g.St.Store.said c.args.engine.now.store) (g.St.Store.said c.try_line.new.engine.store) (tried_text x (step (described c.args.engine.now.desc) s x.program x.verb))) e (c.try_line.ensures.part s stands room)

@@ -1,0 +1,54 @@
+-- What a run leaves of a script: how far it came, and what it said.
+use Rattle.std.specs.Prelude.{◌≡◌, ◌≢◌, ◌<◌, ◌≤◌, ◌+◌, ℕ, List, [], ◌∷◌, Bool, true, false, length, take}
+use Rattle.std.specs.declared.option.Option.{Option}
+use Rattle.dms_desc.specs.Shape.{Described}
+use Rattle.dms_feed.specs.Feeds.{Remains}
+use Rattle.dms_feed.specs.Lines.{first_line, after_line}
+use Rattle.dms_model.specs.Db.{Db}
+use Rattle.dms_model.specs.Points.{Prints}
+use Rattle.dms_storeverbs.specs.View.{View}
+use Rattle.dms_runner.specs.declared.held.Held.{Held}
+use Rattle.dms_runner.specs.Answers.{Going, line_step, script_run, answers_text}
+use Rattle.dms_runner.specs.Trying.{GoesOn}
+
+-- how many bytes these lines have
+abbrev pub bytes_of : List (List ℕ) → ℕ
+bytes_of [] = 0
+bytes_of (l ∷ ls) = length l + bytes_of ls
+
+-- the first line of the input was taken, and there was room for its bytes
+pub record TookLine (desc : Described) (g : Going) (all : List ℕ) (room room' : ℕ) (now : View) (held : List Held) (feed : List ℕ) (left : Option (List ℕ)) (before after : Option (List ℕ)) : Type 0 where
+  pub some : all ≢ []
+  pub remains : Remains feed left (after_line all)
+  pub bytes : room' + length (first_line all) ≡ room
+  pub goes : GoesOn (line_step desc g (first_line all)) true now held before after
+
+-- the whole script was taken: it keeps the limits, no line was one too many to hold, and its answers were said
+pub record Answered (desc : Described) (db : Db) (first : ℕ) (lines : List (List ℕ)) (before after : Option (List ℕ)) : Type 0 where
+  pub few : length lines ≤ 1000000
+  pub short : bytes_of lines ≤ 2147483648
+  pub room : (script_run desc db first lines).full ≡ false
+  pub text : Prints before after (answers_text desc db first lines)
+
+-- so many whole lines were taken, and what they answer was said
+pub record Took (desc : Described) (db : Db) (first : ℕ) (lines : List (List ℕ)) (n : ℕ) (before after : Option (List ℕ)) : Type 0 where
+  pub within : n ≤ length lines
+  pub room : (script_run desc db first (take n lines)).full ≡ false
+  pub text : Prints before after (script_run desc db first (take n lines)).text
+
+-- the script has a line too many: all lines before it were taken
+abbrev pub PassesLines : Described → Db → ℕ → List (List ℕ) → Option (List ℕ) → Option (List ℕ) → Type 0
+PassesLines desc db first lines before after = (1000000 < length lines) × Took desc db first lines 1000000 before after
+
+-- the script has a byte too many: the whole lines before it were taken
+pub record PassesBytes (desc : Described) (db : Db) (first : ℕ) (lines : List (List ℕ)) (before after : Option (List ℕ)) : Type 0 where
+  pub n : ℕ
+  pub took : Took desc db first lines n before after
+  pub short : bytes_of (take n lines) ≤ 2147483648
+  pub over : 2147483648 < bytes_of (take (n + 1) lines)
+
+-- a line would be one too many to hold: the lines before it were taken
+pub record PassesHeld (desc : Described) (db : Db) (first : ℕ) (lines : List (List ℕ)) (before after : Option (List ℕ)) : Type 0 where
+  pub n : ℕ
+  pub took : Took desc db first lines n before after
+  pub full : (script_run desc db first (take (n + 1) lines)).full ≡ true

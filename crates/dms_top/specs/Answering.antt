@@ -1,0 +1,47 @@
+-- What `try` prints.
+use Rattle.std.specs.Prelude.{◌≡◌, ◌≤◌, ℕ, List, [], ◌++◌, Some, take, length, false}
+use Rattle.std.specs.declared.result.Result.{Result}
+use Rattle.std.specs.declared.result.Result.TheVariants.{Ok, Err}
+use Rattle.dms_desc.specs.Shape.{Described}
+use Rattle.dms_feed.specs.Lines.{raw_lines}
+use Rattle.dms_model.specs.Db.{empty_db}
+use Rattle.dms_runner.specs.Answers.{script_run, answers_text}
+use Rattle.dms_runner.specs.Running.{bytes_of, PassesLines, PassesBytes, PassesHeld}
+use Rattle.dms_top.specs.declared.status.SchemaFault.{SchemaFault}
+use Rattle.dms_top.specs.declared.status.LimitKind.{LimitKind}
+use Rattle.dms_top.specs.declared.status.LimitKind.TheVariants.{Lines, Bytes, Held}
+use Rattle.dms_top.specs.Judging.{judged}
+use Rattle.dms_top.specs.Schema.{schema_text, script_part}
+
+-- the lines of the script of an input
+abbrev pub script_of : List ℕ → List (List ℕ)
+script_of input = script_part (raw_lines input)
+
+-- nothing where the schema is refused; else what the script answers over the empty database, whose first quiet point has
+-- number 1
+abbrev pub judged_text : Result Described SchemaFault → List (List ℕ) → List ℕ
+judged_text (Ok d) lines = answers_text d empty_db 1 lines
+judged_text (Err e) lines = []
+
+abbrev pub try_text : List ℕ → List ℕ
+try_text input = judged_text (judged (schema_text input)) (script_of input)
+
+-- the text grew by these bytes
+abbrev pub Printed : List ℕ → List ℕ → List ℕ → Type 0
+Printed before after text = after ≡ before ++ text
+
+-- the text grew by a front of these bytes
+abbrev pub PrintedFront : List ℕ → List ℕ → List ℕ → Type 0
+PrintedFront before after text = (n : ℕ) × (after ≡ before ++ take n text)
+
+-- a script that keeps the limits: 1,000,000 lines, 2,147,483,648 bytes, and no line that is one too many to hold
+pub record WithinLimits (d : Described) (lines : List (List ℕ)) : Type 0 where
+  pub few : length lines ≤ 1000000
+  pub short : bytes_of lines ≤ 2147483648
+  pub room : (script_run d empty_db 1 lines).full ≡ false
+
+-- a script that passes a limit: what the lines before that place answer was printed
+abbrev pub Passes : LimitKind → Described → List (List ℕ) → List ℕ → List ℕ → Type 0
+Passes Lines d lines before after = PassesLines d empty_db 1 lines (Some before) (Some after)
+Passes Bytes d lines before after = PassesBytes d empty_db 1 lines (Some before) (Some after)
+Passes Held d lines before after = PassesHeld d empty_db 1 lines (Some before) (Some after)
