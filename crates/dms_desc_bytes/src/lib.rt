@@ -1,6 +1,9 @@
 //! The bytes of a description.
 #![tactic(auto)]
 
+mod input;
+mod reading;
 mod writing;
 
+pub use reading::find;
 pub use writing::encode;
