@@ -1,0 +1,2 @@
+mod Several
+mod Trees

@@ -17,6 +17,7 @@ use Rattle.dms_desc.specs.declared.structure.Group.{Group}
 use Rattle.dms_desc.specs.declared.structure.KeyPart.{KeyPart}
 use Rattle.dms_desc.specs.Shape.{Tree, Shape, Described}
 use Rattle.dms_desc.specs.Shape.Tree.{Empty, Test, Both, Either, Contrary}
+use Rattle.dms_desc_bytes.specs.declared.reading.Head.{Head}
 use Rattle.dms_desc_bytes.specs.Spelling.{is_data_set}
 
 -- what is read, and the bytes behind it
@@ -81,22 +82,24 @@ bits_at bytes = (Bits (number_at w64 bytes).0, (number_at w64 bytes).1)
 
 -- a literal behind the byte that says what it is
 abbrev pub literal_in : ℕ → List ℕ → Read Value
-literal_in 1 bytes = text_at bytes
-literal_in 2 bytes = long_at bytes
-literal_in 3 bytes = truth_at bytes
-literal_in 4 bytes = bits_at bytes
-literal_in n bytes = (Null, bytes)
+literal_in n bytes =
+    if n == 1 then text_at bytes
+    else (if n == 2 then long_at bytes
+    else (if n == 3 then truth_at bytes
+    else (if n == 4 then bits_at bytes
+    else (Null, bytes))))
 
 unfoldable pub literal_at : List ℕ → Read Value
 literal_at bytes = literal_in (byte_at bytes).0 (byte_at bytes).1
 
 -- the type of an item by its byte, and the three bytes behind it
 abbrev pub kind_of_bytes : ℕ → ℕ → ℕ → ℕ → ItemKind
-kind_of_bytes 1 a b c = Alpha a
-kind_of_bytes 2 a b c = Decimal a b (c == 1)
-kind_of_bytes 4 a b c = Field a
-kind_of_bytes 5 a b c = LinkTo (from_be_bytes w16 (a ∷ b ∷ [])) (c == 1)
-kind_of_bytes n a b c = OneBit
+kind_of_bytes n a b c =
+    if n == 1 then Alpha a
+    else (if n == 2 then Decimal a b (c == 1)
+    else (if n == 4 then Field a
+    else (if n == 5 then LinkTo (from_be_bytes w16 (a ∷ b ∷ [])) (c == 1)
+    else OneBit)))
 
 unfoldable pub kind_at : List ℕ → Read ItemKind
 kind_at bytes = do
@@ -127,22 +130,23 @@ part_at bytes = do
   descending ← flag_at item.1
   (record { item = item.0; descending = descending.0 }, descending.1)
 
--- so many of these
-unfoldable pub several : {A : Type 0} → (List ℕ → Read A) → ℕ → List ℕ → Read (List A)
-several one zero bytes = ([], bytes)
-several one (suc n) bytes = ((one bytes).0 ∷ (several one n (one bytes).1).0, (several one n (one bytes).1).1)
+-- so many of these, one after another, the first one known by the number k and each next one by the next number
+unfoldable pub several : {A : Type 0} → (ℕ → List ℕ → Read A) → ℕ → ℕ → List ℕ → Read (List A)
+several one k zero bytes = ([], bytes)
+several one k (suc n) bytes = ((one k bytes).0 ∷ (several one (k + 1) n (one k bytes).1).0, (several one (k + 1) n (one k bytes).1).1)
 
 -- as many of these as a byte says
 unfoldable pub list_at : {A : Type 0} → (List ℕ → Read A) → List ℕ → Read (List A)
-list_at one bytes = several one (byte_at bytes).0 (byte_at bytes).1
+list_at one bytes = several (λ k. one) 1 (byte_at bytes).0 (byte_at bytes).1
 
 abbrev pub op_of : ℕ → Op
-op_of 1 = Same
-op_of 2 = Other
-op_of 3 = Below
-op_of 4 = Most
-op_of 5 = Above
-op_of n = Least
+op_of n =
+    if n == 1 then Same
+    else (if n == 2 then Other
+    else (if n == 3 then Below
+    else (if n == 4 then Most
+    else (if n == 5 then Above
+    else Least))))
 
 unfoldable pub test_at : List ℕ → Read Tree
 test_at bytes = do
@@ -151,23 +155,19 @@ test_at bytes = do
   value ← literal_at op.1
   (Test item.0 (op_of op.0) value.0, value.1)
 
+-- a condition behind the byte that says what it is, and how a part of it is read
+abbrev pub tree_in : (List ℕ → Read Tree) → ℕ → List ℕ → Read Tree
+tree_in part n bytes =
+    if n == 1 then test_at bytes
+    else (if n == 2 then (Both (part bytes).0 (part (part bytes).1).0, (part (part bytes).1).1)
+    else (if n == 3 then (Either (part bytes).0 (part (part bytes).1).0, (part (part bytes).1).1)
+    else (if n == 4 then (Contrary (part bytes).0, (part bytes).1)
+    else (Empty, bytes))))
+
 -- a condition of at most so many levels, and none at all below them
 unfoldable pub tree_at : ℕ → List ℕ → Read Tree
-abbrev pub tree_in : ℕ → ℕ → List ℕ → Read Tree
 tree_at zero bytes = (Empty, bytes)
-tree_at (suc levels) bytes = tree_in levels (byte_at bytes).0 (byte_at bytes).1
-tree_in levels 1 bytes = test_at bytes
-tree_in levels 2 bytes = (Both (tree_at levels bytes).0 (tree_at levels (tree_at levels bytes).1).0, (tree_at levels (tree_at levels bytes).1).1)
-tree_in levels 3 bytes = (Either (tree_at levels bytes).0 (tree_at levels (tree_at levels bytes).1).0, (tree_at levels (tree_at levels bytes).1).1)
-tree_in levels 4 bytes = (Contrary (tree_at levels bytes).0, (tree_at levels bytes).1)
-tree_in levels n bytes = (Empty, bytes)
-
--- what stands before the fields of a kind
-pub record Head : Type 0 where
-  pub number : ℕ
-  pub kind : ℕ
-  pub name : List ℕ
-  pub owner : ℕ
+tree_at (suc levels) bytes = tree_in (tree_at levels) (byte_at bytes).0 (byte_at bytes).1
 
 unfoldable pub data_set_at : Head → List ℕ → Read Shape
 data_set_at h bytes = do
@@ -202,14 +202,9 @@ structure_at n bytes = do
   owner ← number_at w16 name.1
   fields_at (record { number = n; kind = kind.0; name = name.0; owner = owner.0 }) owner.1
 
--- so many structures, numbered from n on
-unfoldable pub structures_at : ℕ → ℕ → List ℕ → Read (List Shape)
-structures_at n zero bytes = ([], bytes)
-structures_at n (suc more) bytes = ((structure_at n bytes).0 ∷ (structures_at (n + 1) more (structure_at n bytes).1).0, (structures_at (n + 1) more (structure_at n bytes).1).1)
-
 -- the structures behind their count
 unfoldable pub all_structures_at : List ℕ → Read (List Shape)
-all_structures_at bytes = structures_at 1 (number_at w16 bytes).0 (number_at w16 bytes).1
+all_structures_at bytes = several structure_at 1 (number_at w16 bytes).0 (number_at w16 bytes).1
 
 -- a whole description; the six bytes at its front and those behind it are not looked at
 unfoldable pub description_at : List ℕ → Read Described

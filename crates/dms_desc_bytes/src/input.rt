@@ -1,12 +1,13 @@
 ghost use Rattle.std.specs.Prelude.{◌≡◌, IfOk};
 ghost use Rattle.std.specs.Int.{w16, w32, w64};
-ghost use Rattle.dms_desc_bytes.specs.Reading.{byte_at, bytes_at, number_at, flag_at, counted_at, name_at, unshifted, text_at, literal_at, kind_of_bytes, kind_at};
+ghost use Rattle.dms_desc_bytes.specs.Reading.{byte_at, bytes_at, number_at, flag_at, counted_at, name_at, unshifted, text_at, long_at, truth_at, bits_at, literal_at, kind_of_bytes, kind_at};
 
 use dms_base::{ItemKind, Memory, Name, Text, Value};
 use std::alloc::Global;
 use std::marker::Model;
 
 /// Bytes that are read from the front. Past their end there are zeros.
+#[derive(Drop)]
 pub struct Input<'a> {
     rest: &'a [u8],
 }
@@ -32,13 +33,19 @@ fn unshifted(n: u64) -> i64
 fn kind_of_bytes(kind: u8, a: u8, b: u8, c: u8) -> ItemKind
     ensures { result ≡ kind_of_bytes kind a b c }
 {
-    match kind {
-        1 => ItemKind::Alpha(a),
-        2 => ItemKind::Number(a, b, c == 1),
-        4 => ItemKind::Field(a),
-        5 => ItemKind::Link(u16::from_be_bytes([a, b]), c == 1),
-        _ => ItemKind::Bool,
+    if kind == 1 {
+        return ItemKind::Alpha(a);
     }
+    if kind == 2 {
+        return ItemKind::Number(a, b, c == 1);
+    }
+    if kind == 4 {
+        return ItemKind::Field(a);
+    }
+    if kind == 5 {
+        return ItemKind::Link(u16::from_be_bytes([a, b]), c == 1);
+    }
+    ItemKind::Bool
 }
 
 impl<'a> Input<'a> {
@@ -152,18 +159,46 @@ impl<'a> Input<'a> {
         }
     }
 
+    #[tactic(auto, unfolding(crate::specs::Reading::long_at))]
+    fn number(&mut self) -> Value
+        ensures { (result, self.new) ≡ long_at self.old }
+    {
+        Value::Number(unshifted(self.u64()))
+    }
+
+    #[tactic(auto, unfolding(crate::specs::Reading::truth_at))]
+    fn truth(&mut self) -> Value
+        ensures { (result, self.new) ≡ truth_at self.old }
+    {
+        Value::Bool(self.flag())
+    }
+
+    #[tactic(auto, unfolding(crate::specs::Reading::bits_at))]
+    fn bits(&mut self) -> Value
+        ensures { (result, self.new) ≡ bits_at self.old }
+    {
+        Value::Bits(self.u64())
+    }
+
     /// The next literal.
-    #[tactic(auto, unfolding(crate::specs::Reading::literal_at, crate::specs::Reading::long_at, crate::specs::Reading::truth_at, crate::specs::Reading::bits_at))]
+    #[tactic(auto, unfolding(crate::specs::Reading::literal_at))]
     pub fn literal(&mut self, alloc: Global) -> Result<Value, Memory>
         ensures { IfOk result (λ v. (v, self.new) ≡ literal_at self.old) }
     {
-        match self.byte() {
-            1 => self.text(alloc),
-            2 => Ok(Value::Number(unshifted(self.u64()))),
-            3 => Ok(Value::Bool(self.flag())),
-            4 => Ok(Value::Bits(self.u64())),
-            _ => Ok(Value::Null),
+        let kind = self.byte();
+        if kind == 1 {
+            return self.text(alloc);
         }
+        if kind == 2 {
+            return Ok(self.number());
+        }
+        if kind == 3 {
+            return Ok(self.truth());
+        }
+        if kind == 4 {
+            return Ok(self.bits());
+        }
+        Ok(Value::Null)
     }
 
     /// The next type of an item.

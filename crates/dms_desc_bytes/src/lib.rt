@@ -2,6 +2,7 @@
 #![tactic(auto)]
 
 mod input;
+mod parts;
 mod reading;
 mod writing;
 
