@@ -35,24 +35,32 @@ has_member ss s = not (is_empty s.items) || list_any (stands_in s.number) ss
 abbrev pub width_of : Item → ℕ
 width_of i = item_width i.kind
 
--- a data set: how many records it may have, its items, links and groups, the width of its records, VERIFY; and
+-- items and links: at most 60, each sound, and at most 480 bytes in a record
+unfoldable pub has_sound_items : List Shape → Shape → Bool
+has_sound_items ss s = nat_le (length s.items) 60 && list_all (is_item_sound ss) s.items && nat_le (total width_of s.items) 480
+
+-- groups: each sound, in the order of their items, none sharing an item with another, and so no more than items
+unfoldable pub has_sound_groups : Shape → Bool
+has_sound_groups s = nat_le (length s.groups) (length s.items) && list_all (is_group_sound s.items) s.groups && apart groups_follow s.groups
+
+-- every record meets it, or a condition on the items
+abbrev pub has_sound_verify : Shape → Bool
+has_sound_verify s = is_nothing s.cond || is_condition s.items s.cond
+
 -- nothing of what only sets and subsets have
+unfoldable pub lacks_set_fields : Shape → Bool
+lacks_set_fields s = s.set == 0 && s.form == 0 && not s.duplicates && is_empty s.parts
+
+-- a data set: how many records it may have, its members, and VERIFY
 unfoldable pub is_data_set_sound : List Shape → Shape → Bool
 is_data_set_sound ss s =
     is_within 1 1000000 s.population
     && has_member ss s
-    && nat_le (length s.items) 60
-    && list_all (is_item_sound ss) s.items
-    && nat_le (length s.groups) (length s.items)
-    && list_all (is_group_sound s.items) s.groups
-    && apart groups_follow s.groups
+    && has_sound_items ss s
+    && has_sound_groups s
     && members_differ s.items s.groups
-    && nat_le (total width_of s.items) 480
-    && (is_nothing s.cond || is_condition s.items s.cond)
-    && s.set == 0
-    && s.form == 0
-    && not s.duplicates
-    && is_empty s.parts
+    && has_sound_verify s
+    && lacks_set_fields s
 
 -- the restart data set stands in no other
 abbrev pub is_placed : Shape → Bool
@@ -116,6 +124,9 @@ is_set_sound ss s =
 
 -- ---- structures
 
+abbrev pub has_sound_fields : List Shape → Shape → Bool
+has_sound_fields ss s = if holds_records s.kind then is_data_set_sound ss s else is_set_sound ss s
+
 -- a structure: its kind, its name, where it stands, and what its kind asks for
 unfoldable pub is_sound : List Shape → Shape → Bool
 is_sound ss s =
@@ -124,7 +135,7 @@ is_sound ss s =
     && is_owned_well ss s
     && is_shallow ss s
     && is_placed s
-    && (if holds_records s.kind then is_data_set_sound ss s else is_set_sound ss s)
+    && has_sound_fields ss s
 
 -- structures are numbered in their order
 abbrev pub numbered : ℕ → List Shape → Bool

@@ -1,9 +1,14 @@
 //! The bytes of a description.
 #![tactic(auto)]
 
+mod checks;
+mod conds;
+mod finding;
 mod input;
+mod members;
 mod parts;
 mod reading;
+mod sets;
 mod writing;
 
 pub use reading::find;
