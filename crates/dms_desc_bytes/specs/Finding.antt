@@ -34,10 +34,6 @@ owner_of ss n = owner_in (structure_at ss n)
 unfoldable pub items_of : List Shape → ℕ → List Item
 items_of ss n = items_in (structure_at ss n)
 
--- a data set or the restart data set
-abbrev pub holds_records : ℕ → Bool
-holds_records kind = kind == 1 || kind == 2
-
 -- the item with this number
 abbrev pub item_at : List Item → ℕ → Option Item
 item_at items n = if n == 0 then None else slice_get items (n - 1)

@@ -13,8 +13,9 @@ use Rattle.dms_base.specs.Text.{is_printable, trimmed}
 use Rattle.dms_desc.specs.declared.structure.Item.{Item}
 use Rattle.dms_desc.specs.declared.structure.Group.{Group}
 use Rattle.dms_desc.specs.Shape.{Shape}
-use Rattle.dms_desc_bytes.specs.Finding.{kind_of, owner_of, holds_records, is_link}
+use Rattle.dms_desc_bytes.specs.Finding.{kind_of, owner_of, is_link}
 use Rattle.dms_desc_bytes.specs.Lists.{apart}
+use Rattle.dms_desc_bytes.specs.Spelling.{is_data_set}
 
 -- a text has characters from the space to `~`, and no space at its end
 abbrev pub is_plain : Value → Bool
@@ -35,7 +36,7 @@ is_null (Reference n) = false
 
 -- a link points to a data set that stands in no other, is never required, and begins as null
 unfoldable pub is_link_sound : List Shape → ℕ → Item → Bool
-is_link_sound ss target i = holds_records (kind_of ss target) && owner_of ss target == 0 && not i.required && is_null i.initial
+is_link_sound ss target i = is_data_set (kind_of ss target) && owner_of ss target == 0 && not i.required && is_null i.initial
 
 abbrev pub points_well : List Shape → ItemKind → Item → Bool
 points_well ss (LinkTo target counted) i = is_link_sound ss target i

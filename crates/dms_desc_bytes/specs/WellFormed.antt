@@ -8,10 +8,10 @@ use Rattle.dms_desc.specs.declared.structure.Item.{Item}
 use Rattle.dms_desc.specs.declared.structure.KeyPart.{KeyPart}
 use Rattle.dms_desc.specs.Shape.{Shape, Described}
 use Rattle.dms_desc_bytes.specs.Conditions.{is_condition, is_nothing}
-use Rattle.dms_desc_bytes.specs.Finding.{kind_of, owner_of, items_of, item_at, holds_records, is_link}
+use Rattle.dms_desc_bytes.specs.Finding.{kind_of, owner_of, items_of, item_at, is_link}
 use Rattle.dms_desc_bytes.specs.Lists.{is_within, is_empty, apart, total}
 use Rattle.dms_desc_bytes.specs.Members.{is_item_sound, is_group_sound, members_differ, groups_follow, item_width, counted_one}
-use Rattle.dms_desc_bytes.specs.Spelling.{spelling}
+use Rattle.dms_desc_bytes.specs.Spelling.{is_data_set, spelling}
 
 -- ---- where a structure stands
 
@@ -111,7 +111,7 @@ is_where_sound items s = if s.kind == 4 then is_condition items s.cond else is_n
 -- subset have a key, and without one there are duplicates; and nothing of what only data sets have
 unfoldable pub is_set_sound : List Shape → Shape → Bool
 is_set_sound ss s =
-    holds_records (kind_of ss s.set)
+    is_data_set (kind_of ss s.set)
     && is_set_placed ss s
     && is_populated s
     && is_within 1 2 s.form
@@ -125,7 +125,7 @@ is_set_sound ss s =
 -- ---- structures
 
 abbrev pub has_sound_fields : List Shape → Shape → Bool
-has_sound_fields ss s = if holds_records s.kind then is_data_set_sound ss s else is_set_sound ss s
+has_sound_fields ss s = if is_data_set s.kind then is_data_set_sound ss s else is_set_sound ss s
 
 -- a structure: its kind, its name, where it stands, and what its kind asks for
 unfoldable pub is_sound : List Shape → Shape → Bool

@@ -5,7 +5,7 @@ ghost use Rattle.dms_desc_bytes.specs.Lists.{apart, total};
 ghost use Rattle.dms_desc_bytes.specs.WellFormed.{is_owned_well, is_shallow, stands_in, has_member, has_sound_items, has_sound_groups, has_sound_verify, lacks_set_fields, is_data_set_sound, is_placed, has_sound_fields, is_sound, numbered, names_differ, is_restart, not_both_restart, counted_in, has_parameters, are_sound};
 
 use crate::conds::{is_condition, is_nothing};
-use crate::finding::{holds_records, kind_of, owner_of};
+use crate::finding::{is_data_set, kind_of, owner_of};
 use crate::members::{
     are_groups_sound, are_items_sound, counted_links, groups_follow, is_name, members_differ,
     record_width,
@@ -99,7 +99,7 @@ fn is_placed(s: &Structure) -> bool
 fn has_sound_fields(structures: &[Structure], s: &Structure) -> bool
     ensures { result ≡ has_sound_fields (map shape_of structures.now) (shape_of s.now) }
 {
-    if holds_records(s.kind) {
+    if is_data_set(s.kind) {
         return is_data_set_sound(structures, s);
     }
     is_set_sound(structures, s)

@@ -1,7 +1,8 @@
 ghost use Rattle.std.specs.Prelude.{◌≡◌, map, option_map};
 ghost use Rattle.std.specs.Option.{option_copied};
 ghost use Rattle.dms_desc.specs.Shape.{shape_of};
-ghost use Rattle.dms_desc_bytes.specs.Finding.{structure_at, kind_of, owner_of, items_of, holds_records, item_at, is_link};
+ghost use Rattle.dms_desc_bytes.specs.Finding.{structure_at, kind_of, owner_of, items_of, item_at, is_link};
+ghost use Rattle.dms_desc_bytes.specs.Spelling.{is_data_set};
 
 use dms_base::ItemKind;
 use dms_desc::{Item, Structure};
@@ -50,8 +51,8 @@ pub fn items_of(structures: &[Structure], number: u16) -> &[Item]
 }
 
 /// Whether this is the kind of a data set.
-pub fn holds_records(kind: u8) -> bool
-    ensures { result ≡ holds_records kind }
+pub fn is_data_set(kind: u8) -> bool
+    ensures { result ≡ is_data_set kind }
 {
     kind == 1 || kind == 2
 }

@@ -9,7 +9,7 @@ ghost use Rattle.dms_desc_bytes.specs.Lists.{apart, total};
 ghost use Rattle.dms_desc_bytes.specs.Members.{is_plain, is_null, is_link_sound, points_well, is_item_sound, items_differ, groups_differ, is_free_of, members_differ, is_group_sound, groups_follow, item_width, counted_one};
 ghost use Rattle.dms_desc_bytes.specs.WellFormed.{width_of};
 
-use crate::finding::{holds_records, kind_of, owner_of};
+use crate::finding::{is_data_set, kind_of, owner_of};
 use dms_base::{ItemKind, Name, Value, fits, is_printable, trimmed};
 use dms_desc::{Group, Item, Structure};
 
@@ -58,7 +58,7 @@ fn is_kind(kind: &ItemKind) -> bool
 fn is_link_sound(structures: &[Structure], target: u16, item: &Item) -> bool
     ensures { result ≡ is_link_sound (map shape_of structures.now) target item.now }
 {
-    holds_records(kind_of(structures, target))
+    is_data_set(kind_of(structures, target))
         && owner_of(structures, target) == 0
         && !item.required
         && is_null(&item.initial)

@@ -6,7 +6,7 @@ ghost use Rattle.dms_desc_bytes.specs.Lists.{apart, total};
 ghost use Rattle.dms_desc_bytes.specs.WellFormed.{is_part_sound, parts_differ, part_width, width_in, is_key_sound, is_set_placed, is_populated, is_where_sound, is_set_sound};
 
 use crate::conds::{is_condition, is_nothing};
-use crate::finding::{holds_records, is_link, item_at, items_of, kind_of, owner_of};
+use crate::finding::{is_data_set, is_link, item_at, items_of, kind_of, owner_of};
 use crate::members::item_width;
 use dms_desc::{Item, KeyPart, Structure};
 
@@ -108,7 +108,7 @@ pub fn is_set_sound(structures: &[Structure], s: &Structure) -> bool
 {
     let items = items_of(structures, s.set);
     let parts = s.parts.as_slice();
-    holds_records(kind_of(structures, s.set))
+    is_data_set(kind_of(structures, s.set))
         && is_set_placed(structures, s)
         && is_populated(s)
         && 1 <= s.form
