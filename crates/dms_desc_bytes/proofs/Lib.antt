@@ -3,5 +3,7 @@ pub mod Fields
 pub mod MemberLaws
 pub mod Places
 mod Several
+pub mod Soundness
+pub mod StructureLaws
 mod Trees
 pub mod Values
