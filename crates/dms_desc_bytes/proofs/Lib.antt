@@ -1,4 +1,5 @@
 pub mod CondLaws
+pub mod DescriptionLaws
 pub mod Fields
 pub mod MemberLaws
 pub mod Places

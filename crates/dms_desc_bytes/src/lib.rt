@@ -11,5 +11,5 @@ mod reading;
 mod sets;
 mod writing;
 
-pub use reading::find;
+pub use reading::{decode, find};
 pub use writing::encode;

@@ -3,14 +3,19 @@ ghost use Rattle.dms_desc.specs.Shape.{tree_of, shape_of, described};
 ghost use Rattle.dms_desc_bytes.specs.Decoding.{Decodes, number_of};
 ghost use Rattle.dms_desc_bytes.specs.Reading.{data_set_at, where_at, set_at, fields_at, structure_at, all_structures_at, description_at};
 
+use crate::checks::{are_sound, has_parameters};
 use crate::input::Input;
 use crate::parts::{read_cond, read_groups, read_items, read_parts};
+use crate::writing::encode;
 use dms_base::{Memory, Name};
 use dms_desc::{Cond, Description, Groups, Items, KeyParts, Structure, Structures};
 use std::alloc::Global;
 
 /// The levels that a condition of 100 nodes can have.
 const LEVELS: u8 = 100;
+
+/// The bytes that a description may have.
+const MOST_BYTES: usize = 65_535;
 
 /// What stands before the fields of a kind of structure.
 #[derive(Clone, Copy, Debug, PartialEq, Eq)]
@@ -121,7 +126,7 @@ fn read_structures(alloc: Global, input: &mut Input<'_>) -> Result<Structures, M
 
 /// What stands in these bytes, whatever they are.
 #[tactic(auto, unfolding(crate::specs::Reading::description_at))]
-pub fn read_description(alloc: Global, bytes: &[u8]) -> Result<Description, Memory>
+fn read_description(alloc: Global, bytes: &[u8]) -> Result<Description, Memory>
     ensures { IfOk result (λ d. described d ≡ (description_at bytes.now).0) }
 {
     let mut input = Input::new(bytes);
@@ -140,6 +145,28 @@ pub fn read_description(alloc: Global, bytes: &[u8]) -> Result<Description, Memo
         files,
         structures,
     })
+}
+
+/// The description that these bytes spell; None exactly where no well-formed description is spelled so.
+/// What stands in the bytes is read, and then it must be well-formed and written as the same bytes.
+pub fn decode(alloc: Global, bytes: &[u8]) -> Result<Option<Description>, Memory>
+    ensures { IfOk result (λ found. Decodes bytes.now found) }
+{
+    if bytes.len() > MOST_BYTES {
+        return Ok(None);
+    }
+    let desc = read_description(alloc, bytes)?;
+    let again = encode(alloc, &desc)?;
+    if again.as_slice() != bytes {
+        return Ok(None);
+    }
+    if !has_parameters(&desc) {
+        return Ok(None);
+    }
+    if !are_sound(desc.structures.as_slice()) {
+        return Ok(None);
+    }
+    Ok(Some(desc))
 }
 
 /// The number of the structure with this name; None exactly where no structure has it.
