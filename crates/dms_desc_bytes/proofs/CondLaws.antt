@@ -1,5 +1,5 @@
 -- A condition that was written is read again.
-use Rattle.std.proofs.Common.{◌≡◌, ℕ, zero, suc, ◌+◌, ◌-◌, ◌<◌, ◌≤◌, Bool, true, false, List, [], ◌∷◌, ◌++◌, length, Option, Some, None, refl, sym, ap, ◌∙◌, append_assoc, arith}
+use Rattle.std.proofs.Common.{◌≡◌, ℕ, zero, suc, ◌≤◌, Bool, true, false, List, ◌++◌, Option, Some, None, refl, ap, ◌∙◌, append_assoc, arith}
 use Rattle.std.specs.Prelude.{not, ◌&&◌}
 use Rattle.std.proofs.lemmas.Bool.{and_parts}
 use Rattle.dms_base.specs.Fits.{fits}
@@ -13,7 +13,7 @@ use Rattle.dms_desc.specs.Shape.Tree.{Empty, Test, Both, Either, Contrary}
 use Rattle.dms_desc_bytes.specs.Conditions.{nodes, is_comparable, compares_well}
 use Rattle.dms_desc_bytes.specs.Finding.{item_at, is_link}
 use Rattle.dms_desc_bytes.specs.Members.{is_plain}
-use Rattle.dms_desc_bytes.specs.Reading.{Read, literal_at, op_of, test_at, tree_at}
+use Rattle.dms_desc_bytes.specs.Reading.{Read, op_of, test_at, tree_at}
 use Rattle.dms_desc_bytes.specs.Spelling.{op_number, tree_bytes}
 use Rattle.dms_desc_bytes.proofs.Fields.{Again}
 use Rattle.dms_desc_bytes.proofs.Values.{Spelled, literal_again, value_spelled}

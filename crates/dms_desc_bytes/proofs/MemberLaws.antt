@@ -1,6 +1,5 @@
 -- What was written is read again: items, groups, parts of keys, and lists of them.
-use Rattle.std.proofs.Common.{◌≡◌, ℕ, zero, suc, ◌+◌, ◌-◌, ◌%◌, ◌^◌, ◌<◌, ◌≤◌, Bool, true, false, List, [], ◌∷◌, ◌++◌, length, refl, sym, ap, ◌∙◌, append_assoc, arith}
-use Rattle.std.specs.Prelude.{nat_le, ◌&&◌}
+use Rattle.std.proofs.Common.{◌≡◌, ℕ, suc, ◌+◌, ◌≤◌, Bool, true, List, [], ◌∷◌, ◌++◌, length, refl, ap, ◌∙◌, append_assoc}
 use Rattle.std.specs.List.{flat_map, list_all}
 use Rattle.std.proofs.lemmas.Bool.{and_parts}
 use Rattle.std.proofs.lemmas.List.Concat.{flat_map-cons}
@@ -10,7 +9,7 @@ use Rattle.dms_base.specs.declared.kind.ItemKind.{ItemKind}
 use Rattle.dms_desc.specs.declared.structure.Item.{Item}
 use Rattle.dms_desc.specs.declared.structure.Group.{Group}
 use Rattle.dms_desc.specs.declared.structure.KeyPart.{KeyPart}
-use Rattle.dms_desc_bytes.specs.Reading.{Read, byte_at, name_at, kind_at, flag_at, literal_at, item_at, group_at, part_at, several, list_at}
+use Rattle.dms_desc_bytes.specs.Reading.{Read, byte_at, kind_at, flag_at, literal_at, item_at, group_at, part_at, several, list_at}
 use Rattle.dms_desc_bytes.specs.Spelling.{count_byte, name_bytes, kind_bytes, literal_bytes, flag, item_bytes, group_bytes, part_bytes}
 use Rattle.dms_desc_bytes.proofs.Fields.{Again, flag_again, small_count}
 use Rattle.dms_desc_bytes.proofs.Values.{Spelled, Typed, name_again, kind_again, literal_again}

@@ -1,5 +1,5 @@
 -- A sound structure can be spelled.
-use Rattle.std.proofs.Common.{◌≡◌, ℕ, zero, suc, ◌+◌, ◌-◌, ◌^◌, ◌<◌, ◌≤◌, Bool, true, false, cond, eqb, List, [], ◌∷◌, length, Option, Some, None, refl, sym, ap, subst, ◌∙◌, ◌++◌, arith, inl, inr, ◌⊎◌}
+use Rattle.std.proofs.Common.{◌≡◌, ℕ, ◌+◌, ◌-◌, ◌^◌, ◌<◌, ◌≤◌, Bool, true, false, cond, eqb, List, [], ◌∷◌, length, Option, Some, None, refl, sym, ap, subst, ◌∙◌, ◌++◌, arith, inl, inr, ◌⊎◌}
 use Rattle.std.specs.Prelude.{not, ◌&&◌, ◌||◌, ◌==◌, nat_le, nat_lt, slice_get}
 use Rattle.std.specs.List.{list_all}
 use Rattle.std.proofs.lemmas.Bool.{and_parts, leb-true, eqb-true}
@@ -13,7 +13,7 @@ use Rattle.dms_desc.specs.declared.structure.Group.{Group}
 use Rattle.dms_desc.specs.Shape.{Tree, Shape}
 use Rattle.dms_desc.specs.Shape.Tree.{Empty, Test, Both, Either, Contrary}
 use Rattle.dms_desc_bytes.specs.Conditions.{nodes, compares_well, is_nothing, is_condition}
-use Rattle.dms_desc_bytes.specs.Finding.{structure_at, kind_in, kind_of, owner_of, items_in, items_of, item_at, is_link}
+use Rattle.dms_desc_bytes.specs.Finding.{structure_at, kind_in, kind_of, owner_of, items_in, items_of}
 use Rattle.dms_desc_bytes.specs.Lists.{is_within, is_empty, apart, total}
 use Rattle.dms_desc_bytes.specs.Members.{is_plain, is_null, is_link_sound, points_well, is_item_sound, is_group_sound, members_differ, groups_follow}
 use Rattle.dms_desc_bytes.specs.Reading as reading
@@ -23,7 +23,7 @@ use Rattle.dms_desc_bytes.proofs.Fields.{Again}
 use Rattle.dms_desc_bytes.proofs.Places.{at_place, all_at}
 use Rattle.dms_desc_bytes.proofs.Values.{Typed, Spelled, value_spelled, null_spelled}
 use Rattle.dms_desc_bytes.proofs.CondLaws.{Kinds, tree_again, nothing_again}
-use Rattle.dms_desc_bytes.proofs.MemberLaws.{SpelledItem, EachAgain, each_again, item_again, group_again}
+use Rattle.dms_desc_bytes.proofs.MemberLaws.{each_again, item_again, group_again}
 use Rattle.dms_desc_bytes.proofs.StructureLaws.{SpelledDataSet, SpelledSet, SpelledShape}
 
 -- ---- what a number names

@@ -1,5 +1,5 @@
 -- A structure that was written is read again.
-use Rattle.std.proofs.Common.{◌≡◌, ℕ, zero, suc, ◌+◌, ◌-◌, ◌%◌, ◌^◌, ◌<◌, ◌≤◌, Bool, true, false, cond, eqb, List, [], ◌∷◌, ◌++◌, length, refl, sym, ap, ◌∙◌, append_assoc, arith}
+use Rattle.std.proofs.Common.{◌≡◌, ℕ, ◌+◌, ◌^◌, ◌<◌, ◌≤◌, Bool, true, false, cond, eqb, List, [], ◌∷◌, ◌++◌, length, refl, sym, ap, ◌∙◌, append_assoc}
 use Rattle.std.specs.List.{flat_map}
 use Rattle.std.specs.Int.{w16, w32, to_be_bytes}
 use Rattle.dms_base.specs.Name.{is_name}
@@ -13,7 +13,7 @@ use Rattle.dms_desc_bytes.specs.Reading.{Read, byte_at, name_at, number_at, flag
 use Rattle.dms_desc_bytes.specs.Spelling.{count_byte, flag, name_bytes, item_bytes, group_bytes, part_bytes, tree_bytes, data_set_bytes, where_bytes, set_bytes, is_data_set, structure_bytes}
 use Rattle.dms_desc_bytes.proofs.Fields.{Again, u16_again, u32_again, flag_again}
 use Rattle.dms_desc_bytes.proofs.Values.{name_again}
-use Rattle.dms_desc_bytes.proofs.MemberLaws.{EachAgain, list_again, part_again, each_again, three}
+use Rattle.dms_desc_bytes.proofs.MemberLaws.{EachAgain, list_again, part_again, three}
 
 abbrev pub head_of : Shape → Head
 head_of s = record { number = s.number; kind = s.kind; name = s.name; owner = s.owner }

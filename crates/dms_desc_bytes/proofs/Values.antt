@@ -1,11 +1,10 @@
 -- What was written is read again: names, literals and types of items.
-use Rattle.std.proofs.Common.{◌≡◌, ℕ, zero, suc, ℤ, pos, negsuc, ◌+◌, ◌-◌, ◌%◌, ◌^◌, ◌<◌, ◌≤◌, Bool, true, false, ltb, leb, List, [], ◌∷◌, ◌++◌, length, refl, sym, ap, ◌∙◌, arith}
+use Rattle.std.proofs.Common.{◌≡◌, ℕ, suc, ℤ, pos, negsuc, ◌+◌, ◌-◌, ◌^◌, ◌<◌, ◌≤◌, Bool, true, false, ltb, leb, List, length, refl, ap, ◌∙◌, arith}
 use Rattle.std.specs.Prelude.{unsigned_abs, nat_le, nat_lt, not, ◌&&◌, ◌||◌, int_lt}
 use Rattle.std.specs.List.{list_all}
 use Rattle.std.specs.Str.{bytes_eq}
 use Rattle.std.proofs.Math.Pow.{pow_mono}
 use Rattle.std.proofs.Math.Nat.{pow-le-pow_right}
-use Rattle.std.specs.Int.{w16, w64, from_be_bytes, to_be_bytes}
 use Rattle.std.proofs.lemmas.Bool.{and_parts, leb-true, le-leb, ltb-true, lt-ltb, le-ltb}
 use Rattle.std.proofs.lemmas.Nat.{from_be_bytes-to_be_bytes_2}
 use Rattle.std.proofs.lemmas.Slice.Eq.{bytes_eq-Decides}
@@ -22,7 +21,7 @@ use Rattle.dms_base.specs.declared.kind.ItemKind.TheVariants.{Alpha, Number as D
 use Rattle.dms_desc_bytes.specs.Finding.{is_link}
 use Rattle.dms_desc_bytes.specs.Members.{is_plain, is_null}
 use Rattle.dms_desc_bytes.specs.Reading.{Read, name_at, name_or_unknown, text_or_null, text_at, long_at, truth_at, bits_at, literal_at, kind_at, unshifted}
-use Rattle.dms_desc_bytes.specs.Spelling.{name_bytes, literal_bytes, kind_bytes, shifted, flag}
+use Rattle.dms_desc_bytes.specs.Spelling.{name_bytes, literal_bytes, kind_bytes, shifted}
 use Rattle.dms_desc_bytes.proofs.Fields.{Again, u64_again, flag_again, counted_again}
 
 -- ---- names

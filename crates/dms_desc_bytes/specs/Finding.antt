@@ -1,5 +1,5 @@
 -- Structures and items, looked up by their numbers, which count from 1.
-use Rattle.std.specs.Prelude.{ℕ, ◌-◌, List, [], Bool, true, false, ◌||◌, ◌==◌, slice_get, Some, None, if◌then◌else◌}
+use Rattle.std.specs.Prelude.{ℕ, ◌-◌, List, [], Bool, true, false, ◌==◌, slice_get, Some, None, if◌then◌else◌}
 use Rattle.std.specs.declared.option.Option.{Option}
 use Rattle.dms_base.specs.declared.kind.ItemKind.{ItemKind}
 use Rattle.dms_base.specs.declared.kind.ItemKind.TheVariants.{Alpha, Number as Decimal, Bool as OneBit, Field, Link as LinkTo}

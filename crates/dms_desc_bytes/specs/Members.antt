@@ -1,5 +1,5 @@
 -- The checks of items, links and groups.
-use Rattle.std.specs.Prelude.{ℕ, ◌+◌, List, [], ◌∷◌, length, Bool, true, false, not, ◌&&◌, ◌||◌, ◌==◌, nat_le, Some, None}
+use Rattle.std.specs.Prelude.{ℕ, ◌+◌, List, length, Bool, true, false, not, ◌&&◌, ◌==◌, nat_le}
 use Rattle.std.specs.List.{list_all}
 use Rattle.std.specs.Str.{bytes_eq}
 use Rattle.dms_base.specs.declared.value.Value.{Value}
@@ -13,7 +13,7 @@ use Rattle.dms_base.specs.Text.{is_printable, trimmed}
 use Rattle.dms_desc.specs.declared.structure.Item.{Item}
 use Rattle.dms_desc.specs.declared.structure.Group.{Group}
 use Rattle.dms_desc.specs.Shape.{Shape}
-use Rattle.dms_desc_bytes.specs.Finding.{kind_of, owner_of, is_link}
+use Rattle.dms_desc_bytes.specs.Finding.{kind_of, owner_of}
 use Rattle.dms_desc_bytes.specs.Lists.{apart}
 use Rattle.dms_desc_bytes.specs.Spelling.{is_data_set}
 

@@ -9,6 +9,8 @@ mod members;
 mod parts;
 mod reading;
 mod sets;
+#[cfg(test)]
+mod tests;
 mod writing;
 
 pub use reading::{decode, find};

@@ -165,9 +165,8 @@ pub fn are_groups_sound(items: &[Item], groups: &[Group]) -> bool
 fn is_before(group: &Group, others: &[Group]) -> bool
     ensures { result ≡ list_all (groups_follow group.now) others.now }
 {
-    others
-        .iter()
-        .all(|other| u16::from(group.first) + u16::from(group.count) <= u16::from(other.first))
+    others.iter().all(|other| u16::from(group.first) + u16::from(group.count)
+        <= u16::from(other.first))
 }
 
 /// Whether the groups stand in the order of their items, and share none.

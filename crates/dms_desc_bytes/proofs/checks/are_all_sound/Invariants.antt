@@ -1,7 +1,6 @@
-use Rattle.std.proofs.Common.{◌≡◌, ◌≤◌, ◌+◌, min, drop, map}
-use Rattle.std.specs.List.{list_all, list_any}
+use Rattle.std.proofs.Common.{◌≡◌, drop, map}
+use Rattle.std.specs.List.{list_all}
 use Rattle.dms_desc.specs.Shape.{shape_of}
-use Rattle.dms_desc_bytes.specs.Lists.{apart, total}
 use Rattle.dms_desc_bytes.specs.WellFormed.{is_sound}
 use Rattle.dms_desc_bytes.proofs.checks.are_all_sound.Given as goal
 

@@ -1,7 +1,5 @@
-use Rattle.std.proofs.Common.{◌≡◌, ◌≤◌, ◌+◌, min, drop, map}
-use Rattle.std.specs.List.{list_all, list_any}
+use Rattle.std.proofs.Common.{◌≡◌, ◌+◌, drop, map}
 use Rattle.dms_desc.specs.Shape.{shape_of}
-use Rattle.dms_desc_bytes.specs.Lists.{apart, total}
 use Rattle.dms_desc_bytes.specs.WellFormed.{numbered}
 use Rattle.dms_desc_bytes.proofs.checks.are_numbered.Given as goal
 

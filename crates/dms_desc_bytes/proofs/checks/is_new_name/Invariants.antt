@@ -1,7 +1,6 @@
-use Rattle.std.proofs.Common.{◌≡◌, ◌≤◌, ◌+◌, min, drop, map}
-use Rattle.std.specs.List.{list_all, list_any}
+use Rattle.std.proofs.Common.{◌≡◌, drop, map}
+use Rattle.std.specs.List.{list_all}
 use Rattle.dms_desc.specs.Shape.{shape_of}
-use Rattle.dms_desc_bytes.specs.Lists.{apart, total}
 use Rattle.dms_desc_bytes.specs.WellFormed.{names_differ}
 use Rattle.dms_desc_bytes.proofs.checks.is_new_name.Given as goal
 

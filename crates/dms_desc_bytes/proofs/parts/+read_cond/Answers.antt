@@ -1,4 +1,4 @@
-use Rattle.std.proofs.Common.{◌≡◌, ◌∙◌}
+use Rattle.std.proofs.Common.{◌∙◌}
 use Rattle.std.proofs.lemmas.Result.{IfOk-weaker}
 use Rattle.dms_desc_bytes.proofs.Trees.{test_read}
 use Rattle.dms_desc_bytes.proofs.parts.+read_cond.Goals as goal

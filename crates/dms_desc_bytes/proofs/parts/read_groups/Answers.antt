@@ -1,5 +1,5 @@
 use Rattle.std.proofs.Common.{◌+◌}
-use Rattle.dms_desc_bytes.specs.Reading.{list_at, several, group_at}
+use Rattle.dms_desc_bytes.specs.Reading.{list_at, group_at}
 use Rattle.dms_desc_bytes.proofs.Several.{one_more, all_read}
 use Rattle.dms_desc_bytes.proofs.parts.read_groups.Goals as goal
 

@@ -1,5 +1,5 @@
 use Rattle.std.proofs.Common.{◌+◌}
-use Rattle.dms_desc_bytes.specs.Reading.{list_at, several, item_at}
+use Rattle.dms_desc_bytes.specs.Reading.{list_at, item_at}
 use Rattle.dms_desc_bytes.proofs.Several.{one_more, all_read}
 use Rattle.dms_desc_bytes.proofs.parts.read_items.Goals as goal
 

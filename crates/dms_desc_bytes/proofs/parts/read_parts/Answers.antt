@@ -1,5 +1,5 @@
 use Rattle.std.proofs.Common.{◌+◌}
-use Rattle.dms_desc_bytes.specs.Reading.{list_at, several, part_at}
+use Rattle.dms_desc_bytes.specs.Reading.{list_at, part_at}
 use Rattle.dms_desc_bytes.proofs.Several.{one_more, all_read}
 use Rattle.dms_desc_bytes.proofs.parts.read_parts.Goals as goal
 

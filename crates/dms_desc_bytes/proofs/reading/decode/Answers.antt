@@ -1,4 +1,4 @@
-use Rattle.std.proofs.Common.{ap, sym, ◌∙◌, List, map}
+use Rattle.std.proofs.Common.{ap, ◌∙◌, List, map}
 use Rattle.dms_desc.specs.declared.structure.Structure.{Structure}
 use Rattle.dms_desc.specs.Shape.{Described, shape_of, described}
 use Rattle.dms_desc_bytes.specs.Spelling.{spelling}

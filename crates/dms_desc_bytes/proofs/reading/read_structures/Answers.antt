@@ -2,7 +2,7 @@ use Rattle.std.proofs.Common.{ap, ◌∙◌, map, List, ◌∷◌, [], ◌+◌}
 use Rattle.std.proofs.lemmas.List.{map-append}
 use Rattle.dms_desc.specs.declared.structure.Structure.{Structure}
 use Rattle.dms_desc.specs.Shape.{shape_of}
-use Rattle.dms_desc_bytes.specs.Reading.{all_structures_at, several, structure_at}
+use Rattle.dms_desc_bytes.specs.Reading.{all_structures_at, structure_at}
 use Rattle.dms_desc_bytes.proofs.Several.{one_more, all_read}
 use Rattle.dms_desc_bytes.proofs.reading.read_structures.Goals as goal
 
