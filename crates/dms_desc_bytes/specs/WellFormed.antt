@@ -35,15 +35,27 @@ has_member ss s = not (is_empty s.items) || list_any (stands_in s.number) ss
 abbrev pub width_of : Item → ℕ
 width_of i = item_width i.kind
 
--- items and links: at most 60, each sound, and at most 480 bytes in a record
+-- the items and links of a data set
 unfoldable pub has_sound_items : List Shape → Shape → Bool
-has_sound_items ss s = nat_le (length s.items) 60 && list_all (is_item_sound ss) s.items && nat_le (total width_of s.items) 480
+has_sound_items ss s =
+    -- at most 60
+    nat_le (length s.items) 60
+    -- each with its name, type, initial value and what it points to
+    && list_all (is_item_sound ss) s.items
+    -- a record has at most 480 bytes
+    && nat_le (total width_of s.items) 480
 
--- groups: each sound, in the order of their items, none sharing an item with another, and so no more than items
+-- the groups of a data set
 unfoldable pub has_sound_groups : Shape → Bool
-has_sound_groups s = nat_le (length s.groups) (length s.items) && list_all (is_group_sound s.items) s.groups && apart groups_follow s.groups
+has_sound_groups s =
+    -- no more than items, since no item is in two of them
+    nat_le (length s.groups) (length s.items)
+    -- each has a name and at least one item, and ends within the items
+    && list_all (is_group_sound s.items) s.groups
+    -- they stand in the order of their items, and no item is in two of them
+    && apart groups_follow s.groups
 
--- every record meets it, or a condition on the items
+-- VERIFY: none, or a condition on the items
 abbrev pub has_sound_verify : Shape → Bool
 has_sound_verify s = is_nothing s.cond || is_condition s.items s.cond
 
@@ -51,13 +63,16 @@ has_sound_verify s = is_nothing s.cond || is_condition s.items s.cond
 unfoldable pub lacks_set_fields : Shape → Bool
 lacks_set_fields s = s.set == 0 && s.form == 0 && not s.duplicates && is_empty s.parts
 
--- a data set: how many records it may have, its members, and VERIFY
+-- a data set or the restart data set
 unfoldable pub is_data_set_sound : List Shape → Shape → Bool
 is_data_set_sound ss s =
+    -- POPULATION, the records that it may have
     is_within 1 1000000 s.population
+    -- at least one member
     && has_member ss s
     && has_sound_items ss s
     && has_sound_groups s
+    -- no name twice among items, links and groups
     && members_differ s.items s.groups
     && has_sound_verify s
     && lacks_set_fields s
@@ -86,12 +101,16 @@ width_in (Some i) = item_width i.kind
 abbrev pub part_width : List Item → KeyPart → ℕ
 part_width items p = width_in (item_at items p.item)
 
--- a key: at most 16 parts, none of them twice, and at most 96 bytes
+-- a key
 unfoldable pub is_key_sound : List Item → List KeyPart → Bool
 is_key_sound items ps =
+    -- at most 16 parts
     nat_le (length ps) 16
+    -- each an item of the data set that is no link
     && list_all (is_part_sound items) ps
+    -- none of them twice
     && apart parts_differ ps
+    -- at most 96 bytes
     && nat_le (total (part_width items) ps) 96
 
 -- a set or subset stands where its data set stands; a manual subset of a data set that stands in no other may
@@ -107,27 +126,32 @@ is_populated s = if s.kind == 5 then is_within 1 1000000 s.population else s.pop
 abbrev pub is_where_sound : List Item → Shape → Bool
 is_where_sound items s = if s.kind == 4 then is_condition items s.cond else is_nothing s.cond
 
--- a set or subset: its data set and where it stands, its form, its key, and its WHERE; a set and an automatic
--- subset have a key, and without one there are duplicates; and nothing of what only data sets have
+-- a set or subset
 unfoldable pub is_set_sound : List Shape → Shape → Bool
 is_set_sound ss s =
+    -- its records are those of a data set
     is_data_set (kind_of ss s.set)
     && is_set_placed ss s
     && is_populated s
+    -- INDEX SEQUENTIAL or ORDERED LIST
     && is_within 1 2 s.form
     && is_key_sound (items_of ss s.set) s.parts
+    -- a set and an automatic subset have a key
     && (s.kind == 5 || not (is_empty s.parts))
+    -- without a key there are duplicates
     && (s.duplicates || not (is_empty s.parts))
     && is_where_sound (items_of ss s.set) s
+    -- nothing of what only data sets have
     && is_empty s.items
     && is_empty s.groups
 
 -- ---- structures
 
+-- what its kind asks for
 abbrev pub has_sound_fields : List Shape → Shape → Bool
 has_sound_fields ss s = if is_data_set s.kind then is_data_set_sound ss s else is_set_sound ss s
 
--- a structure: its kind, its name, where it stands, and what its kind asks for
+-- a structure
 unfoldable pub is_sound : List Shape → Shape → Bool
 is_sound ss s =
     is_within 1 5 s.kind
@@ -156,24 +180,30 @@ counted_in s = total (λ i. counted_one i.kind) s.items
 
 -- ---- descriptions
 
--- SYNCPOINT, CONTROLPOINT, BUFFERS, BLOCKS and FILES, each in its range
+-- each parameter is in its range
 unfoldable pub has_parameters : Described → Bool
 has_parameters d =
+    -- SYNCPOINT and CONTROLPOINT
     is_within 1 10000 d.syncpoint
     && is_within 1 10000 d.controlpoint
+    -- BUFFERS
     && is_within 8 4096 d.buffers
+    -- BLOCKS and FILES of the audit trail
     && is_within 8 512 d.blocks
     && is_within 2 9999 d.files
 
--- the structures: at most 200, numbered in order, no two of one name, each sound, exactly one restart data set, at
--- most 4,000 counted links
+-- the structures
 unfoldable pub are_sound : List Shape → Bool
 are_sound ss =
+    -- at most 200
     nat_le (length ss) 200
     && numbered 1 ss
+    -- no name twice
     && apart names_differ ss
+    -- exactly one restart data set
     && list_any is_restart ss
     && apart not_both_restart ss
+    -- at most 4,000 counted links
     && nat_le (total counted_in ss) 4000
     && list_all (is_sound ss) ss
 

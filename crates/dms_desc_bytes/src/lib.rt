@@ -5,6 +5,7 @@ mod checks;
 mod conds;
 mod finding;
 mod input;
+mod laws;
 mod members;
 mod parts;
 mod reading;
@@ -13,5 +14,6 @@ mod sets;
 mod tests;
 mod writing;
 
+pub use laws::spelling_law;
 pub use reading::{decode, find};
 pub use writing::encode;
