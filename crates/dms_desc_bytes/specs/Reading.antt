@@ -1,6 +1,7 @@
 -- Reading a description from left to right. Reading never fails: past the end of the bytes there are zeros, and a
 -- byte that says nothing counts as the nearest thing. Bytes that are no description are found by writing again
--- what was read: it then isn't these bytes, or isn't well-formed.
+-- what was read: it then isn't these bytes, or isn't well-formed. What bytes mean is said in Decoding; readings only
+-- serve to find the one description that they can spell.
 use Rattle.std.specs.Prelude.{ℕ, zero, suc, ℤ, pos, negsuc, ◌+◌, ◌-◌, ◌^◌, List, [], ◌∷◌, length, take, drop, Bool, false, nat_lt, ◌==◌, Some, None, if◌then◌else◌}
 use Rattle.std.specs.declared.option.Option.{Option}
 use Rattle.std.specs.Int.{Width, w16, w32, w64, byte_len, from_be_bytes}

@@ -118,7 +118,7 @@ is_key_sound items ps =
 unfoldable pub is_set_placed : List Shape → Shape → Bool
 is_set_placed ss s = s.owner == owner_of ss s.set || (s.kind == 5 && owner_of ss s.set == 0)
 
--- only a manual subset says how many entries it may have
+-- POPULATION: the entries that a manual subset may have; the others say none
 abbrev pub is_populated : Shape → Bool
 is_populated s = if s.kind == 5 then is_within 1 1000000 s.population else s.population == 0
 
