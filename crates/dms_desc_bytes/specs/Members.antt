@@ -1,0 +1,94 @@
+-- The checks of items, links and groups.
+use Rattle.std.specs.Prelude.{ℕ, ◌+◌, List, length, Bool, true, false, not, ◌&&◌, ◌==◌, nat_le}
+use Rattle.std.specs.List.{list_all}
+use Rattle.std.specs.Str.{bytes_eq}
+use Rattle.dms_base.specs.declared.value.Value.{Value}
+use Rattle.dms_base.specs.declared.value.Value.TheVariants.{Null, Text, Number, Bool as Truth, Bits, Link as Reference}
+use Rattle.dms_base.specs.declared.kind.ItemKind.{ItemKind}
+use Rattle.dms_base.specs.declared.kind.ItemKind.TheVariants.{Alpha, Number as Decimal, Bool as OneBit, Field, Link as LinkTo}
+use Rattle.dms_base.specs.Fits.{fits}
+use Rattle.dms_base.specs.Name.{is_name}
+use Rattle.dms_base.specs.Spelling.{is_kind}
+use Rattle.dms_base.specs.Text.{is_printable, trimmed}
+use Rattle.dms_desc.specs.declared.structure.Item.{Item}
+use Rattle.dms_desc.specs.declared.structure.Group.{Group}
+use Rattle.dms_desc.specs.Shape.{Shape}
+use Rattle.dms_desc_bytes.specs.Finding.{kind_of, owner_of}
+use Rattle.dms_desc_bytes.specs.Lists.{apart}
+use Rattle.dms_desc_bytes.specs.Spelling.{is_data_set}
+
+-- a text has characters from the space to `~`, and no space at its end
+abbrev pub is_plain : Value → Bool
+is_plain (Text bytes) = list_all is_printable bytes && bytes_eq (trimmed bytes) bytes
+is_plain Null = true
+is_plain (Number z) = true
+is_plain (Truth b) = true
+is_plain (Bits n) = true
+is_plain (Reference n) = true
+
+abbrev pub is_null : Value → Bool
+is_null Null = true
+is_null (Text bytes) = false
+is_null (Number z) = false
+is_null (Truth b) = false
+is_null (Bits n) = false
+is_null (Reference n) = false
+
+-- a link points to a data set that stands in no other, is never required, and begins as null
+unfoldable pub is_link_sound : List Shape → ℕ → Item → Bool
+is_link_sound ss target i = is_data_set (kind_of ss target) && owner_of ss target == 0 && not i.required && is_null i.initial
+
+abbrev pub points_well : List Shape → ItemKind → Item → Bool
+points_well ss (LinkTo target counted) i = is_link_sound ss target i
+points_well ss (Alpha n) i = true
+points_well ss (Decimal n m s) i = true
+points_well ss OneBit i = true
+points_well ss (Field n) i = true
+
+-- an item: its name, the range of its type, its initial value, and what a link points to
+unfoldable pub is_item_sound : List Shape → Item → Bool
+is_item_sound ss i =
+    is_name i.name
+    && is_kind i.kind
+    && fits i.kind i.initial
+    && is_plain i.initial
+    && points_well ss i.kind i
+
+abbrev pub items_differ : Item → Item → Bool
+items_differ a b = not (bytes_eq a.name b.name)
+
+abbrev pub groups_differ : Group → Group → Bool
+groups_differ a b = not (bytes_eq a.name b.name)
+
+-- a group's name is no item's
+abbrev pub is_free_of : List Item → Group → Bool
+is_free_of items g = list_all (λ i. not (bytes_eq i.name g.name)) items
+
+-- no name stands twice among the items, links and groups of a data set
+unfoldable pub members_differ : List Item → List Group → Bool
+members_differ items groups = apart items_differ items && apart groups_differ groups && list_all (is_free_of items) groups
+
+-- a group has a name and at least one item, and ends within the items
+unfoldable pub is_group_sound : List Item → Group → Bool
+is_group_sound items g = is_name g.name && nat_le 1 g.first && nat_le 1 g.count && nat_le (g.first + g.count) (length items + 1)
+
+-- groups stand in the order of their items, and no item is in two of them
+abbrev pub groups_follow : Group → Group → Bool
+groups_follow a b = nat_le (a.first + a.count) b.first
+
+-- an item in a record or a key: a byte for its presence, and its value
+abbrev pub item_width : ItemKind → ℕ
+item_width (Alpha n) = n + 1
+item_width (Decimal n m s) = 9
+item_width OneBit = 2
+item_width (Field n) = 9
+item_width (LinkTo target counted) = 5
+
+-- one for a counted link
+abbrev pub counted_one : ItemKind → ℕ
+counted_one (LinkTo target true) = 1
+counted_one (LinkTo target false) = 0
+counted_one (Alpha n) = 0
+counted_one (Decimal n m s) = 0
+counted_one OneBit = 0
+counted_one (Field n) = 0
