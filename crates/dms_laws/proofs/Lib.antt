@@ -1,0 +1,4 @@
+mod Fresh
+mod Lists
+mod Locks
+mod Places
