@@ -1,1 +1,3 @@
 pub mod Exclusive
+pub mod Sound
+pub mod Valid

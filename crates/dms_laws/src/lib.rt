@@ -2,5 +2,7 @@
 #![tactic(auto)]
 
 mod exclusive;
+mod valid;
 
 pub use exclusive::{back_out_law, exclusive_law, lock_law, update_law};
+pub use valid::{empty_law, valid_law};
