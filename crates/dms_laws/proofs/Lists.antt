@@ -12,14 +12,14 @@ use Rattle.dms_laws.specs.Exclusive.{AreApart, AreAllApart, locks_it}
 pub flipped : (p q : Program) → AreApart p q → AreApart q p
 flipped p q h = record { names = λ e. h.names (sym e); locks = λ place a b. h.locks place b a }
 
-module _ {P Q : Program → Type 0} (R : Program → Type 0) where
+module _ {A : Type 0} {P Q : A → Type 0} (R : A → Type 0) where
   -- what follows of each, with what holds of each
-  pub all_both : (ps : List Program) → ((x : Program) → P x → Q x → R x) → AllByRecursion P ps → AllByRecursion Q ps → AllByRecursion R ps
+  pub all_both : (ps : List A) → ((x : A) → P x → Q x → R x) → AllByRecursion P ps → AllByRecursion Q ps → AllByRecursion R ps
   all_both [] f a b = tt
   all_both (x ∷ ps) f a b = (f x a.0 b.0, all_both ps f a.1 b.1)
 
-module _ {P : Program → Type 0} (R : Program → Type 0) (g : Program → Program) where
-  pub all_mapped : (ps : List Program) → ((x : Program) → P x → R (g x)) → AllByRecursion P ps → AllByRecursion R (map g ps)
+module _ {A : Type 0} {P : A → Type 0} (R : A → Type 0) (g : A → A) where
+  pub all_mapped : (ps : List A) → ((x : A) → P x → R (g x)) → AllByRecursion P ps → AllByRecursion R (map g ps)
   all_mapped [] f a = tt
   all_mapped (x ∷ ps) f a = (f x a.0, all_mapped ps f a.1)
 

@@ -51,7 +51,8 @@ still_at false v o h = h
 pub stands_still : (m : Records) (k q : Place) (v : Record) → is_some (get m q) ≡ true → is_some (get (insert m k v) q) ≡ true
 stands_still m k q v h = ap is_some (get-insert places_total m k v q) ∙ still_at (eq_by_cmp place_cmp q k) v (get m q) h
 
-itself : (k : Place) → eq_by_cmp place_cmp k k ≡ true
+-- a place ties with itself
+pub itself : (k : Place) → eq_by_cmp place_cmp k k ≡ true
 itself k = (eq_by_cmp_equiv places_total).refl k
 
 -- and the stored record stands

@@ -30,6 +30,10 @@ abbrev pub is_manual : Option Shape → Bool
 is_manual None = false
 is_manual (Some s) = s.kind == 5
 
+-- a set or a subset
+abbrev pub is_set : Shape → Bool
+is_set s = nat_lt 2 s.kind && nat_lt s.kind 6
+
 abbrev pub owner_of : Option Shape → ℕ
 owner_of None = 0
 owner_of (Some s) = s.owner
@@ -105,7 +109,7 @@ pub record IsValid (desc : Described) (db : Db) : Type 0 where
   -- no data set has more records than its POPULATION
   pub populations : (set : ℕ) (shape : Shape) → structure_of desc set ≡ Some shape → is_data_set (Some shape) ≡ true → length (records_of db.records set) ≤ shape.population
   -- of two members of one owner with equal keys, in a set or subset without DUPLICATES, the second is the first
-  pub keys : (n : ℕ) (shape : Shape) → structure_of desc n ≡ Some shape → nat_lt 2 shape.kind ≡ true → shape.duplicates ≡ false
+  pub keys : (n : ℕ) (shape : Shape) → structure_of desc n ≡ Some shape → is_set shape ≡ true → shape.duplicates ≡ false
       → (owner : ℕ) (p q : Place) (a b : Record) → get db.records p ≡ Some a → get db.records q ≡ Some b
       → share_owner shape db.entries owner (p, a) (q, b) ≡ true → equal_keys shape a b ≡ true → p ≡ q
   -- the records and owners of entries exist
