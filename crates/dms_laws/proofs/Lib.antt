@@ -4,5 +4,6 @@ mod Fresh
 mod Lists
 mod Locks
 mod Places
+mod Sound
 mod Stored
 mod Values

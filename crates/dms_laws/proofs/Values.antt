@@ -92,7 +92,7 @@ set_fitting items t values some h =
       unlinked = of_set (λ item v. is_link item.kind ≡ true → v ≡ Null) items values j v h.lengths h.unlinked (λ item at link. absurd (fitted_unlinked item t.literal v (of_fitted (slice_get items j) item t.literal v at spelled) link))
     }
 
-abbrev FilledFits : List Item → Filled → Type 0
+abbrev pub FilledFits : List Item → Filled → Type 0
 FilledFits items (Misfit name) = Unit {0}
 FilledFits items (Values' values) = AreFitting items values
 
