@@ -1,12 +1,12 @@
 -- How many records a data set has after one was stored, and how large a new record's number is.
-use Rattle.std.proofs.Common.{◌≡◌, ◌≤◌, ◌+◌, ℕ, suc, List, [], ◌∷◌, Bool, true, false, cond, eqb, Some, None, refl, sym, ap, ◌∙◌, subst, length, arith, ◌&&◌}
+use Rattle.std.proofs.Common.{◌≡◌, ◌≤◌, ◌+◌, ℕ, suc, List, [], ◌∷◌, Bool, true, false, cond, eqb, Some, refl, sym, ap, ◌∙◌, subst, length, arith, ◌&&◌}
 use Rattle.std.specs.Prelude.{T, nat_lt, is_some, ◌==◌}
 use Rattle.std.specs.declared.option.Option.{Option}
 use Rattle.std.specs.FinMap.{get, insert, entries, entries-insert, entries_sorted, get-entries, find, put, is_sorted}
 use Rattle.std.specs.FinMap.Entries.{length-put, by_order, below_all}
 use Rattle.std.specs.declared.cmp.Ordering.{Ordering}
 use Rattle.std.specs.declared.cmp.Ordering.TheVariants.{Less, Equal, Greater}
-use Rattle.std.specs.Ordering.{eq_by_cmp, is_eq}
+use Rattle.std.specs.Ordering.{is_eq}
 use Rattle.dms_desc.specs.declared.record.Record.{Record}
 use Rattle.dms_model.specs.Db.{Records, Place, place_cmp, rows_of, records_of, gap_from, fresh}
 use Rattle.dms_laws.proofs.Places.{places_total}

@@ -1,5 +1,5 @@
 -- A member that a path finds is a record of the database.
-use Rattle.std.proofs.Common.{◌≡◌, ℕ, List, [], ◌∷◌, Bool, true, false, cond, Some, None, refl, sym, ap, ◌∙◌, subst, ◌&&◌, arith}
+use Rattle.std.proofs.Common.{◌≡◌, ℕ, List, [], ◌∷◌, Bool, true, false, cond, Some, None, refl, ap, ◌∙◌, ◌&&◌, arith}
 use Rattle.std.specs.Prelude.{T, ◌==◌, eqb}
 use Rattle.std.specs.List.{AllByRecursion}
 use Rattle.std.specs.declared.option.Option.{Option}
@@ -7,7 +7,7 @@ use Rattle.std.specs.FinMap.{get, get-entries, find, entries, entries_sorted, is
 use Rattle.std.specs.FinMap.Entries.{below_all}
 use Rattle.std.specs.declared.cmp.Ordering.{Ordering}
 use Rattle.std.specs.declared.cmp.Ordering.TheVariants.{Less, Equal, Greater}
-use Rattle.std.specs.Ordering.{eq_by_cmp, is_eq, is_lt, ordering_reverse}
+use Rattle.std.specs.Ordering.{is_eq, is_lt, ordering_reverse}
 use Rattle.std.proofs.lemmas.Bool.Decides.{nat_tests}
 use Rattle.dms_base.specs.declared.value.Value.{Value}
 use Rattle.dms_desc.specs.declared.record.Record.{Record}
@@ -54,9 +54,10 @@ found_behind e es x above h =
 all_found : (es : List (Place × Record)) → T (is_sorted place_cmp es) → AllByRecursion (FoundIn es) es
 all_found [] order = tt
 all_found (e ∷ es) order =
-    let later = second_true (below_all place_cmp e.0 es) (is_sorted place_cmp es) order in
-    (ap (λ (b : Bool). cond b (Some e.1) (find place_cmp e.0 es)) (itself e.0),
-     all_both (FoundIn (e ∷ es)) es (found_behind e es) (all_below e.0 es (first_true (below_all place_cmp e.0 es) (is_sorted place_cmp es) order)) (all_found es later))
+    let later = second_true (below_all place_cmp e.0 es) (is_sorted place_cmp es) order in (
+      ap (λ (b : Bool). cond b (Some e.1) (find place_cmp e.0 es)) (itself e.0),
+      all_both (FoundIn (e ∷ es)) es (found_behind e es) (all_below e.0 es (first_true (below_all place_cmp e.0 es) (is_sorted place_cmp es) order)) (all_found es later),
+    )
 
 -- the spot is a record of a data set
 abbrev pub IsRecordOf : Records → ℕ → Spot → Type 0

@@ -5,10 +5,8 @@ use Rattle.std.specs.List.{AllByRecursion}
 use Rattle.std.specs.declared.option.Option.{Option}
 use Rattle.std.specs.FinMap.{get, insert, empty, get-empty, entries, get-entries, len-entries, len-empty}
 use Rattle.std.proofs.lemmas.Bool.Decides.{nat_tests}
-use Rattle.std.proofs.lemmas.Option.{slice_get-map}
 use Rattle.dms_base.specs.declared.value.Value.{Value}
 use Rattle.dms_base.specs.declared.value.Value.TheVariants.{Null}
-use Rattle.dms_base.specs.declared.category.Category.{Category}
 use Rattle.dms_base.specs.declared.category.Category.TheVariants.{LimitError, NoRecord, AuditError, DataError, NotLocked, Abort as AbortDue}
 use Rattle.dms_desc.specs.declared.structure.Item.{Item}
 use Rattle.dms_desc.specs.declared.record.Record.{Record}
@@ -21,22 +19,20 @@ use Rattle.dms_model.specs.declared.program.Area.TheVariants.{New, Old}
 use Rattle.dms_model.specs.declared.program.Mode.{Mode}
 use Rattle.dms_model.specs.declared.verb.Verb.{Verb}
 use Rattle.dms_model.specs.declared.verb.Verb.TheVariants.{OpenUpdate, OpenInquiry, Close, Find, Create, Put as PutItems, Get, Store, Begin, End, Abort}
-use Rattle.dms_model.specs.declared.verb.Path.{Path}
 use Rattle.dms_model.specs.declared.verb.Setting.{Setting}
-use Rattle.dms_model.specs.declared.reply.Reply.TheVariants.{Done, Exception, Waits}
-use Rattle.dms_model.specs.declared.put.Put.{Put}
-use Rattle.dms_model.specs.declared.put.Put.TheVariants.{Stored, Duplicate, Full}
+use Rattle.dms_model.specs.declared.reply.Reply.TheVariants.{Exception}
+use Rattle.dms_model.specs.declared.put.Put.TheVariants.{Stored, Full}
 use Rattle.dms_model.specs.declared.spot.Spot.{Spot}
-use Rattle.dms_model.specs.Db.{Db, Place, Records, fresh, records_of, empty_db, place_cmp}
+use Rattle.dms_model.specs.Db.{Db, Place, fresh, records_of, rows_of, empty_db, place_cmp}
 use Rattle.dms_model.specs.Members.{name_of, structure_of, items_of}
-use Rattle.dms_model.specs.Stores.{put_answer, put_unless, put_number, is_full, clash, put_after, linked, is_link, is_other, values_of}
-use Rattle.dms_model.specs.Session.{Session, Outcome, Kept, Refused, Keeps, Filled, Misfit, Values', refuse, done, shows, settle, keep, store_step, after_store, begin_step, after_begin, begin_unless, awaited, end_step, after_end, abort_step, find_step, after_find, found_by, create_step, put_step, put_area, after_put, filled, get_step, get_area, close_step, open_as, open_step, verb_step, step_at, step, with_program, with_work, with_lock, with_values, work_of, no_work, or_none, restart_of, someone_works, is_inquiry, opens, changes, path_of, new_program, place_of, carried, entered, left, without, idle, backed_out, found_program, stored_program, let_go, is_lock, holds, area_kept, kept_unless, put_kept, missing_from, verified, area_values, area_number, area_owner, record_of, is_free, one_more, set_of, fresh_session}
+use Rattle.dms_model.specs.Stores.{put_answer, put_unless, is_full, clash, put_after, linked, is_link, is_other, values_of}
+use Rattle.dms_model.specs.Session.{Session, Outcome, Kept, Refused, Keeps, Filled, Misfit, Values', refuse, done, settle, keep, store_step, after_store, begin_step, after_begin, begin_unless, awaited, end_step, after_end, abort_step, find_step, after_find, found_by, create_step, put_step, put_area, after_put, filled, get_step, get_area, close_step, open_as, open_step, verb_step, step_at, step, with_program, with_work, with_values, work_of, no_work, or_none, restart_of, someone_works, is_inquiry, opens, changes, path_of, new_program, place_of, carried, entered, left, without, idle, backed_out, found_program, stored_program, let_go, is_lock, area_kept, kept_unless, put_kept, missing_from, verified, area_values, area_number, area_owner, record_of, is_free, one_more, set_of}
 use Rattle.dms_laws.specs.Exclusive.{AreSafe, IsExclusive, locks_it}
 use Rattle.dms_laws.specs.Valid.{OfItems, IsValid, is_data_set}
-use Rattle.dms_laws.specs.Sound.{StartsFitting, IsOuter, NamesOuter, IsFlat, AreFitting, AreaFits, AreasFit, IsSound, StaysSound}
+use Rattle.dms_laws.specs.Sound.{StartsFitting, IsOuter, NamesOuter, IsFlat, AreFitting, AreaFits, AreasFit, StaysSound}
 use Rattle.dms_laws.proofs.Counts.{count_insert, count_replace, fresh_below}
 use Rattle.dms_laws.proofs.Founds.{Stands, found_stands}
-use Rattle.dms_laws.proofs.Fresh.{fresh_free, fresh_from_one}
+use Rattle.dms_laws.proofs.Fresh.{fresh_from_one}
 use Rattle.dms_laws.proofs.Lists.{all_at, all_set, all_mapped, all_pushed, all_without}
 use Rattle.dms_laws.proofs.Locks.{locks_stay_exclusive}
 use Rattle.dms_laws.proofs.Stored.{MayStand, put_valid, put_flat, own_key}
@@ -160,15 +156,15 @@ module _ (desc : Described) (s : Session) (i : ℕ) (p : Program) (at : slice_ge
   stored_sane set n a shape may =
       let k : Place = (set, n) in
       let is : linked (items_of (structure_of desc set)) (get s.db.records k) (record_of a) ≡ record_of a =
-          ap (λ (o : Option Shape). linked (items_of o) (get s.db.records k) (record_of a)) may.here
-          ∙ linked_is shape.items (get s.db.records k) (record_of a) may.values (old_links desc s.db k shape (get s.db.records k) sane.flat may.here refl) in
+      ap (λ (o : Option Shape). linked (items_of o) (get s.db.records k) (record_of a)) may.here
+      ∙ linked_is shape.items (get s.db.records k) (record_of a) may.values (old_links desc s.db k shape (get s.db.records k) sane.flat may.here refl) in
       let w : Work = record { current = Some n; area = Some (Old (area_values a)) } in
       let q : Program = with_work p set w in
       let areas = areas_with desc p set shape w may.here may.values mine in
       record {
         valid = subst (λ (r : Record). IsValid desc (record s.db { records = insert s.db.records k r })) (sym is) (put_valid desc s.db k (record_of a) shape may sane.valid sane.flat);
         flat = subst (λ (r : Record). IsFlat desc (record s.db { records = insert s.db.records k r })) (sym is) (put_flat desc s.db k (record_of a) shape may sane.valid sane.flat);
-        areas = areas_if desc (Rattle.std.specs.List.list_any (is_lock set n) p.locks) q (record q { locks = _ }) areas areas
+        areas = areas_if desc (Rattle.std.specs.List.list_any (is_lock set n) p.locks) q (record q { locks = _ }) areas areas;
       }
 
   -- what may stand at a place, where the tests of storing were met
@@ -186,7 +182,7 @@ module _ (desc : Described) (s : Session) (i : ℕ) (p : Program) (at : slice_ge
     verified = verified_is (structure_of desc set) shape (area_values a) here met;
     number = within;
     count = count;
-    key = own_key desc s.db (set, n) number (record_of a) sane.flat.entries clear other
+    key = own_key desc s.db (set, n) number (record_of a) sane.flat.entries clear other;
   }
 
   module _ (set : ℕ) (a : Area) (none : missing_from 0 (items_of (structure_of desc set)) (area_values a) ≡ None) (met : verified (structure_of desc set) (area_values a) ≡ true) where
@@ -228,6 +224,7 @@ module _ (desc : Described) (s : Session) (i : ℕ) (p : Program) (at : slice_ge
     where
       safe : AreSafe s.db s.mark p
       safe = all_at (AreSafe s.db s.mark) s.programs i p at ex.safe
+
       by : (o : Option Record) → get s.db.records (set, n) ≡ o → is_some o ≡ true → (x : Option Shape) → structure_of desc set ≡ x → C
       by None e some x h = absurd (cc)
       by (Some old) e some None h = let kind = ap is_data_set (sym h) ∙ sane.valid.sets (set, n) old e in absurd (cc)
@@ -245,6 +242,7 @@ module _ (desc : Described) (s : Session) (i : ℕ) (p : Program) (at : slice_ge
       full : (c : Option ℕ) → KeptSane desc (put_kept (put_unless c Full) desc p s.db set (New values owner))
       full None = tt
       full (Some d) = tt
+
       by : (o : Option Shape) → structure_of desc set ≡ o → (c : Option ℕ) → clash desc.structures s.db set None (record { owner = owner; values = values }) ≡ c
           → KeptSane desc (put_kept (put_unless c (cond (is_full o (length (records_of s.db.records set))) Full (Stored (fresh s.db.records set)))) desc p s.db set (New values owner))
       by None here c clear = full c
@@ -304,7 +302,7 @@ module _ (desc : Described) (s : Session) (i : ℕ) (p : Program) (at : slice_ge
       by (Some shape) h = with_shape shape h (record {
         lengths = sane.valid.lengths (set, r.number) r.rec shape stands h;
         fit = sane.valid.fit (set, r.number) r.rec shape stands h;
-        unlinked = sane.flat.unlinked (set, r.number) r.rec shape stands h
+        unlinked = sane.flat.unlinked (set, r.number) r.rec shape stands h;
       })
 
   find_leaves : (r : Option Spot) (x : ℕ) → Stands s.db (set_of desc x) r → Leaves desc (after_find r desc i p s x)
@@ -312,8 +310,8 @@ module _ (desc : Described) (s : Session) (i : ℕ) (p : Program) (at : slice_ge
   find_leaves (Some r) x stands =
       found_fits (set_of desc x) r stands (Leaves desc (after_find (Some r) desc i p s x))
       (λ shape here fits.
-          let w : Work = record { current = Some r.number; area = Some (Old r.rec.values) } in
-          sane_at (carried (found_program p (set_of desc x) r)) (let_go_areas desc (with_work p (set_of desc x) w) (set_of desc x) (areas_with desc p (set_of desc x) shape w here fits mine)))
+      let w : Work = record { current = Some r.number; area = Some (Old r.rec.values) } in
+      sane_at (carried (found_program p (set_of desc x) r)) (let_go_areas desc (with_work p (set_of desc x) w) (set_of desc x) (areas_with desc p (set_of desc x) shape w here fits mine)))
 
   -- areas
 
@@ -329,9 +327,9 @@ module _ (desc : Described) (s : Session) (i : ℕ) (p : Program) (at : slice_ge
       let w : Work = record { current = None; area = Some (New (map (λ (t : Item). t.initial) (items_of (structure_of desc set))) 0) } in
       outer_shape set outer (Leaves desc (done (with_program s i (carried (let_go (with_work p set w) set)))))
       (λ shape here out.
-          let fits : AreFitting shape.items (map (λ (t : Item). t.initial) (items_of (structure_of desc set))) =
-              subst (λ (o : Option Shape). AreFitting shape.items (map (λ (t : Item). t.initial) (items_of o))) (sym here) (initial_fits shape.items (starts.fit set shape here) (starts.unlinked set shape here)) in
-          sane_at (carried (let_go (with_work p set w) set)) (let_go_areas desc (with_work p set w) set (areas_with desc p set shape w here (out, (refl, fits)) mine)))
+      let fits : AreFitting shape.items (map (λ (t : Item). t.initial) (items_of (structure_of desc set))) =
+      subst (λ (o : Option Shape). AreFitting shape.items (map (λ (t : Item). t.initial) (items_of o))) (sym here) (initial_fits shape.items (starts.fit set shape here) (starts.unlinked set shape here)) in
+      sane_at (carried (let_go (with_work p set w) set)) (let_go_areas desc (with_work p set w) set (areas_with desc p set shape w here (out, (refl, fits)) mine)))
 
   with_new : (shape : Shape) (a : Area) (new : List Value) → AreaFits shape (Some a) → AreFitting shape.items new → AreaFits shape (Some (with_values a new))
   with_new shape (New values owner) new old fits = (old.0, (old.1.0, fits))
@@ -353,9 +351,9 @@ module _ (desc : Described) (s : Session) (i : ℕ) (p : Program) (at : slice_ge
       let f = filled (items_of (structure_of desc set)) settings (area_values a) in
       outer_shape set outer (Leaves desc (after_put f i p s set a))
       (λ shape here out.
-          let old = area_of set shape (Some a) here has in
-          let fits : FilledFits shape.items f = subst (λ (o : Option Shape). FilledFits shape.items (filled (items_of o) settings (area_values a))) (sym here) (filled_fits shape.items settings (area_values a) (values_fit shape a old)) in
-          after_put_leaves f set a shape here old fits)
+      let old = area_of set shape (Some a) here has in
+      let fits : FilledFits shape.items f = subst (λ (o : Option Shape). FilledFits shape.items (filled (items_of o) settings (area_values a))) (sym here) (filled_fits shape.items settings (area_values a) (values_fit shape a old)) in
+      after_put_leaves f set a shape here old fits)
 
   get_leaves : (o : Option Area) (set : ℕ) (numbers : List ℕ) → Leaves desc (get_area o desc i p s set numbers)
   get_leaves None set numbers = sane
@@ -363,3 +361,108 @@ module _ (desc : Described) (s : Session) (i : ℕ) (p : Program) (at : slice_ge
 
   close_leaves : Leaves desc (done (record s { programs = without i s.programs }))
   close_leaves = record { valid = sane.valid; valid_mark = sane.valid_mark; flat = sane.flat; flat_mark = sane.flat_mark; areas = all_without (AreasFit desc) s.programs i sane.areas }
+
+-- every verb
+
+back_leaves : (desc : Described) (s : Session) (name : List ℕ) → Sane desc s.db s.mark s.programs → Leaves desc (done (record s { db = s.mark; programs = map (backed_out name) s.programs; pending = false; since = 0 }))
+back_leaves desc s name sane = record {
+  valid = sane.valid_mark;
+  valid_mark = sane.valid_mark;
+  flat = sane.flat_mark;
+  flat_mark = sane.flat_mark;
+  areas = all_mapped (AreasFit desc) (backed_out name) s.programs (λ x a. backed_areas desc name x a) sane.areas;
+}
+
+verb_leaves : (desc : Described) → StartsFitting desc → (i : ℕ) (p : Program) (s : Session) (v : Verb) → NamesOuter desc v → slice_get s.programs i ≡ Some p → IsExclusive s → Sane desc s.db s.mark s.programs → Leaves desc (verb_step desc i p s v)
+unfolding verb_step store_step begin_step end_step abort_step find_step create_step put_step get_step close_step
+verb_leaves desc starts i p s OpenUpdate outer at ex sane = sane
+verb_leaves desc starts i p s OpenInquiry outer at ex sane = sane
+verb_leaves desc starts i p s Close outer at ex sane = leaves_if desc p.in_transaction (refuse s AuditError p.name) _ sane (close_leaves desc s i p at ex sane)
+verb_leaves desc starts i p s (Find path) outer at ex sane = find_leaves desc s i p at ex sane (found_by desc s.db path) (path_of path) (found_stands desc s.db path)
+verb_leaves desc starts i p s (Create set) outer at ex sane = create_leaves desc s i p at ex sane set starts outer
+verb_leaves desc starts i p s (PutItems set settings) outer at ex sane = put_leaves desc s i p at ex sane (work_of p set).area set settings outer refl
+verb_leaves desc starts i p s (Get set items) outer at ex sane = get_leaves desc s i p at ex sane (work_of p set).area set items
+verb_leaves desc starts i p s (Store set) outer at ex sane =
+    leaves_if desc p.in_transaction (after_store (keep desc p s.db set) i s) (refuse s AuditError p.name) (store_leaves desc s i p at ex sane (keep desc p s.db set) (keep_sane desc s i p at ex sane set)) sane
+verb_leaves desc starts i p s (Begin audit) outer at ex sane =
+    leaves_if desc p.in_transaction (refuse s AuditError p.name) _ sane
+    (leaves_if desc (audit && not (is_some (work_of p (restart_of desc)).area)) (refuse s NoRecord (name_of (structure_of desc (restart_of desc)))) _ sane
+    (begin_leaves desc s i p at ex sane (awaited s) audit))
+verb_leaves desc starts i p s (End audit sync) outer at ex sane =
+    leaves_if desc p.in_transaction (after_end (cond audit (keep desc p s.db (restart_of desc)) (Keeps p s.db)) desc i s sync) (refuse s AuditError p.name)
+    (end_leaves desc s i p at ex sane (cond audit (keep desc p s.db (restart_of desc)) (Keeps p s.db)) sync (if_sane desc s i p at ex sane audit)) sane
+verb_leaves desc starts i p s Abort outer at ex sane = leaves_if desc p.in_transaction _ (refuse s AuditError p.name) (back_leaves desc s p.name sane) sane
+
+open_as_leaves : (desc : Described) (s : Session) (name : List ℕ) (mode : Mode) → Sane desc s.db s.mark s.programs → Leaves desc (open_as desc s name mode)
+open_as_leaves desc s name mode sane =
+    let opened : Session = record s { programs = s.programs ++ new_program desc name mode ∷ [] } in
+    leaves_if desc (nat_le 64 (length s.programs)) (refuse s LimitError name) (done opened) sane
+    (record { valid = sane.valid; valid_mark = sane.valid_mark; flat = sane.flat; flat_mark = sane.flat_mark; areas = all_pushed (AreasFit desc) s.programs (new_program desc name mode) sane.areas (new_areas desc name mode) })
+
+open_leaves : (desc : Described) (s : Session) (name : List ℕ) (v : Verb) → Sane desc s.db s.mark s.programs → Leaves desc (open_step desc s name v)
+unfolding open_step
+open_leaves desc s name OpenUpdate sane = open_as_leaves desc s name _ sane
+open_leaves desc s name OpenInquiry sane = open_as_leaves desc s name _ sane
+open_leaves desc s name Close sane = sane
+open_leaves desc s name (Find path) sane = sane
+open_leaves desc s name (Create set) sane = sane
+open_leaves desc s name (PutItems set settings) sane = sane
+open_leaves desc s name (Get set items) sane = sane
+open_leaves desc s name (Store set) sane = sane
+open_leaves desc s name (Begin audit) sane = sane
+open_leaves desc s name (End audit sync) sane = sane
+open_leaves desc s name Abort sane = sane
+
+step_at_leaves : (desc : Described) → StartsFitting desc → (o : Option Program) (i : ℕ) (s : Session) (name : List ℕ) (v : Verb) → NamesOuter desc v → slice_get s.programs i ≡ o → IsExclusive s → Sane desc s.db s.mark s.programs → Leaves desc (step_at desc o i s name v)
+step_at_leaves desc starts None i s name v outer at ex sane = open_leaves desc s name v sane
+step_at_leaves desc starts (Some p) i s name v outer at ex sane =
+    let due : Program = record p { owes_abort = false } in
+    leaves_if desc (opens v) (refuse s _ name) _ sane
+    (leaves_if desc p.owes_abort (record { session = with_program s i due; reply = Exception AbortDue name; sync = None; quiets = [] }) _ (sane_at desc s i p at ex sane due (mine desc s i p at ex sane))
+    (leaves_if desc (is_inquiry p.mode && changes v) (refuse s _ name) _ sane (verb_leaves desc starts i p s v outer at ex sane)))
+
+step_leaves : (desc : Described) → StartsFitting desc → (s : Session) (name : List ℕ) (v : Verb) → NamesOuter desc v → IsExclusive s → Sane desc s.db s.mark s.programs → Leaves desc (step desc s name v)
+unfolding step
+step_leaves desc starts s name v outer ex sane = step_at_leaves desc starts (slice_get s.programs (place_of name s.programs)) (place_of name s.programs) s name v outer refl ex sane
+
+-- the database of no record
+
+none_there : (C : Type 0) (place : Place) (r : Record) → get empty_db.records place ≡ Some r → C
+none_there C place r at = let none = get-empty {X = Record} place_cmp place in absurd (cc)
+
+no_entries : (es : List (Place × Record)) → length es ≡ 0 → es ≡ []
+no_entries [] h = refl
+no_entries (e ∷ es) h = absurd (omega (arith, h))
+
+no_rows : (set : ℕ) → length (records_of empty_db.records set) ≡ 0
+no_rows set = ap (λ (es : List (Place × Record)). length (rows_of set es)) (no_entries (entries empty_db.records) (sym (len-entries empty_db.records) ∙ len-empty place_cmp Record))
+
+pub empty_valid : (desc : Described) → IsValid desc empty_db
+empty_valid desc = record {
+  sets = λ place r at. none_there _ place r at;
+  lengths = λ place r shape at has. none_there _ place r at;
+  fit = λ place r shape at has. none_there _ place r at;
+  links = λ place r shape at has. none_there _ place r at;
+  required = λ place r shape at has. none_there _ place r at;
+  verified = λ place r shape at has. none_there _ place r at;
+  owners = λ place r shape at has. none_there _ place r at;
+  numbers = λ place r shape at has. none_there _ place r at;
+  populations = λ set shape has is. omega (arith, no_rows set);
+  keys = λ n shape has is nodup owner p q a b atp atq share equal. none_there _ p a atp;
+  entries = tt;
+  rising = tt;
+  entry_counts = λ subset shape has is. omega arith;
+}
+
+empty_flat : (desc : Described) → IsFlat desc empty_db
+empty_flat desc = record { entries = refl; disjoint = λ place r shape at has. none_there _ place r at; unlinked = λ place r shape at has. none_there _ place r at }
+
+-- the law
+
+pub stays_sound : (desc : Described) → StartsFitting desc → StaysSound desc
+stays_sound desc starts = record {
+  first = λ next. record { exclusive = locks_stay_exclusive.first empty_db next; db = empty_valid desc; mark = empty_valid desc; flat = empty_flat desc; flat_mark = empty_flat desc; areas = tt };
+  step = λ s name verb outer h.
+      let after = step_leaves desc starts s name verb outer h.exclusive (record { valid = h.db; valid_mark = h.mark; flat = h.flat; flat_mark = h.flat_mark; areas = h.areas }) in
+      record { exclusive = locks_stay_exclusive.step desc s name verb h.exclusive; db = after.valid; mark = after.valid_mark; flat = after.flat; flat_mark = after.flat_mark; areas = after.areas };
+}

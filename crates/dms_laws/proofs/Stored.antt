@@ -1,28 +1,24 @@
 -- A valid database is valid after a record was stored that may stand there.
-use Rattle.std.proofs.Common.{◌≡◌, ◌≤◌, ◌<◌, ◌+◌, ◌-◌, ℕ, zero, suc, List, [], ◌∷◌, Bool, true, false, cond, eqb, Some, None, refl, sym, ap, ◌∙◌, subst, not, ◌&&◌, ◌||◌, length, arith}
-use Rattle.std.specs.Prelude.{◌≢◌, ◌==◌, nat_lt, nat_le, slice_get, is_some, filter}
+use Rattle.std.proofs.Common.{◌≡◌, ◌≤◌, ◌+◌, ◌-◌, ℕ, zero, suc, List, [], ◌∷◌, Bool, true, false, cond, eqb, Some, None, refl, sym, ap, ◌∙◌, subst, not, ◌&&◌, length, arith}
+use Rattle.std.specs.Prelude.{◌≢◌, ◌==◌, nat_lt, slice_get}
 use Rattle.std.specs.List.{list_any, AllByRecursion}
 use Rattle.std.specs.declared.option.Option.{Option}
 use Rattle.std.specs.FinMap.{get, insert, entries, get-insert, get-entries, find}
 use Rattle.std.specs.Ordering.{eq_by_cmp, is_eq}
-use Rattle.std.specs.Cmp.{IsTotalOrder}
 use Rattle.std.proofs.lemmas.Cmp.{eq_by_cmp_equiv}
 use Rattle.std.proofs.lemmas.Bool.Decides.{nat_tests}
-use Rattle.dms_base.specs.declared.value.Value.{Value}
 use Rattle.dms_base.specs.declared.value.Value.TheVariants.{Null}
 use Rattle.dms_base.specs.Fits.{fits}
-use Rattle.dms_desc.specs.declared.structure.Item.{Item}
-use Rattle.dms_desc.specs.declared.structure.KeyPart.{KeyPart}
 use Rattle.dms_desc.specs.declared.record.Record.{Record}
 use Rattle.dms_desc.specs.Shape.{Shape, Described}
 use Rattle.dms_desc.specs.Conds.{meets, is_null}
 use Rattle.dms_model.specs.Db.{Db, Entry, Place, Records, place_cmp, records_of}
-use Rattle.dms_model.specs.Members.{structure_of, over, over_of, key_of, key_cmp, belongs, takes, names}
+use Rattle.dms_model.specs.Members.{structure_of, over, key_of, key_cmp, belongs, takes, names}
 use Rattle.dms_model.specs.MemberLaws.{key_total}
 use Rattle.dms_model.specs.Stores.{is_link, has_equal, is_closed, is_other, clashes, clash}
-use Rattle.dms_laws.specs.Valid.{OfRecords, OfItems, IsValid, EntryStands, AreRising, value_at, is_data_set, is_manual, is_set, owner_of, owner_stands, link_stands, share_owner, equal_keys}
+use Rattle.dms_laws.specs.Valid.{OfRecords, OfItems, IsValid, EntryStands, value_at, is_data_set, is_set, owner_stands, link_stands, share_owner, equal_keys}
 use Rattle.dms_laws.specs.Sound.{IsFlat, IsOuter, AreFitting}
-use Rattle.dms_laws.proofs.Places.{places_total, place_is, itself, get_other, stands_still, stands_there}
+use Rattle.dms_laws.proofs.Places.{places_total, place_is, itself}
 use Rattle.dms_laws.proofs.Counts.{count_insert}
 use Rattle.dms_laws.proofs.Values.{null_stands}
 
@@ -109,9 +105,9 @@ module _ (desc : Described) (db : Db) (k : Place) (rec : Record) (shape : Shape)
   of_all P Q new old all place r s at has =
       put_cases db.records k place rec r (Q place r s) at
       (λ is same.
-          let shapes : Some shape ≡ Some s = sym may.here ∙ ap (λ (x : Place). structure_of desc x.0) (sym is) ∙ has in
-          let shape_is : shape ≡ s = cc in
-          subst (λ (x : Place). Q x r s) (sym is) (subst (λ (x : Record). Q k x s) same (subst (λ (x : Shape). Q k rec x) shape_is new)))
+      let shapes : Some shape ≡ Some s = sym may.here ∙ ap (λ (x : Place). structure_of desc x.0) (sym is) ∙ has in
+      let shape_is : shape ≡ s = cc in
+      subst (λ (x : Place). Q x r s) (sym is) (subst (λ (x : Record). Q k x s) same (subst (λ (x : Shape). Q k rec x) shape_is new)))
       (λ apart was. old place r s (all place r s was has))
 
   abbrev Unlinked : Place → Record → Shape → Type 0
@@ -122,7 +118,7 @@ module _ (desc : Described) (db : Db) (k : Place) (rec : Record) (shape : Shape)
   put_flat = record {
     entries = flat.entries;
     disjoint = of_all (λ place r s. s.owner ≡ 0) (λ place r s. s.owner ≡ 0) may.outer.disjoint (λ place r s h. h) flat.disjoint;
-    unlinked = of_all Unlinked Unlinked may.values.unlinked (λ place r s h. h) flat.unlinked
+    unlinked = of_all Unlinked Unlinked may.values.unlinked (λ place r s h. h) flat.unlinked;
   }
 
   put_sets : (place : Place) (r : Record) → get after.records place ≡ Some r → is_data_set (structure_of desc place.0) ≡ true
@@ -160,11 +156,11 @@ module _ (desc : Described) (db : Db) (k : Place) (rec : Record) (shape : Shape)
       let both = both_of (belongs s db.entries owner (p, a)) (belongs s db.entries owner (q, b)) share in
       put_cases db.records k p rec a (p ≡ q) atp
       (λ pk same. put_cases db.records k q rec b (p ≡ q) atq
-          (λ qk alike. pk ∙ sym qk)
-          (λ apart was. absurd (own_clash db k rec s owner flat.entries set nodup (may.key n s has) p q a b pk same apart was both.0 both.1 (swap_keys s a b equal))))
+      (λ qk alike. pk ∙ sym qk)
+      (λ apart was. absurd (own_clash db k rec s owner flat.entries set nodup (may.key n s has) p q a b pk same apart was both.0 both.1 (swap_keys s a b equal))))
       (λ apart was. put_cases db.records k q rec b (p ≡ q) atq
-          (λ qk alike. absurd (own_clash db k rec s owner flat.entries set nodup (may.key n s has) q p b a qk alike apart was both.1 both.0 equal))
-          (λ apart' was'. valid.keys n s has set nodup owner p q a b was was' share equal))
+      (λ qk alike. absurd (own_clash db k rec s owner flat.entries set nodup (may.key n s has) q p b a qk alike apart was both.1 both.0 equal))
+      (λ apart' was'. valid.keys n s has set nodup owner p q a b was was' share equal))
 
   pub put_valid : IsValid desc after
   put_valid = record {
@@ -181,7 +177,7 @@ module _ (desc : Described) (db : Db) (k : Place) (rec : Record) (shape : Shape)
     keys = put_keys;
     entries = all_none (EntryStands desc after) db.entries flat.entries;
     rising = valid.rising;
-    entry_counts = valid.entry_counts
+    entry_counts = valid.entry_counts;
   }
 
 -- the key of what is stored is its own where storing it clashes with no structure

@@ -1,6 +1,6 @@
 -- Values of areas and of records: what fits, and what storing makes of them.
-use Rattle.std.proofs.Common.{◌≡◌, ◌≤◌, ◌<◌, ◌+◌, ◌-◌, ℕ, zero, suc, List, [], ◌∷◌, Bool, true, false, cond, eqb, Some, None, refl, sym, ap, ◌∙◌, subst, ◌&&◌, length, map, replicate, arith}
-use Rattle.std.specs.Prelude.{◌≢◌, ◌==◌, slice_get, slice_set, is_some, IsTrue, IfSome, option_map}
+use Rattle.std.proofs.Common.{◌≡◌, ◌<◌, ◌+◌, ◌-◌, ℕ, zero, suc, List, [], ◌∷◌, Bool, true, false, cond, eqb, Some, None, refl, sym, ap, ◌∙◌, subst, ◌&&◌, length, map, arith}
+use Rattle.std.specs.Prelude.{◌≢◌, slice_get, slice_set, is_some, IsTrue, IfSome, option_map}
 use Rattle.std.specs.declared.option.Option.{Option}
 use Rattle.std.proofs.lemmas.Option.{slice_get-map, slice_get_within}
 use Rattle.std.proofs.lemmas.List.{length-set, length-map}
@@ -15,7 +15,6 @@ use Rattle.dms_base.specs.Spelling.{value_for, is_kind, is_literal}
 use Rattle.dms_base.proofs.Spelled.{value_of_fits}
 use Rattle.dms_desc.specs.declared.structure.Item.{Item}
 use Rattle.dms_desc.specs.declared.record.Record.{Record}
-use Rattle.dms_desc.specs.Shape.{Shape, Described}
 use Rattle.dms_desc.specs.Conds.{is_null, or_null}
 use Rattle.dms_model.specs.declared.verb.Setting.{Setting}
 use Rattle.dms_model.specs.Db.{Records}
@@ -89,7 +88,7 @@ set_fitting items t values some h =
     record {
       lengths = length-set values j v ∙ h.lengths;
       fit = of_set (λ item v. fits item.kind v ≡ true) items values j v h.lengths h.fit (λ item at. fitted_fits item t.literal v (of_fitted (slice_get items j) item t.literal v at spelled));
-      unlinked = of_set (λ item v. is_link item.kind ≡ true → v ≡ Null) items values j v h.lengths h.unlinked (λ item at link. absurd (fitted_unlinked item t.literal v (of_fitted (slice_get items j) item t.literal v at spelled) link))
+      unlinked = of_set (λ item v. is_link item.kind ≡ true → v ≡ Null) items values j v h.lengths h.unlinked (λ item at link. absurd (fitted_unlinked item t.literal v (of_fitted (slice_get items j) item t.literal v at spelled) link));
     }
 
 abbrev pub FilledFits : List Item → Filled → Type 0
@@ -118,7 +117,7 @@ pub initial_fits : (items : List Item) → ((k : ℕ) (item : Item) → slice_ge
 initial_fits items fit unlinked = record {
   lengths = length-map items (λ (t : Item). t.initial);
   fit = λ k item at. subst (λ (v : Value). fits item.kind v ≡ true) (sym (initial_at items k item at)) (fit k item at);
-  unlinked = λ k item at link. initial_at items k item at ∙ unlinked k item at link
+  unlinked = λ k item at link. initial_at items k item at ∙ unlinked k item at link;
 }
 
 -- REQUIRED
@@ -167,7 +166,7 @@ kept_at (Some item) old new f = by (is_link item.kind) refl
 pub linked_is : (items : List Item) (old : Option Record) (rec : Record) → AreFitting items rec.values → OfItems items (values_of old) (λ item v. is_link item.kind ≡ true → v ≡ Null) → linked items old rec ≡ rec
 linked_is items old rec h olds =
     let same = linked_same 0 items (values_of old) rec.values (λ k j v is at. kept_at (slice_get items j) (value_at (values_of old) j) v
-        (λ item here link. (let s : k ≡ j = omega (arith, is) in (olds j item here link, ap or_null (sym at) ∙ ap (value_at rec.values) s ∙ h.unlinked j item here link)))) in
+    (λ item here link. (let s : k ≡ j = omega (arith, is) in (olds j item here link, ap or_null (sym at) ∙ ap (value_at rec.values) s ∙ h.unlinked j item here link)))) in
     λ n. record { owner = rec.owner; values = same n }
 
 -- a null link stands in every database

@@ -1,5 +1,5 @@
 -- A session whose databases are valid, and whose programs have at hand what may be stored.
-use Rattle.std.specs.Prelude.{◌≡◌, ℕ, List, [], Bool, true, Some, None, ⊤, length, slice_get}
+use Rattle.std.specs.Prelude.{◌≡◌, ℕ, List, [], true, Some, None, ⊤, length, slice_get}
 use Rattle.std.specs.List.{AllByRecursion}
 use Rattle.std.specs.declared.option.Option.{Option}
 use Rattle.dms_base.specs.declared.value.Value.{Value}
@@ -12,7 +12,7 @@ use Rattle.dms_model.specs.declared.program.Area.{Area}
 use Rattle.dms_model.specs.declared.program.Area.TheVariants.{New, Old}
 use Rattle.dms_model.specs.declared.verb.Verb.{Verb}
 use Rattle.dms_model.specs.declared.verb.Verb.TheVariants.{OpenUpdate, OpenInquiry, Close, Find, Create, Put, Get, Store, Begin, End, Abort}
-use Rattle.dms_model.specs.Db.{Db, Entry, empty_db}
+use Rattle.dms_model.specs.Db.{Db, empty_db}
 use Rattle.dms_model.specs.Members.{structure_of}
 use Rattle.dms_model.specs.Stores.{is_link}
 use Rattle.dms_model.specs.Session.{Session, step, work_of, fresh_session}
