@@ -1,9 +1,10 @@
 -- Each step leaves a sound session sound.
 use Rattle.std.proofs.Common.{◌≡◌, ◌≤◌, ◌<◌, ◌+◌, ◌-◌, ℕ, zero, suc, List, [], ◌∷◌, ◌++◌, Bool, true, false, cond, eqb, Some, None, refl, sym, ap, ◌∙◌, subst, not, ◌&&◌, ◌||◌, nat_le, length, map, replicate, arith}
-use Rattle.std.specs.Prelude.{◌≢◌, ◌==◌, slice_get, slice_set, is_some}
-use Rattle.std.specs.List.{AllByRecursion}
+use Rattle.std.specs.Prelude.{nat_lt, ◌≢◌, ◌==◌, slice_get, slice_set, is_some}
+use Rattle.dms_base.specs.Fits.{fits}
+use Rattle.std.specs.List.{list_any, AllByRecursion}
 use Rattle.std.specs.declared.option.Option.{Option}
-use Rattle.std.specs.FinMap.{get, insert, empty, get-empty, entries, get-entries, len-entries, len-empty}
+use Rattle.std.specs.FinMap.{get, insert, get-empty, entries, len-entries, len-empty}
 use Rattle.std.proofs.lemmas.Bool.Decides.{nat_tests}
 use Rattle.dms_base.specs.declared.value.Value.{Value}
 use Rattle.dms_base.specs.declared.value.Value.TheVariants.{Null}
@@ -24,19 +25,19 @@ use Rattle.dms_model.specs.declared.reply.Reply.TheVariants.{Exception}
 use Rattle.dms_model.specs.declared.put.Put.TheVariants.{Stored, Full}
 use Rattle.dms_model.specs.declared.spot.Spot.{Spot}
 use Rattle.dms_model.specs.Db.{Db, Place, fresh, records_of, rows_of, empty_db, place_cmp}
-use Rattle.dms_model.specs.Members.{name_of, structure_of, items_of}
-use Rattle.dms_model.specs.Stores.{put_answer, put_unless, is_full, clash, put_after, linked, is_link, is_other, values_of}
+use Rattle.dms_model.specs.Members.{name_of, structure_of, items_of, takes, key_of}
+use Rattle.dms_model.specs.Stores.{put_answer, put_unless, is_full, clash, put_after, linked, is_other, values_of}
 use Rattle.dms_model.specs.Session.{Session, Outcome, Kept, Refused, Keeps, Filled, Misfit, Values', refuse, done, settle, keep, store_step, after_store, begin_step, after_begin, begin_unless, awaited, end_step, after_end, abort_step, find_step, after_find, found_by, create_step, put_step, put_area, after_put, filled, get_step, get_area, close_step, open_as, open_step, verb_step, step_at, step, with_program, with_work, with_values, work_of, no_work, or_none, restart_of, someone_works, is_inquiry, opens, changes, path_of, new_program, place_of, carried, entered, left, without, idle, backed_out, found_program, stored_program, let_go, is_lock, area_kept, kept_unless, put_kept, missing_from, verified, area_values, area_number, area_owner, record_of, is_free, one_more, set_of}
 use Rattle.dms_laws.specs.Exclusive.{AreSafe, IsExclusive, locks_it}
-use Rattle.dms_laws.specs.Valid.{OfItems, IsValid, is_data_set}
-use Rattle.dms_laws.specs.Sound.{StartsFitting, IsOuter, NamesOuter, IsFlat, AreFitting, AreaFits, AreasFit, StaysSound}
+use Rattle.dms_laws.specs.Valid.{OfItems, IsValid, is_data_set, is_set, link_stands}
+use Rattle.dms_laws.specs.Sound.{IsWellMade, IsOuter, NamesOuter, IsFlat, AreFitting, AreaFits, AreasFit, StaysSound, items_under, compares_no_link, has_no_link}
 use Rattle.dms_laws.proofs.Counts.{count_insert, count_replace, fresh_below}
 use Rattle.dms_laws.proofs.Founds.{Stands, found_stands}
 use Rattle.dms_laws.proofs.Fresh.{fresh_from_one}
 use Rattle.dms_laws.proofs.Lists.{all_at, all_set, all_mapped, all_pushed, all_without}
 use Rattle.dms_laws.proofs.Locks.{locks_stay_exclusive}
-use Rattle.dms_laws.proofs.Stored.{MayStand, put_valid, put_flat, own_key}
-use Rattle.dms_laws.proofs.Values.{get_set_other, filled_fits, FilledFits, initial_fits, required_of, linked_is}
+use Rattle.dms_laws.proofs.Stored.{MayStand, put_valid, put_flat, own_key, key_kept}
+use Rattle.dms_laws.proofs.Values.{get_set_other, filled_fits, FilledFits, initial_fits, required_of, linked_fits, linked_agree, of_linked, null_fits, null_stands, other_stands, meets_agree, keys_agree}
 
 -- what a program has at hand
 
@@ -126,9 +127,25 @@ kept_if : (desc : Described) (b : Bool) (x y : Kept) → (b ≡ true → KeptSan
 kept_if desc true x y h k = h refl
 kept_if desc false x y h k = k
 
-old_links : (desc : Described) (db : Db) (k : Place) (shape : Shape) (o : Option Record) → IsFlat desc db → structure_of desc k.0 ≡ Some shape → get db.records k ≡ o → OfItems shape.items (values_of o) (λ item v. is_link item.kind ≡ true → v ≡ Null)
-old_links desc db k shape None flat here at j item has link = refl
-old_links desc db k shape (Some r) flat here at j item has link = flat.unlinked k r shape at here j item has link
+-- the values of a record that may be there
+olds_of : (desc : Described) (db : Db) (k : Place) (shape : Shape) (P : Item → Value → Type 0) → ((item : Item) → P item Null) → ((r : Record) → get db.records k ≡ Some r → OfItems shape.items r.values P)
+    → (o : Option Record) → get db.records k ≡ o → OfItems shape.items (values_of o) P
+olds_of desc db k shape P none some None at j item has = none item
+olds_of desc db k shape P none some (Some r) at j item has = some r at j item has
+
+is_no_set : (s : Shape) → is_data_set (Some s) ≡ true → is_set s ≡ false
+is_no_set s h = by (is_set s) refl
+  where
+    parts : (a b : Bool) → (a && b) ≡ true → (a ≡ true) × (b ≡ true)
+    parts true b h = (refl, h)
+    parts false b h = absurd (cc)
+
+    by : (b : Bool) → is_set s ≡ b → b ≡ false
+    by true e =
+        let low = (parts (nat_lt 2 s.kind) (nat_lt s.kind 6) e).0 in
+        let high = (parts (nat_lt 0 s.kind) (nat_lt s.kind 3) h).1 in
+        absurd (grind (arith, nat_tests, low, high))
+    by false e = refl
 
 one_at_most : (b : Bool) (n m : ℕ) → n ≤ cond b 1 0 + m → n ≤ 1 + m
 one_at_most true n m h = h
@@ -140,7 +157,7 @@ verified_is o shape values h v = ap (λ (x : Option Shape). verified x values) (
 required_is : (o : Option Shape) (shape : Shape) (values : List Value) → o ≡ Some shape → missing_from 0 (items_of o) values ≡ None → OfItems shape.items values (λ item v. item.required ≡ true → is_null v ≡ false)
 required_is o shape values h none = required_of shape.items values (ap (λ (x : Option Shape). missing_from 0 (items_of x) values) (sym h) ∙ none)
 
-module _ (desc : Described) (s : Session) (i : ℕ) (p : Program) (at : slice_get s.programs i ≡ Some p) (ex : IsExclusive s) (sane : Sane desc s.db s.mark s.programs) where
+module _ (desc : Described) (made : IsWellMade desc) (s : Session) (i : ℕ) (p : Program) (at : slice_get s.programs i ≡ Some p) (ex : IsExclusive s) (sane : Sane desc s.db s.mark s.programs) where
   mine : AreasFit desc p
   mine = all_at (AreasFit desc) s.programs i p at sane.areas
 
@@ -152,38 +169,69 @@ module _ (desc : Described) (s : Session) (i : ℕ) (p : Program) (at : slice_ge
 
   -- storing
 
-  stored_sane : (set n : ℕ) (a : Area) (shape : Shape) → MayStand desc s.db (set, n) (record_of a) shape → Holds desc (stored_program p set n a) (put_after (Stored n) desc s.db set (record_of a))
-  stored_sane set n a shape may =
+  -- the values that a place has of an area: links stay as they stood
+  abbrev olds : ℕ → ℕ → List Value
+  olds set n = values_of (get s.db.records (set, n))
+
+  abbrev put_record : ℕ → ℕ → Area → Shape → Record
+  put_record set n a shape = linked shape.items (get s.db.records (set, n)) (record_of a)
+
+  stored_sane : (set n : ℕ) (a : Area) (shape : Shape) → AreFitting shape.items (area_values a) → MayStand desc s.db (set, n) (put_record set n a shape) shape → Holds desc (stored_program p set n a) (put_after (Stored n) desc s.db set (record_of a))
+  stored_sane set n a shape values may =
       let k : Place = (set, n) in
-      let is : linked (items_of (structure_of desc set)) (get s.db.records k) (record_of a) ≡ record_of a =
-      ap (λ (o : Option Shape). linked (items_of o) (get s.db.records k) (record_of a)) may.here
-      ∙ linked_is shape.items (get s.db.records k) (record_of a) may.values (old_links desc s.db k shape (get s.db.records k) sane.flat may.here refl) in
+      let is : linked (items_of (structure_of desc set)) (get s.db.records k) (record_of a) ≡ put_record set n a shape = ap (λ (o : Option Shape). linked (items_of o) (get s.db.records k) (record_of a)) may.here in
       let w : Work = record { current = Some n; area = Some (Old (area_values a)) } in
       let q : Program = with_work p set w in
-      let areas = areas_with desc p set shape w may.here may.values mine in
+      let areas = areas_with desc p set shape w may.here values mine in
       record {
-        valid = subst (λ (r : Record). IsValid desc (record s.db { records = insert s.db.records k r })) (sym is) (put_valid desc s.db k (record_of a) shape may sane.valid sane.flat);
-        flat = subst (λ (r : Record). IsFlat desc (record s.db { records = insert s.db.records k r })) (sym is) (put_flat desc s.db k (record_of a) shape may sane.valid sane.flat);
-        areas = areas_if desc (Rattle.std.specs.List.list_any (is_lock set n) p.locks) q (record q { locks = _ }) areas areas;
+        valid = subst (λ (r : Record). IsValid desc (record s.db { records = insert s.db.records k r })) (sym is) (put_valid desc s.db k (put_record set n a shape) shape may sane.valid sane.flat);
+        flat = subst (λ (r : Record). IsFlat desc (record s.db { records = insert s.db.records k r })) (sym is) (put_flat desc s.db k (put_record set n a shape) shape may sane.valid sane.flat);
+        areas = areas_if desc (list_any (is_lock set n) p.locks) q (record q { locks = _ }) areas areas;
       }
+
+  -- a structure over the data set sees no difference between the area and what is stored
+  alike : (set n : ℕ) (a : Area) (shape : Shape) → structure_of desc set ≡ Some shape → (m : ℕ) (x : Shape) → structure_of desc m ≡ Some x → is_set x ≡ true → x.set ≡ set
+      → (takes x (put_record set n a shape).values ≡ takes x (area_values a)) × (key_of x.parts (put_record set n a shape).values ≡ key_of x.parts (area_values a))
+  alike set n a shape here m x has is own =
+      let under : items_under desc x ≡ shape.items =
+      ap (λ (b : Bool). cond b (items_of (structure_of desc x.set)) x.items) is ∙ ap (λ (n : ℕ). items_of (structure_of desc n)) own ∙ ap items_of here in
+      let same = linked_agree shape.items (olds set n) (area_values a) in (
+        ap (λ (b : Bool). cond (x.kind == 4) b true)
+            (meets_agree shape.items x.cond (put_record set n a shape).values (area_values a) same (ap (λ (is : List Item). compares_no_link is x.cond) (sym under) ∙ made.conditions m x has)),
+        keys_agree shape.items x.parts (put_record set n a shape).values (area_values a) same (ap (λ (is : List Item). has_no_link is x.parts) (sym under) ∙ made.keys m x has),
+      )
+
+  stored_verified : (set n : ℕ) (a : Area) (shape : Shape) → structure_of desc set ≡ Some shape → is_data_set (Some shape) ≡ true → meets shape.cond (put_record set n a shape).values ≡ meets shape.cond (area_values a)
+  stored_verified set n a shape here data_set =
+      let under : items_under desc shape ≡ shape.items = ap (λ (b : Bool). cond b (items_of (structure_of desc shape.set)) shape.items) (is_no_set shape data_set) in
+      meets_agree shape.items shape.cond (put_record set n a shape).values (area_values a) (linked_agree shape.items (olds set n) (area_values a)) (ap (λ (is : List Item). compares_no_link is shape.cond) (sym under) ∙ made.conditions set shape here)
 
   -- what may stand at a place, where the tests of storing were met
   may_stand : (set n : ℕ) (a : Area) (shape : Shape) (number : Option ℕ) → structure_of desc set ≡ Some shape → IsOuter (Some shape) → area_owner a ≡ 0 → AreFitting shape.items (area_values a)
       → missing_from 0 (items_of (structure_of desc set)) (area_values a) ≡ None → verified (structure_of desc set) (area_values a) ≡ true
       → clash desc.structures s.db set number (record_of a) ≡ None → ((q : Place) → q ≢ (set, n) → q.0 ≡ set → is_other number q.1 ≡ true)
-      → (1 ≤ n) × (n ≤ shape.population) → length (records_of (insert s.db.records (set, n) (record_of a)) set) ≤ shape.population
-      → MayStand desc s.db (set, n) (record_of a) shape
-  may_stand set n a shape number here outer owner values none met clear other within count = record {
-    here = here;
-    outer = outer;
-    owner = owner;
-    values = values;
-    required = required_is (structure_of desc set) shape (area_values a) here none;
-    verified = verified_is (structure_of desc set) shape (area_values a) here met;
-    number = within;
-    count = count;
-    key = own_key desc s.db (set, n) number (record_of a) sane.flat.entries clear other;
-  }
+      → (1 ≤ n) × (n ≤ shape.population) → length (records_of (insert s.db.records (set, n) (put_record set n a shape)) set) ≤ shape.population
+      → MayStand desc s.db (set, n) (put_record set n a shape) shape
+  may_stand set n a shape number here outer owner values none met clear other within count =
+      let k : Place = (set, n) in
+      let old = get s.db.records k in
+      let required = required_is (structure_of desc set) shape (area_values a) here none in
+      let fit_before = olds_of desc s.db k shape (λ item v. fits item.kind v ≡ true) (λ item. null_fits item.kind) (λ r was. sane.valid.fit k r shape was here) old refl in
+      let links_before = olds_of desc s.db k shape (λ item v. link_stands s.db.records item.kind v ≡ true) (λ item. null_stands s.db.records item.kind) (λ r was. sane.valid.links k r shape was here) old refl in
+      record {
+        here = here;
+        outer = outer;
+        owner = owner;
+        values = linked_fits shape.items (olds set n) (area_values a) values fit_before;
+        links = of_linked (λ item v. link_stands s.db.records item.kind v ≡ true) shape.items (olds set n) (area_values a) values.lengths
+            (λ j item at off. other_stands s.db.records item.kind _ off) (λ j item at on. links_before j item at);
+        required = of_linked (λ item v. item.required ≡ true → is_null v ≡ false) shape.items (olds set n) (area_values a) values.lengths
+            (λ j item at off. required j item at) (λ j item at on must. absurd (let never = made.optional set shape here j item at on in cc));
+        verified = stored_verified set n a shape here outer.data_set ∙ verified_is (structure_of desc set) shape (area_values a) here met;
+        number = within;
+        count = count;
+        key = λ m x has. key_kept x s.db k (record_of a) (put_record set n a shape) (alike set n a shape here m x has) refl (own_key desc s.db k number (record_of a) sane.flat.entries clear other m x has);
+      }
 
   module _ (set : ℕ) (a : Area) (none : missing_from 0 (items_of (structure_of desc set)) (area_values a) ≡ None) (met : verified (structure_of desc set) (area_values a) ≡ true) where
     -- a new record, in a data set that has room
@@ -197,8 +245,8 @@ module _ (desc : Described) (s : Session) (i : ℕ) (p : Program) (at : slice_ge
         let few : length (records_of s.db.records set) < shape.population = grind (arith, nat_tests, room) in
         let low = fresh_from_one s.db.records set in
         let high = fresh_below s.db.records set in
-        let more = one_at_most (set == set) (length (records_of (insert s.db.records (set, n) (record_of a)) set)) (length (records_of s.db.records set)) (count_insert s.db.records set (set, n) (record_of a)) in
-        stored_sane set n a shape (may_stand set n a shape None here outer owner values none met clear (λ q apart same. refl) (low, omega (arith, few, high)) (omega (arith, few, more)))
+        let more = one_at_most (set == set) (length (records_of (insert s.db.records (set, n) (put_record set n a shape)) set)) (length (records_of s.db.records set)) (count_insert s.db.records set (set, n) (put_record set n a shape)) in
+        stored_sane set n a shape values (may_stand set n a shape None here outer owner values none met clear (λ q apart same. refl) (low, omega (arith, few, high)) (omega (arith, few, more)))
 
     -- a record that is replaced
     other_number : (n : ℕ) (q : Place) → q ≢ (set, n) → q.0 ≡ set → is_other (Some n) q.1 ≡ true
@@ -214,9 +262,9 @@ module _ (desc : Described) (s : Session) (i : ℕ) (p : Program) (at : slice_ge
     old_sane n shape old here owner values was None clear =
         let kind = ap is_data_set (sym here) ∙ sane.valid.sets (set, n) old was in
         let outer : IsOuter (Some shape) = record { data_set = kind; disjoint = sane.flat.disjoint (set, n) old shape was here } in
-        let same = count_replace s.db.records set (set, n) (record_of a) (ap is_some was) in
+        let same = count_replace s.db.records set (set, n) (put_record set n a shape) (ap is_some was) in
         let few = sane.valid.populations set shape here kind in
-        stored_sane set n a shape (may_stand set n a shape (Some n) here outer owner values none met clear (other_number n) (sane.valid.numbers (set, n) old shape was here) (omega (arith, same, few)))
+        stored_sane set n a shape values (may_stand set n a shape (Some n) here outer owner values none met clear (other_number n) (sane.valid.numbers (set, n) old shape was here) (omega (arith, same, few)))
 
   -- a locked record stands
   locked_old : (set n : ℕ) → locks_it p (set, n) ≡ true → (C : Type 0) → ((old : Record) (shape : Shape) → get s.db.records (set, n) ≡ Some old → structure_of desc set ≡ Some shape → C) → C
@@ -302,7 +350,6 @@ module _ (desc : Described) (s : Session) (i : ℕ) (p : Program) (at : slice_ge
       by (Some shape) h = with_shape shape h (record {
         lengths = sane.valid.lengths (set, r.number) r.rec shape stands h;
         fit = sane.valid.fit (set, r.number) r.rec shape stands h;
-        unlinked = sane.flat.unlinked (set, r.number) r.rec shape stands h;
       })
 
   find_leaves : (r : Option Spot) (x : ℕ) → Stands s.db (set_of desc x) r → Leaves desc (after_find r desc i p s x)
@@ -322,13 +369,13 @@ module _ (desc : Described) (s : Session) (i : ℕ) (p : Program) (at : slice_ge
       by None h = let kind = ap is_data_set (sym h) ∙ outer.data_set in absurd (cc)
       by (Some shape) h = with_shape shape h (subst IsOuter h outer)
 
-  create_leaves : (set : ℕ) → StartsFitting desc → IsOuter (structure_of desc set) → Leaves desc (done (with_program s i (carried (let_go (with_work p set (record { current = None; area = Some (New (map (λ (t : Item). t.initial) (items_of (structure_of desc set))) 0) })) set))))
-  create_leaves set starts outer =
+  create_leaves : (set : ℕ) → IsOuter (structure_of desc set) → Leaves desc (done (with_program s i (carried (let_go (with_work p set (record { current = None; area = Some (New (map (λ (t : Item). t.initial) (items_of (structure_of desc set))) 0) })) set))))
+  create_leaves set outer =
       let w : Work = record { current = None; area = Some (New (map (λ (t : Item). t.initial) (items_of (structure_of desc set))) 0) } in
       outer_shape set outer (Leaves desc (done (with_program s i (carried (let_go (with_work p set w) set)))))
       (λ shape here out.
       let fits : AreFitting shape.items (map (λ (t : Item). t.initial) (items_of (structure_of desc set))) =
-      subst (λ (o : Option Shape). AreFitting shape.items (map (λ (t : Item). t.initial) (items_of o))) (sym here) (initial_fits shape.items (starts.fit set shape here) (starts.unlinked set shape here)) in
+      subst (λ (o : Option Shape). AreFitting shape.items (map (λ (t : Item). t.initial) (items_of o))) (sym here) (initial_fits shape.items (made.initial set shape here)) in
       sane_at (carried (let_go (with_work p set w) set)) (let_go_areas desc (with_work p set w) set (areas_with desc p set shape w here (out, (refl, fits)) mine)))
 
   with_new : (shape : Shape) (a : Area) (new : List Value) → AreaFits shape (Some a) → AreFitting shape.items new → AreaFits shape (Some (with_values a new))
@@ -373,25 +420,25 @@ back_leaves desc s name sane = record {
   areas = all_mapped (AreasFit desc) (backed_out name) s.programs (λ x a. backed_areas desc name x a) sane.areas;
 }
 
-verb_leaves : (desc : Described) → StartsFitting desc → (i : ℕ) (p : Program) (s : Session) (v : Verb) → NamesOuter desc v → slice_get s.programs i ≡ Some p → IsExclusive s → Sane desc s.db s.mark s.programs → Leaves desc (verb_step desc i p s v)
+verb_leaves : (desc : Described) → IsWellMade desc → (i : ℕ) (p : Program) (s : Session) (v : Verb) → NamesOuter desc v → slice_get s.programs i ≡ Some p → IsExclusive s → Sane desc s.db s.mark s.programs → Leaves desc (verb_step desc i p s v)
 unfolding verb_step store_step begin_step end_step abort_step find_step create_step put_step get_step close_step
-verb_leaves desc starts i p s OpenUpdate outer at ex sane = sane
-verb_leaves desc starts i p s OpenInquiry outer at ex sane = sane
-verb_leaves desc starts i p s Close outer at ex sane = leaves_if desc p.in_transaction (refuse s AuditError p.name) _ sane (close_leaves desc s i p at ex sane)
-verb_leaves desc starts i p s (Find path) outer at ex sane = find_leaves desc s i p at ex sane (found_by desc s.db path) (path_of path) (found_stands desc s.db path)
-verb_leaves desc starts i p s (Create set) outer at ex sane = create_leaves desc s i p at ex sane set starts outer
-verb_leaves desc starts i p s (PutItems set settings) outer at ex sane = put_leaves desc s i p at ex sane (work_of p set).area set settings outer refl
-verb_leaves desc starts i p s (Get set items) outer at ex sane = get_leaves desc s i p at ex sane (work_of p set).area set items
-verb_leaves desc starts i p s (Store set) outer at ex sane =
-    leaves_if desc p.in_transaction (after_store (keep desc p s.db set) i s) (refuse s AuditError p.name) (store_leaves desc s i p at ex sane (keep desc p s.db set) (keep_sane desc s i p at ex sane set)) sane
-verb_leaves desc starts i p s (Begin audit) outer at ex sane =
+verb_leaves desc made i p s OpenUpdate outer at ex sane = sane
+verb_leaves desc made i p s OpenInquiry outer at ex sane = sane
+verb_leaves desc made i p s Close outer at ex sane = leaves_if desc p.in_transaction (refuse s AuditError p.name) _ sane (close_leaves desc made s i p at ex sane)
+verb_leaves desc made i p s (Find path) outer at ex sane = find_leaves desc made s i p at ex sane (found_by desc s.db path) (path_of path) (found_stands desc s.db path)
+verb_leaves desc made i p s (Create set) outer at ex sane = create_leaves desc made s i p at ex sane set outer
+verb_leaves desc made i p s (PutItems set settings) outer at ex sane = put_leaves desc made s i p at ex sane (work_of p set).area set settings outer refl
+verb_leaves desc made i p s (Get set items) outer at ex sane = get_leaves desc made s i p at ex sane (work_of p set).area set items
+verb_leaves desc made i p s (Store set) outer at ex sane =
+    leaves_if desc p.in_transaction (after_store (keep desc p s.db set) i s) (refuse s AuditError p.name) (store_leaves desc made s i p at ex sane (keep desc p s.db set) (keep_sane desc made s i p at ex sane set)) sane
+verb_leaves desc made i p s (Begin audit) outer at ex sane =
     leaves_if desc p.in_transaction (refuse s AuditError p.name) _ sane
     (leaves_if desc (audit && not (is_some (work_of p (restart_of desc)).area)) (refuse s NoRecord (name_of (structure_of desc (restart_of desc)))) _ sane
-    (begin_leaves desc s i p at ex sane (awaited s) audit))
-verb_leaves desc starts i p s (End audit sync) outer at ex sane =
+    (begin_leaves desc made s i p at ex sane (awaited s) audit))
+verb_leaves desc made i p s (End audit sync) outer at ex sane =
     leaves_if desc p.in_transaction (after_end (cond audit (keep desc p s.db (restart_of desc)) (Keeps p s.db)) desc i s sync) (refuse s AuditError p.name)
-    (end_leaves desc s i p at ex sane (cond audit (keep desc p s.db (restart_of desc)) (Keeps p s.db)) sync (if_sane desc s i p at ex sane audit)) sane
-verb_leaves desc starts i p s Abort outer at ex sane = leaves_if desc p.in_transaction _ (refuse s AuditError p.name) (back_leaves desc s p.name sane) sane
+    (end_leaves desc made s i p at ex sane (cond audit (keep desc p s.db (restart_of desc)) (Keeps p s.db)) sync (if_sane desc made s i p at ex sane audit)) sane
+verb_leaves desc made i p s Abort outer at ex sane = leaves_if desc p.in_transaction _ (refuse s AuditError p.name) (back_leaves desc s p.name sane) sane
 
 open_as_leaves : (desc : Described) (s : Session) (name : List ℕ) (mode : Mode) → Sane desc s.db s.mark s.programs → Leaves desc (open_as desc s name mode)
 open_as_leaves desc s name mode sane =
@@ -413,17 +460,17 @@ open_leaves desc s name (Begin audit) sane = sane
 open_leaves desc s name (End audit sync) sane = sane
 open_leaves desc s name Abort sane = sane
 
-step_at_leaves : (desc : Described) → StartsFitting desc → (o : Option Program) (i : ℕ) (s : Session) (name : List ℕ) (v : Verb) → NamesOuter desc v → slice_get s.programs i ≡ o → IsExclusive s → Sane desc s.db s.mark s.programs → Leaves desc (step_at desc o i s name v)
-step_at_leaves desc starts None i s name v outer at ex sane = open_leaves desc s name v sane
-step_at_leaves desc starts (Some p) i s name v outer at ex sane =
+step_at_leaves : (desc : Described) → IsWellMade desc → (o : Option Program) (i : ℕ) (s : Session) (name : List ℕ) (v : Verb) → NamesOuter desc v → slice_get s.programs i ≡ o → IsExclusive s → Sane desc s.db s.mark s.programs → Leaves desc (step_at desc o i s name v)
+step_at_leaves desc made None i s name v outer at ex sane = open_leaves desc s name v sane
+step_at_leaves desc made (Some p) i s name v outer at ex sane =
     let due : Program = record p { owes_abort = false } in
     leaves_if desc (opens v) (refuse s _ name) _ sane
-    (leaves_if desc p.owes_abort (record { session = with_program s i due; reply = Exception AbortDue name; sync = None; quiets = [] }) _ (sane_at desc s i p at ex sane due (mine desc s i p at ex sane))
-    (leaves_if desc (is_inquiry p.mode && changes v) (refuse s _ name) _ sane (verb_leaves desc starts i p s v outer at ex sane)))
+    (leaves_if desc p.owes_abort (record { session = with_program s i due; reply = Exception AbortDue name; sync = None; quiets = [] }) _ (sane_at desc made s i p at ex sane due (mine desc made s i p at ex sane))
+    (leaves_if desc (is_inquiry p.mode && changes v) (refuse s _ name) _ sane (verb_leaves desc made i p s v outer at ex sane)))
 
-step_leaves : (desc : Described) → StartsFitting desc → (s : Session) (name : List ℕ) (v : Verb) → NamesOuter desc v → IsExclusive s → Sane desc s.db s.mark s.programs → Leaves desc (step desc s name v)
+step_leaves : (desc : Described) → IsWellMade desc → (s : Session) (name : List ℕ) (v : Verb) → NamesOuter desc v → IsExclusive s → Sane desc s.db s.mark s.programs → Leaves desc (step desc s name v)
 unfolding step
-step_leaves desc starts s name v outer ex sane = step_at_leaves desc starts (slice_get s.programs (place_of name s.programs)) (place_of name s.programs) s name v outer refl ex sane
+step_leaves desc made s name v outer ex sane = step_at_leaves desc made (slice_get s.programs (place_of name s.programs)) (place_of name s.programs) s name v outer refl ex sane
 
 -- the database of no record
 
@@ -454,15 +501,15 @@ empty_valid desc = record {
   entry_counts = λ subset shape has is. omega arith;
 }
 
-empty_flat : (desc : Described) → IsFlat desc empty_db
-empty_flat desc = record { entries = refl; disjoint = λ place r shape at has. none_there _ place r at; unlinked = λ place r shape at has. none_there _ place r at }
+pub empty_flat : (desc : Described) → IsFlat desc empty_db
+empty_flat desc = record { entries = refl; disjoint = λ place r shape at has. none_there _ place r at }
 
 -- the law
 
-pub stays_sound : (desc : Described) → StartsFitting desc → StaysSound desc
-stays_sound desc starts = record {
-  first = λ next. record { exclusive = locks_stay_exclusive.first empty_db next; db = empty_valid desc; mark = empty_valid desc; flat = empty_flat desc; flat_mark = empty_flat desc; areas = tt };
+pub stays_sound : (desc : Described) → IsWellMade desc → StaysSound desc
+stays_sound desc made = record {
+  first = λ db next valid flat. record { exclusive = locks_stay_exclusive.first db next; db = valid; mark = valid; flat = flat; flat_mark = flat; areas = tt };
   step = λ s name verb outer h.
-      let after = step_leaves desc starts s name verb outer h.exclusive (record { valid = h.db; valid_mark = h.mark; flat = h.flat; flat_mark = h.flat_mark; areas = h.areas }) in
+      let after = step_leaves desc made s name verb outer h.exclusive (record { valid = h.db; valid_mark = h.mark; flat = h.flat; flat_mark = h.flat_mark; areas = h.areas }) in
       record { exclusive = locks_stay_exclusive.step desc s name verb h.exclusive; db = after.valid; mark = after.valid_mark; flat = after.flat; flat_mark = after.flat_mark; areas = after.areas };
 }

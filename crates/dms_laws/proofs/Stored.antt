@@ -7,7 +7,7 @@ use Rattle.std.specs.FinMap.{get, insert, entries, get-insert, get-entries, find
 use Rattle.std.specs.Ordering.{eq_by_cmp, is_eq}
 use Rattle.std.proofs.lemmas.Cmp.{eq_by_cmp_equiv}
 use Rattle.std.proofs.lemmas.Bool.Decides.{nat_tests}
-use Rattle.dms_base.specs.declared.value.Value.TheVariants.{Null}
+use Rattle.dms_base.specs.declared.value.Value.{Value}
 use Rattle.dms_base.specs.Fits.{fits}
 use Rattle.dms_desc.specs.declared.record.Record.{Record}
 use Rattle.dms_desc.specs.Shape.{Shape, Described}
@@ -15,12 +15,12 @@ use Rattle.dms_desc.specs.Conds.{meets, is_null}
 use Rattle.dms_model.specs.Db.{Db, Entry, Place, Records, place_cmp, records_of}
 use Rattle.dms_model.specs.Members.{structure_of, over, key_of, key_cmp, belongs, takes, names}
 use Rattle.dms_model.specs.MemberLaws.{key_total}
-use Rattle.dms_model.specs.Stores.{is_link, has_equal, is_closed, is_other, clashes, clash}
+use Rattle.dms_model.specs.Stores.{has_equal, is_closed, is_other, clashes, clash}
 use Rattle.dms_laws.specs.Valid.{OfRecords, OfItems, IsValid, EntryStands, value_at, is_data_set, is_set, owner_stands, link_stands, share_owner, equal_keys}
 use Rattle.dms_laws.specs.Sound.{IsFlat, IsOuter, AreFitting}
 use Rattle.dms_laws.proofs.Places.{places_total, place_is, itself}
 use Rattle.dms_laws.proofs.Counts.{count_insert}
-use Rattle.dms_laws.proofs.Values.{null_stands}
+use Rattle.dms_laws.proofs.Values.{link_still}
 
 -- in a set or subset without DUPLICATES that takes these values no other record has an equal key
 abbrev pub HasOwnKey : Shape → Db → Place → Record → Type 0
@@ -34,6 +34,7 @@ pub record MayStand (desc : Described) (db : Db) (k : Place) (rec : Record) (sha
   pub outer : IsOuter (Some shape)
   pub owner : rec.owner ≡ 0
   pub values : AreFitting shape.items rec.values
+  pub links : OfItems shape.items rec.values (λ item v. link_stands db.records item.kind v ≡ true)
   pub required : OfItems shape.items rec.values (λ item v. item.required ≡ true → is_null v ≡ false)
   pub verified : meets shape.cond rec.values ≡ true
   pub number : (1 ≤ k.1) × (k.1 ≤ shape.population)
@@ -110,15 +111,17 @@ module _ (desc : Described) (db : Db) (k : Place) (rec : Record) (shape : Shape)
       subst (λ (x : Place). Q x r s) (sym is) (subst (λ (x : Record). Q k x s) same (subst (λ (x : Shape). Q k rec x) shape_is new)))
       (λ apart was. old place r s (all place r s was has))
 
-  abbrev Unlinked : Place → Record → Shape → Type 0
-  Unlinked place r s = OfItems s.items r.values (λ item v. is_link item.kind ≡ true → v ≡ Null)
+  abbrev Linked : Records → Place → Record → Shape → Type 0
+  Linked records place r s = OfItems s.items r.values (λ item v. link_stands records item.kind v ≡ true)
 
-  -- it stays a database without embedded records, entries and links
+  still_linked : (place : Place) (r : Record) (s : Shape) → Linked db.records place r s → Linked after.records place r s
+  still_linked place r s h j item at = link_still db.records k rec item.kind (value_at r.values j) (h j item at)
+
+  -- it stays a database without embedded records and entries
   pub put_flat : IsFlat desc after
   put_flat = record {
     entries = flat.entries;
     disjoint = of_all (λ place r s. s.owner ≡ 0) (λ place r s. s.owner ≡ 0) may.outer.disjoint (λ place r s h. h) flat.disjoint;
-    unlinked = of_all Unlinked Unlinked may.values.unlinked (λ place r s h. h) flat.unlinked;
   }
 
   put_sets : (place : Place) (r : Record) → get after.records place ≡ Some r → is_data_set (structure_of desc place.0) ≡ true
@@ -132,9 +135,6 @@ module _ (desc : Described) (db : Db) (k : Place) (rec : Record) (shape : Shape)
 
   moved_owner : (place : Place) (r : Record) (s : Shape) → (s.owner ≡ 0) × (owner_stands db.records s.owner r.owner ≡ true) → owner_stands after.records s.owner r.owner ≡ true
   moved_owner place r s h = ap (λ (n : ℕ). owner_stands after.records n r.owner) h.0 ∙ sym (ap (λ (n : ℕ). owner_stands db.records n r.owner) h.0) ∙ h.1
-
-  put_links : OfRecords desc after (λ place r s. OfItems s.items r.values (λ item v. link_stands after.records item.kind v ≡ true))
-  put_links place r s at has j item here = null_stands after.records item.kind (value_at r.values j) (put_flat.unlinked place r s at has j item here)
 
   put_counts : (set : ℕ) (s : Shape) → structure_of desc set ≡ Some s → is_data_set (Some s) ≡ true → length (records_of after.records set) ≤ s.population
   put_counts set s has is = by (set == k.0) refl (count_insert db.records set k rec)
@@ -167,7 +167,7 @@ module _ (desc : Described) (db : Db) (k : Place) (rec : Record) (shape : Shape)
     sets = put_sets;
     lengths = of_all (λ place r s. length r.values ≡ length s.items) (λ place r s. length r.values ≡ length s.items) may.values.lengths (λ place r s h. h) valid.lengths;
     fit = of_all (λ place r s. OfItems s.items r.values (λ item v. fits item.kind v ≡ true)) (λ place r s. OfItems s.items r.values (λ item v. fits item.kind v ≡ true)) may.values.fit (λ place r s h. h) valid.fit;
-    links = put_links;
+    links = of_all (Linked db.records) (Linked after.records) (still_linked k rec shape may.links) still_linked valid.links;
     required = of_all (λ place r s. OfItems s.items r.values (λ item v. item.required ≡ true → is_null v ≡ false)) (λ place r s. OfItems s.items r.values (λ item v. item.required ≡ true → is_null v ≡ false)) may.required (λ place r s h. h) valid.required;
     verified = of_all (λ place r s. meets s.cond r.values ≡ true) (λ place r s. meets s.cond r.values ≡ true) may.verified (λ place r s h. h) valid.verified;
     owners = of_all (λ place r s. (s.owner ≡ 0) × (owner_stands db.records s.owner r.owner ≡ true)) (λ place r s. owner_stands after.records s.owner r.owner ≡ true)
@@ -234,3 +234,11 @@ own_key desc db k number rec none clear other n s has set nodup own taken q b ap
     let free = none_clashes desc.structures db k.0 number rec (n - 1) s (in_list desc n s has) clear in
     let yes : clashes s db k.0 number rec ≡ true = λ i. closed i && equals i in
     absurd (cc)
+
+-- a record with the same key, that a set takes as well, has its own key as well
+pub key_kept : (s : Shape) (db : Db) (k : Place) (a b : Record) → (is_set s ≡ true → s.set ≡ k.0 → (takes s b.values ≡ takes s a.values) × (key_of s.parts b.values ≡ key_of s.parts a.values)) → b.owner ≡ a.owner → HasOwnKey s db k a → HasOwnKey s db k b
+key_kept s db k a b alike owner key set nodup own taken q r apart was theirs equal =
+    let both = alike set own in
+    key set nodup own (sym both.0 ∙ taken) q r apart was
+    (ap (λ (n : ℕ). belongs s db.entries n (q, r)) (sym owner) ∙ theirs)
+    (ap (λ (ks : List Value). is_eq (key_cmp s.parts (key_of s.parts r.values) ks)) (sym both.1) ∙ equal)

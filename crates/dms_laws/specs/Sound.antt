@@ -1,28 +1,54 @@
 -- A session whose databases are valid, and whose programs have at hand what may be stored.
-use Rattle.std.specs.Prelude.{◌≡◌, ℕ, List, [], true, Some, None, ⊤, length, slice_get}
-use Rattle.std.specs.List.{AllByRecursion}
+use Rattle.std.specs.Prelude.{Bool, ◌-◌, not, ◌&&◌, false, if◌then◌else◌, ◌≡◌, ℕ, List, [], true, Some, None, ⊤, length, slice_get}
+use Rattle.std.specs.List.{AllByRecursion, list_all}
 use Rattle.std.specs.declared.option.Option.{Option}
 use Rattle.dms_base.specs.declared.value.Value.{Value}
-use Rattle.dms_base.specs.declared.value.Value.TheVariants.{Null}
 use Rattle.dms_base.specs.Fits.{fits}
 use Rattle.dms_desc.specs.declared.structure.Item.{Item}
-use Rattle.dms_desc.specs.Shape.{Shape, Described}
+use Rattle.dms_desc.specs.declared.structure.KeyPart.{KeyPart}
+use Rattle.dms_desc.specs.Shape.{Shape, Described, Tree, Empty, Test, Both, Either, Contrary}
 use Rattle.dms_model.specs.declared.program.Program.{Program}
 use Rattle.dms_model.specs.declared.program.Area.{Area}
 use Rattle.dms_model.specs.declared.program.Area.TheVariants.{New, Old}
 use Rattle.dms_model.specs.declared.verb.Verb.{Verb}
 use Rattle.dms_model.specs.declared.verb.Verb.TheVariants.{OpenUpdate, OpenInquiry, Close, Find, Create, Put, Get, Store, Begin, End, Abort}
-use Rattle.dms_model.specs.Db.{Db, empty_db}
-use Rattle.dms_model.specs.Members.{structure_of}
+use Rattle.dms_model.specs.Db.{Db}
+use Rattle.dms_model.specs.Members.{structure_of, items_of}
 use Rattle.dms_model.specs.Stores.{is_link}
 use Rattle.dms_model.specs.Session.{Session, step, work_of, fresh_session}
 use Rattle.dms_laws.specs.Exclusive.{IsExclusive}
-use Rattle.dms_laws.specs.Valid.{OfRecords, OfItems, IsValid, is_data_set, owner_of}
+use Rattle.dms_laws.specs.Valid.{OfRecords, OfItems, IsValid, is_data_set, is_set, owner_of}
 
--- what is asked of a description: initial values fit their items, and a link has none
-pub record StartsFitting (desc : Described) : Type 0 where
-  pub fit : (set : ℕ) (shape : Shape) → structure_of desc set ≡ Some shape → (k : ℕ) (item : Item) → slice_get shape.items k ≡ Some item → fits item.kind item.initial ≡ true
-  pub unlinked : (set : ℕ) (shape : Shape) → structure_of desc set ≡ Some shape → (k : ℕ) (item : Item) → slice_get shape.items k ≡ Some item → is_link item.kind ≡ true → item.initial ≡ Null
+abbrev pub is_link_item : Option Item → Bool
+is_link_item None = false
+is_link_item (Some item) = is_link item.kind
+
+-- no comparison of a condition is of a link
+abbrev pub compares_no_link : List Item → Tree → Bool
+compares_no_link items Empty = true
+compares_no_link items (Test item op literal) = not (is_link_item (slice_get items (item - 1)))
+compares_no_link items (Both a b) = compares_no_link items a && compares_no_link items b
+compares_no_link items (Either a b) = compares_no_link items a && compares_no_link items b
+compares_no_link items (Contrary a) = compares_no_link items a
+
+-- no part of a key is a link
+abbrev pub has_no_link : List Item → List KeyPart → Bool
+has_no_link items parts = list_all (λ p. not (is_link_item (slice_get items (p.item - 1)))) parts
+
+-- the items of which a structure's condition and key speak: those of the data set that it is over
+abbrev pub items_under : Described → Shape → List Item
+items_under desc s = if is_set s then items_of (structure_of desc s.set) else s.items
+
+-- what is asked of a description
+pub record IsWellMade (desc : Described) : Type 0 where
+  -- initial values fit their items
+  pub initial : (n : ℕ) (shape : Shape) → structure_of desc n ≡ Some shape → (k : ℕ) (item : Item) → slice_get shape.items k ≡ Some item → fits item.kind item.initial ≡ true
+  -- no link is REQUIRED
+  pub optional : (n : ℕ) (shape : Shape) → structure_of desc n ≡ Some shape → (k : ℕ) (item : Item) → slice_get shape.items k ≡ Some item → is_link item.kind ≡ true → item.required ≡ false
+  -- VERIFY and WHERE compare no link
+  pub conditions : (n : ℕ) (shape : Shape) → structure_of desc n ≡ Some shape → compares_no_link (items_under desc shape) shape.cond ≡ true
+  -- no key has a link
+  pub keys : (n : ℕ) (shape : Shape) → structure_of desc n ≡ Some shape → has_no_link (items_under desc shape) shape.parts ≡ true
 
 -- a disjoint data set
 pub record IsOuter (structure : Option Shape) : Type 0 where
@@ -43,17 +69,15 @@ NamesOuter desc (Begin audit) = ⊤
 NamesOuter desc (End audit sync) = ⊤
 NamesOuter desc Abort = ⊤
 
--- a database as the verbs of today make it: no embedded record, no entry of a manual subset, and each link null
+-- a database as the verbs of today make it: no embedded record, and no entry of a manual subset
 pub record IsFlat (desc : Described) (db : Db) : Type 0 where
   pub entries : db.entries ≡ []
   pub disjoint : OfRecords desc db (λ place rec shape. shape.owner ≡ 0)
-  pub unlinked : OfRecords desc db (λ place rec shape. OfItems shape.items rec.values (λ item v. is_link item.kind ≡ true → v ≡ Null))
 
--- values of an area: as many as items, each fits, and links are null
+-- values of an area: as many as items, and each fits
 pub record AreFitting (items : List Item) (values : List Value) : Type 0 where
   pub lengths : length values ≡ length items
   pub fit : OfItems items values (λ item v. fits item.kind v ≡ true)
-  pub unlinked : OfItems items values (λ item v. is_link item.kind ≡ true → v ≡ Null)
 
 -- an area of a data set; a new one is of a disjoint one, and without owner
 abbrev pub AreaFits : Shape → Option Area → Type 0
@@ -73,8 +97,8 @@ pub record IsSound (desc : Described) (s : Session) : Type 0 where
   pub flat_mark : IsFlat desc s.mark
   pub areas : AllByRecursion (AreasFit desc) s.programs
 
--- A session without programs over the database of no record is sound, and each step leaves it so: its database and that of
--- the last quiet point stay valid.
+-- A session without programs over a valid database without embedded records and entries is sound, and each step leaves a sound
+-- session sound: its database and that of the last quiet point stay valid.
 pub record StaysSound (desc : Described) : Type 0 where
-  pub first : (next : ℕ) → IsSound desc (fresh_session empty_db next)
+  pub first : (db : Db) (next : ℕ) → IsValid desc db → IsFlat desc db → IsSound desc (fresh_session db next)
   pub step : (s : Session) (name : List ℕ) (verb : Verb) → NamesOuter desc verb → IsSound desc s → IsSound desc (step desc s name verb).session
