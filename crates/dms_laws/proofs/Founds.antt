@@ -1,5 +1,5 @@
 -- A member that a path finds is a record of the database.
-use Rattle.std.proofs.Common.{◌≡◌, ℕ, List, [], ◌∷◌, Bool, true, false, cond, Some, None, refl, ap, ◌∙◌, ◌&&◌, arith}
+use Rattle.std.proofs.Common.{sym, ◌≡◌, ℕ, List, [], ◌∷◌, Bool, true, false, cond, Some, None, refl, ap, ◌∙◌, ◌&&◌, arith}
 use Rattle.std.specs.Prelude.{T, ◌==◌, eqb}
 use Rattle.std.specs.List.{AllByRecursion}
 use Rattle.std.specs.declared.option.Option.{Option}
@@ -18,8 +18,9 @@ use Rattle.dms_model.specs.declared.spot.Spot.{Spot}
 use Rattle.dms_model.specs.declared.verb.Path.{Path}
 use Rattle.dms_model.specs.declared.verb.Path.TheVariants.{First, Last, At}
 use Rattle.dms_model.specs.Db.{Db, Entry, Records, Place, place_cmp}
-use Rattle.dms_model.specs.Members.{structure_of, items_of, over, over_of, belongs, spot_of, spots_of, place_in, sorted, first, last, or_else, members, is_before, first_of, last_of, at_of, first_member, last_member, at_member, is_after_bound, is_before_bound, agrees}
+use Rattle.dms_model.specs.Members.{structure_of, items_of, over, over_of, key_of, key_cmp, belongs, spot_of, spots_of, place_in, sorted, first, last, or_else, members, is_before, first_of, last_of, at_of, first_member, last_member, at_member, is_after_bound, is_before_bound, agrees}
 use Rattle.dms_model.specs.Session.{found_by, at_values, key_values, parts_of, set_of, path_of}
+use Rattle.dms_laws.specs.Valid.{IsValid, HaveOwnKeys, is_set, equal_keys, share_owner}
 use Rattle.dms_laws.proofs.Places.{places_total, itself}
 use Rattle.dms_laws.proofs.Lists.{all_both}
 
@@ -63,18 +64,30 @@ all_found (e ∷ es) order =
 abbrev pub IsRecordOf : Records → ℕ → Spot → Type 0
 IsRecordOf records set r = get records (set, r.number) ≡ Some r.rec
 
+-- the spot is a record that belongs to the structure for an owner, with its key
+pub record IsSpotOf (m : Records) (s : Shape) (manual : List Entry) (owner : ℕ) (x : Spot) : Type 0 where
+  pub stand : IsRecordOf m (over s) x
+  pub belong : belongs s manual owner ((over s, x.number), x.rec) ≡ true
+  pub key : x.key ≡ key_of s.parts x.rec.values
+
+set_here : (s : Shape) (n : ℕ) (a b : Bool) → eqb (over s) n ≡ a → (a && b) ≡ true → over s ≡ n
+set_here s n true b h k = grind (arith, nat_tests, h)
+set_here s n false b h k = absurd (cc)
+
 module _ (m : Records) (s : Shape) (manual : List Entry) (owner : ℕ) where
-  spot_at : (b : Bool) (e : Place × Record) (xs : List Spot) → belongs s manual owner e ≡ b → FoundIn (entries m) e → AllByRecursion (IsRecordOf m (over s)) xs → AllByRecursion (IsRecordOf m (over s)) (cond b (spot_of s.parts e ∷ xs) xs)
+  spot_at : (b : Bool) (e : Place × Record) (xs : List Spot) → belongs s manual owner e ≡ b → FoundIn (entries m) e → AllByRecursion (IsSpotOf m s manual owner) xs → AllByRecursion (IsSpotOf m s manual owner) (cond b (spot_of s.parts e ∷ xs) xs)
   spot_at true e xs is found rest =
-      let here : over s ≡ e.0.0 = by (over s == e.0.0) _ refl is in
-      (get-entries m (over s, e.0.1) ∙ ap (λ (n : ℕ). find place_cmp (n, e.0.1) (entries m)) here ∙ found, rest)
-    where
-      by : (a b : Bool) → eqb (over s) e.0.0 ≡ a → (a && b) ≡ true → over s ≡ e.0.0
-      by true b h k = grind (arith, nat_tests, h)
-      by false b h k = absurd (cc)
+      let here : over s ≡ e.0.0 = set_here s e.0.0 (over s == e.0.0) _ refl is in (
+        record {
+          stand = get-entries m (over s, e.0.1) ∙ ap (λ (n : ℕ). find place_cmp (n, e.0.1) (entries m)) here ∙ found;
+          belong = ap (λ (n : ℕ). belongs s manual owner ((n, e.0.1), e.1)) here ∙ is;
+          key = refl;
+        },
+        rest,
+      )
   spot_at false e xs is found rest = rest
 
-  spots_stand : (es : List (Place × Record)) → AllByRecursion (FoundIn (entries m)) es → AllByRecursion (IsRecordOf m (over s)) (spots_of s manual owner es)
+  spots_stand : (es : List (Place × Record)) → AllByRecursion (FoundIn (entries m)) es → AllByRecursion (IsSpotOf m s manual owner) (spots_of s manual owner es)
   spots_stand [] found = tt
   spots_stand (e ∷ es) found = spot_at (belongs s manual owner e) e (spots_of s manual owner es) refl found.0 (spots_stand es found.1)
 
@@ -113,8 +126,13 @@ module _ {A : Type 0} (P : A → Type 0) (p : A → Bool) where
   last_there [] all = tt
   last_there (x ∷ xs) all = there_else (last p xs) (cond (p x) (Some x) None) (last_there xs all.1) (there_if (p x) (Some x) None all.0 tt)
 
+pub members_are : (s : Shape) (db : Db) (owner : ℕ) → AllByRecursion (IsSpotOf db.records s db.entries owner) (members s db owner)
+members_are s db owner = all_sorted (IsSpotOf db.records s db.entries owner) (is_before s.parts) (spots_of s db.entries owner (entries db.records)) (spots_stand db.records s db.entries owner (entries db.records) (all_found (entries db.records) (entries_sorted db.records)))
+
 members_stand : (s : Shape) (db : Db) (owner : ℕ) → AllByRecursion (IsRecordOf db.records (over s)) (members s db owner)
-members_stand s db owner = all_sorted (IsRecordOf db.records (over s)) (is_before s.parts) (spots_of s db.entries owner (entries db.records)) (spots_stand db.records s db.entries owner (entries db.records) (all_found (entries db.records) (entries_sorted db.records)))
+members_stand s db owner =
+    let all = members_are s db owner in
+    all_both {P = IsSpotOf db.records s db.entries owner} {Q = IsSpotOf db.records s db.entries owner} (IsRecordOf db.records (over s)) (members s db owner) (λ x h k. h.stand) all all
 
 abbrev pub Stands : Db → ℕ → Option Spot → Type 0
 Stands db set o = IfThere (IsRecordOf db.records set) o
@@ -142,3 +160,16 @@ unfolding found_by first_member last_member
 found_stands desc db (First x) = first_stands (structure_of desc x) db 0 Start
 found_stands desc db (Last x) = last_stands (structure_of desc x) db 0 Behind
 found_stands desc db (At x literals) = key_stands (key_values (parts_of (structure_of desc x)) (items_of (structure_of desc (set_of desc x))) literals) desc db x
+
+-- in a valid database, of members of one owner in a set or subset without DUPLICATES two with equal keys are one
+pub members_own_keys : (desc : Described) (db : Db) → IsValid desc db → (n : ℕ) (s : Shape) → structure_of desc n ≡ Some s → is_set s ≡ true → s.duplicates ≡ false → (owner : ℕ) → HaveOwnKeys s (members s db owner)
+members_own_keys desc db valid n s has set nodup owner =
+    let all = members_are s db owner in
+    all_both {P = IsSpotOf db.records s db.entries owner} {Q = IsSpotOf db.records s db.entries owner} (λ x. AllByRecursion (λ y. is_eq (key_cmp s.parts x.key y.key) ≡ true → x.number ≡ y.number) (members s db owner)) (members s db owner)
+    (λ x h h'. all_both {P = IsSpotOf db.records s db.entries owner} {Q = IsSpotOf db.records s db.entries owner} (λ y. is_eq (key_cmp s.parts x.key y.key) ≡ true → x.number ≡ y.number) (members s db owner)
+    (λ y k k' equal.
+    let keys : equal_keys s x.rec y.rec ≡ true = (λ i. is_eq (key_cmp s.parts (sym h.key i) (sym k.key i))) ∙ equal in
+    let share : share_owner s db.entries owner ((over s, x.number), x.rec) ((over s, y.number), y.rec) ≡ true = λ i. h.belong i && k.belong i in
+    ap (λ (p : Place). p.1) (valid.keys n s has set nodup owner (over s, x.number) (over s, y.number) x.rec y.rec h.stand k.stand share keys))
+    all all)
+    all all

@@ -4,6 +4,7 @@ mod Fresh
 mod Lists
 mod Locks
 mod Places
+mod Points
 mod Sound
 mod Stored
 mod Values

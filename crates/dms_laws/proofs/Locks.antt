@@ -478,7 +478,7 @@ step_fair desc s name v ex = step_at_fair desc (slice_get s.programs (place_of n
 -- the laws
 
 pub locks_stay_exclusive : LocksStayExclusive
-locks_stay_exclusive = record { first = λ db next. record { apart = tt; safe = tt }; step = λ desc s name verb ex. (step_fair desc s name verb ex).exclusive }
+locks_stay_exclusive = record { first = λ db next. record { apart = tt; safe = tt }; keeps = λ desc s name verb ex. (step_fair desc s name verb ex).exclusive }
 
 pub loses_no_update : (desc : Described) (s : Session) (name : List ℕ) (verb : Verb) → IsExclusive s → LosesNoUpdate desc s name verb
 loses_no_update desc s name verb ex = (step_fair desc s name verb ex).same

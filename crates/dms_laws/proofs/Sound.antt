@@ -25,17 +25,19 @@ use Rattle.dms_model.specs.declared.reply.Reply.TheVariants.{Exception}
 use Rattle.dms_model.specs.declared.put.Put.TheVariants.{Stored, Full}
 use Rattle.dms_model.specs.declared.spot.Spot.{Spot}
 use Rattle.dms_model.specs.Db.{Db, Place, fresh, records_of, rows_of, empty_db, place_cmp}
+use Rattle.dms_model.specs.Points.{Quiet}
 use Rattle.dms_model.specs.Members.{name_of, structure_of, items_of, takes, key_of}
 use Rattle.dms_model.specs.Stores.{put_answer, put_unless, is_full, clash, put_after, linked, is_other, values_of}
 use Rattle.dms_model.specs.Session.{Session, Outcome, Kept, Refused, Keeps, Filled, Misfit, Values', refuse, done, settle, keep, store_step, after_store, begin_step, after_begin, begin_unless, awaited, end_step, after_end, abort_step, find_step, after_find, found_by, create_step, put_step, put_area, after_put, filled, get_step, get_area, close_step, open_as, open_step, verb_step, step_at, step, with_program, with_work, with_values, work_of, no_work, or_none, restart_of, someone_works, is_inquiry, opens, changes, path_of, new_program, place_of, carried, entered, left, without, idle, backed_out, found_program, stored_program, let_go, is_lock, area_kept, kept_unless, put_kept, missing_from, verified, area_values, area_number, area_owner, record_of, is_free, one_more, set_of}
 use Rattle.dms_laws.specs.Exclusive.{AreSafe, IsExclusive, locks_it}
 use Rattle.dms_laws.specs.Valid.{OfItems, IsValid, is_data_set, is_set, link_stands}
-use Rattle.dms_laws.specs.Sound.{IsWellMade, IsOuter, NamesOuter, IsFlat, AreFitting, AreaFits, AreasFit, StaysSound, items_under, compares_no_link, has_no_link}
+use Rattle.dms_laws.specs.Sound.{after, NameOuter, IsSound, IsWellMade, IsOuter, NamesOuter, IsFlat, AreFitting, AreaFits, AreasFit, StaysSound, items_under, compares_no_link, has_no_link}
 use Rattle.dms_laws.proofs.Counts.{count_insert, count_replace, fresh_below}
 use Rattle.dms_laws.proofs.Founds.{Stands, found_stands}
 use Rattle.dms_laws.proofs.Fresh.{fresh_from_one}
 use Rattle.dms_laws.proofs.Lists.{all_at, all_set, all_mapped, all_pushed, all_without}
 use Rattle.dms_laws.proofs.Locks.{locks_stay_exclusive}
+use Rattle.dms_laws.proofs.Points.{step_points}
 use Rattle.dms_laws.proofs.Stored.{MayStand, put_valid, put_flat, own_key, key_kept}
 use Rattle.dms_laws.proofs.Values.{get_set_other, filled_fits, FilledFits, initial_fits, required_of, linked_fits, linked_agree, of_linked, null_fits, null_stands, other_stands, meets_agree, keys_agree}
 
@@ -506,10 +508,22 @@ empty_flat desc = record { entries = refl; disjoint = λ place r shape at has. n
 
 -- the law
 
+step_sound : (desc : Described) → IsWellMade desc → (s : Session) (name : List ℕ) (verb : Verb) → NamesOuter desc verb → IsSound desc s → IsSound desc (step desc s name verb).session
+step_sound desc made s name verb outer h =
+    let after = step_leaves desc made s name verb outer h.exclusive (record { valid = h.db; valid_mark = h.mark; flat = h.flat; flat_mark = h.flat_mark; areas = h.areas }) in
+    record { exclusive = locks_stay_exclusive.keeps desc s name verb h.exclusive; db = after.valid; mark = after.valid_mark; flat = after.flat; flat_mark = after.flat_mark; areas = after.areas }
+
+valid_points : (desc : Described) (db : Db) → IsValid desc db → (qs : List Quiet) → AllByRecursion (λ (q : Quiet). q.1 ≡ db) qs → AllByRecursion (λ (q : Quiet). IsValid desc q.1) qs
+valid_points desc db valid [] same = tt
+valid_points desc db valid (q ∷ qs) same = (subst (IsValid desc) (sym same.0) valid, valid_points desc db valid qs same.1)
+
 pub stays_sound : (desc : Described) → IsWellMade desc → StaysSound desc
 stays_sound desc made = record {
   first = λ db next valid flat. record { exclusive = locks_stay_exclusive.first db next; db = valid; mark = valid; flat = flat; flat_mark = flat; areas = tt };
-  step = λ s name verb outer h.
-      let after = step_leaves desc made s name verb outer h.exclusive (record { valid = h.db; valid_mark = h.mark; flat = h.flat; flat_mark = h.flat_mark; areas = h.areas }) in
-      record { exclusive = locks_stay_exclusive.step desc s name verb h.exclusive; db = after.valid; mark = after.valid_mark; flat = after.flat; flat_mark = after.flat_mark; areas = after.areas };
+  keeps = step_sound desc made;
+  points = λ s name verb outer h. valid_points desc (step desc s name verb).session.db (step_sound desc made s name verb outer h).db (step desc s name verb).quiets (step_points desc s name verb);
 }
+
+pub after_sound : (desc : Described) → IsWellMade desc → (s : Session) (vs : List (List ℕ × Verb)) → NameOuter desc vs → IsSound desc s → IsSound desc (after desc s vs)
+after_sound desc made s [] outer h = h
+after_sound desc made s (v ∷ vs) outer h = after_sound desc made (step desc s v.0 v.1).session vs outer.1 (step_sound desc made s v.0 v.1 outer.0 h)

@@ -70,7 +70,7 @@ backs_out verb o = asks_back_out verb && is_done o.reply
 -- A session without programs is exclusive, and each step of each program leaves it so.
 pub record LocksStayExclusive : Type 0 where
   pub first : (db : Db) (next : ℕ) → IsExclusive (fresh_session db next)
-  pub step : (desc : Described) (s : Session) (name : List ℕ) (verb : Verb) → IsExclusive s → IsExclusive (step desc s name verb).session
+  pub keeps : (desc : Described) (s : Session) (name : List ℕ) (verb : Verb) → IsExclusive s → IsExclusive (step desc s name verb).session
 
 -- A record that a program other than the asking one holds locked before and after a step is the same before and after it,
 -- whatever the verb.

@@ -1,5 +1,5 @@
 -- A session whose databases are valid, and whose programs have at hand what may be stored.
-use Rattle.std.specs.Prelude.{Bool, ◌-◌, not, ◌&&◌, false, if◌then◌else◌, ◌≡◌, ℕ, List, [], true, Some, None, ⊤, length, slice_get}
+use Rattle.std.specs.Prelude.{◌∷◌, Bool, ◌-◌, not, ◌&&◌, false, if◌then◌else◌, ◌≡◌, ℕ, List, [], true, Some, None, ⊤, length, slice_get}
 use Rattle.std.specs.List.{AllByRecursion, list_all}
 use Rattle.std.specs.declared.option.Option.{Option}
 use Rattle.dms_base.specs.declared.value.Value.{Value}
@@ -13,6 +13,7 @@ use Rattle.dms_model.specs.declared.program.Area.TheVariants.{New, Old}
 use Rattle.dms_model.specs.declared.verb.Verb.{Verb}
 use Rattle.dms_model.specs.declared.verb.Verb.TheVariants.{OpenUpdate, OpenInquiry, Close, Find, Create, Put, Get, Store, Begin, End, Abort}
 use Rattle.dms_model.specs.Db.{Db}
+use Rattle.dms_model.specs.Points.{Quiet}
 use Rattle.dms_model.specs.Members.{structure_of, items_of}
 use Rattle.dms_model.specs.Stores.{is_link}
 use Rattle.dms_model.specs.Session.{Session, step, work_of, fresh_session}
@@ -55,7 +56,7 @@ pub record IsOuter (structure : Option Shape) : Type 0 where
   pub data_set : is_data_set structure ≡ true
   pub disjoint : owner_of structure ≡ 0
 
--- the data set that a verb names is one of the outer level
+-- the data set that CREATE or PUT names is one of the outer level
 abbrev pub NamesOuter : Described → Verb → Type 0
 NamesOuter desc OpenUpdate = ⊤
 NamesOuter desc OpenInquiry = ⊤
@@ -63,8 +64,8 @@ NamesOuter desc Close = ⊤
 NamesOuter desc (Find path) = ⊤
 NamesOuter desc (Create set) = IsOuter (structure_of desc set)
 NamesOuter desc (Put set settings) = IsOuter (structure_of desc set)
-NamesOuter desc (Get set items) = IsOuter (structure_of desc set)
-NamesOuter desc (Store set) = IsOuter (structure_of desc set)
+NamesOuter desc (Get set items) = ⊤
+NamesOuter desc (Store set) = ⊤
 NamesOuter desc (Begin audit) = ⊤
 NamesOuter desc (End audit sync) = ⊤
 NamesOuter desc Abort = ⊤
@@ -98,7 +99,17 @@ pub record IsSound (desc : Described) (s : Session) : Type 0 where
   pub areas : AllByRecursion (AreasFit desc) s.programs
 
 -- A session without programs over a valid database without embedded records and entries is sound, and each step leaves a sound
--- session sound: its database and that of the last quiet point stay valid.
+-- session sound: its database and that of the last quiet point stay valid. So is the database of each quiet point that it makes.
 pub record StaysSound (desc : Described) : Type 0 where
   pub first : (db : Db) (next : ℕ) → IsValid desc db → IsFlat desc db → IsSound desc (fresh_session db next)
-  pub step : (s : Session) (name : List ℕ) (verb : Verb) → NamesOuter desc verb → IsSound desc s → IsSound desc (step desc s name verb).session
+  pub keeps : (s : Session) (name : List ℕ) (verb : Verb) → NamesOuter desc verb → IsSound desc s → IsSound desc (step desc s name verb).session
+  pub points : (s : Session) (name : List ℕ) (verb : Verb) → NamesOuter desc verb → IsSound desc s → AllByRecursion (λ (q : Quiet). IsValid desc q.1) (step desc s name verb).quiets
+
+-- the session after verbs of programs, the first verb first
+abbrev pub after : Described → Session → List (List ℕ × Verb) → Session
+after desc s [] = s
+after desc s (v ∷ vs) = after desc (step desc s v.0 v.1).session vs
+
+-- each verb names data sets of the outer level
+abbrev pub NameOuter : Described → List (List ℕ × Verb) → Type 0
+NameOuter desc vs = AllByRecursion (λ v. NamesOuter desc v.1) vs

@@ -15,6 +15,7 @@ use Rattle.dms_desc.specs.declared.structure.Item.{Item}
 use Rattle.dms_desc.specs.declared.record.Record.{Record}
 use Rattle.dms_desc.specs.Shape.{Shape, Described}
 use Rattle.dms_desc.specs.Conds.{meets, is_null, or_null}
+use Rattle.dms_model.specs.declared.spot.Spot.{Spot}
 use Rattle.dms_model.specs.Db.{Db, Entry, Place, Records, records_of}
 use Rattle.dms_model.specs.Members.{structure_of, over_of, key_of, key_cmp, belongs}
 
@@ -73,6 +74,10 @@ share_owner s manual owner a b = belongs s manual owner a && belongs s manual ow
 
 abbrev pub equal_keys : Shape → Record → Record → Bool
 equal_keys s a b = is_eq (key_cmp s.parts (key_of s.parts a.values) (key_of s.parts b.values))
+
+-- of these members two with equal keys are one
+abbrev pub HaveOwnKeys : Shape → List Spot → Type 0
+HaveOwnKeys s xs = AllByRecursion (λ x. AllByRecursion (λ y. is_eq (key_cmp s.parts x.key y.key) ≡ true → x.number ≡ y.number) xs) xs
 
 -- an entry of a manual subset: its record and its owner's exist
 pub record EntryStands (desc : Described) (db : Db) (e : Entry) : Type 0 where

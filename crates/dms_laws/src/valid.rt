@@ -1,7 +1,11 @@
-ghost use Rattle.dms_desc.specs.Shape.{Described};
-ghost use Rattle.dms_model.specs.Db.{empty_db};
-ghost use Rattle.dms_laws.specs.Valid.{IsValid};
-ghost use Rattle.dms_laws.specs.Sound.{IsFlat, IsWellMade, StaysSound};
+ghost use Rattle.std.specs.Prelude.{◌≡◌, ℕ, List, Some, true, false};
+ghost use Rattle.dms_desc.specs.Shape.{Shape, Described};
+ghost use Rattle.dms_model.specs.declared.verb.Verb.{Verb};
+ghost use Rattle.dms_model.specs.Db.{Db, empty_db};
+ghost use Rattle.dms_model.specs.Members.{structure_of, members};
+ghost use Rattle.dms_model.specs.Session.{Session};
+ghost use Rattle.dms_laws.specs.Valid.{IsValid, HaveOwnKeys, is_set};
+ghost use Rattle.dms_laws.specs.Sound.{IsFlat, IsWellMade, IsSound, StaysSound, NameOuter, after};
 
 /// A database of no record is valid, and has no embedded records and no entries.
 pub fn empty_law()
@@ -12,4 +16,14 @@ pub fn empty_law()
 /// Each step of a program keeps the database and that of the last quiet point valid.
 pub fn valid_law()
     ensures { (desc : Described) → IsWellMade desc → StaysSound desc }
+{}
+
+/// And so do all steps of a run.
+pub fn run_law()
+    ensures { (desc : Described) → IsWellMade desc → (s : Session) (verbs : List (List ℕ × Verb)) → NameOuter desc verbs → IsSound desc s → IsSound desc (after desc s verbs) }
+{}
+
+/// In a valid database no two members of one owner have equal keys in a set or subset without DUPLICATES.
+pub fn member_law()
+    ensures { (desc : Described) (db : Db) → IsValid desc db → (n : ℕ) (shape : Shape) → structure_of desc n ≡ Some shape → is_set shape ≡ true → shape.duplicates ≡ false → (owner : ℕ) → HaveOwnKeys shape (members shape db owner) }
 {}
