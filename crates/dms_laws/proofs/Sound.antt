@@ -31,7 +31,8 @@ use Rattle.dms_model.specs.Stores.{put_answer, put_unless, is_full, clash, put_a
 use Rattle.dms_model.specs.Session.{Session, Outcome, Kept, Refused, Keeps, Filled, Misfit, Values', refuse, done, settle, keep, store_step, after_store, begin_step, after_begin, begin_unless, awaited, end_step, after_end, abort_step, find_step, after_find, found_by, create_step, put_step, put_area, after_put, filled, get_step, get_area, close_step, open_as, open_step, verb_step, step_at, step, with_program, with_work, with_values, work_of, no_work, or_none, restart_of, someone_works, is_inquiry, opens, changes, path_of, new_program, place_of, carried, entered, left, without, idle, backed_out, found_program, stored_program, let_go, is_lock, area_kept, kept_unless, put_kept, missing_from, verified, area_values, area_number, area_owner, record_of, is_free, one_more, set_of}
 use Rattle.dms_laws.specs.Exclusive.{AreSafe, IsExclusive, locks_it}
 use Rattle.dms_laws.specs.Valid.{OfItems, IsValid, is_data_set, is_set, link_stands}
-use Rattle.dms_laws.specs.Sound.{after, NameOuter, IsSound, IsWellMade, IsOuter, NamesOuter, IsFlat, AreFitting, AreaFits, AreasFit, StaysSound, items_under, compares_no_link, has_no_link}
+use Rattle.dms_laws.specs.Made.{IsWellMade, items_under, compares_no_link, has_no_link}
+use Rattle.dms_laws.specs.Sound.{after, AllNameOuter, IsSound, IsOuter, NamesOuter, IsFlat, AreFitting, AreaFits, AreasFit, StaysSound}
 use Rattle.dms_laws.proofs.Counts.{count_insert, count_replace, fresh_below}
 use Rattle.dms_laws.proofs.Founds.{Stands, found_stands}
 use Rattle.dms_laws.proofs.Fresh.{fresh_from_one}
@@ -524,6 +525,6 @@ stays_sound desc made = record {
   points = λ s name verb outer h. valid_points desc (step desc s name verb).session.db (step_sound desc made s name verb outer h).db (step desc s name verb).quiets (step_points desc s name verb);
 }
 
-pub after_sound : (desc : Described) → IsWellMade desc → (s : Session) (vs : List (List ℕ × Verb)) → NameOuter desc vs → IsSound desc s → IsSound desc (after desc s vs)
+pub after_sound : (desc : Described) → IsWellMade desc → (s : Session) (vs : List (List ℕ × Verb)) → AllNameOuter desc vs → IsSound desc s → IsSound desc (after desc s vs)
 after_sound desc made s [] outer h = h
 after_sound desc made s (v ∷ vs) outer h = after_sound desc made (step desc s v.0 v.1).session vs outer.1 (step_sound desc made s v.0 v.1 outer.0 h)

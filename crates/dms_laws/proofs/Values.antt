@@ -25,7 +25,8 @@ use Rattle.dms_model.specs.Members.{key_of}
 use Rattle.dms_model.specs.Stores.{is_link, kept_value, linked_from}
 use Rattle.dms_model.specs.Session.{missing_from, fitted, setting_value, filled, Filled, Misfit, Values', item_name}
 use Rattle.dms_laws.specs.Valid.{OfItems, value_at, refers, link_stands}
-use Rattle.dms_laws.specs.Sound.{AreFitting, is_link_item, compares_no_link, has_no_link}
+use Rattle.dms_laws.specs.Made.{is_link_item, compares_no_link, has_no_link}
+use Rattle.dms_laws.specs.Sound.{AreFitting}
 use Rattle.dms_laws.proofs.Places.{stands_still}
 
 both_parts : (a b : Bool) → (a && b) ≡ true → (a ≡ true) × (b ≡ true)

@@ -1,3 +1,4 @@
 pub mod Exclusive
+pub mod Made
 pub mod Sound
 pub mod Valid

@@ -1,12 +1,11 @@
 -- A session whose databases are valid, and whose programs have at hand what may be stored.
-use Rattle.std.specs.Prelude.{◌∷◌, Bool, ◌-◌, not, ◌&&◌, false, if◌then◌else◌, ◌≡◌, ℕ, List, [], true, Some, None, ⊤, length, slice_get}
-use Rattle.std.specs.List.{AllByRecursion, list_all}
+use Rattle.std.specs.Prelude.{◌≡◌, ℕ, List, [], ◌∷◌, true, Some, None, ⊤, length}
+use Rattle.std.specs.List.{AllByRecursion}
 use Rattle.std.specs.declared.option.Option.{Option}
 use Rattle.dms_base.specs.declared.value.Value.{Value}
 use Rattle.dms_base.specs.Fits.{fits}
 use Rattle.dms_desc.specs.declared.structure.Item.{Item}
-use Rattle.dms_desc.specs.declared.structure.KeyPart.{KeyPart}
-use Rattle.dms_desc.specs.Shape.{Shape, Described, Tree, Empty, Test, Both, Either, Contrary}
+use Rattle.dms_desc.specs.Shape.{Shape, Described}
 use Rattle.dms_model.specs.declared.program.Program.{Program}
 use Rattle.dms_model.specs.declared.program.Area.{Area}
 use Rattle.dms_model.specs.declared.program.Area.TheVariants.{New, Old}
@@ -14,42 +13,10 @@ use Rattle.dms_model.specs.declared.verb.Verb.{Verb}
 use Rattle.dms_model.specs.declared.verb.Verb.TheVariants.{OpenUpdate, OpenInquiry, Close, Find, Create, Put, Get, Store, Begin, End, Abort}
 use Rattle.dms_model.specs.Db.{Db}
 use Rattle.dms_model.specs.Points.{Quiet}
-use Rattle.dms_model.specs.Members.{structure_of, items_of}
-use Rattle.dms_model.specs.Stores.{is_link}
+use Rattle.dms_model.specs.Members.{structure_of}
 use Rattle.dms_model.specs.Session.{Session, step, work_of, fresh_session}
 use Rattle.dms_laws.specs.Exclusive.{IsExclusive}
-use Rattle.dms_laws.specs.Valid.{OfRecords, OfItems, IsValid, is_data_set, is_set, owner_of}
-
-abbrev pub is_link_item : Option Item → Bool
-is_link_item None = false
-is_link_item (Some item) = is_link item.kind
-
--- no comparison of a condition is of a link
-abbrev pub compares_no_link : List Item → Tree → Bool
-compares_no_link items Empty = true
-compares_no_link items (Test item op literal) = not (is_link_item (slice_get items (item - 1)))
-compares_no_link items (Both a b) = compares_no_link items a && compares_no_link items b
-compares_no_link items (Either a b) = compares_no_link items a && compares_no_link items b
-compares_no_link items (Contrary a) = compares_no_link items a
-
--- no part of a key is a link
-abbrev pub has_no_link : List Item → List KeyPart → Bool
-has_no_link items parts = list_all (λ p. not (is_link_item (slice_get items (p.item - 1)))) parts
-
--- the items of which a structure's condition and key speak: those of the data set that it is over
-abbrev pub items_under : Described → Shape → List Item
-items_under desc s = if is_set s then items_of (structure_of desc s.set) else s.items
-
--- what is asked of a description
-pub record IsWellMade (desc : Described) : Type 0 where
-  -- initial values fit their items
-  pub initial : (n : ℕ) (shape : Shape) → structure_of desc n ≡ Some shape → (k : ℕ) (item : Item) → slice_get shape.items k ≡ Some item → fits item.kind item.initial ≡ true
-  -- no link is REQUIRED
-  pub optional : (n : ℕ) (shape : Shape) → structure_of desc n ≡ Some shape → (k : ℕ) (item : Item) → slice_get shape.items k ≡ Some item → is_link item.kind ≡ true → item.required ≡ false
-  -- VERIFY and WHERE compare no link
-  pub conditions : (n : ℕ) (shape : Shape) → structure_of desc n ≡ Some shape → compares_no_link (items_under desc shape) shape.cond ≡ true
-  -- no key has a link
-  pub keys : (n : ℕ) (shape : Shape) → structure_of desc n ≡ Some shape → has_no_link (items_under desc shape) shape.parts ≡ true
+use Rattle.dms_laws.specs.Valid.{OfRecords, OfItems, IsValid, is_data_set, owner_of}
 
 -- a disjoint data set
 pub record IsOuter (structure : Option Shape) : Type 0 where
@@ -90,6 +57,7 @@ AreaFits shape (Some (Old values)) = AreFitting shape.items values
 abbrev pub AreasFit : Described → Program → Type 0
 AreasFit desc p = (set : ℕ) (shape : Shape) → structure_of desc set ≡ Some shape → AreaFits shape (work_of p set).area
 
+-- the databases now and at the last quiet point are valid, no two programs lock one record, and areas hold what may be stored
 pub record IsSound (desc : Described) (s : Session) : Type 0 where
   pub exclusive : IsExclusive s
   pub db : IsValid desc s.db
@@ -110,6 +78,6 @@ abbrev pub after : Described → Session → List (List ℕ × Verb) → Session
 after desc s [] = s
 after desc s (v ∷ vs) = after desc (step desc s v.0 v.1).session vs
 
--- each verb names data sets of the outer level
-abbrev pub NameOuter : Described → List (List ℕ × Verb) → Type 0
-NameOuter desc vs = AllByRecursion (λ v. NamesOuter desc v.1) vs
+-- each CREATE and PUT names a data set of the outer level
+abbrev pub AllNameOuter : Described → List (List ℕ × Verb) → Type 0
+AllNameOuter desc vs = AllByRecursion (λ v. NamesOuter desc v.1) vs

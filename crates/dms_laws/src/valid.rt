@@ -5,7 +5,8 @@ ghost use Rattle.dms_model.specs.Db.{Db, empty_db};
 ghost use Rattle.dms_model.specs.Members.{structure_of, members};
 ghost use Rattle.dms_model.specs.Session.{Session};
 ghost use Rattle.dms_laws.specs.Valid.{IsValid, HaveOwnKeys, is_set};
-ghost use Rattle.dms_laws.specs.Sound.{IsFlat, IsWellMade, IsSound, StaysSound, NameOuter, after};
+ghost use Rattle.dms_laws.specs.Made.{IsWellMade};
+ghost use Rattle.dms_laws.specs.Sound.{IsFlat, IsSound, StaysSound, AllNameOuter, after};
 
 /// A database of no record is valid, and has no embedded records and no entries.
 pub fn empty_law()
@@ -20,7 +21,7 @@ pub fn valid_law()
 
 /// And so do all steps of a run.
 pub fn run_law()
-    ensures { (desc : Described) → IsWellMade desc → (s : Session) (verbs : List (List ℕ × Verb)) → NameOuter desc verbs → IsSound desc s → IsSound desc (after desc s verbs) }
+    ensures { (desc : Described) → IsWellMade desc → (s : Session) (verbs : List (List ℕ × Verb)) → AllNameOuter desc verbs → IsSound desc s → IsSound desc (after desc s verbs) }
 {}
 
 /// In a valid database no two members of one owner have equal keys in a set or subset without DUPLICATES.
