@@ -1,6 +1,7 @@
 mod Counts
 mod Founds
 mod Fresh
+mod Holders
 mod Lists
 mod Locks
 mod Places

@@ -25,6 +25,7 @@ use Rattle.dms_model.specs.Members.{name_of, structure_of, items_of}
 use Rattle.dms_model.specs.Stores.{put_answer, put_unless, put_number, is_full, clash, put_after, linked}
 use Rattle.dms_model.specs.Session.{Session, Outcome, Kept, Refused, Keeps, Filled, Misfit, Values', refuse, done, shows, settle, keep, store_step, after_store, begin_step, after_begin, begin_unless, awaited, end_step, after_end, abort_step, find_step, after_find, found_by, create_step, put_step, put_area, after_put, filled, get_step, get_area, close_step, open_as, open_step, verb_step, step_at, step, with_program, with_work, with_lock, work_of, restart_of, someone_works, is_inquiry, opens, changes, path_of, new_program, place_of, carried, entered, left, without, idle, backed_out, found_program, stored_program, let_go, is_lock, is_elsewhere, area_kept, kept_unless, put_kept, missing_from, verified, area_values, area_number, record_of, is_free, one_more, set_of, with_values}
 use Rattle.dms_laws.specs.Exclusive.{AreApart, AreAllApart, AreSafe, AreExclusive, IsExclusive, locks_it, is_locked_for, backs_out, is_done, LocksStayExclusive, LosesNoUpdate, LeavesLocks, BacksOut, locks_left}
+use Rattle.dms_laws.specs.Runs.{after}
 use Rattle.dms_laws.proofs.Places.{get_other, stands_still, stands_there}
 use Rattle.dms_laws.proofs.Fresh.{fresh_free}
 use Rattle.dms_laws.proofs.Lists.{all_at, all_changed, all_mapped, all_pushed, all_without, all_both, apart_changed, apart_pushed, apart_mapped, apart_without, named_so, none_named, any_changed, any_pushed, any_without, any_mapped, of_lock}
@@ -477,8 +478,16 @@ step_fair desc s name v ex = step_at_fair desc (slice_get s.programs (place_of n
 
 -- the laws
 
+after_exclusive : (desc : Described) (s : Session) (vs : List (List ℕ × Verb)) → IsExclusive s → IsExclusive (after desc s vs)
+after_exclusive desc s [] ex = ex
+after_exclusive desc s (v ∷ vs) ex = after_exclusive desc (step desc s v.0 v.1).session vs (step_fair desc s v.0 v.1 ex).exclusive
+
 pub locks_stay_exclusive : LocksStayExclusive
-locks_stay_exclusive = record { first = λ db next. record { apart = tt; safe = tt }; keeps = λ desc s name verb ex. (step_fair desc s name verb ex).exclusive }
+locks_stay_exclusive = record {
+  first = λ db next. record { apart = tt; safe = tt };
+  keeps = λ desc s name verb ex. (step_fair desc s name verb ex).exclusive;
+  runs = after_exclusive;
+}
 
 pub loses_no_update : (desc : Described) (s : Session) (name : List ℕ) (verb : Verb) → IsExclusive s → LosesNoUpdate desc s name verb
 loses_no_update desc s name verb ex = (step_fair desc s name verb ex).same

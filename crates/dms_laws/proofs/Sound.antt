@@ -32,7 +32,8 @@ use Rattle.dms_model.specs.Session.{Session, Outcome, Kept, Refused, Keeps, Fill
 use Rattle.dms_laws.specs.Exclusive.{AreSafe, IsExclusive, locks_it}
 use Rattle.dms_laws.specs.Valid.{OfItems, IsValid, is_data_set, is_set, link_stands}
 use Rattle.dms_laws.specs.Made.{IsWellMade, items_under, compares_no_link, has_no_link}
-use Rattle.dms_laws.specs.Sound.{after, AllNameOuter, IsSound, IsOuter, NamesOuter, IsFlat, AreFitting, AreaFits, AreasFit, StaysSound}
+use Rattle.dms_laws.specs.Runs.{after}
+use Rattle.dms_laws.specs.Sound.{AllNameOuter, IsSound, IsOuter, NamesOuter, IsFlat, AreFitting, AreaFits, AreasFit, StaysSound}
 use Rattle.dms_laws.proofs.Counts.{count_insert, count_replace, fresh_below}
 use Rattle.dms_laws.proofs.Founds.{Stands, found_stands}
 use Rattle.dms_laws.proofs.Fresh.{fresh_from_one}

@@ -11,6 +11,7 @@ use Rattle.dms_model.specs.declared.verb.Verb.TheVariants.{OpenUpdate, OpenInqui
 use Rattle.dms_model.specs.declared.reply.Reply.{Reply}
 use Rattle.dms_model.specs.declared.reply.Reply.TheVariants.{Done, Exception, Waits}
 use Rattle.dms_model.specs.Db.{Db, Place}
+use Rattle.dms_laws.specs.Runs.{after}
 use Rattle.dms_model.specs.Session.{Session, Outcome, step, holds, fresh_session}
 
 -- the program holds the record at this place locked
@@ -67,10 +68,16 @@ is_done (Waits names) = false
 abbrev pub backs_out : Verb → Outcome → Bool
 backs_out verb o = asks_back_out verb && is_done o.reply
 
--- A session without programs is exclusive, and each step of each program leaves it so.
+-- A session without programs is exclusive, each step of each program leaves it so, and so does a run of steps.
 pub record LocksStayExclusive : Type 0 where
   pub first : (db : Db) (next : ℕ) → IsExclusive (fresh_session db next)
   pub keeps : (desc : Described) (s : Session) (name : List ℕ) (verb : Verb) → IsExclusive s → IsExclusive (step desc s name verb).session
+  pub runs : (desc : Described) (s : Session) (verbs : List (List ℕ × Verb)) → IsExclusive s → IsExclusive (after desc s verbs)
+
+-- What a program holds locked no program of another name does, and it is a record of the database.
+pub record HasOneHolder (s : Session) (who : List ℕ) (place : Place) : Type 0 where
+  pub alone : (other : List ℕ) → who ≢ other → is_locked_for s other place ≡ false
+  pub stands : is_some (get s.db.records place) ≡ true
 
 -- A record that a program other than the asking one holds locked before and after a step is the same before and after it,
 -- whatever the verb.

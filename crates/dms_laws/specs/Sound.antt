@@ -1,5 +1,5 @@
 -- A session whose databases are valid, and whose programs have at hand what may be stored.
-use Rattle.std.specs.Prelude.{◌≡◌, ℕ, List, [], ◌∷◌, true, Some, None, ⊤, length}
+use Rattle.std.specs.Prelude.{◌≡◌, ℕ, List, [], true, Some, None, ⊤, length}
 use Rattle.std.specs.List.{AllByRecursion}
 use Rattle.std.specs.declared.option.Option.{Option}
 use Rattle.dms_base.specs.declared.value.Value.{Value}
@@ -72,11 +72,6 @@ pub record StaysSound (desc : Described) : Type 0 where
   pub first : (db : Db) (next : ℕ) → IsValid desc db → IsFlat desc db → IsSound desc (fresh_session db next)
   pub keeps : (s : Session) (name : List ℕ) (verb : Verb) → NamesOuter desc verb → IsSound desc s → IsSound desc (step desc s name verb).session
   pub points : (s : Session) (name : List ℕ) (verb : Verb) → NamesOuter desc verb → IsSound desc s → AllByRecursion (λ (q : Quiet). IsValid desc q.1) (step desc s name verb).quiets
-
--- the session after verbs of programs, the first verb first
-abbrev pub after : Described → Session → List (List ℕ × Verb) → Session
-after desc s [] = s
-after desc s (v ∷ vs) = after desc (step desc s v.0 v.1).session vs
 
 -- each CREATE and PUT names a data set of the outer level
 abbrev pub AllNameOuter : Described → List (List ℕ × Verb) → Type 0

@@ -4,5 +4,5 @@
 mod exclusive;
 mod valid;
 
-pub use exclusive::{back_out_law, exclusive_law, lock_law, update_law};
+pub use exclusive::{back_out_law, exclusive_law, holder_law, lock_law, update_law};
 pub use valid::{empty_law, member_law, run_law, valid_law};

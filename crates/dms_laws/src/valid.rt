@@ -6,7 +6,8 @@ ghost use Rattle.dms_model.specs.Members.{structure_of, members};
 ghost use Rattle.dms_model.specs.Session.{Session};
 ghost use Rattle.dms_laws.specs.Valid.{IsValid, HaveOwnKeys, is_set};
 ghost use Rattle.dms_laws.specs.Made.{IsWellMade};
-ghost use Rattle.dms_laws.specs.Sound.{IsFlat, IsSound, StaysSound, AllNameOuter, after};
+ghost use Rattle.dms_laws.specs.Sound.{IsFlat, IsSound, StaysSound, AllNameOuter};
+ghost use Rattle.dms_laws.specs.Runs.{after};
 
 /// A database of no record is valid, and has no embedded records and no entries.
 pub fn empty_law()
