@@ -1,0 +1,11 @@
+mod Counts
+mod Founds
+mod Fresh
+mod Holders
+mod Lists
+mod Locks
+mod Places
+mod Points
+mod Sound
+mod Stored
+mod Values

@@ -1,0 +1,105 @@
+-- A quiet point that a step makes has the database that the step leaves.
+use Rattle.std.proofs.Common.{◌≡◌, ℕ, List, [], ◌∷◌, Bool, true, false, cond, Some, None, refl, not, ◌&&◌, ◌||◌, ◌++◌, nat_le, length}
+use Rattle.std.specs.Prelude.{slice_get, slice_set, is_some}
+use Rattle.std.specs.List.{AllByRecursion}
+use Rattle.std.specs.declared.option.Option.{Option}
+use Rattle.dms_base.specs.declared.category.Category.TheVariants.{LimitError, NoRecord, AuditError, Abort as AbortDue}
+use Rattle.dms_desc.specs.Shape.{Described}
+use Rattle.dms_model.specs.declared.program.Program.{Program}
+use Rattle.dms_model.specs.declared.program.Area.{Area}
+use Rattle.dms_model.specs.declared.program.Mode.{Mode}
+use Rattle.dms_model.specs.declared.verb.Verb.{Verb}
+use Rattle.dms_model.specs.declared.verb.Verb.TheVariants.{OpenUpdate, OpenInquiry, Close, Find, Create, Put as PutItems, Get, Store, Begin, End, Abort}
+use Rattle.dms_model.specs.declared.verb.Setting.{Setting}
+use Rattle.dms_model.specs.declared.reply.Reply.TheVariants.{Exception}
+use Rattle.dms_model.specs.declared.spot.Spot.{Spot}
+use Rattle.dms_model.specs.Members.{name_of, structure_of, items_of}
+use Rattle.dms_model.specs.Points.{Quiet}
+use Rattle.dms_model.specs.Session.{Session, Outcome, Kept, Refused, Keeps, Filled, Misfit, Values', refuse, done, settle, keep, store_step, after_store, begin_step, after_begin, begin_unless, awaited, end_step, after_end, abort_step, find_step, after_find, found_by, create_step, put_step, put_area, after_put, filled, get_step, get_area, close_step, open_as, open_step, verb_step, step_at, step, with_program, work_of, restart_of, someone_works, is_inquiry, opens, changes, path_of, new_program, place_of, without, area_values, left, one_more}
+
+abbrev pub HasPoints : Outcome → Type 0
+HasPoints o = AllByRecursion (λ (q : Quiet). q.1 ≡ o.session.db) o.quiets
+
+points_if : (b : Bool) (x y : Outcome) → HasPoints x → HasPoints y → HasPoints (cond b x y)
+points_if true x y h k = h
+points_if false x y h k = k
+
+settle_points : (t : Session) → HasPoints (settle t)
+unfolding settle
+settle_points t = points_if (someone_works t.programs) _ _ tt (points_if t.pending _ _ (refl, tt) (refl, tt))
+
+store_points : (k : Kept) (i : ℕ) (s : Session) → HasPoints (after_store k i s)
+store_points (Refused c n) i s = tt
+store_points (Keeps p db) i s = tt
+
+begun_points : (k : Kept) (i : ℕ) (s : Session) → HasPoints (after_begin k i s)
+begun_points (Refused c n) i s = tt
+begun_points (Keeps p db) i s = tt
+
+begin_points : (who : List (List ℕ)) (desc : Described) (i : ℕ) (p : Program) (s : Session) (audit : Bool) → HasPoints (begin_unless who desc i p s audit)
+begin_points [] desc i p s audit = begun_points (cond audit (keep desc p s.db (restart_of desc)) (Keeps p s.db)) i s
+begin_points (q ∷ qs) desc i p s audit = tt
+
+end_points : (k : Kept) (desc : Described) (i : ℕ) (s : Session) (sync : Bool) → HasPoints (after_end k desc i s sync)
+end_points (Refused c n) desc i s sync = tt
+end_points (Keeps p db) desc i s sync = settle_points (record s { db = db; programs = slice_set s.programs i (left p); pending = s.pending || sync || nat_le desc.syncpoint (one_more s.since); since = one_more s.since })
+
+find_points : (r : Option Spot) (desc : Described) (i : ℕ) (p : Program) (s : Session) (x : ℕ) → HasPoints (after_find r desc i p s x)
+find_points None desc i p s x = tt
+find_points (Some r) desc i p s x = tt
+
+after_put_points : (f : Filled) (i : ℕ) (p : Program) (s : Session) (set : ℕ) (a : Area) → HasPoints (after_put f i p s set a)
+after_put_points (Misfit item) i p s set a = tt
+after_put_points (Values' values) i p s set a = tt
+
+put_points : (a : Option Area) (desc : Described) (i : ℕ) (p : Program) (s : Session) (set : ℕ) (settings : List Setting) → HasPoints (put_area a desc i p s set settings)
+put_points None desc i p s set settings = tt
+put_points (Some a) desc i p s set settings = after_put_points (filled (items_of (structure_of desc set)) settings (area_values a)) i p s set a
+
+get_points : (a : Option Area) (desc : Described) (i : ℕ) (p : Program) (s : Session) (set : ℕ) (numbers : List ℕ) → HasPoints (get_area a desc i p s set numbers)
+get_points None desc i p s set numbers = tt
+get_points (Some a) desc i p s set numbers = tt
+
+verb_points : (desc : Described) (i : ℕ) (p : Program) (s : Session) (v : Verb) → HasPoints (verb_step desc i p s v)
+unfolding verb_step store_step begin_step end_step abort_step find_step create_step put_step get_step close_step
+verb_points desc i p s OpenUpdate = tt
+verb_points desc i p s OpenInquiry = tt
+verb_points desc i p s Close = points_if p.in_transaction (refuse s AuditError p.name) (done (record s { programs = without i s.programs })) tt tt
+verb_points desc i p s (Find path) = find_points (found_by desc s.db path) desc i p s (path_of path)
+verb_points desc i p s (Create set) = tt
+verb_points desc i p s (PutItems set settings) = put_points (work_of p set).area desc i p s set settings
+verb_points desc i p s (Get set items) = get_points (work_of p set).area desc i p s set items
+verb_points desc i p s (Store set) = points_if p.in_transaction (after_store (keep desc p s.db set) i s) (refuse s AuditError p.name) (store_points (keep desc p s.db set) i s) tt
+verb_points desc i p s (Begin audit) = points_if p.in_transaction (refuse s AuditError p.name) _ tt (points_if (audit && not (is_some (work_of p (restart_of desc)).area)) (refuse s NoRecord (name_of (structure_of desc (restart_of desc)))) _ tt (begin_points (awaited s) desc i p s audit))
+verb_points desc i p s (End audit sync) =
+    points_if p.in_transaction (after_end (cond audit (keep desc p s.db (restart_of desc)) (Keeps p s.db)) desc i s sync) (refuse s AuditError p.name)
+    (end_points (cond audit (keep desc p s.db (restart_of desc)) (Keeps p s.db)) desc i s sync) tt
+verb_points desc i p s Abort = points_if p.in_transaction _ (refuse s AuditError p.name) tt tt
+
+open_as_points : (desc : Described) (s : Session) (name : List ℕ) (mode : Mode) → HasPoints (open_as desc s name mode)
+open_as_points desc s name mode = points_if (nat_le 64 (length s.programs)) (refuse s LimitError name) (done (record s { programs = s.programs ++ new_program desc name mode ∷ [] })) tt tt
+
+open_points : (desc : Described) (s : Session) (name : List ℕ) (v : Verb) → HasPoints (open_step desc s name v)
+unfolding open_step
+open_points desc s name OpenUpdate = open_as_points desc s name _
+open_points desc s name OpenInquiry = open_as_points desc s name _
+open_points desc s name Close = tt
+open_points desc s name (Find path) = tt
+open_points desc s name (Create set) = tt
+open_points desc s name (PutItems set settings) = tt
+open_points desc s name (Get set items) = tt
+open_points desc s name (Store set) = tt
+open_points desc s name (Begin audit) = tt
+open_points desc s name (End audit sync) = tt
+open_points desc s name Abort = tt
+
+step_at_points : (desc : Described) (o : Option Program) (i : ℕ) (s : Session) (name : List ℕ) (v : Verb) → HasPoints (step_at desc o i s name v)
+step_at_points desc None i s name v = open_points desc s name v
+step_at_points desc (Some p) i s name v =
+    points_if (opens v) (refuse s _ name) _ tt
+    (points_if p.owes_abort (record { session = with_program s i (record p { owes_abort = false }); reply = Exception AbortDue name; sync = None; quiets = [] }) _ tt
+    (points_if (is_inquiry p.mode && changes v) (refuse s _ name) _ tt (verb_points desc i p s v)))
+
+pub step_points : (desc : Described) (s : Session) (name : List ℕ) (v : Verb) → HasPoints (step desc s name v)
+unfolding step
+step_points desc s name v = step_at_points desc (slice_get s.programs (place_of name s.programs)) (place_of name s.programs) s name v

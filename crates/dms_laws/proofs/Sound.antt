@@ -1,0 +1,531 @@
+-- Each step leaves a sound session sound.
+use Rattle.std.proofs.Common.{◌≡◌, ◌≤◌, ◌<◌, ◌+◌, ◌-◌, ℕ, zero, suc, List, [], ◌∷◌, ◌++◌, Bool, true, false, cond, eqb, Some, None, refl, sym, ap, ◌∙◌, subst, not, ◌&&◌, ◌||◌, nat_le, length, map, replicate, arith}
+use Rattle.std.specs.Prelude.{nat_lt, ◌≢◌, ◌==◌, slice_get, slice_set, is_some}
+use Rattle.dms_base.specs.Fits.{fits}
+use Rattle.std.specs.List.{list_any, AllByRecursion}
+use Rattle.std.specs.declared.option.Option.{Option}
+use Rattle.std.specs.FinMap.{get, insert, get-empty, entries, len-entries, len-empty}
+use Rattle.std.proofs.lemmas.Bool.Decides.{nat_tests}
+use Rattle.dms_base.specs.declared.value.Value.{Value}
+use Rattle.dms_base.specs.declared.value.Value.TheVariants.{Null}
+use Rattle.dms_base.specs.declared.category.Category.TheVariants.{LimitError, NoRecord, AuditError, DataError, NotLocked, Abort as AbortDue}
+use Rattle.dms_desc.specs.declared.structure.Item.{Item}
+use Rattle.dms_desc.specs.declared.record.Record.{Record}
+use Rattle.dms_desc.specs.Shape.{Shape, Described}
+use Rattle.dms_desc.specs.Conds.{meets, is_null}
+use Rattle.dms_model.specs.declared.program.Program.{Program}
+use Rattle.dms_model.specs.declared.program.Work.{Work}
+use Rattle.dms_model.specs.declared.program.Area.{Area}
+use Rattle.dms_model.specs.declared.program.Area.TheVariants.{New, Old}
+use Rattle.dms_model.specs.declared.program.Mode.{Mode}
+use Rattle.dms_model.specs.declared.verb.Verb.{Verb}
+use Rattle.dms_model.specs.declared.verb.Verb.TheVariants.{OpenUpdate, OpenInquiry, Close, Find, Create, Put as PutItems, Get, Store, Begin, End, Abort}
+use Rattle.dms_model.specs.declared.verb.Setting.{Setting}
+use Rattle.dms_model.specs.declared.reply.Reply.TheVariants.{Exception}
+use Rattle.dms_model.specs.declared.put.Put.TheVariants.{Stored, Full}
+use Rattle.dms_model.specs.declared.spot.Spot.{Spot}
+use Rattle.dms_model.specs.Db.{Db, Place, fresh, records_of, rows_of, empty_db, place_cmp}
+use Rattle.dms_model.specs.Points.{Quiet}
+use Rattle.dms_model.specs.Members.{name_of, structure_of, items_of, takes, key_of}
+use Rattle.dms_model.specs.Stores.{put_answer, put_unless, is_full, clash, put_after, linked, is_other, values_of}
+use Rattle.dms_model.specs.Session.{Session, Outcome, Kept, Refused, Keeps, Filled, Misfit, Values', refuse, done, settle, keep, store_step, after_store, begin_step, after_begin, begin_unless, awaited, end_step, after_end, abort_step, find_step, after_find, found_by, create_step, put_step, put_area, after_put, filled, get_step, get_area, close_step, open_as, open_step, verb_step, step_at, step, with_program, with_work, with_values, work_of, no_work, or_none, restart_of, someone_works, is_inquiry, opens, changes, path_of, new_program, place_of, carried, entered, left, without, idle, backed_out, found_program, stored_program, let_go, is_lock, area_kept, kept_unless, put_kept, missing_from, verified, area_values, area_number, area_owner, record_of, is_free, one_more, set_of}
+use Rattle.dms_laws.specs.Exclusive.{AreSafe, IsExclusive, locks_it}
+use Rattle.dms_laws.specs.Valid.{OfItems, IsValid, is_data_set, is_set, link_stands}
+use Rattle.dms_laws.specs.Made.{IsWellMade, items_under, compares_no_link, has_no_link}
+use Rattle.dms_laws.specs.Runs.{after}
+use Rattle.dms_laws.specs.Sound.{AllNameOuter, IsSound, IsOuter, NamesOuter, IsFlat, AreFitting, AreaFits, AreasFit, StaysSound}
+use Rattle.dms_laws.proofs.Counts.{count_insert, count_replace, fresh_below}
+use Rattle.dms_laws.proofs.Founds.{Stands, found_stands}
+use Rattle.dms_laws.proofs.Fresh.{fresh_from_one}
+use Rattle.dms_laws.proofs.Lists.{all_at, all_set, all_mapped, all_pushed, all_without}
+use Rattle.dms_laws.proofs.Locks.{locks_stay_exclusive}
+use Rattle.dms_laws.proofs.Points.{step_points}
+use Rattle.dms_laws.proofs.Stored.{MayStand, put_valid, put_flat, own_key, key_kept}
+use Rattle.dms_laws.proofs.Values.{get_set_other, filled_fits, FilledFits, initial_fits, required_of, linked_fits, linked_agree, of_linked, null_fits, null_stands, other_stands, meets_agree, keys_agree}
+
+-- what a program has at hand
+
+set_area : (P : Option Area → Type 0) (ws : List Work) (j : ℕ) (w : Work) → P w.area → P None → P (or_none (slice_get (slice_set ws j w) j)).area
+set_area P [] j w h none = none
+set_area P (x ∷ ws) zero w h none = h
+set_area P (x ∷ ws) (suc j) w h none = set_area P ws j w h none
+
+from_one : (desc : Described) (set : ℕ) (shape : Shape) → structure_of desc set ≡ Some shape → 1 ≤ set
+from_one desc zero shape h = absurd (cc)
+from_one desc (suc n) shape h = omega arith
+
+one_shape : (o : Option Shape) (a b : Shape) → o ≡ Some a → o ≡ Some b → a ≡ b
+one_shape o a b e f = cc
+
+areas_with : (desc : Described) (p : Program) (set : ℕ) (shape : Shape) (w : Work) → structure_of desc set ≡ Some shape → AreaFits shape w.area → AreasFit desc p → AreasFit desc (with_work p set w)
+areas_with desc p set shape w here fits all set' shape' here' = by (eqb set set') refl
+  where
+    by : (b : Bool) → eqb set set' ≡ b → AreaFits shape' (work_of (with_work p set w) set').area
+    by true e =
+        let is : set ≡ set' = grind (arith, nat_tests, e) in
+        let same = one_shape (structure_of desc set') shape shape' (ap (structure_of desc) (sym is) ∙ here) here' in
+        subst (λ (n : ℕ). AreaFits shape' (or_none (slice_get (slice_set p.works (set - 1) w) (n - 1))).area) is
+        (set_area (AreaFits shape') p.works (set - 1) w (subst (λ (x : Shape). AreaFits x w.area) same fits) tt)
+    by false e =
+        let low = from_one desc set shape here in
+        let low' = from_one desc set' shape' here' in
+        let apart : (set - 1 ≡ set' - 1 → ⊥) = λ h. grind (arith, nat_tests, e, h, low, low') in
+        subst (λ (o : Option Work). AreaFits shape' (or_none o).area) (sym (get_set_other p.works (set - 1) (set' - 1) w apart)) (all set' shape' here')
+
+areas_if : (desc : Described) (b : Bool) (x y : Program) → AreasFit desc x → AreasFit desc y → AreasFit desc (cond b x y)
+areas_if desc true x y h k = h
+areas_if desc false x y h k = k
+
+let_go_areas : (desc : Described) (p : Program) (set : ℕ) → AreasFit desc p → AreasFit desc (let_go p set)
+let_go_areas desc p set h = areas_if desc p.in_transaction p (record p { locks = _ }) h h
+
+no_area : (n j : ℕ) → (or_none (slice_get (replicate n no_work) j)).area ≡ None
+no_area zero j = refl
+no_area (suc n) zero = refl
+no_area (suc n) (suc j) = no_area n j
+
+new_areas : (desc : Described) (name : List ℕ) (mode : Mode) → AreasFit desc (new_program desc name mode)
+new_areas desc name mode set shape here = subst (AreaFits shape) (sym (no_area (length desc.structures) (set - 1))) tt
+
+lost_area : (ws : List Work) (j : ℕ) → (or_none (slice_get (map (λ (w : Work). no_work) ws) j)).area ≡ None
+lost_area [] j = refl
+lost_area (w ∷ ws) zero = refl
+lost_area (w ∷ ws) (suc j) = lost_area ws j
+
+backed_areas : (desc : Described) (name : List ℕ) (p : Program) → AreasFit desc p → AreasFit desc (backed_out name p)
+unfolding backed_out
+backed_areas desc name p h = areas_if desc p.active _ _ (λ set shape here. subst (AreaFits shape) (sym (lost_area p.works (set - 1))) tt) h
+
+-- the databases and areas of a session
+record Sane (desc : Described) (db mark : Db) (programs : List Program) : Type 0 where
+  valid : IsValid desc db
+  valid_mark : IsValid desc mark
+  flat : IsFlat desc db
+  flat_mark : IsFlat desc mark
+  areas : AllByRecursion (AreasFit desc) programs
+
+abbrev Leaves : Described → Outcome → Type 0
+Leaves desc o = Sane desc o.session.db o.session.mark o.session.programs
+
+leaves_if : (desc : Described) (b : Bool) (x y : Outcome) → Leaves desc x → Leaves desc y → Leaves desc (cond b x y)
+leaves_if desc true x y h k = h
+leaves_if desc false x y h k = k
+
+settle_leaves : (desc : Described) (t : Session) → Sane desc t.db t.mark t.programs → Leaves desc (settle t)
+unfolding settle
+settle_leaves desc t h =
+    let quiet : Sane desc t.db t.db (map idle t.programs) = record { valid = h.valid; valid_mark = h.valid; flat = h.flat; flat_mark = h.flat; areas = all_mapped (AreasFit desc) idle t.programs (λ x a. a) h.areas } in
+    leaves_if desc (someone_works t.programs) _ _ h (leaves_if desc t.pending _ _ quiet quiet)
+
+-- what storing leaves
+record Holds (desc : Described) (q : Program) (db : Db) : Type 0 where
+  valid : IsValid desc db
+  flat : IsFlat desc db
+  areas : AreasFit desc q
+
+abbrev KeptSane : Described → Kept → Type 0
+KeptSane desc (Refused c n) = Unit {0}
+KeptSane desc (Keeps q db) = Holds desc q db
+
+kept_if : (desc : Described) (b : Bool) (x y : Kept) → (b ≡ true → KeptSane desc x) → KeptSane desc y → KeptSane desc (cond b x y)
+kept_if desc true x y h k = h refl
+kept_if desc false x y h k = k
+
+-- the values of a record that may be there
+olds_of : (desc : Described) (db : Db) (k : Place) (shape : Shape) (P : Item → Value → Type 0) → ((item : Item) → P item Null) → ((r : Record) → get db.records k ≡ Some r → OfItems shape.items r.values P)
+    → (o : Option Record) → get db.records k ≡ o → OfItems shape.items (values_of o) P
+olds_of desc db k shape P none some None at j item has = none item
+olds_of desc db k shape P none some (Some r) at j item has = some r at j item has
+
+is_no_set : (s : Shape) → is_data_set (Some s) ≡ true → is_set s ≡ false
+is_no_set s h = by (is_set s) refl
+  where
+    parts : (a b : Bool) → (a && b) ≡ true → (a ≡ true) × (b ≡ true)
+    parts true b h = (refl, h)
+    parts false b h = absurd (cc)
+
+    by : (b : Bool) → is_set s ≡ b → b ≡ false
+    by true e =
+        let low = (parts (nat_lt 2 s.kind) (nat_lt s.kind 6) e).0 in
+        let high = (parts (nat_lt 0 s.kind) (nat_lt s.kind 3) h).1 in
+        absurd (grind (arith, nat_tests, low, high))
+    by false e = refl
+
+one_at_most : (b : Bool) (n m : ℕ) → n ≤ cond b 1 0 + m → n ≤ 1 + m
+one_at_most true n m h = h
+one_at_most false n m h = omega (arith, h)
+
+verified_is : (o : Option Shape) (shape : Shape) (values : List Value) → o ≡ Some shape → verified o values ≡ true → meets shape.cond values ≡ true
+verified_is o shape values h v = ap (λ (x : Option Shape). verified x values) (sym h) ∙ v
+
+required_is : (o : Option Shape) (shape : Shape) (values : List Value) → o ≡ Some shape → missing_from 0 (items_of o) values ≡ None → OfItems shape.items values (λ item v. item.required ≡ true → is_null v ≡ false)
+required_is o shape values h none = required_of shape.items values (ap (λ (x : Option Shape). missing_from 0 (items_of x) values) (sym h) ∙ none)
+
+module _ (desc : Described) (made : IsWellMade desc) (s : Session) (i : ℕ) (p : Program) (at : slice_get s.programs i ≡ Some p) (ex : IsExclusive s) (sane : Sane desc s.db s.mark s.programs) where
+  mine : AreasFit desc p
+  mine = all_at (AreasFit desc) s.programs i p at sane.areas
+
+  sane_with : (q : Program) (db : Db) → IsValid desc db → IsFlat desc db → AreasFit desc q → Sane desc db s.mark (slice_set s.programs i q)
+  sane_with q db valid flat areas = record { valid = valid; valid_mark = sane.valid_mark; flat = flat; flat_mark = sane.flat_mark; areas = all_set (AreasFit desc) s.programs i q sane.areas areas }
+
+  sane_at : (q : Program) → AreasFit desc q → Sane desc s.db s.mark (slice_set s.programs i q)
+  sane_at q areas = sane_with q s.db sane.valid sane.flat areas
+
+  -- storing
+
+  -- the values that a place has of an area: links stay as they stood
+  abbrev olds : ℕ → ℕ → List Value
+  olds set n = values_of (get s.db.records (set, n))
+
+  abbrev put_record : ℕ → ℕ → Area → Shape → Record
+  put_record set n a shape = linked shape.items (get s.db.records (set, n)) (record_of a)
+
+  stored_sane : (set n : ℕ) (a : Area) (shape : Shape) → AreFitting shape.items (area_values a) → MayStand desc s.db (set, n) (put_record set n a shape) shape → Holds desc (stored_program p set n a) (put_after (Stored n) desc s.db set (record_of a))
+  stored_sane set n a shape values may =
+      let k : Place = (set, n) in
+      let is : linked (items_of (structure_of desc set)) (get s.db.records k) (record_of a) ≡ put_record set n a shape = ap (λ (o : Option Shape). linked (items_of o) (get s.db.records k) (record_of a)) may.here in
+      let w : Work = record { current = Some n; area = Some (Old (area_values a)) } in
+      let q : Program = with_work p set w in
+      let areas = areas_with desc p set shape w may.here values mine in
+      record {
+        valid = subst (λ (r : Record). IsValid desc (record s.db { records = insert s.db.records k r })) (sym is) (put_valid desc s.db k (put_record set n a shape) shape may sane.valid sane.flat);
+        flat = subst (λ (r : Record). IsFlat desc (record s.db { records = insert s.db.records k r })) (sym is) (put_flat desc s.db k (put_record set n a shape) shape may sane.valid sane.flat);
+        areas = areas_if desc (list_any (is_lock set n) p.locks) q (record q { locks = _ }) areas areas;
+      }
+
+  -- a structure over the data set sees no difference between the area and what is stored
+  alike : (set n : ℕ) (a : Area) (shape : Shape) → structure_of desc set ≡ Some shape → (m : ℕ) (x : Shape) → structure_of desc m ≡ Some x → is_set x ≡ true → x.set ≡ set
+      → (takes x (put_record set n a shape).values ≡ takes x (area_values a)) × (key_of x.parts (put_record set n a shape).values ≡ key_of x.parts (area_values a))
+  alike set n a shape here m x has is own =
+      let under : items_under desc x ≡ shape.items =
+      ap (λ (b : Bool). cond b (items_of (structure_of desc x.set)) x.items) is ∙ ap (λ (n : ℕ). items_of (structure_of desc n)) own ∙ ap items_of here in
+      let same = linked_agree shape.items (olds set n) (area_values a) in (
+        ap (λ (b : Bool). cond (x.kind == 4) b true)
+            (meets_agree shape.items x.cond (put_record set n a shape).values (area_values a) same (ap (λ (is : List Item). compares_no_link is x.cond) (sym under) ∙ made.conditions m x has)),
+        keys_agree shape.items x.parts (put_record set n a shape).values (area_values a) same (ap (λ (is : List Item). has_no_link is x.parts) (sym under) ∙ made.keys m x has),
+      )
+
+  stored_verified : (set n : ℕ) (a : Area) (shape : Shape) → structure_of desc set ≡ Some shape → is_data_set (Some shape) ≡ true → meets shape.cond (put_record set n a shape).values ≡ meets shape.cond (area_values a)
+  stored_verified set n a shape here data_set =
+      let under : items_under desc shape ≡ shape.items = ap (λ (b : Bool). cond b (items_of (structure_of desc shape.set)) shape.items) (is_no_set shape data_set) in
+      meets_agree shape.items shape.cond (put_record set n a shape).values (area_values a) (linked_agree shape.items (olds set n) (area_values a)) (ap (λ (is : List Item). compares_no_link is shape.cond) (sym under) ∙ made.conditions set shape here)
+
+  -- what may stand at a place, where the tests of storing were met
+  may_stand : (set n : ℕ) (a : Area) (shape : Shape) (number : Option ℕ) → structure_of desc set ≡ Some shape → IsOuter (Some shape) → area_owner a ≡ 0 → AreFitting shape.items (area_values a)
+      → missing_from 0 (items_of (structure_of desc set)) (area_values a) ≡ None → verified (structure_of desc set) (area_values a) ≡ true
+      → clash desc.structures s.db set number (record_of a) ≡ None → ((q : Place) → q ≢ (set, n) → q.0 ≡ set → is_other number q.1 ≡ true)
+      → (1 ≤ n) × (n ≤ shape.population) → length (records_of (insert s.db.records (set, n) (put_record set n a shape)) set) ≤ shape.population
+      → MayStand desc s.db (set, n) (put_record set n a shape) shape
+  may_stand set n a shape number here outer owner values none met clear other within count =
+      let k : Place = (set, n) in
+      let old = get s.db.records k in
+      let required = required_is (structure_of desc set) shape (area_values a) here none in
+      let fit_before = olds_of desc s.db k shape (λ item v. fits item.kind v ≡ true) (λ item. null_fits item.kind) (λ r was. sane.valid.fit k r shape was here) old refl in
+      let links_before = olds_of desc s.db k shape (λ item v. link_stands s.db.records item.kind v ≡ true) (λ item. null_stands s.db.records item.kind) (λ r was. sane.valid.links k r shape was here) old refl in
+      record {
+        here = here;
+        outer = outer;
+        owner = owner;
+        values = linked_fits shape.items (olds set n) (area_values a) values fit_before;
+        links = of_linked (λ item v. link_stands s.db.records item.kind v ≡ true) shape.items (olds set n) (area_values a) values.lengths
+            (λ j item at off. other_stands s.db.records item.kind _ off) (λ j item at on. links_before j item at);
+        required = of_linked (λ item v. item.required ≡ true → is_null v ≡ false) shape.items (olds set n) (area_values a) values.lengths
+            (λ j item at off. required j item at) (λ j item at on must. absurd (let never = made.optional set shape here j item at on in cc));
+        verified = stored_verified set n a shape here outer.data_set ∙ verified_is (structure_of desc set) shape (area_values a) here met;
+        number = within;
+        count = count;
+        key = λ m x has. key_kept x s.db k (record_of a) (put_record set n a shape) (alike set n a shape here m x has) refl (own_key desc s.db k number (record_of a) sane.flat.entries clear other m x has);
+      }
+
+  module _ (set : ℕ) (a : Area) (none : missing_from 0 (items_of (structure_of desc set)) (area_values a) ≡ None) (met : verified (structure_of desc set) (area_values a) ≡ true) where
+    -- a new record, in a data set that has room
+    new_sane : (shape : Shape) → structure_of desc set ≡ Some shape → IsOuter (Some shape) → area_owner a ≡ 0 → AreFitting shape.items (area_values a)
+        → (c : Option ℕ) → clash desc.structures s.db set None (record_of a) ≡ c → (b : Bool) → nat_le shape.population (length (records_of s.db.records set)) ≡ b
+        → KeptSane desc (put_kept (put_unless c (cond b Full (Stored (fresh s.db.records set)))) desc p s.db set a)
+    new_sane shape here outer owner values (Some d) clear b room = tt
+    new_sane shape here outer owner values None clear true room = tt
+    new_sane shape here outer owner values None clear false room =
+        let n = fresh s.db.records set in
+        let few : length (records_of s.db.records set) < shape.population = grind (arith, nat_tests, room) in
+        let low = fresh_from_one s.db.records set in
+        let high = fresh_below s.db.records set in
+        let more = one_at_most (set == set) (length (records_of (insert s.db.records (set, n) (put_record set n a shape)) set)) (length (records_of s.db.records set)) (count_insert s.db.records set (set, n) (put_record set n a shape)) in
+        stored_sane set n a shape values (may_stand set n a shape None here outer owner values none met clear (λ q apart same. refl) (low, omega (arith, few, high)) (omega (arith, few, more)))
+
+    -- a record that is replaced
+    other_number : (n : ℕ) (q : Place) → q ≢ (set, n) → q.0 ≡ set → is_other (Some n) q.1 ≡ true
+    other_number n q apart same = by (eqb n q.1) refl
+      where
+        by : (b : Bool) → eqb n q.1 ≡ b → not b ≡ true
+        by true e = let is : n ≡ q.1 = grind (arith, nat_tests, e) in absurd (apart (λ j. (same j, sym is j)))
+        by false e = refl
+
+    old_sane : (n : ℕ) (shape : Shape) (old : Record) → structure_of desc set ≡ Some shape → area_owner a ≡ 0 → AreFitting shape.items (area_values a) → get s.db.records (set, n) ≡ Some old
+        → (c : Option ℕ) → clash desc.structures s.db set (Some n) (record_of a) ≡ c → KeptSane desc (put_kept (put_unless c (Stored n)) desc p s.db set a)
+    old_sane n shape old here owner values was (Some d) clear = tt
+    old_sane n shape old here owner values was None clear =
+        let kind = ap is_data_set (sym here) ∙ sane.valid.sets (set, n) old was in
+        let outer : IsOuter (Some shape) = record { data_set = kind; disjoint = sane.flat.disjoint (set, n) old shape was here } in
+        let same = count_replace s.db.records set (set, n) (put_record set n a shape) (ap is_some was) in
+        let few = sane.valid.populations set shape here kind in
+        stored_sane set n a shape values (may_stand set n a shape (Some n) here outer owner values none met clear (other_number n) (sane.valid.numbers (set, n) old shape was here) (omega (arith, same, few)))
+
+  -- a locked record stands
+  locked_old : (set n : ℕ) → locks_it p (set, n) ≡ true → (C : Type 0) → ((old : Record) (shape : Shape) → get s.db.records (set, n) ≡ Some old → structure_of desc set ≡ Some shape → C) → C
+  locked_old set n l C with_old = by (get s.db.records (set, n)) refl (safe.stand (set, n) l) (structure_of desc set) refl
+    where
+      safe : AreSafe s.db s.mark p
+      safe = all_at (AreSafe s.db s.mark) s.programs i p at ex.safe
+
+      by : (o : Option Record) → get s.db.records (set, n) ≡ o → is_some o ≡ true → (x : Option Shape) → structure_of desc set ≡ x → C
+      by None e some x h = absurd (cc)
+      by (Some old) e some None h = let kind = ap is_data_set (sym h) ∙ sane.valid.sets (set, n) old e in absurd (cc)
+      by (Some old) e some (Some shape) h = with_old old shape e h
+
+  area_of : (set : ℕ) (shape : Shape) (o : Option Area) → structure_of desc set ≡ Some shape → (work_of p set).area ≡ o → AreaFits shape o
+  area_of set shape o here is = subst (AreaFits shape) is (mine set shape here)
+
+  put_sane : (set : ℕ) (a : Area) (current : Option ℕ) → (work_of p set).area ≡ Some a → is_free a p set current ≡ true
+      → missing_from 0 (items_of (structure_of desc set)) (area_values a) ≡ None → verified (structure_of desc set) (area_values a) ≡ true
+      → KeptSane desc (put_kept (put_answer desc s.db set (area_number a current) (record_of a)) desc p s.db set a)
+  unfolding put_answer
+  put_sane set (New values owner) current has free none met = by (structure_of desc set) refl (clash desc.structures s.db set None (record { owner = owner; values = values })) refl
+    where
+      full : (c : Option ℕ) → KeptSane desc (put_kept (put_unless c Full) desc p s.db set (New values owner))
+      full None = tt
+      full (Some d) = tt
+
+      by : (o : Option Shape) → structure_of desc set ≡ o → (c : Option ℕ) → clash desc.structures s.db set None (record { owner = owner; values = values }) ≡ c
+          → KeptSane desc (put_kept (put_unless c (cond (is_full o (length (records_of s.db.records set))) Full (Stored (fresh s.db.records set)))) desc p s.db set (New values owner))
+      by None here c clear = full c
+      by (Some shape) here c clear =
+          let fits = area_of set shape (Some (New values owner)) here has in
+          new_sane set (New values owner) none met shape here fits.0 fits.1.0 fits.1.1 c clear (nat_le shape.population (length (records_of s.db.records set))) refl
+  put_sane set (Old values) None has free none met = absurd (cc)
+  put_sane set (Old values) (Some n) has free none met =
+      locked_old set n free (KeptSane desc (put_kept (put_unless (clash desc.structures s.db set (Some n) (record { owner = 0; values = values })) (Stored n)) desc p s.db set (Old values)))
+      (λ old shape was here. old_sane set (Old values) none met n shape old here refl (area_of set shape (Some (Old values)) here has) was (clash desc.structures s.db set (Some n) (record { owner = 0; values = values })) refl)
+
+  unless_sane : (o : Option (List ℕ)) (set : ℕ) (a : Area) (current : Option ℕ) → (work_of p set).area ≡ Some a → is_free a p set current ≡ true → missing_from 0 (items_of (structure_of desc set)) (area_values a) ≡ o
+      → KeptSane desc (kept_unless o desc p s.db set a current)
+  unless_sane (Some item) set a current has free none = tt
+  unless_sane None set a current has free none =
+      kept_if desc (verified (structure_of desc set) (area_values a)) (put_kept (put_answer desc s.db set (area_number a current) (record_of a)) desc p s.db set a) (Refused DataError (name_of (structure_of desc set)))
+      (λ met. put_sane set a current has free none met) tt
+
+  area_sane : (o : Option Area) (set : ℕ) (current : Option ℕ) → (work_of p set).area ≡ o → KeptSane desc (area_kept o desc p s.db set current)
+  area_sane None set current has = tt
+  area_sane (Some a) set current has =
+      kept_if desc (is_free a p set current) (kept_unless (missing_from 0 (items_of (structure_of desc set)) (area_values a)) desc p s.db set a current) (Refused NotLocked (name_of (structure_of desc set)))
+      (λ free. unless_sane (missing_from 0 (items_of (structure_of desc set)) (area_values a)) set a current has free refl) tt
+
+  keep_sane : (set : ℕ) → KeptSane desc (keep desc p s.db set)
+  unfolding keep
+  keep_sane set = area_sane (work_of p set).area set (work_of p set).current refl
+
+  if_sane : (audit : Bool) → KeptSane desc (cond audit (keep desc p s.db (restart_of desc)) (Keeps p s.db))
+  if_sane audit = kept_if desc audit (keep desc p s.db (restart_of desc)) (Keeps p s.db) (λ h. keep_sane (restart_of desc)) (record { valid = sane.valid; flat = sane.flat; areas = mine })
+
+  store_leaves : (k : Kept) → KeptSane desc k → Leaves desc (after_store k i s)
+  store_leaves (Refused c n) h = sane
+  store_leaves (Keeps q db) h = sane_with (carried q) db h.valid h.flat h.areas
+
+  begun_leaves : (k : Kept) → KeptSane desc k → Leaves desc (after_begin k i s)
+  begun_leaves (Refused c n) h = sane
+  begun_leaves (Keeps q db) h = sane_with (entered q) db h.valid h.flat h.areas
+
+  begin_leaves : (who : List (List ℕ)) (audit : Bool) → Leaves desc (begin_unless who desc i p s audit)
+  begin_leaves [] audit = begun_leaves (cond audit (keep desc p s.db (restart_of desc)) (Keeps p s.db)) (if_sane audit)
+  begin_leaves (w ∷ ws) audit = sane
+
+  end_leaves : (k : Kept) (sync : Bool) → KeptSane desc k → Leaves desc (after_end k desc i s sync)
+  end_leaves (Refused c n) sync h = sane
+  end_leaves (Keeps q db) sync h =
+      settle_leaves desc (record s { db = db; programs = slice_set s.programs i (left q); pending = s.pending || sync || nat_le desc.syncpoint (one_more s.since); since = one_more s.since })
+      (sane_with (left q) db h.valid h.flat h.areas)
+
+  -- finding
+
+  found_fits : (set : ℕ) (r : Spot) → get s.db.records (set, r.number) ≡ Some r.rec → (C : Type 0) → ((shape : Shape) → structure_of desc set ≡ Some shape → AreFitting shape.items r.rec.values → C) → C
+  found_fits set r stands C with_shape = by (structure_of desc set) refl
+    where
+      by : (o : Option Shape) → structure_of desc set ≡ o → C
+      by None h = let kind = ap is_data_set (sym h) ∙ sane.valid.sets (set, r.number) r.rec stands in absurd (cc)
+      by (Some shape) h = with_shape shape h (record {
+        lengths = sane.valid.lengths (set, r.number) r.rec shape stands h;
+        fit = sane.valid.fit (set, r.number) r.rec shape stands h;
+      })
+
+  find_leaves : (r : Option Spot) (x : ℕ) → Stands s.db (set_of desc x) r → Leaves desc (after_find r desc i p s x)
+  find_leaves None x stands = sane
+  find_leaves (Some r) x stands =
+      found_fits (set_of desc x) r stands (Leaves desc (after_find (Some r) desc i p s x))
+      (λ shape here fits.
+      let w : Work = record { current = Some r.number; area = Some (Old r.rec.values) } in
+      sane_at (carried (found_program p (set_of desc x) r)) (let_go_areas desc (with_work p (set_of desc x) w) (set_of desc x) (areas_with desc p (set_of desc x) shape w here fits mine)))
+
+  -- areas
+
+  outer_shape : (set : ℕ) → IsOuter (structure_of desc set) → (C : Type 0) → ((shape : Shape) → structure_of desc set ≡ Some shape → IsOuter (Some shape) → C) → C
+  outer_shape set outer C with_shape = by (structure_of desc set) refl
+    where
+      by : (o : Option Shape) → structure_of desc set ≡ o → C
+      by None h = let kind = ap is_data_set (sym h) ∙ outer.data_set in absurd (cc)
+      by (Some shape) h = with_shape shape h (subst IsOuter h outer)
+
+  create_leaves : (set : ℕ) → IsOuter (structure_of desc set) → Leaves desc (done (with_program s i (carried (let_go (with_work p set (record { current = None; area = Some (New (map (λ (t : Item). t.initial) (items_of (structure_of desc set))) 0) })) set))))
+  create_leaves set outer =
+      let w : Work = record { current = None; area = Some (New (map (λ (t : Item). t.initial) (items_of (structure_of desc set))) 0) } in
+      outer_shape set outer (Leaves desc (done (with_program s i (carried (let_go (with_work p set w) set)))))
+      (λ shape here out.
+      let fits : AreFitting shape.items (map (λ (t : Item). t.initial) (items_of (structure_of desc set))) =
+      subst (λ (o : Option Shape). AreFitting shape.items (map (λ (t : Item). t.initial) (items_of o))) (sym here) (initial_fits shape.items (made.initial set shape here)) in
+      sane_at (carried (let_go (with_work p set w) set)) (let_go_areas desc (with_work p set w) set (areas_with desc p set shape w here (out, (refl, fits)) mine)))
+
+  with_new : (shape : Shape) (a : Area) (new : List Value) → AreaFits shape (Some a) → AreFitting shape.items new → AreaFits shape (Some (with_values a new))
+  with_new shape (New values owner) new old fits = (old.0, (old.1.0, fits))
+  with_new shape (Old values) new old fits = fits
+
+  values_fit : (shape : Shape) (a : Area) → AreaFits shape (Some a) → AreFitting shape.items (area_values a)
+  values_fit shape (New values owner) h = h.1.1
+  values_fit shape (Old values) h = h
+
+  after_put_leaves : (f : Filled) (set : ℕ) (a : Area) (shape : Shape) → structure_of desc set ≡ Some shape → AreaFits shape (Some a) → FilledFits shape.items f → Leaves desc (after_put f i p s set a)
+  after_put_leaves (Misfit item) set a shape here old fits = sane
+  after_put_leaves (Values' values) set a shape here old fits =
+      let w : Work = record { current = (work_of p set).current; area = Some (with_values a values) } in
+      sane_at (carried (with_work p set w)) (areas_with desc p set shape w here (with_new shape a values old fits) mine)
+
+  put_leaves : (o : Option Area) (set : ℕ) (settings : List Setting) → IsOuter (structure_of desc set) → (work_of p set).area ≡ o → Leaves desc (put_area o desc i p s set settings)
+  put_leaves None set settings outer has = sane
+  put_leaves (Some a) set settings outer has =
+      let f = filled (items_of (structure_of desc set)) settings (area_values a) in
+      outer_shape set outer (Leaves desc (after_put f i p s set a))
+      (λ shape here out.
+      let old = area_of set shape (Some a) here has in
+      let fits : FilledFits shape.items f = subst (λ (o : Option Shape). FilledFits shape.items (filled (items_of o) settings (area_values a))) (sym here) (filled_fits shape.items settings (area_values a) (values_fit shape a old)) in
+      after_put_leaves f set a shape here old fits)
+
+  get_leaves : (o : Option Area) (set : ℕ) (numbers : List ℕ) → Leaves desc (get_area o desc i p s set numbers)
+  get_leaves None set numbers = sane
+  get_leaves (Some a) set numbers = sane_at (carried p) mine
+
+  close_leaves : Leaves desc (done (record s { programs = without i s.programs }))
+  close_leaves = record { valid = sane.valid; valid_mark = sane.valid_mark; flat = sane.flat; flat_mark = sane.flat_mark; areas = all_without (AreasFit desc) s.programs i sane.areas }
+
+-- every verb
+
+back_leaves : (desc : Described) (s : Session) (name : List ℕ) → Sane desc s.db s.mark s.programs → Leaves desc (done (record s { db = s.mark; programs = map (backed_out name) s.programs; pending = false; since = 0 }))
+back_leaves desc s name sane = record {
+  valid = sane.valid_mark;
+  valid_mark = sane.valid_mark;
+  flat = sane.flat_mark;
+  flat_mark = sane.flat_mark;
+  areas = all_mapped (AreasFit desc) (backed_out name) s.programs (λ x a. backed_areas desc name x a) sane.areas;
+}
+
+verb_leaves : (desc : Described) → IsWellMade desc → (i : ℕ) (p : Program) (s : Session) (v : Verb) → NamesOuter desc v → slice_get s.programs i ≡ Some p → IsExclusive s → Sane desc s.db s.mark s.programs → Leaves desc (verb_step desc i p s v)
+unfolding verb_step store_step begin_step end_step abort_step find_step create_step put_step get_step close_step
+verb_leaves desc made i p s OpenUpdate outer at ex sane = sane
+verb_leaves desc made i p s OpenInquiry outer at ex sane = sane
+verb_leaves desc made i p s Close outer at ex sane = leaves_if desc p.in_transaction (refuse s AuditError p.name) _ sane (close_leaves desc made s i p at ex sane)
+verb_leaves desc made i p s (Find path) outer at ex sane = find_leaves desc made s i p at ex sane (found_by desc s.db path) (path_of path) (found_stands desc s.db path)
+verb_leaves desc made i p s (Create set) outer at ex sane = create_leaves desc made s i p at ex sane set outer
+verb_leaves desc made i p s (PutItems set settings) outer at ex sane = put_leaves desc made s i p at ex sane (work_of p set).area set settings outer refl
+verb_leaves desc made i p s (Get set items) outer at ex sane = get_leaves desc made s i p at ex sane (work_of p set).area set items
+verb_leaves desc made i p s (Store set) outer at ex sane =
+    leaves_if desc p.in_transaction (after_store (keep desc p s.db set) i s) (refuse s AuditError p.name) (store_leaves desc made s i p at ex sane (keep desc p s.db set) (keep_sane desc made s i p at ex sane set)) sane
+verb_leaves desc made i p s (Begin audit) outer at ex sane =
+    leaves_if desc p.in_transaction (refuse s AuditError p.name) _ sane
+    (leaves_if desc (audit && not (is_some (work_of p (restart_of desc)).area)) (refuse s NoRecord (name_of (structure_of desc (restart_of desc)))) _ sane
+    (begin_leaves desc made s i p at ex sane (awaited s) audit))
+verb_leaves desc made i p s (End audit sync) outer at ex sane =
+    leaves_if desc p.in_transaction (after_end (cond audit (keep desc p s.db (restart_of desc)) (Keeps p s.db)) desc i s sync) (refuse s AuditError p.name)
+    (end_leaves desc made s i p at ex sane (cond audit (keep desc p s.db (restart_of desc)) (Keeps p s.db)) sync (if_sane desc made s i p at ex sane audit)) sane
+verb_leaves desc made i p s Abort outer at ex sane = leaves_if desc p.in_transaction _ (refuse s AuditError p.name) (back_leaves desc s p.name sane) sane
+
+open_as_leaves : (desc : Described) (s : Session) (name : List ℕ) (mode : Mode) → Sane desc s.db s.mark s.programs → Leaves desc (open_as desc s name mode)
+open_as_leaves desc s name mode sane =
+    let opened : Session = record s { programs = s.programs ++ new_program desc name mode ∷ [] } in
+    leaves_if desc (nat_le 64 (length s.programs)) (refuse s LimitError name) (done opened) sane
+    (record { valid = sane.valid; valid_mark = sane.valid_mark; flat = sane.flat; flat_mark = sane.flat_mark; areas = all_pushed (AreasFit desc) s.programs (new_program desc name mode) sane.areas (new_areas desc name mode) })
+
+open_leaves : (desc : Described) (s : Session) (name : List ℕ) (v : Verb) → Sane desc s.db s.mark s.programs → Leaves desc (open_step desc s name v)
+unfolding open_step
+open_leaves desc s name OpenUpdate sane = open_as_leaves desc s name _ sane
+open_leaves desc s name OpenInquiry sane = open_as_leaves desc s name _ sane
+open_leaves desc s name Close sane = sane
+open_leaves desc s name (Find path) sane = sane
+open_leaves desc s name (Create set) sane = sane
+open_leaves desc s name (PutItems set settings) sane = sane
+open_leaves desc s name (Get set items) sane = sane
+open_leaves desc s name (Store set) sane = sane
+open_leaves desc s name (Begin audit) sane = sane
+open_leaves desc s name (End audit sync) sane = sane
+open_leaves desc s name Abort sane = sane
+
+step_at_leaves : (desc : Described) → IsWellMade desc → (o : Option Program) (i : ℕ) (s : Session) (name : List ℕ) (v : Verb) → NamesOuter desc v → slice_get s.programs i ≡ o → IsExclusive s → Sane desc s.db s.mark s.programs → Leaves desc (step_at desc o i s name v)
+step_at_leaves desc made None i s name v outer at ex sane = open_leaves desc s name v sane
+step_at_leaves desc made (Some p) i s name v outer at ex sane =
+    let due : Program = record p { owes_abort = false } in
+    leaves_if desc (opens v) (refuse s _ name) _ sane
+    (leaves_if desc p.owes_abort (record { session = with_program s i due; reply = Exception AbortDue name; sync = None; quiets = [] }) _ (sane_at desc made s i p at ex sane due (mine desc made s i p at ex sane))
+    (leaves_if desc (is_inquiry p.mode && changes v) (refuse s _ name) _ sane (verb_leaves desc made i p s v outer at ex sane)))
+
+step_leaves : (desc : Described) → IsWellMade desc → (s : Session) (name : List ℕ) (v : Verb) → NamesOuter desc v → IsExclusive s → Sane desc s.db s.mark s.programs → Leaves desc (step desc s name v)
+unfolding step
+step_leaves desc made s name v outer ex sane = step_at_leaves desc made (slice_get s.programs (place_of name s.programs)) (place_of name s.programs) s name v outer refl ex sane
+
+-- the database of no record
+
+none_there : (C : Type 0) (place : Place) (r : Record) → get empty_db.records place ≡ Some r → C
+none_there C place r at = let none = get-empty {X = Record} place_cmp place in absurd (cc)
+
+no_entries : (es : List (Place × Record)) → length es ≡ 0 → es ≡ []
+no_entries [] h = refl
+no_entries (e ∷ es) h = absurd (omega (arith, h))
+
+no_rows : (set : ℕ) → length (records_of empty_db.records set) ≡ 0
+no_rows set = ap (λ (es : List (Place × Record)). length (rows_of set es)) (no_entries (entries empty_db.records) (sym (len-entries empty_db.records) ∙ len-empty place_cmp Record))
+
+pub empty_valid : (desc : Described) → IsValid desc empty_db
+empty_valid desc = record {
+  sets = λ place r at. none_there _ place r at;
+  lengths = λ place r shape at has. none_there _ place r at;
+  fit = λ place r shape at has. none_there _ place r at;
+  links = λ place r shape at has. none_there _ place r at;
+  required = λ place r shape at has. none_there _ place r at;
+  verified = λ place r shape at has. none_there _ place r at;
+  owners = λ place r shape at has. none_there _ place r at;
+  numbers = λ place r shape at has. none_there _ place r at;
+  populations = λ set shape has is. omega (arith, no_rows set);
+  keys = λ n shape has is nodup owner p q a b atp atq share equal. none_there _ p a atp;
+  entries = tt;
+  rising = tt;
+  entry_counts = λ subset shape has is. omega arith;
+}
+
+pub empty_flat : (desc : Described) → IsFlat desc empty_db
+empty_flat desc = record { entries = refl; disjoint = λ place r shape at has. none_there _ place r at }
+
+-- the law
+
+step_sound : (desc : Described) → IsWellMade desc → (s : Session) (name : List ℕ) (verb : Verb) → NamesOuter desc verb → IsSound desc s → IsSound desc (step desc s name verb).session
+step_sound desc made s name verb outer h =
+    let after = step_leaves desc made s name verb outer h.exclusive (record { valid = h.db; valid_mark = h.mark; flat = h.flat; flat_mark = h.flat_mark; areas = h.areas }) in
+    record { exclusive = locks_stay_exclusive.keeps desc s name verb h.exclusive; db = after.valid; mark = after.valid_mark; flat = after.flat; flat_mark = after.flat_mark; areas = after.areas }
+
+valid_points : (desc : Described) (db : Db) → IsValid desc db → (qs : List Quiet) → AllByRecursion (λ (q : Quiet). q.1 ≡ db) qs → AllByRecursion (λ (q : Quiet). IsValid desc q.1) qs
+valid_points desc db valid [] same = tt
+valid_points desc db valid (q ∷ qs) same = (subst (IsValid desc) (sym same.0) valid, valid_points desc db valid qs same.1)
+
+pub stays_sound : (desc : Described) → IsWellMade desc → StaysSound desc
+stays_sound desc made = record {
+  first = λ db next valid flat. record { exclusive = locks_stay_exclusive.first db next; db = valid; mark = valid; flat = flat; flat_mark = flat; areas = tt };
+  keeps = step_sound desc made;
+  points = λ s name verb outer h. valid_points desc (step desc s name verb).session.db (step_sound desc made s name verb outer h).db (step desc s name verb).quiets (step_points desc s name verb);
+}
+
+pub after_sound : (desc : Described) → IsWellMade desc → (s : Session) (vs : List (List ℕ × Verb)) → AllNameOuter desc vs → IsSound desc s → IsSound desc (after desc s vs)
+after_sound desc made s [] outer h = h
+after_sound desc made s (v ∷ vs) outer h = after_sound desc made (step desc s v.0 v.1).session vs outer.1 (step_sound desc made s v.0 v.1 outer.0 h)

@@ -1,0 +1,5 @@
+pub mod Exclusive
+pub mod Made
+pub mod Runs
+pub mod Sound
+pub mod Valid

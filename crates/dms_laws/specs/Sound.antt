@@ -1,0 +1,78 @@
+-- A session whose databases are valid, and whose programs have at hand what may be stored.
+use Rattle.std.specs.Prelude.{◌≡◌, ℕ, List, [], true, Some, None, ⊤, length}
+use Rattle.std.specs.List.{AllByRecursion}
+use Rattle.std.specs.declared.option.Option.{Option}
+use Rattle.dms_base.specs.declared.value.Value.{Value}
+use Rattle.dms_base.specs.Fits.{fits}
+use Rattle.dms_desc.specs.declared.structure.Item.{Item}
+use Rattle.dms_desc.specs.Shape.{Shape, Described}
+use Rattle.dms_model.specs.declared.program.Program.{Program}
+use Rattle.dms_model.specs.declared.program.Area.{Area}
+use Rattle.dms_model.specs.declared.program.Area.TheVariants.{New, Old}
+use Rattle.dms_model.specs.declared.verb.Verb.{Verb}
+use Rattle.dms_model.specs.declared.verb.Verb.TheVariants.{OpenUpdate, OpenInquiry, Close, Find, Create, Put, Get, Store, Begin, End, Abort}
+use Rattle.dms_model.specs.Db.{Db}
+use Rattle.dms_model.specs.Points.{Quiet}
+use Rattle.dms_model.specs.Members.{structure_of}
+use Rattle.dms_model.specs.Session.{Session, step, work_of, fresh_session}
+use Rattle.dms_laws.specs.Exclusive.{IsExclusive}
+use Rattle.dms_laws.specs.Valid.{OfRecords, OfItems, IsValid, is_data_set, owner_of}
+
+-- a disjoint data set
+pub record IsOuter (structure : Option Shape) : Type 0 where
+  pub data_set : is_data_set structure ≡ true
+  pub disjoint : owner_of structure ≡ 0
+
+-- the data set that CREATE or PUT names is one of the outer level
+abbrev pub NamesOuter : Described → Verb → Type 0
+NamesOuter desc OpenUpdate = ⊤
+NamesOuter desc OpenInquiry = ⊤
+NamesOuter desc Close = ⊤
+NamesOuter desc (Find path) = ⊤
+NamesOuter desc (Create set) = IsOuter (structure_of desc set)
+NamesOuter desc (Put set settings) = IsOuter (structure_of desc set)
+NamesOuter desc (Get set items) = ⊤
+NamesOuter desc (Store set) = ⊤
+NamesOuter desc (Begin audit) = ⊤
+NamesOuter desc (End audit sync) = ⊤
+NamesOuter desc Abort = ⊤
+
+-- a database as the verbs of today make it: no embedded record, and no entry of a manual subset
+pub record IsFlat (desc : Described) (db : Db) : Type 0 where
+  pub entries : db.entries ≡ []
+  pub disjoint : OfRecords desc db (λ place rec shape. shape.owner ≡ 0)
+
+-- values of an area: as many as items, and each fits
+pub record AreFitting (items : List Item) (values : List Value) : Type 0 where
+  pub lengths : length values ≡ length items
+  pub fit : OfItems items values (λ item v. fits item.kind v ≡ true)
+
+-- an area of a data set; a new one is of a disjoint one, and without owner
+abbrev pub AreaFits : Shape → Option Area → Type 0
+AreaFits shape None = ⊤
+AreaFits shape (Some (New values owner)) = IsOuter (Some shape) × ((owner ≡ 0) × AreFitting shape.items values)
+AreaFits shape (Some (Old values)) = AreFitting shape.items values
+
+-- each area of a program fits
+abbrev pub AreasFit : Described → Program → Type 0
+AreasFit desc p = (set : ℕ) (shape : Shape) → structure_of desc set ≡ Some shape → AreaFits shape (work_of p set).area
+
+-- the databases now and at the last quiet point are valid, no two programs lock one record, and areas hold what may be stored
+pub record IsSound (desc : Described) (s : Session) : Type 0 where
+  pub exclusive : IsExclusive s
+  pub db : IsValid desc s.db
+  pub mark : IsValid desc s.mark
+  pub flat : IsFlat desc s.db
+  pub flat_mark : IsFlat desc s.mark
+  pub areas : AllByRecursion (AreasFit desc) s.programs
+
+-- A session without programs over a valid database without embedded records and entries is sound, and each step leaves a sound
+-- session sound: its database and that of the last quiet point stay valid. So is the database of each quiet point that it makes.
+pub record StaysSound (desc : Described) : Type 0 where
+  pub first : (db : Db) (next : ℕ) → IsValid desc db → IsFlat desc db → IsSound desc (fresh_session db next)
+  pub keeps : (s : Session) (name : List ℕ) (verb : Verb) → NamesOuter desc verb → IsSound desc s → IsSound desc (step desc s name verb).session
+  pub points : (s : Session) (name : List ℕ) (verb : Verb) → NamesOuter desc verb → IsSound desc s → AllByRecursion (λ (q : Quiet). IsValid desc q.1) (step desc s name verb).quiets
+
+-- each CREATE and PUT names a data set of the outer level
+abbrev pub AllNameOuter : Described → List (List ℕ × Verb) → Type 0
+AllNameOuter desc vs = AllByRecursion (λ v. NamesOuter desc v.1) vs

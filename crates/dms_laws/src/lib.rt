@@ -1,0 +1,8 @@
+//! Laws of the machine of verbs: what holds of each step, for every description, session, program and verb.
+#![tactic(auto)]
+
+mod exclusive;
+mod valid;
+
+pub use exclusive::{back_out_law, exclusive_law, holder_law, lock_law, update_law};
+pub use valid::{empty_law, member_law, run_law, valid_law};
