@@ -1,0 +1,128 @@
+-- How the description file comes to be, stop by stop.
+use Rattle.std.proofs.Common.{ℕ, zero, suc, ◌+◌, ◌<◌, ◌≡◌, ◌≢◌, inl, inr, List, [], ◌∷◌, ◌++◌, length, get_or, refl, sym, ◌∙◌, ap, subst, arith, append-nil}
+use Rattle.std.proofs.lemmas.List.{ext_get_or, drop_all}
+use Rattle.std.proofs.lemmas.Bool.{cases_eq}
+use Rattle.std.specs.Int.{w32, to_be_bytes}
+use Rattle.dms_block.specs.Moments.{Clock, Steps}
+use Rattle.dms_block.specs.MomentLaws.{steps_on}
+use Rattle.dms_site.specs.Files.{Left, Torn, Cut, OnDisk, overlaid, padded}
+use Rattle.dms_descfile.specs.DescriptionFile.{description_file, IsUnsealed}
+use Rattle.dms_descfile.specs.Becoming.{Shuts, Becoming}
+
+-- a file that is too short for a description
+pub short_unsealed : (file : List ℕ) → length file < 6 → IsUnsealed file
+unfolding description_file
+short_unsealed file short d s = absurd (omega (arith, short, ap length s.is))
+
+-- a file whose gate isn't open
+pub closed_unsealed : (file : List ℕ) → get_or file 0 0 ≢ 1 → IsUnsealed file
+unfolding description_file
+closed_unsealed file closed d s = closed (ap (λ (l : List ℕ). get_or l 0 0) s.is)
+
+-- a cut of the whole file
+pub cut_becomes : (made : List ℕ) (z x : Left) → OnDisk 1 (Cut 0) z x → OnDisk 1 (Becoming made) z x
+cut_becomes made z x step = record {
+  files = record {
+    here = elim step.files.here [
+      | inl same ↦ inl same
+      | inr none ↦ inr (inl (subst (λ (l : List ℕ). IsUnsealed l) (sym none) (short_unsealed [] (omega arith))))
+    ];
+    others = step.files.others;
+  };
+  said = step.said;
+}
+
+pub shuts_becomes : (made : List ℕ) (z x : Left) → OnDisk 1 Shuts z x → OnDisk 1 (Becoming made) z x
+shuts_becomes made z x step = record {
+  files = record { here = inr (inl step.files.here); others = step.files.others };
+  said = step.said;
+}
+
+pub shuts_after : {step : List ℕ → List ℕ → Type 0} (z y x : Left) → OnDisk 1 step z y → OnDisk 1 Shuts y x → OnDisk 1 Shuts z x
+shuts_after z y x r s = record {
+  files = record { here = s.files.here; others = λ g other. s.files.others g other ∙ r.files.others g other };
+  said = s.said ∙ r.said;
+}
+
+-- two steps after one another
+pub becoming_after : (made : List ℕ) (x y z : Left) → OnDisk 1 (Becoming made) x y → OnDisk 1 (Becoming made) y z → OnDisk 1 (Becoming made) x z
+becoming_after made x y z r s = record {
+  files = record {
+    here = elim s.files.here [
+      | inl same ↦ subst (λ (l : List ℕ). Becoming made (x.files 1) l) (sym same) r.files.here
+      | inr other ↦ inr other
+    ];
+    others = λ g other. s.files.others g other ∙ r.files.others g other;
+  };
+  said = s.said ∙ r.said;
+}
+
+pub becoming_on : (made : List ℕ) {a b c : Clock Left} → Steps (OnDisk 1 (Becoming made)) a b → Steps (OnDisk 1 (Becoming made)) b c → Steps (OnDisk 1 (Becoming made)) a c
+becoming_on made first then = steps_on first then (λ x y z was now r s. becoming_after made x y z r s) (λ x y now r. r)
+
+-- within the write of the two closed gates into the empty file
+pub gates_shut : (z x : Left) → z.files 1 ≡ [] → OnDisk 1 (Torn 0 2) z x → OnDisk 1 Shuts z x
+gates_shut z x none step = record {
+  files = record {
+    here = short_unsealed (x.files 1) (omega (arith, step.files.here.no_longer, ap length none));
+    others = step.files.others;
+  };
+  said = step.said;
+}
+
+-- within the write of what stands behind them
+pub rest_shut : (n : ℕ) (z x : Left) → z.files 1 ≡ 0 ∷ 0 ∷ [] → OnDisk 1 (Torn 2 n) z x → OnDisk 1 Shuts z x
+rest_shut n z x is step =
+    let low : 0 < length (z.files 1) = omega (arith, ap length is) in
+    let first : get_or (x.files 1) 0 0 ≡ 0 = step.files.here.below 0 low (omega arith) ∙ ap (λ (l : List ℕ). get_or l 0 0) is in
+    record {
+      files = record {
+        here = closed_unsealed (x.files 1) (λ is_open. absurd (omega (arith, first, is_open)));
+        others = step.files.others;
+      };
+      said = step.said;
+    }
+
+-- only the gate differs
+only_gate : (rest new : List ℕ) → Torn 0 1 (0 ∷ 0 ∷ rest) new → get_or new 0 0 ≡ 1 → new ≡ 1 ∷ 0 ∷ rest
+only_gate rest new torn opened =
+    let len : length new ≡ length (1 ∷ 0 ∷ rest) = omega (arith, torn.no_shorter, torn.no_longer) in
+    ext_get_or 0 new (1 ∷ 0 ∷ rest) len (at_each)
+  where
+    at_each : (k : ℕ) → k < length new → get_or new k 0 ≡ get_or (1 ∷ 0 ∷ rest) k 0
+    at_each zero h = opened
+    at_each (suc k) h = torn.above (suc k) (omega (arith, h, torn.no_longer)) (omega arith)
+
+-- within the write of the gate
+pub gate_becomes : (rest : List ℕ) (z x : Left) → z.files 1 ≡ 0 ∷ 0 ∷ rest → OnDisk 1 (Torn 0 1) z x → OnDisk 1 (Becoming (1 ∷ 0 ∷ rest)) z x
+gate_becomes rest z x is step =
+    let torn : Torn 0 1 (0 ∷ 0 ∷ rest) (x.files 1) = subst (λ (l : List ℕ). Torn 0 1 l (x.files 1)) is step.files.here in
+    record {
+      files = record {
+        here = elim (cases_eq (get_or (x.files 1) 0 0) 1) [
+          | inl opened ↦ inr (inr (only_gate rest (x.files 1) torn opened))
+          | inr closed ↦ inr (inl (closed_unsealed (x.files 1) closed))
+        ];
+        others = step.files.others;
+      };
+      said = step.said;
+    }
+
+-- what the three writes make of the file
+pub gates_written : overlaid 0 (0 ∷ 0 ∷ []) [] ≡ 0 ∷ 0 ∷ []
+unfolding overlaid padded
+gates_written = refl
+
+pub rest_written : (rest : List ℕ) → overlaid 2 rest (0 ∷ 0 ∷ []) ≡ 0 ∷ 0 ∷ rest
+unfolding overlaid padded
+rest_written rest =
+    ap (λ (l : List ℕ). 0 ∷ 0 ∷ (rest ++ l)) (drop_all (2 + length rest) (0 ∷ 0 ∷ []) (omega arith)) ∙ ap (λ (l : List ℕ). 0 ∷ 0 ∷ l) (append-nil rest)
+
+pub gate_written : (rest : List ℕ) → overlaid 0 (1 ∷ []) (0 ∷ 0 ∷ rest) ≡ 1 ∷ 0 ∷ rest
+unfolding overlaid padded
+gate_written rest = refl
+
+-- what stands behind the gates
+pub file_is : (bytes rest : List ℕ) → rest ≡ to_be_bytes w32 (length bytes) ++ bytes → 1 ∷ 0 ∷ rest ≡ description_file 1 0 bytes
+unfolding description_file
+file_is bytes rest is = ap (λ (l : List ℕ). 1 ∷ 0 ∷ l) is
