@@ -1,13 +1,13 @@
 -- How the description file comes to be, stop by stop.
-use Rattle.std.proofs.Common.{ℕ, zero, suc, ◌+◌, ◌<◌, ◌≡◌, ◌≢◌, inl, inr, List, [], ◌∷◌, ◌++◌, length, get_or, refl, sym, ◌∙◌, ap, subst, arith, append-nil}
+use Rattle.std.proofs.Common.{ℕ, zero, suc, ◌+◌, ◌<◌, ◌≡◌, ◌≢◌, ◌⊎◌, inl, inr, List, [], ◌∷◌, ◌++◌, length, get_or, refl, sym, ◌∙◌, ap, subst, arith, append-nil}
 use Rattle.std.proofs.lemmas.List.{ext_get_or, drop_all}
 use Rattle.std.proofs.lemmas.Bool.{cases_eq}
 use Rattle.std.specs.Int.{w32, to_be_bytes}
-use Rattle.dms_block.specs.Moments.{Clock, Steps}
-use Rattle.dms_block.specs.MomentLaws.{steps_on}
-use Rattle.dms_site.specs.Files.{Left, Torn, Cut, OnDisk, overlaid, padded}
+use Rattle.dms_block.specs.Moments.{Clock, Now, Steps}
+use Rattle.dms_block.specs.MomentLaws.{steps_on, runs_none, runs_on, runs_weaken}
+use Rattle.dms_site.specs.Files.{Files, Left, Torn, Cut, OnDisk, Prints, Same, overlaid, padded}
 use Rattle.dms_descfile.specs.DescriptionFile.{description_file, IsUnsealed}
-use Rattle.dms_descfile.specs.Becoming.{Shuts, Becoming}
+use Rattle.dms_descfile.specs.Becoming.{Shuts, Becoming, IsCreated, Creates}
 
 -- a file that is too short for a description
 pub short_unsealed : (file : List ℕ) → length file < 6 → IsUnsealed file
@@ -126,3 +126,52 @@ gate_written rest = refl
 pub file_is : (bytes rest : List ℕ) → rest ≡ to_be_bytes w32 (length bytes) ++ bytes → 1 ∷ 0 ∷ rest ≡ description_file 1 0 bytes
 unfolding description_file
 file_is bytes rest is = ap (λ (l : List ℕ). 1 ∷ 0 ∷ l) is
+
+-- two outcomes with the same files and the same text
+left_same : (y x : Left) → x.files 1 ≡ y.files 1 → ((g : ℕ) → g ≢ 1 → x.files g ≡ y.files g) → x.said ≡ y.said → x ≡ y
+left_same y x here others said = λ i. record { files = λ g. (at_each g) i; said = said i }
+  where
+    at_each : (g : ℕ) → x.files g ≡ y.files g
+    at_each g = elim (cases_eq g 1) [
+      | inl e ↦ subst (λ (n : ℕ). x.files n ≡ y.files n) (sym e) here
+      | inr ne ↦ others g ne
+    ]
+
+created_after : (made : List ℕ) (c : Clock Left) (y x : Left) → Now c y → OnDisk 1 (Becoming made) y x → Now c x ⊎ IsCreated made x
+created_after made c y x now step = elim step.files.here [
+  | inl same ↦ inl (subst (λ (z : Left). Now c z) (sym (left_same y x same step.files.others step.said)) now)
+  | inr other ↦ inr other
+]
+
+-- a call that makes the description file
+pub creates : (made : List ℕ) {a b : Clock Left} → Steps (OnDisk 1 (Becoming made)) a b → Creates made a b
+creates made {a} steps = runs_weaken steps.runs (λ x after. created_after made a after.0 x after.1 after.2)
+
+same_as : (a : Clock Left) (y x : Left) → Now a y → x ≡ y → Now a x
+same_as a y x now same = subst (λ (z : Left). Now a z) (sym same) now
+
+-- no call
+pub creates_nothing : (made : List ℕ) (a : Clock Left) → Creates made a a
+creates_nothing made a = runs_none a (λ x. Now a x ⊎ IsCreated made x)
+
+-- a call that changes nothing
+pub creates_none : (made : List ℕ) {a b : Clock Left} → Steps Same a b → Creates made a b
+creates_none made {a} steps = runs_weaken steps.runs (λ x after. inl (same_as a after.0 x after.1 after.2))
+
+-- such a call before one that makes the description file
+pub creates_behind : (made : List ℕ) {a b c : Clock Left} → Steps Same a b → Creates made b c → Creates made a c
+creates_behind made {a} first then = runs_on (creates_none made first) then (λ x q. elim q [
+  | inl now ↦ let y = first.follows x now in inl (same_as a y.0 x y.1 y.2)
+  | inr other ↦ inr other
+])
+
+-- a text that is printed once the description file is made
+pub creates_said : (made text : List ℕ) {a b c : Clock Left} → Creates made a b → Steps (Prints text) b c → ((y : Left) → Now b y → y.files 1 ≡ made) → Creates made a c
+creates_said made text first then only = runs_on first then.runs (λ x after. inr (inr (ap (λ (l : Files). l 1) after.2.files ∙ only after.0 after.1)))
+
+-- what a stop leaves at each moment of the call
+pub each_moment : (made : List ℕ) {a b : Clock Left} → Creates made a b → (x : Left) → b.left a.now x → Now a x ⊎ IsCreated made x
+each_moment made {a} runs x left = elim (runs.only a.now x (omega arith) left) [
+  | inl was ↦ inl was
+  | inr other ↦ other
+]

@@ -1,7 +1,7 @@
 -- What a stop leaves of the description file while one is written.
 use Rattle.std.specs.Prelude.{◌≡◌, ◌⊎◌, ℕ, List}
 use Rattle.dms_site.specs.Files.{Left}
-use Rattle.dms_block.specs.Moments.{Clock, Now}
+use Rattle.dms_block.specs.Moments.{Clock, Now, Runs}
 use Rattle.dms_descfile.specs.DescriptionFile.{IsUnsealed}
 
 -- the file became no sealed description
@@ -12,10 +12,11 @@ Shuts old new = IsUnsealed new
 abbrev pub Becoming : List ℕ → List ℕ → List ℕ → Type 0
 Becoming made old new = (new ≡ old) ⊎ (IsUnsealed new ⊎ (new ≡ made))
 
--- Each outcome that a stop may leave since the old clock's moment is one that it could leave then, or has P.
-abbrev pub AtEachMoment : Clock Left → Clock Left → (Left → Type 0) → Type 0
-AtEachMoment old new P = (x : Left) → new.left old.now x → Now old x ⊎ P x
-
 -- the description file is no sealed description, or exactly the one that is made
 abbrev pub IsCreated : List ℕ → Left → Type 0
 IsCreated made x = IsUnsealed (x.files 1) ⊎ (x.files 1 ≡ made)
+
+-- Time went on from old to new, and each outcome that a stop on the way left is one that a stop could leave at the old
+-- moment, or there the description file is no sealed description, or exactly the one that is made.
+abbrev pub Creates : List ℕ → Clock Left → Clock Left → Type 0
+Creates made old new = Runs old new (λ x. Now old x ⊎ IsCreated made x)

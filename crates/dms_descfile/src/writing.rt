@@ -4,7 +4,7 @@ ghost use Rattle.dms_base.specs.Causes.{HasCause, Rose};
 ghost use Rattle.dms_block.specs.Moments.{Steps};
 ghost use Rattle.dms_site.specs.Files.{Cut, OnDisk, Only, OnlyIn};
 ghost use Rattle.dms_descfile.specs.DescriptionFile.{description_file};
-ghost use Rattle.dms_descfile.specs.Becoming.{Shuts, Becoming};
+ghost use Rattle.dms_descfile.specs.Becoming.{Shuts, Becoming, Creates};
 
 use crate::FileFault;
 use crate::reading::DESCRIPTION_FILE;
@@ -74,8 +74,8 @@ fn behind_gates(alloc: Global, bytes: &[u8]) -> Result<Bytes, Memory>
 
 /// Writes the description file with these bytes of a description, and seals it. The database's gate is closed behind it.
 ///
-/// All that is pending is made stable first. A stop at any moment leaves the description file as a stop at entry could
-/// leave it, or no sealed description, or exactly the new one; the other files and the text stay. After the first call of
+/// All that is pending is made stable first. A stop at any moment leaves what a stop at entry could leave, or there the
+/// description file is no sealed description, or exactly the new one; the other files and the text stay. After the first call of
 /// the site that fails no other is made. Answers Disk where a call of the site failed, and Memory, before the first call.
 pub fn seal_description<S: Site>(alloc: Global, site: &mut S, bytes: &[u8]) -> Result<(), FileFault>
     requires { length bytes.now ≤ 65535 }
@@ -83,6 +83,7 @@ pub fn seal_description<S: Site>(alloc: Global, site: &mut S, bytes: &[u8]) -> R
     ensures others { IsTrue S.tells → (g : ℕ) → g ≢ 1 → S.files site.new g ≡ S.files site.old g }
     ensures durable { OnOk result (IsTrue S.tells → Only (S.files site.new) (S.clock site.new)) }
     ensures moments { IsTrue S.tells → Steps (OnDisk 1 (Becoming (description_file 1 0 bytes.now))) (S.clock site.old) (S.clock site.new) }
+    ensures creates { IsTrue S.tells → Creates (description_file 1 0 bytes.now) (S.clock site.old) (S.clock site.new) }
     ensures memory { IsErrOf result FileFault.Memory → site.new ≡ site.old }
     ensures said { S.said site.new ≡ S.said site.old }
     ensures same_site { S.same_site site.old site.new }
