@@ -1,3 +1,5 @@
+pub mod Compiled
 pub mod Judgements
 pub mod Taken
 pub mod Words
+pub mod WholeInput

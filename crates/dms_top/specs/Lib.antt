@@ -1,3 +1,4 @@
+pub mod Compiling
 pub mod Judged
 pub mod Judging
 pub mod Schema

@@ -1,7 +1,7 @@
 -- The words of the command line, and how far a command came.
 use Rattle.std.specs.Prelude.{◌≡◌, ℕ, List, [], ◌∷◌, codes, ⊤}
 use Rattle.dms_top.specs.declared.status.Status.{Status}
-use Rattle.dms_top.specs.declared.status.Status.TheVariants.{Ok, BadWords, SchemaRefused, InputFault, Memory, Limit, SayFault, DiskFault}
+use Rattle.dms_top.specs.declared.status.Status.TheVariants.{Ok, BadWords, SchemaRefused, InputFault, Memory, Limit, SayFault, DiskFault, Exists}
 
 -- the one form that is built: the word `try`
 abbrev pub IsTry : List (List ℕ) → Type 0
@@ -17,3 +17,4 @@ IsPast Memory = ⊥
 IsPast (Limit l) = ⊤
 IsPast SayFault = ⊤
 IsPast DiskFault = ⊤
+IsPast Exists = ⊤
