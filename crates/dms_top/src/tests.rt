@@ -16,21 +16,21 @@ const SEALED: [u8; 68] = [
 ];
 
 /// What an earlier `compile` may have left: the gate is closed.
-const LEFT_OPEN: &[u8] = b"\x00\x00\x00\x00\x00\x3eDMSS";
+const UNSEALED: &[u8] = b"\x00\x00\x00\x00\x00\x3eDMSS";
 
 /// Whether a file has an open gate and the length that it says.
 fn looks_sealed(file: &[u8]) -> bool {
     if file.len() < 6 {
         return false;
     }
-    file[0] == 1 && &file[2..6] == ((file.len() - 6) as u32).to_be_bytes().as_slice()
+    file[0] == 1 && &file[2..6] == &((file.len() - 6) as u64).to_be_bytes()[4..]
 }
 
 #[test]
 fn a_stop_leaves_no_half_description(rt: HostRuntime) -> Result<(), Fail> {
     let alloc = rt.alloc();
     let mut site = MemSite::new(alloc, Vec::new(alloc), None).expect(&rt, "memory");
-    site.overwrite(alloc, 1, LEFT_OPEN).expect(&rt, "memory");
+    site.overwrite(alloc, 1, UNSEALED).expect(&rt, "memory");
     let mut source = MemSource::new(Vec::from_slice(alloc, SCHEMA)?, Vec::new(alloc), 512);
     assert_eq!(rt; compile_input(alloc, &mut site, &mut source), Status::Ok);
     assert_eq!(rt; site.said(), b"COMPILED 2 STRUCTURES\n".as_slice());
@@ -54,7 +54,7 @@ fn no_call_follows_a_fault(rt: HostRuntime) -> Result<(), Fail> {
     let alloc = rt.alloc();
     for call in 1..13u64 {
         let mut site = MemSite::new(alloc, vec![in alloc; call]?, None).expect(&rt, "memory");
-        site.overwrite(alloc, 1, LEFT_OPEN).expect(&rt, "memory");
+        site.overwrite(alloc, 1, UNSEALED).expect(&rt, "memory");
         let mut source = MemSource::new(Vec::from_slice(alloc, SCHEMA)?, Vec::new(alloc), 512);
         let status = compile_input(alloc, &mut site, &mut source);
         let wanted = if call == 12 {

@@ -15,7 +15,7 @@ returns-in-Ok-write_file-clause-written g c tells =
 pub returns-in-Ok-write_file-clause-moments : goal.returns-in-Ok-write_file-clause-moments
 returns-in-Ok-write_file-clause-moments g c tells =
     subst (λ (l : List ℕ). Steps (OnDisk 1 (Becoming l)) (g.S.Site.clock c.args.site.now) (g.S.Site.clock c.write_file.new.site))
-        (file_is c.args.bytes.now c.as_slice.result.now (c.as_slice.ensures ∙ c.in-Ok.ensures)) (c.write_file.ensures.moments tells)
+    (file_is c.args.bytes.now c.as_slice.result.now (c.as_slice.ensures ∙ c.in-Ok.ensures)) (c.write_file.ensures.moments tells)
 
 pub returns-in-Ok-write_file-clause-creates : goal.returns-in-Ok-write_file-clause-creates
 returns-in-Ok-write_file-clause-creates g c tells = creates _ (returns-in-Ok-write_file-clause-moments g c tells)
@@ -23,7 +23,7 @@ returns-in-Ok-write_file-clause-creates g c tells = creates _ (returns-in-Ok-wri
 pub returns-clause-moments : goal.returns-clause-moments
 returns-clause-moments g c tells =
     subst (λ (l : List ℕ). Steps (OnDisk 1 (Becoming l)) (g.S.Site.clock c.args.site.now) (g.S.Site.clock c.write_file.new.site))
-        (file_is c.args.bytes.now c.as_slice.result.now (c.as_slice.ensures ∙ c.in-Ok.ensures)) (c.write_file.ensures.moments tells)
+    (file_is c.args.bytes.now c.as_slice.result.now (c.as_slice.ensures ∙ c.in-Ok.ensures)) (c.write_file.ensures.moments tells)
 
 pub returns-clause-creates : goal.returns-clause-creates
 returns-clause-creates g c tells = creates _ (returns-clause-moments g c tells)

@@ -1,8 +1,7 @@
-use Rattle.std.proofs.Common.{◌∙◌, ap, ℕ, List, [], ◌∷◌}
+use Rattle.std.proofs.Common.{◌∙◌, ap}
 use Rattle.std.proofs.lemmas.Result.{on_ok_weaker}
 use Rattle.dms_block.specs.MomentLaws.{steps_weaken}
-use Rattle.dms_site.specs.Files.{Files, overlaid}
-use Rattle.dms_site.specs.Laws.{with_file_here}
+use Rattle.dms_site.specs.Files.{Files}
 use Rattle.dms_descfile.proofs.Created.{cut_becomes, shuts_becomes, becoming_on, gate_becomes, gate_written}
 use Rattle.dms_descfile.proofs.writing.write_file.Goals as goal
 
@@ -16,8 +15,7 @@ returns-in_err-fill_file-clause-moments g c tells =
 
 pub returns-clause-written : goal.returns-clause-written
 returns-clause-written g c =
-    on_ok_weaker c.write_synced.result (λ written tells.
-    ap (λ (l : Files). l 1) (written tells) ∙ with_file_here _ 1 _ ∙ ap (λ (l : List ℕ). overlaid 0 (1 ∷ []) l) (c.in_ok-fill_file.ensures.filled tells) ∙ gate_written c.args.rest.now) c.write_synced.ensures.written
+    on_ok_weaker c.write_synced.result (λ written tells. gate_written _ _ c.args.rest.now (written tells) (c.in_ok-fill_file.ensures.filled tells)) c.write_synced.ensures.written
 
 pub returns-clause-moments : goal.returns-clause-moments
 returns-clause-moments g c tells =
