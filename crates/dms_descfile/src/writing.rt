@@ -12,7 +12,7 @@ use dms_base::{Bytes, Memory};
 use dms_site::{Failed, Site, cut_synced, write_synced};
 use std::alloc::Global;
 
-/// Makes all stable that is pending, and then cuts the description file to nothing.
+/// Cuts the description file to nothing.
 fn empty_file<S: Site>(site: &mut S) -> Result<(), Failed>
     ensures emptied { OnOk result (IsTrue S.tells → S.files site.new 1 ≡ []) }
     ensures others { IsTrue S.tells → (g : ℕ) → g ≢ 1 → S.files site.new g ≡ S.files site.old g }
@@ -23,7 +23,6 @@ fn empty_file<S: Site>(site: &mut S) -> Result<(), Failed>
     ensures faults { HasCause (S.disk_faults site.old) (S.disk_faults site.new) result }
     ensures say_faults { S.say_faults site.new ≡ S.say_faults site.old }
 {
-    site.sync()?;
     cut_synced(site, DESCRIPTION_FILE, 0)
 }
 
@@ -62,6 +61,23 @@ fn write_file<S: Site>(site: &mut S, rest: &[u8]) -> Result<(), Failed>
     write_synced(site, DESCRIPTION_FILE, 0, &[1])
 }
 
+/// Makes all stable that is pending, and then writes the description file.
+fn write_stable<S: Site>(site: &mut S, rest: &[u8]) -> Result<(), Failed>
+    requires { length rest.now < 2 ^ 32 }
+    ensures written { OnOk result (IsTrue S.tells → S.files site.new 1 ≡ 1 ∷ 0 ∷ rest.now) }
+    ensures others { IsTrue S.tells → (g : ℕ) → g ≢ 1 → S.files site.new g ≡ S.files site.old g }
+    ensures durable { OnOk result (IsTrue S.tells → Only (S.files site.new) (S.clock site.new)) }
+    ensures moments { IsTrue S.tells → Steps (OnDisk 1 (Becoming (1 ∷ 0 ∷ rest.now))) (S.clock site.old) (S.clock site.new) }
+    ensures creates { IsTrue S.tells → Creates (1 ∷ 0 ∷ rest.now) (S.files site.old) (S.clock site.old) (S.clock site.new) }
+    ensures said { S.said site.new ≡ S.said site.old }
+    ensures same_site { S.same_site site.old site.new }
+    ensures faults { HasCause (S.disk_faults site.old) (S.disk_faults site.new) result }
+    ensures say_faults { S.say_faults site.new ≡ S.say_faults site.old }
+{
+    site.sync()?;
+    write_file(site, rest)
+}
+
 /// What stands behind the gates: the length of the description, and its bytes.
 fn behind_gates(alloc: Global, bytes: &[u8]) -> Result<Bytes, Memory>
     requires { length bytes.now ≤ 65535 }
@@ -75,7 +91,7 @@ fn behind_gates(alloc: Global, bytes: &[u8]) -> Result<Bytes, Memory>
 /// Writes the description file with these bytes of a description, and seals it. The database's gate is closed behind it.
 ///
 /// All that is pending is made stable first. A stop at any moment leaves what a stop at entry could leave, or there the
-/// description file is no sealed description, or exactly the new one; the other files and the text stay. After the first call of
+/// description file is no sealed description, or exactly the new one, and the other files are as a read gives them. After the first call of
 /// the site that fails no other is made. Answers Disk where a call of the site failed, and Memory, before the first call.
 pub fn seal_description<S: Site>(alloc: Global, site: &mut S, bytes: &[u8]) -> Result<(), FileFault>
     requires { length bytes.now ≤ 65535 }
@@ -83,7 +99,7 @@ pub fn seal_description<S: Site>(alloc: Global, site: &mut S, bytes: &[u8]) -> R
     ensures others { IsTrue S.tells → (g : ℕ) → g ≢ 1 → S.files site.new g ≡ S.files site.old g }
     ensures durable { OnOk result (IsTrue S.tells → Only (S.files site.new) (S.clock site.new)) }
     ensures moments { IsTrue S.tells → Steps (OnDisk 1 (Becoming (description_file 1 0 bytes.now))) (S.clock site.old) (S.clock site.new) }
-    ensures creates { IsTrue S.tells → Creates (description_file 1 0 bytes.now) (S.clock site.old) (S.clock site.new) }
+    ensures creates { IsTrue S.tells → Creates (description_file 1 0 bytes.now) (S.files site.old) (S.clock site.old) (S.clock site.new) }
     ensures memory { IsErrOf result FileFault.Memory → site.new ≡ site.old }
     ensures said { S.said site.new ≡ S.said site.old }
     ensures same_site { S.same_site site.old site.new }
@@ -95,7 +111,7 @@ pub fn seal_description<S: Site>(alloc: Global, site: &mut S, bytes: &[u8]) -> R
         Ok(rest) => rest,
         Err(_) => return Err(FileFault::Memory),
     };
-    match write_file(site, rest.as_slice()) {
+    match write_stable(site, rest.as_slice()) {
         Ok(()) => Ok(()),
         Err(_) => Err(FileFault::Disk),
     }

@@ -66,7 +66,7 @@ fn seal_and_say<S: Site>(alloc: Global, site: &mut S, bytes: &[u8], line: &[u8])
     ensures others { IsTrue S.tells → (g : ℕ) → g ≢ 1 → S.files site.new g ≡ S.files site.old g }
     ensures before { IsBefore result → IsTrue S.tells → S.files site.new ≡ S.files site.old }
     ensures says { IsTrue S.tells_said → Says result line.now (S.said site.old) (S.said site.new) }
-    ensures creates { IsTrue S.tells → Creates (description_file 1 0 bytes.now) (S.clock site.old) (S.clock site.new) }
+    ensures creates { IsTrue S.tells → Creates (description_file 1 0 bytes.now) (S.files site.old) (S.clock site.old) (S.clock site.new) }
     ensures same_site { S.same_site site.old site.new }
     ensures disk_later { S.disk_faults site.old ≤ S.disk_faults site.new }
     ensures say_later { S.say_faults site.old ≤ S.say_faults site.new }
@@ -93,7 +93,7 @@ fn create<S: Site>(alloc: Global, site: &mut S, desc: &Description) -> Status
     ensures others { IsTrue S.tells → (g : ℕ) → g ≢ 1 → S.files site.new g ≡ S.files site.old g }
     ensures before { IsBefore result → IsTrue S.tells → S.files site.new ≡ S.files site.old }
     ensures says { IsTrue S.tells_said → Says result (compiled_text (length desc.now.structures)) (S.said site.old) (S.said site.new) }
-    ensures creates { IsTrue S.tells → Creates (sealed_file (described desc.now)) (S.clock site.old) (S.clock site.new) }
+    ensures creates { IsTrue S.tells → Creates (sealed_file (described desc.now)) (S.files site.old) (S.clock site.old) (S.clock site.new) }
     ensures same_site { S.same_site site.old site.new }
     ensures disk_later { S.disk_faults site.old ≤ S.disk_faults site.new }
     ensures say_later { S.say_faults site.old ≤ S.say_faults site.new }
@@ -128,7 +128,7 @@ pub fn compile_input<S: Site, I: Source>(alloc: Global, site: &mut S, input: &mu
     ensures before { IsBefore result → IsTrue S.tells → S.files site.new ≡ S.files site.old }
     ensures says { IsTrue S.tells_said → (all : List ℕ) (d : Described) → I.left input.old ≡ Some all → judged all ≡ Ok d → Says result (compiled_text (length d.structures)) (S.said site.old) (S.said site.new) }
     ensures silent { IsTrue S.tells_said → (IsSpoken result → ⊥) → S.said site.new ≡ S.said site.old }
-    ensures creates { IsTrue S.tells → (all : List ℕ) (d : Described) → I.left input.old ≡ Some all → judged all ≡ Ok d → Creates (sealed_file d) (S.clock site.old) (S.clock site.new) }
+    ensures creates { IsTrue S.tells → (all : List ℕ) (d : Described) → I.left input.old ≡ Some all → judged all ≡ Ok d → Creates (sealed_file d) (S.files site.old) (S.clock site.old) (S.clock site.new) }
     ensures same_site { S.same_site site.old site.new }
     ensures same_source { I.same_source input.old input.new }
     ensures disk_later { S.disk_faults site.old ≤ S.disk_faults site.new }

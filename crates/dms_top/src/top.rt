@@ -92,7 +92,7 @@ pub fn dms<S: Site, I: Source>(
     ensures compile_says { IsCompile (map string_bytes words.now) → IsTrue S.tells_said → (all : List ℕ) (d : Described) → I.left input.old ≡ Some all → judged all ≡ Ok d → Says result (compiled_text (length d.structures)) (S.said site.old) (S.said site.new) }
     ensures compile_silent { IsCompile (map string_bytes words.now) → IsTrue S.tells_said → (IsSpoken result → ⊥) → S.said site.new ≡ S.said site.old }
     ensures compile_say_later { IsCompile (map string_bytes words.now) → S.say_faults site.old ≤ S.say_faults site.new }
-    ensures creation_at_every_moment { IsCompile (map string_bytes words.now) → IsTrue S.tells → (all : List ℕ) (d : Described) → I.left input.old ≡ Some all → judged all ≡ Ok d → AtEachMoment (S.clock site.old) (S.clock site.new) (IsCreated (sealed_file d)) }
+    ensures creation_at_every_moment { IsCompile (map string_bytes words.now) → IsTrue S.tells → (all : List ℕ) (d : Described) → I.left input.old ≡ Some all → judged all ≡ Ok d → AtEachMoment (S.clock site.old) (S.clock site.new) (IsCreated (sealed_file d) (S.files site.old)) }
     ensures creation_at_ok { IsCompile (map string_bytes words.now) → IsSpoken result → IsTrue S.tells → (all : List ℕ) (d : Described) → I.left input.old ≡ Some all → judged all ≡ Ok d → S.files site.new 1 ≡ sealed_file d }
 {
     if is_try(words) {
