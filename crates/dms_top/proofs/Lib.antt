@@ -1,4 +1,3 @@
-pub mod Compiled
 pub mod Judgements
 pub mod Taken
 pub mod Words

@@ -1,5 +1,5 @@
 -- Taking a whole input byte by byte.
-use Rattle.std.proofs.Common.{◌≡◌, ◌≤◌, ◌<◌, ◌+◌, ◌∙◌, ap, sym, refl, subst, arith, ℕ, List, [], ◌∷◌, ◌++◌, length, drop, Some, None, Option, append-nil, append_assoc, length-append, slice_get}
+use Rattle.std.proofs.Common.{◌≡◌, ◌<◌, ◌+◌, ◌∙◌, ap, sym, refl, subst, arith, ℕ, List, [], ◌∷◌, ◌++◌, length, drop, Some, None, Option, append-nil, append_assoc, length-append, slice_get}
 use Rattle.dms_feed.specs.Feeds.{Remains}
 use Rattle.dms_top.proofs.Judgements.{no_more, at_start}
 

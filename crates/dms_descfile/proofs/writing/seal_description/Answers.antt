@@ -20,7 +20,7 @@ returns-in-Ok-write_stable-clause-moments g c tells =
 pub returns-in-Ok-write_stable-clause-creates : goal.returns-in-Ok-write_stable-clause-creates
 returns-in-Ok-write_stable-clause-creates g c tells =
     subst (λ (l : List ℕ). Creates l (g.S.Site.files c.args.site.now) (g.S.Site.clock c.args.site.now) (g.S.Site.clock c.write_stable.new.site))
-        (file_is c.args.bytes.now c.as_slice.result.now (c.as_slice.ensures ∙ c.in-Ok.ensures)) (c.write_stable.ensures.creates tells)
+    (file_is c.args.bytes.now c.as_slice.result.now (c.as_slice.ensures ∙ c.in-Ok.ensures)) (c.write_stable.ensures.creates tells)
 
 pub returns-clause-moments : goal.returns-clause-moments
 returns-clause-moments g c tells =
@@ -30,4 +30,4 @@ returns-clause-moments g c tells =
 pub returns-clause-creates : goal.returns-clause-creates
 returns-clause-creates g c tells =
     subst (λ (l : List ℕ). Creates l (g.S.Site.files c.args.site.now) (g.S.Site.clock c.args.site.now) (g.S.Site.clock c.write_stable.new.site))
-        (file_is c.args.bytes.now c.as_slice.result.now (c.as_slice.ensures ∙ c.in-Ok.ensures)) (c.write_stable.ensures.creates tells)
+    (file_is c.args.bytes.now c.as_slice.result.now (c.as_slice.ensures ∙ c.in-Ok.ensures)) (c.write_stable.ensures.creates tells)
