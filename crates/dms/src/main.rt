@@ -12,9 +12,12 @@ use texts::{code_of, fault_line};
 
 /// What `--help` prints.
 const HELP: &str = "usage: dms try
+       dms compile
 
 try        reads the text of a schema, a line SCRIPT and the lines of a script from standard input, and prints what the
            lines answer over a database in memory that begins empty; no file is touched
+compile    reads the text of a schema from standard input to its end, and writes its description to the file F00001.DMS of
+           the current folder, where no description is yet
 
 --help     prints this
 --version  prints the version

@@ -19,6 +19,7 @@ pub fn code_of(status: Status) -> u8
         Status::Memory => 7,
         Status::Limit(_) => 8,
         Status::SayFault => 10,
+        Status::Exists => 11,
     }
 }
 
@@ -57,5 +58,6 @@ pub fn fault_line(alloc: Global, status: Status) -> Result<String, AllocError> {
         Status::Limit(LimitKind::Bytes) => format!(in alloc; "too many bytes"),
         Status::Limit(LimitKind::Held) => format!(in alloc; "too many held lines"),
         Status::SayFault => format!(in alloc; "output fault"),
+        Status::Exists => format!(in alloc; "exists already"),
     }
 }

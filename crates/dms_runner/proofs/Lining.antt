@@ -1,7 +1,7 @@
 -- What one line says and leaves.
-use Rattle.std.proofs.Common.{◌≡◌, ◌+◌, ◌-◌, ◌<◌, ◌≤◌, ◌^◌, ℕ, zero, suc, List, [], ◌∷◌, ◌++◌, Bool, true, false, not, cond, nat_le, nat_lt, refl, sym, ap, ◌∙◌, subst, arith, append_assoc, length, length-append, take, length-take, min}
+use Rattle.std.proofs.Common.{◌≡◌, ◌+◌, ◌<◌, ◌≤◌, ℕ, List, [], ◌∷◌, ◌++◌, Bool, true, false, cond, nat_le, nat_lt, refl, sym, ap, ◌∙◌, subst, arith, length, length-append, take, length-take}
 use Rattle.std.specs.declared.option.Option.{Option}
-use Rattle.std.proofs.lemmas.List.{append-nil, take_all}
+use Rattle.std.proofs.lemmas.List.{take_all}
 use Rattle.std.proofs.lemmas.Bool.Decides.{nat_tests}
 use Rattle.dms_desc.specs.Shape.{Described}
 use Rattle.dms_feed.specs.Lines.{is_end, line_text}
@@ -13,13 +13,12 @@ use Rattle.dms_model.proofs.Rises.{step_small}
 use Rattle.dms_script.specs.declared.line.Line.{Line}
 use Rattle.dms_script.specs.declared.line.Line.TheVariants.{Empty, Verb as Spoken, Bad}
 use Rattle.dms_script.specs.Lines.{line_of}
-use Rattle.dms_script.specs.Replies.{bad_text}
-use Rattle.dms_storeverbs.specs.View.{View, Stands, Room}
+use Rattle.dms_storeverbs.specs.View.{View, Stands}
 use Rattle.dms_runner.specs.declared.held.Held.{Held}
-use Rattle.dms_runner.specs.Held.{has_line, answer_text, Walk, walks, saying}
-use Rattle.dms_runner.specs.Answers.{Going, Lined, Roomy, going_on, walked, held_on, first_line, tried, spoken, counted, line_step}
+use Rattle.dms_runner.specs.Held.{has_line, answer_text, walks, saying}
+use Rattle.dms_runner.specs.Answers.{Going, Lined, going_on, walked, held_on, first_line, tried, spoken, counted, line_step}
 use Rattle.dms_runner.specs.Trying.{Walks, GoesOn}
-use Rattle.dms_runner.proofs.Texts.{prints_none, prints_on, front_on, front_of_first, front_none, front_all}
+use Rattle.dms_runner.proofs.Texts.{prints_none, prints_on}
 use Rattle.dms_runner.proofs.Turns.{walks_low}
 
 -- the number of the next quiet point and the held lines grow by one at most, taken together; the count of lines stays

@@ -1,8 +1,7 @@
 -- One walk over the held lines, turn by turn.
-use Rattle.std.proofs.Common.{◌≡◌, ◌+◌, ◌<◌, ◌≤◌, ℕ, zero, suc, List, [], ◌∷◌, ◌++◌, Bool, true, false, cond, not, ◌&&◌, Some, None, refl, sym, ap, ◌∙◌, subst, arith, append_assoc, length, take, drop, get_or, set}
+use Rattle.std.proofs.Common.{◌≡◌, ◌+◌, ◌<◌, ◌≤◌, ℕ, zero, suc, List, [], ◌∷◌, ◌++◌, Bool, true, false, cond, not, Some, None, refl, sym, ap, ◌∙◌, subst, arith, append_assoc, length, take, drop}
 use Rattle.std.specs.Prelude.{slice_get, slice_set}
 use Rattle.std.specs.declared.option.Option.{Option}
-use Rattle.std.specs.List.{remove}
 use Rattle.std.proofs.lemmas.List.{append-nil, take_more, take_more_set, drop_more, drop-set-lt, take_all, drop_all}
 use Rattle.std.proofs.lemmas.Option.{slice_get_within, get_or_from_slice_get}
 use Rattle.dms_desc.specs.Shape.{Described}
@@ -11,10 +10,10 @@ use Rattle.dms_storeverbs.specs.View.{View, Stands}
 use Rattle.dms_model.specs.Session.{Session, Outcome, step, is_waits}
 use Rattle.dms_model.proofs.Rises.{step_small}
 use Rattle.dms_runner.specs.declared.held.Held.{Held}
-use Rattle.dms_runner.proofs.Texts.{prints_none, prints_on, prints_same, front_on, front_of_first}
-use Rattle.dms_runner.specs.Trying.{Tries, Passes, FoundIs}
+use Rattle.dms_runner.proofs.Texts.{prints_none, prints_on, front_on, front_of_first}
+use Rattle.dms_runner.specs.Trying.{Tries, Passes}
 use Rattle.dms_model.specs.Points.{PrintsFront}
-use Rattle.dms_runner.specs.Held.{has_line, tried_text, waiting, Walk, saying, answered_at, walk, again, walks}
+use Rattle.dms_runner.specs.Held.{has_line, tried_text, waiting, Walk, saying, answered_at, walk, walks}
 
 second : (b c : Bool) (x y z : Walk) → b ≡ false → c ≡ true → cond b x (cond c y z) ≡ y
 second b c x y z p q = rw (p, q) refl

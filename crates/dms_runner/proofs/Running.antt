@@ -1,19 +1,18 @@
 -- How a run goes on from line to line, and where it stops.
-use Rattle.std.proofs.Common.{◌≡◌, ◌≢◌, ◌+◌, ◌-◌, ◌<◌, ◌≤◌, ◌^◌, ℕ, zero, suc, List, [], ◌∷◌, ◌++◌, Bool, true, false, cond, eqb, refl, sym, ap, ◌∙◌, subst, arith, append_assoc, length, length-append, take}
+use Rattle.std.proofs.Common.{◌≡◌, ◌≢◌, ◌+◌, ◌<◌, ◌≤◌, ◌^◌, ℕ, List, [], ◌∷◌, ◌++◌, Bool, true, false, cond, eqb, refl, sym, ap, ◌∙◌, subst, arith, append_assoc, length, length-append, take}
 use Rattle.std.specs.declared.option.Option.{Option}
-use Rattle.std.proofs.lemmas.List.{append-nil, take_at, take_all}
+use Rattle.std.proofs.lemmas.List.{append-nil, take_at}
 use Rattle.dms_desc.specs.Shape.{Described}
 use Rattle.dms_feed.specs.Feeds.{Remains}
 use Rattle.dms_feed.specs.Lines.{raw_lines, first_line, after_line, onto_first}
 use Rattle.dms_model.specs.Db.{Db}
-use Rattle.dms_model.specs.Points.{Quiet, Prints, PrintsFront}
+use Rattle.dms_model.specs.Points.{Prints, PrintsFront}
 use Rattle.dms_model.specs.Session.{Session}
 use Rattle.dms_storeverbs.specs.View.{View, Stands}
 use Rattle.dms_runner.specs.declared.held.Held.{Held}
 use Rattle.dms_runner.specs.Answers.{Going, Lined, Roomy, going_on, line_step, lines_run, onto, begun, script_run, unanswered, answers_text}
-use Rattle.dms_runner.specs.Trying.{GoesOn}
 use Rattle.dms_runner.specs.Running.{bytes_of, TookLine, Answered, Took, PassesLines, PassesBytes, PassesHeld}
-use Rattle.dms_runner.proofs.Texts.{prints_none, prints_on, front_on, front_of_first, front_all}
+use Rattle.dms_runner.proofs.Texts.{prints_none, prints_on, front_on, front_of_first}
 use Rattle.dms_runner.proofs.Lining.{line_low}
 
 -- Lines of a text

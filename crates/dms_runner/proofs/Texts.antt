@@ -1,10 +1,9 @@
 -- Told text that grows, one text behind another.
-use Rattle.std.proofs.Common.{◌≡◌, ◌+◌, ◌≤◌, ℕ, List, [], ◌∷◌, ◌++◌, Some, None, refl, sym, ap, ◌∙◌, subst, arith, append_assoc, length, take, drop, Bool, true, false, nat_le}
+use Rattle.std.proofs.Common.{◌≡◌, ◌+◌, ◌≤◌, ℕ, List, [], ◌++◌, Some, refl, sym, ap, ◌∙◌, arith, append_assoc, length, take, Bool, true, false, nat_le}
 use Rattle.std.proofs.Math.Seq.{take-append-add}
 use Rattle.std.proofs.lemmas.Bool.Decides.{nat_tests}
 use Rattle.std.specs.declared.option.Option.{Option}
-use Rattle.std.proofs.lemmas.List.{append-nil, take_at, take-append-drop, take-append-le, take_all}
-use Rattle.std.proofs.lemmas.Option.{same_Some}
+use Rattle.std.proofs.lemmas.List.{append-nil, take-append-le, take_all}
 use Rattle.dms_model.specs.Points.{Prints, PrintsFront}
 
 pub prints_none : (a b : Option (List ℕ)) → b ≡ a → Prints a b []

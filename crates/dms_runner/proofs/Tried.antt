@@ -1,5 +1,5 @@
 -- What a try says.
-use Rattle.std.proofs.Common.{◌≡◌, ℕ, List, ap, ◌∙◌}
+use Rattle.std.proofs.Common.{◌≡◌, ℕ, ap, ◌∙◌}
 use Rattle.std.specs.declared.option.Option.{Option}
 use Rattle.dms_model.specs.declared.reply.Reply.{Reply}
 use Rattle.dms_model.specs.Session.{Outcome}

@@ -1,16 +1,16 @@
 -- The walks over the held lines, one after another.
-use Rattle.std.proofs.Common.{◌≡◌, ◌+◌, ◌<◌, ◌≤◌, ◌^◌, ℕ, zero, suc, List, [], ◌∷◌, ◌++◌, Bool, true, false, cond, Some, None, refl, sym, ap, ◌∙◌, subst, arith, append_assoc, length, length-append, take, drop}
+use Rattle.std.proofs.Common.{◌≡◌, ◌+◌, ◌<◌, ◌≤◌, ◌^◌, ℕ, zero, suc, List, [], ◌∷◌, ◌++◌, Bool, true, false, Some, None, refl, sym, ap, ◌∙◌, subst, arith, length, length-append, take, drop}
 use Rattle.std.specs.declared.option.Option.{Option}
 use Rattle.std.specs.List.{remove}
 use Rattle.std.proofs.lemmas.List.{append-nil, take_at}
 use Rattle.dms_desc.specs.Shape.{Described}
 use Rattle.dms_model.specs.Points.{Quiet, Prints, PrintsFront}
 use Rattle.dms_storeverbs.specs.View.{View, Stands, Room}
-use Rattle.dms_model.specs.Session.{Session, Outcome, step, is_waits}
+use Rattle.dms_model.specs.Session.{Session, step, is_waits}
 use Rattle.dms_model.proofs.Rises.{step_small}
 use Rattle.dms_runner.specs.declared.held.Held.{Held}
-use Rattle.dms_runner.specs.Held.{has_line, tried_text, waiting, Walk, saying, answered_at, walk, again, walks}
-use Rattle.dms_runner.specs.Trying.{Passes, FoundIs, Walks}
+use Rattle.dms_runner.specs.Held.{has_line, waiting, Walk, saying, walk, walks}
+use Rattle.dms_runner.specs.Trying.{Passes, Walks}
 use Rattle.dms_runner.proofs.Texts.{prints_none, prints_on, front_on, front_of_first}
 use Rattle.dms_runner.proofs.Passes.{walk_skips, walk_waits, walk_answers, walk_ends, walks_again, walks_end, saying_on}
 

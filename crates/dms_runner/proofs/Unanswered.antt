@@ -1,5 +1,5 @@
 -- The lines that are still held at the end, one after another.
-use Rattle.std.proofs.Common.{◌≡◌, ◌+◌, ◌<◌, ℕ, List, [], ◌∷◌, ◌++◌, Some, refl, sym, ap, ◌∙◌, arith, append_assoc, length, take, drop, get_or}
+use Rattle.std.proofs.Common.{◌≡◌, ◌+◌, ◌<◌, ℕ, List, [], ◌∷◌, ◌++◌, refl, sym, ap, ◌∙◌, append_assoc, length, take, drop, get_or}
 use Rattle.std.proofs.lemmas.List.{append-nil, take_more, drop_more, take-append-drop}
 use Rattle.dms_script.specs.Replies.{unanswered_text}
 use Rattle.dms_runner.specs.declared.held.Held.{Held}

@@ -1,8 +1,8 @@
 -- What the tries of held lines leave.
-use Rattle.std.specs.Prelude.{◌≡◌, ◌<◌, ◌≤◌, ◌+◌, ℕ, List, Bool, true, false, not, Some, None, length, remove, []}
+use Rattle.std.specs.Prelude.{◌≡◌, ◌<◌, ℕ, List, Bool, true, false, not, Some, None, length, remove}
 use Rattle.std.specs.declared.option.Option.{Option}
 use Rattle.dms_model.specs.Points.{Prints}
-use Rattle.dms_model.specs.Session.{Session, Outcome, is_waits}
+use Rattle.dms_model.specs.Session.{Outcome, is_waits}
 use Rattle.dms_storeverbs.specs.View.{View, Stands}
 use Rattle.dms_runner.specs.declared.held.Held.{Held}
 use Rattle.dms_runner.specs.Held.{Walk, tried_text}

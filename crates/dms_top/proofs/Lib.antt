@@ -2,3 +2,4 @@ pub mod Judgements
 pub mod Printing
 pub mod Taken
 pub mod Words
+pub mod WholeInput

@@ -1,4 +1,5 @@
 pub mod Answering
+pub mod Compiling
 pub mod Judged
 pub mod Judging
 pub mod Schema

@@ -1,11 +1,19 @@
 -- The words of the command line, and how far a command came.
-use Rattle.std.specs.Prelude.{◌≡◌, ℕ, List, [], ◌∷◌, codes, ⊤}
+use Rattle.std.specs.Prelude.{◌≡◌, ◌⊎◌, ℕ, List, [], ◌∷◌, codes, ⊤}
 use Rattle.dms_top.specs.declared.status.Status.{Status}
-use Rattle.dms_top.specs.declared.status.Status.TheVariants.{Ok, BadWords, SchemaRefused, InputFault, Memory, Limit, SayFault, DiskFault}
+use Rattle.dms_top.specs.declared.status.Status.TheVariants.{Ok, BadWords, SchemaRefused, InputFault, Memory, Limit, SayFault, DiskFault, Exists}
 
--- the one form that is built: the word `try`
+-- the word `try`
 abbrev pub IsTry : List (List ℕ) → Type 0
 IsTry words = words ≡ codes "try" ∷ []
+
+-- the word `compile`
+abbrev pub IsCompile : List (List ℕ) → Type 0
+IsCompile words = words ≡ codes "compile" ∷ []
+
+-- the forms that are built
+abbrev pub IsCommand : List (List ℕ) → Type 0
+IsCommand words = IsTry words ⊎ IsCompile words
 
 -- the statuses that come only where the schema was taken
 abbrev pub IsPast : Status → Type 0
@@ -17,6 +25,7 @@ IsPast Memory = ⊥
 IsPast (Limit l) = ⊤
 IsPast SayFault = ⊤
 IsPast DiskFault = ⊤
+IsPast Exists = ⊤
 
 -- the statuses that come before anything is printed
 abbrev pub IsSilent : Status → Type 0
@@ -28,3 +37,4 @@ IsSilent Memory = ⊥
 IsSilent (Limit l) = ⊥
 IsSilent SayFault = ⊥
 IsSilent DiskFault = ⊥
+IsSilent Exists = ⊤

@@ -38,4 +38,6 @@ pub enum Status {
     SayFault,
     /// A call on a file failed.
     DiskFault,
+    /// What is to be made is there already.
+    Exists,
 }

@@ -1,13 +1,17 @@
-ghost use Rattle.std.specs.Prelude.{◌≡◌, ◌≤◌, ◌↔◌, [], ℕ, List, Some, Ok, Err, map, string_bytes, IsTrue, IsOk};
+ghost use Rattle.std.specs.Prelude.{◌≡◌, ◌≤◌, ◌≢◌, ◌↔◌, [], ℕ, List, Some, Ok, Err, map, length, string_bytes, IsTrue, IsOk};
 ghost use Rattle.dms_base.specs.Causes.{Rose};
+ghost use Rattle.dms_desc.specs.Shape.{Described};
+ghost use Rattle.dms_descfile.specs.Becoming.{IsCreated};
+ghost use Rattle.dms_descfile.specs.DescriptionFile.{sealed_file, IsSealed, IsUnsealed};
+ghost use Rattle.dms_top.specs.Compiling.{compiled_text, Says, IsSpoken, IsBefore, AtEachMoment};
 ghost use Rattle.dms_top.specs.declared.status.SchemaFault.{SchemaFault as Refusal};
 ghost use Rattle.dms_top.specs.Judging.{judged};
 ghost use Rattle.dms_top.specs.Schema.{schema_text as text_of};
-ghost use Rattle.dms_desc.specs.Shape.{Described};
-ghost use Rattle.dms_top.specs.declared.status.LimitKind.{LimitKind as Kind};
 ghost use Rattle.dms_top.specs.Answering.{Printed, PrintedFront, WithinLimits, Passes, try_text, script_of};
-ghost use Rattle.dms_top.specs.Words.{IsTry, IsPast, IsSilent};
+ghost use Rattle.dms_top.specs.declared.status.LimitKind.{LimitKind as Kind};
+ghost use Rattle.dms_top.specs.Words.{IsTry, IsCompile, IsCommand, IsPast, IsSilent};
 
+use crate::compile_run::compile_input;
 use crate::judge::{Judged, judge};
 use crate::schema::{TextFault, schema_text};
 use crate::status::{SchemaFault, Status};
@@ -23,33 +27,32 @@ fn is_try(words: &[String]) -> bool
     words.len() == 1 && words[0].as_str() == "try"
 }
 
-/// Does what the words say: `try` reads the text of a schema, a line SCRIPT and the lines of a script, and prints what the
-/// lines answer over a database in memory that begins empty. It touches no file.
-pub fn dms<S: Site, I: Source>(
-    alloc: Global,
-    words: &[String],
-    site: &mut S,
-    input: &mut I,
-) -> Status
-    ensures words { result ≡ Status.BadWords ↔ (IsTry (map string_bytes words.now) → ⊥) }
+fn is_compile(words: &[String]) -> bool
+    ensures { IsTrue result ↔ IsCompile (map string_bytes words.now) }
+{
+    words.len() == 1 && words[0].as_str() == "compile"
+}
+
+/// `try`: reads the text of a schema, a line SCRIPT and the lines of a script, and prints what the lines answer over a
+/// database in memory that begins empty. It touches no file.
+fn try_input<S: Site, I: Source>(alloc: Global, site: &mut S, input: &mut I) -> Status
+    ensures words { result ≢ Status.BadWords }
     ensures refused { (f : Refusal) → result ≡ Status.SchemaRefused f → (all : List ℕ) → I.left input.old ≡ Some all → judged (text_of all) ≡ Err f }
     ensures accepted { IsPast result → (all : List ℕ) → I.left input.old ≡ Some all → IsOk (judged (text_of all)) }
     ensures end { result ≡ Status.Ok → (all : List ℕ) → I.left input.old ≡ Some all → I.left input.new ≡ Some [] }
-    ensures answers { result ≡ Status.Ok → IsTrue S.tells_said → (all : List ℕ) → I.left input.old ≡ Some all → Printed (S.said site.old) (S.said site.new) (try_text all) }
-    ensures part { IsTrue S.tells_said → (all : List ℕ) → I.left input.old ≡ Some all → PrintedFront (S.said site.old) (S.said site.new) (try_text all) }
-    ensures silent { IsTrue S.tells_said → IsSilent result → S.said site.new ≡ S.said site.old }
-    ensures within { result ≡ Status.Ok → IsTrue S.tells_said → (all : List ℕ) → I.left input.old ≡ Some all → (d : Described) → judged (text_of all) ≡ Ok d → WithinLimits d (script_of all) }
-    ensures limit { (k : Kind) → result ≡ Status.Limit k → IsTrue S.tells_said → (all : List ℕ) → I.left input.old ≡ Some all → (d : Described) → judged (text_of all) ≡ Ok d → Passes k d (script_of all) (S.said site.old) (S.said site.new) }
     ensures input { result ≡ Status.InputFault → Rose (I.faults input.old) (I.faults input.new) }
     ensures disk { result ≡ Status.DiskFault → Rose (S.disk_faults site.old) (S.disk_faults site.new) }
     ensures say { result ≡ Status.SayFault → Rose (S.say_faults site.old) (S.say_faults site.new) }
     ensures disk_same { S.disk_faults site.new ≡ S.disk_faults site.old }
     ensures files { IsTrue S.tells → S.files site.new ≡ S.files site.old }
+    ensures answers { result ≡ Status.Ok → IsTrue S.tells_said → (all : List ℕ) → I.left input.old ≡ Some all → Printed (S.said site.old) (S.said site.new) (try_text all) }
+    ensures part { IsTrue S.tells_said → (all : List ℕ) → I.left input.old ≡ Some all → PrintedFront (S.said site.old) (S.said site.new) (try_text all) }
+    ensures silent { IsTrue S.tells_said → IsSilent result → S.said site.new ≡ S.said site.old }
+    ensures within { result ≡ Status.Ok → IsTrue S.tells_said → (all : List ℕ) (d : Described) → I.left input.old ≡ Some all → judged (text_of all) ≡ Ok d → WithinLimits d (script_of all) }
+    ensures limit { (k : Kind) → result ≡ Status.Limit k → IsTrue S.tells_said → (all : List ℕ) (d : Described) → I.left input.old ≡ Some all → judged (text_of all) ≡ Ok d → Passes k d (script_of all) (S.said site.old) (S.said site.new) }
+    ensures input_later { I.faults input.old ≤ I.faults input.new }
     ensures same_source { I.same_source input.old input.new }
 {
-    if !is_try(words) {
-        return Status::BadWords;
-    }
     let mut feed = Feed::new();
     let text = match schema_text(alloc, &mut feed, input) {
         Ok(text) => text,
@@ -64,4 +67,51 @@ pub fn dms<S: Site, I: Source>(
         Judged::Refused(fault) => Status::SchemaRefused(fault),
         Judged::Description(desc) => try_lines(alloc, &desc, site, &mut feed, input),
     }
+}
+
+/// Does what the words say: `try` runs a script over a database in memory, and `compile` makes the description file.
+pub fn dms<S: Site, I: Source>(
+    alloc: Global,
+    words: &[String],
+    site: &mut S,
+    input: &mut I,
+) -> Status
+    ensures words { result ≡ Status.BadWords ↔ (IsCommand (map string_bytes words.now) → ⊥) }
+    ensures end { result ≡ Status.Ok → (all : List ℕ) → I.left input.old ≡ Some all → I.left input.new ≡ Some [] }
+    ensures input { result ≡ Status.InputFault → Rose (I.faults input.old) (I.faults input.new) }
+    ensures disk { result ≡ Status.DiskFault → Rose (S.disk_faults site.old) (S.disk_faults site.new) }
+    ensures say { result ≡ Status.SayFault → Rose (S.say_faults site.old) (S.say_faults site.new) }
+    ensures input_later { I.faults input.old ≤ I.faults input.new }
+    ensures disk_later { S.disk_faults site.old ≤ S.disk_faults site.new }
+    ensures before { IsBefore result → IsTrue S.tells → S.files site.new ≡ S.files site.old }
+    ensures others { IsTrue S.tells → (g : ℕ) → g ≢ 1 → S.files site.new g ≡ S.files site.old g }
+    ensures same_source { I.same_source input.old input.new }
+    // `try`
+    ensures refused { IsTry (map string_bytes words.now) → (f : Refusal) → result ≡ Status.SchemaRefused f → (all : List ℕ) → I.left input.old ≡ Some all → judged (text_of all) ≡ Err f }
+    ensures accepted { IsTry (map string_bytes words.now) → IsPast result → (all : List ℕ) → I.left input.old ≡ Some all → IsOk (judged (text_of all)) }
+    ensures disk_same { IsTry (map string_bytes words.now) → S.disk_faults site.new ≡ S.disk_faults site.old }
+    ensures files { IsTry (map string_bytes words.now) → IsTrue S.tells → S.files site.new ≡ S.files site.old }
+    ensures answers { IsTry (map string_bytes words.now) → result ≡ Status.Ok → IsTrue S.tells_said → (all : List ℕ) → I.left input.old ≡ Some all → Printed (S.said site.old) (S.said site.new) (try_text all) }
+    ensures part { IsTry (map string_bytes words.now) → IsTrue S.tells_said → (all : List ℕ) → I.left input.old ≡ Some all → PrintedFront (S.said site.old) (S.said site.new) (try_text all) }
+    ensures silent { IsTry (map string_bytes words.now) → IsTrue S.tells_said → IsSilent result → S.said site.new ≡ S.said site.old }
+    ensures within { IsTry (map string_bytes words.now) → result ≡ Status.Ok → IsTrue S.tells_said → (all : List ℕ) (d : Described) → I.left input.old ≡ Some all → judged (text_of all) ≡ Ok d → WithinLimits d (script_of all) }
+    ensures limit { IsTry (map string_bytes words.now) → (k : Kind) → result ≡ Status.Limit k → IsTrue S.tells_said → (all : List ℕ) (d : Described) → I.left input.old ≡ Some all → judged (text_of all) ≡ Ok d → Passes k d (script_of all) (S.said site.old) (S.said site.new) }
+    // `compile`
+    ensures compile_refused { IsCompile (map string_bytes words.now) → (f : Refusal) → result ≡ Status.SchemaRefused f → (all : List ℕ) → I.left input.old ≡ Some all → judged all ≡ Err f }
+    ensures compile_accepted { IsCompile (map string_bytes words.now) → IsPast result → (all : List ℕ) → I.left input.old ≡ Some all → IsOk (judged all) }
+    ensures compile_exists { IsCompile (map string_bytes words.now) → result ≡ Status.Exists → IsTrue S.tells → (d : Described) × IsSealed (S.files site.old 1) d }
+    ensures compile_unsealed { IsCompile (map string_bytes words.now) → IsSpoken result → IsTrue S.tells → IsUnsealed (S.files site.old 1) }
+    ensures compile_says { IsCompile (map string_bytes words.now) → IsTrue S.tells_said → (all : List ℕ) (d : Described) → I.left input.old ≡ Some all → judged all ≡ Ok d → Says result (compiled_text (length d.structures)) (S.said site.old) (S.said site.new) }
+    ensures compile_silent { IsCompile (map string_bytes words.now) → IsTrue S.tells_said → (IsSpoken result → ⊥) → S.said site.new ≡ S.said site.old }
+    ensures compile_say_later { IsCompile (map string_bytes words.now) → S.say_faults site.old ≤ S.say_faults site.new }
+    ensures creation_at_every_moment { IsCompile (map string_bytes words.now) → IsTrue S.tells → (all : List ℕ) (d : Described) → I.left input.old ≡ Some all → judged all ≡ Ok d → AtEachMoment (S.clock site.old) (S.clock site.new) (IsCreated (sealed_file d) (S.files site.old)) }
+    ensures creation_at_ok { IsCompile (map string_bytes words.now) → IsSpoken result → IsTrue S.tells → (all : List ℕ) (d : Described) → I.left input.old ≡ Some all → judged all ≡ Ok d → S.files site.new 1 ≡ sealed_file d }
+{
+    if is_try(words) {
+        return try_input(alloc, site, input);
+    }
+    if is_compile(words) {
+        return compile_input(alloc, site, input);
+    }
+    Status::BadWords
 }

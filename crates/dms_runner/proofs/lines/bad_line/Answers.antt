@@ -1,9 +1,8 @@
-use Rattle.std.proofs.Common.{◌≡◌, ◌≤◌, ◌<◌, ◌+◌, ◌^◌, ◌∙◌, [], ℕ, List, Bool, true, false, Some, None, refl, sym, ap, subst, arith, length}
+use Rattle.std.proofs.Common.{◌≡◌, ◌∙◌, [], ℕ, List, refl, sym, ap, subst, arith, length}
 use Rattle.dms_desc.specs.Shape.{described}
 use Rattle.dms_model.specs.Points.{Prints, PrintsFront}
 use Rattle.dms_script.specs.Replies.{bad_text}
-use Rattle.dms_runner.specs.Held.{walks}
-use Rattle.dms_runner.proofs.Texts.{front_none, front_all, front_on, front_of_first}
+use Rattle.dms_runner.proofs.Texts.{front_none, front_on, front_of_first}
 use Rattle.dms_runner.proofs.Lining.{goes_walked, walks_from, walks_part_from}
 use Rattle.dms_runner.proofs.lines.bad_line.Goals as goal
 

@@ -1,15 +1,15 @@
-use Rattle.std.proofs.Common.{◌≡◌, ◌≤◌, ◌<◌, ◌+◌, ◌^◌, ◌∙◌, [], ◌∷◌, ◌++◌, ℕ, List, Bool, true, false, not, Some, None, refl, sym, ap, subst, arith, length}
+use Rattle.std.proofs.Common.{◌<◌, ◌∙◌, [], ◌∷◌, ◌++◌, ℕ, List, true, sym, ap, subst, arith, length}
 use Rattle.dms_desc.specs.Shape.{described}
 use Rattle.dms_model.specs.Points.{Prints, PrintsFront}
 use Rattle.dms_model.specs.Session.{step, is_waits}
 use Rattle.dms_model.proofs.Rises.{step_small}
 use Rattle.dms_storeverbs.specs.View.{view}
 use Rattle.dms_runner.specs.declared.held.Held.{Held as HeldLine}
-use Rattle.dms_runner.specs.Held.{walks, answer_text}
-use Rattle.dms_runner.specs.Answers.{Lined, tried, first_line}
+use Rattle.dms_runner.specs.Held.{answer_text}
+use Rattle.dms_runner.specs.Answers.{Lined, first_line}
 use Rattle.dms_runner.specs.Trying.{GoesOn}
 use Rattle.dms_runner.proofs.Texts.{front_none, front_all, front_on, front_of_first, front_before, prints_before}
-use Rattle.dms_runner.proofs.Lining.{goes_walked, walks_from, walks_part_from, goes_held, goes_full, tried_waits, tried_answered, answer_is, held_text}
+use Rattle.dms_runner.proofs.Lining.{goes_walked, walks_from, walks_part_from, goes_held, tried_waits, tried_answered, answer_is, held_text}
 use Rattle.dms_runner.proofs.lines.first_try.Goals as goal
 
 pub returns-in_err-answer-clause-part : goal.returns-in_err-answer-clause-part

@@ -1,4 +1,4 @@
-use Rattle.std.proofs.Common.{◌≡◌, ◌≤◌, ◌<◌, ◌+◌, ◌^◌, ◌∙◌, [], ◌∷◌, ◌++◌, ℕ, List, Bool, true, false, refl, sym, ap, subst, arith, length}
+use Rattle.std.proofs.Common.{◌≡◌, ◌∙◌, [], ◌∷◌, ◌++◌, ℕ, List, true, false, refl, sym, ap, subst, arith, length}
 use Rattle.dms_desc.specs.Shape.{described}
 use Rattle.dms_model.specs.Points.{PrintsFront}
 use Rattle.dms_storeverbs.specs.View.{view, Stands}

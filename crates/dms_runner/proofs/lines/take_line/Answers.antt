@@ -1,17 +1,14 @@
-use Rattle.std.proofs.Common.{◌≡◌, ◌≤◌, ◌<◌, ◌+◌, ◌^◌, ◌∙◌, [], ◌∷◌, ◌++◌, ℕ, List, Bool, true, false, refl, sym, ap, subst, arith, length, take}
+use Rattle.std.proofs.Common.{◌≡◌, ◌+◌, ◌∙◌, ℕ, List, true, refl, sym, ap, subst, take}
 use Rattle.dms_desc.specs.declared.description.Description.{Description}
 use Rattle.dms_desc.specs.Shape.{described}
-use Rattle.dms_feed.specs.Lines.{line_text}
 use Rattle.dms_model.specs.Points.{PrintsFront}
 use Rattle.dms_storeverbs.specs.View.{view, Stands}
-use Rattle.dms_script.specs.declared.line.Line.{Line}
 use Rattle.dms_script.specs.declared.line.Line.TheVariants.{Empty, Verb as Spoken, Bad}
 use Rattle.dms_script.specs.Lines.{line_of}
 use Rattle.dms_runner.specs.Answers.{Going, Lined, Roomy, line_step, spoken, counted}
 use Rattle.dms_runner.specs.Trying.{GoesOn}
 use Rattle.dms_runner.proofs.Always.{then_ok}
-use Rattle.dms_runner.proofs.Texts.{front_none}
-use Rattle.dms_runner.proofs.Lining.{kept_line, goes_empty, line_is}
+use Rattle.dms_runner.proofs.Lining.{goes_empty, line_is}
 use Rattle.dms_runner.proofs.lines.take_line.Goals as goal
 
 pub returns-in-Empty-clause-lined : goal.returns-in-Empty-clause-lined

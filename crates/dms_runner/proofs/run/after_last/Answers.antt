@@ -1,4 +1,4 @@
-use Rattle.std.proofs.Common.{◌≡◌, List, ℕ, [], ap, subst, Err, length, arith}
+use Rattle.std.proofs.Common.{List, ℕ, ap, subst, Err, length, arith}
 use Rattle.dms_feed.specs.Feeds.{Remains}
 use Rattle.dms_feed.specs.Lines.{first_line, after_line}
 use Rattle.dms_runner.proofs.run.after_last.Goals as goal

@@ -1,13 +1,9 @@
-use Rattle.std.proofs.Common.{◌≡◌, ◌≢◌, ◌+◌, ◌<◌, ◌≤◌, ◌∙◌, List, ℕ, [], Ok, Err, true, false, refl, sym, ap, subst, arith, length, take}
+use Rattle.std.proofs.Common.{◌+◌, ◌∙◌, List, ℕ, Err, refl, ap, subst, arith}
 use Rattle.dms_desc.specs.Shape.{described}
 use Rattle.dms_feed.specs.Feeds.{Remains}
-use Rattle.dms_feed.specs.Lines.{after_line, first_line, raw_lines}
-use Rattle.dms_model.specs.Points.{Prints, PrintsFront}
-use Rattle.dms_storeverbs.specs.View.{view, Stands}
-use Rattle.dms_runner.specs.Answers.{Going, lines_run, line_step}
-use Rattle.dms_runner.specs.Trying.{GoesOn}
-use Rattle.dms_runner.specs.Running.{TookLine}
-use Rattle.dms_runner.proofs.Texts.{front_none, front_all, prints_none}
+use Rattle.dms_feed.specs.Lines.{after_line, first_line}
+use Rattle.dms_model.specs.Points.{Prints}
+use Rattle.dms_runner.proofs.Texts.{front_none}
 use Rattle.dms_runner.proofs.Lining.{line_silent}
 use Rattle.dms_runner.proofs.Running.{line_part}
 use Rattle.dms_runner.proofs.run.one_line.Goals as goal

@@ -1,15 +1,12 @@
-use Rattle.std.proofs.Common.{◌≡◌, ◌+◌, ◌<◌, ◌≤◌, ◌^◌, ◌∙◌, ap, refl, sym, subst, Vec, Global, List, ℕ, [], true, false, arith, length}
+use Rattle.std.proofs.Common.{◌+◌, ◌∙◌, ap, refl, sym, subst, Vec, Global, List, arith}
 use Rattle.dms_desc.specs.declared.description.Description.{Description}
 use Rattle.dms_desc.specs.Shape.{described}
-use Rattle.dms_feed.specs.Feeds.{Remains}
 use Rattle.dms_feed.specs.Lines.{raw_lines}
-use Rattle.dms_model.specs.Db.{Db}
 use Rattle.dms_model.specs.Points.{Prints, PrintsFront}
-use Rattle.dms_model.specs.Session.{fresh_session}
-use Rattle.dms_storeverbs.specs.View.{view, Stands}
+use Rattle.dms_storeverbs.specs.View.{view}
 use Rattle.dms_runner.specs.declared.held.Held.{Held}
 use Rattle.dms_runner.specs.Answers.{begun, lines_run, unanswered, answers_text}
-use Rattle.dms_runner.specs.Running.{Answered, PassesBytes, PassesHeld}
+use Rattle.dms_runner.specs.Running.{PassesBytes, PassesHeld}
 use Rattle.dms_runner.proofs.Always.{always_ok, then_on, fault_as}
 use Rattle.dms_runner.proofs.Texts.{front_none, front_before, prints_none, prints_before}
 use Rattle.dms_runner.proofs.Running.{Runs, runs_start, runs_room, runs_on, runs_lines, runs_bytes, runs_held, runs_end, runs_part, runs_end_part}

@@ -1,7 +1,6 @@
-use Rattle.std.proofs.Common.{◌≡◌, ◌∙◌, ◌++◌, List, ℕ, refl, sym, ap, subst, take, drop, arith}
+use Rattle.std.proofs.Common.{◌≡◌, ◌∙◌, List, ℕ, sym, ap, subst, arith}
 use Rattle.dms_desc.specs.Shape.{described}
 use Rattle.dms_model.specs.Points.{Prints, PrintsFront}
-use Rattle.dms_runner.specs.Answers.{unanswered}
 use Rattle.dms_runner.proofs.Texts.{front_all, front_on, front_of_first, prints_on}
 use Rattle.dms_runner.proofs.Unanswered.{unanswered_split, unanswered_more, unanswered_rest, text_of}
 use Rattle.dms_runner.proofs.run.say_held.Goals as goal

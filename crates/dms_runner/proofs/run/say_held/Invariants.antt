@@ -1,4 +1,4 @@
-use Rattle.std.proofs.Common.{◌≡◌, ◌≤◌, ◌<◌, ◌+◌, ℕ, List, [], length, take, drop}
+use Rattle.std.proofs.Common.{◌≡◌, ◌≤◌, take}
 use Rattle.dms_desc.specs.Shape.{described}
 use Rattle.dms_model.specs.Points.{Prints}
 use Rattle.dms_runner.specs.Answers.{unanswered}

@@ -1,5 +1,5 @@
-use Rattle.std.proofs.Common.{◌≡◌, List, ℕ, subst}
-use Rattle.dms_model.specs.Points.{Prints, PrintsFront}
+use Rattle.std.proofs.Common.{List, ℕ, subst}
+use Rattle.dms_model.specs.Points.{PrintsFront}
 use Rattle.dms_model.specs.Session.{step}
 use Rattle.dms_desc.specs.Shape.{described}
 use Rattle.dms_runner.proofs.Texts.{front_before}

@@ -1,14 +1,13 @@
-use Rattle.std.proofs.Common.{◌≡◌, ◌≤◌, ◌<◌, ◌+◌, ◌^◌, ◌∙◌, [], ℕ, List, Bool, true, false, Some, None, refl, sym, ap, subst, arith, length, take}
-use Rattle.std.specs.Prelude.{slice_get}
+use Rattle.std.proofs.Common.{◌∙◌, refl, sym, ap, subst, arith}
 use Rattle.dms_desc.specs.declared.description.Description.{Description}
 use Rattle.dms_desc.specs.Shape.{described}
-use Rattle.dms_model.specs.Points.{Prints, PrintsFront}
-use Rattle.dms_model.specs.Session.{Session, step}
+use Rattle.dms_model.specs.Points.{PrintsFront}
+use Rattle.dms_model.specs.Session.{step}
 use Rattle.dms_storeverbs.specs.View.{view}
-use Rattle.dms_runner.specs.Held.{has_line, tried_text, walk}
+use Rattle.dms_runner.specs.Held.{tried_text}
 use Rattle.dms_runner.specs.Trying.{Tries}
 use Rattle.dms_runner.proofs.Passes.{passing_start, passing_skip, passing_wait, passing_answered, passing_end, passing_part, line_at}
-use Rattle.dms_runner.proofs.Texts.{front_all, prints_none}
+use Rattle.dms_runner.proofs.Texts.{front_all}
 use Rattle.dms_runner.proofs.walking.pass.Goals as goal
 
 pub loop-i-init : goal.loop-i-init

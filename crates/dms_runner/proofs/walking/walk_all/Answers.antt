@@ -1,13 +1,10 @@
-use Rattle.std.proofs.Common.{◌≡◌, ◌≤◌, ◌<◌, ◌+◌, ◌^◌, ◌∙◌, [], ℕ, List, Bool, true, false, Some, None, refl, sym, ap, subst, arith, length, take}
-use Rattle.dms_desc.specs.declared.description.Description.{Description}
+use Rattle.std.proofs.Common.{◌∙◌, List, refl, sym, ap, subst, arith, length}
 use Rattle.dms_desc.specs.Shape.{described}
-use Rattle.dms_model.specs.Points.{Prints, PrintsFront}
-use Rattle.dms_model.specs.Session.{Session}
 use Rattle.dms_storeverbs.specs.View.{view}
 use Rattle.std.specs.List.{remove}
 use Rattle.dms_runner.specs.declared.held.Held.{Held}
-use Rattle.dms_runner.specs.Held.{walk, walks}
-use Rattle.dms_runner.specs.Trying.{Passes, Walks}
+use Rattle.dms_runner.specs.Held.{walks}
+use Rattle.dms_runner.specs.Trying.{Walks}
 use Rattle.dms_runner.proofs.Turns.{walking_start, walking_on, walking_end, walking_out, walking_part, walking_room, passes_from, part_from, written}
 use Rattle.dms_runner.proofs.Texts.{front_all}
 use Rattle.dms_runner.proofs.walking.walk_all.Goals as goal

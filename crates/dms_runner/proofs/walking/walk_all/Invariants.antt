@@ -1,4 +1,4 @@
-use Rattle.std.proofs.Common.{◌≡◌, ◌≤◌, ◌<◌, ◌+◌, ◌^◌, ℕ, List, [], length, take, drop}
+use Rattle.std.proofs.Common.{◌≡◌, ◌≤◌, ◌<◌, ◌+◌, ◌^◌, length}
 use Rattle.dms_desc.specs.Shape.{described}
 use Rattle.dms_model.specs.Session.{Session}
 use Rattle.dms_storeverbs.specs.View.{view, Stands}

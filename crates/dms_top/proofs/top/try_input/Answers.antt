@@ -1,10 +1,7 @@
-use Rattle.std.proofs.Common.{◌≡◌, ◌∙◌, ap, sym, Err, Ok, Some, List, ℕ, [], IsOk, subst, arith}
-use Rattle.dasdl_parse.specs.declared.fault.ParseFault.TheVariants.{TooMany}
-use Rattle.dms_top.specs.declared.status.SchemaFault.{SchemaFault}
-use Rattle.dms_top.specs.declared.status.SchemaFault.TheVariants.{Parse}
+use Rattle.std.proofs.Common.{◌∙◌, ap, sym, Err}
 use Rattle.dms_top.specs.Judging.{judged}
 use Rattle.dms_top.proofs.Judgements.{long_judged, refused_is, ok_of, no_more, at_start}
-use Rattle.dms_top.proofs.top.dms.Goals as goal
+use Rattle.dms_top.proofs.top.try_input.Goals as goal
 
 pub returns-in-Err-Long-clause-refused : goal.returns-in-Err-Long-clause-refused
 returns-in-Err-Long-clause-refused g c = λ f is all left.

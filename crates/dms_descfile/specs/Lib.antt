@@ -1,0 +1,3 @@
+pub mod Becoming
+pub mod Contents
+pub mod DescriptionFile

@@ -1,0 +1,46 @@
+-- Taking a whole input byte by byte.
+use Rattle.std.proofs.Common.{◌≡◌, ◌<◌, ◌+◌, ◌∙◌, ap, sym, refl, subst, arith, ℕ, List, [], ◌∷◌, ◌++◌, length, drop, Some, None, Option, append-nil, append_assoc, length-append, slice_get}
+use Rattle.dms_feed.specs.Feeds.{Remains}
+use Rattle.dms_top.proofs.Judgements.{no_more, at_start}
+
+-- so many bytes were taken
+pub record Taken (n : ℕ) (text all held : List ℕ) (left : Option (List ℕ)) : Type 0 where
+  pub rest : List ℕ
+  pub remains : Remains held left rest
+  pub is : all ≡ text ++ rest
+  pub many : length text ≡ n
+
+pub taken_start : (text all held : List ℕ) (left : Option (List ℕ)) → text ≡ [] → held ≡ [] → left ≡ Some all → Taken 0 text all held left
+taken_start text all held left none empty is = record {
+  rest = all;
+  remains = at_start held left all empty is;
+  is = sym (ap (λ (t : List ℕ). t ++ all) none);
+  many = ap length none;
+}
+
+first_of : (xs : List ℕ) (b : ℕ) → Some b ≡ slice_get xs 0 → xs ≡ b ∷ drop 1 xs
+first_of [] b h = absurd (cc)
+first_of (x ∷ xs) b h = cc
+
+none_of : (xs : List ℕ) → None ≡ slice_get xs 0 → xs ≡ []
+none_of [] h = refl
+none_of (x ∷ xs) h = absurd (cc)
+
+-- one more byte was taken
+pub taken_on : (n b : ℕ) (old new all held held' : List ℕ) (left left' : Option (List ℕ)) (t : Taken n old all held left) → Some b ≡ slice_get t.rest 0 → Remains held' left' (drop 1 t.rest) → new ≡ old ++ b ∷ [] → Taken (n + 1) new all held' left'
+taken_on n b old new all held held' left left' t first remains added = record {
+  rest = drop 1 t.rest;
+  remains = remains;
+  is = t.is ∙ ap (λ (l : List ℕ). old ++ l) (first_of t.rest b first) ∙ sym (append_assoc old (b ∷ []) (drop 1 t.rest)) ∙ ap (λ (l : List ℕ). l ++ drop 1 t.rest) (sym added);
+  many = omega (arith, t.many, ap length added, length-append old (b ∷ []));
+}
+
+pub taken_all : (n : ℕ) (text all held : List ℕ) (left : Option (List ℕ)) (t : Taken n text all held left) → None ≡ slice_get t.rest 0 → text ≡ all
+taken_all n text all held left t none = sym (t.is ∙ ap (λ (l : List ℕ). text ++ l) (none_of t.rest none) ∙ append-nil text)
+
+pub taken_end : (n : ℕ) (text all held held' : List ℕ) (left left' : Option (List ℕ)) (t : Taken n text all held left) → None ≡ slice_get t.rest 0 → Remains held' left' (drop 1 t.rest) → left' ≡ Some []
+taken_end n text all held held' left left' t none remains =
+    no_more held' left' (subst (λ (l : List ℕ). Remains held' left' (drop 1 l)) (none_of t.rest none) remains)
+
+pub taken_over : (n : ℕ) (text all held : List ℕ) (left : Option (List ℕ)) → Taken n text all held left → 1000000 < n → 1000000 < length all
+taken_over n text all held left t over = omega (arith, over, t.many, ap length t.is, length-append text t.rest)

@@ -1,0 +1,62 @@
+-- The command `compile`: what it says, and what a stop leaves.
+use Rattle.std.specs.Prelude.{◌≡◌, ◌⊎◌, ℕ, List, [], ◌∷◌, ◌++◌, codes, decimal, take, ⊤}
+use Rattle.dms_block.specs.Moments.{Clock, Now}
+use Rattle.dms_site.specs.Files.{Left}
+use Rattle.dms_top.specs.declared.status.Status.{Status}
+use Rattle.dms_top.specs.declared.status.Status.TheVariants.{Ok, BadWords, SchemaRefused, InputFault, Memory, Limit, SayFault, DiskFault, Exists}
+
+-- the line that says how many structures a description has
+unfoldable pub compiled_text : ℕ → List ℕ
+compiled_text count = codes "COMPILED " ++ decimal count ++ codes " STRUCTURES" ++ 10 ∷ []
+
+-- one line is printed: whole at Ok, a front of it where printing failed, and else nothing
+abbrev pub Says : Status → List ℕ → List ℕ → List ℕ → Type 0
+Says Ok line old new = new ≡ old ++ line
+Says BadWords line old new = new ≡ old
+Says (SchemaRefused f) line old new = new ≡ old
+Says InputFault line old new = new ≡ old
+Says Memory line old new = new ≡ old
+Says (Limit l) line old new = new ≡ old
+Says SayFault line old new = (k : ℕ) × (new ≡ old ++ take k line)
+Says DiskFault line old new = new ≡ old
+Says Exists line old new = new ≡ old
+
+-- the statuses of `compile` with which something was said, or may have been
+abbrev pub IsSpoken : Status → Type 0
+IsSpoken Ok = ⊤
+IsSpoken BadWords = ⊥
+IsSpoken (SchemaRefused f) = ⊥
+IsSpoken InputFault = ⊥
+IsSpoken Memory = ⊥
+IsSpoken (Limit l) = ⊥
+IsSpoken SayFault = ⊤
+IsSpoken DiskFault = ⊥
+IsSpoken Exists = ⊥
+
+-- the statuses of `compile` that come before a file is changed
+abbrev pub IsBefore : Status → Type 0
+IsBefore Ok = ⊥
+IsBefore BadWords = ⊤
+IsBefore (SchemaRefused f) = ⊤
+IsBefore InputFault = ⊤
+IsBefore Memory = ⊤
+IsBefore (Limit l) = ⊤
+IsBefore SayFault = ⊥
+IsBefore DiskFault = ⊥
+IsBefore Exists = ⊤
+
+-- the statuses of the work on the description file
+abbrev pub IsOfFile : Status → Type 0
+IsOfFile Ok = ⊤
+IsOfFile BadWords = ⊥
+IsOfFile (SchemaRefused f) = ⊥
+IsOfFile InputFault = ⊥
+IsOfFile Memory = ⊤
+IsOfFile (Limit l) = ⊥
+IsOfFile SayFault = ⊤
+IsOfFile DiskFault = ⊤
+IsOfFile Exists = ⊤
+
+-- Each outcome that a stop may leave since the old clock's moment is one that it could leave then, or has P.
+abbrev pub AtEachMoment : Clock Left → Clock Left → (Left → Type 0) → Type 0
+AtEachMoment old new P = (x : Left) → new.left old.now x → Now old x ⊎ P x

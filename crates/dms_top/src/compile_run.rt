@@ -1,0 +1,154 @@
+ghost use Rattle.std.specs.Prelude.{◌≡◌, ◌≢◌, ◌≤◌, ◌<◌, [], ℕ, List, Some, Ok, Err, IfOk, IsOk, IsTrue, length, take, ◌++◌};
+ghost use Rattle.dms_base.specs.Causes.{Rose};
+ghost use Rattle.dms_desc.specs.Shape.{Described, described};
+ghost use Rattle.dms_desc_bytes.specs.Spelling.{spelling};
+ghost use Rattle.dms_descfile.specs.DescriptionFile.{description_file, sealed_file, IsSealed, IsUnsealed};
+ghost use Rattle.dms_descfile.specs.Becoming.{Creates};
+ghost use Rattle.dms_top.specs.declared.status.SchemaFault.{SchemaFault as Refusal};
+ghost use Rattle.dms_top.specs.Compiling.{compiled_text, Says, IsSpoken, IsBefore, IsOfFile};
+ghost use Rattle.dms_top.specs.Judging.{judged};
+ghost use Rattle.dms_top.specs.Words.{IsPast};
+
+use crate::judge::{Judged, judge};
+use crate::schema::TextFault;
+use crate::status::{SchemaFault, Status};
+use crate::whole::whole_text;
+use dasdl_parse::ParseFault;
+use dms_base::{Bytes, Memory};
+use dms_desc::Description;
+use dms_desc_bytes::encode;
+use dms_descfile::{FileFault, read_description, seal_description};
+use dms_site::{Site, Source};
+use std::alloc::Global;
+
+/// The bytes that a description may have.
+const DESCRIPTION_BYTES: usize = 65_535;
+
+/// What is needed to seal a description and to say so.
+#[derive(Drop)]
+struct Prepared {
+    bytes: Bytes,
+    line: Bytes,
+}
+
+/// What `compile` says of so many structures.
+#[tactic(auto, unfolding(crate::specs::Compiling::compiled_text))]
+fn compiled_text(alloc: Global, count: usize) -> Result<Bytes, Memory>
+    ensures { IfOk result (λ text. text ≡ compiled_text count) }
+{
+    let mut text = Bytes::copied(alloc, b"COMPILED ")?;
+    let digits = format!(in alloc; "{count}")?;
+    text.extend(digits.as_str().as_bytes())?;
+    text.extend(b" STRUCTURES\n")?;
+    Ok(text)
+}
+
+/// The bytes of a description, and the line that says how many structures it has.
+fn prepare(alloc: Global, desc: &Description) -> Result<Prepared, Memory>
+    ensures bytes { IfOk result (λ p. p.bytes ≡ spelling (described desc.now)) }
+    ensures few { IfOk result (λ p. length p.bytes ≤ 65535) }
+    ensures line { IfOk result (λ p. p.line ≡ compiled_text (length desc.now.structures)) }
+{
+    let bytes = encode(alloc, desc)?;
+    if bytes.as_slice().len() > DESCRIPTION_BYTES {
+        return Err(Memory);
+    }
+    let line = compiled_text(alloc, desc.structures.as_slice().len())?;
+    Ok(Prepared { bytes, line })
+}
+
+/// Seals a description's bytes, and prints a line.
+fn seal_and_say<S: Site>(alloc: Global, site: &mut S, bytes: &[u8], line: &[u8]) -> Status
+    requires { length bytes.now ≤ 65535 }
+    ensures of_file { IsOfFile result }
+    ensures exists { result ≢ Status.Exists }
+    ensures sealed { IsSpoken result → IsTrue S.tells → S.files site.new 1 ≡ description_file 1 0 bytes.now }
+    ensures others { IsTrue S.tells → (g : ℕ) → g ≢ 1 → S.files site.new g ≡ S.files site.old g }
+    ensures before { IsBefore result → IsTrue S.tells → S.files site.new ≡ S.files site.old }
+    ensures says { IsTrue S.tells_said → Says result line.now (S.said site.old) (S.said site.new) }
+    ensures creates { IsTrue S.tells → Creates (description_file 1 0 bytes.now) (S.files site.old) (S.clock site.old) (S.clock site.new) }
+    ensures same_site { S.same_site site.old site.new }
+    ensures disk_later { S.disk_faults site.old ≤ S.disk_faults site.new }
+    ensures say_later { S.say_faults site.old ≤ S.say_faults site.new }
+    ensures disk { result ≡ Status.DiskFault → Rose (S.disk_faults site.old) (S.disk_faults site.new) }
+    ensures say { result ≡ Status.SayFault → Rose (S.say_faults site.old) (S.say_faults site.new) }
+{
+    match seal_description(alloc, site, bytes) {
+        Err(FileFault::Disk) => return Status::DiskFault,
+        Err(FileFault::Memory) => return Status::Memory,
+        Ok(()) => {}
+    }
+    match site.say(line) {
+        Ok(()) => Status::Ok,
+        Err(_) => Status::SayFault,
+    }
+}
+
+/// Seals a description where the site holds none, and says so.
+fn create<S: Site>(alloc: Global, site: &mut S, desc: &Description) -> Status
+    ensures of_file { IsOfFile result }
+    ensures exists { result ≡ Status.Exists → IsTrue S.tells → (d : Described) × IsSealed (S.files site.old 1) d }
+    ensures unsealed { IsSpoken result → IsTrue S.tells → IsUnsealed (S.files site.old 1) }
+    ensures sealed { IsSpoken result → IsTrue S.tells → S.files site.new 1 ≡ sealed_file (described desc.now) }
+    ensures others { IsTrue S.tells → (g : ℕ) → g ≢ 1 → S.files site.new g ≡ S.files site.old g }
+    ensures before { IsBefore result → IsTrue S.tells → S.files site.new ≡ S.files site.old }
+    ensures says { IsTrue S.tells_said → Says result (compiled_text (length desc.now.structures)) (S.said site.old) (S.said site.new) }
+    ensures creates { IsTrue S.tells → Creates (sealed_file (described desc.now)) (S.files site.old) (S.clock site.old) (S.clock site.new) }
+    ensures same_site { S.same_site site.old site.new }
+    ensures disk_later { S.disk_faults site.old ≤ S.disk_faults site.new }
+    ensures say_later { S.say_faults site.old ≤ S.say_faults site.new }
+    ensures disk { result ≡ Status.DiskFault → Rose (S.disk_faults site.old) (S.disk_faults site.new) }
+    ensures say { result ≡ Status.SayFault → Rose (S.say_faults site.old) (S.say_faults site.new) }
+{
+    match read_description(alloc, site) {
+        Err(FileFault::Disk) => Status::DiskFault,
+        Err(FileFault::Memory) => Status::Memory,
+        Ok(Some(_)) => Status::Exists,
+        Ok(None) => match prepare(alloc, desc) {
+            Err(_) => Status::Memory,
+            Ok(made) => seal_and_say(alloc, site, made.bytes.as_slice(), made.line.as_slice()),
+        },
+    }
+}
+
+/// `compile`: takes the whole input as the text of a schema, writes its description into the description file and seals it,
+/// and prints how many structures it has.
+///
+/// Answers SchemaRefused by the text's first fault, then Exists where the description file is a sealed description
+/// already; no file is changed by then.
+pub fn compile_input<S: Site, I: Source>(alloc: Global, site: &mut S, input: &mut I) -> Status
+    ensures words { result ≢ Status.BadWords }
+    ensures refused { (f : Refusal) → result ≡ Status.SchemaRefused f → (all : List ℕ) → I.left input.old ≡ Some all → judged all ≡ Err f }
+    ensures accepted { IsPast result → (all : List ℕ) → I.left input.old ≡ Some all → IsOk (judged all) }
+    ensures end { IsPast result → (all : List ℕ) → I.left input.old ≡ Some all → I.left input.new ≡ Some [] }
+    ensures exists { result ≡ Status.Exists → IsTrue S.tells → (d : Described) × IsSealed (S.files site.old 1) d }
+    ensures unsealed { IsSpoken result → IsTrue S.tells → IsUnsealed (S.files site.old 1) }
+    ensures sealed { IsSpoken result → IsTrue S.tells → (all : List ℕ) (d : Described) → I.left input.old ≡ Some all → judged all ≡ Ok d → S.files site.new 1 ≡ sealed_file d }
+    ensures others { IsTrue S.tells → (g : ℕ) → g ≢ 1 → S.files site.new g ≡ S.files site.old g }
+    ensures before { IsBefore result → IsTrue S.tells → S.files site.new ≡ S.files site.old }
+    ensures says { IsTrue S.tells_said → (all : List ℕ) (d : Described) → I.left input.old ≡ Some all → judged all ≡ Ok d → Says result (compiled_text (length d.structures)) (S.said site.old) (S.said site.new) }
+    ensures silent { IsTrue S.tells_said → (IsSpoken result → ⊥) → S.said site.new ≡ S.said site.old }
+    ensures creates { IsTrue S.tells → (all : List ℕ) (d : Described) → I.left input.old ≡ Some all → judged all ≡ Ok d → Creates (sealed_file d) (S.files site.old) (S.clock site.old) (S.clock site.new) }
+    ensures same_site { S.same_site site.old site.new }
+    ensures same_source { I.same_source input.old input.new }
+    ensures disk_later { S.disk_faults site.old ≤ S.disk_faults site.new }
+    ensures say_later { S.say_faults site.old ≤ S.say_faults site.new }
+    ensures input_later { I.faults input.old ≤ I.faults input.new }
+    ensures disk { result ≡ Status.DiskFault → Rose (S.disk_faults site.old) (S.disk_faults site.new) }
+    ensures say { result ≡ Status.SayFault → Rose (S.say_faults site.old) (S.say_faults site.new) }
+    ensures input { result ≡ Status.InputFault → Rose (I.faults input.old) (I.faults input.new) }
+{
+    let text = match whole_text(alloc, input) {
+        Ok(text) => text,
+        Err(TextFault::Input) => return Status::InputFault,
+        Err(TextFault::Memory) => return Status::Memory,
+        Err(TextFault::Long) => {
+            return Status::SchemaRefused(SchemaFault::Parse(ParseFault::TooMany(1_000_000)));
+        }
+    };
+    match judge(alloc, text.as_slice()) {
+        Judged::Memory => Status::Memory,
+        Judged::Refused(fault) => Status::SchemaRefused(fault),
+        Judged::Description(desc) => create(alloc, site, &desc),
+    }
+}

@@ -1,0 +1,32 @@
+ghost use Rattle.std.specs.Prelude.{◌≡◌, ◌≤◌, ◌<◌, [], ℕ, List, Some, IfOk, IsErrOf, length};
+ghost use Rattle.dms_base.specs.Causes.{Rose};
+
+use crate::schema::TextFault;
+use dms_base::Bytes;
+use dms_feed::Feed;
+use dms_site::Source;
+use std::alloc::Global;
+
+/// All that the source has left. Its end is reached. Of more than 1,000,000 bytes it answers Long.
+pub fn whole_text<I: Source>(alloc: Global, source: &mut I) -> Result<Bytes, TextFault>
+    ensures text { IfOk result (λ text. (all : List ℕ) → I.left source.old ≡ Some all → text ≡ all) }
+    ensures end { IfOk result (λ text. (all : List ℕ) → I.left source.old ≡ Some all → I.left source.new ≡ Some []) }
+    ensures long { IsErrOf result TextFault.Long → (all : List ℕ) → I.left source.old ≡ Some all → 1000000 < length all }
+    ensures same { I.same_source source.old source.new }
+    ensures later { I.faults source.old ≤ I.faults source.new }
+    ensures input { IsErrOf result TextFault.Input → Rose (I.faults source.old) (I.faults source.new) }
+{
+    let mut feed = Feed::new();
+    let mut text = Bytes::new(alloc);
+    for _turn in 0..1_000_001u32 {
+        match feed.next(source) {
+            Err(_) => return Err(TextFault::Input),
+            Ok(None) => return Ok(text),
+            Ok(Some(byte)) => match text.push(byte) {
+                Ok(()) => {}
+                Err(_) => return Err(TextFault::Memory),
+            },
+        }
+    }
+    Err(TextFault::Long)
+}
