@@ -68,7 +68,7 @@ pub passing_skip : (desc : Described) (s : Session) (first now : List Held) (i :
     → Passing desc s first now i v before after → Passing desc s first now (i + 1) v before after
 passing_skip desc s first now i v before after h here has p =
     let e : walk desc s (take i now) (drop i now) ≡ walk desc s (take (i + 1) now) (drop (i + 1) now) =
-        ap (λ (l : List Held). walk desc s (take i now) l) (at_place now i h here) ∙ walk_skips desc s (take i now) h (drop (i + 1) now) has ∙ ap (λ (l : List Held). walk desc s l (drop (i + 1) now)) (sym (to_place now i h here)) in
+    ap (λ (l : List Held). walk desc s (take i now) l) (at_place now i h here) ∙ walk_skips desc s (take i now) h (drop (i + 1) now) has ∙ ap (λ (l : List Held). walk desc s l (drop (i + 1) now)) (sym (to_place now i h here)) in
     record { text = p.text; quiets = p.quiets; is = p.is ∙ ap (λ (w : Walk). saying p.text p.quiets w) e; stands = p.stands; said = p.said }
 
 pub saying_on : (x y : List ℕ) (p q : List Quiet) (w : Walk) → saying x p (saying y q w) ≡ saying (x ++ y) (p ++ q) w
@@ -85,9 +85,9 @@ passing_wait desc s first now next i v w before mid after h answered here has se
     let front : take (i + 1) next ≡ take i now ++ waiting h ∷ [] = ap (λ (l : List Held). take (i + 1) l) set_ ∙ take_more_set now i (waiting h) within in
     let back : drop (i + 1) next ≡ drop (i + 1) now = ap (λ (l : List Held). drop (i + 1) l) set_ ∙ drop-set-lt (i + 1) now i (waiting h) (omega arith) in
     let e : walk desc s (take i now) (drop i now) ≡ saying (tried_text h o) o.quiets (walk desc s (take (i + 1) next) (drop (i + 1) next)) =
-        ap (λ (l : List Held). walk desc s (take i now) l) (at_place now i h here) ∙ walk_waits desc s (take i now) h (drop (i + 1) now) has waits
-        ∙ ap (λ (l : List Held). saying (tried_text h o) o.quiets (walk desc s l (drop (i + 1) now))) (sym front)
-        ∙ ap (λ (l : List Held). saying (tried_text h o) o.quiets (walk desc s (take (i + 1) next) l)) (sym back) in
+    ap (λ (l : List Held). walk desc s (take i now) l) (at_place now i h here) ∙ walk_waits desc s (take i now) h (drop (i + 1) now) has waits
+    ∙ ap (λ (l : List Held). saying (tried_text h o) o.quiets (walk desc s l (drop (i + 1) now))) (sym front)
+    ∙ ap (λ (l : List Held). saying (tried_text h o) o.quiets (walk desc s (take (i + 1) next) l)) (sym back) in
     record {
       text = p.text ++ tried_text h o;
       quiets = p.quiets ++ o.quiets;
@@ -111,7 +111,7 @@ passing_answered desc s first now i v w before mid after h answered here has ans
     let o = step desc s h.program h.verb in
     let waits : is_waits o.reply ≡ false = not_true (is_waits o.reply) (sym t.answers ∙ answered_is) in
     let e : walk desc s [] first ≡ saying p.text p.quiets (answered_at h o (take i now ++ drop (i + 1) now)) =
-        p.is ∙ ap (λ (l : List Held). saying p.text p.quiets (walk desc s (take i now) l)) (at_place now i h here) ∙ ap (λ (x : Walk). saying p.text p.quiets x) (walk_answers desc s (take i now) h (drop (i + 1) now) has waits) in
+    p.is ∙ ap (λ (l : List Held). saying p.text p.quiets (walk desc s (take i now) l)) (at_place now i h here) ∙ ap (λ (x : Walk). saying p.text p.quiets x) (walk_answers desc s (take i now) h (drop (i + 1) now) has waits) in
     record {
       session = subst (λ (x : Session). Stands w x) (sym (ap (λ (x : Walk). x.session) e)) t.session;
       found_is = (slice_get_within now i h here, ap (λ (x : Walk). x.answered) e, ap (λ (x : Walk). x.held) e ∙ ap (λ (k : ℕ). take i now ++ drop k now) (one_on i));
@@ -127,7 +127,7 @@ pub passing_end : (desc : Described) (s : Session) (first now : List Held) (i : 
     → Passing desc s first now i v before after → Passes (walk desc s [] first) v now None before after
 passing_end desc s first now i v before after end p =
     let e : walk desc s [] first ≡ saying p.text p.quiets (record { session = s; held = now; text = []; quiets = []; answered = false }) =
-        p.is ∙ ap (λ (l : List Held). saying p.text p.quiets (walk desc s (take i now) l)) (drop_all i now end) ∙ ap (λ (l : List Held). saying p.text p.quiets (walk desc s l [])) (take_all i now end) ∙ ap (λ (x : Walk). saying p.text p.quiets x) (walk_ends desc s now) in
+    p.is ∙ ap (λ (l : List Held). saying p.text p.quiets (walk desc s (take i now) l)) (drop_all i now end) ∙ ap (λ (l : List Held). saying p.text p.quiets (walk desc s l [])) (take_all i now end) ∙ ap (λ (x : Walk). saying p.text p.quiets x) (walk_ends desc s now) in
     record {
       session = subst (λ (x : Session). Stands v x) (sym (ap (λ (x : Walk). x.session) e)) p.stands;
       found_is = (ap (λ (x : Walk). x.answered) e, ap (λ (x : Walk). x.held) e);
@@ -142,9 +142,11 @@ passing_part desc s first now i v before mid after h here has part p =
   where
     o : Outcome
     o = step desc s h.program h.verb
+
     from : (x : Walk) (rest : List ℕ) → walk desc s (take i now) (drop i now) ≡ x → x.text ≡ tried_text h o ++ rest → PrintsFront before after (walk desc s [] first).text
     from x rest e text = subst (λ (t : List ℕ). PrintsFront before after t) (sym (ap (λ (y : Walk). y.text) (p.is ∙ ap (λ (y : Walk). saying p.text p.quiets y) e) ∙ ap (λ (t : List ℕ). p.text ++ t) text))
         (front_on before mid after p.text (tried_text h o ++ rest) p.said (front_of_first mid after (tried_text h o) rest part))
+
     by_reply : (b : Bool) → is_waits o.reply ≡ b → PrintsFront before after (walk desc s [] first).text
     by_reply true waits = from _ _ (ap (λ (l : List Held). walk desc s (take i now) l) (at_place now i h here) ∙ walk_waits desc s (take i now) h (drop (i + 1) now) has waits) refl
     by_reply false waits = from _ [] (ap (λ (l : List Held). walk desc s (take i now) l) (at_place now i h here) ∙ walk_answers desc s (take i now) h (drop (i + 1) now) has waits) (sym (append-nil (tried_text h o)))

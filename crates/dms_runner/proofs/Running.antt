@@ -62,6 +62,7 @@ run_on desc g (x ∷ xs) ys room = at (line_step desc g x).full refl (run_on des
   where
     s : Lined
     s = line_step desc g x
+
     at : (b : Bool) → s.full ≡ b → ((lines_run desc s.going xs).full ≡ false → lines_run desc s.going (xs ++ ys) ≡ onto (lines_run desc s.going xs) (lines_run desc (lines_run desc s.going xs).going ys))
         → lines_run desc g (x ∷ (xs ++ ys)) ≡ onto (lines_run desc g (x ∷ xs)) (lines_run desc (lines_run desc g (x ∷ xs)).going ys)
     at true is rest = not_both s.full _ is (sym (ap (λ (l : Lined). l.full) (run_full desc g x xs is)) ∙ room)
@@ -225,7 +226,7 @@ runs_part desc db first i room all v held feed left before mid after r part =
     let g = begun db first in
     let e : lines_run desc g (raw_lines all) ≡ onto (lines_run desc g r.done) (lines_run desc (lines_run desc g r.done).going (raw_lines r.rest)) = ap (lines_run desc g) r.split ∙ run_on desc g r.done (raw_lines r.rest) r.roomy in
     front_of_first before after (lines_run desc g (raw_lines all)).text (unanswered (lines_run desc g (raw_lines all)).going.held)
-        (subst (λ (t : List ℕ). PrintsFront before after t) (sym (ap (λ (l : Lined). l.text) e)) (front_on before mid after (lines_run desc g r.done).text (lines_run desc (lines_run desc g r.done).going (raw_lines r.rest)).text r.said part))
+    (subst (λ (t : List ℕ). PrintsFront before after t) (sym (ap (λ (l : Lined). l.text) e)) (front_on before mid after (lines_run desc g r.done).text (lines_run desc (lines_run desc g r.done).going (raw_lines r.rest)).text r.said part))
 
 -- a front of what is said at the end
 pub runs_end_part : (desc : Described) (db : Db) (first : ℕ) (i room : ℕ) (all : List ℕ) (v : View) (held : List Held) (feed : List ℕ) (left : Option (List ℕ)) (before mid after : Option (List ℕ))
@@ -235,7 +236,7 @@ runs_end_part desc db first i room all v held feed left before mid after r none 
     let g = begun db first in
     let whole : raw_lines all ≡ r.done = r.split ∙ ap (λ (ls : List (List ℕ)). r.done ++ ls) (lines_none r.rest none) ∙ append-nil r.done in
     subst (λ (ls : List (List ℕ)). PrintsFront before after ((script_run desc db first ls).text ++ unanswered (script_run desc db first ls).going.held)) (sym whole)
-        (front_on before mid after (lines_run desc g r.done).text (unanswered (lines_run desc g r.done).going.held) r.said (subst (λ (hs : List Held). PrintsFront mid after (unanswered hs)) r.held_is part))
+    (front_on before mid after (lines_run desc g r.done).text (unanswered (lines_run desc g r.done).going.held) r.said (subst (λ (hs : List Held). PrintsFront mid after (unanswered hs)) r.held_is part))
 
 -- a front of what a line says is one of what it and those behind it say
 pub line_part : (desc : Described) (g : Going) (all : List ℕ) (before after : Option (List ℕ)) → all ≢ [] → PrintsFront before after (line_step desc g (first_line all)).text → PrintsFront before after (lines_run desc g (raw_lines all)).text
@@ -243,8 +244,10 @@ line_part desc g all before after some part = at (line_step desc g l).full refl
   where
     l : List ℕ
     l = first_line all
+
     more : List (List ℕ)
     more = raw_lines (after_line all)
+
     at : (b : Bool) → (line_step desc g l).full ≡ b → PrintsFront before after (lines_run desc g (raw_lines all)).text
     at true is = subst (λ (t : List ℕ). PrintsFront before after t) (sym (ap (λ (ls : List (List ℕ)). (lines_run desc g ls).text) (lines_step all some) ∙ ap (λ (x : Lined). x.text) (run_full desc g l more is))) part
     at false is = subst (λ (t : List ℕ). PrintsFront before after t) (sym (ap (λ (ls : List (List ℕ)). (lines_run desc g ls).text) (lines_step all some) ∙ ap (λ (x : Lined). x.text) (run_step desc g l more is)))

@@ -71,8 +71,10 @@ walking_on desc s first turn now next last i v w before mid after k more p gone 
   where
     x : Walk
     x = walk desc k.at [] now
+
     held_is : x.held ≡ last
     held_is = p.found_is.2 ∙ sym gone
+
     from : (n : ℕ) → n + turn ≡ length first → walks (length first) desc s first ≡ saying k.text k.quiets (walks n desc k.at now) → Walking desc s first (turn + 1) last w before after
     from zero fuel is = absurd (omega (arith, fuel, more))
     from (suc n) fuel is = record {
@@ -94,6 +96,7 @@ walking_end desc s first turn now next v w before mid after k more p = from k.le
   where
     x : Walk
     x = walk desc k.at [] now
+
     from : (n : ℕ) → n + turn ≡ length first → walks (length first) desc s first ≡ saying k.text k.quiets (walks n desc k.at now) → Walks (walks (length first) desc s first) w next before after
     from zero fuel is = absurd (omega (arith, fuel, more))
     from (suc n) fuel is =
@@ -125,9 +128,11 @@ walking_part desc s first turn now v before mid after k more part = from k.left 
   where
     x : Walk
     x = walk desc k.at [] now
+
     rest : (n : ℕ) (b : Bool) → x.answered ≡ b → (r : List ℕ) × ((walks (suc n) desc k.at now).text ≡ x.text ++ r)
     rest n true is = (_, ap (λ (y : Walk). y.text) (walks_again n desc k.at now is))
     rest n false is = ([], ap (λ (y : Walk). y.text) (walks_end n desc k.at now is) ∙ sym (append-nil x.text))
+
     from : (n : ℕ) → n + turn ≡ length first → walks (length first) desc s first ≡ saying k.text k.quiets (walks n desc k.at now) → PrintsFront before after (walks (length first) desc s first).text
     from zero fuel is = absurd (omega (arith, fuel, more))
     from (suc n) fuel is =

@@ -1,15 +1,18 @@
 -- What a site that tells its text has printed.
-use Rattle.std.proofs.Common.{◌≡◌, ◌++◌, ◌∙◌, ap, sym, subst, refl, Bool, true, false, Some, List, ℕ, [], take, Ok, Err, Result}
+use Rattle.std.proofs.Common.{◌≡◌, ◌++◌, ◌∙◌, ap, sym, subst, refl, Bool, true, false, Some, List, ℕ, [], take, Ok, Err, Result, IsOk, OnOk}
 use Rattle.std.specs.declared.option.Option.{Option}
 use Rattle.std.proofs.lemmas.List.{append-nil}
 use Rattle.std.proofs.lemmas.Option.{same_Some}
 use Rattle.dms_desc.specs.Shape.{Described}
 use Rattle.dms_model.specs.Db.{empty_db}
 use Rattle.dms_model.specs.Points.{Prints, PrintsFront}
+use Rattle.dms_model.specs.Session.{fresh_session}
+use Rattle.dms_storeverbs.specs.View.{View, Stands}
 use Rattle.dms_plain.specs.Told.{told}
 use Rattle.dms_runner.specs.Answers.{answers_text}
 use Rattle.dms_runner.specs.Running.{Answered, PassesLines, PassesBytes, PassesHeld}
 use Rattle.dms_top.specs.declared.status.SchemaFault.{SchemaFault}
+use Rattle.dms_top.specs.declared.status.LimitKind.{LimitKind}
 use Rattle.dms_top.specs.Answering.{Printed, PrintedFront, WithinLimits, Passes, judged_text}
 
 -- a text that is told
@@ -40,3 +43,25 @@ nothing_printed before after text same = (0, same ∙ sym (append-nil before))
 -- the text of an accepted schema's script
 pub text_accepted : (j : Result Described SchemaFault) (d : Described) (lines : List (List ℕ)) → j ≡ Ok d → judged_text j lines ≡ answers_text d empty_db 1 lines
 text_accepted j d lines is = ap (λ (x : Result Described SchemaFault). judged_text x lines) is
+
+pub stands_at : (v : View) (n m : ℕ) → n ≡ m → Stands v (fresh_session empty_db n) → Stands v (fresh_session empty_db m)
+stands_at v n m same stands = subst (λ (k : ℕ). Stands v (fresh_session empty_db k)) same stands
+
+-- the same texts
+pub front_moved : (before after text before' after' text' : List ℕ) → after ≡ after' → before ≡ before' → text ≡ text' → PrintedFront before' after' text' → PrintedFront before after text
+front_moved before after text before' after' text' a b t p = (p.0, a ∙ p.1 ∙ ap (λ (x : List ℕ). x ++ take p.0 text') (sym b) ∙ ap (λ (x : List ℕ). before ++ take p.0 x) (sym t))
+
+pub printed_moved : (before after text before' after' text' : List ℕ) → after ≡ after' → before ≡ before' → text ≡ text' → Printed before' after' text' → Printed before after text
+printed_moved before after text before' after' text' a b t p = a ∙ p ∙ ap (λ (x : List ℕ). x ++ text') (sym b) ∙ ap (λ (x : List ℕ). before ++ x) (sym t)
+
+pub passes_moved : (k : LimitKind) (d d' : Described) (lines : List (List ℕ)) (before after before' after' : List ℕ) → after ≡ after' → before ≡ before' → d ≡ d' → Passes k d' lines before' after' → Passes k d lines before after
+passes_moved k d d' lines before after before' after' a b e p =
+    subst (λ (x : List ℕ). Passes k d lines before x) (sym a) (subst (λ (x : List ℕ). Passes k d lines x after') (sym b) (subst (λ (x : Described). Passes k x lines before' after') (sym e) p))
+
+pub within_moved : (d d' : Described) (lines : List (List ℕ)) → d ≡ d' → WithinLimits d' lines → WithinLimits d lines
+within_moved d d' lines e w = subst (λ (x : Described). WithinLimits x lines) (sym e) w
+
+-- what holds at Ok, where it is Ok
+pub on_ok : {T E : Type 0} (r : Result T E) (P : Type 0) → IsOk r → OnOk r P → P
+on_ok (Ok x) P is p = p
+on_ok (Err e) P is p = absurd (cc)

@@ -30,7 +30,7 @@ returns-in_err-walk_all-clause-part g c = λ now stands same line room.
     let text = answer_is c.args.line now.line c.args.name c.in_ok-answer.answer.reply o.reply c.in_ok-answer.answer.sync o.sync (sym line) is.reply is.sync in
     let e = tried_answered (described c.args.engine.now.desc) now c.args.name c.args.verb o (ap is_waits (sym is.reply) ∙ sym c.is_waits.ensures ∙ c.if-not-is_waits.true) in
     subst (λ (l : Lined). PrintsFront (g.St.Store.said c.args.engine.now.store) (g.St.Store.said c.walk_all.new.engine.store) l.text) (sym e) (front_on _ _ _ _ _ (prints_before _ _ _ _ c.call.ensures.said (subst (λ (t : List ℕ). Prints (g.St.Store.said c.call.new.self.store) (g.St.Store.said c.say_answer.new.engine.store) t) text c.in_ok-say_answer.ensures.text))
-        (walks_part_from _ _ o.session _ _ _ _ (ap described (c.say_answer.ensures.description ∙ c.call.ensures.description)) (sym same) (c.walk_all.ensures.part o.session (c.in_ok-say_answer.ensures.stands o.session is.session) (omega (arith, room, ap length same, (step_small (described c.args.engine.now.desc) now.session c.args.name c.args.verb).high)))))
+    (walks_part_from _ _ o.session _ _ _ _ (ap described (c.say_answer.ensures.description ∙ c.call.ensures.description)) (sym same) (c.walk_all.ensures.part o.session (c.in_ok-say_answer.ensures.stands o.session is.session) (omega (arith, room, ap length same, (step_small (described c.args.engine.now.desc) now.session c.args.name c.args.verb).high)))))
 
 pub returns-then-not-is_waits-clause-lined : goal.returns-then-not-is_waits-clause-lined
 returns-then-not-is_waits-clause-lined g c = λ now stands same line room.
@@ -39,8 +39,8 @@ returns-then-not-is_waits-clause-lined g c = λ now stands same line room.
     let text = answer_is c.args.line now.line c.args.name c.in_ok-answer.answer.reply o.reply c.in_ok-answer.answer.sync o.sync (sym line) is.reply is.sync in
     let e = tried_answered (described c.args.engine.now.desc) now c.args.name c.args.verb o (ap is_waits (sym is.reply) ∙ sym c.is_waits.ensures ∙ c.if-not-is_waits.true) in
     subst (λ (l : Lined). GoesOn l true (view (g.St.Store.db c.walk_all.new.engine.store) (g.St.Store.mark c.walk_all.new.engine.store) (g.St.Store.next c.walk_all.new.engine.store) c.walk_all.new.engine.programs.items c.walk_all.new.engine.pending c.walk_all.new.engine.since) c.walk_all.new.held.items (g.St.Store.said c.args.engine.now.store) (g.St.Store.said c.walk_all.new.engine.store)) (sym e)
-        (goes_walked _ now o.session (answer_text now.line c.args.name o.reply o.sync) o.quiets _ _ _ _ _ (prints_before _ _ _ _ c.call.ensures.said (subst (λ (t : List ℕ). Prints (g.St.Store.said c.call.new.self.store) (g.St.Store.said c.say_answer.new.engine.store) t) text c.in_ok-say_answer.ensures.text))
-            (walks_from _ _ o.session _ _ _ _ _ _ (ap described (c.say_answer.ensures.description ∙ c.call.ensures.description)) (sym same) (c.in_ok-walk_all.ensures.walks o.session (c.in_ok-say_answer.ensures.stands o.session is.session) (omega (arith, room, ap length same, (step_small (described c.args.engine.now.desc) now.session c.args.name c.args.verb).high)))))
+    (goes_walked _ now o.session (answer_text now.line c.args.name o.reply o.sync) o.quiets _ _ _ _ _ (prints_before _ _ _ _ c.call.ensures.said (subst (λ (t : List ℕ). Prints (g.St.Store.said c.call.new.self.store) (g.St.Store.said c.say_answer.new.engine.store) t) text c.in_ok-say_answer.ensures.text))
+    (walks_from _ _ o.session _ _ _ _ _ _ (ap described (c.say_answer.ensures.description ∙ c.call.ensures.description)) (sym same) (c.in_ok-walk_all.ensures.walks o.session (c.in_ok-say_answer.ensures.stands o.session is.session) (omega (arith, room, ap length same, (step_small (described c.args.engine.now.desc) now.session c.args.name c.args.verb).high)))))
 
 pub returns-then-not-is_waits-clause-part : goal.returns-then-not-is_waits-clause-part
 returns-then-not-is_waits-clause-part g c = λ now stands same line room.
@@ -49,7 +49,7 @@ returns-then-not-is_waits-clause-part g c = λ now stands same line room.
     let text = answer_is c.args.line now.line c.args.name c.in_ok-answer.answer.reply o.reply c.in_ok-answer.answer.sync o.sync (sym line) is.reply is.sync in
     let e = tried_answered (described c.args.engine.now.desc) now c.args.name c.args.verb o (ap is_waits (sym is.reply) ∙ sym c.is_waits.ensures ∙ c.if-not-is_waits.true) in
     subst (λ (l : Lined). PrintsFront (g.St.Store.said c.args.engine.now.store) (g.St.Store.said c.walk_all.new.engine.store) l.text) (sym e) (front_on _ _ _ _ _ (prints_before _ _ _ _ c.call.ensures.said (subst (λ (t : List ℕ). Prints (g.St.Store.said c.call.new.self.store) (g.St.Store.said c.say_answer.new.engine.store) t) text c.in_ok-say_answer.ensures.text))
-        (walks_part_from _ _ o.session _ _ _ _ (ap described (c.say_answer.ensures.description ∙ c.call.ensures.description)) (sym same) (c.walk_all.ensures.part o.session (c.in_ok-say_answer.ensures.stands o.session is.session) (omega (arith, room, ap length same, (step_small (described c.args.engine.now.desc) now.session c.args.name c.args.verb).high)))))
+    (walks_part_from _ _ o.session _ _ _ _ (ap described (c.say_answer.ensures.description ∙ c.call.ensures.description)) (sym same) (c.walk_all.ensures.part o.session (c.in_ok-say_answer.ensures.stands o.session is.session) (omega (arith, room, ap length same, (step_small (described c.args.engine.now.desc) now.session c.args.name c.args.verb).high)))))
 
 pub returns-in_err-say_answer-2-clause-part : goal.returns-in_err-say_answer-2-clause-part
 returns-in_err-say_answer-2-clause-part g c = λ now stands same line room.
@@ -77,7 +77,7 @@ returns-clause-lined g c = λ now stands same line room.
     let e = tried_waits (described c.args.engine.now.desc) now c.args.name c.args.verb o (ap is_waits (sym is.reply) ∙ sym c.is_waits.ensures ∙ c.if-not-is_waits.false) in
     let few : length now.held < 10000 = omega (arith, ap length same, c.if-len-ge-HELD_LINES.false, c.len.ensures, c.args.held.now.ok.0) in
     subst (λ (l : Lined). GoesOn l true (view (g.St.Store.db c.say_answer-2.new.engine.store) (g.St.Store.mark c.say_answer-2.new.engine.store) (g.St.Store.next c.say_answer-2.new.engine.store) c.say_answer-2.new.engine.programs.items c.say_answer-2.new.engine.pending c.say_answer-2.new.engine.since) c.push.new.self.items (g.St.Store.said c.args.engine.now.store) (g.St.Store.said c.say_answer-2.new.engine.store)) (sym e)
-        (goes_held now o.session _ _ _ _ _ _ few (c.in_ok-say_answer-2.ensures.stands o.session is.session) (c.in_ok-push.ensures.items ∙ ap (λ (n : ℕ). c.args.held.now.items ++ first_line n c.args.name c.args.verb true ∷ []) (sym line) ∙ ap (λ (l : List HeldLine). l ++ first_line now.line c.args.name c.args.verb true ∷ []) (sym same)) (prints_before _ _ _ _ c.call.ensures.said (subst (λ (t : List ℕ). Prints (g.St.Store.said c.call.new.self.store) (g.St.Store.said c.say_answer-2.new.engine.store) t) text c.in_ok-say_answer-2.ensures.text)))
+    (goes_held now o.session _ _ _ _ _ _ few (c.in_ok-say_answer-2.ensures.stands o.session is.session) (c.in_ok-push.ensures.items ∙ ap (λ (n : ℕ). c.args.held.now.items ++ first_line n c.args.name c.args.verb true ∷ []) (sym line) ∙ ap (λ (l : List HeldLine). l ++ first_line now.line c.args.name c.args.verb true ∷ []) (sym same)) (prints_before _ _ _ _ c.call.ensures.said (subst (λ (t : List ℕ). Prints (g.St.Store.said c.call.new.self.store) (g.St.Store.said c.say_answer-2.new.engine.store) t) text c.in_ok-say_answer-2.ensures.text)))
 
 pub returns-clause-part : goal.returns-clause-part
 returns-clause-part g c = λ now stands same line room.

@@ -18,8 +18,8 @@ returns-then-not-has_line-clause-lined g c = then_ok c.first_try.result
     (λ on. (now : Going) → Stands (view (g.St.Store.db c.args.engine.now.store) (g.St.Store.mark c.args.engine.now.store) (g.St.Store.next c.args.engine.now.store) c.args.engine.now.programs.items c.args.engine.now.pending c.args.engine.now.since) now.session → now.held ≡ c.args.held.now.items → now.line ≡ c.args.line → Roomy now → GoesOn (tried (described c.args.engine.now.desc) now c.args.name c.args.verb (step (described c.args.engine.now.desc) now.session c.args.name c.args.verb)) on (view (g.St.Store.db c.first_try.new.engine.store) (g.St.Store.mark c.first_try.new.engine.store) (g.St.Store.next c.first_try.new.engine.store) c.first_try.new.engine.programs.items c.first_try.new.engine.pending c.first_try.new.engine.since) c.first_try.new.held.items (g.St.Store.said c.args.engine.now.store) (g.St.Store.said c.first_try.new.engine.store))
     (λ on. (now : Going) → Stands (view (g.St.Store.db c.args.engine.now.store) (g.St.Store.mark c.args.engine.now.store) (g.St.Store.next c.args.engine.now.store) c.args.engine.now.programs.items c.args.engine.now.pending c.args.engine.now.since) now.session → now.held ≡ c.args.held.now.items → now.line ≡ c.args.line → Roomy now → GoesOn (spoken (described c.args.engine.now.desc) now (Spoken c.args.name c.args.verb)) on (view (g.St.Store.db c.first_try.new.engine.store) (g.St.Store.mark c.first_try.new.engine.store) (g.St.Store.next c.first_try.new.engine.store) c.first_try.new.engine.programs.items c.first_try.new.engine.pending c.first_try.new.engine.since) c.first_try.new.held.items (g.St.Store.said c.args.engine.now.store) (g.St.Store.said c.first_try.new.engine.store))
     (λ on lined now stands same line room.
-        let has : has_line now.held c.args.name ≡ false = ap (λ (l : List HeldLine). has_line l c.args.name) (same ∙ sym c.as_slice.ensures.value) ∙ sym c.has_line.ensures ∙ c.if-not-has_line.true in
-        subst (λ (l : Lined). GoesOn l on (view (g.St.Store.db c.first_try.new.engine.store) (g.St.Store.mark c.first_try.new.engine.store) (g.St.Store.next c.first_try.new.engine.store) c.first_try.new.engine.programs.items c.first_try.new.engine.pending c.first_try.new.engine.since) c.first_try.new.held.items (g.St.Store.said c.args.engine.now.store) (g.St.Store.said c.first_try.new.engine.store)) (sym (spoken_tried (described c.args.engine.now.desc) now c.args.name c.args.verb has)) (lined now stands same line room))
+    let has : has_line now.held c.args.name ≡ false = ap (λ (l : List HeldLine). has_line l c.args.name) (same ∙ sym c.as_slice.ensures.value) ∙ sym c.has_line.ensures ∙ c.if-not-has_line.true in
+    subst (λ (l : Lined). GoesOn l on (view (g.St.Store.db c.first_try.new.engine.store) (g.St.Store.mark c.first_try.new.engine.store) (g.St.Store.next c.first_try.new.engine.store) c.first_try.new.engine.programs.items c.first_try.new.engine.pending c.first_try.new.engine.since) c.first_try.new.held.items (g.St.Store.said c.args.engine.now.store) (g.St.Store.said c.first_try.new.engine.store)) (sym (spoken_tried (described c.args.engine.now.desc) now c.args.name c.args.verb has)) (lined now stands same line room))
     c.first_try.ensures.lined
 
 pub returns-then-not-has_line-clause-part : goal.returns-then-not-has_line-clause-part
@@ -31,7 +31,7 @@ pub returns-then-len-ge-HELD_LINES-clause-lined : goal.returns-then-len-ge-HELD_
 returns-then-len-ge-HELD_LINES-clause-lined g c = λ now stands same line room.
     let has : has_line now.held c.args.name ≡ true = ap (λ (l : List HeldLine). has_line l c.args.name) (same ∙ sym c.as_slice.ensures.value) ∙ sym c.has_line.ensures ∙ c.if-not-has_line.false in
     subst (λ (l : Lined). GoesOn l false (view (g.St.Store.db c.args.engine.now.store) (g.St.Store.mark c.args.engine.now.store) (g.St.Store.next c.args.engine.now.store) c.args.engine.now.programs.items c.args.engine.now.pending c.args.engine.now.since) c.args.held.now.items (g.St.Store.said c.args.engine.now.store) (g.St.Store.said c.args.engine.now.store)) (sym (spoken_held (described c.args.engine.now.desc) now c.args.name c.args.verb has))
-        (goes_full now now.session (first_line now.line c.args.name c.args.verb false) [] _ _ _ _ (omega (arith, ap length same, c.if-len-ge-HELD_LINES.true, c.len.ensures, c.args.held.now.ok.0)) stands (sym same) refl)
+    (goes_full now now.session (first_line now.line c.args.name c.args.verb false) [] _ _ _ _ (omega (arith, ap length same, c.if-len-ge-HELD_LINES.true, c.len.ensures, c.args.held.now.ok.0)) stands (sym same) refl)
 
 pub returns-then-len-ge-HELD_LINES-clause-part : goal.returns-then-len-ge-HELD_LINES-clause-part
 returns-then-len-ge-HELD_LINES-clause-part g c = λ now stands same line room. front_none _ _ _ refl
@@ -43,8 +43,8 @@ pub returns-clause-lined : goal.returns-clause-lined
 returns-clause-lined g c = λ now stands same line room.
     let has : has_line now.held c.args.name ≡ true = ap (λ (l : List HeldLine). has_line l c.args.name) (same ∙ sym c.as_slice.ensures.value) ∙ sym c.has_line.ensures ∙ c.if-not-has_line.false in
     subst (λ (l : Lined). GoesOn l true (view (g.St.Store.db c.args.engine.now.store) (g.St.Store.mark c.args.engine.now.store) (g.St.Store.next c.args.engine.now.store) c.args.engine.now.programs.items c.args.engine.now.pending c.args.engine.now.since) c.push.new.self.items (g.St.Store.said c.args.engine.now.store) (g.St.Store.said c.args.engine.now.store)) (sym (spoken_held (described c.args.engine.now.desc) now c.args.name c.args.verb has))
-        (goes_held now now.session (first_line now.line c.args.name c.args.verb false) [] _ _ _ _ (omega (arith, ap length same, c.if-len-ge-HELD_LINES.false, c.len.ensures, c.args.held.now.ok.0)) stands
-            (c.in_ok-push.ensures.items ∙ ap (λ (n : ℕ). c.args.held.now.items ++ first_line n c.args.name c.args.verb false ∷ []) (sym line) ∙ ap (λ (l : List HeldLine). l ++ first_line now.line c.args.name c.args.verb false ∷ []) (sym same)) (prints_none _ _ refl))
+    (goes_held now now.session (first_line now.line c.args.name c.args.verb false) [] _ _ _ _ (omega (arith, ap length same, c.if-len-ge-HELD_LINES.false, c.len.ensures, c.args.held.now.ok.0)) stands
+    (c.in_ok-push.ensures.items ∙ ap (λ (n : ℕ). c.args.held.now.items ++ first_line n c.args.name c.args.verb false ∷ []) (sym line) ∙ ap (λ (l : List HeldLine). l ++ first_line now.line c.args.name c.args.verb false ∷ []) (sym same)) (prints_none _ _ refl))
 
 pub returns-clause-part : goal.returns-clause-part
 returns-clause-part g c = λ now stands same line room. front_none _ _ _ refl

@@ -21,9 +21,13 @@ pub returns-in-Err-Bytes-clause-bytes : goal.returns-in-Err-Bytes-clause-bytes
 returns-in-Err-Bytes-clause-bytes g c = λ _. (refl, λ all remains. c.in-Err-Bytes.ensures.bytes (ap Err c.in-Err-Bytes.field-0-is) all remains)
 
 pub returns-in-Ok-None-clause-none : goal.returns-in-Ok-None-clause-none
-returns-in-Ok-None-clause-none g c = λ _. (refl, refl, λ all remains.
-    let e = (rw c.in-Ok-None.field-0-is at c.in-Ok-None.ensures.line) all remains in
-    (e.0, subst (λ (r : List ℕ). Remains c.next_raw.new.feed (g.I.Source.left c.next_raw.new.source) r) (ap after_line e.0) e.1))
+returns-in-Ok-None-clause-none g c = λ _. (
+  refl,
+  refl,
+  λ all remains.
+      let e = (rw c.in-Ok-None.field-0-is at c.in-Ok-None.ensures.line) all remains in
+      (e.0, subst (λ (r : List ℕ). Remains c.next_raw.new.feed (g.I.Source.left c.next_raw.new.source) r) (ap after_line e.0) e.1),
+)
 
 pub returns-in-Ok-None-clause-part : goal.returns-in-Ok-None-clause-part
 returns-in-Ok-None-clause-part g c = λ now all stands same line room remains. front_none _ _ _ refl

@@ -13,7 +13,7 @@ pub returns-in_err-say-clause-part : goal.returns-in_err-say-clause-part
 returns-in_err-say-clause-part g c =
     let text : c.as_slice.result.now ≡ text_of c.line-item.result = c.as_slice.ensures ∙ c.in_ok-text.ensures in
     subst (λ (t : List ℕ). PrintsFront (g.St.Store.said c.args.engine.now.store) (g.St.Store.said c.say.new.self.store) t) (sym (unanswered_rest c.args.held.now c.loop-line.line-index c.line-item.result c.loop-line-test.true (sym c.line-item.is)))
-        (front_on _ _ _ _ _ c.loop-line.invariant.text (front_of_first _ _ _ _ (subst (λ (t : List ℕ). PrintsFront (g.St.Store.said c.loop-line.engine.store) (g.St.Store.said c.say.new.self.store) t) text c.say.ensures.part)))
+    (front_on _ _ _ _ _ c.loop-line.invariant.text (front_of_first _ _ _ _ (subst (λ (t : List ℕ). PrintsFront (g.St.Store.said c.loop-line.engine.store) (g.St.Store.said c.say.new.self.store) t) text c.say.ensures.part)))
 
 pub loop-line-preserved : goal.loop-line-preserved
 loop-line-preserved g c =

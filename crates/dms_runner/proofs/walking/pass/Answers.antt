@@ -47,21 +47,21 @@ returns-in_err-try_at-clause-part g c = λ s stands room.
     let h = line_at c.loop-i.held c.loop-i.i (omega (arith, c.loop-i-test.true, c.loop-i.invariant.long)) in
     let p = c.loop-i.invariant.passing s stands room in
     passing_part _ s _ _ _ _ _ _ _ h.0 h.1 (sym (c.is_passed.ensures h.0 h.1) ∙ c.if-is_passed.false)
-        (subst (λ (d : Description). PrintsFront (g.St.Store.said c.loop-i.engine.store) (g.St.Store.said c.try_at.new.engine.store) (tried_text h.0 (step (described d) s h.0.program h.0.verb))) c.loop-i.invariant.description (c.try_at.ensures.part h.0 h.1 s p.stands room)) p
+    (subst (λ (d : Description). PrintsFront (g.St.Store.said c.loop-i.engine.store) (g.St.Store.said c.try_at.new.engine.store) (tried_text h.0 (step (described d) s h.0.program h.0.verb))) c.loop-i.invariant.description (c.try_at.ensures.part h.0 h.1 s p.stands room)) p
 
 pub returns-then-branch-clause-passes : goal.returns-then-branch-clause-passes
 returns-then-branch-clause-passes g c = λ s stands room.
     let h = line_at c.loop-i.held c.loop-i.i (omega (arith, c.loop-i-test.true, c.loop-i.invariant.long)) in
     let p = c.loop-i.invariant.passing s stands room in
     passing_answered _ s _ _ _ _ _ _ _ _ h.0 _ h.1 (sym (c.is_passed.ensures h.0 h.1) ∙ c.if-is_passed.false) c.if-branch.true
-        (subst (λ (d : Description). Tries (step (described d) s h.0.program h.0.verb) h.0 c.in_ok-try_at.field-0 (view (g.St.Store.db c.try_at.new.engine.store) (g.St.Store.mark c.try_at.new.engine.store) (g.St.Store.next c.try_at.new.engine.store) c.try_at.new.engine.programs.items c.try_at.new.engine.pending c.try_at.new.engine.since) (g.St.Store.said c.loop-i.engine.store) (g.St.Store.said c.try_at.new.engine.store)) c.loop-i.invariant.description (c.in_ok-try_at.ensures.tried h.0 h.1 s p.stands room)) p
+    (subst (λ (d : Description). Tries (step (described d) s h.0.program h.0.verb) h.0 c.in_ok-try_at.field-0 (view (g.St.Store.db c.try_at.new.engine.store) (g.St.Store.mark c.try_at.new.engine.store) (g.St.Store.next c.try_at.new.engine.store) c.try_at.new.engine.programs.items c.try_at.new.engine.pending c.try_at.new.engine.since) (g.St.Store.said c.loop-i.engine.store) (g.St.Store.said c.try_at.new.engine.store)) c.loop-i.invariant.description (c.in_ok-try_at.ensures.tried h.0 h.1 s p.stands room)) p
 
 pub returns-then-branch-clause-part : goal.returns-then-branch-clause-part
 returns-then-branch-clause-part g c = λ s stands room.
     let h = line_at c.loop-i.held c.loop-i.i (omega (arith, c.loop-i-test.true, c.loop-i.invariant.long)) in
     let p = c.loop-i.invariant.passing s stands room in
     passing_part _ s _ _ _ _ _ _ _ h.0 h.1 (sym (c.is_passed.ensures h.0 h.1) ∙ c.if-is_passed.false)
-        (subst (λ (d : Description). PrintsFront (g.St.Store.said c.loop-i.engine.store) (g.St.Store.said c.try_at.new.engine.store) (tried_text h.0 (step (described d) s h.0.program h.0.verb))) c.loop-i.invariant.description (c.try_at.ensures.part h.0 h.1 s p.stands room)) p
+    (subst (λ (d : Description). PrintsFront (g.St.Store.said c.loop-i.engine.store) (g.St.Store.said c.try_at.new.engine.store) (tried_text h.0 (step (described d) s h.0.program h.0.verb))) c.loop-i.invariant.description (c.try_at.ensures.part h.0 h.1 s p.stands room)) p
 
 pub loop-i-preserved : goal.loop-i-preserved
 loop-i-preserved g c =
@@ -80,7 +80,7 @@ loop-i-preserved g c =
       passing = λ s stands room.
           let p = c.loop-i.invariant.passing s stands room in
           passing_wait _ s _ _ _ _ _ _ _ _ _ h.0 _ h.1 (sym (c.is_passed.ensures h.0 h.1) ∙ c.if-is_passed.false) (c.note_waiting.ensures.noted h.0 h.1) c.if-branch.false
-              (subst (λ (d : Description). Tries (step (described d) s h.0.program h.0.verb) h.0 c.in_ok-try_at.field-0 (view (g.St.Store.db c.try_at.new.engine.store) (g.St.Store.mark c.try_at.new.engine.store) (g.St.Store.next c.try_at.new.engine.store) c.try_at.new.engine.programs.items c.try_at.new.engine.pending c.try_at.new.engine.since) (g.St.Store.said c.loop-i.engine.store) (g.St.Store.said c.try_at.new.engine.store)) c.loop-i.invariant.description (c.in_ok-try_at.ensures.tried h.0 h.1 s p.stands room)) p;
+          (subst (λ (d : Description). Tries (step (described d) s h.0.program h.0.verb) h.0 c.in_ok-try_at.field-0 (view (g.St.Store.db c.try_at.new.engine.store) (g.St.Store.mark c.try_at.new.engine.store) (g.St.Store.next c.try_at.new.engine.store) c.try_at.new.engine.programs.items c.try_at.new.engine.pending c.try_at.new.engine.since) (g.St.Store.said c.loop-i.engine.store) (g.St.Store.said c.try_at.new.engine.store)) c.loop-i.invariant.description (c.in_ok-try_at.ensures.tried h.0 h.1 s p.stands room)) p;
     }
 
 pub returns-clause-passes : goal.returns-clause-passes

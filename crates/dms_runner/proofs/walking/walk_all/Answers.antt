@@ -27,21 +27,21 @@ pub returns-in_err-pass-clause-part : goal.returns-in_err-pass-clause-part
 returns-in_err-pass-clause-part g c = λ s stands room.
     let k = c.loop-turn.invariant.walking s stands room in
     walking_part _ s _ _ _ _ _ _ _ k (omega (arith, c.loop-turn-test.true, c.len-turn-end.ensures, c.args.held.now.ok.0))
-        (part_from _ _ k.at _ _ _ _ (ap described c.loop-turn.invariant.description) c.as_mut_slice.ensures.value (c.pass.ensures.part k.at k.stands (walking_room _ s _ _ _ _ _ _ k room)))
+    (part_from _ _ k.at _ _ _ _ (ap described c.loop-turn.invariant.description) c.as_mut_slice.ensures.value (c.pass.ensures.part k.at k.stands (walking_room _ s _ _ _ _ _ _ k room)))
 
 pub returns-in-None-clause-walks : goal.returns-in-None-clause-walks
 returns-in-None-clause-walks g c = λ s stands room.
     let k = c.loop-turn.invariant.walking s stands room in
     let back = written c.loop-turn.held.items c.pass.new.held c.loop-turn.held.len c.loop-turn.held.ok.0 (c.pass.ensures.long ∙ ap length c.as_mut_slice.ensures.value) in
     subst (λ (l : List Held). Walks (walks (length c.args.held.now.items) (described c.args.engine.now.desc) s c.args.held.now.items) (view (g.St.Store.db c.pass.new.engine.store) (g.St.Store.mark c.pass.new.engine.store) (g.St.Store.next c.pass.new.engine.store) c.pass.new.engine.programs.items c.pass.new.engine.pending c.pass.new.engine.since) l (g.St.Store.said c.args.engine.now.store) (g.St.Store.said c.pass.new.engine.store)) (sym back)
-        (walking_end _ s _ _ _ _ _ _ _ _ _ k (omega (arith, c.loop-turn-test.true, c.len-turn-end.ensures, c.args.held.now.ok.0))
-            (passes_from _ _ k.at _ _ _ _ _ _ _ _ (ap described c.loop-turn.invariant.description) c.as_mut_slice.ensures.value c.in-None.is (c.in_ok-pass.ensures.passes k.at k.stands (walking_room _ s _ _ _ _ _ _ k room))))
+    (walking_end _ s _ _ _ _ _ _ _ _ _ k (omega (arith, c.loop-turn-test.true, c.len-turn-end.ensures, c.args.held.now.ok.0))
+    (passes_from _ _ k.at _ _ _ _ _ _ _ _ (ap described c.loop-turn.invariant.description) c.as_mut_slice.ensures.value c.in-None.is (c.in_ok-pass.ensures.passes k.at k.stands (walking_room _ s _ _ _ _ _ _ k room))))
 
 pub returns-in-None-clause-part : goal.returns-in-None-clause-part
 returns-in-None-clause-part g c = λ s stands room.
     let k = c.loop-turn.invariant.walking s stands room in
     walking_part _ s _ _ _ _ _ _ _ k (omega (arith, c.loop-turn-test.true, c.len-turn-end.ensures, c.args.held.now.ok.0))
-        (part_from _ _ k.at _ _ _ _ (ap described c.loop-turn.invariant.description) c.as_mut_slice.ensures.value (c.pass.ensures.part k.at k.stands (walking_room _ s _ _ _ _ _ _ k room)))
+    (part_from _ _ k.at _ _ _ _ (ap described c.loop-turn.invariant.description) c.as_mut_slice.ensures.value (c.pass.ensures.part k.at k.stands (walking_room _ s _ _ _ _ _ _ k room)))
 
 pub loop-turn-preserved : goal.loop-turn-preserved
 loop-turn-preserved g c = record {
@@ -58,8 +58,8 @@ loop-turn-preserved g c = record {
       let k = c.loop-turn.invariant.walking s stands room in
       let back = written c.loop-turn.held.items c.pass.new.held c.loop-turn.held.len c.loop-turn.held.ok.0 (c.pass.ensures.long ∙ ap length c.as_mut_slice.ensures.value) in
       walking_on _ s _ _ _ c.pass.new.held _ c.in-Some.i _ _ _ _ _ k (omega (arith, c.loop-turn-test.true, c.len-turn-end.ensures, c.args.held.now.ok.0))
-          (passes_from _ _ k.at _ _ _ _ _ _ _ _ (ap described c.loop-turn.invariant.description) c.as_mut_slice.ensures.value c.in-Some.is (c.in_ok-pass.ensures.passes k.at k.stands (walking_room _ s _ _ _ _ _ _ k room)))
-          (c.remove-answered.ensures.items ∙ ap (λ (l : List Held). remove l c.in-Some.i) back);
+      (passes_from _ _ k.at _ _ _ _ _ _ _ _ (ap described c.loop-turn.invariant.description) c.as_mut_slice.ensures.value c.in-Some.is (c.in_ok-pass.ensures.passes k.at k.stands (walking_room _ s _ _ _ _ _ _ k room)))
+      (c.remove-answered.ensures.items ∙ ap (λ (l : List Held). remove l c.in-Some.i) back);
 }
 
 pub returns-clause-walks : goal.returns-clause-walks
