@@ -65,3 +65,18 @@ within_moved d d' lines e w = subst (λ (x : Described). WithinLimits x lines) (
 pub on_ok : {T E : Type 0} (r : Result T E) (P : Type 0) → IsOk r → OnOk r P → P
 on_ok (Ok x) P is p = p
 on_ok (Err e) P is p = absurd (cc)
+
+or_that : {T E : Type 0} → T → Result T E → T
+or_that x (Ok y) = y
+or_that x (Err e) = x
+
+-- one description is meant
+pub same_description : (j : Result Described SchemaFault) (d e : Described) → j ≡ Ok d → j ≡ Ok e → e ≡ d
+unfolding or_that
+same_description j d e first then_ = ap (or_that d) (sym then_ ∙ first)
+
+pub within_lines : (d : Described) (lines lines' : List (List ℕ)) → lines' ≡ lines → WithinLimits d lines' → WithinLimits d lines
+within_lines d lines lines' e w = subst (λ (x : List (List ℕ)). WithinLimits d x) e w
+
+pub passes_lines : (k : LimitKind) (d : Described) (lines lines' : List (List ℕ)) (before after : List ℕ) → lines' ≡ lines → Passes k d lines' before after → Passes k d lines before after
+passes_lines k d lines lines' before after e p = subst (λ (x : List (List ℕ)). Passes k d x before after) e p

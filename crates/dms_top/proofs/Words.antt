@@ -1,5 +1,5 @@
 -- A list of one word.
-use Rattle.std.proofs.Common.{◌≡◌, ℕ, List, [], ◌∷◌, Bool, sym, ap, ◌∙◌, arith, length, get_or, IsTrue, map}
+use Rattle.std.proofs.Common.{◌≡◌, ℕ, List, [], ◌∷◌, Bool, true, false, sym, ap, ◌∙◌, arith, length, get_or, IsTrue, map}
 use Rattle.std.specs.Str.{bytes_eq}
 use Rattle.std.proofs.lemmas.Slice.Eq.{bytes_eq-Decides}
 
@@ -14,3 +14,7 @@ one_word f (x ∷ []) w b t len at test = (
   λ h. ap (λ (v : List ℕ). v ∷ []) (ap f (sym at) ∙ (bytes_eq-Decides (f w) t).0 (sym test ∙ h)),
   λ h. test ∙ (bytes_eq-Decides (f w) t).1 (ap f at ∙ head_of [] [] (f x) t h),
 )
+
+pub not_both : (b : Bool) → b ≡ true → b ≡ false → ⊥
+not_both true p q = cc
+not_both false p q = cc

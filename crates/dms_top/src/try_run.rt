@@ -7,6 +7,7 @@ ghost use Rattle.dms_model.specs.Db.{empty_db};
 ghost use Rattle.dms_runner.specs.Answers.{answers_text};
 ghost use Rattle.dms_top.specs.Answering.{Printed, PrintedFront, WithinLimits, Passes};
 ghost use Rattle.dms_top.specs.declared.status.LimitKind.{LimitKind as Kind};
+ghost use Rattle.dms_top.specs.Words.{IsSilent};
 ghost use Rattle.dms_top.specs.declared.status.SchemaFault.{SchemaFault as Refusal};
 
 use crate::status::{LimitKind, Status};
@@ -30,6 +31,7 @@ fn status_of(fault: RunFault) -> Status
     ensures lines { result ≡ Status.Limit LimitKind.Lines → fault ≡ RunFault.Lines }
     ensures bytes { result ≡ Status.Limit LimitKind.Bytes → fault ≡ RunFault.Bytes }
     ensures held { result ≡ Status.Limit LimitKind.Held → fault ≡ RunFault.Held }
+    ensures spoken { IsSilent result → ⊥ }
 {
     match fault {
         RunFault::Block(BlockFault::Disk) => Status::DiskFault,
@@ -54,6 +56,7 @@ fn status_after(ran: Result<(), RunFault>) -> Status
     ensures lines { result ≡ Status.Limit LimitKind.Lines → IsErrOf ran RunFault.Lines }
     ensures bytes { result ≡ Status.Limit LimitKind.Bytes → IsErrOf ran RunFault.Bytes }
     ensures held { result ≡ Status.Limit LimitKind.Held → IsErrOf ran RunFault.Held }
+    ensures spoken { IsSilent result → ⊥ }
 {
     match ran {
         Ok(()) => Status::Ok,
@@ -82,6 +85,7 @@ pub fn try_lines<S: Site, I: Source>(
     ensures files { IsTrue S.tells → S.files site.new ≡ S.files site.old }
     ensures same_source { I.same_source source.old source.new }
     ensures later { I.faults source.old ≤ I.faults source.new }
+    ensures spoken { IsSilent result → ⊥ }
 {
     match PlainStore::new(alloc, desc, site) {
         Err((_fault, _site)) => Status::Memory,

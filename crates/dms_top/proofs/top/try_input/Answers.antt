@@ -1,4 +1,10 @@
-use Rattle.std.proofs.Common.{◌∙◌, ap, sym, Err}
+use Rattle.std.proofs.Common.{◌≡◌, ◌∙◌, ap, refl, sym, Ok, Err, List, ℕ}
+use Rattle.dms_desc.specs.Shape.{described}
+use Rattle.dms_model.specs.Db.{empty_db}
+use Rattle.dms_runner.specs.Answers.{answers_text}
+use Rattle.dms_top.specs.Answering.{try_text, script_of}
+use Rattle.dms_top.specs.Schema.{schema_text}
+use Rattle.dms_top.proofs.Printing.{nothing_printed, printed_moved, front_moved, text_accepted, same_description, within_moved, within_lines, passes_moved, passes_lines}
 use Rattle.dms_top.specs.Judging.{judged}
 use Rattle.dms_top.proofs.Judgements.{long_judged, refused_is, ok_of, no_more, at_start}
 use Rattle.dms_top.proofs.top.try_input.Goals as goal
@@ -21,3 +27,45 @@ pub returns-clause-end : goal.returns-clause-end
 returns-clause-end g c = λ ok all left.
     let t = c.in-Ok.ensures.text all (at_start _ _ all c.new-feed.ensures left) in
     no_more _ _ (c.try_lines.ensures.end ok t.rest t.remains)
+
+pub returns-in-Err-Input-clause-part : goal.returns-in-Err-Input-clause-part
+returns-in-Err-Input-clause-part g c = λ told all left. nothing_printed _ _ (try_text all) refl
+
+pub returns-in-Err-Memory-clause-part : goal.returns-in-Err-Memory-clause-part
+returns-in-Err-Memory-clause-part g c = λ told all left. nothing_printed _ _ (try_text all) refl
+
+pub returns-in-Err-Long-clause-part : goal.returns-in-Err-Long-clause-part
+returns-in-Err-Long-clause-part g c = λ told all left. nothing_printed _ _ (try_text all) refl
+
+pub returns-in-Memory-clause-part : goal.returns-in-Memory-clause-part
+returns-in-Memory-clause-part g c = λ told all left. nothing_printed _ _ (try_text all) refl
+
+pub returns-in-Refused-clause-part : goal.returns-in-Refused-clause-part
+returns-in-Refused-clause-part g c = λ told all left. nothing_printed _ _ (try_text all) refl
+
+pub returns-clause-answers : goal.returns-clause-answers
+returns-clause-answers g c = λ ok told all left.
+    let t = c.in-Ok.ensures.text all (at_start _ _ all c.new-feed.ensures left) in
+    let j : judged (schema_text all) ≡ Ok (described c.in-Description.desc) = ap judged (sym t.is ∙ sym c.as_slice.ensures) ∙ c.in-Description.ensures in
+    printed_moved _ _ (try_text all) _ _ _ refl refl (text_accepted _ _ (script_of all) j ∙ ap (λ (ls : List (List ℕ)). answers_text (described c.in-Description.desc) empty_db 1 ls) (sym t.script)) (c.try_lines.ensures.answers ok told t.rest t.remains).0
+
+pub returns-clause-part : goal.returns-clause-part
+returns-clause-part g c = λ told all left.
+    let t = c.in-Ok.ensures.text all (at_start _ _ all c.new-feed.ensures left) in
+    let j : judged (schema_text all) ≡ Ok (described c.in-Description.desc) = ap judged (sym t.is ∙ sym c.as_slice.ensures) ∙ c.in-Description.ensures in
+    front_moved _ _ (try_text all) _ _ _ refl refl (text_accepted _ _ (script_of all) j ∙ ap (λ (ls : List (List ℕ)). answers_text (described c.in-Description.desc) empty_db 1 ls) (sym t.script)) (c.try_lines.ensures.part told t.rest t.remains)
+
+pub returns-clause-within : goal.returns-clause-within
+returns-clause-within g c = λ ok told all d left is.
+    let t = c.in-Ok.ensures.text all (at_start _ _ all c.new-feed.ensures left) in
+    let j : judged (schema_text all) ≡ Ok (described c.in-Description.desc) = ap judged (sym t.is ∙ sym c.as_slice.ensures) ∙ c.in-Description.ensures in
+    within_moved _ _ _ (same_description _ _ d j is) (within_lines _ _ _ t.script (c.try_lines.ensures.answers ok told t.rest t.remains).1)
+
+pub returns-clause-limit : goal.returns-clause-limit
+returns-clause-limit g c = λ k limit told all d left is.
+    let t = c.in-Ok.ensures.text all (at_start _ _ all c.new-feed.ensures left) in
+    let j : judged (schema_text all) ≡ Ok (described c.in-Description.desc) = ap judged (sym t.is ∙ sym c.as_slice.ensures) ∙ c.in-Description.ensures in
+    passes_moved k _ _ _ _ _ _ _ refl refl (same_description _ _ d j is) (passes_lines k _ _ _ _ _ t.script (c.try_lines.ensures.limit k limit told t.rest t.remains))
+
+pub returns-clause-silent : goal.returns-clause-silent
+returns-clause-silent g c = λ told silent. absurd (c.try_lines.ensures.spoken silent)
