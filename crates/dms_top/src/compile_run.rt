@@ -4,6 +4,7 @@ ghost use Rattle.dms_desc.specs.Shape.{Described, described};
 ghost use Rattle.dms_desc_bytes.specs.Spelling.{spelling};
 ghost use Rattle.dms_descfile.specs.DescriptionFile.{description_file, sealed_file, IsSealed, IsUnsealed};
 ghost use Rattle.dms_descfile.specs.Becoming.{Creates};
+ghost use Rattle.dms_top.specs.declared.status.LimitKind.{LimitKind as Kind};
 ghost use Rattle.dms_top.specs.declared.status.SchemaFault.{SchemaFault as Refusal};
 ghost use Rattle.dms_top.specs.Compiling.{compiled_text, Says, IsSpoken, IsBefore, IsOfFile};
 ghost use Rattle.dms_top.specs.Judging.{judged};
@@ -118,6 +119,7 @@ fn create<S: Site>(alloc: Global, site: &mut S, desc: &Description) -> Status
 /// already; no file is changed by then.
 pub fn compile_input<S: Site, I: Source>(alloc: Global, site: &mut S, input: &mut I) -> Status
     ensures words { result ≢ Status.BadWords }
+    ensures limit { (k : Kind) → result ≢ Status.Limit k }
     ensures refused { (f : Refusal) → result ≡ Status.SchemaRefused f → (all : List ℕ) → I.left input.old ≡ Some all → judged all ≡ Err f }
     ensures accepted { IsPast result → (all : List ℕ) → I.left input.old ≡ Some all → IsOk (judged all) }
     ensures end { IsPast result → (all : List ℕ) → I.left input.old ≡ Some all → I.left input.new ≡ Some [] }

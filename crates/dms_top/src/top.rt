@@ -37,6 +37,7 @@ fn is_compile(words: &[String]) -> bool
 /// database in memory that begins empty. It touches no file.
 fn try_input<S: Site, I: Source>(alloc: Global, site: &mut S, input: &mut I) -> Status
     ensures words { result ≢ Status.BadWords }
+    ensures exists { result ≢ Status.Exists }
     ensures refused { (f : Refusal) → result ≡ Status.SchemaRefused f → (all : List ℕ) → I.left input.old ≡ Some all → judged (text_of all) ≡ Err f }
     ensures accepted { IsPast result → (all : List ℕ) → I.left input.old ≡ Some all → IsOk (judged (text_of all)) }
     ensures end { result ≡ Status.Ok → (all : List ℕ) → I.left input.old ≡ Some all → I.left input.new ≡ Some [] }
@@ -96,7 +97,9 @@ pub fn dms<S: Site, I: Source>(
     ensures silent { IsTry (map string_bytes words.now) → IsTrue S.tells_said → IsSilent result → S.said site.new ≡ S.said site.old }
     ensures within { IsTry (map string_bytes words.now) → result ≡ Status.Ok → IsTrue S.tells_said → (all : List ℕ) (d : Described) → I.left input.old ≡ Some all → judged (text_of all) ≡ Ok d → WithinLimits d (script_of all) }
     ensures limit { IsTry (map string_bytes words.now) → (k : Kind) → result ≡ Status.Limit k → IsTrue S.tells_said → (all : List ℕ) (d : Described) → I.left input.old ≡ Some all → judged (text_of all) ≡ Ok d → Passes k d (script_of all) (S.said site.old) (S.said site.new) }
+    ensures no_file_exists { IsTry (map string_bytes words.now) → result ≢ Status.Exists }
     // `compile`
+    ensures compile_limit { IsCompile (map string_bytes words.now) → (k : Kind) → result ≢ Status.Limit k }
     ensures compile_refused { IsCompile (map string_bytes words.now) → (f : Refusal) → result ≡ Status.SchemaRefused f → (all : List ℕ) → I.left input.old ≡ Some all → judged all ≡ Err f }
     ensures compile_accepted { IsCompile (map string_bytes words.now) → IsPast result → (all : List ℕ) → I.left input.old ≡ Some all → IsOk (judged all) }
     ensures compile_exists { IsCompile (map string_bytes words.now) → result ≡ Status.Exists → IsTrue S.tells → (d : Described) × IsSealed (S.files site.old 1) d }
