@@ -1,16 +1,15 @@
 -- How the judging of a text ends.
-use Rattle.std.proofs.Common.{◌≡◌, ◌<◌, ◌∙◌, ap, sym, Err, Ok, Some, None, Option, Result, List, ℕ, [], ◌∷◌, ◌++◌, length, cond, nat_lt, true, IsOk, Bool, arith, subst, refl}
+use Rattle.std.proofs.Common.{◌≡◌, ◌<◌, ◌∙◌, ap, sym, Err, Ok, Some, None, Option, Result, List, ℕ, [], ◌∷◌, ◌++◌, length, nat_lt, true, IsOk, arith, subst, refl}
 use Rattle.std.proofs.lemmas.Bool.Decides.{nat_tests}
 use Rattle.std.proofs.lemmas.Option.{none-some, same_Some}
 use Rattle.dasdl_parse.specs.declared.fault.ParseFault.TheVariants.{TooMany}
 use Rattle.dasdl_parse.specs.Grammar.{schema_of}
 use Rattle.dms_desc.specs.Shape.{Described}
 use Rattle.dms_feed.specs.Feeds.{Remains}
-use Rattle.dms_top.specs.declared.status.Status.{Status}
 use Rattle.dms_top.specs.declared.status.Status.TheVariants.{SchemaRefused}
 use Rattle.dms_top.specs.declared.status.SchemaFault.{SchemaFault}
 use Rattle.dms_top.specs.declared.status.SchemaFault.TheVariants.{Parse}
-use Rattle.dms_top.specs.Judging.{judged, parsed_as}
+use Rattle.dms_top.specs.Judging.{judged}
 
 same_fault : (e f : SchemaFault) → SchemaRefused e ≡ SchemaRefused f → e ≡ f
 same_fault e f is = cc

@@ -1,4 +1,4 @@
-use Rattle.std.proofs.Common.{Err, ◌≡◌, ◌++◌, List, ℕ, length, false, true, sym, ◌∙◌, ap, arith}
+use Rattle.std.proofs.Common.{Err, ◌≡◌, ◌++◌, List, ℕ, length, false, sym, ◌∙◌, ap, arith}
 use Rattle.dms_top.specs.Schema.{is_script}
 use Rattle.dms_top.proofs.Taken.{goes_on, ends_at, ends_none, too_long, long_first}
 use Rattle.dms_top.proofs.schema.schema_line.Goals as goal

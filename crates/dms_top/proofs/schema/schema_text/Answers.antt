@@ -1,4 +1,4 @@
-use Rattle.std.proofs.Common.{Err, ap, ◌≡◌, ◌∙◌, List, ℕ, arith}
+use Rattle.std.proofs.Common.{Err, ap, arith}
 use Rattle.dms_top.proofs.Taken.{reaches_on, reaches_end, reaches_long, reaches_over}
 use Rattle.dms_top.proofs.schema.schema_text.Goals as goal
 

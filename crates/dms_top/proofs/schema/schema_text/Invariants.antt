@@ -1,4 +1,4 @@
-use Rattle.std.proofs.Common.{◌≤◌, ◌≡◌, ◌++◌, List, ℕ, length}
+use Rattle.std.proofs.Common.{◌≤◌, List, ℕ}
 use Rattle.dms_feed.specs.Feeds.{Remains}
 use Rattle.dms_top.proofs.Taken.{Reaches}
 use Rattle.dms_top.proofs.schema.schema_text.Given as goal

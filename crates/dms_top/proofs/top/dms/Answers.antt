@@ -1,4 +1,3 @@
-use Rattle.std.proofs.Common.{◌≡◌, Bool, true, false}
 use Rattle.dms_top.proofs.Words.{not_both}
 use Rattle.dms_top.proofs.top.dms.Goals as goal
 

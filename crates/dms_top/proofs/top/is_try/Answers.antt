@@ -1,4 +1,4 @@
-use Rattle.std.proofs.Common.{sym, ◌∙◌, ap, Global, List, ℕ}
+use Rattle.std.proofs.Common.{◌∙◌, ap, Global, List, ℕ}
 use Rattle.std.specs.Prelude.{string_bytes, codes}
 use Rattle.std.specs.Str.{bytes_eq}
 use Rattle.dms_top.proofs.Words.{one_word}

@@ -1,16 +1,12 @@
-use Rattle.std.proofs.Common.{rules, ◌≡◌, ◌+◌, ◌<◌, ◌^◌, ◌∙◌, ap, sym, subst, refl, List, ℕ, [], arith, Ok, Err}
-use Rattle.dms_desc.specs.declared.description.Description.{Description}
+use Rattle.std.proofs.Common.{rules, ◌≡◌, ap, sym, List, ℕ, arith}
 use Rattle.dms_desc.specs.Shape.{Described, described}
 use Rattle.dms_feed.specs.Lines.{raw_lines}
 use Rattle.dms_model.specs.Db.{empty_db}
-use Rattle.dms_model.specs.Session.{Session, fresh_session}
-use Rattle.dms_storeverbs.specs.View.{view, Stands}
 use Rattle.dms_runner.specs.Answers.{answers_text}
-use Rattle.dms_top.specs.Answering.{Printed, PrintedFront, WithinLimits, Passes}
-use Rattle.dms_top.proofs.Printing.{told_prints, told_front, told_answers, told_lines, told_bytes, told_held, nothing_printed, stands_at, front_moved, printed_moved, passes_moved, within_moved, on_ok}
+use Rattle.dms_top.specs.Answering.{Passes}
+use Rattle.dms_top.proofs.Printing.{told_front, told_answers, told_lines, told_bytes, told_held, stands_at, front_moved, printed_moved, passes_moved, within_moved, on_ok}
 use Rattle.std.specs.Prelude.{IsTrue}
 use Rattle.dms_feed.specs.Feeds.{Remains}
-use Rattle.dms_top.specs.declared.status.Status.{Status}
 use Rattle.dms_top.specs.declared.status.Status.TheVariants.{Limit}
 use Rattle.dms_top.specs.declared.status.LimitKind.{LimitKind}
 use Rattle.dms_top.specs.declared.status.LimitKind.TheVariants.{Lines, Bytes, Held}
