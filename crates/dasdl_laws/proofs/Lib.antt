@@ -1,0 +1,5 @@
+mod Compiling
+mod Judging
+mod Ordered
+mod Parameters
+mod Turns
