@@ -2,4 +2,5 @@ mod Compiling
 mod Judging
 mod Ordered
 mod Parameters
+mod Short
 mod Turns
