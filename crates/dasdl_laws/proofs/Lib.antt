@@ -1,6 +1,11 @@
 mod Compiling
+mod Judged
 mod Judging
+mod Keys
+mod Literals
 mod Ordered
 mod Parameters
 mod Short
+mod Structures
 mod Turns
+mod Written

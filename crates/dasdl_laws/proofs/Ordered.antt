@@ -2,11 +2,11 @@
 use Rattle.std.proofs.Common.{◌≡◌, ◌≤◌, ◌<◌, ◌+◌, ℕ, suc, min, List, [], ◌∷◌, ◌++◌, map, length, Bool, true, false, cond, refl, sym, ap, subst, ◌∙◌, arith, length-append}
 use Rattle.std.proofs.lemmas.List.{map-append, length-map}
 use Rattle.std.proofs.lemmas.Bool.Decides.{nat_tests}
-use Rattle.std.specs.Prelude.{◌&&◌, ◌||◌, not, ◌==◌}
-use Rattle.std.specs.List.{list_all, list_any}
+use Rattle.std.specs.Prelude.{◌&&◌, ◌||◌, not, ◌==◌, nat_le}
+use Rattle.std.specs.List.{list_all, list_any, AllByRecursion}
 use Rattle.std.specs.Str.{bytes_eq}
 use Rattle.dms_desc.specs.Shape.{Shape}
-use Rattle.dms_desc_bytes.specs.Lists.{apart}
+use Rattle.dms_desc_bytes.specs.Lists.{apart, is_within}
 use Rattle.dms_desc_bytes.specs.WellFormed.{numbered, names_differ, is_restart, not_both_restart}
 use Rattle.dasdl_parse.specs.declared.declarations.Declaration.{Declaration}
 use Rattle.dasdl_parse.specs.declared.declarations.Declaration.TheVariants.{DataSet, SetOf}
@@ -25,7 +25,8 @@ use Rattle.dasdl_compile.specs.Finding.{drafted}
 use Rattle.std.specs.declared.result.Result.TheVariants.{Ok}
 use Rattle.std.specs.Prelude.{is_some}
 use Rattle.std.proofs.Common.{inl, inr, ◌⊎◌}
-use Rattle.std.proofs.lemmas.Bool.{and_parts}
+use Rattle.std.proofs.lemmas.Bool.{and_parts, leb-true}
+use Rattle.dasdl_laws.proofs.Short.{HaveKinds}
 use Rattle.dasdl_laws.proofs.Judging.{bind_ok, ok_same, steps_keep}
 use Rattle.dasdl_laws.proofs.Turns.{outer, Turn, turn_of, inside_kept}
 use Rattle.dasdl_laws.proofs.Turns.Turn.{inside, data_set, a_set}
@@ -231,3 +232,48 @@ well_ordered o decls w h few some =
       restart = sym (some_restart w.made) ∙ some;
       restarts = sym (restarts_kept w.made) ∙ k.restarts;
     }
+
+-- ---- kinds
+
+abbrev HasKind : Draft → Type 0
+HasKind d = is_within 1 5 d.kind ≡ true
+
+kinds_push : (ds : List Draft) (d : Draft) → AllByRecursion HasKind ds → HasKind d → AllByRecursion HasKind (ds ++ d ∷ [])
+kinds_push [] d h k = (k, tt)
+kinds_push (x ∷ xs) d h k = (h.0, kinds_push xs d h.1 k)
+
+data_set_has_kind : (b : Bool) → is_within 1 5 (data_set_kind b) ≡ true
+data_set_has_kind true = refl
+data_set_has_kind false = refl
+
+set_has_kind : (a b : Bool) → is_within 1 5 (cond (not a) 3 (cond b 4 5)) ≡ true
+set_has_kind true true = refl
+set_has_kind true false = refl
+set_has_kind false b = refl
+
+kinds_turned : (o : List Draft) (w v : Work) (decl : Declaration) → Turn o w v decl → AllByRecursion HasKind (map outer w.made) → AllByRecursion HasKind (map outer v.made)
+kinds_turned o w v _ (inside decl none i) h = subst (AllByRecursion HasKind) (sym (inside_kept o decl w v i)) h
+kinds_turned o w v _ (data_set s new placed once e) h =
+    let d = drafted (next_structure w.made) (data_set_kind s.restart) s.name w.within in
+    subst (λ (x : Work). AllByRecursion HasKind (map outer x.made)) (sym e)
+    (subst (AllByRecursion HasKind) (sym (map-append outer w.made (d ∷ []))) (kinds_push (map outer w.made) (outer d) h (data_set_has_kind s.restart)))
+kinds_turned o w v _ (a_set s d p new of placed read key e) h =
+    let t = set_draft w s d p in
+    subst (λ (x : Work). AllByRecursion HasKind (map outer x.made)) (sym e)
+    (subst (AllByRecursion HasKind) (sym (map-append outer w.made (t ∷ []))) (kinds_push (map outer w.made) (outer t) h (set_has_kind s.subset (is_some s.cond))))
+
+kinds_least : (ds : List Draft) → AllByRecursion HasKind (map outer ds) → HaveKinds ds
+kinds_least [] h = tt
+kinds_least (d ∷ ds) h = (leb-true 1 d.kind (and_parts (nat_le 1 d.kind) (nat_le d.kind 5) h.0).0, kinds_least ds h.1)
+
+abbrev pub has_kind : Shape → Bool
+has_kind s = is_within 1 5 s.kind
+
+kinds_all : (ds : List Draft) → AllByRecursion HasKind (map outer ds) → list_all has_kind (map shape_in ds) ≡ true
+kinds_all [] h = refl
+kinds_all (d ∷ ds) h = and_so _ _ h.0 (kinds_all ds h.1)
+
+pub have_kinds : (o : List Draft) (decls : List Declaration) (w : Work) → steps declared_at o nothing_yet decls ≡ Ok w → HaveKinds w.made × (list_all has_kind (map shape_in w.made) ≡ true)
+have_kinds o decls w h =
+    let k = steps_keep (λ (x : Work). AllByRecursion HasKind (map outer x.made)) declared_at o (λ s t d p e. kinds_turned o s t d (turn_of o s t d e) p) nothing_yet decls w tt h in
+    (kinds_least w.made k, kinds_all w.made k)

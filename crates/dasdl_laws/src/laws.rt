@@ -1,7 +1,10 @@
-ghost use Rattle.std.specs.Prelude.{◌≡◌, ℕ, List, IsTrue};
+ghost use Rattle.std.specs.Prelude.{◌≡◌, ℕ, List, length, nat_le, IsTrue};
+ghost use Rattle.std.specs.List.{list_all, list_any};
 ghost use Rattle.std.specs.declared.result.Result.TheVariants.{Ok};
-ghost use Rattle.dms_desc.specs.Shape.{Described};
-ghost use Rattle.dms_desc_bytes.specs.WellFormed.{has_parameters};
+ghost use Rattle.dms_desc.specs.Shape.{Shape, Described};
+ghost use Rattle.dms_desc_bytes.specs.Lists.{apart, is_within};
+ghost use Rattle.dms_desc_bytes.specs.Spelling.{spelling};
+ghost use Rattle.dms_desc_bytes.specs.WellFormed.{has_parameters, numbered, names_differ, is_restart, not_both_restart};
 ghost use Rattle.dasdl_parse.specs.Grammar.{schema_of};
 ghost use Rattle.dasdl_parse.specs.declared.schema.Schema.{Schema};
 ghost use Rattle.dasdl_compile.specs.Compile.{compiled};
@@ -9,4 +12,17 @@ ghost use Rattle.dasdl_compile.specs.Compile.{compiled};
 /// Each parameter of a description that a text gives is in its range.
 pub fn parameters_law()
     ensures { (text : List ℕ) (s : Schema) (d : Described) → schema_of text ≡ Ok s → compiled s.parameters s.declarations ≡ Ok d → IsTrue (has_parameters d) }
+{}
+
+/// A description that a text gives has at most 200 structures, numbered in their order from 1, of kinds 1 to 5, no two
+/// with one name, and exactly one restart data set among them; and it has at most 65,535 bytes. Not said here: what
+/// each structure's own checks ask for, and the number of counted links.
+pub fn structures_law()
+    ensures few { (text : List ℕ) (s : Schema) (d : Described) → schema_of text ≡ Ok s → compiled s.parameters s.declarations ≡ Ok d → IsTrue (nat_le (length d.structures) 200) }
+    ensures numbers { (text : List ℕ) (s : Schema) (d : Described) → schema_of text ≡ Ok s → compiled s.parameters s.declarations ≡ Ok d → IsTrue (numbered 1 d.structures) }
+    ensures names { (text : List ℕ) (s : Schema) (d : Described) → schema_of text ≡ Ok s → compiled s.parameters s.declarations ≡ Ok d → IsTrue (apart names_differ d.structures) }
+    ensures restart { (text : List ℕ) (s : Schema) (d : Described) → schema_of text ≡ Ok s → compiled s.parameters s.declarations ≡ Ok d → IsTrue (list_any is_restart d.structures) }
+    ensures one_restart { (text : List ℕ) (s : Schema) (d : Described) → schema_of text ≡ Ok s → compiled s.parameters s.declarations ≡ Ok d → IsTrue (apart not_both_restart d.structures) }
+    ensures kinds { (text : List ℕ) (s : Schema) (d : Described) → schema_of text ≡ Ok s → compiled s.parameters s.declarations ≡ Ok d → IsTrue (list_all (λ (x : Shape). is_within 1 5 x.kind) d.structures) }
+    ensures short { (text : List ℕ) (s : Schema) (d : Described) → schema_of text ≡ Ok s → compiled s.parameters s.declarations ≡ Ok d → IsTrue (nat_le (length (spelling d)) 65535) }
 {}

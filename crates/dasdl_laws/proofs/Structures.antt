@@ -1,0 +1,34 @@
+-- What a description that a text gives has, each in one sentence.
+use Rattle.std.proofs.Common.{◌≡◌, ◌≤◌, ℕ, List, [], map, length, true, refl, subst, IsTrue}
+use Rattle.std.proofs.lemmas.Bool.{le-leb}
+use Rattle.std.specs.Prelude.{nat_le}
+use Rattle.std.specs.List.{list_all, list_any}
+use Rattle.std.specs.declared.result.Result.TheVariants.{Ok}
+use Rattle.dms_desc.specs.Shape.{Shape, Described}
+use Rattle.dms_desc_bytes.specs.Lists.{apart, is_within}
+use Rattle.dms_desc_bytes.specs.Spelling.{spelling}
+use Rattle.dms_desc_bytes.specs.WellFormed.{numbered, names_differ, is_restart, not_both_restart}
+use Rattle.dasdl_parse.specs.Grammar.{schema_of}
+use Rattle.dasdl_parse.specs.declared.schema.Schema.{Schema}
+use Rattle.dasdl_grammar.proofs.SchemaSound.{text_sound}
+use Rattle.dasdl_compile.specs.Compile.{compiled, shape_in}
+use Rattle.dasdl_laws.proofs.Compiling.{Compiled, compiled_by}
+use Rattle.dasdl_laws.proofs.Ordered.{WellOrdered, well_ordered, have_kinds, has_kind}
+use Rattle.dasdl_laws.proofs.Short.{is_short}
+
+-- what is known of the structures of a description
+pub record Structured (d : Described) : Type 0 where
+  pub order : WellOrdered d.structures
+  pub kinds : list_all has_kind d.structures ≡ true
+  pub short : nat_le (length (spelling d)) 65535 ≡ true
+
+pub structured : (text : List ℕ) (s : Schema) (d : Described) → schema_of text ≡ Ok s → compiled s.parameters s.declarations ≡ Ok d → Structured d
+structured text s d read made =
+    let g = (text_sound text s read).0 in
+    let c = compiled_by s.parameters s.declarations d made in
+    let k = have_kinds c.outline.made s.declarations c.work c.declared in
+    subst Structured c.made.is
+    (record { order = well_ordered c.outline.made s.declarations c.work c.declared g.few c.made.restart; kinds = k.1; short = is_short s.parameters c.work.made k.0 c.made.short })
+
+pub few_structures : (d : Described) → Structured d → IsTrue (nat_le (length d.structures) 200)
+few_structures d h = le-leb (length d.structures) 200 h.order.few

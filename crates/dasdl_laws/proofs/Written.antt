@@ -1,0 +1,138 @@
+-- What the grammar says of items and conditions that were read.
+use Rattle.std.proofs.Common.{◌≡◌, ◌≤◌, ◌<◌, ◌+◌, ℕ, suc, List, [], ◌∷◌, ◌++◌, length, Bool, true, false, cond, refl, sym, ap, subst, ◌∙◌, arith}
+use Rattle.std.proofs.lemmas.Bool.{and_parts, le-leb}
+use Rattle.std.proofs.lemmas.Slice.Eq.{bytes_eq-Decides}
+use Rattle.std.specs.Prelude.{◌&&◌, ◌==◌, not, nat_le, Some, None}
+use Rattle.std.specs.List.{list_all}
+use Rattle.std.specs.Str.{bytes_eq}
+use Rattle.std.specs.declared.option.Option.{Option}
+use Rattle.dms_base.specs.Name.{is_name}
+use Rattle.dms_base.specs.Spelling.{is_kind}
+use Rattle.dms_base.specs.Text.{is_printable, before_trimmed, trimmed, text_of}
+use Rattle.dms_base.specs.declared.kind.ItemKind.{ItemKind}
+use Rattle.dms_base.specs.declared.kind.ItemKind.TheVariants.{Alpha, Number as Digits, Bool as Truth, Field}
+use Rattle.dms_base.specs.declared.kind.Literal.{Literal}
+use Rattle.dms_base.specs.declared.kind.Literal.TheVariants.{Null, Text}
+use Rattle.dms_desc_bytes.specs.Finding.{is_link}
+use Rattle.dasdl_parse.specs.declared.token.Token.{Token}
+use Rattle.dasdl_parse.specs.declared.items.ItemOptions.{ItemOptions}
+use Rattle.dasdl_parse.specs.declared.declarations.ItemDecl.{ItemDecl}
+use Rattle.dasdl_parse.specs.Items.{no_options}
+use Rattle.dasdl_parse.specs.TreeCodes.{Tree}
+use Rattle.dasdl_parse.specs.CondSpelling.{IsLiteral, IsCond, Part}
+use Rattle.dasdl_parse.specs.CondSpelling.IsLiteral.{a_text, a_number as a_whole_number, a_decimal, a_true, a_false, a_null}
+use Rattle.dasdl_parse.specs.CondSpelling.IsCond.{a_term, an_or, a_factor, an_and, a_not, brackets, a_test}
+use Rattle.dasdl_parse.specs.KindSpelling.{IsKind, IsWidth, ArePlaces}
+use Rattle.dasdl_parse.specs.KindSpelling.IsKind.{an_alpha, a_number, a_truth, a_field}
+use Rattle.dasdl_parse.specs.KindSpelling.IsWidth.{without_sign, with_sign, joined_sign}
+use Rattle.dasdl_parse.specs.KindSpelling.ArePlaces.{no_places, some_places}
+use Rattle.dasdl_parse.specs.OptionSpelling.{Options, ItemOption}
+use Rattle.dasdl_parse.specs.OptionSpelling.Options.{none_said, one_more, behind_comma}
+use Rattle.dasdl_parse.specs.OptionSpelling.ItemOption.{says_required, says_initial, says_null}
+use Rattle.dasdl_parse.specs.ItemSpelling.{IsItem}
+use Rattle.dasdl_parse.specs.ItemSpelling.IsItem.{an_item}
+use Rattle.dasdl_laws.proofs.Judged.{are_plain}
+use Rattle.dasdl_laws.proofs.Literals.{is_plain_literal}
+use Rattle.dasdl_laws.proofs.Ordered.{and_so}
+
+-- ---- texts without trailing spaces
+
+printable_case : (t : Bool) (b : ℕ) → is_printable b ≡ true → list_all is_printable (cond t [] (b ∷ [])) ≡ true
+printable_case true b p = refl
+printable_case false b p = and_so _ _ p refl
+
+printable_before : (b : ℕ) (xs : List ℕ) → is_printable b ≡ true → list_all is_printable xs ≡ true → list_all is_printable (before_trimmed b xs) ≡ true
+printable_before b [] p h = printable_case (b == 32) b p
+printable_before b (x ∷ xs) p h = and_so _ _ p h
+
+printable_trimmed : (bs : List ℕ) → list_all is_printable bs ≡ true → list_all is_printable (trimmed bs) ≡ true
+printable_trimmed [] h = refl
+printable_trimmed (b ∷ bs) h = let a = and_parts (is_printable b) (list_all is_printable bs) h in printable_before b (trimmed bs) a.0 (printable_trimmed bs a.1)
+
+again_case : (t : Bool) (b : ℕ) → (b == 32) ≡ t → trimmed (cond t [] (b ∷ [])) ≡ cond t [] (b ∷ [])
+again_case true b e = refl
+again_case false b e = rw e refl
+
+again_before : (b : ℕ) (xs : List ℕ) → trimmed xs ≡ xs → trimmed (before_trimmed b xs) ≡ before_trimmed b xs
+again_before b [] h = again_case (b == 32) b refl
+again_before b (x ∷ xs) h = ap (before_trimmed b) h
+
+trimmed_again : (bs : List ℕ) → trimmed (trimmed bs) ≡ trimmed bs
+trimmed_again [] = refl
+trimmed_again (b ∷ bs) = again_before b (trimmed bs) (trimmed_again bs)
+
+picked_text : (b : Bool) (x y : List ℕ) → ◌≡◌ {A = Option (List ℕ)} (cond b (Some x) None) (Some y) → (b ≡ true) × (x ≡ y)
+picked_text true x y h = (refl, cc)
+picked_text false x y h = absurd (cc)
+
+plain_text : (bytes text : List ℕ) → text_of bytes ≡ Some text → is_plain_literal (Text text) ≡ true
+unfolding text_of
+plain_text bytes text h =
+    let a = picked_text (list_all is_printable bytes && nat_le (length (trimmed bytes)) 200) (trimmed bytes) text h in
+    let b = and_parts (list_all is_printable bytes) (nat_le (length (trimmed bytes)) 200) a.0 in
+    subst (λ (t : List ℕ). is_plain_literal (Text t) ≡ true) a.1
+    (and_so _ _ (printable_trimmed bytes b.0) (rw (trimmed_again bytes) ((bytes_eq-Decides (trimmed bytes) (trimmed bytes)).1 refl)))
+
+-- ---- literals
+
+pub literal_plain : (l : Literal) (t : Token) → IsLiteral l t → is_plain_literal l ≡ true
+literal_plain _ _ (a_text bytes text e) = plain_text bytes text e
+literal_plain _ _ (a_whole_number n) = refl
+literal_plain _ _ (a_decimal minus digits places) = refl
+literal_plain _ _ a_true = refl
+literal_plain _ _ a_false = refl
+literal_plain _ _ a_null = refl
+
+pub condition_plain : (p : Part) (c : Tree) (ts : List Token) → IsCond p c ts → are_plain c ≡ true
+condition_plain _ _ _ (a_term t ts c) = condition_plain _ t ts c
+condition_plain _ _ _ (an_or a b xs ys c d) = and_so _ _ (condition_plain _ a xs c) (condition_plain _ b ys d)
+condition_plain _ _ _ (a_factor t ts c) = condition_plain _ t ts c
+condition_plain _ _ _ (an_and a b xs ys c d) = and_so _ _ (condition_plain _ a xs c) (condition_plain _ b ys d)
+condition_plain _ _ _ (a_not t ts c) = condition_plain _ t ts c
+condition_plain _ _ _ (brackets t ts c) = condition_plain _ t ts c
+condition_plain _ _ _ (a_test name op l t n e) = literal_plain l t e
+
+-- ---- items
+
+abbrev pub IsPlainInitial : Option Literal → Type 0
+IsPlainInitial None = Unit {0}
+IsPlainInitial (Some l) = is_plain_literal l ≡ true
+
+width_range : (s : Bool) (n : ℕ) (xs : List Token) → IsWidth s n xs → (1 ≤ n) × (n ≤ 18)
+width_range _ _ _ (without_sign n low high) = (low, high)
+width_range _ _ _ (with_sign n low high) = (low, high)
+width_range _ _ _ (joined_sign word n e low high) = (low, high)
+
+places_range : (n m : ℕ) (xs : List Token) → ArePlaces n m xs → m ≤ n
+places_range _ _ _ (no_places n) = omega arith
+places_range _ _ _ (some_places n m low) = low
+
+kind_range : (k : ItemKind) (xs : List Token) → IsKind k xs → (is_kind k ≡ true) × (is_link k ≡ false)
+kind_range _ _ (an_alpha n low high) = (and_so _ _ (le-leb 1 n low) (le-leb n 200 high), refl)
+kind_range _ _ (a_number n m s xs ys w p) =
+    let a = width_range s n xs w in
+    (and_so _ _ (and_so _ _ (le-leb 1 n a.0) (le-leb n 18 a.1)) (le-leb m n (places_range n m ys p)), refl)
+kind_range _ _ a_truth = (refl, refl)
+kind_range _ _ (a_field n low high) = (and_so _ _ (le-leb 1 n low) (le-leb n 48 high), refl)
+
+option_plain : (s t : ItemOptions) (xs : List Token) → ItemOption s t xs → IsPlainInitial s.initial → IsPlainInitial t.initial
+option_plain _ _ _ (says_required initial) h = h
+option_plain _ _ _ (says_initial required l t e) h = literal_plain l t e
+option_plain _ _ _ (says_null required) h = refl
+
+options_plain : (t : ItemOptions) (xs : List Token) → Options no_options ItemOption t xs → IsPlainInitial t.initial
+options_plain _ _ none_said = tt
+options_plain _ _ (one_more s t xs ys o e) = option_plain s t ys e (options_plain s xs o)
+options_plain _ _ (behind_comma s t xs ys o e) = option_plain s t ys e (options_plain s xs o)
+
+-- what the grammar says of an item
+pub record IsWritten (i : ItemDecl) : Type 0 where
+  pub name : is_name i.name ≡ true
+  pub kind : is_kind i.kind ≡ true
+  pub plain : is_link i.kind ≡ false
+  pub initial : IsPlainInitial i.initial
+
+pub item_written : (place : ℕ) (name : List ℕ) (i : ItemDecl) (xs : List Token) → IsItem place name i xs → is_name name ≡ true → IsWritten i
+item_written _ _ _ _ (an_item place name kind said xs ys k o) n =
+    let a = kind_range kind xs k in
+    record { name = n; kind = a.0; plain = a.1; initial = options_plain said ys o }

@@ -1,0 +1,13 @@
+use Rattle.dasdl_laws.proofs.Structures.{structured, few_structures}
+use Rattle.dasdl_laws.proofs.laws.structures_law.Goals as goal
+
+pub returns : goal.returns
+returns c = record {
+  few = λ text s d read made. few_structures d (structured text s d read made);
+  numbers = λ text s d read made. (structured text s d read made).order.numbers;
+  names = λ text s d read made. (structured text s d read made).order.names;
+  restart = λ text s d read made. (structured text s d read made).order.restart;
+  one_restart = λ text s d read made. (structured text s d read made).order.restarts;
+  kinds = λ text s d read made. (structured text s d read made).kinds;
+  short = λ text s d read made. (structured text s d read made).short;
+}
