@@ -79,7 +79,7 @@ pub record Judges (items : List Item) (written : Written) (t : Tree) : Type 0 wh
   pub well : compares_well items t ≡ true
   pub nodes : nodes t ≡ nodes_of written
 
-literal_in : (name : List ℕ) (o : Option Value) (v : Value) → or_fault name o ≡ Ok v → o ≡ Some v
+pub literal_in : (name : List ℕ) (o : Option Value) (v : Value) → or_fault name o ≡ Ok v → o ≡ Some v
 literal_in name None v h = absurd (cc)
 literal_in name (Some x) v h = let e = ok_same x v h in cc
 

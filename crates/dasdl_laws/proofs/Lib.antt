@@ -3,6 +3,7 @@ mod Judged
 mod Judging
 mod Keys
 mod Literals
+mod Members
 mod Ordered
 mod Parameters
 mod Short
