@@ -6,6 +6,7 @@ mod Literals
 mod Members
 mod Ordered
 mod Parameters
+mod Parts
 mod Short
 mod Structures
 mod Turns

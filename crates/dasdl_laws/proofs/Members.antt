@@ -181,13 +181,13 @@ differ_whole : (is : List Member) (gs : List ItemGroup) → Differ is gs → mem
 unfolding members_differ
 differ_whole is gs h = and_so _ _ (and_so _ _ h.items h.groups) h.free
 
-item_differs : (d : Draft) (m : Member) → members_differ d.items d.groups ≡ true → is_taken m.name d ≡ false → members_differ (d.items ++ m ∷ []) d.groups ≡ true
+pub item_differs : (d : Draft) (m : Member) → members_differ d.items d.groups ≡ true → is_taken m.name d ≡ false → members_differ (d.items ++ m ∷ []) d.groups ≡ true
 item_differs d m h new =
     let p = differ_parts d.items d.groups h in
     let f = not_taken m.name d new in
     differ_whole (d.items ++ m ∷ []) d.groups (record { items = apart_push items_differ d.items m p.items f.0; groups = p.groups; free = all_free d.items m d.groups p.free f.1 })
 
-group_differs : (d : Draft) (g : ItemGroup) → members_differ d.items d.groups ≡ true → is_taken g.name d ≡ false → members_differ d.items (d.groups ++ g ∷ []) ≡ true
+pub group_differs : (d : Draft) (g : ItemGroup) → members_differ d.items d.groups ≡ true → is_taken g.name d ≡ false → members_differ d.items (d.groups ++ g ∷ []) ≡ true
 group_differs d g h new =
     let p = differ_parts d.items d.groups h in
     let f = not_taken g.name d new in

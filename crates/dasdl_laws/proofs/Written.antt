@@ -31,6 +31,37 @@ use Rattle.dasdl_parse.specs.OptionSpelling.Options.{none_said, one_more, behind
 use Rattle.dasdl_parse.specs.OptionSpelling.ItemOption.{says_required, says_initial, says_null}
 use Rattle.dasdl_parse.specs.ItemSpelling.{IsItem}
 use Rattle.dasdl_parse.specs.ItemSpelling.IsItem.{an_item}
+use Rattle.std.specs.List.{AllByRecursion}
+use Rattle.std.proofs.Common.{length-append}
+use Rattle.dms_desc_bytes.specs.Lists.{is_within}
+use Rattle.dasdl_parse.specs.Trees.{Condition}
+use Rattle.dasdl_parse.specs.CondSpelling.{nodes as nodes_of}
+use Rattle.dasdl_parse.specs.Sets.{or_else, no_set_options}
+use Rattle.dasdl_parse.specs.Grammar.{no_data_set_options}
+use Rattle.dasdl_parse.specs.declared.token.Lexeme.{Lexeme}
+use Rattle.dasdl_parse.specs.declared.declarations.LinkDecl.{LinkDecl}
+use Rattle.dasdl_parse.specs.declared.declarations.DataSetDecl.{DataSetDecl}
+use Rattle.dasdl_parse.specs.declared.declarations.DataSetEnd.{DataSetEnd}
+use Rattle.dasdl_parse.specs.declared.declarations.SetDecl.{SetDecl}
+use Rattle.dasdl_parse.specs.declared.sets.SetOptions.{SetOptions}
+use Rattle.dasdl_parse.specs.declared.grammar.DataSetOptions.{DataSetOptions}
+use Rattle.dasdl_parse.specs.ItemSpelling.{IsLink}
+use Rattle.dasdl_parse.specs.ItemSpelling.IsLink.{a_link, a_counted_link}
+use Rattle.dasdl_grammar.specs.GroupSpelling.{IsNamedItem, AreItems, IsGroup}
+use Rattle.dasdl_grammar.specs.GroupSpelling.IsNamedItem.{a_named_item}
+use Rattle.dasdl_grammar.specs.GroupSpelling.AreItems.{first_item, next_item}
+use Rattle.dasdl_grammar.specs.GroupSpelling.IsGroup.{a_group}
+use Rattle.dasdl_grammar.specs.SaidSpelling.{Said, IsCondDecl, IsPopulation, IsForm, SetOption, DataSetOption}
+use Rattle.dasdl_grammar.specs.SaidSpelling.Said.{nothing_said, said_more, said_behind_comma}
+use Rattle.dasdl_grammar.specs.SaidSpelling.IsCondDecl.{a_cond}
+use Rattle.dasdl_grammar.specs.SaidSpelling.IsPopulation.{a_population}
+use Rattle.dasdl_grammar.specs.SaidSpelling.IsForm.{a_tree, a_list}
+use Rattle.dasdl_grammar.specs.SaidSpelling.SetOption.{says_where, says_key, says_duplicates, says_form, says_population}
+use Rattle.dasdl_grammar.specs.SaidSpelling.DataSetOption.{says_verify, says_its_population}
+use Rattle.dasdl_grammar.specs.SetSpelling.{IsSet, IsEnd, IsHead}
+use Rattle.dasdl_grammar.specs.SetSpelling.IsSet.{a_set}
+use Rattle.dasdl_grammar.specs.SetSpelling.IsEnd.{an_end}
+use Rattle.dasdl_grammar.specs.SetSpelling.IsHead.{a_head, a_restart_head}
 use Rattle.dasdl_laws.proofs.Judged.{are_plain}
 use Rattle.dasdl_laws.proofs.Literals.{is_plain_literal}
 use Rattle.dasdl_laws.proofs.Ordered.{and_so}
@@ -136,3 +167,98 @@ pub item_written : (place : ℕ) (name : List ℕ) (i : ItemDecl) (xs : List Tok
 item_written _ _ _ _ (an_item place name kind said xs ys k o) n =
     let a = kind_range kind xs k in
     record { name = n; kind = a.0; plain = a.1; initial = options_plain said ys o }
+
+-- ---- groups, links and structures
+
+named_item : (i : ItemDecl) (us : List Lexeme) → IsNamedItem i us → IsWritten i
+named_item _ _ (a_named_item l name item vs e n i) = item_written l.place name item _ i n
+
+written_push : (is : List ItemDecl) (i : ItemDecl) → AllByRecursion IsWritten is → IsWritten i → AllByRecursion IsWritten (is ++ i ∷ [])
+written_push [] i h w = (w, tt)
+written_push (x ∷ xs) i h w = (h.0, written_push xs i h.1 w)
+
+items_written : (is : List ItemDecl) (us : List Lexeme) → AreItems is us → AllByRecursion IsWritten is × (1 ≤ length is)
+items_written _ _ (first_item i us n) = ((named_item i us n, tt), omega arith)
+items_written _ _ (next_item is i us vs a n) =
+    let h = items_written is us a in
+    let some = h.1 in
+    (written_push is i h.0 (named_item i vs n), omega (arith, some, length-append is (i ∷ [])))
+
+pub group_written : (is : List ItemDecl) (us : List Lexeme) → IsGroup is us → AllByRecursion IsWritten is × (1 ≤ length is)
+group_written _ _ (a_group g o c z is us e f a h i) = items_written is us a
+
+pub link_name : (place : ℕ) (name : List ℕ) (l : LinkDecl) (xs : List Token) → IsLink place name l xs → l.name ≡ name
+link_name _ _ _ _ (a_link place name target t) = refl
+link_name _ _ _ _ (a_counted_link place name target t) = refl
+
+pub head_name : (place : ℕ) (name : List ℕ) (h : DataSetDecl) (xs : List Token) → IsHead place name h xs → h.name ≡ name
+head_name _ _ _ _ (a_head) = refl
+head_name _ _ _ _ (a_restart_head) = refl
+
+-- none, or a condition of at most 100 nodes whose literals are those of a text
+abbrev pub IsPlainCondition : Option Condition → Type 0
+IsPlainCondition None = Unit {0}
+IsPlainCondition (Some c) = (are_plain c.tree ≡ true) × (nodes_of c.tree ≤ 100)
+
+cond_plain : (word : List ℕ) (c : Condition) (us : List Lexeme) → IsCondDecl word c us → IsPlainCondition (Some c)
+cond_plain _ _ _ (a_cond l tree vs e i few) = (condition_plain _ tree _ i, few)
+
+abbrev pub IsRange : ℕ → ℕ → Option ℕ → Type 0
+IsRange low high None = Unit {0}
+IsRange low high (Some n) = is_within low high n ≡ true
+
+population_range : (n : ℕ) (xs : List Token) → IsPopulation n xs → is_within 1 1000000 n ≡ true
+population_range _ _ (a_population n low high) = and_so _ _ (le-leb 1 n low) (le-leb n 1000000 high)
+
+data_set_option : (s t : DataSetOptions) (us : List Lexeme) → DataSetOption s t us → IsPlainCondition s.verify × IsRange 1 1000000 s.population → IsPlainCondition t.verify × IsRange 1 1000000 t.population
+data_set_option _ _ _ (says_verify population c us d) h = (cond_plain _ c us d, h.1)
+data_set_option _ _ _ (says_its_population verify n us p) h = (h.0, population_range n _ p)
+
+data_set_said : (t : DataSetOptions) (us : List Lexeme) → Said no_data_set_options DataSetOption t us → IsPlainCondition t.verify × IsRange 1 1000000 t.population
+data_set_said _ _ nothing_said = (tt, tt)
+data_set_said _ _ (said_more s t us vs a o) = data_set_option s t vs o (data_set_said s us a)
+data_set_said _ _ (said_behind_comma s t us l vs a e o) = data_set_option s t vs o (data_set_said s us a)
+
+or_million : (o : Option ℕ) → IsRange 1 1000000 o → is_within 1 1000000 (or_else 1000000 o) ≡ true
+or_million None h = refl
+or_million (Some n) h = h
+
+pub end_written : (e : DataSetEnd) (us : List Lexeme) → IsEnd e us → IsPlainCondition e.verify × (is_within 1 1000000 e.population ≡ true)
+end_written _ _ (an_end c z said us e s f) = let h = data_set_said said us s in (h.0, or_million said.population h.1)
+
+form_range : (n : ℕ) (xs : List Token) → IsForm n xs → is_within 1 2 n ≡ true
+form_range _ _ (a_tree) = refl
+form_range _ _ (a_list) = refl
+
+record SetSaid (s : SetOptions) : Type 0 where
+  cond : IsPlainCondition s.cond
+  form : IsRange 1 2 s.form
+  population : IsRange 1 1000000 s.population
+
+set_option : (s t : SetOptions) (us : List Lexeme) → SetOption s t us → SetSaid s → SetSaid t
+set_option _ _ _ (says_where key duplicates form population c us d) h = record { cond = cond_plain _ c us d; form = h.form; population = h.population }
+set_option _ _ _ (says_key cond duplicates form population k us d) h = record { cond = h.cond; form = h.form; population = h.population }
+set_option _ _ _ (says_duplicates cond key form population d us i) h = record { cond = h.cond; form = h.form; population = h.population }
+set_option _ _ _ (says_form cond key duplicates population f us i) h = record { cond = h.cond; form = form_range f _ i; population = h.population }
+set_option _ _ _ (says_population cond key duplicates form n us p) h = record { cond = h.cond; form = h.form; population = population_range n _ p }
+
+set_said : (t : SetOptions) (us : List Lexeme) → Said no_set_options SetOption t us → SetSaid t
+set_said _ _ nothing_said = record { cond = tt; form = tt; population = tt }
+set_said _ _ (said_more s t us vs a o) = set_option s t vs o (set_said s us a)
+set_said _ _ (said_behind_comma s t us l vs a e o) = set_option s t vs o (set_said s us a)
+
+-- what the grammar says of a set
+pub record IsWrittenSet (s : SetDecl) : Type 0 where
+  pub name : is_name s.name ≡ true
+  pub cond : IsPlainCondition s.cond
+  pub form : is_within 1 2 s.form ≡ true
+  pub population : is_within 1 1000000 s.population ≡ true
+
+or_first : (o : Option ℕ) → IsRange 1 2 o → is_within 1 2 (or_else 1 o) ≡ true
+or_first None h = refl
+or_first (Some n) h = h
+
+pub set_written : (place : ℕ) (name : List ℕ) (s : SetDecl) (us : List Lexeme) → is_name name ≡ true → IsSet place name s us → IsWrittenSet s
+set_written _ _ _ _ n (a_set k o t z subset of said us a b c d e f) =
+    let h = set_said said us e in
+    record { name = n; cond = h.cond; form = or_first said.form h.form; population = or_million said.population h.population }
