@@ -1,3 +1,4 @@
+mod Alone
 mod Compiling
 mod Judged
 mod Judging
@@ -9,5 +10,6 @@ mod Parameters
 mod Parts
 mod Short
 mod Structures
+mod Trees
 mod Turns
 mod Written

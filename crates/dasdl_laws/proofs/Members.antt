@@ -31,15 +31,12 @@ use Rattle.dasdl_compile.specs.Answers.{Judged, ◌>>=◌, steps}
 use Rattle.dasdl_compile.specs.Conditions.{or_fault, literal_of, value_in}
 use Rattle.dasdl_compile.specs.Finding.{item_named, group_named, is_taken, data_set_named, after_item, next_item}
 use Rattle.dasdl_compile.specs.Members.{count_of, with_item, with_group, initial_in, initial_of, item_at, group_at, link_to, link_kind, link_at}
+use Rattle.dasdl_laws.specs.Alone.{is_local}
 use Rattle.dasdl_laws.proofs.Judging.{bind_ok, skip_ok, ok_same}
 use Rattle.dasdl_laws.proofs.Literals.{is_plain_literal, is_value, judged_fits}
 use Rattle.dasdl_laws.proofs.Judged.{literal_in}
 use Rattle.dasdl_laws.proofs.Ordered.{and_so, all_push, apart_push}
 use Rattle.dasdl_laws.proofs.Written.{IsWritten, IsPlainInitial}
-
--- what an item's own text decides: its name, the range of its type, its initial value
-abbrev pub is_local : Member → Bool
-is_local i = is_name i.name && is_kind i.kind && fits i.kind i.initial && is_plain i.initial
 
 -- a link points to a data set of these that stands in no other
 pub record PointsTo (o : List Draft) (target : ℕ) (i : Member) : Type 0 where

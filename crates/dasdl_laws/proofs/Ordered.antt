@@ -179,7 +179,7 @@ grown o w v _ (data_set s new placed once e) =
 grown o w v _ (a_set s d p new of placed read key e) =
     ap (λ (x : Work). length x.made) e ∙ length-append w.made (set_draft w s d p ∷ [])
 
-counts : (o : List Draft) (w : Work) (decls : List Declaration) (v : Work) → steps declared_at o w decls ≡ Ok v → length v.made ≡ length w.made + structures_in decls
+pub counts : (o : List Draft) (w : Work) (decls : List Declaration) (v : Work) → steps declared_at o w decls ≡ Ok v → length v.made ≡ length w.made + structures_in decls
 unfolding steps
 counts o w [] v h =
     let e = ap (λ (x : Work). length x.made) (ok_same w v h) in

@@ -27,10 +27,11 @@ use Rattle.dasdl_compile.specs.Conditions.{verified, condition}
 use Rattle.dasdl_compile.specs.Finding.{is_taken, next_item}
 use Rattle.dasdl_compile.specs.Members.{count_of, with_item, with_group, with_end, item_at, group_at, end_at}
 use Rattle.dasdl_compile.specs.Widths.{plus, item_width, record_width}
+use Rattle.dasdl_laws.specs.Alone.{is_local}
 use Rattle.dasdl_laws.proofs.Judging.{bind_ok, skip_ok, ok_same}
 use Rattle.dasdl_laws.proofs.Judged.{are_plain, condition_sound}
 use Rattle.dasdl_laws.proofs.Keys.{same_widths}
-use Rattle.dasdl_laws.proofs.Members.{is_local, Points, Adds, item_adds, item_differs, group_differs}
+use Rattle.dasdl_laws.proofs.Members.{Points, Adds, item_adds, item_differs, group_differs}
 use Rattle.dasdl_laws.proofs.Ordered.{and_so, all_push, apart_push}
 use Rattle.dasdl_laws.proofs.Written.{IsWritten, IsPlainCondition}
 
@@ -51,7 +52,7 @@ base_adds : (o : List Draft) (d t : Draft) → Adds o d t → Base o d → Base 
 base_adds o d t a b =
     subst (Base o) a.is (record { local = all_push is_local d.items a.one b.local a.local; points = points_push o d.items a.one b.points a.points; differ = item_differs d a.one b.differ a.new })
 
-grown : (o : List Draft) (d t : Draft) → Adds o d t → (length t.items ≡ length d.items + 1) × (t.groups ≡ d.groups)
+pub grown : (o : List Draft) (d t : Draft) → Adds o d t → (length t.items ≡ length d.items + 1) × (t.groups ≡ d.groups)
 grown o d t a =
     let one : length (with_item d a.one).items ≡ length d.items + 1 = length-append d.items (a.one ∷ []) in
     (sym (ap (λ (x : Draft). length x.items) a.is) ∙ one, sym (ap (λ (x : Draft). x.groups) a.is))

@@ -12,6 +12,9 @@ use Rattle.dasdl_parse.specs.Grammar.{schema_of}
 use Rattle.dasdl_parse.specs.declared.schema.Schema.{Schema}
 use Rattle.dasdl_grammar.proofs.SchemaSound.{text_sound}
 use Rattle.dasdl_compile.specs.Compile.{compiled, shape_in}
+use Rattle.dasdl_laws.specs.Alone.{is_sound_alone}
+use Rattle.dasdl_laws.proofs.Alone.{all_alone}
+use Rattle.dasdl_laws.proofs.Trees.{all_final}
 use Rattle.dasdl_laws.proofs.Compiling.{Compiled, compiled_by}
 use Rattle.dasdl_laws.proofs.Ordered.{WellOrdered, well_ordered, have_kinds, has_kind}
 use Rattle.dasdl_laws.proofs.Short.{is_short}
@@ -20,6 +23,7 @@ use Rattle.dasdl_laws.proofs.Short.{is_short}
 pub record Structured (d : Described) : Type 0 where
   pub order : WellOrdered d.structures
   pub kinds : list_all has_kind d.structures ≡ true
+  pub alone : list_all is_sound_alone d.structures ≡ true
   pub short : nat_le (length (spelling d)) 65535 ≡ true
 
 pub structured : (text : List ℕ) (s : Schema) (d : Described) → schema_of text ≡ Ok s → compiled s.parameters s.declarations ≡ Ok d → Structured d
@@ -28,7 +32,7 @@ structured text s d read made =
     let c = compiled_by s.parameters s.declarations d made in
     let k = have_kinds c.outline.made s.declarations c.work c.declared in
     subst Structured c.made.is
-    (record { order = well_ordered c.outline.made s.declarations c.work c.declared g.few c.made.restart; kinds = k.1; short = is_short s.parameters c.work.made k.0 c.made.short })
+    (record { order = well_ordered c.outline.made s.declarations c.work c.declared g.few c.made.restart; kinds = k.1; alone = all_alone c.outline.made c.work.made (all_final s.parameters g.has_parameters g.has_audit s.declarations g.used g.declares c.outline.made c.work g.few c.declared); short = is_short s.parameters c.work.made k.0 c.made.short })
 
 pub few_structures : (d : Described) → Structured d → IsTrue (nat_le (length d.structures) 200)
 few_structures d h = le-leb (length d.structures) 200 h.order.few

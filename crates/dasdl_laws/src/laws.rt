@@ -8,6 +8,7 @@ ghost use Rattle.dms_desc_bytes.specs.WellFormed.{has_parameters, numbered, name
 ghost use Rattle.dasdl_parse.specs.Grammar.{schema_of};
 ghost use Rattle.dasdl_parse.specs.declared.schema.Schema.{Schema};
 ghost use Rattle.dasdl_compile.specs.Compile.{compiled};
+ghost use Rattle.dasdl_laws.specs.Alone.{is_sound_alone};
 
 /// Each parameter of a description that a text gives is in its range.
 pub fn parameters_law()
@@ -15,8 +16,10 @@ pub fn parameters_law()
 {}
 
 /// A description that a text gives has at most 200 structures, numbered in their order from 1, of kinds 1 to 5, no two
-/// with one name, and exactly one restart data set among them; and it has at most 65,535 bytes. Not said here: what
-/// each structure's own checks ask for, and the number of counted links.
+/// with one name, and exactly one restart data set among them. Each structure is sound by itself. The description has
+/// at most 65,535 bytes. Not said here, of what a well-formed description has: where structures stand, that a data set
+/// has a member, what links point to, keys and WHERE over the items of another structure, and at most 4,000 counted
+/// links.
 pub fn structures_law()
     ensures few { (text : List ℕ) (s : Schema) (d : Described) → schema_of text ≡ Ok s → compiled s.parameters s.declarations ≡ Ok d → IsTrue (nat_le (length d.structures) 200) }
     ensures numbers { (text : List ℕ) (s : Schema) (d : Described) → schema_of text ≡ Ok s → compiled s.parameters s.declarations ≡ Ok d → IsTrue (numbered 1 d.structures) }
@@ -24,5 +27,6 @@ pub fn structures_law()
     ensures restart { (text : List ℕ) (s : Schema) (d : Described) → schema_of text ≡ Ok s → compiled s.parameters s.declarations ≡ Ok d → IsTrue (list_any is_restart d.structures) }
     ensures one_restart { (text : List ℕ) (s : Schema) (d : Described) → schema_of text ≡ Ok s → compiled s.parameters s.declarations ≡ Ok d → IsTrue (apart not_both_restart d.structures) }
     ensures kinds { (text : List ℕ) (s : Schema) (d : Described) → schema_of text ≡ Ok s → compiled s.parameters s.declarations ≡ Ok d → IsTrue (list_all (λ (x : Shape). is_within 1 5 x.kind) d.structures) }
+    ensures alone { (text : List ℕ) (s : Schema) (d : Described) → schema_of text ≡ Ok s → compiled s.parameters s.declarations ≡ Ok d → IsTrue (list_all is_sound_alone d.structures) }
     ensures short { (text : List ℕ) (s : Schema) (d : Described) → schema_of text ≡ Ok s → compiled s.parameters s.declarations ≡ Ok d → IsTrue (nat_le (length (spelling d)) 65535) }
 {}

@@ -9,5 +9,6 @@ returns c = record {
   restart = λ text s d read made. (structured text s d read made).order.restart;
   one_restart = λ text s d read made. (structured text s d read made).order.restarts;
   kinds = λ text s d read made. (structured text s d read made).kinds;
+  alone = λ text s d read made. (structured text s d read made).alone;
   short = λ text s d read made. (structured text s d read made).short;
 }
