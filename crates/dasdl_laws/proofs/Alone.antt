@@ -1,27 +1,23 @@
 -- Each structure that was made is sound by itself.
-use Rattle.std.proofs.Common.{◌≡◌, ◌≤◌, ℕ, List, [], ◌∷◌, map, length, Bool, true, false, cond, refl, sym, ap, subst, ◌∙◌, arith}
+use Rattle.std.proofs.Common.{◌≡◌, ℕ, List, [], ◌∷◌, map, Bool, true, false, cond, refl, ap, subst, ◌∙◌}
 use Rattle.std.proofs.lemmas.Bool.{le-leb, eq-eqb}
-use Rattle.std.specs.Prelude.{◌&&◌, ◌||◌, ◌==◌, not, is_some}
+use Rattle.std.specs.Prelude.{◌||◌, ◌==◌, not, is_some}
 use Rattle.std.specs.List.{list_all, AllByRecursion}
-use Rattle.dms_base.specs.Name.{is_name}
 use Rattle.dms_desc.specs.declared.structure.KeyPart.{KeyPart}
-use Rattle.dms_desc.specs.Shape.{Shape}
 use Rattle.dms_desc_bytes.specs.Lists.{is_within, is_empty}
 use Rattle.dms_desc_bytes.specs.Spelling.{is_data_set}
-use Rattle.dms_desc_bytes.specs.WellFormed.{has_sound_groups, lacks_set_fields, is_populated}
+use Rattle.dms_desc_bytes.specs.WellFormed.{has_sound_groups, lacks_set_fields}
 use Rattle.dasdl_compile.specs.declared.draft.Draft.{Draft}
 use Rattle.dasdl_compile.specs.Compile.{shape_in}
 use Rattle.dasdl_compile.specs.Finding.{drafted}
 use Rattle.dasdl_compile.specs.Outlines.{data_set_kind}
-use Rattle.dasdl_compile.specs.Sets.{set_kind, no_parts, set_draft}
-use Rattle.dasdl_parse.specs.declared.declarations.SetDecl.{SetDecl}
+use Rattle.dasdl_compile.specs.Sets.{set_kind, no_parts}
 use Rattle.dasdl_laws.specs.Alone.{has_local_items, is_data_set_alone, is_set_alone, is_sound_alone}
 use Rattle.dasdl_laws.proofs.Ordered.{and_so}
-use Rattle.dasdl_laws.proofs.Parts.{Sofar, Ended, groups_sound}
+use Rattle.dasdl_laws.proofs.Parts.{Ended, groups_sound}
 use Rattle.dasdl_laws.proofs.Trees.{DataSetMade, SetMade, Final}
 use Rattle.dasdl_laws.proofs.Trees.Final.{a_data_set_made, a_set_made}
 use Rattle.dasdl_laws.proofs.Turns.{outer}
-use Rattle.dasdl_laws.proofs.Written.{IsWrittenSet}
 
 kind_is : (b : Bool) → is_data_set (data_set_kind b) ≡ true
 kind_is true = refl

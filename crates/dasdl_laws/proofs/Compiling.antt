@@ -8,7 +8,7 @@ use Rattle.dasdl_parse.specs.declared.declarations.Declaration.{Declaration}
 use Rattle.dasdl_compile.specs.declared.draft.Draft.{Draft}
 use Rattle.dasdl_compile.specs.declared.work.Plain.TheVariants.{Noted}
 use Rattle.dasdl_compile.specs.declared.work.Work.{Work}
-use Rattle.dasdl_compile.specs.Answers.{◌>>=◌, steps}
+use Rattle.dasdl_compile.specs.Answers.{steps}
 use Rattle.dasdl_compile.specs.Compile.{compiled, declared_at, finished, description_of, nothing_yet}
 use Rattle.dasdl_compile.specs.Finding.{has_restart}
 use Rattle.dasdl_compile.specs.Outlines.{outlined_one}

@@ -1,27 +1,23 @@
 -- A condition that was judged compares items well, and has as many nodes as were written.
-use Rattle.std.proofs.Common.{◌≡◌, ◌≤◌, ◌<◌, ◌+◌, ◌-◌, ℕ, suc, zero, min, List, [], ◌∷◌, ◌++◌, length, Bool, true, false, cond, eqb, refl, sym, ap, subst, ◌∙◌, arith, length-append, append_assoc}
+use Rattle.std.proofs.Common.{◌≡◌, ◌≤◌, ◌+◌, ◌-◌, ℕ, List, [], ◌∷◌, ◌++◌, length, Bool, true, false, cond, refl, ap, subst, ◌∙◌, arith, length-append, append_assoc}
 use Rattle.std.proofs.lemmas.Bool.{and_parts, le-leb}
 use Rattle.std.proofs.lemmas.Bool.Decides.{nat_tests}
-use Rattle.std.specs.Prelude.{◌&&◌, ◌==◌, not, nat_le, slice_get, Some, None}
+use Rattle.std.specs.Prelude.{◌&&◌, ◌==◌, slice_get, Some, None}
 use Rattle.std.specs.Str.{bytes_eq}
 use Rattle.std.specs.declared.option.Option.{Option}
-use Rattle.std.specs.declared.result.Result.TheVariants.{Ok, Err}
+use Rattle.std.specs.declared.result.Result.TheVariants.{Ok}
 use Rattle.dms_base.specs.declared.op.Op.{Op}
 use Rattle.dms_base.specs.declared.value.Value.{Value}
-use Rattle.dms_base.specs.declared.kind.ItemKind.{ItemKind}
 use Rattle.dms_base.specs.declared.kind.Literal.{Literal}
-use Rattle.dms_base.specs.Fits.{fits}
 use Rattle.dms_desc.specs.declared.structure.Item.{Item}
 use Rattle.dms_desc.specs.Shape.{Tree}
-use Rattle.dms_desc.specs.Shape.Tree.{Empty, Test, Both, Either, Contrary}
+use Rattle.dms_desc.specs.Shape.Tree.{Test, Both, Either, Contrary}
 use Rattle.dms_desc_bytes.specs.Conditions.{nodes, is_comparable, compares_well, is_condition}
-use Rattle.dms_desc_bytes.specs.Finding.{item_at, is_link}
-use Rattle.dms_desc_bytes.specs.Members.{is_plain}
+use Rattle.dms_desc_bytes.specs.Finding.{item_at}
 use Rattle.dasdl_parse.specs.CondSpelling.{nodes as nodes_of}
 use Rattle.dasdl_parse.specs.TreeCodes.{Tree as Written}
 use Rattle.dasdl_parse.specs.TreeCodes.Tree.{Test as Compared, Both as And', Either as Or', Turned}
 use Rattle.dasdl_compile.specs.declared.find.Found.{Found}
-use Rattle.dasdl_compile.specs.Answers.{Judged, ◌>>=◌}
 use Rattle.dasdl_compile.specs.Conditions.{value_in, or_fault, literal_of, compared_with, compared, condition}
 use Rattle.dasdl_compile.specs.Finding.{item_named, after_item}
 use Rattle.dasdl_laws.proofs.Judging.{bind_ok, ok_same}

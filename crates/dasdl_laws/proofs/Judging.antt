@@ -1,6 +1,5 @@
 -- Where judging gives a value, each of its steps does.
 use Rattle.std.proofs.Common.{◌≡◌, subst, Bool, true, false, cond, refl, ap, ◌∙◌, List, [], ◌∷◌, ◌++◌}
-use Rattle.std.specs.declared.result.Result.{Result}
 use Rattle.std.specs.declared.result.Result.TheVariants.{Ok, Err}
 use Rattle.dasdl_compile.specs.declared.fault.CompileFault.{CompileFault}
 use Rattle.dasdl_compile.specs.Answers.{Judged, ◌>>=◌, steps}

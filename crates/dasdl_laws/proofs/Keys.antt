@@ -1,10 +1,8 @@
 -- A key that was judged has parts of its items, none of them twice, and is short.
-use Rattle.std.proofs.Common.{◌≡◌, ◌≤◌, ◌<◌, ◌+◌, ℕ, suc, min, List, [], ◌∷◌, ◌++◌, length, Bool, true, false, cond, refl, sym, ap, subst, ◌∙◌, arith, length-append, append_assoc}
-use Rattle.std.proofs.lemmas.Bool.{and_parts, le-leb, ltb-false}
-use Rattle.std.proofs.lemmas.Bool.Decides.{nat_tests}
-use Rattle.std.specs.Prelude.{◌&&◌, ◌||◌, ◌==◌, not, nat_le, nat_lt, Some, None}
+use Rattle.std.proofs.Common.{◌≡◌, ◌≤◌, ◌+◌, ℕ, List, [], ◌∷◌, ◌++◌, length, Bool, true, false, cond, refl, sym, ap, subst, ◌∙◌, arith, length-append, append_assoc}
+use Rattle.std.proofs.lemmas.Bool.{le-leb, ltb-false}
+use Rattle.std.specs.Prelude.{◌||◌, ◌==◌, not, nat_lt, Some}
 use Rattle.std.specs.List.{list_all}
-use Rattle.std.specs.declared.option.Option.{Option}
 use Rattle.std.specs.declared.result.Result.TheVariants.{Ok, Err}
 use Rattle.dms_base.specs.declared.kind.ItemKind.{ItemKind}
 use Rattle.dms_base.specs.declared.kind.ItemKind.TheVariants.{Alpha, Number as Decimal, Bool as OneBit, Field, Link as LinkTo}
@@ -19,7 +17,7 @@ use Rattle.dasdl_compile.specs.declared.fault.CompileFault.TheVariants.{KeyItem}
 use Rattle.dasdl_compile.specs.declared.draft.Draft.{Draft}
 use Rattle.dasdl_compile.specs.declared.keys.Run.{Run}
 use Rattle.dasdl_compile.specs.declared.keys.KeySoFar.{KeySoFar}
-use Rattle.dasdl_compile.specs.Answers.{Judged, ◌>>=◌, steps}
+use Rattle.dasdl_compile.specs.Answers.{steps}
 use Rattle.dasdl_compile.specs.Conditions.{is_link as links}
 use Rattle.dasdl_compile.specs.Keys.{is_part, is_in_run, key_item_at, run_of, part_at, short_key, key_at}
 use Rattle.dasdl_compile.specs.Widths.{plus, item_width as width_of}

@@ -1,16 +1,14 @@
 -- Items, links and groups of a data set, as they are added one after another.
-use Rattle.std.proofs.Common.{◌≡◌, ◌≤◌, ◌<◌, ◌+◌, ℕ, suc, min, List, [], ◌∷◌, ◌++◌, length, Bool, true, false, cond, refl, sym, ap, subst, ◌∙◌, arith, length-append, append_assoc}
+use Rattle.std.proofs.Common.{◌≡◌, ℕ, List, [], ◌∷◌, ◌++◌, Bool, true, false, cond, refl, sym, ap, subst, ◌∙◌}
 use Rattle.std.proofs.lemmas.Bool.{and_parts, not-true, both_ways}
-use Rattle.std.proofs.lemmas.List.{append-nil}
 use Rattle.std.proofs.lemmas.Slice.Eq.{bytes_eq-Decides}
-use Rattle.std.specs.Prelude.{◌&&◌, ◌||◌, ◌==◌, not, nat_le, nat_lt, is_some, Some, None}
-use Rattle.std.specs.List.{list_all, AllByRecursion}
+use Rattle.std.specs.Prelude.{◌&&◌, ◌||◌, ◌==◌, not, is_some, Some, None}
+use Rattle.std.specs.List.{list_all}
 use Rattle.std.specs.Str.{bytes_eq}
 use Rattle.std.specs.declared.option.Option.{Option}
 use Rattle.std.specs.declared.result.Result.TheVariants.{Ok, Err}
 use Rattle.dms_base.specs.Name.{is_name}
 use Rattle.dms_base.specs.Fits.{fits}
-use Rattle.dms_base.specs.Spelling.{is_kind}
 use Rattle.dms_base.specs.declared.value.Value.{Value}
 use Rattle.dms_base.specs.declared.value.Value.TheVariants.{Null}
 use Rattle.dms_base.specs.declared.kind.ItemKind.{ItemKind}
@@ -22,18 +20,15 @@ use Rattle.dms_desc_bytes.specs.Finding.{is_link}
 use Rattle.dms_desc_bytes.specs.Lists.{apart}
 use Rattle.dms_desc_bytes.specs.Members.{is_plain, is_null, items_differ, groups_differ, is_free_of, members_differ}
 use Rattle.dasdl_parse.specs.declared.declarations.ItemDecl.{ItemDecl}
-use Rattle.dasdl_parse.specs.declared.declarations.GroupDecl.{GroupDecl}
 use Rattle.dasdl_parse.specs.declared.declarations.LinkDecl.{LinkDecl}
 use Rattle.dasdl_compile.specs.declared.fault.CompileFault.TheVariants.{Embedding}
 use Rattle.dasdl_compile.specs.declared.draft.Draft.{Draft}
-use Rattle.dasdl_compile.specs.declared.find.Found.{Found}
-use Rattle.dasdl_compile.specs.Answers.{Judged, ◌>>=◌, steps}
-use Rattle.dasdl_compile.specs.Conditions.{or_fault, literal_of, value_in}
-use Rattle.dasdl_compile.specs.Finding.{item_named, group_named, is_taken, data_set_named, after_item, next_item}
-use Rattle.dasdl_compile.specs.Members.{count_of, with_item, with_group, initial_in, initial_of, item_at, group_at, link_to, link_kind, link_at}
+use Rattle.dasdl_compile.specs.Conditions.{literal_of, value_in}
+use Rattle.dasdl_compile.specs.Finding.{item_named, group_named, is_taken, data_set_named, after_item}
+use Rattle.dasdl_compile.specs.Members.{with_item, initial_in, initial_of, item_at, link_to, link_kind, link_at}
 use Rattle.dasdl_laws.specs.Alone.{is_local}
 use Rattle.dasdl_laws.proofs.Judging.{bind_ok, skip_ok, ok_same}
-use Rattle.dasdl_laws.proofs.Literals.{is_plain_literal, is_value, judged_fits}
+use Rattle.dasdl_laws.proofs.Literals.{judged_fits}
 use Rattle.dasdl_laws.proofs.Judged.{literal_in}
 use Rattle.dasdl_laws.proofs.Ordered.{and_so, all_push, apart_push}
 use Rattle.dasdl_laws.proofs.Written.{IsWritten, IsPlainInitial}

@@ -1,5 +1,5 @@
 -- The structures are numbered in their order, no name stands twice, and there is one restart data set.
-use Rattle.std.proofs.Common.{◌≡◌, ◌≤◌, ◌<◌, ◌+◌, ℕ, suc, min, List, [], ◌∷◌, ◌++◌, map, length, Bool, true, false, cond, refl, sym, ap, subst, ◌∙◌, arith, length-append}
+use Rattle.std.proofs.Common.{◌≡◌, ◌≤◌, ◌+◌, ℕ, min, List, [], ◌∷◌, ◌++◌, map, length, Bool, true, false, cond, refl, sym, ap, subst, ◌∙◌, arith, length-append}
 use Rattle.std.proofs.lemmas.List.{map-append, length-map}
 use Rattle.std.proofs.lemmas.Bool.Decides.{nat_tests}
 use Rattle.std.specs.Prelude.{◌&&◌, ◌||◌, not, ◌==◌, nat_le}
@@ -9,13 +9,11 @@ use Rattle.dms_desc.specs.Shape.{Shape}
 use Rattle.dms_desc_bytes.specs.Lists.{apart, is_within}
 use Rattle.dms_desc_bytes.specs.WellFormed.{numbered, names_differ, is_restart, not_both_restart}
 use Rattle.dasdl_parse.specs.declared.declarations.Declaration.{Declaration}
-use Rattle.dasdl_parse.specs.declared.declarations.Declaration.TheVariants.{DataSet, SetOf}
-use Rattle.dasdl_parse.specs.declared.declarations.DataSetDecl.{DataSetDecl}
 use Rattle.dasdl_parse.specs.declared.declarations.SetDecl.{SetDecl}
 use Rattle.dasdl_grammar.specs.SchemaSpelling.{structures_of, structures_in}
 use Rattle.dasdl_compile.specs.declared.draft.Draft.{Draft}
 use Rattle.dasdl_compile.specs.declared.work.Work.{Work}
-use Rattle.dasdl_compile.specs.Answers.{◌>>=◌, steps}
+use Rattle.dasdl_compile.specs.Answers.{steps}
 use Rattle.dasdl_compile.specs.Compile.{declared_at, nothing_yet, shape_in}
 use Rattle.dasdl_compile.specs.Finding.{next_structure, is_structure, has_restart}
 use Rattle.dasdl_compile.specs.Sets.{set_kind}

@@ -1,13 +1,13 @@
 -- Each parameter that a text says is in its range, and so is each that it leaves.
 use Rattle.std.proofs.Common.{◌≡◌, ◌≤◌, ℕ, List, Bool, true, false, refl, subst, arith, IsTrue}
 use Rattle.std.proofs.lemmas.Bool.Decides.{nat_tests}
-use Rattle.std.specs.Prelude.{◌&&◌, nat_le, Some, None}
+use Rattle.std.specs.Prelude.{◌&&◌, Some, None}
 use Rattle.std.specs.declared.option.Option.{Option}
 use Rattle.std.specs.declared.result.Result.TheVariants.{Ok}
 use Rattle.dms_desc.specs.Shape.{Described}
 use Rattle.dms_desc_bytes.specs.Lists.{is_within}
 use Rattle.dms_desc_bytes.specs.WellFormed.{has_parameters}
-use Rattle.dasdl_parse.specs.Grammar.{schema_of, default_parameters, with_pairs, with_audit_pairs}
+use Rattle.dasdl_parse.specs.Grammar.{schema_of}
 use Rattle.dasdl_parse.specs.Sets.{or_else}
 use Rattle.dasdl_parse.specs.Parameters.{no_pairs, no_audit_pairs}
 use Rattle.dasdl_parse.specs.declared.schema.Schema.{Schema}
@@ -23,12 +23,12 @@ use Rattle.dasdl_grammar.specs.ParameterSpelling.IsPair.{says_syncpoint, says_co
 use Rattle.dasdl_grammar.specs.ParameterSpelling.IsAuditPair.{says_blocks, says_files}
 use Rattle.dasdl_grammar.specs.ParameterSpelling.AreParameters.{parameters}
 use Rattle.dasdl_grammar.specs.ParameterSpelling.IsTrail.{trail}
-use Rattle.dasdl_grammar.specs.SchemaSpelling.{Declares, IsSchema}
+use Rattle.dasdl_grammar.specs.SchemaSpelling.{Declares}
 use Rattle.dasdl_grammar.specs.SchemaSpelling.Declares.{no_declaration, then_parameters, then_audit, then_structure}
 use Rattle.dasdl_grammar.proofs.SchemaSound.{text_sound}
 use Rattle.dasdl_compile.specs.Compile.{compiled, description_of}
 use Rattle.dasdl_compile.specs.declared.draft.Draft.{Draft}
-use Rattle.dasdl_laws.proofs.Compiling.{Compiled, compiled_by}
+use Rattle.dasdl_laws.proofs.Compiling.{compiled_by}
 
 -- none, or within its range
 abbrev IsSaid : ℕ → ℕ → Option ℕ → Type 0

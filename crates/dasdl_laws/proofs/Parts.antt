@@ -1,12 +1,11 @@
 -- A data set that is open is sound so far, and one that has ended is sound.
-use Rattle.std.proofs.Common.{◌≡◌, ◌≤◌, ◌<◌, ◌+◌, ℕ, suc, min, List, [], ◌∷◌, ◌++◌, length, Bool, true, false, cond, refl, sym, ap, subst, ◌∙◌, arith, length-append, append_assoc, IsTrue}
-use Rattle.std.proofs.lemmas.Bool.{and_parts, le-leb, leb-true, ltb-false}
-use Rattle.std.specs.Prelude.{◌&&◌, ◌||◌, ◌==◌, not, nat_le, nat_lt, map, Some, None}
+use Rattle.std.proofs.Common.{◌≡◌, ◌≤◌, ◌+◌, ℕ, List, [], ◌∷◌, ◌++◌, length, Bool, true, false, refl, sym, ap, subst, ◌∙◌, arith, length-append}
+use Rattle.std.proofs.lemmas.Bool.{le-leb, ltb-false}
+use Rattle.std.specs.Prelude.{◌||◌, nat_lt, Some, None}
 use Rattle.std.specs.List.{list_all, AllByRecursion}
 use Rattle.std.specs.declared.option.Option.{Option}
-use Rattle.std.specs.declared.result.Result.TheVariants.{Ok, Err}
+use Rattle.std.specs.declared.result.Result.TheVariants.{Ok}
 use Rattle.dms_base.specs.Name.{is_name}
-use Rattle.dms_base.specs.declared.kind.ItemKind.{ItemKind}
 use Rattle.dms_desc.specs.declared.structure.Item.{Item as Member}
 use Rattle.dms_desc.specs.declared.structure.Group.{Group as ItemGroup}
 use Rattle.dms_desc.specs.Shape.{Tree}
@@ -16,20 +15,19 @@ use Rattle.dms_desc_bytes.specs.Lists.{apart, total, is_within}
 use Rattle.dms_desc_bytes.specs.Members.{is_group_sound, members_differ, groups_follow}
 use Rattle.dms_desc_bytes.specs.WellFormed.{width_of, has_sound_verify}
 use Rattle.dasdl_parse.specs.Trees.{Condition}
-use Rattle.dasdl_parse.specs.CondSpelling.{nodes as nodes_of}
 use Rattle.dasdl_parse.specs.declared.declarations.ItemDecl.{ItemDecl}
 use Rattle.dasdl_parse.specs.declared.declarations.GroupDecl.{GroupDecl}
 use Rattle.dasdl_parse.specs.declared.declarations.DataSetEnd.{DataSetEnd}
 use Rattle.dasdl_compile.specs.declared.draft.Draft.{Draft}
-use Rattle.dasdl_compile.specs.Answers.{Judged, ◌>>=◌, steps}
+use Rattle.dasdl_compile.specs.Answers.{steps}
 use Rattle.dasdl_compile.specs.Compile.{shape_in}
-use Rattle.dasdl_compile.specs.Conditions.{verified, condition}
+use Rattle.dasdl_compile.specs.Conditions.{verified}
 use Rattle.dasdl_compile.specs.Finding.{is_taken, next_item}
-use Rattle.dasdl_compile.specs.Members.{count_of, with_item, with_group, with_end, item_at, group_at, end_at}
+use Rattle.dasdl_compile.specs.Members.{count_of, with_item, with_group, item_at, group_at, end_at}
 use Rattle.dasdl_compile.specs.Widths.{plus, item_width, record_width}
 use Rattle.dasdl_laws.specs.Alone.{is_local}
 use Rattle.dasdl_laws.proofs.Judging.{bind_ok, skip_ok, ok_same}
-use Rattle.dasdl_laws.proofs.Judged.{are_plain, condition_sound}
+use Rattle.dasdl_laws.proofs.Judged.{condition_sound}
 use Rattle.dasdl_laws.proofs.Keys.{same_widths}
 use Rattle.dasdl_laws.proofs.Members.{Points, Adds, item_adds, item_differs, group_differs}
 use Rattle.dasdl_laws.proofs.Ordered.{and_so, all_push, apart_push}

@@ -1,9 +1,9 @@
 -- A description has no more bytes than were counted for it.
 use Rattle.std.proofs.lemmas.Bool.{le-leb}
-use Rattle.std.proofs.Common.{◌≡◌, ◌≤◌, ◌+◌, ◌%◌, ℕ, suc, min, List, [], ◌∷◌, ◌++◌, map, length, Bool, true, false, cond, refl, sym, ap, ◌∙◌, arith, length-append, inl, inr, ◌⊎◌}
+use Rattle.std.proofs.Common.{◌≡◌, ◌≤◌, ◌+◌, ◌%◌, ℕ, suc, List, [], ◌∷◌, ◌++◌, map, length, Bool, true, false, cond, refl, sym, arith, length-append}
 use Rattle.std.proofs.lemmas.Bool.Decides.{nat_tests}
-use Rattle.std.specs.Prelude.{◌&&◌, ◌||◌, ◌==◌, nat_lt, nat_le, flat_map}
-use Rattle.std.specs.Int.{w16, w32, w64, to_be_bytes}
+use Rattle.std.specs.Prelude.{◌==◌, nat_lt, nat_le, flat_map}
+use Rattle.std.specs.Int.{w16, w32, to_be_bytes}
 use Rattle.dms_base.specs.declared.value.Value.{Value}
 use Rattle.dms_base.specs.declared.value.Value.TheVariants.{Null, Text, Number, Bool as Truth, Bits, Link as Reference}
 use Rattle.dms_base.specs.declared.kind.ItemKind.{ItemKind}
@@ -13,11 +13,11 @@ use Rattle.dms_desc.specs.declared.structure.Group.{Group}
 use Rattle.dms_desc.specs.declared.structure.KeyPart.{KeyPart}
 use Rattle.dms_desc.specs.Shape.{Tree, Shape, Described}
 use Rattle.dms_desc.specs.Shape.Tree.{Empty, Test, Both, Either, Contrary}
-use Rattle.dms_desc_bytes.specs.Spelling.{count_byte, flag, name_bytes, literal_bytes, kind_bytes, item_bytes, group_bytes, part_bytes, op_number, tree_bytes, data_set_bytes, where_bytes, set_bytes, is_data_set, structure_bytes, spelling}
+use Rattle.dms_desc_bytes.specs.Spelling.{name_bytes, literal_bytes, kind_bytes, item_bytes, group_bytes, part_bytes, tree_bytes, data_set_bytes, where_bytes, set_bytes, is_data_set, structure_bytes, spelling}
 use Rattle.dasdl_parse.specs.declared.schema.Parameters.{Parameters}
 use Rattle.dasdl_compile.specs.declared.draft.Draft.{Draft}
 use Rattle.dasdl_compile.specs.Compile.{shape_in, description_of}
-use Rattle.dasdl_compile.specs.Widths.{most, plus, size_of, value_width, condition_width, items_width, groups_width, parts_width, data_set_width, set_width, with_structure, structures_width, description_width}
+use Rattle.dasdl_compile.specs.Widths.{plus, size_of, value_width, condition_width, items_width, groups_width, parts_width, data_set_width, set_width, with_structure, structures_width, description_width}
 
 -- a count that is at most 65,535 was never held
 whole : (a b : ℕ) → plus a b ≤ 65535 → plus a b ≡ a + b

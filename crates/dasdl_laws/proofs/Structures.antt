@@ -1,21 +1,19 @@
 -- What a description that a text gives has, each in one sentence.
-use Rattle.std.proofs.Common.{◌≡◌, ◌≤◌, ℕ, List, [], map, length, true, refl, subst, IsTrue}
+use Rattle.std.proofs.Common.{◌≡◌, ℕ, List, length, true, subst, IsTrue}
 use Rattle.std.proofs.lemmas.Bool.{le-leb}
 use Rattle.std.specs.Prelude.{nat_le}
-use Rattle.std.specs.List.{list_all, list_any}
+use Rattle.std.specs.List.{list_all}
 use Rattle.std.specs.declared.result.Result.TheVariants.{Ok}
-use Rattle.dms_desc.specs.Shape.{Shape, Described}
-use Rattle.dms_desc_bytes.specs.Lists.{apart, is_within}
+use Rattle.dms_desc.specs.Shape.{Described}
 use Rattle.dms_desc_bytes.specs.Spelling.{spelling}
-use Rattle.dms_desc_bytes.specs.WellFormed.{numbered, names_differ, is_restart, not_both_restart}
 use Rattle.dasdl_parse.specs.Grammar.{schema_of}
 use Rattle.dasdl_parse.specs.declared.schema.Schema.{Schema}
 use Rattle.dasdl_grammar.proofs.SchemaSound.{text_sound}
-use Rattle.dasdl_compile.specs.Compile.{compiled, shape_in}
+use Rattle.dasdl_compile.specs.Compile.{compiled}
 use Rattle.dasdl_laws.specs.Alone.{is_sound_alone}
 use Rattle.dasdl_laws.proofs.Alone.{all_alone}
 use Rattle.dasdl_laws.proofs.Trees.{all_final}
-use Rattle.dasdl_laws.proofs.Compiling.{Compiled, compiled_by}
+use Rattle.dasdl_laws.proofs.Compiling.{compiled_by}
 use Rattle.dasdl_laws.proofs.Ordered.{WellOrdered, well_ordered, have_kinds, has_kind}
 use Rattle.dasdl_laws.proofs.Short.{is_short}
 

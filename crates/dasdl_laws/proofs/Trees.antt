@@ -1,9 +1,8 @@
 -- Each structure that a declaration adds is sound by itself, as the grammar nests declarations.
-use Rattle.std.proofs.Common.{◌≡◌, ◌≤◌, ◌<◌, ◌+◌, ◌-◌, ℕ, suc, min, List, [], ◌∷◌, ◌++◌, map, length, Bool, true, false, cond, refl, sym, ap, subst, ◌∙◌, arith, length-append, append_assoc}
-use Rattle.std.proofs.lemmas.Bool.{eq-eqb}
+use Rattle.std.proofs.Common.{◌≡◌, ◌≤◌, ◌+◌, ◌-◌, ℕ, suc, List, [], ◌∷◌, ◌++◌, length, Bool, true, false, refl, sym, ap, subst, ◌∙◌, arith, length-append, append_assoc}
 use Rattle.std.proofs.lemmas.List.{append-nil, set_at}
-use Rattle.std.specs.Prelude.{◌&&◌, ◌||◌, ◌==◌, slice_get, set, Some, None}
-use Rattle.std.specs.List.{list_any, AllByRecursion}
+use Rattle.std.specs.Prelude.{slice_get, set, Some}
+use Rattle.std.specs.List.{AllByRecursion}
 use Rattle.std.specs.declared.result.Result.TheVariants.{Ok}
 use Rattle.dms_base.specs.Name.{is_name}
 use Rattle.dms_desc_bytes.specs.Lists.{is_within}
@@ -19,14 +18,14 @@ use Rattle.dasdl_parse.specs.declared.declarations.LinkDecl.{LinkDecl}
 use Rattle.dasdl_parse.specs.declared.declarations.SetDecl.{SetDecl}
 use Rattle.dasdl_parse.specs.declared.schema.Parameters.{Parameters}
 use Rattle.dasdl_grammar.specs.SchemaSpelling.{Members, Many, Declares, structures_of, structures_in}
-use Rattle.dasdl_grammar.specs.SchemaSpelling.Many.{Single, Several}
+use Rattle.dasdl_grammar.specs.SchemaSpelling.Many.{Single}
 use Rattle.dasdl_grammar.specs.SchemaSpelling.Declares.{no_declaration, then_parameters, then_audit, then_structure}
 use Rattle.dasdl_grammar.specs.SchemaSpelling.Members.{a_set, a_data_set, an_item, a_link, a_group, a_first, a_further}
 use Rattle.dasdl_grammar.proofs.SchemaComplete.{structures-append}
 use Rattle.dasdl_compile.specs.declared.draft.Draft.{Draft}
 use Rattle.dasdl_compile.specs.declared.sets.SetOptions.{SetOptions}
 use Rattle.dasdl_compile.specs.declared.work.Work.{Work}
-use Rattle.dasdl_compile.specs.Answers.{Judged, ◌>>=◌, steps}
+use Rattle.dasdl_compile.specs.Answers.{steps}
 use Rattle.dasdl_compile.specs.Compile.{declared_at, nothing_yet}
 use Rattle.dasdl_compile.specs.Finding.{drafted, next_structure, data_set_named}
 use Rattle.dasdl_compile.specs.Members.{member_at, open_after}
@@ -35,7 +34,7 @@ use Rattle.dasdl_compile.specs.Sets.{is_misplaced, options_at, lacks_key, set_dr
 use Rattle.dasdl_laws.proofs.Judging.{bind_ok, ok_same, steps_split, one_step}
 use Rattle.dasdl_laws.proofs.Members.{item_adds, link_adds}
 use Rattle.dasdl_laws.proofs.Ordered.{counts}
-use Rattle.dasdl_laws.proofs.Parts.{Base, Grouped, Sofar, sofar_adds, grown, group_adds, Ended, ended}
+use Rattle.dasdl_laws.proofs.Parts.{Sofar, sofar_adds, grown, group_adds, Ended, ended}
 use Rattle.dasdl_laws.proofs.Turns.{outer, Turn, Inside, turn_of, member_kept}
 use Rattle.dasdl_laws.proofs.Turns.Turn.{inside, data_set, a_set as set_added}
 use Rattle.dasdl_laws.proofs.Turns.Inside.{untouched, changed}

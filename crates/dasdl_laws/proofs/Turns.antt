@@ -1,11 +1,9 @@
 -- What one declaration does to the structures that were declared before it.
-use Rattle.std.proofs.Common.{◌≡◌, ℕ, zero, suc, ◌-◌, List, [], ◌∷◌, ◌++◌, map, length, Bool, true, false, cond, refl, sym, ap, subst, ◌∙◌}
-use Rattle.std.proofs.lemmas.List.{map-append}
+use Rattle.std.proofs.Common.{◌≡◌, ℕ, zero, suc, ◌-◌, List, [], ◌∷◌, ◌++◌, map, false, refl, sym, ap, ◌∙◌}
 use Rattle.std.specs.Prelude.{slice_get, set, ◌&&◌, Some, None}
 use Rattle.std.specs.declared.option.Option.{Option}
-use Rattle.std.specs.declared.result.Result.TheVariants.{Ok, Err}
-use Rattle.dms_desc.specs.Shape.{Tree, Empty}
-use Rattle.dasdl_parse.specs.Trees.{Condition}
+use Rattle.std.specs.declared.result.Result.TheVariants.{Ok}
+use Rattle.dms_desc.specs.Shape.{Empty}
 use Rattle.dasdl_parse.specs.declared.declarations.Declaration.{Declaration}
 use Rattle.dasdl_parse.specs.declared.declarations.Declaration.TheVariants.{DataSet, Item, Group, Link, SetOf, End}
 use Rattle.dasdl_parse.specs.declared.declarations.DataSetDecl.{DataSetDecl}
@@ -18,14 +16,12 @@ use Rattle.dasdl_grammar.specs.SchemaSpelling.{structures_of}
 use Rattle.dasdl_compile.specs.declared.draft.Draft.{Draft}
 use Rattle.dasdl_compile.specs.declared.sets.SetOptions.{SetOptions}
 use Rattle.dasdl_compile.specs.declared.work.Work.{Work}
-use Rattle.dasdl_compile.specs.Answers.{Judged, ◌>>=◌, steps}
 use Rattle.dasdl_compile.specs.Compile.{is_misplaced as is_data_set_misplaced, data_set_at, inside_in, inside_at, declared_at}
 use Rattle.dasdl_compile.specs.Conditions.{verified}
 use Rattle.dasdl_compile.specs.Finding.{drafted, next_structure, is_structure, has_restart, data_set_named, is_taken}
-use Rattle.dasdl_compile.specs.Members.{with_item, with_group, with_end, initial_of, item_at, group_at, link_kind, link_at, end_at, member_at, open_after}
+use Rattle.dasdl_compile.specs.Members.{with_group, initial_of, item_at, group_at, link_kind, link_at, end_at, member_at, open_after}
 use Rattle.dasdl_compile.specs.Outlines.{data_set_kind}
 use Rattle.dasdl_compile.specs.Sets.{is_misplaced, options_at, lacks_key, set_draft, set_over, set_in, set_at}
-use Rattle.dasdl_compile.specs.Widths.{record_width}
 use Rattle.dasdl_laws.proofs.Judging.{bind_ok, skip_ok, ok_same, steps_keep}
 
 -- a structure without what its members and its end say

@@ -1,18 +1,16 @@
 -- What the grammar says of items and conditions that were read.
-use Rattle.std.proofs.Common.{◌≡◌, ◌≤◌, ◌<◌, ◌+◌, ℕ, suc, List, [], ◌∷◌, ◌++◌, length, Bool, true, false, cond, refl, sym, ap, subst, ◌∙◌, arith}
+use Rattle.std.proofs.Common.{◌≡◌, ◌≤◌, ℕ, List, [], ◌∷◌, ◌++◌, length, Bool, true, false, cond, refl, ap, subst, arith}
 use Rattle.std.proofs.lemmas.Bool.{and_parts, le-leb}
 use Rattle.std.proofs.lemmas.Slice.Eq.{bytes_eq-Decides}
-use Rattle.std.specs.Prelude.{◌&&◌, ◌==◌, not, nat_le, Some, None}
+use Rattle.std.specs.Prelude.{◌&&◌, ◌==◌, nat_le, Some, None}
 use Rattle.std.specs.List.{list_all}
-use Rattle.std.specs.Str.{bytes_eq}
 use Rattle.std.specs.declared.option.Option.{Option}
 use Rattle.dms_base.specs.Name.{is_name}
 use Rattle.dms_base.specs.Spelling.{is_kind}
 use Rattle.dms_base.specs.Text.{is_printable, before_trimmed, trimmed, text_of}
 use Rattle.dms_base.specs.declared.kind.ItemKind.{ItemKind}
-use Rattle.dms_base.specs.declared.kind.ItemKind.TheVariants.{Alpha, Number as Digits, Bool as Truth, Field}
 use Rattle.dms_base.specs.declared.kind.Literal.{Literal}
-use Rattle.dms_base.specs.declared.kind.Literal.TheVariants.{Null, Text}
+use Rattle.dms_base.specs.declared.kind.Literal.TheVariants.{Text}
 use Rattle.dms_desc_bytes.specs.Finding.{is_link}
 use Rattle.dasdl_parse.specs.declared.token.Token.{Token}
 use Rattle.dasdl_parse.specs.declared.items.ItemOptions.{ItemOptions}

@@ -1,5 +1,5 @@
 -- What each structure of a description has by itself, whatever else is declared.
-use Rattle.std.specs.Prelude.{List, length, Bool, not, ◌&&◌, ◌||◌, nat_le, if◌then◌else◌}
+use Rattle.std.specs.Prelude.{length, Bool, not, ◌&&◌, ◌||◌, nat_le, if◌then◌else◌}
 use Rattle.std.specs.List.{list_all}
 use Rattle.dms_base.specs.Name.{is_name}
 use Rattle.dms_base.specs.Fits.{fits}
