@@ -6,6 +6,7 @@ mod Keys
 mod Literals
 mod Members
 mod Ordered
+mod Outline
 mod Parameters
 mod Parts
 mod Short

@@ -94,7 +94,7 @@ by_owner : (o : List Draft) (l : LinkDecl) (t : Draft) (k : ItemKind) (b : Bool)
 by_owner o l t k true a e h = (t, e, a, sym (ok_same _ k h))
 by_owner o l t k false a e h = absurd (cc)
 
-link_found : (o : List Draft) (l : LinkDecl) (r : Option Draft) (k : ItemKind) → data_set_named l.target o ≡ r → link_to l r ≡ Ok k → (t : Draft) × (data_set_named l.target o ≡ Some t) × ((t.owner == 0) ≡ true) × (k ≡ LinkTo t.number l.counted)
+pub link_found : (o : List Draft) (l : LinkDecl) (r : Option Draft) (k : ItemKind) → data_set_named l.target o ≡ r → link_to l r ≡ Ok k → (t : Draft) × (data_set_named l.target o ≡ Some t) × ((t.owner == 0) ≡ true) × (k ≡ LinkTo t.number l.counted)
 link_found o l None k e h = absurd (cc)
 link_found o l (Some t) k e h = by_owner o l t k (t.owner == 0) refl e h
 

@@ -163,7 +163,7 @@ set_adding o w v s z k = set_adding_by o w v (SetOf s) s z refl (turn_of o w v (
 
 -- ---- data sets
 
-opened_by : (o : List Draft) (w v : Work) (decl : Declaration) (s : DataSetDecl) → decl ≡ DataSet s → Turn o w v decl → v ≡ record { made = w.made ++ drafted (next_structure w.made) (data_set_kind s.restart) s.name w.within ∷ []; within = next_structure w.made }
+pub opened_by : (o : List Draft) (w v : Work) (decl : Declaration) (s : DataSetDecl) → decl ≡ DataSet s → Turn o w v decl → v ≡ record { made = w.made ++ drafted (next_structure w.made) (data_set_kind s.restart) s.name w.within ∷ []; within = next_structure w.made }
 opened_by o w v _ s same (inside decl none i) = let one : structures_of (DataSet s) ≡ 0 = subst (λ (x : Declaration). structures_of x ≡ 0) same none in absurd (omega (arith, one))
 opened_by o w v _ s same (data_set h new placed once e) =
     let one : h ≡ s = cc in
