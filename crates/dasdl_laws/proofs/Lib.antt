@@ -11,6 +11,7 @@ mod Parameters
 mod Parts
 mod Short
 mod Structures
+mod Together
 mod Trees
 mod Turns
 mod Written
