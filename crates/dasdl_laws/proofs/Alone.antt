@@ -19,7 +19,7 @@ use Rattle.dasdl_laws.proofs.Trees.{DataSetMade, SetMade, Final}
 use Rattle.dasdl_laws.proofs.Trees.Final.{a_data_set_made, a_set_made}
 use Rattle.dasdl_laws.proofs.Turns.{outer}
 
-kind_is : (b : Bool) → is_data_set (data_set_kind b) ≡ true
+pub kind_is : (b : Bool) → is_data_set (data_set_kind b) ≡ true
 kind_is true = refl
 kind_is false = refl
 
@@ -47,7 +47,7 @@ data_set_alone o d h =
     and_so _ _ h.name (rw kind
     (and_so _ _ (and_so _ _ (and_so _ _ (and_so _ _ (and_so _ _ h.ended.population (items_alone o d h.ended)) (groups_alone o d h.ended)) h.ended.sofar.base.differ) h.ended.verify) (lacks_alone d h.number (data_set_kind h.restart) h.called h.owner h.outside)))
 
-by_words : (a b : Bool) → is_data_set (cond (not a) 3 (cond b 4 5)) ≡ false
+pub by_words : (a b : Bool) → is_data_set (cond (not a) 3 (cond b 4 5)) ≡ false
 by_words true true = refl
 by_words true false = refl
 by_words false b = refl

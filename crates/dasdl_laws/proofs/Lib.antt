@@ -9,6 +9,7 @@ mod Ordered
 mod Outline
 mod Parameters
 mod Parts
+mod Sets
 mod Short
 mod Structures
 mod Together

@@ -1,5 +1,5 @@
 -- What a description that a text gives has, each in one sentence.
-use Rattle.std.proofs.Common.{◌≡◌, ℕ, List, length, true, subst, IsTrue}
+use Rattle.std.proofs.Common.{refl, ◌≡◌, ℕ, List, length, true, subst, IsTrue}
 use Rattle.std.proofs.lemmas.Bool.{le-leb}
 use Rattle.std.specs.Prelude.{nat_le}
 use Rattle.std.specs.List.{list_all}
@@ -13,6 +13,11 @@ use Rattle.dasdl_compile.specs.Compile.{compiled}
 use Rattle.dasdl_laws.specs.Alone.{is_sound_alone}
 use Rattle.dasdl_laws.proofs.Alone.{all_alone}
 use Rattle.dasdl_laws.proofs.Trees.{all_final}
+use Rattle.dasdl_laws.specs.Together.{is_sound_together}
+use Rattle.dasdl_laws.proofs.Outline.{Alike, all_alike}
+use Rattle.dasdl_laws.proofs.Sets.{Whole, all_together}
+use Rattle.dasdl_compile.specs.Compile.{nothing_yet}
+use Rattle.dasdl_compile.specs.declared.work.Plain.TheVariants.{Noted}
 use Rattle.dasdl_laws.proofs.Compiling.{compiled_by}
 use Rattle.dasdl_laws.proofs.Ordered.{WellOrdered, well_ordered, have_kinds, has_kind}
 use Rattle.dasdl_laws.proofs.Short.{is_short}
@@ -22,6 +27,7 @@ pub record Structured (d : Described) : Type 0 where
   pub order : WellOrdered d.structures
   pub kinds : list_all has_kind d.structures ≡ true
   pub alone : list_all is_sound_alone d.structures ≡ true
+  pub together : list_all (is_sound_together d.structures) d.structures ≡ true
   pub short : nat_le (length (spelling d)) 65535 ≡ true
 
 pub structured : (text : List ℕ) (s : Schema) (d : Described) → schema_of text ≡ Ok s → compiled s.parameters s.declarations ≡ Ok d → Structured d
@@ -29,8 +35,12 @@ structured text s d read made =
     let g = (text_sound text s read).0 in
     let c = compiled_by s.parameters s.declarations d made in
     let k = have_kinds c.outline.made s.declarations c.work c.declared in
+    let o = well_ordered c.outline.made s.declarations c.work c.declared g.few c.made.restart in
+    let f = all_final s.parameters g.has_parameters g.has_audit s.declarations g.used g.declares c.outline.made c.work g.few c.declared in
+    let e = all_alike Noted c.outline.made s.declarations nothing_yet nothing_yet c.outline c.work (record { within = refl; made = refl }) c.outlined c.declared in
+    let w = record { same = e.made; numbers = o.numbers; kinds = k.1; final = f } in
     subst Structured c.made.is
-    (record { order = well_ordered c.outline.made s.declarations c.work c.declared g.few c.made.restart; kinds = k.1; alone = all_alone c.outline.made c.work.made (all_final s.parameters g.has_parameters g.has_audit s.declarations g.used g.declares c.outline.made c.work g.few c.declared); short = is_short s.parameters c.work.made k.0 c.made.short })
+    (record { order = o; kinds = k.1; alone = all_alone c.outline.made c.work.made f; together = all_together c.outline.made c.work.made w; short = is_short s.parameters c.work.made k.0 c.made.short })
 
 pub few_structures : (d : Described) → Structured d → IsTrue (nat_le (length d.structures) 200)
 few_structures d h = le-leb (length d.structures) 200 h.order.few

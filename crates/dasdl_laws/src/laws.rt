@@ -9,6 +9,7 @@ ghost use Rattle.dasdl_parse.specs.Grammar.{schema_of};
 ghost use Rattle.dasdl_parse.specs.declared.schema.Schema.{Schema};
 ghost use Rattle.dasdl_compile.specs.Compile.{compiled};
 ghost use Rattle.dasdl_laws.specs.Alone.{is_sound_alone};
+ghost use Rattle.dasdl_laws.specs.Together.{is_sound_together};
 
 /// Each parameter of a description that a text gives is in its range.
 pub fn parameters_law()
@@ -28,5 +29,6 @@ pub fn structures_law()
     ensures one_restart { (text : List ℕ) (s : Schema) (d : Described) → schema_of text ≡ Ok s → compiled s.parameters s.declarations ≡ Ok d → IsTrue (apart not_both_restart d.structures) }
     ensures kinds { (text : List ℕ) (s : Schema) (d : Described) → schema_of text ≡ Ok s → compiled s.parameters s.declarations ≡ Ok d → IsTrue (list_all (λ (x : Shape). is_within 1 5 x.kind) d.structures) }
     ensures alone { (text : List ℕ) (s : Schema) (d : Described) → schema_of text ≡ Ok s → compiled s.parameters s.declarations ≡ Ok d → IsTrue (list_all is_sound_alone d.structures) }
+    ensures together { (text : List ℕ) (s : Schema) (d : Described) → schema_of text ≡ Ok s → compiled s.parameters s.declarations ≡ Ok d → IsTrue (list_all (is_sound_together d.structures) d.structures) }
     ensures short { (text : List ℕ) (s : Schema) (d : Described) → schema_of text ≡ Ok s → compiled s.parameters s.declarations ≡ Ok d → IsTrue (nat_le (length (spelling d)) 65535) }
 {}

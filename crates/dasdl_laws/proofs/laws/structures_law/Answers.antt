@@ -10,5 +10,6 @@ returns c = record {
   one_restart = λ text s d read made. (structured text s d read made).order.restarts;
   kinds = λ text s d read made. (structured text s d read made).kinds;
   alone = λ text s d read made. (structured text s d read made).alone;
+  together = λ text s d read made. (structured text s d read made).together;
   short = λ text s d read made. (structured text s d read made).short;
 }
