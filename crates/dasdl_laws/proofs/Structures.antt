@@ -38,7 +38,7 @@ structured text s d read made =
     let o = well_ordered c.outline.made s.declarations c.work c.declared g.few c.made.restart in
     let f = all_final s.parameters g.has_parameters g.has_audit s.declarations g.used g.declares c.outline.made c.work g.few c.declared in
     let e = all_alike Noted c.outline.made s.declarations nothing_yet nothing_yet c.outline c.work (record { within = refl; made = refl }) c.outlined c.declared in
-    let w = record { same = e.made; numbers = o.numbers; kinds = k.1; final = f } in
+    let w : Whole c.outline.made c.work.made = record { same = e.made; numbers = o.numbers; kinds = k.1; final = f } in
     subst Structured c.made.is
     (record { order = o; kinds = k.1; alone = all_alone c.outline.made c.work.made f; together = all_together c.outline.made c.work.made w; short = is_short s.parameters c.work.made k.0 c.made.short })
 
