@@ -9,6 +9,7 @@ mod Ordered
 mod Outline
 mod Parameters
 mod Parts
+mod Placed
 mod Sets
 mod Short
 mod Structures

@@ -4,7 +4,7 @@ ghost use Rattle.std.specs.declared.result.Result.TheVariants.{Ok};
 ghost use Rattle.dms_desc.specs.Shape.{Shape, Described};
 ghost use Rattle.dms_desc_bytes.specs.Lists.{apart, is_within};
 ghost use Rattle.dms_desc_bytes.specs.Spelling.{spelling};
-ghost use Rattle.dms_desc_bytes.specs.WellFormed.{has_parameters, numbered, names_differ, is_restart, not_both_restart};
+ghost use Rattle.dms_desc_bytes.specs.WellFormed.{has_parameters, numbered, names_differ, is_restart, is_placed, not_both_restart};
 ghost use Rattle.dasdl_parse.specs.Grammar.{schema_of};
 ghost use Rattle.dasdl_parse.specs.declared.schema.Schema.{Schema};
 ghost use Rattle.dasdl_compile.specs.Compile.{compiled};
@@ -30,5 +30,6 @@ pub fn structures_law()
     ensures kinds { (text : List ℕ) (s : Schema) (d : Described) → schema_of text ≡ Ok s → compiled s.parameters s.declarations ≡ Ok d → IsTrue (list_all (λ (x : Shape). is_within 1 5 x.kind) d.structures) }
     ensures alone { (text : List ℕ) (s : Schema) (d : Described) → schema_of text ≡ Ok s → compiled s.parameters s.declarations ≡ Ok d → IsTrue (list_all is_sound_alone d.structures) }
     ensures together { (text : List ℕ) (s : Schema) (d : Described) → schema_of text ≡ Ok s → compiled s.parameters s.declarations ≡ Ok d → IsTrue (list_all (is_sound_together d.structures) d.structures) }
+    ensures placed { (text : List ℕ) (s : Schema) (d : Described) → schema_of text ≡ Ok s → compiled s.parameters s.declarations ≡ Ok d → IsTrue (list_all is_placed d.structures) }
     ensures short { (text : List ℕ) (s : Schema) (d : Described) → schema_of text ≡ Ok s → compiled s.parameters s.declarations ≡ Ok d → IsTrue (nat_le (length (spelling d)) 65535) }
 {}

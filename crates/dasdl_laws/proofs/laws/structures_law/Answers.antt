@@ -11,5 +11,6 @@ returns c = record {
   kinds = λ text s d read made. (structured text s d read made).kinds;
   alone = λ text s d read made. (structured text s d read made).alone;
   together = λ text s d read made. (structured text s d read made).together;
+  placed = λ text s d read made. (structured text s d read made).placed;
   short = λ text s d read made. (structured text s d read made).short;
 }
