@@ -1,5 +1,6 @@
 mod Alone
 mod Compiling
+mod Counted
 mod Judged
 mod Judging
 mod Keys

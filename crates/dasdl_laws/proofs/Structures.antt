@@ -18,7 +18,10 @@ use Rattle.dasdl_laws.proofs.Outline.{Alike, all_alike}
 use Rattle.dasdl_laws.proofs.Sets.{Whole, all_together}
 use Rattle.dasdl_compile.specs.Compile.{nothing_yet}
 use Rattle.dasdl_compile.specs.declared.work.Plain.TheVariants.{Noted}
-use Rattle.dms_desc_bytes.specs.WellFormed.{is_placed}
+use Rattle.dms_desc_bytes.specs.WellFormed.{is_placed, counted_in}
+use Rattle.dms_desc_bytes.specs.Lists.{total}
+use Rattle.std.proofs.Common.{◌≤◌}
+use Rattle.dasdl_laws.proofs.Counted.{few_counted}
 use Rattle.dasdl_laws.proofs.Placed.{all_placed}
 use Rattle.dasdl_laws.proofs.Compiling.{compiled_by}
 use Rattle.dasdl_laws.proofs.Ordered.{WellOrdered, well_ordered, have_kinds, has_kind}
@@ -31,6 +34,7 @@ pub record Structured (d : Described) : Type 0 where
   pub alone : list_all is_sound_alone d.structures ≡ true
   pub together : list_all (is_sound_together d.structures) d.structures ≡ true
   pub placed : list_all is_placed d.structures ≡ true
+  pub counted : total counted_in d.structures ≤ 4000
   pub short : nat_le (length (spelling d)) 65535 ≡ true
 
 pub structured : (text : List ℕ) (s : Schema) (d : Described) → schema_of text ≡ Ok s → compiled s.parameters s.declarations ≡ Ok d → Structured d
@@ -43,7 +47,10 @@ structured text s d read made =
     let e = all_alike Noted c.outline.made s.declarations nothing_yet nothing_yet c.outline c.work (record { within = refl; made = refl }) c.outlined c.declared in
     let w : Whole c.outline.made c.work.made = record { same = e.made; numbers = o.numbers; kinds = k.1; final = f } in
     subst Structured c.made.is
-    (record { order = o; kinds = k.1; alone = all_alone c.outline.made c.work.made f; together = all_together c.outline.made c.work.made w; placed = all_placed c.outline.made s.declarations c.work c.declared; short = is_short s.parameters c.work.made k.0 c.made.short })
+    (record { order = o; kinds = k.1; alone = all_alone c.outline.made c.work.made f; together = all_together c.outline.made c.work.made w; counted = few_counted s.parameters g.has_parameters g.has_audit s.declarations g.used g.declares c.outline.made c.work g.fewer c.declared; placed = all_placed c.outline.made s.declarations c.work c.declared; short = is_short s.parameters c.work.made k.0 c.made.short })
 
 pub few_structures : (d : Described) → Structured d → IsTrue (nat_le (length d.structures) 200)
 few_structures d h = le-leb (length d.structures) 200 h.order.few
+
+pub few_counted_links : (d : Described) → Structured d → IsTrue (nat_le (total counted_in d.structures) 4000)
+few_counted_links d h = le-leb (total counted_in d.structures) 4000 h.counted

@@ -2,9 +2,9 @@ ghost use Rattle.std.specs.Prelude.{◌≡◌, ℕ, List, length, nat_le, IsTrue
 ghost use Rattle.std.specs.List.{list_all, list_any};
 ghost use Rattle.std.specs.declared.result.Result.TheVariants.{Ok};
 ghost use Rattle.dms_desc.specs.Shape.{Shape, Described};
-ghost use Rattle.dms_desc_bytes.specs.Lists.{apart, is_within};
+ghost use Rattle.dms_desc_bytes.specs.Lists.{apart, is_within, total};
 ghost use Rattle.dms_desc_bytes.specs.Spelling.{spelling};
-ghost use Rattle.dms_desc_bytes.specs.WellFormed.{has_parameters, numbered, names_differ, is_restart, is_placed, not_both_restart};
+ghost use Rattle.dms_desc_bytes.specs.WellFormed.{has_parameters, numbered, names_differ, is_restart, is_placed, not_both_restart, counted_in};
 ghost use Rattle.dasdl_parse.specs.Grammar.{schema_of};
 ghost use Rattle.dasdl_parse.specs.declared.schema.Schema.{Schema};
 ghost use Rattle.dasdl_compile.specs.Compile.{compiled};
@@ -27,6 +27,7 @@ pub fn structures_law()
     ensures names { (text : List ℕ) (s : Schema) (d : Described) → schema_of text ≡ Ok s → compiled s.parameters s.declarations ≡ Ok d → IsTrue (apart names_differ d.structures) }
     ensures restart { (text : List ℕ) (s : Schema) (d : Described) → schema_of text ≡ Ok s → compiled s.parameters s.declarations ≡ Ok d → IsTrue (list_any is_restart d.structures) }
     ensures one_restart { (text : List ℕ) (s : Schema) (d : Described) → schema_of text ≡ Ok s → compiled s.parameters s.declarations ≡ Ok d → IsTrue (apart not_both_restart d.structures) }
+    ensures counted { (text : List ℕ) (s : Schema) (d : Described) → schema_of text ≡ Ok s → compiled s.parameters s.declarations ≡ Ok d → IsTrue (nat_le (total counted_in d.structures) 4000) }
     ensures kinds { (text : List ℕ) (s : Schema) (d : Described) → schema_of text ≡ Ok s → compiled s.parameters s.declarations ≡ Ok d → IsTrue (list_all (λ (x : Shape). is_within 1 5 x.kind) d.structures) }
     ensures alone { (text : List ℕ) (s : Schema) (d : Described) → schema_of text ≡ Ok s → compiled s.parameters s.declarations ≡ Ok d → IsTrue (list_all is_sound_alone d.structures) }
     ensures together { (text : List ℕ) (s : Schema) (d : Described) → schema_of text ≡ Ok s → compiled s.parameters s.declarations ≡ Ok d → IsTrue (list_all (is_sound_together d.structures) d.structures) }

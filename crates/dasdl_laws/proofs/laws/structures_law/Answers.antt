@@ -1,4 +1,4 @@
-use Rattle.dasdl_laws.proofs.Structures.{structured, few_structures}
+use Rattle.dasdl_laws.proofs.Structures.{structured, few_structures, few_counted_links}
 use Rattle.dasdl_laws.proofs.laws.structures_law.Goals as goal
 
 pub returns : goal.returns
@@ -8,6 +8,7 @@ returns c = record {
   names = λ text s d read made. (structured text s d read made).order.names;
   restart = λ text s d read made. (structured text s d read made).order.restart;
   one_restart = λ text s d read made. (structured text s d read made).order.restarts;
+  counted = λ text s d read made. few_counted_links d (structured text s d read made);
   kinds = λ text s d read made. (structured text s d read made).kinds;
   alone = λ text s d read made. (structured text s d read made).alone;
   together = λ text s d read made. (structured text s d read made).together;
