@@ -6,6 +6,7 @@ mod Judging
 mod Keys
 mod Literals
 mod Members
+mod Nested
 mod Ordered
 mod Outline
 mod Parameters

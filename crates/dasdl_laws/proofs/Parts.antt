@@ -175,3 +175,10 @@ ended o d t e h few w p k =
     let width = width_whole 0 d.items low in
     subst (Ended o) (ok_same _ t b.1)
     (record { sofar = record { base = record { local = h.base.local; points = h.base.points; differ = h.base.differ }; grouped = h.grouped }; few = few; short = omega (arith, width, low); verify = verify_sound d.items e.verify a.0 (omega (arith, few)) w a.1; population = p })
+
+pub end_items : (d t : Draft) (e : DataSetEnd) → end_at d e ≡ Ok t → t.items ≡ d.items
+unfolding end_at
+end_items d t e k =
+    let a = bind_ok {A = Tree} {B = Draft} (verified d.items e.verify) _ t k in
+    let b = skip_ok (nat_lt 480 (record_width 0 d.items)) _ _ _ a.2 in
+    ap (λ (x : Draft). x.items) (sym (ok_same _ t b.1))

@@ -1,10 +1,10 @@
-ghost use Rattle.std.specs.Prelude.{◌≡◌, ℕ, List, length, nat_le, IsTrue};
+ghost use Rattle.std.specs.Prelude.{◌≡◌, ℕ, List, length, nat_le, not, ◌||◌, IsTrue};
 ghost use Rattle.std.specs.List.{list_all, list_any};
 ghost use Rattle.std.specs.declared.result.Result.TheVariants.{Ok};
 ghost use Rattle.dms_desc.specs.Shape.{Shape, Described};
 ghost use Rattle.dms_desc_bytes.specs.Lists.{apart, is_within, total};
-ghost use Rattle.dms_desc_bytes.specs.Spelling.{spelling};
-ghost use Rattle.dms_desc_bytes.specs.WellFormed.{has_parameters, numbered, names_differ, is_restart, is_placed, not_both_restart, counted_in};
+ghost use Rattle.dms_desc_bytes.specs.Spelling.{spelling, is_data_set};
+ghost use Rattle.dms_desc_bytes.specs.WellFormed.{has_parameters, numbered, names_differ, is_restart, is_placed, has_member, not_both_restart, counted_in};
 ghost use Rattle.dasdl_parse.specs.Grammar.{schema_of};
 ghost use Rattle.dasdl_parse.specs.declared.schema.Schema.{Schema};
 ghost use Rattle.dasdl_compile.specs.Compile.{compiled};
@@ -17,10 +17,11 @@ pub fn parameters_law()
 {}
 
 /// A description that a text gives has at most 200 structures, numbered in their order from 1, of kinds 1 to 5, no two
-/// with one name, and exactly one restart data set among them. Each structure is sound by itself. The description has
-/// at most 65,535 bytes. Not said here, of what a well-formed description has: where structures stand, that a data set
-/// has a member, what links point to, keys and WHERE over the items of another structure, and at most 4,000 counted
-/// links.
+/// with one name, exactly one restart data set among them, which stands in no other, and at most 4,000 counted links.
+/// Each structure is sound by itself and with those that it names, and each data set has a member. The description has
+/// at most 65,535 bytes. Three things that a well-formed description has are not said here: that a structure stands in
+/// none or in one before it that isn't the restart data set, that there are at most three levels, and that a set and
+/// an automatic subset have a key.
 pub fn structures_law()
     ensures few { (text : List ℕ) (s : Schema) (d : Described) → schema_of text ≡ Ok s → compiled s.parameters s.declarations ≡ Ok d → IsTrue (nat_le (length d.structures) 200) }
     ensures numbers { (text : List ℕ) (s : Schema) (d : Described) → schema_of text ≡ Ok s → compiled s.parameters s.declarations ≡ Ok d → IsTrue (numbered 1 d.structures) }
@@ -32,5 +33,6 @@ pub fn structures_law()
     ensures alone { (text : List ℕ) (s : Schema) (d : Described) → schema_of text ≡ Ok s → compiled s.parameters s.declarations ≡ Ok d → IsTrue (list_all is_sound_alone d.structures) }
     ensures together { (text : List ℕ) (s : Schema) (d : Described) → schema_of text ≡ Ok s → compiled s.parameters s.declarations ≡ Ok d → IsTrue (list_all (is_sound_together d.structures) d.structures) }
     ensures placed { (text : List ℕ) (s : Schema) (d : Described) → schema_of text ≡ Ok s → compiled s.parameters s.declarations ≡ Ok d → IsTrue (list_all is_placed d.structures) }
+    ensures members { (text : List ℕ) (s : Schema) (d : Described) → schema_of text ≡ Ok s → compiled s.parameters s.declarations ≡ Ok d → IsTrue (list_all (λ (x : Shape). not (is_data_set x.kind) || has_member d.structures x) d.structures) }
     ensures short { (text : List ℕ) (s : Schema) (d : Described) → schema_of text ≡ Ok s → compiled s.parameters s.declarations ≡ Ok d → IsTrue (nat_le (length (spelling d)) 65535) }
 {}

@@ -13,5 +13,6 @@ returns c = record {
   alone = λ text s d read made. (structured text s d read made).alone;
   together = λ text s d read made. (structured text s d read made).together;
   placed = λ text s d read made. (structured text s d read made).placed;
+  members = λ text s d read made. (structured text s d read made).members;
   short = λ text s d read made. (structured text s d read made).short;
 }
