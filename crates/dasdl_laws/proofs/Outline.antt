@@ -1,17 +1,16 @@
 -- What is noted of declarations is what is made of them, but for the kinds of sets, links and values.
-use Rattle.std.proofs.Common.{◌≡◌, ◌≤◌, ◌+◌, ◌-◌, ℕ, suc, zero, min, List, [], ◌∷◌, ◌++◌, map, length, Bool, true, false, cond, refl, sym, ap, subst, ◌∙◌, arith}
+use Rattle.std.proofs.Common.{◌≡◌, ◌+◌, ◌-◌, ℕ, min, List, [], ◌∷◌, ◌++◌, map, length, Bool, true, false, cond, refl, sym, ap, subst, ◌∙◌, arith}
 use Rattle.std.proofs.lemmas.List.{map-append, map-set, length-map}
 use Rattle.std.proofs.lemmas.Option.{slice_get-map}
-use Rattle.std.specs.Prelude.{◌&&◌, ◌==◌, not, nat_lt, is_some, slice_get, set, Some, None}
+use Rattle.std.specs.Prelude.{not, nat_lt, is_some, slice_get, set, Some, None}
 use Rattle.std.specs.Option.{option_map}
 use Rattle.std.specs.declared.option.Option.{Option}
-use Rattle.std.specs.declared.result.Result.TheVariants.{Ok, Err}
+use Rattle.std.specs.declared.result.Result.TheVariants.{Ok}
 use Rattle.dms_base.specs.declared.value.Value.{Value}
 use Rattle.dms_base.specs.declared.value.Value.TheVariants.{Null}
 use Rattle.dms_base.specs.declared.kind.ItemKind.{ItemKind}
 use Rattle.dms_base.specs.declared.kind.ItemKind.TheVariants.{Alpha, Number as Decimal, Bool as OneBit, Field, Link as LinkTo}
 use Rattle.dms_desc.specs.declared.structure.Item.{Item as Member}
-use Rattle.dms_desc.specs.declared.structure.Group.{Group as ItemGroup}
 use Rattle.dms_desc.specs.Shape.Tree.{Empty}
 use Rattle.dasdl_parse.specs.declared.declarations.Declaration.{Declaration}
 use Rattle.dasdl_parse.specs.declared.declarations.Declaration.TheVariants.{DataSet, Item, Group, Link, SetOf, End}
@@ -26,13 +25,13 @@ use Rattle.dasdl_compile.specs.declared.draft.Draft.{Draft}
 use Rattle.dasdl_compile.specs.declared.sets.SetOptions.{SetOptions}
 use Rattle.dasdl_compile.specs.declared.work.Work.{Work}
 use Rattle.dasdl_compile.specs.declared.work.Plain.{Plain}
-use Rattle.dasdl_compile.specs.Answers.{Judged, ◌>>=◌, steps}
+use Rattle.dasdl_compile.specs.Answers.{steps}
 use Rattle.dasdl_compile.specs.Compile.{inside_in, inside_at, declared_at}
 use Rattle.dasdl_compile.specs.Conditions.{verified}
 use Rattle.dasdl_compile.specs.Finding.{drafted, next_structure, is_taken, data_set_named}
-use Rattle.dasdl_compile.specs.Members.{count_of, with_item, with_group, with_end, initial_of, item_at, group_at, link_to, link_kind, link_at, end_at, member_at, open_after}
+use Rattle.dasdl_compile.specs.Members.{count_of, with_item, with_group, initial_of, item_at, group_at, link_to, link_kind, link_at, end_at, member_at, open_after}
 use Rattle.dasdl_compile.specs.Outlines.{data_set_kind, outlined_item, outlined_member, outlined_in, outlined_inside, outlined_data_set, outlined_set, outlined_one}
-use Rattle.dasdl_compile.specs.Sets.{set_kind, set_draft}
+use Rattle.dasdl_compile.specs.Sets.{set_draft}
 use Rattle.dasdl_laws.proofs.Judging.{bind_ok, skip_ok, ok_same}
 use Rattle.dasdl_laws.proofs.Members.{link_found}
 use Rattle.dasdl_laws.proofs.Trees.{opened_by}
@@ -181,8 +180,8 @@ set_alike_by o w v _ s same (set_added t d p new of placed read key e) x y a h =
     record {
       within = ap (λ (u : Work). u.within) (sym g) ∙ a.within ∙ ap (λ (u : Work). u.within) (sym e);
       made = ap (λ (u : Work). map seen u.made) (sym g)
-        ∙ push_alike x.made w.made (drafted (next_structure x.made) 3 s.name x.within) (set_draft w t d p) a.made (drafted_alike (next_structure x.made) (next_structure w.made) 3 s.name x.within w.within (next_alike x.made w.made a.made) a.within ∙ ap (λ (n : List ℕ). seen (drafted (next_structure w.made) 3 n w.within)) (sym name) ∙ set_seen w t d p)
-        ∙ ap (λ (u : Work). map seen u.made) (sym e);
+          ∙ push_alike x.made w.made (drafted (next_structure x.made) 3 s.name x.within) (set_draft w t d p) a.made (drafted_alike (next_structure x.made) (next_structure w.made) 3 s.name x.within w.within (next_alike x.made w.made a.made) a.within ∙ ap (λ (n : List ℕ). seen (drafted (next_structure w.made) 3 n w.within)) (sym name) ∙ set_seen w t d p)
+          ∙ ap (λ (u : Work). map seen u.made) (sym e);
     }
 
 data_set_alike : (o : List Draft) (s : DataSetDecl) (x w y v : Work) → Alike x w → outlined_data_set s x ≡ Ok y → Turn o w v (DataSet s) → Alike y v
@@ -194,8 +193,8 @@ data_set_alike o s x w y v a h t =
     record {
       within = ap (λ (u : Work). u.within) (sym g) ∙ n ∙ ap (λ (u : Work). u.within) (sym e);
       made = ap (λ (u : Work). map seen u.made) (sym g)
-        ∙ push_alike x.made w.made (drafted (next_structure x.made) (data_set_kind s.restart) s.name x.within) (drafted (next_structure w.made) (data_set_kind s.restart) s.name w.within) a.made (drafted_alike (next_structure x.made) (next_structure w.made) (data_set_kind s.restart) s.name x.within w.within n a.within)
-        ∙ ap (λ (u : Work). map seen u.made) (sym e);
+          ∙ push_alike x.made w.made (drafted (next_structure x.made) (data_set_kind s.restart) s.name x.within) (drafted (next_structure w.made) (data_set_kind s.restart) s.name w.within) a.made (drafted_alike (next_structure x.made) (next_structure w.made) (data_set_kind s.restart) s.name x.within w.within n a.within)
+          ∙ ap (λ (u : Work). map seen u.made) (sym e);
     }
 
 one_alike : (plain : Plain) (o : List Draft) (decl : Declaration) (x w y v : Work) → Alike x w → outlined_one plain x decl ≡ Ok y → declared_at o w decl ≡ Ok v → Alike y v

@@ -14,7 +14,7 @@ use Rattle.dasdl_laws.specs.Alone.{is_sound_alone}
 use Rattle.dasdl_laws.proofs.Alone.{all_alone}
 use Rattle.dasdl_laws.proofs.Trees.{all_final}
 use Rattle.dasdl_laws.specs.Together.{is_sound_together}
-use Rattle.dasdl_laws.proofs.Outline.{Alike, all_alike}
+use Rattle.dasdl_laws.proofs.Outline.{all_alike}
 use Rattle.dasdl_laws.proofs.Sets.{Whole, all_together}
 use Rattle.dasdl_compile.specs.Compile.{nothing_yet}
 use Rattle.dasdl_compile.specs.declared.work.Plain.TheVariants.{Noted}

@@ -1,15 +1,13 @@
 -- What a structure has of others is sound: links, keys, WHERE, and where sets stand.
-use Rattle.std.proofs.Common.{◌≡◌, ◌≤◌, ◌<◌, ◌+◌, ◌-◌, ℕ, suc, zero, List, [], ◌∷◌, ◌++◌, map, length, Bool, true, false, cond, refl, sym, ap, subst, ◌∙◌, arith}
-use Rattle.std.proofs.lemmas.Bool.{and_parts, eqb-true, ltb-true, eq-eqb, leb-true, not-false}
+use Rattle.std.proofs.Common.{◌≡◌, ◌<◌, ◌+◌, ◌-◌, ℕ, suc, zero, List, [], ◌∷◌, map, length, Bool, true, false, cond, refl, sym, ap, subst, ◌∙◌, arith}
+use Rattle.std.proofs.lemmas.Bool.{and_parts, eqb-true, ltb-true}
 use Rattle.std.proofs.lemmas.Bool.Decides.{nat_tests}
-use Rattle.std.proofs.lemmas.List.{length-map}
-use Rattle.std.proofs.lemmas.Option.{slice_get-map, slice_get_within}
-use Rattle.std.specs.Prelude.{◌&&◌, ◌||◌, ◌==◌, not, nat_lt, nat_le, is_some, slice_get, Some, None}
+use Rattle.std.proofs.lemmas.Option.{slice_get-map}
+use Rattle.std.specs.Prelude.{◌&&◌, ◌==◌, not, nat_lt, nat_le, slice_get, Some, None}
 use Rattle.std.specs.List.{list_all, AllByRecursion}
 use Rattle.std.specs.Option.{option_map}
 use Rattle.std.specs.Str.{bytes_eq}
 use Rattle.std.specs.declared.option.Option.{Option}
-use Rattle.std.specs.declared.result.Result.TheVariants.{Ok, Err}
 use Rattle.dms_base.specs.Fits.{fits}
 use Rattle.dms_base.specs.declared.value.Value.{Value}
 use Rattle.dms_base.specs.declared.kind.ItemKind.{ItemKind}
@@ -18,12 +16,12 @@ use Rattle.dms_desc.specs.declared.structure.Item.{Item as Member}
 use Rattle.dms_desc.specs.declared.structure.KeyPart.{KeyPart}
 use Rattle.dms_desc.specs.Shape.{Shape, Tree}
 use Rattle.dms_desc.specs.Shape.Tree.{Empty, Test, Both, Either, Contrary}
-use Rattle.dms_desc_bytes.specs.Conditions.{nodes, is_comparable, compares_well, is_condition, is_nothing}
-use Rattle.dms_desc_bytes.specs.Finding.{structure_at, kind_in, owner_in, items_in, kind_of, owner_of, items_of, item_at, is_link}
+use Rattle.dms_desc_bytes.specs.Conditions.{nodes, is_comparable, compares_well, is_condition}
+use Rattle.dms_desc_bytes.specs.Finding.{structure_at, kind_in, owner_in, kind_of, owner_of, item_at, is_link}
 use Rattle.dms_desc_bytes.specs.Lists.{is_within, apart, total}
 use Rattle.dms_desc_bytes.specs.Members.{is_plain, item_width, is_link_sound, points_well, is_item_sound}
 use Rattle.dms_desc_bytes.specs.Spelling.{is_data_set}
-use Rattle.dms_desc_bytes.specs.WellFormed.{numbered, is_key_item, width_in, is_part_sound, part_width, parts_differ, is_key_sound, is_set_placed, is_where_sound}
+use Rattle.dms_desc_bytes.specs.WellFormed.{numbered, is_key_item, width_in, is_part_sound, part_width, parts_differ, is_key_sound}
 use Rattle.dms_desc_bytes.proofs.Places.{all_at}
 use Rattle.dasdl_compile.specs.declared.draft.Draft.{Draft}
 use Rattle.dasdl_compile.specs.Compile.{shape_in}
@@ -31,7 +29,7 @@ use Rattle.dasdl_compile.specs.Finding.{data_set_named}
 use Rattle.dasdl_laws.specs.Alone.{is_local}
 use Rattle.dasdl_laws.proofs.Members.{PointsTo, Points}
 use Rattle.dasdl_laws.proofs.Ordered.{and_so, has_kind}
-use Rattle.dasdl_laws.proofs.Outline.{seen, seen_item, seen_type, seen_kind, same_length}
+use Rattle.dasdl_laws.proofs.Outline.{seen, seen_item, seen_type, seen_kind}
 use Rattle.dasdl_laws.proofs.Parts.{PointsWell}
 
 -- ---- a data set by its name
