@@ -1,6 +1,7 @@
 mod Alone
 mod Compiling
 mod Counted
+mod Filled
 mod Judged
 mod Judging
 mod Keys

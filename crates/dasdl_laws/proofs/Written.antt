@@ -60,6 +60,13 @@ use Rattle.dasdl_grammar.specs.SetSpelling.{IsSet, IsEnd, IsHead}
 use Rattle.dasdl_grammar.specs.SetSpelling.IsSet.{a_set}
 use Rattle.dasdl_grammar.specs.SetSpelling.IsEnd.{an_end}
 use Rattle.dasdl_grammar.specs.SetSpelling.IsHead.{a_head, a_restart_head}
+use Rattle.dasdl_parse.specs.declared.declarations.PartDecl.{PartDecl}
+use Rattle.dasdl_parse.specs.declared.declarations.KeyDecl.{KeyDecl}
+use Rattle.dasdl_parse.specs.KeySpelling.{AreParts, IsKey}
+use Rattle.dasdl_parse.specs.KeySpelling.AreParts.{first_part, next_part}
+use Rattle.dasdl_parse.specs.KeySpelling.IsKey.{lone_part, in_brackets}
+use Rattle.dasdl_grammar.specs.SaidSpelling.{IsKeyDecl}
+use Rattle.dasdl_grammar.specs.SaidSpelling.IsKeyDecl.{a_key}
 use Rattle.dasdl_laws.proofs.Judged.{are_plain}
 use Rattle.dasdl_laws.proofs.Literals.{is_plain_literal}
 use Rattle.dasdl_laws.proofs.Ordered.{and_so}
@@ -228,20 +235,37 @@ form_range : (n : ℕ) (xs : List Token) → IsForm n xs → is_within 1 2 n ≡
 form_range _ _ (a_tree) = refl
 form_range _ _ (a_list) = refl
 
+parts_some : (ps : List PartDecl) (xs : List Token) → AreParts ps xs → 1 ≤ length ps
+parts_some _ _ (first_part p xs i) = omega arith
+parts_some _ _ (next_part ps p xs ys a i) = omega (arith, length-append ps (p ∷ []))
+
+whole_key : (ps : List PartDecl) (xs : List Token) → IsKey ps xs → 1 ≤ length ps
+whole_key _ _ (lone_part p xs i) = omega arith
+whole_key _ _ (in_brackets ps xs a) = parts_some ps xs a
+
+-- none, or a key of some parts
+abbrev pub IsSomeKey : Option KeyDecl → Type 0
+IsSomeKey None = Unit {0}
+IsSomeKey (Some k) = 1 ≤ length k.parts
+
+key_some : (k : KeyDecl) (us : List Lexeme) → IsKeyDecl k us → IsSomeKey (Some k)
+key_some _ _ (a_key l m parts vs e f i few) = whole_key parts _ i
+
 record SetSaid (s : SetOptions) : Type 0 where
   cond : IsPlainCondition s.cond
+  key : IsSomeKey s.key
   form : IsRange 1 2 s.form
   population : IsRange 1 1000000 s.population
 
 set_option : (s t : SetOptions) (us : List Lexeme) → SetOption s t us → SetSaid s → SetSaid t
-set_option _ _ _ (says_where key duplicates form population c us d) h = record { cond = cond_plain _ c us d; form = h.form; population = h.population }
-set_option _ _ _ (says_key cond duplicates form population k us d) h = record { cond = h.cond; form = h.form; population = h.population }
-set_option _ _ _ (says_duplicates cond key form population d us i) h = record { cond = h.cond; form = h.form; population = h.population }
-set_option _ _ _ (says_form cond key duplicates population f us i) h = record { cond = h.cond; form = form_range f _ i; population = h.population }
-set_option _ _ _ (says_population cond key duplicates form n us p) h = record { cond = h.cond; form = h.form; population = population_range n _ p }
+set_option _ _ _ (says_where key duplicates form population c us d) h = record { cond = cond_plain _ c us d; key = h.key; form = h.form; population = h.population }
+set_option _ _ _ (says_key cond duplicates form population k us d) h = record { cond = h.cond; key = key_some k us d; form = h.form; population = h.population }
+set_option _ _ _ (says_duplicates cond key form population d us i) h = record { cond = h.cond; key = h.key; form = h.form; population = h.population }
+set_option _ _ _ (says_form cond key duplicates population f us i) h = record { cond = h.cond; key = h.key; form = form_range f _ i; population = h.population }
+set_option _ _ _ (says_population cond key duplicates form n us p) h = record { cond = h.cond; key = h.key; form = h.form; population = population_range n _ p }
 
 set_said : (t : SetOptions) (us : List Lexeme) → Said no_set_options SetOption t us → SetSaid t
-set_said _ _ nothing_said = record { cond = tt; form = tt; population = tt }
+set_said _ _ nothing_said = record { cond = tt; key = tt; form = tt; population = tt }
 set_said _ _ (said_more s t us vs a o) = set_option s t vs o (set_said s us a)
 set_said _ _ (said_behind_comma s t us l vs a e o) = set_option s t vs o (set_said s us a)
 
@@ -249,6 +273,7 @@ set_said _ _ (said_behind_comma s t us l vs a e o) = set_option s t vs o (set_sa
 pub record IsWrittenSet (s : SetDecl) : Type 0 where
   pub name : is_name s.name ≡ true
   pub cond : IsPlainCondition s.cond
+  pub key : IsSomeKey s.key
   pub form : is_within 1 2 s.form ≡ true
   pub population : is_within 1 1000000 s.population ≡ true
 
@@ -259,4 +284,4 @@ or_first (Some n) h = h
 pub set_written : (place : ℕ) (name : List ℕ) (s : SetDecl) (us : List Lexeme) → is_name name ≡ true → IsSet place name s us → IsWrittenSet s
 set_written _ _ _ _ n (a_set k o t z subset of said us a b c d e f) =
     let h = set_said said us e in
-    record { name = n; cond = h.cond; form = or_first said.form h.form; population = or_million said.population h.population }
+    record { name = n; cond = h.cond; key = h.key; form = or_first said.form h.form; population = or_million said.population h.population }
