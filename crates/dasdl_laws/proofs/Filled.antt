@@ -1,8 +1,8 @@
 -- A key that was judged has parts.
-use Rattle.std.proofs.Common.{◌≡◌, ◌≤◌, ◌<◌, ◌+◌, ℕ, suc, min, List, [], ◌∷◌, ◌++◌, length, Bool, true, false, cond, refl, sym, ap, subst, ◌∙◌, arith, length-append, append_assoc}
+use Rattle.std.proofs.Common.{◌≡◌, ◌≤◌, ◌<◌, ◌+◌, ℕ, List, [], ◌∷◌, ◌++◌, length, Bool, true, false, cond, refl, sym, ap, subst, ◌∙◌, arith, length-append, append_assoc}
 use Rattle.std.proofs.lemmas.Bool.{ltb-true, ltb-false}
 use Rattle.std.proofs.lemmas.Bool.Decides.{nat_tests}
-use Rattle.std.specs.Prelude.{◌&&◌, ◌||◌, not, nat_le, nat_lt, Some, None}
+use Rattle.std.specs.Prelude.{◌||◌, not, nat_le, nat_lt, Some, None}
 use Rattle.std.specs.List.{AllByRecursion}
 use Rattle.std.specs.Str.{bytes_eq}
 use Rattle.std.specs.declared.option.Option.{Option}
@@ -16,7 +16,7 @@ use Rattle.dasdl_compile.specs.declared.draft.Draft.{Draft}
 use Rattle.dasdl_compile.specs.declared.find.Found.{Found}
 use Rattle.dasdl_compile.specs.declared.keys.Run.{Run}
 use Rattle.dasdl_compile.specs.declared.keys.KeySoFar.{KeySoFar}
-use Rattle.dasdl_compile.specs.Answers.{Judged, ◌>>=◌, steps}
+use Rattle.dasdl_compile.specs.Answers.{Judged, steps}
 use Rattle.dasdl_compile.specs.Conditions.{is_link as links}
 use Rattle.dasdl_compile.specs.Finding.{after_item, item_named, group_named}
 use Rattle.dasdl_compile.specs.Keys.{is_part, is_in_run, key_item_at, run_in, run_of, part_at, item_run, group_run, short_key, key_at}

@@ -28,6 +28,12 @@ use Rattle.dasdl_compile.specs.Sets.{set_kind, where_in, where_of, key_in, key_o
 use Rattle.dasdl_compile.specs.Finding.{kind_of as kind_made}
 use Rattle.dasdl_laws.specs.Together.{is_set_together, is_sound_together}
 use Rattle.dasdl_laws.proofs.Alone.{kind_is, by_words}
+use Rattle.std.specs.Prelude.{is_none}
+use Rattle.dms_desc_bytes.specs.Lists.{is_empty}
+use Rattle.dasdl_compile.specs.Sets.{lacks_key}
+use Rattle.dasdl_laws.proofs.Filled.{key_filled}
+use Rattle.dasdl_laws.proofs.Parts.{Within}
+use Rattle.dasdl_laws.proofs.Written.{IsSomeKey}
 use Rattle.dasdl_laws.proofs.Judging.{bind_ok, ok_same}
 use Rattle.dasdl_laws.proofs.Judged.{condition_sound}
 use Rattle.dasdl_laws.proofs.Keys.{key_sound}
@@ -69,6 +75,19 @@ key_by d s (Some k) ps few h = key_sound s.name d k.parts ps few h
 keys_sound : (d : Draft) (s : SetDecl) (ps : List KeyPart) → length d.items ≤ 254 → key_of d s ≡ Ok ps → is_key_sound d.items ps ≡ true
 unfolding key_of
 keys_sound d s ps few h = key_by d s s.key ps few h
+
+some_part : (ps : List KeyPart) → 1 ≤ length ps → not (is_empty ps) ≡ true
+some_part [] h = absurd (omega (arith, h))
+some_part (p ∷ ps) h = refl
+
+filled_by : (d : Draft) (s : SetDecl) (q : Bool) (r : Option KeyDecl) (ps : List KeyPart) → length d.items ≤ 254 → AllByRecursion (Within (length d.items)) d.groups → IsSomeKey r → is_none r && not q ≡ false → key_in d s r ≡ Ok ps → (q || not (is_empty ps)) ≡ true
+filled_by d s true r ps few w some lacks h = refl
+filled_by d s false None ps few w some lacks h = absurd (cc)
+filled_by d s false (Some k) ps few w some lacks h = some_part ps (key_filled s.name d k.parts ps few w some h)
+
+filled : (d : Draft) (s : SetDecl) (ps : List KeyPart) → length d.items ≤ 254 → AllByRecursion (Within (length d.items)) d.groups → IsSomeKey s.key → lacks_key s ≡ false → key_of d s ≡ Ok ps → (set_kind s == 5 || not (is_empty ps)) ≡ true
+unfolding key_of
+filled d s ps few w some lacks h = filled_by d s (set_kind s == 5) s.key ps few w some lacks h
 
 guarded : (b : Bool) (e : CompileFault) (x t : Tree) → ◌≡◌ {A = Judged Tree} (cond b (Ok x) (Err e)) (Ok t) → (b ≡ true) × (x ≡ t)
 guarded true e x t h = (refl, ok_same x t h)
@@ -118,17 +137,23 @@ final_at P [] k d h e = absurd (cc)
 final_at P (x ∷ xs) zero d h e = let one : x ≡ d = cc in subst P one h.0
 final_at P (x ∷ xs) (suc k) d h e = final_at P xs k d h.1 e
 
-set_shape : (noted made : List Draft) (w : Work) (s : SetDecl) (of : Draft) (p : SetOptions) (f : FoundAs made of) → length f.is.items ≤ 60 → is_misplaced w s of ≡ false → options_at of s ≡ Ok p → IsPlainCondition s.cond → is_set_together (map shape_in made) (shape_in (set_draft w s of p)) ≡ true
+groups_within : (o : List Draft) (d : Draft) → Final o d → AllByRecursion (Within (length d.items)) d.groups
+groups_within o d (a_data_set_made h) = h.ended.sofar.grouped.within
+groups_within o d (a_set_made h) = subst (λ (x : Draft). AllByRecursion (Within (length x.items)) x.groups) h.is tt
+
+set_shape : (made : List Draft) (w : Work) (s : SetDecl) (of : Draft) (p : SetOptions) (f : FoundAs made of) → length f.is.items ≤ 60 → AllByRecursion (Within (length f.is.items)) f.is.groups → is_misplaced w s of ≡ false → options_at of s ≡ Ok p → lacks_key s ≡ false → IsPlainCondition s.cond → IsSomeKey s.key → is_set_together (map shape_in made) (shape_in (set_draft w s of p)) ≡ true
 unfolding is_set_together kind_of owner_of items_of is_set_placed
-set_shape noted made w s of p f few placed read plain =
+set_shape made w s of p f few groups placed read lacks plain some =
     let items : map seen_item of.items ≡ map seen_item f.is.items = ap (λ (x : Draft). x.items) f.alike in
     let size : length of.items ≡ length f.is.items = sym (length-map of.items seen_item) ∙ ap length items ∙ length-map f.is.items seen_item in
     let low : length of.items ≤ 254 = omega (arith, size, few) in
+    let gs : f.is.groups ≡ of.groups = ap (λ (x : Draft). x.groups) (sym f.alike) in
+    let within : AllByRecursion (Within (length of.items)) of.groups = subst (λ (n : ℕ). AllByRecursion (Within n) of.groups) (sym size) (subst (AllByRecursion (Within (length f.is.items))) gs groups) in
     let o = options_read of s p read in
     let owner : f.is.owner ≡ of.owner = ap (λ (x : Draft). x.owner) (sym f.alike) in
     let key : is_key_sound f.is.items p.parts ≡ true = sym (same_keys of.items f.is.items p.parts items) ∙ keys_sound of s p.parts low o.0 in
     let test : cond (set_kind s == 4) (is_condition f.is.items p.cond) (is_nothing p.cond) ≡ true = ap (λ (b : Bool). cond (set_kind s == 4) b (is_nothing p.cond)) (sym (same_conditions of.items f.is.items p.cond items)) ∙ where_sound of s p.cond low plain o.1 in
-    rw f.structure (and_so _ _ (and_so _ _ (and_so _ _ f.kind (rw owner (placed_well w s of placed))) key) test)
+    rw f.structure (and_so _ _ (and_so _ _ (and_so _ _ (and_so _ _ f.kind (rw owner (placed_well w s of placed))) key) test) (filled of s p.parts low within some lacks o.0))
 
 -- what was declared, and what it was declared under
 pub record Whole (noted made : List Draft) : Type 0 where
@@ -141,9 +166,9 @@ set_together : (noted made : List Draft) (d : Draft) → Whole noted made → Se
 unfolding is_sound_together
 set_together noted made d w h =
     let f = found_as h.decl.of noted made h.of w.same w.numbers w.kinds h.found in
-    let few = items_few noted f.is (final_at (Final noted) made f.place f.is w.final f.at) in
+    let g = final_at (Final noted) made f.place f.is w.final f.at in
     subst (λ (x : Draft). is_sound_together (map shape_in made) (shape_in x) ≡ true) h.is
-    (rw (by_words h.decl.subset (is_some h.decl.cond)) (set_shape noted made h.work h.decl h.of h.options f few h.placed h.read h.written.cond))
+    (rw (by_words h.decl.subset (is_some h.decl.cond)) (set_shape made h.work h.decl h.of h.options f (items_few noted f.is g) (groups_within noted f.is g) h.placed h.read h.key h.written.cond h.written.key))
 
 data_set_together : (noted made : List Draft) (d : Draft) → Whole noted made → DataSetMade noted d → is_sound_together (map shape_in made) (shape_in d) ≡ true
 unfolding is_sound_together

@@ -19,9 +19,8 @@ pub fn parameters_law()
 /// A description that a text gives has at most 200 structures, numbered in their order from 1, of kinds 1 to 5, no two
 /// with one name, exactly one restart data set among them, which stands in no other, and at most 4,000 counted links.
 /// Each structure is sound by itself and with those that it names, and each data set has a member. The description has
-/// at most 65,535 bytes. Three things that a well-formed description has are not said here: that a structure stands in
-/// none or in one before it that isn't the restart data set, that there are at most three levels, and that a set and
-/// an automatic subset have a key.
+/// at most 65,535 bytes. Two things that a well-formed description has are not said here: that a structure stands in
+/// none or in one before it that isn't the restart data set, and that there are at most three levels.
 pub fn structures_law()
     ensures few { (text : List ℕ) (s : Schema) (d : Described) → schema_of text ≡ Ok s → compiled s.parameters s.declarations ≡ Ok d → IsTrue (nat_le (length d.structures) 200) }
     ensures numbers { (text : List ℕ) (s : Schema) (d : Described) → schema_of text ≡ Ok s → compiled s.parameters s.declarations ≡ Ok d → IsTrue (numbered 1 d.structures) }
