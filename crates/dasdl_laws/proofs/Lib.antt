@@ -10,6 +10,7 @@ mod Members
 mod Nested
 mod Ordered
 mod Outline
+mod Owners
 mod Parameters
 mod Parts
 mod Placed

@@ -168,7 +168,7 @@ ordered o decls w h =
 
 -- ---- how many there are
 
-grown : (o : List Draft) (w v : Work) (decl : Declaration) → Turn o w v decl → length v.made ≡ length w.made + structures_of decl
+pub grown : (o : List Draft) (w v : Work) (decl : Declaration) → Turn o w v decl → length v.made ≡ length w.made + structures_of decl
 grown o w v _ (inside decl none i) =
     let e = ap length (inside_kept o decl w v i) in
     omega (arith, e, none, length-map v.made outer, length-map w.made outer)

@@ -27,6 +27,8 @@ use Rattle.std.specs.Prelude.{not, ◌||◌}
 use Rattle.dms_desc_bytes.specs.Spelling.{is_data_set}
 use Rattle.dms_desc_bytes.specs.WellFormed.{has_member}
 use Rattle.dasdl_laws.proofs.Nested.{have_members}
+use Rattle.dasdl_laws.specs.Together.{is_within_earlier}
+use Rattle.dasdl_laws.proofs.Owners.{stand_earlier}
 use Rattle.dasdl_laws.proofs.Compiling.{compiled_by}
 use Rattle.dasdl_laws.proofs.Ordered.{WellOrdered, well_ordered, have_kinds, has_kind}
 use Rattle.dasdl_laws.proofs.Short.{is_short}
@@ -40,6 +42,7 @@ pub record Structured (d : Described) : Type 0 where
   pub placed : list_all is_placed d.structures ≡ true
   pub counted : total counted_in d.structures ≤ 4000
   pub members : list_all (λ (x : Shape). not (is_data_set x.kind) || has_member d.structures x) d.structures ≡ true
+  pub earlier : list_all (is_within_earlier d.structures) d.structures ≡ true
   pub short : nat_le (length (spelling d)) 65535 ≡ true
 
 pub structured : (text : List ℕ) (s : Schema) (d : Described) → schema_of text ≡ Ok s → compiled s.parameters s.declarations ≡ Ok d → Structured d
@@ -52,7 +55,7 @@ structured text s d read made =
     let e = all_alike Noted c.outline.made s.declarations nothing_yet nothing_yet c.outline c.work (record { within = refl; made = refl }) c.outlined c.declared in
     let w : Whole c.outline.made c.work.made = record { same = e.made; numbers = o.numbers; kinds = k.1; final = f.0 } in
     subst Structured c.made.is
-    (record { order = o; kinds = k.1; alone = all_alone c.outline.made c.work.made f.0; together = all_together c.outline.made c.work.made w; counted = few_counted s.parameters g.has_parameters g.has_audit s.declarations g.used g.declares c.outline.made c.work g.fewer c.declared; members = have_members c.work.made f.1; placed = all_placed c.outline.made s.declarations c.work c.declared; short = is_short s.parameters c.work.made k.0 c.made.short })
+    (record { order = o; kinds = k.1; alone = all_alone c.outline.made c.work.made f.0; together = all_together c.outline.made c.work.made w; counted = few_counted s.parameters g.has_parameters g.has_audit s.declarations g.used g.declares c.outline.made c.work g.fewer c.declared; earlier = stand_earlier c.outline.made s.declarations c.work g.few c.declared; members = have_members c.work.made f.1; placed = all_placed c.outline.made s.declarations c.work c.declared; short = is_short s.parameters c.work.made k.0 c.made.short })
 
 pub few_structures : (d : Described) → Structured d → IsTrue (nat_le (length d.structures) 200)
 few_structures d h = le-leb (length d.structures) 200 h.order.few

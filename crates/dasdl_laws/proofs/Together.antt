@@ -46,7 +46,7 @@ unfolding data_set_named
 named_at name [] t h = absurd (cc)
 named_at name (d ∷ ds) t h = named_case (nat_lt d.kind 3 && bytes_eq d.name name) name d ds t refl h (named_at name ds t)
 
-mapped : {A B : Type 0} (f : A → B) (r : Option A) (y : B) → option_map f r ≡ Some y → (x : A) × (r ≡ Some x) × (f x ≡ y)
+pub mapped : {A B : Type 0} (f : A → B) (r : Option A) (y : B) → option_map f r ≡ Some y → (x : A) × (r ≡ Some x) × (f x ≡ y)
 mapped f None y h = absurd (cc)
 mapped f (Some x) y h = (x, refl, cc)
 
@@ -80,7 +80,7 @@ kept_low a b low e h =
     let r = and_parts (nat_le 1 b) (nat_le b 5) h in
     low_case (nat_lt b 3) a b low refl (sym (ap (λ (c : Bool). cond c a 3) low) ∙ e) r.0
 
-ne_zero : (n k : ℕ) → n ≡ 1 + k → (n == 0) ≡ false
+pub ne_zero : (n k : ℕ) → n ≡ 1 + k → (n == 0) ≡ false
 ne_zero n k e = grind (arith, nat_tests)
 
 pub found_as : (name : List ℕ) (noted made : List Draft) (t : Draft) → map seen noted ≡ map seen made → numbered 1 (map shape_in made) ≡ true → list_all has_kind (map shape_in made) ≡ true → data_set_named name noted ≡ Some t → FoundAs made t

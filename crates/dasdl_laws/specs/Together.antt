@@ -1,5 +1,5 @@
 -- What a structure of a description has of others.
-use Rattle.std.specs.Prelude.{List, Bool, not, ◌&&◌, ◌||◌, ◌==◌, if◌then◌else◌}
+use Rattle.std.specs.Prelude.{List, Bool, not, ◌&&◌, ◌||◌, ◌==◌, nat_lt, if◌then◌else◌}
 use Rattle.std.specs.List.{list_all}
 use Rattle.dms_desc.specs.Shape.{Shape}
 use Rattle.dms_desc_bytes.specs.Finding.{kind_of, items_of}
@@ -21,3 +21,7 @@ is_set_together ss s =
 -- a data set has sound items, and its links point to data sets that stand in no other
 unfoldable pub is_sound_together : List Shape → Shape → Bool
 is_sound_together ss s = if is_data_set s.kind then list_all (is_item_sound ss) s.items else is_set_together ss s
+
+-- it stands in no other, or in a data set that comes before it
+abbrev pub is_within_earlier : List Shape → Shape → Bool
+is_within_earlier ss s = s.owner == 0 || (nat_lt s.owner s.number && is_data_set (kind_of ss s.owner))

@@ -14,5 +14,6 @@ returns c = record {
   together = λ text s d read made. (structured text s d read made).together;
   placed = λ text s d read made. (structured text s d read made).placed;
   members = λ text s d read made. (structured text s d read made).members;
+  earlier = λ text s d read made. (structured text s d read made).earlier;
   short = λ text s d read made. (structured text s d read made).short;
 }
