@@ -1,0 +1,48 @@
+-- Where a description is made, each step on the way gives what it gives.
+use Rattle.std.proofs.Common.{◌≡◌, List, Bool, true, false, refl}
+use Rattle.std.specs.Prelude.{not, nat_lt}
+use Rattle.std.specs.declared.result.Result.TheVariants.{Ok}
+use Rattle.dms_desc.specs.Shape.{Described}
+use Rattle.dasdl_parse.specs.declared.schema.Parameters.{Parameters}
+use Rattle.dasdl_parse.specs.declared.declarations.Declaration.{Declaration}
+use Rattle.dasdl_compile.specs.declared.draft.Draft.{Draft}
+use Rattle.dasdl_compile.specs.declared.work.Plain.TheVariants.{Noted}
+use Rattle.dasdl_compile.specs.declared.work.Work.{Work}
+use Rattle.dasdl_compile.specs.Answers.{steps}
+use Rattle.dasdl_compile.specs.Compile.{compiled, declared_at, finished, description_of, nothing_yet}
+use Rattle.dasdl_compile.specs.Finding.{has_restart}
+use Rattle.dasdl_compile.specs.Outlines.{outlined_one}
+use Rattle.dasdl_compile.specs.Widths.{description_width}
+use Rattle.dasdl_laws.proofs.Judging.{bind_ok, skip_ok, ok_same}
+
+-- what a description is made of
+pub record Made (p : Parameters) (ds : List Draft) (d : Described) : Type 0 where
+  pub restart : has_restart ds ≡ true
+  pub short : nat_lt 65535 (description_width ds) ≡ false
+  pub is : description_of p ds ≡ d
+
+is_so : (b : Bool) → not b ≡ false → b ≡ true
+is_so true h = refl
+is_so false h = absurd (cc)
+
+finished_made : (p : Parameters) (ds : List Draft) (d : Described) → finished p ds ≡ Ok d → Made p ds d
+unfolding finished
+finished_made p ds d h =
+    let a = skip_ok (not (has_restart ds)) _ _ _ h in
+    let b = skip_ok (nat_lt 65535 (description_width ds)) _ _ _ a.1 in
+    record { restart = is_so (has_restart ds) a.0; short = b.0; is = ok_same _ d b.1 }
+
+-- what was noted, and what was declared under that
+pub record Compiled (p : Parameters) (decls : List Declaration) (d : Described) : Type 0 where
+  pub outline : Work
+  pub work : Work
+  pub outlined : steps outlined_one Noted nothing_yet decls ≡ Ok outline
+  pub declared : steps declared_at outline.made nothing_yet decls ≡ Ok work
+  pub made : Made p work.made d
+
+pub compiled_by : (p : Parameters) (decls : List Declaration) (d : Described) → compiled p decls ≡ Ok d → Compiled p decls d
+unfolding compiled
+compiled_by p decls d h =
+    let a = bind_ok {A = Work} {B = Described} (steps outlined_one Noted nothing_yet decls) _ d h in
+    let b = bind_ok {A = Work} {B = Described} (steps declared_at a.0.made nothing_yet decls) _ d a.2 in
+    record { outline = a.0; work = b.0; outlined = a.1; declared = b.1; made = finished_made p b.0.made d b.2 }

@@ -1,0 +1,184 @@
+-- A data set that is open is sound so far, and one that has ended is sound.
+use Rattle.std.proofs.Common.{◌≡◌, ◌≤◌, ◌+◌, ℕ, List, [], ◌∷◌, ◌++◌, length, Bool, true, false, refl, sym, ap, subst, ◌∙◌, arith, length-append}
+use Rattle.std.proofs.lemmas.Bool.{le-leb, ltb-false}
+use Rattle.std.specs.Prelude.{◌||◌, nat_lt, Some, None}
+use Rattle.std.specs.List.{list_all, AllByRecursion}
+use Rattle.std.specs.declared.option.Option.{Option}
+use Rattle.std.specs.declared.result.Result.TheVariants.{Ok}
+use Rattle.dms_base.specs.Name.{is_name}
+use Rattle.dms_desc.specs.declared.structure.Item.{Item as Member}
+use Rattle.dms_desc.specs.declared.structure.Group.{Group as ItemGroup}
+use Rattle.dms_desc.specs.Shape.{Tree}
+use Rattle.dms_desc.specs.Shape.Tree.{Empty}
+use Rattle.dms_desc_bytes.specs.Conditions.{is_nothing, is_condition}
+use Rattle.dms_desc_bytes.specs.Lists.{apart, total, is_within}
+use Rattle.dms_desc_bytes.specs.Members.{is_group_sound, members_differ, groups_follow}
+use Rattle.dms_desc_bytes.specs.WellFormed.{width_of, has_sound_verify}
+use Rattle.dasdl_parse.specs.Trees.{Condition}
+use Rattle.dasdl_parse.specs.declared.declarations.ItemDecl.{ItemDecl}
+use Rattle.dasdl_parse.specs.declared.declarations.GroupDecl.{GroupDecl}
+use Rattle.dasdl_parse.specs.declared.declarations.DataSetEnd.{DataSetEnd}
+use Rattle.dasdl_compile.specs.declared.draft.Draft.{Draft}
+use Rattle.dasdl_compile.specs.Answers.{steps}
+use Rattle.dasdl_compile.specs.Compile.{shape_in}
+use Rattle.dasdl_compile.specs.Conditions.{verified}
+use Rattle.dasdl_compile.specs.Finding.{is_taken, next_item}
+use Rattle.dasdl_compile.specs.Members.{count_of, with_item, with_group, item_at, group_at, end_at}
+use Rattle.dasdl_compile.specs.Widths.{plus, item_width, record_width}
+use Rattle.dasdl_laws.specs.Alone.{is_local}
+use Rattle.dasdl_laws.proofs.Judging.{bind_ok, skip_ok, ok_same}
+use Rattle.dasdl_laws.proofs.Judged.{condition_sound}
+use Rattle.dasdl_laws.proofs.Keys.{same_widths}
+use Rattle.dasdl_laws.proofs.Members.{Points, Adds, item_adds, item_differs, group_differs}
+use Rattle.dasdl_laws.proofs.Ordered.{and_so, all_push, apart_push}
+use Rattle.dasdl_laws.proofs.Written.{IsWritten, IsPlainCondition}
+
+abbrev pub PointsWell : List Draft → Member → Type 0
+PointsWell o i = Points o i.kind i
+
+-- its items and links, and all their names
+pub record Base (o : List Draft) (d : Draft) : Type 0 where
+  pub local : list_all is_local d.items ≡ true
+  pub points : AllByRecursion (PointsWell o) d.items
+  pub differ : members_differ d.items d.groups ≡ true
+
+points_push : (o : List Draft) (is : List Member) (m : Member) → AllByRecursion (PointsWell o) is → PointsWell o m → AllByRecursion (PointsWell o) (is ++ m ∷ [])
+points_push o [] m h p = (p, tt)
+points_push o (i ∷ is) m h p = (h.0, points_push o is m h.1 p)
+
+base_adds : (o : List Draft) (d t : Draft) → Adds o d t → Base o d → Base o t
+base_adds o d t a b =
+    subst (Base o) a.is (record { local = all_push is_local d.items a.one b.local a.local; points = points_push o d.items a.one b.points a.points; differ = item_differs d a.one b.differ a.new })
+
+pub grown : (o : List Draft) (d t : Draft) → Adds o d t → (length t.items ≡ length d.items + 1) × (t.groups ≡ d.groups)
+grown o d t a =
+    let one : length (with_item d a.one).items ≡ length d.items + 1 = length-append d.items (a.one ∷ []) in
+    (sym (ap (λ (x : Draft). length x.items) a.is) ∙ one, sym (ap (λ (x : Draft). x.groups) a.is))
+
+-- ---- groups
+
+-- a group ends within so many items
+abbrev pub Within : ℕ → ItemGroup → Type 0
+Within n g = (is_name g.name ≡ true) × (1 ≤ g.first) × (1 ≤ g.count) × (g.first + g.count ≤ n + 1)
+
+-- its groups, by how many items there are
+pub record Grouped (n : ℕ) (gs : List ItemGroup) : Type 0 where
+  pub within : AllByRecursion (Within n) gs
+  pub follow : apart groups_follow gs ≡ true
+  pub few : length gs ≤ n
+
+within_more : (n m : ℕ) (gs : List ItemGroup) → n ≤ m → AllByRecursion (Within n) gs → AllByRecursion (Within m) gs
+within_more n m [] low h = tt
+within_more n m (g ∷ gs) low h = let last = h.0.3 in ((h.0.0, h.0.1, h.0.2, omega (arith, last, low)), within_more n m gs low h.1)
+
+within_push : (n : ℕ) (gs : List ItemGroup) (g : ItemGroup) → AllByRecursion (Within n) gs → Within n g → AllByRecursion (Within n) (gs ++ g ∷ [])
+within_push n [] g h w = (w, tt)
+within_push n (x ∷ xs) g h w = (h.0, within_push n xs g h.1 w)
+
+all_before : (n : ℕ) (gs : List ItemGroup) (g : ItemGroup) → n + 1 ≤ g.first → AllByRecursion (Within n) gs → list_all (λ (x : ItemGroup). groups_follow x g) gs ≡ true
+all_before n [] g low h = refl
+all_before n (x ∷ xs) g low h = let last = h.0.3 in and_so _ _ (le-leb _ _ (omega (arith, low, last))) (all_before n xs g low h.1)
+
+more_items : (n m : ℕ) (gs : List ItemGroup) → n ≤ m → Grouped n gs → Grouped m gs
+more_items n m gs low h = let few = h.few in record { within = within_more n m gs low h.within; follow = h.follow; few = omega (arith, few, low) }
+
+one_group : (n m : ℕ) (gs : List ItemGroup) (g : ItemGroup) → Grouped n gs → is_name g.name ≡ true → g.first ≡ n + 1 → g.count ≡ m → 1 ≤ m → Grouped (n + m) (gs ++ g ∷ [])
+one_group n m gs g h named first count some =
+    let few = h.few in
+    record {
+      within = within_push (n + m) gs g (within_more n (n + m) gs (omega arith) h.within) (named, omega (arith, first), omega (arith, count, some), omega (arith, first, count));
+      follow = apart_push groups_follow gs g h.follow (all_before n gs g (omega (arith, first)) h.within);
+      few = omega (arith, few, some, length-append gs (g ∷ []));
+    }
+
+pub groups_sound : (is : List Member) (gs : List ItemGroup) → AllByRecursion (Within (length is)) gs → list_all (is_group_sound is) gs ≡ true
+unfolding is_group_sound
+groups_sound is [] h = refl
+groups_sound is (g ∷ gs) h = and_so _ _ (and_so _ _ (and_so _ _ (and_so _ _ h.0.0 (le-leb 1 g.first h.0.1)) (le-leb 1 g.count h.0.2)) (le-leb _ _ h.0.3)) (groups_sound is gs h.1)
+
+-- ---- a data set that is open
+
+pub record Sofar (o : List Draft) (d : Draft) : Type 0 where
+  pub base : Base o d
+  pub grouped : Grouped (length d.items) d.groups
+
+pub sofar_adds : (o : List Draft) (d t : Draft) → Adds o d t → Sofar o d → Sofar o t
+sofar_adds o d t a h =
+    let g = grown o d t a in
+    let n = g.0 in
+    record { base = base_adds o d t a h.base; grouped = subst (Grouped (length t.items)) (sym g.1) (more_items (length d.items) (length t.items) d.groups (omega (arith, n)) h.grouped) }
+
+record Run (o : List Draft) (d t : Draft) (n : ℕ) : Type 0 where
+  base : Base o t
+  items : length t.items ≡ length d.items + n
+  groups : t.groups ≡ d.groups
+
+items_run : (o : List Draft) (d t : Draft) (is : List ItemDecl) → AllByRecursion IsWritten is → Base o d → steps item_at o d is ≡ Ok t → Run o d t (length is)
+unfolding steps
+items_run o d t [] w b h =
+    let e = ok_same d t h in
+    record { base = subst (Base o) e b; items = sym (ap (λ (x : Draft). length x.items) e) ∙ omega arith; groups = sym (ap (λ (x : Draft). x.groups) e) }
+items_run o d t (i ∷ is) w b h =
+    let a = bind_ok {A = Draft} {B = Draft} (item_at o d i) _ t h in
+    let one = item_adds o d a.0 i w.0 a.1 in
+    let g = grown o d a.0 one in
+    let r = items_run o a.0 t is w.1 (base_adds o d a.0 one b) a.2 in
+    let n = r.items in
+    let m = g.0 in
+    record { base = r.base; items = omega (arith, n, m); groups = r.groups ∙ g.1 }
+
+pub group_adds : (o : List Draft) (d t : Draft) (g : GroupDecl) → is_name g.name ≡ true → AllByRecursion IsWritten g.items → 1 ≤ length g.items → length d.items + length g.items ≤ 60 → Sofar o d → group_at o d g ≡ Ok t → Sofar o t × (length t.items ≡ length d.items + length g.items)
+unfolding group_at
+group_adds o d t g named w some room h e =
+    let a = skip_ok (is_taken g.name d) _ _ _ e in
+    let new : ItemGroup = record { name = g.name; first = next_item d.items; count = count_of g.items } in
+    let begun : Base o (with_group d g) = record { local = h.base.local; points = h.base.points; differ = group_differs d new h.base.differ a.0 } in
+    let r = items_run o (with_group d g) t g.items w begun a.1 in
+    let k = one_group (length d.items) (length g.items) d.groups new h.grouped named (omega (arith, room)) (omega (arith, room)) some in
+    let n = r.items in
+    (record { base = r.base; grouped = subst (λ (m : ℕ). Grouped m t.groups) (sym n) (subst (Grouped (length d.items + length g.items)) (sym r.groups) k) }, n)
+
+-- ---- its end
+
+width_whole : (w : ℕ) (is : List Member) → record_width w is ≤ 480 → w + total width_of is ≤ record_width w is
+unfolding record_width
+width_whole w [] h = omega arith
+width_whole w (i ∷ is) h =
+    let n = plus w (item_width i.kind) in
+    let rest : n + total width_of is ≤ record_width n is = width_whole n is h in
+    let same = same_widths i.kind in
+    omega (arith, rest, same, h)
+
+or_so : (a b : Bool) → b ≡ true → (a || b) ≡ true
+or_so true b h = refl
+or_so false b h = h
+
+verify_sound : (items : List Member) (c : Option Condition) (t : Tree) → length items ≤ 254 → IsPlainCondition c → verified items c ≡ Ok t → (is_nothing t || is_condition items t) ≡ true
+unfolding verified
+verify_sound items None t few w h = subst (λ (x : Tree). (is_nothing x || is_condition items x) ≡ true) (ok_same Empty t h) refl
+verify_sound items (Some c) t few w h = or_so (is_nothing t) _ (condition_sound items c.tree t few w.0 w.1 h)
+
+-- a data set that has ended
+pub record Ended (o : List Draft) (d : Draft) : Type 0 where
+  pub sofar : Sofar o d
+  pub few : length d.items ≤ 60
+  pub short : total width_of d.items ≤ 480
+  pub verify : has_sound_verify (shape_in d) ≡ true
+  pub population : is_within 1 1000000 d.population ≡ true
+
+pub ended : (o : List Draft) (d t : Draft) (e : DataSetEnd) → Sofar o d → length d.items ≤ 60 → IsPlainCondition e.verify → is_within 1 1000000 e.population ≡ true → end_at d e ≡ Ok t → Ended o t
+unfolding end_at
+ended o d t e h few w p k =
+    let a = bind_ok {A = Tree} {B = Draft} (verified d.items e.verify) _ t k in
+    let b = skip_ok (nat_lt 480 (record_width 0 d.items)) _ _ _ a.2 in
+    let low : record_width 0 d.items ≤ 480 = ltb-false 480 (record_width 0 d.items) b.0 in
+    let width = width_whole 0 d.items low in
+    subst (Ended o) (ok_same _ t b.1)
+    (record { sofar = record { base = record { local = h.base.local; points = h.base.points; differ = h.base.differ }; grouped = h.grouped }; few = few; short = omega (arith, width, low); verify = verify_sound d.items e.verify a.0 (omega (arith, few)) w a.1; population = p })
+
+pub end_items : (d t : Draft) (e : DataSetEnd) → end_at d e ≡ Ok t → t.items ≡ d.items
+unfolding end_at
+end_items d t e k =
+    let a = bind_ok {A = Tree} {B = Draft} (verified d.items e.verify) _ t k in
+    let b = skip_ok (nat_lt 480 (record_width 0 d.items)) _ _ _ a.2 in
+    ap (λ (x : Draft). x.items) (sym (ok_same _ t b.1))

@@ -1,0 +1,39 @@
+ghost use Rattle.std.specs.Prelude.{◌≡◌, ℕ, List, length, nat_le, not, ◌||◌, IsTrue};
+ghost use Rattle.std.specs.List.{list_all, list_any};
+ghost use Rattle.std.specs.declared.result.Result.TheVariants.{Ok};
+ghost use Rattle.dms_desc.specs.Shape.{Shape, Described};
+ghost use Rattle.dms_desc_bytes.specs.Lists.{apart, is_within, total};
+ghost use Rattle.dms_desc_bytes.specs.Spelling.{spelling, is_data_set};
+ghost use Rattle.dms_desc_bytes.specs.WellFormed.{has_parameters, numbered, names_differ, is_restart, is_placed, has_member, not_both_restart, counted_in};
+ghost use Rattle.dasdl_parse.specs.Grammar.{schema_of};
+ghost use Rattle.dasdl_parse.specs.declared.schema.Schema.{Schema};
+ghost use Rattle.dasdl_compile.specs.Compile.{compiled};
+ghost use Rattle.dasdl_laws.specs.Alone.{is_sound_alone};
+ghost use Rattle.dasdl_laws.specs.Together.{is_sound_together, is_within_earlier};
+
+/// Each parameter of a description that a text gives is in its range.
+pub fn parameters_law()
+    ensures { (text : List ℕ) (s : Schema) (d : Described) → schema_of text ≡ Ok s → compiled s.parameters s.declarations ≡ Ok d → IsTrue (has_parameters d) }
+{}
+
+/// A description that a text gives has at most 200 structures, numbered in their order from 1, of kinds 1 to 5, no two
+/// with one name, exactly one restart data set among them, which stands in no other, and at most 4,000 counted links.
+/// Each structure is sound by itself and with those that it names, and each data set has a member. The description has
+/// at most 65,535 bytes. Each structure stands in none, or in a data set before it. Two things that a well-formed
+/// description has are not said here: that no structure stands in the restart data set, and that there are at most three
+/// levels.
+pub fn structures_law()
+    ensures few { (text : List ℕ) (s : Schema) (d : Described) → schema_of text ≡ Ok s → compiled s.parameters s.declarations ≡ Ok d → IsTrue (nat_le (length d.structures) 200) }
+    ensures numbers { (text : List ℕ) (s : Schema) (d : Described) → schema_of text ≡ Ok s → compiled s.parameters s.declarations ≡ Ok d → IsTrue (numbered 1 d.structures) }
+    ensures names { (text : List ℕ) (s : Schema) (d : Described) → schema_of text ≡ Ok s → compiled s.parameters s.declarations ≡ Ok d → IsTrue (apart names_differ d.structures) }
+    ensures restart { (text : List ℕ) (s : Schema) (d : Described) → schema_of text ≡ Ok s → compiled s.parameters s.declarations ≡ Ok d → IsTrue (list_any is_restart d.structures) }
+    ensures one_restart { (text : List ℕ) (s : Schema) (d : Described) → schema_of text ≡ Ok s → compiled s.parameters s.declarations ≡ Ok d → IsTrue (apart not_both_restart d.structures) }
+    ensures counted { (text : List ℕ) (s : Schema) (d : Described) → schema_of text ≡ Ok s → compiled s.parameters s.declarations ≡ Ok d → IsTrue (nat_le (total counted_in d.structures) 4000) }
+    ensures kinds { (text : List ℕ) (s : Schema) (d : Described) → schema_of text ≡ Ok s → compiled s.parameters s.declarations ≡ Ok d → IsTrue (list_all (λ (x : Shape). is_within 1 5 x.kind) d.structures) }
+    ensures alone { (text : List ℕ) (s : Schema) (d : Described) → schema_of text ≡ Ok s → compiled s.parameters s.declarations ≡ Ok d → IsTrue (list_all is_sound_alone d.structures) }
+    ensures together { (text : List ℕ) (s : Schema) (d : Described) → schema_of text ≡ Ok s → compiled s.parameters s.declarations ≡ Ok d → IsTrue (list_all (is_sound_together d.structures) d.structures) }
+    ensures placed { (text : List ℕ) (s : Schema) (d : Described) → schema_of text ≡ Ok s → compiled s.parameters s.declarations ≡ Ok d → IsTrue (list_all is_placed d.structures) }
+    ensures members { (text : List ℕ) (s : Schema) (d : Described) → schema_of text ≡ Ok s → compiled s.parameters s.declarations ≡ Ok d → IsTrue (list_all (λ (x : Shape). not (is_data_set x.kind) || has_member d.structures x) d.structures) }
+    ensures earlier { (text : List ℕ) (s : Schema) (d : Described) → schema_of text ≡ Ok s → compiled s.parameters s.declarations ≡ Ok d → IsTrue (list_all (is_within_earlier d.structures) d.structures) }
+    ensures short { (text : List ℕ) (s : Schema) (d : Described) → schema_of text ≡ Ok s → compiled s.parameters s.declarations ≡ Ok d → IsTrue (nat_le (length (spelling d)) 65535) }
+{}
