@@ -39,7 +39,7 @@ A line SCRIPT is no end of the text here.
   > RDS RESTART DATA SET (PID ALPHA(10););
   > SCRIPT
   > END
-  dms: schema: unexpected at 47
+  dms: schema: unexpected at 40
   [2]
 
 A file whose gate is closed is no description; it is written over.
