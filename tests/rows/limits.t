@@ -7,6 +7,15 @@ A script of more than 1,000,000 lines.
   dms: too many lines
   [8]
 
+A script of more than 2,147,483,648 bytes.
+
+  $ printf 'RDS RESTART DATA SET (PID ALPHA(10););\nSCRIPT\n' > schema
+  $ { cat schema; head -c 2147483648 /dev/zero | tr '\0' ' '; } | "$DMS" try
+  1 BADLINE 2001
+  $ { cat schema; head -c 2147483649 /dev/zero | tr '\0' ' '; } | "$DMS" try
+  dms: too many bytes
+  [8]
+
 At most 10,000 lines are held; the one too many prints nothing.
 
   $ { cat <<'END'
