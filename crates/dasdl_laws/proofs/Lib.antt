@@ -5,6 +5,7 @@ mod Filled
 mod Judged
 mod Judging
 mod Keys
+mod Levels
 mod Literals
 mod Members
 mod Nested

@@ -41,12 +41,12 @@ record RefAt (os : List Draft) (n : ℕ) : Type 0 where
 abbrev Ref : List Draft → ℕ → Type 0
 Ref os n = (n ≡ 0) ⊎ RefAt os n
 
-got_more : (xs ys : List Draft) (k : ℕ) (x : Draft) → slice_get xs k ≡ Some x → slice_get (xs ++ ys) k ≡ Some x
+pub got_more : (xs ys : List Draft) (k : ℕ) (x : Draft) → slice_get xs k ≡ Some x → slice_get (xs ++ ys) k ≡ Some x
 got_more [] ys k x h = absurd (cc)
 got_more (z ∷ zs) ys zero x h = h
 got_more (z ∷ zs) ys (suc k) x h = got_more zs ys k x h
 
-got_last : (xs : List Draft) (x : Draft) → slice_get (xs ++ x ∷ []) (length xs) ≡ Some x
+pub got_last : (xs : List Draft) (x : Draft) → slice_get (xs ++ x ∷ []) (length xs) ≡ Some x
 got_last [] x = refl
 got_last (z ∷ zs) x = got_last zs x
 
@@ -65,7 +65,7 @@ stands_more : (os more ds : List Draft) → AllByRecursion (Stand os) ds → All
 stands_more os more [] h = tt
 stands_more os more (d ∷ ds) h = ((ref_more os more d.owner h.0.0, h.0.1), stands_more os more ds h.1)
 
-push : (P : Draft → Type 0) (ds : List Draft) (d : Draft) → AllByRecursion P ds → P d → AllByRecursion P (ds ++ d ∷ [])
+pub push : (P : Draft → Type 0) (ds : List Draft) (d : Draft) → AllByRecursion P ds → P d → AllByRecursion P (ds ++ d ∷ [])
 push P [] d h k = (k, tt)
 push P (x ∷ xs) d h k = (h.0, push P xs d h.1 k)
 
