@@ -11,6 +11,7 @@ mod Members
 mod Nested
 mod Ordered
 mod Outline
+mod Owned
 mod Owners
 mod Parameters
 mod Parts
