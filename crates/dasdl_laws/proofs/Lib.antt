@@ -18,6 +18,7 @@ mod Parts
 mod Placed
 mod Sets
 mod Short
+mod Sound
 mod Structures
 mod Together
 mod Trees
