@@ -28,11 +28,10 @@ use Rattle.dasdl_compile.specs.Sets.{set_kind, is_misplaced, set_draft}
 use Rattle.dasdl_laws.specs.Together.{is_within_earlier}
 use Rattle.dasdl_laws.proofs.Alone.{by_words}
 use Rattle.dasdl_laws.proofs.Judging.{bind_ok, ok_same}
-use Rattle.dasdl_laws.proofs.Ordered.{Numbers, Ordered, turned, and_so, grown, has_kind}
-use Rattle.dasdl_laws.proofs.Outline.{seen}
-use Rattle.dasdl_laws.proofs.Owners.{Ref, RefAt, Standing, turn_stands, got_more, push}
+use Rattle.dasdl_laws.proofs.Ordered.{Numbers, Ordered, turned, and_so, grown}
+use Rattle.dasdl_laws.proofs.Owners.{Ref, Standing, turn_stands, got_more, push}
 use Rattle.dasdl_laws.proofs.Sets.{Whole, final_at}
-use Rattle.dasdl_laws.proofs.Together.{FoundAs, found_as, mapped, ne_zero}
+use Rattle.dasdl_laws.proofs.Together.{found_as, mapped, ne_zero}
 use Rattle.dasdl_laws.proofs.Turns.{outer, Turn, turn_of, inside_kept}
 use Rattle.dasdl_laws.proofs.Turns.Turn.{inside, data_set, a_set}
 

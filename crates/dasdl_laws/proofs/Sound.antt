@@ -6,7 +6,6 @@ use Rattle.std.specs.List.{list_all}
 use Rattle.std.specs.declared.result.Result.TheVariants.{Ok}
 use Rattle.dms_base.specs.Name.{is_name}
 use Rattle.dms_desc.specs.Shape.{Shape, Described}
-use Rattle.dms_desc_bytes.specs.Conditions.{is_condition}
 use Rattle.dms_desc_bytes.specs.Finding.{kind_of, items_of}
 use Rattle.dms_desc_bytes.specs.Lists.{is_within, is_empty, total}
 use Rattle.dms_desc_bytes.specs.Members.{members_differ, is_item_sound}
