@@ -93,7 +93,7 @@ others (d ∷ ds) s e = and_so _ _ (ap (λ (b : Bool). not (d.kind == 2 && b)) e
 
 -- ---- numbers
 
-abbrev Numbers : ℕ → List Draft → Type 0
+abbrev pub Numbers : ℕ → List Draft → Type 0
 Numbers n [] = Unit {0}
 Numbers n (d ∷ ds) = (d.number ≡ min n 65535) × Numbers (n + 1) ds
 
@@ -113,10 +113,10 @@ numbers_are n (d ∷ ds) h low =
 -- ---- the structures so far
 
 -- what holds of structures, whatever their members and ends say
-record Ordered (os : List Draft) : Type 0 where
-  names : apart names_differ (map shape_in os) ≡ true
-  restarts : apart not_both_restart (map shape_in os) ≡ true
-  numbers : Numbers 1 os
+pub record Ordered (os : List Draft) : Type 0 where
+  pub names : apart names_differ (map shape_in os) ≡ true
+  pub restarts : apart not_both_restart (map shape_in os) ≡ true
+  pub numbers : Numbers 1 os
 
 one_restart : (os : List Draft) (d : Draft) → ((d.kind == 2) ≡ false) ⊎ (has_restart os ≡ false) → list_all (λ (x : Shape). not_both_restart x (shape_in d)) (map shape_in os) ≡ true
 one_restart os d (inl e) = others os (shape_in d) e
@@ -153,7 +153,7 @@ by_words false b = refl
 set_is_none : (s : SetDecl) → (set_kind s == 2) ≡ false
 set_is_none s = by_words s.subset (is_some s.cond)
 
-turned : (o : List Draft) (w v : Work) (decl : Declaration) → Turn o w v decl → Ordered (map outer w.made) → Ordered (map outer v.made)
+pub turned : (o : List Draft) (w v : Work) (decl : Declaration) → Turn o w v decl → Ordered (map outer w.made) → Ordered (map outer v.made)
 turned o w v _ (inside decl none i) h = subst Ordered (sym (inside_kept o decl w v i)) h
 turned o w v _ (data_set s new placed once e) h =
     subst (λ (x : Work). Ordered (map outer x.made)) (sym e)

@@ -32,21 +32,22 @@ use Rattle.dasdl_laws.proofs.Turns.{outer, Turn, Inside, turn_of, inside_kept}
 use Rattle.dasdl_laws.proofs.Turns.Turn.{inside, data_set, a_set}
 use Rattle.dasdl_laws.proofs.Turns.Inside.{untouched, changed}
 
-record RefAt (os : List Draft) (n : ℕ) : Type 0 where
-  to : Draft
-  at : slice_get os (n - 1) ≡ Some to
-  from : 1 ≤ n
-  kind : is_data_set to.kind ≡ true
+-- number n is that of a data set
+pub record RefAt (os : List Draft) (n : ℕ) : Type 0 where
+  pub to : Draft
+  pub at : slice_get os (n - 1) ≡ Some to
+  pub from : 1 ≤ n
+  pub kind : is_data_set to.kind ≡ true
 
-abbrev Ref : List Draft → ℕ → Type 0
+abbrev pub Ref : List Draft → ℕ → Type 0
 Ref os n = (n ≡ 0) ⊎ RefAt os n
 
-got_more : (xs ys : List Draft) (k : ℕ) (x : Draft) → slice_get xs k ≡ Some x → slice_get (xs ++ ys) k ≡ Some x
+pub got_more : (xs ys : List Draft) (k : ℕ) (x : Draft) → slice_get xs k ≡ Some x → slice_get (xs ++ ys) k ≡ Some x
 got_more [] ys k x h = absurd (cc)
 got_more (z ∷ zs) ys zero x h = h
 got_more (z ∷ zs) ys (suc k) x h = got_more zs ys k x h
 
-got_last : (xs : List Draft) (x : Draft) → slice_get (xs ++ x ∷ []) (length xs) ≡ Some x
+pub got_last : (xs : List Draft) (x : Draft) → slice_get (xs ++ x ∷ []) (length xs) ≡ Some x
 got_last [] x = refl
 got_last (z ∷ zs) x = got_last zs x
 
@@ -58,20 +59,20 @@ ref_low : (os : List Draft) (n : ℕ) → Ref os n → n ≤ length os
 ref_low os n (inl e) = omega (arith, e)
 ref_low os n (inr r) = let low = slice_get_within os (n - 1) r.to r.at in omega (arith, low)
 
-abbrev Stand : List Draft → Draft → Type 0
+abbrev pub Stand : List Draft → Draft → Type 0
 Stand os d = Ref os d.owner × (d.owner < d.number)
 
 stands_more : (os more ds : List Draft) → AllByRecursion (Stand os) ds → AllByRecursion (Stand (os ++ more)) ds
 stands_more os more [] h = tt
 stands_more os more (d ∷ ds) h = ((ref_more os more d.owner h.0.0, h.0.1), stands_more os more ds h.1)
 
-push : (P : Draft → Type 0) (ds : List Draft) (d : Draft) → AllByRecursion P ds → P d → AllByRecursion P (ds ++ d ∷ [])
+pub push : (P : Draft → Type 0) (ds : List Draft) (d : Draft) → AllByRecursion P ds → P d → AllByRecursion P (ds ++ d ∷ [])
 push P [] d h k = (k, tt)
 push P (x ∷ xs) d h k = (h.0, push P xs d h.1 k)
 
-record Standing (os : List Draft) (within : ℕ) : Type 0 where
-  all : AllByRecursion (Stand os) os
-  around : Ref os within
+pub record Standing (os : List Draft) (within : ℕ) : Type 0 where
+  pub all : AllByRecursion (Stand os) os
+  pub around : Ref os within
 
 one_more : (os : List Draft) (within : ℕ) (d : Draft) → Standing os within → d.owner ≡ within → d.number ≡ length os + 1 → AllByRecursion (Stand (os ++ d ∷ [])) (os ++ d ∷ [])
 one_more os within d h e n =
@@ -97,7 +98,7 @@ inside_stands o decl w v (changed d t at g e) h =
     (subst (λ (n : ℕ). Standing (map outer w.made) n) (sym within)
     (record { all = h.all; around = open_ref (Ref (map outer w.made)) decl d.owner w.within owner h.around }))
 
-turn_stands : (o : List Draft) (w v : Work) (decl : Declaration) → length w.made + structures_of decl ≤ 200 → Turn o w v decl → Standing (map outer w.made) w.within → Standing (map outer v.made) v.within
+pub turn_stands : (o : List Draft) (w v : Work) (decl : Declaration) → length w.made + structures_of decl ≤ 200 → Turn o w v decl → Standing (map outer w.made) w.within → Standing (map outer v.made) v.within
 turn_stands o w v _ few (inside decl none i) h = inside_stands o decl w v i h
 turn_stands o w v _ few (data_set s new placed once e) h =
     let d = drafted (next_structure w.made) (data_set_kind s.restart) s.name w.within in

@@ -25,7 +25,9 @@ use Rattle.dasdl_laws.proofs.Counted.{few_counted}
 use Rattle.dasdl_laws.proofs.Placed.{all_placed}
 use Rattle.std.specs.Prelude.{not, ◌||◌}
 use Rattle.dms_desc_bytes.specs.Spelling.{is_data_set}
-use Rattle.dms_desc_bytes.specs.WellFormed.{has_member}
+use Rattle.dms_desc_bytes.specs.WellFormed.{has_member, is_owned_well, is_shallow}
+use Rattle.dasdl_laws.proofs.Levels.{are_shallow}
+use Rattle.dasdl_laws.proofs.Owned.{all_owned_well}
 use Rattle.dasdl_laws.proofs.Nested.{have_members}
 use Rattle.dasdl_laws.specs.Together.{is_within_earlier}
 use Rattle.dasdl_laws.proofs.Owners.{stand_earlier}
@@ -43,6 +45,8 @@ pub record Structured (d : Described) : Type 0 where
   pub counted : total counted_in d.structures ≤ 4000
   pub members : list_all (λ (x : Shape). not (is_data_set x.kind) || has_member d.structures x) d.structures ≡ true
   pub earlier : list_all (is_within_earlier d.structures) d.structures ≡ true
+  pub owned : list_all (is_owned_well d.structures) d.structures ≡ true
+  pub shallow : list_all (is_shallow d.structures) d.structures ≡ true
   pub short : nat_le (length (spelling d)) 65535 ≡ true
 
 pub structured : (text : List ℕ) (s : Schema) (d : Described) → schema_of text ≡ Ok s → compiled s.parameters s.declarations ≡ Ok d → Structured d
@@ -54,8 +58,9 @@ structured text s d read made =
     let f = all_final s.parameters g.has_parameters g.has_audit s.declarations g.used g.declares c.outline.made c.work g.few c.declared in
     let e = all_alike Noted c.outline.made s.declarations nothing_yet nothing_yet c.outline c.work (record { within = refl; made = refl }) c.outlined c.declared in
     let w : Whole c.outline.made c.work.made = record { same = e.made; numbers = o.numbers; kinds = k.1; final = f.0 } in
+    let early = stand_earlier c.outline.made s.declarations c.work g.few c.declared in
     subst Structured c.made.is
-    (record { order = o; kinds = k.1; alone = all_alone c.outline.made c.work.made f.0; together = all_together c.outline.made c.work.made w; counted = few_counted s.parameters g.has_parameters g.has_audit s.declarations g.used g.declares c.outline.made c.work g.fewer c.declared; earlier = stand_earlier c.outline.made s.declarations c.work g.few c.declared; members = have_members c.work.made f.1; placed = all_placed c.outline.made s.declarations c.work c.declared; short = is_short s.parameters c.work.made k.0 c.made.short })
+    (record { order = o; kinds = k.1; alone = all_alone c.outline.made c.work.made f.0; together = all_together c.outline.made c.work.made w; counted = few_counted s.parameters g.has_parameters g.has_audit s.declarations g.used g.declares c.outline.made c.work g.fewer c.declared; earlier = early; owned = all_owned_well c.outline.made s.declarations c.work g.few c.declared w early; shallow = are_shallow s.parameters g.has_parameters g.has_audit s.declarations g.used g.declares c.outline.made c.work g.few c.declared; members = have_members c.work.made f.1; placed = all_placed c.outline.made s.declarations c.work c.declared; short = is_short s.parameters c.work.made k.0 c.made.short })
 
 pub few_structures : (d : Described) → Structured d → IsTrue (nat_le (length d.structures) 200)
 few_structures d h = le-leb (length d.structures) 200 h.order.few

@@ -241,7 +241,7 @@ all_both : (o xs ys : List Draft) → AllByRecursion (Final o) xs → AllByRecur
 all_both o [] ys h k = k
 all_both o (x ∷ xs) ys h k = (h.0, all_both o xs ys h.1 k)
 
-more_structures : (head : DataSetDecl) (ds : List Declaration) (end : DataSetEnd) → structures_in (DataSet head ∷ (ds ++ (End end ∷ []))) ≡ 1 + structures_in ds
+pub more_structures : (head : DataSetDecl) (ds : List Declaration) (end : DataSetEnd) → structures_in (DataSet head ∷ (ds ++ (End end ∷ []))) ≡ 1 + structures_in ds
 more_structures head ds end = let sum = structures-append ds (End end ∷ []) in omega (arith, sum)
 
 further_in : (a m b within : ℕ) (xs ys : List Draft) → b ≡ a + m → (1 ≤ a) ⊎ (list_any (owned within) xs ≡ true) → (1 ≤ b) ⊎ (list_any (owned within) (xs ++ ys) ≡ true)

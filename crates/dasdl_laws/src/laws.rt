@@ -4,7 +4,7 @@ ghost use Rattle.std.specs.declared.result.Result.TheVariants.{Ok};
 ghost use Rattle.dms_desc.specs.Shape.{Shape, Described};
 ghost use Rattle.dms_desc_bytes.specs.Lists.{apart, is_within, total};
 ghost use Rattle.dms_desc_bytes.specs.Spelling.{spelling, is_data_set};
-ghost use Rattle.dms_desc_bytes.specs.WellFormed.{has_parameters, numbered, names_differ, is_restart, is_placed, has_member, not_both_restart, counted_in};
+ghost use Rattle.dms_desc_bytes.specs.WellFormed.{has_parameters, numbered, names_differ, is_restart, is_placed, has_member, not_both_restart, counted_in, is_owned_well, is_shallow, IsWellFormed};
 ghost use Rattle.dasdl_parse.specs.Grammar.{schema_of};
 ghost use Rattle.dasdl_parse.specs.declared.schema.Schema.{Schema};
 ghost use Rattle.dasdl_compile.specs.Compile.{compiled};
@@ -17,11 +17,10 @@ pub fn parameters_law()
 {}
 
 /// A description that a text gives has at most 200 structures, numbered in their order from 1, of kinds 1 to 5, no two
-/// with one name, exactly one restart data set among them, which stands in no other, and at most 4,000 counted links.
-/// Each structure is sound by itself and with those that it names, and each data set has a member. The description has
-/// at most 65,535 bytes. Each structure stands in none, or in a data set before it. Two things that a well-formed
-/// description has are not said here: that no structure stands in the restart data set, and that there are at most three
-/// levels.
+/// with one name, exactly one restart data set among them, which stands in no other and in which no structure stands, and
+/// at most 4,000 counted links. Each structure is sound by itself and with those that it names, and each data set has a
+/// member. Each structure stands in none, or in a data set before it, and there are at most three levels, the outer one
+/// counted. The description has at most 65,535 bytes.
 pub fn structures_law()
     ensures few { (text : List ℕ) (s : Schema) (d : Described) → schema_of text ≡ Ok s → compiled s.parameters s.declarations ≡ Ok d → IsTrue (nat_le (length d.structures) 200) }
     ensures numbers { (text : List ℕ) (s : Schema) (d : Described) → schema_of text ≡ Ok s → compiled s.parameters s.declarations ≡ Ok d → IsTrue (numbered 1 d.structures) }
@@ -35,5 +34,13 @@ pub fn structures_law()
     ensures placed { (text : List ℕ) (s : Schema) (d : Described) → schema_of text ≡ Ok s → compiled s.parameters s.declarations ≡ Ok d → IsTrue (list_all is_placed d.structures) }
     ensures members { (text : List ℕ) (s : Schema) (d : Described) → schema_of text ≡ Ok s → compiled s.parameters s.declarations ≡ Ok d → IsTrue (list_all (λ (x : Shape). not (is_data_set x.kind) || has_member d.structures x) d.structures) }
     ensures earlier { (text : List ℕ) (s : Schema) (d : Described) → schema_of text ≡ Ok s → compiled s.parameters s.declarations ≡ Ok d → IsTrue (list_all (is_within_earlier d.structures) d.structures) }
+    ensures owned { (text : List ℕ) (s : Schema) (d : Described) → schema_of text ≡ Ok s → compiled s.parameters s.declarations ≡ Ok d → IsTrue (list_all (is_owned_well d.structures) d.structures) }
+    ensures shallow { (text : List ℕ) (s : Schema) (d : Described) → schema_of text ≡ Ok s → compiled s.parameters s.declarations ≡ Ok d → IsTrue (list_all (is_shallow d.structures) d.structures) }
     ensures short { (text : List ℕ) (s : Schema) (d : Described) → schema_of text ≡ Ok s → compiled s.parameters s.declarations ≡ Ok d → IsTrue (nat_le (length (spelling d)) 65535) }
+{}
+
+/// A description that a text gives is well-formed: each parameter is in its range, each structure is sound, and the
+/// whole has at most 65,535 bytes.
+pub fn well_formed_law()
+    ensures { (text : List ℕ) (s : Schema) (d : Described) → schema_of text ≡ Ok s → compiled s.parameters s.declarations ≡ Ok d → IsWellFormed d }
 {}

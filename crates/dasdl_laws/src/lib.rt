@@ -3,4 +3,4 @@
 
 mod laws;
 
-pub use laws::{parameters_law, structures_law};
+pub use laws::{parameters_law, structures_law, well_formed_law};

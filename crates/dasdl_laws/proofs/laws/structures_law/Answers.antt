@@ -15,5 +15,7 @@ returns c = record {
   placed = λ text s d read made. (structured text s d read made).placed;
   members = λ text s d read made. (structured text s d read made).members;
   earlier = λ text s d read made. (structured text s d read made).earlier;
+  owned = λ text s d read made. (structured text s d read made).owned;
+  shallow = λ text s d read made. (structured text s d read made).shallow;
   short = λ text s d read made. (structured text s d read made).short;
 }
