@@ -18,7 +18,7 @@ mod Parts
 mod Placed
 mod Sets
 mod Short
-mod Sound
+pub mod Sound
 mod Structures
 mod Together
 mod Trees

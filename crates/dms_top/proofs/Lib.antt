@@ -1,5 +1,6 @@
 pub mod Judgements
 pub mod Printing
+pub mod Sealed
 pub mod Taken
 pub mod Words
 pub mod WholeInput

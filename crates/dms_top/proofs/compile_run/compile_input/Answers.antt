@@ -1,7 +1,17 @@
-use Rattle.std.proofs.Common.{Err, ap}
+use Rattle.std.proofs.Common.{◌≡◌, ◌∙◌, Ok, Err, ap, sym}
+use Rattle.dms_desc.specs.Shape.{described}
+use Rattle.dms_descfile.specs.DescriptionFile.{sealed_file}
+use Rattle.dms_top.specs.Judging.{judged}
+use Rattle.dms_top.proofs.Printing.{same_description}
+use Rattle.dms_top.proofs.Sealed.{sealed_is}
 use Rattle.dms_top.proofs.Judgements.{long_judged}
 use Rattle.dms_top.proofs.compile_run.compile_input.Goals as goal
 
 pub returns-in-Err-Long-clause-refused : goal.returns-in-Err-Long-clause-refused
 returns-in-Err-Long-clause-refused g c = λ f is all left.
     long_judged _ f is (c.in-Err-Long.ensures.long (ap Err c.in-Err-Long.field-0-is) all left)
+
+pub returns-clause-is_sealed : goal.returns-clause-is_sealed
+returns-clause-is_sealed g c = λ spoken tells all d left is.
+    let j : judged all ≡ Ok (described c.in-Description.desc) = ap judged (sym (c.in-Ok.ensures.text all left) ∙ sym c.as_slice.ensures) ∙ c.in-Description.ensures in
+    sealed_is all d _ is (c.create.ensures.sealed spoken tells ∙ ap sealed_file (sym (same_description _ _ d j is)))
