@@ -4,7 +4,8 @@ use Rattle.std.proofs.lemmas.List.{append-nil, take-append-le, take_all}
 use Rattle.std.proofs.lemmas.Bool.Decides.{nat_tests}
 use Rattle.std.proofs.lemmas.Option.{same_Some}
 use Rattle.dms_feed.specs.Lines.{first_line, after_line}
-use Rattle.dms_feed.specs.Raws.{IsTaken}
+use Rattle.dms_feed.specs.Raws.{IsTaken, IsUnended}
+use Rattle.std.proofs.lemmas.List.Folds.{list_any-append}
 
 -- cap: so many bytes are kept
 module _ (cap : ℕ) where
@@ -16,9 +17,10 @@ module _ (cap : ℕ) where
     pub whole : all ≡ taken ++ rest
     pub keeps : kept ≡ take cap taken
     pub count : length taken ≡ n
+    pub unended : IsUnended taken
 
   pub Reads-start : (all : List ℕ) → Reads [] 0 all all
-  Reads-start all = record { taken = []; front = refl; after = refl; whole = refl; keeps = sym (take_all cap [] (omega arith)); count = refl }
+  Reads-start all = record { taken = []; front = refl; after = refl; whole = refl; keeps = sym (take_all cap [] (omega arith)); count = refl; unended = refl }
 
   -- a byte at the front
   pub split_front : (rest : List ℕ) (b : ℕ) → Some b ≡ slice_get rest 0 → rest ≡ b ∷ drop 1 rest
@@ -43,6 +45,11 @@ module _ (cap : ℕ) where
   first_of : (b : ℕ) (rest : List ℕ) → b ≢ 10 → (first_line (b ∷ rest) ≡ b ∷ first_line rest) × (after_line (b ∷ rest) ≡ after_line rest)
   first_of b rest other = let e : eqb b 10 ≡ false = grind (arith, nat_tests) in (rw e refl, rw e refl)
 
+  still_unended : (taken : List ℕ) (b : ℕ) → b ≢ 10 → IsUnended taken → IsUnended (taken ++ b ∷ [])
+  still_unended taken b other so_far =
+      let e : eqb b 10 ≡ false = grind (arith, nat_tests) in
+      list_any-append (λ (x : ℕ). eqb x 10) taken (b ∷ []) ∙ rw (so_far, e) refl
+
   -- one more byte of the line
   pub Reads-byte : (kept : List ℕ) (n b : ℕ) (rest all : List ℕ) → Some b ≡ slice_get rest 0 → b ≢ 10 → Reads kept n rest all → Reads (cond (nat_lt n cap) (kept ++ b ∷ []) kept) (n + 1) (drop 1 rest) all
   Reads-byte kept n b rest all is other r =
@@ -55,6 +62,7 @@ module _ (cap : ℕ) where
         whole = r.whole ∙ ap (λ (l : List ℕ). r.taken ++ l) at ∙ sym (append_assoc r.taken (b ∷ []) (drop 1 rest));
         keeps = kept_on (nat_lt n cap) kept r.taken b (ap (λ (k : ℕ). nat_lt k cap) (sym r.count)) r.keeps;
         count = omega (arith, length-append r.taken (b ∷ []), r.count);
+        unended = still_unended r.taken b other r.unended;
       }
 
   not_empty : (xs ys : List ℕ) (b : ℕ) → xs ++ b ∷ ys ≢ []

@@ -1,5 +1,6 @@
 -- What taking a line answers.
-use Rattle.std.specs.Prelude.{◌≡◌, ◌≢◌, ◌≤◌, ◌<◌, ℕ, List, [], Some, None, take, length}
+use Rattle.std.specs.Prelude.{◌≡◌, ◌≢◌, ◌≤◌, ◌<◌, ℕ, List, [], ◌++◌, ◌==◌, Some, None, false, take, length}
+use Rattle.std.specs.List.{list_any}
 use Rattle.std.specs.declared.option.Option.{Option}
 use Rattle.dms_feed.specs.declared.raw.Raw.{Raw}
 use Rattle.dms_feed.specs.Feeds.{Remains}
@@ -17,3 +18,15 @@ TakesLine cap held left held' left' room line = (all : List ℕ) → Remains hel
 -- where what remains is told, its first line has more bytes than these
 abbrev pub OverRoom : List ℕ → Option (List ℕ) → ℕ → Type 0
 OverRoom held left room = (all : List ℕ) → Remains held left all → room < length (first_line all)
+
+-- no line feed stands among these bytes
+abbrev pub IsUnended : List ℕ → Type 0
+IsUnended bytes = list_any (λ b. b == 10) bytes ≡ false
+
+-- taking failed inside a line: a part of the line was taken, without its line feed, and the rest is left
+pub record CutLine (left : Option (List ℕ)) (all : List ℕ) : Type 0 where
+  pub part : List ℕ
+  pub rest : List ℕ
+  pub whole : all ≡ part ++ rest
+  pub left_is : left ≡ Some rest
+  pub unended : IsUnended part

@@ -1,6 +1,6 @@
-ghost use Rattle.std.specs.Prelude.{◌≡◌, ◌≤◌, ◌<◌, [], IfOk, OnOk};
+ghost use Rattle.std.specs.Prelude.{◌≡◌, ◌≤◌, ◌<◌, [], IfOk, OnOk, OnErr};
 ghost use Rattle.dms_base.specs.Causes.{HasCause};
-ghost use Rattle.dms_feed.specs.Feeds.{Feeds, Fills};
+ghost use Rattle.dms_feed.specs.Feeds.{Feeds, Fills, Fails};
 
 use dms_site::{Failed, Source};
 use std::marker::Model;
@@ -35,9 +35,10 @@ impl Feed {
         }
     }
 
-    /// Takes bytes where none is held.
+    /// Takes bytes where none is held. At a fault what remained still remains.
     fn fill<I: Source>(&mut self, source: &mut I) -> Result<(), Failed>
         ensures fills { OnOk result (Fills self.old (I.left source.old) self.new (I.left source.new)) }
+        ensures fails { OnErr result (Fails self.old (I.left source.old) self.new (I.left source.new)) }
         ensures same { I.same_source source.old source.new }
         ensures cause { HasCause (I.faults source.old) (I.faults source.new) result }
     {
@@ -50,9 +51,10 @@ impl Feed {
         Ok(())
     }
 
-    /// The next byte of what is held and then of the source, or none at the end.
+    /// The next byte of what is held and then of the source, or none at the end. At a fault what remained still remains.
     pub fn next<I: Source>(&mut self, source: &mut I) -> Result<Option<u8>, Failed>
         ensures byte { IfOk result (Feeds self.old (I.left source.old) self.new (I.left source.new)) }
+        ensures fails { OnErr result (Fails self.old (I.left source.old) self.new (I.left source.new)) }
         ensures same { I.same_source source.old source.new }
         ensures cause { HasCause (I.faults source.old) (I.faults source.new) result }
     {

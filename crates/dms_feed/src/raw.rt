@@ -2,7 +2,7 @@ ghost use Rattle.std.specs.Prelude.{◌≡◌, ◌≤◌, ◌<◌, ◌+◌, ◌^
 ghost use Rattle.dms_base.specs.Causes.{HasCause, Rose};
 ghost use Rattle.dms_feed.specs.Feeds.{Remains};
 ghost use Rattle.dms_feed.specs.Lines.{first_line, after_line, is_end, line_text};
-ghost use Rattle.dms_feed.specs.Raws.{TakesLine, OverRoom};
+ghost use Rattle.dms_feed.specs.Raws.{TakesLine, OverRoom, CutLine};
 
 use crate::Feed;
 use dms_base::{Bytes, Memory};
@@ -71,6 +71,7 @@ pub fn line_text(line: &[u8]) -> &[u8]
 }
 
 /// The next line by its first `cap` bytes, or none at the end. At most `room` bytes are taken as its own.
+/// Where taking fails, a part of the line is gone, and the rest is left in the source.
 pub fn next_raw<I: Source>(
     alloc: Global,
     feed: &mut Feed,
@@ -81,6 +82,7 @@ pub fn next_raw<I: Source>(
     requires { room < 2 ^ 40 }
     ensures line { IfOk result (TakesLine cap feed.old (I.left source.old) feed.new (I.left source.new) room) }
     ensures bytes { IsErrOf result RawFault.Bytes → OverRoom feed.old (I.left source.old) room }
+    ensures failed { IsErrOf result RawFault.Input → (all : List ℕ) → Remains feed.old (I.left source.old) all → CutLine (I.left source.new) all }
     ensures same { I.same_source source.old source.new }
     ensures later { I.faults source.old ≤ I.faults source.new }
     ensures input { IsErrOf result RawFault.Input → Rose (I.faults source.old) (I.faults source.new) }

@@ -11,7 +11,8 @@ use Rattle.dms_model.specs.Session.{Session}
 use Rattle.dms_storeverbs.specs.View.{View, Stands}
 use Rattle.dms_runner.specs.declared.held.Held.{Held}
 use Rattle.dms_runner.specs.Answers.{Going, Lined, Roomy, going_on, line_step, lines_run, onto, begun, script_run, unanswered, answers_text}
-use Rattle.dms_runner.specs.Running.{bytes_of, TookLine, Answered, Took, PassesLines, PassesBytes, PassesHeld}
+use Rattle.dms_feed.specs.Raws.{CutLine}
+use Rattle.dms_runner.specs.Running.{bytes_of, joined, TookLine, Answered, Took, PassesLines, PassesBytes, PassesHeld, CutInput}
 use Rattle.dms_runner.proofs.Texts.{prints_none, prints_on, front_on, front_of_first}
 use Rattle.dms_runner.proofs.Lining.{line_low}
 
@@ -33,6 +34,26 @@ lines_step (b ∷ bs) some = first_of_lines b bs
 bytes_on : (xs ys : List (List ℕ)) → bytes_of (xs ++ ys) ≡ bytes_of xs + bytes_of ys
 bytes_on [] ys = omega arith
 bytes_on (x ∷ xs) ys = omega (arith, bytes_on xs ys)
+
+-- a text is its first line and what follows it
+pub first_joined : (all : List ℕ) → first_line all ++ after_line all ≡ all
+first_joined [] = refl
+first_joined (b ∷ bs) = at (eqb b 10) (first_joined bs)
+  where
+    at : (t : Bool) → first_line bs ++ after_line bs ≡ bs → cond t (b ∷ []) (b ∷ first_line bs) ++ cond t bs (after_line bs) ≡ b ∷ bs
+    at true h = refl
+    at false h = ap (λ (l : List ℕ). b ∷ l) h
+
+pub joined_on : (xs ys : List (List ℕ)) → joined (xs ++ ys) ≡ joined xs ++ joined ys
+joined_on [] ys = refl
+joined_on (x ∷ xs) ys = ap (λ (l : List ℕ). x ++ l) (joined_on xs ys) ∙ sym (append_assoc x (joined xs) (joined ys))
+
+-- one line more stands before what follows it
+joined_step : (all rest : List ℕ) (done : List (List ℕ)) → all ≡ joined done ++ rest → all ≡ joined (done ++ first_line rest ∷ []) ++ after_line rest
+joined_step all rest done is =
+    let l = first_line rest in
+    is ∙ ap (λ (r : List ℕ). joined done ++ r) (sym (first_joined rest)) ∙ sym (append_assoc (joined done) l (after_line rest))
+    ∙ ap (λ (k : List ℕ). (joined done ++ k) ++ after_line rest) (sym (append-nil l)) ∙ ap (λ (k : List ℕ). k ++ after_line rest) (sym (joined_on done (l ∷ [])))
 
 -- The fold over lines
 
@@ -82,6 +103,7 @@ pub record Runs (desc : Described) (g : Going) (i room : ℕ) (all : List ℕ) (
   pub split : raw_lines all ≡ done ++ raw_lines rest
   pub count : length done ≡ i
   pub bytes : bytes_of done + room ≡ 2147483648
+  pub whole : all ≡ joined done ++ rest
   pub roomy : (lines_run desc g done).full ≡ false
   pub stands : Stands v (lines_run desc g done).going.session
   pub held_is : held ≡ (lines_run desc g done).going.held
@@ -100,6 +122,7 @@ runs_start desc db first all v feed left said stands remains =
       split = refl;
       count = refl;
       bytes = refl;
+      whole = refl;
       roomy = ap (λ (l : Lined). l.full) e;
       stands = subst (λ (s : Session). Stands v s) (sym (ap (λ (l : Lined). l.going.session) e)) stands;
       held_is = sym (ap (λ (l : Lined). l.going.held) e);
@@ -135,6 +158,7 @@ runs_on desc g i room room' all v w held next feed feed' left left' before mid a
       split = r.split ∙ ap (λ (ls : List (List ℕ)). r.done ++ ls) (lines_step r.rest t.some) ∙ sym (append_assoc r.done (l ∷ []) (raw_lines (after_line r.rest)));
       count = omega (arith, length-append r.done (l ∷ []), r.count);
       bytes = omega (arith, bytes_on r.done (l ∷ []), r.bytes, t.bytes);
+      whole = joined_step all r.rest r.done r.whole;
       roomy = ap (λ (x : Lined). x.full) e;
       stands = subst (λ (x : Session). Stands w x) (sym (ap (λ (x : Lined). x.going.session) e)) t.goes.session;
       held_is = t.goes.held_is ∙ sym (ap (λ (x : Lined). x.going.held) e);
@@ -198,6 +222,19 @@ runs_held desc db first i room all v held feed left before mid after r same some
       took = runs_took desc db first i room all v held feed left before mid after r same;
       full = ap (λ (ls : List (List ℕ)). (script_run desc db first ls).full) t ∙ ap (λ (l : Lined). l.full) (run_on desc g r.done (first_line r.rest ∷ []) r.roomy) ∙ ap (λ (l : Lined). l.full) (run_full desc (lines_run desc g r.done).going (first_line r.rest) [] full) ∙ full;
     }
+
+-- taking from the input failed
+pub runs_cut : (desc : Described) (db : Db) (first : ℕ) (i room : ℕ) (all : List ℕ) (v : View) (held : List Held) (feed : List ℕ) (left left' : Option (List ℕ)) (before mid after : Option (List ℕ))
+    (r : Runs desc (begun db first) i room all v held feed left before mid) → Prints mid after [] → CutLine left' r.rest → CutInput desc db first all left' before after
+runs_cut desc db first i room all v held feed left left' before mid after r same cut = record {
+  n = i;
+  took = runs_took desc db first i room all v held feed left before mid after r same;
+  part = cut.part;
+  rest = cut.rest;
+  whole = r.whole ∙ ap (λ (x : List ℕ). joined r.done ++ x) cut.whole ∙ ap (λ (ls : List (List ℕ)). joined ls ++ (cut.part ++ cut.rest)) (sym (taken all r.done (raw_lines r.rest) i r.split r.count));
+  left_is = cut.left_is;
+  unended = cut.unended;
+}
 
 lines_none : (rest : List ℕ) → rest ≡ [] → raw_lines rest ≡ []
 lines_none rest none = ap raw_lines none

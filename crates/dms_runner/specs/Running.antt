@@ -1,9 +1,10 @@
 -- What a run leaves of a script: how far it came, and what it said.
-use Rattle.std.specs.Prelude.{◌≡◌, ◌≢◌, ◌<◌, ◌≤◌, ◌+◌, ℕ, List, [], ◌∷◌, true, false, length, take}
+use Rattle.std.specs.Prelude.{◌≡◌, ◌≢◌, ◌<◌, ◌≤◌, ◌+◌, ℕ, List, [], ◌∷◌, ◌++◌, Some, true, false, length, take}
 use Rattle.std.specs.declared.option.Option.{Option}
 use Rattle.dms_desc.specs.Shape.{Described}
 use Rattle.dms_feed.specs.Feeds.{Remains}
-use Rattle.dms_feed.specs.Lines.{first_line, after_line}
+use Rattle.dms_feed.specs.Lines.{first_line, after_line, raw_lines}
+use Rattle.dms_feed.specs.Raws.{IsUnended}
 use Rattle.dms_model.specs.Db.{Db}
 use Rattle.dms_model.specs.Points.{Prints}
 use Rattle.dms_storeverbs.specs.View.{View}
@@ -15,6 +16,11 @@ use Rattle.dms_runner.specs.Trying.{GoesOn}
 abbrev pub bytes_of : List (List ℕ) → ℕ
 bytes_of [] = 0
 bytes_of (l ∷ ls) = length l + bytes_of ls
+
+-- these lines, one after another
+abbrev pub joined : List (List ℕ) → List ℕ
+joined [] = []
+joined (l ∷ ls) = l ++ joined ls
 
 -- the first line of the input was taken, and there was room for its bytes
 pub record TookLine (desc : Described) (g : Going) (all : List ℕ) (room room' : ℕ) (now : View) (held : List Held) (feed : List ℕ) (left : Option (List ℕ)) (before after : Option (List ℕ)) : Type 0 where
@@ -52,3 +58,14 @@ pub record PassesHeld (desc : Described) (db : Db) (first : ℕ) (lines : List (
   pub n : ℕ
   pub took : Took desc db first lines n before after
   pub full : (script_run desc db first (take (n + 1) lines)).full ≡ true
+
+-- taking from the input failed: so many whole lines were taken, and what they answer was said; a part of the next line was
+-- taken too, without its line feed, and the rest of the input is left
+pub record CutInput (desc : Described) (db : Db) (first : ℕ) (all : List ℕ) (left : Option (List ℕ)) (before after : Option (List ℕ)) : Type 0 where
+  pub n : ℕ
+  pub took : Took desc db first (raw_lines all) n before after
+  pub part : List ℕ
+  pub rest : List ℕ
+  pub whole : all ≡ joined (take n (raw_lines all)) ++ (part ++ rest)
+  pub left_is : left ≡ Some rest
+  pub unended : IsUnended part

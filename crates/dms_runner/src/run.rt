@@ -4,12 +4,13 @@ ghost use Rattle.dms_base.specs.Causes.{Rose};
 ghost use Rattle.dms_desc.specs.Shape.{described};
 ghost use Rattle.dms_feed.specs.Feeds.{Remains};
 ghost use Rattle.dms_feed.specs.Lines.{raw_lines, first_line};
+ghost use Rattle.dms_feed.specs.Raws.{CutLine};
 ghost use Rattle.dms_model.specs.Db.{Db};
 ghost use Rattle.dms_model.specs.Points.{Prints, PrintsFront};
 ghost use Rattle.dms_model.specs.Session.{fresh_session};
 ghost use Rattle.dms_storeverbs.specs.View.{view, Stands};
 ghost use Rattle.dms_runner.specs.Answers.{Going, Roomy, line_step, lines_run, unanswered, answers_text};
-ghost use Rattle.dms_runner.specs.Running.{TookLine, Answered, PassesLines, PassesBytes, PassesHeld};
+ghost use Rattle.dms_runner.specs.Running.{TookLine, Answered, PassesLines, PassesBytes, PassesHeld, CutInput};
 
 use crate::Held;
 use crate::lines::take_line;
@@ -122,6 +123,7 @@ fn one_line<St: Store, I: Source>(
     ensures bytes { IsErrOf result RunFault.Bytes → (St.said engine.new.store ≡ St.said engine.old.store) × ((all : List ℕ) → Remains feed.old (I.left source.old) all → room.old < length (first_line all)) }
     ensures full_list { IsErrOf result RunFault.Held → (g : Going) (all : List ℕ) → Stands (view (St.db engine.old.store) (St.mark engine.old.store) (St.next engine.old.store) engine.old.programs.items engine.old.pending engine.old.since) g.session → g.held ≡ held.old.items → g.line ≡ line → Roomy g → Remains feed.old (I.left source.old) all → Prints (St.said engine.old.store) (St.said engine.new.store) [] × (all ≢ []) × ((line_step (described engine.old.desc) g (first_line all)).full ≡ true) }
     ensures no_lines { IsErrOf result RunFault.Lines → ⊥ }
+    ensures failed { IsErrOf result RunFault.Input → (St.said engine.new.store ≡ St.said engine.old.store) × ((all : List ℕ) → Remains feed.old (I.left source.old) all → CutLine (I.left source.new) all) }
     ensures rest { OnOk result ((all : List ℕ) → Remains feed.old (I.left source.old) all → (rest : List ℕ) × Remains feed.new (I.left source.new) rest) }
     ensures sound { OnOk result (St.sound engine.new.store) }
     ensures description { engine.new.desc ≡ engine.old.desc }
@@ -157,6 +159,7 @@ fn one_line<St: Store, I: Source>(
 fn after_last<I: Source>(alloc: Global, feed: &mut Feed, source: &mut I) -> Result<(), RunFault>
     ensures end { OnOk result ((all : List ℕ) → Remains feed.old (I.left source.old) all → (all ≡ []) × Remains feed.new (I.left source.new) []) }
     ensures lines { IsErrOf result RunFault.Lines → (all : List ℕ) → Remains feed.old (I.left source.old) all → all ≢ [] }
+    ensures failed { IsErrOf result RunFault.Input → (all : List ℕ) → Remains feed.old (I.left source.old) all → CutLine (I.left source.new) all }
     ensures limits { (IsErrOf result RunFault.Bytes → ⊥) × (IsErrOf result RunFault.Held → ⊥) }
     ensures same_source { I.same_source source.old source.new }
     ensures taken { I.faults source.old ≤ I.faults source.new }
@@ -174,7 +177,8 @@ fn after_last<I: Source>(alloc: Global, feed: &mut Feed, source: &mut I) -> Resu
 
 /// Runs the lines that a feed and its source have left, and prints what they answer. At the end each
 /// line that is still held is answered, and the database goes back to the last quiet point where a
-/// program is in transaction state.
+/// program is in transaction state. Where taking from the source fails, the whole lines before that place are answered, and no
+/// held line is.
 pub fn run_lines<St: Store, I: Source>(
     alloc: Global,
     engine: &mut Engine<St>,
@@ -188,6 +192,7 @@ pub fn run_lines<St: Store, I: Source>(
     ensures lines { IsErrOf result RunFault.Lines → (db : Db) (first : ℕ) (all : List ℕ) → Stands (view (St.db engine.old.store) (St.mark engine.old.store) (St.next engine.old.store) engine.old.programs.items engine.old.pending engine.old.since) (fresh_session db first) → first + 1000003 < 2 ^ 64 → Remains feed.old (I.left source.old) all → PassesLines (described engine.old.desc) db first (raw_lines all) (St.said engine.old.store) (St.said engine.new.store) }
     ensures bytes { IsErrOf result RunFault.Bytes → (db : Db) (first : ℕ) (all : List ℕ) → Stands (view (St.db engine.old.store) (St.mark engine.old.store) (St.next engine.old.store) engine.old.programs.items engine.old.pending engine.old.since) (fresh_session db first) → first + 1000003 < 2 ^ 64 → Remains feed.old (I.left source.old) all → PassesBytes (described engine.old.desc) db first (raw_lines all) (St.said engine.old.store) (St.said engine.new.store) }
     ensures full_list { IsErrOf result RunFault.Held → (db : Db) (first : ℕ) (all : List ℕ) → Stands (view (St.db engine.old.store) (St.mark engine.old.store) (St.next engine.old.store) engine.old.programs.items engine.old.pending engine.old.since) (fresh_session db first) → first + 1000003 < 2 ^ 64 → Remains feed.old (I.left source.old) all → PassesHeld (described engine.old.desc) db first (raw_lines all) (St.said engine.old.store) (St.said engine.new.store) }
+    ensures failed { IsErrOf result RunFault.Input → (db : Db) (first : ℕ) (all : List ℕ) → Stands (view (St.db engine.old.store) (St.mark engine.old.store) (St.next engine.old.store) engine.old.programs.items engine.old.pending engine.old.since) (fresh_session db first) → first + 1000003 < 2 ^ 64 → Remains feed.old (I.left source.old) all → CutInput (described engine.old.desc) db first all (I.left source.new) (St.said engine.old.store) (St.said engine.new.store) }
     ensures sound { OnOk result (St.sound engine.new.store) }
     ensures description { engine.new.desc ≡ engine.old.desc }
     ensures desc { St.desc engine.new.store ≡ St.desc engine.old.store }

@@ -1,3 +1,4 @@
+pub mod Cutting
 pub mod Judgements
 pub mod Printing
 pub mod Sealed

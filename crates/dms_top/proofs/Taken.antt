@@ -6,8 +6,11 @@ use Rattle.std.proofs.lemmas.List.{append-nil, take_all}
 use Rattle.std.proofs.lemmas.Slice.Eq.{bytes_eq-Decides}
 use Rattle.dms_feed.specs.Feeds.{Remains}
 use Rattle.dms_feed.specs.Lines.{raw_lines, first_line, after_line, onto_first, is_end, line_text}
+use Rattle.dms_feed.specs.Raws.{CutLine}
+use Rattle.dms_runner.specs.Running.{joined}
+use Rattle.dms_runner.proofs.Running.{first_joined, joined_on}
 use Rattle.dms_top.specs.Schema.{is_script, schema_part, script_part, schema_text}
-use Rattle.dms_top.specs.Taking.{GoesOn, Ends, IsLong, IsText}
+use Rattle.dms_top.specs.Taking.{Leaves, GoesOn, Ends, IsLong, IsText, CutText}
 
 at_test : (t : Bool) (b : ℕ) (bs : List ℕ) → onto_first b (raw_lines bs) ≡ (b ∷ first_line bs) ∷ raw_lines (after_line bs) → cond t ((b ∷ []) ∷ raw_lines bs) (onto_first b (raw_lines bs)) ≡ cond t (b ∷ []) (b ∷ first_line bs) ∷ raw_lines (cond t bs (after_line bs))
 at_test true b bs h = refl
@@ -76,6 +79,20 @@ line_some (b ∷ bs) some = at (eqb b 10) b bs
     at true b bs = omega arith
     at false b bs = omega arith
 
+-- one line was taken
+leaves_one : (all : List ℕ) → all ≢ [] → Leaves (first_line all ∷ []) all (after_line all)
+leaves_one all some = record { lines = lines_step all some; whole = sym (first_joined all) ∙ ap (λ (l : List ℕ). l ++ after_line all) (sym (append-nil (first_line all))) }
+
+-- lines, and then lines
+leaves_on : (a b : List (List ℕ)) (all mid rest : List ℕ) → Leaves a all mid → Leaves b mid rest → Leaves (a ++ b) all rest
+leaves_on a b all mid rest p q = record {
+  lines = p.lines ∙ ap (λ (ls : List (List ℕ)). a ++ ls) q.lines ∙ sym (append_assoc a b (raw_lines rest));
+  whole = p.whole ∙ ap (λ (x : List ℕ). joined a ++ x) q.whole ∙ sym (append_assoc (joined a) (joined b) rest) ∙ ap (λ (x : List ℕ). x ++ rest) (sym (joined_on a b));
+}
+
+leaves_none : (all : List ℕ) → all ≡ [] → Leaves [] all (after_line all)
+leaves_none all none = record { lines = ap raw_lines none ∙ sym (ap (λ (l : List ℕ). raw_lines (after_line l)) none); whole = none ∙ sym (ap after_line none) }
+
 -- a line that isn't SCRIPT was added
 pub goes_on : (all old new kept held : List ℕ) (n : ℕ) (left : Option (List ℕ)) → all ≢ [] → kept ≡ take 1000008 (first_line all) → n ≡ length (first_line all) → n ≤ 1000008
     → is_script kept ≡ false → new ≡ old ++ kept → Remains held left (after_line all) → GoesOn old new all held left
@@ -88,6 +105,8 @@ goes_on all old new kept held n left some is len small other added remains =
       text = ap (λ (t : List ℕ). old ++ t) (text_on all some o) ∙ sym (append_assoc old (first_line all) (schema_text (after_line all))) ∙ ap (λ (k : List ℕ). (old ++ k) ++ schema_text (after_line all)) (sym w) ∙ ap (λ (t : List ℕ). t ++ schema_text (after_line all)) (sym added);
       script = script_on all some o;
       longer = omega (arith, ap length added, length-append old kept, ap length w, line_some all some);
+      leaves = leaves_one all some;
+      other = o;
     }
 
 pub ends_at : (all old kept held : List ℕ) (n : ℕ) (left : Option (List ℕ)) → all ≢ [] → kept ≡ take 1000008 (first_line all) → n ≡ length (first_line all) → n ≤ 1000008
@@ -95,7 +114,16 @@ pub ends_at : (all old kept held : List ℕ) (n : ℕ) (left : Option (List ℕ)
 ends_at all old kept held n left some is len small here remains =
     let w : kept ≡ first_line all = whole (first_line all) kept n is len small in
     let h : is_script (first_line all) ≡ true = ap is_script (sym w) ∙ here in
-    record { rest = after_line all; remains = remains; text = refl; none = text_here all some h; script = sym (script_here all some h) }
+    record {
+      rest = after_line all;
+      remains = remains;
+      text = refl;
+      none = text_here all some h;
+      script = sym (script_here all some h);
+      done = first_line all ∷ [];
+      leaves = leaves_one all some;
+      behind = λ i. ap (λ (t : Bool). cond t (take i (raw_lines (after_line all))) (script_part (take i (raw_lines (after_line all))))) h;
+    }
 
 pub ends_none : (all old held : List ℕ) (left : Option (List ℕ)) → all ≡ [] → Remains held left (after_line all) → Ends old old all held left
 ends_none all old held left none remains = record {
@@ -104,6 +132,11 @@ ends_none all old held left none remains = record {
   text = refl;
   none = ap schema_text none;
   script = ap (λ (l : List ℕ). raw_lines (after_line l)) none ∙ sym (ap (λ (l : List ℕ). script_part (raw_lines l)) none);
+  done = [];
+  leaves = leaves_none all none;
+  behind = λ i.
+      let e : take i (raw_lines (after_line all)) ≡ [] = ap (λ (l : List ℕ). take i (raw_lines (after_line l))) none ∙ take_all {A = List ℕ} i [] (omega arith) in
+      ap script_part e ∙ sym e;
 }
 
 -- the text is too long already
@@ -121,12 +154,26 @@ pub record Reaches (n : ℕ) (text all held : List ℕ) (left : Option (List ℕ
   pub is : schema_text all ≡ text ++ schema_text rest
   pub script : script_part (raw_lines all) ≡ script_part (raw_lines rest)
   pub grown : n ≤ length text
+  pub done : List (List ℕ)
+  pub leaves : Leaves done all rest
+  pub before : (ls : List (List ℕ)) → script_part (done ++ ls) ≡ script_part ls
 
 pub reaches_start : (all held : List ℕ) (left : Option (List ℕ)) → Remains held left all → Reaches 0 [] all held left
-reaches_start all held left remains = record { rest = all; remains = remains; is = refl; script = refl; grown = omega arith }
+reaches_start all held left remains = record { rest = all; remains = remains; is = refl; script = refl; grown = omega arith; done = []; leaves = record { lines = refl; whole = refl }; before = λ ls. refl }
 
 pub reaches_on : (n : ℕ) (old new all held held' : List ℕ) (left left' : Option (List ℕ)) (r : Reaches n old all held left) → GoesOn old new r.rest held' left' → Reaches (n + 1) new all held' left'
-reaches_on n old new all held held' left left' r g = record { rest = g.rest; remains = g.remains; is = r.is ∙ g.text; script = r.script ∙ g.script; grown = omega (arith, r.grown, g.longer) }
+reaches_on n old new all held held' left left' r g =
+    let l = first_line r.rest in
+    record {
+      rest = g.rest;
+      remains = g.remains;
+      is = r.is ∙ g.text;
+      script = r.script ∙ g.script;
+      grown = omega (arith, r.grown, g.longer);
+      done = r.done ++ l ∷ [];
+      leaves = leaves_on r.done (l ∷ []) all r.rest g.rest r.leaves g.leaves;
+      before = λ ls. ap script_part (append_assoc r.done (l ∷ []) ls) ∙ r.before (l ∷ ls) ∙ ap (λ (t : Bool). cond t ls (script_part ls)) g.other;
+    }
 
 pub reaches_end : (n : ℕ) (old new all held held' : List ℕ) (left left' : Option (List ℕ)) (r : Reaches n old all held left) → Ends old new r.rest held' left' → IsText new all held' left'
 reaches_end n old new all held held' left left' r e = record {
@@ -134,6 +181,21 @@ reaches_end n old new all held held' left left' r e = record {
   rest = e.rest;
   remains = e.remains;
   script = e.script ∙ sym r.script;
+  done = r.done ++ e.done;
+  leaves = leaves_on r.done e.done all r.rest e.rest r.leaves e.leaves;
+  behind = λ i.
+      let ls = take i (raw_lines e.rest) in
+      ap script_part (append_assoc r.done e.done ls) ∙ r.before (e.done ++ ls) ∙ e.behind i;
+}
+
+-- taking failed
+pub reaches_cut : (n : ℕ) (old all held : List ℕ) (left left' : Option (List ℕ)) (r : Reaches n old all held left) → CutLine left' r.rest → CutText all left'
+reaches_cut n old all held left left' r cut = record {
+  done = r.done;
+  rest = r.rest;
+  leaves = r.leaves;
+  none = ap script_part (sym (append-nil r.done)) ∙ r.before [];
+  cut = cut;
 }
 
 pub reaches_long : (n : ℕ) (old all held : List ℕ) (left : Option (List ℕ)) (r : Reaches n old all held left) → IsLong old r.rest → 1000000 < length (schema_text all)

@@ -1,12 +1,14 @@
 -- What `try` prints.
 use Rattle.std.specs.Prelude.{◌≡◌, ◌≤◌, ℕ, List, [], ◌++◌, Some, take, length, false}
+use Rattle.std.specs.declared.option.Option.{Option}
 use Rattle.std.specs.declared.result.Result.{Result}
 use Rattle.std.specs.declared.result.Result.TheVariants.{Ok, Err}
 use Rattle.dms_desc.specs.Shape.{Described}
 use Rattle.dms_feed.specs.Lines.{raw_lines}
+use Rattle.dms_feed.specs.Raws.{IsUnended}
 use Rattle.dms_model.specs.Db.{empty_db}
 use Rattle.dms_runner.specs.Answers.{script_run, answers_text}
-use Rattle.dms_runner.specs.Running.{bytes_of, PassesLines, PassesBytes, PassesHeld}
+use Rattle.dms_runner.specs.Running.{bytes_of, joined, PassesLines, PassesBytes, PassesHeld}
 use Rattle.dms_top.specs.declared.status.SchemaFault.{SchemaFault}
 use Rattle.dms_top.specs.declared.status.LimitKind.{LimitKind}
 use Rattle.dms_top.specs.declared.status.LimitKind.TheVariants.{Lines, Bytes, Held}
@@ -45,3 +47,16 @@ abbrev pub Passes : LimitKind → Described → List (List ℕ) → List ℕ →
 Passes Lines d lines before after = PassesLines d empty_db 1 lines (Some before) (Some after)
 Passes Bytes d lines before after = PassesBytes d empty_db 1 lines (Some before) (Some after)
 Passes Held d lines before after = PassesHeld d empty_db 1 lines (Some before) (Some after)
+
+-- taking from the input failed: so many whole lines of it were taken, and what those among them answer that are lines of
+-- the script was printed; a part of the next line was taken too, without its line feed, and the rest of the input is left
+pub record CutTry (d : Described) (input : List ℕ) (left : Option (List ℕ)) (before after : List ℕ) : Type 0 where
+  pub n : ℕ
+  pub within : n ≤ length (raw_lines input)
+  pub part : List ℕ
+  pub rest : List ℕ
+  pub whole : input ≡ joined (take n (raw_lines input)) ++ (part ++ rest)
+  pub left_is : left ≡ Some rest
+  pub unended : IsUnended part
+  pub room : (script_run d empty_db 1 (script_part (take n (raw_lines input)))).full ≡ false
+  pub text : Printed before after (script_run d empty_db 1 (script_part (take n (raw_lines input)))).text

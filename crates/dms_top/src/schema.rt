@@ -2,7 +2,8 @@ ghost use Rattle.std.specs.Prelude.{◌≡◌, ◌≤◌, ◌<◌, [], ℕ, List
 ghost use Rattle.dms_base.specs.Causes.{Rose};
 ghost use Rattle.dms_feed.specs.Feeds.{Remains};
 ghost use Rattle.dms_top.specs.Schema.{is_script, schema_text as text_of};
-ghost use Rattle.dms_top.specs.Taking.{Took, IsLong, IsText};
+ghost use Rattle.dms_feed.specs.Raws.{CutLine};
+ghost use Rattle.dms_top.specs.Taking.{Took, IsLong, IsText, CutText};
 
 use dms_base::Bytes;
 use dms_feed::{Feed, RawFault, line_text, next_raw};
@@ -39,6 +40,7 @@ fn schema_line<I: Source>(
 ) -> Result<bool, TextFault>
     ensures line { IfOk result (λ more. (all : List ℕ) → Remains feed.old (I.left source.old) all → Took more text.old text.new all feed.new (I.left source.new)) }
     ensures long { IsErrOf result TextFault.Long → (all : List ℕ) → Remains feed.old (I.left source.old) all → IsLong text.old all }
+    ensures failed { IsErrOf result TextFault.Input → (all : List ℕ) → Remains feed.old (I.left source.old) all → CutLine (I.left source.new) all }
     ensures same { I.same_source source.old source.new }
     ensures later { I.faults source.old ≤ I.faults source.new }
     ensures input { IsErrOf result TextFault.Input → Rose (I.faults source.old) (I.faults source.new) }
@@ -72,6 +74,7 @@ pub fn schema_text<I: Source>(
 ) -> Result<Bytes, TextFault>
     ensures text { IfOk result (λ text. (all : List ℕ) → Remains feed.old (I.left source.old) all → IsText text all feed.new (I.left source.new)) }
     ensures long { IsErrOf result TextFault.Long → (all : List ℕ) → Remains feed.old (I.left source.old) all → 1000000 < length (text_of all) }
+    ensures failed { IsErrOf result TextFault.Input → (all : List ℕ) → Remains feed.old (I.left source.old) all → CutText all (I.left source.new) }
     ensures same { I.same_source source.old source.new }
     ensures later { I.faults source.old ≤ I.faults source.new }
     ensures input { IsErrOf result TextFault.Input → Rose (I.faults source.old) (I.faults source.new) }

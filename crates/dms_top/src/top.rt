@@ -7,7 +7,7 @@ ghost use Rattle.dms_top.specs.Compiling.{compiled_text, Says, IsSpoken, IsBefor
 ghost use Rattle.dms_top.specs.declared.status.SchemaFault.{SchemaFault as Refusal};
 ghost use Rattle.dms_top.specs.Judging.{judged};
 ghost use Rattle.dms_top.specs.Schema.{schema_text as text_of};
-ghost use Rattle.dms_top.specs.Answering.{Printed, PrintedFront, WithinLimits, Passes, try_text, script_of};
+ghost use Rattle.dms_top.specs.Answering.{Printed, PrintedFront, WithinLimits, Passes, CutTry, try_text, script_of};
 ghost use Rattle.dms_top.specs.declared.status.LimitKind.{LimitKind as Kind};
 ghost use Rattle.dms_top.specs.Words.{IsTry, IsCompile, IsCommand, IsPast, IsSilent};
 
@@ -51,6 +51,7 @@ fn try_input<S: Site, I: Source>(alloc: Global, site: &mut S, input: &mut I) -> 
     ensures silent { IsTrue S.tells_said → IsSilent result → S.said site.new ≡ S.said site.old }
     ensures within { result ≡ Status.Ok → IsTrue S.tells_said → (all : List ℕ) (d : Described) → I.left input.old ≡ Some all → judged (text_of all) ≡ Ok d → WithinLimits d (script_of all) }
     ensures limit { (k : Kind) → result ≡ Status.Limit k → IsTrue S.tells_said → (all : List ℕ) (d : Described) → I.left input.old ≡ Some all → judged (text_of all) ≡ Ok d → Passes k d (script_of all) (S.said site.old) (S.said site.new) }
+    ensures input_cut { result ≡ Status.InputFault → IsTrue S.tells_said → (all : List ℕ) (d : Described) → I.left input.old ≡ Some all → judged (text_of all) ≡ Ok d → CutTry d all (I.left input.new) (S.said site.old) (S.said site.new) }
     ensures input_later { I.faults input.old ≤ I.faults input.new }
     ensures same_source { I.same_source input.old input.new }
 {
@@ -97,6 +98,7 @@ pub fn dms<S: Site, I: Source>(
     ensures silent { IsTry (map string_bytes words.now) → IsTrue S.tells_said → IsSilent result → S.said site.new ≡ S.said site.old }
     ensures within { IsTry (map string_bytes words.now) → result ≡ Status.Ok → IsTrue S.tells_said → (all : List ℕ) (d : Described) → I.left input.old ≡ Some all → judged (text_of all) ≡ Ok d → WithinLimits d (script_of all) }
     ensures limit { IsTry (map string_bytes words.now) → (k : Kind) → result ≡ Status.Limit k → IsTrue S.tells_said → (all : List ℕ) (d : Described) → I.left input.old ≡ Some all → judged (text_of all) ≡ Ok d → Passes k d (script_of all) (S.said site.old) (S.said site.new) }
+    ensures input_cut { IsTry (map string_bytes words.now) → result ≡ Status.InputFault → IsTrue S.tells_said → (all : List ℕ) (d : Described) → I.left input.old ≡ Some all → judged (text_of all) ≡ Ok d → CutTry d all (I.left input.new) (S.said site.old) (S.said site.new) }
     ensures no_file_exists { IsTry (map string_bytes words.now) → result ≢ Status.Exists }
     // `compile`
     ensures compile_limit { IsCompile (map string_bytes words.now) → (k : Kind) → result ≢ Status.Limit k }

@@ -1,10 +1,11 @@
-ghost use Rattle.std.specs.Prelude.{◌≡◌, ◌≢◌, ◌≤◌, [], ℕ, List, IsTrue, IsOk, IsErrOf};
+ghost use Rattle.std.specs.Prelude.{◌≡◌, ◌≢◌, ◌≤◌, [], ℕ, List, Some, IsTrue, IsOk, IsErrOf};
 ghost use Rattle.dms_base.specs.Causes.{Rose};
 ghost use Rattle.dms_desc.specs.Shape.{described};
 ghost use Rattle.dms_feed.specs.Feeds.{Remains};
 ghost use Rattle.dms_feed.specs.Lines.{raw_lines};
 ghost use Rattle.dms_model.specs.Db.{empty_db};
 ghost use Rattle.dms_runner.specs.Answers.{answers_text};
+ghost use Rattle.dms_runner.specs.Running.{CutInput};
 ghost use Rattle.dms_top.specs.Answering.{Printed, PrintedFront, WithinLimits, Passes};
 ghost use Rattle.dms_top.specs.declared.status.LimitKind.{LimitKind as Kind};
 ghost use Rattle.dms_top.specs.Words.{IsSilent};
@@ -78,6 +79,7 @@ pub fn try_lines<S: Site, I: Source>(
     ensures answers { result ≡ Status.Ok → IsTrue S.tells_said → (all : List ℕ) → Remains feed.old (I.left source.old) all → Printed (S.said site.old) (S.said site.new) (answers_text (described desc.now) empty_db 1 (raw_lines all)) × WithinLimits (described desc.now) (raw_lines all) }
     ensures part { IsTrue S.tells_said → (all : List ℕ) → Remains feed.old (I.left source.old) all → PrintedFront (S.said site.old) (S.said site.new) (answers_text (described desc.now) empty_db 1 (raw_lines all)) }
     ensures limit { (k : Kind) → result ≡ Status.Limit k → IsTrue S.tells_said → (all : List ℕ) → Remains feed.old (I.left source.old) all → Passes k (described desc.now) (raw_lines all) (S.said site.old) (S.said site.new) }
+    ensures input_cut { result ≡ Status.InputFault → IsTrue S.tells_said → (all : List ℕ) → Remains feed.old (I.left source.old) all → CutInput (described desc.now) empty_db 1 all (I.left source.new) (Some (S.said site.old)) (Some (S.said site.new)) }
     ensures input { result ≡ Status.InputFault → Rose (I.faults source.old) (I.faults source.new) }
     ensures disk { result ≡ Status.DiskFault → Rose (S.disk_faults site.old) (S.disk_faults site.new) }
     ensures say { result ≡ Status.SayFault → Rose (S.say_faults site.old) (S.say_faults site.new) }

@@ -6,10 +6,10 @@ use Rattle.dms_model.specs.Points.{Prints, PrintsFront}
 use Rattle.dms_storeverbs.specs.View.{view}
 use Rattle.dms_runner.specs.declared.held.Held.{Held}
 use Rattle.dms_runner.specs.Answers.{begun, lines_run, unanswered, answers_text}
-use Rattle.dms_runner.specs.Running.{PassesBytes, PassesHeld}
+use Rattle.dms_runner.specs.Running.{PassesBytes, PassesHeld, CutInput}
 use Rattle.dms_runner.proofs.Always.{always_ok, then_on, fault_as}
 use Rattle.dms_runner.proofs.Texts.{front_none, front_before, prints_none, prints_before}
-use Rattle.dms_runner.proofs.Running.{Runs, runs_start, runs_room, runs_on, runs_lines, runs_bytes, runs_held, runs_end, runs_part, runs_end_part}
+use Rattle.dms_runner.proofs.Running.{Runs, runs_start, runs_room, runs_on, runs_lines, runs_bytes, runs_held, runs_cut, runs_end, runs_part, runs_end_part}
 use Rattle.dms_runner.proofs.run.run_lines.Goals as goal
 
 pub loop-line-init : goal.loop-line-init
@@ -51,6 +51,12 @@ returns-in-Err-clause-full_list g c = λ e db first all stands small remains.
     let f = c.in-Err.ensures.full_list (fault_as _ _ c.in-Err.fault _ refl refl e) (lines_run (described c.loop-line.engine.desc) (begun db first) r.done).going r.rest r.stands (sym r.held_is) r.line (runs_room (described c.loop-line.engine.desc) db first _ _ all _ _ _ _ _ _ r (omega (arith, c.loop-line-test.true)) small) r.remains in
     subst (λ (d : Description). PassesHeld (described d) db first (raw_lines all) (g.St.Store.said c.args.engine.now.store) (g.St.Store.said c.one_line.new.engine.store)) c.loop-line.invariant.description (runs_held _ db first _ _ all _ _ _ _ _ _ _ r f.0 f.1 f.2)
 
+pub returns-in-Err-clause-failed : goal.returns-in-Err-clause-failed
+returns-in-Err-clause-failed g c = λ e db first all stands small remains.
+    let r = subst (λ (d : Description). Runs (described d) (begun db first) c.loop-line.line c.loop-line.room all (view (g.St.Store.db c.loop-line.engine.store) (g.St.Store.mark c.loop-line.engine.store) (g.St.Store.next c.loop-line.engine.store) c.loop-line.engine.programs.items c.loop-line.engine.pending c.loop-line.engine.since) c.loop-line.held.items c.loop-line.feed (g.I.Source.left c.loop-line.source) (g.St.Store.said c.args.engine.now.store) (g.St.Store.said c.loop-line.engine.store)) (sym c.loop-line.invariant.description) (c.loop-line.invariant.runs db first all stands small remains) in
+    let b = c.in-Err.ensures.failed (fault_as _ _ c.in-Err.fault _ refl refl e) in
+    subst (λ (d : Description). CutInput (described d) db first all (g.I.Source.left c.one_line.new.source) (g.St.Store.said c.args.engine.now.store) (g.St.Store.said c.one_line.new.engine.store)) c.loop-line.invariant.description (runs_cut _ db first _ _ all _ _ _ _ _ _ _ _ r (prints_none _ _ b.0) (b.1 r.rest r.remains))
+
 pub returns-in-Ok-false-clause-answers : goal.returns-in-Ok-false-clause-answers
 returns-in-Ok-false-clause-answers g c = then_on c.end_run.result _ _ (λ text.
     λ db first all stands small remains.
@@ -74,6 +80,9 @@ returns-in-Ok-false-clause-bytes g c = λ e. absurd (c.end_run.ensures.limits.1 
 
 pub returns-in-Ok-false-clause-full_list : goal.returns-in-Ok-false-clause-full_list
 returns-in-Ok-false-clause-full_list g c = λ e. absurd (c.end_run.ensures.limits.2 e)
+
+pub returns-in-Ok-false-clause-failed : goal.returns-in-Ok-false-clause-failed
+returns-in-Ok-false-clause-failed g c = λ e. absurd (c.end_run.ensures.input e)
 
 pub returns-in-Ok-false-clause-end : goal.returns-in-Ok-false-clause-end
 returns-in-Ok-false-clause-end g c = always_ok c.end_run.result _ (λ all remains.
@@ -117,6 +126,11 @@ returns-in-Err-after_last-clause-lines g c = λ e db first all stands small rema
     let r = c.loop-line.invariant.runs db first all stands small remains in
     runs_lines _ db first _ _ all _ _ _ _ _ _ _ r (prints_none _ _ refl) (omega (arith, c.loop-line-test.false, c.loop-line.invariant.few)) (c.in-Err-after_last.ensures.lines e r.rest r.remains)
 
+pub returns-in-Err-after_last-clause-failed : goal.returns-in-Err-after_last-clause-failed
+returns-in-Err-after_last-clause-failed g c = λ e db first all stands small remains.
+    let r = c.loop-line.invariant.runs db first all stands small remains in
+    runs_cut _ db first _ _ all _ _ _ _ _ _ _ _ r (prints_none _ _ refl) (c.in-Err-after_last.ensures.failed e r.rest r.remains)
+
 pub returns-in-Err-after_last-clause-bytes : goal.returns-in-Err-after_last-clause-bytes
 returns-in-Err-after_last-clause-bytes g c = λ e. absurd (c.in-Err-after_last.ensures.limits.0 e)
 
@@ -147,6 +161,9 @@ returns-clause-bytes g c = λ e. absurd (c.end_run-2.ensures.limits.1 e)
 
 pub returns-clause-full_list : goal.returns-clause-full_list
 returns-clause-full_list g c = λ e. absurd (c.end_run-2.ensures.limits.2 e)
+
+pub returns-clause-failed : goal.returns-clause-failed
+returns-clause-failed g c = λ e. absurd (c.end_run-2.ensures.input e)
 
 pub returns-clause-same : goal.returns-clause-same
 returns-clause-same g c = g.met.St.Store.same_then _ _ _ c.loop-line.invariant.same c.end_run-2.ensures.same

@@ -1,11 +1,16 @@
 use Rattle.std.proofs.Common.{Err, ap, arith}
-use Rattle.dms_top.proofs.Taken.{reaches_on, reaches_end, reaches_long, reaches_over}
+use Rattle.dms_top.proofs.Taken.{reaches_on, reaches_end, reaches_long, reaches_over, reaches_cut}
 use Rattle.dms_top.proofs.schema.schema_text.Goals as goal
 
 pub returns-in-Err-Long-clause-long : goal.returns-in-Err-Long-clause-long
 returns-in-Err-Long-clause-long g c = λ _ all remains.
     let r = c.loop-line.invariant.reaches all remains in
     reaches_long _ _ all _ _ r (c.in-Err-Long.ensures.long (ap Err c.in-Err-Long.field-0-is) r.rest r.remains)
+
+pub returns-in-Err-Input-clause-failed : goal.returns-in-Err-Input-clause-failed
+returns-in-Err-Input-clause-failed g c = λ _ all remains.
+    let r = c.loop-line.invariant.reaches all remains in
+    reaches_cut _ _ all _ _ _ r (c.in-Err-Input.ensures.failed (ap Err c.in-Err-Input.field-0-is) r.rest r.remains)
 
 pub returns-in-Ok-false-clause-text : goal.returns-in-Ok-false-clause-text
 returns-in-Ok-false-clause-text g c = λ all remains.

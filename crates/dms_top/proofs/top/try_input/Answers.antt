@@ -6,6 +6,7 @@ use Rattle.dms_top.specs.Answering.{try_text, script_of}
 use Rattle.dms_top.specs.Schema.{schema_text}
 use Rattle.dms_top.proofs.Printing.{nothing_printed, printed_moved, front_moved, text_accepted, same_description, within_moved, within_lines, passes_moved, passes_lines}
 use Rattle.dms_top.specs.Judging.{judged}
+use Rattle.dms_top.proofs.Cutting.{cut_text, cut_script, cut_described}
 use Rattle.dms_top.proofs.Judgements.{long_judged, refused_is, ok_of, no_more, at_start}
 use Rattle.dms_top.proofs.top.try_input.Goals as goal
 
@@ -66,6 +67,16 @@ returns-clause-limit g c = λ k limit told all d left is.
     let t = c.in-Ok.ensures.text all (at_start _ _ all c.new-feed.ensures left) in
     let j : judged (schema_text all) ≡ Ok (described c.in-Description.desc) = ap judged (sym t.is ∙ sym c.as_slice.ensures) ∙ c.in-Description.ensures in
     passes_moved k _ _ _ _ _ _ _ refl refl (same_description _ _ d j is) (passes_lines k _ _ _ _ _ t.script (c.try_lines.ensures.limit k limit told t.rest t.remains))
+
+pub returns-in-Err-Input-clause-input_cut : goal.returns-in-Err-Input-clause-input_cut
+returns-in-Err-Input-clause-input_cut g c = λ _ told all d left is.
+    cut_text d all _ _ (c.in-Err-Input.ensures.failed (ap Err c.in-Err-Input.field-0-is) all (at_start _ _ all c.new-feed.ensures left))
+
+pub returns-clause-input_cut : goal.returns-clause-input_cut
+returns-clause-input_cut g c = λ cut told all d left is.
+    let t = c.in-Ok.ensures.text all (at_start _ _ all c.new-feed.ensures left) in
+    let j : judged (schema_text all) ≡ Ok (described c.in-Description.desc) = ap judged (sym t.is ∙ sym c.as_slice.ensures) ∙ c.in-Description.ensures in
+    cut_described _ _ all _ _ _ (same_description _ _ d j is) (cut_script _ t.done all t.rest _ _ _ t.leaves t.behind (c.try_lines.ensures.input_cut cut told t.rest t.remains))
 
 pub returns-clause-silent : goal.returns-clause-silent
 returns-clause-silent g c = λ told silent. absurd (c.try_lines.ensures.spoken silent)

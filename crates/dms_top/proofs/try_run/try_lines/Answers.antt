@@ -1,10 +1,11 @@
-use Rattle.std.proofs.Common.{rules, ◌≡◌, ap, sym, List, ℕ, arith}
+use Rattle.std.proofs.Common.{rules, ◌≡◌, ap, sym, refl, List, ℕ, arith}
 use Rattle.dms_desc.specs.Shape.{Described, described}
 use Rattle.dms_feed.specs.Lines.{raw_lines}
 use Rattle.dms_model.specs.Db.{empty_db}
 use Rattle.dms_runner.specs.Answers.{answers_text}
 use Rattle.dms_top.specs.Answering.{Passes}
 use Rattle.dms_top.proofs.Printing.{told_front, told_answers, told_lines, told_bytes, told_held, stands_at, front_moved, printed_moved, passes_moved, within_moved, on_ok}
+use Rattle.dms_top.proofs.Cutting.{told_cut, cut_moved}
 use Rattle.std.specs.Prelude.{IsTrue}
 use Rattle.dms_feed.specs.Feeds.{Remains}
 use Rattle.dms_top.specs.declared.status.Status.TheVariants.{Limit}
@@ -22,6 +23,11 @@ pub returns-in-Ok-new-clause-answers : goal.returns-in-Ok-new-clause-answers
 returns-in-Ok-new-clause-answers g c = λ ok told all remains.
     let a = told_answers g.S.Site.tells_said (described c.in-Ok-new.engine.desc) (raw_lines all) _ _ told ((on_ok _ _ (c.status_after.ensures.ok ok) c.run_lines-ran.ensures.answers) empty_db 1 all (stands_at _ _ 1 c.in-Ok.ensures.next (c.in-Ok-new.ensures.stands empty_db c.in-Ok.ensures.db)) (omega arith) remains) in
     (printed_moved _ _ _ (g.S.Site.said c.in-Ok-new.engine.store.site.now) (g.S.Site.said c.run_lines-ran.new.engine.store.site.now) (answers_text (described c.in-Ok-new.engine.desc) empty_db 1 (raw_lines all)) (search rules) (search rules) (ap (λ (d : Described). answers_text d empty_db 1 (raw_lines all)) (sym c.in-Ok-new.ensures.described)) a.0, within_moved _ _ _ (sym c.in-Ok-new.ensures.described) a.1)
+
+pub returns-in-Ok-new-clause-input_cut : goal.returns-in-Ok-new-clause-input_cut
+returns-in-Ok-new-clause-input_cut g c = λ is told all remains.
+    let p = c.run_lines-ran.ensures.failed (c.status_after.ensures.input is) empty_db 1 all (stands_at _ _ 1 c.in-Ok.ensures.next (c.in-Ok-new.ensures.stands empty_db c.in-Ok.ensures.db)) (omega arith) remains in
+    cut_moved _ (described c.in-Ok-new.engine.desc) all _ _ _ _ (g.S.Site.said c.in-Ok-new.engine.store.site.now) (g.S.Site.said c.run_lines-ran.new.engine.store.site.now) refl (search rules) (search rules) (sym c.in-Ok-new.ensures.described) (told_cut g.S.Site.tells_said _ all _ _ _ told p)
 
 pub returns-in-Ok-new-clause-limit : goal.returns-in-Ok-new-clause-limit
 returns-in-Ok-new-clause-limit g c = λ k is told all remains.

@@ -1,0 +1,77 @@
+-- What was printed where taking from the input fails.
+use Rattle.std.proofs.Common.{◌≡◌, ◌+◌, ◌≤◌, ℕ, List, [], ◌++◌, Some, Bool, true, false, refl, sym, ap, ◌∙◌, subst, arith, append_assoc, length, length-append, take}
+use Rattle.std.specs.declared.option.Option.{Option}
+use Rattle.std.proofs.Math.Seq.{take-append-add}
+use Rattle.std.proofs.lemmas.List.{append-nil, take_at}
+use Rattle.std.proofs.lemmas.Option.{same_Some}
+use Rattle.dms_desc.specs.Shape.{Described}
+use Rattle.dms_feed.specs.Lines.{raw_lines}
+use Rattle.dms_model.specs.Db.{empty_db}
+use Rattle.dms_plain.specs.Told.{told}
+use Rattle.dms_runner.specs.Answers.{lines_run, script_run}
+use Rattle.dms_runner.specs.Running.{joined, CutInput}
+use Rattle.dms_runner.proofs.Running.{joined_on}
+use Rattle.dms_top.specs.Answering.{Printed, CutTry}
+use Rattle.dms_top.specs.Schema.{script_part}
+use Rattle.dms_top.specs.Taking.{Leaves, IsBehind, CutText}
+
+-- a text that is told
+pub told_cut : (b : Bool) (d : Described) (all : List ℕ) (left : Option (List ℕ)) (before after : List ℕ) → b ≡ true → CutInput d empty_db 1 all left (told b before) (told b after) → CutInput d empty_db 1 all left (Some before) (Some after)
+told_cut b d all left before after is p = subst (λ (t : Bool). CutInput d empty_db 1 all left (told t before) (told t after)) is p
+
+-- the same texts
+pub cut_moved : (d d' : Described) (all : List ℕ) (left left' : Option (List ℕ)) (before after before' after' : List ℕ) → left ≡ left' → after ≡ after' → before ≡ before' → d ≡ d'
+    → CutInput d' empty_db 1 all left' (Some before') (Some after') → CutInput d empty_db 1 all left (Some before) (Some after)
+cut_moved d d' all left left' before after before' after' l a b e p =
+    subst (λ (x : Option (List ℕ)). CutInput d empty_db 1 all x (Some before) (Some after)) (sym l)
+    (subst (λ (x : List ℕ). CutInput d empty_db 1 all left' (Some before) (Some x)) (sym a)
+    (subst (λ (x : List ℕ). CutInput d empty_db 1 all left' (Some x) (Some after')) (sym b)
+    (subst (λ (x : Described). CutInput x empty_db 1 all left' (Some before') (Some after')) (sym e) p)))
+
+pub cut_described : (d d' : Described) (all : List ℕ) (left : Option (List ℕ)) (before after : List ℕ) → d ≡ d' → CutTry d' all left before after → CutTry d all left before after
+cut_described d d' all left before after e p = subst (λ (x : Described). CutTry x all left before after) (sym e) p
+
+no_lines : (d : Described) (said : List ℕ) → (script_run d empty_db 1 []).full ≡ false
+unfolding lines_run
+no_lines d said = refl
+
+no_text : (d : Described) (said : List ℕ) → Printed said said (script_run d empty_db 1 []).text
+unfolding lines_run
+no_text d said = sym (append-nil said)
+
+-- within the text of the schema: nothing was printed
+pub cut_text : (d : Described) (all : List ℕ) (left : Option (List ℕ)) (said : List ℕ) → CutText all left → CutTry d all left said said
+cut_text d all left said c =
+    let t : take (length c.done) (raw_lines all) ≡ c.done = ap (take (length c.done)) c.leaves.lines ∙ take_at c.done (raw_lines c.rest) (length c.done) refl in
+    let none : script_part (take (length c.done) (raw_lines all)) ≡ [] = ap script_part t ∙ c.none in
+    record {
+      n = length c.done;
+      within = omega (arith, ap length c.leaves.lines, length-append c.done (raw_lines c.rest));
+      part = c.cut.part;
+      rest = c.cut.rest;
+      whole = c.leaves.whole ∙ ap (λ (x : List ℕ). joined c.done ++ x) c.cut.whole ∙ ap (λ (ls : List (List ℕ)). joined ls ++ (c.cut.part ++ c.cut.rest)) (sym t);
+      left_is = c.cut.left_is;
+      unended = c.cut.unended;
+      room = ap (λ (ls : List (List ℕ)). (script_run d empty_db 1 ls).full) none ∙ no_lines d said;
+      text = subst (λ (ls : List (List ℕ)). Printed said said (script_run d empty_db 1 ls).text) (sym none) (no_text d said);
+    }
+
+-- within the script: the lines of the script that were taken are answered
+pub cut_script : (d : Described) (done : List (List ℕ)) (all mid : List ℕ) (left : Option (List ℕ)) (before after : List ℕ) → Leaves done all mid → IsBehind done mid
+    → CutInput d empty_db 1 mid left (Some before) (Some after) → CutTry d all left before after
+cut_script d done all mid left before after leaves behind c =
+    let ls = take c.n (raw_lines mid) in
+    let t : take (length done + c.n) (raw_lines all) ≡ done ++ ls = ap (take (length done + c.n)) leaves.lines ∙ take-append-add done (raw_lines mid) c.n in
+    let s : script_part (take (length done + c.n) (raw_lines all)) ≡ ls = ap script_part t ∙ behind c.n in
+    record {
+      n = length done + c.n;
+      within = omega (arith, ap length leaves.lines, length-append done (raw_lines mid), c.took.within);
+      part = c.part;
+      rest = c.rest;
+      whole = leaves.whole ∙ ap (λ (x : List ℕ). joined done ++ x) c.whole ∙ sym (append_assoc (joined done) (joined ls) (c.part ++ c.rest))
+          ∙ ap (λ (x : List ℕ). x ++ (c.part ++ c.rest)) (sym (joined_on done ls)) ∙ ap (λ (xs : List (List ℕ)). joined xs ++ (c.part ++ c.rest)) (sym t);
+      left_is = c.left_is;
+      unended = c.unended;
+      room = ap (λ (xs : List (List ℕ)). (script_run d empty_db 1 xs).full) s ∙ c.took.room;
+      text = subst (λ (xs : List (List ℕ)). Printed before after (script_run d empty_db 1 xs).text) (sym s) (same_Some _ _ (c.took.text before refl));
+    }
