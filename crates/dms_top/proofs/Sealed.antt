@@ -1,5 +1,5 @@
 -- A description that was compiled and written is a sealed one.
-use Rattle.std.proofs.Common.{◌≡◌, ◌≤◌, ap, sym, ◌∙◌, refl, subst, List, ℕ, Ok, Err, Result, length, nat_le, true, arith}
+use Rattle.std.proofs.Common.{◌≡◌, ◌≤◌, ap, refl, List, ℕ, Ok, Err, Result, length, nat_le, true, arith}
 use Rattle.std.proofs.lemmas.Bool.Decides.{nat_tests}
 use Rattle.dasdl_parse.specs.declared.fault.ParseFault.{ParseFault}
 use Rattle.dasdl_parse.specs.declared.schema.Schema.{Schema}
@@ -11,7 +11,6 @@ use Rattle.dms_desc.specs.Shape.{Described}
 use Rattle.dms_desc_bytes.specs.Spelling.{spelling}
 use Rattle.dms_desc_bytes.specs.WellFormed.{IsWellFormed}
 use Rattle.dms_descfile.specs.DescriptionFile.{sealed_file, IsSealed}
-use Rattle.dms_top.specs.declared.status.SchemaFault.{SchemaFault}
 use Rattle.dms_top.specs.Judging.{judged, parsed_as, compiled_as}
 
 or_else : {T E : Type 0} → T → Result T E → T

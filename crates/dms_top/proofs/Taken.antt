@@ -4,25 +4,15 @@ use Rattle.std.specs.Prelude.{codes}
 use Rattle.std.specs.declared.option.Option.{Option}
 use Rattle.std.proofs.lemmas.List.{append-nil, take_all}
 use Rattle.std.proofs.lemmas.Slice.Eq.{bytes_eq-Decides}
+use Rattle.dms_runner.proofs.Running.{lines_step}
+use Rattle.dms_runner.proofs.Lining.{line_text_long}
 use Rattle.dms_feed.specs.Feeds.{Remains}
-use Rattle.dms_feed.specs.Lines.{raw_lines, first_line, after_line, onto_first, is_end, line_text}
+use Rattle.dms_feed.specs.Lines.{raw_lines, first_line, after_line, line_text}
 use Rattle.dms_feed.specs.Raws.{CutLine}
 use Rattle.dms_runner.specs.Running.{joined}
 use Rattle.dms_runner.proofs.Running.{first_joined, joined_on}
 use Rattle.dms_top.specs.Schema.{is_script, schema_part, script_part, schema_text}
 use Rattle.dms_top.specs.Taking.{Leaves, GoesOn, Ends, IsLong, IsText, CutText}
-
-at_test : (t : Bool) (b : ℕ) (bs : List ℕ) → onto_first b (raw_lines bs) ≡ (b ∷ first_line bs) ∷ raw_lines (after_line bs) → cond t ((b ∷ []) ∷ raw_lines bs) (onto_first b (raw_lines bs)) ≡ cond t (b ∷ []) (b ∷ first_line bs) ∷ raw_lines (cond t bs (after_line bs))
-at_test true b bs h = refl
-at_test false b bs h = h
-
-first_of_lines : (b : ℕ) (bs : List ℕ) → raw_lines (b ∷ bs) ≡ first_line (b ∷ bs) ∷ raw_lines (after_line (b ∷ bs))
-first_of_lines b [] = at_test (eqb b 10) b [] refl
-first_of_lines b (c ∷ cs) = at_test (eqb b 10) b (c ∷ cs) (ap (onto_first b) (first_of_lines c cs))
-
-pub lines_step : (all : List ℕ) → all ≢ [] → raw_lines all ≡ first_line all ∷ raw_lines (after_line all)
-lines_step [] some = absurd (some refl)
-lines_step (b ∷ bs) some = first_of_lines b bs
 
 pub text_on : (all : List ℕ) → all ≢ [] → is_script (first_line all) ≡ false → schema_text all ≡ first_line all ++ schema_text (after_line all)
 text_on all some other = ap schema_part (lines_step all some) ∙ ap (λ (t : Bool). cond t [] (first_line all ++ schema_text (after_line all))) other
@@ -35,20 +25,6 @@ text_here all some here = ap schema_part (lines_step all some) ∙ ap (λ (t : B
 
 pub script_here : (all : List ℕ) → all ≢ [] → is_script (first_line all) ≡ true → script_part (raw_lines all) ≡ raw_lines (after_line all)
 script_here all some here = ap script_part (lines_step all some) ∙ ap (λ (t : Bool). cond t (raw_lines (after_line all)) (script_part (raw_lines (after_line all)))) here
-
--- an end of a line has two bytes at most
-end_short : (b : ℕ) (bs : List ℕ) → is_end (b ∷ bs) ≡ true → length (b ∷ bs) ≤ 2
-end_short b [] e = omega arith
-end_short b (c ∷ []) e = omega arith
-end_short b (c ∷ d ∷ ds) e = absurd (cc)
-
-text_long : (t : Bool) (b : ℕ) (bs : List ℕ) → t ≡ is_end (b ∷ bs) → length bs ≤ length (line_text bs) + 2 → length (b ∷ bs) ≤ length (cond t [] (b ∷ line_text bs)) + 2
-text_long true b bs e h = omega (arith, end_short b bs (sym e))
-text_long false b bs e h = omega (arith, h)
-
-pub line_text_long : (l : List ℕ) → length l ≤ length (line_text l) + 2
-line_text_long [] = omega arith
-line_text_long (b ∷ bs) = text_long (is_end (b ∷ bs)) b bs refl (line_text_long bs)
 
 not_script : (t : Bool) (l : List ℕ) → t ≡ is_script l → 8 < length l → t ≡ false
 not_script false l e long = refl
