@@ -31,9 +31,9 @@ cut_moved d d' all left left' before after before' after' l a b e p =
 pub cut_described : (d d' : Described) (all : List ℕ) (left : Option (List ℕ)) (before after : List ℕ) → d ≡ d' → CutTry d' all left before after → CutTry d all left before after
 cut_described d d' all left before after e p = subst (λ (x : Described). CutTry x all left before after) (sym e) p
 
-no_lines : (d : Described) (said : List ℕ) → (script_run d empty_db 1 []).full ≡ false
+no_lines : (d : Described) → (script_run d empty_db 1 []).full ≡ false
 unfolding lines_run
-no_lines d said = refl
+no_lines d = refl
 
 no_text : (d : Described) (said : List ℕ) → Printed said said (script_run d empty_db 1 []).text
 unfolding lines_run
@@ -52,7 +52,7 @@ cut_text d all left said c =
       whole = c.leaves.whole ∙ ap (λ (x : List ℕ). joined c.done ++ x) c.cut.whole ∙ ap (λ (ls : List (List ℕ)). joined ls ++ (c.cut.part ++ c.cut.rest)) (sym t);
       left_is = c.cut.left_is;
       unended = c.cut.unended;
-      room = ap (λ (ls : List (List ℕ)). (script_run d empty_db 1 ls).full) none ∙ no_lines d said;
+      room = ap (λ (ls : List (List ℕ)). (script_run d empty_db 1 ls).full) none ∙ no_lines d;
       text = subst (λ (ls : List (List ℕ)). Printed said said (script_run d empty_db 1 ls).text) (sym none) (no_text d said);
     }
 

@@ -22,7 +22,7 @@ pub record GoesOn (old new all held : List ℕ) (left : Option (List ℕ)) : Typ
   pub leaves : Leaves (first_line all ∷ []) all rest
   pub other : is_script (first_line all) ≡ false
 
--- what follows these lines is of the script, however many lines of it
+-- what follows these lines is of the script, whatever number of lines is taken of it
 abbrev pub IsBehind : List (List ℕ) → List ℕ → Type 0
 IsBehind done rest = (i : ℕ) → script_part (done ++ take i (raw_lines rest)) ≡ take i (raw_lines rest)
 
@@ -55,7 +55,7 @@ pub record IsText (text all held : List ℕ) (left : Option (List ℕ)) : Type 0
   pub leaves : Leaves done all rest
   pub behind : IsBehind done rest
 
--- taking failed within the text: behind these lines, none of which is a line SCRIPT
+-- taking failed within the text: behind these lines, none of which is of the script
 pub record CutText (all : List ℕ) (left : Option (List ℕ)) : Type 0 where
   pub done : List (List ℕ)
   pub rest : List ℕ
