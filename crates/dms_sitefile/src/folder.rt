@@ -3,7 +3,8 @@ ghost use Rattle.std.specs.Prelude.{◌≤◌, ◌<◌, length, vec_len, IfOk, I
 use crate::name::{file_name, file_number};
 use std::alloc::Global;
 use std::fs::{self, Files, OpenFile, OpenOptions};
-use std::io::{self, ErrorKind, Read, Seek, SeekFrom, Write};
+use std::io::{self, ErrorKind, Write};
+use std::os::unix::fs::FileExt;
 use std::rt::Runtime;
 
 /// So many files stay open.
@@ -54,8 +55,8 @@ fn open_made<R: Runtime>(rt: &R, alloc: Global, file: u32) -> io::Result<R::File
         .open(rt, name.as_str())
 }
 
-/// Reads until the slice is full or the file ends.
-fn read_full<F: Read>(f: &mut F, into: &mut [u8]) -> io::Result<usize>
+/// Reads from a position on until the slice is full or the file ends: one call where the system gives all at once.
+fn read_full<F: FileExt>(f: &F, at: u64, into: &mut [u8]) -> io::Result<usize>
     ensures { IfOk result (λ n. n ≤ length into.new) }
 {
     let mut got = 0usize;
@@ -63,7 +64,7 @@ fn read_full<F: Read>(f: &mut F, into: &mut [u8]) -> io::Result<usize>
         if got >= into.len() {
             return Ok(got);
         }
-        let n = f.read(&mut into[got..])?;
+        let n = f.read_at(&mut into[got..], at.saturating_add(got as u64))?;
         if n == 0 {
             return Ok(got);
         }
@@ -99,7 +100,10 @@ fn sync_present<R: Runtime + AllocGlobal>(rt: &R, alloc: Global) -> io::Result<(
     Ok(())
 }
 
-impl<R: Runtime + AllocGlobal> Folder<R> {
+impl<R: Runtime + AllocGlobal> Folder<R>
+where
+    R::File: FileExt,
+{
     /// The files of the current folder, none of them open.
     pub fn new(rt: R, alloc: Global) -> Result<Folder<R>, std::alloc::AllocError> {
         Ok(Folder {
@@ -195,11 +199,7 @@ impl<R: Runtime + AllocGlobal> Folder<R> {
     {
         match self.find(file)? {
             None => Ok(0),
-            Some(place) => {
-                let f = &mut self.opened[place].file;
-                f.seek(SeekFrom::Start(at))?;
-                read_full(f, into)
-            }
+            Some(place) => read_full(&self.opened[place].file, at, into),
         }
     }
 
@@ -211,8 +211,7 @@ impl<R: Runtime + AllocGlobal> Folder<R> {
         if bytes.is_empty() {
             return lengthen(&opened.file, at);
         }
-        opened.file.seek(SeekFrom::Start(at))?;
-        opened.file.write_all(bytes)
+        opened.file.write_all_at(bytes, at)
     }
 
     /// Cuts a file to a length.

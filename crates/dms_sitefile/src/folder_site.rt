@@ -8,6 +8,7 @@ use dms_base::Memory;
 use dms_site::{Failed, Site};
 use std::alloc::Global;
 use std::fs::Files;
+use std::os::unix::fs::FileExt;
 use std::rt::Runtime;
 
 /// A site over the files of the current folder and standard output. It tells how often a call failed, and nothing of content.
@@ -20,7 +21,10 @@ pub struct FolderSite<R: Files> {
     say_faults: u64,
 }
 
-impl<R: Runtime + AllocGlobal> FolderSite<R> {
+impl<R: Runtime + AllocGlobal> FolderSite<R>
+where
+    R::File: FileExt,
+{
     /// The site of the folder in which the program runs.
     pub fn new(rt: R, alloc: Global) -> Result<FolderSite<R>, Memory>
         ensures disk_faults { IfOk result (λ s. s.disk_faults ≡ 0) }
@@ -44,7 +48,10 @@ impl<R: Runtime + AllocGlobal> FolderSite<R> {
     }
 }
 
-impl<R: Runtime + AllocGlobal> Site for FolderSite<R> {
+impl<R: Runtime + AllocGlobal> Site for FolderSite<R>
+where
+    R::File: FileExt,
+{
     ghost tells = { false };
 
     ghost tells_said = { false };

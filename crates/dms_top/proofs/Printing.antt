@@ -79,3 +79,7 @@ within_lines d lines lines' e w = subst (λ (x : List (List ℕ)). WithinLimits 
 
 pub passes_lines : (k : LimitKind) (d : Described) (lines lines' : List (List ℕ)) (before after : List ℕ) → lines' ≡ lines → Passes k d lines' before after → Passes k d lines before after
 passes_lines k d lines lines' before after e p = subst (λ (x : List (List ℕ)). Passes k d x before after) e p
+
+pub not_refused : (j : Result Described SchemaFault) (d : Described) (e : SchemaFault) → j ≡ Ok d → j ≡ Err e → ⊥
+not_refused (Ok x) d e p q = absurd (cc)
+not_refused (Err x) d e p q = absurd (cc)

@@ -38,3 +38,15 @@ IsSilent (Limit l) = ⊥
 IsSilent SayFault = ⊥
 IsSilent DiskFault = ⊥
 IsSilent Exists = ⊤
+
+-- the statuses that come before a call on the site is made
+abbrev pub IsUntouched : Status → Type 0
+IsUntouched Ok = ⊥
+IsUntouched BadWords = ⊤
+IsUntouched (SchemaRefused f) = ⊤
+IsUntouched InputFault = ⊥
+IsUntouched Memory = ⊥
+IsUntouched (Limit l) = ⊥
+IsUntouched SayFault = ⊥
+IsUntouched DiskFault = ⊥
+IsUntouched Exists = ⊥

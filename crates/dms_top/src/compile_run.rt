@@ -8,7 +8,7 @@ ghost use Rattle.dms_top.specs.declared.status.LimitKind.{LimitKind as Kind};
 ghost use Rattle.dms_top.specs.declared.status.SchemaFault.{SchemaFault as Refusal};
 ghost use Rattle.dms_top.specs.Compiling.{compiled_text, Says, IsSpoken, IsBefore, IsOfFile};
 ghost use Rattle.dms_top.specs.Judging.{judged};
-ghost use Rattle.dms_top.specs.Words.{IsPast};
+ghost use Rattle.dms_top.specs.Words.{IsPast, IsUntouched};
 
 use crate::judge::{Judged, judge};
 use crate::schema::TextFault;
@@ -120,6 +120,9 @@ fn create<S: Site>(alloc: Global, site: &mut S, desc: &Description) -> Status
 pub fn compile_input<S: Site, I: Source>(alloc: Global, site: &mut S, input: &mut I) -> Status
     ensures words { result ≢ Status.BadWords }
     ensures limit { (k : Kind) → result ≢ Status.Limit k }
+    ensures untouched { IsUntouched result → site.new ≡ site.old }
+    ensures input_fault { result ≡ Status.InputFault → site.new ≡ site.old }
+    ensures refused_text { (all : List ℕ) (e : Refusal) → I.left input.old ≡ Some all → judged all ≡ Err e → site.new ≡ site.old }
     ensures refused { (f : Refusal) → result ≡ Status.SchemaRefused f → (all : List ℕ) → I.left input.old ≡ Some all → judged all ≡ Err f }
     ensures accepted { IsPast result → (all : List ℕ) → I.left input.old ≡ Some all → IsOk (judged all) }
     ensures end { IsPast result → (all : List ℕ) → I.left input.old ≡ Some all → I.left input.new ≡ Some [] }

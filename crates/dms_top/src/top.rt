@@ -9,7 +9,7 @@ ghost use Rattle.dms_top.specs.Judging.{judged};
 ghost use Rattle.dms_top.specs.Schema.{schema_text as text_of};
 ghost use Rattle.dms_top.specs.Answering.{Printed, PrintedFront, WithinLimits, Passes, CutTry, try_text, script_of};
 ghost use Rattle.dms_top.specs.declared.status.LimitKind.{LimitKind as Kind};
-ghost use Rattle.dms_top.specs.Words.{IsTry, IsCompile, IsCommand, IsPast, IsSilent};
+ghost use Rattle.dms_top.specs.Words.{IsTry, IsCompile, IsCommand, IsPast, IsSilent, IsUntouched};
 
 use crate::compile_run::compile_input;
 use crate::judge::{Judged, judge};
@@ -38,6 +38,7 @@ fn is_compile(words: &[String]) -> bool
 fn try_input<S: Site, I: Source>(alloc: Global, site: &mut S, input: &mut I) -> Status
     ensures words { result ≢ Status.BadWords }
     ensures exists { result ≢ Status.Exists }
+    ensures untouched { IsUntouched result → site.new ≡ site.old }
     ensures refused { (f : Refusal) → result ≡ Status.SchemaRefused f → (all : List ℕ) → I.left input.old ≡ Some all → judged (text_of all) ≡ Err f }
     ensures accepted { IsPast result → (all : List ℕ) → I.left input.old ≡ Some all → IsOk (judged (text_of all)) }
     ensures end { result ≡ Status.Ok → (all : List ℕ) → I.left input.old ≡ Some all → I.left input.new ≡ Some [] }
@@ -88,6 +89,7 @@ pub fn dms<S: Site, I: Source>(
     ensures before { IsBefore result → IsTrue S.tells → S.files site.new ≡ S.files site.old }
     ensures others { IsTrue S.tells → (g : ℕ) → g ≢ 1 → S.files site.new g ≡ S.files site.old g }
     ensures same_source { I.same_source input.old input.new }
+    ensures untouched { IsUntouched result → site.new ≡ site.old }
     // `try`
     ensures refused { IsTry (map string_bytes words.now) → (f : Refusal) → result ≡ Status.SchemaRefused f → (all : List ℕ) → I.left input.old ≡ Some all → judged (text_of all) ≡ Err f }
     ensures accepted { IsTry (map string_bytes words.now) → IsPast result → (all : List ℕ) → I.left input.old ≡ Some all → IsOk (judged (text_of all)) }
@@ -101,6 +103,8 @@ pub fn dms<S: Site, I: Source>(
     ensures input_cut { IsTry (map string_bytes words.now) → result ≡ Status.InputFault → IsTrue S.tells_said → (all : List ℕ) (d : Described) → I.left input.old ≡ Some all → judged (text_of all) ≡ Ok d → CutTry d all (I.left input.new) (S.said site.old) (S.said site.new) }
     ensures no_file_exists { IsTry (map string_bytes words.now) → result ≢ Status.Exists }
     // `compile`
+    ensures compile_refused_text { IsCompile (map string_bytes words.now) → (all : List ℕ) (e : Refusal) → I.left input.old ≡ Some all → judged all ≡ Err e → site.new ≡ site.old }
+    ensures compile_input_fault { IsCompile (map string_bytes words.now) → result ≡ Status.InputFault → site.new ≡ site.old }
     ensures compile_limit { IsCompile (map string_bytes words.now) → (k : Kind) → result ≢ Status.Limit k }
     ensures compile_refused { IsCompile (map string_bytes words.now) → (f : Refusal) → result ≡ Status.SchemaRefused f → (all : List ℕ) → I.left input.old ≡ Some all → judged all ≡ Err f }
     ensures compile_accepted { IsCompile (map string_bytes words.now) → IsPast result → (all : List ℕ) → I.left input.old ≡ Some all → IsOk (judged all) }

@@ -2,7 +2,7 @@ use Rattle.std.proofs.Common.{◌≡◌, ◌∙◌, Ok, Err, ap, sym}
 use Rattle.dms_desc.specs.Shape.{described}
 use Rattle.dms_descfile.specs.DescriptionFile.{sealed_file}
 use Rattle.dms_top.specs.Judging.{judged}
-use Rattle.dms_top.proofs.Printing.{same_description}
+use Rattle.dms_top.proofs.Printing.{same_description, not_refused}
 use Rattle.dms_top.proofs.Sealed.{sealed_is}
 use Rattle.dms_top.proofs.Judgements.{long_judged}
 use Rattle.dms_top.proofs.compile_run.compile_input.Goals as goal
@@ -15,3 +15,8 @@ pub returns-clause-is_sealed : goal.returns-clause-is_sealed
 returns-clause-is_sealed g c = λ spoken tells all d left is.
     let j : judged all ≡ Ok (described c.in-Description.desc) = ap judged (sym (c.in-Ok.ensures.text all left) ∙ sym c.as_slice.ensures) ∙ c.in-Description.ensures in
     sealed_is all d _ is (c.create.ensures.sealed spoken tells ∙ ap sealed_file (sym (same_description _ _ d j is)))
+
+pub returns-clause-refused_text : goal.returns-clause-refused_text
+returns-clause-refused_text g c = λ all e left is.
+    let j : judged all ≡ Ok (described c.in-Description.desc) = ap judged (sym (c.in-Ok.ensures.text all left) ∙ sym c.as_slice.ensures) ∙ c.in-Description.ensures in
+    absurd (not_refused _ _ _ j is)
