@@ -1,4 +1,5 @@
 pub mod Always
+pub mod Happening
 pub mod Lining
 pub mod Passes
 pub mod Running
@@ -6,3 +7,4 @@ pub mod Texts
 pub mod Tried
 pub mod Turns
 pub mod Unanswered
+pub mod Whole

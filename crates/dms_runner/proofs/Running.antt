@@ -6,14 +6,16 @@ use Rattle.dms_desc.specs.Shape.{Described}
 use Rattle.dms_feed.specs.Feeds.{Remains}
 use Rattle.dms_feed.specs.Lines.{raw_lines, first_line, after_line, onto_first}
 use Rattle.dms_model.specs.Db.{Db}
-use Rattle.dms_model.specs.Points.{Prints, PrintsFront}
+use Rattle.dms_model.specs.Points.{Prints}
 use Rattle.dms_model.specs.Session.{Session}
 use Rattle.dms_storeverbs.specs.View.{View, Stands}
 use Rattle.dms_runner.specs.declared.held.Held.{Held}
-use Rattle.dms_runner.specs.Answers.{Going, Lined, Roomy, going_on, line_step, lines_run, onto, begun, script_run, unanswered, answers_text}
+use Rattle.dms_runner.specs.Answers.{Going, Lined, Roomy, going_on, line_step, lines_run, onto, begun, script_run, ending, script_events}
+use Rattle.dms_runner.specs.Events.{Event, Told, Ran, RanPart, text_of}
 use Rattle.dms_feed.specs.Raws.{CutLine}
 use Rattle.dms_runner.specs.Running.{bytes_of, joined, TookLine, Answered, Took, PassesLines, PassesBytes, PassesHeld, CutInput}
-use Rattle.dms_runner.proofs.Texts.{prints_none, prints_on, front_on, front_of_first}
+use Rattle.dms_runner.proofs.Texts.{prints_on}
+use Rattle.dms_runner.proofs.Happening.{ran_none, ran_on, part_on, part_of_first}
 use Rattle.dms_runner.proofs.Lining.{line_low}
 
 -- Lines of a text
@@ -70,7 +72,7 @@ unfolding lines_run
 run_full desc g l ls full = rw full refl
 
 onto_again : (a b c : Lined) → onto a (onto b c) ≡ onto (onto a b) c
-onto_again a b c = λ j. record c { text = sym (append_assoc a.text b.text c.text) j; quiets = sym (append_assoc a.quiets b.quiets c.quiets) j }
+onto_again a b c = λ j. record c { events = sym (append_assoc a.events b.events c.events) j }
 
 not_both : (b : Bool) (X : Type 0) → b ≡ true → b ≡ false → X
 not_both true X p q = absurd (cc)
@@ -95,8 +97,8 @@ run_on desc g (x ∷ xs) ys room = at (line_step desc g x).full refl (run_on des
 
 -- How a run stands
 
--- after so many lines: those done, the bytes that are left, and what was said
-pub record Runs (desc : Described) (g : Going) (i room : ℕ) (all : List ℕ) (v : View) (held : List Held) (feed : List ℕ) (left : Option (List ℕ)) (before after : Option (List ℕ)) : Type 0 where
+-- after so many lines: those done, the bytes that are left, and what happened
+pub record Runs (desc : Described) (g : Going) (i room : ℕ) (all : List ℕ) (v : View) (held : List Held) (feed : List ℕ) (left : Option (List ℕ)) (before after : Told) : Type 0 where
   pub done : List (List ℕ)
   pub rest : List ℕ
   pub remains : Remains feed left rest
@@ -109,11 +111,11 @@ pub record Runs (desc : Described) (g : Going) (i room : ℕ) (all : List ℕ) (
   pub held_is : held ≡ (lines_run desc g done).going.held
   pub line : (lines_run desc g done).going.line ≡ i
   pub low : (lines_run desc g done).going.session.next + length (lines_run desc g done).going.held ≤ g.session.next + length g.held + i
-  pub said : Prints before after (lines_run desc g done).text
+  pub ran : Ran before after (lines_run desc g done).events
 
-pub runs_start : (desc : Described) (db : Db) (first : ℕ) (all : List ℕ) (v : View) (feed : List ℕ) (left said : Option (List ℕ)) → Stands v (begun db first).session → Remains feed left all
-    → Runs desc (begun db first) 0 2147483648 all v [] feed left said said
-runs_start desc db first all v feed left said stands remains =
+pub runs_start : (desc : Described) (db : Db) (first : ℕ) (all : List ℕ) (v : View) (feed : List ℕ) (left : Option (List ℕ)) (now : Told) → Stands v (begun db first).session → Remains feed left all
+    → Runs desc (begun db first) 0 2147483648 all v [] feed left now now
+runs_start desc db first all v feed left now stands remains =
     let e : lines_run desc (begun db first) [] ≡ going_on (begun db first) = run_none desc (begun db first) in
     record {
       done = [];
@@ -128,13 +130,18 @@ runs_start desc db first all v feed left said stands remains =
       held_is = sym (ap (λ (l : Lined). l.going.held) e);
       line = ap (λ (l : Lined). l.going.line) e;
       low = omega (arith, ap (λ (l : Lined). l.going.session.next) e, ap (λ (l : Lined). length l.going.held) e);
-      said = subst (λ (t : List ℕ). Prints said said t) (sym (ap (λ (l : Lined). l.text) e)) (prints_none said said refl);
+      ran = subst (λ (t : List Event). Ran now now t) (sym (ap (λ (l : Lined). l.events) e)) (ran_none now);
     }
 
 -- room for the numbers of the quiet points that the next line may lead to
-pub runs_room : (desc : Described) (db : Db) (first : ℕ) (i room : ℕ) (all : List ℕ) (v : View) (held : List Held) (feed : List ℕ) (left : Option (List ℕ)) (before after : Option (List ℕ))
+pub runs_room : (desc : Described) (db : Db) (first : ℕ) (i room : ℕ) (all : List ℕ) (v : View) (held : List Held) (feed : List ℕ) (left : Option (List ℕ)) (before after : Told)
     (r : Runs desc (begun db first) i room all v held feed left before after) → i < 1000000 → first + 1000003 < 2 ^ 64 → Roomy (lines_run desc (begun db first) r.done).going
 runs_room desc db first i room all v held feed left before after r more small = omega (arith, r.low, more, small)
+
+-- and for the one that the end asks for
+pub runs_next : (desc : Described) (db : Db) (first : ℕ) (i room : ℕ) (all : List ℕ) (v : View) (held : List Held) (feed : List ℕ) (left : Option (List ℕ)) (before after : Told)
+    (r : Runs desc (begun db first) i room all v held feed left before after) → i ≤ 1000000 → first + 1000003 < 2 ^ 64 → (lines_run desc (begun db first) r.done).going.session.next + 1 < 2 ^ 64
+runs_next desc db first i room all v held feed left before after r few small = omega (arith, r.low, few, small)
 
 one_more : (desc : Described) (g : Going) (done : List (List ℕ)) (l : List ℕ) → (lines_run desc g done).full ≡ false → (line_step desc (lines_run desc g done).going l).full ≡ false
     → lines_run desc g (done ++ l ∷ []) ≡ onto (lines_run desc g done) (onto (line_step desc (lines_run desc g done).going l) (going_on (line_step desc (lines_run desc g done).going l).going))
@@ -143,7 +150,7 @@ one_more desc g done l room more =
     run_on desc g done (l ∷ []) room ∙ ap (onto (lines_run desc g done)) (run_step desc now l [] more ∙ ap (onto (line_step desc now l)) (run_none desc (line_step desc now l).going))
 
 -- one line more was taken
-pub runs_on : (desc : Described) (g : Going) (i room room' : ℕ) (all : List ℕ) (v w : View) (held next : List Held) (feed feed' : List ℕ) (left left' : Option (List ℕ)) (before mid after : Option (List ℕ))
+pub runs_on : (desc : Described) (g : Going) (i room room' : ℕ) (all : List ℕ) (v w : View) (held next : List Held) (feed feed' : List ℕ) (left left' : Option (List ℕ)) (before mid after : Told)
     (r : Runs desc g i room all v held feed left before mid) → TookLine desc (lines_run desc g r.done).going r.rest room room' w next feed' left' mid after → Runs desc g (i + 1) room' all w next feed' left' before after
 runs_on desc g i room room' all v w held next feed feed' left left' before mid after r t =
     let now = (lines_run desc g r.done).going in
@@ -164,21 +171,21 @@ runs_on desc g i room room' all v w held next feed feed' left left' before mid a
       held_is = t.goes.held_is ∙ sym (ap (λ (x : Lined). x.going.held) e);
       line = ap (λ (x : Lined). x.going.line) e ∙ low.1 ∙ ap (λ (n : ℕ). n + 1) r.line;
       low = omega (arith, r.low, low.0, ap (λ (x : Lined). x.going.session.next) e, ap (λ (x : Lined). length x.going.held) e);
-      said = subst (λ (x : List ℕ). Prints before after x) (sym (ap (λ (x : Lined). x.text) e ∙ ap (λ (x : List ℕ). (lines_run desc g r.done).text ++ x) (append-nil s.text))) (prints_on before mid after (lines_run desc g r.done).text s.text r.said t.goes.text);
+      ran = subst (λ (x : List Event). Ran before after x) (sym (ap (λ (x : Lined). x.events) e ∙ ap (λ (x : List Event). (lines_run desc g r.done).events ++ x) (append-nil s.events))) (ran_on before mid after (lines_run desc g r.done).events s.events r.ran t.goes.ran);
     }
 
 taken : (all : List ℕ) (done more : List (List ℕ)) (i : ℕ) → raw_lines all ≡ done ++ more → length done ≡ i → take i (raw_lines all) ≡ done
 taken all done more i split count = ap (take i) split ∙ take_at done more i count
 
 -- the lines that were done, and what they answered
-pub runs_took : (desc : Described) (db : Db) (first : ℕ) (i room : ℕ) (all : List ℕ) (v : View) (held : List Held) (feed : List ℕ) (left : Option (List ℕ)) (before mid after : Option (List ℕ))
-    → Runs desc (begun db first) i room all v held feed left before mid → Prints mid after [] → Took desc db first (raw_lines all) i before after
+pub runs_took : (desc : Described) (db : Db) (first : ℕ) (i room : ℕ) (all : List ℕ) (v : View) (held : List Held) (feed : List ℕ) (left : Option (List ℕ)) (before mid : Told) (after : Option (List ℕ))
+    → Runs desc (begun db first) i room all v held feed left before mid → Prints mid.said after [] → Took desc db first (raw_lines all) i before.said after
 runs_took desc db first i room all v held feed left before mid after r same =
     let t : take i (raw_lines all) ≡ r.done = taken all r.done (raw_lines r.rest) i r.split r.count in
     record {
       within = omega (arith, ap length r.split, length-append r.done (raw_lines r.rest), r.count);
       room = ap (λ (ls : List (List ℕ)). (script_run desc db first ls).full) t ∙ r.roomy;
-      text = subst (λ (ls : List (List ℕ)). Prints before after (script_run desc db first ls).text) (sym t) (subst (λ (x : List ℕ). Prints before after x) (append-nil _) (prints_on before mid after _ [] r.said same));
+      text = subst (λ (ls : List (List ℕ)). Prints before.said after (text_of (script_run desc db first ls).events)) (sym t) (subst (λ (x : List ℕ). Prints before.said after x) (append-nil _) (prints_on before.said mid.said after _ [] r.ran.text same));
     }
 
 taken_more : (all rest : List ℕ) (done : List (List ℕ)) (i : ℕ) → raw_lines all ≡ done ++ raw_lines rest → length done ≡ i → rest ≢ [] → take (i + 1) (raw_lines all) ≡ done ++ first_line rest ∷ []
@@ -193,16 +200,16 @@ some_first [] h none = omega (arith, h)
 some_first (b ∷ bs) h none = cc
 
 -- the script has a line too many
-pub runs_lines : (desc : Described) (db : Db) (first : ℕ) (i room : ℕ) (all : List ℕ) (v : View) (held : List Held) (feed : List ℕ) (left : Option (List ℕ)) (before mid after : Option (List ℕ))
-    (r : Runs desc (begun db first) i room all v held feed left before mid) → Prints mid after [] → i ≡ 1000000 → r.rest ≢ [] → PassesLines desc db first (raw_lines all) before after
+pub runs_lines : (desc : Described) (db : Db) (first : ℕ) (i room : ℕ) (all : List ℕ) (v : View) (held : List Held) (feed : List ℕ) (left : Option (List ℕ)) (before mid : Told) (after : Option (List ℕ))
+    (r : Runs desc (begun db first) i room all v held feed left before mid) → Prints mid.said after [] → i ≡ 1000000 → r.rest ≢ [] → PassesLines desc db first (raw_lines all) before.said after
 runs_lines desc db first i room all v held feed left before mid after r same end some = (
   omega (arith, ap length r.split, length-append r.done (raw_lines r.rest), r.count, end, some_lines r.rest some),
-  subst (λ (n : ℕ). Took desc db first (raw_lines all) n before after) end (runs_took desc db first i room all v held feed left before mid after r same),
+  subst (λ (n : ℕ). Took desc db first (raw_lines all) n before.said after) end (runs_took desc db first i room all v held feed left before mid after r same),
 )
 
 -- the script has a byte too many
-pub runs_bytes : (desc : Described) (db : Db) (first : ℕ) (i room : ℕ) (all : List ℕ) (v : View) (held : List Held) (feed : List ℕ) (left : Option (List ℕ)) (before mid after : Option (List ℕ))
-    (r : Runs desc (begun db first) i room all v held feed left before mid) → Prints mid after [] → room < length (first_line r.rest) → PassesBytes desc db first (raw_lines all) before after
+pub runs_bytes : (desc : Described) (db : Db) (first : ℕ) (i room : ℕ) (all : List ℕ) (v : View) (held : List Held) (feed : List ℕ) (left : Option (List ℕ)) (before mid : Told) (after : Option (List ℕ))
+    (r : Runs desc (begun db first) i room all v held feed left before mid) → Prints mid.said after [] → room < length (first_line r.rest) → PassesBytes desc db first (raw_lines all) before.said after
 runs_bytes desc db first i room all v held feed left before mid after r same over = record {
   n = i;
   took = runs_took desc db first i room all v held feed left before mid after r same;
@@ -211,9 +218,9 @@ runs_bytes desc db first i room all v held feed left before mid after r same ove
 }
 
 -- a line would be one too many to hold
-pub runs_held : (desc : Described) (db : Db) (first : ℕ) (i room : ℕ) (all : List ℕ) (v : View) (held : List Held) (feed : List ℕ) (left : Option (List ℕ)) (before mid after : Option (List ℕ))
-    (r : Runs desc (begun db first) i room all v held feed left before mid) → Prints mid after [] → r.rest ≢ [] → (line_step desc (lines_run desc (begun db first) r.done).going (first_line r.rest)).full ≡ true
-    → PassesHeld desc db first (raw_lines all) before after
+pub runs_held : (desc : Described) (db : Db) (first : ℕ) (i room : ℕ) (all : List ℕ) (v : View) (held : List Held) (feed : List ℕ) (left : Option (List ℕ)) (before mid : Told) (after : Option (List ℕ))
+    (r : Runs desc (begun db first) i room all v held feed left before mid) → Prints mid.said after [] → r.rest ≢ [] → (line_step desc (lines_run desc (begun db first) r.done).going (first_line r.rest)).full ≡ true
+    → PassesHeld desc db first (raw_lines all) before.said after
 runs_held desc db first i room all v held feed left before mid after r same some full =
     let g = begun db first in
     let t = taken_more all r.rest r.done i r.split r.count some in
@@ -224,8 +231,8 @@ runs_held desc db first i room all v held feed left before mid after r same some
     }
 
 -- taking from the input failed
-pub runs_cut : (desc : Described) (db : Db) (first : ℕ) (i room : ℕ) (all : List ℕ) (v : View) (held : List Held) (feed : List ℕ) (left left' : Option (List ℕ)) (before mid after : Option (List ℕ))
-    (r : Runs desc (begun db first) i room all v held feed left before mid) → Prints mid after [] → CutLine left' r.rest → CutInput desc db first all left' before after
+pub runs_cut : (desc : Described) (db : Db) (first : ℕ) (i room : ℕ) (all : List ℕ) (v : View) (held : List Held) (feed : List ℕ) (left left' : Option (List ℕ)) (before mid : Told) (after : Option (List ℕ))
+    (r : Runs desc (begun db first) i room all v held feed left before mid) → Prints mid.said after [] → CutLine left' r.rest → CutInput desc db first all left' before.said after
 runs_cut desc db first i room all v held feed left left' before mid after r same cut = record {
   n = i;
   took = runs_took desc db first i room all v held feed left before mid after r same;
@@ -239,44 +246,50 @@ runs_cut desc db first i room all v held feed left left' before mid after r same
 lines_none : (rest : List ℕ) → rest ≡ [] → raw_lines rest ≡ []
 lines_none rest none = ap raw_lines none
 
--- the input's end: what is said now ends the answers
-pub runs_end : (desc : Described) (db : Db) (first : ℕ) (i room : ℕ) (all : List ℕ) (v : View) (held : List Held) (feed : List ℕ) (left : Option (List ℕ)) (before mid after : Option (List ℕ))
-    (r : Runs desc (begun db first) i room all v held feed left before mid) → i ≤ 1000000 → r.rest ≡ [] → Prints mid after (unanswered held) → Answered desc db first (raw_lines all) before after
-unfolding answers_text
-runs_end desc db first i room all v held feed left before mid after r small none last =
+-- the input's end: what happens now ends the run
+pub runs_ran : (desc : Described) (db : Db) (first : ℕ) (i room : ℕ) (all : List ℕ) (v : View) (held : List Held) (feed : List ℕ) (left : Option (List ℕ)) (before mid after : Told)
+    (r : Runs desc (begun db first) i room all v held feed left before mid) → r.rest ≡ [] → Ran mid after (ending held) → Ran before after (script_events desc db first (raw_lines all))
+unfolding script_events
+runs_ran desc db first i room all v held feed left before mid after r none last =
     let g = begun db first in
+    let whole : raw_lines all ≡ r.done = r.split ∙ ap (λ (ls : List (List ℕ)). r.done ++ ls) (lines_none r.rest none) ∙ append-nil r.done in
+    subst (λ (ls : List (List ℕ)). Ran before after ((script_run desc db first ls).events ++ ending (script_run desc db first ls).going.held)) (sym whole)
+    (ran_on before mid after (lines_run desc g r.done).events (ending (lines_run desc g r.done).going.held) r.ran (subst (λ (hs : List Held). Ran mid after (ending hs)) r.held_is last))
+
+pub runs_end : (desc : Described) (db : Db) (first : ℕ) (i room : ℕ) (all : List ℕ) (v : View) (held : List Held) (feed : List ℕ) (left : Option (List ℕ)) (before mid after : Told)
+    (r : Runs desc (begun db first) i room all v held feed left before mid) → i ≤ 1000000 → r.rest ≡ [] → Ran mid after (ending held) → Answered desc db first (raw_lines all) before.said after.said
+runs_end desc db first i room all v held feed left before mid after r small none last =
     let whole : raw_lines all ≡ r.done = r.split ∙ ap (λ (ls : List (List ℕ)). r.done ++ ls) (lines_none r.rest none) ∙ append-nil r.done in
     record {
       few = omega (arith, ap length whole, r.count, small);
       short = omega (arith, ap bytes_of whole, r.bytes);
       room = ap (λ (ls : List (List ℕ)). (script_run desc db first ls).full) whole ∙ r.roomy;
-      text = subst (λ (ls : List (List ℕ)). Prints before after ((script_run desc db first ls).text ++ unanswered (script_run desc db first ls).going.held)) (sym whole)
-          (prints_on before mid after (lines_run desc g r.done).text (unanswered (lines_run desc g r.done).going.held) r.said (subst (λ (hs : List Held). Prints mid after (unanswered hs)) r.held_is last));
+      text = (runs_ran desc db first i room all v held feed left before mid after r none last).text;
     }
 
--- a front of what the lines to come answer is, behind what was said, a front of all answers
-pub runs_part : (desc : Described) (db : Db) (first : ℕ) (i room : ℕ) (all : List ℕ) (v : View) (held : List Held) (feed : List ℕ) (left : Option (List ℕ)) (before mid after : Option (List ℕ))
-    (r : Runs desc (begun db first) i room all v held feed left before mid) → PrintsFront mid after (lines_run desc (lines_run desc (begun db first) r.done).going (raw_lines r.rest)).text
-    → PrintsFront before after (answers_text desc db first (raw_lines all))
-unfolding answers_text
+-- a front of what the lines to come do is, behind what happened, a front of the whole
+pub runs_part : (desc : Described) (db : Db) (first : ℕ) (i room : ℕ) (all : List ℕ) (v : View) (held : List Held) (feed : List ℕ) (left : Option (List ℕ)) (before mid after : Told)
+    (r : Runs desc (begun db first) i room all v held feed left before mid) → RanPart mid after (lines_run desc (lines_run desc (begun db first) r.done).going (raw_lines r.rest)).events
+    → RanPart before after (script_events desc db first (raw_lines all))
+unfolding script_events
 runs_part desc db first i room all v held feed left before mid after r part =
     let g = begun db first in
     let e : lines_run desc g (raw_lines all) ≡ onto (lines_run desc g r.done) (lines_run desc (lines_run desc g r.done).going (raw_lines r.rest)) = ap (lines_run desc g) r.split ∙ run_on desc g r.done (raw_lines r.rest) r.roomy in
-    front_of_first before after (lines_run desc g (raw_lines all)).text (unanswered (lines_run desc g (raw_lines all)).going.held)
-    (subst (λ (t : List ℕ). PrintsFront before after t) (sym (ap (λ (l : Lined). l.text) e)) (front_on before mid after (lines_run desc g r.done).text (lines_run desc (lines_run desc g r.done).going (raw_lines r.rest)).text r.said part))
+    part_of_first before after (lines_run desc g (raw_lines all)).events (ending (lines_run desc g (raw_lines all)).going.held)
+    (subst (λ (t : List Event). RanPart before after t) (sym (ap (λ (l : Lined). l.events) e)) (part_on before mid after (lines_run desc g r.done).events (lines_run desc (lines_run desc g r.done).going (raw_lines r.rest)).events r.ran part))
 
--- a front of what is said at the end
-pub runs_end_part : (desc : Described) (db : Db) (first : ℕ) (i room : ℕ) (all : List ℕ) (v : View) (held : List Held) (feed : List ℕ) (left : Option (List ℕ)) (before mid after : Option (List ℕ))
-    (r : Runs desc (begun db first) i room all v held feed left before mid) → r.rest ≡ [] → PrintsFront mid after (unanswered held) → PrintsFront before after (answers_text desc db first (raw_lines all))
-unfolding answers_text
+-- a front of what happens at the end
+pub runs_end_part : (desc : Described) (db : Db) (first : ℕ) (i room : ℕ) (all : List ℕ) (v : View) (held : List Held) (feed : List ℕ) (left : Option (List ℕ)) (before mid after : Told)
+    (r : Runs desc (begun db first) i room all v held feed left before mid) → r.rest ≡ [] → RanPart mid after (ending held) → RanPart before after (script_events desc db first (raw_lines all))
+unfolding script_events
 runs_end_part desc db first i room all v held feed left before mid after r none part =
     let g = begun db first in
     let whole : raw_lines all ≡ r.done = r.split ∙ ap (λ (ls : List (List ℕ)). r.done ++ ls) (lines_none r.rest none) ∙ append-nil r.done in
-    subst (λ (ls : List (List ℕ)). PrintsFront before after ((script_run desc db first ls).text ++ unanswered (script_run desc db first ls).going.held)) (sym whole)
-    (front_on before mid after (lines_run desc g r.done).text (unanswered (lines_run desc g r.done).going.held) r.said (subst (λ (hs : List Held). PrintsFront mid after (unanswered hs)) r.held_is part))
+    subst (λ (ls : List (List ℕ)). RanPart before after ((script_run desc db first ls).events ++ ending (script_run desc db first ls).going.held)) (sym whole)
+    (part_on before mid after (lines_run desc g r.done).events (ending (lines_run desc g r.done).going.held) r.ran (subst (λ (hs : List Held). RanPart mid after (ending hs)) r.held_is part))
 
--- a front of what a line says is one of what it and those behind it say
-pub line_part : (desc : Described) (g : Going) (all : List ℕ) (before after : Option (List ℕ)) → all ≢ [] → PrintsFront before after (line_step desc g (first_line all)).text → PrintsFront before after (lines_run desc g (raw_lines all)).text
+-- a front of what a line does is one of what it and those behind it do
+pub line_part : (desc : Described) (g : Going) (all : List ℕ) (before after : Told) → all ≢ [] → RanPart before after (line_step desc g (first_line all)).events → RanPart before after (lines_run desc g (raw_lines all)).events
 line_part desc g all before after some part = at (line_step desc g l).full refl
   where
     l : List ℕ
@@ -285,7 +298,7 @@ line_part desc g all before after some part = at (line_step desc g l).full refl
     more : List (List ℕ)
     more = raw_lines (after_line all)
 
-    at : (b : Bool) → (line_step desc g l).full ≡ b → PrintsFront before after (lines_run desc g (raw_lines all)).text
-    at true is = subst (λ (t : List ℕ). PrintsFront before after t) (sym (ap (λ (ls : List (List ℕ)). (lines_run desc g ls).text) (lines_step all some) ∙ ap (λ (x : Lined). x.text) (run_full desc g l more is))) part
-    at false is = subst (λ (t : List ℕ). PrintsFront before after t) (sym (ap (λ (ls : List (List ℕ)). (lines_run desc g ls).text) (lines_step all some) ∙ ap (λ (x : Lined). x.text) (run_step desc g l more is)))
-        (front_of_first before after (line_step desc g l).text (lines_run desc (line_step desc g l).going more).text part)
+    at : (b : Bool) → (line_step desc g l).full ≡ b → RanPart before after (lines_run desc g (raw_lines all)).events
+    at true is = subst (λ (t : List Event). RanPart before after t) (sym (ap (λ (ls : List (List ℕ)). (lines_run desc g ls).events) (lines_step all some) ∙ ap (λ (x : Lined). x.events) (run_full desc g l more is))) part
+    at false is = subst (λ (t : List Event). RanPart before after t) (sym (ap (λ (ls : List (List ℕ)). (lines_run desc g ls).events) (lines_step all some) ∙ ap (λ (x : Lined). x.events) (run_step desc g l more is)))
+        (part_of_first before after (line_step desc g l).events (lines_run desc (line_step desc g l).going more).events part)

@@ -47,3 +47,9 @@ front_of_first a b x y part = λ t is.
 pub front_on : (a b c : Option (List ℕ)) (x y : List ℕ) → Prints a b x → PrintsFront b c y → PrintsFront a c (x ++ y)
 front_on a b c x y first then_ = λ t is. let p = then_ (t ++ x) (first t is) in
     (length x + p.0, p.1 ∙ ap (λ (z : List ℕ). Some z) (append_assoc t x (take p.0 y)) ∙ ap (λ (z : List ℕ). Some (t ++ z)) (sym (take-append-add x y p.0)))
+
+-- a text, and a front of the next, is a front of all
+pub some_front : (x y z : List ℕ) (n : ℕ) → (k : ℕ) × (x ++ take n y ≡ take k (x ++ (y ++ z)))
+some_front x y z n =
+    let c = capped (nat_le (length y) n) n y refl in
+    (length x + c.0, ap (λ (l : List ℕ). x ++ l) (c.1 ∙ sym (take-append-le c.0 y z c.2)) ∙ sym (take-append-add x (y ++ z) c.0))

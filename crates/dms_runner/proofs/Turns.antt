@@ -4,15 +4,15 @@ use Rattle.std.specs.declared.option.Option.{Option}
 use Rattle.std.specs.List.{remove}
 use Rattle.std.proofs.lemmas.List.{append-nil, take_at}
 use Rattle.dms_desc.specs.Shape.{Described}
-use Rattle.dms_model.specs.Points.{Quiet, Prints, PrintsFront}
 use Rattle.dms_storeverbs.specs.View.{View, Stands, Room}
 use Rattle.dms_model.specs.Session.{Session, step, is_waits}
 use Rattle.dms_model.proofs.Rises.{step_small}
 use Rattle.dms_runner.specs.declared.held.Held.{Held}
-use Rattle.dms_runner.specs.Held.{has_line, waiting, Walk, saying, walk, walks}
+use Rattle.dms_runner.specs.Held.{has_line, waiting, Walk, behind, walk, walks}
 use Rattle.dms_runner.specs.Trying.{Passes, Walks}
-use Rattle.dms_runner.proofs.Texts.{prints_none, prints_on, front_on, front_of_first}
-use Rattle.dms_runner.proofs.Passes.{walk_skips, walk_waits, walk_answers, walk_ends, walks_again, walks_end, saying_on}
+use Rattle.dms_runner.specs.Events.{Event, Told, Ran, RanPart}
+use Rattle.dms_runner.proofs.Happening.{ran_none, ran_on, part_on, part_of_first}
+use Rattle.dms_runner.proofs.Passes.{walk_skips, walk_waits, walk_answers, walk_ends, walks_again, walks_end, behind_on}
 
 -- each answer takes a line from the list, and makes one quiet point at most
 abbrev Low : Session → ℕ → Walk → Type 0
@@ -47,25 +47,24 @@ walks_low zero desc s held = omega arith
 walks_low (suc n) desc s held = low_answer n desc s held (walk desc s [] held).answered refl (walks_low n desc (walk desc s [] held).session (walk desc s [] held).held)
 
 -- how the walks stand after so many turns
-pub record Walking (desc : Described) (s : Session) (first : List Held) (turn : ℕ) (now : List Held) (v : View) (before after : Option (List ℕ)) : Type 0 where
-  pub text : List ℕ
-  pub quiets : List Quiet
+pub record Walking (desc : Described) (s : Session) (first : List Held) (turn : ℕ) (now : List Held) (v : View) (before after : Told) : Type 0 where
+  pub events : List Event
   pub at : Session
   pub left : ℕ
   pub fuel : left + turn ≡ length first
-  pub is : walks (length first) desc s first ≡ saying text quiets (walks left desc at now)
+  pub is : walks (length first) desc s first ≡ behind events (walks left desc at now)
   pub stands : Stands v at
   pub low : at.next + length now ≤ s.next + length first
-  pub said : Prints before after text
+  pub ran : Ran before after events
 
-pub walking_start : (desc : Described) (s : Session) (first : List Held) (v : View) (said : Option (List ℕ)) → Stands v s → Walking desc s first 0 first v said said
-walking_start desc s first v said stands = record { text = []; quiets = []; at = s; left = length first; fuel = omega arith; is = refl; stands = stands; low = omega arith; said = prints_none said said refl }
+pub walking_start : (desc : Described) (s : Session) (first : List Held) (v : View) (said : Told) → Stands v s → Walking desc s first 0 first v said said
+walking_start desc s first v said stands = record { events = []; at = s; left = length first; fuel = omega arith; is = refl; stands = stands; low = omega arith; ran = ran_none said }
 
-pub walking_room : (desc : Described) (s : Session) (first : List Held) (turn : ℕ) (now : List Held) (v : View) (before after : Option (List ℕ)) (k : Walking desc s first turn now v before after) → s.next + length first + 2 < 2 ^ 64 → Room k.at.next
+pub walking_room : (desc : Described) (s : Session) (first : List Held) (turn : ℕ) (now : List Held) (v : View) (before after : Told) (k : Walking desc s first turn now v before after) → s.next + length first + 2 < 2 ^ 64 → Room k.at.next
 walking_room desc s first turn now v before after k room = omega (arith, k.low, room)
 
 -- a walk answered a line
-pub walking_on : (desc : Described) (s : Session) (first : List Held) (turn : ℕ) (now next last : List Held) (i : ℕ) (v w : View) (before mid after : Option (List ℕ)) (k : Walking desc s first turn now v before mid)
+pub walking_on : (desc : Described) (s : Session) (first : List Held) (turn : ℕ) (now next last : List Held) (i : ℕ) (v w : View) (before mid after : Told) (k : Walking desc s first turn now v before mid)
     → turn < length first → Passes (walk desc k.at [] now) w next (Some i) mid after → last ≡ remove next i → Walking desc s first (turn + 1) last w before after
 walking_on desc s first turn now next last i v w before mid after k more p gone = from k.left k.fuel k.is
   where
@@ -75,78 +74,77 @@ walking_on desc s first turn now next last i v w before mid after k more p gone 
     held_is : x.held ≡ last
     held_is = p.found_is.2 ∙ sym gone
 
-    from : (n : ℕ) → n + turn ≡ length first → walks (length first) desc s first ≡ saying k.text k.quiets (walks n desc k.at now) → Walking desc s first (turn + 1) last w before after
+    from : (n : ℕ) → n + turn ≡ length first → walks (length first) desc s first ≡ behind k.events (walks n desc k.at now) → Walking desc s first (turn + 1) last w before after
     from zero fuel is = absurd (omega (arith, fuel, more))
     from (suc n) fuel is = record {
-      text = k.text ++ x.text;
-      quiets = k.quiets ++ x.quiets;
+      events = k.events ++ x.events;
       at = x.session;
       left = n;
       fuel = omega (arith, fuel);
-      is = is ∙ ap (λ (y : Walk). saying k.text k.quiets y) (walks_again n desc k.at now p.found_is.1) ∙ saying_on k.text x.text k.quiets x.quiets _ ∙ ap (λ (l : List Held). saying (k.text ++ x.text) (k.quiets ++ x.quiets) (walks n desc x.session l)) held_is;
+      is = is ∙ ap (λ (y : Walk). behind k.events y) (walks_again n desc k.at now p.found_is.1) ∙ behind_on k.events x.events _ ∙ ap (λ (l : List Held). behind (k.events ++ x.events) (walks n desc x.session l)) held_is;
       stands = p.session;
       low = omega (arith, k.low, walk_low desc k.at [] now, ap length held_is);
-      said = prints_on before mid after k.text x.text k.said p.text;
+      ran = ran_on before mid after k.events x.events k.ran p.ran;
     }
 
 -- a walk answered none
-pub walking_end : (desc : Described) (s : Session) (first : List Held) (turn : ℕ) (now next : List Held) (v w : View) (before mid after : Option (List ℕ)) (k : Walking desc s first turn now v before mid)
+pub walking_end : (desc : Described) (s : Session) (first : List Held) (turn : ℕ) (now next : List Held) (v w : View) (before mid after : Told) (k : Walking desc s first turn now v before mid)
     → turn < length first → Passes (walk desc k.at [] now) w next None mid after → Walks (walks (length first) desc s first) w next before after
 walking_end desc s first turn now next v w before mid after k more p = from k.left k.fuel k.is
   where
     x : Walk
     x = walk desc k.at [] now
 
-    from : (n : ℕ) → n + turn ≡ length first → walks (length first) desc s first ≡ saying k.text k.quiets (walks n desc k.at now) → Walks (walks (length first) desc s first) w next before after
+    from : (n : ℕ) → n + turn ≡ length first → walks (length first) desc s first ≡ behind k.events (walks n desc k.at now) → Walks (walks (length first) desc s first) w next before after
     from zero fuel is = absurd (omega (arith, fuel, more))
     from (suc n) fuel is =
-        let e : walks (length first) desc s first ≡ saying k.text k.quiets x = is ∙ ap (λ (y : Walk). saying k.text k.quiets y) (walks_end n desc k.at now p.found_is.0) in
+        let e : walks (length first) desc s first ≡ behind k.events x = is ∙ ap (λ (y : Walk). behind k.events y) (walks_end n desc k.at now p.found_is.0) in
         record {
           session = subst (λ (t : Session). Stands w t) (sym (ap (λ (y : Walk). y.session) e)) p.session;
           held_is = sym (ap (λ (y : Walk). y.held) e ∙ p.found_is.1);
-          text = subst (λ (t : List ℕ). Prints before after t) (sym (ap (λ (y : Walk). y.text) e)) (prints_on before mid after k.text x.text k.said p.text);
+          ran = subst (λ (t : List Event). Ran before after t) (sym (ap (λ (y : Walk). y.events) e)) (ran_on before mid after k.events x.events k.ran p.ran);
         }
 
 -- as many lines were answered as there were
-pub walking_out : (desc : Described) (s : Session) (first : List Held) (turn : ℕ) (now : List Held) (v : View) (before after : Option (List ℕ)) → Walking desc s first turn now v before after
+pub walking_out : (desc : Described) (s : Session) (first : List Held) (turn : ℕ) (now : List Held) (v : View) (before after : Told) → Walking desc s first turn now v before after
     → length first ≤ turn → Walks (walks (length first) desc s first) v now before after
 unfolding walks
 walking_out desc s first turn now v before after k over = from k.left k.fuel k.is
   where
-    from : (n : ℕ) → n + turn ≡ length first → walks (length first) desc s first ≡ saying k.text k.quiets (walks n desc k.at now) → Walks (walks (length first) desc s first) v now before after
+    from : (n : ℕ) → n + turn ≡ length first → walks (length first) desc s first ≡ behind k.events (walks n desc k.at now) → Walks (walks (length first) desc s first) v now before after
     from zero fuel is = record {
       session = subst (λ (t : Session). Stands v t) (sym (ap (λ (y : Walk). y.session) is)) k.stands;
       held_is = sym (ap (λ (y : Walk). y.held) is);
-      text = subst (λ (t : List ℕ). Prints before after t) (sym (ap (λ (y : Walk). y.text) is ∙ append-nil k.text)) k.said;
+      ran = subst (λ (t : List Event). Ran before after t) (sym (ap (λ (y : Walk). y.events) is ∙ append-nil k.events)) k.ran;
     }
     from (suc n) fuel is = absurd (omega (arith, fuel, over))
 
--- a walk that failed printed a front of what the walks say
-pub walking_part : (desc : Described) (s : Session) (first : List Held) (turn : ℕ) (now : List Held) (v : View) (before mid after : Option (List ℕ)) (k : Walking desc s first turn now v before mid)
-    → turn < length first → PrintsFront mid after (walk desc k.at [] now).text → PrintsFront before after (walks (length first) desc s first).text
+-- a walk that failed did a front of what the walks do
+pub walking_part : (desc : Described) (s : Session) (first : List Held) (turn : ℕ) (now : List Held) (v : View) (before mid after : Told) (k : Walking desc s first turn now v before mid)
+    → turn < length first → RanPart mid after (walk desc k.at [] now).events → RanPart before after (walks (length first) desc s first).events
 walking_part desc s first turn now v before mid after k more part = from k.left k.fuel k.is
   where
     x : Walk
     x = walk desc k.at [] now
 
-    rest : (n : ℕ) (b : Bool) → x.answered ≡ b → (r : List ℕ) × ((walks (suc n) desc k.at now).text ≡ x.text ++ r)
-    rest n true is = (_, ap (λ (y : Walk). y.text) (walks_again n desc k.at now is))
-    rest n false is = ([], ap (λ (y : Walk). y.text) (walks_end n desc k.at now is) ∙ sym (append-nil x.text))
+    rest : (n : ℕ) (b : Bool) → x.answered ≡ b → (r : List Event) × ((walks (suc n) desc k.at now).events ≡ x.events ++ r)
+    rest n true is = (_, ap (λ (y : Walk). y.events) (walks_again n desc k.at now is))
+    rest n false is = ([], ap (λ (y : Walk). y.events) (walks_end n desc k.at now is) ∙ sym (append-nil x.events))
 
-    from : (n : ℕ) → n + turn ≡ length first → walks (length first) desc s first ≡ saying k.text k.quiets (walks n desc k.at now) → PrintsFront before after (walks (length first) desc s first).text
+    from : (n : ℕ) → n + turn ≡ length first → walks (length first) desc s first ≡ behind k.events (walks n desc k.at now) → RanPart before after (walks (length first) desc s first).events
     from zero fuel is = absurd (omega (arith, fuel, more))
     from (suc n) fuel is =
         let r = rest n x.answered refl in
-        subst (λ (t : List ℕ). PrintsFront before after t) (sym (ap (λ (y : Walk). y.text) is ∙ ap (λ (t : List ℕ). k.text ++ t) r.1)) (front_on before mid after k.text (x.text ++ r.0) k.said (front_of_first mid after x.text r.0 part))
+        subst (λ (t : List Event). RanPart before after t) (sym (ap (λ (y : Walk). y.events) is ∙ ap (λ (t : List Event). k.events ++ t) r.1)) (part_on before mid after k.events (x.events ++ r.0) k.ran (part_of_first mid after x.events r.0 part))
 
 -- the same walk over the same list
-pub passes_from : (d e : Described) (s : Session) (l m : List Held) (v : View) (now : List Held) (found found' : Option ℕ) (before after : Option (List ℕ)) → d ≡ e → l ≡ m → found ≡ found'
+pub passes_from : (d e : Described) (s : Session) (l m : List Held) (v : View) (now : List Held) (found found' : Option ℕ) (before after : Told) → d ≡ e → l ≡ m → found ≡ found'
     → Passes (walk d s [] l) v now found before after → Passes (walk e s [] m) v now found' before after
 passes_from d e s l m v now found found' before after p q r x =
     subst (λ (o : Option ℕ). Passes (walk e s [] m) v now o before after) r (subst (λ (k : List Held). Passes (walk e s [] k) v now found before after) q (subst (λ (k : Described). Passes (walk k s [] l) v now found before after) p x))
 
-pub part_from : (d e : Described) (s : Session) (l m : List Held) (before after : Option (List ℕ)) → d ≡ e → l ≡ m → PrintsFront before after (walk d s [] l).text → PrintsFront before after (walk e s [] m).text
-part_from d e s l m before after p q x = subst (λ (k : List Held). PrintsFront before after (walk e s [] k).text) q (subst (λ (k : Described). PrintsFront before after (walk k s [] l).text) p x)
+pub part_from : (d e : Described) (s : Session) (l m : List Held) (before after : Told) → d ≡ e → l ≡ m → RanPart before after (walk d s [] l).events → RanPart before after (walk e s [] m).events
+part_from d e s l m before after p q x = subst (λ (k : List Held). RanPart before after (walk e s [] k).events) q (subst (λ (k : Described). RanPart before after (walk k s [] l).events) p x)
 
 -- a list of the same length, written back
 pub written : (old new : List Held) (n : ℕ) → n ≡ length old → length new ≡ length old → take n (new ++ drop (length new) old) ≡ new

@@ -10,6 +10,7 @@ use Rattle.dms_model.specs.Points.{Prints}
 use Rattle.dms_storeverbs.specs.View.{View}
 use Rattle.dms_runner.specs.declared.held.Held.{Held}
 use Rattle.dms_runner.specs.Answers.{Going, line_step, script_run, answers_text}
+use Rattle.dms_runner.specs.Events.{text_of, Told}
 use Rattle.dms_runner.specs.Trying.{GoesOn}
 
 -- how many bytes these lines have
@@ -23,7 +24,7 @@ joined [] = []
 joined (l ∷ ls) = l ++ joined ls
 
 -- the first line of the input was taken, and there was room for its bytes
-pub record TookLine (desc : Described) (g : Going) (all : List ℕ) (room room' : ℕ) (now : View) (held : List Held) (feed : List ℕ) (left : Option (List ℕ)) (before after : Option (List ℕ)) : Type 0 where
+pub record TookLine (desc : Described) (g : Going) (all : List ℕ) (room room' : ℕ) (now : View) (held : List Held) (feed : List ℕ) (left : Option (List ℕ)) (before after : Told) : Type 0 where
   pub some : all ≢ []
   pub remains : Remains feed left (after_line all)
   pub bytes : room' + length (first_line all) ≡ room
@@ -40,7 +41,7 @@ pub record Answered (desc : Described) (db : Db) (first : ℕ) (lines : List (Li
 pub record Took (desc : Described) (db : Db) (first : ℕ) (lines : List (List ℕ)) (n : ℕ) (before after : Option (List ℕ)) : Type 0 where
   pub within : n ≤ length lines
   pub room : (script_run desc db first (take n lines)).full ≡ false
-  pub text : Prints before after (script_run desc db first (take n lines)).text
+  pub text : Prints before after (text_of (script_run desc db first (take n lines)).events)
 
 -- the script has a line too many: all lines before it were taken
 abbrev pub PassesLines : Described → Db → ℕ → List (List ℕ) → Option (List ℕ) → Option (List ℕ) → Type 0

@@ -1,12 +1,12 @@
-ghost use Rattle.std.specs.Prelude.{◌≡◌, ◌≤◌, ◌<◌, ◌+◌, ◌^◌, ◌++◌, [], ◌∷◌, ℕ, List, Bool, true, false, not, Some, None, IfOk, IfSome, OnOk, IsErrOf, length};
+ghost use Rattle.std.specs.Prelude.{◌≡◌, ◌≤◌, ◌<◌, ◌+◌, ◌^◌, ◌++◌, [], ◌∷◌, ℕ, List, Bool, true, false, not, Some, None, IfOk, IfSome, OnOk, IsErrOf, length, IsTrue};
 ghost use Rattle.dms_base.specs.Causes.{Rose};
 ghost use Rattle.dms_desc.specs.Shape.{described};
-ghost use Rattle.dms_model.specs.Points.{Prints, PrintsFront};
 ghost use Rattle.dms_model.specs.Session.{Session, step, is_waits};
 ghost use Rattle.dms_storeverbs.specs.View.{View, view, Stands, Room};
+ghost use Rattle.dms_runner.specs.Events.{told_by, RanPart};
 ghost use Rattle.std.specs.Prelude.{slice_get, take, slice_set};
 ghost use Rattle.dms_runner.specs.declared.held.Held.{Held as HeldLine};
-ghost use Rattle.dms_runner.specs.Held.{has_line, tried_text, waiting, walk, walks};
+ghost use Rattle.dms_runner.specs.Held.{has_line, tries, waiting, walk, walks};
 ghost use Rattle.dms_runner.specs.Trying.{Passes, Tries, Walks};
 
 use crate::Held;
@@ -42,8 +42,8 @@ fn try_at<St: Store>(
     requires sound { St.sound engine.old.store }
     requires desc { St.desc engine.old.store ≡ described engine.old.desc }
     requires place { i < length held.now }
-    ensures tried { IfOk result (λ answered. (h : HeldLine) → slice_get held.now i ≡ Some h → (s : Session) → Stands (view (St.db engine.old.store) (St.mark engine.old.store) (St.next engine.old.store) engine.old.programs.items engine.old.pending engine.old.since) s → Room s.next → Tries (step (described engine.old.desc) s h.program h.verb) h answered (view (St.db engine.new.store) (St.mark engine.new.store) (St.next engine.new.store) engine.new.programs.items engine.new.pending engine.new.since) (St.said engine.old.store) (St.said engine.new.store)) }
-    ensures part { (h : HeldLine) → slice_get held.now i ≡ Some h → (s : Session) → Stands (view (St.db engine.old.store) (St.mark engine.old.store) (St.next engine.old.store) engine.old.programs.items engine.old.pending engine.old.since) s → Room s.next → PrintsFront (St.said engine.old.store) (St.said engine.new.store) (tried_text h (step (described engine.old.desc) s h.program h.verb)) }
+    ensures tried { IfOk result (λ answered. (h : HeldLine) → slice_get held.now i ≡ Some h → (s : Session) → Stands (view (St.db engine.old.store) (St.mark engine.old.store) (St.next engine.old.store) engine.old.programs.items engine.old.pending engine.old.since) s → Room s.next → Tries (step (described engine.old.desc) s h.program h.verb) h answered (view (St.db engine.new.store) (St.mark engine.new.store) (St.next engine.new.store) engine.new.programs.items engine.new.pending engine.new.since) (told_by (IsTrue St.tells_moments) (St.said engine.old.store) (St.points engine.old.store) (St.sure engine.old.store) (St.next engine.old.store) (St.clock engine.old.store)) (told_by (IsTrue St.tells_moments) (St.said engine.new.store) (St.points engine.new.store) (St.sure engine.new.store) (St.next engine.new.store) (St.clock engine.new.store))) }
+    ensures part { (h : HeldLine) → slice_get held.now i ≡ Some h → (s : Session) → Stands (view (St.db engine.old.store) (St.mark engine.old.store) (St.next engine.old.store) engine.old.programs.items engine.old.pending engine.old.since) s → Room s.next → RanPart (told_by (IsTrue St.tells_moments) (St.said engine.old.store) (St.points engine.old.store) (St.sure engine.old.store) (St.next engine.old.store) (St.clock engine.old.store)) (told_by (IsTrue St.tells_moments) (St.said engine.new.store) (St.points engine.new.store) (St.sure engine.new.store) (St.next engine.new.store) (St.clock engine.new.store)) (tries h (step (described engine.old.desc) s h.program h.verb)) }
     ensures sound { OnOk result (St.sound engine.new.store) }
     ensures description { engine.new.desc ≡ engine.old.desc }
     ensures desc { St.desc engine.new.store ≡ St.desc engine.old.store }
@@ -76,8 +76,8 @@ fn pass<St: Store>(
     requires desc { St.desc engine.old.store ≡ described engine.old.desc }
     ensures place { IfOk result (λ found. IfSome found (λ i. i < length held.new)) }
     ensures long { length held.new ≡ length held.old }
-    ensures passes { IfOk result (λ found. (s : Session) → Stands (view (St.db engine.old.store) (St.mark engine.old.store) (St.next engine.old.store) engine.old.programs.items engine.old.pending engine.old.since) s → Room s.next → Passes (walk (described engine.old.desc) s [] held.old) (view (St.db engine.new.store) (St.mark engine.new.store) (St.next engine.new.store) engine.new.programs.items engine.new.pending engine.new.since) held.new found (St.said engine.old.store) (St.said engine.new.store)) }
-    ensures part { (s : Session) → Stands (view (St.db engine.old.store) (St.mark engine.old.store) (St.next engine.old.store) engine.old.programs.items engine.old.pending engine.old.since) s → Room s.next → PrintsFront (St.said engine.old.store) (St.said engine.new.store) (walk (described engine.old.desc) s [] held.old).text }
+    ensures passes { IfOk result (λ found. (s : Session) → Stands (view (St.db engine.old.store) (St.mark engine.old.store) (St.next engine.old.store) engine.old.programs.items engine.old.pending engine.old.since) s → Room s.next → Passes (walk (described engine.old.desc) s [] held.old) (view (St.db engine.new.store) (St.mark engine.new.store) (St.next engine.new.store) engine.new.programs.items engine.new.pending engine.new.since) held.new found (told_by (IsTrue St.tells_moments) (St.said engine.old.store) (St.points engine.old.store) (St.sure engine.old.store) (St.next engine.old.store) (St.clock engine.old.store)) (told_by (IsTrue St.tells_moments) (St.said engine.new.store) (St.points engine.new.store) (St.sure engine.new.store) (St.next engine.new.store) (St.clock engine.new.store))) }
+    ensures part { (s : Session) → Stands (view (St.db engine.old.store) (St.mark engine.old.store) (St.next engine.old.store) engine.old.programs.items engine.old.pending engine.old.since) s → Room s.next → RanPart (told_by (IsTrue St.tells_moments) (St.said engine.old.store) (St.points engine.old.store) (St.sure engine.old.store) (St.next engine.old.store) (St.clock engine.old.store)) (told_by (IsTrue St.tells_moments) (St.said engine.new.store) (St.points engine.new.store) (St.sure engine.new.store) (St.next engine.new.store) (St.clock engine.new.store)) (walk (described engine.old.desc) s [] held.old).events }
     ensures sound { OnOk result (St.sound engine.new.store) }
     ensures description { engine.new.desc ≡ engine.old.desc }
     ensures desc { St.desc engine.new.store ≡ St.desc engine.old.store }
@@ -108,8 +108,8 @@ pub fn walk_all<St: Store>(
 ) -> Result<(), BlockFault>
     requires sound { St.sound engine.old.store }
     requires desc { St.desc engine.old.store ≡ described engine.old.desc }
-    ensures walks { OnOk result ((s : Session) → Stands (view (St.db engine.old.store) (St.mark engine.old.store) (St.next engine.old.store) engine.old.programs.items engine.old.pending engine.old.since) s → s.next + length held.old.items + 2 < 2 ^ 64 → Walks (walks (length held.old.items) (described engine.old.desc) s held.old.items) (view (St.db engine.new.store) (St.mark engine.new.store) (St.next engine.new.store) engine.new.programs.items engine.new.pending engine.new.since) held.new.items (St.said engine.old.store) (St.said engine.new.store)) }
-    ensures part { (s : Session) → Stands (view (St.db engine.old.store) (St.mark engine.old.store) (St.next engine.old.store) engine.old.programs.items engine.old.pending engine.old.since) s → s.next + length held.old.items + 2 < 2 ^ 64 → PrintsFront (St.said engine.old.store) (St.said engine.new.store) (walks (length held.old.items) (described engine.old.desc) s held.old.items).text }
+    ensures walks { OnOk result ((s : Session) → Stands (view (St.db engine.old.store) (St.mark engine.old.store) (St.next engine.old.store) engine.old.programs.items engine.old.pending engine.old.since) s → s.next + length held.old.items + 2 < 2 ^ 64 → Walks (walks (length held.old.items) (described engine.old.desc) s held.old.items) (view (St.db engine.new.store) (St.mark engine.new.store) (St.next engine.new.store) engine.new.programs.items engine.new.pending engine.new.since) held.new.items (told_by (IsTrue St.tells_moments) (St.said engine.old.store) (St.points engine.old.store) (St.sure engine.old.store) (St.next engine.old.store) (St.clock engine.old.store)) (told_by (IsTrue St.tells_moments) (St.said engine.new.store) (St.points engine.new.store) (St.sure engine.new.store) (St.next engine.new.store) (St.clock engine.new.store))) }
+    ensures part { (s : Session) → Stands (view (St.db engine.old.store) (St.mark engine.old.store) (St.next engine.old.store) engine.old.programs.items engine.old.pending engine.old.since) s → s.next + length held.old.items + 2 < 2 ^ 64 → RanPart (told_by (IsTrue St.tells_moments) (St.said engine.old.store) (St.points engine.old.store) (St.sure engine.old.store) (St.next engine.old.store) (St.clock engine.old.store)) (told_by (IsTrue St.tells_moments) (St.said engine.new.store) (St.points engine.new.store) (St.sure engine.new.store) (St.next engine.new.store) (St.clock engine.new.store)) (walks (length held.old.items) (described engine.old.desc) s held.old.items).events }
     ensures sound { OnOk result (St.sound engine.new.store) }
     ensures description { engine.new.desc ≡ engine.old.desc }
     ensures desc { St.desc engine.new.store ≡ St.desc engine.old.store }

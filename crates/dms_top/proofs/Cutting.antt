@@ -9,6 +9,7 @@ use Rattle.dms_feed.specs.Lines.{raw_lines}
 use Rattle.dms_model.specs.Db.{empty_db}
 use Rattle.dms_plain.specs.Told.{told}
 use Rattle.dms_runner.specs.Answers.{lines_run, script_run}
+use Rattle.dms_runner.specs.Events.{text_of}
 use Rattle.dms_runner.specs.Running.{joined, CutInput}
 use Rattle.dms_runner.proofs.Running.{joined_on}
 use Rattle.dms_top.specs.Answering.{Printed, CutTry}
@@ -35,7 +36,7 @@ no_lines : (d : Described) → (script_run d empty_db 1 []).full ≡ false
 unfolding lines_run
 no_lines d = refl
 
-no_text : (d : Described) (said : List ℕ) → Printed said said (script_run d empty_db 1 []).text
+no_text : (d : Described) (said : List ℕ) → Printed said said (text_of (script_run d empty_db 1 []).events)
 unfolding lines_run
 no_text d said = sym (append-nil said)
 
@@ -53,7 +54,7 @@ cut_text d all left said c =
       left_is = c.cut.left_is;
       unended = c.cut.unended;
       room = ap (λ (ls : List (List ℕ)). (script_run d empty_db 1 ls).full) none ∙ no_lines d;
-      text = subst (λ (ls : List (List ℕ)). Printed said said (script_run d empty_db 1 ls).text) (sym none) (no_text d said);
+      text = subst (λ (ls : List (List ℕ)). Printed said said (text_of (script_run d empty_db 1 ls).events)) (sym none) (no_text d said);
     }
 
 -- within the script: the lines of the script that were taken are answered
@@ -73,5 +74,5 @@ cut_script d done all mid left before after leaves behind c =
       left_is = c.left_is;
       unended = c.unended;
       room = ap (λ (xs : List (List ℕ)). (script_run d empty_db 1 xs).full) s ∙ c.took.room;
-      text = subst (λ (xs : List (List ℕ)). Printed before after (script_run d empty_db 1 xs).text) (sym s) (same_Some _ _ (c.took.text before refl));
+      text = subst (λ (xs : List (List ℕ)). Printed before after (text_of (script_run d empty_db 1 xs).events)) (sym s) (same_Some _ _ (c.took.text before refl));
     }

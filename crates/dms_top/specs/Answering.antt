@@ -8,6 +8,7 @@ use Rattle.dms_feed.specs.Lines.{raw_lines}
 use Rattle.dms_feed.specs.Raws.{IsUnended}
 use Rattle.dms_model.specs.Db.{empty_db}
 use Rattle.dms_runner.specs.Answers.{script_run, answers_text}
+use Rattle.dms_runner.specs.Events.{text_of}
 use Rattle.dms_runner.specs.Running.{bytes_of, joined, PassesLines, PassesBytes, PassesHeld}
 use Rattle.dms_top.specs.declared.status.SchemaFault.{SchemaFault}
 use Rattle.dms_top.specs.declared.status.LimitKind.{LimitKind}
@@ -59,4 +60,4 @@ pub record CutTry (d : Described) (input : List ℕ) (left : Option (List ℕ)) 
   pub left_is : left ≡ Some rest
   pub unended : IsUnended part
   pub room : (script_run d empty_db 1 (script_part (take n (raw_lines input)))).full ≡ false
-  pub text : Printed before after (script_run d empty_db 1 (script_part (take n (raw_lines input)))).text
+  pub text : Printed before after (text_of (script_run d empty_db 1 (script_part (take n (raw_lines input)))).events)

@@ -3,19 +3,19 @@ use Rattle.dms_desc.specs.Shape.{described}
 use Rattle.dms_feed.specs.Feeds.{Remains}
 use Rattle.dms_feed.specs.Lines.{after_line, first_line}
 use Rattle.dms_model.specs.Points.{Prints}
-use Rattle.dms_runner.proofs.Texts.{front_none}
+use Rattle.dms_runner.proofs.Happening.{part_none}
 use Rattle.dms_runner.proofs.Lining.{line_silent}
 use Rattle.dms_runner.proofs.Running.{line_part}
 use Rattle.dms_runner.proofs.run.one_line.Goals as goal
 
 pub returns-in-Err-Input-clause-part : goal.returns-in-Err-Input-clause-part
-returns-in-Err-Input-clause-part g c = λ now all stands same line room remains. front_none _ _ _ refl
+returns-in-Err-Input-clause-part g c = λ now all stands same line room remains. part_none _ _
 
 pub returns-in-Err-Memory-clause-part : goal.returns-in-Err-Memory-clause-part
-returns-in-Err-Memory-clause-part g c = λ now all stands same line room remains. front_none _ _ _ refl
+returns-in-Err-Memory-clause-part g c = λ now all stands same line room remains. part_none _ _
 
 pub returns-in-Err-Bytes-clause-part : goal.returns-in-Err-Bytes-clause-part
-returns-in-Err-Bytes-clause-part g c = λ now all stands same line room remains. front_none _ _ _ refl
+returns-in-Err-Bytes-clause-part g c = λ now all stands same line room remains. part_none _ _
 
 pub returns-in-Err-Bytes-clause-bytes : goal.returns-in-Err-Bytes-clause-bytes
 returns-in-Err-Bytes-clause-bytes g c = λ _. (refl, λ all remains. c.in-Err-Bytes.ensures.bytes (ap Err c.in-Err-Bytes.field-0-is) all remains)
@@ -30,7 +30,7 @@ returns-in-Ok-None-clause-none g c = λ _. (
 )
 
 pub returns-in-Ok-None-clause-part : goal.returns-in-Ok-None-clause-part
-returns-in-Ok-None-clause-part g c = λ now all stands same line room remains. front_none _ _ _ refl
+returns-in-Ok-None-clause-part g c = λ now all stands same line room remains. part_none _ _
 
 pub returns-in-Ok-true-clause-took : goal.returns-in-Ok-true-clause-took
 returns-in-Ok-true-clause-took g c = λ _ now all stands same line room remains.
@@ -51,7 +51,7 @@ pub returns-in-Ok-false-clause-full_list : goal.returns-in-Ok-false-clause-full_
 returns-in-Ok-false-clause-full_list g c = λ _ now all stands same line room remains.
     let e = (rw c.in-Ok-Some.field-0-is at c.in-Ok-Some.ensures.line) all remains in
     let goes = (rw c.in-Ok-false.field-0-test at c.in-Ok-false.ensures.lined) now (first_line all) (c.as_slice.ensures ∙ e.0.1) stands same (ap (λ (n : ℕ). n + 1) line) room in
-    (subst (λ (t : List ℕ). Prints (g.St.Store.said c.args.engine.now.store) (g.St.Store.said c.take_line.new.engine.store) t) (line_silent (described c.args.engine.now.desc) now (first_line all) goes.full) goes.text, e.0.0, goes.full)
+    (subst (λ (t : List ℕ). Prints (g.St.Store.said c.args.engine.now.store) (g.St.Store.said c.take_line.new.engine.store) t) (line_silent (described c.args.engine.now.desc) now (first_line all) goes.full) goes.ran.text, e.0.0, goes.full)
 
 pub returns-in-Ok-false-clause-part : goal.returns-in-Ok-false-clause-part
 returns-in-Ok-false-clause-part g c = λ now all stands same line room remains.

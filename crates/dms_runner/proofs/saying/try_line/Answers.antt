@@ -1,19 +1,42 @@
-use Rattle.std.proofs.Common.{List, ℕ, subst}
-use Rattle.dms_model.specs.Points.{PrintsFront}
-use Rattle.dms_model.specs.Session.{step}
+use Rattle.std.proofs.Common.{◌∙◌, ◌+◌, ◌<◌, ◌^◌, [], ◌∷◌, ap, not, arith}
+use Rattle.dms_model.specs.declared.reply.Reply.{Reply}
+use Rattle.dms_model.specs.Session.{step, is_waits}
+use Rattle.dms_model.proofs.Rises.{step_small}
 use Rattle.dms_desc.specs.Shape.{described}
-use Rattle.dms_runner.proofs.Texts.{front_before}
-use Rattle.dms_runner.proofs.Tried.{tried_is}
+use Rattle.dms_runner.specs.Events.{calls}
+use Rattle.dms_runner.proofs.Happening.{ran_calls, ran_on, ran_as, part_calls, part_of_first, part_on, part_as}
+use Rattle.dms_runner.proofs.Tried.{says_tried}
 use Rattle.dms_runner.proofs.saying.try_line.Goals as goal
+
+pub returns-in_err-answer-clause-part : goal.returns-in_err-answer-clause-part
+returns-in_err-answer-clause-part g c = λ s stands room.
+    let o = step (described c.args.engine.now.desc) s c.args.held.now.program c.args.held.now.verb in
+    part_of_first _ _ (calls o ∷ []) _ (part_calls _ _ o c.call.ensures.said (λ t. c.call.ensures.moments t s stands room))
 
 pub returns-in_err-say_tried-clause-part : goal.returns-in_err-say_tried-clause-part
 returns-in_err-say_tried-clause-part g c = λ s stands room.
+    let o = step (described c.args.engine.now.desc) s c.args.held.now.program c.args.held.now.verb in
     let is = c.in_ok-answer.ensures.step s stands room in
-    subst (λ (x : List ℕ). PrintsFront (g.St.Store.said c.args.engine.now.store) (g.St.Store.said c.say_tried.new.engine.store) x) (tried_is c.args.held.now (step (described c.args.engine.now.desc) s c.args.held.now.program c.args.held.now.verb) _ _ is.reply is.sync)
-    (front_before _ _ _ _ c.call.ensures.said c.say_tried.ensures.part)
+    let room' : g.St.Store.next c.call.new.self.store + 1 < 2 ^ 64 = omega (arith, is.session.next, (step_small (described c.args.engine.now.desc) s c.args.held.now.program c.args.held.now.verb).high, room) in
+    let called = ran_calls _ _ o c.in_ok-answer.answer (λ t. t) c.call.ensures.said c.call.ensures.not_fallen is.sync (λ t. c.in_ok-answer.ensures.makes t s stands room) (λ t. c.call.ensures.moments t s stands room) in
+    part_on _ _ _ (calls o ∷ []) _ called (part_as _ _ _ _ (says_tried c.args.held.now o _ _ is.reply is.sync) (c.say_tried.ensures.part room'))
+
+pub returns-clause-tried : goal.returns-clause-tried
+returns-clause-tried g c = λ s stands room.
+    let o = step (described c.args.engine.now.desc) s c.args.held.now.program c.args.held.now.verb in
+    let is = c.in_ok-answer.ensures.step s stands room in
+    let room' : g.St.Store.next c.call.new.self.store + 1 < 2 ^ 64 = omega (arith, is.session.next, (step_small (described c.args.engine.now.desc) s c.args.held.now.program c.args.held.now.verb).high, room) in
+    let called = ran_calls _ _ o c.in_ok-answer.answer (λ t. t) c.call.ensures.said c.call.ensures.not_fallen is.sync (λ t. c.in_ok-answer.ensures.makes t s stands room) (λ t. c.call.ensures.moments t s stands room) in
+    record {
+      answers = ap not (c.is_waits.ensures ∙ ap (λ (r : Reply). is_waits r) is.reply);
+      session = c.in_ok-say_tried.ensures.stands o.session is.session;
+      ran = ran_on _ _ _ (calls o ∷ []) _ called (ran_as _ _ _ _ (says_tried c.args.held.now o _ _ is.reply is.sync) (c.in_ok-say_tried.ensures.ran room'));
+    }
 
 pub returns-clause-part : goal.returns-clause-part
 returns-clause-part g c = λ s stands room.
+    let o = step (described c.args.engine.now.desc) s c.args.held.now.program c.args.held.now.verb in
     let is = c.in_ok-answer.ensures.step s stands room in
-    subst (λ (x : List ℕ). PrintsFront (g.St.Store.said c.args.engine.now.store) (g.St.Store.said c.say_tried.new.engine.store) x) (tried_is c.args.held.now (step (described c.args.engine.now.desc) s c.args.held.now.program c.args.held.now.verb) _ _ is.reply is.sync)
-    (front_before _ _ _ _ c.call.ensures.said c.say_tried.ensures.part)
+    let room' : g.St.Store.next c.call.new.self.store + 1 < 2 ^ 64 = omega (arith, is.session.next, (step_small (described c.args.engine.now.desc) s c.args.held.now.program c.args.held.now.verb).high, room) in
+    let called = ran_calls _ _ o c.in_ok-answer.answer (λ t. t) c.call.ensures.said c.call.ensures.not_fallen is.sync (λ t. c.in_ok-answer.ensures.makes t s stands room) (λ t. c.call.ensures.moments t s stands room) in
+    part_on _ _ _ (calls o ∷ []) _ called (part_as _ _ _ _ (says_tried c.args.held.now o _ _ is.reply is.sync) (c.say_tried.ensures.part room'))

@@ -1,12 +1,13 @@
-use Rattle.std.proofs.Common.{◌∙◌, List, refl, sym, ap, subst, arith, length}
+use Rattle.std.proofs.Common.{◌∙◌, List, refl, sym, ap, subst, arith, length, IsTrue}
 use Rattle.dms_desc.specs.Shape.{described}
 use Rattle.dms_storeverbs.specs.View.{view}
 use Rattle.std.specs.List.{remove}
 use Rattle.dms_runner.specs.declared.held.Held.{Held}
 use Rattle.dms_runner.specs.Held.{walks}
 use Rattle.dms_runner.specs.Trying.{Walks}
+use Rattle.dms_runner.specs.Events.{told_by}
 use Rattle.dms_runner.proofs.Turns.{walking_start, walking_on, walking_end, walking_out, walking_part, walking_room, passes_from, part_from, written}
-use Rattle.dms_runner.proofs.Texts.{front_all}
+use Rattle.dms_runner.proofs.Happening.{part_all}
 use Rattle.dms_runner.proofs.walking.walk_all.Goals as goal
 
 pub loop-turn-init : goal.loop-turn-init
@@ -33,7 +34,7 @@ pub returns-in-None-clause-walks : goal.returns-in-None-clause-walks
 returns-in-None-clause-walks g c = λ s stands room.
     let k = c.loop-turn.invariant.walking s stands room in
     let back = written c.loop-turn.held.items c.pass.new.held c.loop-turn.held.len c.loop-turn.held.ok.0 (c.pass.ensures.long ∙ ap length c.as_mut_slice.ensures.value) in
-    subst (λ (l : List Held). Walks (walks (length c.args.held.now.items) (described c.args.engine.now.desc) s c.args.held.now.items) (view (g.St.Store.db c.pass.new.engine.store) (g.St.Store.mark c.pass.new.engine.store) (g.St.Store.next c.pass.new.engine.store) c.pass.new.engine.programs.items c.pass.new.engine.pending c.pass.new.engine.since) l (g.St.Store.said c.args.engine.now.store) (g.St.Store.said c.pass.new.engine.store)) (sym back)
+    subst (λ (l : List Held). Walks (walks (length c.args.held.now.items) (described c.args.engine.now.desc) s c.args.held.now.items) (view (g.St.Store.db c.pass.new.engine.store) (g.St.Store.mark c.pass.new.engine.store) (g.St.Store.next c.pass.new.engine.store) c.pass.new.engine.programs.items c.pass.new.engine.pending c.pass.new.engine.since) l (told_by (IsTrue g.St.Store.tells_moments) (g.St.Store.said c.args.engine.now.store) (g.St.Store.points c.args.engine.now.store) (g.St.Store.sure c.args.engine.now.store) (g.St.Store.next c.args.engine.now.store) (g.St.Store.clock c.args.engine.now.store)) (told_by (IsTrue g.St.Store.tells_moments) (g.St.Store.said c.pass.new.engine.store) (g.St.Store.points c.pass.new.engine.store) (g.St.Store.sure c.pass.new.engine.store) (g.St.Store.next c.pass.new.engine.store) (g.St.Store.clock c.pass.new.engine.store))) (sym back)
     (walking_end _ s _ _ _ _ _ _ _ _ _ k (omega (arith, c.loop-turn-test.true, c.len-turn-end.ensures, c.args.held.now.ok.0))
     (passes_from _ _ k.at _ _ _ _ _ _ _ _ (ap described c.loop-turn.invariant.description) c.as_mut_slice.ensures.value c.in-None.is (c.in_ok-pass.ensures.passes k.at k.stands (walking_room _ s _ _ _ _ _ _ k room))))
 
@@ -68,4 +69,4 @@ returns-clause-walks g c = λ s stands room. walking_out _ s _ _ _ _ _ _ (c.loop
 pub returns-clause-part : goal.returns-clause-part
 returns-clause-part g c = λ s stands room.
     let w = walking_out _ s _ _ _ _ _ _ (c.loop-turn.invariant.walking s stands room) (omega (arith, c.loop-turn-test.false, c.len-turn-end.ensures, c.args.held.now.ok.0)) in
-    front_all _ _ _ w.text
+    part_all _ _ _ w.ran

@@ -1,0 +1,215 @@
+-- Events, one behind another.
+use Rattle.std.proofs.Common.{ℕ, ◌≡◌, ◌≤◌, ◌+◌, List, [], ◌∷◌, ◌++◌, length, take, map, Some, None, refl, sym, ◌∙◌, ap, subst, arith, append_assoc, length-append}
+use Rattle.std.specs.declared.option.Option.{Option}
+use Rattle.std.proofs.lemmas.List.{append-nil, map-append, length-map}
+use Rattle.dms_block.specs.Moments.{Runs}
+use Rattle.dms_block.specs.MomentLaws.{runs_none, runs_on, runs_weaken}
+use Rattle.dms_model.specs.declared.reply.Answer.{Answer}
+use Rattle.dms_model.specs.Db.{Db}
+use Rattle.dms_model.specs.Points.{Point, Quiet, Stop, Front, TextIs, TextGrows, Prints, PrintsFront, LeavesText, Leaves, Stays, told, known}
+use Rattle.dms_model.specs.Session.{Outcome}
+use Rattle.dms_storeverbs.specs.View.{Grew, Left, Made}
+use Rattle.dms_storeverbs.proofs.Calls.{lower, stays}
+use Rattle.dms_runner.specs.Events.{Event, calls, says, goes_back, text_of, quiets_of, covered, sure_after, Told, Stops, Ran, RanPart}
+use Rattle.dms_runner.proofs.Texts.{prints_none, prints_on, front_none, front_all, front_of_first, front_on}
+
+pub text_on : (x y : List Event) → text_of (x ++ y) ≡ text_of x ++ text_of y
+text_on [] y = refl
+text_on (e ∷ x) y = ap (λ (t : List ℕ). e.text ++ t) (text_on x y) ∙ sym (append_assoc e.text (text_of x) (text_of y))
+
+pub quiets_on : (x y : List Event) → quiets_of (x ++ y) ≡ quiets_of x ++ quiets_of y
+quiets_on [] y = refl
+quiets_on (e ∷ x) y = ap (λ (q : List Quiet). e.quiets ++ q) (quiets_on x y) ∙ sym (append_assoc e.quiets (quiets_of x) (quiets_of y))
+
+count_on : (c d e : ℕ) (s : ℕ) (y : List Event) → c + d ≡ e → sure_after e s y ≡ sure_after (c + d) s y
+count_on c d e s y same = ap (λ (n : ℕ). sure_after n s y) (sym same)
+
+pub sure_on : (c s : ℕ) (x y : List Event) → sure_after c s (x ++ y) ≡ sure_after (c + length (quiets_of x)) (sure_after c s x) y
+sure_on c s [] y = let e : c ≡ c + 0 = omega arith in ap (λ (n : ℕ). sure_after n s y) e
+sure_on c s (e ∷ x) y =
+    let n = c + length e.quiets in
+    let same : n + length (quiets_of x) ≡ c + length (e.quiets ++ quiets_of x) = omega (arith, length-append e.quiets (quiets_of x)) in
+    sure_on n (covered e.sync s n) x y ∙ ap (λ (k : ℕ). sure_after k (sure_after n (covered e.sync s n) x) y) same
+
+covered_low : (sync : Option ℕ) (low high all : ℕ) → low ≤ high → covered sync low all ≤ covered sync high all
+covered_low None low high all under = under
+covered_low (Some n) low high all under = omega arith
+
+-- where more is sure before, more is sure behind
+pub sure_low : (c low high : ℕ) (x : List Event) → low ≤ high → sure_after c low x ≤ sure_after c high x
+sure_low c low high [] under = under
+sure_low c low high (e ∷ x) under = sure_low (c + length e.quiets) (covered e.sync low (c + length e.quiets)) (covered e.sync high (c + length e.quiets)) x (covered_low e.sync low high (c + length e.quiets) under)
+
+pub grew_none : (p : List Point) → Grew p [] p
+grew_none p = record { more = []; is = sym (append-nil p); spells = refl }
+
+pub grew_on : {a b c : List Point} {q r : List Quiet} → Grew a q b → Grew b r c → Grew a (q ++ r) c
+grew_on {a} {q = q} {r = r} x y = record {
+  more = x.more ++ y.more;
+  is = y.is ∙ ap (λ (l : List Point). l ++ y.more) x.is ∙ append_assoc a x.more y.more;
+  spells = map-append told x.more y.more ∙ ap (λ (l : List (ℕ × Option Db)). l ++ map told y.more) x.spells ∙ ap (λ (l : List (ℕ × Option Db)). map known q ++ l) y.spells ∙ sym (map-append known q r);
+}
+
+pub length_grew : {a b : List Point} {q : List Quiet} → Grew a q b → length b ≡ length a + length q
+length_grew {a} {b} {q} x = omega (arith, ap length x.is, length-append a x.more, length-map x.more told, ap length x.spells, length-map q known)
+
+-- what is left of later points is left of all
+pub left_on : {a b : List Point} {q r : List Quiet} {low high m n : ℕ} {stop : Stop} → Grew a q b → low ≤ high → m ≤ n → Left high b n r stop → Left low a m (q ++ r) stop
+left_on {q = q} grew under fell l = record { made = q ++ l.made; rest = l.rest; all = l.all; front_of = append_assoc q l.made l.rest ∙ ap (λ (x : List Quiet). q ++ x) l.front_of; grew = grew_on grew l.grew; front = lower under fell l.front }
+
+-- no events
+pub ran_none : (a : Told) → Ran a a []
+ran_none a = record { text = prints_none a.said a.said refl; tells = λ t. t; not_fallen = omega arith; grew = λ t. grew_none a.points; sure = λ t. omega arith; moments = λ t. runs_none a.clock (Stops a []) }
+
+-- a stop within the first events
+pub stopped_first : (a : Told) (x y : List Event) (stop : Stop) → Stops a x stop → Stops a (x ++ y) stop
+stopped_first a x y stop s = record { before = s.before; at = s.at; rest = s.rest ++ y; whole = sym (append_assoc s.before (s.at ∷ s.rest) y) ∙ ap (λ (l : List Event). l ++ y) s.whole; left = s.left; text = s.text }
+
+-- a stop within the events behind those that happened
+pub stopped_on : (a b : Told) (x y : List Event) (stop : Stop) → a.tells → Ran a b x → Stops b y stop → Stops a (x ++ y) stop
+stopped_on a b x y stop t ran s =
+    let c = length a.points in
+    let high : sure_after c a.sure (x ++ s.before) ≤ sure_after (length b.points) b.sure s.before =
+    omega (arith, sure_on c a.sure x s.before, ap (λ (n : ℕ). sure_after n (sure_after c a.sure x) s.before) (length_grew (ran.grew t)), sure_low (length b.points) (sure_after c a.sure x) b.sure s.before (ran.sure t)) in
+    record {
+      before = x ++ s.before;
+      at = s.at;
+      rest = s.rest;
+      whole = append_assoc x s.before (s.at ∷ s.rest) ∙ ap (λ (l : List Event). x ++ l) s.whole;
+      left = subst (λ (q : List Quiet). Left (sure_after c a.sure (x ++ s.before)) a.points a.next q stop) (sym (append_assoc (quiets_of x) (quiets_of s.before) s.at.quiets) ∙ ap (λ (q : List Quiet). q ++ s.at.quiets) (sym (quiets_on x s.before))) (left_on (ran.grew t) high ran.not_fallen s.left);
+      text = λ said is.
+          let n = s.text (said ++ text_of x) (ran.text said is) in
+          (n.0, n.1 ∙ ap (λ (l : List ℕ). l ++ take n.0 s.at.text) (append_assoc said (text_of x) (text_of s.before) ∙ ap (λ (l : List ℕ). said ++ l) (sym (text_on x s.before))));
+    }
+
+-- events behind events
+pub ran_on : (a b c : Told) (x y : List Event) → Ran a b x → Ran b c y → Ran a c (x ++ y)
+ran_on a b c x y first next = record {
+  text = subst (λ (t : List ℕ). Prints a.said c.said t) (sym (text_on x y)) (prints_on a.said b.said c.said (text_of x) (text_of y) first.text next.text);
+  tells = λ t. next.tells (first.tells t);
+  not_fallen = omega (arith, first.not_fallen, next.not_fallen);
+  grew = λ t. subst (λ (q : List Quiet). Grew a.points q c.points) (sym (quiets_on x y)) (grew_on (first.grew t) (next.grew (first.tells t)));
+  sure = λ t. omega (arith, sure_on (length a.points) a.sure x y, ap (λ (n : ℕ). sure_after n (sure_after (length a.points) a.sure x) y) (length_grew (first.grew t)), sure_low (length b.points) (sure_after (length a.points) a.sure x) b.sure y (first.sure t), next.sure (first.tells t));
+  moments = λ t. runs_on (runs_weaken (first.moments t) (stopped_first a x y)) (next.moments (first.tells t)) (λ stop s. stopped_on a b x y stop t first s);
+}
+
+-- no event of them happened
+pub part_none : (a : Told) (x : List Event) → RanPart a a x
+part_none a x = record { text = front_none a.said a.said (text_of x) refl; moments = λ t. runs_none a.clock (Stops a x) }
+
+-- all of them happened
+pub part_all : (a b : Told) (x : List Event) → Ran a b x → RanPart a b x
+part_all a b x ran = record { text = front_all a.said b.said (text_of x) ran.text; moments = ran.moments }
+
+-- a front of the first events is a front of all
+pub part_of_first : (a b : Told) (x y : List Event) → RanPart a b x → RanPart a b (x ++ y)
+part_of_first a b x y part = record {
+  text = subst (λ (t : List ℕ). PrintsFront a.said b.said t) (sym (text_on x y)) (front_of_first a.said b.said (text_of x) (text_of y) part.text);
+  moments = λ t. runs_weaken (part.moments t) (stopped_first a x y);
+}
+
+-- events, and a front of those behind them
+pub part_on : (a b c : Told) (x y : List Event) → Ran a b x → RanPart b c y → RanPart a c (x ++ y)
+part_on a b c x y first next = record {
+  text = subst (λ (t : List ℕ). PrintsFront a.said c.said t) (sym (text_on x y)) (front_on a.said b.said c.said (text_of x) (text_of y) first.text next.text);
+  moments = λ t. runs_on (runs_weaken (first.moments t) (stopped_first a x y)) (next.moments (first.tells t)) (λ stop s. stopped_on a b x y stop t first s);
+}
+
+-- the same events, told otherwise
+pub ran_as : (a b : Told) (x y : List Event) → x ≡ y → Ran a b x → Ran a b y
+ran_as a b x y is ran = subst (λ (l : List Event). Ran a b l) is ran
+
+pub part_as : (a b : Told) (x y : List Event) → x ≡ y → RanPart a b x → RanPart a b y
+part_as a b x y is part = subst (λ (l : List Event). RanPart a b l) is part
+
+-- bytes
+
+stopped_says : (a : Told) (x : List ℕ) (stop : Stop) → Front a.sure a.points a.next stop × TextGrows a.said x stop → Stops a (says x ∷ []) stop
+stopped_says a x stop p = record {
+  before = [];
+  at = says x;
+  rest = [];
+  whole = refl;
+  left = stays [] p.0;
+  text = λ t is. let n = p.1 t is in (n.0, n.1 ∙ ap (λ (l : List ℕ). l ++ take n.0 x) (sym (append-nil t)));
+}
+
+pub ran_says : (a b : Told) (x y : List ℕ) → x ≡ y → (a.tells → b.tells) → Prints a.said b.said x → b.next ≡ a.next → (a.tells → Stays a.points a.sure b.points b.sure) → (a.tells → LeavesText a.clock b.clock a.sure a.points a.next a.said x) → Ran a b (says y ∷ [])
+ran_says a b x y is tells text next same moments = record {
+  text = subst (λ (t : List ℕ). Prints a.said b.said t) (is ∙ sym (append-nil y)) text;
+  tells = tells;
+  not_fallen = omega (arith, next);
+  grew = λ t. record { more = []; is = (same t).0 ∙ sym (append-nil a.points); spells = refl };
+  sure = λ t. (same t).1;
+  moments = λ t. runs_weaken (moments t) (λ stop p. subst (λ (z : List ℕ). Stops a (says z ∷ []) stop) is (stopped_says a x stop p));
+}
+
+pub part_says : (a b : Told) (x y : List ℕ) → x ≡ y → PrintsFront a.said b.said x → (a.tells → LeavesText a.clock b.clock a.sure a.points a.next a.said x) → RanPart a b (says y ∷ [])
+part_says a b x y is text moments = record {
+  text = subst (λ (t : List ℕ). PrintsFront a.said b.said t) (is ∙ sym (append-nil y)) text;
+  moments = λ t. runs_weaken (moments t) (λ stop p. subst (λ (z : List ℕ). Stops a (says z ∷ []) stop) is (stopped_says a x stop p));
+}
+
+-- nothing to say
+pub ran_silent : (a : Told) (x : List ℕ) → x ≡ [] → Ran a a (says x ∷ [])
+ran_silent a x is = subst (λ (t : List ℕ). Ran a a (says t ∷ [])) (sym is) (record { text = prints_none a.said a.said refl; tells = λ t. t; not_fallen = omega arith; grew = λ t. grew_none a.points; sure = λ t. omega arith; moments = λ t. runs_none a.clock (Stops a (says [] ∷ [])) })
+
+-- calls
+
+stopped_calls : (a : Told) (o : Outcome) (stop : Stop) → Left a.sure a.points a.next o.quiets stop × TextIs a.said stop → Stops a (calls o ∷ []) stop
+stopped_calls a o stop p = record {
+  before = [];
+  at = calls o;
+  rest = [];
+  whole = refl;
+  left = p.0;
+  text = λ t is. (0, p.1 t is ∙ sym (append-nil t) ∙ sym (append-nil (t ++ [])));
+}
+
+covered_made : (sync : Option ℕ) (before all sure : ℕ) → before ≤ sure → ((n : ℕ) → sync ≡ Some n → sure ≡ all) → covered sync before all ≤ sure
+covered_made None before all sure later synced = later
+covered_made (Some n) before all sure later synced = omega (arith, synced n refl)
+
+pub ran_calls : (a b : Told) (o : Outcome) (answer : Answer) → (a.tells → b.tells) → b.said ≡ a.said → a.next ≤ b.next → answer.sync ≡ o.sync → (a.tells → Made answer a.sure a.points o.quiets b.sure b.points) → (a.tells → Runs a.clock b.clock (λ stop. Left a.sure a.points a.next o.quiets stop × TextIs a.said stop)) → Ran a b (calls o ∷ [])
+ran_calls a b o answer tells said next sync made moments = record {
+  text = prints_none a.said b.said said;
+  tells = tells;
+  not_fallen = next;
+  grew = λ t. subst (λ (q : List Quiet). Grew a.points q b.points) (sym (append-nil o.quiets)) (made t).grew;
+  sure = λ t. covered_made o.sync a.sure (length a.points + length o.quiets) b.sure (made t).later (λ n is. (made t).synced n (sync ∙ is) ∙ length_grew (made t).grew);
+  moments = λ t. runs_weaken (moments t) (stopped_calls a o);
+}
+
+pub part_calls : (a b : Told) (o : Outcome) → b.said ≡ a.said → (a.tells → Runs a.clock b.clock (λ stop. Left a.sure a.points a.next o.quiets stop × TextIs a.said stop)) → RanPart a b (calls o ∷ [])
+part_calls a b o said moments = record {
+  text = front_none a.said b.said [] said;
+  moments = λ t. runs_weaken (moments t) (stopped_calls a o);
+}
+
+-- the way back
+
+stopped_back : (a : Told) (stop : Stop) → Front a.sure a.points a.next stop × TextIs a.said stop → Stops a (goes_back ∷ []) stop
+stopped_back a stop p = record {
+  before = [];
+  at = goes_back;
+  rest = [];
+  whole = refl;
+  left = stays [] p.0;
+  text = λ t is. (0, p.1 t is ∙ sym (append-nil t) ∙ sym (append-nil (t ++ [])));
+}
+
+pub ran_back : (a b : Told) → (a.tells → b.tells) → b.said ≡ a.said → b.next ≡ a.next → (a.tells → Stays a.points a.sure b.points b.sure) → (a.tells → Leaves a.clock b.clock a.sure a.points a.next a.said) → Ran a b (goes_back ∷ [])
+ran_back a b tells said next same moments = record {
+  text = prints_none a.said b.said said;
+  tells = tells;
+  not_fallen = omega (arith, next);
+  grew = λ t. record { more = []; is = (same t).0 ∙ sym (append-nil a.points); spells = refl };
+  sure = λ t. (same t).1;
+  moments = λ t. runs_weaken (moments t) (stopped_back a);
+}
+
+pub part_back : (a b : Told) → b.said ≡ a.said → (a.tells → Leaves a.clock b.clock a.sure a.points a.next a.said) → RanPart a b (goes_back ∷ [])
+part_back a b said moments = record {
+  text = front_none a.said b.said [] said;
+  moments = λ t. runs_weaken (moments t) (stopped_back a);
+}

@@ -1,0 +1,22 @@
+-- What a stop within events leaves, told of all of them.
+use Rattle.std.specs.Prelude.{ℕ, ◌≡◌, ◌≤◌, ◌<◌, ◌+◌, List, ◌∷◌, ◌++◌, length, take, Some}
+use Rattle.std.specs.declared.option.Option.{Option}
+use Rattle.dms_model.specs.Points.{Point, Stop}
+use Rattle.dms_storeverbs.specs.View.{Left}
+use Rattle.dms_runner.specs.Events.{Event, text_of, quiets_of, Stopped}
+
+-- the quiet points are those at first and the first ones of all that are made, and none that was sure is missing; the text is a
+-- front of all that is said
+pub record Whole (said : Option (List ℕ)) (points : List Point) (sure next : ℕ) (events : List Event) (stop : Stop) : Type 0 where
+  pub left : Left sure points next (quiets_of events) stop
+  pub text : (t : List ℕ) → said ≡ Some t → (n : ℕ) × (stop.said ≡ t ++ take n (text_of events))
+
+abbrev pub WholeLaw : Type 0
+WholeLaw = (said : Option (List ℕ)) (points : List Point) (sure next : ℕ) (events : List Event) (stop : Stop) → sure ≤ length points → Stopped said points sure next events stop → Whole said points sure next events stop
+
+-- where a byte was said behind a call that took a syncpoint, the quiet points up to that one are left, all of them
+abbrev pub SyncLaw : Type 0
+SyncLaw = (said : Option (List ℕ)) (points : List Point) (sure next : ℕ) (events : List Event) (stop : Stop) → sure ≤ length points → Stopped said points sure next events stop
+    → (before : List Event) (call : Event) (rest : List Event) (n : ℕ) → before ++ call ∷ rest ≡ events → call.sync ≡ Some n
+    → (t : List ℕ) → said ≡ Some t → length t + length (text_of before) + length call.text < length stop.said
+    → length points + length (quiets_of before) + length call.quiets ≤ length stop.points

@@ -1,0 +1,86 @@
+-- What a run does, event by event, and what a stop on the way leaves.
+use Rattle.std.specs.Prelude.{ℕ, ◌≡◌, ◌≤◌, ◌+◌, List, [], ◌∷◌, ◌++◌, length, take, Some, None}
+use Rattle.std.specs.declared.option.Option.{Option}
+use Rattle.dms_block.specs.Moments.{Clock, Runs}
+use Rattle.dms_model.specs.Points.{Point, Quiet, Stop, Prints, PrintsFront}
+use Rattle.dms_model.specs.Session.{Outcome}
+use Rattle.dms_storeverbs.specs.View.{Grew, Left}
+
+-- an event: the quiet points that are made in it, the syncpoint that it takes, and the bytes that are said
+pub record Event : Type 0 where
+  pub quiets : List Quiet
+  pub sync : Option ℕ
+  pub text : List ℕ
+
+-- a verb is called; nothing is said yet
+abbrev pub calls : Outcome → Event
+calls o = record { quiets = o.quiets; sync = o.sync; text = [] }
+
+-- bytes are said; no quiet point is made
+abbrev pub says : List ℕ → Event
+says text = record { quiets = []; sync = None; text = text }
+
+-- the database goes back to the last quiet point
+abbrev pub goes_back : Event
+goes_back = record { quiets = []; sync = None; text = [] }
+
+-- all that is said
+abbrev pub text_of : List Event → List ℕ
+text_of [] = []
+text_of (e ∷ es) = e.text ++ text_of es
+
+-- the quiet points that are made
+abbrev pub quiets_of : List Event → List Quiet
+quiets_of [] = []
+quiets_of (e ∷ es) = e.quiets ++ quiets_of es
+
+-- a syncpoint makes all quiet points sure
+abbrev pub covered : Option ℕ → ℕ → ℕ → ℕ
+covered None sure all = sure
+covered (Some n) sure all = all
+
+-- how many quiet points are sure behind these events, where there were so many before them, and so many of those were sure
+abbrev pub sure_after : ℕ → ℕ → List Event → ℕ
+sure_after count sure [] = sure
+sure_after count sure (e ∷ es) = sure_after (count + length e.quiets) (covered e.sync sure (count + length e.quiets)) es
+
+-- What a store tells of itself: whether it tells its points and what stops leave, the text so far, the quiet points, how many
+-- of them are sure, the number of the next one, and what stops may leave.
+pub record Told : Type 1 where
+  pub tells : Type 0
+  pub said : Option (List ℕ)
+  pub points : List Point
+  pub sure : ℕ
+  pub next : ℕ
+  pub clock : Clock Stop
+
+abbrev pub told_by : Type 0 → Option (List ℕ) → List Point → ℕ → ℕ → Clock Stop → Told
+told_by tells said points sure next clock = record { tells = tells; said = said; points = points; sure = sure; next = next; clock = clock }
+
+-- A stop within these events, where so many quiet points were sure at first. The events before one of them are over. Of the
+-- quiet points so far, those of this event too, the stop leaves the first ones, and all that were sure before this event. The
+-- text is that of the events before, whole, and a front of what this one says.
+pub record Stopped (said : Option (List ℕ)) (points : List Point) (sure next : ℕ) (events : List Event) (stop : Stop) : Type 0 where
+  pub before : List Event
+  pub at : Event
+  pub rest : List Event
+  pub whole : before ++ at ∷ rest ≡ events
+  pub left : Left (sure_after (length points) sure before) points next (quiets_of before ++ at.quiets) stop
+  pub text : (t : List ℕ) → said ≡ Some t → (n : ℕ) × (stop.said ≡ (t ++ text_of before) ++ take n at.text)
+
+abbrev pub Stops : Told → List Event → Stop → Type 0
+Stops b events stop = Stopped b.said b.points b.sure b.next events stop
+
+-- these events happened
+pub record Ran (b a : Told) (events : List Event) : Type 0 where
+  pub text : Prints b.said a.said (text_of events)
+  pub tells : b.tells → a.tells
+  pub not_fallen : b.next ≤ a.next
+  pub grew : b.tells → Grew b.points (quiets_of events) a.points
+  pub sure : b.tells → sure_after (length b.points) b.sure events ≤ a.sure
+  pub moments : b.tells → Runs b.clock a.clock (Stops b events)
+
+-- a front of these events happened
+pub record RanPart (b a : Told) (events : List Event) : Type 0 where
+  pub text : PrintsFront b.said a.said (text_of events)
+  pub moments : b.tells → Runs b.clock a.clock (Stops b events)
