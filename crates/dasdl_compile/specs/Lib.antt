@@ -6,5 +6,6 @@ pub mod Keys
 pub mod Members
 pub mod Outlines
 pub mod Sets
+pub mod Tables
 pub mod TreeCodes
 pub mod Widths

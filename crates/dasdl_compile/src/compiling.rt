@@ -2,6 +2,7 @@ ghost use Rattle.std.specs.Prelude.{◌≡◌, IfOk, map};
 ghost use Rattle.dms_desc.specs.Shape.{shape_of};
 ghost use Rattle.dasdl_compile.specs.Answers.{Makes};
 ghost use Rattle.dasdl_compile.specs.Compile.{is_misplaced, data_set_at, inside_at, declared_at, shape_in, finished, compiled, Describes};
+ghost use Rattle.dasdl_compile.specs.Tables.{untitled};
 
 use crate::draft::Draft;
 use crate::drafts::Drafts;
@@ -72,6 +73,8 @@ fn inside_at(
 
 impl Steps<Drafts, Declaration> for Work {
     ghost step_at = { declared_at };
+
+    ghost fixed = { untitled };
 
     #[tactic(auto, unfolding(crate::specs::Compile::declared_at))]
     fn step(

@@ -1,7 +1,10 @@
 ghost use Rattle.std.specs.Prelude.{◌≡◌, ◌<◌, ◌++◌, ◌∷◌, [], OnErr, OnOk, length, slice_get, Some};
+ghost use Rattle.std.specs.Option.{option_copied};
 ghost use Rattle.dasdl_compile.specs.Answers.{Makes, in_place};
+ghost use Rattle.dasdl_compile.specs.Finding.{data_set_named};
 ghost use Rattle.dasdl_compile.specs.Members.{member_at};
 ghost use Rattle.dasdl_compile.specs.Outlines.{outlined_member};
+ghost use Rattle.dasdl_compile.specs.Tables.{with_title};
 ghost use Rattle.dasdl_compile.specs.declared.draft.Draft.{Draft};
 
 use crate::draft::Draft;
@@ -10,7 +13,8 @@ use crate::members::member_at;
 use crate::outline::outlined_member;
 use crate::work::Plain;
 use dasdl_parse::Declaration;
-use dms_base::Memory;
+use dms_base::{Memory, Name};
+use indexmap::IndexMap;
 use std::alloc::Global;
 use std::marker::Model;
 
@@ -18,11 +22,14 @@ use std::marker::Model;
 #[derive(Drop)]
 pub struct Drafts {
     kept: Vec<Draft>,
+    /// The names of data sets as they were first seen, each with the place of the first that has it.
+    data_sets: IndexMap<Name, usize>,
 }
 
 impl Model for Drafts {
-    ghost use Rattle.std.specs.Prelude.{List};
+    ghost use Rattle.std.specs.Prelude.{◌≡◌, List};
     ghost use Rattle.std.specs.Coded.{coded_list};
+    ghost use Rattle.dasdl_compile.specs.Tables.{names_of};
     ghost use Rattle.dasdl_compile.specs.declared.draft.Draft.{Draft};
     ghost use Rattle.dasdl_compile.specs.contracts.draft.Draft as draft;
 
@@ -31,6 +38,24 @@ impl Model for Drafts {
     ghost coded = { coded_list draft.the_row.coded };
 
     ghost view = { λ v. v.kept.items };
+
+    ghost invariant = { λ v. v.data_sets.entries ≡ names_of v.kept.items };
+}
+
+/// Puts a data set's name into the table, unless it is there.
+fn note_title(
+    data_sets: &mut IndexMap<Name, usize>,
+    name: Name,
+    kind: u8,
+    at: usize,
+) -> Result<(), Memory>
+    ensures ok { OnOk result (data_sets.new.entries ≡ with_title name kind at data_sets.old.entries) }
+    ensures err { OnErr result (data_sets.new.entries ≡ data_sets.old.entries) }
+{
+    if kind < 3 && !data_sets.contains_key(&name) {
+        data_sets.insert(name, at)?;
+    }
+    Ok(())
 }
 
 impl Drafts {
@@ -40,6 +65,7 @@ impl Drafts {
     {
         Drafts {
             kept: Vec::new(alloc),
+            data_sets: IndexMap::new(alloc),
         }
     }
 
@@ -48,8 +74,25 @@ impl Drafts {
         ensures ok { OnOk result (self.new ≡ self.old ++ draft ∷ []) }
         ensures err { OnErr result (self.new ≡ self.old) }
     {
+        let at = self.kept.len();
+        let name = draft.name;
+        let kind = draft.kind;
         self.kept.push(draft)?;
-        Ok(())
+        let noted = note_title(&mut self.data_sets, name, kind, at);
+        if noted.is_err() {
+            self.kept.truncate(at);
+        }
+        noted
+    }
+
+    /// The data set with this name.
+    pub fn data_set_named(&self, name: &Name) -> Option<&Draft>
+        ensures { option_copied result ≡ data_set_named name.now self.now }
+    {
+        match self.data_sets.get(name) {
+            None => None,
+            Some(at) => self.kept.as_slice().get(*at),
+        }
     }
 
     /// The list.

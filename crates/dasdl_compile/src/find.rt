@@ -1,6 +1,5 @@
 ghost use Rattle.std.specs.Prelude.{◌≡◌};
-ghost use Rattle.std.specs.Option.{option_copied};
-ghost use Rattle.dasdl_compile.specs.Finding.{next_structure, after_item, next_item, is_structure, has_restart, kind_of, data_set_named, item_named, group_named, is_taken};
+ghost use Rattle.dasdl_compile.specs.Finding.{next_structure, after_item, next_item, is_structure, has_restart, kind_of, item_named, group_named, is_taken};
 
 use crate::draft::Draft;
 use dms_base::{ItemKind, Name};
@@ -77,19 +76,6 @@ pub fn kind_of(drafts: &[Draft], number: u16) -> u8
         }
     }
     0
-}
-
-/// The data set with this name.
-#[tactic(auto, unfolding(crate::specs::Finding::data_set_named))]
-pub fn data_set_named<'a>(drafts: &'a [Draft], name: &Name) -> Option<&'a Draft>
-    ensures { option_copied result ≡ data_set_named name.now drafts.now }
-{
-    for draft in drafts {
-        if draft.kind < 3 && draft.name.is(name) {
-            return Some(draft);
-        }
-    }
-    None
 }
 
 /// The item or link with this name.

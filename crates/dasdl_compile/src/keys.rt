@@ -1,6 +1,7 @@
 ghost use Rattle.std.specs.Prelude.{◌≡◌};
 ghost use Rattle.dasdl_compile.specs.Answers.{Gives, Makes};
 ghost use Rattle.dasdl_compile.specs.Keys.{is_part, is_in_run, key_item_at, run_of, part_at, short_key, key_at};
+ghost use Rattle.dasdl_compile.specs.Tables.{untitled};
 
 use crate::draft::Draft;
 use crate::fault::CompileFault;
@@ -57,6 +58,8 @@ fn is_in_run(run: &Run, number: u8) -> bool
 
 impl Steps<Run, Item> for KeySoFar {
     ghost step_at = { key_item_at };
+
+    ghost fixed = { untitled };
 
     #[tactic(auto, unfolding(crate::specs::Keys::key_item_at))]
     fn step(&mut self, _alloc: Global, run: &Run, item: &Item) -> Result<(), CompileFault> {
@@ -117,6 +120,8 @@ fn run_of(draft: &Draft, part: &PartDecl) -> Result<Run, CompileFault>
 
 impl Steps<Draft, PartDecl> for KeySoFar {
     ghost step_at = { part_at };
+
+    ghost fixed = { untitled };
 
     #[tactic(auto, unfolding(crate::specs::Keys::part_at))]
     fn step(

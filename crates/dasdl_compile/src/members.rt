@@ -1,12 +1,13 @@
 ghost use Rattle.std.specs.Prelude.{◌≡◌};
 ghost use Rattle.dasdl_compile.specs.Answers.{Gives, Makes};
+ghost use Rattle.dasdl_compile.specs.Tables.{title};
 ghost use Rattle.dasdl_compile.specs.Members.{count_of, initial_of, item_at, group_at, link_kind, link_at, end_at, member_at, open_after};
 
 use crate::conditions::{literal_of, verified};
 use crate::draft::Draft;
 use crate::drafts::Drafts;
 use crate::fault::CompileFault;
-use crate::find::{data_set_named, is_taken, next_item};
+use crate::find::{is_taken, next_item};
 use crate::steps::{Steps, all_steps};
 use crate::widths::record_width;
 use dasdl_parse::{DataSetEnd, Declaration, GroupDecl, ItemDecl, LinkDecl};
@@ -41,6 +42,8 @@ fn initial_of(alloc: Global, item: &ItemDecl) -> Result<Value, CompileFault>
 impl Steps<Drafts, ItemDecl> for Draft {
     ghost step_at = { item_at };
 
+    ghost fixed = { title };
+
     #[tactic(auto, unfolding(crate::specs::Members::item_at))]
     fn step(
         &mut self,
@@ -70,7 +73,8 @@ fn group_at(
     outline: &Drafts,
     group: &GroupDecl,
 ) -> Result<(), CompileFault>
-    ensures { Makes result draft.new (group_at outline.now draft.old group.now) }
+    ensures made { Makes result draft.new (group_at outline.now draft.old group.now) }
+    ensures kept { title draft.new ≡ title draft.old }
 {
     if is_taken(draft, &group.name) {
         return Err(CompileFault::Twice(group.name));
@@ -90,7 +94,7 @@ fn group_at(
 fn link_kind(outline: &Drafts, link: &LinkDecl) -> Result<ItemKind, CompileFault>
     ensures { Gives result (link_kind outline.now link.now) }
 {
-    match data_set_named(outline.as_slice(), &link.target) {
+    match outline.data_set_named(&link.target) {
         None => Err(CompileFault::Unknown(link.target)),
         Some(target) => {
             if target.owner == 0 {
@@ -104,7 +108,8 @@ fn link_kind(outline: &Drafts, link: &LinkDecl) -> Result<ItemKind, CompileFault
 /// A link of the data set.
 #[tactic(auto, unfolding(crate::specs::Members::link_at))]
 fn link_at(draft: &mut Draft, outline: &Drafts, link: &LinkDecl) -> Result<(), CompileFault>
-    ensures { Makes result draft.new (link_at outline.now draft.old link.now) }
+    ensures made { Makes result draft.new (link_at outline.now draft.old link.now) }
+    ensures kept { title draft.new ≡ title draft.old }
 {
     if is_taken(draft, &link.name) {
         return Err(CompileFault::Twice(link.name));
@@ -122,7 +127,8 @@ fn link_at(draft: &mut Draft, outline: &Drafts, link: &LinkDecl) -> Result<(), C
 /// The end of the data set.
 #[tactic(auto, unfolding(crate::specs::Members::end_at))]
 fn end_at(draft: &mut Draft, alloc: Global, end: &DataSetEnd) -> Result<(), CompileFault>
-    ensures { Makes result draft.new (end_at draft.old end.now) }
+    ensures made { Makes result draft.new (end_at draft.old end.now) }
+    ensures kept { title draft.new ≡ title draft.old }
 {
     let cond = verified(alloc, draft.items.as_slice(), &end.verify)?;
     let width = record_width(draft.items.as_slice());
@@ -142,7 +148,8 @@ pub fn member_at(
     outline: &Drafts,
     declaration: &Declaration,
 ) -> Result<(), CompileFault>
-    ensures { Makes result draft.new (member_at outline.now declaration.now draft.old) }
+    ensures made { Makes result draft.new (member_at outline.now declaration.now draft.old) }
+    ensures kept { title draft.new ≡ title draft.old }
 {
     match declaration {
         Declaration::Item(item) => draft.step(alloc, outline, item),

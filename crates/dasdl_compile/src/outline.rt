@@ -1,5 +1,6 @@
 ghost use Rattle.std.specs.Prelude.{◌≡◌};
 ghost use Rattle.dasdl_compile.specs.Answers.{Makes};
+ghost use Rattle.dasdl_compile.specs.Tables.{title, untitled};
 ghost use Rattle.dasdl_compile.specs.Outlines.{data_set_kind, outlined_item, outlined_member, outlined_inside, outlined_data_set, outlined_set, outlined_one};
 
 use crate::draft::Draft;
@@ -22,6 +23,8 @@ pub fn data_set_kind(restart: bool) -> u8
 
 impl Steps<Plain, ItemDecl> for Draft {
     ghost step_at = { outlined_item };
+
+    ghost fixed = { title };
 
     #[tactic(auto, unfolding(crate::specs::Outlines::outlined_item))]
     fn step(
@@ -48,7 +51,8 @@ pub fn outlined_member(
     plain: &Plain,
     declaration: &Declaration,
 ) -> Result<(), CompileFault>
-    ensures { Makes result draft.new (outlined_member plain.now declaration.now draft.old) }
+    ensures made { Makes result draft.new (outlined_member plain.now declaration.now draft.old) }
+    ensures kept { title draft.new ≡ title draft.old }
 {
     match declaration {
         Declaration::Item(item) => draft.step(alloc, plain, item),
@@ -126,6 +130,8 @@ fn outlined_set(work: &mut Work, alloc: Global, set: &SetDecl) -> Result<(), Com
 
 impl Steps<Plain, Declaration> for Work {
     ghost step_at = { outlined_one };
+
+    ghost fixed = { untitled };
 
     #[tactic(auto, unfolding(crate::specs::Outlines::outlined_one))]
     fn step(

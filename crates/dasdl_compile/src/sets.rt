@@ -7,7 +7,7 @@ use crate::conditions::condition;
 use crate::draft::Draft;
 use crate::drafts::Drafts;
 use crate::fault::CompileFault;
-use crate::find::{data_set_named, is_structure, kind_of, next_structure};
+use crate::find::{is_structure, kind_of, next_structure};
 use crate::keys::key_at;
 use crate::work::Work;
 use dasdl_parse::{CondDecl, KeyDecl, SetDecl};
@@ -195,7 +195,7 @@ pub fn set_at(
     if is_structure(work.made.as_slice(), &set.name) {
         return Err(CompileFault::Twice(set.name));
     }
-    match data_set_named(outline.as_slice(), &set.of) {
+    match outline.data_set_named(&set.of) {
         None => Err(CompileFault::Unknown(set.of)),
         Some(data_set) => set_over(work, alloc, set, data_set),
     }

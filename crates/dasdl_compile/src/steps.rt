@@ -1,4 +1,4 @@
-ghost use Rattle.std.specs.Prelude.{◌≡◌};
+ghost use Rattle.std.specs.Prelude.{◌≡◌, ℕ, List};
 ghost use Rattle.dasdl_compile.specs.Answers.{Judged, Makes, steps};
 
 use crate::fault::CompileFault;
@@ -9,8 +9,12 @@ pub trait Steps<C, T>: Drop {
     /// What one of them makes of it.
     ghost step_at: { C → Self → T → Judged Self };
 
+    /// What no step changes.
+    ghost fixed: { Self → List ℕ × ℕ };
+
     fn step(&mut self, alloc: Global, known: &C, one: &T) -> Result<(), CompileFault>
-        ensures { Makes result self.new (step_at known.now self.old one.now) };
+        ensures made { Makes result self.new (step_at known.now self.old one.now) }
+        ensures kept { fixed self.new ≡ fixed self.old };
 }
 
 /// Takes one after another, up to the first fault.
@@ -21,7 +25,8 @@ pub fn all_steps<C, T, S: Steps<C, T>>(
     known: &C,
     list: &[T],
 ) -> Result<(), CompileFault>
-    ensures { Makes result state.new (steps S.step_at known.now state.old list.now) }
+    ensures made { Makes result state.new (steps S.step_at known.now state.old list.now) }
+    ensures kept { S.fixed state.new ≡ S.fixed state.old }
 {
     for one in list {
         state.step(alloc, known, one)?;
