@@ -1,20 +1,23 @@
--- The table of the names of data sets, beside the list of structures.
-use Rattle.std.proofs.Common.{ℕ, zero, suc, ◌+◌, ◌≡◌, List, [], ◌∷◌, ◌++◌, length, drop, set, get_or, slice_get, Bool, true, false, cond, ◌&&◌, is_none, nat_lt, Option, None, Some, refl, sym, ap, ◌∙◌, arith, Decides}
-use Rattle.std.specs.Map.{lookup}
+-- The table of names, beside the list of structures.
+use Rattle.std.proofs.Common.{ℕ, zero, suc, ◌+◌, ◌≡◌, List, [], ◌∷◌, ◌++◌, length, drop, set, get_or, slice_get, Bool, true, false, cond, ◌&&◌, is_some, nat_lt, Option, None, Some, refl, sym, ap, ◌∙◌, arith, Decides}
 use Rattle.std.specs.Str.{bytes_eq}
-use Rattle.std.proofs.lemmas.Bool.{true≢false, and_parts}
+use Rattle.std.proofs.lemmas.Bool.{and_right}
 use Rattle.std.proofs.lemmas.Bool.Decides.{Decides-like, same_from_decides}
 use Rattle.std.proofs.lemmas.Slice.Eq.{bytes_eq-Decides}
+use Rattle.indexmap.specs.IndexMap.{insert_entry}
 use Rattle.dasdl_compile.specs.declared.draft.Draft.{Draft}
-use Rattle.dasdl_compile.specs.Finding.{data_set_named}
-use Rattle.dasdl_compile.specs.Tables.{title, place_of, is_new, with_title, with_titles, names_of}
+use Rattle.dasdl_compile.specs.Finding.{data_set_named, is_structure}
+use Rattle.dasdl_compile.specs.Tables.{title, noted, first_place, with_title, with_titles, names_of}
 
--- a test of names that decides whether they are one finds the place
-pub place_by : (test : List ℕ → Bool) (n : List ℕ) (es : List (List ℕ × ℕ)) → ((m : List ℕ) → Decides (test m) (n ≡ m)) → lookup test es ≡ place_of n es
-place_by test n es decides = λ i. lookup (λ m. same_from_decides (test m) (bytes_eq m n) (decides m) (Decides-like (bytes_eq m n) sym sym (bytes_eq-Decides m n)) i) es
+-- a test that decides whether two names are one is that of their bytes
+pub same_test : (test : List ℕ → List ℕ → Bool) → ((a b : List ℕ) → Decides (test a b) (a ≡ b)) → test ≡ bytes_eq
+same_test test decides = λ i a b. same_from_decides (test a b) (bytes_eq a b) (decides a b) (bytes_eq-Decides a b) i
+
+turned : (a b : List ℕ) → bytes_eq a b ≡ bytes_eq b a
+turned a b = same_from_decides (bytes_eq a b) (bytes_eq b a) (bytes_eq-Decides a b) (Decides-like (bytes_eq b a) sym sym (bytes_eq-Decides b a))
 
 -- one structure more
-pub titles-push : (at : ℕ) (es : List (List ℕ × ℕ)) (ds : List Draft) (d : Draft) → with_titles at es (ds ++ d ∷ []) ≡ with_title d.name d.kind (at + length ds) (with_titles at es ds)
+pub titles-push : (at : ℕ) (es : List (List ℕ × Option ℕ)) (ds : List Draft) (d : Draft) → with_titles at es (ds ++ d ∷ []) ≡ with_title d.name d.kind (at + length ds) (with_titles at es ds)
 unfolding with_titles
 titles-push at es [] d = ap (λ (k : ℕ). with_title d.name d.kind k es) (omega arith)
 titles-push at es (x ∷ xs) d =
@@ -22,16 +25,40 @@ titles-push at es (x ∷ xs) d =
     ∙ ap (λ (k : ℕ). with_title d.name d.kind k (with_titles (at + 1) (with_title x.name x.kind at es) xs)) (omega arith)
 
 -- a structure in the place of one with its name and kind
-pub titles-set : (at : ℕ) (es : List (List ℕ × ℕ)) (ds : List Draft) (i : ℕ) (old new : Draft) → old ≡ get_or ds i old → title new ≡ title old → with_titles at es (set ds i new) ≡ with_titles at es ds
+pub titles-set : (at : ℕ) (es : List (List ℕ × Option ℕ)) (ds : List Draft) (i : ℕ) (old new : Draft) → old ≡ get_or ds i old → title new ≡ title old → with_titles at es (set ds i new) ≡ with_titles at es ds
 unfolding with_titles
 titles-set at es [] i old new is same = refl
 titles-set at es (x ∷ xs) zero old new is same = ap (λ (t : List ℕ × ℕ). with_titles (at + 1) (with_title t.0 t.1 at es) xs) (same ∙ ap title is)
 titles-set at es (x ∷ xs) (suc i) old new is same = titles-set (at + 1) (with_title x.name x.kind at es) xs i old new is same
 
--- the structure at a place that was found, else another answer
-abbrev pub chosen : List Draft → Option ℕ → Option Draft → Option Draft
+-- what stands beside a name, once another name or the same is put into the table
+put_first : (n k : List ℕ) (v was : Option ℕ) (rest : Option (Option ℕ)) → cond (bytes_eq n k) (Some v) rest ≡ cond (bytes_eq n k) (Some v) (cond (bytes_eq n k) (Some was) rest)
+put_first n k v was rest = elim (bytes_eq n k) as (λ t. cond t (Some v) rest ≡ cond t (Some v) (cond t (Some was) rest)) [ true ↦ refl | false ↦ refl ]
+
+put_later : (n k m : List ℕ) (v was : Option ℕ) (rest : Option (Option ℕ)) → bytes_eq k m ≡ false → cond (bytes_eq n m) (Some was) (cond (bytes_eq n k) (Some v) rest) ≡ cond (bytes_eq n k) (Some v) (cond (bytes_eq n m) (Some was) rest)
+put_later n k m v was rest apart =
+    elim (bytes_eq n k) as (λ t. bytes_eq n k ≡ t → cond (bytes_eq n m) (Some was) (cond t (Some v) rest) ≡ cond t (Some v) (cond (bytes_eq n m) (Some was) rest)) [
+      | false ↦ λ e. refl
+      | true ↦ λ e. ap (λ (t : Bool). cond t (Some was) (Some v)) (ap (λ (l : List ℕ). bytes_eq l m) ((bytes_eq-Decides n k).0 e) ∙ apart)
+    ] refl
+
+noted-insert : (n k : List ℕ) (v : Option ℕ) (es : List (List ℕ × Option ℕ)) → noted n (insert_entry bytes_eq es k v) ≡ cond (bytes_eq n k) (Some v) (noted n es)
+noted-insert n k v [] = refl
+noted-insert n k v (e ∷ es) =
+    elim (bytes_eq k e.0) as (λ t. bytes_eq k e.0 ≡ t → noted n (cond t ((e.0, v) ∷ es) (e ∷ insert_entry bytes_eq es k v)) ≡ cond (bytes_eq n k) (Some v) (cond (bytes_eq n e.0) (Some e.1) (noted n es))) [
+      | true ↦ λ h.
+          put_first n e.0 v e.1 (noted n es)
+          ∙ ap (λ (l : List ℕ). cond (bytes_eq n l) (Some v) (cond (bytes_eq n e.0) (Some e.1) (noted n es))) (sym ((bytes_eq-Decides k e.0).0 h))
+      | false ↦ λ h.
+          ap (λ (o : Option (Option ℕ)). cond (bytes_eq n e.0) (Some e.1) o) (noted-insert n k v es)
+          ∙ put_later n k e.0 v e.1 (noted n es) h
+    ] refl
+
+-- the structure at the place that is noted, else another answer
+abbrev pub chosen : List Draft → Option (Option ℕ) → Option Draft → Option Draft
 chosen all None answer = answer
-chosen all (Some p) answer = slice_get all p
+chosen all (Some None) answer = answer
+chosen all (Some (Some p)) answer = slice_get all p
 
 first_at : (all : List Draft) (at : ℕ) (d : Draft) (ds : List Draft) → drop at all ≡ d ∷ ds → (slice_get all at ≡ Some d) × (drop (at + 1) all ≡ ds)
 first_at [] zero d ds h = grind (arith, h)
@@ -42,42 +69,26 @@ first_at (x ∷ xs) (suc at) d ds h =
     let first = first_at xs at d ds h in
     (first.0, ap (λ (k : ℕ). drop k (x ∷ xs)) next ∙ first.1)
 
-chosen-push : (n : List ℕ) (all : List Draft) (answer : Option Draft) (m : List ℕ) (at : ℕ) (es : List (List ℕ × ℕ)) → chosen all (place_of n (es ++ (m, at) ∷ [])) answer ≡ chosen all (place_of n es) (cond (bytes_eq m n) (slice_get all at) answer)
-chosen-push n all answer m at [] = elim (bytes_eq m n) as (λ t. chosen all (cond t (Some at) None) answer ≡ cond t (slice_get all at) answer) [ true ↦ refl | false ↦ refl ]
-chosen-push n all answer m at (e ∷ es) =
-    elim (bytes_eq e.0 n) as (λ t. chosen all (cond t (Some e.1) (place_of n (es ++ (m, at) ∷ []))) answer ≡ chosen all (cond t (Some e.1) (place_of n es)) (cond (bytes_eq m n) (slice_get all at) answer))
-    [ true ↦ refl | false ↦ chosen-push n all answer m at es ]
+-- where the name is this one's
+this_name : (all : List Draft) (at : ℕ) (d : Draft) (answer : Option Draft) (k : Bool) (o : Option (Option ℕ)) → slice_get all at ≡ Some d → chosen all (Some (first_place o k at)) answer ≡ chosen all o (cond (k && true) (Some d) answer)
+this_name all at d answer true None here = here
+this_name all at d answer false None here = refl
+this_name all at d answer true (Some None) here = here
+this_name all at d answer false (Some None) here = refl
+this_name all at d answer k (Some (Some p)) here = refl
 
--- where a data set's name isn't put into the table, it is another name or it is there
-not_new : (n : List ℕ) (d : Draft) (es : List (List ℕ × ℕ)) → is_new d.name d.kind es ≡ false → place_of n es ≡ None → (nat_lt d.kind 3 && bytes_eq d.name n) ≡ false
-not_new n d es old none =
-    elim (nat_lt d.kind 3) as (λ k. (k && is_none (place_of d.name es)) ≡ false → (k && bytes_eq d.name n) ≡ false) [
-      | false ↦ λ h. refl
-      | true ↦ λ h. elim (bytes_eq d.name n) as (λ b. bytes_eq d.name n ≡ b → b ≡ false) [
-        | false ↦ λ e. refl
-        | true ↦ λ e. absurd (true≢false (sym (ap (λ (m : List ℕ). is_none (place_of m es)) ((bytes_eq-Decides d.name n).0 e) ∙ ap (λ (o : Option ℕ). is_none o) none) ∙ h))
-      ] refl
-    ]
-    old
-
-kept_answer : (n : List ℕ) (all : List Draft) (d : Draft) (answer : Option Draft) (es : List (List ℕ × ℕ)) → is_new d.name d.kind es ≡ false → chosen all (place_of n es) answer ≡ chosen all (place_of n es) (cond (nat_lt d.kind 3 && bytes_eq d.name n) (Some d) answer)
-kept_answer n all d answer es old =
-    elim (place_of n es) as (λ o. place_of n es ≡ o → chosen all o answer ≡ chosen all o (cond (nat_lt d.kind 3 && bytes_eq d.name n) (Some d) answer)) [
-      | None ↦ λ e. sym (ap (λ (b : Bool). cond b (Some d) answer) (not_new n d es old e))
-      | Some p ↦ λ e. refl
-    ] refl
-
-one_more : (n : List ℕ) (all : List Draft) (at : ℕ) (d : Draft) (answer : Option Draft) (es : List (List ℕ × ℕ)) → slice_get all at ≡ Some d → chosen all (place_of n (with_title d.name d.kind at es)) answer ≡ chosen all (place_of n es) (cond (nat_lt d.kind 3 && bytes_eq d.name n) (Some d) answer)
+one_more : (n : List ℕ) (all : List Draft) (at : ℕ) (d : Draft) (answer : Option Draft) (es : List (List ℕ × Option ℕ)) → slice_get all at ≡ Some d → chosen all (noted n (with_title d.name d.kind at es)) answer ≡ chosen all (noted n es) (cond (nat_lt d.kind 3 && bytes_eq d.name n) (Some d) answer)
 one_more n all at d answer es here =
-    elim (is_new d.name d.kind es) as (λ b. is_new d.name d.kind es ≡ b → chosen all (place_of n (cond b (es ++ (d.name, at) ∷ []) es)) answer ≡ chosen all (place_of n es) (cond (nat_lt d.kind 3 && bytes_eq d.name n) (Some d) answer)) [
-      | false ↦ λ e. kept_answer n all d answer es e
+    ap (λ (o : Option (Option ℕ)). chosen all o answer) (noted-insert n d.name (first_place (noted d.name es) (nat_lt d.kind 3) at) es)
+    ∙ elim (bytes_eq n d.name) as (λ t. bytes_eq n d.name ≡ t → chosen all (cond t (Some (first_place (noted d.name es) (nat_lt d.kind 3) at)) (noted n es)) answer ≡ chosen all (noted n es) (cond (nat_lt d.kind 3 && bytes_eq d.name n) (Some d) answer)) [
       | true ↦ λ e.
-          chosen-push n all answer d.name at es
-          ∙ ap (λ (o : Option Draft). chosen all (place_of n es) (cond (bytes_eq d.name n) o answer)) here
-          ∙ ap (λ (b : Bool). chosen all (place_of n es) (cond (b && bytes_eq d.name n) (Some d) answer)) (sym (and_parts _ _ e).0)
+          this_name all at d answer (nat_lt d.kind 3) (noted d.name es) here
+          ∙ ap (λ (l : List ℕ). chosen all (noted l es) (cond (nat_lt d.kind 3 && true) (Some d) answer)) (sym ((bytes_eq-Decides n d.name).0 e))
+          ∙ ap (λ (b : Bool). chosen all (noted n es) (cond (nat_lt d.kind 3 && b) (Some d) answer)) (sym (turned d.name n ∙ e))
+      | false ↦ λ e. ap (λ (b : Bool). chosen all (noted n es) (cond b (Some d) answer)) (sym (and_right (nat_lt d.kind 3) (bytes_eq d.name n) (turned d.name n ∙ e)))
     ] refl
 
-named_from : (n : List ℕ) (all : List Draft) (at : ℕ) (es : List (List ℕ × ℕ)) (ds : List Draft) → drop at all ≡ ds → chosen all (place_of n (with_titles at es ds)) None ≡ chosen all (place_of n es) (data_set_named n ds)
+named_from : (n : List ℕ) (all : List Draft) (at : ℕ) (es : List (List ℕ × Option ℕ)) (ds : List Draft) → drop at all ≡ ds → chosen all (noted n (with_titles at es ds)) None ≡ chosen all (noted n es) (data_set_named n ds)
 unfolding with_titles data_set_named
 named_from n all at es [] h = refl
 named_from n all at es (d ∷ ds) h =
@@ -86,5 +97,22 @@ named_from n all at es (d ∷ ds) h =
     ∙ one_more n all at d (data_set_named n ds) es first.0
 
 -- the structure at the place beside a name is the data set with this name
-pub names_found : (n : List ℕ) (ds : List Draft) → chosen ds (place_of n (names_of ds)) None ≡ data_set_named n ds
+pub names_found : (n : List ℕ) (ds : List Draft) → chosen ds (noted n (names_of ds)) None ≡ data_set_named n ds
 names_found n ds = named_from n ds 0 [] ds refl
+
+seen : (b c : Bool) (v : Option ℕ) (o : Option (Option ℕ)) (rest : Bool) → b ≡ c → cond (is_some (cond b (Some v) o)) true rest ≡ cond (is_some o) true (cond c true rest)
+seen true c v o rest e = elim (is_some o) as (λ t. true ≡ cond t true (cond c true rest)) [ true ↦ refl | false ↦ ap (λ (t : Bool). cond t true rest) e ]
+seen false c v o rest e = ap (λ (t : Bool). cond (is_some o) true (cond t true rest)) e
+
+seen_from : (n : List ℕ) (at : ℕ) (es : List (List ℕ × Option ℕ)) (ds : List Draft) → is_some (noted n (with_titles at es ds)) ≡ cond (is_some (noted n es)) true (is_structure n ds)
+unfolding with_titles is_structure
+seen_from n at es [] = elim (is_some (noted n es)) as (λ t. t ≡ cond t true false) [ true ↦ refl | false ↦ refl ]
+seen_from n at es (d ∷ ds) =
+    let place = first_place (noted d.name es) (nat_lt d.kind 3) at in
+    seen_from n (at + 1) (with_title d.name d.kind at es) ds
+    ∙ ap (λ (o : Option (Option ℕ)). cond (is_some o) true (is_structure n ds)) (noted-insert n d.name place es)
+    ∙ seen (bytes_eq n d.name) (bytes_eq d.name n) place (noted n es) (is_structure n ds) (turned n d.name)
+
+-- a name is in the table where a structure has it
+pub names_seen : (n : List ℕ) (ds : List Draft) → is_some (noted n (names_of ds)) ≡ is_structure n ds
+names_seen n ds = seen_from n 0 [] ds

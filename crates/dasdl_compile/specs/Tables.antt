@@ -1,8 +1,10 @@
--- The names of data sets in the order in which they are first seen, each with the place of the first that has it.
-use Rattle.std.specs.Prelude.{ℕ, ◌+◌, List, [], ◌∷◌, ◌++◌, Bool, ◌&&◌, nat_lt, is_none, if◌then◌else◌}
+-- The names of structures in the order in which they are first seen, each with the place of the first data set that has
+-- it, if one has.
+use Rattle.std.specs.Prelude.{ℕ, ◌+◌, List, [], ◌∷◌, Bool, nat_lt, Some, None, if◌then◌else◌}
 use Rattle.std.specs.declared.option.Option.{Option}
 use Rattle.std.specs.Map.{lookup}
 use Rattle.std.specs.Str.{bytes_eq}
+use Rattle.indexmap.specs.IndexMap.{insert_entry}
 use Rattle.dasdl_compile.specs.declared.draft.Draft.{Draft}
 
 -- a structure's name and kind, which no member changes
@@ -13,23 +15,25 @@ title d = (d.name, d.kind)
 abbrev pub untitled : {S : Type 0} → S → List ℕ × ℕ
 untitled s = ([], 0)
 
--- the place beside this name
-abbrev pub place_of : List ℕ → List (List ℕ × ℕ) → Option ℕ
-place_of name es = lookup (λ n. bytes_eq n name) es
+-- what stands beside a name
+abbrev pub noted : List ℕ → List (List ℕ × Option ℕ) → Option (Option ℕ)
+noted name es = lookup (bytes_eq name) es
 
--- a data set's name that isn't there yet
-abbrev pub is_new : List ℕ → ℕ → List (List ℕ × ℕ) → Bool
-is_new name kind es = nat_lt kind 3 && is_none (place_of name es)
+-- the place of the first data set with a name: the one that is noted, or else this one's
+abbrev pub first_place : Option (Option ℕ) → Bool → ℕ → Option ℕ
+first_place None is_data_set at = if is_data_set then Some at else None
+first_place (Some None) is_data_set at = if is_data_set then Some at else None
+first_place (Some (Some first)) is_data_set at = Some first
 
 -- the table with the structure at this place, too
-abbrev pub with_title : List ℕ → ℕ → ℕ → List (List ℕ × ℕ) → List (List ℕ × ℕ)
-with_title name kind at es = if is_new name kind es then es ++ (name, at) ∷ [] else es
+abbrev pub with_title : List ℕ → ℕ → ℕ → List (List ℕ × Option ℕ) → List (List ℕ × Option ℕ)
+with_title name kind at es = insert_entry bytes_eq es name (first_place (noted name es) (nat_lt kind 3) at)
 
 -- the table with these structures, too, the first of them at this place
-unfoldable pub with_titles : ℕ → List (List ℕ × ℕ) → List Draft → List (List ℕ × ℕ)
+unfoldable pub with_titles : ℕ → List (List ℕ × Option ℕ) → List Draft → List (List ℕ × Option ℕ)
 with_titles at es [] = es
 with_titles at es (d ∷ ds) = with_titles (at + 1) (with_title d.name d.kind at es) ds
 
 -- the table of these structures
-abbrev pub names_of : List Draft → List (List ℕ × ℕ)
+abbrev pub names_of : List Draft → List (List ℕ × Option ℕ)
 names_of ds = with_titles 0 [] ds

@@ -7,7 +7,7 @@ ghost use Rattle.dasdl_compile.specs.Tables.{untitled};
 use crate::draft::Draft;
 use crate::drafts::Drafts;
 use crate::fault::CompileFault;
-use crate::find::{has_restart, is_structure, kind_of, next_structure};
+use crate::find::{has_restart, kind_of, next_structure};
 use crate::members::open_after;
 use crate::outline::data_set_kind;
 use crate::sets::set_at;
@@ -35,7 +35,7 @@ fn is_misplaced(work: &Work, data_set: &DataSetDecl) -> bool
 fn data_set_at(work: &mut Work, alloc: Global, data_set: &DataSetDecl) -> Result<(), CompileFault>
     ensures { Makes result work.new (data_set_at data_set.now work.old) }
 {
-    if is_structure(work.made.as_slice(), &data_set.name) {
+    if work.made.is_structure(&data_set.name) {
         return Err(CompileFault::Twice(data_set.name));
     }
     if is_misplaced(work, data_set) {

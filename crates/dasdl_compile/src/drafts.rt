@@ -1,10 +1,10 @@
 ghost use Rattle.std.specs.Prelude.{◌≡◌, ◌<◌, ◌++◌, ◌∷◌, [], OnErr, OnOk, length, slice_get, Some};
 ghost use Rattle.std.specs.Option.{option_copied};
 ghost use Rattle.dasdl_compile.specs.Answers.{Makes, in_place};
-ghost use Rattle.dasdl_compile.specs.Finding.{data_set_named};
+ghost use Rattle.dasdl_compile.specs.Finding.{is_structure, data_set_named};
 ghost use Rattle.dasdl_compile.specs.Members.{member_at};
 ghost use Rattle.dasdl_compile.specs.Outlines.{outlined_member};
-ghost use Rattle.dasdl_compile.specs.Tables.{with_title};
+ghost use Rattle.dasdl_compile.specs.Tables.{first_place, with_title};
 ghost use Rattle.dasdl_compile.specs.declared.draft.Draft.{Draft};
 
 use crate::draft::Draft;
@@ -22,8 +22,8 @@ use std::marker::Model;
 #[derive(Drop)]
 pub struct Drafts {
     kept: Vec<Draft>,
-    /// The names of data sets as they were first seen, each with the place of the first that has it.
-    data_sets: IndexMap<Name, usize>,
+    /// Their names as they were first seen, each with the place of the first data set that has it.
+    names: IndexMap<Name, Option<usize>>,
 }
 
 impl Model for Drafts {
@@ -39,22 +39,31 @@ impl Model for Drafts {
 
     ghost view = { λ v. v.kept.items };
 
-    ghost invariant = { λ v. v.data_sets.entries ≡ names_of v.kept.items };
+    ghost invariant = { λ v. v.names.entries ≡ names_of v.kept.items };
 }
 
-/// Puts a data set's name into the table, unless it is there.
+/// The place of the first data set with a name: the one that is noted, or else this one's.
+fn first_place(noted: Option<Option<usize>>, is_data_set: bool, at: usize) -> Option<usize>
+    ensures { result ≡ first_place noted is_data_set at }
+{
+    if let Some(Some(first)) = noted {
+        return Some(first);
+    }
+    if is_data_set { Some(at) } else { None }
+}
+
+/// Notes the name of the structure at this place.
 fn note_title(
-    data_sets: &mut IndexMap<Name, usize>,
+    names: &mut IndexMap<Name, Option<usize>>,
     name: Name,
     kind: u8,
     at: usize,
 ) -> Result<(), Memory>
-    ensures ok { OnOk result (data_sets.new.entries ≡ with_title name kind at data_sets.old.entries) }
-    ensures err { OnErr result (data_sets.new.entries ≡ data_sets.old.entries) }
+    ensures ok { OnOk result (names.new.entries ≡ with_title name kind at names.old.entries) }
+    ensures err { OnErr result (names.new.entries ≡ names.old.entries) }
 {
-    if kind < 3 && !data_sets.contains_key(&name) {
-        data_sets.insert(name, at)?;
-    }
+    let place = first_place(names.get(&name).copied(), kind < 3, at);
+    names.insert(name, place)?;
     Ok(())
 }
 
@@ -65,7 +74,7 @@ impl Drafts {
     {
         Drafts {
             kept: Vec::new(alloc),
-            data_sets: IndexMap::new(alloc),
+            names: IndexMap::new(alloc),
         }
     }
 
@@ -78,20 +87,28 @@ impl Drafts {
         let name = draft.name;
         let kind = draft.kind;
         self.kept.push(draft)?;
-        let noted = note_title(&mut self.data_sets, name, kind, at);
+        let noted = note_title(&mut self.names, name, kind, at);
         if noted.is_err() {
             self.kept.truncate(at);
         }
         noted
     }
 
+    /// Whether a structure has this name.
+    pub fn is_structure(&self, name: &Name) -> bool
+        ensures { result ≡ is_structure name.now self.now }
+    {
+        self.names.contains_key(name)
+    }
+
     /// The data set with this name.
     pub fn data_set_named(&self, name: &Name) -> Option<&Draft>
         ensures { option_copied result ≡ data_set_named name.now self.now }
     {
-        match self.data_sets.get(name) {
+        match self.names.get(name) {
+            Some(Some(at)) => self.kept.as_slice().get(*at),
+            Some(None) => None,
             None => None,
-            Some(at) => self.kept.as_slice().get(*at),
         }
     }
 

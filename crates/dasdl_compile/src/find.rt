@@ -1,5 +1,5 @@
 ghost use Rattle.std.specs.Prelude.{◌≡◌};
-ghost use Rattle.dasdl_compile.specs.Finding.{next_structure, after_item, next_item, is_structure, has_restart, kind_of, item_named, group_named, is_taken};
+ghost use Rattle.dasdl_compile.specs.Finding.{next_structure, after_item, next_item, has_restart, kind_of, item_named, group_named, is_taken};
 
 use crate::draft::Draft;
 use dms_base::{ItemKind, Name};
@@ -37,19 +37,6 @@ pub fn next_item(items: &[Item]) -> u8
         return 255;
     }
     (items.len() + 1) as u8
-}
-
-/// Whether a structure has this name.
-#[tactic(auto, unfolding(crate::specs::Finding::is_structure))]
-pub fn is_structure(drafts: &[Draft], name: &Name) -> bool
-    ensures { result ≡ is_structure name.now drafts.now }
-{
-    for draft in drafts {
-        if draft.name.is(name) {
-            return true;
-        }
-    }
-    false
 }
 
 /// Whether one of these is a restart data set.

@@ -7,7 +7,7 @@ use crate::conditions::condition;
 use crate::draft::Draft;
 use crate::drafts::Drafts;
 use crate::fault::CompileFault;
-use crate::find::{is_structure, kind_of, next_structure};
+use crate::find::{kind_of, next_structure};
 use crate::keys::key_at;
 use crate::work::Work;
 use dasdl_parse::{CondDecl, KeyDecl, SetDecl};
@@ -192,7 +192,7 @@ pub fn set_at(
 ) -> Result<(), CompileFault>
     ensures { Makes result work.new (set_at outline.now set.now work.old) }
 {
-    if is_structure(work.made.as_slice(), &set.name) {
+    if work.made.is_structure(&set.name) {
         return Err(CompileFault::Twice(set.name));
     }
     match outline.data_set_named(&set.of) {
