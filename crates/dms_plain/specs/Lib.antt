@@ -1,4 +1,5 @@
 pub mod Clashes
 pub mod Rows
 pub mod Scans
+pub mod Speaking
 pub mod Told

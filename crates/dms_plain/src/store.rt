@@ -4,6 +4,7 @@ ghost use Rattle.std.proofs.lemmas.Bool.{false≢true};
 ghost use Rattle.dms_desc.specs.Shape.{described};
 ghost use Rattle.dms_model.specs.Db.{empty_db};
 ghost use Rattle.dms_plain.specs.Rows.{db_of, records_in, undone, IsInOrder};
+ghost use Rattle.dms_plain.specs.Speaking.{OnlySpeaks, only_none, only_on};
 ghost use Rattle.dms_plain.specs.Told.{told, no_point, no_clock};
 
 use crate::rows::{Row, Undo};
@@ -71,7 +72,7 @@ impl<S: Site> Store for PlainStore<S> {
 
     ghost sound = { λ _. ⊤ };
 
-    ghost same_store = { λ a b. S.same_site a.site b.site × (S.disk_faults b.site ≡ S.disk_faults a.site) × (IsTrue S.tells → S.files b.site ≡ S.files a.site) };
+    ghost same_store = { λ a b. S.same_site a.site b.site × (S.disk_faults b.site ≡ S.disk_faults a.site) × (IsTrue S.tells → S.files b.site ≡ S.files a.site) × OnlySpeaks (S.clock a.site) (S.clock b.site) };
 
     ghost desc = { λ s. described s.desc };
 
@@ -105,9 +106,9 @@ impl<S: Site> Store for PlainStore<S> {
 
     ghost sure_within = { λ s sound tells. absurd (false≢true tells) };
 
-    ghost same_again = { λ s. (S.same_again s.site, refl, λ tells. refl) };
+    ghost same_again = { λ s. (S.same_again s.site, refl, λ tells. refl, only_none (S.clock s.site)) };
 
-    ghost same_then = { λ a b c one two. (S.same_then a.site b.site c.site one.0 two.0, two.1 ∙ one.1, λ tells. two.2 tells ∙ one.2 tells) };
+    ghost same_then = { λ a b c one two. (S.same_then a.site b.site c.site one.0 two.0, two.1 ∙ one.1, λ tells. two.2 tells ∙ one.2 tells, only_on (S.clock a.site) (S.clock b.site) (S.clock c.site) one.3 two.3) };
 
     fn get(&mut self, alloc: Global, set: u16, number: u64) -> Result<Option<Record>, BlockFault> {
         Ok(state::get(alloc, self.rows.as_slice(), set, number)?)

@@ -1,3 +1,4 @@
+pub mod Creating
 pub mod Cutting
 pub mod Judgements
 pub mod Printing

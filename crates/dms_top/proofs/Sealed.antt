@@ -41,3 +41,7 @@ short_spelling d w = let e : nat_le (length (spelling d)) 65535 ≡ true = w.sho
 
 pub sealed_is : (text : List ℕ) (d : Described) (file : List ℕ) → judged text ≡ Ok d → file ≡ sealed_file d → IsSealed file d
 sealed_is text d file is e = let w = judged_well text d is in record { database = 0; well_formed = w; few = short_spelling d w; is = e }
+
+-- the spelling of what was compiled fits the file
+pub short_judged : (text : List ℕ) (d : Described) → judged text ≡ Ok d → length (spelling d) ≤ 65535
+short_judged text d is = short_spelling d (judged_well text d is)

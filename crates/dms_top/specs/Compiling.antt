@@ -1,7 +1,10 @@
 -- The command `compile`: what it says, and what a stop leaves.
 use Rattle.std.specs.Prelude.{◌≡◌, ◌⊎◌, ℕ, List, [], ◌∷◌, ◌++◌, codes, decimal, take, ⊤}
-use Rattle.dms_block.specs.Moments.{Clock, Now}
-use Rattle.dms_site.specs.Files.{Left}
+use Rattle.dms_block.specs.Moments.{Clock, Now, Runs}
+use Rattle.dms_desc.specs.Shape.{Described}
+use Rattle.dms_descfile.specs.Becoming.{IsCreated}
+use Rattle.dms_descfile.specs.DescriptionFile.{sealed_file}
+use Rattle.dms_site.specs.Files.{Files, Left}
 use Rattle.dms_top.specs.declared.status.Status.{Status}
 use Rattle.dms_top.specs.declared.status.Status.TheVariants.{Ok, BadWords, SchemaRefused, InputFault, Memory, Limit, SayFault, DiskFault, Exists}
 
@@ -60,3 +63,8 @@ IsOfFile Exists = ⊤
 -- Each outcome that a stop may leave since the old clock's moment is one that it could leave then, or has P.
 abbrev pub AtEachMoment : Clock Left → Clock Left → (Left → Type 0) → Type 0
 AtEachMoment old new P = (x : Left) → new.left old.now x → Now old x ⊎ P x
+
+-- Each outcome that a stop on the way left is one that it could leave at the old moment, or there the description file is no
+-- sealed description, or exactly that of some description, and the other files are these.
+abbrev pub CreatesSome : Files → Clock Left → Clock Left → Type 0
+CreatesSome files old new = Runs old new (λ x. Now old x ⊎ ((d : Described) × IsCreated (sealed_file d) files x))

@@ -6,7 +6,7 @@ ghost use Rattle.dms_descfile.specs.DescriptionFile.{description_file, sealed_fi
 ghost use Rattle.dms_descfile.specs.Becoming.{Creates};
 ghost use Rattle.dms_top.specs.declared.status.LimitKind.{LimitKind as Kind};
 ghost use Rattle.dms_top.specs.declared.status.SchemaFault.{SchemaFault as Refusal};
-ghost use Rattle.dms_top.specs.Compiling.{compiled_text, Says, IsSpoken, IsBefore, IsOfFile};
+ghost use Rattle.dms_top.specs.Compiling.{compiled_text, Says, IsSpoken, IsBefore, IsOfFile, CreatesSome};
 ghost use Rattle.dms_top.specs.Judging.{judged};
 ghost use Rattle.dms_top.specs.Words.{IsPast, IsUntouched};
 
@@ -21,9 +21,6 @@ use dms_desc_bytes::encode;
 use dms_descfile::{FileFault, read_description, seal_description};
 use dms_site::{Site, Source};
 use std::alloc::Global;
-
-/// The bytes that a description may have.
-const DESCRIPTION_BYTES: usize = 65_535;
 
 /// What is needed to seal a description and to say so.
 #[derive(Drop)]
@@ -46,14 +43,12 @@ fn compiled_text(alloc: Global, count: usize) -> Result<Bytes, Memory>
 
 /// The bytes of a description, and the line that says how many structures it has.
 fn prepare(alloc: Global, desc: &Description) -> Result<Prepared, Memory>
+    requires { length (spelling (described desc.now)) ≤ 65535 }
     ensures bytes { IfOk result (λ p. p.bytes ≡ spelling (described desc.now)) }
     ensures few { IfOk result (λ p. length p.bytes ≤ 65535) }
     ensures line { IfOk result (λ p. p.line ≡ compiled_text (length desc.now.structures)) }
 {
     let bytes = encode(alloc, desc)?;
-    if bytes.as_slice().len() > DESCRIPTION_BYTES {
-        return Err(Memory);
-    }
     let line = compiled_text(alloc, desc.structures.as_slice().len())?;
     Ok(Prepared { bytes, line })
 }
@@ -87,6 +82,7 @@ fn seal_and_say<S: Site>(alloc: Global, site: &mut S, bytes: &[u8], line: &[u8])
 
 /// Seals a description where the site holds none, and says so.
 fn create<S: Site>(alloc: Global, site: &mut S, desc: &Description) -> Status
+    requires { length (spelling (described desc.now)) ≤ 65535 }
     ensures of_file { IsOfFile result }
     ensures exists { result ≡ Status.Exists → IsTrue S.tells → (d : Described) × IsSealed (S.files site.old 1) d }
     ensures unsealed { IsSpoken result → IsTrue S.tells → IsUnsealed (S.files site.old 1) }
@@ -135,6 +131,7 @@ pub fn compile_input<S: Site, I: Source>(alloc: Global, site: &mut S, input: &mu
     ensures says { IsTrue S.tells_said → (all : List ℕ) (d : Described) → I.left input.old ≡ Some all → judged all ≡ Ok d → Says result (compiled_text (length d.structures)) (S.said site.old) (S.said site.new) }
     ensures silent { IsTrue S.tells_said → (IsSpoken result → ⊥) → S.said site.new ≡ S.said site.old }
     ensures creates { IsTrue S.tells → (all : List ℕ) (d : Described) → I.left input.old ≡ Some all → judged all ≡ Ok d → Creates (sealed_file d) (S.files site.old) (S.clock site.old) (S.clock site.new) }
+    ensures creates_some { IsTrue S.tells → CreatesSome (S.files site.old) (S.clock site.old) (S.clock site.new) }
     ensures same_site { S.same_site site.old site.new }
     ensures same_source { I.same_source input.old input.new }
     ensures disk_later { S.disk_faults site.old ≤ S.disk_faults site.new }

@@ -3,6 +3,7 @@ ghost use Rattle.dms_base.specs.Causes.{Rose};
 ghost use Rattle.dms_desc.specs.Shape.{Described};
 ghost use Rattle.dms_descfile.specs.Becoming.{IsCreated};
 ghost use Rattle.dms_descfile.specs.DescriptionFile.{sealed_file, IsSealed, IsUnsealed};
+ghost use Rattle.dms_plain.specs.Speaking.{OnlySpeaks};
 ghost use Rattle.dms_top.specs.Compiling.{compiled_text, Says, IsSpoken, IsBefore, AtEachMoment};
 ghost use Rattle.dms_top.specs.declared.status.SchemaFault.{SchemaFault as Refusal};
 ghost use Rattle.dms_top.specs.Judging.{judged};
@@ -47,6 +48,7 @@ fn try_input<S: Site, I: Source>(alloc: Global, site: &mut S, input: &mut I) -> 
     ensures say { result ≡ Status.SayFault → Rose (S.say_faults site.old) (S.say_faults site.new) }
     ensures disk_same { S.disk_faults site.new ≡ S.disk_faults site.old }
     ensures files { IsTrue S.tells → S.files site.new ≡ S.files site.old }
+    ensures only_speaks { OnlySpeaks (S.clock site.old) (S.clock site.new) }
     ensures answers { result ≡ Status.Ok → IsTrue S.tells_said → (all : List ℕ) → I.left input.old ≡ Some all → Printed (S.said site.old) (S.said site.new) (try_text all) }
     ensures part { IsTrue S.tells_said → (all : List ℕ) → I.left input.old ≡ Some all → PrintedFront (S.said site.old) (S.said site.new) (try_text all) }
     ensures silent { IsTrue S.tells_said → IsSilent result → S.said site.new ≡ S.said site.old }
@@ -95,6 +97,7 @@ pub fn dms<S: Site, I: Source>(
     ensures accepted { IsTry (map string_bytes words.now) → IsPast result → (all : List ℕ) → I.left input.old ≡ Some all → IsOk (judged (text_of all)) }
     ensures disk_same { IsTry (map string_bytes words.now) → S.disk_faults site.new ≡ S.disk_faults site.old }
     ensures files { IsTry (map string_bytes words.now) → IsTrue S.tells → S.files site.new ≡ S.files site.old }
+    ensures try_only_speaks { IsTry (map string_bytes words.now) → OnlySpeaks (S.clock site.old) (S.clock site.new) }
     ensures answers { IsTry (map string_bytes words.now) → result ≡ Status.Ok → IsTrue S.tells_said → (all : List ℕ) → I.left input.old ≡ Some all → Printed (S.said site.old) (S.said site.new) (try_text all) }
     ensures part { IsTry (map string_bytes words.now) → IsTrue S.tells_said → (all : List ℕ) → I.left input.old ≡ Some all → PrintedFront (S.said site.old) (S.said site.new) (try_text all) }
     ensures silent { IsTry (map string_bytes words.now) → IsTrue S.tells_said → IsSilent result → S.said site.new ≡ S.said site.old }
@@ -114,6 +117,7 @@ pub fn dms<S: Site, I: Source>(
     ensures compile_silent { IsCompile (map string_bytes words.now) → IsTrue S.tells_said → (IsSpoken result → ⊥) → S.said site.new ≡ S.said site.old }
     ensures compile_say_later { IsCompile (map string_bytes words.now) → S.say_faults site.old ≤ S.say_faults site.new }
     ensures creation_at_every_moment { IsCompile (map string_bytes words.now) → IsTrue S.tells → (all : List ℕ) (d : Described) → I.left input.old ≡ Some all → judged all ≡ Ok d → AtEachMoment (S.clock site.old) (S.clock site.new) (IsCreated (sealed_file d) (S.files site.old)) }
+    ensures creation_of_some { IsCompile (map string_bytes words.now) → IsTrue S.tells → AtEachMoment (S.clock site.old) (S.clock site.new) (λ x. (d : Described) × IsCreated (sealed_file d) (S.files site.old) x) }
     ensures creation_at_ok { IsCompile (map string_bytes words.now) → IsSpoken result → IsTrue S.tells → (all : List ℕ) (d : Described) → I.left input.old ≡ Some all → judged all ≡ Ok d → S.files site.new 1 ≡ sealed_file d }
     ensures sealed_at_ok { IsCompile (map string_bytes words.now) → IsSpoken result → IsTrue S.tells → (all : List ℕ) (d : Described) → I.left input.old ≡ Some all → judged all ≡ Ok d → IsSealed (S.files site.new 1) d }
 {

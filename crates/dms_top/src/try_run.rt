@@ -4,6 +4,7 @@ ghost use Rattle.dms_desc.specs.Shape.{described};
 ghost use Rattle.dms_feed.specs.Feeds.{Remains};
 ghost use Rattle.dms_feed.specs.Lines.{raw_lines};
 ghost use Rattle.dms_model.specs.Db.{empty_db};
+ghost use Rattle.dms_plain.specs.Speaking.{OnlySpeaks};
 ghost use Rattle.dms_runner.specs.Answers.{answers_text};
 ghost use Rattle.dms_runner.specs.Running.{CutInput};
 ghost use Rattle.dms_top.specs.Answering.{Printed, PrintedFront, WithinLimits, Passes};
@@ -85,6 +86,7 @@ pub fn try_lines<S: Site, I: Source>(
     ensures say { result ≡ Status.SayFault → Rose (S.say_faults site.old) (S.say_faults site.new) }
     ensures disk_same { S.disk_faults site.new ≡ S.disk_faults site.old }
     ensures files { IsTrue S.tells → S.files site.new ≡ S.files site.old }
+    ensures only_speaks { OnlySpeaks (S.clock site.old) (S.clock site.new) }
     ensures same_source { I.same_source source.old source.new }
     ensures later { I.faults source.old ≤ I.faults source.new }
     ensures spoken { IsSilent result → ⊥ }

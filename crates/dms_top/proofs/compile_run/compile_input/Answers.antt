@@ -3,8 +3,9 @@ use Rattle.dms_desc.specs.Shape.{described}
 use Rattle.dms_descfile.specs.DescriptionFile.{sealed_file}
 use Rattle.dms_top.specs.Judging.{judged}
 use Rattle.dms_top.proofs.Printing.{same_description, not_refused}
-use Rattle.dms_top.proofs.Sealed.{sealed_is}
+use Rattle.dms_top.proofs.Sealed.{sealed_is, short_judged}
 use Rattle.dms_top.proofs.Judgements.{long_judged}
+use Rattle.dms_top.proofs.Creating.{some_created}
 use Rattle.dms_top.proofs.compile_run.compile_input.Goals as goal
 
 pub returns-in-Err-Long-clause-refused : goal.returns-in-Err-Long-clause-refused
@@ -20,3 +21,9 @@ pub returns-clause-refused_text : goal.returns-clause-refused_text
 returns-clause-refused_text g c = λ all e left is.
     let j : judged all ≡ Ok (described c.in-Description.desc) = ap judged (sym (c.in-Ok.ensures.text all left) ∙ sym c.as_slice.ensures) ∙ c.in-Description.ensures in
     absurd (not_refused _ _ _ j is)
+
+pub returns-clause-creates_some : goal.returns-clause-creates_some
+returns-clause-creates_some g c = λ tells. some_created _ _ _ _ (c.create.ensures.creates tells)
+
+pub create-requires : goal.create-requires
+create-requires g c = short_judged _ _ c.in-Description.ensures
