@@ -7,7 +7,7 @@ use Rattle.dms_feed.specs.Feeds.{Remains}
 use Rattle.dms_feed.specs.Lines.{raw_lines, first_line, after_line, onto_first}
 use Rattle.dms_model.specs.Db.{Db}
 use Rattle.dms_model.specs.Points.{Prints}
-use Rattle.dms_model.specs.Session.{Session}
+use Rattle.dms_model.specs.Session.{Session, ended}
 use Rattle.dms_storeverbs.specs.View.{View, Stands}
 use Rattle.dms_runner.specs.declared.held.Held.{Held}
 use Rattle.dms_runner.specs.Answers.{Going, Lined, Roomy, going_on, line_step, lines_run, onto, begun, script_run, ending, script_events}
@@ -179,11 +179,13 @@ taken all done more i split count = ap (take i) split ∙ take_at done more i co
 
 -- the lines that were done, and what they answered
 pub runs_took : (desc : Described) (db : Db) (first : ℕ) (i room : ℕ) (all : List ℕ) (v : View) (held : List Held) (feed : List ℕ) (left : Option (List ℕ)) (before mid : Told) (after : Option (List ℕ))
-    → Runs desc (begun db first) i room all v held feed left before mid → Prints mid.said after [] → Took desc db first (raw_lines all) i before.said after
-runs_took desc db first i room all v held feed left before mid after r same =
+    → Runs desc (begun db first) i room all v held feed left before mid → i ≤ 1000000 → Prints mid.said after [] → Took desc db first (raw_lines all) i before.said after
+runs_took desc db first i room all v held feed left before mid after r small same =
     let t : take i (raw_lines all) ≡ r.done = taken all r.done (raw_lines r.rest) i r.split r.count in
     record {
       within = omega (arith, ap length r.split, length-append r.done (raw_lines r.rest), r.count);
+      few = small;
+      short = omega (arith, ap bytes_of t, r.bytes);
       room = ap (λ (ls : List (List ℕ)). (script_run desc db first ls).full) t ∙ r.roomy;
       text = subst (λ (ls : List (List ℕ)). Prints before.said after (text_of (script_run desc db first ls).events)) (sym t) (subst (λ (x : List ℕ). Prints before.said after x) (append-nil _) (prints_on before.said mid.said after _ [] r.ran.text same));
     }
@@ -204,38 +206,40 @@ pub runs_lines : (desc : Described) (db : Db) (first : ℕ) (i room : ℕ) (all 
     (r : Runs desc (begun db first) i room all v held feed left before mid) → Prints mid.said after [] → i ≡ 1000000 → r.rest ≢ [] → PassesLines desc db first (raw_lines all) before.said after
 runs_lines desc db first i room all v held feed left before mid after r same end some = (
   omega (arith, ap length r.split, length-append r.done (raw_lines r.rest), r.count, end, some_lines r.rest some),
-  subst (λ (n : ℕ). Took desc db first (raw_lines all) n before.said after) end (runs_took desc db first i room all v held feed left before mid after r same),
+  subst (λ (n : ℕ). Took desc db first (raw_lines all) n before.said after) end (runs_took desc db first i room all v held feed left before mid after r (omega (arith, end)) same),
 )
 
 -- the script has a byte too many
 pub runs_bytes : (desc : Described) (db : Db) (first : ℕ) (i room : ℕ) (all : List ℕ) (v : View) (held : List Held) (feed : List ℕ) (left : Option (List ℕ)) (before mid : Told) (after : Option (List ℕ))
-    (r : Runs desc (begun db first) i room all v held feed left before mid) → Prints mid.said after [] → room < length (first_line r.rest) → PassesBytes desc db first (raw_lines all) before.said after
-runs_bytes desc db first i room all v held feed left before mid after r same over = record {
+    (r : Runs desc (begun db first) i room all v held feed left before mid) → i < 1000000 → Prints mid.said after [] → room < length (first_line r.rest) → PassesBytes desc db first (raw_lines all) before.said after
+runs_bytes desc db first i room all v held feed left before mid after r more same over = record {
   n = i;
-  took = runs_took desc db first i room all v held feed left before mid after r same;
-  short = omega (arith, ap bytes_of (taken all r.done (raw_lines r.rest) i r.split r.count), r.bytes);
+  took = runs_took desc db first i room all v held feed left before mid after r (omega (arith, more)) same;
+  few = more;
   over = omega (arith, ap bytes_of (taken_more all r.rest r.done i r.split r.count (some_first r.rest (omega (arith, over)))), bytes_on r.done (first_line r.rest ∷ []), r.bytes, over);
 }
 
 -- a line would be one too many to hold
 pub runs_held : (desc : Described) (db : Db) (first : ℕ) (i room : ℕ) (all : List ℕ) (v : View) (held : List Held) (feed : List ℕ) (left : Option (List ℕ)) (before mid : Told) (after : Option (List ℕ))
-    (r : Runs desc (begun db first) i room all v held feed left before mid) → Prints mid.said after [] → r.rest ≢ [] → (line_step desc (lines_run desc (begun db first) r.done).going (first_line r.rest)).full ≡ true
+    (r : Runs desc (begun db first) i room all v held feed left before mid) → i < 1000000 → Prints mid.said after [] → r.rest ≢ [] → (line_step desc (lines_run desc (begun db first) r.done).going (first_line r.rest)).full ≡ true → length (first_line r.rest) ≤ room
     → PassesHeld desc db first (raw_lines all) before.said after
-runs_held desc db first i room all v held feed left before mid after r same some full =
+runs_held desc db first i room all v held feed left before mid after r more same some full fits =
     let g = begun db first in
     let t = taken_more all r.rest r.done i r.split r.count some in
     record {
       n = i;
-      took = runs_took desc db first i room all v held feed left before mid after r same;
+      took = runs_took desc db first i room all v held feed left before mid after r (omega (arith, more)) same;
+      few = more;
+      short = omega (arith, ap bytes_of t, bytes_on r.done (first_line r.rest ∷ []), r.bytes, fits);
       full = ap (λ (ls : List (List ℕ)). (script_run desc db first ls).full) t ∙ ap (λ (l : Lined). l.full) (run_on desc g r.done (first_line r.rest ∷ []) r.roomy) ∙ ap (λ (l : Lined). l.full) (run_full desc (lines_run desc g r.done).going (first_line r.rest) [] full) ∙ full;
     }
 
 -- taking from the input failed
 pub runs_cut : (desc : Described) (db : Db) (first : ℕ) (i room : ℕ) (all : List ℕ) (v : View) (held : List Held) (feed : List ℕ) (left left' : Option (List ℕ)) (before mid : Told) (after : Option (List ℕ))
-    (r : Runs desc (begun db first) i room all v held feed left before mid) → Prints mid.said after [] → CutLine left' r.rest → CutInput desc db first all left' before.said after
-runs_cut desc db first i room all v held feed left left' before mid after r same cut = record {
+    (r : Runs desc (begun db first) i room all v held feed left before mid) → i ≤ 1000000 → Prints mid.said after [] → CutLine left' r.rest → CutInput desc db first all left' before.said after
+runs_cut desc db first i room all v held feed left left' before mid after r small same cut = record {
   n = i;
-  took = runs_took desc db first i room all v held feed left before mid after r same;
+  took = runs_took desc db first i room all v held feed left before mid after r small same;
   part = cut.part;
   rest = cut.rest;
   whole = r.whole ∙ ap (λ (x : List ℕ). joined r.done ++ x) cut.whole ∙ ap (λ (ls : List (List ℕ)). joined ls ++ (cut.part ++ cut.rest)) (sym (taken all r.done (raw_lines r.rest) i r.split r.count));
@@ -266,6 +270,13 @@ runs_end desc db first i room all v held feed left before mid after r small none
       room = ap (λ (ls : List (List ℕ)). (script_run desc db first ls).full) whole ∙ r.roomy;
       text = (runs_ran desc db first i room all v held feed left before mid after r none last).text;
     }
+
+-- the session at the end, of the whole script
+pub runs_ended : (desc : Described) (db : Db) (first : ℕ) (i room : ℕ) (all : List ℕ) (v w : View) (held : List Held) (feed : List ℕ) (left : Option (List ℕ)) (before mid : Told)
+    (r : Runs desc (begun db first) i room all v held feed left before mid) → r.rest ≡ [] → Stands w (ended (lines_run desc (begun db first) r.done).going.session) → Stands w (ended (script_run desc db first (raw_lines all)).going.session)
+runs_ended desc db first i room all v w held feed left before mid r none stands =
+    let whole : raw_lines all ≡ r.done = r.split ∙ ap (λ (ls : List (List ℕ)). r.done ++ ls) (lines_none r.rest none) ∙ append-nil r.done in
+    subst (λ (ls : List (List ℕ)). Stands w (ended (script_run desc db first ls).going.session)) (sym whole) stands
 
 -- a front of what the lines to come do is, behind what happened, a front of the whole
 pub runs_part : (desc : Described) (db : Db) (first : ℕ) (i room : ℕ) (all : List ℕ) (v : View) (held : List Held) (feed : List ℕ) (left : Option (List ℕ)) (before mid after : Told)

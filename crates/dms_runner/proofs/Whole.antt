@@ -1,13 +1,13 @@
 -- A stop within events, told of all of them.
-use Rattle.std.proofs.Common.{ℕ, ◌≡◌, ◌≤◌, ◌+◌, ◌⊎◌, inl, inr, ⊎_elim, List, [], ◌∷◌, ◌++◌, length, take, Some, None, sym, ◌∙◌, ap, arith, append_assoc, length-append, length-take}
+use Rattle.std.proofs.Common.{ℕ, ◌≡◌, ◌≤◌, ◌+◌, ◌⊎◌, inl, inr, ⊎_elim, List, [], ◌∷◌, ◌++◌, length, take, Some, None, refl, sym, ◌∙◌, ap, arith, append_assoc, length-append, length-take}
 use Rattle.std.specs.declared.option.Option.{Option}
 use Rattle.std.proofs.lemmas.List.{append-nil}
 use Rattle.dms_model.specs.Points.{Point, Quiet, Stop, Front}
 use Rattle.dms_storeverbs.specs.View.{Left}
 use Rattle.dms_storeverbs.proofs.Calls.{lower}
 use Rattle.dms_runner.specs.Events.{Event, text_of, quiets_of, covered, sure_after}
-use Rattle.dms_runner.specs.EventLaws.{WholeLaw, SyncLaw}
-use Rattle.dms_runner.proofs.Happening.{text_on, quiets_on, sure_on}
+use Rattle.dms_runner.specs.EventLaws.{WholeLaw, SyncLaw, PointLaw}
+use Rattle.dms_runner.proofs.Happening.{text_on, quiets_on, sure_on, length_grew}
 use Rattle.dms_runner.proofs.Texts.{some_front}
 
 covered_some : (sync : Option ℕ) (n sure all : ℕ) → sync ≡ Some n → covered sync sure all ≡ all
@@ -41,14 +41,21 @@ tail_of [] = []
 tail_of (x ∷ xs) = xs
 
 -- of two events in a list, one stands before the other, or they are the same
+record SamePlace (xs ys : List Event) (a b : Event) : Type 0 where
+  before : xs ≡ ys
+  here : a ≡ b
+
 places : (xs : List Event) (a : Event) (us ys : List Event) (b : Event) (vs : List Event) → xs ++ a ∷ us ≡ ys ++ b ∷ vs
-    → ((k : List Event) × (xs ≡ ys ++ b ∷ k)) ⊎ ((k : List Event) × (ys ++ b ∷ [] ≡ (xs ++ a ∷ []) ++ k))
-places [] a us [] b vs is = inr ([], ap (λ (l : List Event). head_or b l ∷ []) (sym is))
-places [] a us (y ∷ ys) b vs is = inr (ys ++ b ∷ [], ap (λ (l : List Event). head_or y l ∷ (ys ++ b ∷ [])) (sym is))
+    → ((k : List Event) × (xs ≡ ys ++ b ∷ k)) ⊎ (SamePlace xs ys a b ⊎ ((k : List Event) × (ys ≡ xs ++ a ∷ k)))
+places [] a us [] b vs is = inr (inl (record { before = refl; here = ap (head_or b) is }))
+places [] a us (y ∷ ys) b vs is = inr (inr (ys, ap (λ (l : List Event). head_or y l ∷ ys) (sym is)))
 places (x ∷ xs) a us [] b vs is = inl (xs, ap (λ (l : List Event). head_or x l ∷ xs) is)
 places (x ∷ xs) a us (y ∷ ys) b vs is = ⊎_elim
     (λ p. inl (p.0, ap (λ (l : List Event). head_or x l ∷ xs) is ∙ ap (λ (l : List Event). y ∷ l) p.1))
-    (λ p. inr (p.0, ap (λ (l : List Event). y ∷ l) p.1 ∙ ap (λ (l : List Event). head_or y l ∷ ((xs ++ a ∷ []) ++ p.0)) (sym is)))
+    (λ q. inr (⊎_elim
+      (λ p. inl (record { before = ap (λ (l : List Event). head_or x l ∷ xs) is ∙ ap (λ (l : List Event). y ∷ l) p.before; here = p.here }))
+      (λ p. inr (p.0, ap (λ (l : List Event). y ∷ l) p.1 ∙ ap (λ (l : List Event). head_or y l ∷ (xs ++ a ∷ p.0)) (sym is)))
+      q))
     (places xs a us ys b vs (ap tail_of is))
 
 left_lower : {low high next : ℕ} {points : List Point} {q : List Quiet} {stop : Stop} → low ≤ high → Left high points next q stop → Left low points next q stop
@@ -69,26 +76,42 @@ whole_law said points sure next events stop low s = record {
       (front.0, n.1 ∙ append_assoc t (text_of s.before) (take n.0 s.at.text) ∙ ap (λ (l : List ℕ). t ++ l) (front.1 ∙ ap (take front.0) (sym (text_on s.before (s.at ∷ s.rest)) ∙ ap text_of s.whole)));
 }
 
+-- the text of a stop is no longer than that up to its event, this one's too, and no shorter than that before it
+text_most : (t x y : List ℕ) (n : ℕ) (l : List ℕ) → l ≡ (t ++ x) ++ take n y → (length l ≤ length t + length x + length y) × (length t + length x ≤ length l)
+text_most t x y n l is =
+    let e = ap (λ (z : List ℕ). length z) is in
+    (omega (arith, e, length-append (t ++ x) (take n y), length-append t x, length-take n y), omega (arith, e, length-append (t ++ x) (take n y), length-append t x))
+
+text_behind : (x y z : List Event) (e : Event) → x ≡ y ++ e ∷ z → length (text_of y) + length e.text ≤ length (text_of x)
+text_behind x y z e is = omega (arith, ap (λ (l : List Event). length (text_of l)) is, ap length (text_on y (e ∷ z)), length-append (text_of y) (e.text ++ text_of z), length-append e.text (text_of z))
+
+quiets_behind : (x y z : List Event) (e : Event) → x ≡ y ++ e ∷ z → length (quiets_of y ++ e.quiets) ≤ length (quiets_of x)
+quiets_behind x y z e is = omega (arith, length-append (quiets_of y) e.quiets, ap (λ (l : List Event). length (quiets_of l)) is, ap length (quiets_on y (e ∷ z)), length-append (quiets_of y) (e.quiets ++ quiets_of z), length-append e.quiets (quiets_of z))
+
+-- no more quiet points are left than there are
+left_most : {sure next : ℕ} {points : List Point} {q : List Quiet} {stop : Stop} → Left sure points next q stop → length stop.points ≤ length points + length q
+left_most {q = q} l = omega (arith, ap (λ (x : List Point). length x) l.front.is, length-take l.front.count l.all, length_grew l.grew, length-append l.made l.rest, ap length l.front_of)
+
 pub sync_law : SyncLaw
-sync_law said points sure next events stop low s before call rest n is synced t told printed = ⊎_elim
-    (λ p. omega (arith, sure_behind (length points) sure before call p.0 n synced, ap (sure_after (length points) sure) p.1, length_front s.left.front))
-    (λ p.
+sync_law said points sure next events stop low s before call rest n is synced t told printed =
     let m = s.text t told in
-    absurd (omega (
-      arith,
-      printed,
-      ap (λ (l : List ℕ). length l) m.1,
-      length-append (t ++ text_of s.before) (take m.0 s.at.text),
-      length-append t (text_of s.before),
-      length-take m.0 s.at.text,
-      ap (λ (l : List Event). length (text_of l)) p.1,
-      ap length (text_on before (call ∷ [])),
-      length-append (text_of before) (call.text ++ []),
-      ap length (append-nil call.text),
-      ap length (text_on (s.before ++ s.at ∷ []) p.0),
-      length-append (text_of (s.before ++ s.at ∷ [])) (text_of p.0),
-      ap length (text_on s.before (s.at ∷ [])),
-      length-append (text_of s.before) (s.at.text ++ []),
-      ap length (append-nil s.at.text),
-    )))
+    let most = text_most t (text_of s.before) s.at.text m.0 stop.said m.1 in
+    ⊎_elim
+    (λ p. omega (arith, sure_behind (length points) sure before call p.0 n synced, ap (sure_after (length points) sure) p.1, length_front s.left.front))
+    (λ q. absurd (⊎_elim
+      (λ p. omega (arith, printed, most.0, ap (λ (l : List Event). length (text_of l)) p.before, ap (λ (e : Event). length e.text) p.here))
+      (λ p. omega (arith, printed, most.0, text_behind before s.before p.0 s.at p.1))
+      q))
     (places s.before s.at s.rest before call rest (s.whole ∙ sym is))
+
+pub point_law : PointLaw
+point_law said points sure next events stop s before at rest is more t told =
+    let m = s.text t told in
+    let most = text_most t (text_of s.before) s.at.text m.0 stop.said m.1 in
+    ⊎_elim
+    (λ p. omega (arith, most.1, text_behind s.before before p.0 at p.1))
+    (λ q. ⊎_elim
+      (λ p. omega (arith, most.1, ap (λ (l : List Event). length (text_of l)) p.before))
+      (λ p. absurd (omega (arith, more, left_most s.left, quiets_behind before s.before p.0 s.at p.1)))
+      q)
+    (places s.before s.at s.rest before at rest (s.whole ∙ sym is))

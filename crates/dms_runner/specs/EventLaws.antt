@@ -5,8 +5,8 @@ use Rattle.dms_model.specs.Points.{Point, Stop}
 use Rattle.dms_storeverbs.specs.View.{Left}
 use Rattle.dms_runner.specs.Events.{Event, text_of, quiets_of, Stopped}
 
--- the quiet points are those at first and the first ones of all that are made, and none that was sure is missing; the text is a
--- front of all that is said
+-- the quiet points are the first ones of those at first and all that are made behind them, and none that was sure at first is
+-- missing; the text is a front of all that is said
 pub record Whole (said : Option (List ℕ)) (points : List Point) (sure next : ℕ) (events : List Event) (stop : Stop) : Type 0 where
   pub left : Left sure points next (quiets_of events) stop
   pub text : (t : List ℕ) → said ≡ Some t → (n : ℕ) × (stop.said ≡ t ++ take n (text_of events))
@@ -14,9 +14,16 @@ pub record Whole (said : Option (List ℕ)) (points : List Point) (sure next : �
 abbrev pub WholeLaw : Type 0
 WholeLaw = (said : Option (List ℕ)) (points : List Point) (sure next : ℕ) (events : List Event) (stop : Stop) → sure ≤ length points → Stopped said points sure next events stop → Whole said points sure next events stop
 
--- where a byte was said behind a call that took a syncpoint, the quiet points up to that one are left, all of them
+-- where a byte was said behind a call that took a syncpoint, at least as many quiet points are left as there were when the call
+-- was over; with WholeLaw they are those
 abbrev pub SyncLaw : Type 0
 SyncLaw = (said : Option (List ℕ)) (points : List Point) (sure next : ℕ) (events : List Event) (stop : Stop) → sure ≤ length points → Stopped said points sure next events stop
     → (before : List Event) (call : Event) (rest : List Event) (n : ℕ) → before ++ call ∷ rest ≡ events → call.sync ≡ Some n
     → (t : List ℕ) → said ≡ Some t → length t + length (text_of before) + length call.text < length stop.said
     → length points + length (quiets_of before) + length call.quiets ≤ length stop.points
+
+-- where more quiet points are left than there were before an event, all that was to be said before that event is printed
+abbrev pub PointLaw : Type 0
+PointLaw = (said : Option (List ℕ)) (points : List Point) (sure next : ℕ) (events : List Event) (stop : Stop) → Stopped said points sure next events stop
+    → (before : List Event) (at : Event) (rest : List Event) → before ++ at ∷ rest ≡ events → length points + length (quiets_of before) < length stop.points
+    → (t : List ℕ) → said ≡ Some t → length t + length (text_of before) ≤ length stop.said

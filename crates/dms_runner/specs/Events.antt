@@ -20,7 +20,7 @@ calls o = record { quiets = o.quiets; sync = o.sync; text = [] }
 abbrev pub says : List ℕ → Event
 says text = record { quiets = []; sync = None; text = text }
 
--- the database goes back to the last quiet point
+-- the database goes back to the last quiet point: nothing is said, and no quiet point is made
 abbrev pub goes_back : Event
 goes_back = record { quiets = []; sync = None; text = [] }
 
@@ -39,7 +39,8 @@ abbrev pub covered : Option ℕ → ℕ → ℕ → ℕ
 covered None sure all = sure
 covered (Some n) sure all = all
 
--- how many quiet points are sure behind these events, where there were so many before them, and so many of those were sure
+-- how many quiet points are sure at least behind these events, where there were so many before them, and so many of those were
+-- sure
 abbrev pub sure_after : ℕ → ℕ → List Event → ℕ
 sure_after count sure [] = sure
 sure_after count sure (e ∷ es) = sure_after (count + length e.quiets) (covered e.sync sure (count + length e.quiets)) es
@@ -71,7 +72,8 @@ pub record Stopped (said : Option (List ℕ)) (points : List Point) (sure next :
 abbrev pub Stops : Told → List Event → Stop → Type 0
 Stops b events stop = Stopped b.said b.points b.sure b.next events stop
 
--- these events happened
+-- these events happened: their text was said, their quiet points were made, at least those are sure that a syncpoint among them
+-- covers, and a stop on the way lies within them. Of the database it says nothing
 pub record Ran (b a : Told) (events : List Event) : Type 0 where
   pub text : Prints b.said a.said (text_of events)
   pub tells : b.tells → a.tells
@@ -80,7 +82,8 @@ pub record Ran (b a : Told) (events : List Event) : Type 0 where
   pub sure : b.tells → sure_after (length b.points) b.sure events ≤ a.sure
   pub moments : b.tells → Runs b.clock a.clock (Stops b events)
 
--- a front of these events happened
+-- a front of the text of these events was said, and a stop on the way lies within them. Of what stands afterwards it says
+-- nothing else
 pub record RanPart (b a : Told) (events : List Event) : Type 0 where
   pub text : PrintsFront b.said a.said (text_of events)
   pub moments : b.tells → Runs b.clock a.clock (Stops b events)

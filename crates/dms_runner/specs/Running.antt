@@ -37,9 +37,11 @@ pub record Answered (desc : Described) (db : Db) (first : ℕ) (lines : List (Li
   pub room : (script_run desc db first lines).full ≡ false
   pub text : Prints before after (answers_text desc db first lines)
 
--- so many whole lines were taken, and what they answer was said
+-- so many whole lines were taken, which keep the limits of lines and bytes, and what they answer was said
 pub record Took (desc : Described) (db : Db) (first : ℕ) (lines : List (List ℕ)) (n : ℕ) (before after : Option (List ℕ)) : Type 0 where
   pub within : n ≤ length lines
+  pub few : n ≤ 1000000
+  pub short : bytes_of (take n lines) ≤ 2147483648
   pub room : (script_run desc db first (take n lines)).full ≡ false
   pub text : Prints before after (text_of (script_run desc db first (take n lines)).events)
 
@@ -47,17 +49,19 @@ pub record Took (desc : Described) (db : Db) (first : ℕ) (lines : List (List �
 abbrev pub PassesLines : Described → Db → ℕ → List (List ℕ) → Option (List ℕ) → Option (List ℕ) → Type 0
 PassesLines desc db first lines before after = (1000000 < length lines) × Took desc db first lines 1000000 before after
 
--- the script has a byte too many: the whole lines before it were taken
+-- the script has a byte too many, in a line that isn't one too many: the whole lines before it were taken
 pub record PassesBytes (desc : Described) (db : Db) (first : ℕ) (lines : List (List ℕ)) (before after : Option (List ℕ)) : Type 0 where
   pub n : ℕ
   pub took : Took desc db first lines n before after
-  pub short : bytes_of (take n lines) ≤ 2147483648
+  pub few : n < 1000000
   pub over : 2147483648 < bytes_of (take (n + 1) lines)
 
--- a line would be one too many to hold: the lines before it were taken
+-- a line, which keeps the limits of lines and bytes, would be one too many to hold: the lines before it were taken
 pub record PassesHeld (desc : Described) (db : Db) (first : ℕ) (lines : List (List ℕ)) (before after : Option (List ℕ)) : Type 0 where
   pub n : ℕ
   pub took : Took desc db first lines n before after
+  pub few : n < 1000000
+  pub short : bytes_of (take (n + 1) lines) ≤ 2147483648
   pub full : (script_run desc db first (take (n + 1) lines)).full ≡ true
 
 -- taking from the input failed: so many whole lines were taken, and what they answer was said; a part of the next line was

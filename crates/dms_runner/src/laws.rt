@@ -1,6 +1,6 @@
-ghost use Rattle.dms_runner.specs.EventLaws.{WholeLaw, SyncLaw};
+ghost use Rattle.dms_runner.specs.EventLaws.{WholeLaw, SyncLaw, PointLaw};
 
-/// A stop within a run leaves a front of its text, and the quiet points up to one of those that it makes.
+/// A stop within a run leaves a front of its text, and the first quiet points of those at its beginning and those that it makes.
 pub fn whole_law()
     ensures { WholeLaw }
 {}
@@ -9,3 +9,9 @@ pub fn whole_law()
 pub fn sync_law()
     ensures { SyncLaw }
 {}
+
+/// No quiet point is made before all is printed that was said before it.
+pub fn point_law()
+    ensures { PointLaw }
+{
+}

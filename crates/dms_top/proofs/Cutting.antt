@@ -1,5 +1,5 @@
 -- What was printed where taking from the input fails.
-use Rattle.std.proofs.Common.{◌≡◌, ◌+◌, ℕ, List, [], ◌++◌, Some, Bool, true, false, refl, sym, ap, ◌∙◌, subst, arith, append_assoc, length, length-append, take}
+use Rattle.std.proofs.Common.{◌≡◌, ◌+◌, ℕ, List, [], ◌++◌, Some, Bool, true, false, refl, sym, ap, ◌∙◌, subst, arith, append_assoc, length, length-append, length-take, take}
 use Rattle.std.specs.declared.option.Option.{Option}
 use Rattle.std.proofs.Math.Seq.{take-append-add}
 use Rattle.std.proofs.lemmas.List.{append-nil, take_at}
@@ -10,7 +10,7 @@ use Rattle.dms_model.specs.Db.{empty_db}
 use Rattle.dms_plain.specs.Told.{told}
 use Rattle.dms_runner.specs.Answers.{lines_run, script_run}
 use Rattle.dms_runner.specs.Events.{text_of}
-use Rattle.dms_runner.specs.Running.{joined, CutInput}
+use Rattle.dms_runner.specs.Running.{bytes_of, joined, CutInput}
 use Rattle.dms_runner.proofs.Running.{joined_on}
 use Rattle.dms_top.specs.Answering.{Printed, CutTry}
 use Rattle.dms_top.specs.Schema.{script_part}
@@ -53,6 +53,8 @@ cut_text d all left said c =
       whole = c.leaves.whole ∙ ap (λ (x : List ℕ). joined c.done ++ x) c.cut.whole ∙ ap (λ (ls : List (List ℕ)). joined ls ++ (c.cut.part ++ c.cut.rest)) (sym t);
       left_is = c.cut.left_is;
       unended = c.cut.unended;
+      few = omega (arith, ap length none);
+      short = omega (arith, ap bytes_of none);
       room = ap (λ (ls : List (List ℕ)). (script_run d empty_db 1 ls).full) none ∙ no_lines d;
       text = subst (λ (ls : List (List ℕ)). Printed said said (text_of (script_run d empty_db 1 ls).events)) (sym none) (no_text d said);
     }
@@ -73,6 +75,8 @@ cut_script d done all mid left before after leaves behind c =
           ∙ ap (λ (x : List ℕ). x ++ (c.part ++ c.rest)) (sym (joined_on done ls)) ∙ ap (λ (xs : List (List ℕ)). joined xs ++ (c.part ++ c.rest)) (sym t);
       left_is = c.left_is;
       unended = c.unended;
+      few = omega (arith, ap length s, length-take c.n (raw_lines mid), c.took.few);
+      short = omega (arith, ap bytes_of s, c.took.short);
       room = ap (λ (xs : List (List ℕ)). (script_run d empty_db 1 xs).full) s ∙ c.took.room;
       text = subst (λ (xs : List (List ℕ)). Printed before after (text_of (script_run d empty_db 1 xs).events)) (sym s) (same_Some _ _ (c.took.text before refl));
     }

@@ -51,7 +51,7 @@ pub returns-in-Ok-false-clause-full_list : goal.returns-in-Ok-false-clause-full_
 returns-in-Ok-false-clause-full_list g c = λ _ now all stands same line room remains.
     let e = (rw c.in-Ok-Some.field-0-is at c.in-Ok-Some.ensures.line) all remains in
     let goes = (rw c.in-Ok-false.field-0-test at c.in-Ok-false.ensures.lined) now (first_line all) (c.as_slice.ensures ∙ e.0.1) stands same (ap (λ (n : ℕ). n + 1) line) room in
-    (subst (λ (t : List ℕ). Prints (g.St.Store.said c.args.engine.now.store) (g.St.Store.said c.take_line.new.engine.store) t) (line_silent (described c.args.engine.now.desc) now (first_line all) goes.full) goes.ran.text, e.0.0, goes.full)
+    (subst (λ (t : List ℕ). Prints (g.St.Store.said c.args.engine.now.store) (g.St.Store.said c.take_line.new.engine.store) t) (line_silent (described c.args.engine.now.desc) now (first_line all) goes.full) goes.ran.text, e.0.0, goes.full, omega (arith, e.0.2, e.0.3))
 
 pub returns-in-Ok-false-clause-part : goal.returns-in-Ok-false-clause-part
 returns-in-Ok-false-clause-part g c = λ now all stands same line room remains.

@@ -3,7 +3,7 @@ use Rattle.dms_desc.specs.declared.description.Description.{Description}
 use Rattle.dms_desc.specs.Shape.{described}
 use Rattle.dms_feed.specs.Lines.{raw_lines}
 use Rattle.dms_storeverbs.specs.declared.engine.Engine.{Engine}
-use Rattle.dms_storeverbs.specs.View.{view}
+use Rattle.dms_storeverbs.specs.View.{view, Stands}
 use Rattle.dms_runner.specs.declared.held.Held.{Held}
 use Rattle.dms_runner.specs.Answers.{begun, lines_run, ending, script_events}
 use Rattle.dms_runner.specs.Events.{told_by, Ran, RanPart}
@@ -11,7 +11,7 @@ use Rattle.dms_runner.specs.Running.{PassesBytes, PassesHeld, CutInput}
 use Rattle.dms_runner.proofs.Always.{always_ok, then_on, fault_as}
 use Rattle.dms_runner.proofs.Texts.{prints_none}
 use Rattle.dms_runner.proofs.Happening.{part_none, part_as}
-use Rattle.dms_runner.proofs.Running.{Runs, runs_start, runs_room, runs_on, runs_lines, runs_bytes, runs_held, runs_cut, runs_end, runs_ran, runs_next, runs_part, runs_end_part}
+use Rattle.dms_runner.proofs.Running.{Runs, runs_start, runs_room, runs_on, runs_lines, runs_bytes, runs_held, runs_cut, runs_end, runs_ran, runs_ended, runs_next, runs_part, runs_end_part}
 use Rattle.dms_runner.proofs.run.run_lines.Goals as goal
 
 pub loop-line-init : goal.loop-line-init
@@ -52,19 +52,19 @@ pub returns-in-Err-clause-bytes : goal.returns-in-Err-clause-bytes
 returns-in-Err-clause-bytes g c = λ e db first all stands small remains.
     let r = subst (λ (d : Description). Runs (described d) (begun db first) c.loop-line.line c.loop-line.room all (view (g.St.Store.db c.loop-line.engine.store) (g.St.Store.mark c.loop-line.engine.store) (g.St.Store.next c.loop-line.engine.store) c.loop-line.engine.programs.items c.loop-line.engine.pending c.loop-line.engine.since) c.loop-line.held.items c.loop-line.feed (g.I.Source.left c.loop-line.source) (told_by (IsTrue g.St.Store.tells_moments) (g.St.Store.said c.args.engine.now.store) (g.St.Store.points c.args.engine.now.store) (g.St.Store.sure c.args.engine.now.store) (g.St.Store.next c.args.engine.now.store) (g.St.Store.clock c.args.engine.now.store)) (told_by (IsTrue g.St.Store.tells_moments) (g.St.Store.said c.loop-line.engine.store) (g.St.Store.points c.loop-line.engine.store) (g.St.Store.sure c.loop-line.engine.store) (g.St.Store.next c.loop-line.engine.store) (g.St.Store.clock c.loop-line.engine.store))) (sym c.loop-line.invariant.description) (c.loop-line.invariant.runs db first all stands small remains) in
     let b = c.in-Err.ensures.bytes (fault_as _ _ c.in-Err.fault _ refl refl e) in
-    subst (λ (d : Description). PassesBytes (described d) db first (raw_lines all) (g.St.Store.said c.args.engine.now.store) (g.St.Store.said c.one_line.new.engine.store)) c.loop-line.invariant.description (runs_bytes _ db first _ _ all _ _ _ _ _ _ _ r (prints_none _ _ b.0) (b.1 r.rest r.remains))
+    subst (λ (d : Description). PassesBytes (described d) db first (raw_lines all) (g.St.Store.said c.args.engine.now.store) (g.St.Store.said c.one_line.new.engine.store)) c.loop-line.invariant.description (runs_bytes _ db first _ _ all _ _ _ _ _ _ _ r (omega (arith, c.loop-line-test.true)) (prints_none _ _ b.0) (b.1 r.rest r.remains))
 
 pub returns-in-Err-clause-full_list : goal.returns-in-Err-clause-full_list
 returns-in-Err-clause-full_list g c = λ e db first all stands small remains.
     let r = subst (λ (d : Description). Runs (described d) (begun db first) c.loop-line.line c.loop-line.room all (view (g.St.Store.db c.loop-line.engine.store) (g.St.Store.mark c.loop-line.engine.store) (g.St.Store.next c.loop-line.engine.store) c.loop-line.engine.programs.items c.loop-line.engine.pending c.loop-line.engine.since) c.loop-line.held.items c.loop-line.feed (g.I.Source.left c.loop-line.source) (told_by (IsTrue g.St.Store.tells_moments) (g.St.Store.said c.args.engine.now.store) (g.St.Store.points c.args.engine.now.store) (g.St.Store.sure c.args.engine.now.store) (g.St.Store.next c.args.engine.now.store) (g.St.Store.clock c.args.engine.now.store)) (told_by (IsTrue g.St.Store.tells_moments) (g.St.Store.said c.loop-line.engine.store) (g.St.Store.points c.loop-line.engine.store) (g.St.Store.sure c.loop-line.engine.store) (g.St.Store.next c.loop-line.engine.store) (g.St.Store.clock c.loop-line.engine.store))) (sym c.loop-line.invariant.description) (c.loop-line.invariant.runs db first all stands small remains) in
     let f = c.in-Err.ensures.full_list (fault_as _ _ c.in-Err.fault _ refl refl e) (lines_run (described c.loop-line.engine.desc) (begun db first) r.done).going r.rest r.stands (sym r.held_is) r.line (runs_room (described c.loop-line.engine.desc) db first _ _ all _ _ _ _ _ _ r (omega (arith, c.loop-line-test.true)) small) r.remains in
-    subst (λ (d : Description). PassesHeld (described d) db first (raw_lines all) (g.St.Store.said c.args.engine.now.store) (g.St.Store.said c.one_line.new.engine.store)) c.loop-line.invariant.description (runs_held _ db first _ _ all _ _ _ _ _ _ _ r f.0 f.1 f.2)
+    subst (λ (d : Description). PassesHeld (described d) db first (raw_lines all) (g.St.Store.said c.args.engine.now.store) (g.St.Store.said c.one_line.new.engine.store)) c.loop-line.invariant.description (runs_held _ db first _ _ all _ _ _ _ _ _ _ r (omega (arith, c.loop-line-test.true)) f.0 f.1 f.2 f.3)
 
 pub returns-in-Err-clause-failed : goal.returns-in-Err-clause-failed
 returns-in-Err-clause-failed g c = λ e db first all stands small remains.
     let r = subst (λ (d : Description). Runs (described d) (begun db first) c.loop-line.line c.loop-line.room all (view (g.St.Store.db c.loop-line.engine.store) (g.St.Store.mark c.loop-line.engine.store) (g.St.Store.next c.loop-line.engine.store) c.loop-line.engine.programs.items c.loop-line.engine.pending c.loop-line.engine.since) c.loop-line.held.items c.loop-line.feed (g.I.Source.left c.loop-line.source) (told_by (IsTrue g.St.Store.tells_moments) (g.St.Store.said c.args.engine.now.store) (g.St.Store.points c.args.engine.now.store) (g.St.Store.sure c.args.engine.now.store) (g.St.Store.next c.args.engine.now.store) (g.St.Store.clock c.args.engine.now.store)) (told_by (IsTrue g.St.Store.tells_moments) (g.St.Store.said c.loop-line.engine.store) (g.St.Store.points c.loop-line.engine.store) (g.St.Store.sure c.loop-line.engine.store) (g.St.Store.next c.loop-line.engine.store) (g.St.Store.clock c.loop-line.engine.store))) (sym c.loop-line.invariant.description) (c.loop-line.invariant.runs db first all stands small remains) in
     let b = c.in-Err.ensures.failed (fault_as _ _ c.in-Err.fault _ refl refl e) in
-    subst (λ (d : Description). CutInput (described d) db first all (g.I.Source.left c.one_line.new.source) (g.St.Store.said c.args.engine.now.store) (g.St.Store.said c.one_line.new.engine.store)) c.loop-line.invariant.description (runs_cut _ db first _ _ all _ _ _ _ _ _ _ _ r (prints_none _ _ b.0) (b.1 r.rest r.remains))
+    subst (λ (d : Description). CutInput (described d) db first all (g.I.Source.left c.one_line.new.source) (g.St.Store.said c.args.engine.now.store) (g.St.Store.said c.one_line.new.engine.store)) c.loop-line.invariant.description (runs_cut _ db first _ _ all _ _ _ _ _ _ _ _ r c.loop-line.invariant.few (prints_none _ _ b.0) (b.1 r.rest r.remains))
 
 pub returns-in-Ok-false-clause-answers : goal.returns-in-Ok-false-clause-answers
 returns-in-Ok-false-clause-answers g c = then_on c.end_run.result _ _ (λ ran. λ db first all stands small remains.
@@ -73,6 +73,12 @@ returns-in-Ok-false-clause-answers g c = then_on c.end_run.result _ _ (λ ran. �
     let room' : g.St.Store.next c.one_line.new.engine.store + 1 < 2 ^ 64 = omega (arith, ap (λ (e : Engine g.row.St.Denot). g.St.Store.next e.store) none.0, r.stands.next, runs_next _ db first _ _ all _ _ _ _ _ _ r c.loop-line.invariant.few small) in
     let last : Ran (told_by (IsTrue g.St.Store.tells_moments) (g.St.Store.said c.loop-line.engine.store) (g.St.Store.points c.loop-line.engine.store) (g.St.Store.sure c.loop-line.engine.store) (g.St.Store.next c.loop-line.engine.store) (g.St.Store.clock c.loop-line.engine.store)) (told_by (IsTrue g.St.Store.tells_moments) (g.St.Store.said c.end_run.new.engine.store) (g.St.Store.points c.end_run.new.engine.store) (g.St.Store.sure c.end_run.new.engine.store) (g.St.Store.next c.end_run.new.engine.store) (g.St.Store.clock c.end_run.new.engine.store)) (ending c.loop-line.held.items) = subst (λ (e : Engine g.row.St.Denot). Ran (told_by (IsTrue g.St.Store.tells_moments) (g.St.Store.said e.store) (g.St.Store.points e.store) (g.St.Store.sure e.store) (g.St.Store.next e.store) (g.St.Store.clock e.store)) (told_by (IsTrue g.St.Store.tells_moments) (g.St.Store.said c.end_run.new.engine.store) (g.St.Store.points c.end_run.new.engine.store) (g.St.Store.sure c.end_run.new.engine.store) (g.St.Store.next c.end_run.new.engine.store) (g.St.Store.clock c.end_run.new.engine.store)) (ending c.loop-line.held.items)) none.0 (subst (λ (l : List Held). Ran (told_by (IsTrue g.St.Store.tells_moments) (g.St.Store.said c.one_line.new.engine.store) (g.St.Store.points c.one_line.new.engine.store) (g.St.Store.sure c.one_line.new.engine.store) (g.St.Store.next c.one_line.new.engine.store) (g.St.Store.clock c.one_line.new.engine.store)) (told_by (IsTrue g.St.Store.tells_moments) (g.St.Store.said c.end_run.new.engine.store) (g.St.Store.points c.end_run.new.engine.store) (g.St.Store.sure c.end_run.new.engine.store) (g.St.Store.next c.end_run.new.engine.store) (g.St.Store.clock c.end_run.new.engine.store)) (ending l)) (c.as_slice.ensures.value ∙ ap (λ (v : Vec Held Global). v.items) none.1) (ran room')) in
     runs_end _ db first _ _ all _ _ _ _ _ _ _ r c.loop-line.invariant.few (none.2 r.rest r.remains).0 last) c.end_run.ensures.ran
+
+pub returns-in-Ok-false-clause-ended : goal.returns-in-Ok-false-clause-ended
+returns-in-Ok-false-clause-ended g c = then_on c.end_run.result _ _ (λ ends. λ db first all stands small remains.
+    let none = (rw c.in-Ok-false.field-0-test at c.in-Ok-false.ensures.none) refl in
+    let r = c.loop-line.invariant.runs db first all stands small remains in
+    runs_ended _ db first _ _ all _ _ _ _ _ _ _ r (none.2 r.rest r.remains).0 (ends _ (subst (λ (e : Engine g.row.St.Denot). Stands (view (g.St.Store.db e.store) (g.St.Store.mark e.store) (g.St.Store.next e.store) e.programs.items e.pending e.since) (lines_run (described c.args.engine.now.desc) (begun db first) r.done).going.session) (sym none.0) r.stands))) c.end_run.ensures.ended
 
 pub returns-in-Ok-false-clause-ran : goal.returns-in-Ok-false-clause-ran
 returns-in-Ok-false-clause-ran g c = then_on c.end_run.result _ _ (λ ran. λ db first all stands small remains.
@@ -164,7 +170,7 @@ returns-in-Err-after_last-clause-lines g c = λ e db first all stands small rema
 pub returns-in-Err-after_last-clause-failed : goal.returns-in-Err-after_last-clause-failed
 returns-in-Err-after_last-clause-failed g c = λ e db first all stands small remains.
     let r = c.loop-line.invariant.runs db first all stands small remains in
-    runs_cut _ db first _ _ all _ _ _ _ _ _ _ _ r (prints_none _ _ refl) (c.in-Err-after_last.ensures.failed e r.rest r.remains)
+    runs_cut _ db first _ _ all _ _ _ _ _ _ _ _ r c.loop-line.invariant.few (prints_none _ _ refl) (c.in-Err-after_last.ensures.failed e r.rest r.remains)
 
 pub returns-in-Err-after_last-clause-bytes : goal.returns-in-Err-after_last-clause-bytes
 returns-in-Err-after_last-clause-bytes g c = λ e. absurd (c.in-Err-after_last.ensures.limits.0 e)
@@ -181,6 +187,11 @@ returns-clause-answers g c = then_on c.end_run-2.result _ _ (λ ran. λ db first
     let room' : g.St.Store.next c.loop-line.engine.store + 1 < 2 ^ 64 = omega (arith, r.stands.next, runs_next _ db first _ _ all _ _ _ _ _ _ r c.loop-line.invariant.few small) in
     let last : Ran (told_by (IsTrue g.St.Store.tells_moments) (g.St.Store.said c.loop-line.engine.store) (g.St.Store.points c.loop-line.engine.store) (g.St.Store.sure c.loop-line.engine.store) (g.St.Store.next c.loop-line.engine.store) (g.St.Store.clock c.loop-line.engine.store)) (told_by (IsTrue g.St.Store.tells_moments) (g.St.Store.said c.end_run-2.new.engine.store) (g.St.Store.points c.end_run-2.new.engine.store) (g.St.Store.sure c.end_run-2.new.engine.store) (g.St.Store.next c.end_run-2.new.engine.store) (g.St.Store.clock c.end_run-2.new.engine.store)) (ending c.loop-line.held.items) = subst (λ (l : List Held). Ran (told_by (IsTrue g.St.Store.tells_moments) (g.St.Store.said c.loop-line.engine.store) (g.St.Store.points c.loop-line.engine.store) (g.St.Store.sure c.loop-line.engine.store) (g.St.Store.next c.loop-line.engine.store) (g.St.Store.clock c.loop-line.engine.store)) (told_by (IsTrue g.St.Store.tells_moments) (g.St.Store.said c.end_run-2.new.engine.store) (g.St.Store.points c.end_run-2.new.engine.store) (g.St.Store.sure c.end_run-2.new.engine.store) (g.St.Store.next c.end_run-2.new.engine.store) (g.St.Store.clock c.end_run-2.new.engine.store)) (ending l)) c.as_slice-2.ensures.value (ran room') in
     runs_end _ db first _ _ all _ _ _ _ _ _ _ r c.loop-line.invariant.few (c.in-Ok.ensures.end r.rest r.remains).0 last) c.end_run-2.ensures.ran
+
+pub returns-clause-ended : goal.returns-clause-ended
+returns-clause-ended g c = then_on c.end_run-2.result _ _ (λ ends. λ db first all stands small remains.
+    let r = c.loop-line.invariant.runs db first all stands small remains in
+    runs_ended _ db first _ _ all _ _ _ _ _ _ _ r (c.in-Ok.ensures.end r.rest r.remains).0 (ends _ r.stands)) c.end_run-2.ensures.ended
 
 pub returns-clause-ran : goal.returns-clause-ran
 returns-clause-ran g c = then_on c.end_run-2.result _ _ (λ ran. λ db first all stands small remains.

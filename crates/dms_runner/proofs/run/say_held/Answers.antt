@@ -15,6 +15,7 @@ loop-line-init g c = record {
   say = omega arith;
   full = omega arith;
   damaged = omega arith;
+  stands = λ s stands. stands;
   next = refl;
   ran = λ room. ran_none _;
 }
@@ -41,6 +42,7 @@ loop-line-preserved g c = record {
   say = omega (arith, c.loop-line.invariant.say, c.say.ensures.later.1);
   full = omega (arith, c.loop-line.invariant.full, c.say.ensures.later.2);
   damaged = omega (arith, c.loop-line.invariant.damaged, c.say.ensures.later.3);
+  stands = λ s stands. c.in_ok-say.ensures.stands s (c.loop-line.invariant.stands s stands);
   next = c.say.ensures.next ∙ c.loop-line.invariant.next;
   ran = λ room.
       let text : c.as_slice.result.now ≡ line_text c.line-item.result = c.as_slice.ensures ∙ c.in_ok-text.ensures in
