@@ -1,25 +1,19 @@
 -- A step makes at most one quiet point, and one that waits leaves the session as it was.
-use Rattle.std.proofs.Common.{◌≡◌, ◌≤◌, ◌+◌, ℕ, List, [], ◌∷◌, Bool, true, false, cond, Some, None, refl, arith, not, ◌&&◌, ◌||◌, ◌++◌, nat_le, length}
+use Rattle.std.proofs.Common.{◌≡◌, ◌≤◌, ◌+◌, ℕ, List, [], ◌∷◌, Bool, true, false, cond, Some, None, refl, arith, not, ◌&&◌, ◌++◌, nat_le, length}
 use Rattle.std.specs.declared.option.Option.{Option}
 use Rattle.dms_desc.specs.Shape.{Described}
-use Rattle.dms_base.specs.declared.value.Value.{Value}
 use Rattle.dms_base.specs.declared.category.Category.{Category}
 use Rattle.dms_base.specs.declared.category.Category.TheVariants.{LimitError, NoRecord, AuditError}
 use Rattle.std.specs.Prelude.{is_some}
 use Rattle.dms_model.specs.Members.{name_of, structure_of}
-use Rattle.dms_desc.specs.declared.structure.Item.{Item}
 use Rattle.dms_model.specs.declared.program.Program.{Program}
 use Rattle.dms_model.specs.declared.program.Area.{Area}
 use Rattle.dms_model.specs.declared.program.Mode.{Mode}
 use Rattle.dms_model.specs.declared.verb.Verb.{Verb}
 use Rattle.dms_model.specs.declared.verb.Verb.TheVariants.{OpenUpdate, OpenInquiry, Close, Find, Create, Put as PutItems, Get, Store, Begin, End, Abort}
-use Rattle.dms_model.specs.declared.verb.Path.{Path}
 use Rattle.dms_model.specs.declared.verb.Setting.{Setting}
-use Rattle.dms_model.specs.declared.reply.Reply.{Reply}
-use Rattle.dms_model.specs.declared.reply.Reply.TheVariants.{Done, Exception, Waits}
 use Rattle.dms_model.specs.declared.spot.Spot.{Spot}
-use Rattle.dms_model.specs.Db.{Db}
-use Rattle.dms_model.specs.Session.{Session, Outcome, Kept, Refused, Keeps, Filled, Misfit, Values', refuse, done, shows, settle, keep, store_step, after_store, begin_step, after_begin, begin_unless, awaited, end_step, after_end, abort_step, find_step, after_find, found_by, create_step, put_step, put_area, after_put, filled, get_step, get_area, close_step, open_as, open_step, verb_step, step_at, step, with_program, work_of, restart_of, someone_works, is_inquiry, opens, changes, path_of, new_program}
+use Rattle.dms_model.specs.Session.{Session, Outcome, Kept, Refused, Keeps, Filled, Misfit, Values', refuse, done, shows, settle, keep, store_step, after_store, begin_step, after_begin, begin_unless, awaited, end_step, after_end, abort_step, find_step, after_find, create_step, put_step, put_area, after_put, get_step, get_area, close_step, open_as, open_step, verb_step, step_at, step, work_of, restart_of, someone_works, opens, new_program}
 use Rattle.dms_model.specs.Session.{is_waits}
 
 -- the next number rises by one at most, and a session in which a line waits is the one before

@@ -1,5 +1,5 @@
 -- What a stop leaves of a store: its quiet points, the next number, and the text.
-use Rattle.std.specs.Prelude.{ℕ, ◌≤◌, ◌≡◌, ◌++◌, List, length, take, Some}
+use Rattle.std.specs.Prelude.{ℕ, ◌+◌, ◌≤◌, ◌≡◌, ◌++◌, List, length, take, Some}
 use Rattle.std.specs.declared.option.Option.{Option}
 use Rattle.dms_block.specs.Moments.{Clock, Runs}
 use Rattle.dms_model.specs.Db.{Db}
@@ -22,13 +22,14 @@ pub record Stop : Type 0 where
   pub next : ℕ
   pub said : List ℕ
 
--- the first so many of the points, not fewer than were made sure, and a next number that has not fallen
+-- The first so many of the points, not fewer than were made sure, and a next number that has fallen by no more than the points
+-- that are missing: each of them may give its number back. Where none is missing it hasn't fallen
 pub record Front (sure : ℕ) (points : List Point) (next : ℕ) (stop : Stop) : Type 0 where
   pub count : ℕ
   pub enough : sure ≤ count
   pub within : count ≤ length points
   pub is : stop.points ≡ take count points
-  pub not_fallen : next ≤ stop.next
+  pub not_fallen : next + count ≤ stop.next + length points
 
 -- the text of a stop is this one, where it is told
 abbrev pub TextIs : Option (List ℕ) → Stop → Type 0

@@ -174,7 +174,7 @@ pub trait Store {
         ensures memory { IsErrOf result BlockFault.Memory → ⊥ }
         ensures desc { desc self.new ≡ desc self.old }
         ensures same { same_store self.old self.new }
-        ensures moments { IsTrue tells_moments → next self.old + 1 < 2 ^ 64 → Leaves (clock self.old) (clock self.new) (sure self.old) (points self.old ++ here self.old ∷ []) (next self.old) (said self.old) }
+        ensures moments { IsTrue tells_moments → next self.old + 1 < 2 ^ 64 → Leaves (clock self.old) (clock self.new) (sure self.old) (points self.old ++ here self.old ∷ []) (next self.old + 1) (said self.old) }
         ensures later { (disk_faults self.old ≤ disk_faults self.new) × (say_faults self.old ≤ say_faults self.new) × (fulls self.old ≤ fulls self.new) × (damages self.old ≤ damages self.new) }
         ensures disk { IsErrOf result BlockFault.Disk → Rose (disk_faults self.old) (disk_faults self.new) }
         ensures say { IsErrOf result BlockFault.Say → Rose (say_faults self.old) (say_faults self.new) }

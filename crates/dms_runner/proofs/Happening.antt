@@ -1,5 +1,5 @@
 -- Events, one behind another.
-use Rattle.std.proofs.Common.{ℕ, ◌≡◌, ◌≤◌, ◌+◌, List, [], ◌∷◌, ◌++◌, length, take, map, Some, None, refl, sym, ◌∙◌, ap, subst, arith, append_assoc, length-append}
+use Rattle.std.proofs.Common.{ℕ, ◌≡◌, ◌≤◌, ◌+◌, List, [], ◌∷◌, ◌++◌, length, take, map, Some, None, refl, sym, ◌∙◌, ap, subst, arith, append_assoc, length-append, Bool, true, false}
 use Rattle.std.specs.declared.option.Option.{Option}
 use Rattle.std.proofs.lemmas.List.{append-nil, map-append, length-map}
 use Rattle.dms_block.specs.Moments.{Runs}
@@ -7,7 +7,11 @@ use Rattle.dms_block.specs.MomentLaws.{runs_none, runs_on, runs_weaken}
 use Rattle.dms_model.specs.declared.reply.Answer.{Answer}
 use Rattle.dms_model.specs.Db.{Db}
 use Rattle.dms_model.specs.Points.{Point, Quiet, Stop, Front, TextIs, TextGrows, Prints, PrintsFront, LeavesText, Leaves, Stays, told, known}
-use Rattle.dms_model.specs.Session.{Outcome}
+use Rattle.dms_desc.specs.Shape.{Described}
+use Rattle.dms_model.specs.declared.verb.Verb.{Verb}
+use Rattle.dms_model.specs.Session.{Session, Outcome, step}
+use Rattle.dms_storeverbs.specs.Laws.{Makes}
+use Rattle.dms_storeverbs.proofs.Quiet.{quiet_rule}
 use Rattle.dms_storeverbs.specs.View.{Grew, Left, Made}
 use Rattle.dms_storeverbs.proofs.Calls.{lower, stays}
 use Rattle.dms_runner.specs.Events.{Event, calls, says, goes_back, text_of, quiets_of, covered, sure_after, Told, Stops, Ran, RanPart}
@@ -54,12 +58,12 @@ pub length_grew : {a b : List Point} {q : List Quiet} → Grew a q b → length 
 length_grew {a} {b} {q} x = omega (arith, ap length x.is, length-append a x.more, length-map x.more told, ap length x.spells, length-map q known)
 
 -- what is left of later points is left of all
-pub left_on : {a b : List Point} {q r : List Quiet} {low high m n : ℕ} {stop : Stop} → Grew a q b → low ≤ high → m ≤ n → Left high b n r stop → Left low a m (q ++ r) stop
-left_on {q = q} grew under fell l = record { made = q ++ l.made; rest = l.rest; all = l.all; front_of = append_assoc q l.made l.rest ∙ ap (λ (x : List Quiet). q ++ x) l.front_of; grew = grew_on grew l.grew; front = lower under fell l.front }
+pub left_on : {a b : List Point} {q r : List Quiet} {low high m n : ℕ} {stop : Stop} → Grew a q b → low ≤ high → m + length q ≤ n → Left high b n r stop → Left low a m (q ++ r) stop
+left_on {q = q} grew under fell l = record { made = q ++ l.made; rest = l.rest; all = l.all; front_of = append_assoc q l.made l.rest ∙ ap (λ (x : List Quiet). q ++ x) l.front_of; grew = grew_on grew l.grew; front = lower under (omega (arith, fell, length-append q l.made)) l.front }
 
 -- no events
 pub ran_none : (a : Told) → Ran a a []
-ran_none a = record { text = prints_none a.said a.said refl; tells = λ t. t; not_fallen = omega arith; grew = λ t. grew_none a.points; sure = λ t. omega arith; moments = λ t. runs_none a.clock (Stops a []) }
+ran_none a = record { text = prints_none a.said a.said refl; tells = λ t. t; next = omega arith; grew = λ t. grew_none a.points; sure = λ t. omega arith; moments = λ t. runs_none a.clock (Stops a []) }
 
 -- a stop within the first events
 pub stopped_first : (a : Told) (x y : List Event) (stop : Stop) → Stops a x stop → Stops a (x ++ y) stop
@@ -76,7 +80,7 @@ stopped_on a b x y stop t ran s =
       at = s.at;
       rest = s.rest;
       whole = append_assoc x s.before (s.at ∷ s.rest) ∙ ap (λ (l : List Event). x ++ l) s.whole;
-      left = subst (λ (q : List Quiet). Left (sure_after c a.sure (x ++ s.before)) a.points a.next q stop) (sym (append_assoc (quiets_of x) (quiets_of s.before) s.at.quiets) ∙ ap (λ (q : List Quiet). q ++ s.at.quiets) (sym (quiets_on x s.before))) (left_on (ran.grew t) high ran.not_fallen s.left);
+      left = subst (λ (q : List Quiet). Left (sure_after c a.sure (x ++ s.before)) a.points a.next q stop) (sym (append_assoc (quiets_of x) (quiets_of s.before) s.at.quiets) ∙ ap (λ (q : List Quiet). q ++ s.at.quiets) (sym (quiets_on x s.before))) (left_on (ran.grew t) high ran.next s.left);
       text = λ said is.
           let n = s.text (said ++ text_of x) (ran.text said is) in
           (n.0, n.1 ∙ ap (λ (l : List ℕ). l ++ take n.0 s.at.text) (append_assoc said (text_of x) (text_of s.before) ∙ ap (λ (l : List ℕ). said ++ l) (sym (text_on x s.before))));
@@ -87,7 +91,7 @@ pub ran_on : (a b c : Told) (x y : List Event) → Ran a b x → Ran b c y → R
 ran_on a b c x y first next = record {
   text = subst (λ (t : List ℕ). Prints a.said c.said t) (sym (text_on x y)) (prints_on a.said b.said c.said (text_of x) (text_of y) first.text next.text);
   tells = λ t. next.tells (first.tells t);
-  not_fallen = omega (arith, first.not_fallen, next.not_fallen);
+  next = omega (arith, first.next, next.next, ap length (quiets_on x y), length-append (quiets_of x) (quiets_of y));
   grew = λ t. subst (λ (q : List Quiet). Grew a.points q c.points) (sym (quiets_on x y)) (grew_on (first.grew t) (next.grew (first.tells t)));
   sure = λ t. omega (arith, sure_on (length a.points) a.sure x y, ap (λ (n : ℕ). sure_after n (sure_after (length a.points) a.sure x) y) (length_grew (first.grew t)), sure_low (length b.points) (sure_after (length a.points) a.sure x) b.sure y (first.sure t), next.sure (first.tells t));
   moments = λ t. runs_on (runs_weaken (first.moments t) (stopped_first a x y)) (next.moments (first.tells t)) (λ stop s. stopped_on a b x y stop t first s);
@@ -138,7 +142,7 @@ pub ran_says : (a b : Told) (x y : List ℕ) → x ≡ y → (a.tells → b.tell
 ran_says a b x y is tells text next same moments = record {
   text = subst (λ (t : List ℕ). Prints a.said b.said t) (is ∙ sym (append-nil y)) text;
   tells = tells;
-  not_fallen = omega (arith, next);
+  next = omega (arith, next);
   grew = λ t. record { more = []; is = (same t).0 ∙ sym (append-nil a.points); spells = refl };
   sure = λ t. (same t).1;
   moments = λ t. runs_weaken (moments t) (λ stop p. subst (λ (z : List ℕ). Stops a (says z ∷ []) stop) is (stopped_says a x stop p));
@@ -152,9 +156,17 @@ part_says a b x y is text moments = record {
 
 -- nothing to say
 pub ran_silent : (a : Told) (x : List ℕ) → x ≡ [] → Ran a a (says x ∷ [])
-ran_silent a x is = subst (λ (t : List ℕ). Ran a a (says t ∷ [])) (sym is) (record { text = prints_none a.said a.said refl; tells = λ t. t; not_fallen = omega arith; grew = λ t. grew_none a.points; sure = λ t. omega arith; moments = λ t. runs_none a.clock (Stops a (says [] ∷ [])) })
+ran_silent a x is = subst (λ (t : List ℕ). Ran a a (says t ∷ [])) (sym is) (record { text = prints_none a.said a.said refl; tells = λ t. t; next = omega arith; grew = λ t. grew_none a.points; sure = λ t. omega arith; moments = λ t. runs_none a.clock (Stops a (says [] ∷ [])) })
 
 -- calls
+
+numbered : (b : Bool) (s : Session) (o : Outcome) → Makes b s o → o.session.next ≡ s.next + length o.quiets
+numbered true s o m = omega (arith, m.next, ap length m.quiets)
+numbered false s o m = omega (arith, m.next, ap length m.quiets)
+
+-- each quiet point takes the next number
+pub step_numbers : (desc : Described) (s : Session) (name : List ℕ) (verb : Verb) → (step desc s name verb).session.next ≡ s.next + length (step desc s name verb).quiets
+step_numbers desc s name verb = numbered _ s (step desc s name verb) (quiet_rule desc s name verb)
 
 stopped_calls : (a : Told) (o : Outcome) (stop : Stop) → Left a.sure a.points a.next o.quiets stop × TextIs a.said stop → Stops a (calls o ∷ []) stop
 stopped_calls a o stop p = record {
@@ -170,11 +182,11 @@ covered_made : (sync : Option ℕ) (before all sure : ℕ) → before ≤ sure �
 covered_made None before all sure later synced = later
 covered_made (Some n) before all sure later synced = omega (arith, synced n refl)
 
-pub ran_calls : (a b : Told) (o : Outcome) (answer : Answer) → (a.tells → b.tells) → b.said ≡ a.said → a.next ≤ b.next → answer.sync ≡ o.sync → (a.tells → Made answer a.sure a.points o.quiets b.sure b.points) → (a.tells → Runs a.clock b.clock (λ stop. Left a.sure a.points a.next o.quiets stop × TextIs a.said stop)) → Ran a b (calls o ∷ [])
+pub ran_calls : (a b : Told) (o : Outcome) (answer : Answer) → (a.tells → b.tells) → b.said ≡ a.said → a.next + length o.quiets ≤ b.next → answer.sync ≡ o.sync → (a.tells → Made answer a.sure a.points o.quiets b.sure b.points) → (a.tells → Runs a.clock b.clock (λ stop. Left a.sure a.points a.next o.quiets stop × TextIs a.said stop)) → Ran a b (calls o ∷ [])
 ran_calls a b o answer tells said next sync made moments = record {
   text = prints_none a.said b.said said;
   tells = tells;
-  not_fallen = next;
+  next = omega (arith, next, ap length (append-nil o.quiets));
   grew = λ t. subst (λ (q : List Quiet). Grew a.points q b.points) (sym (append-nil o.quiets)) (made t).grew;
   sure = λ t. covered_made o.sync a.sure (length a.points + length o.quiets) b.sure (made t).later (λ n is. (made t).synced n (sync ∙ is) ∙ length_grew (made t).grew);
   moments = λ t. runs_weaken (moments t) (stopped_calls a o);
@@ -202,7 +214,7 @@ pub ran_back : (a b : Told) → (a.tells → b.tells) → b.said ≡ a.said → 
 ran_back a b tells said next same moments = record {
   text = prints_none a.said b.said said;
   tells = tells;
-  not_fallen = omega (arith, next);
+  next = omega (arith, next);
   grew = λ t. record { more = []; is = (same t).0 ∙ sym (append-nil a.points); spells = refl };
   sure = λ t. (same t).1;
   moments = λ t. runs_weaken (moments t) (stopped_back a);

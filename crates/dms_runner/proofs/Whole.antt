@@ -1,7 +1,6 @@
 -- A stop within events, told of all of them.
 use Rattle.std.proofs.Common.{ℕ, ◌≡◌, ◌≤◌, ◌+◌, ◌⊎◌, inl, inr, ⊎_elim, List, [], ◌∷◌, ◌++◌, length, take, Some, None, refl, sym, ◌∙◌, ap, arith, append_assoc, length-append, length-take}
 use Rattle.std.specs.declared.option.Option.{Option}
-use Rattle.std.proofs.lemmas.List.{append-nil}
 use Rattle.dms_model.specs.Points.{Point, Quiet, Stop, Front}
 use Rattle.dms_storeverbs.specs.View.{Left}
 use Rattle.dms_storeverbs.proofs.Calls.{lower}
@@ -53,9 +52,9 @@ places (x ∷ xs) a us [] b vs is = inl (xs, ap (λ (l : List Event). head_or x 
 places (x ∷ xs) a us (y ∷ ys) b vs is = ⊎_elim
     (λ p. inl (p.0, ap (λ (l : List Event). head_or x l ∷ xs) is ∙ ap (λ (l : List Event). y ∷ l) p.1))
     (λ q. inr (⊎_elim
-      (λ p. inl (record { before = ap (λ (l : List Event). head_or x l ∷ xs) is ∙ ap (λ (l : List Event). y ∷ l) p.before; here = p.here }))
-      (λ p. inr (p.0, ap (λ (l : List Event). y ∷ l) p.1 ∙ ap (λ (l : List Event). head_or y l ∷ (xs ++ a ∷ p.0)) (sym is)))
-      q))
+    (λ p. inl (record { before = ap (λ (l : List Event). head_or x l ∷ xs) is ∙ ap (λ (l : List Event). y ∷ l) p.before; here = p.here }))
+    (λ p. inr (p.0, ap (λ (l : List Event). y ∷ l) p.1 ∙ ap (λ (l : List Event). head_or y l ∷ (xs ++ a ∷ p.0)) (sym is)))
+    q))
     (places xs a us ys b vs (ap tail_of is))
 
 left_lower : {low high next : ℕ} {points : List Point} {q : List Quiet} {stop : Stop} → low ≤ high → Left high points next q stop → Left low points next q stop
@@ -67,9 +66,13 @@ left_more r is l = record { made = l.made; rest = l.rest ++ r; all = l.all; fron
 length_front : {sure next : ℕ} {points : List Point} {stop : Stop} → Front sure points next stop → sure ≤ length stop.points
 length_front {points = points} f = omega (arith, ap (λ (l : List Point). length l) f.is, length-take f.count points, f.enough, f.within)
 
+next_left : {high sure next : ℕ} {points : List Point} {q : List Quiet} {stop : Stop} → Left high points next q stop → sure ≤ high → sure ≡ length points → next ≤ stop.next
+next_left l under all = omega (arith, l.front.not_fallen, length_grew l.grew, l.front.enough, under, all)
+
 pub whole_law : WholeLaw
 whole_law said points sure next events stop low s = record {
   left = left_more (quiets_of s.rest) (ap quiets_of (sym s.whole) ∙ quiets_on s.before (s.at ∷ s.rest) ∙ sym (append_assoc (quiets_of s.before) s.at.quiets (quiets_of s.rest))) (left_lower (sure_keeps (length points) sure s.before low) s.left);
+  not_fallen = λ all. next_left s.left (sure_keeps (length points) sure s.before low) all;
   text = λ t is.
       let n = s.text t is in
       let front = some_front (text_of s.before) s.at.text (text_of s.rest) n.0 in
@@ -99,9 +102,9 @@ sync_law said points sure next events stop low s before call rest n is synced t 
     ⊎_elim
     (λ p. omega (arith, sure_behind (length points) sure before call p.0 n synced, ap (sure_after (length points) sure) p.1, length_front s.left.front))
     (λ q. absurd (⊎_elim
-      (λ p. omega (arith, printed, most.0, ap (λ (l : List Event). length (text_of l)) p.before, ap (λ (e : Event). length e.text) p.here))
-      (λ p. omega (arith, printed, most.0, text_behind before s.before p.0 s.at p.1))
-      q))
+    (λ p. omega (arith, printed, most.0, ap (λ (l : List Event). length (text_of l)) p.before, ap (λ (e : Event). length e.text) p.here))
+    (λ p. omega (arith, printed, most.0, text_behind before s.before p.0 s.at p.1))
+    q))
     (places s.before s.at s.rest before call rest (s.whole ∙ sym is))
 
 pub point_law : PointLaw
@@ -111,7 +114,7 @@ point_law said points sure next events stop s before at rest is more t told =
     ⊎_elim
     (λ p. omega (arith, most.1, text_behind s.before before p.0 at p.1))
     (λ q. ⊎_elim
-      (λ p. omega (arith, most.1, ap (λ (l : List Event). length (text_of l)) p.before))
-      (λ p. absurd (omega (arith, more, left_most s.left, quiets_behind before s.before p.0 s.at p.1)))
-      q)
+    (λ p. omega (arith, most.1, ap (λ (l : List Event). length (text_of l)) p.before))
+    (λ p. absurd (omega (arith, more, left_most s.left, quiets_behind before s.before p.0 s.at p.1)))
+    q)
     (places s.before s.at s.rest before at rest (s.whole ∙ sym is))

@@ -6,9 +6,10 @@ use Rattle.dms_storeverbs.specs.View.{Left}
 use Rattle.dms_runner.specs.Events.{Event, text_of, quiets_of, Stopped}
 
 -- the quiet points are the first ones of those at first and all that are made behind them, and none that was sure at first is
--- missing; the text is a front of all that is said
+-- missing; where all were sure at first the next number hasn't fallen; the text is a front of all that is said
 pub record Whole (said : Option (List ℕ)) (points : List Point) (sure next : ℕ) (events : List Event) (stop : Stop) : Type 0 where
   pub left : Left sure points next (quiets_of events) stop
+  pub not_fallen : sure ≡ length points → next ≤ stop.next
   pub text : (t : List ℕ) → said ≡ Some t → (n : ℕ) × (stop.said ≡ t ++ take n (text_of events))
 
 abbrev pub WholeLaw : Type 0

@@ -72,12 +72,12 @@ pub record Stopped (said : Option (List ℕ)) (points : List Point) (sure next :
 abbrev pub Stops : Told → List Event → Stop → Type 0
 Stops b events stop = Stopped b.said b.points b.sure b.next events stop
 
--- these events happened: their text was said, their quiet points were made, at least those are sure that a syncpoint among them
--- covers, and a stop on the way lies within them. Of the database it says nothing
+-- these events happened: their text was said, their quiet points were made and have used up their numbers, at least those are
+-- sure that a syncpoint among them covers, and a stop on the way lies within them. Of the database it says nothing
 pub record Ran (b a : Told) (events : List Event) : Type 0 where
   pub text : Prints b.said a.said (text_of events)
   pub tells : b.tells → a.tells
-  pub not_fallen : b.next ≤ a.next
+  pub next : b.next + length (quiets_of events) ≤ a.next
   pub grew : b.tells → Grew b.points (quiets_of events) a.points
   pub sure : b.tells → sure_after (length b.points) b.sure events ≤ a.sure
   pub moments : b.tells → Runs b.clock a.clock (Stops b events)

@@ -13,5 +13,4 @@ pub fn sync_law()
 /// No quiet point is made before all is printed that was said before it.
 pub fn point_law()
     ensures { PointLaw }
-{
-}
+{}

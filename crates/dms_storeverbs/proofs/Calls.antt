@@ -1,5 +1,5 @@
 -- What a stop within a call of the engine leaves.
-use Rattle.std.proofs.Common.{ℕ, ◌≤◌, ◌≡◌, List, [], ◌∷◌, ◌++◌, Some, None, refl, sym, ◌∙◌, ap, subst, arith, append-nil, Bool, true, false, cond}
+use Rattle.std.proofs.Common.{ℕ, ◌+◌, ◌≤◌, ◌≡◌, List, [], ◌∷◌, ◌++◌, Some, None, refl, sym, ◌∙◌, ap, subst, arith, append-nil, Bool, true, false, cond}
 use Rattle.std.specs.declared.option.Option.{Option}
 use Rattle.dms_block.specs.Moments.{Clock, Runs}
 use Rattle.dms_block.specs.MomentLaws.{runs_on, runs_weaken, runs_none}
@@ -11,13 +11,13 @@ use Rattle.dms_model.specs.Session.{Session, Outcome, settle, someone_works}
 use Rattle.dms_storeverbs.specs.Apart.{Alone}
 use Rattle.dms_storeverbs.specs.View.{View, Stands, Is, view, Left, Made}
 
--- fewer points are sure, and the number was lower
+-- fewer points are sure, and the number was no higher
 pub lower : {a b m n : ℕ} {ps : List Point} {stop : Stop} → a ≤ b → m ≤ n → Front b ps n stop → Front a ps m stop
 lower low fell front = record { count = front.count; enough = omega (arith, low, front.enough); within = front.within; is = front.is; not_fallen = omega (arith, fell, front.not_fallen) }
 
 -- nothing of a call's quiet points was made yet
 pub stays : {sure next : ℕ} {points : List Point} {stop : Stop} (quiets : List Quiet) → Front sure points next stop → Left sure points next quiets stop
-stays {points = points} quiets front = record { made = []; rest = quiets; all = points; front_of = refl; grew = record { more = []; is = sym (append-nil points); spells = refl }; front = front }
+stays {points = points} quiets front = record { made = []; rest = quiets; all = points; front_of = refl; grew = record { more = []; is = sym (append-nil points); spells = refl }; front = lower (omega arith) (omega arith) front }
 
 pub still : {old new : Clock Stop} {sure next : ℕ} {points : List Point} {said : Option (List ℕ)} (quiets : List Quiet) → Leaves old new sure points next said → Runs old new (λ stop. Left sure points next quiets stop × TextIs said stop)
 still quiets run = runs_weaken run (λ x p. (stays quiets p.0, p.1))
@@ -52,7 +52,7 @@ pub no_time : (c : Clock Stop) (sure : ℕ) (points : List Point) (next : ℕ) (
 no_time c sure points next said = runs_none c _
 
 -- one quiet point was made, or was not
-pub one : {sure next : ℕ} {points : List Point} {stop : Stop} (p : Point) (q : Quiet) → told p ≡ known q → Front sure (points ++ p ∷ []) next stop → Left sure points next (q ∷ []) stop
+pub one : {sure next : ℕ} {points : List Point} {stop : Stop} (p : Point) (q : Quiet) → told p ≡ known q → Front sure (points ++ p ∷ []) (next + 1) stop → Left sure points next (q ∷ []) stop
 one {points = points} p q same front = record { made = q ∷ []; rest = []; all = points ++ p ∷ []; front_of = refl; grew = record { more = p ∷ []; is = refl; spells = ap (λ (x : ℕ × Option Db). x ∷ []) same }; front = front }
 
 pub told_known : (p : Point) (next : ℕ) (db : Option Db) (s : Session) → (p.number ≡ next) × (p.db ≡ db) → next ≡ s.next → db ≡ Some s.db → told p ≡ known (s.next, s.db)
@@ -63,10 +63,10 @@ made_one answer p q same none stays = record { grew = record { more = p ∷ []; 
 
 -- the quiet point of a call, of which a stop may leave nothing yet
 module _ (here : Point) (q : Quiet) (same : told here ≡ known q) (quiets : List Quiet) (is : quiets ≡ q ∷ []) {sure next : ℕ} {points : List Point} {said : Option (List ℕ)} where
-  pub quieted : {a b : Clock Stop} → Leaves a b sure (points ++ here ∷ []) next said → Runs a b (λ stop. Left sure points next quiets stop × TextIs said stop)
+  pub quieted : {a b : Clock Stop} → Leaves a b sure (points ++ here ∷ []) (next + 1) said → Runs a b (λ stop. Left sure points next quiets stop × TextIs said stop)
   quieted run = runs_weaken run (λ x p. (subst (λ (qs : List Quiet). Left sure points next qs x) (sym is) (one here q same p.0), p.1))
 
-  pub synced : {a b c : Clock Stop} {sure' next' : ℕ} {points' : List Point} {said' : Option (List ℕ)} → Leaves a b sure (points ++ here ∷ []) next said → (points' ≡ points ++ here ∷ []) × (sure ≤ sure') → next ≤ next' → said' ≡ said → Leaves b c sure' points' next' said' → Runs a c (λ stop. Left sure points next quiets stop × TextIs said stop)
+  pub synced : {a b c : Clock Stop} {sure' next' : ℕ} {points' : List Point} {said' : Option (List ℕ)} → Leaves a b sure (points ++ here ∷ []) (next + 1) said → (points' ≡ points ++ here ∷ []) × (sure ≤ sure') → next + 1 ≤ next' → said' ≡ said → Leaves b c sure' points' next' said' → Runs a c (λ stop. Left sure points next quiets stop × TextIs said stop)
   synced {sure' = sure'} {next' = next'} first grown more text last = runs_on (quieted first) (runs_weaken last (λ x p. (subst (λ (qs : List Quiet). Left sure points next qs x) (sym is) (one here q same (lower grown.1 more (subst (λ (ps : List Point). Front sure' ps next' x) grown.0 p.0))), λ t e. p.1 t (text ∙ e)))) (λ x p. p)
 
 if_same : (b : Bool) (x y : Outcome) (qs : List Quiet) → x.quiets ≡ qs → y.quiets ≡ qs → (cond b x y).quiets ≡ qs

@@ -53,14 +53,14 @@ pub record Grew (old : List Point) (quiets : List Quiet) (new : List Point) : Ty
   pub spells : map told more ≡ map known quiets
 
 -- what stands in a stop: the first so many of the points and the quiet points behind them, at least those that are sure, and
--- a next number that has not fallen
+-- the next number behind those, fallen by no more than the points that are missing
 pub record Left (sure : ℕ) (points : List Point) (next : ℕ) (quiets : List Quiet) (stop : Stop) : Type 0 where
   pub made : List Quiet
   pub rest : List Quiet
   pub all : List Point
   pub front_of : made ++ rest ≡ quiets
   pub grew : Grew points made all
-  pub front : Front sure all next stop
+  pub front : Front sure all (next + length made) stop
 
 -- after a call: the points of then and its quiet points, and all are sure where a syncpoint is answered
 pub record Made (answer : Answer) (sure : ℕ) (points : List Point) (quiets : List Quiet) (sure' : ℕ) (points' : List Point) : Type 0 where

@@ -6,7 +6,7 @@ use Rattle.dms_runner.specs.declared.held.Held.{Held as HeldLine}
 use Rattle.dms_runner.specs.Held.{answer_text}
 use Rattle.dms_runner.specs.Answers.{Lined, first_line}
 use Rattle.dms_runner.specs.Events.{calls, says}
-use Rattle.dms_runner.proofs.Happening.{ran_calls, ran_on, ran_as, part_calls, part_of_first, part_on, part_all, part_as}
+use Rattle.dms_runner.proofs.Happening.{step_numbers, ran_calls, ran_on, ran_as, part_calls, part_of_first, part_on, part_all, part_as}
 use Rattle.dms_runner.proofs.Lining.{lined_as, goes_walked, walks_from, walks_part_from, goes_held, goes_full, tried_starts, tried_waits, tried_answered, says_answer, held_events, full_events}
 use Rattle.dms_runner.proofs.lines.first_try.Goals as goal
 
@@ -21,7 +21,7 @@ returns-in_err-say_answer-clause-part g c = λ now stands same line room.
     let o = step (described c.args.engine.now.desc) now.session c.args.name c.args.verb in
     let is = c.in_ok-answer.ensures.step now.session stands (omega (arith, room)) in
     let room' : g.St.Store.next c.call.new.self.store + 1 < 2 ^ 64 = omega (arith, is.session.next, (step_small (described c.args.engine.now.desc) now.session c.args.name c.args.verb).high, room) in
-    let called = ran_calls _ _ o c.in_ok-answer.answer (λ t. t) c.call.ensures.said c.call.ensures.not_fallen is.sync (λ t. c.in_ok-answer.ensures.makes t now.session stands (omega (arith, room))) (λ t. c.call.ensures.moments t now.session stands (omega (arith, room))) in
+    let called = ran_calls _ _ o c.in_ok-answer.answer (λ t. t) c.call.ensures.said (omega (arith, stands.next, is.session.next, step_numbers (described c.args.engine.now.desc) now.session c.args.name c.args.verb)) is.sync (λ t. c.in_ok-answer.ensures.makes t now.session stands (omega (arith, room))) (λ t. c.call.ensures.moments t now.session stands (omega (arith, room))) in
     let text = says_answer c.args.line now.line c.args.name c.in_ok-answer.answer.reply o.reply c.in_ok-answer.answer.sync o.sync (sym line) is.reply is.sync in
     let e = tried_answered (described c.args.engine.now.desc) now c.args.name c.args.verb o (ap is_waits (sym is.reply) ∙ sym c.is_waits.ensures ∙ c.if-not-is_waits.true) in
     part_as _ _ _ _ (sym (ap (λ (l : Lined). l.events) e)) (part_of_first _ _ (calls o ∷ says (answer_text now.line c.args.name o.reply o.sync) ∷ []) _ (part_on _ _ _ (calls o ∷ []) _ called (part_as _ _ _ _ text (c.say_answer.ensures.part room'))))
@@ -31,7 +31,7 @@ returns-in_err-walk_all-clause-part g c = λ now stands same line room.
     let o = step (described c.args.engine.now.desc) now.session c.args.name c.args.verb in
     let is = c.in_ok-answer.ensures.step now.session stands (omega (arith, room)) in
     let room' : g.St.Store.next c.call.new.self.store + 1 < 2 ^ 64 = omega (arith, is.session.next, (step_small (described c.args.engine.now.desc) now.session c.args.name c.args.verb).high, room) in
-    let called = ran_calls _ _ o c.in_ok-answer.answer (λ t. t) c.call.ensures.said c.call.ensures.not_fallen is.sync (λ t. c.in_ok-answer.ensures.makes t now.session stands (omega (arith, room))) (λ t. c.call.ensures.moments t now.session stands (omega (arith, room))) in
+    let called = ran_calls _ _ o c.in_ok-answer.answer (λ t. t) c.call.ensures.said (omega (arith, stands.next, is.session.next, step_numbers (described c.args.engine.now.desc) now.session c.args.name c.args.verb)) is.sync (λ t. c.in_ok-answer.ensures.makes t now.session stands (omega (arith, room))) (λ t. c.call.ensures.moments t now.session stands (omega (arith, room))) in
     let text = says_answer c.args.line now.line c.args.name c.in_ok-answer.answer.reply o.reply c.in_ok-answer.answer.sync o.sync (sym line) is.reply is.sync in
     let e = tried_answered (described c.args.engine.now.desc) now c.args.name c.args.verb o (ap is_waits (sym is.reply) ∙ sym c.is_waits.ensures ∙ c.if-not-is_waits.true) in
     part_as _ _ _ _ (sym (ap (λ (l : Lined). l.events) e)) (part_on _ _ _ (calls o ∷ says (answer_text now.line c.args.name o.reply o.sync) ∷ []) _ (ran_on _ _ _ (calls o ∷ []) (says (answer_text now.line c.args.name o.reply o.sync) ∷ []) called (ran_as _ _ _ _ text (c.in_ok-say_answer.ensures.ran room')))
@@ -42,7 +42,7 @@ returns-then-not-is_waits-clause-lined g c = λ now stands same line room.
     let o = step (described c.args.engine.now.desc) now.session c.args.name c.args.verb in
     let is = c.in_ok-answer.ensures.step now.session stands (omega (arith, room)) in
     let room' : g.St.Store.next c.call.new.self.store + 1 < 2 ^ 64 = omega (arith, is.session.next, (step_small (described c.args.engine.now.desc) now.session c.args.name c.args.verb).high, room) in
-    let called = ran_calls _ _ o c.in_ok-answer.answer (λ t. t) c.call.ensures.said c.call.ensures.not_fallen is.sync (λ t. c.in_ok-answer.ensures.makes t now.session stands (omega (arith, room))) (λ t. c.call.ensures.moments t now.session stands (omega (arith, room))) in
+    let called = ran_calls _ _ o c.in_ok-answer.answer (λ t. t) c.call.ensures.said (omega (arith, stands.next, is.session.next, step_numbers (described c.args.engine.now.desc) now.session c.args.name c.args.verb)) is.sync (λ t. c.in_ok-answer.ensures.makes t now.session stands (omega (arith, room))) (λ t. c.call.ensures.moments t now.session stands (omega (arith, room))) in
     let text = says_answer c.args.line now.line c.args.name c.in_ok-answer.answer.reply o.reply c.in_ok-answer.answer.sync o.sync (sym line) is.reply is.sync in
     let e = tried_answered (described c.args.engine.now.desc) now c.args.name c.args.verb o (ap is_waits (sym is.reply) ∙ sym c.is_waits.ensures ∙ c.if-not-is_waits.true) in
     lined_as _ _ _ _ _ _ _ (sym e) (goes_walked _ now o.session (calls o ∷ says (answer_text now.line c.args.name o.reply o.sync) ∷ []) _ _ _ _ _ (ran_on _ _ _ (calls o ∷ []) (says (answer_text now.line c.args.name o.reply o.sync) ∷ []) called (ran_as _ _ _ _ text (c.in_ok-say_answer.ensures.ran room')))
@@ -53,7 +53,7 @@ returns-then-not-is_waits-clause-part g c = λ now stands same line room.
     let o = step (described c.args.engine.now.desc) now.session c.args.name c.args.verb in
     let is = c.in_ok-answer.ensures.step now.session stands (omega (arith, room)) in
     let room' : g.St.Store.next c.call.new.self.store + 1 < 2 ^ 64 = omega (arith, is.session.next, (step_small (described c.args.engine.now.desc) now.session c.args.name c.args.verb).high, room) in
-    let called = ran_calls _ _ o c.in_ok-answer.answer (λ t. t) c.call.ensures.said c.call.ensures.not_fallen is.sync (λ t. c.in_ok-answer.ensures.makes t now.session stands (omega (arith, room))) (λ t. c.call.ensures.moments t now.session stands (omega (arith, room))) in
+    let called = ran_calls _ _ o c.in_ok-answer.answer (λ t. t) c.call.ensures.said (omega (arith, stands.next, is.session.next, step_numbers (described c.args.engine.now.desc) now.session c.args.name c.args.verb)) is.sync (λ t. c.in_ok-answer.ensures.makes t now.session stands (omega (arith, room))) (λ t. c.call.ensures.moments t now.session stands (omega (arith, room))) in
     let text = says_answer c.args.line now.line c.args.name c.in_ok-answer.answer.reply o.reply c.in_ok-answer.answer.sync o.sync (sym line) is.reply is.sync in
     let e = tried_answered (described c.args.engine.now.desc) now c.args.name c.args.verb o (ap is_waits (sym is.reply) ∙ sym c.is_waits.ensures ∙ c.if-not-is_waits.true) in
     part_as _ _ _ _ (sym (ap (λ (l : Lined). l.events) e)) (part_on _ _ _ (calls o ∷ says (answer_text now.line c.args.name o.reply o.sync) ∷ []) _ (ran_on _ _ _ (calls o ∷ []) (says (answer_text now.line c.args.name o.reply o.sync) ∷ []) called (ran_as _ _ _ _ text (c.in_ok-say_answer.ensures.ran room')))
@@ -64,7 +64,7 @@ returns-then-len-ge-HELD_LINES-clause-lined g c = λ now stands same line room.
     let o = step (described c.args.engine.now.desc) now.session c.args.name c.args.verb in
     let is = c.in_ok-answer.ensures.step now.session stands (omega (arith, room)) in
     let room' : g.St.Store.next c.call.new.self.store + 1 < 2 ^ 64 = omega (arith, is.session.next, (step_small (described c.args.engine.now.desc) now.session c.args.name c.args.verb).high, room) in
-    let called = ran_calls _ _ o c.in_ok-answer.answer (λ t. t) c.call.ensures.said c.call.ensures.not_fallen is.sync (λ t. c.in_ok-answer.ensures.makes t now.session stands (omega (arith, room))) (λ t. c.call.ensures.moments t now.session stands (omega (arith, room))) in
+    let called = ran_calls _ _ o c.in_ok-answer.answer (λ t. t) c.call.ensures.said (omega (arith, stands.next, is.session.next, step_numbers (described c.args.engine.now.desc) now.session c.args.name c.args.verb)) is.sync (λ t. c.in_ok-answer.ensures.makes t now.session stands (omega (arith, room))) (λ t. c.call.ensures.moments t now.session stands (omega (arith, room))) in
     let text = says_answer c.args.line now.line c.args.name c.in_ok-answer.answer.reply o.reply c.in_ok-answer.answer.sync o.sync (sym line) is.reply is.sync in
     let e = tried_waits (described c.args.engine.now.desc) now c.args.name c.args.verb o (ap is_waits (sym is.reply) ∙ sym c.is_waits.ensures ∙ c.if-not-is_waits.false) in
     lined_as _ _ _ _ _ _ _ (sym e) (goes_full now o.session (first_line now.line c.args.name c.args.verb true) (calls o ∷ []) _ _ _ _ _ (omega (arith, ap length same, c.if-len-ge-HELD_LINES.true, c.len.ensures, c.args.held.now.ok.0)) is.session (sym same) called)
@@ -74,7 +74,7 @@ returns-then-len-ge-HELD_LINES-clause-part g c = λ now stands same line room.
     let o = step (described c.args.engine.now.desc) now.session c.args.name c.args.verb in
     let is = c.in_ok-answer.ensures.step now.session stands (omega (arith, room)) in
     let room' : g.St.Store.next c.call.new.self.store + 1 < 2 ^ 64 = omega (arith, is.session.next, (step_small (described c.args.engine.now.desc) now.session c.args.name c.args.verb).high, room) in
-    let called = ran_calls _ _ o c.in_ok-answer.answer (λ t. t) c.call.ensures.said c.call.ensures.not_fallen is.sync (λ t. c.in_ok-answer.ensures.makes t now.session stands (omega (arith, room))) (λ t. c.call.ensures.moments t now.session stands (omega (arith, room))) in
+    let called = ran_calls _ _ o c.in_ok-answer.answer (λ t. t) c.call.ensures.said (omega (arith, stands.next, is.session.next, step_numbers (described c.args.engine.now.desc) now.session c.args.name c.args.verb)) is.sync (λ t. c.in_ok-answer.ensures.makes t now.session stands (omega (arith, room))) (λ t. c.call.ensures.moments t now.session stands (omega (arith, room))) in
     let text = says_answer c.args.line now.line c.args.name c.in_ok-answer.answer.reply o.reply c.in_ok-answer.answer.sync o.sync (sym line) is.reply is.sync in
     let e = tried_waits (described c.args.engine.now.desc) now c.args.name c.args.verb o (ap is_waits (sym is.reply) ∙ sym c.is_waits.ensures ∙ c.if-not-is_waits.false) in
     part_as _ _ _ _ (sym (ap (λ (l : Lined). l.events) e ∙ full_events now o.session _ _ _ (omega (arith, ap length same, c.if-len-ge-HELD_LINES.true, c.len.ensures, c.args.held.now.ok.0)))) (part_all _ _ _ called)
@@ -84,7 +84,7 @@ returns-in_err-say_answer-2-clause-part g c = λ now stands same line room.
     let o = step (described c.args.engine.now.desc) now.session c.args.name c.args.verb in
     let is = c.in_ok-answer.ensures.step now.session stands (omega (arith, room)) in
     let room' : g.St.Store.next c.call.new.self.store + 1 < 2 ^ 64 = omega (arith, is.session.next, (step_small (described c.args.engine.now.desc) now.session c.args.name c.args.verb).high, room) in
-    let called = ran_calls _ _ o c.in_ok-answer.answer (λ t. t) c.call.ensures.said c.call.ensures.not_fallen is.sync (λ t. c.in_ok-answer.ensures.makes t now.session stands (omega (arith, room))) (λ t. c.call.ensures.moments t now.session stands (omega (arith, room))) in
+    let called = ran_calls _ _ o c.in_ok-answer.answer (λ t. t) c.call.ensures.said (omega (arith, stands.next, is.session.next, step_numbers (described c.args.engine.now.desc) now.session c.args.name c.args.verb)) is.sync (λ t. c.in_ok-answer.ensures.makes t now.session stands (omega (arith, room))) (λ t. c.call.ensures.moments t now.session stands (omega (arith, room))) in
     let text = says_answer c.args.line now.line c.args.name c.in_ok-answer.answer.reply o.reply c.in_ok-answer.answer.sync o.sync (sym line) is.reply is.sync in
     let e = tried_waits (described c.args.engine.now.desc) now c.args.name c.args.verb o (ap is_waits (sym is.reply) ∙ sym c.is_waits.ensures ∙ c.if-not-is_waits.false) in
     let few : length now.held < 10000 = omega (arith, ap length same, c.if-len-ge-HELD_LINES.false, c.len.ensures, c.args.held.now.ok.0) in
@@ -95,7 +95,7 @@ returns-in_err-push-clause-part g c = λ now stands same line room.
     let o = step (described c.args.engine.now.desc) now.session c.args.name c.args.verb in
     let is = c.in_ok-answer.ensures.step now.session stands (omega (arith, room)) in
     let room' : g.St.Store.next c.call.new.self.store + 1 < 2 ^ 64 = omega (arith, is.session.next, (step_small (described c.args.engine.now.desc) now.session c.args.name c.args.verb).high, room) in
-    let called = ran_calls _ _ o c.in_ok-answer.answer (λ t. t) c.call.ensures.said c.call.ensures.not_fallen is.sync (λ t. c.in_ok-answer.ensures.makes t now.session stands (omega (arith, room))) (λ t. c.call.ensures.moments t now.session stands (omega (arith, room))) in
+    let called = ran_calls _ _ o c.in_ok-answer.answer (λ t. t) c.call.ensures.said (omega (arith, stands.next, is.session.next, step_numbers (described c.args.engine.now.desc) now.session c.args.name c.args.verb)) is.sync (λ t. c.in_ok-answer.ensures.makes t now.session stands (omega (arith, room))) (λ t. c.call.ensures.moments t now.session stands (omega (arith, room))) in
     let text = says_answer c.args.line now.line c.args.name c.in_ok-answer.answer.reply o.reply c.in_ok-answer.answer.sync o.sync (sym line) is.reply is.sync in
     let e = tried_waits (described c.args.engine.now.desc) now c.args.name c.args.verb o (ap is_waits (sym is.reply) ∙ sym c.is_waits.ensures ∙ c.if-not-is_waits.false) in
     let few : length now.held < 10000 = omega (arith, ap length same, c.if-len-ge-HELD_LINES.false, c.len.ensures, c.args.held.now.ok.0) in
@@ -106,7 +106,7 @@ returns-clause-lined g c = λ now stands same line room.
     let o = step (described c.args.engine.now.desc) now.session c.args.name c.args.verb in
     let is = c.in_ok-answer.ensures.step now.session stands (omega (arith, room)) in
     let room' : g.St.Store.next c.call.new.self.store + 1 < 2 ^ 64 = omega (arith, is.session.next, (step_small (described c.args.engine.now.desc) now.session c.args.name c.args.verb).high, room) in
-    let called = ran_calls _ _ o c.in_ok-answer.answer (λ t. t) c.call.ensures.said c.call.ensures.not_fallen is.sync (λ t. c.in_ok-answer.ensures.makes t now.session stands (omega (arith, room))) (λ t. c.call.ensures.moments t now.session stands (omega (arith, room))) in
+    let called = ran_calls _ _ o c.in_ok-answer.answer (λ t. t) c.call.ensures.said (omega (arith, stands.next, is.session.next, step_numbers (described c.args.engine.now.desc) now.session c.args.name c.args.verb)) is.sync (λ t. c.in_ok-answer.ensures.makes t now.session stands (omega (arith, room))) (λ t. c.call.ensures.moments t now.session stands (omega (arith, room))) in
     let text = says_answer c.args.line now.line c.args.name c.in_ok-answer.answer.reply o.reply c.in_ok-answer.answer.sync o.sync (sym line) is.reply is.sync in
     let e = tried_waits (described c.args.engine.now.desc) now c.args.name c.args.verb o (ap is_waits (sym is.reply) ∙ sym c.is_waits.ensures ∙ c.if-not-is_waits.false) in
     let few : length now.held < 10000 = omega (arith, ap length same, c.if-len-ge-HELD_LINES.false, c.len.ensures, c.args.held.now.ok.0) in
@@ -118,7 +118,7 @@ returns-clause-part g c = λ now stands same line room.
     let o = step (described c.args.engine.now.desc) now.session c.args.name c.args.verb in
     let is = c.in_ok-answer.ensures.step now.session stands (omega (arith, room)) in
     let room' : g.St.Store.next c.call.new.self.store + 1 < 2 ^ 64 = omega (arith, is.session.next, (step_small (described c.args.engine.now.desc) now.session c.args.name c.args.verb).high, room) in
-    let called = ran_calls _ _ o c.in_ok-answer.answer (λ t. t) c.call.ensures.said c.call.ensures.not_fallen is.sync (λ t. c.in_ok-answer.ensures.makes t now.session stands (omega (arith, room))) (λ t. c.call.ensures.moments t now.session stands (omega (arith, room))) in
+    let called = ran_calls _ _ o c.in_ok-answer.answer (λ t. t) c.call.ensures.said (omega (arith, stands.next, is.session.next, step_numbers (described c.args.engine.now.desc) now.session c.args.name c.args.verb)) is.sync (λ t. c.in_ok-answer.ensures.makes t now.session stands (omega (arith, room))) (λ t. c.call.ensures.moments t now.session stands (omega (arith, room))) in
     let text = says_answer c.args.line now.line c.args.name c.in_ok-answer.answer.reply o.reply c.in_ok-answer.answer.sync o.sync (sym line) is.reply is.sync in
     let e = tried_waits (described c.args.engine.now.desc) now c.args.name c.args.verb o (ap is_waits (sym is.reply) ∙ sym c.is_waits.ensures ∙ c.if-not-is_waits.false) in
     let few : length now.held < 10000 = omega (arith, ap length same, c.if-len-ge-HELD_LINES.false, c.len.ensures, c.args.held.now.ok.0) in

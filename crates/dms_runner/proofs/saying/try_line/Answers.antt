@@ -4,7 +4,7 @@ use Rattle.dms_model.specs.Session.{step, is_waits}
 use Rattle.dms_model.proofs.Rises.{step_small}
 use Rattle.dms_desc.specs.Shape.{described}
 use Rattle.dms_runner.specs.Events.{calls}
-use Rattle.dms_runner.proofs.Happening.{ran_calls, ran_on, ran_as, part_calls, part_of_first, part_on, part_as}
+use Rattle.dms_runner.proofs.Happening.{step_numbers, ran_calls, ran_on, ran_as, part_calls, part_of_first, part_on, part_as}
 use Rattle.dms_runner.proofs.Tried.{says_tried}
 use Rattle.dms_runner.proofs.saying.try_line.Goals as goal
 
@@ -18,7 +18,7 @@ returns-in_err-say_tried-clause-part g c = λ s stands room.
     let o = step (described c.args.engine.now.desc) s c.args.held.now.program c.args.held.now.verb in
     let is = c.in_ok-answer.ensures.step s stands room in
     let room' : g.St.Store.next c.call.new.self.store + 1 < 2 ^ 64 = omega (arith, is.session.next, (step_small (described c.args.engine.now.desc) s c.args.held.now.program c.args.held.now.verb).high, room) in
-    let called = ran_calls _ _ o c.in_ok-answer.answer (λ t. t) c.call.ensures.said c.call.ensures.not_fallen is.sync (λ t. c.in_ok-answer.ensures.makes t s stands room) (λ t. c.call.ensures.moments t s stands room) in
+    let called = ran_calls _ _ o c.in_ok-answer.answer (λ t. t) c.call.ensures.said (omega (arith, stands.next, is.session.next, step_numbers (described c.args.engine.now.desc) s c.args.held.now.program c.args.held.now.verb)) is.sync (λ t. c.in_ok-answer.ensures.makes t s stands room) (λ t. c.call.ensures.moments t s stands room) in
     part_on _ _ _ (calls o ∷ []) _ called (part_as _ _ _ _ (says_tried c.args.held.now o _ _ is.reply is.sync) (c.say_tried.ensures.part room'))
 
 pub returns-clause-tried : goal.returns-clause-tried
@@ -26,7 +26,7 @@ returns-clause-tried g c = λ s stands room.
     let o = step (described c.args.engine.now.desc) s c.args.held.now.program c.args.held.now.verb in
     let is = c.in_ok-answer.ensures.step s stands room in
     let room' : g.St.Store.next c.call.new.self.store + 1 < 2 ^ 64 = omega (arith, is.session.next, (step_small (described c.args.engine.now.desc) s c.args.held.now.program c.args.held.now.verb).high, room) in
-    let called = ran_calls _ _ o c.in_ok-answer.answer (λ t. t) c.call.ensures.said c.call.ensures.not_fallen is.sync (λ t. c.in_ok-answer.ensures.makes t s stands room) (λ t. c.call.ensures.moments t s stands room) in
+    let called = ran_calls _ _ o c.in_ok-answer.answer (λ t. t) c.call.ensures.said (omega (arith, stands.next, is.session.next, step_numbers (described c.args.engine.now.desc) s c.args.held.now.program c.args.held.now.verb)) is.sync (λ t. c.in_ok-answer.ensures.makes t s stands room) (λ t. c.call.ensures.moments t s stands room) in
     record {
       answers = ap not (c.is_waits.ensures ∙ ap (λ (r : Reply). is_waits r) is.reply);
       session = c.in_ok-say_tried.ensures.stands o.session is.session;
@@ -38,5 +38,5 @@ returns-clause-part g c = λ s stands room.
     let o = step (described c.args.engine.now.desc) s c.args.held.now.program c.args.held.now.verb in
     let is = c.in_ok-answer.ensures.step s stands room in
     let room' : g.St.Store.next c.call.new.self.store + 1 < 2 ^ 64 = omega (arith, is.session.next, (step_small (described c.args.engine.now.desc) s c.args.held.now.program c.args.held.now.verb).high, room) in
-    let called = ran_calls _ _ o c.in_ok-answer.answer (λ t. t) c.call.ensures.said c.call.ensures.not_fallen is.sync (λ t. c.in_ok-answer.ensures.makes t s stands room) (λ t. c.call.ensures.moments t s stands room) in
+    let called = ran_calls _ _ o c.in_ok-answer.answer (λ t. t) c.call.ensures.said (omega (arith, stands.next, is.session.next, step_numbers (described c.args.engine.now.desc) s c.args.held.now.program c.args.held.now.verb)) is.sync (λ t. c.in_ok-answer.ensures.makes t s stands room) (λ t. c.call.ensures.moments t s stands room) in
     part_on _ _ _ (calls o ∷ []) _ called (part_as _ _ _ _ (says_tried c.args.held.now o _ _ is.reply is.sync) (c.say_tried.ensures.part room'))
