@@ -1,5 +1,6 @@
 pub mod Always
 pub mod Happening
+pub mod Leaving
 pub mod Lining
 pub mod Passes
 pub mod Running

@@ -1,8 +1,12 @@
 -- What a stop within events leaves, told of all of them.
 use Rattle.std.specs.Prelude.{ℕ, ◌≡◌, ◌≤◌, ◌<◌, ◌+◌, List, ◌∷◌, ◌++◌, length, take, Some}
 use Rattle.std.specs.declared.option.Option.{Option}
+use Rattle.dms_desc.specs.Shape.{Described}
+use Rattle.dms_model.specs.Db.{Db}
 use Rattle.dms_model.specs.Points.{Point, Stop}
+use Rattle.dms_model.specs.Session.{ended}
 use Rattle.dms_storeverbs.specs.View.{Left}
+use Rattle.dms_runner.specs.Answers.{script_run, left_by}
 use Rattle.dms_runner.specs.Events.{Event, text_of, quiets_of, Stopped}
 
 -- the quiet points are the first ones of those at first and all that are made behind them, and none that was sure at first is
@@ -28,3 +32,8 @@ abbrev pub PointLaw : Type 0
 PointLaw = (said : Option (List ℕ)) (points : List Point) (sure next : ℕ) (events : List Event) (stop : Stop) → Stopped said points sure next events stop
     → (before : List Event) (at : Event) (rest : List Event) → before ++ at ∷ rest ≡ events → length points + length (quiets_of before) < length stop.points
     → (t : List ℕ) → said ≡ Some t → length t + length (text_of before) ≤ length stop.said
+
+-- at the end of a script, where the database has gone back to the last quiet point if a program was in transaction state, it is
+-- the one that the script leaves
+abbrev pub LeftLaw : Type 0
+LeftLaw = (desc : Described) (db : Db) (first : ℕ) (lines : List (List ℕ)) → (ended (script_run desc db first lines).going.session).db ≡ left_by desc db first lines

@@ -6,6 +6,7 @@ pub mod Keepings
 pub mod KeyValues
 pub mod Places
 pub mod Quiet
+pub mod Resting
 pub mod Stored
 pub mod Unfolds
 pub mod Works

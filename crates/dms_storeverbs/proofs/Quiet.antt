@@ -22,9 +22,9 @@ use Rattle.dms_model.specs.Session.{Session, Outcome, Kept, Refused, Keeps, Fill
 use Rattle.dms_storeverbs.specs.Laws.{MakesNone, Makes, falls_quiet, is_back_out, QuietRule}
 
 -- no quiet point was made, and someone who worked still works
-record Steady (s : Session) (o : Outcome) : Type 0 where
-  none : MakesNone s o
-  works : someone_works s.programs ≡ true → someone_works o.session.programs ≡ true
+pub record Steady (s : Session) (o : Outcome) : Type 0 where
+  pub none : MakesNone s o
+  pub works : someone_works s.programs ≡ true → someone_works o.session.programs ≡ true
 
 still_at : (b w w' : Bool) → (w ≡ true → w' ≡ true) → (not b && (w && not w')) ≡ false
 still_at true w w' h = refl
@@ -36,7 +36,7 @@ by_steady verb s o steady = subst (λ (b : Bool). Makes b s o) (sym (still_at (i
 
 -- programs that work
 
-set_works : (ps : List Program) (i : ℕ) (p q : Program) → slice_get ps i ≡ Some p → q.in_transaction ≡ p.in_transaction → someone_works (slice_set ps i q) ≡ someone_works ps
+pub set_works : (ps : List Program) (i : ℕ) (p q : Program) → slice_get ps i ≡ Some p → q.in_transaction ≡ p.in_transaction → someone_works (slice_set ps i q) ≡ someone_works ps
 set_works [] i p q at same = refl
 set_works (x ∷ ps) zero p q at same = let is : x ≡ p = cc in ap (λ (b : Bool). b || someone_works ps) (same ∙ ap (λ (y : Program). y.in_transaction) (sym is))
 set_works (x ∷ ps) (suc i) p q at same = ap (λ (b : Bool). x.in_transaction || b) (set_works ps i p q at same)
@@ -45,7 +45,7 @@ or_true : (b : Bool) → (b || true) ≡ true
 or_true true = refl
 or_true false = refl
 
-set_enters : (ps : List Program) (i : ℕ) (p q : Program) → slice_get ps i ≡ Some p → q.in_transaction ≡ true → someone_works (slice_set ps i q) ≡ true
+pub set_enters : (ps : List Program) (i : ℕ) (p q : Program) → slice_get ps i ≡ Some p → q.in_transaction ≡ true → someone_works (slice_set ps i q) ≡ true
 set_enters [] i p q at is = absurd (cc)
 set_enters (x ∷ ps) zero p q at is = rw is refl
 set_enters (x ∷ ps) (suc i) p q at is = ap (λ (b : Bool). x.in_transaction || b) (set_enters ps i p q at is) ∙ or_true x.in_transaction
@@ -90,23 +90,23 @@ makes_if : (verb : Verb) (s : Session) (b : Bool) (x y : Outcome) → Makes (fal
 makes_if verb s true x y p q = p
 makes_if verb s false x y p q = q
 
-steady_refuse : (s : Session) (c : Category) (n : List ℕ) → Steady s (refuse s c n)
+pub steady_refuse : (s : Session) (c : Category) (n : List ℕ) → Steady s (refuse s c n)
 steady_refuse s c n = record { none = record { quiets = refl; next = refl; mark = refl; unsynced = refl }; works = λ h. h }
 
-steady_shows : (s t : Session) (text : List ℕ) → t.next ≡ s.next → t.mark ≡ s.mark → (someone_works s.programs ≡ true → someone_works t.programs ≡ true) → Steady s (shows t text)
+pub steady_shows : (s t : Session) (text : List ℕ) → t.next ≡ s.next → t.mark ≡ s.mark → (someone_works s.programs ≡ true → someone_works t.programs ≡ true) → Steady s (shows t text)
 steady_shows s t text number mark works = record { none = record { quiets = refl; next = number; mark = mark; unsynced = refl }; works = works }
 
 module _ (s : Session) (i : ℕ) (p : Program) (at : slice_get s.programs i ≡ Some p) where
   -- the program changed, and works as before
-  steady_at : (q : Program) (text : List ℕ) → q.in_transaction ≡ p.in_transaction → Steady s (shows (with_program s i q) text)
+  pub steady_at : (q : Program) (text : List ℕ) → q.in_transaction ≡ p.in_transaction → Steady s (shows (with_program s i q) text)
   steady_at q text same = steady_shows s (with_program s i q) text refl refl (λ w. set_works s.programs i p q at same ∙ w)
 
   -- storing leaves the program at work as it was
-  abbrev SameWork : Kept → Type 0
+  abbrev pub SameWork : Kept → Type 0
   SameWork (Refused c n) = Unit {0}
   SameWork (Keeps q db) = q.in_transaction ≡ p.in_transaction
 
-  same_if : (b : Bool) (x y : Kept) → SameWork x → SameWork y → SameWork (cond b x y)
+  pub same_if : (b : Bool) (x y : Kept) → SameWork x → SameWork y → SameWork (cond b x y)
   same_if true x y u v = u
   same_if false x y u v = v
 
@@ -123,11 +123,11 @@ module _ (s : Session) (i : ℕ) (p : Program) (at : slice_get s.programs i ≡ 
   area_same None desc db set current = tt
   area_same (Some a) desc db set current = same_if (is_free a p set current) (kept_unless (missing_from 0 (items_of (structure_of desc set)) (area_values a)) desc p db set a current) (Refused NotLocked (name_of (structure_of desc set))) (unless_same (missing_from 0 (items_of (structure_of desc set)) (area_values a)) desc db set a current) tt
 
-  keep_same : (desc : Described) (db : Db) (set : ℕ) → SameWork (keep desc p db set)
+  pub keep_same : (desc : Described) (db : Db) (set : ℕ) → SameWork (keep desc p db set)
   unfolding keep
   keep_same desc db set = area_same (work_of p set).area desc db set (work_of p set).current
 
-  if_same : (audit : Bool) (desc : Described) → SameWork (cond audit (keep desc p s.db (restart_of desc)) (Keeps p s.db))
+  pub if_same : (audit : Bool) (desc : Described) → SameWork (cond audit (keep desc p s.db (restart_of desc)) (Keeps p s.db))
   if_same audit desc = same_if audit (keep desc p s.db (restart_of desc)) (Keeps p s.db) (keep_same desc s.db (restart_of desc)) refl
 
   store_steady : (k : Kept) → SameWork k → Steady s (after_store k i s)
@@ -142,10 +142,10 @@ module _ (s : Session) (i : ℕ) (p : Program) (at : slice_get s.programs i ≡ 
   begin_steady [] desc audit = after_begin_steady (cond audit (keep desc p s.db (restart_of desc)) (Keeps p s.db))
   begin_steady (q ∷ qs) desc audit = record { none = record { quiets = refl; next = refl; mark = refl; unsynced = refl }; works = λ h. h }
 
-  let_go_works : (q : Program) (set : ℕ) → (let_go q set).in_transaction ≡ q.in_transaction
+  pub let_go_works : (q : Program) (set : ℕ) → (let_go q set).in_transaction ≡ q.in_transaction
   let_go_works q set = cond_works q.in_transaction q.in_transaction _ _ refl refl
 
-  find_steady : (r : Option Spot) (desc : Described) (x : ℕ) → Steady s (after_find r desc i p s x)
+  pub find_steady : (r : Option Spot) (desc : Described) (x : ℕ) → Steady s (after_find r desc i p s x)
   find_steady None desc x = steady_refuse s _ _
   find_steady (Some r) desc x = steady_at (carried (found_program p (set_of desc x) r)) [] (let_go_works _ (set_of desc x))
 
@@ -153,15 +153,15 @@ module _ (s : Session) (i : ℕ) (p : Program) (at : slice_get s.programs i ≡ 
   after_put_steady (Misfit item) set a = steady_refuse s _ _
   after_put_steady (Values' values) set a = steady_at _ [] refl
 
-  put_steady : (a : Option Area) (desc : Described) (set : ℕ) (settings : List Setting) → Steady s (put_area a desc i p s set settings)
+  pub put_steady : (a : Option Area) (desc : Described) (set : ℕ) (settings : List Setting) → Steady s (put_area a desc i p s set settings)
   put_steady None desc set settings = steady_refuse s _ _
   put_steady (Some a) desc set settings = after_put_steady (filled (items_of (structure_of desc set)) settings (area_values a)) set a
 
-  get_steady : (a : Option Area) (desc : Described) (set : ℕ) (numbers : List ℕ) → Steady s (get_area a desc i p s set numbers)
+  pub get_steady : (a : Option Area) (desc : Described) (set : ℕ) (numbers : List ℕ) → Steady s (get_area a desc i p s set numbers)
   get_steady None desc set numbers = steady_refuse s _ _
   get_steady (Some a) desc set numbers = steady_at (carried p) _ refl
 
-  close_steady : (b : Bool) → p.in_transaction ≡ b → Steady s (cond b (refuse s AuditError p.name) (done (record s { programs = without i s.programs })))
+  pub close_steady : (b : Bool) → p.in_transaction ≡ b → Steady s (cond b (refuse s AuditError p.name) (done (record s { programs = without i s.programs })))
   close_steady true is = steady_refuse s _ _
   close_steady false is = steady_shows s _ [] refl refl (λ w. without_works s.programs i p at is ∙ w)
 
@@ -213,7 +213,7 @@ open_as_steady desc s name mode =
     let opened : Session = record s { programs = s.programs ++ new_program desc name mode ∷ [] } in
     steady_if s (nat_le 64 (length s.programs)) (refuse s LimitError name) (done opened) (steady_refuse s LimitError name) (steady_shows s opened [] refl refl (push_works s.programs (new_program desc name mode)))
 
-open_steady : (desc : Described) (s : Session) (name : List ℕ) (v : Verb) → Steady s (open_step desc s name v)
+pub open_steady : (desc : Described) (s : Session) (name : List ℕ) (v : Verb) → Steady s (open_step desc s name v)
 unfolding open_step
 open_steady desc s name OpenUpdate = open_as_steady desc s name _
 open_steady desc s name OpenInquiry = open_as_steady desc s name _
@@ -227,7 +227,7 @@ open_steady desc s name (Begin audit) = steady_refuse s _ _
 open_steady desc s name (End audit sync) = steady_refuse s _ _
 open_steady desc s name Abort = steady_refuse s _ _
 
-abbrev due_outcome : Session → ℕ → Program → List ℕ → Outcome
+abbrev pub due_outcome : Session → ℕ → Program → List ℕ → Outcome
 due_outcome s i p name = record { session = with_program s i (record p { owes_abort = false }); reply = Exception AbortDue name; sync = None; quiets = [] }
 
 step_at_rule : (desc : Described) (o : Option Program) (i : ℕ) (s : Session) (name : List ℕ) (v : Verb) → slice_get s.programs i ≡ o → Makes (falls_quiet v s (step_at desc o i s name v).session) s (step_at desc o i s name v)

@@ -47,3 +47,11 @@ Makes false s o = MakesNone s o
 -- a step makes a quiet point exactly where it falls quiet
 abbrev pub QuietRule : Type 0
 QuietRule = (desc : Described) (s : Session) (name : List ℕ) (verb : Verb) → Makes (falls_quiet verb s (step desc s name verb).session) s (step desc s name verb)
+
+-- outside transaction state the database is that of the last quiet point, or that of the beginning
+abbrev pub Rests : Session → Type 0
+Rests s = someone_works s.programs ≡ false → s.db ≡ s.mark
+
+-- no update is accepted outside transaction state: each step keeps that
+abbrev pub RestRule : Type 0
+RestRule = (desc : Described) (s : Session) (name : List ℕ) (verb : Verb) → Rests s → Rests (step desc s name verb).session

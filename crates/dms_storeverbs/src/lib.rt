@@ -15,4 +15,4 @@ mod transactions;
 mod verbs;
 
 pub use engine::Engine;
-pub use laws::quiet_rule;
+pub use laws::{quiet_rule, rest_rule};
