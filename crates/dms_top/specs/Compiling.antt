@@ -1,10 +1,10 @@
 -- The command `compile`: what it says, and what a stop leaves.
 use Rattle.std.specs.Prelude.{◌≡◌, ◌⊎◌, ℕ, List, [], ◌∷◌, ◌++◌, codes, decimal, take, ⊤}
-use Rattle.dms_block.specs.Moments.{Clock, Now, Runs}
+use Rattle.dms_block.specs.Moments.{Clock, Now, Runs, Steps}
 use Rattle.dms_desc.specs.Shape.{Described}
 use Rattle.dms_descfile.specs.Becoming.{IsCreated}
 use Rattle.dms_descfile.specs.DescriptionFile.{sealed_file}
-use Rattle.dms_site.specs.Files.{Files, Left}
+use Rattle.dms_site.specs.Files.{Files, Left, Same}
 use Rattle.dms_top.specs.declared.status.Status.{Status}
 use Rattle.dms_top.specs.declared.status.Status.TheVariants.{Ok, BadWords, SchemaRefused, InputFault, Memory, Limit, SayFault, DiskFault, Exists}
 
@@ -68,3 +68,14 @@ AtEachMoment old new P = (x : Left) → new.left old.now x → Now old x ⊎ P x
 -- sealed description, or exactly that of some description, and the other files are these.
 abbrev pub CreatesSome : Files → Clock Left → Clock Left → Type 0
 CreatesSome files old new = Runs old new (λ x. Now old x ⊎ ((d : Described) × IsCreated (sealed_file d) files x))
+
+-- No text comes before its file: at each moment on the way the text is one that it could be at the old moment, or the description
+-- file is exactly the one that is made.
+abbrev pub SaysSealed : List ℕ → Clock Left → Clock Left → Type 0
+SaysSealed made old new = Runs old new (λ x. ((y : Left) × Now old y × (x.said ≡ y.said)) ⊎ (x.files 1 ≡ made))
+
+-- the files and the text stay, and a stop on the way leaves what it could leave before
+pub record IsKept (files files' : Files) (said said' : List ℕ) (old new : Clock Left) : Type 0 where
+  pub files_is : files' ≡ files
+  pub said_is : said' ≡ said
+  pub moments : Steps Same old new

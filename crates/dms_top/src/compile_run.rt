@@ -4,9 +4,10 @@ ghost use Rattle.dms_desc.specs.Shape.{Described, described};
 ghost use Rattle.dms_desc_bytes.specs.Spelling.{spelling};
 ghost use Rattle.dms_descfile.specs.DescriptionFile.{description_file, sealed_file, IsSealed, IsUnsealed};
 ghost use Rattle.dms_descfile.specs.Becoming.{Creates};
+ghost use Rattle.dms_site.specs.Files.{Only};
 ghost use Rattle.dms_top.specs.declared.status.LimitKind.{LimitKind as Kind};
 ghost use Rattle.dms_top.specs.declared.status.SchemaFault.{SchemaFault as Refusal};
-ghost use Rattle.dms_top.specs.Compiling.{compiled_text, Says, IsSpoken, IsBefore, IsOfFile, CreatesSome};
+ghost use Rattle.dms_top.specs.Compiling.{compiled_text, Says, IsSpoken, IsBefore, IsOfFile, CreatesSome, SaysSealed, IsKept};
 ghost use Rattle.dms_top.specs.Judging.{judged};
 ghost use Rattle.dms_top.specs.Words.{IsPast, IsUntouched};
 
@@ -63,6 +64,8 @@ fn seal_and_say<S: Site>(alloc: Global, site: &mut S, bytes: &[u8], line: &[u8])
     ensures before { IsBefore result → IsTrue S.tells → S.files site.new ≡ S.files site.old }
     ensures says { IsTrue S.tells_said → Says result line.now (S.said site.old) (S.said site.new) }
     ensures creates { IsTrue S.tells → Creates (description_file 1 0 bytes.now) (S.files site.old) (S.clock site.old) (S.clock site.new) }
+    ensures stable { IsSpoken result → IsTrue S.tells → Only (S.files site.new) (S.clock site.new) }
+    ensures says_sealed { IsTrue S.tells → SaysSealed (description_file 1 0 bytes.now) (S.clock site.old) (S.clock site.new) }
     ensures same_site { S.same_site site.old site.new }
     ensures disk_later { S.disk_faults site.old ≤ S.disk_faults site.new }
     ensures say_later { S.say_faults site.old ≤ S.say_faults site.new }
@@ -91,6 +94,9 @@ fn create<S: Site>(alloc: Global, site: &mut S, desc: &Description) -> Status
     ensures before { IsBefore result → IsTrue S.tells → S.files site.new ≡ S.files site.old }
     ensures says { IsTrue S.tells_said → Says result (compiled_text (length desc.now.structures)) (S.said site.old) (S.said site.new) }
     ensures creates { IsTrue S.tells → Creates (sealed_file (described desc.now)) (S.files site.old) (S.clock site.old) (S.clock site.new) }
+    ensures stable { IsSpoken result → IsTrue S.tells → Only (S.files site.new) (S.clock site.new) }
+    ensures says_sealed { IsTrue S.tells → SaysSealed (sealed_file (described desc.now)) (S.clock site.old) (S.clock site.new) }
+    ensures kept { IsTrue S.tells → (d : Described) → IsSealed (S.files site.old 1) d → IsKept (S.files site.old) (S.files site.new) (S.said site.old) (S.said site.new) (S.clock site.old) (S.clock site.new) }
     ensures same_site { S.same_site site.old site.new }
     ensures disk_later { S.disk_faults site.old ≤ S.disk_faults site.new }
     ensures say_later { S.say_faults site.old ≤ S.say_faults site.new }
@@ -132,6 +138,10 @@ pub fn compile_input<S: Site, I: Source>(alloc: Global, site: &mut S, input: &mu
     ensures silent { IsTrue S.tells_said → (IsSpoken result → ⊥) → S.said site.new ≡ S.said site.old }
     ensures creates { IsTrue S.tells → (all : List ℕ) (d : Described) → I.left input.old ≡ Some all → judged all ≡ Ok d → Creates (sealed_file d) (S.files site.old) (S.clock site.old) (S.clock site.new) }
     ensures creates_some { IsTrue S.tells → CreatesSome (S.files site.old) (S.clock site.old) (S.clock site.new) }
+    ensures stable { IsSpoken result → IsTrue S.tells → Only (S.files site.new) (S.clock site.new) }
+    ensures says_sealed { IsTrue S.tells → (all : List ℕ) (d : Described) → I.left input.old ≡ Some all → judged all ≡ Ok d → SaysSealed (sealed_file d) (S.clock site.old) (S.clock site.new) }
+    ensures kept { IsTrue S.tells → (d : Described) → IsSealed (S.files site.old 1) d → IsKept (S.files site.old) (S.files site.new) (S.said site.old) (S.said site.new) (S.clock site.old) (S.clock site.new) }
+    ensures sealed_some { IsSpoken result → IsTrue S.tells → (d : Described) × IsSealed (S.files site.new 1) d }
     ensures same_site { S.same_site site.old site.new }
     ensures same_source { I.same_source input.old input.new }
     ensures disk_later { S.disk_faults site.old ≤ S.disk_faults site.new }

@@ -1,10 +1,13 @@
-ghost use Rattle.std.specs.Prelude.{◌≡◌, ◌≤◌, ◌≢◌, ◌↔◌, [], ℕ, List, Some, Ok, Err, map, length, string_bytes, IsTrue, IsOk};
+ghost use Rattle.std.specs.Prelude.{◌≡◌, ◌≤◌, ◌≢◌, ◌↔◌, [], ℕ, List, Some, Ok, Err, map, length, string_bytes, IsTrue, IsOk, ◌⊎◌};
 ghost use Rattle.dms_base.specs.Causes.{Rose};
 ghost use Rattle.dms_desc.specs.Shape.{Described};
 ghost use Rattle.dms_descfile.specs.Becoming.{IsCreated};
 ghost use Rattle.dms_descfile.specs.DescriptionFile.{sealed_file, IsSealed, IsUnsealed};
+ghost use Rattle.dms_block.specs.Moments.{Now};
+ghost use Rattle.dms_site.specs.Files.{Left, Only};
+ghost use Rattle.dms_top.specs.Taking.{CutText};
 ghost use Rattle.dms_plain.specs.Speaking.{OnlySpeaks};
-ghost use Rattle.dms_top.specs.Compiling.{compiled_text, Says, IsSpoken, IsBefore, AtEachMoment};
+ghost use Rattle.dms_top.specs.Compiling.{compiled_text, Says, IsSpoken, IsBefore, AtEachMoment, IsKept};
 ghost use Rattle.dms_top.specs.declared.status.SchemaFault.{SchemaFault as Refusal};
 ghost use Rattle.dms_top.specs.Judging.{judged};
 ghost use Rattle.dms_top.specs.Schema.{schema_text as text_of};
@@ -55,6 +58,7 @@ fn try_input<S: Site, I: Source>(alloc: Global, site: &mut S, input: &mut I) -> 
     ensures within { result ≡ Status.Ok → IsTrue S.tells_said → (all : List ℕ) (d : Described) → I.left input.old ≡ Some all → judged (text_of all) ≡ Ok d → WithinLimits d (script_of all) }
     ensures limit { (k : Kind) → result ≡ Status.Limit k → IsTrue S.tells_said → (all : List ℕ) (d : Described) → I.left input.old ≡ Some all → judged (text_of all) ≡ Ok d → Passes k d (script_of all) (S.said site.old) (S.said site.new) }
     ensures input_cut { result ≡ Status.InputFault → IsTrue S.tells_said → (all : List ℕ) (d : Described) → I.left input.old ≡ Some all → judged (text_of all) ≡ Ok d → CutTry d all (I.left input.new) (S.said site.old) (S.said site.new) }
+    ensures input_cut_refused { result ≡ Status.InputFault → (all : List ℕ) (e : Refusal) → I.left input.old ≡ Some all → judged (text_of all) ≡ Err e → CutText all (I.left input.new) }
     ensures input_later { I.faults input.old ≤ I.faults input.new }
     ensures same_source { I.same_source input.old input.new }
 {
@@ -91,6 +95,7 @@ pub fn dms<S: Site, I: Source>(
     ensures before { IsBefore result → IsTrue S.tells → S.files site.new ≡ S.files site.old }
     ensures others { IsTrue S.tells → (g : ℕ) → g ≢ 1 → S.files site.new g ≡ S.files site.old g }
     ensures same_source { I.same_source input.old input.new }
+    ensures untaken { result ≡ Status.BadWords → input.new ≡ input.old }
     ensures untouched { IsUntouched result → site.new ≡ site.old }
     // `try`
     ensures refused { IsTry (map string_bytes words.now) → (f : Refusal) → result ≡ Status.SchemaRefused f → (all : List ℕ) → I.left input.old ≡ Some all → judged (text_of all) ≡ Err f }
@@ -104,6 +109,7 @@ pub fn dms<S: Site, I: Source>(
     ensures within { IsTry (map string_bytes words.now) → result ≡ Status.Ok → IsTrue S.tells_said → (all : List ℕ) (d : Described) → I.left input.old ≡ Some all → judged (text_of all) ≡ Ok d → WithinLimits d (script_of all) }
     ensures limit { IsTry (map string_bytes words.now) → (k : Kind) → result ≡ Status.Limit k → IsTrue S.tells_said → (all : List ℕ) (d : Described) → I.left input.old ≡ Some all → judged (text_of all) ≡ Ok d → Passes k d (script_of all) (S.said site.old) (S.said site.new) }
     ensures input_cut { IsTry (map string_bytes words.now) → result ≡ Status.InputFault → IsTrue S.tells_said → (all : List ℕ) (d : Described) → I.left input.old ≡ Some all → judged (text_of all) ≡ Ok d → CutTry d all (I.left input.new) (S.said site.old) (S.said site.new) }
+    ensures input_cut_refused { IsTry (map string_bytes words.now) → result ≡ Status.InputFault → (all : List ℕ) (e : Refusal) → I.left input.old ≡ Some all → judged (text_of all) ≡ Err e → CutText all (I.left input.new) }
     ensures no_file_exists { IsTry (map string_bytes words.now) → result ≢ Status.Exists }
     // `compile`
     ensures compile_refused_text { IsCompile (map string_bytes words.now) → (all : List ℕ) (e : Refusal) → I.left input.old ≡ Some all → judged all ≡ Err e → site.new ≡ site.old }
@@ -118,8 +124,12 @@ pub fn dms<S: Site, I: Source>(
     ensures compile_say_later { IsCompile (map string_bytes words.now) → S.say_faults site.old ≤ S.say_faults site.new }
     ensures creation_at_every_moment { IsCompile (map string_bytes words.now) → IsTrue S.tells → (all : List ℕ) (d : Described) → I.left input.old ≡ Some all → judged all ≡ Ok d → AtEachMoment (S.clock site.old) (S.clock site.new) (IsCreated (sealed_file d) (S.files site.old)) }
     ensures creation_of_some { IsCompile (map string_bytes words.now) → IsTrue S.tells → AtEachMoment (S.clock site.old) (S.clock site.new) (λ x. (d : Described) × IsCreated (sealed_file d) (S.files site.old) x) }
+    ensures compile_kept { IsCompile (map string_bytes words.now) → IsTrue S.tells → (d : Described) → IsSealed (S.files site.old 1) d → IsKept (S.files site.old) (S.files site.new) (S.said site.old) (S.said site.new) (S.clock site.old) (S.clock site.new) }
     ensures creation_at_ok { IsCompile (map string_bytes words.now) → IsSpoken result → IsTrue S.tells → (all : List ℕ) (d : Described) → I.left input.old ≡ Some all → judged all ≡ Ok d → S.files site.new 1 ≡ sealed_file d }
     ensures sealed_at_ok { IsCompile (map string_bytes words.now) → IsSpoken result → IsTrue S.tells → (all : List ℕ) (d : Described) → I.left input.old ≡ Some all → judged all ≡ Ok d → IsSealed (S.files site.new 1) d }
+    ensures sealed_some { IsCompile (map string_bytes words.now) → IsSpoken result → IsTrue S.tells → (d : Described) × IsSealed (S.files site.new 1) d }
+    ensures stable_at_ok { IsCompile (map string_bytes words.now) → IsSpoken result → IsTrue S.tells → Only (S.files site.new) (S.clock site.new) }
+    ensures says_sealed_at_every_moment { IsCompile (map string_bytes words.now) → IsTrue S.tells → (all : List ℕ) (d : Described) → I.left input.old ≡ Some all → judged all ≡ Ok d → AtEachMoment (S.clock site.old) (S.clock site.new) (λ x. ((y : Left) × Now (S.clock site.old) y × (x.said ≡ y.said)) ⊎ (x.files 1 ≡ sealed_file d)) }
 {
     if is_try(words) {
         return try_input(alloc, site, input);

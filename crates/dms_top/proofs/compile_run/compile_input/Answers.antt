@@ -27,3 +27,6 @@ returns-clause-creates_some g c = λ tells. some_created _ _ _ _ (c.create.ensur
 
 pub create-requires : goal.create-requires
 create-requires g c = short_judged _ _ c.in-Description.ensures
+
+pub returns-clause-sealed_some : goal.returns-clause-sealed_some
+returns-clause-sealed_some g c = λ spoken tells. (described c.in-Description.desc, sealed_is _ _ _ c.in-Description.ensures (c.create.ensures.sealed spoken tells))

@@ -4,7 +4,7 @@ use Rattle.dms_model.specs.Db.{empty_db}
 use Rattle.dms_runner.specs.Answers.{answers_text}
 use Rattle.dms_top.specs.Answering.{try_text, script_of}
 use Rattle.dms_top.specs.Schema.{schema_text}
-use Rattle.dms_top.proofs.Printing.{nothing_printed, printed_moved, front_moved, text_accepted, same_description, within_moved, within_lines, passes_moved, passes_lines}
+use Rattle.dms_top.proofs.Printing.{nothing_printed, printed_moved, front_moved, text_accepted, same_description, within_moved, within_lines, passes_moved, passes_lines, not_refused}
 use Rattle.dms_top.specs.Judging.{judged}
 use Rattle.dms_top.proofs.Cutting.{cut_text, cut_script, cut_described}
 use Rattle.dms_top.proofs.Judgements.{long_judged, refused_is, ok_of, no_more, at_start}
@@ -80,3 +80,9 @@ returns-clause-input_cut g c = λ cut told all d left is.
 
 pub returns-clause-silent : goal.returns-clause-silent
 returns-clause-silent g c = λ told silent. absurd (c.try_lines.ensures.spoken silent)
+
+pub returns-clause-input_cut_refused : goal.returns-clause-input_cut_refused
+returns-clause-input_cut_refused g c = λ _ all e left is.
+    let t = c.in-Ok.ensures.text all (at_start _ _ all c.new-feed.ensures left) in
+    let j : judged (schema_text all) ≡ Ok (described c.in-Description.desc) = ap judged (sym t.is ∙ sym c.as_slice.ensures) ∙ c.in-Description.ensures in
+    absurd (not_refused _ _ _ j is)
