@@ -23,10 +23,11 @@ OverRoom held left room = (all : List ℕ) → Remains held left all → room < 
 abbrev pub IsUnended : List ℕ → Type 0
 IsUnended bytes = list_any (λ b. b == 10) bytes ≡ false
 
--- taking failed inside a line: a part of the line was taken, without its line feed, and the rest is left
-pub record CutLine (left : Option (List ℕ)) (all : List ℕ) : Type 0 where
+-- taking failed inside a line: a part of the line was taken, at most so many bytes, without its line feed, and the rest is left
+pub record CutLine (room : ℕ) (left : Option (List ℕ)) (all : List ℕ) : Type 0 where
   pub part : List ℕ
   pub rest : List ℕ
   pub whole : all ≡ part ++ rest
   pub left_is : left ≡ Some rest
   pub unended : IsUnended part
+  pub fits : length part ≤ room

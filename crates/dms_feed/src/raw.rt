@@ -82,7 +82,7 @@ pub fn next_raw<I: Source>(
     requires { room < 2 ^ 40 }
     ensures line { IfOk result (TakesLine cap feed.old (I.left source.old) feed.new (I.left source.new) room) }
     ensures bytes { IsErrOf result RawFault.Bytes → OverRoom feed.old (I.left source.old) room }
-    ensures failed { IsErrOf result RawFault.Input → (all : List ℕ) → Remains feed.old (I.left source.old) all → CutLine (I.left source.new) all }
+    ensures failed { IsErrOf result RawFault.Input → (all : List ℕ) → Remains feed.old (I.left source.old) all → CutLine room (I.left source.new) all }
     ensures same { I.same_source source.old source.new }
     ensures later { I.faults source.old ≤ I.faults source.new }
     ensures input { IsErrOf result RawFault.Input → Rose (I.faults source.old) (I.faults source.new) }

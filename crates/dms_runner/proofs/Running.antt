@@ -235,9 +235,9 @@ runs_held desc db first i room all v held feed left before mid after r more same
     }
 
 -- taking from the input failed
-pub runs_cut : (desc : Described) (db : Db) (first : ℕ) (i room : ℕ) (all : List ℕ) (v : View) (held : List Held) (feed : List ℕ) (left left' : Option (List ℕ)) (before mid : Told) (after : Option (List ℕ))
-    (r : Runs desc (begun db first) i room all v held feed left before mid) → i ≤ 1000000 → Prints mid.said after [] → CutLine left' r.rest → CutInput desc db first all left' before.said after
-runs_cut desc db first i room all v held feed left left' before mid after r small same cut = record {
+pub runs_cut : (desc : Described) (db : Db) (first : ℕ) (k i room : ℕ) (all : List ℕ) (v : View) (held : List Held) (feed : List ℕ) (left left' : Option (List ℕ)) (before mid : Told) (after : Option (List ℕ))
+    (r : Runs desc (begun db first) i room all v held feed left before mid) → i ≤ 1000000 → k ≤ room → (i ≡ 1000000 → k ≡ 0) → Prints mid.said after [] → CutLine k left' r.rest → CutInput desc db first all left' before.said after
+runs_cut desc db first k i room all v held feed left left' before mid after r small under last same cut = record {
   n = i;
   took = runs_took desc db first i room all v held feed left before mid after r small same;
   part = cut.part;
@@ -245,6 +245,8 @@ runs_cut desc db first i room all v held feed left left' before mid after r smal
   whole = r.whole ∙ ap (λ (x : List ℕ). joined r.done ++ x) cut.whole ∙ ap (λ (ls : List (List ℕ)). joined ls ++ (cut.part ++ cut.rest)) (sym (taken all r.done (raw_lines r.rest) i r.split r.count));
   left_is = cut.left_is;
   unended = cut.unended;
+  fits = omega (arith, ap bytes_of (taken all r.done (raw_lines r.rest) i r.split r.count), r.bytes, cut.fits, under);
+  last = λ end. omega (arith, cut.fits, last end);
 }
 
 lines_none : (rest : List ℕ) → rest ≡ [] → raw_lines rest ≡ []

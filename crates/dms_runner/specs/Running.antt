@@ -65,7 +65,7 @@ pub record PassesHeld (desc : Described) (db : Db) (first : ℕ) (lines : List (
   pub full : (script_run desc db first (take (n + 1) lines)).full ≡ true
 
 -- taking from the input failed: so many whole lines were taken, and what they answer was said; a part of the next line was
--- taken too, without its line feed, and the rest of the input is left
+-- taken too, without its line feed, within the limits, and the rest of the input is left
 pub record CutInput (desc : Described) (db : Db) (first : ℕ) (all : List ℕ) (left : Option (List ℕ)) (before after : Option (List ℕ)) : Type 0 where
   pub n : ℕ
   pub took : Took desc db first (raw_lines all) n before after
@@ -74,3 +74,5 @@ pub record CutInput (desc : Described) (db : Db) (first : ℕ) (all : List ℕ) 
   pub whole : all ≡ joined (take n (raw_lines all)) ++ (part ++ rest)
   pub left_is : left ≡ Some rest
   pub unended : IsUnended part
+  pub fits : bytes_of (take n (raw_lines all)) + length part ≤ 2147483648
+  pub last : n ≡ 1000000 → length part ≡ 0

@@ -128,7 +128,7 @@ fn one_line<St: Store, I: Source>(
     ensures bytes { IsErrOf result RunFault.Bytes → (St.said engine.new.store ≡ St.said engine.old.store) × ((all : List ℕ) → Remains feed.old (I.left source.old) all → room.old < length (first_line all)) }
     ensures full_list { IsErrOf result RunFault.Held → (g : Going) (all : List ℕ) → Stands (view (St.db engine.old.store) (St.mark engine.old.store) (St.next engine.old.store) engine.old.programs.items engine.old.pending engine.old.since) g.session → g.held ≡ held.old.items → g.line ≡ line → Roomy g → Remains feed.old (I.left source.old) all → Prints (St.said engine.old.store) (St.said engine.new.store) [] × (all ≢ []) × ((line_step (described engine.old.desc) g (first_line all)).full ≡ true) × (length (first_line all) ≤ room.old) }
     ensures no_lines { IsErrOf result RunFault.Lines → ⊥ }
-    ensures failed { IsErrOf result RunFault.Input → (St.said engine.new.store ≡ St.said engine.old.store) × ((all : List ℕ) → Remains feed.old (I.left source.old) all → CutLine (I.left source.new) all) }
+    ensures failed { IsErrOf result RunFault.Input → (St.said engine.new.store ≡ St.said engine.old.store) × ((all : List ℕ) → Remains feed.old (I.left source.old) all → CutLine room.old (I.left source.new) all) }
     ensures rest { OnOk result ((all : List ℕ) → Remains feed.old (I.left source.old) all → (rest : List ℕ) × Remains feed.new (I.left source.new) rest) }
     ensures sound { OnOk result (St.sound engine.new.store) }
     ensures description { engine.new.desc ≡ engine.old.desc }
@@ -164,7 +164,7 @@ fn one_line<St: Store, I: Source>(
 fn after_last<I: Source>(alloc: Global, feed: &mut Feed, source: &mut I) -> Result<(), RunFault>
     ensures end { OnOk result ((all : List ℕ) → Remains feed.old (I.left source.old) all → (all ≡ []) × Remains feed.new (I.left source.new) []) }
     ensures lines { IsErrOf result RunFault.Lines → (all : List ℕ) → Remains feed.old (I.left source.old) all → all ≢ [] }
-    ensures failed { IsErrOf result RunFault.Input → (all : List ℕ) → Remains feed.old (I.left source.old) all → CutLine (I.left source.new) all }
+    ensures failed { IsErrOf result RunFault.Input → (all : List ℕ) → Remains feed.old (I.left source.old) all → CutLine 0 (I.left source.new) all }
     ensures limits { (IsErrOf result RunFault.Bytes → ⊥) × (IsErrOf result RunFault.Held → ⊥) }
     ensures same_source { I.same_source source.old source.new }
     ensures taken { I.faults source.old ≤ I.faults source.new }

@@ -55,6 +55,8 @@ cut_text d all left said c =
       unended = c.cut.unended;
       few = omega (arith, ap length none);
       short = omega (arith, ap bytes_of none);
+      fits = omega (arith, ap bytes_of none, c.cut.fits);
+      last = λ end. absurd (omega (arith, end, ap length none));
       room = ap (λ (ls : List (List ℕ)). (script_run d empty_db 1 ls).full) none ∙ no_lines d;
       text = subst (λ (ls : List (List ℕ)). Printed said said (text_of (script_run d empty_db 1 ls).events)) (sym none) (no_text d said);
     }
@@ -77,6 +79,8 @@ cut_script d done all mid left before after leaves behind c =
       unended = c.unended;
       few = omega (arith, ap length s, length-take c.n (raw_lines mid), c.took.few);
       short = omega (arith, ap bytes_of s, c.took.short);
+      fits = omega (arith, ap bytes_of s, c.fits);
+      last = λ end. c.last (omega (arith, end, ap length s, length-take c.n (raw_lines mid), c.took.within));
       room = ap (λ (xs : List (List ℕ)). (script_run d empty_db 1 xs).full) s ∙ c.took.room;
       text = subst (λ (xs : List (List ℕ)). Printed before after (text_of (script_run d empty_db 1 xs).events)) (sym s) (same_Some _ _ (c.took.text before refl));
     }

@@ -165,7 +165,7 @@ reaches_end n old new all held held' left left' r e = record {
 }
 
 -- taking failed
-pub reaches_cut : (n : ℕ) (old all held : List ℕ) (left left' : Option (List ℕ)) (r : Reaches n old all held left) → CutLine left' r.rest → CutText all left'
+pub reaches_cut : (n : ℕ) (old all held : List ℕ) (left left' : Option (List ℕ)) (r : Reaches n old all held left) → CutLine 1000008 left' r.rest → CutText all left'
 reaches_cut n old all held left left' r cut = record {
   done = r.done;
   rest = r.rest;

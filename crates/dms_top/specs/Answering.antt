@@ -1,5 +1,5 @@
 -- What `try` prints.
-use Rattle.std.specs.Prelude.{◌≡◌, ◌≤◌, ℕ, List, [], ◌++◌, Some, take, length, false}
+use Rattle.std.specs.Prelude.{◌≡◌, ◌≤◌, ◌+◌, ℕ, List, [], ◌++◌, Some, take, length, false}
 use Rattle.std.specs.declared.option.Option.{Option}
 use Rattle.std.specs.declared.result.Result.{Result}
 use Rattle.std.specs.declared.result.Result.TheVariants.{Ok, Err}
@@ -50,7 +50,7 @@ Passes Bytes d lines before after = PassesBytes d empty_db 1 lines (Some before)
 Passes Held d lines before after = PassesHeld d empty_db 1 lines (Some before) (Some after)
 
 -- taking from the input failed: so many whole lines of it were taken, and what those among them answer that are lines of
--- the script, which keep the limits, was printed; a part of the next line was taken too, without its line feed, and the rest of the input is left
+-- the script, which keep the limits with that part, was printed; a part of the next line was taken too, without its line feed, and the rest of the input is left
 pub record CutTry (d : Described) (input : List ℕ) (left : Option (List ℕ)) (before after : List ℕ) : Type 0 where
   pub n : ℕ
   pub within : n ≤ length (raw_lines input)
@@ -61,5 +61,7 @@ pub record CutTry (d : Described) (input : List ℕ) (left : Option (List ℕ)) 
   pub unended : IsUnended part
   pub few : length (script_part (take n (raw_lines input))) ≤ 1000000
   pub short : bytes_of (script_part (take n (raw_lines input))) ≤ 2147483648
+  pub fits : bytes_of (script_part (take n (raw_lines input))) + length part ≤ 2147483648
+  pub last : length (script_part (take n (raw_lines input))) ≡ 1000000 → length part ≡ 0
   pub room : (script_run d empty_db 1 (script_part (take n (raw_lines input)))).full ≡ false
   pub text : Printed before after (text_of (script_run d empty_db 1 (script_part (take n (raw_lines input)))).events)

@@ -61,4 +61,4 @@ pub record CutText (all : List ℕ) (left : Option (List ℕ)) : Type 0 where
   pub rest : List ℕ
   pub leaves : Leaves done all rest
   pub none : script_part done ≡ []
-  pub cut : CutLine left rest
+  pub cut : CutLine 1000008 left rest

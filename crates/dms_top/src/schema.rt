@@ -40,7 +40,7 @@ fn schema_line<I: Source>(
 ) -> Result<bool, TextFault>
     ensures line { IfOk result (λ more. (all : List ℕ) → Remains feed.old (I.left source.old) all → Took more text.old text.new all feed.new (I.left source.new)) }
     ensures long { IsErrOf result TextFault.Long → (all : List ℕ) → Remains feed.old (I.left source.old) all → IsLong text.old all }
-    ensures failed { IsErrOf result TextFault.Input → (all : List ℕ) → Remains feed.old (I.left source.old) all → CutLine (I.left source.new) all }
+    ensures failed { IsErrOf result TextFault.Input → (all : List ℕ) → Remains feed.old (I.left source.old) all → CutLine 1000008 (I.left source.new) all }
     ensures same { I.same_source source.old source.new }
     ensures later { I.faults source.old ≤ I.faults source.new }
     ensures input { IsErrOf result TextFault.Input → Rose (I.faults source.old) (I.faults source.new) }

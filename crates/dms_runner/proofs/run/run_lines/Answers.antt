@@ -64,7 +64,7 @@ pub returns-in-Err-clause-failed : goal.returns-in-Err-clause-failed
 returns-in-Err-clause-failed g c = λ e db first all stands small remains.
     let r = subst (λ (d : Description). Runs (described d) (begun db first) c.loop-line.line c.loop-line.room all (view (g.St.Store.db c.loop-line.engine.store) (g.St.Store.mark c.loop-line.engine.store) (g.St.Store.next c.loop-line.engine.store) c.loop-line.engine.programs.items c.loop-line.engine.pending c.loop-line.engine.since) c.loop-line.held.items c.loop-line.feed (g.I.Source.left c.loop-line.source) (told_by (IsTrue g.St.Store.tells_moments) (g.St.Store.said c.args.engine.now.store) (g.St.Store.points c.args.engine.now.store) (g.St.Store.sure c.args.engine.now.store) (g.St.Store.next c.args.engine.now.store) (g.St.Store.clock c.args.engine.now.store)) (told_by (IsTrue g.St.Store.tells_moments) (g.St.Store.said c.loop-line.engine.store) (g.St.Store.points c.loop-line.engine.store) (g.St.Store.sure c.loop-line.engine.store) (g.St.Store.next c.loop-line.engine.store) (g.St.Store.clock c.loop-line.engine.store))) (sym c.loop-line.invariant.description) (c.loop-line.invariant.runs db first all stands small remains) in
     let b = c.in-Err.ensures.failed (fault_as _ _ c.in-Err.fault _ refl refl e) in
-    subst (λ (d : Description). CutInput (described d) db first all (g.I.Source.left c.one_line.new.source) (g.St.Store.said c.args.engine.now.store) (g.St.Store.said c.one_line.new.engine.store)) c.loop-line.invariant.description (runs_cut _ db first _ _ all _ _ _ _ _ _ _ _ r c.loop-line.invariant.few (prints_none _ _ b.0) (b.1 r.rest r.remains))
+    subst (λ (d : Description). CutInput (described d) db first all (g.I.Source.left c.one_line.new.source) (g.St.Store.said c.args.engine.now.store) (g.St.Store.said c.one_line.new.engine.store)) c.loop-line.invariant.description (runs_cut _ db first _ _ _ all _ _ _ _ _ _ _ _ r c.loop-line.invariant.few (omega arith) (λ end. absurd (omega (arith, end, c.loop-line-test.true))) (prints_none _ _ b.0) (b.1 r.rest r.remains))
 
 pub returns-in-Ok-false-clause-answers : goal.returns-in-Ok-false-clause-answers
 returns-in-Ok-false-clause-answers g c = then_on c.end_run.result _ _ (λ ran. λ db first all stands small remains.
@@ -170,7 +170,7 @@ returns-in-Err-after_last-clause-lines g c = λ e db first all stands small rema
 pub returns-in-Err-after_last-clause-failed : goal.returns-in-Err-after_last-clause-failed
 returns-in-Err-after_last-clause-failed g c = λ e db first all stands small remains.
     let r = c.loop-line.invariant.runs db first all stands small remains in
-    runs_cut _ db first _ _ all _ _ _ _ _ _ _ _ r c.loop-line.invariant.few (prints_none _ _ refl) (c.in-Err-after_last.ensures.failed e r.rest r.remains)
+    runs_cut _ db first 0 _ _ all _ _ _ _ _ _ _ _ r c.loop-line.invariant.few (omega arith) (λ end. refl) (prints_none _ _ refl) (c.in-Err-after_last.ensures.failed e r.rest r.remains)
 
 pub returns-in-Err-after_last-clause-bytes : goal.returns-in-Err-after_last-clause-bytes
 returns-in-Err-after_last-clause-bytes g c = λ e. absurd (c.in-Err-after_last.ensures.limits.0 e)
