@@ -12,13 +12,6 @@ prints_none a b same = λ t is. same ∙ is ∙ ap (λ (x : List ℕ). Some x) (
 pub prints_on : (a b c : Option (List ℕ)) (x y : List ℕ) → Prints a b x → Prints b c y → Prints a c (x ++ y)
 prints_on a b c x y first then_ = λ t is. then_ (t ++ x) (first t is) ∙ ap (λ (z : List ℕ). Some z) (append_assoc t x y)
 
--- nothing more was said
-pub prints_same : (a b c : Option (List ℕ)) (x : List ℕ) → Prints a b x → c ≡ b → Prints a c x
-prints_same a b c x first same = λ t is. same ∙ first t is
-
-pub prints_before : (a b c : Option (List ℕ)) (x : List ℕ) → b ≡ a → Prints b c x → Prints a c x
-prints_before a b c x same then_ = λ t is. then_ t (same ∙ is)
-
 -- no text at all is a front
 pub front_none : (a b : Option (List ℕ)) (x : List ℕ) → b ≡ a → PrintsFront a b x
 front_none a b x same = λ t is. (0, same ∙ is ∙ ap (λ (z : List ℕ). Some z) (sym (append-nil t)))
@@ -26,9 +19,6 @@ front_none a b x same = λ t is. (0, same ∙ is ∙ ap (λ (z : List ℕ). Some
 -- the whole text is a front
 pub front_all : (a b : Option (List ℕ)) (x : List ℕ) → Prints a b x → PrintsFront a b x
 front_all a b x all = λ t is. (length x, all t is ∙ ap (λ (z : List ℕ). Some (t ++ z)) (sym (take_all (length x) x (omega arith))))
-
-pub front_before : (a b c : Option (List ℕ)) (x : List ℕ) → b ≡ a → PrintsFront b c x → PrintsFront a c x
-front_before a b c x same then_ = λ t is. then_ t (same ∙ is)
 
 capped : (b : Bool) (k : ℕ) (x : List ℕ) → b ≡ nat_le (length x) k → (n : ℕ) × (take k x ≡ take n x) × (n ≤ length x)
 capped true k x e =

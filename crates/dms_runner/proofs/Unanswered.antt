@@ -4,7 +4,9 @@ use Rattle.std.proofs.lemmas.List.{take_more, drop_more, take_all, take-append-d
 use Rattle.dms_script.specs.Replies.{unanswered_text}
 use Rattle.dms_runner.specs.declared.held.Held.{Held}
 use Rattle.dms_runner.specs.Answers.{unanswered}
-use Rattle.dms_runner.specs.Events.{Event, says}
+use Rattle.dms_runner.specs.Events.{Event, says, text_of}
+use Rattle.dms_runner.proofs.Happening.{text_on}
+use Rattle.std.proofs.lemmas.List.{append-nil}
 
 abbrev pub line_text : Held → List ℕ
 line_text h = unanswered_text h.line h.program
@@ -27,3 +29,14 @@ unanswered_split held i = ap unanswered (sym (take-append-drop i held)) ∙ unan
 
 pub unanswered_all : (held : List Held) (i : ℕ) → length held ≤ i → unanswered (take i held) ≡ unanswered held
 unanswered_all held i over = ap unanswered (take_all i held over)
+
+-- what is said of them
+
+pub text_more : (held : List Held) (i : ℕ) (h : Held) → i < length held → get_or held i h ≡ h → text_of (unanswered (take (i + 1) held)) ≡ text_of (unanswered (take i held)) ++ line_text h
+text_more held i h within is = ap text_of (unanswered_more held i h within is) ∙ text_on (unanswered (take i held)) (says (line_text h) ∷ []) ∙ ap (λ (t : List ℕ). text_of (unanswered (take i held)) ++ t) (append-nil (line_text h))
+
+pub text_rest : (held : List Held) (i : ℕ) (h : Held) → i < length held → get_or held i h ≡ h → text_of (unanswered held) ≡ text_of (unanswered (take i held)) ++ (line_text h ++ text_of (unanswered (drop (i + 1) held)))
+text_rest held i h within is = ap text_of (unanswered_rest held i h within is) ∙ text_on (unanswered (take i held)) (says (line_text h) ∷ unanswered (drop (i + 1) held))
+
+pub text_split : (held : List Held) (i : ℕ) → text_of (unanswered held) ≡ text_of (unanswered (take i held)) ++ text_of (unanswered (drop i held))
+text_split held i = ap text_of (unanswered_split held i) ∙ text_on (unanswered (take i held)) (unanswered (drop i held))

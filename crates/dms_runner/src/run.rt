@@ -10,7 +10,7 @@ ghost use Rattle.dms_model.specs.Db.{Db};
 ghost use Rattle.dms_model.specs.Points.{Prints, PrintsFront};
 ghost use Rattle.dms_model.specs.Session.{Session, fresh_session, ended};
 ghost use Rattle.dms_storeverbs.specs.View.{view, Stands};
-ghost use Rattle.dms_runner.specs.Events.{told_by, Stopped, Ran, RanPart};
+ghost use Rattle.dms_runner.specs.Events.{text_of, told_by, Stopped, Ran, RanPart};
 ghost use Rattle.dms_runner.specs.Answers.{Going, Roomy, line_step, lines_run, unanswered, ending, script_run, script_events, answers_text};
 ghost use Rattle.dms_runner.specs.Running.{TookLine, Answered, PassesLines, PassesBytes, PassesHeld, CutInput};
 
@@ -57,6 +57,8 @@ fn say_held<St: Store>(
 ) -> Result<(), BlockFault>
     requires sound { St.sound engine.old.store }
     requires desc { St.desc engine.old.store ≡ described engine.old.desc }
+    ensures text { OnOk result (Prints (St.said engine.old.store) (St.said engine.new.store) (text_of (unanswered held.now))) }
+    ensures front { PrintsFront (St.said engine.old.store) (St.said engine.new.store) (text_of (unanswered held.now)) }
     ensures ran { OnOk result (St.next engine.old.store + 1 < 2 ^ 64 → Ran (told_by (IsTrue St.tells_moments) (St.said engine.old.store) (St.points engine.old.store) (St.sure engine.old.store) (St.next engine.old.store) (St.clock engine.old.store)) (told_by (IsTrue St.tells_moments) (St.said engine.new.store) (St.points engine.new.store) (St.sure engine.new.store) (St.next engine.new.store) (St.clock engine.new.store)) (unanswered held.now)) }
     ensures part { St.next engine.old.store + 1 < 2 ^ 64 → RanPart (told_by (IsTrue St.tells_moments) (St.said engine.old.store) (St.points engine.old.store) (St.sure engine.old.store) (St.next engine.old.store) (St.clock engine.old.store)) (told_by (IsTrue St.tells_moments) (St.said engine.new.store) (St.points engine.new.store) (St.sure engine.new.store) (St.next engine.new.store) (St.clock engine.new.store)) (unanswered held.now) }
     ensures next { St.next engine.new.store ≡ St.next engine.old.store }
@@ -83,6 +85,8 @@ fn say_held<St: Store>(
 fn end_run<St: Store>(alloc: Global, engine: &mut Engine<St>, held: &[Held]) -> Result<(), RunFault>
     requires sound { St.sound engine.old.store }
     requires desc { St.desc engine.old.store ≡ described engine.old.desc }
+    ensures text { OnOk result (Prints (St.said engine.old.store) (St.said engine.new.store) (text_of (unanswered held.now))) }
+    ensures front { PrintsFront (St.said engine.old.store) (St.said engine.new.store) (text_of (unanswered held.now)) }
     ensures ran { OnOk result (St.next engine.old.store + 1 < 2 ^ 64 → Ran (told_by (IsTrue St.tells_moments) (St.said engine.old.store) (St.points engine.old.store) (St.sure engine.old.store) (St.next engine.old.store) (St.clock engine.old.store)) (told_by (IsTrue St.tells_moments) (St.said engine.new.store) (St.points engine.new.store) (St.sure engine.new.store) (St.next engine.new.store) (St.clock engine.new.store)) (ending held.now)) }
     ensures part { St.next engine.old.store + 1 < 2 ^ 64 → RanPart (told_by (IsTrue St.tells_moments) (St.said engine.old.store) (St.points engine.old.store) (St.sure engine.old.store) (St.next engine.old.store) (St.clock engine.old.store)) (told_by (IsTrue St.tells_moments) (St.said engine.new.store) (St.points engine.new.store) (St.sure engine.new.store) (St.next engine.new.store) (St.clock engine.new.store)) (ending held.now) }
     ensures ended { OnOk result ((s : Session) → Stands (view (St.db engine.old.store) (St.mark engine.old.store) (St.next engine.old.store) engine.old.programs.items engine.old.pending engine.old.since) s → Stands (view (St.db engine.new.store) (St.mark engine.new.store) (St.next engine.new.store) engine.new.programs.items engine.new.pending engine.new.since) (ended s)) }

@@ -1,6 +1,7 @@
 ghost use Rattle.std.specs.Prelude.{◌≡◌, ◌≤◌, ◌<◌, ◌+◌, ◌^◌, ◌++◌, [], ◌∷◌, ℕ, List, Bool, true, false, not, ◌&&◌, Some, None, IfOk, OnOk, IsErrOf, IsTrue, length};
 ghost use Rattle.dms_base.specs.Causes.{Rose};
 ghost use Rattle.dms_desc.specs.Shape.{described};
+ghost use Rattle.dms_model.specs.Points.{Prints, PrintsFront};
 ghost use Rattle.dms_model.specs.Session.{Session, step, is_waits};
 ghost use Rattle.dms_storeverbs.specs.View.{View, view, Stands, Room};
 ghost use Rattle.dms_runner.specs.Events.{told_by, says, Ran, RanPart};
@@ -59,6 +60,8 @@ pub fn say_answer<St: Store>(
 ) -> Result<(), BlockFault>
     requires sound { St.sound engine.old.store }
     requires desc { St.desc engine.old.store ≡ described engine.old.desc }
+    ensures text { OnOk result (Prints (St.said engine.old.store) (St.said engine.new.store) (answer_text line program.now answer.now.reply answer.now.sync)) }
+    ensures front { PrintsFront (St.said engine.old.store) (St.said engine.new.store) (answer_text line program.now answer.now.reply answer.now.sync) }
     ensures ran { OnOk result (St.next engine.old.store + 1 < 2 ^ 64 → Ran (told_by (IsTrue St.tells_moments) (St.said engine.old.store) (St.points engine.old.store) (St.sure engine.old.store) (St.next engine.old.store) (St.clock engine.old.store)) (told_by (IsTrue St.tells_moments) (St.said engine.new.store) (St.points engine.new.store) (St.sure engine.new.store) (St.next engine.new.store) (St.clock engine.new.store)) (says (answer_text line program.now answer.now.reply answer.now.sync) ∷ [])) }
     ensures part { St.next engine.old.store + 1 < 2 ^ 64 → RanPart (told_by (IsTrue St.tells_moments) (St.said engine.old.store) (St.points engine.old.store) (St.sure engine.old.store) (St.next engine.old.store) (St.clock engine.old.store)) (told_by (IsTrue St.tells_moments) (St.said engine.new.store) (St.points engine.new.store) (St.sure engine.new.store) (St.next engine.new.store) (St.clock engine.new.store)) (says (answer_text line program.now answer.now.reply answer.now.sync) ∷ []) }
     ensures stands { OnOk result ((s : Session) → Stands (view (St.db engine.old.store) (St.mark engine.old.store) (St.next engine.old.store) engine.old.programs.items engine.old.pending engine.old.since) s → Stands (view (St.db engine.new.store) (St.mark engine.new.store) (St.next engine.new.store) engine.new.programs.items engine.new.pending engine.new.since) s) }
@@ -85,6 +88,8 @@ fn say_tried<St: Store>(
 ) -> Result<(), BlockFault>
     requires sound { St.sound engine.old.store }
     requires desc { St.desc engine.old.store ≡ described engine.old.desc }
+    ensures text { OnOk result (Prints (St.said engine.old.store) (St.said engine.new.store) (said_of held.now answer.now.reply answer.now.sync)) }
+    ensures front { PrintsFront (St.said engine.old.store) (St.said engine.new.store) (said_of held.now answer.now.reply answer.now.sync) }
     ensures ran { OnOk result (St.next engine.old.store + 1 < 2 ^ 64 → Ran (told_by (IsTrue St.tells_moments) (St.said engine.old.store) (St.points engine.old.store) (St.sure engine.old.store) (St.next engine.old.store) (St.clock engine.old.store)) (told_by (IsTrue St.tells_moments) (St.said engine.new.store) (St.points engine.new.store) (St.sure engine.new.store) (St.next engine.new.store) (St.clock engine.new.store)) (says (said_of held.now answer.now.reply answer.now.sync) ∷ [])) }
     ensures part { St.next engine.old.store + 1 < 2 ^ 64 → RanPart (told_by (IsTrue St.tells_moments) (St.said engine.old.store) (St.points engine.old.store) (St.sure engine.old.store) (St.next engine.old.store) (St.clock engine.old.store)) (told_by (IsTrue St.tells_moments) (St.said engine.new.store) (St.points engine.new.store) (St.sure engine.new.store) (St.next engine.new.store) (St.clock engine.new.store)) (says (said_of held.now answer.now.reply answer.now.sync) ∷ []) }
     ensures stands { OnOk result ((s : Session) → Stands (view (St.db engine.old.store) (St.mark engine.old.store) (St.next engine.old.store) engine.old.programs.items engine.old.pending engine.old.since) s → Stands (view (St.db engine.new.store) (St.mark engine.new.store) (St.next engine.new.store) engine.new.programs.items engine.new.pending engine.new.since) s) }

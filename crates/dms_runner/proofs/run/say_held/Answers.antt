@@ -1,3 +1,8 @@
+use Rattle.std.proofs.Common.{ℕ, List, subst}
+use Rattle.dms_model.specs.Points.{Prints, PrintsFront}
+use Rattle.dms_runner.specs.Events.{text_of}
+use Rattle.dms_runner.proofs.Texts.{prints_none, prints_on, front_all, front_on, front_of_first}
+use Rattle.dms_runner.proofs.Unanswered.{text_more, text_rest, text_split}
 use Rattle.std.proofs.Common.{◌≡◌, ◌∙◌, ◌+◌, ◌<◌, ◌^◌, refl, sym, ap, arith}
 use Rattle.dms_desc.specs.Shape.{described}
 use Rattle.dms_runner.proofs.Happening.{ran_none, ran_says, ran_on, ran_as, part_says, part_all, part_on, part_of_first, part_as}
@@ -17,6 +22,7 @@ loop-line-init g c = record {
   damaged = omega arith;
   stands = λ s stands. stands;
   next = refl;
+  text = prints_none _ _ refl;
   ran = λ room. ran_none _;
 }
 
@@ -44,6 +50,8 @@ loop-line-preserved g c = record {
   damaged = omega (arith, c.loop-line.invariant.damaged, c.say.ensures.later.3);
   stands = λ s stands. c.in_ok-say.ensures.stands s (c.loop-line.invariant.stands s stands);
   next = c.say.ensures.next ∙ c.loop-line.invariant.next;
+  text = subst (λ (t : List ℕ). Prints (g.St.Store.said c.args.engine.now.store) (g.St.Store.said c.say.new.self.store) t) (sym (text_more c.args.held.now c.loop-line.line-index c.line-item.result c.loop-line-test.true (sym c.line-item.is)))
+      (prints_on _ _ _ _ _ c.loop-line.invariant.text (subst (λ (t : List ℕ). Prints (g.St.Store.said c.loop-line.engine.store) (g.St.Store.said c.say.new.self.store) t) (c.as_slice.ensures ∙ c.in_ok-text.ensures) c.in_ok-say.ensures.text));
   ran = λ room.
       let text : c.as_slice.result.now ≡ line_text c.line-item.result = c.as_slice.ensures ∙ c.in_ok-text.ensures in
       let room' : g.St.Store.next c.loop-line.engine.store + 1 < 2 ^ 64 = omega (arith, c.loop-line.invariant.next, room) in
@@ -57,3 +65,20 @@ returns-clause-ran g c = λ room. ran_as _ _ _ _ (unanswered_all c.args.held.now
 pub returns-clause-part : goal.returns-clause-part
 returns-clause-part g c = λ room.
     part_as _ _ _ _ (sym (unanswered_split c.args.held.now c.loop-line.line-index)) (part_of_first _ _ _ _ (part_all _ _ _ (c.loop-line.invariant.ran room)))
+
+pub returns-in_err-text-clause-front : goal.returns-in_err-text-clause-front
+returns-in_err-text-clause-front g c =
+    subst (λ (t : List ℕ). PrintsFront (g.St.Store.said c.args.engine.now.store) (g.St.Store.said c.loop-line.engine.store) t) (sym (text_split c.args.held.now c.loop-line.line-index)) (front_of_first _ _ _ _ (front_all _ _ _ c.loop-line.invariant.text))
+
+pub returns-in_err-say-clause-front : goal.returns-in_err-say-clause-front
+returns-in_err-say-clause-front g c =
+    let text : c.as_slice.result.now ≡ line_text c.line-item.result = c.as_slice.ensures ∙ c.in_ok-text.ensures in
+    subst (λ (t : List ℕ). PrintsFront (g.St.Store.said c.args.engine.now.store) (g.St.Store.said c.say.new.self.store) t) (sym (text_rest c.args.held.now c.loop-line.line-index c.line-item.result c.loop-line-test.true (sym c.line-item.is)))
+    (front_on _ _ _ _ _ c.loop-line.invariant.text (front_of_first _ _ _ _ (subst (λ (t : List ℕ). PrintsFront (g.St.Store.said c.loop-line.engine.store) (g.St.Store.said c.say.new.self.store) t) text c.say.ensures.part)))
+
+pub returns-clause-text : goal.returns-clause-text
+returns-clause-text g c = subst (λ (t : List ℕ). Prints (g.St.Store.said c.args.engine.now.store) (g.St.Store.said c.loop-line.engine.store) t) (ap text_of (unanswered_all c.args.held.now c.loop-line.line-index (omega (arith, c.loop-line-test.false)))) c.loop-line.invariant.text
+
+pub returns-clause-front : goal.returns-clause-front
+returns-clause-front g c =
+    subst (λ (t : List ℕ). PrintsFront (g.St.Store.said c.args.engine.now.store) (g.St.Store.said c.loop-line.engine.store) t) (sym (text_split c.args.held.now c.loop-line.line-index)) (front_of_first _ _ _ _ (front_all _ _ _ c.loop-line.invariant.text))
