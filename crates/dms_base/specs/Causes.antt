@@ -1,5 +1,5 @@
 -- Why a call of the outside may fail.
-use Rattle.std.specs.Prelude.{ℕ, ◌+◌, ◌-◌, ◌^◌, ◌≤◌, min, OnErr}
+use Rattle.std.specs.Prelude.{ℕ, ◌+◌, ◌-◌, ◌^◌, ◌≤◌, min, ◌≡◌, OnErr, OnOk}
 use Rattle.std.specs.declared.result.Result.{Result}
 
 -- a count rose, or stands at the end of its type, where it counts as one that rose
@@ -10,3 +10,6 @@ Rose before now = min (before + 1) (2 ^ 64 - 1) ≤ now
 pub record HasCause {T E : Type 0} (before now : ℕ) (result : Result T E) : Type 0 where
   pub later : before ≤ now
   pub failed : OnErr result (Rose before now)
+  -- no call failed before the one that answered so, and none after it
+  pub once : OnErr result (now ≤ before + 1)
+  pub clean : OnOk result (now ≡ before)

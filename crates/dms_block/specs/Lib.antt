@@ -1,2 +1,2 @@
-pub mod Moments
-pub mod MomentLaws
+pub mod Faults
+pub mod Texts

@@ -3,8 +3,8 @@ use Rattle.std.proofs.Common.{ℕ, zero, suc, ◌+◌, ◌<◌, ◌≡◌, ◌�
 use Rattle.std.proofs.lemmas.List.{ext_get_or, drop_all}
 use Rattle.std.proofs.lemmas.Bool.{cases_eq}
 use Rattle.std.specs.Int.{w32, to_be_bytes}
-use Rattle.dms_block.specs.Moments.{Clock, Now, Steps}
-use Rattle.dms_block.specs.MomentLaws.{steps_on, runs_none, runs_on, runs_weaken}
+use Rattle.dms_moments.specs.Moments.{Clock, Now, Steps}
+use Rattle.dms_moments.specs.MomentLaws.{steps_on, runs_none, runs_on, runs_weaken}
 use Rattle.dms_site.specs.Files.{Files, Left, Torn, Cut, OnDisk, Only, Prints, Same, with_file, overlaid, padded}
 use Rattle.dms_site.specs.Laws.{with_file_here}
 use Rattle.dms_descfile.specs.DescriptionFile.{description_file, IsUnsealed}

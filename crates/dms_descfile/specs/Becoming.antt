@@ -1,7 +1,7 @@
 -- What a stop leaves of the description file while one is written.
 use Rattle.std.specs.Prelude.{◌≡◌, ◌≢◌, ◌⊎◌, ℕ, List}
 use Rattle.dms_site.specs.Files.{Files, Left}
-use Rattle.dms_block.specs.Moments.{Clock, Now, Runs}
+use Rattle.dms_moments.specs.Moments.{Clock, Now, Runs}
 use Rattle.dms_descfile.specs.DescriptionFile.{IsUnsealed}
 
 -- the file became no sealed description

@@ -1,6 +1,6 @@
 ghost use Rattle.std.specs.Prelude.{◌≡◌, ◌+◌, ◌≤◌, ◌<◌, ◌^◌, length, option_map, IfOk, IfSome, IsErrOf, IsTrue};
 ghost use Rattle.dms_base.specs.Causes.{Rose};
-ghost use Rattle.dms_block.specs.Moments.{Steps};
+ghost use Rattle.dms_moments.specs.Moments.{Steps};
 ghost use Rattle.dms_site.specs.Files.{Same};
 ghost use Rattle.dms_descfile.specs.DescriptionFile.{Holds};
 ghost use Rattle.dms_descfile.specs.Contents.{Contents, Reads};

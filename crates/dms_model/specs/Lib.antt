@@ -1,7 +1,9 @@
 pub mod Db
+pub mod DescribedCode
 pub mod MemberLaws
 pub mod Members
 pub mod Points
+pub mod Seen
 pub mod Session
 pub mod Sorted
 pub mod Stores

@@ -1,7 +1,7 @@
 -- What a stop leaves of a store: its quiet points, the next number, and the text.
 use Rattle.std.specs.Prelude.{ℕ, ◌+◌, ◌≤◌, ◌≡◌, ◌++◌, List, length, take, Some}
 use Rattle.std.specs.declared.option.Option.{Option}
-use Rattle.dms_block.specs.Moments.{Clock, Runs}
+use Rattle.dms_moments.specs.Moments.{Clock, Runs}
 use Rattle.dms_model.specs.Db.{Db}
 
 -- a quiet point that stands on a disk: its number, its blocks by file, the bytes of its description, and the database that
@@ -57,11 +57,3 @@ told p = (p.number, p.db)
 
 abbrev pub known : Quiet → ℕ × Option Db
 known q = (q.0, Some q.1)
-
--- told text grew by these bytes
-abbrev pub Prints : Option (List ℕ) → Option (List ℕ) → List ℕ → Type 0
-Prints old new bytes = (t : List ℕ) → old ≡ Some t → new ≡ Some (t ++ bytes)
-
--- told text grew by a front of these bytes
-abbrev pub PrintsFront : Option (List ℕ) → Option (List ℕ) → List ℕ → Type 0
-PrintsFront old new bytes = (t : List ℕ) → old ≡ Some t → (n : ℕ) × (new ≡ Some (t ++ take n bytes))

@@ -2,14 +2,12 @@
 use Rattle.std.specs.Prelude.{◌≡◌, ℕ, ◌+◌, List, [], ◌∷◌, Bool, true, false, not, ◌&&◌, ◌==◌, Some, None, ⊤, if◌then◌else◌, nat_le, nat_lt, length, IfOk, slice_get}
 use Rattle.std.specs.declared.option.Option.{Option}
 use Rattle.std.specs.declared.result.Result.{Result}
-use Rattle.std.specs.declared.result.Result.TheVariants.{Ok, Err}
 use Rattle.std.specs.FinMap.{insert, get, entries}
 use Rattle.std.specs.Ordering.{is_eq}
 use Rattle.dms_base.specs.declared.value.Value.{Value}
 use Rattle.dms_base.specs.declared.kind.ItemKind.{ItemKind}
 use Rattle.dms_base.specs.declared.kind.ItemKind.TheVariants.{Alpha, Number, Bool as Truth, Field, Link}
 use Rattle.dms_block.specs.declared.block_fault.BlockFault.{BlockFault}
-use Rattle.dms_block.specs.declared.block_fault.BlockFault.TheVariants.{Disk, Memory, Full as NoRoom, Damaged, Say}
 use Rattle.dms_desc.specs.declared.structure.Item.{Item}
 use Rattle.dms_desc.specs.declared.record.Record.{Record}
 use Rattle.dms_desc.specs.Shape.{Shape, Described}
@@ -18,15 +16,6 @@ use Rattle.dms_model.specs.declared.put.Put.{Put}
 use Rattle.dms_model.specs.declared.put.Put.TheVariants.{Stored, Duplicate, Full}
 use Rattle.dms_model.specs.Db.{Db, Entry, Place, records_of, fresh}
 use Rattle.dms_model.specs.Members.{key_of, key_cmp, takes, belongs, structure_of, items_of}
-
--- it holds after each answer but a fault of the outside
-abbrev pub Unbroken : {T : Type 0} → Result T BlockFault → Type 0 → Type 0
-Unbroken (Ok x) P = P
-Unbroken (Err Memory) P = P
-Unbroken (Err Disk) P = ⊤
-Unbroken (Err (NoRoom f)) P = ⊤
-Unbroken (Err (Damaged f b)) P = ⊤
-Unbroken (Err Say) P = ⊤
 
 -- an answer is this one of the database, where that is told
 abbrev pub TellsOf : {T : Type 0} → Option Db → (Db → T) → T → Type 0

@@ -1,8 +1,8 @@
 -- A site of which nothing but the text changes.
 use Rattle.std.proofs.Common.{◌≡◌, ℕ, List, [], ◌++◌, refl, sym, ap, ◌∙◌, append_assoc, take}
 use Rattle.std.proofs.lemmas.List.{append-nil}
-use Rattle.dms_block.specs.Moments.{Clock, Steps}
-use Rattle.dms_block.specs.MomentLaws.{steps_on, steps_weaken, runs_none}
+use Rattle.dms_moments.specs.Moments.{Clock, Steps}
+use Rattle.dms_moments.specs.MomentLaws.{steps_on, steps_weaken, runs_none}
 use Rattle.dms_site.specs.Files.{Left, Prints}
 
 -- the files stay, and more was printed, or nothing

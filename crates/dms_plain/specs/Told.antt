@@ -1,7 +1,7 @@
 -- What a plain store tells of its text and of its quiet points.
 use Rattle.std.specs.Prelude.{ℕ, Bool, true, false, List, [], Some, None}
 use Rattle.std.specs.declared.option.Option.{Option}
-use Rattle.dms_block.specs.Moments.{Clock}
+use Rattle.dms_moments.specs.Moments.{Clock}
 use Rattle.dms_model.specs.Db.{Db}
 use Rattle.dms_model.specs.Points.{Point, Stop}
 

@@ -1,8 +1,8 @@
-ghost use Rattle.std.specs.Prelude.{◌≡◌, ⊤, IfErr, IfOk, IsTrue, Some, [], false, refl};
+ghost use Rattle.std.specs.Prelude.{◌≡◌, ⊤, ⊥, IfErr, IfOk, IsTrue, Some, [], refl};
 ghost use Rattle.std.proofs.Common.{◌∙◌};
-ghost use Rattle.std.proofs.lemmas.Bool.{false≢true};
 ghost use Rattle.dms_desc.specs.Shape.{described};
 ghost use Rattle.dms_model.specs.Db.{empty_db};
+ghost use Rattle.dms_model.specs.Seen.{Starts};
 ghost use Rattle.dms_plain.specs.Rows.{db_of, records_in, undone, IsInOrder};
 ghost use Rattle.dms_plain.specs.Speaking.{OnlySpeaks, only_none, only_on};
 ghost use Rattle.dms_plain.specs.Told.{told, no_point, no_clock};
@@ -32,18 +32,10 @@ impl<S: Site> PlainStore<S> {
     /// A database without a record, under a copy of the description, whose next quiet point has the number 1. Where memory
     /// is refused the site comes back.
     pub fn new(alloc: Global, desc: &Description, site: S) -> Result<PlainStore<S>, (Memory, S)>
-        ensures desc { IfOk result (λ s. ⟦<PlainStore<S> as Store>⟧.desc s ≡ described desc.now) }
-        ensures db { IfOk result (λ s. ⟦<PlainStore<S> as Store>⟧.db s ≡ Some empty_db) }
-        ensures mark { IfOk result (λ s. ⟦<PlainStore<S> as Store>⟧.mark s ≡ Some empty_db) }
-        ensures next { IfOk result (λ s. ⟦<PlainStore<S> as Store>⟧.next s ≡ 1) }
-        ensures sound { IfOk result (λ s. ⟦<PlainStore<S> as Store>⟧.sound s) }
-        ensures said { IfOk result (λ s. ⟦<PlainStore<S> as Store>⟧.said s ≡ told S.tells_said (S.said site)) }
-        ensures disk_faults { IfOk result (λ s. ⟦<PlainStore<S> as Store>⟧.disk_faults s ≡ S.disk_faults site) }
-        ensures say_faults { IfOk result (λ s. ⟦<PlainStore<S> as Store>⟧.say_faults s ≡ S.say_faults site) }
-        ensures fulls { IfOk result (λ s. ⟦<PlainStore<S> as Store>⟧.fulls s ≡ 0) }
-        ensures damages { IfOk result (λ s. ⟦<PlainStore<S> as Store>⟧.damages s ≡ 0) }
-        ensures points { IfOk result (λ s. ⟦<PlainStore<S> as Store>⟧.points s ≡ []) }
-        ensures sure { IfOk result (λ s. ⟦<PlainStore<S> as Store>⟧.sure s ≡ 0) }
+        ensures starts { IfOk result (λ s. Starts (described desc.now) 1 empty_db (⟦<PlainStore<S> as Store>⟧.seen s)) }
+        ensures said { IfOk result (λ s. (⟦<PlainStore<S> as Store>⟧.seen s).said ≡ told S.tells_said (S.said site)) }
+        ensures disk_faults { IfOk result (λ s. (⟦<PlainStore<S> as Store>⟧.seen s).disk_faults ≡ S.disk_faults site) }
+        ensures say_faults { IfOk result (λ s. (⟦<PlainStore<S> as Store>⟧.seen s).say_faults ≡ S.say_faults site) }
         ensures site { IfOk result (λ s. s.site ≡ site) }
         ensures site_back { IfErr result (λ e. e.1 ≡ site) }
     {
@@ -68,43 +60,27 @@ impl<S: Site> PlainStore<S> {
 }
 
 impl<S: Site> Store for PlainStore<S> {
-    ghost tells_moments = { false };
-
-    ghost sound = { λ _. ⊤ };
+    ghost seen = { λ s. record {
+        tells = ⊥;
+        sound = ⊤;
+        desc = described s.desc;
+        db = Some (db_of (records_in s.rows.items));
+        mark = Some (db_of (undone s.undo.items (records_in s.rows.items)));
+        next = s.next;
+        said = told S.tells_said (S.said s.site);
+        points = [];
+        sure = 0;
+        here = no_point s.next (db_of (records_in s.rows.items));
+        clock = no_clock;
+        disk_faults = S.disk_faults s.site;
+        say_faults = S.say_faults s.site;
+        fulls = 0;
+        damages = 0;
+    } };
 
     ghost same_store = { λ a b. S.same_site a.site b.site × (S.disk_faults b.site ≡ S.disk_faults a.site) × (IsTrue S.tells → S.files b.site ≡ S.files a.site) × OnlySpeaks (S.clock a.site) (S.clock b.site) };
 
-    ghost desc = { λ s. described s.desc };
-
-    ghost db = { λ s. Some (db_of (records_in s.rows.items)) };
-
-    ghost mark = { λ s. Some (db_of (undone s.undo.items (records_in s.rows.items))) };
-
-    ghost next = { λ s. s.next };
-
-    ghost said = { λ s. told S.tells_said (S.said s.site) };
-
-    ghost points = { λ _. [] };
-
-    ghost sure = { λ _. 0 };
-
-    ghost here = { λ s. no_point s.next (db_of (records_in s.rows.items)) };
-
-    ghost clock = { λ _. no_clock };
-
-    ghost disk_faults = { λ s. S.disk_faults s.site };
-
-    ghost say_faults = { λ s. S.say_faults s.site };
-
-    ghost fulls = { λ _. 0 };
-
-    ghost damages = { λ _. 0 };
-
-    ghost now_front = { λ s stop sound tells. absurd (false≢true tells) };
-
-    ghost here_is = { λ s sound tells. absurd (false≢true tells) };
-
-    ghost sure_within = { λ s sound tells. absurd (false≢true tells) };
+    ghost agrees = { λ s sound tells. absurd tells };
 
     ghost same_again = { λ s. (S.same_again s.site, refl, λ tells. refl, only_none (S.clock s.site)) };
 

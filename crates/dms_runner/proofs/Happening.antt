@@ -1,20 +1,26 @@
 -- Events, one behind another.
+use Rattle.std.specs.Prelude.{IsTrue, ◌<◌, ◌^◌}
+use Rattle.std.specs.declared.result.Result.{Result}
+use Rattle.std.specs.declared.result.Result.TheVariants.{Ok}
+use Rattle.dms_block.specs.declared.block_fault.BlockFault.{BlockFault}
+use Rattle.dms_model.specs.Seen.{Seen, IsMute, IsSilent, SaysPart, StaysSure}
 use Rattle.std.proofs.Common.{ℕ, ◌≡◌, ◌≤◌, ◌+◌, List, [], ◌∷◌, ◌++◌, length, take, map, Some, None, refl, sym, ◌∙◌, ap, subst, arith, append_assoc, length-append, Bool, true, false}
 use Rattle.std.specs.declared.option.Option.{Option}
 use Rattle.std.proofs.lemmas.List.{append-nil, map-append, length-map}
-use Rattle.dms_block.specs.Moments.{Runs}
-use Rattle.dms_block.specs.MomentLaws.{runs_none, runs_on, runs_weaken}
+use Rattle.dms_moments.specs.Moments.{Runs}
+use Rattle.dms_moments.specs.MomentLaws.{runs_none, runs_on, runs_weaken}
 use Rattle.dms_model.specs.declared.reply.Answer.{Answer}
 use Rattle.dms_model.specs.Db.{Db}
-use Rattle.dms_model.specs.Points.{Point, Quiet, Stop, Front, TextIs, TextGrows, Prints, PrintsFront, LeavesText, Leaves, Stays, told, known}
+use Rattle.dms_model.specs.Points.{Point, Quiet, Stop, Front, TextIs, TextGrows, LeavesText, Leaves, Stays, told, known}
+use Rattle.dms_block.specs.Texts.{Prints, PrintsFront}
 use Rattle.dms_desc.specs.Shape.{Described}
 use Rattle.dms_model.specs.declared.verb.Verb.{Verb}
 use Rattle.dms_model.specs.Session.{Session, Outcome, step}
 use Rattle.dms_storeverbs.specs.Laws.{Makes}
 use Rattle.dms_storeverbs.proofs.Quiet.{quiet_rule}
-use Rattle.dms_storeverbs.specs.View.{Grew, Left, Made}
+use Rattle.dms_storeverbs.specs.View.{View, Did, Grew, Left, Made}
 use Rattle.dms_storeverbs.proofs.Calls.{lower, stays}
-use Rattle.dms_runner.specs.Events.{Event, calls, says, goes_back, text_of, quiets_of, covered, sure_after, Told, Stops, Ran, RanPart}
+use Rattle.dms_runner.specs.Events.{Event, calls, says, goes_back, text_of, quiets_of, covered, sure_after, Stops, Ran, RanPart}
 use Rattle.dms_runner.proofs.Texts.{prints_none, prints_on, front_none, front_all, front_of_first, front_on}
 
 pub text_on : (x y : List Event) → text_of (x ++ y) ≡ text_of x ++ text_of y
@@ -61,16 +67,20 @@ length_grew {a} {b} {q} x = omega (arith, ap length x.is, length-append a x.more
 pub left_on : {a b : List Point} {q r : List Quiet} {low high m n : ℕ} {stop : Stop} → Grew a q b → low ≤ high → m + length q ≤ n → Left high b n r stop → Left low a m (q ++ r) stop
 left_on {q = q} grew under fell l = record { made = q ++ l.made; rest = l.rest; all = l.all; front_of = append_assoc q l.made l.rest ∙ ap (λ (x : List Quiet). q ++ x) l.front_of; grew = grew_on grew l.grew; front = lower under (omega (arith, fell, length-append q l.made)) l.front }
 
+-- what is told before is told behind
+told_on : {a b : Seen} {x : List Event} → Ran a b x → a.tells → b.tells
+told_on ran t = ran.tells t
+
 -- no events
-pub ran_none : (a : Told) → Ran a a []
+pub ran_none : (a : Seen) → Ran a a []
 ran_none a = record { text = prints_none a.said a.said refl; tells = λ t. t; next = omega arith; grew = λ t. grew_none a.points; sure = λ t. omega arith; moments = λ t. runs_none a.clock (Stops a []) }
 
 -- a stop within the first events
-pub stopped_first : (a : Told) (x y : List Event) (stop : Stop) → Stops a x stop → Stops a (x ++ y) stop
+pub stopped_first : (a : Seen) (x y : List Event) (stop : Stop) → Stops a x stop → Stops a (x ++ y) stop
 stopped_first a x y stop s = record { before = s.before; at = s.at; rest = s.rest ++ y; whole = sym (append_assoc s.before (s.at ∷ s.rest) y) ∙ ap (λ (l : List Event). l ++ y) s.whole; left = s.left; text = s.text }
 
 -- a stop within the events behind those that happened
-pub stopped_on : (a b : Told) (x y : List Event) (stop : Stop) → a.tells → Ran a b x → Stops b y stop → Stops a (x ++ y) stop
+pub stopped_on : (a b : Seen) (x y : List Event) (stop : Stop) → a.tells → Ran a b x → Stops b y stop → Stops a (x ++ y) stop
 stopped_on a b x y stop t ran s =
     let c = length a.points in
     let high : sure_after c a.sure (x ++ s.before) ≤ sure_after (length b.points) b.sure s.before =
@@ -87,48 +97,48 @@ stopped_on a b x y stop t ran s =
     }
 
 -- events behind events
-pub ran_on : (a b c : Told) (x y : List Event) → Ran a b x → Ran b c y → Ran a c (x ++ y)
+pub ran_on : (a b c : Seen) (x y : List Event) → Ran a b x → Ran b c y → Ran a c (x ++ y)
 ran_on a b c x y first next = record {
   text = subst (λ (t : List ℕ). Prints a.said c.said t) (sym (text_on x y)) (prints_on a.said b.said c.said (text_of x) (text_of y) first.text next.text);
   tells = λ t. next.tells (first.tells t);
   next = omega (arith, first.next, next.next, ap length (quiets_on x y), length-append (quiets_of x) (quiets_of y));
-  grew = λ t. subst (λ (q : List Quiet). Grew a.points q c.points) (sym (quiets_on x y)) (grew_on (first.grew t) (next.grew (first.tells t)));
-  sure = λ t. omega (arith, sure_on (length a.points) a.sure x y, ap (λ (n : ℕ). sure_after n (sure_after (length a.points) a.sure x) y) (length_grew (first.grew t)), sure_low (length b.points) (sure_after (length a.points) a.sure x) b.sure y (first.sure t), next.sure (first.tells t));
-  moments = λ t. runs_on (runs_weaken (first.moments t) (stopped_first a x y)) (next.moments (first.tells t)) (λ stop s. stopped_on a b x y stop t first s);
+  grew = λ t. subst (λ (q : List Quiet). Grew a.points q c.points) (sym (quiets_on x y)) (grew_on (first.grew t) (next.grew (told_on first t)));
+  sure = λ t. omega (arith, sure_on (length a.points) a.sure x y, ap (λ (n : ℕ). sure_after n (sure_after (length a.points) a.sure x) y) (length_grew (first.grew t)), sure_low (length b.points) (sure_after (length a.points) a.sure x) b.sure y (first.sure t), next.sure (told_on first t));
+  moments = λ t. runs_on (runs_weaken (first.moments t) (stopped_first a x y)) (next.moments (told_on first t)) (λ stop s. stopped_on a b x y stop t first s);
 }
 
 -- no event of them happened
-pub part_none : (a : Told) (x : List Event) → RanPart a a x
+pub part_none : (a : Seen) (x : List Event) → RanPart a a x
 part_none a x = record { text = front_none a.said a.said (text_of x) refl; moments = λ t. runs_none a.clock (Stops a x) }
 
 -- all of them happened
-pub part_all : (a b : Told) (x : List Event) → Ran a b x → RanPart a b x
+pub part_all : (a b : Seen) (x : List Event) → Ran a b x → RanPart a b x
 part_all a b x ran = record { text = front_all a.said b.said (text_of x) ran.text; moments = ran.moments }
 
 -- a front of the first events is a front of all
-pub part_of_first : (a b : Told) (x y : List Event) → RanPart a b x → RanPart a b (x ++ y)
+pub part_of_first : (a b : Seen) (x y : List Event) → RanPart a b x → RanPart a b (x ++ y)
 part_of_first a b x y part = record {
   text = subst (λ (t : List ℕ). PrintsFront a.said b.said t) (sym (text_on x y)) (front_of_first a.said b.said (text_of x) (text_of y) part.text);
   moments = λ t. runs_weaken (part.moments t) (stopped_first a x y);
 }
 
 -- events, and a front of those behind them
-pub part_on : (a b c : Told) (x y : List Event) → Ran a b x → RanPart b c y → RanPart a c (x ++ y)
+pub part_on : (a b c : Seen) (x y : List Event) → Ran a b x → RanPart b c y → RanPart a c (x ++ y)
 part_on a b c x y first next = record {
   text = subst (λ (t : List ℕ). PrintsFront a.said c.said t) (sym (text_on x y)) (front_on a.said b.said c.said (text_of x) (text_of y) first.text next.text);
-  moments = λ t. runs_on (runs_weaken (first.moments t) (stopped_first a x y)) (next.moments (first.tells t)) (λ stop s. stopped_on a b x y stop t first s);
+  moments = λ t. runs_on (runs_weaken (first.moments t) (stopped_first a x y)) (next.moments (told_on first t)) (λ stop s. stopped_on a b x y stop t first s);
 }
 
 -- the same events, told otherwise
-pub ran_as : (a b : Told) (x y : List Event) → x ≡ y → Ran a b x → Ran a b y
+pub ran_as : (a b : Seen) (x y : List Event) → x ≡ y → Ran a b x → Ran a b y
 ran_as a b x y is ran = subst (λ (l : List Event). Ran a b l) is ran
 
-pub part_as : (a b : Told) (x y : List Event) → x ≡ y → RanPart a b x → RanPart a b y
+pub part_as : (a b : Seen) (x y : List Event) → x ≡ y → RanPart a b x → RanPart a b y
 part_as a b x y is part = subst (λ (l : List Event). RanPart a b l) is part
 
 -- bytes
 
-stopped_says : (a : Told) (x : List ℕ) (stop : Stop) → Front a.sure a.points a.next stop × TextGrows a.said x stop → Stops a (says x ∷ []) stop
+stopped_says : (a : Seen) (x : List ℕ) (stop : Stop) → Front a.sure a.points a.next stop × TextGrows a.said x stop → Stops a (says x ∷ []) stop
 stopped_says a x stop p = record {
   before = [];
   at = says x;
@@ -138,24 +148,24 @@ stopped_says a x stop p = record {
   text = λ t is. let n = p.1 t is in (n.0, n.1 ∙ ap (λ (l : List ℕ). l ++ take n.0 x) (sym (append-nil t)));
 }
 
-pub ran_says : (a b : Told) (x y : List ℕ) → x ≡ y → (a.tells → b.tells) → Prints a.said b.said x → b.next ≡ a.next → (a.tells → Stays a.points a.sure b.points b.sure) → (a.tells → LeavesText a.clock b.clock a.sure a.points a.next a.said x) → Ran a b (says y ∷ [])
-ran_says a b x y is tells text next same moments = record {
+pub ran_says : (a b : Seen) (x y : List ℕ) → x ≡ y → (a.tells → b.tells) → Prints a.said b.said x → SaysPart a b x → StaysSure a b → a.next + 1 < 2 ^ 64 → Ran a b (says y ∷ [])
+ran_says a b x y is tells text part points room = record {
   text = subst (λ (t : List ℕ). Prints a.said b.said t) (is ∙ sym (append-nil y)) text;
   tells = tells;
-  next = omega (arith, next);
-  grew = λ t. record { more = []; is = (same t).0 ∙ sym (append-nil a.points); spells = refl };
-  sure = λ t. (same t).1;
-  moments = λ t. runs_weaken (moments t) (λ stop p. subst (λ (z : List ℕ). Stops a (says z ∷ []) stop) is (stopped_says a x stop p));
+  next = omega (arith, part.next);
+  grew = λ t. record { more = []; is = (points t room).0 ∙ sym (append-nil a.points); spells = refl };
+  sure = λ t. (points t room).1;
+  moments = λ t. runs_weaken (part.leaves t room) (λ stop p. subst (λ (z : List ℕ). Stops a (says z ∷ []) stop) is (stopped_says a x stop p));
 }
 
-pub part_says : (a b : Told) (x y : List ℕ) → x ≡ y → PrintsFront a.said b.said x → (a.tells → LeavesText a.clock b.clock a.sure a.points a.next a.said x) → RanPart a b (says y ∷ [])
-part_says a b x y is text moments = record {
-  text = subst (λ (t : List ℕ). PrintsFront a.said b.said t) (is ∙ sym (append-nil y)) text;
-  moments = λ t. runs_weaken (moments t) (λ stop p. subst (λ (z : List ℕ). Stops a (says z ∷ []) stop) is (stopped_says a x stop p));
+pub part_says : (a b : Seen) (x y : List ℕ) → x ≡ y → SaysPart a b x → a.next + 1 < 2 ^ 64 → RanPart a b (says y ∷ [])
+part_says a b x y is part room = record {
+  text = subst (λ (t : List ℕ). PrintsFront a.said b.said t) (is ∙ sym (append-nil y)) part.part;
+  moments = λ t. runs_weaken (part.leaves t room) (λ stop p. subst (λ (z : List ℕ). Stops a (says z ∷ []) stop) is (stopped_says a x stop p));
 }
 
 -- nothing to say
-pub ran_silent : (a : Told) (x : List ℕ) → x ≡ [] → Ran a a (says x ∷ [])
+pub ran_silent : (a : Seen) (x : List ℕ) → x ≡ [] → Ran a a (says x ∷ [])
 ran_silent a x is = subst (λ (t : List ℕ). Ran a a (says t ∷ [])) (sym is) (record { text = prints_none a.said a.said refl; tells = λ t. t; next = omega arith; grew = λ t. grew_none a.points; sure = λ t. omega arith; moments = λ t. runs_none a.clock (Stops a (says [] ∷ [])) })
 
 -- calls
@@ -168,7 +178,7 @@ numbered false s o m = omega (arith, m.next, ap length m.quiets)
 pub step_numbers : (desc : Described) (s : Session) (name : List ℕ) (verb : Verb) → (step desc s name verb).session.next ≡ s.next + length (step desc s name verb).quiets
 step_numbers desc s name verb = numbered _ s (step desc s name verb) (quiet_rule desc s name verb)
 
-stopped_calls : (a : Told) (o : Outcome) (stop : Stop) → Left a.sure a.points a.next o.quiets stop × TextIs a.said stop → Stops a (calls o ∷ []) stop
+stopped_calls : (a : Seen) (o : Outcome) (stop : Stop) → Left a.sure a.points a.next o.quiets stop × TextIs a.said stop → Stops a (calls o ∷ []) stop
 stopped_calls a o stop p = record {
   before = [];
   at = calls o;
@@ -182,25 +192,25 @@ covered_made : (sync : Option ℕ) (before all sure : ℕ) → before ≤ sure �
 covered_made None before all sure later synced = later
 covered_made (Some n) before all sure later synced = omega (arith, synced n refl)
 
-pub ran_calls : (a b : Told) (o : Outcome) (answer : Answer) → (a.tells → b.tells) → b.said ≡ a.said → a.next + length o.quiets ≤ b.next → answer.sync ≡ o.sync → (a.tells → Made answer a.sure a.points o.quiets b.sure b.points) → (a.tells → Runs a.clock b.clock (λ stop. Left a.sure a.points a.next o.quiets stop × TextIs a.said stop)) → Ran a b (calls o ∷ [])
-ran_calls a b o answer tells said next sync made moments = record {
-  text = prints_none a.said b.said said;
+pub ran_calls : (a b : Seen) (v : View) (o : Outcome) (answer : Answer) → (a.tells → b.tells) → IsMute a b → a.next + length o.quiets ≤ b.next → Did o a b v (Ok answer) → Ran a b (calls o ∷ [])
+ran_calls a b v o answer tells mute next did = record {
+  text = prints_none a.said b.said mute.said;
   tells = tells;
   next = omega (arith, next, ap length (append-nil o.quiets));
-  grew = λ t. subst (λ (q : List Quiet). Grew a.points q b.points) (sym (append-nil o.quiets)) (made t).grew;
-  sure = λ t. covered_made o.sync a.sure (length a.points + length o.quiets) b.sure (made t).later (λ n is. (made t).synced n (sync ∙ is) ∙ length_grew (made t).grew);
-  moments = λ t. runs_weaken (moments t) (stopped_calls a o);
+  grew = λ t. subst (λ (q : List Quiet). Grew a.points q b.points) (sym (append-nil o.quiets)) (did.made t).grew;
+  sure = λ t. covered_made o.sync a.sure (length a.points + length o.quiets) b.sure (did.made t).later (λ n is. (did.made t).synced n (did.answers.sync ∙ is) ∙ length_grew (did.made t).grew);
+  moments = λ t. runs_weaken (did.leaves t) (stopped_calls a o);
 }
 
-pub part_calls : (a b : Told) (o : Outcome) → b.said ≡ a.said → (a.tells → Runs a.clock b.clock (λ stop. Left a.sure a.points a.next o.quiets stop × TextIs a.said stop)) → RanPart a b (calls o ∷ [])
-part_calls a b o said moments = record {
-  text = front_none a.said b.said [] said;
-  moments = λ t. runs_weaken (moments t) (stopped_calls a o);
+pub part_calls : (a b : Seen) (v : View) (o : Outcome) {result : Result Answer BlockFault} → IsMute a b → Did o a b v result → RanPart a b (calls o ∷ [])
+part_calls a b v o mute did = record {
+  text = front_none a.said b.said [] mute.said;
+  moments = λ t. runs_weaken (did.leaves t) (stopped_calls a o);
 }
 
 -- the way back
 
-stopped_back : (a : Told) (stop : Stop) → Front a.sure a.points a.next stop × TextIs a.said stop → Stops a (goes_back ∷ []) stop
+stopped_back : (a : Seen) (stop : Stop) → Front a.sure a.points a.next stop × TextIs a.said stop → Stops a (goes_back ∷ []) stop
 stopped_back a stop p = record {
   before = [];
   at = goes_back;
@@ -210,18 +220,18 @@ stopped_back a stop p = record {
   text = λ t is. (0, p.1 t is ∙ sym (append-nil t) ∙ sym (append-nil (t ++ [])));
 }
 
-pub ran_back : (a b : Told) → (a.tells → b.tells) → b.said ≡ a.said → b.next ≡ a.next → (a.tells → Stays a.points a.sure b.points b.sure) → (a.tells → Leaves a.clock b.clock a.sure a.points a.next a.said) → Ran a b (goes_back ∷ [])
-ran_back a b tells said next same moments = record {
-  text = prints_none a.said b.said said;
+pub ran_back : (a b : Seen) → (a.tells → b.tells) → IsSilent a b → StaysSure a b → a.next + 1 < 2 ^ 64 → Ran a b (goes_back ∷ [])
+ran_back a b tells silent points room = record {
+  text = prints_none a.said b.said silent.said;
   tells = tells;
-  next = omega (arith, next);
-  grew = λ t. record { more = []; is = (same t).0 ∙ sym (append-nil a.points); spells = refl };
-  sure = λ t. (same t).1;
-  moments = λ t. runs_weaken (moments t) (stopped_back a);
+  next = omega (arith, silent.next);
+  grew = λ t. record { more = []; is = (points t room).0 ∙ sym (append-nil a.points); spells = refl };
+  sure = λ t. (points t room).1;
+  moments = λ t. runs_weaken (silent.leaves t room) (stopped_back a);
 }
 
-pub part_back : (a b : Told) → b.said ≡ a.said → (a.tells → Leaves a.clock b.clock a.sure a.points a.next a.said) → RanPart a b (goes_back ∷ [])
-part_back a b said moments = record {
-  text = front_none a.said b.said [] said;
-  moments = λ t. runs_weaken (moments t) (stopped_back a);
+pub part_back : (a b : Seen) → IsSilent a b → a.next + 1 < 2 ^ 64 → RanPart a b (goes_back ∷ [])
+part_back a b silent room = record {
+  text = front_none a.said b.said [] silent.said;
+  moments = λ t. runs_weaken (silent.leaves t room) (stopped_back a);
 }

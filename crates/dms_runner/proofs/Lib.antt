@@ -1,4 +1,5 @@
 pub mod Always
+pub mod Blames
 pub mod Happening
 pub mod Leaving
 pub mod Lining

@@ -1,4 +1,5 @@
 -- What one line does and leaves.
+use Rattle.dms_model.specs.Seen.{Seen}
 use Rattle.std.proofs.Common.{◌≡◌, ◌+◌, ◌<◌, ◌≤◌, ℕ, List, [], ◌∷◌, ◌++◌, Bool, true, false, cond, nat_le, nat_lt, refl, sym, ap, ◌∙◌, subst, arith, length, length-append, take, length-take}
 use Rattle.std.specs.declared.option.Option.{Option}
 use Rattle.std.proofs.lemmas.List.{take_all}
@@ -15,7 +16,7 @@ use Rattle.dms_script.specs.Lines.{line_of}
 use Rattle.dms_storeverbs.specs.View.{View, Stands}
 use Rattle.dms_runner.specs.declared.held.Held.{Held}
 use Rattle.dms_runner.specs.Held.{has_line, answer_text, walks, behind}
-use Rattle.dms_runner.specs.Events.{Event, Told, Ran, RanPart, calls, says, text_of}
+use Rattle.dms_runner.specs.Events.{Event, Ran, RanPart, calls, says, text_of}
 use Rattle.dms_runner.specs.Answers.{Going, Lined, going_on, walked, held_on, first_line, tried, spoken, counted, line_step}
 use Rattle.dms_runner.specs.Trying.{Walks, GoesOn}
 use Rattle.dms_runner.proofs.Happening.{ran_none, ran_on}
@@ -81,11 +82,11 @@ kept_line desc raw = at (nat_le (length raw) 2003) refl
         ∙ sym (long_bad desc (line_text raw) (omega (arith, long, line_text_long raw)))
 
 -- a line that is empty
-pub goes_empty : (g : Going) (v : View) (held : List Held) (now : Told) → Stands v g.session → held ≡ g.held → GoesOn (going_on g) true v held now now
+pub goes_empty : (g : Going) (v : View) (held : List Held) (now : Seen) → Stands v g.session → held ≡ g.held → GoesOn (going_on g) true v held now now
 goes_empty g v held now stands same = record { full = refl; session = stands; held_is = same; ran = ran_none now }
 
 -- a line was answered, and the held lines were walked
-pub goes_walked : (desc : Described) (g : Going) (s : Session) (events : List Event) (w : View) (held : List Held) (before mid after : Told)
+pub goes_walked : (desc : Described) (g : Going) (s : Session) (events : List Event) (w : View) (held : List Held) (before mid after : Seen)
     → Ran before mid events → Walks (walks (length g.held) desc s g.held) w held mid after → GoesOn (walked g.line (behind events (walks (length g.held) desc s g.held))) true w held before after
 goes_walked desc g s events w held before mid after first then_ = record {
   full = refl;
@@ -95,14 +96,14 @@ goes_walked desc g s events w held before mid after first then_ = record {
 }
 
 -- a line is held
-pub goes_held : (g : Going) (s : Session) (h : Held) (tried said : List Event) (v : View) (held : List Held) (before after : Told)
+pub goes_held : (g : Going) (s : Session) (h : Held) (tried said : List Event) (v : View) (held : List Held) (before after : Seen)
     → length g.held < 10000 → Stands v s → held ≡ g.held ++ h ∷ [] → Ran before after (tried ++ said) → GoesOn (held_on g s h tried said) true v held before after
 goes_held g s h tried said v held before after room stands same ran =
     let e : nat_le 10000 (length g.held) ≡ false = grind (arith, nat_tests) in
     rw e (record { full = refl; session = stands; held_is = same; ran = ran })
 
 -- a line would be one too many
-pub goes_full : (g : Going) (s : Session) (h : Held) (tried said : List Event) (v : View) (held : List Held) (before after : Told)
+pub goes_full : (g : Going) (s : Session) (h : Held) (tried said : List Event) (v : View) (held : List Held) (before after : Seen)
     → 10000 ≤ length g.held → Stands v s → held ≡ g.held → Ran before after tried → GoesOn (held_on g s h tried said) false v held before after
 goes_full g s h tried said v held before after over stands same ran =
     let e : nat_le 10000 (length g.held) ≡ true = grind (arith, nat_tests) in
@@ -122,12 +123,12 @@ pub spoken_tried : (desc : Described) (g : Going) (name : List ℕ) (verb : Verb
 spoken_tried desc g name verb has = rw has refl
 
 -- the walks over the same list
-pub walks_from : (d e : Described) (s : Session) (l m : List Held) (v : View) (held : List Held) (before after : Told) → d ≡ e → l ≡ m
+pub walks_from : (d e : Described) (s : Session) (l m : List Held) (v : View) (held : List Held) (before after : Seen) → d ≡ e → l ≡ m
     → Walks (walks (length l) d s l) v held before after → Walks (walks (length m) e s m) v held before after
 walks_from d e s l m v held before after p q x =
     subst (λ (k : List Held). Walks (walks (length k) e s k) v held before after) q (subst (λ (k : Described). Walks (walks (length l) k s l) v held before after) p x)
 
-pub walks_part_from : (d e : Described) (s : Session) (l m : List Held) (before after : Told) → d ≡ e → l ≡ m → RanPart before after (walks (length l) d s l).events → RanPart before after (walks (length m) e s m).events
+pub walks_part_from : (d e : Described) (s : Session) (l m : List Held) (before after : Seen) → d ≡ e → l ≡ m → RanPart before after (walks (length l) d s l).events → RanPart before after (walks (length m) e s m).events
 walks_part_from d e s l m before after p q x =
     subst (λ (k : List Held). RanPart before after (walks (length k) e s k).events) q (subst (λ (k : Described). RanPart before after (walks (length l) k s l).events) p x)
 
@@ -147,7 +148,7 @@ tried_starts desc g name verb o = at (is_waits o.reply) (nat_le 10000 (length g.
     at false c = (_, refl)
 
 -- the same line, told otherwise
-pub lined_as : (l m : Lined) (on : Bool) (v : View) (held : List Held) (before after : Told) → l ≡ m → GoesOn l on v held before after → GoesOn m on v held before after
+pub lined_as : (l m : Lined) (on : Bool) (v : View) (held : List Held) (before after : Seen) → l ≡ m → GoesOn l on v held before after → GoesOn m on v held before after
 lined_as l m on v held before after is goes = subst (λ (x : Lined). GoesOn x on v held before after) is goes
 
 pub full_events : (g : Going) (s : Session) (h : Held) (tried said : List Event) → 10000 ≤ length g.held → (held_on g s h tried said).events ≡ tried

@@ -1,4 +1,5 @@
 -- One walk over the held lines, turn by turn.
+use Rattle.dms_model.specs.Seen.{Seen}
 use Rattle.std.proofs.Common.{◌≡◌, ◌+◌, ◌<◌, ◌≤◌, ℕ, zero, suc, List, [], ◌∷◌, ◌++◌, Bool, true, false, cond, not, Some, None, refl, sym, ap, ◌∙◌, subst, arith, append_assoc, length, take, drop}
 use Rattle.std.specs.Prelude.{slice_get, slice_set}
 use Rattle.std.proofs.lemmas.List.{append-nil, take_more, take_more_set, drop_more, drop-set-lt, take_all, drop_all}
@@ -9,7 +10,7 @@ use Rattle.dms_model.specs.Session.{Session, Outcome, step, is_waits}
 use Rattle.dms_model.proofs.Rises.{step_small}
 use Rattle.dms_runner.specs.declared.held.Held.{Held}
 use Rattle.dms_runner.proofs.Happening.{ran_none, ran_on, part_on, part_of_first}
-use Rattle.dms_runner.specs.Events.{Event, Told, Ran, RanPart}
+use Rattle.dms_runner.specs.Events.{Event, Ran, RanPart}
 use Rattle.dms_runner.specs.Trying.{Tries, Passes}
 use Rattle.dms_runner.specs.Held.{has_line, tries, waiting, Walk, behind, answered_at, walk, walks}
 
@@ -45,13 +46,13 @@ unfolding walks
 walks_end n desc s held answered = rw answered refl
 
 -- how a walk stands at a place: the lines before it were passed over, and the rest is still to be tried
-pub record Passing (desc : Described) (s : Session) (first now : List Held) (i : ℕ) (v : View) (before after : Told) : Type 0 where
+pub record Passing (desc : Described) (s : Session) (first now : List Held) (i : ℕ) (v : View) (before after : Seen) : Type 0 where
   pub events : List Event
   pub is : walk desc s [] first ≡ behind events (walk desc s (take i now) (drop i now))
   pub stands : Stands v s
   pub ran : Ran before after events
 
-pub passing_start : (desc : Described) (s : Session) (first : List Held) (v : View) (said : Told) → Stands v s → Passing desc s first first 0 v said said
+pub passing_start : (desc : Described) (s : Session) (first : List Held) (v : View) (said : Seen) → Stands v s → Passing desc s first first 0 v said said
 passing_start desc s first v said stands = record { events = []; is = refl; stands = stands; ran = ran_none said }
 
 at_place : (now : List Held) (i : ℕ) (h : Held) → slice_get now i ≡ Some h → drop i now ≡ h ∷ drop (i + 1) now
@@ -61,7 +62,7 @@ to_place : (now : List Held) (i : ℕ) (h : Held) → slice_get now i ≡ Some h
 to_place now i h is = take_more now i h (slice_get_within now i h is) ∙ ap (λ (x : Held). take i now ++ x ∷ []) (get_or_from_slice_get now i h h is)
 
 -- a line is passed over
-pub passing_skip : (desc : Described) (s : Session) (first now : List Held) (i : ℕ) (v : View) (before after : Told) (h : Held) → slice_get now i ≡ Some h → has_line (take i now) h.program ≡ true
+pub passing_skip : (desc : Described) (s : Session) (first now : List Held) (i : ℕ) (v : View) (before after : Seen) (h : Held) → slice_get now i ≡ Some h → has_line (take i now) h.program ≡ true
     → Passing desc s first now i v before after → Passing desc s first now (i + 1) v before after
 passing_skip desc s first now i v before after h here has p =
     let e : walk desc s (take i now) (drop i now) ≡ walk desc s (take (i + 1) now) (drop (i + 1) now) =
@@ -72,7 +73,7 @@ pub behind_on : (x y : List Event) (w : Walk) → behind x (behind y w) ≡ behi
 behind_on x y w = λ j. record w { events = sym (append_assoc x y w.events) j }
 
 -- a line was tried and waits
-pub passing_wait : (desc : Described) (s : Session) (first now next : List Held) (i : ℕ) (v w : View) (before mid after : Told) (h : Held) (answered : Bool)
+pub passing_wait : (desc : Described) (s : Session) (first now next : List Held) (i : ℕ) (v w : View) (before mid after : Seen) (h : Held) (answered : Bool)
     → slice_get now i ≡ Some h → has_line (take i now) h.program ≡ false → next ≡ slice_set now i (waiting h) → answered ≡ false
     → Tries (step desc s h.program h.verb) h answered w mid after → Passing desc s first now i v before mid → Passing desc s first next (i + 1) w before after
 passing_wait desc s first now next i v w before mid after h answered here has set_ answered_is t p =
@@ -100,7 +101,7 @@ one_on : (i : ℕ) → i + 1 ≡ suc i
 one_on i = omega arith
 
 -- a line was tried and answered
-pub passing_answered : (desc : Described) (s : Session) (first now : List Held) (i : ℕ) (v w : View) (before mid after : Told) (h : Held) (answered : Bool)
+pub passing_answered : (desc : Described) (s : Session) (first now : List Held) (i : ℕ) (v w : View) (before mid after : Seen) (h : Held) (answered : Bool)
     → slice_get now i ≡ Some h → has_line (take i now) h.program ≡ false → answered ≡ true
     → Tries (step desc s h.program h.verb) h answered w mid after → Passing desc s first now i v before mid → Passes (walk desc s [] first) w now (Some i) before after
 passing_answered desc s first now i v w before mid after h answered here has answered_is t p =
@@ -119,7 +120,7 @@ passing_answered desc s first now i v w before mid after h answered here has ans
     not_true true e = absurd (cc)
 
 -- the walk came to the end
-pub passing_end : (desc : Described) (s : Session) (first now : List Held) (i : ℕ) (v : View) (before after : Told) → length now ≤ i
+pub passing_end : (desc : Described) (s : Session) (first now : List Held) (i : ℕ) (v : View) (before after : Seen) → length now ≤ i
     → Passing desc s first now i v before after → Passes (walk desc s [] first) v now None before after
 passing_end desc s first now i v before after end p =
     let e : walk desc s [] first ≡ behind p.events (record { session = s; held = now; events = []; answered = false }) =
@@ -131,7 +132,7 @@ passing_end desc s first now i v before after end p =
     }
 
 -- a try that failed did a front of what the walk does
-pub passing_part : (desc : Described) (s : Session) (first now : List Held) (i : ℕ) (v : View) (before mid after : Told) (h : Held) → slice_get now i ≡ Some h → has_line (take i now) h.program ≡ false
+pub passing_part : (desc : Described) (s : Session) (first now : List Held) (i : ℕ) (v : View) (before mid after : Seen) (h : Held) → slice_get now i ≡ Some h → has_line (take i now) h.program ≡ false
     → RanPart mid after (tries h (step desc s h.program h.verb)) → Passing desc s first now i v before mid → RanPart before after (walk desc s [] first).events
 passing_part desc s first now i v before mid after h here has part p =
     by_reply (is_waits (step desc s h.program h.verb).reply) refl

@@ -1,4 +1,5 @@
 -- How a run goes on from line to line, and where it stops.
+use Rattle.dms_model.specs.Seen.{Seen}
 use Rattle.std.proofs.Common.{◌≡◌, ◌≢◌, ◌+◌, ◌<◌, ◌≤◌, ◌^◌, ℕ, List, [], ◌∷◌, ◌++◌, Bool, true, false, cond, eqb, refl, sym, ap, ◌∙◌, subst, arith, append_assoc, length, length-append, take}
 use Rattle.std.specs.declared.option.Option.{Option}
 use Rattle.std.proofs.lemmas.List.{append-nil, take_at}
@@ -6,12 +7,12 @@ use Rattle.dms_desc.specs.Shape.{Described}
 use Rattle.dms_feed.specs.Feeds.{Remains}
 use Rattle.dms_feed.specs.Lines.{raw_lines, first_line, after_line, onto_first}
 use Rattle.dms_model.specs.Db.{Db}
-use Rattle.dms_model.specs.Points.{Prints}
+use Rattle.dms_block.specs.Texts.{Prints}
 use Rattle.dms_model.specs.Session.{Session, ended}
 use Rattle.dms_storeverbs.specs.View.{View, Stands}
 use Rattle.dms_runner.specs.declared.held.Held.{Held}
 use Rattle.dms_runner.specs.Answers.{Going, Lined, Roomy, going_on, line_step, lines_run, onto, begun, script_run, ending, script_events}
-use Rattle.dms_runner.specs.Events.{Event, Told, Ran, RanPart, text_of}
+use Rattle.dms_runner.specs.Events.{Event, Ran, RanPart, text_of}
 use Rattle.dms_feed.specs.Raws.{CutLine}
 use Rattle.dms_runner.specs.Running.{bytes_of, joined, TookLine, Answered, Took, PassesLines, PassesBytes, PassesHeld, CutInput}
 use Rattle.dms_runner.proofs.Texts.{prints_on}
@@ -98,7 +99,7 @@ run_on desc g (x ∷ xs) ys room = at (line_step desc g x).full refl (run_on des
 -- How a run stands
 
 -- after so many lines: those done, the bytes that are left, and what happened
-pub record Runs (desc : Described) (g : Going) (i room : ℕ) (all : List ℕ) (v : View) (held : List Held) (feed : List ℕ) (left : Option (List ℕ)) (before after : Told) : Type 0 where
+pub record Runs (desc : Described) (g : Going) (i room : ℕ) (all : List ℕ) (v : View) (held : List Held) (feed : List ℕ) (left : Option (List ℕ)) (before after : Seen) : Type 0 where
   pub done : List (List ℕ)
   pub rest : List ℕ
   pub remains : Remains feed left rest
@@ -113,7 +114,7 @@ pub record Runs (desc : Described) (g : Going) (i room : ℕ) (all : List ℕ) (
   pub low : (lines_run desc g done).going.session.next + length (lines_run desc g done).going.held ≤ g.session.next + length g.held + i
   pub ran : Ran before after (lines_run desc g done).events
 
-pub runs_start : (desc : Described) (db : Db) (first : ℕ) (all : List ℕ) (v : View) (feed : List ℕ) (left : Option (List ℕ)) (now : Told) → Stands v (begun db first).session → Remains feed left all
+pub runs_start : (desc : Described) (db : Db) (first : ℕ) (all : List ℕ) (v : View) (feed : List ℕ) (left : Option (List ℕ)) (now : Seen) → Stands v (begun db first).session → Remains feed left all
     → Runs desc (begun db first) 0 2147483648 all v [] feed left now now
 runs_start desc db first all v feed left now stands remains =
     let e : lines_run desc (begun db first) [] ≡ going_on (begun db first) = run_none desc (begun db first) in
@@ -134,12 +135,12 @@ runs_start desc db first all v feed left now stands remains =
     }
 
 -- room for the numbers of the quiet points that the next line may lead to
-pub runs_room : (desc : Described) (db : Db) (first : ℕ) (i room : ℕ) (all : List ℕ) (v : View) (held : List Held) (feed : List ℕ) (left : Option (List ℕ)) (before after : Told)
+pub runs_room : (desc : Described) (db : Db) (first : ℕ) (i room : ℕ) (all : List ℕ) (v : View) (held : List Held) (feed : List ℕ) (left : Option (List ℕ)) (before after : Seen)
     (r : Runs desc (begun db first) i room all v held feed left before after) → i < 1000000 → first + 1000003 < 2 ^ 64 → Roomy (lines_run desc (begun db first) r.done).going
 runs_room desc db first i room all v held feed left before after r more small = omega (arith, r.low, more, small)
 
 -- and for the one that the end asks for
-pub runs_next : (desc : Described) (db : Db) (first : ℕ) (i room : ℕ) (all : List ℕ) (v : View) (held : List Held) (feed : List ℕ) (left : Option (List ℕ)) (before after : Told)
+pub runs_next : (desc : Described) (db : Db) (first : ℕ) (i room : ℕ) (all : List ℕ) (v : View) (held : List Held) (feed : List ℕ) (left : Option (List ℕ)) (before after : Seen)
     (r : Runs desc (begun db first) i room all v held feed left before after) → i ≤ 1000000 → first + 1000003 < 2 ^ 64 → (lines_run desc (begun db first) r.done).going.session.next + 1 < 2 ^ 64
 runs_next desc db first i room all v held feed left before after r few small = omega (arith, r.low, few, small)
 
@@ -150,7 +151,7 @@ one_more desc g done l room more =
     run_on desc g done (l ∷ []) room ∙ ap (onto (lines_run desc g done)) (run_step desc now l [] more ∙ ap (onto (line_step desc now l)) (run_none desc (line_step desc now l).going))
 
 -- one line more was taken
-pub runs_on : (desc : Described) (g : Going) (i room room' : ℕ) (all : List ℕ) (v w : View) (held next : List Held) (feed feed' : List ℕ) (left left' : Option (List ℕ)) (before mid after : Told)
+pub runs_on : (desc : Described) (g : Going) (i room room' : ℕ) (all : List ℕ) (v w : View) (held next : List Held) (feed feed' : List ℕ) (left left' : Option (List ℕ)) (before mid after : Seen)
     (r : Runs desc g i room all v held feed left before mid) → TookLine desc (lines_run desc g r.done).going r.rest room room' w next feed' left' mid after → Runs desc g (i + 1) room' all w next feed' left' before after
 runs_on desc g i room room' all v w held next feed feed' left left' before mid after r t =
     let now = (lines_run desc g r.done).going in
@@ -178,7 +179,7 @@ taken : (all : List ℕ) (done more : List (List ℕ)) (i : ℕ) → raw_lines a
 taken all done more i split count = ap (take i) split ∙ take_at done more i count
 
 -- the lines that were done, and what they answered
-pub runs_took : (desc : Described) (db : Db) (first : ℕ) (i room : ℕ) (all : List ℕ) (v : View) (held : List Held) (feed : List ℕ) (left : Option (List ℕ)) (before mid : Told) (after : Option (List ℕ))
+pub runs_took : (desc : Described) (db : Db) (first : ℕ) (i room : ℕ) (all : List ℕ) (v : View) (held : List Held) (feed : List ℕ) (left : Option (List ℕ)) (before mid : Seen) (after : Option (List ℕ))
     → Runs desc (begun db first) i room all v held feed left before mid → i ≤ 1000000 → Prints mid.said after [] → Took desc db first (raw_lines all) i before.said after
 runs_took desc db first i room all v held feed left before mid after r small same =
     let t : take i (raw_lines all) ≡ r.done = taken all r.done (raw_lines r.rest) i r.split r.count in
@@ -202,7 +203,7 @@ some_first [] h none = omega (arith, h)
 some_first (b ∷ bs) h none = cc
 
 -- the script has a line too many
-pub runs_lines : (desc : Described) (db : Db) (first : ℕ) (i room : ℕ) (all : List ℕ) (v : View) (held : List Held) (feed : List ℕ) (left : Option (List ℕ)) (before mid : Told) (after : Option (List ℕ))
+pub runs_lines : (desc : Described) (db : Db) (first : ℕ) (i room : ℕ) (all : List ℕ) (v : View) (held : List Held) (feed : List ℕ) (left : Option (List ℕ)) (before mid : Seen) (after : Option (List ℕ))
     (r : Runs desc (begun db first) i room all v held feed left before mid) → Prints mid.said after [] → i ≡ 1000000 → r.rest ≢ [] → PassesLines desc db first (raw_lines all) before.said after
 runs_lines desc db first i room all v held feed left before mid after r same end some = (
   omega (arith, ap length r.split, length-append r.done (raw_lines r.rest), r.count, end, some_lines r.rest some),
@@ -210,7 +211,7 @@ runs_lines desc db first i room all v held feed left before mid after r same end
 )
 
 -- the script has a byte too many
-pub runs_bytes : (desc : Described) (db : Db) (first : ℕ) (i room : ℕ) (all : List ℕ) (v : View) (held : List Held) (feed : List ℕ) (left : Option (List ℕ)) (before mid : Told) (after : Option (List ℕ))
+pub runs_bytes : (desc : Described) (db : Db) (first : ℕ) (i room : ℕ) (all : List ℕ) (v : View) (held : List Held) (feed : List ℕ) (left : Option (List ℕ)) (before mid : Seen) (after : Option (List ℕ))
     (r : Runs desc (begun db first) i room all v held feed left before mid) → i < 1000000 → Prints mid.said after [] → room < length (first_line r.rest) → PassesBytes desc db first (raw_lines all) before.said after
 runs_bytes desc db first i room all v held feed left before mid after r more same over = record {
   n = i;
@@ -220,7 +221,7 @@ runs_bytes desc db first i room all v held feed left before mid after r more sam
 }
 
 -- a line would be one too many to hold
-pub runs_held : (desc : Described) (db : Db) (first : ℕ) (i room : ℕ) (all : List ℕ) (v : View) (held : List Held) (feed : List ℕ) (left : Option (List ℕ)) (before mid : Told) (after : Option (List ℕ))
+pub runs_held : (desc : Described) (db : Db) (first : ℕ) (i room : ℕ) (all : List ℕ) (v : View) (held : List Held) (feed : List ℕ) (left : Option (List ℕ)) (before mid : Seen) (after : Option (List ℕ))
     (r : Runs desc (begun db first) i room all v held feed left before mid) → i < 1000000 → Prints mid.said after [] → r.rest ≢ [] → (line_step desc (lines_run desc (begun db first) r.done).going (first_line r.rest)).full ≡ true → length (first_line r.rest) ≤ room
     → PassesHeld desc db first (raw_lines all) before.said after
 runs_held desc db first i room all v held feed left before mid after r more same some full fits =
@@ -235,7 +236,7 @@ runs_held desc db first i room all v held feed left before mid after r more same
     }
 
 -- taking from the input failed
-pub runs_cut : (desc : Described) (db : Db) (first : ℕ) (k i room : ℕ) (all : List ℕ) (v : View) (held : List Held) (feed : List ℕ) (left left' : Option (List ℕ)) (before mid : Told) (after : Option (List ℕ))
+pub runs_cut : (desc : Described) (db : Db) (first : ℕ) (k i room : ℕ) (all : List ℕ) (v : View) (held : List Held) (feed : List ℕ) (left left' : Option (List ℕ)) (before mid : Seen) (after : Option (List ℕ))
     (r : Runs desc (begun db first) i room all v held feed left before mid) → i ≤ 1000000 → k ≤ room → (i ≡ 1000000 → k ≡ 0) → Prints mid.said after [] → CutLine k left' r.rest → CutInput desc db first all left' before.said after
 runs_cut desc db first k i room all v held feed left left' before mid after r small under last same cut = record {
   n = i;
@@ -253,7 +254,7 @@ lines_none : (rest : List ℕ) → rest ≡ [] → raw_lines rest ≡ []
 lines_none rest none = ap raw_lines none
 
 -- the input's end: what happens now ends the run
-pub runs_ran : (desc : Described) (db : Db) (first : ℕ) (i room : ℕ) (all : List ℕ) (v : View) (held : List Held) (feed : List ℕ) (left : Option (List ℕ)) (before mid after : Told)
+pub runs_ran : (desc : Described) (db : Db) (first : ℕ) (i room : ℕ) (all : List ℕ) (v : View) (held : List Held) (feed : List ℕ) (left : Option (List ℕ)) (before mid after : Seen)
     (r : Runs desc (begun db first) i room all v held feed left before mid) → r.rest ≡ [] → Ran mid after (ending held) → Ran before after (script_events desc db first (raw_lines all))
 unfolding script_events
 runs_ran desc db first i room all v held feed left before mid after r none last =
@@ -262,7 +263,7 @@ runs_ran desc db first i room all v held feed left before mid after r none last 
     subst (λ (ls : List (List ℕ)). Ran before after ((script_run desc db first ls).events ++ ending (script_run desc db first ls).going.held)) (sym whole)
     (ran_on before mid after (lines_run desc g r.done).events (ending (lines_run desc g r.done).going.held) r.ran (subst (λ (hs : List Held). Ran mid after (ending hs)) r.held_is last))
 
-pub runs_end : (desc : Described) (db : Db) (first : ℕ) (i room : ℕ) (all : List ℕ) (v : View) (held : List Held) (feed : List ℕ) (left : Option (List ℕ)) (before mid after : Told)
+pub runs_end : (desc : Described) (db : Db) (first : ℕ) (i room : ℕ) (all : List ℕ) (v : View) (held : List Held) (feed : List ℕ) (left : Option (List ℕ)) (before mid after : Seen)
     (r : Runs desc (begun db first) i room all v held feed left before mid) → i ≤ 1000000 → r.rest ≡ [] → Ran mid after (ending held) → Answered desc db first (raw_lines all) before.said after.said
 runs_end desc db first i room all v held feed left before mid after r small none last =
     let whole : raw_lines all ≡ r.done = r.split ∙ ap (λ (ls : List (List ℕ)). r.done ++ ls) (lines_none r.rest none) ∙ append-nil r.done in
@@ -274,14 +275,14 @@ runs_end desc db first i room all v held feed left before mid after r small none
     }
 
 -- the session at the end, of the whole script
-pub runs_ended : (desc : Described) (db : Db) (first : ℕ) (i room : ℕ) (all : List ℕ) (v w : View) (held : List Held) (feed : List ℕ) (left : Option (List ℕ)) (before mid : Told)
+pub runs_ended : (desc : Described) (db : Db) (first : ℕ) (i room : ℕ) (all : List ℕ) (v w : View) (held : List Held) (feed : List ℕ) (left : Option (List ℕ)) (before mid : Seen)
     (r : Runs desc (begun db first) i room all v held feed left before mid) → r.rest ≡ [] → Stands w (ended (lines_run desc (begun db first) r.done).going.session) → Stands w (ended (script_run desc db first (raw_lines all)).going.session)
 runs_ended desc db first i room all v w held feed left before mid r none stands =
     let whole : raw_lines all ≡ r.done = r.split ∙ ap (λ (ls : List (List ℕ)). r.done ++ ls) (lines_none r.rest none) ∙ append-nil r.done in
     subst (λ (ls : List (List ℕ)). Stands w (ended (script_run desc db first ls).going.session)) (sym whole) stands
 
 -- a front of what the lines to come do is, behind what happened, a front of the whole
-pub runs_part : (desc : Described) (db : Db) (first : ℕ) (i room : ℕ) (all : List ℕ) (v : View) (held : List Held) (feed : List ℕ) (left : Option (List ℕ)) (before mid after : Told)
+pub runs_part : (desc : Described) (db : Db) (first : ℕ) (i room : ℕ) (all : List ℕ) (v : View) (held : List Held) (feed : List ℕ) (left : Option (List ℕ)) (before mid after : Seen)
     (r : Runs desc (begun db first) i room all v held feed left before mid) → RanPart mid after (lines_run desc (lines_run desc (begun db first) r.done).going (raw_lines r.rest)).events
     → RanPart before after (script_events desc db first (raw_lines all))
 unfolding script_events
@@ -292,7 +293,7 @@ runs_part desc db first i room all v held feed left before mid after r part =
     (subst (λ (t : List Event). RanPart before after t) (sym (ap (λ (l : Lined). l.events) e)) (part_on before mid after (lines_run desc g r.done).events (lines_run desc (lines_run desc g r.done).going (raw_lines r.rest)).events r.ran part))
 
 -- a front of what happens at the end
-pub runs_end_part : (desc : Described) (db : Db) (first : ℕ) (i room : ℕ) (all : List ℕ) (v : View) (held : List Held) (feed : List ℕ) (left : Option (List ℕ)) (before mid after : Told)
+pub runs_end_part : (desc : Described) (db : Db) (first : ℕ) (i room : ℕ) (all : List ℕ) (v : View) (held : List Held) (feed : List ℕ) (left : Option (List ℕ)) (before mid after : Seen)
     (r : Runs desc (begun db first) i room all v held feed left before mid) → r.rest ≡ [] → RanPart mid after (ending held) → RanPart before after (script_events desc db first (raw_lines all))
 unfolding script_events
 runs_end_part desc db first i room all v held feed left before mid after r none part =
@@ -302,7 +303,7 @@ runs_end_part desc db first i room all v held feed left before mid after r none 
     (part_on before mid after (lines_run desc g r.done).events (ending (lines_run desc g r.done).going.held) r.ran (subst (λ (hs : List Held). RanPart mid after (ending hs)) r.held_is part))
 
 -- a front of what a line does is one of what it and those behind it do
-pub line_part : (desc : Described) (g : Going) (all : List ℕ) (before after : Told) → all ≢ [] → RanPart before after (line_step desc g (first_line all)).events → RanPart before after (lines_run desc g (raw_lines all)).events
+pub line_part : (desc : Described) (g : Going) (all : List ℕ) (before after : Seen) → all ≢ [] → RanPart before after (line_step desc g (first_line all)).events → RanPart before after (lines_run desc g (raw_lines all)).events
 line_part desc g all before after some part = at (line_step desc g l).full refl
   where
     l : List ℕ

@@ -1,10 +1,11 @@
--- Told text that grows, one text behind another.
+-- Seen text that grows, one text behind another.
+use Rattle.dms_model.specs.Seen.{Seen}
 use Rattle.std.proofs.Common.{◌≡◌, ◌+◌, ◌≤◌, ℕ, List, [], ◌++◌, Some, refl, sym, ap, ◌∙◌, arith, append_assoc, length, take, Bool, true, false, nat_le}
 use Rattle.std.proofs.Math.Seq.{take-append-add}
 use Rattle.std.proofs.lemmas.Bool.Decides.{nat_tests}
 use Rattle.std.specs.declared.option.Option.{Option}
 use Rattle.std.proofs.lemmas.List.{append-nil, take-append-le, take_all}
-use Rattle.dms_model.specs.Points.{Prints, PrintsFront}
+use Rattle.dms_block.specs.Texts.{Prints, PrintsFront}
 
 pub prints_none : (a b : Option (List ℕ)) → b ≡ a → Prints a b []
 prints_none a b same = λ t is. same ∙ is ∙ ap (λ (x : List ℕ). Some x) (sym (append-nil t))

@@ -1,4 +1,5 @@
 -- The walks over the held lines, one after another.
+use Rattle.dms_model.specs.Seen.{Seen}
 use Rattle.std.proofs.Common.{◌≡◌, ◌+◌, ◌<◌, ◌≤◌, ◌^◌, ℕ, zero, suc, List, [], ◌∷◌, ◌++◌, Bool, true, false, Some, None, refl, sym, ap, ◌∙◌, subst, arith, length, length-append, take, drop}
 use Rattle.std.specs.declared.option.Option.{Option}
 use Rattle.std.specs.List.{remove}
@@ -10,7 +11,7 @@ use Rattle.dms_model.proofs.Rises.{step_small}
 use Rattle.dms_runner.specs.declared.held.Held.{Held}
 use Rattle.dms_runner.specs.Held.{has_line, waiting, Walk, behind, walk, walks}
 use Rattle.dms_runner.specs.Trying.{Passes, Walks}
-use Rattle.dms_runner.specs.Events.{Event, Told, Ran, RanPart}
+use Rattle.dms_runner.specs.Events.{Event, Ran, RanPart}
 use Rattle.dms_runner.proofs.Happening.{ran_none, ran_on, part_on, part_of_first}
 use Rattle.dms_runner.proofs.Passes.{walk_skips, walk_waits, walk_answers, walk_ends, walks_again, walks_end, behind_on}
 
@@ -47,7 +48,7 @@ walks_low zero desc s held = omega arith
 walks_low (suc n) desc s held = low_answer n desc s held (walk desc s [] held).answered refl (walks_low n desc (walk desc s [] held).session (walk desc s [] held).held)
 
 -- how the walks stand after so many turns
-pub record Walking (desc : Described) (s : Session) (first : List Held) (turn : ℕ) (now : List Held) (v : View) (before after : Told) : Type 0 where
+pub record Walking (desc : Described) (s : Session) (first : List Held) (turn : ℕ) (now : List Held) (v : View) (before after : Seen) : Type 0 where
   pub events : List Event
   pub at : Session
   pub left : ℕ
@@ -57,14 +58,14 @@ pub record Walking (desc : Described) (s : Session) (first : List Held) (turn : 
   pub low : at.next + length now ≤ s.next + length first
   pub ran : Ran before after events
 
-pub walking_start : (desc : Described) (s : Session) (first : List Held) (v : View) (said : Told) → Stands v s → Walking desc s first 0 first v said said
+pub walking_start : (desc : Described) (s : Session) (first : List Held) (v : View) (said : Seen) → Stands v s → Walking desc s first 0 first v said said
 walking_start desc s first v said stands = record { events = []; at = s; left = length first; fuel = omega arith; is = refl; stands = stands; low = omega arith; ran = ran_none said }
 
-pub walking_room : (desc : Described) (s : Session) (first : List Held) (turn : ℕ) (now : List Held) (v : View) (before after : Told) (k : Walking desc s first turn now v before after) → s.next + length first + 2 < 2 ^ 64 → Room k.at.next
+pub walking_room : (desc : Described) (s : Session) (first : List Held) (turn : ℕ) (now : List Held) (v : View) (before after : Seen) (k : Walking desc s first turn now v before after) → s.next + length first + 2 < 2 ^ 64 → Room k.at.next
 walking_room desc s first turn now v before after k room = omega (arith, k.low, room)
 
 -- a walk answered a line
-pub walking_on : (desc : Described) (s : Session) (first : List Held) (turn : ℕ) (now next last : List Held) (i : ℕ) (v w : View) (before mid after : Told) (k : Walking desc s first turn now v before mid)
+pub walking_on : (desc : Described) (s : Session) (first : List Held) (turn : ℕ) (now next last : List Held) (i : ℕ) (v w : View) (before mid after : Seen) (k : Walking desc s first turn now v before mid)
     → turn < length first → Passes (walk desc k.at [] now) w next (Some i) mid after → last ≡ remove next i → Walking desc s first (turn + 1) last w before after
 walking_on desc s first turn now next last i v w before mid after k more p gone = from k.left k.fuel k.is
   where
@@ -88,7 +89,7 @@ walking_on desc s first turn now next last i v w before mid after k more p gone 
     }
 
 -- a walk answered none
-pub walking_end : (desc : Described) (s : Session) (first : List Held) (turn : ℕ) (now next : List Held) (v w : View) (before mid after : Told) (k : Walking desc s first turn now v before mid)
+pub walking_end : (desc : Described) (s : Session) (first : List Held) (turn : ℕ) (now next : List Held) (v w : View) (before mid after : Seen) (k : Walking desc s first turn now v before mid)
     → turn < length first → Passes (walk desc k.at [] now) w next None mid after → Walks (walks (length first) desc s first) w next before after
 walking_end desc s first turn now next v w before mid after k more p = from k.left k.fuel k.is
   where
@@ -106,7 +107,7 @@ walking_end desc s first turn now next v w before mid after k more p = from k.le
         }
 
 -- as many lines were answered as there were
-pub walking_out : (desc : Described) (s : Session) (first : List Held) (turn : ℕ) (now : List Held) (v : View) (before after : Told) → Walking desc s first turn now v before after
+pub walking_out : (desc : Described) (s : Session) (first : List Held) (turn : ℕ) (now : List Held) (v : View) (before after : Seen) → Walking desc s first turn now v before after
     → length first ≤ turn → Walks (walks (length first) desc s first) v now before after
 unfolding walks
 walking_out desc s first turn now v before after k over = from k.left k.fuel k.is
@@ -120,7 +121,7 @@ walking_out desc s first turn now v before after k over = from k.left k.fuel k.i
     from (suc n) fuel is = absurd (omega (arith, fuel, over))
 
 -- a walk that failed did a front of what the walks do
-pub walking_part : (desc : Described) (s : Session) (first : List Held) (turn : ℕ) (now : List Held) (v : View) (before mid after : Told) (k : Walking desc s first turn now v before mid)
+pub walking_part : (desc : Described) (s : Session) (first : List Held) (turn : ℕ) (now : List Held) (v : View) (before mid after : Seen) (k : Walking desc s first turn now v before mid)
     → turn < length first → RanPart mid after (walk desc k.at [] now).events → RanPart before after (walks (length first) desc s first).events
 walking_part desc s first turn now v before mid after k more part = from k.left k.fuel k.is
   where
@@ -138,12 +139,12 @@ walking_part desc s first turn now v before mid after k more part = from k.left 
         subst (λ (t : List Event). RanPart before after t) (sym (ap (λ (y : Walk). y.events) is ∙ ap (λ (t : List Event). k.events ++ t) r.1)) (part_on before mid after k.events (x.events ++ r.0) k.ran (part_of_first mid after x.events r.0 part))
 
 -- the same walk over the same list
-pub passes_from : (d e : Described) (s : Session) (l m : List Held) (v : View) (now : List Held) (found found' : Option ℕ) (before after : Told) → d ≡ e → l ≡ m → found ≡ found'
+pub passes_from : (d e : Described) (s : Session) (l m : List Held) (v : View) (now : List Held) (found found' : Option ℕ) (before after : Seen) → d ≡ e → l ≡ m → found ≡ found'
     → Passes (walk d s [] l) v now found before after → Passes (walk e s [] m) v now found' before after
 passes_from d e s l m v now found found' before after p q r x =
     subst (λ (o : Option ℕ). Passes (walk e s [] m) v now o before after) r (subst (λ (k : List Held). Passes (walk e s [] k) v now found before after) q (subst (λ (k : Described). Passes (walk k s [] l) v now found before after) p x))
 
-pub part_from : (d e : Described) (s : Session) (l m : List Held) (before after : Told) → d ≡ e → l ≡ m → RanPart before after (walk d s [] l).events → RanPart before after (walk e s [] m).events
+pub part_from : (d e : Described) (s : Session) (l m : List Held) (before after : Seen) → d ≡ e → l ≡ m → RanPart before after (walk d s [] l).events → RanPart before after (walk e s [] m).events
 part_from d e s l m before after p q x = subst (λ (k : List Held). RanPart before after (walk e s [] k).events) q (subst (λ (k : Described). RanPart before after (walk k s [] l).events) p x)
 
 -- a list of the same length, written back

@@ -1,8 +1,10 @@
 -- What a run does, event by event, and what a stop on the way leaves.
-use Rattle.std.specs.Prelude.{ℕ, ◌≡◌, ◌≤◌, ◌+◌, List, [], ◌∷◌, ◌++◌, length, take, Some, None}
+use Rattle.std.specs.Prelude.{ℕ, ◌≡◌, ◌≤◌, ◌+◌, List, [], ◌∷◌, ◌++◌, length, take, Some, None, IsTrue}
 use Rattle.std.specs.declared.option.Option.{Option}
-use Rattle.dms_block.specs.Moments.{Clock, Runs}
-use Rattle.dms_model.specs.Points.{Point, Quiet, Stop, Prints, PrintsFront}
+use Rattle.dms_moments.specs.Moments.{Runs}
+use Rattle.dms_model.specs.Points.{Point, Quiet, Stop}
+use Rattle.dms_block.specs.Texts.{Prints, PrintsFront}
+use Rattle.dms_model.specs.Seen.{Seen}
 use Rattle.dms_model.specs.Session.{Outcome}
 use Rattle.dms_storeverbs.specs.View.{Grew, Left}
 
@@ -45,19 +47,6 @@ abbrev pub sure_after : ℕ → ℕ → List Event → ℕ
 sure_after count sure [] = sure
 sure_after count sure (e ∷ es) = sure_after (count + length e.quiets) (covered e.sync sure (count + length e.quiets)) es
 
--- What a store tells of itself: whether it tells its points and what stops leave, the text so far, the quiet points, how many
--- of them are sure, the number of the next one, and what stops may leave.
-pub record Told : Type 1 where
-  pub tells : Type 0
-  pub said : Option (List ℕ)
-  pub points : List Point
-  pub sure : ℕ
-  pub next : ℕ
-  pub clock : Clock Stop
-
-abbrev pub told_by : Type 0 → Option (List ℕ) → List Point → ℕ → ℕ → Clock Stop → Told
-told_by tells said points sure next clock = record { tells = tells; said = said; points = points; sure = sure; next = next; clock = clock }
-
 -- A stop within these events, where so many quiet points were sure at first. The events before one of them are over. Of the
 -- quiet points so far, those of this event too, the stop leaves the first ones, and all that were sure before this event. The
 -- text is that of the events before, whole, and a front of what this one says.
@@ -69,12 +58,12 @@ pub record Stopped (said : Option (List ℕ)) (points : List Point) (sure next :
   pub left : Left (sure_after (length points) sure before) points next (quiets_of before ++ at.quiets) stop
   pub text : (t : List ℕ) → said ≡ Some t → (n : ℕ) × (stop.said ≡ (t ++ text_of before) ++ take n at.text)
 
-abbrev pub Stops : Told → List Event → Stop → Type 0
+abbrev pub Stops : Seen → List Event → Stop → Type 0
 Stops b events stop = Stopped b.said b.points b.sure b.next events stop
 
 -- these events happened: their text was said, their quiet points were made and have used up their numbers, at least those are
 -- sure that a syncpoint among them covers, and a stop on the way lies within them. Of the database it says nothing
-pub record Ran (b a : Told) (events : List Event) : Type 0 where
+pub record Ran (b a : Seen) (events : List Event) : Type 0 where
   pub text : Prints b.said a.said (text_of events)
   pub tells : b.tells → a.tells
   pub next : b.next + length (quiets_of events) ≤ a.next
@@ -84,6 +73,6 @@ pub record Ran (b a : Told) (events : List Event) : Type 0 where
 
 -- a front of the text of these events was said, and a stop on the way lies within them. Of what stands afterwards it says
 -- nothing else
-pub record RanPart (b a : Told) (events : List Event) : Type 0 where
+pub record RanPart (b a : Seen) (events : List Event) : Type 0 where
   pub text : PrintsFront b.said a.said (text_of events)
   pub moments : b.tells → Runs b.clock a.clock (Stops b events)

@@ -1,6 +1,8 @@
 pub mod Answers
 pub mod EventLaws
+pub mod Blaming
 pub mod Events
 pub mod Held
 pub mod Running
+pub mod Starting
 pub mod Trying

@@ -5,12 +5,13 @@ use Rattle.dms_desc.specs.Shape.{Described}
 use Rattle.dms_feed.specs.Feeds.{Remains}
 use Rattle.dms_feed.specs.Lines.{first_line, after_line, raw_lines}
 use Rattle.dms_feed.specs.Raws.{IsUnended}
+use Rattle.dms_model.specs.Seen.{Seen}
 use Rattle.dms_model.specs.Db.{Db}
-use Rattle.dms_model.specs.Points.{Prints}
+use Rattle.dms_block.specs.Texts.{Prints}
 use Rattle.dms_storeverbs.specs.View.{View}
 use Rattle.dms_runner.specs.declared.held.Held.{Held}
 use Rattle.dms_runner.specs.Answers.{Going, line_step, script_run, answers_text}
-use Rattle.dms_runner.specs.Events.{text_of, Told}
+use Rattle.dms_runner.specs.Events.{text_of}
 use Rattle.dms_runner.specs.Trying.{GoesOn}
 
 -- how many bytes these lines have
@@ -24,7 +25,7 @@ joined [] = []
 joined (l ∷ ls) = l ++ joined ls
 
 -- the first line of the input was taken, and there was room for its bytes
-pub record TookLine (desc : Described) (g : Going) (all : List ℕ) (room room' : ℕ) (now : View) (held : List Held) (feed : List ℕ) (left : Option (List ℕ)) (before after : Told) : Type 0 where
+pub record TookLine (desc : Described) (g : Going) (all : List ℕ) (room room' : ℕ) (now : View) (held : List Held) (feed : List ℕ) (left : Option (List ℕ)) (before after : Seen) : Type 0 where
   pub some : all ≢ []
   pub remains : Remains feed left (after_line all)
   pub bytes : room' + length (first_line all) ≡ room

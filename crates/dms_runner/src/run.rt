@@ -1,5 +1,5 @@
 ghost use Rattle.std.specs.Prelude.{◌≡◌, ◌≢◌, ◌≤◌, ◌<◌, ◌+◌, ◌^◌, [], ℕ, List, true, false, IfOk, OnOk, IsErrOf, length, IsTrue};
-ghost use Rattle.dms_block.specs.Moments.{Runs};
+ghost use Rattle.dms_moments.specs.Moments.{Runs};
 ghost use Rattle.dms_block.specs.declared.block_fault.BlockFault.{BlockFault as Fault};
 ghost use Rattle.dms_base.specs.Causes.{Rose};
 ghost use Rattle.dms_desc.specs.Shape.{described};
@@ -7,12 +7,14 @@ ghost use Rattle.dms_feed.specs.Feeds.{Remains};
 ghost use Rattle.dms_feed.specs.Lines.{raw_lines, first_line};
 ghost use Rattle.dms_feed.specs.Raws.{CutLine};
 ghost use Rattle.dms_model.specs.Db.{Db};
-ghost use Rattle.dms_model.specs.Points.{Prints, PrintsFront};
+ghost use Rattle.dms_block.specs.Texts.{Prints, PrintsFront};
 ghost use Rattle.dms_model.specs.Session.{Session, fresh_session, ended};
-ghost use Rattle.dms_storeverbs.specs.View.{view, Stands};
-ghost use Rattle.dms_runner.specs.Events.{text_of, told_by, Stopped, Ran, RanPart};
+ghost use Rattle.dms_storeverbs.specs.View.{Lasts, SameSession, Stands, seen, view};
+ghost use Rattle.dms_runner.specs.Events.{text_of, Stops, Ran, RanPart};
 ghost use Rattle.dms_runner.specs.Answers.{Going, Roomy, line_step, lines_run, unanswered, ending, script_run, script_events, answers_text};
 ghost use Rattle.dms_runner.specs.Running.{TookLine, Answered, PassesLines, PassesBytes, PassesHeld, CutInput};
+ghost use Rattle.dms_runner.specs.Starting.{AtSession, AtGoing, AtStart};
+ghost use Rattle.dms_runner.specs.Blaming.{LastsRun};
 
 use crate::Held;
 use crate::lines::take_line;
@@ -55,23 +57,14 @@ fn say_held<St: Store>(
     engine: &mut Engine<St>,
     held: &[Held],
 ) -> Result<(), BlockFault>
-    requires sound { St.sound engine.old.store }
-    requires desc { St.desc engine.old.store ≡ described engine.old.desc }
-    ensures text { OnOk result (Prints (St.said engine.old.store) (St.said engine.new.store) (text_of (unanswered held.now))) }
-    ensures front { PrintsFront (St.said engine.old.store) (St.said engine.new.store) (text_of (unanswered held.now)) }
-    ensures ran { OnOk result (St.next engine.old.store + 1 < 2 ^ 64 → Ran (told_by (IsTrue St.tells_moments) (St.said engine.old.store) (St.points engine.old.store) (St.sure engine.old.store) (St.next engine.old.store) (St.clock engine.old.store)) (told_by (IsTrue St.tells_moments) (St.said engine.new.store) (St.points engine.new.store) (St.sure engine.new.store) (St.next engine.new.store) (St.clock engine.new.store)) (unanswered held.now)) }
-    ensures part { St.next engine.old.store + 1 < 2 ^ 64 → RanPart (told_by (IsTrue St.tells_moments) (St.said engine.old.store) (St.points engine.old.store) (St.sure engine.old.store) (St.next engine.old.store) (St.clock engine.old.store)) (told_by (IsTrue St.tells_moments) (St.said engine.new.store) (St.points engine.new.store) (St.sure engine.new.store) (St.next engine.new.store) (St.clock engine.new.store)) (unanswered held.now) }
-    ensures next { St.next engine.new.store ≡ St.next engine.old.store }
-    ensures stands { OnOk result ((s : Session) → Stands (view (St.db engine.old.store) (St.mark engine.old.store) (St.next engine.old.store) engine.old.programs.items engine.old.pending engine.old.since) s → Stands (view (St.db engine.new.store) (St.mark engine.new.store) (St.next engine.new.store) engine.new.programs.items engine.new.pending engine.new.since) s) }
-    ensures sound { OnOk result (St.sound engine.new.store) }
-    ensures description { engine.new.desc ≡ engine.old.desc }
-    ensures desc { St.desc engine.new.store ≡ St.desc engine.old.store }
-    ensures same { St.same_store engine.old.store engine.new.store }
-    ensures later { (St.disk_faults engine.old.store ≤ St.disk_faults engine.new.store) × (St.say_faults engine.old.store ≤ St.say_faults engine.new.store) × (St.fulls engine.old.store ≤ St.fulls engine.new.store) × (St.damages engine.old.store ≤ St.damages engine.new.store) }
-    ensures disk { IsErrOf result BlockFault.Disk → Rose (St.disk_faults engine.old.store) (St.disk_faults engine.new.store) }
-    ensures say { IsErrOf result BlockFault.Say → Rose (St.say_faults engine.old.store) (St.say_faults engine.new.store) }
-    ensures full { (f : ℕ) → IsErrOf result (BlockFault.Full f) → Rose (St.fulls engine.old.store) (St.fulls engine.new.store) }
-    ensures damaged { (f b : ℕ) → IsErrOf result (BlockFault.Damaged f b) → Rose (St.damages engine.old.store) (St.damages engine.new.store) }
+    requires sound { (seen engine.old).sound }
+    ensures text { OnOk result (Prints (seen engine.old).said (seen engine.new).said (text_of (unanswered held.now))) }
+    ensures front { PrintsFront (seen engine.old).said (seen engine.new).said (text_of (unanswered held.now)) }
+    ensures ran { OnOk result ((seen engine.old).next + 1 < 2 ^ 64 → Ran (seen engine.old) (seen engine.new) (unanswered held.now)) }
+    ensures part { (seen engine.old).next + 1 < 2 ^ 64 → RanPart (seen engine.old) (seen engine.new) (unanswered held.now) }
+    ensures number { (seen engine.new).next ≡ (seen engine.old).next }
+    ensures stands { OnOk result (SameSession engine.old engine.new) }
+    ensures lasts { Lasts result engine.old engine.new }
 {
     for line in held {
         let text = unanswered_text(alloc, line.line, &line.program)?;
@@ -83,24 +76,15 @@ fn say_held<St: Store>(
 /// Says of each line that it is still held, and goes back to the last quiet point where a program is in
 /// transaction state.
 fn end_run<St: Store>(alloc: Global, engine: &mut Engine<St>, held: &[Held]) -> Result<(), RunFault>
-    requires sound { St.sound engine.old.store }
-    requires desc { St.desc engine.old.store ≡ described engine.old.desc }
-    ensures text { OnOk result (Prints (St.said engine.old.store) (St.said engine.new.store) (text_of (unanswered held.now))) }
-    ensures front { PrintsFront (St.said engine.old.store) (St.said engine.new.store) (text_of (unanswered held.now)) }
-    ensures ran { OnOk result (St.next engine.old.store + 1 < 2 ^ 64 → Ran (told_by (IsTrue St.tells_moments) (St.said engine.old.store) (St.points engine.old.store) (St.sure engine.old.store) (St.next engine.old.store) (St.clock engine.old.store)) (told_by (IsTrue St.tells_moments) (St.said engine.new.store) (St.points engine.new.store) (St.sure engine.new.store) (St.next engine.new.store) (St.clock engine.new.store)) (ending held.now)) }
-    ensures part { St.next engine.old.store + 1 < 2 ^ 64 → RanPart (told_by (IsTrue St.tells_moments) (St.said engine.old.store) (St.points engine.old.store) (St.sure engine.old.store) (St.next engine.old.store) (St.clock engine.old.store)) (told_by (IsTrue St.tells_moments) (St.said engine.new.store) (St.points engine.new.store) (St.sure engine.new.store) (St.next engine.new.store) (St.clock engine.new.store)) (ending held.now) }
-    ensures ended { OnOk result ((s : Session) → Stands (view (St.db engine.old.store) (St.mark engine.old.store) (St.next engine.old.store) engine.old.programs.items engine.old.pending engine.old.since) s → Stands (view (St.db engine.new.store) (St.mark engine.new.store) (St.next engine.new.store) engine.new.programs.items engine.new.pending engine.new.since) (ended s)) }
+    requires sound { (seen engine.old).sound }
+    ensures text { OnOk result (Prints (seen engine.old).said (seen engine.new).said (text_of (unanswered held.now))) }
+    ensures front { PrintsFront (seen engine.old).said (seen engine.new).said (text_of (unanswered held.now)) }
+    ensures ran { OnOk result ((seen engine.old).next + 1 < 2 ^ 64 → Ran (seen engine.old) (seen engine.new) (ending held.now)) }
+    ensures part { (seen engine.old).next + 1 < 2 ^ 64 → RanPart (seen engine.old) (seen engine.new) (ending held.now) }
+    ensures ended { OnOk result ((s : Session) → Stands (view engine.old) s → Stands (view engine.new) (ended s)) }
     ensures limits { (IsErrOf result RunFault.Lines → ⊥) × (IsErrOf result RunFault.Bytes → ⊥) × (IsErrOf result RunFault.Held → ⊥) }
-    ensures sound { OnOk result (St.sound engine.new.store) }
-    ensures description { engine.new.desc ≡ engine.old.desc }
-    ensures desc { St.desc engine.new.store ≡ St.desc engine.old.store }
-    ensures same { St.same_store engine.old.store engine.new.store }
-    ensures later { (St.disk_faults engine.old.store ≤ St.disk_faults engine.new.store) × (St.say_faults engine.old.store ≤ St.say_faults engine.new.store) × (St.fulls engine.old.store ≤ St.fulls engine.new.store) × (St.damages engine.old.store ≤ St.damages engine.new.store) }
+    ensures lasts { LastsRun result engine.old engine.new }
     ensures input { IsErrOf result RunFault.Input → ⊥ }
-    ensures disk { IsErrOf result (RunFault.Block BlockFault.Disk) → Rose (St.disk_faults engine.old.store) (St.disk_faults engine.new.store) }
-    ensures say { IsErrOf result (RunFault.Block BlockFault.Say) → Rose (St.say_faults engine.old.store) (St.say_faults engine.new.store) }
-    ensures full { (f : ℕ) → IsErrOf result (RunFault.Block (BlockFault.Full f)) → Rose (St.fulls engine.old.store) (St.fulls engine.new.store) }
-    ensures damaged { (f b : ℕ) → IsErrOf result (RunFault.Block (BlockFault.Damaged f b)) → Rose (St.damages engine.old.store) (St.damages engine.new.store) }
 {
     match say_held(alloc, engine, held) {
         Err(fault) => Err(RunFault::Block(fault)),
@@ -122,31 +106,22 @@ fn one_line<St: Store, I: Source>(
     line: u32,
     room: &mut u64,
 ) -> Result<bool, RunFault>
-    requires sound { St.sound engine.old.store }
-    requires desc { St.desc engine.old.store ≡ described engine.old.desc }
+    requires sound { (seen engine.old).sound }
     requires room { room.old ≤ 2147483648 }
     requires line { line < 4294967295 }
-    ensures took { IfOk result (λ more. more ≡ true → (g : Going) (all : List ℕ) → Stands (view (St.db engine.old.store) (St.mark engine.old.store) (St.next engine.old.store) engine.old.programs.items engine.old.pending engine.old.since) g.session → g.held ≡ held.old.items → g.line ≡ line → Roomy g → Remains feed.old (I.left source.old) all → TookLine (described engine.old.desc) g all room.old room.new (view (St.db engine.new.store) (St.mark engine.new.store) (St.next engine.new.store) engine.new.programs.items engine.new.pending engine.new.since) held.new.items feed.new (I.left source.new) (told_by (IsTrue St.tells_moments) (St.said engine.old.store) (St.points engine.old.store) (St.sure engine.old.store) (St.next engine.old.store) (St.clock engine.old.store)) (told_by (IsTrue St.tells_moments) (St.said engine.new.store) (St.points engine.new.store) (St.sure engine.new.store) (St.next engine.new.store) (St.clock engine.new.store))) }
+    ensures took { IfOk result (λ more. more ≡ true → (g : Going) (all : List ℕ) → Stands (view engine.old) g.session → g.held ≡ held.old.items → g.line ≡ line → Roomy g → Remains feed.old (I.left source.old) all → TookLine (described engine.old.desc) g all room.old room.new (view engine.new) held.new.items feed.new (I.left source.new) (seen engine.old) (seen engine.new)) }
     ensures none { IfOk result (λ more. more ≡ false → (engine.new ≡ engine.old) × (held.new ≡ held.old) × ((all : List ℕ) → Remains feed.old (I.left source.old) all → (all ≡ []) × Remains feed.new (I.left source.new) [])) }
-    ensures part { (g : Going) (all : List ℕ) → Stands (view (St.db engine.old.store) (St.mark engine.old.store) (St.next engine.old.store) engine.old.programs.items engine.old.pending engine.old.since) g.session → g.held ≡ held.old.items → g.line ≡ line → Roomy g → Remains feed.old (I.left source.old) all → RanPart (told_by (IsTrue St.tells_moments) (St.said engine.old.store) (St.points engine.old.store) (St.sure engine.old.store) (St.next engine.old.store) (St.clock engine.old.store)) (told_by (IsTrue St.tells_moments) (St.said engine.new.store) (St.points engine.new.store) (St.sure engine.new.store) (St.next engine.new.store) (St.clock engine.new.store)) (lines_run (described engine.old.desc) g (raw_lines all)).events }
-    ensures bytes { IsErrOf result RunFault.Bytes → (St.said engine.new.store ≡ St.said engine.old.store) × ((all : List ℕ) → Remains feed.old (I.left source.old) all → room.old < length (first_line all)) }
-    ensures full_list { IsErrOf result RunFault.Held → (g : Going) (all : List ℕ) → Stands (view (St.db engine.old.store) (St.mark engine.old.store) (St.next engine.old.store) engine.old.programs.items engine.old.pending engine.old.since) g.session → g.held ≡ held.old.items → g.line ≡ line → Roomy g → Remains feed.old (I.left source.old) all → Prints (St.said engine.old.store) (St.said engine.new.store) [] × (all ≢ []) × ((line_step (described engine.old.desc) g (first_line all)).full ≡ true) × (length (first_line all) ≤ room.old) }
+    ensures part { (g : Going) (all : List ℕ) → Stands (view engine.old) g.session → g.held ≡ held.old.items → g.line ≡ line → Roomy g → Remains feed.old (I.left source.old) all → RanPart (seen engine.old) (seen engine.new) (lines_run (described engine.old.desc) g (raw_lines all)).events }
+    ensures bytes { IsErrOf result RunFault.Bytes → ((seen engine.new).said ≡ (seen engine.old).said) × ((all : List ℕ) → Remains feed.old (I.left source.old) all → room.old < length (first_line all)) }
+    ensures full_list { IsErrOf result RunFault.Held → (g : Going) (all : List ℕ) → Stands (view engine.old) g.session → g.held ≡ held.old.items → g.line ≡ line → Roomy g → Remains feed.old (I.left source.old) all → Prints (seen engine.old).said (seen engine.new).said [] × (all ≢ []) × ((line_step (described engine.old.desc) g (first_line all)).full ≡ true) × (length (first_line all) ≤ room.old) }
     ensures no_lines { IsErrOf result RunFault.Lines → ⊥ }
-    ensures failed { IsErrOf result RunFault.Input → (St.said engine.new.store ≡ St.said engine.old.store) × ((all : List ℕ) → Remains feed.old (I.left source.old) all → CutLine room.old (I.left source.new) all) }
+    ensures failed { IsErrOf result RunFault.Input → ((seen engine.new).said ≡ (seen engine.old).said) × ((all : List ℕ) → Remains feed.old (I.left source.old) all → CutLine room.old (I.left source.new) all) }
     ensures rest { OnOk result ((all : List ℕ) → Remains feed.old (I.left source.old) all → (rest : List ℕ) × Remains feed.new (I.left source.new) rest) }
-    ensures sound { OnOk result (St.sound engine.new.store) }
-    ensures description { engine.new.desc ≡ engine.old.desc }
-    ensures desc { St.desc engine.new.store ≡ St.desc engine.old.store }
-    ensures same { St.same_store engine.old.store engine.new.store }
-    ensures later { (St.disk_faults engine.old.store ≤ St.disk_faults engine.new.store) × (St.say_faults engine.old.store ≤ St.say_faults engine.new.store) × (St.fulls engine.old.store ≤ St.fulls engine.new.store) × (St.damages engine.old.store ≤ St.damages engine.new.store) }
+    ensures lasts { LastsRun result engine.old engine.new }
     ensures room { room.new ≤ room.old }
     ensures same_source { I.same_source source.old source.new }
     ensures taken { I.faults source.old ≤ I.faults source.new }
     ensures input { IsErrOf result RunFault.Input → Rose (I.faults source.old) (I.faults source.new) }
-    ensures disk { IsErrOf result (RunFault.Block BlockFault.Disk) → Rose (St.disk_faults engine.old.store) (St.disk_faults engine.new.store) }
-    ensures say { IsErrOf result (RunFault.Block BlockFault.Say) → Rose (St.say_faults engine.old.store) (St.say_faults engine.new.store) }
-    ensures full { (f : ℕ) → IsErrOf result (RunFault.Block (BlockFault.Full f)) → Rose (St.fulls engine.old.store) (St.fulls engine.new.store) }
-    ensures damaged { (f b : ℕ) → IsErrOf result (RunFault.Block (BlockFault.Damaged f b)) → Rose (St.damages engine.old.store) (St.damages engine.new.store) }
 {
     match next_raw(alloc, feed, source, KEPT_BYTES, *room) {
         Err(RawFault::Input) => Err(RunFault::Input),
@@ -194,30 +169,21 @@ pub fn run_lines<St: Store, I: Source>(
     feed: &mut Feed,
     source: &mut I,
 ) -> Result<(), RunFault>
-    requires sound { St.sound engine.old.store }
-    requires desc { St.desc engine.old.store ≡ described engine.old.desc }
-    ensures answers { OnOk result ((db : Db) (first : ℕ) (all : List ℕ) → Stands (view (St.db engine.old.store) (St.mark engine.old.store) (St.next engine.old.store) engine.old.programs.items engine.old.pending engine.old.since) (fresh_session db first) → first + 1000003 < 2 ^ 64 → Remains feed.old (I.left source.old) all → Answered (described engine.old.desc) db first (raw_lines all) (St.said engine.old.store) (St.said engine.new.store)) }
-    ensures part { (db : Db) (first : ℕ) (all : List ℕ) → Stands (view (St.db engine.old.store) (St.mark engine.old.store) (St.next engine.old.store) engine.old.programs.items engine.old.pending engine.old.since) (fresh_session db first) → first + 1000003 < 2 ^ 64 → Remains feed.old (I.left source.old) all → PrintsFront (St.said engine.old.store) (St.said engine.new.store) (answers_text (described engine.old.desc) db first (raw_lines all)) }
-    ensures ran { OnOk result ((db : Db) (first : ℕ) (all : List ℕ) → Stands (view (St.db engine.old.store) (St.mark engine.old.store) (St.next engine.old.store) engine.old.programs.items engine.old.pending engine.old.since) (fresh_session db first) → first + 1000003 < 2 ^ 64 → Remains feed.old (I.left source.old) all → Ran (told_by (IsTrue St.tells_moments) (St.said engine.old.store) (St.points engine.old.store) (St.sure engine.old.store) (St.next engine.old.store) (St.clock engine.old.store)) (told_by (IsTrue St.tells_moments) (St.said engine.new.store) (St.points engine.new.store) (St.sure engine.new.store) (St.next engine.new.store) (St.clock engine.new.store)) (script_events (described engine.old.desc) db first (raw_lines all))) }
-    ensures ended { OnOk result ((db : Db) (first : ℕ) (all : List ℕ) → Stands (view (St.db engine.old.store) (St.mark engine.old.store) (St.next engine.old.store) engine.old.programs.items engine.old.pending engine.old.since) (fresh_session db first) → first + 1000003 < 2 ^ 64 → Remains feed.old (I.left source.old) all → Stands (view (St.db engine.new.store) (St.mark engine.new.store) (St.next engine.new.store) engine.new.programs.items engine.new.pending engine.new.since) (ended (script_run (described engine.old.desc) db first (raw_lines all)).going.session)) }
-    ensures moments { (db : Db) (first : ℕ) (all : List ℕ) → Stands (view (St.db engine.old.store) (St.mark engine.old.store) (St.next engine.old.store) engine.old.programs.items engine.old.pending engine.old.since) (fresh_session db first) → first + 1000003 < 2 ^ 64 → Remains feed.old (I.left source.old) all → IsTrue St.tells_moments → Runs (St.clock engine.old.store) (St.clock engine.new.store) (Stopped (St.said engine.old.store) (St.points engine.old.store) (St.sure engine.old.store) (St.next engine.old.store) (script_events (described engine.old.desc) db first (raw_lines all))) }
-    ensures lines { IsErrOf result RunFault.Lines → (db : Db) (first : ℕ) (all : List ℕ) → Stands (view (St.db engine.old.store) (St.mark engine.old.store) (St.next engine.old.store) engine.old.programs.items engine.old.pending engine.old.since) (fresh_session db first) → first + 1000003 < 2 ^ 64 → Remains feed.old (I.left source.old) all → PassesLines (described engine.old.desc) db first (raw_lines all) (St.said engine.old.store) (St.said engine.new.store) }
-    ensures bytes { IsErrOf result RunFault.Bytes → (db : Db) (first : ℕ) (all : List ℕ) → Stands (view (St.db engine.old.store) (St.mark engine.old.store) (St.next engine.old.store) engine.old.programs.items engine.old.pending engine.old.since) (fresh_session db first) → first + 1000003 < 2 ^ 64 → Remains feed.old (I.left source.old) all → PassesBytes (described engine.old.desc) db first (raw_lines all) (St.said engine.old.store) (St.said engine.new.store) }
-    ensures full_list { IsErrOf result RunFault.Held → (db : Db) (first : ℕ) (all : List ℕ) → Stands (view (St.db engine.old.store) (St.mark engine.old.store) (St.next engine.old.store) engine.old.programs.items engine.old.pending engine.old.since) (fresh_session db first) → first + 1000003 < 2 ^ 64 → Remains feed.old (I.left source.old) all → PassesHeld (described engine.old.desc) db first (raw_lines all) (St.said engine.old.store) (St.said engine.new.store) }
-    ensures failed { IsErrOf result RunFault.Input → (db : Db) (first : ℕ) (all : List ℕ) → Stands (view (St.db engine.old.store) (St.mark engine.old.store) (St.next engine.old.store) engine.old.programs.items engine.old.pending engine.old.since) (fresh_session db first) → first + 1000003 < 2 ^ 64 → Remains feed.old (I.left source.old) all → CutInput (described engine.old.desc) db first all (I.left source.new) (St.said engine.old.store) (St.said engine.new.store) }
-    ensures sound { OnOk result (St.sound engine.new.store) }
-    ensures description { engine.new.desc ≡ engine.old.desc }
-    ensures desc { St.desc engine.new.store ≡ St.desc engine.old.store }
-    ensures same { St.same_store engine.old.store engine.new.store }
-    ensures later { (St.disk_faults engine.old.store ≤ St.disk_faults engine.new.store) × (St.say_faults engine.old.store ≤ St.say_faults engine.new.store) × (St.fulls engine.old.store ≤ St.fulls engine.new.store) × (St.damages engine.old.store ≤ St.damages engine.new.store) }
+    requires sound { (seen engine.old).sound }
+    ensures answers { OnOk result (AtStart engine.old feed.old (I.left source.old) (λ db first all. Answered (described engine.old.desc) db first (raw_lines all) (seen engine.old).said (seen engine.new).said)) }
+    ensures part { AtStart engine.old feed.old (I.left source.old) (λ db first all. PrintsFront (seen engine.old).said (seen engine.new).said (answers_text (described engine.old.desc) db first (raw_lines all))) }
+    ensures ran { OnOk result (AtStart engine.old feed.old (I.left source.old) (λ db first all. Ran (seen engine.old) (seen engine.new) (script_events (described engine.old.desc) db first (raw_lines all)))) }
+    ensures ended { OnOk result (AtStart engine.old feed.old (I.left source.old) (λ db first all. Stands (view engine.new) (ended (script_run (described engine.old.desc) db first (raw_lines all)).going.session))) }
+    ensures moments { AtStart engine.old feed.old (I.left source.old) (λ db first all. (seen engine.old).tells → Runs (seen engine.old).clock (seen engine.new).clock (Stops (seen engine.old) (script_events (described engine.old.desc) db first (raw_lines all)))) }
+    ensures lines { IsErrOf result RunFault.Lines → AtStart engine.old feed.old (I.left source.old) (λ db first all. PassesLines (described engine.old.desc) db first (raw_lines all) (seen engine.old).said (seen engine.new).said) }
+    ensures bytes { IsErrOf result RunFault.Bytes → AtStart engine.old feed.old (I.left source.old) (λ db first all. PassesBytes (described engine.old.desc) db first (raw_lines all) (seen engine.old).said (seen engine.new).said) }
+    ensures full_list { IsErrOf result RunFault.Held → AtStart engine.old feed.old (I.left source.old) (λ db first all. PassesHeld (described engine.old.desc) db first (raw_lines all) (seen engine.old).said (seen engine.new).said) }
+    ensures failed { IsErrOf result RunFault.Input → AtStart engine.old feed.old (I.left source.old) (λ db first all. CutInput (described engine.old.desc) db first all (I.left source.new) (seen engine.old).said (seen engine.new).said) }
+    ensures lasts { LastsRun result engine.old engine.new }
     ensures end { OnOk result ((all : List ℕ) → Remains feed.old (I.left source.old) all → Remains feed.new (I.left source.new) []) }
     ensures same_source { I.same_source source.old source.new }
     ensures taken { I.faults source.old ≤ I.faults source.new }
     ensures input { IsErrOf result RunFault.Input → Rose (I.faults source.old) (I.faults source.new) }
-    ensures disk { IsErrOf result (RunFault.Block BlockFault.Disk) → Rose (St.disk_faults engine.old.store) (St.disk_faults engine.new.store) }
-    ensures say { IsErrOf result (RunFault.Block BlockFault.Say) → Rose (St.say_faults engine.old.store) (St.say_faults engine.new.store) }
-    ensures full { (f : ℕ) → IsErrOf result (RunFault.Block (BlockFault.Full f)) → Rose (St.fulls engine.old.store) (St.fulls engine.new.store) }
-    ensures damaged { (f b : ℕ) → IsErrOf result (RunFault.Block (BlockFault.Damaged f b)) → Rose (St.damages engine.old.store) (St.damages engine.new.store) }
 {
     let mut held: Vec<Held> = Vec::new(alloc);
     let mut room = SCRIPT_BYTES;

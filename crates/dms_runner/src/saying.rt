@@ -1,12 +1,12 @@
 ghost use Rattle.std.specs.Prelude.{◌≡◌, ◌≤◌, ◌<◌, ◌+◌, ◌^◌, ◌++◌, [], ◌∷◌, ℕ, List, Bool, true, false, not, ◌&&◌, Some, None, IfOk, OnOk, IsErrOf, IsTrue, length};
-ghost use Rattle.dms_base.specs.Causes.{Rose};
 ghost use Rattle.dms_desc.specs.Shape.{described};
-ghost use Rattle.dms_model.specs.Points.{Prints, PrintsFront};
+ghost use Rattle.dms_block.specs.Texts.{Prints, PrintsFront};
 ghost use Rattle.dms_model.specs.Session.{Session, step, is_waits};
-ghost use Rattle.dms_storeverbs.specs.View.{View, view, Stands, Room};
-ghost use Rattle.dms_runner.specs.Events.{told_by, says, Ran, RanPart};
+ghost use Rattle.dms_storeverbs.specs.View.{Lasts, SameSession, Stands, seen, view};
+ghost use Rattle.dms_runner.specs.Events.{says, Ran, RanPart};
 ghost use Rattle.dms_runner.specs.Held.{answer_text, said_of, tries, sync_text};
 ghost use Rattle.dms_runner.specs.Trying.{Tries};
+ghost use Rattle.dms_runner.specs.Starting.{AtSession, AtGoing, AtStart};
 
 use crate::Held;
 use dms_base::{Bytes, Memory, Name};
@@ -58,22 +58,13 @@ pub fn say_answer<St: Store>(
     program: &Name,
     answer: &Answer,
 ) -> Result<(), BlockFault>
-    requires sound { St.sound engine.old.store }
-    requires desc { St.desc engine.old.store ≡ described engine.old.desc }
-    ensures text { OnOk result (Prints (St.said engine.old.store) (St.said engine.new.store) (answer_text line program.now answer.now.reply answer.now.sync)) }
-    ensures front { PrintsFront (St.said engine.old.store) (St.said engine.new.store) (answer_text line program.now answer.now.reply answer.now.sync) }
-    ensures ran { OnOk result (St.next engine.old.store + 1 < 2 ^ 64 → Ran (told_by (IsTrue St.tells_moments) (St.said engine.old.store) (St.points engine.old.store) (St.sure engine.old.store) (St.next engine.old.store) (St.clock engine.old.store)) (told_by (IsTrue St.tells_moments) (St.said engine.new.store) (St.points engine.new.store) (St.sure engine.new.store) (St.next engine.new.store) (St.clock engine.new.store)) (says (answer_text line program.now answer.now.reply answer.now.sync) ∷ [])) }
-    ensures part { St.next engine.old.store + 1 < 2 ^ 64 → RanPart (told_by (IsTrue St.tells_moments) (St.said engine.old.store) (St.points engine.old.store) (St.sure engine.old.store) (St.next engine.old.store) (St.clock engine.old.store)) (told_by (IsTrue St.tells_moments) (St.said engine.new.store) (St.points engine.new.store) (St.sure engine.new.store) (St.next engine.new.store) (St.clock engine.new.store)) (says (answer_text line program.now answer.now.reply answer.now.sync) ∷ []) }
-    ensures stands { OnOk result ((s : Session) → Stands (view (St.db engine.old.store) (St.mark engine.old.store) (St.next engine.old.store) engine.old.programs.items engine.old.pending engine.old.since) s → Stands (view (St.db engine.new.store) (St.mark engine.new.store) (St.next engine.new.store) engine.new.programs.items engine.new.pending engine.new.since) s) }
-    ensures sound { OnOk result (St.sound engine.new.store) }
-    ensures description { engine.new.desc ≡ engine.old.desc }
-    ensures desc { St.desc engine.new.store ≡ St.desc engine.old.store }
-    ensures same { St.same_store engine.old.store engine.new.store }
-    ensures later { (St.disk_faults engine.old.store ≤ St.disk_faults engine.new.store) × (St.say_faults engine.old.store ≤ St.say_faults engine.new.store) × (St.fulls engine.old.store ≤ St.fulls engine.new.store) × (St.damages engine.old.store ≤ St.damages engine.new.store) }
-    ensures disk { IsErrOf result BlockFault.Disk → Rose (St.disk_faults engine.old.store) (St.disk_faults engine.new.store) }
-    ensures say { IsErrOf result BlockFault.Say → Rose (St.say_faults engine.old.store) (St.say_faults engine.new.store) }
-    ensures full { (f : ℕ) → IsErrOf result (BlockFault.Full f) → Rose (St.fulls engine.old.store) (St.fulls engine.new.store) }
-    ensures damaged { (f b : ℕ) → IsErrOf result (BlockFault.Damaged f b) → Rose (St.damages engine.old.store) (St.damages engine.new.store) }
+    requires sound { (seen engine.old).sound }
+    ensures text { OnOk result (Prints (seen engine.old).said (seen engine.new).said (answer_text line program.now answer.now.reply answer.now.sync)) }
+    ensures front { PrintsFront (seen engine.old).said (seen engine.new).said (answer_text line program.now answer.now.reply answer.now.sync) }
+    ensures ran { OnOk result ((seen engine.old).next + 1 < 2 ^ 64 → Ran (seen engine.old) (seen engine.new) (says (answer_text line program.now answer.now.reply answer.now.sync) ∷ [])) }
+    ensures part { (seen engine.old).next + 1 < 2 ^ 64 → RanPart (seen engine.old) (seen engine.new) (says (answer_text line program.now answer.now.reply answer.now.sync) ∷ []) }
+    ensures stands { OnOk result (SameSession engine.old engine.new) }
+    ensures lasts { Lasts result engine.old engine.new }
 {
     let text = answer_text(alloc, line, program, answer)?;
     engine.say(text.as_slice())
@@ -86,22 +77,13 @@ fn say_tried<St: Store>(
     held: &Held,
     answer: &Answer,
 ) -> Result<(), BlockFault>
-    requires sound { St.sound engine.old.store }
-    requires desc { St.desc engine.old.store ≡ described engine.old.desc }
-    ensures text { OnOk result (Prints (St.said engine.old.store) (St.said engine.new.store) (said_of held.now answer.now.reply answer.now.sync)) }
-    ensures front { PrintsFront (St.said engine.old.store) (St.said engine.new.store) (said_of held.now answer.now.reply answer.now.sync) }
-    ensures ran { OnOk result (St.next engine.old.store + 1 < 2 ^ 64 → Ran (told_by (IsTrue St.tells_moments) (St.said engine.old.store) (St.points engine.old.store) (St.sure engine.old.store) (St.next engine.old.store) (St.clock engine.old.store)) (told_by (IsTrue St.tells_moments) (St.said engine.new.store) (St.points engine.new.store) (St.sure engine.new.store) (St.next engine.new.store) (St.clock engine.new.store)) (says (said_of held.now answer.now.reply answer.now.sync) ∷ [])) }
-    ensures part { St.next engine.old.store + 1 < 2 ^ 64 → RanPart (told_by (IsTrue St.tells_moments) (St.said engine.old.store) (St.points engine.old.store) (St.sure engine.old.store) (St.next engine.old.store) (St.clock engine.old.store)) (told_by (IsTrue St.tells_moments) (St.said engine.new.store) (St.points engine.new.store) (St.sure engine.new.store) (St.next engine.new.store) (St.clock engine.new.store)) (says (said_of held.now answer.now.reply answer.now.sync) ∷ []) }
-    ensures stands { OnOk result ((s : Session) → Stands (view (St.db engine.old.store) (St.mark engine.old.store) (St.next engine.old.store) engine.old.programs.items engine.old.pending engine.old.since) s → Stands (view (St.db engine.new.store) (St.mark engine.new.store) (St.next engine.new.store) engine.new.programs.items engine.new.pending engine.new.since) s) }
-    ensures sound { OnOk result (St.sound engine.new.store) }
-    ensures description { engine.new.desc ≡ engine.old.desc }
-    ensures desc { St.desc engine.new.store ≡ St.desc engine.old.store }
-    ensures same { St.same_store engine.old.store engine.new.store }
-    ensures later { (St.disk_faults engine.old.store ≤ St.disk_faults engine.new.store) × (St.say_faults engine.old.store ≤ St.say_faults engine.new.store) × (St.fulls engine.old.store ≤ St.fulls engine.new.store) × (St.damages engine.old.store ≤ St.damages engine.new.store) }
-    ensures disk { IsErrOf result BlockFault.Disk → Rose (St.disk_faults engine.old.store) (St.disk_faults engine.new.store) }
-    ensures say { IsErrOf result BlockFault.Say → Rose (St.say_faults engine.old.store) (St.say_faults engine.new.store) }
-    ensures full { (f : ℕ) → IsErrOf result (BlockFault.Full f) → Rose (St.fulls engine.old.store) (St.fulls engine.new.store) }
-    ensures damaged { (f b : ℕ) → IsErrOf result (BlockFault.Damaged f b) → Rose (St.damages engine.old.store) (St.damages engine.new.store) }
+    requires sound { (seen engine.old).sound }
+    ensures text { OnOk result (Prints (seen engine.old).said (seen engine.new).said (said_of held.now answer.now.reply answer.now.sync)) }
+    ensures front { PrintsFront (seen engine.old).said (seen engine.new).said (said_of held.now answer.now.reply answer.now.sync) }
+    ensures ran { OnOk result ((seen engine.old).next + 1 < 2 ^ 64 → Ran (seen engine.old) (seen engine.new) (says (said_of held.now answer.now.reply answer.now.sync) ∷ [])) }
+    ensures part { (seen engine.old).next + 1 < 2 ^ 64 → RanPart (seen engine.old) (seen engine.new) (says (said_of held.now answer.now.reply answer.now.sync) ∷ []) }
+    ensures stands { OnOk result (SameSession engine.old engine.new) }
+    ensures lasts { Lasts result engine.old engine.new }
 {
     if is_silent(&answer.reply, held.printed) {
         return Ok(());
@@ -122,19 +104,10 @@ pub fn try_line<St: Store>(
     engine: &mut Engine<St>,
     held: &Held,
 ) -> Result<bool, BlockFault>
-    requires sound { St.sound engine.old.store }
-    requires desc { St.desc engine.old.store ≡ described engine.old.desc }
-    ensures tried { IfOk result (λ answered. (s : Session) → Stands (view (St.db engine.old.store) (St.mark engine.old.store) (St.next engine.old.store) engine.old.programs.items engine.old.pending engine.old.since) s → Room s.next → Tries (step (described engine.old.desc) s held.now.program held.now.verb) held.now answered (view (St.db engine.new.store) (St.mark engine.new.store) (St.next engine.new.store) engine.new.programs.items engine.new.pending engine.new.since) (told_by (IsTrue St.tells_moments) (St.said engine.old.store) (St.points engine.old.store) (St.sure engine.old.store) (St.next engine.old.store) (St.clock engine.old.store)) (told_by (IsTrue St.tells_moments) (St.said engine.new.store) (St.points engine.new.store) (St.sure engine.new.store) (St.next engine.new.store) (St.clock engine.new.store))) }
-    ensures part { (s : Session) → Stands (view (St.db engine.old.store) (St.mark engine.old.store) (St.next engine.old.store) engine.old.programs.items engine.old.pending engine.old.since) s → Room s.next → RanPart (told_by (IsTrue St.tells_moments) (St.said engine.old.store) (St.points engine.old.store) (St.sure engine.old.store) (St.next engine.old.store) (St.clock engine.old.store)) (told_by (IsTrue St.tells_moments) (St.said engine.new.store) (St.points engine.new.store) (St.sure engine.new.store) (St.next engine.new.store) (St.clock engine.new.store)) (tries held.now (step (described engine.old.desc) s held.now.program held.now.verb)) }
-    ensures sound { OnOk result (St.sound engine.new.store) }
-    ensures description { engine.new.desc ≡ engine.old.desc }
-    ensures desc { St.desc engine.new.store ≡ St.desc engine.old.store }
-    ensures same { St.same_store engine.old.store engine.new.store }
-    ensures later { (St.disk_faults engine.old.store ≤ St.disk_faults engine.new.store) × (St.say_faults engine.old.store ≤ St.say_faults engine.new.store) × (St.fulls engine.old.store ≤ St.fulls engine.new.store) × (St.damages engine.old.store ≤ St.damages engine.new.store) }
-    ensures disk { IsErrOf result BlockFault.Disk → Rose (St.disk_faults engine.old.store) (St.disk_faults engine.new.store) }
-    ensures say { IsErrOf result BlockFault.Say → Rose (St.say_faults engine.old.store) (St.say_faults engine.new.store) }
-    ensures full { (f : ℕ) → IsErrOf result (BlockFault.Full f) → Rose (St.fulls engine.old.store) (St.fulls engine.new.store) }
-    ensures damaged { (f b : ℕ) → IsErrOf result (BlockFault.Damaged f b) → Rose (St.damages engine.old.store) (St.damages engine.new.store) }
+    requires sound { (seen engine.old).sound }
+    ensures tried { IfOk result (λ answered. AtSession engine.old (λ s. Tries (step (described engine.old.desc) s held.now.program held.now.verb) held.now answered (view engine.new) (seen engine.old) (seen engine.new))) }
+    ensures part { AtSession engine.old (λ s. RanPart (seen engine.old) (seen engine.new) (tries held.now (step (described engine.old.desc) s held.now.program held.now.verb))) }
+    ensures lasts { Lasts result engine.old engine.new }
 {
     let answer = engine.call(alloc, &held.program, &held.verb)?;
     say_tried(alloc, engine, held, &answer)?;

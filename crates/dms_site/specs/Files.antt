@@ -1,6 +1,6 @@
 -- Files by number, what the calls of a site do to them, and what a stop may leave of them.
 use Rattle.std.specs.Prelude.{ℕ, ◌+◌, ◌-◌, ◌<◌, ◌≤◌, max, ◌≡◌, ◌≢◌, ◌⊎◌, ◌==◌, if◌then◌else◌, List, [], ◌++◌, length, take, drop, replicate, slice_index}
-use Rattle.dms_block.specs.Moments.{Clock, Now}
+use Rattle.dms_moments.specs.Moments.{Clock, Now}
 
 -- the bytes of each file; a file that doesn't exist has none
 abbrev pub Files : Type 0

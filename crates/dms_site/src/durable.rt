@@ -1,6 +1,6 @@
 ghost use Rattle.std.specs.Prelude.{◌≡◌, ◌+◌, ◌^◌, ◌<◌, length, take, OnOk, IsTrue};
 ghost use Rattle.dms_base.specs.Causes.{HasCause};
-ghost use Rattle.dms_block.specs.Moments.{Steps};
+ghost use Rattle.dms_moments.specs.Moments.{Steps};
 ghost use Rattle.dms_site.specs.Files.{with_file, overlaid, InFile, Torn, Cut, OnDisk, Only};
 
 use crate::{Failed, Site};

@@ -1,6 +1,6 @@
 ghost use Rattle.std.specs.Prelude.{◌≡◌, ◌+◌, ◌^◌, ◌<◌, ◌≤◌, ℕ, Bool, List, ◌++◌, length, take, drop, IfOk, OnOk, IsTrue};
 ghost use Rattle.dms_base.specs.Causes.{HasCause};
-ghost use Rattle.dms_block.specs.Moments.{Clock, Now, Steps};
+ghost use Rattle.dms_moments.specs.Moments.{Clock, Now, Steps};
 ghost use Rattle.dms_site.specs.Files.{Files, Left, with_file, range, overlaid, InFile, Torn, Cut, OnDisk, Prints, Same, Only, IsLastPresent};
 
 /// A call of the outside failed.

@@ -1,6 +1,6 @@
 -- What is told of a real folder, terminal or pipe: nothing but how often a call failed.
 use Rattle.std.proofs.Common.{[], inl, arith}
-use Rattle.dms_block.specs.Moments.{Clock, Steps}
+use Rattle.dms_moments.specs.Moments.{Clock, Steps}
 use Rattle.dms_site.specs.Files.{Files, Left}
 
 -- files of which nothing is known

@@ -1,4 +1,4 @@
-ghost use Rattle.std.specs.Prelude.{IfOk, ◌≡◌, ◌≤◌, false, []};
+ghost use Rattle.std.specs.Prelude.{◌+◌, IfOk, ◌≡◌, ◌≤◌, false, []};
 ghost use Rattle.std.proofs.lemmas.Bool.{false≢true};
 ghost use Rattle.dms_base.specs.Causes.{Rose};
 ghost use Rattle.dms_sitefile.specs.Untold.{no_files, untold, untold_steps};
@@ -41,6 +41,7 @@ where
     fn disk_failed(&mut self) -> Failed
         ensures rose { Rose self.old.disk_faults self.new.disk_faults }
         ensures later { self.old.disk_faults ≤ self.new.disk_faults }
+        ensures once { self.new.disk_faults ≤ self.old.disk_faults + 1 }
         ensures say_faults { self.new.say_faults ≡ self.old.say_faults }
     {
         self.disk_faults = self.disk_faults.saturating_add(1);

@@ -3,7 +3,7 @@ use Rattle.std.proofs.Common.{ℕ, zero, suc, ◌+◌, ◌-◌, ◌<◌, ◌≤�
 use Rattle.std.specs.declared.alloc.Global.{Global}
 use Rattle.std.proofs.lemmas.List.{take_all, take-append-le, append-nil, length-replicate}
 use Rattle.std.proofs.lemmas.Bool.{cases_lt}
-use Rattle.dms_block.specs.Moments.{Clock, Now, Runs, After, Steps}
+use Rattle.dms_moments.specs.Moments.{Clock, Now, Runs, After, Steps}
 use Rattle.dms_site.specs.Files.{Files, Left, with_file, overlaid, InFile, Torn, Cut, OnDisk, Prints, Same, Only}
 use Rattle.dms_site.specs.Laws.{torn_overlaid, torn_refl, in_file_with, in_file_same}
 use Rattle.dms_sitemem.specs.declared.event.Event.{Event}

@@ -1,5 +1,7 @@
-ghost use Rattle.std.specs.Prelude.{◌≡◌, ◌+◌, ℕ, List, ◌++◌, not, length, take, OnOk, OnErr, IfOk, IsTrue};
-ghost use Rattle.dms_block.specs.Moments.{Steps};
+ghost use Rattle.dms_sitemem.specs.declared.event.Event.TheVariants.{Looked, Wrote, Synced};
+ghost use Rattle.std.specs.declared.alloc.Global.{Global as global};
+ghost use Rattle.std.specs.Prelude.{◌≡◌, ◌+◌, ℕ, List, [], ◌∷◌, Vec, ◌++◌, not, length, take, OnOk, OnErr, IfOk, IsTrue};
+ghost use Rattle.dms_moments.specs.Moments.{Steps};
 ghost use Rattle.dms_site.specs.Files.{with_file, overlaid, InFile, Torn, Cut, OnDisk, Prints, Same, Only};
 ghost use Rattle.dms_sitemem.specs.Slots.{files_of};
 ghost use Rattle.dms_sitemem.specs.Plans.{is_named};
@@ -23,6 +25,7 @@ impl Journal {
         ensures files { files_of self.new.image.files ≡ files_of self.old.image.files }
         ensures said { self.new.image.said.items ≡ self.old.image.said.items }
         ensures moments { Steps Same (clock_of self.old.events.items) (clock_of self.new.events.items) }
+        ensures kept { IfOk result (λ done. self.new.events.items ≡ self.old.events.items ++ Looked done ∷ []) }
         ensures made { OnOk result (self.new.made ≡ self.old.made + 1) }
         ensures unmade { OnErr result (self.new.made ≡ self.old.made) }
         ensures plan { self.new.plan ≡ self.old.plan }
@@ -39,6 +42,7 @@ impl Journal {
         ensures torn { InFile file (Torn at (length bytes.now)) (files_of self.old.image.files) (files_of self.new.image.files) }
         ensures said { self.new.image.said.items ≡ self.old.image.said.items }
         ensures moments { Steps (OnDisk file (Torn at (length bytes.now))) (clock_of self.old.events.items) (clock_of self.new.events.items) }
+        ensures kept { IfOk result (λ done. (v : Vec ℕ global) × (v.items ≡ bytes.now) × (self.new.events.items ≡ self.old.events.items ++ Wrote file at v done ∷ [])) }
         ensures made { OnOk result (self.new.made ≡ self.old.made + 1) }
         ensures unmade { OnErr result (self.new.made ≡ self.old.made) }
         ensures plan { self.new.plan ≡ self.old.plan }
@@ -72,6 +76,7 @@ impl Journal {
         ensures files { files_of self.new.image.files ≡ files_of self.old.image.files }
         ensures said { self.new.image.said.items ≡ self.old.image.said.items }
         ensures moments { Steps Same (clock_of self.old.events.items) (clock_of self.new.events.items) }
+        ensures kept { IfOk result (λ done. self.new.events.items ≡ self.old.events.items ++ Synced done ∷ []) }
         ensures made { OnOk result (self.new.made ≡ self.old.made + 1) }
         ensures unmade { OnErr result (self.new.made ≡ self.old.made) }
         ensures plan { self.new.plan ≡ self.old.plan }

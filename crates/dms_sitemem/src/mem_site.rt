@@ -1,6 +1,6 @@
 ghost use Rattle.std.specs.Prelude.{◌≡◌, ◌+◌, ◌-◌, ◌^◌, ◌<◌, ◌≤◌, ℕ, List, [], ◌++◌, true, None, length, take, drop, min, nat_lt, if◌then◌else◌, IfOk, OnOk, OnErr, IsTrue};
 ghost use Rattle.dms_base.specs.Causes.{HasCause};
-ghost use Rattle.dms_block.specs.Moments.{Steps};
+ghost use Rattle.dms_moments.specs.Moments.{Steps};
 ghost use Rattle.dms_site.specs.Files.{Left, with_file, range, overlaid, InFile, Torn, Cut, OnDisk, Prints, Same, Only, IsLastPresent};
 ghost use Rattle.dms_sitemem.specs.Slots.{files_of};
 ghost use Rattle.dms_sitemem.specs.Plans.{Ends};

@@ -1,15 +1,22 @@
 -- What a stop within a call of the engine leaves.
 use Rattle.std.proofs.Common.{ℕ, ◌+◌, ◌≤◌, ◌≡◌, List, [], ◌∷◌, ◌++◌, Some, None, refl, sym, ◌∙◌, ap, subst, arith, append-nil, Bool, true, false, cond}
 use Rattle.std.specs.declared.option.Option.{Option}
-use Rattle.dms_block.specs.Moments.{Clock, Runs}
-use Rattle.dms_block.specs.MomentLaws.{runs_on, runs_weaken, runs_none}
+use Rattle.dms_moments.specs.Moments.{Clock, Runs}
+use Rattle.dms_moments.specs.MomentLaws.{runs_on, runs_weaken, runs_none}
 use Rattle.dms_model.specs.declared.program.Program.{Program}
 use Rattle.dms_model.specs.declared.reply.Answer.{Answer}
 use Rattle.dms_model.specs.Db.{Db}
+use Rattle.dms_model.specs.Seen.{Seen, IsSilent, StaysSure}
+use Rattle.std.specs.Prelude.{IsTrue, IsErr, IfOk}
+use Rattle.std.specs.declared.result.Result.{Result}
+use Rattle.std.specs.declared.result.Result.TheVariants.{Ok, Err}
+use Rattle.std.proofs.lemmas.Result.{IfOk-weaker}
+use Rattle.std.proofs.lemmas.Bool.{false≢true}
+use Rattle.dms_block.specs.declared.block_fault.BlockFault.{BlockFault}
 use Rattle.dms_model.specs.Points.{Point, Quiet, Stop, Front, TextIs, told, known, Leaves, Stays}
 use Rattle.dms_model.specs.Session.{Session, Outcome, settle, someone_works}
 use Rattle.dms_storeverbs.specs.Apart.{Alone}
-use Rattle.dms_storeverbs.specs.View.{View, Stands, Is, view, Left, Made}
+use Rattle.dms_storeverbs.specs.View.{View, Stands, Is, Did, Room, view_of, Left, Made}
 
 -- fewer points are sure, and the number was no higher
 pub lower : {a b m n : ℕ} {ps : List Point} {stop : Stop} → a ≤ b → m ≤ n → Front b ps n stop → Front a ps m stop
@@ -28,7 +35,7 @@ no_more answer {points = points} none stays = record { grew = record { more = []
 
 -- a call that leaves its store alone
 module _ {db mark : Option Db} {next since : ℕ} {programs new : List Program} {pending : Bool} {o : Outcome} {s : Session} {answer : Answer} where
-  pub apart : Alone o s answer new → Stands (view db mark next programs pending since) s → Is o answer (view db mark next new pending since)
+  pub apart : Alone o s answer new → Stands (view_of db mark next programs pending since) s → Is o answer (view_of db mark next new pending since)
   apart alone stands = record {
     reply = alone.reply;
     sync = alone.unsynced ∙ sym alone.sync;
@@ -41,9 +48,6 @@ module _ {db mark : Option Db} {next since : ℕ} {programs new : List Program} 
       since = stands.since ∙ ap (λ (t : Session). t.since) (sym alone.session);
     };
   }
-
-pub apart_made : {o : Outcome} {s : Session} {answer : Answer} {new : List Program} (sure : ℕ) (points : List Point) → Alone o s answer new → Made answer sure points o.quiets sure points
-apart_made {answer = answer} sure points alone = subst (λ (qs : List Quiet). Made answer sure points qs sure points) (sym alone.quiets) (no_more answer alone.unsynced (refl, omega arith))
 
 pub nothing : (c : Clock Stop) (sure : ℕ) (points : List Point) (next : ℕ) (said : Option (List ℕ)) (quiets : List Quiet) → Runs c c (λ stop. Left sure points next quiets stop × TextIs said stop)
 nothing c sure points next said quiets = runs_none c _
@@ -85,15 +89,41 @@ then_settles {sure = sure} {sure' = sure'} {next = next} {next' = next'} {points
 pub then_made : {answer : Answer} {sure sure' sure'' : ℕ} {points points' points'' : List Point} (quiets : List Quiet) → Stays points sure points' sure' → Made answer sure' points' quiets sure'' points'' → Made answer sure points quiets sure'' points''
 then_made quiets stayed made = record { grew = record { more = made.grew.more; is = made.grew.is ∙ ap (λ (ps : List Point). ps ++ made.grew.more) stayed.0; spells = made.grew.spells }; later = omega (arith, stayed.1, made.later); synced = made.synced }
 
--- what is told of an outcome is told of an equal one
-pub is_from : {o o' : Outcome} {answer : Answer} {v : View} → o ≡ o' → Is o' answer v → Is o answer v
-is_from {answer = answer} {v = v} same is = subst (λ (x : Outcome). Is x answer v) (sym same) is
-
-pub made_from : {answer : Answer} {sure sure' : ℕ} {points points' : List Point} {qs qs' : List Quiet} → qs ≡ qs' → Made answer sure points qs' sure' points' → Made answer sure points qs sure' points'
-made_from {answer} {sure} {sure'} {points} {points'} same made = subst (λ (x : List Quiet). Made answer sure points x sure' points') (sym same) made
-
-pub runs_from : {a b : Clock Stop} {sure next : ℕ} {points : List Point} {said : Option (List ℕ)} {qs qs' : List Quiet} → qs ≡ qs' → Runs a b (λ stop. Left sure points next qs' stop × TextIs said stop) → Runs a b (λ stop. Left sure points next qs stop × TextIs said stop)
-runs_from {sure = sure} {next = next} {points = points} same run = runs_weaken run (λ x p. (subst (λ (qs : List Quiet). Left sure points next qs x) (sym same) p.0, p.1))
-
 pub none_made : {answer : Answer} {sure sure' : ℕ} {points points' : List Point} {qs : List Quiet} → qs ≡ [] → answer.sync ≡ None → Stays points sure points' sure' → Made answer sure points qs sure' points'
-none_made {answer = answer} same none stays = made_from same (no_more answer none stays)
+none_made {answer} {sure} {sure'} {points} {points'} same none stays = subst (λ (x : List Quiet). Made answer sure points x sure' points') (sym same) (no_more answer none stays)
+
+-- what is told of an outcome is told of an equal one
+pub did_from : {o o' : Outcome} {old new : Seen} {now : View} {result : Result Answer BlockFault} → o ≡ o' → Did o' old new now result → Did o old new now result
+did_from {old = old} {new = new} {now = now} {result = result} same did = subst (λ (x : Outcome). Did x old new now result) (sym same) did
+
+pub if_err : (r : Result Answer BlockFault) (P : Answer → Type 0) → IsErr r → IfOk r P
+if_err (Ok x) P err = absurd (false≢true err)
+if_err (Err e) P err = tt
+
+-- a call that made no quiet point, and failed
+pub failed : {o : Outcome} {old new : Seen} {now : View} {result : Result Answer BlockFault} → IsErr result → IsSilent old new → (s : Session) → old.next ≡ s.next → Room s.next → Did o old new now result
+failed {o} {result = result} err silent s next room = record { answers = if_err result _ err; made = λ t. if_err result _ err; leaves = λ t. still o.quiets (silent.leaves t (omega (arith, next, room))) }
+
+-- and one that answered
+pub silently : {o : Outcome} {old new : Seen} {now : View} {answer : Answer} → IsSilent old new → StaysSure old new → (s : Session) → old.next ≡ s.next → Room s.next → o.quiets ≡ [] → answer.sync ≡ None → Is o answer now → Did o old new now (Ok answer)
+silently {o} {answer = answer} silent points s next room quiets none is = record {
+  answers = is;
+  made = λ t. none_made quiets none (points t (omega (arith, next, room)));
+  leaves = λ t. still o.quiets (silent.leaves t (omega (arith, next, room)));
+}
+
+-- one that left the store alone
+pub unchanged : {o : Outcome} {old : Seen} {now : View} {answer : Answer} → o.quiets ≡ [] → answer.sync ≡ None → Is o answer now → Did o old old now (Ok answer)
+unchanged {o} {old} quiets none is = record { answers = is; made = λ t. none_made quiets none (refl, omega arith); leaves = λ t. runs_none old.clock _ }
+
+-- one that changed programs alone
+pub apart_did : {o : Outcome} {s : Session} {old : Seen} {answer : Answer} {programs new : List Program} {pending : Bool} {since : ℕ} → Alone o s answer new → Stands (view_of old.db old.mark old.next programs pending since) s → Did o old old (view_of old.db old.mark old.next new pending since) (Ok answer)
+apart_did alone stands = unchanged alone.quiets alone.unsynced (apart alone stands)
+
+-- a call that first stores a record, and then does the rest
+pub then_did : {o : Outcome} {old mid new : Seen} {now : View} {result : Result Answer BlockFault} → IsSilent old mid → StaysSure old mid → (s : Session) → old.next ≡ s.next → Room s.next → (old.tells → mid.tells) → Did o mid new now result → Did o old new now result
+then_did {o} {old = old} {result = result} silent points s next room tells did = record {
+  answers = did.answers;
+  made = λ t. IfOk-weaker result _ _ (λ answer h. then_made o.quiets (points t (omega (arith, next, room))) h) (did.made (tells t));
+  leaves = λ t. then_settles o.quiets (silent.leaves t (omega (arith, next, room))) (points t (omega (arith, next, room))) silent.next silent.said (did.leaves (tells t));
+}

@@ -10,12 +10,10 @@ use Rattle.dms_model.specs.Db.{Db}
 use Rattle.dms_model.specs.Session.{Session, Outcome, Kept, Refused, Keeps, refuse, done, after_store, after_begin, after_end, settle, carried, entered, left, one_more}
 use Rattle.dms_storeverbs.specs.declared.refusal.Refusal.{Refusal}
 use Rattle.dms_storeverbs.specs.Keeping.{KeptIs, kept_if}
-use Rattle.dms_block.specs.Moments.{Clock, Runs}
-use Rattle.dms_model.specs.Points.{Point, Stop, TextIs}
-use Rattle.dms_storeverbs.specs.View.{View, Stands, Is, Made, Left, view}
+use Rattle.dms_storeverbs.specs.View.{View, Stands, Is, view_of}
 use Rattle.dms_storeverbs.proofs.Places.{set_twice, set_back, read_back}
 
-pub kept_as_it_was : (audit : Bool) (desc : Described) (p : Program) (s : Session) (i : ℕ) {db mark : Option Db} {next since : ℕ} {programs : List Program} {pending : Bool} → audit ≡ false → slice_get programs i ≡ Some p → Stands (view db mark next programs pending since) s → KeptIs (kept_if audit desc p s.db) i s None (view db mark next programs pending since)
+pub kept_as_it_was : (audit : Bool) (desc : Described) (p : Program) (s : Session) (i : ℕ) {db mark : Option Db} {next since : ℕ} {programs : List Program} {pending : Bool} → audit ≡ false → slice_get programs i ≡ Some p → Stands (view_of db mark next programs pending since) s → KeptIs (kept_if audit desc p s.db) i s None (view_of db mark next programs pending since)
 kept_as_it_was audit desc p s i {programs = programs} not at stands =
     let there : slice_get s.programs i ≡ Some p = subst (λ (ps : List Program). slice_get ps i ≡ Some p) stands.programs at in
     rw not (refl, record { db = stands.db; mark = stands.mark; next = stands.next; programs = stands.programs ∙ sym (set_back s.programs i p there); pending = stands.pending; since = stands.since })
@@ -26,8 +24,8 @@ refused_is r s v answer k same stands reply sync =
     record { reply = reply ∙ ap (λ (x : Refusal). Exception x.category x.name) is; sync = sync; session = stands }
 
 done_is : (f : Program → Program) (s : Session) (i : ℕ) (q x y : Program) (db' : Db) (answer : Answer) {db mark : Option Db} {next since : ℕ} {programs : List Program} {pending : Bool}
-    → i < length s.programs → Stands (view db mark next programs pending since) (record s { db = db'; programs = slice_set s.programs i q }) → x ≡ get_or programs i x → y ≡ f x → answer.reply ≡ Done [] → answer.sync ≡ None
-    → Is (done (record s { db = db'; programs = slice_set s.programs i (f q) })) answer (view db mark next (slice_set programs i y) pending since)
+    → i < length s.programs → Stands (view_of db mark next programs pending since) (record s { db = db'; programs = slice_set s.programs i q }) → x ≡ get_or programs i x → y ≡ f x → answer.reply ≡ Done [] → answer.sync ≡ None
+    → Is (done (record s { db = db'; programs = slice_set s.programs i (f q) })) answer (view_of db mark next (slice_set programs i y) pending since)
 done_is f s i q x y db' answer {programs = programs} low stands at changed reply sync =
     let is : x ≡ q = read_back s.programs programs i q x low stands.programs at in
     record {
@@ -68,21 +66,21 @@ begin_quiets (Refused c n) i s = refl
 begin_quiets (Keeps q db) i s = refl
 
 pub store_done : (k : Kept) (i : ℕ) (s : Session) (x y : Program) (answer : Answer) (db mark : Option Db) (next since : ℕ) (programs : List Program) (pending : Bool) → i < length s.programs
-    → KeptIs k i s None (view db mark next programs pending since) → x ≡ get_or programs i x → y ≡ carried x → answer.reply ≡ Done [] → answer.sync ≡ None
-    → Is (after_store k i s) answer (view db mark next (slice_set programs i y) pending since)
+    → KeptIs k i s None (view_of db mark next programs pending since) → x ≡ get_or programs i x → y ≡ carried x → answer.reply ≡ Done [] → answer.sync ≡ None
+    → Is (after_store k i s) answer (view_of db mark next (slice_set programs i y) pending since)
 store_done (Refused c n) i s x y answer db' mark next since programs pending low h at changed reply sync = absurd (let no = h.0 in cc)
 store_done (Keeps q db) i s x y answer db' mark next since programs pending low h at changed reply sync = done_is carried s i q x y db answer low h.1 at changed reply sync
 
 pub begin_done : (k : Kept) (i : ℕ) (s : Session) (x y : Program) (answer : Answer) (db mark : Option Db) (next since : ℕ) (programs : List Program) (pending : Bool) → i < length s.programs
-    → KeptIs k i s None (view db mark next programs pending since) → x ≡ get_or programs i x → y ≡ entered x → answer.reply ≡ Done [] → answer.sync ≡ None
-    → Is (after_begin k i s) answer (view db mark next (slice_set programs i y) pending since)
+    → KeptIs k i s None (view_of db mark next programs pending since) → x ≡ get_or programs i x → y ≡ entered x → answer.reply ≡ Done [] → answer.sync ≡ None
+    → Is (after_begin k i s) answer (view_of db mark next (slice_set programs i y) pending since)
 begin_done (Refused c n) i s x y answer db' mark next since programs pending low h at changed reply sync = absurd (let no = h.0 in cc)
 begin_done (Keeps q db) i s x y answer db' mark next since programs pending low h at changed reply sync = done_is entered s i q x y db answer low h.1 at changed reply sync
 
 -- END goes on from what storing leaves: what is told of settling is told of the whole
 pub end_goes : (P : Outcome → Type 0) (k : Kept) (desc : Described) (i : ℕ) (s : Session) (sync : Bool) (x y : Program) (db mark : Option Db) (next since since' : ℕ) (programs : List Program) (pending pending' : Bool) → i < length s.programs
-    → KeptIs k i s None (view db mark next programs pending since) → x ≡ get_or programs i x → y ≡ left x
-    → ((t : Session) → t.pending ≡ (pending || sync || nat_le desc.syncpoint (one_more since)) → t.since ≡ one_more since → t.next ≡ s.next → (pending' ≡ t.pending → since' ≡ t.since → Stands (view db mark next (slice_set programs i y) pending' since') t) → P (settle t))
+    → KeptIs k i s None (view_of db mark next programs pending since) → x ≡ get_or programs i x → y ≡ left x
+    → ((t : Session) → t.pending ≡ (pending || sync || nat_le desc.syncpoint (one_more since)) → t.since ≡ one_more since → t.next ≡ s.next → (pending' ≡ t.pending → since' ≡ t.since → Stands (view_of db mark next (slice_set programs i y) pending' since') t) → P (settle t))
     → P (after_end k desc i s sync)
 end_goes P (Refused c n) desc i s sync x y db' mark next since since' programs pending pending' low h at changed goes = absurd (let no = h.0 in cc)
 end_goes P (Keeps q db) desc i s sync x y db' mark next since since' programs pending pending' low h at changed goes =
@@ -99,22 +97,3 @@ end_goes P (Keeps q db) desc i s sync x y db' mark next since since' programs pe
       pending = pending_is;
       since = since_is;
     })
-
--- its answer, its quiet points and what stops leave
-pub end_does : {answer : Answer} {v : View} (k : Kept) (desc : Described) (i : ℕ) (s : Session) (sync : Bool) (x y : Program) (db mark : Option Db) (next since since' : ℕ) (programs : List Program) (pending pending' : Bool) → i < length s.programs
-    → KeptIs k i s None (view db mark next programs pending since) → x ≡ get_or programs i x → y ≡ left x
-    → ((t : Session) → t.pending ≡ (pending || sync || nat_le desc.syncpoint (one_more since)) → t.since ≡ one_more since → t.next ≡ s.next → (pending' ≡ t.pending → since' ≡ t.since → Stands (view db mark next (slice_set programs i y) pending' since') t) → Is (settle t) answer v)
-    → Is (after_end k desc i s sync) answer v
-end_does {answer} {v} = end_goes (λ (o : Outcome). Is o answer v)
-
-pub end_makes : {answer : Answer} {sure sure' : ℕ} {points points' : List Point} (k : Kept) (desc : Described) (i : ℕ) (s : Session) (sync : Bool) (x y : Program) (db mark : Option Db) (next since since' : ℕ) (programs : List Program) (pending pending' : Bool) → i < length s.programs
-    → KeptIs k i s None (view db mark next programs pending since) → x ≡ get_or programs i x → y ≡ left x
-    → ((t : Session) → t.pending ≡ (pending || sync || nat_le desc.syncpoint (one_more since)) → t.since ≡ one_more since → t.next ≡ s.next → (pending' ≡ t.pending → since' ≡ t.since → Stands (view db mark next (slice_set programs i y) pending' since') t) → Made answer sure points (settle t).quiets sure' points')
-    → Made answer sure points (after_end k desc i s sync).quiets sure' points'
-end_makes {answer} {sure} {sure'} {points} {points'} = end_goes (λ (o : Outcome). Made answer sure points o.quiets sure' points')
-
-pub end_leaves : {a b : Clock Stop} {sure number : ℕ} {points : List Point} {said : Option (List ℕ)} (k : Kept) (desc : Described) (i : ℕ) (s : Session) (sync : Bool) (x y : Program) (db mark : Option Db) (next since since' : ℕ) (programs : List Program) (pending pending' : Bool) → i < length s.programs
-    → KeptIs k i s None (view db mark next programs pending since) → x ≡ get_or programs i x → y ≡ left x
-    → ((t : Session) → t.pending ≡ (pending || sync || nat_le desc.syncpoint (one_more since)) → t.since ≡ one_more since → t.next ≡ s.next → (pending' ≡ t.pending → since' ≡ t.since → Stands (view db mark next (slice_set programs i y) pending' since') t) → Runs a b (λ stop. Left sure points number (settle t).quiets stop × TextIs said stop))
-    → Runs a b (λ stop. Left sure points number (after_end k desc i s sync).quiets stop × TextIs said stop)
-end_leaves {a} {b} {sure} {number} {points} {said} = end_goes (λ (o : Outcome). Runs a b (λ stop. Left sure points number o.quiets stop × TextIs said stop))

@@ -4,6 +4,8 @@ pub mod Ends
 pub mod FoundAt
 pub mod Keepings
 pub mod KeyValues
+pub mod Lasting
+pub mod OldClauses
 pub mod Places
 pub mod Quiet
 pub mod Resting

@@ -1,14 +1,18 @@
 -- What an engine stands for, and what its calls leave.
-use Rattle.std.specs.Prelude.{ℕ, ◌≡◌, ◌≤◌, ◌<◌, ◌+◌, ◌^◌, List, ◌++◌, length, map, Bool, Some, IfOk}
+use Rattle.std.specs.Prelude.{ℕ, ◌≡◌, ◌≤◌, ◌<◌, ◌+◌, ◌^◌, List, ◌++◌, length, map, Bool, Some, IfOk, OnOk, IsTrue}
 use Rattle.std.specs.declared.option.Option.{Option}
 use Rattle.std.specs.declared.result.Result.{Result}
+use Rattle.std.specs.declared.result.Result.TheVariants.{Ok}
 use Rattle.dms_block.specs.declared.block_fault.BlockFault.{BlockFault}
-use Rattle.dms_block.specs.Moments.{Clock, Runs}
+use Rattle.dms_moments.specs.Moments.{Runs}
 use Rattle.dms_model.specs.declared.program.Program.{Program}
 use Rattle.dms_model.specs.declared.reply.Answer.{Answer}
+use Rattle.dms_model.specs.declared.store.Store.{Ghosts}
 use Rattle.dms_model.specs.Db.{Db}
+use Rattle.dms_model.specs.Seen.{Seen, HasCauses}
 use Rattle.dms_model.specs.Points.{Point, Quiet, Stop, Front, TextIs, told, known}
 use Rattle.dms_model.specs.Session.{Session, Outcome}
+use Rattle.dms_storeverbs.specs.declared.engine.Engine.{Engine}
 
 -- what an engine has: the database and that of the last quiet point, where its store tells them, the next number, the open
 -- programs, whether a syncpoint is pending, and the transactions since the last one
@@ -20,8 +24,8 @@ pub record View : Type 0 where
   pub pending : Bool
   pub since : ℕ
 
-abbrev pub view : Option Db → Option Db → ℕ → List Program → Bool → ℕ → View
-view db mark next programs pending since = record { db = db; mark = mark; next = next; programs = programs; pending = pending; since = since }
+abbrev pub view_of : Option Db → Option Db → ℕ → List Program → Bool → ℕ → View
+view_of db mark next programs pending since = record { db = db; mark = mark; next = next; programs = programs; pending = pending; since = since }
 
 -- a view stands for a session: its store tells the databases, and they are the session's
 pub record Stands (v : View) (s : Session) : Type 0 where
@@ -41,10 +45,6 @@ pub record Is (outcome : Outcome) (answer : Answer) (new : View) : Type 0 where
   pub reply : answer.reply ≡ outcome.reply
   pub sync : answer.sync ≡ outcome.sync
   pub session : Stands new outcome.session
-
--- a call does what f gives of the session that stands before it
-abbrev pub Does : View → View → Result Answer BlockFault → (Session → Outcome) → Type 0
-Does old new result f = IfOk result (λ answer. (s : Session) → Stands old s → Room s.next → Is (f s) answer new)
 
 -- the points grew by these quiet points
 pub record Grew (old : List Point) (quiets : List Quiet) (new : List Point) : Type 0 where
@@ -68,9 +68,35 @@ pub record Made (answer : Answer) (sure : ℕ) (points : List Point) (quiets : L
   pub later : sure ≤ sure'
   pub synced : (n : ℕ) → answer.sync ≡ Some n → sure' ≡ length points'
 
-abbrev pub Makes : View → Result Answer BlockFault → (Session → Outcome) → ℕ → List Point → ℕ → List Point → Type 0
-Makes old result f sure points sure' points' = IfOk result (λ answer. (s : Session) → Stands old s → Room s.next → Made answer sure points (f s).quiets sure' points')
+module _ {St : Type 0} {g : Ghosts St} where
+  -- what an engine's store tells
+  abbrev pub seen : Engine St g → Seen
+  seen e = g.seen e.store
 
--- what a stop within a call leaves
-abbrev pub LeavesCall : View → (Session → Outcome) → Clock Stop → Clock Stop → ℕ → List Point → ℕ → Option (List ℕ) → Type 0
-LeavesCall v f old new sure points next said = (s : Session) → Stands v s → Room s.next → Runs old new (λ stop. Left sure points next (f s).quiets stop × TextIs said stop)
+  abbrev pub view : Engine St g → View
+  view e = view_of (seen e).db (seen e).mark (seen e).next e.programs.items e.pending e.since
+
+-- the same session stands
+abbrev pub SameSession : {St : Type 0} {g : Ghosts St} → Engine St g → Engine St g → Type 0
+SameSession old new = (s : Session) → Stands (view old) s → Stands (view new) s
+
+-- a call did what an outcome says: its answer, its quiet points, and what a stop within it leaves
+pub record Did (o : Outcome) (old new : Seen) (now : View) (result : Result Answer BlockFault) : Type 0 where
+  pub answers : IfOk result (λ answer. Is o answer now)
+  pub made : old.tells → IfOk result (λ answer. Made answer old.sure old.points o.quiets new.sure new.points)
+  pub leaves : old.tells → Runs old.clock new.clock (λ stop. Left old.sure old.points old.next o.quiets stop × TextIs old.said stop)
+
+-- a call does what f gives of the session that stands before it
+abbrev pub Does : {St : Type 0} {g : Ghosts St} → Engine St g → Engine St g → Result Answer BlockFault → (Session → Outcome) → Type 0
+Does old new result f = (s : Session) → Stands (view old) s → Room s.next → Did (f s) (seen old) (seen new) (view new) result
+
+-- whatever a call does, it stays the same engine, usable without a fault, and a fault has a cause
+pub record Lasts {St : Type 0} {g : Ghosts St} {T : Type 0} (result : Result T BlockFault) (old new : Engine St g) : Type 0 where
+  pub sound : OnOk result (seen new).sound
+  pub description : new.desc ≡ old.desc
+  pub same : g.same_store old.store new.store
+  pub causes : HasCauses result (seen old) (seen new)
+
+-- the same, after calls that answered
+abbrev pub Lasted : {St : Type 0} {g : Ghosts St} → Engine St g → Engine St g → Type 0
+Lasted old new = Lasts {T = Unit {0}} (Ok tt) old new

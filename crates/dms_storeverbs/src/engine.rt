@@ -1,11 +1,10 @@
-ghost use Rattle.std.specs.Prelude.{◌≡◌, ◌≤◌, ◌<◌, ◌+◌, ◌^◌, ℕ, List, Bool, Some, None, IfOk, OnOk, IsErrOf, IsTrue, slice_get, length, if◌then◌else◌, OnErr, IfErr};
-ghost use Rattle.dms_base.specs.Causes.{Rose};
+ghost use Rattle.std.specs.Prelude.{◌≡◌, Some, IfOk, OnOk, IsErrOf, IfErr};
 ghost use Rattle.dms_desc.specs.Shape.{described};
-ghost use Rattle.dms_model.specs.declared.program.Program.{Program};
 ghost use Rattle.dms_model.specs.Db.{Db};
-ghost use Rattle.dms_model.specs.Points.{LeavesText, Prints, PrintsFront, Stays, Leaves};
+ghost use Rattle.dms_model.specs.DescribedCode.{described_set};
+ghost use Rattle.dms_block.specs.Texts.{Prints};
+ghost use Rattle.dms_model.specs.Seen.{IsSilent, Keeps, SaysPart, StaysSure};
 ghost use Rattle.dms_model.specs.Session.{Session, fresh_session, ended};
-ghost use Rattle.dms_storeverbs.specs.View.{view, Stands};
 
 use crate::programs;
 use dms_base::Memory;
@@ -26,15 +25,18 @@ pub struct Engine<St: Store> {
     pub pending: bool,
     /// The transactions since the last syncpoint. The count stands still at its type's end.
     pub since: u64,
+    ghost under: { (St.seen store).desc ≡ described desc } by { described_set (St.seen store).desc (described desc) },
 }
 
 impl<St: Store> Engine<St> {
+    ghost use Rattle.dms_storeverbs.specs.View.{Lasts, SameSession, Stands, seen, view};
+
     /// An engine without programs over a store. After `Memory` the store is as it was.
     pub fn new(alloc: Global, desc: &Description, store: St) -> Result<Engine<St>, (Memory, St)>
-        requires sound { St.sound store }
-        requires desc { St.desc store ≡ described desc.now }
-        requires mark { St.mark store ≡ St.db store }
-        ensures stands { IfOk result (λ e. (d : Db) → St.db store ≡ Some d → Stands (view (St.db e.store) (St.mark e.store) (St.next e.store) e.programs.items e.pending e.since) (fresh_session d (St.next store))) }
+        requires sound { (St.seen store).sound }
+        requires desc { (St.seen store).desc ≡ described desc.now }
+        requires mark { (St.seen store).mark ≡ (St.seen store).db }
+        ensures stands { IfOk result (λ e. (d : Db) → (St.seen store).db ≡ Some d → Stands (view e) (fresh_session d (St.seen store).next)) }
         ensures store { IfOk result (λ e. e.store ≡ store) }
         ensures described { IfOk result (λ e. described e.desc ≡ described desc.now) }
         ensures memory { IfErr result (λ e. e.1 ≡ store) }
@@ -53,22 +55,11 @@ impl<St: Store> Engine<St> {
 
     /// Goes back to the last quiet point where a program is in transaction state.
     pub fn end(&mut self, alloc: Global) -> Result<(), BlockFault>
-        requires sound { St.sound self.old.store }
-        requires desc { St.desc self.old.store ≡ described self.old.desc }
-        ensures ended { OnOk result ((s : Session) → Stands (view (St.db self.old.store) (St.mark self.old.store) (St.next self.old.store) self.old.programs.items self.old.pending self.old.since) s → Stands (view (St.db self.new.store) (St.mark self.new.store) (St.next self.new.store) self.new.programs.items self.new.pending self.new.since) (ended s)) }
-        ensures points { OnOk result (IsTrue St.tells_moments → St.next self.old.store + 1 < 2 ^ 64 → Stays (St.points self.old.store) (St.sure self.old.store) (St.points self.new.store) (St.sure self.new.store)) }
-        ensures moments { IsTrue St.tells_moments → St.next self.old.store + 1 < 2 ^ 64 → Leaves (St.clock self.old.store) (St.clock self.new.store) (St.sure self.old.store) (St.points self.old.store) (St.next self.old.store) (St.said self.old.store) }
-        ensures sound { OnOk result (St.sound self.new.store) }
-        ensures next { St.next self.new.store ≡ St.next self.old.store }
-        ensures said { St.said self.new.store ≡ St.said self.old.store }
-        ensures description { self.new.desc ≡ self.old.desc }
-        ensures desc { St.desc self.new.store ≡ St.desc self.old.store }
-        ensures same { St.same_store self.old.store self.new.store }
-        ensures later { (St.disk_faults self.old.store ≤ St.disk_faults self.new.store) × (St.say_faults self.old.store ≤ St.say_faults self.new.store) × (St.fulls self.old.store ≤ St.fulls self.new.store) × (St.damages self.old.store ≤ St.damages self.new.store) }
-        ensures disk { IsErrOf result BlockFault.Disk → Rose (St.disk_faults self.old.store) (St.disk_faults self.new.store) }
-        ensures say { IsErrOf result BlockFault.Say → Rose (St.say_faults self.old.store) (St.say_faults self.new.store) }
-        ensures full { (f : ℕ) → IsErrOf result (BlockFault.Full f) → Rose (St.fulls self.old.store) (St.fulls self.new.store) }
-        ensures damaged { (f b : ℕ) → IsErrOf result (BlockFault.Damaged f b) → Rose (St.damages self.old.store) (St.damages self.new.store) }
+        requires sound { (seen self.old).sound }
+        ensures ended { OnOk result ((s : Session) → Stands (view self.old) s → Stands (view self.new) (ended s)) }
+        ensures points { OnOk result (StaysSure (seen self.old) (seen self.new)) }
+        ensures silent { IsSilent (seen self.old) (seen self.new) }
+        ensures lasts { Lasts result self.old self.new }
     {
         if !programs::someone_works(self.programs.as_slice()) {
             return Ok(());
@@ -78,28 +69,16 @@ impl<St: Store> Engine<St> {
 
     /// Prints. Takes no memory of its own. A failed call prints the first bytes or none.
     pub fn say(&mut self, bytes: &[u8]) -> Result<(), BlockFault>
-        requires { St.sound self.old.store }
-        ensures text { OnOk result (Prints (St.said self.old.store) (St.said self.new.store) bytes.now) }
-        ensures part { PrintsFront (St.said self.old.store) (St.said self.new.store) bytes.now }
-        ensures stands { OnOk result ((s : Session) → Stands (view (St.db self.old.store) (St.mark self.old.store) (St.next self.old.store) self.old.programs.items self.old.pending self.old.since) s → Stands (view (St.db self.new.store) (St.mark self.new.store) (St.next self.new.store) self.new.programs.items self.new.pending self.new.since) s) }
-        ensures db { OnOk result (St.db self.new.store ≡ St.db self.old.store) }
-        ensures mark { OnOk result (St.mark self.new.store ≡ St.mark self.old.store) }
-        ensures points { OnOk result (IsTrue St.tells_moments → St.next self.old.store + 1 < 2 ^ 64 → Stays (St.points self.old.store) (St.sure self.old.store) (St.points self.new.store) (St.sure self.new.store)) }
-        ensures sound { OnOk result (St.sound self.new.store) }
-        ensures next { St.next self.new.store ≡ St.next self.old.store }
+        requires sound { (seen self.old).sound }
+        ensures text { OnOk result (Prints (seen self.old).said (seen self.new).said bytes.now) }
+        ensures part { SaysPart (seen self.old) (seen self.new) bytes.now }
+        ensures stands { OnOk result (SameSession self.old self.new) }
+        ensures keeps { OnOk result (Keeps (seen self.old) (seen self.new)) }
         ensures memory { IsErrOf result BlockFault.Memory → ⊥ }
         ensures programs { self.new.programs ≡ self.old.programs }
         ensures pending { self.new.pending ≡ self.old.pending }
         ensures since { self.new.since ≡ self.old.since }
-        ensures moments { IsTrue St.tells_moments → St.next self.old.store + 1 < 2 ^ 64 → LeavesText (St.clock self.old.store) (St.clock self.new.store) (St.sure self.old.store) (St.points self.old.store) (St.next self.old.store) (St.said self.old.store) bytes.now }
-        ensures description { self.new.desc ≡ self.old.desc }
-        ensures desc { St.desc self.new.store ≡ St.desc self.old.store }
-        ensures same { St.same_store self.old.store self.new.store }
-        ensures later { (St.disk_faults self.old.store ≤ St.disk_faults self.new.store) × (St.say_faults self.old.store ≤ St.say_faults self.new.store) × (St.fulls self.old.store ≤ St.fulls self.new.store) × (St.damages self.old.store ≤ St.damages self.new.store) }
-        ensures disk { IsErrOf result BlockFault.Disk → Rose (St.disk_faults self.old.store) (St.disk_faults self.new.store) }
-        ensures say { IsErrOf result BlockFault.Say → Rose (St.say_faults self.old.store) (St.say_faults self.new.store) }
-        ensures full { (f : ℕ) → IsErrOf result (BlockFault.Full f) → Rose (St.fulls self.old.store) (St.fulls self.new.store) }
-        ensures damaged { (f b : ℕ) → IsErrOf result (BlockFault.Damaged f b) → Rose (St.damages self.old.store) (St.damages self.new.store) }
+        ensures lasts { Lasts result self.old self.new }
     {
         self.store.say(bytes)
     }

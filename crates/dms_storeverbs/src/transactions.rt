@@ -1,11 +1,10 @@
 ghost use Rattle.std.specs.Prelude.{◌≡◌, ◌≤◌, ◌<◌, ◌+◌, ◌^◌, ℕ, List, Bool, Some, None, IfOk, OnOk, IsErrOf, IsTrue, slice_get, length, if◌then◌else◌, []};
-ghost use Rattle.dms_base.specs.Causes.{Rose};
 ghost use Rattle.dms_desc.specs.Shape.{described};
 ghost use Rattle.dms_model.specs.declared.program.Program.{Program};
-ghost use Rattle.dms_model.specs.Points.{Stays, Leaves};
+ghost use Rattle.dms_model.specs.Seen.{IsMute, IsSilent, StaysSure};
 ghost use Rattle.dms_model.specs.Session.{Session, keep, settle, store_step, begin_step, end_step, abort_step};
 ghost use Rattle.dms_storeverbs.specs.Keeping.{KeptIs, kept_if};
-ghost use Rattle.dms_storeverbs.specs.View.{view, Stands, Does, Makes, LeavesCall};
+ghost use Rattle.dms_storeverbs.specs.View.{Does, Lasts, Stands, seen, view};
 
 use crate::refusal::{Refusal, done, refused};
 use crate::schema::{name_of, restart_of};
@@ -21,23 +20,12 @@ impl<St: Store> Engine<St> {
     #[tactic(auto, using(std::proofs::lemmas::Option::gets))]
     fn keep(&mut self, alloc: Global, i: usize, set: u16) -> Result<Option<Refusal>, BlockFault>
         requires place { i < length self.old.programs.items }
-        requires sound { St.sound self.old.store }
-        requires desc { St.desc self.old.store ≡ described self.old.desc }
-        ensures kept { IfOk result (λ r. (p : Program) → slice_get self.old.programs.items i ≡ Some p → (s : Session) → Stands (view (St.db self.old.store) (St.mark self.old.store) (St.next self.old.store) self.old.programs.items self.old.pending self.old.since) s → KeptIs (keep (described self.old.desc) p s.db set) i s r (view (St.db self.new.store) (St.mark self.new.store) (St.next self.new.store) self.new.programs.items self.new.pending self.new.since)) }
+        requires sound { (seen self.old).sound }
+        ensures kept { IfOk result (λ r. (p : Program) → slice_get self.old.programs.items i ≡ Some p → (s : Session) → Stands (view self.old) s → KeptIs (keep (described self.old.desc) p s.db set) i s r (view self.new)) }
         ensures count { OnOk result (length self.new.programs.items ≡ length self.old.programs.items) }
-        ensures points { OnOk result (IsTrue St.tells_moments → St.next self.old.store + 1 < 2 ^ 64 → Stays (St.points self.old.store) (St.sure self.old.store) (St.points self.new.store) (St.sure self.new.store)) }
-        ensures moments { IsTrue St.tells_moments → St.next self.old.store + 1 < 2 ^ 64 → Leaves (St.clock self.old.store) (St.clock self.new.store) (St.sure self.old.store) (St.points self.old.store) (St.next self.old.store) (St.said self.old.store) }
-        ensures sound { OnOk result (St.sound self.new.store) }
-        ensures next { St.next self.new.store ≡ St.next self.old.store }
-        ensures said { St.said self.new.store ≡ St.said self.old.store }
-        ensures description { self.new.desc ≡ self.old.desc }
-        ensures desc { St.desc self.new.store ≡ St.desc self.old.store }
-        ensures same { St.same_store self.old.store self.new.store }
-        ensures later { (St.disk_faults self.old.store ≤ St.disk_faults self.new.store) × (St.say_faults self.old.store ≤ St.say_faults self.new.store) × (St.fulls self.old.store ≤ St.fulls self.new.store) × (St.damages self.old.store ≤ St.damages self.new.store) }
-        ensures disk { IsErrOf result BlockFault.Disk → Rose (St.disk_faults self.old.store) (St.disk_faults self.new.store) }
-        ensures say { IsErrOf result BlockFault.Say → Rose (St.say_faults self.old.store) (St.say_faults self.new.store) }
-        ensures full { (f : ℕ) → IsErrOf result (BlockFault.Full f) → Rose (St.fulls self.old.store) (St.fulls self.new.store) }
-        ensures damaged { (f b : ℕ) → IsErrOf result (BlockFault.Damaged f b) → Rose (St.damages self.old.store) (St.damages self.new.store) }
+        ensures points { OnOk result (StaysSure (seen self.old) (seen self.new)) }
+        ensures silent { IsSilent (seen self.old) (seen self.new) }
+        ensures lasts { Lasts result self.old self.new }
     {
         let (number, rec) = match judge(alloc, &self.desc, &self.programs[i], set)? {
             Judged::Refused(refusal) => return Ok(Some(refusal)),
@@ -68,23 +56,12 @@ impl<St: Store> Engine<St> {
         audit: bool,
     ) -> Result<Option<Refusal>, BlockFault>
         requires place { i < length self.old.programs.items }
-        requires sound { St.sound self.old.store }
-        requires desc { St.desc self.old.store ≡ described self.old.desc }
-        ensures kept { IfOk result (λ r. (p : Program) → slice_get self.old.programs.items i ≡ Some p → (s : Session) → Stands (view (St.db self.old.store) (St.mark self.old.store) (St.next self.old.store) self.old.programs.items self.old.pending self.old.since) s → KeptIs (kept_if audit (described self.old.desc) p s.db) i s r (view (St.db self.new.store) (St.mark self.new.store) (St.next self.new.store) self.new.programs.items self.new.pending self.new.since)) }
+        requires sound { (seen self.old).sound }
+        ensures kept { IfOk result (λ r. (p : Program) → slice_get self.old.programs.items i ≡ Some p → (s : Session) → Stands (view self.old) s → KeptIs (kept_if audit (described self.old.desc) p s.db) i s r (view self.new)) }
         ensures count { OnOk result (length self.new.programs.items ≡ length self.old.programs.items) }
-        ensures points { OnOk result (IsTrue St.tells_moments → St.next self.old.store + 1 < 2 ^ 64 → Stays (St.points self.old.store) (St.sure self.old.store) (St.points self.new.store) (St.sure self.new.store)) }
-        ensures moments { IsTrue St.tells_moments → St.next self.old.store + 1 < 2 ^ 64 → Leaves (St.clock self.old.store) (St.clock self.new.store) (St.sure self.old.store) (St.points self.old.store) (St.next self.old.store) (St.said self.old.store) }
-        ensures sound { OnOk result (St.sound self.new.store) }
-        ensures next { St.next self.new.store ≡ St.next self.old.store }
-        ensures said { St.said self.new.store ≡ St.said self.old.store }
-        ensures description { self.new.desc ≡ self.old.desc }
-        ensures desc { St.desc self.new.store ≡ St.desc self.old.store }
-        ensures same { St.same_store self.old.store self.new.store }
-        ensures later { (St.disk_faults self.old.store ≤ St.disk_faults self.new.store) × (St.say_faults self.old.store ≤ St.say_faults self.new.store) × (St.fulls self.old.store ≤ St.fulls self.new.store) × (St.damages self.old.store ≤ St.damages self.new.store) }
-        ensures disk { IsErrOf result BlockFault.Disk → Rose (St.disk_faults self.old.store) (St.disk_faults self.new.store) }
-        ensures say { IsErrOf result BlockFault.Say → Rose (St.say_faults self.old.store) (St.say_faults self.new.store) }
-        ensures full { (f : ℕ) → IsErrOf result (BlockFault.Full f) → Rose (St.fulls self.old.store) (St.fulls self.new.store) }
-        ensures damaged { (f b : ℕ) → IsErrOf result (BlockFault.Damaged f b) → Rose (St.damages self.old.store) (St.damages self.new.store) }
+        ensures points { OnOk result (StaysSure (seen self.old) (seen self.new)) }
+        ensures silent { IsSilent (seen self.old) (seen self.new) }
+        ensures lasts { Lasts result self.old self.new }
     {
         if !audit {
             return Ok(None);
@@ -97,22 +74,10 @@ impl<St: Store> Engine<St> {
     /// memory.
     #[tactic(auto, using(std::proofs::lemmas::Option::gets), unfolding(dms_model::specs::Session::settle))]
     fn settle(&mut self, alloc: Global) -> Result<Answer, BlockFault>
-        requires sound { St.sound self.old.store }
-        requires desc { St.desc self.old.store ≡ described self.old.desc }
-        ensures step { Does (view (St.db self.old.store) (St.mark self.old.store) (St.next self.old.store) self.old.programs.items self.old.pending self.old.since) (view (St.db self.new.store) (St.mark self.new.store) (St.next self.new.store) self.new.programs.items self.new.pending self.new.since) result (λ s. settle s) }
-        ensures makes { IsTrue St.tells_moments → Makes (view (St.db self.old.store) (St.mark self.old.store) (St.next self.old.store) self.old.programs.items self.old.pending self.old.since) result (λ s. settle s) (St.sure self.old.store) (St.points self.old.store) (St.sure self.new.store) (St.points self.new.store) }
-        ensures moments { IsTrue St.tells_moments → LeavesCall (view (St.db self.old.store) (St.mark self.old.store) (St.next self.old.store) self.old.programs.items self.old.pending self.old.since) (λ s. settle s) (St.clock self.old.store) (St.clock self.new.store) (St.sure self.old.store) (St.points self.old.store) (St.next self.old.store) (St.said self.old.store) }
-        ensures sound { OnOk result (St.sound self.new.store) }
-        ensures not_fallen { St.next self.old.store ≤ St.next self.new.store }
-        ensures said { St.said self.new.store ≡ St.said self.old.store }
-        ensures description { self.new.desc ≡ self.old.desc }
-        ensures desc { St.desc self.new.store ≡ St.desc self.old.store }
-        ensures same { St.same_store self.old.store self.new.store }
-        ensures later { (St.disk_faults self.old.store ≤ St.disk_faults self.new.store) × (St.say_faults self.old.store ≤ St.say_faults self.new.store) × (St.fulls self.old.store ≤ St.fulls self.new.store) × (St.damages self.old.store ≤ St.damages self.new.store) }
-        ensures disk { IsErrOf result BlockFault.Disk → Rose (St.disk_faults self.old.store) (St.disk_faults self.new.store) }
-        ensures say { IsErrOf result BlockFault.Say → Rose (St.say_faults self.old.store) (St.say_faults self.new.store) }
-        ensures full { (f : ℕ) → IsErrOf result (BlockFault.Full f) → Rose (St.fulls self.old.store) (St.fulls self.new.store) }
-        ensures damaged { (f b : ℕ) → IsErrOf result (BlockFault.Damaged f b) → Rose (St.damages self.old.store) (St.damages self.new.store) }
+        requires sound { (seen self.old).sound }
+        ensures step { Does self.old self.new result (λ s. settle s) }
+        ensures mute { IsMute (seen self.old) (seen self.new) }
+        ensures lasts { Lasts result self.old self.new }
     {
         if programs::someone_works(self.programs.as_slice()) {
             return Ok(done(alloc));
@@ -135,22 +100,10 @@ impl<St: Store> Engine<St> {
     #[tactic(auto, using(std::proofs::lemmas::Option::gets), unfolding(dms_model::specs::Session::store_step))]
     pub(crate) fn store(&mut self, alloc: Global, i: usize, set: u16) -> Result<Answer, BlockFault>
         requires place { i < length self.old.programs.items }
-        requires sound { St.sound self.old.store }
-        requires desc { St.desc self.old.store ≡ described self.old.desc }
-        ensures step { (p : Program) → slice_get self.old.programs.items i ≡ Some p → Does (view (St.db self.old.store) (St.mark self.old.store) (St.next self.old.store) self.old.programs.items self.old.pending self.old.since) (view (St.db self.new.store) (St.mark self.new.store) (St.next self.new.store) self.new.programs.items self.new.pending self.new.since) result (λ s. store_step (described self.old.desc) i p s set) }
-        ensures makes { IsTrue St.tells_moments → (p : Program) → slice_get self.old.programs.items i ≡ Some p → Makes (view (St.db self.old.store) (St.mark self.old.store) (St.next self.old.store) self.old.programs.items self.old.pending self.old.since) result (λ s. store_step (described self.old.desc) i p s set) (St.sure self.old.store) (St.points self.old.store) (St.sure self.new.store) (St.points self.new.store) }
-        ensures moments { IsTrue St.tells_moments → (p : Program) → slice_get self.old.programs.items i ≡ Some p → LeavesCall (view (St.db self.old.store) (St.mark self.old.store) (St.next self.old.store) self.old.programs.items self.old.pending self.old.since) (λ s. store_step (described self.old.desc) i p s set) (St.clock self.old.store) (St.clock self.new.store) (St.sure self.old.store) (St.points self.old.store) (St.next self.old.store) (St.said self.old.store) }
-        ensures sound { OnOk result (St.sound self.new.store) }
-        ensures not_fallen { St.next self.old.store ≤ St.next self.new.store }
-        ensures said { St.said self.new.store ≡ St.said self.old.store }
-        ensures description { self.new.desc ≡ self.old.desc }
-        ensures desc { St.desc self.new.store ≡ St.desc self.old.store }
-        ensures same { St.same_store self.old.store self.new.store }
-        ensures later { (St.disk_faults self.old.store ≤ St.disk_faults self.new.store) × (St.say_faults self.old.store ≤ St.say_faults self.new.store) × (St.fulls self.old.store ≤ St.fulls self.new.store) × (St.damages self.old.store ≤ St.damages self.new.store) }
-        ensures disk { IsErrOf result BlockFault.Disk → Rose (St.disk_faults self.old.store) (St.disk_faults self.new.store) }
-        ensures say { IsErrOf result BlockFault.Say → Rose (St.say_faults self.old.store) (St.say_faults self.new.store) }
-        ensures full { (f : ℕ) → IsErrOf result (BlockFault.Full f) → Rose (St.fulls self.old.store) (St.fulls self.new.store) }
-        ensures damaged { (f b : ℕ) → IsErrOf result (BlockFault.Damaged f b) → Rose (St.damages self.old.store) (St.damages self.new.store) }
+        requires sound { (seen self.old).sound }
+        ensures step { (p : Program) → slice_get self.old.programs.items i ≡ Some p → Does self.old self.new result (λ s. store_step (described self.old.desc) i p s set) }
+        ensures mute { IsMute (seen self.old) (seen self.new) }
+        ensures lasts { Lasts result self.old self.new }
     {
         if !self.programs[i].in_transaction {
             return Ok(refused(Category::AuditError, self.programs[i].name));
@@ -171,22 +124,10 @@ impl<St: Store> Engine<St> {
         audit: bool,
     ) -> Result<Answer, BlockFault>
         requires place { i < length self.old.programs.items }
-        requires sound { St.sound self.old.store }
-        requires desc { St.desc self.old.store ≡ described self.old.desc }
-        ensures step { (p : Program) → slice_get self.old.programs.items i ≡ Some p → Does (view (St.db self.old.store) (St.mark self.old.store) (St.next self.old.store) self.old.programs.items self.old.pending self.old.since) (view (St.db self.new.store) (St.mark self.new.store) (St.next self.new.store) self.new.programs.items self.new.pending self.new.since) result (λ s. begin_step (described self.old.desc) i p s audit) }
-        ensures makes { IsTrue St.tells_moments → (p : Program) → slice_get self.old.programs.items i ≡ Some p → Makes (view (St.db self.old.store) (St.mark self.old.store) (St.next self.old.store) self.old.programs.items self.old.pending self.old.since) result (λ s. begin_step (described self.old.desc) i p s audit) (St.sure self.old.store) (St.points self.old.store) (St.sure self.new.store) (St.points self.new.store) }
-        ensures moments { IsTrue St.tells_moments → (p : Program) → slice_get self.old.programs.items i ≡ Some p → LeavesCall (view (St.db self.old.store) (St.mark self.old.store) (St.next self.old.store) self.old.programs.items self.old.pending self.old.since) (λ s. begin_step (described self.old.desc) i p s audit) (St.clock self.old.store) (St.clock self.new.store) (St.sure self.old.store) (St.points self.old.store) (St.next self.old.store) (St.said self.old.store) }
-        ensures sound { OnOk result (St.sound self.new.store) }
-        ensures not_fallen { St.next self.old.store ≤ St.next self.new.store }
-        ensures said { St.said self.new.store ≡ St.said self.old.store }
-        ensures description { self.new.desc ≡ self.old.desc }
-        ensures desc { St.desc self.new.store ≡ St.desc self.old.store }
-        ensures same { St.same_store self.old.store self.new.store }
-        ensures later { (St.disk_faults self.old.store ≤ St.disk_faults self.new.store) × (St.say_faults self.old.store ≤ St.say_faults self.new.store) × (St.fulls self.old.store ≤ St.fulls self.new.store) × (St.damages self.old.store ≤ St.damages self.new.store) }
-        ensures disk { IsErrOf result BlockFault.Disk → Rose (St.disk_faults self.old.store) (St.disk_faults self.new.store) }
-        ensures say { IsErrOf result BlockFault.Say → Rose (St.say_faults self.old.store) (St.say_faults self.new.store) }
-        ensures full { (f : ℕ) → IsErrOf result (BlockFault.Full f) → Rose (St.fulls self.old.store) (St.fulls self.new.store) }
-        ensures damaged { (f b : ℕ) → IsErrOf result (BlockFault.Damaged f b) → Rose (St.damages self.old.store) (St.damages self.new.store) }
+        requires sound { (seen self.old).sound }
+        ensures step { (p : Program) → slice_get self.old.programs.items i ≡ Some p → Does self.old self.new result (λ s. begin_step (described self.old.desc) i p s audit) }
+        ensures mute { IsMute (seen self.old) (seen self.new) }
+        ensures lasts { Lasts result self.old self.new }
     {
         if self.programs[i].in_transaction {
             return Ok(refused(Category::AuditError, self.programs[i].name));
@@ -219,22 +160,10 @@ impl<St: Store> Engine<St> {
         sync: bool,
     ) -> Result<Answer, BlockFault>
         requires place { i < length self.old.programs.items }
-        requires sound { St.sound self.old.store }
-        requires desc { St.desc self.old.store ≡ described self.old.desc }
-        ensures step { (p : Program) → slice_get self.old.programs.items i ≡ Some p → Does (view (St.db self.old.store) (St.mark self.old.store) (St.next self.old.store) self.old.programs.items self.old.pending self.old.since) (view (St.db self.new.store) (St.mark self.new.store) (St.next self.new.store) self.new.programs.items self.new.pending self.new.since) result (λ s. end_step (described self.old.desc) i p s audit sync) }
-        ensures makes { IsTrue St.tells_moments → (p : Program) → slice_get self.old.programs.items i ≡ Some p → Makes (view (St.db self.old.store) (St.mark self.old.store) (St.next self.old.store) self.old.programs.items self.old.pending self.old.since) result (λ s. end_step (described self.old.desc) i p s audit sync) (St.sure self.old.store) (St.points self.old.store) (St.sure self.new.store) (St.points self.new.store) }
-        ensures moments { IsTrue St.tells_moments → (p : Program) → slice_get self.old.programs.items i ≡ Some p → LeavesCall (view (St.db self.old.store) (St.mark self.old.store) (St.next self.old.store) self.old.programs.items self.old.pending self.old.since) (λ s. end_step (described self.old.desc) i p s audit sync) (St.clock self.old.store) (St.clock self.new.store) (St.sure self.old.store) (St.points self.old.store) (St.next self.old.store) (St.said self.old.store) }
-        ensures sound { OnOk result (St.sound self.new.store) }
-        ensures not_fallen { St.next self.old.store ≤ St.next self.new.store }
-        ensures said { St.said self.new.store ≡ St.said self.old.store }
-        ensures description { self.new.desc ≡ self.old.desc }
-        ensures desc { St.desc self.new.store ≡ St.desc self.old.store }
-        ensures same { St.same_store self.old.store self.new.store }
-        ensures later { (St.disk_faults self.old.store ≤ St.disk_faults self.new.store) × (St.say_faults self.old.store ≤ St.say_faults self.new.store) × (St.fulls self.old.store ≤ St.fulls self.new.store) × (St.damages self.old.store ≤ St.damages self.new.store) }
-        ensures disk { IsErrOf result BlockFault.Disk → Rose (St.disk_faults self.old.store) (St.disk_faults self.new.store) }
-        ensures say { IsErrOf result BlockFault.Say → Rose (St.say_faults self.old.store) (St.say_faults self.new.store) }
-        ensures full { (f : ℕ) → IsErrOf result (BlockFault.Full f) → Rose (St.fulls self.old.store) (St.fulls self.new.store) }
-        ensures damaged { (f b : ℕ) → IsErrOf result (BlockFault.Damaged f b) → Rose (St.damages self.old.store) (St.damages self.new.store) }
+        requires sound { (seen self.old).sound }
+        ensures step { (p : Program) → slice_get self.old.programs.items i ≡ Some p → Does self.old self.new result (λ s. end_step (described self.old.desc) i p s audit sync) }
+        ensures mute { IsMute (seen self.old) (seen self.new) }
+        ensures lasts { Lasts result self.old self.new }
     {
         if !self.programs[i].in_transaction {
             return Ok(refused(Category::AuditError, self.programs[i].name));
@@ -252,22 +181,10 @@ impl<St: Store> Engine<St> {
     #[tactic(auto, using(std::proofs::lemmas::Option::gets), unfolding(dms_model::specs::Session::abort_step))]
     pub(crate) fn abort(&mut self, alloc: Global, i: usize) -> Result<Answer, BlockFault>
         requires place { i < length self.old.programs.items }
-        requires sound { St.sound self.old.store }
-        requires desc { St.desc self.old.store ≡ described self.old.desc }
-        ensures step { (p : Program) → slice_get self.old.programs.items i ≡ Some p → Does (view (St.db self.old.store) (St.mark self.old.store) (St.next self.old.store) self.old.programs.items self.old.pending self.old.since) (view (St.db self.new.store) (St.mark self.new.store) (St.next self.new.store) self.new.programs.items self.new.pending self.new.since) result (λ s. abort_step i p s) }
-        ensures makes { IsTrue St.tells_moments → (p : Program) → slice_get self.old.programs.items i ≡ Some p → Makes (view (St.db self.old.store) (St.mark self.old.store) (St.next self.old.store) self.old.programs.items self.old.pending self.old.since) result (λ s. abort_step i p s) (St.sure self.old.store) (St.points self.old.store) (St.sure self.new.store) (St.points self.new.store) }
-        ensures moments { IsTrue St.tells_moments → (p : Program) → slice_get self.old.programs.items i ≡ Some p → LeavesCall (view (St.db self.old.store) (St.mark self.old.store) (St.next self.old.store) self.old.programs.items self.old.pending self.old.since) (λ s. abort_step i p s) (St.clock self.old.store) (St.clock self.new.store) (St.sure self.old.store) (St.points self.old.store) (St.next self.old.store) (St.said self.old.store) }
-        ensures sound { OnOk result (St.sound self.new.store) }
-        ensures not_fallen { St.next self.old.store ≤ St.next self.new.store }
-        ensures said { St.said self.new.store ≡ St.said self.old.store }
-        ensures description { self.new.desc ≡ self.old.desc }
-        ensures desc { St.desc self.new.store ≡ St.desc self.old.store }
-        ensures same { St.same_store self.old.store self.new.store }
-        ensures later { (St.disk_faults self.old.store ≤ St.disk_faults self.new.store) × (St.say_faults self.old.store ≤ St.say_faults self.new.store) × (St.fulls self.old.store ≤ St.fulls self.new.store) × (St.damages self.old.store ≤ St.damages self.new.store) }
-        ensures disk { IsErrOf result BlockFault.Disk → Rose (St.disk_faults self.old.store) (St.disk_faults self.new.store) }
-        ensures say { IsErrOf result BlockFault.Say → Rose (St.say_faults self.old.store) (St.say_faults self.new.store) }
-        ensures full { (f : ℕ) → IsErrOf result (BlockFault.Full f) → Rose (St.fulls self.old.store) (St.fulls self.new.store) }
-        ensures damaged { (f b : ℕ) → IsErrOf result (BlockFault.Damaged f b) → Rose (St.damages self.old.store) (St.damages self.new.store) }
+        requires sound { (seen self.old).sound }
+        ensures step { (p : Program) → slice_get self.old.programs.items i ≡ Some p → Does self.old self.new result (λ s. abort_step i p s) }
+        ensures mute { IsMute (seen self.old) (seen self.new) }
+        ensures lasts { Lasts result self.old self.new }
     {
         let name = self.programs[i].name;
         if !self.programs[i].in_transaction {

@@ -1,12 +1,11 @@
 ghost use Rattle.std.specs.Prelude.{◌≡◌, ◌≤◌, ◌<◌, ◌+◌, ◌^◌, ℕ, List, Bool, Some, None, IfOk, OnOk, IsErrOf, IsTrue, slice_get, length, if◌then◌else◌, []};
-ghost use Rattle.dms_base.specs.Causes.{Rose};
 ghost use Rattle.dms_desc.specs.Shape.{described};
 ghost use Rattle.dms_model.specs.declared.program.Program.{Program};
 ghost use Rattle.dms_model.specs.Db.{Db};
-ghost use Rattle.dms_model.specs.Points.{Stays, Leaves};
+ghost use Rattle.dms_model.specs.Seen.{IsMute, IsSilent, StaysSure};
 ghost use Rattle.dms_model.specs.Session.{Session, find_step, found_by, verb_step, step, parts_of, key_values, set_of, at_values};
 ghost use Rattle.dms_model.specs.Members.{structure_of, items_of};
-ghost use Rattle.dms_storeverbs.specs.View.{view, Stands, Does, Makes, LeavesCall};
+ghost use Rattle.dms_storeverbs.specs.View.{Does, Lasts, SameSession, Stands, seen, view};
 
 use crate::keys::{agreeing, key_values};
 use crate::refusal::{done, refused};
@@ -25,24 +24,13 @@ impl<St: Store> Engine<St> {
         x: u16,
         literals: &[Literal],
     ) -> Result<Option<Spot>, BlockFault>
-        requires sound { St.sound self.old.store }
-        requires desc { St.desc self.old.store ≡ described self.old.desc }
-        ensures found { IfOk result (λ r. (d : Db) → St.db self.old.store ≡ Some d → r ≡ at_values (key_values (parts_of (structure_of (described self.old.desc) x)) (items_of (structure_of (described self.old.desc) (set_of (described self.old.desc) x))) literals.now) (described self.old.desc) d x) }
-        ensures stands { OnOk result ((s : Session) → Stands (view (St.db self.old.store) (St.mark self.old.store) (St.next self.old.store) self.old.programs.items self.old.pending self.old.since) s → Stands (view (St.db self.new.store) (St.mark self.new.store) (St.next self.new.store) self.new.programs.items self.new.pending self.new.since) s) }
+        requires sound { (seen self.old).sound }
+        ensures found { IfOk result (λ r. (d : Db) → (seen self.old).db ≡ Some d → r ≡ at_values (key_values (parts_of (structure_of (described self.old.desc) x)) (items_of (structure_of (described self.old.desc) (set_of (described self.old.desc) x))) literals.now) (described self.old.desc) d x) }
+        ensures stands { OnOk result (SameSession self.old self.new) }
         ensures programs { self.new.programs.items ≡ self.old.programs.items }
-        ensures points { OnOk result (IsTrue St.tells_moments → St.next self.old.store + 1 < 2 ^ 64 → Stays (St.points self.old.store) (St.sure self.old.store) (St.points self.new.store) (St.sure self.new.store)) }
-        ensures moments { IsTrue St.tells_moments → St.next self.old.store + 1 < 2 ^ 64 → Leaves (St.clock self.old.store) (St.clock self.new.store) (St.sure self.old.store) (St.points self.old.store) (St.next self.old.store) (St.said self.old.store) }
-        ensures sound { OnOk result (St.sound self.new.store) }
-        ensures next { St.next self.new.store ≡ St.next self.old.store }
-        ensures said { St.said self.new.store ≡ St.said self.old.store }
-        ensures description { self.new.desc ≡ self.old.desc }
-        ensures desc { St.desc self.new.store ≡ St.desc self.old.store }
-        ensures same { St.same_store self.old.store self.new.store }
-        ensures later { (St.disk_faults self.old.store ≤ St.disk_faults self.new.store) × (St.say_faults self.old.store ≤ St.say_faults self.new.store) × (St.fulls self.old.store ≤ St.fulls self.new.store) × (St.damages self.old.store ≤ St.damages self.new.store) }
-        ensures disk { IsErrOf result BlockFault.Disk → Rose (St.disk_faults self.old.store) (St.disk_faults self.new.store) }
-        ensures say { IsErrOf result BlockFault.Say → Rose (St.say_faults self.old.store) (St.say_faults self.new.store) }
-        ensures full { (f : ℕ) → IsErrOf result (BlockFault.Full f) → Rose (St.fulls self.old.store) (St.fulls self.new.store) }
-        ensures damaged { (f b : ℕ) → IsErrOf result (BlockFault.Damaged f b) → Rose (St.damages self.old.store) (St.damages self.new.store) }
+        ensures points { OnOk result (StaysSure (seen self.old) (seen self.new)) }
+        ensures silent { IsSilent (seen self.old) (seen self.new) }
+        ensures lasts { Lasts result self.old self.new }
     {
         let items = items_of(&self.desc, set_of(&self.desc, x));
         let Some(values) = key_values(alloc, parts_of(&self.desc, x), items, literals)? else {
@@ -56,24 +44,13 @@ impl<St: Store> Engine<St> {
     /// The member that a path names.
     #[tactic(auto, using(std::proofs::lemmas::Option::gets), unfolding(dms_model::specs::Session::found_by))]
     fn found(&mut self, alloc: Global, path: &Path) -> Result<Option<Spot>, BlockFault>
-        requires sound { St.sound self.old.store }
-        requires desc { St.desc self.old.store ≡ described self.old.desc }
-        ensures found { IfOk result (λ r. (d : Db) → St.db self.old.store ≡ Some d → r ≡ found_by (described self.old.desc) d path.now) }
-        ensures stands { OnOk result ((s : Session) → Stands (view (St.db self.old.store) (St.mark self.old.store) (St.next self.old.store) self.old.programs.items self.old.pending self.old.since) s → Stands (view (St.db self.new.store) (St.mark self.new.store) (St.next self.new.store) self.new.programs.items self.new.pending self.new.since) s) }
+        requires sound { (seen self.old).sound }
+        ensures found { IfOk result (λ r. (d : Db) → (seen self.old).db ≡ Some d → r ≡ found_by (described self.old.desc) d path.now) }
+        ensures stands { OnOk result (SameSession self.old self.new) }
         ensures programs { self.new.programs.items ≡ self.old.programs.items }
-        ensures points { OnOk result (IsTrue St.tells_moments → St.next self.old.store + 1 < 2 ^ 64 → Stays (St.points self.old.store) (St.sure self.old.store) (St.points self.new.store) (St.sure self.new.store)) }
-        ensures moments { IsTrue St.tells_moments → St.next self.old.store + 1 < 2 ^ 64 → Leaves (St.clock self.old.store) (St.clock self.new.store) (St.sure self.old.store) (St.points self.old.store) (St.next self.old.store) (St.said self.old.store) }
-        ensures sound { OnOk result (St.sound self.new.store) }
-        ensures next { St.next self.new.store ≡ St.next self.old.store }
-        ensures said { St.said self.new.store ≡ St.said self.old.store }
-        ensures description { self.new.desc ≡ self.old.desc }
-        ensures desc { St.desc self.new.store ≡ St.desc self.old.store }
-        ensures same { St.same_store self.old.store self.new.store }
-        ensures later { (St.disk_faults self.old.store ≤ St.disk_faults self.new.store) × (St.say_faults self.old.store ≤ St.say_faults self.new.store) × (St.fulls self.old.store ≤ St.fulls self.new.store) × (St.damages self.old.store ≤ St.damages self.new.store) }
-        ensures disk { IsErrOf result BlockFault.Disk → Rose (St.disk_faults self.old.store) (St.disk_faults self.new.store) }
-        ensures say { IsErrOf result BlockFault.Say → Rose (St.say_faults self.old.store) (St.say_faults self.new.store) }
-        ensures full { (f : ℕ) → IsErrOf result (BlockFault.Full f) → Rose (St.fulls self.old.store) (St.fulls self.new.store) }
-        ensures damaged { (f b : ℕ) → IsErrOf result (BlockFault.Damaged f b) → Rose (St.damages self.old.store) (St.damages self.new.store) }
+        ensures points { OnOk result (StaysSure (seen self.old) (seen self.new)) }
+        ensures silent { IsSilent (seen self.old) (seen self.new) }
+        ensures lasts { Lasts result self.old self.new }
     {
         match path {
             Path::First(x) => self.store.first_from(alloc, *x, 0, &Bound::Start),
@@ -86,22 +63,10 @@ impl<St: Store> Engine<St> {
     #[tactic(auto, using(std::proofs::lemmas::Option::gets), unfolding(dms_model::specs::Session::find_step))]
     fn find(&mut self, alloc: Global, i: usize, path: &Path) -> Result<Answer, BlockFault>
         requires place { i < length self.old.programs.items }
-        requires sound { St.sound self.old.store }
-        requires desc { St.desc self.old.store ≡ described self.old.desc }
-        ensures step { (p : Program) → slice_get self.old.programs.items i ≡ Some p → Does (view (St.db self.old.store) (St.mark self.old.store) (St.next self.old.store) self.old.programs.items self.old.pending self.old.since) (view (St.db self.new.store) (St.mark self.new.store) (St.next self.new.store) self.new.programs.items self.new.pending self.new.since) result (λ s. find_step (described self.old.desc) i p s path.now) }
-        ensures makes { IsTrue St.tells_moments → (p : Program) → slice_get self.old.programs.items i ≡ Some p → Makes (view (St.db self.old.store) (St.mark self.old.store) (St.next self.old.store) self.old.programs.items self.old.pending self.old.since) result (λ s. find_step (described self.old.desc) i p s path.now) (St.sure self.old.store) (St.points self.old.store) (St.sure self.new.store) (St.points self.new.store) }
-        ensures moments { IsTrue St.tells_moments → (p : Program) → slice_get self.old.programs.items i ≡ Some p → LeavesCall (view (St.db self.old.store) (St.mark self.old.store) (St.next self.old.store) self.old.programs.items self.old.pending self.old.since) (λ s. find_step (described self.old.desc) i p s path.now) (St.clock self.old.store) (St.clock self.new.store) (St.sure self.old.store) (St.points self.old.store) (St.next self.old.store) (St.said self.old.store) }
-        ensures sound { OnOk result (St.sound self.new.store) }
-        ensures not_fallen { St.next self.old.store ≤ St.next self.new.store }
-        ensures said { St.said self.new.store ≡ St.said self.old.store }
-        ensures description { self.new.desc ≡ self.old.desc }
-        ensures desc { St.desc self.new.store ≡ St.desc self.old.store }
-        ensures same { St.same_store self.old.store self.new.store }
-        ensures later { (St.disk_faults self.old.store ≤ St.disk_faults self.new.store) × (St.say_faults self.old.store ≤ St.say_faults self.new.store) × (St.fulls self.old.store ≤ St.fulls self.new.store) × (St.damages self.old.store ≤ St.damages self.new.store) }
-        ensures disk { IsErrOf result BlockFault.Disk → Rose (St.disk_faults self.old.store) (St.disk_faults self.new.store) }
-        ensures say { IsErrOf result BlockFault.Say → Rose (St.say_faults self.old.store) (St.say_faults self.new.store) }
-        ensures full { (f : ℕ) → IsErrOf result (BlockFault.Full f) → Rose (St.fulls self.old.store) (St.fulls self.new.store) }
-        ensures damaged { (f b : ℕ) → IsErrOf result (BlockFault.Damaged f b) → Rose (St.damages self.old.store) (St.damages self.new.store) }
+        requires sound { (seen self.old).sound }
+        ensures step { (p : Program) → slice_get self.old.programs.items i ≡ Some p → Does self.old self.new result (λ s. find_step (described self.old.desc) i p s path.now) }
+        ensures mute { IsMute (seen self.old) (seen self.new) }
+        ensures lasts { Lasts result self.old self.new }
     {
         let x = apart::path_of(path);
         let name = name_of(&self.desc, x);
@@ -117,22 +82,10 @@ impl<St: Store> Engine<St> {
     #[tactic(auto, using(std::proofs::lemmas::Option::gets), unfolding(dms_model::specs::Session::verb_step))]
     fn verb(&mut self, alloc: Global, i: usize, verb: &Verb) -> Result<Answer, BlockFault>
         requires place { i < length self.old.programs.items }
-        requires sound { St.sound self.old.store }
-        requires desc { St.desc self.old.store ≡ described self.old.desc }
-        ensures step { (p : Program) → slice_get self.old.programs.items i ≡ Some p → Does (view (St.db self.old.store) (St.mark self.old.store) (St.next self.old.store) self.old.programs.items self.old.pending self.old.since) (view (St.db self.new.store) (St.mark self.new.store) (St.next self.new.store) self.new.programs.items self.new.pending self.new.since) result (λ s. verb_step (described self.old.desc) i p s verb.now) }
-        ensures makes { IsTrue St.tells_moments → (p : Program) → slice_get self.old.programs.items i ≡ Some p → Makes (view (St.db self.old.store) (St.mark self.old.store) (St.next self.old.store) self.old.programs.items self.old.pending self.old.since) result (λ s. verb_step (described self.old.desc) i p s verb.now) (St.sure self.old.store) (St.points self.old.store) (St.sure self.new.store) (St.points self.new.store) }
-        ensures moments { IsTrue St.tells_moments → (p : Program) → slice_get self.old.programs.items i ≡ Some p → LeavesCall (view (St.db self.old.store) (St.mark self.old.store) (St.next self.old.store) self.old.programs.items self.old.pending self.old.since) (λ s. verb_step (described self.old.desc) i p s verb.now) (St.clock self.old.store) (St.clock self.new.store) (St.sure self.old.store) (St.points self.old.store) (St.next self.old.store) (St.said self.old.store) }
-        ensures sound { OnOk result (St.sound self.new.store) }
-        ensures not_fallen { St.next self.old.store ≤ St.next self.new.store }
-        ensures said { St.said self.new.store ≡ St.said self.old.store }
-        ensures description { self.new.desc ≡ self.old.desc }
-        ensures desc { St.desc self.new.store ≡ St.desc self.old.store }
-        ensures same { St.same_store self.old.store self.new.store }
-        ensures later { (St.disk_faults self.old.store ≤ St.disk_faults self.new.store) × (St.say_faults self.old.store ≤ St.say_faults self.new.store) × (St.fulls self.old.store ≤ St.fulls self.new.store) × (St.damages self.old.store ≤ St.damages self.new.store) }
-        ensures disk { IsErrOf result BlockFault.Disk → Rose (St.disk_faults self.old.store) (St.disk_faults self.new.store) }
-        ensures say { IsErrOf result BlockFault.Say → Rose (St.say_faults self.old.store) (St.say_faults self.new.store) }
-        ensures full { (f : ℕ) → IsErrOf result (BlockFault.Full f) → Rose (St.fulls self.old.store) (St.fulls self.new.store) }
-        ensures damaged { (f b : ℕ) → IsErrOf result (BlockFault.Damaged f b) → Rose (St.damages self.old.store) (St.damages self.new.store) }
+        requires sound { (seen self.old).sound }
+        ensures step { (p : Program) → slice_get self.old.programs.items i ≡ Some p → Does self.old self.new result (λ s. verb_step (described self.old.desc) i p s verb.now) }
+        ensures mute { IsMute (seen self.old) (seen self.new) }
+        ensures lasts { Lasts result self.old self.new }
     {
         match verb {
             Verb::OpenUpdate | Verb::OpenInquiry => {
@@ -167,22 +120,10 @@ impl<St: Store> Engine<St> {
     /// One step of a program: what its verb answers and leaves.
     #[tactic(auto, using(std::proofs::lemmas::Option::gets), unfolding(dms_model::specs::Session::step))]
     pub fn call(&mut self, alloc: Global, program: &Name, verb: &Verb) -> Result<Answer, BlockFault>
-        requires sound { St.sound self.old.store }
-        requires desc { St.desc self.old.store ≡ described self.old.desc }
-        ensures step { Does (view (St.db self.old.store) (St.mark self.old.store) (St.next self.old.store) self.old.programs.items self.old.pending self.old.since) (view (St.db self.new.store) (St.mark self.new.store) (St.next self.new.store) self.new.programs.items self.new.pending self.new.since) result (λ s. step (described self.old.desc) s program.now verb.now) }
-        ensures makes { IsTrue St.tells_moments → Makes (view (St.db self.old.store) (St.mark self.old.store) (St.next self.old.store) self.old.programs.items self.old.pending self.old.since) result (λ s. step (described self.old.desc) s program.now verb.now) (St.sure self.old.store) (St.points self.old.store) (St.sure self.new.store) (St.points self.new.store) }
-        ensures moments { IsTrue St.tells_moments → LeavesCall (view (St.db self.old.store) (St.mark self.old.store) (St.next self.old.store) self.old.programs.items self.old.pending self.old.since) (λ s. step (described self.old.desc) s program.now verb.now) (St.clock self.old.store) (St.clock self.new.store) (St.sure self.old.store) (St.points self.old.store) (St.next self.old.store) (St.said self.old.store) }
-        ensures sound { OnOk result (St.sound self.new.store) }
-        ensures not_fallen { St.next self.old.store ≤ St.next self.new.store }
-        ensures said { St.said self.new.store ≡ St.said self.old.store }
-        ensures description { self.new.desc ≡ self.old.desc }
-        ensures desc { St.desc self.new.store ≡ St.desc self.old.store }
-        ensures same { St.same_store self.old.store self.new.store }
-        ensures later { (St.disk_faults self.old.store ≤ St.disk_faults self.new.store) × (St.say_faults self.old.store ≤ St.say_faults self.new.store) × (St.fulls self.old.store ≤ St.fulls self.new.store) × (St.damages self.old.store ≤ St.damages self.new.store) }
-        ensures disk { IsErrOf result BlockFault.Disk → Rose (St.disk_faults self.old.store) (St.disk_faults self.new.store) }
-        ensures say { IsErrOf result BlockFault.Say → Rose (St.say_faults self.old.store) (St.say_faults self.new.store) }
-        ensures full { (f : ℕ) → IsErrOf result (BlockFault.Full f) → Rose (St.fulls self.old.store) (St.fulls self.new.store) }
-        ensures damaged { (f b : ℕ) → IsErrOf result (BlockFault.Damaged f b) → Rose (St.damages self.old.store) (St.damages self.new.store) }
+        requires sound { (seen self.old).sound }
+        ensures step { Does self.old self.new result (λ s. step (described self.old.desc) s program.now verb.now) }
+        ensures mute { IsMute (seen self.old) (seen self.new) }
+        ensures lasts { Lasts result self.old self.new }
     {
         let i = programs::place_of(self.programs.as_slice(), program);
         if i >= self.programs.len() {

@@ -1,7 +1,7 @@
 -- What a stop leaves while some description is written.
 use Rattle.std.proofs.Common.{inl, inr, ⊎_elim}
-use Rattle.dms_block.specs.Moments.{Clock}
-use Rattle.dms_block.specs.MomentLaws.{runs_weaken}
+use Rattle.dms_moments.specs.Moments.{Clock}
+use Rattle.dms_moments.specs.MomentLaws.{runs_weaken}
 use Rattle.dms_desc.specs.Shape.{Described}
 use Rattle.dms_descfile.specs.Becoming.{Creates}
 use Rattle.dms_descfile.specs.DescriptionFile.{sealed_file}

@@ -4,7 +4,7 @@ use Rattle.std.proofs.lemmas.List.{append-nil}
 use Rattle.std.proofs.lemmas.Option.{same_Some}
 use Rattle.dms_desc.specs.Shape.{Described}
 use Rattle.dms_model.specs.Db.{empty_db}
-use Rattle.dms_model.specs.Points.{Prints, PrintsFront}
+use Rattle.dms_block.specs.Texts.{Prints, PrintsFront}
 use Rattle.dms_model.specs.Session.{fresh_session}
 use Rattle.dms_storeverbs.specs.View.{View, Stands}
 use Rattle.dms_plain.specs.Told.{told}

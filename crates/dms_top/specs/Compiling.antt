@@ -1,6 +1,6 @@
 -- The command `compile`: what it says, and what a stop leaves.
 use Rattle.std.specs.Prelude.{◌≡◌, ◌⊎◌, ℕ, List, [], ◌∷◌, ◌++◌, codes, decimal, take, ⊤}
-use Rattle.dms_block.specs.Moments.{Clock, Now, Runs, Steps}
+use Rattle.dms_moments.specs.Moments.{Clock, Now, Runs, Steps}
 use Rattle.dms_desc.specs.Shape.{Described}
 use Rattle.dms_descfile.specs.Becoming.{IsCreated}
 use Rattle.dms_descfile.specs.DescriptionFile.{sealed_file}

@@ -3,7 +3,7 @@ ghost use Rattle.dms_base.specs.Causes.{Rose};
 ghost use Rattle.dms_desc.specs.Shape.{Described};
 ghost use Rattle.dms_descfile.specs.Becoming.{IsCreated};
 ghost use Rattle.dms_descfile.specs.DescriptionFile.{sealed_file, IsSealed, IsUnsealed};
-ghost use Rattle.dms_block.specs.Moments.{Now};
+ghost use Rattle.dms_moments.specs.Moments.{Now};
 ghost use Rattle.dms_site.specs.Files.{Left, Only};
 ghost use Rattle.dms_top.specs.Taking.{CutText};
 ghost use Rattle.dms_plain.specs.Speaking.{OnlySpeaks};

@@ -1,5 +1,5 @@
 use Rattle.std.proofs.Common.{◌∙◌, subst, ℕ, List}
-use Rattle.dms_block.specs.Moments.{Steps}
+use Rattle.dms_moments.specs.Moments.{Steps}
 use Rattle.dms_site.specs.Files.{OnDisk}
 use Rattle.dms_descfile.specs.Becoming.{Becoming, Creates}
 use Rattle.dms_descfile.proofs.Created.{file_is, creates_nothing}

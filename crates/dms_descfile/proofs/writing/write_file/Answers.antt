@@ -1,6 +1,6 @@
 use Rattle.std.proofs.Common.{◌∙◌, ap}
 use Rattle.std.proofs.lemmas.Result.{on_ok_weaker}
-use Rattle.dms_block.specs.MomentLaws.{steps_weaken}
+use Rattle.dms_moments.specs.MomentLaws.{steps_weaken}
 use Rattle.dms_site.specs.Files.{Files}
 use Rattle.dms_descfile.proofs.Created.{cut_becomes, shuts_becomes, becoming_on, gate_becomes, gate_written}
 use Rattle.dms_descfile.proofs.writing.write_file.Goals as goal

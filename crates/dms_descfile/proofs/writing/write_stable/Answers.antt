@@ -1,4 +1,4 @@
-use Rattle.dms_block.specs.MomentLaws.{steps_weaken}
+use Rattle.dms_moments.specs.MomentLaws.{steps_weaken}
 use Rattle.dms_descfile.proofs.Created.{becoming_on, same_becomes, creates_none, creates_stable}
 use Rattle.dms_descfile.proofs.writing.write_stable.Goals as goal
 

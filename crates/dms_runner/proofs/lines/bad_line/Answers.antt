@@ -1,3 +1,4 @@
+use Rattle.dms_storeverbs.specs.View.{seen}
 use Rattle.std.proofs.Common.{◌≡◌, ◌∙◌, ◌+◌, ◌<◌, ◌^◌, [], ◌∷◌, ℕ, sym, ap, arith, length}
 use Rattle.dms_desc.specs.Shape.{described}
 use Rattle.dms_script.specs.Replies.{bad_text}
@@ -11,30 +12,30 @@ returns-in_err-text-clause-part g c = λ now stands same line room. part_none _ 
 
 pub returns-in_err-say-clause-part : goal.returns-in_err-say-clause-part
 returns-in_err-say-clause-part g c = λ now stands same line room.
-    let room' : g.St.Store.next c.args.engine.now.store + 1 < 2 ^ 64 = omega (arith, stands.next, room) in
+    let room' : (seen c.args.engine.now).next + 1 < 2 ^ 64 = omega (arith, stands.next, room) in
     let text : c.as_slice.result.now ≡ bad_text now.line c.args.place = c.as_slice.ensures ∙ c.in_ok-text.ensures ∙ ap (λ (n : ℕ). bad_text n c.args.place) (sym line) in
-    part_of_first _ _ (says (bad_text now.line c.args.place) ∷ []) _ (part_says _ _ _ _ text c.say.ensures.part (λ t. c.say.ensures.moments t room'))
+    part_of_first _ _ (says (bad_text now.line c.args.place) ∷ []) _ (part_says _ _ _ _ text c.say.ensures.part room')
 
 pub returns-in_err-walk_all-clause-part : goal.returns-in_err-walk_all-clause-part
 returns-in_err-walk_all-clause-part g c = λ now stands same line room.
-    let room' : g.St.Store.next c.args.engine.now.store + 1 < 2 ^ 64 = omega (arith, stands.next, room) in
+    let room' : (seen c.args.engine.now).next + 1 < 2 ^ 64 = omega (arith, stands.next, room) in
     let text : c.as_slice.result.now ≡ bad_text now.line c.args.place = c.as_slice.ensures ∙ c.in_ok-text.ensures ∙ ap (λ (n : ℕ). bad_text n c.args.place) (sym line) in
-    let said = ran_says _ _ _ _ text (λ t. t) c.in_ok-say.ensures.text c.say.ensures.next (λ t. c.in_ok-say.ensures.points t room') (λ t. c.say.ensures.moments t room') in
+    let said = ran_says _ _ _ _ text c.say.ensures.lasts.causes.tells c.in_ok-say.ensures.text c.say.ensures.part c.in_ok-say.ensures.keeps.points room' in
     part_on _ _ _ (says (bad_text now.line c.args.place) ∷ []) _ said
-    (walks_part_from _ _ now.session _ _ _ _ (ap described c.say.ensures.description) (sym same) (c.walk_all.ensures.part now.session (c.in_ok-say.ensures.stands now.session stands) (omega (arith, room, ap length same))))
+    (walks_part_from _ _ now.session _ _ _ _ (ap described c.say.ensures.lasts.description) (sym same) (c.walk_all.ensures.part now.session (c.in_ok-say.ensures.stands now.session stands) (omega (arith, room, ap length same))))
 
 pub returns-clause-lined : goal.returns-clause-lined
 returns-clause-lined g c = λ now stands same line room.
-    let room' : g.St.Store.next c.args.engine.now.store + 1 < 2 ^ 64 = omega (arith, stands.next, room) in
+    let room' : (seen c.args.engine.now).next + 1 < 2 ^ 64 = omega (arith, stands.next, room) in
     let text : c.as_slice.result.now ≡ bad_text now.line c.args.place = c.as_slice.ensures ∙ c.in_ok-text.ensures ∙ ap (λ (n : ℕ). bad_text n c.args.place) (sym line) in
-    let said = ran_says _ _ _ _ text (λ t. t) c.in_ok-say.ensures.text c.say.ensures.next (λ t. c.in_ok-say.ensures.points t room') (λ t. c.say.ensures.moments t room') in
+    let said = ran_says _ _ _ _ text c.say.ensures.lasts.causes.tells c.in_ok-say.ensures.text c.say.ensures.part c.in_ok-say.ensures.keeps.points room' in
     goes_walked _ now now.session (says (bad_text now.line c.args.place) ∷ []) _ _ _ _ _ said
-    (walks_from _ _ now.session _ _ _ _ _ _ (ap described c.say.ensures.description) (sym same) (c.in_ok-walk_all.ensures.walks now.session (c.in_ok-say.ensures.stands now.session stands) (omega (arith, room, ap length same))))
+    (walks_from _ _ now.session _ _ _ _ _ _ (ap described c.say.ensures.lasts.description) (sym same) (c.in_ok-walk_all.ensures.walks now.session (c.in_ok-say.ensures.stands now.session stands) (omega (arith, room, ap length same))))
 
 pub returns-clause-part : goal.returns-clause-part
 returns-clause-part g c = λ now stands same line room.
-    let room' : g.St.Store.next c.args.engine.now.store + 1 < 2 ^ 64 = omega (arith, stands.next, room) in
+    let room' : (seen c.args.engine.now).next + 1 < 2 ^ 64 = omega (arith, stands.next, room) in
     let text : c.as_slice.result.now ≡ bad_text now.line c.args.place = c.as_slice.ensures ∙ c.in_ok-text.ensures ∙ ap (λ (n : ℕ). bad_text n c.args.place) (sym line) in
-    let said = ran_says _ _ _ _ text (λ t. t) c.in_ok-say.ensures.text c.say.ensures.next (λ t. c.in_ok-say.ensures.points t room') (λ t. c.say.ensures.moments t room') in
+    let said = ran_says _ _ _ _ text c.say.ensures.lasts.causes.tells c.in_ok-say.ensures.text c.say.ensures.part c.in_ok-say.ensures.keeps.points room' in
     part_on _ _ _ (says (bad_text now.line c.args.place) ∷ []) _ said
-    (walks_part_from _ _ now.session _ _ _ _ (ap described c.say.ensures.description) (sym same) (c.walk_all.ensures.part now.session (c.in_ok-say.ensures.stands now.session stands) (omega (arith, room, ap length same))))
+    (walks_part_from _ _ now.session _ _ _ _ (ap described c.say.ensures.lasts.description) (sym same) (c.walk_all.ensures.part now.session (c.in_ok-say.ensures.stands now.session stands) (omega (arith, room, ap length same))))

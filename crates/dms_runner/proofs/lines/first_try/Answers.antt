@@ -1,3 +1,4 @@
+use Rattle.dms_storeverbs.specs.View.{seen}
 use Rattle.std.proofs.Common.{◌∙◌, ◌+◌, ◌<◌, ◌^◌, [], ◌∷◌, ◌++◌, ℕ, List, true, sym, ap, arith, length}
 use Rattle.dms_desc.specs.Shape.{described}
 use Rattle.dms_model.specs.Session.{step, is_waits}
@@ -14,14 +15,15 @@ pub returns-in_err-answer-clause-part : goal.returns-in_err-answer-clause-part
 returns-in_err-answer-clause-part g c = λ now stands same line room.
     let o = step (described c.args.engine.now.desc) now.session c.args.name c.args.verb in
     let starts = tried_starts (described c.args.engine.now.desc) now c.args.name c.args.verb o in
-    part_as _ _ _ _ (sym starts.1) (part_of_first _ _ (calls o ∷ []) starts.0 (part_calls _ _ o c.call.ensures.said (λ t. c.call.ensures.moments t now.session stands (omega (arith, room)))))
+    part_as _ _ _ _ (sym starts.1) (part_of_first _ _ (calls o ∷ []) starts.0 (part_calls _ _ _ o c.call.ensures.mute (c.call.ensures.step now.session stands (omega (arith, room)))))
 
 pub returns-in_err-say_answer-clause-part : goal.returns-in_err-say_answer-clause-part
 returns-in_err-say_answer-clause-part g c = λ now stands same line room.
     let o = step (described c.args.engine.now.desc) now.session c.args.name c.args.verb in
-    let is = c.in_ok-answer.ensures.step now.session stands (omega (arith, room)) in
-    let room' : g.St.Store.next c.call.new.self.store + 1 < 2 ^ 64 = omega (arith, is.session.next, (step_small (described c.args.engine.now.desc) now.session c.args.name c.args.verb).high, room) in
-    let called = ran_calls _ _ o c.in_ok-answer.answer (λ t. t) c.call.ensures.said (omega (arith, stands.next, is.session.next, step_numbers (described c.args.engine.now.desc) now.session c.args.name c.args.verb)) is.sync (λ t. c.in_ok-answer.ensures.makes t now.session stands (omega (arith, room))) (λ t. c.call.ensures.moments t now.session stands (omega (arith, room))) in
+    let did = c.in_ok-answer.ensures.step now.session stands (omega (arith, room)) in
+    let is = did.answers in
+    let room' : (seen c.call.new.self).next + 1 < 2 ^ 64 = omega (arith, is.session.next, (step_small (described c.args.engine.now.desc) now.session c.args.name c.args.verb).high, room) in
+    let called = ran_calls _ _ _ o c.in_ok-answer.answer c.call.ensures.lasts.causes.tells c.call.ensures.mute (omega (arith, stands.next, is.session.next, step_numbers (described c.args.engine.now.desc) now.session c.args.name c.args.verb)) did in
     let text = says_answer c.args.line now.line c.args.name c.in_ok-answer.answer.reply o.reply c.in_ok-answer.answer.sync o.sync (sym line) is.reply is.sync in
     let e = tried_answered (described c.args.engine.now.desc) now c.args.name c.args.verb o (ap is_waits (sym is.reply) ∙ sym c.is_waits.ensures ∙ c.if-not-is_waits.true) in
     part_as _ _ _ _ (sym (ap (λ (l : Lined). l.events) e)) (part_of_first _ _ (calls o ∷ says (answer_text now.line c.args.name o.reply o.sync) ∷ []) _ (part_on _ _ _ (calls o ∷ []) _ called (part_as _ _ _ _ text (c.say_answer.ensures.part room'))))
@@ -29,42 +31,46 @@ returns-in_err-say_answer-clause-part g c = λ now stands same line room.
 pub returns-in_err-walk_all-clause-part : goal.returns-in_err-walk_all-clause-part
 returns-in_err-walk_all-clause-part g c = λ now stands same line room.
     let o = step (described c.args.engine.now.desc) now.session c.args.name c.args.verb in
-    let is = c.in_ok-answer.ensures.step now.session stands (omega (arith, room)) in
-    let room' : g.St.Store.next c.call.new.self.store + 1 < 2 ^ 64 = omega (arith, is.session.next, (step_small (described c.args.engine.now.desc) now.session c.args.name c.args.verb).high, room) in
-    let called = ran_calls _ _ o c.in_ok-answer.answer (λ t. t) c.call.ensures.said (omega (arith, stands.next, is.session.next, step_numbers (described c.args.engine.now.desc) now.session c.args.name c.args.verb)) is.sync (λ t. c.in_ok-answer.ensures.makes t now.session stands (omega (arith, room))) (λ t. c.call.ensures.moments t now.session stands (omega (arith, room))) in
+    let did = c.in_ok-answer.ensures.step now.session stands (omega (arith, room)) in
+    let is = did.answers in
+    let room' : (seen c.call.new.self).next + 1 < 2 ^ 64 = omega (arith, is.session.next, (step_small (described c.args.engine.now.desc) now.session c.args.name c.args.verb).high, room) in
+    let called = ran_calls _ _ _ o c.in_ok-answer.answer c.call.ensures.lasts.causes.tells c.call.ensures.mute (omega (arith, stands.next, is.session.next, step_numbers (described c.args.engine.now.desc) now.session c.args.name c.args.verb)) did in
     let text = says_answer c.args.line now.line c.args.name c.in_ok-answer.answer.reply o.reply c.in_ok-answer.answer.sync o.sync (sym line) is.reply is.sync in
     let e = tried_answered (described c.args.engine.now.desc) now c.args.name c.args.verb o (ap is_waits (sym is.reply) ∙ sym c.is_waits.ensures ∙ c.if-not-is_waits.true) in
     part_as _ _ _ _ (sym (ap (λ (l : Lined). l.events) e)) (part_on _ _ _ (calls o ∷ says (answer_text now.line c.args.name o.reply o.sync) ∷ []) _ (ran_on _ _ _ (calls o ∷ []) (says (answer_text now.line c.args.name o.reply o.sync) ∷ []) called (ran_as _ _ _ _ text (c.in_ok-say_answer.ensures.ran room')))
-    (walks_part_from _ _ o.session _ _ _ _ (ap described (c.say_answer.ensures.description ∙ c.call.ensures.description)) (sym same) (c.walk_all.ensures.part o.session (c.in_ok-say_answer.ensures.stands o.session is.session) (omega (arith, room, ap length same, (step_small (described c.args.engine.now.desc) now.session c.args.name c.args.verb).high)))))
+    (walks_part_from _ _ o.session _ _ _ _ (ap described (c.say_answer.ensures.lasts.description ∙ c.call.ensures.lasts.description)) (sym same) (c.walk_all.ensures.part o.session (c.in_ok-say_answer.ensures.stands o.session is.session) (omega (arith, room, ap length same, (step_small (described c.args.engine.now.desc) now.session c.args.name c.args.verb).high)))))
 
 pub returns-then-not-is_waits-clause-lined : goal.returns-then-not-is_waits-clause-lined
 returns-then-not-is_waits-clause-lined g c = λ now stands same line room.
     let o = step (described c.args.engine.now.desc) now.session c.args.name c.args.verb in
-    let is = c.in_ok-answer.ensures.step now.session stands (omega (arith, room)) in
-    let room' : g.St.Store.next c.call.new.self.store + 1 < 2 ^ 64 = omega (arith, is.session.next, (step_small (described c.args.engine.now.desc) now.session c.args.name c.args.verb).high, room) in
-    let called = ran_calls _ _ o c.in_ok-answer.answer (λ t. t) c.call.ensures.said (omega (arith, stands.next, is.session.next, step_numbers (described c.args.engine.now.desc) now.session c.args.name c.args.verb)) is.sync (λ t. c.in_ok-answer.ensures.makes t now.session stands (omega (arith, room))) (λ t. c.call.ensures.moments t now.session stands (omega (arith, room))) in
+    let did = c.in_ok-answer.ensures.step now.session stands (omega (arith, room)) in
+    let is = did.answers in
+    let room' : (seen c.call.new.self).next + 1 < 2 ^ 64 = omega (arith, is.session.next, (step_small (described c.args.engine.now.desc) now.session c.args.name c.args.verb).high, room) in
+    let called = ran_calls _ _ _ o c.in_ok-answer.answer c.call.ensures.lasts.causes.tells c.call.ensures.mute (omega (arith, stands.next, is.session.next, step_numbers (described c.args.engine.now.desc) now.session c.args.name c.args.verb)) did in
     let text = says_answer c.args.line now.line c.args.name c.in_ok-answer.answer.reply o.reply c.in_ok-answer.answer.sync o.sync (sym line) is.reply is.sync in
     let e = tried_answered (described c.args.engine.now.desc) now c.args.name c.args.verb o (ap is_waits (sym is.reply) ∙ sym c.is_waits.ensures ∙ c.if-not-is_waits.true) in
     lined_as _ _ _ _ _ _ _ (sym e) (goes_walked _ now o.session (calls o ∷ says (answer_text now.line c.args.name o.reply o.sync) ∷ []) _ _ _ _ _ (ran_on _ _ _ (calls o ∷ []) (says (answer_text now.line c.args.name o.reply o.sync) ∷ []) called (ran_as _ _ _ _ text (c.in_ok-say_answer.ensures.ran room')))
-    (walks_from _ _ o.session _ _ _ _ _ _ (ap described (c.say_answer.ensures.description ∙ c.call.ensures.description)) (sym same) (c.in_ok-walk_all.ensures.walks o.session (c.in_ok-say_answer.ensures.stands o.session is.session) (omega (arith, room, ap length same, (step_small (described c.args.engine.now.desc) now.session c.args.name c.args.verb).high)))))
+    (walks_from _ _ o.session _ _ _ _ _ _ (ap described (c.say_answer.ensures.lasts.description ∙ c.call.ensures.lasts.description)) (sym same) (c.in_ok-walk_all.ensures.walks o.session (c.in_ok-say_answer.ensures.stands o.session is.session) (omega (arith, room, ap length same, (step_small (described c.args.engine.now.desc) now.session c.args.name c.args.verb).high)))))
 
 pub returns-then-not-is_waits-clause-part : goal.returns-then-not-is_waits-clause-part
 returns-then-not-is_waits-clause-part g c = λ now stands same line room.
     let o = step (described c.args.engine.now.desc) now.session c.args.name c.args.verb in
-    let is = c.in_ok-answer.ensures.step now.session stands (omega (arith, room)) in
-    let room' : g.St.Store.next c.call.new.self.store + 1 < 2 ^ 64 = omega (arith, is.session.next, (step_small (described c.args.engine.now.desc) now.session c.args.name c.args.verb).high, room) in
-    let called = ran_calls _ _ o c.in_ok-answer.answer (λ t. t) c.call.ensures.said (omega (arith, stands.next, is.session.next, step_numbers (described c.args.engine.now.desc) now.session c.args.name c.args.verb)) is.sync (λ t. c.in_ok-answer.ensures.makes t now.session stands (omega (arith, room))) (λ t. c.call.ensures.moments t now.session stands (omega (arith, room))) in
+    let did = c.in_ok-answer.ensures.step now.session stands (omega (arith, room)) in
+    let is = did.answers in
+    let room' : (seen c.call.new.self).next + 1 < 2 ^ 64 = omega (arith, is.session.next, (step_small (described c.args.engine.now.desc) now.session c.args.name c.args.verb).high, room) in
+    let called = ran_calls _ _ _ o c.in_ok-answer.answer c.call.ensures.lasts.causes.tells c.call.ensures.mute (omega (arith, stands.next, is.session.next, step_numbers (described c.args.engine.now.desc) now.session c.args.name c.args.verb)) did in
     let text = says_answer c.args.line now.line c.args.name c.in_ok-answer.answer.reply o.reply c.in_ok-answer.answer.sync o.sync (sym line) is.reply is.sync in
     let e = tried_answered (described c.args.engine.now.desc) now c.args.name c.args.verb o (ap is_waits (sym is.reply) ∙ sym c.is_waits.ensures ∙ c.if-not-is_waits.true) in
     part_as _ _ _ _ (sym (ap (λ (l : Lined). l.events) e)) (part_on _ _ _ (calls o ∷ says (answer_text now.line c.args.name o.reply o.sync) ∷ []) _ (ran_on _ _ _ (calls o ∷ []) (says (answer_text now.line c.args.name o.reply o.sync) ∷ []) called (ran_as _ _ _ _ text (c.in_ok-say_answer.ensures.ran room')))
-    (walks_part_from _ _ o.session _ _ _ _ (ap described (c.say_answer.ensures.description ∙ c.call.ensures.description)) (sym same) (c.walk_all.ensures.part o.session (c.in_ok-say_answer.ensures.stands o.session is.session) (omega (arith, room, ap length same, (step_small (described c.args.engine.now.desc) now.session c.args.name c.args.verb).high)))))
+    (walks_part_from _ _ o.session _ _ _ _ (ap described (c.say_answer.ensures.lasts.description ∙ c.call.ensures.lasts.description)) (sym same) (c.walk_all.ensures.part o.session (c.in_ok-say_answer.ensures.stands o.session is.session) (omega (arith, room, ap length same, (step_small (described c.args.engine.now.desc) now.session c.args.name c.args.verb).high)))))
 
 pub returns-then-len-ge-HELD_LINES-clause-lined : goal.returns-then-len-ge-HELD_LINES-clause-lined
 returns-then-len-ge-HELD_LINES-clause-lined g c = λ now stands same line room.
     let o = step (described c.args.engine.now.desc) now.session c.args.name c.args.verb in
-    let is = c.in_ok-answer.ensures.step now.session stands (omega (arith, room)) in
-    let room' : g.St.Store.next c.call.new.self.store + 1 < 2 ^ 64 = omega (arith, is.session.next, (step_small (described c.args.engine.now.desc) now.session c.args.name c.args.verb).high, room) in
-    let called = ran_calls _ _ o c.in_ok-answer.answer (λ t. t) c.call.ensures.said (omega (arith, stands.next, is.session.next, step_numbers (described c.args.engine.now.desc) now.session c.args.name c.args.verb)) is.sync (λ t. c.in_ok-answer.ensures.makes t now.session stands (omega (arith, room))) (λ t. c.call.ensures.moments t now.session stands (omega (arith, room))) in
+    let did = c.in_ok-answer.ensures.step now.session stands (omega (arith, room)) in
+    let is = did.answers in
+    let room' : (seen c.call.new.self).next + 1 < 2 ^ 64 = omega (arith, is.session.next, (step_small (described c.args.engine.now.desc) now.session c.args.name c.args.verb).high, room) in
+    let called = ran_calls _ _ _ o c.in_ok-answer.answer c.call.ensures.lasts.causes.tells c.call.ensures.mute (omega (arith, stands.next, is.session.next, step_numbers (described c.args.engine.now.desc) now.session c.args.name c.args.verb)) did in
     let text = says_answer c.args.line now.line c.args.name c.in_ok-answer.answer.reply o.reply c.in_ok-answer.answer.sync o.sync (sym line) is.reply is.sync in
     let e = tried_waits (described c.args.engine.now.desc) now c.args.name c.args.verb o (ap is_waits (sym is.reply) ∙ sym c.is_waits.ensures ∙ c.if-not-is_waits.false) in
     lined_as _ _ _ _ _ _ _ (sym e) (goes_full now o.session (first_line now.line c.args.name c.args.verb true) (calls o ∷ []) _ _ _ _ _ (omega (arith, ap length same, c.if-len-ge-HELD_LINES.true, c.len.ensures, c.args.held.now.ok.0)) is.session (sym same) called)
@@ -72,9 +78,10 @@ returns-then-len-ge-HELD_LINES-clause-lined g c = λ now stands same line room.
 pub returns-then-len-ge-HELD_LINES-clause-part : goal.returns-then-len-ge-HELD_LINES-clause-part
 returns-then-len-ge-HELD_LINES-clause-part g c = λ now stands same line room.
     let o = step (described c.args.engine.now.desc) now.session c.args.name c.args.verb in
-    let is = c.in_ok-answer.ensures.step now.session stands (omega (arith, room)) in
-    let room' : g.St.Store.next c.call.new.self.store + 1 < 2 ^ 64 = omega (arith, is.session.next, (step_small (described c.args.engine.now.desc) now.session c.args.name c.args.verb).high, room) in
-    let called = ran_calls _ _ o c.in_ok-answer.answer (λ t. t) c.call.ensures.said (omega (arith, stands.next, is.session.next, step_numbers (described c.args.engine.now.desc) now.session c.args.name c.args.verb)) is.sync (λ t. c.in_ok-answer.ensures.makes t now.session stands (omega (arith, room))) (λ t. c.call.ensures.moments t now.session stands (omega (arith, room))) in
+    let did = c.in_ok-answer.ensures.step now.session stands (omega (arith, room)) in
+    let is = did.answers in
+    let room' : (seen c.call.new.self).next + 1 < 2 ^ 64 = omega (arith, is.session.next, (step_small (described c.args.engine.now.desc) now.session c.args.name c.args.verb).high, room) in
+    let called = ran_calls _ _ _ o c.in_ok-answer.answer c.call.ensures.lasts.causes.tells c.call.ensures.mute (omega (arith, stands.next, is.session.next, step_numbers (described c.args.engine.now.desc) now.session c.args.name c.args.verb)) did in
     let text = says_answer c.args.line now.line c.args.name c.in_ok-answer.answer.reply o.reply c.in_ok-answer.answer.sync o.sync (sym line) is.reply is.sync in
     let e = tried_waits (described c.args.engine.now.desc) now c.args.name c.args.verb o (ap is_waits (sym is.reply) ∙ sym c.is_waits.ensures ∙ c.if-not-is_waits.false) in
     part_as _ _ _ _ (sym (ap (λ (l : Lined). l.events) e ∙ full_events now o.session _ _ _ (omega (arith, ap length same, c.if-len-ge-HELD_LINES.true, c.len.ensures, c.args.held.now.ok.0)))) (part_all _ _ _ called)
@@ -82,9 +89,10 @@ returns-then-len-ge-HELD_LINES-clause-part g c = λ now stands same line room.
 pub returns-in_err-say_answer-2-clause-part : goal.returns-in_err-say_answer-2-clause-part
 returns-in_err-say_answer-2-clause-part g c = λ now stands same line room.
     let o = step (described c.args.engine.now.desc) now.session c.args.name c.args.verb in
-    let is = c.in_ok-answer.ensures.step now.session stands (omega (arith, room)) in
-    let room' : g.St.Store.next c.call.new.self.store + 1 < 2 ^ 64 = omega (arith, is.session.next, (step_small (described c.args.engine.now.desc) now.session c.args.name c.args.verb).high, room) in
-    let called = ran_calls _ _ o c.in_ok-answer.answer (λ t. t) c.call.ensures.said (omega (arith, stands.next, is.session.next, step_numbers (described c.args.engine.now.desc) now.session c.args.name c.args.verb)) is.sync (λ t. c.in_ok-answer.ensures.makes t now.session stands (omega (arith, room))) (λ t. c.call.ensures.moments t now.session stands (omega (arith, room))) in
+    let did = c.in_ok-answer.ensures.step now.session stands (omega (arith, room)) in
+    let is = did.answers in
+    let room' : (seen c.call.new.self).next + 1 < 2 ^ 64 = omega (arith, is.session.next, (step_small (described c.args.engine.now.desc) now.session c.args.name c.args.verb).high, room) in
+    let called = ran_calls _ _ _ o c.in_ok-answer.answer c.call.ensures.lasts.causes.tells c.call.ensures.mute (omega (arith, stands.next, is.session.next, step_numbers (described c.args.engine.now.desc) now.session c.args.name c.args.verb)) did in
     let text = says_answer c.args.line now.line c.args.name c.in_ok-answer.answer.reply o.reply c.in_ok-answer.answer.sync o.sync (sym line) is.reply is.sync in
     let e = tried_waits (described c.args.engine.now.desc) now c.args.name c.args.verb o (ap is_waits (sym is.reply) ∙ sym c.is_waits.ensures ∙ c.if-not-is_waits.false) in
     let few : length now.held < 10000 = omega (arith, ap length same, c.if-len-ge-HELD_LINES.false, c.len.ensures, c.args.held.now.ok.0) in
@@ -93,9 +101,10 @@ returns-in_err-say_answer-2-clause-part g c = λ now stands same line room.
 pub returns-in_err-push-clause-part : goal.returns-in_err-push-clause-part
 returns-in_err-push-clause-part g c = λ now stands same line room.
     let o = step (described c.args.engine.now.desc) now.session c.args.name c.args.verb in
-    let is = c.in_ok-answer.ensures.step now.session stands (omega (arith, room)) in
-    let room' : g.St.Store.next c.call.new.self.store + 1 < 2 ^ 64 = omega (arith, is.session.next, (step_small (described c.args.engine.now.desc) now.session c.args.name c.args.verb).high, room) in
-    let called = ran_calls _ _ o c.in_ok-answer.answer (λ t. t) c.call.ensures.said (omega (arith, stands.next, is.session.next, step_numbers (described c.args.engine.now.desc) now.session c.args.name c.args.verb)) is.sync (λ t. c.in_ok-answer.ensures.makes t now.session stands (omega (arith, room))) (λ t. c.call.ensures.moments t now.session stands (omega (arith, room))) in
+    let did = c.in_ok-answer.ensures.step now.session stands (omega (arith, room)) in
+    let is = did.answers in
+    let room' : (seen c.call.new.self).next + 1 < 2 ^ 64 = omega (arith, is.session.next, (step_small (described c.args.engine.now.desc) now.session c.args.name c.args.verb).high, room) in
+    let called = ran_calls _ _ _ o c.in_ok-answer.answer c.call.ensures.lasts.causes.tells c.call.ensures.mute (omega (arith, stands.next, is.session.next, step_numbers (described c.args.engine.now.desc) now.session c.args.name c.args.verb)) did in
     let text = says_answer c.args.line now.line c.args.name c.in_ok-answer.answer.reply o.reply c.in_ok-answer.answer.sync o.sync (sym line) is.reply is.sync in
     let e = tried_waits (described c.args.engine.now.desc) now c.args.name c.args.verb o (ap is_waits (sym is.reply) ∙ sym c.is_waits.ensures ∙ c.if-not-is_waits.false) in
     let few : length now.held < 10000 = omega (arith, ap length same, c.if-len-ge-HELD_LINES.false, c.len.ensures, c.args.held.now.ok.0) in
@@ -104,9 +113,10 @@ returns-in_err-push-clause-part g c = λ now stands same line room.
 pub returns-clause-lined : goal.returns-clause-lined
 returns-clause-lined g c = λ now stands same line room.
     let o = step (described c.args.engine.now.desc) now.session c.args.name c.args.verb in
-    let is = c.in_ok-answer.ensures.step now.session stands (omega (arith, room)) in
-    let room' : g.St.Store.next c.call.new.self.store + 1 < 2 ^ 64 = omega (arith, is.session.next, (step_small (described c.args.engine.now.desc) now.session c.args.name c.args.verb).high, room) in
-    let called = ran_calls _ _ o c.in_ok-answer.answer (λ t. t) c.call.ensures.said (omega (arith, stands.next, is.session.next, step_numbers (described c.args.engine.now.desc) now.session c.args.name c.args.verb)) is.sync (λ t. c.in_ok-answer.ensures.makes t now.session stands (omega (arith, room))) (λ t. c.call.ensures.moments t now.session stands (omega (arith, room))) in
+    let did = c.in_ok-answer.ensures.step now.session stands (omega (arith, room)) in
+    let is = did.answers in
+    let room' : (seen c.call.new.self).next + 1 < 2 ^ 64 = omega (arith, is.session.next, (step_small (described c.args.engine.now.desc) now.session c.args.name c.args.verb).high, room) in
+    let called = ran_calls _ _ _ o c.in_ok-answer.answer c.call.ensures.lasts.causes.tells c.call.ensures.mute (omega (arith, stands.next, is.session.next, step_numbers (described c.args.engine.now.desc) now.session c.args.name c.args.verb)) did in
     let text = says_answer c.args.line now.line c.args.name c.in_ok-answer.answer.reply o.reply c.in_ok-answer.answer.sync o.sync (sym line) is.reply is.sync in
     let e = tried_waits (described c.args.engine.now.desc) now c.args.name c.args.verb o (ap is_waits (sym is.reply) ∙ sym c.is_waits.ensures ∙ c.if-not-is_waits.false) in
     let few : length now.held < 10000 = omega (arith, ap length same, c.if-len-ge-HELD_LINES.false, c.len.ensures, c.args.held.now.ok.0) in
@@ -116,9 +126,10 @@ returns-clause-lined g c = λ now stands same line room.
 pub returns-clause-part : goal.returns-clause-part
 returns-clause-part g c = λ now stands same line room.
     let o = step (described c.args.engine.now.desc) now.session c.args.name c.args.verb in
-    let is = c.in_ok-answer.ensures.step now.session stands (omega (arith, room)) in
-    let room' : g.St.Store.next c.call.new.self.store + 1 < 2 ^ 64 = omega (arith, is.session.next, (step_small (described c.args.engine.now.desc) now.session c.args.name c.args.verb).high, room) in
-    let called = ran_calls _ _ o c.in_ok-answer.answer (λ t. t) c.call.ensures.said (omega (arith, stands.next, is.session.next, step_numbers (described c.args.engine.now.desc) now.session c.args.name c.args.verb)) is.sync (λ t. c.in_ok-answer.ensures.makes t now.session stands (omega (arith, room))) (λ t. c.call.ensures.moments t now.session stands (omega (arith, room))) in
+    let did = c.in_ok-answer.ensures.step now.session stands (omega (arith, room)) in
+    let is = did.answers in
+    let room' : (seen c.call.new.self).next + 1 < 2 ^ 64 = omega (arith, is.session.next, (step_small (described c.args.engine.now.desc) now.session c.args.name c.args.verb).high, room) in
+    let called = ran_calls _ _ _ o c.in_ok-answer.answer c.call.ensures.lasts.causes.tells c.call.ensures.mute (omega (arith, stands.next, is.session.next, step_numbers (described c.args.engine.now.desc) now.session c.args.name c.args.verb)) did in
     let text = says_answer c.args.line now.line c.args.name c.in_ok-answer.answer.reply o.reply c.in_ok-answer.answer.sync o.sync (sym line) is.reply is.sync in
     let e = tried_waits (described c.args.engine.now.desc) now c.args.name c.args.verb o (ap is_waits (sym is.reply) ∙ sym c.is_waits.ensures ∙ c.if-not-is_waits.false) in
     let few : length now.held < 10000 = omega (arith, ap length same, c.if-len-ge-HELD_LINES.false, c.len.ensures, c.args.held.now.ok.0) in

@@ -1,7 +1,7 @@
 use Rattle.std.proofs.Common.{◌≡◌, ◌∙◌, [], ◌∷◌, ◌++◌, ℕ, List, true, false, sym, ap, subst, arith, length, IsTrue}
 use Rattle.dms_desc.specs.Shape.{described}
-use Rattle.dms_runner.specs.Events.{told_by, RanPart}
-use Rattle.dms_storeverbs.specs.View.{view, Stands}
+use Rattle.dms_runner.specs.Events.{RanPart}
+use Rattle.dms_storeverbs.specs.View.{seen, view, Stands}
 use Rattle.dms_model.specs.Session.{step}
 use Rattle.dms_script.specs.declared.line.Line.TheVariants.{Verb as Spoken}
 use Rattle.dms_runner.specs.declared.held.Held.{Held as HeldLine}
@@ -15,22 +15,22 @@ use Rattle.dms_runner.proofs.lines.spoken_line.Goals as goal
 
 pub returns-then-not-has_line-clause-lined : goal.returns-then-not-has_line-clause-lined
 returns-then-not-has_line-clause-lined g c = then_ok c.first_try.result
-    (λ on. (now : Going) → Stands (view (g.St.Store.db c.args.engine.now.store) (g.St.Store.mark c.args.engine.now.store) (g.St.Store.next c.args.engine.now.store) c.args.engine.now.programs.items c.args.engine.now.pending c.args.engine.now.since) now.session → now.held ≡ c.args.held.now.items → now.line ≡ c.args.line → Roomy now → GoesOn (tried (described c.args.engine.now.desc) now c.args.name c.args.verb (step (described c.args.engine.now.desc) now.session c.args.name c.args.verb)) on (view (g.St.Store.db c.first_try.new.engine.store) (g.St.Store.mark c.first_try.new.engine.store) (g.St.Store.next c.first_try.new.engine.store) c.first_try.new.engine.programs.items c.first_try.new.engine.pending c.first_try.new.engine.since) c.first_try.new.held.items (told_by (IsTrue g.St.Store.tells_moments) (g.St.Store.said c.args.engine.now.store) (g.St.Store.points c.args.engine.now.store) (g.St.Store.sure c.args.engine.now.store) (g.St.Store.next c.args.engine.now.store) (g.St.Store.clock c.args.engine.now.store)) (told_by (IsTrue g.St.Store.tells_moments) (g.St.Store.said c.first_try.new.engine.store) (g.St.Store.points c.first_try.new.engine.store) (g.St.Store.sure c.first_try.new.engine.store) (g.St.Store.next c.first_try.new.engine.store) (g.St.Store.clock c.first_try.new.engine.store)))
-    (λ on. (now : Going) → Stands (view (g.St.Store.db c.args.engine.now.store) (g.St.Store.mark c.args.engine.now.store) (g.St.Store.next c.args.engine.now.store) c.args.engine.now.programs.items c.args.engine.now.pending c.args.engine.now.since) now.session → now.held ≡ c.args.held.now.items → now.line ≡ c.args.line → Roomy now → GoesOn (spoken (described c.args.engine.now.desc) now (Spoken c.args.name c.args.verb)) on (view (g.St.Store.db c.first_try.new.engine.store) (g.St.Store.mark c.first_try.new.engine.store) (g.St.Store.next c.first_try.new.engine.store) c.first_try.new.engine.programs.items c.first_try.new.engine.pending c.first_try.new.engine.since) c.first_try.new.held.items (told_by (IsTrue g.St.Store.tells_moments) (g.St.Store.said c.args.engine.now.store) (g.St.Store.points c.args.engine.now.store) (g.St.Store.sure c.args.engine.now.store) (g.St.Store.next c.args.engine.now.store) (g.St.Store.clock c.args.engine.now.store)) (told_by (IsTrue g.St.Store.tells_moments) (g.St.Store.said c.first_try.new.engine.store) (g.St.Store.points c.first_try.new.engine.store) (g.St.Store.sure c.first_try.new.engine.store) (g.St.Store.next c.first_try.new.engine.store) (g.St.Store.clock c.first_try.new.engine.store)))
+    (λ on. (now : Going) → Stands (view c.args.engine.now) now.session → now.held ≡ c.args.held.now.items → now.line ≡ c.args.line → Roomy now → GoesOn (tried (described c.args.engine.now.desc) now c.args.name c.args.verb (step (described c.args.engine.now.desc) now.session c.args.name c.args.verb)) on (view c.first_try.new.engine) c.first_try.new.held.items (seen c.args.engine.now) (seen c.first_try.new.engine))
+    (λ on. (now : Going) → Stands (view c.args.engine.now) now.session → now.held ≡ c.args.held.now.items → now.line ≡ c.args.line → Roomy now → GoesOn (spoken (described c.args.engine.now.desc) now (Spoken c.args.name c.args.verb)) on (view c.first_try.new.engine) c.first_try.new.held.items (seen c.args.engine.now) (seen c.first_try.new.engine))
     (λ on lined now stands same line room.
     let has : has_line now.held c.args.name ≡ false = ap (λ (l : List HeldLine). has_line l c.args.name) (same ∙ sym c.as_slice.ensures.value) ∙ sym c.has_line.ensures ∙ c.if-not-has_line.true in
-    subst (λ (l : Lined). GoesOn l on (view (g.St.Store.db c.first_try.new.engine.store) (g.St.Store.mark c.first_try.new.engine.store) (g.St.Store.next c.first_try.new.engine.store) c.first_try.new.engine.programs.items c.first_try.new.engine.pending c.first_try.new.engine.since) c.first_try.new.held.items (told_by (IsTrue g.St.Store.tells_moments) (g.St.Store.said c.args.engine.now.store) (g.St.Store.points c.args.engine.now.store) (g.St.Store.sure c.args.engine.now.store) (g.St.Store.next c.args.engine.now.store) (g.St.Store.clock c.args.engine.now.store)) (told_by (IsTrue g.St.Store.tells_moments) (g.St.Store.said c.first_try.new.engine.store) (g.St.Store.points c.first_try.new.engine.store) (g.St.Store.sure c.first_try.new.engine.store) (g.St.Store.next c.first_try.new.engine.store) (g.St.Store.clock c.first_try.new.engine.store))) (sym (spoken_tried (described c.args.engine.now.desc) now c.args.name c.args.verb has)) (lined now stands same line room))
+    subst (λ (l : Lined). GoesOn l on (view c.first_try.new.engine) c.first_try.new.held.items (seen c.args.engine.now) (seen c.first_try.new.engine)) (sym (spoken_tried (described c.args.engine.now.desc) now c.args.name c.args.verb has)) (lined now stands same line room))
     c.first_try.ensures.lined
 
 pub returns-then-not-has_line-clause-part : goal.returns-then-not-has_line-clause-part
 returns-then-not-has_line-clause-part g c = λ now stands same line room.
     let has : has_line now.held c.args.name ≡ false = ap (λ (l : List HeldLine). has_line l c.args.name) (same ∙ sym c.as_slice.ensures.value) ∙ sym c.has_line.ensures ∙ c.if-not-has_line.true in
-    subst (λ (l : Lined). RanPart (told_by (IsTrue g.St.Store.tells_moments) (g.St.Store.said c.args.engine.now.store) (g.St.Store.points c.args.engine.now.store) (g.St.Store.sure c.args.engine.now.store) (g.St.Store.next c.args.engine.now.store) (g.St.Store.clock c.args.engine.now.store)) (told_by (IsTrue g.St.Store.tells_moments) (g.St.Store.said c.first_try.new.engine.store) (g.St.Store.points c.first_try.new.engine.store) (g.St.Store.sure c.first_try.new.engine.store) (g.St.Store.next c.first_try.new.engine.store) (g.St.Store.clock c.first_try.new.engine.store)) l.events) (sym (spoken_tried (described c.args.engine.now.desc) now c.args.name c.args.verb has)) (c.first_try.ensures.part now stands same line room)
+    subst (λ (l : Lined). RanPart (seen c.args.engine.now) (seen c.first_try.new.engine) l.events) (sym (spoken_tried (described c.args.engine.now.desc) now c.args.name c.args.verb has)) (c.first_try.ensures.part now stands same line room)
 
 pub returns-then-len-ge-HELD_LINES-clause-lined : goal.returns-then-len-ge-HELD_LINES-clause-lined
 returns-then-len-ge-HELD_LINES-clause-lined g c = λ now stands same line room.
     let has : has_line now.held c.args.name ≡ true = ap (λ (l : List HeldLine). has_line l c.args.name) (same ∙ sym c.as_slice.ensures.value) ∙ sym c.has_line.ensures ∙ c.if-not-has_line.false in
-    subst (λ (l : Lined). GoesOn l false (view (g.St.Store.db c.args.engine.now.store) (g.St.Store.mark c.args.engine.now.store) (g.St.Store.next c.args.engine.now.store) c.args.engine.now.programs.items c.args.engine.now.pending c.args.engine.now.since) c.args.held.now.items (told_by (IsTrue g.St.Store.tells_moments) (g.St.Store.said c.args.engine.now.store) (g.St.Store.points c.args.engine.now.store) (g.St.Store.sure c.args.engine.now.store) (g.St.Store.next c.args.engine.now.store) (g.St.Store.clock c.args.engine.now.store)) (told_by (IsTrue g.St.Store.tells_moments) (g.St.Store.said c.args.engine.now.store) (g.St.Store.points c.args.engine.now.store) (g.St.Store.sure c.args.engine.now.store) (g.St.Store.next c.args.engine.now.store) (g.St.Store.clock c.args.engine.now.store))) (sym (spoken_held (described c.args.engine.now.desc) now c.args.name c.args.verb has))
+    subst (λ (l : Lined). GoesOn l false (view c.args.engine.now) c.args.held.now.items (seen c.args.engine.now) (seen c.args.engine.now)) (sym (spoken_held (described c.args.engine.now.desc) now c.args.name c.args.verb has))
     (goes_full now now.session (first_line now.line c.args.name c.args.verb false) [] [] _ _ _ _ (omega (arith, ap length same, c.if-len-ge-HELD_LINES.true, c.len.ensures, c.args.held.now.ok.0)) stands (sym same) (ran_none _))
 
 pub returns-then-len-ge-HELD_LINES-clause-part : goal.returns-then-len-ge-HELD_LINES-clause-part
@@ -42,7 +42,7 @@ returns-in_err-push-clause-part g c = λ now stands same line room. part_none _ 
 pub returns-clause-lined : goal.returns-clause-lined
 returns-clause-lined g c = λ now stands same line room.
     let has : has_line now.held c.args.name ≡ true = ap (λ (l : List HeldLine). has_line l c.args.name) (same ∙ sym c.as_slice.ensures.value) ∙ sym c.has_line.ensures ∙ c.if-not-has_line.false in
-    subst (λ (l : Lined). GoesOn l true (view (g.St.Store.db c.args.engine.now.store) (g.St.Store.mark c.args.engine.now.store) (g.St.Store.next c.args.engine.now.store) c.args.engine.now.programs.items c.args.engine.now.pending c.args.engine.now.since) c.push.new.self.items (told_by (IsTrue g.St.Store.tells_moments) (g.St.Store.said c.args.engine.now.store) (g.St.Store.points c.args.engine.now.store) (g.St.Store.sure c.args.engine.now.store) (g.St.Store.next c.args.engine.now.store) (g.St.Store.clock c.args.engine.now.store)) (told_by (IsTrue g.St.Store.tells_moments) (g.St.Store.said c.args.engine.now.store) (g.St.Store.points c.args.engine.now.store) (g.St.Store.sure c.args.engine.now.store) (g.St.Store.next c.args.engine.now.store) (g.St.Store.clock c.args.engine.now.store))) (sym (spoken_held (described c.args.engine.now.desc) now c.args.name c.args.verb has))
+    subst (λ (l : Lined). GoesOn l true (view c.args.engine.now) c.push.new.self.items (seen c.args.engine.now) (seen c.args.engine.now)) (sym (spoken_held (described c.args.engine.now.desc) now c.args.name c.args.verb has))
     (goes_held now now.session (first_line now.line c.args.name c.args.verb false) [] [] _ _ _ _ (omega (arith, ap length same, c.if-len-ge-HELD_LINES.false, c.len.ensures, c.args.held.now.ok.0)) stands
     (c.in_ok-push.ensures.items ∙ ap (λ (n : ℕ). c.args.held.now.items ++ first_line n c.args.name c.args.verb false ∷ []) (sym line) ∙ ap (λ (l : List HeldLine). l ++ first_line now.line c.args.name c.args.verb false ∷ []) (sym same)) (ran_none _))
 

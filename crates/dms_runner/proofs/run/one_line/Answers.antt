@@ -1,8 +1,9 @@
+use Rattle.dms_storeverbs.specs.View.{seen}
 use Rattle.std.proofs.Common.{◌+◌, ◌∙◌, List, ℕ, Err, refl, ap, subst, arith}
 use Rattle.dms_desc.specs.Shape.{described}
 use Rattle.dms_feed.specs.Feeds.{Remains}
 use Rattle.dms_feed.specs.Lines.{after_line, first_line}
-use Rattle.dms_model.specs.Points.{Prints}
+use Rattle.dms_block.specs.Texts.{Prints}
 use Rattle.dms_runner.proofs.Happening.{part_none}
 use Rattle.dms_runner.proofs.Lining.{line_silent}
 use Rattle.dms_runner.proofs.Running.{line_part}
@@ -51,7 +52,7 @@ pub returns-in-Ok-false-clause-full_list : goal.returns-in-Ok-false-clause-full_
 returns-in-Ok-false-clause-full_list g c = λ _ now all stands same line room remains.
     let e = (rw c.in-Ok-Some.field-0-is at c.in-Ok-Some.ensures.line) all remains in
     let goes = (rw c.in-Ok-false.field-0-test at c.in-Ok-false.ensures.lined) now (first_line all) (c.as_slice.ensures ∙ e.0.1) stands same (ap (λ (n : ℕ). n + 1) line) room in
-    (subst (λ (t : List ℕ). Prints (g.St.Store.said c.args.engine.now.store) (g.St.Store.said c.take_line.new.engine.store) t) (line_silent (described c.args.engine.now.desc) now (first_line all) goes.full) goes.ran.text, e.0.0, goes.full, omega (arith, e.0.2, e.0.3))
+    (subst (λ (t : List ℕ). Prints (seen c.args.engine.now).said (seen c.take_line.new.engine).said t) (line_silent (described c.args.engine.now.desc) now (first_line all) goes.full) goes.ran.text, e.0.0, goes.full, omega (arith, e.0.2, e.0.3))
 
 pub returns-in-Ok-false-clause-part : goal.returns-in-Ok-false-clause-part
 returns-in-Ok-false-clause-part g c = λ now all stands same line room remains.

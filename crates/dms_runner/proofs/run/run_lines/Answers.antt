@@ -1,12 +1,14 @@
+use Rattle.dms_runner.proofs.Blames.{run_on_lasts, run_then_lasts}
+use Rattle.dms_storeverbs.proofs.Lasting.{lasts_none, lasts_on}
 use Rattle.std.proofs.Common.{◌+◌, ◌<◌, ◌^◌, ◌∙◌, ap, refl, sym, subst, Vec, Global, List, IsTrue, arith}
 use Rattle.dms_desc.specs.declared.description.Description.{Description}
 use Rattle.dms_desc.specs.Shape.{described}
 use Rattle.dms_feed.specs.Lines.{raw_lines}
 use Rattle.dms_storeverbs.specs.declared.engine.Engine.{Engine}
-use Rattle.dms_storeverbs.specs.View.{view, Stands}
+use Rattle.dms_storeverbs.specs.View.{seen, view, Stands}
 use Rattle.dms_runner.specs.declared.held.Held.{Held}
 use Rattle.dms_runner.specs.Answers.{begun, lines_run, ending, script_events}
-use Rattle.dms_runner.specs.Events.{told_by, Ran, RanPart}
+use Rattle.dms_runner.specs.Events.{Ran, RanPart}
 use Rattle.dms_runner.specs.Running.{PassesBytes, PassesHeld, CutInput}
 use Rattle.dms_runner.proofs.Always.{always_ok, then_on, fault_as}
 use Rattle.dms_runner.proofs.Texts.{prints_none}
@@ -16,33 +18,25 @@ use Rattle.dms_runner.proofs.run.run_lines.Goals as goal
 
 pub loop-line-init : goal.loop-line-init
 loop-line-init g c = record {
-  sound = c.requires.sound;
-  description = refl;
-  desc = c.requires.desc;
-  kept = refl;
-  same = g.met.St.Store.same_again _;
-  disk = omega arith;
-  say = omega arith;
-  full = omega arith;
-  damaged = omega arith;
+  lasts = lasts_none g.met.St.Store.same_again _ c.requires.sound;
   taken = omega arith;
   same_source = g.met.I.Source.same_again _;
   small = omega arith;
   few = omega arith;
   rest = λ all remains. (all, remains);
-  runs = λ db first all stands small remains. subst (λ (hs : List Held). Runs (described c.args.engine.now.desc) (begun db first) 0 2147483648 all (view (g.St.Store.db c.args.engine.now.store) (g.St.Store.mark c.args.engine.now.store) (g.St.Store.next c.args.engine.now.store) c.args.engine.now.programs.items c.args.engine.now.pending c.args.engine.now.since) hs c.args.feed.now (g.I.Source.left c.args.source.now) (told_by (IsTrue g.St.Store.tells_moments) (g.St.Store.said c.args.engine.now.store) (g.St.Store.points c.args.engine.now.store) (g.St.Store.sure c.args.engine.now.store) (g.St.Store.next c.args.engine.now.store) (g.St.Store.clock c.args.engine.now.store)) (told_by (IsTrue g.St.Store.tells_moments) (g.St.Store.said c.args.engine.now.store) (g.St.Store.points c.args.engine.now.store) (g.St.Store.sure c.args.engine.now.store) (g.St.Store.next c.args.engine.now.store) (g.St.Store.clock c.args.engine.now.store))) (sym c.new-held.ensures.items) (runs_start _ db first all _ _ _ _ stands remains);
+  runs = λ db first all stands small remains. subst (λ (hs : List Held). Runs (described c.args.engine.now.desc) (begun db first) 0 2147483648 all (view c.args.engine.now) hs c.args.feed.now (g.I.Source.left c.args.source.now) (seen c.args.engine.now) (seen c.args.engine.now)) (sym c.new-held.ensures.items) (runs_start _ db first all _ _ _ _ stands remains);
 }
 
 pub returns-in-Err-clause-part : goal.returns-in-Err-clause-part
 returns-in-Err-clause-part g c = λ db first all stands small remains.
-    let r = subst (λ (d : Description). Runs (described d) (begun db first) c.loop-line.line c.loop-line.room all (view (g.St.Store.db c.loop-line.engine.store) (g.St.Store.mark c.loop-line.engine.store) (g.St.Store.next c.loop-line.engine.store) c.loop-line.engine.programs.items c.loop-line.engine.pending c.loop-line.engine.since) c.loop-line.held.items c.loop-line.feed (g.I.Source.left c.loop-line.source) (told_by (IsTrue g.St.Store.tells_moments) (g.St.Store.said c.args.engine.now.store) (g.St.Store.points c.args.engine.now.store) (g.St.Store.sure c.args.engine.now.store) (g.St.Store.next c.args.engine.now.store) (g.St.Store.clock c.args.engine.now.store)) (told_by (IsTrue g.St.Store.tells_moments) (g.St.Store.said c.loop-line.engine.store) (g.St.Store.points c.loop-line.engine.store) (g.St.Store.sure c.loop-line.engine.store) (g.St.Store.next c.loop-line.engine.store) (g.St.Store.clock c.loop-line.engine.store))) (sym c.loop-line.invariant.description) (c.loop-line.invariant.runs db first all stands small remains) in
-    let p = part_as _ _ _ _ (ap (λ (d : Description). script_events (described d) db first (raw_lines all)) c.loop-line.invariant.description) (runs_part _ db first _ _ all _ _ _ _ _ _ _ r (c.one_line.ensures.part (lines_run (described c.loop-line.engine.desc) (begun db first) r.done).going r.rest r.stands (sym r.held_is) r.line (runs_room (described c.loop-line.engine.desc) db first _ _ all _ _ _ _ _ _ r (omega (arith, c.loop-line-test.true)) small) r.remains)) in
+    let r = subst (λ (d : Description). Runs (described d) (begun db first) c.loop-line.line c.loop-line.room all (view c.loop-line.engine) c.loop-line.held.items c.loop-line.feed (g.I.Source.left c.loop-line.source) (seen c.args.engine.now) (seen c.loop-line.engine)) (sym c.loop-line.invariant.lasts.description) (c.loop-line.invariant.runs db first all stands small remains) in
+    let p = part_as _ _ _ _ (ap (λ (d : Description). script_events (described d) db first (raw_lines all)) c.loop-line.invariant.lasts.description) (runs_part _ db first _ _ all _ _ _ _ _ _ _ r (c.one_line.ensures.part (lines_run (described c.loop-line.engine.desc) (begun db first) r.done).going r.rest r.stands (sym r.held_is) r.line (runs_room (described c.loop-line.engine.desc) db first _ _ all _ _ _ _ _ _ r (omega (arith, c.loop-line-test.true)) small) r.remains)) in
     p.text
 
 pub returns-in-Err-clause-moments : goal.returns-in-Err-clause-moments
 returns-in-Err-clause-moments g c = λ db first all stands small remains tells.
-    let r = subst (λ (d : Description). Runs (described d) (begun db first) c.loop-line.line c.loop-line.room all (view (g.St.Store.db c.loop-line.engine.store) (g.St.Store.mark c.loop-line.engine.store) (g.St.Store.next c.loop-line.engine.store) c.loop-line.engine.programs.items c.loop-line.engine.pending c.loop-line.engine.since) c.loop-line.held.items c.loop-line.feed (g.I.Source.left c.loop-line.source) (told_by (IsTrue g.St.Store.tells_moments) (g.St.Store.said c.args.engine.now.store) (g.St.Store.points c.args.engine.now.store) (g.St.Store.sure c.args.engine.now.store) (g.St.Store.next c.args.engine.now.store) (g.St.Store.clock c.args.engine.now.store)) (told_by (IsTrue g.St.Store.tells_moments) (g.St.Store.said c.loop-line.engine.store) (g.St.Store.points c.loop-line.engine.store) (g.St.Store.sure c.loop-line.engine.store) (g.St.Store.next c.loop-line.engine.store) (g.St.Store.clock c.loop-line.engine.store))) (sym c.loop-line.invariant.description) (c.loop-line.invariant.runs db first all stands small remains) in
-    let p = part_as _ _ _ _ (ap (λ (d : Description). script_events (described d) db first (raw_lines all)) c.loop-line.invariant.description) (runs_part _ db first _ _ all _ _ _ _ _ _ _ r (c.one_line.ensures.part (lines_run (described c.loop-line.engine.desc) (begun db first) r.done).going r.rest r.stands (sym r.held_is) r.line (runs_room (described c.loop-line.engine.desc) db first _ _ all _ _ _ _ _ _ r (omega (arith, c.loop-line-test.true)) small) r.remains)) in
+    let r = subst (λ (d : Description). Runs (described d) (begun db first) c.loop-line.line c.loop-line.room all (view c.loop-line.engine) c.loop-line.held.items c.loop-line.feed (g.I.Source.left c.loop-line.source) (seen c.args.engine.now) (seen c.loop-line.engine)) (sym c.loop-line.invariant.lasts.description) (c.loop-line.invariant.runs db first all stands small remains) in
+    let p = part_as _ _ _ _ (ap (λ (d : Description). script_events (described d) db first (raw_lines all)) c.loop-line.invariant.lasts.description) (runs_part _ db first _ _ all _ _ _ _ _ _ _ r (c.one_line.ensures.part (lines_run (described c.loop-line.engine.desc) (begun db first) r.done).going r.rest r.stands (sym r.held_is) r.line (runs_room (described c.loop-line.engine.desc) db first _ _ all _ _ _ _ _ _ r (omega (arith, c.loop-line-test.true)) small) r.remains)) in
     p.moments tells
 
 pub returns-in-Err-clause-lines : goal.returns-in-Err-clause-lines
@@ -50,50 +44,50 @@ returns-in-Err-clause-lines g c = λ e. absurd (c.in-Err.ensures.no_lines (fault
 
 pub returns-in-Err-clause-bytes : goal.returns-in-Err-clause-bytes
 returns-in-Err-clause-bytes g c = λ e db first all stands small remains.
-    let r = subst (λ (d : Description). Runs (described d) (begun db first) c.loop-line.line c.loop-line.room all (view (g.St.Store.db c.loop-line.engine.store) (g.St.Store.mark c.loop-line.engine.store) (g.St.Store.next c.loop-line.engine.store) c.loop-line.engine.programs.items c.loop-line.engine.pending c.loop-line.engine.since) c.loop-line.held.items c.loop-line.feed (g.I.Source.left c.loop-line.source) (told_by (IsTrue g.St.Store.tells_moments) (g.St.Store.said c.args.engine.now.store) (g.St.Store.points c.args.engine.now.store) (g.St.Store.sure c.args.engine.now.store) (g.St.Store.next c.args.engine.now.store) (g.St.Store.clock c.args.engine.now.store)) (told_by (IsTrue g.St.Store.tells_moments) (g.St.Store.said c.loop-line.engine.store) (g.St.Store.points c.loop-line.engine.store) (g.St.Store.sure c.loop-line.engine.store) (g.St.Store.next c.loop-line.engine.store) (g.St.Store.clock c.loop-line.engine.store))) (sym c.loop-line.invariant.description) (c.loop-line.invariant.runs db first all stands small remains) in
+    let r = subst (λ (d : Description). Runs (described d) (begun db first) c.loop-line.line c.loop-line.room all (view c.loop-line.engine) c.loop-line.held.items c.loop-line.feed (g.I.Source.left c.loop-line.source) (seen c.args.engine.now) (seen c.loop-line.engine)) (sym c.loop-line.invariant.lasts.description) (c.loop-line.invariant.runs db first all stands small remains) in
     let b = c.in-Err.ensures.bytes (fault_as _ _ c.in-Err.fault _ refl refl e) in
-    subst (λ (d : Description). PassesBytes (described d) db first (raw_lines all) (g.St.Store.said c.args.engine.now.store) (g.St.Store.said c.one_line.new.engine.store)) c.loop-line.invariant.description (runs_bytes _ db first _ _ all _ _ _ _ _ _ _ r (omega (arith, c.loop-line-test.true)) (prints_none _ _ b.0) (b.1 r.rest r.remains))
+    subst (λ (d : Description). PassesBytes (described d) db first (raw_lines all) (seen c.args.engine.now).said (seen c.one_line.new.engine).said) c.loop-line.invariant.lasts.description (runs_bytes _ db first _ _ all _ _ _ _ _ _ _ r (omega (arith, c.loop-line-test.true)) (prints_none _ _ b.0) (b.1 r.rest r.remains))
 
 pub returns-in-Err-clause-full_list : goal.returns-in-Err-clause-full_list
 returns-in-Err-clause-full_list g c = λ e db first all stands small remains.
-    let r = subst (λ (d : Description). Runs (described d) (begun db first) c.loop-line.line c.loop-line.room all (view (g.St.Store.db c.loop-line.engine.store) (g.St.Store.mark c.loop-line.engine.store) (g.St.Store.next c.loop-line.engine.store) c.loop-line.engine.programs.items c.loop-line.engine.pending c.loop-line.engine.since) c.loop-line.held.items c.loop-line.feed (g.I.Source.left c.loop-line.source) (told_by (IsTrue g.St.Store.tells_moments) (g.St.Store.said c.args.engine.now.store) (g.St.Store.points c.args.engine.now.store) (g.St.Store.sure c.args.engine.now.store) (g.St.Store.next c.args.engine.now.store) (g.St.Store.clock c.args.engine.now.store)) (told_by (IsTrue g.St.Store.tells_moments) (g.St.Store.said c.loop-line.engine.store) (g.St.Store.points c.loop-line.engine.store) (g.St.Store.sure c.loop-line.engine.store) (g.St.Store.next c.loop-line.engine.store) (g.St.Store.clock c.loop-line.engine.store))) (sym c.loop-line.invariant.description) (c.loop-line.invariant.runs db first all stands small remains) in
+    let r = subst (λ (d : Description). Runs (described d) (begun db first) c.loop-line.line c.loop-line.room all (view c.loop-line.engine) c.loop-line.held.items c.loop-line.feed (g.I.Source.left c.loop-line.source) (seen c.args.engine.now) (seen c.loop-line.engine)) (sym c.loop-line.invariant.lasts.description) (c.loop-line.invariant.runs db first all stands small remains) in
     let f = c.in-Err.ensures.full_list (fault_as _ _ c.in-Err.fault _ refl refl e) (lines_run (described c.loop-line.engine.desc) (begun db first) r.done).going r.rest r.stands (sym r.held_is) r.line (runs_room (described c.loop-line.engine.desc) db first _ _ all _ _ _ _ _ _ r (omega (arith, c.loop-line-test.true)) small) r.remains in
-    subst (λ (d : Description). PassesHeld (described d) db first (raw_lines all) (g.St.Store.said c.args.engine.now.store) (g.St.Store.said c.one_line.new.engine.store)) c.loop-line.invariant.description (runs_held _ db first _ _ all _ _ _ _ _ _ _ r (omega (arith, c.loop-line-test.true)) f.0 f.1 f.2 f.3)
+    subst (λ (d : Description). PassesHeld (described d) db first (raw_lines all) (seen c.args.engine.now).said (seen c.one_line.new.engine).said) c.loop-line.invariant.lasts.description (runs_held _ db first _ _ all _ _ _ _ _ _ _ r (omega (arith, c.loop-line-test.true)) f.0 f.1 f.2 f.3)
 
 pub returns-in-Err-clause-failed : goal.returns-in-Err-clause-failed
 returns-in-Err-clause-failed g c = λ e db first all stands small remains.
-    let r = subst (λ (d : Description). Runs (described d) (begun db first) c.loop-line.line c.loop-line.room all (view (g.St.Store.db c.loop-line.engine.store) (g.St.Store.mark c.loop-line.engine.store) (g.St.Store.next c.loop-line.engine.store) c.loop-line.engine.programs.items c.loop-line.engine.pending c.loop-line.engine.since) c.loop-line.held.items c.loop-line.feed (g.I.Source.left c.loop-line.source) (told_by (IsTrue g.St.Store.tells_moments) (g.St.Store.said c.args.engine.now.store) (g.St.Store.points c.args.engine.now.store) (g.St.Store.sure c.args.engine.now.store) (g.St.Store.next c.args.engine.now.store) (g.St.Store.clock c.args.engine.now.store)) (told_by (IsTrue g.St.Store.tells_moments) (g.St.Store.said c.loop-line.engine.store) (g.St.Store.points c.loop-line.engine.store) (g.St.Store.sure c.loop-line.engine.store) (g.St.Store.next c.loop-line.engine.store) (g.St.Store.clock c.loop-line.engine.store))) (sym c.loop-line.invariant.description) (c.loop-line.invariant.runs db first all stands small remains) in
+    let r = subst (λ (d : Description). Runs (described d) (begun db first) c.loop-line.line c.loop-line.room all (view c.loop-line.engine) c.loop-line.held.items c.loop-line.feed (g.I.Source.left c.loop-line.source) (seen c.args.engine.now) (seen c.loop-line.engine)) (sym c.loop-line.invariant.lasts.description) (c.loop-line.invariant.runs db first all stands small remains) in
     let b = c.in-Err.ensures.failed (fault_as _ _ c.in-Err.fault _ refl refl e) in
-    subst (λ (d : Description). CutInput (described d) db first all (g.I.Source.left c.one_line.new.source) (g.St.Store.said c.args.engine.now.store) (g.St.Store.said c.one_line.new.engine.store)) c.loop-line.invariant.description (runs_cut _ db first _ _ _ all _ _ _ _ _ _ _ _ r c.loop-line.invariant.few (omega arith) (λ end. absurd (omega (arith, end, c.loop-line-test.true))) (prints_none _ _ b.0) (b.1 r.rest r.remains))
+    subst (λ (d : Description). CutInput (described d) db first all (g.I.Source.left c.one_line.new.source) (seen c.args.engine.now).said (seen c.one_line.new.engine).said) c.loop-line.invariant.lasts.description (runs_cut _ db first _ _ _ all _ _ _ _ _ _ _ _ r c.loop-line.invariant.few (omega arith) (λ end. absurd (omega (arith, end, c.loop-line-test.true))) (prints_none _ _ b.0) (b.1 r.rest r.remains))
 
 pub returns-in-Ok-false-clause-answers : goal.returns-in-Ok-false-clause-answers
 returns-in-Ok-false-clause-answers g c = then_on c.end_run.result _ _ (λ ran. λ db first all stands small remains.
     let none = (rw c.in-Ok-false.field-0-test at c.in-Ok-false.ensures.none) refl in
     let r = c.loop-line.invariant.runs db first all stands small remains in
-    let room' : g.St.Store.next c.one_line.new.engine.store + 1 < 2 ^ 64 = omega (arith, ap (λ (e : Engine g.row.St.Denot). g.St.Store.next e.store) none.0, r.stands.next, runs_next _ db first _ _ all _ _ _ _ _ _ r c.loop-line.invariant.few small) in
-    let last : Ran (told_by (IsTrue g.St.Store.tells_moments) (g.St.Store.said c.loop-line.engine.store) (g.St.Store.points c.loop-line.engine.store) (g.St.Store.sure c.loop-line.engine.store) (g.St.Store.next c.loop-line.engine.store) (g.St.Store.clock c.loop-line.engine.store)) (told_by (IsTrue g.St.Store.tells_moments) (g.St.Store.said c.end_run.new.engine.store) (g.St.Store.points c.end_run.new.engine.store) (g.St.Store.sure c.end_run.new.engine.store) (g.St.Store.next c.end_run.new.engine.store) (g.St.Store.clock c.end_run.new.engine.store)) (ending c.loop-line.held.items) = subst (λ (e : Engine g.row.St.Denot). Ran (told_by (IsTrue g.St.Store.tells_moments) (g.St.Store.said e.store) (g.St.Store.points e.store) (g.St.Store.sure e.store) (g.St.Store.next e.store) (g.St.Store.clock e.store)) (told_by (IsTrue g.St.Store.tells_moments) (g.St.Store.said c.end_run.new.engine.store) (g.St.Store.points c.end_run.new.engine.store) (g.St.Store.sure c.end_run.new.engine.store) (g.St.Store.next c.end_run.new.engine.store) (g.St.Store.clock c.end_run.new.engine.store)) (ending c.loop-line.held.items)) none.0 (subst (λ (l : List Held). Ran (told_by (IsTrue g.St.Store.tells_moments) (g.St.Store.said c.one_line.new.engine.store) (g.St.Store.points c.one_line.new.engine.store) (g.St.Store.sure c.one_line.new.engine.store) (g.St.Store.next c.one_line.new.engine.store) (g.St.Store.clock c.one_line.new.engine.store)) (told_by (IsTrue g.St.Store.tells_moments) (g.St.Store.said c.end_run.new.engine.store) (g.St.Store.points c.end_run.new.engine.store) (g.St.Store.sure c.end_run.new.engine.store) (g.St.Store.next c.end_run.new.engine.store) (g.St.Store.clock c.end_run.new.engine.store)) (ending l)) (c.as_slice.ensures.value ∙ ap (λ (v : Vec Held Global). v.items) none.1) (ran room')) in
+    let room' : (seen c.one_line.new.engine).next + 1 < 2 ^ 64 = omega (arith, ap (λ (e : Engine g.row.St.Denot g.St.Store). (seen e).next) none.0, r.stands.next, runs_next _ db first _ _ all _ _ _ _ _ _ r c.loop-line.invariant.few small) in
+    let last : Ran (seen c.loop-line.engine) (seen c.end_run.new.engine) (ending c.loop-line.held.items) = subst (λ (e : Engine g.row.St.Denot g.St.Store). Ran (seen e) (seen c.end_run.new.engine) (ending c.loop-line.held.items)) none.0 (subst (λ (l : List Held). Ran (seen c.one_line.new.engine) (seen c.end_run.new.engine) (ending l)) (c.as_slice.ensures.value ∙ ap (λ (v : Vec Held Global). v.items) none.1) (ran room')) in
     runs_end _ db first _ _ all _ _ _ _ _ _ _ r c.loop-line.invariant.few (none.2 r.rest r.remains).0 last) c.end_run.ensures.ran
 
 pub returns-in-Ok-false-clause-ended : goal.returns-in-Ok-false-clause-ended
 returns-in-Ok-false-clause-ended g c = then_on c.end_run.result _ _ (λ ends. λ db first all stands small remains.
     let none = (rw c.in-Ok-false.field-0-test at c.in-Ok-false.ensures.none) refl in
     let r = c.loop-line.invariant.runs db first all stands small remains in
-    runs_ended _ db first _ _ all _ _ _ _ _ _ _ r (none.2 r.rest r.remains).0 (ends _ (subst (λ (e : Engine g.row.St.Denot). Stands (view (g.St.Store.db e.store) (g.St.Store.mark e.store) (g.St.Store.next e.store) e.programs.items e.pending e.since) (lines_run (described c.args.engine.now.desc) (begun db first) r.done).going.session) (sym none.0) r.stands))) c.end_run.ensures.ended
+    runs_ended _ db first _ _ all _ _ _ _ _ _ _ r (none.2 r.rest r.remains).0 (ends _ (subst (λ (e : Engine g.row.St.Denot g.St.Store). Stands (view e) (lines_run (described c.args.engine.now.desc) (begun db first) r.done).going.session) (sym none.0) r.stands))) c.end_run.ensures.ended
 
 pub returns-in-Ok-false-clause-ran : goal.returns-in-Ok-false-clause-ran
 returns-in-Ok-false-clause-ran g c = then_on c.end_run.result _ _ (λ ran. λ db first all stands small remains.
     let none = (rw c.in-Ok-false.field-0-test at c.in-Ok-false.ensures.none) refl in
     let r = c.loop-line.invariant.runs db first all stands small remains in
-    let room' : g.St.Store.next c.one_line.new.engine.store + 1 < 2 ^ 64 = omega (arith, ap (λ (e : Engine g.row.St.Denot). g.St.Store.next e.store) none.0, r.stands.next, runs_next _ db first _ _ all _ _ _ _ _ _ r c.loop-line.invariant.few small) in
-    let last : Ran (told_by (IsTrue g.St.Store.tells_moments) (g.St.Store.said c.loop-line.engine.store) (g.St.Store.points c.loop-line.engine.store) (g.St.Store.sure c.loop-line.engine.store) (g.St.Store.next c.loop-line.engine.store) (g.St.Store.clock c.loop-line.engine.store)) (told_by (IsTrue g.St.Store.tells_moments) (g.St.Store.said c.end_run.new.engine.store) (g.St.Store.points c.end_run.new.engine.store) (g.St.Store.sure c.end_run.new.engine.store) (g.St.Store.next c.end_run.new.engine.store) (g.St.Store.clock c.end_run.new.engine.store)) (ending c.loop-line.held.items) = subst (λ (e : Engine g.row.St.Denot). Ran (told_by (IsTrue g.St.Store.tells_moments) (g.St.Store.said e.store) (g.St.Store.points e.store) (g.St.Store.sure e.store) (g.St.Store.next e.store) (g.St.Store.clock e.store)) (told_by (IsTrue g.St.Store.tells_moments) (g.St.Store.said c.end_run.new.engine.store) (g.St.Store.points c.end_run.new.engine.store) (g.St.Store.sure c.end_run.new.engine.store) (g.St.Store.next c.end_run.new.engine.store) (g.St.Store.clock c.end_run.new.engine.store)) (ending c.loop-line.held.items)) none.0 (subst (λ (l : List Held). Ran (told_by (IsTrue g.St.Store.tells_moments) (g.St.Store.said c.one_line.new.engine.store) (g.St.Store.points c.one_line.new.engine.store) (g.St.Store.sure c.one_line.new.engine.store) (g.St.Store.next c.one_line.new.engine.store) (g.St.Store.clock c.one_line.new.engine.store)) (told_by (IsTrue g.St.Store.tells_moments) (g.St.Store.said c.end_run.new.engine.store) (g.St.Store.points c.end_run.new.engine.store) (g.St.Store.sure c.end_run.new.engine.store) (g.St.Store.next c.end_run.new.engine.store) (g.St.Store.clock c.end_run.new.engine.store)) (ending l)) (c.as_slice.ensures.value ∙ ap (λ (v : Vec Held Global). v.items) none.1) (ran room')) in
+    let room' : (seen c.one_line.new.engine).next + 1 < 2 ^ 64 = omega (arith, ap (λ (e : Engine g.row.St.Denot g.St.Store). (seen e).next) none.0, r.stands.next, runs_next _ db first _ _ all _ _ _ _ _ _ r c.loop-line.invariant.few small) in
+    let last : Ran (seen c.loop-line.engine) (seen c.end_run.new.engine) (ending c.loop-line.held.items) = subst (λ (e : Engine g.row.St.Denot g.St.Store). Ran (seen e) (seen c.end_run.new.engine) (ending c.loop-line.held.items)) none.0 (subst (λ (l : List Held). Ran (seen c.one_line.new.engine) (seen c.end_run.new.engine) (ending l)) (c.as_slice.ensures.value ∙ ap (λ (v : Vec Held Global). v.items) none.1) (ran room')) in
     runs_ran _ db first _ _ all _ _ _ _ _ _ _ r (none.2 r.rest r.remains).0 last) c.end_run.ensures.ran
 
 pub returns-in-Ok-false-clause-part : goal.returns-in-Ok-false-clause-part
 returns-in-Ok-false-clause-part g c = λ db first all stands small remains.
     let none = (rw c.in-Ok-false.field-0-test at c.in-Ok-false.ensures.none) refl in
     let r = c.loop-line.invariant.runs db first all stands small remains in
-    let room' : g.St.Store.next c.one_line.new.engine.store + 1 < 2 ^ 64 = omega (arith, ap (λ (e : Engine g.row.St.Denot). g.St.Store.next e.store) none.0, r.stands.next, runs_next _ db first _ _ all _ _ _ _ _ _ r c.loop-line.invariant.few small) in
-    let last : RanPart (told_by (IsTrue g.St.Store.tells_moments) (g.St.Store.said c.loop-line.engine.store) (g.St.Store.points c.loop-line.engine.store) (g.St.Store.sure c.loop-line.engine.store) (g.St.Store.next c.loop-line.engine.store) (g.St.Store.clock c.loop-line.engine.store)) (told_by (IsTrue g.St.Store.tells_moments) (g.St.Store.said c.end_run.new.engine.store) (g.St.Store.points c.end_run.new.engine.store) (g.St.Store.sure c.end_run.new.engine.store) (g.St.Store.next c.end_run.new.engine.store) (g.St.Store.clock c.end_run.new.engine.store)) (ending c.loop-line.held.items) = subst (λ (e : Engine g.row.St.Denot). RanPart (told_by (IsTrue g.St.Store.tells_moments) (g.St.Store.said e.store) (g.St.Store.points e.store) (g.St.Store.sure e.store) (g.St.Store.next e.store) (g.St.Store.clock e.store)) (told_by (IsTrue g.St.Store.tells_moments) (g.St.Store.said c.end_run.new.engine.store) (g.St.Store.points c.end_run.new.engine.store) (g.St.Store.sure c.end_run.new.engine.store) (g.St.Store.next c.end_run.new.engine.store) (g.St.Store.clock c.end_run.new.engine.store)) (ending c.loop-line.held.items)) none.0 (subst (λ (l : List Held). RanPart (told_by (IsTrue g.St.Store.tells_moments) (g.St.Store.said c.one_line.new.engine.store) (g.St.Store.points c.one_line.new.engine.store) (g.St.Store.sure c.one_line.new.engine.store) (g.St.Store.next c.one_line.new.engine.store) (g.St.Store.clock c.one_line.new.engine.store)) (told_by (IsTrue g.St.Store.tells_moments) (g.St.Store.said c.end_run.new.engine.store) (g.St.Store.points c.end_run.new.engine.store) (g.St.Store.sure c.end_run.new.engine.store) (g.St.Store.next c.end_run.new.engine.store) (g.St.Store.clock c.end_run.new.engine.store)) (ending l)) (c.as_slice.ensures.value ∙ ap (λ (v : Vec Held Global). v.items) none.1) (c.end_run.ensures.part room')) in
+    let room' : (seen c.one_line.new.engine).next + 1 < 2 ^ 64 = omega (arith, ap (λ (e : Engine g.row.St.Denot g.St.Store). (seen e).next) none.0, r.stands.next, runs_next _ db first _ _ all _ _ _ _ _ _ r c.loop-line.invariant.few small) in
+    let last : RanPart (seen c.loop-line.engine) (seen c.end_run.new.engine) (ending c.loop-line.held.items) = subst (λ (e : Engine g.row.St.Denot g.St.Store). RanPart (seen e) (seen c.end_run.new.engine) (ending c.loop-line.held.items)) none.0 (subst (λ (l : List Held). RanPart (seen c.one_line.new.engine) (seen c.end_run.new.engine) (ending l)) (c.as_slice.ensures.value ∙ ap (λ (v : Vec Held Global). v.items) none.1) (c.end_run.ensures.part room')) in
     let p = runs_end_part _ db first _ _ all _ _ _ _ _ _ _ r (none.2 r.rest r.remains).0 last in
     p.text
 
@@ -101,8 +95,8 @@ pub returns-in-Ok-false-clause-moments : goal.returns-in-Ok-false-clause-moments
 returns-in-Ok-false-clause-moments g c = λ db first all stands small remains tells.
     let none = (rw c.in-Ok-false.field-0-test at c.in-Ok-false.ensures.none) refl in
     let r = c.loop-line.invariant.runs db first all stands small remains in
-    let room' : g.St.Store.next c.one_line.new.engine.store + 1 < 2 ^ 64 = omega (arith, ap (λ (e : Engine g.row.St.Denot). g.St.Store.next e.store) none.0, r.stands.next, runs_next _ db first _ _ all _ _ _ _ _ _ r c.loop-line.invariant.few small) in
-    let last : RanPart (told_by (IsTrue g.St.Store.tells_moments) (g.St.Store.said c.loop-line.engine.store) (g.St.Store.points c.loop-line.engine.store) (g.St.Store.sure c.loop-line.engine.store) (g.St.Store.next c.loop-line.engine.store) (g.St.Store.clock c.loop-line.engine.store)) (told_by (IsTrue g.St.Store.tells_moments) (g.St.Store.said c.end_run.new.engine.store) (g.St.Store.points c.end_run.new.engine.store) (g.St.Store.sure c.end_run.new.engine.store) (g.St.Store.next c.end_run.new.engine.store) (g.St.Store.clock c.end_run.new.engine.store)) (ending c.loop-line.held.items) = subst (λ (e : Engine g.row.St.Denot). RanPart (told_by (IsTrue g.St.Store.tells_moments) (g.St.Store.said e.store) (g.St.Store.points e.store) (g.St.Store.sure e.store) (g.St.Store.next e.store) (g.St.Store.clock e.store)) (told_by (IsTrue g.St.Store.tells_moments) (g.St.Store.said c.end_run.new.engine.store) (g.St.Store.points c.end_run.new.engine.store) (g.St.Store.sure c.end_run.new.engine.store) (g.St.Store.next c.end_run.new.engine.store) (g.St.Store.clock c.end_run.new.engine.store)) (ending c.loop-line.held.items)) none.0 (subst (λ (l : List Held). RanPart (told_by (IsTrue g.St.Store.tells_moments) (g.St.Store.said c.one_line.new.engine.store) (g.St.Store.points c.one_line.new.engine.store) (g.St.Store.sure c.one_line.new.engine.store) (g.St.Store.next c.one_line.new.engine.store) (g.St.Store.clock c.one_line.new.engine.store)) (told_by (IsTrue g.St.Store.tells_moments) (g.St.Store.said c.end_run.new.engine.store) (g.St.Store.points c.end_run.new.engine.store) (g.St.Store.sure c.end_run.new.engine.store) (g.St.Store.next c.end_run.new.engine.store) (g.St.Store.clock c.end_run.new.engine.store)) (ending l)) (c.as_slice.ensures.value ∙ ap (λ (v : Vec Held Global). v.items) none.1) (c.end_run.ensures.part room')) in
+    let room' : (seen c.one_line.new.engine).next + 1 < 2 ^ 64 = omega (arith, ap (λ (e : Engine g.row.St.Denot g.St.Store). (seen e).next) none.0, r.stands.next, runs_next _ db first _ _ all _ _ _ _ _ _ r c.loop-line.invariant.few small) in
+    let last : RanPart (seen c.loop-line.engine) (seen c.end_run.new.engine) (ending c.loop-line.held.items) = subst (λ (e : Engine g.row.St.Denot g.St.Store). RanPart (seen e) (seen c.end_run.new.engine) (ending c.loop-line.held.items)) none.0 (subst (λ (l : List Held). RanPart (seen c.one_line.new.engine) (seen c.end_run.new.engine) (ending l)) (c.as_slice.ensures.value ∙ ap (λ (v : Vec Held Global). v.items) none.1) (c.end_run.ensures.part room')) in
     let p = runs_end_part _ db first _ _ all _ _ _ _ _ _ _ r (none.2 r.rest r.remains).0 last in
     p.moments tells
 
@@ -129,15 +123,7 @@ returns-in-Ok-false-clause-same_source g c = g.met.I.Source.same_then _ _ _ c.lo
 
 pub loop-line-preserved : goal.loop-line-preserved
 loop-line-preserved g c = record {
-  sound = c.in-Ok-true.ensures.sound;
-  description = c.one_line.ensures.description ∙ c.loop-line.invariant.description;
-  desc = c.one_line.ensures.desc ∙ c.loop-line.invariant.desc ∙ ap described (sym c.one_line.ensures.description);
-  kept = c.one_line.ensures.desc ∙ c.loop-line.invariant.kept;
-  same = g.met.St.Store.same_then _ _ _ c.loop-line.invariant.same c.one_line.ensures.same;
-  disk = omega (arith, c.loop-line.invariant.disk, c.one_line.ensures.later.0);
-  say = omega (arith, c.loop-line.invariant.say, c.one_line.ensures.later.1);
-  full = omega (arith, c.loop-line.invariant.full, c.one_line.ensures.later.2);
-  damaged = omega (arith, c.loop-line.invariant.damaged, c.one_line.ensures.later.3);
+  lasts = run_on_lasts g.met.St.Store.same_then c.loop-line.invariant.lasts c.in-Ok-true.ensures.lasts;
   taken = omega (arith, c.loop-line.invariant.taken, c.one_line.ensures.taken);
   same_source = g.met.I.Source.same_then _ _ _ c.loop-line.invariant.same_source c.one_line.ensures.same_source;
   small = omega (arith, c.loop-line.invariant.small, c.one_line.ensures.room);
@@ -146,8 +132,8 @@ loop-line-preserved g c = record {
       let kept = c.loop-line.invariant.rest all remains in
       c.in-Ok-true.ensures.rest kept.0 kept.1;
   runs = λ db first all stands small remains.
-      let r = subst (λ (d : Description). Runs (described d) (begun db first) c.loop-line.line c.loop-line.room all (view (g.St.Store.db c.loop-line.engine.store) (g.St.Store.mark c.loop-line.engine.store) (g.St.Store.next c.loop-line.engine.store) c.loop-line.engine.programs.items c.loop-line.engine.pending c.loop-line.engine.since) c.loop-line.held.items c.loop-line.feed (g.I.Source.left c.loop-line.source) (told_by (IsTrue g.St.Store.tells_moments) (g.St.Store.said c.args.engine.now.store) (g.St.Store.points c.args.engine.now.store) (g.St.Store.sure c.args.engine.now.store) (g.St.Store.next c.args.engine.now.store) (g.St.Store.clock c.args.engine.now.store)) (told_by (IsTrue g.St.Store.tells_moments) (g.St.Store.said c.loop-line.engine.store) (g.St.Store.points c.loop-line.engine.store) (g.St.Store.sure c.loop-line.engine.store) (g.St.Store.next c.loop-line.engine.store) (g.St.Store.clock c.loop-line.engine.store))) (sym c.loop-line.invariant.description) (c.loop-line.invariant.runs db first all stands small remains) in
-      subst (λ (d : Description). Runs (described d) (begun db first) (c.loop-line.line + 1) c.one_line.new.room all (view (g.St.Store.db c.one_line.new.engine.store) (g.St.Store.mark c.one_line.new.engine.store) (g.St.Store.next c.one_line.new.engine.store) c.one_line.new.engine.programs.items c.one_line.new.engine.pending c.one_line.new.engine.since) c.one_line.new.held.items c.one_line.new.feed (g.I.Source.left c.one_line.new.source) (told_by (IsTrue g.St.Store.tells_moments) (g.St.Store.said c.args.engine.now.store) (g.St.Store.points c.args.engine.now.store) (g.St.Store.sure c.args.engine.now.store) (g.St.Store.next c.args.engine.now.store) (g.St.Store.clock c.args.engine.now.store)) (told_by (IsTrue g.St.Store.tells_moments) (g.St.Store.said c.one_line.new.engine.store) (g.St.Store.points c.one_line.new.engine.store) (g.St.Store.sure c.one_line.new.engine.store) (g.St.Store.next c.one_line.new.engine.store) (g.St.Store.clock c.one_line.new.engine.store))) c.loop-line.invariant.description (runs_on _ (begun db first) _ _ _ all _ _ _ _ _ _ _ _ _ _ _ r ((rw c.in-Ok-true.field-0-test at c.in-Ok-true.ensures.took) refl (lines_run (described c.loop-line.engine.desc) (begun db first) r.done).going r.rest r.stands (sym r.held_is) r.line (runs_room (described c.loop-line.engine.desc) db first _ _ all _ _ _ _ _ _ r (omega (arith, c.loop-line-test.true)) small) r.remains));
+      let r = subst (λ (d : Description). Runs (described d) (begun db first) c.loop-line.line c.loop-line.room all (view c.loop-line.engine) c.loop-line.held.items c.loop-line.feed (g.I.Source.left c.loop-line.source) (seen c.args.engine.now) (seen c.loop-line.engine)) (sym c.loop-line.invariant.lasts.description) (c.loop-line.invariant.runs db first all stands small remains) in
+      subst (λ (d : Description). Runs (described d) (begun db first) (c.loop-line.line + 1) c.one_line.new.room all (view c.one_line.new.engine) c.one_line.new.held.items c.one_line.new.feed (g.I.Source.left c.one_line.new.source) (seen c.args.engine.now) (seen c.one_line.new.engine)) c.loop-line.invariant.lasts.description (runs_on _ (begun db first) _ _ _ all _ _ _ _ _ _ _ _ _ _ _ r ((rw c.in-Ok-true.field-0-test at c.in-Ok-true.ensures.took) refl (lines_run (described c.loop-line.engine.desc) (begun db first) r.done).going r.rest r.stands (sym r.held_is) r.line (runs_room (described c.loop-line.engine.desc) db first _ _ all _ _ _ _ _ _ r (omega (arith, c.loop-line-test.true)) small) r.remains));
 }
 
 pub returns-in-Err-after_last-clause-part : goal.returns-in-Err-after_last-clause-part
@@ -184,8 +170,8 @@ returns-in-Err-after_last-clause-same_source g c = g.met.I.Source.same_then _ _ 
 pub returns-clause-answers : goal.returns-clause-answers
 returns-clause-answers g c = then_on c.end_run-2.result _ _ (λ ran. λ db first all stands small remains.
     let r = c.loop-line.invariant.runs db first all stands small remains in
-    let room' : g.St.Store.next c.loop-line.engine.store + 1 < 2 ^ 64 = omega (arith, r.stands.next, runs_next _ db first _ _ all _ _ _ _ _ _ r c.loop-line.invariant.few small) in
-    let last : Ran (told_by (IsTrue g.St.Store.tells_moments) (g.St.Store.said c.loop-line.engine.store) (g.St.Store.points c.loop-line.engine.store) (g.St.Store.sure c.loop-line.engine.store) (g.St.Store.next c.loop-line.engine.store) (g.St.Store.clock c.loop-line.engine.store)) (told_by (IsTrue g.St.Store.tells_moments) (g.St.Store.said c.end_run-2.new.engine.store) (g.St.Store.points c.end_run-2.new.engine.store) (g.St.Store.sure c.end_run-2.new.engine.store) (g.St.Store.next c.end_run-2.new.engine.store) (g.St.Store.clock c.end_run-2.new.engine.store)) (ending c.loop-line.held.items) = subst (λ (l : List Held). Ran (told_by (IsTrue g.St.Store.tells_moments) (g.St.Store.said c.loop-line.engine.store) (g.St.Store.points c.loop-line.engine.store) (g.St.Store.sure c.loop-line.engine.store) (g.St.Store.next c.loop-line.engine.store) (g.St.Store.clock c.loop-line.engine.store)) (told_by (IsTrue g.St.Store.tells_moments) (g.St.Store.said c.end_run-2.new.engine.store) (g.St.Store.points c.end_run-2.new.engine.store) (g.St.Store.sure c.end_run-2.new.engine.store) (g.St.Store.next c.end_run-2.new.engine.store) (g.St.Store.clock c.end_run-2.new.engine.store)) (ending l)) c.as_slice-2.ensures.value (ran room') in
+    let room' : (seen c.loop-line.engine).next + 1 < 2 ^ 64 = omega (arith, r.stands.next, runs_next _ db first _ _ all _ _ _ _ _ _ r c.loop-line.invariant.few small) in
+    let last : Ran (seen c.loop-line.engine) (seen c.end_run-2.new.engine) (ending c.loop-line.held.items) = subst (λ (l : List Held). Ran (seen c.loop-line.engine) (seen c.end_run-2.new.engine) (ending l)) c.as_slice-2.ensures.value (ran room') in
     runs_end _ db first _ _ all _ _ _ _ _ _ _ r c.loop-line.invariant.few (c.in-Ok.ensures.end r.rest r.remains).0 last) c.end_run-2.ensures.ran
 
 pub returns-clause-ended : goal.returns-clause-ended
@@ -196,23 +182,23 @@ returns-clause-ended g c = then_on c.end_run-2.result _ _ (λ ends. λ db first 
 pub returns-clause-ran : goal.returns-clause-ran
 returns-clause-ran g c = then_on c.end_run-2.result _ _ (λ ran. λ db first all stands small remains.
     let r = c.loop-line.invariant.runs db first all stands small remains in
-    let room' : g.St.Store.next c.loop-line.engine.store + 1 < 2 ^ 64 = omega (arith, r.stands.next, runs_next _ db first _ _ all _ _ _ _ _ _ r c.loop-line.invariant.few small) in
-    let last : Ran (told_by (IsTrue g.St.Store.tells_moments) (g.St.Store.said c.loop-line.engine.store) (g.St.Store.points c.loop-line.engine.store) (g.St.Store.sure c.loop-line.engine.store) (g.St.Store.next c.loop-line.engine.store) (g.St.Store.clock c.loop-line.engine.store)) (told_by (IsTrue g.St.Store.tells_moments) (g.St.Store.said c.end_run-2.new.engine.store) (g.St.Store.points c.end_run-2.new.engine.store) (g.St.Store.sure c.end_run-2.new.engine.store) (g.St.Store.next c.end_run-2.new.engine.store) (g.St.Store.clock c.end_run-2.new.engine.store)) (ending c.loop-line.held.items) = subst (λ (l : List Held). Ran (told_by (IsTrue g.St.Store.tells_moments) (g.St.Store.said c.loop-line.engine.store) (g.St.Store.points c.loop-line.engine.store) (g.St.Store.sure c.loop-line.engine.store) (g.St.Store.next c.loop-line.engine.store) (g.St.Store.clock c.loop-line.engine.store)) (told_by (IsTrue g.St.Store.tells_moments) (g.St.Store.said c.end_run-2.new.engine.store) (g.St.Store.points c.end_run-2.new.engine.store) (g.St.Store.sure c.end_run-2.new.engine.store) (g.St.Store.next c.end_run-2.new.engine.store) (g.St.Store.clock c.end_run-2.new.engine.store)) (ending l)) c.as_slice-2.ensures.value (ran room') in
+    let room' : (seen c.loop-line.engine).next + 1 < 2 ^ 64 = omega (arith, r.stands.next, runs_next _ db first _ _ all _ _ _ _ _ _ r c.loop-line.invariant.few small) in
+    let last : Ran (seen c.loop-line.engine) (seen c.end_run-2.new.engine) (ending c.loop-line.held.items) = subst (λ (l : List Held). Ran (seen c.loop-line.engine) (seen c.end_run-2.new.engine) (ending l)) c.as_slice-2.ensures.value (ran room') in
     runs_ran _ db first _ _ all _ _ _ _ _ _ _ r (c.in-Ok.ensures.end r.rest r.remains).0 last) c.end_run-2.ensures.ran
 
 pub returns-clause-part : goal.returns-clause-part
 returns-clause-part g c = λ db first all stands small remains.
     let r = c.loop-line.invariant.runs db first all stands small remains in
-    let room' : g.St.Store.next c.loop-line.engine.store + 1 < 2 ^ 64 = omega (arith, r.stands.next, runs_next _ db first _ _ all _ _ _ _ _ _ r c.loop-line.invariant.few small) in
-    let last : RanPart (told_by (IsTrue g.St.Store.tells_moments) (g.St.Store.said c.loop-line.engine.store) (g.St.Store.points c.loop-line.engine.store) (g.St.Store.sure c.loop-line.engine.store) (g.St.Store.next c.loop-line.engine.store) (g.St.Store.clock c.loop-line.engine.store)) (told_by (IsTrue g.St.Store.tells_moments) (g.St.Store.said c.end_run-2.new.engine.store) (g.St.Store.points c.end_run-2.new.engine.store) (g.St.Store.sure c.end_run-2.new.engine.store) (g.St.Store.next c.end_run-2.new.engine.store) (g.St.Store.clock c.end_run-2.new.engine.store)) (ending c.loop-line.held.items) = subst (λ (l : List Held). RanPart (told_by (IsTrue g.St.Store.tells_moments) (g.St.Store.said c.loop-line.engine.store) (g.St.Store.points c.loop-line.engine.store) (g.St.Store.sure c.loop-line.engine.store) (g.St.Store.next c.loop-line.engine.store) (g.St.Store.clock c.loop-line.engine.store)) (told_by (IsTrue g.St.Store.tells_moments) (g.St.Store.said c.end_run-2.new.engine.store) (g.St.Store.points c.end_run-2.new.engine.store) (g.St.Store.sure c.end_run-2.new.engine.store) (g.St.Store.next c.end_run-2.new.engine.store) (g.St.Store.clock c.end_run-2.new.engine.store)) (ending l)) c.as_slice-2.ensures.value (c.end_run-2.ensures.part room') in
+    let room' : (seen c.loop-line.engine).next + 1 < 2 ^ 64 = omega (arith, r.stands.next, runs_next _ db first _ _ all _ _ _ _ _ _ r c.loop-line.invariant.few small) in
+    let last : RanPart (seen c.loop-line.engine) (seen c.end_run-2.new.engine) (ending c.loop-line.held.items) = subst (λ (l : List Held). RanPart (seen c.loop-line.engine) (seen c.end_run-2.new.engine) (ending l)) c.as_slice-2.ensures.value (c.end_run-2.ensures.part room') in
     let p = runs_end_part _ db first _ _ all _ _ _ _ _ _ _ r (c.in-Ok.ensures.end r.rest r.remains).0 last in
     p.text
 
 pub returns-clause-moments : goal.returns-clause-moments
 returns-clause-moments g c = λ db first all stands small remains tells.
     let r = c.loop-line.invariant.runs db first all stands small remains in
-    let room' : g.St.Store.next c.loop-line.engine.store + 1 < 2 ^ 64 = omega (arith, r.stands.next, runs_next _ db first _ _ all _ _ _ _ _ _ r c.loop-line.invariant.few small) in
-    let last : RanPart (told_by (IsTrue g.St.Store.tells_moments) (g.St.Store.said c.loop-line.engine.store) (g.St.Store.points c.loop-line.engine.store) (g.St.Store.sure c.loop-line.engine.store) (g.St.Store.next c.loop-line.engine.store) (g.St.Store.clock c.loop-line.engine.store)) (told_by (IsTrue g.St.Store.tells_moments) (g.St.Store.said c.end_run-2.new.engine.store) (g.St.Store.points c.end_run-2.new.engine.store) (g.St.Store.sure c.end_run-2.new.engine.store) (g.St.Store.next c.end_run-2.new.engine.store) (g.St.Store.clock c.end_run-2.new.engine.store)) (ending c.loop-line.held.items) = subst (λ (l : List Held). RanPart (told_by (IsTrue g.St.Store.tells_moments) (g.St.Store.said c.loop-line.engine.store) (g.St.Store.points c.loop-line.engine.store) (g.St.Store.sure c.loop-line.engine.store) (g.St.Store.next c.loop-line.engine.store) (g.St.Store.clock c.loop-line.engine.store)) (told_by (IsTrue g.St.Store.tells_moments) (g.St.Store.said c.end_run-2.new.engine.store) (g.St.Store.points c.end_run-2.new.engine.store) (g.St.Store.sure c.end_run-2.new.engine.store) (g.St.Store.next c.end_run-2.new.engine.store) (g.St.Store.clock c.end_run-2.new.engine.store)) (ending l)) c.as_slice-2.ensures.value (c.end_run-2.ensures.part room') in
+    let room' : (seen c.loop-line.engine).next + 1 < 2 ^ 64 = omega (arith, r.stands.next, runs_next _ db first _ _ all _ _ _ _ _ _ r c.loop-line.invariant.few small) in
+    let last : RanPart (seen c.loop-line.engine) (seen c.end_run-2.new.engine) (ending c.loop-line.held.items) = subst (λ (l : List Held). RanPart (seen c.loop-line.engine) (seen c.end_run-2.new.engine) (ending l)) c.as_slice-2.ensures.value (c.end_run-2.ensures.part room') in
     let p = runs_end_part _ db first _ _ all _ _ _ _ _ _ _ r (c.in-Ok.ensures.end r.rest r.remains).0 last in
     p.moments tells
 
@@ -228,8 +214,8 @@ returns-clause-full_list g c = λ e. absurd (c.end_run-2.ensures.limits.2 e)
 pub returns-clause-failed : goal.returns-clause-failed
 returns-clause-failed g c = λ e. absurd (c.end_run-2.ensures.input e)
 
-pub returns-clause-same : goal.returns-clause-same
-returns-clause-same g c = g.met.St.Store.same_then _ _ _ c.loop-line.invariant.same c.end_run-2.ensures.same
+pub returns-clause-lasts : goal.returns-clause-lasts
+returns-clause-lasts g c = run_then_lasts g.met.St.Store.same_then c.loop-line.invariant.lasts c.end_run-2.ensures.lasts
 
 pub returns-clause-same_source : goal.returns-clause-same_source
 returns-clause-same_source g c = g.met.I.Source.same_then _ _ _ c.loop-line.invariant.same_source c.after_last.ensures.same_source

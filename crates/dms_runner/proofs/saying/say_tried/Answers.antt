@@ -15,3 +15,6 @@ returns-clause-ran g c = then_on c.say_answer.result _ _ (λ ran room. ran_as _ 
 
 pub returns-clause-part : goal.returns-clause-part
 returns-clause-part g c = λ room. part_as _ _ _ _ (told_is c.args.held.now c.args.answer.now.reply c.args.answer.now.sync (sym c.is_silent.ensures ∙ c.if-is_silent.false)) (c.say_answer.ensures.part room)
+
+pub returns-clause-front : goal.returns-clause-front
+returns-clause-front g c = rw (sym c.is_silent.ensures ∙ c.if-is_silent.false) c.say_answer.ensures.front

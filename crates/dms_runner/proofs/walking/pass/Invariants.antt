@@ -1,22 +1,13 @@
 use Rattle.std.proofs.Common.{◌≡◌, ◌≤◌, length, IsTrue}
 use Rattle.dms_desc.specs.Shape.{described}
 use Rattle.dms_model.specs.Session.{Session}
-use Rattle.dms_storeverbs.specs.View.{view, Stands, Room}
-use Rattle.dms_runner.specs.Events.{told_by}
+use Rattle.dms_storeverbs.specs.View.{Lasted, seen, view, Stands, Room}
 use Rattle.dms_runner.proofs.Passes.{Passing}
 use Rattle.dms_runner.proofs.walking.pass.Given as goal
 
 abbrev pub invariant-loop-i : goal.invariant-loop-i
 invariant-loop-i g l = record {
-  sound : g.St.Store.sound l.engine.store;
-  description : l.engine.desc ≡ l.fn.engine.desc;
-  desc : g.St.Store.desc l.engine.store ≡ described l.engine.desc;
-  kept : g.St.Store.desc l.engine.store ≡ g.St.Store.desc l.fn.engine.store;
-  same : g.St.Store.same_store l.fn.engine.store l.engine.store;
-  disk : g.St.Store.disk_faults l.fn.engine.store ≤ g.St.Store.disk_faults l.engine.store;
-  say : g.St.Store.say_faults l.fn.engine.store ≤ g.St.Store.say_faults l.engine.store;
-  full : g.St.Store.fulls l.fn.engine.store ≤ g.St.Store.fulls l.engine.store;
-  damaged : g.St.Store.damages l.fn.engine.store ≤ g.St.Store.damages l.engine.store;
+  lasts : Lasted l.fn.engine l.engine;
   long : length l.held ≡ length l.fn.held;
-  passing : (s : Session) → Stands (view (g.St.Store.db l.fn.engine.store) (g.St.Store.mark l.fn.engine.store) (g.St.Store.next l.fn.engine.store) l.fn.engine.programs.items l.fn.engine.pending l.fn.engine.since) s → Room s.next → Passing (described l.fn.engine.desc) s l.fn.held l.held l.i (view (g.St.Store.db l.engine.store) (g.St.Store.mark l.engine.store) (g.St.Store.next l.engine.store) l.engine.programs.items l.engine.pending l.engine.since) (told_by (IsTrue g.St.Store.tells_moments) (g.St.Store.said l.fn.engine.store) (g.St.Store.points l.fn.engine.store) (g.St.Store.sure l.fn.engine.store) (g.St.Store.next l.fn.engine.store) (g.St.Store.clock l.fn.engine.store)) (told_by (IsTrue g.St.Store.tells_moments) (g.St.Store.said l.engine.store) (g.St.Store.points l.engine.store) (g.St.Store.sure l.engine.store) (g.St.Store.next l.engine.store) (g.St.Store.clock l.engine.store));
+  passing : (s : Session) → Stands (view l.fn.engine) s → Room s.next → Passing (described l.fn.engine.desc) s l.fn.held l.held l.i (view l.engine) (seen l.fn.engine) (seen l.engine);
 }

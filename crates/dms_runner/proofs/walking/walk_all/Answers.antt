@@ -1,26 +1,18 @@
+use Rattle.dms_storeverbs.proofs.Lasting.{lasts_none, lasts_on}
 use Rattle.std.proofs.Common.{◌∙◌, List, refl, sym, ap, subst, arith, length, IsTrue}
 use Rattle.dms_desc.specs.Shape.{described}
-use Rattle.dms_storeverbs.specs.View.{view}
+use Rattle.dms_storeverbs.specs.View.{seen, view}
 use Rattle.std.specs.List.{remove}
 use Rattle.dms_runner.specs.declared.held.Held.{Held}
 use Rattle.dms_runner.specs.Held.{walks}
 use Rattle.dms_runner.specs.Trying.{Walks}
-use Rattle.dms_runner.specs.Events.{told_by}
 use Rattle.dms_runner.proofs.Turns.{walking_start, walking_on, walking_end, walking_out, walking_part, walking_room, passes_from, part_from, written}
 use Rattle.dms_runner.proofs.Happening.{part_all}
 use Rattle.dms_runner.proofs.walking.walk_all.Goals as goal
 
 pub loop-turn-init : goal.loop-turn-init
 loop-turn-init g c = record {
-  sound = c.requires.sound;
-  description = refl;
-  desc = c.requires.desc;
-  kept = refl;
-  same = g.met.St.Store.same_again _;
-  disk = omega arith;
-  say = omega arith;
-  full = omega arith;
-  damaged = omega arith;
+  lasts = lasts_none g.met.St.Store.same_again _ c.requires.sound;
   walking = λ s stands room. walking_start _ s _ _ _ stands;
 }
 
@@ -28,38 +20,30 @@ pub returns-in_err-pass-clause-part : goal.returns-in_err-pass-clause-part
 returns-in_err-pass-clause-part g c = λ s stands room.
     let k = c.loop-turn.invariant.walking s stands room in
     walking_part _ s _ _ _ _ _ _ _ k (omega (arith, c.loop-turn-test.true, c.len-turn-end.ensures, c.args.held.now.ok.0))
-    (part_from _ _ k.at _ _ _ _ (ap described c.loop-turn.invariant.description) c.as_mut_slice.ensures.value (c.pass.ensures.part k.at k.stands (walking_room _ s _ _ _ _ _ _ k room)))
+    (part_from _ _ k.at _ _ _ _ (ap described c.loop-turn.invariant.lasts.description) c.as_mut_slice.ensures.value (c.pass.ensures.part k.at k.stands (walking_room _ s _ _ _ _ _ _ k room)))
 
 pub returns-in-None-clause-walks : goal.returns-in-None-clause-walks
 returns-in-None-clause-walks g c = λ s stands room.
     let k = c.loop-turn.invariant.walking s stands room in
     let back = written c.loop-turn.held.items c.pass.new.held c.loop-turn.held.len c.loop-turn.held.ok.0 (c.pass.ensures.long ∙ ap length c.as_mut_slice.ensures.value) in
-    subst (λ (l : List Held). Walks (walks (length c.args.held.now.items) (described c.args.engine.now.desc) s c.args.held.now.items) (view (g.St.Store.db c.pass.new.engine.store) (g.St.Store.mark c.pass.new.engine.store) (g.St.Store.next c.pass.new.engine.store) c.pass.new.engine.programs.items c.pass.new.engine.pending c.pass.new.engine.since) l (told_by (IsTrue g.St.Store.tells_moments) (g.St.Store.said c.args.engine.now.store) (g.St.Store.points c.args.engine.now.store) (g.St.Store.sure c.args.engine.now.store) (g.St.Store.next c.args.engine.now.store) (g.St.Store.clock c.args.engine.now.store)) (told_by (IsTrue g.St.Store.tells_moments) (g.St.Store.said c.pass.new.engine.store) (g.St.Store.points c.pass.new.engine.store) (g.St.Store.sure c.pass.new.engine.store) (g.St.Store.next c.pass.new.engine.store) (g.St.Store.clock c.pass.new.engine.store))) (sym back)
+    subst (λ (l : List Held). Walks (walks (length c.args.held.now.items) (described c.args.engine.now.desc) s c.args.held.now.items) (view c.pass.new.engine) l (seen c.args.engine.now) (seen c.pass.new.engine)) (sym back)
     (walking_end _ s _ _ _ _ _ _ _ _ _ k (omega (arith, c.loop-turn-test.true, c.len-turn-end.ensures, c.args.held.now.ok.0))
-    (passes_from _ _ k.at _ _ _ _ _ _ _ _ (ap described c.loop-turn.invariant.description) c.as_mut_slice.ensures.value c.in-None.is (c.in_ok-pass.ensures.passes k.at k.stands (walking_room _ s _ _ _ _ _ _ k room))))
+    (passes_from _ _ k.at _ _ _ _ _ _ _ _ (ap described c.loop-turn.invariant.lasts.description) c.as_mut_slice.ensures.value c.in-None.is (c.in_ok-pass.ensures.passes k.at k.stands (walking_room _ s _ _ _ _ _ _ k room))))
 
 pub returns-in-None-clause-part : goal.returns-in-None-clause-part
 returns-in-None-clause-part g c = λ s stands room.
     let k = c.loop-turn.invariant.walking s stands room in
     walking_part _ s _ _ _ _ _ _ _ k (omega (arith, c.loop-turn-test.true, c.len-turn-end.ensures, c.args.held.now.ok.0))
-    (part_from _ _ k.at _ _ _ _ (ap described c.loop-turn.invariant.description) c.as_mut_slice.ensures.value (c.pass.ensures.part k.at k.stands (walking_room _ s _ _ _ _ _ _ k room)))
+    (part_from _ _ k.at _ _ _ _ (ap described c.loop-turn.invariant.lasts.description) c.as_mut_slice.ensures.value (c.pass.ensures.part k.at k.stands (walking_room _ s _ _ _ _ _ _ k room)))
 
 pub loop-turn-preserved : goal.loop-turn-preserved
 loop-turn-preserved g c = record {
-  sound = c.in_ok-pass.ensures.sound;
-  description = c.pass.ensures.description ∙ c.loop-turn.invariant.description;
-  desc = c.pass.ensures.desc ∙ c.loop-turn.invariant.desc ∙ ap described (sym c.pass.ensures.description);
-  kept = c.pass.ensures.desc ∙ c.loop-turn.invariant.kept;
-  same = g.met.St.Store.same_then _ _ _ c.loop-turn.invariant.same c.pass.ensures.same;
-  disk = omega (arith, c.loop-turn.invariant.disk, c.pass.ensures.later.0);
-  say = omega (arith, c.loop-turn.invariant.say, c.pass.ensures.later.1);
-  full = omega (arith, c.loop-turn.invariant.full, c.pass.ensures.later.2);
-  damaged = omega (arith, c.loop-turn.invariant.damaged, c.pass.ensures.later.3);
+  lasts = lasts_on g.met.St.Store.same_then c.loop-turn.invariant.lasts c.in_ok-pass.ensures.lasts;
   walking = λ s stands room.
       let k = c.loop-turn.invariant.walking s stands room in
       let back = written c.loop-turn.held.items c.pass.new.held c.loop-turn.held.len c.loop-turn.held.ok.0 (c.pass.ensures.long ∙ ap length c.as_mut_slice.ensures.value) in
       walking_on _ s _ _ _ c.pass.new.held _ c.in-Some.i _ _ _ _ _ k (omega (arith, c.loop-turn-test.true, c.len-turn-end.ensures, c.args.held.now.ok.0))
-      (passes_from _ _ k.at _ _ _ _ _ _ _ _ (ap described c.loop-turn.invariant.description) c.as_mut_slice.ensures.value c.in-Some.is (c.in_ok-pass.ensures.passes k.at k.stands (walking_room _ s _ _ _ _ _ _ k room)))
+      (passes_from _ _ k.at _ _ _ _ _ _ _ _ (ap described c.loop-turn.invariant.lasts.description) c.as_mut_slice.ensures.value c.in-Some.is (c.in_ok-pass.ensures.passes k.at k.stands (walking_room _ s _ _ _ _ _ _ k room)))
       (c.remove-answered.ensures.items ∙ ap (λ (l : List Held). remove l c.in-Some.i) back);
 }
 

@@ -16,17 +16,17 @@ use Rattle.dms_top.proofs.try_run.try_lines.Goals as goal
 
 pub returns-in-Ok-new-clause-part : goal.returns-in-Ok-new-clause-part
 returns-in-Ok-new-clause-part g c = λ told all remains.
-    let p = c.run_lines-ran.ensures.part empty_db 1 all (stands_at _ _ 1 c.in-Ok.ensures.next (c.in-Ok-new.ensures.stands empty_db c.in-Ok.ensures.db)) (omega arith) remains in
+    let p = c.run_lines-ran.ensures.part empty_db 1 all (stands_at _ _ 1 c.in-Ok.ensures.starts.next_is (c.in-Ok-new.ensures.stands empty_db c.in-Ok.ensures.starts.db_is)) (omega arith) remains in
     front_moved _ _ _ _ (g.S.Site.said c.run_lines-ran.new.engine.store.site.now) (answers_text (described c.in-Ok-new.engine.desc) empty_db 1 (raw_lines all)) (search rules) (search rules) (ap (λ (d : Described). answers_text d empty_db 1 (raw_lines all)) (sym c.in-Ok-new.ensures.described)) (told_front g.S.Site.tells_said _ _ _ told p)
 
 pub returns-in-Ok-new-clause-answers : goal.returns-in-Ok-new-clause-answers
 returns-in-Ok-new-clause-answers g c = λ ok told all remains.
-    let a = told_answers g.S.Site.tells_said (described c.in-Ok-new.engine.desc) (raw_lines all) _ _ told ((on_ok _ _ (c.status_after.ensures.ok ok) c.run_lines-ran.ensures.answers) empty_db 1 all (stands_at _ _ 1 c.in-Ok.ensures.next (c.in-Ok-new.ensures.stands empty_db c.in-Ok.ensures.db)) (omega arith) remains) in
+    let a = told_answers g.S.Site.tells_said (described c.in-Ok-new.engine.desc) (raw_lines all) _ _ told ((on_ok _ _ (c.status_after.ensures.ok ok) c.run_lines-ran.ensures.answers) empty_db 1 all (stands_at _ _ 1 c.in-Ok.ensures.starts.next_is (c.in-Ok-new.ensures.stands empty_db c.in-Ok.ensures.starts.db_is)) (omega arith) remains) in
     (printed_moved _ _ _ (g.S.Site.said c.in-Ok-new.engine.store.site.now) (g.S.Site.said c.run_lines-ran.new.engine.store.site.now) (answers_text (described c.in-Ok-new.engine.desc) empty_db 1 (raw_lines all)) (search rules) (search rules) (ap (λ (d : Described). answers_text d empty_db 1 (raw_lines all)) (sym c.in-Ok-new.ensures.described)) a.0, within_moved _ _ _ (sym c.in-Ok-new.ensures.described) a.1)
 
 pub returns-in-Ok-new-clause-input_cut : goal.returns-in-Ok-new-clause-input_cut
 returns-in-Ok-new-clause-input_cut g c = λ is told all remains.
-    let p = c.run_lines-ran.ensures.failed (c.status_after.ensures.input is) empty_db 1 all (stands_at _ _ 1 c.in-Ok.ensures.next (c.in-Ok-new.ensures.stands empty_db c.in-Ok.ensures.db)) (omega arith) remains in
+    let p = c.run_lines-ran.ensures.failed (c.status_after.ensures.input is) empty_db 1 all (stands_at _ _ 1 c.in-Ok.ensures.starts.next_is (c.in-Ok-new.ensures.stands empty_db c.in-Ok.ensures.starts.db_is)) (omega arith) remains in
     cut_moved _ (described c.in-Ok-new.engine.desc) all _ _ _ _ (g.S.Site.said c.in-Ok-new.engine.store.site.now) (g.S.Site.said c.run_lines-ran.new.engine.store.site.now) refl (search rules) (search rules) (sym c.in-Ok-new.ensures.described) (told_cut g.S.Site.tells_said _ all _ _ _ told p)
 
 pub returns-in-Ok-new-clause-limit : goal.returns-in-Ok-new-clause-limit
@@ -35,6 +35,6 @@ returns-in-Ok-new-clause-limit g c = λ k is told all remains.
   where
     passes : (g : Over) (c : goal.After-status_after g) (k : LimitKind) → c.status_after.result ≡ Limit k → IsTrue g.S.Site.tells_said → (all : List ℕ) → Remains c.args.feed.now (g.I.Source.left c.args.source.now) all
         → Passes k (described c.in-Ok-new.engine.desc) (raw_lines all) (g.S.Site.said c.in-Ok-new.engine.store.site.now) (g.S.Site.said c.run_lines-ran.new.engine.store.site.now)
-    passes g c Lines is told all remains = told_lines g.S.Site.tells_said _ _ _ _ told (c.run_lines-ran.ensures.lines (c.status_after.ensures.lines is) empty_db 1 all (stands_at _ _ 1 c.in-Ok.ensures.next (c.in-Ok-new.ensures.stands empty_db c.in-Ok.ensures.db)) (omega arith) remains)
-    passes g c Bytes is told all remains = told_bytes g.S.Site.tells_said _ _ _ _ told (c.run_lines-ran.ensures.bytes (c.status_after.ensures.bytes is) empty_db 1 all (stands_at _ _ 1 c.in-Ok.ensures.next (c.in-Ok-new.ensures.stands empty_db c.in-Ok.ensures.db)) (omega arith) remains)
-    passes g c Held is told all remains = told_held g.S.Site.tells_said _ _ _ _ told (c.run_lines-ran.ensures.full_list (c.status_after.ensures.held is) empty_db 1 all (stands_at _ _ 1 c.in-Ok.ensures.next (c.in-Ok-new.ensures.stands empty_db c.in-Ok.ensures.db)) (omega arith) remains)
+    passes g c Lines is told all remains = told_lines g.S.Site.tells_said _ _ _ _ told (c.run_lines-ran.ensures.lines (c.status_after.ensures.lines is) empty_db 1 all (stands_at _ _ 1 c.in-Ok.ensures.starts.next_is (c.in-Ok-new.ensures.stands empty_db c.in-Ok.ensures.starts.db_is)) (omega arith) remains)
+    passes g c Bytes is told all remains = told_bytes g.S.Site.tells_said _ _ _ _ told (c.run_lines-ran.ensures.bytes (c.status_after.ensures.bytes is) empty_db 1 all (stands_at _ _ 1 c.in-Ok.ensures.starts.next_is (c.in-Ok-new.ensures.stands empty_db c.in-Ok.ensures.starts.db_is)) (omega arith) remains)
+    passes g c Held is told all remains = told_held g.S.Site.tells_said _ _ _ _ told (c.run_lines-ran.ensures.full_list (c.status_after.ensures.held is) empty_db 1 all (stands_at _ _ 1 c.in-Ok.ensures.starts.next_is (c.in-Ok-new.ensures.stands empty_db c.in-Ok.ensures.starts.db_is)) (omega arith) remains)

@@ -1,6 +1,6 @@
 use Rattle.std.proofs.Common.{◌≡◌, rules, List, ℕ, subst}
 use Rattle.std.proofs.lemmas.Result.{on_ok_weaker}
-use Rattle.dms_block.specs.Moments.{Steps}
+use Rattle.dms_moments.specs.Moments.{Steps}
 use Rattle.dms_site.specs.Files.{OnDisk}
 use Rattle.dms_sitemem.specs.Replay.{state_of, clock_of}
 use Rattle.dms_sitemem.specs.Honest.{replace_leads}

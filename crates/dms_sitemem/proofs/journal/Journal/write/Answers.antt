@@ -19,3 +19,8 @@ pub returns-clause-moments : goal.returns-clause-moments
 returns-clause-moments c =
     let same : c.in_ok-kept.kept.items ≡ c.args.bytes.now = search rules in
     write_steps _ _ _ _ c.in_ok-kept.kept _ _ same c.in_ok-keep.ensures.kept
+
+pub returns-clause-kept : goal.returns-clause-kept
+returns-clause-kept c =
+    let same : c.in_ok-kept.kept.items ≡ c.args.bytes.now = search rules in
+    (c.in_ok-kept.kept, same, c.in_ok-keep.ensures.kept)

@@ -1,10 +1,9 @@
-use Rattle.std.proofs.Common.{◌≡◌, ◌∙◌, ◌<◌, ◌+◌, ◌^◌, ℕ, List, sym, ap, arith, get_or}
+use Rattle.std.proofs.Common.{◌≡◌, ◌∙◌, ℕ, List, refl, sym, ap, get_or}
 use Rattle.std.specs.Prelude.{slice_set}
 use Rattle.std.proofs.lemmas.Option.{get_or_from_slice_get}
 use Rattle.dms_desc.specs.Shape.{described}
 use Rattle.dms_model.specs.declared.program.Program.{Program}
-use Rattle.dms_model.specs.Session.{Outcome}
-use Rattle.dms_storeverbs.proofs.Calls.{still, none_made, is_from}
+use Rattle.dms_storeverbs.proofs.Calls.{did_from, failed, silently}
 use Rattle.dms_base.specs.declared.category.Category.TheVariants.{NotFound}
 use Rattle.dms_model.specs.declared.reply.Reply.TheVariants.{Exception}
 use Rattle.dms_model.specs.Members.{name_of, structure_of}
@@ -12,11 +11,14 @@ use Rattle.dms_model.specs.Session.{found_program, carried, set_of, path_of}
 use Rattle.dms_storeverbs.proofs.Unfolds.{find_none, find_some}
 use Rattle.dms_storeverbs.proofs.engine.Engine.find.Goals as goal
 
+pub returns-in_err-spot-clause-step : goal.returns-in_err-spot-clause-step
+returns-in_err-spot-clause-step g c = λ p at s stands room. failed c.from_residual.ensures.0 c.found.ensures.silent s stands.next room
+
 pub returns-in_default-clause-step : goal.returns-in_default-clause-step
 returns-in_default-clause-step g c = λ p at s stands room.
     let d = described c.args.self.now.desc in
     let none = find_none d c.args.i p s c.args.path.now (sym (c.in_ok-spot.ensures.found s.db stands.db) ∙ c.in_default.is) in
-    is_from none (record { reply = c.refused.ensures.reply ∙ ap (λ (n : List ℕ). Exception NotFound n) (c.name_of-name.ensures ∙ ap (λ (x : ℕ). name_of (structure_of d x)) c.path_of-x.ensures); sync = c.refused.ensures.sync; session = c.in_ok-spot.ensures.stands s stands })
+    did_from none (silently c.found.ensures.silent c.in_ok-spot.ensures.points s stands.next room refl c.refused.ensures.sync (record { reply = c.refused.ensures.reply ∙ ap (λ (n : List ℕ). Exception NotFound n) (c.name_of-name.ensures ∙ ap (λ (x : ℕ). name_of (structure_of d x)) c.path_of-x.ensures); sync = c.refused.ensures.sync; session = c.in_ok-spot.ensures.stands s stands }))
 
 pub returns-clause-step : goal.returns-clause-step
 returns-clause-step g c = λ p at s stands room.
@@ -26,30 +28,4 @@ returns-clause-step g c = λ p at s stands room.
     let x_is : c.index_mut.result.now ≡ p = c.index_mut.ensures.value ∙ ap (λ (ps : List Program). get_or ps c.args.i c.index_mut.result.now) c.found.ensures.programs ∙ get_or_from_slice_get c.args.self.now.programs.items c.args.i p c.index_mut.result.now at in
     let set_is : c.set_of-set.result ≡ set_of d (path_of c.args.path.now) = c.set_of-set.ensures ∙ ap (λ (x : ℕ). set_of d x) c.path_of-x.ensures in
     let y_is : c.find.new.program ≡ carried (found_program p (set_of d (path_of c.args.path.now)) c.in-Some.spot) = c.find.ensures ∙ (λ j. carried (found_program (x_is j) (set_is j) c.in-Some.spot)) in
-    is_from some (record { reply = c.done.ensures.reply; sync = c.done.ensures.sync; session = record { db = st.db; mark = st.mark; next = st.next; programs = (λ j. slice_set (st.programs j) c.args.i (y_is j)); pending = st.pending; since = st.since } })
-
-pub returns-in_default-clause-makes : goal.returns-in_default-clause-makes
-returns-in_default-clause-makes g c = λ tells p at s stands room.
-    let d = described c.args.self.now.desc in
-    let none = find_none d c.args.i p s c.args.path.now (sym (c.in_ok-spot.ensures.found s.db stands.db) ∙ c.in_default.is) in
-    let r : g.St.Store.next c.args.self.now.store + 1 < 2 ^ 64 = omega (arith, stands.next, room) in
-    none_made (ap (λ (o : Outcome). o.quiets) none) c.refused.ensures.sync (c.in_ok-spot.ensures.points tells r)
-
-pub returns-clause-makes : goal.returns-clause-makes
-returns-clause-makes g c = λ tells p at s stands room.
-    let d = described c.args.self.now.desc in
-    let some = find_some d c.args.i p s c.args.path.now c.in-Some.spot (sym (c.in_ok-spot.ensures.found s.db stands.db) ∙ c.in-Some.is) in
-    let r : g.St.Store.next c.args.self.now.store + 1 < 2 ^ 64 = omega (arith, stands.next, room) in
-    none_made (ap (λ (o : Outcome). o.quiets) some) c.done.ensures.sync (c.in_ok-spot.ensures.points tells r)
-
-pub returns-in_err-spot-clause-moments : goal.returns-in_err-spot-clause-moments
-returns-in_err-spot-clause-moments g c = λ tells p at s stands room.
-    still _ (c.found.ensures.moments tells (omega (arith, stands.next, room)))
-
-pub returns-in_default-clause-moments : goal.returns-in_default-clause-moments
-returns-in_default-clause-moments g c = λ tells p at s stands room.
-    still _ (c.found.ensures.moments tells (omega (arith, stands.next, room)))
-
-pub returns-clause-moments : goal.returns-clause-moments
-returns-clause-moments g c = λ tells p at s stands room.
-    still _ (c.found.ensures.moments tells (omega (arith, stands.next, room)))
+    did_from some (silently c.found.ensures.silent c.in_ok-spot.ensures.points s stands.next room refl c.done.ensures.sync (record { reply = c.done.ensures.reply; sync = c.done.ensures.sync; session = record { db = st.db; mark = st.mark; next = st.next; programs = (λ j. slice_set (st.programs j) c.args.i (y_is j)); pending = st.pending; since = st.since } }))

@@ -12,5 +12,5 @@ returns-clause-found g c = λ d told.
     let parts_is : c.parts_of.result.now ≡ parts_of (structure_of desc c.args.x) = c.parts_of.ensures in
     let items_is : c.items_of-items.result.now ≡ items_of (structure_of desc (set_of desc c.args.x)) = c.items_of-items.ensures ∙ ap (λ (n : ℕ). items_of (structure_of desc n)) c.set_of.ensures in
     let key_is : key_values (parts_of (structure_of desc c.args.x)) (items_of (structure_of desc (set_of desc c.args.x))) lits ≡ Some c.in-Some.values = (λ j. key_values (sym parts_is j) (sym items_is j) lits) ∙ sym c.in_ok-values.ensures ∙ c.in-Some.is in
-    found_at_is desc (g.St.Store.desc c.args.self.now.store) (g.St.Store.db c.args.self.now.store) d c.args.x c.as_slice.result.now c.in-Some.values _ c.in_ok-spot.spot c.agreeing.result c.parts_of-2.result.now
-    c.requires.desc told key_is (c.as_slice.ensures ∙ c.in_ok-key.ensures) c.parts_of-2.ensures c.in_ok-spot.ensures.found c.agreeing.ensures
+    found_at_is desc (g.St.Store.seen c.args.self.now.store).desc (g.St.Store.seen c.args.self.now.store).db d c.args.x c.as_slice.result.now c.in-Some.values _ c.in_ok-spot.spot c.agreeing.result c.parts_of-2.result.now
+    c.args.self.now.under told key_is (c.as_slice.ensures ∙ c.in_ok-key.ensures) c.parts_of-2.ensures c.in_ok-spot.ensures.found c.agreeing.ensures

@@ -28,7 +28,7 @@ returns-in_ok-stored-in-Stored-clause-kept g c = λ p at s stands.
     let judged : keep d c.index.result.now s.db c.args.set ≡ put_record (put_answer d s.db c.args.set number rec) d c.index.result.now s.db c.args.set rec = rw c.in-Ready.is at (c.in_ok-refusal.ensures s.db) in
     let k_is = subst (λ (q : Program). keep d q s.db c.args.set ≡ put_record (put_answer d s.db c.args.set number rec) d q s.db c.args.set rec) p_is judged in
     let puts = rw c.in-Stored.is at c.in_ok-number.ensures.put in
-    kept_stored d _ _ _ _ _ _ _ _ p s c.args.i c.args.set number rec _ c.requires.desc stands.db (c.in_ok-number.ensures.mark ∙ stands.mark) (c.put.ensures.next ∙ stands.next) stands.pending stands.since k_is c.in-Stored.number c.stored.new.program puts
+    kept_stored d _ _ _ _ _ _ _ _ p s c.args.i c.args.set number rec _ c.args.self.now.under stands.db (c.in_ok-number.ensures.keeps.mark ∙ stands.mark) (c.put.ensures.silent.next ∙ stands.next) stands.pending stands.since k_is c.in-Stored.number c.stored.new.program puts
     (c.in_ok-stored-in-Stored.ensures ∙ ap (λ (q : Program). with_stored q c.args.set c.in-Stored.number rec.values) m_is)
     (ap (λ (ps : List Program). slice_set ps c.args.i c.stored.new.program) stands.programs)
 
@@ -41,7 +41,7 @@ returns-in-Duplicate-clause-kept g c = λ p at s stands.
     let judged : keep d c.index.result.now s.db c.args.set ≡ put_record (put_answer d s.db c.args.set number rec) d c.index.result.now s.db c.args.set rec = rw c.in-Ready.is at (c.in_ok-refusal.ensures s.db) in
     let k_is = subst (λ (q : Program). keep d q s.db c.args.set ≡ put_record (put_answer d s.db c.args.set number rec) d q s.db c.args.set rec) p_is judged in
     let puts = rw c.in-Duplicate.is at c.in_ok-number.ensures.put in
-    kept_duplicate d _ _ _ _ _ _ _ _ p s c.args.i c.args.set number rec _ c.requires.desc stands.db (c.in_ok-number.ensures.mark ∙ stands.mark) (c.put.ensures.next ∙ stands.next) stands.pending stands.since k_is c.in-Duplicate.other c.name_of.result puts c.name_of.ensures stands.programs
+    kept_duplicate d _ _ _ _ _ _ _ _ p s c.args.i c.args.set number rec _ c.args.self.now.under stands.db (c.in_ok-number.ensures.keeps.mark ∙ stands.mark) (c.put.ensures.silent.next ∙ stands.next) stands.pending stands.since k_is c.in-Duplicate.other c.name_of.result puts c.name_of.ensures stands.programs
 
 pub returns-in-Full-clause-kept : goal.returns-in-Full-clause-kept
 returns-in-Full-clause-kept g c = λ p at s stands.
@@ -52,4 +52,4 @@ returns-in-Full-clause-kept g c = λ p at s stands.
     let judged : keep d c.index.result.now s.db c.args.set ≡ put_record (put_answer d s.db c.args.set number rec) d c.index.result.now s.db c.args.set rec = rw c.in-Ready.is at (c.in_ok-refusal.ensures s.db) in
     let k_is = subst (λ (q : Program). keep d q s.db c.args.set ≡ put_record (put_answer d s.db c.args.set number rec) d q s.db c.args.set rec) p_is judged in
     let puts = rw c.in-Full.is at c.in_ok-number.ensures.put in
-    kept_full d _ _ _ _ _ _ _ _ p s c.args.i c.args.set number rec _ c.requires.desc stands.db (c.in_ok-number.ensures.mark ∙ stands.mark) (c.put.ensures.next ∙ stands.next) stands.pending stands.since k_is c.name_of-in-Full.result puts c.name_of-in-Full.ensures stands.programs
+    kept_full d _ _ _ _ _ _ _ _ p s c.args.i c.args.set number rec _ c.args.self.now.under stands.db (c.in_ok-number.ensures.keeps.mark ∙ stands.mark) (c.put.ensures.silent.next ∙ stands.next) stands.pending stands.since k_is c.name_of-in-Full.result puts c.name_of-in-Full.ensures stands.programs

@@ -1,0 +1,15 @@
+-- What holds after a call on blocks, by its fault.
+use Rattle.std.specs.Prelude.{⊤}
+use Rattle.std.specs.declared.result.Result.{Result}
+use Rattle.std.specs.declared.result.Result.TheVariants.{Ok, Err}
+use Rattle.dms_block.specs.declared.block_fault.BlockFault.{BlockFault}
+use Rattle.dms_block.specs.declared.block_fault.BlockFault.TheVariants.{Disk, Memory, Full, Damaged, Say}
+
+-- it holds after each answer but a fault of the outside
+abbrev pub Unbroken : {T : Type 0} → Result T BlockFault → Type 0 → Type 0
+Unbroken (Ok x) P = P
+Unbroken (Err Memory) P = P
+Unbroken (Err Disk) P = ⊤
+Unbroken (Err (Full f)) P = ⊤
+Unbroken (Err (Damaged f b)) P = ⊤
+Unbroken (Err Say) P = ⊤

@@ -1,0 +1,46 @@
+-- Laws: where the entries and the blocks agree there is a base, and the other way round.
+use Rattle.std.specs.Prelude.{ℕ, ◌≡◌, Bool, true, false, List, [], ◌∷◌, ◌++◌, length, Some}
+use Rattle.dms_history.specs.Events.{Content, Stored, Event}
+use Rattle.dms_history.specs.Lists.{has, until_first}
+use Rattle.dms_history.specs.Places.{is_control, is_point, is_begin, IsLive}
+use Rattle.dms_history.specs.History.{Pending, history, next_number}
+use Rattle.dms_history.specs.Pick.{Dumps, blocks_at}
+use Rattle.dms_history.specs.Here.{here}
+use Rattle.dms_history.specs.Base.{opening, from_control, Sound, Opened, base_of}
+use Rattle.dms_history.specs.Agrees.{ListAgrees, EventsAgree, Numbered}
+use Rattle.dms_history.specs.Restores.{Steady}
+
+abbrev pub AgreesHasBase : Type 0
+AgreesHasBase = (first : Bool) (entries live : List Event) (next : ℕ) (counted : Stored) → has is_begin live ≡ false
+    → ListAgrees first entries live next counted → Sound (from_control live) (base_of live counted) counted
+
+abbrev pub AgreesLeadsToBase : Type 0
+AgreesLeadsToBase = (first : Bool) (entries live : List Event) (next : ℕ) (counted : Stored) → ListAgrees first entries live next counted
+    → has is_control live ≡ true → Opened (opening live) (base_of live counted) × (first ≡ true → (f : ℕ) → length (base_of live counted f) ≡ 0)
+
+-- any base will do
+abbrev pub BaseAgrees : Type 0
+BaseAgrees = (first : Bool) (entries live : List Event) (next : ℕ) (counted : Stored) (base : Content) → Sound (from_control live) base counted
+    → Opened (opening live) base → Numbered entries live next → (first ≡ true → (f : ℕ) → length (base f) ≡ 0) → ListAgrees first entries live next counted
+
+-- With its dumps, and a restore that may be pending: what agrees is steady.
+abbrev pub AgreesIsSteady : Type 0
+AgreesIsSteady = (first : Bool) (entries : List Event) (dumps : Dumps) (stored : Stored) → EventsAgree first entries dumps stored
+    → ((p : Pending) → (history entries).pending ≡ Some p → IsLive (history entries).live p.point)
+    → Steady dumps (history entries) (base_of (history entries).live (here dumps (history entries) stored)) stored
+
+abbrev pub SteadyAgrees : Type 0
+SteadyAgrees = (first : Bool) (entries : List Event) (dumps : Dumps) (stored : Stored) (base : Content) → Steady dumps (history entries) base stored
+    → Opened (opening (history entries).live) base → Numbered entries (history entries).live (next_number entries)
+    → (first ≡ true → (f : ℕ) → length (base f) ≡ 0) → EventsAgree first entries dumps stored
+
+-- Old audit files are removed from the front: what counts has a later base, and each live point whose place is not removed has its content.
+abbrev pub FrontGoes : Type 0
+FrontGoes = (xs ys : List Event) (base : Content) (here : Stored) → Sound (from_control (xs ++ ys)) base here → Opened (opening (xs ++ ys)) base → has is_control ys ≡ true
+    → (later : Content) × Sound (from_control ys) later here × Opened (opening ys) later
+    × ((n : ℕ) → IsLive ys n → has (is_point n) xs ≡ false → IsLive (xs ++ ys) n × (blocks_at ys here n ≡ blocks_at (xs ++ ys) here n))
+
+-- What stands before the first Control stays as it is, whatever follows and wherever a Begin cuts behind that Control.
+abbrev pub OpeningStays : Type 0
+OpeningStays = (live : List Event) → ((e : Event) → has is_control live ≡ true → opening (live ++ e ∷ []) ≡ opening live)
+    × ((n : ℕ) → IsLive live n → opening (until_first (is_point n) live) ≡ opening live)

@@ -1,0 +1,83 @@
+-- Laws: entries, their events, and one more entry that is sealed.
+use Rattle.std.specs.Prelude.{ℕ, ◌+◌, ◌*◌, ◌≤◌, ◌<◌, ◌≡◌, ◌≢◌, Bool, true, false, List, [], ◌∷◌, ◌++◌, length, Option, Some, None}
+use Rattle.dms_history.specs.Events.{Block, Content, Stored, How, Event, change, quiet, control, begin}
+use Rattle.dms_history.specs.Images.{last_after}
+use Rattle.dms_history.specs.History.{Pending, after_event, history, next_number}
+use Rattle.dms_history.specs.Places.{is_control, IsLive}
+use Rattle.dms_history.specs.Lists.{has}
+use Rattle.dms_history.specs.Pick.{Dumps}
+use Rattle.dms_history.specs.Here.{here}
+use Rattle.dms_history.specs.Base.{opening, Opened, base_of}
+use Rattle.dms_history.specs.Agrees.{Numbered}
+use Rattle.dms_history.specs.Restores.{Steady}
+use Rattle.dms_history.specs.Ranges.{Logged, event, patched, live_logged}
+use Rattle.dms_history.specs.LawsOfRanges.{HasImages}
+use Rattle.dms_history.specs.declared.event.FileCount.{FileCount}
+use Rattle.dms_history.specs.Entries.{Kind, Entry, schema_part, image, byte_range, quiet_point, control_point, begin_restore, counts_in, how_of, is_in_row}
+use Rattle.dms_history.specs.Schemas.{no_parts, parts_from, is_whole, schema_entries}
+use Rattle.dms_history.specs.EntryEvents.{logged, events, live_entries, ends_restore_logged, Agrees}
+
+-- The entries end with a whole Schema exactly where its parts 1 to the last stand there one directly after another.
+abbrev pub WholeSchemas : Type 0
+WholeSchemas = (entries : List Entry)
+    → ((front : List Entry) (first : List ℕ) (rest : List (List ℕ)) → entries ≡ front ++ schema_entries (first ∷ rest) → is_whole (parts_from no_parts entries) ≡ true)
+    × (is_whole (parts_from no_parts entries) ≡ true → (front : List Entry) × (first : List ℕ) × (rest : List (List ℕ)) × (entries ≡ front ++ schema_entries (first ∷ rest)))
+
+-- The live events are those of the live entries: which Controls stand directly after a whole Schema is the same in both.
+abbrev pub LiveOfEntries : Type 0
+LiveOfEntries = (entries : List Entry) → logged (live_entries entries) ≡ live_logged [] (logged entries)
+
+-- A block is in a row where its number divided by 16 is the row's, and no row names a block of another file.
+abbrev pub RowsOfBlocks : Type 0
+RowsOfBlocks = (f b k r : ℕ)
+    → (is_in_row f b (record { file = f; row = r }) ≡ true → (16 * r ≤ b) × (b < 16 * r + 16))
+    × ((16 * r ≤ b) → (b < 16 * r + 16) → is_in_row f b (record { file = f; row = r }) ≡ true)
+    × (k ≢ f → is_in_row f b (record { file = k; row = r }) ≡ false)
+
+-- ---- one more entry
+
+abbrev pub SchemaSealed : Type 0
+SchemaSealed = (entries : List Entry) (part parts : ℕ) (bytes : List ℕ) → events (entries ++ schema_part part parts bytes ∷ []) ≡ events entries
+
+abbrev pub ImageSealed : Type 0
+ImageSealed = (entries : List Entry) (f b : ℕ) (before : Option Block) (after : Block)
+    → events (entries ++ image f b before after ∷ []) ≡ events entries ++ change f b before after ∷ []
+
+-- A Range is a change of the block as it was last logged; where it wasn't, the Range is left out.
+abbrev pub RangeSealed : Type 0
+RangeSealed = (entries : List Entry) (f b place : ℕ) (bytes : List ℕ)
+    → ((old : Block) → last_after f b (history (events entries)).live ≡ Some old
+    → events (entries ++ byte_range f b place bytes ∷ []) ≡ events entries ++ change f b (Some old) (patched place bytes old) ∷ [])
+    × (last_after f b (history (events entries)).live ≡ None → events (entries ++ byte_range f b place bytes ∷ []) ≡ events entries)
+
+abbrev pub QuietSealed : Type 0
+QuietSealed = (entries : List Entry) (n : ℕ) → events (entries ++ quiet_point n ∷ []) ≡ events entries ++ quiet n ∷ []
+
+-- a whole Schema and its Control
+abbrev pub ControlSealed : Type 0
+ControlSealed = (entries : List Entry) (first : List ℕ) (rest : List (List ℕ)) (n next : ℕ) (counts : List FileCount)
+    → events (entries ++ (schema_entries (first ∷ rest) ++ control_point n next counts ∷ [])) ≡ events entries ++ control n next (counts_in counts) true ∷ []
+
+abbrev pub BeginSealed : Type 0
+BeginSealed = (entries : List Entry) (n : ℕ) (kind : Kind) → events (entries ++ begin_restore n kind ∷ []) ≡ events entries ++ begin n (how_of kind) ∷ []
+
+-- One more event is one more step of the history.
+abbrev pub OneMoreEvent : Type 0
+OneMoreEvent = (es : List Event) (e : Event) → history (es ++ e ∷ []) ≡ after_event (history es) e
+
+-- ---- agreement has a base, and back
+
+abbrev pub AgreesGivesBase : Type 0
+AgreesGivesBase = (first : Bool) (entries : List Entry) (dumps : Dumps) (stored : Stored) → Agrees first entries dumps stored
+    → ((p : Pending) → (history (events entries)).pending ≡ Some p → IsLive (history (events entries)).live p.point)
+    → Steady dumps (history (events entries)) (base_of (history (events entries)).live (here dumps (history (events entries)) stored)) stored
+    × (has is_control (history (events entries)).live ≡ true
+    → Opened (opening (history (events entries)).live) (base_of (history (events entries)).live (here dumps (history (events entries)) stored))
+    × (first ≡ true → (f : ℕ) → length (base_of (history (events entries)).live (here dumps (history (events entries)) stored) f) ≡ 0))
+
+abbrev pub BaseGivesAgrees : Type 0
+BaseGivesAgrees = (first : Bool) (entries : List Entry) (dumps : Dumps) (stored : Stored) (base : Content) → Steady dumps (history (events entries)) base stored
+    → Opened (opening (history (events entries)).live) base → Numbered (events entries) (history (events entries)).live (next_number (events entries))
+    → (first ≡ true → (f : ℕ) → length (base f) ≡ 0)
+    → ((xs ys : List Logged) (m : ℕ) (how : How) (x : Logged) → logged entries ≡ xs ++ event (begin m how) ∷ (x ∷ ys) → ends_restore_logged x ≡ true)
+    → HasImages (live_logged [] (logged entries)) → Agrees first entries dumps stored

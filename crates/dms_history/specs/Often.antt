@@ -1,0 +1,64 @@
+-- Restores one after another, each stopped anywhere or not.
+use Rattle.std.specs.Prelude.{ℕ, ◌<◌, ◌≡◌, Bool, true, List, [], ◌∷◌, length, Some}
+use Rattle.dms_history.specs.Events.{Content, Stored, Counts, How, control, begin}
+use Rattle.dms_history.specs.History.{Pending, History, after_event}
+use Rattle.dms_history.specs.Pick.{Dumps, count_at}
+use Rattle.dms_history.specs.Here.{outcome, here}
+use Rattle.dms_history.specs.Places.{IsLive}
+use Rattle.dms_history.specs.Pick.{blocks_at}
+use Rattle.dms_history.specs.Restores.{Ready, takes_stored, Steady}
+
+-- what is on the disk
+pub record Disk : Type 0 where
+  pub history : History
+  pub stored : Stored
+
+-- began how m: the Begin of a restore to point m is sealed. wrote written: the structure files hold something new.
+-- ended written m next counts described: the Control that ends the restore is sealed.
+pub data RestoreStep : Type 0 where
+  began : How → ℕ → RestoreStep
+  wrote : Stored → RestoreStep
+  ended : Stored → ℕ → ℕ → Counts → Bool → RestoreStep
+
+abbrev pub moved : Disk → RestoreStep → Disk
+moved d (began how m) = record { history = after_event d.history (begin m how); stored = d.stored }
+moved d (wrote written) = record { history = d.history; stored = written }
+moved d (ended written m next counts described) = record { history = after_event d.history (control m next counts described); stored = written }
+
+abbrev pub all_moved : Disk → List RestoreStep → Disk
+all_moved d [] = d
+all_moved d (s ∷ ss) = all_moved (moved d s) ss
+
+-- A restore is begun where it may be, over a pending one too; it writes blocks, torn or whole; it ends when all stand as they are to be.
+abbrev pub May : Dumps → Content → Disk → RestoreStep → Type 0
+May dumps base d (began how m) = Ready how dumps d.history.live base (here dumps d.history d.stored) d.stored m
+May dumps base d (wrote written) = (p : Pending) × (d.history.pending ≡ Some p)
+    × ((f b : ℕ) → b < count_at p.entries p.point f → takes_stored p.how p.entries p.point f b ≡ true → written f b ≡ d.stored f b)
+May dumps base d (ended written m next counts described) = (p : Pending) × (d.history.pending ≡ Some p) × (m ≡ p.point)
+    × ((f : ℕ) → counts f ≡ length (outcome p.how dumps p.entries p.point d.stored f))
+    × ((f b : ℕ) → b < counts f → written f b ≡ here dumps d.history d.stored f b)
+
+abbrev pub AllMay : Dumps → Content → Disk → List RestoreStep → Type 0
+AllMay dumps base d [] = Unit {0}
+AllMay dumps base d (s ∷ ss) = May dumps base d s × AllMay dumps base (moved d s) ss
+
+-- the content at a point, a restore pending or not
+abbrev pub content_at : Dumps → Disk → ℕ → Content
+content_at dumps d n = blocks_at d.history.live (here dumps d.history d.stored) n
+
+-- Law: each point that is live in the end was live at the start, with the same content.
+abbrev pub HoweverOften : Type 0
+HoweverOften = (dumps : Dumps) (base : Content) (d : Disk) (steps : List RestoreStep) → Steady dumps d.history base d.stored → AllMay dumps base d steps
+    → Steady dumps (all_moved d steps).history base (all_moved d steps).stored
+    × ((n : ℕ) → IsLive (all_moved d steps).history.live n → IsLive d.history.live n × (content_at dumps (all_moved d steps) n ≡ content_at dumps d n))
+
+abbrev pub begun : How → History → ℕ → Stored → Disk
+begun how h m stored = record { history = after_event h (begin m how); stored = stored }
+
+-- Law: a restore is begun over blocks that may hold anything where its rule doesn't look, and whatever follows,
+-- each point that is live in the end has the content that it had before.
+abbrev pub FromAnything : Type 0
+FromAnything = (how : How) (dumps : Dumps) (h : History) (base : Content) (counted stored : Stored) (m : ℕ) (steps : List RestoreStep) → Ready how dumps h.live base counted stored m
+    → AllMay dumps base (begun how h m stored) steps
+    → (n : ℕ) → IsLive (all_moved (begun how h m stored) steps).history.live n
+    → IsLive h.live n × (content_at dumps (all_moved (begun how h m stored) steps) n ≡ blocks_at h.live counted n)

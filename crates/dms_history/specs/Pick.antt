@@ -1,0 +1,61 @@
+-- A block at a point, by the audit or by a dump.
+use Rattle.std.specs.Prelude.{ℕ, ◌+◌, ◌==◌, max, if◌then◌else◌, List, [], ◌∷◌, map, Some, None}
+use Rattle.std.specs.List.{range_with_len}
+use Rattle.dms_history.specs.Events.{Content, Stored, Counts, Event, change, quiet, control, begin, block_in}
+use Rattle.dms_history.specs.Lists.{until_first, after_first, after_last}
+use Rattle.dms_history.specs.Places.{is_control, is_point}
+use Rattle.dms_history.specs.Images.{last_after, value, choice}
+
+-- the counts of the last Control
+abbrev pub last_counts : Counts → List Event → Counts
+last_counts k [] = k
+last_counts k (change f b before after ∷ es) = last_counts k es
+last_counts k (quiet n ∷ es) = last_counts k es
+last_counts k (control n next counts described ∷ es) = last_counts counts es
+last_counts k (begin n how ∷ es) = last_counts k es
+
+-- a count, raised to b + 1 by each change of a new block b of the file; it never falls
+abbrev pub raised_count : ℕ → List Event → ℕ → ℕ
+raised_count f [] k = k
+raised_count f (change g b None after ∷ es) k = raised_count f es (if g == f then max k (b + 1) else k)
+raised_count f (change g b (Some before) after ∷ es) k = raised_count f es k
+raised_count f (quiet n ∷ es) k = raised_count f es k
+raised_count f (control n next counts described ∷ es) k = raised_count f es k
+raised_count f (begin n how ∷ es) k = raised_count f es k
+
+-- The count of a file at point n: that of the last Control at or before the place of n, raised by each new block between the two.
+unfoldable pub count_at : List Event → ℕ → Counts
+count_at live n f =
+    let before = until_first (is_point n) live in
+    raised_count f (after_last is_control before) (last_counts (λ _. 0) before f)
+
+-- A block at point n by the audit: the last after-image between the last Control at or before the place of n and that place;
+-- else the before-image of the first change after the place; else what is stored.
+unfoldable pub pick : List Event → ℕ → Stored → Stored
+pick live n stored =
+    choice (after_last is_control (until_first (is_point n) live)) (after_first (is_point n) live) stored
+
+-- a dump: its point, and all blocks of all files
+pub record Dump : Type 0 where
+  pub point : ℕ
+  pub blocks : Content
+
+-- the dumps that are present, by number
+abbrev pub Dumps : Type 0
+Dumps = ℕ → Dump
+
+-- the entries between the places of points p and n
+abbrev pub between : ℕ → ℕ → List Event → List Event
+between p n live = after_first (is_point p) (until_first (is_point n) live)
+
+-- A block at point n by a dump: the last after-image between the place of the dump's point and the place of n, else the dump's block.
+unfoldable pub dump_pick : List Event → Dump → ℕ → Stored
+dump_pick live dump n f b = value (last_after f b (between dump.point n live)) None (block_in dump.blocks f b)
+
+-- the content that has so many blocks of each file
+unfoldable pub content_of : Counts → Stored → Content
+content_of counts blocks f = map (blocks f) (range_with_len 0 (counts f))
+
+-- The content at point n. A block not below its file's count there isn't there.
+unfoldable pub blocks_at : List Event → Stored → ℕ → Content
+blocks_at live here n = content_of (count_at live n) (pick live n here)

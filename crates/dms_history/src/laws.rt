@@ -1,0 +1,108 @@
+//! Laws of the definitions. Each stands on a function with an empty body, so that the check proves it.
+
+ghost use Rattle.dms_history.specs.LawsOfPoints.{ChoiceGivesContent, EachPoint, EachLivePoint, OpeningNeverCounts};
+ghost use Rattle.dms_history.specs.LawsOfBase.{AgreesHasBase, AgreesLeadsToBase, BaseAgrees, AgreesIsSteady, SteadyAgrees, OpeningStays, FrontGoes};
+ghost use Rattle.dms_history.specs.LawsOfRunning.{Changes, Quiets, WritesEarly, Controls, RunsSteady};
+ghost use Rattle.dms_history.specs.LawsOfRestores.{RestoreBegins, RestoreWrites, RestoreEnds, PendingEndsFirst, PendingWritesFirst};
+ghost use Rattle.dms_history.specs.Often.{HoweverOften, FromAnything};
+ghost use Rattle.dms_history.specs.Numbers.{RollsBack, LastPoints, NextStays, UsedOnce, NumbersChange, NumbersQuiet, NumbersBegin, NumbersControl, NumbersFirst, TrueDumpServes};
+ghost use Rattle.dms_history.specs.LawsOfEntries.{WholeSchemas, LiveOfEntries, RowsOfBlocks, SchemaSealed, ImageSealed, RangeSealed, QuietSealed, ControlSealed, BeginSealed, OneMoreEvent, AgreesGivesBase, BaseGivesAgrees};
+ghost use Rattle.dms_history.specs.LawsOfRanges.{NoRanges, LiveOfRanges, LeftOut, RangeChanges, RangesSteady, RangesSplit, ImagesGoOn, RangeFits};
+
+/// Each live point has exactly the content that the entries up to its place give: changes before it are redone, changes after it undone.
+pub fn points_have_content()
+    ensures choice { ChoiceGivesContent }
+    ensures points { EachPoint }
+    ensures live_points { EachLivePoint }
+    ensures opening { OpeningNeverCounts }
+{}
+
+/// Where the entries and the blocks agree, the entries tell how all blocks came from a base; and where they do, the two agree.
+pub fn agrees_has_base()
+    ensures base { AgreesHasBase }
+    ensures opening { AgreesLeadsToBase }
+    ensures agrees { BaseAgrees }
+{}
+
+/// What agrees is steady, with its dumps and a restore that may be pending, and the other way round. Where none is pending, entries may be removed from the
+/// front of the list of live entries.
+pub fn stays_steady()
+    ensures steady { AgreesIsSteady }
+    ensures agrees { SteadyAgrees }
+    ensures opening { OpeningStays }
+    ensures front { FrontGoes }
+{}
+
+/// A database that runs keeps steady over a change, a quiet point, an early write and a control point.
+pub fn running_keeps()
+    ensures changes { Changes }
+    ensures quiets { Quiets }
+    ensures writes_early { WritesEarly }
+    ensures controls { Controls }
+    ensures steady { RunsSteady }
+{}
+
+/// A restore of any kind keeps the chosen point and each point that stays live, at its Begin, at each of its writes and at its end.
+pub fn restores_keep()
+    ensures begins { RestoreBegins }
+    ensures writes { RestoreWrites }
+    ensures ends { RestoreEnds }
+    ensures ends_first { PendingEndsFirst }
+    ensures writes_first { PendingWritesFirst }
+{}
+
+/// However often restores are stopped and begun anew, each point that is live in the end has the content that it had.
+pub fn however_often()
+    ensures often { HoweverOften }
+    ensures anything { FromAnything }
+{}
+
+/// Behind a restore no later point is live, the next number never falls, and no number is used twice.
+pub fn keeps_numbers()
+    ensures rolls_back { RollsBack }
+    ensures last_points { LastPoints }
+    ensures next_stays { NextStays }
+    ensures used_once { UsedOnce }
+    ensures change { NumbersChange }
+    ensures quiet { NumbersQuiet }
+    ensures begin { NumbersBegin }
+    ensures control { NumbersControl }
+    ensures first { NumbersFirst }
+    ensures dump { TrueDumpServes }
+{}
+
+/// Entries with Ranges are a list of changes with whole images.
+pub fn ranges_are_changes()
+    ensures plain { NoRanges }
+    ensures live { LiveOfRanges }
+    ensures left_out { LeftOut }
+    ensures changes { RangeChanges }
+    ensures steady { RangesSteady }
+    ensures splits { RangesSplit }
+    ensures goes_on { ImagesGoOn }
+    ensures fits { RangeFits }
+{}
+
+/// A whole Schema is its parts 1 to the last, one directly after another; the live events are those of the live entries; a row is 16 blocks.
+pub fn entries_are_read()
+    ensures schemas { WholeSchemas }
+    ensures live { LiveOfEntries }
+    ensures rows { RowsOfBlocks }
+{}
+
+/// One more entry that is sealed is one more event: an Image a change, a Range a change with whole images, a Control after its whole Schema a described one.
+pub fn entries_are_sealed()
+    ensures schema { SchemaSealed }
+    ensures image { ImageSealed }
+    ensures range { RangeSealed }
+    ensures quiet { QuietSealed }
+    ensures control { ControlSealed }
+    ensures begin { BeginSealed }
+    ensures event { OneMoreEvent }
+{}
+
+/// Where the entries agree with the dumps and blocks there is a base and the database is steady, and the other way round.
+pub fn agreement_is_steady()
+    ensures base { AgreesGivesBase }
+    ensures agrees { BaseGivesAgrees }
+{}

@@ -1,0 +1,95 @@
+-- How the logic stores a description: so an equation of two has one proof, and a ghost field may say it.
+-- A condition is stored as the list of its parts, each operand before what joins it.
+use Rattle.std.specs.Prelude.{ℕ, zero, suc, ◌≡◌, ◌⊎◌, refl, List, Bool, [], ◌∷◌, ◌++◌}
+use Rattle.std.specs.Coded.{Coded, Coded-set, code_by, coded×, coded_ℕ, coded_bool, coded_list, coded⊎}
+use Rattle.std.proofs.Common.{ap, ◌∙◌, inl, inr}
+use Rattle.dms_base.specs.declared.op.Op.{Op}
+use Rattle.dms_base.specs.declared.value.Value.{Value}
+use Rattle.dms_base.specs.contracts.op.Op as op_row
+use Rattle.dms_base.specs.contracts.value.Value as value_row
+use Rattle.dms_desc.specs.contracts.structure.Item as item_row
+use Rattle.dms_desc.specs.contracts.structure.Group as group_row
+use Rattle.dms_desc.specs.contracts.structure.KeyPart as part_row
+use Rattle.dms_desc.specs.declared.structure.Item.{Item}
+use Rattle.dms_desc.specs.declared.structure.Group.{Group}
+use Rattle.dms_desc.specs.declared.structure.KeyPart.{KeyPart}
+use Rattle.dms_desc.specs.Shape.{Tree, Shape, Described}
+use Rattle.dms_desc.specs.Shape.Tree.{Empty, Test, Both, Either, Contrary}
+
+-- a comparison, or 0 for none, 1 for AND, 2 for OR, 3 for NOT
+abbrev pub Part : Type 0
+Part = (ℕ × (Op × Value)) ⊎ ℕ
+
+abbrev pub parts : Tree → List Part
+parts Empty = inr 0 ∷ []
+parts (Test item op value) = inl (item, (op, value)) ∷ []
+parts (Both a b) = parts a ++ (parts b ++ inr 1 ∷ [])
+parts (Either a b) = parts a ++ (parts b ++ inr 2 ∷ [])
+parts (Contrary a) = parts a ++ inr 3 ∷ []
+
+-- a part takes its operands, the last one first
+abbrev pub taken : Part → List Tree → List Tree
+taken (inl c) ts = Test c.0 c.1.0 c.1.1 ∷ ts
+taken (inr zero) ts = Empty ∷ ts
+taken (inr (suc zero)) (b ∷ a ∷ ts) = Both a b ∷ ts
+taken (inr (suc (suc zero))) (b ∷ a ∷ ts) = Either a b ∷ ts
+taken (inr (suc (suc (suc n)))) (a ∷ ts) = Contrary a ∷ ts
+taken (inr n) ts = ts
+
+abbrev pub built : List Part → List Tree → List Tree
+built [] ts = ts
+built (p ∷ ps) ts = built ps (taken p ts)
+
+abbrev pub first_tree : List Tree → Tree
+first_tree [] = Empty
+first_tree (t ∷ ts) = t
+
+built-append : (ps qs : List Part) (ts : List Tree) → built (ps ++ qs) ts ≡ built qs (built ps ts)
+built-append [] qs ts = refl
+built-append (p ∷ ps) qs ts = built-append ps qs (taken p ts)
+
+built-parts : (t : Tree) (ts : List Tree) → built (parts t) ts ≡ t ∷ ts
+built-parts Empty ts = refl
+built-parts (Test item op value) ts = refl
+built-parts (Both a b) ts =
+    built-append (parts a) (parts b ++ inr 1 ∷ []) ts
+    ∙ ap (λ (us : List Tree). built (parts b ++ inr 1 ∷ []) us) (built-parts a ts)
+    ∙ built-append (parts b) (inr 1 ∷ []) (a ∷ ts)
+    ∙ ap (λ (us : List Tree). built (inr 1 ∷ []) us) (built-parts b (a ∷ ts))
+built-parts (Either a b) ts =
+    built-append (parts a) (parts b ++ inr 2 ∷ []) ts
+    ∙ ap (λ (us : List Tree). built (parts b ++ inr 2 ∷ []) us) (built-parts a ts)
+    ∙ built-append (parts b) (inr 2 ∷ []) (a ∷ ts)
+    ∙ ap (λ (us : List Tree). built (inr 2 ∷ []) us) (built-parts b (a ∷ ts))
+built-parts (Contrary a) ts =
+    built-append (parts a) (inr 3 ∷ []) ts
+    ∙ ap (λ (us : List Tree). built (inr 3 ∷ []) us) (built-parts a ts)
+
+pub tree_again : (t : Tree) → first_tree (built (parts t) []) ≡ t
+tree_again t = ap first_tree (built-parts t [])
+
+abbrev pub tree_code : Coded Tree
+tree_code = code_by (List Part) (coded_list (coded⊎ (coded× coded_ℕ (coded× op_row.the_row.coded value_row.the_row.coded)) coded_ℕ)) parts (λ ps. first_tree (built ps [])) tree_again
+
+abbrev numbers : Coded (ℕ × (ℕ × (ℕ × (ℕ × ℕ))))
+numbers = coded× coded_ℕ (coded× coded_ℕ (coded× coded_ℕ (coded× coded_ℕ coded_ℕ)))
+
+abbrev lists : Coded (List ℕ × (List Item × (List Group × (List KeyPart × (Tree × (ℕ × Bool))))))
+lists = coded× (coded_list coded_ℕ) (coded× (coded_list item_row.the_row.coded) (coded× (coded_list group_row.the_row.coded) (coded× (coded_list part_row.the_row.coded) (coded× tree_code (coded× coded_ℕ coded_bool)))))
+
+abbrev pub shape_code : Coded Shape
+shape_code = code_by ((ℕ × (ℕ × (ℕ × (ℕ × ℕ)))) × (List ℕ × (List Item × (List Group × (List KeyPart × (Tree × (ℕ × Bool)))))))
+    (coded× numbers lists)
+    (λ s. ((s.number, (s.kind, (s.owner, (s.population, s.set)))), (s.name, (s.items, (s.groups, (s.parts, (s.cond, (s.form, s.duplicates))))))))
+    (λ p. record { number = p.0.0; kind = p.0.1.0; owner = p.0.1.1.0; population = p.0.1.1.1.0; set = p.0.1.1.1.1; name = p.1.0; items = p.1.1.0; groups = p.1.1.1.0; parts = p.1.1.1.1.0; cond = p.1.1.1.1.1.0; form = p.1.1.1.1.1.1.0; duplicates = p.1.1.1.1.1.1.1 })
+    (λ _. refl)
+
+abbrev pub described_code : Coded Described
+described_code = code_by ((ℕ × (ℕ × (ℕ × (ℕ × ℕ)))) × List Shape) (coded× numbers (coded_list shape_code))
+    (λ d. ((d.syncpoint, (d.controlpoint, (d.buffers, (d.blocks, d.files)))), d.structures))
+    (λ p. record { syncpoint = p.0.0; controlpoint = p.0.1.0; buffers = p.0.1.1.0; blocks = p.0.1.1.1.0; files = p.0.1.1.1.1; structures = p.1 })
+    (λ _. refl)
+
+-- an equation of two descriptions has one proof
+pub described_set : (x y : Described) → IsProp (x ≡ y)
+described_set x y = Coded-set described_code x y

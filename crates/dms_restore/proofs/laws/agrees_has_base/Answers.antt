@@ -1,6 +1,0 @@
-use Rattle.dms_restore.proofs.Base.{agrees_has_base}
-use Rattle.dms_restore.proofs.Converse.{agrees_leads, base_agrees}
-use Rattle.dms_restore.proofs.laws.agrees_has_base.Goals as goal
-
-pub returns : goal.returns
-returns c = record { base = agrees_has_base; opening = agrees_leads; agrees = base_agrees }

@@ -1,5 +1,0 @@
-use Rattle.dms_restore.proofs.Again.{however_often, from_anything}
-use Rattle.dms_restore.proofs.laws.however_often.Goals as goal
-
-pub returns : goal.returns
-returns c = record { often = however_often; anything = from_anything }

@@ -1,6 +1,0 @@
-use Rattle.dms_restore.proofs.Again.{runs_steady}
-use Rattle.dms_restore.proofs.Runs.{changes, quiets, writes_early, controls}
-use Rattle.dms_restore.proofs.laws.running_keeps.Goals as goal
-
-pub returns : goal.returns
-returns c = record { changes = changes; quiets = quiets; writes_early = writes_early; controls = controls; steady = runs_steady }
