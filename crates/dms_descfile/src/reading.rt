@@ -60,6 +60,8 @@ fn file_bytes<S: Site>(alloc: Global, site: &mut S) -> Result<Option<Vec<u8>>, F
     ensures moments { Steps Same (S.clock site.old) (S.clock site.new) }
     ensures later { S.disk_faults site.old ≤ S.disk_faults site.new }
     ensures disk { IsErrOf result FileFault.Disk → Rose (S.disk_faults site.old) (S.disk_faults site.new) }
+    ensures once { S.disk_faults site.new ≤ S.disk_faults site.old + 1 }
+    ensures clean { (IsErrOf result FileFault.Disk → ⊥) → S.disk_faults site.new ≡ S.disk_faults site.old }
     ensures say_faults { S.say_faults site.new ≡ S.say_faults site.old }
 {
     let length = match site.length(DESCRIPTION_FILE) {
@@ -93,6 +95,8 @@ pub fn read_description<S: Site>(
     ensures moments { Steps Same (S.clock site.old) (S.clock site.new) }
     ensures later { S.disk_faults site.old ≤ S.disk_faults site.new }
     ensures disk { IsErrOf result FileFault.Disk → Rose (S.disk_faults site.old) (S.disk_faults site.new) }
+    ensures once { S.disk_faults site.new ≤ S.disk_faults site.old + 1 }
+    ensures clean { (IsErrOf result FileFault.Disk → ⊥) → S.disk_faults site.new ≡ S.disk_faults site.old }
     ensures say_faults { S.say_faults site.new ≡ S.say_faults site.old }
 {
     match file_bytes(alloc, site) {

@@ -105,6 +105,8 @@ pub fn seal_description<S: Site>(alloc: Global, site: &mut S, bytes: &[u8]) -> R
     ensures same_site { S.same_site site.old site.new }
     ensures later { S.disk_faults site.old ≤ S.disk_faults site.new }
     ensures disk { IsErrOf result FileFault.Disk → Rose (S.disk_faults site.old) (S.disk_faults site.new) }
+    ensures once { S.disk_faults site.new ≤ S.disk_faults site.old + 1 }
+    ensures clean { (IsErrOf result FileFault.Disk → ⊥) → S.disk_faults site.new ≡ S.disk_faults site.old }
     ensures say_faults { S.say_faults site.new ≡ S.say_faults site.old }
 {
     let rest = match behind_gates(alloc, bytes) {

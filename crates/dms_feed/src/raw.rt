@@ -86,6 +86,8 @@ pub fn next_raw<I: Source>(
     ensures same { I.same_source source.old source.new }
     ensures later { I.faults source.old ≤ I.faults source.new }
     ensures input { IsErrOf result RawFault.Input → Rose (I.faults source.old) (I.faults source.new) }
+    ensures once { I.faults source.new ≤ I.faults source.old + 1 }
+    ensures clean { (IsErrOf result RawFault.Input → ⊥) → I.faults source.new ≡ I.faults source.old }
 {
     let mut kept = Bytes::new(alloc);
     for turn in 0..room + 1 {

@@ -1,5 +1,6 @@
 pub mod Crashes
 pub mod Draws
+pub mod Keeps
 pub mod Kept
 pub mod Laid
 pub mod Placed

@@ -4,3 +4,4 @@ pub mod Events
 pub mod Replay
 pub mod Picks
 pub mod Honest
+pub mod Keeping

@@ -1,8 +1,7 @@
-ghost use Rattle.dms_sitemem.specs.declared.event.Event.TheVariants.{Looked, Wrote, Synced};
-ghost use Rattle.std.specs.declared.alloc.Global.{Global as global};
-ghost use Rattle.std.specs.Prelude.{◌≡◌, ◌+◌, ℕ, List, [], ◌∷◌, Vec, ◌++◌, not, length, take, OnOk, OnErr, IfOk, IsTrue};
+ghost use Rattle.std.specs.Prelude.{◌≡◌, ◌+◌, ℕ, List, ◌++◌, not, length, take, OnOk, OnErr, IfOk, IsTrue};
 ghost use Rattle.dms_moments.specs.Moments.{Steps};
 ghost use Rattle.dms_site.specs.Files.{with_file, overlaid, InFile, Torn, Cut, OnDisk, Prints, Same, Only};
+ghost use Rattle.dms_sitemem.specs.Keeping.{Kept, IsLook, IsWrite, IsCut, IsSync, IsSaying};
 ghost use Rattle.dms_sitemem.specs.Slots.{files_of};
 ghost use Rattle.dms_sitemem.specs.Plans.{is_named};
 ghost use Rattle.dms_sitemem.specs.Replay.{clock_of};
@@ -25,7 +24,7 @@ impl Journal {
         ensures files { files_of self.new.image.files ≡ files_of self.old.image.files }
         ensures said { self.new.image.said.items ≡ self.old.image.said.items }
         ensures moments { Steps Same (clock_of self.old.events.items) (clock_of self.new.events.items) }
-        ensures kept { IfOk result (λ done. self.new.events.items ≡ self.old.events.items ++ Looked done ∷ []) }
+        ensures kept { Kept IsLook self.old.events.items self.new.events.items result }
         ensures made { OnOk result (self.new.made ≡ self.old.made + 1) }
         ensures unmade { OnErr result (self.new.made ≡ self.old.made) }
         ensures plan { self.new.plan ≡ self.old.plan }
@@ -42,7 +41,7 @@ impl Journal {
         ensures torn { InFile file (Torn at (length bytes.now)) (files_of self.old.image.files) (files_of self.new.image.files) }
         ensures said { self.new.image.said.items ≡ self.old.image.said.items }
         ensures moments { Steps (OnDisk file (Torn at (length bytes.now))) (clock_of self.old.events.items) (clock_of self.new.events.items) }
-        ensures kept { IfOk result (λ done. (v : Vec ℕ global) × (v.items ≡ bytes.now) × (self.new.events.items ≡ self.old.events.items ++ Wrote file at v done ∷ [])) }
+        ensures kept { Kept (IsWrite file at bytes.now) self.old.events.items self.new.events.items result }
         ensures made { OnOk result (self.new.made ≡ self.old.made + 1) }
         ensures unmade { OnErr result (self.new.made ≡ self.old.made) }
         ensures plan { self.new.plan ≡ self.old.plan }
@@ -60,6 +59,7 @@ impl Journal {
         ensures torn { InFile file (Cut len) (files_of self.old.image.files) (files_of self.new.image.files) }
         ensures said { self.new.image.said.items ≡ self.old.image.said.items }
         ensures moments { Steps (OnDisk file (Cut len)) (clock_of self.old.events.items) (clock_of self.new.events.items) }
+        ensures kept { Kept (IsCut file len) self.old.events.items self.new.events.items result }
         ensures made { OnOk result (self.new.made ≡ self.old.made + 1) }
         ensures unmade { OnErr result (self.new.made ≡ self.old.made) }
         ensures plan { self.new.plan ≡ self.old.plan }
@@ -76,7 +76,7 @@ impl Journal {
         ensures files { files_of self.new.image.files ≡ files_of self.old.image.files }
         ensures said { self.new.image.said.items ≡ self.old.image.said.items }
         ensures moments { Steps Same (clock_of self.old.events.items) (clock_of self.new.events.items) }
-        ensures kept { IfOk result (λ done. self.new.events.items ≡ self.old.events.items ++ Synced done ∷ []) }
+        ensures kept { Kept IsSync self.old.events.items self.new.events.items result }
         ensures made { OnOk result (self.new.made ≡ self.old.made + 1) }
         ensures unmade { OnErr result (self.new.made ≡ self.old.made) }
         ensures plan { self.new.plan ≡ self.old.plan }
@@ -93,6 +93,7 @@ impl Journal {
         ensures some_said { (k : ℕ) × (self.new.image.said.items ≡ self.old.image.said.items ++ take k bytes.now) }
         ensures files { files_of self.new.image.files ≡ files_of self.old.image.files }
         ensures moments { Steps (Prints bytes.now) (clock_of self.old.events.items) (clock_of self.new.events.items) }
+        ensures kept { Kept (IsSaying bytes.now) self.old.events.items self.new.events.items result }
         ensures made { OnOk result (self.new.made ≡ self.old.made + 1) }
         ensures unmade { OnErr result (self.new.made ≡ self.old.made) }
         ensures plan { self.new.plan ≡ self.old.plan }

@@ -2,6 +2,7 @@ ghost use Rattle.std.specs.Prelude.{◌≡◌, ◌+◌, ◌-◌, ◌^◌, ◌<�
 ghost use Rattle.dms_base.specs.Causes.{HasCause};
 ghost use Rattle.dms_moments.specs.Moments.{Steps};
 ghost use Rattle.dms_site.specs.Files.{Left, with_file, range, overlaid, InFile, Torn, Cut, OnDisk, Prints, Same, Only, IsLastPresent};
+ghost use Rattle.dms_sitemem.specs.Keeping.{KeptCall, IsLook, IsWrite, IsCut, IsSync, IsSaying};
 ghost use Rattle.dms_sitemem.specs.Slots.{files_of};
 ghost use Rattle.dms_sitemem.specs.Plans.{Ends};
 ghost use Rattle.dms_sitemem.specs.Events.{through};
@@ -169,6 +170,7 @@ impl Site for MemSite {
         ensures moments { Steps Same (clock_of self.old.journal.events.items) (clock_of self.new.journal.events.items) }
         ensures faults { HasCause self.old.tally.disk_faults self.new.tally.disk_faults result }
         ensures say_faults { self.new.tally.say_faults ≡ self.old.tally.say_faults }
+        ensures kept { KeptCall IsLook self.old.journal.events.items self.new.journal.events.items result }
         ensures ends { Ends self.old.journal.plan self.old.journal.made self.new.journal.made self.old.tally.refused self.new.tally.refused result }
         ensures plan { self.new.journal.plan ≡ self.old.journal.plan }
         ensures given { self.new.tally.given ≡ self.old.tally.given }
@@ -187,6 +189,7 @@ impl Site for MemSite {
         ensures moments { Steps Same (clock_of self.old.journal.events.items) (clock_of self.new.journal.events.items) }
         ensures faults { HasCause self.old.tally.disk_faults self.new.tally.disk_faults result }
         ensures say_faults { self.new.tally.say_faults ≡ self.old.tally.say_faults }
+        ensures kept { KeptCall IsLook self.old.journal.events.items self.new.journal.events.items result }
         ensures ends { Ends self.old.journal.plan self.old.journal.made self.new.journal.made self.old.tally.refused self.new.tally.refused result }
         ensures plan { self.new.journal.plan ≡ self.old.journal.plan }
         ensures given { self.new.tally.given ≡ self.old.tally.given }
@@ -207,6 +210,7 @@ impl Site for MemSite {
         ensures moments { Steps Same (clock_of self.old.journal.events.items) (clock_of self.new.journal.events.items) }
         ensures faults { HasCause self.old.tally.disk_faults self.new.tally.disk_faults result }
         ensures say_faults { self.new.tally.say_faults ≡ self.old.tally.say_faults }
+        ensures kept { KeptCall IsLook self.old.journal.events.items self.new.journal.events.items result }
         ensures ends { Ends self.old.journal.plan self.old.journal.made self.new.journal.made self.old.tally.refused self.new.tally.refused result }
         ensures plan { self.new.journal.plan ≡ self.old.journal.plan }
         ensures given { IfOk result (λ n. self.new.tally.given ≡ (if nat_lt 30000 file then min (self.old.tally.given + n) (2 ^ 64 - 1) else self.old.tally.given)) }
@@ -228,6 +232,7 @@ impl Site for MemSite {
         ensures moments { Steps (OnDisk file (Torn at (length bytes.now))) (clock_of self.old.journal.events.items) (clock_of self.new.journal.events.items) }
         ensures faults { HasCause self.old.tally.disk_faults self.new.tally.disk_faults result }
         ensures say_faults { self.new.tally.say_faults ≡ self.old.tally.say_faults }
+        ensures kept { KeptCall (IsWrite file at bytes.now) self.old.journal.events.items self.new.journal.events.items result }
         ensures ends { Ends self.old.journal.plan self.old.journal.made self.new.journal.made self.old.tally.refused self.new.tally.refused result }
         ensures plan { self.new.journal.plan ≡ self.old.journal.plan }
         ensures given { self.new.tally.given ≡ self.old.tally.given }
@@ -244,6 +249,7 @@ impl Site for MemSite {
         ensures moments { Steps (OnDisk file (Cut len)) (clock_of self.old.journal.events.items) (clock_of self.new.journal.events.items) }
         ensures faults { HasCause self.old.tally.disk_faults self.new.tally.disk_faults result }
         ensures say_faults { self.new.tally.say_faults ≡ self.old.tally.say_faults }
+        ensures kept { KeptCall (IsCut file len) self.old.journal.events.items self.new.journal.events.items result }
         ensures ends { Ends self.old.journal.plan self.old.journal.made self.new.journal.made self.old.tally.refused self.new.tally.refused result }
         ensures plan { self.new.journal.plan ≡ self.old.journal.plan }
         ensures given { self.new.tally.given ≡ self.old.tally.given }
@@ -260,6 +266,7 @@ impl Site for MemSite {
         ensures moments { Steps Same (clock_of self.old.journal.events.items) (clock_of self.new.journal.events.items) }
         ensures faults { HasCause self.old.tally.disk_faults self.new.tally.disk_faults result }
         ensures say_faults { self.new.tally.say_faults ≡ self.old.tally.say_faults }
+        ensures kept { KeptCall IsSync self.old.journal.events.items self.new.journal.events.items result }
         ensures ends { Ends self.old.journal.plan self.old.journal.made self.new.journal.made self.old.tally.refused self.new.tally.refused result }
         ensures plan { self.new.journal.plan ≡ self.old.journal.plan }
         ensures given { self.new.tally.given ≡ self.old.tally.given }
@@ -276,6 +283,7 @@ impl Site for MemSite {
         ensures moments { Steps (Prints bytes.now) (clock_of self.old.journal.events.items) (clock_of self.new.journal.events.items) }
         ensures faults { HasCause self.old.tally.say_faults self.new.tally.say_faults result }
         ensures disk_faults { self.new.tally.disk_faults ≡ self.old.tally.disk_faults }
+        ensures kept { KeptCall (IsSaying bytes.now) self.old.journal.events.items self.new.journal.events.items result }
         ensures ends { Ends self.old.journal.plan self.old.journal.made self.new.journal.made self.old.tally.refused self.new.tally.refused result }
         ensures plan { self.new.journal.plan ≡ self.old.journal.plan }
         ensures given { self.new.tally.given ≡ self.old.tally.given }

@@ -28,7 +28,7 @@ returns-then-byte-eq10-clause-line g c = λ all remains.
 pub loop-turn-preserved : goal.loop-turn-preserved
 loop-turn-preserved g c = record {
   same = g.met.I.Source.same_then _ _ _ c.loop-turn.invariant.same c.next.ensures.same;
-  later = omega (arith, c.loop-turn.invariant.later, c.next.ensures.cause.later);
+  clean = c.in-Ok-Some.ensures.cause.clean ∙ c.loop-turn.invariant.clean;
   reads = λ all remains.
       let kept = c.loop-turn.invariant.reads all remains in
       let fed = (rw c.in-Ok-Some.field-0-is at c.in-Ok-Some.ensures.byte) kept.0 kept.1 in

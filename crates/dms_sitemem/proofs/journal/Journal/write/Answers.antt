@@ -1,4 +1,4 @@
-use Rattle.std.proofs.Common.{◌≡◌, subst, sym, length, rules}
+use Rattle.std.proofs.Common.{◌≡◌, refl, subst, sym, length, rules}
 use Rattle.dms_site.specs.Files.{Files, InFile, Torn}
 use Rattle.dms_site.specs.Laws.{in_file_same, torn_refl}
 use Rattle.dms_sitemem.specs.Slots.{files_of}
@@ -23,4 +23,4 @@ returns-clause-moments c =
 pub returns-clause-kept : goal.returns-clause-kept
 returns-clause-kept c =
     let same : c.in_ok-kept.kept.items ≡ c.args.bytes.now = search rules in
-    (c.in_ok-kept.kept, same, c.in_ok-keep.ensures.kept)
+    (_, (c.in_ok-kept.kept, same, refl), c.in_ok-keep.ensures.kept)
