@@ -1,6 +1,6 @@
 -- What a stop may leave, by a clock that counts moments.
 -- An outcome, of type X, is all that one stop leaves. For files it is the files and the text that was printed.
-use Rattle.std.specs.Prelude.{ℕ, ◌≤◌, ◌⊎◌}
+use Rattle.std.specs.Prelude.{ℕ, ◌≤◌, ◌≡◌, ◌⊎◌}
 
 -- the number of this moment, and what a stop at some moment since a given one may leave
 pub record Clock (X : Type 0) : Type 1 where
@@ -27,3 +27,11 @@ After {X} clock step x = (y : X) × Now clock y × step y x
 pub record Steps {X : Type 0} (step : X → X → Type 0) (old new : Clock X) : Type 0 where
   pub follows : (x : X) → Now new x → After old step x
   pub runs : Runs old new (After old step)
+
+-- The clock of a layer above: a stop leaves y where it leaves an outcome x below that is seen as y.
+abbrev pub seen_by : {X Y : Type 0} → (X → Y → Type 0) → Clock X → Clock Y
+seen_by {X} sees clock = record { now = clock.now; left = λ t y. (x : X) × clock.left t x × sees x y }
+
+-- the same where each outcome is seen as one value
+abbrev pub seen_as : {X Y : Type 0} → (X → Y) → Clock X → Clock Y
+seen_as f clock = seen_by (λ x y. y ≡ f x) clock

@@ -1,5 +1,5 @@
 -- Files by number, what the calls of a site do to them, and what a stop may leave of them.
-use Rattle.std.specs.Prelude.{ℕ, ◌+◌, ◌-◌, ◌<◌, ◌≤◌, max, ◌≡◌, ◌≢◌, ◌⊎◌, ◌==◌, if◌then◌else◌, List, [], ◌++◌, length, take, drop, replicate, slice_index}
+use Rattle.std.specs.Prelude.{ℕ, ◌+◌, ◌-◌, ◌*◌, ◌<◌, ◌≤◌, nat_lt, max, ◌≡◌, ◌≢◌, ◌⊎◌, ◌==◌, if◌then◌else◌, List, [], ◌++◌, length, take, drop, replicate, slice_index}
 use Rattle.dms_moments.specs.Moments.{Clock, Now}
 
 -- the bytes of each file; a file that doesn't exist has none
@@ -18,6 +18,11 @@ with_file files f bytes = λ g. if g == f then bytes else files g
 -- n bytes from an offset on, fewer where the file ends before
 unfoldable pub range : ℕ → ℕ → List ℕ → List ℕ
 range at n file = take n (drop at file)
+
+-- What the files hold as block b of structure file f: its 1,024 bytes, fewer where the file ends before. The numbers of
+-- structure files are above 30,000; other files hold no blocks.
+unfoldable pub stored_of : Files → ℕ → ℕ → List ℕ
+stored_of files f b = if nat_lt 30000 f then range (1024 * b) 1024 (files f) else []
 
 -- with zeros at the end up to a length
 unfoldable pub padded : List ℕ → ℕ → List ℕ

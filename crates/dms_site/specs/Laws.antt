@@ -1,7 +1,7 @@
 -- What a write leaves of the ranges of a file.
-use Rattle.std.proofs.lemmas.Bool.{cases_lt}
-use Rattle.std.proofs.Common.{◌*◌, inl, inr, ℕ, ◌+◌, ◌-◌, ◌<◌, ◌≤◌, min, max, ◌≡◌, ◌≢◌, List, ◌++◌, length, take, drop, get_or, replicate, refl, sym, ◌∙◌, ap, subst, arith, length-append, length-take, length-drop}
+use Rattle.std.proofs.Common.{ℕ, ◌+◌, ◌-◌, ◌*◌, ◌<◌, ◌≤◌, min, max, ◌≡◌, ◌≢◌, inl, inr, List, ◌++◌, length, take, drop, get_or, replicate, refl, sym, ◌∙◌, ap, subst, arith, length-append, length-take, length-drop}
 use Rattle.std.proofs.lemmas.List.{places, length-replicate, get_or-drop, get_or-take, take_at, drop_at, ext_get_or, append_assoc}
+use Rattle.std.proofs.lemmas.Bool.{cases_lt}
 use Rattle.std.proofs.lemmas.Bool.Decides.{nat_tests}
 use Rattle.dms_site.specs.Files.{Files, with_file, range, padded, overlaid, InFile, Torn}
 
@@ -75,23 +75,19 @@ in_file_with f step files bytes here = record {
   others = with_file_other files f bytes;
 }
 
--- A torn write of one block leaves each other block as it was, but those that it fills a gap in.
-pub range_apart : (b c : ℕ) (old new : List ℕ) → Torn (1024 * c) 1024 old new → (b < c → 1024 * b + 1024 ≤ length old) → ((b ≡ c) → ⊥) → range (1024 * b) 1024 new ≡ range (1024 * b) 1024 old
-range_apart b c old new torn long apart = elim (cases_lt b c) [
+-- A torn write of block c leaves each other block as it was: one before it where it stands whole, and each one behind it.
+pub range_apart : (b c : ℕ) (old new : List ℕ) → Torn (1024 * c) 1024 old new → b ≢ c → (b < c → 1024 * b + 1024 ≤ length old) → range (1024 * b) 1024 new ≡ range (1024 * b) 1024 old
+range_apart b c old new torn apart whole = elim (cases_lt b c) [
   | inl before ↦
-      range_same (1024 * b) 1024 old new (long before) (omega (arith, long before, torn.no_shorter)) (λ i from to. torn.below i (omega (arith, to, long before)) (omega (arith, to, before)))
+      let long = whole before in
+      range_same (1024 * b) 1024 old new (omega (arith, long)) (omega (arith, long, torn.no_shorter)) (λ i from to. torn.below i (omega (arith, to, long)) (omega (arith, to, before)))
   | inr not_before ↦
-      let behind : c < b = le_apart c b not_before (λ e. apart (sym e)) in
-      let same : length (range (1024 * b) 1024 new) ≡ length (range (1024 * b) 1024 old) =
-      omega (arith, length-range (1024 * b) 1024 new, length-range (1024 * b) 1024 old, torn.no_shorter, torn.no_longer, behind) in
+      let behind : c + 1 ≤ b = omega (arith, not_before, apart) in
+      let length_new = length-range (1024 * b) 1024 new in
+      let length_old = length-range (1024 * b) 1024 old in
+      let same : length (range (1024 * b) 1024 new) ≡ length (range (1024 * b) 1024 old) = omega (arith, length_new, length_old, behind, torn.no_shorter, torn.no_longer) in
       ext_get_or 0 (range (1024 * b) 1024 new) (range (1024 * b) 1024 old) same (λ k h.
-      let low : k < 1024 = omega (arith, h, length-range (1024 * b) 1024 new) in
-      let within : 1024 * b + k < length old = omega (arith, h, same, length-range (1024 * b) 1024 old) in
+      let low : k < 1024 = omega (arith, h, length_new) in
+      let within : 1024 * b + k < length old = omega (arith, h, length_old, same) in
       get_or-range (1024 * b) 1024 k new low ∙ torn.above (1024 * b + k) within (omega (arith, behind)) ∙ sym (get_or-range (1024 * b) 1024 k old low))
 ]
-  where
-    le_apart : (x y : ℕ) → x ≤ y → ((x ≡ y) → ⊥) → x < y
-    le_apart x y le other = elim (cases_lt x y) [
-      | inl lt ↦ lt
-      | inr ge ↦ absurd (other (omega (arith, le, ge)))
-    ]

@@ -14,11 +14,11 @@ impl<S: Site> Site for &mut S {
 
     ghost clock = { λ s. S.Site.clock s.now };
 
-    ghost same_site = { λ a b. a.ghost_name ≡ b.ghost_name };
+    ghost same_site = { λ a b. (a.ghost_name ≡ b.ghost_name) × S.Site.same_site a.now b.now };
 
-    ghost same_again = { λ s. refl };
+    ghost same_again = { λ s. (refl, S.Site.same_again s.now) };
 
-    ghost same_then = { λ r s t one two. one ∙ two };
+    ghost same_then = { λ r s t one two. (one.0 ∙ two.0, S.Site.same_then r.now s.now t.now one.1 two.1) };
 
     ghost disk_faults = { λ s. S.Site.disk_faults s.now };
 
@@ -62,11 +62,11 @@ impl<S: Site> Site for &mut S {
 impl<I: Source> Source for &mut I {
     ghost left = { λ s. I.Source.left s.now };
 
-    ghost same_source = { λ a b. a.ghost_name ≡ b.ghost_name };
+    ghost same_source = { λ a b. (a.ghost_name ≡ b.ghost_name) × I.Source.same_source a.now b.now };
 
-    ghost same_again = { λ s. refl };
+    ghost same_again = { λ s. (refl, I.Source.same_again s.now) };
 
-    ghost same_then = { λ r s t one two. one ∙ two };
+    ghost same_then = { λ r s t one two. (one.0 ∙ two.0, I.Source.same_then r.now s.now t.now one.1 two.1) };
 
     ghost faults = { λ s. I.Source.faults s.now };
 
