@@ -3,12 +3,16 @@ ghost use Rattle.std.specs.Int.{w32, to_be_bytes};
 ghost use Rattle.dms_base.specs.Causes.{HasCause, Rose};
 ghost use Rattle.dms_moments.specs.Moments.{Steps};
 ghost use Rattle.dms_site.specs.Files.{Cut, OnDisk, Only, OnlyIn};
-ghost use Rattle.dms_descfile.specs.DescriptionFile.{description_file};
+ghost use Rattle.dms_desc.specs.Shape.{described};
+ghost use Rattle.dms_desc_bytes.specs.Spelling.{spelling};
+ghost use Rattle.dms_descfile.specs.DescriptionFile.{sealed_file};
 ghost use Rattle.dms_descfile.specs.Becoming.{Shuts, Becoming, Creates};
 
 use crate::FileFault;
 use crate::reading::DESCRIPTION_FILE;
 use dms_base::{Bytes, Memory};
+use dms_desc::Description;
+use dms_desc_bytes::encode;
 use dms_site::{Failed, Site, cut_synced, write_synced};
 use std::alloc::Global;
 
@@ -79,27 +83,33 @@ fn write_stable<S: Site>(site: &mut S, rest: &[u8]) -> Result<(), Failed>
 }
 
 /// What stands behind the gates: the length of the description, and its bytes.
-fn behind_gates(alloc: Global, bytes: &[u8]) -> Result<Bytes, Memory>
-    requires { length bytes.now ≤ 65535 }
-    ensures { IfOk result (λ rest. rest ≡ to_be_bytes w32 (length bytes.now) ++ bytes.now) }
+fn behind_gates(alloc: Global, desc: &Description) -> Result<Bytes, Memory>
+    requires { length (spelling (described desc.now)) ≤ 65535 }
+    ensures file { IfOk result (λ rest. 1 ∷ 0 ∷ rest ≡ sealed_file (described desc.now)) }
+    ensures few { IfOk result (λ rest. length rest < 2 ^ 32) }
 {
-    let mut rest = Bytes::copied(alloc, &(bytes.len() as u32).to_be_bytes())?;
-    rest.extend(bytes)?;
+    let bytes = encode(alloc, desc)?;
+    let mut rest = Bytes::copied(alloc, &(bytes.as_slice().len() as u32).to_be_bytes())?;
+    rest.extend(bytes.as_slice())?;
     Ok(rest)
 }
 
-/// Writes the description file with these bytes of a description, and seals it. The database's gate is closed behind it.
+/// Writes the description file with a description, and seals it. The database's gate is closed behind it.
 ///
-/// All that is pending is made stable first. A stop at any moment leaves what a stop at entry could leave, or there the
-/// description file is no sealed description, or exactly the new one, and the other files are as a read gives them. After the first call of
-/// the site that fails no other is made. Answers Disk where a call of the site failed, and Memory, before the first call.
-pub fn seal_description<S: Site>(alloc: Global, site: &mut S, bytes: &[u8]) -> Result<(), FileFault>
-    requires { length bytes.now ≤ 65535 }
-    ensures written { OnOk result (IsTrue S.tells → S.files site.new 1 ≡ description_file 1 0 bytes.now) }
+/// All memory is taken before the first call of the site, and then all that is pending is made stable. A stop at any moment
+/// leaves what a stop at entry could leave, or there the description file is no sealed description, or exactly the new one,
+/// and the other files are as a read gives them. After the first call of the site that fails no other is made.
+pub fn seal_description<S: Site>(
+    alloc: Global,
+    site: &mut S,
+    desc: &Description,
+) -> Result<(), FileFault>
+    requires { length (spelling (described desc.now)) ≤ 65535 }
+    ensures written { OnOk result (IsTrue S.tells → S.files site.new 1 ≡ sealed_file (described desc.now)) }
     ensures others { IsTrue S.tells → (g : ℕ) → g ≢ 1 → S.files site.new g ≡ S.files site.old g }
     ensures durable { OnOk result (IsTrue S.tells → Only (S.files site.new) (S.clock site.new)) }
-    ensures moments { IsTrue S.tells → Steps (OnDisk 1 (Becoming (description_file 1 0 bytes.now))) (S.clock site.old) (S.clock site.new) }
-    ensures creates { IsTrue S.tells → Creates (description_file 1 0 bytes.now) (S.files site.old) (S.clock site.old) (S.clock site.new) }
+    ensures moments { IsTrue S.tells → Steps (OnDisk 1 (Becoming (sealed_file (described desc.now)))) (S.clock site.old) (S.clock site.new) }
+    ensures creates { IsTrue S.tells → Creates (sealed_file (described desc.now)) (S.files site.old) (S.clock site.old) (S.clock site.new) }
     ensures memory { IsErrOf result FileFault.Memory → site.new ≡ site.old }
     ensures said { S.said site.new ≡ S.said site.old }
     ensures same_site { S.same_site site.old site.new }
@@ -109,7 +119,7 @@ pub fn seal_description<S: Site>(alloc: Global, site: &mut S, bytes: &[u8]) -> R
     ensures clean { (IsErrOf result FileFault.Disk → ⊥) → S.disk_faults site.new ≡ S.disk_faults site.old }
     ensures say_faults { S.say_faults site.new ≡ S.say_faults site.old }
 {
-    let rest = match behind_gates(alloc, bytes) {
+    let rest = match behind_gates(alloc, desc) {
         Ok(rest) => rest,
         Err(_) => return Err(FileFault::Memory),
     };

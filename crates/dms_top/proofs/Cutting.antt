@@ -3,7 +3,6 @@ use Rattle.std.proofs.Common.{◌≡◌, ◌+◌, ℕ, List, [], ◌++◌, Some,
 use Rattle.std.specs.declared.option.Option.{Option}
 use Rattle.std.proofs.Math.Seq.{take-append-add}
 use Rattle.std.proofs.lemmas.List.{append-nil, take_at}
-use Rattle.std.proofs.lemmas.Option.{same_Some}
 use Rattle.dms_desc.specs.Shape.{Described}
 use Rattle.dms_feed.specs.Lines.{raw_lines}
 use Rattle.dms_model.specs.Db.{empty_db}
@@ -12,36 +11,33 @@ use Rattle.dms_runner.specs.Answers.{lines_run, script_run}
 use Rattle.dms_runner.specs.Events.{text_of}
 use Rattle.dms_runner.specs.Running.{bytes_of, joined, CutInput}
 use Rattle.dms_runner.proofs.Running.{joined_on}
-use Rattle.dms_top.specs.Answering.{Printed, CutTry}
+use Rattle.dms_block.specs.Texts.{Prints}
+use Rattle.dms_top.specs.Answering.{CutTry}
 use Rattle.dms_top.specs.Schema.{script_part}
 use Rattle.dms_top.specs.Taking.{Leaves, IsBehind, CutText}
 
--- a text that is told
-pub told_cut : (b : Bool) (d : Described) (all : List ℕ) (left : Option (List ℕ)) (before after : List ℕ) → b ≡ true → CutInput d empty_db 1 all left (told b before) (told b after) → CutInput d empty_db 1 all left (Some before) (Some after)
-told_cut b d all left before after is p = subst (λ (t : Bool). CutInput d empty_db 1 all left (told t before) (told t after)) is p
-
 -- the same texts
-pub cut_moved : (d d' : Described) (all : List ℕ) (left left' : Option (List ℕ)) (before after before' after' : List ℕ) → left ≡ left' → after ≡ after' → before ≡ before' → d ≡ d'
-    → CutInput d' empty_db 1 all left' (Some before') (Some after') → CutInput d empty_db 1 all left (Some before) (Some after)
-cut_moved d d' all left left' before after before' after' l a b e p =
-    subst (λ (x : Option (List ℕ)). CutInput d empty_db 1 all x (Some before) (Some after)) (sym l)
-    (subst (λ (x : List ℕ). CutInput d empty_db 1 all left' (Some before) (Some x)) (sym a)
-    (subst (λ (x : List ℕ). CutInput d empty_db 1 all left' (Some x) (Some after')) (sym b)
-    (subst (λ (x : Described). CutInput x empty_db 1 all left' (Some before') (Some after')) (sym e) p)))
+pub cut_moved : (d d' : Described) (all : List ℕ) (left left' : Option (List ℕ)) (b : Bool) (before after before' after' : List ℕ) → left ≡ left' → after ≡ after' → before ≡ before' → d ≡ d'
+    → CutInput d' empty_db 1 all left' (told b before') (told b after') → CutInput d empty_db 1 all left (told b before) (told b after)
+cut_moved d d' all left left' b before after before' after' l a o e p =
+    subst (λ (x : Option (List ℕ)). CutInput d empty_db 1 all x (told b before) (told b after)) (sym l)
+    (subst (λ (x : List ℕ). CutInput d empty_db 1 all left' (told b before) (told b x)) (sym a)
+    (subst (λ (x : List ℕ). CutInput d empty_db 1 all left' (told b x) (told b after')) (sym o)
+    (subst (λ (x : Described). CutInput x empty_db 1 all left' (told b before') (told b after')) (sym e) p)))
 
-pub cut_described : (d d' : Described) (all : List ℕ) (left : Option (List ℕ)) (before after : List ℕ) → d ≡ d' → CutTry d' all left before after → CutTry d all left before after
+pub cut_described : (d d' : Described) (all : List ℕ) (left : Option (List ℕ)) (before after : Option (List ℕ)) → d ≡ d' → CutTry d' all left before after → CutTry d all left before after
 cut_described d d' all left before after e p = subst (λ (x : Described). CutTry x all left before after) (sym e) p
 
 no_lines : (d : Described) → (script_run d empty_db 1 []).full ≡ false
 unfolding lines_run
 no_lines d = refl
 
-no_text : (d : Described) (said : List ℕ) → Printed said said (text_of (script_run d empty_db 1 []).events)
+no_text : (d : Described) (said : Option (List ℕ)) → Prints said said (text_of (script_run d empty_db 1 []).events)
 unfolding lines_run
-no_text d said = sym (append-nil said)
+no_text d said = λ t is. is ∙ ap (λ (x : List ℕ). Some x) (sym (append-nil t))
 
 -- within the text of the schema: nothing was printed
-pub cut_text : (d : Described) (all : List ℕ) (left : Option (List ℕ)) (said : List ℕ) → CutText all left → CutTry d all left said said
+pub cut_text : (d : Described) (all : List ℕ) (left : Option (List ℕ)) (said : Option (List ℕ)) → CutText all left → CutTry d all left said said
 cut_text d all left said c =
     let t : take (length c.done) (raw_lines all) ≡ c.done = ap (take (length c.done)) c.leaves.lines ∙ take_at c.done (raw_lines c.rest) (length c.done) refl in
     let none : script_part (take (length c.done) (raw_lines all)) ≡ [] = ap script_part t ∙ c.none in
@@ -58,12 +54,12 @@ cut_text d all left said c =
       fits = omega (arith, ap bytes_of none, c.cut.fits);
       last = λ end. absurd (omega (arith, end, ap length none));
       room = ap (λ (ls : List (List ℕ)). (script_run d empty_db 1 ls).full) none ∙ no_lines d;
-      text = subst (λ (ls : List (List ℕ)). Printed said said (text_of (script_run d empty_db 1 ls).events)) (sym none) (no_text d said);
+      text = subst (λ (ls : List (List ℕ)). Prints said said (text_of (script_run d empty_db 1 ls).events)) (sym none) (no_text d said);
     }
 
 -- within the script: the lines of the script that were taken are answered
-pub cut_script : (d : Described) (done : List (List ℕ)) (all mid : List ℕ) (left : Option (List ℕ)) (before after : List ℕ) → Leaves done all mid → IsBehind done mid
-    → CutInput d empty_db 1 mid left (Some before) (Some after) → CutTry d all left before after
+pub cut_script : (d : Described) (done : List (List ℕ)) (all mid : List ℕ) (left : Option (List ℕ)) (before after : Option (List ℕ)) → Leaves done all mid → IsBehind done mid
+    → CutInput d empty_db 1 mid left before after → CutTry d all left before after
 cut_script d done all mid left before after leaves behind c =
     let ls = take c.n (raw_lines mid) in
     let t : take (length done + c.n) (raw_lines all) ≡ done ++ ls = ap (take (length done + c.n)) leaves.lines ∙ take-append-add done (raw_lines mid) c.n in
@@ -82,5 +78,5 @@ cut_script d done all mid left before after leaves behind c =
       fits = omega (arith, ap bytes_of s, c.fits);
       last = λ end. c.last (omega (arith, end, ap length s, length-take c.n (raw_lines mid), c.took.within));
       room = ap (λ (xs : List (List ℕ)). (script_run d empty_db 1 xs).full) s ∙ c.took.room;
-      text = subst (λ (xs : List (List ℕ)). Printed before after (text_of (script_run d empty_db 1 xs).events)) (sym s) (same_Some _ _ (c.took.text before refl));
+      text = subst (λ (xs : List (List ℕ)). Prints before after (text_of (script_run d empty_db 1 xs).events)) (sym s) c.took.text;
     }

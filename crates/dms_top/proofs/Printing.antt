@@ -1,5 +1,5 @@
 -- What a site that tells its text has printed.
-use Rattle.std.proofs.Common.{◌≡◌, ◌++◌, ◌∙◌, ap, sym, subst, refl, Bool, true, false, Some, List, ℕ, take, Ok, Err, Result, IsOk, OnOk}
+use Rattle.std.proofs.Common.{◌≡◌, ◌++◌, ◌∙◌, ap, sym, subst, refl, Bool, true, false, Some, Option, List, ℕ, take, Ok, Err, Result, IsOk, OnOk}
 use Rattle.std.proofs.lemmas.List.{append-nil}
 use Rattle.std.proofs.lemmas.Option.{same_Some}
 use Rattle.dms_desc.specs.Shape.{Described}
@@ -9,7 +9,7 @@ use Rattle.dms_model.specs.Session.{fresh_session}
 use Rattle.dms_storeverbs.specs.View.{View, Stands}
 use Rattle.dms_plain.specs.Told.{told}
 use Rattle.dms_runner.specs.Answers.{answers_text}
-use Rattle.dms_runner.specs.Running.{Answered, PassesLines, PassesBytes, PassesHeld}
+use Rattle.dms_runner.specs.Running.{Answered}
 use Rattle.dms_top.specs.declared.status.SchemaFault.{SchemaFault}
 use Rattle.dms_top.specs.declared.status.LimitKind.{LimitKind}
 use Rattle.dms_top.specs.Answering.{Printed, PrintedFront, WithinLimits, Passes, judged_text}
@@ -23,18 +23,8 @@ pub told_front : (b : Bool) (before after text : List ℕ) → b ≡ true → Pr
 told_front true before after text is prints = let p = prints before refl in (p.0, same_Some _ _ p.1)
 told_front false before after text is prints = absurd (cc)
 
-pub told_answers : (b : Bool) (d : Described) (lines : List (List ℕ)) (before after : List ℕ) → b ≡ true → Answered d empty_db 1 lines (told b before) (told b after)
-    → Printed before after (answers_text d empty_db 1 lines) × WithinLimits d lines
-told_answers b d lines before after is a = (told_prints b before after _ is a.text, record { few = a.few; short = a.short; room = a.room })
-
-pub told_lines : (b : Bool) (d : Described) (lines : List (List ℕ)) (before after : List ℕ) → b ≡ true → PassesLines d empty_db 1 lines (told b before) (told b after) → PassesLines d empty_db 1 lines (Some before) (Some after)
-told_lines b d lines before after is p = subst (λ (t : Bool). PassesLines d empty_db 1 lines (told t before) (told t after)) is p
-
-pub told_bytes : (b : Bool) (d : Described) (lines : List (List ℕ)) (before after : List ℕ) → b ≡ true → PassesBytes d empty_db 1 lines (told b before) (told b after) → PassesBytes d empty_db 1 lines (Some before) (Some after)
-told_bytes b d lines before after is p = subst (λ (t : Bool). PassesBytes d empty_db 1 lines (told t before) (told t after)) is p
-
-pub told_held : (b : Bool) (d : Described) (lines : List (List ℕ)) (before after : List ℕ) → b ≡ true → PassesHeld d empty_db 1 lines (told b before) (told b after) → PassesHeld d empty_db 1 lines (Some before) (Some after)
-told_held b d lines before after is p = subst (λ (t : Bool). PassesHeld d empty_db 1 lines (told t before) (told t after)) is p
+pub limits_kept : (d : Described) (lines : List (List ℕ)) (before after : Option (List ℕ)) → Answered d empty_db 1 lines before after → WithinLimits d lines
+limits_kept d lines before after a = record { few = a.few; short = a.short; room = a.room }
 
 pub nothing_printed : (before after text : List ℕ) → after ≡ before → PrintedFront before after text
 nothing_printed before after text same = (0, same ∙ sym (append-nil before))
@@ -53,9 +43,11 @@ front_moved before after text before' after' text' a b t p = (p.0, a ∙ p.1 ∙
 pub printed_moved : (before after text before' after' text' : List ℕ) → after ≡ after' → before ≡ before' → text ≡ text' → Printed before' after' text' → Printed before after text
 printed_moved before after text before' after' text' a b t p = a ∙ p ∙ ap (λ (x : List ℕ). x ++ text') (sym b) ∙ ap (λ (x : List ℕ). before ++ x) (sym t)
 
-pub passes_moved : (k : LimitKind) (d d' : Described) (lines : List (List ℕ)) (before after before' after' : List ℕ) → after ≡ after' → before ≡ before' → d ≡ d' → Passes k d' lines before' after' → Passes k d lines before after
-passes_moved k d d' lines before after before' after' a b e p =
-    subst (λ (x : List ℕ). Passes k d lines before x) (sym a) (subst (λ (x : List ℕ). Passes k d lines x after') (sym b) (subst (λ (x : Described). Passes k x lines before' after') (sym e) p))
+pub passes_moved : (k : LimitKind) (d d' : Described) (lines : List (List ℕ)) (b : Bool) (before after before' after' : List ℕ) → after ≡ after' → before ≡ before' → d ≡ d'
+    → Passes k d' lines (told b before') (told b after') → Passes k d lines (told b before) (told b after)
+passes_moved k d d' lines b before after before' after' a o e p =
+    subst (λ (x : List ℕ). Passes k d lines (told b before) (told b x)) (sym a)
+    (subst (λ (x : List ℕ). Passes k d lines (told b x) (told b after')) (sym o) (subst (λ (x : Described). Passes k x lines (told b before') (told b after')) (sym e) p))
 
 pub within_moved : (d d' : Described) (lines : List (List ℕ)) → d ≡ d' → WithinLimits d' lines → WithinLimits d lines
 within_moved d d' lines e w = subst (λ (x : Described). WithinLimits x lines) (sym e) w
@@ -77,7 +69,7 @@ same_description j d e first then_ = ap (or_that d) (sym then_ ∙ first)
 pub within_lines : (d : Described) (lines lines' : List (List ℕ)) → lines' ≡ lines → WithinLimits d lines' → WithinLimits d lines
 within_lines d lines lines' e w = subst (λ (x : List (List ℕ)). WithinLimits d x) e w
 
-pub passes_lines : (k : LimitKind) (d : Described) (lines lines' : List (List ℕ)) (before after : List ℕ) → lines' ≡ lines → Passes k d lines' before after → Passes k d lines before after
+pub passes_lines : (k : LimitKind) (d : Described) (lines lines' : List (List ℕ)) (before after : Option (List ℕ)) → lines' ≡ lines → Passes k d lines' before after → Passes k d lines before after
 passes_lines k d lines lines' before after e p = subst (λ (x : List (List ℕ)). Passes k d x before after) e p
 
 pub not_refused : (j : Result Described SchemaFault) (d : Described) (e : SchemaFault) → j ≡ Ok d → j ≡ Err e → ⊥

@@ -3,6 +3,7 @@ use Rattle.std.specs.Prelude.{◌≡◌, ◌≤◌, ◌+◌, ℕ, List, [], ◌+
 use Rattle.std.specs.declared.option.Option.{Option}
 use Rattle.std.specs.declared.result.Result.{Result}
 use Rattle.std.specs.declared.result.Result.TheVariants.{Ok, Err}
+use Rattle.dms_block.specs.Texts.{Prints}
 use Rattle.dms_desc.specs.Shape.{Described}
 use Rattle.dms_feed.specs.Lines.{raw_lines}
 use Rattle.dms_feed.specs.Raws.{IsUnended}
@@ -43,15 +44,15 @@ pub record WithinLimits (d : Described) (lines : List (List ℕ)) : Type 0 where
   pub short : bytes_of lines ≤ 2147483648
   pub room : (script_run d empty_db 1 lines).full ≡ false
 
--- a script that passes a limit: what the lines before that place answer was printed
-abbrev pub Passes : LimitKind → Described → List (List ℕ) → List ℕ → List ℕ → Type 0
-Passes Lines d lines before after = PassesLines d empty_db 1 lines (Some before) (Some after)
-Passes Bytes d lines before after = PassesBytes d empty_db 1 lines (Some before) (Some after)
-Passes Held d lines before after = PassesHeld d empty_db 1 lines (Some before) (Some after)
+-- a script that passes a limit: what the lines before that place answer was printed, where the text is told
+abbrev pub Passes : LimitKind → Described → List (List ℕ) → Option (List ℕ) → Option (List ℕ) → Type 0
+Passes Lines d lines before after = PassesLines d empty_db 1 lines before after
+Passes Bytes d lines before after = PassesBytes d empty_db 1 lines before after
+Passes Held d lines before after = PassesHeld d empty_db 1 lines before after
 
 -- taking from the input failed: so many whole lines of it were taken, and what those among them answer that are lines of
--- the script, which keep the limits with that part, was printed; a part of the next line was taken too, without its line feed, and the rest of the input is left
-pub record CutTry (d : Described) (input : List ℕ) (left : Option (List ℕ)) (before after : List ℕ) : Type 0 where
+-- the script, which keep the limits with that part, was printed, where the text is told; a part of the next line was taken too, without its line feed, and the rest of the input is left
+pub record CutTry (d : Described) (input : List ℕ) (left : Option (List ℕ)) (before after : Option (List ℕ)) : Type 0 where
   pub n : ℕ
   pub within : n ≤ length (raw_lines input)
   pub part : List ℕ
@@ -64,4 +65,4 @@ pub record CutTry (d : Described) (input : List ℕ) (left : Option (List ℕ)) 
   pub fits : bytes_of (script_part (take n (raw_lines input))) + length part ≤ 2147483648
   pub last : length (script_part (take n (raw_lines input))) ≡ 1000000 → length part ≡ 0
   pub room : (script_run d empty_db 1 (script_part (take n (raw_lines input)))).full ≡ false
-  pub text : Printed before after (text_of (script_run d empty_db 1 (script_part (take n (raw_lines input)))).events)
+  pub text : Prints before after (text_of (script_run d empty_db 1 (script_part (take n (raw_lines input)))).events)

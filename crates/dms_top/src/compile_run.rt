@@ -1,14 +1,14 @@
 ghost use Rattle.std.specs.Prelude.{◌≡◌, ◌≢◌, ◌≤◌, ◌<◌, [], ℕ, List, Some, Ok, Err, IfOk, IsOk, IsTrue, length, take, ◌++◌};
-ghost use Rattle.dms_base.specs.Causes.{Rose};
 ghost use Rattle.dms_desc.specs.Shape.{Described, described};
 ghost use Rattle.dms_desc_bytes.specs.Spelling.{spelling};
-ghost use Rattle.dms_descfile.specs.DescriptionFile.{description_file, sealed_file, IsSealed, IsUnsealed};
+ghost use Rattle.dms_descfile.specs.DescriptionFile.{sealed_file, IsSealed, IsUnsealed};
 ghost use Rattle.dms_descfile.specs.Becoming.{Creates};
 ghost use Rattle.dms_site.specs.Files.{Only};
 ghost use Rattle.dms_top.specs.declared.status.LimitKind.{LimitKind as Kind};
 ghost use Rattle.dms_top.specs.declared.status.SchemaFault.{SchemaFault as Refusal};
 ghost use Rattle.dms_top.specs.Compiling.{compiled_text, Says, IsSpoken, IsBefore, IsOfFile, CreatesSome, SaysSealed, IsKept};
 ghost use Rattle.dms_top.specs.Judging.{judged};
+ghost use Rattle.dms_top.specs.Premises.{OfInput, OfSchema, OfNoSchema, CountedAt};
 ghost use Rattle.dms_top.specs.Words.{IsPast, IsUntouched};
 
 use crate::judge::{Judged, judge};
@@ -18,17 +18,9 @@ use crate::whole::whole_text;
 use dasdl_parse::ParseFault;
 use dms_base::{Bytes, Memory};
 use dms_desc::Description;
-use dms_desc_bytes::encode;
 use dms_descfile::{FileFault, read_description, seal_description};
 use dms_site::{Site, Source};
 use std::alloc::Global;
-
-/// What is needed to seal a description and to say so.
-#[derive(Drop)]
-struct Prepared {
-    bytes: Bytes,
-    line: Bytes,
-}
 
 /// What `compile` says of so many structures.
 #[tactic(auto, unfolding(crate::specs::Compiling::compiled_text))]
@@ -42,37 +34,23 @@ fn compiled_text(alloc: Global, count: usize) -> Result<Bytes, Memory>
     Ok(text)
 }
 
-/// The bytes of a description, and the line that says how many structures it has.
-fn prepare(alloc: Global, desc: &Description) -> Result<Prepared, Memory>
+/// Seals a description, and prints a line.
+fn seal_and_say<S: Site>(alloc: Global, site: &mut S, desc: &Description, line: &[u8]) -> Status
     requires { length (spelling (described desc.now)) ≤ 65535 }
-    ensures bytes { IfOk result (λ p. p.bytes ≡ spelling (described desc.now)) }
-    ensures few { IfOk result (λ p. length p.bytes ≤ 65535) }
-    ensures line { IfOk result (λ p. p.line ≡ compiled_text (length desc.now.structures)) }
-{
-    let bytes = encode(alloc, desc)?;
-    let line = compiled_text(alloc, desc.structures.as_slice().len())?;
-    Ok(Prepared { bytes, line })
-}
-
-/// Seals a description's bytes, and prints a line.
-fn seal_and_say<S: Site>(alloc: Global, site: &mut S, bytes: &[u8], line: &[u8]) -> Status
-    requires { length bytes.now ≤ 65535 }
     ensures of_file { IsOfFile result }
     ensures exists { result ≢ Status.Exists }
-    ensures sealed { IsSpoken result → IsTrue S.tells → S.files site.new 1 ≡ description_file 1 0 bytes.now }
+    ensures sealed { IsSpoken result → IsTrue S.tells → S.files site.new 1 ≡ sealed_file (described desc.now) }
     ensures others { IsTrue S.tells → (g : ℕ) → g ≢ 1 → S.files site.new g ≡ S.files site.old g }
     ensures before { IsBefore result → IsTrue S.tells → S.files site.new ≡ S.files site.old }
     ensures says { IsTrue S.tells_said → Says result line.now (S.said site.old) (S.said site.new) }
-    ensures creates { IsTrue S.tells → Creates (description_file 1 0 bytes.now) (S.files site.old) (S.clock site.old) (S.clock site.new) }
+    ensures creates { IsTrue S.tells → Creates (sealed_file (described desc.now)) (S.files site.old) (S.clock site.old) (S.clock site.new) }
     ensures stable { IsSpoken result → IsTrue S.tells → Only (S.files site.new) (S.clock site.new) }
-    ensures says_sealed { IsTrue S.tells → SaysSealed (description_file 1 0 bytes.now) (S.clock site.old) (S.clock site.new) }
+    ensures says_sealed { IsTrue S.tells → SaysSealed (sealed_file (described desc.now)) (S.clock site.old) (S.clock site.new) }
     ensures same_site { S.same_site site.old site.new }
-    ensures disk_later { S.disk_faults site.old ≤ S.disk_faults site.new }
-    ensures say_later { S.say_faults site.old ≤ S.say_faults site.new }
-    ensures disk { result ≡ Status.DiskFault → Rose (S.disk_faults site.old) (S.disk_faults site.new) }
-    ensures say { result ≡ Status.SayFault → Rose (S.say_faults site.old) (S.say_faults site.new) }
+    ensures disk { CountedAt (result ≡ Status.DiskFault) (S.disk_faults site.old) (S.disk_faults site.new) }
+    ensures say { CountedAt (result ≡ Status.SayFault) (S.say_faults site.old) (S.say_faults site.new) }
 {
-    match seal_description(alloc, site, bytes) {
+    match seal_description(alloc, site, desc) {
         Err(FileFault::Disk) => return Status::DiskFault,
         Err(FileFault::Memory) => return Status::Memory,
         Ok(()) => {}
@@ -98,18 +76,16 @@ fn create<S: Site>(alloc: Global, site: &mut S, desc: &Description) -> Status
     ensures says_sealed { IsTrue S.tells → SaysSealed (sealed_file (described desc.now)) (S.clock site.old) (S.clock site.new) }
     ensures kept { IsTrue S.tells → (d : Described) → IsSealed (S.files site.old 1) d → IsKept (S.files site.old) (S.files site.new) (S.said site.old) (S.said site.new) (S.clock site.old) (S.clock site.new) }
     ensures same_site { S.same_site site.old site.new }
-    ensures disk_later { S.disk_faults site.old ≤ S.disk_faults site.new }
-    ensures say_later { S.say_faults site.old ≤ S.say_faults site.new }
-    ensures disk { result ≡ Status.DiskFault → Rose (S.disk_faults site.old) (S.disk_faults site.new) }
-    ensures say { result ≡ Status.SayFault → Rose (S.say_faults site.old) (S.say_faults site.new) }
+    ensures disk { CountedAt (result ≡ Status.DiskFault) (S.disk_faults site.old) (S.disk_faults site.new) }
+    ensures say { CountedAt (result ≡ Status.SayFault) (S.say_faults site.old) (S.say_faults site.new) }
 {
     match read_description(alloc, site) {
         Err(FileFault::Disk) => Status::DiskFault,
         Err(FileFault::Memory) => Status::Memory,
         Ok(Some(_)) => Status::Exists,
-        Ok(None) => match prepare(alloc, desc) {
+        Ok(None) => match compiled_text(alloc, desc.structures.as_slice().len()) {
             Err(_) => Status::Memory,
-            Ok(made) => seal_and_say(alloc, site, made.bytes.as_slice(), made.line.as_slice()),
+            Ok(line) => seal_and_say(alloc, site, desc, line.as_slice()),
         },
     }
 }
@@ -124,32 +100,29 @@ pub fn compile_input<S: Site, I: Source>(alloc: Global, site: &mut S, input: &mu
     ensures limit { (k : Kind) → result ≢ Status.Limit k }
     ensures untouched { IsUntouched result → site.new ≡ site.old }
     ensures input_fault { result ≡ Status.InputFault → site.new ≡ site.old }
-    ensures refused_text { (all : List ℕ) (e : Refusal) → I.left input.old ≡ Some all → judged all ≡ Err e → site.new ≡ site.old }
-    ensures refused { (f : Refusal) → result ≡ Status.SchemaRefused f → (all : List ℕ) → I.left input.old ≡ Some all → judged all ≡ Err f }
-    ensures accepted { IsPast result → (all : List ℕ) → I.left input.old ≡ Some all → IsOk (judged all) }
-    ensures end { IsPast result → (all : List ℕ) → I.left input.old ≡ Some all → I.left input.new ≡ Some [] }
+    ensures refused_text { OfNoSchema (I.left input.old) (site.new ≡ site.old) }
+    ensures refused { (f : Refusal) → result ≡ Status.SchemaRefused f → OfInput (I.left input.old) (λ all. judged all ≡ Err f) }
+    ensures accepted { IsPast result → OfInput (I.left input.old) (λ all. IsOk (judged all)) }
+    ensures end { IsPast result → OfInput (I.left input.old) (λ all. I.left input.new ≡ Some []) }
     ensures exists { result ≡ Status.Exists → IsTrue S.tells → (d : Described) × IsSealed (S.files site.old 1) d }
     ensures unsealed { IsSpoken result → IsTrue S.tells → IsUnsealed (S.files site.old 1) }
-    ensures sealed { IsSpoken result → IsTrue S.tells → (all : List ℕ) (d : Described) → I.left input.old ≡ Some all → judged all ≡ Ok d → S.files site.new 1 ≡ sealed_file d }
-    ensures is_sealed { IsSpoken result → IsTrue S.tells → (all : List ℕ) (d : Described) → I.left input.old ≡ Some all → judged all ≡ Ok d → IsSealed (S.files site.new 1) d }
+    ensures sealed { IsSpoken result → IsTrue S.tells → OfSchema (I.left input.old) (λ d. S.files site.new 1 ≡ sealed_file d) }
+    ensures is_sealed { IsSpoken result → IsTrue S.tells → OfSchema (I.left input.old) (λ d. IsSealed (S.files site.new 1) d) }
     ensures others { IsTrue S.tells → (g : ℕ) → g ≢ 1 → S.files site.new g ≡ S.files site.old g }
     ensures before { IsBefore result → IsTrue S.tells → S.files site.new ≡ S.files site.old }
-    ensures says { IsTrue S.tells_said → (all : List ℕ) (d : Described) → I.left input.old ≡ Some all → judged all ≡ Ok d → Says result (compiled_text (length d.structures)) (S.said site.old) (S.said site.new) }
+    ensures says { IsTrue S.tells_said → OfSchema (I.left input.old) (λ d. Says result (compiled_text (length d.structures)) (S.said site.old) (S.said site.new)) }
     ensures silent { IsTrue S.tells_said → (IsSpoken result → ⊥) → S.said site.new ≡ S.said site.old }
-    ensures creates { IsTrue S.tells → (all : List ℕ) (d : Described) → I.left input.old ≡ Some all → judged all ≡ Ok d → Creates (sealed_file d) (S.files site.old) (S.clock site.old) (S.clock site.new) }
+    ensures creates { IsTrue S.tells → OfSchema (I.left input.old) (λ d. Creates (sealed_file d) (S.files site.old) (S.clock site.old) (S.clock site.new)) }
     ensures creates_some { IsTrue S.tells → CreatesSome (S.files site.old) (S.clock site.old) (S.clock site.new) }
     ensures stable { IsSpoken result → IsTrue S.tells → Only (S.files site.new) (S.clock site.new) }
-    ensures says_sealed { IsTrue S.tells → (all : List ℕ) (d : Described) → I.left input.old ≡ Some all → judged all ≡ Ok d → SaysSealed (sealed_file d) (S.clock site.old) (S.clock site.new) }
+    ensures says_sealed { IsTrue S.tells → OfSchema (I.left input.old) (λ d. SaysSealed (sealed_file d) (S.clock site.old) (S.clock site.new)) }
     ensures kept { IsTrue S.tells → (d : Described) → IsSealed (S.files site.old 1) d → IsKept (S.files site.old) (S.files site.new) (S.said site.old) (S.said site.new) (S.clock site.old) (S.clock site.new) }
     ensures sealed_some { IsSpoken result → IsTrue S.tells → (d : Described) × IsSealed (S.files site.new 1) d }
     ensures same_site { S.same_site site.old site.new }
     ensures same_source { I.same_source input.old input.new }
-    ensures disk_later { S.disk_faults site.old ≤ S.disk_faults site.new }
-    ensures say_later { S.say_faults site.old ≤ S.say_faults site.new }
-    ensures input_later { I.faults input.old ≤ I.faults input.new }
-    ensures disk { result ≡ Status.DiskFault → Rose (S.disk_faults site.old) (S.disk_faults site.new) }
-    ensures say { result ≡ Status.SayFault → Rose (S.say_faults site.old) (S.say_faults site.new) }
-    ensures input { result ≡ Status.InputFault → Rose (I.faults input.old) (I.faults input.new) }
+    ensures disk { CountedAt (result ≡ Status.DiskFault) (S.disk_faults site.old) (S.disk_faults site.new) }
+    ensures say { CountedAt (result ≡ Status.SayFault) (S.say_faults site.old) (S.say_faults site.new) }
+    ensures input { CountedAt (result ≡ Status.InputFault) (I.faults input.old) (I.faults input.new) }
 {
     let text = match whole_text(alloc, input) {
         Ok(text) => text,

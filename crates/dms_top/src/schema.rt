@@ -1,8 +1,8 @@
 ghost use Rattle.std.specs.Prelude.{◌≡◌, ◌≤◌, ◌<◌, [], ℕ, List, IfOk, IsErrOf, length};
-ghost use Rattle.dms_base.specs.Causes.{Rose};
 ghost use Rattle.dms_feed.specs.Feeds.{Remains};
 ghost use Rattle.dms_top.specs.Schema.{is_script, schema_text as text_of};
 ghost use Rattle.dms_feed.specs.Raws.{CutLine};
+ghost use Rattle.dms_top.specs.Premises.{CountedAt};
 ghost use Rattle.dms_top.specs.Taking.{Took, IsLong, IsText, CutText};
 
 use dms_base::Bytes;
@@ -42,8 +42,7 @@ fn schema_line<I: Source>(
     ensures long { IsErrOf result TextFault.Long → (all : List ℕ) → Remains feed.old (I.left source.old) all → IsLong text.old all }
     ensures failed { IsErrOf result TextFault.Input → (all : List ℕ) → Remains feed.old (I.left source.old) all → CutLine 1000008 (I.left source.new) all }
     ensures same { I.same_source source.old source.new }
-    ensures later { I.faults source.old ≤ I.faults source.new }
-    ensures input { IsErrOf result TextFault.Input → Rose (I.faults source.old) (I.faults source.new) }
+    ensures counted { CountedAt (IsErrOf result TextFault.Input) (I.faults source.old) (I.faults source.new) }
 {
     match next_raw(alloc, feed, source, LINE_ROOM, LINE_ROOM) {
         Err(RawFault::Input) => return Err(TextFault::Input),
@@ -76,8 +75,7 @@ pub fn schema_text<I: Source>(
     ensures long { IsErrOf result TextFault.Long → (all : List ℕ) → Remains feed.old (I.left source.old) all → 1000000 < length (text_of all) }
     ensures failed { IsErrOf result TextFault.Input → (all : List ℕ) → Remains feed.old (I.left source.old) all → CutText all (I.left source.new) }
     ensures same { I.same_source source.old source.new }
-    ensures later { I.faults source.old ≤ I.faults source.new }
-    ensures input { IsErrOf result TextFault.Input → Rose (I.faults source.old) (I.faults source.new) }
+    ensures counted { CountedAt (IsErrOf result TextFault.Input) (I.faults source.old) (I.faults source.new) }
 {
     let mut text = Bytes::new(alloc);
     for _line in 0..1_000_001u32 {

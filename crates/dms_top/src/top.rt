@@ -1,5 +1,4 @@
 ghost use Rattle.std.specs.Prelude.{◌≡◌, ◌≤◌, ◌≢◌, ◌↔◌, [], ℕ, List, Some, Ok, Err, map, length, string_bytes, IsTrue, IsOk, ◌⊎◌};
-ghost use Rattle.dms_base.specs.Causes.{Rose};
 ghost use Rattle.dms_desc.specs.Shape.{Described};
 ghost use Rattle.dms_descfile.specs.Becoming.{IsCreated};
 ghost use Rattle.dms_descfile.specs.DescriptionFile.{sealed_file, IsSealed, IsUnsealed};
@@ -7,12 +6,14 @@ ghost use Rattle.dms_moments.specs.Moments.{Now};
 ghost use Rattle.dms_site.specs.Files.{Left, Only};
 ghost use Rattle.dms_top.specs.Taking.{CutText};
 ghost use Rattle.dms_plain.specs.Speaking.{OnlySpeaks};
+ghost use Rattle.dms_plain.specs.Told.{told};
 ghost use Rattle.dms_top.specs.Compiling.{compiled_text, Says, IsSpoken, IsBefore, AtEachMoment, IsKept};
 ghost use Rattle.dms_top.specs.declared.status.SchemaFault.{SchemaFault as Refusal};
 ghost use Rattle.dms_top.specs.Judging.{judged};
 ghost use Rattle.dms_top.specs.Schema.{schema_text as text_of};
 ghost use Rattle.dms_top.specs.Answering.{Printed, PrintedFront, WithinLimits, Passes, CutTry, try_text, script_of};
 ghost use Rattle.dms_top.specs.declared.status.LimitKind.{LimitKind as Kind};
+ghost use Rattle.dms_top.specs.Premises.{OnTry, OnCompile, OfInput, OfSchema, OfNoSchema, OfScript, OfNoScript, CountedAt};
 ghost use Rattle.dms_top.specs.Words.{IsTry, IsCompile, IsCommand, IsPast, IsSilent, IsUntouched};
 
 use crate::compile_run::compile_input;
@@ -43,23 +44,22 @@ fn try_input<S: Site, I: Source>(alloc: Global, site: &mut S, input: &mut I) -> 
     ensures words { result ≢ Status.BadWords }
     ensures exists { result ≢ Status.Exists }
     ensures untouched { IsUntouched result → site.new ≡ site.old }
-    ensures refused { (f : Refusal) → result ≡ Status.SchemaRefused f → (all : List ℕ) → I.left input.old ≡ Some all → judged (text_of all) ≡ Err f }
-    ensures accepted { IsPast result → (all : List ℕ) → I.left input.old ≡ Some all → IsOk (judged (text_of all)) }
-    ensures end { result ≡ Status.Ok → (all : List ℕ) → I.left input.old ≡ Some all → I.left input.new ≡ Some [] }
-    ensures input { result ≡ Status.InputFault → Rose (I.faults input.old) (I.faults input.new) }
-    ensures disk { result ≡ Status.DiskFault → Rose (S.disk_faults site.old) (S.disk_faults site.new) }
-    ensures say { result ≡ Status.SayFault → Rose (S.say_faults site.old) (S.say_faults site.new) }
-    ensures disk_same { S.disk_faults site.new ≡ S.disk_faults site.old }
+    ensures refused { (f : Refusal) → result ≡ Status.SchemaRefused f → OfInput (I.left input.old) (λ all. judged (text_of all) ≡ Err f) }
+    ensures accepted { IsPast result → OfInput (I.left input.old) (λ all. IsOk (judged (text_of all))) }
+    ensures end { result ≡ Status.Ok → OfInput (I.left input.old) (λ all. I.left input.new ≡ Some []) }
+    ensures input { CountedAt (result ≡ Status.InputFault) (I.faults input.old) (I.faults input.new) }
+    ensures disk { CountedAt (result ≡ Status.DiskFault) (S.disk_faults site.old) (S.disk_faults site.new) }
+    ensures say { CountedAt (result ≡ Status.SayFault) (S.say_faults site.old) (S.say_faults site.new) }
+    ensures no_disk { result ≢ Status.DiskFault }
     ensures files { IsTrue S.tells → S.files site.new ≡ S.files site.old }
     ensures only_speaks { OnlySpeaks (S.clock site.old) (S.clock site.new) }
-    ensures answers { result ≡ Status.Ok → IsTrue S.tells_said → (all : List ℕ) → I.left input.old ≡ Some all → Printed (S.said site.old) (S.said site.new) (try_text all) }
-    ensures part { IsTrue S.tells_said → (all : List ℕ) → I.left input.old ≡ Some all → PrintedFront (S.said site.old) (S.said site.new) (try_text all) }
+    ensures answers { result ≡ Status.Ok → IsTrue S.tells_said → OfInput (I.left input.old) (λ all. Printed (S.said site.old) (S.said site.new) (try_text all)) }
+    ensures part { IsTrue S.tells_said → OfInput (I.left input.old) (λ all. PrintedFront (S.said site.old) (S.said site.new) (try_text all)) }
     ensures silent { IsTrue S.tells_said → IsSilent result → S.said site.new ≡ S.said site.old }
-    ensures within { result ≡ Status.Ok → IsTrue S.tells_said → (all : List ℕ) (d : Described) → I.left input.old ≡ Some all → judged (text_of all) ≡ Ok d → WithinLimits d (script_of all) }
-    ensures limit { (k : Kind) → result ≡ Status.Limit k → IsTrue S.tells_said → (all : List ℕ) (d : Described) → I.left input.old ≡ Some all → judged (text_of all) ≡ Ok d → Passes k d (script_of all) (S.said site.old) (S.said site.new) }
-    ensures input_cut { result ≡ Status.InputFault → IsTrue S.tells_said → (all : List ℕ) (d : Described) → I.left input.old ≡ Some all → judged (text_of all) ≡ Ok d → CutTry d all (I.left input.new) (S.said site.old) (S.said site.new) }
-    ensures input_cut_refused { result ≡ Status.InputFault → (all : List ℕ) (e : Refusal) → I.left input.old ≡ Some all → judged (text_of all) ≡ Err e → CutText all (I.left input.new) }
-    ensures input_later { I.faults input.old ≤ I.faults input.new }
+    ensures within { result ≡ Status.Ok → OfScript (I.left input.old) (λ d all. WithinLimits d (script_of all)) }
+    ensures limit { (k : Kind) → result ≡ Status.Limit k → OfScript (I.left input.old) (λ d all. Passes k d (script_of all) (told S.tells_said (S.said site.old)) (told S.tells_said (S.said site.new))) }
+    ensures input_cut { result ≡ Status.InputFault → OfScript (I.left input.old) (λ d all. CutTry d all (I.left input.new) (told S.tells_said (S.said site.old)) (told S.tells_said (S.said site.new))) }
+    ensures input_cut_refused { result ≡ Status.InputFault → OfNoScript (I.left input.old) (λ all. CutText all (I.left input.new)) }
     ensures same_source { I.same_source input.old input.new }
 {
     let mut feed = Feed::new();
@@ -86,50 +86,47 @@ pub fn dms<S: Site, I: Source>(
     input: &mut I,
 ) -> Status
     ensures words { result ≡ Status.BadWords ↔ (IsCommand (map string_bytes words.now) → ⊥) }
-    ensures end { result ≡ Status.Ok → (all : List ℕ) → I.left input.old ≡ Some all → I.left input.new ≡ Some [] }
-    ensures input { result ≡ Status.InputFault → Rose (I.faults input.old) (I.faults input.new) }
-    ensures disk { result ≡ Status.DiskFault → Rose (S.disk_faults site.old) (S.disk_faults site.new) }
-    ensures say { result ≡ Status.SayFault → Rose (S.say_faults site.old) (S.say_faults site.new) }
-    ensures input_later { I.faults input.old ≤ I.faults input.new }
-    ensures disk_later { S.disk_faults site.old ≤ S.disk_faults site.new }
+    ensures end { result ≡ Status.Ok → OfInput (I.left input.old) (λ all. I.left input.new ≡ Some []) }
+    ensures input { CountedAt (result ≡ Status.InputFault) (I.faults input.old) (I.faults input.new) }
+    ensures disk { CountedAt (result ≡ Status.DiskFault) (S.disk_faults site.old) (S.disk_faults site.new) }
+    ensures say { CountedAt (result ≡ Status.SayFault) (S.say_faults site.old) (S.say_faults site.new) }
     ensures before { IsBefore result → IsTrue S.tells → S.files site.new ≡ S.files site.old }
     ensures others { IsTrue S.tells → (g : ℕ) → g ≢ 1 → S.files site.new g ≡ S.files site.old g }
     ensures same_source { I.same_source input.old input.new }
     ensures untaken { result ≡ Status.BadWords → input.new ≡ input.old }
     ensures untouched { IsUntouched result → site.new ≡ site.old }
     // `try`
-    ensures refused { IsTry (map string_bytes words.now) → (f : Refusal) → result ≡ Status.SchemaRefused f → (all : List ℕ) → I.left input.old ≡ Some all → judged (text_of all) ≡ Err f }
-    ensures accepted { IsTry (map string_bytes words.now) → IsPast result → (all : List ℕ) → I.left input.old ≡ Some all → IsOk (judged (text_of all)) }
-    ensures disk_same { IsTry (map string_bytes words.now) → S.disk_faults site.new ≡ S.disk_faults site.old }
-    ensures files { IsTry (map string_bytes words.now) → IsTrue S.tells → S.files site.new ≡ S.files site.old }
-    ensures try_only_speaks { IsTry (map string_bytes words.now) → OnlySpeaks (S.clock site.old) (S.clock site.new) }
-    ensures answers { IsTry (map string_bytes words.now) → result ≡ Status.Ok → IsTrue S.tells_said → (all : List ℕ) → I.left input.old ≡ Some all → Printed (S.said site.old) (S.said site.new) (try_text all) }
-    ensures part { IsTry (map string_bytes words.now) → IsTrue S.tells_said → (all : List ℕ) → I.left input.old ≡ Some all → PrintedFront (S.said site.old) (S.said site.new) (try_text all) }
-    ensures silent { IsTry (map string_bytes words.now) → IsTrue S.tells_said → IsSilent result → S.said site.new ≡ S.said site.old }
-    ensures within { IsTry (map string_bytes words.now) → result ≡ Status.Ok → IsTrue S.tells_said → (all : List ℕ) (d : Described) → I.left input.old ≡ Some all → judged (text_of all) ≡ Ok d → WithinLimits d (script_of all) }
-    ensures limit { IsTry (map string_bytes words.now) → (k : Kind) → result ≡ Status.Limit k → IsTrue S.tells_said → (all : List ℕ) (d : Described) → I.left input.old ≡ Some all → judged (text_of all) ≡ Ok d → Passes k d (script_of all) (S.said site.old) (S.said site.new) }
-    ensures input_cut { IsTry (map string_bytes words.now) → result ≡ Status.InputFault → IsTrue S.tells_said → (all : List ℕ) (d : Described) → I.left input.old ≡ Some all → judged (text_of all) ≡ Ok d → CutTry d all (I.left input.new) (S.said site.old) (S.said site.new) }
-    ensures input_cut_refused { IsTry (map string_bytes words.now) → result ≡ Status.InputFault → (all : List ℕ) (e : Refusal) → I.left input.old ≡ Some all → judged (text_of all) ≡ Err e → CutText all (I.left input.new) }
-    ensures no_file_exists { IsTry (map string_bytes words.now) → result ≢ Status.Exists }
+    ensures refused { OnTry words.now ((f : Refusal) → result ≡ Status.SchemaRefused f → OfInput (I.left input.old) (λ all. judged (text_of all) ≡ Err f)) }
+    ensures accepted { OnTry words.now (IsPast result → OfInput (I.left input.old) (λ all. IsOk (judged (text_of all)))) }
+    ensures no_disk { OnTry words.now (result ≢ Status.DiskFault) }
+    ensures files { OnTry words.now (IsTrue S.tells → S.files site.new ≡ S.files site.old) }
+    ensures try_only_speaks { OnTry words.now (OnlySpeaks (S.clock site.old) (S.clock site.new)) }
+    ensures answers { OnTry words.now (result ≡ Status.Ok → IsTrue S.tells_said → OfInput (I.left input.old) (λ all. Printed (S.said site.old) (S.said site.new) (try_text all))) }
+    ensures part { OnTry words.now (IsTrue S.tells_said → OfInput (I.left input.old) (λ all. PrintedFront (S.said site.old) (S.said site.new) (try_text all))) }
+    ensures silent { OnTry words.now (IsTrue S.tells_said → IsSilent result → S.said site.new ≡ S.said site.old) }
+    ensures within { OnTry words.now (result ≡ Status.Ok → OfScript (I.left input.old) (λ d all. WithinLimits d (script_of all))) }
+    ensures limit { OnTry words.now ((k : Kind) → result ≡ Status.Limit k → OfScript (I.left input.old) (λ d all. Passes k d (script_of all) (told S.tells_said (S.said site.old)) (told S.tells_said (S.said site.new)))) }
+    ensures input_cut { OnTry words.now (result ≡ Status.InputFault → OfScript (I.left input.old) (λ d all. CutTry d all (I.left input.new) (told S.tells_said (S.said site.old)) (told S.tells_said (S.said site.new)))) }
+    ensures input_cut_refused { OnTry words.now (result ≡ Status.InputFault → OfNoScript (I.left input.old) (λ all. CutText all (I.left input.new))) }
+    ensures no_file_exists { OnTry words.now (result ≢ Status.Exists) }
     // `compile`
-    ensures compile_refused_text { IsCompile (map string_bytes words.now) → (all : List ℕ) (e : Refusal) → I.left input.old ≡ Some all → judged all ≡ Err e → site.new ≡ site.old }
-    ensures compile_input_fault { IsCompile (map string_bytes words.now) → result ≡ Status.InputFault → site.new ≡ site.old }
-    ensures compile_limit { IsCompile (map string_bytes words.now) → (k : Kind) → result ≢ Status.Limit k }
-    ensures compile_refused { IsCompile (map string_bytes words.now) → (f : Refusal) → result ≡ Status.SchemaRefused f → (all : List ℕ) → I.left input.old ≡ Some all → judged all ≡ Err f }
-    ensures compile_accepted { IsCompile (map string_bytes words.now) → IsPast result → (all : List ℕ) → I.left input.old ≡ Some all → IsOk (judged all) }
-    ensures compile_exists { IsCompile (map string_bytes words.now) → result ≡ Status.Exists → IsTrue S.tells → (d : Described) × IsSealed (S.files site.old 1) d }
-    ensures compile_unsealed { IsCompile (map string_bytes words.now) → IsSpoken result → IsTrue S.tells → IsUnsealed (S.files site.old 1) }
-    ensures compile_says { IsCompile (map string_bytes words.now) → IsTrue S.tells_said → (all : List ℕ) (d : Described) → I.left input.old ≡ Some all → judged all ≡ Ok d → Says result (compiled_text (length d.structures)) (S.said site.old) (S.said site.new) }
-    ensures compile_silent { IsCompile (map string_bytes words.now) → IsTrue S.tells_said → (IsSpoken result → ⊥) → S.said site.new ≡ S.said site.old }
-    ensures compile_say_later { IsCompile (map string_bytes words.now) → S.say_faults site.old ≤ S.say_faults site.new }
-    ensures creation_at_every_moment { IsCompile (map string_bytes words.now) → IsTrue S.tells → (all : List ℕ) (d : Described) → I.left input.old ≡ Some all → judged all ≡ Ok d → AtEachMoment (S.clock site.old) (S.clock site.new) (IsCreated (sealed_file d) (S.files site.old)) }
-    ensures creation_of_some { IsCompile (map string_bytes words.now) → IsTrue S.tells → AtEachMoment (S.clock site.old) (S.clock site.new) (λ x. (d : Described) × IsCreated (sealed_file d) (S.files site.old) x) }
-    ensures compile_kept { IsCompile (map string_bytes words.now) → IsTrue S.tells → (d : Described) → IsSealed (S.files site.old 1) d → IsKept (S.files site.old) (S.files site.new) (S.said site.old) (S.said site.new) (S.clock site.old) (S.clock site.new) }
-    ensures creation_at_ok { IsCompile (map string_bytes words.now) → IsSpoken result → IsTrue S.tells → (all : List ℕ) (d : Described) → I.left input.old ≡ Some all → judged all ≡ Ok d → S.files site.new 1 ≡ sealed_file d }
-    ensures sealed_at_ok { IsCompile (map string_bytes words.now) → IsSpoken result → IsTrue S.tells → (all : List ℕ) (d : Described) → I.left input.old ≡ Some all → judged all ≡ Ok d → IsSealed (S.files site.new 1) d }
-    ensures sealed_some { IsCompile (map string_bytes words.now) → IsSpoken result → IsTrue S.tells → (d : Described) × IsSealed (S.files site.new 1) d }
-    ensures stable_at_ok { IsCompile (map string_bytes words.now) → IsSpoken result → IsTrue S.tells → Only (S.files site.new) (S.clock site.new) }
-    ensures says_sealed_at_every_moment { IsCompile (map string_bytes words.now) → IsTrue S.tells → (all : List ℕ) (d : Described) → I.left input.old ≡ Some all → judged all ≡ Ok d → AtEachMoment (S.clock site.old) (S.clock site.new) (λ x. ((y : Left) × Now (S.clock site.old) y × (x.said ≡ y.said)) ⊎ (x.files 1 ≡ sealed_file d)) }
+    ensures compile_refused_text { OnCompile words.now (OfNoSchema (I.left input.old) (site.new ≡ site.old)) }
+    ensures compile_input_fault { OnCompile words.now (result ≡ Status.InputFault → site.new ≡ site.old) }
+    ensures compile_limit { OnCompile words.now ((k : Kind) → result ≢ Status.Limit k) }
+    ensures compile_refused { OnCompile words.now ((f : Refusal) → result ≡ Status.SchemaRefused f → OfInput (I.left input.old) (λ all. judged all ≡ Err f)) }
+    ensures compile_accepted { OnCompile words.now (IsPast result → OfInput (I.left input.old) (λ all. IsOk (judged all))) }
+    ensures compile_exists { OnCompile words.now (result ≡ Status.Exists → IsTrue S.tells → (d : Described) × IsSealed (S.files site.old 1) d) }
+    ensures compile_unsealed { OnCompile words.now (IsSpoken result → IsTrue S.tells → IsUnsealed (S.files site.old 1)) }
+    ensures compile_says { OnCompile words.now (IsTrue S.tells_said → OfSchema (I.left input.old) (λ d. Says result (compiled_text (length d.structures)) (S.said site.old) (S.said site.new))) }
+    ensures compile_silent { OnCompile words.now (IsTrue S.tells_said → (IsSpoken result → ⊥) → S.said site.new ≡ S.said site.old) }
+    ensures creation_at_every_moment { OnCompile words.now (IsTrue S.tells → OfSchema (I.left input.old) (λ d. AtEachMoment (S.clock site.old) (S.clock site.new) (IsCreated (sealed_file d) (S.files site.old)))) }
+    ensures creation_of_some { OnCompile words.now (IsTrue S.tells → AtEachMoment (S.clock site.old) (S.clock site.new) (λ x. (d : Described) × IsCreated (sealed_file d) (S.files site.old) x)) }
+    ensures compile_kept { OnCompile words.now (IsTrue S.tells → (d : Described) → IsSealed (S.files site.old 1) d → IsKept (S.files site.old) (S.files site.new) (S.said site.old) (S.said site.new) (S.clock site.old) (S.clock site.new)) }
+    ensures creation_at_ok { OnCompile words.now (IsSpoken result → IsTrue S.tells → OfSchema (I.left input.old) (λ d. S.files site.new 1 ≡ sealed_file d)) }
+    ensures sealed_at_ok { OnCompile words.now (IsSpoken result → IsTrue S.tells → OfSchema (I.left input.old) (λ d. IsSealed (S.files site.new 1) d)) }
+    ensures sealed_some { OnCompile words.now (IsSpoken result → IsTrue S.tells → (d : Described) × IsSealed (S.files site.new 1) d) }
+    ensures stable_at_ok { OnCompile words.now (IsSpoken result → IsTrue S.tells → Only (S.files site.new) (S.clock site.new)) }
+    ensures says_sealed_at_every_moment { OnCompile words.now (IsTrue S.tells → OfSchema (I.left input.old) (λ d. AtEachMoment (S.clock site.old) (S.clock site.new) (λ x. ((y : Left) × Now (S.clock site.old) y × (x.said ≡ y.said)) ⊎ (x.files 1 ≡ sealed_file d)))) }
 {
     if is_try(words) {
         return try_input(alloc, site, input);

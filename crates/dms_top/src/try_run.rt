@@ -1,14 +1,15 @@
 ghost use Rattle.std.specs.Prelude.{◌≡◌, ◌≢◌, ◌≤◌, [], ℕ, List, Some, IsTrue, IsOk, IsErrOf};
-ghost use Rattle.dms_base.specs.Causes.{Rose};
 ghost use Rattle.dms_desc.specs.Shape.{described};
 ghost use Rattle.dms_feed.specs.Feeds.{Remains};
 ghost use Rattle.dms_feed.specs.Lines.{raw_lines};
 ghost use Rattle.dms_model.specs.Db.{empty_db};
 ghost use Rattle.dms_plain.specs.Speaking.{OnlySpeaks};
+ghost use Rattle.dms_plain.specs.Told.{told};
 ghost use Rattle.dms_runner.specs.Answers.{answers_text};
 ghost use Rattle.dms_runner.specs.Running.{CutInput};
 ghost use Rattle.dms_top.specs.Answering.{Printed, PrintedFront, WithinLimits, Passes};
 ghost use Rattle.dms_top.specs.declared.status.LimitKind.{LimitKind as Kind};
+ghost use Rattle.dms_top.specs.Premises.{OfRest, CountedAt};
 ghost use Rattle.dms_top.specs.Words.{IsSilent};
 ghost use Rattle.dms_top.specs.declared.status.SchemaFault.{SchemaFault as Refusal};
 
@@ -76,19 +77,19 @@ pub fn try_lines<S: Site, I: Source>(
 ) -> Status
     ensures words { result ≢ Status.BadWords }
     ensures schema { (f : Refusal) → result ≢ Status.SchemaRefused f }
-    ensures end { result ≡ Status.Ok → (all : List ℕ) → Remains feed.old (I.left source.old) all → Remains feed.new (I.left source.new) [] }
-    ensures answers { result ≡ Status.Ok → IsTrue S.tells_said → (all : List ℕ) → Remains feed.old (I.left source.old) all → Printed (S.said site.old) (S.said site.new) (answers_text (described desc.now) empty_db 1 (raw_lines all)) × WithinLimits (described desc.now) (raw_lines all) }
-    ensures part { IsTrue S.tells_said → (all : List ℕ) → Remains feed.old (I.left source.old) all → PrintedFront (S.said site.old) (S.said site.new) (answers_text (described desc.now) empty_db 1 (raw_lines all)) }
-    ensures limit { (k : Kind) → result ≡ Status.Limit k → IsTrue S.tells_said → (all : List ℕ) → Remains feed.old (I.left source.old) all → Passes k (described desc.now) (raw_lines all) (S.said site.old) (S.said site.new) }
-    ensures input_cut { result ≡ Status.InputFault → IsTrue S.tells_said → (all : List ℕ) → Remains feed.old (I.left source.old) all → CutInput (described desc.now) empty_db 1 all (I.left source.new) (Some (S.said site.old)) (Some (S.said site.new)) }
-    ensures input { result ≡ Status.InputFault → Rose (I.faults source.old) (I.faults source.new) }
-    ensures disk { result ≡ Status.DiskFault → Rose (S.disk_faults site.old) (S.disk_faults site.new) }
-    ensures say { result ≡ Status.SayFault → Rose (S.say_faults site.old) (S.say_faults site.new) }
-    ensures disk_same { S.disk_faults site.new ≡ S.disk_faults site.old }
+    ensures end { result ≡ Status.Ok → OfRest feed.old (I.left source.old) (λ all. Remains feed.new (I.left source.new) []) }
+    ensures answers { result ≡ Status.Ok → IsTrue S.tells_said → OfRest feed.old (I.left source.old) (λ all. Printed (S.said site.old) (S.said site.new) (answers_text (described desc.now) empty_db 1 (raw_lines all))) }
+    ensures within { result ≡ Status.Ok → OfRest feed.old (I.left source.old) (λ all. WithinLimits (described desc.now) (raw_lines all)) }
+    ensures part { IsTrue S.tells_said → OfRest feed.old (I.left source.old) (λ all. PrintedFront (S.said site.old) (S.said site.new) (answers_text (described desc.now) empty_db 1 (raw_lines all))) }
+    ensures limit { (k : Kind) → result ≡ Status.Limit k → OfRest feed.old (I.left source.old) (λ all. Passes k (described desc.now) (raw_lines all) (told S.tells_said (S.said site.old)) (told S.tells_said (S.said site.new))) }
+    ensures input_cut { result ≡ Status.InputFault → OfRest feed.old (I.left source.old) (λ all. CutInput (described desc.now) empty_db 1 all (I.left source.new) (told S.tells_said (S.said site.old)) (told S.tells_said (S.said site.new))) }
+    ensures input { CountedAt (result ≡ Status.InputFault) (I.faults source.old) (I.faults source.new) }
+    ensures disk { CountedAt (result ≡ Status.DiskFault) (S.disk_faults site.old) (S.disk_faults site.new) }
+    ensures say { CountedAt (result ≡ Status.SayFault) (S.say_faults site.old) (S.say_faults site.new) }
+    ensures no_disk { result ≢ Status.DiskFault }
     ensures files { IsTrue S.tells → S.files site.new ≡ S.files site.old }
     ensures only_speaks { OnlySpeaks (S.clock site.old) (S.clock site.new) }
     ensures same_source { I.same_source source.old source.new }
-    ensures later { I.faults source.old ≤ I.faults source.new }
     ensures spoken { IsSilent result → ⊥ }
 {
     match PlainStore::new(alloc, desc, site) {

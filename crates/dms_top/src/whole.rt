@@ -1,5 +1,5 @@
 ghost use Rattle.std.specs.Prelude.{◌≡◌, ◌≤◌, ◌<◌, [], ℕ, List, Some, IfOk, IsErrOf, length};
-ghost use Rattle.dms_base.specs.Causes.{Rose};
+ghost use Rattle.dms_top.specs.Premises.{CountedAt};
 
 use crate::schema::TextFault;
 use dms_base::Bytes;
@@ -13,8 +13,7 @@ pub fn whole_text<I: Source>(alloc: Global, source: &mut I) -> Result<Bytes, Tex
     ensures end { IfOk result (λ text. (all : List ℕ) → I.left source.old ≡ Some all → I.left source.new ≡ Some []) }
     ensures long { IsErrOf result TextFault.Long → (all : List ℕ) → I.left source.old ≡ Some all → 1000000 < length all }
     ensures same { I.same_source source.old source.new }
-    ensures later { I.faults source.old ≤ I.faults source.new }
-    ensures input { IsErrOf result TextFault.Input → Rose (I.faults source.old) (I.faults source.new) }
+    ensures counted { CountedAt (IsErrOf result TextFault.Input) (I.faults source.old) (I.faults source.new) }
 {
     let mut feed = Feed::new();
     let mut text = Bytes::new(alloc);

@@ -1,5 +1,6 @@
-use Rattle.std.proofs.Common.{Err, ap, arith}
+use Rattle.std.proofs.Common.{◌∙◌, Err, ap, arith}
 use Rattle.dms_top.proofs.Taken.{reaches_on, reaches_end, reaches_long, reaches_over, reaches_cut}
+use Rattle.dms_top.proofs.Judgements.{no_fault}
 use Rattle.dms_top.proofs.schema.schema_text.Goals as goal
 
 pub returns-in-Err-Long-clause-long : goal.returns-in-Err-Long-clause-long
@@ -20,7 +21,7 @@ returns-in-Ok-false-clause-text g c = λ all remains.
 pub loop-line-preserved : goal.loop-line-preserved
 loop-line-preserved g c = record {
   same = g.met.I.Source.same_then _ _ _ c.loop-line.invariant.same c.schema_line.ensures.same;
-  later = omega (arith, c.loop-line.invariant.later, c.schema_line.ensures.later);
+  clean = c.in-Ok-true.ensures.counted.clean (no_fault _ _) ∙ c.loop-line.invariant.clean;
   reaches = λ all remains.
       let r = c.loop-line.invariant.reaches all remains in
       reaches_on _ _ _ all _ _ _ _ r ((rw c.in-Ok-true.field-0-test at c.in-Ok-true.ensures.line) r.rest r.remains);

@@ -48,7 +48,7 @@ pub returns-clause-answers : goal.returns-clause-answers
 returns-clause-answers g c = λ ok told all left.
     let t = c.in-Ok.ensures.text all (at_start _ _ all c.new-feed.ensures left) in
     let j : judged (schema_text all) ≡ Ok (described c.in-Description.desc) = ap judged (sym t.is ∙ sym c.as_slice.ensures) ∙ c.in-Description.ensures in
-    printed_moved _ _ (try_text all) _ _ _ refl refl (text_accepted _ _ (script_of all) j ∙ ap (λ (ls : List (List ℕ)). answers_text (described c.in-Description.desc) empty_db 1 ls) (sym t.script)) (c.try_lines.ensures.answers ok told t.rest t.remains).0
+    printed_moved _ _ (try_text all) _ _ _ refl refl (text_accepted _ _ (script_of all) j ∙ ap (λ (ls : List (List ℕ)). answers_text (described c.in-Description.desc) empty_db 1 ls) (sym t.script)) (c.try_lines.ensures.answers ok told t.rest t.remains)
 
 pub returns-clause-part : goal.returns-clause-part
 returns-clause-part g c = λ told all left.
@@ -57,26 +57,26 @@ returns-clause-part g c = λ told all left.
     front_moved _ _ (try_text all) _ _ _ refl refl (text_accepted _ _ (script_of all) j ∙ ap (λ (ls : List (List ℕ)). answers_text (described c.in-Description.desc) empty_db 1 ls) (sym t.script)) (c.try_lines.ensures.part told t.rest t.remains)
 
 pub returns-clause-within : goal.returns-clause-within
-returns-clause-within g c = λ ok told all d left is.
+returns-clause-within g c = λ ok all d left is.
     let t = c.in-Ok.ensures.text all (at_start _ _ all c.new-feed.ensures left) in
     let j : judged (schema_text all) ≡ Ok (described c.in-Description.desc) = ap judged (sym t.is ∙ sym c.as_slice.ensures) ∙ c.in-Description.ensures in
-    within_moved _ _ _ (same_description _ _ d j is) (within_lines _ _ _ t.script (c.try_lines.ensures.answers ok told t.rest t.remains).1)
+    within_moved _ _ _ (same_description _ _ d j is) (within_lines _ _ _ t.script (c.try_lines.ensures.within ok t.rest t.remains))
 
 pub returns-clause-limit : goal.returns-clause-limit
-returns-clause-limit g c = λ k limit told all d left is.
+returns-clause-limit g c = λ k limit all d left is.
     let t = c.in-Ok.ensures.text all (at_start _ _ all c.new-feed.ensures left) in
     let j : judged (schema_text all) ≡ Ok (described c.in-Description.desc) = ap judged (sym t.is ∙ sym c.as_slice.ensures) ∙ c.in-Description.ensures in
-    passes_moved k _ _ _ _ _ _ _ refl refl (same_description _ _ d j is) (passes_lines k _ _ _ _ _ t.script (c.try_lines.ensures.limit k limit told t.rest t.remains))
+    passes_moved k _ _ _ _ _ _ _ _ refl refl (same_description _ _ d j is) (passes_lines k _ _ _ _ _ t.script (c.try_lines.ensures.limit k limit t.rest t.remains))
 
 pub returns-in-Err-Input-clause-input_cut : goal.returns-in-Err-Input-clause-input_cut
-returns-in-Err-Input-clause-input_cut g c = λ _ told all d left is.
+returns-in-Err-Input-clause-input_cut g c = λ _ all d left is.
     cut_text d all _ _ (c.in-Err-Input.ensures.failed (ap Err c.in-Err-Input.field-0-is) all (at_start _ _ all c.new-feed.ensures left))
 
 pub returns-clause-input_cut : goal.returns-clause-input_cut
-returns-clause-input_cut g c = λ cut told all d left is.
+returns-clause-input_cut g c = λ cut all d left is.
     let t = c.in-Ok.ensures.text all (at_start _ _ all c.new-feed.ensures left) in
     let j : judged (schema_text all) ≡ Ok (described c.in-Description.desc) = ap judged (sym t.is ∙ sym c.as_slice.ensures) ∙ c.in-Description.ensures in
-    cut_described _ _ all _ _ _ (same_description _ _ d j is) (cut_script _ t.done all t.rest _ _ _ t.leaves t.behind (c.try_lines.ensures.input_cut cut told t.rest t.remains))
+    cut_described _ _ all _ _ _ (same_description _ _ d j is) (cut_script _ t.done all t.rest _ _ _ t.leaves t.behind (c.try_lines.ensures.input_cut cut t.rest t.remains))
 
 pub returns-clause-silent : goal.returns-clause-silent
 returns-clause-silent g c = λ told silent. absurd (c.try_lines.ensures.spoken silent)

@@ -4,9 +4,9 @@ use Rattle.dms_feed.specs.Lines.{raw_lines}
 use Rattle.dms_model.specs.Db.{empty_db}
 use Rattle.dms_runner.specs.Answers.{answers_text}
 use Rattle.dms_top.specs.Answering.{Passes}
-use Rattle.dms_top.proofs.Printing.{told_front, told_answers, told_lines, told_bytes, told_held, stands_at, front_moved, printed_moved, passes_moved, within_moved, on_ok}
-use Rattle.dms_top.proofs.Cutting.{told_cut, cut_moved}
-use Rattle.std.specs.Prelude.{IsTrue}
+use Rattle.dms_top.proofs.Printing.{told_front, told_prints, limits_kept, stands_at, front_moved, printed_moved, passes_moved, within_moved, on_ok}
+use Rattle.dms_top.proofs.Cutting.{cut_moved}
+use Rattle.dms_plain.specs.Told.{told}
 use Rattle.dms_feed.specs.Feeds.{Remains}
 use Rattle.dms_top.specs.declared.status.Status.TheVariants.{Limit}
 use Rattle.dms_top.specs.declared.status.LimitKind.{LimitKind}
@@ -20,21 +20,25 @@ returns-in-Ok-new-clause-part g c = λ told all remains.
     front_moved _ _ _ _ (g.S.Site.said c.run_lines-ran.new.engine.store.site.now) (answers_text (described c.in-Ok-new.engine.desc) empty_db 1 (raw_lines all)) (search rules) (search rules) (ap (λ (d : Described). answers_text d empty_db 1 (raw_lines all)) (sym c.in-Ok-new.ensures.described)) (told_front g.S.Site.tells_said _ _ _ told p)
 
 pub returns-in-Ok-new-clause-answers : goal.returns-in-Ok-new-clause-answers
-returns-in-Ok-new-clause-answers g c = λ ok told all remains.
-    let a = told_answers g.S.Site.tells_said (described c.in-Ok-new.engine.desc) (raw_lines all) _ _ told ((on_ok _ _ (c.status_after.ensures.ok ok) c.run_lines-ran.ensures.answers) empty_db 1 all (stands_at _ _ 1 c.in-Ok.ensures.starts.next_is (c.in-Ok-new.ensures.stands empty_db c.in-Ok.ensures.starts.db_is)) (omega arith) remains) in
-    (printed_moved _ _ _ (g.S.Site.said c.in-Ok-new.engine.store.site.now) (g.S.Site.said c.run_lines-ran.new.engine.store.site.now) (answers_text (described c.in-Ok-new.engine.desc) empty_db 1 (raw_lines all)) (search rules) (search rules) (ap (λ (d : Described). answers_text d empty_db 1 (raw_lines all)) (sym c.in-Ok-new.ensures.described)) a.0, within_moved _ _ _ (sym c.in-Ok-new.ensures.described) a.1)
+returns-in-Ok-new-clause-answers g c = λ ok is all remains.
+    let a = (on_ok _ _ (c.status_after.ensures.ok ok) c.run_lines-ran.ensures.answers) empty_db 1 all (stands_at _ _ 1 c.in-Ok.ensures.starts.next_is (c.in-Ok-new.ensures.stands empty_db c.in-Ok.ensures.starts.db_is)) (omega arith) remains in
+    printed_moved _ _ _ (g.S.Site.said c.in-Ok-new.engine.store.site.now) (g.S.Site.said c.run_lines-ran.new.engine.store.site.now) (answers_text (described c.in-Ok-new.engine.desc) empty_db 1 (raw_lines all)) (search rules) (search rules) (ap (λ (d : Described). answers_text d empty_db 1 (raw_lines all)) (sym c.in-Ok-new.ensures.described)) (told_prints g.S.Site.tells_said _ _ _ is a.text)
+
+pub returns-in-Ok-new-clause-within : goal.returns-in-Ok-new-clause-within
+returns-in-Ok-new-clause-within g c = λ ok all remains.
+    within_moved _ _ _ (sym c.in-Ok-new.ensures.described) (limits_kept _ _ _ _ ((on_ok _ _ (c.status_after.ensures.ok ok) c.run_lines-ran.ensures.answers) empty_db 1 all (stands_at _ _ 1 c.in-Ok.ensures.starts.next_is (c.in-Ok-new.ensures.stands empty_db c.in-Ok.ensures.starts.db_is)) (omega arith) remains))
 
 pub returns-in-Ok-new-clause-input_cut : goal.returns-in-Ok-new-clause-input_cut
-returns-in-Ok-new-clause-input_cut g c = λ is told all remains.
-    let p = c.run_lines-ran.ensures.failed (c.status_after.ensures.input is) empty_db 1 all (stands_at _ _ 1 c.in-Ok.ensures.starts.next_is (c.in-Ok-new.ensures.stands empty_db c.in-Ok.ensures.starts.db_is)) (omega arith) remains in
-    cut_moved _ (described c.in-Ok-new.engine.desc) all _ _ _ _ (g.S.Site.said c.in-Ok-new.engine.store.site.now) (g.S.Site.said c.run_lines-ran.new.engine.store.site.now) refl (search rules) (search rules) (sym c.in-Ok-new.ensures.described) (told_cut g.S.Site.tells_said _ all _ _ _ told p)
+returns-in-Ok-new-clause-input_cut g c = λ is all remains.
+    cut_moved _ (described c.in-Ok-new.engine.desc) all _ _ g.S.Site.tells_said _ _ (g.S.Site.said c.in-Ok-new.engine.store.site.now) (g.S.Site.said c.run_lines-ran.new.engine.store.site.now) refl (search rules) (search rules) (sym c.in-Ok-new.ensures.described)
+    (c.run_lines-ran.ensures.failed (c.status_after.ensures.input is) empty_db 1 all (stands_at _ _ 1 c.in-Ok.ensures.starts.next_is (c.in-Ok-new.ensures.stands empty_db c.in-Ok.ensures.starts.db_is)) (omega arith) remains)
 
 pub returns-in-Ok-new-clause-limit : goal.returns-in-Ok-new-clause-limit
-returns-in-Ok-new-clause-limit g c = λ k is told all remains.
-    passes_moved k _ (described c.in-Ok-new.engine.desc) _ _ _ (g.S.Site.said c.in-Ok-new.engine.store.site.now) (g.S.Site.said c.run_lines-ran.new.engine.store.site.now) (search rules) (search rules) (sym c.in-Ok-new.ensures.described) (passes g c k is told all remains)
+returns-in-Ok-new-clause-limit g c = λ k is all remains.
+    passes_moved k _ (described c.in-Ok-new.engine.desc) _ g.S.Site.tells_said _ _ (g.S.Site.said c.in-Ok-new.engine.store.site.now) (g.S.Site.said c.run_lines-ran.new.engine.store.site.now) (search rules) (search rules) (sym c.in-Ok-new.ensures.described) (passes g c k is all remains)
   where
-    passes : (g : Over) (c : goal.After-status_after g) (k : LimitKind) → c.status_after.result ≡ Limit k → IsTrue g.S.Site.tells_said → (all : List ℕ) → Remains c.args.feed.now (g.I.Source.left c.args.source.now) all
-        → Passes k (described c.in-Ok-new.engine.desc) (raw_lines all) (g.S.Site.said c.in-Ok-new.engine.store.site.now) (g.S.Site.said c.run_lines-ran.new.engine.store.site.now)
-    passes g c Lines is told all remains = told_lines g.S.Site.tells_said _ _ _ _ told (c.run_lines-ran.ensures.lines (c.status_after.ensures.lines is) empty_db 1 all (stands_at _ _ 1 c.in-Ok.ensures.starts.next_is (c.in-Ok-new.ensures.stands empty_db c.in-Ok.ensures.starts.db_is)) (omega arith) remains)
-    passes g c Bytes is told all remains = told_bytes g.S.Site.tells_said _ _ _ _ told (c.run_lines-ran.ensures.bytes (c.status_after.ensures.bytes is) empty_db 1 all (stands_at _ _ 1 c.in-Ok.ensures.starts.next_is (c.in-Ok-new.ensures.stands empty_db c.in-Ok.ensures.starts.db_is)) (omega arith) remains)
-    passes g c Held is told all remains = told_held g.S.Site.tells_said _ _ _ _ told (c.run_lines-ran.ensures.full_list (c.status_after.ensures.held is) empty_db 1 all (stands_at _ _ 1 c.in-Ok.ensures.starts.next_is (c.in-Ok-new.ensures.stands empty_db c.in-Ok.ensures.starts.db_is)) (omega arith) remains)
+    passes : (g : Over) (c : goal.After-status_after g) (k : LimitKind) → c.status_after.result ≡ Limit k → (all : List ℕ) → Remains c.args.feed.now (g.I.Source.left c.args.source.now) all
+        → Passes k (described c.in-Ok-new.engine.desc) (raw_lines all) (told g.S.Site.tells_said (g.S.Site.said c.in-Ok-new.engine.store.site.now)) (told g.S.Site.tells_said (g.S.Site.said c.run_lines-ran.new.engine.store.site.now))
+    passes g c Lines is all remains = c.run_lines-ran.ensures.lines (c.status_after.ensures.lines is) empty_db 1 all (stands_at _ _ 1 c.in-Ok.ensures.starts.next_is (c.in-Ok-new.ensures.stands empty_db c.in-Ok.ensures.starts.db_is)) (omega arith) remains
+    passes g c Bytes is all remains = c.run_lines-ran.ensures.bytes (c.status_after.ensures.bytes is) empty_db 1 all (stands_at _ _ 1 c.in-Ok.ensures.starts.next_is (c.in-Ok-new.ensures.stands empty_db c.in-Ok.ensures.starts.db_is)) (omega arith) remains
+    passes g c Held is all remains = c.run_lines-ran.ensures.full_list (c.status_after.ensures.held is) empty_db 1 all (stands_at _ _ 1 c.in-Ok.ensures.starts.next_is (c.in-Ok-new.ensures.stands empty_db c.in-Ok.ensures.starts.db_is)) (omega arith) remains

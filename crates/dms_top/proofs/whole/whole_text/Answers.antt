@@ -1,4 +1,4 @@
-use Rattle.std.proofs.Common.{arith}
+use Rattle.std.proofs.Common.{◌∙◌, refl, arith}
 use Rattle.dms_top.proofs.WholeInput.{taken_start, taken_on, taken_all, taken_end, taken_over}
 use Rattle.dms_top.proofs.whole.whole_text.Goals as goal
 
@@ -21,14 +21,14 @@ returns-clause-long g c = λ _ all left.
 pub loop-turn-init : goal.loop-turn-init
 loop-turn-init g c = record {
   same = g.met.I.Source.same_again c.args.source.now;
-  later = omega arith;
+  clean = refl;
   taken = λ all left. taken_start _ all _ _ c.new-text.ensures c.new-feed.ensures left;
 }
 
 pub loop-turn-preserved : goal.loop-turn-preserved
 loop-turn-preserved g c = record {
   same = g.met.I.Source.same_then _ _ _ c.loop-turn.invariant.same c.next.ensures.same;
-  later = omega (arith, c.loop-turn.invariant.later, c.next.ensures.cause.later);
+  clean = c.in-Ok-Some.ensures.cause.clean ∙ c.loop-turn.invariant.clean;
   taken = λ all left.
       let t = c.loop-turn.invariant.taken all left in
       let f = (rw c.in-Ok-Some.field-0-is at c.in-Ok-Some.ensures.byte) t.rest t.remains in

@@ -1,0 +1,53 @@
+-- What the clauses of the commands are said of: the words of the command, the input, and the counts of failures.
+use Rattle.std.specs.Prelude.{ℕ, ◌≡◌, ◌≤◌, ◌+◌, List, Some, map}
+use Rattle.std.specs.String.{string_bytes}
+use Rattle.std.specs.declared.string.String.{String}
+use Rattle.std.specs.declared.alloc.Global.{Global}
+use Rattle.std.specs.declared.option.Option.{Option}
+use Rattle.std.specs.declared.result.Result.TheVariants.{Ok, Err}
+use Rattle.dms_base.specs.Causes.{Rose}
+use Rattle.dms_desc.specs.Shape.{Described}
+use Rattle.dms_feed.specs.Feeds.{Remains}
+use Rattle.dms_top.specs.declared.status.SchemaFault.{SchemaFault}
+use Rattle.dms_top.specs.Judging.{judged}
+use Rattle.dms_top.specs.Schema.{schema_text}
+use Rattle.dms_top.specs.Words.{IsTry, IsCompile}
+
+-- it holds where the words are those of `try`
+abbrev pub OnTry : List (String Global) → Type 0 → Type 0
+OnTry words P = IsTry (map string_bytes words) → P
+
+-- it holds where the words are those of `compile`
+abbrev pub OnCompile : List (String Global) → Type 0 → Type 0
+OnCompile words P = IsCompile (map string_bytes words) → P
+
+-- it holds of all the bytes of the input, where the input tells them
+abbrev pub OfInput : Option (List ℕ) → (List ℕ → Type 0) → Type 0
+OfInput left P = (all : List ℕ) → left ≡ Some all → P all
+
+-- it holds of the description that the whole input is a schema of
+abbrev pub OfSchema : Option (List ℕ) → (Described → Type 0) → Type 0
+OfSchema left P = (all : List ℕ) (d : Described) → left ≡ Some all → judged all ≡ Ok d → P d
+
+-- it holds where the whole input is no schema
+abbrev pub OfNoSchema : Option (List ℕ) → Type 0 → Type 0
+OfNoSchema left P = (all : List ℕ) (e : SchemaFault) → left ≡ Some all → judged all ≡ Err e → P
+
+-- it holds of the input of `try`, and of the description of its schema
+abbrev pub OfScript : Option (List ℕ) → (Described → List ℕ → Type 0) → Type 0
+OfScript left P = (all : List ℕ) (d : Described) → left ≡ Some all → judged (schema_text all) ≡ Ok d → P d all
+
+-- it holds of an input of `try` whose schema is refused
+abbrev pub OfNoScript : Option (List ℕ) → (List ℕ → Type 0) → Type 0
+OfNoScript left P = (all : List ℕ) (e : SchemaFault) → left ≡ Some all → judged (schema_text all) ≡ Err e → P all
+
+-- it holds of all that is held of the input and that its source has left
+abbrev pub OfRest : List ℕ → Option (List ℕ) → (List ℕ → Type 0) → Type 0
+OfRest held left P = (all : List ℕ) → Remains held left all → P all
+
+-- A count of failures rose by one where the call ended so, and else stayed. A count at its type's end stands for one that rose.
+pub record CountedAt (P : Type 0) (before now : ℕ) : Type 0 where
+  pub later : before ≤ now
+  pub failed : P → Rose before now
+  pub once : now ≤ before + 1
+  pub clean : (P → ⊥) → now ≡ before
