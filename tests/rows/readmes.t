@@ -1,0 +1,4 @@
+Each crate has a page that says what it means and what is proved of it, and names only clauses that are there.
+
+  $ "$TESTDIR/../readmes"
+  each crate has a page, and each clause that it names is there
