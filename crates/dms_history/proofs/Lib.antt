@@ -21,4 +21,8 @@ pub mod PlainPick
 pub mod PlainHere
 pub mod Examples
 pub mod Counterexamples
-pub mod Wanting
+pub mod Running
+pub mod LastPending
+pub mod Imaged
+pub mod Alone
+pub mod Keeping

@@ -64,20 +64,3 @@ BeginSealed = (entries : List Entry) (n : ℕ) (kind : Kind) → events (entries
 -- One more event is one more step of the history.
 abbrev pub OneMoreEvent : Type 0
 OneMoreEvent = (es : List Event) (e : Event) → history (es ++ e ∷ []) ≡ after_event (history es) e
-
--- ---- agreement has a base, and back
-
-abbrev pub AgreesGivesBase : Type 0
-AgreesGivesBase = (first : Bool) (entries : List Entry) (dumps : Dumps) (stored : Stored) → Agrees first entries dumps stored
-    → ((p : Pending) → (history (events entries)).pending ≡ Some p → IsLive (history (events entries)).live p.point)
-    → Steady dumps (history (events entries)) (base_of (history (events entries)).live (here dumps (history (events entries)) stored)) stored
-    × (has is_control (history (events entries)).live ≡ true
-    → Opened (opening (history (events entries)).live) (base_of (history (events entries)).live (here dumps (history (events entries)) stored))
-    × (first ≡ true → (f : ℕ) → length (base_of (history (events entries)).live (here dumps (history (events entries)) stored) f) ≡ 0))
-
-abbrev pub BaseGivesAgrees : Type 0
-BaseGivesAgrees = (first : Bool) (entries : List Entry) (dumps : Dumps) (stored : Stored) (base : Content) → Steady dumps (history (events entries)) base stored
-    → Opened (opening (history (events entries)).live) base → Numbered (events entries) (history (events entries)).live (next_number (events entries))
-    → (first ≡ true → (f : ℕ) → length (base f) ≡ 0)
-    → ((xs ys : List Logged) (m : ℕ) (how : How) (x : Logged) → logged entries ≡ xs ++ event (begin m how) ∷ (x ∷ ys) → ends_restore_logged x ≡ true)
-    → HasImages (live_logged [] (logged entries)) → Agrees first entries dumps stored

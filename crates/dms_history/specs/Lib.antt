@@ -21,6 +21,7 @@ pub mod Entries
 pub mod Schemas
 pub mod EntryEvents
 pub mod LawsOfEntries
+pub mod Kept
+pub mod LawsOfKept
 pub mod Plain
 pub mod PlainHistory
-pub mod Wanted
