@@ -1,10 +1,10 @@
 -- What stands after a Begin, among entries and among their events.
 use Rattle.std.proofs.Common.{ℕ, ◌≡◌, inl, inr, true, false, List, [], ◌∷◌, ◌++◌, Option, Some, None, refl, sym, ◌∙◌, ap, subst, append_assoc}
-use Rattle.dms_history.specs.Events.{Block, How, Event, change, quiet, control, begin}
+use Rattle.dms_history.specs.Events.{Block, How, Event, change, begin}
 use Rattle.dms_history.specs.Images.{last_after}
-use Rattle.dms_history.specs.History.{History, after_event, history_from, history}
+use Rattle.dms_history.specs.History.{History, history_from, history}
 use Rattle.dms_history.specs.Agrees.{ends_restore, BeginsAloneEvents}
-use Rattle.dms_history.specs.Ranges.{Logged, event, range, range_change, changes_of, events_from, told_events}
+use Rattle.dms_history.specs.Ranges.{Logged, event, range, range_change, events_from, told_events}
 use Rattle.dms_history.specs.Entries.{Entry}
 use Rattle.dms_history.specs.EntryEvents.{logged, events, ends_restore_logged, history_of, BeginsAlone}
 use Rattle.dms_history.proofs.Order.{not_empty, split_push}

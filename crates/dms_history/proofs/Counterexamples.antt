@@ -1,8 +1,7 @@
 -- Small trails that show why two sentences of the agreement are needed, and what a place before the first Control means.
 use Rattle.std.proofs.Common.{ℕ, ◌<◌, ◌≡◌, true, false, List, [], ◌∷◌, ◌++◌, length, get_or, Option, Some, None, refl, sym, ◌∙◌, ap, arith, inl, inr}
 use Rattle.dms_history.specs.Events.{Block, Content, Stored, Counts, rebuild, Event, change, quiet, control, begin}
-use Rattle.dms_history.specs.Lists.{has}
-use Rattle.dms_history.specs.Places.{is_begin, IsLive}
+use Rattle.dms_history.specs.Places.{IsLive}
 use Rattle.dms_history.specs.History.{history, next_number}
 use Rattle.dms_history.specs.Images.{is_at, choice}
 use Rattle.dms_history.specs.Pick.{Dumps, count_at, pick, dump_pick, content_of, blocks_at}
@@ -10,8 +9,6 @@ use Rattle.dms_history.specs.Here.{restore_pick, outcome, here}
 use Rattle.dms_history.specs.Base.{from_control, Sound}
 use Rattle.dms_history.specs.Agrees.{reached_count, ListAgrees, EventsAgree, Numbered}
 use Rattle.dms_history.proofs.Picks.{last_stands, place_cases, write_old, if_none}
-use Rattle.dms_history.proofs.AtPoints.{or_true_right}
-use Rattle.dms_history.proofs.Base.{has_append}
 use Rattle.dms_history.proofs.Converse.{logged_below, base_agrees}
 use Rattle.dms_history.proofs.Order.{not_empty, numbers_first, numbers_change, numbers_quiet, numbers_begin}
 

@@ -11,7 +11,6 @@ use Rattle.dms_history.proofs.Picks.{option_cases, last_append}
 use Rattle.dms_history.proofs.AtPoints.{bool_cases, or_no}
 use Rattle.dms_history.proofs.Base.{has_append}
 use Rattle.dms_history.proofs.Converse.{opening_append, opening_front}
-use Rattle.dms_history.proofs.Order.{append_none}
 use Rattle.dms_history.proofs.Splits.{ranges_split}
 use Rattle.dms_history.proofs.Turns.{left_out, changes_tail}
 

@@ -1,10 +1,10 @@
 -- What a database keeps between two calls.
-use Rattle.std.proofs.Common.{ℕ, ◌≤◌, ◌<◌, ◌≡◌, Bool, true, false, List, [], ◌∷◌, ◌++◌, length, Option, Some, None, refl, sym, ◌∙◌, ap, subst, arith}
-use Rattle.dms_history.specs.Events.{Block, Content, Stored, How, Event, change, quiet, control, begin, block_in}
+use Rattle.std.proofs.Common.{ℕ, ◌≡◌, Bool, true, List, [], ◌∷◌, ◌++◌, Some, None, refl, sym, ◌∙◌, ap, subst, arith}
+use Rattle.dms_history.specs.Events.{Content, Stored, How, Event, change, quiet, control, begin}
 use Rattle.dms_history.specs.Replay.{apply, replay}
-use Rattle.dms_history.specs.Lists.{has, after_last}
+use Rattle.dms_history.specs.Lists.{has}
 use Rattle.dms_history.specs.Places.{is_control, is_point}
-use Rattle.dms_history.specs.History.{History, Pending, after_event, history, last_point, next_number}
+use Rattle.dms_history.specs.History.{History, after_event, history, next_number}
 use Rattle.dms_history.specs.Images.{or_else, last_after}
 use Rattle.dms_history.specs.Pick.{Dumps}
 use Rattle.dms_history.specs.Here.{here}
@@ -16,7 +16,7 @@ use Rattle.dms_history.specs.LawsOfRanges.{HasImages}
 use Rattle.dms_history.specs.Entries.{Entry, schema_part, image, byte_range, quiet_point, control_point, begin_restore, counts_in, how_of}
 use Rattle.dms_history.specs.declared.event.FileCount.{FileCount}
 use Rattle.dms_history.specs.Schemas.{no_parts, parts_from, is_whole, schema_entries}
-use Rattle.dms_history.specs.EntryEvents.{said_by, logged, events, history_of, live_of, next_of, ends_restore_logged, BeginsAlone, Agrees}
+use Rattle.dms_history.specs.EntryEvents.{said_by, logged, events, history_of, live_of, next_of, ends_restore_logged, BeginsAlone}
 use Rattle.dms_history.specs.Kept.{content_told, Kept}
 use Rattle.dms_history.specs.LawsOfKept.{KeptFirst, KeptImage, KeptRange, KeptQuiet, KeptSchema, KeptControl, KeptBegin, KeptEnds, KeptWrites, KeptRestores, KeptAgrees, AgreesKept}
 use Rattle.dms_history.proofs.Picks.{last_append}
@@ -32,7 +32,7 @@ use Rattle.dms_history.proofs.Order.{append_none, not_empty, numbers_change, num
 use Rattle.dms_history.proofs.Schemas.{logged_append}
 use Rattle.dms_history.proofs.Splits.{images_go_on}
 use Rattle.dms_history.proofs.Turns.{live_of_ranges}
-use Rattle.dms_history.proofs.Sealed.{one, schema_sealed, image_sealed, range_sealed, quiet_sealed, control_logged, control_sealed, begin_sealed, one_more_event}
+use Rattle.dms_history.proofs.Sealed.{one, image_sealed, range_sealed, quiet_sealed, control_logged, control_sealed, begin_sealed, one_more_event}
 use Rattle.dms_history.proofs.Whole.{agrees_is_steady, steady_agrees}
 use Rattle.dms_history.proofs.LastPending.{pending_cuts}
 use Rattle.dms_history.proofs.Alone.{alone_events, alone_more, not_begun}
@@ -96,11 +96,11 @@ kept_image first es dumps base stored f b before after k idle tells =
     let is = image_sealed es f b before after in
     let live = live_of es in (
       kept_event first es (image f b before after) (event ev) ev dumps base is dumps stored stored k (says_one es (image f b before after) (event ev) refl)
-      ((runs_steady dumps (history_of es) base stored idle.none idle.controlled k.steady).change f b before after tells)
-      (still_opened live ev base idle.controlled k.opened)
-      (numbers_change (events es) live f b before after k.numbered)
-      (λ xs m how at. absurd (not_begun es idle.none xs m how at))
-      ((images_go_on (live_logged [] (logged es)) k.images).0 (event ev) refl),
+          ((runs_steady dumps (history_of es) base stored idle.none idle.controlled k.steady).change f b before after tells)
+          (still_opened live ev base idle.controlled k.opened)
+          (numbers_change (events es) live f b before after k.numbered)
+          (λ xs m how at. absurd (not_begun es idle.none xs m how at))
+          ((images_go_on (live_logged [] (logged es)) k.images).0 (event ev) refl),
       content_event first es (image f b before after) (event ev) ev dumps base is refl idle.controlled,
     )
 
@@ -120,10 +120,10 @@ kept_range first es dumps base stored f b place bytes k idle itself =
     let is = (range_sealed es f b place bytes).0 old live_last in
     let r = ranges_steady dumps (history_of es) base stored f b place bytes old idle.none idle.controlled k.steady last in (
       kept_event first es e l ev dumps base is dumps stored stored k (says_one es e l refl) r.1
-      (still_opened live ev base idle.controlled k.opened)
-      (numbers_change (events es) live f b (Some old) (patched place bytes old) k.numbered)
-      (λ xs m how at. absurd (not_begun es idle.none xs m how at))
-      ((images_go_on ls k.images).1 f b place bytes itself),
+          (still_opened live ev base idle.controlled k.opened)
+          (numbers_change (events es) live f b (Some old) (patched place bytes old) k.numbered)
+          (λ xs m how at. absurd (not_begun es idle.none xs m how at))
+          ((images_go_on ls k.images).1 f b place bytes itself),
       ap (λ (h : History). replay (from_control h.live) base) (one_step first es e l ev dumps base is) ∙ r.2,
     )
 
@@ -133,11 +133,11 @@ kept_quiet first es dumps base stored n k idle free low =
     let is = quiet_sealed es n in
     let live = live_of es in (
       kept_event first es (quiet_point n) (event ev) ev dumps base is dumps stored stored k (says_one es (quiet_point n) (event ev) refl)
-      ((runs_steady dumps (history_of es) base stored idle.none idle.controlled k.steady).quiet n)
-      (still_opened live ev base idle.controlled k.opened)
-      (numbers_quiet (events es) live n k.numbered free low)
-      (λ xs m how at. absurd (not_begun es idle.none xs m how at))
-      ((images_go_on (live_logged [] (logged es)) k.images).0 (event ev) refl),
+          ((runs_steady dumps (history_of es) base stored idle.none idle.controlled k.steady).quiet n)
+          (still_opened live ev base idle.controlled k.opened)
+          (numbers_quiet (events es) live n k.numbered free low)
+          (λ xs m how at. absurd (not_begun es idle.none xs m how at))
+          ((images_go_on (live_logged [] (logged es)) k.images).0 (event ev) refl),
       content_event first es (quiet_point n) (event ev) ev dumps base is refl idle.controlled,
     )
 
@@ -158,11 +158,11 @@ kept_control first es dumps base stored written n next counts k idle last placed
     let is = control_is first es n next counts in
     let live = live_of es in (
       kept_event first es (control_point n next counts) (event ev) ev dumps base is dumps stored written k (says_one es (control_point n next counts) (event ev) refl)
-      ((runs_steady dumps (history_of es) base stored idle.none idle.controlled k.steady).control written n next (counts_in counts) (is_whole (parts_from no_parts es)) count stand)
-      (still_opened live ev base idle.controlled k.opened)
-      (numbers_control (events es) (history_of es) n next (counts_in counts) (is_whole (parts_from no_parts es)) k.numbered last placed carried)
-      (λ xs m how at. refl)
-      ((images_go_on (live_logged [] (logged es)) k.images).0 (event ev) refl),
+          ((runs_steady dumps (history_of es) base stored idle.none idle.controlled k.steady).control written n next (counts_in counts) (is_whole (parts_from no_parts es)) count stand)
+          (still_opened live ev base idle.controlled k.opened)
+          (numbers_control (events es) (history_of es) n next (counts_in counts) (is_whole (parts_from no_parts es)) k.numbered last placed carried)
+          (λ xs m how at. refl)
+          ((images_go_on (live_logged [] (logged es)) k.images).0 (event ev) refl),
       content_event first es (control_point n next counts) (event ev) ev dumps base is refl idle.controlled,
     )
 
@@ -216,11 +216,11 @@ kept_ends first es dumps base stored written p next counts k pending carried cou
     let found : has is_control live ≡ true = has_front (is_point p.point) is_control live (controlled live p.point at) in
     let cut = pending_cuts (events es) p (alone_events es k.alone) pending in (
       kept_event first es (control_point p.point next counts) (event ev) ev dumps base is dumps stored written k (says_one es (control_point p.point next counts) (event ev) refl)
-      (restore_ends dumps (history_of es) base stored written p next (counts_in counts) (is_whole (parts_from no_parts es)) pending k.steady (λ f. count f ∙ sym (outcome_length p.how dumps p.entries p.point f stored)) stand).0
-      (still_opened live ev base found k.opened)
-      (numbers_control (events es) (history_of es) p.point next (counts_in counts) (is_whole (parts_from no_parts es)) k.numbered cut.last at.found carried)
-      (λ xs m how at. refl)
-      ((images_go_on (live_logged [] (logged es)) k.images).0 (event ev) refl),
+          (restore_ends dumps (history_of es) base stored written p next (counts_in counts) (is_whole (parts_from no_parts es)) pending k.steady (λ f. count f ∙ sym (outcome_length p.how dumps p.entries p.point f stored)) stand).0
+          (still_opened live ev base found k.opened)
+          (numbers_control (events es) (history_of es) p.point next (counts_in counts) (is_whole (parts_from no_parts es)) k.numbered cut.last at.found carried)
+          (λ xs m how at. refl)
+          ((images_go_on (live_logged [] (logged es)) k.images).0 (event ev) refl),
       content_event first es (control_point p.point next counts) (event ev) ev dumps base is refl found,
     )
 

@@ -1,7 +1,7 @@
 -- The numbers of points stay in order.
 use Rattle.std.proofs.Common.{ℕ, ◌+◌, ◌-◌, ◌^◌, ◌<◌, ◌≤◌, min, max, ◌≡◌, ◌==◌, ◌||◌, ◌⊎◌, inl, inr, Bool, true, false, cond, Option, Some, None, List, [], ◌∷◌, ◌++◌, refl, sym, ◌∙◌, ap, subst, arith, append_assoc}
 use Rattle.std.proofs.lemmas.Bool.Decides.{nat_tests}
-use Rattle.dms_history.specs.Events.{Counts, How, Event, change, quiet, control, begin}
+use Rattle.dms_history.specs.Events.{Counts, Event, change, quiet, control, begin}
 use Rattle.dms_history.specs.Lists.{has, until_first, after_first}
 use Rattle.dms_history.specs.Places.{is_control, is_described, is_point, IsLive, point_numbers}
 use Rattle.dms_history.specs.History.{last_number, pending_point, next_after, next_number}

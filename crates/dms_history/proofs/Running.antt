@@ -1,30 +1,26 @@
 -- A database that runs: its points go on, and what a block seals at once.
-use Rattle.std.proofs.Common.{ℕ, ◌+◌, ◌-◌, ◌^◌, ◌<◌, ◌≤◌, ◌≡◌, ◌||◌, ◌==◌, min, max, inl, inr, Bool, true, false, cond, List, [], ◌∷◌, ◌++◌, length, Option, Some, None, refl, sym, ◌∙◌, ap, subst, arith, append_assoc}
+use Rattle.std.proofs.Common.{ℕ, ◌<◌, ◌≤◌, ◌≡◌, ◌||◌, ◌==◌, inl, inr, Bool, true, false, cond, List, [], ◌∷◌, ◌++◌, length, None, refl, sym, ◌∙◌, ap, subst, arith, append_assoc}
 use Rattle.std.proofs.lemmas.Bool.Decides.{nat_tests}
-use Rattle.dms_history.specs.Events.{Block, Content, Stored, Counts, How, Event, change, quiet, control, begin, block_in}
+use Rattle.dms_history.specs.Events.{Content, Stored, Event, change, quiet, control, begin}
 use Rattle.dms_history.specs.Replay.{Chain, replay}
 use Rattle.dms_history.specs.Lists.{has, until_first, after_last}
-use Rattle.dms_history.specs.Places.{is_control, is_described, is_point, IsLive, point_numbers}
-use Rattle.dms_history.specs.History.{Pending, History, after_event, history_from, history, last_point, pending_point, last_number, next_after, next_number}
-use Rattle.dms_history.specs.Pick.{Dumps, content_of, blocks_at}
+use Rattle.dms_history.specs.Places.{is_control, is_described, is_point, IsLive}
+use Rattle.dms_history.specs.History.{History, after_event, history_from}
+use Rattle.dms_history.specs.Pick.{Dumps, content_of}
 use Rattle.dms_history.specs.Images.{last_after}
-use Rattle.dms_history.specs.Here.{here_by, here}
 use Rattle.dms_history.specs.Base.{from_control, Sound}
 use Rattle.dms_history.specs.Agrees.{Numbered}
-use Rattle.dms_history.specs.Restores.{Steady}
 use Rattle.dms_history.specs.LawsOfRunning.{PointsGoOn, SealsRun, QuietIsLive, ControlStands}
-use Rattle.dms_history.specs.LawsOfRestores.{PendingCuts, NoDumpCounts}
 use Rattle.dms_history.proofs.AtPoints.{bool_cases, replay_append, true_or}
 use Rattle.dms_history.proofs.Base.{has_append, content_length, content_block}
 use Rattle.dms_history.proofs.Converse.{opening_append}
 use Rattle.dms_history.proofs.Given.{controlled, live_from, at_point, described_control, from_until}
-use Rattle.dms_history.proofs.Stops.{until_append, has_self, live_in}
-use Rattle.dms_history.proofs.HalfDone.{has_front, until_until}
-use Rattle.dms_history.proofs.Order.{point_among, append_none, last_front}
-use Rattle.dms_history.proofs.Whole.{pending_cut, content_same}
+use Rattle.dms_history.proofs.Stops.{until_append, has_self}
+use Rattle.dms_history.proofs.HalfDone.{has_front}
+use Rattle.dms_history.proofs.Order.{point_among, append_none}
+use Rattle.dms_history.proofs.Whole.{content_same}
 use Rattle.dms_history.proofs.Runs.{quiets, changes}
 use Rattle.dms_history.proofs.Picks.{chain_split}
-use Rattle.dms_history.proofs.Cuts.{until_none}
 use Rattle.dms_history.proofs.Again.{steady_of, here_unpending}
 
 pub live_more : (live more : List Event) (n : ℕ) → IsLive live n → IsLive (live ++ more) n
@@ -104,9 +100,9 @@ control_stands live base stored n next counts described sound =
     let ends = ends_with live in
     content_same (content_of counts stored) (replay all base)
     (λ f. content_length counts stored f ∙ count_is (ends.0) base (subst (λ (l : List Event). Chain l base) ends.1 sound.chain) f ∙ ap (λ (l : List Event). length (replay l base f)) (sym ends.1))
-    (λ f b low. 
-      let under : b < counts f = omega (arith, low, count_is (ends.0) base (subst (λ (l : List Event). Chain l base) ends.1 sound.chain) f, ap (λ (l : List Event). length (replay l base f)) (sym ends.1)) in
-      content_block counts stored f b under ∙ sound.stands f b low (ap (λ (l : List Event). last_after f b (after_last is_control l)) ends.1 ∙ ap (λ (l : List Event). last_after f b l) (none_after (ends.0))))
+    (λ f b low.
+    let under : b < counts f = omega (arith, low, count_is (ends.0) base (subst (λ (l : List Event). Chain l base) ends.1 sound.chain) f, ap (λ (l : List Event). length (replay l base f)) (sym ends.1)) in
+    content_block counts stored f b under ∙ sound.stands f b low (ap (λ (l : List Event). last_after f b (after_last is_control l)) ends.1 ∙ ap (λ (l : List Event). last_after f b l) (none_after (ends.0))))
   where
     ends_with : (xs : List Event) → (ys : List Event) × (from_control (xs ++ control n next counts described ∷ []) ≡ ys ++ control n next counts described ∷ [])
     ends_with [] = ([], refl)

@@ -1,8 +1,7 @@
 -- One more entry is sealed.
 use Rattle.std.proofs.Common.{ℕ, ◌≡◌, true, List, [], ◌∷◌, ◌++◌, length, None, refl, sym, ◌∙◌, ap, append_assoc}
 use Rattle.dms_history.specs.Events.{Event, change, quiet, control, begin}
-use Rattle.dms_history.specs.History.{History, history_from, history, next_number}
-use Rattle.dms_history.specs.Here.{here}
+use Rattle.dms_history.specs.History.{History, history_from, history}
 use Rattle.dms_history.specs.Ranges.{Logged, event, range, range_change, changes_of, events_from, told_events}
 use Rattle.dms_history.specs.Entries.{Entry, schema_part, image, byte_range, quiet_point, control_point, begin_restore, counts_in, how_of}
 use Rattle.dms_history.specs.declared.event.FileCount.{FileCount}
@@ -12,8 +11,6 @@ use Rattle.dms_history.specs.LawsOfEntries.{SchemaSealed, ImageSealed, RangeSeal
 use Rattle.dms_history.proofs.Order.{append_none}
 use Rattle.dms_history.proofs.Turns.{history_append}
 use Rattle.dms_history.proofs.Schemas.{logged_append, schema_is_whole}
-use Rattle.dms_history.proofs.Whole.{agrees_is_steady, steady_agrees}
-use Rattle.dms_history.proofs.Converse.{agrees_leads}
 
 pub told_append : (xs ys : List Logged) (h : History) → events_from h (xs ++ ys) ≡ events_from h xs ++ events_from (history_from h (events_from h xs)) ys
 told_append [] ys h = refl

@@ -94,7 +94,7 @@ pub blocks_same : (counts : Counts) (s r : Stored) → ((f b : ℕ) → b < coun
 unfolding content_of
 blocks_same counts s r same = λ i f. fill_by_all (r f) (map (s f) (range_with_len 0 (counts f))) (counts f) [] (content_length counts s f) (λ k low. content_block counts s f k low ∙ same f k low) i
 
-log_same : (entries : List Event) (m f b : ℕ) (written stored : Stored) → (is_unlogged entries m f b ≡ true → written f b ≡ stored f b) → pick entries m written f b ≡ pick entries m stored f b
+pub log_same : (entries : List Event) (m f b : ℕ) (written stored : Stored) → (is_unlogged entries m f b ≡ true → written f b ≡ stored f b) → pick entries m written f b ≡ pick entries m stored f b
 unfolding pick choice
 log_same entries m f b written stored same = go (last_after f b (after_last is_control (until_first (is_point m) entries))) (first_before f b (after_first (is_point m) entries)) same
   where
@@ -104,7 +104,7 @@ log_same entries m f b written stored same = go (last_after f b (after_last is_c
     go None (Some None) at = at refl
     go None (Some (Some old)) at = refl
 
-restore_same : (how : How) (dumps : Dumps) (entries : List Event) (m f b : ℕ) (written stored : Stored) → (takes_stored how entries m f b ≡ true → written f b ≡ stored f b) → restore_pick how dumps entries m written f b ≡ restore_pick how dumps entries m stored f b
+pub restore_same : (how : How) (dumps : Dumps) (entries : List Event) (m f b : ℕ) (written stored : Stored) → (takes_stored how entries m f b ≡ true → written f b ≡ stored f b) → restore_pick how dumps entries m written f b ≡ restore_pick how dumps entries m stored f b
 unfolding restore_pick
 restore_same halt_load dumps entries m f b written stored same = log_same entries m f b written stored same
 restore_same back_out dumps entries m f b written stored same = log_same entries m f b written stored same
@@ -210,7 +210,7 @@ ends_first dumps t base right stored written p next d named counts described is 
       points = ended.1;
     }
 
-log_takes : (entries : List Event) (m f b : ℕ) (s : Stored) → is_unlogged entries m f b ≡ true → pick entries m s f b ≡ s f b
+pub log_takes : (entries : List Event) (m f b : ℕ) (s : Stored) → is_unlogged entries m f b ≡ true → pick entries m s f b ≡ s f b
 unfolding pick choice
 log_takes entries m f b s on = go (last_after f b (after_last is_control (until_first (is_point m) entries))) (first_before f b (after_first (is_point m) entries)) on
   where
@@ -220,7 +220,7 @@ log_takes entries m f b s on = go (last_after f b (after_last is_control (until_
     go None (Some None) at = refl
     go None (Some (Some old)) at = absurd (true_not_false (sym at))
 
-takes_is : (how : How) (dumps : Dumps) (entries : List Event) (m f b : ℕ) (s : Stored) → takes_stored how entries m f b ≡ true → restore_pick how dumps entries m s f b ≡ s f b
+pub takes_is : (how : How) (dumps : Dumps) (entries : List Event) (m f b : ℕ) (s : Stored) → takes_stored how entries m f b ≡ true → restore_pick how dumps entries m s f b ≡ s f b
 unfolding restore_pick
 takes_is halt_load dumps entries m f b s on = log_takes entries m f b s on
 takes_is back_out dumps entries m f b s on = log_takes entries m f b s on

@@ -3,6 +3,8 @@
 ghost use Rattle.dms_history.specs.LawsOfPoints.{ChoiceGivesContent, EachPoint, EachLivePoint, OpeningNeverCounts};
 ghost use Rattle.dms_history.specs.LawsOfBase.{AgreesHasBase, AgreesLeadsToBase, BaseAgrees, AgreesIsSteady, SteadyAgrees, OpeningStays, FrontGoes};
 ghost use Rattle.dms_history.specs.LawsOfRunning.{Changes, Quiets, WritesEarly, Controls, RunsSteady, SealsRun, PointsGoOn, QuietIsLive, ControlStands};
+ghost use Rattle.dms_history.specs.Told.{EachTold, EachFromFile};
+ghost use Rattle.dms_history.specs.LawsOfPointLists.{PointsListed, OneList, PointsFront, PointsStay, ListsChange, ListsQuiet, ListsControl, ListsBegin, LastKeepsAll};
 ghost use Rattle.dms_history.specs.LawsOfRestores.{RestoreBegins, RestoreWrites, RestoreEnds, EndsFirst, PendingWritesFirst, NoDumpCounts, PendingCuts};
 ghost use Rattle.dms_history.specs.Often.{HoweverOften, FromAnything};
 ghost use Rattle.dms_history.specs.Numbers.{RollsBack, EachLast, LastLives, NextStays, EachNext, UsedOnce, NumbersChange, NumbersQuiet, NumbersBegin, NumbersControl, NumbersFirst, TrueDumpServes};
@@ -59,6 +61,25 @@ pub fn restores_keep()
     ensures ends { RestoreEnds }
     ensures ends_first { EndsFirst }
     ensures writes_first { PendingWritesFirst }
+{}
+
+/// There is one list of the live points, and each step keeps it: a quiet point adds its own, a restore leaves those up to its point.
+pub fn points_are_listed()
+    ensures listed { PointsListed }
+    ensures one { OneList }
+    ensures front { PointsFront }
+    ensures stay { PointsStay }
+    ensures change { ListsChange }
+    ensures quiet { ListsQuiet }
+    ensures control { ListsControl }
+    ensures begin { ListsBegin }
+    ensures last { LastKeepsAll }
+{}
+
+/// A block at a point is what the audit tells of it, and else what is stored; which blocks come from the structure files is known, a restore pending or not.
+pub fn blocks_are_told()
+    ensures told { EachTold }
+    ensures files { EachFromFile }
 {}
 
 /// While a restore is pending its point is the last one; where none is pending no dump counts.
