@@ -30,7 +30,7 @@ none_not_some : {A : Type 0} (x : A) → None ≡ Some x → ⊥
 none_not_some x e = absurd cc
 
 -- what a step keeps
-record Kept (dumps : Dumps) (base : Content) (old new : Disk) : Type 0 where
+record StepKeeps (dumps : Dumps) (base : Content) (old new : Disk) : Type 0 where
   steady : Steady dumps new.history base new.stored
   points : (n : ℕ) → IsLive new.history.live n → IsLive old.history.live n × (blocks_at new.history.live (here dumps new.history new.stored) n ≡ blocks_at old.history.live (here dumps old.history old.stored) n)
 
@@ -46,10 +46,10 @@ was_live live m n next counts described at on = elim (bool_cases (has (is_point 
       ]
 ]
 
-one_step : (dumps : Dumps) (base : Content) (d : Disk) (s : RestoreStep) → Steady dumps d.history base d.stored → May dumps base d s → Kept dumps base d (moved d s)
+one_step : (dumps : Dumps) (base : Content) (d : Disk) (s : RestoreStep) → Steady dumps d.history base d.stored → May dumps base d s → StepKeeps dumps base d (moved d s)
 one_step dumps base d (began how m) steady ready =
     let r = restore_begins how dumps d.history base (here dumps d.history d.stored) d.stored m ready in
-    record { steady = r.0; points = λ n at. (live_in d.history.live m n at, r.2 n at) }
+    record { steady = r.steady; points = λ n at. (live_in d.history.live m n at, r.points n at) }
 one_step dumps base d (wrote written) steady may =
     let r = restore_writes dumps d.history base d.stored written may.0 may.1 steady may.2 in
     record { steady = r.0; points = λ n at. (at, ap (λ (s : Stored). blocks_at d.history.live s n) r.1) }
@@ -57,11 +57,11 @@ one_step dumps base d (ended written m next counts described) steady may =
     let p = may.0 in
     let r = restore_ends dumps d.history base d.stored written p next counts described may.1 steady may.3 may.4 in
     let new : Disk = moved d (ended written p.point next counts described) in
-    let kept : Kept dumps base d new = record {
+    let kept : StepKeeps dumps base d new = record {
       steady = r.0;
       points = λ n at. let was = was_live d.history.live p.point n next counts described (steady.point_lives p may.1) at in (was, (r.1 n was).1);
     } in
-    subst (λ k. Kept dumps base d (moved d (ended written k next counts described))) (sym may.2) kept
+    subst (λ k. StepKeeps dumps base d (moved d (ended written k next counts described))) (sym may.2) kept
 
 pub however_often : HoweverOften
 however_often dumps base d [] steady may = (steady, λ n at. (at, refl))
@@ -85,16 +85,17 @@ steady_of dumps t base stored none sound = record {
 pub runs_steady : RunsSteady
 runs_steady dumps t base stored none controlled steady =
     let sound : Sound (from_control t.live) base stored = subst (λ (s : Stored). Sound (from_control t.live) base s) (here_unpending dumps t stored none) steady.sound in
-    let grown : (e : Event) → from_control t.live ++ e ∷ [] ≡ from_control (t.live ++ e ∷ []) = λ e. sym (opening_append t.live (e ∷ []) controlled).1 in (
-      λ f b before after tells.
+    let grown : (e : Event) → from_control t.live ++ e ∷ [] ≡ from_control (t.live ++ e ∷ []) = λ e. sym (opening_append t.live (e ∷ []) controlled).1 in
+    record {
+      change = λ f b before after tells.
           let e = change f b before after in
-          steady_of dumps (after_event t e) base stored none (subst (λ (l : List Event). Sound l base stored) (grown e) (changes (from_control t.live) base stored f b before after sound tells)),
-      λ n. steady_of dumps (after_event t (quiet n)) base stored none (subst (λ (l : List Event). Sound l base stored) (grown (quiet n)) (quiets (from_control t.live) base stored n sound)),
-      λ written same. steady_of dumps t base written none (writes_early (from_control t.live) base stored written sound same),
-      λ written n next counts described count stand.
+          steady_of dumps (after_event t e) base stored none (subst (λ (l : List Event). Sound l base stored) (grown e) (changes (from_control t.live) base stored f b before after sound tells));
+      quiet = λ n. steady_of dumps (after_event t (quiet n)) base stored none (subst (λ (l : List Event). Sound l base stored) (grown (quiet n)) (quiets (from_control t.live) base stored n sound));
+      writes = λ written same. steady_of dumps t base written none (writes_early (from_control t.live) base stored written sound same);
+      control = λ written n next counts described count stand.
           let e = control n next counts described in
-          steady_of dumps (after_event t e) base written refl (subst (λ (l : List Event). Sound l base written) (grown e) (controls (from_control t.live) base stored written n next counts described sound count stand)),
-    )
+          steady_of dumps (after_event t e) base written refl (subst (λ (l : List Event). Sound l base written) (grown e) (controls (from_control t.live) base stored written n next counts described sound count stand));
+    }
 
 pub ranges_steady : RangesSteady
 ranges_steady dumps t base stored f b place bytes old none found steady last =
@@ -105,7 +106,7 @@ ranges_steady dumps t base stored f b place bytes old none found steady last =
     let stands : old ≡ block_in (replay all base) f b = sym (last_stands all base f b old chain last) in
     let grown : from_control (t.live ++ e ∷ []) ≡ all ++ e ∷ [] = (opening_append t.live (e ∷ []) found).1 in (
       ap (λ o. history_from t (range_change f b place bytes o)) live_last,
-      (runs_steady dumps t base stored none found steady).0 f b (Some old) (patched place bytes old) (logged_below all base f b old chain last, stands),
+      (runs_steady dumps t base stored none found steady).change f b (Some old) (patched place bytes old) (logged_below all base f b old chain last, stands),
       ap (λ (l : List Event). replay l base) grown ∙ replay_append all (e ∷ []) base ∙ ap (λ x. with_block (replay all base) f b (patched place bytes x)) stands,
     )
 
@@ -113,5 +114,5 @@ pub from_anything : FromAnything
 from_anything how dumps t base counted stored m steps ready may n at =
     let d : Disk = record { history = after_event t (begin m how); stored = stored } in
     let begun = restore_begins how dumps t base counted stored m ready in
-    let rest = (however_often dumps base d steps begun.0 may).1 n at in
-    (live_in t.live m n rest.0, rest.1 ∙ begun.2 n rest.0)
+    let rest = (however_often dumps base d steps begun.steady may).1 n at in
+    (live_in t.live m n rest.0, rest.1 ∙ begun.points n rest.0)

@@ -163,8 +163,8 @@ walks all fields (control n next counts described ∷ es) xs c is found off walk
 walks all fields (begin n how ∷ es) xs c is found off walk = absurd (true_not_false off)
 
 -- what follows the first Control has the fields
-fields_of : (first : Bool) (entries live : List Event) (next : ℕ) (counted : Stored) → ListAgrees first entries live next counted → Fields (from_control live)
-fields_of first entries live next counted agrees =
+fields_of : (first : Bool) (live : List Event) (next : ℕ) (counted : Stored) → ListAgrees first live next counted → Fields (from_control live)
+fields_of first live next counted agrees =
     let os = opening live in
     let whole : (xs ys : List Event) (e : Event) → xs ++ e ∷ ys ≡ from_control live → live ≡ (os ++ xs) ++ e ∷ ys =
     λ xs ys e is. sym (append_assoc os xs (e ∷ ys) ∙ ap (λ (l : List Event). os ++ l) is ∙ parts live) in
@@ -234,7 +234,7 @@ stored_pick es s f b none = ap (λ t. value None t (s f b)) none
 
 pub agrees_has_base : AgreesHasBase
 unfolding base_of
-agrees_has_base first entries live next counted off agrees = elim (from_cases live) [
+agrees_has_base first live next counted off agrees = elim (from_cases live) [
   | inl none ↦ record {
     chain = subst (λ (l : List Event). Chain l (base_of live counted)) (sym none) tt;
     stands = λ f b low out.
@@ -245,7 +245,7 @@ agrees_has_base first entries live next counted off agrees = elim (from_cases li
       let all = from_control live in
       let base = base_of live counted in
       let found : has is_control all ≡ true = starts_has all (first_counts live) starts in
-      let chain : Chain all base = chain_from all (first_counts live) counted (fields_of first entries live next counted agrees) (no_begin_from live off) starts in
+      let chain : Chain all base = chain_from all (first_counts live) counted (fields_of first live next counted agrees) (no_begin_from live off) starts in
       let late : after_last is_control live ≡ after_last is_control all = ap (λ (l : List Event). after_last is_control l) (sym (parts live)) ∙ after_behind is_control (opening live) all found in
       record {
         chain = chain;

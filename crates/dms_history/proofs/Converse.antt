@@ -155,7 +155,7 @@ has_starts es found = elim (from_cases es) [
 
 pub agrees_leads : AgreesLeadsToBase
 unfolding base_of
-agrees_leads first entries live next counted agrees found =
+agrees_leads first live next counted agrees found =
     let os = opening live in
     let all = from_control live in
     let k = first_counts live in
@@ -264,10 +264,9 @@ module _ (live : List Event) (base : Content) (counted : Stored) (sound : Sound 
   ]
 
 pub base_agrees : BaseAgrees
-base_agrees first entries live next counted base sound opened numbered empty = record {
+base_agrees first live next counted base sound opened numbered empty = record {
   never_fall = numbered.never_fall;
   below_next = numbered.below_next;
-  alone = numbered.alone;
   counted_first = counted_of live base counted sound opened;
   linked = linked_of live base counted sound opened;
   stands = stands_of live base counted sound opened;

@@ -1,18 +1,14 @@
 -- Small trails that show why two sentences of the agreement are needed, and what a place before the first Control means.
 use Rattle.std.proofs.Common.{ℕ, ◌<◌, ◌≡◌, true, false, List, [], ◌∷◌, ◌++◌, length, get_or, Option, Some, None, refl, sym, ◌∙◌, ap, arith, inl, inr}
 use Rattle.dms_history.specs.Events.{Block, Content, Stored, Counts, rebuild, Event, change, quiet, control, begin}
-use Rattle.dms_history.specs.Lists.{has}
-use Rattle.dms_history.specs.Places.{is_begin, IsLive}
+use Rattle.dms_history.specs.Places.{IsLive}
 use Rattle.dms_history.specs.History.{history, next_number}
 use Rattle.dms_history.specs.Images.{is_at, choice}
 use Rattle.dms_history.specs.Pick.{Dumps, count_at, pick, dump_pick, content_of, blocks_at}
 use Rattle.dms_history.specs.Here.{restore_pick, outcome, here}
 use Rattle.dms_history.specs.Base.{from_control, Sound}
 use Rattle.dms_history.specs.Agrees.{reached_count, ListAgrees, EventsAgree, Numbered}
-use Rattle.dms_history.specs.Numbers.{NothingBegun}
 use Rattle.dms_history.proofs.Picks.{last_stands, place_cases, write_old, if_none}
-use Rattle.dms_history.proofs.AtPoints.{or_true_right}
-use Rattle.dms_history.proofs.Base.{has_append}
 use Rattle.dms_history.proofs.Converse.{logged_below, base_agrees}
 use Rattle.dms_history.proofs.Order.{not_empty, numbers_first, numbers_change, numbers_quiet, numbers_begin}
 
@@ -61,25 +57,22 @@ counts_nine : (stored : Stored) → here false_dumps (history rebuilding) stored
 unfolding history outcome content_of restore_pick dump_pick count_at
 counts_nine stored = refl
 
-no_begin_last : (es : List Event) → has is_begin es ≡ false → NothingBegun es
-no_begin_last es off xs m how is = sym off ∙ ap (λ (l : List Event). has is_begin l) is ∙ has_append is_begin xs (begin m how ∷ []) ∙ or_true_right (has is_begin xs) true refl
-
-numbers : Numbered rebuilding logged (next_number rebuilding)
+numbers : Numbered logged (next_number rebuilding)
 unfolding next_number
 numbers =
     let start : List Event = control 0 1 (λ _. 0) true ∷ [] in
     let more : List Event = control 0 1 (λ _. 0) true ∷ change 3 0 None (7 ∷ []) ∷ [] in
     let one = numbers_first (λ _. 0) true in
-    let two = numbers_change start start 3 0 None (7 ∷ []) one (no_begin_last start refl) in
-    let three = numbers_quiet more more 1 two (no_begin_last more refl) (omega arith) (omega arith) in
+    let two = numbers_change start start 3 0 None (7 ∷ []) one in
+    let three = numbers_quiet more more 1 two (omega arith) (omega arith) in
     numbers_begin logged logged 1 (rebuild 2) three refl
 
 nothing : Content
 nothing f = []
 
-lists_agree : (stored : Stored) → ListAgrees true rebuilding logged (next_number rebuilding) (here false_dumps (history rebuilding) stored)
+lists_agree : (stored : Stored) → ListAgrees true logged (next_number rebuilding) (here false_dumps (history rebuilding) stored)
 unfolding nothing
-lists_agree stored = base_agrees true rebuilding logged (next_number rebuilding) (here false_dumps (history rebuilding) stored) nothing
+lists_agree stored = base_agrees true logged (next_number rebuilding) (here false_dumps (history rebuilding) stored) nothing
     (record {
       chain = ((λ f. refl), ((refl, tt)));
       stands = λ f b low none. elim (place_cases f b 3 0) [

@@ -21,4 +21,11 @@ pub mod PlainPick
 pub mod PlainHere
 pub mod Examples
 pub mod Counterexamples
-pub mod Wanting
+pub mod ToldBlocks
+pub mod Running
+pub mod LastPending
+pub mod Listed
+pub mod ListSteps
+pub mod Imaged
+pub mod Alone
+pub mod Keeping

@@ -1,15 +1,16 @@
 -- The numbers of points stay in order.
-use Rattle.std.proofs.Common.{ℕ, ◌+◌, ◌-◌, ◌^◌, ◌<◌, ◌≤◌, max, ◌≡◌, ◌==◌, ◌||◌, ◌⊎◌, inl, inr, Bool, true, false, cond, Option, Some, None, List, [], ◌∷◌, ◌++◌, refl, sym, ◌∙◌, ap, subst, arith, append_assoc}
+use Rattle.std.proofs.Common.{ℕ, ◌+◌, ◌-◌, ◌^◌, ◌<◌, ◌≤◌, min, max, ◌≡◌, ◌==◌, ◌||◌, ◌⊎◌, inl, inr, Bool, true, false, cond, Option, Some, None, List, [], ◌∷◌, ◌++◌, refl, sym, ◌∙◌, ap, subst, arith, append_assoc}
 use Rattle.std.proofs.lemmas.Bool.Decides.{nat_tests}
-use Rattle.dms_history.specs.Events.{Counts, How, Event, change, quiet, control, begin}
+use Rattle.dms_history.specs.Events.{Counts, Event, change, quiet, control, begin}
 use Rattle.dms_history.specs.Lists.{has, until_first, after_first}
-use Rattle.dms_history.specs.Places.{is_described, is_point, IsLive, point_numbers}
+use Rattle.dms_history.specs.Places.{is_control, is_described, is_point, IsLive, point_numbers}
 use Rattle.dms_history.specs.History.{last_number, pending_point, next_after, next_number}
-use Rattle.dms_history.specs.Agrees.{ends_restore, Numbered}
-use Rattle.dms_history.specs.Numbers.{RollsBack, LastPoints, Carries, NextStays, UsedOnce, NumbersChange, NumbersQuiet, NumbersBegin, NumbersControl, TrueDumpServes, NumbersFirst}
+use Rattle.dms_history.specs.Agrees.{Numbered}
+use Rattle.dms_history.specs.Numbers.{RollsBack, EachLast, LastLives, EachNext, Carries, NextStays, UsedOnce, NumbersChange, NumbersQuiet, NumbersBegin, NumbersControl, TrueDumpServes, NumbersFirst}
 use Rattle.dms_history.proofs.Cuts.{until_none}
-use Rattle.dms_history.proofs.AtPoints.{bool_cases, split_first}
-use Rattle.dms_history.proofs.HalfDone.{until_until, or_at}
+use Rattle.dms_history.proofs.Picks.{some_is}
+use Rattle.dms_history.proofs.AtPoints.{bool_cases, split_first, true_or, or_true_right}
+use Rattle.dms_history.proofs.HalfDone.{has_front, until_until, or_at}
 use Rattle.dms_history.proofs.Base.{has_append}
 use Rattle.dms_history.proofs.Stops.{has_self}
 
@@ -81,18 +82,18 @@ front_ends (begin n how ∷ es) m found =
 
 -- ---- rolled back
 
-module _ (entries live : List Event) (next m : ℕ) (numbered : Numbered entries live next) (at : IsLive live m) where
+module _ (live : List Event) (next m : ℕ) (numbered : Numbered live next) (placed : has (is_point m) live ≡ true) where
   abbrev front : List Event
   front = until_first (is_point m) live
 
   halves : point_numbers live ≡ point_numbers front ++ point_numbers (after_first (is_point m) live)
-  halves = ap point_numbers (sym (split_first (is_point m) live at.found)) ∙ points_append front (after_first (is_point m) live)
+  halves = ap point_numbers (sym (split_first (is_point m) live placed)) ∙ points_append front (after_first (is_point m) live)
 
   none_above : (n : ℕ) → m < n → has (is_point n) front ≡ false
   none_above n above = elim (bool_cases (has (is_point n) front)) [
     | inr off ↦ off
     | inl found ↦
-        let ends = front_ends live m at.found in
+        let ends = front_ends live m placed in
         let among = point_among front n found in
         let both : among.0 ++ n ∷ among.1 ≡ ends.0 ++ m ∷ [] = sym among.2 ∙ ends.1 in
         elim (split_push among.0 n among.1 ends.0 m both) [
@@ -114,14 +115,14 @@ module _ (entries live : List Event) (next m : ℕ) (numbered : Numbered entries
         | inr off ↦
             let late = after_first (is_point m) live in
             let later : has (is_point n) late ≡ true =
-            ap (λ k. k || has (is_point n) late) (sym off) ∙ sym (has_append (is_point n) front late) ∙ ap (λ (l : List Event). has (is_point n) l) (split_first (is_point m) live at.found) ∙ lives.found in
-            let ends = front_ends live m at.found in
+            ap (λ k. k || has (is_point n) late) (sym off) ∙ sym (has_append (is_point n) front late) ∙ ap (λ (l : List Event). has (is_point n) l) (split_first (is_point m) live placed) ∙ lives.found in
+            let ends = front_ends live m placed in
             let among = point_among late n later in
             let is : point_numbers live ≡ ends.0 ++ m ∷ (among.0 ++ n ∷ among.1) =
             halves ∙ (λ i. ends.1 i ++ among.2 i) ∙ append_assoc ends.0 (m ∷ []) (among.0 ++ n ∷ among.1) in
             let up : m ≤ n = numbered.never_fall ends.0 among.0 among.1 m n is in
             let same : n ≡ m = omega (arith, up, le) in
-            subst (λ k. has (is_point k) front ≡ true) (sym same) (has_self (is_point m) live at.found)
+            subst (λ k. has (is_point k) front ≡ true) (sym same) (has_self (is_point m) live placed)
       ] in
       record { found = found; described = ap (λ (l : List Event). has is_described l) (until_until (is_point m) (is_point n) live found) ∙ lives.described }
 
@@ -131,10 +132,10 @@ module _ (entries live : List Event) (next m : ℕ) (numbered : Numbered entries
       has_append (is_point n) front (control m later counts described ∷ []) ∙ (λ i. none_above n above i || (other i || false))
 
 pub rolls_back : RollsBack
-rolls_back entries live next m numbered at = record {
-  none_above = none_above entries live next m numbered at;
-  none_later = none_with entries live next m numbered at;
-  kept = kept_below entries live next m numbered at;
+rolls_back live next m numbered at = record {
+  none_above = none_above live next m numbered at.found;
+  none_later = none_with live next m numbered at.found;
+  kept = kept_below live next m numbered at.found;
 }
 
 -- ---- the last point
@@ -159,12 +160,68 @@ last_front (control n next counts described ∷ es) k m found = elim (or_at (n =
 ]
 last_front (begin n how ∷ es) k m found = ap (λ t. last_number k (cond t (begin n how ∷ until_first (is_point m) es) [])) found ∙ last_front es k m found
 
-pub last_points : LastPoints
-last_points h m = (
-  λ how found. last_front h.live (Some m) m found,
-  λ how off. ap (λ (l : List Event). last_number (Some m) l) (until_none (is_point m) h.live off),
-  λ next counts described. last_push h.live None (control m next counts described) m (λ j. refl),
-  last_push h.live (pending_point h.pending) (quiet m) m (λ j. refl),
+pub last_points : EachLast
+last_points h m = record {
+  begin = λ how. elim (bool_cases (has (is_point m) h.live)) [
+    | inl found ↦ last_front h.live (Some m) m found
+    | inr off ↦ ap (λ (l : List Event). last_number (Some m) l) (until_none (is_point m) h.live off)
+  ];
+  control = λ next counts described. last_push h.live None (control m next counts described) m (λ j. refl);
+  quiet = last_push h.live (pending_point h.pending) (quiet m) m (λ j. refl);
+}
+
+-- what the last number is
+last_of : (es : List Event) (k : Option ℕ) → ((point_numbers es ≡ []) × (last_number k es ≡ k)) ⊎ ((us : List ℕ) × (a : ℕ) × (point_numbers es ≡ us ++ a ∷ []) × (last_number k es ≡ Some a))
+last_of [] k = inl (refl, refl)
+last_of (change f b before after ∷ es) k = last_of es k
+last_of (quiet n ∷ es) k = elim (last_of es (Some n)) [
+  | inl none ↦ inr ([], n, ap (λ (l : List ℕ). n ∷ l) none.0, none.1)
+  | inr more ↦ inr (n ∷ more.0, more.1, ap (λ (l : List ℕ). n ∷ l) more.2, more.3)
+]
+last_of (control n next counts described ∷ es) k = elim (last_of es (Some n)) [
+  | inl none ↦ inr ([], n, ap (λ (l : List ℕ). n ∷ l) none.0, none.1)
+  | inr more ↦ inr (n ∷ more.0, more.1, ap (λ (l : List ℕ). n ∷ l) more.2, more.3)
+]
+last_of (begin n how ∷ es) k = last_of es k
+
+pub numbers_end : (es : List Event) (k : Option ℕ) (m : ℕ) → has (is_point m) es ≡ true → last_number k es ≡ Some m → (us : List ℕ) × (point_numbers es ≡ us ++ m ∷ [])
+numbers_end es k m found last = elim (last_of es k) [
+  | inl none ↦ let r = point_among es m found in absurd (not_empty r.0 r.1 m (sym r.2 ∙ none.0))
+  | inr more ↦ (more.0, more.2 ∙ ap (λ a. more.0 ++ a ∷ []) (some_is more.1 m (sym more.3 ∙ last)))
+]
+
+pub among_has : (es : List Event) (xs ys : List ℕ) (n : ℕ) → point_numbers es ≡ xs ++ n ∷ ys → has (is_point n) es ≡ true
+among_has [] xs ys n is = absurd (not_empty xs ys n (sym is))
+among_has (change f b before after ∷ es) xs ys n is = among_has es xs ys n is
+among_has (quiet k ∷ es) [] ys n is = let head : k ≡ n = cc in true_or (k == n) (has (is_point n) es) (grind (arith, nat_tests, head))
+among_has (quiet k ∷ es) (x ∷ xs) ys n is = let tail : point_numbers es ≡ xs ++ n ∷ ys = cc in or_true_right (k == n) (has (is_point n) es) (among_has es xs ys n tail)
+among_has (control k next counts described ∷ es) [] ys n is = let head : k ≡ n = cc in true_or (k == n) (has (is_point n) es) (grind (arith, nat_tests, head))
+among_has (control k next counts described ∷ es) (x ∷ xs) ys n is = let tail : point_numbers es ≡ xs ++ n ∷ ys = cc in or_true_right (k == n) (has (is_point n) es) (among_has es xs ys n tail)
+among_has (begin k how ∷ es) xs ys n is = among_has es xs ys n is
+
+control_numbered : (es : List Event) → has is_control es ≡ true → point_numbers es ≡ [] → ⊥
+control_numbered [] found none = true_not_false (sym found)
+control_numbered (change f b before after ∷ es) found none = control_numbered es found none
+control_numbered (quiet n ∷ es) found none = not_empty [] (point_numbers es) n none
+control_numbered (control n next counts described ∷ es) found none = not_empty [] (point_numbers es) n none
+control_numbered (begin n how ∷ es) found none = control_numbered es found none
+
+pub last_lives : LastLives
+last_lives h next numbered = (
+  λ n at. elim (last_of h.live (pending_point h.pending)) [
+    | inl none ↦ let r = point_among h.live n at.found in absurd (not_empty r.0 r.1 n (sym r.2 ∙ none.0))
+    | inr more ↦
+        let a = more.1 in
+        let among = point_among h.live n at.found in
+        let le : n ≤ a = elim (split_push among.0 n among.1 more.0 a (sym among.2 ∙ more.2)) [
+          | inl end ↦ let same : n ≡ a = end.1 in omega (arith, same)
+          | inr rest ↦ numbered.never_fall among.0 rest.0 [] n a (among.2 ∙ ap (λ (l : List ℕ). among.0 ++ n ∷ l) rest.1)
+        ] in
+        let placed : has (is_point a) h.live ≡ true = among_has h.live more.0 [] a more.2 in
+        let front = kept_below h.live next a numbered placed n le at in
+        record { last = a; is = more.3; not_above = le; lives = record { found = placed; described = has_front (is_point n) is_described (until_first (is_point a) h.live) front.described } }
+  ],
+  λ found. elim (last_of h.live (pending_point h.pending)) [ inl none ↦ absurd (control_numbered h.live found none.0) | inr more ↦ (more.1, more.3) ],
 )
 
 -- ---- the next number
@@ -186,6 +243,15 @@ next_stays entries (begin n how) carries = omega (arith, next_append entries (be
 pub append_none : {A : Type 0} (xs : List A) → xs ++ [] ≡ xs
 append_none [] = refl
 append_none (x ∷ xs) = ap (λ (l : List _). x ∷ l) (append_none xs)
+
+pub next_steps : EachNext
+unfolding next_number
+next_steps es = record {
+  change = λ f b before after. ap (λ k. min (2 ^ 64 - 1) k) (next_append es (change f b before after ∷ []) 0);
+  quiet = λ n le low. omega (arith, le, low, next_append es (quiet n ∷ []) 0);
+  control = λ n next counts described. ap (λ k. min (2 ^ 64 - 1) k) (next_append es (control n next counts described ∷ []) 0);
+  begin = λ m how. ap (λ k. min (2 ^ 64 - 1) k) (next_append es (begin m how ∷ []) 0);
+}
 
 next_grows : (ys xs : List Event) → ((us vs : List Event) (e : Event) → ys ≡ us ++ e ∷ vs → Carries e (next_number (xs ++ us))) → next_number xs ≤ next_number (xs ++ ys)
 next_grows [] xs carries = omega (arith, ap next_number (append_none xs))
@@ -213,16 +279,6 @@ used_once entries made xs ys zs n m is =
 
 -- ---- what is sealed next
 
-alone_push : (entries : List Event) (e : Event)
-    → ((xs ys : List Event) (m : ℕ) (how : How) (d : Event) → entries ≡ xs ++ begin m how ∷ (d ∷ ys) → ends_restore d ≡ true)
-    → ((xs : List Event) (m : ℕ) (how : How) → entries ≡ xs ++ begin m how ∷ [] → ends_restore e ≡ true)
-    → (xs ys : List Event) (m : ℕ) (how : How) (d : Event) → entries ++ e ∷ [] ≡ xs ++ begin m how ∷ (d ∷ ys) → ends_restore d ≡ true
-alone_push entries e alone last xs ys m how d is =
-    elim (split_push (xs ++ begin m how ∷ []) d ys entries e (append_assoc xs (begin m how ∷ []) (d ∷ ys) ∙ sym is)) [
-      | inl end ↦ ap ends_restore end.1 ∙ last xs m how (sym end.2)
-      | inr more ↦ alone xs more.0 m how d (sym more.2 ∙ append_assoc xs (begin m how ∷ []) (d ∷ more.0))
-    ]
-
 fall_push : (pl : List ℕ) (n : ℕ) → ((xs ys zs : List ℕ) (a b : ℕ) → pl ≡ xs ++ a ∷ (ys ++ b ∷ zs) → a ≤ b) → ((xs ys : List ℕ) (a : ℕ) → pl ≡ xs ++ a ∷ ys → a ≤ n)
     → (xs ys zs : List ℕ) (a b : ℕ) → pl ++ n ∷ [] ≡ xs ++ a ∷ (ys ++ b ∷ zs) → a ≤ b
 fall_push pl n never all xs ys zs a b is =
@@ -239,25 +295,23 @@ below_push pl n k all low xs ys a is =
     ]
 
 pub numbers_change : NumbersChange
-numbers_change entries live f b before after numbered not_pending =
+numbers_change entries live f b before after numbered =
     let e = change f b before after in
     let same : point_numbers (live ++ e ∷ []) ≡ point_numbers live = points_append live (e ∷ []) ∙ append_none (point_numbers live) in
     let stays = next_stays entries e tt in
     record {
       never_fall = λ xs ys zs n m is. numbered.never_fall xs ys zs n m (sym same ∙ is);
       below_next = λ xs ys n is. let low = numbered.below_next xs ys n (sym same ∙ is) in omega (arith, low, stays);
-      alone = alone_push entries e numbered.alone (λ xs m how is. absurd (true_not_false (sym (not_pending xs m how is))));
     }
 
 pub numbers_quiet : NumbersQuiet
-numbers_quiet entries live n numbered not_pending next low =
+numbers_quiet entries live n numbered next low =
     let e = quiet n in
     let same : point_numbers (live ++ e ∷ []) ≡ point_numbers live ++ n ∷ [] = points_append live (e ∷ []) in
     let stays = next_stays entries e tt in
     record {
       never_fall = λ xs ys zs a b is. fall_push (point_numbers live) n numbered.never_fall (λ us vs c at. let k = numbered.below_next us vs c at in omega (arith, k, next)) xs ys zs a b (sym same ∙ is);
       below_next = λ xs ys a is. below_push (point_numbers live) n (next_number (entries ++ e ∷ [])) (λ us vs c at. let k = numbered.below_next us vs c at in omega (arith, k, stays)) (above entries n low) xs ys a (sym same ∙ is);
-      alone = alone_push entries e numbered.alone (λ xs m how is. absurd (true_not_false (sym (not_pending xs m how is))));
     }
 
 pub numbers_begin : NumbersBegin
@@ -271,11 +325,14 @@ numbers_begin entries live m how numbered found =
       never_fall = λ xs ys zs a b is. numbered.never_fall xs ys (zs ++ rest) a b
           (halves ∙ ap (λ (l : List ℕ). l ++ rest) is ∙ append_assoc xs (a ∷ (ys ++ b ∷ zs)) rest ∙ ap (λ (l : List ℕ). xs ++ a ∷ l) (append_assoc ys (b ∷ zs) rest));
       below_next = λ xs ys a is. let k = numbered.below_next xs (ys ++ rest) a (halves ∙ ap (λ (l : List ℕ). l ++ rest) is ∙ append_assoc xs (a ∷ ys) rest) in omega (arith, k, stays);
-      alone = alone_push entries e numbered.alone (λ xs n others is. refl);
     }
 
 pub numbers_control : NumbersControl
-numbers_control entries live m next counts described us numbered ends carried =
+numbers_control entries h m next counts described numbered last found carried =
+    let live = h.live in
+    let among = numbers_end live (pending_point h.pending) m found last in
+    let us = among.0 in
+    let ends = among.1 in
     let e = control m next counts described in
     let same : point_numbers (live ++ e ∷ []) ≡ point_numbers live ++ m ∷ [] = points_append live (e ∷ []) in
     let stays = next_stays entries e carried in
@@ -287,12 +344,11 @@ numbers_control entries live m next counts described us numbered ends carried =
     record {
       never_fall = λ xs ys zs a b is. fall_push (point_numbers live) m numbered.never_fall le xs ys zs a b (sym same ∙ is);
       below_next = λ xs ys a is. below_push (point_numbers live) m (next_number (entries ++ e ∷ [])) (λ vs ws c at. let k = numbered.below_next vs ws c at in omega (arith, k, stays)) (omega (arith, low, stays)) xs ys a (sym same ∙ is);
-      alone = alone_push entries e numbered.alone (λ xs n how is. refl);
     }
 
 pub true_dump_serves : TrueDumpServes
-true_dump_serves entries live next m dump counted numbered at true_dump le = record {
-  point_lives = (rolls_back entries live next m numbered at).kept dump.point le true_dump.point_lives;
+true_dump_serves live next m dump counted numbered at true_dump le = record {
+  point_lives = (rolls_back live next m numbered at).kept dump.point le true_dump.point_lives;
   same = true_dump.same;
 }
 
@@ -304,5 +360,4 @@ unfolding next_number
 numbers_first counts described = record {
   never_fall = λ xs ys zs n m is. absurd (not_empty ys zs m (one_split xs n (ys ++ m ∷ zs) 0 is).0);
   below_next = λ xs ys n is. let same : n ≡ 0 = (one_split xs n ys 0 is).1 in omega (arith, same);
-  alone = λ xs ys m how e is. absurd (not_empty [] ys e (one_split xs (begin m how) (e ∷ ys) (control 0 1 counts described) is).0);
 }

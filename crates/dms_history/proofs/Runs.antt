@@ -88,7 +88,7 @@ quiets entries base stored n sound =
 pub writes_early : WritesEarly
 writes_early entries base stored written sound same = record {
   chain = sound.chain;
-  stands = λ f b low none. same f b none ∙ sound.stands f b low none;
+  stands = λ f b low none. same f b low none ∙ sound.stands f b low none;
 }
 
 pub controls : Controls

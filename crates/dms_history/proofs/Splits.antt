@@ -34,11 +34,11 @@ changes_two : (xs ys : List Logged) (acc : List Event) → changes_from acc (xs 
 changes_two [] ys acc = refl
 changes_two (x ∷ xs) ys acc = changes_two xs ys (acc ++ changes_of acc x)
 
-some_append : (p : Logged → Bool) (xs ys : List Logged) → has p ys ≡ true → has p (xs ++ ys) ≡ true
+pub some_append : (p : Logged → Bool) (xs ys : List Logged) → has p ys ≡ true → has p (xs ++ ys) ≡ true
 some_append p [] ys found = found
 some_append p (x ∷ xs) ys found = or_true_right (p x) (has p (xs ++ ys)) (some_append p xs ys found)
 
-behind_append : (xs ys : List Logged) → has is_control_logged ys ≡ true → after_last is_control_logged (xs ++ ys) ≡ after_last is_control_logged ys
+pub behind_append : (xs ys : List Logged) → has is_control_logged ys ≡ true → after_last is_control_logged (xs ++ ys) ≡ after_last is_control_logged ys
 behind_append [] ys found = refl
 behind_append (x ∷ xs) ys found =
     ap (λ k. cond k (after_last is_control_logged (xs ++ ys)) (x ∷ (xs ++ ys))) (or_true_right (is_control_logged x) (has is_control_logged (xs ++ ys)) (some_append is_control_logged xs ys found)) ∙ behind_append xs ys found

@@ -12,8 +12,7 @@ use Rattle.dms_history.specs.Pick.{Dumps, count_at, pick, dump_pick, content_of}
 use Rattle.dms_history.specs.Here.{restore_pick, outcome, here_by, here}
 use Rattle.dms_history.specs.History.{Pending, History}
 use Rattle.dms_history.specs.Restores.{is_none, is_unlogged, has_no_before, takes_stored}
-use Rattle.dms_history.specs.Wanted.{EndsFirst}
-use Rattle.dms_history.specs.LawsOfRestores.{RestoreBegins, RestoreWrites, RestoreEnds, PendingEndsFirst, PendingWritesFirst}
+use Rattle.dms_history.specs.LawsOfRestores.{RestoreBegins, RestoreWrites, RestoreEnds, EndsFirst, PendingWritesFirst}
 use Rattle.dms_history.proofs.Picks.{chain_split, some_is}
 use Rattle.dms_history.proofs.AtPoints.{bool_cases, split_first, replay_append, true_or, or_true_right}
 use Rattle.dms_history.proofs.HalfDone.{has_front, until_until, chain_control}
@@ -74,19 +73,20 @@ restore_begins how dumps t base counted stored m ready =
       chain = subst (λ (l : List Event). Chain l base) (sym cut) front_chain;
       stands = λ f b low none. ap (λ (c : Content). block_in c f b) now;
     } in
-    let pending : Pending = record { entries = entries; point = m; how = how } in (
-      record {
+    let pending : Pending = record { entries = entries; point = m; how = how } in
+    record {
+      steady = record {
         sound = sound;
         restored = λ p is. subst (λ (q : Pending). outcome q.how dumps q.entries q.point stored ≡ replay (from_control front) base) (some_is pending p is) now;
         point_lives = λ p is. subst (λ (q : Pending). IsLive front q.point) (some_is pending p is) (front_live entries m ready.point_lives);
-      },
-      right ∙ sym (at_point entries base counted m ready.sound ready.point_lives),
-      λ n at.
+      };
+      leaves = right ∙ sym (at_point entries base counted m ready.sound ready.point_lives);
+      points = λ n at.
           let in_front = live_from front n at in
           let same : until_first (is_point n) (from_control front) ≡ until_first (is_point n) (from_control entries) =
           ap (λ (l : List Event). until_first (is_point n) l) cut ∙ until_until (is_point m) (is_point n) (from_control entries) (ap (λ (l : List Event). has (is_point n) l) (sym cut) ∙ in_front.found) in
-          at_point front base (block_in left) n sound at ∙ ap (λ (l : List Event). replay l base) same ∙ sym (at_point entries base counted n ready.sound (live_in entries m n at)),
-    )
+          at_point front base (block_in left) n sound at ∙ ap (λ (l : List Event). replay l base) same ∙ sym (at_point entries base counted n ready.sound (live_in entries m n at));
+    }
 
 -- ---- writes
 
@@ -94,7 +94,7 @@ pub blocks_same : (counts : Counts) (s r : Stored) → ((f b : ℕ) → b < coun
 unfolding content_of
 blocks_same counts s r same = λ i f. fill_by_all (r f) (map (s f) (range_with_len 0 (counts f))) (counts f) [] (content_length counts s f) (λ k low. content_block counts s f k low ∙ same f k low) i
 
-log_same : (entries : List Event) (m f b : ℕ) (written stored : Stored) → (is_unlogged entries m f b ≡ true → written f b ≡ stored f b) → pick entries m written f b ≡ pick entries m stored f b
+pub log_same : (entries : List Event) (m f b : ℕ) (written stored : Stored) → (is_unlogged entries m f b ≡ true → written f b ≡ stored f b) → pick entries m written f b ≡ pick entries m stored f b
 unfolding pick choice
 log_same entries m f b written stored same = go (last_after f b (after_last is_control (until_first (is_point m) entries))) (first_before f b (after_first (is_point m) entries)) same
   where
@@ -104,7 +104,7 @@ log_same entries m f b written stored same = go (last_after f b (after_last is_c
     go None (Some None) at = at refl
     go None (Some (Some old)) at = refl
 
-restore_same : (how : How) (dumps : Dumps) (entries : List Event) (m f b : ℕ) (written stored : Stored) → (takes_stored how entries m f b ≡ true → written f b ≡ stored f b) → restore_pick how dumps entries m written f b ≡ restore_pick how dumps entries m stored f b
+pub restore_same : (how : How) (dumps : Dumps) (entries : List Event) (m f b : ℕ) (written stored : Stored) → (takes_stored how entries m f b ≡ true → written f b ≡ stored f b) → restore_pick how dumps entries m written f b ≡ restore_pick how dumps entries m stored f b
 unfolding restore_pick
 restore_same halt_load dumps entries m f b written stored same = log_same entries m f b written stored same
 restore_same back_out dumps entries m f b written stored same = log_same entries m f b written stored same
@@ -177,8 +177,8 @@ pub outcome_length : (how : How) (dumps : Dumps) (entries : List Event) (m f : �
 unfolding outcome
 outcome_length how dumps entries m f s = content_length (count_at entries m) (restore_pick how dumps entries m s) f
 
-pub pending_ends_first : PendingEndsFirst
-pending_ends_first dumps t base right stored written p next d named counts described is steady true_dump same count stand =
+pub ends_first : EndsFirst
+ends_first dumps t base right stored written p next d named counts described is steady true_dump same count stand =
     let m = p.point in
     let e = control m next counts described in
     let mixed : Stored = λ f b. cond (named f b) (here dumps t right f b) (written f b) in
@@ -195,9 +195,10 @@ pending_ends_first dumps t base right stored written p next d named counts descr
     ]) in
     let point = steady.point_lives p is in
     let kept = ended.1 m point in
-    let dump_in = live_in t.live m (dumps d).point true_dump.point_lives in (
-      mixed,
-      record {
+    let dump_in = live_in t.live m (dumps d).point true_dump.point_lives in
+    record {
+      steady = ended.0;
+      ready = record {
         sound = ended.0.sound;
         same = λ f b off. ap (λ k. cond k (here dumps t right f b) (written f b)) (sym off);
         point_lives = kept.0;
@@ -205,11 +206,11 @@ pending_ends_first dumps t base right stored written p next d named counts descr
           point_lives = subst (λ (l : List Event). IsLive l (dumps d).point) (sym (until_append (is_point m) t.live (e ∷ []) point.found)) true_dump.point_lives;
           same = true_dump.same ∙ sym (ended.1 (dumps d).point dump_in).1;
         };
-      },
-      kept.1,
-    )
+      };
+      points = ended.1;
+    }
 
-log_takes : (entries : List Event) (m f b : ℕ) (s : Stored) → is_unlogged entries m f b ≡ true → pick entries m s f b ≡ s f b
+pub log_takes : (entries : List Event) (m f b : ℕ) (s : Stored) → is_unlogged entries m f b ≡ true → pick entries m s f b ≡ s f b
 unfolding pick choice
 log_takes entries m f b s on = go (last_after f b (after_last is_control (until_first (is_point m) entries))) (first_before f b (after_first (is_point m) entries)) on
   where
@@ -219,7 +220,7 @@ log_takes entries m f b s on = go (last_after f b (after_last is_control (until_
     go None (Some None) at = refl
     go None (Some (Some old)) at = absurd (true_not_false (sym at))
 
-takes_is : (how : How) (dumps : Dumps) (entries : List Event) (m f b : ℕ) (s : Stored) → takes_stored how entries m f b ≡ true → restore_pick how dumps entries m s f b ≡ s f b
+pub takes_is : (how : How) (dumps : Dumps) (entries : List Event) (m f b : ℕ) (s : Stored) → takes_stored how entries m f b ≡ true → restore_pick how dumps entries m s f b ≡ s f b
 unfolding restore_pick
 takes_is halt_load dumps entries m f b s on = log_takes entries m f b s on
 takes_is back_out dumps entries m f b s on = log_takes entries m f b s on
@@ -240,35 +241,3 @@ pending_writes_first dumps t base right stored written p named is steady same ke
           ∙ ap (λ (s : Stored). s f b) (here_is dumps t p right is) ∙ outcome_block p.how dumps p.entries m f b right low ∙ takes_is p.how dumps p.entries m f b right on
       | inr off ↦ ap (λ k. cond k (here dumps t right f b) (written f b)) off ∙ kept f b off low on ∙ same f b off
     ])
-
-pub ends_first : EndsFirst
-ends_first dumps t base right stored written p next d named counts described is steady true_dump same count stand =
-    let m = p.point in
-    let e = control m next counts described in
-    let mixed : Stored = λ f b. cond (named f b) (here dumps t right f b) (written f b) in
-    let low_is : (f b : ℕ) → b < counts f → b < count_at p.entries m f = λ f b low. omega (arith, low, count f, outcome_length p.how dumps p.entries m f stored) in
-    let block : (f b : ℕ) (s : Stored) → b < counts f → here dumps t s f b ≡ restore_pick p.how dumps p.entries m s f b =
-    λ f b s low. ap (λ (r : Stored). r f b) (here_is dumps t p s is) ∙ outcome_block p.how dumps p.entries m f b s (low_is f b low) in
-    let ended = restore_ends dumps t base right mixed p next counts described is steady
-    (λ f. count f ∙ outcome_length p.how dumps p.entries m f stored ∙ sym (outcome_length p.how dumps p.entries m f right))
-    (λ f b low. elim (bool_cases (named f b)) [
-      | inl on ↦ ap (λ k. cond k (here dumps t right f b) (written f b)) on
-      | inr off ↦
-          ap (λ k. cond k (here dumps t right f b) (written f b)) off ∙ stand f b low off ∙ block f b stored low
-          ∙ restore_same p.how dumps p.entries m f b stored right (λ _. same f b off) ∙ sym (block f b right low)
-    ]) in
-    let point = steady.point_lives p is in
-    let kept = ended.1 m point in
-    let dump_in = live_in t.live m (dumps d).point true_dump.point_lives in (
-      ended.0,
-      record {
-        sound = ended.0.sound;
-        same = λ f b off. ap (λ k. cond k (here dumps t right f b) (written f b)) (sym off);
-        point_lives = kept.0;
-        dump = record {
-          point_lives = subst (λ (l : List Event). IsLive l (dumps d).point) (sym (until_append (is_point m) t.live (e ∷ []) point.found)) true_dump.point_lives;
-          same = true_dump.same ∙ sym (ended.1 (dumps d).point dump_in).1;
-        };
-      },
-      ended.1,
-    )

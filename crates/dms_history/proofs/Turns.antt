@@ -47,7 +47,7 @@ changes_more : (xs : List Logged) (acc : List Event) (x : Logged) → changes_fr
 changes_more [] acc x = refl
 changes_more (y ∷ xs) acc x = changes_more xs (acc ++ changes_of acc y) x
 
-changes_tail : (xs : List Logged) (acc : List Event) → (zs : List Event) × (changes_from acc xs ≡ acc ++ zs)
+pub changes_tail : (xs : List Logged) (acc : List Event) → (zs : List Event) × (changes_from acc xs ≡ acc ++ zs)
 changes_tail [] acc = ([], sym (append_none acc))
 changes_tail (x ∷ xs) acc = let r = changes_tail xs (acc ++ changes_of acc x) in (changes_of acc x ++ r.0, r.1 ∙ append_assoc acc (changes_of acc x) r.0)
 

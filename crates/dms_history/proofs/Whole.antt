@@ -10,7 +10,7 @@ use Rattle.dms_history.specs.Places.{is_control, is_point, is_begin}
 use Rattle.dms_history.specs.Base.{Sound, opening, from_control, Opened, base_of}
 use Rattle.dms_history.specs.Here.{outcome, here}
 use Rattle.dms_history.specs.History.{Pending, History, after_event, history_from, history, next_number}
-use Rattle.dms_history.specs.Agrees.{ends_restore}
+use Rattle.dms_history.specs.Agrees.{ends_restore, BeginsAloneEvents}
 use Rattle.dms_history.specs.LawsOfBase.{AgreesIsSteady, SteadyAgrees}
 use Rattle.dms_history.proofs.Picks.{option_cases, or_none, some_is, last_append, last_stands, none_stands, replay_length}
 use Rattle.dms_history.proofs.AtPoints.{bool_cases, suffix_none}
@@ -49,14 +49,11 @@ unfolding history
 history_clean entries = clean_from entries (record { live = []; pending = None }) refl
 
 -- a restore is pending only right behind its Begin
-abbrev Alone : List Event → Type 0
-Alone all = (xs ys : List Event) (m : ℕ) (how : How) (e : Event) → all ≡ xs ++ begin m how ∷ (e ∷ ys) → ends_restore e ≡ true
-
 record Cut (t : History) (xs : List Event) : Type 0 where
   live : (p : Pending) → t.pending ≡ Some p → t.live ≡ until_first (is_point p.point) p.entries
   last : (p : Pending) → t.pending ≡ Some p → (ws : List Event) × (m : ℕ) × (how : How) × (xs ≡ ws ++ begin m how ∷ [])
 
-not_pending : (t : History) (xs es : List Event) (e : Event) → Alone (xs ++ e ∷ es) → Cut t xs → ends_restore e ≡ false → (p : Pending) → t.pending ≡ Some p → ⊥
+not_pending : (t : History) (xs es : List Event) (e : Event) → BeginsAloneEvents (xs ++ e ∷ es) → Cut t xs → ends_restore e ≡ false → (p : Pending) → t.pending ≡ Some p → ⊥
 not_pending t xs es e alone cut off p is =
     let r = cut.last p is in
     true_not_false (sym (alone r.0 es r.1 r.2 e (ap (λ (l : List Event). l ++ e ∷ es) r.3 ∙ append_assoc r.0 (begin r.1 r.2 ∷ []) (e ∷ es))) ∙ off)
@@ -64,7 +61,7 @@ not_pending t xs es e alone cut off p is =
 none_not_some : (p : Pending) → None ≡ Some p → ⊥
 none_not_some p e = absurd cc
 
-cut_step : (t : History) (xs es : List Event) (e : Event) → Alone (xs ++ e ∷ es) → Cut t xs → Cut (after_event t e) (xs ++ e ∷ [])
+cut_step : (t : History) (xs es : List Event) (e : Event) → BeginsAloneEvents (xs ++ e ∷ es) → Cut t xs → Cut (after_event t e) (xs ++ e ∷ [])
 cut_step t xs es (change f b before after) alone cut = record {
   live = λ p is. absurd (not_pending t xs es (change f b before after) alone cut refl p is);
   last = λ p is. absurd (not_pending t xs es (change f b before after) alone cut refl p is);
@@ -81,15 +78,15 @@ cut_step t xs es (begin m how) alone cut =
       last = λ p is. (xs, m, how, refl);
     }
 
-cut_from : (es xs : List Event) (t : History) → Alone (xs ++ es) → Cut t xs → Cut (history_from t es) (xs ++ es)
+cut_from : (es xs : List Event) (t : History) → BeginsAloneEvents (xs ++ es) → Cut t xs → Cut (history_from t es) (xs ++ es)
 cut_from [] xs t alone cut = subst (λ (l : List Event). Cut t l) (sym (append_none xs)) cut
 cut_from (e ∷ es) xs t alone cut =
     let same : (xs ++ e ∷ []) ++ es ≡ xs ++ e ∷ es = append_assoc xs (e ∷ []) es in
     subst (λ (l : List Event). Cut (history_from (after_event t e) es) l) same
-    (cut_from es (xs ++ e ∷ []) (after_event t e) (subst (λ (l : List Event). Alone l) (sym same) alone) (cut_step t xs es e alone cut))
+    (cut_from es (xs ++ e ∷ []) (after_event t e) (subst (λ (l : List Event). BeginsAloneEvents l) (sym same) alone) (cut_step t xs es e alone cut))
 
 -- live entries end at the place of the pending point
-pub pending_cut : (entries : List Event) → Alone entries → (p : Pending) → (history entries).pending ≡ Some p → (history entries).live ≡ until_first (is_point p.point) p.entries
+pub pending_cut : (entries : List Event) → BeginsAloneEvents entries → (p : Pending) → (history entries).pending ≡ Some p → (history entries).live ≡ until_first (is_point p.point) p.entries
 unfolding history
 pending_cut entries alone = (cut_from entries [] (record { live = []; pending = None }) alone (record { live = λ p is. absurd (none_not_some p is); last = λ p is. absurd (none_not_some p is) })).live
 
@@ -121,25 +118,25 @@ block_last live base counted f b x sound opened last =
     ]
 
 pub agrees_is_steady : AgreesIsSteady
-agrees_is_steady first entries dumps stored whole at_points =
+agrees_is_steady first entries dumps stored whole alone at_points =
     let t = history entries in
     let live = t.live in
     let counted = here dumps t stored in
     let base = base_of live counted in
-    let sound : Sound (from_control live) base counted = agrees_has_base first entries live (next_number entries) counted (history_clean entries) whole.lists in
+    let sound : Sound (from_control live) base counted = agrees_has_base first live (next_number entries) counted (history_clean entries) whole.lists in
     record {
       sound = sound;
       restored = λ p is.
           let m = p.point in
           let left = outcome p.how dumps p.entries m stored in
           let at = at_points p is in
-          let cut : live ≡ until_first (is_point m) p.entries = pending_cut entries whole.lists.alone p is in
+          let cut : live ≡ until_first (is_point m) p.entries = pending_cut entries alone p is in
           let found : has (is_point m) p.entries ≡ true = has_until (is_point m) p.entries (ap (λ (l : List Event). has (is_point m) l) (sym cut) ∙ at.found) in
           let stays : until_first (is_point m) live ≡ live = ap (λ (l : List Event). until_first (is_point m) l) cut ∙ until_until (is_point m) (is_point m) p.entries (has_self (is_point m) p.entries found) ∙ sym cut in
           let inner : until_first (is_point m) (from_control live) ≡ from_control live = sym (from_until (is_point m) live (controlled live m at)) ∙ ap (λ (l : List Event). from_control l) stays in
           let counts : count_at p.entries m ≡ count_at live m = sym (count_front p.entries m found) ∙ ap (λ (l : List Event). count_at l m) (sym cut) in
           let some_control : has is_control live ≡ true = has_front (is_point m) is_control live (controlled live m at) in
-          let opened = (agrees_leads first entries live (next_number entries) counted whole.lists some_control).0 in
+          let opened = (agrees_leads first live (next_number entries) counted whole.lists some_control).0 in
           content_same left (replay (from_control live) base)
           (λ f. outcome_length p.how dumps p.entries m f stored ∙ ap (λ (k : ℕ → ℕ). k f) counts ∙ count_right live base counted m sound at f ∙ ap (λ (l : List Event). length (replay l base f)) inner)
           (λ f b low.
@@ -158,7 +155,7 @@ pub steady_agrees : SteadyAgrees
 steady_agrees first entries dumps stored base steady opened numbered empty =
     let t = history entries in
     record {
-      lists = base_agrees first entries t.live (next_number entries) (here dumps t stored) base steady.sound opened numbered empty;
+      lists = base_agrees first t.live (next_number entries) (here dumps t stored) base steady.sound opened numbered empty;
       restored = λ p f b x is last.
           ap (λ (s : Stored). s f b) (here_is dumps t p stored is) ∙ ap (λ (c : Content). block_in c f b) (steady.restored p is)
           ∙ (block_last t.live base (here dumps t stored) f b x steady.sound opened last).1;

@@ -28,14 +28,16 @@ ends_restore (quiet n) = false
 ends_restore (control n next counts described) = true
 ends_restore (begin n how) = true
 
--- first: the trail begins with audit file 1. entries: all of them. live: those that are live. next: the next number. counted: what counts as each block.
-pub record ListAgrees (first : Bool) (entries live : List Event) (next : ℕ) (counted : Stored) : Type 0 where
+-- Nothing stands after a Begin up to the next Begin or Control.
+abbrev pub BeginsAloneEvents : List Event → Type 0
+BeginsAloneEvents entries = (xs ys : List Event) (m : ℕ) (how : How) (e : Event) → entries ≡ xs ++ begin m how ∷ (e ∷ ys) → ends_restore e ≡ true
+
+-- first: the trail begins with audit file 1. live: the live entries. next: the next number. counted: what counts as each block.
+pub record ListAgrees (first : Bool) (live : List Event) (next : ℕ) (counted : Stored) : Type 0 where
   -- The numbers of the live Quiets and Controls, in their order, never fall.
   pub never_fall : (xs ys zs : List ℕ) (n m : ℕ) → point_numbers live ≡ xs ++ n ∷ (ys ++ m ∷ zs) → n ≤ m
   -- Each of them is below the next number.
   pub below_next : (xs ys : List ℕ) (n : ℕ) → point_numbers live ≡ xs ++ n ∷ ys → n < next
-  -- Nothing stands after a Begin up to the next Begin or Control.
-  pub alone : (xs ys : List Event) (m : ℕ) (how : How) (e : Event) → entries ≡ xs ++ begin m how ∷ (e ∷ ys) → ends_restore e ≡ true
   -- A live change before the first live Control is of a block below that Control's count.
   pub counted_first : (xs ys zs : List Event) (f b : ℕ) (before : Option Block) (after : Block) (n later : ℕ) (counts : Counts) (described : Bool)
       → live ≡ xs ++ change f b before after ∷ (ys ++ control n later counts described ∷ zs) → has is_control (xs ++ ys) ≡ false → b < counts f
@@ -54,15 +56,14 @@ pub record ListAgrees (first : Bool) (entries live : List Event) (next : ℕ) (c
   pub recounts : (xs ys : List Event) (n later : ℕ) (counts : Counts) (described : Bool)
       → live ≡ xs ++ control n later counts described ∷ ys → has is_control xs ≡ true → (f : ℕ) → counts f ≡ reached_count f 0 xs
 
--- The events of a trail agree with its dumps and stored blocks.
+-- The events of a trail agree with its dumps and stored blocks; what may stand after a Begin is said of the entries.
 pub record EventsAgree (first : Bool) (entries : List Event) (dumps : Dumps) (stored : Stored) : Type 0 where
-  pub lists : ListAgrees first entries (history entries).live (next_number entries) (here dumps (history entries) stored)
+  pub lists : ListAgrees first (history entries).live (next_number entries) (here dumps (history entries) stored)
   -- While a restore is pending, what counts is the last live after-image of each block that has one.
   pub restored : (p : Pending) (f b : ℕ) (x : Block) → (history entries).pending ≡ Some p → last_after f b (history entries).live ≡ Some x
       → here dumps (history entries) stored f b ≡ x
 
--- the part of it that is about numbers and order
-pub record Numbered (entries live : List Event) (next : ℕ) : Type 0 where
+-- the part of it that is about numbers
+pub record Numbered (live : List Event) (next : ℕ) : Type 0 where
   pub never_fall : (xs ys zs : List ℕ) (n m : ℕ) → point_numbers live ≡ xs ++ n ∷ (ys ++ m ∷ zs) → n ≤ m
   pub below_next : (xs ys : List ℕ) (n : ℕ) → point_numbers live ≡ xs ++ n ∷ ys → n < next
-  pub alone : (xs ys : List Event) (m : ℕ) (how : How) (e : Event) → entries ≡ xs ++ begin m how ∷ (e ∷ ys) → ends_restore e ≡ true

@@ -2,6 +2,7 @@
 use Rattle.std.specs.Prelude.{ℕ, ◌≡◌, ◌==◌, Bool, true, false, List, [], ◌∷◌, ◌++◌}
 use Rattle.dms_history.specs.Events.{Stored, How, Event, change, quiet, control, begin}
 use Rattle.dms_history.specs.Lists.{until_first}
+use Rattle.dms_history.specs.History.{History, history, next_number}
 use Rattle.dms_history.specs.Pick.{Dumps}
 use Rattle.dms_history.specs.Agrees.{ends_restore, EventsAgree}
 use Rattle.dms_history.specs.Ranges.{Logged, event, range, told_events, live_logged}
@@ -28,6 +29,17 @@ logged entries = logged_from no_parts entries
 -- all entries as events
 abbrev pub events : List Entry → List Event
 events entries = told_events (logged entries)
+
+-- the live events and the pending restore of some entries
+abbrev pub history_of : List Entry → History
+history_of entries = history (events entries)
+
+abbrev pub live_of : List Entry → List Event
+live_of entries = (history_of entries).live
+
+-- the next number after some entries
+abbrev pub next_of : List Entry → ℕ
+next_of entries = next_number (events entries)
 
 -- ---- live entries, Schema parts among them
 
@@ -61,10 +73,14 @@ abbrev pub ends_restore_logged : Logged → Bool
 ends_restore_logged (event e) = ends_restore e
 ends_restore_logged (range f b place bytes) = false
 
+-- Nothing stands after a Begin up to the next Begin or Control; a Schema part is nothing here.
+abbrev pub BeginsAlone : List Logged → Type 0
+BeginsAlone xs = (us vs : List Logged) (m : ℕ) (how : How) (x : Logged) → xs ≡ us ++ event (begin m how) ∷ (x ∷ vs) → ends_restore_logged x ≡ true
+
 -- The entries of a trail agree with its dumps and stored blocks. first: the trail begins with audit file 1.
 pub record Agrees (first : Bool) (entries : List Entry) (dumps : Dumps) (stored : Stored) : Type 0 where
   pub events_agree : EventsAgree first (events entries) dumps stored
   -- Only Schema parts stand after a Begin up to the next Begin or Control; no Range does either.
-  pub alone : (xs ys : List Logged) (m : ℕ) (how : How) (x : Logged) → logged entries ≡ xs ++ event (begin m how) ∷ (x ∷ ys) → ends_restore_logged x ≡ true
+  pub alone : BeginsAlone (logged entries)
   -- Every live Range that isn't left out has its Image itself.
   pub images : HasImages (live_logged [] (logged entries))

@@ -7,31 +7,31 @@ use Rattle.dms_history.specs.History.{Pending, history, next_number}
 use Rattle.dms_history.specs.Pick.{Dumps, blocks_at}
 use Rattle.dms_history.specs.Here.{here}
 use Rattle.dms_history.specs.Base.{opening, from_control, Sound, Opened, base_of}
-use Rattle.dms_history.specs.Agrees.{ListAgrees, EventsAgree, Numbered}
+use Rattle.dms_history.specs.Agrees.{BeginsAloneEvents, ListAgrees, EventsAgree, Numbered}
 use Rattle.dms_history.specs.Restores.{Steady}
 
 abbrev pub AgreesHasBase : Type 0
-AgreesHasBase = (first : Bool) (entries live : List Event) (next : ℕ) (counted : Stored) → has is_begin live ≡ false
-    → ListAgrees first entries live next counted → Sound (from_control live) (base_of live counted) counted
+AgreesHasBase = (first : Bool) (live : List Event) (next : ℕ) (counted : Stored) → has is_begin live ≡ false
+    → ListAgrees first live next counted → Sound (from_control live) (base_of live counted) counted
 
 abbrev pub AgreesLeadsToBase : Type 0
-AgreesLeadsToBase = (first : Bool) (entries live : List Event) (next : ℕ) (counted : Stored) → ListAgrees first entries live next counted
+AgreesLeadsToBase = (first : Bool) (live : List Event) (next : ℕ) (counted : Stored) → ListAgrees first live next counted
     → has is_control live ≡ true → Opened (opening live) (base_of live counted) × (first ≡ true → (f : ℕ) → length (base_of live counted f) ≡ 0)
 
 -- any base will do
 abbrev pub BaseAgrees : Type 0
-BaseAgrees = (first : Bool) (entries live : List Event) (next : ℕ) (counted : Stored) (base : Content) → Sound (from_control live) base counted
-    → Opened (opening live) base → Numbered entries live next → (first ≡ true → (f : ℕ) → length (base f) ≡ 0) → ListAgrees first entries live next counted
+BaseAgrees = (first : Bool) (live : List Event) (next : ℕ) (counted : Stored) (base : Content) → Sound (from_control live) base counted
+    → Opened (opening live) base → Numbered live next → (first ≡ true → (f : ℕ) → length (base f) ≡ 0) → ListAgrees first live next counted
 
 -- With its dumps, and a restore that may be pending: what agrees is steady.
 abbrev pub AgreesIsSteady : Type 0
-AgreesIsSteady = (first : Bool) (entries : List Event) (dumps : Dumps) (stored : Stored) → EventsAgree first entries dumps stored
+AgreesIsSteady = (first : Bool) (entries : List Event) (dumps : Dumps) (stored : Stored) → EventsAgree first entries dumps stored → BeginsAloneEvents entries
     → ((p : Pending) → (history entries).pending ≡ Some p → IsLive (history entries).live p.point)
     → Steady dumps (history entries) (base_of (history entries).live (here dumps (history entries) stored)) stored
 
 abbrev pub SteadyAgrees : Type 0
 SteadyAgrees = (first : Bool) (entries : List Event) (dumps : Dumps) (stored : Stored) (base : Content) → Steady dumps (history entries) base stored
-    → Opened (opening (history entries).live) base → Numbered entries (history entries).live (next_number entries)
+    → Opened (opening (history entries).live) base → Numbered (history entries).live (next_number entries)
     → (first ≡ true → (f : ℕ) → length (base f) ≡ 0) → EventsAgree first entries dumps stored
 
 -- Old audit files are removed from the front: what counts has a later base, and each live point whose place is not removed has its content.

@@ -1,21 +1,13 @@
 -- Laws: entries, their events, and one more entry that is sealed.
-use Rattle.std.specs.Prelude.{ℕ, ◌+◌, ◌*◌, ◌≤◌, ◌<◌, ◌≡◌, ◌≢◌, Bool, true, false, List, [], ◌∷◌, ◌++◌, length, Option, Some, None}
-use Rattle.dms_history.specs.Events.{Block, Content, Stored, How, Event, change, quiet, control, begin}
+use Rattle.std.specs.Prelude.{ℕ, ◌+◌, ◌*◌, ◌≤◌, ◌<◌, ◌≡◌, ◌≢◌, true, false, List, [], ◌∷◌, ◌++◌, Option, Some, None}
+use Rattle.dms_history.specs.Events.{Block, Event, change, quiet, control, begin}
 use Rattle.dms_history.specs.Images.{last_after}
-use Rattle.dms_history.specs.History.{Pending, after_event, history, next_number}
-use Rattle.dms_history.specs.Places.{is_control, IsLive}
-use Rattle.dms_history.specs.Lists.{has}
-use Rattle.dms_history.specs.Pick.{Dumps}
-use Rattle.dms_history.specs.Here.{here}
-use Rattle.dms_history.specs.Base.{opening, Opened, base_of}
-use Rattle.dms_history.specs.Agrees.{Numbered}
-use Rattle.dms_history.specs.Restores.{Steady}
-use Rattle.dms_history.specs.Ranges.{Logged, event, patched, live_logged}
-use Rattle.dms_history.specs.LawsOfRanges.{HasImages}
+use Rattle.dms_history.specs.History.{after_event, history}
+use Rattle.dms_history.specs.Ranges.{patched, live_logged}
 use Rattle.dms_history.specs.declared.event.FileCount.{FileCount}
 use Rattle.dms_history.specs.Entries.{Kind, Entry, schema_part, image, byte_range, quiet_point, control_point, begin_restore, counts_in, how_of, is_in_row}
 use Rattle.dms_history.specs.Schemas.{no_parts, parts_from, is_whole, schema_entries}
-use Rattle.dms_history.specs.EntryEvents.{logged, events, live_entries, ends_restore_logged, Agrees}
+use Rattle.dms_history.specs.EntryEvents.{logged, events, live_entries}
 
 -- The entries end with a whole Schema exactly where its parts 1 to the last stand there one directly after another.
 abbrev pub WholeSchemas : Type 0
@@ -64,20 +56,3 @@ BeginSealed = (entries : List Entry) (n : ℕ) (kind : Kind) → events (entries
 -- One more event is one more step of the history.
 abbrev pub OneMoreEvent : Type 0
 OneMoreEvent = (es : List Event) (e : Event) → history (es ++ e ∷ []) ≡ after_event (history es) e
-
--- ---- agreement has a base, and back
-
-abbrev pub AgreesGivesBase : Type 0
-AgreesGivesBase = (first : Bool) (entries : List Entry) (dumps : Dumps) (stored : Stored) → Agrees first entries dumps stored
-    → ((p : Pending) → (history (events entries)).pending ≡ Some p → IsLive (history (events entries)).live p.point)
-    → Steady dumps (history (events entries)) (base_of (history (events entries)).live (here dumps (history (events entries)) stored)) stored
-    × (has is_control (history (events entries)).live ≡ true
-    → Opened (opening (history (events entries)).live) (base_of (history (events entries)).live (here dumps (history (events entries)) stored))
-    × (first ≡ true → (f : ℕ) → length (base_of (history (events entries)).live (here dumps (history (events entries)) stored) f) ≡ 0))
-
-abbrev pub BaseGivesAgrees : Type 0
-BaseGivesAgrees = (first : Bool) (entries : List Entry) (dumps : Dumps) (stored : Stored) (base : Content) → Steady dumps (history (events entries)) base stored
-    → Opened (opening (history (events entries)).live) base → Numbered (events entries) (history (events entries)).live (next_number (events entries))
-    → (first ≡ true → (f : ℕ) → length (base f) ≡ 0)
-    → ((xs ys : List Logged) (m : ℕ) (how : How) (x : Logged) → logged entries ≡ xs ++ event (begin m how) ∷ (x ∷ ys) → ends_restore_logged x ≡ true)
-    → HasImages (live_logged [] (logged entries)) → Agrees first entries dumps stored

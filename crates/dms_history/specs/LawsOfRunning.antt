@@ -1,13 +1,14 @@
 -- Laws: each step of a database that runs keeps it steady.
-use Rattle.std.specs.Prelude.{ℕ, ◌<◌, ◌≡◌, Bool, true, List, [], ◌∷◌, ◌++◌, length, Option, None}
+use Rattle.std.specs.Prelude.{ℕ, ◌<◌, ◌≤◌, ◌≡◌, Bool, true, false, List, [], ◌∷◌, ◌++◌, length, Option, None}
 use Rattle.dms_history.specs.Events.{Block, Content, Stored, Counts, Event, change, quiet, control, block_in}
-use Rattle.dms_history.specs.Replay.{Tells, replay}
+use Rattle.dms_history.specs.Replay.{Tells, Chain, replay}
 use Rattle.dms_history.specs.Lists.{has, after_last}
-use Rattle.dms_history.specs.Places.{is_control}
-use Rattle.dms_history.specs.History.{History, after_event}
+use Rattle.dms_history.specs.Places.{is_control, is_described, IsLive}
+use Rattle.dms_history.specs.History.{History, after_event, history_from}
 use Rattle.dms_history.specs.Images.{last_after}
-use Rattle.dms_history.specs.Pick.{Dumps}
+use Rattle.dms_history.specs.Pick.{Dumps, content_of, blocks_at}
 use Rattle.dms_history.specs.Base.{from_control, Sound}
+use Rattle.dms_history.specs.Agrees.{Numbered}
 use Rattle.dms_history.specs.Restores.{Steady}
 
 -- One more change is sealed, which tells what stood before it.
@@ -19,10 +20,10 @@ Changes = (entries : List Event) (base : Content) (stored : Stored) (f b : ℕ) 
 abbrev pub Quiets : Type 0
 Quiets = (entries : List Event) (base : Content) (stored : Stored) (n : ℕ) → Sound entries base stored → Sound (entries ++ quiet n ∷ []) base stored
 
--- Blocks with a change after the last Control are written, torn or whole, synced or not.
+-- Blocks with a change after the last Control are written, torn or whole, synced or not: each other block that is there stays.
 abbrev pub WritesEarly : Type 0
 WritesEarly = (entries : List Event) (base : Content) (stored written : Stored) → Sound entries base stored
-    → ((f b : ℕ) → last_after f b (after_last is_control entries) ≡ None → written f b ≡ stored f b) → Sound entries base written
+    → ((f b : ℕ) → b < length (replay entries base f) → last_after f b (after_last is_control entries) ≡ None → written f b ≡ stored f b) → Sound entries base written
 
 -- All blocks stand as the content is, and a Control with its counts is sealed.
 abbrev pub Controls : Type 0
@@ -30,12 +31,43 @@ Controls = (entries : List Event) (base : Content) (stored written : Stored) (n 
     → ((f : ℕ) → counts f ≡ length (replay entries base f)) → ((f b : ℕ) → b < length (replay entries base f) → written f b ≡ block_in (replay entries base) f b)
     → Sound (entries ++ control n next counts described ∷ []) base written
 
--- The same four over a whole history without a pending restore, whose front may have been removed.
+-- The same four over a whole history, whose front may have been removed.
+pub record RunsOn (dumps : Dumps) (h : History) (base : Content) (stored : Stored) : Type 0 where
+  pub change : (f b : ℕ) (before : Option Block) (after : Block) → Tells b before (replay (from_control h.live) base f) → Steady dumps (after_event h (change f b before after)) base stored
+  pub quiet : (n : ℕ) → Steady dumps (after_event h (quiet n)) base stored
+  pub writes : (written : Stored) → ((f b : ℕ) → b < length (replay (from_control h.live) base f) → last_after f b (after_last is_control (from_control h.live)) ≡ None → written f b ≡ stored f b)
+      → Steady dumps h base written
+  pub control : (written : Stored) (n next : ℕ) (counts : Counts) (described : Bool) → ((f : ℕ) → counts f ≡ length (replay (from_control h.live) base f))
+      → ((f b : ℕ) → b < length (replay (from_control h.live) base f) → written f b ≡ block_in (replay (from_control h.live) base) f b)
+      → Steady dumps (after_event h (control n next counts described)) base written
+
 abbrev pub RunsSteady : Type 0
 RunsSteady = (dumps : Dumps) (h : History) (base : Content) (stored : Stored) → h.pending ≡ None → has is_control h.live ≡ true → Steady dumps h base stored
-    → ((f b : ℕ) (before : Option Block) (after : Block) → Tells b before (replay (from_control h.live) base f) → Steady dumps (after_event h (change f b before after)) base stored)
-    × ((n : ℕ) → Steady dumps (after_event h (quiet n)) base stored)
-    × ((written : Stored) → ((f b : ℕ) → last_after f b (after_last is_control (from_control h.live)) ≡ None → written f b ≡ stored f b) → Steady dumps h base written)
-    × ((written : Stored) (n next : ℕ) (counts : Counts) (described : Bool) → ((f : ℕ) → counts f ≡ length (replay (from_control h.live) base f))
-    → ((f b : ℕ) → b < length (replay (from_control h.live) base f) → written f b ≡ block_in (replay (from_control h.live) base) f b)
-    → Steady dumps (after_event h (control n next counts described)) base written)
+    → RunsOn dumps h base stored
+
+-- What one audit block seals at once, changes and quiet points in turn: all of it is live.
+pub record SealedRun (dumps : Dumps) (h : History) (base : Content) (stored : Stored) (es : List Event) : Type 0 where
+  pub live : (history_from h es).live ≡ h.live ++ es
+  pub none : (history_from h es).pending ≡ None
+  pub steady : Steady dumps (history_from h es) base stored
+
+abbrev pub SealsRun : Type 0
+SealsRun = (dumps : Dumps) (h : History) (base : Content) (stored : Stored) (es : List Event) → h.pending ≡ None → has is_control h.live ≡ true → Steady dumps h base stored
+    → Chain (from_control h.live ++ es) base → has is_control es ≡ false → SealedRun dumps h base stored es
+
+-- Each live point stays live with its content while the list of live entries goes on, whatever was written by then.
+abbrev pub PointsGoOn : Type 0
+PointsGoOn = (live more : List Event) (base : Content) (counted later : Stored) (n : ℕ) → Sound (from_control live) base counted → Sound (from_control (live ++ more)) base later
+    → IsLive live n → IsLive (live ++ more) n × (blocks_at (live ++ more) later n ≡ blocks_at live counted n)
+
+-- A new quiet point is live, with the content of now.
+abbrev pub QuietIsLive : Type 0
+QuietIsLive = (live : List Event) (next : ℕ) (base : Content) (counted : Stored) (n : ℕ) → Numbered live next → next ≤ n
+    → has is_described live ≡ true → Sound (from_control live) base counted
+    → IsLive (live ++ quiet n ∷ []) n × (blocks_at (live ++ quiet n ∷ []) counted n ≡ replay (from_control live) base)
+
+-- Behind a Control the files hold the content.
+abbrev pub ControlStands : Type 0
+ControlStands = (live : List Event) (base : Content) (stored : Stored) (n next : ℕ) (counts : Counts) (described : Bool)
+    → Sound (from_control (live ++ control n next counts described ∷ [])) base stored
+    → content_of counts stored ≡ replay (from_control (live ++ control n next counts described ∷ [])) base

@@ -21,6 +21,10 @@ pub mod Entries
 pub mod Schemas
 pub mod EntryEvents
 pub mod LawsOfEntries
+pub mod Told
+pub mod Points
+pub mod LawsOfPointLists
+pub mod Kept
+pub mod LawsOfKept
 pub mod Plain
 pub mod PlainHistory
-pub mod Wanted

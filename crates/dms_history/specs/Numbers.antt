@@ -1,8 +1,8 @@
 -- Laws: the numbers of points.
-use Rattle.std.specs.Prelude.{ℕ, ◌-◌, ◌^◌, ◌<◌, ◌≤◌, ◌≡◌, Bool, true, false, List, [], ◌∷◌, ◌++◌, Option, Some}
+use Rattle.std.specs.Prelude.{ℕ, ◌+◌, ◌-◌, ◌^◌, ◌<◌, ◌≤◌, ◌≡◌, Bool, true, false, List, [], ◌∷◌, ◌++◌, min, Option, Some}
 use Rattle.dms_history.specs.Events.{Block, Stored, Counts, How, Event, change, quiet, control, begin}
 use Rattle.dms_history.specs.Lists.{has, until_first}
-use Rattle.dms_history.specs.Places.{is_point, point_numbers, IsLive}
+use Rattle.dms_history.specs.Places.{is_control, is_point, IsLive}
 use Rattle.dms_history.specs.History.{History, after_event, last_point, next_number}
 use Rattle.dms_history.specs.Pick.{Dump}
 use Rattle.dms_history.specs.Agrees.{Numbered}
@@ -15,15 +15,16 @@ pub record RolledBack (live : List Event) (m : ℕ) : Type 0 where
   pub kept : (n : ℕ) → n ≤ m → IsLive live n → IsLive (until_first (is_point m) live) n
 
 abbrev pub RollsBack : Type 0
-RollsBack = (entries live : List Event) (next m : ℕ) → Numbered entries live next → IsLive live m → RolledBack live m
+RollsBack = (live : List Event) (next m : ℕ) → Numbered live next → IsLive live m → RolledBack live m
 
--- The last point is that of a Begin, then that of its Control, and that of a new Quiet.
-abbrev pub LastPoints : Type 0
-LastPoints = (h : History) (m : ℕ)
-    → ((how : How) → has (is_point m) h.live ≡ true → last_point (after_event h (begin m how)) ≡ Some m)
-    × ((how : How) → has (is_point m) h.live ≡ false → last_point (after_event h (begin m how)) ≡ Some m)
-    × ((next : ℕ) (counts : Counts) (described : Bool) → last_point (after_event h (control m next counts described)) ≡ Some m)
-    × (last_point (after_event h (quiet m)) ≡ Some m)
+-- The last point is that of a Begin, whether its point has a place or not, then that of its Control, and that of a new Quiet.
+pub record LastPoints (h : History) (m : ℕ) : Type 0 where
+  pub begin : (how : How) → last_point (after_event h (begin m how)) ≡ Some m
+  pub control : (next : ℕ) (counts : Counts) (described : Bool) → last_point (after_event h (control m next counts described)) ≡ Some m
+  pub quiet : last_point (after_event h (quiet m)) ≡ Some m
+
+abbrev pub EachLast : Type 0
+EachLast = (h : History) (m : ℕ) → LastPoints h m
 
 -- a Control carries at least the next number
 abbrev pub Carries : Event → ℕ → Type 0
@@ -47,32 +48,50 @@ UsedOnce = (entries : List Event) → IsNumberedInTurn entries → (xs ys zs : L
 
 -- ---- what is sealed next keeps the numbers in order
 
-abbrev pub NothingBegun : List Event → Type 0
-NothingBegun entries = (xs : List Event) (m : ℕ) (how : How) → entries ≡ xs ++ begin m how ∷ [] → false ≡ true
-
 abbrev pub NumbersChange : Type 0
-NumbersChange = (entries live : List Event) (f b : ℕ) (before : Option Block) (after : Block) → Numbered entries live (next_number entries) → NothingBegun entries
-    → Numbered (entries ++ change f b before after ∷ []) (live ++ change f b before after ∷ []) (next_number (entries ++ change f b before after ∷ []))
+NumbersChange = (entries live : List Event) (f b : ℕ) (before : Option Block) (after : Block) → Numbered live (next_number entries)
+    → Numbered (live ++ change f b before after ∷ []) (next_number (entries ++ change f b before after ∷ []))
 
 abbrev pub NumbersQuiet : Type 0
-NumbersQuiet = (entries live : List Event) (n : ℕ) → Numbered entries live (next_number entries) → NothingBegun entries → next_number entries ≤ n → n < 2 ^ 64 - 1
-    → Numbered (entries ++ quiet n ∷ []) (live ++ quiet n ∷ []) (next_number (entries ++ quiet n ∷ []))
+NumbersQuiet = (entries live : List Event) (n : ℕ) → Numbered live (next_number entries) → next_number entries ≤ n → n < 2 ^ 64 - 1
+    → Numbered (live ++ quiet n ∷ []) (next_number (entries ++ quiet n ∷ []))
 
 abbrev pub NumbersBegin : Type 0
-NumbersBegin = (entries live : List Event) (m : ℕ) (how : How) → Numbered entries live (next_number entries) → has (is_point m) live ≡ true
-    → Numbered (entries ++ begin m how ∷ []) (until_first (is_point m) live) (next_number (entries ++ begin m how ∷ []))
+NumbersBegin = (entries live : List Event) (m : ℕ) (how : How) → Numbered live (next_number entries) → has (is_point m) live ≡ true
+    → Numbered (until_first (is_point m) live) (next_number (entries ++ begin m how ∷ []))
 
--- a Control of the last live point
+-- a Control of the last point, which has its place
 abbrev pub NumbersControl : Type 0
-NumbersControl = (entries live : List Event) (m next : ℕ) (counts : Counts) (described : Bool) (xs : List ℕ) → Numbered entries live (next_number entries)
-    → point_numbers live ≡ xs ++ m ∷ [] → next_number entries ≤ next
-    → Numbered (entries ++ control m next counts described ∷ []) (live ++ control m next counts described ∷ []) (next_number (entries ++ control m next counts described ∷ []))
+NumbersControl = (entries : List Event) (h : History) (m next : ℕ) (counts : Counts) (described : Bool) → Numbered h.live (next_number entries)
+    → last_point h ≡ Some m → has (is_point m) h.live ≡ true → next_number entries ≤ next
+    → Numbered (h.live ++ control m next counts described ∷ []) (next_number (entries ++ control m next counts described ∷ []))
 
 -- the first Control of all
 abbrev pub NumbersFirst : Type 0
-NumbersFirst = (counts : Counts) (described : Bool) → Numbered (control 0 1 counts described ∷ []) (control 0 1 counts described ∷ []) (next_number (control 0 1 counts described ∷ []))
+NumbersFirst = (counts : Counts) (described : Bool) → Numbered (control 0 1 counts described ∷ []) (next_number (control 0 1 counts described ∷ []))
+
+-- The last point is live where any point is, and no live point is above it; where there is a Control there is a last point.
+pub record LastPoint (h : History) (n : ℕ) : Type 0 where
+  pub last : ℕ
+  pub is : last_point h ≡ Some last
+  pub not_above : n ≤ last
+  pub lives : IsLive h.live last
+
+abbrev pub LastLives : Type 0
+LastLives = (h : History) (next : ℕ) → Numbered h.live next
+    → ((n : ℕ) → IsLive h.live n → LastPoint h n) × (has is_control h.live ≡ true → (m : ℕ) × (last_point h ≡ Some m))
+
+-- The next number after one more entry, exactly.
+pub record NextSteps (entries : List Event) : Type 0 where
+  pub change : (f b : ℕ) (before : Option Block) (after : Block) → next_number (entries ++ change f b before after ∷ []) ≡ next_number entries
+  pub quiet : (n : ℕ) → next_number entries ≤ n → n < 2 ^ 64 - 1 → next_number (entries ++ quiet n ∷ []) ≡ n + 1
+  pub control : (n next : ℕ) (counts : Counts) (described : Bool) → next_number (entries ++ control n next counts described ∷ []) ≡ min (2 ^ 64 - 1) next
+  pub begin : (m : ℕ) (how : How) → next_number (entries ++ begin m how ∷ []) ≡ next_number entries
+
+abbrev pub EachNext : Type 0
+EachNext = (entries : List Event) → NextSteps entries
 
 -- A true dump whose point isn't above the chosen one serves.
 abbrev pub TrueDumpServes : Type 0
-TrueDumpServes = (entries live : List Event) (next m : ℕ) (dump : Dump) (here : Stored) → Numbered entries live next → IsLive live m
+TrueDumpServes = (live : List Event) (next m : ℕ) (dump : Dump) (here : Stored) → Numbered live next → IsLive live m
     → IsTrueDump dump live here → dump.point ≤ m → DumpServes dump live here m

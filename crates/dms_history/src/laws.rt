@@ -2,11 +2,14 @@
 
 ghost use Rattle.dms_history.specs.LawsOfPoints.{ChoiceGivesContent, EachPoint, EachLivePoint, OpeningNeverCounts};
 ghost use Rattle.dms_history.specs.LawsOfBase.{AgreesHasBase, AgreesLeadsToBase, BaseAgrees, AgreesIsSteady, SteadyAgrees, OpeningStays, FrontGoes};
-ghost use Rattle.dms_history.specs.LawsOfRunning.{Changes, Quiets, WritesEarly, Controls, RunsSteady};
-ghost use Rattle.dms_history.specs.LawsOfRestores.{RestoreBegins, RestoreWrites, RestoreEnds, PendingEndsFirst, PendingWritesFirst};
+ghost use Rattle.dms_history.specs.LawsOfRunning.{Changes, Quiets, WritesEarly, Controls, RunsSteady, SealsRun, PointsGoOn, QuietIsLive, ControlStands};
+ghost use Rattle.dms_history.specs.Told.{EachTold, EachFromFile};
+ghost use Rattle.dms_history.specs.LawsOfPointLists.{PointsListed, OneList, PointsFront, PointsStay, ListsChange, ListsQuiet, ListsControl, ListsBegin, LastKeepsAll};
+ghost use Rattle.dms_history.specs.LawsOfRestores.{RestoreBegins, RestoreWrites, RestoreEnds, EndsFirst, PendingWritesFirst, NoDumpCounts, PendingCuts};
 ghost use Rattle.dms_history.specs.Often.{HoweverOften, FromAnything};
-ghost use Rattle.dms_history.specs.Numbers.{RollsBack, LastPoints, NextStays, UsedOnce, NumbersChange, NumbersQuiet, NumbersBegin, NumbersControl, NumbersFirst, TrueDumpServes};
-ghost use Rattle.dms_history.specs.LawsOfEntries.{WholeSchemas, LiveOfEntries, RowsOfBlocks, SchemaSealed, ImageSealed, RangeSealed, QuietSealed, ControlSealed, BeginSealed, OneMoreEvent, AgreesGivesBase, BaseGivesAgrees};
+ghost use Rattle.dms_history.specs.Numbers.{RollsBack, EachLast, LastLives, NextStays, EachNext, UsedOnce, NumbersChange, NumbersQuiet, NumbersBegin, NumbersControl, NumbersFirst, TrueDumpServes};
+ghost use Rattle.dms_history.specs.LawsOfEntries.{WholeSchemas, LiveOfEntries, RowsOfBlocks, SchemaSealed, ImageSealed, RangeSealed, QuietSealed, ControlSealed, BeginSealed, OneMoreEvent};
+ghost use Rattle.dms_history.specs.LawsOfKept.{KeptFirst, KeptImage, KeptRange, KeptQuiet, KeptSchema, KeptControl, KeptBegin, KeptEnds, KeptWrites, KeptRestores, KeptAgrees, AgreesKept};
 ghost use Rattle.dms_history.specs.LawsOfRanges.{NoRanges, LiveOfRanges, LeftOut, RangeChanges, RangesSteady, RangesSplit, ImagesGoOn, RangeFits};
 
 /// Each live point has exactly the content that the entries up to its place give: changes before it are redone, changes after it undone.
@@ -40,6 +43,15 @@ pub fn running_keeps()
     ensures writes_early { WritesEarly }
     ensures controls { Controls }
     ensures steady { RunsSteady }
+    ensures seals { SealsRun }
+{}
+
+/// While a database runs each live point stays live with its content, a new quiet point is live with the content of now, and behind a control point
+/// the files hold the content.
+pub fn points_go_on()
+    ensures points { PointsGoOn }
+    ensures quiet { QuietIsLive }
+    ensures control { ControlStands }
 {}
 
 /// A restore of any kind keeps the chosen point and each point that stays live, at its Begin, at each of its writes and at its end.
@@ -47,8 +59,33 @@ pub fn restores_keep()
     ensures begins { RestoreBegins }
     ensures writes { RestoreWrites }
     ensures ends { RestoreEnds }
-    ensures ends_first { PendingEndsFirst }
+    ensures ends_first { EndsFirst }
     ensures writes_first { PendingWritesFirst }
+{}
+
+/// There is one list of the live points, and each step keeps it: a quiet point adds its own, a restore leaves those up to its point.
+pub fn points_are_listed()
+    ensures listed { PointsListed }
+    ensures one { OneList }
+    ensures front { PointsFront }
+    ensures stay { PointsStay }
+    ensures change { ListsChange }
+    ensures quiet { ListsQuiet }
+    ensures control { ListsControl }
+    ensures begin { ListsBegin }
+    ensures last { LastKeepsAll }
+{}
+
+/// A block at a point is what the audit tells of it, and else what is stored; which blocks come from the structure files is known, a restore pending or not.
+pub fn blocks_are_told()
+    ensures told { EachTold }
+    ensures files { EachFromFile }
+{}
+
+/// While a restore is pending its point is the last one; where none is pending no dump counts.
+pub fn pending_is_last()
+    ensures last { PendingCuts }
+    ensures dumps { NoDumpCounts }
 {}
 
 /// However often restores are stopped and begun anew, each point that is live in the end has the content that it had.
@@ -57,11 +94,13 @@ pub fn however_often()
     ensures anything { FromAnything }
 {}
 
-/// Behind a restore no later point is live, the next number never falls, and no number is used twice.
+/// Behind a restore no later point is live, no live point is above the last one, the next number never falls, and no number is used twice.
 pub fn keeps_numbers()
     ensures rolls_back { RollsBack }
-    ensures last_points { LastPoints }
+    ensures last_points { EachLast }
+    ensures last_lives { LastLives }
     ensures next_stays { NextStays }
+    ensures next_steps { EachNext }
     ensures used_once { UsedOnce }
     ensures change { NumbersChange }
     ensures quiet { NumbersQuiet }
@@ -101,8 +140,19 @@ pub fn entries_are_sealed()
     ensures event { OneMoreEvent }
 {}
 
-/// Where the entries agree with the dumps and blocks there is a base and the database is steady, and the other way round.
-pub fn agreement_is_steady()
-    ensures base { AgreesGivesBase }
-    ensures agrees { BaseGivesAgrees }
+/// All that a database keeps between two calls is kept by each entry that it seals and by each block that it writes, and it is kept exactly where
+/// the entries agree with the dumps and blocks.
+pub fn kept_goes_on()
+    ensures first { KeptFirst }
+    ensures image { KeptImage }
+    ensures range { KeptRange }
+    ensures quiet { KeptQuiet }
+    ensures schema { KeptSchema }
+    ensures control { KeptControl }
+    ensures begin { KeptBegin }
+    ensures ends { KeptEnds }
+    ensures writes { KeptWrites }
+    ensures restores { KeptRestores }
+    ensures agrees { KeptAgrees }
+    ensures kept { AgreesKept }
 {}

@@ -8,6 +8,7 @@ ghost use Rattle.dms_history.specs.Places.{is_control, is_described, is_point, I
 ghost use Rattle.dms_history.specs.Images.{is_at, last_after, first_before, else_stored};
 ghost use Rattle.dms_history.specs.Pick.{Dump, count_at, pick, dump_pick, blocks_at};
 ghost use Rattle.dms_history.specs.Agrees.{reached_count};
+ghost use Rattle.dms_history.specs.Told.{undone_to, told_block};
 ghost use Rattle.dms_history.specs.Entries.{counts_in, is_in_row, named_by};
 ghost use Rattle.dms_history.specs.Plain.{event_seen, events_seen, block_of, blocks_seen};
 
@@ -228,4 +229,34 @@ pub fn is_named(rows: &[Row], file: u32, block: u64) -> bool
         }
     }
     false
+}
+
+/// What stood in a block before the first change of it; none where there is no change, or where that change made the block new.
+fn before_changes<'a>(events: &[Event<'a>], file: u32, block: u64) -> Option<&'a [u8]>
+    ensures { option_copied result ≡ undone_to (first_before file block (events_seen events.now)) }
+{
+    for event in events {
+        if let Event::Changed(change) = event {
+            if is_of(change, file, block) {
+                return change.before;
+            }
+        }
+    }
+    None
+}
+
+/// What the audit tells of a block at a point; none where the block is to stay as it is stored.
+pub fn told<'a>(live: &[Event<'a>], point: u64, file: u32, block: u64) -> Option<&'a [u8]>
+    ensures { option_copied result ≡ told_block (events_seen live.now) point file block }
+{
+    match place(live, point) {
+        None => None,
+        Some(end) => {
+            let front = &live[..end];
+            match last_after(&front[after_control(front)..], file, block) {
+                Some(after) => Some(after),
+                None => before_changes(&live[end..], file, block),
+            }
+        }
+    }
 }

@@ -1,11 +1,13 @@
-use Rattle.dms_history.proofs.Order.{rolls_back, last_points, next_stays, used_once, numbers_change, numbers_quiet, numbers_begin, numbers_control, numbers_first, true_dump_serves}
+use Rattle.dms_history.proofs.Order.{rolls_back, last_points, last_lives, next_stays, next_steps, used_once, numbers_change, numbers_quiet, numbers_begin, numbers_control, numbers_first, true_dump_serves}
 use Rattle.dms_history.proofs.laws.keeps_numbers.Goals as goal
 
 pub returns : goal.returns
 returns c = record {
   rolls_back = rolls_back;
   last_points = last_points;
+  last_lives = last_lives;
   next_stays = next_stays;
+  next_steps = next_steps;
   used_once = used_once;
   change = numbers_change;
   quiet = numbers_quiet;

@@ -1,38 +1,29 @@
--- Proofs of the wanted laws.
-use Rattle.std.proofs.Common.{ℕ, ◌+◌, ◌-◌, ◌^◌, ◌<◌, ◌≤◌, ◌≡◌, ◌||◌, ◌==◌, min, max, inl, inr, Bool, true, false, cond, List, [], ◌∷◌, ◌++◌, length, Option, Some, None, refl, sym, ◌∙◌, ap, subst, arith, append_assoc}
+-- A database that runs: its points go on, and what a block seals at once.
+use Rattle.std.proofs.Common.{ℕ, ◌<◌, ◌≤◌, ◌≡◌, ◌||◌, ◌==◌, inl, inr, Bool, true, false, cond, List, [], ◌∷◌, ◌++◌, length, None, refl, sym, ◌∙◌, ap, subst, arith, append_assoc}
 use Rattle.std.proofs.lemmas.Bool.Decides.{nat_tests}
-use Rattle.dms_history.specs.Events.{Block, Content, Stored, Counts, How, Event, change, quiet, control, begin, block_in}
+use Rattle.dms_history.specs.Events.{Content, Stored, Event, change, quiet, control, begin}
 use Rattle.dms_history.specs.Replay.{Chain, replay}
 use Rattle.dms_history.specs.Lists.{has, until_first, after_last}
-use Rattle.dms_history.specs.Places.{is_control, is_described, is_point, IsLive, point_numbers}
-use Rattle.dms_history.specs.History.{Pending, History, after_event, history_from, history, last_point, pending_point, last_number, next_after, next_number}
-use Rattle.dms_history.specs.Pick.{Dumps, content_of, blocks_at}
+use Rattle.dms_history.specs.Places.{is_control, is_described, is_point, IsLive}
+use Rattle.dms_history.specs.History.{History, after_event, history_from}
+use Rattle.dms_history.specs.Pick.{Dumps, content_of}
 use Rattle.dms_history.specs.Images.{last_after}
-use Rattle.dms_history.specs.Here.{here_by, here}
 use Rattle.dms_history.specs.Base.{from_control, Sound}
 use Rattle.dms_history.specs.Agrees.{Numbered}
-use Rattle.dms_history.specs.Restores.{Steady}
-use Rattle.dms_history.specs.Wanted.{PointsGoOn, SealsRun, QuietIsLive, ControlStands, NextSteps, PendingCuts, NoDumpCounts, WritesEarlyBelow}
+use Rattle.dms_history.specs.LawsOfRunning.{PointsGoOn, SealsRun, QuietIsLive, ControlStands}
 use Rattle.dms_history.proofs.AtPoints.{bool_cases, replay_append, true_or}
 use Rattle.dms_history.proofs.Base.{has_append, content_length, content_block}
 use Rattle.dms_history.proofs.Converse.{opening_append}
 use Rattle.dms_history.proofs.Given.{controlled, live_from, at_point, described_control, from_until}
-use Rattle.dms_history.proofs.Stops.{until_append, has_self, live_in}
-use Rattle.dms_history.proofs.HalfDone.{has_front, until_until}
-use Rattle.dms_history.proofs.Order.{next_append, point_among, append_none, last_front}
-use Rattle.dms_history.proofs.Whole.{pending_cut, content_same}
+use Rattle.dms_history.proofs.Stops.{until_append, has_self}
+use Rattle.dms_history.proofs.HalfDone.{has_front}
+use Rattle.dms_history.proofs.Order.{point_among, append_none}
+use Rattle.dms_history.proofs.Whole.{content_same}
 use Rattle.dms_history.proofs.Runs.{quiets, changes}
 use Rattle.dms_history.proofs.Picks.{chain_split}
-use Rattle.dms_history.proofs.Cuts.{until_none}
 use Rattle.dms_history.proofs.Again.{steady_of, here_unpending}
 
-pub writes_early_below : WritesEarlyBelow
-writes_early_below entries base stored written sound same = record {
-  chain = sound.chain;
-  stands = λ f b low none. same f b low none ∙ sound.stands f b low none;
-}
-
-live_more : (live more : List Event) (n : ℕ) → IsLive live n → IsLive (live ++ more) n
+pub live_more : (live more : List Event) (n : ℕ) → IsLive live n → IsLive (live ++ more) n
 live_more live more n at = record {
   found = has_append (is_point n) live more ∙ true_or (has (is_point n) live) (has (is_point n) more) at.found;
   described = ap (λ (l : List Event). has is_described l) (until_append (is_point n) live more at.found) ∙ at.described;
@@ -47,30 +38,17 @@ points_go_on live more base counted later n sound grown at =
     ap (λ (l : List Event). until_first (is_point n) l) split ∙ until_append (is_point n) (from_control live) more (live_from live n at).found in
     (on, at_point (live ++ more) base later n grown on ∙ ap (λ (l : List Event). replay l base) same ∙ sym (at_point live base counted n sound at))
 
-pub next_steps : NextSteps
-unfolding next_number
-next_steps es = (
-  λ f b before after. ap (λ k. min (2 ^ 64 - 1) k) (next_append es (change f b before after ∷ []) 0),
-  λ m how. ap (λ k. min (2 ^ 64 - 1) k) (next_append es (begin m how ∷ []) 0),
-  λ n le low. omega (arith, le, low, next_append es (quiet n ∷ []) 0),
-  λ n next counts described. ap (λ k. min (2 ^ 64 - 1) k) (next_append es (control n next counts described ∷ []) 0),
-)
-
-pub no_dump_counts : NoDumpCounts
-no_dump_counts dumps others h base stored none steady =
-    steady_of others h base stored none (subst (λ (s : Stored). Sound (from_control h.live) base s) (here_unpending dumps h stored none) steady.sound)
-
 true_not_false : true ≡ false → ⊥
 true_not_false e = absurd cc
 
 -- ---- a new quiet point
 
-above_all : (entries live : List Event) (n : ℕ) → Numbered entries live (next_number entries) → next_number entries ≤ n → has (is_point n) live ≡ false
-above_all entries live n numbered le = elim (bool_cases (has (is_point n) live)) [
+pub above_all : (live : List Event) (next n : ℕ) → Numbered live next → next ≤ n → has (is_point n) live ≡ false
+above_all live next n numbered le = elim (bool_cases (has (is_point n) live)) [
   | inr off ↦ off
   | inl on ↦
       let among = point_among live n on in
-      let low : n < next_number entries = numbered.below_next among.0 among.1 n among.2 in
+      let low : n < next = numbered.below_next among.0 among.1 n among.2 in
       absurd (omega (arith, low, le))
 ]
 
@@ -95,9 +73,9 @@ until_new (e ∷ es) n off = go (is_point n e) (has (is_point n) es) (has (is_po
     last = has_append (is_point n) es (quiet n ∷ []) ∙ or_true (has (is_point n) es) (has (is_point n) (quiet n ∷ [])) (ap (λ t. t || false) (self_eq n))
 
 pub quiet_is_live : QuietIsLive
-quiet_is_live entries live base counted n numbered le described sound =
+quiet_is_live live next base counted n numbered le described sound =
     let all = live ++ quiet n ∷ [] in
-    let off = above_all entries live n numbered le in
+    let off = above_all live next n numbered le in
     let cut : until_first (is_point n) all ≡ all = until_new live n off in
     let lives : IsLive all n = record {
       found = ap (λ (l : List Event). has (is_point n) l) (sym cut) ∙ has_self (is_point n) all (has_append (is_point n) live (quiet n ∷ []) ∙ (λ i. has (is_point n) live || (self_eq n i || false)) ∙ or_end (has (is_point n) live));
@@ -122,9 +100,9 @@ control_stands live base stored n next counts described sound =
     let ends = ends_with live in
     content_same (content_of counts stored) (replay all base)
     (λ f. content_length counts stored f ∙ count_is (ends.0) base (subst (λ (l : List Event). Chain l base) ends.1 sound.chain) f ∙ ap (λ (l : List Event). length (replay l base f)) (sym ends.1))
-    (λ f b low. 
-      let under : b < counts f = omega (arith, low, count_is (ends.0) base (subst (λ (l : List Event). Chain l base) ends.1 sound.chain) f, ap (λ (l : List Event). length (replay l base f)) (sym ends.1)) in
-      content_block counts stored f b under ∙ sound.stands f b low (ap (λ (l : List Event). last_after f b (after_last is_control l)) ends.1 ∙ ap (λ (l : List Event). last_after f b l) (none_after (ends.0))))
+    (λ f b low.
+    let under : b < counts f = omega (arith, low, count_is (ends.0) base (subst (λ (l : List Event). Chain l base) ends.1 sound.chain) f, ap (λ (l : List Event). length (replay l base f)) (sym ends.1)) in
+    content_block counts stored f b under ∙ sound.stands f b low (ap (λ (l : List Event). last_after f b (after_last is_control l)) ends.1 ∙ ap (λ (l : List Event). last_after f b l) (none_after (ends.0))))
   where
     ends_with : (xs : List Event) → (ys : List Event) × (from_control (xs ++ control n next counts described ∷ []) ≡ ys ++ control n next counts described ∷ [])
     ends_with [] = ([], refl)
@@ -185,42 +163,4 @@ seals (begin n how ∷ es) dumps h base stored none found sound chain off = absu
 pub seals_run : SealsRun
 seals_run dumps h base stored es none found steady chain off =
     let rest = seals es dumps h base stored none found (subst (λ (s : Stored). Sound (from_control h.live) base s) (here_unpending dumps h stored none) steady.sound) chain off in
-    (rest.0, rest.1, steady_of dumps (history_from h es) base stored rest.1 rest.2)
-
--- ---- a pending restore
-
-pub pending_cuts : PendingCuts
-pending_cuts entries p alone is =
-    let h = history entries in
-    let m = p.point in
-    let cut : h.live ≡ until_first (is_point m) p.entries = pending_cut entries alone p is in
-    let ends : last_number (pending_point h.pending) h.live ≡ Some m = elim (bool_cases (has (is_point m) p.entries)) [
-      | inl on ↦ ap (λ (l : List Event). last_number (pending_point h.pending) l) cut ∙ last_front p.entries (pending_point h.pending) m on
-      | inr off ↦ (λ i. last_number (pending_point (is i)) ((cut ∙ until_none (is_point m) p.entries off) i))
-    ] in
-    (cut, ends, λ n at.
-    let found : has (is_point m) p.entries ≡ true = elim (bool_cases (has (is_point m) p.entries)) [
-      | inl on ↦ on
-      | inr off ↦ absurd (true_not_false (sym at.found ∙ ap (λ (l : List Event). has (is_point n) l) (cut ∙ until_none (is_point m) p.entries off)))
-    ] in
-    let there : has (is_point m) h.live ≡ true = ap (λ (l : List Event). has (is_point m) l) cut ∙ has_self (is_point m) p.entries found in
-    let whole : until_first (is_point m) h.live ≡ h.live = ap (λ (l : List Event). until_first (is_point m) l) cut ∙ until_until (is_point m) (is_point m) p.entries (has_self (is_point m) p.entries found) ∙ sym cut in
-    record { found = there; described = ap (λ (l : List Event). has is_described l) whole ∙ has_front (is_point n) is_described h.live at.described })
-
--- ---- a new database
-first_history : History
-first_history = history (control 0 1 (λ _. 0) true ∷ [])
-
-nothing : Content
-nothing f = []
-
-first_steady : (dumps : Dumps) (stored : Stored) → Steady dumps (history (control 0 1 (λ _. 0) true ∷ [])) nothing stored
-unfolding history nothing
-first_steady dumps stored = record {
-  sound = record { chain = ((λ f. refl), tt); stands = λ f b low none. absurd (omega (arith, low)) };
-  restored = λ p is. absurd (none_some p is);
-  point_lives = λ p is. absurd (none_some p is);
-}
-  where
-    none_some : (p : Pending) → None ≡ Some p → ⊥
-    none_some p e = absurd cc
+    record { live = rest.0; none = rest.1; steady = steady_of dumps (history_from h es) base stored rest.1 rest.2 }

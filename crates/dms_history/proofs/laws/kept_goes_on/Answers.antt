@@ -1,0 +1,18 @@
+use Rattle.dms_history.proofs.Keeping.{kept_first, kept_image, kept_range, kept_quiet, kept_schema, kept_control, kept_begin, kept_ends, kept_writes, kept_restores, kept_agrees, agrees_kept}
+use Rattle.dms_history.proofs.laws.kept_goes_on.Goals as goal
+
+pub returns : goal.returns
+returns c = record {
+  first = kept_first;
+  image = kept_image;
+  range = kept_range;
+  quiet = kept_quiet;
+  schema = kept_schema;
+  control = kept_control;
+  begin = kept_begin;
+  ends = kept_ends;
+  writes = kept_writes;
+  restores = kept_restores;
+  agrees = kept_agrees;
+  kept = agrees_kept;
+}
