@@ -4,7 +4,8 @@
 
 mod texts;
 
-use dms_sitefile::{FolderSite, StdinSource};
+use dms_folder::FolderSite;
+use dms_host::{Host, StdinSource};
 use dms_top::{Status, dms};
 use std::process::ExitCode;
 use std::{env, io};
@@ -55,7 +56,7 @@ fn main(rt: HostRuntime) -> io::Result<ExitCode> {
         print!(rt; "{}", text)?;
         return Ok(ExitCode::from(0));
     }
-    let status = match FolderSite::new(rt.clone()?, alloc) {
+    let status = match FolderSite::new(Host::new(rt.clone()?), alloc) {
         Err(_) => Status::Memory,
         Ok(mut site) => {
             let mut input = StdinSource::new(rt.clone()?);

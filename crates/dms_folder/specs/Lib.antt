@@ -1,0 +1,12 @@
+pub mod NameLaws
+pub mod Listings
+pub mod ListingLaws
+pub mod Kept
+pub mod Writes
+pub mod Moves
+pub mod Places
+pub mod Keeps
+pub mod Shown
+pub mod Seeing
+pub mod Reads
+pub mod Speech
