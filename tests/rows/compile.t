@@ -57,4 +57,5 @@ Nothing stands behind the word.
 
   $ "$DMS" compile again < /dev/null
   dms: bad words
+  dms: see dms --help
   [1]

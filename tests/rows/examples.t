@@ -66,8 +66,10 @@ What the examples print.
   24 A EXCEPTION DATAERROR PNO
   25 A EXCEPTION AUDITERROR A
   26 A DONE
-  27 BADLINE 3
-  28 A EXCEPTION OPENERROR A
+  27 A DONE PNO=1
+  28 A DONE
+  29 BADLINE 3
+  30 A EXCEPTION OPENERROR A
 
   $ "$DMS" try < "$TESTDIR/../../examples/transactions.dms"
   1 A DONE
@@ -91,3 +93,17 @@ What the examples print.
   18 B EXCEPTION NORECORD D
   19 BADLINE 9
   20 BADLINE 24
+
+  $ "$DMS" try < "$TESTDIR/../../examples/sharing.dms"
+  1 A DONE
+  2 B DONE
+  3 A DONE
+  4 A DONE
+  5 A DONE
+  6 A DONE
+  7 B DONE
+  8 B DONE X=1
+  9 A DONE
+  10 B EXCEPTION ABORT B
+  11 B EXCEPTION NORECORD D
+  12 B EXCEPTION NOTFOUND D

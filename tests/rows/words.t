@@ -1,26 +1,116 @@
 The words of the command line.
 
-  $ "$DMS" --version > out; echo $?
-  0
+  $ "$DMS" --version
+  dms 0.1.0
 
-  $ "$DMS" --help > out; echo $?
-  0
-  $ grep -c '^usage: dms try$' out
-  1
+  $ "$DMS" --help
+  usage: dms try < FILE
+         dms compile < FILE
+         dms --help
+         dms --version
+  
+  Commands, each with what it reads from standard input:
+  
+    try        the text of a schema, a line SCRIPT, and the lines of a script
+               Runs the script over a database in memory that begins empty, and
+               prints what its lines answer. Touches no file, and keeps nothing.
+  
+    compile    the text of a schema
+               Writes its description to the file F00001.DMS of the current
+               folder, where no description is yet.
+  
+  Statuses. At one above 0 a line on standard error says why.
+  
+     0  done
+     1  bad words
+     2  the schema is refused
+     5  a call on a file failed, or the folder is in use
+     6  reading the input failed
+     7  memory was refused
+     8  the script is too long, or holds too many lines
+    10  printing failed
+    11  the description is there already
+  
+  The guide is docs/GUIDE.md in the repository of the program, and examples for
+  try are in the folder examples there.
+
+No line of it has more than 80 columns, and each status that the program has stands there.
+
+  $ "$DMS" --help | awk 'length > 80'
+  $ "$DMS" --help | grep -cE '^ +[0-9]+  '
+  9
+
+Words that are no command.
 
   $ "$DMS"
   dms: bad words
+  dms: see dms --help
+  [1]
+
+  $ "$DMS" -h
+  dms: bad words
+  dms: see dms --help
+  [1]
+
+  $ "$DMS" try --help < /dev/null
+  dms: bad words
+  dms: see dms --help
+  [1]
+
+  $ "$DMS" --help try
+  dms: bad words
+  dms: see dms --help
   [1]
 
   $ "$DMS" tri
   dms: bad words
+  dms: see dms --help
+  [1]
+
+  $ "$DMS" Try
+  dms: bad words
+  dms: see dms --help
   [1]
 
   $ "$DMS" try try < /dev/null
   dms: bad words
+  dms: see dms --help
   [1]
 
-Only standard error has the line of a fault.
+  $ "$DMS" ''
+  dms: bad words
+  dms: see dms --help
+  [1]
+
+A word that is no UTF-8, a long one, and many.
+
+  $ "$DMS" "$(printf 'try\377')" < /dev/null
+  dms: bad words
+  dms: see dms --help
+  [1]
+
+  $ "$DMS" try "$(printf '\200')" < /dev/null
+  dms: bad words
+  dms: see dms --help
+  [1]
+
+  $ "$DMS" "$(head -c 100000 /dev/zero | tr '\0' a)"
+  dms: bad words
+  dms: see dms --help
+  [1]
+
+  $ "$DMS" $(yes try | head -n 10000) < /dev/null
+  dms: bad words
+  dms: see dms --help
+  [1]
+
+The name that the program is started by may be no UTF-8.
+
+  $ ln -s "$DMS" "$(printf 'dms\377')"
+  $ "$(printf './dms\377')" --version
+  dms 0.1.0
+
+Only standard error has the lines of a fault.
 
   $ "$DMS" tri 2> /dev/null
   [1]

@@ -1,16 +1,23 @@
 -- The numbers that the program ends with.
 use Rattle.std.specs.Prelude.{ℕ}
+use Rattle.dms.specs.declared.texts.Ending.{Ending}
+use Rattle.dms.specs.declared.texts.Ending.TheVariants.{Command, InUse}
 use Rattle.dms_top.specs.declared.status.Status.{Status}
 use Rattle.dms_top.specs.declared.status.Status.TheVariants.{Ok, BadWords, SchemaRefused, DiskFault, InputFault, Memory, Limit, SayFault, Exists}
 
 -- the number of each status
-abbrev pub number_of : Status → ℕ
-number_of Ok = 0
-number_of BadWords = 1
-number_of (SchemaRefused f) = 2
-number_of DiskFault = 5
-number_of InputFault = 6
-number_of Memory = 7
-number_of (Limit l) = 8
-number_of SayFault = 10
-number_of Exists = 11
+abbrev pub status_number : Status → ℕ
+status_number Ok = 0
+status_number BadWords = 1
+status_number (SchemaRefused f) = 2
+status_number DiskFault = 5
+status_number InputFault = 6
+status_number Memory = 7
+status_number (Limit l) = 8
+status_number SayFault = 10
+status_number Exists = 11
+
+-- the number of each ending: a folder in use counts as a fault of the disk
+abbrev pub number_of : Ending → ℕ
+number_of (Command s) = status_number s
+number_of InUse = 5

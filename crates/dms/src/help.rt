@@ -1,0 +1,35 @@
+/// What `--help` prints.
+pub const HELP: &str = "\
+usage: dms try < FILE
+       dms compile < FILE
+       dms --help
+       dms --version
+
+Commands, each with what it reads from standard input:
+
+  try        the text of a schema, a line SCRIPT, and the lines of a script
+             Runs the script over a database in memory that begins empty, and
+             prints what its lines answer. Touches no file, and keeps nothing.
+
+  compile    the text of a schema
+             Writes its description to the file F00001.DMS of the current
+             folder, where no description is yet.
+
+Statuses. At one above 0 a line on standard error says why.
+
+   0  done
+   1  bad words
+   2  the schema is refused
+   5  a call on a file failed, or the folder is in use
+   6  reading the input failed
+   7  memory was refused
+   8  the script is too long, or holds too many lines
+  10  printing failed
+  11  the description is there already
+
+The guide is docs/GUIDE.md in the repository of the program, and examples for
+try are in the folder examples there.
+";
+
+/// What `--version` prints.
+pub const VERSION: &str = "dms 0.1.0\n";

@@ -1,0 +1,61 @@
+ghost use Rattle.std.specs.Prelude.{◌≡◌, ◌↔◌, None, Some, map, string_bytes};
+ghost use Rattle.dms_top.specs.Words.{IsTry, IsCompile, IsCommand};
+
+use dms_top::Status;
+use std::alloc::Global;
+use std::env::FillError;
+use std::rt::Env;
+
+/// No word of a request has so many bytes.
+const LONG_WORD: usize = 64;
+
+/// What the words of the command line ask for.
+#[derive(Clone, Copy, Debug, PartialEq, Eq)]
+pub enum Request {
+    Help,
+    Version,
+    /// `try`, which touches no file.
+    Try,
+    Compile,
+}
+
+/// The words behind the program's name. BadWords where one is long or no UTF-8, Memory where memory is refused.
+pub fn words_of(rt: &HostRuntime, alloc: Global) -> Result<Vec<String>, Status> {
+    let mut words = Vec::new(alloc);
+    let mut buffer = [0u8; LONG_WORD];
+    for place in 1..usize::MAX {
+        let len = match rt.arg(place, &mut buffer) {
+            Ok(len) => len,
+            Err(FillError::NotPresent) => break,
+            Err(FillError::TooLong) => return Err(Status::BadWords),
+        };
+        let Ok(text) = str::from_utf8(&buffer[..len]) else {
+            return Err(Status::BadWords);
+        };
+        let Ok(word) = String::from_str(alloc, text) else {
+            return Err(Status::Memory);
+        };
+        if words.push(word).is_err() {
+            return Err(Status::Memory);
+        }
+    }
+    Ok(words)
+}
+
+/// What these words ask for, None where they are bad.
+pub fn request_of(words: &[String]) -> Option<Request>
+    ensures try_word { result ≡ Some Request.Try ↔ IsTry (map string_bytes words.now) }
+    ensures compile_word { result ≡ Some Request.Compile ↔ IsCompile (map string_bytes words.now) }
+    ensures bad { result ≡ None → IsCommand (map string_bytes words.now) → ⊥ }
+{
+    if words.len() != 1 {
+        return None;
+    }
+    match words[0].as_str() {
+        "--help" => Some(Request::Help),
+        "--version" => Some(Request::Version),
+        "try" => Some(Request::Try),
+        "compile" => Some(Request::Compile),
+        _ => None,
+    }
+}
