@@ -242,6 +242,55 @@ A data set has 60 items, a key 16 parts, a condition 100 nodes, a schema 200 str
   $ first "$R $four D67 DATA SET ($(many 41 'L& LINK TO R COUNTED;'));"
   dms: schema: more than 4000
 
+The 61st member passes the limit only where the word behind its name shows that it is an item or a link. Else what stands there is the fault. Here `X` is the 741st byte.
+
+  $ sixty="R RESTART DATA SET ($(many '-w 60' 'X& BOOLEAN;')"
+  $ for kind in 'ALPHA(1)' 'NUMBER(4)' BOOLEAN 'FIELD(1)' 'LINK TO R' LINK; do first "${sixty}X $kind;);"; done
+  dms: schema: more than 60
+  dms: schema: more than 60
+  dms: schema: more than 60
+  dms: schema: more than 60
+  dms: schema: more than 60
+  dms: schema: more than 60
+  $ first "${sixty}X FOO"
+  dms: schema: unexpected at 743
+  $ first "${sixty}X 5"
+  dms: schema: unexpected at 743
+  $ first "${sixty}X;"
+  dms: schema: unexpected at 742
+  $ first "${sixty}X KEY"
+  dms: schema: unexpected at 743
+  $ first "${sixty}X \$"
+  dms: schema: bad character at 743
+  $ first "${sixty}X"
+  dms: schema: unexpected at 742
+  $ first "${sixty}G GROUP (X BOOLEAN;"
+  dms: schema: more than 60
+  $ first "${sixty}G GROUP (X;"
+  dms: schema: unexpected at 751
+  $ first "${sixty}G GROUP (X LINK TO R;"
+  dms: schema: unexpected at 752
+
+So does the 201st structure only where RESTART, DATA, SET or SUBSET follows. Here `X` is the 2,820th byte.
+
+  $ most="$R$(many '-w 199' 'S& SET OF R;')"
+  $ for kind in 'RESTART DATA SET (' 'DATA SET (' 'SET OF R;' 'SUBSET OF R;' SET; do first "${most}X $kind"; done
+  dms: schema: more than 200
+  dms: schema: more than 200
+  dms: schema: more than 200
+  dms: schema: more than 200
+  dms: schema: more than 200
+  $ first "${most}X FOO"
+  dms: schema: unexpected at 2822
+  $ first "${most}X LINK TO R;"
+  dms: schema: unexpected at 2822
+  $ first "${most}X \$"
+  dms: schema: bad character at 2822
+  $ first "${most}X;"
+  dms: schema: unexpected at 2821
+  $ first "${most}X"
+  dms: schema: unexpected at 2821
+
 A text has 1,000,000 bytes at most, and a description 65,535.
 
   $ { printf "$R"; yes "" | head -n 999967; } | wc -c

@@ -142,9 +142,9 @@ behind_group : (s : Progress) (place : ℕ) (name : List ℕ) (ts rest : List Le
 unfolding declared_turn_at group_turn_at
 behind_group s place name ts rest items p q i k g h = rw (p, q, i, k, g, h) refl
 
-behind_link : (s : Progress) (place : ℕ) (name : List ℕ) (ts rest : List Lexeme) (link : LinkDecl) → starts_set ts ≡ false → starts_data_set ts ≡ false → is_inside s.within ≡ true → starts_kind ts ≡ false → starts (is_word (codes "GROUP")) ts ≡ false → items_of s.within < 60 → link_at s.counted place name ts ≡ Ok (link, rest) → declared_turn_at s place name ts ≡ Ok (declared s (with_items s.within (items_of s.within + 1)) s.structures (counted_with s.counted link.counted) false (Link link), rest)
+behind_link : (s : Progress) (place : ℕ) (name : List ℕ) (ts rest : List Lexeme) (link : LinkDecl) → starts_set ts ≡ false → starts_data_set ts ≡ false → is_inside s.within ≡ true → starts_kind ts ≡ false → starts (is_word (codes "GROUP")) ts ≡ false → starts (is_word (codes "LINK")) ts ≡ true → items_of s.within < 60 → link_at s.counted place name ts ≡ Ok (link, rest) → declared_turn_at s place name ts ≡ Ok (declared s (with_items s.within (items_of s.within + 1)) s.structures (counted_with s.counted link.counted) false (Link link), rest)
 unfolding declared_turn_at link_turn_at
-behind_link s place name ts rest link p q i k g few h = rw (p, q, i, k, g, few_items (items_of s.within) few, h) refl
+behind_link s place name ts rest link p q i k g w few h = rw (p, q, i, k, g, w, few_items (items_of s.within) few, h) refl
 
 -- which words a first lexeme rules out
 record Flags (ts : List Lexeme) (set data_set kind group : Bool) : Type 0 where
@@ -176,6 +176,10 @@ word_flags l ts w g e a b c d = record { of_set = rw e a; of_data_set = rw e b; 
 link_flags : (place : ℕ) (name : List ℕ) (link : LinkDecl) (xs : List Token) → IsLink place name link xs → (us rest : List Lexeme) → map token_of us ≡ xs → Flags (us ++ rest) false false false false
 link_flags _ _ _ _ (plain_link place name target n) us rest e = let k = heads us (Word (codes "LINK")) _ e in rw k.all (word_flags k.l (k.b ++ rest) (codes "LINK") false k.token refl refl refl refl)
 link_flags _ _ _ _ (a_counted_link place name target n) us rest e = let k = heads us (Word (codes "LINK")) _ e in rw k.all (word_flags k.l (k.b ++ rest) (codes "LINK") false k.token refl refl refl refl)
+
+link_word : (place : ℕ) (name : List ℕ) (link : LinkDecl) (xs : List Token) → IsLink place name link xs → (us rest : List Lexeme) → map token_of us ≡ xs → starts (is_word (codes "LINK")) (us ++ rest) ≡ true
+link_word _ _ _ _ (plain_link place name target n) us rest e = let k = heads us (Word (codes "LINK")) _ e in rw (k.all, k.token) refl
+link_word _ _ _ _ (a_counted_link place name target n) us rest e = let k = heads us (Word (codes "LINK")) _ e in rw (k.all, k.token) refl
 
 group_flags : (items : List ItemDecl) (us : List Lexeme) → IsGroup items us → (rest : List Lexeme) → Flags (us ++ rest) false false false true
 group_flags _ _ (whole_group g o c z items us a b d y e) rest = word_flags g _ (codes "GROUP") true a refl refl refl refl
@@ -306,7 +310,7 @@ runs _ _ _ _ _ (an_item depth l name item vs e nm d) = λ s rest room.
 runs _ _ _ _ _ (a_link depth l name link vs e nm d) = λ s rest room.
     let f = link_flags l.place name link (map token_of vs) d vs rest refl in
     one_turn s (added s 1 (Link link ∷ [])) l name vs rest e nm
-    (behind_link s l.place name (vs ++ rest) rest link f.of_set f.of_data_set (is_within s.within depth room.at) f.of_kind f.of_group (omega (arith, room.items)) (link_complete s.counted l.place name vs rest link d (few_counted s.counted link room.counted))
+    (behind_link s l.place name (vs ++ rest) rest link f.of_set f.of_data_set (is_within s.within depth room.at) f.of_kind f.of_group (link_word l.place name link (map token_of vs) d vs rest refl) (omega (arith, room.items)) (link_complete s.counted l.place name vs rest link d (few_counted s.counted link room.counted))
     ∙ ap (λ (x : Progress). Ok (x, rest)) (declared_is s (with_items s.within (items_of s.within + 1)) s.structures (counted_with s.counted link.counted) 1 (Link link) refl (omega arith) (counted_is s.counted link.counted)))
 runs _ _ _ _ _ (a_group depth l name items vs e nm d) = λ s rest room.
     let f = group_flags items vs d rest in

@@ -243,7 +243,8 @@ room_for n false h f = h
 link_went : (s t : Progress) (us : List Lexeme) (l : Lexeme) (name : List ℕ) (ts rest : List Lexeme) → Holds s us → l.token ≡ Word name → is_name name ≡ true → is_inside s.within ≡ true → link_turn_at s l.place name ts ≡ Ok (t, rest) → Went Holds t us (l ∷ ts) rest
 unfolding link_turn_at
 link_went s t us l name ts rest h e n i r =
-    let a = skip_ok (nat_le 60 (items_of s.within)) _ _ _ r in
+    let b = skip_ok (not (starts (is_word (codes "LINK")) ts)) _ _ _ r in
+    let a = skip_ok (nat_le 60 (items_of s.within)) _ _ _ b.1 in
     let c = bind_ok (link_at s.counted l.place name ts) _ _ a.1 in
     let k = link_sound s.counted l.place name ts c.0.0 c.0.1 c.1 in
     let d = deep_by s.within i in

@@ -120,13 +120,14 @@ abbrev pub counted_with : ℕ → Bool → ℕ
 counted_with n false = n
 counted_with n true = n + 1
 
--- a link is one of 60 items
+-- a link is one of 60 items; that it is one shows at the word LINK
 unfoldable pub link_turn_at : Progress → ℕ → List ℕ → List Lexeme → Read Progress
 link_turn_at s place name ts =
-    if nat_le 60 (items_of s.within) then Err (TooMany 60)
+    if not (starts (is_word (codes "LINK")) ts) then Err (fault_at ts)
+    else (if nat_le 60 (items_of s.within) then Err (TooMany 60)
     else (do
       link ← link_at s.counted place name ts
-      Ok (declared s (with_items s.within (items_of s.within + 1)) s.structures (counted_with s.counted link.0.counted) false (Link link.0), link.1))
+      Ok (declared s (with_items s.within (items_of s.within + 1)) s.structures (counted_with s.counted link.0.counted) false (Link link.0), link.1)))
 
 -- [ RESTART ]
 unfoldable pub restart_at : List Lexeme → Read Bool

@@ -267,6 +267,9 @@ fn link_turn(
 ) -> Result<Progress, ParseFault>
     ensures { Takes result cursor.new (link_turn_at state place name cursor.old) }
 {
+    if !cursor.starts_word(b"LINK") {
+        return Err(cursor.fault());
+    }
     let items = state.within.items();
     if items >= ITEMS {
         return Err(ParseFault::TooMany(60));
