@@ -86,7 +86,7 @@ no_space : (b : ℕ) (bs : List ℕ) → trimmed (b ∷ bs) ≡ b ∷ bs → b �
 no_space b [] h s none = last_at (b == 32) b refl s h
 no_space b (x ∷ bs) h s none = absurd (cc)
 
-both_of : (a b : Bool) → (a && b) ≡ true → (a ≡ true) × (b ≡ true)
+pub both_of : (a b : Bool) → (a && b) ≡ true → (a ≡ true) × (b ≡ true)
 both_of true b h = (refl, h)
 both_of false b h = absurd (cc)
 
@@ -154,17 +154,17 @@ small_bits n le = nat.pow-le-pow_right (omega arith) le
 text_short : (n : ℕ) (a : List ℕ) → leb (length a) n ≡ true → length a ≤ n
 text_short n a h = grind (arith, nat_tests, h)
 
-number_small : (n : ℕ) (z : ℤ) (s : Bool) → n ≤ 18 → (nat_lt (unsigned_abs z) (10 ^ n) && s) ≡ true → unsigned_abs z < 2 ^ 63
+pub number_small : (n : ℕ) (z : ℤ) (s : Bool) → n ≤ 18 → (nat_lt (unsigned_abs z) (10 ^ n) && s) ≡ true → unsigned_abs z < 2 ^ 63
 number_small n z s le h =
     let lt : unsigned_abs z < 10 ^ n = grind (arith, nat_tests, (both_of (nat_lt (unsigned_abs z) (10 ^ n)) s h).0) in
     omega (arith, lt, small_power n le)
 
-bits_small : (n b : ℕ) → n ≤ 48 → nat_lt b (2 ^ n) ≡ true → b < 2 ^ 64
+pub bits_small : (n b : ℕ) → n ≤ 48 → nat_lt b (2 ^ n) ≡ true → b < 2 ^ 64
 bits_small n b le h =
     let lt : b < 2 ^ n = grind (arith, nat_tests, h) in
     omega (arith, lt, small_bits n le)
 
-link_small : (r : ℕ) → nat_lt r (2 ^ 32) ≡ true → r < 2 ^ 32
+pub link_small : (r : ℕ) → nat_lt r (2 ^ 32) ≡ true → r < 2 ^ 32
 link_small r h = grind (arith, nat_tests, h)
 
 tail_in : (a : List ℕ) → IsText a → IsTail a
