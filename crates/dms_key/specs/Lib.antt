@@ -1,0 +1,3 @@
+pub mod ByteOrder
+pub mod KeyBytes
+pub mod KeyOrder

@@ -1,0 +1,69 @@
+ghost use Rattle.std.specs.Prelude.{◌≡◌, ◌++◌, ◌-◌, OnOk, replicate};
+ghost use Rattle.dms_key.specs.KeyBytes.{width_of, shifted, field_bytes, value_bytes};
+
+use dms_base::{Bytes, ItemKind, Memory, Value};
+
+/// A number moved so that the least one is 0: a number plus 2 to the power 63.
+pub fn shifted(number: i64) -> u64
+    ensures { result ≡ shifted number }
+{
+    if number < 0 {
+        (1 << 63) - number.unsigned_abs()
+    } else {
+        (1 << 63) + number as u64
+    }
+}
+
+/// How many bytes a value of a kind takes, without the byte for its presence: at most 255.
+pub fn width_of(kind: ItemKind) -> u8
+    ensures { result ≡ width_of kind }
+{
+    match kind {
+        ItemKind::Alpha(n) => n,
+        ItemKind::Number(_, _, _) => 8,
+        ItemKind::Bool => 1,
+        ItemKind::Field(_) => 8,
+        ItemKind::Link(_, _) => 4,
+    }
+}
+
+// Adds so many bytes that are all the same.
+fn fill(out: &mut Bytes, count: usize, byte: u8) -> Result<(), Memory>
+    ensures { OnOk result (out.new ≡ out.old ++ replicate count byte) }
+{
+    for _i in 0..count {
+        out.push(byte)?;
+    }
+    Ok(())
+}
+
+// Adds a value that isn't null.
+fn put_value(out: &mut Bytes, kind: ItemKind, value: &Value) -> Result<(), Memory>
+    ensures { OnOk result (out.new ≡ out.old ++ value_bytes kind value.now) }
+{
+    match (kind, value) {
+        (ItemKind::Alpha(n), Value::Text(text)) => {
+            out.extend(text.bytes())?;
+            fill(out, (n as usize).saturating_sub(text.bytes().len()), b' ')
+        }
+        (ItemKind::Number(_, _, _), Value::Number(z)) => out.extend(&shifted(*z).to_be_bytes()),
+        (ItemKind::Bool, Value::Bool(b)) => out.push(u8::from(*b)),
+        (ItemKind::Field(_), Value::Bits(bits)) => out.extend(&bits.to_be_bytes()),
+        (ItemKind::Link(_, _), Value::Link(record)) => out.extend(&record.to_be_bytes()[4..]),
+        _ => fill(out, width_of(kind) as usize, 0),
+    }
+}
+
+/// Adds the bytes of an item's value: 255 in each byte for null, and else a 1 and the value. After want of memory a
+/// part of them may stand there.
+pub fn put_field(out: &mut Bytes, kind: ItemKind, value: &Value) -> Result<(), Memory>
+    ensures { OnOk result (out.new ≡ out.old ++ field_bytes kind value.now) }
+{
+    match value {
+        Value::Null => fill(out, width_of(kind) as usize + 1, 255),
+        _ => {
+            out.push(1)?;
+            put_value(out, kind, value)
+        }
+    }
+}

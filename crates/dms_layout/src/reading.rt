@@ -1,0 +1,164 @@
+ghost use Rattle.std.specs.Prelude.{◌≡◌, ◌≤◌, IfOk, length};
+ghost use Rattle.std.specs.List.{list_all};
+ghost use Rattle.dms_desc.specs.Shape.{shape_of};
+ghost use Rattle.dms_layout.specs.Slots.{unshifted, text_or_null, value_in, value_at, values_at, slot_in, is_zero, is_free, all_fit, may_own, is_spelled, slot_of};
+ghost use Rattle.dms_base.specs.Text.{text_of};
+ghost use Rattle.std.specs.Prelude.{drop};
+
+use crate::writing::{slot_width, to_slot};
+use crate::{Slot, SlotRead};
+use dms_base::{ItemKind, Memory, Text, Value, fits};
+use dms_desc::{Item, Record, Structure, Values};
+use dms_fields::{take_u32, take_u64};
+use dms_key::width_of;
+use std::alloc::Global;
+
+// The number that was moved so that the least one is 0.
+fn unshifted(number: u64) -> i64
+    ensures { result ≡ unshifted number }
+{
+    if number < 1 << 63 {
+        -(((1 << 63) - number - 1) as i64) - 1
+    } else {
+        (number - (1 << 63)) as i64
+    }
+}
+
+// The text behind the byte for its presence; null where it is none.
+fn text_in(alloc: Global, field: &[u8]) -> Result<Value, Memory>
+    ensures { IfOk result (λ v. v ≡ text_or_null (text_of (drop 1 field.now))) }
+{
+    let bytes = match field {
+        [] => &[],
+        [_, bytes @ ..] => bytes,
+    };
+    match Text::read(alloc, bytes)? {
+        None => Ok(Value::Null),
+        Some(text) => Ok(Value::Text(text)),
+    }
+}
+
+// What a value's bytes say behind the byte for its presence.
+fn value_in(alloc: Global, kind: ItemKind, field: &[u8]) -> Result<Value, Memory>
+    ensures { IfOk result (λ v. v ≡ value_in kind field.now) }
+{
+    match kind {
+        ItemKind::Alpha(_) => text_in(alloc, field),
+        ItemKind::Number(_, _, _) => Ok(Value::Number(unshifted(take_u64(field, 1).unwrap_or(0)))),
+        ItemKind::Bool => Ok(Value::Bool(field.len() > 1 && field[1] == 1)),
+        ItemKind::Field(_) => Ok(Value::Bits(take_u64(field, 1).unwrap_or(0))),
+        ItemKind::Link(_, _) => Ok(Value::Link(u64::from(take_u32(field, 1).unwrap_or(0)))),
+    }
+}
+
+fn value_at(alloc: Global, kind: ItemKind, field: &[u8]) -> Result<Value, Memory>
+    ensures { IfOk result (λ v. v ≡ value_at kind field.now) }
+{
+    if !field.is_empty() && field[0] == 255 {
+        return Ok(Value::Null);
+    }
+    value_in(alloc, kind, field)
+}
+
+// The values of a record.
+fn values_at(alloc: Global, items: &[Item], bytes: &[u8]) -> Result<Values, Memory>
+    ensures { IfOk result (λ vs. vs ≡ values_at items.now bytes.now) }
+{
+    let mut values = Values::new(alloc);
+    let mut rest = bytes;
+    for item in items {
+        let width = (width_of(item.kind) as usize + 1).min(rest.len());
+        values.push(value_at(alloc, item.kind, &rest[..width])?)?;
+        rest = &rest[width..];
+    }
+    Ok(values)
+}
+
+// What stands behind the first 13 bytes.
+fn record_in(bytes: &[u8]) -> &[u8]
+    ensures { result.now ≡ drop 13 bytes.now }
+{
+    &bytes[bytes.len().min(13)..]
+}
+
+fn slot_in(alloc: Global, items: &[Item], bytes: &[u8]) -> Result<Slot, Memory>
+    ensures { IfOk result (λ slot. slot ≡ slot_in items.now bytes.now) }
+{
+    let values = values_at(alloc, items, record_in(bytes))?;
+    Ok(Slot {
+        rec: Record {
+            owner: u64::from(take_u32(bytes, 1).unwrap_or(0)),
+            values,
+        },
+        counted: take_u32(bytes, 5).unwrap_or(0),
+        owned: take_u32(bytes, 9).unwrap_or(0),
+    })
+}
+
+/// Whether there are as many values as items, and each fits its item.
+pub fn all_fit(items: &[Item], values: &[Value]) -> bool
+    ensures { result ≡ all_fit items.now values.now }
+{
+    let mut rest = values;
+    for item in items {
+        match rest {
+            [] => return false,
+            [value, more @ ..] => {
+                if !fits(&item.kind, value) {
+                    return false;
+                }
+                rest = more;
+            }
+        }
+    }
+    rest.is_empty()
+}
+
+fn are_zeros(bytes: &[u8]) -> bool
+    ensures { result ≡ list_all is_zero bytes.now }
+{
+    bytes.iter().all(|byte| *byte == 0)
+}
+
+#[tactic(auto, unfolding(crate::specs::Slots::is_free))]
+fn is_free(items: &[Item], bytes: &[u8]) -> bool
+    requires { length items.now ≤ 60 }
+    ensures { result ≡ is_free items.now bytes.now }
+{
+    are_zeros(bytes) && bytes.len() == slot_width(items)
+}
+
+fn may_own(desc: &Structure, owner: u64) -> bool
+    ensures { result ≡ may_own (shape_of desc.now) owner }
+{
+    desc.owner != 0 || owner == 0
+}
+
+#[tactic(auto, unfolding(crate::specs::Slots::is_spelled))]
+fn is_spelled(alloc: Global, desc: &Structure, bytes: &[u8], slot: &Slot) -> Result<bool, Memory>
+    ensures { IfOk result (λ is. is ≡ is_spelled (shape_of desc.now) bytes.now slot.now) }
+{
+    let spelled = to_slot(alloc, desc, slot)?;
+    Ok(bytes == spelled.as_slice()
+        && may_own(desc, slot.rec.owner)
+        && all_fit(desc.items.as_slice(), slot.rec.values.as_slice()))
+}
+
+/// What the bytes of a slot say. `Free` exactly for zeros alone, `Used` exactly for the spelling of a record whose
+/// values fit and whose texts are printable and have no space at their end, `Bad` for all else. A record of a data set
+/// that stands in no other has no owner.
+#[tactic(auto, unfolding(crate::specs::Slots::slot_of))]
+pub fn from_slot(alloc: Global, desc: &Structure, bytes: &[u8]) -> Result<SlotRead, Memory>
+    requires { length desc.now.items ≤ 60 }
+    ensures { IfOk result (λ r. r ≡ slot_of (shape_of desc.now) bytes.now) }
+{
+    let items = desc.items.as_slice();
+    if is_free(items, bytes) {
+        return Ok(SlotRead::Free);
+    }
+    let slot = slot_in(alloc, items, bytes)?;
+    if is_spelled(alloc, desc, bytes, &slot)? {
+        return Ok(SlotRead::Used(slot));
+    }
+    Ok(SlotRead::Bad)
+}
