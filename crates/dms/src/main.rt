@@ -7,7 +7,9 @@ mod texts;
 mod words;
 
 use dms_folder::FolderSite;
-use dms_host::{HeldStreams, Host, LockFault, StdinSource, Stream, hold_streams, lock_folder, reaches_database};
+use dms_host::{
+    HeldStreams, Host, LockFault, StdinSource, Stream, hold_streams, lock_folder, reaches_database,
+};
 use dms_top::{Status, dms};
 use help::{HELP, VERSION};
 use std::io::{self, ErrorKind};
