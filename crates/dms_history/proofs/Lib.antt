@@ -24,7 +24,9 @@ pub mod Counterexamples
 pub mod ToldBlocks
 pub mod Running
 pub mod LastPending
+pub mod SchemaReads
 pub mod Listed
+pub mod Judging
 pub mod ListSteps
 pub mod Imaged
 pub mod Alone
