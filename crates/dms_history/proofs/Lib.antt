@@ -1,4 +1,5 @@
 pub mod Picks
+pub mod Counts
 pub mod AtPoints
 pub mod HalfDone
 pub mod Runs

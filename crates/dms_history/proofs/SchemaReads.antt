@@ -1,14 +1,14 @@
 -- The Schema at a point.
-use Rattle.std.proofs.Common.{ℕ, ◌+◌, ◌<◌, ◌≡◌, ◌==◌, ◌&&◌, ◌||◌, inl, inr, Bool, true, false, cond, List, [], ◌∷◌, ◌++◌, length, Option, Some, None, refl, sym, ◌∙◌, ap, subst, arith, append_assoc}
+use Rattle.std.proofs.Common.{ℕ, ◌+◌, ◌<◌, ◌≡◌, ◌==◌, ◌||◌, inl, inr, Bool, true, false, cond, List, [], ◌∷◌, ◌++◌, length, Option, Some, None, refl, sym, ◌∙◌, ap, arith, append_assoc}
 use Rattle.std.proofs.lemmas.Bool.Decides.{nat_tests}
-use Rattle.dms_history.specs.Events.{Block, Event, change, quiet, control, begin}
+use Rattle.dms_history.specs.Events.{Block, Event}
 use Rattle.dms_history.specs.Images.{last_after}
 use Rattle.dms_history.specs.Lists.{has, until_first}
-use Rattle.dms_history.specs.Places.{is_point, is_described, IsLive}
-use Rattle.dms_history.specs.Ranges.{Logged, event, range, range_change, changes_of, changes_from, all_changes, is_point_logged, live_logged}
-use Rattle.dms_history.specs.Entries.{Entry, schema_part, image, byte_range, quiet_point, control_point, begin_restore, counts_in, how_of}
-use Rattle.dms_history.specs.Schemas.{Parts, no_parts, after_entry, parts_from, is_whole, parts_of_schema, schema_entries}
-use Rattle.dms_history.specs.EntryEvents.{said_by, logged_from, logged, is_place, live_after, live_entries_from, live_entries, live_of}
+use Rattle.dms_history.specs.Places.{is_point, is_described}
+use Rattle.dms_history.specs.Ranges.{Logged, event, range, range_change, changes_of, changes_from, all_changes}
+use Rattle.dms_history.specs.Entries.{Entry, schema_part, image, byte_range, quiet_point, control_point, begin_restore}
+use Rattle.dms_history.specs.Schemas.{no_parts, after_entry, parts_from, is_whole, parts_of_schema, schema_entries}
+use Rattle.dms_history.specs.EntryEvents.{logged_from, logged, is_place, live_after, live_entries_from, live_entries, live_of}
 use Rattle.dms_history.specs.SchemaAt.{SchemaRead, no_schema, after_schema, last_schema, schema_of, schema_at, joined}
 use Rattle.dms_history.specs.LawsOfSchemas.{EachSchema, is_begun, SchemaStays, SchemaOfNew, LiveHasSchema}
 use Rattle.dms_history.proofs.AtPoints.{bool_cases, true_or, or_true_right, or_no}
