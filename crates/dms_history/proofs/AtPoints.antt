@@ -1,16 +1,15 @@
 -- The content at each live point is what the entries tell.
-use Rattle.std.proofs.Common.{ℕ, ◌+◌, ◌==◌, max, ◌<◌, ◌≡◌, ◌||◌, ◌⊎◌, inl, inr, Bool, true, false, cond, List, [], ◌∷◌, ◌++◌, length, Option, Some, None, refl, sym, ◌∙◌, ap, subst, arith, append_assoc}
+use Rattle.std.proofs.Common.{ℕ, ◌<◌, ◌≡◌, ◌||◌, ◌⊎◌, inl, inr, Bool, true, false, cond, List, [], ◌∷◌, ◌++◌, length, None, refl, sym, ◌∙◌, ap, subst, arith, append_assoc}
 use Rattle.std.proofs.lemmas.List.FromFn.{fill_by_all}
-use Rattle.std.proofs.lemmas.Bool.{cases_eq}
-use Rattle.std.proofs.lemmas.Bool.Decides.{nat_tests}
-use Rattle.dms_history.specs.Events.{Block, Content, Counts, Event, change, quiet, control, begin, block_in}
-use Rattle.dms_history.specs.Replay.{Tells, Chain, replay, with_block}
+use Rattle.dms_history.specs.Events.{Content, Event, change, quiet, control, begin, block_in}
+use Rattle.dms_history.specs.Replay.{Chain, replay, with_block}
 use Rattle.dms_history.specs.Images.{last_after, choice}
 use Rattle.dms_history.specs.Lists.{has, until_last, after_last, until_first, after_first}
 use Rattle.dms_history.specs.Places.{is_control, is_point}
-use Rattle.dms_history.specs.Pick.{last_counts, raised_count, count_at, pick, content_of, blocks_at}
+use Rattle.dms_history.specs.Pick.{reached_count, count_at, pick, content_of, blocks_at}
 use Rattle.dms_history.specs.LawsOfPoints.{EachPoint}
-use Rattle.dms_history.proofs.Picks.{choice_gives_content, chain_split, laid_length, in_file, in_others, or_none, last_append, none_stands, replay_length}
+use Rattle.dms_history.proofs.Counts.{reached_any, chain_reached}
+use Rattle.dms_history.proofs.Picks.{choice_gives_content, chain_split, or_none, last_append, none_stands, replay_length}
 
 pub bool_cases : (b : Bool) → (b ≡ true) ⊎ (b ≡ false)
 bool_cases true = inl refl
@@ -87,56 +86,6 @@ pub or_no : (b c : Bool) → b || c ≡ false → (b ≡ false) × (c ≡ false)
 or_no true c e = absurd cc
 or_no false c e = (refl, e)
 
-pub no_counts : (k : Counts) (es : List Event) → has is_control es ≡ false → last_counts k es ≡ k
-no_counts k [] off = refl
-no_counts k (change f b before after ∷ es) off = no_counts k es off
-no_counts k (quiet n ∷ es) off = no_counts k es off
-no_counts k (control n next counts described ∷ es) off = absurd (true_is_false off)
-  where
-    true_is_false : true ≡ false → ⊥
-    true_is_false e = absurd cc
-no_counts k (begin n how ∷ es) off = no_counts k es off
-
--- the counts of the last Control are those of the content there
-pub counts_are : (k : Counts) (es : List Event) (c : Content) (f : ℕ) → Chain es c → has is_control es ≡ true → last_counts k es f ≡ length (replay (until_last is_control es) c f)
-counts_are k [] c f chain found = absurd cc
-counts_are k (change g b before after ∷ es) c f chain found =
-    counts_are k es (with_block c g b after) f chain.1 found ∙ sym (ap (λ y. length (replay (cond y (change g b before after ∷ until_last is_control es) []) c f)) found)
-counts_are k (quiet n ∷ es) c f chain found =
-    counts_are k es c f chain found ∙ sym (ap (λ y. length (replay (cond y (quiet n ∷ until_last is_control es) []) c f)) found)
-counts_are k (control n next counts described ∷ es) c f chain found = elim (bool_cases (has is_control es)) [
-  | inl more ↦ counts_are counts es c f chain.1 more
-  | inr off ↦ ap (λ (l : Counts). l f) (no_counts counts es off) ∙ chain.0 f ∙ sym (ap (λ (l : List Event). length (replay l c f)) (no_front is_control es off))
-]
-counts_are k (begin n how ∷ es) c f chain found = absurd chain
-
-pub count_one : (c : Content) (f g b : ℕ) (before : Option Block) (after : Block) → Tells b before (c g) → raised_count f (change g b before after ∷ []) (length (c f)) ≡ length (with_block c g b after f)
-count_one c f g b None after tells = elim (cases_eq g f) [
-  | inl same ↦
-      let long : b ≡ length (c f) = tells ∙ ap (λ j. length (c j)) same in
-      let on : (g == f) ≡ true = grind (arith, nat_tests) in
-      let here : raised_count f (change g b None after ∷ []) (length (c f)) ≡ b + 1 = ap (λ t. cond t (max (length (c f)) (b + 1)) (length (c f))) on ∙ omega (arith, long) in
-      let there : length (with_block c g b after g) ≡ b + 1 = omega (arith, ap length (in_file c g b after), laid_length b after (c g) (omega (arith, tells)), tells) in
-      here ∙ sym there ∙ ap (λ j. length (with_block c g b after j)) same
-  | inr other ↦
-      let here : raised_count f (change g b None after ∷ []) (length (c f)) ≡ length (c f) = grind (arith, nat_tests) in
-      here ∙ sym (ap length (in_others c g b after f (λ e. other (sym e))))
-]
-count_one c f g b (Some old) after tells = elim (cases_eq f g) [
-  | inl same ↦
-      let there : length (with_block c g b after g) ≡ length (c g) = omega (arith, ap length (in_file c g b after), laid_length b after (c g) (omega (arith, tells.0)), tells.0) in
-      ap (λ j. length (c j)) same ∙ sym there ∙ sym (ap (λ j. length (with_block c g b after j)) same)
-  | inr other ↦ sym (ap length (in_others c g b after f other))
-]
-
-pub count_is : (es : List Event) (c : Content) (f : ℕ) → Chain es c → raised_count f es (length (c f)) ≡ length (replay es c f)
-count_is [] c f chain = refl
-count_is (change g b None after ∷ es) c f chain = ap (λ k. raised_count f es k) (count_one c f g b None after chain.0) ∙ count_is es (with_block c g b after) f chain.1
-count_is (change g b (Some old) after ∷ es) c f chain = ap (λ k. raised_count f es k) (count_one c f g b (Some old) after chain.0) ∙ count_is es (with_block c g b after) f chain.1
-count_is (quiet n ∷ es) c f chain = count_is es c f chain
-count_is (control n next counts described ∷ es) c f chain = count_is es c f chain.1
-count_is (begin n how ∷ es) c f chain = absurd chain
-
 pub replay_append : (xs ys : List Event) (c : Content) → replay (xs ++ ys) c ≡ replay ys (replay xs c)
 replay_append [] ys c = refl
 replay_append (change g b before after ∷ xs) ys c = replay_append xs ys (with_block c g b after)
@@ -170,8 +119,8 @@ each_point entries base stored n sound found from_control =
     sound.stands f b (subst (λ (c : Content). b < length (c f)) (sym now) long) quiet_now
     ∙ ap (λ (c : Content). block_in c f b) now
     ∙ (none_stands (mid ++ late) start f b behind_chain none long).1 in
-    let count : (f : ℕ) → raised_count f mid (last_counts (λ _. 0) before f) ≡ length (replay mid start f) =
-    λ f. ap (λ k. raised_count f mid k) (counts_are (λ _. 0) before base f before_chain from_control) ∙ count_is mid start f mid_chain in
-    (λ i f. sym (fill_by_all (choice mid late stored f) (replay mid start f) (raised_count f mid (last_counts (λ _. 0) before f)) [] (sym (count f))
+    let count : (f : ℕ) → reached_count f 0 before ≡ length (replay mid start f) =
+    λ f. reached_any before f 0 (length (base f)) from_control ∙ chain_reached before base f before_chain ∙ ap (λ (c : Content). length (c f)) there in
+    (λ i f. sym (fill_by_all (choice mid late stored f) (replay mid start f) (reached_count f 0 before) [] (sym (count f))
     (λ k low. sym (choice_gives_content mid late start stored behind_chain kept f k (omega (arith, low, count f))))) i)
     ∙ sym there

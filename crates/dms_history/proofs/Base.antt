@@ -1,5 +1,5 @@
 -- Where a trail and its blocks agree, they have a base.
-use Rattle.std.proofs.Common.{ℕ, ◌+◌, max, ◌<◌, ◌≡◌, ◌==◌, ◌||◌, ◌⊎◌, inl, inr, Bool, true, false, cond, List, [], ◌∷◌, ◌++◌, length, Option, Some, None, refl, sym, ◌∙◌, ap, subst, arith, append_assoc}
+use Rattle.std.proofs.Common.{ℕ, ◌<◌, ◌≡◌, ◌||◌, ◌⊎◌, inl, inr, Bool, true, false, cond, List, [], ◌∷◌, ◌++◌, length, Option, Some, None, refl, sym, ◌∙◌, ap, subst, arith, append_assoc}
 use Rattle.std.proofs.lemmas.List.FromFn.{length-map-range_with_len, get_or-map-range_with_len}
 use Rattle.std.proofs.lemmas.Bool.Decides.{nat_tests}
 use Rattle.dms_history.specs.Events.{Block, Content, Stored, Counts, Event, change, quiet, control, begin, block_in}
@@ -7,12 +7,13 @@ use Rattle.dms_history.specs.Replay.{Tells, Chain, replay, with_block}
 use Rattle.dms_history.specs.Images.{is_at, or_else, last_after, first_before, value, choice}
 use Rattle.dms_history.specs.Lists.{has, after_last}
 use Rattle.dms_history.specs.Places.{is_control, is_begin}
-use Rattle.dms_history.specs.Pick.{raised_count, content_of}
+use Rattle.dms_history.specs.Pick.{content_of, reached_count}
 use Rattle.dms_history.specs.Base.{opening, from_control, first_counts, base_of}
-use Rattle.dms_history.specs.Agrees.{reached_count, FitsCount, ListAgrees}
+use Rattle.dms_history.specs.Agrees.{FitsCount, ListAgrees}
 use Rattle.dms_history.specs.LawsOfBase.{AgreesHasBase}
 use Rattle.dms_history.proofs.Picks.{tells_le, place_cases, option_cases, or_none, if_none, some_is, last_append, last_stands, none_stands, write_here, write_other, write_old, write_length, laid_length, in_file}
-use Rattle.dms_history.proofs.AtPoints.{count_one, or_no, true_or, or_true_right}
+use Rattle.dms_history.proofs.Counts.{reached_append, reached_any, count_one}
+use Rattle.dms_history.proofs.AtPoints.{or_no, true_or, or_true_right}
 
 -- ---- lists
 
@@ -29,27 +30,6 @@ true_not_false e = absurd cc
 
 pub at_self : (f b : ℕ) → is_at f b f b ≡ true
 at_self f b = grind (arith, nat_tests)
-
-pub reached_append : (xs ys : List Event) (f k : ℕ) → reached_count f k (xs ++ ys) ≡ reached_count f (reached_count f k xs) ys
-reached_append [] ys f k = refl
-reached_append (change g b None after ∷ xs) ys f k = reached_append xs ys f (cond (g == f) (max k (b + 1)) k)
-reached_append (change g b (Some old) after ∷ xs) ys f k = reached_append xs ys f k
-reached_append (quiet n ∷ xs) ys f k = reached_append xs ys f k
-reached_append (control n next counts described ∷ xs) ys f k = reached_append xs ys f (counts f)
-reached_append (begin n how ∷ xs) ys f k = reached_append xs ys f k
-
--- behind a Control it doesn't count what was before
-pub reached_any : (xs : List Event) (f k j : ℕ) → has is_control xs ≡ true → reached_count f k xs ≡ reached_count f j xs
-reached_any [] f k j found = absurd cc
-reached_any (change g b None after ∷ xs) f k j found = reached_any xs f _ _ found
-reached_any (change g b (Some old) after ∷ xs) f k j found = reached_any xs f k j found
-reached_any (quiet n ∷ xs) f k j found = reached_any xs f k j found
-reached_any (control n next counts described ∷ xs) f k j found = refl
-reached_any (begin n how ∷ xs) f k j found = reached_any xs f k j found
-
-pub reached_one : (f k g b : ℕ) (before : Option Block) (after : Block) → reached_count f k (change g b before after ∷ []) ≡ raised_count f (change g b before after ∷ []) k
-reached_one f k g b None after = refl
-reached_one f k g b (Some old) after = refl
 
 pub has_append : (p : Event → Bool) (xs ys : List Event) → has p (xs ++ ys) ≡ (has p xs || has p ys)
 has_append p [] ys = refl
@@ -111,7 +91,7 @@ moves xs es c f b before after walk tells =
     let e = change f b before after in
     let le = tells_le b before (c f) tells in
     record {
-      lengths = λ g. sym (reached_append xs (e ∷ []) g 0 ∙ ap (λ k. reached_count g k (e ∷ [])) (sym (walk.lengths g)) ∙ reached_one g (length (c g)) f b before after ∙ count_one c g f b before after tells);
+      lengths = λ g. sym (reached_append xs (e ∷ []) g 0 ∙ ap (λ k. reached_count g k (e ∷ [])) (sym (walk.lengths g)) ∙ count_one c g f b before after tells);
       afters = λ g k x last.
           let both : or_else (cond (is_at g k f b) (Some after) None) (last_after g k xs) ≡ Some x = sym (last_append xs (e ∷ []) g k) ∙ last in
           elim (place_cases g k f b) [

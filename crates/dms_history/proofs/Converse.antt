@@ -6,11 +6,13 @@ use Rattle.dms_history.specs.Images.{is_at, or_else, last_after, first_before, v
 use Rattle.dms_history.specs.Lists.{has, after_last}
 use Rattle.dms_history.specs.Places.{is_control}
 use Rattle.dms_history.specs.Base.{Sound, opening, from_control, first_counts, Opened, base_of}
-use Rattle.dms_history.specs.Agrees.{reached_count, FitsCount}
+use Rattle.dms_history.specs.Agrees.{FitsCount}
 use Rattle.dms_history.specs.LawsOfBase.{AgreesLeadsToBase, BaseAgrees}
 use Rattle.dms_history.proofs.Picks.{tells_le, place_cases, laid_length, in_file, replay_length, first_none, option_cases, or_none, if_none, if_some, some_is, last_append, last_stands, none_stands, chain_split}
-use Rattle.dms_history.proofs.AtPoints.{suffix_none, bool_cases, count_one}
-use Rattle.dms_history.proofs.Base.{content_length, content_block, at_self, reached_append, reached_any, reached_one, has_append, parts, opens, from_cases, after_behind, stored_pick, Starts, starts_has}
+use Rattle.dms_history.proofs.AtPoints.{suffix_none, bool_cases}
+use Rattle.dms_history.specs.Pick.{reached_count}
+use Rattle.dms_history.proofs.Counts.{reached_append, reached_any, chain_reached}
+use Rattle.dms_history.proofs.Base.{content_length, content_block, at_self, has_append, parts, opens, from_cases, after_behind, stored_pick, Starts, starts_has}
 
 true_not_false : true ≡ false → ⊥
 true_not_false e = absurd cc
@@ -49,14 +51,6 @@ first_is (control m next counts whole ∷ os) n later k described zs off = absur
 first_is (begin m how ∷ os) n later k described zs off = first_is os n later k described zs off
 
 -- ---- counts and blocks by the chain
-
-pub chain_reached : (es : List Event) (c : Content) (f : ℕ) → Chain es c → reached_count f (length (c f)) es ≡ length (replay es c f)
-chain_reached [] c f chain = refl
-chain_reached (change g b before after ∷ es) c f chain =
-    reached_append (change g b before after ∷ []) es f (length (c f)) ∙ ap (λ k. reached_count f k es) (reached_one f (length (c f)) g b before after ∙ count_one c f g b before after chain.0) ∙ chain_reached es (with_block c g b after) f chain.1
-chain_reached (quiet n ∷ es) c f chain = chain_reached es c f chain
-chain_reached (control n next counts described ∷ es) c f chain = ap (λ k. reached_count f k es) (chain.0 f) ∙ chain_reached es c f chain.1
-chain_reached (begin n how ∷ es) c f chain = absurd chain
 
 reached : (xs : List Event) (base : Content) (f : ℕ) → Chain (from_control xs) base → has is_control (from_control xs) ≡ true → reached_count f 0 xs ≡ length (replay (from_control xs) base f)
 reached xs base f chain found =

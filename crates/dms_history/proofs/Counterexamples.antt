@@ -4,10 +4,10 @@ use Rattle.dms_history.specs.Events.{Block, Content, Stored, Counts, rebuild, Ev
 use Rattle.dms_history.specs.Places.{IsLive}
 use Rattle.dms_history.specs.History.{history, next_number}
 use Rattle.dms_history.specs.Images.{is_at, choice}
-use Rattle.dms_history.specs.Pick.{Dumps, count_at, pick, dump_pick, content_of, blocks_at}
+use Rattle.dms_history.specs.Pick.{reached_count, Dumps, count_at, pick, dump_pick, content_of, blocks_at}
 use Rattle.dms_history.specs.Here.{restore_pick, outcome, here}
 use Rattle.dms_history.specs.Base.{from_control, Sound}
-use Rattle.dms_history.specs.Agrees.{reached_count, ListAgrees, EventsAgree, Numbered}
+use Rattle.dms_history.specs.Agrees.{ListAgrees, EventsAgree, Numbered}
 use Rattle.dms_history.proofs.Picks.{last_stands, place_cases, write_old, if_none}
 use Rattle.dms_history.proofs.Converse.{logged_below, base_agrees}
 use Rattle.dms_history.proofs.Order.{not_empty, numbers_first, numbers_change, numbers_quiet, numbers_begin}

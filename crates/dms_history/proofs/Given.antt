@@ -1,16 +1,17 @@
 -- What a restore gives by any rule.
 use Rattle.std.proofs.Common.{ℕ, ◌<◌, ◌≡◌, ◌||◌, inl, inr, Bool, true, false, cond, List, [], ◌∷◌, ◌++◌, length, None, refl, sym, ◌∙◌, ap, subst, arith}
 use Rattle.std.proofs.lemmas.List.FromFn.{fill_by_all}
-use Rattle.dms_history.specs.Events.{Content, Stored, Counts, How, halt_load, back_out, roll_back, rebuild, reconstruct, Event, change, quiet, control, begin, block_in}
+use Rattle.dms_history.specs.Events.{Content, Stored, How, halt_load, back_out, roll_back, rebuild, reconstruct, Event, change, quiet, control, begin, block_in}
 use Rattle.dms_history.specs.Replay.{Chain, replay}
 use Rattle.dms_history.specs.Images.{last_after, first_before, value, choice}
 use Rattle.dms_history.specs.Lists.{has, until_first, after_first, after_last}
-use Rattle.dms_history.specs.Pick.{last_counts, raised_count, blocks_at, Dump, Dumps, count_at, pick, between, dump_pick, content_of}
+use Rattle.dms_history.specs.Pick.{reached_count, blocks_at, Dump, Dumps, count_at, pick, between, dump_pick, content_of}
 use Rattle.dms_history.specs.Places.{is_control, is_point, is_described, IsLive}
 use Rattle.dms_history.specs.Base.{Sound, opening, from_control}
 use Rattle.dms_history.specs.Here.{restore_pick, outcome}
 use Rattle.dms_history.specs.Restores.{may_hold_anything, DumpServes, HasDump}
 use Rattle.dms_history.specs.LawsOfBase.{OpeningStays}
+use Rattle.dms_history.proofs.Counts.{reached_append, reached_any}
 use Rattle.dms_history.proofs.Converse.{opening_append}
 use Rattle.dms_history.specs.LawsOfPoints.{OpeningNeverCounts}
 use Rattle.dms_history.proofs.Picks.{chain_split, option_cases, none_stands, last_stands}
@@ -71,13 +72,6 @@ from_has (e ∷ es) found = elim (bool_cases (is_control e)) [
   | inr off ↦ ap (λ k. has is_control (cond k (e ∷ es) (from_control es))) off ∙ from_has es (ap (λ k. k || has is_control es) (sym off) ∙ found)
 ]
 
-last_counts_from : (k : Counts) (es : List Event) → last_counts k es ≡ last_counts k (from_control es)
-last_counts_from k [] = refl
-last_counts_from k (change f b before after ∷ es) = last_counts_from k es
-last_counts_from k (quiet n ∷ es) = last_counts_from k es
-last_counts_from k (control n next counts described ∷ es) = refl
-last_counts_from k (begin n how ∷ es) = last_counts_from k es
-
 after_last_from : (es : List Event) → has is_control es ≡ true → after_last is_control es ≡ after_last is_control (from_control es)
 after_last_from es found = ap (λ (l : List Event). after_last is_control l) (sym (parts es)) ∙ after_behind is_control (opening es) (from_control es) (from_has es found)
 
@@ -108,9 +102,13 @@ live_from entries n at = record {
 mid_from : (entries : List Event) (n : ℕ) → IsLive entries n → after_last is_control (until_first (is_point n) entries) ≡ after_last is_control (until_first (is_point n) (from_control entries))
 mid_from entries n at = after_last_from (until_first (is_point n) entries) (controlled entries n at) ∙ ap (λ (l : List Event). after_last is_control l) (from_until (is_point n) entries (controlled entries n at))
 
+reached_from : (f : ℕ) (es : List Event) → has is_control es ≡ true → reached_count f 0 es ≡ reached_count f 0 (from_control es)
+reached_from f es found = ap (λ (l : List Event). reached_count f 0 l) (sym (parts es)) ∙ reached_append (opening es) (from_control es) f 0 ∙ reached_any (from_control es) f _ 0 (from_has es found)
+
 pub count_from : (entries : List Event) (n : ℕ) → IsLive entries n → count_at entries n ≡ count_at (from_control entries) n
 unfolding count_at
-count_from entries n at = λ i f. raised_count f (mid_from entries n at i) ((last_counts_from (λ _. 0) (until_first (is_point n) entries) ∙ ap (λ (l : List Event). last_counts (λ _. 0) l) (from_until (is_point n) entries (controlled entries n at))) i f)
+count_from entries n at =
+    λ i f. (reached_from f (until_first (is_point n) entries) (controlled entries n at) ∙ ap (λ (l : List Event). reached_count f 0 l) (from_until (is_point n) entries (controlled entries n at))) i
 
 pub pick_from : (entries : List Event) (n : ℕ) (stored : Stored) → IsLive entries n → pick entries n stored ≡ pick (from_control entries) n stored
 unfolding pick

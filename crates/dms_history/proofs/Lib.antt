@@ -1,4 +1,5 @@
 pub mod Picks
+pub mod Counts
 pub mod AtPoints
 pub mod HalfDone
 pub mod Runs
@@ -24,7 +25,9 @@ pub mod Counterexamples
 pub mod ToldBlocks
 pub mod Running
 pub mod LastPending
+pub mod SchemaReads
 pub mod Listed
+pub mod Judging
 pub mod ListSteps
 pub mod Imaged
 pub mod Alone

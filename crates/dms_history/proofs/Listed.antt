@@ -163,6 +163,10 @@ listed_from n front (e ∷ es) off found told = elim (or_at (is_point n e) (has 
     here (control k next counts described) at told = place_listed n k front (control k next counts described) (numbers_from (front ++ control k next counts described ∷ []) es) (eq_of k n at) off told
     here (begin k how) at told = absurd (true_not_false (sym at))
 
+pub live_is_listed : (live : List Event) (n : ℕ) → IsLive live n → has (λ m. m == n) (live_numbers live) ≡ true
+unfolding live_numbers
+live_is_listed live n at = listed_from n [] live refl at.found at.described
+
 pub numbers_back : (live : List Event) (counted : Stored) (ns : List ℕ) → numbers_of (map (point_at live counted) ns) ≡ ns
 numbers_back live counted [] = refl
 numbers_back live counted (n ∷ ns) = ap (λ (l : List ℕ). n ∷ l) (numbers_back live counted ns)

@@ -1,18 +1,15 @@
 -- A block at a point, put together from its parts.
-use Rattle.std.proofs.Common.{ℕ, ◌≡◌, true, false, cond, List, [], ◌∷◌, ◌++◌, map, suc, ◌+◌, Bor, add-one, refl, inl, inr, Option, Some, None, length, take, drop, ◌-◌, length-drop, arith, sym, ◌∙◌, ap}
+use Rattle.std.proofs.Common.{ℕ, ◌≡◌, true, false, List, [], ◌∷◌, ◌++◌, map, suc, ◌+◌, Bor, add-one, Option, Some, None, length, take, drop, ◌-◌, length-drop, arith, sym, ◌∙◌, ap}
 use Rattle.std.proofs.lemmas.List.{take_all, map-append}
 use Rattle.std.proofs.lemmas.List.FromFn.{length-map-range_with_len, take-map-range_with_len, get_or-map-range_with_len}
 use Rattle.std.proofs.Math.Seq.{take-suc}
 use Rattle.std.specs.List.{range_with_len}
 use Rattle.dms_history.specs.Plain.{blocks_seen}
-use Rattle.dms_history.specs.Events.{Block, Stored, Counts, Event, change, quiet, control, begin}
+use Rattle.dms_history.specs.Events.{Block, Stored, Event}
 use Rattle.dms_history.specs.Lists.{has, until_first, after_first, after_last}
 use Rattle.dms_history.specs.Places.{is_control, is_point}
 use Rattle.dms_history.specs.Images.{last_after, first_before, else_stored, value, choice}
-use Rattle.dms_history.specs.Pick.{last_counts, raised_count, count_at, pick, content_of, blocks_at}
-use Rattle.dms_history.specs.Agrees.{reached_count}
-use Rattle.dms_history.proofs.AtPoints.{bool_cases, no_counts}
-use Rattle.dms_history.proofs.Converse.{all_after}
+use Rattle.dms_history.specs.Pick.{reached_count, count_at, pick, content_of, blocks_at}
 use Rattle.dms_history.proofs.Cuts.{until_none, after_none}
 
 -- the before-image that was found, else that of what follows, else what is stored
@@ -45,39 +42,10 @@ module _ (live : List Event) (n f b : ℕ) (stored : Block) where
 true_not_false : true ≡ false → ⊥
 true_not_false e = absurd cc
 
-raised_same : (f : ℕ) (es : List Event) (k : ℕ) → has is_control es ≡ false → reached_count f k es ≡ raised_count f es k
-raised_same f [] k off = refl
-raised_same f (change g b None after ∷ es) k off = raised_same f es _ off
-raised_same f (change g b (Some old) after ∷ es) k off = raised_same f es k off
-raised_same f (quiet n ∷ es) k off = raised_same f es k off
-raised_same f (control n next counts described ∷ es) k off = absurd (true_not_false off)
-raised_same f (begin n how ∷ es) k off = raised_same f es k off
-
-reached_without : (f : ℕ) (es : List Event) (counts : Counts) → has is_control es ≡ false → reached_count f (counts f) es ≡ raised_count f (after_last is_control es) (last_counts counts es f)
-reached_without f es counts off = raised_same f es (counts f) off ∙ sym (λ i. raised_count f (all_after es off i) (no_counts counts es off i f))
-
-reached_with : (f : ℕ) (es : List Event) (k : ℕ) (counts : Counts) → has is_control es ≡ true → reached_count f k es ≡ raised_count f (after_last is_control es) (last_counts counts es f)
-reached_with f [] k counts on = absurd (true_not_false (sym on))
-reached_with f (change g b None after ∷ es) k counts on =
-    reached_with f es _ counts on ∙ sym (ap (λ c. raised_count f (cond c (after_last is_control es) (change g b None after ∷ es)) (last_counts counts es f)) on)
-reached_with f (change g b (Some old) after ∷ es) k counts on =
-    reached_with f es k counts on ∙ sym (ap (λ c. raised_count f (cond c (after_last is_control es) (change g b (Some old) after ∷ es)) (last_counts counts es f)) on)
-reached_with f (quiet n ∷ es) k counts on = reached_with f es k counts on ∙ sym (ap (λ c. raised_count f (cond c (after_last is_control es) (quiet n ∷ es)) (last_counts counts es f)) on)
-reached_with f (control n next own described ∷ es) k counts on = elim (bool_cases (has is_control es)) [
-  | inl more ↦ reached_with f es (own f) own more
-  | inr off ↦ reached_without f es own off
-]
-reached_with f (begin n how ∷ es) k counts on = reached_with f es k counts on ∙ sym (ap (λ c. raised_count f (cond c (after_last is_control es) (begin n how ∷ es)) (last_counts counts es f)) on)
-
 -- the count that a front reaches is the count at its last point
 pub count_there : (live front : List Event) (n f : ℕ) → until_first (is_point n) live ≡ front → reached_count f 0 front ≡ count_at live n f
 unfolding count_at
-count_there live front n f cut =
-    elim (bool_cases (has is_control front)) [
-      | inl on ↦ reached_with f front 0 (λ _. 0) on
-      | inr off ↦ reached_without f front (λ _. 0) off
-    ]
-    ∙ sym (ap (λ (l : List Event). raised_count f (after_last is_control l) (last_counts (λ _. 0) l f)) cut)
+count_there live front n f cut = sym (ap (λ (l : List Event). reached_count f 0 l) cut)
 
 pub count_nowhere : (live : List Event) (n f : ℕ) → has (is_point n) live ≡ false → 0 ≡ count_at live n f
 count_nowhere live n f off = count_there live [] n f (until_none (is_point n) live off)

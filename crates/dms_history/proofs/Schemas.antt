@@ -144,7 +144,7 @@ says p true c e u x is = ap (λ (l : List Logged). l ++ []) is
 says p false true e u x is = ap (λ (l : List Logged). l ++ logged_from (after_entry p e) u) is
 says p false false e u x is = refl
 
-cut_logged : (n : ℕ) (xs : List Entry) (p : Parts) → logged_from p (until_first (is_place n) xs) ≡ until_first (is_point_logged n) (logged_from p xs)
+pub cut_logged : (n : ℕ) (xs : List Entry) (p : Parts) → logged_from p (until_first (is_place n) xs) ≡ until_first (is_point_logged n) (logged_from p xs)
 cut_logged n [] p = refl
 cut_logged n (schema_part part parts bytes ∷ xs) p = go (has (is_place n) xs) (has_logged n xs (after_entry p (schema_part part parts bytes))) (cut_logged n xs (after_entry p (schema_part part parts bytes)))
   where

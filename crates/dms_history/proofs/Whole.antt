@@ -4,8 +4,8 @@ use Rattle.std.proofs.lemmas.List.{ext_get_or}
 use Rattle.dms_history.specs.Events.{Block, Content, Stored, How, Event, change, quiet, control, begin, block_in}
 use Rattle.dms_history.specs.Replay.{replay}
 use Rattle.dms_history.specs.Images.{or_else, last_after}
-use Rattle.dms_history.specs.Lists.{has, until_first, after_last}
-use Rattle.dms_history.specs.Pick.{last_counts, raised_count, count_at}
+use Rattle.dms_history.specs.Lists.{has, until_first}
+use Rattle.dms_history.specs.Pick.{reached_count, count_at}
 use Rattle.dms_history.specs.Places.{is_control, is_point, is_begin}
 use Rattle.dms_history.specs.Base.{Sound, opening, from_control, Opened, base_of}
 use Rattle.dms_history.specs.Here.{outcome, here}
@@ -94,7 +94,7 @@ pub count_front : (entries : List Event) (m : ℕ) → has (is_point m) entries 
 unfolding count_at
 count_front entries m found =
     let same = until_until (is_point m) (is_point m) entries (has_self (is_point m) entries found) in
-    λ i f. raised_count f (after_last is_control (same i)) (last_counts (λ _. 0) (same i) f)
+    λ i f. reached_count f 0 (same i)
 
 pub content_same : (c d : Content) → ((f : ℕ) → length (c f) ≡ length (d f)) → ((f b : ℕ) → b < length (d f) → block_in c f b ≡ block_in d f b) → c ≡ d
 content_same c d long same = λ i f. ext_get_or [] (c f) (d f) (long f) (λ k low. same f k (omega (arith, low, long f))) i

@@ -1,21 +1,12 @@
 -- What the entries of a trail and its blocks have to do with each other, Ranges aside.
-use Rattle.std.specs.Prelude.{ℕ, ◌+◌, ◌<◌, ◌≤◌, ◌≡◌, ◌==◌, max, if◌then◌else◌, Bool, true, false, List, [], ◌∷◌, ◌++◌, Option, Some, None}
+use Rattle.std.specs.Prelude.{ℕ, ◌<◌, ◌≤◌, ◌≡◌, Bool, true, false, List, ◌∷◌, ◌++◌, Option, Some, None}
 use Rattle.dms_history.specs.Events.{Block, Stored, Counts, How, Event, change, quiet, control, begin}
 use Rattle.dms_history.specs.Lists.{has, after_last}
 use Rattle.dms_history.specs.Places.{is_control, point_numbers}
 use Rattle.dms_history.specs.History.{Pending, history, next_number}
 use Rattle.dms_history.specs.Images.{last_after}
-use Rattle.dms_history.specs.Pick.{Dumps}
+use Rattle.dms_history.specs.Pick.{Dumps, reached_count}
 use Rattle.dms_history.specs.Here.{here}
-
--- the count of a file that the entries reach
-abbrev pub reached_count : ℕ → ℕ → List Event → ℕ
-reached_count f k [] = k
-reached_count f k (change g b None after ∷ es) = reached_count f (if g == f then max k (b + 1) else k) es
-reached_count f k (change g b (Some before) after ∷ es) = reached_count f k es
-reached_count f k (quiet n ∷ es) = reached_count f k es
-reached_count f k (control n next counts described ∷ es) = reached_count f (counts f) es
-reached_count f k (begin n how ∷ es) = reached_count f k es
 
 -- a new block is at its file's count, a changed one below it
 abbrev pub FitsCount : Option Block → ℕ → ℕ → Type 0

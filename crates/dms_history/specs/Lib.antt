@@ -24,6 +24,9 @@ pub mod LawsOfEntries
 pub mod Told
 pub mod Points
 pub mod LawsOfPointLists
+pub mod SchemaAt
+pub mod LawsOfSchemas
+pub mod Judge
 pub mod Kept
 pub mod LawsOfKept
 pub mod Plain

@@ -6,28 +6,18 @@ use Rattle.dms_history.specs.Lists.{until_first, after_first, after_last}
 use Rattle.dms_history.specs.Places.{is_control, is_point}
 use Rattle.dms_history.specs.Images.{last_after, value, choice}
 
--- the counts of the last Control
-abbrev pub last_counts : Counts → List Event → Counts
-last_counts k [] = k
-last_counts k (change f b before after ∷ es) = last_counts k es
-last_counts k (quiet n ∷ es) = last_counts k es
-last_counts k (control n next counts described ∷ es) = last_counts counts es
-last_counts k (begin n how ∷ es) = last_counts k es
-
--- a count, raised to b + 1 by each change of a new block b of the file; it never falls
-abbrev pub raised_count : ℕ → List Event → ℕ → ℕ
-raised_count f [] k = k
-raised_count f (change g b None after ∷ es) k = raised_count f es (if g == f then max k (b + 1) else k)
-raised_count f (change g b (Some before) after ∷ es) k = raised_count f es k
-raised_count f (quiet n ∷ es) k = raised_count f es k
-raised_count f (control n next counts described ∷ es) k = raised_count f es k
-raised_count f (begin n how ∷ es) k = raised_count f es k
+-- The count of a file that the entries reach, from k on: a Control says it, and each change of a new block b raises it to b + 1; it never falls.
+abbrev pub reached_count : ℕ → ℕ → List Event → ℕ
+reached_count f k [] = k
+reached_count f k (change g b None after ∷ es) = reached_count f (if g == f then max k (b + 1) else k) es
+reached_count f k (change g b (Some before) after ∷ es) = reached_count f k es
+reached_count f k (quiet n ∷ es) = reached_count f k es
+reached_count f k (control n next counts described ∷ es) = reached_count f (counts f) es
+reached_count f k (begin n how ∷ es) = reached_count f k es
 
 -- The count of a file at point n: that of the last Control at or before the place of n, raised by each new block between the two.
 unfoldable pub count_at : List Event → ℕ → Counts
-count_at live n f =
-    let before = until_first (is_point n) live in
-    raised_count f (after_last is_control before) (last_counts (λ _. 0) before f)
+count_at live n f = reached_count f 0 (until_first (is_point n) live)
 
 -- A block at point n by the audit: the last after-image between the last Control at or before the place of n and that place;
 -- else the before-image of the first change after the place; else what is stored.

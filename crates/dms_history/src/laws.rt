@@ -5,6 +5,8 @@ ghost use Rattle.dms_history.specs.LawsOfBase.{AgreesHasBase, AgreesLeadsToBase,
 ghost use Rattle.dms_history.specs.LawsOfRunning.{Changes, Quiets, WritesEarly, Controls, RunsSteady, SealsRun, PointsGoOn, QuietIsLive, ControlStands};
 ghost use Rattle.dms_history.specs.Told.{EachTold, EachFromFile};
 ghost use Rattle.dms_history.specs.LawsOfPointLists.{PointsListed, OneList, PointsFront, PointsStay, ListsChange, ListsQuiet, ListsControl, ListsBegin, LastKeepsAll};
+ghost use Rattle.dms_history.specs.LawsOfSchemas.{EachSchema, SchemaStays, SchemaOfNew, LiveHasSchema};
+ghost use Rattle.dms_history.specs.Judge.{EachJudged};
 ghost use Rattle.dms_history.specs.LawsOfRestores.{RestoreBegins, RestoreWrites, RestoreEnds, EndsFirst, PendingWritesFirst, NoDumpCounts, PendingCuts};
 ghost use Rattle.dms_history.specs.Often.{HoweverOften, FromAnything};
 ghost use Rattle.dms_history.specs.Numbers.{RollsBack, EachLast, LastLives, NextStays, EachNext, UsedOnce, NumbersChange, NumbersQuiet, NumbersBegin, NumbersControl, NumbersFirst, TrueDumpServes};
@@ -74,6 +76,19 @@ pub fn points_are_listed()
     ensures control { ListsControl }
     ensures begin { ListsBegin }
     ensures last { LastKeepsAll }
+{}
+
+/// The Schema at a point is the last whole one before its place: it stays, whatever is appended or cut off behind, and each live point has one.
+pub fn points_have_schemas()
+    ensures reads { EachSchema }
+    ensures stays { SchemaStays }
+    ensures new { SchemaOfNew }
+    ensures lives { LiveHasSchema }
+{}
+
+/// Each answer on a point comes exactly where its sentence holds.
+pub fn points_are_judged()
+    ensures { EachJudged }
 {}
 
 /// A block at a point is what the audit tells of it, and else what is stored; which blocks come from the structure files is known, a restore pending or not.

@@ -1,5 +1,5 @@
 use Rattle.std.proofs.Common.{◌≡◌, drop}
-use Rattle.dms_history.specs.Agrees.{reached_count}
+use Rattle.dms_history.specs.Pick.{reached_count}
 use Rattle.dms_history.specs.Plain.{events_seen}
 use Rattle.dms_history.proofs.plain.reached_count.Given as goal
 
