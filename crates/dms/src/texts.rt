@@ -86,7 +86,7 @@ impl fmt::Display for Ending {
         match status {
             Status::Ok => Ok(()),
             Status::BadWords => f.write_str("dms: bad words\ndms: see dms --help\n"),
-            Status::SchemaRefused(fault) => write!(f, "dms: schema: {}\n", SchemaLine(fault)),
+            Status::SchemaRefused(fault) => writeln!(f, "dms: schema: {}", SchemaLine(fault)),
             Status::DiskFault => f.write_str("dms: disk fault\n"),
             Status::InputFault => f.write_str("dms: input fault\n"),
             Status::Memory => f.write_str("dms: no memory\n"),
