@@ -108,7 +108,7 @@ pub high_first_length : (k n : ℕ) → length (bytes_high_first k n) ≡ k
 high_first_length zero n = refl
 high_first_length (suc k) n = ap suc (high_first_length k n)
 
-byte_small : (k n : ℕ) → byte_at k n ≤ 255
+pub byte_small : (k n : ℕ) → byte_at k n ≤ 255
 byte_small zero n = omega arith
 byte_small (suc k) n = omega arith
 

@@ -1,10 +1,14 @@
 //! Slots of data set files: the bytes of a record with its owner and counts.
 #![tactic(auto)]
 
+mod laws;
 mod reading;
 mod slot;
+#[cfg(test)]
+mod tests;
 mod writing;
 
+pub use laws::{reading_law, spelling_law};
 pub use reading::{all_fit, from_slot};
 pub use slot::{Slot, SlotRead};
 pub use writing::{slot_width, to_slot};

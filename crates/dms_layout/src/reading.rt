@@ -1,11 +1,10 @@
-ghost use Rattle.std.specs.Prelude.{◌≡◌, ◌≤◌, IfOk, length};
+ghost use Rattle.std.specs.Prelude.{◌≡◌, ◌==◌, IfOk, length, drop};
 ghost use Rattle.std.specs.List.{list_all};
 ghost use Rattle.dms_desc.specs.Shape.{shape_of};
-ghost use Rattle.dms_layout.specs.Slots.{unshifted, text_or_null, value_in, value_at, values_at, slot_in, is_zero, is_free, all_fit, may_own, is_spelled, slot_of};
+ghost use Rattle.dms_layout.specs.Slots.{unshifted, text_or_null, value_in, value_at, values_at, slot_in, is_zero, is_free, all_fit, may_own, is_spelled, slot_of, slot_width};
 ghost use Rattle.dms_base.specs.Text.{text_of};
-ghost use Rattle.std.specs.Prelude.{drop};
 
-use crate::writing::{slot_width, to_slot};
+use crate::writing::to_slot;
 use crate::{Slot, SlotRead};
 use dms_base::{ItemKind, Memory, Text, Value, fits};
 use dms_desc::{Item, Record, Structure, Values};
@@ -120,12 +119,29 @@ fn are_zeros(bytes: &[u8]) -> bool
     bytes.iter().all(|byte| *byte == 0)
 }
 
+// Whether bytes are as many as a slot of a data set with these items has.
+fn has_width(items: &[Item], bytes: &[u8]) -> bool
+    ensures { result ≡ (length bytes.now == slot_width items.now) }
+{
+    if bytes.len() < 13 {
+        return false;
+    }
+    let mut left = bytes.len() - 13;
+    for item in items {
+        let width = width_of(item.kind) as usize + 1;
+        if left < width {
+            return false;
+        }
+        left -= width;
+    }
+    left == 0
+}
+
 #[tactic(auto, unfolding(crate::specs::Slots::is_free))]
 fn is_free(items: &[Item], bytes: &[u8]) -> bool
-    requires { length items.now ≤ 60 }
     ensures { result ≡ is_free items.now bytes.now }
 {
-    are_zeros(bytes) && bytes.len() == slot_width(items)
+    are_zeros(bytes) && has_width(items, bytes)
 }
 
 fn may_own(desc: &Structure, owner: u64) -> bool
@@ -139,9 +155,11 @@ fn is_spelled(alloc: Global, desc: &Structure, bytes: &[u8], slot: &Slot) -> Res
     ensures { IfOk result (λ is. is ≡ is_spelled (shape_of desc.now) bytes.now slot.now) }
 {
     let spelled = to_slot(alloc, desc, slot)?;
-    Ok(bytes == spelled.as_slice()
-        && may_own(desc, slot.rec.owner)
-        && all_fit(desc.items.as_slice(), slot.rec.values.as_slice()))
+    Ok(
+        bytes == spelled.as_slice()
+            && may_own(desc, slot.rec.owner)
+            && all_fit(desc.items.as_slice(), slot.rec.values.as_slice()),
+    )
 }
 
 /// What the bytes of a slot say. `Free` exactly for zeros alone, `Used` exactly for the spelling of a record whose
@@ -149,7 +167,6 @@ fn is_spelled(alloc: Global, desc: &Structure, bytes: &[u8], slot: &Slot) -> Res
 /// that stands in no other has no owner.
 #[tactic(auto, unfolding(crate::specs::Slots::slot_of))]
 pub fn from_slot(alloc: Global, desc: &Structure, bytes: &[u8]) -> Result<SlotRead, Memory>
-    requires { length desc.now.items ≤ 60 }
     ensures { IfOk result (λ r. r ≡ slot_of (shape_of desc.now) bytes.now) }
 {
     let items = desc.items.as_slice();
