@@ -1,1 +1,4 @@
 pub mod Fields
+pub mod Prefix
+pub mod Laying
+pub mod PrefixLaws
