@@ -1,4 +1,4 @@
-use Rattle.dms_fields.proofs.Laid.{again_two, again_four, again_eight}
+use Rattle.dms_fields.specs.Laid.{again_two, again_four, again_eight}
 use Rattle.dms_fields.proofs.put_is_taken.Goals as goal
 
 pub returns-clause-two : goal.returns-clause-two
