@@ -1,0 +1,17 @@
+//! Audit files: blocks that count once their gate is open, sealed one by one, and found again.
+#![tactic(auto)]
+
+mod blocks;
+mod fault;
+mod header;
+pub mod laws;
+mod place;
+mod scanning;
+mod sealing;
+mod whole;
+
+pub use fault::AudFault;
+pub use place::Place;
+pub use scanning::scan_span;
+pub use whole::scan;
+pub use sealing::seal_block;
