@@ -66,7 +66,7 @@ zeros_zero zero = refl
 zeros_zero (suc n) = zeros_zero n
 
 pub block_is_read : BlockIsRead
-unfolding block_of used_in
+unfolding block_with used_in
 block_is_read es are few =
     let body = spellings es in
     let n = length body in

@@ -4,6 +4,7 @@ use Rattle.std.specs.Int.{w16, to_be_bytes}
 use Rattle.dms_history.specs.Entries.{Entry}
 use Rattle.dms_audrec.specs.Spelling.{spelling, IsEntry}
 use Rattle.dms_audfile.specs.Blocks.{Entered, is_begin, block_entries}
+use Rattle.dms_audfile.specs.Unsealed.{block_with}
 
 abbrev pub spellings : List Entry → List ℕ
 spellings [] = []
@@ -25,8 +26,8 @@ abbrev pub entered_at : ℕ → List Entry → List Entered
 entered_at at [] = []
 entered_at at (e ∷ es) = (record { offset = at; entry = e }) ∷ entered_at (at + length (spelling e)) es
 
-unfoldable pub block_of : List Entry → List ℕ
-block_of es = to_be_bytes w16 (length (spellings es)) ++ (spellings es ++ replicate (4094 - length (spellings es)) 0)
+abbrev pub block_of : List Entry → List ℕ
+block_of es = block_with (spellings es)
 
 -- What was written is read again: the block of whole entries, of which a Begin stands alone.
 abbrev pub BlockIsRead : Type 0

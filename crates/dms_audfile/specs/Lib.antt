@@ -7,3 +7,6 @@ pub mod Scanning
 pub mod Trail
 pub mod TrailLaws
 pub mod Sealing
+pub mod Ends
+pub mod TrailEntries
+pub mod Unsealed
