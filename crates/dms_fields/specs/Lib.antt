@@ -1,2 +1,5 @@
 pub mod Fields
 pub mod Laid
+pub mod Laying
+pub mod Prefix
+pub mod PrefixLaws

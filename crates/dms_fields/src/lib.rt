@@ -1,12 +1,16 @@
 //! Big-endian fields of byte strings, by their places. A place counts bytes from 0.
 #![tactic(auto)]
 
-ghost use Rattle.std.specs.Prelude.{◌≡◌, ◌+◌, ◌^◌, ◌≤◌, ◌<◌, ℕ, List, length, option_map, Some};
+ghost use Rattle.std.specs.Prelude.{◌≡◌, ◌+◌, ◌^◌, ◌≤◌, ◌<◌, ℕ, List, [], ◌∷◌, length, option_map, Some};
 ghost use Rattle.std.specs.Int.{w16, w32, w64, to_be_bytes};
 ghost use Rattle.dms_fields.specs.Fields.{bytes_at, number_at, laid};
 
+mod prefix;
+
 #[cfg(test)]
 mod tests;
+
+pub use prefix::{slice_at, u8_at, u16_at, u32_at, u64_at};
 
 /// The `n` bytes from a place on; None exactly where too few are left.
 pub fn take_bytes(bytes: &[u8], at: usize, n: usize) -> Option<&[u8]>
@@ -44,13 +48,21 @@ pub fn take_u64(bytes: &[u8], at: usize) -> Option<u64>
     ]))
 }
 
-// Lays bytes over those from a place on.
+/// Writes bytes over those from a place on.
 #[tactic(auto, using(std::proofs::lemmas::List::places), unfolding(crate::specs::Fields::laid))]
-fn put(to: &mut [u8], at: usize, bytes: &[u8])
+pub fn put_bytes(to: &mut [u8], at: usize, bytes: &[u8])
     requires { at + length bytes.now ≤ length to.old }
     ensures { to.new ≡ laid at bytes.now to.old }
 {
     to[at..at + bytes.len()].copy_from_slice(bytes);
+}
+
+/// Writes a byte at a place.
+pub fn put_u8(to: &mut [u8], at: usize, v: u8)
+    requires { at + 1 ≤ length to.old }
+    ensures { to.new ≡ laid at (v ∷ []) to.old }
+{
+    put_bytes(to, at, &[v]);
 }
 
 /// Writes a number into the two bytes from a place on.
@@ -58,7 +70,7 @@ pub fn put_u16(to: &mut [u8], at: usize, v: u16)
     requires { at + 2 ≤ length to.old }
     ensures { to.new ≡ laid at (to_be_bytes w16 v) to.old }
 {
-    put(to, at, &v.to_be_bytes());
+    put_bytes(to, at, &v.to_be_bytes());
 }
 
 /// Writes a number into the four bytes from a place on.
@@ -66,7 +78,7 @@ pub fn put_u32(to: &mut [u8], at: usize, v: u32)
     requires { at + 4 ≤ length to.old }
     ensures { to.new ≡ laid at (to_be_bytes w32 v) to.old }
 {
-    put(to, at, &v.to_be_bytes());
+    put_bytes(to, at, &v.to_be_bytes());
 }
 
 /// Writes a number into the eight bytes from a place on.
@@ -74,7 +86,7 @@ pub fn put_u64(to: &mut [u8], at: usize, v: u64)
     requires { at + 8 ≤ length to.old }
     ensures { to.new ≡ laid at (to_be_bytes w64 v) to.old }
 {
-    put(to, at, &v.to_be_bytes());
+    put_bytes(to, at, &v.to_be_bytes());
 }
 
 /// A law: a number that was written at a place is what is taken there.

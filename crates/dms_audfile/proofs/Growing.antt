@@ -1,0 +1,362 @@
+-- The trail while one more block is sealed.
+use Rattle.std.proofs.Common.{ℕ, zero, suc, ◌+◌, ◌-◌, ◌*◌, ◌<◌, ◌≤◌, ◌≡◌, ◌≢◌, ◌⊎◌, inl, inr, Bool, true, false, cond, List, [], ◌∷◌, ◌++◌, length, take, get_or, replicate, refl, sym, ◌∙◌, ap, subst, arith, append-nil, append_assoc, length-append}
+use Rattle.std.proofs.lemmas.Bool.{cases_eq, cases_lt, false≢true}
+use Rattle.std.proofs.lemmas.Bool.Decides.{nat_tests}
+use Rattle.std.proofs.lemmas.List.{places, length-replicate, get_or-replicate, drop_all}
+use Rattle.std.specs.Int.{w16, w32, to_be_bytes}
+use Rattle.dms_site.specs.Files.{Files, Left, range, overlaid, padded, with_file, OnDisk, InFile, Torn}
+use Rattle.dms_site.specs.Laws.{get_or-range, range_overlaid, length-overlaid, torn_overlaid, with_file_here, with_file_other}
+use Rattle.dms_audfile.specs.Gates.{block_at, gate, sealed, is_full, opened, blocks_from}
+use Rattle.dms_audfile.specs.Header.{new_header, header_fits, tag_said}
+use Rattle.dms_audfile.specs.Trail.{trail_from}
+use Rattle.dms_audfile.specs.Sealing.{Stands, Writes, Grows, GrowsLeft, Anyhow}
+use Rattle.dms_audfile.proofs.Gates.{stands_sealed, stands_full, stands_opened, content_stands, content_sealed, opened_stands, shut_stands, opened_sealed, shut_sealed}
+use Rattle.dms_audfile.proofs.Blank.{header_stands}
+use Rattle.dms_audfile.proofs.Heads.{fits_content, fits_gate, fits_new, tag_content, tag_gate}
+use Rattle.dms_audfile.proofs.Several.{trail_grows}
+
+-- ---- what is kept while the trail doesn't grow
+
+pub record Kept (total tag first f n : ℕ) (old new : Files) : Type 0 where
+  pub writes : Writes total tag first f n new
+  pub trail : (m : ℕ) → f < first + m → trail_from m total first new ≡ trail_from m total first old
+  pub others : (g : ℕ) → g ≢ f → g ≢ f + 1 → new g ≡ old g
+
+pub writes_same : (total tag first f n : ℕ) (old new : Files) → Writes total tag first f n old → ((g : ℕ) → first ≤ g → g ≤ f → new g ≡ old g) → Writes total tag first f n new
+writes_same total tag first f n old new w same = record {
+  order = w.order;
+  some = w.some;
+  not_full = w.not_full;
+  full = λ g low high. ap (is_full total) (same g low (omega arith)) ∙ w.full g low high;
+  stands = subst (λ l. Stands total n l) (sym (same f w.order (omega arith))) w.stands;
+  fits = λ g low high. ap (header_fits (g - 10000) total) (same g low high) ∙ w.fits g low high;
+  tags = λ g low high. ap tag_said (same g low high) ∙ w.tags g low high;
+}
+
+grows_by : (total tag first f n : ℕ) (y x : Files) (blocks : List (List ℕ)) → Writes total tag first f n y → ((g : ℕ) → first ≤ g → g < f → x g ≡ y g)
+    → sealed total (x f) ≡ sealed total (y f) ++ blocks → (is_full total (x f) ≡ true → (r : ℕ) → trail_from r total (f + 1) x ≡ [])
+    → (m : ℕ) → f < first + m → trail_from m total first x ≡ trail_from m total first y ++ blocks
+grows_by total tag first f n y x blocks w same grows none m long =
+    trail_grows (f - first) m total first f y x blocks (omega (arith, w.order)) (omega (arith, w.order)) w.full (stands_full total n (y f) w.stands w.not_full) same grows none
+
+not_true : {A : Type 0} (b : Bool) → b ≡ false → b ≡ true → A
+not_true b off on = absurd (false≢true (sym off ∙ on))
+
+-- within the write of the content, or behind it
+pub content_kept : (total tag first f n : ℕ) (y x : Files) → Writes total tag first f n y → InFile f (Torn (4096 * (n + 1)) 4096) y x → Kept total tag first f n y x
+content_kept total tag first f n y x w step =
+    let s = content_stands total n (y f) (x f) w.stands step.here in
+    let none : is_full total (x f) ≡ true → (r : ℕ) → trail_from r total (f + 1) x ≡ [] = λ is. not_true _ (stands_full total n (x f) s w.not_full) is in
+    record {
+      writes = record {
+        order = w.order;
+        some = w.some;
+        not_full = w.not_full;
+        full = λ g low high. ap (is_full total) (step.others g (omega arith)) ∙ w.full g low high;
+        stands = s;
+        fits = λ g low high. elim (cases_eq g f) [
+          | inl is ↦ subst (λ j. header_fits (j - 10000) total (x j) ≡ true) (sym is) (fits_content (f - 10000) total n (y f) (x f) w.stands.few w.stands.long step.here (w.fits f w.order (omega arith)))
+          | inr other ↦ ap (header_fits (g - 10000) total) (step.others g other) ∙ w.fits g low high
+        ];
+        tags = λ g low high. elim (cases_eq g f) [
+          | inl is ↦ ap (λ j. tag_said (x j)) is ∙ tag_content n (y f) (x f) w.stands.long step.here ∙ w.tags f w.order (omega arith)
+          | inr other ↦ ap tag_said (step.others g other) ∙ w.tags g low high
+        ];
+      };
+      trail = λ m long.
+          grows_by total tag first f n y x [] w (λ g low high. step.others g (omega arith)) (content_sealed total n (y f) (x f) w.stands step.here ∙ sym (append-nil (sealed total (y f)))) none m long
+          ∙ append-nil (trail_from m total first y);
+      others = λ g one two. step.others g one;
+    }
+
+-- within the making of the next file, or behind it
+pub next_kept : (total tag first f n : ℕ) (z y x : Files) → Kept total tag first f n z y → InFile (f + 1) Anyhow y x → Kept total tag first f n z x
+next_kept total tag first f n z y x k step =
+    let same : (g : ℕ) → g ≤ f → x g ≡ y g = λ g high. step.others g (omega arith) in
+    let w = writes_same total tag first f n y x k.writes (λ g low high. same g high) in
+    let none : is_full total (x f) ≡ true → (r : ℕ) → trail_from r total (f + 1) x ≡ [] = λ is. not_true _ (stands_full total n (x f) w.stands w.not_full) is in
+    record {
+      writes = w;
+      trail = λ m long.
+          grows_by total tag first f n y x [] k.writes (λ g low high. same g (omega arith)) (ap (sealed total) (same f (omega arith)) ∙ sym (append-nil (sealed total (y f)))) none m long
+          ∙ append-nil (trail_from m total first y) ∙ k.trail m long;
+      others = λ g one two. step.others g two ∙ k.others g one two;
+    }
+
+pub kept_same : (total tag first f n : ℕ) (z y x : Files) → Kept total tag first f n z y → x ≡ y → Kept total tag first f n z x
+kept_same total tag first f n z y x k same = subst (λ (l : Files). Kept total tag first f n z l) (sym same) k
+
+-- behind a file whose gates are all closed there is nothing
+pub none_behind : (total f : ℕ) (x : Files) → 0 < total → Stands total 0 (x f) → (r : ℕ) → trail_from r total f x ≡ []
+none_behind total f x some s zero = refl
+none_behind total f x some s (suc r) =
+    ap (λ b. cond b (sealed total (x f) ++ trail_from r total (f + 1) x) (sealed total (x f))) (stands_full total 0 (x f) s some) ∙ stands_sealed total 0 (x f) s
+
+-- ---- the gate
+
+module _ (total tag first f n : ℕ) (content : List ℕ) (z y : Files) (k : Kept total tag first f n z y) (long : 4096 * (n + 2) ≤ length (y f)) (block : block_at (n + 1) (y f) ≡ content)
+    (next : n + 1 ≡ total → Stands total 0 (y (f + 1))) (head : n + 1 ≡ total → header_fits (f + 1 - 10000) total (y (f + 1)) ≡ true) (mark : n + 1 ≡ total → tag_said (y (f + 1)) ≡ tag) (x : Files) (step : InFile f (Torn (511 + (n + 1)) 1) y x) where
+  none_next : (m : ℕ) → m ≤ n + 1 → Stands total m (x f) → is_full total (x f) ≡ true → (r : ℕ) → trail_from r total (f + 1) x ≡ []
+  none_next m few s is = elim (cases_eq (n + 1) total) [
+    | inl last ↦ none_behind total (f + 1) x (omega (arith, k.writes.some)) (subst (λ l. Stands total 0 l) (sym (step.others (f + 1) (omega arith))) (next last))
+    | inr not_last ↦ not_true _ (stands_full total m (x f) s (omega (arith, k.writes.not_full))) is
+  ]
+
+  below : (g : ℕ) → first ≤ g → g < f → x g ≡ y g
+  below g low high = step.others g (omega arith)
+
+  pub gate_others : (g : ℕ) → g ≢ f → g ≢ f + 1 → x g ≡ z g
+  gate_others g one two = step.others g one ∙ k.others g one two
+
+  gate_fits : (m : ℕ) → Stands total m (x f) → (g : ℕ) → first ≤ g → g ≤ f → header_fits (g - 10000) total (x g) ≡ true
+  gate_fits m s g low high = elim (cases_eq g f) [
+    | inl is ↦ subst (λ j. header_fits (j - 10000) total (x j) ≡ true) (sym is)
+        (fits_gate (f - 10000) total n m (y f) (x f) s k.writes.not_full k.writes.stands.few (omega (arith, long)) step.here (k.writes.fits f k.writes.order (omega arith)))
+    | inr other ↦ ap (header_fits (g - 10000) total) (step.others g other) ∙ k.writes.fits g low high
+  ]
+
+  gate_tags : (g : ℕ) → first ≤ g → g ≤ f → tag_said (x g) ≡ tag
+  gate_tags g low high = elim (cases_eq g f) [
+    | inl is ↦ ap (λ j. tag_said (x j)) is ∙ tag_gate n (y f) (x f) (omega (arith, long)) step.here ∙ k.writes.tags f k.writes.order (omega arith)
+    | inr other ↦ ap tag_said (step.others g other) ∙ k.writes.tags g low high
+  ]
+
+  opened_trail : gate (n + 1) (x f) ≡ 1 → (m : ℕ) → f < first + m → trail_from m total first x ≡ trail_from m total first z ++ content ∷ []
+  opened_trail is m far =
+      let s = opened_stands total n (y f) (x f) k.writes.stands k.writes.not_full long step.here is in
+      grows_by total tag first f n y x (content ∷ []) k.writes below
+          (opened_sealed total n (y f) (x f) k.writes.stands k.writes.not_full long step.here is ∙ ap (λ (l : List ℕ). sealed total (y f) ++ l ∷ []) block)
+          (none_next (n + 1) (omega arith) s) m far
+      ∙ ap (λ (l : List (List ℕ)). l ++ content ∷ []) (k.trail m far)
+
+  shut_trail : gate (n + 1) (x f) ≢ 1 → (m : ℕ) → f < first + m → trail_from m total first x ≡ trail_from m total first z
+  shut_trail not m far =
+      let s = shut_stands total n (y f) (x f) k.writes.stands k.writes.not_full long step.here not in
+      grows_by total tag first f n y x [] k.writes below
+          (shut_sealed total n (y f) (x f) k.writes.stands k.writes.not_full long step.here not ∙ sym (append-nil (sealed total (y f))))
+          (none_next n (omega arith) s) m far
+      ∙ append-nil (trail_from m total first y) ∙ k.trail m far
+
+  module _ (is : gate (n + 1) (x f) ≡ 1) where
+    stands : Stands total (n + 1) (x f)
+    stands = opened_stands total n (y f) (x f) k.writes.stands k.writes.not_full long step.here is
+
+    pub gate_writes : n + 1 ≢ total → Writes total tag first f (n + 1) x
+    gate_writes more = record {
+      order = k.writes.order;
+      some = k.writes.some;
+      not_full = omega (arith, k.writes.not_full);
+      full = λ g low high. ap (is_full total) (below g low high) ∙ k.writes.full g low high;
+      stands = stands;
+      fits = gate_fits (n + 1) stands;
+      tags = gate_tags;
+    }
+
+    full_now : n + 1 ≡ total → is_full total (x f) ≡ true
+    unfolding is_full
+    full_now last = let e = stands_opened total (n + 1) (x f) stands in grind (arith, nat_tests)
+
+    pub gate_writes_next : n + 1 ≡ total → Writes total tag first (f + 1) 0 x
+    gate_writes_next last = record {
+      order = omega (arith, k.writes.order);
+      some = k.writes.some;
+      not_full = omega (arith, k.writes.some);
+      full = λ g low high. elim (cases_eq g f) [
+        | inl here ↦ ap (λ j. is_full total (x j)) here ∙ full_now last
+        | inr other ↦ ap (is_full total) (below g low (omega arith)) ∙ k.writes.full g low (omega arith)
+      ];
+      stands = subst (λ l. Stands total 0 l) (sym (step.others (f + 1) (omega arith))) (next last);
+      fits = λ g low high. elim (cases_eq g (f + 1)) [
+        | inl here ↦ subst (λ j. header_fits (j - 10000) total (x j) ≡ true) (sym here) (ap (header_fits (f + 1 - 10000) total) (step.others (f + 1) (omega arith)) ∙ head last)
+        | inr other ↦ gate_fits (n + 1) stands g low (omega arith)
+      ];
+      tags = λ g low high. elim (cases_eq g (f + 1)) [
+        | inl here ↦ ap (λ j. tag_said (x j)) here ∙ ap tag_said (step.others (f + 1) (omega arith)) ∙ mark last
+        | inr other ↦ gate_tags g low (omega arith)
+      ];
+    }
+
+    opened_grows : Grows total tag first f (content ∷ []) z x
+    opened_grows = elim (cases_eq (n + 1) total) [
+      | inl last ↦ record { some = 1; within = omega arith; trail = opened_trail is; others = gate_others; file = f + 1; count = 0; writes = gate_writes_next last; low = omega arith; high = omega arith }
+      | inr more ↦ record { some = 1; within = omega arith; trail = opened_trail is; others = gate_others; file = f; count = n + 1; writes = gate_writes more; low = omega arith; high = omega arith }
+    ]
+
+  shut_writes : gate (n + 1) (x f) ≢ 1 → Writes total tag first f n x
+  shut_writes not =
+      let s = shut_stands total n (y f) (x f) k.writes.stands k.writes.not_full long step.here not in
+      record {
+        order = k.writes.order;
+        some = k.writes.some;
+        not_full = k.writes.not_full;
+        full = λ g low high. ap (is_full total) (below g low high) ∙ k.writes.full g low high;
+        stands = s;
+        fits = gate_fits n s;
+        tags = gate_tags;
+      }
+
+  -- the gate stands open, or it doesn't
+  pub gate_grows : Grows total tag first f (content ∷ []) z x
+  gate_grows = elim (cases_eq (gate (n + 1) (x f)) 1) [
+    | inl is ↦ opened_grows is
+    | inr not ↦ record { some = 0; within = omega arith; trail = λ m far. shut_trail not m far ∙ sym (append-nil (trail_from m total first z)); others = gate_others; file = f; count = n; writes = shut_writes not; low = omega arith; high = omega arith }
+  ]
+
+  module _ (whole : x f ≡ overlaid (511 + (n + 1)) (1 ∷ []) (y f)) where
+    is_one : gate (n + 1) (x f) ≡ 1
+    is_one =
+        let e : 511 + (n + 1) + 0 ≡ 511 + (n + 1) = omega arith in
+        ap (λ (l : List ℕ). get_or l (511 + (n + 1)) 0) whole
+        ∙ ap (λ k. get_or (overlaid (511 + (n + 1)) (1 ∷ []) (y f)) k 0) (sym e)
+        ∙ sym (get_or-range (511 + (n + 1)) 1 0 (overlaid (511 + (n + 1)) (1 ∷ []) (y f)) (omega arith))
+        ∙ ap (λ (l : List ℕ). get_or l 0 0) (range_overlaid (511 + (n + 1)) (1 ∷ []) (y f))
+
+    pub gate_done : (m : ℕ) → f < first + m → trail_from m total first x ≡ trail_from m total first z ++ content ∷ []
+    gate_done = opened_trail is_one
+
+    pub gate_done_writes : (n + 1 ≢ total → Writes total tag first f (n + 1) x) × (n + 1 ≡ total → Writes total tag first (f + 1) 0 x)
+    gate_done_writes = (gate_writes is_one, gate_writes_next is_one)
+
+-- ---- outcomes
+
+pub kept_grows : (total tag first f n : ℕ) (blocks : List (List ℕ)) (z x : Left) → Kept total tag first f n z.files x.files → x.said ≡ z.said → GrowsLeft total tag first f blocks z x
+kept_grows total tag first f n blocks z x k said = record {
+  files = record { some = 0; within = omega arith; trail = λ m far. k.trail m far ∙ sym (append-nil (trail_from m total first z.files)); others = k.others; file = f; count = n; writes = k.writes; low = omega arith; high = omega arith };
+  said = said;
+}
+
+-- behind the content that was written
+module _ (n : ℕ) (content old new : List ℕ) (size : length content ≡ 4096) (is : new ≡ overlaid (4096 * (n + 1)) content old) where
+  pub content_torn : Torn (4096 * (n + 1)) 4096 old new
+  content_torn = subst (λ l. Torn (4096 * (n + 1)) 4096 old l) (sym is) (subst (λ k. Torn (4096 * (n + 1)) k old (overlaid (4096 * (n + 1)) content old)) size (torn_overlaid (4096 * (n + 1)) content old))
+
+  pub content_long : 4096 * (n + 2) ≤ length new
+  content_long = omega (arith, ap length is, length-overlaid (4096 * (n + 1)) content old, size)
+
+  pub content_block : block_at (n + 1) new ≡ content
+  content_block = ap (λ l. range (4096 * (n + 1)) 4096 l) is ∙ subst (λ k. range (4096 * (n + 1)) k (overlaid (4096 * (n + 1)) content old) ≡ content) size (range_overlaid (4096 * (n + 1)) content old)
+
+-- ---- for the code
+
+pub record KeptLeft (total tag first f n : ℕ) (old new : Left) : Type 0 where
+  pub files : Kept total tag first f n old.files new.files
+  pub said : new.said ≡ old.said
+
+pub content_step : (total tag first f n : ℕ) (content : List ℕ) (old : Files) → Writes total tag first f n old → length content ≡ 4096 → (z x : Left) → ((g : ℕ) → first ≤ g → g ≤ f → z.files g ≡ old g)
+    → OnDisk f (Torn (4096 * (n + 1)) (length content)) z x → KeptLeft total tag first f n z x
+content_step total tag first f n content old w size z x same step = record {
+  files = content_kept total tag first f n z.files x.files (writes_same total tag first f n old z.files w same)
+      (subst (λ k. InFile f (Torn (4096 * (n + 1)) k) z.files x.files) size step.files);
+  said = step.said;
+}
+
+pub next_step : (total tag first f n : ℕ) (z y x : Left) → KeptLeft total tag first f n z y → OnDisk (f + 1) Anyhow y x → KeptLeft total tag first f n z x
+next_step total tag first f n z y x k step = record { files = next_kept total tag first f n z.files y.files x.files k.files step.files; said = step.said ∙ k.said }
+
+pub none_grows : (total tag first f n : ℕ) (blocks : List (List ℕ)) (z x : Left) → KeptLeft total tag first f n z x → GrowsLeft total tag first f blocks z x
+none_grows total tag first f n blocks z x k = kept_grows total tag first f n blocks z x k.files k.said
+
+-- what stands before the gate is written
+pub record Ready (total tag f n : ℕ) (content : List ℕ) (mid : Files) : Type 0 where
+  pub long : 4096 * (n + 2) ≤ length (mid f)
+  pub block : block_at (n + 1) (mid f) ≡ content
+  pub next : n + 1 ≡ total → Stands total 0 (mid (f + 1))
+  pub head : n + 1 ≡ total → header_fits (f + 1 - 10000) total (mid (f + 1)) ≡ true
+  pub mark : n + 1 ≡ total → tag_said (mid (f + 1)) ≡ tag
+
+pub ready : (total f n k : ℕ) (content head : List ℕ) (old one two : Files) → length content ≡ 4096 → total ≤ 512 → 8 ≤ total → f < 20000 → k ≡ f - 9999 → head ≡ new_header k total (tag_said head)
+    → one ≡ with_file old f (overlaid (4096 * (n + 1)) content (old f)) → (n + 1 ≡ total → two ≡ with_file one (f + 1) head) → (n + 1 ≢ total → two ≡ one) → Ready total (tag_said head) f n content two
+ready total f n k content head old one two size few many low k-is head-is first last not_last =
+    let here : one f ≡ overlaid (4096 * (n + 1)) content (old f) = ap (λ (l : Files). l f) first ∙ with_file_here old f (overlaid (4096 * (n + 1)) content (old f)) in
+    let same : two f ≡ one f = elim (cases_eq (n + 1) total) [
+      | inl is ↦ ap (λ (l : Files). l f) (last is) ∙ with_file_other one (f + 1) head f (omega arith)
+      | inr not ↦ ap (λ (l : Files). l f) (not_last not)
+    ] in
+    let is : two f ≡ overlaid (4096 * (n + 1)) content (old f) = same ∙ here in
+    let stands_next : n + 1 ≡ total → two (f + 1) ≡ head = λ at_last. ap (λ (l : Files). l (f + 1)) (last at_last) ∙ with_file_here one (f + 1) head in
+    let made : n + 1 ≡ total → two (f + 1) ≡ new_header k total (tag_said head) = λ at_last. stands_next at_last ∙ head-is in
+    record {
+      long = content_long n content (old f) (two f) size is;
+      block = content_block n content (old f) (two f) size is;
+      next = λ at_last. header_stands k total (tag_said head) (two (f + 1)) (made at_last) few;
+      head = λ at_last.
+          let e : f + 1 - 10000 ≡ k = omega arith in
+          ap (λ j. header_fits j total (two (f + 1))) e ∙ fits_new k total (tag_said head) (two (f + 1)) (made at_last) (header_stands k total (tag_said head) (two (f + 1)) (made at_last) few) (omega arith) many;
+      mark = λ at_last. ap tag_said (stands_next at_last);
+    }
+
+pub ready_same : (total tag f n : ℕ) (content : List ℕ) (mid y : Files) → y ≡ mid → Ready total tag f n content mid → Ready total tag f n content y
+ready_same total tag f n content mid y is r = subst (λ (l : Files). Ready total tag f n content l) (sym is) r
+
+pub gate_step : (total tag first f n : ℕ) (content : List ℕ) (z y x : Left) → KeptLeft total tag first f n z y → Ready total tag f n content y.files → OnDisk f (Torn (511 + (n + 1)) 1) y x → GrowsLeft total tag first f (content ∷ []) z x
+gate_step total tag first f n content z y x k r step = record {
+  files = gate_grows total tag first f n content z.files y.files k.files r.long r.block r.next r.head r.mark x.files step.files;
+  said = step.said ∙ k.said;
+}
+
+-- all three are done
+module _ (total tag first f n : ℕ) (content : List ℕ) (old one two three : Files) (w : Writes total tag first f n old) (size : length content ≡ 4096) (r : Ready total tag f n content two)
+    (wrote : one ≡ with_file old f (overlaid (4096 * (n + 1)) content (old f))) (others : InFile (f + 1) Anyhow one two) (gated : three ≡ with_file two f (overlaid (511 + (n + 1)) (1 ∷ []) (two f))) where
+  kept : Kept total tag first f n old two
+  kept = next_kept total tag first f n old one two
+      (content_kept total tag first f n old one w (record {
+        here = content_torn n content (old f) (one f) size (ap (λ (l : Files). l f) wrote ∙ with_file_here old f (overlaid (4096 * (n + 1)) content (old f)));
+        others = λ g ne. ap (λ (l : Files). l g) wrote ∙ with_file_other old f (overlaid (4096 * (n + 1)) content (old f)) g ne;
+      })) others
+
+  whole : three f ≡ overlaid (511 + (n + 1)) (1 ∷ []) (two f)
+  whole = ap (λ (l : Files). l f) gated ∙ with_file_here two f (overlaid (511 + (n + 1)) (1 ∷ []) (two f))
+
+  step : InFile f (Torn (511 + (n + 1)) 1) two three
+  step = record {
+    here = subst (λ l. Torn (511 + (n + 1)) 1 (two f) l) (sym whole) (torn_overlaid (511 + (n + 1)) (1 ∷ []) (two f));
+    others = λ g ne. ap (λ (l : Files). l g) gated ∙ with_file_other two f (overlaid (511 + (n + 1)) (1 ∷ []) (two f)) g ne;
+  }
+
+  pub done_trail : (m : ℕ) → f < first + m → trail_from m total first three ≡ trail_from m total first old ++ content ∷ []
+  done_trail = gate_done total tag first f n content old two kept r.long r.block r.next r.head r.mark three step whole
+
+  pub done_writes : (n + 1 ≢ total → Writes total tag first f (n + 1) three) × (n + 1 ≡ total → Writes total tag first (f + 1) 0 three)
+  done_writes = gate_done_writes total tag first f n content old two kept r.long r.block r.next r.head r.mark three step whole
+
+  pub done_others : (g : ℕ) → g ≢ f → g ≢ f + 1 → three g ≡ old g
+  done_others = gate_others total tag first f n content old two kept r.long r.block r.next r.head r.mark three step
+
+-- ---- a file that is started
+
+overlaid_none : (head : List ℕ) → overlaid 0 head [] ≡ head
+unfolding overlaid padded
+overlaid_none head = ap (λ (l : List ℕ). head ++ l) (drop_all (0 + length head) [] (omega arith)) ∙ append-nil head
+
+pub start_is : (old mid new : Files) (f : ℕ) (head : List ℕ) → mid ≡ with_file old f (take 0 (old f)) → new ≡ with_file mid f (overlaid 0 head (mid f)) → new ≡ with_file old f head
+start_is old mid new f head first then = λ i g. at_each g i
+  where
+    here : new f ≡ head
+    here = ap (λ (l : Files). l f) then ∙ with_file_here mid f (overlaid 0 head (mid f)) ∙ ap (λ (l : List ℕ). overlaid 0 head l) (ap (λ (l : Files). l f) first ∙ with_file_here old f (take 0 (old f))) ∙ overlaid_none head
+    at_each : (g : ℕ) → new g ≡ with_file old f head g
+    at_each g = elim (cases_eq g f) [
+      | inl is ↦ ap new is ∙ here ∙ sym (with_file_here old f head) ∙ ap (with_file old f head) (sym is)
+      | inr other ↦ ap (λ (l : Files). l g) then ∙ with_file_other mid f (overlaid 0 head (mid f)) g other ∙ ap (λ (l : Files). l g) first ∙ with_file_other old f (take 0 (old f)) g other ∙ sym (with_file_other old f head g other)
+    ]
+
+pub anyhow : {one : List ℕ → List ℕ → Type 0} (f : ℕ) (y x : Left) → OnDisk f one y x → OnDisk f Anyhow y x
+anyhow f y x step = record { files = record { here = tt; others = step.files.others }; said = step.said }
+
+pub anyhow_after : {one two : List ℕ → List ℕ → Type 0} (f : ℕ) (z y x : Left) → OnDisk f one z y → OnDisk f two y x → OnDisk f Anyhow z x
+anyhow_after f z y x r s = record { files = record { here = tt; others = λ g ne. s.files.others g ne ∙ r.files.others g ne }; said = s.said ∙ r.said }
+
+pub next_others : (f n total : ℕ) (one two : Files) (head : List ℕ) → (n + 1 ≡ total → two ≡ with_file one (f + 1) head) → (n + 1 ≢ total → two ≡ one) → InFile (f + 1) Anyhow one two
+next_others f n total one two head last not_last = record {
+  here = tt;
+  others = λ g ne. elim (cases_eq (n + 1) total) [
+    | inl is ↦ ap (λ (l : Files). l g) (last is) ∙ with_file_other one (f + 1) head g ne
+    | inr not ↦ ap (λ (l : Files). l g) (not_last not)
+  ];
+}
+
+pub all_others : (f n : ℕ) (content : List ℕ) (old one two three : Files) → one ≡ with_file old f (overlaid (4096 * (n + 1)) content (old f)) → InFile (f + 1) Anyhow one two → three ≡ with_file two f (overlaid (511 + (n + 1)) (1 ∷ []) (two f))
+    → (g : ℕ) → g ≢ f → g ≢ f + 1 → three g ≡ old g
+all_others f n content old one two three wrote others gated g here next =
+    ap (λ (l : Files). l g) gated ∙ with_file_other two f (overlaid (511 + (n + 1)) (1 ∷ []) (two f)) g here
+    ∙ others.others g next
+    ∙ ap (λ (l : Files). l g) wrote ∙ with_file_other old f (overlaid (4096 * (n + 1)) content (old f)) g here

@@ -1,0 +1,40 @@
+use Rattle.std.proofs.Common.{◌≡◌, ◌+◌, ◌-◌, ◌≤◌, ◌<◌, ◌∙◌, ap, sym, refl, subst, arith, ℕ, List}
+use Rattle.dms_site.specs.Files.{Files}
+use Rattle.dms_audfile.specs.Header.{tag_said}
+use Rattle.dms_audfile.specs.Scanning.{Read, files_read, first_foreign, outcome_of, foreign, found}
+use Rattle.dms_audfile.specs.Reads.{NotScanned}
+use Rattle.dms_audfile.proofs.Reading.{not_scanned, scans_disk, read_found, read_foreign, reads_on}
+use Rattle.dms_audfile.proofs.scanning.read_trail.Goals as goal
+
+pub returns-in-Err-clause-read : goal.returns-in-Err-clause-read
+returns-in-Err-clause-read g c tells = not_scanned _ _ _ _ _ refl (c.in-Err.ensures.read tells)
+
+pub returns-in-Err-tag_in-clause-read : goal.returns-in-Err-tag_in-clause-read
+returns-in-Err-tag_in-clause-read g c tells = scans_disk _ c.in-Err-tag_in.fault c.in-Err-tag_in.ensures.only
+
+pub returns-in-Err-first_foreign-clause-read : goal.returns-in-Err-first_foreign-clause-read
+returns-in-Err-first_foreign-clause-read g c tells = scans_disk _ c.in-Err-first_foreign.fault c.in-Err-first_foreign.ensures.only
+
+pub returns-then-other-end-clause-read : goal.returns-then-other-end-clause-read
+returns-then-other-end-clause-read g c tells =
+    let files = g.S.Site.files c.args.site.now in
+    let k : ℕ = c.args.end - c.args.first in
+    let one = c.in-Ok.ensures.reads.files_stay tells in
+    let two = c.in-Ok-tag_in.ensures.reads.files_stay tells ∙ one in
+    let tag_is = c.in-Ok-tag_in.ensures.said tells ∙ ap (λ (l : Files). tag_said (l c.args.first)) one in
+    let at : c.in-Ok-first_foreign.other ≡ first_foreign k (tag_said (files c.args.first)) c.args.first files = c.in-Ok-first_foreign.ensures.found tells ∙ (λ i. first_foreign k (tag_is i) c.args.first (two i)) in
+    let r : Read = files_read k c.args.total c.args.first files in
+    subst (λ h. outcome_of r h c.args.end ≡ foreign (c.in-Ok-first_foreign.other - 10000)) at
+    (read_foreign c.args.places.now.items c.read_files.new.places.items r c.in-Ok-first_foreign.other c.args.end c.requires.none (c.in-Ok.ensures.read tells) c.if-other-end.true)
+
+pub returns-else-other-end-clause-read : goal.returns-else-other-end-clause-read
+returns-else-other-end-clause-read g c tells =
+    let files = g.S.Site.files c.args.site.now in
+    let k : ℕ = c.args.end - c.args.first in
+    let one = c.in-Ok.ensures.reads.files_stay tells in
+    let two = c.in-Ok-tag_in.ensures.reads.files_stay tells ∙ one in
+    let tag_is = c.in-Ok-tag_in.ensures.said tells ∙ ap (λ (l : Files). tag_said (l c.args.first)) one in
+    let at : c.in-Ok-first_foreign.other ≡ first_foreign k (tag_said (files c.args.first)) c.args.first files = c.in-Ok-first_foreign.ensures.found tells ∙ (λ i. first_foreign k (tag_is i) c.args.first (two i)) in
+    let r : Read = files_read k c.args.total c.args.first files in
+    subst (λ h. outcome_of r h c.args.end ≡ found c.read_files.new.places.items) at
+    (read_found c.args.places.now.items c.read_files.new.places.items r c.in-Ok-first_foreign.other c.args.end c.requires.none (c.in-Ok.ensures.read tells) c.if-other-end.false)

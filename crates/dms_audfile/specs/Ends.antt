@@ -1,0 +1,33 @@
+-- Where an audit trail ends, and what a stop leaves while entries are appended to it and sealed.
+use Rattle.std.specs.Prelude.{ℕ, ◌+◌, ◌<◌, ◌≤◌, ◌≡◌, ◌⊎◌, List, [], ◌∷◌, ◌++◌, length, take, drop}
+use Rattle.dms_moments.specs.Moments.{Clock}
+use Rattle.dms_site.specs.Files.{Files, Left, OnlyIn}
+use Rattle.dms_history.specs.Entries.{Entry}
+use Rattle.dms_audfile.specs.BlockLaws.{spellings, ArePlain, IsAlone}
+use Rattle.dms_audfile.specs.Sealing.{Writes}
+use Rattle.dms_audfile.specs.TrailEntries.{trail_entries}
+use Rattle.dms_audfile.specs.declared.audit_end.AuditEnd.{AuditEnd}
+
+-- the bytes of the entries that aren't sealed
+abbrev pub unsealed : AuditEnd → List ℕ
+unsealed end = take end.used (drop 2 end.block.items)
+
+-- The trail that begins with file `first` ends where this value says, nothing of its files is pending, and these entries wait to be sealed.
+pub record EndsAt (end : AuditEnd) (first : ℕ) (waiting : List Entry) (files : Files) (clock : Clock Left) : Type 0 where
+  pub low : 10001 ≤ first
+  pub writes : Writes end.total end.tag first end.file end.count files
+  pub settled : (g : ℕ) → first ≤ g → g ≤ end.file → OnlyIn g files clock
+  pub bytes : unsealed end ≡ spellings waiting
+  pub plain : ArePlain waiting
+
+-- The entries of the trail are the old ones and the first of some that wait. It is again a trail that a writer keeps, with
+-- the same number of blocks a file and the same tag. Only audit files change, and nothing is printed.
+pub record Seals (total tag first : ℕ) (waiting : List Entry) (old new : Left) : Type 0 where
+  pub some : ℕ
+  pub entries : trail_entries total first new.files ≡ trail_entries total first old.files ++ take some waiting
+  pub file : ℕ
+  pub count : ℕ
+  pub writes : Writes total tag first file count new.files
+  pub below : (g : ℕ) → g < first → new.files g ≡ old.files g
+  pub above : (g : ℕ) → 20000 < g → new.files g ≡ old.files g
+  pub said : new.said ≡ old.said

@@ -1,0 +1,12 @@
+pub mod BlockLaws
+pub mod Blocks
+pub mod Gates
+pub mod Header
+pub mod Reads
+pub mod Scanning
+pub mod Trail
+pub mod TrailLaws
+pub mod Sealing
+pub mod Ends
+pub mod TrailEntries
+pub mod Unsealed

@@ -1,0 +1,85 @@
+-- What a function that adds places has read.
+use Rattle.std.specs.declared.result.Result.{Result}
+use Rattle.std.specs.declared.result.Result.TheVariants.{Ok, Err}
+use Rattle.std.specs.Prelude.{ℕ, ◌≤◌, ◌≡◌, Bool, true, false, List, [], ◌++◌, IsTrue, Option, Some, None}
+use Rattle.dms_moments.specs.Moments.{Clock, Steps}
+use Rattle.dms_site.specs.Files.{Files, Left, Same}
+use Rattle.dms_audfile.specs.Scanning.{Read, broken, whole, behind, Outcome, unsealed, missing, damaged, foreign, found, scanned}
+use Rattle.dms_audfile.specs.Trail.{Span}
+use Rattle.dms_audfile.specs.declared.fault.AudFault.{AudFault}
+use Rattle.dms_audfile.specs.declared.fault.AudFault.TheVariants.{NoDatabase, Disk, Full, Missing, Unsealed, Damaged, Foreign, Memory}
+use Rattle.dms_audfile.specs.Header.{says_blocks, blocks_said}
+use Rattle.dms_audfile.specs.declared.place.Place.{Place}
+
+-- nothing of it is whole
+abbrev pub IsBroken : Read → Type 0
+IsBroken (broken f b) = Unit {0}
+IsBroken (whole ps) = ⊥
+
+-- so was it read: behind the places from before, or it is broken
+abbrev pub ReadInto : List Place → Read → List Place → Bool → Type 0
+ReadInto old read new true = whole new ≡ behind old read
+ReadInto old read new false = IsBroken read
+
+-- a call that reads alone
+pub record OnlyReads (tells : Bool) (files new_files : Files) (text new_text : List ℕ) (clock new_clock : Clock Left) (disk new_disk say new_say : ℕ) : Type 0 where
+  pub files_stay : IsTrue tells → new_files ≡ files
+  pub text_stays : new_text ≡ text
+  pub moments : Steps Same clock new_clock
+  pub later : disk ≤ new_disk
+  pub say_faults : new_say ≡ say
+
+-- why it wasn't read: its first broken place is answered; a failure of the disk or want of memory says nothing
+abbrev pub NotRead : Read → AudFault → Type 0
+NotRead read NoDatabase = ⊥
+NotRead read Disk = Unit {0}
+NotRead read (Full k) = ⊥
+NotRead read (Missing k) = ⊥
+NotRead read (Unsealed k) = ⊥
+NotRead read (Damaged f b) = read ≡ broken f b
+NotRead read (Foreign k) = ⊥
+NotRead read Memory = Unit {0}
+
+-- so was it read: behind the places from before, or it wasn't
+abbrev pub ReadFound : {T : Type 0} → List Place → Read → List Place → Result T AudFault → Type 0
+ReadFound old read new (Ok done) = whole new ≡ behind old read
+ReadFound old read new (Err fault) = NotRead read fault
+
+-- why it wasn't scanned: the first refusal in order is answered; a failure of the disk or want of memory says nothing
+abbrev pub NotScanned : Outcome → AudFault → Type 0
+NotScanned outcome NoDatabase = ⊥
+NotScanned outcome Disk = Unit {0}
+NotScanned outcome (Full k) = ⊥
+NotScanned outcome (Missing k) = outcome ≡ missing k
+NotScanned outcome (Unsealed k) = outcome ≡ unsealed k
+NotScanned outcome (Damaged f b) = outcome ≡ damaged f b
+NotScanned outcome (Foreign k) = outcome ≡ foreign k
+NotScanned outcome Memory = Unit {0}
+
+-- so was it scanned
+abbrev pub Scans : {T : Type 0} → Outcome → List Place → Result T AudFault → Type 0
+Scans outcome new (Ok done) = outcome ≡ found new
+Scans outcome new (Err fault) = NotScanned outcome fault
+
+-- the number of blocks that a file says, or none
+abbrev pub Says : List ℕ → Option ℕ → Type 0
+Says file None = says_blocks file ≡ false
+Says file (Some n) = (says_blocks file ≡ true) × (n ≡ blocks_said file)
+
+-- of the trail's files scanning finds what has P
+pub record InSpan (files : Files) (P : Outcome → Type 0) : Type 0 where
+  pub first : ℕ
+  pub last : ℕ
+  pub span : Span files first last
+  pub is : P (scanned first last files)
+
+-- why scanning is refused
+abbrev pub Refuses : Files → AudFault → Type 0
+Refuses files NoDatabase = (g : ℕ) → 10001 ≤ g → g ≤ 20000 → files g ≡ []
+Refuses files Disk = Unit {0}
+Refuses files (Full k) = ⊥
+Refuses files (Missing k) = InSpan files (λ outcome. outcome ≡ missing k)
+Refuses files (Unsealed k) = InSpan files (λ outcome. outcome ≡ unsealed k)
+Refuses files (Damaged f b) = InSpan files (λ outcome. outcome ≡ damaged f b)
+Refuses files (Foreign k) = InSpan files (λ outcome. outcome ≡ foreign k)
+Refuses files Memory = Unit {0}

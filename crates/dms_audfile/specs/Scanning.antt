@@ -1,0 +1,79 @@
+-- What scanning the trail finds: its first refusal, or where its entries are.
+use Rattle.std.specs.Prelude.{ℕ, zero, suc, ◌+◌, ◌-◌, ◌≡◌, ◌==◌, nat_le, nat_lt, if◌then◌else◌, List, [], ◌∷◌, ◌++◌, map, Option, Some, None}
+use Rattle.dms_site.specs.Files.{Files}
+use Rattle.dms_audfile.specs.Gates.{block_at, opened}
+use Rattle.dms_audfile.specs.Header.{header_fits, says_blocks, blocks_said, tag_said}
+use Rattle.dms_audfile.specs.Blocks.{Entered, block_entries}
+use Rattle.dms_audfile.specs.Trail.{first_open}
+use Rattle.dms_audfile.specs.declared.place.Place.{Place}
+
+-- the first place, by file and block, that isn't in its grammar (block 0 is the header), or where the entries are
+pub data Read : Type 0 where
+  broken : ℕ → ℕ → Read
+  whole : List Place → Read
+
+-- these places first
+abbrev pub behind : List Place → Read → Read
+behind ps (broken f b) = broken f b
+behind ps (whole qs) = whole (ps ++ qs)
+
+abbrev pub then_read : Read → Read → Read
+then_read (broken f b) next = broken f b
+then_read (whole ps) next = behind ps next
+
+abbrev pub place_of : ℕ → ℕ → Entered → Place
+place_of f b e = record { file = f; block = b; offset = e.offset }
+
+abbrev pub places_of : ℕ → ℕ → Option (List Entered) → Read
+places_of f b None = broken f b
+places_of f b (Some es) = whole (map (place_of f b) es)
+
+-- n blocks of file f from block i on
+abbrev pub blocks_read : ℕ → ℕ → ℕ → List ℕ → Read
+blocks_read zero i f file = whole []
+blocks_read (suc n) i f file = then_read (places_of f i (block_entries (block_at i file))) (blocks_read n (i + 1) f file)
+
+unfoldable pub file_read : ℕ → ℕ → List ℕ → Read
+file_read total f file = if header_fits (f - 10000) total file then blocks_read (opened total file) 1 f file else broken f 0
+
+-- n files from file f on
+abbrev pub files_read : ℕ → ℕ → ℕ → Files → Read
+files_read zero total f files = whole []
+files_read (suc n) total f files = then_read (file_read total f (files f)) (files_read n total (f + 1) files)
+
+-- the first file with another tag among n from file f on, or the file behind them
+abbrev pub first_foreign : ℕ → ℕ → ℕ → Files → ℕ
+first_foreign zero tag f files = f
+first_foreign (suc n) tag f files = if tag_said (files f) == tag then first_foreign n tag (f + 1) files else f
+
+-- the refusals by the numbers of audit files, and the places of all entries
+pub data Outcome : Type 0 where
+  unsealed : ℕ → Outcome
+  missing : ℕ → Outcome
+  damaged : ℕ → ℕ → Outcome
+  foreign : ℕ → Outcome
+  found : List Place → Outcome
+
+-- all that was read is in its grammar up to the file before `end`, and g is the first of another tag
+abbrev pub outcome_of : Read → ℕ → ℕ → Outcome
+outcome_of (broken f b) g end = damaged f b
+outcome_of (whole ps) g end = if nat_lt g end then foreign (g - 10000) else found ps
+
+-- what is found of the files first to the file before `end`
+abbrev pub trail_read : ℕ → ℕ → ℕ → Files → Outcome
+trail_read first end total files =
+    outcome_of (files_read (end - first) total first files) (first_foreign (end - first) (tag_said (files first)) first files) end
+
+-- e is the first file that isn't full, or behind the last
+abbrev pub outcome_at : ℕ → ℕ → ℕ → ℕ → Files → Outcome
+outcome_at total first last e files =
+    if nat_lt last e then missing (last - 9999)
+    else if nat_le (e + 2) last then unsealed (e - 10000)
+    else trail_read first (e + 1) total files
+
+-- what scanning the files first to last finds, by the first refusal in order
+unfoldable pub scanned : ℕ → ℕ → Files → Outcome
+scanned first last files =
+    if says_blocks (files first)
+    then outcome_at (blocks_said (files first)) first last (first_open (last + 1 - first) (blocks_said (files first)) first files) files
+    else damaged first 0

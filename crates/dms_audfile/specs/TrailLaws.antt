@@ -1,0 +1,36 @@
+-- What scanning finds is a function of the trail alone, where the headers that it reaches are in the grammar.
+use Rattle.std.specs.Prelude.{ℕ, ◌+◌, ◌<◌, ◌≤◌, ◌≡◌, ◌==◌, if◌then◌else◌, true, List, [], ◌∷◌, ◌++◌}
+use Rattle.dms_site.specs.Files.{Files}
+use Rattle.dms_audfile.specs.Blocks.{block_entries}
+use Rattle.dms_audfile.specs.Trail.{trail_from}
+use Rattle.dms_audfile.specs.Sealing.{Writes}
+use Rattle.dms_audfile.specs.Scanning.{Read, whole, then_read, places_of, Outcome, broken, damaged, found, scanned}
+use Rattle.dms_audfile.specs.declared.place.Place.{Place}
+
+-- where the entries of sealed blocks are, the first being block i of file f, each file having so many blocks
+abbrev pub read_trail : ℕ → ℕ → ℕ → List (List ℕ) → Read
+read_trail total f i [] = whole []
+read_trail total f i (block ∷ blocks) = then_read (places_of f i (block_entries block)) (if i == total then read_trail total (f + 1) 1 blocks else read_trail total f (i + 1) blocks)
+
+-- what is found where no file has another tag
+abbrev pub all_of : Read → Outcome
+all_of (broken f b) = damaged f b
+all_of (whole ps) = found ps
+
+-- Of files that a writer keeps, whether the file behind the last one is there or not.
+abbrev pub ScansTrail : Type 0
+ScansTrail = (total tag first f n last m : ℕ) (files : Files) → Writes total tag first f n files → f ≤ last → last ≤ f + 1 → f < first + m
+    → scanned first last files ≡ all_of (read_trail total first 1 (trail_from m total first files))
+
+-- Files in which scanning finds no refusal are such as a writer keeps.
+pub record IsKept (first last : ℕ) (files : Files) : Type 0 where
+  pub total : ℕ
+  pub tag : ℕ
+  pub file : ℕ
+  pub count : ℕ
+  pub writes : Writes total tag first file count files
+  pub low : file ≤ last
+  pub high : last ≤ file + 1
+
+abbrev pub FoundIsKept : Type 0
+FoundIsKept = (first last : ℕ) (files : Files) (ps : List Place) → first ≤ last → scanned first last files ≡ found ps → IsKept first last files

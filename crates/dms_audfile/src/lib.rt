@@ -1,0 +1,21 @@
+//! Audit files: blocks that count once their gate is open, sealed one by one, and found again.
+#![tactic(auto)]
+
+mod audit_end;
+mod blocks;
+mod bytes;
+mod end;
+mod fault;
+mod header;
+pub mod laws;
+mod place;
+mod scanning;
+mod sealing;
+mod whole;
+
+pub use audit_end::AuditEnd;
+pub use fault::AudFault;
+pub use place::Place;
+pub use scanning::scan_span;
+pub use whole::scan;
+pub use sealing::seal_block;

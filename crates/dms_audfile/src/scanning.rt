@@ -1,0 +1,240 @@
+ghost use Rattle.std.specs.Prelude.{◌≡◌, ◌≤◌, ◌<◌, ◌+◌, ◌-◌, ◌*◌, ◌^◌, [], length, take, drop, IfOk, IfErr, IfSome, IsErrOf, IsTrue};
+ghost use Rattle.dms_base.specs.Causes.{Rose};
+ghost use Rattle.dms_site.specs.Files.{range};
+ghost use Rattle.dms_audfile.specs.Gates.{block_at, opened, is_full};
+ghost use Rattle.dms_audfile.specs.Header.{header_fits, tag_said};
+ghost use Rattle.dms_audfile.specs.Trail.{first_open};
+ghost use Rattle.dms_audfile.specs.Scanning.{blocks_read, file_read, files_read, first_foreign, trail_read, scanned};
+ghost use Rattle.dms_audfile.specs.Reads.{OnlyReads, ReadFound, Scans, Says};
+
+use crate::blocks::read_block;
+use crate::header::{fits, opened, says_blocks, tag_said};
+use crate::{AudFault, Place};
+use dms_site::Site;
+use std::alloc::Global;
+
+/// Reads 4,096 bytes from block `number` of an audit file on, its header being number 0; answers how many stand there.
+fn load<S: Site>(site: &mut S, file: u32, number: u32, into: &mut [u8]) -> Result<usize, AudFault>
+    requires size { length into.old ≡ 4096 }
+    requires low { number ≤ 512 }
+    ensures count { IfOk result (λ n. n ≤ 4096) }
+    ensures bytes { IfOk result (λ n. IsTrue S.tells → take n into.new ≡ block_at number (S.files site.old file)) }
+    ensures reads { OnlyReads S.tells (S.files site.old) (S.files site.new) (S.said site.old) (S.said site.new) (S.clock site.old) (S.clock site.new) (S.disk_faults site.old) (S.disk_faults site.new) (S.say_faults site.old) (S.say_faults site.new) }
+    ensures only { IfErr result (λ e. e ≡ AudFault.Disk) }
+    ensures same_site { S.same_site site.old site.new }
+    ensures disk { IsErrOf result AudFault.Disk → Rose (S.disk_faults site.old) (S.disk_faults site.new) }
+{
+    match site.read(file, 4096 * u64::from(number), into) {
+        Ok(n) => Ok(n),
+        Err(_) => Err(AudFault::Disk),
+    }
+}
+
+/// How many gates of a file are open from the first on.
+fn opened_in<S: Site>(site: &mut S, file: u32, total: u32, buffer: &mut [u8]) -> Result<u32, AudFault>
+    requires size { length buffer.old ≡ 4096 }
+    requires few { total ≤ 512 }
+    ensures opened { IfOk result (λ n. IsTrue S.tells → n ≡ opened total (S.files site.old file)) }
+    ensures bound { IfOk result (λ n. n ≤ total) }
+    ensures reads { OnlyReads S.tells (S.files site.old) (S.files site.new) (S.said site.old) (S.said site.new) (S.clock site.old) (S.clock site.new) (S.disk_faults site.old) (S.disk_faults site.new) (S.say_faults site.old) (S.say_faults site.new) }
+    ensures only { IfErr result (λ e. e ≡ AudFault.Disk) }
+    ensures same_site { S.same_site site.old site.new }
+    ensures disk { IsErrOf result AudFault.Disk → Rose (S.disk_faults site.old) (S.disk_faults site.new) }
+{
+    let n = load(site, file, 0, buffer)?;
+    Ok(opened(&buffer[..n], total))
+}
+
+/// The first file that isn't full, from `first` to `last`, or the number behind the last.
+fn first_open<S: Site>(site: &mut S, first: u32, last: u32, total: u32, buffer: &mut [u8]) -> Result<u32, AudFault>
+    requires size { length buffer.old ≡ 4096 }
+    requires few { total ≤ 512 }
+    requires order { first ≤ last }
+    requires high { last ≤ 20000 }
+    ensures found { IfOk result (λ e. IsTrue S.tells → e ≡ first_open (last + 1 - first) total first (S.files site.old)) }
+    ensures bound { IfOk result (λ e. (first ≤ e) × (e ≤ last + 1)) }
+    ensures reads { OnlyReads S.tells (S.files site.old) (S.files site.new) (S.said site.old) (S.said site.new) (S.clock site.old) (S.clock site.new) (S.disk_faults site.old) (S.disk_faults site.new) (S.say_faults site.old) (S.say_faults site.new) }
+    ensures only { IfErr result (λ e. e ≡ AudFault.Disk) }
+    ensures same_site { S.same_site site.old site.new }
+    ensures disk { IsErrOf result AudFault.Disk → Rose (S.disk_faults site.old) (S.disk_faults site.new) }
+{
+    for file in first..last + 1 {
+        let open = opened_in(site, file, total, buffer)?;
+        if open != total {
+            return Ok(file);
+        }
+    }
+    Ok(last + 1)
+}
+
+/// Adds where the entries of the first `count` blocks of a file begin.
+fn read_blocks<S: Site>(site: &mut S, file: u32, count: u32, buffer: &mut [u8], places: &mut Vec<Place>) -> Result<(), AudFault>
+    requires size { length buffer.old ≡ 4096 }
+    requires few { count ≤ 512 }
+    ensures read { IsTrue S.tells → ReadFound places.old.items (blocks_read count 1 file (S.files site.old file)) places.new.items result }
+    ensures reads { OnlyReads S.tells (S.files site.old) (S.files site.new) (S.said site.old) (S.said site.new) (S.clock site.old) (S.clock site.new) (S.disk_faults site.old) (S.disk_faults site.new) (S.say_faults site.old) (S.say_faults site.new) }
+    ensures same_site { S.same_site site.old site.new }
+    ensures disk { IsErrOf result AudFault.Disk → Rose (S.disk_faults site.old) (S.disk_faults site.new) }
+{
+    for number in 1..count + 1 {
+        let n = match load(site, file, number, buffer) {
+            Ok(n) => n,
+            Err(fault) => return Err(fault),
+        };
+        match read_block(&buffer[..n], file, number, places) {
+            Ok(true) => {}
+            Ok(false) => return Err(AudFault::Damaged(file, number)),
+            Err(_) => return Err(AudFault::Memory),
+        }
+    }
+    Ok(())
+}
+
+/// Adds where the entries of a file begin.
+fn read_file<S: Site>(site: &mut S, file: u32, total: u32, buffer: &mut [u8], places: &mut Vec<Place>) -> Result<(), AudFault>
+    requires size { length buffer.old ≡ 4096 }
+    requires few { total ≤ 512 }
+    requires low { 10001 ≤ file }
+    ensures read { IsTrue S.tells → ReadFound places.old.items (file_read total file (S.files site.old file)) places.new.items result }
+    ensures reads { OnlyReads S.tells (S.files site.old) (S.files site.new) (S.said site.old) (S.said site.new) (S.clock site.old) (S.clock site.new) (S.disk_faults site.old) (S.disk_faults site.new) (S.say_faults site.old) (S.say_faults site.new) }
+    ensures same_site { S.same_site site.old site.new }
+    ensures disk { IsErrOf result AudFault.Disk → Rose (S.disk_faults site.old) (S.disk_faults site.new) }
+{
+    let n = match load(site, file, 0, buffer) {
+        Ok(n) => n,
+        Err(fault) => return Err(fault),
+    };
+    if !fits(&buffer[..n], file - 10000, total) {
+        return Err(AudFault::Damaged(file, 0));
+    }
+    let count = opened(&buffer[..n], total);
+    read_blocks(site, file, count, buffer, places)
+}
+
+/// Adds where the entries of files begin, up to the file before `end`.
+fn read_files<S: Site>(site: &mut S, first: u32, end: u32, total: u32, buffer: &mut [u8], places: &mut Vec<Place>) -> Result<(), AudFault>
+    requires size { length buffer.old ≡ 4096 }
+    requires few { total ≤ 512 }
+    requires low { 10001 ≤ first }
+    requires order { first ≤ end }
+    ensures read { IsTrue S.tells → ReadFound places.old.items (files_read (end - first) total first (S.files site.old)) places.new.items result }
+    ensures reads { OnlyReads S.tells (S.files site.old) (S.files site.new) (S.said site.old) (S.said site.new) (S.clock site.old) (S.clock site.new) (S.disk_faults site.old) (S.disk_faults site.new) (S.say_faults site.old) (S.say_faults site.new) }
+    ensures same_site { S.same_site site.old site.new }
+    ensures disk { IsErrOf result AudFault.Disk → Rose (S.disk_faults site.old) (S.disk_faults site.new) }
+{
+    for file in first..end {
+        match read_file(site, file, total, buffer, places) {
+            Ok(()) => {}
+            Err(fault) => return Err(fault),
+        }
+    }
+    Ok(())
+}
+
+/// The number of blocks that the header of a file says; None where it says none.
+fn blocks_in<S: Site>(site: &mut S, file: u32, buffer: &mut [u8]) -> Result<Option<u16>, AudFault>
+    requires size { length buffer.old ≡ 4096 }
+    ensures said { IfOk result (λ n. IsTrue S.tells → Says (S.files site.old file) n) }
+    ensures few { IfOk result (λ n. IfSome n (λ k. k ≤ 512)) }
+    ensures reads { OnlyReads S.tells (S.files site.old) (S.files site.new) (S.said site.old) (S.said site.new) (S.clock site.old) (S.clock site.new) (S.disk_faults site.old) (S.disk_faults site.new) (S.say_faults site.old) (S.say_faults site.new) }
+    ensures only { IfErr result (λ e. e ≡ AudFault.Disk) }
+    ensures same_site { S.same_site site.old site.new }
+    ensures disk { IsErrOf result AudFault.Disk → Rose (S.disk_faults site.old) (S.disk_faults site.new) }
+{
+    let n = load(site, file, 0, buffer)?;
+    Ok(says_blocks(&buffer[..n]))
+}
+
+/// The tag that the header of a file says.
+fn tag_in<S: Site>(site: &mut S, file: u32, buffer: &mut [u8]) -> Result<u64, AudFault>
+    requires size { length buffer.old ≡ 4096 }
+    ensures said { IfOk result (λ tag. IsTrue S.tells → tag ≡ tag_said (S.files site.old file)) }
+    ensures reads { OnlyReads S.tells (S.files site.old) (S.files site.new) (S.said site.old) (S.said site.new) (S.clock site.old) (S.clock site.new) (S.disk_faults site.old) (S.disk_faults site.new) (S.say_faults site.old) (S.say_faults site.new) }
+    ensures only { IfErr result (λ e. e ≡ AudFault.Disk) }
+    ensures same_site { S.same_site site.old site.new }
+    ensures disk { IsErrOf result AudFault.Disk → Rose (S.disk_faults site.old) (S.disk_faults site.new) }
+{
+    let n = load(site, file, 0, buffer)?;
+    Ok(tag_said(&buffer[..n]))
+}
+
+/// The first file whose header says another tag than that, from `first` to the file before `end`, or `end`.
+fn first_foreign<S: Site>(site: &mut S, first: u32, end: u32, tag: u64, buffer: &mut [u8]) -> Result<u32, AudFault>
+    requires size { length buffer.old ≡ 4096 }
+    requires order { first ≤ end }
+    ensures found { IfOk result (λ e. IsTrue S.tells → e ≡ first_foreign (end - first) tag first (S.files site.old)) }
+    ensures bound { IfOk result (λ e. (first ≤ e) × (e ≤ end)) }
+    ensures reads { OnlyReads S.tells (S.files site.old) (S.files site.new) (S.said site.old) (S.said site.new) (S.clock site.old) (S.clock site.new) (S.disk_faults site.old) (S.disk_faults site.new) (S.say_faults site.old) (S.say_faults site.new) }
+    ensures only { IfErr result (λ e. e ≡ AudFault.Disk) }
+    ensures same_site { S.same_site site.old site.new }
+    ensures disk { IsErrOf result AudFault.Disk → Rose (S.disk_faults site.old) (S.disk_faults site.new) }
+{
+    for file in first..end {
+        let said = tag_in(site, file, buffer)?;
+        if said != tag {
+            return Ok(file);
+        }
+    }
+    Ok(end)
+}
+
+/// Where the entries of the files `first` to the file before `end` begin, or the first place that isn't in its grammar, or the first file of another tag.
+fn read_trail<S: Site>(site: &mut S, first: u32, end: u32, total: u32, buffer: &mut [u8], places: &mut Vec<Place>) -> Result<(), AudFault>
+    requires size { length buffer.old ≡ 4096 }
+    requires few { total ≤ 512 }
+    requires low { 10001 ≤ first }
+    requires order { first < end }
+    requires none { places.old.items ≡ [] }
+    ensures read { IsTrue S.tells → Scans (trail_read first end total (S.files site.old)) places.new.items result }
+    ensures reads { OnlyReads S.tells (S.files site.old) (S.files site.new) (S.said site.old) (S.said site.new) (S.clock site.old) (S.clock site.new) (S.disk_faults site.old) (S.disk_faults site.new) (S.say_faults site.old) (S.say_faults site.new) }
+    ensures same_site { S.same_site site.old site.new }
+    ensures disk { IsErrOf result AudFault.Disk → Rose (S.disk_faults site.old) (S.disk_faults site.new) }
+{
+    match read_files(site, first, end, total, buffer, places) {
+        Ok(()) => {}
+        Err(fault) => return Err(fault),
+    }
+    let tag = match tag_in(site, first, buffer) {
+        Ok(tag) => tag,
+        Err(fault) => return Err(fault),
+    };
+    let other = match first_foreign(site, first, end, tag, buffer) {
+        Ok(other) => other,
+        Err(fault) => return Err(fault),
+    };
+    if other < end {
+        Err(AudFault::Foreign(other - 10000))
+    } else {
+        Ok(())
+    }
+}
+
+/// Where the entries of the files `first` to `last` begin, or the first refusal in order.
+pub fn scan_span<S: Site>(site: &mut S, first: u32, last: u32, buffer: &mut [u8], places: &mut Vec<Place>) -> Result<(), AudFault>
+    requires size { length buffer.old ≡ 4096 }
+    requires low { 10001 ≤ first }
+    requires order { first ≤ last }
+    requires high { last ≤ 20000 }
+    requires none { places.old.items ≡ [] }
+    ensures scanned { IsTrue S.tells → Scans (scanned first last (S.files site.old)) places.new.items result }
+    ensures reads { OnlyReads S.tells (S.files site.old) (S.files site.new) (S.said site.old) (S.said site.new) (S.clock site.old) (S.clock site.new) (S.disk_faults site.old) (S.disk_faults site.new) (S.say_faults site.old) (S.say_faults site.new) }
+    ensures same_site { S.same_site site.old site.new }
+    ensures disk { IsErrOf result AudFault.Disk → Rose (S.disk_faults site.old) (S.disk_faults site.new) }
+{
+    let total = match blocks_in(site, first, buffer) {
+        Ok(Some(total)) => u32::from(total),
+        Ok(None) => return Err(AudFault::Damaged(first, 0)),
+        Err(fault) => return Err(fault),
+    };
+    let end = match first_open(site, first, last, total, buffer) {
+        Ok(end) => end,
+        Err(fault) => return Err(fault),
+    };
+    if end > last {
+        return Err(AudFault::Missing(last - 9999));
+    }
+    if end + 2 <= last {
+        return Err(AudFault::Unsealed(end - 10000));
+    }
+    read_trail(site, first, end + 1, total, buffer, places)
+}

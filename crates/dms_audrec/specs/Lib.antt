@@ -1,0 +1,5 @@
+pub mod EntryLaws
+pub mod PairLaws
+pub mod Reading
+pub mod Seen
+pub mod Spelling

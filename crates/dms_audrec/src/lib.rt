@@ -1,0 +1,12 @@
+//! Entries of the audit as bytes: each has one spelling, and none is a prefix of another.
+#![tactic(auto)]
+
+mod entry;
+pub mod laws;
+mod pairs;
+mod reading;
+mod writing;
+
+pub use entry::{Entry, How};
+pub use reading::decode;
+pub use writing::{encode, length};
