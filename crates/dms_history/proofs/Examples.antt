@@ -1,15 +1,22 @@
 -- Worked values: each holds by computing the definitions.
-use Rattle.std.proofs.Common.{◌≡◌, true, false, List, [], ◌∷◌, ◌++◌, Some, None, refl}
-use Rattle.dms_history.specs.Events.{Stored, roll_back, rebuild, Event, change, quiet, control, begin}
+use Rattle.std.proofs.Common.{◌≡◌, true, false, List, [], ◌∷◌, ◌++◌, map, Some, None, refl}
+use Rattle.dms_history.specs.Events.{Content, Stored, halt_load, roll_back, rebuild, Event, change, quiet, control, begin}
 use Rattle.dms_history.specs.Lists.{has}
+use Rattle.dms_history.specs.Replay.{replay, with_block}
+use Rattle.dms_history.specs.Restores.{is_unlogged, takes_stored}
+use Rattle.dms_history.specs.Told.{told_block, comes_from_file}
+use Rattle.dms_history.specs.Points.{LivePoint, numbers_of, live_numbers, live_points, up_to}
+use Rattle.dms_history.specs.Judge.{judge_point, no_such_point, audit_missing, voided}
+use Rattle.dms_history.specs.SchemaAt.{schema_at}
+use Rattle.dms_history.specs.Kept.{content_told}
 use Rattle.dms_history.specs.Places.{is_described}
 use Rattle.dms_history.specs.History.{history, live, last_point, next_number}
 use Rattle.dms_history.specs.Images.{choice}
 use Rattle.dms_history.specs.Pick.{Dumps, count_at, pick, dump_pick, content_of, blocks_at}
 use Rattle.dms_history.specs.Here.{restore_pick, outcome, here}
 use Rattle.dms_history.specs.Ranges.{told_events, patched}
-use Rattle.dms_history.specs.Entries.{schema_part, image, byte_range, quiet_point, control_point, counts_in, named_by}
-use Rattle.dms_history.specs.EntryEvents.{events}
+use Rattle.dms_history.specs.Entries.{by_halt_load, by_roll_back, Entry, schema_part, image, byte_range, quiet_point, control_point, begin_restore, counts_in, named_by}
+use Rattle.dms_history.specs.EntryEvents.{events, history_of}
 
 -- two points; block 0 of file 30001 is made before point 1 and changed after it
 abbrev two_points : List Event
@@ -63,17 +70,17 @@ undescribed = refl
 abbrev dumps : Dumps
 dumps d = record { point = 1; blocks = λ f. (7 ∷ []) ∷ [] }
 
-by_roll_back : (stored : Stored) → outcome roll_back dumps two_points 1 stored 30001 ≡ (7 ∷ []) ∷ []
+rolled_back : (stored : Stored) → outcome roll_back dumps two_points 1 stored 30001 ≡ (7 ∷ []) ∷ []
 unfolding outcome content_of restore_pick pick count_at choice
-by_roll_back stored = refl
+rolled_back stored = refl
 
-by_rebuild_to_two : (stored : Stored) → outcome (rebuild 2) dumps two_points 2 stored 30001 ≡ (9 ∷ []) ∷ []
+rebuilt_to_two : (stored : Stored) → outcome (rebuild 2) dumps two_points 2 stored 30001 ≡ (9 ∷ []) ∷ []
 unfolding outcome content_of restore_pick dump_pick count_at
-by_rebuild_to_two stored = refl
+rebuilt_to_two stored = refl
 
-by_rebuild_to_one : (stored : Stored) → outcome (rebuild 2) dumps two_points 1 stored 30001 ≡ (7 ∷ []) ∷ []
+rebuilt_to_one : (stored : Stored) → outcome (rebuild 2) dumps two_points 1 stored 30001 ≡ (7 ∷ []) ∷ []
 unfolding outcome content_of restore_pick dump_pick count_at
-by_rebuild_to_one stored = refl
+rebuilt_to_one stored = refl
 
 -- Row 0 has blocks 0 to 15: block 15 goes by the dump, block 16 doesn't.
 in_row : named_by (record { file = 30001; row = 0 } ∷ []) 30001 15 ≡ true
@@ -122,3 +129,131 @@ part_schema = refl
 parted_schema : events (schema_part 1 1 [] ∷ quiet_point 1 ∷ control_point 1 2 [] ∷ []) ≡ quiet 1 ∷ control 1 2 (λ _. 0) false ∷ []
 unfolding told_events
 parted_schema = refl
+
+-- ---- the first change behind a point made its block new
+
+-- Control 3 says that the file has a block, and behind it that block is made new: the change has no before-image, so the block is the file's.
+abbrev new_below : List Event
+new_below = control 3 4 (λ _. 1) true ∷ change 30001 0 None (7 ∷ []) ∷ []
+
+new_below_is_stored : (stored : Stored) → blocks_at new_below stored 3 30001 ≡ stored 30001 0 ∷ []
+unfolding blocks_at content_of count_at pick choice
+new_below_is_stored stored = refl
+
+-- So it is while a halt/load to point 3 is pending, which voids that change and never writes the block.
+new_below_counts : (stored : Stored) → here dumps (history (new_below ++ begin 3 halt_load ∷ [])) stored 30001 0 ≡ stored 30001 0
+unfolding history outcome content_of restore_pick pick count_at choice
+new_below_counts stored = refl
+
+new_below_stays : takes_stored halt_load new_below 3 30001 0 ≡ true
+new_below_stays = refl
+
+new_below_untold : told_block new_below 3 30001 0 ≡ None
+unfolding told_block
+new_below_untold = refl
+
+new_below_from_file : comes_from_file (history (new_below ++ begin 3 halt_load ∷ [])) 3 30001 0 ≡ true
+unfolding history count_at
+new_below_from_file = refl
+
+-- A change with a before-image tells the block, and nothing comes from the file.
+changed_told : told_block two_points 1 30001 0 ≡ Some (7 ∷ [])
+unfolding told_block
+changed_told = refl
+
+changed_not_from_file : comes_from_file (history two_points) 1 30001 0 ≡ false
+unfolding history
+changed_not_from_file = refl
+
+-- A Range behind a Control without an Image of its block, which a pending Begin voids, tells nothing of its block.
+range_voided : (stored : Stored) → here dumps (history_of (
+    schema_part 1 1 [] ∷ control_point 3 4 (record { file = 30001; blocks = 1 } ∷ []) ∷ byte_range 30001 0 1 (6 ∷ []) ∷ begin_restore 3 by_halt_load ∷ []
+    )) stored 30001 0 ≡ stored 30001 0
+unfolding told_events history outcome content_of restore_pick pick count_at choice
+range_voided stored = refl
+
+-- ---- the list of the live points
+
+all_listed : (stored : Stored) → map (λ (p : LivePoint). p.blocks 30001) (live_points two_points stored) ≡ [] ∷ ((7 ∷ []) ∷ []) ∷ ((9 ∷ []) ∷ []) ∷ []
+unfolding live_points live_numbers blocks_at content_of count_at pick choice
+all_listed stored = refl
+
+numbers_listed : live_numbers two_points ≡ 0 ∷ 1 ∷ 2 ∷ []
+unfolding live_numbers
+numbers_listed = refl
+
+-- A Control of a point that has its place adds none, and a point whose Quiet stands before the first Control isn't live.
+control_adds_none : live_numbers (two_points ++ control 2 3 (λ _. 1) true ∷ []) ≡ 0 ∷ 1 ∷ 2 ∷ []
+unfolding live_numbers
+control_adds_none = refl
+
+quiet_before_control : live_numbers (quiet 5 ∷ control 5 6 (λ _. 0) true ∷ quiet 6 ∷ []) ≡ 6 ∷ []
+unfolding live_numbers
+quiet_before_control = refl
+
+-- A rollback to point 1 leaves the points up to it.
+cut_listed : (stored : Stored) → numbers_of (up_to 1 (live_points two_points stored)) ≡ live_numbers (live (two_points ++ begin 1 roll_back ∷ []))
+unfolding live_points live_numbers history
+cut_listed stored = refl
+
+-- The content that entries tell over the empty base.
+told_seven : content_told (schema_part 1 1 [] ∷ control_point 0 1 [] ∷ image 30001 0 None (7 ∷ []) ∷ []) (λ f. []) 30001 ≡ (7 ∷ []) ∷ []
+unfolding told_events history with_block
+told_seven = refl
+
+-- ---- the refusal of a point
+
+judged_live : judge_point two_points 3 1 ≡ None
+unfolding judge_point
+judged_live = refl
+
+judged_above : judge_point two_points 3 3 ≡ Some no_such_point
+unfolding judge_point
+judged_above = refl
+
+-- Points 4 and 6 are live: 5 was cut off, and 3 stood in a file that was removed.
+abbrev four_and_six : List Event
+four_and_six = control 4 5 (λ _. 0) true ∷ quiet 6 ∷ []
+
+judged_voided : judge_point four_and_six 7 5 ≡ Some voided
+unfolding judge_point live_numbers
+judged_voided = refl
+
+judged_removed : judge_point four_and_six 7 3 ≡ Some audit_missing
+unfolding judge_point live_numbers
+judged_removed = refl
+
+-- Where no point is live, the file before the first one is asked for.
+judged_none : judge_point [] 7 3 ≡ Some audit_missing
+unfolding judge_point live_numbers
+judged_none = refl
+
+-- ---- the Schema at a point
+
+-- a Schema in two parts, and another one behind point 1; the third isn't whole
+abbrev two_schemas : List Entry
+two_schemas =
+    schema_part 1 2 (1 ∷ []) ∷ schema_part 2 2 (2 ∷ []) ∷ control_point 0 1 [] ∷ quiet_point 1
+    ∷ schema_part 1 1 (3 ∷ []) ∷ control_point 1 2 [] ∷ quiet_point 2 ∷ schema_part 1 2 (4 ∷ []) ∷ quiet_point 3 ∷ []
+
+schema_at_zero : schema_at two_schemas 0 ≡ Some (1 ∷ 2 ∷ [])
+unfolding schema_at
+schema_at_zero = refl
+
+-- The place of point 1 is its Quiet, so the second Schema stands behind it.
+schema_at_one : schema_at two_schemas 1 ≡ Some (1 ∷ 2 ∷ [])
+unfolding schema_at
+schema_at_one = refl
+
+schema_at_three : schema_at two_schemas 3 ≡ Some (3 ∷ [])
+unfolding schema_at
+schema_at_three = refl
+
+-- A rollback to point 1 cuts the second one off.
+schema_at_cut : schema_at (two_schemas ++ begin_restore 1 by_roll_back ∷ quiet_point 4 ∷ []) 4 ≡ Some (1 ∷ 2 ∷ [])
+unfolding schema_at
+schema_at_cut = refl
+
+schema_at_nowhere : schema_at two_schemas 9 ≡ None
+unfolding schema_at
+schema_at_nowhere = refl

@@ -20,6 +20,7 @@ pub mod Cuts
 pub mod HistoryMore
 pub mod PlainPick
 pub mod PlainHere
+pub mod PatchedParts
 pub mod Examples
 pub mod Counterexamples
 pub mod ToldBlocks

@@ -1,6 +1,6 @@
 //! Blocks at a point, as a plain program over a small list of live events.
 
-ghost use Rattle.std.specs.Prelude.{◌≡◌, ℕ, ◌≤◌, true, false, length, take, drop, map, IfNone, IfSome, IfOk, slice_get, IsTrue, ◌↔◌};
+ghost use Rattle.std.specs.Prelude.{◌≡◌, ℕ, ◌≤◌, true, false, length, take, drop, map, IfNone, IfSome, IfOk, slice_get, IsTrue, ◌↔◌, option_map};
 ghost use Rattle.std.specs.Option.{option_copied};
 ghost use Rattle.dms_history.specs.Events.{block_in};
 ghost use Rattle.dms_history.specs.Lists.{has, until_first, after_first, after_last};
@@ -8,6 +8,7 @@ ghost use Rattle.dms_history.specs.Places.{is_control, is_described, is_point, I
 ghost use Rattle.dms_history.specs.Images.{is_at, last_after, first_before, else_stored};
 ghost use Rattle.dms_history.specs.Pick.{Dump, reached_count, count_at, pick, dump_pick, blocks_at};
 ghost use Rattle.dms_history.specs.Told.{undone_to, told_block};
+ghost use Rattle.dms_history.specs.Ranges.{patched};
 ghost use Rattle.dms_history.specs.Entries.{counts_in, is_in_row, named_by};
 ghost use Rattle.dms_history.specs.Plain.{event_seen, events_seen, block_of, blocks_seen};
 
@@ -257,5 +258,39 @@ pub fn told<'a>(live: &[Event<'a>], point: u64, file: u32, block: u64) -> Option
                 None => before_changes(&live[end..], file, block),
             }
         }
+    }
+}
+
+/// A block with other bytes from a place on. Bytes past its end make it longer.
+fn patched(
+    alloc: Global,
+    old: &[u8],
+    place: usize,
+    bytes: &[u8],
+) -> Result<Vec<u8>, AllocError>
+    ensures { IfOk result (λ v. v.items ≡ patched place bytes.now old.now) }
+{
+    let start = place.min(old.len());
+    let end = (start + bytes.len()).min(old.len());
+    let mut block = old[..start].to_vec(alloc)?;
+    block.extend_from_slice(bytes)?;
+    block.extend_from_slice(&old[end..])?;
+    Ok(block)
+}
+
+/// A block as a Range leaves it: as it was last logged, with these bytes; none where it wasn't logged, and the Range is left out.
+pub fn ranged(
+    alloc: Global,
+    live: &[Event],
+    file: u32,
+    block: u64,
+    place: usize,
+    bytes: &[u8],
+) -> Result<Option<Vec<u8>>, AllocError>
+    ensures { IfOk result (λ o. option_map (λ v. v.items) o ≡ option_map (patched place bytes.now) (last_after file block (events_seen live.now))) }
+{
+    match last_after(live, file, block) {
+        Some(old) => Ok(Some(patched(alloc, old, place, bytes)?)),
+        None => Ok(None),
     }
 }

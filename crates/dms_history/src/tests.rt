@@ -1,6 +1,6 @@
 use crate::{
-    Begin, Change, Control, Dumped, Event, How, Row, blocks_at, here, is_live, last_point,
-    read_history,
+    Begin, Change, Control, Dumped, Event, FileCount, How, Row, blocks_at, here, is_live,
+    last_point, ranged, read_history, told,
 };
 use std::test::Fail;
 
@@ -74,5 +74,54 @@ fn counts_what_a_half_done_restore_is_to_leave(rt: HostRuntime) -> Result<(), Fa
     assert_eq!(rt; here(&history, dumped, 30001, 0, &[9]), [7].as_slice());
     assert_eq!(rt; history.live.len(), 3);
     assert_eq!(rt; last_point(&history), Some(1));
+    Ok(())
+}
+
+#[test]
+fn leaves_a_block_that_a_voided_change_made_new(rt: HostRuntime) -> Result<(), Fail> {
+    let counts = [FileCount {
+        file: 30001,
+        blocks: 1,
+    }];
+    let events = [
+        Event::Controlled(Control {
+            point: 3,
+            next: 4,
+            counts: &counts,
+            described: true,
+        }),
+        Event::Changed(Change {
+            file: 30001,
+            block: 0,
+            before: None,
+            after: &[7],
+        }),
+        Event::Begun(Begin {
+            point: 3,
+            how: How::HaltLoad,
+        }),
+    ];
+    let history = read_history(rt.alloc(), &events)?;
+    let dumped = Dumped {
+        point: 0,
+        block: &[],
+    };
+    assert_eq!(rt; here(&history, dumped, 30001, 0, &[5]), [5].as_slice());
+    assert_eq!(rt; told(&events, 3, 30001, 0).is_none(), true);
+    assert_eq!(rt; told(&two_points(), 1, 30001, 0), Some([7].as_slice()));
+    Ok(())
+}
+
+#[test]
+fn takes_a_range_over_the_image_before_it(rt: HostRuntime) -> Result<(), Fail> {
+    let logged = [Event::Changed(Change {
+        file: 30001,
+        block: 0,
+        before: Some(&[1, 2, 3]),
+        after: &[5, 2, 3],
+    })];
+    let over = ranged(rt.alloc(), &logged, 30001, 0, 1, &[6])?;
+    assert_eq!(rt; over.is_some_and(|block| block.as_slice() == [5, 6, 3].as_slice()), true);
+    assert_eq!(rt; ranged(rt.alloc(), &logged, 30001, 1, 1, &[6])?.is_none(), true);
     Ok(())
 }
