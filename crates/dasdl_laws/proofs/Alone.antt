@@ -29,7 +29,7 @@ items_alone o d h = and_so _ _ (and_so _ _ (le-leb _ _ h.few) h.sofar.base.local
 
 groups_alone : (o : List Draft) (d : Draft) → Ended o d → has_sound_groups (shape_in d) ≡ true
 unfolding has_sound_groups
-groups_alone o d h = and_so _ _ (and_so _ _ (le-leb _ _ h.sofar.grouped.few) (groups_sound d.items d.groups h.sofar.grouped.within)) h.sofar.grouped.follow
+groups_alone o d h = and_so _ _ (and_so _ _ (le-leb _ _ h.sofar.grouped.few) (groups_sound d.items d.groups h.sofar.grouped.within h.sofar.plain)) h.sofar.grouped.follow
 
 lacks_alone : (d : Draft) (number kind : ℕ) (name : List ℕ) (owner : ℕ) → outer d ≡ drafted number kind name owner → lacks_set_fields (shape_in d) ≡ true
 unfolding lacks_set_fields

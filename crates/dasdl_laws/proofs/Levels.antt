@@ -42,7 +42,7 @@ use Rattle.dasdl_laws.proofs.Turns.Inside.{untouched, changed}
 -- ---- levels
 
 -- number n is 0, or that of a structure that stands in at most k - 1 others
-abbrev Upto : ℕ → List Draft → ℕ → Type 0
+abbrev pub Upto : ℕ → List Draft → ℕ → Type 0
 Upto zero os n = n ≡ 0
 Upto (suc k) os n = (n ≡ 0) ⊎ ((to : Draft) × (slice_get os (n - 1) ≡ Some to) × (1 ≤ n) × Upto k os to.owner)
 
@@ -67,7 +67,7 @@ upto_two (suc (suc zero)) os n low h = h
 upto_two (suc (suc (suc k))) os n low h = absurd (omega (arith, low))
 
 -- it stands in at most two others
-abbrev Low : List Draft → Draft → Type 0
+abbrev pub Low : List Draft → Draft → Type 0
 Low os d = Upto 2 os d.owner
 
 low_more : (os more ds : List Draft) → AllByRecursion (Low os) ds → AllByRecursion (Low (os ++ more)) ds
@@ -80,7 +80,7 @@ low_push os d h k = push (Low (os ++ d ∷ [])) os d (low_more os (d ∷ []) os 
 -- ---- what declarations add
 
 -- all of them stand in at most two others
-abbrev AllLow : Work → Type 0
+abbrev pub AllLow : Work → Type 0
 AllLow w = AllByRecursion (Low (map outer w.made)) (map outer w.made)
 
 -- structures were added, none too deep
@@ -191,7 +191,7 @@ nest _ _ _ _ _ (a_further depth n m ds es us vs x y) o w v few h at k =
     let count = counts o w ds b.0 b.1 in
     further w b.0 v a (nest _ depth m es vs y o b.0 v (omega (arith, few, sum, count)) a.low (deep_after depth w b.0 a at) b.2)
 
-declared_low : (p : Parameters) (b a : Bool) (ds : List Declaration) (us : List Lexeme) → Declares p b a ds us → (o : List Draft) (v : Work) → structures_in ds ≤ 200 → steps declared_at o nothing_yet ds ≡ Ok v → AllLow v × (v.within ≡ 0)
+pub declared_low : (p : Parameters) (b a : Bool) (ds : List Declaration) (us : List Lexeme) → Declares p b a ds us → (o : List Draft) (v : Work) → structures_in ds ≤ 200 → steps declared_at o nothing_yet ds ≡ Ok v → AllLow v × (v.within ≡ 0)
 unfolding steps
 declared_low _ _ _ _ _ no_declaration o v few k = subst (λ (x : Work). AllLow x × (x.within ≡ 0)) (ok_same nothing_yet v k) (tt, refl)
 declared_low _ _ _ _ _ (then_parameters p a ds us said vs d q) o v few k = declared_low p false a ds us d o v few k

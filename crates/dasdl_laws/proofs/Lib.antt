@@ -9,6 +9,7 @@ mod Levels
 mod Literals
 mod Members
 mod Nested
+mod Opened
 mod Ordered
 mod Outline
 mod Owned

@@ -90,6 +90,10 @@ item_adds o d t i w h =
     let f = initial_fits i i.initial b.0 w.initial b.1 in
     record { one = record { name = i.name; kind = i.kind; required = i.required; initial = b.0 }; new = a.0; local = and_so _ _ (and_so _ _ (and_so _ _ w.name w.kind) f.0) f.1; points = no_link o i.kind _ w.plain; is = ok_same _ t b.2 }
 
+pub item_plain : (o : List Draft) (d t : Draft) (i : ItemDecl) (w : IsWritten i) (h : item_at o d i ≡ Ok t) → is_link (item_adds o d t i w h).one.kind ≡ false
+unfolding item_adds
+item_plain o d t i w h = w.plain
+
 by_owner : (o : List Draft) (l : LinkDecl) (t : Draft) (k : ItemKind) (b : Bool) → (t.owner == 0) ≡ b → data_set_named l.target o ≡ Some t → cond b (Ok (LinkTo t.number l.counted)) (Err (Embedding l.name)) ≡ Ok k → (u : Draft) × (data_set_named l.target o ≡ Some u) × ((u.owner == 0) ≡ true) × (k ≡ LinkTo u.number l.counted)
 by_owner o l t k true a e h = (t, e, a, sym (ok_same _ k h))
 by_owner o l t k false a e h = absurd (cc)

@@ -4,7 +4,7 @@ use Rattle.std.proofs.lemmas.Bool.{and_parts, eq-eqb, eqb-true, not-false, both_
 use Rattle.std.proofs.lemmas.Bool.Decides.{nat_tests}
 use Rattle.std.proofs.lemmas.List.{map-append, length-map}
 use Rattle.std.proofs.lemmas.Option.{slice_get-map}
-use Rattle.std.specs.Prelude.{◌&&◌, ◌||◌, ◌==◌, not, nat_lt, is_some, slice_get, Some, None}
+use Rattle.std.specs.Prelude.{◌&&◌, ◌||◌, ◌==◌, not, is_some, slice_get, Some, None}
 use Rattle.std.specs.List.{list_all, AllByRecursion}
 use Rattle.std.specs.Option.{option_map}
 use Rattle.std.specs.declared.option.Option.{Option}
@@ -12,7 +12,7 @@ use Rattle.std.specs.declared.result.Result.TheVariants.{Ok}
 use Rattle.dms_desc.specs.Shape.{Shape}
 use Rattle.dms_desc_bytes.specs.Finding.{structure_at, kind_in, kind_of}
 use Rattle.dms_desc_bytes.specs.Spelling.{is_data_set}
-use Rattle.dms_desc_bytes.specs.WellFormed.{is_owned_well}
+use Rattle.dms_desc_bytes.specs.WellFormed.{is_open_behind, is_owned_well}
 use Rattle.dasdl_parse.specs.declared.declarations.Declaration.{Declaration}
 use Rattle.dasdl_parse.specs.declared.declarations.DataSetDecl.{DataSetDecl}
 use Rattle.dasdl_parse.specs.declared.declarations.SetDecl.{SetDecl}
@@ -25,10 +25,12 @@ use Rattle.dasdl_compile.specs.Compile.{is_misplaced as is_data_set_misplaced, d
 use Rattle.dasdl_compile.specs.Finding.{drafted, next_structure, data_set_named, kind_of as kind_made}
 use Rattle.dasdl_compile.specs.Outlines.{data_set_kind}
 use Rattle.dasdl_compile.specs.Sets.{set_kind, is_misplaced, set_draft}
-use Rattle.dasdl_laws.specs.Together.{is_within_earlier}
 use Rattle.dasdl_laws.proofs.Alone.{by_words}
 use Rattle.dasdl_laws.proofs.Judging.{bind_ok, ok_same}
 use Rattle.dasdl_laws.proofs.Ordered.{Numbers, Ordered, turned, and_so, grown}
+use Rattle.dasdl_laws.proofs.Opened.{Opened, Opening, turn_opens, opens}
+use Rattle.dasdl_laws.proofs.Opened.Around.{here}
+use Rattle.dasdl_laws.proofs.Levels.{Low, AllLow}
 use Rattle.dasdl_laws.proofs.Owners.{Ref, Standing, turn_stands, got_more, push}
 use Rattle.dasdl_laws.proofs.Sets.{Whole, final_at}
 use Rattle.dasdl_laws.proofs.Together.{found_as, mapped, ne_zero}
@@ -104,6 +106,7 @@ record Owning (o : List Draft) (w : Work) : Type 0 where
   standing : Standing (map outer w.made) w.within
   ordered : Ordered (map outer w.made)
   places : AllByRecursion (Place o (map outer w.made)) (map outer w.made)
+  opening : Opening w
 
 by_first : (a b : Bool) → (a || b) ≡ true → b ≡ false → a ≡ true
 by_first true b h e = refl
@@ -162,7 +165,7 @@ steps_own o (d ∷ ds) w v few h k =
     let t = turn_of o w a.0 d a.1 in
     let size = grown o w a.0 d t in
     let room : length w.made + structures_of d ≤ 200 = omega (arith, few) in
-    let next : Owning o a.0 = record { standing = turn_stands o w a.0 d room t h.standing; ordered = turned o w a.0 d t h.ordered; places = places_turned o w a.0 d room t h } in
+    let next : Owning o a.0 = record { standing = turn_stands o w a.0 d room t h.standing; ordered = turned o w a.0 d t h.ordered; places = places_turned o w a.0 d room t h; opening = turn_opens o w a.0 d room t h.standing h.ordered.numbers h.opening } in
     steps_own o ds a.0 v (omega (arith, few, size)) next a.2
 
 -- ---- what a description has
@@ -192,18 +195,17 @@ place_in noted made d w all (inr f) =
     let owner : g.is.owner ≡ d.owner = ap (λ (x : Draft). x.owner) (sym g.alike) ∙ f.owner in
     subst (In (map outer made)) owner (data_set_place noted (map outer made) (outer g.is) g.kind (final_at (Place noted (map outer made)) (map outer made) g.place (outer g.is) all there))
 
-both_hold : (a b c e : Bool) → (a || (b && c)) ≡ true → (a || e) ≡ true → (a || (b && e)) ≡ true
-both_hold true b c e h k = refl
-both_hold false b c e h k = and_so b e (and_parts b c h).0 k
+both_hold : (a b c : Bool) → (a || b) ≡ true → (a || c) ≡ true → (a || (b && c)) ≡ true
+both_hold true b c h k = refl
+both_hold false b c h k = and_so b c h k
 
-owned_well : (noted made ds : List Draft) → Whole noted made → AllByRecursion (Place noted (map outer made)) (map outer made) → list_all (is_within_earlier (map shape_in made)) (map shape_in ds) ≡ true → AllByRecursion (Place noted (map outer made)) (map outer ds) → list_all (is_owned_well (map shape_in made)) (map shape_in ds) ≡ true
+owned_well : (noted made ds : List Draft) → Whole noted made → AllByRecursion (Low (map outer made)) (map outer made) → AllByRecursion (Place noted (map outer made)) (map outer made) → AllByRecursion (Opened (map outer made)) (map outer ds) → AllByRecursion (Place noted (map outer made)) (map outer ds) → list_all (is_owned_well (map shape_in made)) (map shape_in ds) ≡ true
 unfolding is_owned_well
-owned_well noted made [] w all early h = refl
-owned_well noted made (d ∷ ds) w all early h =
-    let a = and_parts (is_within_earlier (map shape_in made) (shape_in d)) _ early in
-    and_so _ _ (both_hold (d.owner == 0) (nat_lt d.owner d.number) (is_data_set (kind_of (map shape_in made) d.owner)) (kind_of (map shape_in made) d.owner == 1) a.0 (in_one made d.owner (place_in noted made d w all h.0))) (owned_well noted made ds w all a.1 h.1)
+owned_well noted made [] w low all opened h = refl
+owned_well noted made (d ∷ ds) w low all opened h =
+    and_so _ _ (both_hold (d.owner == 0) (is_open_behind (map shape_in made) (d.number - 1) d.owner) (kind_of (map shape_in made) d.owner == 1) (opens made (d.number - 1) d.owner low opened.0) (in_one made d.owner (place_in noted made d w all h.0))) (owned_well noted made ds w low all opened.1 h.1)
 
-pub all_owned_well : (o : List Draft) (ds : List Declaration) (w : Work) → structures_in ds ≤ 200 → steps declared_at o nothing_yet ds ≡ Ok w → Whole o w.made → list_all (is_within_earlier (map shape_in w.made)) (map shape_in w.made) ≡ true → list_all (is_owned_well (map shape_in w.made)) (map shape_in w.made) ≡ true
-all_owned_well o ds w few k whole early =
-    let h = steps_own o ds nothing_yet w (omega (arith, few)) (record { standing = record { all = tt; around = inl refl }; ordered = record { names = refl; restarts = refl; numbers = tt }; places = tt }) k in
-    owned_well o w.made w.made whole h.places early h.places
+pub all_owned_well : (o : List Draft) (ds : List Declaration) (w : Work) → structures_in ds ≤ 200 → steps declared_at o nothing_yet ds ≡ Ok w → Whole o w.made → AllLow w → list_all (is_owned_well (map shape_in w.made)) (map shape_in w.made) ≡ true
+all_owned_well o ds w few k whole low =
+    let h = steps_own o ds nothing_yet w (omega (arith, few)) (record { standing = record { all = tt; around = inl refl }; ordered = record { names = refl; restarts = refl; numbers = tt }; places = tt; opening = record { all = tt; last = here 0 } }) k in
+    owned_well o w.made w.made whole low h.places h.opening.all h.places

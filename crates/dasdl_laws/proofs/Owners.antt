@@ -79,7 +79,7 @@ one_more os within d h e n =
     let low = ref_low os within h.around in
     push (Stand (os ++ d ∷ [])) os d (stands_more os (d ∷ []) os h.all) (subst (λ (k : ℕ). Ref (os ++ d ∷ []) k) (sym e) (ref_more os (d ∷ []) within h.around), omega (arith, low, e, n))
 
-open_ref : (P : ℕ → Type 0) (decl : Declaration) (a b : ℕ) → P a → P b → P (open_after decl a b)
+pub open_ref : (P : ℕ → Type 0) (decl : Declaration) (a b : ℕ) → P a → P b → P (open_after decl a b)
 open_ref P (End e) a b h k = h
 open_ref P (Item i) a b h k = k
 open_ref P (Group g) a b h k = k

@@ -1,7 +1,8 @@
 -- A data set that is open is sound so far, and one that has ended is sound.
-use Rattle.std.proofs.Common.{◌≡◌, ◌≤◌, ◌+◌, ℕ, List, [], ◌∷◌, ◌++◌, length, Bool, true, false, refl, sym, ap, subst, ◌∙◌, arith, length-append}
+use Rattle.std.proofs.Common.{◌≡◌, ◌≤◌, ◌+◌, ◌-◌, ℕ, List, [], ◌∷◌, ◌++◌, length, take, drop, Bool, true, false, refl, sym, ap, subst, ◌∙◌, arith, append_assoc, length-append, length-drop}
+use Rattle.std.proofs.lemmas.List.{append-nil, drop-append-le, take-append-le, drop_at, take_all}
 use Rattle.std.proofs.lemmas.Bool.{le-leb, ltb-false}
-use Rattle.std.specs.Prelude.{◌||◌, nat_lt, Some, None}
+use Rattle.std.specs.Prelude.{◌||◌, not, nat_lt, Some, None}
 use Rattle.std.specs.List.{list_all, AllByRecursion}
 use Rattle.std.specs.declared.option.Option.{Option}
 use Rattle.std.specs.declared.result.Result.TheVariants.{Ok}
@@ -12,7 +13,7 @@ use Rattle.dms_desc.specs.Shape.{Tree}
 use Rattle.dms_desc.specs.Shape.Tree.{Empty}
 use Rattle.dms_desc_bytes.specs.Conditions.{is_nothing, is_condition}
 use Rattle.dms_desc_bytes.specs.Lists.{apart, total, is_within}
-use Rattle.dms_desc_bytes.specs.Members.{is_group_sound, members_differ, groups_follow}
+use Rattle.dms_desc_bytes.specs.Members.{items_in_group, is_no_link, is_group_sound, members_differ, groups_follow}
 use Rattle.dms_desc_bytes.specs.WellFormed.{width_of, has_sound_verify}
 use Rattle.dasdl_parse.specs.Trees.{Condition}
 use Rattle.dasdl_parse.specs.declared.declarations.ItemDecl.{ItemDecl}
@@ -29,7 +30,7 @@ use Rattle.dasdl_laws.specs.Alone.{is_local}
 use Rattle.dasdl_laws.proofs.Judging.{bind_ok, skip_ok, ok_same}
 use Rattle.dasdl_laws.proofs.Judged.{condition_sound}
 use Rattle.dasdl_laws.proofs.Keys.{same_widths}
-use Rattle.dasdl_laws.proofs.Members.{Points, Adds, item_adds, item_differs, group_differs}
+use Rattle.dasdl_laws.proofs.Members.{Points, Adds, item_adds, item_plain, item_differs, group_differs}
 use Rattle.dasdl_laws.proofs.Ordered.{and_so, all_push, apart_push}
 use Rattle.dasdl_laws.proofs.Written.{IsWritten, IsPlainCondition}
 
@@ -71,9 +72,9 @@ within_more : (n m : ℕ) (gs : List ItemGroup) → n ≤ m → AllByRecursion (
 within_more n m [] low h = tt
 within_more n m (g ∷ gs) low h = let last = h.0.3 in ((h.0.0, h.0.1, h.0.2, omega (arith, last, low)), within_more n m gs low h.1)
 
-within_push : (n : ℕ) (gs : List ItemGroup) (g : ItemGroup) → AllByRecursion (Within n) gs → Within n g → AllByRecursion (Within n) (gs ++ g ∷ [])
-within_push n [] g h w = (w, tt)
-within_push n (x ∷ xs) g h w = (h.0, within_push n xs g h.1 w)
+group_push : (P : ItemGroup → Type 0) (gs : List ItemGroup) (g : ItemGroup) → AllByRecursion P gs → P g → AllByRecursion P (gs ++ g ∷ [])
+group_push P [] g h w = (w, tt)
+group_push P (x ∷ xs) g h w = (h.0, group_push P xs g h.1 w)
 
 all_before : (n : ℕ) (gs : List ItemGroup) (g : ItemGroup) → n + 1 ≤ g.first → AllByRecursion (Within n) gs → list_all (λ (x : ItemGroup). groups_follow x g) gs ≡ true
 all_before n [] g low h = refl
@@ -86,46 +87,73 @@ one_group : (n m : ℕ) (gs : List ItemGroup) (g : ItemGroup) → Grouped n gs �
 one_group n m gs g h named first count some =
     let few = h.few in
     record {
-      within = within_push (n + m) gs g (within_more n (n + m) gs (omega arith) h.within) (named, omega (arith, first), omega (arith, count, some), omega (arith, first, count));
+      within = group_push (Within (n + m)) gs g (within_more n (n + m) gs (omega arith) h.within) (named, omega (arith, first), omega (arith, count, some), omega (arith, first, count));
       follow = apart_push groups_follow gs g h.follow (all_before n gs g (omega (arith, first)) h.within);
       few = omega (arith, few, some, length-append gs (g ∷ []));
     }
 
-pub groups_sound : (is : List Member) (gs : List ItemGroup) → AllByRecursion (Within (length is)) gs → list_all (is_group_sound is) gs ≡ true
+-- no item of a group is a link
+abbrev pub Plain : List Member → ItemGroup → Type 0
+Plain is g = list_all is_no_link (items_in_group is g) ≡ true
+
+same_items : (is more : List Member) (g : ItemGroup) → Within (length is) g → items_in_group (is ++ more) g ≡ items_in_group is g
+same_items is more g h =
+    let from = h.1 in
+    let to = h.3 in
+    ap (λ (l : List Member). take g.count l) (drop-append-le (g.first - 1) is more (omega (arith, from, to)))
+    ∙ take-append-le g.count (drop (g.first - 1) is) more (omega (arith, from, to, length-drop (g.first - 1) is))
+
+plain_more : (is more : List Member) (gs : List ItemGroup) → AllByRecursion (Within (length is)) gs → AllByRecursion (Plain is) gs → AllByRecursion (Plain (is ++ more)) gs
+plain_more is more [] h p = tt
+plain_more is more (g ∷ gs) h p = (ap (list_all is_no_link) (same_items is more g h.0) ∙ p.0, plain_more is more gs h.1 p.1)
+
+plain_new : (is new : List Member) (g : ItemGroup) → g.first ≡ length is + 1 → g.count ≡ length new → list_all is_no_link new ≡ true → Plain (is ++ new) g
+plain_new is new g first count p =
+    ap (λ (l : List Member). list_all is_no_link (take g.count l)) (drop_at is new (g.first - 1) (omega (arith, first)))
+    ∙ ap (list_all is_no_link) (take_all g.count new (omega (arith, count)))
+    ∙ p
+
+pub groups_sound : (is : List Member) (gs : List ItemGroup) → AllByRecursion (Within (length is)) gs → AllByRecursion (Plain is) gs → list_all (is_group_sound is) gs ≡ true
 unfolding is_group_sound
-groups_sound is [] h = refl
-groups_sound is (g ∷ gs) h = and_so _ _ (and_so _ _ (and_so _ _ (and_so _ _ h.0.0 (le-leb 1 g.first h.0.1)) (le-leb 1 g.count h.0.2)) (le-leb _ _ h.0.3)) (groups_sound is gs h.1)
+groups_sound is [] h p = refl
+groups_sound is (g ∷ gs) h p = and_so _ _ (and_so _ _ (and_so _ _ (and_so _ _ (and_so _ _ h.0.0 (le-leb 1 g.first h.0.1)) (le-leb 1 g.count h.0.2)) (le-leb _ _ h.0.3)) p.0) (groups_sound is gs h.1 p.1)
 
 -- ---- a data set that is open
 
 pub record Sofar (o : List Draft) (d : Draft) : Type 0 where
   pub base : Base o d
   pub grouped : Grouped (length d.items) d.groups
+  pub plain : AllByRecursion (Plain d.items) d.groups
 
 pub sofar_adds : (o : List Draft) (d t : Draft) → Adds o d t → Sofar o d → Sofar o t
 sofar_adds o d t a h =
     let g = grown o d t a in
     let n = g.0 in
-    record { base = base_adds o d t a h.base; grouped = subst (Grouped (length t.items)) (sym g.1) (more_items (length d.items) (length t.items) d.groups (omega (arith, n)) h.grouped) }
+    record { base = base_adds o d t a h.base; grouped = subst (Grouped (length t.items)) (sym g.1) (more_items (length d.items) (length t.items) d.groups (omega (arith, n)) h.grouped); plain = subst (λ (x : Draft). AllByRecursion (Plain x.items) x.groups) a.is (plain_more d.items (a.one ∷ []) d.groups h.grouped.within h.plain) }
 
 record Run (o : List Draft) (d t : Draft) (n : ℕ) : Type 0 where
   base : Base o t
-  items : length t.items ≡ length d.items + n
+  new : List Member
+  made : t.items ≡ d.items ++ new
+  size : length new ≡ n
+  plain : list_all is_no_link new ≡ true
   groups : t.groups ≡ d.groups
 
 items_run : (o : List Draft) (d t : Draft) (is : List ItemDecl) → AllByRecursion IsWritten is → Base o d → steps item_at o d is ≡ Ok t → Run o d t (length is)
 unfolding steps
 items_run o d t [] w b h =
     let e = ok_same d t h in
-    record { base = subst (Base o) e b; items = sym (ap (λ (x : Draft). length x.items) e) ∙ omega arith; groups = sym (ap (λ (x : Draft). x.groups) e) }
+    record { base = subst (Base o) e b; new = []; made = sym (ap (λ (x : Draft). x.items) e) ∙ sym (append-nil d.items); size = refl; plain = refl; groups = sym (ap (λ (x : Draft). x.groups) e) }
 items_run o d t (i ∷ is) w b h =
     let a = bind_ok {A = Draft} {B = Draft} (item_at o d i) _ t h in
     let one = item_adds o d a.0 i w.0 a.1 in
     let g = grown o d a.0 one in
     let r = items_run o a.0 t is w.1 (base_adds o d a.0 one b) a.2 in
-    let n = r.items in
-    let m = g.0 in
-    record { base = r.base; items = omega (arith, n, m); groups = r.groups ∙ g.1 }
+    let n = r.size in
+    let more : a.0.items ≡ d.items ++ one.one ∷ [] = sym (ap (λ (x : Draft). x.items) one.is) in
+    let made : t.items ≡ d.items ++ one.one ∷ r.new = r.made ∙ ap (λ (l : List Member). l ++ r.new) more ∙ append_assoc d.items (one.one ∷ []) r.new in
+    let plain : is_no_link one.one ≡ true = ap not (item_plain o d a.0 i w.0 a.1) in
+    record { base = r.base; new = one.one ∷ r.new; made = made; size = omega (arith, n); plain = and_so _ _ plain r.plain; groups = r.groups ∙ g.1 }
 
 pub group_adds : (o : List Draft) (d t : Draft) (g : GroupDecl) → is_name g.name ≡ true → AllByRecursion IsWritten g.items → 1 ≤ length g.items → length d.items + length g.items ≤ 60 → Sofar o d → group_at o d g ≡ Ok t → Sofar o t × (length t.items ≡ length d.items + length g.items)
 unfolding group_at
@@ -135,8 +163,10 @@ group_adds o d t g named w some room h e =
     let begun : Base o (with_group d g) = record { local = h.base.local; points = h.base.points; differ = group_differs d new h.base.differ a.0 } in
     let r = items_run o (with_group d g) t g.items w begun a.1 in
     let k = one_group (length d.items) (length g.items) d.groups new h.grouped named (omega (arith, room)) (omega (arith, room)) some in
-    let n = r.items in
-    (record { base = r.base; grouped = subst (λ (m : ℕ). Grouped m t.groups) (sym n) (subst (Grouped (length d.items + length g.items)) (sym r.groups) k) }, n)
+    let size = r.size in
+    let n : length t.items ≡ length d.items + length g.items = ap length r.made ∙ omega (arith, size, length-append d.items r.new) in
+    let plain : AllByRecursion (Plain (d.items ++ r.new)) (d.groups ++ new ∷ []) = group_push (Plain (d.items ++ r.new)) d.groups new (plain_more d.items r.new d.groups h.grouped.within h.plain) (plain_new d.items r.new new (omega (arith, room)) (omega (arith, room, size)) r.plain) in
+    (record { base = r.base; grouped = subst (λ (m : ℕ). Grouped m t.groups) (sym n) (subst (Grouped (length d.items + length g.items)) (sym r.groups) k); plain = subst (λ (l : List Member). AllByRecursion (Plain l) t.groups) (sym r.made) (subst (AllByRecursion (Plain (d.items ++ r.new))) (sym r.groups) plain) }, n)
 
 -- ---- its end
 
@@ -174,7 +204,7 @@ ended o d t e h few w p k =
     let low : record_width 0 d.items ≤ 480 = ltb-false 480 (record_width 0 d.items) b.0 in
     let width = width_whole 0 d.items low in
     subst (Ended o) (ok_same _ t b.1)
-    (record { sofar = record { base = record { local = h.base.local; points = h.base.points; differ = h.base.differ }; grouped = h.grouped }; few = few; short = omega (arith, width, low); verify = verify_sound d.items e.verify a.0 (omega (arith, few)) w a.1; population = p })
+    (record { sofar = record { base = record { local = h.base.local; points = h.base.points; differ = h.base.differ }; grouped = h.grouped; plain = h.plain }; few = few; short = omega (arith, width, low); verify = verify_sound d.items e.verify a.0 (omega (arith, few)) w a.1; population = p })
 
 pub end_items : (d t : Draft) (e : DataSetEnd) → end_at d e ≡ Ok t → t.items ≡ d.items
 unfolding end_at

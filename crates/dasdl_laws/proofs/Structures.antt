@@ -26,7 +26,7 @@ use Rattle.dasdl_laws.proofs.Placed.{all_placed}
 use Rattle.std.specs.Prelude.{not, ◌||◌}
 use Rattle.dms_desc_bytes.specs.Spelling.{is_data_set}
 use Rattle.dms_desc_bytes.specs.WellFormed.{has_member, is_owned_well, is_shallow}
-use Rattle.dasdl_laws.proofs.Levels.{are_shallow}
+use Rattle.dasdl_laws.proofs.Levels.{are_shallow, declared_low}
 use Rattle.dasdl_laws.proofs.Owned.{all_owned_well}
 use Rattle.dasdl_laws.proofs.Nested.{have_members}
 use Rattle.dasdl_laws.specs.Together.{is_within_earlier}
@@ -60,7 +60,7 @@ structured text s d read made =
     let w : Whole c.outline.made c.work.made = record { same = e.made; numbers = o.numbers; kinds = k.1; final = f.0 } in
     let early = stand_earlier c.outline.made s.declarations c.work g.few c.declared in
     subst Structured c.made.is
-    (record { order = o; kinds = k.1; alone = all_alone c.outline.made c.work.made f.0; together = all_together c.outline.made c.work.made w; counted = few_counted s.parameters g.has_parameters g.has_audit s.declarations g.used g.declares c.outline.made c.work g.fewer c.declared; earlier = early; owned = all_owned_well c.outline.made s.declarations c.work g.few c.declared w early; shallow = are_shallow s.parameters g.has_parameters g.has_audit s.declarations g.used g.declares c.outline.made c.work g.few c.declared; members = have_members c.work.made f.1; placed = all_placed c.outline.made s.declarations c.work c.declared; short = is_short s.parameters c.work.made k.0 c.made.short })
+    (record { order = o; kinds = k.1; alone = all_alone c.outline.made c.work.made f.0; together = all_together c.outline.made c.work.made w; counted = few_counted s.parameters g.has_parameters g.has_audit s.declarations g.used g.declares c.outline.made c.work g.fewer c.declared; earlier = early; owned = all_owned_well c.outline.made s.declarations c.work g.few c.declared w (declared_low s.parameters g.has_parameters g.has_audit s.declarations g.used g.declares c.outline.made c.work g.few c.declared).0; shallow = are_shallow s.parameters g.has_parameters g.has_audit s.declarations g.used g.declares c.outline.made c.work g.few c.declared; members = have_members c.work.made f.1; placed = all_placed c.outline.made s.declarations c.work c.declared; short = is_short s.parameters c.work.made k.0 c.made.short })
 
 pub few_structures : (d : Described) → Structured d → IsTrue (nat_le (length d.structures) 200)
 few_structures d h = le-leb (length d.structures) 200 h.order.few

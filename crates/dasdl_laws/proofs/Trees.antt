@@ -197,7 +197,7 @@ Grow o ds n = (pre : List Draft) (d : Draft) (post : List Draft) (w v : Work) �
 
 no_members : (o : List Draft) (number kind : ℕ) (name : List ℕ) (owner : ℕ) → Sofar o (drafted number kind name owner)
 unfolding members_differ
-no_members o number kind name owner = record { base = record { local = refl; points = tt; differ = refl }; grouped = record { within = tt; follow = refl; few = omega arith } }
+no_members o number kind name owner = record { base = record { local = refl; points = tt; differ = refl }; grouped = record { within = tt; follow = refl; few = omega arith }; plain = tt }
 
 first_in : (d : Draft) (new : List Draft) (within n : ℕ) → length d.items ≡ n → within ≡ d.number → (1 ≤ n) ⊎ (list_any (owned within) new ≡ true) → (1 ≤ length d.items) ⊎ (list_any (owned d.number) (d ∷ new) ≡ true)
 first_in d new within n e same (inl h) = inl (omega (arith, e, h))

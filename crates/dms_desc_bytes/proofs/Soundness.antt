@@ -1,6 +1,6 @@
 -- A sound structure can be spelled.
 use Rattle.std.proofs.Common.{◌≡◌, ℕ, ◌+◌, ◌-◌, ◌^◌, ◌<◌, ◌≤◌, Bool, true, false, cond, eqb, List, [], ◌∷◌, length, Option, Some, None, refl, sym, ap, subst, ◌∙◌, ◌++◌, arith, inl, inr, ◌⊎◌}
-use Rattle.std.specs.Prelude.{not, ◌&&◌, ◌||◌, ◌==◌, nat_le, nat_lt, slice_get}
+use Rattle.std.specs.Prelude.{not, ◌&&◌, ◌||◌, ◌==◌, nat_le, slice_get}
 use Rattle.std.specs.List.{list_all}
 use Rattle.std.proofs.lemmas.Bool.{and_parts, leb-true, eqb-true}
 use Rattle.dms_base.specs.Name.{is_name}
@@ -15,10 +15,10 @@ use Rattle.dms_desc.specs.Shape.Tree.{Empty, Test, Both, Either, Contrary}
 use Rattle.dms_desc_bytes.specs.Conditions.{nodes, compares_well, is_nothing, is_condition}
 use Rattle.dms_desc_bytes.specs.Finding.{structure_at, kind_in, kind_of, owner_of, items_in, items_of}
 use Rattle.dms_desc_bytes.specs.Lists.{is_within, is_empty, apart, total}
-use Rattle.dms_desc_bytes.specs.Members.{is_plain, is_null, is_link_sound, points_well, is_item_sound, is_group_sound, members_differ, groups_follow}
+use Rattle.dms_desc_bytes.specs.Members.{is_plain, is_null, is_link_sound, points_well, is_item_sound, items_in_group, is_no_link, is_group_sound, members_differ, groups_follow}
 use Rattle.dms_desc_bytes.specs.Reading as reading
 use Rattle.dms_desc_bytes.specs.Spelling.{is_data_set, item_bytes, group_bytes, tree_bytes}
-use Rattle.dms_desc_bytes.specs.WellFormed.{is_owned_well, is_shallow, has_member, has_sound_items, has_sound_groups, has_sound_verify, lacks_set_fields, is_data_set_sound, is_key_sound, is_set_placed, is_populated, is_where_sound, is_set_sound, is_placed, has_sound_fields, is_sound, width_of, parts_differ, is_part_sound, part_width}
+use Rattle.dms_desc_bytes.specs.WellFormed.{is_open_behind, is_owned_well, is_shallow, has_member, has_sound_items, has_sound_groups, has_sound_verify, lacks_set_fields, is_data_set_sound, is_key_sound, is_set_placed, is_populated, is_where_sound, is_set_sound, is_placed, has_sound_fields, is_sound, width_of, parts_differ, is_part_sound, part_width}
 use Rattle.dms_desc_bytes.proofs.Fields.{Again}
 use Rattle.dms_desc_bytes.proofs.Places.{at_place, all_at}
 use Rattle.dms_desc_bytes.proofs.Values.{Typed, Spelled, value_spelled, null_spelled}
@@ -87,7 +87,8 @@ kinds_of ss items all n i e =
 group_spelled : (items : List Item) (g : Group) → is_group_sound items g ≡ true → Again reading.group_at (group_bytes g) g
 unfolding is_group_sound
 group_spelled items g good =
-    let c = and_parts (is_name g.name && nat_le 1 g.first && nat_le 1 g.count) (nat_le (g.first + g.count) (length items + 1)) good in
+    let d = and_parts (is_name g.name && nat_le 1 g.first && nat_le 1 g.count && nat_le (g.first + g.count) (length items + 1)) (list_all is_no_link (items_in_group items g)) good in
+    let c = and_parts (is_name g.name && nat_le 1 g.first && nat_le 1 g.count) (nat_le (g.first + g.count) (length items + 1)) d.0 in
     let b = and_parts (is_name g.name && nat_le 1 g.first) (nat_le 1 g.count) c.0 in
     let a = and_parts (is_name g.name) (nat_le 1 g.first) b.0 in
     group_again g a.0
@@ -304,10 +305,10 @@ or_case false c e = inr e
 owner_low : (ss : List Shape) (s : Shape) → length ss ≤ 200 → is_owned_well ss s ≡ true → s.owner < 2 ^ 16
 unfolding is_owned_well
 owner_low ss s few good =
-    elim (or_case (s.owner == 0) (nat_lt s.owner s.number && kind_of ss s.owner == 1) good) [
+    elim (or_case (s.owner == 0) (is_open_behind ss (s.number - 1) s.owner && kind_of ss s.owner == 1) good) [
       | inl none ↦ let zero_is = eqb-true s.owner 0 none in omega (arith, zero_is)
       | inr some ↦
-          let one = eqb-true (kind_of ss s.owner) 1 (and_parts (nat_lt s.owner s.number) (kind_of ss s.owner == 1) some).1 in
+          let one = eqb-true (kind_of ss s.owner) 1 (and_parts (is_open_behind ss (s.number - 1) s.owner) (kind_of ss s.owner == 1) some).1 in
           let low = (named ss s.owner (λ z. let bad : 0 ≡ 1 = sym z ∙ one in absurd cc)).2 in
           omega (arith, few, low)
     ]

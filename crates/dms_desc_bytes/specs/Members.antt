@@ -1,5 +1,5 @@
 -- The checks of items, links and groups.
-use Rattle.std.specs.Prelude.{ℕ, ◌+◌, List, length, Bool, true, false, not, ◌&&◌, ◌==◌, nat_le}
+use Rattle.std.specs.Prelude.{ℕ, ◌+◌, ◌-◌, List, length, take, drop, Bool, true, false, not, ◌&&◌, ◌==◌, nat_le}
 use Rattle.std.specs.List.{list_all}
 use Rattle.std.specs.Str.{bytes_eq}
 use Rattle.dms_base.specs.declared.value.Value.{Value}
@@ -13,7 +13,7 @@ use Rattle.dms_base.specs.Text.{is_printable, trimmed}
 use Rattle.dms_desc.specs.declared.structure.Item.{Item}
 use Rattle.dms_desc.specs.declared.structure.Group.{Group}
 use Rattle.dms_desc.specs.Shape.{Shape}
-use Rattle.dms_desc_bytes.specs.Finding.{kind_of, owner_of}
+use Rattle.dms_desc_bytes.specs.Finding.{kind_of, owner_of, is_link}
 use Rattle.dms_desc_bytes.specs.Lists.{apart}
 use Rattle.dms_desc_bytes.specs.Spelling.{is_data_set}
 
@@ -68,9 +68,21 @@ is_free_of items g = list_all (λ i. not (bytes_eq i.name g.name)) items
 unfoldable pub members_differ : List Item → List Group → Bool
 members_differ items groups = apart items_differ items && apart groups_differ groups && list_all (is_free_of items) groups
 
--- a group has a name and at least one item, and ends within the items
+-- the items of a group: so many, from its first one on
+abbrev pub items_in_group : List Item → Group → List Item
+items_in_group items g = take g.count (drop (g.first - 1) items)
+
+abbrev pub is_no_link : Item → Bool
+is_no_link i = not (is_link i.kind)
+
+-- a group has a name and at least one item, ends within the items, and holds no link
 unfoldable pub is_group_sound : List Item → Group → Bool
-is_group_sound items g = is_name g.name && nat_le 1 g.first && nat_le 1 g.count && nat_le (g.first + g.count) (length items + 1)
+is_group_sound items g =
+    is_name g.name
+    && nat_le 1 g.first
+    && nat_le 1 g.count
+    && nat_le (g.first + g.count) (length items + 1)
+    && list_all is_no_link (items_in_group items g)
 
 -- groups stand in the order of their items, and no item is in two of them
 abbrev pub groups_follow : Group → Group → Bool

@@ -1,5 +1,5 @@
 -- Which descriptions a schema can have: no check of a schema fails for them, and each limit is kept.
-use Rattle.std.specs.Prelude.{ℕ, ◌+◌, List, [], ◌∷◌, length, Bool, true, false, not, ◌&&◌, ◌||◌, ◌==◌, nat_le, nat_lt, Some, None, IsTrue, if◌then◌else◌}
+use Rattle.std.specs.Prelude.{ℕ, ◌+◌, ◌-◌, List, [], ◌∷◌, length, Bool, true, false, not, ◌&&◌, ◌||◌, ◌==◌, nat_le, Some, None, IsTrue, if◌then◌else◌}
 use Rattle.std.specs.declared.option.Option.{Option}
 use Rattle.std.specs.List.{list_all, list_any}
 use Rattle.std.specs.Str.{bytes_eq}
@@ -15,9 +15,13 @@ use Rattle.dms_desc_bytes.specs.Spelling.{is_data_set, spelling}
 
 -- ---- where a structure stands
 
--- it stands in no other, or in a data set that comes before it and isn't the restart data set
+-- behind structure n of a text, structure m can be open: m is n, or n stands in it, or what n stands in stands in it
+abbrev pub is_open_behind : List Shape → ℕ → ℕ → Bool
+is_open_behind ss n m = m == n || m == owner_of ss n || m == owner_of ss (owner_of ss n)
+
+-- it stands in no other, or in a data set that isn't the restart data set and is open behind the structure before it
 unfoldable pub is_owned_well : List Shape → Shape → Bool
-is_owned_well ss s = s.owner == 0 || (nat_lt s.owner s.number && kind_of ss s.owner == 1)
+is_owned_well ss s = s.owner == 0 || (is_open_behind ss (s.number - 1) s.owner && kind_of ss s.owner == 1)
 
 -- at most three levels, the outer one counted
 unfoldable pub is_shallow : List Shape → Shape → Bool
@@ -50,7 +54,7 @@ unfoldable pub has_sound_groups : Shape → Bool
 has_sound_groups s =
     -- no more than items, since no item is in two of them
     nat_le (length s.groups) (length s.items)
-    -- each has a name and at least one item, and ends within the items
+    -- each has a name and at least one item, ends within the items, and holds no link
     && list_all (is_group_sound s.items) s.groups
     -- they stand in the order of their items, and no item is in two of them
     && apart groups_follow s.groups

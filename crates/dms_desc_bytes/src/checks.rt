@@ -2,7 +2,7 @@ ghost use Rattle.std.specs.Prelude.{◌≡◌, ◌+◌, map, min};
 ghost use Rattle.std.specs.List.{list_all, list_any};
 ghost use Rattle.dms_desc.specs.Shape.{shape_of, described};
 ghost use Rattle.dms_desc_bytes.specs.Lists.{apart, total};
-ghost use Rattle.dms_desc_bytes.specs.WellFormed.{is_owned_well, is_shallow, stands_in, has_member, has_sound_items, has_sound_groups, has_sound_verify, lacks_set_fields, is_data_set_sound, is_placed, has_sound_fields, is_sound, numbered, names_differ, is_restart, not_both_restart, counted_in, has_parameters, are_sound};
+ghost use Rattle.dms_desc_bytes.specs.WellFormed.{is_open_behind, is_owned_well, is_shallow, stands_in, has_member, has_sound_items, has_sound_groups, has_sound_verify, lacks_set_fields, is_data_set_sound, is_placed, has_sound_fields, is_sound, numbered, names_differ, is_restart, not_both_restart, counted_in, has_parameters, are_sound};
 
 use crate::conds::{is_condition, is_nothing};
 use crate::finding::{is_data_set, kind_of, owner_of};
@@ -13,11 +13,21 @@ use crate::members::{
 use crate::sets::{MOST_RECORDS, is_set_sound};
 use dms_desc::{Description, Structure};
 
+/// Whether structure `number` can be open behind structure `before`.
+fn is_open_behind(structures: &[Structure], before: u16, number: u16) -> bool
+    ensures { result ≡ is_open_behind (map shape_of structures.now) before number }
+{
+    let around = owner_of(structures, before);
+    number == before || number == around || number == owner_of(structures, around)
+}
+
 #[tactic(auto, unfolding(crate::specs::WellFormed::is_owned_well))]
 fn is_owned_well(structures: &[Structure], s: &Structure) -> bool
     ensures { result ≡ is_owned_well (map shape_of structures.now) (shape_of s.now) }
 {
-    s.owner == 0 || (s.owner < s.number && kind_of(structures, s.owner) == 1)
+    s.owner == 0
+        || (is_open_behind(structures, s.number.saturating_sub(1), s.owner)
+            && kind_of(structures, s.owner) == 1)
 }
 
 #[tactic(auto, unfolding(crate::specs::WellFormed::is_shallow))]

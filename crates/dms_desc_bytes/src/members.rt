@@ -6,10 +6,10 @@ ghost use Rattle.dms_base.specs.Spelling.{is_kind};
 ghost use Rattle.dms_base.specs.Text.{is_printable};
 ghost use Rattle.dms_desc.specs.Shape.{shape_of};
 ghost use Rattle.dms_desc_bytes.specs.Lists.{apart, total};
-ghost use Rattle.dms_desc_bytes.specs.Members.{is_plain, is_null, is_link_sound, points_well, is_item_sound, items_differ, groups_differ, is_free_of, members_differ, is_group_sound, groups_follow, item_width, counted_one};
+ghost use Rattle.dms_desc_bytes.specs.Members.{is_plain, is_null, is_link_sound, points_well, is_item_sound, items_differ, groups_differ, is_free_of, members_differ, items_in_group, is_no_link, is_group_sound, groups_follow, item_width, counted_one};
 ghost use Rattle.dms_desc_bytes.specs.WellFormed.{width_of};
 
-use crate::finding::{is_data_set, kind_of, owner_of};
+use crate::finding::{is_data_set, is_link, kind_of, owner_of};
 use dms_base::{ItemKind, Name, Value, fits, is_printable, trimmed};
 use dms_desc::{Group, Item, Structure};
 
@@ -145,6 +145,17 @@ pub fn members_differ(items: &[Item], groups: &[Group]) -> bool
     items_differ(items) && groups_differ(groups) && are_free_of(items, groups)
 }
 
+/// Whether no item of a group is a link.
+fn lacks_links(items: &[Item], group: &Group) -> bool
+    ensures { result ≡ list_all is_no_link (items_in_group items.now group.now) }
+{
+    items
+        .iter()
+        .skip((group.first as usize).saturating_sub(1))
+        .take(group.count as usize)
+        .all(|item| !is_link(&item.kind))
+}
+
 #[tactic(auto, unfolding(crate::specs::Members::is_group_sound))]
 fn is_group_sound(items: &[Item], group: &Group) -> bool
     ensures { result ≡ is_group_sound items.now group.now }
@@ -153,6 +164,7 @@ fn is_group_sound(items: &[Item], group: &Group) -> bool
         && 1 <= group.first
         && 1 <= group.count
         && group.first as usize + group.count as usize <= items.len() + 1
+        && lacks_links(items, group)
 }
 
 /// Whether each group is sound.
