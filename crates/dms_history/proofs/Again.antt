@@ -104,11 +104,12 @@ ranges_steady dumps t base stored f b place bytes old none found steady last =
     let live_last : last_after f b t.live ≡ Some old = ap (λ (l : List Event). last_after f b l) (sym (parts t.live)) ∙ last_append (opening t.live) all f b ∙ ap (λ o. or_else o (last_after f b (opening t.live))) last in
     let chain = steady.sound.chain in
     let stands : old ≡ block_in (replay all base) f b = sym (last_stands all base f b old chain last) in
-    let grown : from_control (t.live ++ e ∷ []) ≡ all ++ e ∷ [] = (opening_append t.live (e ∷ []) found).1 in (
-      ap (λ o. history_from t (range_change f b place bytes o)) live_last,
-      (runs_steady dumps t base stored none found steady).change f b (Some old) (patched place bytes old) (logged_below all base f b old chain last, stands),
-      ap (λ (l : List Event). replay l base) grown ∙ replay_append all (e ∷ []) base ∙ ap (λ x. with_block (replay all base) f b (patched place bytes x)) stands,
-    )
+    let grown : from_control (t.live ++ e ∷ []) ≡ all ++ e ∷ [] = (opening_append t.live (e ∷ []) found).1 in
+    record {
+      is = ap (λ o. history_from t (range_change f b place bytes o)) live_last;
+      steady = (runs_steady dumps t base stored none found steady).change f b (Some old) (patched place bytes old) (logged_below all base f b old chain last, stands);
+      content = ap (λ (l : List Event). replay l base) grown ∙ replay_append all (e ∷ []) base ∙ ap (λ x. with_block (replay all base) f b (patched place bytes x)) stands;
+    }
 
 pub from_anything : FromAnything
 from_anything how dumps t base counted stored m steps ready may n at =

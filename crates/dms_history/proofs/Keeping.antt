@@ -1,5 +1,5 @@
 -- What a database keeps between two calls.
-use Rattle.std.proofs.Common.{ℕ, ◌≡◌, Bool, true, List, [], ◌∷◌, ◌++◌, Some, None, refl, sym, ◌∙◌, ap, subst, arith}
+use Rattle.std.proofs.Common.{ℕ, ◌≡◌, inl, inr, Bool, true, List, [], ◌∷◌, ◌++◌, take, Some, None, refl, sym, ◌∙◌, ap, subst, arith}
 use Rattle.dms_history.specs.Events.{Content, Stored, How, Event, change, quiet, control, begin}
 use Rattle.dms_history.specs.Replay.{apply, replay}
 use Rattle.dms_history.specs.Lists.{has}
@@ -18,7 +18,7 @@ use Rattle.dms_history.specs.declared.event.FileCount.{FileCount}
 use Rattle.dms_history.specs.Schemas.{no_parts, parts_from, is_whole, schema_entries}
 use Rattle.dms_history.specs.EntryEvents.{said_by, logged, events, history_of, live_of, next_of, ends_restore_logged, BeginsAlone}
 use Rattle.dms_history.specs.Kept.{content_told, Kept}
-use Rattle.dms_history.specs.LawsOfKept.{KeptFirst, KeptImage, KeptRange, KeptQuiet, KeptSchema, KeptControl, KeptBegin, KeptEnds, KeptWrites, KeptRestores, KeptAgrees, AgreesKept}
+use Rattle.dms_history.specs.LawsOfKept.{KeptFirst, KeptImage, KeptRange, KeptQuiet, KeptSchema, KeptControl, KeptBegin, KeptEnds, KeptWrites, KeptRestores, KeptAgrees, AgreesKept, KeptInParts, FirstAgrees}
 use Rattle.dms_history.proofs.Picks.{last_append}
 use Rattle.dms_history.proofs.AtPoints.{replay_append}
 use Rattle.dms_history.proofs.Base.{parts}
@@ -36,6 +36,7 @@ use Rattle.dms_history.proofs.Sealed.{one, image_sealed, range_sealed, quiet_sea
 use Rattle.dms_history.proofs.Whole.{agrees_is_steady, steady_agrees}
 use Rattle.dms_history.proofs.LastPending.{pending_cuts}
 use Rattle.dms_history.proofs.Alone.{alone_events, alone_more, not_begun}
+use Rattle.dms_history.proofs.SchemaParts.{parts_say_nothing, schema_in_parts}
 use Rattle.dms_history.proofs.Imaged.{image_told}
 
 none_not_some : {A : Type 0} (x : A) → None ≡ Some x → ⊥
@@ -100,7 +101,7 @@ kept_image first es dumps base stored f b before after k idle tells =
           (still_opened live ev base idle.controlled k.opened)
           (numbers_change (events es) live f b before after k.numbered)
           (λ xs m how at. absurd (not_begun es idle.none xs m how at))
-          ((images_go_on (live_logged [] (logged es)) k.images).0 (event ev) refl),
+          ((images_go_on (live_logged [] (logged es)) k.images).others (event ev) refl),
       content_event first es (image f b before after) (event ev) ev dumps base is refl idle.controlled,
     )
 
@@ -119,12 +120,12 @@ kept_range first es dumps base stored f b place bytes k idle itself =
     let ev = change f b (Some old) (patched place bytes old) in
     let is = (range_sealed es f b place bytes).0 old live_last in
     let r = ranges_steady dumps (history_of es) base stored f b place bytes old idle.none idle.controlled k.steady last in (
-      kept_event first es e l ev dumps base is dumps stored stored k (says_one es e l refl) r.1
+      kept_event first es e l ev dumps base is dumps stored stored k (says_one es e l refl) r.steady
           (still_opened live ev base idle.controlled k.opened)
           (numbers_change (events es) live f b (Some old) (patched place bytes old) k.numbered)
           (λ xs m how at. absurd (not_begun es idle.none xs m how at))
-          ((images_go_on ls k.images).1 f b place bytes itself),
-      ap (λ (h : History). replay (from_control h.live) base) (one_step first es e l ev dumps base is) ∙ r.2,
+          ((images_go_on ls k.images).ranges f b place bytes itself),
+      ap (λ (h : History). replay (from_control h.live) base) (one_step first es e l ev dumps base is) ∙ r.content,
     )
 
 pub kept_quiet : KeptQuiet
@@ -137,7 +138,7 @@ kept_quiet first es dumps base stored n k idle free low =
           (still_opened live ev base idle.controlled k.opened)
           (numbers_quiet (events es) live n k.numbered free low)
           (λ xs m how at. absurd (not_begun es idle.none xs m how at))
-          ((images_go_on (live_logged [] (logged es)) k.images).0 (event ev) refl),
+          ((images_go_on (live_logged [] (logged es)) k.images).others (event ev) refl),
       content_event first es (quiet_point n) (event ev) ev dumps base is refl idle.controlled,
     )
 
@@ -162,7 +163,7 @@ kept_control first es dumps base stored written n next counts k idle last placed
           (still_opened live ev base idle.controlled k.opened)
           (numbers_control (events es) (history_of es) n next (counts_in counts) (is_whole (parts_from no_parts es)) k.numbered last placed carried)
           (λ xs m how at. refl)
-          ((images_go_on (live_logged [] (logged es)) k.images).0 (event ev) refl),
+          ((images_go_on (live_logged [] (logged es)) k.images).others (event ev) refl),
       content_event first es (control_point n next counts) (event ev) ev dumps base is refl idle.controlled,
     )
 
@@ -191,7 +192,7 @@ kept_begin first es dumps others base right stored m kind k ready =
     (subst (λ (l : List Event). Opened l base) (sym ((opening_stays live).1 m ready.point_lives)) k.opened)
     (numbers_begin (events es) live m how k.numbered ready.point_lives.found)
     (λ xs n other at. refl)
-    ((images_go_on (live_logged [] (logged es)) k.images).2 m)
+    ((images_go_on (live_logged [] (logged es)) k.images).cuts m)
 
 pub kept_restores : KeptRestores
 kept_restores first es dumps base stored written p k is same =
@@ -220,7 +221,7 @@ kept_ends first es dumps base stored written p next counts k pending carried cou
           (still_opened live ev base found k.opened)
           (numbers_control (events es) (history_of es) p.point next (counts_in counts) (is_whole (parts_from no_parts es)) k.numbered cut.last at.found carried)
           (λ xs m how at. refl)
-          ((images_go_on (live_logged [] (logged es)) k.images).0 (event ev) refl),
+          ((images_go_on (live_logged [] (logged es)) k.images).others (event ev) refl),
       content_event first es (control_point p.point next counts) (event ev) ev dumps base is refl found,
     )
 
@@ -276,7 +277,7 @@ kept_first one rest dumps stored =
       numbered = subst (λ (l : List Event). Numbered (history l).live (next_number l)) (sym is) first_numbered;
       alone = subst BeginsAlone (sym says) (alone_more [] (event c) (λ xs ys m how x at. absurd (not_empty xs (x ∷ ys) (event (begin m how)) (sym at))) (λ xs m how at. absurd (not_empty xs [] (event (begin m how)) (sym at))));
       images = subst (λ (k : List Logged). HasImages (live_logged [] k)) (sym says)
-          ((images_go_on [] (record { images = λ xs ys f b place bytes at some. absurd (not_empty xs ys (range f b place bytes) (sym at)) })).0 (event c) refl);
+          ((images_go_on [] (record { images = λ xs ys f b place bytes at some. absurd (not_empty xs ys (range f b place bytes) (sym at)) })).others (event c) refl);
       empty = λ yes_first f. refl;
     }
   where
@@ -289,3 +290,12 @@ kept_first one rest dumps stored =
 
     first_numbered : Numbered (history (control 0 1 (counts_in []) true ∷ [])).live (next_number (control 0 1 (counts_in []) true ∷ []))
     first_numbered = subst (λ (l : List Event). Numbered l (next_number (control 0 1 (counts_in []) true ∷ []))) (sym first_live) (numbers_first (counts_in []) true)
+
+pub first_agrees : FirstAgrees
+first_agrees one rest dumps stored = kept_agrees true (schema_entries (one ∷ rest) ++ control_point 0 1 [] ∷ []) dumps (λ f. []) stored (kept_first one rest dumps stored)
+
+pub kept_in_parts : KeptInParts
+kept_in_parts first es dumps base stored some one rest e before with_all = elim (schema_in_parts some one rest e) [
+  | inl parts ↦ kept_same first es (es ++ take some (schema_entries (one ∷ rest) ++ e ∷ [])) dumps base stored (parts_say_nothing es (take some (schema_entries (one ∷ rest) ++ e ∷ [])) parts).0 before
+  | inr whole ↦ subst (λ (l : List Entry). Kept first (es ++ l) dumps base stored) (sym whole) with_all
+]

@@ -1,13 +1,13 @@
 -- A restore that is pending, or none.
 use Rattle.std.proofs.Common.{◌≡◌, inl, inr, true, false, List, Some, sym, ◌∙◌, ap, subst}
-use Rattle.dms_history.specs.Events.{Stored, Event}
+use Rattle.dms_history.specs.Events.{Stored, Event, Content, block_in}
 use Rattle.dms_history.specs.Lists.{has, until_first}
 use Rattle.dms_history.specs.Places.{is_described, is_point}
 use Rattle.dms_history.specs.History.{history, pending_point, last_number}
 use Rattle.dms_history.specs.Base.{from_control, Sound}
-use Rattle.dms_history.specs.LawsOfRestores.{PendingCuts, NoDumpCounts}
+use Rattle.dms_history.specs.LawsOfRestores.{PendingCuts, NoDumpCounts, HereFixed}
 use Rattle.dms_history.proofs.AtPoints.{bool_cases}
-use Rattle.dms_history.proofs.Stops.{has_self}
+use Rattle.dms_history.proofs.Stops.{has_self, here_is}
 use Rattle.dms_history.proofs.HalfDone.{has_front, until_until}
 use Rattle.dms_history.proofs.Order.{last_front}
 use Rattle.dms_history.proofs.Whole.{pending_cut}
@@ -44,3 +44,7 @@ pending_cuts entries p alone is =
           let whole : until_first (is_point m) h.live ≡ h.live = ap (λ (l : List Event). until_first (is_point m) l) cut ∙ until_until (is_point m) (is_point m) p.entries (has_self (is_point m) p.entries found) ∙ sym cut in
           record { found = there; described = ap (λ (l : List Event). has is_described l) whole ∙ has_front (is_point n) is_described h.live at.described };
     }
+
+pub here_fixed : HereFixed
+here_fixed dumps h base one two p is first second =
+    here_is dumps h p one is ∙ ap (λ (c : Content). block_in c) (first.restored p is ∙ sym (second.restored p is)) ∙ sym (here_is dumps h p two is)

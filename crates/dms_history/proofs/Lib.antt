@@ -32,4 +32,6 @@ pub mod Judging
 pub mod ListSteps
 pub mod Imaged
 pub mod Alone
+pub mod SchemaParts
+pub mod Sizing
 pub mod Keeping

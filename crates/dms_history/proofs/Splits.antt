@@ -79,14 +79,14 @@ split_entry p (x ∷ xs) = go (p x) (has p xs) (split_entry p xs)
     ]
 
 pub images_go_on : ImagesGoOn
-images_go_on live ranged = (
-  λ x off. record {
+images_go_on live ranged = record {
+  others = λ x off. record {
     images = λ xs ys f b place bytes is some. elim (split_push xs (range f b place bytes) ys live x (sym is)) [
       | inl end ↦ absurd (not_range x f b place bytes off end.1)
       | inr more ↦ ranged.images xs more.0 f b place bytes (sym more.2) some
     ];
-  },
-  λ g k at text image. record {
+  };
+  ranges = λ g k at text image. record {
     images = λ xs ys f b place bytes is some. elim (split_push xs (range f b place bytes) ys live (range g k at text) (sym is)) [
       | inl end ↦
           let one : f ≡ g = cc in
@@ -94,11 +94,11 @@ images_go_on live ranged = (
           (λ i. has (is_image (one i) (two i)) (after_last is_control_logged (end.2 i))) ∙ image
       | inr more ↦ ranged.images xs more.0 f b place bytes (sym more.2) some
     ];
-  },
-  λ n. let r = split_entry (is_point_logged n) live in record {
+  };
+  cuts = λ n. let r = split_entry (is_point_logged n) live in record {
     images = λ xs ys f b place bytes is some. elim r.1 [
       | inl none ↦ absurd (not_empty xs ys (range f b place bytes) (sym is ∙ none))
       | inr whole_is ↦ ranged.images xs (ys ++ r.0) f b place bytes (sym whole_is ∙ ap (λ (l : List Logged). l ++ r.0) is ∙ append_assoc xs (range f b place bytes ∷ ys) r.0) some
     ];
-  },
-)
+  };
+}

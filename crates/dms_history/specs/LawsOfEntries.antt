@@ -1,13 +1,14 @@
 -- Laws: entries, their events, and one more entry that is sealed.
-use Rattle.std.specs.Prelude.{ℕ, ◌+◌, ◌*◌, ◌≤◌, ◌<◌, ◌≡◌, ◌≢◌, true, false, List, [], ◌∷◌, ◌++◌, Option, Some, None}
+use Rattle.std.specs.Prelude.{ℕ, ◌+◌, ◌*◌, ◌≤◌, ◌<◌, ◌≡◌, ◌≢◌, true, false, List, [], ◌∷◌, ◌++◌, Option, Some, None, ◌⊎◌, take}
 use Rattle.dms_history.specs.Events.{Block, Event, change, quiet, control, begin}
 use Rattle.dms_history.specs.Images.{last_after}
-use Rattle.dms_history.specs.History.{after_event, history}
+use Rattle.dms_history.specs.History.{after_event, history, History, history_from}
 use Rattle.dms_history.specs.Ranges.{patched, live_logged}
 use Rattle.dms_history.specs.declared.event.FileCount.{FileCount}
 use Rattle.dms_history.specs.Entries.{Kind, Entry, schema_part, image, byte_range, quiet_point, control_point, begin_restore, counts_in, how_of, is_in_row}
 use Rattle.dms_history.specs.Schemas.{no_parts, parts_from, is_whole, schema_entries}
-use Rattle.dms_history.specs.EntryEvents.{logged, events, live_entries}
+use Rattle.dms_history.specs.EntryEvents.{logged, events, live_entries, BeginsAlone}
+use Rattle.dms_history.specs.Agrees.{BeginsAloneEvents}
 
 -- The entries end with a whole Schema exactly where its parts 1 to the last stand there one directly after another.
 abbrev pub WholeSchemas : Type 0
@@ -53,6 +54,35 @@ ControlSealed = (entries : List Entry) (first : List ℕ) (rest : List (List ℕ
 abbrev pub BeginSealed : Type 0
 BeginSealed = (entries : List Entry) (n : ℕ) (kind : Kind) → events (entries ++ begin_restore n kind ∷ []) ≡ events entries ++ begin n (how_of kind) ∷ []
 
+abbrev pub IsSchemaPart : Entry → Type 0
+IsSchemaPart (schema_part part parts bytes) = Unit {0}
+IsSchemaPart (image f b before after) = ⊥
+IsSchemaPart (byte_range f b place bytes) = ⊥
+IsSchemaPart (quiet_point n) = ⊥
+IsSchemaPart (control_point n next counts) = ⊥
+IsSchemaPart (begin_restore n kind) = ⊥
+
+abbrev pub AllSchemaParts : List Entry → Type 0
+AllSchemaParts [] = Unit {0}
+AllSchemaParts (e ∷ es) = IsSchemaPart e × AllSchemaParts es
+
+-- Schema parts say nothing, whole or not.
+abbrev pub PartsSayNothing : Type 0
+PartsSayNothing = (entries parts : List Entry) → AllSchemaParts parts → (logged (entries ++ parts) ≡ logged entries) × (events (entries ++ parts) ≡ events entries)
+
+-- The first so many of a Schema and its Control: Schema parts alone, or all.
+abbrev pub SchemaInParts : Type 0
+SchemaInParts = (some : ℕ) (first : List ℕ) (rest : List (List ℕ)) (e : Entry)
+    → AllSchemaParts (take some (schema_entries (first ∷ rest) ++ e ∷ [])) ⊎ (take some (schema_entries (first ∷ rest) ++ e ∷ []) ≡ schema_entries (first ∷ rest) ++ e ∷ [])
+
+-- A history goes on by parts.
+abbrev pub HistoryAppends : Type 0
+HistoryAppends = (h : History) (one two : List Event) → history_from h (one ++ two) ≡ history_from (history_from h one) two
+
 -- One more event is one more step of the history.
 abbrev pub OneMoreEvent : Type 0
 OneMoreEvent = (es : List Event) (e : Event) → history (es ++ e ∷ []) ≡ after_event (history es) e
+
+-- What may stand after a Begin among the entries may stand there among their events.
+abbrev pub EntriesAlone : Type 0
+EntriesAlone = (entries : List Entry) → BeginsAlone (logged entries) → BeginsAloneEvents (events entries)

@@ -1,5 +1,5 @@
 -- Laws: what a database keeps between two calls goes on over each entry that it seals and each block that it writes.
-use Rattle.std.specs.Prelude.{ℕ, ◌-◌, ◌^◌, ◌<◌, ◌≤◌, ◌≡◌, Bool, true, List, [], ◌∷◌, ◌++◌, length, Option, Some, None}
+use Rattle.std.specs.Prelude.{ℕ, ◌-◌, ◌^◌, ◌<◌, ◌≤◌, ◌≡◌, Bool, true, List, [], ◌∷◌, ◌++◌, take, length, Option, Some, None}
 use Rattle.dms_history.specs.Events.{Block, Content, Stored, block_in}
 use Rattle.dms_history.specs.Replay.{Tells, with_block}
 use Rattle.dms_history.specs.Lists.{has, after_last}
@@ -96,3 +96,13 @@ abbrev pub AgreesKept : Type 0
 AgreesKept = (first : Bool) (entries : List Entry) (dumps : Dumps) (stored : Stored) → Agrees first entries dumps stored → has is_control (live_of entries) ≡ true
     → ((p : Pending) → (history_of entries).pending ≡ Some p → IsLive (live_of entries) p.point)
     → (base : Content) × Kept first entries dumps base stored
+
+-- A Schema and its Control sealed in part or whole: what is kept before them and with them is kept with each first part of them.
+abbrev pub KeptInParts : Type 0
+KeptInParts = (first : Bool) (entries : List Entry) (dumps : Dumps) (base : Content) (stored : Stored) (some : ℕ) (one : List ℕ) (rest : List (List ℕ)) (e : Entry)
+    → Kept first entries dumps base stored → Kept first (entries ++ (schema_entries (one ∷ rest) ++ e ∷ [])) dumps base stored
+    → Kept first (entries ++ take some (schema_entries (one ∷ rest) ++ e ∷ [])) dumps base stored
+
+-- A new database agrees, whatever the files and dumps hold.
+abbrev pub FirstAgrees : Type 0
+FirstAgrees = (one : List ℕ) (rest : List (List ℕ)) (dumps : Dumps) (stored : Stored) → Agrees true (schema_entries (one ∷ rest) ++ control_point 0 1 [] ∷ []) dumps stored

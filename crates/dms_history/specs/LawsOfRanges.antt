@@ -30,13 +30,15 @@ RangeChanges = (entries : List Event) (base : Content) (stored : Stored) (f b pl
     × (replay (entries ++ changes_of entries (range f b place bytes)) base ≡ with_block (replay entries base) f b (patched place bytes (block_in (replay entries base) f b)))
 
 -- The same over a whole history without a pending restore: a Range of a block with a change since the first Control.
+pub record RangeSteady (dumps : Dumps) (h : History) (base : Content) (stored : Stored) (f b place : ℕ) (bytes : List ℕ) (old : Block) : Type 0 where
+  pub is : history_from h (changes_of h.live (range f b place bytes)) ≡ after_event h (change f b (Some old) (patched place bytes old))
+  pub steady : Steady dumps (after_event h (change f b (Some old) (patched place bytes old))) base stored
+  pub content : replay (from_control (after_event h (change f b (Some old) (patched place bytes old))).live) base
+      ≡ with_block (replay (from_control h.live) base) f b (patched place bytes (block_in (replay (from_control h.live) base) f b))
+
 abbrev pub RangesSteady : Type 0
 RangesSteady = (dumps : Dumps) (h : History) (base : Content) (stored : Stored) (f b place : ℕ) (bytes : List ℕ) (old : Block) → h.pending ≡ None → has is_control h.live ≡ true
-    → Steady dumps h base stored → last_after f b (from_control h.live) ≡ Some old
-    → (history_from h (changes_of h.live (range f b place bytes)) ≡ after_event h (change f b (Some old) (patched place bytes old)))
-    × Steady dumps (after_event h (change f b (Some old) (patched place bytes old))) base stored
-    × (replay (from_control (after_event h (change f b (Some old) (patched place bytes old))).live) base
-    ≡ with_block (replay (from_control h.live) base) f b (patched place bytes (block_in (replay (from_control h.live) base) f b)))
+    → Steady dumps h base stored → last_after f b (from_control h.live) ≡ Some old → RangeSteady dumps h base stored f b place bytes old
 
 -- Every live Range that isn't left out has a live Image itself of its block before it: after the last live Control before the Range,
 -- or anywhere from the front where there is no such Control.
@@ -54,11 +56,13 @@ is_range (event e) = false
 is_range (range f b place bytes) = true
 
 -- An entry that isn't a Range, a Range of a block with an Image itself since the last Control, and a cut keep it so.
+pub record ImagesOn (live : List Logged) : Type 0 where
+  pub others : (x : Logged) → is_range x ≡ false → HasImages (live ++ x ∷ [])
+  pub ranges : (f b place : ℕ) (bytes : List ℕ) → has (is_image f b) (after_last is_control_logged live) ≡ true → HasImages (live ++ range f b place bytes ∷ [])
+  pub cuts : (n : ℕ) → HasImages (until_first (is_point_logged n) live)
+
 abbrev pub ImagesGoOn : Type 0
-ImagesGoOn = (live : List Logged) → HasImages live
-    → ((x : Logged) → is_range x ≡ false → HasImages (live ++ x ∷ []))
-    × ((f b place : ℕ) (bytes : List ℕ) → has (is_image f b) (after_last is_control_logged live) ≡ true → HasImages (live ++ range f b place bytes ∷ []))
-    × ((n : ℕ) → HasImages (until_first (is_point_logged n) live))
+ImagesGoOn = (live : List Logged) → HasImages live → ImagesOn live
 
 -- A patched block is as long as it was, and the bytes between the first and the last that differ patch one block to the other.
 abbrev pub RangeFits : Type 0

@@ -77,3 +77,8 @@ pub record PendingCut (entries : List Event) (p : Pending) : Type 0 where
 
 abbrev pub PendingCuts : Type 0
 PendingCuts = (entries : List Event) (p : Pending) → BeginsAloneEvents entries → (history entries).pending ≡ Some p → PendingCut entries p
+
+-- While a restore is pending, what counts is the same whatever has been written so far.
+abbrev pub HereFixed : Type 0
+HereFixed = (dumps : Dumps) (h : History) (base : Content) (one two : Stored) (p : Pending) → h.pending ≡ Some p → Steady dumps h base one → Steady dumps h base two
+    → here dumps h one ≡ here dumps h two

@@ -22,6 +22,7 @@ pub mod Schemas
 pub mod EntryEvents
 pub mod LawsOfEntries
 pub mod Told
+pub mod Sizes
 pub mod Points
 pub mod LawsOfPointLists
 pub mod SchemaAt

@@ -3,15 +3,16 @@
 ghost use Rattle.dms_history.specs.LawsOfPoints.{ChoiceGivesContent, EachPoint, EachLivePoint, OpeningNeverCounts};
 ghost use Rattle.dms_history.specs.LawsOfBase.{AgreesHasBase, AgreesLeadsToBase, BaseAgrees, AgreesIsSteady, SteadyAgrees, OpeningStays, FrontGoes};
 ghost use Rattle.dms_history.specs.LawsOfRunning.{Changes, Quiets, WritesEarly, Controls, RunsSteady, SealsRun, PointsGoOn, QuietIsLive, ControlStands};
+ghost use Rattle.dms_history.specs.Sizes.{SizedReplay, SizedBase};
 ghost use Rattle.dms_history.specs.Told.{EachTold, EachFromFile};
 ghost use Rattle.dms_history.specs.LawsOfPointLists.{PointsListed, OneList, PointsFront, PointsStay, ListsChange, ListsQuiet, ListsControl, ListsBegin, LastKeepsAll};
 ghost use Rattle.dms_history.specs.LawsOfSchemas.{EachSchema, SchemaStays, SchemaOfNew, LiveHasSchema};
 ghost use Rattle.dms_history.specs.Judge.{EachJudged};
-ghost use Rattle.dms_history.specs.LawsOfRestores.{RestoreBegins, RestoreWrites, RestoreEnds, EndsFirst, PendingWritesFirst, NoDumpCounts, PendingCuts};
+ghost use Rattle.dms_history.specs.LawsOfRestores.{RestoreBegins, RestoreWrites, RestoreEnds, EndsFirst, PendingWritesFirst, NoDumpCounts, PendingCuts, HereFixed};
 ghost use Rattle.dms_history.specs.Often.{HoweverOften, FromAnything};
 ghost use Rattle.dms_history.specs.Numbers.{RollsBack, EachLast, LastLives, NextStays, EachNext, UsedOnce, NumbersChange, NumbersQuiet, NumbersBegin, NumbersControl, NumbersFirst, TrueDumpServes};
-ghost use Rattle.dms_history.specs.LawsOfEntries.{WholeSchemas, LiveOfEntries, RowsOfBlocks, SchemaSealed, ImageSealed, RangeSealed, QuietSealed, ControlSealed, BeginSealed, OneMoreEvent};
-ghost use Rattle.dms_history.specs.LawsOfKept.{KeptFirst, KeptImage, KeptRange, KeptQuiet, KeptSchema, KeptControl, KeptBegin, KeptEnds, KeptWrites, KeptRestores, KeptAgrees, AgreesKept};
+ghost use Rattle.dms_history.specs.LawsOfEntries.{WholeSchemas, LiveOfEntries, RowsOfBlocks, SchemaSealed, ImageSealed, RangeSealed, QuietSealed, ControlSealed, BeginSealed, OneMoreEvent, PartsSayNothing, SchemaInParts, HistoryAppends, EntriesAlone};
+ghost use Rattle.dms_history.specs.LawsOfKept.{KeptFirst, KeptImage, KeptRange, KeptQuiet, KeptSchema, KeptControl, KeptBegin, KeptEnds, KeptWrites, KeptRestores, KeptAgrees, AgreesKept, KeptInParts, FirstAgrees};
 ghost use Rattle.dms_history.specs.LawsOfRanges.{NoRanges, LiveOfRanges, LeftOut, RangeChanges, RangesSteady, RangesSplit, ImagesGoOn, RangeFits};
 
 /// Each live point has exactly the content that the entries up to its place give: changes before it are redone, changes after it undone.
@@ -101,6 +102,7 @@ pub fn blocks_are_told()
 pub fn pending_is_last()
     ensures last { PendingCuts }
     ensures dumps { NoDumpCounts }
+    ensures here { HereFixed }
 {}
 
 /// However often restores are stopped and begun anew, each point that is live in the end has the content that it had.
@@ -153,6 +155,10 @@ pub fn entries_are_sealed()
     ensures control { ControlSealed }
     ensures begin { BeginSealed }
     ensures event { OneMoreEvent }
+    ensures parts { PartsSayNothing }
+    ensures in_parts { SchemaInParts }
+    ensures history { HistoryAppends }
+    ensures alone { EntriesAlone }
 {}
 
 /// All that a database keeps between two calls is kept by each entry that it seals and by each block that it writes, and it is kept exactly where
@@ -170,4 +176,12 @@ pub fn kept_goes_on()
     ensures restores { KeptRestores }
     ensures agrees { KeptAgrees }
     ensures kept { AgreesKept }
+    ensures in_parts { KeptInParts }
+    ensures first_agrees { FirstAgrees }
+{}
+
+/// Over whole blocks whole images tell whole blocks, and where the content has whole blocks so had the base.
+pub fn blocks_stay_whole()
+    ensures replay { SizedReplay }
+    ensures base { SizedBase }
 {}

@@ -1,4 +1,4 @@
-use Rattle.dms_history.proofs.Keeping.{kept_first, kept_image, kept_range, kept_quiet, kept_schema, kept_control, kept_begin, kept_ends, kept_writes, kept_restores, kept_agrees, agrees_kept}
+use Rattle.dms_history.proofs.Keeping.{kept_first, kept_image, kept_range, kept_quiet, kept_schema, kept_control, kept_begin, kept_ends, kept_writes, kept_restores, kept_agrees, agrees_kept, kept_in_parts, first_agrees}
 use Rattle.dms_history.proofs.laws.kept_goes_on.Goals as goal
 
 pub returns : goal.returns
@@ -15,4 +15,6 @@ returns c = record {
   restores = kept_restores;
   agrees = kept_agrees;
   kept = agrees_kept;
+  in_parts = kept_in_parts;
+  first_agrees = first_agrees;
 }

@@ -1,4 +1,4 @@
-use Rattle.std.proofs.Common.{ℕ, List, ◌++◌, drop, ap, ◌∙◌, sym}
+use Rattle.std.proofs.Common.{ℕ, List, ◌++◌, drop, ap, ◌∙◌}
 use Rattle.dms_history.proofs.PlainPick.{to_end}
 use Rattle.dms_history.proofs.PatchedParts.{patched_is}
 use Rattle.dms_history.proofs.plain.patched.Goals as goal
