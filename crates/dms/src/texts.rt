@@ -1,7 +1,9 @@
-ghost use Rattle.std.specs.Prelude.{◌≡◌};
+ghost use Rattle.std.specs.Prelude.{◌≡◌, Some};
+ghost use Rattle.dms.specs.Lines.{parse_words, compile_words, lines_of};
 ghost use Rattle.dms.specs.Numbers.{number_of};
 
 use dasdl_compile::CompileFault;
+use dasdl_parse::ParseFault;
 use dms_base::Name;
 use dms_top::{LimitKind, SchemaFault, Status};
 use std::fmt;
@@ -38,63 +40,88 @@ pub fn code_of(ending: &Ending) -> u8
 struct NameText(Name);
 
 impl fmt::Display for NameText {
+    ghost output = { λ n. Some n.0 };
+
     fn fmt<W: fmt::Write>(&self, f: &mut fmt::Formatter<W>) -> fmt::Result {
-        for byte in self.0.bytes() {
-            f.write_char(char::from(*byte))?;
+        match str::from_utf8(self.0.bytes()) {
+            Ok(text) => f.write_str(text),
+            Err(_) => Err(fmt::Error),
         }
-        Ok(())
     }
 }
 
-/// What is said of a refused schema.
+/// What is said of a text that isn't in the schema language.
 #[derive(Drop)]
-struct SchemaLine(SchemaFault);
+struct ParseText(ParseFault);
 
-impl fmt::Display for SchemaLine {
+impl fmt::Display for ParseText {
+    ghost output = { λ t. Some (parse_words t.0) };
+
     fn fmt<W: fmt::Write>(&self, f: &mut fmt::Formatter<W>) -> fmt::Result {
         match self.0 {
-            SchemaFault::Parse(fault) => write!(f, "{fault}"),
-            SchemaFault::Compile(CompileFault::Twice(name)) => write!(
-                f,
-                "twice {}",
-                NameText(name)
-            ),
-            SchemaFault::Compile(CompileFault::Unknown(name)) => {
-                write!(f, "unknown {}", NameText(name))
-            }
-            SchemaFault::Compile(CompileFault::KeyItem(name)) => {
-                write!(f, "bad key {}", NameText(name))
-            }
-            SchemaFault::Compile(CompileFault::CondKind(name)) => {
-                write!(f, "bad condition {}", NameText(name))
-            }
-            SchemaFault::Compile(CompileFault::Embedding(name)) => {
-                write!(f, "bad place {}", NameText(name))
-            }
-            SchemaFault::Compile(fault) => write!(f, "{fault}"),
+            ParseFault::BadCharacter(place) => write!(f, "bad character at {place}"),
+            ParseFault::Expected(place) => write!(f, "unexpected at {place}"),
+            ParseFault::NumberRange(place) => write!(f, "number out of range at {place}"),
+            ParseFault::TooMany(limit) => write!(f, "more than {limit}"),
+            ParseFault::Memory => f.write_str("no memory"),
+        }
+    }
+}
+
+/// What is said of a check of the compiler that fails.
+#[derive(Drop)]
+struct CompileText(CompileFault);
+
+impl fmt::Display for CompileText {
+    ghost output = { λ t. Some (compile_words t.0) };
+
+    fn fmt<W: fmt::Write>(&self, f: &mut fmt::Formatter<W>) -> fmt::Result {
+        match self.0 {
+            CompileFault::Twice(name) => write!(f, "twice {}", NameText(name)),
+            CompileFault::Unknown(name) => write!(f, "unknown {}", NameText(name)),
+            CompileFault::KeyItem(name) => write!(f, "bad key {}", NameText(name)),
+            CompileFault::CondKind(name) => write!(f, "bad condition {}", NameText(name)),
+            CompileFault::RecordLong(bytes) => write!(f, "record of {bytes} bytes"),
+            CompileFault::KeyLong(bytes) => write!(f, "key of {bytes} bytes"),
+            CompileFault::NoRestart => f.write_str("no restart data set"),
+            CompileFault::Embedding(name) => write!(f, "bad place {}", NameText(name)),
+            CompileFault::DescriptionLong(bytes) => write!(f, "description of {bytes} bytes"),
+            CompileFault::Memory => f.write_str("no memory"),
         }
     }
 }
 
 /// What is said of an ending, nothing where all went well. It is written as it is made, and needs no memory.
 impl fmt::Display for Ending {
+    ghost output = { λ e. Some (lines_of e) };
+
     fn fmt<W: fmt::Write>(&self, f: &mut fmt::Formatter<W>) -> fmt::Result {
-        let status = match self {
-            Ending::InUse => return f.write_str("dms: the folder is in use\n"),
-            Ending::Command(status) => *status,
-        };
-        match status {
-            Status::Ok => Ok(()),
-            Status::BadWords => f.write_str("dms: bad words\ndms: see dms --help\n"),
-            Status::SchemaRefused(fault) => writeln!(f, "dms: schema: {}", SchemaLine(fault)),
-            Status::DiskFault => f.write_str("dms: disk fault\n"),
-            Status::InputFault => f.write_str("dms: input fault\n"),
-            Status::Memory => f.write_str("dms: no memory\n"),
-            Status::Limit(LimitKind::Lines) => f.write_str("dms: too many lines\n"),
-            Status::Limit(LimitKind::Bytes) => f.write_str("dms: too many bytes\n"),
-            Status::Limit(LimitKind::Held) => f.write_str("dms: too many held lines\n"),
-            Status::SayFault => f.write_str("dms: output fault\n"),
-            Status::Exists => f.write_str("dms: exists already\n"),
+        match *self {
+            Ending::InUse => f.write_str("dms: the folder is in use\n"),
+            Ending::Command(Status::Ok) => Ok(()),
+            Ending::Command(Status::BadWords) => {
+                f.write_str("dms: bad words\ndms: see dms --help\n")
+            }
+            Ending::Command(Status::SchemaRefused(SchemaFault::Parse(fault))) => {
+                writeln!(f, "dms: schema: {}", ParseText(fault))
+            }
+            Ending::Command(Status::SchemaRefused(SchemaFault::Compile(fault))) => {
+                writeln!(f, "dms: schema: {}", CompileText(fault))
+            }
+            Ending::Command(Status::DiskFault) => f.write_str("dms: disk fault\n"),
+            Ending::Command(Status::InputFault) => f.write_str("dms: input fault\n"),
+            Ending::Command(Status::Memory) => f.write_str("dms: no memory\n"),
+            Ending::Command(Status::Limit(LimitKind::Lines)) => {
+                f.write_str("dms: too many lines\n")
+            }
+            Ending::Command(Status::Limit(LimitKind::Bytes)) => {
+                f.write_str("dms: too many bytes\n")
+            }
+            Ending::Command(Status::Limit(LimitKind::Held)) => {
+                f.write_str("dms: too many held lines\n")
+            }
+            Ending::Command(Status::SayFault) => f.write_str("dms: output fault\n"),
+            Ending::Command(Status::Exists) => f.write_str("dms: exists already\n"),
         }
     }
 }

@@ -1,0 +1,68 @@
+-- The lines that tell how the program ended.
+use Rattle.std.specs.Prelude.{ℕ, List, [], ◌∷◌, ◌++◌, codes, decimal}
+use Rattle.dasdl_compile.specs.declared.fault.CompileFault.{CompileFault}
+use Rattle.dasdl_compile.specs.declared.fault.CompileFault.TheVariants.{Twice, Unknown, KeyItem, CondKind, RecordLong, KeyLong, NoRestart, Embedding, DescriptionLong, Memory as NoRoom}
+use Rattle.dasdl_parse.specs.declared.fault.ParseFault.{ParseFault}
+use Rattle.dasdl_parse.specs.declared.fault.ParseFault.TheVariants.{BadCharacter, Expected, NumberRange, TooMany, Memory as NoSpace}
+use Rattle.dms.specs.declared.texts.Ending.{Ending}
+use Rattle.dms.specs.declared.texts.Ending.TheVariants.{Command, InUse}
+use Rattle.dms_top.specs.declared.status.LimitKind.{LimitKind}
+use Rattle.dms_top.specs.declared.status.LimitKind.TheVariants.{Lines, Bytes, Held}
+use Rattle.dms_top.specs.declared.status.SchemaFault.{SchemaFault}
+use Rattle.dms_top.specs.declared.status.SchemaFault.TheVariants.{Parse, Compile}
+use Rattle.dms_top.specs.declared.status.Status.{Status}
+use Rattle.dms_top.specs.declared.status.Status.TheVariants.{Ok, BadWords, SchemaRefused, DiskFault, InputFault, Memory, Limit, SayFault, Exists}
+
+-- words, the number at their place, and words behind it
+abbrev pub counted : List ℕ → ℕ → List ℕ → List ℕ
+counted before n behind = before ++ (decimal n ++ behind)
+
+-- a text that isn't in the schema language, or passes one of its limits
+abbrev pub parse_words : ParseFault → List ℕ
+parse_words (BadCharacter p) = counted (codes "bad character at ") p []
+parse_words (Expected p) = counted (codes "unexpected at ") p []
+parse_words (NumberRange p) = counted (codes "number out of range at ") p []
+parse_words (TooMany n) = counted (codes "more than ") n []
+parse_words NoSpace = codes "no memory"
+
+-- a check of the compiler that fails
+abbrev pub compile_words : CompileFault → List ℕ
+compile_words (Twice name) = codes "twice " ++ name
+compile_words (Unknown name) = codes "unknown " ++ name
+compile_words (KeyItem name) = codes "bad key " ++ name
+compile_words (CondKind name) = codes "bad condition " ++ name
+compile_words (RecordLong n) = counted (codes "record of ") n (codes " bytes")
+compile_words (KeyLong n) = counted (codes "key of ") n (codes " bytes")
+compile_words NoRestart = codes "no restart data set"
+compile_words (Embedding name) = codes "bad place " ++ name
+compile_words (DescriptionLong n) = counted (codes "description of ") n (codes " bytes")
+compile_words NoRoom = codes "no memory"
+
+abbrev pub schema_words : SchemaFault → List ℕ
+schema_words (Parse fault) = parse_words fault
+schema_words (Compile fault) = compile_words fault
+
+abbrev pub limit_words : LimitKind → List ℕ
+limit_words Lines = codes "too many lines"
+limit_words Bytes = codes "too many bytes"
+limit_words Held = codes "too many held lines"
+
+-- a line of the program, with its line feed
+abbrev pub line : List ℕ → List ℕ
+line words = codes "dms: " ++ (words ++ (10 ∷ []))
+
+abbrev pub status_lines : Status → List ℕ
+status_lines Ok = []
+status_lines BadWords = line (codes "bad words") ++ line (codes "see dms --help")
+status_lines (SchemaRefused fault) = line (codes "schema: " ++ schema_words fault)
+status_lines DiskFault = line (codes "disk fault")
+status_lines InputFault = line (codes "input fault")
+status_lines Memory = line (codes "no memory")
+status_lines (Limit kind) = line (limit_words kind)
+status_lines SayFault = line (codes "output fault")
+status_lines Exists = line (codes "exists already")
+
+-- what is said of each ending
+abbrev pub lines_of : Ending → List ℕ
+lines_of (Command status) = status_lines status
+lines_of InUse = line (codes "the folder is in use")
