@@ -5,9 +5,6 @@ ghost use Rattle.std.specs.Prelude.{◌≡◌, ◌+◌, ◌^◌, ◌≤◌, ◌<
 ghost use Rattle.std.specs.Int.{w16, w32, w64, to_be_bytes};
 ghost use Rattle.dms_fields.specs.Fields.{bytes_at, number_at, laid};
 
-#[cfg(test)]
-mod tests;
-
 /// The `n` bytes from a place on; None exactly where too few are left.
 pub fn take_bytes(bytes: &[u8], at: usize, n: usize) -> Option<&[u8]>
     ensures { option_map (λ b. b.now) result ≡ bytes_at bytes.now at n }
