@@ -119,3 +119,68 @@ A byte that no line holds, in a comment, too; a carriage return that stands befo
   2 BADLINE 8
   3 A DONE
   4 BADLINE 9
+
+Small letters, blanks and comments; structures within D, a group that is shown, and further bad lines.
+
+  $ "$DMS" try <<'END'
+  > RDS RESTART DATA SET (PID NUMBER(4););
+  > D DATA SET (X NUMBER(4); G GROUP (T ALPHA(4); B BOOLEAN;); F FIELD(3); L LINK TO D; E DATA SET (Y NUMBER(4);); M SUBSET OF D;);
+  > S SET OF D KEY IS (T, X);
+  > SCRIPT
+  > a:open inquiry;
+  > A: OPEN % UPDATE
+  > A : CLOSE ; % done
+  > A: CLOSE :
+  > A: PUT D T = "a""b", X = ?
+  > A: FIND S AT T "Z"
+  > A: FIND D
+  > A: FIND FIRST E
+  > A: FIND FIRST M
+  > A: STORE E
+  > A: FIND S AT T = 5
+  > A: PUT D X = +
+  > A: PUT D X = 4.
+  > A: PUT D F = 123456789012345678 X
+  > A: GET D L
+  > A: GET D , X
+  > A: BEGIN-TRANSACTION NO-AUDIT D
+  > A: END-TRANSACTION NO-AUDIT RDS; SYNC
+  > A: BEGIN-TRANSACTION AUDIT RDS SYNC
+  > A: OPEN UPDATE
+  > A: CREATE D
+  > A: PUT D X = 4.00, B = false , T=""
+  > A: GET D F, G, F
+  > END
+  1 A DONE
+  2 BADLINE 17
+  3 A DONE
+  4 BADLINE 10
+  5 BADLINE 26
+  6 BADLINE 16
+  7 BADLINE 10
+  8 BADLINE 15
+  9 BADLINE 15
+  10 BADLINE 10
+  11 BADLINE 18
+  12 BADLINE 14
+  13 BADLINE 15
+  14 BADLINE 33
+  15 BADLINE 10
+  16 BADLINE 10
+  17 BADLINE 31
+  18 BADLINE 34
+  19 BADLINE 32
+  20 A DONE
+  21 A DONE
+  22 A DONE
+  23 A DONE F=NULL, T="", B=FALSE, F=NULL
+
+Bytes that no line holds, also behind a verb and in a line of its own; a line of 2,000 bytes, and one of 2,001.
+
+  $ { printf 'RDS RESTART DATA SET (PID ALPHA(10););\nSCRIPT\nA: CLO\rSE\n%% \001\nA: CLOSE\000; D\nA: CLOSE%1992s\nA: CLOSE%1993s\n' '' ''; } > script
+  $ "$DMS" try < script
+  1 BADLINE 4
+  2 BADLINE 3
+  3 BADLINE 9
+  4 A EXCEPTION OPENERROR A
+  5 BADLINE 2001

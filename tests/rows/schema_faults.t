@@ -22,6 +22,8 @@ A byte that begins no token, and a string that is unfinished or too long.
   dms: schema: bad character at 22
   $ first 'D DATA SET %% a \177\n(X NUMBER(4););'
   dms: schema: bad character at 16
+  $ first 'A SET OF B- ;'
+  dms: schema: bad character at 11
 
 A token that the grammar doesn't allow, or the text's end.
 
@@ -170,6 +172,8 @@ A key that is none.
   dms: schema: bad key N
   $ first 'R RESTART DATA SET (P ALPHA(1);); D DATA SET (G GROUP (X0 BOOLEAN; X1 BOOLEAN; X2 BOOLEAN; X3 BOOLEAN; X4 BOOLEAN; X5 BOOLEAN; X6 BOOLEAN; X7 BOOLEAN; X8 BOOLEAN; X9 BOOLEAN; X10 BOOLEAN; X11 BOOLEAN; X12 BOOLEAN; X13 BOOLEAN; X14 BOOLEAN; X15 BOOLEAN; X16 BOOLEAN; );); N SET OF D KEY IS G;'
   dms: schema: bad key N
+  $ first 'R RESTART DATA SET (P ALPHA(1);); D DATA SET (G GROUP (N BOOLEAN;);); S SET OF D KEY IS (N, G);'
+  dms: schema: bad key N
 
 A condition, or an initial value, of another kind.
 
@@ -193,6 +197,8 @@ A structure or link that can not stand there.
   $ first 'R RESTART DATA SET (P ALPHA(1);); D DATA SET (X NUMBER(4); E DATA SET (Y NUMBER(4););); F DATA SET (N LINK TO E;);'
   dms: schema: bad place N
   $ first 'R RESTART DATA SET (P ALPHA(1);); D DATA SET (X NUMBER(4); E DATA SET (Y NUMBER(4););); N SET OF E KEY IS Y;'
+  dms: schema: bad place N
+  $ first 'R RESTART DATA SET (P ALPHA(1);); D DATA SET (A BOOLEAN; N SET OF D KEY IS A;);'
   dms: schema: bad place N
 
 Faults stand in text order, whatever they are: an unknown name before a name used twice, and the missing restart data set last.
@@ -218,6 +224,8 @@ A name has 30 bytes at most, and structures stand within structures up to level 
   dms: schema: more than 30
   $ first 'R RESTART DATA SET (P ALPHA(1);); A DATA SET (X NUMBER(4); B DATA SET (X NUMBER(4); C DATA SET (X NUMBER(4););););'
   $ first 'R RESTART DATA SET (P ALPHA(1);); A DATA SET (X NUMBER(4); B DATA SET (X NUMBER(4); C DATA SET (X NUMBER(4); D DATA SET (X NUMBER(4);););););'
+  dms: schema: more than 3
+  $ first 'R RESTART DATA SET (P ALPHA(1);); A DATA SET (X NUMBER(4); B DATA SET (X NUMBER(4); C DATA SET (X NUMBER(4); S SET OF C KEY IS X;);););'
   dms: schema: more than 3
 
 A data set has 60 items, a key 16 parts, a condition 100 nodes, a schema 200 structures and 4,000 counted links at most.

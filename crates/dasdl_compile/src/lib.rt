@@ -14,8 +14,6 @@ mod members;
 mod outline;
 mod sets;
 mod steps;
-#[cfg(test)]
-mod tests;
 mod widths;
 mod work;
 

@@ -1,5 +1,5 @@
 -- Each structure stands in none, in the structure before it, or in one in which that one stands.
-use Rattle.std.proofs.Common.{◌≡◌, ◌≤◌, ◌<◌, ◌+◌, ◌-◌, ◌⊎◌, inl, inr, ℕ, suc, zero, min, List, [], ◌∷◌, ◌++◌, map, length, length-append, Bool, true, false, cond, refl, sym, ap, subst, ◌∙◌, arith}
+use Rattle.std.proofs.Common.{◌≡◌, ◌≤◌, ◌+◌, ◌-◌, ◌⊎◌, inl, inr, ℕ, suc, zero, List, [], ◌∷◌, ◌++◌, map, length, length-append, Bool, true, false, cond, refl, sym, ap, subst, ◌∙◌, arith}
 use Rattle.std.proofs.lemmas.Bool.{eq-eqb}
 use Rattle.std.proofs.lemmas.List.{map-append, length-map}
 use Rattle.std.proofs.lemmas.Option.{slice_get-map}
@@ -165,6 +165,6 @@ before_low os _ _ low (outward n m d at some a) = inr (inr (d, at, some, final_a
 
 pub opens : (made : List Draft) (n m : ℕ) → AllByRecursion (Low (map outer made)) (map outer made) → Around (map outer made) n m → (m == 0 || is_open_behind (map shape_in made) n m) ≡ true
 opens made n m low a = elim (before_low (map outer made) n m low a) [
-      | inl e ↦ near_is (map shape_in made) n m (inl (sym e))
-      | inr u ↦ near_is (map shape_in made) n m (near 3 made n m u a)
-    ]
+  | inl e ↦ near_is (map shape_in made) n m (inl (sym e))
+  | inr u ↦ near_is (map shape_in made) n m (near 3 made n m u a)
+]

@@ -18,8 +18,6 @@ mod parameters;
 mod reading;
 mod schema;
 mod sets;
-#[cfg(test)]
-mod tests;
 mod token;
 mod turns;
 

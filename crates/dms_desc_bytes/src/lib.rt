@@ -10,8 +10,6 @@ mod members;
 mod parts;
 mod reading;
 mod sets;
-#[cfg(test)]
-mod tests;
 mod writing;
 
 pub use laws::spelling_law;

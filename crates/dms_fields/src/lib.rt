@@ -7,9 +7,6 @@ ghost use Rattle.dms_fields.specs.Fields.{bytes_at, number_at, laid};
 
 mod prefix;
 
-#[cfg(test)]
-mod tests;
-
 pub use prefix::{slice_at, u8_at, u16_at, u32_at, u64_at};
 
 /// The `n` bytes from a place on; None exactly where too few are left.

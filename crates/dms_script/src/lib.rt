@@ -7,8 +7,6 @@ mod line;
 mod look;
 mod replies;
 mod shown;
-#[cfg(test)]
-mod tests;
 mod verbs;
 
 pub use line::{LINE_BYTES, Line, read_line};
