@@ -17,6 +17,7 @@ use Rattle.dms_base.specs.declared.value.Value.{Value}
 use Rattle.dms_base.specs.declared.value.Value.TheVariants.{Null, Text, Number, Bool as Truth, Bits, Link as Reference}
 use Rattle.dms_base.specs.declared.kind.ItemKind.{ItemKind}
 use Rattle.dms_base.specs.declared.kind.ItemKind.TheVariants.{Alpha, Number as Decimal, Bool as OneBit, Field, Link}
+use Rattle.dms_base.specs.Fits.{fits}
 use Rattle.dms_base.specs.Orders.{value_cmp, truth_cmp}
 use Rattle.dms_base.specs.Text.{IsText, trimmed, before_trimmed, is_printable}
 use Rattle.dms_desc.specs.declared.structure.KeyPart.{KeyPart}
@@ -199,14 +200,18 @@ field_order k (Bits b) Null f g = refl
 field_order k (Reference b) Null f g = refl
 field_order k v w f g = absurd (cc (f.fits, g.fits))
 
+-- a value's bytes are as many as its kind says
+pub fits_length : (k : ItemKind) (v : Value) → fits k v ≡ true → length (field_bytes k v) ≡ suc (width_of k)
+fits_length k Null f = ap suc (spaces_length (width_of k) 255)
+fits_length (Alpha n) (Text a) f = ap suc (filled_length n a (text_short n a f))
+fits_length (Decimal n m s) (Number z) f = refl
+fits_length OneBit (Truth b) f = refl
+fits_length (Field n) (Bits b) f = refl
+fits_length (Link to counted) (Reference r) f = refl
+fits_length k v f = absurd (cc (f))
+
 pub field_length : (k : ItemKind) (v : Value) → FitsKind k v → length (field_bytes k v) ≡ suc (width_of k)
-field_length k Null f = ap suc (spaces_length (width_of k) 255)
-field_length (Alpha n) (Text a) f = ap suc (filled_length n a (text_short n a f.fits))
-field_length (Decimal n m s) (Number z) f = refl
-field_length OneBit (Truth b) f = refl
-field_length (Field n) (Bits b) f = refl
-field_length (Link to counted) (Reference r) f = refl
-field_length k v f = absurd (cc (f.fits))
+field_length k v f = fits_length k v f.fits
 
 all_bytes : (n b : ℕ) → b ≤ 255 → AreBytes (replicate n b)
 all_bytes zero b h = tt

@@ -24,7 +24,7 @@ use Rattle.dms_desc.specs.Shape.{Shape}
 use Rattle.dms_fields.specs.Fields.{bytes_at, number_at}
 use Rattle.dms_fields.specs.Laid.{bytes_again}
 use Rattle.dms_key.specs.KeyBytes.{width_of, shifted, bit_of, value_bytes, field_bytes}
-use Rattle.dms_key.specs.KeyOrder.{field_length, number_small, bits_small, link_small, shifted_small, both_of}
+use Rattle.dms_key.specs.KeyOrder.{field_length, fits_length, number_small, bits_small, link_small, shifted_small, both_of}
 use Rattle.dms_layout.specs.declared.slot.Slot.{Slot}
 use Rattle.dms_layout.specs.declared.slot.SlotRead.{SlotRead}
 use Rattle.dms_layout.specs.declared.slot.SlotRead.TheVariants.{Free, Used, Bad}
@@ -165,4 +165,18 @@ slot_again s slot kinds f =
 pub slot_length : (s : Shape) (slot : Slot) → AreKinds s.items → SlotFits s slot → length (slot_bytes s.items slot) ≡ slot_width s.items
 slot_length s slot kinds f =
     let e = record_length s.items slot.rec.values (each_fits s.items slot.rec.values kinds f.values f.plain) in
+    omega (arith, e)
+
+record_long : (is : List Item) (vs : List Value) → all_fit is vs ≡ true → length (record_bytes is vs) ≡ record_width is
+record_long [] [] f = refl
+record_long [] (v ∷ vs) f = absurd (cc (f))
+record_long (i ∷ is) [] f = absurd (cc (f))
+record_long (i ∷ is) (v ∷ vs) f =
+    let both = both_of (fits i.kind v) (all_fit is vs) f in
+    length-append (field_bytes i.kind v) (record_bytes is vs) ∙ (λ j. fits_length i.kind v both.0 j + record_long is vs both.1 j)
+
+-- a slot whose values fit is as long as a slot
+pub slot_long : (items : List Item) (slot : Slot) → all_fit items slot.rec.values ≡ true → length (slot_bytes items slot) ≡ slot_width items
+slot_long items slot f =
+    let e = record_long items slot.rec.values f in
     omega (arith, e)

@@ -1,0 +1,51 @@
+use Rattle.std.proofs.Common.{◌≡◌, ◌<◌, ◌≤◌, ◌∙◌, ◌-◌, ◌/◌, ◌%◌, ℕ, List, length, sym, ap, subst, arith, inr, get_or, [], false}
+use Rattle.std.specs.Prelude.{IsTrue}
+use Rattle.std.proofs.Math.Nat as nat
+use Rattle.dms_desc.specs.Shape.{shape_of}
+use Rattle.dms_block.specs.Changing.{grown_is}
+use Rattle.dms_block.specs.View.{seen, seen_counts, under, written}
+use Rattle.dms_slots.specs.SlotBlocks.{file_of, slot_at, is_block}
+use Rattle.dms_slots.specs.SlotBlockLaws.{read_there, slot_past, bad_block}
+use Rattle.dms_slots.proofs.finding.read_slot.Goals as goal
+
+pub returns-then-from-at-clause-slot : goal.returns-then-from-at-clause-slot
+returns-then-from-at-clause-slot g c tells =
+    let b = c.args.b.now in
+    let f = file_of c.args.s.now.number in
+    let counted = grown_is (written b) (under b).owns (under b).counts (under b).content ((g.met.B.Blocks.agrees b.below c.requires.sound).counted tells) b.fits f in
+    let here = ap (seen_counts b) c.file_of-file.ensures in
+    slot_past (shape_of c.args.s.now) (seen b f) c.args.number c.per_block-per.result c.per_block-per.ensures.count
+    (omega (arith, counted, here, c.count.ensures, c.from.ensures, c.if-from-at.true))
+
+pub returns-in-Free-clause-slot : goal.returns-in-Free-clause-slot
+returns-in-Free-clause-slot g c tells =
+    let b = c.args.b.now in
+    let f = file_of c.args.s.now.number in
+    let counted = grown_is (written b) (under b).owns (under b).counts (under b).content ((g.met.B.Blocks.agrees b.below c.requires.sound).counted tells) b.fits f in
+    let here = ap (seen_counts b) c.file_of-file.ensures in
+    read_there (shape_of c.args.s.now) (seen b f) c.args.number c.per_block-per.result c.in_ok-bytes.bytes.0 c.in_ok-slot_in.field-0 c.per_block-per.ensures.count (c.per_block-per.ensures.some c.requires.fits)
+    (omega (arith, counted, here, c.count.ensures, c.from.ensures, c.if-from-at.false))
+    (c.in_ok-bytes.ensures.block tells ∙ ap (λ (h : ℕ). get_or (seen b h) ((c.args.number - 1) / c.per_block-per.result) []) c.file_of-file.ensures) c.in_ok-slot_in.ensures ∙ c.in-Free.is
+
+pub returns-in-Used-clause-slot : goal.returns-in-Used-clause-slot
+returns-in-Used-clause-slot g c tells =
+    let b = c.args.b.now in
+    let f = file_of c.args.s.now.number in
+    let counted = grown_is (written b) (under b).owns (under b).counts (under b).content ((g.met.B.Blocks.agrees b.below c.requires.sound).counted tells) b.fits f in
+    let here = ap (seen_counts b) c.file_of-file.ensures in
+    read_there (shape_of c.args.s.now) (seen b f) c.args.number c.per_block-per.result c.in_ok-bytes.bytes.0 c.in_ok-slot_in.field-0 c.per_block-per.ensures.count (c.per_block-per.ensures.some c.requires.fits)
+    (omega (arith, counted, here, c.count.ensures, c.from.ensures, c.if-from-at.false))
+    (c.in_ok-bytes.ensures.block tells ∙ ap (λ (h : ℕ). get_or (seen b h) ((c.args.number - 1) / c.per_block-per.result) []) c.file_of-file.ensures) c.in_ok-slot_in.ensures ∙ c.in-Used.is
+
+pub returns-in-Bad-clause-causes : goal.returns-in-Bad-clause-causes
+returns-in-Bad-clause-causes g c = inr (c.in_ok-bytes.ensures.causes, (c.file_of-file.ensures, λ tells.
+    let b = c.args.b.now in
+    let f = file_of c.args.s.now.number in
+    let counted = grown_is (written b) (under b).owns (under b).counts (under b).content ((g.met.B.Blocks.agrees b.below c.requires.sound).counted tells) b.fits f in
+    let here = ap (seen_counts b) c.file_of-file.ensures in
+    let low : (c.args.number - 1) / c.per_block-per.result < length (seen b f) = omega (arith, counted, here, c.count.ensures, c.from.ensures, c.if-from-at.false) in
+    let is = c.in_ok-bytes.ensures.block tells ∙ ap (λ (h : ℕ). get_or (seen b h) ((c.args.number - 1) / c.per_block-per.result) []) c.file_of-file.ensures in
+    let some = c.per_block-per.ensures.some c.requires.fits in
+    let place : (c.args.number - 1) % c.per_block-per.result < c.per_block-per.result = nat.mod-lt (c.args.number - 1) some in
+    (low, subst (λ (l : List ℕ). is_block (shape_of c.args.s.now) l ≡ false) is
+    (bad_block (shape_of c.args.s.now) c.in_ok-bytes.bytes.0 _ (subst (λ (n : ℕ). (c.args.number - 1) % c.per_block-per.result < n) c.per_block-per.ensures.count place) (sym c.in_ok-slot_in.ensures ∙ c.in-Bad.is)))))

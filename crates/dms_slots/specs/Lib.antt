@@ -1,0 +1,2 @@
+pub mod SlotBlockLaws
+pub mod SlotBlocks

@@ -1,0 +1,176 @@
+-- The slots of a file by its blocks.
+use Rattle.std.proofs.Common.{◌≡◌, ◌+◌, ◌-◌, ◌*◌, ◌/◌, ◌%◌, ◌<◌, ◌≤◌, ℕ, zero, suc, List, [], ◌∷◌, ◌++◌, flat_map, Bool, true, false, refl, sym, ap, ◌∙◌, subst, length, take, drop, replicate, get_or, slice_get, arith}
+use Rattle.std.specs.Prelude.{◌&&◌, IsTrue}
+use Rattle.std.specs.declared.option.Option.{Option}
+use Rattle.std.specs.declared.option.Option.TheVariants.{None, Some}
+use Rattle.std.proofs.lemmas.List.{length-replicate, drop_all}
+use Rattle.std.proofs.lemmas.Nat.{div-add-mod'}
+use Rattle.std.proofs.Math.Nat as nat
+use Rattle.dms_desc.specs.declared.structure.Item.{Item}
+use Rattle.dms_desc.specs.Shape.{Shape}
+use Rattle.dms_layout.specs.declared.slot.Slot.{Slot}
+use Rattle.dms_layout.specs.declared.slot.SlotRead.{SlotRead}
+use Rattle.dms_layout.specs.declared.slot.SlotRead.TheVariants.{Free, Used, Bad}
+use Rattle.dms_layout.specs.Slots.{slot_width, slot_of}
+use Rattle.dms_slots.specs.SlotBlocks.{per_block, block_of, place_of, is_slot, is_used, are_slots, is_block, cut, slots_by, slots_in, slots_of, or_free, slot_at, next_free, used_first}
+
+-- ---- lists
+
+get_left : {A : Type 0} (xs ys : List A) (i : ℕ) → i < length xs → slice_get (xs ++ ys) i ≡ slice_get xs i
+get_left [] ys i low = absurd (omega arith)
+get_left (x ∷ xs) ys zero low = refl
+get_left (x ∷ xs) ys (suc i) low = get_left xs ys i (omega arith)
+
+get_right : {A : Type 0} (xs ys : List A) (i j : ℕ) → j ≡ length xs + i → slice_get (xs ++ ys) j ≡ slice_get ys i
+get_right [] ys i j e = ap (slice_get ys) (omega (arith, e))
+get_right (x ∷ xs) ys i j e = ap (slice_get (x ∷ (xs ++ ys))) (let h : j ≡ suc (length xs + i) = omega (arith, e) in h) ∙ get_right xs ys i (length xs + i) refl
+
+-- pieces of one length
+module _ {A B : Type 0} (f : A → List B) (n : ℕ) (long : (x : A) → length (f x) ≡ n) where
+  pub piece_get : (xs : List A) (q r : ℕ) (d : A) → r < n → q < length xs → slice_get (flat_map f xs) (q * n + r) ≡ slice_get (f (get_or xs q d)) r
+  piece_get [] q r d low within = absurd (omega arith)
+  piece_get (x ∷ xs) zero r d low within =
+      ap (slice_get (f x ++ flat_map f xs)) (let e : 0 * n + r ≡ r = omega arith in e) ∙ get_left (f x) (flat_map f xs) r (omega (arith, long x))
+  piece_get (x ∷ xs) (suc q) r d low within =
+      get_right (f x) (flat_map f xs) (q * n + r) (suc q * n + r) (omega (arith, long x, nat.suc-mul q n)) ∙ piece_get xs q r d low (omega arith)
+
+  pub pieces_past : (xs : List A) (q r : ℕ) → length xs ≤ q → slice_get (flat_map f xs) (q * n + r) ≡ None
+  pieces_past [] q r past = refl
+  pieces_past (x ∷ xs) zero r past = absurd (omega arith)
+  pieces_past (x ∷ xs) (suc q) r past =
+      get_right (f x) (flat_map f xs) (q * n + r) (suc q * n + r) (omega (arith, long x, nat.suc-mul q n)) ∙ pieces_past xs q r (omega arith)
+
+-- ---- one block
+
+cut_length : (s : Shape) (k : ℕ) (bytes : List ℕ) → length (cut s k bytes) ≡ k
+cut_length s zero bytes = refl
+cut_length s (suc k) bytes = ap suc (cut_length s k (drop (slot_width s.items) bytes))
+
+by_length : (b : Bool) (s : Shape) (bytes : List ℕ) → length (slots_by b s bytes) ≡ per_block s.items
+by_length true s bytes = cut_length s (per_block s.items) bytes
+by_length false s bytes = length-replicate (per_block s.items) Bad
+
+pub slots_length : (s : Shape) (bytes : List ℕ) → length (slots_in s bytes) ≡ per_block s.items
+unfolding slots_in
+slots_length s bytes = by_length (is_block s bytes) s bytes
+
+drop_more : (a b : ℕ) (l : List ℕ) → drop a (drop b l) ≡ drop (b + a) l
+drop_more a zero l = ap (λ k. drop k l) (omega arith)
+drop_more a (suc b) [] = (λ i. drop_all a [] (omega arith) i) ∙ sym (drop_all (suc b + a) [] (omega arith))
+drop_more a (suc b) (x ∷ l) = drop_more a b l ∙ ap (λ k. drop k (x ∷ l)) (let e : suc (b + a) ≡ suc b + a = omega arith in e)
+
+cut_get : (s : Shape) (k p : ℕ) (bytes : List ℕ) → p < k → slice_get (cut s k bytes) p ≡ Some (slot_of s (take (slot_width s.items) (drop (p * slot_width s.items) bytes)))
+cut_get s zero p bytes low = absurd (omega arith)
+cut_get s (suc k) zero bytes low = ap (λ n. Some (slot_of s (take (slot_width s.items) (drop n bytes)))) (let e : 0 ≡ 0 * slot_width s.items = omega arith in e)
+cut_get s (suc k) (suc p) bytes low =
+    let w = slot_width s.items in
+    cut_get s k p (drop w bytes) (omega arith)
+    ∙ ap (λ l. Some (slot_of s (take w l))) (drop_more (p * w) w bytes ∙ ap (λ n. drop n bytes) (let e : w + p * w ≡ suc p * w = omega (arith, nat.suc-mul p w) in e))
+
+-- the slot at a place of a block
+pub place_in : (s : Shape) (block slot : List ℕ) (p w : ℕ) (r : SlotRead) → p < per_block s.items → is_block s block ≡ true → w ≡ slot_width s.items
+    → slot ≡ take w (drop (p * w) block) → r ≡ slot_of s slot → r ≡ or_free (slice_get (slots_in s block) p)
+unfolding slots_in
+place_in s block slot p w r low good width here is =
+    is ∙ ap (slot_of s) (here ∙ ap (λ n. take n (drop (p * n) block)) width)
+    ∙ sym (ap (λ b. or_free (slice_get (slots_by b s block) p)) good ∙ ap or_free (cut_get s (per_block s.items) p block low))
+
+bad_get : (n p : ℕ) → p < n → slice_get (replicate n Bad) p ≡ Some Bad
+bad_get zero p low = absurd (omega arith)
+bad_get (suc n) zero low = refl
+bad_get (suc n) (suc p) low = bad_get n p (omega arith)
+
+-- each slot of a block that is none is bad
+pub place_bad : (s : Shape) (block : List ℕ) (p : ℕ) → p < per_block s.items → is_block s block ≡ false → Bad ≡ or_free (slice_get (slots_in s block) p)
+unfolding slots_in
+place_bad s block p low bad = sym (ap (λ b. or_free (slice_get (slots_by b s block) p)) bad ∙ ap or_free (bad_get (per_block s.items) p low))
+
+both_hold : (a b : Bool) → (a && b) ≡ true → (a ≡ true) × (b ≡ true)
+both_hold true b h = (refl, h)
+both_hold false b h = absurd (cc)
+
+no_bad : (s : Shape) (k p : ℕ) (bytes : List ℕ) → p < k → are_slots s k bytes ≡ true → is_slot (or_free (slice_get (cut s k bytes) p)) ≡ true
+no_bad s zero p bytes low good = absurd (omega arith)
+no_bad s (suc k) zero bytes low good = (both_hold (is_slot (slot_of s (take (slot_width s.items) bytes))) (are_slots s k (drop (slot_width s.items) bytes)) good).0
+no_bad s (suc k) (suc p) bytes low good = no_bad s k p (drop (slot_width s.items) bytes) (omega arith) (both_hold (is_slot (slot_of s (take (slot_width s.items) bytes))) (are_slots s k (drop (slot_width s.items) bytes)) good).1
+
+bad_by : (b : Bool) (s : Shape) (block : List ℕ) (p : ℕ) → is_block s block ≡ b → p < per_block s.items → or_free (slice_get (slots_by b s block) p) ≡ Bad → b ≡ false
+unfolding is_block
+bad_by true s block p e low h =
+    let good = no_bad s (per_block s.items) p block low e in
+    let bad : is_slot (or_free (slice_get (cut s (per_block s.items) block) p)) ≡ false = ap is_slot h in
+    absurd (cc (good, bad))
+bad_by false s block p e low h = refl
+
+-- and only those are
+pub bad_block : (s : Shape) (block : List ℕ) (p : ℕ) → p < per_block s.items → or_free (slice_get (slots_in s block) p) ≡ Bad → is_block s block ≡ false
+unfolding slots_in
+bad_block s block p low h = bad_by (is_block s block) s block p refl low h
+
+-- ---- a walk through a block
+
+left_more : (i n : ℕ) → i < n → n - i ≡ suc (n - (i + 1))
+left_more i n low = omega arith
+
+pub walk_on : (s : Shape) (i n w : ℕ) (rest slot more : List ℕ) (r : SlotRead) (b : Bool) → i < n → w ≡ slot_width s.items → slot ≡ take w rest → more ≡ drop w rest
+    → r ≡ slot_of s slot → is_slot r ≡ true → are_slots s (n - i) rest ≡ b → are_slots s (n - (i + 1)) more ≡ b
+walk_on s i n w rest slot more r b low width here behind is good so_far =
+    let here' : is_slot (slot_of s (take (slot_width s.items) rest)) ≡ true = ap (λ k. is_slot (slot_of s (take k rest))) (sym width) ∙ ap (λ l. is_slot (slot_of s l)) (sym here) ∙ ap is_slot (sym is) ∙ good in
+    ap (are_slots s (n - (i + 1))) (behind ∙ ap (λ k. drop k rest) width)
+    ∙ sym (ap (λ a. a && are_slots s (n - (i + 1)) (drop (slot_width s.items) rest)) here')
+    ∙ ap (λ k. are_slots s k rest) (sym (left_more i n low)) ∙ so_far
+
+pub walk_stops : (s : Shape) (i n w : ℕ) (rest slot : List ℕ) (r : SlotRead) (b : Bool) → i < n → w ≡ slot_width s.items → slot ≡ take w rest
+    → r ≡ slot_of s slot → is_slot r ≡ false → are_slots s (n - i) rest ≡ b → false ≡ b
+walk_stops s i n w rest slot r b low width here is bad so_far =
+    let here' : is_slot (slot_of s (take (slot_width s.items) rest)) ≡ false = ap (λ k. is_slot (slot_of s (take k rest))) (sym width) ∙ ap (λ l. is_slot (slot_of s l)) (sym here) ∙ ap is_slot (sym is) ∙ bad in
+    sym (ap (λ a. a && are_slots s (n - (i + 1)) (drop (slot_width s.items) rest)) here')
+    ∙ ap (λ k. are_slots s k rest) (sym (left_more i n low)) ∙ so_far
+
+used_next : (r : SlotRead) (n : ℕ) → is_used r ≡ true → next_free r n ≡ suc n
+used_next Free n h = absurd (cc)
+used_next (Used slot) n h = refl
+used_next Bad n h = absurd (cc)
+
+not_used_next : (r : SlotRead) (n : ℕ) → is_used r ≡ false → next_free r n ≡ 0
+not_used_next Free n h = refl
+not_used_next (Used slot) n h = absurd (cc)
+not_used_next Bad n h = refl
+
+walk_same : (s : Shape) (i n w : ℕ) (rest slot : List ℕ) (r : SlotRead) → i < n → w ≡ slot_width s.items → slot ≡ take w rest → r ≡ slot_of s slot
+    → used_first (cut s (n - i) rest) ≡ next_free r (used_first (cut s (n - (i + 1)) (drop (slot_width s.items) rest)))
+walk_same s i n w rest slot r low width here is =
+    ap (λ k. used_first (cut s k rest)) (left_more i n low)
+    ∙ ap (λ x. next_free x (used_first (cut s (n - (i + 1)) (drop (slot_width s.items) rest)))) (sym (is ∙ ap (slot_of s) (here ∙ ap (λ k. take k rest) width)))
+
+pub count_on : (s : Shape) (i n w first : ℕ) (rest slot more : List ℕ) (r : SlotRead) → i < n → w ≡ slot_width s.items → slot ≡ take w rest → more ≡ drop w rest
+    → r ≡ slot_of s slot → is_used r ≡ true → first ≡ i + used_first (cut s (n - i) rest) → first ≡ (i + 1) + used_first (cut s (n - (i + 1)) more)
+count_on s i n w first rest slot more r low width here behind is used so_far =
+    let step = walk_same s i n w rest slot r low width here is ∙ used_next r (used_first (cut s (n - (i + 1)) (drop (slot_width s.items) rest))) used in
+    let more' : used_first (cut s (n - (i + 1)) more) ≡ used_first (cut s (n - (i + 1)) (drop (slot_width s.items) rest)) = ap (λ l. used_first (cut s (n - (i + 1)) l)) (behind ∙ ap (λ k. drop k rest) width) in
+    omega (arith, so_far, step, more')
+
+pub count_stops : (s : Shape) (i n w first : ℕ) (rest slot : List ℕ) (r : SlotRead) → i < n → w ≡ slot_width s.items → slot ≡ take w rest
+    → r ≡ slot_of s slot → is_used r ≡ false → first ≡ i + used_first (cut s (n - i) rest) → i ≡ first
+count_stops s i n w first rest slot r low width here is free so_far =
+    let step = walk_same s i n w rest slot r low width here is ∙ not_used_next r (used_first (cut s (n - (i + 1)) (drop (slot_width s.items) rest))) free in
+    omega (arith, so_far, step)
+
+-- ---- a file
+
+pub slot_there : (s : Shape) (bs : List (List ℕ)) (number per : ℕ) → per ≡ per_block s.items → 0 < per → (number - 1) / per < length bs
+    → slot_at s bs number ≡ or_free (slice_get (slots_in s (get_or bs ((number - 1) / per) [])) ((number - 1) % per))
+slot_there s bs number per e some low =
+    ap (λ i. or_free (slice_get (slots_of s bs) i)) (sym (div-add-mod' (number - 1) per))
+    ∙ ap or_free (piece_get (slots_in s) per (λ x. slots_length s x ∙ sym e) bs ((number - 1) / per) ((number - 1) % per) [] (nat.mod-lt (number - 1) some) low)
+
+pub slot_past : (s : Shape) (bs : List (List ℕ)) (number per : ℕ) → per ≡ per_block s.items → length bs ≤ (number - 1) / per → slot_at s bs number ≡ Free
+slot_past s bs number per e past =
+    ap (λ i. or_free (slice_get (slots_of s bs) i)) (sym (div-add-mod' (number - 1) per))
+    ∙ ap or_free (pieces_past (slots_in s) per (λ x. slots_length s x ∙ sym e) bs ((number - 1) / per) ((number - 1) % per) past)
+
+-- what is read of a block that stands there
+pub read_there : (s : Shape) (bs : List (List ℕ)) (number per : ℕ) (block : List ℕ) (r : SlotRead) → per ≡ per_block s.items → 0 < per → (number - 1) / per < length bs
+    → block ≡ get_or bs ((number - 1) / per) [] → r ≡ or_free (slice_get (slots_in s block) ((number - 1) % per)) → slot_at s bs number ≡ r
+read_there s bs number per block r e some low is read =
+    slot_there s bs number per e some low ∙ ap (λ l. or_free (slice_get (slots_in s l) ((number - 1) % per))) (sym is) ∙ sym read

@@ -1,0 +1,95 @@
+-- The slots of a data set's file: those of its blocks, one block after another.
+use Rattle.std.specs.Prelude.{ℕ, zero, suc, ◌+◌, ◌-◌, ◌*◌, ◌/◌, ◌%◌, ◌<◌, ◌≤◌, ◌≡◌, List, [], ◌∷◌, ◌++◌, flat_map, Bool, true, false, ◌&&◌, Some, None, if◌then◌else◌, IsTrue, length, take, drop, replicate, slice_get, slice_index_or}
+use Rattle.std.specs.declared.option.Option.{Option}
+use Rattle.std.specs.List.{list_all}
+use Rattle.dms_desc.specs.declared.structure.Item.{Item}
+use Rattle.dms_desc.specs.Shape.{Shape}
+use Rattle.dms_layout.specs.declared.slot.Slot.{Slot}
+use Rattle.dms_layout.specs.declared.slot.SlotRead.{SlotRead}
+use Rattle.dms_layout.specs.declared.slot.SlotRead.TheVariants.{Free, Used, Bad}
+use Rattle.dms_layout.specs.Slots.{slot_width, slot_of, is_zero}
+
+-- the file of a structure
+abbrev pub file_of : ℕ → ℕ
+file_of number = 30000 + number
+
+-- how many whole slots fit into a block
+abbrev pub per_block : List Item → ℕ
+per_block items = 1024 / slot_width items
+
+-- the block of a record's slot, and its place there
+abbrev pub block_of : List Item → ℕ → ℕ
+block_of items number = (number - 1) / per_block items
+
+abbrev pub place_of : List Item → ℕ → ℕ
+place_of items number = (number - 1) % per_block items
+
+abbrev pub is_slot : SlotRead → Bool
+is_slot Free = true
+is_slot (Used slot) = true
+is_slot Bad = false
+
+abbrev pub is_used : SlotRead → Bool
+is_used Free = false
+is_used (Used slot) = true
+is_used Bad = false
+
+-- so many slots one after another, each free or used, and zeros behind them
+abbrev pub are_slots : Shape → ℕ → List ℕ → Bool
+are_slots s zero bytes = list_all is_zero bytes
+are_slots s (suc k) bytes = is_slot (slot_of s (take (slot_width s.items) bytes)) && are_slots s k (drop (slot_width s.items) bytes)
+
+-- a block of a data set's file
+unfoldable pub is_block : Shape → List ℕ → Bool
+is_block s bytes = are_slots s (per_block s.items) bytes
+
+-- so many slots one after another
+abbrev pub cut : Shape → ℕ → List ℕ → List SlotRead
+cut s zero bytes = []
+cut s (suc k) bytes = slot_of s (take (slot_width s.items) bytes) ∷ cut s k (drop (slot_width s.items) bytes)
+
+abbrev pub slots_by : Bool → Shape → List ℕ → List SlotRead
+slots_by true s bytes = cut s (per_block s.items) bytes
+slots_by false s bytes = replicate (per_block s.items) Bad
+
+-- the slots of a block, each bad where the block is none
+unfoldable pub slots_in : Shape → List ℕ → List SlotRead
+slots_in s bytes = slots_by (is_block s bytes) s bytes
+
+-- the slots of a file in their order
+abbrev pub slots_of : Shape → List (List ℕ) → List SlotRead
+slots_of s bs = flat_map (slots_in s) bs
+
+abbrev pub or_free : Option SlotRead → SlotRead
+or_free None = Free
+or_free (Some r) = r
+
+-- the slot of the record with a number, counted from 1; behind the last block it is free
+abbrev pub slot_at : Shape → List (List ℕ) → ℕ → SlotRead
+slot_at s bs number = or_free (slice_get (slots_of s bs) (number - 1))
+
+abbrev pub slot_opt : Option Slot → SlotRead
+slot_opt None = Free
+slot_opt (Some slot) = Used slot
+
+abbrev pub next_free : SlotRead → ℕ → ℕ
+next_free Free rest = 0
+next_free (Used slot) rest = suc rest
+next_free Bad rest = 0
+
+-- how many used slots stand before the first other one
+abbrev pub used_first : List SlotRead → ℕ
+used_first [] = 0
+used_first (r ∷ rs) = next_free r (used_first rs)
+
+-- this block of the file isn't one of a data set
+abbrev pub BadBlock : Bool → Shape → ℕ → List (List ℕ) → ℕ → ℕ → Type 0
+BadBlock told s file bs f b = (f ≡ file) × (IsTrue told → (b < length bs) × (is_block s (slice_index_or bs b []) ≡ false))
+
+-- the bytes of a block, zeros where there is none yet
+abbrev pub block_or_zeros : Option (List ℕ) → List ℕ
+block_or_zeros None = replicate 1024 0
+block_or_zeros (Some bytes) = bytes
+
+abbrev pub block_at : List (List ℕ) → ℕ → List ℕ
+block_at bs b = block_or_zeros (slice_get bs b)

@@ -1,0 +1,120 @@
+ghost use Rattle.std.specs.Prelude.{◌≡◌, ◌+◌, ◌<◌, ◌≤◌, IfOk, length, slice_get, take, drop};
+ghost use Rattle.std.specs.List.{list_all};
+ghost use Rattle.dms_desc.specs.Shape.{shape_of};
+ghost use Rattle.dms_layout.specs.Slots.{slot_width, is_zero};
+ghost use Rattle.dms_slots.specs.SlotBlocks.{file_of, per_block, is_slot, is_used, are_slots, is_block, cut, slots_in, or_free, used_first};
+
+use dms_base::Memory;
+use dms_block::Block;
+use dms_desc::Structure;
+use dms_layout::{SlotRead, from_slot, slot_width};
+use std::alloc::Global;
+
+/// The file of a structure.
+pub fn file_of(s: &Structure) -> u32
+    ensures { result ≡ file_of s.now.number }
+{
+    30_000 + u32::from(s.number)
+}
+
+/// How many bytes a slot has.
+pub fn width_of(s: &Structure) -> usize
+    requires few { length s.now.items ≤ 60 }
+    ensures width { result ≡ slot_width s.now.items }
+    ensures low { 13 ≤ result }
+    ensures most { result ≤ 20000 }
+{
+    slot_width(s.items.as_slice())
+}
+
+/// How many slots a block has.
+pub fn per_block(s: &Structure) -> usize
+    requires few { length s.now.items ≤ 60 }
+    ensures count { result ≡ per_block s.now.items }
+    ensures most { result ≤ 1024 }
+    ensures some { slot_width s.now.items ≤ 1024 → 0 < result }
+{
+    1024 / width_of(s)
+}
+
+fn is_slot(read: &SlotRead) -> bool
+    ensures { result ≡ is_slot read.now }
+{
+    !matches!(read, SlotRead::Bad)
+}
+
+fn is_used(read: &SlotRead) -> bool
+    ensures { result ≡ is_used read.now }
+{
+    matches!(read, SlotRead::Used(_))
+}
+
+// The first bytes, and those behind them; fewer where there are no more.
+fn ahead(bytes: &[u8], n: usize) -> &[u8]
+    ensures { result.now ≡ take n bytes.now }
+{
+    &bytes[..n.min(bytes.len())]
+}
+
+fn behind(bytes: &[u8], n: usize) -> &[u8]
+    ensures { result.now ≡ drop n bytes.now }
+{
+    &bytes[n.min(bytes.len())..]
+}
+
+fn are_zeros(bytes: &[u8]) -> bool
+    ensures { result ≡ list_all is_zero bytes.now }
+{
+    bytes.iter().all(|byte| *byte == 0)
+}
+
+/// Whether each slot of a block is free or used, with zeros behind the last one.
+#[tactic(auto, unfolding(crate::specs::SlotBlocks::is_block))]
+pub fn is_block(alloc: Global, s: &Structure, block: &Block) -> Result<bool, Memory>
+    requires few { length s.now.items ≤ 60 }
+    ensures { IfOk result (λ is. is ≡ is_block (shape_of s.now) block.now.0) }
+{
+    let width = width_of(s);
+    let mut rest: &[u8] = &block.0;
+    for _i in 0..per_block(s) {
+        let read = from_slot(alloc, s, ahead(rest, width))?;
+        if !is_slot(&read) {
+            return Ok(false);
+        }
+        rest = behind(rest, width);
+    }
+    Ok(are_zeros(rest))
+}
+
+/// What stands at a place of a block; bad where the block is none.
+#[tactic(auto, unfolding(crate::specs::SlotBlocks::slots_in))]
+pub fn slot_in(alloc: Global, s: &Structure, block: &Block, place: usize) -> Result<SlotRead, Memory>
+    requires few { length s.now.items ≤ 60 }
+    requires place { place < per_block s.now.items }
+    ensures { IfOk result (λ r. r ≡ or_free (slice_get (slots_in (shape_of s.now) block.now.0) place)) }
+{
+    if !is_block(alloc, s, block)? {
+        return Ok(SlotRead::Bad);
+    }
+    let width = width_of(s);
+    from_slot(alloc, s, ahead(behind(&block.0, place * width), width))
+}
+
+// How many used slots stand before the first other one, of so many.
+fn used_first(alloc: Global, s: &Structure, bytes: &[u8]) -> Result<usize, Memory>
+    requires few { length s.now.items ≤ 60 }
+    ensures first { IfOk result (λ n. n ≡ used_first (cut (shape_of s.now) (per_block s.now.items) bytes.now)) }
+    ensures most { IfOk result (λ n. n ≤ per_block s.now.items) }
+{
+    let width = width_of(s);
+    let per = per_block(s);
+    let mut rest = bytes;
+    for i in 0..per {
+        let read = from_slot(alloc, s, ahead(rest, width))?;
+        if !is_used(&read) {
+            return Ok(i);
+        }
+        rest = behind(rest, width);
+    }
+    Ok(per)
+}

@@ -1,0 +1,10 @@
+//! Slots of a data set's file, by record number, over any blocks.
+#![tactic(auto)]
+
+mod cutting;
+mod finding;
+mod writing;
+
+pub use cutting::{file_of, is_block, per_block};
+pub use finding::read_slot;
+pub use writing::{free_slot, write_slot};

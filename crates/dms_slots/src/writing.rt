@@ -1,0 +1,114 @@
+ghost use Rattle.std.specs.Prelude.{◌≡◌, ◌+◌, ◌*◌, ◌<◌, ◌≤◌, true, IfOk, OnOk, OnErr, IsTrue, length, replicate};
+ghost use Rattle.dms_desc.specs.Shape.{shape_of};
+ghost use Rattle.dms_fields.specs.Fields.{laid};
+ghost use Rattle.dms_layout.specs.Slots.{all_fit, slot_bytes, slot_width};
+ghost use Rattle.dms_block.specs.Content.{raised, with_block};
+ghost use Rattle.dms_block.specs.Held.{HasCausesOr};
+ghost use Rattle.dms_block.specs.View.{Reads, Writes, seen, seen_counts, under, written};
+ghost use Rattle.dms_slots.specs.SlotBlocks.{file_of, block_of, place_of, is_block, block_at, BadBlock};
+
+use crate::cutting::{file_of, is_block, per_block, width_of};
+use dms_block::{Block, BlockFault, BlockId, Blocks, Overlay};
+use dms_desc::Structure;
+use dms_layout::{Slot, to_slot};
+use std::alloc::Global;
+
+// Lays bytes over those of a block from a place on.
+#[tactic(auto, using(std::proofs::lemmas::List::places), unfolding(dms_fields::specs::Fields::laid))]
+fn patch(block: &mut Block, at: usize, bytes: &[u8])
+    requires { at + length bytes.now ≤ 1024 }
+    ensures { block.new.0 ≡ laid at bytes.now block.old.0 }
+{
+    block.0[at..at + bytes.len()].copy_from_slice(bytes);
+}
+
+// A block of the data set's file, zeros where it is new.
+fn block_at<B: Blocks>(b: &mut Overlay<B>, alloc: Global, s: &Structure, block: u32) -> Result<Block, BlockFault>
+    requires sound { (under b.old).sound }
+    requires few { length s.now.items ≤ 60 }
+    ensures block { IfOk result (λ x. IsTrue (under b.old).told → x.0 ≡ block_at (seen b.old (file_of s.now.number)) block) }
+    ensures good { IfOk result (λ x. block < seen_counts b.old (file_of s.now.number) → is_block (shape_of s.now) x.0 ≡ true) }
+    ensures reads { Reads 1 result b.old b.new }
+    ensures causes { HasCausesOr (BadBlock (under b.old).told (shape_of s.now) (file_of s.now.number) (seen b.old (file_of s.now.number))) result (under b.old) (under b.new) }
+{
+    let file = file_of(s);
+    if b.count(file) <= block {
+        return Ok(Block([0; 1024]));
+    }
+    let bytes = b.read(alloc, BlockId { file, block })?;
+    if !is_block(alloc, s, &bytes)? {
+        return Err(BlockFault::Damaged(file, block));
+    }
+    Ok(bytes)
+}
+
+// Writes the bytes of the slot of a record.
+fn write_bytes<B: Blocks>(b: &mut Overlay<B>, alloc: Global, s: &Structure, number: u64, bytes: &[u8]) -> Result<(), BlockFault>
+    requires sound { (under b.old).sound }
+    requires owned { IsTrue ((under b.old).owns (file_of s.now.number)) }
+    requires few { length s.now.items ≤ 60 }
+    requires fits { slot_width s.now.items ≤ 1024 }
+    requires number { 1 ≤ number }
+    requires most { number ≤ 1000000 }
+    requires next { block_of s.now.items number ≤ seen_counts b.old (file_of s.now.number) }
+    requires long { length bytes.now ≡ slot_width s.now.items }
+    ensures seen { OnOk result (IsTrue (under b.old).told → seen b.new ≡ with_block (seen b.old) (file_of s.now.number) (block_of s.now.items number) (laid (place_of s.now.items number * slot_width s.now.items) bytes.now (block_at (seen b.old (file_of s.now.number)) (block_of s.now.items number)))) }
+    ensures counts { OnOk result (seen_counts b.new ≡ raised (seen_counts b.old) (file_of s.now.number) (block_of s.now.items number)) }
+    ensures writes { Writes 1 1 result b.old b.new }
+    ensures err { OnErr result (written b.new ≡ written b.old) }
+    ensures causes { HasCausesOr (BadBlock (under b.old).told (shape_of s.now) (file_of s.now.number) (seen b.old (file_of s.now.number))) result (under b.old) (under b.new) }
+{
+    let per = per_block(s) as u64;
+    let block = ((number - 1) / per) as u32;
+    let place = ((number - 1) % per) as usize;
+    let mut new = block_at(b, alloc, s, block)?;
+    patch(&mut new, place * width_of(s), bytes);
+    b.write(
+        BlockId {
+            file: file_of(s),
+            block,
+        },
+        &new,
+    )
+}
+
+/// Writes a record's slot, over another one or into the next block of the file. `Damaged` where the slot's block isn't
+/// one of a data set. After want of memory nothing is written.
+pub fn write_slot<B: Blocks>(b: &mut Overlay<B>, alloc: Global, s: &Structure, number: u64, slot: &Slot) -> Result<(), BlockFault>
+    requires sound { (under b.old).sound }
+    requires owned { IsTrue ((under b.old).owns (file_of s.now.number)) }
+    requires few { length s.now.items ≤ 60 }
+    requires fits { slot_width s.now.items ≤ 1024 }
+    requires number { 1 ≤ number }
+    requires most { number ≤ 1000000 }
+    requires next { block_of s.now.items number ≤ seen_counts b.old (file_of s.now.number) }
+    requires values { IsTrue (all_fit s.now.items slot.now.rec.values) }
+    ensures seen { OnOk result (IsTrue (under b.old).told → seen b.new ≡ with_block (seen b.old) (file_of s.now.number) (block_of s.now.items number) (laid (place_of s.now.items number * slot_width s.now.items) (slot_bytes s.now.items slot.now) (block_at (seen b.old (file_of s.now.number)) (block_of s.now.items number)))) }
+    ensures counts { OnOk result (seen_counts b.new ≡ raised (seen_counts b.old) (file_of s.now.number) (block_of s.now.items number)) }
+    ensures writes { Writes 1 1 result b.old b.new }
+    ensures err { OnErr result (written b.new ≡ written b.old) }
+    ensures causes { HasCausesOr (BadBlock (under b.old).told (shape_of s.now) (file_of s.now.number) (seen b.old (file_of s.now.number))) result (under b.old) (under b.new) }
+{
+    let bytes = to_slot(alloc, s, slot)?;
+    write_bytes(b, alloc, s, number, bytes.as_slice())
+}
+
+/// Makes a record's slot free. `Damaged` where the slot's block isn't one of a data set. After want of memory nothing
+/// is written.
+pub fn free_slot<B: Blocks>(b: &mut Overlay<B>, alloc: Global, s: &Structure, number: u64) -> Result<(), BlockFault>
+    requires sound { (under b.old).sound }
+    requires owned { IsTrue ((under b.old).owns (file_of s.now.number)) }
+    requires few { length s.now.items ≤ 60 }
+    requires fits { slot_width s.now.items ≤ 1024 }
+    requires number { 1 ≤ number }
+    requires most { number ≤ 1000000 }
+    requires next { block_of s.now.items number ≤ seen_counts b.old (file_of s.now.number) }
+    ensures seen { OnOk result (IsTrue (under b.old).told → seen b.new ≡ with_block (seen b.old) (file_of s.now.number) (block_of s.now.items number) (laid (place_of s.now.items number * slot_width s.now.items) (replicate (slot_width s.now.items) 0) (block_at (seen b.old (file_of s.now.number)) (block_of s.now.items number)))) }
+    ensures counts { OnOk result (seen_counts b.new ≡ raised (seen_counts b.old) (file_of s.now.number) (block_of s.now.items number)) }
+    ensures writes { Writes 1 1 result b.old b.new }
+    ensures err { OnErr result (written b.new ≡ written b.old) }
+    ensures causes { HasCausesOr (BadBlock (under b.old).told (shape_of s.now) (file_of s.now.number) (seen b.old (file_of s.now.number))) result (under b.old) (under b.new) }
+{
+    let zeros = [0u8; 1024];
+    write_bytes(b, alloc, s, number, &zeros[..width_of(s)])
+}
