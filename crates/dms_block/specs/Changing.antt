@@ -387,3 +387,9 @@ pub apart_at : (xs : List Change) (i : ℕ) (d : Change) → AreApart xs → i <
 apart_at [] i d other low = absurd (omega arith)
 apart_at (x ∷ xs) zero d other low = tt
 apart_at (x ∷ xs) (suc i) d other low = (turned x (get_or xs i d) (sym (at_index_is x.id.file x.id.block i xs d (omega arith)) ∙ none_at x.id.file x.id.block i xs other.0), apart_at xs i d other.1 (omega arith))
+
+-- the first of changes that fit
+pub fits_take : (i : ℕ) (xs : List Change) (owns : ℕ → Bool) (counts : ℕ → ℕ) → FitsIn xs owns counts → FitsIn (take i xs) owns counts
+fits_take zero xs owns counts fits = tt
+fits_take (suc i) [] owns counts fits = tt
+fits_take (suc i) (x ∷ xs) owns counts fits = (fits.0, fits.1, fits.2, fits_take i xs owns (raised counts x.id.file x.id.block) fits.3)

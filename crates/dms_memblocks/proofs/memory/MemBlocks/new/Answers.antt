@@ -1,0 +1,19 @@
+use Rattle.std.proofs.Common.{ℕ, ◌≡◌, ◌∙◌, ◌+◌, ap, sym, subst, refl, length, drop, List, arith}
+use Rattle.std.specs.Prelude.{nat_lt, nat_le, ◌&&◌}
+use Rattle.dms_memblocks.specs.declared.undo.Undo.{Undo}
+use Rattle.dms_memblocks.specs.Undoing.{AreSince, rows}
+use Rattle.dms_memblocks.specs.UndoLaws.{empty_content, empty_small}
+use Rattle.dms_memblocks.proofs.Rows.{length_rows}
+use Rattle.dms_memblocks.proofs.memory.MemBlocks.new.Goals as goal
+
+pub invariant_of-result-clause-small : goal.invariant_of-result-clause-small
+invariant_of-result-clause-small c = empty_small (rows c.in_ok-files.files.items) c.in_ok-files.ensures.1
+
+pub returns : goal.returns
+returns c = record {
+  owns = λ f. ap (λ n. nat_lt 30000 f && nat_le f (30000 + n)) (length_rows c.in_ok-files.files.items ∙ c.in_ok-files.ensures.0);
+  content = λ f. empty_content (rows c.in_ok-files.files.items) f c.in_ok-files.ensures.1;
+  next = refl;
+  points = refl;
+  sure = refl;
+}

@@ -1,0 +1,84 @@
+ghost use Rattle.std.specs.Prelude.{◌≡◌, ◌≤◌, ◌<◌, ◌+◌, ◌^◌, ◌++◌, ◌∷◌, [], length, take, drop, slice_index_or, OnOk, OnErr};
+ghost use Rattle.dms_block.specs.Content.{FitsIn};
+ghost use Rattle.dms_memblocks.specs.Undoing.{AreSmall, PutAll, content_of, old_in, owns_of, place, put_at, rows, undo, undone};
+
+use crate::Undo;
+use crate::undo::{old_of, place_of, put_block, restore};
+use dms_block::{Block, BlockFault, Change};
+
+/// Takes one change back.
+fn take_back(files: &mut Vec<Vec<Block>>, entry: &Undo)
+    ensures { rows files.new.items ≡ undo entry.now (rows files.old.items) }
+{
+    let at = place_of(entry.id.file);
+    if at < files.len() {
+        restore(&mut files[at], entry.id.block as usize, entry.old);
+    }
+}
+
+/// Takes all changes back but the first so many of the log, the last one first.
+pub fn take_back_to(files: &mut Vec<Vec<Block>>, log: &mut Vec<Undo>, n: usize)
+    ensures files { rows files.new.items ≡ undone (drop n log.old.items) (rows files.old.items) }
+    ensures log { log.new.items ≡ take n log.old.items }
+{
+    while log.len() > n {
+        let last = log.len() - 1;
+        take_back(files, &log[last]);
+        log.truncate(last);
+    }
+}
+
+/// Makes one change and logs it, or none.
+fn put(
+    files: &mut Vec<Vec<Block>>,
+    log: &mut Vec<Undo>,
+    point: u64,
+    change: &Change,
+) -> Result<(), BlockFault>
+    requires file { place change.now.id.file < length files.old.items }
+    ensures files { OnOk result (rows files.new.items ≡ put_at (place change.now.id.file) change.now.id.block change.now.block (rows files.old.items)) }
+    ensures log { OnOk result (log.new.items ≡ log.old.items ++ (record { point = point; id = change.now.id; old = old_in change.now.id.block (slice_index_or (rows files.old.items) (place change.now.id.file) []) } ∷ [])) }
+    ensures err { OnErr result ((rows files.new.items ≡ rows files.old.items) × (log.new.items ≡ log.old.items)) }
+    ensures memory { OnErr result (result ≡ Err BlockFault.Memory) }
+{
+    let at = place_of(change.id.file);
+    let b = change.id.block as usize;
+    let old = old_of(&files[at], b);
+    let before = log.len();
+    log.push(Undo {
+        point,
+        id: change.id,
+        old,
+    })?;
+    match put_block(&mut files[at], b, &change.block) {
+        Ok(()) => Ok(()),
+        Err(fault) => {
+            log.truncate(before);
+            Err(fault)
+        }
+    }
+}
+
+/// Makes all changes and logs them, or none. `made` is the number of the last quiet point.
+pub fn put_all(
+    files: &mut Vec<Vec<Block>>,
+    log: &mut Vec<Undo>,
+    made: u64,
+    changes: &[Change],
+) -> Result<(), BlockFault>
+    requires room { made + 1 < 2 ^ 64 }
+    requires small { AreSmall (rows files.old.items) }
+    requires fits { FitsIn changes.now (owns_of (rows files.old.items)) (λ f. length (content_of (rows files.old.items) f)) }
+    ensures ok { OnOk result (PutAll made changes.now (rows files.old.items) log.old.items (rows files.new.items) log.new.items) }
+    ensures err { OnErr result ((rows files.new.items ≡ rows files.old.items) × (log.new.items ≡ log.old.items)) }
+    ensures memory { OnErr result (result ≡ Err BlockFault.Memory) }
+{
+    let before = log.len();
+    for change in changes {
+        if let Err(fault) = put(files, log, made + 1, change) {
+            take_back_to(files, log, before);
+            return Err(fault);
+        }
+    }
+    Ok(())
+}

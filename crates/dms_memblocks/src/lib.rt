@@ -1,0 +1,10 @@
+//! Blocks in memory, which tell what a stop would leave of them.
+#![tactic(auto)]
+
+mod blocks;
+mod files;
+mod memory;
+mod undo;
+
+pub use memory::MemBlocks;
+pub use undo::Undo;
