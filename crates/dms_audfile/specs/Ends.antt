@@ -18,7 +18,7 @@ pub record EndsAt (end : AuditEnd) (first : ℕ) (waiting : List Entry) (files :
   pub writes : Writes end.total end.tag first end.file end.count files
   pub settled : (g : ℕ) → first ≤ g → g ≤ end.file → OnlyIn g files clock
   pub bytes : unsealed end ≡ spellings waiting
-  pub plain : ArePlain waiting
+  pub kind : ArePlain waiting ⊎ IsAlone waiting
 
 -- The entries of the trail are the old ones and the first of some that wait. It is again a trail that a writer keeps, with
 -- the same number of blocks a file and the same tag. Only audit files change, and nothing is printed.

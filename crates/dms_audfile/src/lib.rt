@@ -1,6 +1,7 @@
 //! Audit files: blocks that count once their gate is open, sealed one by one, and found again.
 #![tactic(auto)]
 
+mod appending;
 mod audit_end;
 mod blocks;
 mod bytes;
