@@ -10,6 +10,7 @@ use Rattle.dms_audrec.specs.Spelling.{spelling, IsEntry}
 use Rattle.dms_audrec.specs.Reading.{entry_at}
 use Rattle.dms_audrec.specs.EntryLaws.{entry_again}
 use Rattle.dms_audfile.specs.Header.{all_zero}
+use Rattle.dms_audfile.specs.Unsealed.{block_with}
 use Rattle.dms_audfile.specs.Blocks.{Entered, is_begin, stands_there, entries_from, used_in, block_entries}
 use Rattle.dms_audfile.specs.BlockLaws.{spellings, ArePlain, IsAlone, entered_at, block_of, BlockIsRead}
 use Rattle.dms_audfile.proofs.Reading.{after_one, entries_step, entries_none, block_is}

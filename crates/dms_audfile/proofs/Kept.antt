@@ -230,17 +230,13 @@ ends_well total first last e files ps is = elim (bool_cases (nat_lt last e)) [
     behind_it : nat_le (e + 2) last ≡ false → last < e + 2
     behind_it off = grind (arith, nat_tests)
 
-kept_by : (total first last e : ℕ) (files : Files) (ps : List Place) → first ≤ last → 8 ≤ total → total ≤ 512 → e ≡ first_open (last + 1 - first) total first files → outcome_at total first last e files ≡ found ps → IsKept first last files
-kept_by total first last e files ps order low few at is =
+pub writes_by : (total first last e : ℕ) (files : Files) (ps : List Place) → 8 ≤ total → total ≤ 512 → e ≡ first_open (last + 1 - first) total first files → outcome_at total first last e files ≡ found ps
+    → first ≤ last → Writes total (tag_said (files first)) first e (opened total (files e)) files
+writes_by total first last e files ps low few at is order =
     let w = ends_well total first last e files ps is in
-    let o = subst (λ j. FirstOpen total first j files) (sym at) (open_found (last + 1 - first) total first files (omega (arith, w.inside, at))) in
+    let o = subst (λ j. FirstOpen total first j files) (sym at) (open_found (last + 1 - first) total first files (omega (arith, w.inside, at, order))) in
     let all = files_whole (e + 1 - first) total first files (is_whole _ ps w.read) in
     record {
-      total = total;
-      tag = tag_said (files first);
-      file = e;
-      count = opened total (files e);
-      writes = record {
         order = o.low;
         some = low;
         not_full = not_full_opened total (files e) o.part;
@@ -248,12 +244,22 @@ kept_by total first last e files ps order low few at is =
         stands = file_stands total e (files e) few (all e o.low (omega (arith, o.low)));
         fits = λ g from upto. (file_whole total g (files g) (all g from (omega (arith, o.low)))).0;
         tags = λ g from upto. all_tagged (e + 1 - first) (tag_said (files first)) first files (omega (arith, o.low, w.own)) g from (omega (arith, o.low));
-      };
+      }
+
+kept_by : (total first last e : ℕ) (files : Files) (ps : List Place) → first ≤ last → 8 ≤ total → total ≤ 512 → e ≡ first_open (last + 1 - first) total first files → outcome_at total first last e files ≡ found ps → IsKept first last files
+kept_by total first last e files ps order low few at is =
+    let w = ends_well total first last e files ps is in
+    record {
+      total = total;
+      tag = tag_said (files first);
+      file = e;
+      count = opened total (files e);
+      writes = writes_by total first last e files ps low few at is order;
       low = w.inside;
       high = omega (arith, w.late);
     }
 
-said_range : (file : List ℕ) → says_blocks file ≡ true → (8 ≤ blocks_said file) × (blocks_said file ≤ 512)
+pub said_range : (file : List ℕ) → says_blocks file ≡ true → (8 ≤ blocks_said file) × (blocks_said file ≤ 512)
 unfolding says_blocks
 said_range file on = (grind (arith, nat_tests), grind (arith, nat_tests))
 

@@ -18,7 +18,7 @@ pub record EndsAt (end : AuditEnd) (first : ℕ) (waiting : List Entry) (files :
   pub writes : Writes end.total end.tag first end.file end.count files
   pub settled : (g : ℕ) → first ≤ g → g ≤ end.file → OnlyIn g files clock
   pub bytes : unsealed end ≡ spellings waiting
-  pub plain : ArePlain waiting
+  pub kind : ArePlain waiting ⊎ IsAlone waiting
 
 -- The entries of the trail are the old ones and the first of some that wait. It is again a trail that a writer keeps, with
 -- the same number of blocks a file and the same tag. Only audit files change, and nothing is printed.
@@ -31,3 +31,10 @@ pub record Seals (total tag first : ℕ) (waiting : List Entry) (old new : Left)
   pub below : (g : ℕ) → g < first → new.files g ≡ old.files g
   pub above : (g : ℕ) → 20000 < g → new.files g ≡ old.files g
   pub said : new.said ≡ old.said
+
+-- The first of some entries are sealed behind the old ones, the others wait, and the trail ends where this value says.
+pub record Appends (end : AuditEnd) (first : ℕ) (entries : List Entry) (old new : Files) (clock : Clock Left) : Type 0 where
+  pub some : ℕ
+  pub sealed : trail_entries end.total first new ≡ trail_entries end.total first old ++ take some entries
+  pub ends : EndsAt end first (drop some entries) new clock
+  pub plain : ArePlain (drop some entries)

@@ -19,7 +19,7 @@ use dms_site::{Failed, Site};
 
 impl AuditEnd {
     /// Puts an entry behind those that aren't sealed.
-    fn hold(&mut self, entry: &Entry<'_>)
+    pub(crate) fn hold(&mut self, entry: &Entry<'_>)
         requires entry { IsEntry (entry_seen entry.now) }
         requires room { self.old.used + length (spelling (entry_seen entry.now)) ≤ 4094 }
         requires allowed { self.old.file < 20000 }
@@ -34,7 +34,7 @@ impl AuditEnd {
     }
 
     /// Seals the entries that wait, as one block.
-    fn seal_block<S: Site>(&mut self, site: &mut S) -> Result<(), Failed>
+    pub(crate) fn seal_block<S: Site>(&mut self, site: &mut S) -> Result<(), Failed>
         requires allowed { self.old.file < 20000 }
         ensures moments { (first : ℕ) → IsTrue S.tells → Writes self.old.total self.old.tag first self.old.file self.old.count (S.files site.old)
             → ((g : ℕ) → first ≤ g → g ≤ self.old.file → OnlyIn g (S.files site.old) (S.clock site.old))

@@ -1,6 +1,7 @@
 //! Audit files: blocks that count once their gate is open, sealed one by one, and found again.
 #![tactic(auto)]
 
+mod appending;
 mod audit_end;
 mod blocks;
 mod bytes;
@@ -9,6 +10,7 @@ mod fault;
 mod header;
 pub mod laws;
 mod place;
+mod reach;
 mod scanning;
 mod sealing;
 mod whole;
@@ -16,6 +18,5 @@ mod whole;
 pub use audit_end::AuditEnd;
 pub use fault::AudFault;
 pub use place::Place;
-pub use scanning::scan_span;
-pub use whole::scan;
-pub use sealing::seal_block;
+pub use reach::Reach;
+pub use whole::{AuditStart, Scan};

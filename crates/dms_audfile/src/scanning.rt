@@ -6,10 +6,11 @@ ghost use Rattle.dms_audfile.specs.Header.{header_fits, tag_said};
 ghost use Rattle.dms_audfile.specs.Trail.{first_open};
 ghost use Rattle.dms_audfile.specs.Scanning.{blocks_read, file_read, files_read, first_foreign, trail_read, scanned};
 ghost use Rattle.dms_audfile.specs.Reads.{OnlyReads, ReadFound, Scans, Says};
+ghost use Rattle.dms_audfile.specs.Sealing.{Writes};
 
 use crate::blocks::read_block;
 use crate::header::{fits, opened, says_blocks, tag_said};
-use crate::{AudFault, Place};
+use crate::{AudFault, Place, Reach};
 use dms_site::Site;
 use std::alloc::Global;
 
@@ -45,14 +46,15 @@ fn opened_in<S: Site>(site: &mut S, file: u32, total: u32, buffer: &mut [u8]) ->
     Ok(opened(&buffer[..n], total))
 }
 
-/// The first file that isn't full, from `first` to `last`, or the number behind the last.
-fn first_open<S: Site>(site: &mut S, first: u32, last: u32, total: u32, buffer: &mut [u8]) -> Result<u32, AudFault>
+/// The first file that isn't full, from `first` to `last`, with how many of its gates are open; or the number behind the last.
+fn first_open<S: Site>(site: &mut S, first: u32, last: u32, total: u32, buffer: &mut [u8]) -> Result<(u32, u32), AudFault>
     requires size { length buffer.old ≡ 4096 }
     requires few { total ≤ 512 }
     requires order { first ≤ last }
     requires high { last ≤ 20000 }
-    ensures found { IfOk result (λ e. IsTrue S.tells → e ≡ first_open (last + 1 - first) total first (S.files site.old)) }
-    ensures bound { IfOk result (λ e. (first ≤ e) × (e ≤ last + 1)) }
+    ensures found { IfOk result (λ e. IsTrue S.tells → e.0 ≡ first_open (last + 1 - first) total first (S.files site.old)) }
+    ensures count { IfOk result (λ e. IsTrue S.tells → e.0 ≤ last → e.1 ≡ opened total (S.files site.old e.0)) }
+    ensures bound { IfOk result (λ e. (first ≤ e.0) × (e.0 ≤ last + 1) × (e.0 ≤ last → e.1 < total)) }
     ensures reads { OnlyReads S.tells (S.files site.old) (S.files site.new) (S.said site.old) (S.said site.new) (S.clock site.old) (S.clock site.new) (S.disk_faults site.old) (S.disk_faults site.new) (S.say_faults site.old) (S.say_faults site.new) }
     ensures only { IfErr result (λ e. e ≡ AudFault.Disk) }
     ensures same_site { S.same_site site.old site.new }
@@ -61,10 +63,10 @@ fn first_open<S: Site>(site: &mut S, first: u32, last: u32, total: u32, buffer: 
     for file in first..last + 1 {
         let open = opened_in(site, file, total, buffer)?;
         if open != total {
-            return Ok(file);
+            return Ok((file, open));
         }
     }
-    Ok(last + 1)
+    Ok((last + 1, total))
 }
 
 /// Adds where the entries of the first `count` blocks of a file begin.
@@ -178,13 +180,14 @@ fn first_foreign<S: Site>(site: &mut S, first: u32, end: u32, tag: u64, buffer: 
     Ok(end)
 }
 
-/// Where the entries of the files `first` to the file before `end` begin, or the first place that isn't in its grammar, or the first file of another tag.
-fn read_trail<S: Site>(site: &mut S, first: u32, end: u32, total: u32, buffer: &mut [u8], places: &mut Vec<Place>) -> Result<(), AudFault>
+/// Adds where the entries of the files `first` to the file before `end` begin, and answers their tag; or the first place that isn't in its grammar, or the first file of another tag.
+fn read_trail<S: Site>(site: &mut S, first: u32, end: u32, total: u32, buffer: &mut [u8], places: &mut Vec<Place>) -> Result<u64, AudFault>
     requires size { length buffer.old ≡ 4096 }
     requires few { total ≤ 512 }
     requires low { 10001 ≤ first }
     requires order { first < end }
     requires none { places.old.items ≡ [] }
+    ensures tag { IfOk result (λ tag. IsTrue S.tells → tag ≡ tag_said (S.files site.old first)) }
     ensures read { IsTrue S.tells → Scans (trail_read first end total (S.files site.old)) places.new.items result }
     ensures reads { OnlyReads S.tells (S.files site.old) (S.files site.new) (S.said site.old) (S.said site.new) (S.clock site.old) (S.clock site.new) (S.disk_faults site.old) (S.disk_faults site.new) (S.say_faults site.old) (S.say_faults site.new) }
     ensures same_site { S.same_site site.old site.new }
@@ -205,17 +208,19 @@ fn read_trail<S: Site>(site: &mut S, first: u32, end: u32, total: u32, buffer: &
     if other < end {
         Err(AudFault::Foreign(other - 10000))
     } else {
-        Ok(())
+        Ok(tag)
     }
 }
 
-/// Where the entries of the files `first` to `last` begin, or the first refusal in order.
-pub fn scan_span<S: Site>(site: &mut S, first: u32, last: u32, buffer: &mut [u8], places: &mut Vec<Place>) -> Result<(), AudFault>
+/// Adds where the entries of the files `first` to `last` begin, and answers where they end; or the first refusal in order.
+pub(crate) fn scan_span<S: Site>(site: &mut S, first: u32, last: u32, buffer: &mut [u8], places: &mut Vec<Place>) -> Result<Reach, AudFault>
     requires size { length buffer.old ≡ 4096 }
     requires low { 10001 ≤ first }
     requires order { first ≤ last }
     requires high { last ≤ 20000 }
     requires none { places.old.items ≡ [] }
+    ensures writes { IfOk result (λ r. IsTrue S.tells → Writes r.total r.tag first r.file r.count (S.files site.old)) }
+    ensures bounds { IfOk result (λ r. (r.count < r.total) × (r.total ≤ 512) × (first ≤ r.file) × (r.file ≤ last)) }
     ensures scanned { IsTrue S.tells → Scans (scanned first last (S.files site.old)) places.new.items result }
     ensures reads { OnlyReads S.tells (S.files site.old) (S.files site.new) (S.said site.old) (S.said site.new) (S.clock site.old) (S.clock site.new) (S.disk_faults site.old) (S.disk_faults site.new) (S.say_faults site.old) (S.say_faults site.new) }
     ensures same_site { S.same_site site.old site.new }
@@ -226,8 +231,8 @@ pub fn scan_span<S: Site>(site: &mut S, first: u32, last: u32, buffer: &mut [u8]
         Ok(None) => return Err(AudFault::Damaged(first, 0)),
         Err(fault) => return Err(fault),
     };
-    let end = match first_open(site, first, last, total, buffer) {
-        Ok(end) => end,
+    let (end, count) = match first_open(site, first, last, total, buffer) {
+        Ok(found) => found,
         Err(fault) => return Err(fault),
     };
     if end > last {
@@ -236,5 +241,13 @@ pub fn scan_span<S: Site>(site: &mut S, first: u32, last: u32, buffer: &mut [u8]
     if end + 2 <= last {
         return Err(AudFault::Unsealed(end - 10000));
     }
-    read_trail(site, first, end + 1, total, buffer, places)
+    match read_trail(site, first, end + 1, total, buffer, places) {
+        Ok(tag) => Ok(Reach {
+            total,
+            tag,
+            file: end,
+            count,
+        }),
+        Err(fault) => Err(fault),
+    }
 }

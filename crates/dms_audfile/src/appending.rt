@@ -1,0 +1,160 @@
+//! Entries that are appended to an audit trail, and sealed.
+
+ghost use Rattle.std.specs.Prelude.{◌≡◌, ◌⊎◌, ◌+◌, ◌<◌, ◌≤◌, ◌==◌, ◌&&◌, ◌||◌, nat_lt, false, ◌++◌, [], ◌∷◌, ℕ, List, length, OnOk, IfErr, IsTrue, IsErrOf};
+ghost use Rattle.dms_base.specs.Causes.{HasCause, Rose};
+ghost use Rattle.dms_moments.specs.Moments.{Steps};
+ghost use Rattle.dms_site.specs.Files.{Only};
+ghost use Rattle.dms_history.specs.Entries as meaning;
+ghost use Rattle.dms_audfile.specs.TrailEntries.{trail_entries};
+ghost use Rattle.dms_audrec.specs.Spelling.{spelling, IsEntry};
+ghost use Rattle.dms_audrec.specs.Seen.{entry_seen};
+ghost use Rattle.dms_audfile.specs.Blocks.{is_begin};
+ghost use Rattle.dms_audfile.specs.BlockLaws.{ArePlain};
+ghost use Rattle.dms_audfile.specs.Ends.{EndsAt, Seals, Appends};
+
+use crate::{AudFault, AuditEnd};
+use dms_audrec::{Entry, length};
+use dms_site::Site;
+
+impl AuditEnd {
+    /// Seals the entries that wait, as one block; where none waits nothing is done.
+    ///
+    /// A stop at any moment leaves a trail of the same kind, which holds the old entries, and those that wait or none of
+    /// them. Answers Disk alone, where a call of the site failed.
+    pub fn seal<S: Site>(&mut self, site: &mut S) -> Result<(), AudFault>
+        ensures moments { (first : ℕ) (waiting : List meaning.Entry) → IsTrue S.tells → EndsAt self.old first waiting (S.files site.old) (S.clock site.old)
+            → Steps (Seals self.old.total self.old.tag first waiting) (S.clock site.old) (S.clock site.new) }
+        ensures sealed { OnOk result ((first : ℕ) (waiting : List meaning.Entry) → IsTrue S.tells → EndsAt self.old first waiting (S.files site.old) (S.clock site.old)
+            → trail_entries self.old.total first (S.files site.new) ≡ trail_entries self.old.total first (S.files site.old) ++ waiting) }
+        ensures ends { OnOk result ((first : ℕ) (waiting : List meaning.Entry) → IsTrue S.tells → EndsAt self.old first waiting (S.files site.old) (S.clock site.old)
+            → EndsAt self.new first [] (S.files site.new) (S.clock site.new)) }
+        ensures durable { OnOk result (0 < self.old.used → IsTrue S.tells → Only (S.files site.new) (S.clock site.new)) }
+        ensures empty { OnOk result (self.new.used ≡ 0) }
+        ensures idle { self.old.used ≡ 0 → (self.new ≡ self.old) × (site.new ≡ site.old) }
+        ensures kind { (self.new.total ≡ self.old.total) × (self.new.tag ≡ self.old.tag) × (self.new.limit ≡ self.old.limit) }
+        ensures only { IfErr result (λ e. e ≡ AudFault.Disk) }
+        ensures said { S.said site.new ≡ S.said site.old }
+        ensures same_site { S.same_site site.old site.new }
+        ensures faults { HasCause (S.disk_faults site.old) (S.disk_faults site.new) result }
+        ensures say_faults { S.say_faults site.new ≡ S.say_faults site.old }
+    {
+        if self.used == 0 {
+            return Ok(());
+        }
+        match self.seal_block(site) {
+            Ok(()) => Ok(()),
+            Err(_) => Err(AudFault::Disk),
+        }
+    }
+
+    /// Seals the entries that wait where that is needed.
+    fn seal_where<S: Site>(&mut self, site: &mut S, needed: bool) -> Result<(), AudFault>
+        ensures moments { (first : ℕ) (waiting : List meaning.Entry) → IsTrue S.tells → EndsAt self.old first waiting (S.files site.old) (S.clock site.old)
+            → Steps (Seals self.old.total self.old.tag first waiting) (S.clock site.old) (S.clock site.new) }
+        ensures sealed { OnOk result (IsTrue needed → (first : ℕ) (waiting : List meaning.Entry) → IsTrue S.tells → EndsAt self.old first waiting (S.files site.old) (S.clock site.old)
+            → trail_entries self.old.total first (S.files site.new) ≡ trail_entries self.old.total first (S.files site.old) ++ waiting) }
+        ensures ends { OnOk result (IsTrue needed → (first : ℕ) (waiting : List meaning.Entry) → IsTrue S.tells → EndsAt self.old first waiting (S.files site.old) (S.clock site.old)
+            → EndsAt self.new first [] (S.files site.new) (S.clock site.new)) }
+        ensures empty { OnOk result (IsTrue needed → self.new.used ≡ 0) }
+        ensures idle { needed ≡ false → (self.new ≡ self.old) × (site.new ≡ site.old) }
+        ensures kind { (self.new.total ≡ self.old.total) × (self.new.tag ≡ self.old.tag) × (self.new.limit ≡ self.old.limit) }
+        ensures only { IfErr result (λ e. e ≡ AudFault.Disk) }
+        ensures said { S.said site.new ≡ S.said site.old }
+        ensures same_site { S.same_site site.old site.new }
+        ensures faults { HasCause (S.disk_faults site.old) (S.disk_faults site.new) result }
+        ensures say_faults { S.say_faults site.new ≡ S.say_faults site.old }
+    {
+        if needed {
+            self.seal(site)
+        } else {
+            Ok(())
+        }
+    }
+
+    /// Whether a block would have to be begun behind the last file that may be written.
+    fn is_full(&self) -> bool
+        ensures { result ≡ (self.now.used == 0 && nat_lt (10000 + self.now.limit) self.now.file) }
+    {
+        self.used == 0 && self.file > 10000 + self.limit
+    }
+
+    /// Makes room for an entry of that size, which may have to stand alone in its block.
+    fn make_room<S: Site>(&mut self, site: &mut S, size: usize, alone: bool) -> Result<(), AudFault>
+        requires { size ≤ 4094 }
+        ensures moments { (first : ℕ) (waiting : List meaning.Entry) → IsTrue S.tells → EndsAt self.old first waiting (S.files site.old) (S.clock site.old)
+            → Steps (Seals self.old.total self.old.tag first waiting) (S.clock site.old) (S.clock site.new) }
+        ensures appends { OnOk result ((first : ℕ) (waiting : List meaning.Entry) → IsTrue S.tells → ArePlain waiting → EndsAt self.old first waiting (S.files site.old) (S.clock site.old)
+            → Appends self.new first waiting (S.files site.old) (S.files site.new) (S.clock site.new)) }
+        ensures room { OnOk result (self.new.used + size ≤ 4094) }
+        ensures alone { OnOk result (IsTrue alone → self.new.used ≡ 0) }
+        ensures allowed { OnOk result (self.new.file < 20000) }
+        ensures kind { (self.new.total ≡ self.old.total) × (self.new.tag ≡ self.old.tag) × (self.new.limit ≡ self.old.limit) }
+        ensures only { IfErr result (λ e. (e ≡ AudFault.Disk) ⊎ (e ≡ AudFault.Full self.old.limit)) }
+        ensures full { IsErrOf result (AudFault.Full self.old.limit) → (self.new.used ≡ 0) × (10000 + self.old.limit < self.new.file) }
+        ensures said { S.said site.new ≡ S.said site.old }
+        ensures same_site { S.same_site site.old site.new }
+        ensures later { S.disk_faults site.old ≤ S.disk_faults site.new }
+        ensures disk { IsErrOf result AudFault.Disk → Rose (S.disk_faults site.old) (S.disk_faults site.new) }
+        ensures say_faults { S.say_faults site.new ≡ S.say_faults site.old }
+    {
+        let needed = needs_block(self.used, size, alone);
+        match self.seal_where(site, needed) {
+            Ok(()) => {}
+            Err(fault) => return Err(fault),
+        }
+        if self.is_full() {
+            Err(AudFault::Full(self.limit))
+        } else {
+            Ok(())
+        }
+    }
+
+    /// Appends an entry. It has to be one of the format, of at most 4,094 bytes.
+    ///
+    /// Where it can't stand behind those that wait, these are sealed first; a Begin is sealed at once. A stop at any moment
+    /// leaves a trail of the same kind, which holds the old entries and the first of those that waited and this one.
+    /// Answers Disk where a call of the site failed, and Full where a block would have to be begun behind the last file
+    /// that may be written; then the entry wasn't appended.
+    pub fn append<S: Site>(&mut self, site: &mut S, entry: &Entry<'_>) -> Result<(), AudFault>
+        requires entry { IsEntry (entry_seen entry.now) }
+        requires size { length (spelling (entry_seen entry.now)) ≤ 4094 }
+        ensures moments { (first : ℕ) (waiting : List meaning.Entry) → IsTrue S.tells → ArePlain waiting → EndsAt self.old first waiting (S.files site.old) (S.clock site.old)
+            → Steps (Seals self.old.total self.old.tag first (waiting ++ entry_seen entry.now ∷ [])) (S.clock site.old) (S.clock site.new) }
+        ensures appends { OnOk result ((first : ℕ) (waiting : List meaning.Entry) → IsTrue S.tells → ArePlain waiting → EndsAt self.old first waiting (S.files site.old) (S.clock site.old)
+            → Appends self.new first (waiting ++ entry_seen entry.now ∷ []) (S.files site.old) (S.files site.new) (S.clock site.new)) }
+        ensures kind { (self.new.total ≡ self.old.total) × (self.new.tag ≡ self.old.tag) × (self.new.limit ≡ self.old.limit) }
+        ensures only { IfErr result (λ e. (e ≡ AudFault.Disk) ⊎ (e ≡ AudFault.Full self.old.limit)) }
+        ensures full { IsErrOf result (AudFault.Full self.old.limit) → (self.new.used ≡ 0) × (10000 + self.old.limit < self.new.file) }
+        ensures said { S.said site.new ≡ S.said site.old }
+        ensures same_site { S.same_site site.old site.new }
+        ensures later { S.disk_faults site.old ≤ S.disk_faults site.new }
+        ensures disk { IsErrOf result AudFault.Disk → Rose (S.disk_faults site.old) (S.disk_faults site.new) }
+        ensures say_faults { S.say_faults site.new ≡ S.say_faults site.old }
+    {
+        let alone = begins(entry);
+        match self.make_room(site, length(entry), alone) {
+            Ok(()) => {}
+            Err(fault) => return Err(fault),
+        }
+        self.hold(entry);
+        self.seal_where(site, alone)
+    }
+}
+
+/// Whether an entry of that size can't stand behind so many bytes of others.
+fn needs_block(used: u16, size: usize, alone: bool) -> bool
+    requires { size ≤ 4094 }
+    ensures { result ≡ (alone || nat_lt 4094 (used + size)) }
+{
+    alone || usize::from(used) + size > 4094
+}
+
+/// Whether an entry is a Begin.
+fn begins(entry: &Entry<'_>) -> bool
+    ensures { result ≡ is_begin (entry_seen entry.now) }
+{
+    match entry {
+        Entry::Begin(_, _) => true,
+        _ => false,
+    }
+}
