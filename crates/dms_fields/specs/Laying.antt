@@ -16,7 +16,7 @@ unfolding laid
 laid_on at next first then old is room =
     ext_get_or 0 (laid next then (laid at first old)) (laid at (first ++ then) old)
     (laid_length next then (laid at first old) (omega (arith, room, laid_length at first old (omega (arith, is, room)))) ∙ laid_length at first old (omega (arith, is, room))
-        ∙ sym (laid_length at (first ++ then) old (omega (arith, is, room, length-append first then))))
+    ∙ sym (laid_length at (first ++ then) old (omega (arith, is, room, length-append first then))))
     (λ k h. grind (arith, places, is, room, h))
 
 -- what was written over all that stood there

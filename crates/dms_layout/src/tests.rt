@@ -66,14 +66,18 @@ fn slots_as_the_format_has_them(rt: HostRuntime) {
         counted: 0,
         owned: 0,
     };
-    let seven = [1, 0, 0, 0, 0, 0, 0, 0, 0, 0, 0, 0, 0, 1, 0x80, 0, 0, 0, 0, 0, 0, 7u8];
+    let seven = [
+        1, 0, 0, 0, 0, 0, 0, 0, 0, 0, 0, 0, 0, 1, 0x80, 0, 0, 0, 0, 0, 0, 7u8,
+    ];
     spells(&rt, &numbers(&rt), &slot, &seven);
     assert!(rt; word(&rt, &seven) == 7);
     let mut items = Items::new(rt.alloc());
     add(&rt, &mut items, ItemKind::Alpha(3));
     add(&rt, &mut items, ItemKind::Bool);
     add(&rt, &mut items, ItemKind::Link(1, true));
-    let text = Text::read(rt.alloc(), b"A").expect(&rt, "memory").expect(&rt, "text");
+    let text = Text::read(rt.alloc(), b"A")
+        .expect(&rt, "memory")
+        .expect(&rt, "text");
     let mut values = Values::new(rt.alloc());
     values.push(Value::Text(text)).expect(&rt, "memory");
     values.push(Value::Null).expect(&rt, "memory");
@@ -83,7 +87,9 @@ fn slots_as_the_format_has_them(rt: HostRuntime) {
         counted: 1,
         owned: 2,
     };
-    let want = [1, 0, 0, 0, 5, 0, 0, 0, 1, 0, 0, 0, 2, 1, 0x41, 0x20, 0x20, 0xff, 0xff, 1, 0, 0, 1, 2u8];
+    let want = [
+        1, 0, 0, 0, 5, 0, 0, 0, 1, 0, 0, 0, 2, 1, 0x41, 0x20, 0x20, 0xff, 0xff, 1, 0, 0, 1, 2u8,
+    ];
     spells(&rt, &data_set(&rt, 1, items), &slot, &want);
 }
 
@@ -92,11 +98,39 @@ fn what_is_free_and_what_is_bad(rt: HostRuntime) {
     assert!(rt; word(&rt, &[0; 22]) == -1);
     assert!(rt; word(&rt, &[0; 21]) == -2);
     // no byte for the state
-    assert!(rt; word(&rt, &[0, 0, 0, 0, 0, 0, 0, 0, 0, 0, 0, 0, 0, 1, 0x80, 0, 0, 0, 0, 0, 0, 7]) == -2);
+    assert!(rt;
+        word(
+            &rt,
+            &[
+                0, 0, 0, 0, 0, 0, 0, 0, 0, 0, 0, 0, 0, 1, 0x80, 0, 0, 0, 0, 0, 0, 7
+            ]
+        ) == -2
+    );
     // an owner of a record that has none
-    assert!(rt; word(&rt, &[1, 0, 0, 0, 1, 0, 0, 0, 0, 0, 0, 0, 0, 1, 0x80, 0, 0, 0, 0, 0, 0, 7]) == -2);
+    assert!(rt;
+        word(
+            &rt,
+            &[
+                1, 0, 0, 0, 1, 0, 0, 0, 0, 0, 0, 0, 0, 1, 0x80, 0, 0, 0, 0, 0, 0, 7
+            ]
+        ) == -2
+    );
     // a number of five digits in an item of four
-    assert!(rt; word(&rt, &[1, 0, 0, 0, 0, 0, 0, 0, 0, 0, 0, 0, 0, 1, 0x80, 0, 0, 0, 0, 0, 0x27, 0x10]) == -2);
+    assert!(rt;
+        word(
+            &rt,
+            &[
+                1, 0, 0, 0, 0, 0, 0, 0, 0, 0, 0, 0, 0, 1, 0x80, 0, 0, 0, 0, 0, 0x27, 0x10
+            ]
+        ) == -2
+    );
     // a null with another byte than 255
-    assert!(rt; word(&rt, &[1, 0, 0, 0, 0, 0, 0, 0, 0, 0, 0, 0, 0, 255, 255, 255, 255, 255, 255, 255, 255, 0]) == -2);
+    assert!(rt;
+        word(
+            &rt,
+            &[
+                1, 0, 0, 0, 0, 0, 0, 0, 0, 0, 0, 0, 0, 255, 255, 255, 255, 255, 255, 255, 255, 0
+            ]
+        ) == -2
+    );
 }

@@ -61,21 +61,21 @@ impl<S: Site> PlainStore<S> {
 
 impl<S: Site> Store for PlainStore<S> {
     ghost seen = { λ s. record {
-        tells = ⊥;
-        sound = ⊤;
-        desc = described s.desc;
-        db = Some (db_of (records_in s.rows.items));
-        mark = Some (db_of (undone s.undo.items (records_in s.rows.items)));
-        next = s.next;
-        said = told S.tells_said (S.said s.site);
-        points = [];
-        sure = 0;
-        here = no_point s.next (db_of (records_in s.rows.items));
-        clock = no_clock;
-        disk_faults = S.disk_faults s.site;
-        say_faults = S.say_faults s.site;
-        fulls = 0;
-        damages = 0;
+      tells = ⊥;
+      sound = ⊤;
+      desc = described s.desc;
+      db = Some (db_of (records_in s.rows.items));
+      mark = Some (db_of (undone s.undo.items (records_in s.rows.items)));
+      next = s.next;
+      said = told S.tells_said (S.said s.site);
+      points = [];
+      sure = 0;
+      here = no_point s.next (db_of (records_in s.rows.items));
+      clock = no_clock;
+      disk_faults = S.disk_faults s.site;
+      say_faults = S.say_faults s.site;
+      fulls = 0;
+      damages = 0;
     } };
 
     ghost same_store = { λ a b. S.same_site a.site b.site × (S.disk_faults b.site ≡ S.disk_faults a.site) × (IsTrue S.tells → S.files b.site ≡ S.files a.site) × OnlySpeaks (S.clock a.site) (S.clock b.site) };
