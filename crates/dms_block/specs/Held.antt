@@ -6,7 +6,8 @@ use Rattle.std.specs.declared.result.Result.TheVariants.{Ok, Err}
 use Rattle.dms_moments.specs.Moments.{Clock, Now, Runs}
 use Rattle.dms_block.specs.declared.block_fault.BlockFault.{BlockFault}
 use Rattle.dms_block.specs.declared.block_fault.BlockFault.TheVariants.{Disk, Memory, Full, Damaged, Say}
-use Rattle.dms_block.specs.Faults.{Faults, Counted, Unbroken}
+use Rattle.dms_block.specs.Counts.{Faults, Raised}
+use Rattle.dms_block.specs.Faults.{Unbroken}
 use Rattle.dms_block.specs.Content.{Content, block_in}
 
 -- a quiet point that stands on a disk: its number, its blocks by file, the bytes of its description
@@ -99,11 +100,11 @@ IsShort h f b = IsTrue h.told → length (block_in h.content f b) ≡ 1024 → �
 
 -- one failure of this kind, with its cause
 abbrev pub Caused : BlockFault → Held → Held → Type 0
-Caused Disk a b = Counted Disk a.faults b.faults
-Caused Memory a b = Counted Memory a.faults b.faults
-Caused (Full f) a b = Counted (Full f) a.faults b.faults
-Caused (Damaged f n) a b = Counted (Damaged f n) a.faults b.faults × IsShort a f n
-Caused Say a b = Counted Say a.faults b.faults
+Caused Disk a b = Raised Disk a.faults b.faults
+Caused Memory a b = Raised Memory a.faults b.faults
+Caused (Full f) a b = Raised (Full f) a.faults b.faults
+Caused (Damaged f n) a b = Raised (Damaged f n) a.faults b.faults × IsShort a f n
+Caused Say a b = Raised Say a.faults b.faults
 
 -- each fault is counted, and nothing else is
 abbrev pub HasCauses : {T : Type 0} → Result T BlockFault → Held → Held → Type 0

@@ -7,7 +7,8 @@ use Rattle.dms_moments.specs.MomentLaws.{runs_none, runs_on, runs_weaken}
 use Rattle.dms_block.specs.declared.block_fault.BlockFault.{BlockFault}
 use Rattle.dms_block.specs.declared.block_fault.BlockFault.TheVariants.{Disk, Memory, Full, Damaged, Say}
 use Rattle.dms_block.specs.Content.{Content, block_in}
-use Rattle.dms_block.specs.Faults.{Faults, Counted, Unbroken}
+use Rattle.dms_block.specs.Counts.{Faults, Raised}
+use Rattle.dms_block.specs.Faults.{Unbroken}
 use Rattle.dms_block.specs.Held.{Held, BlockStop, BlockPoint, Prefix, TextIs, Lasts, Passes, Stays, Same, Room, Leaves, Looks, Alters, Uses, Used, Caused, CausedOr, HasCauses, HasCausesOr, IsShort}
 
 pub unbroken_map : {T : Type 0} {P Q : Type 0} (r : Result T BlockFault) → (P → Q) → Unbroken r P → Unbroken r Q
@@ -150,8 +151,8 @@ alters_as y p = record { passes = p.passes; stays = p.stays; memory = λ e. absu
 pub short_on : {a b : Held} (f n : ℕ) → Lasts a b → Same a b → IsShort b f n → IsShort a f n
 short_on f n lasts same short = λ t long. short (lasts.told t) (ap (λ (c : Content). length (block_in c f n)) (same.content t) ∙ long)
 
-counted_on : (e : BlockFault) (a b c : Faults) → b ≡ a → Counted e b c → Counted e a c
-counted_on e a b c is h = subst (λ f. Counted e f c) is h
+counted_on : (e : BlockFault) (a b c : Faults) → b ≡ a → Raised e b c → Raised e a c
+counted_on e a b c is h = subst (λ f. Raised e f c) is h
 
 caused_on : (e : BlockFault) (a b c : Held) → b.faults ≡ a.faults → Lasts a b → Same a b → Caused e b c → Caused e a c
 caused_on Disk a b c is lasts same h = counted_on Disk a.faults b.faults c.faults is h

@@ -1,6 +1,7 @@
 pub mod Changing
 pub mod Content
 pub mod ContentLaws
+pub mod Counts
 pub mod Faults
 pub mod Held
 pub mod HeldLaws
