@@ -10,7 +10,7 @@ use Rattle.dms_history.specs.Pick.{blocks_at}
 use Rattle.dms_history.specs.Agrees.{Numbered}
 use Rattle.dms_history.specs.Points.{LivePoint, numbers_of, placed, new_place, numbers_from, live_numbers, point_at, live_points, AllAbove, Rises, AllLive, ListsPoints}
 use Rattle.dms_history.specs.LawsOfPointLists.{PointsListed, OneList, PointsFront, PointsStay}
-use Rattle.dms_history.proofs.AtPoints.{true_or, or_true_right, or_no}
+use Rattle.dms_history.proofs.AtPoints.{true_or, or_true_right}
 use Rattle.dms_history.proofs.Base.{has_append}
 use Rattle.dms_history.proofs.HalfDone.{or_at}
 use Rattle.dms_history.proofs.Order.{append_none, eq_of}
