@@ -1,9 +1,9 @@
 -- Worked values: each holds by computing the definitions.
 use Rattle.std.proofs.Common.{◌≡◌, true, false, List, [], ◌∷◌, ◌++◌, map, Some, None, refl}
-use Rattle.dms_history.specs.Events.{Content, Stored, halt_load, roll_back, rebuild, Event, change, quiet, control, begin}
+use Rattle.dms_history.specs.Events.{Stored, halt_load, roll_back, rebuild, Event, change, quiet, control, begin}
 use Rattle.dms_history.specs.Lists.{has}
-use Rattle.dms_history.specs.Replay.{replay, with_block}
-use Rattle.dms_history.specs.Restores.{is_unlogged, takes_stored}
+use Rattle.dms_history.specs.Replay.{with_block}
+use Rattle.dms_history.specs.Restores.{takes_stored}
 use Rattle.dms_history.specs.Told.{told_block, comes_from_file}
 use Rattle.dms_history.specs.Points.{LivePoint, numbers_of, live_numbers, live_points, up_to}
 use Rattle.dms_history.specs.Judge.{judge_point, no_such_point, audit_missing, voided}

@@ -1,6 +1,7 @@
 -- The live points as a list.
 use Rattle.std.specs.Prelude.{◌&&◌, not}
 use Rattle.std.proofs.Common.{ℕ, ◌≤◌, ◌<◌, ◌≡◌, ◌==◌, ◌||◌, inl, inr, Bool, true, false, cond, List, [], ◌∷◌, ◌++◌, map, refl, sym, ◌∙◌, ap, subst, arith, append_assoc}
+use Rattle.std.proofs.lemmas.List.{map-append}
 use Rattle.std.proofs.lemmas.Bool.Decides.{nat_tests}
 use Rattle.dms_history.specs.Events.{Stored, Event, change, quiet, control, begin}
 use Rattle.dms_history.specs.Lists.{has, until_first}
@@ -9,11 +10,12 @@ use Rattle.dms_history.specs.Pick.{blocks_at}
 use Rattle.dms_history.specs.Agrees.{Numbered}
 use Rattle.dms_history.specs.Points.{LivePoint, numbers_of, placed, new_place, numbers_from, live_numbers, point_at, live_points, AllAbove, Rises, AllLive, ListsPoints}
 use Rattle.dms_history.specs.LawsOfPointLists.{PointsListed, OneList, PointsFront, PointsStay}
-use Rattle.dms_history.proofs.AtPoints.{true_or, or_true_right, or_no}
+use Rattle.dms_history.proofs.AtPoints.{true_or, or_true_right}
 use Rattle.dms_history.proofs.Base.{has_append}
 use Rattle.dms_history.proofs.HalfDone.{or_at}
 use Rattle.dms_history.proofs.Order.{append_none, eq_of}
 use Rattle.dms_history.proofs.Given.{at_point}
+use Rattle.dms_history.proofs.Turns.{until_at}
 use Rattle.dms_history.proofs.Running.{points_go_on}
 
 true_not_false : true ≡ false → ⊥
@@ -23,13 +25,6 @@ pub same_number : (n : ℕ) → (n == n) ≡ true
 same_number n = grind (arith, nat_tests)
 
 -- ---- places
-
-pub until_at : (p : Event → Bool) (front : List Event) (e : Event) (es : List Event) → has p front ≡ false → p e ≡ true → until_first p (front ++ e ∷ es) ≡ front ++ e ∷ []
-until_at p [] e es off at = ap (λ b. cond b (e ∷ []) (cond (has p es) (e ∷ until_first p es) [])) at
-until_at p (x ∷ xs) e es off at =
-    let both = or_no (p x) (has p xs) off in
-    let found : has p (xs ++ e ∷ es) ≡ true = has_append p xs (e ∷ es) ∙ or_true_right (has p xs) (p e || has p es) (true_or (p e) (has p es) at) in
-    (λ i. cond (both.0 i) (x ∷ []) (cond (found i) (x ∷ until_at p xs e es both.1 at i) []))
 
 still_has : (p : Event → Bool) (front : List Event) (e : Event) → has p front ≡ true → has p (front ++ e ∷ []) ≡ true
 still_has p front e found = has_append p front (e ∷ []) ∙ true_or (has p front) (has p (e ∷ [])) found
@@ -246,15 +241,11 @@ pub points_alike : (live later : List Event) (counted then : Stored) (ns : List 
 points_alike live later counted then [] all same = refl
 points_alike live later counted then (n ∷ ns) all same = λ i. record { number = n; blocks = same n all.0 i } ∷ points_alike live later counted then ns all.1 same i
 
-pub map_append : {A B : Type 0} (f : A → B) (xs ys : List A) → map f (xs ++ ys) ≡ map f xs ++ map f ys
-map_append f [] ys = refl
-map_append f (x ∷ xs) ys = ap (λ (l : List _). f x ∷ l) (map_append f xs ys)
-
 pub points_front : PointsFront
 unfolding live_points live_numbers
 points_front live more base counted later sound grown =
     ap (λ (l : List ℕ). map (point_at (live ++ more) later) l) (numbers_append [] live more)
-    ∙ map_append (point_at (live ++ more) later) (numbers_from [] live) (numbers_from live more)
+    ∙ map-append (point_at (live ++ more) later) (numbers_from [] live) (numbers_from live more)
     ∙ ap (λ (l : List LivePoint). l ++ map (point_at (live ++ more) later) (numbers_from live more))
     (points_alike live (live ++ more) counted later (numbers_from [] live) (all_live_from [] live) (λ n at. (points_go_on live more base counted later n sound grown at).1))
 

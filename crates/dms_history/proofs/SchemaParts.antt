@@ -1,10 +1,10 @@
 -- A Schema and its Control, in parts.
-use Rattle.std.proofs.Common.{ℕ, zero, suc, ◌+◌, ◌≡◌, ◌⊎◌, inl, inr, List, [], ◌∷◌, ◌++◌, length, take, refl, sym, ◌∙◌, ap}
+use Rattle.std.proofs.Common.{ℕ, zero, suc, ◌+◌, ◌≡◌, ◌⊎◌, inl, inr, List, [], ◌∷◌, ◌++◌, length, take, refl, ◌∙◌, ap}
 use Rattle.dms_history.specs.Ranges.{Logged, told_events}
 use Rattle.dms_history.specs.Entries.{Entry, schema_part, image, byte_range, quiet_point, control_point, begin_restore}
 use Rattle.dms_history.specs.Schemas.{Parts, no_parts, after_entry, parts_from, parts_of_schema, schema_entries}
 use Rattle.dms_history.specs.EntryEvents.{logged_from, logged}
-use Rattle.dms_history.specs.LawsOfEntries.{IsSchemaPart, AllSchemaParts, PartsSayNothing, SchemaInParts}
+use Rattle.dms_history.specs.LawsOfEntries.{AllSchemaParts, PartsSayNothing, SchemaInParts}
 use Rattle.dms_history.proofs.Order.{append_none}
 use Rattle.dms_history.proofs.Schemas.{logged_append}
 

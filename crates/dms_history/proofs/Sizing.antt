@@ -1,7 +1,7 @@
 -- Whole blocks stay whole.
-use Rattle.std.proofs.Common.{ℕ, ◌≤◌, ◌<◌, ◌≡◌, inl, inr, Bool, true, false, cond, List, [], ◌∷◌, length, Option, Some, None, refl, sym, ◌∙◌, ap, subst, arith}
+use Rattle.std.proofs.Common.{ℕ, ◌≤◌, ◌<◌, ◌≡◌, inl, inr, Bool, true, false, cond, List, [], ◌∷◌, length, Option, Some, None, sym, ◌∙◌, ap, arith}
 use Rattle.dms_history.specs.Events.{Block, Content, Event, change, quiet, control, begin, block_in}
-use Rattle.dms_history.specs.Replay.{Chain, replay, with_block}
+use Rattle.dms_history.specs.Replay.{replay, with_block}
 use Rattle.dms_history.specs.Images.{is_at, first_before}
 use Rattle.dms_history.specs.Sizes.{AllSized, IsSizedBefore, ImagesSized, SizedReplay, SizedBase}
 use Rattle.dms_history.proofs.Picks.{tells_le, write_here, write_other, write_old, place_cases, option_cases, replay_length, none_stands, first_old, first_none, some_is}

@@ -67,7 +67,7 @@ or_false : (a b : Bool) → a ≡ false → b ≡ false → a || b ≡ false
 or_false true b one two = one
 or_false false b one two = two
 
-until_at : (p : Event → Bool) (acc : List Event) (e : Event) (zs : List Event) → has p acc ≡ false → p e ≡ true → until_first p (acc ++ e ∷ zs) ≡ acc ++ e ∷ []
+pub until_at : (p : Event → Bool) (acc : List Event) (e : Event) (zs : List Event) → has p acc ≡ false → p e ≡ true → until_first p (acc ++ e ∷ zs) ≡ acc ++ e ∷ []
 until_at p [] e zs off on = ap (λ k. cond k (e ∷ []) (cond (has p zs) (e ∷ until_first p zs) [])) on
 until_at p (x ∷ acc) e zs off on =
     let both = or_no (p x) (has p acc) off in
