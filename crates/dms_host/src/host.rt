@@ -1,6 +1,6 @@
 ghost use Rattle.std.specs.Prelude.{false, Ok, Err, None, [], ◌≡◌, MatchResult, IfOk};
 ghost use Rattle.std.proofs.lemmas.Bool.{false≢true};
-ghost use Rattle.dms_host.specs.Untold.{no_world, untold};
+ghost use Rattle.dms_calls.specs.Untold.{no_world, untold};
 
 use crate::listing::Listing;
 use dms_calls::Calls;
@@ -66,7 +66,11 @@ where
     ghost one_name = { λ s w m n i now. absurd now };
 
     fn open(&mut self, name: &str) -> Result<Option<R::File>, Failed> {
-        match OpenOptions::new().read(true).write(true).open(&self.rt, name) {
+        match OpenOptions::new()
+            .read(true)
+            .write(true)
+            .open(&self.rt, name)
+        {
             Ok(file) => Ok(Some(file)),
             Err(e) if e.kind() == ErrorKind::NotFound => Ok(None),
             Err(_) => Err(Failed),
@@ -74,7 +78,13 @@ where
     }
 
     fn create(&mut self, name: &str) -> Result<R::File, Failed> {
-        failed(OpenOptions::new().read(true).write(true).create_new(true).open(&self.rt, name))
+        failed(
+            OpenOptions::new()
+                .read(true)
+                .write(true)
+                .create_new(true)
+                .open(&self.rt, name),
+        )
     }
 
     fn size(&mut self, handle: &R::File) -> Result<u64, Failed> {

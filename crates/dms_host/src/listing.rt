@@ -45,7 +45,10 @@ impl<D: Read> Listing<D> {
         ensures count { IfOk result (λ n. n ≤ length into.new) }
     {
         let rest = &self.names[self.from..self.to];
-        let count = rest.iter().position(|byte| *byte == 0).unwrap_or(rest.len());
+        let count = rest
+            .iter()
+            .position(|byte| *byte == 0)
+            .unwrap_or(rest.len());
         if count > into.len() {
             return Err(Failed);
         }
