@@ -84,10 +84,10 @@ module _ {H : Type 0} {file : H → ℕ} {opened : List (Opened H)} {made synced
             let f : file o.file ≡ i = same_Some (file o.file) i (sym (kept.named k o is) ∙ ap (λ (m : ℕ). w.names (name_of m)) e ∙ at) in
             subst (λ (i : ℕ). StableFile i (w.bytes i) c') f stable)
             (λ other. λ v now. kept.bytes known n low (λ j p there number. ⊎_elim
-                (λ e. let q : p ≡ o = same_Some p o (sym there ∙ ap (λ (j : ℕ). slice_get opened j) e ∙ is) in
-                absurd (other (ap (λ (p : Opened H). p.number) (sym q) ∙ number)))
-                (λ away. un j p (get_set_other opened k j t away ∙ there) number)
-                (same_or_not j k)) i at v (no_new step v now))
+            (λ e. let q : p ≡ o = same_Some p o (sym there ∙ ap (λ (j : ℕ). slice_get opened j) e ∙ is) in
+            absurd (other (ap (λ (p : Opened H). p.number) (sym q) ∙ number)))
+            (λ away. un j p (get_set_other opened k j t away ∙ there) number)
+            (same_or_not j k)) i at v (no_new step v now))
             (same_or_not o.number n);
       })
     where
@@ -131,9 +131,9 @@ module _ {H : Type 0} {file : H → ℕ} {opened : List (Opened H)} {made synced
       was : (n j : ℕ) → n < 2 ^ 32 → w'.names (name_of n) ≡ Some j → j ≢ i → w.names (name_of n) ≡ Some j
       was n j low at other = ⊎_elim
           (λ e. ⊎_elim
-              (λ same. ap (λ (m : ℕ). w.names (name_of m)) e ∙ sym same ∙ ap (λ (m : ℕ). w'.names (name_of m)) (sym e) ∙ at)
-              (λ new. absurd (other (same_Some j i (sym at ∙ ap (λ (m : ℕ). w'.names (name_of m)) e ∙ new.1))))
-              makes.here)
+          (λ same. ap (λ (m : ℕ). w.names (name_of m)) e ∙ sym same ∙ ap (λ (m : ℕ). w'.names (name_of m)) (sym e) ∙ at)
+          (λ new. absurd (other (same_Some j i (sym at ∙ ap (λ (m : ℕ). w'.names (name_of m)) e ∙ new.1))))
+          makes.here)
           (λ away. sym (makes.names (name_of n) (λ e. away (name_inj n f low small e))) ∙ at)
           (same_or_not n f)
 

@@ -23,9 +23,9 @@ bytes_away v w i others (Some j) free = others j (λ e. free (ap (λ (k : ℕ). 
 pub makes_seen : (f i : ℕ) → f < 2 ^ 32 → (v w : World) → Makes (name_of f) i v w → seen name_of w ≡ seen name_of v
 makes_seen f i small v w makes = seen_alike name_of w v (λ g low. ⊎_elim
     (λ e. ⊎_elim
-        (λ same. ap (λ o. bytes_of w o) (ap (λ (n : ℕ). w.names (name_of n)) e ∙ same) ∙ bytes_away v w i makes.others (v.names (name_of f)) (makes.free (name_of f)) ∙ ap (λ (n : ℕ). bytes_of v (v.names (name_of n))) (sym e))
-        (λ new. ap (λ o. bytes_of w o) (ap (λ (n : ℕ). w.names (name_of n)) e ∙ new.1) ∙ makes.empty ∙ ap (λ o. bytes_of v o) (sym (ap (λ (n : ℕ). v.names (name_of n)) e ∙ new.0)))
-        makes.here)
+    (λ same. ap (λ o. bytes_of w o) (ap (λ (n : ℕ). w.names (name_of n)) e ∙ same) ∙ bytes_away v w i makes.others (v.names (name_of f)) (makes.free (name_of f)) ∙ ap (λ (n : ℕ). bytes_of v (v.names (name_of n))) (sym e))
+    (λ new. ap (λ o. bytes_of w o) (ap (λ (n : ℕ). w.names (name_of n)) e ∙ new.1) ∙ makes.empty ∙ ap (λ o. bytes_of v o) (sym (ap (λ (n : ℕ). v.names (name_of n)) e ∙ new.0)))
+    makes.here)
     (λ away. ap (λ o. bytes_of w o) (makes.names (name_of g) (λ e. away (name_inj g f low small e))) ∙ bytes_away v w i makes.others (v.names (name_of g)) (makes.free (name_of g)))
     (same_or_not g f))
 

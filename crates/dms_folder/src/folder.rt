@@ -32,7 +32,6 @@ pub struct Folder<C: Calls> {
     pub synced: bool,
 }
 
-
 impl<C: Calls + Drop> Folder<C> {
     /// The files of a folder, none of them open. Nothing is known to be stable.
     pub fn new(calls: C, alloc: Global) -> Result<Folder<C>, AllocError>

@@ -1,6 +1,6 @@
 ghost use Rattle.std.specs.Prelude.{false, Ok, Err, None, [], ◌≡◌, MatchResult, IfOk};
 ghost use Rattle.std.proofs.lemmas.Bool.{false≢true};
-ghost use Rattle.dms_host.specs.Untold.{no_world, untold};
+ghost use Rattle.dms_calls.specs.Untold.{no_world, untold};
 
 use crate::listing::Listing;
 use dms_calls::Calls;

@@ -25,8 +25,7 @@ loop-done-preserved g c =
     let bytes = c.args.bytes.now in
     let more : 0 < n = omega (arith, c.if-count-eq0.false) in
     let mid = (g.C.Calls.world l.calls).bytes i in
-    let whole : take (length bytes - l.done) (drop l.done bytes) ≡ drop l.done bytes = take_all (length bytes - l.done) (drop l.done bytes) (omega (arith, length-drop l.done bytes)) in
-    (
+    let whole : take (length bytes - l.done) (drop l.done bytes) ≡ drop l.done bytes = take_all (length bytes - l.done) (drop l.done bytes) (omega (arith, length-drop l.done bytes)) in (
       omega (arith, e.count, l.invariant.0, length-drop l.done bytes),
       e.broken,
       (λ t none. absurd (omega (arith, none, more))),

@@ -17,7 +17,7 @@ returns-in-None-clause-found g c = λ t.
     let given = g.C.Calls.given l.names in
     let all : AllGiven (g.C.Calls.listed l.names) (g.C.Calls.world l.self.calls).names given = MatchOption-at_none _ _ c.in-None.is c.in_ok-next_number.ensures.next t in
     let whole : AllGiven w.names w.names given = λ m i before now.
-        all m i (ap (λ (f : List ℕ → Option ℕ). f m) (l.invariant.listed t) ∙ before) (ap (λ (w : World). w.names m) l.invariant.world ∙ now) in
+    all m i (ap (λ (f : List ℕ → Option ℕ). f m) (l.invariant.listed t) ∙ before) (ap (λ (w : World). w.names m) l.invariant.world ∙ now) in
     last_at_end w given c.args.from c.args.upto l.last c.ranges.upto.fits whole (l.invariant.absent t) l.invariant.bound (l.invariant.present t)
 
 pub loop-turn-preserved : goal.loop-turn-preserved
@@ -28,10 +28,10 @@ loop-turn-preserved g c =
     let found = c.in_ok-last-in-Some.last in
     let w = g.C.Calls.world c.args.self.now.calls in
     let takes : IsTrue g.C.Calls.tells → Takes (g.C.Calls.given l.names) (g.C.Calls.given c.next_number.new.names) c.in-Some.found =
-        λ t. MatchOption-at_some _ _ c.in-Some.found c.in-Some.is c.in_ok-next_number.ensures.next t in
+    λ t. MatchOption-at_some _ _ c.in-Some.found c.in-Some.is c.in_ok-next_number.ensures.next t in
     let same : g.C.Calls.world c.next_number.new.calls ≡ w = n.world ∙ l.invariant.world in
     let later : IsTrue g.C.Calls.tells → Later (seen name_of w) c.args.from c.args.upto l.last c.in-Some.found found =
-        λ t. subst (λ (v : World). Later (seen name_of v) c.args.from c.args.upto l.last c.in-Some.found found) same (c.in_ok-last-in-Some.ensures.later t) in
+    λ t. subst (λ (v : World). Later (seen name_of v) c.args.from c.args.upto l.last c.in-Some.found found) same (c.in_ok-last-in-Some.ensures.later t) in
     record {
       broken = c.in_ok-last-in-Some.ensures.broken;
       kept = e.kept;

@@ -34,6 +34,7 @@ returns-in-Some-clause-bytes g c =
     let w = g.C.Calls.world c.find.new.self.calls in
     let leads : IsTrue g.C.Calls.tells → w.names (name_of f) ≡ Some (g.C.Calls.file r.file) = λ t. ap (λ (n : ℕ). w.names (name_of n)) (sym number) ∙ (c.in_ok-find.ensures.kept t).named place r there in
     let bytes : IsTrue g.C.Calls.tells → w.bytes (g.C.Calls.file r.file) ≡ seen name_of (g.C.Calls.world c.args.self.now.calls) f = λ t. sym (seen_leads w f _ c.ranges.file.fits (leads t)) ∙ ap (λ (w : World). seen name_of w f) c.in_ok-find.ensures.world in
-    if_both c.read_full.result _ _ _ (λ n count into t.
-    (count t ∙ ap (λ (l : List ℕ). length (range c.args.at (length c.args.into.now) l)) (bytes t),
-    into t ∙ ap (λ (l : List ℕ). range c.args.at (length c.args.into.now) l ++ drop n c.args.into.now) (bytes t))) c.read_full.ensures.count c.read_full.ensures.bytes
+    if_both c.read_full.result _ _ _ (λ n count into t. (
+      count t ∙ ap (λ (l : List ℕ). length (range c.args.at (length c.args.into.now) l)) (bytes t),
+      into t ∙ ap (λ (l : List ℕ). range c.args.at (length c.args.into.now) l ++ drop n c.args.into.now) (bytes t),
+    )) c.read_full.ensures.count c.read_full.ensures.bytes

@@ -17,7 +17,7 @@ returns-then-not-branch-clause-kept g c = λ t.
     kept_known (e.kept t) (λ n low i is.
     let here : v.names (name_of n) ≡ Some i = sym (ap (λ (w : World). w.names (name_of n)) e.world) ∙ is in
     let before : g.C.Calls.listed l.names (name_of n) ≡ Some i =
-        ap (λ (f : List ℕ → Option ℕ). f (name_of n)) (l.invariant.listed t) ∙ sym (ap (λ (w : World). w.names (name_of n)) l.invariant.world) ∙ here in
+    ap (λ (f : List ℕ → Option ℕ). f (name_of n)) (l.invariant.listed t) ∙ sym (ap (λ (w : World). w.names (name_of n)) l.invariant.world) ∙ here in
     stable_same n (l.invariant.before t (name_of n) (all (name_of n) i before here) n low refl) e.world e.moments i is)
 
 pub loop-turn-preserved : goal.loop-turn-preserved

@@ -58,7 +58,7 @@ returns-clause-torn g c = λ t.
     let w' = g.C.Calls.world c.write_all.new.calls in
     let files : seen name_of w ≡ seen name_of (g.C.Calls.world c.args.self.now.calls) = ap (λ k. seen name_of (g.C.Calls.world k)) c.touch.ensures.calls ∙ c.in_ok-place.ensures.files t in
     let one : InFile f (Torn c.args.at (length c.args.bytes.now)) (seen name_of (g.C.Calls.world c.args.self.now.calls)) (seen name_of w') =
-        subst (λ (l : Files). InFile f (Torn c.args.at (length c.args.bytes.now)) l (seen name_of w')) files (on_file_seen f i small none w w' seeing c.write_all.ensures.torn) in
+    subst (λ (l : Files). InFile f (Torn c.args.at (length c.args.bytes.now)) l (seen name_of w')) files (on_file_seen f i small none w w' seeing c.write_all.ensures.torn) in
     one
 
 pub returns-clause-written : goal.returns-clause-written
@@ -83,7 +83,7 @@ returns-clause-written g c = on_ok_weaker c.write_all.result (λ is t.
     let w' = g.C.Calls.world c.write_all.new.calls in
     let files : seen name_of w ≡ seen name_of (g.C.Calls.world c.args.self.now.calls) = ap (λ k. seen name_of (g.C.Calls.world k)) c.touch.ensures.calls ∙ c.in_ok-place.ensures.files t in
     let one : InFile f (Torn c.args.at (length c.args.bytes.now)) (seen name_of (g.C.Calls.world c.args.self.now.calls)) (seen name_of w') =
-        subst (λ (l : Files). InFile f (Torn c.args.at (length c.args.bytes.now)) l (seen name_of w')) files (on_file_seen f i small none w w' seeing c.write_all.ensures.torn) in
+    subst (λ (l : Files). InFile f (Torn c.args.at (length c.args.bytes.now)) l (seen name_of w')) files (on_file_seen f i small none w w' seeing c.write_all.ensures.torn) in
     let names : w'.names (name_of f) ≡ Some i = c.write_all.ensures.torn.names (name_of f) ∙ leads in
     let before : w.bytes i ≡ seen name_of (g.C.Calls.world c.args.self.now.calls) f = sym (seen_at name_of w f small ∙ ap (λ o. bytes_of w o) leads) ∙ ap (λ (l : Files). l f) files in
     in_file_is f _ _ _ one (seen_at name_of w' f small ∙ ap (λ o. bytes_of w' o) names ∙ is t ∙ ap (λ (l : List ℕ). overlaid c.args.at c.args.bytes.now l) before)) c.write_all.ensures.written
