@@ -34,8 +34,8 @@ use Rattle.dasdl_grammar.specs.SetSpelling.IsHead.{a_head, a_restart_head}
 use Rattle.dasdl_parse.proofs.Inverting.{bind_ok, skip_ok, ok_same}
 use Rattle.dasdl_parse.proofs.SpelledTokens.{Starts, word_spelled, sign_spelled, name_spelled}
 use Rattle.dasdl_parse.proofs.CondSound.{pick}
-use Rattle.dasdl_grammar.proofs.CondComplete.{Runs, joins, turns_at-runs, Heads, heads, none_left, word_reads, sign_reads, name_reads}
-use Rattle.dasdl_grammar.proofs.CondComplete.Runs.{here, step}
+use Rattle.dasdl_parse.proofs.CondComplete.{Runs, joins, turns_at-runs, Heads, heads, none_left, word_reads, sign_reads, name_reads}
+use Rattle.dasdl_parse.proofs.CondComplete.Runs.{here, step}
 use Rattle.dasdl_parse.proofs.ItemExact.{item_sound, item_complete}
 use Rattle.dasdl_grammar.proofs.SaidExact.{Went, turns_at-went}
 use Rattle.dasdl_grammar.specs.SaidSpelling.{Left}

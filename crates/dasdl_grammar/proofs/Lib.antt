@@ -1,8 +1,4 @@
-pub mod CondComplete
 pub mod GroupExact
-pub mod ItemOptionsExact
-pub mod KindExact
-pub mod OptionsExact
 pub mod ParametersExact
 pub mod SaidExact
 pub mod SchemaComplete

@@ -25,10 +25,10 @@ use Rattle.dasdl_grammar.specs.ParameterSpelling.IsTrail.{trail}
 use Rattle.dasdl_parse.proofs.Inverting.{bind_ok, ok_same}
 use Rattle.dasdl_parse.proofs.SpelledTokens.{Starts, word_spelled, sign_spelled, equal_spelled}
 use Rattle.dasdl_parse.proofs.TurnsSound.{Goes, turns_at-goes}
-use Rattle.dasdl_grammar.proofs.CondComplete.{Runs, joins, turns_at-runs, Splits, splits, Heads, heads, none_left, word_reads, sign_reads}
-use Rattle.dasdl_grammar.proofs.CondComplete.Runs.{here, step}
-use Rattle.dasdl_grammar.proofs.KindExact.{InRange, number_spelled, number_reads}
-use Rattle.dasdl_grammar.proofs.ItemOptionsExact.{both_pick, none_is}
+use Rattle.dasdl_parse.proofs.CondComplete.{Runs, joins, turns_at-runs, Splits, splits, Heads, heads, none_left, word_reads, sign_reads}
+use Rattle.dasdl_parse.proofs.CondComplete.Runs.{here, step}
+use Rattle.dasdl_parse.proofs.KindExact.{InRange, number_spelled, number_reads}
+use Rattle.dasdl_parse.proofs.ItemOptionsExact.{both_pick, none_is}
 
 -- a number in its range behind a word
 record Setting (word : List ℕ) (low high n : ℕ) (xs : List Token) (ts rest : List Lexeme) : Type 0 where

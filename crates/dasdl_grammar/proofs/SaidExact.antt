@@ -16,9 +16,9 @@ use Rattle.dasdl_grammar.specs.SaidSpelling.Said.{nothing_said, said_more, said_
 use Rattle.dasdl_parse.proofs.Inverting.{bind_ok, ok_same}
 use Rattle.dasdl_parse.proofs.SpelledTokens.{is_sign_is}
 use Rattle.dasdl_parse.proofs.CondSound.{pick}
-use Rattle.dasdl_grammar.proofs.CondComplete.{Runs, joins, turns_at-runs}
-use Rattle.dasdl_grammar.proofs.CondComplete.Runs.{here, step}
-use Rattle.dasdl_grammar.proofs.OptionsExact.{comma_cases, comma_none, comma_one}
+use Rattle.dasdl_parse.proofs.CondComplete.{Runs, joins, turns_at-runs}
+use Rattle.dasdl_parse.proofs.CondComplete.Runs.{here, step}
+use Rattle.dasdl_parse.proofs.OptionsExact.{comma_cases, comma_none, comma_one}
 
 -- these lexemes more are read, and it holds of all
 pub record Went {S : Type 0} (holds : S → List Lexeme → Type 0) (t : S) (us : List Lexeme) (ts rest : List Lexeme) : Type 0 where

@@ -54,8 +54,8 @@ use Rattle.dasdl_grammar.specs.ParameterSpelling.IsTrail.{trail}
 use Rattle.dasdl_grammar.proofs.ParametersExact.{parameters_complete, audit_complete}
 use Rattle.dasdl_parse.specs.Parameters.{parameters_at, audit_at}
 use Rattle.dasdl_grammar.specs.SchemaSpelling.Members.{a_set, a_data_set, an_item, a_link, a_group, a_first, a_further}
-use Rattle.dasdl_grammar.proofs.CondComplete.{Runs, joins, turns_at-runs, Heads, heads, none_left, name_reads, is_no_keyword}
-use Rattle.dasdl_grammar.proofs.CondComplete.Runs.{here, step}
+use Rattle.dasdl_parse.proofs.CondComplete.{Runs, joins, turns_at-runs, Heads, heads, none_left, name_reads, is_no_keyword}
+use Rattle.dasdl_parse.proofs.CondComplete.Runs.{here, step}
 use Rattle.dasdl_parse.proofs.ItemExact.{item_complete, link_complete}
 use Rattle.dasdl_grammar.proofs.GroupExact.{group_complete, head_complete, item_first}
 use Rattle.dasdl_grammar.proofs.SetComplete.{set_complete, end_complete}

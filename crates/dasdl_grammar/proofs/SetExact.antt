@@ -36,11 +36,11 @@ use Rattle.dasdl_parse.proofs.Inverting.{bind_ok, ok_same}
 use Rattle.dasdl_parse.proofs.SpelledTokens.{Starts, word_spelled, sign_spelled, equal_spelled}
 use Rattle.dasdl_parse.proofs.CondSound.{cond_sound, pick}
 use Rattle.dasdl_parse.proofs.CondNodes.{cond_few}
-use Rattle.dasdl_grammar.proofs.CondComplete.{cond_complete, Heads, heads, none_left, word_reads}
+use Rattle.dasdl_parse.proofs.CondComplete.{cond_complete, Heads, heads, none_left, word_reads}
 use Rattle.dasdl_parse.proofs.KeyExact.{key_sound}
 use Rattle.dasdl_parse.proofs.KeyComplete.{key_complete}
-use Rattle.dasdl_grammar.proofs.KindExact.{InRange, number_spelled, number_reads}
-use Rattle.dasdl_grammar.proofs.ItemOptionsExact.{both_pick, none_is}
+use Rattle.dasdl_parse.proofs.KindExact.{InRange, number_spelled, number_reads}
+use Rattle.dasdl_parse.proofs.ItemOptionsExact.{both_pick, none_is}
 use Rattle.dasdl_grammar.proofs.SaidExact.{Follows, Opens, said_sound, said_complete}
 
 place_is : (ts ls : List Lexeme) (l : Lexeme) → ts ≡ l ∷ ls → place_at ts ≡ l.place

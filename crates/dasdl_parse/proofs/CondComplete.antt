@@ -157,7 +157,7 @@ clash : (b : Bool) → b ≡ true → b ≡ false → ⊥
 clash true h k = cc
 clash false h k = cc
 
-is_no_keyword : (w n : List ℕ) → is_reserved w ≡ true → is_name n ≡ true → bytes_eq n w ≡ false
+pub is_no_keyword : (w n : List ℕ) → is_reserved w ≡ true → is_name n ≡ true → bytes_eq n w ≡ false
 is_no_keyword w n r h = never (bytes_eq n w) (λ (e : bytes_eq n w ≡ true).
     clash (is_reserved w) r (ap is_reserved (sym ((bytes_eq-Decides n w).0 e)) ∙ is_unreserved n h))
 

@@ -29,7 +29,7 @@ unfolding next_item_option_at
 is_next s ts = refl
 
 -- two tests that hold lead to one reading, and else to another
-both_pick : {A : Type 0} {P : Type 0} (a b : Bool) (x y : Result A ParseFault) (z : A) → (b ≡ true → x ≡ Ok z → P) → (y ≡ Ok z → P) → cond (a && b) x y ≡ Ok z → P
+pub both_pick : {A : Type 0} {P : Type 0} (a b : Bool) (x y : Result A ParseFault) (z : A) → (b ≡ true → x ≡ Ok z → P) → (y ≡ Ok z → P) → cond (a && b) x y ≡ Ok z → P
 both_pick true true x y z f g h = f refl h
 both_pick true false x y z f g h = g h
 both_pick false b x y z f g h = g h
@@ -38,7 +38,7 @@ not_required : (b : Bool) → not b ≡ true → b ≡ false
 not_required true h = absurd (cc)
 not_required false h = refl
 
-none_is : {A : Type 0} (o : Option A) → is_none o ≡ true → o ≡ None
+pub none_is : {A : Type 0} (o : Option A) → is_none o ≡ true → o ≡ None
 none_is None h = refl
 none_is (Some x) h = absurd (cc)
 

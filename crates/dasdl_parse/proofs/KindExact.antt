@@ -27,10 +27,10 @@ use Rattle.dasdl_parse.proofs.CondSound.{pick}
 use Rattle.dasdl_parse.proofs.CondComplete.{splits, heads, none_left, word_reads, sign_reads, never}
 
 -- a number in its range
-record InRange (low high n : ℕ) (ts rest : List Lexeme) : Type 0 where
-  least : low ≤ n
-  most : n ≤ high
-  is : Starts (Number n) ts rest
+pub record InRange (low high n : ℕ) (ts rest : List Lexeme) : Type 0 where
+  pub least : low ≤ n
+  pub most : n ≤ high
+  pub is : Starts (Number n) ts rest
 
 ranges : (low high n : ℕ) → nat_le low n && nat_le n high ≡ true → (low ≤ n) × (n ≤ high)
 ranges low high n h = (grind (arith, nat_tests), grind (arith, nat_tests))
@@ -56,14 +56,14 @@ number_of_ok (Compare o) low high place n ls rest h = absurd (cc)
 number_of_ok Bad low high place n ls rest h = absurd (cc)
 number_of_ok End low high place n ls rest h = absurd (cc)
 
-number_spelled : (low high : ℕ) (ts : List Lexeme) (n : ℕ) (rest : List Lexeme) → number_at low high ts ≡ Ok (n, rest) → InRange low high n ts rest
+pub number_spelled : (low high : ℕ) (ts : List Lexeme) (n : ℕ) (rest : List Lexeme) → number_at low high ts ≡ Ok (n, rest) → InRange low high n ts rest
 unfolding number_at
 number_spelled low high [] n rest h = absurd (cc)
 number_spelled low high (l ∷ ls) n rest h =
     let g = number_of_ok l.token low high l.place n ls rest h in
     record { least = g.1; most = g.2; is = record { first = l; token = g.0; all = ap (λ (xs : List Lexeme). l ∷ xs) g.3 } }
 
-number_reads : (low high : ℕ) (l : Lexeme) (ls : List Lexeme) (n : ℕ) → l.token ≡ Number n → low ≤ n → n ≤ high → number_at low high (l ∷ ls) ≡ Ok (n, ls)
+pub number_reads : (low high : ℕ) (l : Lexeme) (ls : List Lexeme) (n : ℕ) → l.token ≡ Number n → low ≤ n → n ≤ high → number_at low high (l ∷ ls) ≡ Ok (n, ls)
 unfolding number_at
 number_reads low high l ls n e a b = rw (e, within low high n a b) refl
 

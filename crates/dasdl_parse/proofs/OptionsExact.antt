@@ -16,9 +16,17 @@ use Rattle.dasdl_parse.proofs.CondComplete.{Runs, joins, turns_at-runs, splits, 
 use Rattle.dasdl_parse.proofs.CondComplete.Runs.{here, step}
 
 -- a comma was left behind, or there was none
-comma_cases : (b : Bool) (l : Lexeme) (ls rest : List Lexeme) → cond {A = Pass} b (Ok ls) (Ok (l ∷ ls)) ≡ Ok rest → ((b ≡ true) × (ls ≡ rest)) ⊎ (l ∷ ls ≡ rest)
+pub comma_cases : (b : Bool) (l : Lexeme) (ls rest : List Lexeme) → cond {A = Pass} b (Ok ls) (Ok (l ∷ ls)) ≡ Ok rest → ((b ≡ true) × (ls ≡ rest)) ⊎ (l ∷ ls ≡ rest)
 comma_cases true l ls rest h = inl (refl, ok_same ls rest h)
 comma_cases false l ls rest h = inr (ok_same (l ∷ ls) rest h)
+
+pub comma_none : (l : Lexeme) (ls : List Lexeme) (w : List ℕ) → l.token ≡ Word w → comma_at (l ∷ ls) ≡ Ok (l ∷ ls)
+unfolding comma_at
+comma_none l ls w e = rw e refl
+
+pub comma_one : (l : Lexeme) (ls : List Lexeme) → l.token ≡ Sign 44 → comma_at (l ∷ ls) ≡ Ok ls
+unfolding comma_at
+comma_one l ls e = rw e refl
 
 -- no option is empty or begins with a sign
 pub record Begins (xs : List Token) : Type 0 where
@@ -55,14 +63,6 @@ module _ {S : Type 0} (nothing : S) (option : S → S → List Token → Type 0)
   options_sound ts t rest h =
       let g = turns_at-goes (Options nothing option) until_semicolon next keeps nothing t [] ts rest none_said h in
       record { used = g.used; is = g.is; all = g.all }
-
-  comma_none : (l : Lexeme) (ls : List Lexeme) (w : List ℕ) → l.token ≡ Word w → comma_at (l ∷ ls) ≡ Ok (l ∷ ls)
-  unfolding comma_at
-  comma_none l ls w e = rw e refl
-
-  comma_one : (l : Lexeme) (ls : List Lexeme) → l.token ≡ Sign 44 → comma_at (l ∷ ls) ≡ Ok ls
-  unfolding comma_at
-  comma_one l ls e = rw e refl
 
   -- one more option is one more turn
   plain_step : (s t : S) (us rest : List Lexeme) → option s t (map token_of us) → Runs until_semicolon next s (us ++ rest) t rest
