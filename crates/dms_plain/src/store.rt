@@ -67,32 +67,32 @@ impl<S: Site> PlainStore<S> {
 
 impl<S: Site> Store for PlainStore<S> {
     ghost seen = { λ s. record {
-        tells = ⊥;
-        sound = ⊤;
-        desc = described s.desc;
-        db = Some (db_of (records_in s.rows.items));
-        mark = Some (db_of (undone s.undo.items (records_in s.rows.items)));
-        next = s.next;
-        said = told S.tells_said (S.said s.site);
-        points = [];
-        sure = 0;
-        here = point_of s.next (described s.desc) (db_of (records_in s.rows.items));
-        clock = no_clock;
-        whole = λ files. ⊤;
-        faults = record { disk = S.disk_faults s.site; say = S.say_faults s.site; full = 0; damaged = 0 };
-        reads = 0;
-        effort = record { spent = 0; syncs = s.syncs; outs = s.outs };
+      tells = ⊥;
+      sound = ⊤;
+      desc = described s.desc;
+      db = Some (db_of (records_in s.rows.items));
+      mark = Some (db_of (undone s.undo.items (records_in s.rows.items)));
+      next = s.next;
+      said = told S.tells_said (S.said s.site);
+      points = [];
+      sure = 0;
+      here = point_of s.next (described s.desc) (db_of (records_in s.rows.items));
+      clock = no_clock;
+      whole = λ files. ⊤;
+      faults = record { disk = S.disk_faults s.site; say = S.say_faults s.site; full = 0; damaged = 0 };
+      reads = 0;
+      effort = record { spent = 0; syncs = s.syncs; outs = s.outs };
     } };
 
     ghost same_store = { λ a b. S.same_site a.site b.site × (S.disk_faults b.site ≡ S.disk_faults a.site) × (IsTrue S.tells → S.files b.site ≡ S.files a.site) × OnlySpeaks (S.clock a.site) (S.clock b.site) };
 
     ghost agrees = { λ s sound. record {
-        number = refl;
-        here = λ db is. is;
-        under = λ db is. refl;
-        points = λ tells. absurd tells;
-        stop = λ tells. absurd tells;
-        sure = λ tells. absurd tells;
+      number = refl;
+      here = λ db is. is;
+      under = λ db is. refl;
+      points = λ tells. absurd tells;
+      stop = λ tells. absurd tells;
+      sure = λ tells. absurd tells;
     } };
 
     ghost same_again = { λ s. (S.same_again s.site, refl, λ tells. refl, only_none (S.clock s.site)) };

@@ -20,3 +20,6 @@ pub returns-in-Ok-end-clause-part : goal.returns-in-Ok-end-clause-part
 returns-in-Ok-end-clause-part g c = λ room.
     let room' : (seen c.say_held.new.engine).next + 1 < 2 ^ 64 = omega (arith, c.say_held.ensures.number, room) in
     part_on _ _ _ _ _ (c.in-Ok.ensures.ran room) (part_back _ _ (undamaged_by _ (seen c.end.new.self) c.end.result c.end.ensures.undamaged c.end.ensures.lasts.causes.cause) c.end.ensures.silent room')
+
+pub returns-in-Ok-end-clause-ended : goal.returns-in-Ok-end-clause-ended
+returns-in-Ok-end-clause-ended g c = λ s stands. c.in-Ok-end.ensures.ended s (c.in-Ok.ensures.stands s stands)
