@@ -1,9 +1,10 @@
 -- The slots of a file by its blocks.
-use Rattle.std.proofs.Common.{◌≡◌, ◌+◌, ◌-◌, ◌*◌, ◌/◌, ◌%◌, ◌<◌, ◌≤◌, ℕ, zero, suc, List, [], ◌∷◌, ◌++◌, flat_map, Bool, true, false, refl, sym, ap, ◌∙◌, subst, length, take, drop, replicate, get_or, slice_get, arith}
+use Rattle.std.proofs.Common.{◌≡◌, ◌+◌, ◌-◌, ◌*◌, ◌/◌, ◌%◌, ◌<◌, ◌≤◌, ℕ, zero, suc, List, [], ◌∷◌, ◌++◌, flat_map, Bool, true, false, refl, sym, ap, ◌∙◌, subst, length, take, drop, replicate, get_or, slice_get, arith, add-one}
 use Rattle.std.specs.Prelude.{◌&&◌, IsTrue}
 use Rattle.std.specs.declared.option.Option.{Option}
 use Rattle.std.specs.declared.option.Option.TheVariants.{None, Some}
-use Rattle.std.proofs.lemmas.List.{length-replicate, drop_all}
+use Rattle.std.proofs.lemmas.List.{length-replicate, drop_all, take-replicate}
+use Rattle.std.proofs.lemmas.Option.{slice_get_past, slice_get-get_or}
 use Rattle.std.proofs.lemmas.Nat.{div-add-mod'}
 use Rattle.std.proofs.Math.Nat as nat
 use Rattle.dms_desc.specs.declared.structure.Item.{Item}
@@ -12,7 +13,7 @@ use Rattle.dms_layout.specs.declared.slot.Slot.{Slot}
 use Rattle.dms_layout.specs.declared.slot.SlotRead.{SlotRead}
 use Rattle.dms_layout.specs.declared.slot.SlotRead.TheVariants.{Free, Used, Bad}
 use Rattle.dms_layout.specs.Slots.{slot_width, slot_of}
-use Rattle.dms_slots.specs.SlotBlocks.{per_block, block_of, place_of, is_slot, is_used, are_slots, is_block, cut, slots_by, slots_in, slots_of, or_free, slot_at, next_free, used_first}
+use Rattle.dms_slots.specs.SlotBlocks.{per_block, block_of, place_of, is_slot, is_used, are_slots, is_block, cut, slots_by, slots_in, slots_of, or_free, slot_at, next_free, used_first, block_or_zeros, block_at}
 
 -- ---- lists
 
@@ -174,3 +175,60 @@ pub read_there : (s : Shape) (bs : List (List ℕ)) (number per : ℕ) (block : 
     → block ≡ get_or bs ((number - 1) / per) [] → r ≡ or_free (slice_get (slots_in s block) ((number - 1) % per)) → slot_at s bs number ≡ r
 read_there s bs number per block r e some low is read =
     slot_there s bs number per e some low ∙ ap (λ l. or_free (slice_get (slots_in s l) ((number - 1) % per))) (sym is) ∙ sym read
+
+-- ---- blocks that are written
+
+pub none_at : (bs : List (List ℕ)) (b : ℕ) → length bs ≤ b → block_at bs b ≡ replicate 1024 0
+none_at bs b past = ap block_or_zeros (slice_get_past bs b past)
+
+pub some_at : (bs : List (List ℕ)) (b : ℕ) → b < length bs → get_or bs b [] ≡ block_at bs b
+some_at bs b low = sym (ap block_or_zeros (slice_get-get_or bs b [] low))
+
+pub zeros_cut : (w k : ℕ) (a block : List ℕ) → a ≡ take w block → block ≡ replicate 1024 0 → w ≡ k → k ≤ 1024 → a ≡ replicate k 0
+zeros_cut w k a block is zeros width le = is ∙ (λ i. take (width i) (zeros i)) ∙ take-replicate k 1024 0 le
+
+-- ---- the least free slot
+
+pub used_block : (s : Shape) (block : List ℕ) (n : ℕ) → is_block s block ≡ true → n ≡ used_first (cut s (per_block s.items) block) → n ≡ used_first (slots_in s block)
+unfolding slots_in
+used_block s block n good is = is ∙ sym (ap (λ b. used_first (slots_by b s block)) good)
+
+used_all : (xs ys : List SlotRead) → used_first xs ≡ length xs → used_first (xs ++ ys) ≡ length xs + used_first ys
+used_all [] ys all = omega arith
+used_all (Free ∷ xs) ys all = absurd (omega (arith, all))
+used_all (Bad ∷ xs) ys all = absurd (omega (arith, all))
+used_all (Used slot ∷ xs) ys all = ap suc (used_all xs ys (omega (arith, all))) ∙ (let e : suc (length xs + used_first ys) ≡ suc (length xs) + used_first ys = omega arith in e)
+
+used_some : (xs ys : List SlotRead) → used_first xs < length xs → used_first (xs ++ ys) ≡ used_first xs
+used_some [] ys low = absurd (omega arith)
+used_some (Free ∷ xs) ys low = refl
+used_some (Bad ∷ xs) ys low = refl
+used_some (Used slot ∷ xs) ys low = ap suc (used_some xs ys (omega arith))
+
+slots_next : (s : Shape) (bs : List (List ℕ)) (i : ℕ) → i < length bs → slots_of s (drop i bs) ≡ slots_in s (get_or bs i []) ++ slots_of s (drop (i + 1) bs)
+slots_next s [] i low = absurd (omega arith)
+slots_next s (b ∷ bs) zero low = refl
+slots_next s (b ∷ bs) (suc i) low = slots_next s bs i (omega arith) ∙ ap (λ k. slots_in s (get_or bs i []) ++ slots_of s (drop k (b ∷ bs))) (let e : suc (i + 1) ≡ suc i + 1 = omega arith in e)
+
+-- a block that is full is passed
+pub least_on : (s : Shape) (bs : List (List ℕ)) (i per n all : ℕ) → i < length bs → per ≡ per_block s.items → n ≡ used_first (slots_in s (get_or bs i [])) → per ≤ n → n ≤ per
+    → all ≡ i * per + used_first (slots_of s (drop i bs)) → all ≡ (i + 1) * per + used_first (slots_of s (drop (i + 1) bs))
+least_on s bs i per n all low e is full most so_far =
+    let long = slots_length s (get_or bs i []) in
+    let whole = used_all (slots_in s (get_or bs i [])) (slots_of s (drop (i + 1) bs)) (omega (arith, long, e, is, full, most)) in
+    let next = ap used_first (slots_next s bs i low) in
+    omega (arith, long, whole, next, so_far, e, nat.suc-mul i per, ap (λ k. k * per) (add-one i))
+
+-- and in another one the least free slot stands
+pub least_here : (s : Shape) (bs : List (List ℕ)) (i per n all : ℕ) → i < length bs → per ≡ per_block s.items → n ≡ used_first (slots_in s (get_or bs i [])) → n < per
+    → all ≡ i * per + used_first (slots_of s (drop i bs)) → i * per + n ≡ all
+least_here s bs i per n all low e is some so_far =
+    let long = slots_length s (get_or bs i []) in
+    let part = used_some (slots_in s (get_or bs i [])) (slots_of s (drop (i + 1) bs)) (omega (arith, long, e, is, some)) in
+    let next = ap used_first (slots_next s bs i low) in
+    omega (arith, part, next, so_far, is)
+
+pub least_behind : (s : Shape) (bs : List (List ℕ)) (i per all : ℕ) → length bs ≤ i → all ≡ i * per + used_first (slots_of s (drop i bs)) → i * per ≡ all
+least_behind s bs i per all past so_far =
+    let none = ap (λ l. used_first (slots_of s l)) (drop_all i bs past) in
+    omega (arith, so_far, none)

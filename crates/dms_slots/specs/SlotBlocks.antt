@@ -1,5 +1,5 @@
 -- The slots of a data set's file: those of its blocks, one block after another.
-use Rattle.std.specs.Prelude.{ℕ, zero, suc, ◌+◌, ◌-◌, ◌*◌, ◌/◌, ◌%◌, ◌<◌, ◌≤◌, ◌≡◌, List, [], ◌∷◌, ◌++◌, flat_map, Bool, true, false, ◌&&◌, Some, None, if◌then◌else◌, IsTrue, length, take, drop, replicate, slice_get, slice_index_or}
+use Rattle.std.specs.Prelude.{ℕ, zero, suc, ◌+◌, ◌-◌, ◌*◌, ◌/◌, ◌%◌, ◌<◌, ◌≤◌, ◌≡◌, List, [], ◌∷◌, ◌++◌, flat_map, Bool, true, false, ◌&&◌, Some, None, if◌then◌else◌, IsTrue, length, take, drop, replicate, nat_le, slice_get, slice_index_or}
 use Rattle.std.specs.declared.option.Option.{Option}
 use Rattle.std.specs.List.{list_all}
 use Rattle.dms_desc.specs.declared.structure.Item.{Item}
@@ -82,6 +82,10 @@ abbrev pub used_first : List SlotRead → ℕ
 used_first [] = 0
 used_first (r ∷ rs) = next_free r (used_first rs)
 
+-- a number, where it isn't above the most
+abbrev pub within : ℕ → ℕ → Option ℕ
+within most n = if nat_le n most then Some n else None
+
 -- this block of the file isn't one of a data set
 abbrev pub BadBlock : Bool → Shape → ℕ → List (List ℕ) → ℕ → ℕ → Type 0
 BadBlock told s file bs f b = (f ≡ file) × (IsTrue told → (b < length bs) × (is_block s (slice_index_or bs b []) ≡ false))
@@ -93,3 +97,7 @@ block_or_zeros (Some bytes) = bytes
 
 abbrev pub block_at : List (List ℕ) → ℕ → List ℕ
 block_at bs b = block_or_zeros (slice_get bs b)
+
+-- the least number that no record has, where the data set may have one more
+abbrev pub least_free : Shape → List (List ℕ) → Option ℕ
+least_free s bs = within s.population (used_first (slots_of s bs) + 1)

@@ -49,13 +49,14 @@ fn is_used(read: &SlotRead) -> bool
     matches!(read, SlotRead::Used(_))
 }
 
-// The first bytes, and those behind them; fewer where there are no more.
-fn ahead(bytes: &[u8], n: usize) -> &[u8]
+/// The first bytes; fewer where there are no more.
+pub fn ahead(bytes: &[u8], n: usize) -> &[u8]
     ensures { result.now ≡ take n bytes.now }
 {
     &bytes[..n.min(bytes.len())]
 }
 
+// The bytes behind the first ones.
 fn behind(bytes: &[u8], n: usize) -> &[u8]
     ensures { result.now ≡ drop n bytes.now }
 {
@@ -100,8 +101,8 @@ pub fn slot_in(alloc: Global, s: &Structure, block: &Block, place: usize) -> Res
     from_slot(alloc, s, ahead(behind(&block.0, place * width), width))
 }
 
-// How many used slots stand before the first other one, of so many.
-fn used_first(alloc: Global, s: &Structure, bytes: &[u8]) -> Result<usize, Memory>
+/// How many used slots stand before the first other one, in the bytes of a block.
+pub fn used_first(alloc: Global, s: &Structure, bytes: &[u8]) -> Result<usize, Memory>
     requires few { length s.now.items ≤ 60 }
     ensures first { IfOk result (λ n. n ≡ used_first (cut (shape_of s.now) (per_block s.now.items) bytes.now)) }
     ensures most { IfOk result (λ n. n ≤ per_block s.now.items) }

@@ -3,9 +3,10 @@ ghost use Rattle.dms_desc.specs.Shape.{shape_of};
 ghost use Rattle.dms_layout.specs.Slots.{slot_width};
 ghost use Rattle.dms_block.specs.Held.{HasCausesOr};
 ghost use Rattle.dms_block.specs.View.{Reads, seen, seen_counts, under};
-ghost use Rattle.dms_slots.specs.SlotBlocks.{file_of, per_block, slot_at, slot_opt, BadBlock};
+ghost use Rattle.std.specs.Prelude.{◌/◌, slice_index_or, []};
+ghost use Rattle.dms_slots.specs.SlotBlocks.{file_of, per_block, block_of, slot_at, slot_opt, slots_in, used_first, within, least_free, BadBlock};
 
-use crate::cutting::{file_of, per_block, slot_in};
+use crate::cutting::{file_of, is_block, per_block, slot_in, used_first};
 use dms_block::{BlockFault, BlockId, Blocks, Overlay};
 use dms_desc::Structure;
 use dms_layout::{Slot, SlotRead};
@@ -35,4 +36,53 @@ pub fn read_slot<B: Blocks>(b: &mut Overlay<B>, alloc: Global, s: &Structure, nu
         SlotRead::Used(slot) => Ok(Some(slot)),
         SlotRead::Bad => Err(BlockFault::Damaged(file, block)),
     }
+}
+
+// How many used slots stand before the first other one in a block.
+fn used_in<B: Blocks>(b: &mut Overlay<B>, alloc: Global, s: &Structure, block: u32) -> Result<usize, BlockFault>
+    requires sound { (under b.old).sound }
+    requires few { length s.now.items ≤ 60 }
+    requires there { block < seen_counts b.old (file_of s.now.number) }
+    ensures used { IfOk result (λ n. IsTrue (under b.old).told → n ≡ used_first (slots_in (shape_of s.now) (slice_index_or (seen b.old (file_of s.now.number)) block []))) }
+    ensures most { IfOk result (λ n. n ≤ per_block s.now.items) }
+    ensures reads { Reads 1 result b.old b.new }
+    ensures causes { HasCausesOr (BadBlock (under b.old).told (shape_of s.now) (file_of s.now.number) (seen b.old (file_of s.now.number))) result (under b.old) (under b.new) }
+{
+    let file = file_of(s);
+    let bytes = b.read(alloc, BlockId { file, block })?;
+    if !is_block(alloc, s, &bytes)? {
+        return Err(BlockFault::Damaged(file, block));
+    }
+    Ok(used_first(alloc, s, &bytes.0)?)
+}
+
+// A number, where it isn't above POPULATION.
+fn within(s: &Structure, number: u64) -> Option<u64>
+    ensures { result ≡ within s.now.population number }
+{
+    if number <= u64::from(s.population) {
+        return Some(number);
+    }
+    None
+}
+
+/// The least number that no record of the data set has; none exactly where that is above POPULATION. `Damaged` where a
+/// block before it isn't one of a data set.
+pub fn take_least<B: Blocks>(b: &mut Overlay<B>, alloc: Global, s: &Structure) -> Result<Option<u64>, BlockFault>
+    requires sound { (under b.old).sound }
+    requires few { length s.now.items ≤ 60 }
+    requires fits { slot_width s.now.items ≤ 1024 }
+    ensures least { IfOk result (λ o. IsTrue (under b.old).told → o ≡ least_free (shape_of s.now) (seen b.old (file_of s.now.number))) }
+    ensures reads { Reads (seen_counts b.old (file_of s.now.number)) result b.old b.new }
+    ensures causes { HasCausesOr (BadBlock (under b.old).told (shape_of s.now) (file_of s.now.number) (seen b.old (file_of s.now.number))) result (under b.old) (under b.new) }
+{
+    let per = per_block(s);
+    let count = b.count(file_of(s));
+    for i in 0..count {
+        let used = used_in(b, alloc, s, i)?;
+        if used < per {
+            return Ok(within(s, u64::from(i) * per as u64 + used as u64 + 1));
+        }
+    }
+    Ok(within(s, u64::from(count) * per as u64 + 1))
 }

@@ -6,5 +6,5 @@ mod finding;
 mod writing;
 
 pub use cutting::{file_of, is_block, per_block};
-pub use finding::read_slot;
+pub use finding::{read_slot, take_least};
 pub use writing::{free_slot, write_slot};

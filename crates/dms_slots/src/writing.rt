@@ -7,7 +7,7 @@ ghost use Rattle.dms_block.specs.Held.{HasCausesOr};
 ghost use Rattle.dms_block.specs.View.{Reads, Writes, seen, seen_counts, under, written};
 ghost use Rattle.dms_slots.specs.SlotBlocks.{file_of, block_of, place_of, is_block, block_at, BadBlock};
 
-use crate::cutting::{file_of, is_block, per_block, width_of};
+use crate::cutting::{ahead, file_of, is_block, per_block, width_of};
 use dms_block::{Block, BlockFault, BlockId, Blocks, Overlay};
 use dms_desc::Structure;
 use dms_layout::{Slot, to_slot};
@@ -22,6 +22,13 @@ fn patch(block: &mut Block, at: usize, bytes: &[u8])
     block.0[at..at + bytes.len()].copy_from_slice(bytes);
 }
 
+// A block of zeros.
+fn blank() -> Block
+    ensures { result.0 ≡ replicate 1024 0 }
+{
+    Block([0; 1024])
+}
+
 // A block of the data set's file, zeros where it is new.
 fn block_at<B: Blocks>(b: &mut Overlay<B>, alloc: Global, s: &Structure, block: u32) -> Result<Block, BlockFault>
     requires sound { (under b.old).sound }
@@ -33,7 +40,7 @@ fn block_at<B: Blocks>(b: &mut Overlay<B>, alloc: Global, s: &Structure, block: 
 {
     let file = file_of(s);
     if b.count(file) <= block {
-        return Ok(Block([0; 1024]));
+        return Ok(blank());
     }
     let bytes = b.read(alloc, BlockId { file, block })?;
     if !is_block(alloc, s, &bytes)? {
@@ -109,6 +116,6 @@ pub fn free_slot<B: Blocks>(b: &mut Overlay<B>, alloc: Global, s: &Structure, nu
     ensures err { OnErr result (written b.new ≡ written b.old) }
     ensures causes { HasCausesOr (BadBlock (under b.old).told (shape_of s.now) (file_of s.now.number) (seen b.old (file_of s.now.number))) result (under b.old) (under b.new) }
 {
-    let zeros = [0u8; 1024];
-    write_bytes(b, alloc, s, number, &zeros[..width_of(s)])
+    let zeros = blank();
+    write_bytes(b, alloc, s, number, ahead(&zeros.0, width_of(s)))
 }

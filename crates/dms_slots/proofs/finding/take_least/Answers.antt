@@ -1,0 +1,54 @@
+use Rattle.std.proofs.Common.{◌≡◌, ◌<◌, ◌≤◌, ◌+◌, ◌*◌, ◌∙◌, ℕ, List, [], length, sym, ap, arith, get_or, Ok}
+use Rattle.dms_desc.specs.Shape.{shape_of}
+use Rattle.dms_block.specs.Changing.{grown_is}
+use Rattle.dms_block.specs.Content.{Content, changed}
+use Rattle.dms_block.specs.HeldLaws.{looks_as, looks_on}
+use Rattle.dms_block.specs.View.{seen, seen_counts, under, written}
+use Rattle.dms_slots.specs.SlotBlocks.{file_of, slots_in, slots_of, used_first, within}
+use Rattle.dms_slots.specs.SlotBlockLaws.{least_on, least_here, least_behind}
+use Rattle.dms_slots.proofs.finding.take_least.Goals as goal
+
+pub returns-then-used-per-clause-least : goal.returns-then-used-per-clause-least
+returns-then-used-per-clause-least g c tells =
+    let b = c.args.b.now in
+    let f = file_of c.args.s.now.number in
+    let r = c.loop-i.invariant.reads in
+    let counted = grown_is (written b) (under b).owns (under b).counts (under b).content ((g.met.B.Blocks.agrees b.below c.requires.sound).counted tells) b.fits f in
+    let here = ap (seen_counts b) c.file_of.ensures in
+    let low : c.loop-i.i < length (seen b f) = omega (arith, counted, here, c.count-count.ensures, c.loop-i-test.true) in
+    let still : seen c.loop-i.b ≡ seen b = λ i. changed (r.written_still i) (r.looks.same.content tells i) in
+    let used = c.in_ok-used.ensures.used (r.looks.passes.lasts.told tells) ∙ ap (λ (x : Content). used_first (slots_in (shape_of c.args.s.now) (get_or (x f) c.loop-i.i []))) still in
+    let all = least_here (shape_of c.args.s.now) (seen b f) c.loop-i.i c.per_block-per.result c.in_ok-used.used _ low c.per_block-per.ensures.count used c.if-used-per.true (c.loop-i.invariant.used tells) in
+    c.within.ensures ∙ ap (within c.args.s.now.population) (omega (arith, all, ap (λ k. k * c.per_block-per.result) c.from.ensures))
+
+pub loop-i-preserved : goal.loop-i-preserved
+loop-i-preserved g c =
+    let b = c.args.b.now in
+    let f = file_of c.args.s.now.number in
+    let r = c.loop-i.invariant.reads in
+    record {
+      reads = record {
+        written_still = c.in_ok-used.ensures.reads.written_still ∙ r.written_still;
+        looks = looks_as (Ok 0) (looks_on (Ok c.in_ok-used.used) r.looks c.in_ok-used.ensures.reads.looks);
+        same = g.met.B.Blocks.same_then _ _ _ r.same c.in_ok-used.ensures.reads.same;
+      };
+      faults = c.in_ok-used.ensures.causes ∙ c.loop-i.invariant.faults;
+      used = λ tells.
+          let counted = grown_is (written b) (under b).owns (under b).counts (under b).content ((g.met.B.Blocks.agrees b.below c.requires.sound).counted tells) b.fits f in
+          let here = ap (seen_counts b) c.file_of.ensures in
+          let low : c.loop-i.i < length (seen b f) = omega (arith, counted, here, c.count-count.ensures, c.loop-i-test.true) in
+          let still : seen c.loop-i.b ≡ seen b = λ i. changed (r.written_still i) (r.looks.same.content tells i) in
+          let used = c.in_ok-used.ensures.used (r.looks.passes.lasts.told tells) ∙ ap (λ (x : Content). used_first (slots_in (shape_of c.args.s.now) (get_or (x f) c.loop-i.i []))) still in
+          least_on (shape_of c.args.s.now) (seen b f) c.loop-i.i c.per_block-per.result c.in_ok-used.used _ low c.per_block-per.ensures.count used c.if-used-per.false (omega (arith, c.in_ok-used.ensures.most, c.per_block-per.ensures.count)) (c.loop-i.invariant.used tells);
+    }
+
+pub returns-clause-least : goal.returns-clause-least
+returns-clause-least g c tells =
+    let b = c.args.b.now in
+    let f = file_of c.args.s.now.number in
+    let counted = grown_is (written b) (under b).owns (under b).counts (under b).content ((g.met.B.Blocks.agrees b.below c.requires.sound).counted tells) b.fits f in
+    let here = ap (seen_counts b) c.file_of.ensures in
+    let past : length (seen b f) ≤ c.loop-i.i = omega (arith, counted, here, c.count-count.ensures, c.loop-i-test.false) in
+    let all = least_behind (shape_of c.args.s.now) (seen b f) c.loop-i.i c.per_block-per.result _ past (c.loop-i.invariant.used tells) in
+    let at_end : c.from-2.result ≡ c.loop-i.i = omega (arith, c.from-2.ensures, c.loop-i-test.false, c.loop-i.auto.i-end) in
+    c.within-2.ensures ∙ ap (within c.args.s.now.population) (omega (arith, all, ap (λ k. k * c.per_block-per.result) at_end))
