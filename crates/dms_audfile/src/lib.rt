@@ -13,6 +13,7 @@ mod place;
 mod reach;
 mod scanning;
 mod sealing;
+mod starting;
 mod whole;
 
 pub use audit_end::AuditEnd;

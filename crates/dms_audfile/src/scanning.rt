@@ -220,7 +220,7 @@ pub(crate) fn scan_span<S: Site>(site: &mut S, first: u32, last: u32, buffer: &m
     requires high { last ≤ 20000 }
     requires none { places.old.items ≡ [] }
     ensures writes { IfOk result (λ r. IsTrue S.tells → Writes r.total r.tag first r.file r.count (S.files site.old)) }
-    ensures bounds { IfOk result (λ r. (r.count < r.total) × (r.total ≤ 512) × (first ≤ r.file) × (r.file ≤ last)) }
+    ensures bounds { IfOk result (λ r. (first ≤ r.file) × (r.file ≤ last)) }
     ensures scanned { IsTrue S.tells → Scans (scanned first last (S.files site.old)) places.new.items result }
     ensures reads { OnlyReads S.tells (S.files site.old) (S.files site.new) (S.said site.old) (S.said site.new) (S.clock site.old) (S.clock site.new) (S.disk_faults site.old) (S.disk_faults site.new) (S.say_faults site.old) (S.say_faults site.new) }
     ensures same_site { S.same_site site.old site.new }
