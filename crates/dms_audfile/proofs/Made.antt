@@ -1,5 +1,5 @@
 -- The first audit file of a new database.
-use Rattle.std.proofs.Common.{ℕ, ◌+◌, ◌-◌, ◌<◌, ◌≤◌, ◌≡◌, true, List, [], ◌∷◌, sym, ◌∙◌, ap, subst, arith}
+use Rattle.std.proofs.Common.{ℕ, ◌-◌, ◌≤◌, ◌≡◌, true, List, [], sym, ◌∙◌, ap, subst, arith}
 use Rattle.dms_site.specs.Files.{Files, with_file}
 use Rattle.dms_site.specs.Laws.{with_file_here}
 use Rattle.dms_audfile.specs.TrailEntries.{entries_in, trail_entries}

@@ -21,3 +21,6 @@ pub use fault::AudFault;
 pub use place::Place;
 pub use reach::Reach;
 pub use whole::{AuditStart, Scan};
+
+#[cfg(test)]
+mod tests;
