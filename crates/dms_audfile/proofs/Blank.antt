@@ -1,5 +1,5 @@
 -- A header with all gates 0.
-use Rattle.std.proofs.Common.{ℕ, zero, suc, ◌+◌, ◌-◌, ◌*◌, ◌<◌, ◌≤◌, ◌≡◌, ◌≢◌, List, [], ◌∷◌, ◌++◌, length, get_or, replicate, refl, sym, ◌∙◌, ap, arith, length-append}
+use Rattle.std.proofs.Common.{ℕ, zero, suc, ◌+◌, ◌≤◌, ◌≡◌, List, [], ◌∷◌, ◌++◌, length, get_or, replicate, refl, ap, arith, length-append}
 use Rattle.std.proofs.lemmas.List.{length-replicate}
 use Rattle.std.specs.Int.{w16, w32, w64, to_be_bytes}
 use Rattle.dms_audfile.specs.Gates.{gate}
@@ -42,4 +42,3 @@ header_stands k total tag file is few = record {
   is_closed = λ i low high one. absurd (omega (arith, one, ap (gate i) is, blank_gate k total tag i));
   long = omega (arith, ap length is, blank_length k total tag);
 }
-

@@ -1,18 +1,16 @@
 -- A block that was written is read again.
-use Rattle.std.proofs.Common.{ℕ, zero, suc, ◌+◌, ◌-◌, ◌^◌, ◌<◌, ◌≤◌, ◌≡◌, ◌≢◌, ◌==◌, ◌⊎◌, Bool, true, false, cond, List, [], ◌∷◌, ◌++◌, length, take, drop, get_or, replicate, Option, Some, None, refl, sym, ◌∙◌, ap, subst, arith, append-nil, append_assoc, length-append, length-take, length-drop, inl, inr}
-use Rattle.std.specs.Prelude.{nat_le, ◌&&◌}
+use Rattle.std.proofs.Common.{ℕ, zero, suc, ◌+◌, ◌-◌, ◌≤◌, ◌≡◌, ◌==◌, ◌⊎◌, true, false, cond, List, [], ◌∷◌, ◌++◌, length, take, drop, replicate, Some, refl, sym, ◌∙◌, ap, subst, arith, append_assoc, length-append, inl, inr}
+use Rattle.std.specs.Prelude.{◌&&◌}
 use Rattle.std.specs.Int.{w16, to_be_bytes, from_be_bytes}
-use Rattle.std.proofs.lemmas.Bool.Decides.{nat_tests}
 use Rattle.std.proofs.lemmas.List.{take_at, drop_at, length-replicate}
 use Rattle.std.proofs.lemmas.Nat.{from_be_bytes-to_be_bytes_2}
 use Rattle.dms_history.specs.Entries.{Entry, schema_part, image, byte_range, quiet_point, control_point, begin_restore}
 use Rattle.dms_audrec.specs.Spelling.{spelling, IsEntry}
-use Rattle.dms_audrec.specs.Reading.{entry_at}
 use Rattle.dms_audrec.specs.EntryLaws.{entry_again}
 use Rattle.dms_audfile.specs.Header.{all_zero}
 use Rattle.dms_audfile.specs.Unsealed.{block_with}
-use Rattle.dms_audfile.specs.Blocks.{Entered, is_begin, stands_there, entries_from, used_in, block_entries}
-use Rattle.dms_audfile.specs.BlockLaws.{spellings, ArePlain, IsAlone, entered_at, block_of, BlockIsRead}
+use Rattle.dms_audfile.specs.Blocks.{Entered, is_begin, stands_there, entries_from, used_in}
+use Rattle.dms_audfile.specs.BlockLaws.{spellings, ArePlain, IsAlone, entered_at, BlockIsRead}
 use Rattle.dms_audfile.proofs.Reading.{after_one, entries_step, entries_none, block_is}
 
 spelling_some : (e : Entry) → IsEntry e → 1 ≤ length (spelling e)
@@ -78,7 +76,7 @@ block_is_read es are few =
     let len : length block ≡ 4096 = omega (arith, few, length-append head (body ++ pad), length-append body pad, length-replicate {A = ℕ} (4094 - n) 0) in
     let behind : drop (2 + n) block ≡ pad = ap (drop (2 + n)) (sym (append_assoc head body pad)) ∙ drop_at (head ++ body) pad (2 + n) (length-append head body) in
     let front : drop 2 (take (2 + n) block) ≡ body =
-        ap (drop 2) (ap (take (2 + n)) (sym (append_assoc head body pad)) ∙ take_at (head ++ body) pad (2 + n) (length-append head body)) ∙ drop_at head body 2 refl in
+    ap (drop 2) (ap (take (2 + n)) (sym (append_assoc head body pad)) ∙ take_at (head ++ body) pad (2 + n) (length-append head body)) ∙ drop_at head body 2 refl in
     sym (block_is block len (omega (arith, used, few)) (ap (λ k. all_zero (drop (2 + k) block)) used ∙ ap all_zero behind ∙ zeros_zero (4094 - n)))
     ∙ ap (λ k. entries_from k 2 (drop 2 (take (2 + k) block))) used
     ∙ ap (entries_from n 2) front

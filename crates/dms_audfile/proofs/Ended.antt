@@ -1,25 +1,23 @@
 -- A block sealed at the end of a trail.
-use Rattle.std.proofs.Common.{◌≡◌, ◌≢◌, ◌⊎◌, inl, inr, ℕ, zero, suc, ◌+◌, ◌-◌, ◌^◌, ◌<◌, ◌≤◌, Bool, true, false, List, [], ◌∷◌, ◌++◌, take, drop, map, length, Option, Some, None, refl, sym, ◌∙◌, ap, subst, arith, append-nil, append_assoc, length-take, length-drop}
+use Rattle.std.proofs.Common.{◌≡◌, ◌≢◌, ◌⊎◌, inl, inr, ℕ, zero, suc, ◌+◌, ◌-◌, ◌^◌, ◌<◌, ◌≤◌, Bool, true, false, List, [], ◌∷◌, ◌++◌, take, drop, map, length, refl, sym, ◌∙◌, ap, subst, arith, append-nil, append_assoc, length-take}
 use Rattle.dms_moments.specs.Moments.{Now}
 use Rattle.std.specs.Prelude.{OnOk}
 use Rattle.std.specs.declared.result.Result.{Result}
 use Rattle.std.specs.declared.result.Result.TheVariants.{Ok, Err}
-use Rattle.dms_moments.specs.MomentLaws.{runs_none, steps_weaken, steps_on}
-use Rattle.dms_site.specs.Files.{OnlyIn, Only}
+use Rattle.dms_moments.specs.MomentLaws.{runs_none}
+use Rattle.dms_site.specs.Files.{OnlyIn}
 use Rattle.dms_history.specs.Entries.{Entry, schema_part, image, byte_range, quiet_point, control_point, begin_restore}
 use Rattle.dms_audrec.specs.Spelling.{spelling, IsEntry}
 use Rattle.dms_audfile.specs.declared.audit_end.AuditEnd.{AuditEnd}
-use Rattle.dms_audfile.specs.Blocks.{Entered, block_entries, is_begin}
+use Rattle.dms_audfile.specs.Blocks.{block_entries, is_begin}
 use Rattle.dms_audfile.specs.BlockLaws.{spellings, ArePlain, IsAlone, entered_at, block_of}
 use Rattle.dms_audfile.specs.Trail.{trail_from}
 use Rattle.dms_audfile.specs.TrailEntries.{entry_of, entries_of, entries_in, trail_entries}
-use Rattle.dms_audfile.specs.Unsealed.{block_with}
 use Rattle.dms_audfile.specs.Ends.{unsealed, EndsAt, Seals, Appends}
 use Rattle.dms_audfile.proofs.BlockRead.{block_is_read}
 use Rattle.dms_audfile.proofs.Growing.{writes_same}
 use Rattle.dms_audfile.proofs.Gates.{stands_full}
 use Rattle.dms_audfile.proofs.Several.{trail_same}
-use Rattle.std.specs.Int.{w64, to_be_bytes, from_be_bytes}
 use Rattle.std.proofs.lemmas.Nat.{from_be_bytes-to_be_bytes_8}
 use Rattle.dms_moments.specs.Moments.{Clock, Steps}
 use Rattle.dms_site.specs.Files.{Files, Left, range}
@@ -86,6 +84,7 @@ seals_of total tag first f es content z x low order high kind few is grows = by_
       above = λ g more. grows.files.others g (omega arith) (omega arith);
       said = grows.said;
     }
+
     by_count : (k : ℕ) → k ≤ 1 → trail_from 10000 total first x.files ≡ trail_from 10000 total first z.files ++ take k (content ∷ []) → Seals total tag first es z x
     by_count zero within trail = with_some 0 (trail_none total first content es z.files x.files trail)
     by_count (suc zero) within trail = with_some (length es)

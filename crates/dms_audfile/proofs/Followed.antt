@@ -1,15 +1,13 @@
 -- Scanning follows the trail.
-use Rattle.std.proofs.Common.{ℕ, zero, suc, ◌+◌, ◌-◌, ◌*◌, ◌<◌, ◌≤◌, ◌≡◌, ◌≢◌, ◌==◌, Bool, true, false, cond, List, [], ◌∷◌, ◌++◌, length, refl, sym, ◌∙◌, ap, subst, arith, append-nil, append_assoc, inl, inr}
+use Rattle.std.proofs.Common.{ℕ, zero, suc, ◌+◌, ◌-◌, ◌<◌, ◌≤◌, ◌≡◌, ◌==◌, Bool, true, false, cond, List, [], ◌++◌, length, refl, sym, ◌∙◌, ap, subst, arith, append-nil, append_assoc}
 use Rattle.std.specs.Prelude.{nat_le, ◌&&◌}
 use Rattle.std.proofs.lemmas.Bool.Decides.{nat_tests}
 use Rattle.dms_site.specs.Files.{Files}
-use Rattle.dms_audfile.specs.declared.place.Place.{Place}
 use Rattle.dms_audfile.specs.Gates.{block_at, opened, sealed, is_full, blocks_from}
 use Rattle.dms_audfile.specs.Header.{header_fits, names_fit, zeros_fit, gates_fit, has_mark, number_said, says_blocks, blocks_said, tag_said}
 use Rattle.dms_audfile.specs.Blocks.{block_entries}
 use Rattle.dms_audfile.specs.Trail.{trail_from, first_open}
-use Rattle.dms_audfile.specs.Sealing.{Writes}
-use Rattle.dms_audfile.specs.Scanning.{Read, broken, whole, behind, then_read, places_of, blocks_read, file_read, files_read, outcome_of, first_foreign, trail_read, scanned}
+use Rattle.dms_audfile.specs.Scanning.{Read, broken, whole, then_read, places_of, blocks_read, file_read, files_read, outcome_of, first_foreign}
 use Rattle.dms_audfile.specs.TrailLaws.{read_trail, all_of, ScansTrail}
 use Rattle.dms_audfile.proofs.Gates.{stands_full}
 use Rattle.dms_audfile.proofs.HeaderLaws.{opened_within}
@@ -76,7 +74,7 @@ files_follow (suc m) (suc n) total f files some far full part fits =
     let all : o ≡ total = full_opened total (files f) on in
     let e : f + suc m ≡ f + 1 + m = omega arith in
     let rest : files_read (suc m) total (f + 1) files ≡ read_trail total (f + 1) 1 (trail_from n total (f + 1) files) =
-        files_follow m n total (f + 1) files some (omega arith) (λ g low high. full g (omega arith) (omega arith)) (subst (λ j. is_full total (files j) ≡ false) e part) (λ g low high. fits g (omega arith) (omega arith)) in
+    files_follow m n total (f + 1) files some (omega arith) (λ g low high. full g (omega arith) (omega arith)) (subst (λ j. is_full total (files j) ≡ false) e part) (λ g low high. fits g (omega arith) (omega arith)) in
     (λ i. then_read (sym (file_good total f (f - 10000) (files f) refl (fits f (omega arith) (omega arith))) i) (rest i))
     ∙ sym (full_read total f o 1 (files f) (trail_from n total (f + 1) files) (omega arith) (omega arith))
     ∙ ap (λ b. read_trail total f 1 (cond b (blocks_from o 1 (files f) ++ trail_from n total (f + 1) files) (blocks_from o 1 (files f)))) (sym on)

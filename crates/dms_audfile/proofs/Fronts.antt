@@ -1,5 +1,5 @@
 -- A header is the first 4,096 bytes of its file.
-use Rattle.std.proofs.Common.{ℕ, zero, suc, ◌+◌, ◌-◌, ◌*◌, ◌<◌, ◌≤◌, ◌≡◌, ◌≢◌, ◌==◌, min, Bool, true, false, cond, List, [], ◌∷◌, ◌++◌, length, take, drop, get_or, Option, Some, None, refl, sym, ◌∙◌, ap, subst, arith}
+use Rattle.std.proofs.Common.{ℕ, zero, suc, ◌+◌, ◌-◌, ◌<◌, ◌≤◌, ◌≡◌, ◌==◌, false, cond, List, [], ◌∷◌, length, get_or, Option, Some, None, refl, sym, ◌∙◌, ap, arith}
 use Rattle.std.specs.Prelude.{nat_le, ◌&&◌}
 use Rattle.std.specs.Int.{w16, w32, w64, from_be_bytes}
 use Rattle.std.proofs.lemmas.Bool.Decides.{nat_tests}
@@ -81,5 +81,22 @@ pub tag_bytes : (file : List ℕ) (a b c d e f g h : ℕ) → a ≡ get_or file 
     → from_be_bytes w64 (a ∷ b ∷ c ∷ d ∷ e ∷ f ∷ g ∷ h ∷ []) ≡ tag_said file
 unfolding tag_said
 tag_bytes file a b c d e f g h p0 p1 p2 p3 p4 p5 p6 p7 =
-    omega (arith, p0, p1, p2, p3, p4, p5, p6, p7, get_or-range 10 8 0 file (omega arith), get_or-range 10 8 1 file (omega arith), get_or-range 10 8 2 file (omega arith), get_or-range 10 8 3 file (omega arith), get_or-range 10 8 4 file (omega arith),
-      get_or-range 10 8 5 file (omega arith), get_or-range 10 8 6 file (omega arith), get_or-range 10 8 7 file (omega arith))
+    omega (
+      arith,
+      p0,
+      p1,
+      p2,
+      p3,
+      p4,
+      p5,
+      p6,
+      p7,
+      get_or-range 10 8 0 file (omega arith),
+      get_or-range 10 8 1 file (omega arith),
+      get_or-range 10 8 2 file (omega arith),
+      get_or-range 10 8 3 file (omega arith),
+      get_or-range 10 8 4 file (omega arith),
+      get_or-range 10 8 5 file (omega arith),
+      get_or-range 10 8 6 file (omega arith),
+      get_or-range 10 8 7 file (omega arith),
+    )

@@ -1,12 +1,11 @@
 -- The trail while one more block is sealed.
-use Rattle.std.proofs.Common.{ℕ, zero, suc, ◌+◌, ◌-◌, ◌*◌, ◌<◌, ◌≤◌, ◌≡◌, ◌≢◌, ◌⊎◌, inl, inr, Bool, true, false, cond, List, [], ◌∷◌, ◌++◌, length, take, get_or, replicate, refl, sym, ◌∙◌, ap, subst, arith, append-nil, append_assoc, length-append}
-use Rattle.std.proofs.lemmas.Bool.{cases_eq, cases_lt, false≢true}
+use Rattle.std.proofs.Common.{ℕ, zero, suc, ◌+◌, ◌-◌, ◌*◌, ◌<◌, ◌≤◌, ◌≡◌, ◌≢◌, inl, inr, Bool, true, false, cond, List, [], ◌∷◌, ◌++◌, length, take, get_or, refl, sym, ◌∙◌, ap, subst, arith, append-nil}
+use Rattle.std.proofs.lemmas.Bool.{cases_eq, false≢true}
 use Rattle.std.proofs.lemmas.Bool.Decides.{nat_tests}
-use Rattle.std.proofs.lemmas.List.{places, length-replicate, get_or-replicate, drop_all}
-use Rattle.std.specs.Int.{w16, w32, to_be_bytes}
+use Rattle.std.proofs.lemmas.List.{drop_all}
 use Rattle.dms_site.specs.Files.{Files, Left, range, overlaid, padded, with_file, OnDisk, InFile, Torn}
 use Rattle.dms_site.specs.Laws.{get_or-range, range_overlaid, length-overlaid, torn_overlaid, with_file_here, with_file_other}
-use Rattle.dms_audfile.specs.Gates.{block_at, gate, sealed, is_full, opened, blocks_from}
+use Rattle.dms_audfile.specs.Gates.{block_at, gate, sealed, is_full}
 use Rattle.dms_audfile.specs.Header.{new_header, header_fits, tag_said}
 use Rattle.dms_audfile.specs.Trail.{trail_from}
 use Rattle.dms_audfile.specs.Sealing.{Stands, Writes, Grows, GrowsLeft, Anyhow}
@@ -125,16 +124,16 @@ module _ (total tag first f n : ℕ) (content : List ℕ) (z y : Files) (k : Kep
   opened_trail is m far =
       let s = opened_stands total n (y f) (x f) k.writes.stands k.writes.not_full long step.here is in
       grows_by total tag first f n y x (content ∷ []) k.writes below
-          (opened_sealed total n (y f) (x f) k.writes.stands k.writes.not_full long step.here is ∙ ap (λ (l : List ℕ). sealed total (y f) ++ l ∷ []) block)
-          (none_next (n + 1) (omega arith) s) m far
+      (opened_sealed total n (y f) (x f) k.writes.stands k.writes.not_full long step.here is ∙ ap (λ (l : List ℕ). sealed total (y f) ++ l ∷ []) block)
+      (none_next (n + 1) (omega arith) s) m far
       ∙ ap (λ (l : List (List ℕ)). l ++ content ∷ []) (k.trail m far)
 
   shut_trail : gate (n + 1) (x f) ≢ 1 → (m : ℕ) → f < first + m → trail_from m total first x ≡ trail_from m total first z
   shut_trail not m far =
       let s = shut_stands total n (y f) (x f) k.writes.stands k.writes.not_full long step.here not in
       grows_by total tag first f n y x [] k.writes below
-          (shut_sealed total n (y f) (x f) k.writes.stands k.writes.not_full long step.here not ∙ sym (append-nil (sealed total (y f))))
-          (none_next n (omega arith) s) m far
+      (shut_sealed total n (y f) (x f) k.writes.stands k.writes.not_full long step.here not ∙ sym (append-nil (sealed total (y f))))
+      (none_next n (omega arith) s) m far
       ∙ append-nil (trail_from m total first y) ∙ k.trail m far
 
   module _ (is : gate (n + 1) (x f) ≡ 1) where
@@ -333,6 +332,7 @@ start_is old mid new f head first then = λ i g. at_each g i
   where
     here : new f ≡ head
     here = ap (λ (l : Files). l f) then ∙ with_file_here mid f (overlaid 0 head (mid f)) ∙ ap (λ (l : List ℕ). overlaid 0 head l) (ap (λ (l : Files). l f) first ∙ with_file_here old f (take 0 (old f))) ∙ overlaid_none head
+
     at_each : (g : ℕ) → new g ≡ with_file old f head g
     at_each g = elim (cases_eq g f) [
       | inl is ↦ ap new is ∙ here ∙ sym (with_file_here old f head) ∙ ap (with_file old f head) (sym is)

@@ -1,20 +1,18 @@
 -- Headers stay in the grammar while a block is sealed, and a new one is in it.
-use Rattle.std.proofs.Common.{ℕ, zero, suc, ◌+◌, ◌-◌, ◌*◌, ◌^◌, ◌<◌, ◌≤◌, ◌≡◌, ◌≢◌, ◌==◌, Bool, true, false, cond, List, [], ◌∷◌, ◌++◌, length, take, drop, get_or, replicate, refl, sym, ◌∙◌, ap, subst, arith, inl, inr}
+use Rattle.std.proofs.Common.{ℕ, zero, suc, ◌+◌, ◌-◌, ◌*◌, ◌^◌, ◌<◌, ◌≤◌, ◌≡◌, ◌≢◌, ◌==◌, Bool, true, false, List, [], ◌∷◌, length, get_or, refl, sym, ◌∙◌, ap, arith}
 use Rattle.std.specs.Prelude.{nat_le, ◌&&◌}
 use Rattle.std.specs.Int.{w16, w32, w64, to_be_bytes, from_be_bytes}
-use Rattle.std.proofs.lemmas.Bool.{cases_lt}
 use Rattle.std.proofs.lemmas.Bool.Decides.{nat_tests}
-use Rattle.std.proofs.lemmas.List.{take_at, drop_at, get_or_past}
 use Rattle.std.proofs.lemmas.Nat.{from_be_bytes-to_be_bytes_2, from_be_bytes-to_be_bytes_4}
 use Rattle.dms_site.specs.Files.{range, Torn}
 use Rattle.dms_site.specs.Laws.{range_same, get_or-range, length-range}
-use Rattle.dms_audfile.specs.Gates.{gate, opened}
+use Rattle.dms_audfile.specs.Gates.{gate}
 use Rattle.dms_audfile.specs.Header.{all_zero, none_open, has_mark, number_said, blocks_said, tag_said, names_fit, zeros_fit, gates_fit, header_fits, new_header}
 use Rattle.dms_audfile.specs.Sealing.{Stands}
 use Rattle.dms_audfile.proofs.Gates.{stands_opened}
 use Rattle.dms_audfile.proofs.HeaderLaws.{opened_within}
 use Rattle.dms_audfile.proofs.Fronts.{fits_front}
-use Rattle.dms_audfile.proofs.Blank.{blank_gate, blank_byte, blank_length}
+use Rattle.dms_audfile.proofs.Blank.{blank_byte, blank_length}
 
 both_true : (a b : Bool) → (a && b) ≡ true → (a ≡ true) × (b ≡ true)
 both_true true b e = (refl, e)

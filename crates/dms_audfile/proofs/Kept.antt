@@ -1,9 +1,9 @@
 -- What scanning finds is such as a writer keeps.
-use Rattle.std.proofs.Common.{ℕ, zero, suc, ◌+◌, ◌-◌, ◌*◌, ◌<◌, ◌≤◌, ◌≡◌, ◌≢◌, ◌==◌, ◌⊎◌, min, Bool, true, false, cond, List, [], ◌∷◌, ◌++◌, length, take, drop, Option, Some, None, refl, sym, ◌∙◌, ap, subst, arith, inl, inr}
+use Rattle.std.proofs.Common.{ℕ, zero, suc, ◌+◌, ◌-◌, ◌*◌, ◌<◌, ◌≤◌, ◌≡◌, ◌≢◌, ◌==◌, ◌⊎◌, Bool, true, false, cond, List, [], length, take, drop, Option, None, refl, sym, ◌∙◌, ap, subst, arith, inl, inr}
 use Rattle.std.specs.Prelude.{nat_le, nat_lt, ◌&&◌}
 use Rattle.std.proofs.lemmas.Bool.{cases_eq, cases_lt}
 use Rattle.std.proofs.lemmas.Bool.Decides.{nat_tests}
-use Rattle.dms_site.specs.Files.{Files, range}
+use Rattle.dms_site.specs.Files.{Files}
 use Rattle.dms_site.specs.Laws.{length-range}
 use Rattle.dms_audfile.specs.declared.place.Place.{Place}
 use Rattle.dms_audfile.specs.Gates.{gate, block_at, opened_from, opened, is_full}
@@ -11,7 +11,7 @@ use Rattle.dms_audfile.specs.Header.{all_zero, header_fits, names_fit, zeros_fit
 use Rattle.dms_audfile.specs.Blocks.{Entered, block_entries, used_in, entries_from}
 use Rattle.dms_audfile.specs.Trail.{first_open}
 use Rattle.dms_audfile.specs.Sealing.{Stands, Writes}
-use Rattle.dms_audfile.specs.Scanning.{Read, broken, whole, behind, then_read, places_of, blocks_read, file_read, files_read, Outcome, unsealed, missing, damaged, found, foreign, outcome_of, outcome_at, first_foreign, trail_read, scanned}
+use Rattle.dms_audfile.specs.Scanning.{Read, broken, whole, then_read, places_of, blocks_read, file_read, files_read, unsealed, missing, damaged, found, foreign, outcome_of, outcome_at, first_foreign, trail_read, scanned}
 use Rattle.dms_audfile.specs.TrailLaws.{IsKept, FoundIsKept}
 use Rattle.dms_audfile.proofs.HeaderLaws.{opened_within}
 
@@ -55,7 +55,7 @@ block_whole : (f n : ℕ) (block : List ℕ) → IsWhole (places_of f n (block_e
 unfolding block_entries
 block_whole f n block w =
     let e : ((length block == 4096) && (nat_le (used_in block) 4094 && all_zero (drop (2 + used_in block) block))) ≡ true =
-        cond_some ((length block == 4096) && (nat_le (used_in block) 4094 && all_zero (drop (2 + used_in block) block))) (entries_from (used_in block) 2 (drop 2 (take (2 + used_in block) block))) f n w in
+    cond_some ((length block == 4096) && (nat_le (used_in block) 4094 && all_zero (drop (2 + used_in block) block))) (entries_from (used_in block) 2 (drop 2 (take (2 + used_in block) block))) f n w in
     grind (arith, nat_tests)
 
 blocks_whole : (k i f : ℕ) (file : List ℕ) → IsWhole (blocks_read k i f file) → 0 < k → 4096 * (i + k) ≤ length file
@@ -80,6 +80,7 @@ opened_gates (suc k) i j file low high = elim (cases_eq (gate i file) 1) [
   where
     on : gate i file ≡ 1 → (gate i file == 1) ≡ true
     on is = grind (arith, nat_tests)
+
     off : gate i file ≢ 1 → (gate i file == 1) ≡ false
     off not = grind (arith, nat_tests)
 
@@ -88,13 +89,14 @@ none_gates zero i j file none low high = absurd (omega arith)
 none_gates (suc k) i j file none low high = elim (cases_eq (gate i file) 1) [
   | inl is ↦ absurd (never is)
   | inr not ↦ elim (cases_eq j i) [
-      | inl same ↦ subst (λ n. gate n file ≢ 1) (sym same) not
-      | inr other ↦ none_gates k (i + 1) j file (ap (λ b. cond b false (none_open k (i + 1) file)) (sym (off not)) ∙ none) (omega arith) (omega arith)
-    ]
+    | inl same ↦ subst (λ n. gate n file ≢ 1) (sym same) not
+    | inr other ↦ none_gates k (i + 1) j file (ap (λ b. cond b false (none_open k (i + 1) file)) (sym (off not)) ∙ none) (omega arith) (omega arith)
+  ]
 ]
   where
     off : gate i file ≢ 1 → (gate i file == 1) ≡ false
     off not = grind (arith, nat_tests)
+
     never : gate i file ≡ 1 → ⊥
     never is = grind (arith, nat_tests)
 
@@ -178,10 +180,13 @@ of_found (whole qs) g end ps is = elim (cases_lt g end) [
   where
     no_foreign : foreign (g - 10000) ≡ found ps → ⊥
     no_foreign e = absurd cc
+
     same : found qs ≡ found ps → qs ≡ ps
     same e = cc
+
     near_by : g < end → outcome_of (whole qs) g end ≡ foreign (g - 10000)
     near_by near = grind (arith, nat_tests)
+
     far_off : end ≤ g → outcome_of (whole qs) g end ≡ found qs
     far_off far = grind (arith, nat_tests)
 
@@ -199,6 +204,7 @@ all_tagged (suc k) tag f files far g low high = elim (cases_eq (tag_said (files 
   where
     on : tag_said (files f) ≡ tag → (tag_said (files f) == tag) ≡ true
     on same = grind (arith, nat_tests)
+
     off : tag_said (files f) ≢ tag → (tag_said (files f) == tag) ≡ false
     off other = grind (arith, nat_tests)
 
@@ -206,27 +212,31 @@ ends_well : (total first last e : ℕ) (files : Files) (ps : List Place) → out
 ends_well total first last e files ps is = elim (bool_cases (nat_lt last e)) [
   | inl out ↦ absurd (no_missing (sym (ap (λ b. cond b (missing (last - 9999)) (cond (nat_le (e + 2) last) (unsealed (e - 10000)) (trail_read first (e + 1) total files))) out) ∙ is))
   | inr inside ↦ elim (bool_cases (nat_le (e + 2) last)) [
-      | inl early ↦ absurd (no_unsealed (sym (ap (λ b. cond b (missing (last - 9999)) (cond (nat_le (e + 2) last) (unsealed (e - 10000)) (trail_read first (e + 1) total files))) inside
-          ∙ ap (λ b. cond b (unsealed (e - 10000)) (trail_read first (e + 1) total files)) early) ∙ is))
-      | inr late ↦ record {
-          inside = within inside;
-          late = behind_it late;
-          read = (well (sym (ap (λ b. cond b (missing (last - 9999)) (cond (nat_le (e + 2) last) (unsealed (e - 10000)) (trail_read first (e + 1) total files))) inside
-              ∙ ap (λ b. cond b (unsealed (e - 10000)) (trail_read first (e + 1) total files)) late) ∙ is)).0;
-          own = (well (sym (ap (λ b. cond b (missing (last - 9999)) (cond (nat_le (e + 2) last) (unsealed (e - 10000)) (trail_read first (e + 1) total files))) inside
-              ∙ ap (λ b. cond b (unsealed (e - 10000)) (trail_read first (e + 1) total files)) late) ∙ is)).1;
-        }
-    ]
+    | inl early ↦ absurd (no_unsealed (sym (ap (λ b. cond b (missing (last - 9999)) (cond (nat_le (e + 2) last) (unsealed (e - 10000)) (trail_read first (e + 1) total files))) inside
+        ∙ ap (λ b. cond b (unsealed (e - 10000)) (trail_read first (e + 1) total files)) early) ∙ is))
+    | inr late ↦ record {
+      inside = within inside;
+      late = behind_it late;
+      read = (well (sym (ap (λ b. cond b (missing (last - 9999)) (cond (nat_le (e + 2) last) (unsealed (e - 10000)) (trail_read first (e + 1) total files))) inside
+          ∙ ap (λ b. cond b (unsealed (e - 10000)) (trail_read first (e + 1) total files)) late) ∙ is)).0;
+      own = (well (sym (ap (λ b. cond b (missing (last - 9999)) (cond (nat_le (e + 2) last) (unsealed (e - 10000)) (trail_read first (e + 1) total files))) inside
+          ∙ ap (λ b. cond b (unsealed (e - 10000)) (trail_read first (e + 1) total files)) late) ∙ is)).1;
+    }
+  ]
 ]
   where
     well : trail_read first (e + 1) total files ≡ found ps → (files_read (e + 1 - first) total first files ≡ whole ps) × (e + 1 ≤ first_foreign (e + 1 - first) (tag_said (files first)) first files)
     well = of_found (files_read (e + 1 - first) total first files) (first_foreign (e + 1 - first) (tag_said (files first)) first files) (e + 1) ps
+
     no_missing : missing (last - 9999) ≡ found ps → ⊥
     no_missing e = absurd cc
+
     no_unsealed : unsealed (e - 10000) ≡ found ps → ⊥
     no_unsealed e = absurd cc
+
     within : nat_lt last e ≡ false → e ≤ last
     within off = grind (arith, nat_tests)
+
     behind_it : nat_le (e + 2) last ≡ false → last < e + 2
     behind_it off = grind (arith, nat_tests)
 
@@ -237,14 +247,14 @@ writes_by total first last e files ps low few at is order =
     let o = subst (λ j. FirstOpen total first j files) (sym at) (open_found (last + 1 - first) total first files (omega (arith, w.inside, at, order))) in
     let all = files_whole (e + 1 - first) total first files (is_whole _ ps w.read) in
     record {
-        order = o.low;
-        some = low;
-        not_full = not_full_opened total (files e) o.part;
-        full = o.full;
-        stands = file_stands total e (files e) few (all e o.low (omega (arith, o.low)));
-        fits = λ g from upto. (file_whole total g (files g) (all g from (omega (arith, o.low)))).0;
-        tags = λ g from upto. all_tagged (e + 1 - first) (tag_said (files first)) first files (omega (arith, o.low, w.own)) g from (omega (arith, o.low));
-      }
+      order = o.low;
+      some = low;
+      not_full = not_full_opened total (files e) o.part;
+      full = o.full;
+      stands = file_stands total e (files e) few (all e o.low (omega (arith, o.low)));
+      fits = λ g from upto. (file_whole total g (files g) (all g from (omega (arith, o.low)))).0;
+      tags = λ g from upto. all_tagged (e + 1 - first) (tag_said (files first)) first files (omega (arith, o.low, w.own)) g from (omega (arith, o.low));
+    }
 
 kept_by : (total first last e : ℕ) (files : Files) (ps : List Place) → first ≤ last → 8 ≤ total → total ≤ 512 → e ≡ first_open (last + 1 - first) total first files → outcome_at total first last e files ≡ found ps → IsKept first last files
 kept_by total first last e files ps order low few at is =

@@ -1,7 +1,7 @@
 -- Blocks and headers laid piece by piece.
-use Rattle.std.proofs.Common.{◌≡◌, ℕ, zero, suc, ◌+◌, ◌-◌, ◌<◌, ◌≤◌, List, [], ◌∷◌, ◌++◌, length, take, drop, replicate, refl, sym, ◌∙◌, ap, subst, append_assoc, append-nil, length-append, length-take, length-drop, arith}
-use Rattle.std.proofs.lemmas.List.{take_at, drop_at, drop-drop, length-replicate, take-append-drop}
-use Rattle.std.specs.Int.{w16, w32, w64, to_be_bytes, from_be_bytes}
+use Rattle.std.proofs.Common.{◌≡◌, ℕ, zero, suc, ◌+◌, ◌-◌, ◌≤◌, List, [], ◌∷◌, ◌++◌, length, take, drop, replicate, refl, sym, ◌∙◌, ap, append_assoc, length-append, length-take, length-drop, arith}
+use Rattle.std.proofs.lemmas.List.{take_at, drop_at, drop-drop}
+use Rattle.std.specs.Int.{w16, w32, w64, to_be_bytes}
 use Rattle.dms_audfile.specs.Header.{new_header}
 use Rattle.dms_fields.specs.Fields.{laid}
 use Rattle.dms_audfile.specs.Unsealed.{cleared, block_with}
@@ -15,7 +15,7 @@ pub laid_on : (done bytes old : List ℕ) (at : ℕ) → length done ≡ at → 
 unfolding laid
 laid_on done bytes old at size =
     let more : drop (at + length bytes) (done ++ drop at old) ≡ drop (at + length bytes) old =
-        sym (drop-drop (length bytes) at (done ++ drop at old)) ∙ ap (λ (l : List ℕ). drop (length bytes) l) (drop_at done (drop at old) at size) ∙ drop-drop (length bytes) at old in
+    sym (drop-drop (length bytes) at (done ++ drop at old)) ∙ ap (λ (l : List ℕ). drop (length bytes) l) (drop_at done (drop at old) at size) ∙ drop-drop (length bytes) at old in
     (λ i. take_at done (drop at old) at size i ++ (bytes ++ more i)) ∙ sym (append_assoc done bytes (drop (at + length bytes) old))
 
 abbrev nils : ℕ → List ℕ

@@ -1,24 +1,22 @@
 -- One part after another is read.
-use Rattle.std.proofs.Common.{ℕ, zero, suc, ◌+◌, ◌-◌, ◌*◌, ◌<◌, ◌≤◌, ◌≡◌, ◌≢◌, ◌==◌, Bool, true, false, cond, List, [], ◌∷◌, ◌++◌, length, take, drop, map, Option, Some, None, refl, sym, ◌∙◌, ap, subst, arith, append-nil, append_assoc, length-take, length-drop}
-use Rattle.std.specs.Prelude.{nat_le, nat_lt, ◌&&◌}
+use Rattle.std.proofs.Common.{ℕ, zero, suc, ◌+◌, ◌-◌, ◌<◌, ◌≤◌, ◌≡◌, ◌≢◌, ◌==◌, Bool, true, false, cond, List, [], ◌∷◌, ◌++◌, length, take, drop, map, Option, Some, None, refl, sym, ◌∙◌, ap, subst, arith, append-nil, append_assoc, length-take, length-drop}
+use Rattle.std.specs.Prelude.{nat_le, ◌&&◌}
 use Rattle.std.proofs.lemmas.Bool.Decides.{nat_tests}
-use Rattle.std.specs.declared.result.Result.{Result}
-use Rattle.std.specs.declared.result.Result.TheVariants.{Ok, Err}
 use Rattle.dms_audfile.specs.declared.fault.AudFault.{AudFault}
 use Rattle.dms_audfile.specs.declared.fault.AudFault.TheVariants.{NoDatabase, Disk, Full, Missing, Unsealed, Damaged, Foreign, Memory}
 use Rattle.dms_audfile.specs.declared.place.Place.{Place}
-use Rattle.dms_site.specs.Files.{Files, Left, Same}
+use Rattle.dms_site.specs.Files.{Files, Left}
 use Rattle.dms_audfile.specs.Gates.{block_at, opened, is_full}
 use Rattle.dms_history.specs.Entries.{Entry}
 use Rattle.dms_fields.specs.Prefix.{◌>>=◌}
 use Rattle.dms_audrec.specs.Reading.{entry_at}
-use Rattle.dms_moments.specs.Moments.{Clock, Now, Steps}
+use Rattle.dms_moments.specs.Moments.{Clock}
 use Rattle.dms_moments.specs.MomentLaws.{steps_on}
 use Rattle.dms_audfile.specs.Header.{all_zero, header_fits, says_blocks, blocks_said, tag_said}
 use Rattle.dms_audfile.specs.Trail.{first_open}
 use Rattle.dms_audfile.specs.Blocks.{Entered, block_entries, entries_from, stands_there, used_in}
 use Rattle.dms_audfile.specs.Scanning.{Read, broken, whole, behind, then_read, place_of, places_of, Outcome, missing, unsealed, damaged, foreign, found, outcome_of, first_foreign, trail_read, outcome_at, scanned, blocks_read, file_read, files_read}
-use Rattle.dms_audfile.specs.Reads.{ReadInto, ReadFound, NotRead, NotScanned, IsBroken, OnlyReads, Scans}
+use Rattle.dms_audfile.specs.Reads.{ReadInto, NotRead, NotScanned, IsBroken, OnlyReads}
 
 -- a part was read
 pub read_turn : (old new : List Place) (r rest : Read) → whole new ≡ behind old r → behind new rest ≡ behind old (then_read r rest)

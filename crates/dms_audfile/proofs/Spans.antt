@@ -1,12 +1,12 @@
 -- The trail's files are found, and scanned.
-use Rattle.std.proofs.Common.{ℕ, ◌+◌, ◌<◌, ◌≤◌, ◌≡◌, Bool, IsTrue, List, [], length, refl, sym, ◌∙◌, ap, subst, arith}
+use Rattle.std.proofs.Common.{ℕ, ◌≤◌, ◌≡◌, Bool, IsTrue, List, arith}
 use Rattle.dms_moments.specs.Moments.{Clock, Steps}
 use Rattle.dms_site.specs.Files.{Files, Left, Same, IsLastPresent}
 use Rattle.dms_audfile.specs.declared.fault.AudFault.{AudFault}
 use Rattle.dms_audfile.specs.declared.fault.AudFault.TheVariants.{NoDatabase, Disk, Full, Missing, Unsealed, Damaged, Foreign, Memory}
 use Rattle.dms_audfile.specs.declared.place.Place.{Place}
 use Rattle.dms_audfile.specs.Trail.{Span, Begins}
-use Rattle.dms_audfile.specs.Scanning.{Outcome, scanned, found}
+use Rattle.dms_audfile.specs.Scanning.{scanned, found}
 use Rattle.dms_audfile.specs.Reads.{OnlyReads, NotScanned, InSpan, Refuses}
 
 pub reads_of : (tells : Bool) {f g : Files} {r s : List ℕ} {a b : Clock Left} {i j k l : ℕ} → (IsTrue tells → g ≡ f) → s ≡ r → Steps Same a b → i ≤ j → l ≡ k → OnlyReads tells f g r s a b i j k l

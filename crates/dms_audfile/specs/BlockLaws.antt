@@ -1,6 +1,5 @@
 -- The one spelling of a block of entries.
-use Rattle.std.specs.Prelude.{ℕ, ◌+◌, ◌-◌, ◌≤◌, ◌≡◌, ◌⊎◌, Bool, true, false, List, [], ◌∷◌, ◌++◌, length, replicate, Some}
-use Rattle.std.specs.Int.{w16, to_be_bytes}
+use Rattle.std.specs.Prelude.{ℕ, ◌+◌, ◌≤◌, ◌≡◌, ◌⊎◌, false, List, [], ◌∷◌, ◌++◌, length, Some}
 use Rattle.dms_history.specs.Entries.{Entry}
 use Rattle.dms_audrec.specs.Spelling.{spelling, IsEntry}
 use Rattle.dms_audfile.specs.Blocks.{Entered, is_begin, block_entries}

@@ -10,3 +10,4 @@ pub mod Sealing
 pub mod Ends
 pub mod TrailEntries
 pub mod Unsealed
+pub mod EndLaws

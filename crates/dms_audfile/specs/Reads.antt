@@ -1,7 +1,7 @@
 -- What a function that adds places has read.
 use Rattle.std.specs.declared.result.Result.{Result}
 use Rattle.std.specs.declared.result.Result.TheVariants.{Ok, Err}
-use Rattle.std.specs.Prelude.{ℕ, ◌≤◌, ◌≡◌, Bool, true, false, List, [], ◌++◌, IsTrue, Option, Some, None}
+use Rattle.std.specs.Prelude.{ℕ, ◌≤◌, ◌≡◌, Bool, true, false, List, [], IsTrue, Option, Some, None}
 use Rattle.dms_moments.specs.Moments.{Clock, Steps}
 use Rattle.dms_site.specs.Files.{Files, Left, Same}
 use Rattle.dms_audfile.specs.Scanning.{Read, broken, whole, behind, Outcome, unsealed, missing, damaged, foreign, found, scanned}

@@ -1,5 +1,5 @@
 -- What a writer knows of the trail, and what a stop leaves while a block is sealed.
-use Rattle.std.specs.Prelude.{ℕ, ◌+◌, ◌-◌, ◌*◌, ◌<◌, ◌≤◌, ◌≡◌, ◌≢◌, ◌⊎◌, Bool, true, false, List, [], ◌∷◌, ◌++◌, length, take}
+use Rattle.std.specs.Prelude.{ℕ, ◌+◌, ◌-◌, ◌*◌, ◌<◌, ◌≤◌, ◌≡◌, ◌≢◌, true, List, ◌++◌, length, take}
 use Rattle.dms_site.specs.Files.{Files, Left}
 use Rattle.dms_audfile.specs.Gates.{gate, sealed, is_full}
 use Rattle.dms_audfile.specs.Header.{header_fits, tag_said}

@@ -1,5 +1,5 @@
 -- A block of entries before it is sealed.
-use Rattle.std.specs.Prelude.{ℕ, ◌+◌, ◌-◌, List, ◌++◌, length, take, replicate}
+use Rattle.std.specs.Prelude.{ℕ, ◌-◌, List, ◌++◌, length, take, replicate}
 use Rattle.std.specs.Int.{w16, to_be_bytes}
 
 -- zeros from a place on

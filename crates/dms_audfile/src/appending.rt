@@ -64,11 +64,7 @@ impl AuditEnd {
         ensures faults { HasCause (S.disk_faults site.old) (S.disk_faults site.new) result }
         ensures say_faults { S.say_faults site.new ≡ S.say_faults site.old }
     {
-        if needed {
-            self.seal(site)
-        } else {
-            Ok(())
-        }
+        if needed { self.seal(site) } else { Ok(()) }
     }
 
     /// Whether a block would have to be begun behind the last file that may be written.

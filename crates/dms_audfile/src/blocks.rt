@@ -20,7 +20,12 @@ fn stands_there(entry: &Entry<'_>, at: u32, rest: &[u8]) -> bool
 }
 
 /// Adds where the entries of a block's used bytes begin; false where they aren't whole entries.
-fn read_entries(bytes: &[u8], file: u32, block: u32, places: &mut Vec<Place>) -> Result<bool, Memory>
+fn read_entries(
+    bytes: &[u8],
+    file: u32,
+    block: u32,
+    places: &mut Vec<Place>,
+) -> Result<bool, Memory>
     requires { length bytes.now ≤ 4094 }
     ensures { IfOk result (λ ok. ReadInto places.old.items (places_of file block (entries_from (length bytes.now) 2 bytes.now)) places.new.items ok) }
 {
@@ -38,7 +43,11 @@ fn read_entries(bytes: &[u8], file: u32, block: u32, places: &mut Vec<Place>) ->
         if !stands_there(&entry, at, after) {
             return Ok(false);
         }
-        places.push(Place { file, block, offset: at })?;
+        places.push(Place {
+            file,
+            block,
+            offset: at,
+        })?;
         at += n as u32;
         rest = after;
     }
@@ -56,7 +65,12 @@ fn used_in(block: &[u8]) -> u16
 }
 
 /// Adds where the entries of a sealed block begin; false where it isn't in the grammar.
-pub(crate) fn read_block(block: &[u8], file: u32, number: u32, places: &mut Vec<Place>) -> Result<bool, Memory>
+pub(crate) fn read_block(
+    block: &[u8],
+    file: u32,
+    number: u32,
+    places: &mut Vec<Place>,
+) -> Result<bool, Memory>
     ensures { IfOk result (λ ok. ReadInto places.old.items (places_of file number (block_entries block.now)) places.new.items ok) }
 {
     if block.len() != 4096 {

@@ -11,9 +11,9 @@ ghost use Rattle.dms_audfile.specs.Sealing.{Writes, GrowsLeft};
 ghost use Rattle.dms_audfile.specs.Unsealed.{block_with};
 ghost use Rattle.dms_audfile.specs.Ends.{unsealed};
 
+use crate::AuditEnd;
 use crate::bytes::{finish, make_header, put_entry};
 use crate::sealing::seal_block;
-use crate::AuditEnd;
 use dms_audrec::Entry;
 use dms_site::{Failed, Site};
 
@@ -53,8 +53,20 @@ impl AuditEnd {
         ensures say_faults { S.say_faults site.new ≡ S.say_faults site.old }
     {
         finish(&mut self.block, self.used);
-        make_header(&mut self.head, self.file - 9999, self.total as u16, self.tag);
-        seal_block(site, self.file, self.total, self.count, &self.block, &self.head)?;
+        make_header(
+            &mut self.head,
+            self.file - 9999,
+            self.total as u16,
+            self.tag,
+        );
+        seal_block(
+            site,
+            self.file,
+            self.total,
+            self.count,
+            &self.block,
+            &self.head,
+        )?;
         self.used = 0;
         if self.count + 1 == self.total {
             self.file += 1;

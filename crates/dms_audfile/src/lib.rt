@@ -13,6 +13,7 @@ mod place;
 mod reach;
 mod scanning;
 mod sealing;
+mod starting;
 mod whole;
 
 pub use audit_end::AuditEnd;
@@ -20,3 +21,6 @@ pub use fault::AudFault;
 pub use place::Place;
 pub use reach::Reach;
 pub use whole::{AuditStart, Scan};
+
+#[cfg(test)]
+mod tests;

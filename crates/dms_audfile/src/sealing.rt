@@ -1,7 +1,7 @@
 ghost use Rattle.std.specs.Prelude.{◌≡◌, ◌≢◌, ◌⊎◌, ◌+◌, ◌-◌, ◌*◌, ◌^◌, ◌<◌, ◌≤◌, ◌++◌, [], ◌∷◌, ℕ, List, length, map, OnOk, IsTrue};
 ghost use Rattle.dms_base.specs.Causes.{HasCause};
 ghost use Rattle.dms_moments.specs.Moments.{Steps};
-ghost use Rattle.dms_site.specs.Files.{Left, Only, OnlyIn, OnDisk, with_file};
+ghost use Rattle.dms_site.specs.Files.{Only, OnlyIn, OnDisk, Torn, overlaid, with_file};
 ghost use Rattle.dms_audfile.specs.Header.{new_header, tag_said};
 ghost use Rattle.dms_audfile.specs.Trail.{trail_from};
 ghost use Rattle.dms_audfile.specs.Sealing.{Writes, GrowsLeft, Anyhow};
@@ -24,7 +24,13 @@ pub(crate) fn start_file<S: Site>(site: &mut S, file: u32, head: &[u8]) -> Resul
 }
 
 /// Makes the next file ready where the block of this number is the last of its file.
-fn start_next<S: Site>(site: &mut S, file: u32, total: u32, count: u32, head: &[u8]) -> Result<(), Failed>
+fn start_next<S: Site>(
+    site: &mut S,
+    file: u32,
+    total: u32,
+    count: u32,
+    head: &[u8],
+) -> Result<(), Failed>
     requires few { file < 20000 }
     requires size { length head.now ≡ 4096 }
     requires room { count < total }
@@ -43,6 +49,20 @@ fn start_next<S: Site>(site: &mut S, file: u32, total: u32, count: u32, head: &[
     } else {
         Ok(())
     }
+}
+
+/// Writes the content of a block, and makes it stable.
+fn write_content<S: Site>(site: &mut S, file: u32, at: u64, content: &[u8]) -> Result<(), Failed>
+    requires { at + length content.now < 2 ^ 40 }
+    ensures written { OnOk result (IsTrue S.tells → S.files site.new ≡ with_file (S.files site.old) file (overlaid at content.now (S.files site.old file))) }
+    ensures durable { OnOk result (IsTrue S.tells → Only (S.files site.new) (S.clock site.new)) }
+    ensures moments { Steps (OnDisk file (Torn at (length content.now))) (S.clock site.old) (S.clock site.new) }
+    ensures said { S.said site.new ≡ S.said site.old }
+    ensures same_site { S.same_site site.old site.new }
+    ensures faults { HasCause (S.disk_faults site.old) (S.disk_faults site.new) result }
+    ensures say_faults { S.say_faults site.new ≡ S.say_faults site.old }
+{
+    write_synced(site, file, at, content)
 }
 
 /// Seals one more block: its content, where it is the file's last block the next file's header, and then its gate.
@@ -74,7 +94,7 @@ pub fn seal_block<S: Site>(
     ensures say_faults { S.say_faults site.new ≡ S.say_faults site.old }
 {
     let place = u64::from(count) + 1;
-    write_synced(site, file, 4096 * place, content)?;
+    write_content(site, file, 4096 * place, content)?;
     start_next(site, file, total, count, head)?;
     write_synced(site, file, 511 + place, &[1])
 }

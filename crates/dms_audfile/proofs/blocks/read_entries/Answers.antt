@@ -1,6 +1,5 @@
-use Rattle.std.proofs.Common.{◌≡◌, ◌+◌, ◌-◌, ◌≤◌, ◌∙◌, ap, sym, arith, ℕ, length, drop, length-drop, List}
+use Rattle.std.proofs.Common.{◌≡◌, ◌+◌, ◌-◌, ◌≤◌, ◌∙◌, ap, sym, arith, length, drop, length-drop}
 use Rattle.dms_audrec.specs.Seen.{entry_seen}
-use Rattle.dms_audfile.specs.declared.place.Place.{Place}
 use Rattle.dms_audfile.specs.Blocks.{entries_from, stands_there}
 use Rattle.dms_audfile.specs.Scanning.{behind, places_of}
 use Rattle.dms_audfile.proofs.Reading.{empty_is, empty_not, entries_none, entries_stop, entries_alone, entries_turn, broken_all, whole_all}
@@ -20,7 +19,7 @@ pub returns-then-not-stands_there : goal.returns-then-not-stands_there
 returns-then-not-stands_there c =
     let some = empty_not _ c.loop-entry.rest.now c.is_empty.ensures c.if-is_empty.false in
     broken_all _ c.loop-entry.places.items c.args.file c.args.block _ _ (entries_alone _ c.loop-entry.at c.loop-entry.rest.now (entry_seen c.in-Some.found.0) _ some (sym c.in-Some.ensures.read)
-        (ap (stands_there c.loop-entry.at (entry_seen c.in-Some.found.0)) (sym c.split_at.ensures.back) ∙ sym c.stands_there.ensures ∙ c.if-not-stands_there.true)) c.loop-entry.invariant.so_far
+    (ap (stands_there c.loop-entry.at (entry_seen c.in-Some.found.0)) (sym c.split_at.ensures.back) ∙ sym c.stands_there.ensures ∙ c.if-not-stands_there.true)) c.loop-entry.invariant.so_far
 
 pub loop-entry-preserved : goal.loop-entry-preserved
 loop-entry-preserved c =
@@ -36,6 +35,6 @@ loop-entry-preserved c =
       at = omega (arith, c.loop-entry.invariant.at, ap length c.split_at.ensures.back);
       so_far = (λ i. behind (c.in_ok-push.ensures.items i) (places_of c.args.file c.args.block (entries_from (e i) (at + n) (c.split_at.ensures.back i))))
           ∙ entries_turn (length c.args.bytes.now - c.loop-entry._entry) at (at + n) c.args.file c.args.block rest (entry_seen c.in-Some.found.0) (drop n rest) c.loop-entry.places.items (omega (arith, c.loop-entry-test.true)) some (sym c.in-Some.ensures.read)
-              (ap (stands_there at (entry_seen c.in-Some.found.0)) (sym c.split_at.ensures.back) ∙ sym c.stands_there.ensures ∙ c.if-not-stands_there.false) next
+          (ap (stands_there at (entry_seen c.in-Some.found.0)) (sym c.split_at.ensures.back) ∙ sym c.stands_there.ensures ∙ c.if-not-stands_there.false) next
           ∙ c.loop-entry.invariant.so_far;
     }

@@ -1,4 +1,4 @@
-use Rattle.std.proofs.Common.{◌∙◌, ◌+◌, ap, sym, refl, length}
+use Rattle.std.proofs.Common.{◌∙◌, ◌+◌, ap, refl}
 use Rattle.std.specs.Int.{w16, to_be_bytes}
 use Rattle.dms_fields.specs.Fields.{laid}
 use Rattle.dms_audfile.specs.Unsealed.{cleared}

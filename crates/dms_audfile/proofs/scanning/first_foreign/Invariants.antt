@@ -1,4 +1,4 @@
-use Rattle.std.proofs.Common.{◌≡◌, ◌+◌, ◌-◌, ◌≤◌, length, IsTrue}
+use Rattle.std.proofs.Common.{◌≡◌, ◌-◌, length, IsTrue}
 use Rattle.dms_audfile.specs.Scanning.{first_foreign}
 use Rattle.dms_audfile.specs.Reads.{OnlyReads}
 use Rattle.dms_audfile.proofs.scanning.first_foreign.Given as goal

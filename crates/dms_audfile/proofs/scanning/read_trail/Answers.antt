@@ -1,9 +1,8 @@
-use Rattle.std.proofs.Common.{◌≡◌, ◌+◌, ◌-◌, ◌≤◌, ◌<◌, ◌∙◌, ap, sym, refl, subst, arith, ℕ, List}
+use Rattle.std.proofs.Common.{◌≡◌, ◌-◌, ◌∙◌, ap, refl, subst, ℕ}
 use Rattle.dms_site.specs.Files.{Files}
 use Rattle.dms_audfile.specs.Header.{tag_said}
 use Rattle.dms_audfile.specs.Scanning.{Read, files_read, first_foreign, outcome_of, foreign, found}
-use Rattle.dms_audfile.specs.Reads.{NotScanned}
-use Rattle.dms_audfile.proofs.Reading.{not_scanned, scans_disk, read_found, read_foreign, reads_on}
+use Rattle.dms_audfile.proofs.Reading.{not_scanned, scans_disk, read_found, read_foreign}
 use Rattle.dms_audfile.proofs.scanning.read_trail.Goals as goal
 
 pub returns-in-Err-clause-read : goal.returns-in-Err-clause-read

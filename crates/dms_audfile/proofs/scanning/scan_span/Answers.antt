@@ -1,4 +1,4 @@
-use Rattle.std.proofs.Common.{◌≡◌, ◌+◌, ◌-◌, ◌∙◌, ap, sym, subst, ℕ, Option, Some, None, arith}
+use Rattle.std.proofs.Common.{◌≡◌, ◌+◌, ◌-◌, ◌∙◌, ap, sym, subst, ℕ, Option, Some, arith}
 use Rattle.dms_site.specs.Files.{Files}
 use Rattle.dms_audfile.specs.Gates.{opened}
 use Rattle.dms_audfile.specs.Header.{tag_said}
@@ -72,7 +72,7 @@ returns-in-Ok-read_trail-clause-writes g c tells =
     let is = at_end total c.args.first c.args.last e files c.if-end-last.false (omega (arith, c.if-end-last-2.false)) in
     let r = said_range (files c.args.first) says.0 in
     let w = writes_by total c.args.first c.args.last e files c.read_trail.new.places.items (omega (arith, r.0, total_is)) (omega (arith, r.1, total_is)) at
-        (is ∙ ap (trail_read c.args.first (e + 1) total) (sym two) ∙ c.in-Ok-read_trail.ensures.read tells) c.requires.order in
+    (is ∙ ap (trail_read c.args.first (e + 1) total) (sym two) ∙ c.in-Ok-read_trail.ensures.read tells) c.requires.order in
     let tag_is : c.in-Ok-read_trail.tag ≡ tag_said (files c.args.first) = c.in-Ok-read_trail.ensures.tag tells ∙ ap (λ (l : Files). tag_said (l c.args.first)) two in
     let count_is : c.in-Ok.found.1 ≡ opened total (files e) = c.in-Ok.ensures.count tells c.if-end-last.false ∙ ap (λ (l : Files). opened total (l e)) one in
     subst (λ t. Writes total t c.args.first e c.in-Ok.found.1 files) (sym tag_is) (subst (λ n. Writes total (tag_said (files c.args.first)) c.args.first e n files) (sym count_is) w)

@@ -1,5 +1,4 @@
 use Rattle.std.proofs.Common.{◌∙◌, ap}
-use Rattle.dms_site.specs.Files.{Files}
 use Rattle.dms_audfile.specs.Header.{tag_said}
 use Rattle.dms_audfile.proofs.Fronts.{tag_front}
 use Rattle.dms_audfile.proofs.scanning.tag_in.Goals as goal

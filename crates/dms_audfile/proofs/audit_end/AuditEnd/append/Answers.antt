@@ -1,7 +1,6 @@
-use Rattle.std.proofs.Common.{◌≡◌, ◌∙◌, ◌++◌, ◌≤◌, sym, subst, ap, inl, inr, ℕ, List, [], ◌∷◌, drop, take, arith}
+use Rattle.std.proofs.Common.{◌≡◌, ◌∙◌, ◌++◌, sym, subst, inl, inr, [], ◌∷◌, drop}
 use Rattle.std.proofs.lemmas.Result.{on_ok_weaker}
 use Rattle.dms_moments.specs.MomentLaws.{steps_on, steps_weaken}
-use Rattle.dms_history.specs.Entries.{Entry}
 use Rattle.dms_audrec.specs.Seen.{entry_seen}
 use Rattle.dms_audfile.specs.declared.audit_end.AuditEnd.{AuditEnd}
 use Rattle.dms_audfile.specs.TrailEntries.{trail_entries}
@@ -25,7 +24,7 @@ returns-clause-moments g c first waiting tells plain at =
     let made : Appends one first waiting old mid b = c.in-Ok.ensures.appends first waiting tells plain at in
     let held = c.hold.ensures in
     let ends : EndsAt new first (drop made.some waiting ++ e ∷ []) mid b = held_ends one new first (drop made.some waiting) e mid b made.ends made.plain c.requires.entry
-        (λ on. c.in-Ok.ensures.alone (c.begins-alone.ensures ∙ on)) held.held held.kind.0 held.kind.1 held.place.0 held.place.1 in
+    (λ on. c.in-Ok.ensures.alone (c.begins-alone.ensures ∙ on)) held.held held.kind.0 held.kind.1 held.place.0 held.place.1 in
     steps_on (c.make_room.ensures.moments first waiting tells at)
     (steps_as new.total s.total new.tag s.tag first (drop made.some waiting ++ e ∷ []) _ _ (held.kind.0 ∙ c.in-Ok.ensures.kind.0) (held.kind.1 ∙ c.in-Ok.ensures.kind.1) (c.seal_where.ensures.moments first (drop made.some waiting ++ e ∷ []) tells ends))
     (λ z y x was now first_step then_step. seals_then s.total s.tag first made.some waiting (e ∷ []) z y x
@@ -45,7 +44,7 @@ returns-clause-appends g c = elim (bool_is c.begins-alone.result) [
       let made : Appends one first waiting old mid b = c.in-Ok.ensures.appends first waiting tells plain at in
       let held = c.hold.ensures in
       let ends : EndsAt new first (drop made.some waiting ++ e ∷ []) mid b = held_ends one new first (drop made.some waiting) e mid b made.ends made.plain c.requires.entry
-        (λ on. c.in-Ok.ensures.alone (c.begins-alone.ensures ∙ on)) held.held held.kind.0 held.kind.1 held.place.0 held.place.1 in
+      (λ on. c.in-Ok.ensures.alone (c.begins-alone.ensures ∙ on)) held.held held.kind.0 held.kind.1 held.place.0 held.place.1 in
       let files = g.S.Site.files c.seal_where.new.site in
       let more = drop made.some waiting ++ e ∷ [] in
       appends_begun one c.seal_where.new.self first waiting (e ∷ []) old mid files b (g.S.Site.clock c.seal_where.new.site) made (c.seal_where.ensures.kind.0 ∙ held.kind.0)
@@ -62,7 +61,7 @@ returns-clause-appends g c = elim (bool_is c.begins-alone.result) [
       let made : Appends one first waiting old mid b = c.in-Ok.ensures.appends first waiting tells plain at in
       let held = c.hold.ensures in
       let ends : EndsAt new first (drop made.some waiting ++ e ∷ []) mid b = held_ends one new first (drop made.some waiting) e mid b made.ends made.plain c.requires.entry
-        (λ on. c.in-Ok.ensures.alone (c.begins-alone.ensures ∙ on)) held.held held.kind.0 held.kind.1 held.place.0 held.place.1 in
+      (λ on. c.in-Ok.ensures.alone (c.begins-alone.ensures ∙ on)) held.held held.kind.0 held.kind.1 held.place.0 held.place.1 in
       let idle = c.seal_where.ensures.idle off in
       let appended : Appends new first (waiting ++ e ∷ []) old mid b = appends_held one new first waiting e old mid b made held.kind.0 ends c.requires.entry (sym c.begins-alone.ensures ∙ off) in
       subst (λ (s : AuditEnd). Appends s first (waiting ++ e ∷ []) old (g.S.Site.files c.seal_where.new.site) (g.S.Site.clock c.seal_where.new.site)) (sym idle.0)

@@ -1,4 +1,4 @@
-use Rattle.std.proofs.Common.{◌≡◌, ◌<◌, ◌∙◌, ◌++◌, ap, sym, subst, inl, List, ℕ, take, drop, [], ◌∷◌, arith, append-nil}
+use Rattle.std.proofs.Common.{◌≡◌, ◌<◌, ◌∙◌, ◌++◌, ap, sym, inl, List, ℕ, take, drop, [], ◌∷◌, arith, append-nil}
 use Rattle.dms_moments.specs.MomentLaws.{steps_weaken}
 use Rattle.dms_site.specs.Files.{Files}
 use Rattle.dms_history.specs.Entries.{Entry}
@@ -50,7 +50,7 @@ returns-in-Ok-clause-sealed g c first waiting tells at =
     let allowed : s.file < 20000 = s.begun (omega (arith, c.if-self-eq0.false)) in
     let old = g.S.Site.files c.args.site.now in
     trail_more s.total first waiting old _ at.kind few
-        (c.in-Ok.ensures.sealed first 10000 tells at.writes (omega (arith, at.low, allowed)) ∙ ap (λ (l : List ℕ). trail_from 10000 s.total first old ++ l ∷ []) is)
+    (c.in-Ok.ensures.sealed first 10000 tells at.writes (omega (arith, at.low, allowed)) ∙ ap (λ (l : List ℕ). trail_from 10000 s.total first old ++ l ∷ []) is)
 
 pub returns-in-Ok-clause-ends : goal.returns-in-Ok-clause-ends
 returns-in-Ok-clause-ends g c first waiting tells at =

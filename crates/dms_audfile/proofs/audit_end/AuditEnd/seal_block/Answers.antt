@@ -1,4 +1,4 @@
-use Rattle.std.proofs.Common.{◌≡◌, ◌≢◌, ◌∙◌, ◌+◌, ◌-◌, ◌++◌, ap, sym, subst, List, ℕ, take, drop, length, [], ◌∷◌, arith}
+use Rattle.std.proofs.Common.{◌≡◌, ◌∙◌, ◌+◌, ◌-◌, ◌++◌, ap, sym, subst, List, ℕ, take, drop, length, [], ◌∷◌, arith}
 use Rattle.dms_audfile.specs.Header.{new_header, tag_said}
 use Rattle.dms_audfile.specs.Trail.{trail_from}
 use Rattle.dms_audfile.specs.Sealing.{Writes}
@@ -24,7 +24,7 @@ returns-in_err-seal_block-clause-moments g c first tells w settled =
     let tag_is : tag_said c.deref-2.result.now ≡ s.tag = ap tag_said head ∙ c.make_header.ensures.tag in
     let long : length c.finish.new.block ≡ s.block.len = omega (arith, c.finish.auto.block, c.deref_mut.ensures.len) in
     let content : c.deref.result.now ≡ block_with (unsealed s) =
-        c.deref.ensures.value ∙ written_back s.block.len c.finish.new.block s.block.items long ∙ c.finish.ensures ∙ ap (λ (l : List ℕ). block_with (take s.used (drop 2 l))) c.deref_mut.ensures.value in
+    c.deref.ensures.value ∙ written_back s.block.len c.finish.new.block s.block.items long ∙ c.finish.ensures ∙ ap (λ (l : List ℕ). block_with (take s.used (drop 2 l))) c.deref_mut.ensures.value in
     let old = g.S.Site.files c.args.site.now in
     let was : Writes s.total (tag_said c.deref-2.result.now) first s.file s.count old = subst (λ k. Writes s.total k first s.file s.count old) (sym tag_is) w in
     grows_as (tag_said c.deref-2.result.now) s.tag s.total first s.file c.deref.result.now (block_with (unsealed s)) _ _ tag_is content (c.seal_block.ensures.moments first tells was settled)
@@ -37,7 +37,7 @@ returns-then-self-clause-moments g c first tells w settled =
     let tag_is : tag_said c.deref-2.result.now ≡ s.tag = ap tag_said head ∙ c.make_header.ensures.tag in
     let long : length c.finish.new.block ≡ s.block.len = omega (arith, c.finish.auto.block, c.deref_mut.ensures.len) in
     let content : c.deref.result.now ≡ block_with (unsealed s) =
-        c.deref.ensures.value ∙ written_back s.block.len c.finish.new.block s.block.items long ∙ c.finish.ensures ∙ ap (λ (l : List ℕ). block_with (take s.used (drop 2 l))) c.deref_mut.ensures.value in
+    c.deref.ensures.value ∙ written_back s.block.len c.finish.new.block s.block.items long ∙ c.finish.ensures ∙ ap (λ (l : List ℕ). block_with (take s.used (drop 2 l))) c.deref_mut.ensures.value in
     let old = g.S.Site.files c.args.site.now in
     let was : Writes s.total (tag_said c.deref-2.result.now) first s.file s.count old = subst (λ k. Writes s.total k first s.file s.count old) (sym tag_is) w in
     grows_as (tag_said c.deref-2.result.now) s.tag s.total first s.file c.deref.result.now (block_with (unsealed s)) _ _ tag_is content (c.seal_block.ensures.moments first tells was settled)
@@ -50,7 +50,7 @@ returns-else-self-clause-moments g c first tells w settled =
     let tag_is : tag_said c.deref-2.result.now ≡ s.tag = ap tag_said head ∙ c.make_header.ensures.tag in
     let long : length c.finish.new.block ≡ s.block.len = omega (arith, c.finish.auto.block, c.deref_mut.ensures.len) in
     let content : c.deref.result.now ≡ block_with (unsealed s) =
-        c.deref.ensures.value ∙ written_back s.block.len c.finish.new.block s.block.items long ∙ c.finish.ensures ∙ ap (λ (l : List ℕ). block_with (take s.used (drop 2 l))) c.deref_mut.ensures.value in
+    c.deref.ensures.value ∙ written_back s.block.len c.finish.new.block s.block.items long ∙ c.finish.ensures ∙ ap (λ (l : List ℕ). block_with (take s.used (drop 2 l))) c.deref_mut.ensures.value in
     let old = g.S.Site.files c.args.site.now in
     let was : Writes s.total (tag_said c.deref-2.result.now) first s.file s.count old = subst (λ k. Writes s.total k first s.file s.count old) (sym tag_is) w in
     grows_as (tag_said c.deref-2.result.now) s.tag s.total first s.file c.deref.result.now (block_with (unsealed s)) _ _ tag_is content (c.seal_block.ensures.moments first tells was settled)
@@ -63,7 +63,7 @@ returns-then-self-clause-sealed g c first n tells w far =
     let tag_is : tag_said c.deref-2.result.now ≡ s.tag = ap tag_said head ∙ c.make_header.ensures.tag in
     let long : length c.finish.new.block ≡ s.block.len = omega (arith, c.finish.auto.block, c.deref_mut.ensures.len) in
     let content : c.deref.result.now ≡ block_with (unsealed s) =
-        c.deref.ensures.value ∙ written_back s.block.len c.finish.new.block s.block.items long ∙ c.finish.ensures ∙ ap (λ (l : List ℕ). block_with (take s.used (drop 2 l))) c.deref_mut.ensures.value in
+    c.deref.ensures.value ∙ written_back s.block.len c.finish.new.block s.block.items long ∙ c.finish.ensures ∙ ap (λ (l : List ℕ). block_with (take s.used (drop 2 l))) c.deref_mut.ensures.value in
     let old = g.S.Site.files c.args.site.now in
     let was : Writes s.total (tag_said c.deref-2.result.now) first s.file s.count old = subst (λ k. Writes s.total k first s.file s.count old) (sym tag_is) w in
     c.in_ok-seal_block.ensures.sealed first n tells was far ∙ ap (λ (l : List ℕ). trail_from n s.total first old ++ l ∷ []) content
@@ -86,7 +86,7 @@ returns-else-self-clause-sealed g c first n tells w far =
     let tag_is : tag_said c.deref-2.result.now ≡ s.tag = ap tag_said head ∙ c.make_header.ensures.tag in
     let long : length c.finish.new.block ≡ s.block.len = omega (arith, c.finish.auto.block, c.deref_mut.ensures.len) in
     let content : c.deref.result.now ≡ block_with (unsealed s) =
-        c.deref.ensures.value ∙ written_back s.block.len c.finish.new.block s.block.items long ∙ c.finish.ensures ∙ ap (λ (l : List ℕ). block_with (take s.used (drop 2 l))) c.deref_mut.ensures.value in
+    c.deref.ensures.value ∙ written_back s.block.len c.finish.new.block s.block.items long ∙ c.finish.ensures ∙ ap (λ (l : List ℕ). block_with (take s.used (drop 2 l))) c.deref_mut.ensures.value in
     let old = g.S.Site.files c.args.site.now in
     let was : Writes s.total (tag_said c.deref-2.result.now) first s.file s.count old = subst (λ k. Writes s.total k first s.file s.count old) (sym tag_is) w in
     c.in_ok-seal_block.ensures.sealed first n tells was far ∙ ap (λ (l : List ℕ). trail_from n s.total first old ++ l ∷ []) content
