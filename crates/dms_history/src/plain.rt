@@ -262,12 +262,7 @@ pub fn told<'a>(live: &[Event<'a>], point: u64, file: u32, block: u64) -> Option
 }
 
 /// A block with other bytes from a place on. Bytes past its end make it longer.
-fn patched(
-    alloc: Global,
-    old: &[u8],
-    place: usize,
-    bytes: &[u8],
-) -> Result<Vec<u8>, AllocError>
+fn patched(alloc: Global, old: &[u8], place: usize, bytes: &[u8]) -> Result<Vec<u8>, AllocError>
     ensures { IfOk result (λ v. v.items ≡ patched place bytes.now old.now) }
 {
     let start = place.min(old.len());

@@ -121,7 +121,13 @@ fn takes_a_range_over_the_image_before_it(rt: HostRuntime) -> Result<(), Fail> {
         after: &[5, 2, 3],
     })];
     let over = ranged(rt.alloc(), &logged, 30001, 0, 1, &[6])?;
-    assert_eq!(rt; over.is_some_and(|block| block.as_slice() == [5, 6, 3].as_slice()), true);
-    assert_eq!(rt; ranged(rt.alloc(), &logged, 30001, 1, 1, &[6])?.is_none(), true);
+    assert_eq!(rt;
+        over.is_some_and(|block| block.as_slice() == [5, 6, 3].as_slice()),
+        true
+    );
+    assert_eq!(rt;
+        ranged(rt.alloc(), &logged, 30001, 1, 1, &[6])?.is_none(),
+        true
+    );
     Ok(())
 }
