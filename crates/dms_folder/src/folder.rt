@@ -236,7 +236,8 @@ impl<C: Calls> Folder<C> {
         requires kept { IsTrue C.tells → Kept C.file self.old.opened.items self.old.made self.old.synced (C.world self.old.calls) (C.clock self.old.calls) }
         requires bound { at + length bytes.now < 2 ^ 40 }
         ensures kept { IsTrue C.tells → Kept C.file self.new.opened.items self.new.made self.new.synced (C.world self.new.calls) (C.clock self.new.calls) }
-        ensures written { OnOk result (IsTrue C.tells → seen name_of (C.world self.new.calls) ≡ with_file (seen name_of (C.world self.old.calls)) file (overlaid at bytes.now (seen name_of (C.world self.old.calls) file))) }
+        ensures written { OnOk result (IsTrue C.tells → seen name_of (C.world self.new.calls)
+            ≡ with_file (seen name_of (C.world self.old.calls)) file (overlaid at bytes.now (seen name_of (C.world self.old.calls) file))) }
         ensures torn { IsTrue C.tells → InFile file (Torn at (length bytes.now)) (seen name_of (C.world self.old.calls)) (seen name_of (C.world self.new.calls)) }
         ensures said { (C.world self.new.calls).said ≡ (C.world self.old.calls).said }
         ensures moments { Steps (OnDisk file (Torn at (length bytes.now))) (seen_clock name_of (C.clock self.old.calls)) (seen_clock name_of (C.clock self.new.calls)) }
@@ -425,7 +426,8 @@ impl<C: Calls> Folder<C> {
         requires broken { C.broken self.old.calls ≡ false }
         requires kept { IsTrue C.tells → Kept C.file self.old.opened.items self.old.made self.old.synced (C.world self.old.calls) (C.clock self.old.calls) }
         ensures kept { IsTrue C.tells → Kept C.file self.new.opened.items self.new.made self.new.synced (C.world self.new.calls) (C.clock self.new.calls) }
-        ensures cut { OnOk result (IsTrue C.tells → seen name_of (C.world self.new.calls) ≡ with_file (seen name_of (C.world self.old.calls)) file (take len (seen name_of (C.world self.old.calls) file))) }
+        ensures cut { OnOk result (IsTrue C.tells → seen name_of (C.world self.new.calls)
+            ≡ with_file (seen name_of (C.world self.old.calls)) file (take len (seen name_of (C.world self.old.calls) file))) }
         ensures torn { IsTrue C.tells → InFile file (Cut len) (seen name_of (C.world self.old.calls)) (seen name_of (C.world self.new.calls)) }
         ensures said { (C.world self.new.calls).said ≡ (C.world self.old.calls).said }
         ensures moments { Steps (OnDisk file (Cut len)) (seen_clock name_of (C.clock self.old.calls)) (seen_clock name_of (C.clock self.new.calls)) }
@@ -443,7 +445,8 @@ impl<C: Calls> Folder<C> {
         requires kept { IsTrue C.tells → Kept C.file self.old.opened.items self.old.made self.old.synced (C.world self.old.calls) (C.clock self.old.calls) }
         requires place { IsAt self.old.opened.items place file }
         ensures kept { IsTrue C.tells → Kept C.file self.new.opened.items self.new.made self.new.synced (C.world self.new.calls) (C.clock self.new.calls) }
-        ensures cut { OnOk result (IsTrue C.tells → seen name_of (C.world self.new.calls) ≡ with_file (seen name_of (C.world self.old.calls)) file (take len (seen name_of (C.world self.old.calls) file))) }
+        ensures cut { OnOk result (IsTrue C.tells → seen name_of (C.world self.new.calls)
+            ≡ with_file (seen name_of (C.world self.old.calls)) file (take len (seen name_of (C.world self.old.calls) file))) }
         ensures torn { IsTrue C.tells → InFile file (Cut len) (seen name_of (C.world self.old.calls)) (seen name_of (C.world self.new.calls)) }
         ensures said { (C.world self.new.calls).said ≡ (C.world self.old.calls).said }
         ensures moments { Steps (OnDisk file (Cut len)) (seen_clock name_of (C.clock self.old.calls)) (seen_clock name_of (C.clock self.new.calls)) }
