@@ -13,3 +13,12 @@ Unbroken (Err Disk) P = ⊤
 Unbroken (Err (Full f)) P = ⊤
 Unbroken (Err (Damaged f b)) P = ⊤
 Unbroken (Err Say) P = ⊤
+
+-- no block was found damaged
+abbrev pub Undamaged : {T : Type 0} → Result T BlockFault → Type 0
+Undamaged (Ok x) = ⊤
+Undamaged (Err Disk) = ⊤
+Undamaged (Err Memory) = ⊤
+Undamaged (Err (Full f)) = ⊤
+Undamaged (Err (Damaged f b)) = ⊥
+Undamaged (Err Say) = ⊤

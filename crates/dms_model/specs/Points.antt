@@ -2,6 +2,8 @@
 use Rattle.std.specs.Prelude.{ℕ, ◌+◌, ◌≤◌, ◌≡◌, ◌++◌, List, length, take, Some}
 use Rattle.std.specs.declared.option.Option.{Option}
 use Rattle.dms_moments.specs.Moments.{Clock, Runs}
+use Rattle.dms_desc.specs.Shape.{Described}
+use Rattle.dms_desc_bytes.specs.Spelling.{spelling}
 use Rattle.dms_model.specs.Db.{Db}
 
 -- a quiet point that stands on a disk: its number, its blocks by file, the bytes of its description, and the database that
@@ -16,20 +18,31 @@ pub record Point : Type 0 where
 abbrev pub Quiet : Type 0
 Quiet = ℕ × Db
 
+-- where a point's database is told, its description's bytes are those of this description
+abbrev pub IsUnder : Described → Point → Type 0
+IsUnder desc p = (db : Db) → p.db ≡ Some db → p.schema ≡ spelling desc
+
+-- the bytes of files by their numbers
+abbrev pub Files : Type 0
+Files = ℕ → List ℕ
+
 -- what a stop leaves
 pub record Stop : Type 0 where
+  pub files : Files
   pub points : List Point
   pub next : ℕ
   pub said : List ℕ
 
 -- The first so many of the points, not fewer than were made sure, and a next number that has fallen by no more than the points
--- that are missing: each of them may give its number back. Where none is missing it hasn't fallen
-pub record Front (sure : ℕ) (points : List Point) (next : ℕ) (stop : Stop) : Type 0 where
+-- that are missing: each of them may give its number back. Where none is missing it hasn't fallen. The files are whole, as
+-- the store means it
+pub record Front (whole : Files → Type 0) (sure : ℕ) (points : List Point) (next : ℕ) (stop : Stop) : Type 0 where
   pub count : ℕ
   pub enough : sure ≤ count
   pub within : count ≤ length points
   pub is : stop.points ≡ take count points
   pub not_fallen : next + count ≤ stop.next + length points
+  pub files : whole stop.files
 
 -- the text of a stop is this one, where it is told
 abbrev pub TextIs : Option (List ℕ) → Stop → Type 0
@@ -40,12 +53,12 @@ abbrev pub TextGrows : Option (List ℕ) → List ℕ → Stop → Type 0
 TextGrows said bytes stop = (t : List ℕ) → said ≡ Some t → (n : ℕ) × (stop.said ≡ t ++ take n bytes)
 
 -- at each moment of a call that prints nothing
-abbrev pub Leaves : Clock Stop → Clock Stop → ℕ → List Point → ℕ → Option (List ℕ) → Type 0
-Leaves old new sure points next said = Runs old new (λ stop. Front sure points next stop × TextIs said stop)
+abbrev pub Leaves : (Files → Type 0) → Clock Stop → Clock Stop → ℕ → List Point → ℕ → Option (List ℕ) → Type 0
+Leaves whole old new sure points next said = Runs old new (λ stop. Front whole sure points next stop × TextIs said stop)
 
 -- at each moment of a call that prints these bytes
-abbrev pub LeavesText : Clock Stop → Clock Stop → ℕ → List Point → ℕ → Option (List ℕ) → List ℕ → Type 0
-LeavesText old new sure points next said bytes = Runs old new (λ stop. Front sure points next stop × TextGrows said bytes stop)
+abbrev pub LeavesText : (Files → Type 0) → Clock Stop → Clock Stop → ℕ → List Point → ℕ → Option (List ℕ) → List ℕ → Type 0
+LeavesText whole old new sure points next said bytes = Runs old new (λ stop. Front whole sure points next stop × TextGrows said bytes stop)
 
 -- a call makes no point, and as many stay sure
 abbrev pub Stays : List Point → ℕ → List Point → ℕ → Type 0

@@ -1,15 +1,52 @@
 -- What a store tells of itself, and what its calls leave of that.
-use Rattle.std.specs.Prelude.{ℕ, ◌≡◌, ◌≤◌, ◌<◌, ◌+◌, ◌^◌, ◌++◌, [], ◌∷◌, List, Bool, length, Some, ⊤, IsTrue, IfErr}
+use Rattle.std.specs.Prelude.{ℕ, ◌≡◌, ◌≤◌, ◌<◌, ◌+◌, ◌-◌, ◌^◌, min, ◌++◌, [], ◌∷◌, List, length, Some, OnOk}
+use Rattle.std.specs.List.{AllByRecursion}
 use Rattle.std.specs.declared.option.Option.{Option}
 use Rattle.std.specs.declared.result.Result.{Result}
-use Rattle.dms_base.specs.Causes.{Rose}
 use Rattle.dms_moments.specs.Moments.{Clock, Now}
 use Rattle.dms_block.specs.declared.block_fault.BlockFault.{BlockFault}
-use Rattle.dms_block.specs.declared.block_fault.BlockFault.TheVariants.{Disk, Memory, Full, Damaged, Say}
+use Rattle.dms_block.specs.Counts.{Faults, CausedBy}
 use Rattle.dms_desc.specs.Shape.{Described}
 use Rattle.dms_model.specs.Db.{Db}
-use Rattle.dms_model.specs.Points.{Point, Stop, Front, TextIs, Leaves, LeavesText, Stays}
+use Rattle.dms_model.specs.Points.{Files, Point, Stop, Front, TextIs, Leaves, LeavesText, Stays, IsUnder}
 use Rattle.dms_block.specs.Texts.{PrintsFront}
+
+-- how many blocks were changed, how often quiet points were made durable, and how often the store went back to the last one
+pub record Effort : Type 0 where
+  pub spent : ℕ
+  pub syncs : ℕ
+  pub outs : ℕ
+
+-- one more; a count stands still at the end of its type
+abbrev pub one_up : ℕ → ℕ
+one_up n = min (n + 1) (2 ^ 64 - 1)
+
+abbrev pub no_effort : Effort
+no_effort = record { spent = 0; syncs = 0; outs = 0 }
+
+-- a count rose by one at most
+abbrev pub IsUpToOne : ℕ → ℕ → Type 0
+IsUpToOne old new = (old ≤ new) × (new ≤ old + 1)
+
+-- at most so many blocks were changed, no quiet point was made durable by it, and nothing went back
+pub record Spends (blocks : ℕ) (old new : Effort) : Type 0 where
+  pub spent : new.spent ≤ old.spent + blocks
+  pub syncs : new.syncs ≡ old.syncs
+  pub outs : new.outs ≡ old.outs
+
+-- quiet points were made durable once, or the call failed
+pub record Syncs {T : Type 0} (result : Result T BlockFault) (old new : Effort) : Type 0 where
+  pub spent : new.spent ≡ old.spent
+  pub outs : new.outs ≡ old.outs
+  pub done : OnOk result (new.syncs ≡ one_up old.syncs)
+  pub few : IsUpToOne old.syncs new.syncs
+
+-- the store went back once, or the call failed
+pub record GoesBack {T : Type 0} (result : Result T BlockFault) (old new : Effort) : Type 0 where
+  pub spent : new.spent ≡ old.spent
+  pub syncs : new.syncs ≡ old.syncs
+  pub done : OnOk result (new.outs ≡ one_up old.outs)
+  pub few : IsUpToOne old.outs new.outs
 
 pub record Seen : Type 1 where
   -- that it tells its points and what stops leave
@@ -29,45 +66,33 @@ pub record Seen : Type 1 where
   pub points : List Point
   pub sure : ℕ
   pub here : Point
-  -- what stops may leave
+  -- what stops may leave, and what holds of the files in each of them
   pub clock : Clock Stop
-  -- how often the disk has failed, how often printing has, how often the audit was full, and how often a block was found damaged
-  pub disk_faults : ℕ
-  pub say_faults : ℕ
-  pub fulls : ℕ
-  pub damages : ℕ
+  pub whole : Files → Type 0
+  -- how often calls failed
+  pub faults : Faults
+  -- how many blocks were read, and what else it did on its disk
+  pub reads : ℕ
+  pub effort : Effort
 
 -- where the points are told, and there is a number for one more
 abbrev pub IfTold : Seen → Type 0 → Type 0
 IfTold s P = s.tells → s.next + 1 < 2 ^ 64 → P
 
--- no failure is forgotten
-pub record Counts (old new : Seen) : Type 0 where
-  pub disk : old.disk_faults ≤ new.disk_faults
-  pub say : old.say_faults ≤ new.say_faults
-  pub full : old.fulls ≤ new.fulls
-  pub damaged : old.damages ≤ new.damages
-
--- this fault was counted
-abbrev pub Counted : BlockFault → Seen → Seen → Type 0
-Counted Disk old new = Rose old.disk_faults new.disk_faults
-Counted Memory old new = ⊤
-Counted (Full f) old new = Rose old.fulls new.fulls
-Counted (Damaged f b) old new = Rose old.damages new.damages
-Counted Say old new = Rose old.say_faults new.say_faults
-
 -- whatever a call does: it stays the same kind of store, and a fault has a cause
 pub record HasCauses {T : Type 0} (result : Result T BlockFault) (old new : Seen) : Type 0 where
   pub tells : old.tells → new.tells
   pub desc : new.desc ≡ old.desc
-  pub counts : Counts old new
-  pub cause : IfErr result (λ f. Counted f old new)
+  pub whole : (files : Files) → new.whole files → old.whole files
+  pub whole_on : (files : Files) → old.whole files → new.whole files
+  pub cause : CausedBy result old.faults new.faults
+  pub reads : old.reads ≤ new.reads
 
 -- a call makes no quiet point and says nothing
 pub record IsSilent (old new : Seen) : Type 0 where
   pub next : new.next ≡ old.next
   pub said : new.said ≡ old.said
-  pub leaves : IfTold old (Leaves old.clock new.clock old.sure old.points old.next old.said)
+  pub leaves : IfTold old (Leaves old.whole old.clock new.clock old.sure old.points old.next old.said)
 
 -- a call says nothing and gives no number back
 pub record IsMute (old new : Seen) : Type 0 where
@@ -78,7 +103,7 @@ pub record IsMute (old new : Seen) : Type 0 where
 pub record SaysPart (old new : Seen) (bytes : List ℕ) : Type 0 where
   pub next : new.next ≡ old.next
   pub part : PrintsFront old.said new.said bytes
-  pub leaves : IfTold old (LeavesText old.clock new.clock old.sure old.points old.next old.said bytes)
+  pub leaves : IfTold old (LeavesText old.whole old.clock new.clock old.sure old.points old.next old.said bytes)
 
 -- no quiet point is made, and what is sure stays sure
 abbrev pub StaysSure : Seen → Seen → Type 0
@@ -113,12 +138,16 @@ pub record MadeSure (old new : Seen) : Type 0 where
   pub points : IfTold old (new.points ≡ old.points)
   pub sure : IfTold old (new.sure ≡ length old.points)
 
--- What is told hangs together. A stop now leaves the first so many points, at least those that are sure, and the text; a point
--- that was made now has the next number and the database, where told.
+-- What is told hangs together. A point that was made now has the next number and, where that is told, the database; and where
+-- a point's database is told it stands under the store's description. A stop now leaves the first so many points, at least
+-- those that are sure, and the text.
 pub record Agrees (s : Seen) : Type 0 where
-  pub stop : (x : Stop) → Now s.clock x → Front s.sure s.points s.next x × TextIs s.said x
-  pub here : (s.here.number ≡ s.next) × (s.here.db ≡ s.db)
-  pub sure : s.sure ≤ length s.points
+  pub number : s.here.number ≡ s.next
+  pub here : (db : Db) → s.db ≡ Some db → s.here.db ≡ Some db
+  pub under : IsUnder s.desc s.here
+  pub points : IfTold s (AllByRecursion (IsUnder s.desc) s.points)
+  pub stop : IfTold s ((x : Stop) → Now s.clock x → Front s.whole s.sure s.points s.next x × TextIs s.said x)
+  pub sure : IfTold s (s.sure ≤ length s.points)
 
 -- a store that was made now: no quiet point yet, the next number, and this database, also to go back to
 pub record Starts (desc : Described) (next : ℕ) (db : Db) (s : Seen) : Type 0 where
@@ -129,5 +158,6 @@ pub record Starts (desc : Described) (next : ℕ) (db : Db) (s : Seen) : Type 0 
   pub next_is : s.next ≡ next
   pub points : s.points ≡ []
   pub sure : s.sure ≡ 0
-  pub fulls : s.fulls ≡ 0
-  pub damages : s.damages ≡ 0
+  pub fulls : s.faults.full ≡ 0
+  pub damages : s.faults.damaged ≡ 0
+  pub effort : s.effort ≡ no_effort

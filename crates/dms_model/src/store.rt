@@ -1,11 +1,12 @@
-ghost use Rattle.std.specs.Prelude.{◌≡◌, ◌<◌, ◌+◌, ◌^◌, ◌++◌, [], ◌∷◌, IfOk, OnOk, IsErrOf};
+ghost use Rattle.std.specs.Prelude.{◌≡◌, ◌<◌, ◌+◌, ◌*◌, ◌^◌, length, ◌++◌, [], ◌∷◌, Some, IfOk, OnOk, IsErrOf};
 ghost use Rattle.std.specs.FinMap.{get};
+ghost use Rattle.dms_model.specs.Db.{Db};
 ghost use Rattle.dms_model.specs.Members.{first_member, last_member};
 ghost use Rattle.dms_model.specs.Points.{Leaves};
 ghost use Rattle.dms_block.specs.Texts.{Prints};
-ghost use Rattle.dms_model.specs.Seen.{Seen, Agrees, HasCauses, IfTold, IsMute, IsSilent, Keeps, KeepsPoints, MadeQuiet, MadeSure, SaysPart};
+ghost use Rattle.dms_model.specs.Seen.{Seen, Agrees, GoesBack, HasCauses, IfTold, IsMute, IsSilent, Keeps, KeepsPoints, MadeQuiet, MadeSure, SaysPart, Spends, Syncs};
 ghost use Rattle.dms_model.specs.Stores.{Puts, Tells};
-ghost use Rattle.dms_block.specs.Faults.{Unbroken};
+ghost use Rattle.dms_block.specs.Faults.{Unbroken, Undamaged};
 
 use crate::{Put, Spot};
 use dms_block::BlockFault;
@@ -30,6 +31,8 @@ pub trait Store {
         ensures keeps { Unbroken result (Keeps (seen self.old) (seen self.new)) }
         ensures silent { IsSilent (seen self.old) (seen self.new) }
         ensures same { same_store self.old self.new }
+        ensures effort { (seen self.new).effort ≡ (seen self.old).effort }
+        ensures undamaged { (d : Db) → (seen self.old).db ≡ Some d → Undamaged result }
         ensures causes { HasCauses result (seen self.old) (seen self.new) };
 
     /// The first member of a structure, for an owner (0 where it is disjoint), after a bound.
@@ -45,6 +48,8 @@ pub trait Store {
         ensures keeps { Unbroken result (Keeps (seen self.old) (seen self.new)) }
         ensures silent { IsSilent (seen self.old) (seen self.new) }
         ensures same { same_store self.old self.new }
+        ensures effort { (seen self.new).effort ≡ (seen self.old).effort }
+        ensures undamaged { (d : Db) → (seen self.old).db ≡ Some d → Undamaged result }
         ensures causes { HasCauses result (seen self.old) (seen self.new) };
 
     /// The last member of a structure, for an owner (0 where it is disjoint), before a bound.
@@ -60,6 +65,8 @@ pub trait Store {
         ensures keeps { Unbroken result (Keeps (seen self.old) (seen self.new)) }
         ensures silent { IsSilent (seen self.old) (seen self.new) }
         ensures same { same_store self.old self.new }
+        ensures effort { (seen self.new).effort ≡ (seen self.old).effort }
+        ensures undamaged { (d : Db) → (seen self.old).db ≡ Some d → Undamaged result }
         ensures causes { HasCauses result (seen self.old) (seen self.new) };
 
     /// Stores a new record of a data set under the least free number, with null links, or replaces all items but the
@@ -77,6 +84,8 @@ pub trait Store {
         ensures keeps { Unbroken result (KeepsPoints (seen self.old) (seen self.new)) }
         ensures silent { IsSilent (seen self.old) (seen self.new) }
         ensures same { same_store self.old self.new }
+        ensures effort { Spends (64 * length (seen self.old).desc.structures) (seen self.old).effort (seen self.new).effort }
+        ensures undamaged { (d : Db) → (seen self.old).db ≡ Some d → Undamaged result }
         ensures causes { HasCauses result (seen self.old) (seen self.new) };
 
     /// Makes a quiet point, and answers its number. Takes no memory. Where the next number is 2^64 - 1 it stays so.
@@ -85,9 +94,11 @@ pub trait Store {
         ensures number { (seen self.old).next + 1 < 2 ^ 64 → IfOk result (λ n. n ≡ (seen self.old).next) }
         ensures made { OnOk result (MadeQuiet (seen self.old) (seen self.new)) }
         ensures mute { IsMute (seen self.old) (seen self.new) }
-        ensures leaves { let s = seen self.old in IfTold s (Leaves s.clock (seen self.new).clock s.sure (s.points ++ s.here ∷ []) (s.next + 1) s.said) }
+        ensures leaves { let s = seen self.old in IfTold s (Leaves s.whole s.clock (seen self.new).clock s.sure (s.points ++ s.here ∷ []) (s.next + 1) s.said) }
         ensures memory { IsErrOf result BlockFault.Memory → ⊥ }
         ensures same { same_store self.old self.new }
+        ensures effort { (seen self.new).effort ≡ (seen self.old).effort }
+        ensures undamaged { (d : Db) → (seen self.old).db ≡ Some d → Undamaged result }
         ensures causes { HasCauses result (seen self.old) (seen self.new) };
 
     /// Makes all quiet points so far sure. Takes no memory.
@@ -97,6 +108,8 @@ pub trait Store {
         ensures memory { IsErrOf result BlockFault.Memory → ⊥ }
         ensures silent { IsSilent (seen self.old) (seen self.new) }
         ensures same { same_store self.old self.new }
+        ensures effort { Syncs result (seen self.old).effort (seen self.new).effort }
+        ensures undamaged { (d : Db) → (seen self.old).db ≡ Some d → Undamaged result }
         ensures causes { HasCauses result (seen self.old) (seen self.new) };
 
     /// Goes back to the last quiet point, or to the database that it began with.
@@ -106,6 +119,8 @@ pub trait Store {
         ensures keeps { OnOk result (KeepsPoints (seen self.old) (seen self.new)) }
         ensures silent { IsSilent (seen self.old) (seen self.new) }
         ensures same { same_store self.old self.new }
+        ensures effort { GoesBack result (seen self.old).effort (seen self.new).effort }
+        ensures undamaged { (d : Db) → (seen self.old).db ≡ Some d → Undamaged result }
         ensures causes { HasCauses result (seen self.old) (seen self.new) };
 
     /// Prints. Takes no memory of its own. A failed call prints the first bytes or none.
@@ -116,10 +131,12 @@ pub trait Store {
         ensures keeps { OnOk result (Keeps (seen self.old) (seen self.new)) }
         ensures memory { IsErrOf result BlockFault.Memory → ⊥ }
         ensures same { same_store self.old self.new }
+        ensures effort { (seen self.new).effort ≡ (seen self.old).effort }
+        ensures undamaged { (d : Db) → (seen self.old).db ≡ Some d → Undamaged result }
         ensures causes { HasCauses result (seen self.old) (seen self.new) };
 
     /// What a sound store tells hangs together.
-    ghost agrees: { (s : Self) → (seen s).sound → IfTold (seen s) (Agrees (seen s)) };
+    ghost agrees: { (s : Self) → (seen s).sound → Agrees (seen s) };
 
     ghost same_again: { (s : Self) → same_store s s };
 

@@ -2,6 +2,8 @@
 use Rattle.std.specs.Prelude.{ℕ, Bool, true, false, List, [], Some, None}
 use Rattle.std.specs.declared.option.Option.{Option}
 use Rattle.dms_moments.specs.Moments.{Clock}
+use Rattle.dms_desc.specs.Shape.{Described}
+use Rattle.dms_desc_bytes.specs.Spelling.{spelling}
 use Rattle.dms_model.specs.Db.{Db}
 use Rattle.dms_model.specs.Points.{Point, Stop}
 
@@ -11,8 +13,8 @@ told true text = Some text
 told false text = None
 
 -- a point without blocks: nothing stands on a disk
-abbrev pub no_point : ℕ → Db → Point
-no_point number db = record { number = number; blocks = λ file. []; schema = []; db = Some db }
+abbrev pub point_of : ℕ → Described → Db → Point
+point_of number desc db = record { number = number; blocks = λ file. []; schema = spelling desc; db = Some db }
 
 -- stops are not told
 abbrev pub no_clock : Clock Stop

@@ -5,7 +5,7 @@ ghost use Rattle.dms_model.specs.Db.{empty_db};
 ghost use Rattle.dms_model.specs.Seen.{Starts};
 ghost use Rattle.dms_plain.specs.Rows.{db_of, records_in, undone, IsInOrder};
 ghost use Rattle.dms_plain.specs.Speaking.{OnlySpeaks, only_none, only_on};
-ghost use Rattle.dms_plain.specs.Told.{told, no_point, no_clock};
+ghost use Rattle.dms_plain.specs.Told.{told, point_of, no_clock};
 
 use crate::rows::{Row, Undo};
 use crate::state;
@@ -24,6 +24,10 @@ pub struct PlainStore<S> {
     rows: Vec<Row>,
     undo: Vec<Undo>,
     next: u64,
+    /// How often quiet points were made durable, and how often it went back to the last one. A count stands still at its
+    /// type's end.
+    syncs: u64,
+    outs: u64,
     site: S,
     ghost in_order: { IsInOrder rows.items },
 }
@@ -34,8 +38,8 @@ impl<S: Site> PlainStore<S> {
     pub fn new(alloc: Global, desc: &Description, site: S) -> Result<PlainStore<S>, (Memory, S)>
         ensures starts { IfOk result (λ s. Starts (described desc.now) 1 empty_db (⟦<PlainStore<S> as Store>⟧.seen s)) }
         ensures said { IfOk result (λ s. (⟦<PlainStore<S> as Store>⟧.seen s).said ≡ told S.tells_said (S.said site)) }
-        ensures disk_faults { IfOk result (λ s. (⟦<PlainStore<S> as Store>⟧.seen s).disk_faults ≡ S.disk_faults site) }
-        ensures say_faults { IfOk result (λ s. (⟦<PlainStore<S> as Store>⟧.seen s).say_faults ≡ S.say_faults site) }
+        ensures disk_faults { IfOk result (λ s. (⟦<PlainStore<S> as Store>⟧.seen s).faults.disk ≡ S.disk_faults site) }
+        ensures say_faults { IfOk result (λ s. (⟦<PlainStore<S> as Store>⟧.seen s).faults.say ≡ S.say_faults site) }
         ensures site { IfOk result (λ s. s.site ≡ site) }
         ensures site_back { IfErr result (λ e. e.1 ≡ site) }
     {
@@ -45,6 +49,8 @@ impl<S: Site> PlainStore<S> {
                 rows: Vec::new(alloc),
                 undo: Vec::new(alloc),
                 next: 1,
+                syncs: 0,
+                outs: 0,
                 site,
             }),
             Err(e) => Err((e, site)),
@@ -61,26 +67,33 @@ impl<S: Site> PlainStore<S> {
 
 impl<S: Site> Store for PlainStore<S> {
     ghost seen = { λ s. record {
-        tells = ⊥;
-        sound = ⊤;
-        desc = described s.desc;
-        db = Some (db_of (records_in s.rows.items));
-        mark = Some (db_of (undone s.undo.items (records_in s.rows.items)));
-        next = s.next;
-        said = told S.tells_said (S.said s.site);
-        points = [];
-        sure = 0;
-        here = no_point s.next (db_of (records_in s.rows.items));
-        clock = no_clock;
-        disk_faults = S.disk_faults s.site;
-        say_faults = S.say_faults s.site;
-        fulls = 0;
-        damages = 0;
+      tells = ⊥;
+      sound = ⊤;
+      desc = described s.desc;
+      db = Some (db_of (records_in s.rows.items));
+      mark = Some (db_of (undone s.undo.items (records_in s.rows.items)));
+      next = s.next;
+      said = told S.tells_said (S.said s.site);
+      points = [];
+      sure = 0;
+      here = point_of s.next (described s.desc) (db_of (records_in s.rows.items));
+      clock = no_clock;
+      whole = λ files. ⊤;
+      faults = record { disk = S.disk_faults s.site; say = S.say_faults s.site; full = 0; damaged = 0 };
+      reads = 0;
+      effort = record { spent = 0; syncs = s.syncs; outs = s.outs };
     } };
 
     ghost same_store = { λ a b. S.same_site a.site b.site × (S.disk_faults b.site ≡ S.disk_faults a.site) × (IsTrue S.tells → S.files b.site ≡ S.files a.site) × OnlySpeaks (S.clock a.site) (S.clock b.site) };
 
-    ghost agrees = { λ s sound tells. absurd tells };
+    ghost agrees = { λ s sound. record {
+      number = refl;
+      here = λ db is. is;
+      under = λ db is. refl;
+      points = λ tells. absurd tells;
+      stop = λ tells. absurd tells;
+      sure = λ tells. absurd tells;
+    } };
 
     ghost same_again = { λ s. (S.same_again s.site, refl, λ tells. refl, only_none (S.clock s.site)) };
 
@@ -144,11 +157,13 @@ impl<S: Site> Store for PlainStore<S> {
     }
 
     fn sync(&mut self) -> Result<(), BlockFault> {
+        self.syncs = self.syncs.saturating_add(1);
         Ok(())
     }
 
     fn back_out(&mut self, _alloc: Global) -> Result<(), BlockFault> {
         state::take_back(&mut self.rows, &mut self.undo)?;
+        self.outs = self.outs.saturating_add(1);
         Ok(())
     }
 

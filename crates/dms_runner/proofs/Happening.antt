@@ -1,9 +1,13 @@
 -- Events, one behind another.
 use Rattle.std.specs.Prelude.{IsTrue, ◌<◌, ◌^◌}
 use Rattle.std.specs.declared.result.Result.{Result}
-use Rattle.std.specs.declared.result.Result.TheVariants.{Ok}
+use Rattle.std.specs.declared.result.Result.TheVariants.{Ok, Err}
 use Rattle.dms_block.specs.declared.block_fault.BlockFault.{BlockFault}
-use Rattle.dms_model.specs.Seen.{Seen, IsMute, IsSilent, SaysPart, StaysSure}
+use Rattle.dms_block.specs.declared.block_fault.BlockFault.TheVariants.{Disk, Memory, Full, Damaged, Say}
+use Rattle.dms_block.specs.Counts.{Faults, CausedBy}
+use Rattle.dms_block.specs.Faults.{Undamaged}
+use Rattle.dms_model.specs.declared.program.Program.{Program}
+use Rattle.dms_model.specs.Seen.{Seen, IsMute, IsSilent, Keeps, SaysPart, StaysSure}
 use Rattle.std.proofs.Common.{ℕ, ◌≡◌, ◌≤◌, ◌+◌, List, [], ◌∷◌, ◌++◌, length, take, map, Some, None, refl, sym, ◌∙◌, ap, subst, arith, append_assoc, length-append, Bool, true, false}
 use Rattle.std.specs.declared.option.Option.{Option}
 use Rattle.std.proofs.lemmas.List.{append-nil, map-append, length-map}
@@ -11,16 +15,16 @@ use Rattle.dms_moments.specs.Moments.{Runs}
 use Rattle.dms_moments.specs.MomentLaws.{runs_none, runs_on, runs_weaken}
 use Rattle.dms_model.specs.declared.reply.Answer.{Answer}
 use Rattle.dms_model.specs.Db.{Db}
-use Rattle.dms_model.specs.Points.{Point, Quiet, Stop, Front, TextIs, TextGrows, LeavesText, Leaves, Stays, told, known}
+use Rattle.dms_model.specs.Points.{Files, Point, Quiet, Stop, Front, TextIs, TextGrows, LeavesText, Leaves, Stays, told, known}
 use Rattle.dms_block.specs.Texts.{Prints, PrintsFront}
 use Rattle.dms_desc.specs.Shape.{Described}
 use Rattle.dms_model.specs.declared.verb.Verb.{Verb}
-use Rattle.dms_model.specs.Session.{Session, Outcome, step}
+use Rattle.dms_model.specs.Session.{Session, Outcome, ended, step}
 use Rattle.dms_storeverbs.specs.Laws.{Makes}
 use Rattle.dms_storeverbs.proofs.Quiet.{quiet_rule}
-use Rattle.dms_storeverbs.specs.View.{View, Did, Grew, Left, Made}
+use Rattle.dms_storeverbs.specs.View.{View, Did, Grew, Left, Made, Stands, view_of}
 use Rattle.dms_storeverbs.proofs.Calls.{lower, stays}
-use Rattle.dms_runner.specs.Events.{Event, calls, says, goes_back, text_of, quiets_of, covered, sure_after, Stops, Ran, RanPart}
+use Rattle.dms_runner.specs.Events.{IsTold, Event, calls, says, goes_back, text_of, quiets_of, covered, sure_after, Stops, Ran, RanPart}
 use Rattle.dms_runner.proofs.Texts.{prints_none, prints_on, front_none, front_all, front_of_first, front_on}
 
 pub text_on : (x y : List Event) → text_of (x ++ y) ≡ text_of x ++ text_of y
@@ -64,20 +68,34 @@ pub length_grew : {a b : List Point} {q : List Quiet} → Grew a q b → length 
 length_grew {a} {b} {q} x = omega (arith, ap length x.is, length-append a x.more, length-map x.more told, ap length x.spells, length-map q known)
 
 -- what is left of later points is left of all
-pub left_on : {a b : List Point} {q r : List Quiet} {low high m n : ℕ} {stop : Stop} → Grew a q b → low ≤ high → m + length q ≤ n → Left high b n r stop → Left low a m (q ++ r) stop
-left_on {q = q} grew under fell l = record { made = q ++ l.made; rest = l.rest; all = l.all; front_of = append_assoc q l.made l.rest ∙ ap (λ (x : List Quiet). q ++ x) l.front_of; grew = grew_on grew l.grew; front = lower under (omega (arith, fell, length-append q l.made)) l.front }
+pub left_on : {V W : Files → Type 0} {a b : List Point} {q r : List Quiet} {low high m n : ℕ} {stop : Stop} → ((files : Files) → V files → W files) → Grew a q b → low ≤ high → m + length q ≤ n → Left V high b n r stop → Left W low a m (q ++ r) stop
+left_on {q = q} whole grew under fell l = record { made = q ++ l.made; rest = l.rest; all = l.all; front_of = append_assoc q l.made l.rest ∙ ap (λ (x : List Quiet). q ++ x) l.front_of; grew = grew_on grew l.grew; front = lower whole under (omega (arith, fell, length-append q l.made)) l.front }
 
 -- what is told before is told behind
 told_on : {a b : Seen} {x : List Event} → Ran a b x → a.tells → b.tells
 told_on ran t = ran.tells t
 
--- no events
+-- where the database is told, no count of damaged blocks rises
+damaged_same : {T : Type 0} (r : Result T BlockFault) (a b : Faults) → Undamaged r → CausedBy r a b → b.damaged ≡ a.damaged
+damaged_same (Ok x) a b u p = ap (λ (f : Faults). f.damaged) p
+damaged_same (Err Disk) a b u p = ap (λ (f : Faults). f.damaged) p.1
+damaged_same (Err Memory) a b u p = ap (λ (f : Faults). f.damaged) p
+damaged_same (Err (Full f)) a b u p = ap (λ (f : Faults). f.damaged) p.1
+damaged_same (Err (Damaged f n)) a b u p = absurd u
+damaged_same (Err Say) a b u p = ap (λ (f : Faults). f.damaged) p.1
+
+abbrev pub Sound : Seen → Seen → Type 0
+Sound a b = IsTold a → b.faults.damaged ≡ a.faults.damaged
+
+pub undamaged_by : {T : Type 0} (a b : Seen) (r : Result T BlockFault) → ((d : Db) → a.db ≡ Some d → Undamaged r) → CausedBy r a.faults b.faults → Sound a b
+undamaged_by a b r u p t = damaged_same r a.faults b.faults (u t.db t.db_is) p
+
 pub ran_none : (a : Seen) → Ran a a []
-ran_none a = record { text = prints_none a.said a.said refl; tells = λ t. t; next = omega arith; grew = λ t. grew_none a.points; sure = λ t. omega arith; moments = λ t. runs_none a.clock (Stops a []) }
+ran_none a = record { text = prints_none a.said a.said refl; tells = λ t. t; whole = λ files w. w; told = λ t. t; undamaged = λ t. refl; next = omega arith; grew = λ t. grew_none a.points; sure = λ t. omega arith; moments = λ t. runs_none a.clock (Stops a []) }
 
 -- a stop within the first events
 pub stopped_first : (a : Seen) (x y : List Event) (stop : Stop) → Stops a x stop → Stops a (x ++ y) stop
-stopped_first a x y stop s = record { before = s.before; at = s.at; rest = s.rest ++ y; whole = sym (append_assoc s.before (s.at ∷ s.rest) y) ∙ ap (λ (l : List Event). l ++ y) s.whole; left = s.left; text = s.text }
+stopped_first a x y stop s = record { before = s.before; at = s.at; rest = s.rest ++ y; all = sym (append_assoc s.before (s.at ∷ s.rest) y) ∙ ap (λ (l : List Event). l ++ y) s.all; left = s.left; text = s.text }
 
 -- a stop within the events behind those that happened
 pub stopped_on : (a b : Seen) (x y : List Event) (stop : Stop) → a.tells → Ran a b x → Stops b y stop → Stops a (x ++ y) stop
@@ -89,8 +107,8 @@ stopped_on a b x y stop t ran s =
       before = x ++ s.before;
       at = s.at;
       rest = s.rest;
-      whole = append_assoc x s.before (s.at ∷ s.rest) ∙ ap (λ (l : List Event). x ++ l) s.whole;
-      left = subst (λ (q : List Quiet). Left (sure_after c a.sure (x ++ s.before)) a.points a.next q stop) (sym (append_assoc (quiets_of x) (quiets_of s.before) s.at.quiets) ∙ ap (λ (q : List Quiet). q ++ s.at.quiets) (sym (quiets_on x s.before))) (left_on (ran.grew t) high ran.next s.left);
+      all = append_assoc x s.before (s.at ∷ s.rest) ∙ ap (λ (l : List Event). x ++ l) s.all;
+      left = subst (λ (q : List Quiet). Left a.whole (sure_after c a.sure (x ++ s.before)) a.points a.next q stop) (sym (append_assoc (quiets_of x) (quiets_of s.before) s.at.quiets) ∙ ap (λ (q : List Quiet). q ++ s.at.quiets) (sym (quiets_on x s.before))) (left_on ran.whole (ran.grew t) high ran.next s.left);
       text = λ said is.
           let n = s.text (said ++ text_of x) (ran.text said is) in
           (n.0, n.1 ∙ ap (λ (l : List ℕ). l ++ take n.0 s.at.text) (append_assoc said (text_of x) (text_of s.before) ∙ ap (λ (l : List ℕ). said ++ l) (sym (text_on x s.before))));
@@ -101,6 +119,9 @@ pub ran_on : (a b c : Seen) (x y : List Event) → Ran a b x → Ran b c y → R
 ran_on a b c x y first next = record {
   text = subst (λ (t : List ℕ). Prints a.said c.said t) (sym (text_on x y)) (prints_on a.said b.said c.said (text_of x) (text_of y) first.text next.text);
   tells = λ t. next.tells (first.tells t);
+  whole = λ files w. first.whole files (next.whole files w);
+  told = λ t. next.told (first.told t);
+  undamaged = λ t. next.undamaged (first.told t) ∙ first.undamaged t;
   next = omega (arith, first.next, next.next, ap length (quiets_on x y), length-append (quiets_of x) (quiets_of y));
   grew = λ t. subst (λ (q : List Quiet). Grew a.points q c.points) (sym (quiets_on x y)) (grew_on (first.grew t) (next.grew (told_on first t)));
   sure = λ t. omega (arith, sure_on (length a.points) a.sure x y, ap (λ (n : ℕ). sure_after n (sure_after (length a.points) a.sure x) y) (length_grew (first.grew t)), sure_low (length b.points) (sure_after (length a.points) a.sure x) b.sure y (first.sure t), next.sure (told_on first t));
@@ -109,16 +130,17 @@ ran_on a b c x y first next = record {
 
 -- no event of them happened
 pub part_none : (a : Seen) (x : List Event) → RanPart a a x
-part_none a x = record { text = front_none a.said a.said (text_of x) refl; moments = λ t. runs_none a.clock (Stops a x) }
+part_none a x = record { text = front_none a.said a.said (text_of x) refl; undamaged = λ t. refl; moments = λ t. runs_none a.clock (Stops a x) }
 
 -- all of them happened
 pub part_all : (a b : Seen) (x : List Event) → Ran a b x → RanPart a b x
-part_all a b x ran = record { text = front_all a.said b.said (text_of x) ran.text; moments = ran.moments }
+part_all a b x ran = record { text = front_all a.said b.said (text_of x) ran.text; undamaged = ran.undamaged; moments = ran.moments }
 
 -- a front of the first events is a front of all
 pub part_of_first : (a b : Seen) (x y : List Event) → RanPart a b x → RanPart a b (x ++ y)
 part_of_first a b x y part = record {
   text = subst (λ (t : List ℕ). PrintsFront a.said b.said t) (sym (text_on x y)) (front_of_first a.said b.said (text_of x) (text_of y) part.text);
+  undamaged = part.undamaged;
   moments = λ t. runs_weaken (part.moments t) (stopped_first a x y);
 }
 
@@ -126,6 +148,7 @@ part_of_first a b x y part = record {
 pub part_on : (a b c : Seen) (x y : List Event) → Ran a b x → RanPart b c y → RanPart a c (x ++ y)
 part_on a b c x y first next = record {
   text = subst (λ (t : List ℕ). PrintsFront a.said c.said t) (sym (text_on x y)) (front_on a.said b.said c.said (text_of x) (text_of y) first.text next.text);
+  undamaged = λ t. next.undamaged (first.told t) ∙ first.undamaged t;
   moments = λ t. runs_on (runs_weaken (first.moments t) (stopped_first a x y)) (next.moments (told_on first t)) (λ stop s. stopped_on a b x y stop t first s);
 }
 
@@ -138,35 +161,39 @@ part_as a b x y is part = subst (λ (l : List Event). RanPart a b l) is part
 
 -- bytes
 
-stopped_says : (a : Seen) (x : List ℕ) (stop : Stop) → Front a.sure a.points a.next stop × TextGrows a.said x stop → Stops a (says x ∷ []) stop
+stopped_says : (a : Seen) (x : List ℕ) (stop : Stop) → Front a.whole a.sure a.points a.next stop × TextGrows a.said x stop → Stops a (says x ∷ []) stop
 stopped_says a x stop p = record {
   before = [];
   at = says x;
   rest = [];
-  whole = refl;
+  all = refl;
   left = stays [] p.0;
   text = λ t is. let n = p.1 t is in (n.0, n.1 ∙ ap (λ (l : List ℕ). l ++ take n.0 x) (sym (append-nil t)));
 }
 
-pub ran_says : (a b : Seen) (x y : List ℕ) → x ≡ y → (a.tells → b.tells) → Prints a.said b.said x → SaysPart a b x → StaysSure a b → a.next + 1 < 2 ^ 64 → Ran a b (says y ∷ [])
-ran_says a b x y is tells text part points room = record {
+pub ran_says : (a b : Seen) (x y : List ℕ) → x ≡ y → (a.tells → b.tells) → ((files : Files) → b.whole files → a.whole files) → Sound a b → Prints a.said b.said x → SaysPart a b x → Keeps a b → a.next + 1 < 2 ^ 64 → Ran a b (says y ∷ [])
+ran_says a b x y is tells whole undamaged text part keeps room = record {
   text = subst (λ (t : List ℕ). Prints a.said b.said t) (is ∙ sym (append-nil y)) text;
   tells = tells;
+  whole = whole;
+  told = λ t. record { db = t.db; mark = t.mark; db_is = keeps.db ∙ t.db_is; mark_is = keeps.mark ∙ t.mark_is };
+  undamaged = undamaged;
   next = omega (arith, part.next);
-  grew = λ t. record { more = []; is = (points t room).0 ∙ sym (append-nil a.points); spells = refl };
-  sure = λ t. (points t room).1;
+  grew = λ t. record { more = []; is = (keeps.points t room).0 ∙ sym (append-nil a.points); spells = refl };
+  sure = λ t. (keeps.points t room).1;
   moments = λ t. runs_weaken (part.leaves t room) (λ stop p. subst (λ (z : List ℕ). Stops a (says z ∷ []) stop) is (stopped_says a x stop p));
 }
 
-pub part_says : (a b : Seen) (x y : List ℕ) → x ≡ y → SaysPart a b x → a.next + 1 < 2 ^ 64 → RanPart a b (says y ∷ [])
-part_says a b x y is part room = record {
+pub part_says : (a b : Seen) (x y : List ℕ) → x ≡ y → Sound a b → SaysPart a b x → a.next + 1 < 2 ^ 64 → RanPart a b (says y ∷ [])
+part_says a b x y is undamaged part room = record {
+  undamaged = undamaged;
   text = subst (λ (t : List ℕ). PrintsFront a.said b.said t) (is ∙ sym (append-nil y)) part.part;
   moments = λ t. runs_weaken (part.leaves t room) (λ stop p. subst (λ (z : List ℕ). Stops a (says z ∷ []) stop) is (stopped_says a x stop p));
 }
 
 -- nothing to say
 pub ran_silent : (a : Seen) (x : List ℕ) → x ≡ [] → Ran a a (says x ∷ [])
-ran_silent a x is = subst (λ (t : List ℕ). Ran a a (says t ∷ [])) (sym is) (record { text = prints_none a.said a.said refl; tells = λ t. t; next = omega arith; grew = λ t. grew_none a.points; sure = λ t. omega arith; moments = λ t. runs_none a.clock (Stops a (says [] ∷ [])) })
+ran_silent a x is = subst (λ (t : List ℕ). Ran a a (says t ∷ [])) (sym is) (record { text = prints_none a.said a.said refl; tells = λ t. t; whole = λ files w. w; told = λ t. t; undamaged = λ t. refl; next = omega arith; grew = λ t. grew_none a.points; sure = λ t. omega arith; moments = λ t. runs_none a.clock (Stops a (says [] ∷ [])) })
 
 -- calls
 
@@ -178,12 +205,12 @@ numbered false s o m = omega (arith, m.next, ap length m.quiets)
 pub step_numbers : (desc : Described) (s : Session) (name : List ℕ) (verb : Verb) → (step desc s name verb).session.next ≡ s.next + length (step desc s name verb).quiets
 step_numbers desc s name verb = numbered _ s (step desc s name verb) (quiet_rule desc s name verb)
 
-stopped_calls : (a : Seen) (o : Outcome) (stop : Stop) → Left a.sure a.points a.next o.quiets stop × TextIs a.said stop → Stops a (calls o ∷ []) stop
+stopped_calls : (a : Seen) (o : Outcome) (stop : Stop) → Left a.whole a.sure a.points a.next o.quiets stop × TextIs a.said stop → Stops a (calls o ∷ []) stop
 stopped_calls a o stop p = record {
   before = [];
   at = calls o;
   rest = [];
-  whole = refl;
+  all = refl;
   left = p.0;
   text = λ t is. (0, p.1 t is ∙ sym (append-nil t) ∙ sym (append-nil (t ++ [])));
 }
@@ -192,46 +219,62 @@ covered_made : (sync : Option ℕ) (before all sure : ℕ) → before ≤ sure �
 covered_made None before all sure later synced = later
 covered_made (Some n) before all sure later synced = omega (arith, synced n refl)
 
-pub ran_calls : (a b : Seen) (v : View) (o : Outcome) (answer : Answer) → (a.tells → b.tells) → IsMute a b → a.next + length o.quiets ≤ b.next → Did o a b v (Ok answer) → Ran a b (calls o ∷ [])
-ran_calls a b v o answer tells mute next did = record {
+pub ran_calls : (a b : Seen) {programs : List Program} {pending : Bool} {since : ℕ} (o : Outcome) (answer : Answer) → (a.tells → b.tells) → ((files : Files) → b.whole files → a.whole files) → b.faults ≡ a.faults → IsMute a b → a.next + length o.quiets ≤ b.next → Did o a b (view_of b.db b.mark b.next programs pending since) (Ok answer) → Ran a b (calls o ∷ [])
+ran_calls a b o answer tells whole same mute next did = record {
   text = prints_none a.said b.said mute.said;
   tells = tells;
+  whole = whole;
+  told = λ t. record { db = o.session.db; mark = o.session.mark; db_is = did.answers.session.db; mark_is = did.answers.session.mark };
+  undamaged = λ t. ap (λ (f : Faults). f.damaged) same;
   next = omega (arith, next, ap length (append-nil o.quiets));
   grew = λ t. subst (λ (q : List Quiet). Grew a.points q b.points) (sym (append-nil o.quiets)) (did.made t).grew;
   sure = λ t. covered_made o.sync a.sure (length a.points + length o.quiets) b.sure (did.made t).later (λ n is. (did.made t).synced n (did.answers.sync ∙ is) ∙ length_grew (did.made t).grew);
   moments = λ t. runs_weaken (did.leaves t) (stopped_calls a o);
 }
 
-pub part_calls : (a b : Seen) (v : View) (o : Outcome) {result : Result Answer BlockFault} → IsMute a b → Did o a b v result → RanPart a b (calls o ∷ [])
-part_calls a b v o mute did = record {
+pub part_calls : (a b : Seen) (v : View) (o : Outcome) {result : Result Answer BlockFault} → CausedBy result a.faults b.faults → IsMute a b → Did o a b v result → RanPart a b (calls o ∷ [])
+part_calls a b v o {result} cause mute did = record {
+  undamaged = λ t. damaged_same result a.faults b.faults did.undamaged cause;
   text = front_none a.said b.said [] mute.said;
   moments = λ t. runs_weaken (did.leaves t) (stopped_calls a o);
 }
 
 -- the way back
 
-stopped_back : (a : Seen) (stop : Stop) → Front a.sure a.points a.next stop × TextIs a.said stop → Stops a (goes_back ∷ []) stop
+stopped_back : (a : Seen) (stop : Stop) → Front a.whole a.sure a.points a.next stop × TextIs a.said stop → Stops a (goes_back ∷ []) stop
 stopped_back a stop p = record {
   before = [];
   at = goes_back;
   rest = [];
-  whole = refl;
+  all = refl;
   left = stays [] p.0;
   text = λ t is. (0, p.1 t is ∙ sym (append-nil t) ∙ sym (append-nil (t ++ [])));
 }
 
-pub ran_back : (a b : Seen) → (a.tells → b.tells) → IsSilent a b → StaysSure a b → a.next + 1 < 2 ^ 64 → Ran a b (goes_back ∷ [])
-ran_back a b tells silent points room = record {
+pub ran_back : (a b : Seen) → (a.tells → b.tells) → ((files : Files) → b.whole files → a.whole files) → (IsTold a → IsTold b) → Sound a b → IsSilent a b → StaysSure a b → a.next + 1 < 2 ^ 64 → Ran a b (goes_back ∷ [])
+ran_back a b tells whole told undamaged silent points room = record {
   text = prints_none a.said b.said silent.said;
   tells = tells;
+  whole = whole;
+  told = told;
+  undamaged = undamaged;
   next = omega (arith, silent.next);
   grew = λ t. record { more = []; is = (points t room).0 ∙ sym (append-nil a.points); spells = refl };
   sure = λ t. (points t room).1;
   moments = λ t. runs_weaken (silent.leaves t room) (stopped_back a);
 }
 
-pub part_back : (a b : Seen) → IsSilent a b → a.next + 1 < 2 ^ 64 → RanPart a b (goes_back ∷ [])
-part_back a b silent room = record {
+pub part_back : (a b : Seen) → Sound a b → IsSilent a b → a.next + 1 < 2 ^ 64 → RanPart a b (goes_back ∷ [])
+part_back a b undamaged silent room = record {
+  undamaged = undamaged;
   text = front_none a.said b.said [] silent.said;
   moments = λ t. runs_weaken (silent.leaves t room) (stopped_back a);
 }
+
+-- the end of a run leaves the databases told
+pub told_ended : {a b : Seen} {programs programs' : List Program} {pending pending' : Bool} {since since' : ℕ}
+    → ((s : Session) → Stands (view_of a.db a.mark a.next programs pending since) s → Stands (view_of b.db b.mark b.next programs' pending' since') (ended s)) → IsTold a → IsTold b
+told_ended {a} {programs = programs} {pending = pending} {since = since} f t =
+    let s : Session = record { db = t.db; mark = t.mark; next = a.next; programs = programs; pending = pending; since = since } in
+    let st = f s (record { db = t.db_is; mark = t.mark_is; next = refl; programs = refl; pending = refl; since = refl }) in
+    record { db = (ended s).db; mark = (ended s).mark; db_is = st.db; mark_is = st.mark }

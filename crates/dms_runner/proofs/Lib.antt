@@ -4,6 +4,7 @@ pub mod Happening
 pub mod Leaving
 pub mod Lining
 pub mod Passes
+pub mod Rooms
 pub mod Running
 pub mod Texts
 pub mod Tried

@@ -1,7 +1,7 @@
 -- A stop within events, told of all of them.
 use Rattle.std.proofs.Common.{ℕ, ◌≡◌, ◌≤◌, ◌+◌, ◌⊎◌, inl, inr, ⊎_elim, List, [], ◌∷◌, ◌++◌, length, take, Some, None, refl, sym, ◌∙◌, ap, arith, append_assoc, length-append, length-take}
 use Rattle.std.specs.declared.option.Option.{Option}
-use Rattle.dms_model.specs.Points.{Point, Quiet, Stop, Front}
+use Rattle.dms_model.specs.Points.{Files, Point, Quiet, Stop, Front}
 use Rattle.dms_storeverbs.specs.View.{Left}
 use Rattle.dms_storeverbs.proofs.Calls.{lower}
 use Rattle.dms_runner.specs.Events.{Event, text_of, quiets_of, covered, sure_after}
@@ -57,26 +57,26 @@ places (x ∷ xs) a us (y ∷ ys) b vs is = ⊎_elim
     q))
     (places xs a us ys b vs (ap tail_of is))
 
-left_lower : {low high next : ℕ} {points : List Point} {q : List Quiet} {stop : Stop} → low ≤ high → Left high points next q stop → Left low points next q stop
-left_lower low l = record { made = l.made; rest = l.rest; all = l.all; front_of = l.front_of; grew = l.grew; front = lower low (omega arith) l.front }
+left_lower : {W : Files → Type 0} {low high next : ℕ} {points : List Point} {q : List Quiet} {stop : Stop} → low ≤ high → Left W high points next q stop → Left W low points next q stop
+left_lower low l = record { made = l.made; rest = l.rest; all = l.all; front_of = l.front_of; grew = l.grew; front = lower (λ files w. w) low (omega arith) l.front }
 
-left_more : {sure next : ℕ} {points : List Point} {q all : List Quiet} (r : List Quiet) {stop : Stop} → all ≡ q ++ r → Left sure points next q stop → Left sure points next all stop
+left_more : {W : Files → Type 0} {sure next : ℕ} {points : List Point} {q all : List Quiet} (r : List Quiet) {stop : Stop} → all ≡ q ++ r → Left W sure points next q stop → Left W sure points next all stop
 left_more r is l = record { made = l.made; rest = l.rest ++ r; all = l.all; front_of = sym (append_assoc l.made l.rest r) ∙ ap (λ (x : List Quiet). x ++ r) l.front_of ∙ sym is; grew = l.grew; front = l.front }
 
-length_front : {sure next : ℕ} {points : List Point} {stop : Stop} → Front sure points next stop → sure ≤ length stop.points
+length_front : {W : Files → Type 0} {sure next : ℕ} {points : List Point} {stop : Stop} → Front W sure points next stop → sure ≤ length stop.points
 length_front {points = points} f = omega (arith, ap (λ (l : List Point). length l) f.is, length-take f.count points, f.enough, f.within)
 
-next_left : {high sure next : ℕ} {points : List Point} {q : List Quiet} {stop : Stop} → Left high points next q stop → sure ≤ high → sure ≡ length points → next ≤ stop.next
+next_left : {W : Files → Type 0} {high sure next : ℕ} {points : List Point} {q : List Quiet} {stop : Stop} → Left W high points next q stop → sure ≤ high → sure ≡ length points → next ≤ stop.next
 next_left l under all = omega (arith, l.front.not_fallen, length_grew l.grew, l.front.enough, under, all)
 
 pub whole_law : WholeLaw
 whole_law said points sure next events stop low s = record {
-  left = left_more (quiets_of s.rest) (ap quiets_of (sym s.whole) ∙ quiets_on s.before (s.at ∷ s.rest) ∙ sym (append_assoc (quiets_of s.before) s.at.quiets (quiets_of s.rest))) (left_lower (sure_keeps (length points) sure s.before low) s.left);
+  left = left_more (quiets_of s.rest) (ap quiets_of (sym s.all) ∙ quiets_on s.before (s.at ∷ s.rest) ∙ sym (append_assoc (quiets_of s.before) s.at.quiets (quiets_of s.rest))) (left_lower (sure_keeps (length points) sure s.before low) s.left);
   not_fallen = λ all. next_left s.left (sure_keeps (length points) sure s.before low) all;
   text = λ t is.
       let n = s.text t is in
       let front = some_front (text_of s.before) s.at.text (text_of s.rest) n.0 in
-      (front.0, n.1 ∙ append_assoc t (text_of s.before) (take n.0 s.at.text) ∙ ap (λ (l : List ℕ). t ++ l) (front.1 ∙ ap (take front.0) (sym (text_on s.before (s.at ∷ s.rest)) ∙ ap text_of s.whole)));
+      (front.0, n.1 ∙ append_assoc t (text_of s.before) (take n.0 s.at.text) ∙ ap (λ (l : List ℕ). t ++ l) (front.1 ∙ ap (take front.0) (sym (text_on s.before (s.at ∷ s.rest)) ∙ ap text_of s.all)));
 }
 
 -- the text of a stop is no longer than that up to its event, this one's too, and no shorter than that before it
@@ -92,7 +92,7 @@ quiets_behind : (x y z : List Event) (e : Event) → x ≡ y ++ e ∷ z → leng
 quiets_behind x y z e is = omega (arith, length-append (quiets_of y) e.quiets, ap (λ (l : List Event). length (quiets_of l)) is, ap length (quiets_on y (e ∷ z)), length-append (quiets_of y) (e.quiets ++ quiets_of z), length-append e.quiets (quiets_of z))
 
 -- no more quiet points are left than there are
-left_most : {sure next : ℕ} {points : List Point} {q : List Quiet} {stop : Stop} → Left sure points next q stop → length stop.points ≤ length points + length q
+left_most : {W : Files → Type 0} {sure next : ℕ} {points : List Point} {q : List Quiet} {stop : Stop} → Left W sure points next q stop → length stop.points ≤ length points + length q
 left_most {q = q} l = omega (arith, ap (λ (x : List Point). length x) l.front.is, length-take l.front.count l.all, length_grew l.grew, length-append l.made l.rest, ap length l.front_of)
 
 pub sync_law : SyncLaw
@@ -105,7 +105,7 @@ sync_law said points sure next events stop low s before call rest n is synced t 
     (λ p. omega (arith, printed, most.0, ap (λ (l : List Event). length (text_of l)) p.before, ap (λ (e : Event). length e.text) p.here))
     (λ p. omega (arith, printed, most.0, text_behind before s.before p.0 s.at p.1))
     q))
-    (places s.before s.at s.rest before call rest (s.whole ∙ sym is))
+    (places s.before s.at s.rest before call rest (s.all ∙ sym is))
 
 pub point_law : PointLaw
 point_law said points sure next events stop s before at rest is more t told =
@@ -117,4 +117,4 @@ point_law said points sure next events stop s before at rest is more t told =
     (λ p. omega (arith, most.1, ap (λ (l : List Event). length (text_of l)) p.before))
     (λ p. absurd (omega (arith, more, left_most s.left, quiets_behind before s.before p.0 s.at p.1)))
     q)
-    (places s.before s.at s.rest before at rest (s.whole ∙ sym is))
+    (places s.before s.at s.rest before at rest (s.all ∙ sym is))

@@ -1,21 +1,27 @@
 -- What a run leaves of its engine.
-use Rattle.std.specs.Prelude.{◌≡◌, ⊤, IfErr, OnOk}
+use Rattle.std.specs.Prelude.{ℕ, ◌≡◌, ◌≤◌, List, OnOk}
 use Rattle.std.specs.declared.result.Result.{Result}
+use Rattle.std.specs.declared.result.Result.TheVariants.{Ok, Err}
+use Rattle.dms_block.specs.Counts.{Faults, Raised}
 use Rattle.dms_model.specs.declared.store.Store.{Ghosts}
-use Rattle.dms_model.specs.Seen.{Seen, Counted, Counts}
+use Rattle.dms_model.specs.Points.{Files}
 use Rattle.dms_storeverbs.specs.declared.engine.Engine.{Engine}
 use Rattle.dms_storeverbs.specs.View.{seen}
 use Rattle.dms_runner.specs.declared.run.RunFault.{RunFault}
 use Rattle.dms_runner.specs.declared.run.RunFault.TheVariants.{Block, Input, Lines, Bytes, Held, Memory}
 
--- a fault of the store was counted
-abbrev pub Blamed : RunFault → Seen → Seen → Type 0
-Blamed (Block f) old new = Counted f old new
-Blamed Input old new = ⊤
-Blamed Lines old new = ⊤
-Blamed Bytes old new = ⊤
-Blamed Held old new = ⊤
-Blamed Memory old new = ⊤
+-- a fault of the store was counted once, and no other was; where the run stopped for another reason none was
+abbrev pub Blamed : RunFault → Faults → Faults → Type 0
+Blamed (Block f) a b = Raised f a b
+Blamed Input a b = b ≡ a
+Blamed Lines a b = b ≡ a
+Blamed Bytes a b = b ≡ a
+Blamed Held a b = b ≡ a
+Blamed Memory a b = b ≡ a
+
+abbrev pub BlamedBy : {T : Type 0} → Result T RunFault → Faults → Faults → Type 0
+BlamedBy (Ok x) a b = b ≡ a
+BlamedBy (Err f) a b = Blamed f a b
 
 -- whatever a run does, its engine stays the same one, usable without a fault, and a fault of the store has a cause
 pub record LastsRun {St : Type 0} {g : Ghosts St} {T : Type 0} (result : Result T RunFault) (old new : Engine St g) : Type 0 where
@@ -24,5 +30,7 @@ pub record LastsRun {St : Type 0} {g : Ghosts St} {T : Type 0} (result : Result 
   pub same : g.same_store old.store new.store
   pub tells : (seen old).tells → (seen new).tells
   pub desc : (seen new).desc ≡ (seen old).desc
-  pub counts : Counts (seen old) (seen new)
-  pub cause : IfErr result (λ f. Blamed f (seen old) (seen new))
+  pub whole : (files : Files) → (seen new).whole files → (seen old).whole files
+  pub whole_on : (files : Files) → (seen old).whole files → (seen new).whole files
+  pub cause : BlamedBy result (seen old).faults (seen new).faults
+  pub reads : (seen old).reads ≤ (seen new).reads

@@ -2,8 +2,9 @@
 use Rattle.std.specs.Prelude.{ℕ, ◌≡◌, ◌≤◌, ◌+◌, List, [], ◌∷◌, ◌++◌, length, take, Some, None, IsTrue}
 use Rattle.std.specs.declared.option.Option.{Option}
 use Rattle.dms_moments.specs.Moments.{Runs}
-use Rattle.dms_model.specs.Points.{Point, Quiet, Stop}
+use Rattle.dms_model.specs.Points.{Files, Point, Quiet, Stop}
 use Rattle.dms_block.specs.Texts.{Prints, PrintsFront}
+use Rattle.dms_model.specs.Db.{Db}
 use Rattle.dms_model.specs.Seen.{Seen}
 use Rattle.dms_model.specs.Session.{Outcome}
 use Rattle.dms_storeverbs.specs.View.{Grew, Left}
@@ -50,22 +51,33 @@ sure_after count sure (e ∷ es) = sure_after (count + length e.quiets) (covered
 -- A stop within these events, where so many quiet points were sure at first. The events before one of them are over. Of the
 -- quiet points so far, those of this event too, the stop leaves the first ones, and all that were sure before this event. The
 -- text is that of the events before, whole, and a front of what this one says.
-pub record Stopped (said : Option (List ℕ)) (points : List Point) (sure next : ℕ) (events : List Event) (stop : Stop) : Type 0 where
+pub record Stopped (whole : Files → Type 0) (said : Option (List ℕ)) (points : List Point) (sure next : ℕ) (events : List Event) (stop : Stop) : Type 0 where
   pub before : List Event
   pub at : Event
   pub rest : List Event
-  pub whole : before ++ at ∷ rest ≡ events
-  pub left : Left (sure_after (length points) sure before) points next (quiets_of before ++ at.quiets) stop
+  pub all : before ++ at ∷ rest ≡ events
+  pub left : Left whole (sure_after (length points) sure before) points next (quiets_of before ++ at.quiets) stop
   pub text : (t : List ℕ) → said ≡ Some t → (n : ℕ) × (stop.said ≡ (t ++ text_of before) ++ take n at.text)
 
 abbrev pub Stops : Seen → List Event → Stop → Type 0
-Stops b events stop = Stopped b.said b.points b.sure b.next events stop
+Stops b events stop = Stopped b.whole b.said b.points b.sure b.next events stop
+
+-- the database is told, and that at the last quiet point
+pub record IsTold (s : Seen) : Type 0 where
+  pub db : Db
+  pub mark : Db
+  pub db_is : s.db ≡ Some db
+  pub mark_is : s.mark ≡ Some mark
 
 -- these events happened: their text was said, their quiet points were made and have used up their numbers, at least those are
--- sure that a syncpoint among them covers, and a stop on the way lies within them. Of the database it says nothing
+-- sure that a syncpoint among them covers, and a stop on the way lies within them. Where the database is told it still is, and no
+-- block was found damaged
 pub record Ran (b a : Seen) (events : List Event) : Type 0 where
   pub text : Prints b.said a.said (text_of events)
   pub tells : b.tells → a.tells
+  pub whole : (files : Files) → a.whole files → b.whole files
+  pub told : IsTold b → IsTold a
+  pub undamaged : IsTold b → a.faults.damaged ≡ b.faults.damaged
   pub next : b.next + length (quiets_of events) ≤ a.next
   pub grew : b.tells → Grew b.points (quiets_of events) a.points
   pub sure : b.tells → sure_after (length b.points) b.sure events ≤ a.sure
@@ -75,4 +87,5 @@ pub record Ran (b a : Seen) (events : List Event) : Type 0 where
 -- nothing else
 pub record RanPart (b a : Seen) (events : List Event) : Type 0 where
   pub text : PrintsFront b.said a.said (text_of events)
+  pub undamaged : IsTold b → a.faults.damaged ≡ b.faults.damaged
   pub moments : b.tells → Runs b.clock a.clock (Stops b events)

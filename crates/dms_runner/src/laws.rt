@@ -1,4 +1,4 @@
-ghost use Rattle.dms_runner.specs.EventLaws.{WholeLaw, SyncLaw, PointLaw, LeftLaw};
+ghost use Rattle.dms_runner.specs.EventLaws.{WholeLaw, SyncLaw, PointLaw, LeftLaw, NextLaw};
 
 /// A stop within a run leaves a front of its text, and the first quiet points of those at its beginning and those that it makes.
 pub fn whole_law()
@@ -13,6 +13,11 @@ pub fn sync_law()
 /// No quiet point is made before all is printed that was said before it.
 pub fn point_law()
     ensures { PointLaw }
+{}
+
+/// The first number and the count of lines bound the number of the next quiet point at the end of a script.
+pub fn next_law()
+    ensures { NextLaw }
 {}
 
 /// A script leaves the database of the last quiet point that it makes, or the one that it began with.

@@ -9,6 +9,6 @@ mod saying;
 mod walking;
 
 pub use held::Held;
-pub use laws::{left_law, point_law, sync_law, whole_law};
+pub use laws::{left_law, next_law, point_law, sync_law, whole_law};
 pub use lines::HELD_LINES;
 pub use run::{RunFault, SCRIPT_BYTES, SCRIPT_LINES, run_lines};

@@ -1,5 +1,4 @@
 ghost use Rattle.std.specs.Prelude.{◌≡◌, ◌≢◌, ◌≤◌, ◌<◌, ◌+◌, ◌^◌, [], ℕ, List, true, false, IfOk, OnOk, IsErrOf, length, IsTrue};
-ghost use Rattle.dms_moments.specs.Moments.{Runs};
 ghost use Rattle.dms_block.specs.declared.block_fault.BlockFault.{BlockFault as Fault};
 ghost use Rattle.dms_base.specs.Causes.{Rose};
 ghost use Rattle.dms_desc.specs.Shape.{described};
@@ -10,7 +9,7 @@ ghost use Rattle.dms_model.specs.Db.{Db};
 ghost use Rattle.dms_block.specs.Texts.{Prints, PrintsFront};
 ghost use Rattle.dms_model.specs.Session.{Session, fresh_session, ended};
 ghost use Rattle.dms_storeverbs.specs.View.{Lasts, SameSession, Stands, seen, view};
-ghost use Rattle.dms_runner.specs.Events.{text_of, Stops, Ran, RanPart};
+ghost use Rattle.dms_runner.specs.Events.{text_of, Ran, RanPart};
 ghost use Rattle.dms_runner.specs.Answers.{Going, Roomy, line_step, lines_run, unanswered, ending, script_run, script_events, answers_text};
 ghost use Rattle.dms_runner.specs.Running.{TookLine, Answered, PassesLines, PassesBytes, PassesHeld, CutInput};
 ghost use Rattle.dms_runner.specs.Starting.{AtSession, AtGoing, AtStart};
@@ -171,10 +170,9 @@ pub fn run_lines<St: Store, I: Source>(
 ) -> Result<(), RunFault>
     requires sound { (seen engine.old).sound }
     ensures answers { OnOk result (AtStart engine.old feed.old (I.left source.old) (λ db first all. Answered (described engine.old.desc) db first (raw_lines all) (seen engine.old).said (seen engine.new).said)) }
-    ensures part { AtStart engine.old feed.old (I.left source.old) (λ db first all. PrintsFront (seen engine.old).said (seen engine.new).said (answers_text (described engine.old.desc) db first (raw_lines all))) }
+    ensures part { AtStart engine.old feed.old (I.left source.old) (λ db first all. RanPart (seen engine.old) (seen engine.new) (script_events (described engine.old.desc) db first (raw_lines all))) }
     ensures ran { OnOk result (AtStart engine.old feed.old (I.left source.old) (λ db first all. Ran (seen engine.old) (seen engine.new) (script_events (described engine.old.desc) db first (raw_lines all)))) }
     ensures ended { OnOk result (AtStart engine.old feed.old (I.left source.old) (λ db first all. Stands (view engine.new) (ended (script_run (described engine.old.desc) db first (raw_lines all)).going.session))) }
-    ensures moments { AtStart engine.old feed.old (I.left source.old) (λ db first all. (seen engine.old).tells → Runs (seen engine.old).clock (seen engine.new).clock (Stops (seen engine.old) (script_events (described engine.old.desc) db first (raw_lines all)))) }
     ensures lines { IsErrOf result RunFault.Lines → AtStart engine.old feed.old (I.left source.old) (λ db first all. PassesLines (described engine.old.desc) db first (raw_lines all) (seen engine.old).said (seen engine.new).said) }
     ensures bytes { IsErrOf result RunFault.Bytes → AtStart engine.old feed.old (I.left source.old) (λ db first all. PassesBytes (described engine.old.desc) db first (raw_lines all) (seen engine.old).said (seen engine.new).said) }
     ensures full_list { IsErrOf result RunFault.Held → AtStart engine.old feed.old (I.left source.old) (λ db first all. PassesHeld (described engine.old.desc) db first (raw_lines all) (seen engine.old).said (seen engine.new).said) }

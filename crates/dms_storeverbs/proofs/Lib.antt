@@ -1,11 +1,11 @@
 pub mod Calls
 pub mod Closed
+pub mod Costing
 pub mod Ends
 pub mod FoundAt
 pub mod Keepings
 pub mod KeyValues
 pub mod Lasting
-pub mod OldClauses
 pub mod Places
 pub mod Quiet
 pub mod Resting

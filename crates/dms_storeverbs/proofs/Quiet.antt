@@ -172,9 +172,9 @@ settle_at : (verb : Verb) (s t : Session) (w b : Bool) → is_back_out verb ≡ 
 unfolding settle
 settle_at verb s t true b other works number mark pending e f = rw e (by_steady verb s (done t) (steady_shows s t [] number mark (λ h. e)))
 settle_at verb s t false true other works number mark pending e f =
-    rw (e, f, other, works, idle_works t.programs, e) (record { quiets = ap (λ (n : ℕ). (n, t.db) ∷ []) number; next = ap (λ (n : ℕ). n + 1) number; mark = refl; idle = idle_twice t.programs; taken = refl; synced = λ h. ap (λ (n : ℕ). Some n) number })
+    rw (e, f, other, works, idle_works t.programs, e) (record { quiets = ap (λ (n : ℕ). (n, t.db) ∷ []) number; next = ap (λ (n : ℕ). n + 1) number; mark = refl; idle = idle_twice t.programs; taken = refl; synced = λ h. ap (λ (n : ℕ). Some n) number; own = λ n i. let e : t.next ≡ n = cc in sym e ∙ number })
 settle_at verb s t false false other works number mark pending e f =
-    rw (e, f, other, works, idle_works t.programs, e) (record { quiets = ap (λ (n : ℕ). (n, t.db) ∷ []) number; next = ap (λ (n : ℕ). n + 1) number; mark = refl; idle = idle_twice t.programs; taken = refl; synced = λ h. absurd (let p = pending h in cc) })
+    rw (e, f, other, works, idle_works t.programs, e) (record { quiets = ap (λ (n : ℕ). (n, t.db) ∷ []) number; next = ap (λ (n : ℕ). n + 1) number; mark = refl; idle = idle_twice t.programs; taken = refl; synced = λ h. absurd (let p = pending h in cc); own = λ n i. absurd (cc) })
 
 or_pending : (a b c : Bool) → a ≡ true → (a || b || c) ≡ true
 or_pending true b c h = refl

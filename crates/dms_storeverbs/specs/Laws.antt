@@ -20,7 +20,7 @@ is_back_out (End audit sync) = false
 is_back_out Abort = true
 
 -- A quiet point was made, with the next number and the database: it is the last one, no program is active any more, and a
--- syncpoint that was pending is taken.
+-- syncpoint that was pending is taken. A syncpoint that is taken has the quiet point's number.
 pub record MakesQuiet (s : Session) (o : Outcome) : Type 0 where
   pub quiets : o.quiets ≡ (s.next, o.session.db) ∷ []
   pub next : o.session.next ≡ s.next + 1
@@ -28,6 +28,7 @@ pub record MakesQuiet (s : Session) (o : Outcome) : Type 0 where
   pub idle : map idle o.session.programs ≡ o.session.programs
   pub taken : o.session.pending ≡ false
   pub synced : s.pending ≡ true → o.sync ≡ Some s.next
+  pub own : (n : ℕ) → o.sync ≡ Some n → n ≡ s.next
 
 -- no quiet point was made, and no syncpoint was taken
 pub record MakesNone (s : Session) (o : Outcome) : Type 0 where

@@ -1,4 +1,5 @@
 pub mod Apart
+pub mod Costs
 pub mod Keeping
 pub mod Laws
 pub mod Storing

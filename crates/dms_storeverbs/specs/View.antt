@@ -4,13 +4,14 @@ use Rattle.std.specs.declared.option.Option.{Option}
 use Rattle.std.specs.declared.result.Result.{Result}
 use Rattle.std.specs.declared.result.Result.TheVariants.{Ok}
 use Rattle.dms_block.specs.declared.block_fault.BlockFault.{BlockFault}
+use Rattle.dms_block.specs.Faults.{Undamaged}
 use Rattle.dms_moments.specs.Moments.{Runs}
 use Rattle.dms_model.specs.declared.program.Program.{Program}
 use Rattle.dms_model.specs.declared.reply.Answer.{Answer}
 use Rattle.dms_model.specs.declared.store.Store.{Ghosts}
 use Rattle.dms_model.specs.Db.{Db}
 use Rattle.dms_model.specs.Seen.{Seen, HasCauses}
-use Rattle.dms_model.specs.Points.{Point, Quiet, Stop, Front, TextIs, told, known}
+use Rattle.dms_model.specs.Points.{Files, Point, Quiet, Stop, Front, TextIs, told, known}
 use Rattle.dms_model.specs.Session.{Session, Outcome}
 use Rattle.dms_storeverbs.specs.declared.engine.Engine.{Engine}
 
@@ -53,14 +54,14 @@ pub record Grew (old : List Point) (quiets : List Quiet) (new : List Point) : Ty
   pub spells : map told more ≡ map known quiets
 
 -- what stands in a stop: the first so many of the points and the quiet points behind them, at least those that are sure, and
--- the next number behind those, fallen by no more than the points that are missing
-pub record Left (sure : ℕ) (points : List Point) (next : ℕ) (quiets : List Quiet) (stop : Stop) : Type 0 where
+-- the next number behind those, fallen by no more than the points that are missing. The files are whole
+pub record Left (whole : Files → Type 0) (sure : ℕ) (points : List Point) (next : ℕ) (quiets : List Quiet) (stop : Stop) : Type 0 where
   pub made : List Quiet
   pub rest : List Quiet
   pub all : List Point
   pub front_of : made ++ rest ≡ quiets
   pub grew : Grew points made all
-  pub front : Front sure all (next + length made) stop
+  pub front : Front whole sure all (next + length made) stop
 
 -- after a call: the points of then and its quiet points, and all are sure where a syncpoint is answered
 pub record Made (answer : Answer) (sure : ℕ) (points : List Point) (quiets : List Quiet) (sure' : ℕ) (points' : List Point) : Type 0 where
@@ -80,11 +81,12 @@ module _ {St : Type 0} {g : Ghosts St} where
 abbrev pub SameSession : {St : Type 0} {g : Ghosts St} → Engine St g → Engine St g → Type 0
 SameSession old new = (s : Session) → Stands (view old) s → Stands (view new) s
 
--- a call did what an outcome says: its answer, its quiet points, and what a stop within it leaves
+-- a call did what an outcome says: its answer, its quiet points, and what a stop within it leaves. It found no block damaged
 pub record Did (o : Outcome) (old new : Seen) (now : View) (result : Result Answer BlockFault) : Type 0 where
   pub answers : IfOk result (λ answer. Is o answer now)
   pub made : old.tells → IfOk result (λ answer. Made answer old.sure old.points o.quiets new.sure new.points)
-  pub leaves : old.tells → Runs old.clock new.clock (λ stop. Left old.sure old.points old.next o.quiets stop × TextIs old.said stop)
+  pub undamaged : Undamaged result
+  pub leaves : old.tells → Runs old.clock new.clock (λ stop. Left old.whole old.sure old.points old.next o.quiets stop × TextIs old.said stop)
 
 -- a call does what f gives of the session that stands before it
 abbrev pub Does : {St : Type 0} {g : Ghosts St} → Engine St g → Engine St g → Result Answer BlockFault → (Session → Outcome) → Type 0

@@ -1,8 +1,10 @@
-ghost use Rattle.std.specs.Prelude.{◌≡◌, ◌<◌, ℕ, Some, length, slice_get};
+ghost use Rattle.std.specs.Prelude.{◌≡◌, ◌<◌, ℕ, Some, None, true, false, IfOk, IsOk, IfSome, length, slice_get};
 ghost use Rattle.dms_desc.specs.Shape.{Described, described};
 ghost use Rattle.dms_model.specs.declared.program.Program.{Program};
 ghost use Rattle.dms_model.specs.Session.{path_of, open_as, open_step, close_step, create_step, put_step, get_step, opens, changes, is_inquiry};
 ghost use Rattle.dms_storeverbs.specs.Apart.{Apart, Admits};
+ghost use Rattle.dms_storeverbs.specs.Costs.{is_done, takes_none};
+ghost use Rattle.dms_storeverbs.specs.Laws.{is_back_out};
 
 use crate::areas;
 use crate::filling::{fill, get_text, initial_values, with_values};
@@ -33,7 +35,8 @@ fn open_as(
     name: &Name,
     mode: Mode,
 ) -> Result<Answer, Memory>
-    ensures { Apart (λ s. open_as (described desc.now) s name.now mode) programs.old.items result programs.new.items }
+    ensures apart { Apart (λ s. open_as (described desc.now) s name.now mode) programs.old.items result programs.new.items }
+    ensures unsynced { IfOk result (λ a. a.sync ≡ None) }
 {
     if programs.len() >= 64 {
         return Ok(refused(Category::LimitError, *name));
@@ -51,7 +54,10 @@ pub fn open(
     name: &Name,
     verb: &Verb,
 ) -> Result<Answer, Memory>
-    ensures { Apart (λ s. open_step (described desc.now) s name.now verb.now) programs.old.items result programs.new.items }
+    ensures apart { Apart (λ s. open_step (described desc.now) s name.now verb.now) programs.old.items result programs.new.items }
+    ensures no_memory { takes_none verb.now ≡ true → IsOk result }
+    ensures no_back_out { is_back_out verb.now ≡ true → IfOk result (λ a. is_done a.reply ≡ false) }
+    ensures unsynced { IfOk result (λ a. a.sync ≡ None) }
 {
     match verb {
         Verb::OpenUpdate => open_as(alloc, desc, programs, name, Mode::Update),
@@ -100,6 +106,7 @@ fn is_inquiry(mode: Mode) -> bool
 pub fn admit(programs: &mut Vec<Program>, i: usize, name: &Name, verb: &Verb) -> Option<Answer>
     requires { i < length programs.old.items }
     ensures count { length programs.new.items ≡ length programs.old.items }
+    ensures refused { IfSome result (λ a. (a.sync ≡ None) × (is_done a.reply ≡ false)) }
     ensures admits { (desc : Described) (p : Program) → slice_get programs.old.items i ≡ Some p → Admits result desc p i name.now verb.now programs.old.items programs.new.items }
 {
     if opens(verb) {
@@ -119,7 +126,8 @@ pub fn admit(programs: &mut Vec<Program>, i: usize, name: &Name, verb: &Verb) ->
 #[tactic(auto, using(std::proofs::lemmas::Option::gets, crate::proofs::Closed::removed), unfolding(dms_model::specs::Session::close_step))]
 pub fn close(alloc: Global, programs: &mut Vec<Program>, i: usize) -> Result<Answer, Memory>
     requires { i < length programs.old.items }
-    ensures { (p : Program) → slice_get programs.old.items i ≡ Some p → Apart (λ s. close_step i p s) programs.old.items result programs.new.items }
+    ensures apart { (p : Program) → slice_get programs.old.items i ≡ Some p → Apart (λ s. close_step i p s) programs.old.items result programs.new.items }
+    ensures unsynced { IfOk result (λ a. a.sync ≡ None) }
 {
     if programs[i].in_transaction {
         return Ok(refused(Category::AuditError, programs[i].name));
@@ -138,7 +146,8 @@ pub fn create(
     set: u16,
 ) -> Result<Answer, Memory>
     requires { i < length programs.old.items }
-    ensures { (p : Program) → slice_get programs.old.items i ≡ Some p → Apart (λ s. create_step (described desc.now) i p s set) programs.old.items result programs.new.items }
+    ensures apart { (p : Program) → slice_get programs.old.items i ≡ Some p → Apart (λ s. create_step (described desc.now) i p s set) programs.old.items result programs.new.items }
+    ensures unsynced { IfOk result (λ a. a.sync ≡ None) }
 {
     let values = initial_values(alloc, items_of(desc, set))?;
     areas::create(&mut programs[i], set, values);
@@ -156,7 +165,8 @@ pub fn put(
     settings: &Settings,
 ) -> Result<Answer, Memory>
     requires { i < length programs.old.items }
-    ensures { (p : Program) → slice_get programs.old.items i ≡ Some p → Apart (λ s. put_step (described desc.now) i p s set settings.now) programs.old.items result programs.new.items }
+    ensures apart { (p : Program) → slice_get programs.old.items i ≡ Some p → Apart (λ s. put_step (described desc.now) i p s set settings.now) programs.old.items result programs.new.items }
+    ensures unsynced { IfOk result (λ a. a.sync ≡ None) }
 {
     let Some(area) = areas::area_at(&programs[i], set) else {
         return Ok(refused(Category::NoRecord, name_of(desc, set)));
@@ -181,7 +191,8 @@ pub fn get(
     numbers: &ItemNumbers,
 ) -> Result<Answer, Memory>
     requires { i < length programs.old.items }
-    ensures { (p : Program) → slice_get programs.old.items i ≡ Some p → Apart (λ s. get_step (described desc.now) i p s set numbers.now) programs.old.items result programs.new.items }
+    ensures apart { (p : Program) → slice_get programs.old.items i ≡ Some p → Apart (λ s. get_step (described desc.now) i p s set numbers.now) programs.old.items result programs.new.items }
+    ensures unsynced { IfOk result (λ a. a.sync ≡ None) }
 {
     let Some(area) = areas::area_at(&programs[i], set) else {
         return Ok(refused(Category::NoRecord, name_of(desc, set)));

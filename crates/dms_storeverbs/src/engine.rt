@@ -1,10 +1,11 @@
-ghost use Rattle.std.specs.Prelude.{◌≡◌, Some, IfOk, OnOk, IsErrOf, IfErr};
+ghost use Rattle.std.specs.Prelude.{◌≡◌, true, false, Some, IfOk, OnOk, IsErrOf, IfErr};
 ghost use Rattle.dms_desc.specs.Shape.{described};
 ghost use Rattle.dms_model.specs.Db.{Db};
 ghost use Rattle.dms_model.specs.DescribedCode.{described_set};
+ghost use Rattle.dms_block.specs.Faults.{Undamaged};
 ghost use Rattle.dms_block.specs.Texts.{Prints};
-ghost use Rattle.dms_model.specs.Seen.{IsSilent, Keeps, SaysPart, StaysSure};
-ghost use Rattle.dms_model.specs.Session.{Session, fresh_session, ended};
+ghost use Rattle.dms_model.specs.Seen.{GoesBack, IsSilent, Keeps, SaysPart, StaysSure};
+ghost use Rattle.dms_model.specs.Session.{Session, fresh_session, ended, someone_works};
 
 use crate::programs;
 use dms_base::Memory;
@@ -58,6 +59,9 @@ impl<St: Store> Engine<St> {
         requires sound { (seen self.old).sound }
         ensures ended { OnOk result ((s : Session) → Stands (view self.old) s → Stands (view self.new) (ended s)) }
         ensures points { OnOk result (StaysSure (seen self.old) (seen self.new)) }
+        ensures undamaged { (d : Db) → (seen self.old).db ≡ Some d → Undamaged result }
+        ensures goes_back { someone_works self.old.programs.items ≡ true → GoesBack result (seen self.old).effort (seen self.new).effort }
+        ensures stays { someone_works self.old.programs.items ≡ false → (seen self.new).effort ≡ (seen self.old).effort }
         ensures silent { IsSilent (seen self.old) (seen self.new) }
         ensures lasts { Lasts result self.old self.new }
     {
@@ -75,6 +79,8 @@ impl<St: Store> Engine<St> {
         ensures stands { OnOk result (SameSession self.old self.new) }
         ensures keeps { OnOk result (Keeps (seen self.old) (seen self.new)) }
         ensures memory { IsErrOf result BlockFault.Memory → ⊥ }
+        ensures undamaged { (d : Db) → (seen self.old).db ≡ Some d → Undamaged result }
+        ensures effort { (seen self.new).effort ≡ (seen self.old).effort }
         ensures programs { self.new.programs ≡ self.old.programs }
         ensures pending { self.new.pending ≡ self.old.pending }
         ensures since { self.new.since ≡ self.old.since }

@@ -1,8 +1,11 @@
-ghost use Rattle.std.specs.Prelude.{◌≡◌, ◌≤◌, ◌<◌, ◌+◌, ◌^◌, ℕ, List, Bool, Some, None, IfOk, OnOk, IsErrOf, IsTrue, slice_get, length, if◌then◌else◌, []};
+ghost use Rattle.std.specs.Prelude.{◌≡◌, ◌≤◌, ◌<◌, ◌+◌, ◌^◌, ℕ, List, Bool, true, false, Some, None, IfOk, OnOk, IsErrOf, IsTrue, slice_get, length, if◌then◌else◌, []};
 ghost use Rattle.dms_desc.specs.Shape.{described};
 ghost use Rattle.dms_model.specs.declared.program.Program.{Program};
-ghost use Rattle.dms_model.specs.Seen.{IsMute, IsSilent, StaysSure};
+ghost use Rattle.dms_model.specs.Seen.{IsMute, IsSilent, Spends, StaysSure};
 ghost use Rattle.dms_model.specs.Session.{Session, keep, settle, store_step, begin_step, end_step, abort_step};
+ghost use Rattle.dms_block.specs.Faults.{Undamaged};
+ghost use Rattle.dms_model.specs.Db.{Db};
+ghost use Rattle.dms_storeverbs.specs.Costs.{Costs, limit_if};
 ghost use Rattle.dms_storeverbs.specs.Keeping.{KeptIs, kept_if};
 ghost use Rattle.dms_storeverbs.specs.View.{Does, Lasts, Stands, seen, view};
 
@@ -25,6 +28,8 @@ impl<St: Store> Engine<St> {
         ensures count { OnOk result (length self.new.programs.items ≡ length self.old.programs.items) }
         ensures points { OnOk result (StaysSure (seen self.old) (seen self.new)) }
         ensures silent { IsSilent (seen self.old) (seen self.new) }
+        ensures undamaged { (d : Db) → (seen self.old).db ≡ Some d → Undamaged result }
+        ensures spends { Spends (limit_if true (seen self.old).desc) (seen self.old).effort (seen self.new).effort }
         ensures lasts { Lasts result self.old self.new }
     {
         let (number, rec) = match judge(alloc, &self.desc, &self.programs[i], set)? {
@@ -61,6 +66,9 @@ impl<St: Store> Engine<St> {
         ensures count { OnOk result (length self.new.programs.items ≡ length self.old.programs.items) }
         ensures points { OnOk result (StaysSure (seen self.old) (seen self.new)) }
         ensures silent { IsSilent (seen self.old) (seen self.new) }
+        ensures undamaged { (d : Db) → (seen self.old).db ≡ Some d → Undamaged result }
+        ensures spends { Spends (limit_if audit (seen self.old).desc) (seen self.old).effort (seen self.new).effort }
+        ensures no_memory { audit ≡ false → IsErrOf result BlockFault.Memory → ⊥ }
         ensures lasts { Lasts result self.old self.new }
     {
         if !audit {
@@ -77,6 +85,8 @@ impl<St: Store> Engine<St> {
         requires sound { (seen self.old).sound }
         ensures step { Does self.old self.new result (λ s. settle s) }
         ensures mute { IsMute (seen self.old) (seen self.new) }
+        ensures costs { Costs (limit_if false (seen self.old).desc) false result (seen self.old).effort (seen self.new).effort }
+        ensures no_memory { IsErrOf result BlockFault.Memory → ⊥ }
         ensures lasts { Lasts result self.old self.new }
     {
         if programs::someone_works(self.programs.as_slice()) {
@@ -103,6 +113,7 @@ impl<St: Store> Engine<St> {
         requires sound { (seen self.old).sound }
         ensures step { (p : Program) → slice_get self.old.programs.items i ≡ Some p → Does self.old self.new result (λ s. store_step (described self.old.desc) i p s set) }
         ensures mute { IsMute (seen self.old) (seen self.new) }
+        ensures costs { Costs (limit_if true (seen self.old).desc) false result (seen self.old).effort (seen self.new).effort }
         ensures lasts { Lasts result self.old self.new }
     {
         if !self.programs[i].in_transaction {
@@ -127,6 +138,7 @@ impl<St: Store> Engine<St> {
         requires sound { (seen self.old).sound }
         ensures step { (p : Program) → slice_get self.old.programs.items i ≡ Some p → Does self.old self.new result (λ s. begin_step (described self.old.desc) i p s audit) }
         ensures mute { IsMute (seen self.old) (seen self.new) }
+        ensures costs { Costs (limit_if audit (seen self.old).desc) false result (seen self.old).effort (seen self.new).effort }
         ensures lasts { Lasts result self.old self.new }
     {
         if self.programs[i].in_transaction {
@@ -163,6 +175,8 @@ impl<St: Store> Engine<St> {
         requires sound { (seen self.old).sound }
         ensures step { (p : Program) → slice_get self.old.programs.items i ≡ Some p → Does self.old self.new result (λ s. end_step (described self.old.desc) i p s audit sync) }
         ensures mute { IsMute (seen self.old) (seen self.new) }
+        ensures costs { Costs (limit_if audit (seen self.old).desc) false result (seen self.old).effort (seen self.new).effort }
+        ensures no_memory { audit ≡ false → IsErrOf result BlockFault.Memory → ⊥ }
         ensures lasts { Lasts result self.old self.new }
     {
         if !self.programs[i].in_transaction {
@@ -184,6 +198,7 @@ impl<St: Store> Engine<St> {
         requires sound { (seen self.old).sound }
         ensures step { (p : Program) → slice_get self.old.programs.items i ≡ Some p → Does self.old self.new result (λ s. abort_step i p s) }
         ensures mute { IsMute (seen self.old) (seen self.new) }
+        ensures costs { Costs (limit_if false (seen self.old).desc) true result (seen self.old).effort (seen self.new).effort }
         ensures lasts { Lasts result self.old self.new }
     {
         let name = self.programs[i].name;

@@ -1,10 +1,13 @@
-ghost use Rattle.std.specs.Prelude.{◌≡◌, ◌≤◌, ◌<◌, ◌+◌, ◌^◌, ℕ, List, Bool, Some, None, IfOk, OnOk, IsErrOf, IsTrue, slice_get, length, if◌then◌else◌, []};
+ghost use Rattle.std.specs.Prelude.{◌≡◌, ◌≤◌, ◌<◌, ◌+◌, ◌^◌, ℕ, List, Bool, true, false, Some, None, IfOk, OnOk, IsErrOf, IsTrue, slice_get, length, if◌then◌else◌, []};
 ghost use Rattle.dms_desc.specs.Shape.{described};
 ghost use Rattle.dms_model.specs.declared.program.Program.{Program};
 ghost use Rattle.dms_model.specs.Db.{Db};
 ghost use Rattle.dms_model.specs.Seen.{IsMute, IsSilent, StaysSure};
 ghost use Rattle.dms_model.specs.Session.{Session, find_step, found_by, verb_step, step, parts_of, key_values, set_of, at_values};
 ghost use Rattle.dms_model.specs.Members.{structure_of, items_of};
+ghost use Rattle.dms_block.specs.Faults.{Undamaged};
+ghost use Rattle.dms_storeverbs.specs.Costs.{Costs, block_limit, takes_none};
+ghost use Rattle.dms_storeverbs.specs.Laws.{is_back_out};
 ghost use Rattle.dms_storeverbs.specs.View.{Does, Lasts, SameSession, Stands, seen, view};
 
 use crate::keys::{agreeing, key_values};
@@ -30,6 +33,8 @@ impl<St: Store> Engine<St> {
         ensures programs { self.new.programs.items ≡ self.old.programs.items }
         ensures points { OnOk result (StaysSure (seen self.old) (seen self.new)) }
         ensures silent { IsSilent (seen self.old) (seen self.new) }
+        ensures undamaged { (d : Db) → (seen self.old).db ≡ Some d → Undamaged result }
+        ensures effort { (seen self.new).effort ≡ (seen self.old).effort }
         ensures lasts { Lasts result self.old self.new }
     {
         let items = items_of(&self.desc, set_of(&self.desc, x));
@@ -50,6 +55,8 @@ impl<St: Store> Engine<St> {
         ensures programs { self.new.programs.items ≡ self.old.programs.items }
         ensures points { OnOk result (StaysSure (seen self.old) (seen self.new)) }
         ensures silent { IsSilent (seen self.old) (seen self.new) }
+        ensures undamaged { (d : Db) → (seen self.old).db ≡ Some d → Undamaged result }
+        ensures effort { (seen self.new).effort ≡ (seen self.old).effort }
         ensures lasts { Lasts result self.old self.new }
     {
         match path {
@@ -66,6 +73,7 @@ impl<St: Store> Engine<St> {
         requires sound { (seen self.old).sound }
         ensures step { (p : Program) → slice_get self.old.programs.items i ≡ Some p → Does self.old self.new result (λ s. find_step (described self.old.desc) i p s path.now) }
         ensures mute { IsMute (seen self.old) (seen self.new) }
+        ensures costs { Costs 0 false result (seen self.old).effort (seen self.new).effort }
         ensures lasts { Lasts result self.old self.new }
     {
         let x = apart::path_of(path);
@@ -85,6 +93,8 @@ impl<St: Store> Engine<St> {
         requires sound { (seen self.old).sound }
         ensures step { (p : Program) → slice_get self.old.programs.items i ≡ Some p → Does self.old self.new result (λ s. verb_step (described self.old.desc) i p s verb.now) }
         ensures mute { IsMute (seen self.old) (seen self.new) }
+        ensures costs { Costs (block_limit (seen self.old).desc verb.now) (is_back_out verb.now) result (seen self.old).effort (seen self.new).effort }
+        ensures no_memory { takes_none verb.now ≡ true → IsErrOf result BlockFault.Memory → ⊥ }
         ensures lasts { Lasts result self.old self.new }
     {
         match verb {
@@ -123,6 +133,8 @@ impl<St: Store> Engine<St> {
         requires sound { (seen self.old).sound }
         ensures step { Does self.old self.new result (λ s. step (described self.old.desc) s program.now verb.now) }
         ensures mute { IsMute (seen self.old) (seen self.new) }
+        ensures costs { Costs (block_limit (seen self.old).desc verb.now) (is_back_out verb.now) result (seen self.old).effort (seen self.new).effort }
+        ensures no_memory { takes_none verb.now ≡ true → IsErrOf result BlockFault.Memory → ⊥ }
         ensures lasts { Lasts result self.old self.new }
     {
         let i = programs::place_of(self.programs.as_slice(), program);

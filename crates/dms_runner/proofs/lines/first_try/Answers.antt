@@ -15,7 +15,7 @@ pub returns-in_err-answer-clause-part : goal.returns-in_err-answer-clause-part
 returns-in_err-answer-clause-part g c = λ now stands same line room.
     let o = step (described c.args.engine.now.desc) now.session c.args.name c.args.verb in
     let starts = tried_starts (described c.args.engine.now.desc) now c.args.name c.args.verb o in
-    part_as _ _ _ _ (sym starts.1) (part_of_first _ _ (calls o ∷ []) starts.0 (part_calls _ _ _ o c.call.ensures.mute (c.call.ensures.step now.session stands (omega (arith, room)))))
+    part_as _ _ _ _ (sym starts.1) (part_of_first _ _ (calls o ∷ []) starts.0 (part_calls _ _ _ o c.call.ensures.lasts.causes.cause c.call.ensures.mute (c.call.ensures.step now.session stands (omega (arith, room)))))
 
 pub returns-in_err-say_answer-clause-part : goal.returns-in_err-say_answer-clause-part
 returns-in_err-say_answer-clause-part g c = λ now stands same line room.
@@ -23,7 +23,7 @@ returns-in_err-say_answer-clause-part g c = λ now stands same line room.
     let did = c.in_ok-answer.ensures.step now.session stands (omega (arith, room)) in
     let is = did.answers in
     let room' : (seen c.call.new.self).next + 1 < 2 ^ 64 = omega (arith, is.session.next, (step_small (described c.args.engine.now.desc) now.session c.args.name c.args.verb).high, room) in
-    let called = ran_calls _ _ _ o c.in_ok-answer.answer c.call.ensures.lasts.causes.tells c.call.ensures.mute (omega (arith, stands.next, is.session.next, step_numbers (described c.args.engine.now.desc) now.session c.args.name c.args.verb)) did in
+    let called = ran_calls _ _ o c.in_ok-answer.answer c.call.ensures.lasts.causes.tells c.call.ensures.lasts.causes.whole c.in_ok-answer.ensures.lasts.causes.cause c.call.ensures.mute (omega (arith, stands.next, is.session.next, step_numbers (described c.args.engine.now.desc) now.session c.args.name c.args.verb)) did in
     let text = says_answer c.args.line now.line c.args.name c.in_ok-answer.answer.reply o.reply c.in_ok-answer.answer.sync o.sync (sym line) is.reply is.sync in
     let e = tried_answered (described c.args.engine.now.desc) now c.args.name c.args.verb o (ap is_waits (sym is.reply) ∙ sym c.is_waits.ensures ∙ c.if-not-is_waits.true) in
     part_as _ _ _ _ (sym (ap (λ (l : Lined). l.events) e)) (part_of_first _ _ (calls o ∷ says (answer_text now.line c.args.name o.reply o.sync) ∷ []) _ (part_on _ _ _ (calls o ∷ []) _ called (part_as _ _ _ _ text (c.say_answer.ensures.part room'))))
@@ -34,7 +34,7 @@ returns-in_err-walk_all-clause-part g c = λ now stands same line room.
     let did = c.in_ok-answer.ensures.step now.session stands (omega (arith, room)) in
     let is = did.answers in
     let room' : (seen c.call.new.self).next + 1 < 2 ^ 64 = omega (arith, is.session.next, (step_small (described c.args.engine.now.desc) now.session c.args.name c.args.verb).high, room) in
-    let called = ran_calls _ _ _ o c.in_ok-answer.answer c.call.ensures.lasts.causes.tells c.call.ensures.mute (omega (arith, stands.next, is.session.next, step_numbers (described c.args.engine.now.desc) now.session c.args.name c.args.verb)) did in
+    let called = ran_calls _ _ o c.in_ok-answer.answer c.call.ensures.lasts.causes.tells c.call.ensures.lasts.causes.whole c.in_ok-answer.ensures.lasts.causes.cause c.call.ensures.mute (omega (arith, stands.next, is.session.next, step_numbers (described c.args.engine.now.desc) now.session c.args.name c.args.verb)) did in
     let text = says_answer c.args.line now.line c.args.name c.in_ok-answer.answer.reply o.reply c.in_ok-answer.answer.sync o.sync (sym line) is.reply is.sync in
     let e = tried_answered (described c.args.engine.now.desc) now c.args.name c.args.verb o (ap is_waits (sym is.reply) ∙ sym c.is_waits.ensures ∙ c.if-not-is_waits.true) in
     part_as _ _ _ _ (sym (ap (λ (l : Lined). l.events) e)) (part_on _ _ _ (calls o ∷ says (answer_text now.line c.args.name o.reply o.sync) ∷ []) _ (ran_on _ _ _ (calls o ∷ []) (says (answer_text now.line c.args.name o.reply o.sync) ∷ []) called (ran_as _ _ _ _ text (c.in_ok-say_answer.ensures.ran room')))
@@ -46,7 +46,7 @@ returns-then-not-is_waits-clause-lined g c = λ now stands same line room.
     let did = c.in_ok-answer.ensures.step now.session stands (omega (arith, room)) in
     let is = did.answers in
     let room' : (seen c.call.new.self).next + 1 < 2 ^ 64 = omega (arith, is.session.next, (step_small (described c.args.engine.now.desc) now.session c.args.name c.args.verb).high, room) in
-    let called = ran_calls _ _ _ o c.in_ok-answer.answer c.call.ensures.lasts.causes.tells c.call.ensures.mute (omega (arith, stands.next, is.session.next, step_numbers (described c.args.engine.now.desc) now.session c.args.name c.args.verb)) did in
+    let called = ran_calls _ _ o c.in_ok-answer.answer c.call.ensures.lasts.causes.tells c.call.ensures.lasts.causes.whole c.in_ok-answer.ensures.lasts.causes.cause c.call.ensures.mute (omega (arith, stands.next, is.session.next, step_numbers (described c.args.engine.now.desc) now.session c.args.name c.args.verb)) did in
     let text = says_answer c.args.line now.line c.args.name c.in_ok-answer.answer.reply o.reply c.in_ok-answer.answer.sync o.sync (sym line) is.reply is.sync in
     let e = tried_answered (described c.args.engine.now.desc) now c.args.name c.args.verb o (ap is_waits (sym is.reply) ∙ sym c.is_waits.ensures ∙ c.if-not-is_waits.true) in
     lined_as _ _ _ _ _ _ _ (sym e) (goes_walked _ now o.session (calls o ∷ says (answer_text now.line c.args.name o.reply o.sync) ∷ []) _ _ _ _ _ (ran_on _ _ _ (calls o ∷ []) (says (answer_text now.line c.args.name o.reply o.sync) ∷ []) called (ran_as _ _ _ _ text (c.in_ok-say_answer.ensures.ran room')))
@@ -58,7 +58,7 @@ returns-then-not-is_waits-clause-part g c = λ now stands same line room.
     let did = c.in_ok-answer.ensures.step now.session stands (omega (arith, room)) in
     let is = did.answers in
     let room' : (seen c.call.new.self).next + 1 < 2 ^ 64 = omega (arith, is.session.next, (step_small (described c.args.engine.now.desc) now.session c.args.name c.args.verb).high, room) in
-    let called = ran_calls _ _ _ o c.in_ok-answer.answer c.call.ensures.lasts.causes.tells c.call.ensures.mute (omega (arith, stands.next, is.session.next, step_numbers (described c.args.engine.now.desc) now.session c.args.name c.args.verb)) did in
+    let called = ran_calls _ _ o c.in_ok-answer.answer c.call.ensures.lasts.causes.tells c.call.ensures.lasts.causes.whole c.in_ok-answer.ensures.lasts.causes.cause c.call.ensures.mute (omega (arith, stands.next, is.session.next, step_numbers (described c.args.engine.now.desc) now.session c.args.name c.args.verb)) did in
     let text = says_answer c.args.line now.line c.args.name c.in_ok-answer.answer.reply o.reply c.in_ok-answer.answer.sync o.sync (sym line) is.reply is.sync in
     let e = tried_answered (described c.args.engine.now.desc) now c.args.name c.args.verb o (ap is_waits (sym is.reply) ∙ sym c.is_waits.ensures ∙ c.if-not-is_waits.true) in
     part_as _ _ _ _ (sym (ap (λ (l : Lined). l.events) e)) (part_on _ _ _ (calls o ∷ says (answer_text now.line c.args.name o.reply o.sync) ∷ []) _ (ran_on _ _ _ (calls o ∷ []) (says (answer_text now.line c.args.name o.reply o.sync) ∷ []) called (ran_as _ _ _ _ text (c.in_ok-say_answer.ensures.ran room')))
@@ -70,7 +70,7 @@ returns-then-len-ge-HELD_LINES-clause-lined g c = λ now stands same line room.
     let did = c.in_ok-answer.ensures.step now.session stands (omega (arith, room)) in
     let is = did.answers in
     let room' : (seen c.call.new.self).next + 1 < 2 ^ 64 = omega (arith, is.session.next, (step_small (described c.args.engine.now.desc) now.session c.args.name c.args.verb).high, room) in
-    let called = ran_calls _ _ _ o c.in_ok-answer.answer c.call.ensures.lasts.causes.tells c.call.ensures.mute (omega (arith, stands.next, is.session.next, step_numbers (described c.args.engine.now.desc) now.session c.args.name c.args.verb)) did in
+    let called = ran_calls _ _ o c.in_ok-answer.answer c.call.ensures.lasts.causes.tells c.call.ensures.lasts.causes.whole c.in_ok-answer.ensures.lasts.causes.cause c.call.ensures.mute (omega (arith, stands.next, is.session.next, step_numbers (described c.args.engine.now.desc) now.session c.args.name c.args.verb)) did in
     let text = says_answer c.args.line now.line c.args.name c.in_ok-answer.answer.reply o.reply c.in_ok-answer.answer.sync o.sync (sym line) is.reply is.sync in
     let e = tried_waits (described c.args.engine.now.desc) now c.args.name c.args.verb o (ap is_waits (sym is.reply) ∙ sym c.is_waits.ensures ∙ c.if-not-is_waits.false) in
     lined_as _ _ _ _ _ _ _ (sym e) (goes_full now o.session (first_line now.line c.args.name c.args.verb true) (calls o ∷ []) _ _ _ _ _ (omega (arith, ap length same, c.if-len-ge-HELD_LINES.true, c.len.ensures, c.args.held.now.ok.0)) is.session (sym same) called)
@@ -81,7 +81,7 @@ returns-then-len-ge-HELD_LINES-clause-part g c = λ now stands same line room.
     let did = c.in_ok-answer.ensures.step now.session stands (omega (arith, room)) in
     let is = did.answers in
     let room' : (seen c.call.new.self).next + 1 < 2 ^ 64 = omega (arith, is.session.next, (step_small (described c.args.engine.now.desc) now.session c.args.name c.args.verb).high, room) in
-    let called = ran_calls _ _ _ o c.in_ok-answer.answer c.call.ensures.lasts.causes.tells c.call.ensures.mute (omega (arith, stands.next, is.session.next, step_numbers (described c.args.engine.now.desc) now.session c.args.name c.args.verb)) did in
+    let called = ran_calls _ _ o c.in_ok-answer.answer c.call.ensures.lasts.causes.tells c.call.ensures.lasts.causes.whole c.in_ok-answer.ensures.lasts.causes.cause c.call.ensures.mute (omega (arith, stands.next, is.session.next, step_numbers (described c.args.engine.now.desc) now.session c.args.name c.args.verb)) did in
     let text = says_answer c.args.line now.line c.args.name c.in_ok-answer.answer.reply o.reply c.in_ok-answer.answer.sync o.sync (sym line) is.reply is.sync in
     let e = tried_waits (described c.args.engine.now.desc) now c.args.name c.args.verb o (ap is_waits (sym is.reply) ∙ sym c.is_waits.ensures ∙ c.if-not-is_waits.false) in
     part_as _ _ _ _ (sym (ap (λ (l : Lined). l.events) e ∙ full_events now o.session _ _ _ (omega (arith, ap length same, c.if-len-ge-HELD_LINES.true, c.len.ensures, c.args.held.now.ok.0)))) (part_all _ _ _ called)
@@ -92,7 +92,7 @@ returns-in_err-say_answer-2-clause-part g c = λ now stands same line room.
     let did = c.in_ok-answer.ensures.step now.session stands (omega (arith, room)) in
     let is = did.answers in
     let room' : (seen c.call.new.self).next + 1 < 2 ^ 64 = omega (arith, is.session.next, (step_small (described c.args.engine.now.desc) now.session c.args.name c.args.verb).high, room) in
-    let called = ran_calls _ _ _ o c.in_ok-answer.answer c.call.ensures.lasts.causes.tells c.call.ensures.mute (omega (arith, stands.next, is.session.next, step_numbers (described c.args.engine.now.desc) now.session c.args.name c.args.verb)) did in
+    let called = ran_calls _ _ o c.in_ok-answer.answer c.call.ensures.lasts.causes.tells c.call.ensures.lasts.causes.whole c.in_ok-answer.ensures.lasts.causes.cause c.call.ensures.mute (omega (arith, stands.next, is.session.next, step_numbers (described c.args.engine.now.desc) now.session c.args.name c.args.verb)) did in
     let text = says_answer c.args.line now.line c.args.name c.in_ok-answer.answer.reply o.reply c.in_ok-answer.answer.sync o.sync (sym line) is.reply is.sync in
     let e = tried_waits (described c.args.engine.now.desc) now c.args.name c.args.verb o (ap is_waits (sym is.reply) ∙ sym c.is_waits.ensures ∙ c.if-not-is_waits.false) in
     let few : length now.held < 10000 = omega (arith, ap length same, c.if-len-ge-HELD_LINES.false, c.len.ensures, c.args.held.now.ok.0) in
@@ -104,7 +104,7 @@ returns-in_err-push-clause-part g c = λ now stands same line room.
     let did = c.in_ok-answer.ensures.step now.session stands (omega (arith, room)) in
     let is = did.answers in
     let room' : (seen c.call.new.self).next + 1 < 2 ^ 64 = omega (arith, is.session.next, (step_small (described c.args.engine.now.desc) now.session c.args.name c.args.verb).high, room) in
-    let called = ran_calls _ _ _ o c.in_ok-answer.answer c.call.ensures.lasts.causes.tells c.call.ensures.mute (omega (arith, stands.next, is.session.next, step_numbers (described c.args.engine.now.desc) now.session c.args.name c.args.verb)) did in
+    let called = ran_calls _ _ o c.in_ok-answer.answer c.call.ensures.lasts.causes.tells c.call.ensures.lasts.causes.whole c.in_ok-answer.ensures.lasts.causes.cause c.call.ensures.mute (omega (arith, stands.next, is.session.next, step_numbers (described c.args.engine.now.desc) now.session c.args.name c.args.verb)) did in
     let text = says_answer c.args.line now.line c.args.name c.in_ok-answer.answer.reply o.reply c.in_ok-answer.answer.sync o.sync (sym line) is.reply is.sync in
     let e = tried_waits (described c.args.engine.now.desc) now c.args.name c.args.verb o (ap is_waits (sym is.reply) ∙ sym c.is_waits.ensures ∙ c.if-not-is_waits.false) in
     let few : length now.held < 10000 = omega (arith, ap length same, c.if-len-ge-HELD_LINES.false, c.len.ensures, c.args.held.now.ok.0) in
@@ -116,7 +116,7 @@ returns-clause-lined g c = λ now stands same line room.
     let did = c.in_ok-answer.ensures.step now.session stands (omega (arith, room)) in
     let is = did.answers in
     let room' : (seen c.call.new.self).next + 1 < 2 ^ 64 = omega (arith, is.session.next, (step_small (described c.args.engine.now.desc) now.session c.args.name c.args.verb).high, room) in
-    let called = ran_calls _ _ _ o c.in_ok-answer.answer c.call.ensures.lasts.causes.tells c.call.ensures.mute (omega (arith, stands.next, is.session.next, step_numbers (described c.args.engine.now.desc) now.session c.args.name c.args.verb)) did in
+    let called = ran_calls _ _ o c.in_ok-answer.answer c.call.ensures.lasts.causes.tells c.call.ensures.lasts.causes.whole c.in_ok-answer.ensures.lasts.causes.cause c.call.ensures.mute (omega (arith, stands.next, is.session.next, step_numbers (described c.args.engine.now.desc) now.session c.args.name c.args.verb)) did in
     let text = says_answer c.args.line now.line c.args.name c.in_ok-answer.answer.reply o.reply c.in_ok-answer.answer.sync o.sync (sym line) is.reply is.sync in
     let e = tried_waits (described c.args.engine.now.desc) now c.args.name c.args.verb o (ap is_waits (sym is.reply) ∙ sym c.is_waits.ensures ∙ c.if-not-is_waits.false) in
     let few : length now.held < 10000 = omega (arith, ap length same, c.if-len-ge-HELD_LINES.false, c.len.ensures, c.args.held.now.ok.0) in
@@ -129,7 +129,7 @@ returns-clause-part g c = λ now stands same line room.
     let did = c.in_ok-answer.ensures.step now.session stands (omega (arith, room)) in
     let is = did.answers in
     let room' : (seen c.call.new.self).next + 1 < 2 ^ 64 = omega (arith, is.session.next, (step_small (described c.args.engine.now.desc) now.session c.args.name c.args.verb).high, room) in
-    let called = ran_calls _ _ _ o c.in_ok-answer.answer c.call.ensures.lasts.causes.tells c.call.ensures.mute (omega (arith, stands.next, is.session.next, step_numbers (described c.args.engine.now.desc) now.session c.args.name c.args.verb)) did in
+    let called = ran_calls _ _ o c.in_ok-answer.answer c.call.ensures.lasts.causes.tells c.call.ensures.lasts.causes.whole c.in_ok-answer.ensures.lasts.causes.cause c.call.ensures.mute (omega (arith, stands.next, is.session.next, step_numbers (described c.args.engine.now.desc) now.session c.args.name c.args.verb)) did in
     let text = says_answer c.args.line now.line c.args.name c.in_ok-answer.answer.reply o.reply c.in_ok-answer.answer.sync o.sync (sym line) is.reply is.sync in
     let e = tried_waits (described c.args.engine.now.desc) now c.args.name c.args.verb o (ap is_waits (sym is.reply) ∙ sym c.is_waits.ensures ∙ c.if-not-is_waits.false) in
     let few : length now.held < 10000 = omega (arith, ap length same, c.if-len-ge-HELD_LINES.false, c.len.ensures, c.args.held.now.ok.0) in

@@ -16,7 +16,7 @@ use Rattle.dms_top.proofs.try_run.try_lines.Goals as goal
 
 pub returns-in-Ok-new-clause-part : goal.returns-in-Ok-new-clause-part
 returns-in-Ok-new-clause-part g c = λ told all remains.
-    let p = c.run_lines-ran.ensures.part empty_db 1 all (stands_at _ _ 1 c.in-Ok.ensures.starts.next_is (c.in-Ok-new.ensures.stands empty_db c.in-Ok.ensures.starts.db_is)) (omega arith) remains in
+    let p = (c.run_lines-ran.ensures.part empty_db 1 all (stands_at _ _ 1 c.in-Ok.ensures.starts.next_is (c.in-Ok-new.ensures.stands empty_db c.in-Ok.ensures.starts.db_is)) (omega arith) remains).text in
     front_moved _ _ _ _ (g.S.Site.said c.run_lines-ran.new.engine.store.site.now) (answers_text (described c.in-Ok-new.engine.desc) empty_db 1 (raw_lines all)) (search rules) (search rules) (ap (λ (d : Described). answers_text d empty_db 1 (raw_lines all)) (sym c.in-Ok-new.ensures.described)) (told_front g.S.Site.tells_said _ _ _ told p)
 
 pub returns-in-Ok-new-clause-answers : goal.returns-in-Ok-new-clause-answers

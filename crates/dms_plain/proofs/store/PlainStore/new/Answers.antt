@@ -16,4 +16,5 @@ returns-in-Ok-clause-starts g c = record {
   sure = refl;
   fulls = refl;
   damages = refl;
+  effort = refl;
 }

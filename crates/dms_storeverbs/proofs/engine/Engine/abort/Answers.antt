@@ -1,10 +1,13 @@
-use Rattle.std.proofs.Common.{◌≡◌, arith, true, false, refl, ap, ◌∙◌, length, map}
+use Rattle.std.proofs.Common.{◌≡◌, arith, true, false, refl, ap, ◌∙◌, length, map, rules}
 use Rattle.std.proofs.lemmas.List.{with_items_is, length-map}
 use Rattle.std.proofs.lemmas.Grind.{common_steps}
 use Rattle.std.proofs.lemmas.Option.{gets}
 use Rattle.dms_model.specs.Session.{abort_step, backed_out}
 use Rattle.dms_model.specs.declared.program.Program.{Program}
 use Rattle.dms_storeverbs.proofs.Calls.{failed, silently, unchanged}
+use Rattle.dms_block.specs.Faults.{Undamaged}
+use Rattle.dms_storeverbs.proofs.Costing.{answered_costs, backed_costs, spends_none, unbacked_costs}
+use Rattle.dms_storeverbs.specs.Costs.{is_done}
 use Rattle.dms_storeverbs.proofs.engine.Engine.abort.Goals as goal
 
 pub returns-then-not-index-clause-step : goal.returns-then-not-index-clause-step
@@ -14,7 +17,7 @@ returns-then-not-index-clause-step g c = λ p at s stands room.
     rw idle (unchanged refl c.refused.ensures.sync (record { reply = grind (arith, common_steps, gets); sync = c.refused.ensures.sync; session = stands }))
 
 pub returns-in_err-back_out-clause-step : goal.returns-in_err-back_out-clause-step
-returns-in_err-back_out-clause-step g c = λ p at s stands room. failed c.from_residual.ensures.0 c.back_out.ensures.silent s stands.next room
+returns-in_err-back_out-clause-step g c = λ p at s stands room. failed c.from_residual.ensures.0 (let u : Undamaged c.back_out.result = c.back_out.ensures.undamaged s.db stands.db in search rules) c.back_out.ensures.silent s stands.next room
 
 pub returns-clause-step : goal.returns-clause-step
 unfolding abort_step
@@ -36,3 +39,12 @@ returns-clause-step g c = λ p at s stands room.
         since = refl;
       };
     }))
+
+pub returns-then-not-index-clause-costs : goal.returns-then-not-index-clause-costs
+returns-then-not-index-clause-costs g c = answered_costs true c.refused.ensures.sync (λ is. ap is_done c.refused.ensures.reply) (spends_none _ _)
+
+pub returns-in_err-back_out-clause-costs : goal.returns-in_err-back_out-clause-costs
+returns-in_err-back_out-clause-costs g c = unbacked_costs c.from_residual.ensures.0 c.back_out.ensures.effort
+
+pub returns-clause-costs : goal.returns-clause-costs
+returns-clause-costs g c = backed_costs c.in_ok-back_out.ensures.effort c.done.ensures.sync (ap is_done c.done.ensures.reply)

@@ -1,4 +1,4 @@
-use Rattle.std.proofs.Common.{◌≡◌, ◌∙◌, ◌<◌, ℕ, List, [], true, false, not, ◌&&◌, refl, sym, ap, subst, arith, length}
+use Rattle.std.proofs.Common.{◌≡◌, ◌∙◌, ◌<◌, ℕ, List, [], true, false, not, ◌&&◌, refl, sym, ap, subst, arith, length, rules}
 use Rattle.std.specs.Prelude.{is_some}
 use Rattle.std.proofs.lemmas.Grind.{common_steps}
 use Rattle.std.proofs.lemmas.Option.{gets}
@@ -13,6 +13,8 @@ use Rattle.std.proofs.Common.{cond}
 use Rattle.dms_storeverbs.specs.Keeping.{kept_if}
 use Rattle.dms_storeverbs.proofs.Ends.{begin_refused, begin_done, begin_quiets}
 use Rattle.dms_storeverbs.proofs.Unfolds.{begin_lacks, begin_waits, begin_goes}
+use Rattle.dms_block.specs.Faults.{Undamaged}
+use Rattle.dms_storeverbs.proofs.Costing.{failed_costs, plain_costs, spends_none}
 use Rattle.dms_storeverbs.proofs.engine.Engine.begin.Goals as goal
 
 pub returns-then-index-clause-step : goal.returns-then-index-clause-step
@@ -43,7 +45,7 @@ returns-in-Some-clause-step g c = λ p at s stands room.
     did_from (begin_waits d c.args.i p s c.args.audit idle lacks (λ e. a.1 (who_is ∙ e))) (unchanged refl refl (record { reply = ap (λ (ns : List (List ℕ)). Waits ns) (a.0 ∙ who_is); sync = refl; session = stands }))
 
 pub returns-in_err-refusal-clause-step : goal.returns-in_err-refusal-clause-step
-returns-in_err-refusal-clause-step g c = λ p at s stands room. failed c.from_residual-in_err-refusal.ensures.0 c.keep_restart.ensures.silent s stands.next room
+returns-in_err-refusal-clause-step g c = λ p at s stands room. failed c.from_residual-in_err-refusal.ensures.0 (let u : Undamaged c.keep_restart.result = c.keep_restart.ensures.undamaged s.db stands.db in search rules) c.keep_restart.ensures.silent s stands.next room
 
 pub returns-in-Some-2-clause-step : goal.returns-in-Some-2-clause-step
 returns-in-Some-2-clause-step g c = λ p at s stands room.
@@ -75,3 +77,21 @@ returns-clause-step g c = λ p at s stands room.
     let kept = rw c.in_default-2.is at (c.in_ok-refusal.ensures.kept p at s stands) in
     let said = c.done.ensures in
     did_from goes (silently c.keep_restart.ensures.silent c.in_ok-refusal.ensures.points s stands.next room (begin_quiets k c.args.i s) said.sync (begin_done k c.args.i s c.index_mut.result.now c.enter.new.program c.done.result _ _ _ _ _ _ low kept c.index_mut.ensures.value c.enter.ensures said.reply said.sync))
+
+pub returns-then-index-clause-costs : goal.returns-then-index-clause-costs
+returns-then-index-clause-costs g c = plain_costs c.refused.ensures.sync (spends_none _ _)
+
+pub returns-then-lacks-clause-costs : goal.returns-then-lacks-clause-costs
+returns-then-lacks-clause-costs g c = plain_costs c.refused-then-lacks.ensures.sync (spends_none _ _)
+
+pub returns-in-Some-clause-costs : goal.returns-in-Some-clause-costs
+returns-in-Some-clause-costs g c = plain_costs refl (spends_none _ _)
+
+pub returns-in_err-refusal-clause-costs : goal.returns-in_err-refusal-clause-costs
+returns-in_err-refusal-clause-costs g c = failed_costs false c.from_residual-in_err-refusal.ensures.0 c.keep_restart.ensures.spends
+
+pub returns-in-Some-2-clause-costs : goal.returns-in-Some-2-clause-costs
+returns-in-Some-2-clause-costs g c = plain_costs c.refused-in-Some-2.ensures.sync c.keep_restart.ensures.spends
+
+pub returns-clause-costs : goal.returns-clause-costs
+returns-clause-costs g c = plain_costs c.done.ensures.sync c.keep_restart.ensures.spends

@@ -6,6 +6,7 @@ use Rattle.dms_model.specs.declared.program.Program.{Program}
 use Rattle.dms_storeverbs.proofs.Calls.{did_from, apart_did}
 use Rattle.dms_model.specs.Session.{place_of}
 use Rattle.dms_storeverbs.proofs.Unfolds.{step_opens, step_is_at, there_is}
+use Rattle.dms_storeverbs.proofs.Costing.{answered_costs, spends_none}
 use Rattle.dms_storeverbs.proofs.engine.Engine.call.Goals as goal
 
 pub returns-then-i-len-clause-step : goal.returns-then-i-len-clause-step
@@ -14,7 +15,7 @@ returns-then-i-len-clause-step g c = λ s stands room.
     let place : c.place_of-i.result ≡ place_of c.args.program.now s.programs = c.place_of-i.ensures.place ∙ ap (λ (ps : List Program). place_of c.args.program.now ps) (c.as_slice.ensures.value ∙ stands.programs) in
     let past : length c.args.self.now.programs.items ≤ c.place_of-i.result = grind (arith, common_steps) in
     let past' : length s.programs ≤ c.place_of-i.result = subst (λ (ps : List Program). length ps ≤ c.place_of-i.result) stands.programs past in
-    did_from (step_opens d s c.args.program.now c.args.verb.now c.place_of-i.result place past') (apart_did (c.in_ok-open.ensures s (sym stands.programs)) stands)
+    did_from (step_opens d s c.args.program.now c.args.verb.now c.place_of-i.result place past') (apart_did (c.in_ok-open.ensures.apart s (sym stands.programs)) stands)
 
 pub returns-in-Some-clause-step : goal.returns-in-Some-clause-step
 returns-in-Some-clause-step g c = λ s stands room.
@@ -36,3 +37,9 @@ returns-clause-step g c = λ s stands room.
     let at' : slice_get s.programs c.place_of-i.result ≡ Some there.0 = subst (λ (ps : List Program). slice_get ps c.place_of-i.result ≡ Some there.0) stands.programs there.1 in
     let goes = step_is_at d s c.args.program.now c.args.verb.now c.place_of-i.result there.0 place at' in
     did_from (goes ∙ admits.1 s) (c.verb.ensures.step there.0 there' s (record { db = stands.db; mark = stands.mark; next = stands.next; programs = admits.0 ∙ stands.programs; pending = stands.pending; since = stands.since }) room)
+
+pub returns-then-i-len-clause-costs : goal.returns-then-i-len-clause-costs
+returns-then-i-len-clause-costs g c = answered_costs _ c.in_ok-open.ensures.unsynced (λ is. c.in_ok-open.ensures.no_back_out is) (spends_none _ _)
+
+pub returns-in-Some-clause-costs : goal.returns-in-Some-clause-costs
+returns-in-Some-clause-costs g c = answered_costs _ c.in-Some.ensures.refused.0 (λ is. c.in-Some.ensures.refused.1) (spends_none _ _)

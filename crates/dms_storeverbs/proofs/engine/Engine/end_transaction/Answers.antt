@@ -1,4 +1,4 @@
-use Rattle.std.proofs.Common.{◌≡◌, ◌∙◌, ◌<◌, List, true, false, ◌||◌, nat_le, refl, sym, subst, arith, length}
+use Rattle.std.proofs.Common.{◌≡◌, ◌∙◌, ◌<◌, List, true, false, ◌||◌, nat_le, refl, sym, subst, arith, length, rules}
 use Rattle.std.proofs.lemmas.Grind.{common_steps}
 use Rattle.std.proofs.lemmas.Option.{gets}
 use Rattle.dms_desc.specs.Shape.{described}
@@ -9,6 +9,8 @@ use Rattle.dms_storeverbs.specs.View.{Did, seen, view}
 use Rattle.dms_storeverbs.specs.Keeping.{kept_if}
 use Rattle.dms_storeverbs.proofs.Ends.{end_refused, end_refused_quiets, end_goes}
 use Rattle.dms_storeverbs.proofs.Unfolds.{end_step_goes, end_outside}
+use Rattle.dms_block.specs.Faults.{Undamaged}
+use Rattle.dms_storeverbs.proofs.Costing.{failed_costs, plain_costs, spends_none, then_costs}
 use Rattle.dms_storeverbs.proofs.engine.Engine.end_transaction.Goals as goal
 
 pub returns-then-not-index-clause-step : goal.returns-then-not-index-clause-step
@@ -17,7 +19,7 @@ returns-then-not-index-clause-step g c = λ p at s stands room.
     did_from (end_outside (described c.args.self.now.desc) c.args.i p s c.args.audit c.args.sync idle) (unchanged refl c.refused.ensures.sync (record { reply = grind (arith, common_steps, gets); sync = c.refused.ensures.sync; session = stands }))
 
 pub returns-in_err-refusal-clause-step : goal.returns-in_err-refusal-clause-step
-returns-in_err-refusal-clause-step g c = λ p at s stands room. failed c.from_residual.ensures.0 c.keep_restart.ensures.silent s stands.next room
+returns-in_err-refusal-clause-step g c = λ p at s stands room. failed c.from_residual.ensures.0 (let u : Undamaged c.keep_restart.result = c.keep_restart.ensures.undamaged s.db stands.db in search rules) c.keep_restart.ensures.silent s stands.next room
 
 pub returns-in-Some-clause-step : goal.returns-in-Some-clause-step
 returns-in-Some-clause-step g c = λ p at s stands room.
@@ -39,4 +41,16 @@ returns-clause-step g c = λ p at s stands room.
     let descr = c.keep_restart.ensures.lasts.description in
     let due = c.is_due-self.ensures ∙ (λ j. c.keep_restart.new.self.pending || c.args.sync || nat_le (descr j).syncpoint (c.one_more-self.ensures j)) in
     did_from goes (end_goes (λ (o : Outcome). Did o (seen c.args.self.now) (seen c.settle.new.self) (view c.settle.new.self) c.settle.result) (kept_if c.args.audit d p s.db) d c.args.i s c.args.sync c.index_mut.result.now c.leave.new.program _ _ _ _ c.one_more-self.result _ _ c.is_due-self.result low kept c.index_mut.ensures.value c.leave.ensures
-    (λ t pend sinc nxt st. then_did c.keep_restart.ensures.silent c.in_ok-refusal.ensures.points s stands.next room c.keep_restart.ensures.lasts.causes.tells (c.settle.ensures.step t (st (due ∙ sym pend) (c.one_more-self.ensures ∙ sym sinc)) (omega (arith, nxt, room)))))
+    (λ t pend sinc nxt st. then_did c.keep_restart.ensures.lasts.causes.whole c.keep_restart.ensures.silent c.in_ok-refusal.ensures.points s stands.next room c.keep_restart.ensures.lasts.causes.tells (c.settle.ensures.step t (st (due ∙ sym pend) (c.one_more-self.ensures ∙ sym sinc)) (omega (arith, nxt, room)))))
+
+pub returns-then-not-index-clause-costs : goal.returns-then-not-index-clause-costs
+returns-then-not-index-clause-costs g c = plain_costs c.refused.ensures.sync (spends_none _ _)
+
+pub returns-in_err-refusal-clause-costs : goal.returns-in_err-refusal-clause-costs
+returns-in_err-refusal-clause-costs g c = failed_costs false c.from_residual.ensures.0 c.keep_restart.ensures.spends
+
+pub returns-in-Some-clause-costs : goal.returns-in-Some-clause-costs
+returns-in-Some-clause-costs g c = plain_costs c.refused-in-Some.ensures.sync c.keep_restart.ensures.spends
+
+pub returns-clause-costs : goal.returns-clause-costs
+returns-clause-costs g c = then_costs c.keep_restart.ensures.spends c.settle.ensures.costs

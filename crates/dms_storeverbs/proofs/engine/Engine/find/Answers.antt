@@ -1,4 +1,4 @@
-use Rattle.std.proofs.Common.{◌≡◌, ◌∙◌, ℕ, List, refl, sym, ap, get_or}
+use Rattle.std.proofs.Common.{false, ◌≡◌, ◌∙◌, ℕ, List, refl, sym, ap, get_or, rules}
 use Rattle.std.specs.Prelude.{slice_set}
 use Rattle.std.proofs.lemmas.Option.{get_or_from_slice_get}
 use Rattle.dms_desc.specs.Shape.{described}
@@ -9,10 +9,12 @@ use Rattle.dms_model.specs.declared.reply.Reply.TheVariants.{Exception}
 use Rattle.dms_model.specs.Members.{name_of, structure_of}
 use Rattle.dms_model.specs.Session.{found_program, carried, set_of, path_of}
 use Rattle.dms_storeverbs.proofs.Unfolds.{find_none, find_some}
+use Rattle.dms_block.specs.Faults.{Undamaged}
+use Rattle.dms_storeverbs.proofs.Costing.{failed_costs, plain_costs, spends_same}
 use Rattle.dms_storeverbs.proofs.engine.Engine.find.Goals as goal
 
 pub returns-in_err-spot-clause-step : goal.returns-in_err-spot-clause-step
-returns-in_err-spot-clause-step g c = λ p at s stands room. failed c.from_residual.ensures.0 c.found.ensures.silent s stands.next room
+returns-in_err-spot-clause-step g c = λ p at s stands room. failed c.from_residual.ensures.0 (let u : Undamaged c.found.result = c.found.ensures.undamaged s.db stands.db in search rules) c.found.ensures.silent s stands.next room
 
 pub returns-in_default-clause-step : goal.returns-in_default-clause-step
 returns-in_default-clause-step g c = λ p at s stands room.
@@ -29,3 +31,12 @@ returns-clause-step g c = λ p at s stands room.
     let set_is : c.set_of-set.result ≡ set_of d (path_of c.args.path.now) = c.set_of-set.ensures ∙ ap (λ (x : ℕ). set_of d x) c.path_of-x.ensures in
     let y_is : c.find.new.program ≡ carried (found_program p (set_of d (path_of c.args.path.now)) c.in-Some.spot) = c.find.ensures ∙ (λ j. carried (found_program (x_is j) (set_is j) c.in-Some.spot)) in
     did_from some (silently c.found.ensures.silent c.in_ok-spot.ensures.points s stands.next room refl c.done.ensures.sync (record { reply = c.done.ensures.reply; sync = c.done.ensures.sync; session = record { db = st.db; mark = st.mark; next = st.next; programs = (λ j. slice_set (st.programs j) c.args.i (y_is j)); pending = st.pending; since = st.since } }))
+
+pub returns-in_err-spot-clause-costs : goal.returns-in_err-spot-clause-costs
+returns-in_err-spot-clause-costs g c = failed_costs false c.from_residual.ensures.0 (spends_same _ c.found.ensures.effort)
+
+pub returns-in_default-clause-costs : goal.returns-in_default-clause-costs
+returns-in_default-clause-costs g c = plain_costs c.refused.ensures.sync (spends_same _ c.found.ensures.effort)
+
+pub returns-clause-costs : goal.returns-clause-costs
+returns-clause-costs g c = plain_costs c.done.ensures.sync (spends_same _ c.found.ensures.effort)

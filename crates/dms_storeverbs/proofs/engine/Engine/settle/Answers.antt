@@ -1,9 +1,11 @@
-use Rattle.std.proofs.Common.{◌≡◌, ◌+◌, ◌<◌, ◌^◌, sym, subst, arith, false, rules}
+use Rattle.std.proofs.Common.{◌≡◌, ◌+◌, ◌<◌, ◌^◌, ◌∙◌, sym, refl, subst, arith, false, rules}
 use Rattle.std.specs.Prelude.{IsTrue}
 use Rattle.std.proofs.lemmas.Grind.{common_steps}
 use Rattle.std.proofs.lemmas.Option.{gets}
 use Rattle.dms_model.specs.Session.{settle, someone_works}
 use Rattle.dms_storeverbs.proofs.Calls.{if_err, quieted, synced, told_known, settled_quiets}
+use Rattle.dms_block.specs.Faults.{Undamaged}
+use Rattle.dms_storeverbs.proofs.Costing.{failed_costs, plain_costs, spends_none, spends_same, synced_costs, unsynced_costs}
 use Rattle.dms_storeverbs.proofs.engine.Engine.settle.Goals as goal
 
 pub returns-in_err-number-clause-step : goal.returns-in_err-number-clause-step
@@ -15,7 +17,8 @@ returns-in_err-number-clause-step g c = λ s stands room.
     record {
       answers = if_err _ _ c.from_residual.ensures.0;
       made = λ tells. if_err _ _ c.from_residual.ensures.0;
-      leaves = λ tells. quieted here (s.next, s.db) (told_known here _ _ s (g.met.St.Store.agrees c.args.self.now.store c.requires.sound tells r).here stands.next stands.db) (settle s).quiets is (c.quiet.ensures.leaves tells r);
+      undamaged = let u : Undamaged c.quiet.result = c.quiet.ensures.undamaged s.db stands.db in search rules;
+      leaves = λ tells. quieted here (s.next, s.db) (told_known (g.St.Store.seen c.args.self.now.store) s (g.met.St.Store.agrees c.args.self.now.store c.requires.sound) stands.next stands.db) (settle s).quiets is (c.quiet.ensures.leaves tells r);
     }
 
 pub returns-then-not-self-clause-step : goal.returns-then-not-self-clause-step
@@ -28,7 +31,8 @@ returns-then-not-self-clause-step g c = λ s stands room.
     record {
       answers = grind (arith, common_steps, gets);
       made = λ tells. search rules;
-      leaves = λ tells. quieted here (s.next, s.db) (told_known here _ _ s (g.met.St.Store.agrees c.args.self.now.store c.requires.sound tells r).here stands.next stands.db) (settle s).quiets is (c.quiet.ensures.leaves tells r);
+      undamaged = tt;
+      leaves = λ tells. quieted here (s.next, s.db) (told_known (g.St.Store.seen c.args.self.now.store) s (g.met.St.Store.agrees c.args.self.now.store c.requires.sound) stands.next stands.db) (settle s).quiets is (c.quiet.ensures.leaves tells r);
     }
 
 pub returns-in_err-sync-clause-step : goal.returns-in_err-sync-clause-step
@@ -40,7 +44,8 @@ returns-in_err-sync-clause-step g c = λ s stands room.
     record {
       answers = if_err _ _ c.from_residual-in_err-sync.ensures.0;
       made = λ tells. if_err _ _ c.from_residual-in_err-sync.ensures.0;
-      leaves = λ tells. synced here (s.next, s.db) (told_known here _ _ s (g.met.St.Store.agrees c.args.self.now.store c.requires.sound tells r).here stands.next stands.db) (settle s).quiets is (c.quiet.ensures.leaves tells r) (c.in_ok-number.ensures.made.points tells r) (omega (arith, c.in_ok-number.ensures.made.next r)) c.quiet.ensures.mute.said (c.sync.ensures.silent.leaves (c.quiet.ensures.causes.tells tells) (omega (arith, c.in_ok-number.ensures.made.next r, stands.next, room)));
+      undamaged = let u : Undamaged c.sync.result = c.sync.ensures.undamaged s.db (c.in_ok-number.ensures.made.db r ∙ stands.db) in search rules;
+      leaves = λ tells. synced here (s.next, s.db) (told_known (g.St.Store.seen c.args.self.now.store) s (g.met.St.Store.agrees c.args.self.now.store c.requires.sound) stands.next stands.db) (settle s).quiets is c.quiet.ensures.causes.whole (c.quiet.ensures.leaves tells r) (c.in_ok-number.ensures.made.points tells r) (omega (arith, c.in_ok-number.ensures.made.next r)) c.quiet.ensures.mute.said (c.sync.ensures.silent.leaves (c.quiet.ensures.causes.tells tells) (omega (arith, c.in_ok-number.ensures.made.next r, stands.next, room)));
     }
 
 pub returns-clause-step : goal.returns-clause-step
@@ -53,5 +58,21 @@ returns-clause-step g c = λ s stands room.
     record {
       answers = grind (arith, common_steps, gets);
       made = λ tells. search rules;
-      leaves = λ tells. synced here (s.next, s.db) (told_known here _ _ s (g.met.St.Store.agrees c.args.self.now.store c.requires.sound tells r).here stands.next stands.db) (settle s).quiets is (c.quiet.ensures.leaves tells r) (c.in_ok-number.ensures.made.points tells r) (omega (arith, c.in_ok-number.ensures.made.next r)) c.quiet.ensures.mute.said (c.sync.ensures.silent.leaves (c.quiet.ensures.causes.tells tells) (omega (arith, c.in_ok-number.ensures.made.next r, stands.next, room)));
+      undamaged = tt;
+      leaves = λ tells. synced here (s.next, s.db) (told_known (g.St.Store.seen c.args.self.now.store) s (g.met.St.Store.agrees c.args.self.now.store c.requires.sound) stands.next stands.db) (settle s).quiets is c.quiet.ensures.causes.whole (c.quiet.ensures.leaves tells r) (c.in_ok-number.ensures.made.points tells r) (omega (arith, c.in_ok-number.ensures.made.next r)) c.quiet.ensures.mute.said (c.sync.ensures.silent.leaves (c.quiet.ensures.causes.tells tells) (omega (arith, c.in_ok-number.ensures.made.next r, stands.next, room)));
     }
+
+pub returns-then-someone_works-clause-costs : goal.returns-then-someone_works-clause-costs
+returns-then-someone_works-clause-costs g c = plain_costs c.done.ensures.sync (spends_none _ _)
+
+pub returns-in_err-number-clause-costs : goal.returns-in_err-number-clause-costs
+returns-in_err-number-clause-costs g c = failed_costs false c.from_residual.ensures.0 (spends_same _ c.quiet.ensures.effort)
+
+pub returns-then-not-self-clause-costs : goal.returns-then-not-self-clause-costs
+returns-then-not-self-clause-costs g c = plain_costs c.done-then-not-self.ensures.sync (spends_same _ c.quiet.ensures.effort)
+
+pub returns-in_err-sync-clause-costs : goal.returns-in_err-sync-clause-costs
+returns-in_err-sync-clause-costs g c = unsynced_costs c.from_residual-in_err-sync.ensures.0 c.quiet.ensures.effort c.sync.ensures.effort
+
+pub returns-clause-costs : goal.returns-clause-costs
+returns-clause-costs g c = synced_costs c.quiet.ensures.effort c.in_ok-sync.ensures.effort refl

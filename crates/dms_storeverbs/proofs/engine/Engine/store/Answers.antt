@@ -1,4 +1,4 @@
-use Rattle.std.proofs.Common.{◌≡◌, ◌<◌, List, true, false, refl, subst, arith, length}
+use Rattle.std.proofs.Common.{◌≡◌, ◌<◌, List, true, false, refl, subst, arith, length, rules}
 use Rattle.std.proofs.lemmas.Grind.{common_steps}
 use Rattle.std.proofs.lemmas.Option.{gets}
 use Rattle.dms_desc.specs.Shape.{described}
@@ -7,6 +7,8 @@ use Rattle.dms_storeverbs.proofs.Calls.{did_from, failed, silently, unchanged}
 use Rattle.dms_model.specs.Session.{keep, store_step}
 use Rattle.dms_storeverbs.proofs.Ends.{store_refused, store_done, store_quiets}
 use Rattle.dms_storeverbs.proofs.Unfolds.{store_goes}
+use Rattle.dms_block.specs.Faults.{Undamaged}
+use Rattle.dms_storeverbs.proofs.Costing.{failed_costs, plain_costs, spends_none}
 use Rattle.dms_storeverbs.proofs.engine.Engine.store.Goals as goal
 
 pub returns-then-not-index-clause-step : goal.returns-then-not-index-clause-step
@@ -16,7 +18,7 @@ returns-then-not-index-clause-step g c = λ p at s stands room.
     rw idle (unchanged refl c.refused.ensures.sync (record { reply = grind (arith, common_steps, gets); sync = c.refused.ensures.sync; session = stands }))
 
 pub returns-in_err-refusal-clause-step : goal.returns-in_err-refusal-clause-step
-returns-in_err-refusal-clause-step g c = λ p at s stands room. failed c.from_residual.ensures.0 c.keep.ensures.silent s stands.next room
+returns-in_err-refusal-clause-step g c = λ p at s stands room. failed c.from_residual.ensures.0 (let u : Undamaged c.keep.result = c.keep.ensures.undamaged s.db stands.db in search rules) c.keep.ensures.silent s stands.next room
 
 pub returns-in-Some-clause-step : goal.returns-in-Some-clause-step
 returns-in-Some-clause-step g c = λ p at s stands room.
@@ -34,3 +36,15 @@ returns-clause-step g c = λ p at s stands room.
     let kept = rw c.in_default.is at (c.in_ok-refusal.ensures.kept p at s stands) in
     let said = c.done.ensures in
     did_from (store_goes _ c.args.i p s c.args.set works) (silently c.keep.ensures.silent c.in_ok-refusal.ensures.points s stands.next room (store_quiets k c.args.i s) said.sync (store_done k c.args.i s c.index_mut.result.now _ c.done.result _ _ _ _ _ _ low kept c.index_mut.ensures.value refl said.reply said.sync))
+
+pub returns-then-not-index-clause-costs : goal.returns-then-not-index-clause-costs
+returns-then-not-index-clause-costs g c = plain_costs c.refused.ensures.sync (spends_none _ _)
+
+pub returns-in_err-refusal-clause-costs : goal.returns-in_err-refusal-clause-costs
+returns-in_err-refusal-clause-costs g c = failed_costs false c.from_residual.ensures.0 c.keep.ensures.spends
+
+pub returns-in-Some-clause-costs : goal.returns-in-Some-clause-costs
+returns-in-Some-clause-costs g c = plain_costs c.refused-in-Some.ensures.sync c.keep.ensures.spends
+
+pub returns-clause-costs : goal.returns-clause-costs
+returns-clause-costs g c = plain_costs c.done.ensures.sync c.keep.ensures.spends

@@ -4,23 +4,24 @@ use Rattle.std.proofs.lemmas.Option.{gets}
 use Rattle.dms_base.specs.declared.category.Category.TheVariants.{OpenError}
 use Rattle.dms_storeverbs.proofs.Calls.{apart_did, unchanged}
 use Rattle.dms_model.specs.Session.{verb_step, refuse}
+use Rattle.dms_storeverbs.proofs.Costing.{plain_costs, spends_none}
 use Rattle.dms_storeverbs.proofs.engine.Engine.verb.Goals as goal
 
 pub returns-in_ok-close-in-Close-clause-step : goal.returns-in_ok-close-in-Close-clause-step
 unfolding verb_step
-returns-in_ok-close-in-Close-clause-step g c = λ p at s stands room. rw c.in-Close.is (apart_did (c.in_ok-close-in-Close.ensures p at s (sym stands.programs)) stands)
+returns-in_ok-close-in-Close-clause-step g c = λ p at s stands room. rw c.in-Close.is (apart_did (c.in_ok-close-in-Close.ensures.apart p at s (sym stands.programs)) stands)
 
 pub returns-in_ok-create-in-Create-clause-step : goal.returns-in_ok-create-in-Create-clause-step
 unfolding verb_step
-returns-in_ok-create-in-Create-clause-step g c = λ p at s stands room. rw c.in-Create.is (apart_did (c.in_ok-create-in-Create.ensures p at s (sym stands.programs)) stands)
+returns-in_ok-create-in-Create-clause-step g c = λ p at s stands room. rw c.in-Create.is (apart_did (c.in_ok-create-in-Create.ensures.apart p at s (sym stands.programs)) stands)
 
 pub returns-in_ok-put-in-Put-clause-step : goal.returns-in_ok-put-in-Put-clause-step
 unfolding verb_step
-returns-in_ok-put-in-Put-clause-step g c = λ p at s stands room. rw c.in-Put.is (apart_did (c.in_ok-put-in-Put.ensures p at s (sym stands.programs)) stands)
+returns-in_ok-put-in-Put-clause-step g c = λ p at s stands room. rw c.in-Put.is (apart_did (c.in_ok-put-in-Put.ensures.apart p at s (sym stands.programs)) stands)
 
 pub returns-in_ok-get-in-Get-clause-step : goal.returns-in_ok-get-in-Get-clause-step
 unfolding verb_step
-returns-in_ok-get-in-Get-clause-step g c = λ p at s stands room. rw c.in-Get.is (apart_did (c.in_ok-get-in-Get.ensures p at s (sym stands.programs)) stands)
+returns-in_ok-get-in-Get-clause-step g c = λ p at s stands room. rw c.in-Get.is (apart_did (c.in_ok-get-in-Get.ensures.apart p at s (sym stands.programs)) stands)
 
 pub returns-in-Find-clause-step : goal.returns-in-Find-clause-step
 unfolding verb_step
@@ -47,3 +48,35 @@ unfolding verb_step
 returns-in-OpenUpdate-clause-step g c = λ p at s stands room.
     let did = unchanged {o = refuse s OpenError p.name} refl c.refused.ensures.sync (record { reply = grind (arith, common_steps, gets); sync = c.refused.ensures.sync; session = stands }) in
     ⊎_elim (λ e. rw e did) (λ e. rw e did) c.in-OpenUpdate.is
+
+pub returns-in_ok-close-in-Close-clause-costs : goal.returns-in_ok-close-in-Close-clause-costs
+returns-in_ok-close-in-Close-clause-costs g c = rw c.in-Close.is (plain_costs c.in_ok-close-in-Close.ensures.unsynced (spends_none _ _))
+
+pub returns-in_ok-create-in-Create-clause-costs : goal.returns-in_ok-create-in-Create-clause-costs
+returns-in_ok-create-in-Create-clause-costs g c = rw c.in-Create.is (plain_costs c.in_ok-create-in-Create.ensures.unsynced (spends_none _ _))
+
+pub returns-in_ok-put-in-Put-clause-costs : goal.returns-in_ok-put-in-Put-clause-costs
+returns-in_ok-put-in-Put-clause-costs g c = rw c.in-Put.is (plain_costs c.in_ok-put-in-Put.ensures.unsynced (spends_none _ _))
+
+pub returns-in_ok-get-in-Get-clause-costs : goal.returns-in_ok-get-in-Get-clause-costs
+returns-in_ok-get-in-Get-clause-costs g c = rw c.in-Get.is (plain_costs c.in_ok-get-in-Get.ensures.unsynced (spends_none _ _))
+
+pub returns-in-Find-clause-costs : goal.returns-in-Find-clause-costs
+returns-in-Find-clause-costs g c = rw c.in-Find.is c.find.ensures.costs
+
+pub returns-in-Store-clause-costs : goal.returns-in-Store-clause-costs
+returns-in-Store-clause-costs g c = rw c.in-Store.is c.store.ensures.costs
+
+pub returns-in-Begin-clause-costs : goal.returns-in-Begin-clause-costs
+returns-in-Begin-clause-costs g c = rw c.in-Begin.is c.begin.ensures.costs
+
+pub returns-in-End-clause-costs : goal.returns-in-End-clause-costs
+returns-in-End-clause-costs g c = rw c.in-End.is c.end_transaction.ensures.costs
+
+pub returns-in-Abort-clause-costs : goal.returns-in-Abort-clause-costs
+returns-in-Abort-clause-costs g c = rw c.in-Abort.is c.abort.ensures.costs
+
+pub returns-in-OpenUpdate-clause-costs : goal.returns-in-OpenUpdate-clause-costs
+returns-in-OpenUpdate-clause-costs g c =
+    let costs = plain_costs c.refused.ensures.sync (spends_none 0 (g.St.Store.seen c.args.self.now.store).effort) in
+    ⊎_elim (λ e. rw e costs) (λ e. rw e costs) c.in-OpenUpdate.is

@@ -1,0 +1,65 @@
+-- What a call of the engine costs its store.
+use Rattle.std.specs.Prelude.{ℕ, ◌≡◌, ◌≤◌, ◌+◌, ◌*◌, Bool, true, false, not, ◌&&◌, length, is_some, IfOk, if◌then◌else◌}
+use Rattle.std.specs.declared.result.Result.{Result}
+use Rattle.dms_block.specs.declared.block_fault.BlockFault.{BlockFault}
+use Rattle.dms_desc.specs.Shape.{Described}
+use Rattle.dms_model.specs.declared.reply.Answer.{Answer}
+use Rattle.dms_model.specs.declared.reply.Reply.{Reply}
+use Rattle.dms_model.specs.declared.reply.Reply.TheVariants.{Done, Exception, Waits}
+use Rattle.dms_model.specs.declared.verb.Verb.{Verb}
+use Rattle.dms_model.specs.declared.verb.Verb.TheVariants.{OpenUpdate, OpenInquiry, Close, Find, Create, Put, Get, Store, Begin, End, Abort}
+use Rattle.dms_model.specs.Seen.{Effort, IsUpToOne, one_up}
+
+abbrev pub is_done : Reply → Bool
+is_done (Done text) = true
+is_done (Exception category name) = false
+is_done (Waits names) = false
+
+-- the verbs that may store a record: STORE, and BEGIN and END with AUDIT
+abbrev pub stores : Verb → Bool
+stores OpenUpdate = false
+stores OpenInquiry = false
+stores Close = false
+stores (Find path) = false
+stores (Create set) = false
+stores (Put set settings) = false
+stores (Get set items) = false
+stores (Store set) = true
+stores (Begin audit) = audit
+stores (End audit sync) = audit
+stores Abort = false
+
+-- END-TRANSACTION NO-AUDIT, with SYNC or without, takes no memory
+abbrev pub takes_none : Verb → Bool
+takes_none OpenUpdate = false
+takes_none OpenInquiry = false
+takes_none Close = false
+takes_none (Find path) = false
+takes_none (Create set) = false
+takes_none (Put set settings) = false
+takes_none (Get set items) = false
+takes_none (Store set) = false
+takes_none (Begin audit) = false
+takes_none (End audit sync) = not audit
+takes_none Abort = false
+
+-- at most 64 blocks of each structure are changed for the one record that is stored, and none where none is
+abbrev pub limit_if : Bool → Described → ℕ
+limit_if record_too desc = if record_too then 64 * length desc.structures else 0
+
+abbrev pub block_limit : Described → Verb → ℕ
+block_limit desc verb = limit_if (stores verb) desc
+
+-- one more where it is so
+abbrev pub up_if : Bool → ℕ → ℕ
+up_if true n = one_up n
+up_if false n = n
+
+-- At most so many blocks are changed. Quiet points are made durable exactly where a syncpoint is answered, once; and the store
+-- goes back exactly where a back-out was asked for and is done, once. A call that fails did each of the two once at most.
+pub record Costs (blocks : ℕ) (backs : Bool) (result : Result Answer BlockFault) (old new : Effort) : Type 0 where
+  pub spent : new.spent ≤ old.spent + blocks
+  pub syncs : IfOk result (λ a. new.syncs ≡ up_if (is_some a.sync) old.syncs)
+  pub outs : IfOk result (λ a. new.outs ≡ up_if (backs && is_done a.reply) old.outs)
+  pub few_syncs : IsUpToOne old.syncs new.syncs
+  pub few_outs : IsUpToOne old.outs new.outs
