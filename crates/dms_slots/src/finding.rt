@@ -58,7 +58,8 @@ fn used_in<B: Blocks>(b: &mut Overlay<B>, alloc: Global, s: &Structure, block: u
 
 // A number, where it isn't above POPULATION.
 fn within(s: &Structure, number: u64) -> Option<u64>
-    ensures { result ≡ within s.now.population number }
+    ensures is { result ≡ within s.now.population number }
+    ensures some { IfSome result (λ n. (n ≡ number) × (n ≤ s.now.population)) }
 {
     if number <= u64::from(s.population) {
         return Some(number);
@@ -73,6 +74,7 @@ pub fn take_least<B: Blocks>(b: &mut Overlay<B>, alloc: Global, s: &Structure) -
     requires few { length s.now.items ≤ 60 }
     requires fits { slot_width s.now.items ≤ 1024 }
     ensures least { IfOk result (λ o. IsTrue (under b.old).told → o ≡ least_free (shape_of s.now) (seen b.old (file_of s.now.number))) }
+    ensures place { IfOk result (λ o. IfSome o (λ n. (1 ≤ n) × (n ≤ s.now.population) × (block_of s.now.items n ≤ seen_counts b.old (file_of s.now.number)))) }
     ensures reads { Reads (seen_counts b.old (file_of s.now.number)) result b.old b.new }
     ensures causes { HasCausesOr (BadBlock (under b.old).told (shape_of s.now) (file_of s.now.number) (seen b.old (file_of s.now.number))) result (under b.old) (under b.new) }
 {
