@@ -1,2 +1,4 @@
+pub mod Seen
 pub mod SlotBlockLaws
 pub mod SlotBlocks
+pub mod Written

@@ -1,6 +1,6 @@
 -- The slots of a file by its blocks.
 use Rattle.std.proofs.Common.{◌≡◌, ◌+◌, ◌-◌, ◌*◌, ◌/◌, ◌%◌, ◌<◌, ◌≤◌, ℕ, zero, suc, List, [], ◌∷◌, ◌++◌, flat_map, Bool, true, false, refl, sym, ap, ◌∙◌, subst, length, take, drop, replicate, get_or, slice_get, arith, add-one}
-use Rattle.std.specs.Prelude.{◌&&◌, IsTrue}
+use Rattle.std.specs.Prelude.{◌&&◌, IsTrue, IfSome}
 use Rattle.std.specs.declared.option.Option.{Option}
 use Rattle.std.specs.declared.option.Option.TheVariants.{None, Some}
 use Rattle.std.proofs.lemmas.List.{length-replicate, drop_all, take-replicate}
@@ -86,7 +86,7 @@ pub place_bad : (s : Shape) (block : List ℕ) (p : ℕ) → p < per_block s.ite
 unfolding slots_in
 place_bad s block p low bad = sym (ap (λ b. or_free (slice_get (slots_by b s block) p)) bad ∙ ap or_free (bad_get (per_block s.items) p low))
 
-both_hold : (a b : Bool) → (a && b) ≡ true → (a ≡ true) × (b ≡ true)
+pub both_hold : (a b : Bool) → (a && b) ≡ true → (a ≡ true) × (b ≡ true)
 both_hold true b h = (refl, h)
 both_hold false b h = absurd (cc)
 
@@ -232,3 +232,16 @@ pub least_behind : (s : Shape) (bs : List (List ℕ)) (i per all : ℕ) → leng
 least_behind s bs i per all past so_far =
     let none = ap (λ l. used_first (slots_of s l)) (drop_all i bs past) in
     omega (arith, so_far, none)
+
+-- the block of the slot at a place of a block
+pub place_low : (items : List Item) (i per used n counts : ℕ) → per ≡ per_block items → 0 < per → used < per → n ≡ i * per + used + 1 → i ≤ counts → block_of items n ≤ counts
+place_low items i per used n counts e some low is le =
+    let before : n - 1 ≡ i * per + used = omega (arith, is) in
+    let none : used / per ≡ 0 = nat.div-eq_of_lt low in
+    let parts : (i * per + used) / per ≡ i + used / per = nat.mul-add-div_right some i used in
+    let at : block_of items n ≡ (i * per + used) / per = ap (λ (k : ℕ). (n - 1) / k) (sym e) ∙ ap (λ (x : ℕ). x / per) before in
+    omega (arith, at, parts, none, le)
+
+pub some_weaker : {A : Type 0} (o : Option A) (P Q : A → Type 0) → ((x : A) → P x → Q x) → IfSome o P → IfSome o Q
+some_weaker None P Q f h = h
+some_weaker (Some x) P Q f h = f x h

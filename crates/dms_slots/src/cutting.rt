@@ -89,7 +89,12 @@ pub fn is_block(alloc: Global, s: &Structure, block: &Block) -> Result<bool, Mem
 
 /// What stands at a place of a block; bad where the block is none.
 #[tactic(auto, unfolding(crate::specs::SlotBlocks::slots_in))]
-pub fn slot_in(alloc: Global, s: &Structure, block: &Block, place: usize) -> Result<SlotRead, Memory>
+pub fn slot_in(
+    alloc: Global,
+    s: &Structure,
+    block: &Block,
+    place: usize,
+) -> Result<SlotRead, Memory>
     requires few { length s.now.items ≤ 60 }
     requires place { place < per_block s.now.items }
     ensures { IfOk result (λ r. r ≡ or_free (slice_get (slots_in (shape_of s.now) block.now.0) place)) }

@@ -4,6 +4,7 @@ ghost use Rattle.dms_layout.specs.Slots.{slot_width};
 ghost use Rattle.dms_block.specs.Held.{HasCausesOr};
 ghost use Rattle.dms_block.specs.View.{Reads, seen, seen_counts, under};
 ghost use Rattle.std.specs.Prelude.{◌/◌, slice_index_or, []};
+ghost use Rattle.dms_slots.specs.Seen.{blocks_of, count_of, BadIn};
 ghost use Rattle.dms_slots.specs.SlotBlocks.{file_of, per_block, block_of, slot_at, slot_opt, slots_in, used_first, within, least_free, BadBlock};
 
 use crate::cutting::{file_of, is_block, per_block, slot_in, used_first};
@@ -14,14 +15,19 @@ use std::alloc::Global;
 
 /// What stands in the slot of a record; none where it is free or was never needed. `Damaged` where the slot's block
 /// isn't one of a data set.
-pub fn read_slot<B: Blocks>(b: &mut Overlay<B>, alloc: Global, s: &Structure, number: u64) -> Result<Option<Slot>, BlockFault>
+pub fn read_slot<B: Blocks>(
+    b: &mut Overlay<B>,
+    alloc: Global,
+    s: &Structure,
+    number: u64,
+) -> Result<Option<Slot>, BlockFault>
     requires sound { (under b.old).sound }
     requires few { length s.now.items ≤ 60 }
     requires fits { slot_width s.now.items ≤ 1024 }
     requires number { 1 ≤ number }
-    ensures slot { IfOk result (λ o. IsTrue (under b.old).told → slot_at (shape_of s.now) (seen b.old (file_of s.now.number)) number ≡ slot_opt o) }
+    ensures slot { IfOk result (λ o. IsTrue (under b.old).told → slot_at (shape_of s.now) (blocks_of (shape_of s.now) b.old) number ≡ slot_opt o) }
     ensures reads { Reads 1 result b.old b.new }
-    ensures causes { HasCausesOr (BadBlock (under b.old).told (shape_of s.now) (file_of s.now.number) (seen b.old (file_of s.now.number))) result (under b.old) (under b.new) }
+    ensures causes { HasCausesOr (BadIn (shape_of s.now) b.old) result (under b.old) (under b.new) }
 {
     let file = file_of(s);
     let per = per_block(s) as u64;
@@ -39,14 +45,19 @@ pub fn read_slot<B: Blocks>(b: &mut Overlay<B>, alloc: Global, s: &Structure, nu
 }
 
 // How many used slots stand before the first other one in a block.
-fn used_in<B: Blocks>(b: &mut Overlay<B>, alloc: Global, s: &Structure, block: u32) -> Result<usize, BlockFault>
+fn used_in<B: Blocks>(
+    b: &mut Overlay<B>,
+    alloc: Global,
+    s: &Structure,
+    block: u32,
+) -> Result<usize, BlockFault>
     requires sound { (under b.old).sound }
     requires few { length s.now.items ≤ 60 }
-    requires there { block < seen_counts b.old (file_of s.now.number) }
-    ensures used { IfOk result (λ n. IsTrue (under b.old).told → n ≡ used_first (slots_in (shape_of s.now) (slice_index_or (seen b.old (file_of s.now.number)) block []))) }
+    requires there { block < count_of (shape_of s.now) b.old }
+    ensures used { IfOk result (λ n. IsTrue (under b.old).told → n ≡ used_first (slots_in (shape_of s.now) (slice_index_or (blocks_of (shape_of s.now) b.old) block []))) }
     ensures most { IfOk result (λ n. n ≤ per_block s.now.items) }
     ensures reads { Reads 1 result b.old b.new }
-    ensures causes { HasCausesOr (BadBlock (under b.old).told (shape_of s.now) (file_of s.now.number) (seen b.old (file_of s.now.number))) result (under b.old) (under b.new) }
+    ensures causes { HasCausesOr (BadIn (shape_of s.now) b.old) result (under b.old) (under b.new) }
 {
     let file = file_of(s);
     let bytes = b.read(alloc, BlockId { file, block })?;
@@ -58,7 +69,8 @@ fn used_in<B: Blocks>(b: &mut Overlay<B>, alloc: Global, s: &Structure, block: u
 
 // A number, where it isn't above POPULATION.
 fn within(s: &Structure, number: u64) -> Option<u64>
-    ensures { result ≡ within s.now.population number }
+    ensures is { result ≡ within s.now.population number }
+    ensures some { IfSome result (λ n. (n ≡ number) × (n ≤ s.now.population)) }
 {
     if number <= u64::from(s.population) {
         return Some(number);
@@ -68,13 +80,18 @@ fn within(s: &Structure, number: u64) -> Option<u64>
 
 /// The least number that no record of the data set has; none exactly where that is above POPULATION. `Damaged` where a
 /// block before it isn't one of a data set.
-pub fn take_least<B: Blocks>(b: &mut Overlay<B>, alloc: Global, s: &Structure) -> Result<Option<u64>, BlockFault>
+pub fn take_least<B: Blocks>(
+    b: &mut Overlay<B>,
+    alloc: Global,
+    s: &Structure,
+) -> Result<Option<u64>, BlockFault>
     requires sound { (under b.old).sound }
     requires few { length s.now.items ≤ 60 }
     requires fits { slot_width s.now.items ≤ 1024 }
-    ensures least { IfOk result (λ o. IsTrue (under b.old).told → o ≡ least_free (shape_of s.now) (seen b.old (file_of s.now.number))) }
-    ensures reads { Reads (seen_counts b.old (file_of s.now.number)) result b.old b.new }
-    ensures causes { HasCausesOr (BadBlock (under b.old).told (shape_of s.now) (file_of s.now.number) (seen b.old (file_of s.now.number))) result (under b.old) (under b.new) }
+    ensures least { IfOk result (λ o. IsTrue (under b.old).told → o ≡ least_free (shape_of s.now) (blocks_of (shape_of s.now) b.old)) }
+    ensures place { IfOk result (λ o. IfSome o (λ n. (1 ≤ n) × (n ≤ s.now.population) × (block_of s.now.items n ≤ count_of (shape_of s.now) b.old))) }
+    ensures reads { Reads (count_of (shape_of s.now) b.old) result b.old b.new }
+    ensures causes { HasCausesOr (BadIn (shape_of s.now) b.old) result (under b.old) (under b.new) }
 {
     let per = per_block(s);
     let count = b.count(file_of(s));

@@ -3,8 +3,10 @@
 
 mod cutting;
 mod finding;
+mod laws;
 mod writing;
 
 pub use cutting::{file_of, is_block, per_block};
 pub use finding::{read_slot, take_least};
+pub use laws::written_law;
 pub use writing::{free_slot, write_slot};

@@ -5,6 +5,7 @@ ghost use Rattle.dms_layout.specs.Slots.{all_fit, slot_bytes, slot_width};
 ghost use Rattle.dms_block.specs.Content.{raised, with_block};
 ghost use Rattle.dms_block.specs.Held.{HasCausesOr};
 ghost use Rattle.dms_block.specs.View.{Reads, Writes, seen, seen_counts, under, written};
+ghost use Rattle.dms_slots.specs.Seen.{blocks_of, count_of, BadIn, with_slot};
 ghost use Rattle.dms_slots.specs.SlotBlocks.{file_of, block_of, place_of, is_block, block_at, BadBlock};
 
 use crate::cutting::{ahead, file_of, is_block, per_block, width_of};
@@ -30,13 +31,18 @@ fn blank() -> Block
 }
 
 // A block of the data set's file, zeros where it is new.
-fn block_at<B: Blocks>(b: &mut Overlay<B>, alloc: Global, s: &Structure, block: u32) -> Result<Block, BlockFault>
+fn block_at<B: Blocks>(
+    b: &mut Overlay<B>,
+    alloc: Global,
+    s: &Structure,
+    block: u32,
+) -> Result<Block, BlockFault>
     requires sound { (under b.old).sound }
     requires few { length s.now.items ≤ 60 }
-    ensures block { IfOk result (λ x. IsTrue (under b.old).told → x.0 ≡ block_at (seen b.old (file_of s.now.number)) block) }
-    ensures good { IfOk result (λ x. block < seen_counts b.old (file_of s.now.number) → is_block (shape_of s.now) x.0 ≡ true) }
+    ensures block { IfOk result (λ x. IsTrue (under b.old).told → x.0 ≡ block_at (blocks_of (shape_of s.now) b.old) block) }
+    ensures good { IfOk result (λ x. block < count_of (shape_of s.now) b.old → is_block (shape_of s.now) x.0 ≡ true) }
     ensures reads { Reads 1 result b.old b.new }
-    ensures causes { HasCausesOr (BadBlock (under b.old).told (shape_of s.now) (file_of s.now.number) (seen b.old (file_of s.now.number))) result (under b.old) (under b.new) }
+    ensures causes { HasCausesOr (BadIn (shape_of s.now) b.old) result (under b.old) (under b.new) }
 {
     let file = file_of(s);
     if b.count(file) <= block {
@@ -50,20 +56,26 @@ fn block_at<B: Blocks>(b: &mut Overlay<B>, alloc: Global, s: &Structure, block: 
 }
 
 // Writes the bytes of the slot of a record.
-fn write_bytes<B: Blocks>(b: &mut Overlay<B>, alloc: Global, s: &Structure, number: u64, bytes: &[u8]) -> Result<(), BlockFault>
+fn write_bytes<B: Blocks>(
+    b: &mut Overlay<B>,
+    alloc: Global,
+    s: &Structure,
+    number: u64,
+    bytes: &[u8],
+) -> Result<(), BlockFault>
     requires sound { (under b.old).sound }
     requires owned { IsTrue ((under b.old).owns (file_of s.now.number)) }
     requires few { length s.now.items ≤ 60 }
     requires fits { slot_width s.now.items ≤ 1024 }
     requires number { 1 ≤ number }
     requires most { number ≤ 1000000 }
-    requires next { block_of s.now.items number ≤ seen_counts b.old (file_of s.now.number) }
+    requires next { block_of s.now.items number ≤ count_of (shape_of s.now) b.old }
     requires long { length bytes.now ≡ slot_width s.now.items }
-    ensures seen { OnOk result (IsTrue (under b.old).told → seen b.new ≡ with_block (seen b.old) (file_of s.now.number) (block_of s.now.items number) (laid (place_of s.now.items number * slot_width s.now.items) bytes.now (block_at (seen b.old (file_of s.now.number)) (block_of s.now.items number)))) }
+    ensures seen { OnOk result (IsTrue (under b.old).told → seen b.new ≡ with_slot (shape_of s.now) number bytes.now b.old) }
     ensures counts { OnOk result (seen_counts b.new ≡ raised (seen_counts b.old) (file_of s.now.number) (block_of s.now.items number)) }
     ensures writes { Writes 1 1 result b.old b.new }
     ensures err { OnErr result (written b.new ≡ written b.old) }
-    ensures causes { HasCausesOr (BadBlock (under b.old).told (shape_of s.now) (file_of s.now.number) (seen b.old (file_of s.now.number))) result (under b.old) (under b.new) }
+    ensures causes { HasCausesOr (BadIn (shape_of s.now) b.old) result (under b.old) (under b.new) }
 {
     let per = per_block(s) as u64;
     let block = ((number - 1) / per) as u32;
@@ -81,20 +93,26 @@ fn write_bytes<B: Blocks>(b: &mut Overlay<B>, alloc: Global, s: &Structure, numb
 
 /// Writes a record's slot, over another one or into the next block of the file. `Damaged` where the slot's block isn't
 /// one of a data set. After want of memory nothing is written.
-pub fn write_slot<B: Blocks>(b: &mut Overlay<B>, alloc: Global, s: &Structure, number: u64, slot: &Slot) -> Result<(), BlockFault>
+pub fn write_slot<B: Blocks>(
+    b: &mut Overlay<B>,
+    alloc: Global,
+    s: &Structure,
+    number: u64,
+    slot: &Slot,
+) -> Result<(), BlockFault>
     requires sound { (under b.old).sound }
     requires owned { IsTrue ((under b.old).owns (file_of s.now.number)) }
     requires few { length s.now.items ≤ 60 }
     requires fits { slot_width s.now.items ≤ 1024 }
     requires number { 1 ≤ number }
     requires most { number ≤ 1000000 }
-    requires next { block_of s.now.items number ≤ seen_counts b.old (file_of s.now.number) }
+    requires next { block_of s.now.items number ≤ count_of (shape_of s.now) b.old }
     requires values { IsTrue (all_fit s.now.items slot.now.rec.values) }
-    ensures seen { OnOk result (IsTrue (under b.old).told → seen b.new ≡ with_block (seen b.old) (file_of s.now.number) (block_of s.now.items number) (laid (place_of s.now.items number * slot_width s.now.items) (slot_bytes s.now.items slot.now) (block_at (seen b.old (file_of s.now.number)) (block_of s.now.items number)))) }
+    ensures seen { OnOk result (IsTrue (under b.old).told → seen b.new ≡ with_slot (shape_of s.now) number (slot_bytes s.now.items slot.now) b.old) }
     ensures counts { OnOk result (seen_counts b.new ≡ raised (seen_counts b.old) (file_of s.now.number) (block_of s.now.items number)) }
     ensures writes { Writes 1 1 result b.old b.new }
     ensures err { OnErr result (written b.new ≡ written b.old) }
-    ensures causes { HasCausesOr (BadBlock (under b.old).told (shape_of s.now) (file_of s.now.number) (seen b.old (file_of s.now.number))) result (under b.old) (under b.new) }
+    ensures causes { HasCausesOr (BadIn (shape_of s.now) b.old) result (under b.old) (under b.new) }
 {
     let bytes = to_slot(alloc, s, slot)?;
     write_bytes(b, alloc, s, number, bytes.as_slice())
@@ -102,19 +120,24 @@ pub fn write_slot<B: Blocks>(b: &mut Overlay<B>, alloc: Global, s: &Structure, n
 
 /// Makes a record's slot free. `Damaged` where the slot's block isn't one of a data set. After want of memory nothing
 /// is written.
-pub fn free_slot<B: Blocks>(b: &mut Overlay<B>, alloc: Global, s: &Structure, number: u64) -> Result<(), BlockFault>
+pub fn free_slot<B: Blocks>(
+    b: &mut Overlay<B>,
+    alloc: Global,
+    s: &Structure,
+    number: u64,
+) -> Result<(), BlockFault>
     requires sound { (under b.old).sound }
     requires owned { IsTrue ((under b.old).owns (file_of s.now.number)) }
     requires few { length s.now.items ≤ 60 }
     requires fits { slot_width s.now.items ≤ 1024 }
     requires number { 1 ≤ number }
     requires most { number ≤ 1000000 }
-    requires next { block_of s.now.items number ≤ seen_counts b.old (file_of s.now.number) }
-    ensures seen { OnOk result (IsTrue (under b.old).told → seen b.new ≡ with_block (seen b.old) (file_of s.now.number) (block_of s.now.items number) (laid (place_of s.now.items number * slot_width s.now.items) (replicate (slot_width s.now.items) 0) (block_at (seen b.old (file_of s.now.number)) (block_of s.now.items number)))) }
+    requires next { block_of s.now.items number ≤ count_of (shape_of s.now) b.old }
+    ensures seen { OnOk result (IsTrue (under b.old).told → seen b.new ≡ with_slot (shape_of s.now) number (replicate (slot_width s.now.items) 0) b.old) }
     ensures counts { OnOk result (seen_counts b.new ≡ raised (seen_counts b.old) (file_of s.now.number) (block_of s.now.items number)) }
     ensures writes { Writes 1 1 result b.old b.new }
     ensures err { OnErr result (written b.new ≡ written b.old) }
-    ensures causes { HasCausesOr (BadBlock (under b.old).told (shape_of s.now) (file_of s.now.number) (seen b.old (file_of s.now.number))) result (under b.old) (under b.new) }
+    ensures causes { HasCausesOr (BadIn (shape_of s.now) b.old) result (under b.old) (under b.new) }
 {
     let zeros = blank();
     write_bytes(b, alloc, s, number, ahead(&zeros.0, width_of(s)))

@@ -38,14 +38,22 @@ returns-in-Used-clause-slot g c tells =
     (c.in_ok-bytes.ensures.block tells ∙ ap (λ (h : ℕ). get_or (seen b h) ((c.args.number - 1) / c.per_block-per.result) []) c.file_of-file.ensures) c.in_ok-slot_in.ensures ∙ c.in-Used.is
 
 pub returns-in-Bad-clause-causes : goal.returns-in-Bad-clause-causes
-returns-in-Bad-clause-causes g c = inr (c.in_ok-bytes.ensures.causes, (c.file_of-file.ensures, λ tells.
-    let b = c.args.b.now in
-    let f = file_of c.args.s.now.number in
-    let counted = grown_is (written b) (under b).owns (under b).counts (under b).content ((g.met.B.Blocks.agrees b.below c.requires.sound).counted tells) b.fits f in
-    let here = ap (seen_counts b) c.file_of-file.ensures in
-    let low : (c.args.number - 1) / c.per_block-per.result < length (seen b f) = omega (arith, counted, here, c.count.ensures, c.from.ensures, c.if-from-at.false) in
-    let is = c.in_ok-bytes.ensures.block tells ∙ ap (λ (h : ℕ). get_or (seen b h) ((c.args.number - 1) / c.per_block-per.result) []) c.file_of-file.ensures in
-    let some = c.per_block-per.ensures.some c.requires.fits in
-    let place : (c.args.number - 1) % c.per_block-per.result < c.per_block-per.result = nat.mod-lt (c.args.number - 1) some in
-    (low, subst (λ (l : List ℕ). is_block (shape_of c.args.s.now) l ≡ false) is
-    (bad_block (shape_of c.args.s.now) c.in_ok-bytes.bytes.0 _ (subst (λ (n : ℕ). (c.args.number - 1) % c.per_block-per.result < n) c.per_block-per.ensures.count place) (sym c.in_ok-slot_in.ensures ∙ c.in-Bad.is)))))
+returns-in-Bad-clause-causes g c = inr (
+  c.in_ok-bytes.ensures.causes,
+  (
+    c.file_of-file.ensures,
+    λ tells.
+        let b = c.args.b.now in
+        let f = file_of c.args.s.now.number in
+        let counted = grown_is (written b) (under b).owns (under b).counts (under b).content ((g.met.B.Blocks.agrees b.below c.requires.sound).counted tells) b.fits f in
+        let here = ap (seen_counts b) c.file_of-file.ensures in
+        let low : (c.args.number - 1) / c.per_block-per.result < length (seen b f) = omega (arith, counted, here, c.count.ensures, c.from.ensures, c.if-from-at.false) in
+        let is = c.in_ok-bytes.ensures.block tells ∙ ap (λ (h : ℕ). get_or (seen b h) ((c.args.number - 1) / c.per_block-per.result) []) c.file_of-file.ensures in
+        let some = c.per_block-per.ensures.some c.requires.fits in
+        let place : (c.args.number - 1) % c.per_block-per.result < c.per_block-per.result = nat.mod-lt (c.args.number - 1) some in (
+          low,
+          subst (λ (l : List ℕ). is_block (shape_of c.args.s.now) l ≡ false) is
+              (bad_block (shape_of c.args.s.now) c.in_ok-bytes.bytes.0 _ (subst (λ (n : ℕ). (c.args.number - 1) % c.per_block-per.result < n) c.per_block-per.ensures.count place) (sym c.in_ok-slot_in.ensures ∙ c.in-Bad.is)),
+        ),
+  ),
+)

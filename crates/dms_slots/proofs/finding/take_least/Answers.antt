@@ -5,7 +5,7 @@ use Rattle.dms_block.specs.Content.{Content, changed}
 use Rattle.dms_block.specs.HeldLaws.{looks_as, looks_on}
 use Rattle.dms_block.specs.View.{seen, seen_counts, under, written}
 use Rattle.dms_slots.specs.SlotBlocks.{file_of, slots_in, slots_of, used_first, within}
-use Rattle.dms_slots.specs.SlotBlockLaws.{least_on, least_here, least_behind}
+use Rattle.dms_slots.specs.SlotBlockLaws.{least_on, least_here, least_behind, place_low, some_weaker}
 use Rattle.dms_slots.proofs.finding.take_least.Goals as goal
 
 pub returns-then-used-per-clause-least : goal.returns-then-used-per-clause-least
@@ -19,7 +19,7 @@ returns-then-used-per-clause-least g c tells =
     let still : seen c.loop-i.b ≡ seen b = λ i. changed (r.written_still i) (r.looks.same.content tells i) in
     let used = c.in_ok-used.ensures.used (r.looks.passes.lasts.told tells) ∙ ap (λ (x : Content). used_first (slots_in (shape_of c.args.s.now) (get_or (x f) c.loop-i.i []))) still in
     let all = least_here (shape_of c.args.s.now) (seen b f) c.loop-i.i c.per_block-per.result c.in_ok-used.used _ low c.per_block-per.ensures.count used c.if-used-per.true (c.loop-i.invariant.used tells) in
-    c.within.ensures ∙ ap (within c.args.s.now.population) (omega (arith, all, ap (λ k. k * c.per_block-per.result) c.from.ensures))
+    c.within.ensures.is ∙ ap (within c.args.s.now.population) (omega (arith, all, ap (λ k. k * c.per_block-per.result) c.from.ensures))
 
 pub loop-i-preserved : goal.loop-i-preserved
 loop-i-preserved g c =
@@ -51,4 +51,22 @@ returns-clause-least g c tells =
     let past : length (seen b f) ≤ c.loop-i.i = omega (arith, counted, here, c.count-count.ensures, c.loop-i-test.false) in
     let all = least_behind (shape_of c.args.s.now) (seen b f) c.loop-i.i c.per_block-per.result _ past (c.loop-i.invariant.used tells) in
     let at_end : c.from-2.result ≡ c.loop-i.i = omega (arith, c.from-2.ensures, c.loop-i-test.false, c.loop-i.auto.i-end) in
-    c.within-2.ensures ∙ ap (within c.args.s.now.population) (omega (arith, all, ap (λ k. k * c.per_block-per.result) at_end))
+    c.within-2.ensures.is ∙ ap (within c.args.s.now.population) (omega (arith, all, ap (λ k. k * c.per_block-per.result) at_end))
+
+pub returns-then-used-per-clause-place : goal.returns-then-used-per-clause-place
+returns-then-used-per-clause-place g c =
+    let b = c.args.b.now in
+    let counts = seen_counts b (file_of c.args.s.now.number) in
+    let here = ap (seen_counts b) c.file_of.ensures in
+    let some : 0 < c.per_block-per.result = omega (arith, c.if-used-per.true) in
+    let le : c.from.result ≤ counts = omega (arith, here, c.count-count.ensures, c.loop-i-test.true, c.from.ensures) in
+    some_weaker c.within.result _ _ (λ n is. ((let low : 1 ≤ n = omega (arith, is.0) in low), is.1, place_low c.args.s.now.items c.from.result c.per_block-per.result c.in_ok-used.used n counts c.per_block-per.ensures.count some c.if-used-per.true is.0 le)) c.within.ensures.some
+
+pub returns-clause-place : goal.returns-clause-place
+returns-clause-place g c =
+    let b = c.args.b.now in
+    let counts = seen_counts b (file_of c.args.s.now.number) in
+    let here = ap (seen_counts b) c.file_of.ensures in
+    let some : 0 < c.per_block-per.result = c.per_block-per.ensures.some c.requires.fits in
+    let le : c.from-2.result ≤ counts = omega (arith, here, c.count-count.ensures, c.from-2.ensures) in
+    some_weaker c.within-2.result _ _ (λ n is. ((let low : 1 ≤ n = omega (arith, is.0) in low), is.1, place_low c.args.s.now.items c.from-2.result c.per_block-per.result 0 n counts c.per_block-per.ensures.count some some (let e : n ≡ c.from-2.result * c.per_block-per.result + 0 + 1 = omega (arith, is.0) in e) le)) c.within-2.ensures.some

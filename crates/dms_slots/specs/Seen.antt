@@ -1,0 +1,28 @@
+-- The file of a data set as it is seen through an overlay.
+use Rattle.std.specs.Prelude.{ℕ, ◌*◌, List}
+use Rattle.dms_desc.specs.Shape.{Shape}
+use Rattle.dms_fields.specs.Fields.{laid}
+use Rattle.dms_layout.specs.Slots.{slot_width}
+use Rattle.dms_block.specs.Content.{Content, with_block}
+use Rattle.dms_block.specs.declared.blocks.Blocks.{Ghosts}
+use Rattle.dms_block.specs.declared.overlay.Overlay.{Overlay}
+use Rattle.dms_block.specs.View.{seen, seen_counts, under}
+use Rattle.dms_slots.specs.SlotBlocks.{file_of, block_of, place_of, block_at, BadBlock}
+
+module _ {B : Type 0} {g : Ghosts B} where
+  -- its blocks
+  abbrev pub blocks_of : Shape → Overlay B g → List (List ℕ)
+  blocks_of s o = seen o (file_of s.number)
+
+  -- how many there are
+  abbrev pub count_of : Shape → Overlay B g → ℕ
+  count_of s o = seen_counts o (file_of s.number)
+
+  -- a block of it isn't one of a data set
+  abbrev pub BadIn : Shape → Overlay B g → ℕ → ℕ → Type 0
+  BadIn s o = BadBlock (under o).told s (file_of s.number) (blocks_of s o)
+
+  -- all files, with these bytes in the place of the slot of a record
+  abbrev pub with_slot : Shape → ℕ → List ℕ → Overlay B g → Content
+  with_slot s number bytes o = with_block (seen o) (file_of s.number) (block_of s.items number)
+      (laid (place_of s.items number * slot_width s.items) bytes (block_at (blocks_of s o) (block_of s.items number)))
