@@ -6,3 +6,4 @@ pub mod Held
 pub mod HeldLaws
 pub mod Texts
 pub mod View
+pub mod ViewLaws
