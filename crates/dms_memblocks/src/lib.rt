@@ -8,6 +8,3 @@ mod undo;
 
 pub use memory::MemBlocks;
 pub use undo::Undo;
-
-#[cfg(test)]
-mod tests;
