@@ -8,3 +8,6 @@ mod undo;
 
 pub use memory::MemBlocks;
 pub use undo::Undo;
+
+#[cfg(test)]
+mod tests;
