@@ -7,3 +7,4 @@ pub mod Held
 pub mod HeldLaws
 pub mod Texts
 pub mod View
+pub mod ViewLaws
