@@ -16,6 +16,7 @@ const DESCRIPTION: [u8; 62] = [
 const COUNTS: [u8; 16] = [0, 0, 0x75, 0x31, 0, 0, 0, 0, 0, 0, 0x75, 0x32, 0, 0, 0, 0];
 
 #[test]
+#[tactic(auto, unfolding(dms_audrec::specs::Reading::counts_at))]
 fn a_first_block_is_sealed_and_found(rt: HostRuntime) -> Result<(), Fail> {
     let alloc = rt.alloc();
     let mut site = MemSite::new(alloc, Vec::new(alloc), None).expect(&rt, "memory");
@@ -26,6 +27,7 @@ fn a_first_block_is_sealed_and_found(rt: HostRuntime) -> Result<(), Fail> {
         .expect(&rt, "appended");
     end.seal(&mut site).expect(&rt, "sealed");
     let file = site.bytes(10001);
+    assert!(rt; file.len() == 8192);
     assert_eq!(rt;
         &file[0..18],
         b"DMSA\0\0\0\x01\0\x08\0\0\0\0\0\0\0\x07".as_slice()
@@ -35,9 +37,8 @@ fn a_first_block_is_sealed_and_found(rt: HostRuntime) -> Result<(), Fail> {
         &file[4096..4105],
         b"\0\x68\x01\0\x01\0\x01\0\x3e".as_slice()
     );
-    assert_eq!(rt; file.len(), 8192);
     let found = AuditStart::scan(alloc, &mut site).expect(&rt, "found");
-    assert_eq!(rt; found.places.len(), 2);
+    assert!(rt; found.places.len() == 2);
     assert_eq!(rt;
         found.places[1],
         Place {
