@@ -1,7 +1,7 @@
 -- A run's faults, and those of its engine.
 use Rattle.std.proofs.Common.{◌≡◌, ◌∙◌, subst, arith}
 use Rattle.std.specs.declared.result.Result.{Result}
-use Rattle.std.specs.declared.result.Result.TheVariants.{Ok}
+use Rattle.std.specs.declared.result.Result.TheVariants.{Ok, Err}
 use Rattle.dms_block.specs.Counts.{Faults}
 use Rattle.dms_model.specs.declared.store.Store.{Ghosts}
 use Rattle.dms_storeverbs.specs.declared.engine.Engine.{Engine}
@@ -26,3 +26,7 @@ module _ {St : Type 0} {g : Ghosts St} {T : Type 0} {a b c : Engine St g} (then_
     cause = subst (λ (x : Faults). BlamedBy r x (seen c).faults) p.causes.cause q.cause;
     reads = omega (arith, p.causes.reads, q.reads);
   }
+
+-- what answered didn't fail
+pub no_fault : {T E : Type 0} (x : T) (e : E) → Ok x ≡ Err e → ⊥
+no_fault x e is = cc

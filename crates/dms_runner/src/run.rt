@@ -121,6 +121,8 @@ fn one_line<St: Store, I: Source>(
     ensures same_source { I.same_source source.old source.new }
     ensures taken { I.faults source.old ≤ I.faults source.new }
     ensures input { IsErrOf result RunFault.Input → Rose (I.faults source.old) (I.faults source.new) }
+    ensures once { I.faults source.new ≤ I.faults source.old + 1 }
+    ensures clean { (IsErrOf result RunFault.Input → ⊥) → I.faults source.new ≡ I.faults source.old }
 {
     match next_raw(alloc, feed, source, KEPT_BYTES, *room) {
         Err(RawFault::Input) => Err(RunFault::Input),
@@ -147,6 +149,8 @@ fn after_last<I: Source>(alloc: Global, feed: &mut Feed, source: &mut I) -> Resu
     ensures same_source { I.same_source source.old source.new }
     ensures taken { I.faults source.old ≤ I.faults source.new }
     ensures input { IsErrOf result RunFault.Input → Rose (I.faults source.old) (I.faults source.new) }
+    ensures once { I.faults source.new ≤ I.faults source.old + 1 }
+    ensures clean { (IsErrOf result RunFault.Input → ⊥) → I.faults source.new ≡ I.faults source.old }
     ensures block { (e : Fault) → IsErrOf result (RunFault.Block e) → ⊥ }
 {
     match next_raw(alloc, feed, source, KEPT_BYTES, 0) {
@@ -182,6 +186,8 @@ pub fn run_lines<St: Store, I: Source>(
     ensures same_source { I.same_source source.old source.new }
     ensures taken { I.faults source.old ≤ I.faults source.new }
     ensures input { IsErrOf result RunFault.Input → Rose (I.faults source.old) (I.faults source.new) }
+    ensures once { I.faults source.new ≤ I.faults source.old + 1 }
+    ensures clean { (IsErrOf result RunFault.Input → ⊥) → I.faults source.new ≡ I.faults source.old }
 {
     let mut held: Vec<Held> = Vec::new(alloc);
     let mut room = SCRIPT_BYTES;

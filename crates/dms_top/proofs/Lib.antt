@@ -1,3 +1,4 @@
+pub mod Counting
 pub mod Creating
 pub mod Cutting
 pub mod Judgements

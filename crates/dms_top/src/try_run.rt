@@ -23,21 +23,21 @@ use dms_site::{Site, Source};
 use dms_storeverbs::Engine;
 use std::alloc::Global;
 
-/// The status that a fault of a run ends with. A run over a list never answers a full audit or a damaged block.
+/// The status that a fault of a run ends with. A run over a list reads and writes no file, so it never answers a fault of
+/// the disk, a full audit or a damaged block.
 fn status_of(fault: RunFault) -> Status
     ensures ok { result ≢ Status.Ok }
     ensures words { result ≢ Status.BadWords }
     ensures schema { (f : Refusal) → result ≢ Status.SchemaRefused f }
-    ensures input { result ≡ Status.InputFault → fault ≡ RunFault.Input }
-    ensures disk { result ≡ Status.DiskFault → fault ≡ RunFault.Block BlockFault.Disk }
-    ensures say { result ≡ Status.SayFault → fault ≡ RunFault.Block BlockFault.Say }
+    ensures input { (result ≡ Status.InputFault → fault ≡ RunFault.Input) × (fault ≡ RunFault.Input → result ≡ Status.InputFault) }
+    ensures disk { result ≢ Status.DiskFault }
+    ensures say { (result ≡ Status.SayFault → fault ≡ RunFault.Block BlockFault.Say) × (fault ≡ RunFault.Block BlockFault.Say → result ≡ Status.SayFault) }
     ensures lines { result ≡ Status.Limit LimitKind.Lines → fault ≡ RunFault.Lines }
     ensures bytes { result ≡ Status.Limit LimitKind.Bytes → fault ≡ RunFault.Bytes }
     ensures held { result ≡ Status.Limit LimitKind.Held → fault ≡ RunFault.Held }
     ensures spoken { IsSilent result → ⊥ }
 {
     match fault {
-        RunFault::Block(BlockFault::Disk) => Status::DiskFault,
         RunFault::Block(BlockFault::Say) => Status::SayFault,
         RunFault::Block(_) => Status::Memory,
         RunFault::Input => Status::InputFault,
@@ -54,8 +54,10 @@ fn status_after(ran: Result<(), RunFault>) -> Status
     ensures words { result ≢ Status.BadWords }
     ensures schema { (f : Refusal) → result ≢ Status.SchemaRefused f }
     ensures input { result ≡ Status.InputFault → IsErrOf ran RunFault.Input }
-    ensures disk { result ≡ Status.DiskFault → IsErrOf ran (RunFault.Block BlockFault.Disk) }
+    ensures took { IsErrOf ran RunFault.Input → result ≡ Status.InputFault }
+    ensures disk { result ≢ Status.DiskFault }
     ensures say { result ≡ Status.SayFault → IsErrOf ran (RunFault.Block BlockFault.Say) }
+    ensures said { IsErrOf ran (RunFault.Block BlockFault.Say) → result ≡ Status.SayFault }
     ensures lines { result ≡ Status.Limit LimitKind.Lines → IsErrOf ran RunFault.Lines }
     ensures bytes { result ≡ Status.Limit LimitKind.Bytes → IsErrOf ran RunFault.Bytes }
     ensures held { result ≡ Status.Limit LimitKind.Held → IsErrOf ran RunFault.Held }

@@ -1,4 +1,4 @@
-use Rattle.dms_runner.proofs.Blames.{run_on_lasts, run_then_lasts}
+use Rattle.dms_runner.proofs.Blames.{run_on_lasts, run_then_lasts, no_fault}
 use Rattle.dms_storeverbs.proofs.Lasting.{lasts_none, lasts_on}
 use Rattle.std.proofs.Common.{◌+◌, ◌<◌, ◌^◌, ◌∙◌, ap, refl, sym, subst, Vec, Global, List, IsTrue, arith}
 use Rattle.dms_desc.specs.declared.description.Description.{Description}
@@ -19,7 +19,7 @@ use Rattle.dms_runner.proofs.run.run_lines.Goals as goal
 pub loop-line-init : goal.loop-line-init
 loop-line-init g c = record {
   lasts = lasts_none g.met.St.Store.same_again _ c.requires.sound;
-  taken = omega arith;
+  taken = refl;
   same_source = g.met.I.Source.same_again _;
   small = omega arith;
   few = omega arith;
@@ -109,7 +109,7 @@ returns-in-Ok-false-clause-same_source g c = g.met.I.Source.same_then _ _ _ c.lo
 pub loop-line-preserved : goal.loop-line-preserved
 loop-line-preserved g c = record {
   lasts = run_on_lasts g.met.St.Store.same_then c.loop-line.invariant.lasts c.in-Ok-true.ensures.lasts;
-  taken = omega (arith, c.loop-line.invariant.taken, c.one_line.ensures.taken);
+  taken = c.in-Ok-true.ensures.clean (no_fault _ _) ∙ c.loop-line.invariant.taken;
   same_source = g.met.I.Source.same_then _ _ _ c.loop-line.invariant.same_source c.one_line.ensures.same_source;
   small = omega (arith, c.loop-line.invariant.small, c.one_line.ensures.room);
   few = omega (arith, c.loop-line-test.true);

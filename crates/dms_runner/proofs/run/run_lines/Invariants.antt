@@ -11,7 +11,7 @@ use Rattle.dms_runner.proofs.run.run_lines.Given as goal
 abbrev pub invariant-loop-line : goal.invariant-loop-line
 invariant-loop-line g l = record {
   lasts : Lasted l.fn.engine l.engine;
-  taken : g.I.Source.faults l.fn.source ≤ g.I.Source.faults l.source;
+  taken : g.I.Source.faults l.source ≡ g.I.Source.faults l.fn.source;
   same_source : g.I.Source.same_source l.fn.source l.source;
   small : l.room ≤ 2147483648;
   few : l.line ≤ 1000000;

@@ -5,6 +5,7 @@ use Rattle.dms_model.specs.Db.{empty_db}
 use Rattle.dms_runner.specs.Answers.{answers_text}
 use Rattle.dms_top.specs.Answering.{Passes}
 use Rattle.dms_top.proofs.Printing.{told_front, told_prints, limits_kept, stands_at, front_moved, printed_moved, passes_moved, within_moved, on_ok}
+use Rattle.dms_top.proofs.Counting.{say_counted, counted_moved}
 use Rattle.dms_top.proofs.Cutting.{cut_moved}
 use Rattle.dms_plain.specs.Told.{told}
 use Rattle.dms_feed.specs.Feeds.{Remains}
@@ -42,3 +43,16 @@ returns-in-Ok-new-clause-limit g c = λ k is all remains.
     passes g c Lines is all remains = c.run_lines-ran.ensures.lines (c.status_after.ensures.lines is) empty_db 1 all (stands_at _ _ 1 c.in-Ok.ensures.starts.next_is (c.in-Ok-new.ensures.stands empty_db c.in-Ok.ensures.starts.db_is)) (omega arith) remains
     passes g c Bytes is all remains = c.run_lines-ran.ensures.bytes (c.status_after.ensures.bytes is) empty_db 1 all (stands_at _ _ 1 c.in-Ok.ensures.starts.next_is (c.in-Ok-new.ensures.stands empty_db c.in-Ok.ensures.starts.db_is)) (omega arith) remains
     passes g c Held is all remains = c.run_lines-ran.ensures.full_list (c.status_after.ensures.held is) empty_db 1 all (stands_at _ _ 1 c.in-Ok.ensures.starts.next_is (c.in-Ok-new.ensures.stands empty_db c.in-Ok.ensures.starts.db_is)) (omega arith) remains
+
+pub returns-in-Ok-new-clause-input : goal.returns-in-Ok-new-clause-input
+returns-in-Ok-new-clause-input g c = record {
+  later = c.run_lines-ran.ensures.taken;
+  failed = λ is. c.run_lines-ran.ensures.input (c.status_after.ensures.input is);
+  once = c.run_lines-ran.ensures.once;
+  clean = λ not_so. c.run_lines-ran.ensures.clean (λ is. not_so (c.status_after.ensures.took is));
+}
+
+pub returns-in-Ok-new-clause-say : goal.returns-in-Ok-new-clause-say
+returns-in-Ok-new-clause-say g c =
+    counted_moved _ _ _ (g.S.Site.say_faults c.in-Ok-new.engine.store.site.now) (g.S.Site.say_faults c.run_lines-ran.new.engine.store.site.now) (search rules) (search rules)
+    (say_counted _ c.run_lines-ran.result _ _ c.status_after.ensures.say c.status_after.ensures.said c.run_lines-ran.ensures.lasts.cause)
