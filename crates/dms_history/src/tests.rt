@@ -79,15 +79,14 @@ fn counts_what_a_half_done_restore_is_to_leave(rt: HostRuntime) -> Result<(), Fa
 
 #[test]
 fn leaves_a_block_that_a_voided_change_made_new(rt: HostRuntime) -> Result<(), Fail> {
-    let counts = [FileCount {
-        file: 30001,
-        blocks: 1,
-    }];
     let events = [
         Event::Controlled(Control {
             point: 3,
             next: 4,
-            counts: &counts,
+            counts: &[FileCount {
+                file: 30001,
+                blocks: 1,
+            }],
             described: true,
         }),
         Event::Changed(Change {
@@ -107,7 +106,11 @@ fn leaves_a_block_that_a_voided_change_made_new(rt: HostRuntime) -> Result<(), F
         block: &[],
     };
     assert_eq!(rt; here(&history, dumped, 30001, 0, &[5]), [5].as_slice());
-    assert_eq!(rt; told(&events, 3, 30001, 0).is_none(), true);
+    Ok(())
+}
+
+#[test]
+fn tells_a_block_of_the_audit(rt: HostRuntime) -> Result<(), Fail> {
     assert_eq!(rt; told(&two_points(), 1, 30001, 0), Some([7].as_slice()));
     Ok(())
 }
