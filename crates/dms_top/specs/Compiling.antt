@@ -60,10 +60,6 @@ IsOfFile SayFault = ⊤
 IsOfFile DiskFault = ⊤
 IsOfFile Exists = ⊤
 
--- Each outcome that a stop may leave since the old clock's moment is one that it could leave then, or has P.
-abbrev pub AtEachMoment : Clock Left → Clock Left → (Left → Type 0) → Type 0
-AtEachMoment old new P = (x : Left) → new.left old.now x → Now old x ⊎ P x
-
 -- Each outcome that a stop on the way left is one that it could leave at the old moment, or there the description file is no
 -- sealed description, or exactly that of some description, and the other files are these.
 abbrev pub CreatesSome : Files → Clock Left → Clock Left → Type 0

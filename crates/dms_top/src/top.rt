@@ -1,13 +1,12 @@
-ghost use Rattle.std.specs.Prelude.{◌≡◌, ◌≤◌, ◌≢◌, ◌↔◌, [], ℕ, List, Some, Ok, Err, map, length, string_bytes, IsTrue, IsOk, ◌⊎◌};
+ghost use Rattle.std.specs.Prelude.{◌≡◌, ◌≤◌, ◌≢◌, ◌↔◌, [], ℕ, List, Some, Ok, Err, map, length, string_bytes, IsTrue, IsOk};
 ghost use Rattle.dms_desc.specs.Shape.{Described};
-ghost use Rattle.dms_descfile.specs.Becoming.{IsCreated};
+ghost use Rattle.dms_descfile.specs.Becoming.{Creates};
 ghost use Rattle.dms_descfile.specs.DescriptionFile.{sealed_file, IsSealed, IsUnsealed};
-ghost use Rattle.dms_moments.specs.Moments.{Now};
-ghost use Rattle.dms_site.specs.Files.{Left, Only};
+ghost use Rattle.dms_site.specs.Files.{Only};
 ghost use Rattle.dms_top.specs.Taking.{CutText};
 ghost use Rattle.dms_plain.specs.Speaking.{OnlySpeaks};
 ghost use Rattle.dms_plain.specs.Told.{told};
-ghost use Rattle.dms_top.specs.Compiling.{compiled_text, Says, IsSpoken, IsBefore, AtEachMoment, IsKept};
+ghost use Rattle.dms_top.specs.Compiling.{compiled_text, Says, IsSpoken, IsBefore, CreatesSome, SaysSealed, IsKept};
 ghost use Rattle.dms_top.specs.declared.status.SchemaFault.{SchemaFault as Refusal};
 ghost use Rattle.dms_top.specs.Judging.{judged};
 ghost use Rattle.dms_top.specs.Schema.{schema_text as text_of};
@@ -60,6 +59,7 @@ fn try_input<S: Site, I: Source>(alloc: Global, site: &mut S, input: &mut I) -> 
     ensures limit { (k : Kind) → result ≡ Status.Limit k → OfScript (I.left input.old) (λ d all. Passes k d (script_of all) (told S.tells_said (S.said site.old)) (told S.tells_said (S.said site.new))) }
     ensures input_cut { result ≡ Status.InputFault → OfScript (I.left input.old) (λ d all. CutTry d all (I.left input.new) (told S.tells_said (S.said site.old)) (told S.tells_said (S.said site.new))) }
     ensures input_cut_refused { result ≡ Status.InputFault → OfNoScript (I.left input.old) (λ all. CutText all (I.left input.new)) }
+    ensures same_site { S.same_site site.old site.new }
     ensures same_source { I.same_source input.old input.new }
 {
     let mut feed = Feed::new();
@@ -85,48 +85,91 @@ pub fn dms<S: Site, I: Source>(
     site: &mut S,
     input: &mut I,
 ) -> Status
+    // ---- every command
+    // status 1 comes exactly where the words are no command
     ensures words { result ≡ Status.BadWords ↔ (IsCommand (map string_bytes words.now) → ⊥) }
+    // at status 0 the input was read to its end
     ensures end { result ≡ Status.Ok → OfInput (I.left input.old) (λ all. I.left input.new ≡ Some []) }
+    // status 6 comes where taking from the input failed, once, and else that count stays
     ensures input { CountedAt (result ≡ Status.InputFault) (I.faults input.old) (I.faults input.new) }
+    // status 5 comes where a call on the files failed, once, and else that count stays
     ensures disk { CountedAt (result ≡ Status.DiskFault) (S.disk_faults site.old) (S.disk_faults site.new) }
+    // status 10 comes where printing failed, once, and else that count stays
     ensures say { CountedAt (result ≡ Status.SayFault) (S.say_faults site.old) (S.say_faults site.new) }
+    // at the statuses that come before a file is changed the files are as they were
     ensures before { IsBefore result → IsTrue S.tells → S.files site.new ≡ S.files site.old }
+    // no file but the description file changes
     ensures others { IsTrue S.tells → (g : ℕ) → g ≢ 1 → S.files site.new g ≡ S.files site.old g }
+    // the site is the one that was lent
+    ensures same_site { S.same_site site.old site.new }
+    // the input is the one that was lent
     ensures same_source { I.same_source input.old input.new }
+    // where the words are no command nothing of the input is taken
     ensures untaken { result ≡ Status.BadWords → input.new ≡ input.old }
+    // at the statuses that come before a call on the site it is as it was
     ensures untouched { IsUntouched result → site.new ≡ site.old }
-    // `try`
+    // ---- `try`
+    // a schema is refused by its first fault
     ensures refused { OnTry words.now ((f : Refusal) → result ≡ Status.SchemaRefused f → OfInput (I.left input.old) (λ all. judged (text_of all) ≡ Err f)) }
+    // the statuses behind the schema come only where it is accepted
     ensures accepted { OnTry words.now (IsPast result → OfInput (I.left input.old) (λ all. IsOk (judged (text_of all)))) }
+    // no call on a file is made
     ensures no_disk { OnTry words.now (result ≢ Status.DiskFault) }
+    // the files stay
     ensures files { OnTry words.now (IsTrue S.tells → S.files site.new ≡ S.files site.old) }
+    // a stop at each moment leaves what a stop at entry could leave, with more text or none
     ensures try_only_speaks { OnTry words.now (OnlySpeaks (S.clock site.old) (S.clock site.new)) }
+    // at status 0 exactly what the script answers was printed
     ensures answers { OnTry words.now (result ≡ Status.Ok → IsTrue S.tells_said → OfInput (I.left input.old) (λ all. Printed (S.said site.old) (S.said site.new) (try_text all))) }
+    // at every status a prefix of that was printed
     ensures part { OnTry words.now (IsTrue S.tells_said → OfInput (I.left input.old) (λ all. PrintedFront (S.said site.old) (S.said site.new) (try_text all))) }
+    // at the statuses that come before the script nothing was printed
     ensures silent { OnTry words.now (IsTrue S.tells_said → IsSilent result → S.said site.new ≡ S.said site.old) }
+    // at status 0 the script keeps the limits
     ensures within { OnTry words.now (result ≡ Status.Ok → OfScript (I.left input.old) (λ d all. WithinLimits d (script_of all))) }
+    // at status 8 it passes that limit and none before, and what the lines before answer was printed
     ensures limit { OnTry words.now ((k : Kind) → result ≡ Status.Limit k → OfScript (I.left input.old) (λ d all. Passes k d (script_of all) (told S.tells_said (S.said site.old)) (told S.tells_said (S.said site.new)))) }
+    // at status 6 what the whole lines that were taken answer was printed
     ensures input_cut { OnTry words.now (result ≡ Status.InputFault → OfScript (I.left input.old) (λ d all. CutTry d all (I.left input.new) (told S.tells_said (S.said site.old)) (told S.tells_said (S.said site.new)))) }
+    // at status 6 with a refused schema taking failed within its text
     ensures input_cut_refused { OnTry words.now (result ≡ Status.InputFault → OfNoScript (I.left input.old) (λ all. CutText all (I.left input.new))) }
+    // status 11 is not of this command
     ensures no_file_exists { OnTry words.now (result ≢ Status.Exists) }
-    // `compile`
+    // ---- `compile`
+    // a refused text leaves the site as it was
     ensures compile_refused_text { OnCompile words.now (OfNoSchema (I.left input.old) (site.new ≡ site.old)) }
+    // a failing input leaves the site as it was
     ensures compile_input_fault { OnCompile words.now (result ≡ Status.InputFault → site.new ≡ site.old) }
+    // status 8 is not of this command
     ensures compile_limit { OnCompile words.now ((k : Kind) → result ≢ Status.Limit k) }
+    // a schema is refused by its first fault
     ensures compile_refused { OnCompile words.now ((f : Refusal) → result ≡ Status.SchemaRefused f → OfInput (I.left input.old) (λ all. judged all ≡ Err f)) }
+    // the statuses behind the schema come only where it is accepted
     ensures compile_accepted { OnCompile words.now (IsPast result → OfInput (I.left input.old) (λ all. IsOk (judged all))) }
+    // status 11 comes only where file 1 is a sealed description
     ensures compile_exists { OnCompile words.now (result ≡ Status.Exists → IsTrue S.tells → (d : Described) × IsSealed (S.files site.old 1) d) }
+    // statuses 0 and 10 come only where it was none
     ensures compile_unsealed { OnCompile words.now (IsSpoken result → IsTrue S.tells → IsUnsealed (S.files site.old 1)) }
+    // at status 0 exactly the line was printed, at 10 a prefix of it, else nothing
     ensures compile_says { OnCompile words.now (IsTrue S.tells_said → OfSchema (I.left input.old) (λ d. Says result (compiled_text (length d.structures)) (S.said site.old) (S.said site.new))) }
+    // at the other statuses nothing was printed, whatever the input
     ensures compile_silent { OnCompile words.now (IsTrue S.tells_said → (IsSpoken result → ⊥) → S.said site.new ≡ S.said site.old) }
-    ensures creation_at_every_moment { OnCompile words.now (IsTrue S.tells → OfSchema (I.left input.old) (λ d. AtEachMoment (S.clock site.old) (S.clock site.new) (IsCreated (sealed_file d) (S.files site.old)))) }
-    ensures creation_of_some { OnCompile words.now (IsTrue S.tells → AtEachMoment (S.clock site.old) (S.clock site.new) (λ x. (d : Described) × IsCreated (sealed_file d) (S.files site.old) x)) }
+    // a stop leaves what it could leave at entry, or there file 1 is no sealed description or exactly the text's
+    ensures creation_at_every_moment { OnCompile words.now (IsTrue S.tells → OfSchema (I.left input.old) (λ d. Creates (sealed_file d) (S.files site.old) (S.clock site.old) (S.clock site.new))) }
+    // whatever the input tells, the same with some description
+    ensures creation_of_some { OnCompile words.now (IsTrue S.tells → CreatesSome (S.files site.old) (S.clock site.old) (S.clock site.new)) }
+    // a sealed description at entry is not touched at any moment
     ensures compile_kept { OnCompile words.now (IsTrue S.tells → (d : Described) → IsSealed (S.files site.old 1) d → IsKept (S.files site.old) (S.files site.new) (S.said site.old) (S.said site.new) (S.clock site.old) (S.clock site.new)) }
+    // at status 0 file 1 is exactly the text's description
     ensures creation_at_ok { OnCompile words.now (IsSpoken result → IsTrue S.tells → OfSchema (I.left input.old) (λ d. S.files site.new 1 ≡ sealed_file d)) }
+    // and it is sealed and well-formed
     ensures sealed_at_ok { OnCompile words.now (IsSpoken result → IsTrue S.tells → OfSchema (I.left input.old) (λ d. IsSealed (S.files site.new 1) d)) }
+    // whatever the input tells, it is some sealed description
     ensures sealed_some { OnCompile words.now (IsSpoken result → IsTrue S.tells → (d : Described) × IsSealed (S.files site.new 1) d) }
+    // and a stop leaves no other
     ensures stable_at_ok { OnCompile words.now (IsSpoken result → IsTrue S.tells → Only (S.files site.new) (S.clock site.new)) }
-    ensures says_sealed_at_every_moment { OnCompile words.now (IsTrue S.tells → OfSchema (I.left input.old) (λ d. AtEachMoment (S.clock site.old) (S.clock site.new) (λ x. ((y : Left) × Now (S.clock site.old) y × (x.said ≡ y.said)) ⊎ (x.files 1 ≡ sealed_file d)))) }
+    // no text comes before the file is whole
+    ensures says_sealed_at_every_moment { OnCompile words.now (IsTrue S.tells → OfSchema (I.left input.old) (λ d. SaysSealed (sealed_file d) (S.clock site.old) (S.clock site.new))) }
 {
     if is_try(words) {
         return try_input(alloc, site, input);

@@ -91,6 +91,7 @@ pub fn try_lines<S: Site, I: Source>(
     ensures no_disk { result ≢ Status.DiskFault }
     ensures files { IsTrue S.tells → S.files site.new ≡ S.files site.old }
     ensures only_speaks { OnlySpeaks (S.clock site.old) (S.clock site.new) }
+    ensures same_site { S.same_site site.old site.new }
     ensures same_source { I.same_source source.old source.new }
     ensures spoken { IsSilent result → ⊥ }
 {
