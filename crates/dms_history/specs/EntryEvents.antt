@@ -51,7 +51,7 @@ is_place n (quiet_point m) = m == n
 is_place n (control_point m next counts) = m == n
 is_place n (begin_restore m kind) = false
 
--- Each entry is added; a Begin removes all after the place of its point, or all where that point has none.
+-- Each entry but a Begin is added; a Begin removes all after the place of its point, or all where that point has none.
 abbrev pub live_after : List Entry → Entry → List Entry
 live_after live (schema_part part parts bytes) = live ++ schema_part part parts bytes ∷ []
 live_after live (image f b before after) = live ++ image f b before after ∷ []
@@ -82,5 +82,5 @@ pub record Agrees (first : Bool) (entries : List Entry) (dumps : Dumps) (stored 
   pub events_agree : EventsAgree first (events entries) dumps stored
   -- Only Schema parts stand after a Begin up to the next Begin or Control; no Range does either.
   pub alone : BeginsAlone (logged entries)
-  -- Every live Range that isn't left out has its Image itself.
+  -- Every live Range that isn't left out has an Image of its block before it, after the last live Control before it.
   pub images : HasImages (live_logged [] (logged entries))

@@ -15,8 +15,8 @@ pub record History : Type 0 where
   pub live : List Event
   pub pending : Option Pending
 
--- Each entry is added. A Begin first removes all after the place of its point, or all where that point has none, and its restore is
--- pending until the next Control.
+-- Each entry but a Begin is added. A Begin removes all after the place of its point, or all where that point has none, and its restore
+-- is pending until the next Control.
 abbrev pub after_event : History → Event → History
 after_event h (change f b before after) = record { live = h.live ++ change f b before after ∷ []; pending = h.pending }
 after_event h (quiet n) = record { live = h.live ++ quiet n ∷ []; pending = h.pending }

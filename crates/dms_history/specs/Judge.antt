@@ -5,7 +5,7 @@ use Rattle.dms_history.specs.Lists.{has, until_first}
 use Rattle.dms_history.specs.Places.{is_point, is_described, IsLive}
 use Rattle.dms_history.specs.Points.{live_numbers}
 
--- no_such_point: the number hasn't been used. audit_missing: the audit file before the first of the trail would be needed. voided: a restore cut it off.
+-- no_such_point: the number isn't below the next one. audit_missing: it is below each live point. voided: it is otherwise not live.
 pub data PointRefusal : Type 0 where
   no_such_point : PointRefusal
   audit_missing : PointRefusal
@@ -22,7 +22,7 @@ judge_point live next n =
     else if has (λ m. nat_le m n) (live_numbers live) then Some voided
     else Some audit_missing
 
--- Law: each answer comes exactly where its sentence holds.
+-- Law: each answer comes exactly where it is said to.
 pub record JudgesPoint (live : List Event) (next n : ℕ) : Type 0 where
   pub lives : (judge_point live next n ≡ None) ↔ ((n < next) × IsLive live n)
   pub no_such : (judge_point live next n ≡ Some no_such_point) ↔ (next ≤ n)

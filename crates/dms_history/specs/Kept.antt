@@ -17,7 +17,8 @@ content_told entries base = replay (from_control (live_of entries)) base
 
 -- All that a database keeps between two calls. first: its trail begins with audit file 1. base: the content at the first live Control.
 pub record Kept (first : Bool) (entries : List Entry) (dumps : Dumps) (base : Content) (stored : Stored) : Type 0 where
-  -- The live entries tell over the base what counts as each block, and a pending restore is to leave what they tell.
+  -- The live entries tell over the base what counts as each block that doesn't change after the last Control, and a pending restore is
+  -- to leave what they tell.
   pub steady : Steady dumps (history_of entries) base stored
   -- The changes before the first live Control lead to the base.
   pub opened : Opened (opening (live_of entries)) base
@@ -25,7 +26,7 @@ pub record Kept (first : Bool) (entries : List Entry) (dumps : Dumps) (base : Co
   pub numbered : Numbered (live_of entries) (next_of entries)
   -- Only Schema parts stand after a Begin up to the next Begin or Control.
   pub alone : BeginsAlone (logged entries)
-  -- Every live Range that isn't left out has its Image itself.
+  -- Every live Range that isn't left out has an Image of its block before it, after the last live Control before it.
   pub images : HasImages (live_logged [] (logged entries))
   -- Where the trail begins with audit file 1, the base is empty.
   pub empty : first ≡ true → (f : ℕ) → length (base f) ≡ 0

@@ -46,7 +46,7 @@ AllMay dumps base d (s ∷ ss) = May dumps base d s × AllMay dumps base (moved 
 abbrev pub content_at : Dumps → Disk → ℕ → Content
 content_at dumps d n = blocks_at d.history.live (here dumps d.history d.stored) n
 
--- Law: each point that is live in the end was live at the start, with the same content.
+-- Law: what holds at every moment holds in the end, and each point that is live then was live at the start, with the same content.
 abbrev pub HoweverOften : Type 0
 HoweverOften = (dumps : Dumps) (base : Content) (d : Disk) (steps : List RestoreStep) → Steady dumps d.history base d.stored → AllMay dumps base d steps
     → Steady dumps (all_moved d steps).history base (all_moved d steps).stored

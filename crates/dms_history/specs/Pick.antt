@@ -6,7 +6,7 @@ use Rattle.dms_history.specs.Lists.{until_first, after_first, after_last}
 use Rattle.dms_history.specs.Places.{is_control, is_point}
 use Rattle.dms_history.specs.Images.{last_after, value, choice}
 
--- The count of a file that the entries reach, from k on: a Control says it, and each change of a new block b raises it to b + 1; it never falls.
+-- The count of a file that the entries reach, from k on: a Control says it, and a change of a new block b raises it to b + 1 and never lowers it.
 abbrev pub reached_count : ℕ → ℕ → List Event → ℕ
 reached_count f k [] = k
 reached_count f k (change g b None after ∷ es) = reached_count f (if g == f then max k (b + 1) else k) es
@@ -30,7 +30,7 @@ pub record Dump : Type 0 where
   pub point : ℕ
   pub blocks : Content
 
--- the dumps that are present, by number
+-- a dump for each number; of one that isn't present nothing is said
 abbrev pub Dumps : Type 0
 Dumps = ℕ → Dump
 

@@ -16,7 +16,7 @@ is_described (quiet n) = false
 is_described (control n next counts described) = described
 is_described (begin n how) = false
 
--- The place of a point is the first Quiet or Control of its number.
+-- A Quiet or Control has this number. The place of a point is the first such entry.
 abbrev pub is_point : ℕ → Event → Bool
 is_point n (change f b before after) = false
 is_point n (quiet m) = m == n

@@ -35,7 +35,8 @@ live_numbers live = numbers_from [] live
 abbrev pub point_at : List Event → Stored → ℕ → LivePoint
 point_at live counted n = record { number = n; blocks = blocks_at live counted n }
 
--- the live points with their contents: live are the live entries, and counted is what counts as each block
+-- the live points with their contents, in the order of their places, which is that of their numbers where these never fall: live are
+-- the live entries, and counted is what counts as each block
 unfoldable pub live_points : List Event → Stored → List LivePoint
 live_points live counted = map (point_at live counted) (live_numbers live)
 

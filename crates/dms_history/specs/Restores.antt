@@ -15,7 +15,7 @@ pub record IsTrueDump (dump : Dump) (live : List Event) (counted : Stored) : Typ
   pub point_lives : IsLive live dump.point
   pub same : dump.blocks ≡ blocks_at live counted dump.point
 
--- A dump serves a restore to point m where it is true and its point isn't behind m.
+-- A dump serves a restore to point m where it is true and its point is at m or before it.
 pub record DumpServes (dump : Dump) (live : List Event) (counted : Stored) (m : ℕ) : Type 0 where
   pub point_lives : IsLive (until_first (is_point m) live) dump.point
   pub same : dump.blocks ≡ blocks_at live counted dump.point
@@ -46,12 +46,13 @@ abbrev pub is_none : {A : Type 0} → Option A → Bool
 is_none None = true
 is_none (Some x) = false
 
--- the first change has a before-image
+-- there is no first change, or it has no before-image
 abbrev pub has_no_before : Option (Option Block) → Bool
 has_no_before None = true
 has_no_before (Some before) = is_none before
 
--- The audit has neither an after-image of a block between the last Control and point m nor a before-image of it behind that point.
+-- The audit has neither an after-image of a block between the last Control at or before the place of m and that place, nor a
+-- before-image of it after that place.
 abbrev pub is_unlogged : List Event → ℕ → ℕ → ℕ → Bool
 is_unlogged live m f b = is_none (last_after f b (after_last is_control (until_first (is_point m) live))) && has_no_before (first_before f b (after_first (is_point m) live))
 
@@ -63,7 +64,7 @@ takes_stored roll_back live m f b = is_unlogged live m f b
 takes_stored (rebuild d) live m f b = false
 takes_stored (reconstruct d named) live m f b = if named f b then false else is_unlogged live m f b
 
--- What holds at every moment, with or without a pending restore: there is a base, what counts came from it,
+-- What holds at every moment, with or without a pending restore: there is a base, and over it the live entries tell what counts as each block that they change;
 -- and where a restore is pending it is to leave what the live entries tell, at a point that is live.
 pub record Steady (dumps : Dumps) (h : History) (base : Content) (stored : Stored) : Type 0 where
   pub sound : Sound (from_control h.live) base (here dumps h stored)

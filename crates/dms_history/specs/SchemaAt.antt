@@ -5,7 +5,7 @@ use Rattle.dms_history.specs.Entries.{Entry, schema_part, image, byte_range, qui
 use Rattle.dms_history.specs.Schemas.{Parts, no_parts, after_entry, is_whole}
 use Rattle.dms_history.specs.EntryEvents.{is_place, live_entries}
 
--- how much of a Schema the entries end with, and the bytes of these parts
+-- how much of a Schema the entries end with, and its bytes where they end with a part of one
 pub record SchemaRead : Type 0 where
   pub parts : Parts
   pub bytes : List ℕ

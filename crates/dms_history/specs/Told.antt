@@ -14,7 +14,8 @@ abbrev pub undone_to : Option (Option Block) → Option Block
 undone_to None = None
 undone_to (Some before) = before
 
--- The last after-image between the last Control and the point, else the before-image of the first change behind the point.
+-- The last after-image between the last Control at or before the place and that place, else the before-image of the first change after
+-- the place.
 unfoldable pub told_block : List Event → ℕ → ℕ → ℕ → Option Block
 told_block live m f b = or_else (last_after f b (after_last is_control (until_first (is_point m) live))) (undone_to (first_before f b (after_first (is_point m) live)))
 
