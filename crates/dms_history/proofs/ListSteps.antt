@@ -174,7 +174,7 @@ last_keeps_all h next counted ps m numbered last listed = go ps listed.lives
   where
     low : (n : ℕ) → IsLive h.live n → nat_le n m ≡ true
     low n at =
-        let most = (last_lives h next numbered).0 n at in
+        let most = (last_lives h next numbered).points n at in
         let same : most.last ≡ m = some_is most.last m (sym most.is ∙ last) in
         test n (omega (arith, most.not_above, same))
       where

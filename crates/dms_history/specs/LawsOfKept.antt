@@ -43,7 +43,7 @@ abbrev pub KeptRange : Type 0
 KeptRange = (first : Bool) (entries : List Entry) (dumps : Dumps) (base : Content) (stored : Stored) (f b place : ℕ) (bytes : List ℕ) → Kept first entries dumps base stored
     → IsIdle entries → has (is_image f b) (after_last is_control_logged (live_logged [] (logged entries))) ≡ true
     → KeptTelling first (entries ++ byte_range f b place bytes ∷ []) dumps base stored
-        (with_block (content_told entries base) f b (patched place bytes (block_in (content_told entries base) f b)))
+    (with_block (content_told entries base) f b (patched place bytes (block_in (content_told entries base) f b)))
 
 -- A Quiet with a number that is free.
 abbrev pub KeptQuiet : Type 0
