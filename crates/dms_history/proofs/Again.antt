@@ -8,7 +8,7 @@ use Rattle.dms_history.specs.Base.{Sound, opening, from_control}
 use Rattle.dms_history.specs.History.{History, history_from, after_event}
 use Rattle.dms_history.specs.Here.{here_by, here}
 use Rattle.dms_history.specs.Restores.{Steady}
-use Rattle.dms_history.specs.Often.{Disk, RestoreStep, began, wrote, ended, moved, May, HoweverOften, FromAnything}
+use Rattle.dms_history.specs.Often.{Disk, RestoreStep, began, wrote, ended, moved, May, StepsKeep, HoweverOften, FromAnything}
 use Rattle.dms_history.specs.LawsOfRunning.{RunsSteady}
 use Rattle.dms_history.specs.Replay.{replay, with_block}
 use Rattle.dms_history.specs.Images.{or_else, last_after}
@@ -29,11 +29,6 @@ true_not_false e = absurd cc
 none_not_some : {A : Type 0} (x : A) → None ≡ Some x → ⊥
 none_not_some x e = absurd cc
 
--- what a step keeps
-record StepKeeps (dumps : Dumps) (base : Content) (old new : Disk) : Type 0 where
-  steady : Steady dumps new.history base new.stored
-  points : (n : ℕ) → IsLive new.history.live n → IsLive old.history.live n × (blocks_at new.history.live (here dumps new.history new.stored) n ≡ blocks_at old.history.live (here dumps old.history old.stored) n)
-
 -- a point that is live with the Control of a live point was live
 was_live : (live : List Event) (m n next : ℕ) (counts : Counts) (described : Bool) → IsLive live m → IsLive (live ++ control m next counts described ∷ []) n → IsLive live n
 was_live live m n next counts described at on = elim (bool_cases (has (is_point n) live)) [
@@ -46,29 +41,29 @@ was_live live m n next counts described at on = elim (bool_cases (has (is_point 
       ]
 ]
 
-one_step : (dumps : Dumps) (base : Content) (d : Disk) (s : RestoreStep) → Steady dumps d.history base d.stored → May dumps base d s → StepKeeps dumps base d (moved d s)
+one_step : (dumps : Dumps) (base : Content) (d : Disk) (s : RestoreStep) → Steady dumps d.history base d.stored → May dumps base d s → StepsKeep dumps base d (moved d s)
 one_step dumps base d (began how m) steady ready =
     let r = restore_begins how dumps d.history base (here dumps d.history d.stored) d.stored m ready in
-    record { steady = r.steady; points = λ n at. (live_in d.history.live m n at, r.points n at) }
+    record { steady = r.steady; points = λ n at. record { lives = live_in d.history.live m n at; same = sym (r.points n at) } }
 one_step dumps base d (wrote written) steady may =
-    let r = restore_writes dumps d.history base d.stored written may.0 may.1 steady may.2 in
-    record { steady = r.0; points = λ n at. (at, ap (λ (s : Stored). blocks_at d.history.live s n) r.1) }
+    let r = restore_writes dumps d.history base d.stored written may.p may.is steady may.stays in
+    record { steady = r.steady; points = λ n at. record { lives = at; same = ap (λ (s : Stored). blocks_at d.history.live s n) (sym r.counts) } }
 one_step dumps base d (ended written m next counts described) steady may =
-    let p = may.0 in
-    let r = restore_ends dumps d.history base d.stored written p next counts described may.1 steady may.3 may.4 in
+    let p = may.p in
+    let r = restore_ends dumps d.history base d.stored written p next counts described may.is steady may.counted may.stand in
     let new : Disk = moved d (ended written p.point next counts described) in
-    let kept : StepKeeps dumps base d new = record {
-      steady = r.0;
-      points = λ n at. let was = was_live d.history.live p.point n next counts described (steady.point_lives p may.1) at in (was, (r.1 n was).1);
+    let kept : StepsKeep dumps base d new = record {
+      steady = r.steady;
+      points = λ n at. let was = was_live d.history.live p.point n next counts described (steady.point_lives p may.is) at in record { lives = was; same = sym (r.points n was).same };
     } in
-    subst (λ k. StepKeeps dumps base d (moved d (ended written k next counts described))) (sym may.2) kept
+    subst (λ k. StepsKeep dumps base d (moved d (ended written k next counts described))) (sym may.its_point) kept
 
 pub however_often : HoweverOften
-however_often dumps base d [] steady may = (steady, λ n at. (at, refl))
+however_often dumps base d [] steady may = record { steady = steady; points = λ n at. record { lives = at; same = refl } }
 however_often dumps base d (s ∷ ss) steady may =
     let one = one_step dumps base d s steady may.0 in
     let rest = however_often dumps base (moved d s) ss one.steady may.1 in
-    (rest.0, λ n at. let r = rest.1 n at in let q = one.points n r.0 in (q.0, r.1 ∙ q.1))
+    record { steady = rest.steady; points = λ n at. let r = rest.points n at in let q = one.points n r.lives in record { lives = q.lives; same = q.same ∙ r.same } }
 
 -- ---- a database that runs
 
@@ -115,5 +110,5 @@ pub from_anything : FromAnything
 from_anything how dumps t base counted stored m steps ready may n at =
     let d : Disk = record { history = after_event t (begin m how); stored = stored } in
     let begun = restore_begins how dumps t base counted stored m ready in
-    let rest = (however_often dumps base d steps begun.steady may).1 n at in
-    (live_in t.live m n rest.0, rest.1 ∙ begun.points n rest.0)
+    let rest = (however_often dumps base d steps begun.steady may).points n at in
+    record { lives = live_in t.live m n rest.lives; same = sym (begun.points n rest.lives) ∙ rest.same }

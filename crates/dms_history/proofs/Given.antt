@@ -147,7 +147,7 @@ pub opening_stays : OpeningStays
 opening_stays live = (λ e found. (opening_append live (e ∷ []) found).0, λ n at. opening_until (is_point n) live (controlled live n at))
 
 pub opening_never_counts : OpeningNeverCounts
-opening_never_counts live counted n at = (live_from live n at, at_from live n counted at)
+opening_never_counts live counted n at = record { lives = live_from live n at; same = sym (at_from live n counted at) }
 
 -- ---- the rule gives the chosen point
 

@@ -117,12 +117,11 @@ each_judged live next n =
         λ is.
             let all = when_void a b c is in
             let r = some_low live n (live_numbers live) (all_live live) all.2 in
-            (below next n all.0, λ at. true_not_false (sym (test_live live n at) ∙ all.1), r.0, r.1, less r.0 r.1 r.2 all.1),
-        λ both.
-            let off : b ≡ false = elim (bool_cases b) [ inr off ↦ off | inl on ↦ absurd (both.1 (live_test live n on)) ] in
-            let at = both.3 in
-            let low : both.2 ≤ n = omega (arith, both.4) in
-            λ i. judged (not_below next n both.0 i) (off i) (low_listed n both.2 (live_numbers live) low (live_is_listed live both.2 at) i),
+            record { used = below next n all.0; gone = λ at. true_not_false (sym (test_live live n at) ∙ all.1); lower = r.0; lower_lives = r.1; is_lower = less r.0 r.1 r.2 all.1 },
+        λ cut.
+            let off : b ≡ false = elim (bool_cases b) [ inr off ↦ off | inl on ↦ absurd (cut.gone (live_test live n on)) ] in
+            let low : cut.lower ≤ n = omega (arith, cut.is_lower) in
+            λ i. judged (not_below next n cut.used i) (off i) (low_listed n cut.lower (live_numbers live) low (live_is_listed live cut.lower cut.lower_lives) i),
       );
     }
   where

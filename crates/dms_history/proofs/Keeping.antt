@@ -95,15 +95,15 @@ pub kept_image : KeptImage
 kept_image first es dumps base stored f b before after k idle tells =
     let ev = change f b before after in
     let is = image_sealed es f b before after in
-    let live = live_of es in (
-      kept_event first es (image f b before after) (event ev) ev dumps base is dumps stored stored k (says_one es (image f b before after) (event ev) refl)
+    let live = live_of es in record {
+      kept = kept_event first es (image f b before after) (event ev) ev dumps base is dumps stored stored k (says_one es (image f b before after) (event ev) refl)
           ((runs_steady dumps (history_of es) base stored idle.none idle.controlled k.steady).change f b before after tells)
           (still_opened live ev base idle.controlled k.opened)
           (numbers_change (events es) live f b before after k.numbered)
           (λ xs m how at. absurd (not_begun es idle.none xs m how at))
-          ((images_go_on (live_logged [] (logged es)) k.images).others (event ev) refl),
-      content_event first es (image f b before after) (event ev) ev dumps base is refl idle.controlled,
-    )
+          ((images_go_on (live_logged [] (logged es)) k.images).others (event ev) refl);
+      tells = content_event first es (image f b before after) (event ev) ev dumps base is refl idle.controlled;
+    }
 
 pub kept_range : KeptRange
 kept_range first es dumps base stored f b place bytes k idle itself =
@@ -119,28 +119,28 @@ kept_range first es dumps base stored f b place bytes k idle itself =
     ap (λ (l : List Event). last_after f b l) (sym (parts live)) ∙ last_append (opening live) (from_control live) f b ∙ ap (λ o. or_else o (last_after f b (opening live))) last in
     let ev = change f b (Some old) (patched place bytes old) in
     let is = (range_sealed es f b place bytes).0 old live_last in
-    let r = ranges_steady dumps (history_of es) base stored f b place bytes old idle.none idle.controlled k.steady last in (
-      kept_event first es e l ev dumps base is dumps stored stored k (says_one es e l refl) r.steady
+    let r = ranges_steady dumps (history_of es) base stored f b place bytes old idle.none idle.controlled k.steady last in record {
+      kept = kept_event first es e l ev dumps base is dumps stored stored k (says_one es e l refl) r.steady
           (still_opened live ev base idle.controlled k.opened)
           (numbers_change (events es) live f b (Some old) (patched place bytes old) k.numbered)
           (λ xs m how at. absurd (not_begun es idle.none xs m how at))
-          ((images_go_on ls k.images).ranges f b place bytes itself),
-      ap (λ (h : History). replay (from_control h.live) base) (one_step first es e l ev dumps base is) ∙ r.content,
-    )
+          ((images_go_on ls k.images).ranges f b place bytes itself);
+      tells = ap (λ (h : History). replay (from_control h.live) base) (one_step first es e l ev dumps base is) ∙ r.content;
+    }
 
 pub kept_quiet : KeptQuiet
 kept_quiet first es dumps base stored n k idle free low =
     let ev = quiet n in
     let is = quiet_sealed es n in
-    let live = live_of es in (
-      kept_event first es (quiet_point n) (event ev) ev dumps base is dumps stored stored k (says_one es (quiet_point n) (event ev) refl)
+    let live = live_of es in record {
+      kept = kept_event first es (quiet_point n) (event ev) ev dumps base is dumps stored stored k (says_one es (quiet_point n) (event ev) refl)
           ((runs_steady dumps (history_of es) base stored idle.none idle.controlled k.steady).quiet n)
           (still_opened live ev base idle.controlled k.opened)
           (numbers_quiet (events es) live n k.numbered free low)
           (λ xs m how at. absurd (not_begun es idle.none xs m how at))
-          ((images_go_on (live_logged [] (logged es)) k.images).others (event ev) refl),
-      content_event first es (quiet_point n) (event ev) ev dumps base is refl idle.controlled,
-    )
+          ((images_go_on (live_logged [] (logged es)) k.images).others (event ev) refl);
+      tells = content_event first es (quiet_point n) (event ev) ev dumps base is refl idle.controlled;
+    }
 
 pub kept_schema : KeptSchema
 kept_schema first es dumps base stored part parts bytes k =
@@ -157,15 +157,15 @@ pub kept_control : KeptControl
 kept_control first es dumps base stored written n next counts k idle last placed carried count stand =
     let ev = the_control first es n next counts in
     let is = control_is first es n next counts in
-    let live = live_of es in (
-      kept_event first es (control_point n next counts) (event ev) ev dumps base is dumps stored written k (says_one es (control_point n next counts) (event ev) refl)
+    let live = live_of es in record {
+      kept = kept_event first es (control_point n next counts) (event ev) ev dumps base is dumps stored written k (says_one es (control_point n next counts) (event ev) refl)
           ((runs_steady dumps (history_of es) base stored idle.none idle.controlled k.steady).control written n next (counts_in counts) (is_whole (parts_from no_parts es)) count stand)
           (still_opened live ev base idle.controlled k.opened)
           (numbers_control (events es) (history_of es) n next (counts_in counts) (is_whole (parts_from no_parts es)) k.numbered last placed carried)
           (λ xs m how at. refl)
-          ((images_go_on (live_logged [] (logged es)) k.images).others (event ev) refl),
-      content_event first es (control_point n next counts) (event ev) ev dumps base is refl idle.controlled,
-    )
+          ((images_go_on (live_logged [] (logged es)) k.images).others (event ev) refl);
+      tells = content_event first es (control_point n next counts) (event ev) ev dumps base is refl idle.controlled;
+    }
 
 pub kept_writes : KeptWrites
 kept_writes first es dumps base stored written k none same =
@@ -196,17 +196,17 @@ kept_begin first es dumps others base right stored m kind k ready =
 
 pub kept_restores : KeptRestores
 kept_restores first es dumps base stored written p k is same =
-    let r = restore_writes dumps (history_of es) base stored written p is k.steady same in (
-      record {
-        steady = r.0;
+    let r = restore_writes dumps (history_of es) base stored written p is k.steady same in record {
+      kept = record {
+        steady = r.steady;
         opened = k.opened;
         numbered = k.numbered;
         alone = k.alone;
         images = k.images;
         empty = k.empty;
-      },
-      r.1,
-    )
+      };
+      counts = r.counts;
+    }
 
 pub kept_ends : KeptEnds
 kept_ends first es dumps base stored written p next counts k pending carried count stand =
@@ -215,15 +215,15 @@ kept_ends first es dumps base stored written p next counts k pending carried cou
     let live = live_of es in
     let at = k.steady.point_lives p pending in
     let found : has is_control live ≡ true = has_front (is_point p.point) is_control live (controlled live p.point at) in
-    let cut = pending_cuts (events es) p (alone_events es k.alone) pending in (
-      kept_event first es (control_point p.point next counts) (event ev) ev dumps base is dumps stored written k (says_one es (control_point p.point next counts) (event ev) refl)
-          (restore_ends dumps (history_of es) base stored written p next (counts_in counts) (is_whole (parts_from no_parts es)) pending k.steady (λ f. count f ∙ sym (outcome_length p.how dumps p.entries p.point f stored)) stand).0
+    let cut = pending_cuts (events es) p (alone_events es k.alone) pending in record {
+      kept = kept_event first es (control_point p.point next counts) (event ev) ev dumps base is dumps stored written k (says_one es (control_point p.point next counts) (event ev) refl)
+          (restore_ends dumps (history_of es) base stored written p next (counts_in counts) (is_whole (parts_from no_parts es)) pending k.steady (λ f. count f ∙ sym (outcome_length p.how dumps p.entries p.point f stored)) stand).steady
           (still_opened live ev base found k.opened)
           (numbers_control (events es) (history_of es) p.point next (counts_in counts) (is_whole (parts_from no_parts es)) k.numbered cut.last at.found carried)
           (λ xs m how at. refl)
-          ((images_go_on (live_logged [] (logged es)) k.images).others (event ev) refl),
-      content_event first es (control_point p.point next counts) (event ev) ev dumps base is refl found,
-    )
+          ((images_go_on (live_logged [] (logged es)) k.images).others (event ev) refl);
+      tells = content_event first es (control_point p.point next counts) (event ev) ev dumps base is refl found;
+    }
 
 -- ---- agreement
 
@@ -239,17 +239,17 @@ agrees_kept first es dumps stored agrees found points =
     let live = live_of es in
     let counted = here dumps (history_of es) stored in
     let lists = agrees.events_agree.lists in
-    let leads = agrees_leads first live (next_of es) counted lists found in (
-      base_of live counted,
-      record {
+    let leads = agrees_leads first live (next_of es) counted lists found in record {
+      base = base_of live counted;
+      kept = record {
         steady = agrees_is_steady first (events es) dumps stored agrees.events_agree (alone_events es agrees.alone) points;
         opened = leads.0;
         numbered = record { never_fall = lists.never_fall; below_next = lists.below_next };
         alone = agrees.alone;
         images = agrees.images;
         empty = leads.1;
-      },
-    )
+      };
+    }
 
 -- ---- a new database
 

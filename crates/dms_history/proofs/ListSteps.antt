@@ -88,7 +88,7 @@ lists_quiet live next base counted ps n numbered free described sound listed =
     let new : numbers_from live (e ∷ []) ≡ n ∷ [] = λ i. cond (not (off i) && told i) (n ∷ []) [] ++ [] in
     let same : map (point_at (live ++ e ∷ []) counted) (numbers_from [] (live ++ e ∷ [])) ≡ ps ++ record { number = n; blocks = replay (from_control live) base } ∷ [] =
     points_front live (e ∷ []) base counted counted sound grown ∙ ap (λ (l : List ℕ). live_points live counted ++ map (point_at (live ++ e ∷ []) counted) l) new
-    ∙ (λ i. one_list live counted (live_points live counted) ps (points_listed live next counted numbered) listed i ++ record { number = n; blocks = at.1 i } ∷ []) in
+    ∙ (λ i. one_list live counted (live_points live counted) ps (points_listed live next counted numbered) listed i ++ record { number = n; blocks = at.same i } ∷ []) in
     let numbers : numbers_from [] (live ++ e ∷ []) ≡ numbers_from [] live ++ n ∷ [] = numbers_append [] live (e ∷ []) ∙ ap (λ (l : List ℕ). numbers_from [] live ++ l) new in
     subst (λ (l : List LivePoint). ListsPoints (live ++ e ∷ []) counted l) same
     (listed_rising (live ++ e ∷ []) counted (subst Rises (sym numbers) (rises_push (numbers_from [] live) n (numbers_rise live next numbered) (each_below live next n numbered free (numbers_from [] live) (all_live live)))))
@@ -174,7 +174,7 @@ last_keeps_all h next counted ps m numbered last listed = go ps listed.lives
   where
     low : (n : ℕ) → IsLive h.live n → nat_le n m ≡ true
     low n at =
-        let most = (last_lives h next numbered).0 n at in
+        let most = (last_lives h next numbered).points n at in
         let same : most.last ≡ m = some_is most.last m (sym most.is ∙ last) in
         test n (omega (arith, most.not_above, same))
       where
@@ -183,4 +183,4 @@ last_keeps_all h next counted ps m numbered last listed = go ps listed.lives
 
     go : (ps : List LivePoint) → AllLive h.live counted ps → up_to m ps ≡ ps
     go [] all = refl
-    go (p ∷ ps) all = ap (λ k. cond k (p ∷ up_to m ps) []) (low p.number all.0) ∙ ap (λ (l : List LivePoint). p ∷ l) (go ps all.2)
+    go (p ∷ ps) all = ap (λ k. cond k (p ∷ up_to m ps) []) (low p.number all.0.lives) ∙ ap (λ (l : List LivePoint). p ∷ l) (go ps all.1)

@@ -81,7 +81,7 @@ all_live live = all_live_from [] live
 
 points_live : (live : List Event) (counted : Stored) (ns : List ℕ) → EachLive live ns → AllLive live counted (map (point_at live counted) ns)
 points_live live counted [] all = tt
-points_live live counted (n ∷ ns) all = (all.0, refl, points_live live counted ns all.1)
+points_live live counted (n ∷ ns) all = (record { lives = all.0; same = refl }, points_live live counted ns all.1)
 
 -- ---- the numbers rise
 
@@ -220,13 +220,13 @@ same_rising (n ∷ ns) (m ∷ ms) one two there back =
 live_listed : (live : List Event) (counted : Stored) (ps : List LivePoint) (n : ℕ) → AllLive live counted ps → lists n (numbers_of ps) ≡ true → IsLive live n
 live_listed live counted [] n all found = absurd (true_not_false (sym found))
 live_listed live counted (p ∷ ps) n all found = elim (or_at (p.number == n) (lists n (numbers_of ps)) found) [
-  | inl same ↦ subst (λ k. IsLive live k) (eq_of p.number n same) all.0
-  | inr more ↦ live_listed live counted ps n all.2 more.1
+  | inl same ↦ subst (λ k. IsLive live k) (eq_of p.number n same) all.0.lives
+  | inr more ↦ live_listed live counted ps n all.1 more.1
 ]
 
 points_again : (live : List Event) (counted : Stored) (ps : List LivePoint) → AllLive live counted ps → ps ≡ map (point_at live counted) (numbers_of ps)
 points_again live counted [] all = refl
-points_again live counted (p ∷ ps) all = λ i. record { number = p.number; blocks = all.1 i } ∷ points_again live counted ps all.2 i
+points_again live counted (p ∷ ps) all = λ i. record { number = p.number; blocks = sym all.0.same i } ∷ points_again live counted ps all.1 i
 
 pub one_list : OneList
 one_list live counted ps qs one two =
@@ -247,7 +247,7 @@ points_front live more base counted later sound grown =
     ap (λ (l : List ℕ). map (point_at (live ++ more) later) l) (numbers_append [] live more)
     ∙ map-append (point_at (live ++ more) later) (numbers_from [] live) (numbers_from live more)
     ∙ ap (λ (l : List LivePoint). l ++ map (point_at (live ++ more) later) (numbers_from live more))
-    (points_alike live (live ++ more) counted later (numbers_from [] live) (all_live_from [] live) (λ n at. (points_go_on live more base counted later n sound grown at).1))
+    (points_alike live (live ++ more) counted later (numbers_from [] live) (all_live_from [] live) (λ n at. (points_go_on live more base counted later n sound grown at).same))
 
 pub points_stay : PointsStay
 unfolding live_points live_numbers

@@ -207,8 +207,8 @@ control_numbered (control n next counts described ∷ es) found none = not_empty
 control_numbered (begin n how ∷ es) found none = control_numbered es found none
 
 pub last_lives : LastLives
-last_lives h next numbered = (
-  λ n at. elim (last_of h.live (pending_point h.pending)) [
+last_lives h next numbered = record {
+  points = λ n at. elim (last_of h.live (pending_point h.pending)) [
     | inl none ↦ let r = point_among h.live n at.found in absurd (not_empty r.0 r.1 n (sym r.2 ∙ none.0))
     | inr more ↦
         let a = more.1 in
@@ -220,9 +220,9 @@ last_lives h next numbered = (
         let placed : has (is_point a) h.live ≡ true = among_has h.live more.0 [] a more.2 in
         let front = kept_below h.live next a numbered placed n le at in
         record { last = a; is = more.3; not_above = le; lives = record { found = placed; described = has_front (is_point n) is_described (until_first (is_point a) h.live) front.described } }
-  ],
-  λ found. elim (last_of h.live (pending_point h.pending)) [ inl none ↦ absurd (control_numbered h.live found none.0) | inr more ↦ (more.1, more.3) ],
-)
+  ];
+  some = λ found. elim (last_of h.live (pending_point h.pending)) [ inl none ↦ absurd (control_numbered h.live found none.0) | inr more ↦ (more.1, more.3) ];
+}
 
 -- ---- the next number
 

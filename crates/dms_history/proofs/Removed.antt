@@ -77,14 +77,14 @@ pub front_goes : FrontGoes
 front_goes xs ys base counted sound opened found = elim (bool_cases (has is_control xs)) [
   | inr off ↦
       let r = behind_none xs ys off in
-      let same : Sound (from_control ys) base counted = subst (λ (l : List Event). Sound l base counted) r.1 sound in (
-        base,
-        same,
-        tail_opened xs (opening ys) base (subst (λ (l : List Event). Opened l base) r.0 opened),
-        λ n at none.
+      let same : Sound (from_control ys) base counted = subst (λ (l : List Event). Sound l base counted) r.1 sound in record {
+        later = base;
+        sound = same;
+        opened = tail_opened xs (opening ys) base (subst (λ (l : List Event). Opened l base) r.0 opened);
+        points = λ n at none.
             let whole = live_whole xs ys n at none in
-            (whole, at_point ys base counted n same at ∙ ap (λ (l : List Event). replay (until_first (is_point n) l) base) (sym r.1) ∙ sym (at_point (xs ++ ys) base counted n sound whole)),
-      )
+            record { lives = whole; same = at_point (xs ++ ys) base counted n sound whole ∙ ap (λ (l : List Event). replay (until_first (is_point n) l) base) r.1 ∙ sym (at_point ys base counted n same at) };
+      }
   | inl on ↦
       let r = opening_append xs ys on in
       let os = opening ys in
@@ -103,17 +103,17 @@ front_goes xs ys base counted sound opened found = elim (bool_cases (has is_cont
         stands = λ f b low none.
             sound.stands f b (subst (λ (c : Content). b < length (c f)) (sym now) low) (ap (λ (l : List Event). last_after f b l) late ∙ none)
             ∙ ap (λ (c : Content). block_in c f b) now;
-      } in (
-        later,
-        same,
-        subst (λ (c : Content). Opened os c) (sym through) (opened_by os (replay (from_control xs) base) start.1),
-        λ n at none.
+      } in record {
+        later = later;
+        sound = same;
+        opened = subst (λ (c : Content). Opened os c) (sym through) (opened_by os (replay (from_control xs) base) start.1);
+        points = λ n at none.
             let whole = live_whole xs ys n at none in
             let none_behind : has (is_point n) (from_control xs) ≡ false =
             (or_no (has (is_point n) (opening xs)) (has (is_point n) (from_control xs)) (sym (has_append (is_point n) (opening xs) (from_control xs)) ∙ ap (λ (l : List Event). has (is_point n) l) (parts xs) ∙ none)).1 in
             let cut : until_first (is_point n) (from_control (xs ++ ys)) ≡ front ++ until_first (is_point n) all =
             ap (λ (l : List Event). until_first (is_point n) l) r.1 ∙ until_past (is_point n) (from_control xs) ys none_behind at.found
             ∙ ap (λ (l : List Event). from_control xs ++ l) (not_opening ys n at) ∙ sym (append_assoc (from_control xs) os (until_first (is_point n) all)) in
-            (whole, at_point ys later counted n same at ∙ sym (replay_append front (until_first (is_point n) all) base) ∙ ap (λ (l : List Event). replay l base) (sym cut) ∙ sym (at_point (xs ++ ys) base counted n sound whole)),
-      )
+            record { lives = whole; same = at_point (xs ++ ys) base counted n sound whole ∙ ap (λ (l : List Event). replay l base) cut ∙ replay_append front (until_first (is_point n) all) base ∙ sym (at_point ys later counted n same at) };
+      }
 ]

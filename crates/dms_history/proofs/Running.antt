@@ -36,7 +36,7 @@ points_go_on live more base counted later n sound grown at =
     let split : from_control (live ++ more) ≡ from_control live ++ more = (opening_append live more found).1 in
     let same : until_first (is_point n) (from_control (live ++ more)) ≡ until_first (is_point n) (from_control live) =
     ap (λ (l : List Event). until_first (is_point n) l) split ∙ until_append (is_point n) (from_control live) more (live_from live n at).found in
-    (on, at_point (live ++ more) base later n grown on ∙ ap (λ (l : List Event). replay l base) same ∙ sym (at_point live base counted n sound at))
+    record { lives = on; same = at_point (live ++ more) base later n grown on ∙ ap (λ (l : List Event). replay l base) same ∙ sym (at_point live base counted n sound at) }
 
 true_not_false : true ≡ false → ⊥
 true_not_false e = absurd cc
@@ -85,7 +85,7 @@ quiet_is_live live next base counted n numbered le described sound =
     let split : from_control all ≡ from_control live ++ quiet n ∷ [] = (opening_append live (quiet n ∷ []) found).1 in
     let grown : Sound (from_control all) base counted = subst (λ (l : List Event). Sound l base counted) (sym split) (quiets (from_control live) base counted n sound) in
     let whole : until_first (is_point n) (from_control all) ≡ from_control all = sym (from_until (is_point n) all (ap (λ (l : List Event). has is_control l) cut ∙ has_append is_control live (quiet n ∷ []) ∙ true_or (has is_control live) false found)) ∙ ap (λ (l : List Event). from_control l) cut in
-    (lives, at_point all base counted n grown lives ∙ ap (λ (l : List Event). replay l base) (whole ∙ split) ∙ replay_append (from_control live) (quiet n ∷ []) base)
+    record { lives = lives; same = at_point all base counted n grown lives ∙ ap (λ (l : List Event). replay l base) (whole ∙ split) ∙ replay_append (from_control live) (quiet n ∷ []) base }
   where
     or_end : (b : Bool) → b || (true || false) ≡ true
     or_end true = refl

@@ -7,7 +7,7 @@ use Rattle.dms_history.specs.Ranges.{Logged, event, range, is_point_logged, live
 use Rattle.dms_history.specs.Entries.{Entry, schema_part, image, byte_range, quiet_point, control_point, begin_restore, counts_in, how_of, is_in_row}
 use Rattle.dms_history.specs.Schemas.{Parts, no_parts, after_entry, parts_from, is_whole, parts_of_schema, schema_entries}
 use Rattle.dms_history.specs.EntryEvents.{said_by, logged_from, logged, is_place, live_entries_from}
-use Rattle.dms_history.specs.LawsOfEntries.{WholeSchemas, LiveOfEntries, RowsOfBlocks}
+use Rattle.dms_history.specs.LawsOfEntries.{EndsWithSchema, WholeSchemas, LiveOfEntries, RowsOfBlocks}
 use Rattle.dms_history.proofs.Cuts.{until_none}
 use Rattle.dms_history.proofs.AtPoints.{bool_cases}
 use Rattle.dms_history.proofs.HalfDone.{or_at}
@@ -17,7 +17,12 @@ true_not_false : true ≡ false → ⊥
 true_not_false e = absurd cc
 
 pub rows_of_blocks : RowsOfBlocks
-rows_of_blocks f b k r = (λ on. (in_from f b r on, in_to f b r on), λ low high. grind (arith, nat_tests), λ other. grind (arith, nat_tests))
+rows_of_blocks f b r = record {
+  from_first = λ on. in_from f b r on;
+  to_last = λ on. in_to f b r on;
+  within = λ low high. grind (arith, nat_tests);
+  elsewhere = λ k other. grind (arith, nat_tests);
+}
   where
     in_from : (f b r : ℕ) → is_in_row f b (record { file = f; row = r }) ≡ true → 16 * r ≤ b
     in_from f b r on = grind (arith, nat_tests)
@@ -106,13 +111,13 @@ whole_read : (p : Parts) → is_whole p ≡ true → (0 < p.read) × (p.read ≡
 whole_read p on = (grind (arith, nat_tests), grind (arith, nat_tests))
 
 named : (entries front : List Entry) (bodies : List (List ℕ)) (all : ℕ) → entries ≡ front ++ parts_of_schema 1 all bodies → length bodies ≡ all → 0 < all
-    → (front : List Entry) × (first : List ℕ) × (rest : List (List ℕ)) × (entries ≡ front ++ schema_entries (first ∷ rest))
+    → EndsWithSchema entries
 named entries front [] all is long above = absurd (omega (arith, long, above))
-named entries front (first ∷ rest) all is long above = (front, first, rest, is ∙ ap (λ k. front ++ parts_of_schema 1 k (first ∷ rest)) (sym long))
+named entries front (first ∷ rest) all is long above =
+    record { earlier = front; first = first; rest = rest; is = is ∙ ap (λ k. front ++ parts_of_schema 1 k (first ∷ rest)) (sym long) }
 
 pub whole_schemas : WholeSchemas
 whole_schemas entries = (
-  λ front first rest is. ap (λ (l : List Entry). is_whole (parts_from no_parts l)) is ∙ schema_is_whole front first rest no_parts,
   λ on.
       let p = parts_from no_parts entries in
       let read = whole_read p on in
@@ -120,6 +125,7 @@ whole_schemas entries = (
         | inl none ↦ absurd (omega (arith, none, read.0))
         | inr r ↦ named entries r.0 r.1 p.all r.2 (r.3 ∙ read.1) (omega (arith, read.0, read.1))
       ],
+  λ ends. ap (λ (l : List Entry). is_whole (parts_from no_parts l)) ends.is ∙ schema_is_whole ends.earlier ends.first ends.rest no_parts,
 )
 
 -- ---- live entries

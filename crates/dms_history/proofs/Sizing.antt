@@ -17,21 +17,21 @@ sized_block c f b x sized le len g k low = elim (place_cases g k f b) [
 pub sized_replay : SizedReplay
 sized_replay [] c chain sized images = sized
 sized_replay (change f b before after ∷ es) c chain sized images =
-    sized_replay es (with_block c f b after) chain.1 (sized_block c f b after sized (tells_le b before (c f) chain.0) images.1) images.2
+    sized_replay es (with_block c f b after) chain.1 (sized_block c f b after sized (tells_le b before (c f) chain.0) images.0.becomes) images.1
 sized_replay (quiet n ∷ es) c chain sized images = sized_replay es c chain sized images
 sized_replay (control n next counts described ∷ es) c chain sized images = sized_replay es c chain.1 sized images
 sized_replay (begin n how ∷ es) c chain sized images = absurd chain
 
 before_sized : (es : List Event) (f b : ℕ) (old : Block) → ImagesSized es → first_before f b es ≡ Some (Some old) → length old ≡ 1024
 before_sized [] f b old images is = absurd cc
-before_sized (change g k before after ∷ es) f b old images is = go (is_at f b g k) is (λ more. before_sized es f b old images.2 more)
+before_sized (change g k before after ∷ es) f b old images is = go (is_at f b g k) is (λ more. before_sized es f b old images.1 more)
   where
     one : (before : Option Block) → IsSizedBefore before → before ≡ Some old → length old ≡ 1024
     one None sized is = absurd cc
     one (Some x) sized is = sym (ap length (some_is x old is)) ∙ sized
 
     go : (t : Bool) → cond t (Some before) (first_before f b es) ≡ Some (Some old) → (first_before f b es ≡ Some (Some old) → length old ≡ 1024) → length old ≡ 1024
-    go true is rest = one before images.0 (some_is before (Some old) is)
+    go true is rest = one before images.0.was (some_is before (Some old) is)
     go false is rest = rest is
 before_sized (quiet n ∷ es) f b old images is = before_sized es f b old images is
 before_sized (control n next counts described ∷ es) f b old images is = before_sized es f b old images is

@@ -127,14 +127,14 @@ here_is dumps t p stored is = ap (λ o. here_by o dumps stored) is
 pub restore_writes : RestoreWrites
 restore_writes dumps t base stored written p is steady same =
     let left : outcome p.how dumps p.entries p.point written ≡ outcome p.how dumps p.entries p.point stored = outcome_same p.how dumps p.entries p.point written stored same in
-    let equal : here dumps t written ≡ here dumps t stored = here_is dumps t p written is ∙ ap (λ (c : Content). block_in c) left ∙ sym (here_is dumps t p stored is) in (
-      record {
+    let equal : here dumps t written ≡ here dumps t stored = here_is dumps t p written is ∙ ap (λ (c : Content). block_in c) left ∙ sym (here_is dumps t p stored is) in record {
+      steady = record {
         sound = subst (λ (s : Stored). Sound (from_control t.live) base s) (sym equal) steady.sound;
         restored = λ q is_q. subst (λ (r : Pending). outcome r.how dumps r.entries r.point written ≡ replay (from_control t.live) base) (some_is p q (sym is ∙ is_q)) (left ∙ steady.restored p is);
         point_lives = steady.point_lives;
-      },
-      equal,
-    )
+      };
+      counts = equal;
+    }
 
 -- ---- ends
 
@@ -154,9 +154,9 @@ restore_ends dumps t base stored written p next counts described is steady count
       stands = λ f b low none.
           let under : b < counts f = omega (arith, subst (λ (c : Content). b < length (c f)) now low, count_is f) in
           stand f b under ∙ ap (λ (s : Stored). s f b) (here_is dumps t p stored is) ∙ ap (λ (c : Content). block_in c f b) (right ∙ sym now);
-    } in (
-      record { sound = sound; restored = λ q none. absurd (none_not_some q none); point_lives = λ q none. absurd (none_not_some q none) },
-      λ n live.
+    } in record {
+      steady = record { sound = sound; restored = λ q none. absurd (none_not_some q none); point_lives = λ q none. absurd (none_not_some q none) };
+      points = λ n live.
           let more : until_first (is_point n) (t.live ++ e ∷ []) ≡ until_first (is_point n) t.live = until_append (is_point n) t.live (e ∷ []) live.found in
           let live_on : IsLive (t.live ++ e ∷ []) n = record {
             found = has_append (is_point n) t.live (e ∷ []) ∙ true_or (has (is_point n) t.live) (has (is_point n) (e ∷ [])) live.found;
@@ -164,8 +164,8 @@ restore_ends dumps t base stored written p next counts described is steady count
           } in
           let inner : until_first (is_point n) (from_control (t.live ++ e ∷ [])) ≡ until_first (is_point n) (from_control t.live) =
           ap (λ (l : List Event). until_first (is_point n) l) grown ∙ until_append (is_point n) (from_control t.live) (e ∷ []) (live_from t.live n live).found in
-          (live_on, at_point (t.live ++ e ∷ []) base written n sound live_on ∙ ap (λ (l : List Event). replay l base) inner ∙ sym (at_point t.live base (here dumps t stored) n steady.sound live)),
-    )
+          record { lives = live_on; same = at_point (t.live ++ e ∷ []) base written n sound live_on ∙ ap (λ (l : List Event). replay l base) inner ∙ sym (at_point t.live base (here dumps t stored) n steady.sound live) };
+    }
 
 -- ---- a pending restore is finished before a reconstruction
 
@@ -194,20 +194,20 @@ ends_first dumps t base right stored written p next d named counts described is 
           ∙ restore_same p.how dumps p.entries m f b stored right (λ _. same f b off) ∙ sym (block f b right low)
     ]) in
     let point = steady.point_lives p is in
-    let kept = ended.1 m point in
+    let kept = ended.points m point in
     let dump_in = live_in t.live m (dumps d).point true_dump.point_lives in
     record {
-      steady = ended.0;
+      steady = ended.steady;
       ready = record {
-        sound = ended.0.sound;
+        sound = ended.steady.sound;
         same = λ f b off. ap (λ k. cond k (here dumps t right f b) (written f b)) (sym off);
-        point_lives = kept.0;
+        point_lives = kept.lives;
         dump = record {
           point_lives = subst (λ (l : List Event). IsLive l (dumps d).point) (sym (until_append (is_point m) t.live (e ∷ []) point.found)) true_dump.point_lives;
-          same = true_dump.same ∙ sym (ended.1 (dumps d).point dump_in).1;
+          same = true_dump.same ∙ sym (ended.points (dumps d).point dump_in).same;
         };
       };
-      points = ended.1;
+      points = ended.points;
     }
 
 pub log_takes : (entries : List Event) (m f b : ℕ) (s : Stored) → is_unlogged entries m f b ≡ true → pick entries m s f b ≡ s f b

@@ -22,12 +22,20 @@ judge_point live next n =
     else if has (λ m. nat_le m n) (live_numbers live) then Some voided
     else Some audit_missing
 
+-- The number has been used, it isn't live, and a live point is below it.
+pub record IsCutOff (live : List Event) (next n : ℕ) : Type 0 where
+  pub used : n < next
+  pub gone : IsLive live n → ⊥
+  pub lower : ℕ
+  pub lower_lives : IsLive live lower
+  pub is_lower : lower < n
+
 -- Law: each answer comes exactly where it is said to.
 pub record JudgesPoint (live : List Event) (next n : ℕ) : Type 0 where
   pub lives : (judge_point live next n ≡ None) ↔ ((n < next) × IsLive live n)
   pub no_such : (judge_point live next n ≡ Some no_such_point) ↔ (next ≤ n)
   pub missing : (judge_point live next n ≡ Some audit_missing) ↔ ((n < next) × ((m : ℕ) → IsLive live m → n < m))
-  pub void : (judge_point live next n ≡ Some voided) ↔ ((n < next) × (IsLive live n → ⊥) × (m : ℕ) × IsLive live m × (m < n))
+  pub void : (judge_point live next n ≡ Some voided) ↔ IsCutOff live next n
 
 abbrev pub EachJudged : Type 0
 EachJudged = (live : List Event) (next n : ℕ) → JudgesPoint live next n

@@ -9,6 +9,7 @@ use Rattle.dms_history.specs.Here.{here}
 use Rattle.dms_history.specs.Base.{opening, from_control, Sound, Opened, base_of}
 use Rattle.dms_history.specs.Agrees.{BeginsAloneEvents, ListAgrees, EventsAgree, Numbered}
 use Rattle.dms_history.specs.Restores.{Steady}
+use Rattle.dms_history.specs.Points.{HasPoint}
 
 abbrev pub AgreesHasBase : Type 0
 AgreesHasBase = (first : Bool) (live : List Event) (next : ℕ) (counted : Stored) → has is_begin live ≡ false
@@ -34,11 +35,17 @@ SteadyAgrees = (first : Bool) (entries : List Event) (dumps : Dumps) (stored : S
     → Opened (opening (history entries).live) base → Numbered (history entries).live (next_number entries)
     → (first ≡ true → (f : ℕ) → length (base f) ≡ 0) → EventsAgree first entries dumps stored
 
+-- What is left of the live entries, ys, has a later base, and each of its live points without a place among the removed ones, xs, is one of all, with its blocks.
+pub record HasLaterBase (xs ys : List Event) (here : Stored) : Type 0 where
+  pub later : Content
+  pub sound : Sound (from_control ys) later here
+  pub opened : Opened (opening ys) later
+  pub points : (n : ℕ) → IsLive ys n → has (is_point n) xs ≡ false → HasPoint (xs ++ ys) here n (blocks_at ys here n)
+
 -- Old audit files are removed from the front: what counts has a later base, and each live point whose place is not removed has its content.
 abbrev pub FrontGoes : Type 0
 FrontGoes = (xs ys : List Event) (base : Content) (here : Stored) → Sound (from_control (xs ++ ys)) base here → Opened (opening (xs ++ ys)) base → has is_control ys ≡ true
-    → (later : Content) × Sound (from_control ys) later here × Opened (opening ys) later
-    × ((n : ℕ) → IsLive ys n → has (is_point n) xs ≡ false → IsLive (xs ++ ys) n × (blocks_at ys here n ≡ blocks_at (xs ++ ys) here n))
+    → HasLaterBase xs ys here
 
 -- What stands before the first Control stays as it is, whatever follows and wherever a Begin cuts behind that Control.
 abbrev pub OpeningStays : Type 0

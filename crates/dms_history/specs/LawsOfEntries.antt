@@ -1,5 +1,5 @@
 -- Laws: entries, their events, and one more entry that is sealed.
-use Rattle.std.specs.Prelude.{ℕ, ◌+◌, ◌*◌, ◌≤◌, ◌<◌, ◌≡◌, ◌≢◌, true, false, List, [], ◌∷◌, ◌++◌, Option, Some, None, ◌⊎◌, take}
+use Rattle.std.specs.Prelude.{ℕ, ◌+◌, ◌*◌, ◌≤◌, ◌<◌, ◌≡◌, ◌≢◌, ◌↔◌, true, false, List, [], ◌∷◌, ◌++◌, Option, Some, None, ◌⊎◌, take}
 use Rattle.dms_history.specs.Events.{Block, Event, change, quiet, control, begin}
 use Rattle.dms_history.specs.Images.{last_after}
 use Rattle.dms_history.specs.History.{after_event, history, History, history_from}
@@ -10,22 +10,30 @@ use Rattle.dms_history.specs.Schemas.{no_parts, parts_from, is_whole, schema_ent
 use Rattle.dms_history.specs.EntryEvents.{logged, events, live_entries, BeginsAlone}
 use Rattle.dms_history.specs.Agrees.{BeginsAloneEvents}
 
+-- Behind some earlier entries stands a whole Schema: its parts 1 to the last, one directly after another.
+pub record EndsWithSchema (entries : List Entry) : Type 0 where
+  pub earlier : List Entry
+  pub first : List ℕ
+  pub rest : List (List ℕ)
+  pub is : entries ≡ earlier ++ schema_entries (first ∷ rest)
+
 -- The entries end with a whole Schema exactly where its parts 1 to the last stand there one directly after another.
 abbrev pub WholeSchemas : Type 0
-WholeSchemas = (entries : List Entry)
-    → ((front : List Entry) (first : List ℕ) (rest : List (List ℕ)) → entries ≡ front ++ schema_entries (first ∷ rest) → is_whole (parts_from no_parts entries) ≡ true)
-    × (is_whole (parts_from no_parts entries) ≡ true → (front : List Entry) × (first : List ℕ) × (rest : List (List ℕ)) × (entries ≡ front ++ schema_entries (first ∷ rest)))
+WholeSchemas = (entries : List Entry) → (is_whole (parts_from no_parts entries) ≡ true) ↔ EndsWithSchema entries
 
 -- The live events are those of the live entries: which Controls stand directly after a whole Schema is the same in both.
 abbrev pub LiveOfEntries : Type 0
 LiveOfEntries = (entries : List Entry) → logged (live_entries entries) ≡ live_logged [] (logged entries)
 
--- A block is in a row where its number divided by 16 is the row's, and no row names a block of another file.
+-- A block is in row r of its file where its number divided by 16 is r, and no row names a block of another file.
+pub record RowOfBlock (f b r : ℕ) : Type 0 where
+  pub from_first : is_in_row f b (record { file = f; row = r }) ≡ true → 16 * r ≤ b
+  pub to_last : is_in_row f b (record { file = f; row = r }) ≡ true → b < 16 * r + 16
+  pub within : 16 * r ≤ b → b < 16 * r + 16 → is_in_row f b (record { file = f; row = r }) ≡ true
+  pub elsewhere : (k : ℕ) → k ≢ f → is_in_row f b (record { file = k; row = r }) ≡ false
+
 abbrev pub RowsOfBlocks : Type 0
-RowsOfBlocks = (f b k r : ℕ)
-    → (is_in_row f b (record { file = f; row = r }) ≡ true → (16 * r ≤ b) × (b < 16 * r + 16))
-    × ((16 * r ≤ b) → (b < 16 * r + 16) → is_in_row f b (record { file = f; row = r }) ≡ true)
-    × (k ≢ f → is_in_row f b (record { file = k; row = r }) ≡ false)
+RowsOfBlocks = (f b r : ℕ) → RowOfBlock f b r
 
 -- ---- one more entry
 

@@ -22,6 +22,11 @@ pub record IsIdle (entries : List Entry) : Type 0 where
   pub none : (history_of entries).pending ≡ None
   pub controlled : has is_control (live_of entries) ≡ true
 
+-- It is kept, and the content is this one.
+pub record KeptTelling (first : Bool) (entries : List Entry) (dumps : Dumps) (base : Content) (stored : Stored) (content : Content) : Type 0 where
+  pub kept : Kept first entries dumps base stored
+  pub tells : content_told entries base ≡ content
+
 -- A new database: a whole Schema and its Control, whatever the files hold.
 abbrev pub KeptFirst : Type 0
 KeptFirst = (one : List ℕ) (rest : List (List ℕ)) (dumps : Dumps) (stored : Stored)
@@ -31,21 +36,20 @@ KeptFirst = (one : List ℕ) (rest : List (List ℕ)) (dumps : Dumps) (stored : 
 abbrev pub KeptImage : Type 0
 KeptImage = (first : Bool) (entries : List Entry) (dumps : Dumps) (base : Content) (stored : Stored) (f b : ℕ) (before : Option Block) (after : Block) → Kept first entries dumps base stored
     → IsIdle entries → Tells b before (content_told entries base f)
-    → Kept first (entries ++ image f b before after ∷ []) dumps base stored
-    × (content_told (entries ++ image f b before after ∷ []) base ≡ with_block (content_told entries base) f b after)
+    → KeptTelling first (entries ++ image f b before after ∷ []) dumps base stored (with_block (content_told entries base) f b after)
 
 -- A Range of a block with an Image itself since the last Control: the content has its bytes.
 abbrev pub KeptRange : Type 0
 KeptRange = (first : Bool) (entries : List Entry) (dumps : Dumps) (base : Content) (stored : Stored) (f b place : ℕ) (bytes : List ℕ) → Kept first entries dumps base stored
     → IsIdle entries → has (is_image f b) (after_last is_control_logged (live_logged [] (logged entries))) ≡ true
-    → Kept first (entries ++ byte_range f b place bytes ∷ []) dumps base stored
-    × (content_told (entries ++ byte_range f b place bytes ∷ []) base ≡ with_block (content_told entries base) f b (patched place bytes (block_in (content_told entries base) f b)))
+    → KeptTelling first (entries ++ byte_range f b place bytes ∷ []) dumps base stored
+    (with_block (content_told entries base) f b (patched place bytes (block_in (content_told entries base) f b)))
 
 -- A Quiet with a number that is free.
 abbrev pub KeptQuiet : Type 0
 KeptQuiet = (first : Bool) (entries : List Entry) (dumps : Dumps) (base : Content) (stored : Stored) (n : ℕ) → Kept first entries dumps base stored
     → IsIdle entries → next_of entries ≤ n → n < 2 ^ 64 - 1
-    → Kept first (entries ++ quiet_point n ∷ []) dumps base stored × (content_told (entries ++ quiet_point n ∷ []) base ≡ content_told entries base)
+    → KeptTelling first (entries ++ quiet_point n ∷ []) dumps base stored (content_told entries base)
 
 -- A Schema part, over a pending restore too: no event is added.
 abbrev pub KeptSchema : Type 0
@@ -58,7 +62,7 @@ KeptControl = (first : Bool) (entries : List Entry) (dumps : Dumps) (base : Cont
     → IsIdle entries → last_point (history_of entries) ≡ Some n → has (is_point n) (live_of entries) ≡ true → next_of entries ≤ next
     → ((f : ℕ) → counts_in counts f ≡ length (content_told entries base f))
     → ((f b : ℕ) → b < length (content_told entries base f) → written f b ≡ block_in (content_told entries base) f b)
-    → Kept first (entries ++ control_point n next counts ∷ []) dumps base written × (content_told (entries ++ control_point n next counts ∷ []) base ≡ content_told entries base)
+    → KeptTelling first (entries ++ control_point n next counts ∷ []) dumps base written (content_told entries base)
 
 -- A Begin: what counted is kept, and what is there now may be anything where the restore's rule doesn't look. The dumps may be others by now.
 abbrev pub KeptBegin : Type 0
@@ -72,7 +76,7 @@ KeptEnds = (first : Bool) (entries : List Entry) (dumps : Dumps) (base : Content
     → (history_of entries).pending ≡ Some p → next_of entries ≤ next
     → ((f : ℕ) → counts_in counts f ≡ count_at p.entries p.point f)
     → ((f b : ℕ) → b < counts_in counts f → written f b ≡ here dumps (history_of entries) stored f b)
-    → Kept first (entries ++ control_point p.point next counts ∷ []) dumps base written × (content_told (entries ++ control_point p.point next counts ∷ []) base ≡ content_told entries base)
+    → KeptTelling first (entries ++ control_point p.point next counts ∷ []) dumps base written (content_told entries base)
 
 -- Blocks are written early, torn or whole: each block below its file's count without a change after the last Control stays.
 abbrev pub KeptWrites : Type 0
@@ -80,22 +84,32 @@ KeptWrites = (first : Bool) (entries : List Entry) (dumps : Dumps) (base : Conte
     → ((f b : ℕ) → b < length (content_told entries base f) → last_after f b (after_last is_control (from_control (live_of entries))) ≡ None → written f b ≡ stored f b)
     → Kept first entries dumps base written
 
+-- It is kept with the blocks as they are written, and what counts as each block is what counted.
+pub record KeptCounting (first : Bool) (entries : List Entry) (dumps : Dumps) (base : Content) (stored written : Stored) : Type 0 where
+  pub kept : Kept first entries dumps base written
+  pub counts : here dumps (history_of entries) written ≡ here dumps (history_of entries) stored
+
 -- A pending restore writes blocks that it doesn't take from what is stored: what counts stays as it is.
 abbrev pub KeptRestores : Type 0
 KeptRestores = (first : Bool) (entries : List Entry) (dumps : Dumps) (base : Content) (stored written : Stored) (p : Pending) → Kept first entries dumps base stored
     → (history_of entries).pending ≡ Some p
     → ((f b : ℕ) → b < count_at p.entries p.point f → takes_stored p.how p.entries p.point f b ≡ true → written f b ≡ stored f b)
-    → Kept first entries dumps base written × (here dumps (history_of entries) written ≡ here dumps (history_of entries) stored)
+    → KeptCounting first entries dumps base stored written
 
 -- What is kept over any base agrees.
 abbrev pub KeptAgrees : Type 0
 KeptAgrees = (first : Bool) (entries : List Entry) (dumps : Dumps) (base : Content) (stored : Stored) → Kept first entries dumps base stored → Agrees first entries dumps stored
 
+-- It is kept over some base.
+pub record KeptOver (first : Bool) (entries : List Entry) (dumps : Dumps) (stored : Stored) : Type 0 where
+  pub base : Content
+  pub kept : Kept first entries dumps base stored
+
 -- What agrees, with a live Control and with a live point of a restore that is pending, is kept over some base.
 abbrev pub AgreesKept : Type 0
 AgreesKept = (first : Bool) (entries : List Entry) (dumps : Dumps) (stored : Stored) → Agrees first entries dumps stored → has is_control (live_of entries) ≡ true
     → ((p : Pending) → (history_of entries).pending ≡ Some p → IsLive (live_of entries) p.point)
-    → (base : Content) × Kept first entries dumps base stored
+    → KeptOver first entries dumps stored
 
 -- A Schema and its Control sealed in part or whole: what is kept before them and with them is kept with each first part of them.
 abbrev pub KeptInParts : Type 0

@@ -7,6 +7,7 @@ use Rattle.dms_history.specs.Places.{is_control, is_point, IsLive}
 use Rattle.dms_history.specs.Images.{last_after, choice}
 use Rattle.dms_history.specs.Pick.{blocks_at}
 use Rattle.dms_history.specs.Base.{from_control, Sound}
+use Rattle.dms_history.specs.Points.{HasPoint}
 
 -- Where each block without a change stands as it did at the start, redo and undo give back the content between two lists of changes.
 abbrev pub ChoiceGivesContent : Type 0
@@ -28,4 +29,4 @@ EachLivePoint = (live : List Event) (base : Content) (here : Stored) (n : ℕ) �
 -- What stands before the first Control never counts for a live point.
 abbrev pub OpeningNeverCounts : Type 0
 OpeningNeverCounts = (live : List Event) (here : Stored) (n : ℕ) → IsLive live n
-    → IsLive (from_control live) n × (blocks_at live here n ≡ blocks_at (from_control live) here n)
+    → HasPoint (from_control live) here n (blocks_at live here n)

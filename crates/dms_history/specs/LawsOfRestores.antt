@@ -7,6 +7,7 @@ use Rattle.dms_history.specs.History.{Pending, History, after_event, history, la
 use Rattle.dms_history.specs.Agrees.{BeginsAloneEvents}
 use Rattle.dms_history.specs.Pick.{Dumps, count_at, blocks_at}
 use Rattle.dms_history.specs.Here.{outcome, here}
+use Rattle.dms_history.specs.Points.{HasPoint}
 use Rattle.dms_history.specs.Restores.{DumpServes, Ready, takes_stored, Steady}
 
 -- Its Begin is sealed: the database is steady, the restore is to leave the content of its point, and each point that stays live keeps its content.
@@ -21,20 +22,29 @@ abbrev pub RestoreBegins : Type 0
 RestoreBegins = (how : How) (dumps : Dumps) (h : History) (base : Content) (counted stored : Stored) (m : ℕ) → Ready how dumps h.live base counted stored m
     → Begun how dumps h base counted stored m
 
+-- With the blocks as they are written the database is steady, and what counts as each block is what counted.
+pub record WritesKeep (dumps : Dumps) (h : History) (base : Content) (stored written : Stored) : Type 0 where
+  pub steady : Steady dumps h base written
+  pub counts : here dumps h written ≡ here dumps h stored
+
 -- It writes, torn or whole, only blocks that it doesn't take from what is stored: what counts stays as it is.
 abbrev pub RestoreWrites : Type 0
 RestoreWrites = (dumps : Dumps) (h : History) (base : Content) (stored written : Stored) (p : Pending) → h.pending ≡ Some p → Steady dumps h base stored
     → ((f b : ℕ) → b < count_at p.entries p.point f → takes_stored p.how p.entries p.point f b ≡ true → written f b ≡ stored f b)
-    → Steady dumps h base written × (here dumps h written ≡ here dumps h stored)
+    → WritesKeep dumps h base stored written
+
+-- Its Control is sealed: the database is steady, and each live point stays live with its content.
+pub record Ended (dumps : Dumps) (h : History) (base : Content) (stored written : Stored) (p : Pending) (next : ℕ) (counts : Counts) (described : Bool) : Type 0 where
+  pub steady : Steady dumps (after_event h (control p.point next counts described)) base written
+  pub points : (n : ℕ) → IsLive h.live n
+      → HasPoint (h.live ++ control p.point next counts described ∷ []) written n (blocks_at h.live (here dumps h stored) n)
 
 -- All blocks stand as it is to leave them, and its Control is sealed: each live point stays live with its content.
 abbrev pub RestoreEnds : Type 0
 RestoreEnds = (dumps : Dumps) (h : History) (base : Content) (stored written : Stored) (p : Pending) (next : ℕ) (counts : Counts) (described : Bool) → h.pending ≡ Some p → Steady dumps h base stored
     → ((f : ℕ) → counts f ≡ length (outcome p.how dumps p.entries p.point stored f))
     → ((f b : ℕ) → b < counts f → written f b ≡ here dumps h stored f b)
-    → Steady dumps (after_event h (control p.point next counts described)) base written
-    × ((n : ℕ) → IsLive h.live n → IsLive (h.live ++ control p.point next counts described ∷ []) n
-    × (blocks_at (h.live ++ control p.point next counts described ∷ []) written n ≡ blocks_at h.live (here dumps h stored) n))
+    → Ended dumps h base stored written p next counts described
 
 -- the blocks that are named as something counts them, the others as they are
 abbrev pub with_named : (ℕ → ℕ → Bool) → Stored → Stored → Stored
@@ -44,8 +54,8 @@ with_named named counted stored f b = if named f b then counted f b else stored 
 pub record EndedFirst (dumps : Dumps) (h : History) (base : Content) (right written : Stored) (p : Pending) (next d : ℕ) (named : ℕ → ℕ → Bool) (counts : Counts) (described : Bool) : Type 0 where
   pub steady : Steady dumps (after_event h (control p.point next counts described)) base (with_named named (here dumps h right) written)
   pub ready : Ready (reconstruct d named) dumps (h.live ++ control p.point next counts described ∷ []) base (with_named named (here dumps h right) written) written p.point
-  pub points : (n : ℕ) → IsLive h.live n → IsLive (h.live ++ control p.point next counts described ∷ []) n
-      × (blocks_at (h.live ++ control p.point next counts described ∷ []) (with_named named (here dumps h right) written) n ≡ blocks_at h.live (here dumps h right) n)
+  pub points : (n : ℕ) → IsLive h.live n
+      → HasPoint (h.live ++ control p.point next counts described ∷ []) (with_named named (here dumps h right) written) n (blocks_at h.live (here dumps h right) n)
 
 -- Before a reconstruction a pending restore is finished, while the named blocks hold anything: with them as they count the database is steady, the
 -- reconstruction may begin, and each live point stays live with its content.
@@ -62,8 +72,7 @@ abbrev pub PendingWritesFirst : Type 0
 PendingWritesFirst = (dumps : Dumps) (h : History) (base : Content) (right stored written : Stored) (p : Pending) (named : ℕ → ℕ → Bool) → h.pending ≡ Some p → Steady dumps h base right
     → ((f b : ℕ) → named f b ≡ false → stored f b ≡ right f b)
     → ((f b : ℕ) → named f b ≡ false → b < count_at p.entries p.point f → takes_stored p.how p.entries p.point f b ≡ true → written f b ≡ stored f b)
-    → Steady dumps h base (with_named named (here dumps h right) written)
-    × (here dumps h (with_named named (here dumps h right) written) ≡ here dumps h right)
+    → WritesKeep dumps h base right (with_named named (here dumps h right) written)
 
 -- Where no restore is pending no dump counts, so a new dump changes nothing.
 abbrev pub NoDumpCounts : Type 0

@@ -10,6 +10,7 @@ use Rattle.dms_history.specs.Pick.{Dumps, content_of, blocks_at}
 use Rattle.dms_history.specs.Base.{from_control, Sound}
 use Rattle.dms_history.specs.Agrees.{Numbered}
 use Rattle.dms_history.specs.Restores.{Steady}
+use Rattle.dms_history.specs.Points.{HasPoint}
 
 -- One more change is sealed, which tells what stood before it.
 abbrev pub Changes : Type 0
@@ -58,13 +59,13 @@ SealsRun = (dumps : Dumps) (h : History) (base : Content) (stored : Stored) (es 
 -- Each live point stays live with its content while the list of live entries goes on, whatever was written by then.
 abbrev pub PointsGoOn : Type 0
 PointsGoOn = (live more : List Event) (base : Content) (counted later : Stored) (n : ℕ) → Sound (from_control live) base counted → Sound (from_control (live ++ more)) base later
-    → IsLive live n → IsLive (live ++ more) n × (blocks_at (live ++ more) later n ≡ blocks_at live counted n)
+    → IsLive live n → HasPoint (live ++ more) later n (blocks_at live counted n)
 
 -- A new quiet point is live, with the content of now.
 abbrev pub QuietIsLive : Type 0
 QuietIsLive = (live : List Event) (next : ℕ) (base : Content) (counted : Stored) (n : ℕ) → Numbered live next → next ≤ n
     → has is_described live ≡ true → Sound (from_control live) base counted
-    → IsLive (live ++ quiet n ∷ []) n × (blocks_at (live ++ quiet n ∷ []) counted n ≡ replay (from_control live) base)
+    → HasPoint (live ++ quiet n ∷ []) counted n (replay (from_control live) base)
 
 -- Behind a Control the files hold the content.
 abbrev pub ControlStands : Type 0

@@ -70,16 +70,20 @@ NumbersControl = (entries : List Event) (h : History) (m next : ℕ) (counts : C
 abbrev pub NumbersFirst : Type 0
 NumbersFirst = (counts : Counts) (described : Bool) → Numbered (control 0 1 counts described ∷ []) (next_number (control 0 1 counts described ∷ []))
 
--- The last point is live where any point is, and no live point is above it; where there is a Control there is a last point.
+-- The last point is live, and this point isn't above it.
 pub record LastPoint (h : History) (n : ℕ) : Type 0 where
   pub last : ℕ
   pub is : last_point h ≡ Some last
   pub not_above : n ≤ last
   pub lives : IsLive h.live last
 
+-- The last point is live where any point is, and no live point is above it; where there is a Control there is a last point.
+pub record LastsOver (h : History) : Type 0 where
+  pub points : (n : ℕ) → IsLive h.live n → LastPoint h n
+  pub some : has is_control h.live ≡ true → (m : ℕ) × (last_point h ≡ Some m)
+
 abbrev pub LastLives : Type 0
-LastLives = (h : History) (next : ℕ) → Numbered h.live next
-    → ((n : ℕ) → IsLive h.live n → LastPoint h n) × (has is_control h.live ≡ true → (m : ℕ) × (last_point h ≡ Some m))
+LastLives = (h : History) (next : ℕ) → Numbered h.live next → LastsOver h
 
 -- The next number after one more entry, exactly.
 pub record NextSteps (entries : List Event) : Type 0 where

@@ -6,6 +6,7 @@ use Rattle.dms_history.specs.Pick.{Dumps, count_at}
 use Rattle.dms_history.specs.Here.{outcome, here}
 use Rattle.dms_history.specs.Places.{IsLive}
 use Rattle.dms_history.specs.Pick.{blocks_at}
+use Rattle.dms_history.specs.Points.{HasPoint}
 use Rattle.dms_history.specs.Restores.{Ready, takes_stored, Steady}
 
 -- what is on the disk
@@ -29,14 +30,25 @@ abbrev pub all_moved : Disk → List RestoreStep → Disk
 all_moved d [] = d
 all_moved d (s ∷ ss) = all_moved (moved d s) ss
 
+-- A restore is pending, and each block that it takes from what is stored stays.
+pub record MayWrite (dumps : Dumps) (d : Disk) (written : Stored) : Type 0 where
+  pub p : Pending
+  pub is : d.history.pending ≡ Some p
+  pub stays : (f b : ℕ) → b < count_at p.entries p.point f → takes_stored p.how p.entries p.point f b ≡ true → written f b ≡ d.stored f b
+
+-- A restore is pending, this is its point, and all blocks stand as it is to leave them, with their counts.
+pub record MayEnd (dumps : Dumps) (d : Disk) (written : Stored) (m : ℕ) (counts : Counts) : Type 0 where
+  pub p : Pending
+  pub is : d.history.pending ≡ Some p
+  pub its_point : m ≡ p.point
+  pub counted : (f : ℕ) → counts f ≡ length (outcome p.how dumps p.entries p.point d.stored f)
+  pub stand : (f b : ℕ) → b < counts f → written f b ≡ here dumps d.history d.stored f b
+
 -- A restore is begun where it may be, over a pending one too; it writes blocks, torn or whole; it ends when all stand as they are to be.
 abbrev pub May : Dumps → Content → Disk → RestoreStep → Type 0
 May dumps base d (began how m) = Ready how dumps d.history.live base (here dumps d.history d.stored) d.stored m
-May dumps base d (wrote written) = (p : Pending) × (d.history.pending ≡ Some p)
-    × ((f b : ℕ) → b < count_at p.entries p.point f → takes_stored p.how p.entries p.point f b ≡ true → written f b ≡ d.stored f b)
-May dumps base d (ended written m next counts described) = (p : Pending) × (d.history.pending ≡ Some p) × (m ≡ p.point)
-    × ((f : ℕ) → counts f ≡ length (outcome p.how dumps p.entries p.point d.stored f))
-    × ((f b : ℕ) → b < counts f → written f b ≡ here dumps d.history d.stored f b)
+May dumps base d (wrote written) = MayWrite dumps d written
+May dumps base d (ended written m next counts described) = MayEnd dumps d written m counts
 
 abbrev pub AllMay : Dumps → Content → Disk → List RestoreStep → Type 0
 AllMay dumps base d [] = Unit {0}
@@ -46,11 +58,15 @@ AllMay dumps base d (s ∷ ss) = May dumps base d s × AllMay dumps base (moved 
 abbrev pub content_at : Dumps → Disk → ℕ → Content
 content_at dumps d n = blocks_at d.history.live (here dumps d.history d.stored) n
 
--- Law: what holds at every moment holds in the end, and each point that is live then was live at the start, with the same content.
+-- The database is steady after all steps, and each point that is live then was live before them, with the same content.
+pub record StepsKeep (dumps : Dumps) (base : Content) (d later : Disk) : Type 0 where
+  pub steady : Steady dumps later.history base later.stored
+  pub points : (n : ℕ) → IsLive later.history.live n → HasPoint d.history.live (here dumps d.history d.stored) n (content_at dumps later n)
+
+-- Law: what holds at every moment holds after all steps, and each point that is live then was live before them.
 abbrev pub HoweverOften : Type 0
 HoweverOften = (dumps : Dumps) (base : Content) (d : Disk) (steps : List RestoreStep) → Steady dumps d.history base d.stored → AllMay dumps base d steps
-    → Steady dumps (all_moved d steps).history base (all_moved d steps).stored
-    × ((n : ℕ) → IsLive (all_moved d steps).history.live n → IsLive d.history.live n × (content_at dumps (all_moved d steps) n ≡ content_at dumps d n))
+    → StepsKeep dumps base d (all_moved d steps)
 
 abbrev pub begun : How → History → ℕ → Stored → Disk
 begun how h m stored = record { history = after_event h (begin m how); stored = stored }
@@ -61,4 +77,4 @@ abbrev pub FromAnything : Type 0
 FromAnything = (how : How) (dumps : Dumps) (h : History) (base : Content) (counted stored : Stored) (m : ℕ) (steps : List RestoreStep) → Ready how dumps h.live base counted stored m
     → AllMay dumps base (begun how h m stored) steps
     → (n : ℕ) → IsLive (all_moved (begun how h m stored) steps).history.live n
-    → IsLive h.live n × (content_at dumps (all_moved (begun how h m stored) steps) n ≡ blocks_at h.live counted n)
+    → HasPoint h.live counted n (content_at dumps (all_moved (begun how h m stored) steps) n)

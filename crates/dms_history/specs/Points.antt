@@ -5,6 +5,11 @@ use Rattle.dms_history.specs.Lists.{has}
 use Rattle.dms_history.specs.Places.{is_point, is_described, IsLive}
 use Rattle.dms_history.specs.Pick.{blocks_at}
 
+-- A point is live, and these are its blocks.
+pub record HasPoint (live : List Event) (counted : Stored) (n : ℕ) (blocks : Content) : Type 0 where
+  pub lives : IsLive live n
+  pub same : blocks_at live counted n ≡ blocks
+
 -- a number and the content there
 pub record LivePoint : Type 0 where
   pub number : ℕ
@@ -60,7 +65,7 @@ Rises (n ∷ ns) = AllAbove n ns × Rises ns
 -- each of them is live, with its blocks
 abbrev pub AllLive : List Event → Stored → List LivePoint → Type 0
 AllLive live counted [] = Unit {0}
-AllLive live counted (p ∷ ps) = IsLive live p.number × (p.blocks ≡ blocks_at live counted p.number) × AllLive live counted ps
+AllLive live counted (p ∷ ps) = HasPoint live counted p.number p.blocks × AllLive live counted ps
 
 -- The list of the live points: its numbers rise, each one in it is live and has its blocks, and each live point is in it.
 pub record ListsPoints (live : List Event) (counted : Stored) (points : List LivePoint) : Type 0 where

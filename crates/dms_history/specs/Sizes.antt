@@ -11,10 +11,15 @@ abbrev pub IsSizedBefore : Option Block → Type 0
 IsSizedBefore None = Unit {0}
 IsSizedBefore (Some old) = length old ≡ 1024
 
+-- both images of a change have 1,024 bytes
+pub record IsSizedChange (before : Option Block) (after : Block) : Type 0 where
+  pub was : IsSizedBefore before
+  pub becomes : length after ≡ 1024
+
 -- each image has 1,024 bytes
 abbrev pub ImagesSized : List Event → Type 0
 ImagesSized [] = Unit {0}
-ImagesSized (change f b before after ∷ es) = IsSizedBefore before × (length after ≡ 1024) × ImagesSized es
+ImagesSized (change f b before after ∷ es) = IsSizedChange before after × ImagesSized es
 ImagesSized (quiet n ∷ es) = ImagesSized es
 ImagesSized (control n next counts described ∷ es) = ImagesSized es
 ImagesSized (begin n how ∷ es) = ImagesSized es
