@@ -1,3 +1,4 @@
+pub mod FileWritten
 pub mod Seen
 pub mod SlotBlockLaws
 pub mod SlotBlocks

@@ -1,13 +1,11 @@
 -- The file of a data set as it is seen through an overlay.
-use Rattle.std.specs.Prelude.{ℕ, ◌*◌, List}
+use Rattle.std.specs.Prelude.{ℕ, List}
 use Rattle.dms_desc.specs.Shape.{Shape}
-use Rattle.dms_fields.specs.Fields.{laid}
-use Rattle.dms_layout.specs.Slots.{slot_width}
-use Rattle.dms_block.specs.Content.{Content, with_block}
+use Rattle.dms_block.specs.Content.{Content}
 use Rattle.dms_block.specs.declared.blocks.Blocks.{Ghosts}
 use Rattle.dms_block.specs.declared.overlay.Overlay.{Overlay}
 use Rattle.dms_block.specs.View.{seen, seen_counts, under}
-use Rattle.dms_slots.specs.SlotBlocks.{file_of, block_of, place_of, block_at, BadBlock}
+use Rattle.dms_slots.specs.SlotBlocks.{file_of, slot_put, BadBlock}
 
 module _ {B : Type 0} {g : Ghosts B} where
   -- its blocks
@@ -24,5 +22,4 @@ module _ {B : Type 0} {g : Ghosts B} where
 
   -- all files, with these bytes in the place of the slot of a record
   abbrev pub with_slot : Shape → ℕ → List ℕ → Overlay B g → Content
-  with_slot s number bytes o = with_block (seen o) (file_of s.number) (block_of s.items number)
-      (laid (place_of s.items number * slot_width s.items) bytes (block_at (blocks_of s o) (block_of s.items number)))
+  with_slot s number bytes o = slot_put s number bytes (seen o)

@@ -1,7 +1,9 @@
 -- The slots of a data set's file: those of its blocks, one block after another.
-use Rattle.std.specs.Prelude.{ℕ, zero, suc, ◌+◌, ◌-◌, ◌*◌, ◌/◌, ◌%◌, ◌<◌, ◌≤◌, ◌≡◌, List, [], ◌∷◌, ◌++◌, flat_map, Bool, true, false, ◌&&◌, Some, None, if◌then◌else◌, IsTrue, length, take, drop, replicate, nat_le, slice_get, slice_index_or}
+use Rattle.std.specs.Prelude.{ℕ, zero, suc, ◌+◌, ◌-◌, ◌*◌, ◌/◌, ◌%◌, ◌<◌, ◌≤◌, ◌≡◌, ◌≢◌, List, [], ◌∷◌, ◌++◌, flat_map, Bool, true, false, ◌&&◌, Some, None, if◌then◌else◌, IsTrue, length, take, drop, replicate, nat_le, slice_get, slice_index_or}
 use Rattle.std.specs.declared.option.Option.{Option}
 use Rattle.std.specs.List.{list_all}
+use Rattle.dms_block.specs.Content.{Content, with_block}
+use Rattle.dms_fields.specs.Fields.{laid}
 use Rattle.dms_desc.specs.declared.structure.Item.{Item}
 use Rattle.dms_desc.specs.Shape.{Shape}
 use Rattle.dms_layout.specs.declared.slot.Slot.{Slot}
@@ -101,3 +103,15 @@ block_at bs b = block_or_zeros (slice_get bs b)
 -- the least number that no record has, where the data set may have one more
 abbrev pub least_free : Shape → List (List ℕ) → Option ℕ
 least_free s bs = within s.population (used_first (slots_of s bs) + 1)
+
+-- all files, with these bytes in the place of the slot of a record
+abbrev pub slot_put : Shape → ℕ → List ℕ → Content → Content
+slot_put s number bytes c = with_block c (file_of s.number) (block_of s.items number)
+    (laid (place_of s.items number * slot_width s.items) bytes (block_at (c (file_of s.number)) (block_of s.items number)))
+
+-- the slot of a number may be written: it stands in a block of the file or in the next one, and isn't bad
+pub record MayPut (s : Shape) (c : Content) (number : ℕ) : Type 0 where
+  pub fits : slot_width s.items ≤ 1024
+  pub low : 1 ≤ number
+  pub next : block_of s.items number ≤ length (c (file_of s.number))
+  pub sound : slot_at s (c (file_of s.number)) number ≢ Bad

@@ -8,5 +8,5 @@ mod writing;
 
 pub use cutting::{file_of, is_block, per_block};
 pub use finding::{read_slot, take_least};
-pub use laws::written_law;
+pub use laws::{file_law, written_law};
 pub use writing::{free_slot, write_slot};

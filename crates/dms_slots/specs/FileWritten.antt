@@ -1,0 +1,228 @@
+-- The slots of a file after one of them was written.
+use Rattle.std.proofs.Common.{◌≡◌, ◌≢◌, ◌+◌, ◌-◌, ◌*◌, ◌/◌, ◌%◌, ◌<◌, ◌≤◌, ℕ, zero, suc, List, [], ◌∷◌, Bool, true, false, inl, inr, refl, sym, ap, ◌∙◌, subst, length, take, drop, replicate, set, slice_get, arith, length-take, length-drop}
+use Rattle.std.specs.Prelude.{◌&&◌}
+use Rattle.std.specs.declared.option.Option.TheVariants.{None, Some}
+use Rattle.std.specs.List.{list_all}
+use Rattle.std.proofs.lemmas.Bool.{cases_eq, cases_lt}
+use Rattle.std.proofs.lemmas.List.{length-replicate, take-replicate, drop-replicate}
+use Rattle.std.proofs.lemmas.Nat.{div-add-mod'}
+use Rattle.std.proofs.Math.Nat as nat
+use Rattle.dms_desc.specs.Shape.{Shape}
+use Rattle.dms_fields.specs.Fields.{laid}
+use Rattle.dms_block.specs.Content.{Content, laid as block_laid}
+use Rattle.dms_block.specs.ContentLaws.{in_file}
+use Rattle.dms_layout.specs.declared.slot.Slot.{Slot}
+use Rattle.dms_layout.specs.declared.slot.SlotRead.{SlotRead}
+use Rattle.dms_layout.specs.declared.slot.SlotRead.TheVariants.{Free, Used, Bad}
+use Rattle.dms_layout.specs.Slots.{slot_width, slot_bytes, slot_of, is_zero, SlotFits, AreKinds}
+use Rattle.dms_layout.specs.SlotLaws.{slot_again, slot_long}
+use Rattle.dms_layout.specs.ReadLaws.{used_fits, free_is, free_again}
+use Rattle.dms_slots.specs.SlotBlocks.{file_of, per_block, block_of, place_of, is_slot, are_slots, is_block, cut, slots_by, slots_in, or_free, slot_at, block_at, slot_put, MayPut}
+use Rattle.dms_slots.specs.SlotBlockLaws.{both_hold, bad_block, place_bad, slot_there, slot_past, slots_length, some_at, none_at}
+use Rattle.dms_slots.specs.Written.{block_written}
+
+-- ---- lists
+
+free_get : (k p : ℕ) → or_free (slice_get (replicate k Free) p) ≡ Free
+free_get zero p = refl
+free_get (suc k) zero = refl
+free_get (suc k) (suc p) = free_get k p
+
+set_here : (l : List SlotRead) (p : ℕ) (r : SlotRead) → p < length l → slice_get (set l p r) p ≡ Some r
+set_here [] p r low = absurd (omega arith)
+set_here (x ∷ l) zero r low = refl
+set_here (x ∷ l) (suc p) r low = set_here l p r (omega arith)
+
+set_other : (l : List SlotRead) (p k : ℕ) (r : SlotRead) → k ≢ p → slice_get (set l p r) k ≡ slice_get l k
+set_other [] p k r other = refl
+set_other (x ∷ l) zero zero r other = absurd (other refl)
+set_other (x ∷ l) zero (suc k) r other = refl
+set_other (x ∷ l) (suc p) zero r other = refl
+set_other (x ∷ l) (suc p) (suc k) r other = set_other l p k r (λ e. other (ap suc e))
+
+at_laid : (b : ℕ) (x : List ℕ) (bs : List (List ℕ)) → b ≤ length bs → block_at (block_laid b x bs) b ≡ x
+at_laid zero x [] low = refl
+at_laid (suc b) x [] low = absurd (omega arith)
+at_laid zero x (z ∷ bs) low = refl
+at_laid (suc b) x (z ∷ bs) low = at_laid b x bs (omega arith)
+
+off_laid : (b k : ℕ) (x : List ℕ) (bs : List (List ℕ)) → b ≤ length bs → k ≢ b → block_at (block_laid b x bs) k ≡ block_at bs k
+off_laid zero zero x bs low other = absurd (other refl)
+off_laid zero (suc k) x [] low other = refl
+off_laid (suc b) k x [] low other = absurd (omega arith)
+off_laid zero (suc k) x (z ∷ bs) low other = refl
+off_laid (suc b) zero x (z ∷ bs) low other = refl
+off_laid (suc b) (suc k) x (z ∷ bs) low other = off_laid b k x bs (omega arith) (λ e. other (ap suc e))
+
+-- ---- a block of zeros
+
+all_zeros : (n : ℕ) → list_all is_zero (replicate n 0) ≡ true
+all_zeros zero = refl
+all_zeros (suc n) = all_zeros n
+
+both_true : (a b : Bool) → a ≡ true → b ≡ true → (a && b) ≡ true
+both_true true b p q = q
+both_true false b p q = absurd (cc)
+
+zeros_first : (s : Shape) (n : ℕ) → slot_width s.items ≤ n → slot_of s (take (slot_width s.items) (replicate n 0)) ≡ Free
+zeros_first s n low = ap (slot_of s) (take-replicate (slot_width s.items) n 0 low) ∙ free_again s
+
+zeros_good : (s : Shape) (k n : ℕ) → k * slot_width s.items ≤ n → are_slots s k (replicate n 0) ≡ true
+zeros_good s zero n low = all_zeros n
+zeros_good s (suc k) n low =
+    let w = slot_width s.items in
+    let first : w ≤ n = omega (arith, low, nat.suc-mul k w) in
+    let rest : k * w ≤ n - w = omega (arith, low, nat.suc-mul k w) in
+    both_true _ _ (ap is_slot (zeros_first s n first)) (ap (are_slots s k) (drop-replicate w n 0) ∙ zeros_good s k (n - w) rest)
+
+zeros_slots : (s : Shape) (k n : ℕ) → k * slot_width s.items ≤ n → cut s k (replicate n 0) ≡ replicate k Free
+zeros_slots s zero n low = refl
+zeros_slots s (suc k) n low =
+    let w = slot_width s.items in
+    let first : w ≤ n = omega (arith, low, nat.suc-mul k w) in
+    let rest : k * w ≤ n - w = omega (arith, low, nat.suc-mul k w) in
+    (λ i. zeros_first s n first i ∷ (ap (cut s k) (drop-replicate w n 0) ∙ zeros_slots s k (n - w) rest) i)
+
+room : (s : Shape) → per_block s.items * slot_width s.items ≤ 1024
+room s = omega (arith, div-add-mod' 1024 (slot_width s.items))
+
+zeros_block : (s : Shape) → is_block s (replicate 1024 0) ≡ true
+unfolding is_block
+zeros_block s = zeros_good s (per_block s.items) 1024 (room s)
+
+zeros_in : (s : Shape) (p : ℕ) → or_free (slice_get (slots_in s (replicate 1024 0)) p) ≡ Free
+unfolding slots_in
+zeros_in s p =
+    ap (λ b. or_free (slice_get (slots_by b s (replicate 1024 0)) p)) (zeros_block s)
+    ∙ ap (λ l. or_free (slice_get l p)) (zeros_slots s (per_block s.items) 1024 (room s)) ∙ free_get (per_block s.items) p
+
+-- ---- what slots fill
+
+slot_fine : (r : SlotRead) → r ≢ Bad → is_slot r ≡ true
+slot_fine Free fine = refl
+slot_fine (Used slot) fine = refl
+slot_fine Bad fine = absurd (fine refl)
+
+slot_size : (s : Shape) (x : List ℕ) (r : SlotRead) → slot_of s x ≡ r → is_slot r ≡ true → length x ≡ slot_width s.items
+slot_size s x Free is good = ap length (free_is s x is) ∙ length-replicate {A = ℕ} (slot_width s.items) 0
+slot_size s x (Used slot) is good =
+    let both = used_fits s x slot is in
+    ap length both.1 ∙ slot_long s.items slot both.0.values
+slot_size s x Bad is good = absurd (cc (good))
+
+slots_size : (s : Shape) (k : ℕ) (bytes : List ℕ) → are_slots s k bytes ≡ true → k * slot_width s.items ≤ length bytes
+slots_size s zero bytes good = omega arith
+slots_size s (suc k) bytes good =
+    let w = slot_width s.items in
+    let both = both_hold (is_slot (slot_of s (take w bytes))) (are_slots s k (drop w bytes)) good in
+    let first = slot_size s (take w bytes) _ refl both.0 in
+    let rest = slots_size s k (drop w bytes) both.1 in
+    omega (arith, first, rest, nat.suc-mul k w, length-take w bytes, length-drop w bytes)
+
+block_size : (s : Shape) (block : List ℕ) → is_block s block ≡ true → per_block s.items * slot_width s.items ≤ length block
+unfolding is_block
+block_size s block good = slots_size s (per_block s.items) block good
+
+-- ---- a file
+
+-- the slot of a number in its block, also where the file has no such block yet
+slot_is : (s : Shape) (bs : List (List ℕ)) (number : ℕ) → 0 < per_block s.items
+    → slot_at s bs number ≡ or_free (slice_get (slots_in s (block_at bs (block_of s.items number))) (place_of s.items number))
+slot_is s bs number some = elim (cases_lt (block_of s.items number) (length bs)) [
+  | inl low ↦
+      slot_there s bs number (per_block s.items) refl some low
+      ∙ ap (λ x. or_free (slice_get (slots_in s x) (place_of s.items number))) (some_at bs (block_of s.items number) low)
+  | inr no_low ↦
+      let past : length bs ≤ block_of s.items number = no_low in
+      slot_past s bs number (per_block s.items) refl past
+      ∙ sym (ap (λ x. or_free (slice_get (slots_in s x) (place_of s.items number))) (none_at bs (block_of s.items number) past) ∙ zeros_in s (place_of s.items number))
+]
+
+good_by : (b : Bool) (s : Shape) (block : List ℕ) (p : ℕ) → is_block s block ≡ b → p < per_block s.items → or_free (slice_get (slots_in s block) p) ≢ Bad → b ≡ true
+good_by true s block p is low fine = refl
+good_by false s block p is low fine = absurd (fine (sym (place_bad s block p low is)))
+
+-- the block of a slot that isn't bad
+pub good_block : (s : Shape) (bs : List (List ℕ)) (number : ℕ) → 0 < per_block s.items → slot_at s bs number ≢ Bad → is_block s (block_at bs (block_of s.items number)) ≡ true
+good_block s bs number some fine =
+    good_by _ s (block_at bs (block_of s.items number)) (place_of s.items number) refl (nat.mod-lt (number - 1) some) (λ e. fine (slot_is s bs number some ∙ e))
+
+true_not_false : true ≡ false → ⊥
+true_not_false e = cc e
+
+-- and no slot of a block is bad
+pub slot_good : (s : Shape) (bs : List (List ℕ)) (number : ℕ) → 0 < per_block s.items → is_block s (block_at bs (block_of s.items number)) ≡ true → slot_at s bs number ≢ Bad
+slot_good s bs number some good = λ e. true_not_false (sym good ∙ bad_block s (block_at bs (block_of s.items number)) (place_of s.items number) (nat.mod-lt (number - 1) some) (sym (slot_is s bs number some) ∙ e))
+
+same_number : (items_per a b : ℕ) → 0 < items_per → 1 ≤ a → 1 ≤ b → (a - 1) / items_per ≡ (b - 1) / items_per → (a - 1) % items_per ≡ (b - 1) % items_per → a ≡ b
+same_number per a b some low_a low_b blocks places =
+    let e : (a - 1) / per * per + (a - 1) % per ≡ (b - 1) / per * per + (b - 1) % per = (λ i. blocks i * per + places i) in
+    omega (arith, div-add-mod' (a - 1) per, div-add-mod' (b - 1) per, e)
+
+some_slot : (w : ℕ) → w ≤ 1024 → 0 < w → 0 < 1024 / w
+some_slot w fits low =
+    let once : 1 * w ≤ 1024 = omega (arith, fits) in
+    let some : 1 ≤ 1024 / w = (nat.le-div_iff_mul-le low).1 once in
+    omega (arith, some)
+
+module _ (s : Shape) (c : Content) (number : ℕ) (bytes : List ℕ) (may : MayPut s c number) (fine : slot_of s bytes ≢ Bad) where
+  abbrev old : List ℕ
+  old = block_at (c (file_of s.number)) (block_of s.items number)
+
+  abbrev new : List ℕ
+  new = laid (place_of s.items number * slot_width s.items) bytes (block_at (c (file_of s.number)) (block_of s.items number))
+
+  some : 0 < per_block s.items
+  some = some_slot (slot_width s.items) may.fits (omega arith)
+
+  changed_in : slots_in s new ≡ set (slots_in s old) (place_of s.items number) (slot_of s bytes)
+  changed_in =
+      let good = good_block s (c (file_of s.number)) number some may.sound in
+      let is = slot_fine (slot_of s bytes) fine in
+      (block_written s (place_of s.items number) bytes old (nat.mod-lt (number - 1) some) (block_size s old good) (slot_size s bytes _ refl is) is good).1
+
+  blocks_are : slot_put s number bytes c (file_of s.number) ≡ block_laid (block_of s.items number) new (c (file_of s.number))
+  blocks_are = in_file c (file_of s.number) (block_of s.items number) new
+
+  -- the slot that was written
+  pub put_here : slot_at s (slot_put s number bytes c (file_of s.number)) number ≡ slot_of s bytes
+  put_here =
+      let p = place_of s.items number in
+      let low : p < length (slots_in s old) = subst (λ n. p < n) (sym (slots_length s old)) (nat.mod-lt (number - 1) some) in
+      ap (λ x. slot_at s x number) blocks_are ∙ slot_is s _ number some
+      ∙ ap (λ x. or_free (slice_get (slots_in s x) p)) (at_laid (block_of s.items number) new (c (file_of s.number)) may.next)
+      ∙ ap (λ l. or_free (slice_get l p)) changed_in ∙ ap or_free (set_here (slots_in s old) p (slot_of s bytes) low)
+
+  -- each other one
+  pub put_other : (other : ℕ) → 1 ≤ other → other ≢ number → slot_at s (slot_put s number bytes c (file_of s.number)) other ≡ slot_at s (c (file_of s.number)) other
+  put_other other low apart =
+      let b = block_of s.items number in
+      let k = block_of s.items other in
+      let p = place_of s.items other in
+      let over : List ℕ → SlotRead = λ x. or_free (slice_get (slots_in s x) p) in
+      let start = ap (λ x. slot_at s x other) blocks_are ∙ slot_is s _ other some in
+      let end = sym (slot_is s (c (file_of s.number)) other some) in
+      elim (cases_eq k b) [
+        | inl same ↦
+            let off : p ≢ place_of s.items number = λ e. apart (same_number (per_block s.items) other number some low may.low same e) in
+            start ∙ ap (λ j. over (block_at (block_laid b new (c (file_of s.number))) j)) same ∙ ap over (at_laid b new (c (file_of s.number)) may.next)
+            ∙ ap (λ l. or_free (slice_get l p)) changed_in ∙ ap or_free (set_other (slots_in s old) (place_of s.items number) p (slot_of s bytes) off)
+            ∙ ap (λ j. over (block_at (c (file_of s.number)) j)) (sym same) ∙ end
+        | inr off ↦ start ∙ ap over (off_laid b k new (c (file_of s.number)) may.next off) ∙ end
+      ]
+
+free_fine : (s : Shape) → slot_of s (replicate (slot_width s.items) 0) ≢ Bad
+free_fine s = λ e. let h : Free ≡ Bad = sym (free_again s) ∙ e in cc h
+
+used_fine : (s : Shape) (slot : Slot) → AreKinds s.items → SlotFits s slot → slot_of s (slot_bytes s.items slot) ≢ Bad
+used_fine s slot kinds fits = λ e. let h : Used slot ≡ Bad = sym (slot_again s slot kinds fits) ∙ e in cc h
+
+-- a record that was written is read
+pub put_used : (s : Shape) (c : Content) (number : ℕ) (slot : Slot) → AreKinds s.items → SlotFits s slot → MayPut s c number
+    → slot_at s (slot_put s number (slot_bytes s.items slot) c (file_of s.number)) number ≡ Used slot
+put_used s c number slot kinds fits may = put_here s c number (slot_bytes s.items slot) may (used_fine s slot kinds fits) ∙ slot_again s slot kinds fits
+
+-- a slot that was made free is free
+pub put_free : (s : Shape) (c : Content) (number : ℕ) → MayPut s c number
+    → slot_at s (slot_put s number (replicate (slot_width s.items) 0) c (file_of s.number)) number ≡ Free
+put_free s c number may = put_here s c number (replicate (slot_width s.items) 0) may (free_fine s) ∙ free_again s
