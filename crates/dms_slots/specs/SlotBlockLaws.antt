@@ -1,6 +1,6 @@
 -- The slots of a file by its blocks.
-use Rattle.std.proofs.Common.{◌≡◌, ◌+◌, ◌-◌, ◌*◌, ◌/◌, ◌%◌, ◌<◌, ◌≤◌, ℕ, zero, suc, List, [], ◌∷◌, ◌++◌, flat_map, Bool, true, false, refl, sym, ap, ◌∙◌, subst, length, take, drop, replicate, get_or, slice_get, arith, add-one}
-use Rattle.std.specs.Prelude.{◌&&◌, IsTrue, IfSome}
+use Rattle.std.proofs.Common.{◌≡◌, ◌+◌, ◌-◌, ◌*◌, ◌/◌, ◌%◌, ◌<◌, ◌≤◌, ℕ, zero, suc, List, [], ◌∷◌, ◌++◌, flat_map, Bool, true, false, refl, sym, ap, ◌∙◌, length, take, drop, replicate, get_or, slice_get, arith, add-one}
+use Rattle.std.specs.Prelude.{◌&&◌, IfSome}
 use Rattle.std.specs.declared.option.Option.{Option}
 use Rattle.std.specs.declared.option.Option.TheVariants.{None, Some}
 use Rattle.std.proofs.lemmas.List.{length-replicate, drop_all, take-replicate}
@@ -9,11 +9,10 @@ use Rattle.std.proofs.lemmas.Nat.{div-add-mod'}
 use Rattle.std.proofs.Math.Nat as nat
 use Rattle.dms_desc.specs.declared.structure.Item.{Item}
 use Rattle.dms_desc.specs.Shape.{Shape}
-use Rattle.dms_layout.specs.declared.slot.Slot.{Slot}
 use Rattle.dms_layout.specs.declared.slot.SlotRead.{SlotRead}
 use Rattle.dms_layout.specs.declared.slot.SlotRead.TheVariants.{Free, Used, Bad}
 use Rattle.dms_layout.specs.Slots.{slot_width, slot_of}
-use Rattle.dms_slots.specs.SlotBlocks.{per_block, block_of, place_of, is_slot, is_used, are_slots, is_block, cut, slots_by, slots_in, slots_of, or_free, slot_at, next_free, used_first, block_or_zeros, block_at}
+use Rattle.dms_slots.specs.SlotBlocks.{per_block, block_of, is_slot, is_used, are_slots, is_block, cut, slots_by, slots_in, slots_of, or_free, slot_at, next_free, used_first, block_or_zeros, block_at}
 
 -- ---- lists
 

@@ -1,5 +1,5 @@
 -- The slots of a data set's file: those of its blocks, one block after another.
-use Rattle.std.specs.Prelude.{ℕ, zero, suc, ◌+◌, ◌-◌, ◌*◌, ◌/◌, ◌%◌, ◌<◌, ◌≤◌, ◌≡◌, ◌≢◌, List, [], ◌∷◌, ◌++◌, flat_map, Bool, true, false, ◌&&◌, Some, None, if◌then◌else◌, IsTrue, length, take, drop, replicate, nat_le, slice_get, slice_index_or}
+use Rattle.std.specs.Prelude.{ℕ, zero, suc, ◌+◌, ◌-◌, ◌*◌, ◌/◌, ◌%◌, ◌<◌, ◌≤◌, ◌≡◌, ◌≢◌, List, [], ◌∷◌, flat_map, Bool, true, false, ◌&&◌, Some, None, if◌then◌else◌, IsTrue, length, take, drop, replicate, nat_le, slice_get, slice_index_or}
 use Rattle.std.specs.declared.option.Option.{Option}
 use Rattle.std.specs.List.{list_all}
 use Rattle.dms_block.specs.Content.{Content, with_block}

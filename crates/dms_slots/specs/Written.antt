@@ -5,7 +5,6 @@ use Rattle.std.proofs.lemmas.List.{take_at, drop_at, take-append-drop, length-ta
 use Rattle.std.proofs.Math.Nat as nat
 use Rattle.dms_desc.specs.Shape.{Shape}
 use Rattle.dms_fields.specs.Fields.{laid}
-use Rattle.dms_layout.specs.declared.slot.SlotRead.{SlotRead}
 use Rattle.dms_layout.specs.Slots.{slot_width, slot_of}
 use Rattle.dms_slots.specs.SlotBlocks.{per_block, is_slot, are_slots, is_block, cut, slots_by, slots_in}
 use Rattle.dms_slots.specs.SlotBlockLaws.{both_hold}

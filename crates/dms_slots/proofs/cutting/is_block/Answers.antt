@@ -1,4 +1,4 @@
-use Rattle.std.proofs.Common.{◌∙◌, ◌≡◌, ◌<◌, ℕ, subst, sym}
+use Rattle.std.proofs.Common.{◌∙◌, ◌<◌, ℕ, subst, sym}
 use Rattle.dms_desc.specs.Shape.{shape_of}
 use Rattle.dms_slots.specs.SlotBlocks.{is_block, per_block}
 use Rattle.dms_slots.specs.SlotBlockLaws.{walk_on, walk_stops}

@@ -1,10 +1,9 @@
-use Rattle.std.proofs.Common.{◌≡◌, ◌<◌, ◌≤◌, ◌∙◌, ◌-◌, ◌/◌, ◌%◌, ℕ, List, length, sym, ap, subst, arith, inr, get_or, [], false}
-use Rattle.std.specs.Prelude.{IsTrue}
+use Rattle.std.proofs.Common.{◌≡◌, ◌<◌, ◌∙◌, ◌-◌, ◌/◌, ◌%◌, ℕ, List, length, sym, ap, subst, arith, inr, get_or, [], false}
 use Rattle.std.proofs.Math.Nat as nat
 use Rattle.dms_desc.specs.Shape.{shape_of}
 use Rattle.dms_block.specs.Changing.{grown_is}
 use Rattle.dms_block.specs.View.{seen, seen_counts, under, written}
-use Rattle.dms_slots.specs.SlotBlocks.{file_of, slot_at, is_block}
+use Rattle.dms_slots.specs.SlotBlocks.{file_of, is_block}
 use Rattle.dms_slots.specs.SlotBlockLaws.{read_there, slot_past, bad_block}
 use Rattle.dms_slots.proofs.finding.read_slot.Goals as goal
 

@@ -1,10 +1,10 @@
-use Rattle.std.proofs.Common.{◌≡◌, ◌<◌, ◌≤◌, ◌+◌, ◌*◌, ◌∙◌, ℕ, List, [], length, sym, ap, arith, get_or, Ok}
+use Rattle.std.proofs.Common.{◌≡◌, ◌<◌, ◌≤◌, ◌+◌, ◌*◌, ◌∙◌, [], length, ap, arith, get_or, Ok}
 use Rattle.dms_desc.specs.Shape.{shape_of}
 use Rattle.dms_block.specs.Changing.{grown_is}
 use Rattle.dms_block.specs.Content.{Content, changed}
 use Rattle.dms_block.specs.HeldLaws.{looks_as, looks_on}
 use Rattle.dms_block.specs.View.{seen, seen_counts, under, written}
-use Rattle.dms_slots.specs.SlotBlocks.{file_of, slots_in, slots_of, used_first, within}
+use Rattle.dms_slots.specs.SlotBlocks.{file_of, slots_in, used_first, within}
 use Rattle.dms_slots.specs.SlotBlockLaws.{least_on, least_here, least_behind, place_low, some_weaker}
 use Rattle.dms_slots.proofs.finding.take_least.Goals as goal
 

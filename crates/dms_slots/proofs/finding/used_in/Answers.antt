@@ -1,7 +1,7 @@
-use Rattle.std.proofs.Common.{◌≡◌, ◌∙◌, ℕ, List, [], sym, ap, get_or}
+use Rattle.std.proofs.Common.{◌∙◌, ℕ, List, [], sym, ap, get_or}
 use Rattle.dms_desc.specs.Shape.{shape_of}
 use Rattle.dms_block.specs.View.{seen}
-use Rattle.dms_slots.specs.SlotBlocks.{file_of, slots_in, used_first}
+use Rattle.dms_slots.specs.SlotBlocks.{slots_in, used_first}
 use Rattle.dms_slots.specs.SlotBlockLaws.{used_block}
 use Rattle.dms_slots.proofs.finding.used_in.Goals as goal
 

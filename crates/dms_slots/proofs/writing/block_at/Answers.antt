@@ -1,4 +1,4 @@
-use Rattle.std.proofs.Common.{◌≡◌, ◌<◌, ◌≤◌, ◌∙◌, ℕ, List, [], length, sym, ap, arith, get_or}
+use Rattle.std.proofs.Common.{◌<◌, ◌∙◌, ℕ, [], length, sym, ap, arith, get_or}
 use Rattle.dms_block.specs.Changing.{grown_is}
 use Rattle.dms_block.specs.View.{seen, seen_counts, under, written}
 use Rattle.dms_slots.specs.SlotBlocks.{file_of}

@@ -1,4 +1,4 @@
-use Rattle.std.proofs.Common.{◌≡◌, ◌*◌, ◌∙◌, ℕ, List, ap}
+use Rattle.std.proofs.Common.{◌*◌, ◌∙◌, ℕ, List, ap}
 use Rattle.std.proofs.lemmas.Result.{on_ok_weaker}
 use Rattle.dms_fields.specs.Fields.{laid}
 use Rattle.dms_layout.specs.Slots.{slot_width}
