@@ -1,5 +1,5 @@
 -- Where an audit trail ends, and what a stop leaves while entries are appended to it and sealed.
-use Rattle.std.specs.Prelude.{ℕ, ◌<◌, ◌≤◌, ◌≡◌, ◌⊎◌, List, ◌++◌, take, drop}
+use Rattle.std.specs.Prelude.{ℕ, ◌+◌, ◌<◌, ◌≤◌, ◌≡◌, ◌==◌, ◌&&◌, ◌||◌, ◌⊎◌, nat_lt, if◌then◌else◌, Bool, List, ◌++◌, take, drop}
 use Rattle.dms_moments.specs.Moments.{Clock}
 use Rattle.dms_site.specs.Files.{Files, Left, OnlyIn}
 use Rattle.dms_history.specs.Entries.{Entry}
@@ -38,3 +38,16 @@ pub record Appends (end : AuditEnd) (first : ℕ) (entries : List Entry) (old ne
   pub sealed : trail_entries end.total first new ≡ trail_entries end.total first old ++ take some entries
   pub ends : EndsAt end first (drop some entries) new clock
   pub plain : ArePlain (drop some entries)
+
+-- the file of the block behind the one that is sealed next
+abbrev pub file_behind : AuditEnd → ℕ
+file_behind end = if end.count + 1 == end.total then end.file + 1 else end.file
+
+-- the file of the next block that is begun, once the entries that wait are sealed
+abbrev pub next_file : AuditEnd → ℕ
+next_file end = if end.used == 0 then end.file else file_behind end
+
+-- One more block is needed for an entry of that size than the last file that may be written has: none waits, or it can't stand
+-- behind those that wait, and that block would be in a file behind that one.
+abbrev pub is_past : AuditEnd → ℕ → Bool → Bool
+is_past end size alone = ((end.used == 0) || (alone || nat_lt 4094 (end.used + size))) && nat_lt (10000 + end.limit) (next_file end)

@@ -1,6 +1,6 @@
 //! Entries that are appended to an audit trail, and sealed.
 
-ghost use Rattle.std.specs.Prelude.{◌≡◌, ◌⊎◌, ◌+◌, ◌<◌, ◌≤◌, ◌==◌, ◌&&◌, ◌||◌, nat_lt, false, ◌++◌, [], ◌∷◌, ℕ, List, length, OnOk, IfErr, IsTrue, IsErrOf};
+ghost use Rattle.std.specs.Prelude.{◌≡◌, ◌⊎◌, ◌+◌, ◌<◌, ◌≤◌, ◌==◌, ◌&&◌, ◌||◌, nat_lt, true, false, ◌++◌, [], ◌∷◌, ℕ, List, length, OnOk, IfErr, IsTrue, IsErrOf};
 ghost use Rattle.dms_base.specs.Causes.{HasCause, Rose};
 ghost use Rattle.dms_moments.specs.Moments.{Steps};
 ghost use Rattle.dms_site.specs.Files.{Only};
@@ -10,7 +10,7 @@ ghost use Rattle.dms_audrec.specs.Spelling.{spelling, IsEntry};
 ghost use Rattle.dms_audrec.specs.Seen.{entry_seen};
 ghost use Rattle.dms_audfile.specs.Blocks.{is_begin};
 ghost use Rattle.dms_audfile.specs.BlockLaws.{ArePlain};
-ghost use Rattle.dms_audfile.specs.Ends.{EndsAt, Seals, Appends};
+ghost use Rattle.dms_audfile.specs.Ends.{EndsAt, Seals, Appends, next_file, is_past};
 
 use crate::{AudFault, AuditEnd};
 use dms_audrec::{Entry, length};
@@ -30,6 +30,7 @@ impl AuditEnd {
             → EndsAt self.new first [] (S.files site.new) (S.clock site.new)) }
         ensures durable { OnOk result (0 < self.old.used → IsTrue S.tells → Only (S.files site.new) (S.clock site.new)) }
         ensures empty { OnOk result (self.new.used ≡ 0) }
+        ensures next { OnOk result (self.new.file ≡ next_file self.old) }
         ensures idle { self.old.used ≡ 0 → (self.new ≡ self.old) × (site.new ≡ site.old) }
         ensures kind { (self.new.total ≡ self.old.total) × (self.new.tag ≡ self.old.tag) × (self.new.limit ≡ self.old.limit) }
         ensures only { IfErr result (λ e. e ≡ AudFault.Disk) }
@@ -56,6 +57,7 @@ impl AuditEnd {
         ensures ends { OnOk result (IsTrue needed → (first : ℕ) (waiting : List meaning.Entry) → IsTrue S.tells → EndsAt self.old first waiting (S.files site.old) (S.clock site.old)
             → EndsAt self.new first [] (S.files site.new) (S.clock site.new)) }
         ensures empty { OnOk result (IsTrue needed → self.new.used ≡ 0) }
+        ensures next { OnOk result (IsTrue needed → self.new.file ≡ next_file self.old) }
         ensures idle { needed ≡ false → (self.new ≡ self.old) × (site.new ≡ site.old) }
         ensures kind { (self.new.total ≡ self.old.total) × (self.new.tag ≡ self.old.tag) × (self.new.limit ≡ self.old.limit) }
         ensures only { IfErr result (λ e. e ≡ AudFault.Disk) }
@@ -87,6 +89,8 @@ impl AuditEnd {
         ensures kind { (self.new.total ≡ self.old.total) × (self.new.tag ≡ self.old.tag) × (self.new.limit ≡ self.old.limit) }
         ensures only { IfErr result (λ e. (e ≡ AudFault.Disk) ⊎ (e ≡ AudFault.Full self.old.limit)) }
         ensures full { IsErrOf result (AudFault.Full self.old.limit) → (self.new.used ≡ 0) × (10000 + self.old.limit < self.new.file) }
+        ensures past { IsErrOf result (AudFault.Full self.old.limit) → is_past self.old size alone ≡ true }
+        ensures within { OnOk result (is_past self.old size alone ≡ false) }
         ensures said { S.said site.new ≡ S.said site.old }
         ensures same_site { S.same_site site.old site.new }
         ensures later { S.disk_faults site.old ≤ S.disk_faults site.new }
@@ -109,8 +113,8 @@ impl AuditEnd {
     ///
     /// Where it can't stand behind those that wait, these are sealed first; a Begin is sealed at once. A stop at any moment
     /// leaves a trail of the same kind, which holds the old entries and the first of those that waited and this one.
-    /// Answers Disk where a call of the site failed, and Full where a block would have to be begun behind the last file
-    /// that may be written; then the entry wasn't appended.
+    /// Answers Disk where a call of the site failed, and else Full exactly where a block would have to be begun behind the
+    /// last file that may be written; then the entry wasn't appended.
     pub fn append<S: Site>(&mut self, site: &mut S, entry: &Entry<'_>) -> Result<(), AudFault>
         requires entry { IsEntry (entry_seen entry.now) }
         requires size { length (spelling (entry_seen entry.now)) ≤ 4094 }
@@ -121,6 +125,8 @@ impl AuditEnd {
         ensures kind { (self.new.total ≡ self.old.total) × (self.new.tag ≡ self.old.tag) × (self.new.limit ≡ self.old.limit) }
         ensures only { IfErr result (λ e. (e ≡ AudFault.Disk) ⊎ (e ≡ AudFault.Full self.old.limit)) }
         ensures full { IsErrOf result (AudFault.Full self.old.limit) → (self.new.used ≡ 0) × (10000 + self.old.limit < self.new.file) }
+        ensures past { IsErrOf result (AudFault.Full self.old.limit) → is_past self.old (length (spelling (entry_seen entry.now))) (is_begin (entry_seen entry.now)) ≡ true }
+        ensures within { OnOk result (is_past self.old (length (spelling (entry_seen entry.now))) (is_begin (entry_seen entry.now)) ≡ false) }
         ensures said { S.said site.new ≡ S.said site.old }
         ensures same_site { S.same_site site.old site.new }
         ensures later { S.disk_faults site.old ≤ S.disk_faults site.new }

@@ -9,7 +9,7 @@ ghost use Rattle.dms_audrec.specs.Seen.{entry_seen};
 ghost use Rattle.dms_audfile.specs.Trail.{trail_from};
 ghost use Rattle.dms_audfile.specs.Sealing.{Writes, GrowsLeft};
 ghost use Rattle.dms_audfile.specs.Unsealed.{block_with};
-ghost use Rattle.dms_audfile.specs.Ends.{unsealed};
+ghost use Rattle.dms_audfile.specs.Ends.{unsealed, file_behind};
 
 use crate::AuditEnd;
 use crate::bytes::{finish, make_header, put_entry};
@@ -46,6 +46,7 @@ impl AuditEnd {
         ensures others { OnOk result (IsTrue S.tells → (g : ℕ) → g ≢ self.old.file → g ≢ self.old.file + 1 → S.files site.new g ≡ S.files site.old g) }
         ensures durable { OnOk result (IsTrue S.tells → Only (S.files site.new) (S.clock site.new)) }
         ensures empty { OnOk result (self.new.used ≡ 0) }
+        ensures next { OnOk result (self.new.file ≡ file_behind self.old) }
         ensures kind { (self.new.total ≡ self.old.total) × (self.new.tag ≡ self.old.tag) × (self.new.limit ≡ self.old.limit) }
         ensures said { S.said site.new ≡ S.said site.old }
         ensures same_site { S.same_site site.old site.new }

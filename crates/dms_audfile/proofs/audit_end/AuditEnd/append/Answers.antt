@@ -4,7 +4,7 @@ use Rattle.dms_moments.specs.MomentLaws.{steps_on, steps_weaken}
 use Rattle.dms_audrec.specs.Seen.{entry_seen}
 use Rattle.dms_audfile.specs.declared.audit_end.AuditEnd.{AuditEnd}
 use Rattle.dms_audfile.specs.TrailEntries.{trail_entries}
-use Rattle.dms_audfile.specs.Ends.{EndsAt, Appends}
+use Rattle.dms_audfile.specs.Ends.{EndsAt, Appends, is_past}
 use Rattle.dms_audfile.proofs.Ended.{seals_first, seals_then, between, held_ends, appends_held, appends_begun, bool_is, on_both, steps_as}
 use Rattle.dms_audfile.proofs.audit_end.AuditEnd.append.Goals as goal
 
@@ -67,3 +67,9 @@ returns-clause-appends g c = elim (bool_is c.begins-alone.result) [
       subst (λ (s : AuditEnd). Appends s first (waiting ++ e ∷ []) old (g.S.Site.files c.seal_where.new.site) (g.S.Site.clock c.seal_where.new.site)) (sym idle.0)
       (subst (λ t. Appends new first (waiting ++ e ∷ []) old (g.S.Site.files t) (g.S.Site.clock t)) (sym idle.1) appended)) c.seal_where.ensures.empty
 ]
+
+pub returns-clause-within : goal.returns-clause-within
+returns-clause-within g c = on_ok_weaker c.seal_where.result (λ done. sym (λ i. is_past c.args.self.now (c.length.ensures i) (c.begins-alone.ensures i)) ∙ c.in-Ok.ensures.within) c.seal_where.ensures.empty
+
+pub returns-in-Err-clause-past : goal.returns-in-Err-clause-past
+returns-in-Err-clause-past g c is = sym (λ i. is_past c.args.self.now (c.length.ensures i) (c.begins-alone.ensures i)) ∙ c.in-Err.ensures.past is

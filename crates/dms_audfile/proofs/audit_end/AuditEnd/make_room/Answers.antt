@@ -1,8 +1,9 @@
-use Rattle.std.proofs.Common.{◌≡◌, ◌++◌, sym, subst, inl, inr}
+use Rattle.std.proofs.Common.{◌≡◌, ◌∙◌, ◌++◌, sym, subst, inl, inr}
 use Rattle.dms_audfile.specs.declared.audit_end.AuditEnd.{AuditEnd}
 use Rattle.dms_audfile.specs.TrailEntries.{trail_entries}
 use Rattle.dms_audfile.specs.Ends.{Appends}
 use Rattle.dms_audfile.proofs.Ended.{appends_all, appends_none, bool_is}
+use Rattle.dms_audfile.proofs.Limits.{past_by}
 use Rattle.dms_audfile.proofs.audit_end.AuditEnd.make_room.Goals as goal
 
 pub returns-else-is_full-clause-appends : goal.returns-else-is_full-clause-appends
@@ -17,3 +18,11 @@ returns-else-is_full-clause-appends g c first waiting tells plain at =
           subst (λ (s : AuditEnd). Appends s first waiting old new (g.S.Site.clock c.seal_where.new.site)) (sym idle.0)
           (subst (λ t. Appends c.args.self.now first waiting old (g.S.Site.files t) (g.S.Site.clock t)) (sym idle.1) (appends_none c.args.self.now first waiting old (g.S.Site.clock c.args.site.now) plain at)))
     ]
+
+pub returns-then-is_full-clause-past : goal.returns-then-is_full-clause-past
+returns-then-is_full-clause-past g c is = past_by c.args.self.now c.seal_where.new.self c.args.size c.args.alone c.needs_block-needed.result c.is_full.result c.needs_block-needed.ensures c.in-Ok.ensures.empty c.in-Ok.ensures.next
+    (λ off. (c.in-Ok.ensures.idle off).0) c.in-Ok.ensures.kind.2 c.is_full.ensures ∙ c.if-is_full.true
+
+pub returns-else-is_full-clause-within : goal.returns-else-is_full-clause-within
+returns-else-is_full-clause-within g c = past_by c.args.self.now c.seal_where.new.self c.args.size c.args.alone c.needs_block-needed.result c.is_full.result c.needs_block-needed.ensures c.in-Ok.ensures.empty c.in-Ok.ensures.next
+    (λ off. (c.in-Ok.ensures.idle off).0) c.in-Ok.ensures.kind.2 c.is_full.ensures ∙ c.if-is_full.false

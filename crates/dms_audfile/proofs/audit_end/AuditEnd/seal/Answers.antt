@@ -8,6 +8,7 @@ use Rattle.dms_audfile.specs.Unsealed.{block_with}
 use Rattle.dms_audfile.specs.TrailEntries.{trail_entries}
 use Rattle.dms_audfile.specs.Ends.{unsealed}
 use Rattle.dms_audfile.proofs.Ended.{seals_of, seals_none, none_waits, few_wait, trail_more}
+use Rattle.dms_audfile.proofs.Limits.{next_idle, next_busy}
 use Rattle.dms_audfile.proofs.audit_end.AuditEnd.seal.Goals as goal
 
 pub returns-then-self-eq0-clause-moments : goal.returns-then-self-eq0-clause-moments
@@ -61,3 +62,9 @@ returns-in-Ok-clause-ends g c first waiting tells at =
       bytes = ap (λ k. take k (drop 2 c.seal_block.new.self.block.items)) c.in-Ok.ensures.empty;
       kind = inl tt;
     }
+
+pub returns-then-self-eq0-clause-next : goal.returns-then-self-eq0-clause-next
+returns-then-self-eq0-clause-next g c = sym (next_idle c.args.self.now c.if-self-eq0.true)
+
+pub returns-in-Ok-clause-next : goal.returns-in-Ok-clause-next
+returns-in-Ok-clause-next g c = c.in-Ok.ensures.next ∙ sym (next_busy c.args.self.now c.if-self-eq0.false)

@@ -6,6 +6,7 @@ use Rattle.dms_audfile.specs.Unsealed.{block_with}
 use Rattle.dms_audfile.specs.Ends.{unsealed}
 use Rattle.dms_audfile.proofs.Laying.{written_back}
 use Rattle.dms_audfile.proofs.Ended.{grows_as}
+use Rattle.dms_audfile.proofs.Limits.{behind_more, behind_same}
 use Rattle.dms_audfile.proofs.audit_end.AuditEnd.seal_block.Goals as goal
 
 pub seal_block-requires-clause-head : goal.seal_block-requires-clause-head
@@ -100,3 +101,9 @@ returns-else-self-clause-writes g c first tells w =
     let old = g.S.Site.files c.args.site.now in
     let was : Writes s.total (tag_said c.deref-2.result.now) first s.file s.count old = subst (λ k. Writes s.total k first s.file s.count old) (sym tag_is) w in
     subst (λ k. Writes s.total k first s.file (s.count + 1) (g.S.Site.files c.seal_block.new.site)) tag_is ((c.in_ok-seal_block.ensures.writes first tells was).0 c.if-self.false)
+
+pub returns-then-self-clause-next : goal.returns-then-self-clause-next
+returns-then-self-clause-next g c = sym (behind_more c.args.self.now c.if-self.true)
+
+pub returns-else-self-clause-next : goal.returns-else-self-clause-next
+returns-else-self-clause-next g c = sym (behind_same c.args.self.now c.if-self.false)
