@@ -26,7 +26,7 @@ pub past_by : (old new : AuditEnd) (size : ℕ) (alone needed full : Bool) → n
     → (needed ≡ false → new ≡ old) → new.limit ≡ old.limit → full ≡ ((new.used == 0) && nat_lt (10000 + new.limit) new.file) → is_past old size alone ≡ full
 past_by old new size alone needed full is none file same limit says = elim (bool_is needed) [
   | inl on ↦ (let left : is_past old size alone ≡ nat_lt (10000 + old.limit) (next_file old) =
-          ap (λ (b : Bool). ((old.used == 0) || b) && nat_lt (10000 + old.limit) (next_file old)) (sym is ∙ on) ∙ or_true (old.used == 0) (nat_lt (10000 + old.limit) (next_file old)) in
+      ap (λ (b : Bool). ((old.used == 0) || b) && nat_lt (10000 + old.limit) (next_file old)) (sym is ∙ on) ∙ or_true (old.used == 0) (nat_lt (10000 + old.limit) (next_file old)) in
       let right : full ≡ nat_lt (10000 + new.limit) new.file = says ∙ ap (λ k. (k == 0) && nat_lt (10000 + new.limit) new.file) (none on) in
       left ∙ sym (right ∙ ap (λ k. nat_lt (10000 + k) new.file) limit ∙ ap (nat_lt (10000 + old.limit)) (file on)))
   | inr off ↦ ap (λ (b : Bool). ((old.used == 0) || b) && nat_lt (10000 + old.limit) (next_file old)) (sym is ∙ off) ∙ idle (old.used == 0) (10000 + old.limit) old.file (file_behind old)
