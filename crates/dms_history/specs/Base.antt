@@ -36,6 +36,6 @@ pub record Opened (front : List Event) (base : Content) : Type 0 where
   pub linked : (xs ys : List Event) (f b : ℕ) (before : Option Block) (after old : Block)
       → front ≡ xs ++ change f b before after ∷ ys → last_after f b xs ≡ Some old → before ≡ Some old
 
--- the content at the first live Control: the first before-image of each block from there on, else what counts now
+-- the content at the first live Control: of each block the before-image of its first change from there on, where it has one, else what counts now
 unfoldable pub base_of : List Event → Stored → Content
 base_of live here = content_of (first_counts live) (choice [] (from_control live) here)

@@ -31,7 +31,7 @@ else_stored None block = block
 else_stored (Some None) block = block
 else_stored (Some (Some old)) block = old
 
--- the last after-image where there is one, else the first before-image where there is one, else what is stored
+-- the last after-image where there is one, else the before-image of the first change where it has one, else what is stored
 abbrev pub value : Option Block → Option (Option Block) → Block → Block
 value (Some x) first block = x
 value None first block = else_stored first block

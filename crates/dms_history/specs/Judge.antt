@@ -22,7 +22,7 @@ judge_point live next n =
     else if has (λ m. nat_le m n) (live_numbers live) then Some voided
     else Some audit_missing
 
--- The number has been used, it isn't live, and a live point is below it.
+-- The number is below the next one, it isn't live, and a live point is below it.
 pub record IsCutOff (live : List Event) (next n : ℕ) : Type 0 where
   pub used : n < next
   pub gone : IsLive live n → ⊥

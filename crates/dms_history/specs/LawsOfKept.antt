@@ -89,7 +89,7 @@ pub record KeptCounting (first : Bool) (entries : List Entry) (dumps : Dumps) (b
   pub kept : Kept first entries dumps base written
   pub counts : here dumps (history_of entries) written ≡ here dumps (history_of entries) stored
 
--- A pending restore writes blocks that it doesn't take from what is stored: what counts stays as it is.
+-- A pending restore writes no block below its file's count that it takes from what is stored: what counts stays as it is.
 abbrev pub KeptRestores : Type 0
 KeptRestores = (first : Bool) (entries : List Entry) (dumps : Dumps) (base : Content) (stored written : Stored) (p : Pending) → Kept first entries dumps base stored
     → (history_of entries).pending ≡ Some p

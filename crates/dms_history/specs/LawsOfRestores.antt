@@ -27,7 +27,7 @@ pub record WritesKeep (dumps : Dumps) (h : History) (base : Content) (stored wri
   pub steady : Steady dumps h base written
   pub counts : here dumps h written ≡ here dumps h stored
 
--- It writes, torn or whole, only blocks that it doesn't take from what is stored: what counts stays as it is.
+-- It writes, torn or whole, no block below its file's count that it takes from what is stored: what counts stays as it is.
 abbrev pub RestoreWrites : Type 0
 RestoreWrites = (dumps : Dumps) (h : History) (base : Content) (stored written : Stored) (p : Pending) → h.pending ≡ Some p → Steady dumps h base stored
     → ((f b : ℕ) → b < count_at p.entries p.point f → takes_stored p.how p.entries p.point f b ≡ true → written f b ≡ stored f b)
@@ -57,8 +57,9 @@ pub record EndedFirst (dumps : Dumps) (h : History) (base : Content) (right writ
   pub points : (n : ℕ) → IsLive h.live n
       → HasPoint (h.live ++ control p.point next counts described ∷ []) (with_named named (here dumps h right) written) n (blocks_at h.live (here dumps h right) n)
 
--- Before a reconstruction a pending restore is finished, while the named blocks hold anything: with them as they count the database is steady, the
--- reconstruction may begin, and each live point stays live with its content.
+-- Before a reconstruction a pending restore is finished, while the named blocks hold anything: with them as they count the database is
+-- steady, the reconstruction to the same point may begin where its dump serves that point, and each live point stays live with its
+-- content.
 abbrev pub EndsFirst : Type 0
 EndsFirst = (dumps : Dumps) (h : History) (base : Content) (right stored written : Stored) (p : Pending) (next d : ℕ) (named : ℕ → ℕ → Bool) (counts : Counts) (described : Bool) → h.pending ≡ Some p
     → Steady dumps h base right → DumpServes (dumps d) h.live (here dumps h right) p.point

@@ -30,7 +30,7 @@ abbrev pub all_moved : Disk → List RestoreStep → Disk
 all_moved d [] = d
 all_moved d (s ∷ ss) = all_moved (moved d s) ss
 
--- A restore is pending, and each block that it takes from what is stored stays.
+-- A restore is pending, and each block below its file's count that it takes from what is stored stays.
 pub record MayWrite (dumps : Dumps) (d : Disk) (written : Stored) : Type 0 where
   pub p : Pending
   pub is : d.history.pending ≡ Some p

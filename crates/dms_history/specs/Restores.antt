@@ -51,12 +51,12 @@ abbrev pub has_no_before : Option (Option Block) → Bool
 has_no_before None = true
 has_no_before (Some before) = is_none before
 
--- The audit has neither an after-image of a block between the last Control at or before the place of m and that place, nor a
--- before-image of it after that place.
+-- The audit has no after-image of a block between the last Control at or before the place of m and that place, and the
+-- first change of it after that place, if there is one, has no before-image.
 abbrev pub is_unlogged : List Event → ℕ → ℕ → ℕ → Bool
 is_unlogged live m f b = is_none (last_after f b (after_last is_control (until_first (is_point m) live))) && has_no_before (first_before f b (after_first (is_point m) live))
 
--- A restore takes a block from what is stored, and so must never write it.
+-- A restore takes a block that is below its file's count at the point from what is stored, and so must never write it.
 abbrev pub takes_stored : How → List Event → ℕ → ℕ → ℕ → Bool
 takes_stored halt_load live m f b = is_unlogged live m f b
 takes_stored back_out live m f b = is_unlogged live m f b
@@ -64,8 +64,9 @@ takes_stored roll_back live m f b = is_unlogged live m f b
 takes_stored (rebuild d) live m f b = false
 takes_stored (reconstruct d named) live m f b = if named f b then false else is_unlogged live m f b
 
--- What holds at every moment, with or without a pending restore: there is a base, and over it the live entries tell what counts as each block that they change;
--- and where a restore is pending it is to leave what the live entries tell, at a point that is live.
+-- What holds at every moment, with or without a pending restore: there is a base, and over it the live entries tell what counts as each
+-- block that doesn't change after the last Control; where a restore is pending it is to leave what the live entries tell, and its point
+-- is live.
 pub record Steady (dumps : Dumps) (h : History) (base : Content) (stored : Stored) : Type 0 where
   pub sound : Sound (from_control h.live) base (here dumps h stored)
   pub restored : (p : Pending) → h.pending ≡ Some p → outcome p.how dumps p.entries p.point stored ≡ replay (from_control h.live) base

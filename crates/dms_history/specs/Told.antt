@@ -34,7 +34,7 @@ abbrev pub counts_stored : Option Pending → ℕ → ℕ → Bool
 counts_stored None f b = true
 counts_stored (Some p) f b = nat_lt b (count_at p.entries p.point f) && takes_stored p.how p.entries p.point f b
 
--- A block at a point comes from the structure file, a restore pending or not.
+-- A block that is below its file's count at a point comes from the structure file there, a restore pending or not.
 abbrev pub comes_from_file : History → ℕ → ℕ → ℕ → Bool
 comes_from_file h n f b = is_unlogged h.live n f b && counts_stored h.pending f b
 
