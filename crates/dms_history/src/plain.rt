@@ -112,7 +112,7 @@ pub fn last_after<'a>(events: &[Event<'a>], file: u32, block: u64) -> Option<&'a
     last
 }
 
-/// A block before the first change of it: no bytes where that change made it new, and what is stored where there is no change.
+/// A block before the first change of it: the before-image of that change, and what is stored where it has none or there is no change.
 fn undone<'a>(events: &[Event<'a>], file: u32, block: u64, stored: &'a [u8]) -> &'a [u8]
     ensures { result.now ≡ else_stored (first_before file block (events_seen events.now)) stored.now }
 {
