@@ -82,5 +82,6 @@ pub record Agrees (first : Bool) (entries : List Entry) (dumps : Dumps) (stored 
   pub events_agree : EventsAgree first (events entries) dumps stored
   -- Only Schema parts stand after a Begin up to the next Begin or Control; no Range does either.
   pub alone : BeginsAlone (logged entries)
-  -- Every live Range that isn't left out has an Image of its block before it, after the last live Control before it.
+  -- Every live Range that isn't left out has an Image of its block before it: after the last live Control before the Range, or
+  -- anywhere from the front where there is no such Control.
   pub images : HasImages (live_logged [] (logged entries))

@@ -26,7 +26,8 @@ pub record Kept (first : Bool) (entries : List Entry) (dumps : Dumps) (base : Co
   pub numbered : Numbered (live_of entries) (next_of entries)
   -- Only Schema parts stand after a Begin up to the next Begin or Control.
   pub alone : BeginsAlone (logged entries)
-  -- Every live Range that isn't left out has an Image of its block before it, after the last live Control before it.
+  -- Every live Range that isn't left out has an Image of its block before it: after the last live Control before the Range, or
+  -- anywhere from the front where there is no such Control.
   pub images : HasImages (live_logged [] (logged entries))
   -- Where the trail begins with audit file 1, the base is empty.
   pub empty : first ≡ true → (f : ℕ) → length (base f) ≡ 0
