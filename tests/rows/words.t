@@ -6,6 +6,7 @@ The words of the command line.
   $ "$DMS" --help
   usage: dms try < FILE
          dms compile < FILE
+         dms initialize [TAG]
          dms --help
          dms --version
   
@@ -19,17 +20,24 @@ The words of the command line.
                Writes its description to the file F00001.DMS of the current
                folder, where no description is yet.
   
+    initialize [TAG]   nothing
+               Makes the empty database of the description in F00001.DMS, with
+               that tag, a number from 0 to 18446744073709551615, or 0. Audit
+               files, dumps and structure files of an old database are cut to
+               nothing.
+  
   Statuses. At one above 0 a line on standard error says why.
   
      0  done
      1  bad words
      2  the schema is refused
+     4  the description is missing
      5  a call on a file failed, or the folder is in use
      6  reading the input failed
      7  memory was refused
      8  the script is too long, or holds too many lines
     10  printing failed
-    11  the description is there already
+    11  the description or the database is there already
   
   The guide is docs/GUIDE.md in the repository of the program, and examples for
   try are in the folder examples there.
@@ -38,7 +46,7 @@ No line of it has more than 80 columns, and each status that the program has sta
 
   $ "$DMS" --help | awk 'length > 80'
   $ "$DMS" --help | grep -cE '^ +[0-9]+  '
-  9
+  10
 
 Words that are no command.
 

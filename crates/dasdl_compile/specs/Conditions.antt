@@ -1,13 +1,13 @@
 -- Literals and conditions, as they are judged.
-use Rattle.std.specs.Prelude.{ℕ, List, Bool, true, false, ◌&&◌, nat_le, Some, None, if◌then◌else◌}
+use Rattle.std.specs.Prelude.{ℕ, List, Some, None, if◌then◌else◌}
 use Rattle.std.specs.declared.option.Option.{Option}
 use Rattle.std.specs.declared.result.Result.TheVariants.{Ok, Err}
 use Rattle.dms_base.specs.declared.op.Op.{Op}
 use Rattle.dms_base.specs.declared.value.Value.{Value}
 use Rattle.dms_base.specs.declared.kind.ItemKind.{ItemKind}
-use Rattle.dms_base.specs.declared.kind.ItemKind.TheVariants.{Alpha, Number as Decimal, Bool as OneBit, Field, Link}
 use Rattle.dms_base.specs.declared.kind.Literal.{Literal}
 use Rattle.dms_base.specs.Fits.{value_of}
+use Rattle.dms_base.specs.Spelling.{is_kind}
 use Rattle.dms_desc.specs.declared.structure.Item.{Item}
 use Rattle.dms_desc.specs.Shape.{Tree}
 use Rattle.dms_desc.specs.Shape.Tree.{Empty, Test, Both, Either, Contrary}
@@ -15,26 +15,13 @@ use Rattle.dasdl_parse.specs.TreeCodes.{Tree as Written}
 use Rattle.dasdl_parse.specs.TreeCodes.Tree.{Test as Compared, Both as And', Either as Or', Turned}
 use Rattle.dasdl_parse.specs.Trees.{Condition}
 use Rattle.dasdl_compile.specs.declared.fault.CompileFault.TheVariants.{Unknown, CondKind}
-use Rattle.dasdl_compile.specs.declared.find.Found.{Found}
+use Rattle.dms_desc.specs.declared.lookups.NamedItem.{NamedItem}
 use Rattle.dasdl_compile.specs.Answers.{Judged, ◌>>=◌}
-use Rattle.dasdl_compile.specs.Finding.{item_named}
-
--- the kinds that a schema can declare: ALPHA of 1 to 200 characters, NUMBER of 1 to 18 digits with at most as many
--- decimals, FIELD of 1 to 48 bits
-abbrev pub is_kind : ItemKind → Bool
-is_kind (Alpha n) = nat_le 1 n && nat_le n 200
-is_kind (Decimal n m s) = nat_le 1 n && nat_le n 18 && nat_le m n
-is_kind OneBit = true
-is_kind (Field n) = nat_le 1 n && nat_le n 48
-is_kind (Link to counted) = true
+use Rattle.dms_desc.specs.Lookups.{item_named}
 
 -- the value that a literal spells for a kind, none where it doesn't fit; a kind that can't be declared has none
 unfoldable pub value_in : ItemKind → Literal → Option Value
 value_in kind literal = if is_kind kind then value_of kind literal else None
-
-abbrev pub is_link : ItemKind → Bool
-is_link (Link to counted) = true
-is_link kind = false
 
 -- the value of a literal, or the fault at this item
 abbrev pub or_fault : List ℕ → Option Value → Judged Value
@@ -45,7 +32,7 @@ or_fault name (Some v) = Ok v
 unfoldable pub literal_of : List ℕ → ItemKind → Literal → Judged Value
 literal_of name kind literal = or_fault name (value_in kind literal)
 
-abbrev pub compared_with : List ℕ → Op → Literal → Option Found → Judged Tree
+abbrev pub compared_with : List ℕ → Op → Literal → Option NamedItem → Judged Tree
 compared_with name op literal None = Err (Unknown name)
 compared_with name op literal (Some f) = literal_of name f.kind literal >>= λ v. Ok (Test f.number op v)
 

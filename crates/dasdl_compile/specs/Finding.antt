@@ -1,12 +1,11 @@
--- Names, looked up. Of two things with one name the first declared counts.
+-- Structures and names, looked up while a schema is compiled. Of two things with one name the first declared counts.
 use Rattle.std.specs.Prelude.{ℕ, ◌+◌, min, List, [], ◌∷◌, length, Bool, true, false, ◌&&◌, ◌||◌, ◌==◌, nat_lt, is_some, Some, None, if◌then◌else◌}
 use Rattle.std.specs.declared.option.Option.{Option}
 use Rattle.std.specs.Str.{bytes_eq}
 use Rattle.dms_desc.specs.declared.structure.Item.{Item}
-use Rattle.dms_desc.specs.declared.structure.Group.{Group}
 use Rattle.dms_desc.specs.Shape.Tree.{Empty}
 use Rattle.dasdl_compile.specs.declared.draft.Draft.{Draft}
-use Rattle.dasdl_compile.specs.declared.find.Found.{Found}
+use Rattle.dms_desc.specs.Lookups.{item_named, group_named}
 
 -- a structure of which no more is known than its name and where it stands
 abbrev pub drafted : ℕ → ℕ → List ℕ → ℕ → Draft
@@ -15,10 +14,6 @@ drafted number kind name owner = record { number = number; kind = kind; name = n
 -- structures count from 1 in text order; the count stops at 65,535, which no schema of 200 structures reaches
 abbrev pub next_structure : List Draft → ℕ
 next_structure ds = min (length ds + 1) 65535
-
--- items count from 1 in text order; the count stops at 255, which no data set of 60 items reaches
-abbrev pub after_item : ℕ → ℕ
-after_item n = min (n + 1) 255
 
 abbrev pub next_item : List Item → ℕ
 next_item is = min (length is + 1) 255
@@ -42,16 +37,6 @@ kind_of number (d ∷ ds) = if d.number == number then d.kind else kind_of numbe
 unfoldable pub data_set_named : List ℕ → List Draft → Option Draft
 data_set_named name [] = None
 data_set_named name (d ∷ ds) = if nat_lt d.kind 3 && bytes_eq d.name name then Some d else data_set_named name ds
-
--- the item or link with this name; n is the number of the list's first
-unfoldable pub item_named : List ℕ → ℕ → List Item → Option Found
-item_named name n [] = None
-item_named name n (i ∷ is) = if bytes_eq i.name name then Some (record { number = n; kind = i.kind }) else item_named name (after_item n) is
-
--- the group with this name
-unfoldable pub group_named : List ℕ → List Group → Option Group
-group_named name [] = None
-group_named name (g ∷ gs) = if bytes_eq g.name name then Some g else group_named name gs
 
 -- an item, link or group of a data set has this name
 unfoldable pub is_taken : List ℕ → Draft → Bool

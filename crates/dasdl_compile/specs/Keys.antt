@@ -8,13 +8,14 @@ use Rattle.dms_desc.specs.declared.structure.KeyPart.{KeyPart}
 use Rattle.dasdl_parse.specs.declared.declarations.PartDecl.{PartDecl}
 use Rattle.dasdl_compile.specs.declared.fault.CompileFault.TheVariants.{Unknown, KeyItem, KeyLong}
 use Rattle.dasdl_compile.specs.declared.draft.Draft.{Draft}
-use Rattle.dasdl_compile.specs.declared.find.Found.{Found}
+use Rattle.dms_desc.specs.declared.lookups.NamedItem.{NamedItem}
 use Rattle.dasdl_compile.specs.declared.keys.Run.{Run}
 use Rattle.dasdl_compile.specs.declared.keys.KeySoFar.{KeySoFar}
 use Rattle.dasdl_compile.specs.Answers.{Judged, ◌>>=◌, steps}
-use Rattle.dasdl_compile.specs.Finding.{item_named, group_named, after_item}
-use Rattle.dasdl_compile.specs.Conditions.{is_link}
-use Rattle.dasdl_compile.specs.Widths.{plus, item_width}
+use Rattle.dms_desc.specs.Lookups.{item_named, group_named, after_item}
+use Rattle.dms_desc.specs.Kinds.{is_link}
+use Rattle.dms_desc.specs.Widths.{item_width}
+use Rattle.dasdl_compile.specs.Widths.{plus}
 
 -- an item is among the parts
 unfoldable pub is_part : ℕ → List KeyPart → Bool
@@ -33,14 +34,14 @@ key_item_at r k i =
     else (if is_link i.kind || is_part k.next k.parts then Err (KeyItem i.name)
     else Ok (record { next = after_item k.next; bytes = plus k.bytes (item_width i.kind); parts = k.parts ++ record { item = k.next; descending = r.descending } ∷ [] }))
 
-abbrev pub item_run : Bool → Found → Run
+abbrev pub item_run : Bool → NamedItem → Run
 item_run descending f = record { first = f.number; count = 1; descending = descending }
 
 abbrev pub group_run : Bool → Group → Run
 group_run descending g = record { first = g.first; count = g.count; descending = descending }
 
 -- of an item and a group with one name the first declared counts
-abbrev pub run_in : PartDecl → Option Found → Option Group → Judged Run
+abbrev pub run_in : PartDecl → Option NamedItem → Option Group → Judged Run
 run_in p None None = Err (Unknown p.name)
 run_in p (Some f) None = Ok (item_run p.descending f)
 run_in p None (Some g) = Ok (group_run p.descending g)

@@ -20,7 +20,7 @@ use Rattle.dasdl_compile.specs.declared.draft.Draft.{Draft}
 use Rattle.dasdl_compile.specs.Answers.{Judged, ◌>>=◌, steps}
 use Rattle.dasdl_compile.specs.Finding.{next_item, is_taken, data_set_named}
 use Rattle.dasdl_compile.specs.Conditions.{literal_of, verified}
-use Rattle.dasdl_compile.specs.Widths.{record_width}
+use Rattle.dms_desc.specs.Widths.{record_width}
 
 -- the items, links and groups of a data set may be 255 at most; a schema has no more than 60
 abbrev pub count_of : List ItemDecl → ℕ
@@ -66,9 +66,13 @@ link_kind o l = link_to l (data_set_named l.target o)
 unfoldable pub link_at : List Draft → Draft → LinkDecl → Judged Draft
 link_at o d l = if is_taken l.name d then Err (Twice l.name) else (link_kind o l >>= λ k. Ok (with_item d (record { name = l.name; kind = k; required = false; initial = Null })))
 
+-- how many bytes its records have; the count stops at 2 ^ 32 - 1
+abbrev pub width_of : Draft → ℕ
+width_of d = min (record_width d.items) 4294967295
+
 -- the end of a data set: VERIFY, then its records have at most 480 bytes
 unfoldable pub end_at : Draft → DataSetEnd → Judged Draft
-end_at d e = verified d.items e.verify >>= λ c. if nat_lt 480 (record_width 0 d.items) then Err (RecordLong (record_width 0 d.items)) else Ok (with_end d e.population c)
+end_at d e = verified d.items e.verify >>= λ c. if nat_lt 480 (width_of d) then Err (RecordLong (width_of d)) else Ok (with_end d e.population c)
 
 -- what is declared within a data set, but for structures
 unfoldable pub member_at : List Draft → Declaration → Draft → Judged Draft

@@ -2,8 +2,6 @@
 use Rattle.std.specs.Prelude.{ℕ, ◌+◌, min, List, [], ◌∷◌, length, ◌==◌, if◌then◌else◌, nat_lt}
 use Rattle.dms_base.specs.declared.value.Value.{Value}
 use Rattle.dms_base.specs.declared.value.Value.TheVariants.{Null, Text, Number, Bool as Truth, Bits, Link as Reference}
-use Rattle.dms_base.specs.declared.kind.ItemKind.{ItemKind}
-use Rattle.dms_base.specs.declared.kind.ItemKind.TheVariants.{Alpha, Number as Decimal, Bool as OneBit, Field, Link}
 use Rattle.dms_desc.specs.declared.structure.Item.{Item}
 use Rattle.dms_desc.specs.declared.structure.Group.{Group}
 use Rattle.dms_desc.specs.declared.structure.KeyPart.{KeyPart}
@@ -19,19 +17,6 @@ plus a b = min (a + b) most
 
 abbrev pub size_of : List ℕ → ℕ
 size_of bytes = min (length bytes) most
-
--- an item in a record or a key: a byte for its presence, and its value
-abbrev pub item_width : ItemKind → ℕ
-item_width (Alpha n) = n + 1
-item_width (Decimal n m s) = 9
-item_width OneBit = 2
-item_width (Field n) = 9
-item_width (Link to counted) = 5
-
--- so many bytes and these items
-unfoldable pub record_width : ℕ → List Item → ℕ
-record_width w [] = w
-record_width w (i ∷ is) = record_width (plus w (item_width i.kind)) is
 
 -- a value in a description: its kind, then a text with a byte for its length, 8 bytes for a number or bits, 1 for
 -- TRUE or FALSE

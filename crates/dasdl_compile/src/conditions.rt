@@ -5,11 +5,10 @@ ghost use Rattle.dasdl_compile.specs.Conditions.{literal_of, compared, condition
 
 use crate::condition::Condition;
 use crate::fault::CompileFault;
-use crate::find::item_named;
 use crate::kinds::value_in;
 use dasdl_parse::{CondDecl, CondTree};
 use dms_base::{ItemKind, Literal, Name, Op, Value};
-use dms_desc::Item;
+use dms_desc::{Item, item_named};
 use std::alloc::Global;
 
 /// The value of a literal for an item.

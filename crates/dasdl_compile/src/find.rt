@@ -1,16 +1,9 @@
 ghost use Rattle.std.specs.Prelude.{◌≡◌};
-ghost use Rattle.dasdl_compile.specs.Finding.{next_structure, after_item, next_item, has_restart, kind_of, item_named, group_named, is_taken};
+ghost use Rattle.dasdl_compile.specs.Finding.{next_structure, next_item, has_restart, kind_of, is_taken};
 
 use crate::draft::Draft;
-use dms_base::{ItemKind, Name};
-use dms_desc::{Group, Item};
-
-/// An item or a link: its number, counted from 1, and its kind.
-#[derive(Clone, Copy, Debug, PartialEq, Eq)]
-pub struct Found {
-    pub number: u8,
-    pub kind: ItemKind,
-}
+use dms_base::Name;
+use dms_desc::{Item, group_named, item_named};
 
 /// The number of the structure behind these.
 pub fn next_structure(drafts: &[Draft]) -> u16
@@ -20,13 +13,6 @@ pub fn next_structure(drafts: &[Draft]) -> u16
         return 65_535;
     }
     (drafts.len() + 1) as u16
-}
-
-/// The number of the item behind one.
-pub fn after_item(number: u8) -> u8
-    ensures { result ≡ after_item number }
-{
-    number.saturating_add(1)
 }
 
 /// The number of the item behind these.
@@ -63,37 +49,6 @@ pub fn kind_of(drafts: &[Draft], number: u16) -> u8
         }
     }
     0
-}
-
-/// The item or link with this name.
-#[tactic(auto, unfolding(crate::specs::Finding::item_named))]
-pub fn item_named(items: &[Item], name: &Name) -> Option<Found>
-    ensures { result ≡ item_named name.now 1 items.now }
-{
-    let mut number = 1u8;
-    for item in items {
-        if item.name.is(name) {
-            return Some(Found {
-                number,
-                kind: item.kind,
-            });
-        }
-        number = after_item(number);
-    }
-    None
-}
-
-/// The group with this name.
-#[tactic(auto, unfolding(crate::specs::Finding::group_named))]
-pub fn group_named(groups: &[Group], name: &Name) -> Option<Group>
-    ensures { result ≡ group_named name.now groups.now }
-{
-    for group in groups {
-        if group.name.is(name) {
-            return Some(*group);
-        }
-    }
-    None
 }
 
 /// Whether an item, link or group of a data set has this name.

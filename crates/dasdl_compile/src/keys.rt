@@ -5,13 +5,10 @@ ghost use Rattle.dasdl_compile.specs.Tables.{untitled};
 
 use crate::draft::Draft;
 use crate::fault::CompileFault;
-use crate::find::{after_item, group_named, item_named};
-use crate::kinds::is_link;
 use crate::steps::{Steps, all_steps};
-use crate::widths::item_width;
 use dasdl_parse::PartDecl;
 use dms_base::Name;
-use dms_desc::{Item, KeyPart, KeyParts};
+use dms_desc::{Item, KeyPart, KeyParts, after_item, group_named, item_named, item_width};
 use std::alloc::Global;
 
 /// The parts that a key may have.
@@ -68,14 +65,14 @@ impl Steps<Run, Item> for KeySoFar {
             self.next = after_item(number);
             return Ok(());
         }
-        if is_link(&item.kind) || is_part(self.parts.as_slice(), number) {
+        if item.is_link() || is_part(self.parts.as_slice(), number) {
             return Err(CompileFault::KeyItem(item.name));
         }
         self.parts.push(KeyPart {
             item: number,
             descending: run.descending,
         })?;
-        self.bytes = self.bytes.saturating_add(item_width(&item.kind));
+        self.bytes = self.bytes.saturating_add(item_width(item.kind));
         self.next = after_item(number);
         Ok(())
     }

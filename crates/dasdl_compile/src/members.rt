@@ -9,10 +9,9 @@ use crate::drafts::Drafts;
 use crate::fault::CompileFault;
 use crate::find::{is_taken, next_item};
 use crate::steps::{Steps, all_steps};
-use crate::widths::record_width;
 use dasdl_parse::{DataSetEnd, Declaration, GroupDecl, ItemDecl, LinkDecl};
 use dms_base::{ItemKind, Value};
-use dms_desc::{Group, Item};
+use dms_desc::{Group, Item, record_width};
 use std::alloc::Global;
 
 /// The bytes that a record may have.

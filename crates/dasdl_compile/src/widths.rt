@@ -1,9 +1,9 @@
 ghost use Rattle.std.specs.Prelude.{◌≡◌};
 ghost use Rattle.dms_desc.specs.Shape.{tree_of};
-ghost use Rattle.dasdl_compile.specs.Widths.{plus, size_of, item_width, record_width, value_width, condition_width, items_width, groups_width, parts_width, data_set_width, set_width, with_structure, structures_width, description_width};
+ghost use Rattle.dasdl_compile.specs.Widths.{plus, size_of, value_width, condition_width, items_width, groups_width, parts_width, data_set_width, set_width, with_structure, structures_width, description_width};
 
 use crate::draft::Draft;
-use dms_base::{ItemKind, Value};
+use dms_base::Value;
 use dms_desc::{Cond, Group, Item, KeyPart};
 
 /// The count of bytes, up to 2^32 - 1.
@@ -14,31 +14,6 @@ fn size_of(bytes: &[u8]) -> u32
         return 4_294_967_295;
     }
     bytes.len() as u32
-}
-
-/// The bytes of an item in a record or a key.
-pub fn item_width(kind: &ItemKind) -> u32
-    ensures { result ≡ item_width kind.now }
-{
-    match kind {
-        ItemKind::Alpha(n) => u32::from(*n) + 1,
-        ItemKind::Number(_, _, _) => 9,
-        ItemKind::Bool => 2,
-        ItemKind::Field(_) => 9,
-        ItemKind::Link(_, _) => 5,
-    }
-}
-
-/// The bytes of a record with these items.
-#[tactic(auto, unfolding(crate::specs::Widths::record_width))]
-pub fn record_width(items: &[Item]) -> u32
-    ensures { result ≡ record_width 0 items.now }
-{
-    let mut width = 0u32;
-    for item in items {
-        width = width.saturating_add(item_width(&item.kind));
-    }
-    width
 }
 
 #[tactic(auto, unfolding(crate::specs::Widths::value_width))]

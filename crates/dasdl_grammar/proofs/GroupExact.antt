@@ -8,15 +8,16 @@ use Rattle.std.specs.declared.result.Result.TheVariants.{Ok, Err}
 use Rattle.dms_base.specs.Name.{is_name}
 use Rattle.dms_base.specs.declared.kind.ItemKind.{ItemKind}
 use Rattle.dasdl_parse.specs.declared.fault.ParseFault.{ParseFault}
-use Rattle.dasdl_parse.specs.declared.token.Token.{Token}
-use Rattle.dasdl_parse.specs.declared.token.Token.TheVariants.{Word, Sign}
-use Rattle.dasdl_parse.specs.declared.token.Lexeme.{Lexeme}
+use Rattle.dms_tokens.specs.declared.token.Token.{Token}
+use Rattle.dms_tokens.specs.declared.token.Token.TheVariants.{Word, Sign}
+use Rattle.dms_tokens.specs.declared.token.Lexeme.{Lexeme}
 use Rattle.dasdl_parse.specs.declared.declarations.ItemDecl.{ItemDecl}
 use Rattle.dasdl_parse.specs.declared.declarations.DataSetDecl.{DataSetDecl}
 use Rattle.dasdl_parse.specs.declared.items.ItemOptions.{ItemOptions}
 use Rattle.dasdl_parse.specs.declared.items.GroupItems.{GroupItems}
 use Rattle.dasdl_parse.specs.Reads.{◌>>=◌, Read}
-use Rattle.dasdl_parse.specs.Cursors.{fault_at, place_at, starts, is_word, is_the_sign, word_at, sign_at, name_at, turns_at, until_close}
+use Rattle.dms_tokens.specs.Cursors.{place_at, starts, is_word, is_the_sign}
+use Rattle.dasdl_parse.specs.Cursors.{fault_at, word_at, sign_at, name_at, turns_at, until_close}
 use Rattle.dasdl_parse.specs.Kinds.{starts_kind}
 use Rattle.dasdl_parse.specs.Items.{item_at, group_item_at, next_group_item_at, group_at}
 use Rattle.dasdl_parse.specs.Grammar.{restart_at, data_set_at}

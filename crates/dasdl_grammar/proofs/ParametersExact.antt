@@ -7,13 +7,14 @@ use Rattle.std.specs.declared.result.Result.{Result}
 use Rattle.std.specs.declared.result.Result.TheVariants.{Ok, Err}
 use Rattle.dms_base.specs.declared.op.Op.TheVariants.{Equal}
 use Rattle.dasdl_parse.specs.declared.fault.ParseFault.{ParseFault}
-use Rattle.dasdl_parse.specs.declared.token.Token.{Token}
-use Rattle.dasdl_parse.specs.declared.token.Token.TheVariants.{Word, Number, Sign, Compare}
-use Rattle.dasdl_parse.specs.declared.token.Lexeme.{Lexeme}
+use Rattle.dms_tokens.specs.declared.token.Token.{Token}
+use Rattle.dms_tokens.specs.declared.token.Token.TheVariants.{Word, Number, Sign, Compare}
+use Rattle.dms_tokens.specs.declared.token.Lexeme.{Lexeme}
 use Rattle.dasdl_parse.specs.declared.parameters.Pairs.{Pairs}
 use Rattle.dasdl_parse.specs.declared.parameters.AuditPairs.{AuditPairs}
 use Rattle.dasdl_parse.specs.Reads.{◌>>=◌, Read}
-use Rattle.dasdl_parse.specs.Cursors.{fault_at, starts, is_word, is_the_sign, word_at, sign_at, equal_at, number_at, turns_at, until_close}
+use Rattle.dms_tokens.specs.Cursors.{starts, is_word, is_the_sign}
+use Rattle.dasdl_parse.specs.Cursors.{fault_at, word_at, sign_at, equal_at, number_at, turns_at, until_close}
 use Rattle.dasdl_parse.specs.Parameters.{no_pairs, no_audit_pairs, setting_at, measure_at, pair_at, next_pair_at, parameters_at, audit_pair_at, next_audit_pair_at, audit_at}
 use Rattle.dasdl_parse.specs.CondSpelling.{token_of, Reads}
 use Rattle.dasdl_grammar.specs.ParameterSpelling.{Listed, measure, setting, IsPair, IsAuditPair, AreParameters, IsTrail}

@@ -5,11 +5,12 @@ use Rattle.std.specs.Prelude.{codes}
 use Rattle.std.specs.declared.result.Result.{Result}
 use Rattle.std.specs.declared.result.Result.TheVariants.{Ok, Err}
 use Rattle.dasdl_parse.specs.declared.fault.ParseFault.{ParseFault}
-use Rattle.dasdl_parse.specs.declared.token.Token.{Token}
-use Rattle.dasdl_parse.specs.declared.token.Token.TheVariants.{Word, Sign}
-use Rattle.dasdl_parse.specs.declared.token.Lexeme.{Lexeme}
+use Rattle.dms_tokens.specs.declared.token.Token.{Token}
+use Rattle.dms_tokens.specs.declared.token.Token.TheVariants.{Word, Sign}
+use Rattle.dms_tokens.specs.declared.token.Lexeme.{Lexeme}
 use Rattle.dasdl_parse.specs.Reads.{◌>>=◌, Read, Pass}
-use Rattle.dasdl_parse.specs.Cursors.{turns, turns_at, fault_at, starts, is_word, is_the_sign, comma_at, until_semicolon}
+use Rattle.dms_tokens.specs.Cursors.{starts, is_word, is_the_sign}
+use Rattle.dasdl_parse.specs.Cursors.{turns, turns_at, fault_at, comma_at, until_semicolon}
 use Rattle.dasdl_parse.specs.CondSpelling.{token_of}
 use Rattle.dasdl_grammar.specs.SaidSpelling.{Said}
 use Rattle.dasdl_grammar.specs.SaidSpelling.Said.{nothing_said, said_more, said_behind_comma}

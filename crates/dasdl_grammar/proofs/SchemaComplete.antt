@@ -12,9 +12,9 @@ use Rattle.dasdl_parse.specs.KindSpelling.{IsKind}
 use Rattle.dasdl_parse.specs.KindSpelling.IsKind.{an_alpha, a_number, a_truth, a_field}
 use Rattle.dasdl_parse.specs.ItemSpelling.IsItem.{an_item as whole_item}
 use Rattle.dasdl_parse.specs.declared.fault.ParseFault.{ParseFault}
-use Rattle.dasdl_parse.specs.declared.token.Token.{Token}
-use Rattle.dasdl_parse.specs.declared.token.Token.TheVariants.{Word, Sign, End}
-use Rattle.dasdl_parse.specs.declared.token.Lexeme.{Lexeme}
+use Rattle.dms_tokens.specs.declared.token.Token.{Token}
+use Rattle.dms_tokens.specs.declared.token.Token.TheVariants.{Word, Sign, End}
+use Rattle.dms_tokens.specs.declared.token.Lexeme.{Lexeme}
 use Rattle.dasdl_parse.specs.declared.schema.Parameters.{Parameters}
 use Rattle.dasdl_parse.specs.declared.schema.Schema.{Schema}
 use Rattle.dasdl_parse.specs.declared.parameters.Pairs.{Pairs}
@@ -30,7 +30,8 @@ use Rattle.dasdl_parse.specs.declared.grammar.Open.{Open}
 use Rattle.dasdl_parse.specs.declared.grammar.Open.TheVariants.{Outside, One, Two, Three}
 use Rattle.dasdl_parse.specs.declared.grammar.Progress.{Progress}
 use Rattle.dasdl_parse.specs.Reads.{◌>>=◌, Read}
-use Rattle.dasdl_parse.specs.Cursors.{fault_at, place_at, starts, is_word, is_the_sign, is_end, name_at, turns_at}
+use Rattle.dms_tokens.specs.Cursors.{place_at, starts, is_word, is_the_sign, is_end}
+use Rattle.dasdl_parse.specs.Cursors.{fault_at, name_at, turns_at}
 use Rattle.dasdl_parse.specs.Kinds.{starts_kind}
 use Rattle.dasdl_parse.specs.Grammar.{items_of, with_items, opened, closed, is_inside, is_deepest, declared, with_pairs, with_audit_pairs, parameters_turn_at, audit_turn_at, item_turn_at, group_turn_at, counted_with, link_turn_at, starts_set, starts_data_set, structure_turn_at, declared_turn_at, end_turn_at, named_turn_at, schema_turn_at, schema_done, default_parameters, no_progress, schema_at}
 use Rattle.dasdl_parse.specs.Sets.{set_at, or_else}

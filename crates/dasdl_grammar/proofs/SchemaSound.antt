@@ -1,5 +1,6 @@
 -- A schema that was read is one of the grammar within the limits.
 use Rattle.std.proofs.Common.{◌+◌, ◌≡◌, ◌≤◌, ◌<◌, ℕ, zero, suc, List, [], ◌∷◌, ◌++◌, map, length, length-append, Bool, true, false, cond, not, ◌&&◌, ◌||◌, refl, sym, ap, ◌∙◌, subst, arith, append_assoc, IsTrue}
+use Rattle.std.proofs.lemmas.Bool.{and_parts, not-true, not-false}
 use Rattle.std.proofs.lemmas.List.{append-nil, map-append}
 use Rattle.std.proofs.lemmas.Bool.Decides.{nat_tests}
 use Rattle.std.specs.Prelude.{codes, nat_le, Some, None}
@@ -12,9 +13,9 @@ use Rattle.dasdl_parse.specs.KindSpelling.{IsKind}
 use Rattle.dasdl_parse.specs.KindSpelling.IsKind.{an_alpha, a_number, a_truth, a_field}
 use Rattle.dasdl_parse.specs.ItemSpelling.IsItem.{an_item as whole_item}
 use Rattle.dasdl_parse.specs.declared.fault.ParseFault.{ParseFault}
-use Rattle.dasdl_parse.specs.declared.token.Token.{Token}
-use Rattle.dasdl_parse.specs.declared.token.Token.TheVariants.{Word, Sign, End}
-use Rattle.dasdl_parse.specs.declared.token.Lexeme.{Lexeme}
+use Rattle.dms_tokens.specs.declared.token.Token.{Token}
+use Rattle.dms_tokens.specs.declared.token.Token.TheVariants.{Word, Sign, End}
+use Rattle.dms_tokens.specs.declared.token.Lexeme.{Lexeme}
 use Rattle.dasdl_parse.specs.declared.schema.Parameters.{Parameters}
 use Rattle.dasdl_parse.specs.declared.schema.Schema.{Schema}
 use Rattle.dasdl_parse.specs.declared.parameters.Pairs.{Pairs}
@@ -30,7 +31,8 @@ use Rattle.dasdl_parse.specs.declared.grammar.Open.{Open}
 use Rattle.dasdl_parse.specs.declared.grammar.Open.TheVariants.{Outside, One, Two, Three}
 use Rattle.dasdl_parse.specs.declared.grammar.Progress.{Progress}
 use Rattle.dasdl_parse.specs.Reads.{◌>>=◌, Read}
-use Rattle.dasdl_parse.specs.Cursors.{fault_at, place_at, starts, is_word, is_the_sign, is_end, name_at, turns_at}
+use Rattle.dms_tokens.specs.Cursors.{place_at, starts, is_word, is_the_sign, is_end}
+use Rattle.dasdl_parse.specs.Cursors.{fault_at, name_at, turns_at}
 use Rattle.dasdl_parse.specs.Kinds.{starts_kind}
 use Rattle.dasdl_parse.specs.Grammar.{items_of, with_items, opened, closed, is_inside, is_deepest, declared, with_pairs, with_audit_pairs, parameters_turn_at, audit_turn_at, item_turn_at, group_turn_at, counted_with, link_turn_at, starts_set, starts_data_set, structure_turn_at, declared_turn_at, end_turn_at, named_turn_at, schema_turn_at, schema_done, default_parameters, no_progress, schema_at}
 use Rattle.dasdl_parse.specs.Sets.{set_at, or_else}
@@ -69,7 +71,7 @@ use Rattle.dasdl_grammar.proofs.ParametersExact.{parameters_sound, audit_sound}
 use Rattle.dasdl_grammar.proofs.SaidExact.{Went, turns_at-went}
 use Rattle.dasdl_parse.proofs.TurnsSound.{turns_at-ends}
 use Rattle.dasdl_parse.specs.Grammar.{schema_of}
-use Rattle.dasdl_parse.specs.Tokens.{tokens_of}
+use Rattle.dms_tokens.specs.Tokens.{tokens_of}
 use Rattle.std.specs.Prelude.{nat_lt}
 use Rattle.dasdl_grammar.proofs.SchemaComplete.{schema_complete, depth_of, structures-append, counted-append, depth_with, items_with, with_again, depth_opened, none_opened, closed_again, no_more_items, is_within, counted_is}
 
@@ -156,19 +158,6 @@ member s us m st c d vs h k room e f g i = record {
 pick_if : {A : Type 0} {P : Type 0} (b : Bool) (x y : Result A ParseFault) (z : A) → (b ≡ true → x ≡ Ok z → P) → (b ≡ false → y ≡ Ok z → P) → cond b x y ≡ Ok z → P
 pick_if true x y z f g h = f refl h
 pick_if false x y z f g h = g refl h
-
-and_both : (a b : Bool) → a && b ≡ true → (a ≡ true) × (b ≡ true)
-and_both true true h = (refl, refl)
-and_both true false h = absurd (cc)
-and_both false b h = absurd (cc)
-
-is_not : (b : Bool) → not b ≡ true → b ≡ false
-is_not true h = absurd (cc)
-is_not false h = refl
-
-is_so : (b : Bool) → not b ≡ false → b ≡ true
-is_so true h = refl
-is_so false h = absurd (cc)
 
 shallow : (o : Open) → is_deepest o ≡ false → depth_of o < 3
 shallow Outside h = omega arith
@@ -258,7 +247,7 @@ declared_went s t us l name ts rest h e n r =
     pick {A = Progress × List Lexeme} (starts_set ts || starts_data_set ts) _ _ (t, rest) (structure_went s t us l name ts rest h e n)
     (λ f.
     let a = skip_ok (not (is_inside s.within)) _ _ _ f in
-    let i = is_so (is_inside s.within) a.0 in
+    let i = not-false (is_inside s.within) a.0 in
     pick {A = Progress × List Lexeme} (starts_kind ts) _ _ (t, rest) (item_went s t us l name ts rest h e n i)
     (pick {A = Progress × List Lexeme} (starts (is_word (codes "GROUP")) ts) _ _ (t, rest) (group_went s t us l name ts rest h e n i) (link_went s t us l name ts rest h e n i)) a.1) r
 
@@ -351,14 +340,14 @@ turn_went : (s t : Progress) (us ts rest : List Lexeme) → Holds s us → schem
 unfolding schema_turn_at
 turn_went s t us ts rest h r =
     pick_if {A = Progress × List Lexeme} (starts (is_word (codes "PARAMETERS")) ts && not (is_inside s.within)) _ _ (t, rest)
-    (λ b f. parameters_went s t us ts rest h (is_not (is_inside s.within) (and_both (starts (is_word (codes "PARAMETERS")) ts) (not (is_inside s.within)) b).1) f)
+    (λ b f. parameters_went s t us ts rest h (not-true (is_inside s.within) (and_parts (starts (is_word (codes "PARAMETERS")) ts) (not (is_inside s.within)) b).1) f)
     (λ b0 g0. pick_if {A = Progress × List Lexeme} (starts (is_word (codes "AUDIT")) ts && not (is_inside s.within)) _ _ (t, rest)
-    (λ b f. audit_went s t us ts rest h (is_not (is_inside s.within) (and_both (starts (is_word (codes "AUDIT")) ts) (not (is_inside s.within)) b).1) f)
+    (λ b f. audit_went s t us ts rest h (not-true (is_inside s.within) (and_parts (starts (is_word (codes "AUDIT")) ts) (not (is_inside s.within)) b).1) f)
     (λ b1 g1. pick_if {A = Progress × List Lexeme} (starts (is_the_sign 41) ts && (is_inside s.within && not s.fresh)) _ _ (t, rest)
     (λ b f.
-    let c = and_both (starts (is_the_sign 41) ts) (is_inside s.within && not s.fresh) b in
-    let d = and_both (is_inside s.within) (not s.fresh) c.1 in
-    end_went s t us ts rest h d.0 (is_not s.fresh d.1) f)
+    let c = and_parts (starts (is_the_sign 41) ts) (is_inside s.within && not s.fresh) b in
+    let d = and_parts (is_inside s.within) (not s.fresh) c.1 in
+    end_went s t us ts rest h d.0 (not-true s.fresh d.1) f)
     (λ b2 g2. named_went s t us ts rest h g2) g1) g0) r
 
 pub schema_sound : (ts : List Lexeme) (schema : Schema) → schema_at ts ≡ Ok schema → IsSchema schema ts
@@ -368,8 +357,8 @@ schema_sound ts schema h =
     let start : Holds no_progress [] = record { stands = outside [] [] no_declaration; structures = refl; few = omega arith; counted = refl; fewer = omega arith } in
     let g = turns_at-went Holds schema_done schema_turn_at turn_went no_progress a.0.0 [] ts a.0.1 start a.1 in
     let e = turns_at-ends schema_done schema_turn_at no_progress a.0.0 ts a.0.1 a.1 in
-    let k = and_both (starts is_end a.0.1) (not (is_inside a.0.0.within)) e in
-    let u = at_top a.0.0.parameters a.0.0.has_parameters a.0.0.has_audit a.0.0.within a.0.0.fresh a.0.0.declarations g.used g.is.stands (is_not (is_inside a.0.0.within) k.1) in
+    let k = and_parts (starts is_end a.0.1) (not (is_inside a.0.0.within)) e in
+    let u = at_top a.0.0.parameters a.0.0.has_parameters a.0.0.has_audit a.0.0.within a.0.0.fresh a.0.0.declarations g.used g.is.stands (not-true (is_inside a.0.0.within) k.1) in
     subst (λ (x : Schema). IsSchema x ts) (ok_same (record { parameters = a.0.0.parameters; declarations = a.0.0.declarations }) schema a.2) (record {
       has_parameters = a.0.0.has_parameters;
       has_audit = a.0.0.has_audit;

@@ -7,9 +7,9 @@ use Rattle.std.specs.declared.result.Result.{Result}
 use Rattle.std.specs.declared.result.Result.TheVariants.{Ok, Err}
 use Rattle.dms_base.specs.declared.op.Op.TheVariants.{Equal}
 use Rattle.dasdl_parse.specs.declared.fault.ParseFault.{ParseFault}
-use Rattle.dasdl_parse.specs.declared.token.Token.{Token}
-use Rattle.dasdl_parse.specs.declared.token.Token.TheVariants.{Word, Number, Sign, Compare}
-use Rattle.dasdl_parse.specs.declared.token.Lexeme.{Lexeme}
+use Rattle.dms_tokens.specs.declared.token.Token.{Token}
+use Rattle.dms_tokens.specs.declared.token.Token.TheVariants.{Word, Number, Sign, Compare}
+use Rattle.dms_tokens.specs.declared.token.Lexeme.{Lexeme}
 use Rattle.dasdl_parse.specs.declared.declarations.PartDecl.{PartDecl}
 use Rattle.dasdl_parse.specs.declared.declarations.KeyDecl.{KeyDecl}
 use Rattle.dasdl_parse.specs.declared.sets.SetOptions.{SetOptions}
@@ -17,7 +17,8 @@ use Rattle.dasdl_parse.specs.declared.grammar.DataSetOptions.{DataSetOptions}
 use Rattle.dasdl_parse.specs.TreeCodes.{Tree}
 use Rattle.dasdl_parse.specs.Trees.{Condition}
 use Rattle.dasdl_parse.specs.Reads.{◌>>=◌, Read}
-use Rattle.dasdl_parse.specs.Cursors.{fault_at, place_at, starts, is_word, is_the_sign, word_at, sign_at, equal_at, number_at, comma_at, turns_at, until_semicolon}
+use Rattle.dms_tokens.specs.Cursors.{place_at, starts, is_word, is_the_sign}
+use Rattle.dasdl_parse.specs.Cursors.{fault_at, word_at, sign_at, equal_at, number_at, comma_at, turns_at, until_semicolon}
 use Rattle.dasdl_parse.specs.Conditions.{cond_at, cond_decl_at}
 use Rattle.dasdl_parse.specs.Sets.{parts_at, key_at, population_at, duplicates_at, form_at, starts_duplicates, starts_form, no_set_options, plain_option_at, set_option_at, next_set_option_at}
 use Rattle.dasdl_parse.specs.Grammar.{no_data_set_options, data_set_option_at, next_data_set_option_at}

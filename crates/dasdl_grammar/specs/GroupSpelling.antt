@@ -1,8 +1,8 @@
 -- What the lexemes behind the name of a group are.
 use Rattle.std.specs.Prelude.{◌≡◌, ℕ, List, [], ◌∷◌, ◌++◌, map, codes, IsTrue}
 use Rattle.dms_base.specs.Name.{is_name}
-use Rattle.dasdl_parse.specs.declared.token.Token.TheVariants.{Word, Sign}
-use Rattle.dasdl_parse.specs.declared.token.Lexeme.{Lexeme}
+use Rattle.dms_tokens.specs.declared.token.Token.TheVariants.{Word, Sign}
+use Rattle.dms_tokens.specs.declared.token.Lexeme.{Lexeme}
 use Rattle.dasdl_parse.specs.declared.declarations.ItemDecl.{ItemDecl}
 use Rattle.dasdl_parse.specs.CondSpelling.{token_of}
 use Rattle.dasdl_parse.specs.ItemSpelling.{IsItem}

@@ -1,11 +1,11 @@
 -- What the lexemes of a schema are.
 use Rattle.std.specs.Prelude.{◌≡◌, ◌≤◌, ◌<◌, ◌+◌, ℕ, suc, List, [], ◌∷◌, ◌++◌, map, length, Bool, true, false, codes, IsTrue}
 use Rattle.dms_base.specs.Name.{is_name}
-use Rattle.dasdl_parse.specs.declared.token.Token.TheVariants.{Word, End}
-use Rattle.dasdl_parse.specs.declared.token.Lexeme.{Lexeme}
+use Rattle.dms_tokens.specs.declared.token.Token.TheVariants.{Word, End}
+use Rattle.dms_tokens.specs.declared.token.Lexeme.{Lexeme}
 use Rattle.dasdl_parse.specs.declared.schema.Parameters.{Parameters}
 use Rattle.dasdl_parse.specs.declared.schema.Schema.{Schema}
-use Rattle.dasdl_parse.specs.Cursors.{starts, is_end}
+use Rattle.dms_tokens.specs.Cursors.{starts, is_end}
 use Rattle.dasdl_parse.specs.declared.parameters.Pairs.{Pairs}
 use Rattle.dasdl_parse.specs.declared.parameters.AuditPairs.{AuditPairs}
 use Rattle.dasdl_parse.specs.declared.declarations.Declaration.{Declaration}

@@ -1,6 +1,6 @@
 -- Each structure that was made is sound by itself.
 use Rattle.std.proofs.Common.{◌≡◌, ℕ, List, [], ◌∷◌, map, Bool, true, false, cond, refl, ap, subst, ◌∙◌}
-use Rattle.std.proofs.lemmas.Bool.{le-leb, eq-eqb}
+use Rattle.std.proofs.lemmas.Bool.{le-leb, eq-eqb, and_from}
 use Rattle.std.specs.Prelude.{◌||◌, ◌==◌, not, is_some}
 use Rattle.std.specs.List.{list_all, AllByRecursion}
 use Rattle.dms_desc.specs.declared.structure.KeyPart.{KeyPart}
@@ -13,7 +13,6 @@ use Rattle.dasdl_compile.specs.Finding.{drafted}
 use Rattle.dasdl_compile.specs.Outlines.{data_set_kind}
 use Rattle.dasdl_compile.specs.Sets.{set_kind, no_parts}
 use Rattle.dasdl_laws.specs.Alone.{has_local_items, is_data_set_alone, is_set_alone, is_sound_alone}
-use Rattle.dasdl_laws.proofs.Ordered.{and_so}
 use Rattle.dasdl_laws.proofs.Parts.{Ended, groups_sound}
 use Rattle.dasdl_laws.proofs.Trees.{DataSetMade, SetMade, Final}
 use Rattle.dasdl_laws.proofs.Trees.Final.{a_data_set_made, a_set_made}
@@ -25,11 +24,11 @@ kind_is false = refl
 
 items_alone : (o : List Draft) (d : Draft) → Ended o d → has_local_items (shape_in d) ≡ true
 unfolding has_local_items
-items_alone o d h = and_so _ _ (and_so _ _ (le-leb _ _ h.few) h.sofar.base.local) (le-leb _ _ h.short)
+items_alone o d h = and_from _ _ (and_from _ _ (le-leb _ _ h.few) h.sofar.base.local) (le-leb _ _ h.short)
 
 groups_alone : (o : List Draft) (d : Draft) → Ended o d → has_sound_groups (shape_in d) ≡ true
 unfolding has_sound_groups
-groups_alone o d h = and_so _ _ (and_so _ _ (le-leb _ _ h.sofar.grouped.few) (groups_sound d.items d.groups h.sofar.grouped.within h.sofar.plain)) h.sofar.grouped.follow
+groups_alone o d h = and_from _ _ (and_from _ _ (le-leb _ _ h.sofar.grouped.few) (groups_sound d.items d.groups h.sofar.grouped.within h.sofar.plain)) h.sofar.grouped.follow
 
 lacks_alone : (d : Draft) (number kind : ℕ) (name : List ℕ) (owner : ℕ) → outer d ≡ drafted number kind name owner → lacks_set_fields (shape_in d) ≡ true
 unfolding lacks_set_fields
@@ -38,14 +37,14 @@ lacks_alone d number kind name owner e =
     let form : d.form ≡ 0 = ap (λ (x : Draft). x.form) e in
     let duplicates : d.duplicates ≡ false = ap (λ (x : Draft). x.duplicates) e in
     let parts : d.parts ≡ [] = ap (λ (x : Draft). x.parts) e in
-    and_so _ _ (and_so _ _ (and_so _ _ (eq-eqb d.set 0 set) (eq-eqb d.form 0 form)) (ap not duplicates)) (ap (λ (x : List KeyPart). is_empty x) parts)
+    and_from _ _ (and_from _ _ (and_from _ _ (eq-eqb d.set 0 set) (eq-eqb d.form 0 form)) (ap not duplicates)) (ap (λ (x : List KeyPart). is_empty x) parts)
 
 data_set_alone : (o : List Draft) (d : Draft) → DataSetMade o d → is_sound_alone (shape_in d) ≡ true
 unfolding is_sound_alone is_data_set_alone
 data_set_alone o d h =
     let kind : is_data_set d.kind ≡ true = ap (λ (x : Draft). is_data_set x.kind) h.outside ∙ kind_is h.restart in
-    and_so _ _ h.name (rw kind
-    (and_so _ _ (and_so _ _ (and_so _ _ (and_so _ _ (and_so _ _ h.ended.population (items_alone o d h.ended)) (groups_alone o d h.ended)) h.ended.sofar.base.differ) h.ended.verify) (lacks_alone d h.number (data_set_kind h.restart) h.called h.owner h.outside)))
+    and_from _ _ h.name (rw kind
+    (and_from _ _ (and_from _ _ (and_from _ _ (and_from _ _ (and_from _ _ h.ended.population (items_alone o d h.ended)) (groups_alone o d h.ended)) h.ended.sofar.base.differ) h.ended.verify) (lacks_alone d h.number (data_set_kind h.restart) h.called h.owner h.outside)))
 
 pub by_words : (a b : Bool) → is_data_set (cond (not a) 3 (cond b 4 5)) ≡ false
 by_words true true = refl
@@ -66,8 +65,8 @@ set_alone : (o : List Draft) (d : Draft) → SetMade o d → is_sound_alone (sha
 unfolding is_sound_alone is_set_alone
 set_alone o d h =
     subst (λ (x : Draft). is_sound_alone (shape_in x) ≡ true) h.is
-    (and_so _ _ h.written.name (rw (by_words h.decl.subset (is_some h.decl.cond))
-    (and_so _ _ (and_so _ _ (and_so _ _ (and_so _ _ (populated (set_kind h.decl == 5) h.decl.population h.written.population) h.written.form) (some_parts h.options.parts h.decl.duplicates)) refl) refl)))
+    (and_from _ _ h.written.name (rw (by_words h.decl.subset (is_some h.decl.cond))
+    (and_from _ _ (and_from _ _ (and_from _ _ (and_from _ _ (populated (set_kind h.decl == 5) h.decl.population h.written.population) h.written.form) (some_parts h.options.parts h.decl.duplicates)) refl) refl)))
 
 alone : (o : List Draft) (d : Draft) → Final o d → is_sound_alone (shape_in d) ≡ true
 alone o d (a_data_set_made h) = data_set_alone o d h
@@ -75,4 +74,4 @@ alone o d (a_set_made h) = set_alone o d h
 
 pub all_alone : (o ds : List Draft) → AllByRecursion (Final o) ds → list_all is_sound_alone (map shape_in ds) ≡ true
 all_alone o [] h = refl
-all_alone o (d ∷ ds) h = and_so _ _ (alone o d h.0) (all_alone o ds h.1)
+all_alone o (d ∷ ds) h = and_from _ _ (alone o d h.0) (all_alone o ds h.1)

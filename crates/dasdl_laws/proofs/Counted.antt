@@ -7,11 +7,11 @@ use Rattle.dms_base.specs.declared.value.Value.{Value}
 use Rattle.dms_base.specs.declared.kind.ItemKind.{ItemKind}
 use Rattle.dms_base.specs.declared.kind.ItemKind.TheVariants.{Alpha, Number as Decimal, Bool as OneBit, Field, Link as LinkTo}
 use Rattle.dms_desc.specs.declared.structure.Item.{Item as Member}
-use Rattle.dms_desc_bytes.specs.Finding.{is_link}
+use Rattle.dms_desc.specs.Kinds.{is_link}
 use Rattle.dms_desc_bytes.specs.Lists.{total}
 use Rattle.dms_desc_bytes.specs.Members.{counted_one}
 use Rattle.dms_desc_bytes.specs.WellFormed.{counted_in as counted_shape}
-use Rattle.dasdl_parse.specs.declared.token.Lexeme.{Lexeme}
+use Rattle.dms_tokens.specs.declared.token.Lexeme.{Lexeme}
 use Rattle.dasdl_parse.specs.declared.schema.Parameters.{Parameters}
 use Rattle.dasdl_parse.specs.declared.declarations.Declaration.{Declaration}
 use Rattle.dasdl_parse.specs.declared.declarations.Declaration.TheVariants.{DataSet, Item, Group, Link, SetOf, End}

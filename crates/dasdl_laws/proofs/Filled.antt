@@ -13,14 +13,15 @@ use Rattle.dms_desc.specs.declared.structure.KeyPart.{KeyPart}
 use Rattle.dasdl_parse.specs.declared.declarations.PartDecl.{PartDecl}
 use Rattle.dasdl_compile.specs.declared.fault.CompileFault.TheVariants.{KeyItem}
 use Rattle.dasdl_compile.specs.declared.draft.Draft.{Draft}
-use Rattle.dasdl_compile.specs.declared.find.Found.{Found}
+use Rattle.dms_desc.specs.declared.lookups.NamedItem.{NamedItem}
 use Rattle.dasdl_compile.specs.declared.keys.Run.{Run}
 use Rattle.dasdl_compile.specs.declared.keys.KeySoFar.{KeySoFar}
 use Rattle.dasdl_compile.specs.Answers.{Judged, steps}
-use Rattle.dasdl_compile.specs.Conditions.{is_link as links}
-use Rattle.dasdl_compile.specs.Finding.{after_item, item_named, group_named}
+use Rattle.dms_desc.specs.Kinds.{is_link}
+use Rattle.dms_desc.specs.Lookups.{after_item, item_named, group_named}
 use Rattle.dasdl_compile.specs.Keys.{is_part, is_in_run, key_item_at, run_in, run_of, part_at, item_run, group_run, short_key, key_at}
-use Rattle.dasdl_compile.specs.Widths.{plus, item_width}
+use Rattle.dms_desc.specs.Widths.{item_width}
+use Rattle.dasdl_compile.specs.Widths.{plus}
 use Rattle.dasdl_laws.proofs.Judging.{bind_ok, skip_ok, ok_same, steps_keep}
 use Rattle.dasdl_laws.proofs.Judged.{FoundIn, item_found}
 use Rattle.dasdl_laws.proofs.Parts.{Within}
@@ -31,11 +32,11 @@ record ItemTurn (r : Run) (k t : KeySoFar) : Type 0 where
   more : length k.parts ≤ length t.parts
   hit : is_in_run r k.next ≡ true → 1 ≤ length t.parts
 
-turned : (b : Bool) (r : Run) (k : KeySoFar) (i : Item) (t : KeySoFar) → is_in_run r k.next ≡ b → cond (not b) (Ok (record { next = after_item k.next; bytes = k.bytes; parts = k.parts })) (cond (links i.kind || is_part k.next k.parts) (Err (KeyItem i.name)) (Ok (record { next = after_item k.next; bytes = plus k.bytes (item_width i.kind); parts = k.parts ++ record { item = k.next; descending = r.descending } ∷ [] }))) ≡ Ok t → ItemTurn r k t
+turned : (b : Bool) (r : Run) (k : KeySoFar) (i : Item) (t : KeySoFar) → is_in_run r k.next ≡ b → cond (not b) (Ok (record { next = after_item k.next; bytes = k.bytes; parts = k.parts })) (cond (is_link i.kind || is_part k.next k.parts) (Err (KeyItem i.name)) (Ok (record { next = after_item k.next; bytes = plus k.bytes (item_width i.kind); parts = k.parts ++ record { item = k.next; descending = r.descending } ∷ [] }))) ≡ Ok t → ItemTurn r k t
 turned false r k i t e h =
     subst (ItemTurn r k) (ok_same _ t h) (record { next = refl; more = omega arith; hit = λ g. let bad : true ≡ false = sym g ∙ e in absurd (cc) })
 turned true r k i t e h =
-    let a = skip_ok (links i.kind || is_part k.next k.parts) _ _ _ h in
+    let a = skip_ok (is_link i.kind || is_part k.next k.parts) _ _ _ h in
     let one : length (k.parts ++ record { item = k.next; descending = r.descending } ∷ []) ≡ length k.parts + 1 = length-append k.parts (record { item = k.next; descending = r.descending } ∷ []) in
     subst (ItemTurn r k) (ok_same _ t a.1) (record { next = refl; more = omega (arith, one); hit = λ g. omega (arith, one) })
 
@@ -92,7 +93,6 @@ group_case true n name x xs g h e f = let one : x ≡ g = cc in subst (Within n)
 group_case false n name x xs g h e f = f e
 
 group_in : (n : ℕ) (name : List ℕ) (gs : List Group) (g : Group) → AllByRecursion (Within n) gs → group_named name gs ≡ Some g → Within n g
-unfolding group_named
 group_in n name [] g h e = absurd (cc)
 group_in n name (x ∷ xs) g h e = group_case (bytes_eq x.name name) n name x xs g h e (group_in n name xs g h.1)
 
@@ -103,14 +103,14 @@ group_begins n d g w =
     let c = w.3 in
     record { from = a; upto = omega (arith, b, c); some = b }
 
-item_begins : (items : List Item) (d : Bool) (f : Found) → FoundIn items f → Begins (item_run d f) (length items)
+item_begins : (items : List Item) (d : Bool) (f : NamedItem) → FoundIn items f → Begins (item_run d f) (length items)
 item_begins items d f h = record { from = h.from; upto = h.upto; some = omega arith }
 
 either_run : (b : Bool) (x y r : Run) (n : ℕ) → Begins x n → Begins y n → ◌≡◌ {A = Judged Run} (cond b (Ok x) (Ok y)) (Ok r) → Begins r n
 either_run true x y r n h k e = subst (λ (z : Run). Begins z n) (ok_same x r e) h
 either_run false x y r n h k e = subst (λ (z : Run). Begins z n) (ok_same y r e) k
 
-run_begins : (d : Draft) (p : PartDecl) (f : Option Found) (g : Option Group) (r : Run) → length d.items ≤ 254 → AllByRecursion (Within (length d.items)) d.groups → item_named p.name 1 d.items ≡ f → group_named p.name d.groups ≡ g → run_in p f g ≡ Ok r → Begins r (length d.items)
+run_begins : (d : Draft) (p : PartDecl) (f : Option NamedItem) (g : Option Group) (r : Run) → length d.items ≤ 254 → AllByRecursion (Within (length d.items)) d.groups → item_named p.name 1 d.items ≡ f → group_named p.name d.groups ≡ g → run_in p f g ≡ Ok r → Begins r (length d.items)
 run_begins d p None None r few w e h k = absurd (cc)
 run_begins d p (Some f) None r few w e h k = subst (λ (x : Run). Begins x (length d.items)) (ok_same _ r k) (item_begins d.items p.descending f (item_found p.name d.items f few e))
 run_begins d p None (Some g) r few w e h k = subst (λ (x : Run). Begins x (length d.items)) (ok_same _ r k) (group_begins (length d.items) p.descending g (group_in (length d.items) p.name d.groups g w h))

@@ -1,6 +1,6 @@
 -- A condition that was judged compares items well, and has as many nodes as were written.
 use Rattle.std.proofs.Common.{◌≡◌, ◌≤◌, ◌+◌, ◌-◌, ℕ, List, [], ◌∷◌, ◌++◌, length, Bool, true, false, cond, refl, ap, subst, ◌∙◌, arith, length-append, append_assoc}
-use Rattle.std.proofs.lemmas.Bool.{and_parts, le-leb}
+use Rattle.std.proofs.lemmas.Bool.{and_parts, le-leb, and_from}
 use Rattle.std.proofs.lemmas.Bool.Decides.{nat_tests}
 use Rattle.std.specs.Prelude.{◌&&◌, ◌==◌, slice_get, Some, None}
 use Rattle.std.specs.Str.{bytes_eq}
@@ -17,17 +17,16 @@ use Rattle.dms_desc_bytes.specs.Finding.{item_at}
 use Rattle.dasdl_parse.specs.CondSpelling.{nodes as nodes_of}
 use Rattle.dasdl_parse.specs.TreeCodes.{Tree as Written}
 use Rattle.dasdl_parse.specs.TreeCodes.Tree.{Test as Compared, Both as And', Either as Or', Turned}
-use Rattle.dasdl_compile.specs.declared.find.Found.{Found}
+use Rattle.dms_desc.specs.declared.lookups.NamedItem.{NamedItem}
 use Rattle.dasdl_compile.specs.Conditions.{value_in, or_fault, literal_of, compared_with, compared, condition}
-use Rattle.dasdl_compile.specs.Finding.{item_named, after_item}
+use Rattle.dms_desc.specs.Lookups.{item_named, after_item}
 use Rattle.dasdl_laws.proofs.Judging.{bind_ok, ok_same}
 use Rattle.dasdl_laws.proofs.Literals.{is_plain_literal, is_value, judged_fits}
-use Rattle.dasdl_laws.proofs.Ordered.{and_so}
 
 -- ---- items by their names
 
 -- what was found is the item with its number
-pub record FoundIn (items : List Item) (f : Found) : Type 0 where
+pub record FoundIn (items : List Item) (f : NamedItem) : Type 0 where
   pub item : Item
   pub at : item_at items f.number ≡ Some item
   pub kind : item.kind ≡ f.kind
@@ -44,21 +43,20 @@ place_of pre i is n e =
     let at : n - 1 ≡ length pre = omega (arith, e) in
     ap (λ (b : Bool). cond b None (slice_get (pre ++ i ∷ is) (n - 1))) some ∙ ap (λ (k : ℕ). slice_get (pre ++ i ∷ is) k) at ∙ behind pre i is
 
-pick_found : (b : Bool) (pre : List Item) (i : Item) (is : List Item) (n : ℕ) (r : Option Found) (f : Found) → n ≡ length pre + 1 → cond b (Some (record { number = n; kind = i.kind })) r ≡ Some f → (r ≡ Some f → FoundIn (pre ++ i ∷ is) f) → FoundIn (pre ++ i ∷ is) f
+pick_found : (b : Bool) (pre : List Item) (i : Item) (is : List Item) (n : ℕ) (r : Option NamedItem) (f : NamedItem) → n ≡ length pre + 1 → cond b (Some (record { number = n; kind = i.kind })) r ≡ Some f → (r ≡ Some f → FoundIn (pre ++ i ∷ is) f) → FoundIn (pre ++ i ∷ is) f
 pick_found true pre i is n r f e h g =
-    let same : ◌≡◌ {A = Found} (record { number = n; kind = i.kind }) f = cc in
+    let same : ◌≡◌ {A = NamedItem} (record { number = n; kind = i.kind }) f = cc in
     subst (FoundIn (pre ++ i ∷ is)) same (record { item = i; at = place_of pre i is n e; kind = refl; from = omega (arith, e); upto = omega (arith, e, length-append pre (i ∷ is)) })
 pick_found false pre i is n r f e h g = g h
 
-found_from : (name : List ℕ) (n : ℕ) (pre is : List Item) (f : Found) → length (pre ++ is) ≤ 254 → n ≡ length pre + 1 → item_named name n is ≡ Some f → FoundIn (pre ++ is) f
-unfolding item_named
+found_from : (name : List ℕ) (n : ℕ) (pre is : List Item) (f : NamedItem) → length (pre ++ is) ≤ 254 → n ≡ length pre + 1 → item_named name n is ≡ Some f → FoundIn (pre ++ is) f
 found_from name n pre [] f few e h = absurd (cc)
 found_from name n pre (i ∷ is) f few e h =
     let more : (pre ++ i ∷ []) ++ is ≡ pre ++ i ∷ is = append_assoc pre (i ∷ []) is in
     pick_found (bytes_eq i.name name) pre i is n (item_named name (after_item n) is) f e h
     (λ g. subst (λ (l : List Item). FoundIn l f) more (found_from name (after_item n) (pre ++ i ∷ []) is f (rw more few) (omega (arith, e, few, length-append pre (i ∷ is), length-append pre (i ∷ []))) g))
 
-pub item_found : (name : List ℕ) (items : List Item) (f : Found) → length items ≤ 254 → item_named name 1 items ≡ Some f → FoundIn items f
+pub item_found : (name : List ℕ) (items : List Item) (f : NamedItem) → length items ≤ 254 → item_named name 1 items ≡ Some f → FoundIn items f
 item_found name items f few h = found_from name 1 [] items f few refl h
 
 -- ---- conditions
@@ -79,10 +77,10 @@ pub literal_in : (name : List ℕ) (o : Option Value) (v : Value) → or_fault n
 literal_in name None v h = absurd (cc)
 literal_in name (Some x) v h = let e = ok_same x v h in cc
 
-comparable : (items : List Item) (f : Found) (v : Value) → FoundIn items f → is_value f.kind v ≡ true → is_comparable (item_at items f.number) v ≡ true
+comparable : (items : List Item) (f : NamedItem) (v : Value) → FoundIn items f → is_value f.kind v ≡ true → is_comparable (item_at items f.number) v ≡ true
 comparable items f v g e = rw (g.at, g.kind) e
 
-test_judged : (items : List Item) (name : List ℕ) (op : Op) (l : Literal) (t : Tree) (o : Option Found) → length items ≤ 254 → is_plain_literal l ≡ true → item_named name 1 items ≡ o → compared_with name op l o ≡ Ok t → Judges items (Compared name op l) t
+test_judged : (items : List Item) (name : List ℕ) (op : Op) (l : Literal) (t : Tree) (o : Option NamedItem) → length items ≤ 254 → is_plain_literal l ≡ true → item_named name 1 items ≡ o → compared_with name op l o ≡ Ok t → Judges items (Compared name op l) t
 unfolding literal_of
 test_judged items name op l t None few plain e h = absurd (cc)
 test_judged items name op l t (Some f) few plain e h =
@@ -93,7 +91,7 @@ test_judged items name op l t (Some f) few plain e h =
     (record { well = comparable items f a.0 g v; nodes = refl })
 
 joined : (items : List Item) (a b : Written) (x y : Tree) → Judges items a x → Judges items b y → Judges items (And' a b) (Both x y) × Judges items (Or' a b) (Either x y)
-joined items a b x y f g = (record { well = and_so _ _ f.well g.well; nodes = omega (arith, f.nodes, g.nodes) }, record { well = and_so _ _ f.well g.well; nodes = omega (arith, f.nodes, g.nodes) })
+joined items a b x y f g = (record { well = and_from _ _ f.well g.well; nodes = omega (arith, f.nodes, g.nodes) }, record { well = and_from _ _ f.well g.well; nodes = omega (arith, f.nodes, g.nodes) })
 
 pub judged : (items : List Item) (written : Written) (t : Tree) → length items ≤ 254 → are_plain written ≡ true → condition items written ≡ Ok t → Judges items written t
 unfolding condition compared
@@ -118,4 +116,4 @@ pub condition_sound : (items : List Item) (written : Written) (t : Tree) → len
 unfolding is_condition
 condition_sound items written t few plain low h =
     let j = judged items written t few plain h in
-    and_so _ _ (le-leb (nodes t) 100 (omega (arith, j.nodes, low))) j.well
+    and_from _ _ (le-leb (nodes t) 100 (omega (arith, j.nodes, low))) j.well

@@ -1,16 +1,15 @@
 -- A key that was judged has parts of its items, none of them twice, and is short.
-use Rattle.std.proofs.Common.{◌≡◌, ◌≤◌, ◌+◌, ℕ, List, [], ◌∷◌, ◌++◌, length, Bool, true, false, cond, refl, sym, ap, subst, ◌∙◌, arith, length-append, append_assoc}
-use Rattle.std.proofs.lemmas.Bool.{le-leb, ltb-false}
+use Rattle.std.proofs.Common.{◌≡◌, ◌≤◌, ◌+◌, ℕ, List, [], ◌∷◌, ◌++◌, length, Bool, true, false, cond, refl, sym, ap, subst, arith, length-append, append_assoc}
+use Rattle.std.proofs.lemmas.Bool.{le-leb, ltb-false, or_parts, and_from}
 use Rattle.std.specs.Prelude.{◌||◌, ◌==◌, not, nat_lt, Some}
 use Rattle.std.specs.List.{list_all}
 use Rattle.std.specs.declared.result.Result.TheVariants.{Ok, Err}
-use Rattle.dms_base.specs.declared.kind.ItemKind.{ItemKind}
-use Rattle.dms_base.specs.declared.kind.ItemKind.TheVariants.{Alpha, Number as Decimal, Bool as OneBit, Field, Link as LinkTo}
 use Rattle.dms_desc.specs.declared.structure.Item.{Item}
 use Rattle.dms_desc.specs.declared.structure.KeyPart.{KeyPart}
-use Rattle.dms_desc_bytes.specs.Finding.{item_at, is_link}
+use Rattle.dms_desc.specs.Kinds.{is_link}
+use Rattle.dms_desc_bytes.specs.Finding.{item_at}
 use Rattle.dms_desc_bytes.specs.Lists.{apart, total}
-use Rattle.dms_desc_bytes.specs.Members.{item_width}
+use Rattle.dms_desc.specs.Widths.{item_width}
 use Rattle.dms_desc_bytes.specs.WellFormed.{is_part_sound, parts_differ, part_width, is_key_sound}
 use Rattle.dasdl_parse.specs.declared.declarations.PartDecl.{PartDecl}
 use Rattle.dasdl_compile.specs.declared.fault.CompileFault.TheVariants.{KeyItem}
@@ -18,27 +17,12 @@ use Rattle.dasdl_compile.specs.declared.draft.Draft.{Draft}
 use Rattle.dasdl_compile.specs.declared.keys.Run.{Run}
 use Rattle.dasdl_compile.specs.declared.keys.KeySoFar.{KeySoFar}
 use Rattle.dasdl_compile.specs.Answers.{steps}
-use Rattle.dasdl_compile.specs.Conditions.{is_link as links}
 use Rattle.dasdl_compile.specs.Keys.{is_part, is_in_run, key_item_at, run_of, part_at, short_key, key_at}
-use Rattle.dasdl_compile.specs.Widths.{plus, item_width as width_of}
-use Rattle.dasdl_compile.specs.Finding.{after_item}
+use Rattle.dasdl_compile.specs.Widths.{plus}
+use Rattle.dms_desc.specs.Lookups.{after_item}
 use Rattle.dasdl_laws.proofs.Judging.{bind_ok, skip_ok, ok_same, steps_keep}
 use Rattle.dasdl_laws.proofs.Judged.{place_of}
-use Rattle.dasdl_laws.proofs.Ordered.{and_so, all_push, apart_push}
-
-pub same_links : (k : ItemKind) → links k ≡ is_link k
-same_links (Alpha n) = refl
-same_links (Decimal n m s) = refl
-same_links OneBit = refl
-same_links (Field n) = refl
-same_links (LinkTo to counted) = refl
-
-pub same_widths : (k : ItemKind) → width_of k ≡ item_width k
-same_widths (Alpha n) = refl
-same_widths (Decimal n m s) = refl
-same_widths OneBit = refl
-same_widths (Field n) = refl
-same_widths (LinkTo to counted) = refl
+use Rattle.dasdl_laws.proofs.Ordered.{all_push, apart_push}
 
 pub total_push : {A : Type 0} (size : A → ℕ) (xs : List A) (y : A) → total size (xs ++ y ∷ []) ≡ total size xs + size y
 total_push size [] y = omega arith
@@ -50,10 +34,6 @@ record Keyed (items : List Item) (bytes : ℕ) (ps : List KeyPart) : Type 0 wher
   differ : apart parts_differ ps ≡ true
   short : bytes ≤ 96 → total (part_width items) ps ≤ bytes
 
-neither : (a b : Bool) → a || b ≡ false → (a ≡ false) × (b ≡ false)
-neither true b h = absurd (cc)
-neither false b h = (refl, h)
-
 or_none : (a b : Bool) → cond a true b ≡ false → (a ≡ false) × (b ≡ false)
 or_none true b h = absurd (cc)
 or_none false b h = (refl, h)
@@ -63,12 +43,12 @@ unfolding is_part
 none_twice n [] d h = refl
 none_twice n (p ∷ ps) d h =
     let a = or_none (p.item == n) (is_part n ps) h in
-    and_so _ _ (ap not a.0) (none_twice n ps d a.1)
+    and_from _ _ (ap not a.0) (none_twice n ps d a.1)
 
-one_more : (items : List Item) (bytes : ℕ) (ps : List KeyPart) (n : ℕ) (d : Bool) (i : Item) → Keyed items bytes ps → item_at items n ≡ Some i → links i.kind ≡ false → is_part n ps ≡ false → Keyed items (plus bytes (width_of i.kind)) (ps ++ record { item = n; descending = d } ∷ [])
+one_more : (items : List Item) (bytes : ℕ) (ps : List KeyPart) (n : ℕ) (d : Bool) (i : Item) → Keyed items bytes ps → item_at items n ≡ Some i → is_link i.kind ≡ false → is_part n ps ≡ false → Keyed items (plus bytes (item_width i.kind)) (ps ++ record { item = n; descending = d } ∷ [])
 one_more items bytes ps n d i k at plain new =
-    let sound : is_part_sound items (record { item = n; descending = d }) ≡ true = rw at (ap not (sym (same_links i.kind) ∙ plain)) in
-    let width : part_width items (record { item = n; descending = d }) ≡ width_of i.kind = rw at (sym (same_widths i.kind)) in
+    let sound : is_part_sound items (record { item = n; descending = d }) ≡ true = rw at (ap not plain) in
+    let width : part_width items (record { item = n; descending = d }) ≡ item_width i.kind = rw at refl in
     record {
       sound = all_push (is_part_sound items) ps (record { item = n; descending = d }) k.sound sound;
       differ = apart_push parts_differ ps (record { item = n; descending = d }) k.differ (none_twice n ps d new);
@@ -80,12 +60,12 @@ record Passed (items : List Item) (n : ℕ) (t : KeySoFar) : Type 0 where
   next : t.next ≡ after_item n
   keyed : Keyed items t.bytes t.parts
 
-passed : (b : Bool) (items : List Item) (r : Run) (k : KeySoFar) (i : Item) (t : KeySoFar) → Keyed items k.bytes k.parts → item_at items k.next ≡ Some i → cond (not b) (Ok (record { next = after_item k.next; bytes = k.bytes; parts = k.parts })) (cond (links i.kind || is_part k.next k.parts) (Err (KeyItem i.name)) (Ok (record { next = after_item k.next; bytes = plus k.bytes (width_of i.kind); parts = k.parts ++ record { item = k.next; descending = r.descending } ∷ [] }))) ≡ Ok t → Passed items k.next t
+passed : (b : Bool) (items : List Item) (r : Run) (k : KeySoFar) (i : Item) (t : KeySoFar) → Keyed items k.bytes k.parts → item_at items k.next ≡ Some i → cond (not b) (Ok (record { next = after_item k.next; bytes = k.bytes; parts = k.parts })) (cond (is_link i.kind || is_part k.next k.parts) (Err (KeyItem i.name)) (Ok (record { next = after_item k.next; bytes = plus k.bytes (item_width i.kind); parts = k.parts ++ record { item = k.next; descending = r.descending } ∷ [] }))) ≡ Ok t → Passed items k.next t
 passed false items r k i t h at e =
     subst (Passed items k.next) (ok_same _ t e) (record { next = refl; keyed = h })
 passed true items r k i t h at e =
-    let a = skip_ok (links i.kind || is_part k.next k.parts) _ _ _ e in
-    let n = neither (links i.kind) (is_part k.next k.parts) a.0 in
+    let a = skip_ok (is_link i.kind || is_part k.next k.parts) _ _ _ e in
+    let n = or_parts (is_link i.kind) (is_part k.next k.parts) a.0 in
     subst (Passed items k.next) (ok_same _ t a.1) (record { next = refl; keyed = one_more items k.bytes k.parts k.next r.descending i h at n.0 n.1 })
 
 item_passed : (items : List Item) (r : Run) (k : KeySoFar) (i : Item) (t : KeySoFar) → Keyed items k.bytes k.parts → item_at items k.next ≡ Some i → key_item_at r k i ≡ Ok t → Passed items k.next t
@@ -118,4 +98,4 @@ key_sound name d ps ks few h =
     let c = skip_ok (nat_lt 96 a.0.bytes) _ _ _ b.1 in
     let low : a.0.bytes ≤ 96 = ltb-false 96 a.0.bytes c.0 in
     subst (λ (x : List KeyPart). is_key_sound d.items x ≡ true) (ok_same a.0.parts ks c.1)
-    (and_so _ _ (and_so _ _ (and_so _ _ (le-leb _ _ (ltb-false 16 (length a.0.parts) b.0)) k.sound) k.differ) (le-leb _ _ (omega (arith, low, k.short low))))
+    (and_from _ _ (and_from _ _ (and_from _ _ (le-leb _ _ (ltb-false 16 (length a.0.parts) b.0)) k.sound) k.differ) (le-leb _ _ (omega (arith, low, k.short low))))

@@ -1,6 +1,6 @@
 -- There are at most three levels of structures.
 use Rattle.std.proofs.Common.{◌≡◌, ◌≤◌, ◌<◌, ◌+◌, ◌-◌, ◌⊎◌, inl, inr, ℕ, suc, zero, List, [], ◌∷◌, ◌++◌, map, length, Bool, true, false, cond, refl, sym, ap, subst, ◌∙◌, arith, append_assoc, length-append}
-use Rattle.std.proofs.lemmas.Bool.{eq-eqb}
+use Rattle.std.proofs.lemmas.Bool.{eq-eqb, and_from}
 use Rattle.std.proofs.lemmas.List.{append-nil, map-append, length-map}
 use Rattle.std.proofs.lemmas.Option.{slice_get-map}
 use Rattle.std.specs.Prelude.{◌==◌, slice_get, Some, None}
@@ -9,9 +9,10 @@ use Rattle.std.specs.Option.{option_map}
 use Rattle.std.specs.declared.option.Option.{Option}
 use Rattle.std.specs.declared.result.Result.TheVariants.{Ok}
 use Rattle.dms_desc.specs.Shape.{Shape}
-use Rattle.dms_desc_bytes.specs.Finding.{structure_at, owner_in, owner_of}
+use Rattle.dms_desc.specs.Lookups.{structure_at}
+use Rattle.dms_desc_bytes.specs.Finding.{owner_in, owner_of}
 use Rattle.dms_desc_bytes.specs.WellFormed.{is_shallow}
-use Rattle.dasdl_parse.specs.declared.token.Lexeme.{Lexeme}
+use Rattle.dms_tokens.specs.declared.token.Lexeme.{Lexeme}
 use Rattle.dasdl_parse.specs.declared.declarations.Declaration.{Declaration}
 use Rattle.dasdl_parse.specs.declared.declarations.Declaration.TheVariants.{DataSet, Item, Group, Link, SetOf, End}
 use Rattle.dasdl_parse.specs.declared.declarations.DataSetDecl.{DataSetDecl}
@@ -31,7 +32,7 @@ use Rattle.dasdl_compile.specs.Members.{open_after}
 use Rattle.dasdl_compile.specs.Outlines.{data_set_kind}
 use Rattle.dasdl_compile.specs.Sets.{set_draft}
 use Rattle.dasdl_laws.proofs.Judging.{bind_ok, ok_same, steps_split, one_step}
-use Rattle.dasdl_laws.proofs.Ordered.{and_so, counts}
+use Rattle.dasdl_laws.proofs.Ordered.{counts}
 use Rattle.dasdl_laws.proofs.Owners.{got_more, got_last, push}
 use Rattle.dasdl_laws.proofs.Together.{mapped, ne_zero}
 use Rattle.dasdl_laws.proofs.Trees.{opened_by, more_structures}
@@ -227,7 +228,7 @@ shallow made d h =
 
 all_shallow : (made ds : List Draft) → AllByRecursion (Low (map outer made)) (map outer ds) → list_all (is_shallow (map shape_in made)) (map shape_in ds) ≡ true
 all_shallow made [] h = refl
-all_shallow made (d ∷ ds) h = and_so _ _ (shallow made d h.0) (all_shallow made ds h.1)
+all_shallow made (d ∷ ds) h = and_from _ _ (shallow made d h.0) (all_shallow made ds h.1)
 
 pub are_shallow : (p : Parameters) (b a : Bool) (ds : List Declaration) (us : List Lexeme) → Declares p b a ds us → (o : List Draft) (w : Work) → structures_in ds ≤ 200 → steps declared_at o nothing_yet ds ≡ Ok w → list_all (is_shallow (map shape_in w.made)) (map shape_in w.made) ≡ true
 are_shallow p b a ds us d o w few k = all_shallow w.made w.made (declared_low p b a ds us d o w few k).0

@@ -1,6 +1,6 @@
 -- The value of a literal fits its item, and a condition that was judged compares items well.
 use Rattle.std.proofs.Common.{◌≡◌, ℕ, suc, zero, List, Bool, true, false, cond, refl, ap, subst, arith}
-use Rattle.std.proofs.lemmas.Bool.{and_parts, eqb-true}
+use Rattle.std.proofs.lemmas.Bool.{and_parts, eqb-true, and_from}
 use Rattle.std.proofs.lemmas.Bool.Decides.{nat_tests}
 use Rattle.std.specs.Prelude.{pos, ◌&&◌, ◌||◌, not, ◌==◌, ◌^◌, nat_lt, nat_le, int_lt, unsigned_abs, length, Some, None}
 use Rattle.std.specs.List.{list_all}
@@ -14,10 +14,10 @@ use Rattle.dms_base.specs.declared.kind.Literal.{Literal}
 use Rattle.dms_base.specs.declared.kind.Literal.TheVariants.{Null as NoValue, Text as Quoted, Number as Digits, Bool as Word}
 use Rattle.dms_base.specs.Fits.{fits, scaled, signed, ranged, bits_of, alpha_of, value_of}
 use Rattle.dms_base.specs.Text.{is_printable, trimmed}
-use Rattle.dms_desc_bytes.specs.Finding.{is_link}
+use Rattle.dms_desc.specs.Kinds.{is_link}
 use Rattle.dms_desc_bytes.specs.Members.{is_plain}
-use Rattle.dasdl_compile.specs.Conditions.{is_kind, value_in}
-use Rattle.dasdl_laws.proofs.Ordered.{and_so}
+use Rattle.dms_base.specs.Spelling.{is_kind}
+use Rattle.dasdl_compile.specs.Conditions.{value_in}
 
 -- a literal of a text: a string has characters from the space to `~`, and no space at its end
 abbrev pub is_plain_literal : Literal → Bool
@@ -50,20 +50,20 @@ ranged_fits n m s minus None v h = absurd (cc)
 ranged_fits n m s minus (Some size) v h =
     let a = picked {A = Value} _ (Number (signed minus size)) v h in
     let b = and_parts (nat_lt size (10 ^ n)) (s || not minus || size == 0) a.0 in
-    let f : fits (Decimal n m s) (Number (signed minus size)) ≡ true = and_so _ _ (rw (size_of_signed minus size) b.0) (sign_of minus s size b.1) in
-    subst (λ (x : Value). is_value (Decimal n m s) x ≡ true) a.1 (and_so _ _ f refl)
+    let f : fits (Decimal n m s) (Number (signed minus size)) ≡ true = and_from _ _ (rw (size_of_signed minus size) b.0) (sign_of minus s size b.1) in
+    subst (λ (x : Value). is_value (Decimal n m s) x ≡ true) a.1 (and_from _ _ f refl)
 
 bits_fit : (n : ℕ) (minus : Bool) (o : Option ℕ) (v : Value) → bits_of n minus o ≡ Some v → is_value (Field n) v ≡ true
 bits_fit n minus None v h = absurd (cc)
 bits_fit n minus (Some size) v h =
     let a = picked {A = Value} _ (Bits size) v h in
     let b = and_parts (nat_lt size (2 ^ n)) (not minus || size == 0) a.0 in
-    subst (λ (x : Value). is_value (Field n) x ≡ true) a.1 (and_so _ _ b.0 refl)
+    subst (λ (x : Value). is_value (Field n) x ≡ true) a.1 (and_from _ _ b.0 refl)
 
 text_fits : (n : ℕ) (bytes : List ℕ) (v : Value) → is_plain_literal (Quoted bytes) ≡ true → alpha_of n bytes ≡ Some v → is_value (Alpha n) v ≡ true
 text_fits n bytes v plain h =
     let a = picked {A = Value} (nat_le (length bytes) n) (Text bytes) v h in
-    subst (λ (x : Value). is_value (Alpha n) x ≡ true) a.1 (and_so _ _ a.0 plain)
+    subst (λ (x : Value). is_value (Alpha n) x ≡ true) a.1 (and_from _ _ a.0 plain)
 
 null_fits : (k : ItemKind) (v : Value) → is_value k Null ≡ true → ◌≡◌ {A = Option Value} (Some Null) (Some v) → is_value k v ≡ true
 null_fits k v e h = let s : Null ≡ v = cc in subst (λ (x : Value). is_value k x ≡ true) s e

@@ -1,8 +1,8 @@
 -- Items, links and groups of a data set, as they are added one after another.
 use Rattle.std.proofs.Common.{◌≡◌, ℕ, List, [], ◌∷◌, ◌++◌, Bool, true, false, cond, refl, sym, ap, subst, ◌∙◌}
-use Rattle.std.proofs.lemmas.Bool.{and_parts, not-true, both_ways}
+use Rattle.std.proofs.lemmas.Bool.{and_parts, not-true, both_ways, or_parts, and_from}
 use Rattle.std.proofs.lemmas.Slice.Eq.{bytes_eq-Decides}
-use Rattle.std.specs.Prelude.{◌&&◌, ◌||◌, ◌==◌, not, is_some, Some, None}
+use Rattle.std.specs.Prelude.{◌&&◌, ◌==◌, not, is_some, Some, None}
 use Rattle.std.specs.List.{list_all}
 use Rattle.std.specs.Str.{bytes_eq}
 use Rattle.std.specs.declared.option.Option.{Option}
@@ -16,21 +16,23 @@ use Rattle.dms_base.specs.declared.kind.ItemKind.TheVariants.{Alpha, Number as D
 use Rattle.dms_base.specs.declared.kind.Literal.{Literal}
 use Rattle.dms_desc.specs.declared.structure.Item.{Item as Member}
 use Rattle.dms_desc.specs.declared.structure.Group.{Group as ItemGroup}
-use Rattle.dms_desc_bytes.specs.Finding.{is_link}
+use Rattle.dms_desc.specs.Kinds.{is_link}
 use Rattle.dms_desc_bytes.specs.Lists.{apart}
-use Rattle.dms_desc_bytes.specs.Members.{is_plain, is_null, items_differ, groups_differ, is_free_of, members_differ}
+use Rattle.dms_desc.specs.Conds.{is_null}
+use Rattle.dms_desc_bytes.specs.Members.{is_plain, items_differ, groups_differ, is_free_of, members_differ}
 use Rattle.dasdl_parse.specs.declared.declarations.ItemDecl.{ItemDecl}
 use Rattle.dasdl_parse.specs.declared.declarations.LinkDecl.{LinkDecl}
 use Rattle.dasdl_compile.specs.declared.fault.CompileFault.TheVariants.{Embedding}
 use Rattle.dasdl_compile.specs.declared.draft.Draft.{Draft}
 use Rattle.dasdl_compile.specs.Conditions.{literal_of, value_in}
-use Rattle.dasdl_compile.specs.Finding.{item_named, group_named, is_taken, data_set_named, after_item}
+use Rattle.dms_desc.specs.Lookups.{item_named, group_named, after_item}
+use Rattle.dasdl_compile.specs.Finding.{is_taken, data_set_named}
 use Rattle.dasdl_compile.specs.Members.{with_item, initial_in, initial_of, item_at, link_to, link_kind, link_at}
 use Rattle.dasdl_laws.specs.Alone.{is_local}
 use Rattle.dasdl_laws.proofs.Judging.{bind_ok, skip_ok, ok_same}
 use Rattle.dasdl_laws.proofs.Literals.{judged_fits}
 use Rattle.dasdl_laws.proofs.Judged.{literal_in}
-use Rattle.dasdl_laws.proofs.Ordered.{and_so, all_push, apart_push}
+use Rattle.dasdl_laws.proofs.Ordered.{all_push, apart_push}
 use Rattle.dasdl_laws.proofs.Written.{IsWritten, IsPlainInitial}
 
 -- a link points to a data set of these that stands in no other
@@ -88,7 +90,7 @@ item_adds o d t i w h =
     let a = skip_ok (is_taken i.name d) _ _ _ h in
     let b = bind_ok {A = Value} {B = Draft} (initial_in i i.initial) _ t a.1 in
     let f = initial_fits i i.initial b.0 w.initial b.1 in
-    record { one = record { name = i.name; kind = i.kind; required = i.required; initial = b.0 }; new = a.0; local = and_so _ _ (and_so _ _ (and_so _ _ w.name w.kind) f.0) f.1; points = no_link o i.kind _ w.plain; is = ok_same _ t b.2 }
+    record { one = record { name = i.name; kind = i.kind; required = i.required; initial = b.0 }; new = a.0; local = and_from _ _ (and_from _ _ (and_from _ _ w.name w.kind) f.0) f.1; points = no_link o i.kind _ w.plain; is = ok_same _ t b.2 }
 
 pub item_plain : (o : List Draft) (d t : Draft) (i : ItemDecl) (w : IsWritten i) (h : item_at o d i ≡ Ok t) → is_link (item_adds o d t i w h).one.kind ≡ false
 unfolding item_adds
@@ -104,7 +106,7 @@ link_found o l (Some t) k e h = by_owner o l t k (t.owner == 0) refl e h
 
 link_adds_as : (o : List Draft) (d t : Draft) (l : LinkDecl) (k : ItemKind) (to : Draft) → is_name l.name ≡ true → is_taken l.name d ≡ false → data_set_named l.target o ≡ Some to → (to.owner == 0) ≡ true → k ≡ LinkTo to.number l.counted → with_item d (record { name = l.name; kind = k; required = false; initial = Null }) ≡ t → Adds o d t
 link_adds_as o d t l k to named new e alone kind is =
-    record { one = record { name = l.name; kind = LinkTo to.number l.counted; required = false; initial = Null }; new = new; local = and_so _ _ (and_so _ _ (and_so _ _ named refl) refl) refl; points = record { name = l.target; to = to; found = e; number = refl; alone = alone; required = refl; initial = refl }; is = ap (λ (x : ItemKind). with_item d (record { name = l.name; kind = x; required = false; initial = Null })) (sym kind) ∙ is }
+    record { one = record { name = l.name; kind = LinkTo to.number l.counted; required = false; initial = Null }; new = new; local = and_from _ _ (and_from _ _ (and_from _ _ named refl) refl) refl; points = record { name = l.target; to = to; found = e; number = refl; alone = alone; required = refl; initial = refl }; is = ap (λ (x : ItemKind). with_item d (record { name = l.name; kind = x; required = false; initial = Null })) (sym kind) ∙ is }
 
 pub link_adds : (o : List Draft) (d t : Draft) (l : LinkDecl) → is_name l.name ≡ true → link_at o d l ≡ Ok t → Adds o d t
 unfolding link_at link_kind
@@ -131,7 +133,6 @@ by_name true name n i is h f = absurd (cc)
 by_name false name n i is h f = f h
 
 free_items : (name : List ℕ) (n : ℕ) (is : List Member) → is_some (item_named name n is) ≡ false → list_all (λ (i : Member). not (bytes_eq i.name name)) is ≡ true
-unfolding item_named
 free_items name n [] h = refl
 free_items name n (i ∷ is) h = by_name (bytes_eq i.name name) name n i is h (free_items name (after_item n) is)
 
@@ -139,19 +140,14 @@ by_group : (b : Bool) (name : List ℕ) (g : ItemGroup) (gs : List ItemGroup) �
 by_group true name g gs h f = absurd (cc)
 by_group false name g gs h f = f h
 
-neither : (a b : Bool) → a || b ≡ false → (a ≡ false) × (b ≡ false)
-neither true b h = absurd (cc)
-neither false b h = (refl, h)
-
 free_groups : (name : List ℕ) (gs : List ItemGroup) → is_some (group_named name gs) ≡ false → list_all (λ (g : ItemGroup). not (bytes_eq g.name name)) gs ≡ true
-unfolding group_named
 free_groups name [] h = refl
 free_groups name (g ∷ gs) h = by_group (bytes_eq g.name name) name g gs h (free_groups name gs)
 
 not_taken : (name : List ℕ) (d : Draft) → is_taken name d ≡ false → (list_all (λ (i : Member). not (bytes_eq i.name name)) d.items ≡ true) × (list_all (λ (g : ItemGroup). not (bytes_eq g.name name)) d.groups ≡ true)
 unfolding is_taken
 not_taken name d h =
-    let a = neither (is_some (item_named name 1 d.items)) (is_some (group_named name d.groups)) h in
+    let a = or_parts (is_some (item_named name 1 d.items)) (is_some (group_named name d.groups)) h in
     (free_items name 1 d.items a.0, free_groups name d.groups a.1)
 
 all_free : (is : List Member) (m : Member) (gs : List ItemGroup) → list_all (is_free_of is) gs ≡ true → list_all (λ (g : ItemGroup). not (bytes_eq g.name m.name)) gs ≡ true → list_all (is_free_of (is ++ m ∷ [])) gs ≡ true
@@ -159,7 +155,7 @@ all_free is m [] h e = refl
 all_free is m (g ∷ gs) h e =
     let a = and_parts (is_free_of is g) (list_all (is_free_of is) gs) h in
     let b = and_parts (not (bytes_eq g.name m.name)) _ e in
-    and_so _ _ (all_push (λ (i : Member). not (bytes_eq i.name g.name)) is m a.0 (ap not (eq_turned g.name m.name (not-true _ b.0)))) (all_free is m gs a.1 b.1)
+    and_from _ _ (all_push (λ (i : Member). not (bytes_eq i.name g.name)) is m a.0 (ap not (eq_turned g.name m.name (not-true _ b.0)))) (all_free is m gs a.1 b.1)
 
 record Differ (is : List Member) (gs : List ItemGroup) : Type 0 where
   items : apart items_differ is ≡ true
@@ -175,7 +171,7 @@ differ_parts is gs h =
 
 differ_whole : (is : List Member) (gs : List ItemGroup) → Differ is gs → members_differ is gs ≡ true
 unfolding members_differ
-differ_whole is gs h = and_so _ _ (and_so _ _ h.items h.groups) h.free
+differ_whole is gs h = and_from _ _ (and_from _ _ h.items h.groups) h.free
 
 pub item_differs : (d : Draft) (m : Member) → members_differ d.items d.groups ≡ true → is_taken m.name d ≡ false → members_differ (d.items ++ m ∷ []) d.groups ≡ true
 item_differs d m h new =

@@ -2,6 +2,7 @@
 use Rattle.std.proofs.Common.{◌≡◌, ◌≤◌, ◌⊎◌, inl, inr, ℕ, List, [], ◌∷◌, ◌++◌, map, length, Bool, true, false, refl, arith}
 use Rattle.std.specs.Prelude.{◌||◌, ◌==◌, not}
 use Rattle.std.specs.List.{list_all, list_any, AllByRecursion}
+use Rattle.std.proofs.lemmas.Bool.{or_right, and_from}
 use Rattle.dms_desc.specs.declared.structure.Item.{Item}
 use Rattle.dms_desc.specs.Shape.{Shape}
 use Rattle.dms_desc_bytes.specs.Lists.{is_empty}
@@ -9,7 +10,6 @@ use Rattle.dms_desc_bytes.specs.Spelling.{is_data_set}
 use Rattle.dms_desc_bytes.specs.WellFormed.{has_member, stands_in}
 use Rattle.dasdl_compile.specs.declared.draft.Draft.{Draft}
 use Rattle.dasdl_compile.specs.Compile.{shape_in}
-use Rattle.dasdl_laws.proofs.Ordered.{and_so}
 
 abbrev pub owned : ℕ → Draft → Bool
 owned n d = d.owner == n
@@ -59,10 +59,6 @@ some_item : (is : List Item) (b : Bool) → 1 ≤ length is → (not (is_empty i
 some_item [] b h = absurd (omega (arith, h))
 some_item (i ∷ is) b h = refl
 
-or_right : (a b : Bool) → b ≡ true → (a || b) ≡ true
-or_right true b e = refl
-or_right false b e = e
-
 member_in : (l : List Draft) (d : Draft) → HasIn l d → (not (is_data_set d.kind) || has_member (map shape_in l) (shape_in d)) ≡ true
 unfolding has_member
 member_in l d (inl e) = rw e refl
@@ -71,7 +67,7 @@ member_in l d (inr (inr e)) = or_right (not (is_data_set d.kind)) _ (or_right (n
 
 all_members : (l ds : List Draft) → AllByRecursion (HasIn l) ds → list_all (λ (s : Shape). not (is_data_set s.kind) || has_member (map shape_in l) s) (map shape_in ds) ≡ true
 all_members l [] h = refl
-all_members l (d ∷ ds) h = and_so _ _ (member_in l d h.0) (all_members l ds h.1)
+all_members l (d ∷ ds) h = and_from _ _ (member_in l d h.0) (all_members l ds h.1)
 
 pub have_members : (l : List Draft) → AllByRecursion (HasIn l) l → list_all (λ (s : Shape). not (is_data_set s.kind) || has_member (map shape_in l) s) (map shape_in l) ≡ true
 have_members l h = all_members l l h

@@ -8,7 +8,8 @@ use Rattle.std.specs.List.{AllByRecursion}
 use Rattle.std.specs.Option.{option_map}
 use Rattle.std.specs.declared.option.Option.{Option}
 use Rattle.dms_desc.specs.Shape.{Shape}
-use Rattle.dms_desc_bytes.specs.Finding.{structure_at, owner_in, owner_of}
+use Rattle.dms_desc.specs.Lookups.{structure_at}
+use Rattle.dms_desc_bytes.specs.Finding.{owner_in, owner_of}
 use Rattle.dms_desc_bytes.specs.WellFormed.{is_open_behind}
 use Rattle.dasdl_parse.specs.declared.declarations.Declaration.{Declaration}
 use Rattle.dasdl_grammar.specs.SchemaSpelling.{structures_of}

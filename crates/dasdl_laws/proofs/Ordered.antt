@@ -7,7 +7,8 @@ use Rattle.std.specs.List.{list_all, list_any, AllByRecursion}
 use Rattle.std.specs.Str.{bytes_eq}
 use Rattle.dms_desc.specs.Shape.{Shape}
 use Rattle.dms_desc_bytes.specs.Lists.{apart, is_within}
-use Rattle.dms_desc_bytes.specs.WellFormed.{numbered, names_differ, is_restart, not_both_restart}
+use Rattle.dms_desc.specs.Kinds.{is_restart}
+use Rattle.dms_desc_bytes.specs.WellFormed.{numbered, names_differ, not_both_restart}
 use Rattle.dasdl_parse.specs.declared.declarations.Declaration.{Declaration}
 use Rattle.dasdl_parse.specs.declared.declarations.SetDecl.{SetDecl}
 use Rattle.dasdl_grammar.specs.SchemaSpelling.{structures_of, structures_in}
@@ -23,7 +24,7 @@ use Rattle.dasdl_compile.specs.Finding.{drafted}
 use Rattle.std.specs.declared.result.Result.TheVariants.{Ok}
 use Rattle.std.specs.Prelude.{is_some}
 use Rattle.std.proofs.Common.{inl, inr, ◌⊎◌}
-use Rattle.std.proofs.lemmas.Bool.{and_parts, leb-true}
+use Rattle.std.proofs.lemmas.Bool.{and_parts, leb-true, and_from}
 use Rattle.dasdl_laws.proofs.Short.{HaveKinds}
 use Rattle.dasdl_laws.proofs.Judging.{bind_ok, ok_same, steps_keep}
 use Rattle.dasdl_laws.proofs.Turns.{outer, Turn, turn_of, inside_kept}
@@ -39,19 +40,16 @@ pub apart_map : {A B : Type 0} (differs : B → B → Bool) (f g : A → B) → 
 apart_map differs f g same [] = refl
 apart_map differs f g same (x ∷ xs) = rw (apart_map differs f g same xs, all_map (differs (f x)) (differs (g x)) f g (same x) xs) refl
 
-pub and_so : (a b : Bool) → a ≡ true → b ≡ true → a && b ≡ true
-and_so a b p q = rw (p, q) refl
-
 pub all_push : {A : Type 0} (p : A → Bool) (xs : List A) (y : A) → list_all p xs ≡ true → p y ≡ true → list_all p (xs ++ y ∷ []) ≡ true
-all_push p [] y h e = and_so (p y) true e refl
-all_push p (x ∷ xs) y h e = let a = and_parts (p x) (list_all p xs) h in and_so _ _ a.0 (all_push p xs y a.1 e)
+all_push p [] y h e = and_from (p y) true e refl
+all_push p (x ∷ xs) y h e = let a = and_parts (p x) (list_all p xs) h in and_from _ _ a.0 (all_push p xs y a.1 e)
 
 pub apart_push : {A : Type 0} (differs : A → A → Bool) (xs : List A) (y : A) → apart differs xs ≡ true → list_all (λ (x : A). differs x y) xs ≡ true → apart differs (xs ++ y ∷ []) ≡ true
 apart_push differs [] y h e = refl
 apart_push differs (x ∷ xs) y h e =
     let a = and_parts (list_all (differs x) xs) (apart differs xs) h in
     let b = and_parts (differs x y) _ e in
-    and_so _ _ (all_push (differs x) xs y a.0 b.0) (apart_push differs xs y a.1 b.1)
+    and_from _ _ (all_push (differs x) xs y a.0 b.0) (apart_push differs xs y a.1 b.1)
 
 -- ---- what is looked up outside of data sets
 
@@ -74,14 +72,14 @@ unfolding is_structure
 none_named name [] s e h = refl
 none_named name (d ∷ ds) s e h =
     let a = or_none (bytes_eq d.name name) (is_structure name ds) h in
-    and_so _ _ (ap (λ (n : List ℕ). not (bytes_eq d.name n)) e ∙ ap not a.0) (none_named name ds s e a.1)
+    and_from _ _ (ap (λ (n : List ℕ). not (bytes_eq d.name n)) e ∙ ap not a.0) (none_named name ds s e a.1)
 
 none_restart : (ds : List Draft) (s : Shape) → has_restart ds ≡ false → list_all (λ (x : Shape). not_both_restart x s) (map shape_in ds) ≡ true
 unfolding has_restart
 none_restart [] s h = refl
 none_restart (d ∷ ds) s h =
     let a = or_none (d.kind == 2) (has_restart ds) h in
-    and_so _ _ (ap (λ (b : Bool). not (b && s.kind == 2)) a.0) (none_restart ds s a.1)
+    and_from _ _ (ap (λ (b : Bool). not (b && s.kind == 2)) a.0) (none_restart ds s a.1)
 
 not_second : (a : Bool) → not (a && false) ≡ true
 not_second true = refl
@@ -89,7 +87,7 @@ not_second false = refl
 
 others : (ds : List Draft) (s : Shape) → (s.kind == 2) ≡ false → list_all (λ (x : Shape). not_both_restart x s) (map shape_in ds) ≡ true
 others [] s e = refl
-others (d ∷ ds) s e = and_so _ _ (ap (λ (b : Bool). not (d.kind == 2 && b)) e ∙ not_second (d.kind == 2)) (others ds s e)
+others (d ∷ ds) s e = and_from _ _ (ap (λ (b : Bool). not (d.kind == 2 && b)) e ∙ not_second (d.kind == 2)) (others ds s e)
 
 -- ---- numbers
 
@@ -108,7 +106,7 @@ numbers_are : (n : ℕ) (ds : List Draft) → Numbers n ds → n + length ds ≤
 numbers_are n [] h low = refl
 numbers_are n (d ∷ ds) h low =
     let e : d.number ≡ n = omega (arith, h.0) in
-    and_so _ _ (is_itself d.number n e) (numbers_are (n + 1) ds h.1 (omega arith))
+    and_from _ _ (is_itself d.number n e) (numbers_are (n + 1) ds h.1 (omega arith))
 
 -- ---- the structures so far
 
@@ -269,7 +267,7 @@ has_kind s = is_within 1 5 s.kind
 
 kinds_all : (ds : List Draft) → AllByRecursion HasKind (map outer ds) → list_all has_kind (map shape_in ds) ≡ true
 kinds_all [] h = refl
-kinds_all (d ∷ ds) h = and_so _ _ h.0 (kinds_all ds h.1)
+kinds_all (d ∷ ds) h = and_from _ _ h.0 (kinds_all ds h.1)
 
 pub have_kinds : (o : List Draft) (decls : List Declaration) (w : Work) → steps declared_at o nothing_yet decls ≡ Ok w → HaveKinds w.made × (list_all has_kind (map shape_in w.made) ≡ true)
 have_kinds o decls w h =

@@ -1,6 +1,6 @@
 -- No structure stands in the restart data set.
 use Rattle.std.proofs.Common.{◌≡◌, ◌≤◌, ◌+◌, ◌-◌, ◌⊎◌, inl, inr, ℕ, suc, zero, List, [], ◌∷◌, ◌++◌, map, length, Bool, true, false, cond, refl, sym, ap, subst, ◌∙◌, arith}
-use Rattle.std.proofs.lemmas.Bool.{and_parts, eq-eqb, eqb-true, not-false, both_ways}
+use Rattle.std.proofs.lemmas.Bool.{and_parts, eq-eqb, eqb-true, not-false, both_ways, and_from}
 use Rattle.std.proofs.lemmas.Bool.Decides.{nat_tests}
 use Rattle.std.proofs.lemmas.List.{map-append, length-map}
 use Rattle.std.proofs.lemmas.Option.{slice_get-map}
@@ -10,7 +10,8 @@ use Rattle.std.specs.Option.{option_map}
 use Rattle.std.specs.declared.option.Option.{Option}
 use Rattle.std.specs.declared.result.Result.TheVariants.{Ok}
 use Rattle.dms_desc.specs.Shape.{Shape}
-use Rattle.dms_desc_bytes.specs.Finding.{structure_at, kind_in, kind_of}
+use Rattle.dms_desc.specs.Lookups.{structure_at}
+use Rattle.dms_desc_bytes.specs.Finding.{kind_in, kind_of}
 use Rattle.dms_desc_bytes.specs.Spelling.{is_data_set}
 use Rattle.dms_desc_bytes.specs.WellFormed.{is_open_behind, is_owned_well}
 use Rattle.dasdl_parse.specs.declared.declarations.Declaration.{Declaration}
@@ -27,7 +28,7 @@ use Rattle.dasdl_compile.specs.Outlines.{data_set_kind}
 use Rattle.dasdl_compile.specs.Sets.{set_kind, is_misplaced, set_draft}
 use Rattle.dasdl_laws.proofs.Alone.{by_words}
 use Rattle.dasdl_laws.proofs.Judging.{bind_ok, ok_same}
-use Rattle.dasdl_laws.proofs.Ordered.{Numbers, Ordered, turned, and_so, grown}
+use Rattle.dasdl_laws.proofs.Ordered.{Numbers, Ordered, turned, grown}
 use Rattle.dasdl_laws.proofs.Opened.{Opened, Opening, turn_opens, opens}
 use Rattle.dasdl_laws.proofs.Opened.Around.{here}
 use Rattle.dasdl_laws.proofs.Levels.{Low, AllLow}
@@ -197,13 +198,13 @@ place_in noted made d w all (inr f) =
 
 both_hold : (a b c : Bool) → (a || b) ≡ true → (a || c) ≡ true → (a || (b && c)) ≡ true
 both_hold true b c h k = refl
-both_hold false b c h k = and_so b c h k
+both_hold false b c h k = and_from b c h k
 
 owned_well : (noted made ds : List Draft) → Whole noted made → AllByRecursion (Low (map outer made)) (map outer made) → AllByRecursion (Place noted (map outer made)) (map outer made) → AllByRecursion (Opened (map outer made)) (map outer ds) → AllByRecursion (Place noted (map outer made)) (map outer ds) → list_all (is_owned_well (map shape_in made)) (map shape_in ds) ≡ true
 unfolding is_owned_well
 owned_well noted made [] w low all opened h = refl
 owned_well noted made (d ∷ ds) w low all opened h =
-    and_so _ _ (both_hold (d.owner == 0) (is_open_behind (map shape_in made) (d.number - 1) d.owner) (kind_of (map shape_in made) d.owner == 1) (opens made (d.number - 1) d.owner low opened.0) (in_one made d.owner (place_in noted made d w all h.0))) (owned_well noted made ds w low all opened.1 h.1)
+    and_from _ _ (both_hold (d.owner == 0) (is_open_behind (map shape_in made) (d.number - 1) d.owner) (kind_of (map shape_in made) d.owner == 1) (opens made (d.number - 1) d.owner low opened.0) (in_one made d.owner (place_in noted made d w all h.0))) (owned_well noted made ds w low all opened.1 h.1)
 
 pub all_owned_well : (o : List Draft) (ds : List Declaration) (w : Work) → structures_in ds ≤ 200 → steps declared_at o nothing_yet ds ≡ Ok w → Whole o w.made → AllLow w → list_all (is_owned_well (map shape_in w.made)) (map shape_in w.made) ≡ true
 all_owned_well o ds w few k whole low =

@@ -1,6 +1,6 @@
 -- Each structure stands in none, or in a data set before it.
 use Rattle.std.proofs.Common.{◌≡◌, ◌≤◌, ◌<◌, ◌+◌, ◌-◌, ◌⊎◌, inl, inr, ℕ, suc, zero, List, [], ◌∷◌, ◌++◌, map, length, Bool, true, false, cond, refl, sym, ap, subst, ◌∙◌, arith}
-use Rattle.std.proofs.lemmas.Bool.{lt-ltb}
+use Rattle.std.proofs.lemmas.Bool.{lt-ltb, or_right, and_from}
 use Rattle.std.proofs.lemmas.List.{map-append, length-map}
 use Rattle.std.proofs.lemmas.Option.{slice_get-map, slice_get_within}
 use Rattle.std.specs.Prelude.{◌&&◌, ◌||◌, ◌==◌, nat_lt, slice_get, Some, None}
@@ -9,7 +9,8 @@ use Rattle.std.specs.Option.{option_map}
 use Rattle.std.specs.declared.option.Option.{Option}
 use Rattle.std.specs.declared.result.Result.TheVariants.{Ok}
 use Rattle.dms_desc.specs.Shape.{Shape}
-use Rattle.dms_desc_bytes.specs.Finding.{structure_at, kind_in, kind_of}
+use Rattle.dms_desc.specs.Lookups.{structure_at}
+use Rattle.dms_desc_bytes.specs.Finding.{kind_in, kind_of}
 use Rattle.dms_desc_bytes.specs.Spelling.{is_data_set}
 use Rattle.dasdl_parse.specs.declared.declarations.Declaration.{Declaration}
 use Rattle.dasdl_parse.specs.declared.declarations.Declaration.TheVariants.{DataSet, Item, Group, Link, SetOf, End}
@@ -25,7 +26,7 @@ use Rattle.dasdl_compile.specs.Sets.{set_draft}
 use Rattle.dasdl_laws.specs.Together.{is_within_earlier}
 use Rattle.dasdl_laws.proofs.Alone.{kind_is}
 use Rattle.dasdl_laws.proofs.Judging.{bind_ok, ok_same}
-use Rattle.dasdl_laws.proofs.Ordered.{and_so, grown}
+use Rattle.dasdl_laws.proofs.Ordered.{grown}
 use Rattle.dasdl_laws.proofs.Sets.{final_at}
 use Rattle.dasdl_laws.proofs.Together.{mapped, ne_zero}
 use Rattle.dasdl_laws.proofs.Turns.{outer, Turn, Inside, turn_of, inside_kept}
@@ -128,10 +129,6 @@ steps_stand o (d ∷ ds) w v few h k =
     let size = grown o w a.0 d t in
     steps_stand o ds a.0 v (omega (arith, few, size)) (turn_stands o w a.0 d (omega (arith, few)) t h) a.2
 
-or_right : (a b : Bool) → b ≡ true → (a || b) ≡ true
-or_right true b e = refl
-or_right false b e = e
-
 earlier : (made : List Draft) (d : Draft) → Ref (map outer made) d.owner → d.owner < d.number → is_within_earlier (map shape_in made) (shape_in d) ≡ true
 unfolding kind_of
 earlier made d (inl e) low = ap (λ (n : ℕ). n == 0 || (nat_lt n d.number && is_data_set (kind_in (structure_at (map shape_in made) n)))) e
@@ -142,11 +139,11 @@ earlier made d (inr r) low =
     let some : (d.owner == 0) ≡ false = ne_zero d.owner (d.owner - 1) (omega (arith, from)) in
     let at : structure_at (map shape_in made) d.owner ≡ Some (shape_in f.0) = ap (λ (b : Bool). cond b None (slice_get (map shape_in made) (d.owner - 1))) some ∙ shape in
     let kind : is_data_set f.0.kind ≡ true = ap (λ (x : Draft). is_data_set x.kind) f.2 ∙ r.kind in
-    or_right (d.owner == 0) _ (and_so _ _ (lt-ltb d.owner d.number low) (ap (λ (x : Option Shape). is_data_set (kind_in x)) at ∙ kind))
+    or_right (d.owner == 0) _ (and_from _ _ (lt-ltb d.owner d.number low) (ap (λ (x : Option Shape). is_data_set (kind_in x)) at ∙ kind))
 
 all_earlier : (made ds : List Draft) → AllByRecursion (Stand (map outer made)) (map outer ds) → list_all (is_within_earlier (map shape_in made)) (map shape_in ds) ≡ true
 all_earlier made [] h = refl
-all_earlier made (d ∷ ds) h = and_so _ _ (earlier made d h.0.0 h.0.1) (all_earlier made ds h.1)
+all_earlier made (d ∷ ds) h = and_from _ _ (earlier made d h.0.0 h.0.1) (all_earlier made ds h.1)
 
 pub stand_earlier : (o : List Draft) (ds : List Declaration) (w : Work) → structures_in ds ≤ 200 → steps declared_at o nothing_yet ds ≡ Ok w → list_all (is_within_earlier (map shape_in w.made)) (map shape_in w.made) ≡ true
 stand_earlier o ds w few h =

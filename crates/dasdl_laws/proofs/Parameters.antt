@@ -1,9 +1,10 @@
 -- Each parameter that a text says is in its range, and so is each that it leaves.
-use Rattle.std.proofs.Common.{◌≡◌, ◌≤◌, ℕ, List, Bool, true, false, refl, subst, arith, IsTrue}
+use Rattle.std.proofs.Common.{◌≡◌, ◌≤◌, ℕ, List, Bool, true, false, subst, arith, IsTrue}
 use Rattle.std.proofs.lemmas.Bool.Decides.{nat_tests}
-use Rattle.std.specs.Prelude.{◌&&◌, Some, None}
+use Rattle.std.specs.Prelude.{Some, None}
 use Rattle.std.specs.declared.option.Option.{Option}
 use Rattle.std.specs.declared.result.Result.TheVariants.{Ok}
+use Rattle.std.proofs.lemmas.Bool.{and_from}
 use Rattle.dms_desc.specs.Shape.{Described}
 use Rattle.dms_desc_bytes.specs.Lists.{is_within}
 use Rattle.dms_desc_bytes.specs.WellFormed.{has_parameters}
@@ -14,8 +15,8 @@ use Rattle.dasdl_parse.specs.declared.schema.Schema.{Schema}
 use Rattle.dasdl_parse.specs.declared.schema.Parameters.{Parameters}
 use Rattle.dasdl_parse.specs.declared.parameters.Pairs.{Pairs}
 use Rattle.dasdl_parse.specs.declared.parameters.AuditPairs.{AuditPairs}
-use Rattle.dasdl_parse.specs.declared.token.Token.{Token}
-use Rattle.dasdl_parse.specs.declared.token.Lexeme.{Lexeme}
+use Rattle.dms_tokens.specs.declared.token.Token.{Token}
+use Rattle.dms_tokens.specs.declared.token.Lexeme.{Lexeme}
 use Rattle.dasdl_parse.specs.declared.declarations.Declaration.{Declaration}
 use Rattle.dasdl_grammar.specs.ParameterSpelling.{Listed, IsPair, IsAuditPair, AreParameters, IsTrail}
 use Rattle.dasdl_grammar.specs.ParameterSpelling.Listed.{first_pair, next_pair}
@@ -96,13 +97,10 @@ within low high n h =
     let b : n ≤ high = h.1 in
     grind (arith, nat_tests)
 
-and_so : (a b : Bool) → a ≡ true → b ≡ true → a && b ≡ true
-and_so a b p q = rw (p, q) refl
-
 ranges_hold : (p : Parameters) (ds : List Draft) → Ranged p → has_parameters (description_of p ds) ≡ true
 unfolding has_parameters
 ranges_hold p ds h =
-    and_so _ _ (and_so _ _ (and_so _ _ (and_so _ _ (within 1 10000 p.syncpoint h.sync) (within 1 10000 p.controlpoint h.control)) (within 8 4096 p.buffers h.buffers)) (within 8 512 p.blocks h.blocks)) (within 2 9999 p.files h.files)
+    and_from _ _ (and_from _ _ (and_from _ _ (and_from _ _ (within 1 10000 p.syncpoint h.sync) (within 1 10000 p.controlpoint h.control)) (within 8 4096 p.buffers h.buffers)) (within 8 512 p.blocks h.blocks)) (within 2 9999 p.files h.files)
 
 pub in_range : (text : List ℕ) (s : Schema) (d : Described) → schema_of text ≡ Ok s → compiled s.parameters s.declarations ≡ Ok d → IsTrue (has_parameters d)
 in_range text s d read made =

@@ -1,7 +1,7 @@
 -- A data set that is open is sound so far, and one that has ended is sound.
-use Rattle.std.proofs.Common.{◌≡◌, ◌≤◌, ◌+◌, ◌-◌, ℕ, List, [], ◌∷◌, ◌++◌, length, take, drop, Bool, true, false, refl, sym, ap, subst, ◌∙◌, arith, append_assoc, length-append, length-drop}
+use Rattle.std.proofs.Common.{min, ◌≡◌, ◌≤◌, ◌+◌, ◌-◌, ℕ, List, [], ◌∷◌, ◌++◌, length, take, drop, true, refl, sym, ap, subst, ◌∙◌, arith, append_assoc, length-append, length-drop}
 use Rattle.std.proofs.lemmas.List.{append-nil, drop-append-le, take-append-le, drop_at, take_all}
-use Rattle.std.proofs.lemmas.Bool.{le-leb, ltb-false}
+use Rattle.std.proofs.lemmas.Bool.{le-leb, ltb-false, or_right, and_from}
 use Rattle.std.specs.Prelude.{◌||◌, not, nat_lt, Some, None}
 use Rattle.std.specs.List.{list_all, AllByRecursion}
 use Rattle.std.specs.declared.option.Option.{Option}
@@ -12,9 +12,9 @@ use Rattle.dms_desc.specs.declared.structure.Group.{Group as ItemGroup}
 use Rattle.dms_desc.specs.Shape.{Tree}
 use Rattle.dms_desc.specs.Shape.Tree.{Empty}
 use Rattle.dms_desc_bytes.specs.Conditions.{is_nothing, is_condition}
-use Rattle.dms_desc_bytes.specs.Lists.{apart, total, is_within}
+use Rattle.dms_desc_bytes.specs.Lists.{apart, is_within}
 use Rattle.dms_desc_bytes.specs.Members.{items_in_group, is_no_link, is_group_sound, members_differ, groups_follow}
-use Rattle.dms_desc_bytes.specs.WellFormed.{width_of, has_sound_verify}
+use Rattle.dms_desc_bytes.specs.WellFormed.{has_sound_verify}
 use Rattle.dasdl_parse.specs.Trees.{Condition}
 use Rattle.dasdl_parse.specs.declared.declarations.ItemDecl.{ItemDecl}
 use Rattle.dasdl_parse.specs.declared.declarations.GroupDecl.{GroupDecl}
@@ -24,14 +24,13 @@ use Rattle.dasdl_compile.specs.Answers.{steps}
 use Rattle.dasdl_compile.specs.Compile.{shape_in}
 use Rattle.dasdl_compile.specs.Conditions.{verified}
 use Rattle.dasdl_compile.specs.Finding.{is_taken, next_item}
-use Rattle.dasdl_compile.specs.Members.{count_of, with_item, with_group, item_at, group_at, end_at}
-use Rattle.dasdl_compile.specs.Widths.{plus, item_width, record_width}
+use Rattle.dasdl_compile.specs.Members.{count_of, width_of, with_item, with_group, item_at, group_at, end_at}
+use Rattle.dms_desc.specs.Widths.{record_width}
 use Rattle.dasdl_laws.specs.Alone.{is_local}
 use Rattle.dasdl_laws.proofs.Judging.{bind_ok, skip_ok, ok_same}
 use Rattle.dasdl_laws.proofs.Judged.{condition_sound}
-use Rattle.dasdl_laws.proofs.Keys.{same_widths}
 use Rattle.dasdl_laws.proofs.Members.{Points, Adds, item_adds, item_plain, item_differs, group_differs}
-use Rattle.dasdl_laws.proofs.Ordered.{and_so, all_push, apart_push}
+use Rattle.dasdl_laws.proofs.Ordered.{all_push, apart_push}
 use Rattle.dasdl_laws.proofs.Written.{IsWritten, IsPlainCondition}
 
 abbrev pub PointsWell : List Draft → Member → Type 0
@@ -78,7 +77,7 @@ group_push P (x ∷ xs) g h w = (h.0, group_push P xs g h.1 w)
 
 all_before : (n : ℕ) (gs : List ItemGroup) (g : ItemGroup) → n + 1 ≤ g.first → AllByRecursion (Within n) gs → list_all (λ (x : ItemGroup). groups_follow x g) gs ≡ true
 all_before n [] g low h = refl
-all_before n (x ∷ xs) g low h = let last = h.0.3 in and_so _ _ (le-leb _ _ (omega (arith, low, last))) (all_before n xs g low h.1)
+all_before n (x ∷ xs) g low h = let last = h.0.3 in and_from _ _ (le-leb _ _ (omega (arith, low, last))) (all_before n xs g low h.1)
 
 more_items : (n m : ℕ) (gs : List ItemGroup) → n ≤ m → Grouped n gs → Grouped m gs
 more_items n m gs low h = let few = h.few in record { within = within_more n m gs low h.within; follow = h.follow; few = omega (arith, few, low) }
@@ -116,7 +115,7 @@ plain_new is new g first count p =
 pub groups_sound : (is : List Member) (gs : List ItemGroup) → AllByRecursion (Within (length is)) gs → AllByRecursion (Plain is) gs → list_all (is_group_sound is) gs ≡ true
 unfolding is_group_sound
 groups_sound is [] h p = refl
-groups_sound is (g ∷ gs) h p = and_so _ _ (and_so _ _ (and_so _ _ (and_so _ _ (and_so _ _ h.0.0 (le-leb 1 g.first h.0.1)) (le-leb 1 g.count h.0.2)) (le-leb _ _ h.0.3)) p.0) (groups_sound is gs h.1 p.1)
+groups_sound is (g ∷ gs) h p = and_from _ _ (and_from _ _ (and_from _ _ (and_from _ _ (and_from _ _ h.0.0 (le-leb 1 g.first h.0.1)) (le-leb 1 g.count h.0.2)) (le-leb _ _ h.0.3)) p.0) (groups_sound is gs h.1 p.1)
 
 -- ---- a data set that is open
 
@@ -153,7 +152,7 @@ items_run o d t (i ∷ is) w b h =
     let more : a.0.items ≡ d.items ++ one.one ∷ [] = sym (ap (λ (x : Draft). x.items) one.is) in
     let made : t.items ≡ d.items ++ one.one ∷ r.new = r.made ∙ ap (λ (l : List Member). l ++ r.new) more ∙ append_assoc d.items (one.one ∷ []) r.new in
     let plain : is_no_link one.one ≡ true = ap not (item_plain o d a.0 i w.0 a.1) in
-    record { base = r.base; new = one.one ∷ r.new; made = made; size = omega (arith, n); plain = and_so _ _ plain r.plain; groups = r.groups ∙ g.1 }
+    record { base = r.base; new = one.one ∷ r.new; made = made; size = omega (arith, n); plain = and_from _ _ plain r.plain; groups = r.groups ∙ g.1 }
 
 pub group_adds : (o : List Draft) (d t : Draft) (g : GroupDecl) → is_name g.name ≡ true → AllByRecursion IsWritten g.items → 1 ≤ length g.items → length d.items + length g.items ≤ 60 → Sofar o d → group_at o d g ≡ Ok t → Sofar o t × (length t.items ≡ length d.items + length g.items)
 unfolding group_at
@@ -170,29 +169,19 @@ group_adds o d t g named w some room h e =
 
 -- ---- its end
 
-width_whole : (w : ℕ) (is : List Member) → record_width w is ≤ 480 → w + total width_of is ≤ record_width w is
-unfolding record_width
-width_whole w [] h = omega arith
-width_whole w (i ∷ is) h =
-    let n = plus w (item_width i.kind) in
-    let rest : n + total width_of is ≤ record_width n is = width_whole n is h in
-    let same = same_widths i.kind in
-    omega (arith, rest, same, h)
-
-or_so : (a b : Bool) → b ≡ true → (a || b) ≡ true
-or_so true b h = refl
-or_so false b h = h
+width_whole : (n : ℕ) → min n 4294967295 ≤ 480 → n ≤ 480
+width_whole n h = omega (arith, h)
 
 verify_sound : (items : List Member) (c : Option Condition) (t : Tree) → length items ≤ 254 → IsPlainCondition c → verified items c ≡ Ok t → (is_nothing t || is_condition items t) ≡ true
 unfolding verified
 verify_sound items None t few w h = subst (λ (x : Tree). (is_nothing x || is_condition items x) ≡ true) (ok_same Empty t h) refl
-verify_sound items (Some c) t few w h = or_so (is_nothing t) _ (condition_sound items c.tree t few w.0 w.1 h)
+verify_sound items (Some c) t few w h = or_right (is_nothing t) _ (condition_sound items c.tree t few w.0 w.1 h)
 
 -- a data set that has ended
 pub record Ended (o : List Draft) (d : Draft) : Type 0 where
   pub sofar : Sofar o d
   pub few : length d.items ≤ 60
-  pub short : total width_of d.items ≤ 480
+  pub short : record_width d.items ≤ 480
   pub verify : has_sound_verify (shape_in d) ≡ true
   pub population : is_within 1 1000000 d.population ≡ true
 
@@ -200,15 +189,15 @@ pub ended : (o : List Draft) (d t : Draft) (e : DataSetEnd) → Sofar o d → le
 unfolding end_at
 ended o d t e h few w p k =
     let a = bind_ok {A = Tree} {B = Draft} (verified d.items e.verify) _ t k in
-    let b = skip_ok (nat_lt 480 (record_width 0 d.items)) _ _ _ a.2 in
-    let low : record_width 0 d.items ≤ 480 = ltb-false 480 (record_width 0 d.items) b.0 in
-    let width = width_whole 0 d.items low in
+    let b = skip_ok (nat_lt 480 (width_of d)) _ _ _ a.2 in
+    let low : width_of d ≤ 480 = ltb-false 480 (width_of d) b.0 in
+    let width = width_whole (record_width d.items) low in
     subst (Ended o) (ok_same _ t b.1)
-    (record { sofar = record { base = record { local = h.base.local; points = h.base.points; differ = h.base.differ }; grouped = h.grouped; plain = h.plain }; few = few; short = omega (arith, width, low); verify = verify_sound d.items e.verify a.0 (omega (arith, few)) w a.1; population = p })
+    (record { sofar = record { base = record { local = h.base.local; points = h.base.points; differ = h.base.differ }; grouped = h.grouped; plain = h.plain }; few = few; short = width; verify = verify_sound d.items e.verify a.0 (omega (arith, few)) w a.1; population = p })
 
 pub end_items : (d t : Draft) (e : DataSetEnd) → end_at d e ≡ Ok t → t.items ≡ d.items
 unfolding end_at
 end_items d t e k =
     let a = bind_ok {A = Tree} {B = Draft} (verified d.items e.verify) _ t k in
-    let b = skip_ok (nat_lt 480 (record_width 0 d.items)) _ _ _ a.2 in
+    let b = skip_ok (nat_lt 480 (width_of d)) _ _ _ a.2 in
     ap (λ (x : Draft). x.items) (sym (ok_same _ t b.1))

@@ -4,6 +4,7 @@ use Rattle.std.proofs.lemmas.List.{map-append}
 use Rattle.std.specs.Prelude.{◌&&◌, ◌||◌, ◌==◌, not, is_some}
 use Rattle.std.specs.List.{list_all, AllByRecursion}
 use Rattle.std.specs.declared.result.Result.TheVariants.{Ok}
+use Rattle.std.proofs.lemmas.Bool.{and_from}
 use Rattle.dms_desc_bytes.specs.WellFormed.{is_placed}
 use Rattle.dasdl_parse.specs.declared.declarations.Declaration.{Declaration}
 use Rattle.dasdl_parse.specs.declared.declarations.DataSetDecl.{DataSetDecl}
@@ -15,7 +16,6 @@ use Rattle.dasdl_compile.specs.Finding.{drafted, next_structure, kind_of}
 use Rattle.dasdl_compile.specs.Outlines.{data_set_kind}
 use Rattle.dasdl_compile.specs.Sets.{set_draft}
 use Rattle.dasdl_laws.proofs.Judging.{steps_keep}
-use Rattle.dasdl_laws.proofs.Ordered.{and_so}
 use Rattle.dasdl_laws.proofs.Turns.{outer, Turn, turn_of, inside_kept}
 use Rattle.dasdl_laws.proofs.Turns.Turn.{inside, data_set, a_set}
 
@@ -53,7 +53,7 @@ turned o w v _ (a_set s d p new of placed read key e) h =
 
 all_of : (ds : List Draft) → AllByRecursion IsPlaced (map outer ds) → list_all is_placed (map shape_in ds) ≡ true
 all_of [] h = refl
-all_of (d ∷ ds) h = and_so _ _ h.0 (all_of ds h.1)
+all_of (d ∷ ds) h = and_from _ _ h.0 (all_of ds h.1)
 
 pub all_placed : (o : List Draft) (decls : List Declaration) (w : Work) → steps declared_at o nothing_yet decls ≡ Ok w → list_all is_placed (map shape_in w.made) ≡ true
 all_placed o decls w h =

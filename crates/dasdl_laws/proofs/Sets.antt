@@ -1,6 +1,6 @@
 -- A set or subset that was made is sound over the structures that were made.
 use Rattle.std.proofs.Common.{◌≡◌, ◌≤◌, ℕ, suc, zero, List, [], ◌∷◌, map, length, Bool, true, false, cond, refl, sym, ap, subst, ◌∙◌, arith}
-use Rattle.std.proofs.lemmas.Bool.{and_parts, eqb-true, eq-eqb, not-false, both_ways}
+use Rattle.std.proofs.lemmas.Bool.{and_parts, eqb-true, eq-eqb, not-false, both_ways, or_left, or_right, and_from}
 use Rattle.std.proofs.lemmas.List.{length-map}
 use Rattle.std.specs.Prelude.{◌&&◌, ◌||◌, ◌==◌, not, is_some, slice_get, Some, None}
 use Rattle.std.specs.List.{list_all, AllByRecursion}
@@ -11,7 +11,7 @@ use Rattle.dms_desc.specs.declared.structure.KeyPart.{KeyPart}
 use Rattle.dms_desc.specs.Shape.{Tree}
 use Rattle.dms_desc.specs.Shape.Tree.{Empty}
 use Rattle.dms_desc_bytes.specs.Conditions.{is_condition, is_nothing}
-use Rattle.dms_desc_bytes.specs.Finding.{kind_of, owner_of, items_of}
+use Rattle.dms_desc_bytes.specs.Finding.{kind_of, owner_of, items_at}
 use Rattle.dms_desc_bytes.specs.Spelling.{is_data_set}
 use Rattle.dms_desc_bytes.specs.WellFormed.{numbered, is_key_sound, is_set_placed}
 use Rattle.dasdl_parse.specs.Trees.{Condition}
@@ -37,7 +37,7 @@ use Rattle.dasdl_laws.proofs.Written.{IsSomeKey}
 use Rattle.dasdl_laws.proofs.Judging.{bind_ok, ok_same}
 use Rattle.dasdl_laws.proofs.Judged.{condition_sound}
 use Rattle.dasdl_laws.proofs.Keys.{key_sound}
-use Rattle.dasdl_laws.proofs.Ordered.{and_so, has_kind}
+use Rattle.dasdl_laws.proofs.Ordered.{has_kind}
 use Rattle.dasdl_laws.proofs.Outline.{seen, seen_item}
 use Rattle.dasdl_laws.proofs.Together.{FoundAs, found_as, items_sound, same_keys, same_conditions}
 use Rattle.dasdl_laws.proofs.Trees.{DataSetMade, SetMade, Final}
@@ -111,13 +111,6 @@ where_sound d s t few w h = where_by d s t s.subset s.cond few refl w h
 
 -- ---- where it stands
 
-or_left : (a b : Bool) → a ≡ true → (a || b) ≡ true
-or_left a b e = rw e refl
-
-or_right : (a b : Bool) → b ≡ true → (a || b) ≡ true
-or_right true b e = refl
-or_right false b e = e
-
 place_by : (q : Bool) (i j : ℕ) (b c : Bool) → (j == i) ≡ q → (q || (b && j == 0 && c)) ≡ true → ((i == j) || (b && j == 0)) ≡ true
 place_by true i j b c e h = or_left (i == j) _ (eq-eqb i j (sym (eqb-true j i e)))
 place_by false i j b c e h = or_right (i == j) _ (and_parts (b && j == 0) c h).0
@@ -142,7 +135,7 @@ groups_within o d (a_data_set_made h) = h.ended.sofar.grouped.within
 groups_within o d (a_set_made h) = subst (λ (x : Draft). AllByRecursion (Within (length x.items)) x.groups) h.is tt
 
 set_shape : (made : List Draft) (w : Work) (s : SetDecl) (of : Draft) (p : SetOptions) (f : FoundAs made of) → length f.is.items ≤ 60 → AllByRecursion (Within (length f.is.items)) f.is.groups → is_misplaced w s of ≡ false → options_at of s ≡ Ok p → lacks_key s ≡ false → IsPlainCondition s.cond → IsSomeKey s.key → is_set_together (map shape_in made) (shape_in (set_draft w s of p)) ≡ true
-unfolding is_set_together kind_of owner_of items_of is_set_placed
+unfolding is_set_together kind_of owner_of items_at is_set_placed
 set_shape made w s of p f few groups placed read lacks plain some =
     let items : map seen_item of.items ≡ map seen_item f.is.items = ap (λ (x : Draft). x.items) f.alike in
     let size : length of.items ≡ length f.is.items = sym (length-map of.items seen_item) ∙ ap length items ∙ length-map f.is.items seen_item in
@@ -153,7 +146,7 @@ set_shape made w s of p f few groups placed read lacks plain some =
     let owner : f.is.owner ≡ of.owner = ap (λ (x : Draft). x.owner) (sym f.alike) in
     let key : is_key_sound f.is.items p.parts ≡ true = sym (same_keys of.items f.is.items p.parts items) ∙ keys_sound of s p.parts low o.0 in
     let test : cond (set_kind s == 4) (is_condition f.is.items p.cond) (is_nothing p.cond) ≡ true = ap (λ (b : Bool). cond (set_kind s == 4) b (is_nothing p.cond)) (sym (same_conditions of.items f.is.items p.cond items)) ∙ where_sound of s p.cond low plain o.1 in
-    rw f.structure (and_so _ _ (and_so _ _ (and_so _ _ (and_so _ _ f.kind (rw owner (placed_well w s of placed))) key) test) (filled of s p.parts low within some lacks o.0))
+    rw f.structure (and_from _ _ (and_from _ _ (and_from _ _ (and_from _ _ f.kind (rw owner (placed_well w s of placed))) key) test) (filled of s p.parts low within some lacks o.0))
 
 -- what was declared, and what it was declared under
 pub record Whole (noted made : List Draft) : Type 0 where
@@ -182,7 +175,7 @@ together noted made d w (a_set_made h) = set_together noted made d w h
 
 all_of : (noted made ds : List Draft) → Whole noted made → AllByRecursion (Final noted) ds → list_all (is_sound_together (map shape_in made)) (map shape_in ds) ≡ true
 all_of noted made [] w h = refl
-all_of noted made (d ∷ ds) w h = and_so _ _ (together noted made d w h.0) (all_of noted made ds w h.1)
+all_of noted made (d ∷ ds) w h = and_from _ _ (together noted made d w h.0) (all_of noted made ds w h.1)
 
 pub all_together : (noted made : List Draft) → Whole noted made → list_all (is_sound_together (map shape_in made)) (map shape_in made) ≡ true
 all_together noted made w = all_of noted made made w w.final

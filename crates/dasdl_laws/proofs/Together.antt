@@ -1,6 +1,6 @@
 -- What a structure has of others is sound: links, keys, WHERE, and where sets stand.
 use Rattle.std.proofs.Common.{◌≡◌, ◌<◌, ◌+◌, ◌-◌, ℕ, suc, zero, List, [], ◌∷◌, map, length, Bool, true, false, cond, refl, sym, ap, subst, ◌∙◌, arith}
-use Rattle.std.proofs.lemmas.Bool.{and_parts, eqb-true, ltb-true}
+use Rattle.std.proofs.lemmas.Bool.{and_parts, eqb-true, ltb-true, and_from}
 use Rattle.std.proofs.lemmas.Bool.Decides.{nat_tests}
 use Rattle.std.proofs.lemmas.Option.{slice_get-map}
 use Rattle.std.specs.Prelude.{◌&&◌, ◌==◌, not, nat_lt, nat_le, slice_get, Some, None}
@@ -17,9 +17,12 @@ use Rattle.dms_desc.specs.declared.structure.KeyPart.{KeyPart}
 use Rattle.dms_desc.specs.Shape.{Shape, Tree}
 use Rattle.dms_desc.specs.Shape.Tree.{Empty, Test, Both, Either, Contrary}
 use Rattle.dms_desc_bytes.specs.Conditions.{nodes, is_comparable, compares_well, is_condition}
-use Rattle.dms_desc_bytes.specs.Finding.{structure_at, kind_in, owner_in, kind_of, owner_of, item_at, is_link}
+use Rattle.dms_desc.specs.Kinds.{is_link}
+use Rattle.dms_desc.specs.Lookups.{structure_at}
+use Rattle.dms_desc_bytes.specs.Finding.{kind_in, owner_in, kind_of, owner_of, item_at}
 use Rattle.dms_desc_bytes.specs.Lists.{is_within, apart, total}
-use Rattle.dms_desc_bytes.specs.Members.{is_plain, item_width, is_link_sound, points_well, is_item_sound}
+use Rattle.dms_desc.specs.Widths.{item_width}
+use Rattle.dms_desc_bytes.specs.Members.{is_plain, is_link_sound, points_well, is_item_sound}
 use Rattle.dms_desc_bytes.specs.Spelling.{is_data_set}
 use Rattle.dms_desc_bytes.specs.WellFormed.{numbered, is_key_item, width_in, is_part_sound, part_width, parts_differ, is_key_sound}
 use Rattle.dms_desc_bytes.proofs.Places.{all_at}
@@ -28,7 +31,7 @@ use Rattle.dasdl_compile.specs.Compile.{shape_in}
 use Rattle.dasdl_compile.specs.Finding.{data_set_named}
 use Rattle.dasdl_laws.specs.Alone.{is_local}
 use Rattle.dasdl_laws.proofs.Members.{PointsTo, Points}
-use Rattle.dasdl_laws.proofs.Ordered.{and_so, has_kind}
+use Rattle.dasdl_laws.proofs.Ordered.{has_kind}
 use Rattle.dasdl_laws.proofs.Outline.{seen, seen_item, seen_type, seen_kind}
 use Rattle.dasdl_laws.proofs.Parts.{PointsWell}
 
@@ -109,7 +112,7 @@ unfolding is_link_sound kind_of owner_of
 link_sound made t target i o p f n alone =
     let at : structure_at (map shape_in made) target ≡ Some (shape_in f.is) = subst (λ (k : ℕ). structure_at (map shape_in made) k ≡ Some (shape_in f.is)) n f.structure in
     let owner : (f.is.owner == 0) ≡ true = ap (λ (x : Draft). x.owner == 0) (sym f.alike) ∙ alone in
-    and_so _ _ (and_so _ _ (and_so _ _ (ap (λ (x : Option Shape). is_data_set (kind_in x)) at ∙ f.kind) (ap (λ (x : Option Shape). owner_in x == 0) at ∙ owner)) (ap not p.required)) p.initial
+    and_from _ _ (and_from _ _ (and_from _ _ (ap (λ (x : Option Shape). is_data_set (kind_in x)) at ∙ f.kind) (ap (λ (x : Option Shape). owner_in x == 0) at ∙ owner)) (ap not p.required)) p.initial
 
 points_case : (noted made : List Draft) (k : ItemKind) (i : Member) → map seen noted ≡ map seen made → numbered 1 (map shape_in made) ≡ true → list_all has_kind (map shape_in made) ≡ true → Points noted k i → points_well (map shape_in made) k i ≡ true
 points_case noted made (LinkTo target counted) i same numbers kinds p =
@@ -124,7 +127,7 @@ unfolding is_item_sound
 items_sound noted made [] same numbers kinds local points = refl
 items_sound noted made (i ∷ is) same numbers kinds local points =
     let a = and_parts (is_local i) (list_all is_local is) local in
-    and_so _ _ (and_so _ _ a.0 (points_case noted made i.kind i same numbers kinds points.0)) (items_sound noted made is same numbers kinds a.1 points.1)
+    and_from _ _ (and_from _ _ a.0 (points_case noted made i.kind i same numbers kinds points.0)) (items_sound noted made is same numbers kinds a.1 points.1)
 
 -- ---- keys and conditions see items by their types
 

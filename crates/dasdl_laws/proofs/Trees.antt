@@ -7,7 +7,7 @@ use Rattle.std.specs.declared.result.Result.TheVariants.{Ok}
 use Rattle.dms_base.specs.Name.{is_name}
 use Rattle.dms_desc_bytes.specs.Lists.{is_within}
 use Rattle.dms_desc_bytes.specs.Members.{members_differ}
-use Rattle.dasdl_parse.specs.declared.token.Lexeme.{Lexeme}
+use Rattle.dms_tokens.specs.declared.token.Lexeme.{Lexeme}
 use Rattle.dasdl_parse.specs.declared.declarations.Declaration.{Declaration}
 use Rattle.dasdl_parse.specs.declared.declarations.Declaration.TheVariants.{DataSet, Item, Group, Link, SetOf, End}
 use Rattle.dasdl_parse.specs.declared.declarations.DataSetDecl.{DataSetDecl}
@@ -32,8 +32,8 @@ use Rattle.dasdl_compile.specs.Members.{member_at, open_after}
 use Rattle.dasdl_compile.specs.Outlines.{data_set_kind}
 use Rattle.dasdl_compile.specs.Sets.{is_misplaced, options_at, lacks_key, set_draft}
 use Rattle.std.proofs.Common.{◌⊎◌, inl, inr, cond}
-use Rattle.std.proofs.lemmas.Bool.{eq-eqb}
-use Rattle.std.specs.Prelude.{◌||◌, ◌==◌, not, is_some}
+use Rattle.std.proofs.lemmas.Bool.{eq-eqb, or_left}
+use Rattle.std.specs.Prelude.{◌==◌, not, is_some}
 use Rattle.std.specs.List.{list_any}
 use Rattle.dms_desc_bytes.specs.Spelling.{is_data_set}
 use Rattle.dasdl_laws.proofs.Nested.{owned, HasIn, any_left, any_right, all_in, both_closed}
@@ -102,9 +102,6 @@ no_data_set : (a b : Bool) → is_data_set (cond (not a) 3 (cond b 4 5)) ≡ fal
 no_data_set true true = refl
 no_data_set true false = refl
 no_data_set false b = refl
-
-or_left : (a b : Bool) → a ≡ true → (a || b) ≡ true
-or_left a b e = rw e refl
 
 adding_grows : (o pre : List Draft) (d : Draft) (post : List Draft) (w v : Work) → w.made ≡ pre ++ d ∷ post → Sofar o d → Adding o w v → Grows o pre d post w v 0
 adding_grows o pre d post w v e h a =

@@ -1,6 +1,6 @@
 -- What the grammar says of items and conditions that were read.
 use Rattle.std.proofs.Common.{◌≡◌, ◌≤◌, ℕ, List, [], ◌∷◌, ◌++◌, length, Bool, true, false, cond, refl, ap, subst, arith}
-use Rattle.std.proofs.lemmas.Bool.{and_parts, le-leb}
+use Rattle.std.proofs.lemmas.Bool.{and_parts, le-leb, and_from}
 use Rattle.std.proofs.lemmas.Slice.Eq.{bytes_eq-Decides}
 use Rattle.std.specs.Prelude.{◌&&◌, ◌==◌, nat_le, Some, None}
 use Rattle.std.specs.List.{list_all}
@@ -11,8 +11,8 @@ use Rattle.dms_base.specs.Text.{is_printable, before_trimmed, trimmed, text_of}
 use Rattle.dms_base.specs.declared.kind.ItemKind.{ItemKind}
 use Rattle.dms_base.specs.declared.kind.Literal.{Literal}
 use Rattle.dms_base.specs.declared.kind.Literal.TheVariants.{Text}
-use Rattle.dms_desc_bytes.specs.Finding.{is_link}
-use Rattle.dasdl_parse.specs.declared.token.Token.{Token}
+use Rattle.dms_desc.specs.Kinds.{is_link}
+use Rattle.dms_tokens.specs.declared.token.Token.{Token}
 use Rattle.dasdl_parse.specs.declared.items.ItemOptions.{ItemOptions}
 use Rattle.dasdl_parse.specs.declared.declarations.ItemDecl.{ItemDecl}
 use Rattle.dasdl_parse.specs.Items.{no_options}
@@ -36,7 +36,7 @@ use Rattle.dasdl_parse.specs.Trees.{Condition}
 use Rattle.dasdl_parse.specs.CondSpelling.{nodes as nodes_of}
 use Rattle.dasdl_parse.specs.Sets.{or_else, no_set_options}
 use Rattle.dasdl_parse.specs.Grammar.{no_data_set_options}
-use Rattle.dasdl_parse.specs.declared.token.Lexeme.{Lexeme}
+use Rattle.dms_tokens.specs.declared.token.Lexeme.{Lexeme}
 use Rattle.dasdl_parse.specs.declared.declarations.LinkDecl.{LinkDecl}
 use Rattle.dasdl_parse.specs.declared.declarations.DataSetDecl.{DataSetDecl}
 use Rattle.dasdl_parse.specs.declared.declarations.DataSetEnd.{DataSetEnd}
@@ -69,17 +69,16 @@ use Rattle.dasdl_grammar.specs.SaidSpelling.{IsKeyDecl}
 use Rattle.dasdl_grammar.specs.SaidSpelling.IsKeyDecl.{a_key}
 use Rattle.dasdl_laws.proofs.Judged.{are_plain}
 use Rattle.dasdl_laws.proofs.Literals.{is_plain_literal}
-use Rattle.dasdl_laws.proofs.Ordered.{and_so}
 
 -- ---- texts without trailing spaces
 
 printable_case : (t : Bool) (b : ℕ) → is_printable b ≡ true → list_all is_printable (cond t [] (b ∷ [])) ≡ true
 printable_case true b p = refl
-printable_case false b p = and_so _ _ p refl
+printable_case false b p = and_from _ _ p refl
 
 printable_before : (b : ℕ) (xs : List ℕ) → is_printable b ≡ true → list_all is_printable xs ≡ true → list_all is_printable (before_trimmed b xs) ≡ true
 printable_before b [] p h = printable_case (b == 32) b p
-printable_before b (x ∷ xs) p h = and_so _ _ p h
+printable_before b (x ∷ xs) p h = and_from _ _ p h
 
 printable_trimmed : (bs : List ℕ) → list_all is_printable bs ≡ true → list_all is_printable (trimmed bs) ≡ true
 printable_trimmed [] h = refl
@@ -107,7 +106,7 @@ plain_text bytes text h =
     let a = picked_text (list_all is_printable bytes && nat_le (length (trimmed bytes)) 200) (trimmed bytes) text h in
     let b = and_parts (list_all is_printable bytes) (nat_le (length (trimmed bytes)) 200) a.0 in
     subst (λ (t : List ℕ). is_plain_literal (Text t) ≡ true) a.1
-    (and_so _ _ (printable_trimmed bytes b.0) (rw (trimmed_again bytes) ((bytes_eq-Decides (trimmed bytes) (trimmed bytes)).1 refl)))
+    (and_from _ _ (printable_trimmed bytes b.0) (rw (trimmed_again bytes) ((bytes_eq-Decides (trimmed bytes) (trimmed bytes)).1 refl)))
 
 -- ---- literals
 
@@ -121,9 +120,9 @@ literal_plain _ _ a_null = refl
 
 pub condition_plain : (p : Part) (c : Tree) (ts : List Token) → IsCond p c ts → are_plain c ≡ true
 condition_plain _ _ _ (a_term t ts c) = condition_plain _ t ts c
-condition_plain _ _ _ (an_or a b xs ys c d) = and_so _ _ (condition_plain _ a xs c) (condition_plain _ b ys d)
+condition_plain _ _ _ (an_or a b xs ys c d) = and_from _ _ (condition_plain _ a xs c) (condition_plain _ b ys d)
 condition_plain _ _ _ (a_factor t ts c) = condition_plain _ t ts c
-condition_plain _ _ _ (an_and a b xs ys c d) = and_so _ _ (condition_plain _ a xs c) (condition_plain _ b ys d)
+condition_plain _ _ _ (an_and a b xs ys c d) = and_from _ _ (condition_plain _ a xs c) (condition_plain _ b ys d)
 condition_plain _ _ _ (a_not t ts c) = condition_plain _ t ts c
 condition_plain _ _ _ (brackets t ts c) = condition_plain _ t ts c
 condition_plain _ _ _ (a_test name op l t n e) = literal_plain l t e
@@ -144,12 +143,12 @@ places_range _ _ _ (no_places n) = omega arith
 places_range _ _ _ (some_places n m low) = low
 
 kind_range : (k : ItemKind) (xs : List Token) → IsKind k xs → (is_kind k ≡ true) × (is_link k ≡ false)
-kind_range _ _ (an_alpha n low high) = (and_so _ _ (le-leb 1 n low) (le-leb n 200 high), refl)
+kind_range _ _ (an_alpha n low high) = (and_from _ _ (le-leb 1 n low) (le-leb n 200 high), refl)
 kind_range _ _ (a_number n m s xs ys w p) =
     let a = width_range s n xs w in
-    (and_so _ _ (and_so _ _ (le-leb 1 n a.0) (le-leb n 18 a.1)) (le-leb m n (places_range n m ys p)), refl)
+    (and_from _ _ (and_from _ _ (le-leb 1 n a.0) (le-leb n 18 a.1)) (le-leb m n (places_range n m ys p)), refl)
 kind_range _ _ a_truth = (refl, refl)
-kind_range _ _ (a_field n low high) = (and_so _ _ (le-leb 1 n low) (le-leb n 48 high), refl)
+kind_range _ _ (a_field n low high) = (and_from _ _ (le-leb 1 n low) (le-leb n 48 high), refl)
 
 option_plain : (s t : ItemOptions) (xs : List Token) → ItemOption s t xs → IsPlainInitial s.initial → IsPlainInitial t.initial
 option_plain _ _ _ (says_required initial) h = h
@@ -213,7 +212,7 @@ IsRange low high None = Unit {0}
 IsRange low high (Some n) = is_within low high n ≡ true
 
 population_range : (n : ℕ) (xs : List Token) → IsPopulation n xs → is_within 1 1000000 n ≡ true
-population_range _ _ (a_population n low high) = and_so _ _ (le-leb 1 n low) (le-leb n 1000000 high)
+population_range _ _ (a_population n low high) = and_from _ _ (le-leb 1 n low) (le-leb n 1000000 high)
 
 data_set_option : (s t : DataSetOptions) (us : List Lexeme) → DataSetOption s t us → IsPlainCondition s.verify × IsRange 1 1000000 s.population → IsPlainCondition t.verify × IsRange 1 1000000 t.population
 data_set_option _ _ _ (says_verify population c us d) h = (cond_plain _ c us d, h.1)

@@ -6,10 +6,11 @@ use Rattle.dms_base.specs.Fits.{fits}
 use Rattle.dms_base.specs.Spelling.{is_kind}
 use Rattle.dms_desc.specs.declared.structure.Item.{Item}
 use Rattle.dms_desc.specs.Shape.{Shape}
-use Rattle.dms_desc_bytes.specs.Lists.{is_within, is_empty, total}
+use Rattle.dms_desc_bytes.specs.Lists.{is_within, is_empty}
 use Rattle.dms_desc_bytes.specs.Members.{is_plain, members_differ}
 use Rattle.dms_desc_bytes.specs.Spelling.{is_data_set}
-use Rattle.dms_desc_bytes.specs.WellFormed.{width_of, has_sound_groups, has_sound_verify, lacks_set_fields, is_populated}
+use Rattle.dms_desc.specs.Widths.{record_width}
+use Rattle.dms_desc_bytes.specs.WellFormed.{has_sound_groups, has_sound_verify, lacks_set_fields, is_populated}
 
 -- an item's name, the range of its type, and its initial value
 abbrev pub is_local : Item → Bool
@@ -17,7 +18,7 @@ is_local i = is_name i.name && is_kind i.kind && fits i.kind i.initial && is_pla
 
 -- at most 60 items and links, each of them so, and records of at most 480 bytes
 unfoldable pub has_local_items : Shape → Bool
-has_local_items s = nat_le (length s.items) 60 && list_all is_local s.items && nat_le (total width_of s.items) 480
+has_local_items s = nat_le (length s.items) 60 && list_all is_local s.items && nat_le (record_width s.items) 480
 
 -- a data set or the restart data set: all but that it has a member and what its links point to
 unfoldable pub is_data_set_alone : Shape → Bool

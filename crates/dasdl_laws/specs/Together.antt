@@ -2,7 +2,7 @@
 use Rattle.std.specs.Prelude.{List, Bool, not, ◌&&◌, ◌||◌, ◌==◌, nat_lt, if◌then◌else◌}
 use Rattle.std.specs.List.{list_all}
 use Rattle.dms_desc.specs.Shape.{Shape}
-use Rattle.dms_desc_bytes.specs.Finding.{kind_of, items_of}
+use Rattle.dms_desc_bytes.specs.Finding.{kind_of, items_at}
 use Rattle.dms_desc_bytes.specs.Lists.{is_empty}
 use Rattle.dms_desc_bytes.specs.Members.{is_item_sound}
 use Rattle.dms_desc_bytes.specs.Spelling.{is_data_set}
@@ -14,8 +14,8 @@ unfoldable pub is_set_together : List Shape → Shape → Bool
 is_set_together ss s =
     is_data_set (kind_of ss s.set)
     && is_set_placed ss s
-    && is_key_sound (items_of ss s.set) s.parts
-    && is_where_sound (items_of ss s.set) s
+    && is_key_sound (items_at ss s.set) s.parts
+    && is_where_sound (items_at ss s.set) s
     && (s.kind == 5 || not (is_empty s.parts))
 
 -- a data set has sound items, and its links point to data sets that stand in no other

@@ -1,5 +1,6 @@
 -- Each condition of the grammar is read, where it has at most 100 nodes.
 use Rattle.std.proofs.Common.{◌+◌, ◌≡◌, ◌≤◌, ◌<◌, ℕ, zero, suc, List, [], ◌∷◌, ◌++◌, map, length, Bool, true, false, not, ◌&&◌, refl, sym, ap, ◌∙◌, subst, arith, append_assoc}
+use Rattle.std.proofs.lemmas.Bool.{not-true, false_from_ne_true, and_parts}
 use Rattle.std.proofs.lemmas.Bool.Decides.{nat_tests}
 use Rattle.std.proofs.lemmas.Slice.Eq.{bytes_eq-Decides}
 use Rattle.std.specs.Str.{bytes_eq}
@@ -10,16 +11,17 @@ use Rattle.dms_base.specs.declared.op.Op.{Op}
 use Rattle.dms_base.specs.declared.kind.Literal.{Literal}
 use Rattle.dms_base.specs.Name.{is_name}
 use Rattle.dms_base.specs.Reserved.{is_reserved}
-use Rattle.dasdl_parse.specs.declared.token.Token.{Token}
-use Rattle.dasdl_parse.specs.declared.token.Token.TheVariants.{Word, Sign, Compare}
-use Rattle.dasdl_parse.specs.declared.token.Lexeme.{Lexeme}
+use Rattle.dms_tokens.specs.declared.token.Token.{Token}
+use Rattle.dms_tokens.specs.declared.token.Token.TheVariants.{Word, Sign, Compare}
+use Rattle.dms_tokens.specs.declared.token.Lexeme.{Lexeme}
 use Rattle.dasdl_parse.specs.declared.levels.Level.{Level}
 use Rattle.dasdl_parse.specs.declared.cond.CondRead.{CondRead}
 use Rattle.dasdl_parse.specs.TreeCodes.{Tree}
 use Rattle.dasdl_parse.specs.TreeCodes.Tree.{Test, Both, Either, Turned}
 use Rattle.dasdl_parse.specs.Branches.{negated, with_or}
 use Rattle.dasdl_parse.specs.Reads.{Read}
-use Rattle.dasdl_parse.specs.Cursors.{turns, turns_at, starts, is_word, is_the_sign, is_free, word_at, sign_at, name_at}
+use Rattle.dms_tokens.specs.Cursors.{starts, is_word, is_the_sign}
+use Rattle.dasdl_parse.specs.Cursors.{turns, turns_at, is_free, word_at, sign_at, name_at}
 use Rattle.dasdl_parse.specs.Kinds.{literal_at, literal_of}
 use Rattle.dasdl_parse.specs.Conditions.{completed, no_level, no_cond, op_at, compare_at, compare_turn_at, not_turn_at, open_turn_at, factor_turn_at, and_turn_at, or_turn_at, close_turn_at, join_turn_at, cond_turn_at, cond_done, cond_at}
 use Rattle.dasdl_parse.specs.CondSpelling.{token_of, IsLiteral, Part, IsCond, nodes}
@@ -129,26 +131,12 @@ goes_on_or : (outer : List Level) (either : Option Tree) (t : Tree) (n : ℕ) (l
 goes_on_or [] either t n l ls e = rw e refl
 goes_on_or (x ∷ xs) either t n l ls e = refl
 
-ands : (a b c : Bool) → a && b && c ≡ true → (a ≡ true) × (c ≡ true)
-ands true true true h = (refl, refl)
-ands true true false h = absurd (cc)
-ands true false c h = absurd (cc)
-ands false b c h = absurd (cc)
-
-not_true : (b : Bool) → not b ≡ true → b ≡ false
-not_true true h = absurd (cc)
-not_true false h = refl
-
-pub never : (b : Bool) → (b ≡ true → ⊥) → b ≡ false
-never true h = absurd (h refl)
-never false h = refl
-
 name_is : (n : List ℕ) → is_name n ≡ true → (nat_le (length n) 30 ≡ true) × (not (is_reserved n) ≡ true)
 unfolding is_name
-name_is n h = ands _ _ _ h
+name_is n h = let p = and_parts _ _ h in ((and_parts _ _ p.0).0, p.1)
 
 pub is_unreserved : (n : List ℕ) → is_name n ≡ true → is_reserved n ≡ false
-is_unreserved n h = not_true (is_reserved n) (name_is n h).1
+is_unreserved n h = not-true (is_reserved n) (name_is n h).1
 
 is_short : (n : List ℕ) → is_name n ≡ true → nat_lt 30 (length n) ≡ false
 is_short n h = let k : nat_le (length n) 30 ≡ true = (name_is n h).0 in grind (arith, nat_tests)
@@ -158,7 +146,7 @@ clash true h k = cc
 clash false h k = cc
 
 pub is_no_keyword : (w n : List ℕ) → is_reserved w ≡ true → is_name n ≡ true → bytes_eq n w ≡ false
-is_no_keyword w n r h = never (bytes_eq n w) (λ (e : bytes_eq n w ≡ true).
+is_no_keyword w n r h = false_from_ne_true (bytes_eq n w) (λ (e : bytes_eq n w ≡ true).
     clash (is_reserved w) r (ap is_reserved (sym ((bytes_eq-Decides n w).0 e)) ∙ is_unreserved n h))
 
 not_is_reserved : is_reserved (codes "NOT") ≡ true

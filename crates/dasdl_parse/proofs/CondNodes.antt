@@ -1,17 +1,19 @@
 -- A condition that was read has at most 100 nodes.
 use Rattle.std.proofs.Common.{◌+◌, ◌≡◌, ◌≤◌, ℕ, zero, suc, List, [], ◌∷◌, Bool, true, false, cond, not, ◌||◌, refl, sym, ap, subst, arith}
+use Rattle.std.proofs.lemmas.Bool.{or_parts}
 use Rattle.std.proofs.lemmas.Bool.Decides.{nat_tests}
 use Rattle.std.specs.Prelude.{codes, nat_le, Some, None}
 use Rattle.std.specs.declared.option.Option.{Option}
 use Rattle.std.specs.declared.result.Result.TheVariants.{Ok, Err}
-use Rattle.dasdl_parse.specs.declared.token.Lexeme.{Lexeme}
+use Rattle.dms_tokens.specs.declared.token.Lexeme.{Lexeme}
 use Rattle.dasdl_parse.specs.declared.levels.Level.{Level}
 use Rattle.dasdl_parse.specs.declared.cond.CondRead.{CondRead}
 use Rattle.dasdl_parse.specs.TreeCodes.{Tree}
 use Rattle.dasdl_parse.specs.TreeCodes.Tree.{Test}
 use Rattle.dasdl_parse.specs.Branches.{negated, with_and, with_or}
 use Rattle.dasdl_parse.specs.Reads.{◌>>=◌, Read}
-use Rattle.dasdl_parse.specs.Cursors.{turns, turns_at, fault_at, starts, is_word, is_the_sign, is_free, word_at, sign_at, name_at}
+use Rattle.dms_tokens.specs.Cursors.{starts, is_word, is_the_sign}
+use Rattle.dasdl_parse.specs.Cursors.{turns, turns_at, fault_at, is_free, word_at, sign_at, name_at}
 use Rattle.dasdl_parse.specs.Kinds.{literal_at}
 use Rattle.dasdl_parse.specs.Conditions.{completed, no_level, no_cond, op_at, compare_at, compare_turn_at, not_turn_at, open_turn_at, factor_turn_at, and_turn_at, or_turn_at, close_turn_at, join_turn_at, cond_turn_by, cond_turn_at, cond_done, cond_at, finished}
 use Rattle.dasdl_parse.specs.CondSpelling.{nodes}
@@ -103,17 +105,13 @@ compare_counts s ts k t rest h =
     subst (λ (x : CondRead × List Lexeme). Counted x.0) (ok_same (completed s.outer s.level (s.nodes + 1) c.0.0, c.0.1) (t, rest) c.2)
     (completed_counts s.outer s.level (s.nodes + 1) c.0.0 (omega (arith, k.all, test_nodes ts c.0.0 c.0.1 c.1)) (below s.nodes b.0))
 
-either_false : (a b : Bool) → a || b ≡ false → a ≡ false
-either_false true b h = absurd (cc)
-either_false false b h = refl
-
 not_counts : (s : CondRead) (ts : List Lexeme) → Counts s.outer s.level None s.nodes → Keeps (not_turn_at s ts)
 unfolding not_turn_at
 not_counts s ts k t rest h =
     let a = skip_ok (nat_le 100 s.nodes || nat_le 100 s.level.nots) _ _ _ h in
     let b = bind_ok (word_at (codes "NOT") ts) _ _ a.1 in
     subst (λ (x : CondRead × List Lexeme). Counted x.0) (ok_same (record { outer = s.outer; level = record { either = s.level.either; both = s.level.both; nots = s.level.nots + 1 }; done = None; nodes = s.nodes + 1 }, b.0) (t, rest) b.2)
-    (record { all = omega (arith, k.all); few = below s.nodes (either_false (nat_le 100 s.nodes) (nat_le 100 s.level.nots) a.0) })
+    (record { all = omega (arith, k.all); few = below s.nodes (or_parts (nat_le 100 s.nodes) (nat_le 100 s.level.nots) a.0).0 })
 
 open_counts : (s : CondRead) (ts : List Lexeme) → Counts s.outer s.level None s.nodes → Keeps (open_turn_at s ts)
 unfolding open_turn_at

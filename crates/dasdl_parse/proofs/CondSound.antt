@@ -1,20 +1,22 @@
 -- A condition that was read is one of the grammar, with the tree that it spells.
 use Rattle.std.proofs.Common.{◌+◌, ◌≡◌, ℕ, zero, suc, List, [], ◌∷◌, ◌++◌, map, replicate, Bool, true, false, cond, not, ◌&&◌, ◌||◌, refl, sym, ap, ◌∙◌, subst, arith, append_assoc}
+use Rattle.std.proofs.lemmas.Bool.{and_parts}
 use Rattle.std.proofs.lemmas.List.{append-nil}
 use Rattle.std.specs.Prelude.{codes, nat_le, Some, None, is_some}
 use Rattle.std.specs.declared.option.Option.{Option}
 use Rattle.std.specs.declared.result.Result.{Result}
 use Rattle.std.specs.declared.result.Result.TheVariants.{Ok}
 use Rattle.dasdl_parse.specs.declared.fault.ParseFault.{ParseFault}
-use Rattle.dasdl_parse.specs.declared.token.Token.{Token}
-use Rattle.dasdl_parse.specs.declared.token.Token.TheVariants.{Word, Sign}
-use Rattle.dasdl_parse.specs.declared.token.Lexeme.{Lexeme}
+use Rattle.dms_tokens.specs.declared.token.Token.{Token}
+use Rattle.dms_tokens.specs.declared.token.Token.TheVariants.{Word, Sign}
+use Rattle.dms_tokens.specs.declared.token.Lexeme.{Lexeme}
 use Rattle.dasdl_parse.specs.declared.levels.Level.{Level}
 use Rattle.dasdl_parse.specs.declared.cond.CondRead.{CondRead}
 use Rattle.dasdl_parse.specs.TreeCodes.{Tree}
 use Rattle.dasdl_parse.specs.TreeCodes.Tree.{Test}
 use Rattle.dasdl_parse.specs.Branches.{negated, with_and, with_or, is_nil}
-use Rattle.dasdl_parse.specs.Cursors.{starts, is_word, is_the_sign, is_free, word_at, sign_at, name_at, turns_at}
+use Rattle.dms_tokens.specs.Cursors.{starts, is_word, is_the_sign}
+use Rattle.dasdl_parse.specs.Cursors.{is_free, word_at, sign_at, name_at, turns_at}
 use Rattle.dasdl_parse.specs.Kinds.{literal_at}
 use Rattle.dasdl_parse.specs.Conditions.{completed, no_level, no_cond, op_at, compare_at, compare_turn_at, not_turn_at, open_turn_at, factor_turn_at, and_turn_at, or_turn_at, close_turn_at, join_turn_at, cond_turn_by, cond_turn_at, cond_done, cond_at, finished}
 use Rattle.dasdl_parse.specs.CondSpelling.{token_of, IsCond, Reads}
@@ -280,11 +282,6 @@ finishes (Some left) outer level used t ts rest n d h =
     let k : used ≡ d.either ++ d.term = d.all ∙ ap (λ (xs : List Token). xs ++ (d.either ++ d.term)) (outside_none outer d.front n d.outside) in
     (subst (λ (x : Tree × List Lexeme). IsCond Whole x.0 used) g (rw k (with_either level.either d.either d.term left d.before_or d.is)), ap (λ (x : Tree × List Lexeme). x.1) g)
 
-both_true : (a b c : Bool) → a && b && c ≡ true → b ≡ true
-both_true true true c h = refl
-both_true true false c h = absurd (cc)
-both_true false b c h = absurd (cc)
-
 pub cond_sound : (ts : List Lexeme) (t : Tree) (rest : List Lexeme) → cond_at ts ≡ Ok (t, rest) → Reads (IsCond Whole) ts t rest
 unfolding cond_at
 cond_sound ts t rest h =
@@ -292,6 +289,6 @@ cond_sound ts t rest h =
     let start : Stands no_cond [] = record { front = []; own = []; outside = refl; inside = record { either = []; both = []; before_or = refl; before_and = refl; all = refl }; all = refl } in
     let g = turns_at-goes Stands cond_done cond_turn_at goes no_cond b.0.0 [] ts b.0.1 start b.1 in
     let e = turns_at-ends cond_done cond_turn_at no_cond b.0.0 ts b.0.1 b.1 in
-    let n = both_true (is_some b.0.0.done) (is_nil b.0.0.outer) (not (starts (is_word (codes "AND")) b.0.1 || starts (is_word (codes "OR")) b.0.1)) e in
+    let n = (and_parts (is_some b.0.0.done) (is_nil b.0.0.outer) (and_parts (is_some b.0.0.done && is_nil b.0.0.outer) (not (starts (is_word (codes "AND")) b.0.1 || starts (is_word (codes "OR")) b.0.1)) e).0).1 in
     let f = finishes b.0.0.done b.0.0.outer b.0.0.level (map token_of g.used) t b.0.1 rest n g.is b.2 in
     record { used = g.used; is = f.0; all = g.all ∙ ap (λ (xs : List Lexeme). g.used ++ xs) f.1 }

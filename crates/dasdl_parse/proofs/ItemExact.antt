@@ -6,13 +6,14 @@ use Rattle.std.specs.Prelude.{codes, nat_le}
 use Rattle.std.specs.declared.result.Result.TheVariants.{Ok}
 use Rattle.dms_base.specs.Name.{is_name}
 use Rattle.dms_base.specs.declared.kind.ItemKind.{ItemKind}
-use Rattle.dasdl_parse.specs.declared.token.Token.{Token}
-use Rattle.dasdl_parse.specs.declared.token.Token.TheVariants.{Word, Sign}
-use Rattle.dasdl_parse.specs.declared.token.Lexeme.{Lexeme}
+use Rattle.dms_tokens.specs.declared.token.Token.{Token}
+use Rattle.dms_tokens.specs.declared.token.Token.TheVariants.{Word, Sign}
+use Rattle.dms_tokens.specs.declared.token.Lexeme.{Lexeme}
 use Rattle.dasdl_parse.specs.declared.declarations.ItemDecl.{ItemDecl}
 use Rattle.dasdl_parse.specs.declared.declarations.LinkDecl.{LinkDecl}
 use Rattle.dasdl_parse.specs.declared.items.ItemOptions.{ItemOptions}
-use Rattle.dasdl_parse.specs.Cursors.{starts, is_word, is_the_sign, word_at, sign_at, name_at, turns_at, until_semicolon}
+use Rattle.dms_tokens.specs.Cursors.{starts, is_word, is_the_sign}
+use Rattle.dasdl_parse.specs.Cursors.{word_at, sign_at, name_at, turns_at, until_semicolon}
 use Rattle.dasdl_parse.specs.Kinds.{kind_at}
 use Rattle.dasdl_parse.specs.Items.{no_options, next_item_option_at, item_at, counted_at, link_at}
 use Rattle.dasdl_parse.specs.CondSpelling.{token_of, Reads}

@@ -1,5 +1,6 @@
 -- The options of an item are read exactly.
 use Rattle.std.proofs.Common.{◌≡◌, List, [], ◌∷◌, ◌++◌, map, Bool, true, false, cond, not, ◌&&◌, refl, ap, ◌∙◌, subst}
+use Rattle.std.proofs.lemmas.Bool.{not-true}
 use Rattle.std.specs.Prelude.{codes, Some, None, is_none}
 use Rattle.std.specs.declared.option.Option.{Option}
 use Rattle.std.specs.declared.result.Result.{Result}
@@ -8,12 +9,13 @@ use Rattle.dms_base.specs.declared.op.Op.TheVariants.{Equal}
 use Rattle.dms_base.specs.declared.kind.Literal.{Literal}
 use Rattle.dms_base.specs.declared.kind.Literal.TheVariants.{Null}
 use Rattle.dasdl_parse.specs.declared.fault.ParseFault.{ParseFault}
-use Rattle.dasdl_parse.specs.declared.token.Token.{Token}
-use Rattle.dasdl_parse.specs.declared.token.Token.TheVariants.{Word, Compare}
-use Rattle.dasdl_parse.specs.declared.token.Lexeme.{Lexeme}
+use Rattle.dms_tokens.specs.declared.token.Token.{Token}
+use Rattle.dms_tokens.specs.declared.token.Token.TheVariants.{Word, Compare}
+use Rattle.dms_tokens.specs.declared.token.Lexeme.{Lexeme}
 use Rattle.dasdl_parse.specs.declared.items.ItemOptions.{ItemOptions}
 use Rattle.dasdl_parse.specs.Reads.{◌>>=◌, Read}
-use Rattle.dasdl_parse.specs.Cursors.{starts, is_word, is_the_sign, word_at, equal_at, comma_at, turns_at, until_semicolon}
+use Rattle.dms_tokens.specs.Cursors.{starts, is_word, is_the_sign}
+use Rattle.dasdl_parse.specs.Cursors.{word_at, equal_at, comma_at, turns_at, until_semicolon}
 use Rattle.dasdl_parse.specs.Kinds.{literal_at}
 use Rattle.dasdl_parse.specs.Items.{no_options, item_option_at, next_item_option_at}
 use Rattle.dasdl_parse.specs.CondSpelling.{token_of, Reads, IsLiteral}
@@ -33,10 +35,6 @@ pub both_pick : {A : Type 0} {P : Type 0} (a b : Bool) (x y : Result A ParseFaul
 both_pick true true x y z f g h = f refl h
 both_pick true false x y z f g h = g h
 both_pick false b x y z f g h = g h
-
-not_required : (b : Bool) → not b ≡ true → b ≡ false
-not_required true h = absurd (cc)
-not_required false h = refl
 
 pub none_is : {A : Type 0} (o : Option A) → is_none o ≡ true → o ≡ None
 none_is None h = refl
@@ -81,7 +79,7 @@ is_sound : (s t : ItemOptions) (ts rest : List Lexeme) → item_option_at s ts �
 unfolding item_option_at
 is_sound s t ts rest h =
     both_pick {A = ItemOptions × List Lexeme} (starts (is_word (codes "REQUIRED")) ts) (not s.required) _ _ (t, rest)
-    (λ n e. required_read s t ts rest (not_required s.required n) e)
+    (λ n e. required_read s t ts rest (not-true s.required n) e)
     (both_pick {A = ItemOptions × List Lexeme} (starts (is_word (codes "INITIALVALUE")) ts) (is_none s.initial) _ _ (t, rest)
     (λ n e. initial_read s t ts rest (none_is s.initial n) e)
     (both_pick {A = ItemOptions × List Lexeme} (starts (is_word (codes "NULL")) ts) (is_none s.initial) _ _ (t, rest)

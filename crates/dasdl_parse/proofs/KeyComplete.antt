@@ -4,11 +4,12 @@ use Rattle.std.proofs.lemmas.Bool.Decides.{nat_tests}
 use Rattle.std.specs.Prelude.{codes, nat_le}
 use Rattle.std.specs.declared.result.Result.TheVariants.{Ok}
 use Rattle.dms_base.specs.Name.{is_name}
-use Rattle.dasdl_parse.specs.declared.token.Token.{Token}
-use Rattle.dasdl_parse.specs.declared.token.Token.TheVariants.{Word, Sign}
-use Rattle.dasdl_parse.specs.declared.token.Lexeme.{Lexeme}
+use Rattle.dms_tokens.specs.declared.token.Token.{Token}
+use Rattle.dms_tokens.specs.declared.token.Token.TheVariants.{Word, Sign}
+use Rattle.dms_tokens.specs.declared.token.Lexeme.{Lexeme}
 use Rattle.dasdl_parse.specs.declared.declarations.PartDecl.{PartDecl}
-use Rattle.dasdl_parse.specs.Cursors.{starts, is_word, is_the_sign, is_free, word_at, sign_at, turns_at, until_close}
+use Rattle.dms_tokens.specs.Cursors.{starts, is_word, is_the_sign}
+use Rattle.dasdl_parse.specs.Cursors.{is_free, word_at, sign_at, turns_at, until_close}
 use Rattle.dasdl_parse.specs.Sets.{direction_at, part_at, next_part_at, parts_at}
 use Rattle.dasdl_parse.specs.CondSpelling.{token_of}
 use Rattle.dasdl_parse.specs.KeySpelling.{IsDirection, IsPart, AreParts, IsKey}

@@ -3,6 +3,7 @@ use Rattle.std.proofs.Common.{◌≡◌, ◌≤◌, ℕ, List, [], ◌∷◌, �
 use Rattle.std.proofs.lemmas.List.{map-append}
 use Rattle.std.proofs.lemmas.Bool.Decides.{nat_tests}
 use Rattle.std.proofs.lemmas.Slice.Eq.{bytes_eq-Decides}
+use Rattle.std.proofs.lemmas.Bool.{false_from_ne_true}
 use Rattle.std.specs.Str.{bytes_eq}
 use Rattle.std.specs.Prelude.{codes, nat_le, Some, None}
 use Rattle.std.specs.declared.option.Option.{Option}
@@ -10,11 +11,12 @@ use Rattle.std.specs.declared.result.Result.TheVariants.{Ok, Err}
 use Rattle.dms_base.specs.declared.kind.ItemKind.{ItemKind}
 use Rattle.dms_base.specs.declared.kind.ItemKind.TheVariants.{Alpha, Number as Digits, Bool as Truth, Field}
 use Rattle.dasdl_parse.specs.declared.fault.ParseFault.TheVariants.{NumberRange}
-use Rattle.dasdl_parse.specs.declared.token.Token.{Token}
-use Rattle.dasdl_parse.specs.declared.token.Token.TheVariants.{Word, Number, Decimal, Long, Quoted, Sign, Compare, Bad, End}
-use Rattle.dasdl_parse.specs.declared.token.Lexeme.{Lexeme}
+use Rattle.dms_tokens.specs.declared.token.Token.{Token}
+use Rattle.dms_tokens.specs.declared.token.Token.TheVariants.{Word, Number, Decimal, Long, Quoted, Sign, Compare, Bad, End}
+use Rattle.dms_tokens.specs.declared.token.Lexeme.{Lexeme}
 use Rattle.dasdl_parse.specs.Reads.{Read}
-use Rattle.dasdl_parse.specs.Cursors.{starts, is_word, is_the_sign, word_at, sign_at, number_at, number_of}
+use Rattle.dms_tokens.specs.Cursors.{starts, is_word, is_the_sign}
+use Rattle.dasdl_parse.specs.Cursors.{word_at, sign_at, number_at, number_of}
 use Rattle.dasdl_parse.specs.Kinds.{joined, joined_of, behind, signed, unsigned, is_any_word, signed_width_of, signed_width_at, width_at, size_at, places_at, alpha_at, field_at, decimal_at, truth_at, kind_at}
 use Rattle.dasdl_parse.specs.CondSpelling.{token_of, Reads}
 use Rattle.dasdl_parse.specs.KindSpelling.{IsWidth, ArePlaces, IsKind}
@@ -24,7 +26,7 @@ use Rattle.dasdl_parse.specs.KindSpelling.IsKind.{an_alpha, a_number, a_truth, a
 use Rattle.dasdl_parse.proofs.Inverting.{bind_ok, guard_ok, ok_same}
 use Rattle.dasdl_parse.proofs.SpelledTokens.{Starts, word_spelled, sign_spelled}
 use Rattle.dasdl_parse.proofs.CondSound.{pick}
-use Rattle.dasdl_parse.proofs.CondComplete.{splits, heads, none_left, word_reads, sign_reads, never}
+use Rattle.dasdl_parse.proofs.CondComplete.{splits, heads, none_left, word_reads, sign_reads}
 
 -- a number in its range
 pub record InRange (low high n : ℕ) (ts rest : List Lexeme) : Type 0 where
@@ -225,7 +227,7 @@ places_reads _ _ _ (some_places n m b) us z rest e t =
 
 none_joined : (w : List ℕ) (n : ℕ) → joined w ≡ Some n → bytes_eq w (codes "S") ≡ false
 unfolding joined
-none_joined w n h = never (bytes_eq w (codes "S")) (λ (e : bytes_eq w (codes "S") ≡ true).
+none_joined w n h = false_from_ne_true (bytes_eq w (codes "S")) (λ (e : bytes_eq w (codes "S") ≡ true).
     let f : joined (codes "S") ≡ Some n = ap joined (sym ((bytes_eq-Decides w (codes "S")).0 e)) ∙ h in
     let g : joined (codes "S") ≡ None = refl in
     cc)

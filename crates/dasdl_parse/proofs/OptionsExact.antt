@@ -1,11 +1,12 @@
 -- Options are read exactly where they are some, and for what they say together.
 use Rattle.std.proofs.Common.{◌≡◌, ◌<◌, ℕ, List, [], ◌∷◌, ◌++◌, map, length, length-append, Bool, true, false, cond, ◌⊎◌, inl, inr, refl, sym, ap, ◌∙◌, subst, arith, append_assoc}
 use Rattle.std.specs.declared.result.Result.TheVariants.{Ok}
-use Rattle.dasdl_parse.specs.declared.token.Token.{Token}
-use Rattle.dasdl_parse.specs.declared.token.Token.TheVariants.{Word, Sign}
-use Rattle.dasdl_parse.specs.declared.token.Lexeme.{Lexeme}
+use Rattle.dms_tokens.specs.declared.token.Token.{Token}
+use Rattle.dms_tokens.specs.declared.token.Token.TheVariants.{Word, Sign}
+use Rattle.dms_tokens.specs.declared.token.Lexeme.{Lexeme}
 use Rattle.dasdl_parse.specs.Reads.{◌>>=◌, Read, Pass}
-use Rattle.dasdl_parse.specs.Cursors.{turns_at, starts, is_the_sign, comma_at, until_semicolon}
+use Rattle.dms_tokens.specs.Cursors.{starts, is_the_sign}
+use Rattle.dasdl_parse.specs.Cursors.{turns_at, comma_at, until_semicolon}
 use Rattle.dasdl_parse.specs.CondSpelling.{token_of, Reads}
 use Rattle.dasdl_parse.specs.OptionSpelling.{Options}
 use Rattle.dasdl_parse.specs.OptionSpelling.Options.{none_said, one_more, behind_comma}
@@ -16,7 +17,7 @@ use Rattle.dasdl_parse.proofs.CondComplete.{Runs, joins, turns_at-runs, splits, 
 use Rattle.dasdl_parse.proofs.CondComplete.Runs.{here, step}
 
 -- a comma was left behind, or there was none
-pub comma_cases : (b : Bool) (l : Lexeme) (ls rest : List Lexeme) → cond {A = Pass} b (Ok ls) (Ok (l ∷ ls)) ≡ Ok rest → ((b ≡ true) × (ls ≡ rest)) ⊎ (l ∷ ls ≡ rest)
+pub comma_cases : (b : Bool) (l : Lexeme) (ls rest : List Lexeme) → ◌≡◌ {A = Pass} (Ok (cond b ls (l ∷ ls))) (Ok rest) → ((b ≡ true) × (ls ≡ rest)) ⊎ (l ∷ ls ≡ rest)
 comma_cases true l ls rest h = inl (refl, ok_same ls rest h)
 comma_cases false l ls rest h = inr (ok_same (l ∷ ls) rest h)
 

@@ -14,11 +14,13 @@ use Rattle.dms_base.specs.Name.{is_name}
 use Rattle.dms_base.specs.Reserved.{is_reserved}
 use Rattle.dms_base.specs.Text.{text_of}
 use Rattle.dasdl_parse.specs.declared.fault.ParseFault.TheVariants.{Expected, TooMany}
-use Rattle.dasdl_parse.specs.declared.token.Token.{Token}
-use Rattle.dasdl_parse.specs.declared.token.Token.TheVariants.{Word, Number, Decimal, Long, Quoted, Sign, Compare, Bad, End}
-use Rattle.dasdl_parse.specs.declared.token.Lexeme.{Lexeme}
-use Rattle.dasdl_parse.specs.Cursors.{is_word, is_the_sign, is_equal, one_at, word_at, sign_at, equal_at, name_at, name_of, fault_of}
-use Rattle.dasdl_parse.specs.Kinds.{literal_at, literal_of, quoted_of, constant, constant_of}
+use Rattle.dms_tokens.specs.declared.token.Token.{Token}
+use Rattle.dms_tokens.specs.declared.token.Token.TheVariants.{Word, Number, Decimal, Long, Quoted, Sign, Compare, Bad, End}
+use Rattle.dms_tokens.specs.declared.token.Lexeme.{Lexeme}
+use Rattle.dms_tokens.specs.Cursors.{is_word, is_the_sign, is_equal, one_at}
+use Rattle.dasdl_parse.specs.Cursors.{word_at, sign_at, equal_at, name_at, name_of, fault_of, fault_at}
+use Rattle.dms_tokens.specs.Cursors.{constant}
+use Rattle.dasdl_parse.specs.Kinds.{literal_at, literal_of, quoted_of, constant_of}
 use Rattle.dasdl_parse.specs.Conditions.{op_at, op_of}
 use Rattle.dasdl_parse.specs.CondSpelling.{IsLiteral}
 use Rattle.dasdl_parse.specs.CondSpelling.IsLiteral.{a_text, a_number, a_decimal, a_true, a_false, a_null}
@@ -53,7 +55,7 @@ pub record Starts (t : Token) (ts rest : List Lexeme) : Type 0 where
   pub all : ts ≡ first ∷ rest
 
 -- a token that passed a test was the first
-one_ok : (test : Token → Bool) (ts rest : List Lexeme) (t : Token) → ((u : Token) → test u ≡ true → u ≡ t) → one_at test ts ≡ Ok rest → Starts t ts rest
+one_ok : (test : Token → Bool) (ts rest : List Lexeme) (t : Token) → ((u : Token) → test u ≡ true → u ≡ t) → one_at fault_at test ts ≡ Ok rest → Starts t ts rest
 one_ok test [] rest t is h = absurd (cc)
 one_ok test (l ∷ ls) rest t is h =
     let g = guard_ok (test l.token) ls rest (fault_of l.token l.place) h in

@@ -4,9 +4,9 @@ use Rattle.std.specs.declared.option.Option.{Option}
 use Rattle.std.specs.declared.result.Result.TheVariants.{Ok, Err}
 use Rattle.dms_base.specs.declared.op.Op.{Op}
 use Rattle.dasdl_parse.specs.declared.fault.ParseFault.TheVariants.{Expected, TooMany}
-use Rattle.dasdl_parse.specs.declared.token.Token.{Token}
-use Rattle.dasdl_parse.specs.declared.token.Token.TheVariants.{Compare}
-use Rattle.dasdl_parse.specs.declared.token.Lexeme.{Lexeme}
+use Rattle.dms_tokens.specs.declared.token.Token.{Token}
+use Rattle.dms_tokens.specs.declared.token.Token.TheVariants.{Compare}
+use Rattle.dms_tokens.specs.declared.token.Lexeme.{Lexeme}
 use Rattle.dasdl_parse.specs.Reads.{Read, ◌>>=◌}
 use Rattle.dasdl_parse.specs.TreeCodes.{Tree}
 use Rattle.dasdl_parse.specs.TreeCodes.Tree.{Test}
@@ -14,7 +14,8 @@ use Rattle.dasdl_parse.specs.Trees.{Condition}
 use Rattle.dasdl_parse.specs.Branches.{negated, with_and, with_or, is_nil}
 use Rattle.dasdl_parse.specs.declared.levels.Level.{Level}
 use Rattle.dasdl_parse.specs.declared.cond.CondRead.{CondRead}
-use Rattle.dasdl_parse.specs.Cursors.{fault_of, fault_at, place_at, starts, is_word, is_the_sign, is_free, word_at, sign_at, name_at, turns_at}
+use Rattle.dms_tokens.specs.Cursors.{place_at, starts, is_word, is_the_sign}
+use Rattle.dasdl_parse.specs.Cursors.{fault_of, fault_at, is_free, word_at, sign_at, name_at, turns_at}
 use Rattle.dasdl_parse.specs.Kinds.{literal_at}
 
 -- nothing is read within these brackets

@@ -1,13 +1,12 @@
 -- The tokens in front of a reader.
-use Rattle.std.specs.Prelude.{ℕ, zero, suc, List, [], ◌∷◌, Bool, true, false, ◌&&◌, not, nat_le, nat_lt, length, if◌then◌else◌, ◌==◌}
-use Rattle.std.specs.Str.{bytes_eq}
+use Rattle.std.specs.Prelude.{ℕ, zero, suc, List, [], ◌∷◌, Bool, true, false, ◌&&◌, not, nat_le, nat_lt, length, if◌then◌else◌}
 use Rattle.std.specs.declared.result.Result.TheVariants.{Ok, Err}
-use Rattle.dms_base.specs.declared.op.Op.TheVariants.{Equal}
 use Rattle.dasdl_parse.specs.declared.fault.ParseFault.{ParseFault}
 use Rattle.dasdl_parse.specs.declared.fault.ParseFault.TheVariants.{BadCharacter, Expected, NumberRange, TooMany}
-use Rattle.dasdl_parse.specs.declared.token.Token.{Token}
-use Rattle.dasdl_parse.specs.declared.token.Token.TheVariants.{Word, Number, Long, Sign, Compare, Bad, End}
-use Rattle.dasdl_parse.specs.declared.token.Lexeme.{Lexeme}
+use Rattle.dms_tokens.specs.declared.token.Token.{Token}
+use Rattle.dms_tokens.specs.declared.token.Token.TheVariants.{Word, Number, Long, Bad}
+use Rattle.dms_tokens.specs.declared.token.Lexeme.{Lexeme}
+use Rattle.dms_tokens.specs.Cursors.{starts, is_word, is_the_sign, is_equal, one_at, past_comma}
 use Rattle.dasdl_parse.specs.Reads.{Read, Pass, ◌>>=◌}
 use Rattle.dms_base.specs.Name.{is_name}
 use Rattle.dms_base.specs.Reserved.{is_reserved}
@@ -21,56 +20,26 @@ abbrev pub fault_at : List Lexeme → ParseFault
 fault_at [] = Expected 0
 fault_at (l ∷ ls) = fault_of l.token l.place
 
-abbrev pub place_at : List Lexeme → ℕ
-place_at [] = 0
-place_at (l ∷ ls) = l.place
-
-abbrev pub is_word : List ℕ → Token → Bool
-is_word word (Word b) = bytes_eq b word
-is_word word token = false
-
-abbrev pub is_the_sign : ℕ → Token → Bool
-is_the_sign sign (Sign b) = b == sign
-is_the_sign sign token = false
-
-abbrev pub is_equal : Token → Bool
-is_equal (Compare Equal) = true
-is_equal token = false
-
-abbrev pub is_end : Token → Bool
-is_end End = true
-is_end token = false
-
 -- a word that isn't reserved, however long
 abbrev pub is_free : Token → Bool
 is_free (Word b) = not (is_reserved b)
 is_free token = false
 
-abbrev pub starts : (Token → Bool) → List Lexeme → Bool
-starts test [] = false
-starts test (l ∷ ls) = test l.token
-
--- a token that passes a test
-abbrev pub one_at : (Token → Bool) → List Lexeme → Pass
-one_at test [] = Err (Expected 0)
-one_at test (l ∷ ls) = if test l.token then Ok ls else Err (fault_of l.token l.place)
-
 -- this word
 unfoldable pub word_at : List ℕ → List Lexeme → Pass
-word_at word ts = one_at (is_word word) ts
+word_at word ts = one_at fault_at (is_word word) ts
 
 -- this sign
 unfoldable pub sign_at : ℕ → List Lexeme → Pass
-sign_at sign ts = one_at (is_the_sign sign) ts
+sign_at sign ts = one_at fault_at (is_the_sign sign) ts
 
 -- the sign =
 unfoldable pub equal_at : List Lexeme → Pass
-equal_at ts = one_at is_equal ts
+equal_at ts = one_at fault_at is_equal ts
 
 -- a comma where there is one
 unfoldable pub comma_at : List Lexeme → Pass
-comma_at [] = Ok []
-comma_at (l ∷ ls) = if is_the_sign 44 l.token then Ok ls else Ok (l ∷ ls)
+comma_at ts = Ok (past_comma ts)
 
 -- a name is a word of at most 30 bytes that isn't reserved (each word of a text has the form of one)
 abbrev pub name_of : Token → ℕ → List Lexeme → Read (List ℕ)

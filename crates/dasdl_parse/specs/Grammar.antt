@@ -4,7 +4,7 @@ use Rattle.std.specs.declared.result.Result.{Result}
 use Rattle.std.specs.declared.result.Result.TheVariants.{Ok, Err}
 use Rattle.dasdl_parse.specs.declared.fault.ParseFault.{ParseFault}
 use Rattle.dasdl_parse.specs.declared.fault.ParseFault.TheVariants.{TooMany}
-use Rattle.dasdl_parse.specs.declared.token.Lexeme.{Lexeme}
+use Rattle.dms_tokens.specs.declared.token.Lexeme.{Lexeme}
 use Rattle.dasdl_parse.specs.Reads.{Read, ◌>>=◌}
 use Rattle.dasdl_parse.specs.declared.schema.Parameters.{Parameters}
 use Rattle.dasdl_parse.specs.declared.schema.Schema.{Schema}
@@ -18,13 +18,14 @@ use Rattle.dasdl_parse.specs.declared.grammar.DataSetOptions.{DataSetOptions}
 use Rattle.dasdl_parse.specs.declared.grammar.Open.{Open}
 use Rattle.dasdl_parse.specs.declared.grammar.Open.TheVariants.{Outside, One, Two, Three}
 use Rattle.dasdl_parse.specs.declared.grammar.Progress.{Progress}
-use Rattle.dasdl_parse.specs.Cursors.{fault_at, place_at, starts, is_word, is_the_sign, is_end, word_at, sign_at, comma_at, name_at, turns_at, until_semicolon}
+use Rattle.dms_tokens.specs.Cursors.{place_at, starts, is_word, is_the_sign, is_end}
+use Rattle.dasdl_parse.specs.Cursors.{fault_at, word_at, sign_at, comma_at, name_at, turns_at, until_semicolon}
 use Rattle.dasdl_parse.specs.Parameters.{parameters_at, audit_at}
 use Rattle.dasdl_parse.specs.Kinds.{starts_kind}
 use Rattle.dasdl_parse.specs.Items.{item_at, group_at, link_at}
 use Rattle.dasdl_parse.specs.Conditions.{cond_decl_at}
 use Rattle.dasdl_parse.specs.Sets.{population_at, set_at, or_else}
-use Rattle.dasdl_parse.specs.Tokens.{tokens_of}
+use Rattle.dms_tokens.specs.Tokens.{tokens_of}
 
 -- the items of the innermost data set that is open
 abbrev pub items_of : Open → ℕ

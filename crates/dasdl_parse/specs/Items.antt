@@ -3,13 +3,14 @@ use Rattle.std.specs.Prelude.{ℕ, ◌+◌, List, [], ◌∷◌, ◌++◌, Bool,
 use Rattle.std.specs.declared.result.Result.TheVariants.{Ok, Err}
 use Rattle.dms_base.specs.declared.kind.Literal.TheVariants.{Null}
 use Rattle.dasdl_parse.specs.declared.fault.ParseFault.TheVariants.{TooMany}
-use Rattle.dasdl_parse.specs.declared.token.Lexeme.{Lexeme}
+use Rattle.dms_tokens.specs.declared.token.Lexeme.{Lexeme}
 use Rattle.dasdl_parse.specs.Reads.{Read, ◌>>=◌}
 use Rattle.dasdl_parse.specs.declared.declarations.ItemDecl.{ItemDecl}
 use Rattle.dasdl_parse.specs.declared.declarations.LinkDecl.{LinkDecl}
 use Rattle.dasdl_parse.specs.declared.items.ItemOptions.{ItemOptions}
 use Rattle.dasdl_parse.specs.declared.items.GroupItems.{GroupItems}
-use Rattle.dasdl_parse.specs.Cursors.{fault_at, place_at, starts, is_word, word_at, sign_at, equal_at, comma_at, name_at, turns_at, until_close, until_semicolon}
+use Rattle.dms_tokens.specs.Cursors.{place_at, starts, is_word}
+use Rattle.dasdl_parse.specs.Cursors.{fault_at, word_at, sign_at, equal_at, comma_at, name_at, turns_at, until_close, until_semicolon}
 use Rattle.dasdl_parse.specs.Kinds.{literal_at, kind_at, starts_kind}
 
 abbrev pub no_options : ItemOptions

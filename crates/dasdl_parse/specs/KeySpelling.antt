@@ -1,8 +1,8 @@
 -- What the tokens of a key are: one part, or parts in brackets with a comma between two.
 use Rattle.std.specs.Prelude.{ℕ, List, [], ◌∷◌, ◌++◌, Bool, true, false, codes, IsTrue}
 use Rattle.dms_base.specs.Name.{is_name}
-use Rattle.dasdl_parse.specs.declared.token.Token.{Token}
-use Rattle.dasdl_parse.specs.declared.token.Token.TheVariants.{Word, Sign}
+use Rattle.dms_tokens.specs.declared.token.Token.{Token}
+use Rattle.dms_tokens.specs.declared.token.Token.TheVariants.{Word, Sign}
 use Rattle.dasdl_parse.specs.declared.declarations.PartDecl.{PartDecl}
 
 -- ASCENDING where no direction is said

@@ -9,19 +9,13 @@ use Rattle.dms_base.specs.declared.kind.Literal.{Literal}
 use Rattle.dms_base.specs.declared.kind.Literal.TheVariants.{Null, Text, Number as Amount, Bool as Boolean}
 use Rattle.dms_base.specs.Text.{text_of}
 use Rattle.dasdl_parse.specs.declared.fault.ParseFault.TheVariants.{BadCharacter, Expected, NumberRange}
-use Rattle.dasdl_parse.specs.declared.token.Token.{Token}
-use Rattle.dasdl_parse.specs.declared.token.Token.TheVariants.{Word, Number, Decimal, Long, Quoted}
-use Rattle.dasdl_parse.specs.declared.token.Lexeme.{Lexeme}
+use Rattle.dms_tokens.specs.declared.token.Token.{Token}
+use Rattle.dms_tokens.specs.declared.token.Token.TheVariants.{Word, Number, Decimal, Long, Quoted}
+use Rattle.dms_tokens.specs.declared.token.Lexeme.{Lexeme}
 use Rattle.dasdl_parse.specs.Reads.{Read, ◌>>=◌}
-use Rattle.dasdl_parse.specs.Lexing.{is_digit, with_digit}
-use Rattle.dasdl_parse.specs.Cursors.{fault_of, starts, is_word, is_the_sign, word_at, sign_at, number_at}
-
--- TRUE, FALSE or NULL
-abbrev pub constant : List ℕ → Option Literal
-constant b =
-    if bytes_eq b (codes "TRUE") then Some (Boolean true)
-    else (if bytes_eq b (codes "FALSE") then Some (Boolean false)
-    else (if bytes_eq b (codes "NULL") then Some Null else None))
+use Rattle.dms_tokens.specs.Lexing.{is_digit, with_digit}
+use Rattle.dms_tokens.specs.Cursors.{starts, is_word, is_the_sign, constant}
+use Rattle.dasdl_parse.specs.Cursors.{fault_of, word_at, sign_at, number_at}
 
 abbrev pub constant_of : Option Literal → ℕ → List Lexeme → Read Literal
 constant_of (Some literal) place ls = Ok (literal, ls)

@@ -8,11 +8,9 @@ pub mod Items
 pub mod KeySpelling
 pub mod KindSpelling
 pub mod Kinds
-pub mod Lexing
 pub mod OptionSpelling
 pub mod Parameters
 pub mod Reads
-pub mod Tokens
 pub mod Sets
 pub mod TreeCodes
 pub mod Trees

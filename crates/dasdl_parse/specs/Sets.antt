@@ -3,13 +3,14 @@ use Rattle.std.specs.Prelude.{ℕ, List, [], ◌∷◌, ◌++◌, Bool, true, fa
 use Rattle.std.specs.declared.option.Option.{Option}
 use Rattle.std.specs.declared.result.Result.TheVariants.{Ok, Err}
 use Rattle.dasdl_parse.specs.declared.fault.ParseFault.TheVariants.{TooMany}
-use Rattle.dasdl_parse.specs.declared.token.Lexeme.{Lexeme}
+use Rattle.dms_tokens.specs.declared.token.Lexeme.{Lexeme}
 use Rattle.dasdl_parse.specs.Reads.{Read, ◌>>=◌}
 use Rattle.dasdl_parse.specs.declared.declarations.PartDecl.{PartDecl}
 use Rattle.dasdl_parse.specs.declared.declarations.KeyDecl.{KeyDecl}
 use Rattle.dasdl_parse.specs.declared.declarations.SetDecl.{SetDecl}
 use Rattle.dasdl_parse.specs.declared.sets.SetOptions.{SetOptions}
-use Rattle.dasdl_parse.specs.Cursors.{fault_at, place_at, starts, is_word, is_the_sign, is_free, word_at, sign_at, equal_at, comma_at, name_at, number_at, turns_at, until_close, until_semicolon}
+use Rattle.dms_tokens.specs.Cursors.{place_at, starts, is_word, is_the_sign}
+use Rattle.dasdl_parse.specs.Cursors.{fault_at, is_free, word_at, sign_at, equal_at, comma_at, name_at, number_at, turns_at, until_close, until_semicolon}
 use Rattle.dasdl_parse.specs.Conditions.{cond_decl_at}
 
 -- [ ASCENDING | DESCENDING ]

@@ -3,12 +3,12 @@ ghost use Rattle.dasdl_parse.specs.Reads.{Takes};
 ghost use Rattle.dasdl_parse.specs.Conditions.{completed, op_at, compare_at, compare_turn_at, not_turn_at, open_turn_at, factor_turn_at, and_turn_at, or_turn_at, close_turn_at, join_turn_at, cond_turn_at, cond_done, cond_at, cond_decl_at};
 
 use crate::conditions::{Branch, CondDecl};
-use crate::cursor::Cursor;
+use crate::expect::{expect_sign, expect_word, fault, read_name, starts_free};
 use crate::fault::ParseFault;
 use crate::levels::{Level, Levels};
-use crate::token::Token;
 use crate::turns::{Turns, read_turns};
 use dms_base::{Memory, Op};
+use dms_tokens::{Cursor, Token};
 use std::alloc::Global;
 
 /// The nodes that a condition may have: comparisons, NOT, AND and OR.
@@ -60,7 +60,7 @@ fn op(cursor: &mut Cursor<'_>) -> Result<Op, ParseFault>
         return Err(ParseFault::Expected(0));
     };
     let Token::Compare(op) = &first.token else {
-        return Err(cursor.fault());
+        return Err(fault(cursor));
     };
     cursor.skip();
     Ok(*op)
@@ -71,7 +71,7 @@ fn op(cursor: &mut Cursor<'_>) -> Result<Op, ParseFault>
 fn compare(cursor: &mut Cursor<'_>) -> Result<Branch, ParseFault>
     ensures { Takes result cursor.new (compare_at cursor.old) }
 {
-    let name = cursor.name()?;
+    let name = read_name(cursor)?;
     let op = op(cursor)?;
     let literal = crate::kinds::literal(cursor)?;
     Ok(Branch::compare(name, op, literal))
@@ -81,8 +81,8 @@ fn compare(cursor: &mut Cursor<'_>) -> Result<Branch, ParseFault>
 fn compare_turn(state: CondRead, cursor: &mut Cursor<'_>) -> Result<CondRead, ParseFault>
     ensures { Takes result cursor.new (compare_turn_at state cursor.old) }
 {
-    if !cursor.starts_free() {
-        return Err(cursor.fault());
+    if !starts_free(cursor) {
+        return Err(fault(cursor));
     }
     if state.nodes >= NODES {
         return Err(ParseFault::TooMany(100));
@@ -105,7 +105,7 @@ fn not_turn(state: CondRead, cursor: &mut Cursor<'_>) -> Result<CondRead, ParseF
     if state.nodes >= NODES || state.level.nots >= NODES {
         return Err(ParseFault::TooMany(100));
     }
-    cursor.word(b"NOT")?;
+    expect_word(cursor, b"NOT")?;
     let CondRead {
         outer,
         level,
@@ -129,7 +129,7 @@ fn not_turn(state: CondRead, cursor: &mut Cursor<'_>) -> Result<CondRead, ParseF
 fn open_turn(state: CondRead, cursor: &mut Cursor<'_>) -> Result<CondRead, ParseFault>
     ensures { Takes result cursor.new (open_turn_at state cursor.old) }
 {
-    cursor.sign(b'(')?;
+    expect_sign(cursor, b'(')?;
     let mut outer = state.outer;
     outer.push(state.level)?;
     Ok(CondRead {
@@ -171,7 +171,7 @@ fn and_turn(
     if nodes >= NODES {
         return Err(ParseFault::TooMany(100));
     }
-    cursor.word(b"AND")?;
+    expect_word(cursor, b"AND")?;
     Ok(CondRead {
         outer,
         level: Level {
@@ -197,7 +197,7 @@ fn or_turn(
     if nodes >= NODES {
         return Err(ParseFault::TooMany(100));
     }
-    cursor.word(b"OR")?;
+    expect_word(cursor, b"OR")?;
     let either = left.with_or(cursor.alloc(), level.either)?;
     Ok(CondRead {
         outer,
@@ -223,9 +223,9 @@ fn close_turn(
     ensures { Takes result cursor.new (close_turn_at outer inner nodes left cursor.old) }
 {
     match outer.pop() {
-        None => Err(cursor.fault()),
+        None => Err(fault(cursor)),
         Some(level) => {
-            cursor.sign(b')')?;
+            expect_sign(cursor, b')')?;
             let factor = left.with_or(cursor.alloc(), inner.either)?;
             let next = completed(cursor.alloc(), outer, level, nodes, factor)?;
             Ok(next)
@@ -309,7 +309,7 @@ fn cond(cursor: &mut Cursor<'_>) -> Result<Branch, ParseFault>
         nodes: _,
     } = all;
     match done {
-        None => Err(cursor.fault()),
+        None => Err(fault(cursor)),
         Some(left) => {
             let whole = left.with_or(cursor.alloc(), level.either)?;
             Ok(whole)
@@ -323,7 +323,7 @@ pub fn cond_decl(cursor: &mut Cursor<'_>, word: &[u8]) -> Result<CondDecl, Parse
     ensures { Takes result cursor.new (cond_decl_at word.now cursor.old) }
 {
     let place = cursor.place();
-    cursor.word(word)?;
+    expect_word(cursor, word)?;
     let tree = cond(cursor)?;
     Ok(tree.declared(place))
 }

@@ -74,6 +74,7 @@ impl Model for Branch {
 }
 
 impl Branch {
+    /// The item with this name compares with a literal.
     pub fn compare(name: Name, op: Op, literal: Literal) -> Branch
         ensures { result ≡ Test name op literal }
     {

@@ -5,19 +5,18 @@ ghost use Rattle.dasdl_parse.specs.Grammar.{items_of, with_items, opened, closed
 
 use crate::cond::cond_decl;
 use crate::conditions::CondDecl;
-use crate::cursor::Cursor;
 use crate::declarations::{DataSetDecl, DataSetEnd, Declaration, GroupDecl};
+use crate::expect::{expect_sign, expect_word, fault, read_name};
 use crate::fault::ParseFault;
 use crate::items::{ITEMS, group, item, link};
 use crate::kinds::starts_kind;
-use crate::lexer::tokens;
 use crate::lists::Declarations;
 use crate::parameters::{AuditPairs, Pairs, audit, parameters};
 use crate::schema::{Parameters, Schema};
 use crate::sets::{POPULATION, population, set};
-use crate::token::Lexeme;
 use crate::turns::{Turns, read_turns};
 use dms_base::{Memory, Name};
+use dms_tokens::{Cursor, Lexeme, tokens};
 use std::alloc::Global;
 
 /// The structures that a schema may have.
@@ -173,7 +172,7 @@ fn parameters_turn(mut state: Progress, cursor: &mut Cursor<'_>) -> Result<Progr
     ensures { Takes result cursor.new (parameters_turn_at state cursor.old) }
 {
     if state.has_parameters {
-        return Err(cursor.fault());
+        return Err(fault(cursor));
     }
     let said = parameters(cursor)?;
     state.parameters = with_pairs(state.parameters, said);
@@ -186,7 +185,7 @@ fn audit_turn(mut state: Progress, cursor: &mut Cursor<'_>) -> Result<Progress, 
     ensures { Takes result cursor.new (audit_turn_at state cursor.old) }
 {
     if state.has_audit {
-        return Err(cursor.fault());
+        return Err(fault(cursor));
     }
     let said = audit(cursor)?;
     state.parameters = with_audit_pairs(state.parameters, said);
@@ -268,7 +267,7 @@ fn link_turn(
     ensures { Takes result cursor.new (link_turn_at state place name cursor.old) }
 {
     if !cursor.starts_word(b"LINK") {
-        return Err(cursor.fault());
+        return Err(fault(cursor));
     }
     let items = state.within.items();
     if items >= ITEMS {
@@ -295,7 +294,7 @@ fn restart(cursor: &mut Cursor<'_>) -> Result<bool, ParseFault>
     ensures { Takes result cursor.new (restart_at cursor.old) }
 {
     if cursor.starts_word(b"RESTART") {
-        cursor.word(b"RESTART")?;
+        expect_word(cursor, b"RESTART")?;
         return Ok(true);
     }
     Ok(false)
@@ -307,9 +306,9 @@ fn data_set(cursor: &mut Cursor<'_>, place: u32, name: Name) -> Result<DataSetDe
     ensures { Takes result cursor.new (data_set_at place name cursor.old) }
 {
     let restart = restart(cursor)?;
-    cursor.word(b"DATA")?;
-    cursor.word(b"SET")?;
-    cursor.sign(b'(')?;
+    expect_word(cursor, b"DATA")?;
+    expect_word(cursor, b"SET")?;
+    expect_sign(cursor, b'(')?;
     Ok(DataSetDecl {
         place,
         name,
@@ -387,7 +386,7 @@ fn declared_turn(
         return structure_turn(state, cursor, place, name);
     }
     if !state.within.is_inside() {
-        return Err(cursor.fault());
+        return Err(fault(cursor));
     }
     if starts_kind(cursor) {
         return item_turn(state, cursor, place, name);
@@ -415,7 +414,7 @@ fn data_set_option(
         options.population = Some(said);
         return Ok(options);
     }
-    Err(cursor.fault())
+    Err(fault(cursor))
 }
 
 impl Turns for DataSetOptions {
@@ -427,7 +426,7 @@ impl Turns for DataSetOptions {
         cursor.starts_sign(b';')
     }
 
-    #[tactic(auto, unfolding(crate::specs::Grammar::next_data_set_option_at))]
+    #[tactic(auto, unfolding(crate::specs::Grammar::next_data_set_option_at, crate::specs::Cursors::comma_at))]
     fn turn(self, cursor: &mut Cursor<'_>) -> Result<DataSetOptions, ParseFault> {
         cursor.comma();
         data_set_option(self, cursor)
@@ -439,13 +438,13 @@ impl Turns for DataSetOptions {
 fn data_set_end(cursor: &mut Cursor<'_>) -> Result<DataSetEnd, ParseFault>
     ensures { Takes result cursor.new (data_set_end_at cursor.old) }
 {
-    cursor.sign(b')')?;
+    expect_sign(cursor, b')')?;
     let nothing = DataSetOptions {
         verify: None,
         population: None,
     };
     let said = read_turns(nothing, cursor)?;
-    cursor.sign(b';')?;
+    expect_sign(cursor, b';')?;
     Ok(DataSetEnd {
         verify: said.verify,
         population: said.population.unwrap_or(POPULATION),
@@ -476,7 +475,7 @@ fn named_turn(state: Progress, cursor: &mut Cursor<'_>) -> Result<Progress, Pars
     ensures { Takes result cursor.new (named_turn_at state cursor.old) }
 {
     let place = cursor.place();
-    let name = cursor.name()?;
+    let name = read_name(cursor)?;
     declared_turn(state, cursor, place, name)
 }
 

@@ -3,13 +3,14 @@ ghost use Rattle.dasdl_parse.specs.Reads.{Takes};
 ghost use Rattle.dasdl_parse.specs.Cursors.{until_close, until_semicolon};
 ghost use Rattle.dasdl_parse.specs.Items.{item_option_at, next_item_option_at, item_at, group_item_at, next_group_item_at, group_at, counted_at, link_at};
 
-use crate::cursor::Cursor;
 use crate::declarations::{ItemDecl, LinkDecl};
+use crate::expect::{expect_equal, expect_sign, expect_word, fault, read_name};
 use crate::fault::ParseFault;
 use crate::kinds::{kind, literal, starts_kind};
 use crate::lists::ItemDecls;
 use crate::turns::{Turns, read_turns};
 use dms_base::{Literal, Name};
+use dms_tokens::Cursor;
 
 /// The items that a data set may have, links included.
 pub const ITEMS: u8 = 60;
@@ -36,15 +37,15 @@ fn item_option(options: ItemOptions, cursor: &mut Cursor<'_>) -> Result<ItemOpti
     ensures { Takes result cursor.new (item_option_at options cursor.old) }
 {
     if cursor.starts_word(b"REQUIRED") && !options.required {
-        cursor.word(b"REQUIRED")?;
+        expect_word(cursor, b"REQUIRED")?;
         return Ok(ItemOptions {
             required: true,
             initial: options.initial,
         });
     }
     if cursor.starts_word(b"INITIALVALUE") && options.initial.is_none() {
-        cursor.word(b"INITIALVALUE")?;
-        cursor.equal()?;
+        expect_word(cursor, b"INITIALVALUE")?;
+        expect_equal(cursor)?;
         let value = literal(cursor)?;
         return Ok(ItemOptions {
             required: options.required,
@@ -52,13 +53,13 @@ fn item_option(options: ItemOptions, cursor: &mut Cursor<'_>) -> Result<ItemOpti
         });
     }
     if cursor.starts_word(b"NULL") && options.initial.is_none() {
-        cursor.word(b"NULL")?;
+        expect_word(cursor, b"NULL")?;
         return Ok(ItemOptions {
             required: options.required,
             initial: Some(Literal::Null),
         });
     }
-    Err(cursor.fault())
+    Err(fault(cursor))
 }
 
 impl Turns for ItemOptions {
@@ -70,7 +71,7 @@ impl Turns for ItemOptions {
         cursor.starts_sign(b';')
     }
 
-    #[tactic(auto, unfolding(crate::specs::Items::next_item_option_at))]
+    #[tactic(auto, unfolding(crate::specs::Items::next_item_option_at, crate::specs::Cursors::comma_at))]
     fn turn(self, cursor: &mut Cursor<'_>) -> Result<ItemOptions, ParseFault> {
         cursor.comma();
         item_option(self, cursor)
@@ -88,7 +89,7 @@ pub fn item(cursor: &mut Cursor<'_>, place: u32, name: Name) -> Result<ItemDecl,
         initial: None,
     };
     let said = read_turns(nothing, cursor)?;
-    cursor.sign(b';')?;
+    expect_sign(cursor, b';')?;
     Ok(ItemDecl {
         place,
         name,
@@ -108,7 +109,7 @@ fn group_item(
     ensures { Takes result cursor.new (group_item_at group place name cursor.old) }
 {
     if !starts_kind(cursor) {
-        return Err(cursor.fault());
+        return Err(fault(cursor));
     }
     if group.count >= ITEMS {
         return Err(ParseFault::TooMany(60));
@@ -131,7 +132,7 @@ impl Turns for GroupItems {
     #[tactic(auto, unfolding(crate::specs::Items::next_group_item_at))]
     fn turn(self, cursor: &mut Cursor<'_>) -> Result<GroupItems, ParseFault> {
         let place = cursor.place();
-        let name = cursor.name()?;
+        let name = read_name(cursor)?;
         group_item(self, cursor, place, name)
     }
 }
@@ -141,16 +142,16 @@ impl Turns for GroupItems {
 pub fn group(cursor: &mut Cursor<'_>, count: u8) -> Result<GroupItems, ParseFault>
     ensures { Takes result cursor.new (group_at count cursor.old) }
 {
-    cursor.word(b"GROUP")?;
-    cursor.sign(b'(')?;
+    expect_word(cursor, b"GROUP")?;
+    expect_sign(cursor, b'(')?;
     let nothing = GroupItems {
         items: ItemDecls::new(cursor.alloc()),
         count,
     };
     let first = nothing.turn(cursor)?;
     let all = read_turns(first, cursor)?;
-    cursor.sign(b')')?;
-    cursor.sign(b';')?;
+    expect_sign(cursor, b')')?;
+    expect_sign(cursor, b';')?;
     Ok(all)
 }
 
@@ -165,7 +166,7 @@ fn counted(cursor: &mut Cursor<'_>, counted_links: u16) -> Result<bool, ParseFau
     if counted_links >= COUNTED_LINKS {
         return Err(ParseFault::TooMany(4_000));
     }
-    cursor.word(b"COUNTED")?;
+    expect_word(cursor, b"COUNTED")?;
     Ok(true)
 }
 
@@ -180,11 +181,11 @@ pub fn link(
     ensures gives { Takes result cursor.new (link_at counted_links place name cursor.old) }
     ensures within { IfOk result (λ l. l.counted ≡ true → counted_links < 4000) }
 {
-    cursor.word(b"LINK")?;
-    cursor.word(b"TO")?;
-    let target = cursor.name()?;
+    expect_word(cursor, b"LINK")?;
+    expect_word(cursor, b"TO")?;
+    let target = read_name(cursor)?;
     let counted = counted(cursor, counted_links)?;
-    cursor.sign(b';')?;
+    expect_sign(cursor, b';')?;
     Ok(LinkDecl {
         place,
         name,

@@ -1,29 +1,12 @@
 ghost use Rattle.std.specs.Prelude.{◌≡◌, List, ℕ, ◌≤◌, ◌<◌, ◌^◌, IfOk, Bool};
 ghost use Rattle.dasdl_parse.specs.Reads.{Takes};
-ghost use Rattle.dasdl_parse.specs.Cursors.{starts};
-ghost use Rattle.dasdl_parse.specs.Kinds.{constant, literal_at, digits_from, joined, signed_width_at, is_any_word, width_at, size_at, places_at, alpha_at, field_at, decimal_at, truth_at, kind_at, starts_kind};
+ghost use Rattle.dms_tokens.specs.Cursors.{starts};
+ghost use Rattle.dasdl_parse.specs.Kinds.{literal_at, digits_from, joined, signed_width_at, is_any_word, width_at, size_at, places_at, alpha_at, field_at, decimal_at, truth_at, kind_at, starts_kind};
 
-use crate::bytes::{is_digit, with_digit};
-use crate::cursor::Cursor;
+use crate::expect::{expect_sign, expect_word, fault, read_number};
 use crate::fault::ParseFault;
-use crate::token::Token;
 use dms_base::{ItemKind, Literal, Text};
-
-/// TRUE, FALSE or NULL.
-fn constant(word: &[u8]) -> Option<Literal>
-    ensures { result ≡ constant word.now }
-{
-    if word == b"TRUE".as_slice() {
-        return Some(Literal::Bool(true));
-    }
-    if word == b"FALSE".as_slice() {
-        return Some(Literal::Bool(false));
-    }
-    if word == b"NULL".as_slice() {
-        return Some(Literal::Null);
-    }
-    None
-}
+use dms_tokens::{Cursor, Token, constant, is_digit, with_digit};
 
 /// A literal.
 #[tactic(auto, unfolding(crate::specs::Kinds::literal_at))]
@@ -45,7 +28,7 @@ pub fn literal(cursor: &mut Cursor<'_>) -> Result<Literal, ParseFault>
             None => return Err(ParseFault::Expected(first.place)),
             Some(literal) => literal,
         },
-        _ => return Err(cursor.fault()),
+        _ => return Err(fault(cursor)),
     };
     cursor.skip();
     Ok(literal)
@@ -92,11 +75,11 @@ fn signed_width(cursor: &mut Cursor<'_>) -> Result<(bool, u8), ParseFault>
         return Err(ParseFault::Expected(0));
     };
     let Token::Word(word) = &first.token else {
-        return Err(cursor.fault());
+        return Err(fault(cursor));
     };
     if word.as_slice() == b"S".as_slice() {
         cursor.skip();
-        let digits = cursor.number(1, 18)?;
+        let digits = read_number(cursor, 1, 18)?;
         return Ok((true, digits as u8));
     }
     match joined(word.as_slice()) {
@@ -131,7 +114,7 @@ fn width(cursor: &mut Cursor<'_>) -> Result<(bool, u8), ParseFault>
     if starts_any_word(cursor) {
         return signed_width(cursor);
     }
-    let digits = cursor.number(1, 18)?;
+    let digits = read_number(cursor, 1, 18)?;
     Ok((false, digits as u8))
 }
 
@@ -140,9 +123,9 @@ fn width(cursor: &mut Cursor<'_>) -> Result<(bool, u8), ParseFault>
 fn size(cursor: &mut Cursor<'_>, high: u8) -> Result<u8, ParseFault>
     ensures { Takes result cursor.new (size_at high cursor.old) }
 {
-    cursor.sign(b'(')?;
-    let number = cursor.number(1, u64::from(high))?;
-    cursor.sign(b')')?;
+    expect_sign(cursor, b'(')?;
+    let number = read_number(cursor, 1, u64::from(high))?;
+    expect_sign(cursor, b')')?;
     Ok(number as u8)
 }
 
@@ -154,8 +137,8 @@ fn places(cursor: &mut Cursor<'_>, high: u8) -> Result<u8, ParseFault>
     if !cursor.starts_sign(b',') {
         return Ok(0);
     }
-    cursor.sign(b',')?;
-    let number = cursor.number(0, u64::from(high))?;
+    expect_sign(cursor, b',')?;
+    let number = read_number(cursor, 0, u64::from(high))?;
     Ok(number as u8)
 }
 
@@ -163,7 +146,7 @@ fn places(cursor: &mut Cursor<'_>, high: u8) -> Result<u8, ParseFault>
 fn alpha(cursor: &mut Cursor<'_>) -> Result<ItemKind, ParseFault>
     ensures { Takes result cursor.new (alpha_at cursor.old) }
 {
-    cursor.word(b"ALPHA")?;
+    expect_word(cursor, b"ALPHA")?;
     let characters = size(cursor, 200)?;
     Ok(ItemKind::Alpha(characters))
 }
@@ -172,7 +155,7 @@ fn alpha(cursor: &mut Cursor<'_>) -> Result<ItemKind, ParseFault>
 fn field(cursor: &mut Cursor<'_>) -> Result<ItemKind, ParseFault>
     ensures { Takes result cursor.new (field_at cursor.old) }
 {
-    cursor.word(b"FIELD")?;
+    expect_word(cursor, b"FIELD")?;
     let bits = size(cursor, 48)?;
     Ok(ItemKind::Field(bits))
 }
@@ -181,11 +164,11 @@ fn field(cursor: &mut Cursor<'_>) -> Result<ItemKind, ParseFault>
 fn decimal(cursor: &mut Cursor<'_>) -> Result<ItemKind, ParseFault>
     ensures { Takes result cursor.new (decimal_at cursor.old) }
 {
-    cursor.word(b"NUMBER")?;
-    cursor.sign(b'(')?;
+    expect_word(cursor, b"NUMBER")?;
+    expect_sign(cursor, b'(')?;
     let (signed, digits) = width(cursor)?;
     let behind_point = places(cursor, digits)?;
-    cursor.sign(b')')?;
+    expect_sign(cursor, b')')?;
     Ok(ItemKind::Number(digits, behind_point, signed))
 }
 
@@ -193,7 +176,7 @@ fn decimal(cursor: &mut Cursor<'_>) -> Result<ItemKind, ParseFault>
 fn truth(cursor: &mut Cursor<'_>) -> Result<ItemKind, ParseFault>
     ensures { Takes result cursor.new (truth_at cursor.old) }
 {
-    cursor.word(b"BOOLEAN")?;
+    expect_word(cursor, b"BOOLEAN")?;
     Ok(ItemKind::Bool)
 }
 

@@ -1,9 +1,10 @@
 ghost use Rattle.std.specs.Prelude.{◌≡◌, ◌≤◌, ◌<◌, ◌++◌, ℕ, List, map, length, true, false, codes};
 ghost use Rattle.std.specs.declared.result.Result.TheVariants.{Ok};
-ghost use Rattle.dasdl_parse.specs.declared.token.Lexeme.{Lexeme};
+ghost use Rattle.dms_tokens.specs.declared.token.Lexeme.{Lexeme};
 ghost use Rattle.dasdl_parse.specs.TreeCodes.{Tree};
 ghost use Rattle.dasdl_parse.specs.Conditions.{cond_at};
-ghost use Rattle.dasdl_parse.specs.Cursors.{starts, is_word, is_the_sign, turns_at, until_semicolon};
+ghost use Rattle.dms_tokens.specs.Cursors.{starts, is_word, is_the_sign};
+ghost use Rattle.dasdl_parse.specs.Cursors.{turns_at, until_semicolon};
 ghost use Rattle.dasdl_parse.specs.declared.items.ItemOptions.{ItemOptions};
 ghost use Rattle.dasdl_parse.specs.Items.{next_item_option_at, no_options, item_at, link_at};
 ghost use Rattle.dasdl_parse.specs.OptionSpelling.{AreItemOptions};

@@ -37,6 +37,7 @@ impl Model for Levels {
 }
 
 impl Levels {
+    /// No level.
     pub fn new(alloc: Global) -> Levels
         ensures { result ≡ [] }
     {
@@ -45,12 +46,14 @@ impl Levels {
         }
     }
 
+    /// Whether no level is outside.
     pub fn is_empty(&self) -> bool
         ensures { result ≡ is_nil self.now }
     {
         self.kept.is_empty()
     }
 
+    /// Puts one in front.
     pub fn push(&mut self, level: Level) -> Result<(), Memory>
         ensures ok { OnOk result (self.new ≡ level ∷ self.old) }
         ensures err { OnErr result (self.new ≡ self.old) }

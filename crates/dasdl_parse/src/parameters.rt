@@ -1,11 +1,13 @@
 ghost use Rattle.std.specs.Prelude.{◌≡◌, List, ℕ, ◌<◌, ◌^◌};
 ghost use Rattle.dasdl_parse.specs.Reads.{Takes};
-ghost use Rattle.dasdl_parse.specs.Cursors.{starts, is_the_sign, until_close};
+ghost use Rattle.dms_tokens.specs.Cursors.{starts, is_the_sign};
+ghost use Rattle.dasdl_parse.specs.Cursors.{until_close};
 ghost use Rattle.dasdl_parse.specs.Parameters.{setting_at, measure_at, pair_at, next_pair_at, parameters_at, audit_pair_at, next_audit_pair_at, audit_at};
 
-use crate::cursor::Cursor;
+use crate::expect::{expect_equal, expect_sign, expect_word, fault, read_number};
 use crate::fault::ParseFault;
 use crate::turns::{Turns, read_turns};
+use dms_tokens::Cursor;
 
 /// What PARAMETERS has said so far.
 #[derive(Clone, Copy)]
@@ -27,9 +29,9 @@ pub struct AuditPairs {
 fn setting(cursor: &mut Cursor<'_>, word: &[u8], low: u16, high: u16) -> Result<u16, ParseFault>
     ensures { Takes result cursor.new (setting_at word.now low high cursor.old) }
 {
-    cursor.word(word)?;
-    cursor.equal()?;
-    let number = cursor.number(u64::from(low), u64::from(high))?;
+    expect_word(cursor, word)?;
+    expect_equal(cursor)?;
+    let number = read_number(cursor, u64::from(low), u64::from(high))?;
     Ok(number as u16)
 }
 
@@ -45,7 +47,7 @@ fn measure(
     ensures { Takes result cursor.new (measure_at word.now low high unit.now cursor.old) }
 {
     let number = setting(cursor, word, low, high)?;
-    cursor.word(unit)?;
+    expect_word(cursor, unit)?;
     Ok(number)
 }
 
@@ -74,7 +76,7 @@ fn pair(pairs: Pairs, cursor: &mut Cursor<'_>) -> Result<Pairs, ParseFault>
             ..pairs
         });
     }
-    Err(cursor.fault())
+    Err(fault(cursor))
 }
 
 impl Turns for Pairs {
@@ -88,7 +90,7 @@ impl Turns for Pairs {
 
     #[tactic(auto, unfolding(crate::specs::Parameters::next_pair_at))]
     fn turn(self, cursor: &mut Cursor<'_>) -> Result<Pairs, ParseFault> {
-        cursor.sign(b',')?;
+        expect_sign(cursor, b',')?;
         pair(self, cursor)
     }
 }
@@ -98,8 +100,8 @@ impl Turns for Pairs {
 pub fn parameters(cursor: &mut Cursor<'_>) -> Result<Pairs, ParseFault>
     ensures { Takes result cursor.new (parameters_at cursor.old) }
 {
-    cursor.word(b"PARAMETERS")?;
-    cursor.sign(b'(')?;
+    expect_word(cursor, b"PARAMETERS")?;
+    expect_sign(cursor, b'(')?;
     let nothing = Pairs {
         syncpoint: None,
         controlpoint: None,
@@ -107,8 +109,8 @@ pub fn parameters(cursor: &mut Cursor<'_>) -> Result<Pairs, ParseFault>
     };
     let first = pair(nothing, cursor)?;
     let all = read_turns(first, cursor)?;
-    cursor.sign(b')')?;
-    cursor.sign(b';')?;
+    expect_sign(cursor, b')')?;
+    expect_sign(cursor, b';')?;
     Ok(all)
 }
 
@@ -130,7 +132,7 @@ fn audit_pair(pairs: AuditPairs, cursor: &mut Cursor<'_>) -> Result<AuditPairs, 
             ..pairs
         });
     }
-    Err(cursor.fault())
+    Err(fault(cursor))
 }
 
 impl Turns for AuditPairs {
@@ -144,7 +146,7 @@ impl Turns for AuditPairs {
 
     #[tactic(auto, unfolding(crate::specs::Parameters::next_audit_pair_at))]
     fn turn(self, cursor: &mut Cursor<'_>) -> Result<AuditPairs, ParseFault> {
-        cursor.sign(b',')?;
+        expect_sign(cursor, b',')?;
         audit_pair(self, cursor)
     }
 }
@@ -154,16 +156,16 @@ impl Turns for AuditPairs {
 pub fn audit(cursor: &mut Cursor<'_>) -> Result<AuditPairs, ParseFault>
     ensures { Takes result cursor.new (audit_at cursor.old) }
 {
-    cursor.word(b"AUDIT")?;
-    cursor.word(b"TRAIL")?;
-    cursor.sign(b'(')?;
+    expect_word(cursor, b"AUDIT")?;
+    expect_word(cursor, b"TRAIL")?;
+    expect_sign(cursor, b'(')?;
     let nothing = AuditPairs {
         blocks: None,
         files: None,
     };
     let first = audit_pair(nothing, cursor)?;
     let all = read_turns(first, cursor)?;
-    cursor.sign(b')')?;
-    cursor.sign(b';')?;
+    expect_sign(cursor, b')')?;
+    expect_sign(cursor, b';')?;
     Ok(all)
 }

@@ -5,12 +5,15 @@ ghost use Rattle.dasdl_parse.specs.Sets.{direction_at, part_at, next_part_at, pa
 
 use crate::cond::cond_decl;
 use crate::conditions::CondDecl;
-use crate::cursor::Cursor;
 use crate::declarations::{KeyDecl, PartDecl, SetDecl};
+use crate::expect::{
+    expect_equal, expect_sign, expect_word, fault, read_name, read_number, starts_free,
+};
 use crate::fault::ParseFault;
 use crate::lists::PartDecls;
 use crate::turns::{Turns, read_turns};
 use dms_base::Name;
+use dms_tokens::Cursor;
 
 /// The parts that a key may have.
 pub const PARTS: usize = 16;
@@ -34,11 +37,11 @@ fn direction(cursor: &mut Cursor<'_>) -> Result<bool, ParseFault>
     ensures { Takes result cursor.new (direction_at cursor.old) }
 {
     if cursor.starts_word(b"ASCENDING") {
-        cursor.word(b"ASCENDING")?;
+        expect_word(cursor, b"ASCENDING")?;
         return Ok(false);
     }
     if cursor.starts_word(b"DESCENDING") {
-        cursor.word(b"DESCENDING")?;
+        expect_word(cursor, b"DESCENDING")?;
         return Ok(true);
     }
     Ok(false)
@@ -49,13 +52,13 @@ fn direction(cursor: &mut Cursor<'_>) -> Result<bool, ParseFault>
 fn part(mut parts: PartDecls, cursor: &mut Cursor<'_>) -> Result<PartDecls, ParseFault>
     ensures { Takes result cursor.new (part_at parts cursor.old) }
 {
-    if !cursor.starts_free() {
-        return Err(cursor.fault());
+    if !starts_free(cursor) {
+        return Err(fault(cursor));
     }
     if parts.as_slice().len() >= PARTS {
         return Err(ParseFault::TooMany(16));
     }
-    let name = cursor.name()?;
+    let name = read_name(cursor)?;
     let descending = direction(cursor)?;
     parts.push(PartDecl { name, descending })?;
     Ok(parts)
@@ -72,7 +75,7 @@ impl Turns for PartDecls {
 
     #[tactic(auto, unfolding(crate::specs::Sets::next_part_at))]
     fn turn(self, cursor: &mut Cursor<'_>) -> Result<PartDecls, ParseFault> {
-        cursor.sign(b',')?;
+        expect_sign(cursor, b',')?;
         part(self, cursor)
     }
 }
@@ -86,10 +89,10 @@ fn parts(cursor: &mut Cursor<'_>) -> Result<PartDecls, ParseFault>
     if !cursor.starts_sign(b'(') {
         return part(nothing, cursor);
     }
-    cursor.sign(b'(')?;
+    expect_sign(cursor, b'(')?;
     let first = part(nothing, cursor)?;
     let all = read_turns(first, cursor)?;
-    cursor.sign(b')')?;
+    expect_sign(cursor, b')')?;
     Ok(all)
 }
 
@@ -99,8 +102,8 @@ fn key(cursor: &mut Cursor<'_>) -> Result<KeyDecl, ParseFault>
     ensures { Takes result cursor.new (key_at cursor.old) }
 {
     let place = cursor.place();
-    cursor.word(b"KEY")?;
-    cursor.word(b"IS")?;
+    expect_word(cursor, b"KEY")?;
+    expect_word(cursor, b"IS")?;
     let parts = parts(cursor)?;
     Ok(KeyDecl { place, parts })
 }
@@ -110,9 +113,9 @@ fn key(cursor: &mut Cursor<'_>) -> Result<KeyDecl, ParseFault>
 pub fn population(cursor: &mut Cursor<'_>) -> Result<u32, ParseFault>
     ensures { Takes result cursor.new (population_at cursor.old) }
 {
-    cursor.word(b"POPULATION")?;
-    cursor.equal()?;
-    let number = cursor.number(1, 1_000_000)?;
+    expect_word(cursor, b"POPULATION")?;
+    expect_equal(cursor)?;
+    let number = read_number(cursor, 1, 1_000_000)?;
     Ok(number as u32)
 }
 
@@ -122,11 +125,11 @@ fn duplicates(cursor: &mut Cursor<'_>) -> Result<bool, ParseFault>
     ensures { Takes result cursor.new (duplicates_at cursor.old) }
 {
     if cursor.starts_word(b"DUPLICATES") {
-        cursor.word(b"DUPLICATES")?;
+        expect_word(cursor, b"DUPLICATES")?;
         return Ok(true);
     }
-    cursor.word(b"NO")?;
-    cursor.word(b"DUPLICATES")?;
+    expect_word(cursor, b"NO")?;
+    expect_word(cursor, b"DUPLICATES")?;
     Ok(false)
 }
 
@@ -136,12 +139,12 @@ fn form(cursor: &mut Cursor<'_>) -> Result<u8, ParseFault>
     ensures { Takes result cursor.new (form_at cursor.old) }
 {
     if cursor.starts_word(b"INDEX") {
-        cursor.word(b"INDEX")?;
-        cursor.word(b"SEQUENTIAL")?;
+        expect_word(cursor, b"INDEX")?;
+        expect_word(cursor, b"SEQUENTIAL")?;
         return Ok(1);
     }
-    cursor.word(b"ORDERED")?;
-    cursor.word(b"LIST")?;
+    expect_word(cursor, b"ORDERED")?;
+    expect_word(cursor, b"LIST")?;
     Ok(2)
 }
 
@@ -177,7 +180,7 @@ fn plain_option(mut options: SetOptions, cursor: &mut Cursor<'_>) -> Result<SetO
         options.population = Some(said);
         return Ok(options);
     }
-    Err(cursor.fault())
+    Err(fault(cursor))
 }
 
 /// An option of a set.
@@ -207,7 +210,7 @@ impl Turns for SetOptions {
         cursor.starts_sign(b';')
     }
 
-    #[tactic(auto, unfolding(crate::specs::Sets::next_set_option_at))]
+    #[tactic(auto, unfolding(crate::specs::Sets::next_set_option_at, crate::specs::Cursors::comma_at))]
     fn turn(self, cursor: &mut Cursor<'_>) -> Result<SetOptions, ParseFault> {
         cursor.comma();
         set_option(self, cursor)
@@ -220,10 +223,10 @@ fn set_word(cursor: &mut Cursor<'_>) -> Result<bool, ParseFault>
     ensures { Takes result cursor.new (set_word_at cursor.old) }
 {
     if cursor.starts_word(b"SUBSET") {
-        cursor.word(b"SUBSET")?;
+        expect_word(cursor, b"SUBSET")?;
         return Ok(true);
     }
-    cursor.word(b"SET")?;
+    expect_word(cursor, b"SET")?;
     Ok(false)
 }
 
@@ -250,8 +253,8 @@ pub fn set(cursor: &mut Cursor<'_>, place: u32, name: Name) -> Result<SetDecl, P
     ensures { Takes result cursor.new (set_at place name cursor.old) }
 {
     let subset = set_word(cursor)?;
-    cursor.word(b"OF")?;
-    let of = cursor.name()?;
+    expect_word(cursor, b"OF")?;
+    let of = read_name(cursor)?;
     let nothing = SetOptions {
         cond: None,
         key: None,
@@ -260,6 +263,6 @@ pub fn set(cursor: &mut Cursor<'_>, place: u32, name: Name) -> Result<SetDecl, P
         population: None,
     };
     let said = read_turns(nothing, cursor)?;
-    cursor.sign(b';')?;
+    expect_sign(cursor, b';')?;
     Ok(set_of(place, name, subset, of, said))
 }

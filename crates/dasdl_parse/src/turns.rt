@@ -1,10 +1,11 @@
 ghost use Rattle.std.specs.Prelude.{◌≡◌, List, Bool};
-ghost use Rattle.dasdl_parse.specs.declared.token.Lexeme.{Lexeme};
+ghost use Rattle.dms_tokens.specs.declared.token.Lexeme.{Lexeme};
 ghost use Rattle.dasdl_parse.specs.Reads.{Read, Takes};
 ghost use Rattle.dasdl_parse.specs.Cursors.{turns_at};
 
-use crate::cursor::Cursor;
+use crate::expect::fault;
 use crate::fault::ParseFault;
+use dms_tokens::Cursor;
 
 /// A part of the grammar that is read by turns: what was read so far.
 pub trait Turns: Drop {
@@ -35,5 +36,5 @@ pub fn read_turns<T: Turns>(start: T, cursor: &mut Cursor<'_>) -> Result<T, Pars
     if state.is_done(cursor) {
         return Ok(state);
     }
-    Err(cursor.fault())
+    Err(fault(cursor))
 }

@@ -11,7 +11,9 @@ use Rattle.dms_top.specs.declared.status.LimitKind.TheVariants.{Lines, Bytes, He
 use Rattle.dms_top.specs.declared.status.SchemaFault.{SchemaFault}
 use Rattle.dms_top.specs.declared.status.SchemaFault.TheVariants.{Parse, Compile}
 use Rattle.dms_top.specs.declared.status.Status.{Status}
-use Rattle.dms_top.specs.declared.status.Status.TheVariants.{Ok, BadWords, SchemaRefused, DiskFault, InputFault, Memory, Limit, SayFault, Exists}
+use Rattle.dms_top.specs.declared.status.Status.TheVariants.{Ok, BadWords, SchemaRefused, NoDatabase, Needed, DiskFault, InputFault, Memory, Limit, Damaged, SayFault, Exists}
+use Rattle.dms_top.specs.declared.status.NeedFault.{NeedFault}
+use Rattle.dms_top.specs.declared.status.NeedFault.TheVariants.{NoDescription, AuditMissing, AuditUnsealed, AuditForeign}
 
 -- words, the number at their place, and words behind it
 abbrev pub counted : List ℕ → ℕ → List ℕ → List ℕ
@@ -47,6 +49,13 @@ limit_words Lines = codes "too many lines"
 limit_words Bytes = codes "too many bytes"
 limit_words Held = codes "too many held lines"
 
+-- what is needed and isn't found
+abbrev pub need_words : NeedFault → List ℕ
+need_words NoDescription = codes "no description"
+need_words (AuditMissing k) = counted (codes "audit file ") k (codes " missing")
+need_words (AuditUnsealed k) = counted (codes "audit file ") k (codes " unsealed")
+need_words (AuditForeign k) = counted (codes "audit file ") k (codes " of another database")
+
 -- a line of the program, with its line feed
 abbrev pub line : List ℕ → List ℕ
 line words = codes "dms: " ++ (words ++ (10 ∷ []))
@@ -55,10 +64,13 @@ abbrev pub status_lines : Status → List ℕ
 status_lines Ok = []
 status_lines BadWords = line (codes "bad words") ++ line (codes "see dms --help")
 status_lines (SchemaRefused fault) = line (codes "schema: " ++ schema_words fault)
+status_lines NoDatabase = line (codes "no database")
+status_lines (Needed need) = line (need_words need)
 status_lines DiskFault = line (codes "disk fault")
 status_lines InputFault = line (codes "input fault")
 status_lines Memory = line (codes "no memory")
 status_lines (Limit kind) = line (limit_words kind)
+status_lines (Damaged f b) = line (counted (codes "file ") f (counted (codes " block ") b (codes " damaged")))
 status_lines SayFault = line (codes "output fault")
 status_lines Exists = line (codes "exists already")
 

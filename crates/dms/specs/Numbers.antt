@@ -3,17 +3,20 @@ use Rattle.std.specs.Prelude.{ℕ}
 use Rattle.dms.specs.declared.texts.Ending.{Ending}
 use Rattle.dms.specs.declared.texts.Ending.TheVariants.{Command, InUse}
 use Rattle.dms_top.specs.declared.status.Status.{Status}
-use Rattle.dms_top.specs.declared.status.Status.TheVariants.{Ok, BadWords, SchemaRefused, DiskFault, InputFault, Memory, Limit, SayFault, Exists}
+use Rattle.dms_top.specs.declared.status.Status.TheVariants.{Ok, BadWords, SchemaRefused, NoDatabase, Needed, DiskFault, InputFault, Memory, Limit, Damaged, SayFault, Exists}
 
 -- the number of each status
 abbrev pub status_number : Status → ℕ
 status_number Ok = 0
 status_number BadWords = 1
 status_number (SchemaRefused f) = 2
+status_number NoDatabase = 3
+status_number (Needed n) = 4
 status_number DiskFault = 5
 status_number InputFault = 6
 status_number Memory = 7
 status_number (Limit l) = 8
+status_number (Damaged f b) = 9
 status_number SayFault = 10
 status_number Exists = 11
 

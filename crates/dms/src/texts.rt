@@ -1,11 +1,11 @@
 ghost use Rattle.std.specs.Prelude.{◌≡◌, Some};
-ghost use Rattle.dms.specs.Lines.{parse_words, compile_words, lines_of};
+ghost use Rattle.dms.specs.Lines.{parse_words, compile_words, need_words, lines_of};
 ghost use Rattle.dms.specs.Numbers.{number_of};
 
 use dasdl_compile::CompileFault;
 use dasdl_parse::ParseFault;
 use dms_base::Name;
-use dms_top::{LimitKind, SchemaFault, Status};
+use dms_top::{LimitKind, NeedFault, SchemaFault, Status};
 use std::fmt;
 
 /// How the program ends.
@@ -26,10 +26,13 @@ pub fn code_of(ending: &Ending) -> u8
         Ending::Command(Status::Ok) => 0,
         Ending::Command(Status::BadWords) => 1,
         Ending::Command(Status::SchemaRefused(_)) => 2,
+        Ending::Command(Status::NoDatabase) => 3,
+        Ending::Command(Status::Needed(_)) => 4,
         Ending::Command(Status::DiskFault) => 5,
         Ending::Command(Status::InputFault) => 6,
         Ending::Command(Status::Memory) => 7,
         Ending::Command(Status::Limit(_)) => 8,
+        Ending::Command(Status::Damaged(_, _)) => 9,
         Ending::Command(Status::SayFault) => 10,
         Ending::Command(Status::Exists) => 11,
     }
@@ -91,6 +94,25 @@ impl fmt::Display for CompileText {
     }
 }
 
+/// What is said of what a command needs and doesn't find.
+#[derive(Drop)]
+struct NeedText(NeedFault);
+
+impl fmt::Display for NeedText {
+    ghost output = { λ t. Some (need_words t.0) };
+
+    fn fmt<W: fmt::Write>(&self, f: &mut fmt::Formatter<W>) -> fmt::Result {
+        match self.0 {
+            NeedFault::NoDescription => f.write_str("no description"),
+            NeedFault::AuditMissing(number) => write!(f, "audit file {number} missing"),
+            NeedFault::AuditUnsealed(number) => write!(f, "audit file {number} unsealed"),
+            NeedFault::AuditForeign(number) => {
+                write!(f, "audit file {number} of another database")
+            }
+        }
+    }
+}
+
 /// What is said of an ending, nothing where all went well. It is written as it is made, and needs no memory.
 impl fmt::Display for Ending {
     ghost output = { λ e. Some (lines_of e) };
@@ -108,6 +130,8 @@ impl fmt::Display for Ending {
             Ending::Command(Status::SchemaRefused(SchemaFault::Compile(fault))) => {
                 writeln!(f, "dms: schema: {}", CompileText(fault))
             }
+            Ending::Command(Status::NoDatabase) => f.write_str("dms: no database\n"),
+            Ending::Command(Status::Needed(need)) => writeln!(f, "dms: {}", NeedText(need)),
             Ending::Command(Status::DiskFault) => f.write_str("dms: disk fault\n"),
             Ending::Command(Status::InputFault) => f.write_str("dms: input fault\n"),
             Ending::Command(Status::Memory) => f.write_str("dms: no memory\n"),
@@ -119,6 +143,9 @@ impl fmt::Display for Ending {
             }
             Ending::Command(Status::Limit(LimitKind::Held)) => {
                 f.write_str("dms: too many held lines\n")
+            }
+            Ending::Command(Status::Damaged(file, block)) => {
+                writeln!(f, "dms: file {file} block {block} damaged")
             }
             Ending::Command(Status::SayFault) => f.write_str("dms: output fault\n"),
             Ending::Command(Status::Exists) => f.write_str("dms: exists already\n"),

@@ -1,7 +1,7 @@
 ghost use Rattle.std.specs.Prelude.{◌≡◌, ◌↔◌, None, Some, map, string_bytes};
-ghost use Rattle.dms_top.specs.Words.{IsTry, IsCompile, IsCommand};
+ghost use Rattle.dms_top.specs.Words.{IsTry, IsCompile, IsInitialize, IsCommand};
 
-use dms_top::Status;
+use dms_top::{Status, initialize_tag};
 use std::alloc::Global;
 use std::env::FillError;
 use std::rt::Env;
@@ -17,6 +17,7 @@ pub enum Request {
     /// `try`, which touches no file.
     Try,
     Compile,
+    Initialize,
 }
 
 /// The words behind the program's name. BadWords where one is long or no UTF-8, Memory where memory is refused.
@@ -46,8 +47,12 @@ pub fn words_of(rt: &HostRuntime, alloc: Global) -> Result<Vec<String>, Status> 
 pub fn request_of(words: &[String]) -> Option<Request>
     ensures try_word { result ≡ Some Request.Try ↔ IsTry (map string_bytes words.now) }
     ensures compile_word { result ≡ Some Request.Compile ↔ IsCompile (map string_bytes words.now) }
+    ensures initialize_words { result ≡ Some Request.Initialize ↔ IsInitialize (map string_bytes words.now) }
     ensures bad { result ≡ None → IsCommand (map string_bytes words.now) → ⊥ }
 {
+    if initialize_tag(words).is_some() {
+        return Some(Request::Initialize);
+    }
     if words.len() != 1 {
         return None;
     }

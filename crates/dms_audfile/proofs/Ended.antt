@@ -1,5 +1,5 @@
 -- A block sealed at the end of a trail.
-use Rattle.std.proofs.Common.{◌≡◌, ◌≢◌, ◌⊎◌, inl, inr, ℕ, zero, suc, ◌+◌, ◌-◌, ◌^◌, ◌<◌, ◌≤◌, Bool, true, false, List, [], ◌∷◌, ◌++◌, take, drop, map, length, refl, sym, ◌∙◌, ap, subst, arith, append-nil, append_assoc, length-take}
+use Rattle.std.proofs.Common.{◌≡◌, ◌≢◌, ◌⊎◌, inl, inr, ℕ, zero, suc, ◌+◌, ◌-◌, ◌^◌, ◌<◌, ◌≤◌, Bool, true, false, List, [], ◌∷◌, ◌++◌, take, drop, map, length, refl, sym, ◌∙◌, ap, subst, arith, append-nil, append_assoc, length-take, length-drop}
 use Rattle.dms_moments.specs.Moments.{Now}
 use Rattle.std.specs.Prelude.{OnOk}
 use Rattle.std.specs.declared.result.Result.{Result}
@@ -13,7 +13,9 @@ use Rattle.dms_audfile.specs.Blocks.{block_entries, is_begin}
 use Rattle.dms_audfile.specs.BlockLaws.{spellings, ArePlain, IsAlone, entered_at, block_of}
 use Rattle.dms_audfile.specs.Trail.{trail_from}
 use Rattle.dms_audfile.specs.TrailEntries.{entry_of, entries_of, entries_in, trail_entries}
-use Rattle.dms_audfile.specs.Ends.{unsealed, EndsAt, Seals, Appends}
+use Rattle.dms_audfile.specs.Ends.{unsealed, EndsAt, IsFilled, Grown, Seals, Appends}
+use Rattle.dms_audfile.specs.EndLaws.{filled_on}
+use Rattle.std.proofs.lemmas.Bool.{cases_lt, cases_eq, false≢true}
 use Rattle.dms_audfile.proofs.BlockRead.{block_is_read}
 use Rattle.dms_audfile.proofs.Growing.{writes_same}
 use Rattle.dms_audfile.proofs.Gates.{stands_full}
@@ -69,26 +71,63 @@ all_taken : (es : List Entry) → take (length es) es ≡ es
 all_taken [] = refl
 all_taken (e ∷ es) = ap (λ (l : List Entry). e ∷ l) (all_taken es)
 
-pub seals_of : (total tag first f : ℕ) (es : List Entry) (content : List ℕ) (z x : Left) → 10001 ≤ first → first ≤ f → f < 20000 → ArePlain es ⊎ IsAlone es → length (spellings es) ≤ 4094 → content ≡ block_of es
+-- a writer is in the first file that isn't full
+pub writes_once : (total tag first f n g m : ℕ) (files : Files) → Writes total tag first f n files → Writes total tag first g m files → g ≤ f
+writes_once total tag first f n g m files w v = elim (cases_lt f g) [
+  | inl before ↦ absurd (false≢true (sym (stands_full total n (files f) w.stands w.not_full) ∙ v.full f w.order before))
+  | inr not ↦ not
+]
+
+entered_length : (at : ℕ) (es : List Entry) → length (entered_at at es) ≡ length es
+entered_length at [] = refl
+entered_length at (e ∷ es) = ap suc (entered_length (at + length (spelling e)) es)
+
+pub block_filled : (es : List Entry) → ArePlain es ⊎ IsAlone es → length (spellings es) ≤ 4094 → 0 < length es → IsFilled (block_of es)
+block_filled es kind few some = record { entries = entered_at 2 es; read = block_is_read es kind few; some = omega (arith, some, entered_length 2 es) }
+
+pub grown_none : (total first : ℕ) (files : Files) → Grown total first files files
+grown_none total first files = record { made = []; trail = sym (append-nil (trail_from 10000 total first files)); filled = tt }
+
+pub grown_on : (total first : ℕ) (a b c : Files) → Grown total first a b → Grown total first b c → Grown total first a c
+grown_on total first a b c one two = record {
+  made = one.made ++ two.made;
+  trail = two.trail ∙ ap (λ (l : List (List ℕ)). l ++ two.made) one.trail ∙ append_assoc (trail_from 10000 total first a) one.made two.made;
+  filled = filled_on one.made two.made one.filled two.filled;
+}
+
+pub grown_one : (total first : ℕ) (es : List Entry) (content : List ℕ) (old new : Files) → ArePlain es ⊎ IsAlone es → length (spellings es) ≤ 4094 → 0 < length es → content ≡ block_of es
+    → trail_from 10000 total first new ≡ trail_from 10000 total first old ++ content ∷ [] → Grown total first old new
+grown_one total first es content old new kind few some is trail = record { made = content ∷ []; trail = trail; filled = (subst (λ (l : List ℕ). IsFilled l) (sym is) (block_filled es kind few some), tt) }
+
+-- some entry waits where some bytes do
+pub some_wait : (end : AuditEnd) (es : List Entry) → unsealed end ≡ spellings es → length end.block.items ≡ 4096 → end.used ≢ 0 → 0 < length es
+some_wait end [] is size some = absurd (some (omega (arith, ap length is, length-take end.used (drop 2 end.block.items), length-drop 2 end.block.items, size)))
+some_wait end (e ∷ es) is size some = omega arith
+
+pub seals_of : (total tag first f n : ℕ) (es : List Entry) (content : List ℕ) (z x : Left) → 10001 ≤ first → Writes total tag first f n z.files → f < 20000 → ArePlain es ⊎ IsAlone es → length (spellings es) ≤ 4094 → 0 < length es → content ≡ block_of es
     → GrowsLeft total tag first f (content ∷ []) z x → Seals total tag first es z x
-seals_of total tag first f es content z x low order high kind few is grows = by_count grows.files.some grows.files.within (grows.files.trail 10000 (omega arith))
+seals_of total tag first f n es content z x low w high kind few nonempty is grows = by_count grows.files.some grows.files.within (grows.files.trail 10000 (omega (arith, w.order)))
   where
-    with_some : (k : ℕ) → trail_entries total first x.files ≡ trail_entries total first z.files ++ take k es → Seals total tag first es z x
-    with_some k entries = record {
+    with_some : (k : ℕ) → trail_entries total first x.files ≡ trail_entries total first z.files ++ take k es → Grown total first z.files x.files → Seals total tag first es z x
+    with_some k entries grown = record {
       some = k;
       entries = entries;
+      grown = grown;
       file = grows.files.file;
       count = grows.files.count;
       writes = grows.files.writes;
-      below = λ g less. grows.files.others g (omega arith) (omega arith);
+      later = λ g m v. omega (arith, writes_once total tag first f n g m z.files w v, grows.files.low);
+      behind = λ g far. grows.files.others g (omega (arith, far, grows.files.low)) (omega (arith, far, grows.files.low));
+      below = λ g less. grows.files.others g (omega (arith, less, w.order)) (omega (arith, less, w.order));
       above = λ g more. grows.files.others g (omega arith) (omega arith);
       said = grows.said;
     }
 
     by_count : (k : ℕ) → k ≤ 1 → trail_from 10000 total first x.files ≡ trail_from 10000 total first z.files ++ take k (content ∷ []) → Seals total tag first es z x
-    by_count zero within trail = with_some 0 (trail_none total first content es z.files x.files trail)
+    by_count zero within trail = with_some 0 (trail_none total first content es z.files x.files trail) (record { made = []; trail = trail; filled = tt })
     by_count (suc zero) within trail = with_some (length es)
         (trail_more total first es z.files x.files kind few (trail ∙ ap (λ (l : List ℕ). trail_from 10000 total first z.files ++ l ∷ []) is) ∙ ap (λ (l : List Entry). trail_entries total first z.files ++ l) (sym (all_taken es)))
+        (grown_one total first es content z.files x.files kind few nonempty is trail)
     by_count (suc (suc k)) within trail = absurd (omega arith)
 
 -- no entry is without bytes
@@ -100,6 +139,14 @@ no_bytes (quiet_point n) rest is none = absurd cc
 no_bytes (control_point n next counts) rest is none = absurd cc
 no_bytes (begin_restore n kind) rest is none = absurd cc
 
+pub entry_long : (e : Entry) → IsEntry e → 0 < length (spelling e)
+entry_long (schema_part part parts bytes) is = omega arith
+entry_long (image f b before after) is = omega arith
+entry_long (byte_range f b place bytes) is = absurd is
+entry_long (quiet_point n) is = omega arith
+entry_long (control_point n next counts) is = omega arith
+entry_long (begin_restore n kind) is = omega arith
+
 pub none_waits : (es : List Entry) → ArePlain es ⊎ IsAlone es → [] ≡ spellings es → es ≡ []
 none_waits [] kind none = refl
 none_waits (e ∷ es) (inl plain) none = absurd (no_bytes e (spellings es) plain.0 (sym none))
@@ -109,13 +156,19 @@ none_waits (e ∷ es) (inr alone) none = absurd (no_bytes alone.entry [] alone.f
 pub seals_none : (total tag first f n : ℕ) (es : List Entry) (files : Files) (a : Clock Left) → Writes total tag first f n files → ((g : ℕ) → first ≤ g → g ≤ f → OnlyIn g files a) → Steps (Seals total tag first es) a a
 seals_none total tag first f n es files a w settled = record { follows = λ x now. (x, now, here x now); runs = runs_none a _ }
   where
+    writes_at : (x : Left) → Now a x → Writes total tag first f n x.files
+    writes_at x now = writes_same total tag first f n files x.files w (λ g low high. settled g low high x now)
+
     here : (x : Left) → Now a x → Seals total tag first es x x
     here x now = record {
       some = 0;
       entries = sym (append-nil (trail_entries total first x.files));
+      grown = grown_none total first x.files;
       file = f;
       count = n;
-      writes = writes_same total tag first f n files x.files w (λ g low high. settled g low high x now);
+      writes = writes_at x now;
+      later = λ g m v. writes_once total tag first f n g m x.files (writes_at x now) v;
+      behind = λ g far. refl;
       below = λ g less. refl;
       above = λ g more. refl;
       said = refl;
@@ -164,6 +217,9 @@ pub seals_first : (total tag first : ℕ) (es more : List Entry) (z x : Left) �
 seals_first total tag first es more z x s = record {
   some = length (take s.some es) + 0;
   entries = s.entries ∙ ap (λ (l : List Entry). trail_entries total first z.files ++ l) (sym (append-nil (take s.some es)) ∙ sym (taken s.some 0 es more));
+  grown = s.grown;
+  later = s.later;
+  behind = s.behind;
   file = s.file;
   count = s.count;
   writes = s.writes;
@@ -179,21 +235,25 @@ seals_then total tag first k es more z y x whole one two = record {
   some = length (take k es) + two.some;
   entries = two.entries ∙ ap (λ (l : List Entry). l ++ take two.some (drop k es ++ more)) whole ∙ append_assoc (trail_entries total first z.files) (take k es) (take two.some (drop k es ++ more))
       ∙ ap (λ (l : List Entry). trail_entries total first z.files ++ l) (sym (taken k two.some es more));
+  grown = grown_on total first z.files y.files x.files one.grown two.grown;
   file = two.file;
   count = two.count;
   writes = two.writes;
+  later = λ g m v. omega (arith, one.later g m v, two.later one.file one.count one.writes);
+  behind = λ g far. two.behind g far ∙ one.behind g (omega (arith, far, two.later one.file one.count one.writes));
   below = λ g less. two.below g less ∙ one.below g less;
   above = λ g high. two.above g high ∙ one.above g high;
   said = two.said ∙ one.said;
 }
 
 -- what waits is sealed, or stays
-pub appends_all : (end : AuditEnd) (first : ℕ) (es : List Entry) (old new : Files) (clock : Clock Left) → trail_entries end.total first new ≡ trail_entries end.total first old ++ es → EndsAt end first [] new clock → Appends end first es old new clock
-appends_all end first es old new clock sealed ends =
+pub appends_all : (end : AuditEnd) (first : ℕ) (es : List Entry) (old new : Files) (clock : Clock Left) → trail_entries end.total first new ≡ trail_entries end.total first old ++ es → Grown end.total first old new → EndsAt end first [] new clock → Appends end first es old new clock
+appends_all end first es old new clock sealed grown ends =
     let none : drop (length es) es ≡ [] = all_dropped es in
     record {
       some = length es;
       sealed = sealed ∙ ap (λ (l : List Entry). trail_entries end.total first old ++ l) (sym (all_taken es));
+      grown = grown;
       ends = subst (λ (l : List Entry). EndsAt end first l new clock) (sym none) ends;
       plain = subst (λ (l : List Entry). ArePlain l) (sym none) tt;
     }
@@ -203,7 +263,7 @@ appends_all end first es old new clock sealed ends =
     all_dropped (e ∷ es) = all_dropped es
 
 pub appends_none : (end : AuditEnd) (first : ℕ) (es : List Entry) (files : Files) (clock : Clock Left) → ArePlain es → EndsAt end first es files clock → Appends end first es files files clock
-appends_none end first es files clock plain ends = record { some = 0; sealed = sym (append-nil (trail_entries end.total first files)); ends = ends; plain = plain }
+appends_none end first es files clock plain ends = record { some = 0; sealed = sym (append-nil (trail_entries end.total first files)); grown = grown_none end.total first files; ends = ends; plain = plain }
 
 -- an entry is held behind those that wait
 pub held_ends : (end new : AuditEnd) (first : ℕ) (es : List Entry) (e : Entry) (files : Files) (clock : Clock Left) → EndsAt end first es files clock → ArePlain es → IsEntry e → (is_begin e ≡ true → end.used ≡ 0)
@@ -243,16 +303,18 @@ appends_held one new first es e old mid clock m same ends is off =
       some = length (take m.some es) + 0;
       sealed = subst (λ t. trail_entries t first mid ≡ trail_entries t first old ++ take m.some es) (sym same) m.sealed
           ∙ ap (λ (l : List Entry). trail_entries new.total first old ++ l) (sym (append-nil (take m.some es)) ∙ sym (taken m.some 0 es (e ∷ [])));
+      grown = subst (λ t. Grown t first old mid) (sym same) m.grown;
       ends = subst (λ (l : List Entry). EndsAt new first l mid clock) (sym more) ends;
       plain = subst (λ (l : List Entry). ArePlain l) (sym more) (plain_more (drop m.some es) e m.plain is off);
     }
 
 pub appends_begun : (one new : AuditEnd) (first : ℕ) (es more : List Entry) (old mid files : Files) (b clock : Clock Left) (m : Appends one first es old mid b) → new.total ≡ one.total
-    → trail_entries one.total first files ≡ trail_entries one.total first mid ++ (drop m.some es ++ more) → EndsAt new first [] files clock → Appends new first (es ++ more) old files clock
-appends_begun one new first es more old mid files b clock m same sealed ends =
+    → trail_entries one.total first files ≡ trail_entries one.total first mid ++ (drop m.some es ++ more) → Grown one.total first mid files → EndsAt new first [] files clock → Appends new first (es ++ more) old files clock
+appends_begun one new first es more old mid files b clock m same sealed grown ends =
     appends_all new first (es ++ more) old files clock (subst (λ t. trail_entries t first files ≡ trail_entries t first old ++ (es ++ more)) (sym same)
     (sealed ∙ ap (λ (l : List Entry). l ++ (drop m.some es ++ more)) m.sealed ∙ append_assoc (trail_entries one.total first old) (take m.some es) (drop m.some es ++ more)
-    ∙ ap (λ (l : List Entry). trail_entries one.total first old ++ l) (parts_of m.some es more))) ends
+    ∙ ap (λ (l : List Entry). trail_entries one.total first old ++ l) (parts_of m.some es more)))
+    (subst (λ t. Grown t first old files) (sym same) (grown_on one.total first old mid files m.grown grown)) ends
 
 pub on_both : {T F : Type 0} (r : Result T F) (A B : Type 0) → OnOk r A → OnOk r B → OnOk r (A × B)
 on_both (Ok x) A B a b = (a, b)

@@ -360,3 +360,7 @@ all_others f n content old one two three wrote others gated g here next =
     ap (λ (l : Files). l g) gated ∙ with_file_other two f (overlaid (511 + (n + 1)) (1 ∷ []) (two f)) g here
     ∙ others.others g next
     ∙ ap (λ (l : Files). l g) wrote ∙ with_file_other old f (overlaid (4096 * (n + 1)) content (old f)) g here
+
+pub all_next : (f : ℕ) (a b : List ℕ) (old one two three : Files) → one ≡ with_file old f a → two ≡ one → three ≡ with_file two f b → three (f + 1) ≡ old (f + 1)
+all_next f a b old one two three wrote same gated =
+    ap (λ (l : Files). l (f + 1)) gated ∙ with_file_other two f b (f + 1) (omega arith) ∙ ap (λ (l : Files). l (f + 1)) same ∙ ap (λ (l : Files). l (f + 1)) wrote ∙ with_file_other old f a (f + 1) (omega arith)

@@ -2,6 +2,7 @@
 use Rattle.std.proofs.Common.{ℕ, ◌-◌, ◌≤◌, ◌≡◌, true, List, [], sym, ◌∙◌, ap, subst, arith}
 use Rattle.dms_site.specs.Files.{Files, with_file}
 use Rattle.dms_site.specs.Laws.{with_file_here}
+use Rattle.dms_audfile.specs.Trail.{trail_from}
 use Rattle.dms_audfile.specs.TrailEntries.{entries_in, trail_entries}
 use Rattle.dms_audfile.proofs.Growing.{none_behind}
 use Rattle.dms_audfile.specs.Sealing.{Writes}
@@ -26,6 +27,9 @@ pub made_at : (total tag file count blocks mark : ℕ) (files : Files) → total
 made_at total tag file count blocks mark files a b c d some few is marked =
     subst (λ t. Writes t tag 10001 file count files) (sym a) (subst (λ t. Writes blocks t 10001 file count files) (sym b)
     (subst (λ f. Writes blocks mark 10001 f count files) (sym c) (subst (λ n. Writes blocks mark 10001 10001 n files) (sym d) (first_writes blocks mark files some few is marked))))
+
+pub no_blocks : (blocks tag : ℕ) (files : Files) → 8 ≤ blocks → blocks ≤ 512 → files 10001 ≡ new_header 1 blocks tag → trail_from 10000 blocks 10001 files ≡ []
+no_blocks blocks tag files some few is = none_behind blocks 10001 files (omega (arith, some)) (header_stands 1 blocks tag (files 10001) is few) 10000
 
 pub no_entries : (blocks tag : ℕ) (files : Files) → 8 ≤ blocks → blocks ≤ 512 → files 10001 ≡ new_header 1 blocks tag → trail_entries blocks 10001 files ≡ []
 unfolding trail_entries

@@ -1,8 +1,10 @@
 -- Where an audit trail ends, and what a stop leaves while entries are appended to it and sealed.
-use Rattle.std.specs.Prelude.{ℕ, ◌+◌, ◌<◌, ◌≤◌, ◌≡◌, ◌==◌, ◌&&◌, ◌||◌, ◌⊎◌, nat_lt, if◌then◌else◌, Bool, List, ◌++◌, take, drop}
+use Rattle.std.specs.Prelude.{ℕ, ◌+◌, ◌<◌, ◌≤◌, ◌≡◌, ◌==◌, ◌&&◌, ◌||◌, ◌⊎◌, nat_lt, if◌then◌else◌, Bool, List, [], ◌∷◌, ◌++◌, length, take, drop, Some}
 use Rattle.dms_moments.specs.Moments.{Clock}
 use Rattle.dms_site.specs.Files.{Files, Left, OnlyIn}
 use Rattle.dms_history.specs.Entries.{Entry}
+use Rattle.dms_audfile.specs.Blocks.{Entered, block_entries}
+use Rattle.dms_audfile.specs.Trail.{trail_from}
 use Rattle.dms_audfile.specs.BlockLaws.{spellings, ArePlain, IsAlone}
 use Rattle.dms_audfile.specs.Sealing.{Writes}
 use Rattle.dms_audfile.specs.TrailEntries.{trail_entries}
@@ -20,22 +22,45 @@ pub record EndsAt (end : AuditEnd) (first : ℕ) (waiting : List Entry) (files :
   pub bytes : unsealed end ≡ spellings waiting
   pub kind : ArePlain waiting ⊎ IsAlone waiting
 
--- The entries of the trail are the old ones and the first of some that wait. It is again a trail that a writer keeps, with
--- the same number of blocks a file and the same tag. Only audit files change, and nothing is printed.
+-- a block is in its grammar and holds an entry
+pub record IsFilled (block : List ℕ) : Type 0 where
+  pub entries : List Entered
+  pub read : block_entries block ≡ Some entries
+  pub some : 0 < length entries
+
+abbrev pub AreFilled : List (List ℕ) → Type 0
+AreFilled [] = Unit {0}
+AreFilled (b ∷ bs) = IsFilled b × AreFilled bs
+
+-- the trail is the old one and some blocks behind it, each of which is in its grammar and holds an entry
+pub record Grown (total first : ℕ) (old new : Files) : Type 0 where
+  pub made : List (List ℕ)
+  pub trail : trail_from 10000 total first new ≡ trail_from 10000 total first old ++ made
+  pub filled : AreFilled made
+
+-- The entries of the trail are the old ones and the first of some that wait, in blocks behind the old ones each of which is in
+-- its grammar and holds an entry. It is again a trail that a writer keeps, with the same number of blocks a file and the same
+-- tag, and ends no earlier than before. Only audit files change, none behind the one that follows the file in which it ends,
+-- and nothing is printed.
 pub record Seals (total tag first : ℕ) (waiting : List Entry) (old new : Left) : Type 0 where
   pub some : ℕ
   pub entries : trail_entries total first new.files ≡ trail_entries total first old.files ++ take some waiting
+  pub grown : Grown total first old.files new.files
   pub file : ℕ
   pub count : ℕ
   pub writes : Writes total tag first file count new.files
+  pub later : (g m : ℕ) → Writes total tag first g m old.files → g ≤ file
+  pub behind : (g : ℕ) → file + 1 < g → new.files g ≡ old.files g
   pub below : (g : ℕ) → g < first → new.files g ≡ old.files g
   pub above : (g : ℕ) → 20000 < g → new.files g ≡ old.files g
   pub said : new.said ≡ old.said
 
--- The first of some entries are sealed behind the old ones, the others wait, and the trail ends where this value says.
+-- The first of some entries are sealed behind the old ones, the others wait, and the trail ends where this value says. Each of
+-- the blocks behind the old ones is in its grammar and holds an entry.
 pub record Appends (end : AuditEnd) (first : ℕ) (entries : List Entry) (old new : Files) (clock : Clock Left) : Type 0 where
   pub some : ℕ
   pub sealed : trail_entries end.total first new ≡ trail_entries end.total first old ++ take some entries
+  pub grown : Grown end.total first old new
   pub ends : EndsAt end first (drop some entries) new clock
   pub plain : ArePlain (drop some entries)
 

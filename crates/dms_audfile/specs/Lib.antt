@@ -11,3 +11,4 @@ pub mod Ends
 pub mod TrailEntries
 pub mod Unsealed
 pub mod EndLaws
+pub mod Counting

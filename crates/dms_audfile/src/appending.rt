@@ -1,7 +1,7 @@
 //! Entries that are appended to an audit trail, and sealed.
 
 ghost use Rattle.std.specs.Prelude.{◌≡◌, ◌⊎◌, ◌+◌, ◌<◌, ◌≤◌, ◌==◌, ◌&&◌, ◌||◌, nat_lt, true, false, ◌++◌, [], ◌∷◌, ℕ, List, length, OnOk, IfErr, IsTrue, IsErrOf};
-ghost use Rattle.dms_base.specs.Causes.{HasCause, Rose};
+ghost use Rattle.dms_base.specs.Causes.{HasCause};
 ghost use Rattle.dms_moments.specs.Moments.{Steps};
 ghost use Rattle.dms_site.specs.Files.{Only};
 ghost use Rattle.dms_history.specs.Entries as meaning;
@@ -10,7 +10,8 @@ ghost use Rattle.dms_audrec.specs.Spelling.{spelling, IsEntry};
 ghost use Rattle.dms_audrec.specs.Seen.{entry_seen};
 ghost use Rattle.dms_audfile.specs.Blocks.{is_begin};
 ghost use Rattle.dms_audfile.specs.BlockLaws.{ArePlain};
-ghost use Rattle.dms_audfile.specs.Ends.{EndsAt, Seals, Appends, next_file, is_past};
+ghost use Rattle.dms_audfile.specs.Ends.{EndsAt, Seals, Appends, Grown, next_file, is_past};
+ghost use Rattle.dms_audfile.specs.Counting.{CountedAt};
 
 use crate::{AudFault, AuditEnd};
 use dms_audrec::{Entry, length};
@@ -31,6 +32,11 @@ impl AuditEnd {
         ensures durable { OnOk result (0 < self.old.used → IsTrue S.tells → Only (S.files site.new) (S.clock site.new)) }
         ensures empty { OnOk result (self.new.used ≡ 0) }
         ensures next { OnOk result (self.new.file ≡ next_file self.old) }
+        ensures grown { OnOk result ((first : ℕ) (waiting : List meaning.Entry) → IsTrue S.tells → EndsAt self.old first waiting (S.files site.old) (S.clock site.old)
+            → Grown self.old.total first (S.files site.old) (S.files site.new)) }
+        ensures before { OnOk result (IsTrue S.tells → (g : ℕ) → g < self.old.file → S.files site.new g ≡ S.files site.old g) }
+        ensures behind { OnOk result (IsTrue S.tells → (g : ℕ) → self.new.file < g → S.files site.new g ≡ S.files site.old g) }
+        ensures place { (self.old.file ≤ self.new.file) × (self.new.file ≤ self.old.file + 1) }
         ensures idle { self.old.used ≡ 0 → (self.new ≡ self.old) × (site.new ≡ site.old) }
         ensures kind { (self.new.total ≡ self.old.total) × (self.new.tag ≡ self.old.tag) × (self.new.limit ≡ self.old.limit) }
         ensures only { IfErr result (λ e. e ≡ AudFault.Disk) }
@@ -58,6 +64,11 @@ impl AuditEnd {
             → EndsAt self.new first [] (S.files site.new) (S.clock site.new)) }
         ensures empty { OnOk result (IsTrue needed → self.new.used ≡ 0) }
         ensures next { OnOk result (IsTrue needed → self.new.file ≡ next_file self.old) }
+        ensures grown { OnOk result ((first : ℕ) (waiting : List meaning.Entry) → IsTrue S.tells → EndsAt self.old first waiting (S.files site.old) (S.clock site.old)
+            → Grown self.old.total first (S.files site.old) (S.files site.new)) }
+        ensures before { OnOk result (IsTrue S.tells → (g : ℕ) → g < self.old.file → S.files site.new g ≡ S.files site.old g) }
+        ensures behind { OnOk result (IsTrue S.tells → (g : ℕ) → self.new.file < g → S.files site.new g ≡ S.files site.old g) }
+        ensures place { (self.old.file ≤ self.new.file) × (self.new.file ≤ self.old.file + 1) }
         ensures idle { needed ≡ false → (self.new ≡ self.old) × (site.new ≡ site.old) }
         ensures kind { (self.new.total ≡ self.old.total) × (self.new.tag ≡ self.old.tag) × (self.new.limit ≡ self.old.limit) }
         ensures only { IfErr result (λ e. e ≡ AudFault.Disk) }
@@ -86,6 +97,9 @@ impl AuditEnd {
         ensures room { OnOk result (self.new.used + size ≤ 4094) }
         ensures alone { OnOk result (IsTrue alone → self.new.used ≡ 0) }
         ensures allowed { OnOk result (self.new.file < 20000) }
+        ensures before { OnOk result (IsTrue S.tells → (g : ℕ) → g < self.old.file → S.files site.new g ≡ S.files site.old g) }
+        ensures behind { OnOk result (IsTrue S.tells → (g : ℕ) → self.new.file < g → S.files site.new g ≡ S.files site.old g) }
+        ensures place { (self.old.file ≤ self.new.file) × (self.new.file ≤ self.old.file + 1) }
         ensures kind { (self.new.total ≡ self.old.total) × (self.new.tag ≡ self.old.tag) × (self.new.limit ≡ self.old.limit) }
         ensures only { IfErr result (λ e. (e ≡ AudFault.Disk) ⊎ (e ≡ AudFault.Full self.old.limit)) }
         ensures full { IsErrOf result (AudFault.Full self.old.limit) → (self.new.used ≡ 0) × (10000 + self.old.limit < self.new.file) }
@@ -93,8 +107,7 @@ impl AuditEnd {
         ensures within { OnOk result (is_past self.old size alone ≡ false) }
         ensures said { S.said site.new ≡ S.said site.old }
         ensures same_site { S.same_site site.old site.new }
-        ensures later { S.disk_faults site.old ≤ S.disk_faults site.new }
-        ensures disk { IsErrOf result AudFault.Disk → Rose (S.disk_faults site.old) (S.disk_faults site.new) }
+        ensures disk { CountedAt (IsErrOf result AudFault.Disk) (S.disk_faults site.old) (S.disk_faults site.new) }
         ensures say_faults { S.say_faults site.new ≡ S.say_faults site.old }
     {
         let needed = needs_block(self.used, size, alone);
@@ -122,6 +135,10 @@ impl AuditEnd {
             → Steps (Seals self.old.total self.old.tag first (waiting ++ entry_seen entry.now ∷ [])) (S.clock site.old) (S.clock site.new) }
         ensures appends { OnOk result ((first : ℕ) (waiting : List meaning.Entry) → IsTrue S.tells → ArePlain waiting → EndsAt self.old first waiting (S.files site.old) (S.clock site.old)
             → Appends self.new first (waiting ++ entry_seen entry.now ∷ []) (S.files site.old) (S.files site.new) (S.clock site.new)) }
+        ensures before { OnOk result (IsTrue S.tells → (g : ℕ) → g < self.old.file → S.files site.new g ≡ S.files site.old g) }
+        ensures behind { OnOk result (IsTrue S.tells → (g : ℕ) → self.new.file < g → S.files site.new g ≡ S.files site.old g) }
+        ensures waits { OnOk result (is_begin (entry_seen entry.now) ≡ false → 0 < self.new.used) }
+        ensures place { (self.old.file ≤ self.new.file) × (self.new.file ≤ self.old.file + 2) }
         ensures kind { (self.new.total ≡ self.old.total) × (self.new.tag ≡ self.old.tag) × (self.new.limit ≡ self.old.limit) }
         ensures only { IfErr result (λ e. (e ≡ AudFault.Disk) ⊎ (e ≡ AudFault.Full self.old.limit)) }
         ensures full { IsErrOf result (AudFault.Full self.old.limit) → (self.new.used ≡ 0) × (10000 + self.old.limit < self.new.file) }
@@ -129,8 +146,7 @@ impl AuditEnd {
         ensures within { OnOk result (is_past self.old (length (spelling (entry_seen entry.now))) (is_begin (entry_seen entry.now)) ≡ false) }
         ensures said { S.said site.new ≡ S.said site.old }
         ensures same_site { S.same_site site.old site.new }
-        ensures later { S.disk_faults site.old ≤ S.disk_faults site.new }
-        ensures disk { IsErrOf result AudFault.Disk → Rose (S.disk_faults site.old) (S.disk_faults site.new) }
+        ensures disk { CountedAt (IsErrOf result AudFault.Disk) (S.disk_faults site.old) (S.disk_faults site.new) }
         ensures say_faults { S.say_faults site.new ≡ S.say_faults site.old }
     {
         let alone = begins(entry);

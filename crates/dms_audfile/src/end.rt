@@ -43,7 +43,9 @@ impl AuditEnd {
             → self.old.file < first + n → trail_from n self.old.total first (S.files site.new) ≡ trail_from n self.old.total first (S.files site.old) ++ block_with (unsealed self.old) ∷ []) }
         ensures writes { OnOk result ((first : ℕ) → IsTrue S.tells → Writes self.old.total self.old.tag first self.old.file self.old.count (S.files site.old)
             → Writes self.new.total self.new.tag first self.new.file self.new.count (S.files site.new)) }
-        ensures others { OnOk result (IsTrue S.tells → (g : ℕ) → g ≢ self.old.file → g ≢ self.old.file + 1 → S.files site.new g ≡ S.files site.old g) }
+        ensures before { OnOk result (IsTrue S.tells → (g : ℕ) → g < self.old.file → S.files site.new g ≡ S.files site.old g) }
+        ensures behind { OnOk result (IsTrue S.tells → (g : ℕ) → self.new.file < g → S.files site.new g ≡ S.files site.old g) }
+        ensures place { (self.old.file ≤ self.new.file) × (self.new.file ≤ self.old.file + 1) }
         ensures durable { OnOk result (IsTrue S.tells → Only (S.files site.new) (S.clock site.new)) }
         ensures empty { OnOk result (self.new.used ≡ 0) }
         ensures next { OnOk result (self.new.file ≡ file_behind self.old) }

@@ -87,6 +87,7 @@ pub fn seal_block<S: Site>(
     ensures writes { OnOk result ((first : ℕ) → IsTrue S.tells → Writes total (tag_said head.now) first file count (S.files site.old)
         → (count + 1 ≢ total → Writes total (tag_said head.now) first file (count + 1) (S.files site.new)) × (count + 1 ≡ total → Writes total (tag_said head.now) first (file + 1) 0 (S.files site.new))) }
     ensures others { OnOk result (IsTrue S.tells → (g : ℕ) → g ≢ file → g ≢ file + 1 → S.files site.new g ≡ S.files site.old g) }
+    ensures next { OnOk result (IsTrue S.tells → count + 1 ≢ total → S.files site.new (file + 1) ≡ S.files site.old (file + 1)) }
     ensures durable { OnOk result (IsTrue S.tells → Only (S.files site.new) (S.clock site.new)) }
     ensures said { S.said site.new ≡ S.said site.old }
     ensures same_site { S.same_site site.old site.new }

@@ -6,7 +6,7 @@ use crate::{Bytes, ItemKind, Literal, Memory, Value, value_of, value_text};
 use std::alloc::Global;
 
 /// Whether a schema can declare this kind.
-fn is_kind(kind: &ItemKind) -> bool
+pub fn is_kind(kind: &ItemKind) -> bool
     ensures value { result ≡ is_kind kind.now }
     ensures kind { IsTrue result → IsKind kind.now }
 {

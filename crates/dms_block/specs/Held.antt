@@ -1,5 +1,5 @@
 -- What blocks tell of themselves, and what their calls leave of that.
-use Rattle.std.specs.Prelude.{ℕ, ◌+◌, ◌-◌, ◌≤◌, ◌<◌, ◌^◌, ◌≡◌, ◌++◌, Bool, IsTrue, List, [], ◌∷◌, length, take, Some, min, IsErrOf, ◌⊎◌}
+use Rattle.std.specs.Prelude.{ℕ, ◌+◌, ◌-◌, ◌≤◌, ◌<◌, ◌^◌, ◌≡◌, ◌++◌, Bool, IsTrue, List, [], ◌∷◌, length, take, Some, min, IsErrOf, OnOk, ◌⊎◌}
 use Rattle.std.specs.declared.option.Option.{Option}
 use Rattle.std.specs.declared.result.Result.{Result}
 use Rattle.std.specs.declared.result.Result.TheVariants.{Ok, Err}
@@ -130,6 +130,7 @@ pub record Lasts (a b : Held) : Type 0 where
   pub tells : a.tells → b.tells
   pub owns : b.owns ≡ a.owns
   pub whole : (files : ℕ → List ℕ) → b.whole files → a.whole files
+  pub whole_on : (files : ℕ → List ℕ) → a.whole files → b.whole files
 
 -- whatever it answers, a call makes no point and prints nothing
 pub record Passes (a b : Held) : Type 0 where
@@ -149,8 +150,33 @@ pub record Same (a b : Held) : Type 0 where
   pub counts : b.counts ≡ a.counts
   pub content : IsTrue a.told → b.content ≡ a.content
 
--- at most so many reads, and so many blocks changed
+-- one more, unless the count stands at its type's end
+abbrev pub one_more : ℕ → ℕ
+one_more n = min (n + 1) (2 ^ 64 - 1)
+
+-- a count rose by one at most
+abbrev pub IsUpToOne : ℕ → ℕ → Type 0
+IsUpToOne old new = (old ≤ new) × (new ≤ old + 1)
+
+-- the points were made durable once, or the call failed
+pub record Synced {T : Type 0} (result : Result T BlockFault) (a b : Uses) : Type 0 where
+  pub reads : b.reads ≡ a.reads
+  pub spent : b.spent ≡ a.spent
+  pub outs : b.outs ≡ a.outs
+  pub done : OnOk result (b.syncs ≡ one_more a.syncs)
+  pub few : IsUpToOne a.syncs b.syncs
+
+-- the object went back once, or the call failed
+pub record WentBack {T : Type 0} (result : Result T BlockFault) (a b : Uses) : Type 0 where
+  pub reads : b.reads ≡ a.reads
+  pub spent : b.spent ≡ a.spent
+  pub syncs : b.syncs ≡ a.syncs
+  pub done : OnOk result (b.outs ≡ one_more a.outs)
+  pub few : IsUpToOne a.outs b.outs
+
+-- at most so many reads, and so many blocks changed. The count of reads never falls
 pub record Used (n m : ℕ) (a b : Uses) : Type 0 where
+  pub not_fewer : a.reads ≤ b.reads
   pub reads : b.reads ≤ a.reads + n
   pub spent : b.spent ≤ a.spent + m
   pub syncs : b.syncs ≡ a.syncs
@@ -187,14 +213,12 @@ pub record MadeSure (a b : Held) : Type 0 where
   pub points : IfTold a (b.points ≡ a.points)
   pub sure : IfTold a (b.sure ≡ length a.points)
 
--- What is told hangs together. The counts are those of the content. A stop now leaves the first so many points, at least those
--- that are sure, and the text. A point that was made now has the next number and the content.
+-- What is told hangs together. The counts are those of the content. Where stops are told some outcome of a stop now is possible.
+-- A stop now leaves the first so many points, at least those that are sure, and the text. A point that was made now has the next
+-- number and the content.
 pub record Agrees (h : Held) : Type 0 where
   pub counted : IsTrue h.told → (f : ℕ) → h.counts f ≡ length (h.content f)
+  pub may_stop : h.tells → (x : BlockStop) × Now h.clock x
   pub stop : IfTold h ((x : BlockStop) → Now h.clock x → Prefix h.whole h.sure h.points h.next x × TextIs h.said x)
   pub here : IfTold h ((h.here.number ≡ h.next) × (IsTrue h.told → h.here.blocks ≡ h.content))
   pub sure : IfTold h (h.sure ≤ length h.points)
-
--- one more, unless the count stands at its type's end
-abbrev pub one_more : ℕ → ℕ
-one_more n = min (n + 1) (2 ^ 64 - 1)

@@ -31,10 +31,10 @@ pub unbroken_ok : {T : Type 0} {P : Type 0} {x : T} (r : Result T BlockFault) �
 unbroken_ok {P = P} r is h = subst (λ s. Unbroken s P) is h
 
 pub lasts_none : (a : Held) → Lasts a a
-lasts_none a = record { told = λ t. t; tells = λ t. t; owns = refl; whole = λ files w. w }
+lasts_none a = record { told = λ t. t; tells = λ t. t; owns = refl; whole = λ files w. w; whole_on = λ files w. w }
 
 pub lasts_on : {a b c : Held} → Lasts a b → Lasts b c → Lasts a c
-lasts_on p q = record { told = λ t. q.told (p.told t); tells = λ t. q.tells (p.tells t); owns = q.owns ∙ p.owns; whole = λ files w. p.whole files (q.whole files w) }
+lasts_on p q = record { told = λ t. q.told (p.told t); tells = λ t. q.tells (p.tells t); owns = q.owns ∙ p.owns; whole = λ files w. p.whole files (q.whole files w); whole_on = λ files w. q.whole_on files (p.whole_on files w) }
 
 pub passes_none : (a : Held) → Passes a a
 passes_none a = record { lasts = lasts_none a; next = refl; said = refl; leaves = λ tells room. runs_none a.clock _ }
@@ -77,13 +77,13 @@ passes_on {a} {b} {c} p stay q = record {
 }
 
 pub used_none : (n m : ℕ) (a : Uses) → Used n m a a
-used_none n m a = record { reads = omega arith; spent = omega arith; syncs = refl; outs = refl }
+used_none n m a = record { not_fewer = omega arith; reads = omega arith; spent = omega arith; syncs = refl; outs = refl }
 
 pub used_on : {n m n' m' : ℕ} {a b c : Uses} → Used n m a b → Used n' m' b c → Used (n + n') (m + m') a c
-used_on p q = record { reads = omega (arith, p.reads, q.reads); spent = omega (arith, p.spent, q.spent); syncs = q.syncs ∙ p.syncs; outs = q.outs ∙ p.outs }
+used_on p q = record { not_fewer = omega (arith, p.not_fewer, q.not_fewer); reads = omega (arith, p.reads, q.reads); spent = omega (arith, p.spent, q.spent); syncs = q.syncs ∙ p.syncs; outs = q.outs ∙ p.outs }
 
 pub used_more : {n m : ℕ} (n' m' : ℕ) {a b : Uses} → n ≤ n' → m ≤ m' → Used n m a b → Used n' m' a b
-used_more n' m' le le' p = record { reads = omega (arith, le, p.reads); spent = omega (arith, le', p.spent); syncs = p.syncs; outs = p.outs }
+used_more n' m' le le' p = record { not_fewer = p.not_fewer; reads = omega (arith, le, p.reads); spent = omega (arith, le', p.spent); syncs = p.syncs; outs = p.outs }
 
 -- nothing was read yet
 pub looks_none : {T : Type 0} (n : ℕ) (r : Result T BlockFault) (a : Held) → a.sound → Looks n r a a

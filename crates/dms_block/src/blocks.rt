@@ -1,6 +1,6 @@
-ghost use Rattle.std.specs.Prelude.{◌≡◌, ◌≤◌, ◌<◌, ◌+◌, ◌^◌, ◌++◌, [], ◌∷◌, ℕ, IfOk, OnOk, IsErrOf, IsTrue, length, min, ◌-◌};
+ghost use Rattle.std.specs.Prelude.{◌≡◌, ◌≤◌, ◌<◌, ◌+◌, ◌^◌, ◌++◌, [], ◌∷◌, ℕ, IfOk, OnOk, IsErrOf, IsOkUnless, IsTrue, length, min, ◌-◌};
 ghost use Rattle.dms_block.specs.Content.{block_in, changed, grown, FitsIn};
-ghost use Rattle.dms_block.specs.Held.{Agrees, Alters, HasCauses, Held, IfTold, Lasts, Leaves, LeavesText, Looks, MadeQuiet, MadeSure, Passes, Room, Same, Stays, one_more};
+ghost use Rattle.dms_block.specs.Held.{Agrees, Alters, HasCauses, Held, IfTold, Lasts, Leaves, LeavesText, Looks, MadeQuiet, MadeSure, Passes, Room, Same, Stays, Synced, WentBack, one_more};
 ghost use Rattle.dms_block.specs.Texts.{Prints, PrintsFront};
 
 use crate::{Block, BlockFault, BlockId, Changes};
@@ -54,7 +54,7 @@ pub trait Blocks {
         ensures said { (held self.new).said ≡ (held self.old).said }
         ensures leaves { let a = held self.old in IfTold a (Leaves a (held self.new) (a.points ++ a.here ∷ []) (a.next + 1)) }
         ensures lasts { Lasts (held self.old) (held self.new) }
-        ensures uses { OnOk result ((held self.new).uses ≡ (held self.old).uses) }
+        ensures uses { (held self.new).uses ≡ (held self.old).uses }
         ensures memory { IsErrOf result BlockFault.Memory → ⊥ }
         ensures causes { HasCauses result (held self.old) (held self.new) }
         ensures silent { IsErrOf result BlockFault.Say → ⊥ }
@@ -65,7 +65,7 @@ pub trait Blocks {
         requires { (held self.old).sound }
         ensures made { OnOk result (MadeSure (held self.old) (held self.new)) }
         ensures passes { Passes (held self.old) (held self.new) }
-        ensures uses { OnOk result ((held self.new).uses ≡ record (held self.old).uses { syncs = one_more (held self.old).uses.syncs }) }
+        ensures uses { Synced result (held self.old).uses (held self.new).uses }
         ensures memory { IsErrOf result BlockFault.Memory → ⊥ }
         ensures causes { HasCauses result (held self.old) (held self.new) }
         ensures silent { IsErrOf result BlockFault.Say → ⊥ }
@@ -77,7 +77,7 @@ pub trait Blocks {
         ensures content { OnOk result (IsTrue (held self.old).told → (held self.new).content ≡ (held self.old).mark) }
         ensures stays { OnOk result (Stays (held self.old) (held self.new)) }
         ensures passes { Passes (held self.old) (held self.new) }
-        ensures uses { OnOk result ((held self.new).uses ≡ record (held self.old).uses { outs = one_more (held self.old).uses.outs }) }
+        ensures uses { WentBack result (held self.old).uses (held self.new).uses }
         ensures causes { HasCauses result (held self.old) (held self.new) }
         ensures silent { IsErrOf result BlockFault.Say → ⊥ }
         ensures same { same_blocks self.old self.new };
@@ -92,8 +92,8 @@ pub trait Blocks {
         ensures next { (held self.new).next ≡ (held self.old).next }
         ensures leaves { IfTold (held self.old) (LeavesText (held self.old) (held self.new) bytes.now) }
         ensures lasts { Lasts (held self.old) (held self.new) }
-        ensures uses { OnOk result ((held self.new).uses ≡ (held self.old).uses) }
-        ensures memory { IsErrOf result BlockFault.Memory → ⊥ }
+        ensures uses { (held self.new).uses ≡ (held self.old).uses }
+        ensures fault { IsOkUnless result BlockFault.Say }
         ensures causes { HasCauses result (held self.old) (held self.new) }
         ensures same { same_blocks self.old self.new };
 

@@ -41,7 +41,8 @@ fn by_nulls(op: Op, a: bool, b: bool) -> bool
     }
 }
 
-fn is_null(value: &Value) -> bool
+/// Whether a value is null.
+pub fn is_null(value: &Value) -> bool
     ensures { result ≡ is_null value.now }
 {
     matches!(value, Value::Null)

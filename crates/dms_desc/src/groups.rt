@@ -39,6 +39,7 @@ impl Groups {
         Ok(())
     }
 
+    /// The groups in their order.
     pub fn as_slice(&self) -> &[Group]
         ensures { result.now ≡ self.now }
     {

@@ -1,7 +1,7 @@
 -- A condition that was written is read again.
-use Rattle.std.proofs.Common.{◌≡◌, ℕ, zero, suc, ◌≤◌, Bool, true, false, List, ◌++◌, Option, Some, None, refl, ap, ◌∙◌, append_assoc, arith}
+use Rattle.std.proofs.Common.{◌≡◌, ℕ, zero, suc, ◌≤◌, true, List, ◌++◌, Option, Some, None, refl, ap, ◌∙◌, append_assoc, arith}
 use Rattle.std.specs.Prelude.{not, ◌&&◌}
-use Rattle.std.proofs.lemmas.Bool.{and_parts}
+use Rattle.std.proofs.lemmas.Bool.{and_parts, not-true}
 use Rattle.dms_base.specs.Fits.{fits}
 use Rattle.dms_base.specs.Spelling.{is_kind}
 use Rattle.dms_base.specs.declared.value.Value.{Value}
@@ -11,7 +11,8 @@ use Rattle.dms_desc.specs.declared.structure.Item.{Item}
 use Rattle.dms_desc.specs.Shape.{Tree}
 use Rattle.dms_desc.specs.Shape.Tree.{Empty, Test, Both, Either, Contrary}
 use Rattle.dms_desc_bytes.specs.Conditions.{nodes, is_comparable, compares_well}
-use Rattle.dms_desc_bytes.specs.Finding.{item_at, is_link}
+use Rattle.dms_desc.specs.Kinds.{is_link}
+use Rattle.dms_desc_bytes.specs.Finding.{item_at}
 use Rattle.dms_desc_bytes.specs.Members.{is_plain}
 use Rattle.dms_desc_bytes.specs.Reading.{Read, op_of, test_at, tree_at}
 use Rattle.dms_desc_bytes.specs.Spelling.{op_number, tree_bytes}
@@ -22,16 +23,12 @@ use Rattle.dms_desc_bytes.proofs.Values.{Spelled, literal_again, value_spelled}
 abbrev pub Kinds : List Item → Type 0
 Kinds items = (n : ℕ) (i : Item) → item_at items n ≡ Some i → is_kind i.kind ≡ true
 
-not_true : (b : Bool) → not b ≡ true → b ≡ false
-not_true true e = absurd cc
-not_true false e = refl
-
 comparable_spelled : (o : Option Item) (v : Value) → ((i : Item) → o ≡ Some i → is_kind i.kind ≡ true) → is_comparable o v ≡ true → Spelled v
 comparable_spelled None v kinds good = absurd cc
 comparable_spelled (Some i) v kinds good =
     let outer = and_parts (not (is_link i.kind) && fits i.kind v) (is_plain v) good in
     let inner = and_parts (not (is_link i.kind)) (fits i.kind v) outer.0 in
-    value_spelled i.kind v (kinds i refl) inner.1 outer.1 (not_true (is_link i.kind) inner.0)
+    value_spelled i.kind v (kinds i refl) inner.1 outer.1 (not-true (is_link i.kind) inner.0)
 
 op_again : (op : Op) → op_of (op_number op) ≡ op
 op_again Same = refl

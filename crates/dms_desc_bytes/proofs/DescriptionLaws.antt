@@ -11,7 +11,8 @@ use Rattle.dms_desc.specs.Shape.{Shape, Described}
 use Rattle.dms_desc_bytes.specs.Lists.{is_within, apart, total}
 use Rattle.dms_desc_bytes.specs.Reading.{Read, bytes_at, number_at, several, structure_at, all_structures_at, description_at}
 use Rattle.dms_desc_bytes.specs.Spelling.{structure_bytes, spelling}
-use Rattle.dms_desc_bytes.specs.WellFormed.{is_sound, numbered, names_differ, is_restart, not_both_restart, counted_in, has_parameters, are_sound, IsWellFormed}
+use Rattle.dms_desc.specs.Kinds.{is_restart}
+use Rattle.dms_desc_bytes.specs.WellFormed.{is_sound, numbered, names_differ, not_both_restart, counted_in, has_parameters, are_sound, IsWellFormed}
 use Rattle.dms_desc_bytes.proofs.Fields.{Again, bytes_again, u16_again}
 use Rattle.dms_desc_bytes.proofs.MemberLaws.{EachAgain, several_again, three}
 use Rattle.dms_desc_bytes.proofs.StructureLaws.{structure_again}

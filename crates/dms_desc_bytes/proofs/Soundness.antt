@@ -2,7 +2,7 @@
 use Rattle.std.proofs.Common.{◌≡◌, ℕ, ◌+◌, ◌-◌, ◌^◌, ◌<◌, ◌≤◌, Bool, true, false, cond, eqb, List, [], ◌∷◌, length, Option, Some, None, refl, sym, ap, subst, ◌∙◌, ◌++◌, arith, inl, inr, ◌⊎◌}
 use Rattle.std.specs.Prelude.{not, ◌&&◌, ◌||◌, ◌==◌, nat_le, slice_get}
 use Rattle.std.specs.List.{list_all}
-use Rattle.std.proofs.lemmas.Bool.{and_parts, leb-true, eqb-true}
+use Rattle.std.proofs.lemmas.Bool.{and_parts, leb-true, eqb-true, not-true}
 use Rattle.dms_base.specs.Name.{is_name}
 use Rattle.dms_base.specs.Fits.{fits}
 use Rattle.dms_base.specs.Spelling.{is_kind}
@@ -13,12 +13,15 @@ use Rattle.dms_desc.specs.declared.structure.Group.{Group}
 use Rattle.dms_desc.specs.Shape.{Tree, Shape}
 use Rattle.dms_desc.specs.Shape.Tree.{Empty, Test, Both, Either, Contrary}
 use Rattle.dms_desc_bytes.specs.Conditions.{nodes, compares_well, is_nothing, is_condition}
-use Rattle.dms_desc_bytes.specs.Finding.{structure_at, kind_in, kind_of, owner_of, items_in, items_of}
+use Rattle.dms_desc.specs.Widths.{record_width}
+use Rattle.dms_desc.specs.Lookups.{structure_at, items_of}
+use Rattle.dms_desc_bytes.specs.Finding.{kind_in, kind_of, owner_of, items_at}
 use Rattle.dms_desc_bytes.specs.Lists.{is_within, is_empty, apart, total}
-use Rattle.dms_desc_bytes.specs.Members.{is_plain, is_null, is_link_sound, points_well, is_item_sound, items_in_group, is_no_link, is_group_sound, members_differ, groups_follow}
+use Rattle.dms_desc.specs.Conds.{is_null}
+use Rattle.dms_desc_bytes.specs.Members.{is_plain, is_link_sound, points_well, is_item_sound, items_in_group, is_no_link, is_group_sound, members_differ, groups_follow}
 use Rattle.dms_desc_bytes.specs.Reading as reading
 use Rattle.dms_desc_bytes.specs.Spelling.{is_data_set, item_bytes, group_bytes, tree_bytes}
-use Rattle.dms_desc_bytes.specs.WellFormed.{is_open_behind, is_owned_well, is_shallow, has_member, has_sound_items, has_sound_groups, has_sound_verify, lacks_set_fields, is_data_set_sound, is_key_sound, is_set_placed, is_populated, is_where_sound, is_set_sound, is_placed, has_sound_fields, is_sound, width_of, parts_differ, is_part_sound, part_width}
+use Rattle.dms_desc_bytes.specs.WellFormed.{is_open_behind, is_owned_well, is_shallow, has_member, has_sound_items, has_sound_groups, has_sound_verify, lacks_set_fields, is_data_set_sound, is_key_sound, is_set_placed, is_populated, is_where_sound, is_set_sound, is_placed, has_sound_fields, is_sound, parts_differ, is_part_sound, part_width}
 use Rattle.dms_desc_bytes.proofs.Fields.{Again}
 use Rattle.dms_desc_bytes.proofs.Places.{at_place, all_at}
 use Rattle.dms_desc_bytes.proofs.Values.{Typed, Spelled, value_spelled, null_spelled}
@@ -120,10 +123,6 @@ empty_is : {A : Type 0} (xs : List A) → is_empty xs ≡ true → xs ≡ []
 empty_is [] none = refl
 empty_is (x ∷ xs) none = absurd cc
 
-not_true : (b : Bool) → not b ≡ true → b ≡ false
-not_true true e = absurd cc
-not_true false e = refl
-
 within_most : (least most n : ℕ) → is_within least most n ≡ true → n ≤ most
 within_most least most n good = leb-true n most (and_parts (nat_le least n) (nat_le n most) good).1
 
@@ -148,7 +147,7 @@ data_set_parts ss s good =
 items_parts : (ss : List Shape) (s : Shape) → has_sound_items ss s ≡ true → (length s.items ≤ 60) × (list_all (is_item_sound ss) s.items ≡ true)
 unfolding has_sound_items
 items_parts ss s good =
-    let b = and_parts (nat_le (length s.items) 60 && list_all (is_item_sound ss) s.items) (nat_le (total width_of s.items) 480) good in
+    let b = and_parts (nat_le (length s.items) 60 && list_all (is_item_sound ss) s.items) (nat_le (record_width s.items) 480) good in
     let a = and_parts (nat_le (length s.items) 60) (list_all (is_item_sound ss) s.items) b.0 in
     (leb-true (length s.items) 60 a.0, a.1)
 
@@ -165,7 +164,7 @@ lacks_parts s good =
     let c = and_parts (s.set == 0 && s.form == 0 && not s.duplicates) (is_empty s.parts) good in
     let b = and_parts (s.set == 0 && s.form == 0) (not s.duplicates) c.0 in
     let a = and_parts (s.set == 0) (s.form == 0) b.0 in
-    (eqb-true s.set 0 a.0, eqb-true s.form 0 a.1, not_true s.duplicates b.1, empty_is s.parts c.1)
+    (eqb-true s.set 0 a.0, eqb-true s.form 0 a.1, not-true s.duplicates b.1, empty_is s.parts c.1)
 
 data_set_spelled : (ss : List Shape) (s : Shape) → length ss ≤ 200 → is_data_set_sound ss s ≡ true → SpelledDataSet s
 data_set_spelled ss s few good =
@@ -192,8 +191,8 @@ data_set_spelled ss s few good =
 record SetParts (ss : List Shape) (s : Shape) : Type 0 where
   pub of : is_data_set (kind_of ss s.set) ≡ true
   pub population : is_populated s ≡ true
-  pub key : is_key_sound (items_of ss s.set) s.parts ≡ true
-  pub cond : is_where_sound (items_of ss s.set) s ≡ true
+  pub key : is_key_sound (items_at ss s.set) s.parts ≡ true
+  pub cond : is_where_sound (items_at ss s.set) s ≡ true
   pub items : is_empty s.items ≡ true
   pub groups : is_empty s.groups ≡ true
 
@@ -204,10 +203,10 @@ set_parts ss s good =
     let b = is_set_placed ss s in
     let c = is_populated s in
     let d = is_within 1 2 s.form in
-    let e = is_key_sound (items_of ss s.set) s.parts in
+    let e = is_key_sound (items_at ss s.set) s.parts in
     let f = s.kind == 5 || not (is_empty s.parts) in
     let g = s.duplicates || not (is_empty s.parts) in
-    let h = is_where_sound (items_of ss s.set) s in
+    let h = is_where_sound (items_at ss s.set) s in
     let i = is_empty s.items in
     let j = is_empty s.groups in
     let nine = and_parts (a && b && c && d && e && f && g && h && i) j good in
@@ -267,8 +266,8 @@ set_case true ss s good e = absurd cc
 set_case false ss s good e = good
 
 -- the items of the data set of a set are of kinds that a schema can declare
-of_kinds : (ss : List Shape) (n : ℕ) → list_all (is_sound ss) ss ≡ true → is_data_set (kind_of ss n) ≡ true → Kinds (items_of ss n)
-unfolding kind_of items_of
+of_kinds : (ss : List Shape) (n : ℕ) → list_all (is_sound ss) ss ≡ true → is_data_set (kind_of ss n) ≡ true → Kinds (items_at ss n)
+unfolding kind_of items_at
 of_kinds ss n all holds =
     let found = named ss n (not_zero (kind_of ss n) holds) in
     let t = found.0 in
@@ -277,21 +276,21 @@ of_kinds ss n all holds =
     let fields = (fields_parts ss t (all_at (is_sound ss) ss (n - 1) t all found.1)).2 in
     let good = data_set_case (is_data_set t.kind) ss t fields data_set in
     let kinds = kinds_of ss t.items (items_parts ss t (data_set_parts ss t good).items).1 in
-    subst (λ (o : Option Shape). Kinds (items_in o)) (sym same) kinds
+    subst (λ (o : Option Shape). Kinds (items_of o)) (sym same) kinds
 
 set_spelled : (ss : List Shape) (s : Shape) → length ss ≤ 200 → list_all (is_sound ss) ss ≡ true → is_set_sound ss s ≡ true → SpelledSet s
 set_spelled ss s few all good =
     let parts = set_parts ss s good in
     let low = (named ss s.set (not_zero (kind_of ss s.set) parts.of)).2 in
     let most = populated_case (eqb s.kind 5) s.population parts.population in
-    let keys = key_parts (items_of ss s.set) s parts.key in
+    let keys = key_parts (items_at ss s.set) s parts.key in
     let kinds = of_kinds ss s.set all parts.of in
     record {
       set = omega (arith, few, low);
       population = omega (arith, most);
       few_parts = omega (arith, keys);
-      has_where = λ e. condition_again (items_of ss s.set) s.cond kinds (where_has (eqb s.kind 4) (items_of ss s.set) s.cond parts.cond e);
-      no_where = where_lacks (eqb s.kind 4) (items_of ss s.set) s.cond parts.cond;
+      has_where = λ e. condition_again (items_at ss s.set) s.cond kinds (where_has (eqb s.kind 4) (items_at ss s.set) s.cond parts.cond e);
+      no_where = where_lacks (eqb s.kind 4) (items_at ss s.set) s.cond parts.cond;
       no_items = empty_is s.items parts.items;
       no_groups = empty_is s.groups parts.groups;
     }

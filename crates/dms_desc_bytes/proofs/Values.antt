@@ -18,8 +18,9 @@ use Rattle.dms_base.specs.declared.value.Value.{Value}
 use Rattle.dms_base.specs.declared.value.Value.TheVariants.{Null, Text, Number, Bool as Truth, Bits, Link}
 use Rattle.dms_base.specs.declared.kind.ItemKind.{ItemKind}
 use Rattle.dms_base.specs.declared.kind.ItemKind.TheVariants.{Alpha, Number as Decimal, Bool as OneBit, Field, Link as LinkTo}
-use Rattle.dms_desc_bytes.specs.Finding.{is_link}
-use Rattle.dms_desc_bytes.specs.Members.{is_plain, is_null}
+use Rattle.dms_desc.specs.Kinds.{is_link}
+use Rattle.dms_desc.specs.Conds.{is_null}
+use Rattle.dms_desc_bytes.specs.Members.{is_plain}
 use Rattle.dms_desc_bytes.specs.Reading.{Read, name_at, name_or_unknown, text_or_null, text_at, long_at, truth_at, bits_at, literal_at, kind_at, unshifted}
 use Rattle.dms_desc_bytes.specs.Spelling.{name_bytes, literal_bytes, kind_bytes, shifted}
 use Rattle.dms_desc_bytes.proofs.Fields.{Again, u64_again, flag_again, counted_again}

@@ -6,7 +6,8 @@ use Rattle.dms_base.specs.Fits.{fits}
 use Rattle.dms_desc.specs.declared.structure.Item.{Item}
 use Rattle.dms_desc.specs.Shape.{Tree}
 use Rattle.dms_desc.specs.Shape.Tree.{Empty, Test, Both, Either, Contrary}
-use Rattle.dms_desc_bytes.specs.Finding.{item_at, is_link}
+use Rattle.dms_desc.specs.Kinds.{is_link}
+use Rattle.dms_desc_bytes.specs.Finding.{item_at}
 use Rattle.dms_desc_bytes.specs.Members.{is_plain}
 
 -- each comparison, NOT, AND and OR is a node

@@ -1,14 +1,9 @@
 -- Structures and items, looked up by their numbers, which count from 1.
-use Rattle.std.specs.Prelude.{ℕ, ◌-◌, List, [], Bool, true, false, ◌==◌, slice_get, Some, None, if◌then◌else◌}
+use Rattle.std.specs.Prelude.{ℕ, ◌-◌, List, ◌==◌, slice_get, Some, None, if◌then◌else◌}
 use Rattle.std.specs.declared.option.Option.{Option}
-use Rattle.dms_base.specs.declared.kind.ItemKind.{ItemKind}
-use Rattle.dms_base.specs.declared.kind.ItemKind.TheVariants.{Alpha, Number as Decimal, Bool as OneBit, Field, Link as LinkTo}
 use Rattle.dms_desc.specs.declared.structure.Item.{Item}
+use Rattle.dms_desc.specs.Lookups.{structure_at, items_of}
 use Rattle.dms_desc.specs.Shape.{Shape}
-
--- the structure with this number: number n stands at place n - 1
-abbrev pub structure_at : List Shape → ℕ → Option Shape
-structure_at ss n = if n == 0 then None else slice_get ss (n - 1)
 
 abbrev pub kind_in : Option Shape → ℕ
 kind_in None = 0
@@ -17,10 +12,6 @@ kind_in (Some s) = s.kind
 abbrev pub owner_in : Option Shape → ℕ
 owner_in None = 0
 owner_in (Some s) = s.owner
-
-abbrev pub items_in : Option Shape → List Item
-items_in None = []
-items_in (Some s) = s.items
 
 -- the kind of the structure with this number, 0 where there is none
 unfoldable pub kind_of : List Shape → ℕ → ℕ
@@ -31,16 +22,9 @@ unfoldable pub owner_of : List Shape → ℕ → ℕ
 owner_of ss n = owner_in (structure_at ss n)
 
 -- its items, none where there is no such structure
-unfoldable pub items_of : List Shape → ℕ → List Item
-items_of ss n = items_in (structure_at ss n)
+unfoldable pub items_at : List Shape → ℕ → List Item
+items_at ss n = items_of (structure_at ss n)
 
 -- the item with this number
 abbrev pub item_at : List Item → ℕ → Option Item
 item_at items n = if n == 0 then None else slice_get items (n - 1)
-
-abbrev pub is_link : ItemKind → Bool
-is_link (LinkTo target counted) = true
-is_link (Alpha n) = false
-is_link (Decimal n m s) = false
-is_link OneBit = false
-is_link (Field n) = false

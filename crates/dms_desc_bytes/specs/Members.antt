@@ -13,7 +13,9 @@ use Rattle.dms_base.specs.Text.{is_printable, trimmed}
 use Rattle.dms_desc.specs.declared.structure.Item.{Item}
 use Rattle.dms_desc.specs.declared.structure.Group.{Group}
 use Rattle.dms_desc.specs.Shape.{Shape}
-use Rattle.dms_desc_bytes.specs.Finding.{kind_of, owner_of, is_link}
+use Rattle.dms_desc.specs.Conds.{is_null}
+use Rattle.dms_desc.specs.Kinds.{is_link}
+use Rattle.dms_desc_bytes.specs.Finding.{kind_of, owner_of}
 use Rattle.dms_desc_bytes.specs.Lists.{apart}
 use Rattle.dms_desc_bytes.specs.Spelling.{is_data_set}
 
@@ -25,14 +27,6 @@ is_plain (Number z) = true
 is_plain (Truth b) = true
 is_plain (Bits n) = true
 is_plain (Reference n) = true
-
-abbrev pub is_null : Value → Bool
-is_null Null = true
-is_null (Text bytes) = false
-is_null (Number z) = false
-is_null (Truth b) = false
-is_null (Bits n) = false
-is_null (Reference n) = false
 
 -- a link points to a data set that stands in no other, is never required, and begins as null
 unfoldable pub is_link_sound : List Shape → ℕ → Item → Bool
@@ -87,14 +81,6 @@ is_group_sound items g =
 -- groups stand in the order of their items, and no item is in two of them
 abbrev pub groups_follow : Group → Group → Bool
 groups_follow a b = nat_le (a.first + a.count) b.first
-
--- an item in a record or a key: a byte for its presence, and its value
-abbrev pub item_width : ItemKind → ℕ
-item_width (Alpha n) = n + 1
-item_width (Decimal n m s) = 9
-item_width OneBit = 2
-item_width (Field n) = 9
-item_width (LinkTo target counted) = 5
 
 -- one for a counted link
 abbrev pub counted_one : ItemKind → ℕ

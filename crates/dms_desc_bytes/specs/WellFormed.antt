@@ -8,9 +8,11 @@ use Rattle.dms_desc.specs.declared.structure.Item.{Item}
 use Rattle.dms_desc.specs.declared.structure.KeyPart.{KeyPart}
 use Rattle.dms_desc.specs.Shape.{Shape, Described}
 use Rattle.dms_desc_bytes.specs.Conditions.{is_condition, is_nothing}
-use Rattle.dms_desc_bytes.specs.Finding.{kind_of, owner_of, items_of, item_at, is_link}
+use Rattle.dms_desc.specs.Kinds.{is_link, is_restart, is_automatic, is_manual}
+use Rattle.dms_desc_bytes.specs.Finding.{kind_of, owner_of, item_at, items_at}
 use Rattle.dms_desc_bytes.specs.Lists.{is_within, is_empty, apart, total}
-use Rattle.dms_desc_bytes.specs.Members.{is_item_sound, is_group_sound, members_differ, groups_follow, item_width, counted_one}
+use Rattle.dms_desc.specs.Widths.{item_width, record_width}
+use Rattle.dms_desc_bytes.specs.Members.{is_item_sound, is_group_sound, members_differ, groups_follow, counted_one}
 use Rattle.dms_desc_bytes.specs.Spelling.{is_data_set, spelling}
 
 -- ---- where a structure stands
@@ -36,9 +38,6 @@ has_member ss s = not (is_empty s.items) || list_any (stands_in s.number) ss
 
 -- ---- data sets
 
-abbrev pub width_of : Item → ℕ
-width_of i = item_width i.kind
-
 -- the items and links of a data set
 unfoldable pub has_sound_items : List Shape → Shape → Bool
 has_sound_items ss s =
@@ -47,7 +46,7 @@ has_sound_items ss s =
     -- each with its name, type, initial value and what it points to
     && list_all (is_item_sound ss) s.items
     -- a record has at most 480 bytes
-    && nat_le (total width_of s.items) 480
+    && nat_le (record_width s.items) 480
 
 -- the groups of a data set
 unfoldable pub has_sound_groups : Shape → Bool
@@ -83,7 +82,7 @@ is_data_set_sound ss s =
 
 -- the restart data set stands in no other
 abbrev pub is_placed : Shape → Bool
-is_placed s = not (s.kind == 2) || s.owner == 0
+is_placed s = not (is_restart s) || s.owner == 0
 
 -- ---- sets and subsets
 
@@ -120,15 +119,15 @@ is_key_sound items ps =
 -- a set or subset stands where its data set stands; a manual subset of a data set that stands in no other may
 -- stand in any data set but the restart data set
 unfoldable pub is_set_placed : List Shape → Shape → Bool
-is_set_placed ss s = s.owner == owner_of ss s.set || (s.kind == 5 && owner_of ss s.set == 0)
+is_set_placed ss s = s.owner == owner_of ss s.set || (is_manual s && owner_of ss s.set == 0)
 
 -- POPULATION: the entries that a manual subset may have; the others say none
 abbrev pub is_populated : Shape → Bool
-is_populated s = if s.kind == 5 then is_within 1 1000000 s.population else s.population == 0
+is_populated s = if is_manual s then is_within 1 1000000 s.population else s.population == 0
 
 -- an automatic subset has a WHERE, and no other set or subset has one
 abbrev pub is_where_sound : List Item → Shape → Bool
-is_where_sound items s = if s.kind == 4 then is_condition items s.cond else is_nothing s.cond
+is_where_sound items s = if is_automatic s then is_condition items s.cond else is_nothing s.cond
 
 -- a set or subset
 unfoldable pub is_set_sound : List Shape → Shape → Bool
@@ -139,12 +138,12 @@ is_set_sound ss s =
     && is_populated s
     -- INDEX SEQUENTIAL or ORDERED LIST
     && is_within 1 2 s.form
-    && is_key_sound (items_of ss s.set) s.parts
+    && is_key_sound (items_at ss s.set) s.parts
     -- a set and an automatic subset have a key
-    && (s.kind == 5 || not (is_empty s.parts))
+    && (is_manual s || not (is_empty s.parts))
     -- without a key there are duplicates
     && (s.duplicates || not (is_empty s.parts))
-    && is_where_sound (items_of ss s.set) s
+    && is_where_sound (items_at ss s.set) s
     -- nothing of what only data sets have
     && is_empty s.items
     && is_empty s.groups
@@ -173,11 +172,8 @@ numbered n (s ∷ ss) = s.number == n && numbered (n + 1) ss
 abbrev pub names_differ : Shape → Shape → Bool
 names_differ a b = not (bytes_eq a.name b.name)
 
-abbrev pub is_restart : Shape → Bool
-is_restart s = s.kind == 2
-
 abbrev pub not_both_restart : Shape → Shape → Bool
-not_both_restart a b = not (a.kind == 2 && b.kind == 2)
+not_both_restart a b = not (is_restart a && is_restart b)
 
 abbrev pub counted_in : Shape → ℕ
 counted_in s = total (λ i. counted_one i.kind) s.items

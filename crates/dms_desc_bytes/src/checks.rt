@@ -2,16 +2,16 @@ ghost use Rattle.std.specs.Prelude.{◌≡◌, ◌+◌, map, min};
 ghost use Rattle.std.specs.List.{list_all, list_any};
 ghost use Rattle.dms_desc.specs.Shape.{shape_of, described};
 ghost use Rattle.dms_desc_bytes.specs.Lists.{apart, total};
-ghost use Rattle.dms_desc_bytes.specs.WellFormed.{is_open_behind, is_owned_well, is_shallow, stands_in, has_member, has_sound_items, has_sound_groups, has_sound_verify, lacks_set_fields, is_data_set_sound, is_placed, has_sound_fields, is_sound, numbered, names_differ, is_restart, not_both_restart, counted_in, has_parameters, are_sound};
+ghost use Rattle.dms_desc.specs.Kinds.{is_restart};
+ghost use Rattle.dms_desc_bytes.specs.WellFormed.{is_open_behind, is_owned_well, is_shallow, stands_in, has_member, has_sound_items, has_sound_groups, has_sound_verify, lacks_set_fields, is_data_set_sound, is_placed, has_sound_fields, is_sound, numbered, names_differ, not_both_restart, counted_in, has_parameters, are_sound};
 
 use crate::conds::{is_condition, is_nothing};
 use crate::finding::{is_data_set, kind_of, owner_of};
 use crate::members::{
     are_groups_sound, are_items_sound, counted_links, groups_follow, is_name, members_differ,
-    record_width,
 };
 use crate::sets::{MOST_RECORDS, is_set_sound};
-use dms_desc::{Description, Structure};
+use dms_desc::{Description, Structure, record_width};
 
 /// Whether structure `number` can be open behind structure `before`.
 fn is_open_behind(structures: &[Structure], before: u16, number: u16) -> bool
@@ -102,7 +102,7 @@ fn is_data_set_sound(structures: &[Structure], s: &Structure) -> bool
 fn is_placed(s: &Structure) -> bool
     ensures { result ≡ is_placed (shape_of s.now) }
 {
-    s.kind != 2 || s.owner == 0
+    !s.is_restart() || s.owner == 0
 }
 
 /// Whether a structure has what its kind asks for.
@@ -176,7 +176,7 @@ fn has_restart(structures: &[Structure]) -> bool
     ensures { result ≡ list_any is_restart (map shape_of structures.now) }
 {
     for s in structures {
-        if s.kind == 2 {
+        if s.is_restart() {
             return true;
         }
     }
@@ -187,7 +187,7 @@ fn is_only_restart(s: &Structure, others: &[Structure]) -> bool
     ensures { result ≡ list_all (not_both_restart (shape_of s.now)) (map shape_of others.now) }
 {
     for other in others {
-        if s.kind == 2 && other.kind == 2 {
+        if s.is_restart() && other.is_restart() {
             return false;
         }
     }

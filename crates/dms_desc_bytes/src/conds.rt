@@ -3,7 +3,7 @@ ghost use Rattle.dms_desc.specs.Shape.{tree_of};
 ghost use Rattle.dms_desc_bytes.specs.Conditions.{nodes, is_comparable, compares_well, is_nothing, is_condition};
 ghost use Rattle.dms_desc_bytes.specs.Finding.{item_at};
 
-use crate::finding::{is_link, item_at};
+use crate::finding::item_at;
 use crate::members::is_plain;
 use dms_base::{Value, fits};
 use dms_desc::{Cond, Item};
@@ -26,7 +26,7 @@ fn is_comparable(items: &[Item], item: u8, value: &Value) -> bool
 {
     match item_at(items, item) {
         None => false,
-        Some(item) => !is_link(&item.kind) && fits(&item.kind, value) && is_plain(value),
+        Some(item) => !item.is_link() && fits(&item.kind, value) && is_plain(value),
     }
 }
 

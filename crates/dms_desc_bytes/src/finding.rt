@@ -1,21 +1,12 @@
 ghost use Rattle.std.specs.Prelude.{◌≡◌, map, option_map};
 ghost use Rattle.std.specs.Option.{option_copied};
 ghost use Rattle.dms_desc.specs.Shape.{shape_of};
-ghost use Rattle.dms_desc_bytes.specs.Finding.{structure_at, kind_of, owner_of, items_of, item_at, is_link};
+ghost use Rattle.dms_desc.specs.Kinds.{is_link};
+ghost use Rattle.dms_desc.specs.Lookups.{structure_at};
+ghost use Rattle.dms_desc_bytes.specs.Finding.{kind_of, owner_of, item_at, items_at};
 ghost use Rattle.dms_desc_bytes.specs.Spelling.{is_data_set};
 
-use dms_base::ItemKind;
-use dms_desc::{Item, Structure};
-
-/// The structure with this number.
-fn structure_at(structures: &[Structure], number: u16) -> Option<&Structure>
-    ensures { option_map (λ s. shape_of s.now) result ≡ structure_at (map shape_of structures.now) number }
-{
-    if number == 0 {
-        return None;
-    }
-    structures.get(number as usize - 1)
-}
+use dms_desc::{Item, Structure, structure_at};
 
 /// The kind of the structure with this number, 0 where there is none.
 #[tactic(auto, unfolding(crate::specs::Finding::kind_of))]
@@ -40,9 +31,9 @@ pub fn owner_of(structures: &[Structure], number: u16) -> u16
 }
 
 /// Its items, none where there is no such structure.
-#[tactic(auto, unfolding(crate::specs::Finding::items_of))]
-pub fn items_of(structures: &[Structure], number: u16) -> &[Item]
-    ensures { result.now ≡ items_of (map shape_of structures.now) number }
+#[tactic(auto, unfolding(crate::specs::Finding::items_at))]
+pub fn items_at(structures: &[Structure], number: u16) -> &[Item]
+    ensures { result.now ≡ items_at (map shape_of structures.now) number }
 {
     match structure_at(structures, number) {
         None => &[],
@@ -65,11 +56,4 @@ pub fn item_at(items: &[Item], number: u8) -> Option<&Item>
         return None;
     }
     items.get(number as usize - 1)
-}
-
-/// Whether this is the kind of a link.
-pub fn is_link(kind: &ItemKind) -> bool
-    ensures { result ≡ is_link kind.now }
-{
-    matches!(kind, ItemKind::Link(_, _))
 }

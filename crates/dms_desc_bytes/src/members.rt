@@ -6,24 +6,19 @@ ghost use Rattle.dms_base.specs.Spelling.{is_kind};
 ghost use Rattle.dms_base.specs.Text.{is_printable};
 ghost use Rattle.dms_desc.specs.Shape.{shape_of};
 ghost use Rattle.dms_desc_bytes.specs.Lists.{apart, total};
-ghost use Rattle.dms_desc_bytes.specs.Members.{is_plain, is_null, is_link_sound, points_well, is_item_sound, items_differ, groups_differ, is_free_of, members_differ, items_in_group, is_no_link, is_group_sound, groups_follow, item_width, counted_one};
-ghost use Rattle.dms_desc_bytes.specs.WellFormed.{width_of};
+ghost use Rattle.dms_desc.specs.Conds.{is_null};
+ghost use Rattle.dms_desc.specs.Widths.{item_width};
+ghost use Rattle.dms_desc_bytes.specs.Members.{is_plain, is_link_sound, points_well, is_item_sound, items_differ, groups_differ, is_free_of, members_differ, items_in_group, is_no_link, is_group_sound, groups_follow, counted_one};
 
-use crate::finding::{is_data_set, is_link, kind_of, owner_of};
-use dms_base::{ItemKind, Name, Value, fits, is_printable, trimmed};
-use dms_desc::{Group, Item, Structure};
+use crate::finding::{is_data_set, kind_of, owner_of};
+use dms_base::{ItemKind, Name, Value, fits, has_printable, is_kind, trimmed};
+use dms_desc::{Group, Item, Structure, is_null};
 
 /// Whether these bytes are a name.
 pub fn is_name(name: &Name) -> bool
     ensures { result ≡ is_name name.now }
 {
     Name::read(name.bytes()).is_some()
-}
-
-fn has_printable(bytes: &[u8]) -> bool
-    ensures { result ≡ list_all is_printable bytes.now }
-{
-    bytes.iter().all(|byte| is_printable(*byte))
 }
 
 /// Whether a text has printable characters and no space at its end.
@@ -33,24 +28,6 @@ pub fn is_plain(value: &Value) -> bool
     match value {
         Value::Text(text) => has_printable(text.bytes()) && trimmed(text.bytes()) == text.bytes(),
         _ => true,
-    }
-}
-
-fn is_null(value: &Value) -> bool
-    ensures { result ≡ is_null value.now }
-{
-    matches!(value, Value::Null)
-}
-
-fn is_kind(kind: &ItemKind) -> bool
-    ensures { result ≡ is_kind kind.now }
-{
-    match kind {
-        ItemKind::Alpha(n) => 1 <= *n && *n <= 200,
-        ItemKind::Number(n, m, _) => 1 <= *n && *n <= 18 && *m <= *n,
-        ItemKind::Bool => true,
-        ItemKind::Field(n) => 1 <= *n && *n <= 48,
-        ItemKind::Link(_, _) => true,
     }
 }
 
@@ -153,7 +130,7 @@ fn lacks_links(items: &[Item], group: &Group) -> bool
         .iter()
         .skip((group.first as usize).saturating_sub(1))
         .take(group.count as usize)
-        .all(|item| !is_link(&item.kind))
+        .all(|item| !item.is_link())
 }
 
 #[tactic(auto, unfolding(crate::specs::Members::is_group_sound))]
@@ -191,30 +168,6 @@ pub fn groups_follow(groups: &[Group]) -> bool
         }
     }
     true
-}
-
-/// The bytes of an item in a record or a key.
-pub fn item_width(kind: &ItemKind) -> u32
-    ensures { result ≡ item_width kind.now }
-{
-    match kind {
-        ItemKind::Alpha(n) => u32::from(*n) + 1,
-        ItemKind::Number(_, _, _) => 9,
-        ItemKind::Bool => 2,
-        ItemKind::Field(_) => 9,
-        ItemKind::Link(_, _) => 5,
-    }
-}
-
-/// The bytes of a record; the count stops at 2^32 - 1.
-pub fn record_width(items: &[Item]) -> u32
-    ensures { result ≡ min (total width_of items.now) 4294967295 }
-{
-    let mut width = 0u32;
-    for item in items {
-        width = width.saturating_add(item_width(&item.kind));
-    }
-    width
 }
 
 fn counted_one(kind: &ItemKind) -> u32

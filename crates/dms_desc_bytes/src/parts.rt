@@ -23,6 +23,7 @@ fn read_item(alloc: Global, input: &mut Input<'_>) -> Result<Item, Memory>
     })
 }
 
+/// Reads the items and links of a data set, their count first.
 #[tactic(auto, unfolding(crate::specs::Reading::list_at))]
 pub fn read_items(alloc: Global, input: &mut Input<'_>) -> Result<Items, Memory>
     ensures { IfOk result (λ v. (v, input.new) ≡ list_at item_at input.old) }
@@ -45,6 +46,7 @@ fn read_group(input: &mut Input<'_>) -> Group
     Group { name, first, count }
 }
 
+/// Reads the groups of a data set, their count first.
 #[tactic(auto, unfolding(crate::specs::Reading::list_at))]
 pub fn read_groups(alloc: Global, input: &mut Input<'_>) -> Result<Groups, Memory>
     ensures { IfOk result (λ v. (v, input.new) ≡ list_at group_at input.old) }
@@ -66,6 +68,7 @@ fn read_part(input: &mut Input<'_>) -> KeyPart
     KeyPart { item, descending }
 }
 
+/// Reads the parts of a key, their count first.
 #[tactic(auto, unfolding(crate::specs::Reading::list_at))]
 pub fn read_parts(alloc: Global, input: &mut Input<'_>) -> Result<KeyParts, Memory>
     ensures { IfOk result (λ v. (v, input.new) ≡ list_at part_at input.old) }

@@ -6,9 +6,8 @@ ghost use Rattle.dms_desc_bytes.specs.Lists.{apart, total};
 ghost use Rattle.dms_desc_bytes.specs.WellFormed.{is_part_sound, parts_differ, part_width, width_in, is_key_sound, is_set_placed, is_populated, is_where_sound, is_set_sound};
 
 use crate::conds::{is_condition, is_nothing};
-use crate::finding::{is_data_set, is_link, item_at, items_of, kind_of, owner_of};
-use crate::members::item_width;
-use dms_desc::{Item, KeyPart, Structure};
+use crate::finding::{is_data_set, item_at, items_at, kind_of, owner_of};
+use dms_desc::{Item, KeyPart, Structure, item_width};
 
 /// The entries that a manual subset may have.
 pub const MOST_RECORDS: u32 = 1_000_000;
@@ -18,7 +17,7 @@ fn is_part_sound(items: &[Item], part: &KeyPart) -> bool
 {
     match item_at(items, part.item) {
         None => false,
-        Some(item) => !is_link(&item.kind),
+        Some(item) => !item.is_link(),
     }
 }
 
@@ -50,7 +49,7 @@ fn part_width(items: &[Item], part: &KeyPart) -> u32
 {
     match item_at(items, part.item) {
         None => 0,
-        Some(item) => item_width(&item.kind),
+        Some(item) => item_width(item.kind),
     }
 }
 
@@ -80,13 +79,13 @@ fn is_set_placed(structures: &[Structure], s: &Structure) -> bool
     ensures { result ≡ is_set_placed (map shape_of structures.now) (shape_of s.now) }
 {
     let owner = owner_of(structures, s.set);
-    s.owner == owner || (s.kind == 5 && owner == 0)
+    s.owner == owner || (s.is_manual() && owner == 0)
 }
 
 fn is_populated(s: &Structure) -> bool
     ensures { result ≡ is_populated (shape_of s.now) }
 {
-    if s.kind == 5 {
+    if s.is_manual() {
         return 1 <= s.population && s.population <= MOST_RECORDS;
     }
     s.population == 0
@@ -95,7 +94,7 @@ fn is_populated(s: &Structure) -> bool
 fn is_where_sound(items: &[Item], s: &Structure) -> bool
     ensures { result ≡ is_where_sound items.now (shape_of s.now) }
 {
-    if s.kind == 4 {
+    if s.is_automatic() {
         return is_condition(items, &s.cond);
     }
     is_nothing(&s.cond)
@@ -106,7 +105,7 @@ fn is_where_sound(items: &[Item], s: &Structure) -> bool
 pub fn is_set_sound(structures: &[Structure], s: &Structure) -> bool
     ensures { result ≡ is_set_sound (map shape_of structures.now) (shape_of s.now) }
 {
-    let items = items_of(structures, s.set);
+    let items = items_at(structures, s.set);
     let parts = s.parts.as_slice();
     is_data_set(kind_of(structures, s.set))
         && is_set_placed(structures, s)
@@ -114,7 +113,7 @@ pub fn is_set_sound(structures: &[Structure], s: &Structure) -> bool
         && 1 <= s.form
         && s.form <= 2
         && is_key_sound(items, parts)
-        && (s.kind == 5 || !parts.is_empty())
+        && (s.is_manual() || !parts.is_empty())
         && (s.duplicates || !parts.is_empty())
         && is_where_sound(items, s)
         && s.items.as_slice().is_empty()

@@ -5,6 +5,9 @@ use Rattle.std.specs.Str.{bytes_eq}
 use Rattle.std.proofs.lemmas.Slice.Eq.{bytes_eq-Decides}
 use Rattle.std.specs.Int.{w32, to_be_bytes}
 use Rattle.dms_desc.specs.declared.description.Description.{Description}
+use Rattle.std.specs.Prelude.{IfSome}
+use Rattle.dms_desc.specs.Shape.{described}
+use Rattle.dms_desc_bytes.specs.WellFormed.{IsWellFormed}
 use Rattle.dms_desc_bytes.specs.Spelling.{spelling}
 use Rattle.dms_desc_bytes.specs.Decoding.{Decodes}
 use Rattle.dms_site.specs.Files.{range}
@@ -100,3 +103,8 @@ whole_read file into new items len n long size count is =
     let none : drop n into ≡ [] = drop_all n into (omega (arith, long, size, count, ap length all)) in
     let same : new ≡ file = is ∙ (λ i. all i ++ none i) ∙ append-nil file in
     take_at new (drop (length new) items) len (omega (arith, long, ap length same)) ∙ same
+
+-- what is decoded is well-formed
+pub sound_of : (bytes : List ℕ) (read : Option Description) → Decodes bytes read → IfSome read (λ d. IsWellFormed (described d))
+sound_of bytes None decodes = tt
+sound_of bytes (Some d) decodes = decodes.0

@@ -1,15 +1,15 @@
 -- What is kept through each call.
-use Rattle.std.proofs.Common.{ℕ, ◌+◌, ◌^◌, ◌<◌, ◌≤◌, ◌≡◌, ◌≢◌, ◌⊎◌, inl, inr, ⊎_elim, refl, sym, ◌∙◌, ap, subst, List, [], ◌∷◌, ◌++◌, length, Bool, true, false, IsTrue, Some, None, arith, zero, suc}
+use Rattle.std.proofs.Common.{ℕ, ◌^◌, ◌<◌, ◌≡◌, ◌≢◌, ◌⊎◌, inl, inr, ⊎_elim, sym, ◌∙◌, ap, subst, List, [], ◌∷◌, ◌++◌, length, Bool, true, false, Some, None, arith, zero, suc}
 use Rattle.std.specs.Prelude.{slice_get, slice_set}
 use Rattle.std.proofs.lemmas.Option.{same_Some, none-some}
 use Rattle.std.proofs.lemmas.Bool.{false≢true, cases_lt}
 use Rattle.dms_moments.specs.Moments.{Clock, Now, Steps}
-use Rattle.dms_calls.specs.World.{World, Unchanged, OnFile, Makes, StableFile, StableNames}
+use Rattle.dms_calls.specs.World.{World, Unchanged, OnFile, Makes, StableFile}
 use Rattle.dms_folder.specs.declared.opened.Opened.{Opened}
 use Rattle.dms_calls.specs.Names.{name_of}
 use Rattle.dms_folder.specs.NameLaws.{name_inj}
 use Rattle.dms_folder.specs.Kept.{Kept, StableAt, Untouched}
-use Rattle.dms_folder.specs.Places.{get_set_same, get_set_other, get_push, get_push_in, get_push_last}
+use Rattle.dms_folder.specs.Places.{get_set_same, get_set_other, get_push, get_push_in}
 
 -- equal or not
 pub same_or_not : (m n : ℕ) → (m ≡ n) ⊎ (m ≢ n)

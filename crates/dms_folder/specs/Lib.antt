@@ -3,6 +3,7 @@ pub mod Listings
 pub mod ListingLaws
 pub mod Kept
 pub mod Writes
+pub mod NoBytes
 pub mod Moves
 pub mod Places
 pub mod Keeps

@@ -1,6 +1,6 @@
 -- Calls that change nothing, before and after others.
-use Rattle.std.proofs.Common.{ℕ, ◌≡◌, List, refl, sym, ◌∙◌, ap, subst}
-use Rattle.dms_moments.specs.Moments.{Clock, Now, Steps}
+use Rattle.std.proofs.Common.{◌≡◌, sym, ◌∙◌, subst}
+use Rattle.dms_moments.specs.Moments.{Clock, Steps}
 use Rattle.dms_moments.specs.MomentLaws.{steps_on}
 
 module _ {X : Type 0} {a b c : Clock X} {step : X → X → Type 0} where

@@ -1,5 +1,5 @@
 -- No two numbers have one name, and a name tells its number.
-use Rattle.std.specs.Prelude.{ℕ, ◌+◌, ◌-◌, ◌^◌, ◌<◌, ◌≤◌, ◌≡◌, List, ◌++◌, ◌∷◌, [], codes, decimal, length, replicate, take, drop, IsAscii}
+use Rattle.std.specs.Prelude.{ℕ, ◌+◌, ◌-◌, ◌^◌, ◌<◌, ◌≤◌, ◌≡◌, List, ◌++◌, ◌∷◌, codes, decimal, length, replicate, take, drop, IsAscii}
 use Rattle.std.proofs.Common.{refl, ap, sym, ◌∙◌, arith, length-append, zero, suc}
 use Rattle.std.proofs.lemmas.List.{length-replicate}
 use Rattle.std.proofs.Math.Seq.{take-append_seam}

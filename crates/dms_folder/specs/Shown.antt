@@ -1,12 +1,11 @@
 -- What calls do to the files by number.
-use Rattle.std.proofs.Common.{ℕ, ◌+◌, ◌^◌, ◌<◌, ◌≡◌, ◌≢◌, ◌⊎◌, inl, inr, ⊎_elim, refl, sym, ◌∙◌, ap, subst, List, [], length, Bool, true, false, IsTrue, Some, None, ◌≤◌, take, arith}
+use Rattle.std.proofs.Common.{ℕ, ◌^◌, ◌<◌, ◌≡◌, ◌≢◌, inl, ⊎_elim, refl, sym, ◌∙◌, ap, subst, List, [], length, Bool, false, IsTrue, Some, None, ◌≤◌, take}
 use Rattle.std.specs.declared.option.Option.{Option}
-use Rattle.std.proofs.lemmas.Option.{same_Some, none-some}
 use Rattle.std.proofs.lemmas.List.{take_all}
 use Rattle.dms_moments.specs.Moments.{Clock, Now, Steps}
 use Rattle.dms_site.specs.Files.{Files, Left, with_file, InFile, OnDisk, Cut, Same, Only}
 use Rattle.dms_site.specs.Laws.{with_file_here, with_file_other, in_file_same}
-use Rattle.dms_calls.specs.World.{World, Unchanged, OnFile, Makes, StableNames}
+use Rattle.dms_calls.specs.World.{World, Unchanged, OnFile, Makes}
 use Rattle.dms_calls.specs.Seen.{bytes_of, seen, seen_clock, left_of, seen_steps, seen_alike, seen_at, seen_at_same}
 use Rattle.dms_folder.specs.declared.opened.Opened.{Opened}
 use Rattle.dms_calls.specs.Names.{name_of}

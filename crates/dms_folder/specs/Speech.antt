@@ -1,11 +1,11 @@
 -- Printing by parts.
-use Rattle.std.proofs.Common.{ℕ, ◌+◌, ◌-◌, ◌≤◌, ◌≡◌, List, [], ◌++◌, length, take, drop, refl, sym, ◌∙◌, ap, subst, IsTrue, Bool, arith, length-drop, None, Some}
+use Rattle.std.proofs.Common.{ℕ, ◌+◌, ◌-◌, ◌≡◌, List, ◌++◌, length, take, drop, refl, sym, ◌∙◌, ap, subst, Bool, arith, length-drop, None, Some}
 use Rattle.std.proofs.lemmas.List.{append_assoc, append-nil, take_all}
 use Rattle.std.proofs.Math.Seq.{take-add}
 use Rattle.std.specs.declared.option.Option.{Option}
 use Rattle.dms_moments.specs.Moments.{Clock, Now, Steps}
 use Rattle.dms_moments.specs.MomentLaws.{steps_on}
-use Rattle.dms_site.specs.Files.{Left, Prints}
+use Rattle.dms_site.specs.Files.{Prints}
 use Rattle.dms_calls.specs.World.{World, Speaks}
 use Rattle.dms_calls.specs.Seen.{seen, seen_clock, seen_steps, bytes_of, seen_alike}
 use Rattle.dms_folder.specs.declared.opened.Opened.{Opened}

@@ -1,14 +1,13 @@
 -- Writes by parts.
-use Rattle.std.proofs.Common.{ℕ, ◌+◌, ◌-◌, ◌<◌, ◌≤◌, min, max, ◌≡◌, ◌≢◌, List, [], ◌++◌, length, take, drop, get_or, replicate, refl, sym, ◌∙◌, ap, subst, arith, length-append, length-take, length-drop, inl, ⊎_elim, zero, suc}
-use Rattle.std.specs.Prelude.{slice_index}
-use Rattle.std.proofs.lemmas.List.{places, length-replicate, get_or-drop, get_or-take, ext_get_or, append_assoc, append-nil, drop_all, take-append-le, take-append-drop, get_or_append_left, get_or-append-add}
+use Rattle.std.proofs.Common.{ℕ, ◌+◌, ◌-◌, ◌<◌, ◌≤◌, ◌≡◌, List, [], ◌++◌, length, take, drop, get_or, replicate, refl, sym, ◌∙◌, ap, arith, length-append, length-take, inl, ⊎_elim, zero, suc}
+use Rattle.std.proofs.lemmas.List.{length-replicate, get_or-drop, ext_get_or, append-nil, drop_all, take-append-le, take-append-drop, get_or_append_left, get_or-append-add}
 use Rattle.std.proofs.lemmas.Bool.{cases_lt}
 use Rattle.std.proofs.Math.Seq.{take-add}
 use Rattle.std.proofs.lemmas.Grind.{common_steps}
-use Rattle.dms_moments.specs.Moments.{Clock, Now, Steps}
-use Rattle.dms_moments.specs.MomentLaws.{steps_on, steps_weaken}
+use Rattle.dms_moments.specs.Moments.{Clock, Steps}
+use Rattle.dms_moments.specs.MomentLaws.{steps_on}
 use Rattle.dms_site.specs.Files.{padded, overlaid, Torn}
-use Rattle.dms_site.specs.Laws.{length-overlaid, torn_overlaid, torn_refl}
+use Rattle.dms_site.specs.Laws.{length-overlaid, torn_refl}
 use Rattle.dms_calls.specs.World.{World, OnFile}
 
 -- a write of a part, and then of the rest

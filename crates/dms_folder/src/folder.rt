@@ -1,4 +1,4 @@
-ghost use Rattle.std.specs.Prelude.{◌≡◌, ◌≢◌, ◌+◌, ◌^◌, ◌<◌, ◌≤◌, ◌⊎◌, ℕ, ◌++◌, take, drop, false, length, slice_get, OnOk, IfOk, IfSome, IsTrue, MatchOption, Some, None};
+ghost use Rattle.std.specs.Prelude.{◌≡◌, ◌≢◌, ◌+◌, ◌^◌, ◌<◌, ◌≤◌, ◌⊎◌, ℕ, [], ◌++◌, take, drop, false, length, slice_get, OnOk, IfOk, IfSome, IsTrue, MatchOption, Some, None};
 ghost use Rattle.dms_moments.specs.Moments.{Steps};
 ghost use Rattle.dms_site.specs.Files.{with_file, overlaid, range, InFile, Torn, Cut, OnDisk, Same, Only, IsLastPresent};
 ghost use Rattle.dms_calls.specs.World.{Unchanged, AllGiven};
@@ -230,7 +230,8 @@ impl<C: Calls> Folder<C> {
         self.make(file)
     }
 
-    /// Writes bytes from a position on. A gap before them is filled with zeros.
+    /// Writes bytes from a position on. A gap before them is filled with zeros. With nothing to write and no gap it makes no
+    /// call, and no file.
     pub fn write(&mut self, file: u32, at: u64, bytes: &[u8]) -> Result<(), Failed>
         requires broken { C.broken self.old.calls ≡ false }
         requires kept { IsTrue C.tells → Kept C.file self.old.opened.items self.old.made self.old.synced (C.world self.old.calls) (C.clock self.old.calls) }
@@ -241,8 +242,12 @@ impl<C: Calls> Folder<C> {
         ensures torn { IsTrue C.tells → InFile file (Torn at (length bytes.now)) (seen name_of (C.world self.old.calls)) (seen name_of (C.world self.new.calls)) }
         ensures said { (C.world self.new.calls).said ≡ (C.world self.old.calls).said }
         ensures moments { Steps (OnDisk file (Torn at (length bytes.now))) (seen_clock name_of (C.clock self.old.calls)) (seen_clock name_of (C.clock self.new.calls)) }
+        ensures nothing { at ≡ 0 → bytes.now ≡ [] → self.new ≡ self.old }
         ensures broken { OnOk result (C.broken self.new.calls ≡ false) }
     {
+        if at == 0 && bytes.is_empty() {
+            return Ok(());
+        }
         let place = self.find_or_make(file)?;
         self.touch(place);
         write_all(&mut self.calls, &self.opened[place].file, at, bytes)

@@ -48,6 +48,13 @@ impl<C: Calls + Drop> FolderSite<C> {
             say_faults: 0,
         })
     }
+
+    /// The calls that it makes.
+    pub fn calls(&self) -> &C
+        ensures { result.now ≡ self.now.folder.calls }
+    {
+        &self.folder.calls
+    }
 }
 
 impl<C: Calls> Site for FolderSite<C> {

@@ -12,16 +12,9 @@ use Rattle.dms_base.specs.declared.kind.ItemKind.TheVariants.{Alpha, Number as D
 use Rattle.dms_desc.specs.declared.structure.KeyPart.{KeyPart}
 use Rattle.dms_desc.specs.Conds.{is_null}
 use Rattle.dms_desc.specs.Plain.{FitsKind}
+use Rattle.dms_desc.specs.Widths.{width_of, item_width}
 
 -- ---- values
-
--- how many bytes a value takes, without the byte that says whether it is there
-abbrev pub width_of : ItemKind → ℕ
-width_of (Alpha n) = n
-width_of (Decimal n m s) = 8
-width_of OneBit = 1
-width_of (Field n) = 8
-width_of (Link to counted) = 4
 
 -- a number moved so that the least one is 0
 abbrev pub shifted : ℤ → ℕ
@@ -70,7 +63,7 @@ key_bytes kinds (p ∷ ps) (v ∷ vs) = part_bytes (kind_of kinds p) p.descendin
 
 abbrev pub part_width : Option ItemKind → ℕ
 part_width None = 0
-part_width (Some k) = suc (width_of k)
+part_width (Some k) = item_width k
 
 -- how many bytes a whole key takes
 abbrev pub key_width : List ItemKind → List KeyPart → ℕ

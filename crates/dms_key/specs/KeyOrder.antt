@@ -13,6 +13,7 @@ use Rattle.std.proofs.lemmas.Cmp.{ranked}
 use Rattle.std.specs.Cmp.Lexicographic.{nat_list_cmp_total}
 use Rattle.std.proofs.lemmas.Bool.Decides.{nat_tests}
 use Rattle.std.proofs.Math.Nat as nat
+use Rattle.std.proofs.lemmas.Bool.{and_parts}
 use Rattle.dms_base.specs.declared.value.Value.{Value}
 use Rattle.dms_base.specs.declared.value.Value.TheVariants.{Null, Text, Number, Bool as Truth, Bits, Link as Reference}
 use Rattle.dms_base.specs.declared.kind.ItemKind.{ItemKind}
@@ -22,9 +23,10 @@ use Rattle.dms_base.specs.Orders.{value_cmp, truth_cmp}
 use Rattle.dms_base.specs.Text.{IsText, trimmed, before_trimmed, is_printable}
 use Rattle.dms_desc.specs.declared.structure.KeyPart.{KeyPart}
 use Rattle.dms_desc.specs.Conds.{is_null, or_null}
-use Rattle.dms_model.specs.Members.{key_cmp_from, key_cmp, turned}
+use Rattle.dms_desc.specs.Widths.{width_of}
+use Rattle.dms_desc.specs.Keys.{key_cmp_from, key_cmp, turned}
 use Rattle.dms_key.specs.ByteOrder.{less_is, equal_is, greater_is, append_cmp, AreBytes, complement_cmp, moved_cmp, high_first_cmp, high_first_bytes}
-use Rattle.dms_key.specs.KeyBytes.{bytes_cmp, width_of, shifted, bit_of, field_bytes, turned_bytes, kind_of, part_bytes, part_width, key_bytes, key_width, FitsPart, KeyFits}
+use Rattle.dms_key.specs.KeyBytes.{bytes_cmp, shifted, bit_of, field_bytes, turned_bytes, kind_of, part_bytes, part_width, key_bytes, key_width, FitsPart, KeyFits}
 use Rattle.dms_desc.specs.Plain.{FitsKind}
 
 -- numbers of so many bytes
@@ -87,15 +89,11 @@ no_space : (b : ℕ) (bs : List ℕ) → trimmed (b ∷ bs) ≡ b ∷ bs → b �
 no_space b [] h s none = last_at (b == 32) b refl s h
 no_space b (x ∷ bs) h s none = absurd (cc)
 
-pub both_of : (a b : Bool) → (a && b) ≡ true → (a ≡ true) × (b ≡ true)
-both_of true b h = (refl, h)
-both_of false b h = absurd (cc)
-
 pub tail_of : (bs : List ℕ) → list_all is_printable bs ≡ true → trimmed bs ≡ bs → IsTail bs
 tail_of [] p t = tt
 tail_of (b ∷ bs) p t =
-    let both = both_of (is_printable b) (list_all is_printable bs) p in
-    let range = both_of (leb 32 b) (leb b 126) both.0 in
+    let both = and_parts (is_printable b) (list_all is_printable bs) p in
+    let range = and_parts (leb 32 b) (leb b 126) both.0 in
     (grind (arith, nat_tests, range.0), no_space b bs t, tail_of bs both.1 (tail_trimmed (trimmed bs) b bs t))
 
 pub equal_itself : (bs : List ℕ) → bytes_cmp bs bs ≡ Equal
@@ -157,7 +155,7 @@ text_short n a h = grind (arith, nat_tests, h)
 
 pub number_small : (n : ℕ) (z : ℤ) (s : Bool) → n ≤ 18 → (nat_lt (unsigned_abs z) (10 ^ n) && s) ≡ true → unsigned_abs z < 2 ^ 63
 number_small n z s le h =
-    let lt : unsigned_abs z < 10 ^ n = grind (arith, nat_tests, (both_of (nat_lt (unsigned_abs z) (10 ^ n)) s h).0) in
+    let lt : unsigned_abs z < 10 ^ n = grind (arith, nat_tests, (and_parts (nat_lt (unsigned_abs z) (10 ^ n)) s h).0) in
     omega (arith, lt, small_power n le)
 
 pub bits_small : (n b : ℕ) → n ≤ 48 → nat_lt b (2 ^ n) ≡ true → b < 2 ^ 64
@@ -224,8 +222,8 @@ append_bytes (x ∷ a) b p q = (p.0, append_bytes a b p.1 q)
 text_bytes : (bs : List ℕ) → list_all is_printable bs ≡ true → AreBytes bs
 text_bytes [] p = tt
 text_bytes (b ∷ bs) p =
-    let both = both_of (is_printable b) (list_all is_printable bs) p in
-    let range = both_of (leb 32 b) (leb b 126) both.0 in
+    let both = and_parts (is_printable b) (list_all is_printable bs) p in
+    let range = and_parts (leb 32 b) (leb b 126) both.0 in
     let most : b ≤ 126 = grind (arith, nat_tests, range.1) in
     (omega (arith, most), text_bytes bs both.1)
 

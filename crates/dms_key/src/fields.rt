@@ -1,7 +1,8 @@
 ghost use Rattle.std.specs.Prelude.{◌≡◌, ◌++◌, ◌-◌, OnOk, replicate};
-ghost use Rattle.dms_key.specs.KeyBytes.{width_of, shifted, field_bytes, value_bytes};
+ghost use Rattle.dms_key.specs.KeyBytes.{shifted, field_bytes, value_bytes};
 
 use dms_base::{Bytes, ItemKind, Memory, Value};
+use dms_desc::width_of;
 
 /// A number moved so that the least one is 0: a number plus 2 to the power 63.
 pub fn shifted(number: i64) -> u64
@@ -11,19 +12,6 @@ pub fn shifted(number: i64) -> u64
         (1 << 63) - number.unsigned_abs()
     } else {
         (1 << 63) + number as u64
-    }
-}
-
-/// How many bytes a value of a kind takes, without the byte for its presence: at most 255.
-pub fn width_of(kind: ItemKind) -> u8
-    ensures { result ≡ width_of kind }
-{
-    match kind {
-        ItemKind::Alpha(n) => n,
-        ItemKind::Number(_, _, _) => 8,
-        ItemKind::Bool => 1,
-        ItemKind::Field(_) => 8,
-        ItemKind::Link(_, _) => 4,
     }
 }
 

@@ -1,9 +1,9 @@
 ghost use Rattle.std.specs.Prelude.{◌≡◌, ◌++◌, ◌≤◌, OnOk, IfOk, length, slice_get, map};
 ghost use Rattle.dms_key.specs.KeyBytes.{turned_bytes, kind_of, part_bytes, part_width, key_bytes, key_width};
 
-use crate::fields::{put_field, width_of};
+use crate::fields::put_field;
 use dms_base::{Bytes, ItemKind, Memory, Value};
-use dms_desc::KeyPart;
+use dms_desc::{KeyPart, item_width};
 use std::alloc::Global;
 
 // The kind of a part's item.
@@ -81,7 +81,7 @@ fn part_width(kind: Option<ItemKind>) -> u32
 {
     match kind {
         None => 0,
-        Some(kind) => u32::from(width_of(kind)) + 1,
+        Some(kind) => item_width(kind),
     }
 }
 

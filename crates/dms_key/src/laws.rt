@@ -7,7 +7,7 @@ ghost use Rattle.dms_base.specs.Orders.{value_cmp};
 ghost use Rattle.dms_desc.specs.declared.structure.KeyPart.{KeyPart};
 ghost use Rattle.dms_desc.specs.Conds.{is_null};
 ghost use Rattle.dms_desc.specs.Plain.{FitsKind};
-ghost use Rattle.dms_model.specs.Members.{key_cmp};
+ghost use Rattle.dms_desc.specs.Keys.{key_cmp};
 ghost use Rattle.dms_key.specs.KeyBytes.{bytes_cmp, field_bytes, key_bytes, key_width, KeyFits};
 
 /// A law: the order of bytes is that of the values of one kind, with null above all others, that of whole keys, in

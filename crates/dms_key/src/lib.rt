@@ -7,6 +7,6 @@ mod laws;
 #[cfg(test)]
 mod tests;
 
-pub use fields::{put_field, width_of};
+pub use fields::put_field;
 pub use keys::{key_bytes, max_key};
 pub use laws::{order_law, prefix_law, width_law};

@@ -18,9 +18,13 @@ use Rattle.dms_model.specs.declared.spot.Spot.{Spot}
 use Rattle.dms_model.specs.declared.verb.Path.{Path}
 use Rattle.dms_model.specs.declared.verb.Path.TheVariants.{First, Last, At}
 use Rattle.dms_model.specs.Db.{Db, Entry, Records, Place, place_cmp}
-use Rattle.dms_model.specs.Members.{structure_of, items_of, over, over_of, key_of, key_cmp, belongs, spot_of, spots_of, place_in, sorted, first, last, or_else, members, is_before, first_of, last_of, at_of, first_member, last_member, at_member, is_after_bound, is_before_bound, agrees}
-use Rattle.dms_model.specs.Session.{found_by, at_values, key_values, parts_of, set_of, path_of}
-use Rattle.dms_laws.specs.Valid.{IsValid, HaveOwnKeys, is_set, equal_keys, share_owner}
+use Rattle.dms_desc.specs.Keys.{key_of, key_cmp}
+use Rattle.dms_desc.specs.Kinds.{over}
+use Rattle.dms_desc.specs.Lookups.{structure_of, items_of, over_of, parts_of, set_of}
+use Rattle.dms_desc.specs.Sorted.{place_in, sorted, first, last, or_else}
+use Rattle.dms_model.specs.Members.{belongs, spot_of, spots_of, members, is_before, first_of, last_of, at_of, first_member, last_member, at_member, is_after_bound, is_before_bound, agrees}
+use Rattle.dms_model.specs.Session.{found_by, at_values, key_values, path_of}
+use Rattle.dms_model.specs.Valid.{IsValid, HaveOwnKeys, is_set, equal_keys, share_owner}
 use Rattle.dms_laws.proofs.Places.{places_total, itself}
 use Rattle.dms_laws.proofs.Lists.{all_both}
 

@@ -2,10 +2,10 @@ mod Counts
 mod Founds
 mod Fresh
 mod Holders
-mod Lists
+pub mod Lists
 mod Locks
 mod Places
 mod Points
-mod Sound
+pub mod Sound
 mod Stored
-mod Values
+pub mod Values

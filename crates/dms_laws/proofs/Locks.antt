@@ -21,9 +21,9 @@ use Rattle.dms_model.specs.declared.reply.Reply.TheVariants.{Done, Exception}
 use Rattle.dms_model.specs.declared.put.Put.TheVariants.{Stored, Full}
 use Rattle.dms_model.specs.declared.spot.Spot.{Spot}
 use Rattle.dms_model.specs.Db.{Db, Place, fresh, records_of}
-use Rattle.dms_model.specs.Members.{name_of, structure_of, items_of}
-use Rattle.dms_model.specs.Stores.{put_answer, put_unless, put_number, is_full, clash, put_after, linked}
-use Rattle.dms_model.specs.Session.{Session, Outcome, Kept, Refused, Keeps, Filled, Misfit, Values', refuse, done, shows, settle, keep, store_step, after_store, begin_step, after_begin, begin_unless, awaited, end_step, after_end, abort_step, find_step, after_find, found_by, create_step, put_step, put_area, after_put, filled, get_step, get_area, close_step, open_as, open_step, verb_step, step_at, step, with_program, with_work, with_lock, work_of, restart_of, someone_works, is_inquiry, opens, changes, path_of, new_program, place_of, carried, entered, left, without, idle, backed_out, found_program, stored_program, let_go, is_lock, is_elsewhere, area_kept, kept_unless, put_kept, missing_from, verified, area_values, area_number, record_of, is_free, one_more, set_of, with_values}
+use Rattle.dms_desc.specs.Lookups.{name_of, structure_of, items_of, set_of}
+use Rattle.dms_model.specs.Stores.{put_answer, put_unless, put_number, is_full, clash, put_after, linked, stored}
+use Rattle.dms_model.specs.Session.{Session, Outcome, Kept, Refused, Keeps, Filled, Misfit, Values', refuse, done, shows, settle, keep, store_step, after_store, begin_step, after_begin, begin_unless, awaited, end_step, after_end, abort_step, find_step, after_find, found_by, create_step, put_step, put_area, after_put, filled, get_step, get_area, close_step, open_as, open_step, verb_step, step_at, step, with_program, with_work, with_lock, work_of, restart_of, someone_works, is_inquiry, opens, changes, path_of, new_program, place_of, carried, entered, left, without, idle, backed_out, found_program, stored_program, let_go, is_lock, is_elsewhere, area_kept, kept_unless, put_kept, missing_from, verified, area_values, area_number, record_of, is_free, one_more, with_values}
 use Rattle.dms_laws.specs.Exclusive.{AreApart, AreAllApart, AreSafe, AreExclusive, IsExclusive, locks_it, is_locked_for, backs_out, is_done, LocksStayExclusive, LosesNoUpdate, LeavesLocks, BacksOut, locks_left}
 use Rattle.dms_laws.specs.Runs.{after}
 use Rattle.dms_laws.proofs.Places.{get_other, stands_still, stands_there}
@@ -248,9 +248,9 @@ module _ (s : Session) (i : ℕ) (p : Program) (name : List ℕ) (at : slice_get
 
   put_moves : (desc : Described) (set : ℕ) (a : Area) (current : Option ℕ) → is_free a p set current ≡ true → KeptMoves (put_kept (put_answer desc s.db set (area_number a current) (record_of a)) desc p s.db set a)
   unfolding put_answer
-  put_moves desc set (New values owner) current free = put_new desc (clash desc.structures s.db set None (record { owner = owner; values = values })) set (New values owner)
+  put_moves desc set (New values owner) current free = put_new desc (clash desc.structures s.db set None (stored desc s.db set None (record { owner = owner; values = values }))) set (New values owner)
   put_moves desc set (Old values) None free = absurd (cc)
-  put_moves desc set (Old values) (Some n) free = put_old desc (clash desc.structures s.db set (Some n) (record { owner = 0; values = values })) set n (Old values) free
+  put_moves desc set (Old values) (Some n) free = put_old desc (clash desc.structures s.db set (Some n) (stored desc s.db set (Some n) (record { owner = 0; values = values }))) set n (Old values) free
 
   unless_moves : (o : Option (List ℕ)) (desc : Described) (set : ℕ) (a : Area) (current : Option ℕ) → is_free a p set current ≡ true → KeptMoves (kept_unless o desc p s.db set a current)
   unless_moves (Some item) desc set a current free = tt

@@ -13,7 +13,7 @@ use Rattle.dms_model.specs.declared.verb.Verb.TheVariants.{OpenUpdate, OpenInqui
 use Rattle.dms_model.specs.declared.verb.Setting.{Setting}
 use Rattle.dms_model.specs.declared.reply.Reply.TheVariants.{Exception}
 use Rattle.dms_model.specs.declared.spot.Spot.{Spot}
-use Rattle.dms_model.specs.Members.{name_of, structure_of, items_of}
+use Rattle.dms_desc.specs.Lookups.{name_of, structure_of, items_of}
 use Rattle.dms_model.specs.Points.{Quiet}
 use Rattle.dms_model.specs.Session.{Session, Outcome, Kept, Refused, Keeps, Filled, Misfit, Values', refuse, done, settle, keep, store_step, after_store, begin_step, after_begin, begin_unless, awaited, end_step, after_end, abort_step, find_step, after_find, found_by, create_step, put_step, put_area, after_put, filled, get_step, get_area, close_step, open_as, open_step, verb_step, step_at, step, with_program, work_of, restart_of, someone_works, is_inquiry, opens, changes, path_of, new_program, place_of, without, area_values, left, one_more}
 

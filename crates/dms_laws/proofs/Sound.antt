@@ -13,6 +13,7 @@ use Rattle.dms_desc.specs.declared.structure.Item.{Item}
 use Rattle.dms_desc.specs.declared.record.Record.{Record}
 use Rattle.dms_desc.specs.Shape.{Shape, Described}
 use Rattle.dms_desc.specs.Conds.{meets, is_null}
+use Rattle.dms_desc.specs.Plain.{ArePlain}
 use Rattle.dms_model.specs.declared.program.Program.{Program}
 use Rattle.dms_model.specs.declared.program.Work.{Work}
 use Rattle.dms_model.specs.declared.program.Area.{Area}
@@ -26,22 +27,23 @@ use Rattle.dms_model.specs.declared.put.Put.TheVariants.{Stored, Full}
 use Rattle.dms_model.specs.declared.spot.Spot.{Spot}
 use Rattle.dms_model.specs.Db.{Db, Place, fresh, records_of, rows_of, empty_db, place_cmp}
 use Rattle.dms_model.specs.Points.{Quiet}
-use Rattle.dms_model.specs.Members.{name_of, structure_of, items_of, takes, key_of}
-use Rattle.dms_model.specs.Stores.{put_answer, put_unless, is_full, clash, put_after, linked, is_other, values_of}
-use Rattle.dms_model.specs.Session.{Session, Outcome, Kept, Refused, Keeps, Filled, Misfit, Values', refuse, done, settle, keep, store_step, after_store, begin_step, after_begin, begin_unless, awaited, end_step, after_end, abort_step, find_step, after_find, found_by, create_step, put_step, put_area, after_put, filled, get_step, get_area, close_step, open_as, open_step, verb_step, step_at, step, with_program, with_work, with_values, work_of, no_work, or_none, restart_of, someone_works, is_inquiry, opens, changes, path_of, new_program, place_of, carried, entered, left, without, idle, backed_out, found_program, stored_program, let_go, is_lock, area_kept, kept_unless, put_kept, missing_from, verified, area_values, area_number, area_owner, record_of, is_free, one_more, set_of}
+use Rattle.dms_desc.specs.Lookups.{name_of, structure_of, items_of, set_of}
+use Rattle.dms_model.specs.Stores.{put_answer, put_unless, is_full, clash, put_after, linked, is_other, old_of, stored, values_of}
+use Rattle.dms_model.specs.Session.{Session, Outcome, Kept, Refused, Keeps, Filled, Misfit, Values', refuse, done, settle, keep, store_step, after_store, begin_step, after_begin, begin_unless, awaited, end_step, after_end, abort_step, find_step, after_find, found_by, create_step, put_step, put_area, after_put, filled, get_step, get_area, close_step, open_as, open_step, verb_step, step_at, step, with_program, with_work, with_values, work_of, no_work, or_none, restart_of, someone_works, is_inquiry, opens, changes, path_of, new_program, place_of, carried, entered, left, without, idle, backed_out, found_program, stored_program, let_go, is_lock, area_kept, kept_unless, put_kept, missing_from, verified, area_values, area_number, area_owner, record_of, is_free, one_more}
 use Rattle.dms_laws.specs.Exclusive.{AreSafe, IsExclusive, locks_it}
-use Rattle.dms_laws.specs.Valid.{OfItems, IsValid, is_data_set, is_set, link_stands}
+use Rattle.dms_model.specs.Spoken.{IsOuter, IsPlainLiteral}
+use Rattle.dms_model.specs.Valid.{OfItems, IsValid, is_data_set, is_set, link_stands}
 use Rattle.dms_laws.specs.Made.{IsWellMade, items_under, compares_no_link, has_no_link}
 use Rattle.dms_laws.specs.Runs.{after}
-use Rattle.dms_laws.specs.Sound.{AllNameOuter, IsSound, IsOuter, NamesOuter, IsFlat, AreFitting, AreaFits, AreasFit, StaysSound}
+use Rattle.dms_laws.specs.Sound.{AllNameOuter, IsSound, NamesOuter, IsFlat, AreFitting, AreaFits, AreasFit, StaysSound}
 use Rattle.dms_laws.proofs.Counts.{count_insert, count_replace, fresh_below}
 use Rattle.dms_laws.proofs.Founds.{Stands, found_stands}
-use Rattle.dms_laws.proofs.Fresh.{fresh_from_one}
+use Rattle.dms_laws.proofs.Fresh.{fresh_free, fresh_from_one}
 use Rattle.dms_laws.proofs.Lists.{all_at, all_set, all_mapped, all_pushed, all_without}
 use Rattle.dms_laws.proofs.Locks.{locks_stay_exclusive}
 use Rattle.dms_laws.proofs.Points.{step_points}
-use Rattle.dms_laws.proofs.Stored.{MayStand, put_valid, put_flat, own_key, key_kept}
-use Rattle.dms_laws.proofs.Values.{get_set_other, filled_fits, FilledFits, initial_fits, required_of, linked_fits, linked_agree, of_linked, null_fits, null_stands, other_stands, meets_agree, keys_agree}
+use Rattle.dms_laws.proofs.Stored.{MayStand, put_valid, put_flat, own_key}
+use Rattle.dms_laws.proofs.Values.{get_set_other, filled_fits, FilledFits, initial_fits, required_of, linked_fits, linked_agree, of_linked, null_fits, null_stands, other_stands, meets_agree}
 
 -- what a program has at hand
 
@@ -137,6 +139,10 @@ olds_of : (desc : Described) (db : Db) (k : Place) (shape : Shape) (P : Item →
 olds_of desc db k shape P none some None at j item has = none item
 olds_of desc db k shape P none some (Some r) at j item has = some r at j item has
 
+plain_olds : (db : Db) (k : Place) → ((r : Record) → get db.records k ≡ Some r → ArePlain r.values) → (o : Option Record) → get db.records k ≡ o → ArePlain (values_of o)
+plain_olds db k some None at = tt
+plain_olds db k some (Some r) at = some r at
+
 is_no_set : (s : Shape) → is_data_set (Some s) ≡ true → is_set s ≡ false
 is_no_set s h = by (is_set s) refl
   where
@@ -193,18 +199,6 @@ module _ (desc : Described) (made : IsWellMade desc) (s : Session) (i : ℕ) (p 
         areas = areas_if desc (list_any (is_lock set n) p.locks) q (record q { locks = _ }) areas areas;
       }
 
-  -- a structure over the data set sees no difference between the area and what is stored
-  alike : (set n : ℕ) (a : Area) (shape : Shape) → structure_of desc set ≡ Some shape → (m : ℕ) (x : Shape) → structure_of desc m ≡ Some x → is_set x ≡ true → x.set ≡ set
-      → (takes x (put_record set n a shape).values ≡ takes x (area_values a)) × (key_of x.parts (put_record set n a shape).values ≡ key_of x.parts (area_values a))
-  alike set n a shape here m x has is own =
-      let under : items_under desc x ≡ shape.items =
-      ap (λ (b : Bool). cond b (items_of (structure_of desc x.set)) x.items) is ∙ ap (λ (n : ℕ). items_of (structure_of desc n)) own ∙ ap items_of here in
-      let same = linked_agree shape.items (olds set n) (area_values a) in (
-        ap (λ (b : Bool). cond (x.kind == 4) b true)
-            (meets_agree shape.items x.cond (put_record set n a shape).values (area_values a) same (ap (λ (is : List Item). compares_no_link is x.cond) (sym under) ∙ made.conditions m x has)),
-        keys_agree shape.items x.parts (put_record set n a shape).values (area_values a) same (ap (λ (is : List Item). has_no_link is x.parts) (sym under) ∙ made.keys m x has),
-      )
-
   stored_verified : (set n : ℕ) (a : Area) (shape : Shape) → structure_of desc set ≡ Some shape → is_data_set (Some shape) ≡ true → meets shape.cond (put_record set n a shape).values ≡ meets shape.cond (area_values a)
   stored_verified set n a shape here data_set =
       let under : items_under desc shape ≡ shape.items = ap (λ (b : Bool). cond b (items_of (structure_of desc shape.set)) shape.items) (is_no_set shape data_set) in
@@ -213,7 +207,7 @@ module _ (desc : Described) (made : IsWellMade desc) (s : Session) (i : ℕ) (p 
   -- what may stand at a place, where the tests of storing were met
   may_stand : (set n : ℕ) (a : Area) (shape : Shape) (number : Option ℕ) → structure_of desc set ≡ Some shape → IsOuter (Some shape) → area_owner a ≡ 0 → AreFitting shape.items (area_values a)
       → missing_from 0 (items_of (structure_of desc set)) (area_values a) ≡ None → verified (structure_of desc set) (area_values a) ≡ true
-      → clash desc.structures s.db set number (record_of a) ≡ None → ((q : Place) → q ≢ (set, n) → q.0 ≡ set → is_other number q.1 ≡ true)
+      → clash desc.structures s.db set number (put_record set n a shape) ≡ None → ((q : Place) → q ≢ (set, n) → q.0 ≡ set → is_other number q.1 ≡ true)
       → (1 ≤ n) × (n ≤ shape.population) → length (records_of (insert s.db.records (set, n) (put_record set n a shape)) set) ≤ shape.population
       → MayStand desc s.db (set, n) (put_record set n a shape) shape
   may_stand set n a shape number here outer owner values none met clear other within count =
@@ -221,12 +215,13 @@ module _ (desc : Described) (made : IsWellMade desc) (s : Session) (i : ℕ) (p 
       let old = get s.db.records k in
       let required = required_is (structure_of desc set) shape (area_values a) here none in
       let fit_before = olds_of desc s.db k shape (λ item v. fits item.kind v ≡ true) (λ item. null_fits item.kind) (λ r was. sane.valid.fit k r shape was here) old refl in
+      let plain_before = plain_olds s.db k (λ r was. sane.valid.plain k r shape was here) old refl in
       let links_before = olds_of desc s.db k shape (λ item v. link_stands s.db.records item.kind v ≡ true) (λ item. null_stands s.db.records item.kind) (λ r was. sane.valid.links k r shape was here) old refl in
       record {
         here = here;
         outer = outer;
         owner = owner;
-        values = linked_fits shape.items (olds set n) (area_values a) values fit_before;
+        values = linked_fits shape.items (olds set n) (area_values a) values fit_before plain_before;
         links = of_linked (λ item v. link_stands s.db.records item.kind v ≡ true) shape.items (olds set n) (area_values a) values.lengths
             (λ j item at off. other_stands s.db.records item.kind _ off) (λ j item at on. links_before j item at);
         required = of_linked (λ item v. item.required ≡ true → is_null v ≡ false) shape.items (olds set n) (area_values a) values.lengths
@@ -234,13 +229,17 @@ module _ (desc : Described) (made : IsWellMade desc) (s : Session) (i : ℕ) (p 
         verified = stored_verified set n a shape here outer.data_set ∙ verified_is (structure_of desc set) shape (area_values a) here met;
         number = within;
         count = count;
-        key = λ m x has. key_kept x s.db k (record_of a) (put_record set n a shape) (alike set n a shape here m x has) refl (own_key desc s.db k number (record_of a) sane.flat.entries clear other m x has);
+        key = own_key desc s.db k number (put_record set n a shape) sane.flat.entries clear other;
       }
 
   module _ (set : ℕ) (a : Area) (none : missing_from 0 (items_of (structure_of desc set)) (area_values a) ≡ None) (met : verified (structure_of desc set) (area_values a) ≡ true) where
+    -- what was judged is what is stored
+    as_stored : (number : Option ℕ) (n : ℕ) (b : Area) (shape : Shape) → structure_of desc set ≡ Some shape → old_of s.db set number ≡ get s.db.records (set, n) → stored desc s.db set number (record_of b) ≡ put_record set n b shape
+    as_stored number n b shape here old = λ i. linked (items_of (here i)) (old i) (record_of b)
+
     -- a new record, in a data set that has room
     new_sane : (shape : Shape) → structure_of desc set ≡ Some shape → IsOuter (Some shape) → area_owner a ≡ 0 → AreFitting shape.items (area_values a)
-        → (c : Option ℕ) → clash desc.structures s.db set None (record_of a) ≡ c → (b : Bool) → nat_le shape.population (length (records_of s.db.records set)) ≡ b
+        → (c : Option ℕ) → clash desc.structures s.db set None (stored desc s.db set None (record_of a)) ≡ c → (b : Bool) → nat_le shape.population (length (records_of s.db.records set)) ≡ b
         → KeptSane desc (put_kept (put_unless c (cond b Full (Stored (fresh s.db.records set)))) desc p s.db set a)
     new_sane shape here outer owner values (Some d) clear b room = tt
     new_sane shape here outer owner values None clear true room = tt
@@ -250,7 +249,8 @@ module _ (desc : Described) (made : IsWellMade desc) (s : Session) (i : ℕ) (p 
         let low = fresh_from_one s.db.records set in
         let high = fresh_below s.db.records set in
         let more = one_at_most (set == set) (length (records_of (insert s.db.records (set, n) (put_record set n a shape)) set)) (length (records_of s.db.records set)) (count_insert s.db.records set (set, n) (put_record set n a shape)) in
-        stored_sane set n a shape values (may_stand set n a shape None here outer owner values none met clear (λ q apart same. refl) (low, omega (arith, few, high)) (omega (arith, few, more)))
+        let free = ap (λ (r : Record). clash desc.structures s.db set None r) (sym (as_stored None n a shape here (sym (fresh_free s.db.records set)))) ∙ clear in
+        stored_sane set n a shape values (may_stand set n a shape None here outer owner values none met free (λ q apart same. refl) (low, omega (arith, few, high)) (omega (arith, few, more)))
 
     -- a record that is replaced
     other_number : (n : ℕ) (q : Place) → q ≢ (set, n) → q.0 ≡ set → is_other (Some n) q.1 ≡ true
@@ -261,14 +261,15 @@ module _ (desc : Described) (made : IsWellMade desc) (s : Session) (i : ℕ) (p 
         by false e = refl
 
     old_sane : (n : ℕ) (shape : Shape) (old : Record) → structure_of desc set ≡ Some shape → area_owner a ≡ 0 → AreFitting shape.items (area_values a) → get s.db.records (set, n) ≡ Some old
-        → (c : Option ℕ) → clash desc.structures s.db set (Some n) (record_of a) ≡ c → KeptSane desc (put_kept (put_unless c (Stored n)) desc p s.db set a)
+        → (c : Option ℕ) → clash desc.structures s.db set (Some n) (stored desc s.db set (Some n) (record_of a)) ≡ c → KeptSane desc (put_kept (put_unless c (Stored n)) desc p s.db set a)
     old_sane n shape old here owner values was (Some d) clear = tt
     old_sane n shape old here owner values was None clear =
         let kind = ap is_data_set (sym here) ∙ sane.valid.sets (set, n) old was in
         let outer : IsOuter (Some shape) = record { data_set = kind; disjoint = sane.flat.disjoint (set, n) old shape was here } in
         let same = count_replace s.db.records set (set, n) (put_record set n a shape) (ap is_some was) in
         let few = sane.valid.populations set shape here kind in
-        stored_sane set n a shape values (may_stand set n a shape (Some n) here outer owner values none met clear (other_number n) (sane.valid.numbers (set, n) old shape was here) (omega (arith, same, few)))
+        let free = ap (λ (r : Record). clash desc.structures s.db set (Some n) r) (sym (as_stored (Some n) n a shape here refl)) ∙ clear in
+        stored_sane set n a shape values (may_stand set n a shape (Some n) here outer owner values none met free (other_number n) (sane.valid.numbers (set, n) old shape was here) (omega (arith, same, few)))
 
   -- a locked record stands
   locked_old : (set n : ℕ) → locks_it p (set, n) ≡ true → (C : Type 0) → ((old : Record) (shape : Shape) → get s.db.records (set, n) ≡ Some old → structure_of desc set ≡ Some shape → C) → C
@@ -289,13 +290,13 @@ module _ (desc : Described) (made : IsWellMade desc) (s : Session) (i : ℕ) (p 
       → missing_from 0 (items_of (structure_of desc set)) (area_values a) ≡ None → verified (structure_of desc set) (area_values a) ≡ true
       → KeptSane desc (put_kept (put_answer desc s.db set (area_number a current) (record_of a)) desc p s.db set a)
   unfolding put_answer
-  put_sane set (New values owner) current has free none met = by (structure_of desc set) refl (clash desc.structures s.db set None (record { owner = owner; values = values })) refl
+  put_sane set (New values owner) current has free none met = by (structure_of desc set) refl (clash desc.structures s.db set None (stored desc s.db set None (record { owner = owner; values = values }))) refl
     where
       full : (c : Option ℕ) → KeptSane desc (put_kept (put_unless c Full) desc p s.db set (New values owner))
       full None = tt
       full (Some d) = tt
 
-      by : (o : Option Shape) → structure_of desc set ≡ o → (c : Option ℕ) → clash desc.structures s.db set None (record { owner = owner; values = values }) ≡ c
+      by : (o : Option Shape) → structure_of desc set ≡ o → (c : Option ℕ) → clash desc.structures s.db set None (stored desc s.db set None (record { owner = owner; values = values })) ≡ c
           → KeptSane desc (put_kept (put_unless c (cond (is_full o (length (records_of s.db.records set))) Full (Stored (fresh s.db.records set)))) desc p s.db set (New values owner))
       by None here c clear = full c
       by (Some shape) here c clear =
@@ -303,8 +304,8 @@ module _ (desc : Described) (made : IsWellMade desc) (s : Session) (i : ℕ) (p 
           new_sane set (New values owner) none met shape here fits.0 fits.1.0 fits.1.1 c clear (nat_le shape.population (length (records_of s.db.records set))) refl
   put_sane set (Old values) None has free none met = absurd (cc)
   put_sane set (Old values) (Some n) has free none met =
-      locked_old set n free (KeptSane desc (put_kept (put_unless (clash desc.structures s.db set (Some n) (record { owner = 0; values = values })) (Stored n)) desc p s.db set (Old values)))
-      (λ old shape was here. old_sane set (Old values) none met n shape old here refl (area_of set shape (Some (Old values)) here has) was (clash desc.structures s.db set (Some n) (record { owner = 0; values = values })) refl)
+      locked_old set n free (KeptSane desc (put_kept (put_unless (clash desc.structures s.db set (Some n) (stored desc s.db set (Some n) (record { owner = 0; values = values }))) (Stored n)) desc p s.db set (Old values)))
+      (λ old shape was here. old_sane set (Old values) none met n shape old here refl (area_of set shape (Some (Old values)) here has) was (clash desc.structures s.db set (Some n) (stored desc s.db set (Some n) (record { owner = 0; values = values }))) refl)
 
   unless_sane : (o : Option (List ℕ)) (set : ℕ) (a : Area) (current : Option ℕ) → (work_of p set).area ≡ Some a → is_free a p set current ≡ true → missing_from 0 (items_of (structure_of desc set)) (area_values a) ≡ o
       → KeptSane desc (kept_unless o desc p s.db set a current)
@@ -354,6 +355,7 @@ module _ (desc : Described) (made : IsWellMade desc) (s : Session) (i : ℕ) (p 
       by (Some shape) h = with_shape shape h (record {
         lengths = sane.valid.lengths (set, r.number) r.rec shape stands h;
         fit = sane.valid.fit (set, r.number) r.rec shape stands h;
+        plain = sane.valid.plain (set, r.number) r.rec shape stands h;
       })
 
   find_leaves : (r : Option Spot) (x : ℕ) → Stands s.db (set_of desc x) r → Leaves desc (after_find r desc i p s x)
@@ -379,7 +381,7 @@ module _ (desc : Described) (made : IsWellMade desc) (s : Session) (i : ℕ) (p 
       outer_shape set outer (Leaves desc (done (with_program s i (carried (let_go (with_work p set w) set)))))
       (λ shape here out.
       let fits : AreFitting shape.items (map (λ (t : Item). t.initial) (items_of (structure_of desc set))) =
-      subst (λ (o : Option Shape). AreFitting shape.items (map (λ (t : Item). t.initial) (items_of o))) (sym here) (initial_fits shape.items (made.initial set shape here)) in
+      subst (λ (o : Option Shape). AreFitting shape.items (map (λ (t : Item). t.initial) (items_of o))) (sym here) (initial_fits shape.items (made.initial set shape here) (made.plain set shape here)) in
       sane_at (carried (let_go (with_work p set w) set)) (let_go_areas desc (with_work p set w) set (areas_with desc p set shape w here (out, (refl, fits)) mine)))
 
   with_new : (shape : Shape) (a : Area) (new : List Value) → AreaFits shape (Some a) → AreFitting shape.items new → AreaFits shape (Some (with_values a new))
@@ -396,14 +398,14 @@ module _ (desc : Described) (made : IsWellMade desc) (s : Session) (i : ℕ) (p 
       let w : Work = record { current = (work_of p set).current; area = Some (with_values a values) } in
       sane_at (carried (with_work p set w)) (areas_with desc p set shape w here (with_new shape a values old fits) mine)
 
-  put_leaves : (o : Option Area) (set : ℕ) (settings : List Setting) → IsOuter (structure_of desc set) → (work_of p set).area ≡ o → Leaves desc (put_area o desc i p s set settings)
-  put_leaves None set settings outer has = sane
-  put_leaves (Some a) set settings outer has =
+  put_leaves : (o : Option Area) (set : ℕ) (settings : List Setting) → IsOuter (structure_of desc set) → AllByRecursion (λ t. IsPlainLiteral t.literal) settings → (work_of p set).area ≡ o → Leaves desc (put_area o desc i p s set settings)
+  put_leaves None set settings outer plain has = sane
+  put_leaves (Some a) set settings outer plain has =
       let f = filled (items_of (structure_of desc set)) settings (area_values a) in
       outer_shape set outer (Leaves desc (after_put f i p s set a))
       (λ shape here out.
       let old = area_of set shape (Some a) here has in
-      let fits : FilledFits shape.items f = subst (λ (o : Option Shape). FilledFits shape.items (filled (items_of o) settings (area_values a))) (sym here) (filled_fits shape.items settings (area_values a) (values_fit shape a old)) in
+      let fits : FilledFits shape.items f = subst (λ (o : Option Shape). FilledFits shape.items (filled (items_of o) settings (area_values a))) (sym here) (filled_fits shape.items settings (area_values a) plain (values_fit shape a old)) in
       after_put_leaves f set a shape here old fits)
 
   get_leaves : (o : Option Area) (set : ℕ) (numbers : List ℕ) → Leaves desc (get_area o desc i p s set numbers)
@@ -431,7 +433,7 @@ verb_leaves desc made i p s OpenInquiry outer at ex sane = sane
 verb_leaves desc made i p s Close outer at ex sane = leaves_if desc p.in_transaction (refuse s AuditError p.name) _ sane (close_leaves desc made s i p at ex sane)
 verb_leaves desc made i p s (Find path) outer at ex sane = find_leaves desc made s i p at ex sane (found_by desc s.db path) (path_of path) (found_stands desc s.db path)
 verb_leaves desc made i p s (Create set) outer at ex sane = create_leaves desc made s i p at ex sane set outer
-verb_leaves desc made i p s (PutItems set settings) outer at ex sane = put_leaves desc made s i p at ex sane (work_of p set).area set settings outer refl
+verb_leaves desc made i p s (PutItems set settings) outer at ex sane = put_leaves desc made s i p at ex sane (work_of p set).area set settings outer.0 outer.1 refl
 verb_leaves desc made i p s (Get set items) outer at ex sane = get_leaves desc made s i p at ex sane (work_of p set).area set items
 verb_leaves desc made i p s (Store set) outer at ex sane =
     leaves_if desc p.in_transaction (after_store (keep desc p s.db set) i s) (refuse s AuditError p.name) (store_leaves desc made s i p at ex sane (keep desc p s.db set) (keep_sane desc made s i p at ex sane set)) sane
@@ -493,6 +495,7 @@ empty_valid desc = record {
   sets = λ place r at. none_there _ place r at;
   lengths = λ place r shape at has. none_there _ place r at;
   fit = λ place r shape at has. none_there _ place r at;
+  plain = λ place r shape at has. none_there _ place r at;
   links = λ place r shape at has. none_there _ place r at;
   required = λ place r shape at has. none_there _ place r at;
   verified = λ place r shape at has. none_there _ place r at;

@@ -12,12 +12,17 @@ use Rattle.dms_base.specs.Fits.{fits}
 use Rattle.dms_desc.specs.declared.record.Record.{Record}
 use Rattle.dms_desc.specs.Shape.{Shape, Described}
 use Rattle.dms_desc.specs.Conds.{meets, is_null}
+use Rattle.dms_desc.specs.Plain.{ArePlain}
 use Rattle.dms_model.specs.Db.{Db, Entry, Place, Records, place_cmp, records_of}
-use Rattle.dms_model.specs.Members.{structure_of, over, key_of, key_cmp, belongs, takes, names}
+use Rattle.dms_desc.specs.Keys.{key_of, key_cmp}
+use Rattle.dms_desc.specs.Kinds.{over, takes}
+use Rattle.dms_desc.specs.Lookups.{structure_of}
+use Rattle.dms_model.specs.Members.{belongs, names}
 use Rattle.dms_model.specs.MemberLaws.{key_total}
 use Rattle.dms_model.specs.Stores.{has_equal, is_closed, is_other, clashes, clash}
-use Rattle.dms_laws.specs.Valid.{OfRecords, OfItems, IsValid, EntryStands, value_at, is_data_set, is_set, owner_stands, link_stands, share_owner, equal_keys}
-use Rattle.dms_laws.specs.Sound.{IsFlat, IsOuter, AreFitting}
+use Rattle.dms_model.specs.Spoken.{IsOuter}
+use Rattle.dms_model.specs.Valid.{OfRecords, OfItems, IsValid, EntryStands, value_at, is_data_set, is_set, owner_stands, link_stands, share_owner, equal_keys}
+use Rattle.dms_laws.specs.Sound.{IsFlat, AreFitting}
 use Rattle.dms_laws.proofs.Places.{places_total, place_is, itself}
 use Rattle.dms_laws.proofs.Counts.{count_insert}
 use Rattle.dms_laws.proofs.Values.{link_still}
@@ -167,6 +172,7 @@ module _ (desc : Described) (db : Db) (k : Place) (rec : Record) (shape : Shape)
     sets = put_sets;
     lengths = of_all (λ place r s. length r.values ≡ length s.items) (λ place r s. length r.values ≡ length s.items) may.values.lengths (λ place r s h. h) valid.lengths;
     fit = of_all (λ place r s. OfItems s.items r.values (λ item v. fits item.kind v ≡ true)) (λ place r s. OfItems s.items r.values (λ item v. fits item.kind v ≡ true)) may.values.fit (λ place r s h. h) valid.fit;
+    plain = of_all (λ place r s. ArePlain r.values) (λ place r s. ArePlain r.values) may.values.plain (λ place r s h. h) valid.plain;
     links = of_all (Linked db.records) (Linked after.records) (still_linked k rec shape may.links) still_linked valid.links;
     required = of_all (λ place r s. OfItems s.items r.values (λ item v. item.required ≡ true → is_null v ≡ false)) (λ place r s. OfItems s.items r.values (λ item v. item.required ≡ true → is_null v ≡ false)) may.required (λ place r s h. h) valid.required;
     verified = of_all (λ place r s. meets s.cond r.values ≡ true) (λ place r s. meets s.cond r.values ≡ true) may.verified (λ place r s h. h) valid.verified;

@@ -1,6 +1,7 @@
 -- Values of areas and of records: what fits, and what storing makes of them.
 use Rattle.std.proofs.Common.{◌≡◌, ◌<◌, ◌+◌, ◌-◌, ℕ, zero, suc, List, [], ◌∷◌, Bool, true, false, cond, eqb, Some, None, refl, sym, ap, ◌∙◌, subst, ◌&&◌, ◌||◌, not, length, map, arith}
 use Rattle.std.specs.Prelude.{◌≢◌, slice_get, slice_set, is_some, IsTrue, IfSome, option_map}
+use Rattle.std.specs.List.{AllByRecursion}
 use Rattle.std.specs.declared.option.Option.{Option}
 use Rattle.std.specs.FinMap.{insert}
 use Rattle.std.proofs.lemmas.Option.{slice_get-map, slice_get_within}
@@ -11,7 +12,8 @@ use Rattle.dms_base.specs.declared.value.Value.TheVariants.{Null, Text, Number, 
 use Rattle.dms_base.specs.declared.kind.ItemKind.{ItemKind}
 use Rattle.dms_base.specs.declared.kind.ItemKind.TheVariants.{Alpha, Number as Decimal, Bool as OneBit, Field, Link}
 use Rattle.dms_base.specs.declared.kind.Literal.{Literal}
-use Rattle.dms_base.specs.Fits.{fits, value_of}
+use Rattle.dms_base.specs.declared.kind.Literal.TheVariants.{Null as NoValue, Text as Quoted, Number as Digits, Bool as Word}
+use Rattle.dms_base.specs.Fits.{fits, value_of, ranged, bits_of, scaled}
 use Rattle.dms_base.specs.Spelling.{value_for, is_kind, is_literal}
 use Rattle.dms_base.proofs.Spelled.{value_of_fits}
 use Rattle.dms_desc.specs.declared.structure.Item.{Item}
@@ -19,12 +21,15 @@ use Rattle.dms_desc.specs.declared.structure.KeyPart.{KeyPart}
 use Rattle.dms_desc.specs.declared.record.Record.{Record}
 use Rattle.dms_desc.specs.Shape.{Tree, Empty, Test, Both, Either, Contrary}
 use Rattle.dms_desc.specs.Conds.{is_null, or_null, meets, compares}
+use Rattle.dms_desc.specs.Plain.{IsPlain, ArePlain}
 use Rattle.dms_model.specs.declared.verb.Setting.{Setting}
 use Rattle.dms_model.specs.Db.{Records, Place}
-use Rattle.dms_model.specs.Members.{key_of}
-use Rattle.dms_model.specs.Stores.{is_link, kept_value, linked_from}
+use Rattle.dms_desc.specs.Keys.{key_of}
+use Rattle.dms_desc.specs.Kinds.{is_link}
+use Rattle.dms_model.specs.Stores.{kept_value, linked_from}
 use Rattle.dms_model.specs.Session.{missing_from, fitted, setting_value, filled, Filled, Misfit, Values', item_name}
-use Rattle.dms_laws.specs.Valid.{OfItems, value_at, refers, link_stands}
+use Rattle.dms_model.specs.Spoken.{IsPlainLiteral}
+use Rattle.dms_model.specs.Valid.{OfItems, value_at, refers, link_stands}
 use Rattle.dms_laws.specs.Made.{is_link_item, compares_no_link, has_no_link}
 use Rattle.dms_laws.specs.Sound.{AreFitting}
 use Rattle.dms_laws.proofs.Places.{stands_still}
@@ -80,14 +85,59 @@ some_of : (o : Option Value) → is_some o ≡ true → o ≡ Some (or_null o)
 some_of None h = absurd (cc)
 some_of (Some v) h = refl
 
-set_fitting : (items : List Item) (t : Setting) (values : List Value) → is_some (setting_value items t) ≡ true → AreFitting items values → AreFitting items (slice_set values (t.item - 1) (or_null (setting_value items t)))
-set_fitting items t values some h =
+-- texts
+
+plain_null : (o : Option Value) → IfSome o IsPlain → IsPlain (or_null o)
+plain_null None h = tt
+plain_null (Some v) h = h
+
+plain_if : (b : Bool) (v : Value) → IsPlain v → IfSome (cond b (Some v) None) IsPlain
+plain_if true v h = h
+plain_if false v h = tt
+
+ranged_plain : (n : ℕ) (s minus : Bool) (o : Option ℕ) → IfSome (ranged n s minus o) IsPlain
+ranged_plain n s minus None = tt
+ranged_plain n s minus (Some size) = plain_if _ _ tt
+
+bits_plain : (n : ℕ) (minus : Bool) (o : Option ℕ) → IfSome (bits_of n minus o) IsPlain
+bits_plain n minus None = tt
+bits_plain n minus (Some size) = plain_if _ _ tt
+
+-- a literal whose text is one that an item may have spells such a value
+value_plain : (k : ItemKind) (l : Literal) → IsPlainLiteral l → IfSome (value_of k l) IsPlain
+value_plain (Link to counted) l h = tt
+value_plain (Alpha n) NoValue h = tt
+value_plain (Decimal n m s) NoValue h = tt
+value_plain OneBit NoValue h = tt
+value_plain (Field n) NoValue h = tt
+value_plain (Alpha n) (Quoted bytes) h = plain_if _ _ h
+value_plain (Decimal n m s) (Digits minus digits places) h = ranged_plain n s minus (scaled m digits places)
+value_plain (Field n) (Digits minus digits places) h = bits_plain n minus (scaled 0 digits places)
+value_plain OneBit (Word b) h = tt
+value_plain k l h = tt
+
+some_if : (b : Bool) (o : Option Value) → IfSome o IsPlain → IfSome (cond b o None) IsPlain
+some_if true o h = h
+some_if false o h = tt
+
+fitted_plain : (o : Option Item) (l : Literal) → IsPlainLiteral l → IfSome (fitted o l) IsPlain
+fitted_plain None l h = tt
+fitted_plain (Some i) l h = some_if (is_kind i.kind && is_literal l) (value_of i.kind l) (value_plain i.kind l h)
+
+set_plain : (vs : List Value) (j : ℕ) (v : Value) → IsPlain v → ArePlain vs → ArePlain (slice_set vs j v)
+set_plain [] j v h all = tt
+set_plain (x ∷ vs) zero v h all = (h, all.1)
+set_plain (x ∷ vs) (suc j) v h all = (all.0, set_plain vs j v h all.1)
+
+set_fitting : (items : List Item) (t : Setting) (values : List Value) → IsPlainLiteral t.literal → is_some (setting_value items t) ≡ true → AreFitting items values → AreFitting items (slice_set values (t.item - 1) (or_null (setting_value items t)))
+set_fitting items t values plain some h =
     let j = t.item - 1 in
     let v = or_null (setting_value items t) in
     let spelled = some_of (setting_value items t) some in
     record {
       lengths = length-set values j v ∙ h.lengths;
       fit = of_set (λ item v. fits item.kind v ≡ true) items values j v h.lengths h.fit (λ item at. fitted_fits item t.literal v (of_fitted (slice_get items j) item t.literal v at spelled));
+      plain = set_plain values j v (plain_null (setting_value items t) (fitted_plain (slice_get items j) t.literal plain)) h.plain;
     }
 
 abbrev pub FilledFits : List Item → Filled → Type 0
@@ -99,21 +149,27 @@ filled_if items true x y h k = h refl
 filled_if items false x y h k = k
 
 -- a PUT leaves values that fit
-pub filled_fits : (items : List Item) (settings : List Setting) (values : List Value) → AreFitting items values → FilledFits items (filled items settings values)
-filled_fits items [] values h = h
-filled_fits items (t ∷ ts) values h =
+pub filled_fits : (items : List Item) (settings : List Setting) (values : List Value) → AllByRecursion (λ t. IsPlainLiteral t.literal) settings → AreFitting items values → FilledFits items (filled items settings values)
+filled_fits items [] values plain h = h
+filled_fits items (t ∷ ts) values plain h =
     filled_if items (is_some (setting_value items t)) (filled items ts (slice_set values (t.item - 1) (or_null (setting_value items t)))) (Misfit (item_name (slice_get items (t.item - 1))))
-    (λ some. filled_fits items ts (slice_set values (t.item - 1) (or_null (setting_value items t))) (set_fitting items t values some h)) tt
+    (λ some. filled_fits items ts (slice_set values (t.item - 1) (or_null (setting_value items t))) plain.1 (set_fitting items t values plain.0 some h)) tt
 
 -- initial values
 
 initial_at : (items : List Item) (k : ℕ) (item : Item) → slice_get items k ≡ Some item → value_at (map (λ (t : Item). t.initial) items) k ≡ item.initial
 initial_at items k item at = ap or_null (slice_get-map (λ (t : Item). t.initial) items k) ∙ ap (λ (o : Option Item). or_null (option_map (λ (t : Item). t.initial) o)) at
 
-pub initial_fits : (items : List Item) → ((k : ℕ) (item : Item) → slice_get items k ≡ Some item → fits item.kind item.initial ≡ true) → AreFitting items (map (λ (t : Item). t.initial) items)
-initial_fits items fit = record {
+initial_plain : (items : List Item) → ((k : ℕ) (item : Item) → slice_get items k ≡ Some item → IsPlain item.initial) → ArePlain (map (λ (t : Item). t.initial) items)
+initial_plain [] all = tt
+initial_plain (t ∷ ts) all = (all 0 t refl, initial_plain ts (λ k item at. all (suc k) item at))
+
+pub initial_fits : (items : List Item) → ((k : ℕ) (item : Item) → slice_get items k ≡ Some item → fits item.kind item.initial ≡ true) → ((k : ℕ) (item : Item) → slice_get items k ≡ Some item → IsPlain item.initial)
+    → AreFitting items (map (λ (t : Item). t.initial) items)
+initial_fits items fit plain = record {
   lengths = length-map items (λ (t : Item). t.initial);
   fit = λ k item at. subst (λ (v : Value). fits item.kind v ≡ true) (sym (initial_at items k item at)) (fit k item at);
+  plain = initial_plain items plain;
 }
 
 -- REQUIRED
@@ -189,10 +245,28 @@ of_linked P items olds vs len off on k item at = by (is_link item.kind) refl
         subst (P item) (sym (linked_on 0 items olds vs k k (omega arith) (omega (arith, within, len)) (ap is_link_item at ∙ e))) (on k item at e)
     by false e = subst (P item) (sym (linked_off 0 items olds vs k k (omega arith) (ap is_link_item at ∙ e))) (off k item at e)
 
-pub linked_fits : (items : List Item) (olds vs : List Value) → AreFitting items vs → OfItems items olds (λ item v. fits item.kind v ≡ true) → AreFitting items (linked_from 0 items olds vs)
-linked_fits items olds vs h old = record {
+one_of : (b : Bool) (x y : Value) → IsPlain x → IsPlain y → IsPlain (cond b x y)
+one_of true x y h k = h
+one_of false x y h k = k
+
+kept_plain : (o : Option Item) (old new : Value) → IsPlain old → IsPlain new → IsPlain (kept_value o old new)
+kept_plain None old new h k = k
+kept_plain (Some i) old new h k = one_of (is_link i.kind) old new h k
+
+at_plain : (vs : List Value) (i : ℕ) → ArePlain vs → IsPlain (or_null (slice_get vs i))
+at_plain [] i h = tt
+at_plain (v ∷ vs) zero h = h.0
+at_plain (v ∷ vs) (suc i) h = at_plain vs i h.1
+
+linked_plain : (i : ℕ) (items : List Item) (olds vs : List Value) → ArePlain olds → ArePlain vs → ArePlain (linked_from i items olds vs)
+linked_plain i items olds [] old h = tt
+linked_plain i items olds (v ∷ vs) old h = (kept_plain (slice_get items i) (or_null (slice_get olds i)) v (at_plain olds i old) h.0, linked_plain (i + 1) items olds vs old h.1)
+
+pub linked_fits : (items : List Item) (olds vs : List Value) → AreFitting items vs → OfItems items olds (λ item v. fits item.kind v ≡ true) → ArePlain olds → AreFitting items (linked_from 0 items olds vs)
+linked_fits items olds vs h old plain = record {
   lengths = linked_length 0 items olds vs ∙ h.lengths;
   fit = of_linked (λ item v. fits item.kind v ≡ true) items olds vs h.lengths (λ k item at off. h.fit k item at) (λ k item at on. old k item at);
+  plain = linked_plain 0 items olds vs plain h.plain;
 }
 
 -- null fits each kind, and refers to no record that is missing

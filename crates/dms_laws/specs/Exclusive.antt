@@ -7,9 +7,9 @@ use Rattle.dms_desc.specs.Shape.{Described}
 use Rattle.dms_model.specs.declared.program.Program.{Program}
 use Rattle.dms_model.specs.declared.program.Lock.{Lock}
 use Rattle.dms_model.specs.declared.verb.Verb.{Verb}
-use Rattle.dms_model.specs.declared.verb.Verb.TheVariants.{OpenUpdate, OpenInquiry, Close, Find, Create, Put, Get, Store, Begin, End, Abort}
 use Rattle.dms_model.specs.declared.reply.Reply.{Reply}
 use Rattle.dms_model.specs.declared.reply.Reply.TheVariants.{Done, Exception, Waits}
+use Rattle.dms_model.specs.BackOut.{asks_back_out}
 use Rattle.dms_model.specs.Db.{Db, Place}
 use Rattle.dms_laws.specs.Runs.{after}
 use Rattle.dms_model.specs.Session.{Session, Outcome, step, holds, fresh_session}
@@ -45,19 +45,6 @@ IsExclusive s = AreExclusive s.db s.mark s.programs
 -- an open program of this name holds the record locked
 abbrev pub is_locked_for : Session → List ℕ → Place → Bool
 is_locked_for s who place = list_any (λ p. bytes_eq p.name who && locks_it p place) s.programs
-
-abbrev pub asks_back_out : Verb → Bool
-asks_back_out OpenUpdate = false
-asks_back_out OpenInquiry = false
-asks_back_out Close = false
-asks_back_out (Find path) = false
-asks_back_out (Create set) = false
-asks_back_out (Put set settings) = false
-asks_back_out (Get set items) = false
-asks_back_out (Store set) = false
-asks_back_out (Begin audit) = false
-asks_back_out (End audit sync) = false
-asks_back_out Abort = true
 
 abbrev pub is_done : Reply → Bool
 is_done (Done text) = true

@@ -2,4 +2,3 @@ pub mod Exclusive
 pub mod Made
 pub mod Runs
 pub mod Sound
-pub mod Valid

@@ -5,10 +5,11 @@ use Rattle.std.specs.declared.option.Option.{Option}
 use Rattle.dms_base.specs.Fits.{fits}
 use Rattle.dms_desc.specs.declared.structure.Item.{Item}
 use Rattle.dms_desc.specs.declared.structure.KeyPart.{KeyPart}
+use Rattle.dms_desc.specs.Plain.{IsPlain}
 use Rattle.dms_desc.specs.Shape.{Shape, Described, Tree, Empty, Test, Both, Either, Contrary}
-use Rattle.dms_model.specs.Members.{structure_of, items_of}
-use Rattle.dms_model.specs.Stores.{is_link}
-use Rattle.dms_laws.specs.Valid.{is_set}
+use Rattle.dms_desc.specs.Lookups.{structure_of, items_of}
+use Rattle.dms_desc.specs.Kinds.{is_link}
+use Rattle.dms_model.specs.Valid.{is_set}
 
 -- there is such an item, and it is a link
 abbrev pub is_link_item : Option Item → Bool
@@ -40,6 +41,8 @@ OfAllItems desc P = (n : ℕ) (shape : Shape) → structure_of desc n ≡ Some s
 pub record IsWellMade (desc : Described) : Type 0 where
   -- initial values fit their items
   pub initial : OfAllItems desc (λ item. fits item.kind item.initial ≡ true)
+  -- and texts among them are ones that items may have
+  pub plain : OfAllItems desc (λ item. IsPlain item.initial)
   -- no link is REQUIRED
   pub optional : OfAllItems desc (λ item. is_link item.kind ≡ true → item.required ≡ false)
   -- VERIFY and WHERE compare no link

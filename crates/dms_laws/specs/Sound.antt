@@ -5,6 +5,7 @@ use Rattle.std.specs.declared.option.Option.{Option}
 use Rattle.dms_base.specs.declared.value.Value.{Value}
 use Rattle.dms_base.specs.Fits.{fits}
 use Rattle.dms_desc.specs.declared.structure.Item.{Item}
+use Rattle.dms_desc.specs.Plain.{ArePlain}
 use Rattle.dms_desc.specs.Shape.{Shape, Described}
 use Rattle.dms_model.specs.declared.program.Program.{Program}
 use Rattle.dms_model.specs.declared.program.Area.{Area}
@@ -13,24 +14,20 @@ use Rattle.dms_model.specs.declared.verb.Verb.{Verb}
 use Rattle.dms_model.specs.declared.verb.Verb.TheVariants.{OpenUpdate, OpenInquiry, Close, Find, Create, Put, Get, Store, Begin, End, Abort}
 use Rattle.dms_model.specs.Db.{Db}
 use Rattle.dms_model.specs.Points.{Quiet}
-use Rattle.dms_model.specs.Members.{structure_of}
+use Rattle.dms_desc.specs.Lookups.{structure_of}
 use Rattle.dms_model.specs.Session.{Session, step, work_of, fresh_session}
 use Rattle.dms_laws.specs.Exclusive.{IsExclusive}
-use Rattle.dms_laws.specs.Valid.{OfRecords, OfItems, IsValid, is_data_set, owner_of}
+use Rattle.dms_model.specs.Spoken.{IsOuter, IsPlainLiteral}
+use Rattle.dms_model.specs.Valid.{OfRecords, OfItems, IsValid}
 
--- a disjoint data set
-pub record IsOuter (structure : Option Shape) : Type 0 where
-  pub data_set : is_data_set structure ≡ true
-  pub disjoint : owner_of structure ≡ 0
-
--- the data set that CREATE or PUT names is one of the outer level
+-- the data set that CREATE or PUT names is one of the outer level, and a text that PUT gives is one that an item may have
 abbrev pub NamesOuter : Described → Verb → Type 0
 NamesOuter desc OpenUpdate = ⊤
 NamesOuter desc OpenInquiry = ⊤
 NamesOuter desc Close = ⊤
 NamesOuter desc (Find path) = ⊤
 NamesOuter desc (Create set) = IsOuter (structure_of desc set)
-NamesOuter desc (Put set settings) = IsOuter (structure_of desc set)
+NamesOuter desc (Put set settings) = IsOuter (structure_of desc set) × AllByRecursion (λ t. IsPlainLiteral t.literal) settings
 NamesOuter desc (Get set items) = ⊤
 NamesOuter desc (Store set) = ⊤
 NamesOuter desc (Begin audit) = ⊤
@@ -42,10 +39,11 @@ pub record IsFlat (desc : Described) (db : Db) : Type 0 where
   pub entries : db.entries ≡ []
   pub disjoint : OfRecords desc db (λ place rec shape. shape.owner ≡ 0)
 
--- values of an area: as many as items, and each fits
+-- values of an area: as many as items, each fits, and each text is one that an item may have
 pub record AreFitting (items : List Item) (values : List Value) : Type 0 where
   pub lengths : length values ≡ length items
   pub fit : OfItems items values (λ item v. fits item.kind v ≡ true)
+  pub plain : ArePlain values
 
 -- an area of a data set; a new one is of a disjoint one, and without owner
 abbrev pub AreaFits : Shape → Option Area → Type 0

@@ -1,16 +1,16 @@
 -- What is read fits, and its spelling is what stood there.
-use Rattle.std.proofs.Common.{◌≡◌, ◌≢◌, ◌+◌, ◌<◌, ◌≤◌, ◌^◌, ℕ, zero, suc, List, [], ◌∷◌, ◌++◌, Bool, true, false, cond, eqb, leb, leb-true, refl, sym, ap, ◌∙◌, subst, length, take, drop, replicate, option_map, arith}
-use Rattle.std.specs.Prelude.{◌&&◌, ◌==◌, nat_le, slice_index, IsTrue}
+use Rattle.std.proofs.Common.{◌≡◌, ◌≢◌, ◌<◌, ◌^◌, ℕ, zero, suc, List, [], ◌∷◌, ◌++◌, Bool, true, false, cond, leb-true, refl, sym, ap, ◌∙◌, subst, length, take, drop, replicate, option_map, arith}
+use Rattle.std.specs.Prelude.{◌&&◌, ◌==◌, nat_le, slice_index}
 use Rattle.std.specs.declared.option.Option.{Option}
 use Rattle.std.specs.declared.option.Option.TheVariants.{None, Some}
-use Rattle.std.specs.Int.{w32, to_be_bytes, from_be_bytes, byte_at}
+use Rattle.std.specs.Int.{w32, to_be_bytes, from_be_bytes}
 use Rattle.std.specs.List.{list_all}
 use Rattle.std.specs.Str.{bytes_eq}
 use Rattle.std.proofs.lemmas.List.{length-replicate}
 use Rattle.std.proofs.lemmas.Slice.Eq.{bytes_eq-Decides}
 use Rattle.std.proofs.lemmas.Bool.Decides.{nat_tests}
-use Rattle.dms_base.specs.declared.value.Value.{Value}
-use Rattle.dms_base.specs.declared.value.Value.TheVariants.{Null, Text, Number, Bool as Truth, Bits, Link as Reference}
+use Rattle.std.proofs.lemmas.Bool.{and_from, and_parts}
+use Rattle.dms_base.specs.declared.value.Value.TheVariants.{Null}
 use Rattle.dms_base.specs.declared.kind.ItemKind.{ItemKind}
 use Rattle.dms_base.specs.declared.kind.ItemKind.TheVariants.{Alpha, Number as Decimal, Bool as OneBit, Field, Link}
 use Rattle.dms_base.specs.Text.{IsText, text_of, trimmed, is_printable}
@@ -21,11 +21,9 @@ use Rattle.dms_desc.specs.Shape.{Shape}
 use Rattle.dms_fields.specs.Fields.{bytes_at}
 use Rattle.dms_fields.specs.Laid.{bytes_again}
 use Rattle.dms_key.specs.ByteOrder.{byte_small}
-use Rattle.dms_key.specs.KeyOrder.{both_of}
 use Rattle.dms_layout.specs.declared.slot.Slot.{Slot}
-use Rattle.dms_layout.specs.declared.slot.SlotRead.{SlotRead}
 use Rattle.dms_layout.specs.declared.slot.SlotRead.TheVariants.{Free, Used, Bad}
-use Rattle.dms_layout.specs.Slots.{record_bytes, slot_width, slot_bytes, all_fit, may_own, SlotFits, AreKinds, or_zero, text_or_null, value_in, value_at, values_at, slot_in, is_zero, is_free, is_spelled, slot_by, slot_of}
+use Rattle.dms_layout.specs.Slots.{record_bytes, slot_width, slot_bytes, all_fit, may_own, SlotFits, AreKinds, or_zero, text_or_null, value_in, values_at, slot_in, is_zero, is_free, is_spelled, slot_by, slot_of}
 use Rattle.dms_layout.specs.SlotLaws.{slot_again}
 
 -- ---- texts that are read are plain
@@ -85,8 +83,8 @@ record Spelled (s : Shape) (bytes : List ℕ) (slot : Slot) : Type 0 where
 spelled_is : (s : Shape) (bytes : List ℕ) (slot : Slot) → is_spelled s bytes slot ≡ true → Spelled s bytes slot
 unfolding is_spelled
 spelled_is s bytes slot h =
-    let outer = both_of (bytes_eq bytes (slot_bytes s.items slot)) (may_own s slot.rec.owner && all_fit s.items slot.rec.values) h in
-    let inner = both_of (may_own s slot.rec.owner) (all_fit s.items slot.rec.values) outer.1 in
+    let outer = and_parts (bytes_eq bytes (slot_bytes s.items slot)) (may_own s slot.rec.owner && all_fit s.items slot.rec.values) h in
+    let inner = and_parts (may_own s slot.rec.owner) (all_fit s.items slot.rec.values) outer.1 in
     record { same = (bytes_eq-Decides bytes (slot_bytes s.items slot)).0 outer.0; disjoint = inner.0; values = inner.1 }
 
 read_fits : (s : Shape) (bytes : List ℕ) (slot : Slot) → slot_in s.items bytes ≡ slot → Spelled s bytes slot → SlotFits s slot
@@ -127,7 +125,7 @@ same_of a b h = grind (arith, nat_tests, h)
 zeros_are : (bytes : List ℕ) → list_all is_zero bytes ≡ true → bytes ≡ replicate (length bytes) 0
 zeros_are [] h = refl
 zeros_are (b ∷ bytes) h =
-    let both = both_of (is_zero b) (list_all is_zero bytes) h in
+    let both = and_parts (is_zero b) (list_all is_zero bytes) h in
     let zero_here : b ≡ 0 = same_of b 0 both.0 in
     (λ j. zero_here j ∷ zeros_are bytes both.1 j)
 
@@ -141,16 +139,12 @@ same_number a b e = grind (arith, nat_tests, e)
 free_zeros : (items : List Item) (bytes : List ℕ) → is_free items bytes ≡ true → bytes ≡ replicate (slot_width items) 0
 unfolding is_free
 free_zeros items bytes h =
-    let both = both_of (list_all is_zero bytes) (length bytes == slot_width items) h in
+    let both = and_parts (list_all is_zero bytes) (length bytes == slot_width items) h in
     zeros_are bytes both.0 ∙ ap (λ n. replicate n 0) (same_of (length bytes) (slot_width items) both.1)
-
-both_hold : (a b : Bool) → a ≡ true → b ≡ true → (a && b) ≡ true
-both_hold true b p q = q
-both_hold false b p q = absurd (cc)
 
 zeros_free : (items : List Item) → is_free items (replicate (slot_width items) 0) ≡ true
 unfolding is_free
-zeros_free items = both_hold _ _ (are_zeros (slot_width items)) (same_number _ _ (length-replicate {A = ℕ} (slot_width items) 0))
+zeros_free items = and_from _ _ (are_zeros (slot_width items)) (same_number _ _ (length-replicate {A = ℕ} (slot_width items) 0))
 
 -- a free slot has zeros alone
 pub free_is : (s : Shape) (bytes : List ℕ) → slot_of s bytes ≡ Free → bytes ≡ replicate (slot_width s.items) 0

@@ -1,34 +1,32 @@
 -- What was spelled is read, and what is read was spelled.
-use Rattle.std.proofs.Common.{◌≡◌, ◌≢◌, ◌+◌, ◌-◌, ◌*◌, ◌<◌, ◌≤◌, ◌^◌, ℕ, ℤ, pos, negsuc, zero, suc, List, [], ◌∷◌, ◌++◌, Bool, true, false, eqb, ltb, leb, refl, sym, ap, ◌∙◌, subst, length, take, drop, replicate, option_map, arith, length-append}
-use Rattle.std.specs.Prelude.{◌&&◌, ◌==◌, nat_eq, nat_lt, unsigned_abs, IsTrue}
+use Rattle.std.proofs.Common.{◌≡◌, ◌+◌, ◌-◌, ◌<◌, ◌^◌, ℕ, ℤ, pos, negsuc, zero, suc, List, [], ◌∷◌, ◌++◌, Bool, true, false, ltb, leb, refl, ap, ◌∙◌, length, replicate, option_map, arith, length-append}
+use Rattle.std.specs.Prelude.{◌==◌, unsigned_abs, IsTrue}
 use Rattle.std.specs.declared.option.Option.{Option}
-use Rattle.std.specs.declared.option.Option.TheVariants.{None, Some}
-use Rattle.std.specs.Int.{w32, w64, to_be_bytes, from_be_bytes, byte_at}
+use Rattle.std.specs.declared.option.Option.TheVariants.{Some}
+use Rattle.std.specs.Int.{w32, w64, to_be_bytes, from_be_bytes}
 use Rattle.std.specs.List.{list_all}
-use Rattle.std.specs.Str.{bytes_eq}
-use Rattle.std.proofs.lemmas.List.{take_at, drop_at, append-nil}
+use Rattle.std.proofs.lemmas.List.{take_at, drop_at}
 use Rattle.std.proofs.lemmas.List.Folds.{list_all-append}
 use Rattle.std.proofs.lemmas.Nat.{from_be_bytes-to_be_bytes_4, from_be_bytes-to_be_bytes_8}
-use Rattle.std.proofs.lemmas.Bool.{le-ltb, lt-ltb, le-leb}
-use Rattle.std.proofs.lemmas.Bool.Decides.{nat_tests}
+use Rattle.std.proofs.lemmas.Bool.{le-ltb, lt-ltb, le-leb, and_from, and_parts}
 use Rattle.std.proofs.lemmas.Cmp.{nat_list_eq_equiv}
 use Rattle.dms_base.specs.declared.value.Value.{Value}
 use Rattle.dms_base.specs.declared.value.Value.TheVariants.{Null, Text, Number, Bool as Truth, Bits, Link as Reference}
 use Rattle.dms_base.specs.declared.kind.ItemKind.{ItemKind}
 use Rattle.dms_base.specs.declared.kind.ItemKind.TheVariants.{Alpha, Number as Decimal, Bool as OneBit, Field, Link}
-use Rattle.dms_base.specs.Fits.{fits, IsKind}
+use Rattle.dms_base.specs.Fits.{fits}
 use Rattle.dms_base.specs.Text.{IsText, text_of, trimmed, before_trimmed, is_printable}
 use Rattle.dms_desc.specs.declared.structure.Item.{Item}
-use Rattle.dms_desc.specs.Plain.{IsPlain, ArePlain, FitsKind}
+use Rattle.dms_desc.specs.Plain.{ArePlain, FitsKind}
 use Rattle.dms_desc.specs.Shape.{Shape}
-use Rattle.dms_fields.specs.Fields.{bytes_at, number_at}
+use Rattle.dms_fields.specs.Fields.{number_at}
 use Rattle.dms_fields.specs.Laid.{bytes_again}
-use Rattle.dms_key.specs.KeyBytes.{width_of, shifted, bit_of, value_bytes, field_bytes}
-use Rattle.dms_key.specs.KeyOrder.{field_length, fits_length, number_small, bits_small, link_small, shifted_small, both_of}
+use Rattle.dms_key.specs.KeyBytes.{shifted, bit_of, field_bytes}
+use Rattle.dms_key.specs.KeyOrder.{field_length, fits_length, number_small, bits_small, link_small, shifted_small}
 use Rattle.dms_layout.specs.declared.slot.Slot.{Slot}
-use Rattle.dms_layout.specs.declared.slot.SlotRead.{SlotRead}
-use Rattle.dms_layout.specs.declared.slot.SlotRead.TheVariants.{Free, Used, Bad}
-use Rattle.dms_layout.specs.Slots.{record_bytes, record_width, slot_width, slot_bytes, all_fit, may_own, SlotFits, AreKinds, or_zero, text_or_null, unshifted, value_in, value_at, values_at, slot_in, is_zero, is_free, is_spelled, slot_by, slot_of}
+use Rattle.dms_layout.specs.declared.slot.SlotRead.TheVariants.{Used}
+use Rattle.dms_desc.specs.Widths.{item_width, record_width}
+use Rattle.dms_layout.specs.Slots.{record_bytes, slot_width, slot_bytes, all_fit, SlotFits, AreKinds, or_zero, text_or_null, unshifted, value_at, values_at, slot_in, is_free, is_spelled, slot_by, slot_of}
 
 -- ---- texts
 
@@ -45,14 +43,10 @@ spaces_printable : (m : ℕ) → list_all is_printable (replicate m 32) ≡ true
 spaces_printable zero = refl
 spaces_printable (suc m) = spaces_printable m
 
-both_true : (a b : Bool) → a ≡ true → b ≡ true → (a && b) ≡ true
-both_true true b p q = q
-both_true false b p q = absurd (cc)
-
 text_again : (a : List ℕ) (m : ℕ) → IsText a → text_of (a ++ replicate m 32) ≡ Some a
 unfolding text_of
 text_again a m t =
-    let printable : list_all is_printable (a ++ replicate m 32) ≡ true = list_all-append is_printable a (replicate m 32) ∙ both_true _ _ t.printable (spaces_printable m) in
+    let printable : list_all is_printable (a ++ replicate m 32) ≡ true = list_all-append is_printable a (replicate m 32) ∙ and_from _ _ t.printable (spaces_printable m) in
     let trim : trimmed (a ++ replicate m 32) ≡ a = spaces_dropped a m ∙ t.without_space in
     let few : leb (length a) 200 ≡ true = le-leb _ _ t.few in
     rw (printable, trim, few) refl
@@ -105,7 +99,7 @@ each_fits [] [] k f p = tt
 each_fits [] (v ∷ vs) k f p = absurd (cc (f))
 each_fits (i ∷ is) [] k f p = absurd (cc (f))
 each_fits (i ∷ is) (v ∷ vs) k f p =
-    let both = both_of (fits i.kind v) (all_fit is vs) f in
+    let both = and_parts (fits i.kind v) (all_fit is vs) f in
     (record { kind = k.0; fits = both.0; plain = p.0 }, each_fits is vs k.1 both.1 p.1)
 
 pub record_length : (is : List Item) (vs : List Value) → AllFit is vs → length (record_bytes is vs) ≡ record_width is
@@ -120,7 +114,7 @@ values_again [] [] f = refl
 values_again [] (v ∷ vs) f = absurd f
 values_again (i ∷ is) [] f = absurd f
 values_again (i ∷ is) (v ∷ vs) f =
-    let w = suc (width_of i.kind) in
+    let w = item_width i.kind in
     let here = take_at (field_bytes i.kind v) (record_bytes is vs) w (field_length i.kind v f.0) in
     let behind = drop_at (field_bytes i.kind v) (record_bytes is vs) w (field_length i.kind v f.0) in
     (λ j. (ap (value_at i.kind) here ∙ value_again i.kind v f.0) j ∷ (ap (values_at is) behind ∙ values_again is vs f.1) j)
@@ -152,7 +146,7 @@ spelling_used s slot = refl
 spelling_spelled : (s : Shape) (slot : Slot) → SlotFits s slot → is_spelled s (slot_bytes s.items slot) slot ≡ true
 unfolding is_spelled
 spelling_spelled s slot f =
-    both_true _ _ (nat_list_eq_equiv.refl (slot_bytes s.items slot)) (both_true _ _ f.disjoint f.values)
+    and_from _ _ (nat_list_eq_equiv.refl (slot_bytes s.items slot)) (and_from _ _ f.disjoint f.values)
 
 -- what was spelled is read
 pub slot_again : (s : Shape) (slot : Slot) → AreKinds s.items → SlotFits s slot → slot_of s (slot_bytes s.items slot) ≡ Used slot
@@ -172,7 +166,7 @@ record_long [] [] f = refl
 record_long [] (v ∷ vs) f = absurd (cc (f))
 record_long (i ∷ is) [] f = absurd (cc (f))
 record_long (i ∷ is) (v ∷ vs) f =
-    let both = both_of (fits i.kind v) (all_fit is vs) f in
+    let both = and_parts (fits i.kind v) (all_fit is vs) f in
     length-append (field_bytes i.kind v) (record_bytes is vs) ∙ (λ j. fits_length i.kind v both.0 j + record_long is vs both.1 j)
 
 -- a slot whose values fit is as long as a slot

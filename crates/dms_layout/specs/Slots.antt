@@ -1,5 +1,5 @@
 -- The bytes of a record's slot in a data set's file, and what a slot's bytes say.
-use Rattle.std.specs.Prelude.{ℕ, ℤ, pos, negsuc, suc, ◌+◌, ◌-◌, ◌^◌, ◌<◌, List, [], ◌∷◌, ◌++◌, Bool, true, false, not, ◌&&◌, ◌||◌, ◌==◌, nat_lt, Some, None, if◌then◌else◌, IsTrue, length, take, drop, slice_index}
+use Rattle.std.specs.Prelude.{ℕ, ℤ, pos, negsuc, ◌+◌, ◌-◌, ◌^◌, ◌<◌, List, [], ◌∷◌, ◌++◌, Bool, true, false, not, ◌&&◌, ◌||◌, ◌==◌, nat_lt, Some, None, if◌then◌else◌, IsTrue, length, take, drop, slice_index}
 use Rattle.std.specs.declared.option.Option.{Option}
 use Rattle.std.specs.Int.{w32, w64, to_be_bytes}
 use Rattle.std.specs.List.{list_all}
@@ -12,10 +12,10 @@ use Rattle.dms_base.specs.declared.kind.ItemKind.TheVariants.{Alpha, Number as D
 use Rattle.dms_base.specs.Fits.{fits, IsKind}
 use Rattle.dms_base.specs.Text.{text_of}
 use Rattle.dms_desc.specs.declared.structure.Item.{Item}
-use Rattle.dms_desc.specs.declared.record.Record.{Record}
 use Rattle.dms_desc.specs.Plain.{ArePlain}
 use Rattle.dms_desc.specs.Shape.{Shape}
-use Rattle.dms_key.specs.KeyBytes.{width_of, field_bytes}
+use Rattle.dms_desc.specs.Widths.{item_width, record_width}
+use Rattle.dms_key.specs.KeyBytes.{field_bytes}
 use Rattle.dms_layout.specs.declared.slot.Slot.{Slot}
 use Rattle.dms_layout.specs.declared.slot.SlotRead.{SlotRead}
 use Rattle.dms_layout.specs.declared.slot.SlotRead.TheVariants.{Free, Used, Bad}
@@ -27,10 +27,6 @@ abbrev pub record_bytes : List Item → List Value → List ℕ
 record_bytes [] vs = []
 record_bytes (i ∷ is) [] = []
 record_bytes (i ∷ is) (v ∷ vs) = field_bytes i.kind v ++ record_bytes is vs
-
-abbrev pub record_width : List Item → ℕ
-record_width [] = 0
-record_width (i ∷ is) = suc (width_of i.kind) + record_width is
 
 -- how many bytes a slot has
 abbrev pub slot_width : List Item → ℕ
@@ -96,7 +92,7 @@ value_at k field = if slice_index field 0 == 255 then Null else value_in k field
 -- the values of a record
 abbrev pub values_at : List Item → List ℕ → List Value
 values_at [] bytes = []
-values_at (i ∷ is) bytes = value_at i.kind (take (suc (width_of i.kind)) bytes) ∷ values_at is (drop (suc (width_of i.kind)) bytes)
+values_at (i ∷ is) bytes = value_at i.kind (take (item_width i.kind) bytes) ∷ values_at is (drop (item_width i.kind) bytes)
 
 abbrev pub slot_in : List Item → List ℕ → Slot
 slot_in items bytes = record {

@@ -7,9 +7,8 @@ ghost use Rattle.dms_base.specs.Text.{text_of};
 use crate::writing::to_slot;
 use crate::{Slot, SlotRead};
 use dms_base::{ItemKind, Memory, Text, Value, fits};
-use dms_desc::{Item, Record, Structure, Values};
+use dms_desc::{Item, Record, Structure, Values, item_width};
 use dms_fields::{take_u32, take_u64};
-use dms_key::width_of;
 use std::alloc::Global;
 
 // The number that was moved so that the least one is 0.
@@ -66,7 +65,7 @@ fn values_at(alloc: Global, items: &[Item], bytes: &[u8]) -> Result<Values, Memo
     let mut values = Values::new(alloc);
     let mut rest = bytes;
     for item in items {
-        let width = (width_of(item.kind) as usize + 1).min(rest.len());
+        let width = (item_width(item.kind) as usize).min(rest.len());
         values.push(value_at(alloc, item.kind, &rest[..width])?)?;
         rest = &rest[width..];
     }
@@ -128,7 +127,7 @@ fn has_width(items: &[Item], bytes: &[u8]) -> bool
     }
     let mut left = bytes.len() - 13;
     for item in items {
-        let width = width_of(item.kind) as usize + 1;
+        let width = item_width(item.kind) as usize;
         if left < width {
             return false;
         }

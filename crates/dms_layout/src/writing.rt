@@ -3,8 +3,8 @@ ghost use Rattle.dms_layout.specs.Slots.{record_bytes, slot_bytes, slot_width};
 
 use crate::Slot;
 use dms_base::{Bytes, Memory, Value};
-use dms_desc::{Item, Structure};
-use dms_key::{put_field, width_of};
+use dms_desc::{Item, Structure, width_of};
+use dms_key::put_field;
 use std::alloc::Global;
 
 /// How many bytes a slot of a data set with these items has.

@@ -381,6 +381,10 @@ pub stops : (files : Files) (log : List Undo) (made d : ℕ) (x : BlockStop) →
 stops files log made d x left =
     (record { count = left.count; enough = left.enough; within = left.within; is = left.is; not_fallen = omega (arith, left.next, points-length files log made); whole_files = tt }, λ s e. absurd (cc e))
 
+-- a stop now that leaves the durable points alone
+stop_at : Files → List Undo → ℕ → ℕ → BlockStop
+stop_at files log made d = record { files = λ f. []; points = take d (points_to files log made); next = d + 1; said = [] }
+
 -- files without blocks
 
 pub empty_push : (files : Files) → AreEmpty files → AreEmpty (files ++ [] ∷ [])
@@ -405,8 +409,10 @@ empty_content files f empty = elim (cases_le f 30000) [
 -- what calls leave of what is told
 
 pub agrees : (files : Files) (log : List Undo) (made d : ℕ) (uses : Uses) → d ≤ made → Agrees (held_of files log made d uses)
+unfolding stop_at
 agrees files log made d uses le = record {
   counted = λ t f. refl;
+  may_stop = λ t. (stop_at files log made d, record { count = d; enough = omega arith; within = omega (arith, le, points-length files log made); is = refl; next = refl });
   stop = λ t room x now. stops files log made d x now;
   here = λ t room. (refl, λ told. refl);
   sure = λ t room. omega (arith, le, points-length files log made);
@@ -414,7 +420,7 @@ agrees files log made d uses le = record {
 
 pub passes : (files files' : Files) (log log' : List Undo) (made d d' : ℕ) (uses uses' : Uses) → length files' ≡ length files → points_to files' log' made ≡ points_to files log made → d ≤ d' → Passes (held_of files log made d uses) (held_of files' log' made d' uses')
 passes files files' log log' made d d' uses uses' many points le = record {
-  lasts = record { told = λ t. t; tells = λ t. t; owns = λ i f. nat_lt 30000 f && nat_le f (30000 + many i); whole = λ fs w. w };
+  lasts = record { told = λ t. t; tells = λ t. t; owns = λ i f. nat_lt 30000 f && nat_le f (30000 + many i); whole = λ fs w. w; whole_on = λ fs w. w };
   next = refl;
   said = refl;
   leaves = λ t room. runs_quietly (points_to files log made) (points_to files' log' made) d d' _ points le;

@@ -5,7 +5,7 @@ use Rattle.dms_desc.specs.Shape.{Described}
 use Rattle.dms_base.specs.declared.category.Category.{Category}
 use Rattle.dms_base.specs.declared.category.Category.TheVariants.{LimitError, NoRecord, AuditError}
 use Rattle.std.specs.Prelude.{is_some}
-use Rattle.dms_model.specs.Members.{name_of, structure_of}
+use Rattle.dms_desc.specs.Lookups.{name_of, structure_of}
 use Rattle.dms_model.specs.declared.program.Program.{Program}
 use Rattle.dms_model.specs.declared.program.Area.{Area}
 use Rattle.dms_model.specs.declared.program.Mode.{Mode}

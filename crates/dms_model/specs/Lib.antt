@@ -1,9 +1,15 @@
+pub mod BackOut
 pub mod Db
 pub mod DescribedCode
+pub mod Fitting
+pub mod Fresh
 pub mod MemberLaws
 pub mod Members
+pub mod Places
 pub mod Points
 pub mod Seen
 pub mod Session
-pub mod Sorted
+pub mod Spoken
 pub mod Stores
+pub mod Valid
+pub mod Verbs

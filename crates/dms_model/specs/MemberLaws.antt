@@ -16,9 +16,10 @@ use Rattle.dms_desc.specs.Shape.{Shape, Described}
 use Rattle.dms_desc.specs.Conds.{or_null}
 use Rattle.dms_model.specs.declared.spot.Spot.{Spot}
 use Rattle.dms_model.specs.Db.{Db}
-use Rattle.dms_model.specs.Members.{key_cmp_from, key_cmp, turned, spot_cmp, is_before, is_after_bound, agrees, spots_of, first, members, structure_of, first_of, at_of, first_member, at_member}
-use Rattle.dms_model.specs.Session.{parts_of}
-use Rattle.dms_model.specs.Sorted.{InOrder, InOrder-sorted, that_passes, first_narrow}
+use Rattle.dms_desc.specs.Keys.{key_cmp_from, key_cmp, turned}
+use Rattle.dms_desc.specs.Lookups.{structure_of, parts_of}
+use Rattle.dms_desc.specs.Sorted.{first, InOrder, InOrder-sorted, that_passes, first_narrow}
+use Rattle.dms_model.specs.Members.{spot_cmp, is_before, is_after_bound, agrees, spots_of, members, first_of, at_of, first_member, at_member}
 
 turned_total : (d : Bool) (R : Value → Value → Ordering) → IsTotalOrder R → IsTotalOrder (λ a b. turned d (R a b))
 turned_total false R o = o
@@ -68,14 +69,14 @@ before_one_way ps = less_one_way (spot_total ps)
 pub members_in_order : (s : Shape) (db : Db) (owner : ℕ) → InOrder (is_before s.parts) (members s db owner)
 members_in_order s db owner = InOrder-sorted (is_before s.parts) (before_through s.parts) (before_one_way s.parts) (spots_of s db.entries owner (entries db.records))
 
-slice_get-take : (m i : ℕ) (a : List Value) → i < m → slice_get (take m a) i ≡ slice_get a i
+pub slice_get-take : (m i : ℕ) (a : List Value) → i < m → slice_get (take m a) i ≡ slice_get a i
 slice_get-take zero i a lt = absurd (omega arith)
 slice_get-take (suc m) i [] lt = refl
 slice_get-take (suc m) zero (v ∷ vs) lt = refl
 slice_get-take (suc m) (suc i) (v ∷ vs) lt = slice_get-take m i vs (omega arith)
 
 -- a comparison of the first parts sees the first values alone
-front_key : (i n m : ℕ) (ps : List KeyPart) (a b : List Value) → n + i ≤ m → key_cmp_from i (take n ps) (take m a) b ≡ key_cmp_from i (take n ps) a b
+pub front_key : (i n m : ℕ) (ps : List KeyPart) (a b : List Value) → n + i ≤ m → key_cmp_from i (take n ps) (take m a) b ≡ key_cmp_from i (take n ps) a b
 front_key i zero m ps a b le = refl
 front_key i (suc n) m [] a b le = refl
 front_key i (suc n) m (p ∷ ps) a b le =

@@ -1,40 +1,23 @@
 -- The members of a path: all records anew, filtered and ordered.
-use Rattle.std.specs.Prelude.{ℕ, ◌+◌, ◌-◌, List, [], ◌∷◌, map, take, length, Bool, true, false, nat_lt, ◌==◌, ◌&&◌, Some, None, slice_get, if◌then◌else◌}
+use Rattle.std.specs.Prelude.{ℕ, List, [], ◌∷◌, take, length, Bool, ◌==◌, ◌&&◌, Some, None, if◌then◌else◌}
 use Rattle.std.specs.declared.option.Option.{Option}
 use Rattle.std.specs.List.{list_any}
-use Rattle.std.specs.Ordering.{nat_cmp, ordering_then, ordering_reverse, is_lt, is_gt, is_eq}
+use Rattle.std.specs.Ordering.{nat_cmp, ordering_then, is_lt, is_gt, is_eq}
 use Rattle.std.specs.declared.cmp.Ordering.{Ordering}
-use Rattle.std.specs.declared.cmp.Ordering.TheVariants.{Less, Equal, Greater}
+use Rattle.std.specs.declared.cmp.Ordering.TheVariants.{Less, Greater}
 use Rattle.std.specs.FinMap.{entries}
 use Rattle.dms_base.specs.declared.value.Value.{Value}
-use Rattle.dms_base.specs.Name.{unknown_name}
-use Rattle.dms_base.specs.Orders.{value_cmp}
-use Rattle.dms_desc.specs.declared.structure.Item.{Item}
 use Rattle.dms_desc.specs.declared.structure.KeyPart.{KeyPart}
 use Rattle.dms_desc.specs.declared.record.Record.{Record}
 use Rattle.dms_desc.specs.declared.bound.Bound.{Bound}
 use Rattle.dms_desc.specs.declared.bound.Bound.TheVariants.{Start, End, At, From}
 use Rattle.dms_desc.specs.Shape.{Shape, Described}
-use Rattle.dms_desc.specs.Conds.{meets, item_of, or_null}
+use Rattle.dms_desc.specs.Keys.{key_of, key_cmp}
+use Rattle.dms_desc.specs.Kinds.{over, takes}
+use Rattle.dms_desc.specs.Lookups.{structure_of}
+use Rattle.dms_desc.specs.Sorted.{sorted, first, last}
 use Rattle.dms_model.specs.declared.spot.Spot.{Spot}
 use Rattle.dms_model.specs.Db.{Db, Entry, Place}
-
--- the key of a record
-abbrev pub key_of : List KeyPart → List Value → List Value
-key_of parts values = map (λ p. item_of values p.item) parts
-
-abbrev pub turned : Bool → Ordering → Ordering
-turned false o = o
-turned true o = ordering_reverse o
-
--- two keys, from their i-th values on
-abbrev pub key_cmp_from : ℕ → List KeyPart → List Value → List Value → Ordering
-key_cmp_from i [] a b = Equal
-key_cmp_from i (p ∷ ps) a b = ordering_then (turned p.descending (value_cmp (or_null (slice_get a i)) (or_null (slice_get b i)))) (key_cmp_from (i + 1) ps a b)
-
--- by the parts in their order, each with its direction
-abbrev pub key_cmp : List KeyPart → List Value → List Value → Ordering
-key_cmp parts a b = key_cmp_from 0 parts a b
 
 -- by key, and then by record number
 abbrev pub spot_cmp : List KeyPart → Spot → Spot → Ordering
@@ -42,14 +25,6 @@ spot_cmp parts a b = ordering_then (key_cmp parts a.key b.key) (nat_cmp a.number
 
 abbrev pub is_before : List KeyPart → Spot → Spot → Bool
 is_before parts a b = is_lt (spot_cmp parts a b)
-
--- the data set whose records a structure holds
-abbrev pub over : Shape → ℕ
-over s = if nat_lt s.kind 3 then s.number else s.set
-
--- an automatic subset holds what meets its condition
-abbrev pub takes : Shape → List Value → Bool
-takes s values = if s.kind == 4 then meets s.cond values else true
 
 -- an entry of a manual subset names this record for this owner
 abbrev pub names : ℕ → ℕ → ℕ → Entry → Bool
@@ -67,28 +42,6 @@ spot_of parts e = record { number = e.0.1; key = key_of parts e.1.values; rec = 
 abbrev pub spots_of : Shape → List Entry → ℕ → List (Place × Record) → List Spot
 spots_of s manual owner [] = []
 spots_of s manual owner (e ∷ es) = if belongs s manual owner e then spot_of s.parts e ∷ spots_of s manual owner es else spots_of s manual owner es
-
--- lists in the order of a test
-module _ {A : Type 0} (less : A → A → Bool) where
-  abbrev pub place_in : A → List A → List A
-  place_in x [] = x ∷ []
-  place_in x (y ∷ ys) = if less x y then x ∷ y ∷ ys else y ∷ place_in x ys
-
-  abbrev pub sorted : List A → List A
-  sorted [] = []
-  sorted (x ∷ xs) = place_in x (sorted xs)
-
-abbrev pub first : {A : Type 0} → (A → Bool) → List A → Option A
-first p [] = None
-first p (x ∷ xs) = if p x then Some x else first p xs
-
-abbrev pub or_else : {A : Type 0} → Option A → Option A → Option A
-or_else None b = b
-or_else (Some x) b = Some x
-
-abbrev pub last : {A : Type 0} → (A → Bool) → List A → Option A
-last p [] = None
-last p (x ∷ xs) = or_else (last p xs) (if p x then Some x else None)
 
 -- the members of a structure for an owner, 0 where it is disjoint: by key, and then by record number. A data set, and a
 -- manual subset without a key, have no parts, so they go by number alone
@@ -111,22 +64,6 @@ is_before_bound parts bound x = is_lt (bound_cmp parts bound x)
 -- the first key items equal these, as keys do: null equals null
 abbrev pub agrees : List KeyPart → List Value → Spot → Bool
 agrees parts key x = is_eq (key_cmp (take (length key) parts) (take (length key) x.key) key)
-
--- a structure by its number
-abbrev pub structure_of : Described → ℕ → Option Shape
-structure_of desc n = if n == 0 then None else slice_get desc.structures (n - 1)
-
-abbrev pub name_of : Option Shape → List ℕ
-name_of None = unknown_name
-name_of (Some s) = s.name
-
-abbrev pub items_of : Option Shape → List Item
-items_of None = []
-items_of (Some s) = s.items
-
-abbrev pub over_of : Option Shape → ℕ
-over_of None = 0
-over_of (Some s) = over s
 
 abbrev pub first_of : Option Shape → Db → ℕ → Bound → Option Spot
 first_of None db owner from = None

@@ -6,6 +6,7 @@ use Rattle.std.specs.declared.result.Result.{Result}
 use Rattle.dms_moments.specs.Moments.{Clock, Now}
 use Rattle.dms_block.specs.declared.block_fault.BlockFault.{BlockFault}
 use Rattle.dms_block.specs.Counts.{Faults, CausedBy}
+use Rattle.dms_block.specs.Held.{IsUpToOne}
 use Rattle.dms_desc.specs.Shape.{Described}
 use Rattle.dms_model.specs.Db.{Db}
 use Rattle.dms_model.specs.Points.{Files, Point, Stop, Front, TextIs, Leaves, LeavesText, Stays, IsUnder}
@@ -23,10 +24,6 @@ one_up n = min (n + 1) (2 ^ 64 - 1)
 
 abbrev pub no_effort : Effort
 no_effort = record { spent = 0; syncs = 0; outs = 0 }
-
--- a count rose by one at most
-abbrev pub IsUpToOne : ℕ → ℕ → Type 0
-IsUpToOne old new = (old ≤ new) × (new ≤ old + 1)
 
 -- at most so many blocks were changed, no quiet point was made durable by it, and nothing went back
 pub record Spends (blocks : ℕ) (old new : Effort) : Type 0 where
@@ -138,10 +135,11 @@ pub record MadeSure (old new : Seen) : Type 0 where
   pub points : IfTold old (new.points ≡ old.points)
   pub sure : IfTold old (new.sure ≡ length old.points)
 
--- What is told hangs together. A point that was made now has the next number and, where that is told, the database; and where
+-- What is told hangs together. Where stops are told some outcome of a stop now is possible. A point that was made now has the next number and, where that is told, the database; and where
 -- a point's database is told it stands under the store's description. A stop now leaves the first so many points, at least
 -- those that are sure, and the text.
 pub record Agrees (s : Seen) : Type 0 where
+  pub may_stop : s.tells → (x : Stop) × Now s.clock x
   pub number : s.here.number ≡ s.next
   pub here : (db : Db) → s.db ≡ Some db → s.here.db ≡ Some db
   pub under : IsUnder s.desc s.here

@@ -34,7 +34,8 @@ use Rattle.dms_model.specs.declared.put.Put.TheVariants.{Stored, Duplicate, Full
 use Rattle.dms_model.specs.declared.spot.Spot.{Spot}
 use Rattle.dms_model.specs.Db.{Db}
 use Rattle.dms_model.specs.Points.{Quiet}
-use Rattle.dms_model.specs.Members.{structure_of, name_of, items_of, over_of, first_member, last_member, at_member}
+use Rattle.dms_desc.specs.Lookups.{structure_of, name_of, items_of, parts_of, set_of}
+use Rattle.dms_model.specs.Members.{first_member, last_member, at_member}
 use Rattle.dms_model.specs.Stores.{put_answer, put_after}
 
 -- what the verbs change: the database, that of the last quiet point or else of the beginning, the number of the next quiet
@@ -289,17 +290,9 @@ key_values parts items [] = Some []
 key_values [] items (l ∷ ls) = None
 key_values (p ∷ ps) items (l ∷ ls) = onto (fitted (slice_get items (p.item - 1)) l) (key_values ps items ls)
 
-abbrev pub parts_of : Option Shape → List KeyPart
-parts_of None = []
-parts_of (Some s) = s.parts
-
 abbrev pub at_values : Option (List Value) → Described → Db → ℕ → Option Spot
 at_values None desc db x = None
 at_values (Some key) desc db x = at_member desc db x 0 key
-
--- the data set whose records a structure holds
-abbrev pub set_of : Described → ℕ → ℕ
-set_of desc x = over_of (structure_of desc x)
 
 -- the member that a path names
 unfoldable pub found_by : Described → Db → Path → Option Spot

@@ -5,8 +5,6 @@ use Rattle.std.specs.declared.result.Result.{Result}
 use Rattle.std.specs.FinMap.{insert, get, entries}
 use Rattle.std.specs.Ordering.{is_eq}
 use Rattle.dms_base.specs.declared.value.Value.{Value}
-use Rattle.dms_base.specs.declared.kind.ItemKind.{ItemKind}
-use Rattle.dms_base.specs.declared.kind.ItemKind.TheVariants.{Alpha, Number, Bool as Truth, Field, Link}
 use Rattle.dms_block.specs.declared.block_fault.BlockFault.{BlockFault}
 use Rattle.dms_desc.specs.declared.structure.Item.{Item}
 use Rattle.dms_desc.specs.declared.record.Record.{Record}
@@ -15,7 +13,10 @@ use Rattle.dms_desc.specs.Conds.{or_null}
 use Rattle.dms_model.specs.declared.put.Put.{Put}
 use Rattle.dms_model.specs.declared.put.Put.TheVariants.{Stored, Duplicate, Full}
 use Rattle.dms_model.specs.Db.{Db, Entry, Place, records_of, fresh}
-use Rattle.dms_model.specs.Members.{key_of, key_cmp, takes, belongs, structure_of, items_of}
+use Rattle.dms_desc.specs.Keys.{key_of, key_cmp}
+use Rattle.dms_desc.specs.Kinds.{takes, is_link}
+use Rattle.dms_desc.specs.Lookups.{structure_of, items_of}
+use Rattle.dms_model.specs.Members.{belongs}
 
 -- an answer is this one of the database, where that is told
 abbrev pub TellsOf : {T : Type 0} → Option Db → (Db → T) → T → Type 0
@@ -24,13 +25,6 @@ TellsOf (Some db) f answer = answer ≡ f db
 
 abbrev pub Tells : {T : Type 0} → Option Db → Result T BlockFault → (Db → T) → Type 0
 Tells told result f = IfOk result (TellsOf told f)
-
-abbrev pub is_link : ItemKind → Bool
-is_link (Alpha n) = false
-is_link (Number n m s) = false
-is_link Truth = false
-is_link (Field n) = false
-is_link (Link to counted) = true
 
 -- a link as it stood, and else the new value
 abbrev pub kept_value : Option Item → Value → Value → Value
@@ -49,6 +43,15 @@ values_of (Some r) = r.values
 -- what is stored for a record: its values, and the links of the one that it replaces, null where it replaces none
 abbrev pub linked : List Item → Option Record → Record → Record
 linked items old rec = record { owner = rec.owner; values = linked_from 0 items (values_of old) rec.values }
+
+-- the record that stands under the number that is named
+abbrev pub old_of : Db → ℕ → Option ℕ → Option Record
+old_of db set None = None
+old_of db set (Some n) = get db.records (set, n)
+
+-- what is stored for a record, under the number that is named or a new one
+abbrev pub stored : Described → Db → ℕ → Option ℕ → Record → Record
+stored desc db set number rec = linked (items_of (structure_of desc set)) (old_of db set number) rec
 
 abbrev pub is_other : Option ℕ → ℕ → Bool
 is_other None m = true
@@ -87,13 +90,17 @@ abbrev pub put_unless : Option ℕ → Put → Put
 put_unless (Some s) answer = Duplicate s
 put_unless None answer = answer
 
--- what storing a record answers: a duplicate before a full data set. Without a number it is a new record
-unfoldable pub put_answer : Described → Db → ℕ → Option ℕ → Record → Put
-put_answer desc db set number rec = put_unless (clash desc.structures db set number rec) (put_number desc db set number)
+-- what is answered where this record would be stored: a duplicate before a full data set
+abbrev pub judged : Described → Db → ℕ → Option ℕ → Record → Put
+judged desc db set number made = put_unless (clash desc.structures db set number made) (put_number desc db set number)
 
--- the database after it
+-- what storing a record answers. Without a number it is a new record
+unfoldable pub put_answer : Described → Db → ℕ → Option ℕ → Record → Put
+put_answer desc db set number rec = judged desc db set number (stored desc db set number rec)
+
+-- the database after it. A new record's number is free, so what is stored under it is what was judged
 abbrev pub put_after : Put → Described → Db → ℕ → Record → Db
-put_after (Stored n) desc db set rec = record db { records = insert db.records (set, n) (linked (items_of (structure_of desc set)) (get db.records (set, n)) rec) }
+put_after (Stored n) desc db set rec = record db { records = insert db.records (set, n) (stored desc db set (Some n) rec) }
 put_after (Duplicate s) desc db set rec = db
 put_after Full desc db set rec = db
 

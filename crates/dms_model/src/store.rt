@@ -1,4 +1,4 @@
-ghost use Rattle.std.specs.Prelude.{◌≡◌, ◌<◌, ◌+◌, ◌*◌, ◌^◌, length, ◌++◌, [], ◌∷◌, Some, IfOk, OnOk, IsErrOf};
+ghost use Rattle.std.specs.Prelude.{◌≡◌, ◌<◌, ◌+◌, ◌*◌, ◌^◌, length, ◌++◌, [], ◌∷◌, Some, IfOk, OnOk, IsErrOf, IsOkUnless};
 ghost use Rattle.std.specs.FinMap.{get};
 ghost use Rattle.dms_model.specs.Db.{Db};
 ghost use Rattle.dms_model.specs.Members.{first_member, last_member};
@@ -33,6 +33,7 @@ pub trait Store {
         ensures same { same_store self.old self.new }
         ensures effort { (seen self.new).effort ≡ (seen self.old).effort }
         ensures undamaged { (d : Db) → (seen self.old).db ≡ Some d → Undamaged result }
+        ensures mute_fault { IsErrOf result BlockFault.Say → ⊥ }
         ensures causes { HasCauses result (seen self.old) (seen self.new) };
 
     /// The first member of a structure, for an owner (0 where it is disjoint), after a bound.
@@ -50,6 +51,7 @@ pub trait Store {
         ensures same { same_store self.old self.new }
         ensures effort { (seen self.new).effort ≡ (seen self.old).effort }
         ensures undamaged { (d : Db) → (seen self.old).db ≡ Some d → Undamaged result }
+        ensures mute_fault { IsErrOf result BlockFault.Say → ⊥ }
         ensures causes { HasCauses result (seen self.old) (seen self.new) };
 
     /// The last member of a structure, for an owner (0 where it is disjoint), before a bound.
@@ -67,6 +69,7 @@ pub trait Store {
         ensures same { same_store self.old self.new }
         ensures effort { (seen self.new).effort ≡ (seen self.old).effort }
         ensures undamaged { (d : Db) → (seen self.old).db ≡ Some d → Undamaged result }
+        ensures mute_fault { IsErrOf result BlockFault.Say → ⊥ }
         ensures causes { HasCauses result (seen self.old) (seen self.new) };
 
     /// Stores a new record of a data set under the least free number, with null links, or replaces all items but the
@@ -86,6 +89,7 @@ pub trait Store {
         ensures same { same_store self.old self.new }
         ensures effort { Spends (64 * length (seen self.old).desc.structures) (seen self.old).effort (seen self.new).effort }
         ensures undamaged { (d : Db) → (seen self.old).db ≡ Some d → Undamaged result }
+        ensures mute_fault { IsErrOf result BlockFault.Say → ⊥ }
         ensures causes { HasCauses result (seen self.old) (seen self.new) };
 
     /// Makes a quiet point, and answers its number. Takes no memory. Where the next number is 2^64 - 1 it stays so.
@@ -99,6 +103,7 @@ pub trait Store {
         ensures same { same_store self.old self.new }
         ensures effort { (seen self.new).effort ≡ (seen self.old).effort }
         ensures undamaged { (d : Db) → (seen self.old).db ≡ Some d → Undamaged result }
+        ensures mute_fault { IsErrOf result BlockFault.Say → ⊥ }
         ensures causes { HasCauses result (seen self.old) (seen self.new) };
 
     /// Makes all quiet points so far sure. Takes no memory.
@@ -110,6 +115,7 @@ pub trait Store {
         ensures same { same_store self.old self.new }
         ensures effort { Syncs result (seen self.old).effort (seen self.new).effort }
         ensures undamaged { (d : Db) → (seen self.old).db ≡ Some d → Undamaged result }
+        ensures mute_fault { IsErrOf result BlockFault.Say → ⊥ }
         ensures causes { HasCauses result (seen self.old) (seen self.new) };
 
     /// Goes back to the last quiet point, or to the database that it began with.
@@ -121,6 +127,7 @@ pub trait Store {
         ensures same { same_store self.old self.new }
         ensures effort { GoesBack result (seen self.old).effort (seen self.new).effort }
         ensures undamaged { (d : Db) → (seen self.old).db ≡ Some d → Undamaged result }
+        ensures mute_fault { IsErrOf result BlockFault.Say → ⊥ }
         ensures causes { HasCauses result (seen self.old) (seen self.new) };
 
     /// Prints. Takes no memory of its own. A failed call prints the first bytes or none.
@@ -129,10 +136,9 @@ pub trait Store {
         ensures text { OnOk result (Prints (seen self.old).said (seen self.new).said bytes.now) }
         ensures part { SaysPart (seen self.old) (seen self.new) bytes.now }
         ensures keeps { OnOk result (Keeps (seen self.old) (seen self.new)) }
-        ensures memory { IsErrOf result BlockFault.Memory → ⊥ }
+        ensures fault { IsOkUnless result BlockFault.Say }
         ensures same { same_store self.old self.new }
         ensures effort { (seen self.new).effort ≡ (seen self.old).effort }
-        ensures undamaged { (d : Db) → (seen self.old).db ≡ Some d → Undamaged result }
         ensures causes { HasCauses result (seen self.old) (seen self.new) };
 
     /// What a sound store tells hangs together.

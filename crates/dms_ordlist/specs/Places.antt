@@ -1,45 +1,157 @@
--- Where an entry belongs in a chain.
-use Rattle.std.specs.Prelude.{ℕ, IsTrue, Bool, true, false, ◌≡◌, List, [], ◌∷◌, Some, None, slice_get, ◌⊎◌, ◌<◌, length}
+-- Where bytes belong in a chain of blocks.
+use Rattle.std.proofs.Common.{ℕ, ◌+◌, ◌≤◌, ◌<◌, ◌≡◌, ◌⊎◌, inl, inr, ◌∙◌, List, [], ◌∷◌, ◌++◌, Some, None, length, refl, sym, ap, subst, append-nil, append_assoc, length-append, arith}
+use Rattle.std.specs.Prelude.{IfSome}
 use Rattle.std.specs.declared.option.Option.{Option}
-use Rattle.dms_ordlist.specs.declared.leaf.LeafBlock.{LeafBlock}
-use Rattle.dms_ordlist.specs.Chains.{Leaf, Link, head_of, begins_above, Stands}
+use Rattle.dms_ordlist.specs.declared.place.Spot.{Spot}
+use Rattle.dms_ordlist.specs.declared.place.Place.{Place}
+use Rattle.dms_ordlist.specs.declared.spelling.LeafBlock.{LeafBlock}
+use Rattle.dms_ordlist.specs.Leads.{lead}
+use Rattle.dms_ordlist.specs.Linked.{Chain, front, said_by}
+use Rattle.dms_ordlist.specs.LinkedLaws.{chain_second}
+use Rattle.dms_ordlist.specs.ListBlocks.{leaf_in}
+use Rattle.dms_ordlist.specs.ListIn.{Leaf, entries_of}
+use Rattle.dms_ordlist.specs.Located.{lead_past}
+use Rattle.dms_ordlist.specs.SpellLaws.{IsLeaf}
 
-abbrev pub leaf_is : LeafBlock → Leaf
-leaf_is x = record { next = x.next; entries = x.entries.items }
+abbrev pub link_of : Spot → Leaf
+link_of s = (s.number, s.leaf.entries.items)
 
-abbrev pub leaf_opt : Option LeafBlock → Option Leaf
-leaf_opt None = None
-leaf_opt (Some x) = Some (leaf_is x)
+-- the number of a block, 0 where it is none
+abbrev pub number_of : Option Spot → ℕ
+number_of None = 0
+number_of (Some s) = s.number
 
--- the block with this number, as a leaf
-abbrev pub leaf_in : (List ℕ → Option Leaf) → Option (List ℕ) → Option Leaf
-leaf_in leaf_of None = None
-leaf_in leaf_of (Some b) = leaf_of b
+-- a block is the last of these
+abbrev pub Before : Option Spot → List Leaf → Type 0
+Before None ahead = ahead ≡ []
+Before (Some s) ahead = (others : List Leaf) × (ahead ≡ others ++ link_of s ∷ [])
 
-abbrev pub look_in : (List ℕ → Option Leaf) → List (List ℕ) → ℕ → Option Leaf
-look_in leaf_of bs b = leaf_in leaf_of (slice_get bs b)
+-- the block is one of the file's, and holds what may be
+pub record SpotHolds (width count : ℕ) (s : Spot) : Type 0 where
+  pub leaf : IsLeaf width s.leaf.next s.leaf.entries.items
+  pub there : s.number < count
 
-abbrev pub Either : Bool → Type 0 → Type 0 → Type 0
-Either true P Q = P
-Either false P Q = Q
+pub record PlaceHolds (width count : ℕ) (p : Place) : Type 0 where
+  pub here : SpotHolds width count p.here
+  pub before : IfSome p.before (SpotHolds width count)
 
--- this block, with this leaf, is where the entry belongs
-abbrev pub IsPlace : (List ℕ → List ℕ → Bool) → List ℕ → List Link → ℕ → Leaf → Type 0
-IsPlace less e [] at leaf = ⊥
-IsPlace less e (l ∷ ls) at leaf = Either (begins_above less e ls) ((at ≡ l.0) × (leaf ≡ record { next = head_of ls; entries = l.1 })) (IsPlace less e ls at leaf)
+-- All entries before the block are less, and one of its own isn't, or it is the last block.
+pub record IsPlace (c : List ℕ) (ls : List Leaf) (p : Place) : Type 0 where
+  pub ahead : List Leaf
+  pub behind : List Leaf
+  pub is : ls ≡ ahead ++ link_of p.here ∷ behind
+  pub before : Before p.before ahead
+  pub next : p.here.leaf.next ≡ front behind 0
+  pub low : lead c (entries_of ahead) ≡ length (entries_of ahead)
+  pub stop : (lead c p.here.leaf.entries.items < length p.here.leaf.entries.items) ⊎ (behind ≡ [])
 
--- a walk has come to this block: what is found from there on is what is found from the front
-pub record Reached (look : ℕ → Option Leaf) (less : List ℕ → List ℕ → Bool) (e : List ℕ) (ls : List Link) (at : ℕ) : Type 0 where
-  pub suffix : List Link
-  pub head : head_of suffix ≡ at
-  pub stands : Stands look suffix
-  pub onward : (b : ℕ) (leaf : Leaf) → IsPlace less e suffix b leaf → IsPlace less e ls b leaf
+-- a walk has come to this number after so many blocks
+pub record Walked (c : List ℕ) (ls : List Leaf) (back : Option Spot) (turn at : ℕ) : Type 0 where
+  pub ahead : List Leaf
+  pub behind : List Leaf
+  pub is : ls ≡ ahead ++ behind
+  pub head : front behind 0 ≡ at
+  pub before : Before back ahead
+  pub low : lead c (entries_of ahead) ≡ length (entries_of ahead)
+  pub long : length ahead ≡ turn
 
--- where the content is told, this block of this file is no leaf
-abbrev pub IsNoLeaf : Bool → (List ℕ → Option Leaf) → (ℕ → List (List ℕ)) → ℕ → ℕ → Type 0
-IsNoLeaf told leaf_of content f b = IsTrue told → look_in leaf_of (content f) b ≡ None
+pub entries_append : (xs ys : List Leaf) → entries_of (xs ++ ys) ≡ entries_of xs ++ entries_of ys
+entries_append [] ys = refl
+entries_append (x ∷ xs) ys = ap (λ (l : List (List ℕ)). x.1 ++ l) (entries_append xs ys) ∙ sym (append_assoc x.1 (entries_of xs) (entries_of ys))
 
--- where the content is told, this block is no leaf, or each chain from the first block on has more blocks than the file
-abbrev pub IsNoChain : Bool → (List ℕ → Option Leaf) → (ℕ → List (List ℕ)) → ℕ → ℕ → ℕ → Type 0
-IsNoChain told leaf_of content first f b = IsTrue told
-    → (look_in leaf_of (content f) b ≡ None) ⊎ ((ls : List Link) → Stands (look_in leaf_of (content f)) ls → head_of ls ≡ first → length (content f) < length ls)
+pub entries_one : (l : Leaf) → entries_of (l ∷ []) ≡ l.1
+entries_one l = append-nil l.1
+
+module _ (c : List ℕ) (ls : List Leaf) where
+  pub walked_none : (at : ℕ) → front ls 0 ≡ at → Walked c ls None 0 at
+  walked_none at head = record { ahead = []; behind = ls; is = refl; head = head; before = refl; low = refl; long = refl }
+
+  module _ (width : ℕ) (look : ℕ → Option (List ℕ)) (chain : Chain (leaf_in width) look ls 0) where
+    -- what the chain says of the block that was reached
+    record Here (ahead behind : List Leaf) (at next : ℕ) (es : List (List ℕ)) : Type 0 where
+      pub others : List Leaf
+      pub is : behind ≡ (at, es) ∷ others
+      pub next_is : next ≡ front others 0
+      pub ends : next ≡ 0 → others ≡ []
+
+    ends_at : (others : List Leaf) → Chain (leaf_in width) look others 0 → front others 0 ≡ 0 → others ≡ []
+    ends_at [] rest zero_is = refl
+    ends_at (l ∷ others) rest zero_is = absurd (rest.0 zero_is)
+
+    abbrev fst_of : Option Leaf → ℕ
+    fst_of None = 0
+    fst_of (Some x) = x.0
+
+    abbrev snd_of : Option Leaf → List (List ℕ)
+    snd_of None = []
+    snd_of (Some x) = x.1
+
+    here : (ahead behind : List Leaf) (at next : ℕ) (es : List (List ℕ)) → ls ≡ ahead ++ behind → front behind 0 ≡ at → (at ≡ 0 → ⊥) → said_by (leaf_in width) (look at) ≡ Some (next, es) → Here ahead behind at next es
+    here ahead [] at next es is head some said = absurd (some (sym head))
+    here ahead (l ∷ others) at next es is head some said =
+        let rest = chain_second (leaf_in width) look ahead (l ∷ others) 0 (subst (λ x. Chain (leaf_in width) look x 0) is chain) in
+        let one : Option Leaf = Some (next, es) in
+        let two : Option Leaf = Some (front others 0, l.1) in
+        let same : one ≡ two = sym said ∙ ap (λ n. said_by (leaf_in width) (look n)) (sym head) ∙ rest.1 in
+        let next_same : next ≡ front others 0 = ap fst_of same in
+        let held : l.1 ≡ es = sym (ap snd_of same) in
+        record {
+          others = others;
+          is = (λ i. (head i, held i) ∷ others);
+          next_is = next_same;
+          ends = λ e. ends_at others rest.2 (sym next_same ∙ e);
+        }
+
+    there : (ahead behind : List Leaf) (at : ℕ) → ls ≡ ahead ++ behind → front behind 0 ≡ at → (at ≡ 0 → ⊥) → said_by (leaf_in width) (look at) ≡ None → ⊥
+    there ahead [] at is head some said = some (sym head)
+    there ahead (l ∷ others) at is head some said =
+        let rest = chain_second (leaf_in width) look ahead (l ∷ others) 0 (subst (λ x. Chain (leaf_in width) look x 0) is chain) in
+        let none : Option Leaf = None in
+        let one : Option Leaf = Some (front others 0, l.1) in
+        let same : none ≡ one = sym said ∙ ap (λ n. said_by (leaf_in width) (look n)) (sym head) ∙ rest.1 in
+        cc same
+
+    pub walked_place : (before : Option Spot) (turn at : ℕ) (leaf : LeafBlock) → Walked c ls before turn at → (at ≡ 0 → ⊥) → said_by (leaf_in width) (look at) ≡ Some (leaf.next, leaf.entries.items)
+        → (leaf.next ≡ 0) ⊎ (lead c leaf.entries.items < length leaf.entries.items) → IsPlace c ls (record { before = before; here = record { number = at; leaf = leaf } })
+    walked_place before turn at leaf walked some said stop =
+        let h = here walked.ahead walked.behind at leaf.next leaf.entries.items walked.is walked.head some said in
+        record {
+          ahead = walked.ahead;
+          behind = h.others;
+          is = walked.is ∙ ap (λ (l : List Leaf). walked.ahead ++ l) h.is;
+          before = walked.before;
+          next = h.next_is;
+          low = walked.low;
+          stop = stops h.ends stop;
+        }
+      where
+        stops : {P : Type 0} {n : ℕ} {others : List Leaf} → (n ≡ 0 → others ≡ []) → (n ≡ 0) ⊎ P → P ⊎ (others ≡ [])
+        stops ends (inl e) = inr (ends e)
+        stops ends (inr p) = inl p
+
+    -- the number that was reached is that of a block of entries
+    pub walked_there : (before : Option Spot) (turn at : ℕ) → Walked c ls before turn at → (at ≡ 0 → ⊥) → said_by (leaf_in width) (look at) ≡ None → ⊥
+    walked_there before turn at walked some said = there walked.ahead walked.behind at walked.is walked.head some said
+
+    pub walked_next : (before : Option Spot) (turn at : ℕ) (leaf : LeafBlock) → Walked c ls before turn at → (at ≡ 0 → ⊥) → said_by (leaf_in width) (look at) ≡ Some (leaf.next, leaf.entries.items)
+        → lead c leaf.entries.items ≡ length leaf.entries.items → Walked c ls (Some (record { number = at; leaf = leaf })) (turn + 1) leaf.next
+    walked_next before turn at leaf walked some said all =
+        let es = leaf.entries.items in
+        let h = here walked.ahead walked.behind at leaf.next es walked.is walked.head some said in
+        let whole = entries_append walked.ahead ((at, es) ∷ []) ∙ ap (λ (l : List (List ℕ)). entries_of walked.ahead ++ l) (entries_one (at, es)) in
+        record {
+          ahead = walked.ahead ++ (at, es) ∷ [];
+          behind = h.others;
+          is = walked.is ∙ ap (λ (l : List Leaf). walked.ahead ++ l) h.is ∙ sym (append_assoc walked.ahead ((at, es) ∷ []) h.others);
+          head = sym h.next_is;
+          before = (walked.ahead, refl);
+          low = ap (lead c) whole ∙ lead_past c (entries_of walked.ahead) es walked.low ∙ ap (λ n. length (entries_of walked.ahead) + n) all ∙ sym (length-append (entries_of walked.ahead) es) ∙ sym (ap length whole);
+          long = omega (arith, length-append walked.ahead ((at, es) ∷ []), walked.long);
+        }
+
+  more_left : (behind : List Leaf) (at : ℕ) → front behind 0 ≡ at → (at ≡ 0 → ⊥) → 1 ≤ length behind
+  more_left [] at head some = absurd (some (sym head))
+  more_left (l ∷ behind) at head some = omega arith
+
+  pub walked_long : (before : Option Spot) (turn at : ℕ) → Walked c ls before turn at → (at ≡ 0 → ⊥) → turn < length ls
+  walked_long before turn at walked some = omega (arith, ap length walked.is, length-append walked.ahead walked.behind, walked.long, more_left walked.behind at walked.head some)

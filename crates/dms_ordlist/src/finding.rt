@@ -1,65 +1,101 @@
-ghost use Rattle.std.specs.Prelude.{◌≡◌, ℕ, List, IfOk, OnErr, IsTrue};
+ghost use Rattle.std.specs.Prelude.{◌≡◌, ◌+◌, IfOk, OnErr, Some, length};
 ghost use Rattle.dms_block.specs.Held.{HasCausesOr};
-ghost use Rattle.dms_block.specs.View.{Reads, seen, seen_counts, under};
-ghost use Rattle.dms_ordlist.specs.Chains.{Link, Stands, entries_of, first_not_below, head_of};
-ghost use Rattle.dms_ordlist.specs.Places.{IsNoChain, look_in};
+ghost use Rattle.dms_block.specs.View.{Reads, seen_counts, under};
+ghost use Rattle.dms_ordlist.specs.Leads.{last_of};
+ghost use Rattle.dms_ordlist.specs.Lists.{first_from, last_to};
+ghost use Rattle.dms_ordlist.specs.Looks.{place_first, place_last};
+ghost use Rattle.dms_ordlist.specs.Seen.{IfList, IsWidth, NoList};
+ghost use Rattle.std.specs.Prelude.{◌≤◌, take, slice_get};
 
-use crate::{Codec, LeafBlock, read_leaf};
-use dms_base::Bytes;
+use crate::looking::look;
+use crate::order::lead;
+use crate::place::Place;
+use dms_base::{Bytes, Memory};
 use dms_block::{BlockFault, Blocks, Overlay};
 use std::alloc::Global;
 
-/// The first entry of a leaf that isn't below these bytes.
-fn first_in<C: Codec>(
-    leaf: &LeafBlock,
-    alloc: Global,
-    from: &[u8],
-) -> Result<Option<Bytes>, BlockFault>
-    ensures first { IfOk result (λ o. o ≡ first_not_below C.less from.now leaf.now.entries.items) }
-    ensures memory { OnErr result (result ≡ Err BlockFault.Memory) }
+/// A copy of the entry at a place.
+fn entry_at(entries: &[Bytes], alloc: Global, place: usize) -> Result<Option<Bytes>, Memory>
+    ensures { IfOk result (λ o. o ≡ slice_get entries.now place) }
 {
-    for entry in &leaf.entries {
-        if !C::is_less(entry.as_slice(), from) {
-            return match entry.copy(alloc) {
-                Ok(found) => Ok(Some(found)),
-                Err(_) => Err(BlockFault::Memory),
-            };
-        }
+    match entries.get(place) {
+        Some(entry) => Ok(Some(entry.copy(alloc)?)),
+        None => Ok(None),
     }
-    Ok(None)
 }
 
-/// The first entry of the chain from a block on, 0 for no block, that isn't below these bytes.
-pub fn first_from<B: Blocks, C: Codec>(
+/// A copy of the last one of the first so many entries.
+fn last_of(entries: &[Bytes], alloc: Global, count: usize) -> Result<Option<Bytes>, Memory>
+    requires { count ≤ length entries.now }
+    ensures { IfOk result (λ o. o ≡ last_of (take count entries.now)) }
+{
+    if count == 0 {
+        return Ok(None);
+    }
+    entry_at(entries, alloc, count - 1)
+}
+
+/// The first entry from a place on that isn't below these bytes.
+fn first_in(place: &Place, alloc: Global, from: &[u8]) -> Result<Option<Bytes>, Memory>
+    ensures { IfOk result (λ o. o ≡ place_first from.now place.now) }
+{
+    let entries = place.here.leaf.entries.as_slice();
+    entry_at(entries, alloc, lead(entries, from))
+}
+
+/// The last entry before a place, or in it, that is below these bytes.
+fn last_in(place: &Place, alloc: Global, upto: &[u8]) -> Result<Option<Bytes>, Memory>
+    ensures { IfOk result (λ o. o ≡ place_last upto.now place.now) }
+{
+    let entries = place.here.leaf.entries.as_slice();
+    if let Some(found) = last_of(entries, alloc, lead(entries, upto))? {
+        return Ok(Some(found));
+    }
+    match &place.before {
+        Some(before) => {
+            let entries = before.leaf.entries.as_slice();
+            last_of(entries, alloc, entries.len())
+        }
+        None => Ok(None),
+    }
+}
+
+/// The first entry of a file's list that isn't below these bytes, which have the width of its entries.
+pub fn first_from<B: Blocks>(
     over: &mut Overlay<B>,
     alloc: Global,
     file: u32,
-    first: u32,
     from: &[u8],
 ) -> Result<Option<Bytes>, BlockFault>
     requires sound { (under over.old).sound }
-    ensures first { IfOk result (λ o. IsTrue (under over.old).told → (ls : List Link) → Stands (look_in C.leaf_of (seen over.old file)) ls → head_of ls ≡ first → o ≡ first_not_below C.less from.now (entries_of ls)) }
-    ensures reads { Reads (seen_counts over.old file) result over.old over.new }
-    ensures causes { HasCausesOr (IsNoChain (under over.old).told C.leaf_of (seen over.old) first) result (under over.old) (under over.new) }
+    requires width { IsWidth (length from.now) }
+    ensures first { IfOk result (λ o. IfList over.old file (length from.now) (λ xs. o ≡ first_from (Some from.now) xs)) }
+    ensures reads { Reads (1 + seen_counts over.old file) result over.old over.new }
+    ensures causes { HasCausesOr (NoList over.old file (length from.now)) result (under over.old) (under over.new) }
 {
-    let count = over.count(file);
-    let mut at = first;
-    for turn in 0..count {
-        if at == 0 {
-            return Ok(None);
-        }
-        let leaf = match read_leaf::<B, C>(over, alloc, file, at) {
-            Ok(leaf) => leaf,
-            Err(fault) => return Err(fault),
-        };
-        match first_in::<C>(&leaf, alloc, from) {
-            Ok(Some(entry)) => return Ok(Some(entry)),
-            Ok(None) => at = leaf.next,
-            Err(fault) => return Err(fault),
-        }
+    let found = look(over, alloc, file, from)?;
+    match &found.place {
+        Some(place) => Ok(first_in(place, alloc, from)?),
+        None => Ok(None),
     }
-    if at == 0 {
-        return Ok(None);
+}
+
+/// The last entry of a file's list that is below these bytes, which have the width of its entries.
+pub fn last_to<B: Blocks>(
+    over: &mut Overlay<B>,
+    alloc: Global,
+    file: u32,
+    upto: &[u8],
+) -> Result<Option<Bytes>, BlockFault>
+    requires sound { (under over.old).sound }
+    requires width { IsWidth (length upto.now) }
+    ensures last { IfOk result (λ o. IfList over.old file (length upto.now) (λ xs. o ≡ last_to (Some upto.now) xs)) }
+    ensures reads { Reads (1 + seen_counts over.old file) result over.old over.new }
+    ensures causes { HasCausesOr (NoList over.old file (length upto.now)) result (under over.old) (under over.new) }
+{
+    let found = look(over, alloc, file, upto)?;
+    match &found.place {
+        Some(place) => Ok(last_in(place, alloc, upto)?),
+        None => Ok(None),
     }
-    Err(BlockFault::Damaged(file, at))
 }

@@ -2,7 +2,16 @@
 #![tactic(auto)]
 
 mod finding;
-mod leaf;
+mod inserting;
+mod looking;
+mod order;
+mod place;
+mod reaching;
+mod reading;
+mod removing;
+mod spelling;
+mod writing;
 
-pub use finding::first_from;
-pub use leaf::{Codec, LeafBlock, read_leaf};
+pub use finding::{first_from, last_to};
+pub use inserting::insert;
+pub use removing::remove;

@@ -6,7 +6,8 @@ use Rattle.dms_desc.specs.declared.record.Record.{Record}
 use Rattle.dms_model.specs.declared.spot.Spot.{Spot}
 use Rattle.dms_desc.specs.declared.bound.Bound.{Bound}
 use Rattle.dms_model.specs.Db.{Place}
-use Rattle.dms_model.specs.Members.{spot_of, spots_of, belongs, is_before, is_after_bound, is_before_bound, first_of, last_of, structure_of, first_member, last_member}
+use Rattle.dms_desc.specs.Lookups.{structure_of}
+use Rattle.dms_model.specs.Members.{spot_of, spots_of, belongs, is_before, is_after_bound, is_before_bound, first_of, last_of, first_member, last_member}
 use Rattle.dms_plain.specs.declared.rows.Row.{Row}
 use Rattle.dms_plain.specs.Rows.{entries_of, records_in, db_of, IsInOrder}
 use Rattle.dms_plain.specs.Scans.{lesser, least, greater, greatest, sooner, later, soonest, latest}

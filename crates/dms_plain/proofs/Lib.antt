@@ -1,7 +1,7 @@
 mod Answering
-mod Fresh
 mod Joining
 mod Maps
 mod Members
 mod Placing
+mod Putting
 mod Turns

@@ -2,33 +2,17 @@ use Rattle.std.proofs.Common.{◌≡◌, List, [], ◌∷◌, ◌++◌, Bool, tr
 use Rattle.std.specs.Prelude.{T, not}
 use Rattle.std.specs.List.{filter}
 use Rattle.std.specs.declared.option.Option.{Option}
-use Rattle.std.specs.FinMap.{put, find, is_sorted, insert, entries, entries-insert, entries-from_sorted, entries_sorted, same_entries_map, get, remove, get-remove, get-insert, get-entries, get_tied, same_map, IsAntisymmetric, nat_cmp-IsAntisymmetric, empty, empty_of_len, len-entries}
-use Rattle.std.specs.Ordering.{eq_by_cmp, is_eq, nat_cmp, ordering_then}
+use Rattle.std.specs.FinMap.{put, find, is_sorted, insert, entries, entries-insert, entries-from_sorted, entries_sorted, same_entries_map, get, remove, get-remove, get-insert, get-entries, get_tied, same_map, empty, empty_of_len, len-entries}
+use Rattle.std.specs.Ordering.{eq_by_cmp, is_eq}
 use Rattle.std.specs.declared.cmp.Ordering.{Ordering}
-use Rattle.std.specs.declared.cmp.Ordering.TheVariants.{Less, Equal, Greater}
 use Rattle.std.specs.FinMap.Entries.{is_sorted-where_key, find-where_key}
-use Rattle.std.specs.Cmp.{IsTotalOrder, nat_cmp_total}
-use Rattle.std.proofs.lemmas.Cmp.{then_total, on_total, alike_right, eq_by_cmp_equiv}
+use Rattle.std.proofs.lemmas.Cmp.{alike_right, eq_by_cmp_equiv}
 use Rattle.dms_desc.specs.declared.record.Record.{Record}
 use Rattle.dms_model.specs.Db.{Records, Place, place_cmp}
+use Rattle.dms_model.specs.Places.{places_same, places_total, tied}
 use Rattle.dms_plain.specs.declared.rows.Row.{Row}
 use Rattle.dms_plain.specs.declared.rows.Undo.{Undo}
 use Rattle.dms_plain.specs.Rows.{entries_of, records_in, IsInOrder, restore, undone}
-
-pub places_total : IsTotalOrder place_cmp
-places_total = then_total (on_total (λ (p : Place). p.0) nat_cmp_total) (on_total (λ (p : Place). p.1) nat_cmp_total)
-
-then_equal : (o p : Ordering) → ordering_then o p ≡ Equal → (o ≡ Equal) × (p ≡ Equal)
-then_equal Less p h = absurd (cc)
-then_equal Equal p h = (refl, h)
-then_equal Greater p h = absurd (cc)
-
-pub places_same : IsAntisymmetric place_cmp
-places_same a b h =
-    let parts = then_equal (nat_cmp a.0 b.0) (nat_cmp a.1 b.1) h in
-    let p = nat_cmp-IsAntisymmetric a.0 b.0 parts.0 in
-    let q = nat_cmp-IsAntisymmetric a.1 b.1 parts.1 in
-    λ i. (p i, q i)
 
 -- the entries of the database of rows in order are theirs
 pub db_entries : (rows : List Row) → IsInOrder rows → entries (records_in rows) ≡ entries_of rows
@@ -72,11 +56,6 @@ db_left rows new k order is =
     ∙ ap (λ (b : Bool). cond b None (find place_cmp q (entries_of rows))) ((eq_by_cmp_equiv places_total).symm k q)
     ∙ ap (cond (eq_by_cmp place_cmp q k) None) (sym (db_get rows q order))
     ∙ sym (get-remove places_total (records_in rows) k q))
-
-pub tied : (o : Ordering) → is_eq o ≡ true → o ≡ Equal
-tied Less h = absurd (cc)
-tied Equal h = refl
-tied Greater h = absurd (cc)
 
 removed_at : (m : Records) (k q : Place) (v : Record) (t : Bool) → eq_by_cmp place_cmp q k ≡ t → get m k ≡ None → cond t None (cond t (Some v) (get m q)) ≡ get m q
 removed_at m k q v true e none = sym none ∙ get_tied places_total m q k (tied (place_cmp q k) e)

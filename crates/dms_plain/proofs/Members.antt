@@ -1,8 +1,7 @@
 -- The first and the last that pass in a sorted list are the least and the greatest that pass.
 use Rattle.std.proofs.Common.{◌≡◌, List, [], ◌∷◌, Bool, true, false, cond, Some, None, refl, sym, ap, ◌∙◌}
 use Rattle.std.specs.declared.option.Option.{Option}
-use Rattle.dms_model.specs.Members.{place_in, sorted, first, last, or_else}
-use Rattle.dms_model.specs.Sorted.{NoneLess, InOrder, InOrder-sorted}
+use Rattle.dms_desc.specs.Sorted.{place_in, sorted, first, last, or_else, NoneLess, InOrder, InOrder-sorted}
 use Rattle.dms_plain.specs.Scans.{lesser, least, greater, greatest}
 
 module _ {A : Type 0} (less : A → A → Bool)

@@ -8,7 +8,7 @@ use Rattle.std.proofs.lemmas.Option.{slice_get-map, get_or_from_slice_get}
 use Rattle.dms_base.specs.declared.value.Value.{Value}
 use Rattle.dms_desc.specs.declared.structure.KeyPart.{KeyPart}
 use Rattle.dms_base.specs.Orders.{value_cmp}
-use Rattle.dms_model.specs.Members.{key_cmp_from, key_cmp, key_of, turned}
+use Rattle.dms_desc.specs.Keys.{key_cmp_from, key_cmp, key_of, turned}
 use Rattle.dms_desc.specs.Conds.{item_of, or_null}
 
 -- what the i-th part says

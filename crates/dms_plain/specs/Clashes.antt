@@ -6,7 +6,7 @@ use Rattle.dms_desc.specs.Shape.{Shape, Described}
 use Rattle.dms_model.specs.declared.put.Put.{Put}
 use Rattle.dms_model.specs.declared.put.Put.TheVariants.{Stored, Full}
 use Rattle.dms_model.specs.Db.{Place, rows_of, gap_from}
-use Rattle.dms_model.specs.Members.{structure_of}
+use Rattle.dms_desc.specs.Lookups.{structure_of}
 use Rattle.dms_model.specs.Stores.{is_closed, has_equal, is_full, put_unless}
 
 -- the first structure that refuses

@@ -1,28 +1,17 @@
 ghost use Rattle.std.specs.Prelude.{◌≡◌, [], IfOk, map, slice_get};
-ghost use Rattle.std.specs.Option.{option_copied, option_map};
+ghost use Rattle.std.specs.Option.{option_copied};
 ghost use Rattle.dms_desc.specs.Conds.{or_null};
-ghost use Rattle.dms_desc.specs.Shape.{shape_of, described};
-ghost use Rattle.dms_model.specs.Members.{structure_of};
-ghost use Rattle.dms_model.specs.Stores.{is_closed, is_link, is_other, has_equal, kept_value, linked_from};
+ghost use Rattle.dms_desc.specs.Shape.{shape_of};
+ghost use Rattle.dms_model.specs.Stores.{is_closed, is_other, has_equal, kept_value, linked_from};
 ghost use Rattle.dms_plain.specs.Rows.{entries_of};
 ghost use Rattle.dms_plain.specs.Clashes.{clash_in};
 
 use crate::keys::{order_of_keys, value_here};
 use crate::rows::Row;
-use crate::scan::{belongs, takes};
-use dms_base::{ItemKind, Memory, Value};
-use dms_desc::{Description, Item, Record, Structure, Values};
+use crate::scan::belongs;
+use dms_base::{Memory, Value};
+use dms_desc::{Item, Record, Structure, Values};
 use std::alloc::Global;
-
-/// A structure by its number.
-pub fn structure_of(desc: &Description, n: u16) -> Option<&Structure>
-    ensures { option_map shape_of (option_copied result) ≡ structure_of (described desc.now) n }
-{
-    if n == 0 {
-        return None;
-    }
-    desc.structures.as_slice().get(n as usize - 1)
-}
 
 fn is_other(number: Option<u64>, m: u64) -> bool
     ensures { result ≡ is_other number m }
@@ -57,7 +46,7 @@ fn has_equal(s: &Structure, number: Option<u64>, rec: &Record, rows: &[Row]) -> 
 fn is_closed(s: &Structure, set: u16, values: &[Value]) -> bool
     ensures { result ≡ is_closed (shape_of s.now) set values.now }
 {
-    2 < s.kind && s.kind < 5 && s.set == set && !s.duplicates && takes(s, values)
+    s.is_set_or_automatic() && s.set == set && !s.duplicates && s.takes(values)
 }
 
 /// The first structure that refuses a record.
@@ -76,18 +65,6 @@ pub fn clash(
         }
     }
     None
-}
-
-fn is_link(kind: ItemKind) -> bool
-    ensures { result ≡ is_link kind }
-{
-    match kind {
-        ItemKind::Alpha(_) => false,
-        ItemKind::Number(_, _, _) => false,
-        ItemKind::Bool => false,
-        ItemKind::Field(_) => false,
-        ItemKind::Link(_, _) => true,
-    }
 }
 
 fn copy_of(alloc: Global, value: Option<&Value>) -> Result<Value, Memory>
@@ -111,7 +88,7 @@ fn kept_value(
     match item {
         None => new.copy(alloc),
         Some(item) => {
-            if is_link(item.kind) {
+            if item.is_link() {
                 return copy_of(alloc, old);
             }
             new.copy(alloc)

@@ -1,7 +1,7 @@
 ghost use Rattle.std.specs.Prelude.{◌≡◌, IfOk, slice_get};
 ghost use Rattle.std.specs.Option.{option_copied};
 ghost use Rattle.dms_desc.specs.Conds.{or_null, item_of};
-ghost use Rattle.dms_model.specs.Members.{key_of, key_cmp, turned};
+ghost use Rattle.dms_desc.specs.Keys.{key_of, key_cmp, turned};
 ghost use Rattle.dms_base.specs.Orders.{value_cmp};
 
 use dms_base::{Memory, Value, order};

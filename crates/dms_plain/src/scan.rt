@@ -1,42 +1,23 @@
 ghost use Rattle.std.specs.Prelude.{◌≡◌, [], take};
 ghost use Rattle.std.specs.Option.{option_copied};
 ghost use Rattle.dms_desc.specs.Shape.{shape_of};
-ghost use Rattle.dms_model.specs.Members.{over, takes, belongs, spot_of, is_before, bound_cmp};
+ghost use Rattle.dms_model.specs.Members.{belongs, spot_of, is_before, bound_cmp};
 ghost use Rattle.dms_plain.specs.Rows.{entry_of, entries_of};
 ghost use Rattle.dms_plain.specs.Scans.{spot_at, sooner, later, soonest, latest};
 
 use crate::keys::{order_of_keys, order_to_key};
 use crate::rows::Row;
-use dms_base::Value;
-use dms_desc::{Bound, KeyPart, Structure, meets};
+use dms_desc::{Bound, KeyPart, Structure};
 use std::cmp::Ordering;
-
-/// The data set whose records a structure holds.
-fn over(s: &Structure) -> u16
-    ensures { result ≡ over (shape_of s.now) }
-{
-    if s.kind < 3 { s.number } else { s.set }
-}
-
-/// Whether a structure takes a record with these values.
-pub fn takes(s: &Structure, values: &[Value]) -> bool
-    ensures { result ≡ takes (shape_of s.now) values.now }
-{
-    if s.kind == 4 {
-        meets(&s.cond, values)
-    } else {
-        true
-    }
-}
 
 /// Whether a row is a member of a structure for an owner. A manual subset has none.
 pub fn belongs(s: &Structure, owner: u64, row: &Row) -> bool
     ensures { result ≡ belongs (shape_of s.now) [] owner (entry_of row.now) }
 {
-    over(s) == row.set
-        && s.kind != 5
+    s.over() == row.set
+        && !s.is_manual()
         && owner == row.rec.owner
-        && takes(s, row.rec.values.as_slice())
+        && s.takes(row.rec.values.as_slice())
 }
 
 /// Whether a row stands before another.

@@ -2,18 +2,19 @@ ghost use Rattle.std.specs.Prelude.{◌≡◌, [], IfOk, OnOk, OnErr, List, ℕ}
 ghost use Rattle.std.specs.Option.{option_copied, option_map};
 ghost use Rattle.std.specs.FinMap.{insert, get};
 ghost use Rattle.dms_desc.specs.Shape.{shape_of, described};
-ghost use Rattle.dms_model.specs.Members.{structure_of, items_of, first_member, last_member};
-ghost use Rattle.dms_model.specs.Stores.{is_full, values_of, linked, put_answer};
+ghost use Rattle.dms_desc.specs.Lookups.{structure_of, items_of};
+ghost use Rattle.dms_model.specs.Members.{first_member, last_member};
+ghost use Rattle.dms_model.specs.Stores.{is_full, judged, linked, old_of, put_after, put_answer, values_of};
 ghost use Rattle.dms_plain.specs.Rows.{entries_of, records_in, db_of, IsInOrder, restore, undone};
 ghost use Rattle.dms_plain.specs.Clashes.{put_in};
 ghost use Rattle.dms_plain.specs.Scans.{spot_at, soonest, latest};
 
-use crate::clash::{clash, linked, structure_of};
+use crate::clash::{clash, linked};
 use crate::keys::key_of;
 use crate::rows::{self, Row, Undo};
 use crate::scan;
 use dms_base::{Memory, Value};
-use dms_desc::{Bound, Description, Item, Record, Structure};
+use dms_desc::{Bound, Description, Record, Structure};
 use dms_model::{Put, Spot};
 use std::alloc::Global;
 
@@ -34,43 +35,21 @@ fn is_full(s: Option<&Structure>, count: usize) -> bool
     }
 }
 
-fn put_in(desc: &Description, rows: &[Row], set: u16, number: Option<u64>, rec: &Record) -> Put
-    ensures { result ≡ put_in (described desc.now) (entries_of rows.now) set number rec.now }
+/// What is answered where this record would be stored.
+fn put_in(desc: &Description, rows: &[Row], set: u16, number: Option<u64>, made: &Record) -> Put
+    ensures { result ≡ put_in (described desc.now) (entries_of rows.now) set number made.now }
 {
-    if let Some(s) = clash(desc.structures.as_slice(), rows, set, number, rec) {
+    if let Some(s) = clash(desc.structures.as_slice(), rows, set, number, made) {
         return Put::Duplicate(s);
     }
     match number {
         Some(n) => Put::Stored(n),
         None => {
-            if is_full(structure_of(desc, set), rows::count(rows, set)) {
+            if is_full(desc.structure(set), rows::count(rows, set)) {
                 return Put::Full;
             }
             Put::Stored(rows::fresh(rows, set))
         }
-    }
-}
-
-/// What putting a record answers.
-pub fn put_answer(
-    desc: &Description,
-    rows: &[Row],
-    set: u16,
-    number: Option<u64>,
-    rec: &Record,
-) -> Put
-    requires { IsInOrder rows.now }
-    ensures { result ≡ put_answer (described desc.now) (db_of (records_in rows.now)) set number rec.now }
-{
-    put_in(desc, rows, set, number, rec)
-}
-
-fn items_of(s: Option<&Structure>) -> &[Item]
-    ensures { result.now ≡ items_of (option_map shape_of (option_copied s.entry)) }
-{
-    match s {
-        None => &[],
-        Some(s) => s.items.as_slice(),
     }
 }
 
@@ -93,7 +72,7 @@ fn linked_record(
 ) -> Result<Record, Memory>
     ensures { IfOk result (λ r. r ≡ linked (items_of (structure_of (described desc.now) set)) old.now rec.now) }
 {
-    let items = items_of(structure_of(desc, set));
+    let items = desc.items_of(set);
     Ok(Record {
         owner: rec.owner,
         values: linked(alloc, items, values_of(old), rec.values.as_slice())?,
@@ -129,35 +108,55 @@ pub fn store_row(
     }
 }
 
-/// Puts a record with a number.
-pub fn change(
+/// The record that stands under the number that is named.
+fn old_of(
+    alloc: Global,
+    rows: &[Row],
+    set: u16,
+    number: Option<u64>,
+) -> Result<Option<Record>, Memory>
+    requires { IsInOrder rows.now }
+    ensures { IfOk result (λ r. r ≡ old_of (db_of (records_in rows.now)) set number) }
+{
+    match number {
+        None => Ok(None),
+        Some(number) => get(alloc, rows, set, number),
+    }
+}
+
+/// Puts a record, under the number that is named or as a new one.
+pub fn put(
     alloc: Global,
     desc: &Description,
     rows: &mut Vec<Row>,
     undo: &mut Vec<Undo>,
     set: u16,
-    number: u64,
+    number: Option<u64>,
     rec: &Record,
-) -> Result<(), Memory>
+) -> Result<Put, Memory>
     requires { IsInOrder rows.old.items }
     ensures in_order { IsInOrder rows.new.items }
-    ensures db { OnOk result (records_in rows.new.items ≡ insert (records_in rows.old.items) (set, number) (linked (items_of (structure_of (described desc.now) set)) (get (records_in rows.old.items) (set, number)) rec.now)) }
+    ensures answer { IfOk result (λ a. a ≡ put_answer (described desc.now) (db_of (records_in rows.old.items)) set number rec.now) }
+    ensures db { IfOk result (λ a. db_of (records_in rows.new.items) ≡ put_after a (described desc.now) (db_of (records_in rows.old.items)) set rec.now) }
     ensures mark { OnOk result (undone undo.new.items (records_in rows.new.items) ≡ undone undo.old.items (records_in rows.old.items)) }
     ensures err_rows { OnErr result (rows.new.items ≡ rows.old.items) }
     ensures err_undo { OnErr result (undo.new.items ≡ undo.old.items) }
 {
-    let old = get(alloc, rows.as_slice(), set, number)?;
+    let old = old_of(alloc, rows.as_slice(), set, number)?;
     let made = linked_record(alloc, desc, set, &old, rec)?;
-    store_row(
-        rows,
-        undo,
-        Row {
-            set,
-            number,
-            rec: made,
-        },
-        old,
-    )
+    match put_in(desc, rows.as_slice(), set, number, &made) {
+        Put::Stored(found) => {
+            let row = Row {
+                set,
+                number: found,
+                rec: made,
+            };
+            store_row(rows, undo, row, old)?;
+            Ok(Put::Stored(found))
+        }
+        Put::Duplicate(other) => Ok(Put::Duplicate(other)),
+        Put::Full => Ok(Put::Full),
+    }
 }
 
 /// Takes one change back.
@@ -245,7 +244,7 @@ pub fn first_member(
     requires { IsInOrder rows.now }
     ensures { IfOk result (λ r. r ≡ first_member (described desc.now) (db_of (records_in rows.now)) path owner from.now) }
 {
-    match structure_of(desc, path) {
+    match desc.structure(path) {
         None => Ok(None),
         Some(s) => soonest(alloc, s, rows, owner, from),
     }
@@ -263,7 +262,7 @@ pub fn last_member(
     requires { IsInOrder rows.now }
     ensures { IfOk result (λ r. r ≡ last_member (described desc.now) (db_of (records_in rows.now)) path owner upto.now) }
 {
-    match structure_of(desc, path) {
+    match desc.structure(path) {
         None => Ok(None),
         Some(s) => latest(alloc, s, rows, owner, upto),
     }

@@ -87,6 +87,7 @@ impl<S: Site> Store for PlainStore<S> {
     ghost same_store = { λ a b. S.same_site a.site b.site × (S.disk_faults b.site ≡ S.disk_faults a.site) × (IsTrue S.tells → S.files b.site ≡ S.files a.site) × OnlySpeaks (S.clock a.site) (S.clock b.site) };
 
     ghost agrees = { λ s sound. record {
+      may_stop = λ tells. absurd tells;
       number = refl;
       here = λ db is. is;
       under = λ db is. refl;
@@ -130,23 +131,15 @@ impl<S: Site> Store for PlainStore<S> {
         number: Option<u64>,
         rec: &Record,
     ) -> Result<Put, BlockFault> {
-        let answer = state::put_answer(&self.desc, self.rows.as_slice(), set, number, rec);
-        match answer {
-            Put::Stored(n) => {
-                state::change(
-                    alloc,
-                    &self.desc,
-                    &mut self.rows,
-                    &mut self.undo,
-                    set,
-                    n,
-                    rec,
-                )?;
-                Ok(Put::Stored(n))
-            }
-            Put::Duplicate(s) => Ok(Put::Duplicate(s)),
-            Put::Full => Ok(Put::Full),
-        }
+        Ok(state::put(
+            alloc,
+            &self.desc,
+            &mut self.rows,
+            &mut self.undo,
+            set,
+            number,
+            rec,
+        )?)
     }
 
     fn quiet(&mut self) -> Result<u64, BlockFault> {

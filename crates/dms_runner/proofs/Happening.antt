@@ -1,5 +1,5 @@
 -- Events, one behind another.
-use Rattle.std.specs.Prelude.{IsTrue, ◌<◌, ◌^◌}
+use Rattle.std.specs.Prelude.{IsTrue, IsErrAnd, IsOkUnless, OnOk, ◌<◌, ◌^◌, nat_le}
 use Rattle.std.specs.declared.result.Result.{Result}
 use Rattle.std.specs.declared.result.Result.TheVariants.{Ok, Err}
 use Rattle.dms_block.specs.declared.block_fault.BlockFault.{BlockFault}
@@ -10,7 +10,9 @@ use Rattle.dms_model.specs.declared.program.Program.{Program}
 use Rattle.dms_model.specs.Seen.{Seen, IsMute, IsSilent, Keeps, SaysPart, StaysSure}
 use Rattle.std.proofs.Common.{ℕ, ◌≡◌, ◌≤◌, ◌+◌, List, [], ◌∷◌, ◌++◌, length, take, map, Some, None, refl, sym, ◌∙◌, ap, subst, arith, append_assoc, length-append, Bool, true, false}
 use Rattle.std.specs.declared.option.Option.{Option}
-use Rattle.std.proofs.lemmas.List.{append-nil, map-append, length-map}
+use Rattle.std.proofs.lemmas.List.{append-nil, map-append, length-map, take-append-le, take_all}
+use Rattle.std.proofs.Math.Seq.{take-append-add}
+use Rattle.std.proofs.lemmas.Bool.Decides.{nat_tests}
 use Rattle.dms_moments.specs.Moments.{Runs}
 use Rattle.dms_moments.specs.MomentLaws.{runs_none, runs_on, runs_weaken}
 use Rattle.dms_model.specs.declared.reply.Answer.{Answer}
@@ -24,7 +26,7 @@ use Rattle.dms_storeverbs.specs.Laws.{Makes}
 use Rattle.dms_storeverbs.proofs.Quiet.{quiet_rule}
 use Rattle.dms_storeverbs.specs.View.{View, Did, Grew, Left, Made, Stands, view_of}
 use Rattle.dms_storeverbs.proofs.Calls.{lower, stays}
-use Rattle.dms_runner.specs.Events.{IsTold, Event, calls, says, goes_back, text_of, quiets_of, covered, sure_after, Stops, Ran, RanPart}
+use Rattle.dms_runner.specs.Events.{IsTold, Event, calls, says, goes_back, text_of, quiets_of, covered, sure_after, Stops, CutOff, SaidWhole, Ran, RanPart}
 use Rattle.dms_runner.proofs.Texts.{prints_none, prints_on, front_none, front_all, front_of_first, front_on}
 
 pub text_on : (x y : List Event) → text_of (x ++ y) ≡ text_of x ++ text_of y
@@ -128,26 +130,51 @@ ran_on a b c x y first next = record {
   moments = λ t. runs_on (runs_weaken (first.moments t) (stopped_first a x y)) (next.moments (told_on first t)) (λ stop s. stopped_on a b x y stop t first s);
 }
 
+-- whole events
+
+pub whole_none : (a b : Option (List ℕ)) (x : List Event) → b ≡ a → SaidWhole a b x
+whole_none a b x same = (0, prints_none a b same)
+
+pub whole_all : (a b : Option (List ℕ)) (x : List Event) → Prints a b (text_of x) → SaidWhole a b x
+whole_all a b x all = (length x, subst (λ (e : List Event). Prints a b (text_of e)) (sym (take_all (length x) x (omega arith))) all)
+
+fewer : (t : Bool) (k : ℕ) (x : List Event) → t ≡ nat_le (length x) k → (n : ℕ) × (take k x ≡ take n x) × (n ≤ length x)
+fewer true k x e =
+    let long : length x ≤ k = grind (arith, nat_tests) in
+    (length x, take_all k x long ∙ sym (take_all (length x) x (omega arith)), omega arith)
+fewer false k x e = (k, refl, grind (arith, nat_tests))
+
+pub whole_of_first : (a b : Option (List ℕ)) (x y : List Event) → SaidWhole a b x → SaidWhole a b (x ++ y)
+whole_of_first a b x y part =
+    let n = fewer (nat_le (length x) part.0) part.0 x refl in
+    (n.0, subst (λ (e : List Event). Prints a b (text_of e)) (n.1 ∙ sym (take-append-le n.0 x y n.2)) part.1)
+
+pub whole_on : (a b c : Option (List ℕ)) (x y : List Event) → Prints a b (text_of x) → SaidWhole b c y → SaidWhole a c (x ++ y)
+whole_on a b c x y first next =
+    (length x + next.0, subst (λ (t : List ℕ). Prints a c t) (sym (ap text_of (take-append-add x y next.0) ∙ text_on x (take next.0 y))) (prints_on a b c (text_of x) (text_of (take next.0 y)) first next.1))
+
 -- no event of them happened
-pub part_none : (a : Seen) (x : List Event) → RanPart a a x
-part_none a x = record { text = front_none a.said a.said (text_of x) refl; undamaged = λ t. refl; moments = λ t. runs_none a.clock (Stops a x) }
+pub part_none : {cut : Type 0} (a : Seen) (x : List Event) → RanPart cut a a x
+part_none a x = record { text = front_none a.said a.said (text_of x) refl; said_whole = λ uncut. whole_none a.said a.said x refl; undamaged = λ t. refl; moments = λ t. runs_none a.clock (Stops a x) }
 
 -- all of them happened
-pub part_all : (a b : Seen) (x : List Event) → Ran a b x → RanPart a b x
-part_all a b x ran = record { text = front_all a.said b.said (text_of x) ran.text; undamaged = ran.undamaged; moments = ran.moments }
+pub part_all : {cut : Type 0} (a b : Seen) (x : List Event) → Ran a b x → RanPart cut a b x
+part_all a b x ran = record { text = front_all a.said b.said (text_of x) ran.text; said_whole = λ uncut. whole_all a.said b.said x ran.text; undamaged = ran.undamaged; moments = ran.moments }
 
 -- a front of the first events is a front of all
-pub part_of_first : (a b : Seen) (x y : List Event) → RanPart a b x → RanPart a b (x ++ y)
+pub part_of_first : {cut : Type 0} (a b : Seen) (x y : List Event) → RanPart cut a b x → RanPart cut a b (x ++ y)
 part_of_first a b x y part = record {
   text = subst (λ (t : List ℕ). PrintsFront a.said b.said t) (sym (text_on x y)) (front_of_first a.said b.said (text_of x) (text_of y) part.text);
+  said_whole = λ uncut. whole_of_first a.said b.said x y (part.said_whole uncut);
   undamaged = part.undamaged;
   moments = λ t. runs_weaken (part.moments t) (stopped_first a x y);
 }
 
 -- events, and a front of those behind them
-pub part_on : (a b c : Seen) (x y : List Event) → Ran a b x → RanPart b c y → RanPart a c (x ++ y)
+pub part_on : {cut : Type 0} (a b c : Seen) (x y : List Event) → Ran a b x → RanPart cut b c y → RanPart cut a c (x ++ y)
 part_on a b c x y first next = record {
   text = subst (λ (t : List ℕ). PrintsFront a.said c.said t) (sym (text_on x y)) (front_on a.said b.said c.said (text_of x) (text_of y) first.text next.text);
+  said_whole = λ uncut. whole_on a.said b.said c.said x y first.text (next.said_whole uncut);
   undamaged = λ t. next.undamaged (first.told t) ∙ first.undamaged t;
   moments = λ t. runs_on (runs_weaken (first.moments t) (stopped_first a x y)) (next.moments (told_on first t)) (λ stop s. stopped_on a b x y stop t first s);
 }
@@ -156,8 +183,22 @@ part_on a b c x y first next = record {
 pub ran_as : (a b : Seen) (x y : List Event) → x ≡ y → Ran a b x → Ran a b y
 ran_as a b x y is ran = subst (λ (l : List Event). Ran a b l) is ran
 
-pub part_as : (a b : Seen) (x y : List Event) → x ≡ y → RanPart a b x → RanPart a b y
-part_as a b x y is part = subst (λ (l : List Event). RanPart a b l) is part
+pub part_as : {cut : Type 0} (a b : Seen) (x y : List Event) → x ≡ y → RanPart cut a b x → RanPart cut a b y
+part_as {cut} a b x y is part = subst (λ (l : List Event). RanPart cut a b l) is part
+
+-- where one is cut off the other is, too
+pub part_cut : {cut cut' : Type 0} (a b : Seen) (x : List Event) → (cut → cut') → RanPart cut a b x → RanPart cut' a b x
+part_cut a b x f part = record { text = part.text; said_whole = λ uncut. part.said_whole (λ is. uncut (f is)); undamaged = part.undamaged; moments = part.moments }
+
+-- the same fault, of whatever else would be answered
+pub cut_as : {T : Type 0} (r : Result T BlockFault) (f : BlockFault) → IsErrAnd r (λ x. x ≡ f) → f ≡ Say → CutOff r
+cut_as (Ok x) f same is = absurd same
+cut_as (Err e) f same is = same ∙ is
+
+-- a fault of printing is the only one of a call that prints
+pub unless_cut : {T : Type 0} (r : Result T BlockFault) (P : Type 0) → IsOkUnless r Say → OnOk r P → (CutOff r → ⊥) → P
+unless_cut (Ok x) P only p uncut = p
+unless_cut (Err f) P only p uncut = absurd (uncut only)
 
 -- bytes
 
@@ -184,8 +225,9 @@ ran_says a b x y is tells whole undamaged text part keeps room = record {
   moments = λ t. runs_weaken (part.leaves t room) (λ stop p. subst (λ (z : List ℕ). Stops a (says z ∷ []) stop) is (stopped_says a x stop p));
 }
 
-pub part_says : (a b : Seen) (x y : List ℕ) → x ≡ y → Sound a b → SaysPart a b x → a.next + 1 < 2 ^ 64 → RanPart a b (says y ∷ [])
-part_says a b x y is undamaged part room = record {
+pub part_says : {cut : Type 0} (a b : Seen) (x y : List ℕ) → x ≡ y → Sound a b → SaysPart a b x → ((cut → ⊥) → Prints a.said b.said x) → a.next + 1 < 2 ^ 64 → RanPart cut a b (says y ∷ [])
+part_says a b x y is undamaged part whole room = record {
+  said_whole = λ uncut. whole_all a.said b.said (says y ∷ []) (subst (λ (t : List ℕ). Prints a.said b.said t) (is ∙ sym (append-nil y)) (whole uncut));
   undamaged = undamaged;
   text = subst (λ (t : List ℕ). PrintsFront a.said b.said t) (is ∙ sym (append-nil y)) part.part;
   moments = λ t. runs_weaken (part.leaves t room) (λ stop p. subst (λ (z : List ℕ). Stops a (says z ∷ []) stop) is (stopped_says a x stop p));
@@ -232,8 +274,9 @@ ran_calls a b o answer tells whole same mute next did = record {
   moments = λ t. runs_weaken (did.leaves t) (stopped_calls a o);
 }
 
-pub part_calls : (a b : Seen) (v : View) (o : Outcome) {result : Result Answer BlockFault} → CausedBy result a.faults b.faults → IsMute a b → Did o a b v result → RanPart a b (calls o ∷ [])
+pub part_calls : {cut : Type 0} (a b : Seen) (v : View) (o : Outcome) {result : Result Answer BlockFault} → CausedBy result a.faults b.faults → IsMute a b → Did o a b v result → RanPart cut a b (calls o ∷ [])
 part_calls a b v o {result} cause mute did = record {
+  said_whole = λ uncut. whole_none a.said b.said (calls o ∷ []) mute.said;
   undamaged = λ t. damaged_same result a.faults b.faults did.undamaged cause;
   text = front_none a.said b.said [] mute.said;
   moments = λ t. runs_weaken (did.leaves t) (stopped_calls a o);
@@ -264,8 +307,9 @@ ran_back a b tells whole told undamaged silent points room = record {
   moments = λ t. runs_weaken (silent.leaves t room) (stopped_back a);
 }
 
-pub part_back : (a b : Seen) → Sound a b → IsSilent a b → a.next + 1 < 2 ^ 64 → RanPart a b (goes_back ∷ [])
+pub part_back : {cut : Type 0} (a b : Seen) → Sound a b → IsSilent a b → a.next + 1 < 2 ^ 64 → RanPart cut a b (goes_back ∷ [])
 part_back a b undamaged silent room = record {
+  said_whole = λ uncut. whole_none a.said b.said (goes_back ∷ []) silent.said;
   undamaged = undamaged;
   text = front_none a.said b.said [] silent.said;
   moments = λ t. runs_weaken (silent.leaves t room) (stopped_back a);

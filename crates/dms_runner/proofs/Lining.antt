@@ -128,9 +128,9 @@ pub walks_from : (d e : Described) (s : Session) (l m : List Held) (v : View) (h
 walks_from d e s l m v held before after p q x =
     subst (λ (k : List Held). Walks (walks (length k) e s k) v held before after) q (subst (λ (k : Described). Walks (walks (length l) k s l) v held before after) p x)
 
-pub walks_part_from : (d e : Described) (s : Session) (l m : List Held) (before after : Seen) → d ≡ e → l ≡ m → RanPart before after (walks (length l) d s l).events → RanPart before after (walks (length m) e s m).events
-walks_part_from d e s l m before after p q x =
-    subst (λ (k : List Held). RanPart before after (walks (length k) e s k).events) q (subst (λ (k : Described). RanPart before after (walks (length l) k s l).events) p x)
+pub walks_part_from : {cut : Type 0} (d e : Described) (s : Session) (l m : List Held) (before after : Seen) → d ≡ e → l ≡ m → RanPart cut before after (walks (length l) d s l).events → RanPart cut before after (walks (length m) e s m).events
+walks_part_from {cut} d e s l m before after p q x =
+    subst (λ (k : List Held). RanPart cut before after (walks (length k) e s k).events) q (subst (λ (k : Described). RanPart cut before after (walks (length l) k s l).events) p x)
 
 pub says_answer : (l m : ℕ) (name : List ℕ) (r q : Reply) (s t : Option ℕ) → l ≡ m → r ≡ q → s ≡ t → says (answer_text l name r s) ∷ [] ≡ says (answer_text m name q t) ∷ []
 says_answer l m name r q s t a b c =

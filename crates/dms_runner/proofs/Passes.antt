@@ -132,19 +132,19 @@ passing_end desc s first now i v before after end p =
     }
 
 -- a try that failed did a front of what the walk does
-pub passing_part : (desc : Described) (s : Session) (first now : List Held) (i : ℕ) (v : View) (before mid after : Seen) (h : Held) → slice_get now i ≡ Some h → has_line (take i now) h.program ≡ false
-    → RanPart mid after (tries h (step desc s h.program h.verb)) → Passing desc s first now i v before mid → RanPart before after (walk desc s [] first).events
-passing_part desc s first now i v before mid after h here has part p =
+pub passing_part : {cut : Type 0} (desc : Described) (s : Session) (first now : List Held) (i : ℕ) (v : View) (before mid after : Seen) (h : Held) → slice_get now i ≡ Some h → has_line (take i now) h.program ≡ false
+    → RanPart cut mid after (tries h (step desc s h.program h.verb)) → Passing desc s first now i v before mid → RanPart cut before after (walk desc s [] first).events
+passing_part {cut} desc s first now i v before mid after h here has part p =
     by_reply (is_waits (step desc s h.program h.verb).reply) refl
   where
     o : Outcome
     o = step desc s h.program h.verb
 
-    from : (x : Walk) (rest : List Event) → walk desc s (take i now) (drop i now) ≡ x → x.events ≡ tries h o ++ rest → RanPart before after (walk desc s [] first).events
-    from x rest e more = subst (λ (t : List Event). RanPart before after t) (sym (ap (λ (y : Walk). y.events) (p.is ∙ ap (λ (y : Walk). behind p.events y) e) ∙ ap (λ (t : List Event). p.events ++ t) more))
+    from : (x : Walk) (rest : List Event) → walk desc s (take i now) (drop i now) ≡ x → x.events ≡ tries h o ++ rest → RanPart cut before after (walk desc s [] first).events
+    from x rest e more = subst (λ (t : List Event). RanPart cut before after t) (sym (ap (λ (y : Walk). y.events) (p.is ∙ ap (λ (y : Walk). behind p.events y) e) ∙ ap (λ (t : List Event). p.events ++ t) more))
         (part_on before mid after p.events (tries h o ++ rest) p.ran (part_of_first mid after (tries h o) rest part))
 
-    by_reply : (b : Bool) → is_waits o.reply ≡ b → RanPart before after (walk desc s [] first).events
+    by_reply : (b : Bool) → is_waits o.reply ≡ b → RanPart cut before after (walk desc s [] first).events
     by_reply true waits = from _ _ (ap (λ (l : List Held). walk desc s (take i now) l) (at_place now i h here) ∙ walk_waits desc s (take i now) h (drop (i + 1) now) has waits) refl
     by_reply false waits = from _ [] (ap (λ (l : List Held). walk desc s (take i now) l) (at_place now i h here) ∙ walk_answers desc s (take i now) h (drop (i + 1) now) has waits) (sym (append-nil (tries h o)))
 

@@ -282,29 +282,29 @@ runs_ended desc db first i room all v w held feed left before mid r none stands 
     subst (λ (ls : List (List ℕ)). Stands w (ended (script_run desc db first ls).going.session)) (sym whole) stands
 
 -- a front of what the lines to come do is, behind what happened, a front of the whole
-pub runs_part : (desc : Described) (db : Db) (first : ℕ) (i room : ℕ) (all : List ℕ) (v : View) (held : List Held) (feed : List ℕ) (left : Option (List ℕ)) (before mid after : Seen)
-    (r : Runs desc (begun db first) i room all v held feed left before mid) → RanPart mid after (lines_run desc (lines_run desc (begun db first) r.done).going (raw_lines r.rest)).events
-    → RanPart before after (script_events desc db first (raw_lines all))
+pub runs_part : {cut : Type 0} (desc : Described) (db : Db) (first : ℕ) (i room : ℕ) (all : List ℕ) (v : View) (held : List Held) (feed : List ℕ) (left : Option (List ℕ)) (before mid after : Seen)
+    (r : Runs desc (begun db first) i room all v held feed left before mid) → RanPart cut mid after (lines_run desc (lines_run desc (begun db first) r.done).going (raw_lines r.rest)).events
+    → RanPart cut before after (script_events desc db first (raw_lines all))
 unfolding script_events
-runs_part desc db first i room all v held feed left before mid after r part =
+runs_part {cut} desc db first i room all v held feed left before mid after r part =
     let g = begun db first in
     let e : lines_run desc g (raw_lines all) ≡ onto (lines_run desc g r.done) (lines_run desc (lines_run desc g r.done).going (raw_lines r.rest)) = ap (lines_run desc g) r.split ∙ run_on desc g r.done (raw_lines r.rest) r.roomy in
     part_of_first before after (lines_run desc g (raw_lines all)).events (ending (lines_run desc g (raw_lines all)).going.held)
-    (subst (λ (t : List Event). RanPart before after t) (sym (ap (λ (l : Lined). l.events) e)) (part_on before mid after (lines_run desc g r.done).events (lines_run desc (lines_run desc g r.done).going (raw_lines r.rest)).events r.ran part))
+    (subst (λ (t : List Event). RanPart cut before after t) (sym (ap (λ (l : Lined). l.events) e)) (part_on before mid after (lines_run desc g r.done).events (lines_run desc (lines_run desc g r.done).going (raw_lines r.rest)).events r.ran part))
 
 -- a front of what happens at the end
-pub runs_end_part : (desc : Described) (db : Db) (first : ℕ) (i room : ℕ) (all : List ℕ) (v : View) (held : List Held) (feed : List ℕ) (left : Option (List ℕ)) (before mid after : Seen)
-    (r : Runs desc (begun db first) i room all v held feed left before mid) → r.rest ≡ [] → RanPart mid after (ending held) → RanPart before after (script_events desc db first (raw_lines all))
+pub runs_end_part : {cut : Type 0} (desc : Described) (db : Db) (first : ℕ) (i room : ℕ) (all : List ℕ) (v : View) (held : List Held) (feed : List ℕ) (left : Option (List ℕ)) (before mid after : Seen)
+    (r : Runs desc (begun db first) i room all v held feed left before mid) → r.rest ≡ [] → RanPart cut mid after (ending held) → RanPart cut before after (script_events desc db first (raw_lines all))
 unfolding script_events
-runs_end_part desc db first i room all v held feed left before mid after r none part =
+runs_end_part {cut} desc db first i room all v held feed left before mid after r none part =
     let g = begun db first in
     let whole : raw_lines all ≡ r.done = r.split ∙ ap (λ (ls : List (List ℕ)). r.done ++ ls) (lines_none r.rest none) ∙ append-nil r.done in
-    subst (λ (ls : List (List ℕ)). RanPart before after ((script_run desc db first ls).events ++ ending (script_run desc db first ls).going.held)) (sym whole)
-    (part_on before mid after (lines_run desc g r.done).events (ending (lines_run desc g r.done).going.held) r.ran (subst (λ (hs : List Held). RanPart mid after (ending hs)) r.held_is part))
+    subst (λ (ls : List (List ℕ)). RanPart cut before after ((script_run desc db first ls).events ++ ending (script_run desc db first ls).going.held)) (sym whole)
+    (part_on before mid after (lines_run desc g r.done).events (ending (lines_run desc g r.done).going.held) r.ran (subst (λ (hs : List Held). RanPart cut mid after (ending hs)) r.held_is part))
 
 -- a front of what a line does is one of what it and those behind it do
-pub line_part : (desc : Described) (g : Going) (all : List ℕ) (before after : Seen) → all ≢ [] → RanPart before after (line_step desc g (first_line all)).events → RanPart before after (lines_run desc g (raw_lines all)).events
-line_part desc g all before after some part = at (line_step desc g l).full refl
+pub line_part : {cut : Type 0} (desc : Described) (g : Going) (all : List ℕ) (before after : Seen) → all ≢ [] → RanPart cut before after (line_step desc g (first_line all)).events → RanPart cut before after (lines_run desc g (raw_lines all)).events
+line_part {cut} desc g all before after some part = at (line_step desc g l).full refl
   where
     l : List ℕ
     l = first_line all
@@ -312,7 +312,7 @@ line_part desc g all before after some part = at (line_step desc g l).full refl
     more : List (List ℕ)
     more = raw_lines (after_line all)
 
-    at : (b : Bool) → (line_step desc g l).full ≡ b → RanPart before after (lines_run desc g (raw_lines all)).events
-    at true is = subst (λ (t : List Event). RanPart before after t) (sym (ap (λ (ls : List (List ℕ)). (lines_run desc g ls).events) (lines_step all some) ∙ ap (λ (x : Lined). x.events) (run_full desc g l more is))) part
-    at false is = subst (λ (t : List Event). RanPart before after t) (sym (ap (λ (ls : List (List ℕ)). (lines_run desc g ls).events) (lines_step all some) ∙ ap (λ (x : Lined). x.events) (run_step desc g l more is)))
+    at : (b : Bool) → (line_step desc g l).full ≡ b → RanPart cut before after (lines_run desc g (raw_lines all)).events
+    at true is = subst (λ (t : List Event). RanPart cut before after t) (sym (ap (λ (ls : List (List ℕ)). (lines_run desc g ls).events) (lines_step all some) ∙ ap (λ (x : Lined). x.events) (run_full desc g l more is))) part
+    at false is = subst (λ (t : List Event). RanPart cut before after t) (sym (ap (λ (ls : List (List ℕ)). (lines_run desc g ls).events) (lines_step all some) ∙ ap (λ (x : Lined). x.events) (run_step desc g l more is)))
         (part_of_first before after (line_step desc g l).events (lines_run desc (line_step desc g l).going more).events part)

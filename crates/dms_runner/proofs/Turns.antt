@@ -121,9 +121,9 @@ walking_out desc s first turn now v before after k over = from k.left k.fuel k.i
     from (suc n) fuel is = absurd (omega (arith, fuel, over))
 
 -- a walk that failed did a front of what the walks do
-pub walking_part : (desc : Described) (s : Session) (first : List Held) (turn : ℕ) (now : List Held) (v : View) (before mid after : Seen) (k : Walking desc s first turn now v before mid)
-    → turn < length first → RanPart mid after (walk desc k.at [] now).events → RanPart before after (walks (length first) desc s first).events
-walking_part desc s first turn now v before mid after k more part = from k.left k.fuel k.is
+pub walking_part : {cut : Type 0} (desc : Described) (s : Session) (first : List Held) (turn : ℕ) (now : List Held) (v : View) (before mid after : Seen) (k : Walking desc s first turn now v before mid)
+    → turn < length first → RanPart cut mid after (walk desc k.at [] now).events → RanPart cut before after (walks (length first) desc s first).events
+walking_part {cut} desc s first turn now v before mid after k more part = from k.left k.fuel k.is
   where
     x : Walk
     x = walk desc k.at [] now
@@ -132,11 +132,11 @@ walking_part desc s first turn now v before mid after k more part = from k.left 
     rest n true is = (_, ap (λ (y : Walk). y.events) (walks_again n desc k.at now is))
     rest n false is = ([], ap (λ (y : Walk). y.events) (walks_end n desc k.at now is) ∙ sym (append-nil x.events))
 
-    from : (n : ℕ) → n + turn ≡ length first → walks (length first) desc s first ≡ behind k.events (walks n desc k.at now) → RanPart before after (walks (length first) desc s first).events
+    from : (n : ℕ) → n + turn ≡ length first → walks (length first) desc s first ≡ behind k.events (walks n desc k.at now) → RanPart cut before after (walks (length first) desc s first).events
     from zero fuel is = absurd (omega (arith, fuel, more))
     from (suc n) fuel is =
         let r = rest n x.answered refl in
-        subst (λ (t : List Event). RanPart before after t) (sym (ap (λ (y : Walk). y.events) is ∙ ap (λ (t : List Event). k.events ++ t) r.1)) (part_on before mid after k.events (x.events ++ r.0) k.ran (part_of_first mid after x.events r.0 part))
+        subst (λ (t : List Event). RanPart cut before after t) (sym (ap (λ (y : Walk). y.events) is ∙ ap (λ (t : List Event). k.events ++ t) r.1)) (part_on before mid after k.events (x.events ++ r.0) k.ran (part_of_first mid after x.events r.0 part))
 
 -- the same walk over the same list
 pub passes_from : (d e : Described) (s : Session) (l m : List Held) (v : View) (now : List Held) (found found' : Option ℕ) (before after : Seen) → d ≡ e → l ≡ m → found ≡ found'
@@ -144,8 +144,8 @@ pub passes_from : (d e : Described) (s : Session) (l m : List Held) (v : View) (
 passes_from d e s l m v now found found' before after p q r x =
     subst (λ (o : Option ℕ). Passes (walk e s [] m) v now o before after) r (subst (λ (k : List Held). Passes (walk e s [] k) v now found before after) q (subst (λ (k : Described). Passes (walk k s [] l) v now found before after) p x))
 
-pub part_from : (d e : Described) (s : Session) (l m : List Held) (before after : Seen) → d ≡ e → l ≡ m → RanPart before after (walk d s [] l).events → RanPart before after (walk e s [] m).events
-part_from d e s l m before after p q x = subst (λ (k : List Held). RanPart before after (walk e s [] k).events) q (subst (λ (k : Described). RanPart before after (walk k s [] l).events) p x)
+pub part_from : {cut : Type 0} (d e : Described) (s : Session) (l m : List Held) (before after : Seen) → d ≡ e → l ≡ m → RanPart cut before after (walk d s [] l).events → RanPart cut before after (walk e s [] m).events
+part_from {cut} d e s l m before after p q x = subst (λ (k : List Held). RanPart cut before after (walk e s [] k).events) q (subst (λ (k : Described). RanPart cut before after (walk k s [] l).events) p x)
 
 -- a list of the same length, written back
 pub written : (old new : List Held) (n : ℕ) → n ≡ length old → length new ≡ length old → take n (new ++ drop (length new) old) ≡ new

@@ -2,6 +2,7 @@
 use Rattle.std.specs.Prelude.{ℕ, ◌≡◌, ◌≤◌, List, OnOk}
 use Rattle.std.specs.declared.result.Result.{Result}
 use Rattle.std.specs.declared.result.Result.TheVariants.{Ok, Err}
+use Rattle.dms_block.specs.declared.block_fault.BlockFault.TheVariants.{Say}
 use Rattle.dms_block.specs.Counts.{Faults, Raised}
 use Rattle.dms_model.specs.declared.store.Store.{Ghosts}
 use Rattle.dms_model.specs.Points.{Files}
@@ -22,6 +23,11 @@ Blamed Memory a b = b ≡ a
 abbrev pub BlamedBy : {T : Type 0} → Result T RunFault → Faults → Faults → Type 0
 BlamedBy (Ok x) a b = b ≡ a
 BlamedBy (Err f) a b = Blamed f a b
+
+-- the run stopped at a fault of printing: the last text may have been cut off
+abbrev pub CutRun : {T : Type 0} → Result T RunFault → Type 0
+CutRun (Ok x) = ⊥
+CutRun (Err f) = f ≡ Block Say
 
 -- whatever a run does, its engine stays the same one, usable without a fault, and a fault of the store has a cause
 pub record LastsRun {St : Type 0} {g : Ghosts St} {T : Type 0} (result : Result T RunFault) (old new : Engine St g) : Type 0 where

@@ -1,6 +1,10 @@
 -- What a run does, event by event, and what a stop on the way leaves.
 use Rattle.std.specs.Prelude.{ℕ, ◌≡◌, ◌≤◌, ◌+◌, List, [], ◌∷◌, ◌++◌, length, take, Some, None, IsTrue}
 use Rattle.std.specs.declared.option.Option.{Option}
+use Rattle.std.specs.declared.result.Result.{Result}
+use Rattle.std.specs.declared.result.Result.TheVariants.{Ok, Err}
+use Rattle.dms_block.specs.declared.block_fault.BlockFault.{BlockFault}
+use Rattle.dms_block.specs.declared.block_fault.BlockFault.TheVariants.{Say}
 use Rattle.dms_moments.specs.Moments.{Runs}
 use Rattle.dms_model.specs.Points.{Files, Point, Quiet, Stop}
 use Rattle.dms_block.specs.Texts.{Prints, PrintsFront}
@@ -83,9 +87,19 @@ pub record Ran (b a : Seen) (events : List Event) : Type 0 where
   pub sure : b.tells → sure_after (length b.points) b.sure events ≤ a.sure
   pub moments : b.tells → Runs b.clock a.clock (Stops b events)
 
--- a front of the text of these events was said, and a stop on the way lies within them. Of what stands afterwards it says
--- nothing else
-pub record RanPart (b a : Seen) (events : List Event) : Type 0 where
+-- the answer is a fault of printing: the last text may have been cut off
+abbrev pub CutOff : {T : Type 0} → Result T BlockFault → Type 0
+CutOff (Ok x) = ⊥
+CutOff (Err f) = f ≡ Say
+
+-- told text grew by the whole text of the first so many events
+abbrev pub SaidWhole : Option (List ℕ) → Option (List ℕ) → List Event → Type 0
+SaidWhole old new events = (k : ℕ) × Prints old new (text_of (take k events))
+
+-- a front of the text of these events was said, that of whole events where no text was cut off, and a stop on the way lies
+-- within them. Of what stands afterwards it says nothing else
+pub record RanPart (cut : Type 0) (b a : Seen) (events : List Event) : Type 0 where
   pub text : PrintsFront b.said a.said (text_of events)
+  pub said_whole : (cut → ⊥) → SaidWhole b.said a.said events
   pub undamaged : IsTold b → a.faults.damaged ≡ b.faults.damaged
   pub moments : b.tells → Runs b.clock a.clock (Stops b events)

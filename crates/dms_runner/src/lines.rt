@@ -2,7 +2,7 @@ ghost use Rattle.std.specs.Prelude.{◌≡◌, ◌≤◌, ◌<◌, ◌+◌, ◌^
 ghost use Rattle.dms_desc.specs.Shape.{described};
 ghost use Rattle.dms_model.specs.Session.{Session, step, is_waits};
 ghost use Rattle.dms_storeverbs.specs.View.{Lasts, SameSession, Stands, seen, view};
-ghost use Rattle.dms_runner.specs.Events.{RanPart};
+ghost use Rattle.dms_runner.specs.Events.{CutOff, RanPart};
 ghost use Rattle.dms_feed.specs.Lines.{line_text};
 ghost use Rattle.dms_model.specs.declared.verb.Verb.{Verb};
 ghost use Rattle.dms_script.specs.declared.line.Line.TheVariants.{Empty, Verb as Spoken, Bad};
@@ -34,7 +34,7 @@ fn bad_line<St: Store>(
 ) -> Result<bool, BlockFault>
     requires sound { (seen engine.old).sound }
     ensures lined { IfOk result (λ on. AtGoing engine.old held.old.items line (λ g. GoesOn (spoken (described engine.old.desc) g (Bad place)) on (view engine.new) held.new.items (seen engine.old) (seen engine.new))) }
-    ensures part { AtGoing engine.old held.old.items line (λ g. RanPart (seen engine.old) (seen engine.new) (spoken (described engine.old.desc) g (Bad place)).events) }
+    ensures part { AtGoing engine.old held.old.items line (λ g. RanPart (CutOff result) (seen engine.old) (seen engine.new) (spoken (described engine.old.desc) g (Bad place)).events) }
     ensures lasts { Lasts result engine.old engine.new }
 {
     let text = bad_text(alloc, line, place)?;
@@ -54,7 +54,7 @@ fn first_try<St: Store>(
 ) -> Result<bool, BlockFault>
     requires sound { (seen engine.old).sound }
     ensures lined { IfOk result (λ on. AtGoing engine.old held.old.items line (λ g. GoesOn (tried (described engine.old.desc) g name verb (step (described engine.old.desc) g.session name verb)) on (view engine.new) held.new.items (seen engine.old) (seen engine.new))) }
-    ensures part { AtGoing engine.old held.old.items line (λ g. RanPart (seen engine.old) (seen engine.new) (tried (described engine.old.desc) g name verb (step (described engine.old.desc) g.session name verb)).events) }
+    ensures part { AtGoing engine.old held.old.items line (λ g. RanPart (CutOff result) (seen engine.old) (seen engine.new) (tried (described engine.old.desc) g name verb (step (described engine.old.desc) g.session name verb)).events) }
     ensures lasts { Lasts result engine.old engine.new }
 {
     let answer = engine.call(alloc, &name, &verb)?;
@@ -87,7 +87,7 @@ fn spoken_line<St: Store>(
 ) -> Result<bool, BlockFault>
     requires sound { (seen engine.old).sound }
     ensures lined { IfOk result (λ on. AtGoing engine.old held.old.items line (λ g. GoesOn (spoken (described engine.old.desc) g (Spoken name verb)) on (view engine.new) held.new.items (seen engine.old) (seen engine.new))) }
-    ensures part { AtGoing engine.old held.old.items line (λ g. RanPart (seen engine.old) (seen engine.new) (spoken (described engine.old.desc) g (Spoken name verb)).events) }
+    ensures part { AtGoing engine.old held.old.items line (λ g. RanPart (CutOff result) (seen engine.old) (seen engine.new) (spoken (described engine.old.desc) g (Spoken name verb)).events) }
     ensures lasts { Lasts result engine.old engine.new }
 {
     if !has_line(held.as_slice(), &name) {
@@ -116,7 +116,7 @@ pub fn take_line<St: Store>(
 ) -> Result<bool, BlockFault>
     requires sound { (seen engine.old).sound }
     ensures lined { IfOk result (λ on. (g : Going) (whole : List ℕ) → raw.now ≡ take 2003 whole → Stands (view engine.old) g.session → g.held ≡ held.old.items → g.line + 1 ≡ line → Roomy g → GoesOn (line_step (described engine.old.desc) g whole) on (view engine.new) held.new.items (seen engine.old) (seen engine.new)) }
-    ensures part { (g : Going) (whole : List ℕ) → raw.now ≡ take 2003 whole → Stands (view engine.old) g.session → g.held ≡ held.old.items → g.line + 1 ≡ line → Roomy g → RanPart (seen engine.old) (seen engine.new) (line_step (described engine.old.desc) g whole).events }
+    ensures part { (g : Going) (whole : List ℕ) → raw.now ≡ take 2003 whole → Stands (view engine.old) g.session → g.held ≡ held.old.items → g.line + 1 ≡ line → Roomy g → RanPart (CutOff result) (seen engine.old) (seen engine.new) (line_step (described engine.old.desc) g whole).events }
     ensures lasts { Lasts result engine.old engine.new }
 {
     match read_line(alloc, engine.description(), line_text(raw))? {

@@ -9,11 +9,11 @@ ghost use Rattle.dms_model.specs.Db.{Db};
 ghost use Rattle.dms_block.specs.Texts.{Prints, PrintsFront};
 ghost use Rattle.dms_model.specs.Session.{Session, fresh_session, ended};
 ghost use Rattle.dms_storeverbs.specs.View.{Lasts, SameSession, Stands, seen, view};
-ghost use Rattle.dms_runner.specs.Events.{text_of, Ran, RanPart};
+ghost use Rattle.dms_runner.specs.Events.{text_of, CutOff, Ran, RanPart};
 ghost use Rattle.dms_runner.specs.Answers.{Going, Roomy, line_step, lines_run, unanswered, ending, script_run, script_events, answers_text};
 ghost use Rattle.dms_runner.specs.Running.{TookLine, Answered, PassesLines, PassesBytes, PassesHeld, CutInput};
 ghost use Rattle.dms_runner.specs.Starting.{AtSession, AtGoing, AtStart};
-ghost use Rattle.dms_runner.specs.Blaming.{LastsRun};
+ghost use Rattle.dms_runner.specs.Blaming.{CutRun, LastsRun};
 
 use crate::Held;
 use crate::lines::take_line;
@@ -60,7 +60,7 @@ fn say_held<St: Store>(
     ensures text { OnOk result (Prints (seen engine.old).said (seen engine.new).said (text_of (unanswered held.now))) }
     ensures front { PrintsFront (seen engine.old).said (seen engine.new).said (text_of (unanswered held.now)) }
     ensures ran { OnOk result ((seen engine.old).next + 1 < 2 ^ 64 → Ran (seen engine.old) (seen engine.new) (unanswered held.now)) }
-    ensures part { (seen engine.old).next + 1 < 2 ^ 64 → RanPart (seen engine.old) (seen engine.new) (unanswered held.now) }
+    ensures part { (seen engine.old).next + 1 < 2 ^ 64 → RanPart (CutOff result) (seen engine.old) (seen engine.new) (unanswered held.now) }
     ensures number { (seen engine.new).next ≡ (seen engine.old).next }
     ensures stands { OnOk result (SameSession engine.old engine.new) }
     ensures lasts { Lasts result engine.old engine.new }
@@ -79,7 +79,7 @@ fn end_run<St: Store>(alloc: Global, engine: &mut Engine<St>, held: &[Held]) -> 
     ensures text { OnOk result (Prints (seen engine.old).said (seen engine.new).said (text_of (unanswered held.now))) }
     ensures front { PrintsFront (seen engine.old).said (seen engine.new).said (text_of (unanswered held.now)) }
     ensures ran { OnOk result ((seen engine.old).next + 1 < 2 ^ 64 → Ran (seen engine.old) (seen engine.new) (ending held.now)) }
-    ensures part { (seen engine.old).next + 1 < 2 ^ 64 → RanPart (seen engine.old) (seen engine.new) (ending held.now) }
+    ensures part { (seen engine.old).next + 1 < 2 ^ 64 → RanPart (CutRun result) (seen engine.old) (seen engine.new) (ending held.now) }
     ensures ended { OnOk result ((s : Session) → Stands (view engine.old) s → Stands (view engine.new) (ended s)) }
     ensures limits { (IsErrOf result RunFault.Lines → ⊥) × (IsErrOf result RunFault.Bytes → ⊥) × (IsErrOf result RunFault.Held → ⊥) }
     ensures lasts { LastsRun result engine.old engine.new }
@@ -110,7 +110,7 @@ fn one_line<St: Store, I: Source>(
     requires line { line < 4294967295 }
     ensures took { IfOk result (λ more. more ≡ true → (g : Going) (all : List ℕ) → Stands (view engine.old) g.session → g.held ≡ held.old.items → g.line ≡ line → Roomy g → Remains feed.old (I.left source.old) all → TookLine (described engine.old.desc) g all room.old room.new (view engine.new) held.new.items feed.new (I.left source.new) (seen engine.old) (seen engine.new)) }
     ensures none { IfOk result (λ more. more ≡ false → (engine.new ≡ engine.old) × (held.new ≡ held.old) × ((all : List ℕ) → Remains feed.old (I.left source.old) all → (all ≡ []) × Remains feed.new (I.left source.new) [])) }
-    ensures part { (g : Going) (all : List ℕ) → Stands (view engine.old) g.session → g.held ≡ held.old.items → g.line ≡ line → Roomy g → Remains feed.old (I.left source.old) all → RanPart (seen engine.old) (seen engine.new) (lines_run (described engine.old.desc) g (raw_lines all)).events }
+    ensures part { (g : Going) (all : List ℕ) → Stands (view engine.old) g.session → g.held ≡ held.old.items → g.line ≡ line → Roomy g → Remains feed.old (I.left source.old) all → RanPart (CutRun result) (seen engine.old) (seen engine.new) (lines_run (described engine.old.desc) g (raw_lines all)).events }
     ensures bytes { IsErrOf result RunFault.Bytes → ((seen engine.new).said ≡ (seen engine.old).said) × ((all : List ℕ) → Remains feed.old (I.left source.old) all → room.old < length (first_line all)) }
     ensures full_list { IsErrOf result RunFault.Held → (g : Going) (all : List ℕ) → Stands (view engine.old) g.session → g.held ≡ held.old.items → g.line ≡ line → Roomy g → Remains feed.old (I.left source.old) all → Prints (seen engine.old).said (seen engine.new).said [] × (all ≢ []) × ((line_step (described engine.old.desc) g (first_line all)).full ≡ true) × (length (first_line all) ≤ room.old) }
     ensures no_lines { IsErrOf result RunFault.Lines → ⊥ }
@@ -174,7 +174,7 @@ pub fn run_lines<St: Store, I: Source>(
 ) -> Result<(), RunFault>
     requires sound { (seen engine.old).sound }
     ensures answers { OnOk result (AtStart engine.old feed.old (I.left source.old) (λ db first all. Answered (described engine.old.desc) db first (raw_lines all) (seen engine.old).said (seen engine.new).said)) }
-    ensures part { AtStart engine.old feed.old (I.left source.old) (λ db first all. RanPart (seen engine.old) (seen engine.new) (script_events (described engine.old.desc) db first (raw_lines all))) }
+    ensures part { AtStart engine.old feed.old (I.left source.old) (λ db first all. RanPart (CutRun result) (seen engine.old) (seen engine.new) (script_events (described engine.old.desc) db first (raw_lines all))) }
     ensures ran { OnOk result (AtStart engine.old feed.old (I.left source.old) (λ db first all. Ran (seen engine.old) (seen engine.new) (script_events (described engine.old.desc) db first (raw_lines all)))) }
     ensures ended { OnOk result (AtStart engine.old feed.old (I.left source.old) (λ db first all. Stands (view engine.new) (ended (script_run (described engine.old.desc) db first (raw_lines all)).going.session))) }
     ensures lines { IsErrOf result RunFault.Lines → AtStart engine.old feed.old (I.left source.old) (λ db first all. PassesLines (described engine.old.desc) db first (raw_lines all) (seen engine.old).said (seen engine.new).said) }

@@ -3,7 +3,7 @@ ghost use Rattle.dms_desc.specs.Shape.{described};
 ghost use Rattle.dms_block.specs.Texts.{Prints, PrintsFront};
 ghost use Rattle.dms_model.specs.Session.{Session, step, is_waits};
 ghost use Rattle.dms_storeverbs.specs.View.{Lasts, SameSession, Stands, seen, view};
-ghost use Rattle.dms_runner.specs.Events.{says, Ran, RanPart};
+ghost use Rattle.dms_runner.specs.Events.{says, CutOff, Ran, RanPart};
 ghost use Rattle.dms_runner.specs.Held.{answer_text, said_of, tries, sync_text};
 ghost use Rattle.dms_runner.specs.Trying.{Tries};
 ghost use Rattle.dms_runner.specs.Starting.{AtSession, AtGoing, AtStart};
@@ -62,7 +62,7 @@ pub fn say_answer<St: Store>(
     ensures text { OnOk result (Prints (seen engine.old).said (seen engine.new).said (answer_text line program.now answer.now.reply answer.now.sync)) }
     ensures front { PrintsFront (seen engine.old).said (seen engine.new).said (answer_text line program.now answer.now.reply answer.now.sync) }
     ensures ran { OnOk result ((seen engine.old).next + 1 < 2 ^ 64 → Ran (seen engine.old) (seen engine.new) (says (answer_text line program.now answer.now.reply answer.now.sync) ∷ [])) }
-    ensures part { (seen engine.old).next + 1 < 2 ^ 64 → RanPart (seen engine.old) (seen engine.new) (says (answer_text line program.now answer.now.reply answer.now.sync) ∷ []) }
+    ensures part { (seen engine.old).next + 1 < 2 ^ 64 → RanPart (CutOff result) (seen engine.old) (seen engine.new) (says (answer_text line program.now answer.now.reply answer.now.sync) ∷ []) }
     ensures stands { OnOk result (SameSession engine.old engine.new) }
     ensures lasts { Lasts result engine.old engine.new }
 {
@@ -81,7 +81,7 @@ fn say_tried<St: Store>(
     ensures text { OnOk result (Prints (seen engine.old).said (seen engine.new).said (said_of held.now answer.now.reply answer.now.sync)) }
     ensures front { PrintsFront (seen engine.old).said (seen engine.new).said (said_of held.now answer.now.reply answer.now.sync) }
     ensures ran { OnOk result ((seen engine.old).next + 1 < 2 ^ 64 → Ran (seen engine.old) (seen engine.new) (says (said_of held.now answer.now.reply answer.now.sync) ∷ [])) }
-    ensures part { (seen engine.old).next + 1 < 2 ^ 64 → RanPart (seen engine.old) (seen engine.new) (says (said_of held.now answer.now.reply answer.now.sync) ∷ []) }
+    ensures part { (seen engine.old).next + 1 < 2 ^ 64 → RanPart (CutOff result) (seen engine.old) (seen engine.new) (says (said_of held.now answer.now.reply answer.now.sync) ∷ []) }
     ensures stands { OnOk result (SameSession engine.old engine.new) }
     ensures lasts { Lasts result engine.old engine.new }
 {
@@ -106,7 +106,7 @@ pub fn try_line<St: Store>(
 ) -> Result<bool, BlockFault>
     requires sound { (seen engine.old).sound }
     ensures tried { IfOk result (λ answered. AtSession engine.old (λ s. Tries (step (described engine.old.desc) s held.now.program held.now.verb) held.now answered (view engine.new) (seen engine.old) (seen engine.new))) }
-    ensures part { AtSession engine.old (λ s. RanPart (seen engine.old) (seen engine.new) (tries held.now (step (described engine.old.desc) s held.now.program held.now.verb))) }
+    ensures part { AtSession engine.old (λ s. RanPart (CutOff result) (seen engine.old) (seen engine.new) (tries held.now (step (described engine.old.desc) s held.now.program held.now.verb))) }
     ensures lasts { Lasts result engine.old engine.new }
 {
     let answer = engine.call(alloc, &held.program, &held.verb)?;

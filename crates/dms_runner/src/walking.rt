@@ -2,7 +2,7 @@ ghost use Rattle.std.specs.Prelude.{◌≡◌, ◌≤◌, ◌<◌, ◌+◌, ◌^
 ghost use Rattle.dms_desc.specs.Shape.{described};
 ghost use Rattle.dms_model.specs.Session.{Session, step, is_waits};
 ghost use Rattle.dms_storeverbs.specs.View.{Lasts, SameSession, Stands, seen, view};
-ghost use Rattle.dms_runner.specs.Events.{RanPart};
+ghost use Rattle.dms_runner.specs.Events.{CutOff, RanPart};
 ghost use Rattle.std.specs.Prelude.{slice_get, take, slice_set};
 ghost use Rattle.dms_runner.specs.declared.held.Held.{Held as HeldLine};
 ghost use Rattle.dms_runner.specs.Held.{has_line, tries, waiting, walk, walks};
@@ -42,7 +42,7 @@ fn try_at<St: Store>(
     requires sound { (seen engine.old).sound }
     requires place { i < length held.now }
     ensures tried { IfOk result (λ answered. (h : HeldLine) → slice_get held.now i ≡ Some h → AtSession engine.old (λ s. Tries (step (described engine.old.desc) s h.program h.verb) h answered (view engine.new) (seen engine.old) (seen engine.new))) }
-    ensures part { (h : HeldLine) → slice_get held.now i ≡ Some h → AtSession engine.old (λ s. RanPart (seen engine.old) (seen engine.new) (tries h (step (described engine.old.desc) s h.program h.verb))) }
+    ensures part { (h : HeldLine) → slice_get held.now i ≡ Some h → AtSession engine.old (λ s. RanPart (CutOff result) (seen engine.old) (seen engine.new) (tries h (step (described engine.old.desc) s h.program h.verb))) }
     ensures lasts { Lasts result engine.old engine.new }
 {
     try_line(alloc, engine, &held[i])
@@ -67,7 +67,7 @@ fn pass<St: Store>(
     ensures place { IfOk result (λ found. IfSome found (λ i. i < length held.new)) }
     ensures long { length held.new ≡ length held.old }
     ensures passes { IfOk result (λ found. AtSession engine.old (λ s. Passes (walk (described engine.old.desc) s [] held.old) (view engine.new) held.new found (seen engine.old) (seen engine.new))) }
-    ensures part { AtSession engine.old (λ s. RanPart (seen engine.old) (seen engine.new) (walk (described engine.old.desc) s [] held.old).events) }
+    ensures part { AtSession engine.old (λ s. RanPart (CutOff result) (seen engine.old) (seen engine.new) (walk (described engine.old.desc) s [] held.old).events) }
     ensures lasts { Lasts result engine.old engine.new }
 {
     for i in 0..held.len() {
@@ -90,7 +90,7 @@ pub fn walk_all<St: Store>(
 ) -> Result<(), BlockFault>
     requires sound { (seen engine.old).sound }
     ensures walks { OnOk result ((s : Session) → Stands (view engine.old) s → s.next + length held.old.items + 2 < 2 ^ 64 → Walks (walks (length held.old.items) (described engine.old.desc) s held.old.items) (view engine.new) held.new.items (seen engine.old) (seen engine.new)) }
-    ensures part { (s : Session) → Stands (view engine.old) s → s.next + length held.old.items + 2 < 2 ^ 64 → RanPart (seen engine.old) (seen engine.new) (walks (length held.old.items) (described engine.old.desc) s held.old.items).events }
+    ensures part { (s : Session) → Stands (view engine.old) s → s.next + length held.old.items + 2 < 2 ^ 64 → RanPart (CutOff result) (seen engine.old) (seen engine.new) (walks (length held.old.items) (described engine.old.desc) s held.old.items).events }
     ensures lasts { Lasts result engine.old engine.new }
 {
     for _turn in 0..held.len() {

@@ -1,8 +1,8 @@
 -- What one element more of a list does.
 use Rattle.std.proofs.Common.{◌+◌, ◌≡◌, ℕ, suc, List, true, false, if◌then◌else◌, refl, ◌∙◌, drop, arith}
 use Rattle.std.specs.declared.result.Result.TheVariants.{Ok, Err}
-use Rattle.dasdl_parse.specs.declared.token.Lexeme.{Lexeme}
-use Rattle.dasdl_parse.specs.Cursors.{starts, is_the_sign, place_at}
+use Rattle.dms_tokens.specs.declared.token.Lexeme.{Lexeme}
+use Rattle.dms_tokens.specs.Cursors.{starts, is_the_sign, place_at}
 use Rattle.dms_script.specs.declared.fault.Fault.{Fault}
 use Rattle.dms_script.specs.declared.fault.Fault.TheVariants.{Bad, Memory}
 use Rattle.std.specs.declared.result.Result.{Result}

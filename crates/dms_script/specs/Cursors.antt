@@ -1,46 +1,40 @@
 -- The tokens in front of a reader.
-use Rattle.std.specs.Prelude.{ℕ, List, [], ◌∷◌, Bool, true, false, codes, Some, None, if◌then◌else◌}
+use Rattle.std.specs.Prelude.{ℕ, List, [], ◌∷◌, false, Some, None, if◌then◌else◌}
 use Rattle.std.specs.declared.option.Option.{Option}
-use Rattle.std.specs.declared.result.Result.TheVariants.{Ok, Err}
-use Rattle.std.specs.Str.{bytes_eq}
+use Rattle.std.specs.declared.result.Result.TheVariants.{Err}
 use Rattle.dms_base.specs.Name.{name_of}
 use Rattle.dms_base.specs.Text.{text_of}
 use Rattle.dms_base.specs.declared.kind.ItemKind.{ItemKind}
 use Rattle.dms_base.specs.declared.kind.Literal.{Literal}
-use Rattle.dms_base.specs.declared.kind.Literal.TheVariants.{Null, Text, Number as Digits, Bool as Truth}
-use Rattle.dasdl_parse.specs.declared.token.Token.{Token}
-use Rattle.dasdl_parse.specs.declared.token.Token.TheVariants.{Word, Number, Decimal, Quoted}
-use Rattle.dasdl_parse.specs.declared.token.Lexeme.{Lexeme}
-use Rattle.dasdl_parse.specs.Cursors.{place_at, is_word, is_the_sign, is_equal, is_end}
+use Rattle.dms_base.specs.declared.kind.Literal.TheVariants.{Text, Number as Digits}
+use Rattle.dms_tokens.specs.declared.token.Token.{Token}
+use Rattle.dms_tokens.specs.declared.token.Token.TheVariants.{Word, Number, Decimal, Quoted}
+use Rattle.dms_tokens.specs.declared.token.Lexeme.{Lexeme}
+use Rattle.dms_tokens.specs.Cursors.{place_at, is_word, is_the_sign, is_equal, is_end, one_at, constant}
 use Rattle.dms_desc.specs.declared.structure.Item.{Item}
+use Rattle.dms_desc.specs.declared.lookups.NamedItem.{NamedItem}
 use Rattle.dms_desc.specs.Shape.{Shape, Described}
 use Rattle.dms_model.specs.declared.verb.Setting.{Setting}
 use Rattle.dms_script.specs.declared.look.Wanted.{Wanted}
-use Rattle.dms_script.specs.declared.look.Target.{Target}
 use Rattle.dms_script.specs.declared.look.Run.{Run}
 use Rattle.dms_script.specs.Looks.{structure_named, target_named, kind_named, run_named, has_kind}
 use Rattle.dms_script.specs.Reads.{Read, Pass, or_bad, ◌>>=◌}
 
--- a token that passes a test
-abbrev pub one_at : (Token → Bool) → List Lexeme → Pass
-one_at test [] = Err 0
-one_at test (l ∷ ls) = if test l.token then Ok ls else Err l.place
-
 -- this word
 unfoldable pub word_at : List ℕ → List Lexeme → Pass
-word_at word ts = one_at (is_word word) ts
+word_at word ts = one_at place_at (is_word word) ts
 
 -- this sign
 unfoldable pub sign_at : ℕ → List Lexeme → Pass
-sign_at sign ts = one_at (is_the_sign sign) ts
+sign_at sign ts = one_at place_at (is_the_sign sign) ts
 
 -- the sign =
 unfoldable pub equal_at : List Lexeme → Pass
-equal_at ts = one_at is_equal ts
+equal_at ts = one_at place_at is_equal ts
 
 -- the line's end
 unfoldable pub end_at : List Lexeme → Pass
-end_at ts = one_at is_end ts
+end_at ts = one_at place_at is_end ts
 
 abbrev pub name_in : Token → Option (List ℕ)
 name_in (Word b) = name_of b
@@ -51,19 +45,13 @@ unfoldable pub name_at : List Lexeme → Read (List ℕ)
 name_at [] = Err 0
 name_at (l ∷ ls) = or_bad (name_in l.token) l.place ls
 
-abbrev pub word_literal : List ℕ → Option Literal
-word_literal b =
-    if bytes_eq b (codes "TRUE") then Some (Truth true)
-    else (if bytes_eq b (codes "FALSE") then Some (Truth false)
-    else (if bytes_eq b (codes "NULL") then Some Null else None))
-
 abbrev pub text_literal : Option (List ℕ) → Option Literal
 text_literal None = None
 text_literal (Some bytes) = Some (Text bytes)
 
 -- the literal that a token is; a number is a decimal, too
 unfoldable pub literal_in : Token → Option Literal
-literal_in (Word b) = word_literal b
+literal_in (Word b) = constant b
 literal_in (Number n) = Some (Digits false n 0)
 literal_in (Decimal minus n places) = Some (Digits minus n places)
 literal_in (Quoted b) = text_literal (text_of b)
@@ -85,7 +73,7 @@ structure_at wanted desc ts = do
   or_bad (structure_named wanted name.0 desc) (place_at ts) name.1
 
 -- the name of an item that a PUT may set behind these
-unfoldable pub target_at : List Item → List Setting → List Lexeme → Read Target
+unfoldable pub target_at : List Item → List Setting → List Lexeme → Read NamedItem
 target_at items done ts = do
   name ← name_at ts
   or_bad (target_named name.0 items done) (place_at ts) name.1

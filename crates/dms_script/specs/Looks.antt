@@ -1,35 +1,31 @@
 -- Names of a script line, looked up in a description. Of two things with one name the first declared counts.
-use Rattle.std.specs.Prelude.{ℕ, zero, suc, ◌+◌, ◌-◌, min, List, [], ◌∷◌, Bool, true, false, not, ◌&&◌, ◌||◌, ◌==◌, nat_lt, take, length, slice_get, Some, None, if◌then◌else◌}
+use Rattle.std.specs.Prelude.{ℕ, zero, suc, ◌+◌, ◌-◌, min, List, [], ◌∷◌, Bool, true, false, not, ◌&&◌, ◌||◌, ◌==◌, nat_lt, take, length, Some, None, if◌then◌else◌}
 use Rattle.std.specs.declared.option.Option.{Option}
 use Rattle.std.specs.List.{list_any}
 use Rattle.std.specs.Str.{bytes_eq}
 use Rattle.dms_base.specs.declared.kind.ItemKind.{ItemKind}
-use Rattle.dms_base.specs.declared.kind.ItemKind.TheVariants.{Alpha, Number as Decimal, Bool as OneBit, Field, Link}
+use Rattle.dms_base.specs.declared.kind.ItemKind.TheVariants.{Alpha, Number as Decimal, Bool as OneBit, Field}
 use Rattle.dms_base.specs.declared.kind.Literal.{Literal}
 use Rattle.dms_base.specs.declared.kind.Literal.TheVariants.{Null, Text, Number as Digits, Bool as Truth}
 use Rattle.dms_desc.specs.declared.structure.Item.{Item}
 use Rattle.dms_desc.specs.declared.structure.Group.{Group}
 use Rattle.dms_desc.specs.declared.structure.KeyPart.{KeyPart}
+use Rattle.dms_desc.specs.declared.lookups.NamedItem.{NamedItem}
 use Rattle.dms_desc.specs.Shape.{Shape, Described}
-use Rattle.dms_model.specs.Members.{structure_of, items_of, over}
+use Rattle.dms_desc.specs.Kinds.{is_data_set, is_restart, is_link, over}
+use Rattle.dms_desc.specs.Lookups.{structure_of, structure_named as first_named, items_of, part_item, item_named, group_named}
 use Rattle.dms_model.specs.declared.verb.Setting.{Setting}
 use Rattle.dms_script.specs.declared.look.Wanted.{Wanted}
 use Rattle.dms_script.specs.declared.look.Wanted.TheVariants.{DataSet, Path, Restart}
-use Rattle.dms_script.specs.declared.look.Target.{Target}
 use Rattle.dms_script.specs.declared.look.Run.{Run}
 
 -- Structures
 
--- the structure with this name
-abbrev pub named : List ℕ → List Shape → Option Shape
-named name [] = None
-named name (s ∷ ss) = if bytes_eq s.name name then Some s else named name ss
-
 -- a data set; a data set, a set or an automatic subset; the restart data set. Each stands in no other data set
 abbrev pub is_wanted : Wanted → Shape → Bool
-is_wanted DataSet s = nat_lt s.kind 3 && s.owner == 0
+is_wanted DataSet s = is_data_set s && s.owner == 0
 is_wanted Path s = nat_lt s.kind 5 && s.owner == 0
-is_wanted Restart s = s.kind == 2 && s.owner == 0
+is_wanted Restart s = is_restart s && s.owner == 0
 
 abbrev pub if_wanted : Wanted → Option Shape → Option Shape
 if_wanted wanted None = None
@@ -37,13 +33,9 @@ if_wanted wanted (Some s) = if is_wanted wanted s then Some s else None
 
 -- the structure with this name, where it is such a one
 unfoldable pub structure_named : Wanted → List ℕ → Described → Option Shape
-structure_named wanted name desc = if_wanted wanted (named name desc.structures)
+structure_named wanted name desc = if_wanted wanted (first_named name desc.structures)
 
 -- Items
-
-abbrev pub is_link : ItemKind → Bool
-is_link (Link to counted) = true
-is_link kind = false
 
 -- a literal has the kind of an item; NULL is of each kind
 abbrev pub has_kind : ItemKind → Literal → Bool
@@ -58,24 +50,19 @@ has_kind kind literal = false
 unfoldable pub counted : List Item → List Item
 counted items = take 60 items
 
--- the item or link with this name; n is the number of the list's first
-abbrev pub item_named : ℕ → List ℕ → List Item → Option Target
-item_named n name [] = None
-item_named n name (i ∷ is) = if bytes_eq i.name name then Some (record { item = n; kind = i.kind }) else item_named (n + 1) name is
-
 -- an item of a data set that may be named behind these settings: no link, and none that was named
-abbrev pub if_settable : List Setting → Option Target → Option Target
+abbrev pub if_settable : List Setting → Option NamedItem → Option NamedItem
 if_settable done None = None
-if_settable done (Some t) = if is_link t.kind || list_any (λ (s : Setting). s.item == t.item) done then None else Some t
+if_settable done (Some t) = if is_link t.kind || list_any (λ (s : Setting). s.item == t.number) done then None else Some t
 
-unfoldable pub target_named : List ℕ → List Item → List Setting → Option Target
-target_named name items done = if_settable done (item_named 1 name (counted items))
+unfoldable pub target_named : List ℕ → List Item → List Setting → Option NamedItem
+target_named name items done = if_settable done (item_named name 1 (counted items))
 
 -- Keys
 
 abbrev pub key_item_of : List KeyPart → List Item → Option Item
 key_item_of [] items = None
-key_item_of (p ∷ ps) items = slice_get items (p.item - 1)
+key_item_of (p ∷ ps) items = part_item items p
 
 -- the first item of a structure's key
 unfoldable pub key_item : Described → Shape → Option Item
@@ -88,19 +75,15 @@ kind_named name (Some i) = if bytes_eq i.name name && not (is_link i.kind) then 
 
 -- What GET shows
 
-abbrev pub group_named : List ℕ → List Group → Option Group
-group_named name [] = None
-group_named name (g ∷ gs) = if bytes_eq g.name name then Some g else group_named name gs
-
 -- an item alone, which is no link; a group's items
-abbrev pub run_of : Option Target → Option Group → Option Run
-run_of (Some t) g = if is_link t.kind then None else Some (record { first = t.item; end = t.item + 1 })
+abbrev pub run_of : Option NamedItem → Option Group → Option Run
+run_of (Some t) g = if is_link t.kind then None else Some (record { first = t.number; end = t.number + 1 })
 run_of None None = None
 run_of None (Some g) = Some (record { first = g.first; end = min (g.first + g.count) 61 })
 
 -- the items that a name stands for in GET
 unfoldable pub run_named : List ℕ → Shape → Option Run
-run_named name s = run_of (item_named 1 name (counted s.items)) (group_named name s.groups)
+run_named name s = run_of (item_named name 1 (counted s.items)) (group_named name s.groups)
 
 -- all items and links of a data set, in text order
 abbrev pub whole_run : Shape → Run

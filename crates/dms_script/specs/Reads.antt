@@ -3,7 +3,7 @@ use Rattle.std.specs.Prelude.{◌≡◌, ℕ, List, Some, None}
 use Rattle.std.specs.declared.option.Option.{Option}
 use Rattle.std.specs.declared.result.Result.{Result}
 use Rattle.std.specs.declared.result.Result.TheVariants.{Ok, Err}
-use Rattle.dasdl_parse.specs.declared.token.Lexeme.{Lexeme}
+use Rattle.dms_tokens.specs.declared.token.Lexeme.{Lexeme}
 use Rattle.dms_script.specs.declared.fault.Fault.{Fault}
 use Rattle.dms_script.specs.declared.fault.Fault.TheVariants.{Bad, Memory}
 

@@ -1,8 +1,8 @@
 -- The verbs of script lines.
 use Rattle.std.specs.Prelude.{ℕ, zero, suc, List, [], ◌∷◌, ◌++◌, Bool, true, false, ◌||◌, codes, drop, length, if◌then◌else◌}
 use Rattle.std.specs.declared.result.Result.TheVariants.{Ok, Err}
-use Rattle.dasdl_parse.specs.declared.token.Lexeme.{Lexeme}
-use Rattle.dasdl_parse.specs.Cursors.{place_at, is_word, is_the_sign, is_end, starts}
+use Rattle.dms_tokens.specs.declared.token.Lexeme.{Lexeme}
+use Rattle.dms_tokens.specs.Cursors.{place_at, is_word, is_the_sign, is_end, starts}
 use Rattle.dms_desc.specs.declared.structure.Item.{Item}
 use Rattle.dms_desc.specs.Shape.{Shape, Described}
 use Rattle.dms_model.specs.declared.verb.Setting.{Setting}
@@ -97,7 +97,7 @@ setting_at items done ts = do
   target ← target_at items done ts
   t1 ← equal_at target.1
   literal ← literal_at target.0.kind t1
-  Ok (done ++ record { item = target.0.item; literal = literal.0 } ∷ [], literal.1)
+  Ok (done ++ record { item = target.0.number; literal = literal.0 } ∷ [], literal.1)
 
 -- PUT D item = literal {, item = literal}
 unfoldable pub put_at : Described → List Lexeme → Read Verb

@@ -1,18 +1,17 @@
 ghost use Rattle.std.specs.Prelude.{◌≡◌, ◌≤◌, ◌<◌, ◌+◌, length, IfOk, List, ℕ};
 ghost use Rattle.std.specs.declared.result.Result.{Result};
 ghost use Rattle.dms_model.specs.declared.verb.Verb.{Verb};
-ghost use Rattle.dasdl_parse.specs.Cursors.{place_at, starts};
-ghost use Rattle.dasdl_parse.specs.declared.token.Lexeme.{Lexeme};
 ghost use Rattle.dms_desc.specs.Shape.{described};
 ghost use Rattle.dms_script.specs.Reads.{Gives};
-ghost use Rattle.dms_script.specs.Lines.{is_line_byte, sound_len, is_unreadable, colon_at, program_at, whole_verb_at, spoken_at, line_from, sound_line, bad_by, line_of};
+ghost use Rattle.dms_script.specs.Lines.{is_line_byte, sound_len, colon_at, program_at, whole_verb_at, spoken_at, line_from, sound_line, bad_by, line_of};
 
-use crate::cursor::Cursor;
+use crate::expect::read_name;
 use crate::fault::Fault;
-use dasdl_parse::{Lexeme, Token, is_end, place_at, tokens, tokens_from};
+use crate::verbs::{close_line, verb};
 use dms_base::{Memory, Name};
 use dms_desc::Description;
 use dms_model::Verb;
+use dms_tokens::{Cursor, Lexeme, tokens, tokens_from};
 use std::alloc::Global;
 
 /// The bytes that a script line may have.
@@ -51,26 +50,14 @@ fn sound_len(line: &[u8]) -> usize
     sound
 }
 
-fn is_unreadable(tokens: &[Lexeme]) -> bool
-    ensures { result ≡ starts is_unreadable tokens.now }
-{
-    match tokens {
-        [] => false,
-        [first, ..] => match &first.token {
-            Token::Bad => true,
-            _ => false,
-        },
-    }
-}
-
 /// The place of the colon that the program's name ends with.
-fn colon(line: &[u8], tokens: &[Lexeme]) -> Result<usize, Fault>
-    ensures gives { Gives result (colon_at line.now tokens.now) }
+fn colon(line: &[u8], cursor: &Cursor<'_>) -> Result<usize, Fault>
+    ensures gives { Gives result (colon_at line.now cursor.now) }
     ensures within { IfOk result (λ n. n ≤ length line.now) }
 {
-    let place = place_at(tokens);
+    let place = cursor.place();
     let i = place.saturating_sub(1) as usize;
-    if i < line.len() && is_unreadable(tokens) && line[i] == b':' {
+    if i < line.len() && cursor.starts_bad() && line[i] == b':' {
         return Ok(place as usize);
     }
     Err(Fault::Bad(place))
@@ -78,15 +65,12 @@ fn colon(line: &[u8], tokens: &[Lexeme]) -> Result<usize, Fault>
 
 /// The program's name, and how much of the line it and its colon take.
 #[tactic(auto, unfolding(crate::specs::Lines::program_at))]
-fn program(alloc: Global, line: &[u8]) -> Result<(Name, usize), Fault>
-    requires { length line.now ≤ 2000 }
-    ensures gives { Gives result (program_at line.now) }
+fn program(line: &[u8], cursor: &mut Cursor<'_>) -> Result<(Name, usize), Fault>
+    ensures gives { Gives result (program_at line.now cursor.old) }
     ensures within { IfOk result (λ r. r.1 ≤ length line.now) }
 {
-    let lexemes = tokens(alloc, line)?;
-    let mut cursor = Cursor::new(alloc, lexemes.as_slice());
-    let name = cursor.name()?;
-    let colon = colon(line, cursor.rest())?;
+    let name = read_name(cursor)?;
+    let colon = colon(line, cursor)?;
     Ok((name, colon))
 }
 
@@ -96,18 +80,24 @@ fn whole_verb(alloc: Global, desc: &Description, tokens: &[Lexeme]) -> Result<Ve
     ensures { Gives result (whole_verb_at (described desc.now) tokens.now) }
 {
     let mut cursor = Cursor::new(alloc, tokens);
-    let verb = cursor.verb(desc)?;
-    cursor.close_line()?;
+    let verb = verb(&mut cursor, desc)?;
+    close_line(&mut cursor)?;
     Ok(verb)
 }
 
-/// program : verb
+/// program : verb, where the cursor stands at the line's first token. No token begins at the colon, so the verb's
+/// tokens are cut behind it.
 #[tactic(auto, unfolding(crate::specs::Lines::spoken_at))]
-fn spoken(alloc: Global, desc: &Description, line: &[u8]) -> Result<(Name, Verb), Fault>
+fn spoken(
+    alloc: Global,
+    desc: &Description,
+    line: &[u8],
+    cursor: &mut Cursor<'_>,
+) -> Result<(Name, Verb), Fault>
     requires { length line.now ≤ 2000 }
-    ensures { Gives result (spoken_at (described desc.now) line.now) }
+    ensures { Gives result (spoken_at (described desc.now) line.now cursor.old) }
 {
-    let (name, colon) = program(alloc, line)?;
+    let (name, colon) = program(line, cursor)?;
     let lexemes = tokens_from(alloc, colon as u32 + 1, &line[colon..])?;
     let verb = whole_verb(alloc, desc, lexemes.as_slice())?;
     Ok((name, verb))
@@ -130,10 +120,11 @@ fn sound_line(alloc: Global, desc: &Description, line: &[u8]) -> Result<Line, Me
     ensures { IfOk result (λ l. l ≡ sound_line (described desc.now) line.now) }
 {
     let lexemes = tokens(alloc, line)?;
-    if is_end(lexemes.as_slice()) {
+    let mut cursor = Cursor::new(alloc, lexemes.as_slice());
+    if cursor.starts_end() {
         return Ok(Line::Empty);
     }
-    line_from(spoken(alloc, desc, line))
+    line_from(spoken(alloc, desc, line, &mut cursor))
 }
 
 /// Bad at its first bad place, or else at this one.

@@ -2,13 +2,13 @@ ghost use Rattle.std.specs.Prelude.{◌≡◌, ◌≤◌, ◌+◌, map, option_m
 ghost use Rattle.std.specs.Option.{option_copied};
 ghost use Rattle.std.specs.List.{list_any};
 ghost use Rattle.dms_desc.specs.Shape.{shape_of, described};
-ghost use Rattle.dms_model.specs.Members.{structure_of, items_of, over};
 ghost use Rattle.dms_model.specs.declared.verb.Setting.{Setting};
-ghost use Rattle.dms_script.specs.declared.look.Target.{Target};
-ghost use Rattle.dms_script.specs.Looks.{named, is_wanted, structure_named, is_link, has_kind, counted, item_named, target_named, key_item_of, key_item, kind_named, group_named, run_of, run_named, whole_run, numbers};
+ghost use Rattle.dms_script.specs.Looks.{is_wanted, structure_named, has_kind, counted, target_named, key_item_of, key_item, kind_named, run_of, run_named, whole_run, numbers};
 
 use dms_base::{ItemKind, Literal, Memory, Name};
-use dms_desc::{Description, Group, Item, KeyPart, Structure};
+use dms_desc::{
+    Description, Group, Item, KeyPart, NamedItem, Structure, group_named, is_link, item_named,
+};
 use dms_model::{ItemNumbers, Setting};
 
 /// What a name in a script line has to be the name of.
@@ -21,13 +21,6 @@ pub enum Wanted {
     Restart,
 }
 
-/// An item or a link: its number, counted from 1, and its kind.
-#[derive(Clone, Copy, Debug, PartialEq, Eq)]
-pub struct Target {
-    pub item: u8,
-    pub kind: ItemKind,
-}
-
 /// The items from `first` on up to the one before `end`.
 #[derive(Clone, Copy, Debug, PartialEq, Eq)]
 pub struct Run {
@@ -35,24 +28,13 @@ pub struct Run {
     pub end: u8,
 }
 
-fn named<'a>(structures: &'a [Structure], name: &Name) -> Option<&'a Structure>
-    ensures { option_map shape_of (option_copied result) ≡ named name.now (map shape_of structures.now) }
-{
-    for s in structures {
-        if s.name.is(name) {
-            return Some(s);
-        }
-    }
-    None
-}
-
 fn is_wanted(wanted: Wanted, s: &Structure) -> bool
     ensures { result ≡ is_wanted wanted (shape_of s.now) }
 {
     match wanted {
-        Wanted::DataSet => s.kind < 3 && s.owner == 0,
+        Wanted::DataSet => s.is_data_set() && s.owner == 0,
         Wanted::Path => s.kind < 5 && s.owner == 0,
-        Wanted::Restart => s.kind == 2 && s.owner == 0,
+        Wanted::Restart => s.is_restart() && s.owner == 0,
     }
 }
 
@@ -65,7 +47,7 @@ pub fn structure_named<'a>(
 ) -> Option<&'a Structure>
     ensures { option_map shape_of (option_copied result) ≡ structure_named wanted name.now (described desc.now) }
 {
-    match named(desc.structures.as_slice(), name) {
+    match desc.structure_named(name) {
         None => None,
         Some(s) => {
             if is_wanted(wanted, s) {
@@ -73,15 +55,6 @@ pub fn structure_named<'a>(
             }
             None
         }
-    }
-}
-
-fn is_link(kind: &ItemKind) -> bool
-    ensures { result ≡ is_link kind.now }
-{
-    match kind {
-        ItemKind::Link(_, _) => true,
-        _ => false,
     }
 }
 
@@ -119,25 +92,6 @@ fn counted(items: &[Item]) -> &[Item]
     front(items, 60)
 }
 
-/// The item or link with this name among at most 60.
-fn item_named(name: &Name, items: &[Item]) -> Option<Target>
-    requires { length items.now ≤ 60 }
-    ensures value { result ≡ item_named 1 name.now items.now }
-    ensures few { IfSome result (λ t. t.item ≤ 60) }
-{
-    let mut number = 1u8;
-    for item in items {
-        if item.name.is(name) {
-            return Some(Target {
-                item: number,
-                kind: item.kind,
-            });
-        }
-        number += 1;
-    }
-    None
-}
-
 fn was_set(done: &[Setting], item: u8) -> bool
     ensures { result ≡ list_any (λ (s : Setting). s.item == item) done.now }
 {
@@ -146,45 +100,17 @@ fn was_set(done: &[Setting], item: u8) -> bool
 
 /// The item that a PUT may set behind these.
 #[tactic(auto, unfolding(crate::specs::Looks::target_named))]
-pub fn target_named(name: &Name, items: &[Item], done: &[Setting]) -> Option<Target>
+pub fn target_named(name: &Name, items: &[Item], done: &[Setting]) -> Option<NamedItem>
     ensures { result ≡ target_named name.now items.now done.now }
 {
-    match item_named(name, counted(items)) {
+    match item_named(counted(items), name) {
         None => None,
         Some(target) => {
-            if is_link(&target.kind) || was_set(done, target.item) {
+            if is_link(&target.kind) || was_set(done, target.number) {
                 return None;
             }
             Some(target)
         }
-    }
-}
-
-/// A structure by its number.
-fn structure_of(desc: &Description, n: u16) -> Option<&Structure>
-    ensures { option_map shape_of (option_copied result) ≡ structure_of (described desc.now) n }
-{
-    if n == 0 {
-        return None;
-    }
-    desc.structures.as_slice().get(n as usize - 1)
-}
-
-fn over(s: &Structure) -> u16
-    ensures { result ≡ over (shape_of s.now) }
-{
-    if s.kind < 3 {
-        return s.number;
-    }
-    s.set
-}
-
-fn items_of(s: Option<&Structure>) -> &[Item]
-    ensures { result.now ≡ items_of (option_map shape_of (option_copied s.entry)) }
-{
-    match s {
-        None => &[],
-        Some(s) => s.items.as_slice(),
     }
 }
 
@@ -193,7 +119,7 @@ fn key_item_of<'a>(parts: &[KeyPart], items: &'a [Item]) -> Option<&'a Item>
 {
     match parts {
         [] => None,
-        [first, ..] => items.get(usize::from(first.item).saturating_sub(1)),
+        [first, ..] => first.item(items),
     }
 }
 
@@ -202,8 +128,7 @@ fn key_item_of<'a>(parts: &[KeyPart], items: &'a [Item]) -> Option<&'a Item>
 pub fn key_item<'a>(desc: &'a Description, s: &Structure) -> Option<&'a Item>
     ensures { option_copied result ≡ key_item (described desc.now) (shape_of s.now) }
 {
-    let of = structure_of(desc, over(s));
-    key_item_of(s.parts.as_slice(), items_of(of))
+    key_item_of(s.parts.as_slice(), desc.items_of(s.over()))
 }
 
 /// The kind of this item where it has this name and is no link.
@@ -213,7 +138,7 @@ pub fn kind_named(name: &Name, item: Option<&Item>) -> Option<ItemKind>
     match item {
         None => None,
         Some(item) => {
-            if item.name.is(name) && !is_link(&item.kind) {
+            if item.name.is(name) && !item.is_link() {
                 return Some(item.kind);
             }
             None
@@ -221,19 +146,8 @@ pub fn kind_named(name: &Name, item: Option<&Item>) -> Option<ItemKind>
     }
 }
 
-fn group_named(name: &Name, groups: &[Group]) -> Option<Group>
-    ensures { result ≡ group_named name.now groups.now }
-{
-    for group in groups {
-        if group.name.is(name) {
-            return Some(*group);
-        }
-    }
-    None
-}
-
-fn run_of(target: Option<Target>, group: Option<Group>) -> Option<Run>
-    requires { IfSome target (λ t. t.item ≤ 60) }
+fn run_of(target: Option<NamedItem>, group: Option<Group>) -> Option<Run>
+    requires { IfSome target (λ t. t.number ≤ 60) }
     ensures { result ≡ run_of target group }
 {
     match (target, group) {
@@ -242,8 +156,8 @@ fn run_of(target: Option<Target>, group: Option<Group>) -> Option<Run>
                 return None;
             }
             Some(Run {
-                first: target.item,
-                end: target.item + 1,
+                first: target.number,
+                end: target.number + 1,
             })
         }
         (None, None) => None,
@@ -268,8 +182,8 @@ fn group_end(group: &Group) -> u8
 pub fn run_named(name: &Name, s: &Structure) -> Option<Run>
     ensures { result ≡ run_named name.now (shape_of s.now) }
 {
-    let target = item_named(name, counted(s.items.as_slice()));
-    run_of(target, group_named(name, s.groups.as_slice()))
+    let target = item_named(counted(s.items.as_slice()), name);
+    run_of(target, group_named(s.groups.as_slice(), name))
 }
 
 /// All items and links of a data set, in text order.

@@ -177,7 +177,7 @@ torn_gap at bytes other file long =
       above = λ i within high. t.above i within (omega (arith, long, high, within));
     }
 
-marked_torn : (fill : Fill) (seed at : ℕ) (bytes file : List ℕ) → Torn at (length bytes) file (marked fill seed at bytes file)
+pub marked_torn : (fill : Fill) (seed at : ℕ) (bytes file : List ℕ) → Torn at (length bytes) file (marked fill seed at bytes file)
 marked_torn Old seed at bytes file = torn_refl at (length bytes) file
 marked_torn New seed at bytes file = torn_overlaid at bytes file
 marked_torn Sevens seed at bytes file = torn_gap at bytes _ file (length-replicate (count_of at bytes file) 7)

@@ -58,8 +58,8 @@ pub fn replay(alloc: Global, events: &[Event]) -> Result<Image, AllocError>
     Ok(image)
 }
 
-/// What a stop makes of a write.
-fn strike_write(
+/// What a stop makes of a write to a file. The seed is that of the next draw.
+pub fn strike_write(
     image: &mut Image,
     file: u32,
     at: u64,

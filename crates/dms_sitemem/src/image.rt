@@ -159,7 +159,7 @@ impl Image {
     }
 
     /// Does what an event does. A call that failed changes nothing that is read.
-    pub fn apply(&mut self, event: &Event) -> Result<(), AllocError>
+    pub(crate) fn apply(&mut self, event: &Event) -> Result<(), AllocError>
         ensures files { OnOk result (files_of self.new.files ≡ files_after event.now (files_of self.old.files)) }
         ensures said { OnOk result (self.new.said.items ≡ said_after event.now self.old.said.items) }
         ensures same { OnErr result (files_of self.new.files ≡ files_of self.old.files) }

@@ -14,5 +14,8 @@ mod tally;
 #[cfg(test)]
 mod tests;
 
+pub use crash::strike_write;
+pub use image::Image;
 pub use mem_site::MemSite;
 pub use mem_source::MemSource;
+pub use pick::{Fill, fill_of};

@@ -1,9 +1,9 @@
 -- The slots of a file after one of them was written.
-use Rattle.std.proofs.Common.{◌≡◌, ◌≢◌, ◌+◌, ◌-◌, ◌*◌, ◌/◌, ◌%◌, ◌<◌, ◌≤◌, ℕ, zero, suc, List, [], ◌∷◌, Bool, true, false, inl, inr, refl, sym, ap, ◌∙◌, subst, length, take, drop, replicate, set, slice_get, arith, length-take, length-drop}
-use Rattle.std.specs.Prelude.{◌&&◌}
+use Rattle.std.proofs.Common.{◌≡◌, ◌≢◌, ◌+◌, ◌-◌, ◌*◌, ◌/◌, ◌%◌, ◌<◌, ◌≤◌, ℕ, zero, suc, List, [], ◌∷◌, Bool, true, false, inl, inr, refl, sym, ap, ◌∙◌, subst, length, take, replicate, set, slice_get, arith}
+use Rattle.std.specs.Prelude.{◌==◌}
 use Rattle.std.specs.declared.option.Option.TheVariants.{Some}
 use Rattle.std.specs.List.{list_all}
-use Rattle.std.proofs.lemmas.Bool.{cases_eq, cases_lt}
+use Rattle.std.proofs.lemmas.Bool.{cases_eq, cases_lt, and_from, true≢false}
 use Rattle.std.proofs.lemmas.List.{length-replicate, take-replicate, drop-replicate}
 use Rattle.std.proofs.lemmas.Nat.{div-add-mod'}
 use Rattle.std.proofs.Math.Nat as nat
@@ -18,8 +18,8 @@ use Rattle.dms_layout.specs.Slots.{slot_width, slot_bytes, slot_of, is_zero, Slo
 use Rattle.dms_layout.specs.SlotLaws.{slot_again, slot_long}
 use Rattle.dms_layout.specs.ReadLaws.{used_fits, free_is, free_again}
 use Rattle.dms_slots.specs.SlotBlocks.{file_of, per_block, block_of, place_of, is_slot, are_slots, is_block, cut, slots_by, slots_in, or_free, slot_at, block_at, slot_put, MayPut}
-use Rattle.dms_slots.specs.SlotBlockLaws.{both_hold, bad_block, place_bad, slot_there, slot_past, slots_length, some_at, none_at}
-use Rattle.dms_slots.specs.Written.{block_written}
+use Rattle.dms_slots.specs.SlotBlockLaws.{bad_block, place_bad, slot_there, slot_past, slots_length, some_at, none_at}
+use Rattle.dms_slots.specs.Written.{room, block_written}
 
 -- ---- lists
 
@@ -60,10 +60,6 @@ all_zeros : (n : ℕ) → list_all is_zero (replicate n 0) ≡ true
 all_zeros zero = refl
 all_zeros (suc n) = all_zeros n
 
-both_true : (a b : Bool) → a ≡ true → b ≡ true → (a && b) ≡ true
-both_true true b p q = q
-both_true false b p q = absurd (cc)
-
 zeros_first : (s : Shape) (n : ℕ) → slot_width s.items ≤ n → slot_of s (take (slot_width s.items) (replicate n 0)) ≡ Free
 zeros_first s n low = ap (slot_of s) (take-replicate (slot_width s.items) n 0 low) ∙ free_again s
 
@@ -73,7 +69,7 @@ zeros_good s (suc k) n low =
     let w = slot_width s.items in
     let first : w ≤ n = omega (arith, low, nat.suc-mul k w) in
     let rest : k * w ≤ n - w = omega (arith, low, nat.suc-mul k w) in
-    both_true _ _ (ap is_slot (zeros_first s n first)) (ap (are_slots s k) (drop-replicate w n 0) ∙ zeros_good s k (n - w) rest)
+    and_from _ _ (ap is_slot (zeros_first s n first)) (ap (are_slots s k) (drop-replicate w n 0) ∙ zeros_good s k (n - w) rest)
 
 zeros_slots : (s : Shape) (k n : ℕ) → k * slot_width s.items ≤ n → cut s k (replicate n 0) ≡ replicate k Free
 zeros_slots s zero n low = refl
@@ -83,12 +79,9 @@ zeros_slots s (suc k) n low =
     let rest : k * w ≤ n - w = omega (arith, low, nat.suc-mul k w) in
     (λ i. zeros_first s n first i ∷ (ap (cut s k) (drop-replicate w n 0) ∙ zeros_slots s k (n - w) rest) i)
 
-room : (s : Shape) → per_block s.items * slot_width s.items ≤ 1024
-room s = omega (arith, div-add-mod' 1024 (slot_width s.items))
-
 zeros_block : (s : Shape) → is_block s (replicate 1024 0) ≡ true
 unfolding is_block
-zeros_block s = zeros_good s (per_block s.items) 1024 (room s)
+zeros_block s = and_from _ _ (ap (λ n. n == 1024) (length-replicate {A = ℕ} 1024 0)) (zeros_good s (per_block s.items) 1024 (room s))
 
 zeros_in : (s : Shape) (p : ℕ) → or_free (slice_get (slots_in s (replicate 1024 0)) p) ≡ Free
 unfolding slots_in
@@ -109,19 +102,6 @@ slot_size s x (Used slot) is good =
     let both = used_fits s x slot is in
     ap length both.1 ∙ slot_long s.items slot both.0.values
 slot_size s x Bad is good = absurd (cc (good))
-
-slots_size : (s : Shape) (k : ℕ) (bytes : List ℕ) → are_slots s k bytes ≡ true → k * slot_width s.items ≤ length bytes
-slots_size s zero bytes good = omega arith
-slots_size s (suc k) bytes good =
-    let w = slot_width s.items in
-    let both = both_hold (is_slot (slot_of s (take w bytes))) (are_slots s k (drop w bytes)) good in
-    let first = slot_size s (take w bytes) _ refl both.0 in
-    let rest = slots_size s k (drop w bytes) both.1 in
-    omega (arith, first, rest, nat.suc-mul k w, length-take w bytes, length-drop w bytes)
-
-block_size : (s : Shape) (block : List ℕ) → is_block s block ≡ true → per_block s.items * slot_width s.items ≤ length block
-unfolding is_block
-block_size s block good = slots_size s (per_block s.items) block good
 
 -- ---- a file
 
@@ -147,12 +127,9 @@ pub good_block : (s : Shape) (bs : List (List ℕ)) (number : ℕ) → 0 < per_b
 good_block s bs number some fine =
     good_by _ s (block_at bs (block_of s.items number)) (place_of s.items number) refl (nat.mod-lt (number - 1) some) (λ e. fine (slot_is s bs number some ∙ e))
 
-true_not_false : true ≡ false → ⊥
-true_not_false e = cc e
-
 -- and no slot of a block is bad
 pub slot_good : (s : Shape) (bs : List (List ℕ)) (number : ℕ) → 0 < per_block s.items → is_block s (block_at bs (block_of s.items number)) ≡ true → slot_at s bs number ≢ Bad
-slot_good s bs number some good = λ e. true_not_false (sym good ∙ bad_block s (block_at bs (block_of s.items number)) (place_of s.items number) (nat.mod-lt (number - 1) some) (sym (slot_is s bs number some) ∙ e))
+slot_good s bs number some good = λ e. true≢false (sym good ∙ bad_block s (block_at bs (block_of s.items number)) (place_of s.items number) (nat.mod-lt (number - 1) some) (sym (slot_is s bs number some) ∙ e))
 
 same_number : (items_per a b : ℕ) → 0 < items_per → 1 ≤ a → 1 ≤ b → (a - 1) / items_per ≡ (b - 1) / items_per → (a - 1) % items_per ≡ (b - 1) % items_per → a ≡ b
 same_number per a b some low_a low_b blocks places =
@@ -179,7 +156,7 @@ module _ (s : Shape) (c : Content) (number : ℕ) (bytes : List ℕ) (may : MayP
   changed_in =
       let good = good_block s (c (file_of s.number)) number some may.sound in
       let is = slot_fine (slot_of s bytes) fine in
-      (block_written s (place_of s.items number) bytes old (nat.mod-lt (number - 1) some) (block_size s old good) (slot_size s bytes _ refl is) is good).1
+      (block_written s (place_of s.items number) bytes old (nat.mod-lt (number - 1) some) (slot_size s bytes _ refl is) is good).1
 
   blocks_are : slot_put s number bytes c (file_of s.number) ≡ block_laid (block_of s.items number) new (c (file_of s.number))
   blocks_are = in_file c (file_of s.number) (block_of s.items number) new

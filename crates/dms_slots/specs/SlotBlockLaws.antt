@@ -1,6 +1,6 @@
 -- The slots of a file by its blocks.
-use Rattle.std.proofs.Common.{◌≡◌, ◌+◌, ◌-◌, ◌*◌, ◌/◌, ◌%◌, ◌<◌, ◌≤◌, ℕ, zero, suc, List, [], ◌∷◌, ◌++◌, flat_map, Bool, true, false, refl, sym, ap, ◌∙◌, length, take, drop, replicate, get_or, slice_get, arith, add-one}
-use Rattle.std.specs.Prelude.{◌&&◌, IfSome}
+use Rattle.std.proofs.Common.{◌≡◌, ◌+◌, ◌-◌, ◌*◌, ◌/◌, ◌%◌, ◌<◌, ◌≤◌, ℕ, zero, suc, List, [], ◌∷◌, ◌++◌, flat_map, Bool, true, false, cond, refl, sym, ap, ◌∙◌, length, take, drop, replicate, get_or, slice_get, arith, add-one}
+use Rattle.std.specs.Prelude.{◌&&◌, ◌==◌, IfSome}
 use Rattle.std.specs.declared.option.Option.{Option}
 use Rattle.std.specs.declared.option.Option.TheVariants.{None, Some}
 use Rattle.std.proofs.lemmas.List.{length-replicate, drop_all, take-replicate}
@@ -11,8 +11,10 @@ use Rattle.dms_desc.specs.declared.structure.Item.{Item}
 use Rattle.dms_desc.specs.Shape.{Shape}
 use Rattle.dms_layout.specs.declared.slot.SlotRead.{SlotRead}
 use Rattle.dms_layout.specs.declared.slot.SlotRead.TheVariants.{Free, Used, Bad}
-use Rattle.dms_layout.specs.Slots.{slot_width, slot_of}
-use Rattle.dms_slots.specs.SlotBlocks.{per_block, block_of, is_slot, is_used, are_slots, is_block, cut, slots_by, slots_in, slots_of, or_free, slot_at, next_free, used_first, block_or_zeros, block_at}
+use Rattle.dms_layout.specs.Slots.{slot_width, slot_of, is_zero}
+use Rattle.std.specs.List.{list_all}
+use Rattle.std.proofs.lemmas.Bool.{and_parts}
+use Rattle.dms_slots.specs.SlotBlocks.{per_block, block_of, is_slot, is_free, are_slots, is_block, cut, slots_by, slots_in, slots_of, or_free, slot_at, before_free, block_or_zeros, block_at}
 
 -- ---- lists
 
@@ -85,19 +87,15 @@ pub place_bad : (s : Shape) (block : List ℕ) (p : ℕ) → p < per_block s.ite
 unfolding slots_in
 place_bad s block p low bad = sym (ap (λ b. or_free (slice_get (slots_by b s block) p)) bad ∙ ap or_free (bad_get (per_block s.items) p low))
 
-pub both_hold : (a b : Bool) → (a && b) ≡ true → (a ≡ true) × (b ≡ true)
-both_hold true b h = (refl, h)
-both_hold false b h = absurd (cc)
-
 no_bad : (s : Shape) (k p : ℕ) (bytes : List ℕ) → p < k → are_slots s k bytes ≡ true → is_slot (or_free (slice_get (cut s k bytes) p)) ≡ true
 no_bad s zero p bytes low good = absurd (omega arith)
-no_bad s (suc k) zero bytes low good = (both_hold (is_slot (slot_of s (take (slot_width s.items) bytes))) (are_slots s k (drop (slot_width s.items) bytes)) good).0
-no_bad s (suc k) (suc p) bytes low good = no_bad s k p (drop (slot_width s.items) bytes) (omega arith) (both_hold (is_slot (slot_of s (take (slot_width s.items) bytes))) (are_slots s k (drop (slot_width s.items) bytes)) good).1
+no_bad s (suc k) zero bytes low good = (and_parts (is_slot (slot_of s (take (slot_width s.items) bytes))) (are_slots s k (drop (slot_width s.items) bytes)) good).0
+no_bad s (suc k) (suc p) bytes low good = no_bad s k p (drop (slot_width s.items) bytes) (omega arith) (and_parts (is_slot (slot_of s (take (slot_width s.items) bytes))) (are_slots s k (drop (slot_width s.items) bytes)) good).1
 
 bad_by : (b : Bool) (s : Shape) (block : List ℕ) (p : ℕ) → is_block s block ≡ b → p < per_block s.items → or_free (slice_get (slots_by b s block) p) ≡ Bad → b ≡ false
 unfolding is_block
 bad_by true s block p e low h =
-    let good = no_bad s (per_block s.items) p block low e in
+    let good = no_bad s (per_block s.items) p block low (and_parts (length block == 1024) (are_slots s (per_block s.items) block) e).1 in
     let bad : is_slot (or_free (slice_get (cut s (per_block s.items) block) p)) ≡ false = ap is_slot h in
     absurd (cc (good, bad))
 bad_by false s block p e low h = refl
@@ -111,6 +109,22 @@ bad_block s block p low h = bad_by (is_block s block) s block p refl low h
 
 left_more : (i n : ℕ) → i < n → n - i ≡ suc (n - (i + 1))
 left_more i n low = omega arith
+
+pub walk_ends : (s : Shape) (i n k : ℕ) (rest : List ℕ) (b : Bool) → k ≡ n → k ≤ i → are_slots s (n - i) rest ≡ b → list_all is_zero rest ≡ b
+walk_ends s i n k rest b e past so_far = ap (λ j. are_slots s j rest) (let h : 0 ≡ n - i = omega (arith, e) in h) ∙ so_far
+
+both_false : (a : Bool) → (a && false) ≡ false
+both_false true = refl
+both_false false = refl
+
+-- bytes whose slots aren't sound are no block
+pub no_block : (s : Shape) (block : List ℕ) → false ≡ are_slots s (per_block s.items) block → false ≡ is_block s block
+unfolding is_block
+no_block s block bad = sym (both_false (length block == 1024)) ∙ ap (λ b. (length block == 1024) && b) bad
+
+pub is_whole : (s : Shape) (block : List ℕ) (b : Bool) → length block ≡ 1024 → b ≡ are_slots s (per_block s.items) block → b ≡ is_block s block
+unfolding is_block
+is_whole s block b whole good = good ∙ sym (ap (λ n. (n == 1024) && are_slots s (per_block s.items) block) whole)
 
 pub walk_on : (s : Shape) (i n w : ℕ) (rest slot more : List ℕ) (r : SlotRead) (b : Bool) → i < n → w ≡ slot_width s.items → slot ≡ take w rest → more ≡ drop w rest
     → r ≡ slot_of s slot → is_slot r ≡ true → are_slots s (n - i) rest ≡ b → are_slots s (n - (i + 1)) more ≡ b
@@ -127,33 +141,23 @@ walk_stops s i n w rest slot r b low width here is bad so_far =
     sym (ap (λ a. a && are_slots s (n - (i + 1)) (drop (slot_width s.items) rest)) here')
     ∙ ap (λ k. are_slots s k rest) (sym (left_more i n low)) ∙ so_far
 
-used_next : (r : SlotRead) (n : ℕ) → is_used r ≡ true → next_free r n ≡ suc n
-used_next Free n h = absurd (cc)
-used_next (Used slot) n h = refl
-used_next Bad n h = absurd (cc)
-
-not_used_next : (r : SlotRead) (n : ℕ) → is_used r ≡ false → next_free r n ≡ 0
-not_used_next Free n h = refl
-not_used_next (Used slot) n h = absurd (cc)
-not_used_next Bad n h = refl
-
 walk_same : (s : Shape) (i n w : ℕ) (rest slot : List ℕ) (r : SlotRead) → i < n → w ≡ slot_width s.items → slot ≡ take w rest → r ≡ slot_of s slot
-    → used_first (cut s (n - i) rest) ≡ next_free r (used_first (cut s (n - (i + 1)) (drop (slot_width s.items) rest)))
+    → before_free (cut s (n - i) rest) ≡ cond (is_free r) 0 (suc (before_free (cut s (n - (i + 1)) (drop (slot_width s.items) rest))))
 walk_same s i n w rest slot r low width here is =
-    ap (λ k. used_first (cut s k rest)) (left_more i n low)
-    ∙ ap (λ x. next_free x (used_first (cut s (n - (i + 1)) (drop (slot_width s.items) rest)))) (sym (is ∙ ap (slot_of s) (here ∙ ap (λ k. take k rest) width)))
+    ap (λ k. before_free (cut s k rest)) (left_more i n low)
+    ∙ ap (λ x. cond (is_free x) 0 (suc (before_free (cut s (n - (i + 1)) (drop (slot_width s.items) rest))))) (sym (is ∙ ap (slot_of s) (here ∙ ap (λ k. take k rest) width)))
 
 pub count_on : (s : Shape) (i n w first : ℕ) (rest slot more : List ℕ) (r : SlotRead) → i < n → w ≡ slot_width s.items → slot ≡ take w rest → more ≡ drop w rest
-    → r ≡ slot_of s slot → is_used r ≡ true → first ≡ i + used_first (cut s (n - i) rest) → first ≡ (i + 1) + used_first (cut s (n - (i + 1)) more)
+    → r ≡ slot_of s slot → is_free r ≡ false → first ≡ i + before_free (cut s (n - i) rest) → first ≡ (i + 1) + before_free (cut s (n - (i + 1)) more)
 count_on s i n w first rest slot more r low width here behind is used so_far =
-    let step = walk_same s i n w rest slot r low width here is ∙ used_next r (used_first (cut s (n - (i + 1)) (drop (slot_width s.items) rest))) used in
-    let more' : used_first (cut s (n - (i + 1)) more) ≡ used_first (cut s (n - (i + 1)) (drop (slot_width s.items) rest)) = ap (λ l. used_first (cut s (n - (i + 1)) l)) (behind ∙ ap (λ k. drop k rest) width) in
+    let step = walk_same s i n w rest slot r low width here is ∙ ap (λ b. cond b 0 (suc (before_free (cut s (n - (i + 1)) (drop (slot_width s.items) rest))))) used in
+    let more' : before_free (cut s (n - (i + 1)) more) ≡ before_free (cut s (n - (i + 1)) (drop (slot_width s.items) rest)) = ap (λ l. before_free (cut s (n - (i + 1)) l)) (behind ∙ ap (λ k. drop k rest) width) in
     omega (arith, so_far, step, more')
 
 pub count_stops : (s : Shape) (i n w first : ℕ) (rest slot : List ℕ) (r : SlotRead) → i < n → w ≡ slot_width s.items → slot ≡ take w rest
-    → r ≡ slot_of s slot → is_used r ≡ false → first ≡ i + used_first (cut s (n - i) rest) → i ≡ first
+    → r ≡ slot_of s slot → is_free r ≡ true → first ≡ i + before_free (cut s (n - i) rest) → i ≡ first
 count_stops s i n w first rest slot r low width here is free so_far =
-    let step = walk_same s i n w rest slot r low width here is ∙ not_used_next r (used_first (cut s (n - (i + 1)) (drop (slot_width s.items) rest))) free in
+    let step = walk_same s i n w rest slot r low width here is ∙ ap (λ b. cond b 0 (suc (before_free (cut s (n - (i + 1)) (drop (slot_width s.items) rest))))) free in
     omega (arith, so_far, step)
 
 -- ---- a file
@@ -188,21 +192,21 @@ zeros_cut w k a block is zeros width le = is ∙ (λ i. take (width i) (zeros i)
 
 -- ---- the least free slot
 
-pub used_block : (s : Shape) (block : List ℕ) (n : ℕ) → is_block s block ≡ true → n ≡ used_first (cut s (per_block s.items) block) → n ≡ used_first (slots_in s block)
+pub taken_block : (s : Shape) (block : List ℕ) (n : ℕ) → is_block s block ≡ true → n ≡ before_free (cut s (per_block s.items) block) → n ≡ before_free (slots_in s block)
 unfolding slots_in
-used_block s block n good is = is ∙ sym (ap (λ b. used_first (slots_by b s block)) good)
+taken_block s block n good is = is ∙ sym (ap (λ b. before_free (slots_by b s block)) good)
 
-used_all : (xs ys : List SlotRead) → used_first xs ≡ length xs → used_first (xs ++ ys) ≡ length xs + used_first ys
-used_all [] ys all = omega arith
-used_all (Free ∷ xs) ys all = absurd (omega (arith, all))
-used_all (Bad ∷ xs) ys all = absurd (omega (arith, all))
-used_all (Used slot ∷ xs) ys all = ap suc (used_all xs ys (omega (arith, all))) ∙ (let e : suc (length xs + used_first ys) ≡ suc (length xs) + used_first ys = omega arith in e)
+taken_all : (xs ys : List SlotRead) → before_free xs ≡ length xs → before_free (xs ++ ys) ≡ length xs + before_free ys
+taken_all [] ys all = omega arith
+taken_all (Free ∷ xs) ys all = absurd (omega (arith, all))
+taken_all (Bad ∷ xs) ys all = ap suc (taken_all xs ys (omega (arith, all))) ∙ (let e : suc (length xs + before_free ys) ≡ suc (length xs) + before_free ys = omega arith in e)
+taken_all (Used slot ∷ xs) ys all = ap suc (taken_all xs ys (omega (arith, all))) ∙ (let e : suc (length xs + before_free ys) ≡ suc (length xs) + before_free ys = omega arith in e)
 
-used_some : (xs ys : List SlotRead) → used_first xs < length xs → used_first (xs ++ ys) ≡ used_first xs
-used_some [] ys low = absurd (omega arith)
-used_some (Free ∷ xs) ys low = refl
-used_some (Bad ∷ xs) ys low = refl
-used_some (Used slot ∷ xs) ys low = ap suc (used_some xs ys (omega arith))
+taken_some : (xs ys : List SlotRead) → before_free xs < length xs → before_free (xs ++ ys) ≡ before_free xs
+taken_some [] ys low = absurd (omega arith)
+taken_some (Free ∷ xs) ys low = refl
+taken_some (Bad ∷ xs) ys low = ap suc (taken_some xs ys (omega arith))
+taken_some (Used slot ∷ xs) ys low = ap suc (taken_some xs ys (omega arith))
 
 slots_next : (s : Shape) (bs : List (List ℕ)) (i : ℕ) → i < length bs → slots_of s (drop i bs) ≡ slots_in s (get_or bs i []) ++ slots_of s (drop (i + 1) bs)
 slots_next s [] i low = absurd (omega arith)
@@ -210,26 +214,26 @@ slots_next s (b ∷ bs) zero low = refl
 slots_next s (b ∷ bs) (suc i) low = slots_next s bs i (omega arith) ∙ ap (λ k. slots_in s (get_or bs i []) ++ slots_of s (drop k (b ∷ bs))) (let e : suc (i + 1) ≡ suc i + 1 = omega arith in e)
 
 -- a block that is full is passed
-pub least_on : (s : Shape) (bs : List (List ℕ)) (i per n all : ℕ) → i < length bs → per ≡ per_block s.items → n ≡ used_first (slots_in s (get_or bs i [])) → per ≤ n → n ≤ per
-    → all ≡ i * per + used_first (slots_of s (drop i bs)) → all ≡ (i + 1) * per + used_first (slots_of s (drop (i + 1) bs))
+pub least_on : (s : Shape) (bs : List (List ℕ)) (i per n all : ℕ) → i < length bs → per ≡ per_block s.items → n ≡ before_free (slots_in s (get_or bs i [])) → per ≤ n → n ≤ per
+    → all ≡ i * per + before_free (slots_of s (drop i bs)) → all ≡ (i + 1) * per + before_free (slots_of s (drop (i + 1) bs))
 least_on s bs i per n all low e is full most so_far =
     let long = slots_length s (get_or bs i []) in
-    let whole = used_all (slots_in s (get_or bs i [])) (slots_of s (drop (i + 1) bs)) (omega (arith, long, e, is, full, most)) in
-    let next = ap used_first (slots_next s bs i low) in
+    let whole = taken_all (slots_in s (get_or bs i [])) (slots_of s (drop (i + 1) bs)) (omega (arith, long, e, is, full, most)) in
+    let next = ap before_free (slots_next s bs i low) in
     omega (arith, long, whole, next, so_far, e, nat.suc-mul i per, ap (λ k. k * per) (add-one i))
 
 -- and in another one the least free slot stands
-pub least_here : (s : Shape) (bs : List (List ℕ)) (i per n all : ℕ) → i < length bs → per ≡ per_block s.items → n ≡ used_first (slots_in s (get_or bs i [])) → n < per
-    → all ≡ i * per + used_first (slots_of s (drop i bs)) → i * per + n ≡ all
+pub least_here : (s : Shape) (bs : List (List ℕ)) (i per n all : ℕ) → i < length bs → per ≡ per_block s.items → n ≡ before_free (slots_in s (get_or bs i [])) → n < per
+    → all ≡ i * per + before_free (slots_of s (drop i bs)) → i * per + n ≡ all
 least_here s bs i per n all low e is some so_far =
     let long = slots_length s (get_or bs i []) in
-    let part = used_some (slots_in s (get_or bs i [])) (slots_of s (drop (i + 1) bs)) (omega (arith, long, e, is, some)) in
-    let next = ap used_first (slots_next s bs i low) in
+    let part = taken_some (slots_in s (get_or bs i [])) (slots_of s (drop (i + 1) bs)) (omega (arith, long, e, is, some)) in
+    let next = ap before_free (slots_next s bs i low) in
     omega (arith, part, next, so_far, is)
 
-pub least_behind : (s : Shape) (bs : List (List ℕ)) (i per all : ℕ) → length bs ≤ i → all ≡ i * per + used_first (slots_of s (drop i bs)) → i * per ≡ all
+pub least_behind : (s : Shape) (bs : List (List ℕ)) (i per all : ℕ) → length bs ≤ i → all ≡ i * per + before_free (slots_of s (drop i bs)) → i * per ≡ all
 least_behind s bs i per all past so_far =
-    let none = ap (λ l. used_first (slots_of s l)) (drop_all i bs past) in
+    let none = ap (λ l. before_free (slots_of s l)) (drop_all i bs past) in
     omega (arith, so_far, none)
 
 -- the block of the slot at a place of a block

@@ -1,5 +1,5 @@
 -- The slots of a data set's file: those of its blocks, one block after another.
-use Rattle.std.specs.Prelude.{ℕ, zero, suc, ◌+◌, ◌-◌, ◌*◌, ◌/◌, ◌%◌, ◌<◌, ◌≤◌, ◌≡◌, ◌≢◌, List, [], ◌∷◌, flat_map, Bool, true, false, ◌&&◌, Some, None, if◌then◌else◌, IsTrue, length, take, drop, replicate, nat_le, slice_get, slice_index_or}
+use Rattle.std.specs.Prelude.{ℕ, zero, suc, ◌+◌, ◌-◌, ◌*◌, ◌/◌, ◌%◌, ◌<◌, ◌≤◌, ◌≡◌, ◌≢◌, List, [], ◌∷◌, flat_map, Bool, true, false, ◌&&◌, ◌==◌, Some, None, if◌then◌else◌, IsTrue, length, take, drop, replicate, nat_le, slice_get, slice_index_or}
 use Rattle.std.specs.declared.option.Option.{Option}
 use Rattle.std.specs.List.{list_all}
 use Rattle.dms_block.specs.Content.{Content, with_block}
@@ -31,19 +31,19 @@ is_slot Free = true
 is_slot (Used slot) = true
 is_slot Bad = false
 
-abbrev pub is_used : SlotRead → Bool
-is_used Free = false
-is_used (Used slot) = true
-is_used Bad = false
+abbrev pub is_free : SlotRead → Bool
+is_free Free = true
+is_free (Used slot) = false
+is_free Bad = false
 
 -- so many slots one after another, each free or used, and zeros behind them
 abbrev pub are_slots : Shape → ℕ → List ℕ → Bool
 are_slots s zero bytes = list_all is_zero bytes
 are_slots s (suc k) bytes = is_slot (slot_of s (take (slot_width s.items) bytes)) && are_slots s k (drop (slot_width s.items) bytes)
 
--- a block of a data set's file
+-- a block of a data set's file: 1,024 bytes, as many whole slots as fit, and zeros
 unfoldable pub is_block : Shape → List ℕ → Bool
-is_block s bytes = are_slots s (per_block s.items) bytes
+is_block s bytes = (length bytes == 1024) && are_slots s (per_block s.items) bytes
 
 -- so many slots one after another
 abbrev pub cut : Shape → ℕ → List ℕ → List SlotRead
@@ -74,15 +74,10 @@ abbrev pub slot_opt : Option Slot → SlotRead
 slot_opt None = Free
 slot_opt (Some slot) = Used slot
 
-abbrev pub next_free : SlotRead → ℕ → ℕ
-next_free Free rest = 0
-next_free (Used slot) rest = suc rest
-next_free Bad rest = 0
-
--- how many used slots stand before the first other one
-abbrev pub used_first : List SlotRead → ℕ
-used_first [] = 0
-used_first (r ∷ rs) = next_free r (used_first rs)
+-- how many slots stand before the first free one. A slot of a block that is none is bad, and so not free
+abbrev pub before_free : List SlotRead → ℕ
+before_free [] = 0
+before_free (r ∷ rs) = if is_free r then 0 else suc (before_free rs)
 
 -- a number, where it isn't above the most
 abbrev pub within : ℕ → ℕ → Option ℕ
@@ -100,9 +95,9 @@ block_or_zeros (Some bytes) = bytes
 abbrev pub block_at : List (List ℕ) → ℕ → List ℕ
 block_at bs b = block_or_zeros (slice_get bs b)
 
--- the least number that no record has, where the data set may have one more
+-- the least number whose slot is free, where it isn't above POPULATION
 abbrev pub least_free : Shape → List (List ℕ) → Option ℕ
-least_free s bs = within s.population (used_first (slots_of s bs) + 1)
+least_free s bs = within s.population (before_free (slots_of s bs) + 1)
 
 -- all files, with these bytes in the place of the slot of a record
 abbrev pub slot_put : Shape → ℕ → List ℕ → Content → Content

@@ -2,7 +2,7 @@ ghost use Rattle.std.specs.Prelude.{◌≡◌, ◌+◌, ◌<◌, ◌≤◌, IfOk
 ghost use Rattle.std.specs.List.{list_all};
 ghost use Rattle.dms_desc.specs.Shape.{shape_of};
 ghost use Rattle.dms_layout.specs.Slots.{slot_width, is_zero};
-ghost use Rattle.dms_slots.specs.SlotBlocks.{file_of, per_block, is_slot, is_used, are_slots, is_block, cut, slots_in, or_free, used_first};
+ghost use Rattle.dms_slots.specs.SlotBlocks.{file_of, per_block, is_slot, is_free, are_slots, is_block, cut, slots_in, or_free, before_free};
 
 use dms_base::Memory;
 use dms_block::Block;
@@ -43,10 +43,10 @@ fn is_slot(read: &SlotRead) -> bool
     !matches!(read, SlotRead::Bad)
 }
 
-fn is_used(read: &SlotRead) -> bool
-    ensures { result ≡ is_used read.now }
+fn is_free(read: &SlotRead) -> bool
+    ensures { result ≡ is_free read.now }
 {
-    matches!(read, SlotRead::Used(_))
+    matches!(read, SlotRead::Free)
 }
 
 /// The first bytes; fewer where there are no more.
@@ -69,14 +69,22 @@ fn are_zeros(bytes: &[u8]) -> bool
     bytes.iter().all(|byte| *byte == 0)
 }
 
-/// Whether each slot of a block is free or used, with zeros behind the last one.
+// The bytes of a block: there are 1,024.
+fn bytes_of(block: &Block) -> &[u8]
+    ensures same { result.now ≡ block.now.0 }
+    ensures whole { length result.now ≡ 1024 }
+{
+    &block.0
+}
+
+/// Whether each slot of a block is free or used, with zeros behind the last one; a block has 1,024 bytes.
 #[tactic(auto, unfolding(crate::specs::SlotBlocks::is_block))]
 pub fn is_block(alloc: Global, s: &Structure, block: &Block) -> Result<bool, Memory>
     requires few { length s.now.items ≤ 60 }
     ensures { IfOk result (λ is. is ≡ is_block (shape_of s.now) block.now.0) }
 {
     let width = width_of(s);
-    let mut rest: &[u8] = &block.0;
+    let mut rest = bytes_of(block);
     for _i in 0..per_block(s) {
         let read = from_slot(alloc, s, ahead(rest, width))?;
         if !is_slot(&read) {
@@ -106,10 +114,10 @@ pub fn slot_in(
     from_slot(alloc, s, ahead(behind(&block.0, place * width), width))
 }
 
-/// How many used slots stand before the first other one, in the bytes of a block.
-pub fn used_first(alloc: Global, s: &Structure, bytes: &[u8]) -> Result<usize, Memory>
+/// How many slots stand before the first free one, in the bytes of a block.
+pub fn before_free(alloc: Global, s: &Structure, bytes: &[u8]) -> Result<usize, Memory>
     requires few { length s.now.items ≤ 60 }
-    ensures first { IfOk result (λ n. n ≡ used_first (cut (shape_of s.now) (per_block s.now.items) bytes.now)) }
+    ensures first { IfOk result (λ n. n ≡ before_free (cut (shape_of s.now) (per_block s.now.items) bytes.now)) }
     ensures most { IfOk result (λ n. n ≤ per_block s.now.items) }
 {
     let width = width_of(s);
@@ -117,7 +125,7 @@ pub fn used_first(alloc: Global, s: &Structure, bytes: &[u8]) -> Result<usize, M
     let mut rest = bytes;
     for i in 0..per {
         let read = from_slot(alloc, s, ahead(rest, width))?;
-        if !is_used(&read) {
+        if is_free(&read) {
             return Ok(i);
         }
         rest = behind(rest, width);

@@ -5,9 +5,9 @@ ghost use Rattle.dms_block.specs.Held.{HasCausesOr};
 ghost use Rattle.dms_block.specs.View.{Reads, seen, seen_counts, under};
 ghost use Rattle.std.specs.Prelude.{◌/◌, slice_index_or, []};
 ghost use Rattle.dms_slots.specs.Seen.{blocks_of, count_of, BadIn};
-ghost use Rattle.dms_slots.specs.SlotBlocks.{file_of, per_block, block_of, slot_at, slot_opt, slots_in, used_first, within, least_free, BadBlock};
+ghost use Rattle.dms_slots.specs.SlotBlocks.{file_of, per_block, block_of, slot_at, slot_opt, slots_in, before_free, within, least_free, BadBlock};
 
-use crate::cutting::{file_of, is_block, per_block, slot_in, used_first};
+use crate::cutting::{before_free, file_of, is_block, per_block, slot_in};
 use dms_block::{BlockFault, BlockId, Blocks, Overlay};
 use dms_desc::Structure;
 use dms_layout::{Slot, SlotRead};
@@ -44,8 +44,8 @@ pub fn read_slot<B: Blocks>(
     }
 }
 
-// How many used slots stand before the first other one in a block.
-fn used_in<B: Blocks>(
+// How many slots stand before the first free one in a block.
+fn taken_in<B: Blocks>(
     b: &mut Overlay<B>,
     alloc: Global,
     s: &Structure,
@@ -54,7 +54,7 @@ fn used_in<B: Blocks>(
     requires sound { (under b.old).sound }
     requires few { length s.now.items ≤ 60 }
     requires there { block < count_of (shape_of s.now) b.old }
-    ensures used { IfOk result (λ n. IsTrue (under b.old).told → n ≡ used_first (slots_in (shape_of s.now) (slice_index_or (blocks_of (shape_of s.now) b.old) block []))) }
+    ensures taken { IfOk result (λ n. IsTrue (under b.old).told → n ≡ before_free (slots_in (shape_of s.now) (slice_index_or (blocks_of (shape_of s.now) b.old) block []))) }
     ensures most { IfOk result (λ n. n ≤ per_block s.now.items) }
     ensures reads { Reads 1 result b.old b.new }
     ensures causes { HasCausesOr (BadIn (shape_of s.now) b.old) result (under b.old) (under b.new) }
@@ -64,7 +64,7 @@ fn used_in<B: Blocks>(
     if !is_block(alloc, s, &bytes)? {
         return Err(BlockFault::Damaged(file, block));
     }
-    Ok(used_first(alloc, s, &bytes.0)?)
+    Ok(before_free(alloc, s, &bytes.0)?)
 }
 
 // A number, where it isn't above POPULATION.
@@ -78,8 +78,8 @@ fn within(s: &Structure, number: u64) -> Option<u64>
     None
 }
 
-/// The least number that no record of the data set has; none exactly where that is above POPULATION. `Damaged` where a
-/// block before it isn't one of a data set.
+/// The least number whose slot is free; none exactly where that is above POPULATION. `Damaged` where a block before it
+/// isn't one of a data set.
 pub fn take_least<B: Blocks>(
     b: &mut Overlay<B>,
     alloc: Global,
@@ -96,9 +96,9 @@ pub fn take_least<B: Blocks>(
     let per = per_block(s);
     let count = b.count(file_of(s));
     for i in 0..count {
-        let used = used_in(b, alloc, s, i)?;
-        if used < per {
-            return Ok(within(s, u64::from(i) * per as u64 + used as u64 + 1));
+        let taken = taken_in(b, alloc, s, i)?;
+        if taken < per {
+            return Ok(within(s, u64::from(i) * per as u64 + taken as u64 + 1));
         }
     }
     Ok(within(s, u64::from(count) * per as u64 + 1))

@@ -4,6 +4,8 @@
 mod cutting;
 mod finding;
 mod laws;
+#[cfg(test)]
+mod tests;
 mod writing;
 
 pub use cutting::{file_of, is_block, per_block};

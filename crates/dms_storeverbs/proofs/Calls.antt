@@ -7,7 +7,7 @@ use Rattle.dms_model.specs.declared.program.Program.{Program}
 use Rattle.dms_model.specs.declared.reply.Answer.{Answer}
 use Rattle.dms_model.specs.Db.{Db}
 use Rattle.dms_model.specs.Seen.{Seen, Agrees, IsSilent, StaysSure}
-use Rattle.std.specs.Prelude.{IsTrue, IsErr, IfOk}
+use Rattle.std.specs.Prelude.{IsErr, IfOk}
 use Rattle.std.specs.declared.result.Result.{Result}
 use Rattle.std.specs.declared.result.Result.TheVariants.{Ok, Err}
 use Rattle.std.proofs.lemmas.Result.{IfOk-weaker}

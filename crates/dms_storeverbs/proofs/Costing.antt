@@ -1,12 +1,13 @@
 -- What calls cost, one after another.
-use Rattle.std.proofs.Common.{ℕ, ◌≡◌, ◌+◌, Bool, true, false, ◌&&◌, Some, None, refl, sym, ◌∙◌, ap, subst, arith}
-use Rattle.std.specs.Prelude.{is_some, IfOk, IsErr, OnOk}
+use Rattle.std.proofs.Common.{ℕ, ◌≡◌, Bool, true, false, ◌&&◌, Some, None, refl, sym, ◌∙◌, ap, subst, arith}
+use Rattle.std.specs.Prelude.{is_some, IfOk, IsErr}
 use Rattle.std.specs.declared.option.Option.{Option}
 use Rattle.std.specs.declared.result.Result.{Result}
-use Rattle.std.specs.declared.result.Result.TheVariants.{Ok, Err}
+use Rattle.std.specs.declared.result.Result.TheVariants.{Ok}
 use Rattle.dms_block.specs.declared.block_fault.BlockFault.{BlockFault}
 use Rattle.dms_model.specs.declared.reply.Answer.{Answer}
-use Rattle.dms_model.specs.Seen.{Effort, GoesBack, IsUpToOne, Spends, Syncs, one_up}
+use Rattle.dms_block.specs.Held.{IsUpToOne}
+use Rattle.dms_model.specs.Seen.{Effort, GoesBack, Spends, Syncs}
 use Rattle.dms_storeverbs.specs.Costs.{Costs, is_done, up_if}
 use Rattle.dms_storeverbs.proofs.Calls.{if_err}
 

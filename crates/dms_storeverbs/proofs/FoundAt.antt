@@ -7,11 +7,12 @@ use Rattle.dms_desc.specs.declared.bound.Bound.TheVariants.{From}
 use Rattle.dms_desc.specs.Shape.{Described}
 use Rattle.dms_model.specs.declared.spot.Spot.{Spot}
 use Rattle.dms_model.specs.Db.{Db}
-use Rattle.dms_model.specs.Members.{structure_of, agrees, first_member}
+use Rattle.dms_desc.specs.Lookups.{structure_of, parts_of}
+use Rattle.dms_model.specs.Members.{agrees, first_member}
 use Rattle.dms_model.specs.MemberLaws.{at_is_first}
-use Rattle.dms_model.specs.Sorted.{that_passes}
+use Rattle.dms_desc.specs.Sorted.{that_passes}
 use Rattle.dms_model.specs.Stores.{TellsOf}
-use Rattle.dms_model.specs.Session.{parts_of, at_values}
+use Rattle.dms_model.specs.Session.{at_values}
 
 pub found_at_is : (desc desc' : Described) (told : Option Db) (db : Db) (x : ℕ) (key values : List Value) (o : Option (List Value)) (spot result : Option Spot) (parts : List KeyPart)
     → desc' ≡ desc → told ≡ Some db → o ≡ Some values → key ≡ values → parts ≡ parts_of (structure_of desc x)

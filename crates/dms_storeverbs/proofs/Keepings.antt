@@ -10,7 +10,7 @@ use Rattle.dms_model.specs.declared.program.Program.{Program}
 use Rattle.dms_model.specs.declared.put.Put.{Put}
 use Rattle.dms_model.specs.declared.put.Put.TheVariants.{Stored, Duplicate, Full}
 use Rattle.dms_model.specs.Db.{Db}
-use Rattle.dms_model.specs.Members.{structure_of, name_of}
+use Rattle.dms_desc.specs.Lookups.{structure_of, name_of}
 use Rattle.dms_model.specs.Stores.{put_answer, put_after, Puts}
 use Rattle.dms_model.specs.Session.{Session, Kept, Refused}
 use Rattle.dms_storeverbs.specs.declared.refusal.Refusal.{Refusal}

@@ -16,10 +16,11 @@ use Rattle.dms_model.specs.declared.put.Put.TheVariants.{Stored, Duplicate, Full
 use Rattle.dms_model.specs.declared.spot.Spot.{Spot}
 use Rattle.dms_model.specs.declared.verb.Setting.{Setting}
 use Rattle.dms_model.specs.Db.{Db}
-use Rattle.dms_model.specs.Members.{name_of, structure_of, items_of}
+use Rattle.dms_desc.specs.Lookups.{name_of, structure_of, items_of, set_of}
 use Rattle.dms_model.specs.Stores.{put_answer}
-use Rattle.dms_model.specs.Session.{Session, Outcome, Kept, Refused, Keeps, Filled, Misfit, Values', refuse, done, shows, settle, keep, store_step, after_store, begin_step, after_begin, begin_unless, awaited, end_step, after_end, abort_step, find_step, after_find, found_by, create_step, put_step, put_area, after_put, filled, get_step, get_area, close_step, open_as, open_step, verb_step, step_at, step, with_program, work_of, restart_of, someone_works, is_inquiry, opens, changes, path_of, new_program, place_of, carried, entered, left, without, idle, found_program, let_go, area_kept, kept_unless, put_kept, missing_from, verified, area_values, area_number, record_of, is_free, one_more, set_of}
-use Rattle.dms_storeverbs.specs.Laws.{MakesNone, Makes, falls_quiet, is_back_out, QuietRule}
+use Rattle.dms_model.specs.Session.{Session, Outcome, Kept, Refused, Keeps, Filled, Misfit, Values', refuse, done, shows, settle, keep, store_step, after_store, begin_step, after_begin, begin_unless, awaited, end_step, after_end, abort_step, find_step, after_find, found_by, create_step, put_step, put_area, after_put, filled, get_step, get_area, close_step, open_as, open_step, verb_step, step_at, step, with_program, work_of, restart_of, someone_works, is_inquiry, opens, changes, path_of, new_program, place_of, carried, entered, left, without, idle, found_program, let_go, area_kept, kept_unless, put_kept, missing_from, verified, area_values, area_number, record_of, is_free, one_more}
+use Rattle.dms_model.specs.BackOut.{asks_back_out}
+use Rattle.dms_storeverbs.specs.Laws.{MakesNone, Makes, falls_quiet, QuietRule}
 
 -- no quiet point was made, and someone who worked still works
 pub record Steady (s : Session) (o : Outcome) : Type 0 where
@@ -32,7 +33,7 @@ still_at false false w' h = refl
 still_at false true w' h = rw (h refl) refl
 
 by_steady : (verb : Verb) (s : Session) (o : Outcome) → Steady s o → Makes (falls_quiet verb s o.session) s o
-by_steady verb s o steady = subst (λ (b : Bool). Makes b s o) (sym (still_at (is_back_out verb) (someone_works s.programs) (someone_works o.session.programs) steady.works)) steady.none
+by_steady verb s o steady = subst (λ (b : Bool). Makes b s o) (sym (still_at (asks_back_out verb) (someone_works s.programs) (someone_works o.session.programs) steady.works)) steady.none
 
 -- programs that work
 
@@ -168,7 +169,7 @@ module _ (s : Session) (i : ℕ) (p : Program) (at : slice_get s.programs i ≡ 
   store_rule : (b : Bool) (desc : Described) (set : ℕ) → Steady s (cond b (after_store (keep desc p s.db set) i s) (refuse s AuditError p.name))
   store_rule b desc set = steady_if s b _ _ (store_steady (keep desc p s.db set) (keep_same desc s.db set)) (steady_refuse s AuditError p.name)
 
-settle_at : (verb : Verb) (s t : Session) (w b : Bool) → is_back_out verb ≡ false → someone_works s.programs ≡ true → t.next ≡ s.next → t.mark ≡ s.mark → (s.pending ≡ true → t.pending ≡ true) → someone_works t.programs ≡ w → t.pending ≡ b → Makes (falls_quiet verb s (settle t).session) s (settle t)
+settle_at : (verb : Verb) (s t : Session) (w b : Bool) → asks_back_out verb ≡ false → someone_works s.programs ≡ true → t.next ≡ s.next → t.mark ≡ s.mark → (s.pending ≡ true → t.pending ≡ true) → someone_works t.programs ≡ w → t.pending ≡ b → Makes (falls_quiet verb s (settle t).session) s (settle t)
 unfolding settle
 settle_at verb s t true b other works number mark pending e f = rw e (by_steady verb s (done t) (steady_shows s t [] number mark (λ h. e)))
 settle_at verb s t false true other works number mark pending e f =
@@ -180,7 +181,7 @@ or_pending : (a b c : Bool) → a ≡ true → (a || b || c) ≡ true
 or_pending true b c h = refl
 or_pending false b c h = absurd (cc)
 
-end_rule : (desc : Described) (s : Session) (i : ℕ) (p : Program) (verb : Verb) (k : Kept) (sync : Bool) → is_back_out verb ≡ false → someone_works s.programs ≡ true → Makes (falls_quiet verb s (after_end k desc i s sync).session) s (after_end k desc i s sync)
+end_rule : (desc : Described) (s : Session) (i : ℕ) (p : Program) (verb : Verb) (k : Kept) (sync : Bool) → asks_back_out verb ≡ false → someone_works s.programs ≡ true → Makes (falls_quiet verb s (after_end k desc i s sync).session) s (after_end k desc i s sync)
 end_rule desc s i p verb (Refused c n) sync other works = by_steady verb s (refuse s c n) (steady_refuse s c n)
 end_rule desc s i p verb (Keeps q db) sync other works =
     let t : Session = record s { db = db; programs = slice_set s.programs i (left q); pending = s.pending || sync || nat_le desc.syncpoint (one_more s.since); since = one_more s.since } in

@@ -10,7 +10,7 @@ use Rattle.dms_model.specs.declared.verb.Verb.{Verb}
 use Rattle.dms_model.specs.declared.verb.Verb.TheVariants.{OpenUpdate, OpenInquiry, Close, Find, Create, Put as PutItems, Get, Store, Begin, End, Abort}
 use Rattle.dms_model.specs.declared.spot.Spot.{Spot}
 use Rattle.dms_model.specs.declared.verb.Setting.{Setting}
-use Rattle.dms_model.specs.Members.{structure_of, items_of}
+use Rattle.dms_desc.specs.Lookups.{structure_of, items_of}
 use Rattle.dms_model.specs.Session.{Session, Outcome, Kept, Refused, Keeps, Filled, Misfit, Values', refuse, done, settle, keep, store_step, after_store, begin_step, after_begin, begin_unless, awaited, end_step, after_end, abort_step, find_step, after_find, found_by, create_step, put_step, put_area, after_put, filled, get_step, get_area, close_step, open_step, verb_step, step_at, step, work_of, restart_of, someone_works, is_inquiry, opens, changes, path_of, place_of, carried, entered, left, without, one_more, area_values}
 use Rattle.dms_storeverbs.specs.Laws.{Rests, RestRule}
 use Rattle.dms_storeverbs.proofs.Quiet.{Steady, set_enters, SameWork, keep_same, find_steady, get_steady, close_steady, steady_at, let_go_works, open_steady, due_outcome, set_works}

@@ -10,8 +10,8 @@ use Rattle.dms_model.specs.declared.reply.Reply.TheVariants.{Waits}
 use Rattle.dms_model.specs.declared.spot.Spot.{Spot}
 use Rattle.dms_model.specs.declared.verb.Verb.{Verb}
 use Rattle.dms_model.specs.declared.verb.Path.{Path}
-use Rattle.dms_model.specs.Members.{structure_of, name_of}
-use Rattle.dms_model.specs.Session.{Session, Outcome, refuse, done, keep, store_step, after_store, begin_step, after_begin, begin_unless, awaited, end_step, after_end, find_step, after_find, found_by, found_program, with_program, carried, path_of, set_of, restart_of, work_of, step, step_at, open_step, place_of}
+use Rattle.dms_desc.specs.Lookups.{structure_of, name_of, set_of}
+use Rattle.dms_model.specs.Session.{Session, Outcome, refuse, done, keep, store_step, after_store, begin_step, after_begin, begin_unless, awaited, end_step, after_end, find_step, after_find, found_by, found_program, with_program, carried, path_of, restart_of, work_of, step, step_at, open_step, place_of}
 use Rattle.dms_storeverbs.specs.Keeping.{kept_if}
 
 pub there_is : {A : Type 0} (xs : List A) (i : ℕ) → i < length xs → (x : A) × (slice_get xs i ≡ Some x)

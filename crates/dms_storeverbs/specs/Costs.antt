@@ -8,7 +8,8 @@ use Rattle.dms_model.specs.declared.reply.Reply.{Reply}
 use Rattle.dms_model.specs.declared.reply.Reply.TheVariants.{Done, Exception, Waits}
 use Rattle.dms_model.specs.declared.verb.Verb.{Verb}
 use Rattle.dms_model.specs.declared.verb.Verb.TheVariants.{OpenUpdate, OpenInquiry, Close, Find, Create, Put, Get, Store, Begin, End, Abort}
-use Rattle.dms_model.specs.Seen.{Effort, IsUpToOne, one_up}
+use Rattle.dms_block.specs.Held.{IsUpToOne}
+use Rattle.dms_model.specs.Seen.{Effort, one_up}
 
 abbrev pub is_done : Reply → Bool
 is_done (Done text) = true

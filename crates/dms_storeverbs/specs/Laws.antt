@@ -2,22 +2,8 @@
 use Rattle.std.specs.Prelude.{◌≡◌, ℕ, ◌+◌, List, [], ◌∷◌, Bool, true, false, not, ◌&&◌, Some, None, map}
 use Rattle.dms_desc.specs.Shape.{Described}
 use Rattle.dms_model.specs.declared.verb.Verb.{Verb}
-use Rattle.dms_model.specs.declared.verb.Verb.TheVariants.{OpenUpdate, OpenInquiry, Close, Find, Create, Put, Get, Store, Begin, End, Abort}
+use Rattle.dms_model.specs.BackOut.{asks_back_out}
 use Rattle.dms_model.specs.Session.{Session, Outcome, step, someone_works, idle}
-
--- the verb that asks for a back-out
-abbrev pub is_back_out : Verb → Bool
-is_back_out OpenUpdate = false
-is_back_out OpenInquiry = false
-is_back_out Close = false
-is_back_out (Find path) = false
-is_back_out (Create set) = false
-is_back_out (Put set settings) = false
-is_back_out (Get set items) = false
-is_back_out (Store set) = false
-is_back_out (Begin audit) = false
-is_back_out (End audit sync) = false
-is_back_out Abort = true
 
 -- A quiet point was made, with the next number and the database: it is the last one, no program is active any more, and a
 -- syncpoint that was pending is taken. A syncpoint that is taken has the quiet point's number.
@@ -39,7 +25,7 @@ pub record MakesNone (s : Session) (o : Outcome) : Type 0 where
 
 -- a step other than a back-out leaves no program in transaction state, where one was before it
 abbrev pub falls_quiet : Verb → Session → Session → Bool
-falls_quiet verb before after = not (is_back_out verb) && (someone_works before.programs && not (someone_works after.programs))
+falls_quiet verb before after = not (asks_back_out verb) && (someone_works before.programs && not (someone_works after.programs))
 
 abbrev pub Makes : Bool → Session → Outcome → Type 0
 Makes true s o = MakesQuiet s o

@@ -9,7 +9,7 @@ use Rattle.dms_model.specs.declared.program.Area.TheVariants.{Old}
 use Rattle.dms_model.specs.declared.put.Put.{Put}
 use Rattle.dms_model.specs.declared.put.Put.TheVariants.{Stored, Duplicate, Full}
 use Rattle.dms_model.specs.Db.{Db}
-use Rattle.dms_model.specs.Members.{structure_of, name_of}
+use Rattle.dms_desc.specs.Lookups.{structure_of, name_of}
 use Rattle.dms_model.specs.Stores.{put_answer, put_after}
 use Rattle.dms_model.specs.Session.{Kept, Refused, Keeps, keep, with_work, with_lock, Filled, Misfit, Values'}
 use Rattle.dms_base.specs.declared.value.Value.{Value}

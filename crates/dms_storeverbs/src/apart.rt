@@ -1,16 +1,15 @@
 ghost use Rattle.std.specs.Prelude.{◌≡◌, ◌<◌, ℕ, Some, None, true, false, IfOk, IsOk, IfSome, length, slice_get};
 ghost use Rattle.dms_desc.specs.Shape.{Described, described};
 ghost use Rattle.dms_model.specs.declared.program.Program.{Program};
+ghost use Rattle.dms_model.specs.BackOut.{asks_back_out};
 ghost use Rattle.dms_model.specs.Session.{path_of, open_as, open_step, close_step, create_step, put_step, get_step, opens, changes, is_inquiry};
 ghost use Rattle.dms_storeverbs.specs.Apart.{Apart, Admits};
 ghost use Rattle.dms_storeverbs.specs.Costs.{is_done, takes_none};
-ghost use Rattle.dms_storeverbs.specs.Laws.{is_back_out};
 
 use crate::areas;
 use crate::filling::{fill, get_text, initial_values, with_values};
 use crate::programs::new_program;
 use crate::refusal::{done, refused};
-use crate::schema::{items_of, name_of};
 use dms_base::{Category, Memory, Name};
 use dms_desc::Description;
 use dms_model::{Answer, ItemNumbers, Mode, Path, Program, Reply, Settings, Verb};
@@ -56,7 +55,7 @@ pub fn open(
 ) -> Result<Answer, Memory>
     ensures apart { Apart (λ s. open_step (described desc.now) s name.now verb.now) programs.old.items result programs.new.items }
     ensures no_memory { takes_none verb.now ≡ true → IsOk result }
-    ensures no_back_out { is_back_out verb.now ≡ true → IfOk result (λ a. is_done a.reply ≡ false) }
+    ensures no_back_out { asks_back_out verb.now ≡ true → IfOk result (λ a. is_done a.reply ≡ false) }
     ensures unsynced { IfOk result (λ a. a.sync ≡ None) }
 {
     match verb {
@@ -149,7 +148,7 @@ pub fn create(
     ensures apart { (p : Program) → slice_get programs.old.items i ≡ Some p → Apart (λ s. create_step (described desc.now) i p s set) programs.old.items result programs.new.items }
     ensures unsynced { IfOk result (λ a. a.sync ≡ None) }
 {
-    let values = initial_values(alloc, items_of(desc, set))?;
+    let values = initial_values(alloc, desc.items_of(set))?;
     areas::create(&mut programs[i], set, values);
     Ok(done(alloc))
 }
@@ -169,10 +168,10 @@ pub fn put(
     ensures unsynced { IfOk result (λ a. a.sync ≡ None) }
 {
     let Some(area) = areas::area_at(&programs[i], set) else {
-        return Ok(refused(Category::NoRecord, name_of(desc, set)));
+        return Ok(refused(Category::NoRecord, desc.name_of(set)));
     };
     let mut values = areas::copied(alloc, area)?;
-    if let Some(item) = fill(alloc, items_of(desc, set), settings.as_slice(), &mut values)? {
+    if let Some(item) = fill(alloc, desc.items_of(set), settings.as_slice(), &mut values)? {
         return Ok(refused(Category::DataError, item));
     }
     let new = with_values(area, values);
@@ -195,10 +194,10 @@ pub fn get(
     ensures unsynced { IfOk result (λ a. a.sync ≡ None) }
 {
     let Some(area) = areas::area_at(&programs[i], set) else {
-        return Ok(refused(Category::NoRecord, name_of(desc, set)));
+        return Ok(refused(Category::NoRecord, desc.name_of(set)));
     };
     let values = areas::area_values(area);
-    let text = get_text(alloc, items_of(desc, set), values, numbers.as_slice())?;
+    let text = get_text(alloc, desc.items_of(set), values, numbers.as_slice())?;
     programs[i].active = true;
     Ok(Answer {
         reply: Reply::Done(text),

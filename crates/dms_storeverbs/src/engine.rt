@@ -1,4 +1,4 @@
-ghost use Rattle.std.specs.Prelude.{◌≡◌, true, false, Some, IfOk, OnOk, IsErrOf, IfErr};
+ghost use Rattle.std.specs.Prelude.{◌≡◌, true, false, Some, IfOk, OnOk, IsErrOf, IsOkUnless, IfErr};
 ghost use Rattle.dms_desc.specs.Shape.{described};
 ghost use Rattle.dms_model.specs.Db.{Db};
 ghost use Rattle.dms_model.specs.DescribedCode.{described_set};
@@ -63,6 +63,7 @@ impl<St: Store> Engine<St> {
         ensures goes_back { someone_works self.old.programs.items ≡ true → GoesBack result (seen self.old).effort (seen self.new).effort }
         ensures stays { someone_works self.old.programs.items ≡ false → (seen self.new).effort ≡ (seen self.old).effort }
         ensures silent { IsSilent (seen self.old) (seen self.new) }
+        ensures mute_fault { IsErrOf result BlockFault.Say → ⊥ }
         ensures lasts { Lasts result self.old self.new }
     {
         if !programs::someone_works(self.programs.as_slice()) {
@@ -84,6 +85,7 @@ impl<St: Store> Engine<St> {
         ensures programs { self.new.programs ≡ self.old.programs }
         ensures pending { self.new.pending ≡ self.old.pending }
         ensures since { self.new.since ≡ self.old.since }
+        ensures fault { IsOkUnless result BlockFault.Say }
         ensures lasts { Lasts result self.old self.new }
     {
         self.store.say(bytes)

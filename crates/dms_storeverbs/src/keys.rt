@@ -2,9 +2,10 @@ ghost use Rattle.std.specs.Prelude.{◌≡◌, ◌-◌, IfOk, take, slice_get};
 ghost use Rattle.std.specs.Option.{option_copied};
 ghost use Rattle.dms_base.specs.Orders.{value_cmp};
 ghost use Rattle.dms_desc.specs.Conds.{or_null};
-ghost use Rattle.dms_model.specs.Members.{turned, agrees, key_cmp};
+ghost use Rattle.dms_desc.specs.Keys.{turned, key_cmp};
+ghost use Rattle.dms_model.specs.Members.{agrees};
 ghost use Rattle.dms_model.specs.Session.{fitted, key_values};
-ghost use Rattle.dms_model.specs.Sorted.{that_passes};
+ghost use Rattle.dms_desc.specs.Sorted.{that_passes};
 
 use dms_base::{Literal, Memory, Value, order, value_for};
 use dms_desc::{Item, KeyPart, Values};

@@ -5,7 +5,7 @@ ghost use Rattle.dms_storeverbs.specs.Storing.{Judges};
 
 use crate::areas::{area_at, area_number, area_values, current_at, is_free, missing, record_of};
 use crate::refusal::Refusal;
-use crate::schema::{items_of, name_of, verified};
+use crate::schema::verified;
 use dms_base::{Category, Memory, Name};
 use dms_desc::{Description, Record};
 use dms_model::Program;
@@ -37,17 +37,17 @@ pub fn judge(
     ensures { IfOk result (λ j. (db : Db) → Judges j (described desc.now) program.now db set) }
 {
     let Some(area) = area_at(program, set) else {
-        return Ok(refused(Category::NoRecord, name_of(desc, set)));
+        return Ok(refused(Category::NoRecord, desc.name_of(set)));
     };
     let current = current_at(program, set);
     if !is_free(area, program, set, current) {
-        return Ok(refused(Category::NotLocked, name_of(desc, set)));
+        return Ok(refused(Category::NotLocked, desc.name_of(set)));
     }
-    if let Some(item) = missing(items_of(desc, set), area_values(area)) {
+    if let Some(item) = missing(desc.items_of(set), area_values(area)) {
         return Ok(refused(Category::DataError, item));
     }
     if !verified(desc, set, area_values(area)) {
-        return Ok(refused(Category::DataError, name_of(desc, set)));
+        return Ok(refused(Category::DataError, desc.name_of(set)));
     }
     let rec = record_of(alloc, area)?;
     Ok(Judged::Ready(area_number(area, current), rec))

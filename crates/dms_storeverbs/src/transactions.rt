@@ -10,7 +10,7 @@ ghost use Rattle.dms_storeverbs.specs.Keeping.{KeptIs, kept_if};
 ghost use Rattle.dms_storeverbs.specs.View.{Does, Lasts, Stands, seen, view};
 
 use crate::refusal::{Refusal, done, refused};
-use crate::schema::{name_of, restart_of};
+use crate::schema::restart_of;
 use crate::storing::{Judged, judge};
 use crate::{Engine, areas, programs};
 use dms_base::{Bytes, Category};
@@ -30,6 +30,7 @@ impl<St: Store> Engine<St> {
         ensures silent { IsSilent (seen self.old) (seen self.new) }
         ensures undamaged { (d : Db) → (seen self.old).db ≡ Some d → Undamaged result }
         ensures spends { Spends (limit_if true (seen self.old).desc) (seen self.old).effort (seen self.new).effort }
+        ensures mute_fault { IsErrOf result BlockFault.Say → ⊥ }
         ensures lasts { Lasts result self.old self.new }
     {
         let (number, rec) = match judge(alloc, &self.desc, &self.programs[i], set)? {
@@ -43,11 +44,11 @@ impl<St: Store> Engine<St> {
             }
             Put::Duplicate(other) => Ok(Some(Refusal {
                 category: Category::Duplicates,
-                name: name_of(&self.desc, other),
+                name: self.desc.name_of(other),
             })),
             Put::Full => Ok(Some(Refusal {
                 category: Category::LimitError,
-                name: name_of(&self.desc, set),
+                name: self.desc.name_of(set),
             })),
         }
     }
@@ -69,6 +70,7 @@ impl<St: Store> Engine<St> {
         ensures undamaged { (d : Db) → (seen self.old).db ≡ Some d → Undamaged result }
         ensures spends { Spends (limit_if audit (seen self.old).desc) (seen self.old).effort (seen self.new).effort }
         ensures no_memory { audit ≡ false → IsErrOf result BlockFault.Memory → ⊥ }
+        ensures mute_fault { IsErrOf result BlockFault.Say → ⊥ }
         ensures lasts { Lasts result self.old self.new }
     {
         if !audit {
@@ -87,6 +89,7 @@ impl<St: Store> Engine<St> {
         ensures mute { IsMute (seen self.old) (seen self.new) }
         ensures costs { Costs (limit_if false (seen self.old).desc) false result (seen self.old).effort (seen self.new).effort }
         ensures no_memory { IsErrOf result BlockFault.Memory → ⊥ }
+        ensures mute_fault { IsErrOf result BlockFault.Say → ⊥ }
         ensures lasts { Lasts result self.old self.new }
     {
         if programs::someone_works(self.programs.as_slice()) {
@@ -114,6 +117,7 @@ impl<St: Store> Engine<St> {
         ensures step { (p : Program) → slice_get self.old.programs.items i ≡ Some p → Does self.old self.new result (λ s. store_step (described self.old.desc) i p s set) }
         ensures mute { IsMute (seen self.old) (seen self.new) }
         ensures costs { Costs (limit_if true (seen self.old).desc) false result (seen self.old).effort (seen self.new).effort }
+        ensures mute_fault { IsErrOf result BlockFault.Say → ⊥ }
         ensures lasts { Lasts result self.old self.new }
     {
         if !self.programs[i].in_transaction {
@@ -139,6 +143,7 @@ impl<St: Store> Engine<St> {
         ensures step { (p : Program) → slice_get self.old.programs.items i ≡ Some p → Does self.old self.new result (λ s. begin_step (described self.old.desc) i p s audit) }
         ensures mute { IsMute (seen self.old) (seen self.new) }
         ensures costs { Costs (limit_if audit (seen self.old).desc) false result (seen self.old).effort (seen self.new).effort }
+        ensures mute_fault { IsErrOf result BlockFault.Say → ⊥ }
         ensures lasts { Lasts result self.old self.new }
     {
         if self.programs[i].in_transaction {
@@ -146,7 +151,7 @@ impl<St: Store> Engine<St> {
         }
         let restart = restart_of(&self.desc);
         if areas::lacks(&self.programs[i], restart, audit) {
-            return Ok(refused(Category::NoRecord, name_of(&self.desc, restart)));
+            return Ok(refused(Category::NoRecord, self.desc.name_of(restart)));
         }
         let awaited = programs::awaited(alloc, self.pending, self.programs.as_slice())?;
         if let Some(names) = awaited {
@@ -177,6 +182,7 @@ impl<St: Store> Engine<St> {
         ensures mute { IsMute (seen self.old) (seen self.new) }
         ensures costs { Costs (limit_if audit (seen self.old).desc) false result (seen self.old).effort (seen self.new).effort }
         ensures no_memory { audit ≡ false → IsErrOf result BlockFault.Memory → ⊥ }
+        ensures mute_fault { IsErrOf result BlockFault.Say → ⊥ }
         ensures lasts { Lasts result self.old self.new }
     {
         if !self.programs[i].in_transaction {
@@ -199,6 +205,7 @@ impl<St: Store> Engine<St> {
         ensures step { (p : Program) → slice_get self.old.programs.items i ≡ Some p → Does self.old self.new result (λ s. abort_step i p s) }
         ensures mute { IsMute (seen self.old) (seen self.new) }
         ensures costs { Costs (limit_if false (seen self.old).desc) true result (seen self.old).effort (seen self.new).effort }
+        ensures mute_fault { IsErrOf result BlockFault.Say → ⊥ }
         ensures lasts { Lasts result self.old self.new }
     {
         let name = self.programs[i].name;

@@ -2,17 +2,16 @@ ghost use Rattle.std.specs.Prelude.{◌≡◌, ◌≤◌, ◌<◌, ◌+◌, ◌^
 ghost use Rattle.dms_desc.specs.Shape.{described};
 ghost use Rattle.dms_model.specs.declared.program.Program.{Program};
 ghost use Rattle.dms_model.specs.Db.{Db};
+ghost use Rattle.dms_model.specs.BackOut.{asks_back_out};
 ghost use Rattle.dms_model.specs.Seen.{IsMute, IsSilent, StaysSure};
-ghost use Rattle.dms_model.specs.Session.{Session, find_step, found_by, verb_step, step, parts_of, key_values, set_of, at_values};
-ghost use Rattle.dms_model.specs.Members.{structure_of, items_of};
+ghost use Rattle.dms_desc.specs.Lookups.{parts_of, set_of, structure_of, items_of};
+ghost use Rattle.dms_model.specs.Session.{Session, find_step, found_by, verb_step, step, key_values, at_values};
 ghost use Rattle.dms_block.specs.Faults.{Undamaged};
 ghost use Rattle.dms_storeverbs.specs.Costs.{Costs, block_limit, takes_none};
-ghost use Rattle.dms_storeverbs.specs.Laws.{is_back_out};
 ghost use Rattle.dms_storeverbs.specs.View.{Does, Lasts, SameSession, Stands, seen, view};
 
 use crate::keys::{agreeing, key_values};
 use crate::refusal::{done, refused};
-use crate::schema::{items_of, name_of, parts_of, set_of};
 use crate::{Engine, apart, areas, programs};
 use dms_base::{Category, Literal, Name};
 use dms_block::BlockFault;
@@ -35,15 +34,16 @@ impl<St: Store> Engine<St> {
         ensures silent { IsSilent (seen self.old) (seen self.new) }
         ensures undamaged { (d : Db) → (seen self.old).db ≡ Some d → Undamaged result }
         ensures effort { (seen self.new).effort ≡ (seen self.old).effort }
+        ensures mute_fault { IsErrOf result BlockFault.Say → ⊥ }
         ensures lasts { Lasts result self.old self.new }
     {
-        let items = items_of(&self.desc, set_of(&self.desc, x));
-        let Some(values) = key_values(alloc, parts_of(&self.desc, x), items, literals)? else {
+        let items = self.desc.items_of(self.desc.set_of(x));
+        let Some(values) = key_values(alloc, self.desc.parts_of(x), items, literals)? else {
             return Ok(None);
         };
         let key = values.copy(alloc)?;
         let spot = self.store.first_from(alloc, x, 0, &Bound::From(values))?;
-        Ok(agreeing(parts_of(&self.desc, x), key.as_slice(), spot))
+        Ok(agreeing(self.desc.parts_of(x), key.as_slice(), spot))
     }
 
     /// The member that a path names.
@@ -57,6 +57,7 @@ impl<St: Store> Engine<St> {
         ensures silent { IsSilent (seen self.old) (seen self.new) }
         ensures undamaged { (d : Db) → (seen self.old).db ≡ Some d → Undamaged result }
         ensures effort { (seen self.new).effort ≡ (seen self.old).effort }
+        ensures mute_fault { IsErrOf result BlockFault.Say → ⊥ }
         ensures lasts { Lasts result self.old self.new }
     {
         match path {
@@ -74,11 +75,12 @@ impl<St: Store> Engine<St> {
         ensures step { (p : Program) → slice_get self.old.programs.items i ≡ Some p → Does self.old self.new result (λ s. find_step (described self.old.desc) i p s path.now) }
         ensures mute { IsMute (seen self.old) (seen self.new) }
         ensures costs { Costs 0 false result (seen self.old).effort (seen self.new).effort }
+        ensures mute_fault { IsErrOf result BlockFault.Say → ⊥ }
         ensures lasts { Lasts result self.old self.new }
     {
         let x = apart::path_of(path);
-        let name = name_of(&self.desc, x);
-        let set = set_of(&self.desc, x);
+        let name = self.desc.name_of(x);
+        let set = self.desc.set_of(x);
         let Some(spot) = self.found(alloc, path)? else {
             return Ok(refused(Category::NotFound, name));
         };
@@ -93,8 +95,9 @@ impl<St: Store> Engine<St> {
         requires sound { (seen self.old).sound }
         ensures step { (p : Program) → slice_get self.old.programs.items i ≡ Some p → Does self.old self.new result (λ s. verb_step (described self.old.desc) i p s verb.now) }
         ensures mute { IsMute (seen self.old) (seen self.new) }
-        ensures costs { Costs (block_limit (seen self.old).desc verb.now) (is_back_out verb.now) result (seen self.old).effort (seen self.new).effort }
+        ensures costs { Costs (block_limit (seen self.old).desc verb.now) (asks_back_out verb.now) result (seen self.old).effort (seen self.new).effort }
         ensures no_memory { takes_none verb.now ≡ true → IsErrOf result BlockFault.Memory → ⊥ }
+        ensures mute_fault { IsErrOf result BlockFault.Say → ⊥ }
         ensures lasts { Lasts result self.old self.new }
     {
         match verb {
@@ -133,8 +136,9 @@ impl<St: Store> Engine<St> {
         requires sound { (seen self.old).sound }
         ensures step { Does self.old self.new result (λ s. step (described self.old.desc) s program.now verb.now) }
         ensures mute { IsMute (seen self.old) (seen self.new) }
-        ensures costs { Costs (block_limit (seen self.old).desc verb.now) (is_back_out verb.now) result (seen self.old).effort (seen self.new).effort }
+        ensures costs { Costs (block_limit (seen self.old).desc verb.now) (asks_back_out verb.now) result (seen self.old).effort (seen self.new).effort }
         ensures no_memory { takes_none verb.now ≡ true → IsErrOf result BlockFault.Memory → ⊥ }
+        ensures mute_fault { IsErrOf result BlockFault.Say → ⊥ }
         ensures lasts { Lasts result self.old self.new }
     {
         let i = programs::place_of(self.programs.as_slice(), program);

@@ -1,6 +1,7 @@
 pub mod Counting
 pub mod Creating
 pub mod Cutting
+pub mod Digits
 pub mod Judgements
 pub mod Printing
 pub mod Sealed

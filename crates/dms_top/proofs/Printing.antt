@@ -8,11 +8,12 @@ use Rattle.dms_block.specs.Texts.{Prints, PrintsFront}
 use Rattle.dms_model.specs.Session.{fresh_session}
 use Rattle.dms_storeverbs.specs.View.{View, Stands}
 use Rattle.dms_plain.specs.Told.{told}
-use Rattle.dms_runner.specs.Answers.{answers_text}
+use Rattle.dms_runner.specs.Answers.{answers_text, script_events}
+use Rattle.dms_runner.specs.Events.{Event, SaidWhole, text_of}
 use Rattle.dms_runner.specs.Running.{Answered}
 use Rattle.dms_top.specs.declared.status.SchemaFault.{SchemaFault}
 use Rattle.dms_top.specs.declared.status.LimitKind.{LimitKind}
-use Rattle.dms_top.specs.Answering.{Printed, PrintedFront, WithinLimits, Passes, judged_text}
+use Rattle.dms_top.specs.Answering.{Printed, PrintedFront, PrintedWhole, WithinLimits, Passes, judged_events, judged_text}
 
 -- a text that is told
 pub told_prints : (b : Bool) (before after text : List ℕ) → b ≡ true → Prints (told b before) (told b after) text → Printed before after text
@@ -75,3 +76,19 @@ passes_lines k d lines lines' before after e p = subst (λ (x : List (List ℕ))
 pub not_refused : (j : Result Described SchemaFault) (d : Described) (e : SchemaFault) → j ≡ Ok d → j ≡ Err e → ⊥
 not_refused (Ok x) d e p q = absurd (cc)
 not_refused (Err x) d e p q = absurd (cc)
+
+-- whole events
+
+pub told_whole : (b : Bool) (before after : List ℕ) (events : List Event) → b ≡ true → SaidWhole (told b before) (told b after) events → PrintedWhole before after events
+told_whole b before after events is whole = (whole.0, told_prints b before after (text_of (take whole.0 events)) is whole.1)
+
+pub nothing_whole : (before after : List ℕ) (events : List Event) → after ≡ before → PrintedWhole before after events
+nothing_whole before after events same = (0, same ∙ sym (append-nil before))
+
+pub whole_moved : (before after before' after' : List ℕ) (events events' : List Event) → after ≡ after' → before ≡ before' → events ≡ events' → PrintedWhole before' after' events' → PrintedWhole before after events
+whole_moved before after before' after' events events' a b e p =
+    subst (λ (x : List ℕ). PrintedWhole before x events) (sym a)
+    (subst (λ (x : List ℕ). PrintedWhole x after' events) (sym b) (subst (λ (x : List Event). PrintedWhole before' after' x) (sym e) p))
+
+pub events_accepted : (j : Result Described SchemaFault) (d : Described) (lines : List (List ℕ)) → j ≡ Ok d → judged_events j lines ≡ script_events d empty_db 1 lines
+events_accepted j d lines is = ap (λ (x : Result Described SchemaFault). judged_events x lines) is

@@ -8,8 +8,8 @@ use Rattle.dms_desc.specs.Shape.{Described}
 use Rattle.dms_feed.specs.Lines.{raw_lines}
 use Rattle.dms_feed.specs.Raws.{IsUnended}
 use Rattle.dms_model.specs.Db.{empty_db}
-use Rattle.dms_runner.specs.Answers.{script_run, answers_text}
-use Rattle.dms_runner.specs.Events.{text_of}
+use Rattle.dms_runner.specs.Answers.{script_run, script_events, answers_text}
+use Rattle.dms_runner.specs.Events.{Event, text_of}
 use Rattle.dms_runner.specs.Running.{bytes_of, joined, PassesLines, PassesBytes, PassesHeld}
 use Rattle.dms_top.specs.declared.status.SchemaFault.{SchemaFault}
 use Rattle.dms_top.specs.declared.status.LimitKind.{LimitKind}
@@ -37,6 +37,18 @@ Printed before after text = after ≡ before ++ text
 -- the text grew by a front of these bytes
 abbrev pub PrintedFront : List ℕ → List ℕ → List ℕ → Type 0
 PrintedFront before after text = (n : ℕ) × (after ≡ before ++ take n text)
+
+-- what a script does over the empty database, event by event; nothing where the schema is refused
+abbrev pub judged_events : Result Described SchemaFault → List (List ℕ) → List Event
+judged_events (Ok d) lines = script_events d empty_db 1 lines
+judged_events (Err e) lines = []
+
+abbrev pub try_events : List ℕ → List Event
+try_events input = judged_events (judged (schema_text input)) (script_of input)
+
+-- the text grew by that of the first so many of these events, each one whole
+abbrev pub PrintedWhole : List ℕ → List ℕ → List Event → Type 0
+PrintedWhole before after events = (k : ℕ) × Printed before after (text_of (take k events))
 
 -- a script that keeps the limits: 1,000,000 lines, 2,147,483,648 bytes, and no line that is one too many to hold
 pub record WithinLimits (d : Described) (lines : List (List ℕ)) : Type 0 where

@@ -6,7 +6,7 @@ use Rattle.dms_descfile.specs.Becoming.{IsCreated}
 use Rattle.dms_descfile.specs.DescriptionFile.{sealed_file}
 use Rattle.dms_site.specs.Files.{Files, Left, Same}
 use Rattle.dms_top.specs.declared.status.Status.{Status}
-use Rattle.dms_top.specs.declared.status.Status.TheVariants.{Ok, BadWords, SchemaRefused, InputFault, Memory, Limit, SayFault, DiskFault, Exists}
+use Rattle.dms_top.specs.declared.status.Status.TheVariants.{Ok, BadWords, SchemaRefused, NoDatabase, Needed, InputFault, Memory, Limit, Damaged, SayFault, DiskFault, Exists}
 
 -- the line that says how many structures a description has
 unfoldable pub compiled_text : ℕ → List ℕ
@@ -17,6 +17,9 @@ abbrev pub Says : Status → List ℕ → List ℕ → List ℕ → Type 0
 Says Ok line old new = new ≡ old ++ line
 Says BadWords line old new = new ≡ old
 Says (SchemaRefused f) line old new = new ≡ old
+Says NoDatabase line old new = new ≡ old
+Says (Needed n) line old new = new ≡ old
+Says (Damaged f b) line old new = new ≡ old
 Says InputFault line old new = new ≡ old
 Says Memory line old new = new ≡ old
 Says (Limit l) line old new = new ≡ old
@@ -29,6 +32,9 @@ abbrev pub IsSpoken : Status → Type 0
 IsSpoken Ok = ⊤
 IsSpoken BadWords = ⊥
 IsSpoken (SchemaRefused f) = ⊥
+IsSpoken NoDatabase = ⊥
+IsSpoken (Needed n) = ⊥
+IsSpoken (Damaged f b) = ⊥
 IsSpoken InputFault = ⊥
 IsSpoken Memory = ⊥
 IsSpoken (Limit l) = ⊥
@@ -41,6 +47,9 @@ abbrev pub IsBefore : Status → Type 0
 IsBefore Ok = ⊥
 IsBefore BadWords = ⊤
 IsBefore (SchemaRefused f) = ⊤
+IsBefore NoDatabase = ⊤
+IsBefore (Needed n) = ⊤
+IsBefore (Damaged f b) = ⊤
 IsBefore InputFault = ⊤
 IsBefore Memory = ⊤
 IsBefore (Limit l) = ⊤
@@ -53,6 +62,9 @@ abbrev pub IsOfFile : Status → Type 0
 IsOfFile Ok = ⊤
 IsOfFile BadWords = ⊥
 IsOfFile (SchemaRefused f) = ⊥
+IsOfFile NoDatabase = ⊥
+IsOfFile (Needed n) = ⊥
+IsOfFile (Damaged f b) = ⊥
 IsOfFile InputFault = ⊥
 IsOfFile Memory = ⊤
 IsOfFile (Limit l) = ⊥

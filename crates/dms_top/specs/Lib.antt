@@ -1,5 +1,6 @@
 pub mod Answering
 pub mod Compiling
+pub mod Initializing
 pub mod Judged
 pub mod Judging
 pub mod Premises

@@ -1,5 +1,5 @@
 -- What the clauses of the commands are said of: the words of the command, the input, and the counts of failures.
-use Rattle.std.specs.Prelude.{ℕ, ◌≡◌, ◌≤◌, ◌+◌, List, Some, map}
+use Rattle.std.specs.Prelude.{ℕ, ◌≡◌, ◌≤◌, ◌+◌, ◌⊎◌, List, Some, map}
 use Rattle.std.specs.String.{string_bytes}
 use Rattle.std.specs.declared.string.String.{String}
 use Rattle.std.specs.declared.alloc.Global.{Global}
@@ -11,7 +11,7 @@ use Rattle.dms_feed.specs.Feeds.{Remains}
 use Rattle.dms_top.specs.declared.status.SchemaFault.{SchemaFault}
 use Rattle.dms_top.specs.Judging.{judged}
 use Rattle.dms_top.specs.Schema.{schema_text}
-use Rattle.dms_top.specs.Words.{IsTry, IsCompile}
+use Rattle.dms_top.specs.Words.{IsTry, IsCompile, initialize_tag}
 
 -- it holds where the words are those of `try`
 abbrev pub OnTry : List (String Global) → Type 0 → Type 0
@@ -20,6 +20,14 @@ OnTry words P = IsTry (map string_bytes words) → P
 -- it holds where the words are those of `compile`
 abbrev pub OnCompile : List (String Global) → Type 0 → Type 0
 OnCompile words P = IsCompile (map string_bytes words) → P
+
+-- it holds of the tag that the words say, where they are those of `initialize`
+abbrev pub OnInitialize : List (String Global) → (ℕ → Type 0) → Type 0
+OnInitialize words P = (tag : ℕ) → initialize_tag (map string_bytes words) ≡ Some tag → P tag
+
+-- it holds where the words are those of a command that reads its input
+abbrev pub OnReading : List (String Global) → Type 0 → Type 0
+OnReading words P = (IsTry (map string_bytes words) ⊎ IsCompile (map string_bytes words)) → P
 
 -- it holds of all the bytes of the input, where the input tells them
 abbrev pub OfInput : Option (List ℕ) → (List ℕ → Type 0) → Type 0

@@ -1,7 +1,8 @@
 -- The words of the command line, and how far a command came.
-use Rattle.std.specs.Prelude.{◌≡◌, ◌⊎◌, ℕ, List, [], ◌∷◌, codes, ⊤}
+use Rattle.std.specs.Prelude.{◌≡◌, ◌⊎◌, ℕ, ◌+◌, ◌-◌, ◌*◌, ◌^◌, Bool, true, ◌&&◌, nat_le, nat_lt, if◌then◌else◌, List, [], ◌∷◌, Option, Some, None, IsSome, codes, ⊤}
+use Rattle.std.specs.Str.{bytes_eq}
 use Rattle.dms_top.specs.declared.status.Status.{Status}
-use Rattle.dms_top.specs.declared.status.Status.TheVariants.{Ok, BadWords, SchemaRefused, InputFault, Memory, Limit, SayFault, DiskFault, Exists}
+use Rattle.dms_top.specs.declared.status.Status.TheVariants.{Ok, BadWords, SchemaRefused, NoDatabase, Needed, InputFault, Memory, Limit, Damaged, SayFault, DiskFault, Exists}
 
 -- the word `try`
 abbrev pub IsTry : List (List ℕ) → Type 0
@@ -11,15 +12,48 @@ IsTry words = words ≡ codes "try" ∷ []
 abbrev pub IsCompile : List (List ℕ) → Type 0
 IsCompile words = words ≡ codes "compile" ∷ []
 
+-- plain digits alone
+abbrev pub are_digits : List ℕ → Bool
+are_digits [] = true
+are_digits (b ∷ bs) = (nat_le 48 b && nat_le b 57) && are_digits bs
+
+-- the number that digits spell behind the number n
+abbrev pub digits_value : ℕ → List ℕ → ℕ
+digits_value n [] = n
+digits_value n (b ∷ bs) = digits_value (10 * n + (b - 48)) bs
+
+-- the number that these digits spell behind n, where it is below 2 ^ 64
+unfoldable pub number_behind : ℕ → List ℕ → Option ℕ
+number_behind n bytes = if are_digits bytes && nat_lt (digits_value n bytes) (2 ^ 64) then Some (digits_value n bytes) else None
+
+-- the tag that a word says in plain digits, at least one; leading zeros don't count
+abbrev pub tag_of : List ℕ → Option ℕ
+tag_of [] = None
+tag_of (b ∷ bs) = number_behind 0 (b ∷ bs)
+
+-- the tag that the words of `initialize` say, 0 where they say none; none where they aren't its words
+abbrev pub initialize_tag : List (List ℕ) → Option ℕ
+initialize_tag [] = None
+initialize_tag (word ∷ []) = if bytes_eq word (codes "initialize") then Some 0 else None
+initialize_tag (word ∷ tag ∷ []) = if bytes_eq word (codes "initialize") then tag_of tag else None
+initialize_tag (word ∷ tag ∷ more ∷ rest) = None
+
+-- the words `initialize` and `initialize TAG`
+abbrev pub IsInitialize : List (List ℕ) → Type 0
+IsInitialize words = IsSome (initialize_tag words)
+
 -- the forms that are built
 abbrev pub IsCommand : List (List ℕ) → Type 0
-IsCommand words = IsTry words ⊎ IsCompile words
+IsCommand words = IsTry words ⊎ (IsCompile words ⊎ IsInitialize words)
 
 -- the statuses that come only where the schema was taken
 abbrev pub IsPast : Status → Type 0
 IsPast Ok = ⊤
 IsPast BadWords = ⊥
 IsPast (SchemaRefused f) = ⊥
+IsPast NoDatabase = ⊥
+IsPast (Needed n) = ⊥
+IsPast (Damaged f b) = ⊥
 IsPast InputFault = ⊥
 IsPast Memory = ⊥
 IsPast (Limit l) = ⊤
@@ -32,6 +66,9 @@ abbrev pub IsSilent : Status → Type 0
 IsSilent Ok = ⊥
 IsSilent BadWords = ⊤
 IsSilent (SchemaRefused f) = ⊤
+IsSilent NoDatabase = ⊤
+IsSilent (Needed n) = ⊤
+IsSilent (Damaged f b) = ⊤
 IsSilent InputFault = ⊥
 IsSilent Memory = ⊥
 IsSilent (Limit l) = ⊥
@@ -44,9 +81,42 @@ abbrev pub IsUntouched : Status → Type 0
 IsUntouched Ok = ⊥
 IsUntouched BadWords = ⊤
 IsUntouched (SchemaRefused f) = ⊤
+IsUntouched NoDatabase = ⊥
+IsUntouched (Needed n) = ⊥
+IsUntouched (Damaged f b) = ⊥
 IsUntouched InputFault = ⊥
 IsUntouched Memory = ⊥
 IsUntouched (Limit l) = ⊥
 IsUntouched SayFault = ⊥
 IsUntouched DiskFault = ⊥
 IsUntouched Exists = ⊥
+
+-- the statuses of `try`
+abbrev pub IsOfTry : Status → Type 0
+IsOfTry Ok = ⊤
+IsOfTry BadWords = ⊥
+IsOfTry (SchemaRefused f) = ⊤
+IsOfTry NoDatabase = ⊥
+IsOfTry (Needed n) = ⊥
+IsOfTry (Damaged f b) = ⊥
+IsOfTry InputFault = ⊤
+IsOfTry Memory = ⊤
+IsOfTry (Limit l) = ⊤
+IsOfTry SayFault = ⊤
+IsOfTry DiskFault = ⊥
+IsOfTry Exists = ⊥
+
+-- the statuses of `compile`
+abbrev pub IsOfCompile : Status → Type 0
+IsOfCompile Ok = ⊤
+IsOfCompile BadWords = ⊥
+IsOfCompile (SchemaRefused f) = ⊤
+IsOfCompile NoDatabase = ⊥
+IsOfCompile (Needed n) = ⊥
+IsOfCompile (Damaged f b) = ⊥
+IsOfCompile InputFault = ⊤
+IsOfCompile Memory = ⊤
+IsOfCompile (Limit l) = ⊥
+IsOfCompile SayFault = ⊤
+IsOfCompile DiskFault = ⊤
+IsOfCompile Exists = ⊤

@@ -9,7 +9,7 @@ ghost use Rattle.dms_top.specs.declared.status.SchemaFault.{SchemaFault as Refus
 ghost use Rattle.dms_top.specs.Compiling.{compiled_text, Says, IsSpoken, IsBefore, IsOfFile, CreatesSome, SaysSealed, IsKept};
 ghost use Rattle.dms_top.specs.Judging.{judged};
 ghost use Rattle.dms_top.specs.Premises.{OfInput, OfSchema, OfNoSchema, CountedAt};
-ghost use Rattle.dms_top.specs.Words.{IsPast, IsUntouched};
+ghost use Rattle.dms_top.specs.Words.{IsOfCompile, IsPast, IsUntouched};
 
 use crate::judge::{Judged, judge};
 use crate::schema::TextFault;
@@ -38,6 +38,7 @@ fn compiled_text(alloc: Global, count: usize) -> Result<Bytes, Memory>
 fn seal_and_say<S: Site>(alloc: Global, site: &mut S, desc: &Description, line: &[u8]) -> Status
     requires { length (spelling (described desc.now)) ≤ 65535 }
     ensures of_file { IsOfFile result }
+    ensures statuses { IsOfCompile result }
     ensures exists { result ≢ Status.Exists }
     ensures sealed { IsSpoken result → IsTrue S.tells → S.files site.new 1 ≡ sealed_file (described desc.now) }
     ensures others { IsTrue S.tells → (g : ℕ) → g ≢ 1 → S.files site.new g ≡ S.files site.old g }
@@ -65,6 +66,7 @@ fn seal_and_say<S: Site>(alloc: Global, site: &mut S, desc: &Description, line: 
 fn create<S: Site>(alloc: Global, site: &mut S, desc: &Description) -> Status
     requires { length (spelling (described desc.now)) ≤ 65535 }
     ensures of_file { IsOfFile result }
+    ensures statuses { IsOfCompile result }
     ensures exists { result ≡ Status.Exists → IsTrue S.tells → (d : Described) × IsSealed (S.files site.old 1) d }
     ensures unsealed { IsSpoken result → IsTrue S.tells → IsUnsealed (S.files site.old 1) }
     ensures sealed { IsSpoken result → IsTrue S.tells → S.files site.new 1 ≡ sealed_file (described desc.now) }
@@ -96,6 +98,7 @@ fn create<S: Site>(alloc: Global, site: &mut S, desc: &Description) -> Status
 /// Answers SchemaRefused by the text's first fault, then Exists where the description file is a sealed description
 /// already; no file is changed by then.
 pub fn compile_input<S: Site, I: Source>(alloc: Global, site: &mut S, input: &mut I) -> Status
+    ensures statuses { IsOfCompile result }
     ensures words { result ≢ Status.BadWords }
     ensures limit { (k : Kind) → result ≢ Status.Limit k }
     ensures untouched { IsUntouched result → site.new ≡ site.old }

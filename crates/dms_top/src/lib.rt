@@ -2,14 +2,17 @@
 #![tactic(auto)]
 
 mod compile_run;
+mod initialize_run;
 mod judge;
 mod schema;
 mod status;
+mod tags;
 #[cfg(test)]
 mod tests;
 mod top;
 mod try_run;
 mod whole;
 
-pub use status::{LimitKind, SchemaFault, Status};
+pub use status::{LimitKind, NeedFault, SchemaFault, Status};
+pub use tags::initialize_tag;
 pub use top::dms;

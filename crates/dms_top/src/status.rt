@@ -21,6 +21,19 @@ pub enum LimitKind {
     Held,
 }
 
+/// What a command needs and doesn't find. Audit files are named by their numbers from 1.
+#[derive(Clone, Copy, Debug, PartialEq, Eq)]
+pub enum NeedFault {
+    /// The description file is no sealed description.
+    NoDescription,
+    /// An audit file is missing.
+    AuditMissing(u32),
+    /// A gate of an audit file isn't open, and the file two behind it is present.
+    AuditUnsealed(u32),
+    /// An audit file is one of another database.
+    AuditForeign(u32),
+}
+
 /// How a command ends.
 #[derive(Clone, Copy, Debug, PartialEq, Eq)]
 pub enum Status {
@@ -29,11 +42,16 @@ pub enum Status {
     /// The words are no command.
     BadWords,
     SchemaRefused(SchemaFault),
+    /// There is no database.
+    NoDatabase,
+    Needed(NeedFault),
     /// Taking from the input failed.
     InputFault,
     /// Memory was refused.
     Memory,
     Limit(LimitKind),
+    /// A block of a file isn't in its grammar; block 0 of an audit file is its header.
+    Damaged(u32, u32),
     /// Printing failed.
     SayFault,
     /// A call on a file failed.

@@ -1,6 +1,8 @@
 use crate::compile_run::compile_input;
+use crate::initialize_run::initialize_database;
 use crate::status::Status;
 use dms_sitemem::{MemSite, MemSource};
+use std::alloc::Global;
 use std::test::Fail;
 
 /// A schema of two structures.
@@ -79,6 +81,62 @@ fn a_refused_text_changes_nothing(rt: HostRuntime) -> Result<(), Fail> {
         let status = compile_input(alloc, &mut site, &mut source);
         assert!(rt; status != Status::Ok);
         assert_eq!(rt; site.calls(), 0);
+    }
+    Ok(())
+}
+
+/// A site with a description, and a file of each kind of an old database.
+fn old_site(alloc: Global, fails: Vec<u64>) -> Result<MemSite, Fail> {
+    let mut site = MemSite::new(alloc, fails, None)?;
+    site.overwrite(alloc, 1, &SEALED)?;
+    for file in [10001u32, 20001, 30001] {
+        site.overwrite(alloc, file, b"old")?;
+    }
+    Ok(site)
+}
+
+#[test]
+fn a_stop_leaves_no_half_database(rt: HostRuntime) -> Result<(), Fail> {
+    let alloc = rt.alloc();
+    let mut site = old_site(alloc, Vec::new(alloc))?;
+    assert_eq!(rt; initialize_database(alloc, &mut site, 7), Status::Ok);
+    assert_eq!(rt; site.said(), b"INITIALIZED AT POINT 0\n".as_slice());
+    assert_eq!(rt; site.calls(), 21);
+    let trail = site.bytes(10001);
+    assert!(rt; trail.len() == 8192);
+    assert_eq!(rt;
+        &trail[4096..4105],
+        b"\0\x68\x01\0\x01\0\x01\0\x3e".as_slice()
+    );
+    for call in 1..22u64 {
+        for pick in [0u64, 1, 7, 2] {
+            assert!(rt; 0 < call && call <= site.calls());
+            let stopped = site.crash(alloc, call, pick).expect(&rt, "memory");
+            let made = matches!(stopped.bytes(1), [_, 1, ..]);
+            let whole = stopped.bytes(10001) == trail;
+            let bare = stopped.bytes(20001).is_empty() && stopped.bytes(30001).is_empty();
+            assert!(rt; !made || (whole && bare), "call {call}, pick {pick}");
+            assert!(rt; made || call < 20, "call {call}, pick {pick}");
+        }
+    }
+    assert_eq!(rt; initialize_database(alloc, &mut site, 7), Status::Exists);
+    Ok(())
+}
+
+#[test]
+fn no_call_of_a_creation_follows_a_fault(rt: HostRuntime) -> Result<(), Fail> {
+    let alloc = rt.alloc();
+    for call in 1..22u64 {
+        let mut site = old_site(alloc, vec![in alloc; call]?)?;
+        let status = initialize_database(alloc, &mut site, 7);
+        let wanted = if call == 21 {
+            Status::SayFault
+        } else {
+            Status::DiskFault
+        };
+        assert_eq!(rt; status, wanted, "call {call}");
+        assert_eq!(rt; site.calls(), call);
+        assert_eq!(rt; site.said(), b"".as_slice());
     }
     Ok(())
 }

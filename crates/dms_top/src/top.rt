@@ -1,8 +1,11 @@
-ghost use Rattle.std.specs.Prelude.{◌≡◌, ◌≤◌, ◌≢◌, ◌↔◌, [], ℕ, List, Some, Ok, Err, map, length, string_bytes, IsTrue, IsOk};
+ghost use Rattle.std.specs.Prelude.{◌≡◌, ◌≤◌, ◌≢◌, ◌↔◌, [], ℕ, List, Some, Ok, Err, map, length, string_bytes, slice_index, IsTrue, IsOk};
 ghost use Rattle.dms_desc.specs.Shape.{Described};
 ghost use Rattle.dms_descfile.specs.Becoming.{Creates};
 ghost use Rattle.dms_descfile.specs.DescriptionFile.{sealed_file, IsSealed, IsUnsealed};
-ghost use Rattle.dms_site.specs.Files.{Only};
+ghost use Rattle.dms_moments.specs.Moments.{Steps};
+ghost use Rattle.dms_site.specs.Files.{Same, Only};
+ghost use Rattle.dms_creation.specs.Creation.{IsMade, Initializes};
+ghost use Rattle.dms_top.specs.Initializing.{initialized_text, IsOfCreation};
 ghost use Rattle.dms_top.specs.Taking.{CutText};
 ghost use Rattle.dms_plain.specs.Speaking.{OnlySpeaks};
 ghost use Rattle.dms_plain.specs.Told.{told};
@@ -10,15 +13,17 @@ ghost use Rattle.dms_top.specs.Compiling.{compiled_text, Says, IsSpoken, IsBefor
 ghost use Rattle.dms_top.specs.declared.status.SchemaFault.{SchemaFault as Refusal};
 ghost use Rattle.dms_top.specs.Judging.{judged};
 ghost use Rattle.dms_top.specs.Schema.{schema_text as text_of};
-ghost use Rattle.dms_top.specs.Answering.{Printed, PrintedFront, WithinLimits, Passes, CutTry, try_text, script_of};
+ghost use Rattle.dms_top.specs.Answering.{Printed, PrintedFront, PrintedWhole, WithinLimits, Passes, CutTry, try_events, try_text, script_of};
 ghost use Rattle.dms_top.specs.declared.status.LimitKind.{LimitKind as Kind};
-ghost use Rattle.dms_top.specs.Premises.{OnTry, OnCompile, OfInput, OfSchema, OfNoSchema, OfScript, OfNoScript, CountedAt};
-ghost use Rattle.dms_top.specs.Words.{IsTry, IsCompile, IsCommand, IsPast, IsSilent, IsUntouched};
+ghost use Rattle.dms_top.specs.Premises.{OnTry, OnCompile, OnInitialize, OnReading, OfInput, OfSchema, OfNoSchema, OfScript, OfNoScript, CountedAt};
+ghost use Rattle.dms_top.specs.Words.{IsTry, IsCompile, IsCommand, IsOfTry, IsOfCompile, IsPast, IsSilent, IsUntouched};
 
 use crate::compile_run::compile_input;
+use crate::initialize_run::initialize_database;
 use crate::judge::{Judged, judge};
 use crate::schema::{TextFault, schema_text};
-use crate::status::{SchemaFault, Status};
+use crate::status::{NeedFault, SchemaFault, Status};
+use crate::tags::initialize_tag;
 use crate::try_run::try_lines;
 use dasdl_parse::ParseFault;
 use dms_feed::Feed;
@@ -40,6 +45,7 @@ fn is_compile(words: &[String]) -> bool
 /// `try`: reads the text of a schema, a line SCRIPT and the lines of a script, and prints what the lines answer over a
 /// database in memory that begins empty. It touches no file.
 fn try_input<S: Site, I: Source>(alloc: Global, site: &mut S, input: &mut I) -> Status
+    ensures statuses { IsOfTry result }
     ensures words { result ≢ Status.BadWords }
     ensures exists { result ≢ Status.Exists }
     ensures untouched { IsUntouched result → site.new ≡ site.old }
@@ -54,6 +60,7 @@ fn try_input<S: Site, I: Source>(alloc: Global, site: &mut S, input: &mut I) -> 
     ensures only_speaks { OnlySpeaks (S.clock site.old) (S.clock site.new) }
     ensures answers { result ≡ Status.Ok → IsTrue S.tells_said → OfInput (I.left input.old) (λ all. Printed (S.said site.old) (S.said site.new) (try_text all)) }
     ensures part { IsTrue S.tells_said → OfInput (I.left input.old) (λ all. PrintedFront (S.said site.old) (S.said site.new) (try_text all)) }
+    ensures whole_answers { result ≡ Status.Memory → IsTrue S.tells_said → OfInput (I.left input.old) (λ all. PrintedWhole (S.said site.old) (S.said site.new) (try_events all)) }
     ensures silent { IsTrue S.tells_said → IsSilent result → S.said site.new ≡ S.said site.old }
     ensures within { result ≡ Status.Ok → OfScript (I.left input.old) (λ d all. WithinLimits d (script_of all)) }
     ensures limit { (k : Kind) → result ≡ Status.Limit k → OfScript (I.left input.old) (λ d all. Passes k d (script_of all) (told S.tells_said (S.said site.old)) (told S.tells_said (S.said site.new))) }
@@ -78,7 +85,8 @@ fn try_input<S: Site, I: Source>(alloc: Global, site: &mut S, input: &mut I) -> 
     }
 }
 
-/// Does what the words say: `try` runs a script over a database in memory, and `compile` makes the description file.
+/// Does what the words say: `try` runs a script over a database in memory, `compile` makes the description file, and
+/// `initialize` the empty database of that description.
 pub fn dms<S: Site, I: Source>(
     alloc: Global,
     words: &[String],
@@ -88,8 +96,8 @@ pub fn dms<S: Site, I: Source>(
     // ---- every command
     // status 1 comes exactly where the words are no command
     ensures words { result ≡ Status.BadWords ↔ (IsCommand (map string_bytes words.now) → ⊥) }
-    // at status 0 the input was read to its end
-    ensures end { result ≡ Status.Ok → OfInput (I.left input.old) (λ all. I.left input.new ≡ Some []) }
+    // at status 0 the input was read to its end, where the command has one
+    ensures end { OnReading words.now (result ≡ Status.Ok → OfInput (I.left input.old) (λ all. I.left input.new ≡ Some [])) }
     // status 6 comes where taking from the input failed, once, and else that count stays
     ensures input { CountedAt (result ≡ Status.InputFault) (I.faults input.old) (I.faults input.new) }
     // status 5 comes where a call on the files failed, once, and else that count stays
@@ -98,8 +106,6 @@ pub fn dms<S: Site, I: Source>(
     ensures say { CountedAt (result ≡ Status.SayFault) (S.say_faults site.old) (S.say_faults site.new) }
     // at the statuses that come before a file is changed the files are as they were
     ensures before { IsBefore result → IsTrue S.tells → S.files site.new ≡ S.files site.old }
-    // no file but the description file changes
-    ensures others { IsTrue S.tells → (g : ℕ) → g ≢ 1 → S.files site.new g ≡ S.files site.old g }
     // the site is the one that was lent
     ensures same_site { S.same_site site.old site.new }
     // the input is the one that was lent
@@ -109,6 +115,8 @@ pub fn dms<S: Site, I: Source>(
     // at the statuses that come before a call on the site it is as it was
     ensures untouched { IsUntouched result → site.new ≡ site.old }
     // ---- `try`
+    // only the statuses 0, 2, 6, 7, 8 and 10 come
+    ensures try_statuses { OnTry words.now (IsOfTry result) }
     // a schema is refused by its first fault
     ensures refused { OnTry words.now ((f : Refusal) → result ≡ Status.SchemaRefused f → OfInput (I.left input.old) (λ all. judged (text_of all) ≡ Err f)) }
     // the statuses behind the schema come only where it is accepted
@@ -123,6 +131,8 @@ pub fn dms<S: Site, I: Source>(
     ensures answers { OnTry words.now (result ≡ Status.Ok → IsTrue S.tells_said → OfInput (I.left input.old) (λ all. Printed (S.said site.old) (S.said site.new) (try_text all))) }
     // at every status a prefix of that was printed
     ensures part { OnTry words.now (IsTrue S.tells_said → OfInput (I.left input.old) (λ all. PrintedFront (S.said site.old) (S.said site.new) (try_text all))) }
+    // at status 7 that was the text of whole answers
+    ensures whole_answers { OnTry words.now (result ≡ Status.Memory → IsTrue S.tells_said → OfInput (I.left input.old) (λ all. PrintedWhole (S.said site.old) (S.said site.new) (try_events all))) }
     // at the statuses that come before the script nothing was printed
     ensures silent { OnTry words.now (IsTrue S.tells_said → IsSilent result → S.said site.new ≡ S.said site.old) }
     // at status 0 the script keeps the limits
@@ -136,6 +146,10 @@ pub fn dms<S: Site, I: Source>(
     // status 11 is not of this command
     ensures no_file_exists { OnTry words.now (result ≢ Status.Exists) }
     // ---- `compile`
+    // only the statuses 0, 2, 5, 6, 7, 10 and 11 come
+    ensures compile_statuses { OnCompile words.now (IsOfCompile result) }
+    // no file but the description file changes
+    ensures compile_others { OnCompile words.now (IsTrue S.tells → (g : ℕ) → g ≢ 1 → S.files site.new g ≡ S.files site.old g) }
     // a refused text leaves the site as it was
     ensures compile_refused_text { OnCompile words.now (OfNoSchema (I.left input.old) (site.new ≡ site.old)) }
     // a failing input leaves the site as it was
@@ -170,6 +184,28 @@ pub fn dms<S: Site, I: Source>(
     ensures stable_at_ok { OnCompile words.now (IsSpoken result → IsTrue S.tells → Only (S.files site.new) (S.clock site.new)) }
     // no text comes before the file is whole
     ensures says_sealed_at_every_moment { OnCompile words.now (IsTrue S.tells → OfSchema (I.left input.old) (λ d. SaysSealed (sealed_file d) (S.clock site.old) (S.clock site.new))) }
+    // ---- `initialize`
+    // nothing of the input is taken
+    ensures initialize_untaken { OnInitialize words.now (λ tag. input.new ≡ input.old) }
+    // only the statuses 0, 4 with no description, 5, 7, 10 and 11 come
+    ensures initialize_statuses { OnInitialize words.now (λ tag. IsOfCreation result) }
+    // of a sealed description a stop leaves what it could leave at entry, or there no database, or exactly the new one
+    ensures initialize_at_every_moment { OnInitialize words.now (λ tag. IsTrue S.tells → (d : Described) → IsSealed (S.files site.old 1) d → Initializes tag d (S.files site.old) (S.clock site.old) (S.clock site.new)) }
+    // at status 0 it is exactly the new one
+    ensures initialize_at_ok { OnInitialize words.now (λ tag. IsSpoken result → IsTrue S.tells → (d : Described) → IsSealed (S.files site.old 1) d → IsMade tag d (S.files site.old) (S.files site.new)) }
+    // and a stop leaves no other
+    ensures initialize_stable { OnInitialize words.now (λ tag. IsSpoken result → IsTrue S.tells → Only (S.files site.new) (S.clock site.new)) }
+    // at status 0 exactly the line was printed, at 10 a prefix of it, else nothing
+    ensures initialize_says { OnInitialize words.now (λ tag. IsTrue S.tells_said → Says result initialized_text (S.said site.old) (S.said site.new)) }
+    // status 4 comes only where file 1 is no sealed description, and 0 and 10 only where it is one
+    ensures no_description { OnInitialize words.now (λ tag. result ≡ Status.Needed NeedFault.NoDescription → IsTrue S.tells → IsUnsealed (S.files site.old 1)) }
+    ensures initialize_described { OnInitialize words.now (λ tag. IsSpoken result → IsTrue S.tells → (d : Described) × IsSealed (S.files site.old 1) d) }
+    // status 11 comes only where the gate of the database is open behind a sealed description, and 0 and 10 only where it isn't
+    ensures initialize_exists { OnInitialize words.now (λ tag. result ≡ Status.Exists → IsTrue S.tells → slice_index (S.files site.old 1) 1 ≡ 1) }
+    ensures initialize_exists_described { OnInitialize words.now (λ tag. result ≡ Status.Exists → IsTrue S.tells → (d : Described) × IsSealed (S.files site.old 1) d) }
+    ensures initialize_shut { OnInitialize words.now (λ tag. IsSpoken result → IsTrue S.tells → slice_index (S.files site.old 1) 1 ≢ 1) }
+    // at the statuses that come before a file is changed a stop leaves what it could leave before
+    ensures initialize_stays { OnInitialize words.now (λ tag. IsBefore result → Steps Same (S.clock site.old) (S.clock site.new)) }
 {
     if is_try(words) {
         return try_input(alloc, site, input);
@@ -177,5 +213,8 @@ pub fn dms<S: Site, I: Source>(
     if is_compile(words) {
         return compile_input(alloc, site, input);
     }
-    Status::BadWords
+    match initialize_tag(words) {
+        Some(tag) => initialize_database(alloc, site, tag),
+        None => Status::BadWords,
+    }
 }

@@ -5,12 +5,13 @@ ghost use Rattle.dms_feed.specs.Lines.{raw_lines};
 ghost use Rattle.dms_model.specs.Db.{empty_db};
 ghost use Rattle.dms_plain.specs.Speaking.{OnlySpeaks};
 ghost use Rattle.dms_plain.specs.Told.{told};
-ghost use Rattle.dms_runner.specs.Answers.{answers_text};
+ghost use Rattle.dms_runner.specs.Answers.{answers_text, script_events};
+ghost use Rattle.dms_runner.specs.Blaming.{CutRun};
 ghost use Rattle.dms_runner.specs.Running.{CutInput};
-ghost use Rattle.dms_top.specs.Answering.{Printed, PrintedFront, WithinLimits, Passes};
+ghost use Rattle.dms_top.specs.Answering.{Printed, PrintedFront, PrintedWhole, WithinLimits, Passes};
 ghost use Rattle.dms_top.specs.declared.status.LimitKind.{LimitKind as Kind};
 ghost use Rattle.dms_top.specs.Premises.{OfRest, CountedAt};
-ghost use Rattle.dms_top.specs.Words.{IsSilent};
+ghost use Rattle.dms_top.specs.Words.{IsOfTry, IsSilent};
 ghost use Rattle.dms_top.specs.declared.status.SchemaFault.{SchemaFault as Refusal};
 
 use crate::status::{LimitKind, Status};
@@ -26,6 +27,7 @@ use std::alloc::Global;
 /// The status that a fault of a run ends with. A run over a list reads and writes no file, so it never answers a fault of
 /// the disk, a full audit or a damaged block.
 fn status_of(fault: RunFault) -> Status
+    ensures statuses { IsOfTry result }
     ensures ok { result ≢ Status.Ok }
     ensures words { result ≢ Status.BadWords }
     ensures schema { (f : Refusal) → result ≢ Status.SchemaRefused f }
@@ -50,6 +52,7 @@ fn status_of(fault: RunFault) -> Status
 
 /// The status that a run ends with.
 fn status_after(ran: Result<(), RunFault>) -> Status
+    ensures statuses { IsOfTry result }
     ensures ok { result ≡ Status.Ok → IsOk ran }
     ensures words { result ≢ Status.BadWords }
     ensures schema { (f : Refusal) → result ≢ Status.SchemaRefused f }
@@ -58,6 +61,7 @@ fn status_after(ran: Result<(), RunFault>) -> Status
     ensures disk { result ≢ Status.DiskFault }
     ensures say { result ≡ Status.SayFault → IsErrOf ran (RunFault.Block BlockFault.Say) }
     ensures said { IsErrOf ran (RunFault.Block BlockFault.Say) → result ≡ Status.SayFault }
+    ensures memory { result ≡ Status.Memory → CutRun ran → ⊥ }
     ensures lines { result ≡ Status.Limit LimitKind.Lines → IsErrOf ran RunFault.Lines }
     ensures bytes { result ≡ Status.Limit LimitKind.Bytes → IsErrOf ran RunFault.Bytes }
     ensures held { result ≡ Status.Limit LimitKind.Held → IsErrOf ran RunFault.Held }
@@ -77,12 +81,14 @@ pub fn try_lines<S: Site, I: Source>(
     feed: &mut Feed,
     source: &mut I,
 ) -> Status
+    ensures statuses { IsOfTry result }
     ensures words { result ≢ Status.BadWords }
     ensures schema { (f : Refusal) → result ≢ Status.SchemaRefused f }
     ensures end { result ≡ Status.Ok → OfRest feed.old (I.left source.old) (λ all. Remains feed.new (I.left source.new) []) }
     ensures answers { result ≡ Status.Ok → IsTrue S.tells_said → OfRest feed.old (I.left source.old) (λ all. Printed (S.said site.old) (S.said site.new) (answers_text (described desc.now) empty_db 1 (raw_lines all))) }
     ensures within { result ≡ Status.Ok → OfRest feed.old (I.left source.old) (λ all. WithinLimits (described desc.now) (raw_lines all)) }
     ensures part { IsTrue S.tells_said → OfRest feed.old (I.left source.old) (λ all. PrintedFront (S.said site.old) (S.said site.new) (answers_text (described desc.now) empty_db 1 (raw_lines all))) }
+    ensures whole_answers { result ≡ Status.Memory → IsTrue S.tells_said → OfRest feed.old (I.left source.old) (λ all. PrintedWhole (S.said site.old) (S.said site.new) (script_events (described desc.now) empty_db 1 (raw_lines all))) }
     ensures limit { (k : Kind) → result ≡ Status.Limit k → OfRest feed.old (I.left source.old) (λ all. Passes k (described desc.now) (raw_lines all) (told S.tells_said (S.said site.old)) (told S.tells_said (S.said site.new))) }
     ensures input_cut { result ≡ Status.InputFault → OfRest feed.old (I.left source.old) (λ all. CutInput (described desc.now) empty_db 1 all (I.left source.new) (told S.tells_said (S.said site.old)) (told S.tells_said (S.said site.new))) }
     ensures input { CountedAt (result ≡ Status.InputFault) (I.faults source.old) (I.faults source.new) }

@@ -2,7 +2,7 @@ use Rattle.std.proofs.Common.{◌≡◌, ◌+◌, ◌-◌, ◌≢◌, ◌∙◌,
 use Rattle.std.proofs.lemmas.Result.{on_ok_weaker}
 use Rattle.dms_moments.specs.MomentLaws.{steps_on, steps_weaken}
 use Rattle.dms_audfile.proofs.Blank.{blank_length}
-use Rattle.dms_audfile.proofs.Growing.{content_step, next_step, none_grows, gate_step, ready, ready_same, next_others, all_others, done_trail, done_writes}
+use Rattle.dms_audfile.proofs.Growing.{content_step, next_step, none_grows, gate_step, ready, ready_same, next_others, all_others, all_next, done_trail, done_writes}
 use Rattle.dms_audfile.proofs.sealing.seal_block.Goals as goal
 
 pub returns-in_err-write_content-clause-moments : goal.returns-in_err-write_content-clause-moments
@@ -58,3 +58,7 @@ returns-clause-others g c =
     let last = λ (is : c.args.count + 1 ≡ c.args.total). c.in_ok-start_next.ensures.started tells is in
     let more = λ (ne : c.args.count + 1 ≢ c.args.total). c.in_ok-start_next.ensures.same tells ne in
     all_others c.args.file c.from-place.result c.args.content.now _ _ _ _ (c.in_ok-write_content.ensures.written tells) (next_others c.args.file c.args.count c.args.total _ _ _ last more) (gated tells)) c.write_synced.ensures.written
+
+pub returns-clause-next : goal.returns-clause-next
+returns-clause-next g c =
+    on_ok_weaker c.write_synced.result (λ gated tells more. all_next c.args.file _ _ _ _ _ _ (c.in_ok-write_content.ensures.written tells) (c.in_ok-start_next.ensures.same tells more) (gated tells)) c.write_synced.ensures.written

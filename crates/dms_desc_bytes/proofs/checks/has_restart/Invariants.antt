@@ -1,7 +1,7 @@
 use Rattle.std.proofs.Common.{◌≡◌, drop, map}
 use Rattle.std.specs.List.{list_any}
 use Rattle.dms_desc.specs.Shape.{shape_of}
-use Rattle.dms_desc_bytes.specs.WellFormed.{is_restart}
+use Rattle.dms_desc.specs.Kinds.{is_restart}
 use Rattle.dms_desc_bytes.proofs.checks.has_restart.Given as goal
 
 -- what is left gives what the whole gives

@@ -1,4 +1,4 @@
-use Rattle.std.proofs.Common.{ℕ, List, Bool, true, false, ◌+◌, ◌-◌, ◌<◌, ◌^◌, ◌≡◌, ◌∙◌, Ok, Err, ap, sym, subst, arith, length, take, drop}
+use Rattle.std.proofs.Common.{ℕ, List, ◌-◌, ◌<◌, ◌^◌, ◌≡◌, ◌∙◌, Ok, Err, ap, sym, subst, arith, length, take, drop}
 use Rattle.std.specs.Str.{IsUtf8}
 use Rattle.std.proofs.lemmas.Str.{IsUtf8-from_ascii}
 use Rattle.std.proofs.lemmas.Str.Parse.{numerals_by_value, tells_digits, parse_gives}

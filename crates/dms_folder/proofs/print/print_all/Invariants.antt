@@ -1,4 +1,4 @@
-use Rattle.std.proofs.Common.{length, take, ◌-◌, ◌≡◌, ◌≤◌, ◌++◌, ℕ, IsTrue}
+use Rattle.std.proofs.Common.{length, take, ◌-◌, ◌≡◌, ◌≤◌, ◌++◌, IsTrue}
 use Rattle.dms_moments.specs.Moments.{Steps}
 use Rattle.dms_calls.specs.World.{Speaks}
 use Rattle.dms_folder.proofs.print.print_all.Given as goal

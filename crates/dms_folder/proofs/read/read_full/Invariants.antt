@@ -1,4 +1,4 @@
-use Rattle.std.proofs.Common.{length, take, drop, ◌-◌, ◌≡◌, ◌+◌, ◌<◌, ◌≤◌, ◌++◌, false, ℕ, IsTrue}
+use Rattle.std.proofs.Common.{length, drop, ◌-◌, ◌≡◌, ◌≤◌, ◌++◌, false, IsTrue}
 use Rattle.dms_moments.specs.Moments.{Steps}
 use Rattle.dms_site.specs.Files.{range}
 use Rattle.dms_calls.specs.World.{Unchanged}

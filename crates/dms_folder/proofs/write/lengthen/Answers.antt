@@ -1,7 +1,5 @@
-use Rattle.std.proofs.Common.{◌∙◌, ◌≡◌, ◌≤◌, ap, subst, sym, arith, length, List, ℕ, take, IsTrue}
+use Rattle.std.proofs.Common.{◌∙◌, ◌≡◌, ◌≤◌, ap, subst, arith, length, take, IsTrue}
 use Rattle.std.proofs.lemmas.Result.{on_ok_weaker}
-use Rattle.dms_moments.specs.MomentLaws.{steps_on}
-use Rattle.dms_moments.specs.Moments.{Steps}
 use Rattle.dms_site.specs.Files.{Torn, padded}
 use Rattle.dms_calls.specs.World.{World, OnFile}
 use Rattle.dms_folder.specs.Writes.{overlaid_none, overlaid_within, on_file_refl}

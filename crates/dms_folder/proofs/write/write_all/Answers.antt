@@ -1,8 +1,6 @@
 use Rattle.std.proofs.lemmas.List.{take_all}
-use Rattle.std.proofs.Common.{◌∙◌, ap, rules, ◌≡◌, ◌+◌, ◌-◌, ◌<◌, ◌≤◌, arith, length, ℕ, List, take, drop, subst, length-drop}
-use Rattle.dms_moments.specs.Moments.{Steps}
-use Rattle.dms_site.specs.Files.{overlaid, Torn}
-use Rattle.dms_calls.specs.World.{OnFile}
+use Rattle.std.proofs.Common.{◌∙◌, ap, ◌≡◌, ◌+◌, ◌-◌, ◌<◌, arith, length, ℕ, List, take, drop, length-drop}
+use Rattle.dms_site.specs.Files.{overlaid}
 use Rattle.dms_folder.specs.Writes.{write_on, some_on, on_file_on, torn_on}
 use Rattle.dms_folder.proofs.write.write_all.Goals as goal
 

@@ -1,4 +1,4 @@
-use Rattle.std.proofs.Common.{length, take, ◌-◌, ◌≡◌, ◌+◌, ◌^◌, ◌<◌, false, [], OnOk, IsTrue, ℕ, ◌*◌, ◌≤◌}
+use Rattle.std.proofs.Common.{length, take, ◌-◌, ◌≡◌, ◌<◌, false, IsTrue, ◌≤◌}
 use Rattle.dms_moments.specs.Moments.{Steps}
 use Rattle.dms_site.specs.Files.{overlaid, Torn}
 use Rattle.dms_calls.specs.World.{OnFile}

@@ -1,6 +1,7 @@
 use Rattle.std.proofs.Common.{◌≡◌, drop, length}
 use Rattle.std.specs.Prelude.{◌==◌}
-use Rattle.dms_layout.specs.Slots.{record_width, slot_width}
+use Rattle.dms_desc.specs.Widths.{record_width}
+use Rattle.dms_layout.specs.Slots.{slot_width}
 use Rattle.dms_layout.proofs.reading.has_width.Given as goal
 
 abbrev pub invariant-loop-item : goal.invariant-loop-item

@@ -1,5 +1,6 @@
 use Rattle.std.proofs.Common.{◌≡◌, ◌+◌, ◌*◌, ◌≤◌, drop}
-use Rattle.dms_layout.specs.Slots.{record_width, slot_width}
+use Rattle.dms_desc.specs.Widths.{record_width}
+use Rattle.dms_layout.specs.Slots.{slot_width}
 use Rattle.dms_layout.proofs.writing.slot_width.Given as goal
 
 abbrev pub invariant-loop-item : goal.invariant-loop-item

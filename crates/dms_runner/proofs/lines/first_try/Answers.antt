@@ -7,7 +7,7 @@ use Rattle.dms_runner.specs.declared.held.Held.{Held as HeldLine}
 use Rattle.dms_runner.specs.Held.{answer_text}
 use Rattle.dms_runner.specs.Answers.{Lined, first_line}
 use Rattle.dms_runner.specs.Events.{calls, says}
-use Rattle.dms_runner.proofs.Happening.{step_numbers, ran_calls, ran_on, ran_as, part_calls, part_of_first, part_on, part_all, part_as}
+use Rattle.dms_runner.proofs.Happening.{step_numbers, ran_calls, ran_on, ran_as, part_calls, part_of_first, part_on, part_all, part_as, part_cut, cut_as}
 use Rattle.dms_runner.proofs.Lining.{lined_as, goes_walked, walks_from, walks_part_from, goes_held, goes_full, tried_starts, tried_waits, tried_answered, says_answer, held_events, full_events}
 use Rattle.dms_runner.proofs.lines.first_try.Goals as goal
 
@@ -26,7 +26,7 @@ returns-in_err-say_answer-clause-part g c = λ now stands same line room.
     let called = ran_calls _ _ o c.in_ok-answer.answer c.call.ensures.lasts.causes.tells c.call.ensures.lasts.causes.whole c.in_ok-answer.ensures.lasts.causes.cause c.call.ensures.mute (omega (arith, stands.next, is.session.next, step_numbers (described c.args.engine.now.desc) now.session c.args.name c.args.verb)) did in
     let text = says_answer c.args.line now.line c.args.name c.in_ok-answer.answer.reply o.reply c.in_ok-answer.answer.sync o.sync (sym line) is.reply is.sync in
     let e = tried_answered (described c.args.engine.now.desc) now c.args.name c.args.verb o (ap is_waits (sym is.reply) ∙ sym c.is_waits.ensures ∙ c.if-not-is_waits.true) in
-    part_as _ _ _ _ (sym (ap (λ (l : Lined). l.events) e)) (part_of_first _ _ (calls o ∷ says (answer_text now.line c.args.name o.reply o.sync) ∷ []) _ (part_on _ _ _ (calls o ∷ []) _ called (part_as _ _ _ _ text (c.say_answer.ensures.part room'))))
+    part_as _ _ _ _ (sym (ap (λ (l : Lined). l.events) e)) (part_of_first _ _ (calls o ∷ says (answer_text now.line c.args.name o.reply o.sync) ∷ []) _ (part_on _ _ _ (calls o ∷ []) _ called (part_as _ _ _ _ text (part_cut _ _ _ (cut_as _ _ c.from_residual-in_err-say_answer.ensures.1) (c.in_err-say_answer.ensures.part room')))))
 
 pub returns-in_err-walk_all-clause-part : goal.returns-in_err-walk_all-clause-part
 returns-in_err-walk_all-clause-part g c = λ now stands same line room.
@@ -38,7 +38,7 @@ returns-in_err-walk_all-clause-part g c = λ now stands same line room.
     let text = says_answer c.args.line now.line c.args.name c.in_ok-answer.answer.reply o.reply c.in_ok-answer.answer.sync o.sync (sym line) is.reply is.sync in
     let e = tried_answered (described c.args.engine.now.desc) now c.args.name c.args.verb o (ap is_waits (sym is.reply) ∙ sym c.is_waits.ensures ∙ c.if-not-is_waits.true) in
     part_as _ _ _ _ (sym (ap (λ (l : Lined). l.events) e)) (part_on _ _ _ (calls o ∷ says (answer_text now.line c.args.name o.reply o.sync) ∷ []) _ (ran_on _ _ _ (calls o ∷ []) (says (answer_text now.line c.args.name o.reply o.sync) ∷ []) called (ran_as _ _ _ _ text (c.in_ok-say_answer.ensures.ran room')))
-    (walks_part_from _ _ o.session _ _ _ _ (ap described (c.say_answer.ensures.lasts.description ∙ c.call.ensures.lasts.description)) (sym same) (c.walk_all.ensures.part o.session (c.in_ok-say_answer.ensures.stands o.session is.session) (omega (arith, room, ap length same, (step_small (described c.args.engine.now.desc) now.session c.args.name c.args.verb).high)))))
+    (walks_part_from _ _ o.session _ _ _ _ (ap described (c.say_answer.ensures.lasts.description ∙ c.call.ensures.lasts.description)) (sym same) (part_cut _ _ _ (cut_as _ _ c.from_residual-in_err-walk_all.ensures.1) (c.in_err-walk_all.ensures.part o.session (c.in_ok-say_answer.ensures.stands o.session is.session) (omega (arith, room, ap length same, (step_small (described c.args.engine.now.desc) now.session c.args.name c.args.verb).high))))))
 
 pub returns-then-not-is_waits-clause-lined : goal.returns-then-not-is_waits-clause-lined
 returns-then-not-is_waits-clause-lined g c = λ now stands same line room.
@@ -62,7 +62,7 @@ returns-then-not-is_waits-clause-part g c = λ now stands same line room.
     let text = says_answer c.args.line now.line c.args.name c.in_ok-answer.answer.reply o.reply c.in_ok-answer.answer.sync o.sync (sym line) is.reply is.sync in
     let e = tried_answered (described c.args.engine.now.desc) now c.args.name c.args.verb o (ap is_waits (sym is.reply) ∙ sym c.is_waits.ensures ∙ c.if-not-is_waits.true) in
     part_as _ _ _ _ (sym (ap (λ (l : Lined). l.events) e)) (part_on _ _ _ (calls o ∷ says (answer_text now.line c.args.name o.reply o.sync) ∷ []) _ (ran_on _ _ _ (calls o ∷ []) (says (answer_text now.line c.args.name o.reply o.sync) ∷ []) called (ran_as _ _ _ _ text (c.in_ok-say_answer.ensures.ran room')))
-    (walks_part_from _ _ o.session _ _ _ _ (ap described (c.say_answer.ensures.lasts.description ∙ c.call.ensures.lasts.description)) (sym same) (c.walk_all.ensures.part o.session (c.in_ok-say_answer.ensures.stands o.session is.session) (omega (arith, room, ap length same, (step_small (described c.args.engine.now.desc) now.session c.args.name c.args.verb).high)))))
+    (walks_part_from _ _ o.session _ _ _ _ (ap described (c.say_answer.ensures.lasts.description ∙ c.call.ensures.lasts.description)) (sym same) (c.in_ok-walk_all.ensures.part o.session (c.in_ok-say_answer.ensures.stands o.session is.session) (omega (arith, room, ap length same, (step_small (described c.args.engine.now.desc) now.session c.args.name c.args.verb).high)))))
 
 pub returns-then-len-ge-HELD_LINES-clause-lined : goal.returns-then-len-ge-HELD_LINES-clause-lined
 returns-then-len-ge-HELD_LINES-clause-lined g c = λ now stands same line room.
@@ -96,7 +96,7 @@ returns-in_err-say_answer-2-clause-part g c = λ now stands same line room.
     let text = says_answer c.args.line now.line c.args.name c.in_ok-answer.answer.reply o.reply c.in_ok-answer.answer.sync o.sync (sym line) is.reply is.sync in
     let e = tried_waits (described c.args.engine.now.desc) now c.args.name c.args.verb o (ap is_waits (sym is.reply) ∙ sym c.is_waits.ensures ∙ c.if-not-is_waits.false) in
     let few : length now.held < 10000 = omega (arith, ap length same, c.if-len-ge-HELD_LINES.false, c.len.ensures, c.args.held.now.ok.0) in
-    part_as _ _ _ _ (sym (ap (λ (l : Lined). l.events) e ∙ held_events now o.session _ _ _ few)) (part_on _ _ _ (calls o ∷ []) _ called (part_as _ _ _ _ text (c.say_answer-2.ensures.part room')))
+    part_as _ _ _ _ (sym (ap (λ (l : Lined). l.events) e ∙ held_events now o.session _ _ _ few)) (part_on _ _ _ (calls o ∷ []) _ called (part_as _ _ _ _ text (part_cut _ _ _ (cut_as _ _ c.from_residual-in_err-say_answer-2.ensures.1) (c.in_err-say_answer-2.ensures.part room'))))
 
 pub returns-in_err-push-clause-part : goal.returns-in_err-push-clause-part
 returns-in_err-push-clause-part g c = λ now stands same line room.

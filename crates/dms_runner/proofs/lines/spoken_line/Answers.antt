@@ -1,6 +1,6 @@
 use Rattle.std.proofs.Common.{◌≡◌, ◌∙◌, [], ◌∷◌, ◌++◌, ℕ, List, true, false, sym, ap, subst, arith, length, IsTrue}
 use Rattle.dms_desc.specs.Shape.{described}
-use Rattle.dms_runner.specs.Events.{RanPart}
+use Rattle.dms_runner.specs.Events.{CutOff, RanPart}
 use Rattle.dms_storeverbs.specs.View.{seen, view, Stands}
 use Rattle.dms_model.specs.Session.{step}
 use Rattle.dms_script.specs.declared.line.Line.TheVariants.{Verb as Spoken}
@@ -25,7 +25,7 @@ returns-then-not-has_line-clause-lined g c = then_ok c.first_try.result
 pub returns-then-not-has_line-clause-part : goal.returns-then-not-has_line-clause-part
 returns-then-not-has_line-clause-part g c = λ now stands same line room.
     let has : has_line now.held c.args.name ≡ false = ap (λ (l : List HeldLine). has_line l c.args.name) (same ∙ sym c.as_slice.ensures.value) ∙ sym c.has_line.ensures ∙ c.if-not-has_line.true in
-    subst (λ (l : Lined). RanPart (seen c.args.engine.now) (seen c.first_try.new.engine) l.events) (sym (spoken_tried (described c.args.engine.now.desc) now c.args.name c.args.verb has)) (c.first_try.ensures.part now stands same line room)
+    subst (λ (l : Lined). RanPart (CutOff c.first_try.result) (seen c.args.engine.now) (seen c.first_try.new.engine) l.events) (sym (spoken_tried (described c.args.engine.now.desc) now c.args.name c.args.verb has)) (c.first_try.ensures.part now stands same line room)
 
 pub returns-then-len-ge-HELD_LINES-clause-lined : goal.returns-then-len-ge-HELD_LINES-clause-lined
 returns-then-len-ge-HELD_LINES-clause-lined g c = λ now stands same line room.

@@ -1,7 +1,7 @@
 use Rattle.std.proofs.Common.{◌≡◌, ◌+◌, ◌∙◌, ℕ, List, true, sym, ap, subst, take, IsTrue}
 use Rattle.dms_desc.specs.declared.description.Description.{Description}
 use Rattle.dms_desc.specs.Shape.{described}
-use Rattle.dms_runner.specs.Events.{RanPart}
+use Rattle.dms_runner.specs.Events.{CutOff, RanPart}
 use Rattle.dms_storeverbs.specs.View.{seen, view, Stands}
 use Rattle.dms_script.specs.declared.line.Line.TheVariants.{Empty, Verb as Spoken, Bad}
 use Rattle.dms_script.specs.Lines.{line_of}
@@ -28,7 +28,7 @@ returns-in-Bad-clause-lined g c = then_ok c.bad_line.result
 pub returns-in-Bad-clause-part : goal.returns-in-Bad-clause-part
 returns-in-Bad-clause-part g c = λ now whole raw stands same line room.
     let e : line_step (described c.args.engine.now.desc) now whole ≡ spoken (described c.args.engine.now.desc) (counted now) (Bad c.in-Bad.place) = line_is (described c.args.engine.now.desc) now whole c.args.raw.now c.line_text.result.now (Bad c.in-Bad.place) raw c.line_text.ensures (sym c.in-Bad.is ∙ c.in_ok-read_line.ensures ∙ ap (λ (d : Description). line_of (described d) c.line_text.result.now) c.description.ensures) in
-    subst (λ (l : Lined). RanPart (seen c.args.engine.now) (seen c.bad_line.new.engine) l.events) (sym e) (c.bad_line.ensures.part (counted now) stands same line room)
+    subst (λ (l : Lined). RanPart (CutOff c.bad_line.result) (seen c.args.engine.now) (seen c.bad_line.new.engine) l.events) (sym e) (c.bad_line.ensures.part (counted now) stands same line room)
 
 pub returns-in-Verb-clause-lined : goal.returns-in-Verb-clause-lined
 returns-in-Verb-clause-lined g c = then_ok c.spoken_line.result
@@ -42,4 +42,4 @@ returns-in-Verb-clause-lined g c = then_ok c.spoken_line.result
 pub returns-in-Verb-clause-part : goal.returns-in-Verb-clause-part
 returns-in-Verb-clause-part g c = λ now whole raw stands same line room.
     let e : line_step (described c.args.engine.now.desc) now whole ≡ spoken (described c.args.engine.now.desc) (counted now) (Spoken c.in-Verb.name c.in-Verb.verb) = line_is (described c.args.engine.now.desc) now whole c.args.raw.now c.line_text.result.now (Spoken c.in-Verb.name c.in-Verb.verb) raw c.line_text.ensures (sym c.in-Verb.is ∙ c.in_ok-read_line.ensures ∙ ap (λ (d : Description). line_of (described d) c.line_text.result.now) c.description.ensures) in
-    subst (λ (l : Lined). RanPart (seen c.args.engine.now) (seen c.spoken_line.new.engine) l.events) (sym e) (c.spoken_line.ensures.part (counted now) stands same line room)
+    subst (λ (l : Lined). RanPart (CutOff c.spoken_line.result) (seen c.args.engine.now) (seen c.spoken_line.new.engine) l.events) (sym e) (c.spoken_line.ensures.part (counted now) stands same line room)

@@ -1,10 +1,11 @@
 use Rattle.dms_storeverbs.specs.View.{seen}
-use Rattle.std.proofs.Common.{◌+◌, ◌<◌, ◌^◌, arith}
-use Rattle.dms_runner.proofs.Happening.{told_ended, undamaged_by, ran_back, ran_on, part_back, part_on, part_of_first}
+use Rattle.std.proofs.Common.{◌+◌, ◌<◌, ◌^◌, ap, arith}
+use Rattle.dms_runner.proofs.Happening.{told_ended, undamaged_by, ran_back, ran_on, part_back, part_on, part_of_first, part_cut}
+use Rattle.dms_runner.specs.declared.run.RunFault.TheVariants.{Block}
 use Rattle.dms_runner.proofs.run.end_run.Goals as goal
 
 pub returns-in-Err-clause-part : goal.returns-in-Err-clause-part
-returns-in-Err-clause-part g c = λ room. part_of_first _ _ _ _ (c.say_held.ensures.part room)
+returns-in-Err-clause-part g c = λ room. part_of_first _ _ _ _ (part_cut _ _ _ (λ is. ap Block is) (c.in-Err.ensures.part room))
 
 pub returns-in-Err-end-clause-part : goal.returns-in-Err-end-clause-part
 returns-in-Err-end-clause-part g c = λ room.

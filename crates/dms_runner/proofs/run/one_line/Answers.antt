@@ -4,9 +4,10 @@ use Rattle.dms_desc.specs.Shape.{described}
 use Rattle.dms_feed.specs.Feeds.{Remains}
 use Rattle.dms_feed.specs.Lines.{after_line, first_line}
 use Rattle.dms_block.specs.Texts.{Prints}
-use Rattle.dms_runner.proofs.Happening.{part_none}
+use Rattle.dms_runner.proofs.Happening.{part_none, part_cut}
 use Rattle.dms_runner.proofs.Lining.{line_silent}
 use Rattle.dms_runner.proofs.Running.{line_part}
+use Rattle.dms_runner.specs.declared.run.RunFault.TheVariants.{Block}
 use Rattle.dms_runner.proofs.run.one_line.Goals as goal
 
 pub returns-in-Err-Input-clause-part : goal.returns-in-Err-Input-clause-part
@@ -46,7 +47,7 @@ returns-in-Ok-true-clause-took g c = λ _ now all stands same line room remains.
 pub returns-in-Ok-true-clause-part : goal.returns-in-Ok-true-clause-part
 returns-in-Ok-true-clause-part g c = λ now all stands same line room remains.
     let e = (rw c.in-Ok-Some.field-0-is at c.in-Ok-Some.ensures.line) all remains in
-    line_part _ now all _ _ e.0.0 (c.take_line.ensures.part now (first_line all) (c.as_slice.ensures ∙ e.0.1) stands same (ap (λ (n : ℕ). n + 1) line) room)
+    line_part _ now all _ _ e.0.0 (c.in-Ok-true.ensures.part now (first_line all) (c.as_slice.ensures ∙ e.0.1) stands same (ap (λ (n : ℕ). n + 1) line) room)
 
 pub returns-in-Ok-false-clause-full_list : goal.returns-in-Ok-false-clause-full_list
 returns-in-Ok-false-clause-full_list g c = λ _ now all stands same line room remains.
@@ -57,12 +58,12 @@ returns-in-Ok-false-clause-full_list g c = λ _ now all stands same line room re
 pub returns-in-Ok-false-clause-part : goal.returns-in-Ok-false-clause-part
 returns-in-Ok-false-clause-part g c = λ now all stands same line room remains.
     let e = (rw c.in-Ok-Some.field-0-is at c.in-Ok-Some.ensures.line) all remains in
-    line_part _ now all _ _ e.0.0 (c.take_line.ensures.part now (first_line all) (c.as_slice.ensures ∙ e.0.1) stands same (ap (λ (n : ℕ). n + 1) line) room)
+    line_part _ now all _ _ e.0.0 (part_cut _ _ _ (λ no. absurd no) (c.in-Ok-false.ensures.part now (first_line all) (c.as_slice.ensures ∙ e.0.1) stands same (ap (λ (n : ℕ). n + 1) line) room))
 
 pub returns-clause-part : goal.returns-clause-part
 returns-clause-part g c = λ now all stands same line room remains.
     let e = (rw c.in-Ok-Some.field-0-is at c.in-Ok-Some.ensures.line) all remains in
-    line_part _ now all _ _ e.0.0 (c.take_line.ensures.part now (first_line all) (c.as_slice.ensures ∙ e.0.1) stands same (ap (λ (n : ℕ). n + 1) line) room)
+    line_part _ now all _ _ e.0.0 (part_cut _ _ _ (λ is. ap Block is) (c.in-Err.ensures.part now (first_line all) (c.as_slice.ensures ∙ e.0.1) stands same (ap (λ (n : ℕ). n + 1) line) room))
 
 pub returns-in-Ok-None-clause-rest : goal.returns-in-Ok-None-clause-rest
 returns-in-Ok-None-clause-rest g c = λ all remains.

@@ -9,6 +9,7 @@ use Rattle.dms_storeverbs.specs.View.{seen, view, Stands}
 use Rattle.dms_runner.specs.declared.held.Held.{Held}
 use Rattle.dms_runner.specs.Answers.{begun, lines_run, ending, script_events}
 use Rattle.dms_runner.specs.Events.{Ran, RanPart}
+use Rattle.dms_runner.specs.Blaming.{CutRun}
 use Rattle.dms_runner.specs.Running.{PassesBytes, PassesHeld, CutInput}
 use Rattle.dms_runner.proofs.Always.{always_ok, then_on, fault_as}
 use Rattle.dms_runner.proofs.Texts.{prints_none}
@@ -30,7 +31,7 @@ loop-line-init g c = record {
 pub returns-in-Err-clause-part : goal.returns-in-Err-clause-part
 returns-in-Err-clause-part g c = λ db first all stands small remains.
     let r = subst (λ (d : Description). Runs (described d) (begun db first) c.loop-line.line c.loop-line.room all (view c.loop-line.engine) c.loop-line.held.items c.loop-line.feed (g.I.Source.left c.loop-line.source) (seen c.args.engine.now) (seen c.loop-line.engine)) (sym c.loop-line.invariant.lasts.description) (c.loop-line.invariant.runs db first all stands small remains) in
-    let p = part_as _ _ _ _ (ap (λ (d : Description). script_events (described d) db first (raw_lines all)) c.loop-line.invariant.lasts.description) (runs_part _ db first _ _ all _ _ _ _ _ _ _ r (c.one_line.ensures.part (lines_run (described c.loop-line.engine.desc) (begun db first) r.done).going r.rest r.stands (sym r.held_is) r.line (runs_room (described c.loop-line.engine.desc) db first _ _ all _ _ _ _ _ _ r (omega (arith, c.loop-line-test.true)) small) r.remains)) in
+    let p = part_as _ _ _ _ (ap (λ (d : Description). script_events (described d) db first (raw_lines all)) c.loop-line.invariant.lasts.description) (runs_part _ db first _ _ all _ _ _ _ _ _ _ r (c.in-Err.ensures.part (lines_run (described c.loop-line.engine.desc) (begun db first) r.done).going r.rest r.stands (sym r.held_is) r.line (runs_room (described c.loop-line.engine.desc) db first _ _ all _ _ _ _ _ _ r (omega (arith, c.loop-line-test.true)) small) r.remains)) in
     p
 
 pub returns-in-Err-clause-lines : goal.returns-in-Err-clause-lines
@@ -81,7 +82,7 @@ returns-in-Ok-false-clause-part g c = λ db first all stands small remains.
     let none = (rw c.in-Ok-false.field-0-test at c.in-Ok-false.ensures.none) refl in
     let r = c.loop-line.invariant.runs db first all stands small remains in
     let room' : (seen c.one_line.new.engine).next + 1 < 2 ^ 64 = omega (arith, ap (λ (e : Engine g.row.St.Denot g.St.Store). (seen e).next) none.0, r.stands.next, runs_next _ db first _ _ all _ _ _ _ _ _ r c.loop-line.invariant.few small) in
-    let last : RanPart (seen c.loop-line.engine) (seen c.end_run.new.engine) (ending c.loop-line.held.items) = subst (λ (e : Engine g.row.St.Denot g.St.Store). RanPart (seen e) (seen c.end_run.new.engine) (ending c.loop-line.held.items)) none.0 (subst (λ (l : List Held). RanPart (seen c.one_line.new.engine) (seen c.end_run.new.engine) (ending l)) (c.as_slice.ensures.value ∙ ap (λ (v : Vec Held Global). v.items) none.1) (c.end_run.ensures.part room')) in
+    let last : RanPart (CutRun c.end_run.result) (seen c.loop-line.engine) (seen c.end_run.new.engine) (ending c.loop-line.held.items) = subst (λ (e : Engine g.row.St.Denot g.St.Store). RanPart (CutRun c.end_run.result) (seen e) (seen c.end_run.new.engine) (ending c.loop-line.held.items)) none.0 (subst (λ (l : List Held). RanPart (CutRun c.end_run.result) (seen c.one_line.new.engine) (seen c.end_run.new.engine) (ending l)) (c.as_slice.ensures.value ∙ ap (λ (v : Vec Held Global). v.items) none.1) (c.end_run.ensures.part room')) in
     let p = runs_end_part _ db first _ _ all _ _ _ _ _ _ _ r (none.2 r.rest r.remains).0 last in
     p
 
@@ -169,7 +170,7 @@ pub returns-clause-part : goal.returns-clause-part
 returns-clause-part g c = λ db first all stands small remains.
     let r = c.loop-line.invariant.runs db first all stands small remains in
     let room' : (seen c.loop-line.engine).next + 1 < 2 ^ 64 = omega (arith, r.stands.next, runs_next _ db first _ _ all _ _ _ _ _ _ r c.loop-line.invariant.few small) in
-    let last : RanPart (seen c.loop-line.engine) (seen c.end_run-2.new.engine) (ending c.loop-line.held.items) = subst (λ (l : List Held). RanPart (seen c.loop-line.engine) (seen c.end_run-2.new.engine) (ending l)) c.as_slice-2.ensures.value (c.end_run-2.ensures.part room') in
+    let last : RanPart (CutRun c.end_run-2.result) (seen c.loop-line.engine) (seen c.end_run-2.new.engine) (ending c.loop-line.held.items) = subst (λ (l : List Held). RanPart (CutRun c.end_run-2.result) (seen c.loop-line.engine) (seen c.end_run-2.new.engine) (ending l)) c.as_slice-2.ensures.value (c.end_run-2.ensures.part room') in
     let p = runs_end_part _ db first _ _ all _ _ _ _ _ _ _ r (c.in-Ok.ensures.end r.rest r.remains).0 last in
     p
 

@@ -2,7 +2,7 @@ use Rattle.dms_storeverbs.specs.View.{seen}
 use Rattle.std.proofs.Common.{◌≡◌, ◌∙◌, subst, IsTrue}
 use Rattle.std.proofs.lemmas.Option.{get_or_from_slice_get}
 use Rattle.dms_desc.specs.Shape.{described}
-use Rattle.dms_runner.specs.Events.{RanPart}
+use Rattle.dms_runner.specs.Events.{CutOff, RanPart}
 use Rattle.dms_model.specs.Session.{step}
 use Rattle.dms_runner.specs.declared.held.Held.{Held as HeldLine}
 use Rattle.dms_runner.specs.Held.{tries}
@@ -11,4 +11,4 @@ use Rattle.dms_runner.proofs.walking.try_at.Goals as goal
 pub returns-clause-part : goal.returns-clause-part
 returns-clause-part g c = λ h is s stands room.
     let e : c.index-held-i.result ≡ h = c.index-held-i.is ∙ get_or_from_slice_get c.args.held.now c.args.i h c.index-held-i.result is in
-    subst (λ (x : HeldLine). RanPart (seen c.args.engine.now) (seen c.try_line.new.engine) (tries x (step (described c.args.engine.now.desc) s x.program x.verb))) e (c.try_line.ensures.part s stands room)
+    subst (λ (x : HeldLine). RanPart (CutOff c.try_line.result) (seen c.args.engine.now) (seen c.try_line.new.engine) (tries x (step (described c.args.engine.now.desc) s x.program x.verb))) e (c.try_line.ensures.part s stands room)

@@ -7,7 +7,7 @@ use Rattle.dms_runner.specs.declared.held.Held.{Held}
 use Rattle.dms_runner.specs.Held.{walks}
 use Rattle.dms_runner.specs.Trying.{Walks}
 use Rattle.dms_runner.proofs.Turns.{walking_start, walking_on, walking_end, walking_out, walking_part, walking_room, passes_from, part_from, written}
-use Rattle.dms_runner.proofs.Happening.{part_all}
+use Rattle.dms_runner.proofs.Happening.{part_all, part_cut, cut_as}
 use Rattle.dms_runner.proofs.walking.walk_all.Goals as goal
 
 pub loop-turn-init : goal.loop-turn-init
@@ -20,7 +20,7 @@ pub returns-in_err-pass-clause-part : goal.returns-in_err-pass-clause-part
 returns-in_err-pass-clause-part g c = λ s stands room.
     let k = c.loop-turn.invariant.walking s stands room in
     walking_part _ s _ _ _ _ _ _ _ k (omega (arith, c.loop-turn-test.true, c.len-turn-end.ensures, c.args.held.now.ok.0))
-    (part_from _ _ k.at _ _ _ _ (ap described c.loop-turn.invariant.lasts.description) c.as_mut_slice.ensures.value (c.pass.ensures.part k.at k.stands (walking_room _ s _ _ _ _ _ _ k room)))
+    (part_from _ _ k.at _ _ _ _ (ap described c.loop-turn.invariant.lasts.description) c.as_mut_slice.ensures.value (part_cut _ _ _ (cut_as _ _ c.from_residual.ensures.1) (c.in_err-pass.ensures.part k.at k.stands (walking_room _ s _ _ _ _ _ _ k room))))
 
 pub returns-in-None-clause-walks : goal.returns-in-None-clause-walks
 returns-in-None-clause-walks g c = λ s stands room.
@@ -34,7 +34,7 @@ pub returns-in-None-clause-part : goal.returns-in-None-clause-part
 returns-in-None-clause-part g c = λ s stands room.
     let k = c.loop-turn.invariant.walking s stands room in
     walking_part _ s _ _ _ _ _ _ _ k (omega (arith, c.loop-turn-test.true, c.len-turn-end.ensures, c.args.held.now.ok.0))
-    (part_from _ _ k.at _ _ _ _ (ap described c.loop-turn.invariant.lasts.description) c.as_mut_slice.ensures.value (c.pass.ensures.part k.at k.stands (walking_room _ s _ _ _ _ _ _ k room)))
+    (part_from _ _ k.at _ _ _ _ (ap described c.loop-turn.invariant.lasts.description) c.as_mut_slice.ensures.value (c.in_ok-pass.ensures.part k.at k.stands (walking_room _ s _ _ _ _ _ _ k room)))
 
 pub loop-turn-preserved : goal.loop-turn-preserved
 loop-turn-preserved g c = record {

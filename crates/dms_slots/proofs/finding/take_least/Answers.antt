@@ -4,12 +4,12 @@ use Rattle.dms_block.specs.Changing.{grown_is}
 use Rattle.dms_block.specs.Content.{Content, changed}
 use Rattle.dms_block.specs.HeldLaws.{looks_as, looks_on}
 use Rattle.dms_block.specs.View.{seen, seen_counts, under, written}
-use Rattle.dms_slots.specs.SlotBlocks.{file_of, slots_in, used_first, within}
+use Rattle.dms_slots.specs.SlotBlocks.{file_of, slots_in, before_free, within}
 use Rattle.dms_slots.specs.SlotBlockLaws.{least_on, least_here, least_behind, place_low, some_weaker}
 use Rattle.dms_slots.proofs.finding.take_least.Goals as goal
 
-pub returns-then-used-per-clause-least : goal.returns-then-used-per-clause-least
-returns-then-used-per-clause-least g c tells =
+pub returns-then-taken-per-clause-least : goal.returns-then-taken-per-clause-least
+returns-then-taken-per-clause-least g c tells =
     let b = c.args.b.now in
     let f = file_of c.args.s.now.number in
     let r = c.loop-i.invariant.reads in
@@ -17,8 +17,8 @@ returns-then-used-per-clause-least g c tells =
     let here = ap (seen_counts b) c.file_of.ensures in
     let low : c.loop-i.i < length (seen b f) = omega (arith, counted, here, c.count-count.ensures, c.loop-i-test.true) in
     let still : seen c.loop-i.b ≡ seen b = λ i. changed (r.written_still i) (r.looks.same.content tells i) in
-    let used = c.in_ok-used.ensures.used (r.looks.passes.lasts.told tells) ∙ ap (λ (x : Content). used_first (slots_in (shape_of c.args.s.now) (get_or (x f) c.loop-i.i []))) still in
-    let all = least_here (shape_of c.args.s.now) (seen b f) c.loop-i.i c.per_block-per.result c.in_ok-used.used _ low c.per_block-per.ensures.count used c.if-used-per.true (c.loop-i.invariant.used tells) in
+    let taken = c.in_ok-taken.ensures.taken (r.looks.passes.lasts.told tells) ∙ ap (λ (x : Content). before_free (slots_in (shape_of c.args.s.now) (get_or (x f) c.loop-i.i []))) still in
+    let all = least_here (shape_of c.args.s.now) (seen b f) c.loop-i.i c.per_block-per.result c.in_ok-taken.taken _ low c.per_block-per.ensures.count taken c.if-taken-per.true (c.loop-i.invariant.used tells) in
     c.within.ensures.is ∙ ap (within c.args.s.now.population) (omega (arith, all, ap (λ k. k * c.per_block-per.result) c.from.ensures))
 
 pub loop-i-preserved : goal.loop-i-preserved
@@ -28,18 +28,18 @@ loop-i-preserved g c =
     let r = c.loop-i.invariant.reads in
     record {
       reads = record {
-        written_still = c.in_ok-used.ensures.reads.written_still ∙ r.written_still;
-        looks = looks_as (Ok 0) (looks_on (Ok c.in_ok-used.used) r.looks c.in_ok-used.ensures.reads.looks);
-        same = g.met.B.Blocks.same_then _ _ _ r.same c.in_ok-used.ensures.reads.same;
+        written_still = c.in_ok-taken.ensures.reads.written_still ∙ r.written_still;
+        looks = looks_as (Ok 0) (looks_on (Ok c.in_ok-taken.taken) r.looks c.in_ok-taken.ensures.reads.looks);
+        same = g.met.B.Blocks.same_then _ _ _ r.same c.in_ok-taken.ensures.reads.same;
       };
-      faults = c.in_ok-used.ensures.causes ∙ c.loop-i.invariant.faults;
+      faults = c.in_ok-taken.ensures.causes ∙ c.loop-i.invariant.faults;
       used = λ tells.
           let counted = grown_is (written b) (under b).owns (under b).counts (under b).content ((g.met.B.Blocks.agrees b.below c.requires.sound).counted tells) b.fits f in
           let here = ap (seen_counts b) c.file_of.ensures in
           let low : c.loop-i.i < length (seen b f) = omega (arith, counted, here, c.count-count.ensures, c.loop-i-test.true) in
           let still : seen c.loop-i.b ≡ seen b = λ i. changed (r.written_still i) (r.looks.same.content tells i) in
-          let used = c.in_ok-used.ensures.used (r.looks.passes.lasts.told tells) ∙ ap (λ (x : Content). used_first (slots_in (shape_of c.args.s.now) (get_or (x f) c.loop-i.i []))) still in
-          least_on (shape_of c.args.s.now) (seen b f) c.loop-i.i c.per_block-per.result c.in_ok-used.used _ low c.per_block-per.ensures.count used c.if-used-per.false (omega (arith, c.in_ok-used.ensures.most, c.per_block-per.ensures.count)) (c.loop-i.invariant.used tells);
+          let taken = c.in_ok-taken.ensures.taken (r.looks.passes.lasts.told tells) ∙ ap (λ (x : Content). before_free (slots_in (shape_of c.args.s.now) (get_or (x f) c.loop-i.i []))) still in
+          least_on (shape_of c.args.s.now) (seen b f) c.loop-i.i c.per_block-per.result c.in_ok-taken.taken _ low c.per_block-per.ensures.count taken c.if-taken-per.false (omega (arith, c.in_ok-taken.ensures.most, c.per_block-per.ensures.count)) (c.loop-i.invariant.used tells);
     }
 
 pub returns-clause-least : goal.returns-clause-least
@@ -53,14 +53,14 @@ returns-clause-least g c tells =
     let at_end : c.from-2.result ≡ c.loop-i.i = omega (arith, c.from-2.ensures, c.loop-i-test.false, c.loop-i.auto.i-end) in
     c.within-2.ensures.is ∙ ap (within c.args.s.now.population) (omega (arith, all, ap (λ k. k * c.per_block-per.result) at_end))
 
-pub returns-then-used-per-clause-place : goal.returns-then-used-per-clause-place
-returns-then-used-per-clause-place g c =
+pub returns-then-taken-per-clause-place : goal.returns-then-taken-per-clause-place
+returns-then-taken-per-clause-place g c =
     let b = c.args.b.now in
     let counts = seen_counts b (file_of c.args.s.now.number) in
     let here = ap (seen_counts b) c.file_of.ensures in
-    let some : 0 < c.per_block-per.result = omega (arith, c.if-used-per.true) in
+    let some : 0 < c.per_block-per.result = omega (arith, c.if-taken-per.true) in
     let le : c.from.result ≤ counts = omega (arith, here, c.count-count.ensures, c.loop-i-test.true, c.from.ensures) in
-    some_weaker c.within.result _ _ (λ n is. ((let low : 1 ≤ n = omega (arith, is.0) in low), is.1, place_low c.args.s.now.items c.from.result c.per_block-per.result c.in_ok-used.used n counts c.per_block-per.ensures.count some c.if-used-per.true is.0 le)) c.within.ensures.some
+    some_weaker c.within.result _ _ (λ n is. ((let low : 1 ≤ n = omega (arith, is.0) in low), is.1, place_low c.args.s.now.items c.from.result c.per_block-per.result c.in_ok-taken.taken n counts c.per_block-per.ensures.count some c.if-taken-per.true is.0 le)) c.within.ensures.some
 
 pub returns-clause-place : goal.returns-clause-place
 returns-clause-place g c =

@@ -1,5 +1,5 @@
 use Rattle.std.proofs.Common.{◌≡◌, drop}
-use Rattle.dms_model.specs.Members.{key_cmp_from, key_cmp}
+use Rattle.dms_desc.specs.Keys.{key_cmp_from, key_cmp}
 use Rattle.dms_storeverbs.proofs.keys.key_order.Given as goal
 
 abbrev pub invariant-loop-k : goal.invariant-loop-k

@@ -1,5 +1,91 @@
+use Rattle.std.proofs.Common.{subst, ℕ}
+use Rattle.dms_creation.specs.Creation.{IsMade, Initializes}
+use Rattle.dms_top.proofs.Digits.{tag_try, tag_compile, same_tag}
 use Rattle.dms_top.proofs.Words.{not_both}
 use Rattle.dms_top.proofs.top.dms.Goals as goal
 
 pub returns-then-is_compile-clause-limit : goal.returns-then-is_compile-clause-limit
 returns-then-is_compile-clause-limit g c = λ is. absurd (not_both c.is_try.result (c.is_try.ensures.1 is) c.if-is_try.false)
+
+pub returns-then-is_try-clause-initialize_untaken : goal.returns-then-is_try-clause-initialize_untaken
+returns-then-is_try-clause-initialize_untaken g c = λ tag is. absurd (tag_try _ tag (c.is_try.ensures.0 c.if-is_try.true) is)
+
+pub returns-then-is_compile-clause-initialize_untaken : goal.returns-then-is_compile-clause-initialize_untaken
+returns-then-is_compile-clause-initialize_untaken g c = λ tag is. absurd (tag_compile _ tag (c.is_compile.ensures.0 c.if-is_compile.true) is)
+
+pub returns-then-is_try-clause-initialize_statuses : goal.returns-then-is_try-clause-initialize_statuses
+returns-then-is_try-clause-initialize_statuses g c = λ tag is. absurd (tag_try _ tag (c.is_try.ensures.0 c.if-is_try.true) is)
+
+pub returns-then-is_compile-clause-initialize_statuses : goal.returns-then-is_compile-clause-initialize_statuses
+returns-then-is_compile-clause-initialize_statuses g c = λ tag is. absurd (tag_compile _ tag (c.is_compile.ensures.0 c.if-is_compile.true) is)
+
+pub returns-then-is_try-clause-initialize_at_every_moment : goal.returns-then-is_try-clause-initialize_at_every_moment
+returns-then-is_try-clause-initialize_at_every_moment g c = λ tag is. absurd (tag_try _ tag (c.is_try.ensures.0 c.if-is_try.true) is)
+
+pub returns-then-is_compile-clause-initialize_at_every_moment : goal.returns-then-is_compile-clause-initialize_at_every_moment
+returns-then-is_compile-clause-initialize_at_every_moment g c = λ tag is. absurd (tag_compile _ tag (c.is_compile.ensures.0 c.if-is_compile.true) is)
+
+pub returns-then-is_try-clause-initialize_at_ok : goal.returns-then-is_try-clause-initialize_at_ok
+returns-then-is_try-clause-initialize_at_ok g c = λ tag is. absurd (tag_try _ tag (c.is_try.ensures.0 c.if-is_try.true) is)
+
+pub returns-then-is_compile-clause-initialize_at_ok : goal.returns-then-is_compile-clause-initialize_at_ok
+returns-then-is_compile-clause-initialize_at_ok g c = λ tag is. absurd (tag_compile _ tag (c.is_compile.ensures.0 c.if-is_compile.true) is)
+
+pub returns-then-is_try-clause-initialize_stable : goal.returns-then-is_try-clause-initialize_stable
+returns-then-is_try-clause-initialize_stable g c = λ tag is. absurd (tag_try _ tag (c.is_try.ensures.0 c.if-is_try.true) is)
+
+pub returns-then-is_compile-clause-initialize_stable : goal.returns-then-is_compile-clause-initialize_stable
+returns-then-is_compile-clause-initialize_stable g c = λ tag is. absurd (tag_compile _ tag (c.is_compile.ensures.0 c.if-is_compile.true) is)
+
+pub returns-then-is_try-clause-initialize_says : goal.returns-then-is_try-clause-initialize_says
+returns-then-is_try-clause-initialize_says g c = λ tag is. absurd (tag_try _ tag (c.is_try.ensures.0 c.if-is_try.true) is)
+
+pub returns-then-is_compile-clause-initialize_says : goal.returns-then-is_compile-clause-initialize_says
+returns-then-is_compile-clause-initialize_says g c = λ tag is. absurd (tag_compile _ tag (c.is_compile.ensures.0 c.if-is_compile.true) is)
+
+pub returns-then-is_try-clause-no_description : goal.returns-then-is_try-clause-no_description
+returns-then-is_try-clause-no_description g c = λ tag is. absurd (tag_try _ tag (c.is_try.ensures.0 c.if-is_try.true) is)
+
+pub returns-then-is_compile-clause-no_description : goal.returns-then-is_compile-clause-no_description
+returns-then-is_compile-clause-no_description g c = λ tag is. absurd (tag_compile _ tag (c.is_compile.ensures.0 c.if-is_compile.true) is)
+
+pub returns-then-is_try-clause-initialize_described : goal.returns-then-is_try-clause-initialize_described
+returns-then-is_try-clause-initialize_described g c = λ tag is. absurd (tag_try _ tag (c.is_try.ensures.0 c.if-is_try.true) is)
+
+pub returns-then-is_compile-clause-initialize_described : goal.returns-then-is_compile-clause-initialize_described
+returns-then-is_compile-clause-initialize_described g c = λ tag is. absurd (tag_compile _ tag (c.is_compile.ensures.0 c.if-is_compile.true) is)
+
+pub returns-then-is_try-clause-initialize_exists : goal.returns-then-is_try-clause-initialize_exists
+returns-then-is_try-clause-initialize_exists g c = λ tag is. absurd (tag_try _ tag (c.is_try.ensures.0 c.if-is_try.true) is)
+
+pub returns-then-is_compile-clause-initialize_exists : goal.returns-then-is_compile-clause-initialize_exists
+returns-then-is_compile-clause-initialize_exists g c = λ tag is. absurd (tag_compile _ tag (c.is_compile.ensures.0 c.if-is_compile.true) is)
+
+pub returns-then-is_try-clause-initialize_exists_described : goal.returns-then-is_try-clause-initialize_exists_described
+returns-then-is_try-clause-initialize_exists_described g c = λ tag is. absurd (tag_try _ tag (c.is_try.ensures.0 c.if-is_try.true) is)
+
+pub returns-then-is_compile-clause-initialize_exists_described : goal.returns-then-is_compile-clause-initialize_exists_described
+returns-then-is_compile-clause-initialize_exists_described g c = λ tag is. absurd (tag_compile _ tag (c.is_compile.ensures.0 c.if-is_compile.true) is)
+
+pub returns-then-is_try-clause-initialize_shut : goal.returns-then-is_try-clause-initialize_shut
+returns-then-is_try-clause-initialize_shut g c = λ tag is. absurd (tag_try _ tag (c.is_try.ensures.0 c.if-is_try.true) is)
+
+pub returns-then-is_compile-clause-initialize_shut : goal.returns-then-is_compile-clause-initialize_shut
+returns-then-is_compile-clause-initialize_shut g c = λ tag is. absurd (tag_compile _ tag (c.is_compile.ensures.0 c.if-is_compile.true) is)
+
+pub returns-then-is_try-clause-initialize_stays : goal.returns-then-is_try-clause-initialize_stays
+returns-then-is_try-clause-initialize_stays g c = λ tag is. absurd (tag_try _ tag (c.is_try.ensures.0 c.if-is_try.true) is)
+
+pub returns-then-is_compile-clause-initialize_stays : goal.returns-then-is_compile-clause-initialize_stays
+returns-then-is_compile-clause-initialize_stays g c = λ tag is. absurd (tag_compile _ tag (c.is_compile.ensures.0 c.if-is_compile.true) is)
+
+pub returns-in-Some-clause-initialize_at_every_moment : goal.returns-in-Some-clause-initialize_at_every_moment
+returns-in-Some-clause-initialize_at_every_moment g c tag is tells d sealed =
+    subst (λ (t : ℕ). Initializes t d (g.S.Site.files c.args.site.now) (g.S.Site.clock c.args.site.now) (g.S.Site.clock c.initialize_database.new.site)) (same_tag _ c.in-Some.tag tag c.in-Some.ensures is) (c.initialize_database.ensures.moments tells d sealed)
+
+pub returns-in-Some-clause-initialize_at_ok : goal.returns-in-Some-clause-initialize_at_ok
+returns-in-Some-clause-initialize_at_ok g c tag is spoken tells d sealed =
+    subst (λ (t : ℕ). IsMade t d (g.S.Site.files c.args.site.now) (g.S.Site.files c.initialize_database.new.site)) (same_tag _ c.in-Some.tag tag c.in-Some.ensures is) (c.initialize_database.ensures.made spoken tells d sealed)
+
+pub returns-in-None-clause-initialize_at_ok : goal.returns-in-None-clause-initialize_at_ok
+returns-in-None-clause-initialize_at_ok g c tag is spoken = absurd spoken

@@ -1,10 +1,10 @@
 use Rattle.std.proofs.Common.{◌≡◌, ◌∙◌, ap, refl, sym, Ok, Err, List, ℕ}
 use Rattle.dms_desc.specs.Shape.{described}
 use Rattle.dms_model.specs.Db.{empty_db}
-use Rattle.dms_runner.specs.Answers.{answers_text}
-use Rattle.dms_top.specs.Answering.{try_text, script_of}
+use Rattle.dms_runner.specs.Answers.{answers_text, script_events}
+use Rattle.dms_top.specs.Answering.{try_events, try_text, script_of}
 use Rattle.dms_top.specs.Schema.{schema_text}
-use Rattle.dms_top.proofs.Printing.{nothing_printed, printed_moved, front_moved, text_accepted, same_description, within_moved, within_lines, passes_moved, passes_lines, not_refused}
+use Rattle.dms_top.proofs.Printing.{nothing_printed, nothing_whole, printed_moved, front_moved, whole_moved, text_accepted, events_accepted, same_description, within_moved, within_lines, passes_moved, passes_lines, not_refused}
 use Rattle.dms_top.specs.Judging.{judged}
 use Rattle.dms_top.proofs.Cutting.{cut_text, cut_script, cut_described}
 use Rattle.dms_top.proofs.Judgements.{long_judged, refused_is, ok_of, no_more, at_start}
@@ -43,6 +43,27 @@ returns-in-Memory-clause-part g c = λ told all left. nothing_printed _ _ (try_t
 
 pub returns-in-Refused-clause-part : goal.returns-in-Refused-clause-part
 returns-in-Refused-clause-part g c = λ told all left. nothing_printed _ _ (try_text all) refl
+
+pub returns-in-Err-Input-clause-whole_answers : goal.returns-in-Err-Input-clause-whole_answers
+returns-in-Err-Input-clause-whole_answers g c = λ is told all left. nothing_whole _ _ (try_events all) refl
+
+pub returns-in-Err-Memory-clause-whole_answers : goal.returns-in-Err-Memory-clause-whole_answers
+returns-in-Err-Memory-clause-whole_answers g c = λ is told all left. nothing_whole _ _ (try_events all) refl
+
+pub returns-in-Err-Long-clause-whole_answers : goal.returns-in-Err-Long-clause-whole_answers
+returns-in-Err-Long-clause-whole_answers g c = λ is told all left. nothing_whole _ _ (try_events all) refl
+
+pub returns-in-Memory-clause-whole_answers : goal.returns-in-Memory-clause-whole_answers
+returns-in-Memory-clause-whole_answers g c = λ is told all left. nothing_whole _ _ (try_events all) refl
+
+pub returns-in-Refused-clause-whole_answers : goal.returns-in-Refused-clause-whole_answers
+returns-in-Refused-clause-whole_answers g c = λ is told all left. nothing_whole _ _ (try_events all) refl
+
+pub returns-clause-whole_answers : goal.returns-clause-whole_answers
+returns-clause-whole_answers g c = λ is told all left.
+    let t = c.in-Ok.ensures.text all (at_start _ _ all c.new-feed.ensures left) in
+    let j : judged (schema_text all) ≡ Ok (described c.in-Description.desc) = ap judged (sym t.is ∙ sym c.as_slice.ensures) ∙ c.in-Description.ensures in
+    whole_moved _ _ _ _ (try_events all) _ refl refl (events_accepted _ _ (script_of all) j ∙ ap (λ (ls : List (List ℕ)). script_events (described c.in-Description.desc) empty_db 1 ls) (sym t.script)) (c.try_lines.ensures.whole_answers is told t.rest t.remains)
 
 pub returns-clause-answers : goal.returns-clause-answers
 returns-clause-answers g c = λ ok told all left.

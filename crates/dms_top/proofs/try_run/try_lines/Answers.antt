@@ -2,9 +2,9 @@ use Rattle.std.proofs.Common.{rules, ◌≡◌, ap, sym, refl, List, ℕ, arith}
 use Rattle.dms_desc.specs.Shape.{Described, described}
 use Rattle.dms_feed.specs.Lines.{raw_lines}
 use Rattle.dms_model.specs.Db.{empty_db}
-use Rattle.dms_runner.specs.Answers.{answers_text}
+use Rattle.dms_runner.specs.Answers.{answers_text, script_events}
 use Rattle.dms_top.specs.Answering.{Passes}
-use Rattle.dms_top.proofs.Printing.{told_front, told_prints, limits_kept, stands_at, front_moved, printed_moved, passes_moved, within_moved, on_ok}
+use Rattle.dms_top.proofs.Printing.{told_front, told_prints, told_whole, whole_moved, limits_kept, stands_at, front_moved, printed_moved, passes_moved, within_moved, on_ok}
 use Rattle.dms_top.proofs.Counting.{say_counted, counted_moved}
 use Rattle.dms_top.proofs.Cutting.{cut_moved}
 use Rattle.dms_plain.specs.Told.{told}
@@ -19,6 +19,11 @@ pub returns-in-Ok-new-clause-part : goal.returns-in-Ok-new-clause-part
 returns-in-Ok-new-clause-part g c = λ told all remains.
     let p = (c.run_lines-ran.ensures.part empty_db 1 all (stands_at _ _ 1 c.in-Ok.ensures.starts.next_is (c.in-Ok-new.ensures.stands empty_db c.in-Ok.ensures.starts.db_is)) (omega arith) remains).text in
     front_moved _ _ _ _ (g.S.Site.said c.run_lines-ran.new.engine.store.site.now) (answers_text (described c.in-Ok-new.engine.desc) empty_db 1 (raw_lines all)) (search rules) (search rules) (ap (λ (d : Described). answers_text d empty_db 1 (raw_lines all)) (sym c.in-Ok-new.ensures.described)) (told_front g.S.Site.tells_said _ _ _ told p)
+
+pub returns-in-Ok-new-clause-whole_answers : goal.returns-in-Ok-new-clause-whole_answers
+returns-in-Ok-new-clause-whole_answers g c = λ is told all remains.
+    let p = (c.run_lines-ran.ensures.part empty_db 1 all (stands_at _ _ 1 c.in-Ok.ensures.starts.next_is (c.in-Ok-new.ensures.stands empty_db c.in-Ok.ensures.starts.db_is)) (omega arith) remains).said_whole (c.status_after.ensures.memory is) in
+    whole_moved _ _ _ (g.S.Site.said c.run_lines-ran.new.engine.store.site.now) _ (script_events (described c.in-Ok-new.engine.desc) empty_db 1 (raw_lines all)) (search rules) (search rules) (ap (λ (d : Described). script_events d empty_db 1 (raw_lines all)) (sym c.in-Ok-new.ensures.described)) (told_whole g.S.Site.tells_said _ _ _ told p)
 
 pub returns-in-Ok-new-clause-answers : goal.returns-in-Ok-new-clause-answers
 returns-in-Ok-new-clause-answers g c = λ ok is all remains.

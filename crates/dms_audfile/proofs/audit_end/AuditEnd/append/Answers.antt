@@ -1,11 +1,11 @@
-use Rattle.std.proofs.Common.{◌≡◌, ◌∙◌, ◌++◌, sym, subst, inl, inr, [], ◌∷◌, drop}
+use Rattle.std.proofs.Common.{◌≡◌, ◌∙◌, ◌++◌, ap, arith, false, sym, subst, inl, inr, [], ◌∷◌, drop}
 use Rattle.std.proofs.lemmas.Result.{on_ok_weaker}
 use Rattle.dms_moments.specs.MomentLaws.{steps_on, steps_weaken}
 use Rattle.dms_audrec.specs.Seen.{entry_seen}
 use Rattle.dms_audfile.specs.declared.audit_end.AuditEnd.{AuditEnd}
 use Rattle.dms_audfile.specs.TrailEntries.{trail_entries}
-use Rattle.dms_audfile.specs.Ends.{EndsAt, Appends, is_past}
-use Rattle.dms_audfile.proofs.Ended.{seals_first, seals_then, between, held_ends, appends_held, appends_begun, bool_is, on_both, steps_as}
+use Rattle.dms_audfile.specs.Ends.{EndsAt, Appends, Grown, is_past}
+use Rattle.dms_audfile.proofs.Ended.{seals_first, seals_then, between, held_ends, appends_held, appends_begun, bool_is, on_both, steps_as, entry_long}
 use Rattle.dms_audfile.proofs.audit_end.AuditEnd.append.Goals as goal
 
 pub returns-in-Err-clause-moments : goal.returns-in-Err-clause-moments
@@ -48,8 +48,9 @@ returns-clause-appends g c = elim (bool_is c.begins-alone.result) [
       let files = g.S.Site.files c.seal_where.new.site in
       let more = drop made.some waiting ++ e ∷ [] in
       appends_begun one c.seal_where.new.self first waiting (e ∷ []) old mid files b (g.S.Site.clock c.seal_where.new.site) made (c.seal_where.ensures.kind.0 ∙ held.kind.0)
-      (subst (λ t. trail_entries t first files ≡ trail_entries t first mid ++ more) held.kind.0 (both.0 on first more tells ends)) (both.1 on first more tells ends))
-      (on_both c.seal_where.result _ _ c.seal_where.ensures.sealed c.seal_where.ensures.ends)
+      (subst (λ t. trail_entries t first files ≡ trail_entries t first mid ++ more) held.kind.0 (both.0.0 on first more tells ends))
+      (subst (λ t. Grown t first mid files) held.kind.0 (both.1 first more tells ends)) (both.0.1 on first more tells ends))
+      (on_both c.seal_where.result _ _ (on_both c.seal_where.result _ _ c.seal_where.ensures.sealed c.seal_where.ensures.ends) c.seal_where.ensures.grown)
   | inr off ↦ on_ok_weaker c.seal_where.result (λ done first waiting tells plain at.
       let s = c.args.self.now in
       let one = c.make_room.new.self in
@@ -73,3 +74,9 @@ returns-clause-within g c = on_ok_weaker c.seal_where.result (λ done. sym (λ i
 
 pub returns-in-Err-clause-past : goal.returns-in-Err-clause-past
 returns-in-Err-clause-past g c is = sym (λ i. is_past c.args.self.now (c.length.ensures i) (c.begins-alone.ensures i)) ∙ c.in-Err.ensures.past is
+
+pub returns-clause-waits : goal.returns-clause-waits
+returns-clause-waits g c = on_ok_weaker c.seal_where.result (λ done plain.
+    let off : c.begins-alone.result ≡ false = c.begins-alone.ensures ∙ plain in
+    let same = ap (λ (s : AuditEnd). s.used) (c.seal_where.ensures.idle off).0 in
+    omega (arith, same, c.hold.ensures.used, entry_long (entry_seen c.args.entry.now) c.requires.entry)) c.seal_where.ensures.empty

@@ -1,7 +1,7 @@
 use Rattle.std.proofs.Common.{◌≡◌, ◌∙◌, ◌++◌, sym, subst, inl, inr}
 use Rattle.dms_audfile.specs.declared.audit_end.AuditEnd.{AuditEnd}
 use Rattle.dms_audfile.specs.TrailEntries.{trail_entries}
-use Rattle.dms_audfile.specs.Ends.{Appends}
+use Rattle.dms_audfile.specs.Ends.{Appends, Grown}
 use Rattle.dms_audfile.proofs.Ended.{appends_all, appends_none, bool_is}
 use Rattle.dms_audfile.proofs.Limits.{past_by}
 use Rattle.dms_audfile.proofs.audit_end.AuditEnd.make_room.Goals as goal
@@ -13,7 +13,8 @@ returns-else-is_full-clause-appends g c first waiting tells plain at =
     let end = c.seal_where.new.self in
     elim (bool_is c.needs_block-needed.result) [
       | inl on ↦ appends_all end first waiting old new (g.S.Site.clock c.seal_where.new.site)
-          (subst (λ t. trail_entries t first new ≡ trail_entries t first old ++ waiting) (sym c.in-Ok.ensures.kind.0) (c.in-Ok.ensures.sealed on first waiting tells at)) (c.in-Ok.ensures.ends on first waiting tells at)
+          (subst (λ t. trail_entries t first new ≡ trail_entries t first old ++ waiting) (sym c.in-Ok.ensures.kind.0) (c.in-Ok.ensures.sealed on first waiting tells at))
+          (subst (λ t. Grown t first old new) (sym c.in-Ok.ensures.kind.0) (c.in-Ok.ensures.grown first waiting tells at)) (c.in-Ok.ensures.ends on first waiting tells at)
       | inr off ↦ (let idle = c.in-Ok.ensures.idle off in
           subst (λ (s : AuditEnd). Appends s first waiting old new (g.S.Site.clock c.seal_where.new.site)) (sym idle.0)
           (subst (λ t. Appends c.args.self.now first waiting old (g.S.Site.files t) (g.S.Site.clock t)) (sym idle.1) (appends_none c.args.self.now first waiting old (g.S.Site.clock c.args.site.now) plain at)))

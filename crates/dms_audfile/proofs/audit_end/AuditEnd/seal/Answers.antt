@@ -1,4 +1,4 @@
-use Rattle.std.proofs.Common.{◌≡◌, ◌<◌, ◌∙◌, ◌++◌, ap, sym, inl, List, ℕ, take, drop, [], ◌∷◌, arith, append-nil}
+use Rattle.std.proofs.Common.{◌≡◌, ◌<◌, ◌∙◌, ◌++◌, ap, sym, inl, List, ℕ, rules, take, drop, length, [], ◌∷◌, arith, append-nil}
 use Rattle.dms_moments.specs.MomentLaws.{steps_weaken}
 use Rattle.dms_site.specs.Files.{Files}
 use Rattle.dms_history.specs.Entries.{Entry}
@@ -7,7 +7,8 @@ use Rattle.dms_audfile.specs.Trail.{trail_from}
 use Rattle.dms_audfile.specs.Unsealed.{block_with}
 use Rattle.dms_audfile.specs.TrailEntries.{trail_entries}
 use Rattle.dms_audfile.specs.Ends.{unsealed}
-use Rattle.dms_audfile.proofs.Ended.{seals_of, seals_none, none_waits, few_wait, trail_more}
+use Rattle.dms_audfile.proofs.Ended.{seals_of, seals_none, none_waits, few_wait, trail_more, some_wait, grown_none, grown_one}
+use Rattle.dms_audfile.proofs.Growing.{writes_same}
 use Rattle.dms_audfile.proofs.Limits.{next_idle, next_busy}
 use Rattle.dms_audfile.proofs.audit_end.AuditEnd.seal.Goals as goal
 
@@ -32,22 +33,25 @@ returns-in-Ok-clause-moments g c first waiting tells at =
     let s = c.args.self.now in
     let few = few_wait s first waiting _ _ at s.few in
     let is : block_with (unsealed s) ≡ block_of waiting = ap block_with at.bytes in
+    let some : 0 < length waiting = some_wait s waiting at.bytes (search rules) c.if-self-eq0.false in
     let allowed : s.file < 20000 = s.begun (omega (arith, c.if-self-eq0.false)) in
-    steps_weaken (c.seal_block.ensures.moments first tells at.writes at.settled) (λ z x now grows. seals_of s.total s.tag first s.file waiting (block_with (unsealed s)) z x at.low at.writes.order allowed at.kind few is grows)
+    steps_weaken (c.seal_block.ensures.moments first tells at.writes at.settled) (λ z x now grows. seals_of s.total s.tag first s.file s.count waiting (block_with (unsealed s)) z x at.low (writes_same s.total s.tag first s.file s.count _ z.files at.writes (λ h from upto. at.settled h from upto z now)) allowed at.kind few some is grows)
 
 pub returns-in-Err-clause-moments : goal.returns-in-Err-clause-moments
 returns-in-Err-clause-moments g c first waiting tells at =
     let s = c.args.self.now in
     let few = few_wait s first waiting _ _ at s.few in
     let is : block_with (unsealed s) ≡ block_of waiting = ap block_with at.bytes in
+    let some : 0 < length waiting = some_wait s waiting at.bytes (search rules) c.if-self-eq0.false in
     let allowed : s.file < 20000 = s.begun (omega (arith, c.if-self-eq0.false)) in
-    steps_weaken (c.seal_block.ensures.moments first tells at.writes at.settled) (λ z x now grows. seals_of s.total s.tag first s.file waiting (block_with (unsealed s)) z x at.low at.writes.order allowed at.kind few is grows)
+    steps_weaken (c.seal_block.ensures.moments first tells at.writes at.settled) (λ z x now grows. seals_of s.total s.tag first s.file s.count waiting (block_with (unsealed s)) z x at.low (writes_same s.total s.tag first s.file s.count _ z.files at.writes (λ h from upto. at.settled h from upto z now)) allowed at.kind few some is grows)
 
 pub returns-in-Ok-clause-sealed : goal.returns-in-Ok-clause-sealed
 returns-in-Ok-clause-sealed g c first waiting tells at =
     let s = c.args.self.now in
     let few = few_wait s first waiting _ _ at s.few in
     let is : block_with (unsealed s) ≡ block_of waiting = ap block_with at.bytes in
+    let some : 0 < length waiting = some_wait s waiting at.bytes (search rules) c.if-self-eq0.false in
     let allowed : s.file < 20000 = s.begun (omega (arith, c.if-self-eq0.false)) in
     let old = g.S.Site.files c.args.site.now in
     trail_more s.total first waiting old _ at.kind few
@@ -68,3 +72,15 @@ returns-then-self-eq0-clause-next g c = sym (next_idle c.args.self.now c.if-self
 
 pub returns-in-Ok-clause-next : goal.returns-in-Ok-clause-next
 returns-in-Ok-clause-next g c = c.in-Ok.ensures.next ∙ sym (next_busy c.args.self.now c.if-self-eq0.false)
+
+pub returns-then-self-eq0-clause-grown : goal.returns-then-self-eq0-clause-grown
+returns-then-self-eq0-clause-grown g c first waiting tells at = grown_none _ first _
+
+pub returns-in-Ok-clause-grown : goal.returns-in-Ok-clause-grown
+returns-in-Ok-clause-grown g c first waiting tells at =
+    let s = c.args.self.now in
+    let few = few_wait s first waiting _ _ at s.few in
+    let is : block_with (unsealed s) ≡ block_of waiting = ap block_with at.bytes in
+    let some : 0 < length waiting = some_wait s waiting at.bytes (search rules) c.if-self-eq0.false in
+    let allowed : s.file < 20000 = s.begun (omega (arith, c.if-self-eq0.false)) in
+    grown_one s.total first waiting (block_with (unsealed s)) _ _ at.kind few some is (c.in-Ok.ensures.sealed first 10000 tells at.writes (omega (arith, at.low, allowed)))

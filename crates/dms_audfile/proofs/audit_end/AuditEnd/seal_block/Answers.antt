@@ -1,4 +1,6 @@
 use Rattle.std.proofs.Common.{◌≡◌, ◌∙◌, ◌+◌, ◌-◌, ◌++◌, ap, sym, subst, List, ℕ, take, drop, length, [], ◌∷◌, arith}
+use Rattle.std.proofs.Common.{inl, inr}
+use Rattle.std.proofs.lemmas.Bool.{cases_eq}
 use Rattle.dms_audfile.specs.Header.{new_header, tag_said}
 use Rattle.dms_audfile.specs.Trail.{trail_from}
 use Rattle.dms_audfile.specs.Sealing.{Writes}
@@ -107,3 +109,22 @@ returns-then-self-clause-next g c = sym (behind_more c.args.self.now c.if-self.t
 
 pub returns-else-self-clause-next : goal.returns-else-self-clause-next
 returns-else-self-clause-next g c = sym (behind_same c.args.self.now c.if-self.false)
+
+pub returns-then-self-clause-behind : goal.returns-then-self-clause-behind
+returns-then-self-clause-behind g c tells h far = c.in_ok-seal_block.ensures.others tells h (omega (arith, far)) (omega (arith, far))
+
+pub returns-else-self-clause-behind : goal.returns-else-self-clause-behind
+returns-else-self-clause-behind g c tells h far =
+    let s = c.args.self.now in
+    let old = g.S.Site.files c.args.site.now in
+    let new = g.S.Site.files c.seal_block.new.site in
+    elim (cases_eq h (s.file + 1)) [
+      | inl is ↦ ap new is ∙ c.in_ok-seal_block.ensures.next tells c.if-self.false ∙ ap old (sym is)
+      | inr other ↦ c.in_ok-seal_block.ensures.others tells h (omega (arith, far)) other
+    ]
+
+pub returns-then-self-clause-before : goal.returns-then-self-clause-before
+returns-then-self-clause-before g c tells h low = c.in_ok-seal_block.ensures.others tells h (omega (arith, low)) (omega (arith, low))
+
+pub returns-else-self-clause-before : goal.returns-else-self-clause-before
+returns-else-self-clause-before g c tells h low = c.in_ok-seal_block.ensures.others tells h (omega (arith, low)) (omega (arith, low))

@@ -1,6 +1,6 @@
-use Rattle.std.proofs.Common.{◌≡◌, ap, sym, ◌∙◌, List, map, ◌++◌, ◌∷◌, [], ◌<◌, length, arith}
+use Rattle.std.proofs.Common.{◌≡◌, ap, ◌∙◌, List, map, ◌++◌, ◌∷◌, [], ◌<◌, length}
 use Rattle.dms_desc.specs.declared.structure.Structure.{Structure}
-use Rattle.dms_desc.specs.Shape.{Shape, shape_of}
+use Rattle.dms_desc.specs.Shape.{shape_of}
 use Rattle.dms_desc.proofs.Maps.{map_taken}
 use Rattle.dms_desc.proofs.structures.Structures.copy.Goals as goal
 

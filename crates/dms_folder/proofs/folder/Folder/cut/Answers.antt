@@ -1,6 +1,5 @@
-use Rattle.std.proofs.Common.{ℕ, List, ◌≡◌, ◌∙◌, ◌≤◌, sym, ap, refl, length, inl, arith, IsTrue, [], None}
+use Rattle.std.proofs.Common.{ℕ, List, ◌≡◌, ◌∙◌, ap, refl, length, inl, arith, None}
 use Rattle.std.proofs.lemmas.Option.{MatchOption-at_none}
-use Rattle.dms_site.specs.Files.{Files}
 use Rattle.dms_calls.specs.World.{World}
 use Rattle.dms_calls.specs.Seen.{seen}
 use Rattle.dms_calls.specs.Names.{name_of}

@@ -1,9 +1,9 @@
-use Rattle.std.proofs.Common.{ℕ, List, ◌≡◌, ◌∙◌, ◌<◌, ◌^◌, sym, ap, refl, subst, length, Some, true, IsTrue, ◌≤◌, take, arith, inl}
+use Rattle.std.proofs.Common.{ℕ, List, ◌≡◌, ◌∙◌, ◌<◌, ◌^◌, sym, ap, refl, subst, length, Some, IsTrue, ◌≤◌, take, arith, inl}
 use Rattle.std.specs.Prelude.{slice_get}
 use Rattle.std.proofs.lemmas.Option.{same_Some, slice_get_read, slice_get_within}
 use Rattle.std.proofs.lemmas.Result.{on_ok_weaker}
 use Rattle.dms_moments.specs.Moments.{Now, Steps}
-use Rattle.dms_site.specs.Files.{Files, Left, InFile, OnDisk, Cut, Same, padded}
+use Rattle.dms_site.specs.Files.{Files, InFile, Cut, Same, padded}
 use Rattle.dms_site.specs.Laws.{in_file_same}
 use Rattle.dms_calls.specs.World.{World}
 use Rattle.dms_calls.specs.Seen.{seen, seen_clock}
@@ -13,7 +13,6 @@ use Rattle.dms_folder.specs.NameLaws.{name_inj}
 use Rattle.dms_folder.specs.Kept.{touched}
 use Rattle.dms_folder.specs.Writes.{front_padded}
 use Rattle.dms_folder.specs.Moves.{same_first}
-use Rattle.dms_calls.specs.World.{OnFile}
 use Rattle.dms_folder.specs.Keeps.{kept_written}
 use Rattle.dms_folder.specs.Shown.{on_file_seen, on_file_steps, in_file_is, quiet_steps, unchanged_steps, cut_none, seen_leads}
 use Rattle.dms_folder.proofs.folder.Folder.cut_opened.Goals as goal

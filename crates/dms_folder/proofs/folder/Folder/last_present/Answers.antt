@@ -1,7 +1,6 @@
-use Rattle.std.proofs.Common.{ℕ, List, ◌≡◌, ◌∙◌, ◌<◌, ◌≤◌, inl, inr, ⊎_elim, sym, ap, subst, refl, arith, IsTrue, Some}
+use Rattle.std.proofs.Common.{ℕ, List, ◌≡◌, ◌∙◌, ⊎_elim, ap, subst, arith, IsTrue}
 use Rattle.std.specs.declared.option.Option.{Option}
 use Rattle.std.proofs.lemmas.Option.{MatchOption-at_none, MatchOption-at_some}
-use Rattle.dms_site.specs.Files.{IsLastPresent}
 use Rattle.dms_calls.specs.Names.{name_of}
 use Rattle.dms_calls.specs.World.{World, AllGiven}
 use Rattle.dms_calls.specs.Seen.{seen}

@@ -1,4 +1,4 @@
-use Rattle.std.proofs.Common.{ℕ, List, ◌≡◌, ◌∙◌, ◌<◌, ◌^◌, sym, ap, refl, subst}
+use Rattle.std.proofs.Common.{ℕ, List, ◌≡◌, ◌∙◌, ap, subst}
 use Rattle.dms_moments.specs.Moments.{Steps}
 use Rattle.dms_calls.specs.World.{World, Makes}
 use Rattle.dms_calls.specs.Seen.{seen}

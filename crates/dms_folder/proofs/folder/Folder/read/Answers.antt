@@ -1,4 +1,4 @@
-use Rattle.std.proofs.Common.{ℕ, List, ◌≡◌, ◌∙◌, ◌≤◌, ◌<◌, ◌^◌, sym, ap, refl, length, drop, [], ◌++◌, IsTrue, None, Some, Ok, Err}
+use Rattle.std.proofs.Common.{ℕ, List, ◌≡◌, ◌∙◌, sym, ap, refl, length, drop, [], ◌++◌, IsTrue, Some, Ok, Err}
 use Rattle.std.specs.Prelude.{slice_get, IfOk, Result}
 use Rattle.std.proofs.lemmas.Option.{MatchOption-at_none, MatchOption-at_some, same_Some, slice_get_read, slice_get_within}
 use Rattle.dms_site.specs.Files.{range}

@@ -1,4 +1,4 @@
-use Rattle.std.proofs.Common.{ℕ, List, ◌≡◌, ◌∙◌, subst, ap, IsTrue, Bool, sym, Some}
+use Rattle.std.proofs.Common.{List, ◌≡◌, ◌∙◌, subst, ap, IsTrue, Bool, sym}
 use Rattle.std.specs.Prelude.{slice_get}
 use Rattle.std.proofs.lemmas.Result.{on_ok_weaker}
 use Rattle.dms_site.specs.Files.{Only}

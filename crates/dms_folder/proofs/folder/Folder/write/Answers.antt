@@ -1,9 +1,9 @@
-use Rattle.std.proofs.Common.{ℕ, List, ◌≡◌, ◌∙◌, ◌<◌, ◌^◌, sym, ap, refl, subst, length, Some, true, IsTrue}
+use Rattle.std.proofs.Common.{ℕ, List, ◌≡◌, ◌∙◌, ◌<◌, ◌^◌, sym, ap, refl, subst, length, Some, IsTrue, rules, arith}
 use Rattle.std.specs.Prelude.{slice_get}
 use Rattle.std.proofs.lemmas.Option.{same_Some, slice_get_read, slice_get_within}
 use Rattle.std.proofs.lemmas.Result.{on_ok_weaker}
 use Rattle.dms_moments.specs.Moments.{Now, Steps}
-use Rattle.dms_site.specs.Files.{Files, Left, InFile, OnDisk, Torn, Same, overlaid}
+use Rattle.dms_site.specs.Files.{Files, InFile, Torn, Same, overlaid}
 use Rattle.dms_site.specs.Laws.{torn_refl, in_file_same}
 use Rattle.dms_calls.specs.World.{World}
 use Rattle.dms_calls.specs.Seen.{bytes_of, seen, seen_clock, seen_at}
@@ -11,10 +11,25 @@ use Rattle.dms_folder.specs.declared.opened.Opened.{Opened}
 use Rattle.dms_calls.specs.Names.{name_of}
 use Rattle.dms_folder.specs.NameLaws.{name_inj}
 use Rattle.dms_folder.specs.Kept.{touched}
+use Rattle.dms_folder.specs.NoBytes.{nothing_written, empty_of}
 use Rattle.dms_folder.specs.Moves.{same_first}
 use Rattle.dms_folder.specs.Keeps.{kept_written}
 use Rattle.dms_folder.specs.Shown.{on_file_seen, on_file_steps, in_file_is}
 use Rattle.dms_folder.proofs.folder.Folder.write.Goals as goal
+
+pub returns-then-is_empty-clause-written : goal.returns-then-is_empty-clause-written
+returns-then-is_empty-clause-written g c = λ t.
+    let none : length c.args.bytes.now ≡ 0 = search rules in
+    nothing_written _ c.args.file c.args.at c.args.bytes.now c.if-at-eq0.true (empty_of c.args.bytes.now none)
+
+pub touch-requires-clause-place : goal.touch-requires-clause-place
+touch-requires-clause-place g c = let at = c.in_ok-place.ensures.place in slice_get_within _ c.in_ok-place.place at.0 at.1
+
+pub index-requires : goal.index-requires
+index-requires g c =
+    let at = c.in_ok-place.ensures.place in
+    let within : c.in_ok-place.place < length c.touch.new.self.opened.items = slice_get_within _ c.in_ok-place.place (touched at.0) (c.touch.ensures.marked at.0 at.1) in
+    omega (arith, within, c.touch.new.self.opened.ok.0)
 
 pub returns-clause-kept : goal.returns-clause-kept
 returns-clause-kept g c = λ t.

@@ -39,5 +39,5 @@ returns-clause-alters c =
       passes = passes (rows b.files.items) (rows c.put_all.new.files.items) b.log.items c.put_all.new.log.items b.made b.durable b.durable _ _ put.many points (omega arith);
       stays = stays (rows b.files.items) (rows c.put_all.new.files.items) b.log.items c.put_all.new.log.items b.made b.durable b.durable _ _ mark points (omega arith);
       memory = λ e. absurd (cc e);
-      uses = record { reads = omega arith; spent = omega (arith, c.saturating_add-self.ensures, count); syncs = refl; outs = refl };
+      uses = record { not_fewer = omega arith; reads = omega arith; spent = omega (arith, c.saturating_add-self.ensures, count); syncs = refl; outs = refl };
     }

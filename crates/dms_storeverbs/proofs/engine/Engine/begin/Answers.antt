@@ -7,7 +7,7 @@ use Rattle.dms_model.specs.declared.program.Program.{Program}
 use Rattle.dms_storeverbs.proofs.Calls.{did_from, failed, silently, unchanged}
 use Rattle.dms_base.specs.declared.category.Category.TheVariants.{NoRecord}
 use Rattle.dms_model.specs.declared.reply.Reply.TheVariants.{Exception, Waits}
-use Rattle.dms_model.specs.Members.{name_of, structure_of}
+use Rattle.dms_desc.specs.Lookups.{name_of, structure_of}
 use Rattle.dms_model.specs.Session.{awaited, begin_step, work_of, restart_of, workers}
 use Rattle.std.proofs.Common.{cond}
 use Rattle.dms_storeverbs.specs.Keeping.{kept_if}

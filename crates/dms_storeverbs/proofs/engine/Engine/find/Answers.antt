@@ -6,8 +6,8 @@ use Rattle.dms_model.specs.declared.program.Program.{Program}
 use Rattle.dms_storeverbs.proofs.Calls.{did_from, failed, silently}
 use Rattle.dms_base.specs.declared.category.Category.TheVariants.{NotFound}
 use Rattle.dms_model.specs.declared.reply.Reply.TheVariants.{Exception}
-use Rattle.dms_model.specs.Members.{name_of, structure_of}
-use Rattle.dms_model.specs.Session.{found_program, carried, set_of, path_of}
+use Rattle.dms_desc.specs.Lookups.{name_of, structure_of, set_of}
+use Rattle.dms_model.specs.Session.{found_program, carried, path_of}
 use Rattle.dms_storeverbs.proofs.Unfolds.{find_none, find_some}
 use Rattle.dms_block.specs.Faults.{Undamaged}
 use Rattle.dms_storeverbs.proofs.Costing.{failed_costs, plain_costs, spends_same}

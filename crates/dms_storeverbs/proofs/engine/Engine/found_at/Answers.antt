@@ -1,7 +1,7 @@
 use Rattle.std.proofs.Common.{◌≡◌, ◌∙◌, ℕ, ap, sym, Some}
 use Rattle.dms_desc.specs.Shape.{described}
-use Rattle.dms_model.specs.Members.{structure_of, items_of}
-use Rattle.dms_model.specs.Session.{key_values, parts_of, set_of}
+use Rattle.dms_desc.specs.Lookups.{structure_of, items_of, parts_of, set_of}
+use Rattle.dms_model.specs.Session.{key_values}
 use Rattle.dms_storeverbs.proofs.FoundAt.{found_at_is}
 use Rattle.dms_storeverbs.proofs.engine.Engine.found_at.Goals as goal
 

@@ -1,0 +1,4 @@
+pub mod Cleared
+pub mod LaidMore
+pub mod Parts
+pub mod Making

@@ -1,0 +1,5 @@
+pub mod FirstEntries
+pub mod Creation
+pub mod Laid
+pub mod Clearing
+pub mod Plans

@@ -1,0 +1,11 @@
+//! A new database: old files are cut to nothing, the first entries of its audit trail are sealed, and then its gate is opened.
+#![tactic(auto)]
+
+mod clearing;
+mod creating;
+mod fault;
+mod laying;
+mod planning;
+
+pub use creating::initialize;
+pub use fault::CreationFault;

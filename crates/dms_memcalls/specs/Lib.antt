@@ -1,0 +1,11 @@
+pub mod Names
+pub mod Folders
+pub mod Views
+pub mod Events
+pub mod Outcomes
+pub mod NameLaws
+pub mod Listings
+pub mod Steady
+pub mod Settled
+pub mod Strikes
+pub mod StruckLaws

@@ -1,0 +1,51 @@
+use Rattle.std.proofs.Common.{◌≡◌, ◌≤◌, ◌/◌, ◌∙◌, ℕ, sym, ap, subst, length, take, drop, arith}
+use Rattle.dms_block.specs.Content.{Content, laid}
+use Rattle.dms_block.specs.View.{seen}
+use Rattle.dms_block.specs.ViewLaws.{seen_still}
+use Rattle.dms_ordlist.specs.ListBlocks.{flat, head_bytes, leaf_bytes}
+use Rattle.dms_ordlist.specs.ListChanges.{lower_fits, upper_fits, wide_drop, wide_take}
+use Rattle.dms_ordlist.specs.SeenLaws.{file_still}
+use Rattle.dms_ordlist.specs.SpellLaws.{wide_room}
+use Rattle.dms_ordlist.specs.Written.{three_in, three_off}
+use Rattle.dms_ordlist.proofs.inserting.split.Goals as goal
+
+pub leaf_block-upper-requires-clause-room : goal.leaf_block-upper-requires-clause-room
+leaf_block-upper-requires-clause-room g c =
+    let es = c.args.leaf.entries.items in
+    let half = c.len-half.result / 2 in
+    let is : half ≡ length es / 2 = ap (λ (k : ℕ). k / 2) (omega (arith, c.len-half.ensures)) in
+    subst (λ l. length (flat l) ≤ 1017) (sym c.in_ok-others.ensures.tail) (wide_room c.args.width (drop half es) (wide_drop c.args.width half es c.requires.wide) (upper_fits c.args.width half es c.requires.width is c.requires.almost))
+
+pub leaf_block-lower-requires-clause-room : goal.leaf_block-lower-requires-clause-room
+leaf_block-lower-requires-clause-room g c =
+    let es = c.args.leaf.entries.items in
+    let half = c.len-half.result / 2 in
+    let is : half ≡ length es / 2 = ap (λ (k : ℕ). k / 2) (omega (arith, c.len-half.ensures)) in
+    subst (λ l. length (flat l) ≤ 1017) (sym c.in_ok-others.ensures.items) (wide_room c.args.width (take half es) (wide_take c.args.width half es c.requires.wide) (lower_fits c.args.width half es c.requires.width is c.requires.almost))
+
+pub returns-clause-seen : goal.returns-clause-seen
+returns-clause-seen g c told =
+    let a = c.args.over.now in
+    let b = c.next_free.new.over in
+    let d = c.write_three.new.over in
+    let file = c.args.file in
+    let es = c.args.leaf.entries.items in
+    let next = c.args.leaf.next in
+    let reads = c.in_ok-fresh.ensures.reads in
+    let fresh = c.in_ok-fresh.fresh in
+    let half = c.len-half.result / 2 in
+    let is : half ≡ length es / 2 = ap (λ (k : ℕ). k / 2) (omega (arith, c.len-half.ensures)) in
+    let head = head_bytes c.args.head.first c.in_ok-fresh.free in
+    let upper : c.leaf_block-upper.result.0 ≡ leaf_bytes next (drop (length es / 2) es) = c.leaf_block-upper.ensures ∙ ap (leaf_bytes next) (c.in_ok-others.ensures.tail ∙ ap (λ k. drop k es) is) in
+    let lower : c.leaf_block-lower.result.0 ≡ leaf_bytes fresh (take (length es / 2) es) = c.leaf_block-lower.ensures ∙ ap (leaf_bytes fresh) (c.in_ok-others.ensures.items ∙ ap (λ k. take k es) is) in
+    three_in (seen b) (seen d) file head fresh c.leaf_block-upper.result.0 c.args.number c.leaf_block-lower.result.0 (c.in_ok-write_three.ensures.seen (reads.looks.passes.lasts.told told) reads.looks.stays.sound)
+    ∙ (λ i. laid c.args.number (lower i) (laid fresh (upper i) (laid 0 head (file_still file reads told i))))
+
+pub returns-clause-others : goal.returns-clause-others
+returns-clause-others g c told other off =
+    let b = c.next_free.new.over in
+    let d = c.write_three.new.over in
+    let reads = c.in_ok-fresh.ensures.reads in
+    three_off (seen b) (seen d) c.args.file (head_bytes c.args.head.first c.in_ok-fresh.free) c.in_ok-fresh.fresh c.leaf_block-upper.result.0 c.args.number c.leaf_block-lower.result.0 other off
+    (c.in_ok-write_three.ensures.seen (reads.looks.passes.lasts.told told) reads.looks.stays.sound)
+    ∙ ap (λ (k : Content). k other) (seen_still reads told)

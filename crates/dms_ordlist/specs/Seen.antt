@@ -1,0 +1,35 @@
+-- The list of a file that is seen through an overlay.
+use Rattle.std.specs.Prelude.{ℕ, ◌≡◌, ◌<◌, ◌≤◌, IsTrue, List, Some, None, slice_get, length}
+use Rattle.std.specs.declared.option.Option.{Option}
+use Rattle.dms_block.specs.declared.blocks.Blocks.{Ghosts}
+use Rattle.dms_block.specs.declared.overlay.Overlay.{Overlay}
+use Rattle.dms_block.specs.View.{seen, seen_counts, under}
+use Rattle.dms_ordlist.specs.Linked.{Chain, front, said_by}
+use Rattle.dms_ordlist.specs.ListBlocks.{leaf_in}
+use Rattle.dms_ordlist.specs.ListIn.{Leaf, list_in}
+
+-- the width of entries
+pub record IsWidth (width : ℕ) : Type 0 where
+  pub low : 8 ≤ width
+  pub most : width ≤ 104
+
+module _ {B : Type 0} {g : Ghosts B} where
+  abbrev pub look : Overlay B g → ℕ → ℕ → Option (List ℕ)
+  look o file b = slice_get (seen o file) b
+
+  -- what holds of the list of a file, where the content is told and the file's blocks are one
+  abbrev pub IfList : Overlay B g → ℕ → ℕ → (List (List ℕ) → Type 0) → Type 0
+  IfList o file width P = IsTrue (under o).told → (xs : List (List ℕ)) → list_in width (seen o file) ≡ Some xs → P xs
+
+  -- a block of the file, where a block of this kind doesn't stand at a number
+  abbrev pub NotAt : {A : Type 0} → (List ℕ → Option (ℕ × A)) → Overlay B g → ℕ → ℕ → ℕ → ℕ → Type 0
+  NotAt reads o file at f b = (f ≡ file) × (b < seen_counts o file) × (IsTrue (under o).told → said_by reads (look o file at) ≡ None)
+
+  -- a block of the file, where no chain begins at a number that has no more blocks than the file
+  abbrev pub NoChain : ℕ → Overlay B g → ℕ → ℕ → ℕ → ℕ → Type 0
+  NoChain width o file first f b = (f ≡ file) × (b < seen_counts o file)
+      × (IsTrue (under o).told → (ls : List Leaf) → Chain (leaf_in width) (look o file) ls 0 → front ls 0 ≡ first → length ls ≤ seen_counts o file → ⊥)
+
+  -- a block of a file whose blocks are no list
+  abbrev pub NoList : Overlay B g → ℕ → ℕ → ℕ → ℕ → Type 0
+  NoList o file width f b = (f ≡ file) × (b < seen_counts o file) × (IsTrue (under o).told → list_in width (seen o file) ≡ None)

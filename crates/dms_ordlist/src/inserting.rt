@@ -1,0 +1,180 @@
+ghost use Rattle.std.specs.Prelude.{◌≡◌, ◌≢◌, ◌+◌, ◌*◌, ◌/◌, ◌≤◌, ◌<◌, ℕ, List, [], ◌∷◌, IfOk, IfSome, OnErr, OnOk, IsErrOf, IsTrue, Some, false, length, take, drop, not};
+ghost use Rattle.dms_block.specs.Content.{laid};
+ghost use Rattle.dms_block.specs.Held.{HasCausesOr};
+ghost use Rattle.dms_block.specs.View.{Reads, Writes, seen, seen_counts, under, written};
+ghost use Rattle.dms_ordlist.specs.Linked.{front};
+ghost use Rattle.dms_ordlist.specs.ListBlocks.{free_in, head_bytes, leaf_bytes};
+ghost use Rattle.dms_ordlist.specs.ListIn.{Leaf, Spare, list_in};
+ghost use Rattle.dms_ordlist.specs.ListWrites.{Taken};
+ghost use Rattle.dms_ordlist.specs.Lists.{has_entry, with_entry};
+ghost use Rattle.dms_ordlist.specs.Looks.{IfLook, ListOr};
+ghost use Rattle.dms_ordlist.specs.Places.{PlaceHolds};
+ghost use Rattle.dms_ordlist.specs.Seen.{IfList, IsWidth, NoList, NotAt};
+ghost use Rattle.dms_ordlist.specs.SpellLaws.{AllWide};
+
+use crate::looking::look;
+use crate::order::{lead, stands_at};
+use crate::place::{Look, Place, Spot};
+use crate::spelling::{Head, LeafBlock, leaf_block};
+use crate::writing::{next_free, write_three, write_two};
+use dms_base::{Bytes, Memory};
+use dms_block::{BlockFault, BlockId, Blocks, Overlay};
+use std::alloc::Global;
+
+/// The block of one entry, the last one of a list.
+fn leaf_with(alloc: Global, entry: &[u8]) -> Result<LeafBlock, Memory>
+    ensures next { IfOk result (λ leaf. leaf.next ≡ 0) }
+    ensures entries { IfOk result (λ leaf. leaf.entries.items ≡ entry.now ∷ []) }
+{
+    let mut entries = Vec::new(alloc);
+    entries.push(Bytes::copied(alloc, entry)?)?;
+    Ok(LeafBlock { next: 0, entries })
+}
+
+/// The first entry of an empty list.
+fn begin<B: Blocks>(
+    over: &mut Overlay<B>,
+    alloc: Global,
+    file: u32,
+    head: Head,
+    entry: &[u8],
+) -> Result<(), BlockFault>
+    requires sound { (under over.old).sound }
+    requires owned { IsTrue ((under over.old).owns file) }
+    requires room { seen_counts over.old file ≤ 1048576 }
+    requires width { IsWidth (length entry.now) }
+    ensures list { OnOk result (IsTrue (under over.old).told → (fs : List Spare) → ListOr (length entry.now) (seen over.old file) [] fs → head.free ≡ front fs 0 → list_in (length entry.now) (seen over.new file) ≡ Some (entry.now ∷ [])) }
+    ensures others { OnOk result (IsTrue (under over.old).told → (other : ℕ) → other ≢ file → seen over.new other ≡ seen over.old other) }
+    ensures writes { Writes 1 2 result over.old over.new }
+    ensures idle { (f b : ℕ) → IsErrOf result (BlockFault.Damaged f b) → written over.new ≡ written over.old }
+    ensures causes { HasCausesOr (λ f b. (head.free ≡ 0 → ⊥) × NotAt free_in over.old file head.free f b) result (under over.old) (under over.new) }
+{
+    let leaf = leaf_with(alloc, entry)?;
+    let (number, free) = next_free(over, alloc, file, head)?;
+    let first = Head {
+        first: number,
+        free,
+    };
+    write_two(over, file, first, number, &leaf_block(&leaf))
+}
+
+/// Parts a block that has one entry too many: its upper half goes to another block. Answers that block's number, and
+/// that of the first free one behind it.
+fn split<B: Blocks>(
+    over: &mut Overlay<B>,
+    alloc: Global,
+    file: u32,
+    head: Head,
+    number: u32,
+    leaf: LeafBlock,
+    width: usize,
+) -> Result<(u32, u32), BlockFault>
+    requires sound { (under over.old).sound }
+    requires owned { IsTrue ((under over.old).owns file) }
+    requires room { seen_counts over.old file ≤ 1048576 }
+    requires width { IsWidth width }
+    requires wide { AllWide width leaf.entries.items }
+    requires almost { length leaf.entries.items * width ≤ 1017 + width }
+    requires there { number < seen_counts over.old file }
+    ensures seen { IfOk result (λ t. IsTrue (under over.old).told → seen over.new file ≡ laid number (leaf_bytes t.0 (take (length leaf.entries.items / 2) leaf.entries.items)) (laid t.0 (leaf_bytes leaf.next (drop (length leaf.entries.items / 2) leaf.entries.items)) (laid 0 (head_bytes head.first t.1) (seen over.old file)))) }
+    ensures taken { IfOk result (λ t. IsTrue (under over.old).told → (w : ℕ) (ls : List Leaf) (fs : List Spare) → ListOr w (seen over.old file) ls fs → head.free ≡ front fs 0 → Taken w (seen over.old file) (front ls 0) ls t.0 t.1) }
+    ensures others { OnOk result (IsTrue (under over.old).told → (other : ℕ) → other ≢ file → seen over.new other ≡ seen over.old other) }
+    ensures writes { Writes 1 3 result over.old over.new }
+    ensures idle { (f b : ℕ) → IsErrOf result (BlockFault.Damaged f b) → written over.new ≡ written over.old }
+    ensures causes { HasCausesOr (λ f b. (head.free ≡ 0 → ⊥) × NotAt free_in over.old file head.free f b) result (under over.old) (under over.new) }
+{
+    let (fresh, free) = next_free(over, alloc, file, head)?;
+    let LeafBlock { next, mut entries } = leaf;
+    let half = entries.len() / 2;
+    let others = entries.split_off(half)?;
+    let upper = leaf_block(&LeafBlock {
+        next,
+        entries: others,
+    });
+    let lower = leaf_block(&LeafBlock {
+        next: fresh,
+        entries,
+    });
+    let head = Head {
+        first: head.first,
+        free,
+    };
+    write_three(over, file, head, fresh, &upper, number, &lower)?;
+    Ok((fresh, free))
+}
+
+/// The entry comes into the list that was looked at. False exactly where it stands there already.
+fn insert_in<B: Blocks>(
+    over: &mut Overlay<B>,
+    alloc: Global,
+    file: u32,
+    found: Look,
+    entry: &[u8],
+) -> Result<bool, BlockFault>
+    requires sound { (under over.old).sound }
+    requires owned { IsTrue ((under over.old).owns file) }
+    requires room { seen_counts over.old file ≤ 1048576 }
+    requires width { IsWidth (length entry.now) }
+    requires holds { IfSome found.place (PlaceHolds (length entry.now) (seen_counts over.old file)) }
+    ensures list { OnOk result (IfLook over.old file entry.now found (λ xs. list_in (length entry.now) (seen over.old file) ≡ Some xs → list_in (length entry.now) (seen over.new file) ≡ Some (with_entry entry.now xs))) }
+    ensures answer { IfOk result (λ new. IfLook over.old file entry.now found (λ xs. new ≡ not (has_entry entry.now xs))) }
+    ensures still { IfOk result (λ new. new ≡ false → written over.new ≡ written over.old) }
+    ensures others { OnOk result (IsTrue (under over.old).told → (other : ℕ) → other ≢ file → seen over.new other ≡ seen over.old other) }
+    ensures writes { Writes 1 3 result over.old over.new }
+    ensures idle { (f b : ℕ) → IsErrOf result (BlockFault.Damaged f b) → written over.new ≡ written over.old }
+    ensures causes { HasCausesOr (λ f b. (found.head.free ≡ 0 → ⊥) × NotAt free_in over.old file found.head.free f b) result (under over.old) (under over.new) }
+{
+    let Look { head, place } = found;
+    let here = match place {
+        Some(
+            Place {
+                before: _before,
+                here,
+            },
+        ) => here,
+        None => {
+            begin(over, alloc, file, head, entry)?;
+            return Ok(true);
+        }
+    };
+    let Spot { number, mut leaf } = here;
+    let i = lead(&leaf.entries, entry);
+    if stands_at(&leaf.entries, i, entry) {
+        return Ok(false);
+    }
+    leaf.entries.insert(i, Bytes::copied(alloc, entry)?)?;
+    if leaf.entries.len() * entry.len() <= 1017 {
+        let block = BlockId {
+            file,
+            block: number,
+        };
+        over.write(block, &leaf_block(&leaf))?;
+        return Ok(true);
+    }
+    split(over, alloc, file, head, number, leaf, entry.len())?;
+    Ok(true)
+}
+
+/// An entry comes into a file's list. False exactly where it stands there already, and then nothing is written. Its
+/// width is that of the file's entries. After a fault the overlay is to be forgotten.
+pub fn insert<B: Blocks>(
+    over: &mut Overlay<B>,
+    alloc: Global,
+    file: u32,
+    entry: &[u8],
+) -> Result<bool, BlockFault>
+    requires sound { (under over.old).sound }
+    requires owned { IsTrue ((under over.old).owns file) }
+    requires room { seen_counts over.old file ≤ 1048576 }
+    requires width { IsWidth (length entry.now) }
+    ensures list { OnOk result (IfList over.old file (length entry.now) (λ xs. list_in (length entry.now) (seen over.new file) ≡ Some (with_entry entry.now xs))) }
+    ensures answer { IfOk result (λ new. IfList over.old file (length entry.now) (λ xs. new ≡ not (has_entry entry.now xs))) }
+    ensures still { IfOk result (λ new. new ≡ false → written over.new ≡ written over.old) }
+    ensures others { OnOk result (IsTrue (under over.old).told → (other : ℕ) → other ≢ file → seen over.new other ≡ seen over.old other) }
+    ensures writes { Writes (2 + seen_counts over.old file) 3 result over.old over.new }
+    ensures idle { (f b : ℕ) → IsErrOf result (BlockFault.Damaged f b) → written over.new ≡ written over.old }
+    ensures causes { HasCausesOr (NoList over.old file (length entry.now)) result (under over.old) (under over.new) }
+{
+    let found = look(over, alloc, file, entry)?;
+    insert_in(over, alloc, file, found, entry)
+}

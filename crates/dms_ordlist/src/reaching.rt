@@ -1,0 +1,66 @@
+ghost use Rattle.std.specs.Prelude.{◌≡◌, ◌<◌, ◌≤◌, ℕ, List, IfOk, IsTrue};
+ghost use Rattle.dms_block.specs.Held.{HasCausesOr};
+ghost use Rattle.dms_block.specs.View.{Reads, seen_counts, under};
+ghost use Rattle.dms_ordlist.specs.Linked.{Chain, front};
+ghost use Rattle.dms_ordlist.specs.ListBlocks.{leaf_in};
+ghost use Rattle.dms_ordlist.specs.ListIn.{Leaf};
+ghost use Rattle.dms_ordlist.specs.Places.{IsPlace, PlaceHolds, number_of};
+ghost use Rattle.dms_ordlist.specs.Seen.{IsWidth, NoChain, look};
+
+use crate::order::lead;
+use crate::place::{Place, Spot};
+use crate::reading::read_leaf;
+use dms_block::{BlockFault, Blocks, Overlay};
+use std::alloc::Global;
+
+/// The number of a block, 0 where it is none.
+fn number_of(spot: &Option<Spot>) -> u32
+    ensures { result ≡ number_of spot.now }
+{
+    match spot {
+        Some(spot) => spot.number,
+        None => 0,
+    }
+}
+
+/// The block where bytes belong in the chain from a block on: the first one with an entry that isn't less, else the
+/// last one.
+pub fn reach<B: Blocks>(
+    over: &mut Overlay<B>,
+    alloc: Global,
+    file: u32,
+    width: usize,
+    first: u32,
+    bytes: &[u8],
+) -> Result<Place, BlockFault>
+    requires sound { (under over.old).sound }
+    requires width { IsWidth width }
+    requires some { 0 < first }
+    requires there { 0 < seen_counts over.old file }
+    ensures place { IfOk result (λ p. IsTrue (under over.old).told → (ls : List Leaf) → Chain (leaf_in width) (look over.old file) ls 0 → front ls 0 ≡ first → IsPlace bytes.now ls p) }
+    ensures holds { IfOk result (λ p. PlaceHolds width (seen_counts over.old file) p) }
+    ensures reads { Reads (seen_counts over.old file) result over.old over.new }
+    ensures causes { HasCausesOr (NoChain width over.old file first) result (under over.old) (under over.new) }
+{
+    let count = over.count(file);
+    let mut before = None;
+    let mut at = first;
+    for _turn in 0..count {
+        let leaf = match read_leaf(over, alloc, file, width, number_of(&before), at) {
+            Ok(leaf) => leaf,
+            Err(fault) => return Err(fault),
+        };
+        if leaf.next == 0 {
+            let here = Spot { number: at, leaf };
+            return Ok(Place { before, here });
+        }
+        if lead(&leaf.entries, bytes) < leaf.entries.len() {
+            let here = Spot { number: at, leaf };
+            return Ok(Place { before, here });
+        }
+        let next = leaf.next;
+        before = Some(Spot { number: at, leaf });
+        at = next;
+    }
+    Err(BlockFault::Damaged(file, number_of(&before)))
+}

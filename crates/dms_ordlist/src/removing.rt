@@ -1,0 +1,127 @@
+ghost use Rattle.std.specs.Prelude.{◌≡◌, ◌≢◌, ◌+◌, ◌≤◌, ◌<◌, ℕ, List, IfOk, IfSome, OnErr, OnOk, IsErrOf, IsTrue, Some, false, length};
+ghost use Rattle.dms_block.specs.Held.{HasCausesOr};
+ghost use Rattle.dms_block.specs.View.{Reads, Writes, seen, seen_counts, under, written};
+ghost use Rattle.dms_ordlist.specs.ListIn.{list_in};
+ghost use Rattle.dms_ordlist.specs.ListRemoves.{SpotFits, released};
+ghost use Rattle.dms_ordlist.specs.Lists.{has_entry, without};
+ghost use Rattle.dms_ordlist.specs.Looks.{IfLook};
+ghost use Rattle.dms_ordlist.specs.Places.{PlaceHolds};
+ghost use Rattle.dms_ordlist.specs.Seen.{IfList, IsWidth, NoList};
+
+use crate::looking::look;
+use crate::order::{lead, stands_at};
+use crate::place::{Look, Place, Spot};
+use crate::spelling::{Head, LeafBlock, free_block, leaf_block};
+use crate::writing::{write_three, write_two};
+use dms_block::{BlockFault, BlockId, Blocks, Overlay};
+use std::alloc::Global;
+
+/// A block leaves the chain and becomes the first free one. The block before it, or the head, leads to the next one.
+fn release<B: Blocks>(
+    over: &mut Overlay<B>,
+    file: u32,
+    head: Head,
+    before: Option<Spot>,
+    number: u32,
+    next: u32,
+) -> Result<(), BlockFault>
+    requires sound { (under over.old).sound }
+    requires owned { IsTrue ((under over.old).owns file) }
+    requires room { seen_counts over.old file ≤ 1048576 }
+    requires there { number < seen_counts over.old file }
+    requires fits { IfSome before (SpotFits (seen_counts over.old file)) }
+    ensures seen { OnOk result (IsTrue (under over.old).told → seen over.new file ≡ released before head.first head.free number next (seen over.old file)) }
+    ensures others { OnOk result (IsTrue (under over.old).told → (other : ℕ) → other ≢ file → seen over.new other ≡ seen over.old other) }
+    ensures writes { Writes 0 3 result over.old over.new }
+    ensures idle { (f b : ℕ) → IsErrOf result (BlockFault.Damaged f b) → written over.new ≡ written over.old }
+    ensures causes { HasCausesOr (λ f b. ⊥) result (under over.old) (under over.new) }
+{
+    let freed = free_block(head.free);
+    match before {
+        None => {
+            let head = Head {
+                first: next,
+                free: number,
+            };
+            write_two(over, file, head, number, &freed)
+        }
+        Some(Spot { number: at, leaf }) => {
+            let head = Head {
+                first: head.first,
+                free: number,
+            };
+            let leaf = LeafBlock {
+                next,
+                entries: leaf.entries,
+            };
+            write_three(over, file, head, at, &leaf_block(&leaf), number, &freed)
+        }
+    }
+}
+
+/// The entry leaves the list that was looked at. False exactly where it doesn't stand there.
+fn remove_in<B: Blocks>(
+    over: &mut Overlay<B>,
+    file: u32,
+    found: Look,
+    entry: &[u8],
+) -> Result<bool, BlockFault>
+    requires sound { (under over.old).sound }
+    requires owned { IsTrue ((under over.old).owns file) }
+    requires room { seen_counts over.old file ≤ 1048576 }
+    requires width { IsWidth (length entry.now) }
+    requires holds { IfSome found.place (PlaceHolds (length entry.now) (seen_counts over.old file)) }
+    ensures list { OnOk result (IfLook over.old file entry.now found (λ xs. list_in (length entry.now) (seen over.old file) ≡ Some xs → list_in (length entry.now) (seen over.new file) ≡ Some (without entry.now xs))) }
+    ensures answer { IfOk result (λ was. IfLook over.old file entry.now found (λ xs. was ≡ has_entry entry.now xs)) }
+    ensures still { IfOk result (λ was. was ≡ false → written over.new ≡ written over.old) }
+    ensures others { OnOk result (IsTrue (under over.old).told → (other : ℕ) → other ≢ file → seen over.new other ≡ seen over.old other) }
+    ensures writes { Writes 0 3 result over.old over.new }
+    ensures idle { (f b : ℕ) → IsErrOf result (BlockFault.Damaged f b) → written over.new ≡ written over.old }
+    ensures causes { HasCausesOr (λ f b. ⊥) result (under over.old) (under over.new) }
+{
+    let Look { head, place } = found;
+    let (before, here) = match place {
+        Some(Place { before, here }) => (before, here),
+        None => return Ok(false),
+    };
+    let Spot { number, mut leaf } = here;
+    let i = lead(&leaf.entries, entry);
+    if !stands_at(&leaf.entries, i, entry) {
+        return Ok(false);
+    }
+    let _ = leaf.entries.remove(i);
+    if leaf.entries.is_empty() {
+        release(over, file, head, before, number, leaf.next)?;
+        return Ok(true);
+    }
+    let block = BlockId {
+        file,
+        block: number,
+    };
+    over.write(block, &leaf_block(&leaf))?;
+    Ok(true)
+}
+
+/// An entry leaves a file's list. False exactly where it doesn't stand there, and then nothing is written. Its width is
+/// that of the file's entries. After a fault the overlay is to be forgotten.
+pub fn remove<B: Blocks>(
+    over: &mut Overlay<B>,
+    alloc: Global,
+    file: u32,
+    entry: &[u8],
+) -> Result<bool, BlockFault>
+    requires sound { (under over.old).sound }
+    requires owned { IsTrue ((under over.old).owns file) }
+    requires room { seen_counts over.old file ≤ 1048576 }
+    requires width { IsWidth (length entry.now) }
+    ensures list { OnOk result (IfList over.old file (length entry.now) (λ xs. list_in (length entry.now) (seen over.new file) ≡ Some (without entry.now xs))) }
+    ensures answer { IfOk result (λ was. IfList over.old file (length entry.now) (λ xs. was ≡ has_entry entry.now xs)) }
+    ensures still { IfOk result (λ was. was ≡ false → written over.new ≡ written over.old) }
+    ensures others { OnOk result (IsTrue (under over.old).told → (other : ℕ) → other ≢ file → seen over.new other ≡ seen over.old other) }
+    ensures writes { Writes (1 + seen_counts over.old file) 3 result over.old over.new }
+    ensures idle { (f b : ℕ) → IsErrOf result (BlockFault.Damaged f b) → written over.new ≡ written over.old }
+    ensures causes { HasCausesOr (NoList over.old file (length entry.now)) result (under over.old) (under over.new) }
+{
+    let found = look(over, alloc, file, entry)?;
+    remove_in(over, file, found, entry)
+}

@@ -1,0 +1,93 @@
+ghost use Rattle.std.specs.Prelude.{◌≡◌, ◌+◌, ◌≤◌, ◌<◌, ℕ, List, IfOk, OnErr, OnOk, IsErrOf, IsTrue, length, max};
+ghost use Rattle.dms_block.specs.Content.{limit, raised, with_block};
+ghost use Rattle.dms_block.specs.Held.{HasCausesOr};
+ghost use Rattle.dms_block.specs.View.{Reads, seen, seen_counts, under, written};
+ghost use Rattle.dms_ordlist.specs.Linked.{front};
+ghost use Rattle.dms_ordlist.specs.ListBlocks.{free_in, head_bytes};
+ghost use Rattle.dms_ordlist.specs.ListIn.{Leaf, Spare};
+ghost use Rattle.dms_ordlist.specs.ListWrites.{Taken};
+ghost use Rattle.dms_ordlist.specs.Looks.{ListOr};
+ghost use Rattle.dms_ordlist.specs.Seen.{NotAt};
+
+use crate::reading::read_free;
+use crate::spelling::{Head, head_block};
+use dms_block::{Block, BlockFault, BlockId, Blocks, Overlay};
+use std::alloc::Global;
+
+/// The number of the block that is taken next, and that of the first free one behind it.
+pub fn next_free<B: Blocks>(
+    over: &mut Overlay<B>,
+    alloc: Global,
+    file: u32,
+    head: Head,
+) -> Result<(u32, u32), BlockFault>
+    requires sound { (under over.old).sound }
+    ensures taken { IfOk result (λ t. IsTrue (under over.old).told → (w : ℕ) (ls : List Leaf) (fs : List Spare) → ListOr w (seen over.old file) ls fs → head.free ≡ front fs 0 → Taken w (seen over.old file) (front ls 0) ls t.0 t.1) }
+    ensures near { IfOk result (λ t. t.0 ≤ max (seen_counts over.old file) 1) }
+    ensures reads { Reads 1 result over.old over.new }
+    ensures causes { HasCausesOr (λ f b. (head.free ≡ 0 → ⊥) × NotAt free_in over.old file head.free f b) result (under over.old) (under over.new) }
+{
+    let count = over.count(file);
+    if count == 0 {
+        return Ok((1, 0));
+    }
+    if head.free == 0 {
+        return Ok((count, 0));
+    }
+    match read_free(over, alloc, file, head.free) {
+        Ok(next) => Ok((head.free, next)),
+        Err(fault) => Err(fault),
+    }
+}
+
+/// Writes the head, and another block.
+pub fn write_two<B: Blocks>(
+    over: &mut Overlay<B>,
+    file: u32,
+    head: Head,
+    number: u32,
+    block: &Block,
+) -> Result<(), BlockFault>
+    requires owned { IsTrue ((under over.old).owns file) }
+    requires low { number < limit }
+    requires near { number ≤ max (seen_counts over.old file) 1 }
+    ensures below { over.new.below ≡ over.old.below }
+    ensures seen { OnOk result (IsTrue (under over.old).told → (under over.old).sound → seen over.new ≡ with_block (with_block (seen over.old) file 0 (head_bytes head.first head.free)) file number block.now.0) }
+    ensures counts { OnOk result (seen_counts over.new ≡ raised (raised (seen_counts over.old) file 0) file number) }
+    ensures more { length (written over.new) ≤ length (written over.old) + 2 }
+    ensures memory { OnErr result (IsErrOf result BlockFault.Memory) }
+{
+    over.write(BlockId { file, block: 0 }, &head_block(head))?;
+    over.write(
+        BlockId {
+            file,
+            block: number,
+        },
+        block,
+    )
+}
+
+/// Writes the head, and two other blocks; the second one is one of the file's already.
+pub fn write_three<B: Blocks>(
+    over: &mut Overlay<B>,
+    file: u32,
+    head: Head,
+    number: u32,
+    block: &Block,
+    other: u32,
+    changed: &Block,
+) -> Result<(), BlockFault>
+    requires owned { IsTrue ((under over.old).owns file) }
+    requires low { number < limit }
+    requires near { number ≤ max (seen_counts over.old file) 1 }
+    requires other_low { other < limit }
+    requires other_there { other < seen_counts over.old file }
+    ensures below { over.new.below ≡ over.old.below }
+    ensures seen { OnOk result (IsTrue (under over.old).told → (under over.old).sound → seen over.new ≡ with_block (with_block (with_block (seen over.old) file 0 (head_bytes head.first head.free)) file number block.now.0) file other changed.now.0) }
+    ensures counts { OnOk result (seen_counts over.new ≡ raised (raised (raised (seen_counts over.old) file 0) file number) file other) }
+    ensures more { length (written over.new) ≤ length (written over.old) + 3 }
+    ensures memory { OnErr result (IsErrOf result BlockFault.Memory) }
+{
+    write_two(over, file, head, number, block)?;
+    over.write(BlockId { file, block: other }, changed)
+}

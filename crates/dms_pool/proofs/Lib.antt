@@ -1,0 +1,6 @@
+pub mod Callers
+pub mod Lasts
+pub mod Leaving
+pub mod Same
+pub mod Sound
+pub mod Washed

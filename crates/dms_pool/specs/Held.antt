@@ -1,0 +1,37 @@
+-- What a pool holds of each block, and the order in which blocks were used.
+use Rattle.std.specs.Prelude.{ℕ, ◌∷◌, ◌++◌, [], Bool, false, List, filter, not, reverse}
+use Rattle.std.specs.declared.option.Option.{Option}
+use Rattle.std.specs.Option.{option_map_or}
+use Rattle.std.specs.Map.{lookup}
+use Rattle.dms_block.specs.declared.block.Block.{Block}
+use Rattle.dms_block.specs.declared.block.BlockId.{BlockId}
+use Rattle.dms_pool.specs.declared.frame.Frame.{Frame}
+use Rattle.dms_pool.specs.declared.pool.Pool.{Pool}
+use Rattle.dms_pool.specs.Entries.{ids_of, is_id, is_key}
+
+-- the frame of a block, where it is held
+abbrev pub frame_of : BlockId → Pool → Option Frame
+frame_of id pool = lookup (is_key id) pool.frames.entries
+
+-- the blocks that are held, from the least recently used on
+abbrev pub order : Pool → List BlockId
+order pool = reverse (ids_of pool.frames.entries)
+
+-- how many blocks may be held
+abbrev pub most : Pool → ℕ
+most pool = pool.frames.cap
+
+-- the order after a block was used: it stands last
+abbrev pub used : BlockId → List BlockId → List BlockId
+used id ids = filter (λ x. not (is_id id x)) ids ++ id ∷ []
+
+-- the block is held, and is to be written
+abbrev pub is_dirty : BlockId → Pool → Bool
+is_dirty id pool = option_map_or (λ f. f.dirty) (frame_of id pool) false
+
+abbrev pub framed : Block → Bool → Frame
+framed block dirty = record { block = block; dirty = dirty }
+
+-- a frame that was written
+abbrev pub washed : Frame → Frame
+washed f = framed f.block false

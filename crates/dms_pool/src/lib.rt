@@ -1,0 +1,10 @@
+//! At most so many blocks in memory, in the order of their use.
+#![tactic(auto)]
+
+mod frame;
+mod pool;
+#[cfg(test)]
+mod tests;
+
+pub use frame::{Frame, FrameKey};
+pub use pool::Pool;

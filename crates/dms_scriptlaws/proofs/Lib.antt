@@ -1,0 +1,10 @@
+pub mod Digits
+pub mod Feeds
+pub mod Formed
+pub mod Fronts
+pub mod Lined
+pub mod Named
+pub mod Scripts
+pub mod Speaking
+pub mod Spelled
+pub mod Telling

@@ -1,0 +1,322 @@
+-- Each step of a session whose programs have names leaves such a session, and its reply holds no line feed.
+use Rattle.std.proofs.Common.{◌≡◌, ◌+◌, ◌-◌, ℕ, zero, suc, List, [], ◌∷◌, ◌++◌, Bool, true, false, cond, Some, None, refl, subst, not, ◌&&◌, ◌||◌, nat_le, length, map, codes}
+use Rattle.std.specs.Prelude.{slice_get, slice_set, is_some, IfSome}
+use Rattle.std.specs.List.{AllByRecursion}
+use Rattle.std.specs.declared.option.Option.{Option}
+use Rattle.dms_base.specs.declared.value.Value.{Value}
+use Rattle.dms_base.specs.declared.category.Category.{Category}
+use Rattle.dms_base.specs.declared.category.Category.TheVariants.{LimitError, NoRecord, AuditError, Abort as AbortDue}
+use Rattle.dms_base.specs.Name.{IsName}
+use Rattle.dms_base.specs.Spelling.{text_for}
+use Rattle.dms_desc.specs.declared.structure.Item.{Item}
+use Rattle.dms_desc.specs.Conds.{is_null, or_null, item_of}
+use Rattle.dms_desc.specs.Plain.{IsPlain, ArePlain}
+use Rattle.dms_desc.specs.Shape.{Shape, Described}
+use Rattle.dms_model.specs.declared.program.Program.{Program}
+use Rattle.dms_model.specs.declared.program.Area.{Area}
+use Rattle.dms_model.specs.declared.program.Area.TheVariants.{New, Old}
+use Rattle.dms_model.specs.declared.program.Mode.{Mode}
+use Rattle.dms_model.specs.declared.verb.Verb.{Verb}
+use Rattle.dms_model.specs.declared.verb.Verb.TheVariants.{OpenUpdate, OpenInquiry, Close, Find, Create, Put as PutItems, Get, Store, Begin, End, Abort}
+use Rattle.dms_model.specs.declared.verb.Setting.{Setting}
+use Rattle.dms_model.specs.declared.reply.Reply.TheVariants.{Exception}
+use Rattle.dms_model.specs.declared.put.Put.{Put}
+use Rattle.dms_model.specs.declared.put.Put.TheVariants.{Stored, Duplicate, Full}
+use Rattle.dms_model.specs.declared.spot.Spot.{Spot}
+use Rattle.dms_model.specs.Db.{Db}
+use Rattle.dms_desc.specs.Lookups.{name_of, structure_of, items_of, set_of}
+use Rattle.dms_model.specs.Stores.{put_answer}
+use Rattle.dms_model.specs.Session.{Session, Outcome, Kept, Refused, Keeps, Filled, Misfit, Values', refuse, done, shows, settle, keep, store_step, after_store, begin_step, after_begin, begin_unless, awaited, workers, end_step, after_end, abort_step, find_step, after_find, found_by, create_step, put_step, put_area, after_put, filled, item_name, setting_value, get_step, get_area, get_text, more_text, item_text, close_step, open_as, open_step, verb_step, step_at, step, with_program, with_work, work_of, restart_of, someone_works, is_inquiry, opens, changes, path_of, new_program, place_of, carried, left, without, idle, backed_out, found_program, let_go, with_lock, area_kept, kept_unless, put_kept, missing_from, verified, area_values, area_number, record_of, is_free, one_more}
+use Rattle.dms_laws.specs.Sound.{AreaFits, AreasFit}
+use Rattle.dms_laws.proofs.Lists.{all_at, all_set, all_mapped, all_pushed, all_without}
+use Rattle.dms_scriptlaws.specs.Truths.{HasNames}
+use Rattle.dms_scriptlaws.proofs.Digits.{NoFeed}
+use Rattle.dms_scriptlaws.proofs.Feeds.{IsClean, feed_on, feed_of, name_feed, unknown_feed, text_feed}
+
+-- a program has a name
+abbrev pub Named : Program → Type 0
+Named p = IsName p.name
+
+abbrev pub AreNamed : List Program → Type 0
+AreNamed ps = AllByRecursion Named ps
+
+-- the reply of an outcome is clean, and the programs that it leaves have names
+pub record LeavesNamed (o : Outcome) : Type 0 where
+  pub reply : IsClean o.reply
+  pub names : AreNamed o.session.programs
+
+leaves_if : (b : Bool) (x y : Outcome) → LeavesNamed x → LeavesNamed y → LeavesNamed (cond b x y)
+leaves_if true x y h k = h
+leaves_if false x y h k = k
+
+refused : (s : Session) (c : Category) (n : List ℕ) → NoFeed n → AreNamed s.programs → LeavesNamed (refuse s c n)
+refused s c n h all = record { reply = h; names = all }
+
+shown : (s : Session) (text : List ℕ) → NoFeed text → AreNamed s.programs → LeavesNamed (shows s text)
+shown s text h all = record { reply = h; names = all }
+
+settled : (t : Session) → AreNamed t.programs → LeavesNamed (settle t)
+unfolding settle
+settled t h =
+    let idles = all_mapped Named idle t.programs (λ x n. n) h in
+    leaves_if (someone_works t.programs) _ _ (shown t [] tt h) (leaves_if t.pending _ _ (record { reply = tt; names = idles }) (record { reply = tt; names = idles }))
+
+-- programs keep their names
+
+if_named : (b : Bool) (x y : Program) → Named x → Named y → Named (cond b x y)
+if_named true x y h k = h
+if_named false x y h k = k
+
+let_go_named : (p : Program) (set : ℕ) → Named p → Named (let_go p set)
+let_go_named p set h = if_named p.in_transaction p (record p { locks = _ }) h h
+
+with_lock_named : (p : Program) (set n : ℕ) → Named p → Named (with_lock p set n)
+with_lock_named p set n h = if_named _ p (record p { locks = _ }) h h
+
+backed_named : (name : List ℕ) (p : Program) → Named p → Named (backed_out name p)
+unfolding backed_out
+backed_named name p h = if_named p.active _ _ h h
+
+one_more_feed : (b : Bool) (name : List ℕ) (names : List (List ℕ)) → NoFeed name → AllByRecursion NoFeed names → AllByRecursion NoFeed (cond b (name ∷ names) names)
+one_more_feed true name names h k = (h, k)
+one_more_feed false name names h k = k
+
+workers_feed : (ps : List Program) → AreNamed ps → AllByRecursion NoFeed (workers ps)
+workers_feed [] h = tt
+workers_feed (p ∷ ps) h = one_more_feed p.in_transaction p.name (workers ps) (name_feed p.name h.0) (workers_feed ps h.1)
+
+-- items have names
+
+abbrev ItemsNamed : List Item → Type 0
+ItemsNamed items = AllByRecursion (λ (i : Item). NoFeed i.name) items
+
+items_named : (items : List Item) → ((k : ℕ) (item : Item) → slice_get items k ≡ Some item → IsName item.name) → ItemsNamed items
+items_named [] all = tt
+items_named (i ∷ items) all = (name_feed i.name (all 0 i refl), items_named items (λ k item at. all (suc k) item at))
+
+if_missing : (b : Bool) (name : List ℕ) (o : Option (List ℕ)) → NoFeed name → IfSome o NoFeed → IfSome (cond b (Some name) o) NoFeed
+if_missing true name o h k = h
+if_missing false name o h k = k
+
+missing_feed : (k : ℕ) (items : List Item) (values : List Value) → ItemsNamed items → IfSome (missing_from k items values) NoFeed
+missing_feed k [] values h = tt
+missing_feed k (i ∷ items) values h = if_missing (i.required && is_null (or_null (slice_get values k))) i.name (missing_from (k + 1) items values) h.0 (missing_feed (k + 1) items values h.1)
+
+item_name_feed : (items : List Item) (k : ℕ) → ItemsNamed items → NoFeed (item_name (slice_get items k))
+item_name_feed [] k h = unknown_feed
+item_name_feed (i ∷ items) zero h = h.0
+item_name_feed (i ∷ items) (suc k) h = item_name_feed items k h.1
+
+abbrev FilledClean : Filled → Type 0
+FilledClean (Misfit name) = NoFeed name
+FilledClean (Values' values) = Unit {0}
+
+filled_if : (b : Bool) (x y : Filled) → FilledClean x → FilledClean y → FilledClean (cond b x y)
+filled_if true x y h k = h
+filled_if false x y h k = k
+
+filled_clean : (items : List Item) (ts : List Setting) (values : List Value) → ItemsNamed items → FilledClean (filled items ts values)
+filled_clean items [] values h = tt
+filled_clean items (t ∷ ts) values h =
+    filled_if (is_some (setting_value items t)) (filled items ts (slice_set values (t.item - 1) (or_null (setting_value items t)))) (Misfit (item_name (slice_get items (t.item - 1))))
+    (filled_clean items ts _ h) (item_name_feed items (t.item - 1) h)
+
+-- what GET shows
+
+value_plain : (values : List Value) (k : ℕ) → ArePlain values → IsPlain (or_null (slice_get values k))
+value_plain [] k h = tt
+value_plain (v ∷ vs) zero h = h.0
+value_plain (v ∷ vs) (suc k) h = value_plain vs k h.1
+
+item_feed : (items : List Item) (k : ℕ) (v : Value) → ItemsNamed items → IsPlain v → NoFeed (item_text (slice_get items k) v)
+item_feed [] k v h plain = tt
+item_feed (i ∷ items) zero v h plain = feed_on (i.name ++ codes "=") (text_for i.kind v) (feed_on i.name (codes "=") h.0 (feed_of (codes "=") refl)) (text_feed i.kind v plain)
+item_feed (i ∷ items) (suc k) v h plain = item_feed items k v h.1 plain
+
+more_feed : (items : List Item) (ns : List ℕ) (values : List Value) → ItemsNamed items → ArePlain values → NoFeed (more_text items ns values)
+more_feed items [] values h plain = tt
+more_feed items (n ∷ ns) values h plain =
+    feed_on (codes ", " ++ item_text (slice_get items (n - 1)) (item_of values n)) (more_text items ns values)
+    (feed_on (codes ", ") (item_text (slice_get items (n - 1)) (item_of values n)) (feed_of (codes ", ") refl) (item_feed items (n - 1) (item_of values n) h (value_plain values (n - 1) plain)))
+    (more_feed items ns values h plain)
+
+get_feed : (items : List Item) (ns : List ℕ) (values : List Value) → ItemsNamed items → ArePlain values → NoFeed (get_text items ns values)
+get_feed items [] values h plain = tt
+get_feed items (n ∷ ns) values h plain =
+    feed_on (item_text (slice_get items (n - 1)) (item_of values n)) (more_text items ns values)
+    (item_feed items (n - 1) (item_of values n) h (value_plain values (n - 1) plain)) (more_feed items ns values h plain)
+
+-- storing
+
+abbrev KeptNamed : Kept → Type 0
+KeptNamed (Refused c n) = NoFeed n
+KeptNamed (Keeps p db) = Named p
+
+kept_if : (b : Bool) (x y : Kept) → KeptNamed x → KeptNamed y → KeptNamed (cond b x y)
+kept_if true x y h k = h
+kept_if false x y h k = k
+
+module _ (desc : Described) (names : HasNames desc) where
+  shape_feed : (n : ℕ) → NoFeed (name_of (structure_of desc n))
+  shape_feed n = by (structure_of desc n) refl
+    where
+      by : (o : Option Shape) → structure_of desc n ≡ o → NoFeed (name_of o)
+      by None h = unknown_feed
+      by (Some shape) h = name_feed shape.name (names.structures n shape h)
+
+  set_items : (n : ℕ) → ItemsNamed (items_of (structure_of desc n))
+  set_items n = by (structure_of desc n) refl
+    where
+      by : (o : Option Shape) → structure_of desc n ≡ o → ItemsNamed (items_of o)
+      by None h = tt
+      by (Some shape) h = items_named shape.items (names.items n shape h)
+
+  module _ (s : Session) (i : ℕ) (p : Program) (at : slice_get s.programs i ≡ Some p) (all : AreNamed s.programs) where
+    mine : Named p
+    mine = all_at Named s.programs i p at all
+
+    mine_feed : NoFeed p.name
+    mine_feed = name_feed p.name mine
+
+    with_named : (q : Program) → Named q → AreNamed (slice_set s.programs i q)
+    with_named q h = all_set Named s.programs i q all h
+
+    put_named : (a : Put) (db : Db) (set : ℕ) (x : Area) → KeptNamed (put_kept a desc p db set x)
+    put_named (Stored n) db set x = with_lock_named (with_work p set (record { current = Some n; area = Some (Old (area_values x)) })) set n mine
+    put_named (Duplicate d) db set x = shape_feed d
+    put_named Full db set x = shape_feed set
+
+    unless_named : (o : Option (List ℕ)) (db : Db) (set : ℕ) (a : Area) (current : Option ℕ) → IfSome o NoFeed → KeptNamed (kept_unless o desc p db set a current)
+    unless_named (Some item) db set a current h = h
+    unless_named None db set a current h =
+        kept_if (verified (structure_of desc set) (area_values a)) (put_kept (put_answer desc db set (area_number a current) (record_of a)) desc p db set a) (Refused _ (name_of (structure_of desc set)))
+        (put_named (put_answer desc db set (area_number a current) (record_of a)) db set a) (shape_feed set)
+
+    area_named : (o : Option Area) (db : Db) (set : ℕ) (current : Option ℕ) → KeptNamed (area_kept o desc p db set current)
+    area_named None db set current = shape_feed set
+    area_named (Some a) db set current =
+        kept_if (is_free a p set current) (kept_unless (missing_from 0 (items_of (structure_of desc set)) (area_values a)) desc p db set a current) (Refused _ (name_of (structure_of desc set)))
+        (unless_named (missing_from 0 (items_of (structure_of desc set)) (area_values a)) db set a current (missing_feed 0 (items_of (structure_of desc set)) (area_values a) (set_items set))) (shape_feed set)
+
+    keep_named : (db : Db) (set : ℕ) → KeptNamed (keep desc p db set)
+    unfolding keep
+    keep_named db set = area_named (work_of p set).area db set (work_of p set).current
+
+    keep_if : (audit : Bool) → KeptNamed (cond audit (keep desc p s.db (restart_of desc)) (Keeps p s.db))
+    keep_if audit = kept_if audit (keep desc p s.db (restart_of desc)) (Keeps p s.db) (keep_named s.db (restart_of desc)) mine
+
+    store_named : (k : Kept) → KeptNamed k → LeavesNamed (after_store k i s)
+    store_named (Refused c n) h = refused s c n h all
+    store_named (Keeps q db) h = shown _ [] tt (with_named (carried q) h)
+
+    begun_named : (k : Kept) → KeptNamed k → LeavesNamed (after_begin k i s)
+    begun_named (Refused c n) h = refused s c n h all
+    begun_named (Keeps q db) h = shown _ [] tt (with_named _ h)
+
+    begin_named : (who : List (List ℕ)) (audit : Bool) → AllByRecursion NoFeed who → LeavesNamed (begin_unless who desc i p s audit)
+    begin_named [] audit h = begun_named (cond audit (keep desc p s.db (restart_of desc)) (Keeps p s.db)) (keep_if audit)
+    begin_named (q ∷ qs) audit h = record { reply = h; names = all }
+
+    end_named : (k : Kept) (sync : Bool) → KeptNamed k → LeavesNamed (after_end k desc i s sync)
+    end_named (Refused c n) sync h = refused s c n h all
+    end_named (Keeps q db) sync h =
+        settled (record s { db = db; programs = slice_set s.programs i (left q); pending = s.pending || sync || nat_le desc.syncpoint (one_more s.since); since = one_more s.since }) (with_named (left q) h)
+
+    find_named : (r : Option Spot) (x : ℕ) → LeavesNamed (after_find r desc i p s x)
+    find_named None x = refused s _ _ (shape_feed x) all
+    find_named (Some r) x =
+        shown _ [] tt (with_named (carried (found_program p (set_of desc x) r)) (let_go_named (with_work p (set_of desc x) (record { current = Some r.number; area = Some (Old r.rec.values) })) (set_of desc x) mine))
+
+    after_put_named : (f : Filled) (set : ℕ) (a : Area) → FilledClean f → LeavesNamed (after_put f i p s set a)
+    after_put_named (Misfit item) set a h = refused s _ item h all
+    after_put_named (Values' values) set a h = shown _ [] tt (with_named _ mine)
+
+    put_area_named : (o : Option Area) (set : ℕ) (settings : List Setting) → LeavesNamed (put_area o desc i p s set settings)
+    put_area_named None set settings = refused s _ _ (shape_feed set) all
+    put_area_named (Some a) set settings =
+        after_put_named (filled (items_of (structure_of desc set)) settings (area_values a)) set a (filled_clean (items_of (structure_of desc set)) settings (area_values a) (set_items set))
+
+    -- values of an area are plain, where its data set is there; else nothing is shown of them
+    area_plain : (shape : Shape) (a : Area) → AreaFits shape (Some a) → ArePlain (area_values a)
+    area_plain shape (New values owner) h = h.1.1.plain
+    area_plain shape (Old values) h = h.plain
+
+    none_text : (ns : List ℕ) (values : List Value) → NoFeed (more_text [] ns values)
+    none_text [] values = tt
+    none_text (n ∷ ns) values = (refl, (refl, none_text ns values))
+
+    none_shown : (ns : List ℕ) (values : List Value) → NoFeed (get_text [] ns values)
+    none_shown [] values = tt
+    none_shown (n ∷ ns) values = none_text ns values
+
+    get_named : (o : Option Area) (set : ℕ) (numbers : List ℕ) → AreasFit desc p → (work_of p set).area ≡ o → LeavesNamed (get_area o desc i p s set numbers)
+    get_named None set numbers fit is = refused s _ _ (shape_feed set) all
+    get_named (Some a) set numbers fit is = shown _ _ (by (structure_of desc set) refl) (with_named (carried p) mine)
+      where
+        by : (o : Option Shape) → structure_of desc set ≡ o → NoFeed (get_text (items_of o) numbers (area_values a))
+        by None h = none_shown numbers (area_values a)
+        by (Some shape) h = get_feed shape.items numbers (area_values a) (items_named shape.items (names.items set shape h)) (area_plain shape a (subst (AreaFits shape) is (fit set shape h)))
+
+  awaited_feed : (s : Session) → AreNamed s.programs → AllByRecursion NoFeed (awaited s)
+  awaited_feed s all = by s.pending
+    where
+      by : (b : Bool) → AllByRecursion NoFeed (cond b (workers s.programs) [])
+      by true = workers_feed s.programs all
+      by false = tt
+
+  -- every verb
+
+  verb_named : (i : ℕ) (p : Program) (s : Session) (v : Verb) → slice_get s.programs i ≡ Some p → AreNamed s.programs → AreasFit desc p → LeavesNamed (verb_step desc i p s v)
+  unfolding verb_step store_step begin_step end_step abort_step find_step create_step put_step get_step close_step
+  verb_named i p s OpenUpdate at all fit = refused s _ p.name (mine_feed s i p at all) all
+  verb_named i p s OpenInquiry at all fit = refused s _ p.name (mine_feed s i p at all) all
+  verb_named i p s Close at all fit = leaves_if p.in_transaction (refuse s AuditError p.name) (done (record s { programs = without i s.programs })) (refused s _ p.name (mine_feed s i p at all) all) (shown _ [] tt (all_without Named s.programs i all))
+  verb_named i p s (Find path) at all fit = find_named s i p at all (found_by desc s.db path) (path_of path)
+  verb_named i p s (Create set) at all fit = shown _ [] tt (with_named s i p at all _ (let_go_named (with_work p set _) set (mine s i p at all)))
+  verb_named i p s (PutItems set settings) at all fit = put_area_named s i p at all (work_of p set).area set settings
+  verb_named i p s (Get set items) at all fit = get_named s i p at all (work_of p set).area set items fit refl
+  verb_named i p s (Store set) at all fit = leaves_if p.in_transaction (after_store (keep desc p s.db set) i s) (refuse s AuditError p.name) (store_named s i p at all (keep desc p s.db set) (keep_named s i p at all s.db set)) (refused s _ p.name (mine_feed s i p at all) all)
+  verb_named i p s (Begin audit) at all fit =
+      leaves_if p.in_transaction (refuse s AuditError p.name) _ (refused s _ p.name (mine_feed s i p at all) all)
+      (leaves_if (audit && not (is_some (work_of p (restart_of desc)).area)) (refuse s NoRecord (name_of (structure_of desc (restart_of desc)))) _ (refused s _ _ (shape_feed (restart_of desc)) all)
+      (begin_named s i p at all (awaited s) audit (awaited_feed s all)))
+  verb_named i p s (End audit sync) at all fit =
+      leaves_if p.in_transaction (after_end (cond audit (keep desc p s.db (restart_of desc)) (Keeps p s.db)) desc i s sync) (refuse s AuditError p.name)
+      (end_named s i p at all (cond audit (keep desc p s.db (restart_of desc)) (Keeps p s.db)) sync (keep_if s i p at all audit)) (refused s _ p.name (mine_feed s i p at all) all)
+  verb_named i p s Abort at all fit =
+      leaves_if p.in_transaction (done (record s { db = s.mark; programs = map (backed_out p.name) s.programs; pending = false; since = 0 })) (refuse s AuditError p.name)
+      (shown _ [] tt (all_mapped Named (backed_out p.name) s.programs (λ x n. backed_named p.name x n) all)) (refused s _ p.name (mine_feed s i p at all) all)
+
+open_as_named : (desc : Described) (s : Session) (name : List ℕ) (mode : Mode) → IsName name → AreNamed s.programs → LeavesNamed (open_as desc s name mode)
+open_as_named desc s name mode named all =
+    leaves_if (nat_le 64 (length s.programs)) (refuse s LimitError name) (done (record s { programs = s.programs ++ new_program desc name mode ∷ [] }))
+    (refused s _ name (name_feed name named) all) (shown _ [] tt (all_pushed Named s.programs (new_program desc name mode) all named))
+
+open_named : (desc : Described) (s : Session) (name : List ℕ) (v : Verb) → IsName name → AreNamed s.programs → LeavesNamed (open_step desc s name v)
+unfolding open_step
+open_named desc s name OpenUpdate named all = open_as_named desc s name _ named all
+open_named desc s name OpenInquiry named all = open_as_named desc s name _ named all
+open_named desc s name Close named all = refused s _ name (name_feed name named) all
+open_named desc s name (Find path) named all = refused s _ name (name_feed name named) all
+open_named desc s name (Create set) named all = refused s _ name (name_feed name named) all
+open_named desc s name (PutItems set settings) named all = refused s _ name (name_feed name named) all
+open_named desc s name (Get set items) named all = refused s _ name (name_feed name named) all
+open_named desc s name (Store set) named all = refused s _ name (name_feed name named) all
+open_named desc s name (Begin audit) named all = refused s _ name (name_feed name named) all
+open_named desc s name (End audit sync) named all = refused s _ name (name_feed name named) all
+open_named desc s name Abort named all = refused s _ name (name_feed name named) all
+
+step_at_named : (desc : Described) → HasNames desc → (o : Option Program) (i : ℕ) (s : Session) (name : List ℕ) (v : Verb) → slice_get s.programs i ≡ o → IsName name → AreNamed s.programs → AllByRecursion (AreasFit desc) s.programs
+    → LeavesNamed (step_at desc o i s name v)
+step_at_named desc names None i s name v at named all fit = open_named desc s name v named all
+step_at_named desc names (Some p) i s name v at named all fit =
+    let due : Program = record p { owes_abort = false } in
+    leaves_if (opens v) (refuse s _ name) _ (refused s _ name (name_feed name named) all)
+    (leaves_if p.owes_abort (record { session = with_program s i due; reply = Exception AbortDue name; sync = None; quiets = [] }) _
+    (record { reply = name_feed name named; names = with_named desc names s i p at all due (mine desc names s i p at all) })
+    (leaves_if (is_inquiry p.mode && changes v) (refuse s _ name) _ (refused s _ name (name_feed name named) all) (verb_named desc names i p s v at all (all_at (AreasFit desc) s.programs i p at fit))))
+
+-- one step
+pub step_named : (desc : Described) → HasNames desc → (s : Session) (name : List ℕ) (v : Verb) → IsName name → AreNamed s.programs → AllByRecursion (AreasFit desc) s.programs → LeavesNamed (step desc s name v)
+unfolding step
+step_named desc names s name v named all fit = step_at_named desc names (slice_get s.programs (place_of name s.programs)) (place_of name s.programs) s name v refl named all fit

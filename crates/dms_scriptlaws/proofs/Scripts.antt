@@ -1,0 +1,126 @@
+-- The laws of scripts, from those of one step.
+use Rattle.std.proofs.Common.{ℕ, ◌≡◌, ◌≤◌, ◌-◌, ◌&&◌, ◌∙◌, List, [], ◌∷◌, Bool, true, false, refl, sym, ap, subst, arith, Some, None, nat_lt}
+use Rattle.std.specs.List.{AllByRecursion}
+use Rattle.std.specs.Prelude.{slice_get, ◌==◌}
+use Rattle.std.specs.declared.option.Option.{Option}
+use Rattle.std.proofs.lemmas.Bool.Decides.{nat_tests}
+use Rattle.dms_base.specs.declared.kind.Literal.{Literal}
+use Rattle.dms_base.specs.Name.{IsName}
+use Rattle.dms_desc.specs.declared.structure.Item.{Item}
+use Rattle.dms_desc.specs.Shape.{Shape, Described}
+use Rattle.dms_model.specs.declared.verb.Setting.{Setting}
+use Rattle.dms_model.specs.declared.verb.Verb.{Verb}
+use Rattle.dms_model.specs.declared.verb.Verb.TheVariants.{OpenUpdate, OpenInquiry, Close, Find, Create, Put, Get, Store, Begin, End, Abort}
+use Rattle.dms_model.specs.Db.{Db, empty_db}
+use Rattle.dms_desc.specs.Lookups.{structure_of, items_of}
+use Rattle.dms_model.specs.Points.{Quiet}
+use Rattle.dms_model.specs.Session.{Session, step}
+use Rattle.dms_model.specs.Spoken.{IsOuter, IsPlainLiteral}
+use Rattle.dms_model.specs.Valid.{IsValid}
+use Rattle.dms_laws.specs.Sound.{IsSound, NamesOuter}
+use Rattle.dms_laws.proofs.Sound.{stays_sound, empty_valid, empty_flat}
+use Rattle.dms_script.specs.declared.line.Line.{Line}
+use Rattle.dms_script.specs.declared.line.Line.TheVariants.{Verb as Spoken}
+use Rattle.dms_script.specs.declared.look.Wanted.TheVariants.{DataSet}
+use Rattle.dms_script.specs.Lines.{line_of}
+use Rattle.dms_script.specs.Spoken.{is_such, Takes, NamesWhatIsThere, SpeaksWell}
+use Rattle.dms_script.proofs.Spoken.{lines_speak_well}
+use Rattle.dms_runner.specs.Answers.{script_events, answers_quiets, last_quiet}
+use Rattle.dms_scriptlaws.specs.Truths.{IsRunnable, IsStart, TellsTrue, StopsTold, StayValid}
+use Rattle.dms_scriptlaws.proofs.Feeds.{name_feed, reply_none, bad_none, unanswered_none}
+use Rattle.dms_scriptlaws.proofs.Fronts.{truthful, leaves_told, numbered_rise}
+use Rattle.dms_scriptlaws.proofs.Named.{AreNamed, step_named}
+use Rattle.dms_scriptlaws.proofs.Speaking.{Speaks, IsTrueRun, true_run}
+
+both : (a b : Bool) → (a && b) ≡ true → (a ≡ true) × (b ≡ true)
+both true b e = (refl, e)
+both false b e = absurd (cc)
+
+outer_shape : (s : Shape) → 1 ≤ s.kind → (nat_lt s.kind 3 && s.owner == 0) ≡ true → IsOuter (Some s)
+outer_shape s low h =
+    let h' = both (nat_lt s.kind 3) (s.owner == 0) h in
+    let above : nat_lt 0 s.kind ≡ true = grind (arith, nat_tests, low) in
+    record { data_set = ap (λ (b : Bool). b && nat_lt s.kind 3) above ∙ h'.0; disjoint = grind (arith, nat_tests, h'.1) }
+
+texts_of : (o : Option Item) (l : Literal) → Takes o l → IsPlainLiteral l
+texts_of None l h = absurd h
+texts_of (Some i) l h = h.1.1
+
+settings_plain : (items : List Item) (ts : List Setting) → AllByRecursion (λ (t : Setting). Takes (slice_get items (t.item - 1)) t.literal) ts → AllByRecursion (λ (t : Setting). IsPlainLiteral t.literal) ts
+settings_plain items [] h = tt
+settings_plain items (t ∷ ts) h = (texts_of (slice_get items (t.item - 1)) t.literal h.0, settings_plain items ts h.1)
+
+last_valid : (desc : Described) (db : Db) (qs : List Quiet) → IsValid desc db → AllByRecursion (λ (q : Quiet). IsValid desc q.1) qs → IsValid desc (last_quiet db qs)
+last_valid desc db [] h all = h
+last_valid desc db (q ∷ qs) h all = last_valid desc q.1 qs all.0 all.1
+
+module _ (desc : Described) (run : IsRunnable desc) where
+  -- a session of a running script
+  record Runs (s : Session) : Type 0 where
+    sound : IsSound desc s
+    named : AreNamed s.programs
+
+  -- what a line can say
+  record MaySay (name : List ℕ) (verb : Verb) : Type 0 where
+    named : IsName name
+    outer : NamesOuter desc verb
+
+  outer_of : (n : ℕ) → is_such DataSet (structure_of desc n) ≡ true → IsOuter (structure_of desc n)
+  outer_of n h = by (structure_of desc n) refl h
+    where
+      by : (o : Option Shape) → structure_of desc n ≡ o → is_such DataSet o ≡ true → IsOuter (structure_of desc n)
+      by None here h = absurd (cc)
+      by (Some s) here h = subst IsOuter (sym here) (outer_shape s (run.kinds n s here) h)
+
+  names_outer : (verb : Verb) → NamesWhatIsThere desc verb → NamesOuter desc verb
+  names_outer OpenUpdate h = tt
+  names_outer OpenInquiry h = tt
+  names_outer Close h = tt
+  names_outer (Find path) h = tt
+  names_outer (Create set) h = outer_of set h
+  names_outer (Put set settings) h = (outer_of set h.0, settings_plain (items_of (structure_of desc set)) settings h.1)
+  names_outer (Get set items) h = tt
+  names_outer (Store set) h = tt
+  names_outer (Begin audit) h = tt
+  names_outer (End audit sync) h = tt
+  names_outer Abort h = tt
+
+  spoken_so : (l : Line) (name : List ℕ) (verb : Verb) → SpeaksWell desc l → l ≡ Spoken name verb → MaySay name verb
+  spoken_so l name verb h e = let h' : SpeaksWell desc (Spoken name verb) = subst (SpeaksWell desc) e h in record { named = h'.0; outer = names_outer verb h'.1 }
+
+  abbrev ValidQuiet : Quiet → Type 0
+  ValidQuiet q = IsValid desc q.1
+
+  speaks : Speaks desc Runs MaySay ValidQuiet
+  speaks = record {
+    keeps = λ s name verb v k. record {
+      sound = (stays_sound desc run.made).keeps s name verb v.outer k.sound;
+      named = (step_named desc run.names s name verb v.named k.named k.sound.areas).names;
+    };
+    points = λ s name verb v k. (stays_sound desc run.made).points s name verb v.outer k.sound;
+    reply = λ line s name verb v k. reply_none line name (step desc s name verb).reply (name_feed name v.named) (step_named desc run.names s name verb v.named k.named k.sound.areas).reply;
+    bad = bad_none;
+    held = λ line name verb v. unanswered_none line name (name_feed name v.named);
+    spoken = λ raw name verb is. spoken_so (line_of desc raw) name verb (lines_speak_well desc run.order raw) is;
+  }
+
+  run_true : (db : Db) → IsStart desc db → (first : ℕ) (lines : List (List ℕ)) → IsTrueRun first ValidQuiet (script_events desc db first lines)
+  run_true db start first lines = true_run desc Runs MaySay ValidQuiet speaks db first lines (record { sound = (stays_sound desc run.made).first db first start.valid start.flat; named = tt })
+
+pub tells_true : (desc : Described) → IsRunnable desc → (db : Db) → IsStart desc db → (first : ℕ) (lines : List (List ℕ)) → TellsTrue desc db first lines
+tells_true desc run db start first lines = truthful first (ValidQuiet desc run) (script_events desc db first lines) (run_true desc run db start first lines)
+
+pub stops_told : (desc : Described) → IsRunnable desc → (db : Db) → IsStart desc db → (first : ℕ) (lines : List (List ℕ)) → StopsTold desc db first lines
+stops_told desc run db start first lines = leaves_told first (ValidQuiet desc run) (script_events desc db first lines) (run_true desc run db start first lines)
+
+pub stay_valid : (desc : Described) → IsRunnable desc → (db : Db) → IsStart desc db → (first : ℕ) (lines : List (List ℕ)) → StayValid desc db first lines
+stay_valid desc run db start first lines =
+    let r = run_true desc run db start first lines in
+    record {
+      valid = r.points;
+      left = last_valid desc db (answers_quiets desc db first lines) start.valid r.points;
+      numbers = numbered_rise first (answers_quiets desc db first lines) r.numbered;
+    }
+
+pub empty_start : (desc : Described) → IsStart desc empty_db
+empty_start desc = record { valid = empty_valid desc; flat = empty_flat desc }

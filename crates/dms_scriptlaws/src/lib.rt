@@ -1,0 +1,8 @@
+//! Laws of scripts: what a script tells is true, and what it leaves is valid.
+#![tactic(auto)]
+
+mod truth;
+mod valid;
+
+pub use truth::{stop_law, told_law, truth_law};
+pub use valid::{quiets_law, runnable_law, scripts_stay_valid};

@@ -1,0 +1,23 @@
+use Rattle.std.proofs.Common.{sym, ap, ◌∙◌, length, subst}
+use Rattle.dms_desc.specs.Shape.{shape_of}
+use Rattle.dms_sets.specs.Changes.{Whole, IfListed}
+use Rattle.dms_sets.specs.ChangeLaws.{entry_whole, entry_long, taken_only}
+use Rattle.dms_sets.proofs.Faults.{if_that}
+use Rattle.dms_sets.proofs.one.take_out.Goals as goal
+
+pub remove-requires-clause-width : goal.remove-requires-clause-width
+remove-requires-clause-width g c =
+    subst (λ q. Whole (length q)) (sym c.as_slice.ensures)
+    (entry_whole c.args.kinds.now (shape_of c.args.s.now) c.args.number c.args.rec.now _ c.requires.fits (sym c.in_ok-entry.ensures ∙ c.in-Some.is))
+
+pub returns-in_ok-remove-clause-list : goal.returns-in_ok-remove-clause-list
+returns-in_ok-remove-clause-list g c =
+    let is = sym c.in_ok-entry.ensures ∙ c.in-Some.is in
+    taken_only _ _ _ _ _ _ is (entry_long c.args.kinds.now (shape_of c.args.s.now) c.args.number c.args.rec.now _ c.requires.fits is) (rw (sym c.as_slice.ensures) c.in_ok-remove.ensures.list)
+
+pub returns-in_err-remove-clause-below : goal.returns-in_err-remove-clause-below
+returns-in_err-remove-clause-below g c =
+    let is = sym c.in_ok-entry.ensures ∙ c.in-Some.is in
+    let long = entry_long c.args.kinds.now (shape_of c.args.s.now) c.args.number c.args.rec.now _ c.requires.fits is in
+    if_that _ _ _ c.from_residual-in_err-remove.ensures.1
+    (subst (λ v. IfListed (g.L.Lists.listed c.args.lists.now c.args.s.now.number v) (λ xs. g.L.Lists.below c.in_err-remove.field-0.0 c.args.lists.now c.remove.new.self)) (ap length c.as_slice.ensures ∙ long) c.in_err-remove.ensures.below)

@@ -1,0 +1,69 @@
+ghost use Rattle.std.specs.Prelude.{◌≡◌, ◌*◌, ℕ, true, IfOk, IfErr, OnOk, length};
+ghost use Rattle.std.specs.Option.{option_copied};
+ghost use Rattle.dms_desc.specs.Shape.{shape_of, described};
+ghost use Rattle.dms_desc.specs.Lookups.{structure_of, items_of};
+ghost use Rattle.dms_sets.specs.Changes.{is_over};
+ghost use Rattle.dms_sets.specs.Told.{IfJudged, KeepsSets, MayEnter, OfStructures};
+
+use crate::entry::kinds_of;
+use crate::one::change_one;
+use crate::{Lists, SetAnswer};
+use dms_block::BlockFault;
+use dms_desc::{Description, Item, Record, Structure};
+use std::alloc::Global;
+
+// Whether a structure is a set or automatic subset of a data set.
+fn is_over(s: &Structure, set: u16) -> bool
+    ensures { result ≡ is_over (shape_of s.now) set }
+{
+    2 < s.kind && s.kind < 5 && s.set == set
+}
+
+// The items of a structure; none where there is no such structure.
+fn items_of(desc: &Description, set: u16) -> &[Item]
+    ensures { result.now ≡ items_of (structure_of (described desc.now) set) }
+{
+    if set == 0 {
+        return &[];
+    }
+    match desc.structures.as_slice().get((set - 1) as usize) {
+        None => &[],
+        Some(s) => s.items.as_slice(),
+    }
+}
+
+/// One change of a record of a data set in all its sets and automatic subsets, in number order: the old record's entry
+/// is taken out of each, and the new one's put in. Where a set without DUPLICATES has an entry of another record with
+/// the new one's owner and key, the call stops there, and the lists are to be forgotten.
+///
+/// `old` is the record that stands under the number, and `new` the one that is to stand there. Each fits its items,
+/// and no set has entries of more than 104 bytes.
+pub fn change<L: Lists>(
+    lists: &mut L,
+    alloc: Global,
+    desc: &Description,
+    set: u16,
+    number: u64,
+    old: Option<&Record>,
+    new: Option<&Record>,
+) -> Result<SetAnswer, BlockFault>
+    requires usable { OfStructures (described desc.now) (λ s. is_over s set ≡ true → L.usable lists.old s.number) }
+    requires old { MayEnter (described desc.now) set (option_copied old) }
+    requires new { MayEnter (described desc.now) set (option_copied new) }
+    ensures kept { IfOk result (λ a. IfJudged (described desc.now) set number (option_copied old.entry) (option_copied new.entry) (L.listed lists.old)
+        (λ db. KeepsSets (described desc.now) db set number (option_copied new.entry) (L.listed lists.new) a)) }
+    ensures usable { OnOk result ((n : ℕ) → L.usable lists.old n → L.usable lists.new n) }
+    ensures calm { OnOk result (L.calm (3 * length desc.now.structures) lists.old lists.new) }
+    ensures fails { IfErr result (λ e. L.fails e (3 * length desc.now.structures) lists.old lists.new) }
+    ensures below { IfErr result (λ e. IfJudged (described desc.now) set number (option_copied old.entry) (option_copied new.entry) (L.listed lists.old) (λ db. L.below e lists.old lists.new)) }
+{
+    let kinds = kinds_of(alloc, items_of(desc, set))?;
+    for s in desc.structures.as_slice() {
+        if is_over(s, set) {
+            if change_one(lists, alloc, s, kinds.as_slice(), number, old, new)? {
+                return Ok(SetAnswer::Duplicate(s.number));
+            }
+        }
+    }
+    Ok(SetAnswer::Done)
+}

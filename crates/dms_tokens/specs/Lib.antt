@@ -1,0 +1,4 @@
+pub mod Cursors
+pub mod Lexing
+pub mod Spelling
+pub mod Tokens
