@@ -1,4 +1,4 @@
-ghost use Rattle.std.specs.Prelude.{◌≡◌, ◌+◌, ◌<◌, ◌≤◌, ℕ, [], ◌∷◌, ◌++◌, true, false, length, take, IfOk, OnOk, IsTrue};
+ghost use Rattle.std.specs.Prelude.{◌≡◌, ◌+◌, ◌<◌, ◌≤◌, ℕ, [], ◌∷◌, ◌++◌, true, false, length, take, IfOk, OnOk, IsTrue, option_map};
 ghost use Rattle.std.proofs.Common.{refl};
 ghost use Rattle.dms_moments.specs.Moments.{Steps};
 ghost use Rattle.dms_sitemem.specs.Slots.{files_of};
@@ -61,7 +61,9 @@ impl MemCalls {
     }
 
     /// The bytes of the file of this name, None where there is none.
-    pub fn bytes(&self, name: &[u8]) -> Option<&[u8]> {
+    pub fn bytes(&self, name: &[u8]) -> Option<&[u8]>
+        ensures { let w = world_now self.now.story.events.items in option_map (λ b. b.now) result ≡ option_map w.bytes (w.names name.now) }
+    {
         match self.story.find(name) {
             None => None,
             Some(file) => Some(self.story.bytes(file)),
