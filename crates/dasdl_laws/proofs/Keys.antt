@@ -1,5 +1,5 @@
 -- A key that was judged has parts of its items, none of them twice, and is short.
-use Rattle.std.proofs.Common.{◌≡◌, ◌≤◌, ◌+◌, ℕ, List, [], ◌∷◌, ◌++◌, length, Bool, true, false, cond, refl, sym, ap, subst, arith, length-append, append_assoc}
+use Rattle.std.proofs.Common.{◌≡◌, ◌∙◌, ◌≤◌, ◌+◌, ℕ, List, [], ◌∷◌, ◌++◌, length, Bool, true, false, cond, refl, sym, ap, subst, arith, length-append, append_assoc}
 use Rattle.std.proofs.lemmas.Bool.{le-leb, ltb-false, or_parts, and_from}
 use Rattle.std.specs.Prelude.{◌||◌, ◌==◌, not, nat_lt, Some}
 use Rattle.std.specs.List.{list_all, AllByRecursion}
