@@ -23,10 +23,20 @@ unfoldable pub is_structure : List ℕ → List Draft → Bool
 is_structure name [] = false
 is_structure name (d ∷ ds) = if bytes_eq d.name name then true else is_structure name ds
 
+-- a data set, also the restart data set
+abbrev pub is_data_set_draft : Draft → Bool
+is_data_set_draft d = nat_lt d.kind 3
+
+abbrev pub is_restart_draft : Draft → Bool
+is_restart_draft d = d.kind == 2
+
+abbrev pub is_automatic_draft : Draft → Bool
+is_automatic_draft d = d.kind == 4
+
 -- some structure is a restart data set
 unfoldable pub has_restart : List Draft → Bool
 has_restart [] = false
-has_restart (d ∷ ds) = if d.kind == 2 then true else has_restart ds
+has_restart (d ∷ ds) = if is_restart_draft d then true else has_restart ds
 
 -- the kind of the structure with this number, 0 where there is none
 unfoldable pub kind_of : ℕ → List Draft → ℕ
@@ -36,7 +46,7 @@ kind_of number (d ∷ ds) = if d.number == number then d.kind else kind_of numbe
 -- the data set with this name, a restart data set among them
 unfoldable pub data_set_named : List ℕ → List Draft → Option Draft
 data_set_named name [] = None
-data_set_named name (d ∷ ds) = if nat_lt d.kind 3 && bytes_eq d.name name then Some d else data_set_named name ds
+data_set_named name (d ∷ ds) = if is_data_set_draft d && bytes_eq d.name name then Some d else data_set_named name ds
 
 -- an item, link or group of a data set has this name
 unfoldable pub is_taken : List ℕ → Draft → Bool

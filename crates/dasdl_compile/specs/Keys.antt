@@ -1,5 +1,5 @@
 -- Keys, as they are judged.
-use Rattle.std.specs.Prelude.{ℕ, ◌+◌, List, [], ◌∷◌, ◌++◌, length, Bool, true, false, ◌&&◌, ◌||◌, ◌==◌, nat_le, nat_lt, not, Some, None, if◌then◌else◌}
+use Rattle.std.specs.Prelude.{ℕ, ◌-◌, List, [], ◌∷◌, ◌++◌, length, take, drop, Bool, true, false, ◌||◌, ◌==◌, nat_le, nat_lt, Some, None, if◌then◌else◌}
 use Rattle.std.specs.declared.option.Option.{Option}
 use Rattle.std.specs.declared.result.Result.TheVariants.{Ok, Err}
 use Rattle.dms_desc.specs.declared.structure.Item.{Item}
@@ -22,17 +22,11 @@ unfoldable pub is_part : ℕ → List KeyPart → Bool
 is_part number [] = false
 is_part number (p ∷ ps) = if p.item == number then true else is_part number ps
 
--- an item is one of those that a part names
-abbrev pub is_in_run : Run → ℕ → Bool
-is_in_run r number = nat_le r.first number && nat_lt number (r.first + r.count)
-
--- the next item of a data set: where a part names it, it is no link, stands in the key for the first time, and is
--- the key's next item
+-- the next item that a part names: it is no link, stands in the key for the first time, and is the key's next item
 unfoldable pub key_item_at : Run → KeySoFar → Item → Judged KeySoFar
 key_item_at r k i =
-    if not (is_in_run r k.next) then Ok (record { next = after_item k.next; bytes = k.bytes; parts = k.parts })
-    else (if is_link i.kind || is_part k.next k.parts then Err (KeyItem i.name)
-    else Ok (record { next = after_item k.next; bytes = plus k.bytes (item_width i.kind); parts = k.parts ++ record { item = k.next; descending = r.descending } ∷ [] }))
+    if is_link i.kind || is_part k.next k.parts then Err (KeyItem i.name)
+    else Ok (record { next = after_item k.next; bytes = plus k.bytes (item_width i.kind); parts = k.parts ++ record { item = k.next; descending = r.descending } ∷ [] })
 
 abbrev pub item_run : Bool → NamedItem → Run
 item_run descending f = record { first = f.number; count = 1; descending = descending }
@@ -47,13 +41,17 @@ run_in p (Some f) None = Ok (item_run p.descending f)
 run_in p None (Some g) = Ok (group_run p.descending g)
 run_in p (Some f) (Some g) = if nat_le g.first f.number then Ok (group_run p.descending g) else Ok (item_run p.descending f)
 
--- the items that a part names: an item, or those of a group in order
+-- an item stands for itself, and a group for its items in order
+abbrev pub run_items : Run → List Item → List Item
+run_items r items = take r.count (drop (r.first - 1) items)
+
+-- what a part names
 unfoldable pub run_of : Draft → PartDecl → Judged Run
 run_of d p = run_in p (item_named p.name 1 d.items) (group_named p.name d.groups)
 
--- a part: its name is known, then its items
+-- a part: its name is known, then the items for which it stands
 unfoldable pub part_at : Draft → KeySoFar → PartDecl → Judged KeySoFar
-part_at d k p = run_of d p >>= λ r. steps key_item_at r (record { next = 1; bytes = k.bytes; parts = k.parts }) d.items
+part_at d k p = run_of d p >>= λ r. steps key_item_at r (record { next = r.first; bytes = k.bytes; parts = k.parts }) (run_items r d.items)
 
 -- a key of at most 16 parts and 96 bytes
 unfoldable pub short_key : List ℕ → KeySoFar → Judged (List KeyPart)

@@ -7,5 +7,4 @@ pub mod Members
 pub mod Outlines
 pub mod Sets
 pub mod Tables
-pub mod TreeCodes
 pub mod Widths

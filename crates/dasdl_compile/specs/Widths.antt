@@ -1,5 +1,5 @@
 -- Bytes of records, keys and descriptions. A count of bytes stops at 2 ^ 32 - 1.
-use Rattle.std.specs.Prelude.{ℕ, ◌+◌, min, List, [], ◌∷◌, length, ◌==◌, if◌then◌else◌, nat_lt}
+use Rattle.std.specs.Prelude.{ℕ, ◌+◌, min, List, [], ◌∷◌, length, if◌then◌else◌}
 use Rattle.dms_base.specs.declared.value.Value.{Value}
 use Rattle.dms_base.specs.declared.value.Value.TheVariants.{Null, Text, Number, Bool as Truth, Bits, Link as Reference}
 use Rattle.dms_desc.specs.declared.structure.Item.{Item}
@@ -8,6 +8,7 @@ use Rattle.dms_desc.specs.declared.structure.KeyPart.{KeyPart}
 use Rattle.dms_desc.specs.Shape.{Tree}
 use Rattle.dms_desc.specs.Shape.Tree.{Empty, Test, Both, Either, Contrary}
 use Rattle.dasdl_compile.specs.declared.draft.Draft.{Draft}
+use Rattle.dasdl_compile.specs.Finding.{is_data_set_draft, is_automatic_draft}
 
 abbrev pub most : ℕ
 most = 4294967295
@@ -58,11 +59,11 @@ data_set_width w d = plus (groups_width (items_width (plus w 6) d.items) d.group
 
 -- a set or subset has its data set, form, duplicates, population and parts, an automatic subset WHERE besides
 unfoldable pub set_width : ℕ → Draft → ℕ
-set_width w d = if d.kind == 4 then plus (parts_width (plus w 9) d.parts) (condition_width d.cond) else parts_width (plus w 9) d.parts
+set_width w d = if is_automatic_draft d then plus (parts_width (plus w 9) d.parts) (condition_width d.cond) else parts_width (plus w 9) d.parts
 
 -- so many bytes and this structure: kind, a name with a byte for its length, owner in two bytes, the rest
 unfoldable pub with_structure : ℕ → Draft → ℕ
-with_structure w d = if nat_lt d.kind 3 then data_set_width (plus (plus w 4) (size_of d.name)) d else set_width (plus (plus w 4) (size_of d.name)) d
+with_structure w d = if is_data_set_draft d then data_set_width (plus (plus w 4) (size_of d.name)) d else set_width (plus (plus w 4) (size_of d.name)) d
 
 unfoldable pub structures_width : ℕ → List Draft → ℕ
 structures_width w [] = w

@@ -15,7 +15,7 @@ pub struct Condition {
 
 impl Model for Condition {
     ghost use Rattle.dms_desc.specs.Shape.{Tree};
-    ghost use Rattle.dasdl_compile.specs.TreeCodes.{tree_code};
+    ghost use Rattle.dms_desc.specs.TreeCodes.{tree_code};
 
     ghost Value = { Tree };
 

@@ -1,5 +1,5 @@
 ghost use Rattle.std.specs.Prelude.{◌≡◌, []};
-ghost use Rattle.dasdl_compile.specs.Finding.{drafted};
+ghost use Rattle.dasdl_compile.specs.Finding.{drafted, is_data_set_draft, is_restart_draft, is_automatic_draft};
 
 use crate::condition::Condition;
 use dms_base::Name;
@@ -50,5 +50,26 @@ impl Draft {
             duplicates: false,
             parts: KeyParts::new(alloc),
         }
+    }
+
+    /// Whether it is a data set, also the restart data set.
+    pub fn is_data_set(&self) -> bool
+        ensures { result ≡ is_data_set_draft self.now }
+    {
+        self.kind < 3
+    }
+
+    /// Whether it is the restart data set.
+    pub fn is_restart(&self) -> bool
+        ensures { result ≡ is_restart_draft self.now }
+    {
+        self.kind == 2
+    }
+
+    /// Whether it is an automatic subset.
+    pub fn is_automatic(&self) -> bool
+        ensures { result ≡ is_automatic_draft self.now }
+    {
+        self.kind == 4
     }
 }

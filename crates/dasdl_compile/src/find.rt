@@ -31,7 +31,7 @@ pub fn has_restart(drafts: &[Draft]) -> bool
     ensures { result ≡ has_restart drafts.now }
 {
     for draft in drafts {
-        if draft.kind == 2 {
+        if draft.is_restart() {
             return true;
         }
     }

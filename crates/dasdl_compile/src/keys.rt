@@ -1,6 +1,6 @@
 ghost use Rattle.std.specs.Prelude.{◌≡◌};
 ghost use Rattle.dasdl_compile.specs.Answers.{Gives, Makes};
-ghost use Rattle.dasdl_compile.specs.Keys.{is_part, is_in_run, key_item_at, run_of, part_at, short_key, key_at};
+ghost use Rattle.dasdl_compile.specs.Keys.{is_part, key_item_at, run_items, run_of, part_at, short_key, key_at};
 ghost use Rattle.dasdl_compile.specs.Tables.{untitled};
 
 use crate::draft::Draft;
@@ -25,7 +25,7 @@ pub struct Run {
     pub descending: bool,
 }
 
-/// A key as far as it was judged: its parts and their bytes. The next item of the data set is looked at.
+/// A key as far as it was judged: its parts and their bytes, and the number of the item that is looked at next.
 #[derive(Drop)]
 pub struct KeySoFar {
     pub next: u8,
@@ -46,11 +46,13 @@ fn is_part(parts: &[KeyPart], number: u8) -> bool
     false
 }
 
-/// Whether an item is one of a run.
-fn is_in_run(run: &Run, number: u8) -> bool
-    ensures { result ≡ is_in_run run.now number }
+/// The items of a run.
+fn run_items(run: Run, items: &[Item]) -> &[Item]
+    ensures { result.now ≡ run_items run items.now }
 {
-    run.first <= number && u16::from(number) < u16::from(run.first) + u16::from(run.count)
+    let before = usize::from(run.first).saturating_sub(1).min(items.len());
+    let rest = &items[before..];
+    &rest[..usize::from(run.count).min(rest.len())]
 }
 
 impl Steps<Run, Item> for KeySoFar {
@@ -61,10 +63,6 @@ impl Steps<Run, Item> for KeySoFar {
     #[tactic(auto, unfolding(crate::specs::Keys::key_item_at))]
     fn step(&mut self, _alloc: Global, run: &Run, item: &Item) -> Result<(), CompileFault> {
         let number = self.next;
-        if !is_in_run(run, number) {
-            self.next = after_item(number);
-            return Ok(());
-        }
         if item.is_link() || is_part(self.parts.as_slice(), number) {
             return Err(CompileFault::KeyItem(item.name));
         }
@@ -128,8 +126,8 @@ impl Steps<Draft, PartDecl> for KeySoFar {
         part: &PartDecl,
     ) -> Result<(), CompileFault> {
         let run = run_of(data_set, part)?;
-        self.next = 1;
-        all_steps(self, alloc, &run, data_set.items.as_slice())
+        self.next = run.first;
+        all_steps(self, alloc, &run, run_items(run, data_set.items.as_slice()))
     }
 }
 

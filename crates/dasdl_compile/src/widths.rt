@@ -99,7 +99,7 @@ fn set_width(before: u32, draft: &Draft) -> u32
     ensures { result ≡ set_width before draft.now }
 {
     let parts = parts_width(before.saturating_add(9), draft.parts.as_slice());
-    if draft.kind == 4 {
+    if draft.is_automatic() {
         return parts.saturating_add(condition_width(draft.cond.cond()));
     }
     parts
@@ -112,7 +112,7 @@ fn with_structure(before: u32, draft: &Draft) -> u32
     let head = before
         .saturating_add(4)
         .saturating_add(size_of(draft.name.bytes()));
-    if draft.kind < 3 {
+    if draft.is_data_set() {
         return data_set_width(head, draft);
     }
     set_width(head, draft)

@@ -1,5 +1,7 @@
 -- A key that was judged has parts.
-use Rattle.std.proofs.Common.{◌≡◌, ◌≤◌, ◌<◌, ◌+◌, ℕ, List, [], ◌∷◌, ◌++◌, length, Bool, true, false, cond, refl, sym, ap, subst, ◌∙◌, arith, length-append, append_assoc}
+use Rattle.std.proofs.Common.{◌≡◌, ◌≤◌, ◌<◌, ◌+◌, ℕ, List, [], ◌∷◌, ◌++◌, length, Bool, true, false, cond, refl, sym, ap, subst, ◌∙◌, arith, length-append}
+use Rattle.std.specs.Prelude.{◌-◌, min, drop}
+use Rattle.std.proofs.lemmas.List.{length-drop, length-take}
 use Rattle.std.proofs.lemmas.Bool.{ltb-true, ltb-false}
 use Rattle.std.proofs.lemmas.Bool.Decides.{nat_tests}
 use Rattle.std.specs.Prelude.{◌||◌, not, nat_le, nat_lt, Some, None}
@@ -19,74 +21,44 @@ use Rattle.dasdl_compile.specs.declared.keys.KeySoFar.{KeySoFar}
 use Rattle.dasdl_compile.specs.Answers.{Judged, steps}
 use Rattle.dms_desc.specs.Kinds.{is_link}
 use Rattle.dms_desc.specs.Lookups.{after_item, item_named, group_named}
-use Rattle.dasdl_compile.specs.Keys.{is_part, is_in_run, key_item_at, run_in, run_of, part_at, item_run, group_run, short_key, key_at}
+use Rattle.dasdl_compile.specs.Keys.{is_part, key_item_at, run_items, run_in, run_of, part_at, item_run, group_run, short_key, key_at}
 use Rattle.dms_desc.specs.Widths.{item_width}
 use Rattle.dasdl_compile.specs.Widths.{plus}
 use Rattle.dasdl_laws.proofs.Judging.{bind_ok, skip_ok, ok_same, steps_keep}
 use Rattle.dasdl_laws.proofs.Judged.{FoundIn, item_found}
 use Rattle.dasdl_laws.proofs.Parts.{Within}
 
--- what an item does to a key
-record ItemTurn (r : Run) (k t : KeySoFar) : Type 0 where
-  next : t.next ≡ after_item k.next
-  more : length k.parts ≤ length t.parts
-  hit : is_in_run r k.next ≡ true → 1 ≤ length t.parts
-
-turned : (b : Bool) (r : Run) (k : KeySoFar) (i : Item) (t : KeySoFar) → is_in_run r k.next ≡ b → cond (not b) (Ok (record { next = after_item k.next; bytes = k.bytes; parts = k.parts })) (cond (is_link i.kind || is_part k.next k.parts) (Err (KeyItem i.name)) (Ok (record { next = after_item k.next; bytes = plus k.bytes (item_width i.kind); parts = k.parts ++ record { item = k.next; descending = r.descending } ∷ [] }))) ≡ Ok t → ItemTurn r k t
-turned false r k i t e h =
-    subst (ItemTurn r k) (ok_same _ t h) (record { next = refl; more = omega arith; hit = λ g. let bad : true ≡ false = sym g ∙ e in absurd (cc) })
-turned true r k i t e h =
-    let a = skip_ok (is_link i.kind || is_part k.next k.parts) _ _ _ h in
-    let one : length (k.parts ++ record { item = k.next; descending = r.descending } ∷ []) ≡ length k.parts + 1 = length-append k.parts (record { item = k.next; descending = r.descending } ∷ []) in
-    subst (ItemTurn r k) (ok_same _ t a.1) (record { next = refl; more = omega (arith, one); hit = λ g. omega (arith, one) })
-
-item_turn : (r : Run) (k : KeySoFar) (i : Item) (t : KeySoFar) → key_item_at r k i ≡ Ok t → ItemTurn r k t
+-- each item gives a part
+item_turn : (r : Run) (k : KeySoFar) (i : Item) (t : KeySoFar) → key_item_at r k i ≡ Ok t → length t.parts ≡ length k.parts + 1
 unfolding key_item_at
-item_turn r k i t h = turned (is_in_run r k.next) r k i t refl h
+item_turn r k i t h =
+    let a = skip_ok (is_link i.kind || is_part k.next k.parts) _ _ _ h in
+    ap (λ (x : KeySoFar). length x.parts) (sym (ok_same _ t a.1)) ∙ length-append k.parts (record { item = k.next; descending = r.descending } ∷ [])
 
-more_parts : (r : Run) (is : List Item) (k t : KeySoFar) → steps key_item_at r k is ≡ Ok t → length k.parts ≤ length t.parts
+more_parts : (r : Run) (is : List Item) (k t : KeySoFar) → steps key_item_at r k is ≡ Ok t → length k.parts + length is ≤ length t.parts
 unfolding steps
 more_parts r [] k t h = let e = ap (λ (x : KeySoFar). length x.parts) (ok_same k t h) in omega (arith, e)
 more_parts r (i ∷ is) k t h =
     let a = bind_ok {A = KeySoFar} {B = KeySoFar} (key_item_at r k i) _ t h in
-    let one = item_turn r k i a.0 a.1 in
-    let x = one.more in
+    let x = item_turn r k i a.0 a.1 in
     let y = more_parts r is a.0 t a.2 in
     omega (arith, x, y)
 
-begins : (r : Run) (n : ℕ) → nat_lt n r.first ≡ false → n ≤ r.first → 1 ≤ r.count → is_in_run r n ≡ true
-begins r n e low some =
-    let up : r.first ≤ n = ltb-false n r.first e in
-    grind (arith, nat_tests)
-
-hit_case : (b : Bool) (r : Run) (pre : List Item) (i : Item) (is : List Item) (k u t : KeySoFar) → length (pre ++ i ∷ is) ≤ 254 → k.next ≡ length pre + 1 → k.next ≤ r.first → r.first ≤ length (pre ++ i ∷ is) → 1 ≤ r.count → nat_lt k.next r.first ≡ b → ItemTurn r k u → length u.parts ≤ length t.parts
-    → (u.next ≡ length (pre ++ i ∷ []) + 1 → u.next ≤ r.first → 1 ≤ length t.parts) → 1 ≤ length t.parts
-hit_case true r pre i is k u t few n low high some e one rest f =
-    let next = one.next in
-    let less : k.next < r.first = ltb-true k.next r.first e in
-    let size = length-append pre (i ∷ is) in
-    let at : u.next ≡ length (pre ++ i ∷ []) + 1 = omega (arith, next, n, few, size, length-append pre (i ∷ [])) in
-    f at (omega (arith, next, less))
-hit_case false r pre i is k u t few n low high some e one rest f =
-    let x = one.hit (begins r k.next e low some) in
-    omega (arith, x, rest)
-
--- a run that begins at one of these items gives a part
-run_hits : (r : Run) (pre rest : List Item) (k t : KeySoFar) → length (pre ++ rest) ≤ 254 → k.next ≡ length pre + 1 → k.next ≤ r.first → r.first ≤ length (pre ++ rest) → 1 ≤ r.count → steps key_item_at r k rest ≡ Ok t → 1 ≤ length t.parts
-unfolding steps
-run_hits r pre [] k t few n low high some h = absurd (omega (arith, n, low, high, length-append pre []))
-run_hits r pre (i ∷ is) k t few n low high some h =
-    let a = bind_ok {A = KeySoFar} {B = KeySoFar} (key_item_at r k i) _ t h in
-    let one = item_turn r k i a.0 a.1 in
-    let rest = more_parts r is a.0 t a.2 in
-    hit_case (nat_lt k.next r.first) r pre i is k a.0 t few n low high some refl one rest (λ next low2. run_hits r (pre ++ i ∷ []) is a.0 t (rw (append_assoc pre (i ∷ []) is) few) next low2 (rw (append_assoc pre (i ∷ []) is) high) some a.2)
-
 -- ---- what a part names
 
-record Begins (r : Run) (n : ℕ) : Type 0 where
-  from : 1 ≤ r.first
-  upto : r.first ≤ n
-  some : 1 ≤ r.count
+pub record Begins (r : Run) (n : ℕ) : Type 0 where
+  pub from : 1 ≤ r.first
+  pub upto : r.first ≤ n
+  pub some : 1 ≤ r.count
+
+some_item : (r : Run) (items : List Item) → Begins r (length items) → 1 ≤ length (run_items r items)
+some_item r items b =
+    let rest : length (drop (r.first - 1) items) ≡ length items - (r.first - 1) = length-drop (r.first - 1) items in
+    let all : length (run_items r items) ≡ min r.count (length (drop (r.first - 1) items)) = length-take r.count (drop (r.first - 1) items) in
+    let from = b.from in
+    let upto = b.upto in
+    let some = b.some in
+    omega (arith, rest, all, from, upto, some)
 
 group_case : (b : Bool) (n : ℕ) (name : List ℕ) (x : Group) (xs : List Group) (g : Group) → AllByRecursion (Within n) (x ∷ xs) → cond b (Some x) (group_named name xs) ≡ Some g → (group_named name xs ≡ Some g → Within n g) → Within n g
 group_case true n name x xs g h e f = let one : x ≡ g = cc in subst (Within n) one h.0
@@ -110,7 +82,7 @@ either_run : (b : Bool) (x y r : Run) (n : ℕ) → Begins x n → Begins y n �
 either_run true x y r n h k e = subst (λ (z : Run). Begins z n) (ok_same x r e) h
 either_run false x y r n h k e = subst (λ (z : Run). Begins z n) (ok_same y r e) k
 
-run_begins : (d : Draft) (p : PartDecl) (f : Option NamedItem) (g : Option Group) (r : Run) → length d.items ≤ 254 → AllByRecursion (Within (length d.items)) d.groups → item_named p.name 1 d.items ≡ f → group_named p.name d.groups ≡ g → run_in p f g ≡ Ok r → Begins r (length d.items)
+pub run_begins : (d : Draft) (p : PartDecl) (f : Option NamedItem) (g : Option Group) (r : Run) → length d.items ≤ 254 → AllByRecursion (Within (length d.items)) d.groups → item_named p.name 1 d.items ≡ f → group_named p.name d.groups ≡ g → run_in p f g ≡ Ok r → Begins r (length d.items)
 run_begins d p None None r few w e h k = absurd (cc)
 run_begins d p (Some f) None r few w e h k = subst (λ (x : Run). Begins x (length d.items)) (ok_same _ r k) (item_begins d.items p.descending f (item_found p.name d.items f few e))
 run_begins d p None (Some g) r few w e h k = subst (λ (x : Run). Begins x (length d.items)) (ok_same _ r k) (group_begins (length d.items) p.descending g (group_in (length d.items) p.name d.groups g w h))
@@ -122,7 +94,7 @@ unfolding part_at run_of
 part_fills d k t p few w h =
     let a = bind_ok {A = Run} {B = KeySoFar} (run_in p (item_named p.name 1 d.items) (group_named p.name d.groups)) _ t h in
     let b = run_begins d p (item_named p.name 1 d.items) (group_named p.name d.groups) a.0 few w refl refl a.1 in
-    run_hits a.0 [] d.items (record { next = 1; bytes = k.bytes; parts = k.parts }) t few refl b.from b.upto b.some a.2
+    omega (arith, some_item a.0 d.items b, more_parts a.0 (run_items a.0 d.items) (record { next = a.0.first; bytes = k.bytes; parts = k.parts }) t a.2)
 
 parts_fill : (d : Draft) (ps : List PartDecl) (k t : KeySoFar) → length d.items ≤ 254 → AllByRecursion (Within (length d.items)) d.groups → 1 ≤ length k.parts → steps part_at d k ps ≡ Ok t → 1 ≤ length t.parts
 parts_fill d ps k t few w some h = steps_keep (λ (x : KeySoFar). 1 ≤ length x.parts) part_at d (λ s u p g e. part_fills d s u p few w e) k ps t some h

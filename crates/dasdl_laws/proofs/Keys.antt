@@ -1,8 +1,10 @@
 -- A key that was judged has parts of its items, none of them twice, and is short.
-use Rattle.std.proofs.Common.{◌≡◌, ◌≤◌, ◌+◌, ℕ, List, [], ◌∷◌, ◌++◌, length, Bool, true, false, cond, refl, sym, ap, subst, arith, length-append, append_assoc}
+use Rattle.std.proofs.Common.{◌≡◌, ◌∙◌, ◌≤◌, ◌+◌, ℕ, List, [], ◌∷◌, ◌++◌, length, Bool, true, false, cond, refl, sym, ap, subst, arith, length-append, append_assoc}
 use Rattle.std.proofs.lemmas.Bool.{le-leb, ltb-false, or_parts, and_from}
 use Rattle.std.specs.Prelude.{◌||◌, ◌==◌, not, nat_lt, Some}
-use Rattle.std.specs.List.{list_all}
+use Rattle.std.specs.List.{list_all, AllByRecursion}
+use Rattle.std.specs.Prelude.{◌-◌, take, drop}
+use Rattle.std.proofs.lemmas.List.{take-append-drop, length-take-le}
 use Rattle.std.specs.declared.result.Result.TheVariants.{Ok, Err}
 use Rattle.dms_desc.specs.declared.structure.Item.{Item}
 use Rattle.dms_desc.specs.declared.structure.KeyPart.{KeyPart}
@@ -17,11 +19,13 @@ use Rattle.dasdl_compile.specs.declared.draft.Draft.{Draft}
 use Rattle.dasdl_compile.specs.declared.keys.Run.{Run}
 use Rattle.dasdl_compile.specs.declared.keys.KeySoFar.{KeySoFar}
 use Rattle.dasdl_compile.specs.Answers.{steps}
-use Rattle.dasdl_compile.specs.Keys.{is_part, is_in_run, key_item_at, run_of, part_at, short_key, key_at}
+use Rattle.dasdl_compile.specs.Keys.{is_part, key_item_at, run_items, run_in, run_of, part_at, short_key, key_at}
 use Rattle.dasdl_compile.specs.Widths.{plus}
-use Rattle.dms_desc.specs.Lookups.{after_item}
+use Rattle.dms_desc.specs.Lookups.{after_item, item_named, group_named}
 use Rattle.dasdl_laws.proofs.Judging.{bind_ok, skip_ok, ok_same, steps_keep}
 use Rattle.dasdl_laws.proofs.Judged.{place_of}
+use Rattle.dasdl_laws.proofs.Filled.{Begins, run_begins}
+use Rattle.dasdl_laws.proofs.Parts.{Within}
 use Rattle.dasdl_laws.proofs.Ordered.{all_push, apart_push}
 
 pub total_push : {A : Type 0} (size : A → ℕ) (xs : List A) (y : A) → total size (xs ++ y ∷ []) ≡ total size xs + size y
@@ -60,40 +64,46 @@ record Passed (items : List Item) (n : ℕ) (t : KeySoFar) : Type 0 where
   next : t.next ≡ after_item n
   keyed : Keyed items t.bytes t.parts
 
-passed : (b : Bool) (items : List Item) (r : Run) (k : KeySoFar) (i : Item) (t : KeySoFar) → Keyed items k.bytes k.parts → item_at items k.next ≡ Some i → cond (not b) (Ok (record { next = after_item k.next; bytes = k.bytes; parts = k.parts })) (cond (is_link i.kind || is_part k.next k.parts) (Err (KeyItem i.name)) (Ok (record { next = after_item k.next; bytes = plus k.bytes (item_width i.kind); parts = k.parts ++ record { item = k.next; descending = r.descending } ∷ [] }))) ≡ Ok t → Passed items k.next t
-passed false items r k i t h at e =
-    subst (Passed items k.next) (ok_same _ t e) (record { next = refl; keyed = h })
-passed true items r k i t h at e =
+item_passed : (items : List Item) (r : Run) (k : KeySoFar) (i : Item) (t : KeySoFar) → Keyed items k.bytes k.parts → item_at items k.next ≡ Some i → key_item_at r k i ≡ Ok t → Passed items k.next t
+unfolding key_item_at
+item_passed items r k i t h at e =
     let a = skip_ok (is_link i.kind || is_part k.next k.parts) _ _ _ e in
     let n = or_parts (is_link i.kind) (is_part k.next k.parts) a.0 in
     subst (Passed items k.next) (ok_same _ t a.1) (record { next = refl; keyed = one_more items k.bytes k.parts k.next r.descending i h at n.0 n.1 })
 
-item_passed : (items : List Item) (r : Run) (k : KeySoFar) (i : Item) (t : KeySoFar) → Keyed items k.bytes k.parts → item_at items k.next ≡ Some i → key_item_at r k i ≡ Ok t → Passed items k.next t
-unfolding key_item_at
-item_passed items r k i t h at e = passed (is_in_run r k.next) items r k i t h at e
-
-items_passed : (r : Run) (pre rest : List Item) (k t : KeySoFar) → length (pre ++ rest) ≤ 254 → k.next ≡ length pre + 1 → Keyed (pre ++ rest) k.bytes k.parts → steps key_item_at r k rest ≡ Ok t → Keyed (pre ++ rest) t.bytes t.parts
+items_passed : (r : Run) (pre is post : List Item) (k t : KeySoFar) → length (pre ++ (is ++ post)) ≤ 254 → k.next ≡ length pre + 1 → Keyed (pre ++ (is ++ post)) k.bytes k.parts → steps key_item_at r k is ≡ Ok t → Keyed (pre ++ (is ++ post)) t.bytes t.parts
 unfolding steps
-items_passed r pre [] k t few n h e = subst (λ (x : KeySoFar). Keyed (pre ++ []) x.bytes x.parts) (ok_same k t e) h
-items_passed r pre (i ∷ is) k t few n h e =
+items_passed r pre [] post k t few n h e = subst (λ (x : KeySoFar). Keyed (pre ++ post) x.bytes x.parts) (ok_same k t e) h
+items_passed r pre (i ∷ is) post k t few n h e =
     let a = bind_ok {A = KeySoFar} {B = KeySoFar} (key_item_at r k i) _ t e in
-    let p = item_passed (pre ++ i ∷ is) r k i a.0 h (place_of pre i is k.next n) a.1 in
-    let more : (pre ++ i ∷ []) ++ is ≡ pre ++ i ∷ is = append_assoc pre (i ∷ []) is in
-    let next : a.0.next ≡ length (pre ++ i ∷ []) + 1 = omega (arith, p.next, n, few, length-append pre (i ∷ is), length-append pre (i ∷ [])) in
+    let p = item_passed (pre ++ i ∷ (is ++ post)) r k i a.0 h (place_of pre i (is ++ post) k.next n) a.1 in
+    let more : (pre ++ i ∷ []) ++ (is ++ post) ≡ pre ++ i ∷ (is ++ post) = append_assoc pre (i ∷ []) (is ++ post) in
+    let next : a.0.next ≡ length (pre ++ i ∷ []) + 1 = omega (arith, p.next, n, few, length-append pre (i ∷ (is ++ post)), length-append pre (i ∷ [])) in
     subst (λ (l : List Item). Keyed l t.bytes t.parts) more
-    (items_passed r (pre ++ i ∷ []) is a.0 t (rw more few) next (subst (λ (l : List Item). Keyed l a.0.bytes a.0.parts) (sym more) p.keyed) a.2)
+    (items_passed r (pre ++ i ∷ []) is post a.0 t (rw more few) next (subst (λ (l : List Item). Keyed l a.0.bytes a.0.parts) (sym more) p.keyed) a.2)
 
-part_passed : (d : Draft) (k t : KeySoFar) (p : PartDecl) → length d.items ≤ 254 → Keyed d.items k.bytes k.parts → part_at d k p ≡ Ok t → Keyed d.items t.bytes t.parts
-unfolding part_at
-part_passed d k t p few h e =
-    let a = bind_ok {A = Run} {B = KeySoFar} (run_of d p) _ t e in
-    items_passed a.0 [] d.items (record { next = 1; bytes = k.bytes; parts = k.parts }) t few refl h a.2
+run_passed : (r : Run) (items : List Item) (k t : KeySoFar) → length items ≤ 254 → Begins r (length items) → Keyed items k.bytes k.parts → steps key_item_at r (record { next = r.first; bytes = k.bytes; parts = k.parts }) (run_items r items) ≡ Ok t → Keyed items t.bytes t.parts
+run_passed r items k t few b h e =
+    let upto = b.upto in
+    let from = b.from in
+    let all : take (r.first - 1) items ++ (run_items r items ++ drop r.count (drop (r.first - 1) items)) ≡ items =
+    ap (λ (l : List Item). take (r.first - 1) items ++ l) (take-append-drop r.count (drop (r.first - 1) items)) ∙ take-append-drop (r.first - 1) items in
+    let next : r.first ≡ length (take (r.first - 1) items) + 1 = omega (arith, from, upto, length-take-le (r.first - 1) items (omega (arith, upto))) in
+    subst (λ (l : List Item). Keyed l t.bytes t.parts) all
+    (items_passed r (take (r.first - 1) items) (run_items r items) (drop r.count (drop (r.first - 1) items)) (record { next = r.first; bytes = k.bytes; parts = k.parts }) t (rw all few) next (subst (λ (l : List Item). Keyed l k.bytes k.parts) (sym all) h) e)
 
-pub key_sound : (name : List ℕ) (d : Draft) (ps : List PartDecl) (ks : List KeyPart) → length d.items ≤ 254 → key_at name d ps ≡ Ok ks → is_key_sound d.items ks ≡ true
+part_passed : (d : Draft) (k t : KeySoFar) (p : PartDecl) → length d.items ≤ 254 → AllByRecursion (Within (length d.items)) d.groups → Keyed d.items k.bytes k.parts → part_at d k p ≡ Ok t → Keyed d.items t.bytes t.parts
+unfolding part_at run_of
+part_passed d k t p few w h e =
+    let a = bind_ok {A = Run} {B = KeySoFar} (run_in p (item_named p.name 1 d.items) (group_named p.name d.groups)) _ t e in
+    let b = run_begins d p (item_named p.name 1 d.items) (group_named p.name d.groups) a.0 few w refl refl a.1 in
+    run_passed a.0 d.items k t few b h a.2
+
+pub key_sound : (name : List ℕ) (d : Draft) (ps : List PartDecl) (ks : List KeyPart) → length d.items ≤ 254 → AllByRecursion (Within (length d.items)) d.groups → key_at name d ps ≡ Ok ks → is_key_sound d.items ks ≡ true
 unfolding key_at short_key is_key_sound
-key_sound name d ps ks few h =
+key_sound name d ps ks few w h =
     let a = bind_ok {A = KeySoFar} {B = List KeyPart} (steps part_at d (record { next = 1; bytes = 0; parts = [] }) ps) _ ks h in
-    let k = steps_keep (λ (x : KeySoFar). Keyed d.items x.bytes x.parts) part_at d (λ s t p g e. part_passed d s t p few g e) (record { next = 1; bytes = 0; parts = [] }) ps a.0 (record { sound = refl; differ = refl; short = λ low. omega arith }) a.1 in
+    let k = steps_keep (λ (x : KeySoFar). Keyed d.items x.bytes x.parts) part_at d (λ s t p g e. part_passed d s t p few w g e) (record { next = 1; bytes = 0; parts = [] }) ps a.0 (record { sound = refl; differ = refl; short = λ low. omega arith }) a.1 in
     let b = skip_ok (nat_lt 16 (length a.0.parts)) _ _ _ a.2 in
     let c = skip_ok (nat_lt 96 a.0.bytes) _ _ _ b.1 in
     let low : a.0.bytes ≤ 96 = ltb-false 96 a.0.bytes c.0 in

@@ -68,13 +68,13 @@ no_key : (is : List Member) → is_key_sound is [] ≡ true
 unfolding is_key_sound
 no_key is = refl
 
-key_by : (d : Draft) (s : SetDecl) (r : Option KeyDecl) (ps : List KeyPart) → length d.items ≤ 254 → key_in d s r ≡ Ok ps → is_key_sound d.items ps ≡ true
-key_by d s None ps few h = subst (λ (x : List KeyPart). is_key_sound d.items x ≡ true) (ok_same [] ps h) (no_key d.items)
-key_by d s (Some k) ps few h = key_sound s.name d k.parts ps few h
+key_by : (d : Draft) (s : SetDecl) (r : Option KeyDecl) (ps : List KeyPart) → length d.items ≤ 254 → AllByRecursion (Within (length d.items)) d.groups → key_in d s r ≡ Ok ps → is_key_sound d.items ps ≡ true
+key_by d s None ps few w h = subst (λ (x : List KeyPart). is_key_sound d.items x ≡ true) (ok_same [] ps h) (no_key d.items)
+key_by d s (Some k) ps few w h = key_sound s.name d k.parts ps few w h
 
-keys_sound : (d : Draft) (s : SetDecl) (ps : List KeyPart) → length d.items ≤ 254 → key_of d s ≡ Ok ps → is_key_sound d.items ps ≡ true
+keys_sound : (d : Draft) (s : SetDecl) (ps : List KeyPart) → length d.items ≤ 254 → AllByRecursion (Within (length d.items)) d.groups → key_of d s ≡ Ok ps → is_key_sound d.items ps ≡ true
 unfolding key_of
-keys_sound d s ps few h = key_by d s s.key ps few h
+keys_sound d s ps few w h = key_by d s s.key ps few w h
 
 some_part : (ps : List KeyPart) → 1 ≤ length ps → not (is_empty ps) ≡ true
 some_part [] h = absurd (omega (arith, h))
@@ -144,7 +144,7 @@ set_shape made w s of p f few groups placed read lacks plain some =
     let within : AllByRecursion (Within (length of.items)) of.groups = subst (λ (n : ℕ). AllByRecursion (Within n) of.groups) (sym size) (subst (AllByRecursion (Within (length f.is.items))) gs groups) in
     let o = options_read of s p read in
     let owner : f.is.owner ≡ of.owner = ap (λ (x : Draft). x.owner) (sym f.alike) in
-    let key : is_key_sound f.is.items p.parts ≡ true = sym (same_keys of.items f.is.items p.parts items) ∙ keys_sound of s p.parts low o.0 in
+    let key : is_key_sound f.is.items p.parts ≡ true = sym (same_keys of.items f.is.items p.parts items) ∙ keys_sound of s p.parts low within o.0 in
     let test : cond (set_kind s == 4) (is_condition f.is.items p.cond) (is_nothing p.cond) ≡ true = ap (λ (b : Bool). cond (set_kind s == 4) b (is_nothing p.cond)) (sym (same_conditions of.items f.is.items p.cond items)) ∙ where_sound of s p.cond low plain o.1 in
     rw f.structure (and_from _ _ (and_from _ _ (and_from _ _ (and_from _ _ f.kind (rw owner (placed_well w s of placed))) key) test) (filled of s p.parts low within some lacks o.0))
 

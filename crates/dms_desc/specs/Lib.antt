@@ -5,4 +5,5 @@ pub mod Lookups
 pub mod Plain
 pub mod Shape
 pub mod Sorted
+pub mod TreeCodes
 pub mod Widths

@@ -1,4 +1,4 @@
--- A condition as the list of its parts, each operand before what joins it.
+-- How the logic stores a condition: as the list of its parts, each operand before what joins it.
 use Rattle.std.specs.Prelude.{ℕ, zero, suc, ◌≡◌, ◌⊎◌, refl, List, [], ◌∷◌, ◌++◌}
 use Rattle.std.specs.Coded.{Coded, code_by, coded×, coded_ℕ, coded_list, coded⊎}
 use Rattle.std.proofs.Common.{ap, ◌∙◌, inl, inr}
