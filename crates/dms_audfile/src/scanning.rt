@@ -1,4 +1,4 @@
-ghost use Rattle.std.specs.Prelude.{◌≡◌, ◌≤◌, ◌<◌, ◌+◌, ◌-◌, ◌*◌, ◌^◌, [], length, take, drop, IfOk, IfErr, IfSome, IsErrOf, IsTrue};
+ghost use Rattle.std.specs.Prelude.{◌≡◌, ◌≢◌, ◌≤◌, ◌<◌, ◌+◌, ◌-◌, ◌*◌, ◌^◌, [], length, take, drop, IfOk, IfErr, IfSome, IsErrOf, IsTrue};
 ghost use Rattle.dms_audfile.specs.Counting.{CountedAt};
 ghost use Rattle.dms_audfile.specs.Gathering.{seen, nothing_seen};
 ghost use Rattle.dms_site.specs.Files.{range};
@@ -222,7 +222,8 @@ fn first_foreign<S: Site>(
 /// where there is none before it, what its own first file should hold.
 fn no_schema(first: u32) -> AudFault
     requires { 10001 ≤ first }
-    ensures { NotScanned (no_schema first) result }
+    ensures why { NotScanned (no_schema first) result }
+    ensures not_disk { result ≢ AudFault.Disk }
 {
     if first == 10001 {
         AudFault::Damaged(10001, 0)
