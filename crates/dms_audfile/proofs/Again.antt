@@ -15,7 +15,7 @@ use Rattle.dms_audfile.specs.TrailLaws.{read_trail, all_of}
 use Rattle.dms_audfile.specs.Ends.{IsFilled, AreFilled, Seals}
 use Rattle.dms_audfile.specs.Scanning.{Placed, entry_in, Read, broken, whole, then_read, place_of, places_of, found, all_found, no_schema, scanned}
 use Rattle.dms_audfile.specs.AuditTrail.{IsScanned}
-use Rattle.dms_audfile.specs.ScanLaws.{FoundAreEntries, IsFoundWith, ScansAgain}
+use Rattle.dms_audfile.specs.ScanLaws.{FoundAreEntries, IsFoundWith, ScansAgain, IsWritten, WrittenIsFound}
 use Rattle.dms_audfile.proofs.Ended.{writes_once}
 use Rattle.dms_audfile.proofs.Followed.{fits_says, scans_trail}
 use Rattle.dms_audfile.proofs.Kept.{found_is_kept, was_read, of_all, long_head}
@@ -72,9 +72,11 @@ block_is_read f i block (Some es) qs is e = record { entries = es; is = is }
 are_read : (total f i : ℕ) (bs : List (List ℕ)) (ps : List Placed) → read_trail total f i bs ≡ whole ps → AreRead bs
 are_read total f i [] ps e = tt
 are_read total f i (b ∷ bs) ps e =
-    let w = both_whole (places_of f i (block_entries b)) (rest_read total f i bs) ps e in
-    (block_is_read f i b (block_entries b) w.front refl w.first, either (λ qs. AreRead bs) (i == total) (read_trail total (f + 1) 1 bs) (read_trail total f (i + 1) bs) w.back
-    (λ qs is. are_read total (f + 1) 1 bs qs is) (λ qs is. are_read total f (i + 1) bs qs is) w.then)
+    let w = both_whole (places_of f i (block_entries b)) (rest_read total f i bs) ps e in (
+      block_is_read f i b (block_entries b) w.front refl w.first,
+      either (λ qs. AreRead bs) (i == total) (read_trail total (f + 1) 1 bs) (read_trail total f (i + 1) bs) w.back
+          (λ qs is. are_read total (f + 1) 1 bs qs is) (λ qs is. are_read total f (i + 1) bs qs is) w.then,
+    )
 
 filled_are_read : (bs : List (List ℕ)) → AreFilled bs → AreRead bs
 filled_are_read [] are = tt
@@ -167,32 +169,32 @@ new_last total tag f n waiting old new ps t w s = elim (cases_lt s.file 20000) [
       low = omega arith;
       high = omega arith;
       span = record {
-          low = t.span.low;
-          order = omega (arith, s.writes.order);
-          high = omega (arith, inside);
-          absent = λ g above upto. far g (omega arith) upto;
-          present = λ g from upto. elim (cases_eq g (s.file + 1)) [
-            | inl is ↦ subst (λ j. 0 < length (new.files j)) (sym is) some
-            | inr other ↦ here g from (omega (arith, other, upto))
-          ];
-          before = front;
-        };
+        low = t.span.low;
+        order = omega (arith, s.writes.order);
+        high = omega (arith, inside);
+        absent = λ g above upto. far g (omega arith) upto;
+        present = λ g from upto. elim (cases_eq g (s.file + 1)) [
+          | inl is ↦ subst (λ j. 0 < length (new.files j)) (sym is) some
+          | inr other ↦ here g from (omega (arith, other, upto))
+        ];
+        before = front;
+      };
     }
     | inr none ↦ record {
       last = s.file;
       low = omega arith;
       high = omega arith;
       span = record {
-          low = t.span.low;
-          order = s.writes.order;
-          high = s.high;
-          absent = λ g above upto. elim (cases_eq g (s.file + 1)) [
-            | inl is ↦ ap new.files is ∙ no_bytes (new.files (s.file + 1)) none
-            | inr other ↦ far g (omega (arith, other, above)) upto
-          ];
-          present = here;
-          before = front;
-        };
+        low = t.span.low;
+        order = s.writes.order;
+        high = s.high;
+        absent = λ g above upto. elim (cases_eq g (s.file + 1)) [
+          | inl is ↦ ap new.files is ∙ no_bytes (new.files (s.file + 1)) none
+          | inr other ↦ far g (omega (arith, other, above)) upto
+        ];
+        present = here;
+        before = front;
+      };
     }
   ]
   | inr outside ↦ record {
@@ -200,13 +202,13 @@ new_last total tag f n waiting old new ps t w s = elim (cases_lt s.file 20000) [
     low = omega arith;
     high = omega arith;
     span = record {
-        low = t.span.low;
-        order = s.writes.order;
-        high = s.high;
-        absent = λ g above upto. absurd (omega (arith, outside, above, upto));
-        present = here;
-        before = front;
-      };
+      low = t.span.low;
+      order = s.writes.order;
+      high = s.high;
+      absent = λ g above upto. absurd (omega (arith, outside, above, upto));
+      present = here;
+      before = front;
+    };
   }
 ]
   where
@@ -241,4 +243,30 @@ scans_again total tag f n waiting old new ps t w s =
       placed = all.placed;
       trail = record { database = database; first = first; last = l.last; span = l.span; is = is };
       are = entries;
+    }
+
+-- ---- a trail as a writer keeps it
+
+pub written_is_found : WrittenIsFound
+unfolding trail_entries
+written_is_found entries files w =
+    let trail = trail_from 10000 w.total w.first files in
+    let all = all_are_read w.total w.first 1 trail (filled_are_read trail w.filled) in
+    let are : map entry_in all.placed ≡ entries = entries_read w.total w.first 1 trail all.placed all.is ∙ w.exactly in
+    let holds : holds_schema (map entry_in all.placed) ≡ true = ap holds_schema are ∙ w.schema in
+    let span : Span files w.first w.file = record {
+      low = w.low;
+      order = w.writes.order;
+      high = w.high;
+      absent = w.behind;
+      present = λ g from upto. omega (arith, long_head (g - 10000) w.total (files g) (w.writes.fits g from upto));
+      before = w.before;
+    } in
+    let is : scanned w.first w.file files ≡ found all.placed =
+    scans_trail w.total w.tag w.first w.file w.count w.file 10000 files w.writes (omega arith) (omega arith) (omega (arith, w.low, w.high))
+    ∙ ap (all_of w.first) all.is ∙ ap (λ b. cond b (found all.placed) (no_schema w.first)) holds in
+    record {
+      placed = all.placed;
+      trail = record { database = w.database; first = w.first; last = w.file; span = span; is = is };
+      are = are;
     }

@@ -15,6 +15,7 @@ use Rattle.dms_audfile.specs.Blocks.{Entered, block_entries, entries_from, stand
 use Rattle.dms_audfile.specs.Trail.{Span}
 use Rattle.dms_audfile.specs.Scanning.{Placed, Read, broken, whole, then_read, place_of, places_of, blocks_read, file_read, files_read, Outcome, no_database, unsealed, missing, damaged, foreign, found, scanned}
 use Rattle.dms_audfile.specs.AuditTrail.{IsNoDatabase, IsScanned, TrailIs, IsOneTrail, entry_from, entry_there, IsThere, AreThere, EntriesAreThere}
+use Rattle.dms_audfile.specs.declared.place.Place.{Place}
 use Rattle.dms_audfile.proofs.HeaderLaws.{opened_within}
 use Rattle.dms_audfile.proofs.Kept.{was_read, IsWhole, block_whole}
 use Rattle.dms_audfile.proofs.Leaving.{left_behind}
@@ -75,6 +76,11 @@ none_behind offset all far = by_list (drop offset all) (omega (arith, far, lengt
     by_list : (l : List ℕ) → length l ≡ 0 → option_map (λ (y : Entry × List ℕ). y.0) (entry_at l) ≡ None
     by_list [] none = refl
     by_list (b ∷ bs) none = absurd (omega arith)
+
+-- a block that is held
+pub there_held : (files : Files) (p : Place) (bytes : List ℕ) → bytes ≡ block_at p.block (files p.file) → entry_from p.offset bytes ≡ entry_there files p
+unfolding entry_there
+there_held files p bytes same = ap (entry_from p.offset) same
 
 there_in : (files : Files) (f i : ℕ) (es : List Entered) → 10001 ≤ f → 1 ≤ i → i ≤ 512 → length (block_at i (files f)) ≡ 4096 → AllAt (take (2 + used_in (block_at i (files f))) (block_at i (files f))) es → AreThere files (map (place_of f i) es)
 unfolding entry_there

@@ -17,7 +17,12 @@ use dms_site::Site;
 use std::alloc::Global;
 
 /// Reads 4,096 bytes from block `number` of an audit file on, its header being number 0; answers how many stand there.
-pub(crate) fn load<S: Site>(site: &mut S, file: u32, number: u32, into: &mut [u8]) -> Result<usize, AudFault>
+pub(crate) fn load<S: Site>(
+    site: &mut S,
+    file: u32,
+    number: u32,
+    into: &mut [u8],
+) -> Result<usize, AudFault>
     requires size { length into.old ≡ 4096 }
     requires low { number ≤ 512 }
     ensures count { IfOk result (λ n. n ≤ 4096) }
