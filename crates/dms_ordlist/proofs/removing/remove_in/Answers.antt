@@ -1,5 +1,5 @@
 use Rattle.std.proofs.Common.{◌≡◌, ◌≤◌, ◌<◌, ◌∙◌, [], List, ℕ, Some, sym, ap, subst, length, arith}
-use Rattle.std.specs.Prelude.{IsErrAnd}
+use Rattle.std.specs.Prelude.{IsErrAnd, IsErrOf}
 use Rattle.std.specs.declared.result.Result.{Result}
 use Rattle.std.specs.declared.result.Result.TheVariants.{Ok, Err}
 use Rattle.dms_block.specs.declared.block_fault.BlockFault.{BlockFault}
@@ -21,9 +21,11 @@ use Rattle.dms_ordlist.specs.SpellLaws.{wide_room}
 use Rattle.dms_ordlist.specs.Written.{one_in, one_off}
 use Rattle.dms_ordlist.proofs.removing.remove_in.Goals as goal
 
-not_full_that : {T : Type 0} (r : Result T BlockFault) (x : BlockFault) → IsErrAnd r (λ y. y ≡ x) → x ≡ Memory → NotFull r
+not_full_that : {T U : Type 0} (r : Result T BlockFault) (x : BlockFault) → IsErrAnd r (λ y. y ≡ x) → IsErrOf {T = U} (Err x) Memory → NotFull r
 not_full_that (Ok v) x h is = tt
-not_full_that {T = T} (Err e) x h is = subst (λ f. NotFull {T = T} (Err f)) (sym (h ∙ is)) tt
+not_full_that {T = T} (Err e) x h is =
+    let memory : x ≡ Memory = cc is in
+    subst (λ f. NotFull {T = T} (Err f)) (sym (h ∙ memory)) tt
 
 pub returns-then-not-stands_at-clause-list : goal.returns-then-not-stands_at-clause-list
 returns-then-not-stands_at-clause-list g c told xs l is =
