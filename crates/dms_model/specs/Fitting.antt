@@ -57,7 +57,7 @@ pub record RecordFits (desc : Described) (set : ℕ) (rec : Record) : Type 0 whe
 -- a record under a number of its data set, that it may hold
 pub record PlaceFits (desc : Described) (place : Place) (rec : Record) : Type 0 where
   pub number : IsNumber desc place.0 place.1
-  pub rec : RecordFits desc place.0 rec
+  pub held : RecordFits desc place.0 rec
 
 -- each record is one that its data set may hold
 abbrev pub RecordsFit : Described → Records → Type 0

@@ -26,6 +26,11 @@ TellsOf (Some db) f answer = answer ≡ f db
 abbrev pub Tells : {T : Type 0} → Option Db → Result T BlockFault → (Db → T) → Type 0
 Tells told result f = IfOk result (TellsOf told f)
 
+-- there is such an item, and it is a link
+abbrev pub is_link_item : Option Item → Bool
+is_link_item None = false
+is_link_item (Some item) = is_link item.kind
+
 -- a link as it stood, and else the new value
 abbrev pub kept_value : Option Item → Value → Value → Value
 kept_value None old new = new
