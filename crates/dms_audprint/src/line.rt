@@ -1,7 +1,7 @@
-ghost use Rattle.std.specs.Prelude.{◌≡◌, ◌/◌, ◌++◌, Some, OnOk, length};
+ghost use Rattle.std.specs.Prelude.{◌≡◌, ◌/◌, Some, IfOk, length};
 ghost use Rattle.dms_audrec.specs.Reading.{rows_at};
 ghost use Rattle.dms_audrec.specs.Seen.{how_seen, entry_seen};
-ghost use Rattle.dms_audtext.specs.Lines.{kind_words, entry_words, entry_line};
+ghost use Rattle.dms_audprint.specs.Lines.{kind_words, entry_words, entry_line};
 
 use dms_audrec::{Entry, How};
 use dms_base::{Bytes, Memory};
@@ -79,10 +79,10 @@ impl fmt::Display for EntryLine<'_> {
     }
 }
 
-/// Adds the line of an entry.
-pub fn push_line(alloc: Global, text: &mut Bytes, line: &EntryLine<'_>) -> Result<(), Memory>
-    ensures { OnOk result (text.new ≡ text.old ++ entry_line line.now.audit line.now.block (entry_seen line.now.entry)) }
+/// The line of an entry as text.
+pub fn line_text(alloc: Global, line: &EntryLine<'_>) -> Result<Bytes, Memory>
+    ensures { IfOk result (λ text. text ≡ entry_line line.now.audit line.now.block (entry_seen line.now.entry)) }
 {
     let written = format!(in alloc; "{line}")?;
-    text.extend(written.as_str().as_bytes())
+    Bytes::copied(alloc, written.as_str().as_bytes())
 }
