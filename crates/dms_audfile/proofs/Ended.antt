@@ -13,7 +13,7 @@ use Rattle.dms_audfile.specs.Blocks.{block_entries, is_begin}
 use Rattle.dms_audfile.specs.BlockLaws.{spellings, ArePlain, IsAlone, entered_at, block_of}
 use Rattle.dms_audfile.specs.Trail.{trail_from}
 use Rattle.dms_audfile.specs.TrailEntries.{entry_of, entries_of, entries_in, trail_entries}
-use Rattle.dms_audfile.specs.Ends.{unsealed, EndsAt, IsFilled, Grown, Seals, Appends}
+use Rattle.dms_audfile.specs.Ends.{unsealed, EndsAt, IsFilled, Grown, Seals, Appends, SealsAll}
 use Rattle.dms_audfile.specs.EndLaws.{filled_on}
 use Rattle.std.proofs.lemmas.Bool.{cases_lt, cases_eq, false≢true}
 use Rattle.dms_audfile.proofs.BlockRead.{block_is_read}
@@ -115,6 +115,7 @@ seals_of total tag first f n es content z x low w high kind few nonempty is grow
       grown = grown;
       file = grows.files.file;
       count = grows.files.count;
+      high = omega (arith, high, grows.files.high);
       writes = grows.files.writes;
       later = λ g m v. omega (arith, writes_once total tag first f n g m z.files w v, grows.files.low);
       behind = λ g far. grows.files.others g (omega (arith, far, grows.files.low)) (omega (arith, far, grows.files.low));
@@ -153,8 +154,8 @@ none_waits (e ∷ es) (inl plain) none = absurd (no_bytes e (spellings es) plain
 none_waits (e ∷ es) (inr alone) none = absurd (no_bytes alone.entry [] alone.fits (sym (none ∙ ap spellings alone.is)))
 
 -- nothing is done
-pub seals_none : (total tag first f n : ℕ) (es : List Entry) (files : Files) (a : Clock Left) → Writes total tag first f n files → ((g : ℕ) → first ≤ g → g ≤ f → OnlyIn g files a) → Steps (Seals total tag first es) a a
-seals_none total tag first f n es files a w settled = record { follows = λ x now. (x, now, here x now); runs = runs_none a _ }
+pub seals_none : (total tag first f n : ℕ) (es : List Entry) (files : Files) (a : Clock Left) → Writes total tag first f n files → ((g : ℕ) → first ≤ g → g ≤ f → OnlyIn g files a) → f ≤ 20000 → Steps (Seals total tag first es) a a
+seals_none total tag first f n es files a w settled high = record { follows = λ x now. (x, now, here x now); runs = runs_none a _ }
   where
     writes_at : (x : Left) → Now a x → Writes total tag first f n x.files
     writes_at x now = writes_same total tag first f n files x.files w (λ g low high. settled g low high x now)
@@ -166,6 +167,7 @@ seals_none total tag first f n es files a w settled = record { follows = λ x no
       grown = grown_none total first x.files;
       file = f;
       count = n;
+      high = high;
       writes = writes_at x now;
       later = λ g m v. writes_once total tag first f n g m x.files (writes_at x now) v;
       behind = λ g far. refl;
@@ -222,6 +224,7 @@ seals_first total tag first es more z x s = record {
   behind = s.behind;
   file = s.file;
   count = s.count;
+  high = s.high;
   writes = s.writes;
   below = s.below;
   above = s.above;
@@ -238,6 +241,7 @@ seals_then total tag first k es more z y x whole one two = record {
   grown = grown_on total first z.files y.files x.files one.grown two.grown;
   file = two.file;
   count = two.count;
+  high = two.high;
   writes = two.writes;
   later = λ g m v. omega (arith, one.later g m v, two.later one.file one.count one.writes);
   behind = λ g far. two.behind g far ∙ one.behind g (omega (arith, far, two.later one.file one.count one.writes));
@@ -261,6 +265,17 @@ appends_all end first es old new clock sealed grown ends =
     all_dropped : (es : List Entry) → drop (length es) es ≡ []
     all_dropped [] = refl
     all_dropped (e ∷ es) = all_dropped es
+
+-- what waits is sealed, or nothing waits
+pub seals_all_none : (end : AuditEnd) (first : ℕ) (es : List Entry) (files : Files) (clock : Clock Left) → end.used ≡ 0 → EndsAt end first es files clock → SealsAll end first es files files clock
+seals_all_none end first es files clock none at =
+    let empty : unsealed end ≡ [] = ap (λ k. take k (drop 2 end.block.items)) none in
+    let no_entry : es ≡ [] = none_waits es at.kind (sym empty ∙ at.bytes) in
+    record {
+      sealed = sym (append-nil (trail_entries end.total first files)) ∙ ap (λ (l : List Entry). trail_entries end.total first files ++ l) (sym no_entry);
+      grown = grown_none end.total first files;
+      ends = subst (λ (l : List Entry). EndsAt end first l files clock) no_entry at;
+    }
 
 pub appends_none : (end : AuditEnd) (first : ℕ) (es : List Entry) (files : Files) (clock : Clock Left) → ArePlain es → EndsAt end first es files clock → Appends end first es files files clock
 appends_none end first es files clock plain ends = record { some = 0; sealed = sym (append-nil (trail_entries end.total first files)); grown = grown_none end.total first files; ends = ends; plain = plain }

@@ -93,7 +93,7 @@ both_true : (a b : Bool) → (a && b) ≡ true → (a ≡ true) × (b ≡ true)
 both_true true b e = (refl, e)
 both_true false b e = absurd cc
 
-fits_says : (k total : ℕ) (file : List ℕ) → header_fits k total file ≡ true → (says_blocks file ≡ true) × (total ≡ blocks_said file)
+pub fits_says : (k total : ℕ) (file : List ℕ) → header_fits k total file ≡ true → (says_blocks file ≡ true) × (total ≡ blocks_said file)
 unfolding header_fits names_fit says_blocks
 fits_says k total file fits =
     let a = both_true (nat_le 4096 (length file)) (names_fit k total file && (zeros_fit total file && gates_fit total file)) fits in
@@ -110,9 +110,9 @@ none_foreign (suc k) tag f files same =
     let e : f + 1 + k ≡ f + suc k = omega arith in
     ap (λ b. cond b (first_foreign k tag (f + 1) files) f) on ∙ none_foreign k tag (f + 1) files (λ g from upto. same g (omega arith) (omega arith)) ∙ e
 
-own : (r : Read) (g end : ℕ) → end ≤ g → outcome_of r g end ≡ all_of r
-own (broken f b) g end far = refl
-own (whole ps) g end far = grind (arith, nat_tests)
+own : (first : ℕ) (r : Read) (g end : ℕ) → end ≤ g → outcome_of first r g end ≡ all_of first r
+own first (broken f b) g end far = refl
+own first (whole ps) g end far = grind (arith, nat_tests)
 
 pub scans_trail : ScansTrail
 scans_trail total tag first f n last m files w low high far =
@@ -125,6 +125,6 @@ scans_trail total tag first f n last m files w low high far =
     let same : first_foreign (f + 1 - first) (tag_said (files first)) first files ≡ first + (f + 1 - first) = none_foreign (f + 1 - first) (tag_said (files first)) first files (λ g from upto. w.tags g from (omega (arith, w.order)) ∙ sym (w.tags first (omega arith) w.order)) in
     scan_at first last total f files says.0 says.1 at
     ∙ at_end total first last f files low (omega arith)
-    ∙ own (files_read (f + 1 - first) total first files) (first_foreign (f + 1 - first) (tag_said (files first)) first files) (f + 1) (omega (arith, w.order, same))
-    ∙ ap (λ c. all_of (files_read c total first files)) count
-    ∙ ap all_of (files_follow k m total first files (omega (arith, w.some)) (omega (arith, w.order)) (λ g from upto. w.full g from (omega arith)) part (λ g from upto. w.fits g from (omega arith)))
+    ∙ own first (files_read (f + 1 - first) total first files) (first_foreign (f + 1 - first) (tag_said (files first)) first files) (f + 1) (omega (arith, w.order, same))
+    ∙ ap (λ c. all_of first (files_read c total first files)) count
+    ∙ ap (all_of first) (files_follow k m total first files (omega (arith, w.some)) (omega (arith, w.order)) (λ g from upto. w.full g from (omega arith)) part (λ g from upto. w.fits g from (omega arith)))

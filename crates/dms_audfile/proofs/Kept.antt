@@ -1,17 +1,17 @@
 -- What scanning finds is such as a writer keeps.
-use Rattle.std.proofs.Common.{ℕ, zero, suc, ◌+◌, ◌-◌, ◌*◌, ◌<◌, ◌≤◌, ◌≡◌, ◌≢◌, ◌==◌, ◌⊎◌, Bool, true, false, cond, List, [], length, take, drop, Option, None, refl, sym, ◌∙◌, ap, subst, arith, inl, inr}
+use Rattle.std.proofs.Common.{ℕ, zero, suc, ◌+◌, ◌-◌, ◌*◌, ◌<◌, ◌≤◌, ◌≡◌, ◌≢◌, ◌==◌, ◌⊎◌, Bool, true, false, cond, List, [], length, map, take, drop, Option, None, refl, sym, ◌∙◌, ap, subst, arith, inl, inr}
 use Rattle.std.specs.Prelude.{nat_le, nat_lt, ◌&&◌}
 use Rattle.std.proofs.lemmas.Bool.{cases_eq, cases_lt}
 use Rattle.std.proofs.lemmas.Bool.Decides.{nat_tests}
 use Rattle.dms_site.specs.Files.{Files}
 use Rattle.dms_site.specs.Laws.{length-range}
-use Rattle.dms_audfile.specs.declared.place.Place.{Place}
+use Rattle.dms_audfile.specs.WholeSchema.{holds_schema}
 use Rattle.dms_audfile.specs.Gates.{gate, block_at, opened_from, opened, is_full}
 use Rattle.dms_audfile.specs.Header.{all_zero, header_fits, names_fit, zeros_fit, gates_fit, none_open, says_blocks, blocks_said, tag_said}
 use Rattle.dms_audfile.specs.Blocks.{Entered, block_entries, used_in, entries_from}
 use Rattle.dms_audfile.specs.Trail.{first_open}
 use Rattle.dms_audfile.specs.Sealing.{Stands, Writes}
-use Rattle.dms_audfile.specs.Scanning.{Read, broken, whole, then_read, places_of, blocks_read, file_read, files_read, unsealed, missing, damaged, found, foreign, outcome_of, outcome_at, first_foreign, trail_read, scanned}
+use Rattle.dms_audfile.specs.Scanning.{Placed, entry_in, no_schema, all_found, Read, broken, whole, then_read, places_of, blocks_read, file_read, files_read, unsealed, missing, damaged, found, foreign, outcome_of, outcome_at, first_foreign, trail_read, scanned}
 use Rattle.dms_audfile.specs.TrailLaws.{IsKept, FoundIsKept}
 use Rattle.dms_audfile.proofs.HeaderLaws.{opened_within}
 
@@ -19,7 +19,7 @@ abbrev IsWhole : Read → Type 0
 IsWhole (broken f b) = ⊥
 IsWhole (whole ps) = Unit {0}
 
-is_whole : (r : Read) (ps : List Place) → r ≡ whole ps → IsWhole r
+is_whole : (r : Read) (ps : List Placed) → r ≡ whole ps → IsWhole r
 is_whole (broken f b) ps is = absurd cc
 is_whole (whole qs) ps is = tt
 
@@ -104,7 +104,7 @@ both_true : (a b : Bool) → (a && b) ≡ true → (a ≡ true) × (b ≡ true)
 both_true true b e = (refl, e)
 both_true false b e = absurd cc
 
-long_head : (k total : ℕ) (file : List ℕ) → header_fits k total file ≡ true → 4096 ≤ length file
+pub long_head : (k total : ℕ) (file : List ℕ) → header_fits k total file ≡ true → 4096 ≤ length file
 unfolding header_fits
 long_head k total file fits = let e = (both_true (nat_le 4096 (length file)) (names_fit k total file && (zeros_fit total file && gates_fit total file)) fits).0 in grind (arith, nat_tests)
 
@@ -165,29 +165,44 @@ unfolding is_full
 not_full_opened total file off = let w = opened_within total file in grind (arith, nat_tests)
 
 -- the cases of an outcome
-record EndsWell (total first last e : ℕ) (files : Files) (ps : List Place) : Type 0 where
+record EndsWell (total first last e : ℕ) (files : Files) (ps : List Placed) : Type 0 where
   inside : e ≤ last
   late : last < e + 2
   read : files_read (e + 1 - first) total first files ≡ whole ps
   own : e + 1 ≤ first_foreign (e + 1 - first) (tag_said (files first)) first files
+  described : holds_schema (map entry_in ps) ≡ true
 
-of_found : (r : Read) (g end : ℕ) (ps : List Place) → outcome_of r g end ≡ found ps → (r ≡ whole ps) × (end ≤ g)
-of_found (broken f b) g end ps is = absurd cc
-of_found (whole qs) g end ps is = elim (cases_lt g end) [
+no_found : (first : ℕ) (ps : List Placed) → no_schema first ≡ found ps → ⊥
+no_found first ps is = by_case (first == 10001) is
+  where
+    by_case : (b : Bool) → cond b (damaged 10001 0) (missing (first - 10001)) ≡ found ps → ⊥
+    by_case true e = absurd cc
+    by_case false e = absurd cc
+
+pub of_all : (first : ℕ) (qs ps : List Placed) → all_found first qs ≡ found ps → (qs ≡ ps) × (holds_schema (map entry_in qs) ≡ true)
+of_all first qs ps is = by_case (holds_schema (map entry_in qs)) refl is
+  where
+    same : found qs ≡ found ps → qs ≡ ps
+    same e = cc
+
+    by_case : (b : Bool) → holds_schema (map entry_in qs) ≡ b → cond b (found qs) (no_schema first) ≡ found ps → (qs ≡ ps) × (holds_schema (map entry_in qs) ≡ true)
+    by_case true on e = (same e, on)
+    by_case false off e = absurd (no_found first ps e)
+
+of_found : (first : ℕ) (r : Read) (g end : ℕ) (ps : List Placed) → outcome_of first r g end ≡ found ps → (r ≡ whole ps) × (end ≤ g) × (holds_schema (map entry_in ps) ≡ true)
+of_found first (broken f b) g end ps is = absurd cc
+of_found first (whole qs) g end ps is = elim (cases_lt g end) [
   | inl near ↦ absurd (no_foreign (sym (near_by near) ∙ is))
-  | inr far ↦ (let e : qs ≡ ps = same (sym (far_off far) ∙ is) in (ap whole e, far))
+  | inr far ↦ (let all = of_all first qs ps (sym (far_off far) ∙ is) in (ap whole all.0, far, subst (λ (l : List Placed). holds_schema (map entry_in l) ≡ true) all.0 all.1))
 ]
   where
     no_foreign : foreign (g - 10000) ≡ found ps → ⊥
     no_foreign e = absurd cc
 
-    same : found qs ≡ found ps → qs ≡ ps
-    same e = cc
-
-    near_by : g < end → outcome_of (whole qs) g end ≡ foreign (g - 10000)
+    near_by : g < end → outcome_of first (whole qs) g end ≡ foreign (g - 10000)
     near_by near = grind (arith, nat_tests)
 
-    far_off : end ≤ g → outcome_of (whole qs) g end ≡ found qs
+    far_off : end ≤ g → outcome_of first (whole qs) g end ≡ all_found first qs
     far_off far = grind (arith, nat_tests)
 
 -- no file has another tag
@@ -208,7 +223,7 @@ all_tagged (suc k) tag f files far g low high = elim (cases_eq (tag_said (files 
     off : tag_said (files f) ≢ tag → (tag_said (files f) == tag) ≡ false
     off other = grind (arith, nat_tests)
 
-ends_well : (total first last e : ℕ) (files : Files) (ps : List Place) → outcome_at total first last e files ≡ found ps → EndsWell total first last e files ps
+ends_well : (total first last e : ℕ) (files : Files) (ps : List Placed) → outcome_at total first last e files ≡ found ps → EndsWell total first last e files ps
 ends_well total first last e files ps is = elim (bool_cases (nat_lt last e)) [
   | inl out ↦ absurd (no_missing (sym (ap (λ b. cond b (missing (last - 9999)) (cond (nat_le (e + 2) last) (unsealed (e - 10000)) (trail_read first (e + 1) total files))) out) ∙ is))
   | inr inside ↦ elim (bool_cases (nat_le (e + 2) last)) [
@@ -221,12 +236,14 @@ ends_well total first last e files ps is = elim (bool_cases (nat_lt last e)) [
           ∙ ap (λ b. cond b (unsealed (e - 10000)) (trail_read first (e + 1) total files)) late) ∙ is)).0;
       own = (well (sym (ap (λ b. cond b (missing (last - 9999)) (cond (nat_le (e + 2) last) (unsealed (e - 10000)) (trail_read first (e + 1) total files))) inside
           ∙ ap (λ b. cond b (unsealed (e - 10000)) (trail_read first (e + 1) total files)) late) ∙ is)).1;
+      described = (well (sym (ap (λ b. cond b (missing (last - 9999)) (cond (nat_le (e + 2) last) (unsealed (e - 10000)) (trail_read first (e + 1) total files))) inside
+          ∙ ap (λ b. cond b (unsealed (e - 10000)) (trail_read first (e + 1) total files)) late) ∙ is)).2;
     }
   ]
 ]
   where
-    well : trail_read first (e + 1) total files ≡ found ps → (files_read (e + 1 - first) total first files ≡ whole ps) × (e + 1 ≤ first_foreign (e + 1 - first) (tag_said (files first)) first files)
-    well = of_found (files_read (e + 1 - first) total first files) (first_foreign (e + 1 - first) (tag_said (files first)) first files) (e + 1) ps
+    well : trail_read first (e + 1) total files ≡ found ps → (files_read (e + 1 - first) total first files ≡ whole ps) × (e + 1 ≤ first_foreign (e + 1 - first) (tag_said (files first)) first files) × (holds_schema (map entry_in ps) ≡ true)
+    well = of_found first (files_read (e + 1 - first) total first files) (first_foreign (e + 1 - first) (tag_said (files first)) first files) (e + 1) ps
 
     no_missing : missing (last - 9999) ≡ found ps → ⊥
     no_missing e = absurd cc
@@ -240,7 +257,7 @@ ends_well total first last e files ps is = elim (bool_cases (nat_lt last e)) [
     behind_it : nat_le (e + 2) last ≡ false → last < e + 2
     behind_it off = grind (arith, nat_tests)
 
-pub writes_by : (total first last e : ℕ) (files : Files) (ps : List Place) → 8 ≤ total → total ≤ 512 → e ≡ first_open (last + 1 - first) total first files → outcome_at total first last e files ≡ found ps
+pub writes_by : (total first last e : ℕ) (files : Files) (ps : List Placed) → 8 ≤ total → total ≤ 512 → e ≡ first_open (last + 1 - first) total first files → outcome_at total first last e files ≡ found ps
     → first ≤ last → Writes total (tag_said (files first)) first e (opened total (files e)) files
 writes_by total first last e files ps low few at is order =
     let w = ends_well total first last e files ps is in
@@ -256,7 +273,7 @@ writes_by total first last e files ps low few at is order =
       tags = λ g from upto. all_tagged (e + 1 - first) (tag_said (files first)) first files (omega (arith, o.low, w.own)) g from (omega (arith, o.low));
     }
 
-kept_by : (total first last e : ℕ) (files : Files) (ps : List Place) → first ≤ last → 8 ≤ total → total ≤ 512 → e ≡ first_open (last + 1 - first) total first files → outcome_at total first last e files ≡ found ps → IsKept first last files
+kept_by : (total first last e : ℕ) (files : Files) (ps : List Placed) → first ≤ last → 8 ≤ total → total ≤ 512 → e ≡ first_open (last + 1 - first) total first files → outcome_at total first last e files ≡ found ps → IsKept first last files
 kept_by total first last e files ps order low few at is =
     let w = ends_well total first last e files ps is in
     record {
@@ -273,14 +290,37 @@ pub said_range : (file : List ℕ) → says_blocks file ≡ true → (8 ≤ bloc
 unfolding says_blocks
 said_range file on = (grind (arith, nat_tests), grind (arith, nat_tests))
 
-pub found_is_kept : FoundIsKept
+-- what was read where scanning finds no refusal
+pub record WasRead (first last : ℕ) (files : Files) (ps : List Placed) : Type 0 where
+  pub total : ℕ
+  pub end : ℕ
+  pub few : total ≤ 512
+  pub read : files_read (end + 1 - first) total first files ≡ whole ps
+  pub described : holds_schema (map entry_in ps) ≡ true
+
+-- the blocks of a file are said, and all was found
+scanned_at : (first last : ℕ) (files : Files) (ps : List Placed) → scanned first last files ≡ found ps
+    → (says_blocks (files first) ≡ true) × (outcome_at (blocks_said (files first)) first last (first_open (last + 1 - first) (blocks_said (files first)) first files) files ≡ found ps)
 unfolding scanned
-found_is_kept first last files ps order is = elim (bool_cases (says_blocks (files first))) [
-  | inl on ↦ (let r = said_range (files first) on in
-      kept_by (blocks_said (files first)) first last (first_open (last + 1 - first) (blocks_said (files first)) first files) files ps order r.0 r.1 refl
-      (sym (ap (λ b. cond b (outcome_at (blocks_said (files first)) first last (first_open (last + 1 - first) (blocks_said (files first)) first files) files) (damaged first 0)) on) ∙ is))
-  | inr off ↦ absurd (no_damaged (sym (ap (λ b. cond b (outcome_at (blocks_said (files first)) first last (first_open (last + 1 - first) (blocks_said (files first)) first files) files) (damaged first 0)) off) ∙ is))
-]
+scanned_at first last files ps is = by_case (says_blocks (files first)) refl is
   where
     no_damaged : damaged first 0 ≡ found ps → ⊥
     no_damaged e = absurd cc
+
+    by_case : (b : Bool) → says_blocks (files first) ≡ b → cond b (outcome_at (blocks_said (files first)) first last (first_open (last + 1 - first) (blocks_said (files first)) first files) files) (damaged first 0) ≡ found ps
+        → (says_blocks (files first) ≡ true) × (outcome_at (blocks_said (files first)) first last (first_open (last + 1 - first) (blocks_said (files first)) first files) files ≡ found ps)
+    by_case true on e = (on, e)
+    by_case false off e = absurd (no_damaged e)
+
+pub was_read : (first last : ℕ) (files : Files) (ps : List Placed) → scanned first last files ≡ found ps → WasRead first last files ps
+was_read first last files ps is =
+    let at = scanned_at first last files ps is in
+    let e = first_open (last + 1 - first) (blocks_said (files first)) first files in
+    let w = ends_well (blocks_said (files first)) first last e files ps at.1 in
+    record { total = blocks_said (files first); end = e; few = (said_range (files first) at.0).1; read = w.read; described = w.described }
+
+pub found_is_kept : FoundIsKept
+found_is_kept first last files ps order is =
+    let at = scanned_at first last files ps is in
+    let r = said_range (files first) at.0 in
+    kept_by (blocks_said (files first)) first last (first_open (last + 1 - first) (blocks_said (files first)) first files) files ps order r.0 r.1 refl at.1

@@ -40,3 +40,6 @@ past_by old new size alone needed full is none file same limit says = elim (bool
     idle : (b : Bool) (l f g : ℕ) → ((b || false) && nat_lt l (if b then f else g)) ≡ (b && nat_lt l f)
     idle true l f g = refl
     idle false l f g = refl
+
+pub full_empty : (used : ℕ) (b : Bool) → ((used == 0) && b) ≡ true → used ≡ 0
+full_empty used b is = grind (arith, nat_tests)

@@ -1,10 +1,12 @@
 -- One part after another is read.
 use Rattle.std.proofs.Common.{ℕ, zero, suc, ◌+◌, ◌-◌, ◌<◌, ◌≤◌, ◌≡◌, ◌≢◌, ◌==◌, Bool, true, false, cond, List, [], ◌∷◌, ◌++◌, length, take, drop, map, Option, Some, None, refl, sym, ◌∙◌, ap, subst, arith, append-nil, append_assoc, length-take, length-drop}
-use Rattle.std.specs.Prelude.{nat_le, ◌&&◌}
+use Rattle.std.specs.Prelude.{nat_le, ◌&&◌, ◌||◌}
 use Rattle.std.proofs.lemmas.Bool.Decides.{nat_tests}
 use Rattle.dms_audfile.specs.declared.fault.AudFault.{AudFault}
 use Rattle.dms_audfile.specs.declared.fault.AudFault.TheVariants.{NoDatabase, Disk, Full, Missing, Unsealed, Damaged, Foreign, Memory}
-use Rattle.dms_audfile.specs.declared.place.Place.{Place}
+use Rattle.dms_history.specs.Schemas.{after_entry}
+use Rattle.dms_audfile.specs.WholeSchema.{closes_schema, holds_schema_from, holds_schema}
+use Rattle.dms_audfile.specs.Gathering.{Seen, nothing_seen, one_more, seen_on, stopped, reached, gather}
 use Rattle.dms_site.specs.Files.{Files, Left}
 use Rattle.dms_audfile.specs.Gates.{block_at, opened, is_full}
 use Rattle.dms_history.specs.Entries.{Entry}
@@ -15,27 +17,31 @@ use Rattle.dms_moments.specs.MomentLaws.{steps_on}
 use Rattle.dms_audfile.specs.Header.{all_zero, header_fits, says_blocks, blocks_said, tag_said}
 use Rattle.dms_audfile.specs.Trail.{first_open}
 use Rattle.dms_audfile.specs.Blocks.{Entered, block_entries, entries_from, stands_there, used_in}
-use Rattle.dms_audfile.specs.Scanning.{Read, broken, whole, behind, then_read, place_of, places_of, Outcome, missing, unsealed, damaged, foreign, found, outcome_of, first_foreign, trail_read, outcome_at, scanned, blocks_read, file_read, files_read}
-use Rattle.dms_audfile.specs.Reads.{ReadInto, NotRead, NotScanned, IsBroken, OnlyReads}
+use Rattle.dms_audfile.specs.Scanning.{Placed, entry_in, no_schema, all_found, Read, broken, whole, then_read, place_of, places_of, Outcome, missing, unsealed, damaged, foreign, found, outcome_of, first_foreign, trail_read, outcome_at, scanned, blocks_read, file_read, files_read}
+use Rattle.dms_audfile.specs.Reads.{ReadInto, NotRead, NotScanned, FoundAll, IsBroken, OnlyReads}
+
+seen_behind : (s : Seen) (ps qs : List Placed) → seen_on s (ps ++ qs) ≡ seen_on (seen_on s ps) qs
+seen_behind s [] qs = refl
+seen_behind s (p ∷ ps) qs = seen_behind (one_more s p) ps qs
 
 -- a part was read
-pub read_turn : (old new : List Place) (r rest : Read) → whole new ≡ behind old r → behind new rest ≡ behind old (then_read r rest)
+pub read_turn : (old new : Seen) (r rest : Read) → reached new ≡ gather old r → gather new rest ≡ gather old (then_read r rest)
 read_turn old new (broken f b) rest is = absurd cc
 read_turn old new (whole qs) (broken f b) is = refl
 read_turn old new (whole qs) (whole ps) is =
-    let e : new ≡ old ++ qs = cc is in
-    ap whole (ap (λ (l : List Place). l ++ ps) e ∙ append_assoc old qs ps)
+    let e : new ≡ seen_on old qs = cc is in
+    ap reached (ap (λ (s : Seen). seen_on s ps) e ∙ sym (seen_behind old qs ps))
 
 -- a broken part
-pub behind_broken : (old : List Place) (r : Read) (f b : ℕ) → behind old r ≡ broken f b → r ≡ broken f b
-behind_broken old (broken g c) f b is = is
-behind_broken old (whole ps) f b is = absurd cc
+gather_broken : (old : Seen) (r : Read) (f b : ℕ) → gather old r ≡ stopped f b → r ≡ broken f b
+gather_broken old (broken g c) f b is =
+    let e : g ≡ f = cc is in
+    let h : c ≡ b = cc is in
+    (λ i. broken (e i) (h i))
+gather_broken old (whole ps) f b is = absurd cc
 
-pub broken_turn : (old mid : List Place) (r rest all : Read) (f b : ℕ) → r ≡ broken f b → behind mid (then_read r rest) ≡ behind old all → all ≡ broken f b
-broken_turn old mid r rest all f b is so_far = behind_broken old all f b (sym so_far ∙ ap (λ (x : Read). behind mid (then_read x rest)) is)
-
-pub read_end : (old new : List Place) (all : Read) → behind new (whole []) ≡ behind old all → whole new ≡ behind old all
-read_end old new all so_far = sym (ap whole (append-nil new)) ∙ so_far
+pub broken_turn : (old mid : Seen) (r rest all : Read) (f b : ℕ) → r ≡ broken f b → gather mid (then_read r rest) ≡ gather old all → all ≡ broken f b
+broken_turn old mid r rest all f b is so_far = gather_broken old all f b (sym so_far ∙ ap (λ (x : Read). gather mid (then_read x rest)) is)
 
 pub broken_place : (f b : ℕ) (r : Option (List Entered)) → IsBroken (places_of f b r) → places_of f b r ≡ broken f b
 broken_place f b None is = refl
@@ -57,7 +63,7 @@ pub files_none : (k total f : ℕ) (files : Files) → k ≡ 0 → files_read k 
 files_none zero total f files is = refl
 files_none (suc k) total f files is = absurd (omega arith)
 
-pub found_err : (old mid : List Place) (r rest all : Read) (e : AudFault) → NotRead r e → behind mid (then_read r rest) ≡ behind old all → NotRead all e
+pub found_err : (old mid : Seen) (r rest all : Read) (e : AudFault) → NotRead r e → gather mid (then_read r rest) ≡ gather old all → NotRead all e
 found_err old mid r rest all NoDatabase is so_far = absurd is
 found_err old mid r rest all Disk is so_far = tt
 found_err old mid r rest all (Full k) is so_far = absurd is
@@ -139,31 +145,34 @@ entries_alone zero at (b ∷ bs) e more some is alone = refl
 entries_alone (suc k) at rest e more some is alone =
     entries_step k at rest e more some is ∙ ap (λ (b : Bool). after_one e at b (entries_from k (at + (length rest - length more)) more)) alone ∙ after_none e at (entries_from k (at + (length rest - length more)) more)
 
-behind_one : (f b at : ℕ) (e : Entry) (old : List Place) (r : Option (List Entered)) → behind (old ++ (record { file = f; block = b; offset = at }) ∷ []) (places_of f b r) ≡ behind old (places_of f b (after_one e at true r))
-unfolding after_one
-behind_one f b at e old None = refl
-behind_one f b at e old (Some es) = ap whole (append_assoc old ((record { file = f; block = b; offset = at }) ∷ []) (map (place_of f b) es))
+abbrev pub at_place : ℕ → ℕ → ℕ → Entry → Placed
+at_place f b at e = record { place = record { file = f; block = b; offset = at }; entry = e }
 
-pub entries_turn : (k at next f b : ℕ) (rest : List ℕ) (e : Entry) (more : List ℕ) (old : List Place) → 0 < k → length rest ≢ 0 → entry_at rest ≡ Some (e, more) → stands_there at e more ≡ true → next ≡ at + (length rest - length more)
-    → behind (old ++ (record { file = f; block = b; offset = at }) ∷ []) (places_of f b (entries_from (k - 1) next more)) ≡ behind old (places_of f b (entries_from k at rest))
+gather_one : (f b at : ℕ) (e : Entry) (old : Seen) (r : Option (List Entered)) → gather (one_more old (at_place f b at e)) (places_of f b r) ≡ gather old (places_of f b (after_one e at true r))
+unfolding after_one
+gather_one f b at e old None = refl
+gather_one f b at e old (Some es) = refl
+
+pub entries_turn : (k at next f b : ℕ) (rest : List ℕ) (e : Entry) (more : List ℕ) (old : Seen) → 0 < k → length rest ≢ 0 → entry_at rest ≡ Some (e, more) → stands_there at e more ≡ true → next ≡ at + (length rest - length more)
+    → gather (one_more old (at_place f b at e)) (places_of f b (entries_from (k - 1) next more)) ≡ gather old (places_of f b (entries_from k at rest))
 entries_turn zero at next f b rest e more old low some is alone on = absurd (omega arith)
 entries_turn (suc k) at next f b rest e more old low some is alone on =
     let m : suc k - 1 ≡ k = omega arith in
-    (λ i. behind (old ++ (record { file = f; block = b; offset = at }) ∷ []) (places_of f b (entries_from (m i) (on i) more)))
-    ∙ behind_one f b at e old (entries_from k (at + (length rest - length more)) more)
-    ∙ ap (λ (t : Bool). behind old (places_of f b (after_one e at t (entries_from k (at + (length rest - length more)) more)))) (sym alone)
-    ∙ ap (λ (r : Option (List Entered)). behind old (places_of f b r)) (sym (entries_step k at rest e more some is))
+    (λ i. gather (one_more old (at_place f b at e)) (places_of f b (entries_from (m i) (on i) more)))
+    ∙ gather_one f b at e old (entries_from k (at + (length rest - length more)) more)
+    ∙ ap (λ (t : Bool). gather old (places_of f b (after_one e at t (entries_from k (at + (length rest - length more)) more)))) (sym alone)
+    ∙ ap (λ (r : Option (List Entered)). gather old (places_of f b r)) (sym (entries_step k at rest e more some is))
 
 broken_is : (r : Read) (f b : ℕ) → r ≡ broken f b → IsBroken r
 broken_is (broken g c) f b is = tt
 broken_is (whole ps) f b is = absurd cc
 
-pub broken_all : (old mid : List Place) (f b : ℕ) (r all : Option (List Entered)) → r ≡ None → behind mid (places_of f b r) ≡ behind old (places_of f b all) → IsBroken (places_of f b all)
+pub broken_all : (old mid : Seen) (f b : ℕ) (r all : Option (List Entered)) → r ≡ None → gather mid (places_of f b r) ≡ gather old (places_of f b all) → IsBroken (places_of f b all)
 broken_all old mid f b r all none so_far =
-    broken_is (places_of f b all) f b (behind_broken old (places_of f b all) f b (sym so_far ∙ ap (λ (x : Option (List Entered)). behind mid (places_of f b x)) none))
+    broken_is (places_of f b all) f b (gather_broken old (places_of f b all) f b (sym so_far ∙ ap (λ (x : Option (List Entered)). gather mid (places_of f b x)) none))
 
-pub whole_all : (old mid : List Place) (f b : ℕ) (r : Option (List Entered)) (all : Read) → r ≡ Some [] → behind mid (places_of f b r) ≡ behind old all → whole mid ≡ behind old all
-whole_all old mid f b r all is so_far = sym (ap whole (append-nil mid)) ∙ ap (λ (x : Option (List Entered)). behind mid (places_of f b x)) (sym is) ∙ so_far
+pub whole_all : (old mid : Seen) (f b : ℕ) (r : Option (List Entered)) (all : Read) → r ≡ Some [] → gather mid (places_of f b r) ≡ gather old all → reached mid ≡ gather old all
+whole_all old mid f b r all is so_far = ap (λ (x : Option (List Entered)). gather mid (places_of f b x)) (sym is) ∙ so_far
 
 broken_block : (f b : ℕ) (r : Option (List Entered)) → r ≡ None → IsBroken (places_of f b r)
 broken_block f b None is = tt
@@ -197,17 +206,17 @@ wrong_used block wrong = grind (arith, nat_tests)
 pub wrong_zeros : (block : List ℕ) → all_zero (drop (2 + used_in block) block) ≡ false → block_test block ≡ false
 wrong_zeros block wrong = grind (arith, nat_tests)
 
-pub block_read : (f n : ℕ) (block bytes : List ℕ) (old new : List Place) (ok : Bool) → length block ≡ 4096 → used_in block ≤ 4094 → all_zero (drop (2 + used_in block) block) ≡ true → bytes ≡ drop 2 (take (2 + used_in block) block)
+pub block_read : (f n : ℕ) (block bytes : List ℕ) (old new : Seen) (ok : Bool) → length block ≡ 4096 → used_in block ≤ 4094 → all_zero (drop (2 + used_in block) block) ≡ true → bytes ≡ drop 2 (take (2 + used_in block) block)
     → ReadInto old (places_of f n (entries_from (length bytes) 2 bytes)) new ok → ReadInto old (places_of f n (block_entries block)) new ok
 block_read f n block bytes old new ok long few zeros is read =
     let len : length bytes ≡ used_in block = omega (arith, ap length is, length-drop 2 (take (2 + used_in block) block), length-take (2 + used_in block) block) in
     subst (λ (r : Option (List Entered)). ReadInto old (places_of f n r) new ok) ((λ i. entries_from (len i) 2 (is i)) ∙ block_is block long few zeros) read
 
-pub into_false : (old new : List Place) (r : Read) (ok : Bool) → ReadInto old r new ok → ok ≡ false → IsBroken r
+pub into_false : (old new : Seen) (r : Read) (ok : Bool) → ReadInto old r new ok → ok ≡ false → IsBroken r
 into_false old new r true read off = absurd cc
 into_false old new r false read off = read
 
-pub into_true : (old new : List Place) (r : Read) (ok : Bool) → ReadInto old r new ok → ok ≡ true → whole new ≡ behind old r
+pub into_true : (old new : Seen) (r : Read) (ok : Bool) → ReadInto old r new ok → ok ≡ true → reached new ≡ gather old r
 into_true old new r true read on = read
 into_true old new r false read on = absurd cc
 
@@ -244,36 +253,75 @@ pub at_end : (total first last e : ℕ) (files : Files) → e ≤ last → last 
     → outcome_at total first last e files ≡ trail_read first (e + 1) total files
 at_end total first last e files some late = grind (arith, nat_tests)
 
-behind_none : (r : Read) → behind [] r ≡ r
-behind_none (broken f b) = refl
-behind_none (whole ps) = refl
+pub not_scanned : (first : ℕ) (r : Read) (g end : ℕ) (outcome : Outcome) (e : AudFault) → outcome ≡ outcome_of first r g end → NotRead r e → NotScanned outcome e
+not_scanned first r g end outcome NoDatabase at is = absurd is
+not_scanned first r g end outcome Disk at is = tt
+not_scanned first r g end outcome (Full k) at is = absurd is
+not_scanned first r g end outcome (Missing k) at is = absurd is
+not_scanned first r g end outcome (Unsealed k) at is = absurd is
+not_scanned first r g end outcome (Damaged f b) at is = at ∙ ap (λ (x : Read). outcome_of first x g end) is
+not_scanned first r g end outcome (Foreign k) at is = absurd is
+not_scanned first r g end outcome Memory at is = tt
 
-pub not_scanned : (r : Read) (g end : ℕ) (outcome : Outcome) (e : AudFault) → outcome ≡ outcome_of r g end → NotRead r e → NotScanned outcome e
-not_scanned r g end outcome NoDatabase at is = absurd is
-not_scanned r g end outcome Disk at is = tt
-not_scanned r g end outcome (Full k) at is = absurd is
-not_scanned r g end outcome (Missing k) at is = absurd is
-not_scanned r g end outcome (Unsealed k) at is = absurd is
-not_scanned r g end outcome (Damaged f b) at is = at ∙ ap (λ (x : Read). outcome_of x g end) is
-not_scanned r g end outcome (Foreign k) at is = absurd is
-not_scanned r g end outcome Memory at is = tt
+-- all was read
+pub record ReadAll (r : Read) (new : Seen) : Type 0 where
+  pub entries : List Placed
+  pub is : r ≡ whole entries
+  pub known : new ≡ seen_on nothing_seen entries
 
--- all was read, and no tag differs, or one does
-pub read_found : (old new : List Place) (r : Read) (g end : ℕ) → old ≡ [] → whole new ≡ behind old r → end ≤ g → outcome_of r g end ≡ found new
-read_found old new r g end none read far =
-    let is : r ≡ whole new = sym (behind_none r) ∙ ap (λ (l : List Place). behind l r) (sym none) ∙ sym read in
-    ap (λ (x : Read). outcome_of x g end) is ∙ far_off new g end far
+pub read_all : (old new : Seen) (r : Read) → old ≡ nothing_seen → reached new ≡ gather old r → ReadAll r new
+read_all old new (broken f b) none read = absurd cc
+read_all old new (whole ps) none read =
+    let e : new ≡ seen_on old ps = cc read in
+    record { entries = ps; is = refl; known = e ∙ ap (λ (s : Seen). seen_on s ps) none }
+
+-- whether a whole Schema with its Control was seen
+seen_described : (s : Seen) (ps : List Placed) → (seen_on s ps).described ≡ (s.described || holds_schema_from s.parts (map entry_in ps))
+seen_described s [] = sym (or_false s.described)
   where
-    far_off : (new : List Place) (g end : ℕ) → end ≤ g → outcome_of (whole new) g end ≡ found new
-    far_off new g end far = grind (arith, nat_tests)
-
-pub read_foreign : (old new : List Place) (r : Read) (g end : ℕ) → old ≡ [] → whole new ≡ behind old r → g < end → outcome_of r g end ≡ foreign (g - 10000)
-read_foreign old new r g end none read near =
-    let is : r ≡ whole new = sym (behind_none r) ∙ ap (λ (l : List Place). behind l r) (sym none) ∙ sym read in
-    ap (λ (x : Read). outcome_of x g end) is ∙ near_by new g end near
+    or_false : (b : Bool) → (b || false) ≡ b
+    or_false true = refl
+    or_false false = refl
+seen_described s (p ∷ ps) = seen_described (one_more s p) ps ∙ or_or s.described (closes_schema s.parts p.entry) (holds_schema_from (after_entry s.parts p.entry) (map entry_in ps))
   where
-    near_by : (new : List Place) (g end : ℕ) → g < end → outcome_of (whole new) g end ≡ foreign (g - 10000)
-    near_by new g end near = grind (arith, nat_tests)
+    or_or : (a b c : Bool) → ((a || b) || c) ≡ (a || (b || c))
+    or_or true b c = refl
+    or_or false b c = refl
+
+pub known_described : (new : Seen) (ps : List Placed) → new ≡ seen_on nothing_seen ps → new.described ≡ holds_schema (map entry_in ps)
+known_described new ps is = ap (λ (s : Seen). s.described) is ∙ seen_described nothing_seen ps
+
+pub found_as : (a b : Outcome) (new : Seen) → a ≡ b → FoundAll b new → FoundAll a new
+found_as a b new same all = record { entries = all.entries; is = same ∙ all.is; known = all.known }
+
+far_off : (first : ℕ) (ps : List Placed) (g end : ℕ) → end ≤ g → outcome_of first (whole ps) g end ≡ all_found first ps
+far_off first ps g end far = grind (arith, nat_tests)
+
+-- no tag differs, and a whole Schema with its Control stands there, or none does
+pub read_found : (first : ℕ) (old new : Seen) (r : Read) (g end : ℕ) → old ≡ nothing_seen → reached new ≡ gather old r → end ≤ g → new.described ≡ true → FoundAll (outcome_of first r g end) new
+read_found first old new r g end none read far on =
+    let a = read_all old new r none read in
+    let holds : holds_schema (map entry_in a.entries) ≡ true = sym (known_described new a.entries a.known) ∙ on in
+    record {
+      entries = a.entries;
+      is = ap (λ (x : Read). outcome_of first x g end) a.is ∙ far_off first a.entries g end far ∙ ap (λ b. cond b (found a.entries) (no_schema first)) holds;
+      known = a.known;
+    }
+
+pub read_none : (first : ℕ) (old new : Seen) (r : Read) (g end : ℕ) → old ≡ nothing_seen → reached new ≡ gather old r → end ≤ g → new.described ≡ false → outcome_of first r g end ≡ no_schema first
+read_none first old new r g end none read far off =
+    let a = read_all old new r none read in
+    let holds : holds_schema (map entry_in a.entries) ≡ false = sym (known_described new a.entries a.known) ∙ off in
+    ap (λ (x : Read). outcome_of first x g end) a.is ∙ far_off first a.entries g end far ∙ ap (λ b. cond b (found a.entries) (no_schema first)) holds
+
+-- a tag differs
+pub read_foreign : (first : ℕ) (old new : Seen) (r : Read) (g end : ℕ) → old ≡ nothing_seen → reached new ≡ gather old r → g < end → outcome_of first r g end ≡ foreign (g - 10000)
+read_foreign first old new r g end none read near =
+    let a = read_all old new r none read in
+    ap (λ (x : Read). outcome_of first x g end) a.is ∙ near_by a.entries g end near
+  where
+    near_by : (ps : List Placed) (g end : ℕ) → g < end → outcome_of first (whole ps) g end ≡ foreign (g - 10000)
+    near_by ps g end near = grind (arith, nat_tests)
 
 -- ---- the first file of another tag
 

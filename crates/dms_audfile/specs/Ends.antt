@@ -48,6 +48,7 @@ pub record Seals (total tag first : ℕ) (waiting : List Entry) (old new : Left)
   pub grown : Grown total first old.files new.files
   pub file : ℕ
   pub count : ℕ
+  pub high : file ≤ 20000
   pub writes : Writes total tag first file count new.files
   pub later : (g m : ℕ) → Writes total tag first g m old.files → g ≤ file
   pub behind : (g : ℕ) → file + 1 < g → new.files g ≡ old.files g
@@ -63,6 +64,13 @@ pub record Appends (end : AuditEnd) (first : ℕ) (entries : List Entry) (old ne
   pub grown : Grown end.total first old new
   pub ends : EndsAt end first (drop some entries) new clock
   pub plain : ArePlain (drop some entries)
+
+-- All entries that waited are sealed behind the old ones, in blocks each of which is in its grammar and holds an entry, and none
+-- waits.
+pub record SealsAll (end : AuditEnd) (first : ℕ) (waiting : List Entry) (old new : Files) (clock : Clock Left) : Type 0 where
+  pub sealed : trail_entries end.total first new ≡ trail_entries end.total first old ++ waiting
+  pub grown : Grown end.total first old new
+  pub ends : EndsAt end first [] new clock
 
 -- the file of the block behind the one that is sealed next
 abbrev pub file_behind : AuditEnd → ℕ

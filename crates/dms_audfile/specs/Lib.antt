@@ -1,3 +1,4 @@
+pub mod AuditTrail
 pub mod BlockLaws
 pub mod Blocks
 pub mod Gates
@@ -12,3 +13,8 @@ pub mod TrailEntries
 pub mod Unsealed
 pub mod EndLaws
 pub mod Counting
+pub mod Database
+pub mod Gathering
+pub mod WholeSchema
+pub mod EntryReading
+pub mod ScanLaws

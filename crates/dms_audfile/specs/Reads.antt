@@ -1,24 +1,25 @@
 -- What a function that adds places has read.
 use Rattle.std.specs.declared.result.Result.{Result}
 use Rattle.std.specs.declared.result.Result.TheVariants.{Ok, Err}
-use Rattle.std.specs.Prelude.{ℕ, ◌≤◌, ◌≡◌, Bool, true, false, List, [], IsTrue, Option, Some, None}
+use Rattle.std.specs.Prelude.{ℕ, ◌≤◌, ◌≡◌, Bool, true, false, List, IsTrue, Option, Some, None}
 use Rattle.dms_moments.specs.Moments.{Clock, Steps}
 use Rattle.dms_site.specs.Files.{Files, Left, Same}
-use Rattle.dms_audfile.specs.Scanning.{Read, broken, whole, behind, Outcome, unsealed, missing, damaged, foreign, found, scanned}
-use Rattle.dms_audfile.specs.Trail.{Span}
+use Rattle.dms_audfile.specs.Scanning.{Read, broken, whole, Outcome, no_database, unsealed, missing, damaged, foreign, found}
+use Rattle.dms_audfile.specs.Gathering.{Seen, nothing_seen, seen_on, reached, gather}
+use Rattle.dms_audfile.specs.Scanning.{Placed}
+use Rattle.dms_audfile.specs.AuditTrail.{TrailIs}
 use Rattle.dms_audfile.specs.declared.fault.AudFault.{AudFault}
 use Rattle.dms_audfile.specs.declared.fault.AudFault.TheVariants.{NoDatabase, Disk, Full, Missing, Unsealed, Damaged, Foreign, Memory}
 use Rattle.dms_audfile.specs.Header.{says_blocks, blocks_said}
-use Rattle.dms_audfile.specs.declared.place.Place.{Place}
 
 -- nothing of it is whole
 abbrev pub IsBroken : Read → Type 0
 IsBroken (broken f b) = Unit {0}
 IsBroken (whole ps) = ⊥
 
--- so was it read: behind the places from before, or it is broken
-abbrev pub ReadInto : List Place → Read → List Place → Bool → Type 0
-ReadInto old read new true = whole new ≡ behind old read
+-- so was it read: behind what was known before, or it is broken
+abbrev pub ReadInto : Seen → Read → Seen → Bool → Type 0
+ReadInto old read new true = reached new ≡ gather old read
 ReadInto old read new false = IsBroken read
 
 -- a call that reads alone
@@ -40,9 +41,9 @@ NotRead read (Damaged f b) = read ≡ broken f b
 NotRead read (Foreign k) = ⊥
 NotRead read Memory = Unit {0}
 
--- so was it read: behind the places from before, or it wasn't
-abbrev pub ReadFound : {T : Type 0} → List Place → Read → List Place → Result T AudFault → Type 0
-ReadFound old read new (Ok done) = whole new ≡ behind old read
+-- so was it read: behind what was known before, or it wasn't
+abbrev pub ReadFound : {T : Type 0} → Seen → Read → Seen → Result T AudFault → Type 0
+ReadFound old read new (Ok done) = reached new ≡ gather old read
 ReadFound old read new (Err fault) = NotRead read fault
 
 -- why it wasn't scanned: the first refusal in order is answered; a failure of the disk or want of memory says nothing
@@ -56,9 +57,15 @@ NotScanned outcome (Damaged f b) = outcome ≡ damaged f b
 NotScanned outcome (Foreign k) = outcome ≡ foreign k
 NotScanned outcome Memory = Unit {0}
 
+-- all entries were found, and that is known of them
+pub record FoundAll (outcome : Outcome) (new : Seen) : Type 0 where
+  pub entries : List Placed
+  pub is : outcome ≡ found entries
+  pub known : new ≡ seen_on nothing_seen entries
+
 -- so was it scanned
-abbrev pub Scans : {T : Type 0} → Outcome → List Place → Result T AudFault → Type 0
-Scans outcome new (Ok done) = outcome ≡ found new
+abbrev pub Scans : {T : Type 0} → Outcome → Seen → Result T AudFault → Type 0
+Scans outcome new (Ok done) = FoundAll outcome new
 Scans outcome new (Err fault) = NotScanned outcome fault
 
 -- the number of blocks that a file says, or none
@@ -66,20 +73,13 @@ abbrev pub Says : List ℕ → Option ℕ → Type 0
 Says file None = says_blocks file ≡ false
 Says file (Some n) = (says_blocks file ≡ true) × (n ≡ blocks_said file)
 
--- of the trail's files scanning finds what has P
-pub record InSpan (files : Files) (P : Outcome → Type 0) : Type 0 where
-  pub first : ℕ
-  pub last : ℕ
-  pub span : Span files first last
-  pub is : P (scanned first last files)
-
 -- why scanning is refused
 abbrev pub Refuses : Files → AudFault → Type 0
-Refuses files NoDatabase = (g : ℕ) → 10001 ≤ g → g ≤ 20000 → files g ≡ []
+Refuses files NoDatabase = TrailIs files no_database
 Refuses files Disk = Unit {0}
 Refuses files (Full k) = ⊥
-Refuses files (Missing k) = InSpan files (λ outcome. outcome ≡ missing k)
-Refuses files (Unsealed k) = InSpan files (λ outcome. outcome ≡ unsealed k)
-Refuses files (Damaged f b) = InSpan files (λ outcome. outcome ≡ damaged f b)
-Refuses files (Foreign k) = InSpan files (λ outcome. outcome ≡ foreign k)
+Refuses files (Missing k) = TrailIs files (missing k)
+Refuses files (Unsealed k) = TrailIs files (unsealed k)
+Refuses files (Damaged f b) = TrailIs files (damaged f b)
+Refuses files (Foreign k) = TrailIs files (foreign k)
 Refuses files Memory = Unit {0}

@@ -1,19 +1,32 @@
--- What scanning the trail finds: its first refusal, or where its entries are.
-use Rattle.std.specs.Prelude.{ℕ, zero, suc, ◌+◌, ◌-◌, ◌==◌, nat_le, nat_lt, if◌then◌else◌, List, [], ◌++◌, map, Option, Some, None}
+-- What scanning the trail finds: its first refusal, or its entries with their places.
+use Rattle.std.specs.Prelude.{ℕ, zero, suc, ◌+◌, ◌-◌, ◌==◌, nat_le, nat_lt, if◌then◌else◌, Bool, List, [], ◌++◌, map, Option, Some, None}
 use Rattle.dms_site.specs.Files.{Files}
+use Rattle.dms_history.specs.Entries.{Entry}
 use Rattle.dms_audfile.specs.Gates.{block_at, opened}
 use Rattle.dms_audfile.specs.Header.{header_fits, says_blocks, blocks_said, tag_said}
 use Rattle.dms_audfile.specs.Blocks.{Entered, block_entries}
 use Rattle.dms_audfile.specs.Trail.{first_open}
+use Rattle.dms_audfile.specs.WholeSchema.{holds_schema}
 use Rattle.dms_audfile.specs.declared.place.Place.{Place}
 
--- the first place, by file and block, that isn't in its grammar (block 0 is the header), or where the entries are
+-- an entry, and where it begins
+pub record Placed : Type 0 where
+  pub place : Place
+  pub entry : Entry
+
+abbrev pub place_in : Placed → Place
+place_in p = p.place
+
+abbrev pub entry_in : Placed → Entry
+entry_in p = p.entry
+
+-- the first place, by file and block, that isn't in its grammar (block 0 is the header), or the entries with their places
 pub data Read : Type 0 where
   broken : ℕ → ℕ → Read
-  whole : List Place → Read
+  whole : List Placed → Read
 
--- these places first
-abbrev pub behind : List Place → Read → Read
+-- these entries first
+abbrev pub behind : List Placed → Read → Read
 behind ps (broken f b) = broken f b
 behind ps (whole qs) = whole (ps ++ qs)
 
@@ -21,8 +34,8 @@ abbrev pub then_read : Read → Read → Read
 then_read (broken f b) next = broken f b
 then_read (whole ps) next = behind ps next
 
-abbrev pub place_of : ℕ → ℕ → Entered → Place
-place_of f b e = record { file = f; block = b; offset = e.offset }
+abbrev pub place_of : ℕ → ℕ → Entered → Placed
+place_of f b e = record { place = record { file = f; block = b; offset = e.offset }; entry = e.entry }
 
 abbrev pub places_of : ℕ → ℕ → Option (List Entered) → Read
 places_of f b None = broken f b
@@ -46,23 +59,33 @@ abbrev pub first_foreign : ℕ → ℕ → ℕ → Files → ℕ
 first_foreign zero tag f files = f
 first_foreign (suc n) tag f files = if tag_said (files f) == tag then first_foreign n tag (f + 1) files else f
 
--- the refusals by the numbers of audit files, and the places of all entries
+-- the refusals, by the numbers of audit files but for what is damaged, or all entries with their places
 pub data Outcome : Type 0 where
+  no_database : Outcome
   unsealed : ℕ → Outcome
   missing : ℕ → Outcome
   damaged : ℕ → ℕ → Outcome
   foreign : ℕ → Outcome
-  found : List Place → Outcome
+  found : List Placed → Outcome
+
+-- A trail that begins with file `first` holds no whole Schema with its Control: the file before it is missing, and where there is
+-- none before it, its first file is damaged.
+abbrev pub no_schema : ℕ → Outcome
+no_schema first = if first == 10001 then damaged 10001 0 else missing (first - 10001)
+
+-- no file has another tag
+abbrev pub all_found : ℕ → List Placed → Outcome
+all_found first ps = if holds_schema (map entry_in ps) then found ps else no_schema first
 
 -- all that was read is in its grammar up to the file before `end`, and g is the first of another tag
-abbrev pub outcome_of : Read → ℕ → ℕ → Outcome
-outcome_of (broken f b) g end = damaged f b
-outcome_of (whole ps) g end = if nat_lt g end then foreign (g - 10000) else found ps
+abbrev pub outcome_of : ℕ → Read → ℕ → ℕ → Outcome
+outcome_of first (broken f b) g end = damaged f b
+outcome_of first (whole ps) g end = if nat_lt g end then foreign (g - 10000) else all_found first ps
 
 -- what is found of the files first to the file before `end`
 abbrev pub trail_read : ℕ → ℕ → ℕ → Files → Outcome
 trail_read first end total files =
-    outcome_of (files_read (end - first) total first files) (first_foreign (end - first) (tag_said (files first)) first files) end
+    outcome_of first (files_read (end - first) total first files) (first_foreign (end - first) (tag_said (files first)) first files) end
 
 -- e is the first file that isn't full, or behind the last
 abbrev pub outcome_at : ℕ → ℕ → ℕ → ℕ → Files → Outcome

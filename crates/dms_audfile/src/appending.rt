@@ -10,7 +10,7 @@ ghost use Rattle.dms_audrec.specs.Spelling.{spelling, IsEntry};
 ghost use Rattle.dms_audrec.specs.Seen.{entry_seen};
 ghost use Rattle.dms_audfile.specs.Blocks.{is_begin};
 ghost use Rattle.dms_audfile.specs.BlockLaws.{ArePlain};
-ghost use Rattle.dms_audfile.specs.Ends.{EndsAt, Seals, Appends, Grown, next_file, is_past};
+ghost use Rattle.dms_audfile.specs.Ends.{EndsAt, Seals, SealsAll, Appends, Grown, next_file, is_past};
 ghost use Rattle.dms_audfile.specs.Counting.{CountedAt};
 
 use crate::{AudFault, AuditEnd};
@@ -104,6 +104,8 @@ impl AuditEnd {
         ensures only { IfErr result (λ e. (e ≡ AudFault.Disk) ⊎ (e ≡ AudFault.Full self.old.limit)) }
         ensures full { IsErrOf result (AudFault.Full self.old.limit) → (self.new.used ≡ 0) × (10000 + self.old.limit < self.new.file) }
         ensures past { IsErrOf result (AudFault.Full self.old.limit) → is_past self.old size alone ≡ true }
+        ensures kept { IsErrOf result (AudFault.Full self.old.limit) → (first : ℕ) (waiting : List meaning.Entry) → IsTrue S.tells → EndsAt self.old first waiting (S.files site.old) (S.clock site.old)
+            → SealsAll self.new first waiting (S.files site.old) (S.files site.new) (S.clock site.new) }
         ensures within { OnOk result (is_past self.old size alone ≡ false) }
         ensures said { S.said site.new ≡ S.said site.old }
         ensures same_site { S.same_site site.old site.new }
@@ -127,7 +129,7 @@ impl AuditEnd {
     /// Where it can't stand behind those that wait, these are sealed first; a Begin is sealed at once. A stop at any moment
     /// leaves a trail of the same kind, which holds the old entries and the first of those that waited and this one.
     /// Answers Disk where a call of the site failed, and else Full exactly where a block would have to be begun behind the
-    /// last file that may be written; then the entry wasn't appended.
+    /// last file that may be written; then all that waited are sealed, and the entry wasn't appended.
     pub fn append<S: Site>(&mut self, site: &mut S, entry: &Entry<'_>) -> Result<(), AudFault>
         requires entry { IsEntry (entry_seen entry.now) }
         requires size { length (spelling (entry_seen entry.now)) ≤ 4094 }
@@ -142,6 +144,8 @@ impl AuditEnd {
         ensures kind { (self.new.total ≡ self.old.total) × (self.new.tag ≡ self.old.tag) × (self.new.limit ≡ self.old.limit) }
         ensures only { IfErr result (λ e. (e ≡ AudFault.Disk) ⊎ (e ≡ AudFault.Full self.old.limit)) }
         ensures full { IsErrOf result (AudFault.Full self.old.limit) → (self.new.used ≡ 0) × (10000 + self.old.limit < self.new.file) }
+        ensures kept { IsErrOf result (AudFault.Full self.old.limit) → (first : ℕ) (waiting : List meaning.Entry) → IsTrue S.tells → EndsAt self.old first waiting (S.files site.old) (S.clock site.old)
+            → SealsAll self.new first waiting (S.files site.old) (S.files site.new) (S.clock site.new) }
         ensures past { IsErrOf result (AudFault.Full self.old.limit) → is_past self.old (length (spelling (entry_seen entry.now))) (is_begin (entry_seen entry.now)) ≡ true }
         ensures within { OnOk result (is_past self.old (length (spelling (entry_seen entry.now))) (is_begin (entry_seen entry.now)) ≡ false) }
         ensures said { S.said site.new ≡ S.said site.old }

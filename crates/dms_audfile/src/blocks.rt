@@ -2,9 +2,11 @@ ghost use Rattle.std.specs.Prelude.{◌≡◌, ◌≤◌, ◌<◌, ◌+◌, ◌-
 ghost use Rattle.dms_audrec.specs.Seen.{entry_seen};
 ghost use Rattle.dms_audfile.specs.Blocks.{block_entries, entries_from, stands_there, used_in};
 ghost use Rattle.dms_audfile.specs.Scanning.{places_of};
+ghost use Rattle.dms_audfile.specs.Gathering.{seen};
 ghost use Rattle.dms_audfile.specs.Reads.{ReadInto};
 
 use crate::Place;
+use crate::gathered::Gathered;
 use crate::header::all_zero;
 use dms_audrec::{Entry, decode};
 use dms_base::Memory;
@@ -19,15 +21,15 @@ fn stands_there(entry: &Entry<'_>, at: u32, rest: &[u8]) -> bool
     }
 }
 
-/// Adds where the entries of a block's used bytes begin; false where they aren't whole entries.
+/// Adds the entries of a block's used bytes; false where they aren't whole entries.
 fn read_entries(
     bytes: &[u8],
     file: u32,
     block: u32,
-    places: &mut Vec<Place>,
+    known: &mut Gathered,
 ) -> Result<bool, Memory>
     requires { length bytes.now ≤ 4094 }
-    ensures { IfOk result (λ ok. ReadInto places.old.items (places_of file block (entries_from (length bytes.now) 2 bytes.now)) places.new.items ok) }
+    ensures { IfOk result (λ ok. ReadInto (seen known.old) (places_of file block (entries_from (length bytes.now) 2 bytes.now)) (seen known.new) ok) }
 {
     let mut rest = bytes;
     let mut at: u32 = 2;
@@ -43,11 +45,12 @@ fn read_entries(
         if !stands_there(&entry, at, after) {
             return Ok(false);
         }
-        places.push(Place {
+        let place = Place {
             file,
             block,
             offset: at,
-        })?;
+        };
+        known.add(place, &entry)?;
         at += n as u32;
         rest = after;
     }
@@ -56,7 +59,7 @@ fn read_entries(
 
 /// How many bytes of entries a block says.
 #[tactic(auto, unfolding(crate::specs::Blocks::used_in))]
-fn used_in(block: &[u8]) -> u16
+pub(crate) fn used_in(block: &[u8]) -> u16
     requires { 2 ≤ length block.now }
     ensures { result ≡ used_in block.now }
 {
@@ -64,14 +67,14 @@ fn used_in(block: &[u8]) -> u16
     u16::from_be_bytes([field[0], field[1]])
 }
 
-/// Adds where the entries of a sealed block begin; false where it isn't in the grammar.
+/// Adds the entries of a sealed block; false where it isn't in the grammar.
 pub(crate) fn read_block(
     block: &[u8],
     file: u32,
     number: u32,
-    places: &mut Vec<Place>,
+    known: &mut Gathered,
 ) -> Result<bool, Memory>
-    ensures { IfOk result (λ ok. ReadInto places.old.items (places_of file number (block_entries block.now)) places.new.items ok) }
+    ensures { IfOk result (λ ok. ReadInto (seen known.old) (places_of file number (block_entries block.now)) (seen known.new) ok) }
 {
     if block.len() != 4096 {
         return Ok(false);
@@ -85,5 +88,5 @@ pub(crate) fn read_block(
         return Ok(false);
     }
     let (_used, bytes) = head.split_at(2);
-    read_entries(bytes, file, number, places)
+    read_entries(bytes, file, number, known)
 }

@@ -4,13 +4,19 @@
 mod appending;
 mod audit_end;
 mod blocks;
+mod by_place;
 mod bytes;
+mod database;
 mod end;
 mod fault;
+mod gathered;
+mod gathering;
 mod header;
 pub mod laws;
+mod parts;
 mod place;
 mod reach;
+mod reader;
 mod scanning;
 mod sealing;
 mod starting;
@@ -20,6 +26,7 @@ pub use audit_end::AuditEnd;
 pub use fault::AudFault;
 pub use place::Place;
 pub use reach::Reach;
+pub use reader::EntryReader;
 pub use whole::{AuditStart, Scan};
 
 #[cfg(test)]

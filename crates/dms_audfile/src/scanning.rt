@@ -1,21 +1,23 @@
 ghost use Rattle.std.specs.Prelude.{◌≡◌, ◌≤◌, ◌<◌, ◌+◌, ◌-◌, ◌*◌, ◌^◌, [], length, take, drop, IfOk, IfErr, IfSome, IsErrOf, IsTrue};
-ghost use Rattle.dms_base.specs.Causes.{Rose};
+ghost use Rattle.dms_audfile.specs.Counting.{CountedAt};
+ghost use Rattle.dms_audfile.specs.Gathering.{seen, nothing_seen};
 ghost use Rattle.dms_site.specs.Files.{range};
 ghost use Rattle.dms_audfile.specs.Gates.{block_at, opened, is_full};
 ghost use Rattle.dms_audfile.specs.Header.{header_fits, tag_said};
 ghost use Rattle.dms_audfile.specs.Trail.{first_open};
-ghost use Rattle.dms_audfile.specs.Scanning.{blocks_read, file_read, files_read, first_foreign, trail_read, scanned};
-ghost use Rattle.dms_audfile.specs.Reads.{OnlyReads, ReadFound, Scans, Says};
+ghost use Rattle.dms_audfile.specs.Scanning.{blocks_read, file_read, files_read, first_foreign, no_schema, trail_read, scanned};
+ghost use Rattle.dms_audfile.specs.Reads.{OnlyReads, ReadFound, NotScanned, Scans, Says};
 ghost use Rattle.dms_audfile.specs.Sealing.{Writes};
 
 use crate::blocks::read_block;
+use crate::gathered::Gathered;
 use crate::header::{fits, opened, says_blocks, tag_said};
-use crate::{AudFault, Place, Reach};
+use crate::{AudFault, Reach};
 use dms_site::Site;
 use std::alloc::Global;
 
 /// Reads 4,096 bytes from block `number` of an audit file on, its header being number 0; answers how many stand there.
-fn load<S: Site>(site: &mut S, file: u32, number: u32, into: &mut [u8]) -> Result<usize, AudFault>
+pub(crate) fn load<S: Site>(site: &mut S, file: u32, number: u32, into: &mut [u8]) -> Result<usize, AudFault>
     requires size { length into.old ≡ 4096 }
     requires low { number ≤ 512 }
     ensures count { IfOk result (λ n. n ≤ 4096) }
@@ -23,7 +25,7 @@ fn load<S: Site>(site: &mut S, file: u32, number: u32, into: &mut [u8]) -> Resul
     ensures reads { OnlyReads S.tells (S.files site.old) (S.files site.new) (S.said site.old) (S.said site.new) (S.clock site.old) (S.clock site.new) (S.disk_faults site.old) (S.disk_faults site.new) (S.say_faults site.old) (S.say_faults site.new) }
     ensures only { IfErr result (λ e. e ≡ AudFault.Disk) }
     ensures same_site { S.same_site site.old site.new }
-    ensures disk { IsErrOf result AudFault.Disk → Rose (S.disk_faults site.old) (S.disk_faults site.new) }
+    ensures disk { CountedAt (IsErrOf result AudFault.Disk) (S.disk_faults site.old) (S.disk_faults site.new) }
 {
     match site.read(file, 4096 * u64::from(number), into) {
         Ok(n) => Ok(n),
@@ -45,7 +47,7 @@ fn opened_in<S: Site>(
     ensures reads { OnlyReads S.tells (S.files site.old) (S.files site.new) (S.said site.old) (S.said site.new) (S.clock site.old) (S.clock site.new) (S.disk_faults site.old) (S.disk_faults site.new) (S.say_faults site.old) (S.say_faults site.new) }
     ensures only { IfErr result (λ e. e ≡ AudFault.Disk) }
     ensures same_site { S.same_site site.old site.new }
-    ensures disk { IsErrOf result AudFault.Disk → Rose (S.disk_faults site.old) (S.disk_faults site.new) }
+    ensures disk { CountedAt (IsErrOf result AudFault.Disk) (S.disk_faults site.old) (S.disk_faults site.new) }
 {
     let n = load(site, file, 0, buffer)?;
     Ok(opened(&buffer[..n], total))
@@ -69,7 +71,7 @@ fn first_open<S: Site>(
     ensures reads { OnlyReads S.tells (S.files site.old) (S.files site.new) (S.said site.old) (S.said site.new) (S.clock site.old) (S.clock site.new) (S.disk_faults site.old) (S.disk_faults site.new) (S.say_faults site.old) (S.say_faults site.new) }
     ensures only { IfErr result (λ e. e ≡ AudFault.Disk) }
     ensures same_site { S.same_site site.old site.new }
-    ensures disk { IsErrOf result AudFault.Disk → Rose (S.disk_faults site.old) (S.disk_faults site.new) }
+    ensures disk { CountedAt (IsErrOf result AudFault.Disk) (S.disk_faults site.old) (S.disk_faults site.new) }
 {
     for file in first..last + 1 {
         let open = opened_in(site, file, total, buffer)?;
@@ -80,27 +82,27 @@ fn first_open<S: Site>(
     Ok((last + 1, total))
 }
 
-/// Adds where the entries of the first `count` blocks of a file begin.
+/// Adds the entries of the first `count` blocks of a file.
 fn read_blocks<S: Site>(
     site: &mut S,
     file: u32,
     count: u32,
     buffer: &mut [u8],
-    places: &mut Vec<Place>,
+    known: &mut Gathered,
 ) -> Result<(), AudFault>
     requires size { length buffer.old ≡ 4096 }
     requires few { count ≤ 512 }
-    ensures read { IsTrue S.tells → ReadFound places.old.items (blocks_read count 1 file (S.files site.old file)) places.new.items result }
+    ensures read { IsTrue S.tells → ReadFound (seen known.old) (blocks_read count 1 file (S.files site.old file)) (seen known.new) result }
     ensures reads { OnlyReads S.tells (S.files site.old) (S.files site.new) (S.said site.old) (S.said site.new) (S.clock site.old) (S.clock site.new) (S.disk_faults site.old) (S.disk_faults site.new) (S.say_faults site.old) (S.say_faults site.new) }
     ensures same_site { S.same_site site.old site.new }
-    ensures disk { IsErrOf result AudFault.Disk → Rose (S.disk_faults site.old) (S.disk_faults site.new) }
+    ensures disk { CountedAt (IsErrOf result AudFault.Disk) (S.disk_faults site.old) (S.disk_faults site.new) }
 {
     for number in 1..count + 1 {
         let n = match load(site, file, number, buffer) {
             Ok(n) => n,
             Err(fault) => return Err(fault),
         };
-        match read_block(&buffer[..n], file, number, places) {
+        match read_block(&buffer[..n], file, number, known) {
             Ok(true) => {}
             Ok(false) => return Err(AudFault::Damaged(file, number)),
             Err(_) => return Err(AudFault::Memory),
@@ -109,21 +111,21 @@ fn read_blocks<S: Site>(
     Ok(())
 }
 
-/// Adds where the entries of a file begin.
+/// Adds the entries of a file.
 fn read_file<S: Site>(
     site: &mut S,
     file: u32,
     total: u32,
     buffer: &mut [u8],
-    places: &mut Vec<Place>,
+    known: &mut Gathered,
 ) -> Result<(), AudFault>
     requires size { length buffer.old ≡ 4096 }
     requires few { total ≤ 512 }
     requires low { 10001 ≤ file }
-    ensures read { IsTrue S.tells → ReadFound places.old.items (file_read total file (S.files site.old file)) places.new.items result }
+    ensures read { IsTrue S.tells → ReadFound (seen known.old) (file_read total file (S.files site.old file)) (seen known.new) result }
     ensures reads { OnlyReads S.tells (S.files site.old) (S.files site.new) (S.said site.old) (S.said site.new) (S.clock site.old) (S.clock site.new) (S.disk_faults site.old) (S.disk_faults site.new) (S.say_faults site.old) (S.say_faults site.new) }
     ensures same_site { S.same_site site.old site.new }
-    ensures disk { IsErrOf result AudFault.Disk → Rose (S.disk_faults site.old) (S.disk_faults site.new) }
+    ensures disk { CountedAt (IsErrOf result AudFault.Disk) (S.disk_faults site.old) (S.disk_faults site.new) }
 {
     let n = match load(site, file, 0, buffer) {
         Ok(n) => n,
@@ -133,29 +135,29 @@ fn read_file<S: Site>(
         return Err(AudFault::Damaged(file, 0));
     }
     let count = opened(&buffer[..n], total);
-    read_blocks(site, file, count, buffer, places)
+    read_blocks(site, file, count, buffer, known)
 }
 
-/// Adds where the entries of files begin, up to the file before `end`.
+/// Adds the entries of files, up to the file before `end`.
 fn read_files<S: Site>(
     site: &mut S,
     first: u32,
     end: u32,
     total: u32,
     buffer: &mut [u8],
-    places: &mut Vec<Place>,
+    known: &mut Gathered,
 ) -> Result<(), AudFault>
     requires size { length buffer.old ≡ 4096 }
     requires few { total ≤ 512 }
     requires low { 10001 ≤ first }
     requires order { first ≤ end }
-    ensures read { IsTrue S.tells → ReadFound places.old.items (files_read (end - first) total first (S.files site.old)) places.new.items result }
+    ensures read { IsTrue S.tells → ReadFound (seen known.old) (files_read (end - first) total first (S.files site.old)) (seen known.new) result }
     ensures reads { OnlyReads S.tells (S.files site.old) (S.files site.new) (S.said site.old) (S.said site.new) (S.clock site.old) (S.clock site.new) (S.disk_faults site.old) (S.disk_faults site.new) (S.say_faults site.old) (S.say_faults site.new) }
     ensures same_site { S.same_site site.old site.new }
-    ensures disk { IsErrOf result AudFault.Disk → Rose (S.disk_faults site.old) (S.disk_faults site.new) }
+    ensures disk { CountedAt (IsErrOf result AudFault.Disk) (S.disk_faults site.old) (S.disk_faults site.new) }
 {
     for file in first..end {
-        match read_file(site, file, total, buffer, places) {
+        match read_file(site, file, total, buffer, known) {
             Ok(()) => {}
             Err(fault) => return Err(fault),
         }
@@ -171,7 +173,7 @@ fn blocks_in<S: Site>(site: &mut S, file: u32, buffer: &mut [u8]) -> Result<Opti
     ensures reads { OnlyReads S.tells (S.files site.old) (S.files site.new) (S.said site.old) (S.said site.new) (S.clock site.old) (S.clock site.new) (S.disk_faults site.old) (S.disk_faults site.new) (S.say_faults site.old) (S.say_faults site.new) }
     ensures only { IfErr result (λ e. e ≡ AudFault.Disk) }
     ensures same_site { S.same_site site.old site.new }
-    ensures disk { IsErrOf result AudFault.Disk → Rose (S.disk_faults site.old) (S.disk_faults site.new) }
+    ensures disk { CountedAt (IsErrOf result AudFault.Disk) (S.disk_faults site.old) (S.disk_faults site.new) }
 {
     let n = load(site, file, 0, buffer)?;
     Ok(says_blocks(&buffer[..n]))
@@ -184,7 +186,7 @@ fn tag_in<S: Site>(site: &mut S, file: u32, buffer: &mut [u8]) -> Result<u64, Au
     ensures reads { OnlyReads S.tells (S.files site.old) (S.files site.new) (S.said site.old) (S.said site.new) (S.clock site.old) (S.clock site.new) (S.disk_faults site.old) (S.disk_faults site.new) (S.say_faults site.old) (S.say_faults site.new) }
     ensures only { IfErr result (λ e. e ≡ AudFault.Disk) }
     ensures same_site { S.same_site site.old site.new }
-    ensures disk { IsErrOf result AudFault.Disk → Rose (S.disk_faults site.old) (S.disk_faults site.new) }
+    ensures disk { CountedAt (IsErrOf result AudFault.Disk) (S.disk_faults site.old) (S.disk_faults site.new) }
 {
     let n = load(site, file, 0, buffer)?;
     Ok(tag_said(&buffer[..n]))
@@ -205,7 +207,7 @@ fn first_foreign<S: Site>(
     ensures reads { OnlyReads S.tells (S.files site.old) (S.files site.new) (S.said site.old) (S.said site.new) (S.clock site.old) (S.clock site.new) (S.disk_faults site.old) (S.disk_faults site.new) (S.say_faults site.old) (S.say_faults site.new) }
     ensures only { IfErr result (λ e. e ≡ AudFault.Disk) }
     ensures same_site { S.same_site site.old site.new }
-    ensures disk { IsErrOf result AudFault.Disk → Rose (S.disk_faults site.old) (S.disk_faults site.new) }
+    ensures disk { CountedAt (IsErrOf result AudFault.Disk) (S.disk_faults site.old) (S.disk_faults site.new) }
 {
     for file in first..end {
         let said = tag_in(site, file, buffer)?;
@@ -216,27 +218,41 @@ fn first_foreign<S: Site>(
     Ok(end)
 }
 
-/// Adds where the entries of the files `first` to the file before `end` begin, and answers their tag; or the first place that isn't in its grammar, or the first file of another tag.
+/// What is missing where a trail that begins with file `first` holds no whole Schema with its Control: the file before it, and
+/// where there is none before it, what its own first file should hold.
+fn no_schema(first: u32) -> AudFault
+    requires { 10001 ≤ first }
+    ensures { NotScanned (no_schema first) result }
+{
+    if first == 10001 {
+        AudFault::Damaged(10001, 0)
+    } else {
+        AudFault::Missing(first - 10001)
+    }
+}
+
+/// Adds the entries of the files `first` to the file before `end`, and answers their tag; or the first place that isn't in its
+/// grammar, or the first file of another tag, or what is missing where no whole Schema with its Control was found.
 fn read_trail<S: Site>(
     site: &mut S,
     first: u32,
     end: u32,
     total: u32,
     buffer: &mut [u8],
-    places: &mut Vec<Place>,
+    known: &mut Gathered,
 ) -> Result<u64, AudFault>
     requires size { length buffer.old ≡ 4096 }
     requires few { total ≤ 512 }
     requires low { 10001 ≤ first }
     requires order { first < end }
-    requires none { places.old.items ≡ [] }
+    requires none { seen known.old ≡ nothing_seen }
     ensures tag { IfOk result (λ tag. IsTrue S.tells → tag ≡ tag_said (S.files site.old first)) }
-    ensures read { IsTrue S.tells → Scans (trail_read first end total (S.files site.old)) places.new.items result }
+    ensures read { IsTrue S.tells → Scans (trail_read first end total (S.files site.old)) (seen known.new) result }
     ensures reads { OnlyReads S.tells (S.files site.old) (S.files site.new) (S.said site.old) (S.said site.new) (S.clock site.old) (S.clock site.new) (S.disk_faults site.old) (S.disk_faults site.new) (S.say_faults site.old) (S.say_faults site.new) }
     ensures same_site { S.same_site site.old site.new }
-    ensures disk { IsErrOf result AudFault.Disk → Rose (S.disk_faults site.old) (S.disk_faults site.new) }
+    ensures disk { CountedAt (IsErrOf result AudFault.Disk) (S.disk_faults site.old) (S.disk_faults site.new) }
 {
-    match read_files(site, first, end, total, buffer, places) {
+    match read_files(site, first, end, total, buffer, known) {
         Ok(()) => {}
         Err(fault) => return Err(fault),
     }
@@ -249,31 +265,34 @@ fn read_trail<S: Site>(
         Err(fault) => return Err(fault),
     };
     if other < end {
-        Err(AudFault::Foreign(other - 10000))
-    } else {
+        return Err(AudFault::Foreign(other - 10000));
+    }
+    if known.described {
         Ok(tag)
+    } else {
+        Err(no_schema(first))
     }
 }
 
-/// Adds where the entries of the files `first` to `last` begin, and answers where they end; or the first refusal in order.
+/// Adds the entries of the files `first` to `last`, and answers where they end; or the first refusal in order.
 pub(crate) fn scan_span<S: Site>(
     site: &mut S,
     first: u32,
     last: u32,
     buffer: &mut [u8],
-    places: &mut Vec<Place>,
+    known: &mut Gathered,
 ) -> Result<Reach, AudFault>
     requires size { length buffer.old ≡ 4096 }
     requires low { 10001 ≤ first }
     requires order { first ≤ last }
     requires high { last ≤ 20000 }
-    requires none { places.old.items ≡ [] }
+    requires none { seen known.old ≡ nothing_seen }
     ensures writes { IfOk result (λ r. IsTrue S.tells → Writes r.total r.tag first r.file r.count (S.files site.old)) }
     ensures bounds { IfOk result (λ r. (first ≤ r.file) × (r.file ≤ last)) }
-    ensures scanned { IsTrue S.tells → Scans (scanned first last (S.files site.old)) places.new.items result }
+    ensures scanned { IsTrue S.tells → Scans (scanned first last (S.files site.old)) (seen known.new) result }
     ensures reads { OnlyReads S.tells (S.files site.old) (S.files site.new) (S.said site.old) (S.said site.new) (S.clock site.old) (S.clock site.new) (S.disk_faults site.old) (S.disk_faults site.new) (S.say_faults site.old) (S.say_faults site.new) }
     ensures same_site { S.same_site site.old site.new }
-    ensures disk { IsErrOf result AudFault.Disk → Rose (S.disk_faults site.old) (S.disk_faults site.new) }
+    ensures disk { CountedAt (IsErrOf result AudFault.Disk) (S.disk_faults site.old) (S.disk_faults site.new) }
 {
     let total = match blocks_in(site, first, buffer) {
         Ok(Some(total)) => u32::from(total),
@@ -290,7 +309,7 @@ pub(crate) fn scan_span<S: Site>(
     if end + 2 <= last {
         return Err(AudFault::Unsealed(end - 10000));
     }
-    match read_trail(site, first, end + 1, total, buffer, places) {
+    match read_trail(site, first, end + 1, total, buffer, known) {
         Ok(tag) => Ok(Reach {
             total,
             tag,

@@ -1,7 +1,8 @@
-use crate::{AudFault, AuditEnd, AuditStart, Place};
+use crate::{AudFault, AuditEnd, AuditStart, EntryReader, Place};
 use dms_audrec::Entry;
 use dms_site::Site;
 use dms_sitemem::MemSite;
+use std::alloc::Global;
 use std::test::Fail;
 
 /// A description of two structures.
@@ -21,6 +22,10 @@ fn a_first_block_is_sealed_and_found(rt: HostRuntime) -> Result<(), Fail> {
     let alloc = rt.alloc();
     let mut site = MemSite::new(alloc, Vec::new(alloc), None).expect(&rt, "memory");
     let mut end = AuditEnd::create(alloc, &mut site, 8, 9999, 7).expect(&rt, "created");
+    assert!(rt; refusal(alloc, &mut site) == Some(AudFault::NoDatabase));
+    site.write_at(1, 0, &[1, 1, 0, 0, 0, 62]).expect(&rt, "written");
+    site.write_at(1, 6, &DESCRIPTION).expect(&rt, "written");
+    assert!(rt; refusal(alloc, &mut site) == Some(AudFault::Damaged(10001, 0)));
     end.append(&mut site, &Entry::Schema(1, 1, &DESCRIPTION))
         .expect(&rt, "appended");
     end.append(&mut site, &Entry::Control(0, 1, &COUNTS))
@@ -47,6 +52,15 @@ fn a_first_block_is_sealed_and_found(rt: HostRuntime) -> Result<(), Fail> {
             offset: 71
         }
     );
+    let mut reader = EntryReader::new(alloc).expect(&rt, "memory");
+    reader
+        .load(&mut site, &found.places[1])
+        .expect(&rt, "loaded");
+    match reader.entry(&found.places[1]) {
+        Some(Entry::Control(n, next, _)) => assert_eq!(rt; (n, next), (0, 1)),
+        _ => assert!(rt; false),
+    }
+    assert_eq!(rt; found.places[1].audit_file(), 1);
     assert_eq!(rt;
         (found.first, found.reach.count, found.reach.tag),
         (10001, 1, 7)
@@ -67,26 +81,39 @@ fn a_first_block_is_sealed_and_found(rt: HostRuntime) -> Result<(), Fail> {
     Ok(())
 }
 
+/// Why a scan is refused.
+fn refusal(alloc: Global, site: &mut MemSite) -> Option<AudFault> {
+    match AuditStart::scan(alloc, site) {
+        Ok(_) => None,
+        Err(fault) => Some(fault),
+    }
+}
+
 #[test]
-fn a_file_of_another_database_is_named(rt: HostRuntime) -> Result<(), Fail> {
+#[tactic(auto, unfolding(dms_audrec::specs::Reading::counts_at))]
+fn a_trail_is_refused_by_the_first_cause(rt: HostRuntime) -> Result<(), Fail> {
     let alloc = rt.alloc();
     let mut site = MemSite::new(alloc, Vec::new(alloc), None).expect(&rt, "memory");
+    site.write_at(1, 0, &[1, 1, 0, 0, 0, 62]).expect(&rt, "written");
+    site.write_at(1, 6, &DESCRIPTION).expect(&rt, "written");
     let mut end = AuditEnd::create(alloc, &mut site, 8, 9999, 7).expect(&rt, "created");
+    end.append(&mut site, &Entry::Schema(1, 1, &DESCRIPTION))
+        .expect(&rt, "appended");
+    end.append(&mut site, &Entry::Control(0, 1, &COUNTS))
+        .expect(&rt, "appended");
     for _block in 0..17u32 {
         end.append(&mut site, &Entry::Quiet(1))
             .expect(&rt, "appended");
         end.seal(&mut site).expect(&rt, "sealed");
     }
-    assert!(rt; AuditStart::scan(alloc, &mut site).is_ok());
+    assert!(rt; refusal(alloc, &mut site) == None);
     site.write_at(10003, 17, &[8]).expect(&rt, "written");
-    match AuditStart::scan(alloc, &mut site) {
-        Ok(_) => assert!(rt; false),
-        Err(fault) => assert_eq!(rt; fault, AudFault::Foreign(3)),
-    }
+    assert!(rt; refusal(alloc, &mut site) == Some(AudFault::Foreign(3)));
     site.write_at(10002, 513, &[0]).expect(&rt, "written");
-    match AuditStart::scan(alloc, &mut site) {
-        Ok(_) => assert!(rt; false),
-        Err(fault) => assert_eq!(rt; fault, AudFault::Damaged(10002, 0)),
-    }
+    assert!(rt; refusal(alloc, &mut site) == Some(AudFault::Damaged(10002, 0)));
+    site.write_at(10002, 513, &[1]).expect(&rt, "written");
+    site.write_at(10003, 17, &[7]).expect(&rt, "written");
+    site.cut(10001, 0).expect(&rt, "cut");
+    assert!(rt; refusal(alloc, &mut site) == Some(AudFault::Missing(1)));
     Ok(())
 }

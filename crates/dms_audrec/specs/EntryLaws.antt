@@ -28,13 +28,13 @@ quiet_takes bytes x fits e =
     subst (λ x. Read 3 bytes x) is (record { parts = ap (λ (l : List ℕ). 3 ∷ l) t.0.parts; is = t.1 })
 
 abbrev schema_fits : ℕ → ℕ → ℕ → Bool
-schema_fits part parts len = nat_le 1 part && nat_le part parts && nat_le len 4000 && (parts == part || len == 4000)
+schema_fits part parts len = nat_le 1 part && nat_le part parts && (parts == part || len == 4000)
 
-schema_test : (part parts len : ℕ) → schema_fits part parts len ≡ true → (1 ≤ part) × (part ≤ parts) × (len ≤ 4000) × (part < parts → len ≡ 4000)
-schema_test part parts len e = (grind (arith, nat_tests), grind (arith, nat_tests), grind (arith, nat_tests), λ less. grind (arith, nat_tests))
+schema_test : (part parts len : ℕ) → schema_fits part parts len ≡ true → (1 ≤ part) × (part ≤ parts) × (part < parts → len ≡ 4000)
+schema_test part parts len e = (grind (arith, nat_tests), grind (arith, nat_tests), λ less. grind (arith, nat_tests))
 
-schema_tested : (part parts len : ℕ) → 1 ≤ part → part ≤ parts → len ≤ 4000 → (part < parts → len ≡ 4000) → schema_fits part parts len ≡ true
-schema_tested part parts len some within short full = elim (cases_eq parts part) [
+schema_tested : (part parts len : ℕ) → 1 ≤ part → part ≤ parts → (part < parts → len ≡ 4000) → schema_fits part parts len ≡ true
+schema_tested part parts len some within full = elim (cases_eq parts part) [
   | inl is ↦ grind (arith, nat_tests)
   | inr other ↦ let e : len ≡ 4000 = full (omega arith) in grind (arith, nat_tests)
 ]
@@ -57,7 +57,7 @@ schema_from bytes part parts len text x fits e1 e2 e3 e4 e5 =
       parts = ap (λ (l : List ℕ). 1 ∷ l) (whole.parts
           ∙ ap (λ (l : List ℕ). l ++ text.1) (append_assoc (p ++ q) (to_be_bytes w16 len.0) text.0 ∙ append_assoc p q (to_be_bytes w16 len.0 ++ text.0)
           ∙ ap (λ (l : List ℕ). p ++ (q ++ (l ++ text.0))) size));
-      is = record { some = t.0; within = t.1; small = b.1; short = omega (arith, t.2, d.1); full = λ less. d.1 ∙ t.3 less };
+      is = record { some = t.0; within = t.1; small = b.1; short = subst (λ k. k < 2 ^ 16) (sym d.1) c.1; full = λ less. d.1 ∙ t.2 less };
     })
 
 pub schema_takes : (bytes : List ℕ) (x : Entry × List ℕ) → IsBytes bytes → schema_at bytes ≡ Some x → Read 1 bytes x
@@ -83,7 +83,7 @@ schema_again part parts text rest is =
       number_again w16 (2 ^ 16) wide16 parts (l ++ (text ++ rest)) is.small,
       number_again w16 (2 ^ 16) wide16 (length text) (text ++ rest) (omega (arith, is.short)),
       bytes_again (length text) text rest refl,
-      schema_tested part parts (length text) is.some is.within is.short is.full,
+      schema_tested part parts (length text) is.some is.within is.full,
     ) refl
 
 before_takes : (bytes : List ℕ) (x : Option (List ℕ) × List ℕ) → IsBytes bytes → before_at bytes ≡ Some x → Takes bytes (before_bytes x.0) x.1 × IfSome x.0 (λ b. length b ≡ 1024)

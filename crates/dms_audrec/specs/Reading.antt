@@ -25,7 +25,7 @@ schema_at bytes = do
   parts ← number_first w16 part.1
   len ← number_first w16 parts.1
   text ← bytes_first len.0 len.1
-  if nat_le 1 part.0 && nat_le part.0 parts.0 && nat_le len.0 4000 && (parts.0 == part.0 || len.0 == 4000) then Some (schema_part part.0 parts.0 text.0, text.1) else None
+  if nat_le 1 part.0 && nat_le part.0 parts.0 && (parts.0 == part.0 || len.0 == 4000) then Some (schema_part part.0 parts.0 text.0, text.1) else None
 
 unfoldable pub before_at : List ℕ → Option (Option (List ℕ) × List ℕ)
 before_at [] = None

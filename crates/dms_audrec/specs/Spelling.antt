@@ -82,7 +82,7 @@ pub record IsSchema (part parts : ℕ) (bytes : List ℕ) : Type 0 where
   pub some : 1 ≤ part
   pub within : part ≤ parts
   pub small : parts < 2 ^ 16
-  pub short : length bytes ≤ 4000
+  pub short : length bytes < 2 ^ 16
   pub full : part < parts → length bytes ≡ 4000
 
 pub record IsImage (f b : ℕ) (before : Option (List ℕ)) (after : List ℕ) : Type 0 where

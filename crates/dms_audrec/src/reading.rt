@@ -18,7 +18,7 @@ fn schema_of(bytes: &[u8]) -> Option<(Entry<'_>, &[u8])>
     let (parts, rest) = u16_at(rest)?;
     let (len, rest) = u16_at(rest)?;
     let (text, rest) = slice_at(rest, len as usize)?;
-    if 1 <= part && part <= parts && len <= 4000 && (parts == part || len == 4000) {
+    if 1 <= part && part <= parts && (parts == part || len == 4000) {
         Some((Entry::Schema(part, parts, text), rest))
     } else {
         None

@@ -1,12 +1,14 @@
-use Rattle.std.proofs.Common.{◌≡◌, ◌-◌, ◌∙◌, ap, refl, subst, ℕ}
+use Rattle.std.proofs.Common.{◌≡◌, ◌-◌, ◌∙◌, ap, refl, sym, subst, arith, ℕ}
 use Rattle.dms_site.specs.Files.{Files}
+use Rattle.dms_audfile.specs.Gathering.{seen}
 use Rattle.dms_audfile.specs.Header.{tag_said}
-use Rattle.dms_audfile.specs.Scanning.{Read, files_read, first_foreign, outcome_of, foreign, found}
-use Rattle.dms_audfile.proofs.Reading.{not_scanned, scans_disk, read_found, read_foreign}
+use Rattle.dms_audfile.specs.Scanning.{Read, Outcome, files_read, first_foreign, outcome_of, foreign, no_schema}
+use Rattle.dms_audfile.specs.Reads.{FoundAll, NotScanned}
+use Rattle.dms_audfile.proofs.Reading.{not_scanned, scans_disk, read_found, read_none, read_foreign}
 use Rattle.dms_audfile.proofs.scanning.read_trail.Goals as goal
 
 pub returns-in-Err-clause-read : goal.returns-in-Err-clause-read
-returns-in-Err-clause-read g c tells = not_scanned _ _ _ _ _ refl (c.in-Err.ensures.read tells)
+returns-in-Err-clause-read g c tells = not_scanned c.args.first _ _ _ _ _ refl (c.in-Err.ensures.read tells)
 
 pub returns-in-Err-tag_in-clause-read : goal.returns-in-Err-tag_in-clause-read
 returns-in-Err-tag_in-clause-read g c tells = scans_disk _ c.in-Err-tag_in.fault c.in-Err-tag_in.ensures.only
@@ -23,11 +25,11 @@ returns-then-other-end-clause-read g c tells =
     let tag_is = c.in-Ok-tag_in.ensures.said tells ∙ ap (λ (l : Files). tag_said (l c.args.first)) one in
     let at : c.in-Ok-first_foreign.other ≡ first_foreign k (tag_said (files c.args.first)) c.args.first files = c.in-Ok-first_foreign.ensures.found tells ∙ (λ i. first_foreign k (tag_is i) c.args.first (two i)) in
     let r : Read = files_read k c.args.total c.args.first files in
-    subst (λ h. outcome_of r h c.args.end ≡ foreign (c.in-Ok-first_foreign.other - 10000)) at
-    (read_foreign c.args.places.now.items c.read_files.new.places.items r c.in-Ok-first_foreign.other c.args.end c.requires.none (c.in-Ok.ensures.read tells) c.if-other-end.true)
+    subst (λ h. outcome_of c.args.first r h c.args.end ≡ foreign (c.in-Ok-first_foreign.other - 10000)) at
+    (read_foreign c.args.first (seen c.args.known.now) (seen c.read_files.new.known) r c.in-Ok-first_foreign.other c.args.end c.requires.none (c.in-Ok.ensures.read tells) c.if-other-end.true)
 
-pub returns-else-other-end-clause-read : goal.returns-else-other-end-clause-read
-returns-else-other-end-clause-read g c tells =
+pub returns-then-known-described-clause-read : goal.returns-then-known-described-clause-read
+returns-then-known-described-clause-read g c tells =
     let files = g.S.Site.files c.args.site.now in
     let k : ℕ = c.args.end - c.args.first in
     let one = c.in-Ok.ensures.reads.files_stay tells in
@@ -35,5 +37,17 @@ returns-else-other-end-clause-read g c tells =
     let tag_is = c.in-Ok-tag_in.ensures.said tells ∙ ap (λ (l : Files). tag_said (l c.args.first)) one in
     let at : c.in-Ok-first_foreign.other ≡ first_foreign k (tag_said (files c.args.first)) c.args.first files = c.in-Ok-first_foreign.ensures.found tells ∙ (λ i. first_foreign k (tag_is i) c.args.first (two i)) in
     let r : Read = files_read k c.args.total c.args.first files in
-    subst (λ h. outcome_of r h c.args.end ≡ found c.read_files.new.places.items) at
-    (read_found c.args.places.now.items c.read_files.new.places.items r c.in-Ok-first_foreign.other c.args.end c.requires.none (c.in-Ok.ensures.read tells) c.if-other-end.false)
+    subst (λ h. FoundAll (outcome_of c.args.first r h c.args.end) (seen c.read_files.new.known)) at
+    (read_found c.args.first (seen c.args.known.now) (seen c.read_files.new.known) r c.in-Ok-first_foreign.other c.args.end c.requires.none (c.in-Ok.ensures.read tells) (omega (arith, c.if-other-end.false)) c.if-known-described.true)
+
+pub returns-else-known-described-clause-read : goal.returns-else-known-described-clause-read
+returns-else-known-described-clause-read g c tells =
+    let files = g.S.Site.files c.args.site.now in
+    let k : ℕ = c.args.end - c.args.first in
+    let one = c.in-Ok.ensures.reads.files_stay tells in
+    let two = c.in-Ok-tag_in.ensures.reads.files_stay tells ∙ one in
+    let tag_is = c.in-Ok-tag_in.ensures.said tells ∙ ap (λ (l : Files). tag_said (l c.args.first)) one in
+    let at : c.in-Ok-first_foreign.other ≡ first_foreign k (tag_said (files c.args.first)) c.args.first files = c.in-Ok-first_foreign.ensures.found tells ∙ (λ i. first_foreign k (tag_is i) c.args.first (two i)) in
+    let r : Read = files_read k c.args.total c.args.first files in
+    subst (λ (o : Outcome). NotScanned o c.no_schema.result) (sym (subst (λ h. outcome_of c.args.first r h c.args.end ≡ no_schema c.args.first) at
+    (read_none c.args.first (seen c.args.known.now) (seen c.read_files.new.known) r c.in-Ok-first_foreign.other c.args.end c.requires.none (c.in-Ok.ensures.read tells) (omega (arith, c.if-other-end.false)) c.if-known-described.false))) c.no_schema.ensures

@@ -1,12 +1,13 @@
 use Rattle.std.proofs.Common.{◌≡◌, ◌+◌, ◌-◌, ◌∙◌, ap, sym, subst, ℕ, Option, Some, arith}
 use Rattle.dms_site.specs.Files.{Files}
+use Rattle.dms_audfile.specs.Gathering.{seen}
 use Rattle.dms_audfile.specs.Gates.{opened}
 use Rattle.dms_audfile.specs.Header.{tag_said}
 use Rattle.dms_audfile.specs.Sealing.{Writes}
 use Rattle.dms_audfile.specs.Trail.{first_open}
 use Rattle.dms_audfile.specs.Scanning.{Outcome, trail_read}
 use Rattle.dms_audfile.specs.Reads.{Says, NotScanned}
-use Rattle.dms_audfile.proofs.Reading.{scan_none, scan_at, at_missing, at_unsealed, at_end}
+use Rattle.dms_audfile.proofs.Reading.{found_as, scan_none, scan_at, at_missing, at_unsealed, at_end}
 use Rattle.dms_audfile.proofs.Kept.{said_range, writes_by}
 use Rattle.dms_audfile.proofs.scanning.scan_span.Goals as goal
 
@@ -42,7 +43,7 @@ returns-in-Ok-read_trail-clause-scanned g c tells =
     let total_is = c.from-total.ensures ∙ says.1 in
     let at = c.in-Ok.ensures.found tells ∙ here in
     let is = at_end total c.args.first c.args.last e files c.if-end-last.false (omega (arith, c.if-end-last-2.false)) in
-    scan_at c.args.first c.args.last total e files says.0 total_is at ∙ is ∙ ap (trail_read c.args.first (e + 1) total) (sym two) ∙ c.in-Ok-read_trail.ensures.read tells
+    found_as _ _ (seen c.read_trail.new.known) (scan_at c.args.first c.args.last total e files says.0 total_is at ∙ is ∙ ap (trail_read c.args.first (e + 1) total) (sym two)) (c.in-Ok-read_trail.ensures.read tells)
 
 pub returns-in-Err-read_trail-clause-scanned : goal.returns-in-Err-read_trail-clause-scanned
 returns-in-Err-read_trail-clause-scanned g c tells =
@@ -71,8 +72,9 @@ returns-in-Ok-read_trail-clause-writes g c tells =
     let at = c.in-Ok.ensures.found tells ∙ here in
     let is = at_end total c.args.first c.args.last e files c.if-end-last.false (omega (arith, c.if-end-last-2.false)) in
     let r = said_range (files c.args.first) says.0 in
-    let w = writes_by total c.args.first c.args.last e files c.read_trail.new.places.items (omega (arith, r.0, total_is)) (omega (arith, r.1, total_is)) at
-    (is ∙ ap (trail_read c.args.first (e + 1) total) (sym two) ∙ c.in-Ok-read_trail.ensures.read tells) c.requires.order in
+    let all = c.in-Ok-read_trail.ensures.read tells in
+    let w = writes_by total c.args.first c.args.last e files all.entries (omega (arith, r.0, total_is)) (omega (arith, r.1, total_is)) at
+    (is ∙ ap (trail_read c.args.first (e + 1) total) (sym two) ∙ all.is) c.requires.order in
     let tag_is : c.in-Ok-read_trail.tag ≡ tag_said (files c.args.first) = c.in-Ok-read_trail.ensures.tag tells ∙ ap (λ (l : Files). tag_said (l c.args.first)) two in
     let count_is : c.in-Ok.found.1 ≡ opened total (files e) = c.in-Ok.ensures.count tells c.if-end-last.false ∙ ap (λ (l : Files). opened total (l e)) one in
     subst (λ t. Writes total t c.args.first e c.in-Ok.found.1 files) (sym tag_is) (subst (λ n. Writes total (tag_said (files c.args.first)) c.args.first e n files) (sym count_is) w)

@@ -13,7 +13,7 @@ use Rattle.dms_audfile.proofs.Limits.{next_idle, next_busy}
 use Rattle.dms_audfile.proofs.audit_end.AuditEnd.seal.Goals as goal
 
 pub returns-then-self-eq0-clause-moments : goal.returns-then-self-eq0-clause-moments
-returns-then-self-eq0-clause-moments g c first waiting tells at = seals_none _ _ first _ _ waiting _ _ at.writes at.settled
+returns-then-self-eq0-clause-moments g c first waiting tells at = seals_none _ _ first _ _ waiting _ _ at.writes at.settled c.args.self.now.high
 
 pub returns-then-self-eq0-clause-sealed : goal.returns-then-self-eq0-clause-sealed
 returns-then-self-eq0-clause-sealed g c first waiting tells at =

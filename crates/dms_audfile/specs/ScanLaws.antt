@@ -1,0 +1,25 @@
+-- Laws of scanning: what is found are the trail's entries, and after entries were sealed the old ones and these are found.
+use Rattle.std.specs.Prelude.{ℕ, ◌≡◌, List, ◌++◌, map, take}
+use Rattle.dms_site.specs.Files.{Files, Left}
+use Rattle.dms_history.specs.Entries.{Entry}
+use Rattle.dms_audfile.specs.Sealing.{Writes}
+use Rattle.dms_audfile.specs.TrailEntries.{trail_entries}
+use Rattle.dms_audfile.specs.Scanning.{Placed, entry_in, found}
+use Rattle.dms_audfile.specs.AuditTrail.{IsScanned, TrailIs}
+use Rattle.dms_audfile.specs.Ends.{Seals}
+
+-- The entries that are found are those of the sealed blocks, in order.
+abbrev pub FoundAreEntries : Type 0
+FoundAreEntries = (files : Files) (ps : List Placed) (t : IsScanned files (found ps)) (total tag f n : ℕ) → Writes total tag t.first f n files
+    → map entry_in ps ≡ trail_entries total t.first files
+
+-- The trail is whole, and its entries are these.
+pub record IsFoundWith (entries : List Entry) (files : Files) : Type 0 where
+  pub placed : List Placed
+  pub trail : TrailIs files (found placed)
+  pub are : map entry_in placed ≡ entries
+
+-- After some entries were sealed behind a trail, scanning finds exactly the old entries and those sealed.
+abbrev pub ScansAgain : Type 0
+ScansAgain = (total tag f n : ℕ) (waiting : List Entry) (old new : Left) (ps : List Placed) (t : IsScanned old.files (found ps)) → Writes total tag t.first f n old.files
+    → (s : Seals total tag t.first waiting old new) → IsFoundWith (map entry_in ps ++ take s.some waiting) new.files

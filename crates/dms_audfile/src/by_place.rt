@@ -1,0 +1,86 @@
+//! Entries read by their places.
+
+ghost use Rattle.std.specs.Prelude.{◌≡◌, ◌<◌, ◌⊎◌, option_map, IfOk, IfErr, OnOk, IsErrOf, IsTrue};
+ghost use Rattle.dms_site.specs.Files.{Files};
+ghost use Rattle.dms_audrec.specs.Seen.{entry_seen};
+ghost use Rattle.dms_audfile.specs.AuditTrail.{entry_from, entry_there};
+ghost use Rattle.dms_audfile.specs.Counting.{CountedAt};
+ghost use Rattle.dms_audfile.specs.EntryReading.{bytes_held, IsCurrent, HoldsBlock};
+ghost use Rattle.dms_audfile.specs.Reads.{OnlyReads};
+
+use crate::blocks::used_in;
+use crate::scanning::load;
+use crate::{AudFault, EntryReader, Place};
+use dms_audrec::{Entry, decode};
+use dms_base::Memory;
+use dms_site::Site;
+use std::alloc::Global;
+
+/// The entry that begins at an offset of a block, among the bytes that it says to have used.
+#[tactic(auto, unfolding(crate::specs::AuditTrail::entry_from))]
+fn entry_from(block: &[u8], offset: u32) -> Option<Entry<'_>>
+    ensures { option_map entry_seen result ≡ entry_from offset block.now }
+{
+    if block.len() < 2 {
+        return None;
+    }
+    let end = 2 + usize::from(used_in(block));
+    let used = if end < block.len() { &block[..end] } else { block };
+    let rest = used.get(offset as usize..)?;
+    let (entry, _size) = decode(rest)?;
+    Some(entry)
+}
+
+impl EntryReader {
+    /// A reader with no block in its buffer.
+    pub fn new(alloc: Global) -> Result<EntryReader, Memory>
+        ensures { IfOk result (λ r. (files : Files) → IsCurrent r files) }
+    {
+        let buffer = Vec::from_elem(alloc, 0u8, 4096)?;
+        Ok(EntryReader {
+            loaded: false,
+            file: 0,
+            block: 0,
+            size: 0,
+            buffer,
+        })
+    }
+
+    /// Reads the block of a place, where it isn't in the buffer already.
+    ///
+    /// Answers Disk where a call of the site failed, and Damaged where no audit file has a block of that number.
+    pub fn load<S: Site>(&mut self, site: &mut S, place: &Place) -> Result<(), AudFault>
+        ensures holds { OnOk result (IsTrue S.tells → IsCurrent self.old (S.files site.old) → HoldsBlock self.new place.now (S.files site.old)) }
+        ensures current { IsTrue S.tells → IsCurrent self.old (S.files site.old) → IsCurrent self.new (S.files site.old) }
+        ensures only { IfErr result (λ e. (e ≡ AudFault.Disk) ⊎ ((e ≡ AudFault.Damaged place.now.file place.now.block) × (512 < place.now.block))) }
+        ensures reads { OnlyReads S.tells (S.files site.old) (S.files site.new) (S.said site.old) (S.said site.new) (S.clock site.old) (S.clock site.new) (S.disk_faults site.old) (S.disk_faults site.new) (S.say_faults site.old) (S.say_faults site.new) }
+        ensures same_site { S.same_site site.old site.new }
+        ensures disk { CountedAt (IsErrOf result AudFault.Disk) (S.disk_faults site.old) (S.disk_faults site.new) }
+    {
+        if self.loaded && self.file == place.file && self.block == place.block {
+            return Ok(());
+        }
+        if place.block > 512 {
+            return Err(AudFault::Damaged(place.file, place.block));
+        }
+        self.loaded = false;
+        match load(site, place.file, place.block, &mut self.buffer) {
+            Ok(size) => {
+                self.size = size;
+                self.file = place.file;
+                self.block = place.block;
+                self.loaded = true;
+                Ok(())
+            }
+            Err(fault) => Err(fault),
+        }
+    }
+
+    /// The entry at a place whose block is in the buffer; None where no entry is there.
+    pub fn entry(&self, place: &Place) -> Option<Entry<'_>>
+        ensures held { option_map entry_seen result ≡ entry_from place.now.offset (bytes_held self.now) }
+        ensures there { (files : Files) → HoldsBlock self.now place.now files → option_map entry_seen result ≡ entry_there files place.now }
+    {
+        entry_from(&self.buffer[..self.size], place.offset)
+    }
+}
