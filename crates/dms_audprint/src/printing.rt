@@ -8,9 +8,9 @@ ghost use Rattle.dms_audfile.specs.EntryReading.{IsCurrent, HoldsBlock};
 ghost use Rattle.dms_audprint.specs.AuditText.{PrintsAudit, PrintsPart};
 ghost use Rattle.dms_audprint.specs.Printing.{line_at, lines_at, Stands, AllStand, PrintsSome, IsOfOutside, IsLate, RefusesAudit};
 
-use crate::line::{EntryLine, line_text};
 use crate::PrintFault;
-use dms_audfile::laws::entries_are_there;
+use crate::line::{EntryLine, line_text};
+use dms_audfile::laws::entries_stand_at_their_places;
 use dms_audfile::{AudFault, AuditStart, EntryReader, Place};
 use dms_base::Bytes;
 use dms_site::Site;
@@ -107,7 +107,7 @@ pub fn print_audit<S: Site>(alloc: Global, site: &mut S) -> Result<(), PrintFaul
     ensures disk { CountedAt (IsErrOf result (PrintFault.Audit AudFault.Disk)) (S.disk_faults site.old) (S.disk_faults site.new) }
     ensures say { CountedAt (IsErrOf result PrintFault.Say) (S.say_faults site.old) (S.say_faults site.new) }
 {
-    entries_are_there();
+    entries_stand_at_their_places();
     let scan = match AuditStart::scan(alloc, site) {
         Ok(scan) => scan,
         Err(fault) => return Err(PrintFault::Audit(fault)),
