@@ -15,7 +15,7 @@ use Rattle.dms_audfile.specs.TrailLaws.{read_trail, all_of}
 use Rattle.dms_audfile.specs.Ends.{IsFilled, AreFilled, Seals}
 use Rattle.dms_audfile.specs.Scanning.{Placed, entry_in, Read, broken, whole, then_read, place_of, places_of, found, all_found, no_schema, scanned}
 use Rattle.dms_audfile.specs.AuditTrail.{IsScanned}
-use Rattle.dms_audfile.specs.ScanLaws.{FoundAreEntries, IsFoundWith, ScansAgain}
+use Rattle.dms_audfile.specs.ScanLaws.{FoundAreEntries, IsFoundWith, ScansAgain, IsWritten, WrittenIsFound}
 use Rattle.dms_audfile.proofs.Ended.{writes_once}
 use Rattle.dms_audfile.proofs.Followed.{fits_says, scans_trail}
 use Rattle.dms_audfile.proofs.Kept.{found_is_kept, was_read, of_all, long_head}
@@ -41,18 +41,20 @@ block_found f i (Some es) qs e =
 abbrev rest_read : ℕ → ℕ → ℕ → List (List ℕ) → Read
 rest_read total f i bs = cond (i == total) (read_trail total (f + 1) 1 bs) (read_trail total f (i + 1) bs)
 
+-- one of two parts is whole
+either : (P : List Placed → Type 0) (t : Bool) (a b : Read) (qs : List Placed) → ((ps : List Placed) → a ≡ whole ps → P ps) → ((ps : List Placed) → b ≡ whole ps → P ps) → cond t a b ≡ whole qs → P qs
+either P true a b qs one two e = one qs e
+either P false a b qs one two e = two qs e
+
 entries_read : (total f i : ℕ) (bs : List (List ℕ)) (ps : List Placed) → read_trail total f i bs ≡ whole ps → map entry_in ps ≡ entries_in bs
 entries_read total f i [] ps e =
     let is : [] ≡ ps = cc e in
     ap (map entry_in) (sym is)
 entries_read total f i (b ∷ bs) ps e =
     let w = both_whole (places_of f i (block_entries b)) (rest_read total f i bs) ps e in
-    let more : map entry_in w.back ≡ entries_in bs = by_case (i == total) w.then in
+    let more : map entry_in w.back ≡ entries_in bs = either (λ qs. map entry_in qs ≡ entries_in bs) (i == total) (read_trail total (f + 1) 1 bs) (read_trail total f (i + 1) bs) w.back
+    (λ qs is. entries_read total (f + 1) 1 bs qs is) (λ qs is. entries_read total f (i + 1) bs qs is) w.then in
     ap (map entry_in) (sym w.are) ∙ map_on w.front w.back ∙ (λ j. block_found f i (block_entries b) w.front w.first j ++ more j)
-  where
-    by_case : (t : Bool) {qs : List Placed} → cond t (read_trail total (f + 1) 1 bs) (read_trail total f (i + 1) bs) ≡ whole qs → map entry_in qs ≡ entries_in bs
-    by_case true {qs} e = entries_read total (f + 1) 1 bs qs e
-    by_case false {qs} e = entries_read total f (i + 1) bs qs e
 
 -- a block is in its grammar
 record IsRead (block : List ℕ) : Type 0 where
@@ -70,12 +72,11 @@ block_is_read f i block (Some es) qs is e = record { entries = es; is = is }
 are_read : (total f i : ℕ) (bs : List (List ℕ)) (ps : List Placed) → read_trail total f i bs ≡ whole ps → AreRead bs
 are_read total f i [] ps e = tt
 are_read total f i (b ∷ bs) ps e =
-    let w = both_whole (places_of f i (block_entries b)) (rest_read total f i bs) ps e in
-    (block_is_read f i b (block_entries b) w.front refl w.first, by_case (i == total) w.back w.then)
-  where
-    by_case : (t : Bool) (qs : List Placed) → cond t (read_trail total (f + 1) 1 bs) (read_trail total f (i + 1) bs) ≡ whole qs → AreRead bs
-    by_case true qs e = are_read total (f + 1) 1 bs qs e
-    by_case false qs e = are_read total f (i + 1) bs qs e
+    let w = both_whole (places_of f i (block_entries b)) (rest_read total f i bs) ps e in (
+      block_is_read f i b (block_entries b) w.front refl w.first,
+      either (λ qs. AreRead bs) (i == total) (read_trail total (f + 1) 1 bs) (read_trail total f (i + 1) bs) w.back
+          (λ qs is. are_read total (f + 1) 1 bs qs is) (λ qs is. are_read total f (i + 1) bs qs is) w.then,
+    )
 
 filled_are_read : (bs : List (List ℕ)) → AreFilled bs → AreRead bs
 filled_are_read [] are = tt
@@ -95,13 +96,14 @@ whole_then f i block rest b r = record {
   is = (λ j. then_read (places_of f i (b.is j)) (r.is j));
 }
 
+whole_either : (t : Bool) (a b : Read) → IsWholeRead a → IsWholeRead b → IsWholeRead (cond t a b)
+whole_either true a b one two = one
+whole_either false a b one two = two
+
 all_are_read : (total f i : ℕ) (bs : List (List ℕ)) → AreRead bs → IsWholeRead (read_trail total f i bs)
 all_are_read total f i [] are = record { placed = []; is = refl }
-all_are_read total f i (b ∷ bs) are = whole_then f i b (rest_read total f i bs) are.0 (by_case (i == total))
-  where
-    by_case : (t : Bool) → IsWholeRead (cond t (read_trail total (f + 1) 1 bs) (read_trail total f (i + 1) bs))
-    by_case true = all_are_read total (f + 1) 1 bs are.1
-    by_case false = all_are_read total f (i + 1) bs are.1
+all_are_read total f i (b ∷ bs) are = whole_then f i b (rest_read total f i bs) are.0
+    (whole_either (i == total) (read_trail total (f + 1) 1 bs) (read_trail total f (i + 1) bs) (all_are_read total (f + 1) 1 bs are.1) (all_are_read total f (i + 1) bs are.1))
 
 -- ---- what is found are the entries of the trail
 
@@ -140,13 +142,13 @@ found_are_entries files ps t total tag f n w =
 
 -- ---- more entries
 
+or_more : (b x y : Bool) → (x ≡ true → y ≡ true) → (b || x) ≡ true → (b || y) ≡ true
+or_more true x y more on = refl
+or_more false x y more on = more on
+
 more_holds : (p : Parts) (es more : List Entry) → holds_schema_from p es ≡ true → holds_schema_from p (es ++ more) ≡ true
 more_holds p [] more on = absurd cc
-more_holds p (e ∷ es) more on = by_case (closes_schema p e) on
-  where
-    by_case : (b : Bool) → (b || holds_schema_from (after_entry p e) es) ≡ true → (b || holds_schema_from (after_entry p e) (es ++ more)) ≡ true
-    by_case true on = refl
-    by_case false on = more_holds (after_entry p e) es more on
+more_holds p (e ∷ es) more on = or_more (closes_schema p e) (holds_schema_from (after_entry p e) es) (holds_schema_from (after_entry p e) (es ++ more)) (λ is. more_holds (after_entry p e) es more is) on
 
 -- the trail's files after entries were sealed: up to one of these
 record NewLast (first f : ℕ) (files : Files) : Type 0 where
@@ -167,32 +169,32 @@ new_last total tag f n waiting old new ps t w s = elim (cases_lt s.file 20000) [
       low = omega arith;
       high = omega arith;
       span = record {
-          low = t.span.low;
-          order = omega (arith, s.writes.order);
-          high = omega (arith, inside);
-          absent = λ g above upto. far g (omega arith) upto;
-          present = λ g from upto. elim (cases_eq g (s.file + 1)) [
-            | inl is ↦ subst (λ j. 0 < length (new.files j)) (sym is) some
-            | inr other ↦ here g from (omega (arith, other, upto))
-          ];
-          before = front;
-        };
+        low = t.span.low;
+        order = omega (arith, s.writes.order);
+        high = omega (arith, inside);
+        absent = λ g above upto. far g (omega arith) upto;
+        present = λ g from upto. elim (cases_eq g (s.file + 1)) [
+          | inl is ↦ subst (λ j. 0 < length (new.files j)) (sym is) some
+          | inr other ↦ here g from (omega (arith, other, upto))
+        ];
+        before = front;
+      };
     }
     | inr none ↦ record {
       last = s.file;
       low = omega arith;
       high = omega arith;
       span = record {
-          low = t.span.low;
-          order = s.writes.order;
-          high = s.high;
-          absent = λ g above upto. elim (cases_eq g (s.file + 1)) [
-            | inl is ↦ ap new.files is ∙ no_bytes (new.files (s.file + 1)) none
-            | inr other ↦ far g (omega (arith, other, above)) upto
-          ];
-          present = here;
-          before = front;
-        };
+        low = t.span.low;
+        order = s.writes.order;
+        high = s.high;
+        absent = λ g above upto. elim (cases_eq g (s.file + 1)) [
+          | inl is ↦ ap new.files is ∙ no_bytes (new.files (s.file + 1)) none
+          | inr other ↦ far g (omega (arith, other, above)) upto
+        ];
+        present = here;
+        before = front;
+      };
     }
   ]
   | inr outside ↦ record {
@@ -200,13 +202,13 @@ new_last total tag f n waiting old new ps t w s = elim (cases_lt s.file 20000) [
     low = omega arith;
     high = omega arith;
     span = record {
-        low = t.span.low;
-        order = s.writes.order;
-        high = s.high;
-        absent = λ g above upto. absurd (omega (arith, outside, above, upto));
-        present = here;
-        before = front;
-      };
+      low = t.span.low;
+      order = s.writes.order;
+      high = s.high;
+      absent = λ g above upto. absurd (omega (arith, outside, above, upto));
+      present = here;
+      before = front;
+    };
   }
 ]
   where
@@ -241,4 +243,30 @@ scans_again total tag f n waiting old new ps t w s =
       placed = all.placed;
       trail = record { database = database; first = first; last = l.last; span = l.span; is = is };
       are = entries;
+    }
+
+-- ---- a trail as a writer keeps it
+
+pub written_is_found : WrittenIsFound
+unfolding trail_entries
+written_is_found entries files w =
+    let trail = trail_from 10000 w.total w.first files in
+    let all = all_are_read w.total w.first 1 trail (filled_are_read trail w.filled) in
+    let are : map entry_in all.placed ≡ entries = entries_read w.total w.first 1 trail all.placed all.is ∙ w.exactly in
+    let holds : holds_schema (map entry_in all.placed) ≡ true = ap holds_schema are ∙ w.schema in
+    let span : Span files w.first w.file = record {
+      low = w.low;
+      order = w.writes.order;
+      high = w.high;
+      absent = w.behind;
+      present = λ g from upto. omega (arith, long_head (g - 10000) w.total (files g) (w.writes.fits g from upto));
+      before = w.before;
+    } in
+    let is : scanned w.first w.file files ≡ found all.placed =
+    scans_trail w.total w.tag w.first w.file w.count w.file 10000 files w.writes (omega arith) (omega arith) (omega (arith, w.low, w.high))
+    ∙ ap (all_of w.first) all.is ∙ ap (λ b. cond b (found all.placed) (no_schema w.first)) holds in
+    record {
+      placed = all.placed;
+      trail = record { database = w.database; first = w.first; last = w.file; span = span; is = is };
+      are = are;
     }

@@ -15,7 +15,7 @@ use Rattle.dms_audfile.specs.Scanning.{Placed, entry_in, no_schema, all_found, R
 use Rattle.dms_audfile.specs.TrailLaws.{IsKept, FoundIsKept}
 use Rattle.dms_audfile.proofs.HeaderLaws.{opened_within}
 
-abbrev IsWhole : Read → Type 0
+abbrev pub IsWhole : Read → Type 0
 IsWhole (broken f b) = ⊥
 IsWhole (whole ps) = Unit {0}
 
@@ -51,7 +51,7 @@ cond_some : (b : Bool) (r : Option (List Entered)) (f n : ℕ) → IsWhole (plac
 cond_some true r f n w = refl
 cond_some false r f n w = absurd w
 
-block_whole : (f n : ℕ) (block : List ℕ) → IsWhole (places_of f n (block_entries block)) → length block ≡ 4096
+pub block_whole : (f n : ℕ) (block : List ℕ) → IsWhole (places_of f n (block_entries block)) → length block ≡ 4096
 unfolding block_entries
 block_whole f n block w =
     let e : ((length block == 4096) && (nat_le (used_in block) 4094 && all_zero (drop (2 + used_in block) block))) ≡ true =

@@ -1,6 +1,7 @@
 -- The entries of a trail stand at their places, and an image has one trail.
-use Rattle.std.proofs.Common.{ℕ, zero, suc, ◌+◌, ◌-◌, ◌<◌, ◌≤◌, ◌≡◌, ◌⊎◌, inl, inr, Bool, true, false, cond, List, [], ◌∷◌, ◌++◌, length, take, drop, map, Option, Some, None, refl, sym, ◌∙◌, ap, subst, arith}
-use Rattle.std.specs.Prelude.{option_map}
+use Rattle.std.proofs.Common.{ℕ, zero, suc, ◌+◌, ◌-◌, ◌<◌, ◌≤◌, ◌≡◌, ◌⊎◌, inl, inr, Bool, true, false, cond, List, [], ◌∷◌, ◌++◌, length, take, drop, map, Option, Some, None, refl, sym, ◌∙◌, ap, subst, arith, length-drop}
+use Rattle.std.specs.Prelude.{◌==◌, ◌≢◌, option_map}
+use Rattle.std.proofs.lemmas.Bool.Decides.{nat_tests}
 use Rattle.std.proofs.lemmas.Bool.{cases_lt}
 use Rattle.std.proofs.lemmas.List.{drop-drop}
 use Rattle.dms_site.specs.Files.{Files}
@@ -14,8 +15,9 @@ use Rattle.dms_audfile.specs.Blocks.{Entered, block_entries, entries_from, stand
 use Rattle.dms_audfile.specs.Trail.{Span}
 use Rattle.dms_audfile.specs.Scanning.{Placed, Read, broken, whole, then_read, place_of, places_of, blocks_read, file_read, files_read, Outcome, no_database, unsealed, missing, damaged, foreign, found, scanned}
 use Rattle.dms_audfile.specs.AuditTrail.{IsNoDatabase, IsScanned, TrailIs, IsOneTrail, entry_from, entry_there, IsThere, AreThere, EntriesAreThere}
+use Rattle.dms_audfile.specs.declared.place.Place.{Place}
 use Rattle.dms_audfile.proofs.HeaderLaws.{opened_within}
-use Rattle.dms_audfile.proofs.Kept.{was_read}
+use Rattle.dms_audfile.proofs.Kept.{was_read, IsWhole, block_whole}
 use Rattle.dms_audfile.proofs.Leaving.{left_behind}
 
 -- at the offset of each of these an entry begins, and it is that one
@@ -52,10 +54,42 @@ block_stands block es e =
     taken true r e = e
     taken false r e = absurd cc
 
-there_in : (files : Files) (f i : ℕ) (es : List Entered) → 10001 ≤ f → 1 ≤ i → i ≤ 512 → AllAt (take (2 + used_in (block_at i (files f))) (block_at i (files f))) es → AreThere files (map (place_of f i) es)
-unfolding entry_there entry_from
-there_in files f i [] low some few at = tt
-there_in files f i (e ∷ es) low some few at = (record { there = at.0; file = low; block = (some, few) }, there_in files f i es low some few at.1)
+-- an entry of a whole block
+pub from_is : (offset : ℕ) (block : List ℕ) → length block ≡ 4096 → entry_from offset block ≡ option_map (λ (y : Entry × List ℕ). y.0) (entry_at (drop offset (take (2 + used_in block) block)))
+unfolding entry_from
+from_is offset block long =
+    let on : (length block == 4096) ≡ true = grind (arith, nat_tests) in
+    ap (λ b. cond b (option_map (λ (y : Entry × List ℕ). y.0) (entry_at (drop offset (take (2 + used_in block) block)))) None) on
+
+-- a block that isn't whole has none
+pub from_short : (offset : ℕ) (block : List ℕ) → length block ≢ 4096 → entry_from offset block ≡ None
+unfolding entry_from
+from_short offset block wrong =
+    let off : (length block == 4096) ≡ false = grind (arith, nat_tests) in
+    ap (λ b. cond b (option_map (λ (y : Entry × List ℕ). y.0) (entry_at (drop offset (take (2 + used_in block) block)))) None) off
+
+-- none begins behind the end
+pub none_behind : (offset : ℕ) (all : List ℕ) → length all < offset → option_map (λ (y : Entry × List ℕ). y.0) (entry_at (drop offset all)) ≡ None
+unfolding entry_at
+none_behind offset all far = by_list (drop offset all) (omega (arith, far, length-drop offset all))
+  where
+    by_list : (l : List ℕ) → length l ≡ 0 → option_map (λ (y : Entry × List ℕ). y.0) (entry_at l) ≡ None
+    by_list [] none = refl
+    by_list (b ∷ bs) none = absurd (omega arith)
+
+-- a block that is held
+pub there_held : (files : Files) (p : Place) (bytes : List ℕ) → bytes ≡ block_at p.block (files p.file) → entry_from p.offset bytes ≡ entry_there files p
+unfolding entry_there
+there_held files p bytes same = ap (entry_from p.offset) same
+
+there_in : (files : Files) (f i : ℕ) (es : List Entered) → 10001 ≤ f → 1 ≤ i → i ≤ 512 → length (block_at i (files f)) ≡ 4096 → AllAt (take (2 + used_in (block_at i (files f))) (block_at i (files f))) es → AreThere files (map (place_of f i) es)
+unfolding entry_there
+there_in files f i [] low some few long at = tt
+there_in files f i (e ∷ es) low some few long at = (record { there = from_is e.offset (block_at i (files f)) long ∙ at.0; file = low; block = (some, few) }, there_in files f i es low some few long at.1)
+
+some_whole : (f i : ℕ) (r : Option (List Entered)) (es : List Entered) → r ≡ Some es → IsWhole (places_of f i r)
+some_whole f i None es is = absurd cc
+some_whole f i (Some xs) es is = tt
 
 there_on : (files : Files) (ps qs : List Placed) → AreThere files ps → AreThere files qs → AreThere files (ps ++ qs)
 there_on files [] qs one two = two
@@ -78,7 +112,7 @@ placed_there : (files : Files) (f i : ℕ) (r : Option (List Entered)) (qs : Lis
 placed_there files f i None qs low some few is e = absurd cc
 placed_there files f i (Some es) qs low some few is e =
     let same : map (place_of f i) es ≡ qs = cc e in
-    subst (AreThere files) same (there_in files f i es low some few (block_stands (block_at i (files f)) es is))
+    subst (AreThere files) same (there_in files f i es low some few (block_whole f i (block_at i (files f)) (some_whole f i (block_entries (block_at i (files f))) es is)) (block_stands (block_at i (files f)) es is))
 
 blocks_there : (k i f : ℕ) (files : Files) (ps : List Placed) → 10001 ≤ f → 1 ≤ i → i + k ≤ 513 → blocks_read k i f (files f) ≡ whole ps → AreThere files ps
 blocks_there zero i f files ps low some few e =
@@ -149,9 +183,9 @@ none_or files (found ps) t = inr t
 
 pub is_one_trail : IsOneTrail
 is_one_trail files a b one two = elim (none_or files a one) [
-  | inl no ↦ elim (none_or files b two) [
-    | inl none ↦ sym no.0 ∙ none.0
-    | inr s ↦ absurd (never_none files b no.1 s)
+  | inl nothing ↦ elim (none_or files b two) [
+    | inl none ↦ sym nothing.0 ∙ none.0
+    | inr s ↦ absurd (never_none files b nothing.1 s)
   ]
   | inr s ↦ elim (none_or files b two) [
     | inl none ↦ absurd (never_none files a none.1 s)

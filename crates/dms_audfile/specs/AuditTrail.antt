@@ -1,5 +1,5 @@
 -- The trail of an image: all its entries with their places, or the first refusal in order.
-use Rattle.std.specs.Prelude.{ℕ, ◌+◌, ◌≤◌, ◌≡◌, ◌⊎◌, List, [], ◌∷◌, map, Option, Some, take, drop, option_map}
+use Rattle.std.specs.Prelude.{ℕ, ◌+◌, ◌≤◌, ◌≡◌, ◌==◌, ◌⊎◌, if◌then◌else◌, length, List, [], ◌∷◌, map, Option, Some, None, take, drop, option_map}
 use Rattle.dms_site.specs.Files.{Files}
 use Rattle.dms_history.specs.Entries.{Entry}
 use Rattle.dms_audrec.specs.Reading.{entry_at}
@@ -45,9 +45,9 @@ pub record IsFound (files : Files) (first : ℕ) (places : List Place) : Type 0 
 
 -- ---- entries by their places
 
--- the entry that begins at an offset of a block, among the bytes that it says to have used
+-- the entry that begins at an offset of a whole block, among the bytes that it says to have used
 unfoldable pub entry_from : ℕ → List ℕ → Option Entry
-entry_from offset block = option_map (λ x. x.0) (entry_at (drop offset (take (2 + used_in block) block)))
+entry_from offset block = if length block == 4096 then option_map (λ x. x.0) (entry_at (drop offset (take (2 + used_in block) block))) else None
 
 -- the entry at a place
 unfoldable pub entry_there : Files → Place → Option Entry

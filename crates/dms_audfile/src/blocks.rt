@@ -22,12 +22,7 @@ fn stands_there(entry: &Entry<'_>, at: u32, rest: &[u8]) -> bool
 }
 
 /// Adds the entries of a block's used bytes; false where they aren't whole entries.
-fn read_entries(
-    bytes: &[u8],
-    file: u32,
-    block: u32,
-    known: &mut Gathered,
-) -> Result<bool, Memory>
+fn read_entries(bytes: &[u8], file: u32, block: u32, known: &mut Gathered) -> Result<bool, Memory>
     requires { length bytes.now ≤ 4094 }
     ensures { IfOk result (λ ok. ReadInto (seen known.old) (places_of file block (entries_from (length bytes.now) 2 bytes.now)) (seen known.new) ok) }
 {

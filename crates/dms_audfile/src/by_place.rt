@@ -1,9 +1,10 @@
 //! Entries read by their places.
 
-ghost use Rattle.std.specs.Prelude.{◌≡◌, ◌<◌, ◌⊎◌, option_map, IfOk, IfErr, OnOk, IsErrOf, IsTrue};
+ghost use Rattle.std.specs.Prelude.{◌≡◌, ◌+◌, ◌<◌, ◌⊎◌, length, take, option_map, IfOk, IfErr, OnOk, IsErrOf, IsTrue};
 ghost use Rattle.dms_site.specs.Files.{Files};
 ghost use Rattle.dms_audrec.specs.Seen.{entry_seen};
 ghost use Rattle.dms_audfile.specs.AuditTrail.{entry_from, entry_there};
+ghost use Rattle.dms_audfile.specs.Blocks.{used_in};
 ghost use Rattle.dms_audfile.specs.Counting.{CountedAt};
 ghost use Rattle.dms_audfile.specs.EntryReading.{bytes_held, IsCurrent, HoldsBlock};
 ghost use Rattle.dms_audfile.specs.Reads.{OnlyReads};
@@ -16,19 +17,35 @@ use dms_base::Memory;
 use dms_site::Site;
 use std::alloc::Global;
 
-/// The entry that begins at an offset of a block, among the bytes that it says to have used.
-#[tactic(auto, unfolding(crate::specs::AuditTrail::entry_from))]
+/// The bytes of a block that it says to have used, its first two among them.
+fn used_bytes(block: &[u8]) -> &[u8]
+    requires { length block.now ≡ 4096 }
+    ensures { result.now ≡ take (2 + used_in block.now) block.now }
+{
+    let end = 2 + usize::from(used_in(block));
+    if end < block.len() {
+        &block[..end]
+    } else {
+        block
+    }
+}
+
+/// The entry that begins at an offset of a whole block, among the bytes that it says to have used.
 fn entry_from(block: &[u8], offset: u32) -> Option<Entry<'_>>
     ensures { option_map entry_seen result ≡ entry_from offset block.now }
 {
-    if block.len() < 2 {
+    if block.len() != 4096 {
         return None;
     }
-    let end = 2 + usize::from(used_in(block));
-    let used = if end < block.len() { &block[..end] } else { block };
-    let rest = used.get(offset as usize..)?;
-    let (entry, _size) = decode(rest)?;
-    Some(entry)
+    let used = used_bytes(block);
+    if used.len() < offset as usize {
+        return None;
+    }
+    let (_before, rest) = used.split_at(offset as usize);
+    match decode(rest) {
+        Some((entry, _size)) => Some(entry),
+        None => None,
+    }
 }
 
 impl EntryReader {

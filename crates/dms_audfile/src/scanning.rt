@@ -1,4 +1,4 @@
-ghost use Rattle.std.specs.Prelude.{◌≡◌, ◌≤◌, ◌<◌, ◌+◌, ◌-◌, ◌*◌, ◌^◌, [], length, take, drop, IfOk, IfErr, IfSome, IsErrOf, IsTrue};
+ghost use Rattle.std.specs.Prelude.{◌≡◌, ◌≢◌, ◌≤◌, ◌<◌, ◌+◌, ◌-◌, ◌*◌, ◌^◌, [], length, take, drop, IfOk, IfErr, IfSome, IsErrOf, IsTrue};
 ghost use Rattle.dms_audfile.specs.Counting.{CountedAt};
 ghost use Rattle.dms_audfile.specs.Gathering.{seen, nothing_seen};
 ghost use Rattle.dms_site.specs.Files.{range};
@@ -17,7 +17,12 @@ use dms_site::Site;
 use std::alloc::Global;
 
 /// Reads 4,096 bytes from block `number` of an audit file on, its header being number 0; answers how many stand there.
-pub(crate) fn load<S: Site>(site: &mut S, file: u32, number: u32, into: &mut [u8]) -> Result<usize, AudFault>
+pub(crate) fn load<S: Site>(
+    site: &mut S,
+    file: u32,
+    number: u32,
+    into: &mut [u8],
+) -> Result<usize, AudFault>
     requires size { length into.old ≡ 4096 }
     requires low { number ≤ 512 }
     ensures count { IfOk result (λ n. n ≤ 4096) }
@@ -222,7 +227,8 @@ fn first_foreign<S: Site>(
 /// where there is none before it, what its own first file should hold.
 fn no_schema(first: u32) -> AudFault
     requires { 10001 ≤ first }
-    ensures { NotScanned (no_schema first) result }
+    ensures why { NotScanned (no_schema first) result }
+    ensures not_disk { result ≢ AudFault.Disk }
 {
     if first == 10001 {
         AudFault::Damaged(10001, 0)

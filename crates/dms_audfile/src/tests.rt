@@ -23,7 +23,8 @@ fn a_first_block_is_sealed_and_found(rt: HostRuntime) -> Result<(), Fail> {
     let mut site = MemSite::new(alloc, Vec::new(alloc), None).expect(&rt, "memory");
     let mut end = AuditEnd::create(alloc, &mut site, 8, 9999, 7).expect(&rt, "created");
     assert!(rt; refusal(alloc, &mut site) == Some(AudFault::NoDatabase));
-    site.write_at(1, 0, &[1, 1, 0, 0, 0, 62]).expect(&rt, "written");
+    site.write_at(1, 0, &[1, 1, 0, 0, 0, 62])
+        .expect(&rt, "written");
     site.write_at(1, 6, &DESCRIPTION).expect(&rt, "written");
     assert!(rt; refusal(alloc, &mut site) == Some(AudFault::Damaged(10001, 0)));
     end.append(&mut site, &Entry::Schema(1, 1, &DESCRIPTION))
@@ -94,7 +95,8 @@ fn refusal(alloc: Global, site: &mut MemSite) -> Option<AudFault> {
 fn a_trail_is_refused_by_the_first_cause(rt: HostRuntime) -> Result<(), Fail> {
     let alloc = rt.alloc();
     let mut site = MemSite::new(alloc, Vec::new(alloc), None).expect(&rt, "memory");
-    site.write_at(1, 0, &[1, 1, 0, 0, 0, 62]).expect(&rt, "written");
+    site.write_at(1, 0, &[1, 1, 0, 0, 0, 62])
+        .expect(&rt, "written");
     site.write_at(1, 6, &DESCRIPTION).expect(&rt, "written");
     let mut end = AuditEnd::create(alloc, &mut site, 8, 9999, 7).expect(&rt, "created");
     end.append(&mut site, &Entry::Schema(1, 1, &DESCRIPTION))
