@@ -7,6 +7,7 @@ The words of the command line.
   usage: dms try < FILE
          dms compile < FILE
          dms initialize [TAG]
+         dms print audit
          dms --help
          dms --version
   
@@ -26,16 +27,23 @@ The words of the command line.
                files, dumps and structure files of an old database are cut to
                nothing.
   
+    print audit   nothing
+               Prints a line for each entry that is sealed in the audit files of
+               the current folder. Changes nothing.
+  
   Statuses. At one above 0 a line on standard error says why.
   
      0  done
      1  bad words
      2  the schema is refused
-     4  the description is missing
+     3  there is no database
+     4  the description is missing, or an audit file is, or isn't sealed, or is
+        one of another database
      5  a call on a file failed, or the folder is in use
      6  reading the input failed
      7  memory was refused
      8  the script is too long, or holds too many lines
+     9  a block of an audit file is damaged
     10  printing failed
     11  the description or the database is there already
   
@@ -46,7 +54,7 @@ No line of it has more than 80 columns, and each status that the program has sta
 
   $ "$DMS" --help | awk 'length > 80'
   $ "$DMS" --help | grep -cE '^ +[0-9]+  '
-  10
+  12
 
 Words that are no command.
 

@@ -1,7 +1,7 @@
 ghost use Rattle.std.specs.Prelude.{◌≡◌, ◌↔◌, None, Some, map, string_bytes};
-ghost use Rattle.dms_top.specs.Words.{IsTry, IsCompile, IsInitialize, IsCommand};
+ghost use Rattle.dms_top.specs.Words.{IsTry, IsCompile, IsPrintAudit, IsInitialize, IsCommand};
 
-use dms_top::{Status, initialize_tag};
+use dms_top::{Status, initialize_tag, is_print_audit};
 use std::alloc::Global;
 use std::env::FillError;
 use std::rt::Env;
@@ -18,6 +18,8 @@ pub enum Request {
     Try,
     Compile,
     Initialize,
+    /// `print audit`, which reads the files alone.
+    PrintAudit,
 }
 
 /// The words behind the program's name. BadWords where one is long or no UTF-8, Memory where memory is refused.
@@ -47,11 +49,15 @@ pub fn words_of(rt: &HostRuntime, alloc: Global) -> Result<Vec<String>, Status> 
 pub fn request_of(words: &[String]) -> Option<Request>
     ensures try_word { result ≡ Some Request.Try ↔ IsTry (map string_bytes words.now) }
     ensures compile_word { result ≡ Some Request.Compile ↔ IsCompile (map string_bytes words.now) }
+    ensures print_words { result ≡ Some Request.PrintAudit ↔ IsPrintAudit (map string_bytes words.now) }
     ensures initialize_words { result ≡ Some Request.Initialize ↔ IsInitialize (map string_bytes words.now) }
     ensures bad { result ≡ None → IsCommand (map string_bytes words.now) → ⊥ }
 {
     if initialize_tag(words).is_some() {
         return Some(Request::Initialize);
+    }
+    if is_print_audit(words) {
+        return Some(Request::PrintAudit);
     }
     if words.len() != 1 {
         return None;

@@ -8,7 +8,7 @@ use Rattle.dms_audrec.specs.Reading.{counts_at, rows_at}
 use Rattle.dms_audrec.specs.Spelling.{spelling, rows_of, begin_bytes}
 use Rattle.dms_audrec.specs.PairLaws.{counts_length, counts_many, counts_spelled, rows_length, rows_spelled}
 use Rattle.dms_fields.specs.PrefixLaws.{IsBytes}
-use Rattle.dms_audrec.proofs.Rising.{rows_many}
+use Rattle.dms_audrec.proofs.Callers.{rows_many}
 
 -- one field more
 pub laid_more : (next size : ℕ) (now before text field old : List ℕ) → now ≡ laid next field before → before ≡ laid 0 text old → next ≡ length text → length field ≡ size → next + size ≤ length old

@@ -1,3 +1,4 @@
 mod Begins
+pub mod Callers
 mod Laid
 mod Rising

@@ -35,8 +35,3 @@ pub rows_end : (k low : ℕ) (bytes : List ℕ) → k ≡ 0 → true ≡ rows_ri
 unfolding rows_at
 rows_end zero low bytes e = refl
 rows_end (suc k) low bytes e = absurd (omega arith)
-
-pub rows_many : (k : ℕ) (bytes : List ℕ) → length (rows_at k bytes) ≡ k
-unfolding rows_at
-rows_many zero bytes = refl
-rows_many (suc k) bytes = ap suc (rows_many k (drop 8 bytes))

@@ -85,7 +85,7 @@ fn is_dump(dump: u16) -> bool
 }
 
 // Whether a Begin may have this number of a kind, this dump and these rows.
-#[tactic(auto, using(crate::proofs::Rising::rows_many))]
+#[tactic(auto, using(crate::proofs::Callers::rows_many))]
 fn kind_fits(how: u8, dump: u16, list: &[u8]) -> bool
     ensures { result ≡ kind_fits how dump (rows_at (length list.now / 8) list.now) }
 {

@@ -68,7 +68,7 @@ fn put_control(to: &mut [u8], n: u64, next: u64, list: &[u8])
 }
 
 // The number of a kind, its dump and the bytes of its rows.
-#[tactic(auto, unfolding(crate::specs::Reading::rows_at), using(crate::proofs::Rising::rows_many))]
+#[tactic(auto, unfolding(crate::specs::Reading::rows_at), using(crate::proofs::Callers::rows_many))]
 fn parts_of<'a>(how: &How<'a>) -> (u8, u16, &'a [u8])
     ensures number { result.0 ≡ how_number (how_seen how.now) }
     ensures dump { result.1 ≡ dump_of (how_seen how.now) }

@@ -1,4 +1,5 @@
 pub mod Answering
+pub mod Auditing
 pub mod Compiling
 pub mod Initializing
 pub mod Judged

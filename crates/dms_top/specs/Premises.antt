@@ -11,7 +11,7 @@ use Rattle.dms_feed.specs.Feeds.{Remains}
 use Rattle.dms_top.specs.declared.status.SchemaFault.{SchemaFault}
 use Rattle.dms_top.specs.Judging.{judged}
 use Rattle.dms_top.specs.Schema.{schema_text}
-use Rattle.dms_top.specs.Words.{IsTry, IsCompile, initialize_tag}
+use Rattle.dms_top.specs.Words.{IsTry, IsCompile, IsPrintAudit, initialize_tag}
 
 -- it holds where the words are those of `try`
 abbrev pub OnTry : List (String Global) → Type 0 → Type 0
@@ -20,6 +20,10 @@ OnTry words P = IsTry (map string_bytes words) → P
 -- it holds where the words are those of `compile`
 abbrev pub OnCompile : List (String Global) → Type 0 → Type 0
 OnCompile words P = IsCompile (map string_bytes words) → P
+
+-- it holds where the words are those of `print audit`
+abbrev pub OnPrintAudit : List (String Global) → Type 0 → Type 0
+OnPrintAudit words P = IsPrintAudit (map string_bytes words) → P
 
 -- it holds of the tag that the words say, where they are those of `initialize`
 abbrev pub OnInitialize : List (String Global) → (ℕ → Type 0) → Type 0

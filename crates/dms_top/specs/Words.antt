@@ -12,6 +12,10 @@ IsTry words = words ≡ codes "try" ∷ []
 abbrev pub IsCompile : List (List ℕ) → Type 0
 IsCompile words = words ≡ codes "compile" ∷ []
 
+-- the words `print audit`
+abbrev pub IsPrintAudit : List (List ℕ) → Type 0
+IsPrintAudit words = words ≡ codes "print" ∷ codes "audit" ∷ []
+
 -- plain digits alone
 abbrev pub are_digits : List ℕ → Bool
 are_digits [] = true
@@ -44,7 +48,7 @@ IsInitialize words = IsSome (initialize_tag words)
 
 -- the forms that are built
 abbrev pub IsCommand : List (List ℕ) → Type 0
-IsCommand words = IsTry words ⊎ (IsCompile words ⊎ IsInitialize words)
+IsCommand words = IsTry words ⊎ (IsCompile words ⊎ (IsPrintAudit words ⊎ IsInitialize words))
 
 -- the statuses that come only where the schema was taken
 abbrev pub IsPast : Status → Type 0

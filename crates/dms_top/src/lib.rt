@@ -1,6 +1,7 @@
 //! The commands, from words and input to what is printed and the status.
 #![tactic(auto)]
 
+mod audit_run;
 mod compile_run;
 mod initialize_run;
 mod judge;
@@ -13,6 +14,7 @@ mod top;
 mod try_run;
 mod whole;
 
+pub use audit_run::is_print_audit;
 pub use status::{LimitKind, NeedFault, SchemaFault, Status};
 pub use tags::initialize_tag;
 pub use top::dms;

@@ -4,7 +4,9 @@ ghost use Rattle.dms_descfile.specs.Becoming.{Creates};
 ghost use Rattle.dms_descfile.specs.DescriptionFile.{sealed_file, IsSealed, IsUnsealed};
 ghost use Rattle.dms_moments.specs.Moments.{Steps};
 ghost use Rattle.dms_site.specs.Files.{Same, Only};
+ghost use Rattle.dms_audprint.specs.AuditText.{PrintsAudit, PrintsPart};
 ghost use Rattle.dms_creation.specs.Creation.{IsMade, Initializes};
+ghost use Rattle.dms_top.specs.Auditing.{IsOfPrinting, RefusesTrail};
 ghost use Rattle.dms_top.specs.Initializing.{initialized_text, IsOfCreation};
 ghost use Rattle.dms_top.specs.Taking.{CutText};
 ghost use Rattle.dms_plain.specs.Speaking.{OnlySpeaks};
@@ -15,9 +17,10 @@ ghost use Rattle.dms_top.specs.Judging.{judged};
 ghost use Rattle.dms_top.specs.Schema.{schema_text as text_of};
 ghost use Rattle.dms_top.specs.Answering.{Printed, PrintedFront, PrintedWhole, WithinLimits, Passes, CutTry, try_events, try_text, script_of};
 ghost use Rattle.dms_top.specs.declared.status.LimitKind.{LimitKind as Kind};
-ghost use Rattle.dms_top.specs.Premises.{OnTry, OnCompile, OnInitialize, OnReading, OfInput, OfSchema, OfNoSchema, OfScript, OfNoScript, CountedAt};
-ghost use Rattle.dms_top.specs.Words.{IsTry, IsCompile, IsCommand, IsOfTry, IsOfCompile, IsPast, IsSilent, IsUntouched};
+ghost use Rattle.dms_top.specs.Premises.{OnTry, OnCompile, OnInitialize, OnPrintAudit, OnReading, OfInput, OfSchema, OfNoSchema, OfScript, OfNoScript, CountedAt};
+ghost use Rattle.dms_top.specs.Words.{IsTry, IsCompile, IsPrintAudit, IsCommand, IsOfTry, IsOfCompile, IsPast, IsSilent, IsUntouched};
 
+use crate::audit_run::{is_print_audit, print_trail};
 use crate::compile_run::compile_input;
 use crate::initialize_run::initialize_database;
 use crate::judge::{Judged, judge};
@@ -85,8 +88,8 @@ fn try_input<S: Site, I: Source>(alloc: Global, site: &mut S, input: &mut I) -> 
     }
 }
 
-/// Does what the words say: `try` runs a script over a database in memory, `compile` makes the description file, and
-/// `initialize` the empty database of that description.
+/// Does what the words say: `try` runs a script over a database in memory, `compile` makes the description file, `initialize`
+/// the empty database of that description, and `print audit` prints the entries of its audit.
 pub fn dms<S: Site, I: Source>(
     alloc: Global,
     words: &[String],
@@ -206,12 +209,32 @@ pub fn dms<S: Site, I: Source>(
     ensures initialize_shut { OnInitialize words.now (λ tag. IsSpoken result → IsTrue S.tells → slice_index (S.files site.old 1) 1 ≢ 1) }
     // at the statuses that come before a file is changed a stop leaves what it could leave before
     ensures initialize_stays { OnInitialize words.now (λ tag. IsBefore result → Steps Same (S.clock site.old) (S.clock site.new)) }
+    // ---- `print audit`
+    // nothing of the input is taken
+    ensures audit_untaken { OnPrintAudit words.now (input.new ≡ input.old) }
+    // only the statuses 0, 3, 4 for an audit file, 5, 7, 9 and 10 come
+    ensures audit_statuses { OnPrintAudit words.now (IsOfPrinting result) }
+    // at status 0 exactly a line for each entry of the trail was printed
+    ensures audit_prints { OnPrintAudit words.now (result ≡ Status.Ok → IsTrue S.tells → IsTrue S.tells_said → PrintsAudit (S.files site.old) (S.said site.old) (S.said site.new)) }
+    // at every status a prefix of these lines was printed, or nothing
+    ensures audit_part { OnPrintAudit words.now (IsTrue S.tells → IsTrue S.tells_said → PrintsPart (S.files site.old) (S.said site.old) (S.said site.new)) }
+    // at the statuses 3, 4 and 9 nothing was printed
+    ensures audit_silent { OnPrintAudit words.now (IsTrue S.tells → IsSilent result → S.said site.new ≡ S.said site.old) }
+    // they come only as the first refusal of the trail, in the order of scanning
+    ensures audit_refused { OnPrintAudit words.now (IsTrue S.tells → RefusesTrail (S.files site.old) result) }
+    // the files stay
+    ensures audit_files { OnPrintAudit words.now (IsTrue S.tells → S.files site.new ≡ S.files site.old) }
+    // a stop at each moment leaves what a stop at entry could leave, with more text or none
+    ensures audit_only_speaks { OnPrintAudit words.now (OnlySpeaks (S.clock site.old) (S.clock site.new)) }
 {
     if is_try(words) {
         return try_input(alloc, site, input);
     }
     if is_compile(words) {
         return compile_input(alloc, site, input);
+    }
+    if is_print_audit(words) {
+        return print_trail(alloc, site);
     }
     match initialize_tag(words) {
         Some(tag) => initialize_database(alloc, site, tag),

@@ -1,6 +1,6 @@
 use Rattle.std.proofs.Common.{subst, ℕ}
 use Rattle.dms_creation.specs.Creation.{IsMade, Initializes}
-use Rattle.dms_top.proofs.Digits.{tag_try, tag_compile, same_tag}
+use Rattle.dms_top.proofs.Digits.{tag_try, tag_compile, tag_print, same_tag}
 use Rattle.dms_top.proofs.Words.{not_both}
 use Rattle.dms_top.proofs.top.dms.Goals as goal
 
@@ -89,3 +89,36 @@ returns-in-Some-clause-initialize_at_ok g c tag is spoken tells d sealed =
 
 pub returns-in-None-clause-initialize_at_ok : goal.returns-in-None-clause-initialize_at_ok
 returns-in-None-clause-initialize_at_ok g c tag is spoken = absurd spoken
+
+pub returns-then-is_print_audit-clause-initialize_untaken : goal.returns-then-is_print_audit-clause-initialize_untaken
+returns-then-is_print_audit-clause-initialize_untaken g c = λ tag is. absurd (tag_print _ tag (c.is_print_audit.ensures.0 c.if-is_print_audit.true) is)
+
+pub returns-then-is_print_audit-clause-initialize_statuses : goal.returns-then-is_print_audit-clause-initialize_statuses
+returns-then-is_print_audit-clause-initialize_statuses g c = λ tag is. absurd (tag_print _ tag (c.is_print_audit.ensures.0 c.if-is_print_audit.true) is)
+
+pub returns-then-is_print_audit-clause-initialize_at_every_moment : goal.returns-then-is_print_audit-clause-initialize_at_every_moment
+returns-then-is_print_audit-clause-initialize_at_every_moment g c = λ tag is. absurd (tag_print _ tag (c.is_print_audit.ensures.0 c.if-is_print_audit.true) is)
+
+pub returns-then-is_print_audit-clause-initialize_at_ok : goal.returns-then-is_print_audit-clause-initialize_at_ok
+returns-then-is_print_audit-clause-initialize_at_ok g c = λ tag is. absurd (tag_print _ tag (c.is_print_audit.ensures.0 c.if-is_print_audit.true) is)
+
+pub returns-then-is_print_audit-clause-initialize_stable : goal.returns-then-is_print_audit-clause-initialize_stable
+returns-then-is_print_audit-clause-initialize_stable g c = λ tag is. absurd (tag_print _ tag (c.is_print_audit.ensures.0 c.if-is_print_audit.true) is)
+
+pub returns-then-is_print_audit-clause-initialize_says : goal.returns-then-is_print_audit-clause-initialize_says
+returns-then-is_print_audit-clause-initialize_says g c = λ tag is. absurd (tag_print _ tag (c.is_print_audit.ensures.0 c.if-is_print_audit.true) is)
+
+pub returns-then-is_print_audit-clause-initialize_described : goal.returns-then-is_print_audit-clause-initialize_described
+returns-then-is_print_audit-clause-initialize_described g c = λ tag is. absurd (tag_print _ tag (c.is_print_audit.ensures.0 c.if-is_print_audit.true) is)
+
+pub returns-then-is_print_audit-clause-initialize_exists : goal.returns-then-is_print_audit-clause-initialize_exists
+returns-then-is_print_audit-clause-initialize_exists g c = λ tag is. absurd (tag_print _ tag (c.is_print_audit.ensures.0 c.if-is_print_audit.true) is)
+
+pub returns-then-is_print_audit-clause-initialize_exists_described : goal.returns-then-is_print_audit-clause-initialize_exists_described
+returns-then-is_print_audit-clause-initialize_exists_described g c = λ tag is. absurd (tag_print _ tag (c.is_print_audit.ensures.0 c.if-is_print_audit.true) is)
+
+pub returns-then-is_print_audit-clause-initialize_shut : goal.returns-then-is_print_audit-clause-initialize_shut
+returns-then-is_print_audit-clause-initialize_shut g c = λ tag is. absurd (tag_print _ tag (c.is_print_audit.ensures.0 c.if-is_print_audit.true) is)
+
+pub returns-then-is_print_audit-clause-initialize_stays : goal.returns-then-is_print_audit-clause-initialize_stays
+returns-then-is_print_audit-clause-initialize_stays g c = λ tag is. absurd (tag_print _ tag (c.is_print_audit.ensures.0 c.if-is_print_audit.true) is)

@@ -1,0 +1,53 @@
+-- The command `print audit`.
+use Rattle.std.specs.Prelude.{ℕ, ⊤}
+use Rattle.dms_site.specs.Files.{Files}
+use Rattle.dms_audfile.specs.AuditTrail.{TrailIs}
+use Rattle.dms_audfile.specs.Scanning.{no_database, unsealed, missing, damaged, foreign}
+use Rattle.dms_top.specs.declared.status.NeedFault.{NeedFault}
+use Rattle.dms_top.specs.declared.status.NeedFault.TheVariants.{NoDescription, AuditMissing, AuditUnsealed, AuditForeign}
+use Rattle.dms_top.specs.declared.status.Status.{Status}
+use Rattle.dms_top.specs.declared.status.Status.TheVariants.{Ok, BadWords, SchemaRefused, NoDatabase, Needed, InputFault, Memory, Limit, Damaged, SayFault, DiskFault, Exists}
+
+-- the need of an audit file
+abbrev pub IsOfAudit : NeedFault → Type 0
+IsOfAudit NoDescription = ⊥
+IsOfAudit (AuditMissing k) = ⊤
+IsOfAudit (AuditUnsealed k) = ⊤
+IsOfAudit (AuditForeign k) = ⊤
+
+-- the statuses of `print audit`
+abbrev pub IsOfPrinting : Status → Type 0
+IsOfPrinting Ok = ⊤
+IsOfPrinting BadWords = ⊥
+IsOfPrinting (SchemaRefused f) = ⊥
+IsOfPrinting NoDatabase = ⊤
+IsOfPrinting (Needed n) = IsOfAudit n
+IsOfPrinting InputFault = ⊥
+IsOfPrinting Memory = ⊤
+IsOfPrinting (Limit l) = ⊥
+IsOfPrinting (Damaged f b) = ⊤
+IsOfPrinting SayFault = ⊤
+IsOfPrinting DiskFault = ⊤
+IsOfPrinting Exists = ⊥
+
+-- that need is what scanning the trail of these files refuses
+abbrev pub NeedsAudit : Files → NeedFault → Type 0
+NeedsAudit files NoDescription = ⊤
+NeedsAudit files (AuditMissing k) = TrailIs files (missing k)
+NeedsAudit files (AuditUnsealed k) = TrailIs files (unsealed k)
+NeedsAudit files (AuditForeign k) = TrailIs files (foreign k)
+
+-- A status that refuses the trail of these files is its first refusal by scanning; the others say nothing of it.
+abbrev pub RefusesTrail : Files → Status → Type 0
+RefusesTrail files Ok = ⊤
+RefusesTrail files BadWords = ⊤
+RefusesTrail files (SchemaRefused f) = ⊤
+RefusesTrail files NoDatabase = TrailIs files no_database
+RefusesTrail files (Needed n) = NeedsAudit files n
+RefusesTrail files InputFault = ⊤
+RefusesTrail files Memory = ⊤
+RefusesTrail files (Limit l) = ⊤
+RefusesTrail files (Damaged f b) = TrailIs files (damaged f b)
+RefusesTrail files SayFault = ⊤
+RefusesTrail files DiskFault = ⊤
+RefusesTrail files Exists = ⊤

@@ -1,0 +1,54 @@
+//! `print audit`.
+
+ghost use Rattle.std.specs.Prelude.{◌≡◌, ◌↔◌, map, string_bytes, IsTrue};
+ghost use Rattle.dms_plain.specs.Speaking.{OnlySpeaks};
+ghost use Rattle.dms_audprint.specs.AuditText.{PrintsAudit, PrintsPart};
+ghost use Rattle.dms_top.specs.Auditing.{IsOfPrinting, RefusesTrail};
+ghost use Rattle.dms_top.specs.Premises.{CountedAt};
+ghost use Rattle.dms_top.specs.Words.{IsPrintAudit, IsSilent};
+
+use crate::status::{NeedFault, Status};
+use dms_audfile::AudFault;
+use dms_audprint::{PrintFault, print_audit};
+use dms_site::Site;
+use std::alloc::Global;
+
+/// Whether the words are `print audit`.
+pub fn is_print_audit(words: &[String]) -> bool
+    ensures { IsTrue result ↔ IsPrintAudit (map string_bytes words.now) }
+{
+    words.len() == 2 && words[0].as_str() == "print" && words[1].as_str() == "audit"
+}
+
+/// `print audit`: prints a line for each sealed entry of the audit trail, in order. It changes no file.
+pub fn print_trail<S: Site>(alloc: Global, site: &mut S) -> Status
+    ensures statuses { IsOfPrinting result }
+    ensures prints { result ≡ Status.Ok → IsTrue S.tells → IsTrue S.tells_said → PrintsAudit (S.files site.old) (S.said site.old) (S.said site.new) }
+    ensures part { IsTrue S.tells → IsTrue S.tells_said → PrintsPart (S.files site.old) (S.said site.old) (S.said site.new) }
+    ensures silent { IsTrue S.tells → IsSilent result → S.said site.new ≡ S.said site.old }
+    ensures refused { IsTrue S.tells → RefusesTrail (S.files site.old) result }
+    ensures files { IsTrue S.tells → S.files site.new ≡ S.files site.old }
+    ensures only_speaks { OnlySpeaks (S.clock site.old) (S.clock site.new) }
+    ensures same_site { S.same_site site.old site.new }
+    ensures disk { CountedAt (result ≡ Status.DiskFault) (S.disk_faults site.old) (S.disk_faults site.new) }
+    ensures say { CountedAt (result ≡ Status.SayFault) (S.say_faults site.old) (S.say_faults site.new) }
+{
+    match print_audit(alloc, site) {
+        Ok(()) => Status::Ok,
+        Err(PrintFault::Say) => Status::SayFault,
+        Err(PrintFault::Audit(AudFault::NoDatabase)) => Status::NoDatabase,
+        Err(PrintFault::Audit(AudFault::Disk)) => Status::DiskFault,
+        Err(PrintFault::Audit(AudFault::Missing(number))) => {
+            Status::Needed(NeedFault::AuditMissing(number))
+        }
+        Err(PrintFault::Audit(AudFault::Unsealed(number))) => {
+            Status::Needed(NeedFault::AuditUnsealed(number))
+        }
+        Err(PrintFault::Audit(AudFault::Foreign(number))) => {
+            Status::Needed(NeedFault::AuditForeign(number))
+        }
+        Err(PrintFault::Audit(AudFault::Damaged(file, block))) => Status::Damaged(file, block),
+        // Nothing is sealed, so no file is full.
+        Err(PrintFault::Audit(AudFault::Full(_) | AudFault::Memory)) => Status::Memory,
+    }
+}
