@@ -8,8 +8,6 @@ mod name;
 mod opened;
 mod print;
 mod read;
-#[cfg(test)]
-mod tests;
 mod write;
 
 pub use folder_site::FolderSite;

@@ -37,6 +37,7 @@ impl ItemNumbers {
         Ok(())
     }
 
+    /// All of them, in their order.
     pub fn as_slice(&self) -> &[u8]
         ensures { result.now ≡ self.now }
     {

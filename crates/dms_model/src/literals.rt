@@ -38,6 +38,7 @@ impl Literals {
         Ok(())
     }
 
+    /// All of them, in their order.
     pub fn as_slice(&self) -> &[Literal]
         ensures { result.now ≡ self.now }
     {

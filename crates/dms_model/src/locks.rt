@@ -40,6 +40,7 @@ impl Locks {
         Ok(())
     }
 
+    /// All of them, in their order.
     pub fn as_slice(&self) -> &[Lock]
         ensures { result.now ≡ self.now }
     {

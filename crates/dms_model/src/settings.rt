@@ -39,6 +39,7 @@ impl Settings {
         Ok(())
     }
 
+    /// All of them, in their order.
     pub fn as_slice(&self) -> &[Setting]
         ensures { result.now ≡ self.now }
     {

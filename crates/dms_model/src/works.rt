@@ -41,6 +41,7 @@ impl Works {
         Ok(())
     }
 
+    /// All of them, in their order.
     pub fn as_slice(&self) -> &[Work]
         ensures { result.now ≡ self.now }
     {

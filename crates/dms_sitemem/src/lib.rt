@@ -11,8 +11,6 @@ mod mem_source;
 mod pick;
 mod plan;
 mod tally;
-#[cfg(test)]
-mod tests;
 
 pub use crash::strike_write;
 pub use image::Image;
