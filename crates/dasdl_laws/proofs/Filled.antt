@@ -1,29 +1,24 @@
 -- A key that was judged has parts.
-use Rattle.std.proofs.Common.{◌≡◌, ◌≤◌, ◌<◌, ◌+◌, ℕ, List, [], ◌∷◌, ◌++◌, length, Bool, true, false, cond, refl, sym, ap, subst, ◌∙◌, arith, length-append}
+use Rattle.std.proofs.Common.{◌≡◌, ◌≤◌, ◌+◌, ℕ, List, [], ◌∷◌, length, Bool, true, false, cond, refl, sym, ap, subst, ◌∙◌, arith, length-append}
 use Rattle.std.specs.Prelude.{◌-◌, min, drop}
 use Rattle.std.proofs.lemmas.List.{length-drop, length-take}
-use Rattle.std.proofs.lemmas.Bool.{ltb-true, ltb-false}
-use Rattle.std.proofs.lemmas.Bool.Decides.{nat_tests}
-use Rattle.std.specs.Prelude.{◌||◌, not, nat_le, nat_lt, Some, None}
+use Rattle.std.specs.Prelude.{◌||◌, nat_le, nat_lt, Some, None}
 use Rattle.std.specs.List.{AllByRecursion}
 use Rattle.std.specs.Str.{bytes_eq}
 use Rattle.std.specs.declared.option.Option.{Option}
-use Rattle.std.specs.declared.result.Result.TheVariants.{Ok, Err}
+use Rattle.std.specs.declared.result.Result.TheVariants.{Ok}
 use Rattle.dms_desc.specs.declared.structure.Item.{Item}
 use Rattle.dms_desc.specs.declared.structure.Group.{Group}
 use Rattle.dms_desc.specs.declared.structure.KeyPart.{KeyPart}
 use Rattle.dasdl_parse.specs.declared.declarations.PartDecl.{PartDecl}
-use Rattle.dasdl_compile.specs.declared.fault.CompileFault.TheVariants.{KeyItem}
 use Rattle.dasdl_compile.specs.declared.draft.Draft.{Draft}
 use Rattle.dms_desc.specs.declared.lookups.NamedItem.{NamedItem}
 use Rattle.dasdl_compile.specs.declared.keys.Run.{Run}
 use Rattle.dasdl_compile.specs.declared.keys.KeySoFar.{KeySoFar}
 use Rattle.dasdl_compile.specs.Answers.{Judged, steps}
 use Rattle.dms_desc.specs.Kinds.{is_link}
-use Rattle.dms_desc.specs.Lookups.{after_item, item_named, group_named}
+use Rattle.dms_desc.specs.Lookups.{item_named, group_named}
 use Rattle.dasdl_compile.specs.Keys.{is_part, key_item_at, run_items, run_in, run_of, part_at, item_run, group_run, short_key, key_at}
-use Rattle.dms_desc.specs.Widths.{item_width}
-use Rattle.dasdl_compile.specs.Widths.{plus}
 use Rattle.dasdl_laws.proofs.Judging.{bind_ok, skip_ok, ok_same, steps_keep}
 use Rattle.dasdl_laws.proofs.Judged.{FoundIn, item_found}
 use Rattle.dasdl_laws.proofs.Parts.{Within}

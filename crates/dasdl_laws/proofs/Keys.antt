@@ -5,7 +5,7 @@ use Rattle.std.specs.Prelude.{◌||◌, ◌==◌, not, nat_lt, Some}
 use Rattle.std.specs.List.{list_all, AllByRecursion}
 use Rattle.std.specs.Prelude.{◌-◌, take, drop}
 use Rattle.std.proofs.lemmas.List.{take-append-drop, length-take-le}
-use Rattle.std.specs.declared.result.Result.TheVariants.{Ok, Err}
+use Rattle.std.specs.declared.result.Result.TheVariants.{Ok}
 use Rattle.dms_desc.specs.declared.structure.Item.{Item}
 use Rattle.dms_desc.specs.declared.structure.KeyPart.{KeyPart}
 use Rattle.dms_desc.specs.Kinds.{is_link}
@@ -14,7 +14,6 @@ use Rattle.dms_desc_bytes.specs.Lists.{apart, total}
 use Rattle.dms_desc.specs.Widths.{item_width}
 use Rattle.dms_desc_bytes.specs.WellFormed.{is_part_sound, parts_differ, part_width, is_key_sound}
 use Rattle.dasdl_parse.specs.declared.declarations.PartDecl.{PartDecl}
-use Rattle.dasdl_compile.specs.declared.fault.CompileFault.TheVariants.{KeyItem}
 use Rattle.dasdl_compile.specs.declared.draft.Draft.{Draft}
 use Rattle.dasdl_compile.specs.declared.keys.Run.{Run}
 use Rattle.dasdl_compile.specs.declared.keys.KeySoFar.{KeySoFar}
