@@ -12,14 +12,14 @@ use Rattle.dms_audfile.specs.Database.{HasDatabase}
 use Rattle.dms_audfile.specs.WholeSchema.{closes_schema, holds_schema_from, holds_schema}
 use Rattle.dms_audfile.specs.TrailEntries.{entry_of, entries_of, entries_in, trail_entries}
 use Rattle.dms_audfile.specs.TrailLaws.{read_trail, all_of}
-use Rattle.dms_audfile.specs.Ends.{IsFilled, AreFilled, Seals}
-use Rattle.dms_audfile.specs.Scanning.{Placed, entry_in, Read, broken, whole, then_read, place_of, places_of, found, all_found, no_schema, scanned}
+use Rattle.dms_audfile.specs.Ends.{AreFilled, Seals}
+use Rattle.dms_audfile.specs.Scanning.{Placed, entry_in, Read, broken, whole, then_read, place_of, places_of, found, no_schema, scanned}
 use Rattle.dms_audfile.specs.AuditTrail.{IsScanned}
-use Rattle.dms_audfile.specs.ScanLaws.{FoundAreEntries, IsFoundWith, ScansAgain, IsWritten, WrittenIsFound}
+use Rattle.dms_audfile.specs.ScanLaws.{FoundAreEntries, ScansAgain, WrittenIsFound}
 use Rattle.dms_audfile.proofs.Ended.{writes_once}
 use Rattle.dms_audfile.proofs.Followed.{fits_says, scans_trail}
 use Rattle.dms_audfile.proofs.Kept.{found_is_kept, was_read, of_all, long_head}
-use Rattle.dms_audfile.proofs.There.{BothWhole, both_whole}
+use Rattle.dms_audfile.proofs.There.{both_whole}
 
 -- ---- blocks that are read
 

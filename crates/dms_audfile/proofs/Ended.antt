@@ -15,7 +15,7 @@ use Rattle.dms_audfile.specs.Trail.{trail_from}
 use Rattle.dms_audfile.specs.TrailEntries.{entry_of, entries_of, entries_in, trail_entries}
 use Rattle.dms_audfile.specs.Ends.{unsealed, EndsAt, IsFilled, Grown, Seals, Appends, SealsAll}
 use Rattle.dms_audfile.specs.EndLaws.{filled_on}
-use Rattle.std.proofs.lemmas.Bool.{cases_lt, cases_eq, false≢true}
+use Rattle.std.proofs.lemmas.Bool.{cases_lt, false≢true}
 use Rattle.dms_audfile.proofs.BlockRead.{block_is_read}
 use Rattle.dms_audfile.proofs.Growing.{writes_same}
 use Rattle.dms_audfile.proofs.Gates.{stands_full}

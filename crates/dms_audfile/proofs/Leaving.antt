@@ -1,12 +1,12 @@
 -- Reading an entry leaves what stands behind it.
-use Rattle.std.proofs.Common.{ℕ, zero, suc, ◌+◌, ◌-◌, ◌*◌, ◌<◌, ◌≤◌, ◌≡◌, ◌==◌, Bool, true, false, cond, List, [], ◌∷◌, length, take, drop, Option, Some, None, refl, sym, ◌∙◌, ap, subst, arith, inl, inr, length-drop}
+use Rattle.std.proofs.Common.{ℕ, zero, suc, ◌+◌, ◌-◌, ◌*◌, ◌≤◌, ◌≡◌, ◌==◌, cond, List, [], ◌∷◌, length, take, drop, Option, Some, None, refl, sym, ◌∙◌, ap, subst, arith, inl, inr, length-drop}
 use Rattle.std.specs.Prelude.{nat_le, nat_lt, ◌&&◌, ◌||◌}
 use Rattle.std.specs.Int.{Width, w16, w32, w64, byte_len, from_be_bytes}
 use Rattle.std.proofs.lemmas.Bool.{cases_eq}
 use Rattle.std.proofs.lemmas.Bool.Decides.{nat_tests}
 use Rattle.std.proofs.lemmas.List.{drop-drop}
 use Rattle.dms_history.specs.Entries.{Entry, schema_part, image, quiet_point, control_point, begin_restore}
-use Rattle.dms_fields.specs.Prefix.{◌>>=◌, byte_first, number_first, bytes_first}
+use Rattle.dms_fields.specs.Prefix.{byte_first, number_first, bytes_first}
 use Rattle.dms_fields.specs.PrefixLaws.{bind_some, stop_some, go_some}
 use Rattle.dms_audrec.specs.Spelling.{counts_rise}
 use Rattle.dms_audrec.specs.Reading.{schema_at, before_at, image_at, quiet_at, control_at, begin_at, entry_at, counts_at, rows_at, kind_of, kind_fits}

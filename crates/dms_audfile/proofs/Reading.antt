@@ -1,5 +1,5 @@
 -- One part after another is read.
-use Rattle.std.proofs.Common.{ℕ, zero, suc, ◌+◌, ◌-◌, ◌<◌, ◌≤◌, ◌≡◌, ◌≢◌, ◌==◌, Bool, true, false, cond, List, [], ◌∷◌, ◌++◌, length, take, drop, map, Option, Some, None, refl, sym, ◌∙◌, ap, subst, arith, append-nil, append_assoc, length-take, length-drop}
+use Rattle.std.proofs.Common.{ℕ, zero, suc, ◌+◌, ◌-◌, ◌<◌, ◌≤◌, ◌≡◌, ◌≢◌, ◌==◌, Bool, true, false, cond, List, [], ◌∷◌, ◌++◌, length, take, drop, map, Option, Some, None, refl, sym, ◌∙◌, ap, subst, arith, length-take, length-drop}
 use Rattle.std.specs.Prelude.{nat_le, ◌&&◌, ◌||◌}
 use Rattle.std.proofs.lemmas.Bool.Decides.{nat_tests}
 use Rattle.dms_audfile.specs.declared.fault.AudFault.{AudFault}
@@ -17,7 +17,7 @@ use Rattle.dms_moments.specs.MomentLaws.{steps_on}
 use Rattle.dms_audfile.specs.Header.{all_zero, header_fits, says_blocks, blocks_said, tag_said}
 use Rattle.dms_audfile.specs.Trail.{first_open}
 use Rattle.dms_audfile.specs.Blocks.{Entered, block_entries, entries_from, stands_there, used_in}
-use Rattle.dms_audfile.specs.Scanning.{Placed, entry_in, no_schema, all_found, Read, broken, whole, then_read, place_of, places_of, Outcome, missing, unsealed, damaged, foreign, found, outcome_of, first_foreign, trail_read, outcome_at, scanned, blocks_read, file_read, files_read}
+use Rattle.dms_audfile.specs.Scanning.{Placed, entry_in, no_schema, all_found, Read, broken, whole, then_read, places_of, Outcome, missing, unsealed, damaged, foreign, found, outcome_of, first_foreign, trail_read, outcome_at, scanned, blocks_read, file_read, files_read}
 use Rattle.dms_audfile.specs.Reads.{ReadInto, NotRead, NotScanned, FoundAll, IsBroken, OnlyReads}
 
 seen_behind : (s : Seen) (ps qs : List Placed) → seen_on s (ps ++ qs) ≡ seen_on (seen_on s ps) qs

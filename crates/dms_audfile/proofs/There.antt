@@ -6,15 +6,14 @@ use Rattle.std.proofs.lemmas.Bool.{cases_lt}
 use Rattle.std.proofs.lemmas.List.{drop-drop}
 use Rattle.dms_site.specs.Files.{Files}
 use Rattle.dms_history.specs.Entries.{Entry}
-use Rattle.dms_fields.specs.Prefix.{◌>>=◌}
 use Rattle.dms_fields.specs.PrefixLaws.{bind_some, go_some}
 use Rattle.dms_audrec.specs.Reading.{entry_at}
 use Rattle.dms_audfile.specs.Gates.{block_at, opened}
-use Rattle.dms_audfile.specs.Header.{header_fits, all_zero}
+use Rattle.dms_audfile.specs.Header.{header_fits}
 use Rattle.dms_audfile.specs.Blocks.{Entered, block_entries, entries_from, stands_there, used_in}
 use Rattle.dms_audfile.specs.Trail.{Span}
 use Rattle.dms_audfile.specs.Scanning.{Placed, Read, broken, whole, then_read, place_of, places_of, blocks_read, file_read, files_read, Outcome, no_database, unsealed, missing, damaged, foreign, found, scanned}
-use Rattle.dms_audfile.specs.AuditTrail.{IsNoDatabase, IsScanned, TrailIs, IsOneTrail, entry_from, entry_there, IsThere, AreThere, EntriesAreThere}
+use Rattle.dms_audfile.specs.AuditTrail.{IsNoDatabase, IsScanned, TrailIs, IsOneTrail, entry_from, entry_there, AreThere, EntriesAreThere}
 use Rattle.dms_audfile.specs.declared.place.Place.{Place}
 use Rattle.dms_audfile.proofs.HeaderLaws.{opened_within}
 use Rattle.dms_audfile.proofs.Kept.{was_read, IsWhole, block_whole}

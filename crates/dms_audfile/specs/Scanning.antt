@@ -1,5 +1,5 @@
 -- What scanning the trail finds: its first refusal, or its entries with their places.
-use Rattle.std.specs.Prelude.{ℕ, zero, suc, ◌+◌, ◌-◌, ◌==◌, nat_le, nat_lt, if◌then◌else◌, Bool, List, [], ◌++◌, map, Option, Some, None}
+use Rattle.std.specs.Prelude.{ℕ, zero, suc, ◌+◌, ◌-◌, ◌==◌, nat_le, nat_lt, if◌then◌else◌, List, [], ◌++◌, map, Option, Some, None}
 use Rattle.dms_site.specs.Files.{Files}
 use Rattle.dms_history.specs.Entries.{Entry}
 use Rattle.dms_audfile.specs.Gates.{block_at, opened}

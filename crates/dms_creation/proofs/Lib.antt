@@ -2,3 +2,4 @@ pub mod Cleared
 pub mod LaidMore
 pub mod Parts
 pub mod Making
+pub mod Found

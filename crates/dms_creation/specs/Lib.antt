@@ -3,3 +3,4 @@ pub mod Creation
 pub mod Laid
 pub mod Clearing
 pub mod Plans
+pub mod FoundAgain

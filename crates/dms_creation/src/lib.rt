@@ -4,6 +4,7 @@
 mod clearing;
 mod creating;
 mod fault;
+pub mod laws;
 mod laying;
 mod planning;
 
