@@ -1,8 +1,13 @@
 -- The command `print audit`.
 use Rattle.std.specs.Prelude.{ℕ, ⊤}
+use Rattle.std.specs.declared.result.Result.{Result}
+use Rattle.std.specs.declared.result.Result.TheVariants as result
 use Rattle.dms_site.specs.Files.{Files}
 use Rattle.dms_audfile.specs.AuditTrail.{TrailIs}
 use Rattle.dms_audfile.specs.Scanning.{no_database, unsealed, missing, damaged, foreign}
+use Rattle.dms_audfile.specs.declared.fault.AudFault.TheVariants as fault
+use Rattle.dms_audprint.specs.declared.fault.PrintFault.{PrintFault}
+use Rattle.dms_audprint.specs.declared.fault.PrintFault.TheVariants.{Audit, Say}
 use Rattle.dms_top.specs.declared.status.NeedFault.{NeedFault}
 use Rattle.dms_top.specs.declared.status.NeedFault.TheVariants.{NoDescription, AuditMissing, AuditUnsealed, AuditForeign}
 use Rattle.dms_top.specs.declared.status.Status.{Status}
@@ -51,3 +56,16 @@ RefusesTrail files (Damaged f b) = TrailIs files (damaged f b)
 RefusesTrail files SayFault = ⊤
 RefusesTrail files DiskFault = ⊤
 RefusesTrail files Exists = ⊤
+
+-- The status behind printing the audit. Nothing is sealed then, so no file is full; that is told as want of memory.
+abbrev pub audit_status : {T : Type 0} → Result T PrintFault → Status
+audit_status (result.Ok done) = Ok
+audit_status (result.Err (Audit fault.NoDatabase)) = NoDatabase
+audit_status (result.Err (Audit fault.Disk)) = DiskFault
+audit_status (result.Err (Audit (fault.Full k))) = Memory
+audit_status (result.Err (Audit (fault.Missing k))) = Needed (AuditMissing k)
+audit_status (result.Err (Audit (fault.Unsealed k))) = Needed (AuditUnsealed k)
+audit_status (result.Err (Audit (fault.Damaged f b))) = Damaged f b
+audit_status (result.Err (Audit (fault.Foreign k))) = Needed (AuditForeign k)
+audit_status (result.Err (Audit fault.Memory)) = Memory
+audit_status (result.Err Say) = SayFault

@@ -3,7 +3,7 @@
 ghost use Rattle.std.specs.Prelude.{◌≡◌, ◌↔◌, map, string_bytes, IsTrue};
 ghost use Rattle.dms_plain.specs.Speaking.{OnlySpeaks};
 ghost use Rattle.dms_audprint.specs.AuditText.{PrintsAudit, PrintsPart};
-ghost use Rattle.dms_top.specs.Auditing.{IsOfPrinting, RefusesTrail};
+ghost use Rattle.dms_top.specs.Auditing.{IsOfPrinting, RefusesTrail, audit_status};
 ghost use Rattle.dms_top.specs.Premises.{CountedAt};
 ghost use Rattle.dms_top.specs.Words.{IsPrintAudit, IsSilent};
 
@@ -20,6 +20,30 @@ pub fn is_print_audit(words: &[String]) -> bool
     words.len() == 2 && words[0].as_str() == "print" && words[1].as_str() == "audit"
 }
 
+/// The status behind printing the audit.
+fn status_of(printed: Result<(), PrintFault>) -> Status
+    ensures { result ≡ audit_status printed }
+{
+    match printed {
+        Ok(()) => Status::Ok,
+        Err(PrintFault::Audit(AudFault::NoDatabase)) => Status::NoDatabase,
+        Err(PrintFault::Audit(AudFault::Disk)) => Status::DiskFault,
+        Err(PrintFault::Audit(AudFault::Missing(number))) => {
+            Status::Needed(NeedFault::AuditMissing(number))
+        }
+        Err(PrintFault::Audit(AudFault::Unsealed(number))) => {
+            Status::Needed(NeedFault::AuditUnsealed(number))
+        }
+        Err(PrintFault::Audit(AudFault::Foreign(number))) => {
+            Status::Needed(NeedFault::AuditForeign(number))
+        }
+        Err(PrintFault::Audit(AudFault::Damaged(file, block))) => Status::Damaged(file, block),
+        Err(PrintFault::Audit(AudFault::Full(_))) => Status::Memory,
+        Err(PrintFault::Audit(AudFault::Memory)) => Status::Memory,
+        Err(PrintFault::Say) => Status::SayFault,
+    }
+}
+
 /// `print audit`: prints a line for each sealed entry of the audit trail, in order. It changes no file.
 pub fn print_trail<S: Site>(alloc: Global, site: &mut S) -> Status
     ensures statuses { IsOfPrinting result }
@@ -33,22 +57,6 @@ pub fn print_trail<S: Site>(alloc: Global, site: &mut S) -> Status
     ensures disk { CountedAt (result ≡ Status.DiskFault) (S.disk_faults site.old) (S.disk_faults site.new) }
     ensures say { CountedAt (result ≡ Status.SayFault) (S.say_faults site.old) (S.say_faults site.new) }
 {
-    match print_audit(alloc, site) {
-        Ok(()) => Status::Ok,
-        Err(PrintFault::Say) => Status::SayFault,
-        Err(PrintFault::Audit(AudFault::NoDatabase)) => Status::NoDatabase,
-        Err(PrintFault::Audit(AudFault::Disk)) => Status::DiskFault,
-        Err(PrintFault::Audit(AudFault::Missing(number))) => {
-            Status::Needed(NeedFault::AuditMissing(number))
-        }
-        Err(PrintFault::Audit(AudFault::Unsealed(number))) => {
-            Status::Needed(NeedFault::AuditUnsealed(number))
-        }
-        Err(PrintFault::Audit(AudFault::Foreign(number))) => {
-            Status::Needed(NeedFault::AuditForeign(number))
-        }
-        Err(PrintFault::Audit(AudFault::Damaged(file, block))) => Status::Damaged(file, block),
-        // Nothing is sealed, so no file is full.
-        Err(PrintFault::Audit(AudFault::Full(_) | AudFault::Memory)) => Status::Memory,
-    }
+    let printed = print_audit(alloc, site);
+    status_of(printed)
 }
