@@ -1,17 +1,21 @@
 -- What rows answer fits where they do, and they still fit after each call.
 use Rattle.std.proofs.Common.{◌≡◌, ℕ, List, [], Some, None, refl, sym, ap, ◌∙◌, subst}
-use Rattle.std.specs.Prelude.{IfSome}
+use Rattle.std.specs.Prelude.{IfSome, IfOk, OnOk, OnErr}
+use Rattle.std.specs.declared.result.Result.{Result}
+use Rattle.std.specs.declared.result.Result.TheVariants.{Ok, Err}
+use Rattle.dms_base.specs.declared.Memory.{Memory}
 use Rattle.std.specs.declared.option.Option.{Option}
 use Rattle.std.specs.FinMap.{get, get-empty, empty}
 use Rattle.dms_desc.specs.declared.record.Record.{Record}
 use Rattle.dms_desc.specs.Shape.{Described}
 use Rattle.dms_model.specs.declared.put.Put.{Put}
 use Rattle.dms_model.specs.Db.{Db, Records, place_cmp}
-use Rattle.dms_model.specs.Fitting.{PlaceFits, PutFits, RecordFits, RecordsFit}
-use Rattle.dms_model.specs.FitLaws.{after_fits}
-use Rattle.dms_model.specs.Stores.{put_after}
+use Rattle.dms_model.specs.Fitting.{IsNumber, PlaceFits, PutFits, RecordFits, RecordsFit}
+use Rattle.dms_model.specs.FitLaws.{after_fits, answer_fits}
+use Rattle.dms_model.specs.Stores.{put_after, put_answer}
 use Rattle.dms_plain.specs.declared.rows.Row.{Row}
 use Rattle.dms_plain.specs.declared.rows.Undo.{Undo}
+use Rattle.dms_plain.proofs.Maps.{no_rows}
 use Rattle.dms_plain.specs.Rows.{AllFit, db_of, records_in, undone}
 
 got_at : (desc : Described) (records : Records) (set n : ℕ) (o : Option Record) → get records (set, n) ≡ o → RecordsFit desc records → IfSome o (RecordFits desc set)
@@ -28,6 +32,14 @@ put_all_fit desc rows new undo undo' set rec a all own number db mark = record {
   mark = subst (RecordsFit desc) (sym mark) all.mark;
 }
 
+pub put_keeps : (desc : Described) (rows new : List Row) (undo undo' : List Undo) (set : ℕ) (number : Option ℕ) (rec : Record) (r : Result Put Memory) → AllFit desc rows undo → RecordFits desc set rec → IfSome number (IsNumber desc set)
+    → IfOk r (λ a. a ≡ put_answer desc (db_of (records_in rows)) set number rec) → IfOk r (λ a. db_of (records_in new) ≡ put_after a desc (db_of (records_in rows)) set rec)
+    → OnOk r (undone undo' (records_in new) ≡ undone undo (records_in rows)) → OnErr r (new ≡ rows) → OnErr r (undo' ≡ undo) → AllFit desc new undo'
+put_keeps desc rows new undo undo' set number rec (Ok a) all own named answer db mark same_rows same_undo =
+    put_all_fit desc rows new undo undo' set rec a all own (subst (PutFits desc set) (sym answer) (answer_fits desc (db_of (records_in rows)) set number rec named)) db mark
+put_keeps desc rows new undo undo' set number rec (Err e) all own named answer db mark same_rows same_undo =
+    subst (AllFit desc new) (sym same_undo) (subst (λ (rs : List Row). AllFit desc rs undo) (sym same_rows) all)
+
 pub forgotten : (desc : Described) (rows : List Row) (undo undo' : List Undo) → undo' ≡ [] → AllFit desc rows undo → AllFit desc rows undo'
 forgotten desc rows undo undo' none all = subst (AllFit desc rows) (sym none) (record { records = all.records; mark = all.records })
 
@@ -41,3 +53,9 @@ nothing C records place r none at = let gone = ap (λ (m : Records). get m place
 
 pub none_fit : (desc : Described) (records : Records) → records ≡ empty → RecordsFit desc records
 none_fit desc records none place r at = nothing (PlaceFits desc place r) records place r none at
+
+pub nothing_fits : (desc : Described) (rows : List Row) (undo : List Undo) → rows ≡ [] → undo ≡ [] → AllFit desc rows undo
+nothing_fits desc rows undo no_rows_are none = record {
+  records = none_fit desc (records_in rows) (ap records_in no_rows_are ∙ no_rows);
+  mark = none_fit desc (undone undo (records_in rows)) ((λ i. undone (none i) (records_in (no_rows_are i))) ∙ no_rows);
+}

@@ -1,5 +1,5 @@
 -- That records fit is a fact, of which there is one proof at most.
-use Rattle.std.proofs.Common.{List, [], ◌∷◌, ℕ, IsProp}
+use Rattle.std.proofs.Common.{List, [], ◌∷◌, ℕ}
 use Rattle.std.proofs.Props.{props}
 use Rattle.std.specs.Coded.{×_prop, Unit-prop}
 use Rattle.dms_base.specs.declared.value.Value.{Value}

@@ -17,9 +17,10 @@ use dms_desc::{Bound, Description, Record};
 use dms_model::{Put, Spot, Store};
 use dms_site::Site;
 use std::alloc::Global;
+use std::mem;
 
 /// A database that is a list of records, with nothing indexed. It writes no file, and forgets all when it is dropped. It
-/// keeps what stood before each change since the last quiet point.
+/// keeps what stood before each change since the last quiet point. A back-out that fails leaves nothing of it.
 #[derive(Drop)]
 pub struct PlainStore<S> {
     desc: Description,
@@ -164,8 +165,11 @@ impl<S: Site> Store for PlainStore<S> {
         Ok(())
     }
 
-    fn back_out(&mut self, _alloc: Global) -> Result<(), BlockFault> {
-        state::take_back(&mut self.rows, &mut self.undo)?;
+    fn back_out(&mut self, alloc: Global) -> Result<(), BlockFault> {
+        let mut undo = mem::replace(&mut self.undo, Vec::new(alloc));
+        let mut rows = mem::replace(&mut self.rows, Vec::new(alloc));
+        state::take_back(&mut rows, &mut undo)?;
+        self.rows = rows;
         self.outs = self.outs.saturating_add(1);
         Ok(())
     }

@@ -1,8 +1,9 @@
-use Rattle.std.proofs.Common.{◌∙◌, ap, refl, rules, List, Some}
+use Rattle.std.proofs.Common.{◌∙◌, ap, refl, rules, List, subst, sym, Some}
 use Rattle.dms_model.specs.Db.{Records}
 use Rattle.dms_plain.specs.declared.rows.Row.{Row}
-use Rattle.dms_plain.specs.Rows.{records_in, db_of, undone}
-use Rattle.dms_plain.proofs.Fits.{none_fit}
+use Rattle.dms_plain.specs.Rows.{IsInOrder, records_in, db_of, undone}
+use Rattle.dms_desc.specs.Shape.{described}
+use Rattle.dms_plain.proofs.Fits.{nothing_fits}
 use Rattle.dms_plain.proofs.Maps.{no_rows}
 use Rattle.dms_plain.proofs.store.PlainStore.new.Goals as goal
 
@@ -18,4 +19,10 @@ returns-in-Ok-clause-starts g c = record {
   fulls = refl;
   damages = refl;
   effort = refl;
+}
+
+pub invariant_of-result : goal.invariant_of-result
+invariant_of-result g c = record {
+  in_order = subst IsInOrder (sym c.new.ensures.items) tt;
+  fit = nothing_fits (described c.in-Ok.desc) c.new.result.items c.new-in-Ok.result.items c.new.ensures.items c.new-in-Ok.ensures.items;
 }
