@@ -1,9 +1,9 @@
 -- An Image or a quiet point is appended, and what waits is sealed.
-use Rattle.std.proofs.Common.{ℕ, ◌-◌, ◌+◌, ◌^◌, ◌≤◌, ◌<◌, ◌≡◌, List, [], ◌∷◌, ◌++◌, map, length, take, refl, sym, ◌∙◌, ap, subst, arith, append_assoc, length-append, Option}
-use Rattle.dms_moments.specs.Moments.{Clock, Now, Runs, Steps}
-use Rattle.dms_site.specs.Files.{Files, Left, Only, stored_of}
+use Rattle.std.proofs.Common.{ℕ, ◌-◌, ◌+◌, ◌^◌, ◌≤◌, ◌<◌, ◌≡◌, List, [], ◌∷◌, ◌++◌, map, length, take, sym, ◌∙◌, ap, subst, arith, append_assoc, length-append, Option}
+use Rattle.dms_moments.specs.Moments.{Clock, Now, Steps}
+use Rattle.dms_site.specs.Files.{Left, stored_of}
 use Rattle.dms_history.specs.Events.{Block, Content, Stored, Event, change, quiet}
-use Rattle.dms_history.specs.Replay.{Tells, replay, with_block}
+use Rattle.dms_history.specs.Replay.{Tells, with_block}
 use Rattle.dms_history.specs.Base.{from_control, Sound}
 use Rattle.dms_history.specs.Pick.{Dumps, blocks_at}
 use Rattle.dms_history.specs.History.{next_number}
@@ -18,10 +18,10 @@ use Rattle.dms_running.specs.Telling.{Telling, IsTelling}
 use Rattle.dms_running.specs.Standing.{MayRun}
 use Rattle.dms_running.specs.Points.{points_told, points_of, LeavesFront}
 use Rattle.dms_running.specs.Sealing.{Seals, Appended, IsSealed, Settled}
-use Rattle.dms_running.specs.Running.{State, entries_now, next_now, points_now, sure_now, here_now, content_now, IsPlain, AllPlain, count_live, IsRunning, IsRead, LeavesPoints}
+use Rattle.dms_running.specs.Running.{State, entries_now, next_now, points_now, sure_now, here_now, content_now, IsPlain, count_live, IsRunning, IsRead, LeavesPoints}
 use Rattle.dms_running.proofs.MayRun.{sound, points_are, may_image, content_image, live_image, may_quiet, content_quiet, live_quiet, content_at, new_place_at, other_dumps}
 use Rattle.dms_running.proofs.Plain.{plain_push, push_all, take_whole}
-use Rattle.dms_running.proofs.Stopped.{more_points, blocks_same, joined, each_read, whole_read, old_read, front_left, seals_leaves, append_runs, seal_runs}
+use Rattle.dms_running.proofs.Stopped.{more_points, blocks_same, joined, whole_read, old_read, front_left, seals_leaves, append_runs, seal_runs}
 
 -- the content that entries tell, where the files have these blocks
 pub content_of : (t : Telling) (a : State) (xs : List Entry) (st : Stored) (d : Dumps) (base : Content) → entries_now t a ≡ xs → stored_of a.files ≡ st → MayRun t.first xs d base st → content_now t a ≡ content_told xs base
@@ -203,8 +203,8 @@ module _ (t : Telling) (telling : IsTelling t) (a : State) (r : IsRunning t a) (
   sync_leaves later steps = seals_leaves t telling a a.waiting base r.settled r.each r.plain r.counted read later steps
 
   module _ (b : State) (sealed : IsSealed t a.waiting a.files b.files) (none : b.waiting ≡ []) where
-    pub sync_runs : Steps (Seals t a.waiting) a.clock b.clock → Only b.files b.clock → IsRunning t b
-    sync_runs steps only = seal_runs t telling a a.waiting base r.settled r.each r.plain r.counted read b steps only sealed none
+    pub sync_runs : Steps (Seals t a.waiting) a.clock b.clock → Settled t b.files b.clock → IsRunning t b
+    sync_runs steps settles = seal_runs t telling a a.waiting base r.settled r.each r.plain r.counted read b steps settles sealed none
 
     pub sync_entries : entries_now t b ≡ entries_now t a
     sync_entries = ap (λ (l : List Entry). t.entries b.files ++ l) none ∙ append_none (t.entries b.files) ∙ sealed.sealed

@@ -1,6 +1,6 @@
 -- A whole Schema and its Control, in part or whole, at the end of a restore or of a database that runs.
-use Rattle.std.proofs.Common.{ℕ, ◌+◌, ◌≤◌, ◌<◌, ◌≡◌, inl, inr, Bool, true, List, [], ◌∷◌, ◌++◌, length, take, Some, None, refl, sym, ◌∙◌, ap, subst, arith, append_assoc}
-use Rattle.dms_moments.specs.Moments.{Clock, Now, Runs, Steps}
+use Rattle.std.proofs.Common.{ℕ, ◌+◌, ◌≤◌, ◌<◌, ◌≡◌, inl, inr, Bool, true, List, [], ◌∷◌, ◌++◌, length, take, Some, sym, ◌∙◌, ap, subst, arith, append_assoc}
+use Rattle.dms_moments.specs.Moments.{Clock, Runs}
 use Rattle.dms_site.specs.Files.{Files, Left, Only, stored_of}
 use Rattle.dms_history.specs.Events.{Content, Stored, Event, control, block_in}
 use Rattle.dms_history.specs.Lists.{has}
@@ -9,7 +9,7 @@ use Rattle.dms_history.specs.History.{History, history, after_event, last_point,
 use Rattle.dms_history.specs.Base.{from_control, Sound}
 use Rattle.dms_history.specs.Pick.{Dumps}
 use Rattle.dms_history.specs.Here.{here}
-use Rattle.dms_history.specs.Points.{LivePoint, live_points, ListsPoints}
+use Rattle.dms_history.specs.Points.{live_points, ListsPoints}
 use Rattle.dms_history.specs.Entries.{Entry, schema_part, image, byte_range, quiet_point, control_point, begin_restore, counts_in}
 use Rattle.dms_history.specs.Replay.{replay}
 use Rattle.dms_history.specs.LawsOfKept.{KeptTelling}
@@ -31,14 +31,15 @@ use Rattle.dms_history.proofs.Listed.{points_listed, one_list}
 use Rattle.dms_history.proofs.ListSteps.{lists_control}
 use Rattle.dms_running.specs.Telling.{Telling, IsTelling}
 use Rattle.dms_running.specs.Standing.{Stands, MayRun}
-use Rattle.dms_running.specs.Points.{points_told, points_of, next_in}
-use Rattle.dms_running.specs.Sealing.{Seals, Appended, IsSealed, Settled}
-use Rattle.dms_running.specs.Running.{State, entries_now, next_now, content_now, points_now, IsRunning, IsRead, AllWritten}
+use Rattle.dms_running.specs.Points.{points_told, next_in}
+use Rattle.dms_running.specs.Sealing.{Seals, Appended, Settled}
+use Rattle.dms_running.specs.Running.{State, entries_now, content_now, points_now, IsRunning, IsRead, AllWritten}
 use Rattle.dms_running.specs.Begun.{LeavesAll, IsLast, IsSchemaControl}
 use Rattle.dms_running.proofs.MayRun.{idle, images_both}
 use Rattle.dms_running.proofs.Stopped.{blocks_same}
 use Rattle.dms_running.proofs.Appending.{content_of, now_runs, content_is}
-use Rattle.dms_running.proofs.Planned.{KeepsAll, still_runs, plan_appended, plan_sealed, plan_entries, plan_above}
+use Rattle.dms_running.specs.Plans.{KeepsAll, Planned}
+use Rattle.dms_running.proofs.Planned.{still_runs, plan_leaves}
 
 pub all_parts : (k all : ℕ) (bodies : List (List ℕ)) → AllSchemaParts (parts_of_schema k all bodies)
 all_parts k all [] = tt
@@ -122,11 +123,11 @@ module _ (first : Bool) (es : List Entry) (d : Dumps) (base : Content) (st : Sto
       pub part_stands : Stands first (es ++ take k plan) d base st
       part_stands = elim (schema_in_parts k one rest (control_point n next counts)) [
         | inl parts ↦ record {
-            kept = kept_in_parts first es d base st k one rest (control_point n next counts) s.kept kept;
-            described = ap (λ (h : History). has is_described h.live) (part_history parts) ∙ s.described;
-            base_sized = s.base_sized;
-            images_sized = subst (λ (h : History). ImagesSized (from_control h.live)) (sym (part_history parts)) s.images_sized;
-          }
+          kept = kept_in_parts first es d base st k one rest (control_point n next counts) s.kept kept;
+          described = ap (λ (h : History). has is_described h.live) (part_history parts) ∙ s.described;
+          base_sized = s.base_sized;
+          images_sized = subst (λ (h : History). ImagesSized (from_control h.live)) (sym (part_history parts)) s.images_sized;
+        }
         | inr all ↦ subst (λ (l : List Entry). Stands first (es ++ l) d base st) (sym all) whole_stands
       ]
 
@@ -204,11 +205,8 @@ module _ (t : Telling) (telling : IsTelling t) (a : State) (r : IsRunning t a) (
   whole = subst (λ (l : List Entry). MayRun t.first (t.entries a.files ++ l) (t.dumps a.files) base (stored_of a.files)) (sym c.is)
       (whole_may t.first (t.entries a.files) (t.dumps a.files) base (stored_of a.files) n (next_in t a.files) c.first c.rest counts m.stands kept placed (omega arith))
 
-  pub control_appended : (mid : Clock Left) → Steps (Seals t es) a.clock mid → LeavesAll t a mid
-  control_appended mid steps = plan_appended t telling es a base keeps only mid steps
-
-  pub control_leaves : (mid new : Clock Left) (files : Files) (waiting : List Entry) → Steps (Seals t es) a.clock mid → Settled t files mid → Appended t es a.files files waiting → Steps (Seals t waiting) mid new → LeavesAll t a new
-  control_leaves mid new files waiting one settled more two = plan_sealed t telling es a base keeps only mid new files waiting one settled more two
+  pub control_leaves : (later : Clock Left) → Runs a.clock later (Planned t es a.files) → LeavesAll t a later
+  control_leaves later runs = plan_leaves t telling es a base keeps only later runs
 
   module _ (b : State) (entries : t.entries b.files ≡ t.entries a.files ++ es) (above : (g : ℕ) → 20000 < g → b.files g ≡ a.files g) (empty : b.waiting ≡ []) where
     later_may : MayRun t.first (t.entries b.files) (t.dumps b.files) base (stored_of b.files)

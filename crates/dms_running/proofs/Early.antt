@@ -1,16 +1,15 @@
 -- A structure block is written early, torn or whole.
-use Rattle.std.proofs.Common.{ℕ, ◌+◌, ◌*◌, ◌≤◌, ◌<◌, ◌≡◌, ◌≢◌, inl, inr, Bool, true, false, List, [], ◌∷◌, ◌++◌, length, take, Option, Some, None, refl, sym, ◌∙◌, ap, subst, arith, append_assoc}
-use Rattle.dms_moments.specs.Moments.{Clock, Now, Runs, After, Steps}
+use Rattle.std.proofs.Common.{ℕ, ◌+◌, ◌*◌, ◌≤◌, ◌<◌, ◌≡◌, inl, inr, true, false, List, [], ◌∷◌, ◌++◌, length, take, None, refl, sym, ◌∙◌, ap, subst, arith, append_assoc}
+use Rattle.dms_moments.specs.Moments.{Clock, Now, Steps}
 use Rattle.dms_moments.specs.MomentLaws.{runs_weaken, runs_on}
-use Rattle.dms_site.specs.Files.{Files, Left, InFile, Torn, OnDisk, stored_of}
+use Rattle.dms_site.specs.Files.{Left, InFile, Torn, OnDisk, stored_of}
 use Rattle.dms_site.specs.StoredLaws.{stored_whole, stored_apart}
-use Rattle.dms_history.specs.Events.{Content, Stored, Event, block_in}
+use Rattle.dms_history.specs.Events.{Content, Event}
 use Rattle.dms_history.specs.Lists.{has, after_last}
 use Rattle.dms_history.specs.Places.{is_control}
 use Rattle.dms_history.specs.Images.{last_after}
-use Rattle.dms_history.specs.Base.{opening, from_control, Sound}
-use Rattle.dms_history.specs.Pick.{Dumps}
-use Rattle.dms_history.specs.Points.{LivePoint, live_points}
+use Rattle.dms_history.specs.Base.{opening, from_control}
+use Rattle.dms_history.specs.Points.{LivePoint}
 use Rattle.dms_history.specs.Entries.{Entry}
 use Rattle.dms_history.specs.EntryEvents.{live_of, next_of}
 use Rattle.dms_history.specs.Kept.{content_told}
@@ -24,7 +23,7 @@ use Rattle.dms_history.proofs.Runs.{after_push}
 use Rattle.dms_history.proofs.Listed.{points_stay}
 use Rattle.dms_running.specs.Telling.{Telling, IsTelling}
 use Rattle.dms_running.specs.Standing.{MayRun}
-use Rattle.dms_running.specs.Points.{points_told, points_of, LeavesFront}
+use Rattle.dms_running.specs.Points.{points_told, LeavesFront}
 use Rattle.dms_running.specs.Sealing.{IsSealed}
 use Rattle.dms_running.specs.Running.{State, entries_now, next_now, points_now, sure_now, content_now, count_live, IsRunning, IsRead, LeavesPoints, IsLogged, IsChanged, AllPlain}
 use Rattle.dms_running.proofs.MayRun.{sound, has_one, points_are, content_sized, may_write, other_dumps}
@@ -80,7 +79,7 @@ module _ (t : Telling) (telling : IsTelling t) (a : State) (r : IsRunning t a) (
         let whole = stored_whole y.files g c sized in
         stored_apart y.files x.files f b g c step.files
         (λ same at. still k y now (subst (λ j. last_after f j (after_last is_control (from_control (live_of (entries k)))) ≡ None) at
-            (subst (λ j. last_after j c (after_last is_control (from_control (live_of (entries k)))) ≡ None) same none)))
+        (subst (λ j. last_after j c (after_last is_control (from_control (live_of (entries k)))) ≡ None) same none)))
         (λ same less. subst (λ j. 1024 * c + 1024 ≤ length (y.files j)) same whole.1)
 
     low_same : (g : ℕ) → g ≤ 30000 → x.files g ≡ y.files g

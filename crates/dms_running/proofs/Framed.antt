@@ -1,12 +1,12 @@
 -- Frames over a running database.
-use Rattle.std.proofs.Common.{ℕ, ◌+◌, ◌*◌, ◌≤◌, ◌<◌, max, ◌≡◌, ◌≢◌, ◌⊎◌, inl, inr, Bool, true, false, cond, List, [], ◌∷◌, ◌++◌, length, Option, Some, None, refl, sym, ◌∙◌, ap, subst, arith}
+use Rattle.std.proofs.Common.{ℕ, ◌+◌, ◌*◌, ◌≤◌, ◌<◌, ◌≡◌, ◌⊎◌, inl, inr, true, false, cond, List, [], ◌∷◌, ◌++◌, length, Option, Some, None, refl, sym, ◌∙◌, ap, subst, arith}
 use Rattle.std.proofs.lemmas.Bool.{cases_eq}
 use Rattle.dms_site.specs.Files.{Files, with_file, overlaid, InFile, Torn, stored_of}
 use Rattle.dms_site.specs.Laws.{torn_overlaid, in_file_with}
 use Rattle.dms_site.specs.StoredLaws.{stored_whole, stored_apart, stored_written}
 use Rattle.dms_history.specs.Events.{Block, Content, Stored, Event, change, block_in}
 use Rattle.dms_history.specs.Replay.{Tells, with_block}
-use Rattle.dms_history.specs.Lists.{has, after_last}
+use Rattle.dms_history.specs.Lists.{after_last}
 use Rattle.dms_history.specs.Places.{is_control}
 use Rattle.dms_history.specs.Images.{is_at, last_after}
 use Rattle.dms_history.specs.History.{History, history}

@@ -6,3 +6,8 @@ pub mod Early
 pub mod Framed
 pub mod Planned
 pub mod Controlled
+pub mod Beginning
+pub mod Rewriting
+pub mod Restored
+pub mod Ending
+pub mod Wholes

@@ -1,33 +1,31 @@
 -- A database that may run, with one entry more or other blocks.
-use Rattle.std.proofs.Common.{ℕ, ◌-◌, ◌+◌, ◌^◌, ◌≤◌, ◌<◌, ◌≡◌, inl, inr, Bool, true, false, cond, List, [], ◌∷◌, ◌++◌, length, get_or, Option, Some, None, refl, sym, ◌∙◌, ap, subst, arith}
+use Rattle.std.proofs.Common.{ℕ, ◌-◌, ◌^◌, ◌≤◌, ◌<◌, ◌≡◌, Bool, true, false, cond, List, [], ◌∷◌, ◌++◌, length, Option, Some, None, refl, sym, ◌∙◌, ap, subst, arith}
 use Rattle.std.specs.Prelude.{◌&&◌, not}
-use Rattle.dms_history.specs.Events.{Block, Content, Stored, Event, change, quiet, control, begin, block_in}
-use Rattle.dms_history.specs.Replay.{Tells, replay, with_block}
-use Rattle.dms_history.specs.Lists.{has, until_first, after_last}
-use Rattle.dms_history.specs.Places.{is_control, is_described, is_point, IsLive}
-use Rattle.dms_history.specs.History.{History, history, after_event, last_point}
+use Rattle.dms_history.specs.Events.{Block, Content, Stored, Event, change, quiet, control, begin}
+use Rattle.dms_history.specs.Replay.{Tells, with_block}
+use Rattle.dms_history.specs.Lists.{has, after_last}
+use Rattle.dms_history.specs.Places.{is_control, is_described, is_point}
+use Rattle.dms_history.specs.History.{History, history, after_event}
 use Rattle.dms_history.specs.Images.{last_after}
-use Rattle.dms_history.specs.Base.{opening, from_control, Sound}
+use Rattle.dms_history.specs.Base.{from_control, Sound}
 use Rattle.dms_history.specs.Pick.{Dumps, blocks_at}
 use Rattle.dms_history.specs.Here.{here}
-use Rattle.dms_history.specs.Points.{LivePoint, numbers_from, live_numbers, point_at, live_points}
+use Rattle.dms_history.specs.Points.{numbers_from, live_points}
 use Rattle.dms_history.specs.Entries.{Entry, image, quiet_point}
 use Rattle.dms_history.specs.EntryEvents.{events, history_of, live_of, next_of}
 use Rattle.dms_history.specs.Kept.{content_told, Kept}
 use Rattle.dms_history.specs.LawsOfKept.{IsIdle}
 use Rattle.dms_history.specs.Sizes.{AllSized, IsSizedBefore, ImagesSized}
-use Rattle.dms_history.proofs.AtPoints.{true_or, replay_append}
+use Rattle.dms_history.proofs.AtPoints.{true_or}
 use Rattle.dms_history.proofs.Base.{has_append}
 use Rattle.dms_history.proofs.Converse.{opening_append}
 use Rattle.dms_history.proofs.Given.{described_control}
 use Rattle.dms_history.proofs.Again.{here_unpending}
 use Rattle.dms_history.proofs.LastPending.{no_dump_counts}
-use Rattle.dms_history.proofs.Order.{append_none}
 use Rattle.dms_history.proofs.Running.{above_all, quiet_is_live}
 use Rattle.dms_history.proofs.Sealed.{image_sealed, quiet_sealed, one_more_event}
 use Rattle.dms_history.proofs.Sizing.{sized_replay}
 use Rattle.dms_history.proofs.Keeping.{kept_image, kept_quiet, kept_writes}
-use Rattle.dms_history.proofs.Listed.{points_front, points_stay}
 use Rattle.dms_running.specs.Standing.{Stands, MayRun}
 use Rattle.dms_running.specs.Points.{points_told}
 
@@ -141,7 +139,6 @@ module _ (first : Bool) (es : List Entry) (dumps : Dumps) (base : Content) (stor
       let off : has (is_point n) (live_of es) ≡ false = above_all (live_of es) (next_of es) n m.stands.kept.numbered free in
       let told : has is_described (live_of es ++ quiet n ∷ []) ≡ true = has_append is_described (live_of es) (quiet n ∷ []) ∙ true_or (has is_described (live_of es)) (has is_described (quiet n ∷ [])) m.stands.described in
       λ i. cond (not (off i) && told i) (n ∷ []) [] ++ []
-
 
 -- where no restore is pending no dump counts
 pub other_dumps : (first : Bool) (es : List Entry) (dumps : Dumps) (base : Content) (stored : Stored) → MayRun first es dumps base stored → (others : Dumps) → MayRun first es others base stored

@@ -1,5 +1,5 @@
 -- Entries that wait between two control points.
-use Rattle.std.proofs.Common.{ℕ, zero, suc, ◌≤◌, ◌≡◌, ◌||◌, Bool, false, List, [], ◌∷◌, ◌++◌, take, drop, length, refl, sym, ◌∙◌, ap, subst, arith, append_assoc}
+use Rattle.std.proofs.Common.{ℕ, zero, suc, ◌≡◌, ◌||◌, false, List, [], ◌∷◌, ◌++◌, take, drop, length, refl, sym, ◌∙◌, ap, subst, append_assoc}
 use Rattle.std.proofs.lemmas.List.{take_at, take-append-drop}
 use Rattle.dms_history.specs.Events.{Event, change, quiet}
 use Rattle.dms_history.specs.Lists.{has}

@@ -1,9 +1,9 @@
 -- A planned list of entries, appended and sealed over files on which nothing is pending.
-use Rattle.std.proofs.Common.{ℕ, ◌+◌, ◌≤◌, ◌<◌, ◌≡◌, inl, inr, List, [], ◌∷◌, ◌++◌, length, take, drop, refl, sym, ◌∙◌, ap, subst, arith, append_assoc}
-use Rattle.std.proofs.lemmas.List.{take_all}
-use Rattle.std.proofs.Math.Seq.{take-add}
-use Rattle.dms_moments.specs.Moments.{Clock, Now, Runs, After, Steps}
-use Rattle.dms_moments.specs.MomentLaws.{runs_on, runs_weaken}
+use Rattle.std.proofs.Common.{ℕ, zero, suc, min, ◌+◌, ◌≤◌, ◌<◌, ◌≡◌, List, [], ◌∷◌, ◌++◌, length, take, drop, refl, sym, ◌∙◌, ap, subst, arith, append_assoc}
+use Rattle.std.proofs.lemmas.List.{take_all, take-append-drop}
+use Rattle.std.proofs.Math.Seq.{take-append-add}
+use Rattle.dms_moments.specs.Moments.{Clock, Now, Runs, Steps}
+use Rattle.dms_moments.specs.MomentLaws.{runs_none, runs_on, runs_weaken}
 use Rattle.dms_site.specs.Files.{Files, Left, Only, stored_of}
 use Rattle.dms_history.specs.Events.{Content, Stored}
 use Rattle.dms_history.specs.Pick.{Dumps}
@@ -17,6 +17,7 @@ use Rattle.dms_running.specs.Points.{points_told, points_of, next_in, LeavesFron
 use Rattle.dms_running.specs.Sealing.{Seals, Appended, IsSealed, Settled}
 use Rattle.dms_running.specs.Running.{State, entries_now, count_live, AllPlain, IsRunning}
 use Rattle.dms_running.specs.Begun.{LeavesAll}
+use Rattle.dms_running.specs.Plans.{Planned, Lays, KeepsAll}
 use Rattle.dms_running.proofs.Plain.{take_nothing}
 use Rattle.dms_running.proofs.Stopped.{blocks_same, joined}
 
@@ -50,40 +51,76 @@ still_runs t b base only none m =
       counted = λ k. omega (arith, ap (λ (l : List Entry). next_of l) (is k), ap (λ (l : List Entry). count_live l) (is k), ap (λ (l : List Entry). next_of l) now_is, ap (λ (l : List Entry). count_live l) now_is);
     }
 
--- the first so many of the planned entries are sealed
-pub record Planned (t : Telling) (es : List Entry) (start : Files) (x : Left) : Type 0 where
-  pub some : ℕ
-  pub sealed : t.entries x.files ≡ t.entries start ++ take some es
-  pub above : (g : ℕ) → 20000 < g → x.files g ≡ start g
+take_front : (k : ℕ) (xs ys : List Entry) → take k xs ≡ take (min k (length xs)) (xs ++ ys)
+take_front zero xs ys = let e : min 0 (length xs) ≡ 0 = omega arith in ap (λ n. take n (xs ++ ys)) (sym e)
+take_front (suc k) [] ys = let e : min (suc k) 0 ≡ 0 = omega arith in ap (λ n. take n ys) (sym e)
+take_front (suc k) (x ∷ xs) ys =
+    let e : min (suc k) (length (x ∷ xs)) ≡ suc (min k (length xs)) = omega arith in ap (λ (l : List Entry). x ∷ l) (take_front k xs ys) ∙ ap (λ n. take n ((x ∷ xs) ++ ys)) (sym e)
 
-module _ (t : Telling) (es : List Entry) (start : Files) where
-  plan_first : (old new : Clock Left) → Only start old → Steps (Seals t es) old new → Runs old new (Planned t es start) × ((x : Left) → Now new x → Planned t es start x)
-  plan_first old new only steps = (runs_weaken steps.runs (λ x a. planned a.0 x a.1 a.2), λ x now. let a = steps.follows x now in planned a.0 x a.1 a.2)
-    where
-      planned : (y x : Left) → Now old y → Seals t es y x → Planned t es start x
-      planned y x now s = record {
-        some = s.some;
-        sealed = s.sealed ∙ ap (λ (l : Files). t.entries l ++ take s.some es) (only y now);
-        above = λ g up. s.above g up ∙ ap (λ (l : Files). l g) (only y now);
-      }
+drop_behind : (xs ys : List Entry) (k : ℕ) → drop (length xs + k) (xs ++ ys) ≡ drop k ys
+drop_behind [] ys k = refl
+drop_behind (x ∷ xs) ys k = let e : length (x ∷ xs) + k ≡ suc (length xs + k) = omega arith in ap (λ n. drop n ((x ∷ xs) ++ ys)) e ∙ drop_behind xs ys k
 
-  plan_next : (old new : Clock Left) (files : Files) (waiting : List Entry) → ((x : Left) → Now old x → Planned t es start x) → Settled t files old → Appended t es start files waiting
-      → Steps (Seals t waiting) old new → Runs old new (Planned t es start) × ((x : Left) → Now new x → Planned t es start x)
-  plan_next old new files waiting was settled a steps = (runs_weaken steps.runs (λ x f. planned f.0 x f.1 f.2), λ x now. let f = steps.follows x now in planned f.0 x f.1 f.2)
-    where
-      planned : (y x : Left) → Now old y → Seals t waiting y x → Planned t es start x
-      planned y x now s = record {
-        some = a.some + s.some;
-        sealed = s.sealed ∙ (λ i. (settled y now ∙ a.sealed) i ++ take s.some (a.rest i)) ∙ append_assoc (t.entries start) (take a.some es) (take s.some (drop a.some es))
-            ∙ ap (λ (l : List Entry). t.entries start ++ l) (sym (take-add a.some s.some es));
-        above = λ g up. s.above g up ∙ (was y now).above g up;
-      }
+-- fewer entries than are planned
+pub planned_more : (t : Telling) (es rest : List Entry) (start : Files) (x : Left) → Planned t es start x → Planned t (es ++ rest) start x
+planned_more t es rest start x p = record {
+  some = min p.some (length es);
+  sealed = p.sealed ∙ ap (λ (l : List Entry). t.entries start ++ l) (take_front p.some es rest);
+  above = p.above;
+}
 
--- What holds of each front of a plan: it has the points of the start, a next number that is no lower, and stands.
-pub record KeepsAll (t : Telling) (es : List Entry) (start : Files) (base : Content) : Type 0 where
-  pub points : (k : ℕ) → points_told (t.dumps start) (t.entries start ++ take k es) (stored_of start) ≡ points_of t start
-  pub next : (k : ℕ) → next_in t start ≤ next_of (t.entries start ++ take k es)
-  pub stands : (k : ℕ) → Stands t.first (t.entries start ++ take k es) (t.dumps start) base (stored_of start)
+pub lays_none : (t : Telling) (a : State) → Only a.files a.clock → a.waiting ≡ [] → Lays t [] a.files a.clock a
+lays_none t a only nothing = record {
+  appended = record { some = 0; sealed = sym (append_none (t.entries a.files)); rest = nothing; above = λ g up. refl };
+  settled = λ x now. ap t.entries (only x now);
+  since = runs_none a.clock (Planned t [] a.files);
+  now = λ x now. record { some = 0; sealed = ap t.entries (only x now) ∙ sym (append_none (t.entries a.files)); above = λ g up. ap (λ (l : Files). l g) (only x now) };
+}
+
+module _ (t : Telling) (es : List Entry) (start : Files) (old : Clock Left) (s : State) (l : Lays t es start old s) where
+  abbrev pub sealed_part : List Entry
+  sealed_part = take l.appended.some es
+
+  halves : (more : List Entry) → es ++ more ≡ sealed_part ++ (s.waiting ++ more)
+  halves more = ap (λ (k : List Entry). k ++ more) (sym (take-append-drop l.appended.some es)) ∙ append_assoc sealed_part (drop l.appended.some es) more ∙ ap (λ (k : List Entry). sealed_part ++ (k ++ more)) (sym l.appended.rest)
+
+  -- so many more are sealed
+  sealed_more : (more : List Entry) (k : ℕ) → (t.entries start ++ sealed_part) ++ take k (s.waiting ++ more) ≡ t.entries start ++ take (length sealed_part + k) (es ++ more)
+  sealed_more more k =
+      append_assoc (t.entries start) sealed_part (take k (s.waiting ++ more))
+      ∙ ap (λ (j : List Entry). t.entries start ++ j) (sym (take-append-add sealed_part (s.waiting ++ more) k) ∙ ap (λ (j : List Entry). take (length sealed_part + k) j) (sym (halves more)))
+
+  -- what a stop leaves while these and some more are sealed
+  reached : (more : List Entry) (y x : Left) → Now s.clock y → Seals t (s.waiting ++ more) y x → Planned t (es ++ more) start x
+  reached more y x now seals = record {
+    some = length sealed_part + seals.some;
+    sealed = seals.sealed ∙ ap (λ (j : List Entry). j ++ take seals.some (s.waiting ++ more)) (l.settled y now ∙ l.appended.sealed) ∙ sealed_more more seals.some;
+    above = λ g up. seals.above g up ∙ (l.now y now).above g up;
+  }
+
+  pub lays_since : (more : List Entry) (later : Clock Left) → Steps (Seals t (s.waiting ++ more)) s.clock later → Runs old later (Planned t (es ++ more) start)
+  lays_since more later steps = runs_on (runs_weaken l.since (λ x p. planned_more t es more start x p)) (runs_weaken steps.runs (λ x after. reached more after.0 x after.1 after.2)) (λ x p. p)
+
+  pub lays_more : (more : List Entry) (b : State) → Steps (Seals t (s.waiting ++ more)) s.clock b.clock → Settled t b.files b.clock → Appended t (s.waiting ++ more) s.files b.files b.waiting → Lays t (es ++ more) start old b
+  lays_more more b steps settles a = record {
+    appended = record {
+      some = length sealed_part + a.some;
+      sealed = a.sealed ∙ ap (λ (j : List Entry). j ++ take a.some (s.waiting ++ more)) l.appended.sealed ∙ sealed_more more a.some;
+      rest = a.rest ∙ sym (ap (λ (j : List Entry). drop (length sealed_part + a.some) j) (halves more) ∙ drop_behind sealed_part (s.waiting ++ more) a.some);
+      above = λ g up. a.above g up ∙ l.appended.above g up;
+    };
+    settled = settles;
+    since = lays_since more b.clock steps;
+    now = λ x now. let after = steps.follows x now in reached more after.0 x after.1 after.2;
+  }
+
+  -- what waits is sealed
+  pub lays_sealing : (later : Clock Left) → Steps (Seals t s.waiting) s.clock later → Runs old later (Planned t es start)
+  lays_sealing later steps = subst (λ (j : List Entry). Runs old later (Planned t j start)) (append_none es)
+      (lays_since [] later (subst (λ (j : List Entry). Steps (Seals t j) s.clock later) (sym (append_none s.waiting)) steps))
+
+  pub lays_sealed : (later : Files) → IsSealed t s.waiting s.files later → (t.entries later ≡ t.entries start ++ es) × ((g : ℕ) → 20000 < g → later g ≡ start g)
+  lays_sealed later sealed = (sealed.sealed ∙ joined t es s.waiting start s.files l.appended, λ g up. sealed.above g up ∙ l.appended.above g up)
 
 module _ (t : Telling) (telling : IsTelling t) (es : List Entry) (a : State) (base : Content) (keeps : KeepsAll t es a.files base) (only : Only a.files a.clock) where
   planned_front : (x : Left) → Planned t es a.files x → LeavesFront t (points_of t a.files) (length (points_of t a.files)) (next_in t a.files) x
@@ -93,19 +130,6 @@ module _ (t : Telling) (telling : IsTelling t) (es : List Entry) (a : State) (ba
       (subst (λ (l : List Entry). next_in t a.files ≤ next_of l) (sym p.sealed) (keeps.next p.some))
       (record { base = base; stands = carried t telling a.files x.files (t.entries x.files) base p.above (subst (λ (l : List Entry). Stands t.first l (t.dumps a.files) base (stored_of a.files)) (sym p.sealed) (keeps.stands p.some)) })
 
-  -- the planned entries are appended
-  pub plan_appended : (mid : Clock Left) → Steps (Seals t es) a.clock mid → LeavesAll t a mid
-  plan_appended mid steps = runs_weaken (plan_first t es a.files a.clock mid only steps).0 planned_front
-
-  -- and sealed
-  pub plan_sealed : (mid new : Clock Left) (files : Files) (waiting : List Entry) → Steps (Seals t es) a.clock mid → Settled t files mid → Appended t es a.files files waiting → Steps (Seals t waiting) mid new → LeavesAll t a new
-  plan_sealed mid new files waiting one settled more two =
-      let first = plan_first t es a.files a.clock mid only one in
-      runs_weaken (runs_on first.0 (plan_next t es a.files mid new files waiting first.1 settled more two).0 (λ x p. p)) planned_front
-
--- the entries in the end
-pub plan_entries : (t : Telling) (es waiting : List Entry) (start files later : Files) → Appended t es start files waiting → IsSealed t waiting files later → t.entries later ≡ t.entries start ++ es
-plan_entries t es waiting start files later more sealed = sealed.sealed ∙ joined t es waiting start files more
-
-pub plan_above : (t : Telling) (es waiting : List Entry) (start files later : Files) → Appended t es start files waiting → IsSealed t waiting files later → (g : ℕ) → 20000 < g → later g ≡ start g
-plan_above t es waiting start files later more sealed g up = sealed.above g up ∙ more.above g up
+  -- a stop while they are appended and sealed leaves all points
+  pub plan_leaves : (later : Clock Left) → Runs a.clock later (Planned t es a.files) → LeavesAll t a later
+  plan_leaves later runs = runs_weaken runs planned_front

@@ -1,10 +1,10 @@
 -- What a stop leaves while entries are appended and sealed.
-use Rattle.std.proofs.Common.{ℕ, ◌+◌, ◌≤◌, ◌<◌, ◌≡◌, Bool, List, [], ◌∷◌, ◌++◌, map, length, take, drop, refl, sym, ◌∙◌, ap, subst, arith, append_assoc, length-append}
-use Rattle.std.proofs.lemmas.List.{take-append-drop, take_at, take_all, length-map}
+use Rattle.std.proofs.Common.{ℕ, ◌+◌, ◌≤◌, ◌<◌, ◌≡◌, Bool, List, [], ◌++◌, map, length, take, drop, refl, sym, ◌∙◌, ap, subst, arith, append_assoc, length-append}
+use Rattle.std.proofs.lemmas.List.{take_at, length-map}
 use Rattle.std.proofs.Math.Seq.{take-add}
-use Rattle.dms_moments.specs.Moments.{Clock, Now, Runs, After, Steps}
+use Rattle.dms_moments.specs.Moments.{Clock, Now, Steps}
 use Rattle.dms_moments.specs.MomentLaws.{runs_weaken}
-use Rattle.dms_site.specs.Files.{Files, Left, Only, stored_of}
+use Rattle.dms_site.specs.Files.{Files, Left, stored_of}
 use Rattle.dms_site.specs.StoredLaws.{stored_same}
 use Rattle.dms_history.specs.Events.{Content, Stored, Event}
 use Rattle.dms_history.specs.Base.{from_control, Sound}
@@ -18,7 +18,7 @@ use Rattle.dms_running.specs.Telling.{Telling, IsTelling}
 use Rattle.dms_running.specs.Standing.{Stands, MayRun}
 use Rattle.dms_running.specs.Points.{points_told, points_of, LeavesFront}
 use Rattle.dms_running.specs.Sealing.{Seals, Appended, IsSealed, Settled}
-use Rattle.dms_running.specs.Running.{State, entries_now, next_now, AllPlain, count_live, IsRunning, IsRead, LeavesPoints}
+use Rattle.dms_running.specs.Running.{State, entries_now, AllPlain, count_live, IsRunning, IsRead, LeavesPoints}
 use Rattle.dms_running.proofs.MayRun.{sound, points_are}
 use Rattle.dms_running.proofs.Plain.{plain_grows, plain_drop, plain_take, take_nothing, take_whole, split_behind}
 
@@ -35,12 +35,13 @@ pub more_points : (first : Bool) (xs ys : List Entry) (d e : Dumps) (base : Cont
     → (rest : List LivePoint) × (points_told e (xs ++ ys) two ≡ points_told d xs one ++ rest)
 more_points first xs ys d e base one two plain before after =
     let grown = plain_grows xs ys plain in
-    let rest = map (point_at (live_of xs ++ grown.more) two) (numbers_from (live_of xs) grown.more) in
-    (rest,
+    let rest = map (point_at (live_of xs ++ grown.more) two) (numbers_from (live_of xs) grown.more) in (
+      rest,
       points_are first (xs ++ ys) e base two after
-      ∙ ap (λ (l : List Event). live_points l two) grown.live
-      ∙ points_front (live_of xs) grown.more base one two (sound first xs d base one before) (subst (λ (l : List Event). Sound (from_control l) base two) grown.live (sound first (xs ++ ys) e base two after))
-      ∙ ap (λ (l : List LivePoint). l ++ rest) (sym (points_are first xs d base one before)))
+          ∙ ap (λ (l : List Event). live_points l two) grown.live
+          ∙ points_front (live_of xs) grown.more base one two (sound first xs d base one before) (subst (λ (l : List Event). Sound (from_control l) base two) grown.live (sound first (xs ++ ys) e base two after))
+          ∙ ap (λ (l : List LivePoint). l ++ rest) (sym (points_are first xs d base one before)),
+    )
 
 -- files that agree above 20,000 hold the same blocks and dumps
 pub blocks_same : (x y : Files) → ((g : ℕ) → 20000 < g → x g ≡ y g) → stored_of x ≡ stored_of y
@@ -80,8 +81,13 @@ module _ (t : Telling) (telling : IsTelling t) (a : State) (es : List Entry) (ba
         enough = omega (arith, ap (λ (l : List LivePoint). length l) less.1, length-append (points_of t a.files) less.0);
         within = omega (arith, ap (λ (l : List LivePoint). length l) halves, length-append part more.0);
         is = same ∙ sym (take_at part more.0 (length part) refl) ∙ ap (λ (l : List LivePoint). take (length part) l) (sym halves);
-        not_fallen = omega (arith, counted k, ap (λ (l : List Entry). next_of l) is, count_told t.first (old ++ take k es) (t.dumps x.files) base (stored_of x.files) here,
-            count_told t.first (old ++ es) (t.dumps a.files) base (stored_of a.files) whole_read);
+        not_fallen = omega (
+          arith,
+          counted k,
+          ap (λ (l : List Entry). next_of l) is,
+          count_told t.first (old ++ take k es) (t.dumps x.files) base (stored_of x.files) here,
+          count_told t.first (old ++ es) (t.dumps a.files) base (stored_of a.files) whole_read,
+        );
         whole = record { base = base; stands = subst (λ (l : List Entry). Stands t.first l (t.dumps x.files) base (stored_of x.files)) (sym is) here.stands };
       }
 
@@ -100,7 +106,7 @@ module _ (t : Telling) (telling : IsTelling t) (a : State) (es : List Entry) (ba
   pub append_runs : (b : State) → Steps (Seals t es) a.clock b.clock → Settled t b.files b.clock → Appended t es a.files b.files b.waiting → IsRunning t b
   append_runs b steps settles more =
       let joins : (k : ℕ) → old ++ take (more.some + k) es ≡ t.entries b.files ++ take k b.waiting = λ k.
-          ap (λ (l : List Entry). old ++ l) (take-add more.some k es) ∙ sym (append_assoc old (take more.some es) (take k (drop more.some es))) ∙ (λ i. sym more.sealed i ++ take k (sym more.rest i)) in
+      ap (λ (l : List Entry). old ++ l) (take-add more.some k es) ∙ sym (append_assoc old (take more.some es) (take k (drop more.some es))) ∙ (λ i. sym more.sealed i ++ take k (sym more.rest i)) in
       let all : old ++ es ≡ entries_now t b = sym (joined t es b.waiting a.files b.files more) in
       record {
         base = base;
@@ -113,14 +119,14 @@ module _ (t : Telling) (telling : IsTelling t) (a : State) (es : List Entry) (ba
             (subst (λ (l : List Entry). next_of (old ++ es) + count_live l ≤ next_of l + count_live (old ++ es)) (joins k) (counted (more.some + k)));
       }
 
-  pub seal_runs : (b : State) → Steps (Seals t es) a.clock b.clock → Only b.files b.clock → IsSealed t es a.files b.files → b.waiting ≡ [] → IsRunning t b
-  seal_runs b steps only all none =
+  pub seal_runs : (b : State) → Steps (Seals t es) a.clock b.clock → Settled t b.files b.clock → IsSealed t es a.files b.files → b.waiting ≡ [] → IsRunning t b
+  seal_runs b steps settles all none =
       let joins : (k : ℕ) → old ++ take (length es) es ≡ t.entries b.files ++ take k b.waiting = λ k.
-          ap (λ (l : List Entry). old ++ l) (take_whole es) ∙ sym all.sealed ∙ sym (append_none (t.entries b.files)) ∙ ap (λ (l : List Entry). t.entries b.files ++ l) (sym (take_nothing k b.waiting none)) in
+      ap (λ (l : List Entry). old ++ l) (take_whole es) ∙ sym all.sealed ∙ sym (append_none (t.entries b.files)) ∙ ap (λ (l : List Entry). t.entries b.files ++ l) (sym (take_nothing k b.waiting none)) in
       let now_is : (k : ℕ) → entries_now t b ≡ t.entries b.files ++ take k b.waiting = λ k. ap (λ (l : List Entry). t.entries b.files ++ l) (none ∙ sym (take_nothing k b.waiting none)) in
       record {
         base = base;
-        settled = λ x now. ap t.entries (only x now);
+        settled = settles;
         each = λ k x now.
             let after = steps.follows x now in
             subst (λ (l : List Entry). MayRun t.first l (t.dumps x.files) base (stored_of x.files)) (joins k) (sealed_each after.0 x after.2 after.1 (length es));

@@ -1,13 +1,13 @@
 -- A database over which a restore is begun, and how one ends.
-use Rattle.std.specs.Prelude.{ℕ, ◌<◌, ◌≡◌, List, [], ◌∷◌, ◌++◌, length, Some}
+use Rattle.std.specs.Prelude.{ℕ, ◌<◌, ◌≡◌, List, [], ◌∷◌, ◌++◌, Some}
 use Rattle.dms_moments.specs.Moments.{Clock, Now}
-use Rattle.dms_site.specs.Files.{Files, Left, stored_of}
+use Rattle.dms_site.specs.Files.{Left, stored_of}
 use Rattle.dms_history.specs.Events.{Content, How, halt_load, back_out, roll_back, rebuild, reconstruct}
 use Rattle.dms_history.specs.Places.{IsLive}
 use Rattle.dms_history.specs.History.{Pending, last_point}
 use Rattle.dms_history.specs.Pick.{count_at, blocks_at}
 use Rattle.dms_history.specs.Here.{here, outcome}
-use Rattle.dms_history.specs.Entries.{Entry, control_point, counts_in}
+use Rattle.dms_history.specs.Entries.{Entry, control_point}
 use Rattle.dms_history.specs.Schemas.{schema_entries}
 use Rattle.dms_history.specs.declared.event.FileCount.{FileCount}
 use Rattle.dms_history.specs.EntryEvents.{history_of, live_of}
@@ -15,7 +15,7 @@ use Rattle.dms_running.specs.Telling.{Telling}
 use Rattle.dms_running.specs.Standing.{Stands}
 use Rattle.dms_running.specs.Points.{points_of, next_in}
 use Rattle.dms_running.specs.Sealing.{Settled}
-use Rattle.dms_running.specs.Running.{State, entries_now, content_now, LeavesPoints}
+use Rattle.dms_running.specs.Running.{State, entries_now, LeavesPoints}
 
 -- a restore that takes no block from a dump
 abbrev pub ByAudit : How → Type 0

@@ -6,3 +6,5 @@ pub mod Running
 pub mod Frames
 pub mod Restoring
 pub mod Begun
+pub mod Plans
+pub mod Laws
