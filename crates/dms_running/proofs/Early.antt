@@ -28,7 +28,7 @@ use Rattle.dms_running.specs.Sealing.{IsSealed}
 use Rattle.dms_running.specs.Running.{State, entries_now, next_now, points_now, sure_now, content_now, count_live, IsRunning, IsRead, LeavesPoints, IsLogged, IsChanged, AllPlain}
 use Rattle.dms_running.proofs.MayRun.{sound, has_one, points_are, content_sized, may_write, other_dumps}
 use Rattle.dms_running.proofs.Plain.{plain_grows, plain_take}
-use Rattle.dms_running.proofs.Stopped.{front_left}
+use Rattle.dms_running.proofs.Stopped.{front_left, old_read, count_told}
 use Rattle.dms_running.proofs.Appending.{content_of, now_runs, content_is}
 
 -- ---- blocks with a change since the last Control
@@ -137,6 +137,13 @@ module _ (t : Telling) (telling : IsTelling t) (a : State) (r : IsRunning t a) (
 
         pub early_content : content_now t c ≡ content_now t a
         early_content = content_of t c (entries_now t a) (stored_of c.files) (t.dumps c.files) base later_all refl later_may ∙ sym (content_is t telling a r read)
+
+        pub early_sure : sure_now t c ≡ sure_now t a
+        early_sure =
+            let one = old_read t telling a a.waiting r.base r.settled r.each r.plain r.counted read in
+            let two = old_read t telling c c.waiting early_runs.base early_runs.settled early_runs.each early_runs.plain early_runs.counted reads in
+            count_told t.first (t.entries c.files) (t.dumps c.files) early_runs.base (stored_of c.files) two ∙ ap (λ (l : List Entry). count_live l) later_entries
+            ∙ sym (count_told t.first (t.entries a.files) (t.dumps a.files) r.base (stored_of a.files) one)
 
 -- what was changed before the entries were sealed
 pub changed_sealed : (t : Telling) (a b : State) (f k : ℕ) → IsSealed t a.waiting a.files b.files → IsChanged t a f k → IsLogged t b.files f k

@@ -11,3 +11,4 @@ pub mod Rewriting
 pub mod Restored
 pub mod Ending
 pub mod Wholes
+pub mod Looking

@@ -58,7 +58,7 @@ take_front (suc k) (x ∷ xs) ys =
     let e : min (suc k) (length (x ∷ xs)) ≡ suc (min k (length xs)) = omega arith in ap (λ (l : List Entry). x ∷ l) (take_front k xs ys) ∙ ap (λ n. take n ((x ∷ xs) ++ ys)) (sym e)
 
 drop_behind : (xs ys : List Entry) (k : ℕ) → drop (length xs + k) (xs ++ ys) ≡ drop k ys
-drop_behind [] ys k = refl
+drop_behind [] ys k = let e : 0 + k ≡ k = omega arith in ap (λ n. drop n ys) e
 drop_behind (x ∷ xs) ys k = let e : length (x ∷ xs) + k ≡ suc (length xs + k) = omega arith in ap (λ n. drop n ((x ∷ xs) ++ ys)) e ∙ drop_behind xs ys k
 
 -- fewer entries than are planned
