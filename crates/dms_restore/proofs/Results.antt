@@ -18,3 +18,8 @@ three_ok (Err e) one two three f = tt
 pub four_ok : {T E P Q R U V : Type 0} (r : Result T E) → OnOk r P → OnOk r Q → OnOk r R → OnOk r U → (P → Q → R → U → V) → OnOk r V
 four_ok (Ok x) one two three four f = f one two three four
 four_ok (Err e) one two three four f = tt
+
+-- the answer is a fault
+abbrev pub is_fault : {T E : Type 0} → Result T E → Type 0
+is_fault (Ok x) = ⊥
+is_fault (Err e) = Unit {0}

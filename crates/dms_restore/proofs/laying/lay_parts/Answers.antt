@@ -7,6 +7,7 @@ use Rattle.dms_running.specs.Plans.{Planned}
 use Rattle.dms_restore.specs.Logging.{telling_of}
 use Rattle.dms_restore.specs.Laying.{LaysEnd}
 use Rattle.dms_restore.proofs.Laid.{lay_none, lay_since, lay_one, part_entry, part_next, parts_all, seen_length, some_parts}
+use Rattle.dms_restore.proofs.Results.{is_fault}
 use Rattle.dms_restore.proofs.laying.lay_parts.Goals as goal
 
 pub loop-number-init : goal.loop-number-init
@@ -51,7 +52,7 @@ loop-number-preserved g c =
           (c.in_ok-append.ensures.behind tells) (λ first waiting plain ends. c.in_ok-append.ensures.appends first waiting tells plain ends));
       said = c.append.ensures.said ∙ inv.said;
       same = g.met.S.Site.same_then _ _ _ inv.same c.append.ensures.same_site;
-      disk = c.in_ok-append.ensures.disk.clean (λ e. e) ∙ inv.disk;
+      disk = c.in_ok-append.ensures.disk.clean (λ e. subst (λ r. is_fault r) (sym e) tt) ∙ inv.disk;
       say = c.append.ensures.say_faults ∙ inv.say;
     }
 

@@ -1,9 +1,10 @@
-use Rattle.std.proofs.Common.{◌≡◌, ◌⊎◌, inl, inr, ◌+◌, ◌<◌, ◌^◌, ◌∙◌, ℕ, List, length, take, refl, arith, Some}
+use Rattle.std.proofs.Common.{Err, ◌≡◌, ◌⊎◌, inl, inr, ◌+◌, ◌<◌, ◌^◌, ◌∙◌, ℕ, List, length, take, refl, sym, subst, arith, Some}
 use Rattle.dms_history.specs.Events.{Event}
 use Rattle.dms_running.specs.Restoring.{IsKept}
 use Rattle.dms_running.proofs.Rewriting.{rewritten_same, rewritten_on, steps_still, steps_more}
 use Rattle.dms_restore.specs.declared.told.Told.{Told}
 use Rattle.dms_restore.proofs.Tables.{each_later, each_at, block_at, stand_more, stand_all}
+use Rattle.dms_restore.proofs.Results.{is_fault}
 use Rattle.dms_restore.proofs.restoring.write_all.Goals as goal
 
 pub loop-told-init : goal.loop-told-init
@@ -62,7 +63,7 @@ loop-told-preserved g c =
       room = c.write_told.ensures.room;
       said = c.write_told.ensures.said ∙ inv.said;
       same = g.met.S.Site.same_then _ _ _ inv.same c.write_told.ensures.same_site;
-      disk = c.in-Ok.ensures.disk.clean (λ e. e) ∙ inv.disk;
+      disk = c.in-Ok.ensures.disk.clean (λ e. subst (λ r. is_fault r) (sym e) tt) ∙ inv.disk;
       say_faults = c.write_told.ensures.say_faults ∙ inv.say_faults;
     }
 
@@ -76,5 +77,5 @@ returns-in-Err-clause-only g c live m tells each =
     let at = each_at live m _ c.args.table.now c.loop-told.told-index d (each_later live m (IsKept live m) _ _ c.args.table.now c.requires.blocks (inv.written live m tells each) each) c.loop-told-test.true in
     elim c.in-Err.ensures.only [
       | inl disk ↦ disk
-      | inr damaged ↦ absurd (omega (arith, c.in-Err.ensures.damaged damaged tells, at.1))
+      | inr damaged ↦ absurd (omega (arith, c.in-Err.ensures.damaged (λ i. Err (damaged i)) tells, at.1))
     ]
