@@ -1,6 +1,7 @@
 //! The Schema and Control that end a restore, or make a control point.
 
 ghost use Rattle.std.specs.Prelude.{◌≡◌, ◌⊎◌, ◌/◌, ◌<◌, ◌≤◌, ◌^◌, ℕ, length, OnOk, IfOk, IfErr, IsErrOf, IsTrue};
+ghost use Rattle.dms_base.specs.Causes.{Rose};
 ghost use Rattle.dms_history.specs.History.{Pending};
 ghost use Rattle.dms_history.specs.Entries.{control_point};
 ghost use Rattle.dms_history.specs.Plain.{blocks_seen};
@@ -41,6 +42,8 @@ impl<S: Site> Restored<S> {
         ensures same_then { IfErr result (λ e. S.same_site self.log.site e.1.site) }
         ensures said { IfOk result (λ l. S.said l.site ≡ S.said self.log.site) }
         ensures clean { IfOk result (λ l. S.disk_faults l.site ≡ S.disk_faults self.log.site) }
+        ensures only { IfErr result (λ e. (e.0 ≡ AudFault.Disk) ⊎ (e.0 ≡ AudFault.Full self.log.end.limit)) }
+        ensures cause { IfErr result (λ e. e.0 ≡ AudFault.Disk → Rose (S.disk_faults self.log.site) (S.disk_faults e.1.site)) }
         ensures kind { IfOk result (λ l. (l.end.total ≡ self.log.end.total) × (l.end.tag ≡ self.log.end.tag) × (l.end.limit ≡ self.log.end.limit) × (l.first ≡ self.log.first)) }
     {
         let Restored { log } = self;
