@@ -1,0 +1,136 @@
+-- A restore by the audit over a log.
+use Rattle.std.proofs.Common.{ℕ, zero, suc, ◌+◌, ◌≤◌, ◌<◌, ◌≡◌, Bool, true, false, List, [], ◌∷◌, ◌++◌, length, take, drop, refl, sym, ◌∙◌, ap, subst, arith}
+use Rattle.dms_moments.specs.Moments.{Clock, Now, Steps, After}
+use Rattle.dms_moments.specs.MomentLaws.{steps_on}
+use Rattle.dms_site.specs.Files.{Files, Left, Only, Same}
+use Rattle.dms_history.specs.Events.{How}
+use Rattle.dms_history.specs.History.{Pending}
+use Rattle.dms_history.specs.Pick.{count_at}
+use Rattle.dms_history.specs.Entries.{Kind, Entry, begin_restore, how_of, by_halt_load, by_back_out, by_roll_back, by_rebuild, by_reconstruct}
+use Rattle.dms_audrec.specs.Spelling.{IsKind}
+use Rattle.dms_audfile.specs.declared.audit_end.AuditEnd.{AuditEnd}
+use Rattle.dms_audfile.specs.Blocks.{is_begin}
+use Rattle.dms_audfile.specs.BlockLaws.{ArePlain}
+use Rattle.dms_audfile.proofs.Growing.{writes_same}
+use Rattle.dms_audfile.specs.Ends as ends
+use Rattle.dms_audfile.specs.Ends.{EndsAt, Appends}
+use Rattle.dms_running.specs.Telling.{Telling, IsTelling}
+use Rattle.dms_running.specs.Points.{points_of, next_in}
+use Rattle.dms_running.specs.Sealing.{Seals, IsSealed, Settled}
+use Rattle.dms_running.specs.Running.{LeavesPoints}
+use Rattle.dms_running.specs.Restoring.{IsKept, Rewritten, Rewrites, RestoredTo}
+use Rattle.dms_running.specs.Begun.{ByAudit, IsBegun, LeavesAll, IsRestored, restore_to, outcome_now}
+use Rattle.dms_running.proofs.Beginning.{begin_goes, all_sealed, begun, begun_points, begun_next, begun_outcome}
+use Rattle.dms_running.proofs.Restored.{restore_leaves, restore_begun, restored_all, restored_points, restored_next, restored_outcome}
+use Rattle.dms_restore.specs.Logging.{waits, View, view, telling, state, Ends, LogRuns, points, next}
+use Rattle.dms_restore.specs.Begins.{LastIs, begun_to, BegunAt, Begins, RestoredAt, Restores, LeavesEach}
+use Rattle.dms_restore.specs.declared.told.Told.{Told}
+use Rattle.dms_restore.specs.Table.{EachTold, IsTable, AllStand}
+use Rattle.dms_restore.proofs.Trails.{is_telling, first_low, waits_is}
+use Rattle.dms_restore.proofs.Tables.{table_stands}
+use Rattle.dms_restore.proofs.Logs.{Reads, tells, plain, entry_steps, same_telling, appended, ends_then, settles, sealing}
+
+-- a restore by the audit has a spelling
+pub kind_is : (kind : Kind) → ByAudit (how_of kind) → IsKind kind
+kind_is by_halt_load by_audit = tt
+kind_is by_back_out by_audit = tt
+kind_is by_roll_back by_audit = tt
+kind_is (by_rebuild d) by_audit = absurd by_audit
+kind_is (by_reconstruct d rows) by_audit = absurd by_audit
+
+-- a Begin never waits
+none_waits : (w : List Entry) (m : ℕ) (kind : Kind) (k : ℕ) → ArePlain (drop k (w ++ begin_restore m kind ∷ [])) → drop k (w ++ begin_restore m kind ∷ []) ≡ []
+none_waits [] m kind zero plain = absurd (true_not_false plain.1)
+  where
+    true_not_false : true ≡ false → ⊥
+    true_not_false e = absurd cc
+none_waits [] m kind (suc zero) plain = refl
+none_waits [] m kind (suc (suc k)) plain = refl
+none_waits (e ∷ w) m kind zero plain = absurd (not_plain w plain.2)
+  where
+    not_plain : (w : List Entry) → ArePlain (w ++ begin_restore m kind ∷ []) → ⊥
+    not_plain [] plain = true_not_false plain.1
+      where
+        true_not_false : true ≡ false → ⊥
+        true_not_false e = absurd cc
+    not_plain (d ∷ w) plain = not_plain w plain.2
+none_waits (e ∷ w) m kind (suc k) plain = none_waits w m kind k plain
+
+module _ (a : View) (r : LogRuns a) (read : Reads a) (m : ℕ) (kind : Kind) (by_audit : ByAudit (how_of kind)) (at : LastIs a m) where
+  abbrev pub the_begin : Entry
+  the_begin = begin_restore m kind
+
+  pub begin_leave : (later : Clock Left) → ((first : ℕ) (waiting : List Entry) → ArePlain waiting → EndsAt a.end first waiting a.files a.clock → Steps (ends.Seals a.end.total a.end.tag first (waiting ++ the_begin ∷ [])) a.clock later)
+      → LeavesPoints (telling a) (points a) (next a) (state a) later
+  begin_leave later steps = begin_goes (telling a) (tells a r read) (state a) r.runs read m kind by_audit at later (entry_steps a r read the_begin later steps)
+
+  module _ (b : View) (same : b.end.total ≡ a.end.total) (start : b.first ≡ a.first)
+      (steps : (first : ℕ) (waiting : List Entry) → ArePlain waiting → EndsAt a.end first waiting a.files a.clock → Steps (ends.Seals a.end.total a.end.tag first (waiting ++ the_begin ∷ [])) a.clock b.clock)
+      (appends : (first : ℕ) (waiting : List Entry) → ArePlain waiting → EndsAt a.end first waiting a.files a.clock → Appends b.end first (waiting ++ the_begin ∷ []) a.files b.files b.clock)
+      (behind : (g : ℕ) → b.end.file < g → b.files g ≡ a.files g) where
+    more : Appends b.end a.first (waits a.end ++ the_begin ∷ []) a.files b.files b.clock
+    more = appends a.first (waits a.end) (plain a r read) r.ends
+
+    nothing : waits b.end ≡ []
+    nothing = waits_is b.end a.first (drop more.some (waits a.end ++ the_begin ∷ [])) b.files b.clock more.ends ∙ none_waits (waits a.end) m kind more.some more.plain
+
+    sealed : IsSealed (telling a) (waits a.end ++ the_begin ∷ []) a.files b.files
+    sealed = all_sealed (telling a) (waits a.end ++ the_begin ∷ []) (waits b.end) a.files b.files (appended a r read b same start the_begin steps appends behind) nothing
+
+    pub begin_begun : BegunAt (begun_to a m (how_of kind)) b
+    begin_begun = record {
+      ends = ends_then a r read b same start the_begin steps appends behind;
+      begun = subst (λ (t : Telling). IsBegun t (begun_to a m (how_of kind)) (state b)) (same_telling a r read b same start)
+          (begun (telling a) (tells a r read) (state a) r.runs read m kind by_audit at (state b) sealed nothing (sealing a r read b same start the_begin steps appends behind) (settles a r read b same start the_begin steps appends behind));
+    }
+
+    pub begin_keeps : Begins a b m (how_of kind)
+    begin_keeps = record {
+      points_same = ap (λ (t : Telling). points_of t b.files) (sym (same_telling a r read b same start)) ∙ begun_points (telling a) (tells a r read) (state a) r.runs read m kind by_audit at (state b) sealed;
+      next_same = ap (λ (t : Telling). next_in t b.files) (sym (same_telling a r read b same start)) ∙ begun_next (telling a) (tells a r read) (state a) r.runs read m kind by_audit at (state b) sealed;
+      leaves = ap (λ (t : Telling). outcome_now t (begun_to a m (how_of kind)) (state b)) (sym (same_telling a r read b same start)) ∙ begun_outcome (telling a) (tells a r read) (state a) r.runs read m kind by_audit at (state b) sealed;
+    }
+
+-- ---- the blocks of the table are written
+
+-- a call that only looks after the writes
+pub then_looks : (keeps : ℕ → ℕ → Type 0) (a b c : Clock Left) → Steps (Rewrites keeps) a b → Steps Same b c → Steps (Rewrites keeps) a c
+then_looks keeps a b c one two = steps_on one two (λ x y z was now step look. subst (λ (l : Left). Rewrites keeps x l) (sym look) step) (λ x y was step. step)
+
+module _ (p : Pending) (a : View) (r : BegunAt p a) (read : Reads a) (table : List Told) (is : IsTable p.entries p.point a.files table) where
+  abbrev pub tells_it : IsTelling (telling a)
+  tells_it = is_telling a.end.total a.first (first_low a.end a.first (waits a.end) a.files a.clock r.ends)
+
+  pub table_leave : (later : Clock Left) → Steps (Rewrites (IsKept p.entries p.point)) a.clock later → LeavesAll (telling a) (state a) later
+  table_leave later steps = restore_leaves (telling a) tells_it p (state a) r.begun read later steps
+
+  module _ (files : Files) (clock : Clock Left) (steps : Steps (Rewrites (IsKept p.entries p.point)) a.clock clock) (written : Rewritten (IsKept p.entries p.point) a.files files) where
+    abbrev pub then_ : View
+    then_ = view a.end a.first files clock
+
+    ends_still : Ends then_
+    ends_still = record {
+      low = r.ends.low;
+      writes = writes_same a.end.total a.end.tag a.first a.end.file a.end.count a.files files r.ends.writes (λ g from upto. written.others g (omega (arith, upto, a.end.high)));
+      settled = λ g from upto x now.
+          let after = steps.follows x now in
+          after.2.files.others g (omega (arith, upto, a.end.high)) ∙ r.ends.settled g from upto after.0 after.1 ∙ sym (written.others g (omega (arith, upto, a.end.high)));
+      bytes = r.ends.bytes;
+      kind = r.ends.kind;
+    }
+
+    pub table_begun : BegunAt p then_
+    table_begun = record { ends = ends_still; begun = restore_begun (telling a) tells_it p (state a) r.begun read (state then_) written r.begun.nothing steps }
+
+    pub table_restored : AllStand p.entries p.point files table → Only files clock → RestoredAt p then_
+    table_restored all only = record {
+      restored = restored_all (telling a) tells_it p (state a) r.begun read (state then_) written (λ f. table_stands p.entries p.point a.files files table is all f (count_at p.entries p.point f));
+      only = only;
+    }
+
+    pub table_keeps : Restores p a then_
+    table_keeps = record {
+      points_same = restored_points (telling a) tells_it p (state a) r.begun read (state then_) written;
+      next_same = restored_next (telling a) tells_it p (state a) r.begun read (state then_) written;
+      outcome_same = restored_outcome (telling a) tells_it p (state a) r.begun read (state then_) written;
+    }

@@ -1,0 +1,137 @@
+-- Entries appended one after another since a start.
+use Rattle.std.proofs.Common.{ℕ, zero, suc, ◌+◌, ◌≤◌, ◌<◌, ◌≡◌, List, [], ◌∷◌, ◌++◌, length, take, drop, get_or, refl, sym, ◌∙◌, ap, subst, arith, append_assoc}
+use Rattle.std.specs.Borrow.{Bor}
+use Rattle.std.proofs.lemmas.List.{take_more, take_all, take-append-drop}
+use Rattle.dms_moments.specs.Moments.{Clock, Now, Runs, Steps}
+use Rattle.dms_moments.specs.MomentLaws.{runs_weaken}
+use Rattle.dms_site.specs.Files.{Files, Left, Only}
+use Rattle.dms_history.specs.Entries.{Entry, schema_part}
+use Rattle.dms_history.specs.Schemas.{parts_of_schema, schema_entries}
+use Rattle.dms_history.specs.Plain.{blocks_seen}
+use Rattle.dms_history.proofs.Order.{append_none}
+use Rattle.dms_audrec.specs.Spelling.{spelling, IsEntry}
+use Rattle.dms_audfile.specs.declared.audit_end.AuditEnd.{AuditEnd}
+use Rattle.dms_audfile.specs.BlockLaws.{ArePlain}
+use Rattle.dms_audfile.specs.TrailEntries.{trail_entries}
+use Rattle.dms_audfile.specs.Ends as ends
+use Rattle.dms_audfile.specs.Ends.{EndsAt, Appends}
+use Rattle.dms_running.specs.Telling.{Telling}
+use Rattle.dms_running.specs.Sealing.{Seals, Appended, IsSealed, Settled}
+use Rattle.dms_running.specs.Running.{State}
+use Rattle.dms_running.specs.Plans.{Planned, Lays}
+use Rattle.dms_running.proofs.Planned.{planned_more, lays_none, lays_since, lays_more, lays_sealing, lays_sealed}
+use Rattle.dms_restore.specs.Logging.{telling_of, waits}
+use Rattle.dms_restore.specs.Laying.{AreParts, Starts, LaysEnd, SealsAll}
+use Rattle.dms_restore.proofs.Trails.{waits_is, ends_waiting, seals_as, appended_as, sealed_as, settled_as}
+
+pub lay_none : (end : AuditEnd) (first : ℕ) (files : Files) (clock : Clock Left) → Starts end first files clock → LaysEnd end.total end first [] files clock files clock
+lay_none end first files clock s =
+    let none : waits end ≡ [] = waits_is end first [] files clock s.ends in
+    record {
+      ends = ends_waiting end first [] files clock s.ends;
+      plain = subst (λ (l : List Entry). ArePlain l) (sym none) tt;
+      lays = lays_none (telling_of end.total first) (record { waiting = waits end; files = files; clock = clock }) s.only none;
+    }
+
+module _ (total : ℕ) (old new : AuditEnd) (first : ℕ) (done : List Entry) (start : Files) (began : Clock Left) (files : Files) (clock : Clock Left) (l : LaysEnd total old first done start began files clock) (same : old.total ≡ total) where
+  abbrev pub then_ : State
+  then_ = record { waiting = waits old; files = files; clock = clock }
+
+  module _ (e : Entry) (later : Clock Left) (steps : (first : ℕ) (waiting : List Entry) → ArePlain waiting → EndsAt old first waiting files clock → Steps (ends.Seals old.total old.tag first (waiting ++ e ∷ [])) clock later) where
+    entry_steps : Steps (Seals (telling_of total first) (waits old ++ e ∷ [])) clock later
+    entry_steps = subst (λ n. Steps (Seals (telling_of n first) (waits old ++ e ∷ [])) clock later) same
+        (seals_as old.total old.tag first (waits old ++ e ∷ []) clock later (steps first (waits old) l.plain l.ends))
+
+    -- what a stop leaves while one entry more is appended
+    pub lay_since : Runs began later (Planned (telling_of total first) (done ++ e ∷ []) start)
+    lay_since = lays_since (telling_of total first) done start began then_ l.lays (e ∷ []) later entry_steps
+
+    pub lay_one : (now : Files) → new.total ≡ old.total → ((g : ℕ) → new.file < g → now g ≡ files g)
+        → ((first : ℕ) (waiting : List Entry) → ArePlain waiting → EndsAt old first waiting files clock → Appends new first (waiting ++ e ∷ []) files now later)
+        → LaysEnd total new first (done ++ e ∷ []) start began now later
+    lay_one now kind behind appends =
+        let more = appends first (waits old) l.plain l.ends in
+        let at : new.total ≡ total = kind ∙ same in
+        let ends_then : EndsAt new first (waits new) now later = ends_waiting new first (drop more.some (waits old ++ e ∷ [])) now later more.ends in
+        record {
+          ends = ends_then;
+          plain = subst (λ (k : List Entry). ArePlain k) (sym (waits_is new first (drop more.some (waits old ++ e ∷ [])) now later more.ends)) more.plain;
+          lays = lays_more (telling_of total first) done start began then_ l.lays (e ∷ []) (record { waiting = waits new; files = now; clock = later }) entry_steps
+              (subst (λ n. Settled (telling_of n first) now later) at (settled_as new first (waits new) now later ends_then))
+              (appended_as total new first (waits old ++ e ∷ []) files now later at behind more);
+        }
+
+  -- what waits is sealed
+  module _ (later : Clock Left) (steps : (first : ℕ) (waiting : List Entry) → EndsAt old first waiting files clock → Steps (ends.Seals old.total old.tag first waiting) clock later) where
+    pub lay_sealing : Runs began later (Planned (telling_of total first) done start)
+    lay_sealing = lays_sealing (telling_of total first) done start began then_ l.lays later
+        (subst (λ n. Steps (Seals (telling_of n first) (waits old)) clock later) same (seals_as old.total old.tag first (waits old) clock later (steps first (waits old) l.ends)))
+
+    pub lay_sealed : (now : Files) → Only now later → ((g : ℕ) → new.file < g → now g ≡ files g)
+        → ((first : ℕ) (waiting : List Entry) → EndsAt old first waiting files clock → trail_entries old.total first now ≡ trail_entries old.total first files ++ waiting)
+        → ((first : ℕ) (waiting : List Entry) → EndsAt old first waiting files clock → EndsAt new first [] now later)
+        → SealsAll total new first done start now later
+    lay_sealed now only behind sealed ends_ =
+        let all : IsSealed (telling_of total first) (waits old) files now = subst (λ n. IsSealed (telling_of n first) (waits old) files now) same (sealed_as old.total new first (waits old) files now behind (sealed first (waits old) l.ends)) in
+        let r = lays_sealed (telling_of total first) done start began then_ l.lays now all in
+        record { sealed = r.0; above = r.1; starts = record { ends = ends_ first (waits old) l.ends; only = only } }
+
+-- fewer than are planned
+pub lay_more : (t : Telling) (done rest : List Entry) (start : Files) (a b : Clock Left) → Runs a b (Planned t done start) → Runs a b (Planned t (done ++ rest) start)
+lay_more t done rest start a b runs = runs_weaken runs (λ x p. planned_more t done rest start x p)
+
+-- ---- parts
+
+pub parts_at : (all k : ℕ) (bs : List (List ℕ)) (i : ℕ) → AreParts all k bs → i < length bs → IsEntry (schema_part (k + i) all (get_or bs i [])) × (length (spelling (schema_part (k + i) all (get_or bs i []))) ≤ 4094)
+parts_at all k [] i parts low = absurd (omega (arith, low))
+parts_at all k (b ∷ bs) zero parts low = let e : k + 0 ≡ k = omega arith in subst (λ j. IsEntry (schema_part j all b) × (length (spelling (schema_part j all b)) ≤ 4094)) (sym e) parts.0
+parts_at all k (b ∷ bs) (suc i) parts low =
+    let e : k + 1 + i ≡ k + suc i = omega arith in subst (λ j. IsEntry (schema_part j all (get_or bs i [])) × (length (spelling (schema_part j all (get_or bs i []))) ≤ 4094)) e (parts_at all (k + 1) bs i parts.1 (omega (arith, low)))
+
+parts_length : (k all : ℕ) (bs : List (List ℕ)) → length (parts_of_schema k all bs) ≡ length bs
+parts_length k all [] = refl
+parts_length k all (b ∷ bs) = ap suc (parts_length (k + 1) all bs)
+
+part_is : (k all : ℕ) (bs : List (List ℕ)) (i : ℕ) (d : Entry) → i < length bs → get_or (parts_of_schema k all bs) i d ≡ schema_part (k + i) all (get_or bs i [])
+part_is k all [] i d low = absurd (omega (arith, low))
+part_is k all (b ∷ bs) zero d low = let e : k + 0 ≡ k = omega arith in ap (λ j. schema_part j all b) (sym e)
+part_is k all (b ∷ bs) (suc i) d low = let e : k + 1 + i ≡ k + suc i = omega arith in part_is (k + 1) all bs i d (omega (arith, low)) ∙ ap (λ j. schema_part j all (get_or bs i [])) e
+
+-- one part more
+pub part_more : (bs : List (List ℕ)) (i : ℕ) → i < length bs → take (i + 1) (schema_entries bs) ≡ take i (schema_entries bs) ++ schema_part (1 + i) (length bs) (get_or bs i []) ∷ []
+part_more bs i low =
+    let d = schema_part 0 0 [] in
+    take_more (schema_entries bs) i d (omega (arith, low, parts_length 1 (length bs) bs)) ∙ ap (λ e. take i (schema_entries bs) ++ e ∷ []) (part_is 1 (length bs) bs i d low)
+
+pub parts_all : (bs : List (List ℕ)) (i : ℕ) → length bs ≤ i → take i (schema_entries bs) ≡ schema_entries bs
+parts_all bs i le = take_all i (schema_entries bs) (omega (arith, le, parts_length 1 (length bs) bs))
+
+pub seen_length : (parts : List (Bor (List ℕ))) → length (blocks_seen parts) ≡ length parts
+seen_length [] = refl
+seen_length (p ∷ ps) = ap suc (seen_length ps)
+
+pub seen_at : (parts : List (Bor (List ℕ))) (i : ℕ) (d : Bor (List ℕ)) → i < length parts → get_or (blocks_seen parts) i [] ≡ (get_or parts i d).now
+seen_at [] i d low = absurd (omega (arith, low))
+seen_at (p ∷ ps) zero d low = refl
+seen_at (p ∷ ps) (suc i) d low = seen_at ps i d (omega (arith, low))
+
+-- a part after fewer of them: the whole Schema is planned
+pub some_parts : (t : Telling) (bs : List (List ℕ)) (i : ℕ) (start : Files) (a b : Clock Left) → Runs a b (Planned t (take i (schema_entries bs)) start) → Runs a b (Planned t (schema_entries bs) start)
+some_parts t bs i start a b runs =
+    subst (λ (l : List Entry). Runs a b (Planned t l start)) (take-append-drop i (schema_entries bs)) (lay_more t (take i (schema_entries bs)) (drop i (schema_entries bs)) start a b runs)
+
+-- a part of the program
+pub part_entry : (parts : List (Bor (List ℕ))) (i : ℕ) (d : Bor (List ℕ)) → AreParts (length parts) 1 (blocks_seen parts) → i < length parts
+    → IsEntry (schema_part (i + 1) (length parts) (get_or parts i d).now) × (length (spelling (schema_part (i + 1) (length parts) (get_or parts i d).now)) ≤ 4094)
+part_entry parts i d fits low =
+    let e : 1 + i ≡ i + 1 = omega arith in
+    subst (λ (b : List ℕ). IsEntry (schema_part (i + 1) (length parts) b) × (length (spelling (schema_part (i + 1) (length parts) b)) ≤ 4094)) (seen_at parts i d low)
+    (subst (λ j. IsEntry (schema_part j (length parts) (get_or (blocks_seen parts) i [])) × (length (spelling (schema_part j (length parts) (get_or (blocks_seen parts) i []))) ≤ 4094)) e
+    (parts_at (length parts) 1 (blocks_seen parts) i fits (omega (arith, low, seen_length parts))))
+
+pub part_next : (parts : List (Bor (List ℕ))) (i : ℕ) (d : Bor (List ℕ)) → i < length parts
+    → take (i + 1) (schema_entries (blocks_seen parts)) ≡ take i (schema_entries (blocks_seen parts)) ++ schema_part (i + 1) (length parts) (get_or parts i d).now ∷ []
+part_next parts i d low =
+    let e : 1 + i ≡ i + 1 = omega arith in
+    part_more (blocks_seen parts) i (omega (arith, low, seen_length parts))
+    ∙ (λ k. take i (schema_entries (blocks_seen parts)) ++ schema_part (e k) (seen_length parts k) (seen_at parts i d low k) ∷ [])

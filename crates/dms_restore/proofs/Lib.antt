@@ -1,0 +1,10 @@
+pub mod Trails
+pub mod Logs
+pub mod Results
+pub mod Tables
+pub mod Laid
+pub mod Beginnings
+pub mod Endings
+pub mod Opens
+pub mod Sizes
+pub mod Writing

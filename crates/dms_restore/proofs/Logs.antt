@@ -1,0 +1,194 @@
+-- Calls on the log of a running database.
+use Rattle.std.proofs.Common.{ℕ, ◌+◌, ◌*◌, ◌-◌, ◌^◌, ◌≤◌, ◌<◌, ◌≡◌, List, [], ◌∷◌, ◌++◌, length, take, drop, Option, refl, sym, ◌∙◌, ap, subst, arith, append_assoc}
+use Rattle.dms_moments.specs.Moments.{Clock, Now, Steps}
+use Rattle.dms_site.specs.Files.{Files, Left, InFile, Torn, OnDisk}
+use Rattle.dms_history.specs.Events.{Block}
+use Rattle.dms_history.specs.Replay.{Tells}
+use Rattle.dms_history.specs.Entries.{Entry, image, quiet_point}
+use Rattle.dms_audfile.specs.declared.audit_end.AuditEnd.{AuditEnd}
+use Rattle.dms_audfile.specs.BlockLaws.{ArePlain}
+use Rattle.dms_audfile.specs.TrailEntries.{trail_entries}
+use Rattle.dms_audfile.specs.Ends as ends
+use Rattle.dms_audfile.specs.Ends.{EndsAt, Appends}
+use Rattle.dms_running.specs.Telling.{Telling, IsTelling}
+use Rattle.dms_running.specs.Sealing.{Seals, Appended, IsSealed, Settled}
+use Rattle.dms_running.specs.Running.{State, entries_now, points_now, next_now, content_now, sure_now, LeavesPoints, IsRunning}
+use Rattle.dms_running.proofs.Appending.{log_leaves, log_runs, log_next, log_points, log_content, quiet_leaves, quiet_runs, quiet_next, quiet_points, quiet_content, sync_leaves, sync_runs, sync_points, sync_next, sync_content, sync_surer, sync_sure, sync_entries}
+use Rattle.dms_running.proofs.Early.{early_leaves, early_runs, early_points, early_next, early_content, early_sure, later_all}
+use Rattle.dms_running.proofs.Stopped.{joined, blocks_same}
+use Rattle.dms_restore.specs.Logging.{telling_of, waits, View, view, telling, state, Ends, LogRuns, points, sure, here, next, content, Logged, LogsImage, LogsQuiet, LogsNothing, LogsWrite}
+use Rattle.dms_restore.proofs.Trails.{is_telling, first_low, waits_is, ends_waiting, plain_waits, seals_as, appended_as, sealed_as, settled_as, ends_written}
+
+-- what is read of it
+abbrev pub Reads : View → Type 0
+Reads v = (x : Left) × Now v.clock x × (x.files ≡ v.files)
+
+module _ (a : View) (r : LogRuns a) (read : Reads a) where
+  pub tells : IsTelling (telling a)
+  tells = is_telling a.end.total a.first (first_low a.end a.first (waits a.end) a.files a.clock r.ends)
+
+  pub plain : ArePlain (waits a.end)
+  plain = plain_waits (waits a.end) r.runs.plain r.ends.kind
+
+  -- the moments of an entry more
+  pub entry_steps : (e : Entry) (later : Clock Left) → ((first : ℕ) (waiting : List Entry) → ArePlain waiting → EndsAt a.end first waiting a.files a.clock → Steps (ends.Seals a.end.total a.end.tag first (waiting ++ e ∷ [])) a.clock later)
+      → Steps (Seals (telling a) (waits a.end ++ e ∷ [])) a.clock later
+  entry_steps e later steps = seals_as a.end.total a.end.tag a.first (waits a.end ++ e ∷ []) a.clock later (steps a.first (waits a.end) plain r.ends)
+
+  module _ (b : View) (kind : b.end.total ≡ a.end.total) (start : b.first ≡ a.first) where
+    pub same_telling : telling a ≡ telling b
+    same_telling = λ i. telling_of (sym kind i) (sym start i)
+
+    -- an entry was appended
+    module _ (e : Entry) (steps : (first : ℕ) (waiting : List Entry) → ArePlain waiting → EndsAt a.end first waiting a.files a.clock → Steps (ends.Seals a.end.total a.end.tag first (waiting ++ e ∷ [])) a.clock b.clock)
+        (appends : (first : ℕ) (waiting : List Entry) → ArePlain waiting → EndsAt a.end first waiting a.files a.clock → Appends b.end first (waiting ++ e ∷ []) a.files b.files b.clock)
+        (behind : (g : ℕ) → b.end.file < g → b.files g ≡ a.files g) where
+      more : Appends b.end a.first (waits a.end ++ e ∷ []) a.files b.files b.clock
+      more = appends a.first (waits a.end) plain r.ends
+
+      pub appended : Appended (telling a) (waits a.end ++ e ∷ []) a.files b.files (waits b.end)
+      appended = appended_as a.end.total b.end a.first (waits a.end ++ e ∷ []) a.files b.files b.clock kind behind more
+
+      pub ends_then : Ends b
+      ends_then = subst (λ n. EndsAt b.end n (waits b.end) b.files b.clock) (sym start) (ends_waiting b.end a.first (drop more.some (waits a.end ++ e ∷ [])) b.files b.clock more.ends)
+
+      pub settles : Settled (telling a) b.files b.clock
+      settles = subst (λ (t : Telling). Settled t b.files b.clock) (sym same_telling) (settled_as b.end b.first (waits b.end) b.files b.clock ends_then)
+
+      pub sealing : Steps (Seals (telling a) (waits a.end ++ e ∷ [])) a.clock b.clock
+      sealing = entry_steps e b.clock steps
+
+    -- what waits was sealed
+    module _ (steps : (first : ℕ) (waiting : List Entry) → EndsAt a.end first waiting a.files a.clock → Steps (ends.Seals a.end.total a.end.tag first waiting) a.clock b.clock)
+        (all : (first : ℕ) (waiting : List Entry) → EndsAt a.end first waiting a.files a.clock → trail_entries a.end.total first b.files ≡ trail_entries a.end.total first a.files ++ waiting)
+        (end : (first : ℕ) (waiting : List Entry) → EndsAt a.end first waiting a.files a.clock → EndsAt b.end first [] b.files b.clock)
+        (behind : (g : ℕ) → b.end.file < g → b.files g ≡ a.files g) where
+      pub nothing_waits : waits b.end ≡ []
+      nothing_waits = waits_is b.end a.first [] b.files b.clock (end a.first (waits a.end) r.ends)
+
+      sealed_ends : Ends b
+      sealed_ends = subst (λ n. EndsAt b.end n (waits b.end) b.files b.clock) (sym start) (ends_waiting b.end a.first [] b.files b.clock (end a.first (waits a.end) r.ends))
+
+      pub is_sealed : IsSealed (telling a) (waits a.end) a.files b.files
+      is_sealed = sealed_as a.end.total b.end a.first (waits a.end) a.files b.files behind (all a.first (waits a.end) r.ends)
+
+      pub sync_goes : LogRuns b
+      sync_goes = record {
+        ends = sealed_ends;
+        runs = subst (λ (t : Telling). IsRunning t (state b)) same_telling
+            (sync_runs (telling a) tells (state a) r.runs read (state b) is_sealed nothing_waits (seals_as a.end.total a.end.tag a.first (waits a.end) a.clock b.clock (steps a.first (waits a.end) r.ends))
+            (subst (λ (t : Telling). Settled t b.files b.clock) (sym same_telling) (settled_as b.end b.first (waits b.end) b.files b.clock sealed_ends)));
+      }
+
+      pub sync_keeps : LogsNothing a b
+      sync_keeps = record {
+        entries_same = ap (λ (t : Telling). entries_now t (state b)) (sym same_telling) ∙ sync_entries (telling a) tells (state a) r.runs read (state b) is_sealed nothing_waits;
+        blocks_same = blocks_same b.files a.files is_sealed.above;
+        points_same = ap (λ (t : Telling). points_now t (state b)) (sym same_telling) ∙ sync_points (telling a) tells (state a) r.runs read (state b) is_sealed nothing_waits;
+        next_same = ap (λ (t : Telling). next_now t (state b)) (sym same_telling) ∙ sync_next (telling a) tells (state a) r.runs read (state b) is_sealed nothing_waits;
+        content_same = ap (λ (t : Telling). content_now t (state b)) (sym same_telling) ∙ sync_content (telling a) tells (state a) r.runs read (state b) is_sealed nothing_waits;
+        surer = omega (arith, sync_surer (telling a) tells (state a) r.runs read (state b) is_sealed nothing_waits, ap (λ (t : Telling). sure_now t (state b)) same_telling);
+      }
+
+      pub sync_all_sure : sure b ≡ length (points a)
+      sync_all_sure = ap (λ (t : Telling). sure_now t (state b)) (sym same_telling) ∙ sync_sure (telling a) tells (state a) r.runs read (state b) is_sealed nothing_waits
+
+  -- what a stop leaves while what waits is sealed
+  pub sync_leave : (later : Clock Left) → ((first : ℕ) (waiting : List Entry) → EndsAt a.end first waiting a.files a.clock → Steps (ends.Seals a.end.total a.end.tag first waiting) a.clock later)
+      → LeavesPoints (telling a) (points a) (next a) (state a) later
+  sync_leave later steps = sync_leaves (telling a) tells (state a) r.runs read later (seals_as a.end.total a.end.tag a.first (waits a.end) a.clock later (steps a.first (waits a.end) r.ends))
+
+  -- ---- an Image
+
+  module _ (f k : ℕ) (before : Option Block) (after : Block) (told : Tells k before (content a f)) (sized : length after ≡ 1024) (e : Entry) (is : e ≡ image f k before after) where
+    pub image_leave : (later : Clock Left) → ((first : ℕ) (waiting : List Entry) → ArePlain waiting → EndsAt a.end first waiting a.files a.clock → Steps (ends.Seals a.end.total a.end.tag first (waiting ++ e ∷ [])) a.clock later)
+        → LeavesPoints (telling a) (points a) (next a) (state a) later
+    image_leave later steps = log_leaves (telling a) tells (state a) r.runs read f k before after told sized later
+        (subst (λ (d : Entry). Steps (Seals (telling a) (waits a.end ++ d ∷ [])) a.clock later) is (entry_steps e later steps))
+
+    module _ (b : View) (kind : b.end.total ≡ a.end.total) (start : b.first ≡ a.first)
+        (steps : (first : ℕ) (waiting : List Entry) → ArePlain waiting → EndsAt a.end first waiting a.files a.clock → Steps (ends.Seals a.end.total a.end.tag first (waiting ++ e ∷ [])) a.clock b.clock)
+        (appends : (first : ℕ) (waiting : List Entry) → ArePlain waiting → EndsAt a.end first waiting a.files a.clock → Appends b.end first (waiting ++ e ∷ []) a.files b.files b.clock)
+        (behind : (g : ℕ) → b.end.file < g → b.files g ≡ a.files g) where
+      image_more : Appended (telling a) (waits a.end ++ image f k before after ∷ []) a.files b.files (waits b.end)
+      image_more = subst (λ (d : Entry). Appended (telling a) (waits a.end ++ d ∷ []) a.files b.files (waits b.end)) is (appended b kind start e steps appends behind)
+
+      pub image_goes : LogRuns b
+      image_goes = record {
+        ends = ends_then b kind start e steps appends behind;
+        runs = subst (λ (t : Telling). IsRunning t (state b)) (same_telling b kind start)
+            (log_runs (telling a) tells (state a) r.runs read f k before after told sized (state b) image_more
+            (subst (λ (d : Entry). Steps (Seals (telling a) (waits a.end ++ d ∷ [])) a.clock b.clock) is (sealing b kind start e steps appends behind)) (settles b kind start e steps appends behind));
+      }
+
+      pub image_logs : LogsImage a b f k before after
+      image_logs = record {
+        entries_are = ap (λ (t : Telling). entries_now t (state b)) (sym (same_telling b kind start)) ∙ joined (telling a) (waits a.end ++ image f k before after ∷ []) (waits b.end) a.files b.files image_more ∙ sym (append_assoc (trail_entries a.end.total a.first a.files) (waits a.end) (image f k before after ∷ []));
+        blocks_same = blocks_same b.files a.files image_more.above;
+        points_same = ap (λ (t : Telling). points_now t (state b)) (sym (same_telling b kind start)) ∙ log_points (telling a) tells (state a) r.runs read f k before after told sized (state b) image_more;
+        next_same = ap (λ (t : Telling). next_now t (state b)) (sym (same_telling b kind start)) ∙ log_next (telling a) tells (state a) r.runs read f k before after told sized (state b) image_more;
+        content_is = ap (λ (t : Telling). content_now t (state b)) (sym (same_telling b kind start)) ∙ log_content (telling a) tells (state a) r.runs read f k before after told sized (state b) image_more;
+      }
+
+  -- ---- a quiet point
+
+  module _ (n : ℕ) (same : n ≡ next a) (room : n + 1 < 2 ^ 64) where
+    roomy : next a + 1 < 2 ^ 64
+    roomy = omega (arith, room, same)
+
+    numbered : quiet_point n ≡ quiet_point (next a)
+    numbered = ap (λ k. quiet_point k) same
+
+    pub quiet_leave : (later : Clock Left) → ((first : ℕ) (waiting : List Entry) → ArePlain waiting → EndsAt a.end first waiting a.files a.clock → Steps (ends.Seals a.end.total a.end.tag first (waiting ++ quiet_point n ∷ [])) a.clock later)
+        → LeavesPoints (telling a) (points a ++ here a ∷ []) (next a + 1) (state a) later
+    quiet_leave later steps = quiet_leaves (telling a) tells (state a) r.runs read roomy later
+        (subst (λ (d : Entry). Steps (Seals (telling a) (waits a.end ++ d ∷ [])) a.clock later) numbered (entry_steps (quiet_point n) later steps))
+
+    module _ (b : View) (kind : b.end.total ≡ a.end.total) (start : b.first ≡ a.first)
+        (steps : (first : ℕ) (waiting : List Entry) → ArePlain waiting → EndsAt a.end first waiting a.files a.clock → Steps (ends.Seals a.end.total a.end.tag first (waiting ++ quiet_point n ∷ [])) a.clock b.clock)
+        (appends : (first : ℕ) (waiting : List Entry) → ArePlain waiting → EndsAt a.end first waiting a.files a.clock → Appends b.end first (waiting ++ quiet_point n ∷ []) a.files b.files b.clock)
+        (behind : (g : ℕ) → b.end.file < g → b.files g ≡ a.files g) where
+      quiet_more : Appended (telling a) (waits a.end ++ quiet_point (next a) ∷ []) a.files b.files (waits b.end)
+      quiet_more = subst (λ (d : Entry). Appended (telling a) (waits a.end ++ d ∷ []) a.files b.files (waits b.end)) numbered (appended b kind start (quiet_point n) steps appends behind)
+
+      pub quiet_goes : LogRuns b
+      quiet_goes = record {
+        ends = ends_then b kind start (quiet_point n) steps appends behind;
+        runs = subst (λ (t : Telling). IsRunning t (state b)) (same_telling b kind start)
+            (quiet_runs (telling a) tells (state a) r.runs read roomy (state b) quiet_more
+            (subst (λ (d : Entry). Steps (Seals (telling a) (waits a.end ++ d ∷ [])) a.clock b.clock) numbered (sealing b kind start (quiet_point n) steps appends behind)) (settles b kind start (quiet_point n) steps appends behind));
+      }
+
+      pub quiet_logs : LogsQuiet a b
+      quiet_logs = record {
+        entries_are = ap (λ (t : Telling). entries_now t (state b)) (sym (same_telling b kind start)) ∙ joined (telling a) (waits a.end ++ quiet_point (next a) ∷ []) (waits b.end) a.files b.files quiet_more ∙ sym (append_assoc (trail_entries a.end.total a.first a.files) (waits a.end) (quiet_point (next a) ∷ []));
+        blocks_same = blocks_same b.files a.files quiet_more.above;
+        points_are = ap (λ (t : Telling). points_now t (state b)) (sym (same_telling b kind start)) ∙ quiet_points (telling a) tells (state a) r.runs read roomy (state b) quiet_more;
+        next_is = ap (λ (t : Telling). next_now t (state b)) (sym (same_telling b kind start)) ∙ quiet_next (telling a) tells (state a) r.runs read roomy (state b) quiet_more;
+        content_same = ap (λ (t : Telling). content_now t (state b)) (sym (same_telling b kind start)) ∙ quiet_content (telling a) tells (state a) r.runs read roomy (state b) quiet_more;
+      }
+
+  -- ---- a structure block is written early
+
+  module _ (f k : ℕ) (structure : 30000 < f) (logged : Logged a f k) where
+    pub early_leave : (later : Clock Left) → Steps (OnDisk f (Torn (1024 * k) 1024)) a.clock later → LeavesPoints (telling a) (points a) (next a) (state a) later
+    early_leave later steps = early_leaves (telling a) tells (state a) r.runs read f k structure logged later steps
+
+    module _ (files : Files) (clock : Clock Left) (step : InFile f (Torn (1024 * k) 1024) a.files files) (steps : Steps (OnDisk f (Torn (1024 * k) 1024)) a.clock clock) where
+      abbrev pub then_ : View
+      then_ = view a.end a.first files clock
+
+      pub early_goes : LogRuns then_
+      early_goes = record {
+        ends = ends_written a.end a.first (waits a.end) f k a.files files a.clock clock structure r.ends step steps;
+        runs = early_runs (telling a) tells (state a) r.runs read f k structure logged (state then_) refl step steps;
+      }
+
+      pub early_keeps : Reads then_ → LogsWrite a then_
+      early_keeps reads = record {
+        sure_same = early_sure (telling a) tells (state a) r.runs read f k structure logged (state then_) refl step steps reads;
+        entries_same = later_all (telling a) tells (state a) r.runs read f k structure logged (state then_) refl step;
+        points_same = early_points (telling a) tells (state a) r.runs read f k structure logged (state then_) refl step steps reads;
+        next_same = early_next (telling a) tells (state a) r.runs read f k structure logged (state then_) refl step;
+        content_same = early_content (telling a) tells (state a) r.runs read f k structure logged (state then_) refl step steps reads;
+      }

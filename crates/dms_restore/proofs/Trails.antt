@@ -1,0 +1,120 @@
+-- A trail as entries of a database.
+use Rattle.std.proofs.Common.{ℕ, zero, suc, ◌+◌, ◌*◌, ◌-◌, ◌≤◌, ◌<◌, ◌≡◌, ◌⊎◌, inl, inr, Bool, true, false, cond, min, List, [], ◌∷◌, ◌++◌, map, length, take, drop, Option, Some, None, refl, sym, ◌∙◌, ap, subst, arith}
+use Rattle.std.specs.Prelude.{if◌then◌else◌}
+use Rattle.std.specs.Option.{option_copied}
+use Rattle.std.specs.Borrow.{Bor}
+use Rattle.std.proofs.lemmas.List.{length-take}
+use Rattle.dms_moments.specs.Moments.{Clock, Now, Steps}
+use Rattle.dms_moments.specs.MomentLaws.{steps_weaken}
+use Rattle.dms_site.specs.Files.{Files, Left, Only, InFile, Torn, OnDisk}
+use Rattle.dms_history.specs.Events.{Block}
+use Rattle.dms_history.specs.Entries.{Entry, schema_part, image, byte_range, quiet_point, control_point, begin_restore}
+use Rattle.dms_audrec.specs.declared.entry.Entry.TheVariants.{Image}
+use Rattle.dms_audrec.specs.Spelling.{spelling, IsEntry}
+use Rattle.dms_audrec.specs.Seen.{entry_seen}
+use Rattle.dms_audfile.specs.declared.audit_end.AuditEnd.{AuditEnd}
+use Rattle.dms_audfile.specs.Gates.{sealed, is_full}
+use Rattle.dms_audfile.specs.Blocks.{is_begin, block_entries}
+use Rattle.dms_audfile.specs.BlockLaws.{spellings, ArePlain, IsAlone, entered_at, block_of}
+use Rattle.dms_audfile.specs.Unsealed.{block_with}
+use Rattle.dms_audfile.specs.Trail.{trail_from}
+use Rattle.dms_audfile.specs.TrailEntries.{entry_of, entries_of, entries_in, trail_entries}
+use Rattle.dms_audfile.specs.Sealing.{Writes}
+use Rattle.dms_audfile.specs.Ends as ends
+use Rattle.dms_audfile.specs.Ends.{unsealed, EndsAt, Appends}
+use Rattle.dms_audfile.proofs.BlockRead.{block_is_read}
+use Rattle.dms_audfile.proofs.Growing.{writes_same}
+use Rattle.dms_audfile.proofs.Ended.{entries_settled}
+use Rattle.dms_running.specs.Telling.{Telling, IsTelling}
+use Rattle.dms_running.specs.Sealing.{Seals, Appended, IsSealed, Settled}
+use Rattle.dms_running.specs.Running.{AllPlain}
+use Rattle.dms_restore.specs.Logging.{dumps_in, telling_of, waits}
+
+-- the trail depends on as many files as it may have
+trail_low : (n total f : ℕ) (x y : Files) → ((g : ℕ) → f ≤ g → g < f + n → x g ≡ y g) → trail_from n total f x ≡ trail_from n total f y
+trail_low zero total f x y same = refl
+trail_low (suc n) total f x y same =
+    let here : x f ≡ y f = same f (omega arith) (omega arith) in
+    λ i. cond (is_full total (here i)) (sealed total (here i) ++ trail_low n total (f + 1) x y (λ g from upto. same g (omega (arith, from)) (omega (arith, upto))) i) (sealed total (here i))
+
+trail_entries_low : (total first : ℕ) → first ≤ 20000 → (x y : Files) → ((g : ℕ) → g ≤ 30000 → x g ≡ y g) → trail_entries total first x ≡ trail_entries total first y
+unfolding trail_entries
+trail_entries_low total first low x y same = ap entries_in (trail_low 10000 total first x y (λ g from upto. same g (omega (arith, upto, low))))
+
+pub is_telling : (total first : ℕ) → first ≤ 20000 → IsTelling (telling_of total first)
+is_telling total first low = record { entries_low = trail_entries_low total first low; dumps_between = λ x y same. refl }
+
+pub first_low : (end : AuditEnd) (first : ℕ) (w : List Entry) (files : Files) (clock : Clock Left) → EndsAt end first w files clock → first ≤ 20000
+first_low end first w files clock e = omega (arith, e.writes.order, end.high)
+
+-- ---- what waits
+
+entered_entries : (at : ℕ) (es : List Entry) → map entry_of (entered_at at es) ≡ es
+entered_entries at [] = refl
+entered_entries at (e ∷ es) = ap (λ (l : List Entry). e ∷ l) (entered_entries (at + length (spelling e)) es)
+
+pub waits_is : (end : AuditEnd) (first : ℕ) (w : List Entry) (files : Files) (clock : Clock Left) → EndsAt end first w files clock → waits end ≡ w
+unfolding waits
+waits_is end first w files clock e =
+    let few : length (spellings w) ≤ 4094 = omega (arith, sym (ap length e.bytes), length-take end.used (drop 2 end.block.items), end.few) in
+    ap (λ (l : List ℕ). entries_of (block_entries (block_with l))) e.bytes ∙ ap entries_of (block_is_read w e.kind few) ∙ entered_entries 2 w
+
+-- so it ends with what waits
+pub ends_waiting : (end : AuditEnd) (first : ℕ) (w : List Entry) (files : Files) (clock : Clock Left) → EndsAt end first w files clock → EndsAt end first (waits end) files clock
+ends_waiting end first w files clock e = subst (λ (l : List Entry). EndsAt end first l files clock) (sym (waits_is end first w files clock e)) e
+
+not_begun : (e : Entry) → AllPlain (e ∷ []) → is_begin e ≡ false
+not_begun (schema_part part parts bytes) plain = refl
+not_begun (image f b before after) plain = refl
+not_begun (byte_range f b place bytes) plain = refl
+not_begun (quiet_point n) plain = refl
+not_begun (control_point n next counts) plain = refl
+not_begun (begin_restore n kind) plain = absurd plain.0
+
+-- what waits of a running database is in the grammar, and no Begin
+pub plain_waits : (w : List Entry) → AllPlain w → ArePlain w ⊎ IsAlone w → ArePlain w
+plain_waits w plain kind = elim kind [
+  | inl all ↦ all
+  | inr one ↦ subst (λ (l : List Entry). ArePlain l) (sym one.is) (one.fits, not_begun one.entry (subst AllPlain one.is plain), tt)
+]
+
+-- ---- the moments and answers of the audit
+
+pub seals_as : (total tag first : ℕ) (w : List Entry) (old new : Clock Left) → Steps (ends.Seals total tag first w) old new → Steps (Seals (telling_of total first) w) old new
+seals_as total tag first w old new steps = steps_weaken steps (λ y x now s. record { some = s.some; sealed = s.entries; above = s.above; said = s.said })
+
+pub appended_as : (total : ℕ) (new : AuditEnd) (first : ℕ) (es : List Entry) (old later : Files) (clock : Clock Left) → new.total ≡ total → ((g : ℕ) → new.file < g → later g ≡ old g) → Appends new first es old later clock
+    → Appended (telling_of total first) es old later (waits new)
+appended_as total new first es old later clock same behind a = record {
+  some = a.some;
+  sealed = subst (λ n. trail_entries n first later ≡ trail_entries n first old ++ take a.some es) same a.sealed;
+  rest = waits_is new first (drop a.some es) later clock a.ends;
+  above = λ g up. behind g (omega (arith, up, new.high));
+}
+
+pub sealed_as : (total : ℕ) (new : AuditEnd) (first : ℕ) (es : List Entry) (old later : Files) → ((g : ℕ) → new.file < g → later g ≡ old g) → trail_entries total first later ≡ trail_entries total first old ++ es → IsSealed (telling_of total first) es old later
+sealed_as total new first es old later behind is = record { sealed = is; above = λ g up. behind g (omega (arith, up, new.high)) }
+
+pub settled_as : (end : AuditEnd) (first : ℕ) (w : List Entry) (files : Files) (clock : Clock Left) → EndsAt end first w files clock → Settled (telling_of end.total first) files clock
+settled_as end first w files clock e x now = entries_settled end.total end.tag first end.file end.count files x.files e.low end.high e.writes (λ g from upto. e.settled g from upto x now)
+
+-- ---- a structure file is written
+
+pub ends_written : (end : AuditEnd) (first : ℕ) (w : List Entry) (f b : ℕ) (files later : Files) (old new : Clock Left) → 30000 < f → EndsAt end first w files old → InFile f (Torn (1024 * b) 1024) files later
+    → Steps (OnDisk f (Torn (1024 * b) 1024)) old new → EndsAt end first w later new
+ends_written end first w f b files later old new structure e step steps = record {
+  low = e.low;
+  writes = writes_same end.total end.tag first end.file end.count files later e.writes (λ g from upto. step.others g (λ is. omega (arith, structure, upto, end.high, is)));
+  settled = λ g from upto x now.
+      let other : g ≡ f → ⊥ = λ is. omega (arith, structure, upto, end.high, is) in
+      let after = steps.follows x now in
+      after.2.files.others g other ∙ e.settled g from upto after.0 after.1 ∙ sym (step.others g other);
+  bytes = e.bytes;
+  kind = e.kind;
+}
+
+-- ---- entries of the program
+
+pub image_seen : (f b : ℕ) (before : Option (Bor (List ℕ))) (after : Bor (List ℕ)) → entry_seen (Image f b before after) ≡ image f b (option_copied before) after.now
+image_seen f b None after = refl
+image_seen f b (Some old) after = refl

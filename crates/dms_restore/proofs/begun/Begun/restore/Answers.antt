@@ -1,0 +1,52 @@
+use Rattle.std.proofs.Common.{Err, ◌≡◌, sym, subst, List, ℕ}
+use Rattle.dms_base.specs.Causes.{Rose}
+use Rattle.dms_restore.proofs.Results.{is_fault}
+use Rattle.dms_site.specs.Files.{Files, Only}
+use Rattle.dms_running.specs.Restoring.{IsKept, Rewritten}
+use Rattle.dms_restore.specs.Table.{AllStand}
+use Rattle.dms_restore.proofs.Beginnings.{then_looks, table_leave, table_begun, table_restored, table_keeps}
+use Rattle.dms_restore.proofs.begun.Begun.restore.Goals as goal
+
+pub returns-in-Ok-clause-begun : goal.returns-in-Ok-clause-begun
+returns-in-Ok-clause-begun g c p tells begun is =
+    table_begun p _ begun (g.met.S.Site.may_stay c.args.self.log.site tells) c.args.table.now is _ _
+    (then_looks (IsKept p.entries p.point) _ _ _ (c.write_all.ensures.moments p.entries p.point tells is.each) c.sync.ensures.moments)
+    (subst (λ (l : Files). Rewritten (IsKept p.entries p.point) (g.S.Site.files c.args.self.log.site) l) (sym (c.sync.ensures.files tells)) (c.write_all.ensures.written p.entries p.point tells is.each))
+
+pub returns-in-Ok-clause-keeps : goal.returns-in-Ok-clause-keeps
+returns-in-Ok-clause-keeps g c p tells begun is =
+    table_keeps p _ begun (g.met.S.Site.may_stay c.args.self.log.site tells) c.args.table.now is _ _
+    (then_looks (IsKept p.entries p.point) _ _ _ (c.write_all.ensures.moments p.entries p.point tells is.each) c.sync.ensures.moments)
+    (subst (λ (l : Files). Rewritten (IsKept p.entries p.point) (g.S.Site.files c.args.self.log.site) l) (sym (c.sync.ensures.files tells)) (c.write_all.ensures.written p.entries p.point tells is.each))
+
+pub returns-in-Ok-clause-restored : goal.returns-in-Ok-clause-restored
+returns-in-Ok-clause-restored g c p tells begun is =
+    table_restored p _ begun (g.met.S.Site.may_stay c.args.self.log.site tells) c.args.table.now is _ _
+    (then_looks (IsKept p.entries p.point) _ _ _ (c.write_all.ensures.moments p.entries p.point tells is.each) c.sync.ensures.moments)
+    (subst (λ (l : Files). Rewritten (IsKept p.entries p.point) (g.S.Site.files c.args.self.log.site) l) (sym (c.sync.ensures.files tells)) (c.write_all.ensures.written p.entries p.point tells is.each))
+    (subst (λ (l : Files). AllStand p.entries p.point l c.args.table.now) (sym (c.sync.ensures.files tells)) (c.in_default.ensures.done p.entries p.point tells is.each))
+    (subst (λ (l : Files). Only l (g.S.Site.clock c.sync.new.self)) (sym (c.sync.ensures.files tells)) (c.in-Ok.ensures.durable tells))
+
+pub returns-in-Ok-clause-moments : goal.returns-in-Ok-clause-moments
+returns-in-Ok-clause-moments g c p tells begun is =
+    table_leave p _ begun (g.met.S.Site.may_stay c.args.self.log.site tells) c.args.table.now is _
+    (then_looks (IsKept p.entries p.point) _ _ _ (c.write_all.ensures.moments p.entries p.point tells is.each) c.sync.ensures.moments)
+
+pub returns-in-Err-clause-stopped : goal.returns-in-Err-clause-stopped
+returns-in-Err-clause-stopped g c p tells begun is =
+    table_leave p _ begun (g.met.S.Site.may_stay c.args.self.log.site tells) c.args.table.now is _ (c.write_all.ensures.moments p.entries p.point tells is.each)
+
+pub returns-in-Err-sync-clause-stopped : goal.returns-in-Err-sync-clause-stopped
+returns-in-Err-sync-clause-stopped g c p tells begun is =
+    table_leave p _ begun (g.met.S.Site.may_stay c.args.self.log.site tells) c.args.table.now is _
+    (then_looks (IsKept p.entries p.point) _ _ _ (c.write_all.ensures.moments p.entries p.point tells is.each) c.sync.ensures.moments)
+
+pub returns-in-Err-clause-cause : goal.returns-in-Err-clause-cause
+returns-in-Err-clause-cause g c disk = c.in-Err.ensures.disk.failed (λ i. Err (disk i))
+
+pub returns-in-Err-clause-only : goal.returns-in-Err-clause-only
+returns-in-Err-clause-only g c p tells is = c.in-Err.ensures.only p.entries p.point tells is.each
+
+pub returns-in-Err-sync-clause-cause : goal.returns-in-Err-sync-clause-cause
+returns-in-Err-sync-clause-cause g c disk =
+    subst (λ n. Rose n (g.S.Site.disk_faults c.sync.new.self)) (c.in_default.ensures.disk.clean (λ e. subst (λ r. is_fault r) (sym e) tt)) c.in-Err-sync.ensures.faults.failed

@@ -1,0 +1,24 @@
+use Rattle.std.proofs.Common.{Err, ◌≡◌, refl}
+use Rattle.dms_restore.proofs.Endings.{end_starts, end_leave, ended}
+use Rattle.dms_restore.proofs.begun.Restored.finish.Goals as goal
+
+pub returns-in-Ok-clause-ended : goal.returns-in-Ok-clause-ended
+returns-in-Ok-clause-ended g c p tells by =
+    let read = g.met.S.Site.may_stay c.args.self.log.site tells in
+    ended p _ read c.args.parts.now c.requires.some c.args.point c.args.next c.args.counts.now by _ c.seal_control.ensures.kind.0 refl
+    (c.in-Ok.ensures.sealed c.args.self.log.first tells (end_starts p _ read c.args.parts.now c.requires.some c.args.point c.args.next c.args.counts.now by))
+
+pub returns-in-Ok-clause-moments : goal.returns-in-Ok-clause-moments
+returns-in-Ok-clause-moments g c p tells by =
+    let read = g.met.S.Site.may_stay c.args.self.log.site tells in
+    end_leave p _ read c.args.parts.now c.requires.some c.args.point c.args.next c.args.counts.now by _
+    (c.seal_control.ensures.moments c.args.self.log.first tells (end_starts p _ read c.args.parts.now c.requires.some c.args.point c.args.next c.args.counts.now by))
+
+pub returns-in-Err-clause-stopped : goal.returns-in-Err-clause-stopped
+returns-in-Err-clause-stopped g c p tells by =
+    let read = g.met.S.Site.may_stay c.args.self.log.site tells in
+    end_leave p _ read c.args.parts.now c.requires.some c.args.point c.args.next c.args.counts.now by _
+    (c.seal_control.ensures.moments c.args.self.log.first tells (end_starts p _ read c.args.parts.now c.requires.some c.args.point c.args.next c.args.counts.now by))
+
+pub returns-in-Err-clause-cause : goal.returns-in-Err-clause-cause
+returns-in-Err-clause-cause g c disk = c.in-Err.ensures.disk.failed (λ i. Err (disk i))

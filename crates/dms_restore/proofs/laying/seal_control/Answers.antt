@@ -1,0 +1,24 @@
+use Rattle.std.proofs.Common.{◌≡◌, ◌∷◌, [], ◌∙◌, refl}
+use Rattle.dms_restore.proofs.Results.{four_ok}
+use Rattle.dms_restore.proofs.Laid.{lay_since, lay_one, lay_more, lay_sealing, lay_sealed}
+use Rattle.dms_restore.proofs.laying.seal_control.Goals as goal
+
+pub returns-in_err-lay_parts-clause-moments : goal.returns-in_err-lay_parts-clause-moments
+returns-in_err-lay_parts-clause-moments g c first tells s = lay_more _ _ _ _ _ _ (c.lay_parts.ensures.moments first tells s)
+
+pub returns-in_err-append-clause-moments : goal.returns-in_err-append-clause-moments
+returns-in_err-append-clause-moments g c first tells s =
+    lay_since _ _ c.append.new.self first _ _ _ _ _ (c.in_ok-lay_parts.ensures.laid first tells s) c.lay_parts.ensures.kind.0 _ _ (λ first waiting plain ends. c.append.ensures.moments first waiting tells plain ends)
+
+pub returns-clause-moments : goal.returns-clause-moments
+returns-clause-moments g c first tells s =
+    let one = lay_one _ _ c.append.new.self first _ _ _ _ _ (c.in_ok-lay_parts.ensures.laid first tells s) c.lay_parts.ensures.kind.0 _ _ (λ first waiting plain ends. c.append.ensures.moments first waiting tells plain ends) _ c.append.ensures.kind.0
+    (c.in_ok-append.ensures.behind tells) (λ first waiting plain ends. c.in_ok-append.ensures.appends first waiting tells plain ends) in
+    lay_sealing _ _ c.seal.new.self first _ _ _ _ _ one (c.append.ensures.kind.0 ∙ c.lay_parts.ensures.kind.0) _ (λ first waiting ends. c.seal.ensures.moments first waiting tells ends)
+
+pub returns-clause-sealed : goal.returns-clause-sealed
+returns-clause-sealed g c = four_ok c.seal.result c.seal.ensures.sealed c.seal.ensures.ends c.seal.ensures.behind c.seal.ensures.durable (λ sealed ends behind durable first tells s.
+    let one = lay_one _ _ c.append.new.self first _ _ _ _ _ (c.in_ok-lay_parts.ensures.laid first tells s) c.lay_parts.ensures.kind.0 _ _ (λ first waiting plain ends. c.append.ensures.moments first waiting tells plain ends) _ c.append.ensures.kind.0
+    (c.in_ok-append.ensures.behind tells) (λ first waiting plain ends. c.in_ok-append.ensures.appends first waiting tells plain ends) in
+    lay_sealed _ _ c.seal.new.self first _ _ _ _ _ one (c.append.ensures.kind.0 ∙ c.lay_parts.ensures.kind.0) _ (λ first waiting at. c.seal.ensures.moments first waiting tells at) _
+    (durable (c.in_ok-append.ensures.waits refl) tells) (behind tells) (λ first waiting at. sealed first waiting tells at) (λ first waiting at. ends first waiting tells at))

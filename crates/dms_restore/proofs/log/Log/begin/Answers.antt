@@ -1,0 +1,34 @@
+use Rattle.std.proofs.Common.{Err, ◌≡◌, refl}
+use Rattle.dms_audrec.specs.Seen.{how_seen}
+use Rattle.dms_restore.proofs.Sizes.{begin_size}
+use Rattle.dms_restore.proofs.Beginnings.{kind_is, begin_leave, begin_begun, begin_keeps}
+use Rattle.dms_restore.proofs.log.Log.begin.Goals as goal
+
+pub returns-in-Ok-clause-begun : goal.returns-in-Ok-clause-begun
+returns-in-Ok-clause-begun g c tells =
+    begin_begun _ (c.requires.runs tells) (g.met.S.Site.may_stay c.args.self.site tells) c.args.point (how_seen c.args.how) c.requires.by_audit (c.requires.last tells) _ c.append.ensures.kind.0 refl
+    (λ first waiting plain ends. c.append.ensures.moments first waiting tells plain ends) (λ first waiting plain ends. c.in-Ok.ensures.appends first waiting tells plain ends) (c.in-Ok.ensures.behind tells)
+
+pub returns-in-Ok-clause-keeps : goal.returns-in-Ok-clause-keeps
+returns-in-Ok-clause-keeps g c tells =
+    begin_keeps _ (c.requires.runs tells) (g.met.S.Site.may_stay c.args.self.site tells) c.args.point (how_seen c.args.how) c.requires.by_audit (c.requires.last tells) _ c.append.ensures.kind.0 refl
+    (λ first waiting plain ends. c.append.ensures.moments first waiting tells plain ends) (λ first waiting plain ends. c.in-Ok.ensures.appends first waiting tells plain ends) (c.in-Ok.ensures.behind tells)
+
+pub returns-in-Ok-clause-moments : goal.returns-in-Ok-clause-moments
+returns-in-Ok-clause-moments g c tells =
+    begin_leave _ (c.requires.runs tells) (g.met.S.Site.may_stay c.args.self.site tells) c.args.point (how_seen c.args.how) c.requires.by_audit (c.requires.last tells) _
+    (λ first waiting plain ends. c.append.ensures.moments first waiting tells plain ends)
+
+pub returns-in-Err-clause-stopped : goal.returns-in-Err-clause-stopped
+returns-in-Err-clause-stopped g c tells =
+    begin_leave _ (c.requires.runs tells) (g.met.S.Site.may_stay c.args.self.site tells) c.args.point (how_seen c.args.how) c.requires.by_audit (c.requires.last tells) _
+    (λ first waiting plain ends. c.append.ensures.moments first waiting tells plain ends)
+
+pub append-requires-clause-size : goal.append-requires-clause-size
+append-requires-clause-size g c = begin_size c.args.point (how_seen c.args.how) c.requires.by_audit
+
+pub append-requires-clause-entry : goal.append-requires-clause-entry
+append-requires-clause-entry g c = (c.ranges.point.fits, kind_is (how_seen c.args.how) c.requires.by_audit)
+
+pub returns-in-Err-clause-cause : goal.returns-in-Err-clause-cause
+returns-in-Err-clause-cause g c disk = c.in-Err.ensures.disk.failed (λ i. Err (disk i))

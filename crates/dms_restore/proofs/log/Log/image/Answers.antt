@@ -1,0 +1,30 @@
+use Rattle.std.proofs.Common.{◌≡◌, refl}
+use Rattle.std.specs.Option.{option_copied}
+use Rattle.dms_restore.proofs.Results.{both_ok}
+use Rattle.dms_restore.proofs.Trails.{image_seen}
+use Rattle.dms_restore.proofs.Sizes.{image_entry, image_size}
+use Rattle.dms_restore.proofs.Logs.{image_leave, image_goes, image_logs}
+use Rattle.dms_restore.proofs.log.Log.image.Goals as goal
+
+pub returns-clause-moments : goal.returns-clause-moments
+returns-clause-moments g c tells =
+    image_leave _ (c.requires.runs tells) (g.met.S.Site.may_stay c.args.self.now.site tells) c.args.file c.args.block (option_copied c.args.before) c.args.after.now (c.requires.tells tells) c.requires.after _
+    (image_seen c.args.file c.args.block c.args.before c.args.after) _ (λ first waiting plain ends. c.append.ensures.moments first waiting tells plain ends)
+
+pub returns-clause-runs : goal.returns-clause-runs
+returns-clause-runs g c = both_ok c.append.result c.append.ensures.appends c.append.ensures.behind (λ appends behind tells.
+    image_goes _ (c.requires.runs tells) (g.met.S.Site.may_stay c.args.self.now.site tells) c.args.file c.args.block (option_copied c.args.before) c.args.after.now (c.requires.tells tells) c.requires.after _
+    (image_seen c.args.file c.args.block c.args.before c.args.after) _ c.append.ensures.kind.0 refl
+    (λ first waiting plain ends. c.append.ensures.moments first waiting tells plain ends) (λ first waiting plain ends. appends first waiting tells plain ends) (behind tells))
+
+pub returns-clause-logs : goal.returns-clause-logs
+returns-clause-logs g c = both_ok c.append.result c.append.ensures.appends c.append.ensures.behind (λ appends behind tells.
+    image_logs _ (c.requires.runs tells) (g.met.S.Site.may_stay c.args.self.now.site tells) c.args.file c.args.block (option_copied c.args.before) c.args.after.now (c.requires.tells tells) c.requires.after _
+    (image_seen c.args.file c.args.block c.args.before c.args.after) _ c.append.ensures.kind.0 refl
+    (λ first waiting plain ends. c.append.ensures.moments first waiting tells plain ends) (λ first waiting plain ends. appends first waiting tells plain ends) (behind tells))
+
+pub append-requires-clause-entry : goal.append-requires-clause-entry
+append-requires-clause-entry g c = image_entry c.args.file c.args.block c.args.before c.args.after c.requires.file.0 c.requires.file.1 c.requires.block c.requires.before c.requires.after
+
+pub append-requires-clause-size : goal.append-requires-clause-size
+append-requires-clause-size g c = image_size c.args.file c.args.block c.args.before c.args.after c.requires.before c.requires.after

@@ -1,0 +1,22 @@
+use Rattle.std.proofs.Common.{◌≡◌, refl}
+use Rattle.dms_restore.proofs.Results.{both_ok}
+use Rattle.dms_restore.proofs.Sizes.{quiet_size}
+use Rattle.dms_restore.proofs.Logs.{quiet_leave, quiet_goes, quiet_logs}
+use Rattle.dms_restore.proofs.log.Log.quiet.Goals as goal
+
+pub returns-clause-moments : goal.returns-clause-moments
+returns-clause-moments g c tells =
+    quiet_leave _ (c.requires.runs tells) (g.met.S.Site.may_stay c.args.self.now.site tells) c.args.number (c.requires.number tells) c.requires.room _ (λ first waiting plain ends. c.append.ensures.moments first waiting tells plain ends)
+
+pub returns-clause-runs : goal.returns-clause-runs
+returns-clause-runs g c = both_ok c.append.result c.append.ensures.appends c.append.ensures.behind (λ appends behind tells.
+    quiet_goes _ (c.requires.runs tells) (g.met.S.Site.may_stay c.args.self.now.site tells) c.args.number (c.requires.number tells) c.requires.room _ c.append.ensures.kind.0 refl
+    (λ first waiting plain ends. c.append.ensures.moments first waiting tells plain ends) (λ first waiting plain ends. appends first waiting tells plain ends) (behind tells))
+
+pub returns-clause-logs : goal.returns-clause-logs
+returns-clause-logs g c = both_ok c.append.result c.append.ensures.appends c.append.ensures.behind (λ appends behind tells.
+    quiet_logs _ (c.requires.runs tells) (g.met.S.Site.may_stay c.args.self.now.site tells) c.args.number (c.requires.number tells) c.requires.room _ c.append.ensures.kind.0 refl
+    (λ first waiting plain ends. c.append.ensures.moments first waiting tells plain ends) (λ first waiting plain ends. appends first waiting tells plain ends) (behind tells))
+
+pub append-requires-clause-size : goal.append-requires-clause-size
+append-requires-clause-size g c = quiet_size c.args.number

@@ -1,0 +1,5 @@
+pub mod Logging
+pub mod Table
+pub mod Laying
+pub mod Begins
+pub mod Endings

@@ -1,0 +1,117 @@
+-- The end of an audit trail over its files, as a running database.
+use Rattle.std.specs.Prelude.{ℕ, ◌+◌, ◌≤◌, ◌<◌, ◌==◌, ◌≡◌, List, [], ◌∷◌, ◌++◌, length, Option}
+use Rattle.dms_moments.specs.Moments.{Clock}
+use Rattle.dms_site.specs.Files.{Files, Left, stored_of}
+use Rattle.dms_history.specs.Events.{Block, Content}
+use Rattle.dms_history.specs.Replay.{with_block}
+use Rattle.dms_history.specs.Pick.{Dumps}
+use Rattle.dms_history.specs.Points.{LivePoint}
+use Rattle.dms_history.specs.Entries.{Entry, image, quiet_point}
+use Rattle.dms_audfile.specs.declared.audit_end.AuditEnd.{AuditEnd}
+use Rattle.dms_audfile.specs.Blocks.{block_entries}
+use Rattle.dms_audfile.specs.Unsealed.{block_with}
+use Rattle.dms_audfile.specs.TrailEntries.{entries_of, trail_entries}
+use Rattle.dms_audfile.specs.Ends.{unsealed, EndsAt}
+use Rattle.dms_running.specs.Telling.{Telling}
+use Rattle.dms_running.specs.Running.{State, entries_now, next_now, points_now, sure_now, here_now, content_now, IsRunning, IsLogged, IsChanged, LeavesPoints}
+
+-- No dump is read yet: while no restore by a dump is pending, none counts.
+abbrev pub dumps_in : Files → Dumps
+dumps_in files d = record { point = 0; blocks = λ f. [] }
+
+-- what files tell of which the trail begins with file `first` and has so many blocks a file
+abbrev pub telling_of : ℕ → ℕ → Telling
+telling_of total first = record { first = first == 10001; entries = trail_entries total first; dumps = dumps_in }
+
+-- the entries that wait: those of the block that is sealed next
+unfoldable pub waits : AuditEnd → List Entry
+waits end = entries_of (block_entries (block_with (unsealed end)))
+
+-- the end of a trail, its first file, what a read of the site gives, and what a stop leaves
+pub record View : Type 1 where
+  pub end : AuditEnd
+  pub first : ℕ
+  pub files : Files
+  pub clock : Clock Left
+
+abbrev pub view : AuditEnd → ℕ → Files → Clock Left → View
+view end first files clock = record { end = end; first = first; files = files; clock = clock }
+
+abbrev pub telling : View → Telling
+telling v = telling_of v.end.total v.first
+
+abbrev pub state : View → State
+state v = record { waiting = waits v.end; files = v.files; clock = v.clock }
+
+-- The trail ends where it is said to, and nothing of its files is pending.
+abbrev pub Ends : View → Type 0
+Ends v = EndsAt v.end v.first (waits v.end) v.files v.clock
+
+-- So it is, and the database runs.
+pub record LogRuns (v : View) : Type 0 where
+  pub ends : Ends v
+  pub runs : IsRunning (telling v) (state v)
+
+-- the points so far, how many of them each stop leaves, the one that a quiet point would make, the next number, the content
+abbrev pub points : View → List LivePoint
+points v = points_now (telling v) (state v)
+
+abbrev pub sure : View → ℕ
+sure v = sure_now (telling v) (state v)
+
+abbrev pub here : View → LivePoint
+here v = here_now (telling v) (state v)
+
+abbrev pub next : View → ℕ
+next v = next_now (telling v) (state v)
+
+abbrev pub content : View → Content
+content v = content_now (telling v) (state v)
+
+-- block b of file f has a change since the last Control, sealed, or sealed or waiting
+abbrev pub Logged : View → ℕ → ℕ → Type 0
+Logged v f b = IsLogged (telling v) v.files f b
+
+abbrev pub Changed : View → ℕ → ℕ → Type 0
+Changed v f b = IsChanged (telling v) (state v) f b
+
+-- A stop from then to now left the first so many of these points, at least those that were sure then, or what it could leave then.
+abbrev pub Leaves : View → View → List LivePoint → ℕ → Type 0
+Leaves a b points next = LeavesPoints (telling a) points next (state a) b.clock
+
+-- all entries, those that wait among them
+abbrev pub entries : View → List Entry
+entries v = entries_now (telling v) (state v)
+
+-- An Image was logged: it stands behind the old entries, the content has the block, and no structure file changed.
+pub record LogsImage (a b : View) (f k : ℕ) (before : Option Block) (after : Block) : Type 0 where
+  pub entries_are : entries b ≡ entries a ++ image f k before after ∷ []
+  pub points_same : points b ≡ points a
+  pub next_same : next b ≡ next a
+  pub content_is : content b ≡ with_block (content a) f k after
+  pub blocks_same : stored_of b.files ≡ stored_of a.files
+
+-- A quiet point was made, with the content of now, and no structure file changed.
+pub record LogsQuiet (a b : View) : Type 0 where
+  pub entries_are : entries b ≡ entries a ++ quiet_point (next a) ∷ []
+  pub points_are : points b ≡ points a ++ here a ∷ []
+  pub next_is : next b ≡ next a + 1
+  pub content_same : content b ≡ content a
+  pub blocks_same : stored_of b.files ≡ stored_of a.files
+
+-- Entries, points, next number and content are the same, no fewer points are sure, and no structure file changed.
+pub record LogsNothing (a b : View) : Type 0 where
+  pub entries_same : entries b ≡ entries a
+  pub points_same : points b ≡ points a
+  pub next_same : next b ≡ next a
+  pub content_same : content b ≡ content a
+  pub blocks_same : stored_of b.files ≡ stored_of a.files
+  pub surer : sure a ≤ sure b
+
+-- Entries, points, next number and content are the same, and as many points are sure.
+pub record LogsWrite (a b : View) : Type 0 where
+  pub entries_same : entries b ≡ entries a
+  pub points_same : points b ≡ points a
+  pub next_same : next b ≡ next a
+  pub content_same : content b ≡ content a
+  pub sure_same : sure b ≡ sure a

@@ -1,0 +1,36 @@
+-- What the audit tells of each block at a point, as a table of places in audit files.
+use Rattle.std.specs.Prelude.{ℕ, ◌+◌, ◌<◌, ◌≤◌, ◌^◌, ◌≡◌, ◌⊎◌, List, [], ◌∷◌, length, Some}
+use Rattle.dms_site.specs.Files.{Files, range}
+use Rattle.dms_history.specs.Events.{Block, Event}
+use Rattle.dms_history.specs.Told.{told_block}
+use Rattle.dms_running.specs.Restoring.{StandsAsTold}
+use Rattle.dms_restore.specs.declared.told.Told.{Told}
+
+-- the bytes at the place
+abbrev pub bytes_at : Files → Told → Block
+bytes_at files t = range t.at 1024 (files t.audit)
+
+-- blocks of structure files, and places in files that are none
+abbrev pub AreBlocks : List Told → Type 0
+AreBlocks [] = Unit {0}
+AreBlocks (t ∷ ts) = ((30000 < t.file) × (t.block < 2097152) × (t.audit ≤ 30000) × (t.at + 1024 < 2 ^ 40)) × AreBlocks ts
+
+-- The audit tells of each of them at a point what stands at its place, which is a whole block.
+abbrev pub EachTold : List Event → ℕ → Files → List Told → Type 0
+EachTold live m files [] = Unit {0}
+EachTold live m files (t ∷ ts) = ((told_block live m t.file t.block ≡ Some (bytes_at files t)) × (length (bytes_at files t) ≡ 1024)) × EachTold live m files ts
+
+-- the block is one of them
+abbrev pub IsAmong : ℕ → ℕ → List Told → Type 0
+IsAmong f b [] = ⊥
+IsAmong f b (t ∷ ts) = ((t.file ≡ f) × (t.block ≡ b)) ⊎ IsAmong f b ts
+
+-- The table of a point: what the audit tells of each block, and of no other.
+pub record IsTable (live : List Event) (m : ℕ) (files : Files) (table : List Told) : Type 0 where
+  pub each : EachTold live m files table
+  pub all : (f b : ℕ) (x : Block) → told_block live m f b ≡ Some x → IsAmong f b table
+
+-- each of these blocks stands as the audit tells it
+abbrev pub AllStand : List Event → ℕ → Files → List Told → Type 0
+AllStand live m files [] = Unit {0}
+AllStand live m files (t ∷ ts) = StandsAsTold live m files t.file t.block × AllStand live m files ts

@@ -1,0 +1,100 @@
+//! A restore by the audit, from its Begin to its Control. Each state owns the log and hands it back with each fault.
+
+ghost use Rattle.std.specs.Prelude.{◌≡◌, ◌⊎◌, ◌+◌, ◌<◌, ◌^◌, ℕ, IfOk, IfErr, IsTrue};
+ghost use Rattle.dms_base.specs.Causes.{Rose};
+ghost use Rattle.dms_history.specs.History.{Pending};
+ghost use Rattle.dms_history.specs.Entries.{how_of};
+ghost use Rattle.dms_audrec.specs.Seen.{how_seen};
+ghost use Rattle.dms_running.specs.Begun.{ByAudit};
+ghost use Rattle.dms_restore.specs.Logging.{view, LogRuns, points, next, Leaves};
+ghost use Rattle.dms_restore.specs.Begins.{LastIs, begun_to, BegunAt, Begins, RestoredAt, Restores, LeavesEach};
+ghost use Rattle.dms_restore.specs.Table.{AreBlocks, IsTable};
+
+use crate::restoring::write_all;
+use crate::{Log, Told};
+use dms_audfile::AudFault;
+use dms_audrec::{Entry, How};
+use dms_site::Site;
+
+/// A database over which a restore is begun.
+pub struct Begun<S: Site> {
+    pub log: Log<S>,
+}
+
+/// A database whose blocks stand as the restore is to leave them.
+pub struct Restored<S: Site> {
+    pub log: Log<S>,
+}
+
+impl<S: Site> Log<S> {
+    /// Begins a restore by the audit to the last point. What waits is sealed with the Begin.
+    pub fn begin(self, point: u64, how: How<'_>) -> Result<Begun<S>, (AudFault, Log<S>)>
+        requires runs { IsTrue S.tells → LogRuns (view self.end self.first (S.files self.site) (S.clock self.site)) }
+        requires by_audit { ByAudit (how_of (how_seen how)) }
+        requires last { IsTrue S.tells → LastIs (view self.end self.first (S.files self.site) (S.clock self.site)) point }
+        ensures begun { IfOk result (λ b. IsTrue S.tells → BegunAt (begun_to (view self.end self.first (S.files self.site) (S.clock self.site)) point (how_of (how_seen how.entry))) (view b.log.end b.log.first (S.files b.log.site) (S.clock b.log.site))) }
+        ensures keeps { IfOk result (λ b. IsTrue S.tells → Begins (view self.end self.first (S.files self.site) (S.clock self.site)) (view b.log.end b.log.first (S.files b.log.site) (S.clock b.log.site)) point (how_of (how_seen how.entry))) }
+        ensures moments { IfOk result (λ b. IsTrue S.tells → let a = view self.end self.first (S.files self.site) (S.clock self.site) in Leaves a (view b.log.end b.log.first (S.files b.log.site) (S.clock b.log.site)) (points a) (next a)) }
+        ensures stopped { IfErr result (λ e. IsTrue S.tells → let a = view self.end self.first (S.files self.site) (S.clock self.site) in Leaves a (view e.1.end e.1.first (S.files e.1.site) (S.clock e.1.site)) (points a) (next a)) }
+        ensures same { IfOk result (λ b. S.same_site self.site b.log.site) }
+        ensures same_then { IfErr result (λ e. S.same_site self.site e.1.site) }
+        ensures said { IfOk result (λ b. S.said b.log.site ≡ S.said self.site) }
+        ensures said_then { IfErr result (λ e. S.said e.1.site ≡ S.said self.site) }
+        ensures clean { IfOk result (λ b. S.disk_faults b.log.site ≡ S.disk_faults self.site) }
+        ensures only { IfErr result (λ e. (e.0 ≡ AudFault.Disk) ⊎ (e.0 ≡ AudFault.Full self.end.limit)) }
+        ensures cause { IfErr result (λ e. e.0 ≡ AudFault.Disk → Rose (S.disk_faults self.site) (S.disk_faults e.1.site)) }
+        ensures kind { IfOk result (λ b. (b.log.end.total ≡ self.end.total) × (b.log.end.tag ≡ self.end.tag) × (b.log.end.limit ≡ self.end.limit) × (b.log.first ≡ self.first)) }
+    {
+        let Log {
+            mut site,
+            mut end,
+            first,
+        } = self;
+        match end.append(&mut site, &Entry::Begin(point, how)) {
+            Ok(()) => Ok(Begun {
+                log: Log { site, end, first },
+            }),
+            Err(fault) => Err((fault, Log { site, end, first })),
+        }
+    }
+}
+
+impl<S: Site> Begun<S> {
+    /// Writes all blocks of the table of the restore's point, and syncs. Never reads a structure file.
+    pub fn restore(self, table: &[Told]) -> Result<Restored<S>, (AudFault, Log<S>)>
+        requires blocks { AreBlocks table.now }
+        ensures begun { IfOk result (λ r. (p : Pending) → IsTrue S.tells → BegunAt p (view self.log.end self.log.first (S.files self.log.site) (S.clock self.log.site)) → IsTable p.entries p.point (S.files self.log.site) table.now
+            → BegunAt p (view r.log.end r.log.first (S.files r.log.site) (S.clock r.log.site))) }
+        ensures restored { IfOk result (λ r. (p : Pending) → IsTrue S.tells → BegunAt p (view self.log.end self.log.first (S.files self.log.site) (S.clock self.log.site)) → IsTable p.entries p.point (S.files self.log.site) table.now
+            → RestoredAt p (view r.log.end r.log.first (S.files r.log.site) (S.clock r.log.site))) }
+        ensures keeps { IfOk result (λ r. (p : Pending) → IsTrue S.tells → BegunAt p (view self.log.end self.log.first (S.files self.log.site) (S.clock self.log.site)) → IsTable p.entries p.point (S.files self.log.site) table.now
+            → Restores p (view self.log.end self.log.first (S.files self.log.site) (S.clock self.log.site)) (view r.log.end r.log.first (S.files r.log.site) (S.clock r.log.site))) }
+        ensures moments { IfOk result (λ r. (p : Pending) → IsTrue S.tells → BegunAt p (view self.log.end self.log.first (S.files self.log.site) (S.clock self.log.site)) → IsTable p.entries p.point (S.files self.log.site) table.now
+            → LeavesEach (view self.log.end self.log.first (S.files self.log.site) (S.clock self.log.site)) (view r.log.end r.log.first (S.files r.log.site) (S.clock r.log.site))) }
+        ensures stopped { IfErr result (λ e. (p : Pending) → IsTrue S.tells → BegunAt p (view self.log.end self.log.first (S.files self.log.site) (S.clock self.log.site)) → IsTable p.entries p.point (S.files self.log.site) table.now
+            → LeavesEach (view self.log.end self.log.first (S.files self.log.site) (S.clock self.log.site)) (view e.1.end e.1.first (S.files e.1.site) (S.clock e.1.site))) }
+        ensures same { IfOk result (λ r. S.same_site self.log.site r.log.site) }
+        ensures same_then { IfErr result (λ e. S.same_site self.log.site e.1.site) }
+        ensures said { IfOk result (λ r. S.said r.log.site ≡ S.said self.log.site) }
+        ensures clean { IfOk result (λ r. S.disk_faults r.log.site ≡ S.disk_faults self.log.site) }
+        ensures only { IfErr result (λ e. (p : Pending) → IsTrue S.tells → IsTable p.entries p.point (S.files self.log.site) table.now → e.0 ≡ AudFault.Disk) }
+        ensures cause { IfErr result (λ e. e.0 ≡ AudFault.Disk → Rose (S.disk_faults self.log.site) (S.disk_faults e.1.site)) }
+        ensures kind { IfOk result (λ r. (r.log.end ≡ self.log.end) × (r.log.first ≡ self.log.first)) }
+    {
+        let Begun { log } = self;
+        let Log {
+            mut site,
+            end,
+            first,
+        } = log;
+        if let Err(fault) = write_all(&mut site, table) {
+            return Err((fault, Log { site, end, first }));
+        }
+        match site.sync() {
+            Ok(()) => Ok(Restored {
+                log: Log { site, end, first },
+            }),
+            Err(_) => Err((AudFault::Disk, Log { site, end, first })),
+        }
+    }
+}

@@ -1,0 +1,111 @@
+//! The end of an audit trail over its site.
+
+ghost use Rattle.std.specs.Prelude.{◌≡◌, ◌⊎◌, ◌+◌, ◌*◌, ◌^◌, ◌<◌, ◌≤◌, ◌++◌, [], ◌∷◌, ℕ, length, OnOk, IfErr, IfSome, IsErrOf, IsTrue};
+ghost use Rattle.std.specs.Option.{option_copied};
+ghost use Rattle.dms_base.specs.Causes.{HasCause};
+ghost use Rattle.dms_site.specs.Files.{with_file, overlaid};
+ghost use Rattle.dms_history.specs.Replay.{Tells};
+ghost use Rattle.dms_audfile.specs.Counting.{CountedAt};
+ghost use Rattle.dms_restore.specs.Logging.{waits, view, LogRuns, points, sure, here, next, content, Logged, Leaves, LogsImage, LogsQuiet, LogsNothing, LogsWrite};
+
+use dms_audfile::{AudFault, AuditEnd};
+use dms_audrec::Entry;
+use dms_site::{Failed, Site};
+
+/// The end of an audit trail over its site, and the number of the trail's first file.
+pub struct Log<S: Site> {
+    pub site: S,
+    pub end: AuditEnd,
+    pub first: u32,
+}
+
+impl<S: Site> Log<S> {
+    /// Logs the Image of a block that is changed: none before it where the block is new.
+    ///
+    /// Where it doesn't fit behind what waits, that is sealed first. Answers Disk where a call of the site failed, and else Full where
+    /// the audit has no room; then the Image wasn't logged.
+    pub fn image(
+        &mut self,
+        file: u32,
+        block: u32,
+        before: Option<&[u8]>,
+        after: &[u8],
+    ) -> Result<(), AudFault>
+        requires runs { IsTrue S.tells → LogRuns (view self.old.end self.old.first (S.files self.old.site) (S.clock self.old.site)) }
+        requires tells { IsTrue S.tells → Tells block (option_copied before) (content (view self.old.end self.old.first (S.files self.old.site) (S.clock self.old.site)) file) }
+        requires file { (30001 ≤ file) × (file ≤ 30200) }
+        requires block { block < 2097152 }
+        requires before { IfSome before (λ b. length b.now ≡ 1024) }
+        requires after { length after.now ≡ 1024 }
+        ensures runs { OnOk result (IsTrue S.tells → LogRuns (view self.new.end self.new.first (S.files self.new.site) (S.clock self.new.site))) }
+        ensures logs { OnOk result (IsTrue S.tells → LogsImage (view self.old.end self.old.first (S.files self.old.site) (S.clock self.old.site)) (view self.new.end self.new.first (S.files self.new.site) (S.clock self.new.site)) file block (option_copied before.entry) after.now) }
+        ensures moments { IsTrue S.tells → let a = view self.old.end self.old.first (S.files self.old.site) (S.clock self.old.site) in Leaves a (view self.new.end self.new.first (S.files self.new.site) (S.clock self.new.site)) (points a) (next a) }
+        ensures kind { (self.new.end.total ≡ self.old.end.total) × (self.new.end.tag ≡ self.old.end.tag) × (self.new.end.limit ≡ self.old.end.limit) × (self.new.first ≡ self.old.first) }
+        ensures only { IfErr result (λ e. (e ≡ AudFault.Disk) ⊎ (e ≡ AudFault.Full self.old.end.limit)) }
+        ensures full { IsErrOf result (AudFault.Full self.old.end.limit) → (self.new.end.used ≡ 0) × (10000 + self.old.end.limit < self.new.end.file) }
+        ensures said { S.said self.new.site ≡ S.said self.old.site }
+        ensures same_site { S.same_site self.old.site self.new.site }
+        ensures disk { CountedAt (IsErrOf result AudFault.Disk) (S.disk_faults self.old.site) (S.disk_faults self.new.site) }
+        ensures say_faults { S.say_faults self.new.site ≡ S.say_faults self.old.site }
+    {
+        self.end
+            .append(&mut self.site, &Entry::Image(file, block, before, after))
+    }
+
+    /// Logs a quiet point with the next number. Faults as those of an Image.
+    pub fn quiet(&mut self, number: u64) -> Result<(), AudFault>
+        requires runs { IsTrue S.tells → LogRuns (view self.old.end self.old.first (S.files self.old.site) (S.clock self.old.site)) }
+        requires number { IsTrue S.tells → number ≡ next (view self.old.end self.old.first (S.files self.old.site) (S.clock self.old.site)) }
+        requires room { number + 1 < 2 ^ 64 }
+        ensures runs { OnOk result (IsTrue S.tells → LogRuns (view self.new.end self.new.first (S.files self.new.site) (S.clock self.new.site))) }
+        ensures logs { OnOk result (IsTrue S.tells → LogsQuiet (view self.old.end self.old.first (S.files self.old.site) (S.clock self.old.site)) (view self.new.end self.new.first (S.files self.new.site) (S.clock self.new.site))) }
+        ensures moments { IsTrue S.tells → let a = view self.old.end self.old.first (S.files self.old.site) (S.clock self.old.site) in Leaves a (view self.new.end self.new.first (S.files self.new.site) (S.clock self.new.site)) (points a ++ here a ∷ []) (next a + 1) }
+        ensures kind { (self.new.end.total ≡ self.old.end.total) × (self.new.end.tag ≡ self.old.end.tag) × (self.new.end.limit ≡ self.old.end.limit) × (self.new.first ≡ self.old.first) }
+        ensures only { IfErr result (λ e. (e ≡ AudFault.Disk) ⊎ (e ≡ AudFault.Full self.old.end.limit)) }
+        ensures full { IsErrOf result (AudFault.Full self.old.end.limit) → (self.new.end.used ≡ 0) × (10000 + self.old.end.limit < self.new.end.file) }
+        ensures said { S.said self.new.site ≡ S.said self.old.site }
+        ensures same_site { S.same_site self.old.site self.new.site }
+        ensures disk { CountedAt (IsErrOf result AudFault.Disk) (S.disk_faults self.old.site) (S.disk_faults self.new.site) }
+        ensures say_faults { S.say_faults self.new.site ≡ S.say_faults self.old.site }
+    {
+        self.end.append(&mut self.site, &Entry::Quiet(number))
+    }
+
+    /// Seals all that waits: every point so far is sure. Answers Disk alone, where a call of the site failed.
+    pub fn sync(&mut self) -> Result<(), AudFault>
+        requires runs { IsTrue S.tells → LogRuns (view self.old.end self.old.first (S.files self.old.site) (S.clock self.old.site)) }
+        ensures runs { OnOk result (IsTrue S.tells → LogRuns (view self.new.end self.new.first (S.files self.new.site) (S.clock self.new.site))) }
+        ensures same { OnOk result (IsTrue S.tells → LogsNothing (view self.old.end self.old.first (S.files self.old.site) (S.clock self.old.site)) (view self.new.end self.new.first (S.files self.new.site) (S.clock self.new.site))) }
+        ensures sure { OnOk result (IsTrue S.tells → sure (view self.new.end self.new.first (S.files self.new.site) (S.clock self.new.site)) ≡ length (points (view self.old.end self.old.first (S.files self.old.site) (S.clock self.old.site)))) }
+        ensures waits { OnOk result (IsTrue S.tells → waits self.new.end ≡ []) }
+        ensures moments { IsTrue S.tells → let a = view self.old.end self.old.first (S.files self.old.site) (S.clock self.old.site) in Leaves a (view self.new.end self.new.first (S.files self.new.site) (S.clock self.new.site)) (points a) (next a) }
+        ensures kind { (self.new.end.total ≡ self.old.end.total) × (self.new.end.tag ≡ self.old.end.tag) × (self.new.end.limit ≡ self.old.end.limit) × (self.new.first ≡ self.old.first) }
+        ensures only { IfErr result (λ e. e ≡ AudFault.Disk) }
+        ensures said { S.said self.new.site ≡ S.said self.old.site }
+        ensures same_site { S.same_site self.old.site self.new.site }
+        ensures faults { HasCause (S.disk_faults self.old.site) (S.disk_faults self.new.site) result }
+        ensures say_faults { S.say_faults self.new.site ≡ S.say_faults self.old.site }
+    {
+        self.end.seal(&mut self.site)
+    }
+
+    /// Writes a structure block whose newest Image is sealed, and doesn't sync.
+    pub fn write(&mut self, file: u32, block: u32, bytes: &[u8]) -> Result<(), Failed>
+        requires runs { IsTrue S.tells → LogRuns (view self.old.end self.old.first (S.files self.old.site) (S.clock self.old.site)) }
+        requires structure { 30000 < file }
+        requires place { block < 2097152 }
+        requires size { length bytes.now ≡ 1024 }
+        requires logged { IsTrue S.tells → Logged (view self.old.end self.old.first (S.files self.old.site) (S.clock self.old.site)) file block }
+        ensures runs { IsTrue S.tells → LogRuns (view self.new.end self.new.first (S.files self.new.site) (S.clock self.new.site)) }
+        ensures same { IsTrue S.tells → LogsWrite (view self.old.end self.old.first (S.files self.old.site) (S.clock self.old.site)) (view self.new.end self.new.first (S.files self.new.site) (S.clock self.new.site)) }
+        ensures written { OnOk result (IsTrue S.tells → S.files self.new.site ≡ with_file (S.files self.old.site) file (overlaid (1024 * block) bytes.now (S.files self.old.site file))) }
+        ensures moments { IsTrue S.tells → let a = view self.old.end self.old.first (S.files self.old.site) (S.clock self.old.site) in Leaves a (view self.new.end self.new.first (S.files self.new.site) (S.clock self.new.site)) (points a) (next a) }
+        ensures end { (self.new.end ≡ self.old.end) × (self.new.first ≡ self.old.first) }
+        ensures said { S.said self.new.site ≡ S.said self.old.site }
+        ensures same_site { S.same_site self.old.site self.new.site }
+        ensures faults { HasCause (S.disk_faults self.old.site) (S.disk_faults self.new.site) result }
+        ensures say_faults { S.say_faults self.new.site ≡ S.say_faults self.old.site }
+    {
+        self.site.write_at(file, 1024 * u64::from(block), bytes)
+    }
+}

@@ -1,0 +1,188 @@
+-- Frames over a running database.
+use Rattle.std.proofs.Common.{ℕ, ◌+◌, ◌*◌, ◌≤◌, ◌<◌, ◌≡◌, ◌⊎◌, inl, inr, true, false, cond, List, [], ◌∷◌, ◌++◌, length, Option, Some, None, refl, sym, ◌∙◌, ap, subst, arith}
+use Rattle.std.proofs.lemmas.Bool.{cases_eq}
+use Rattle.dms_site.specs.Files.{Files, with_file, overlaid, InFile, Torn, stored_of}
+use Rattle.dms_site.specs.Laws.{torn_overlaid, in_file_with}
+use Rattle.dms_site.specs.StoredLaws.{stored_whole, stored_apart, stored_written}
+use Rattle.dms_history.specs.Events.{Block, Content, Stored, Event, change, block_in}
+use Rattle.dms_history.specs.Replay.{Tells, with_block}
+use Rattle.dms_history.specs.Lists.{after_last}
+use Rattle.dms_history.specs.Places.{is_control}
+use Rattle.dms_history.specs.Images.{is_at, last_after}
+use Rattle.dms_history.specs.History.{History, history}
+use Rattle.dms_history.specs.Entries.{Entry, image}
+use Rattle.dms_history.specs.EntryEvents.{events, live_of}
+use Rattle.dms_history.specs.Sizes.{AllSized}
+use Rattle.dms_history.proofs.Picks.{laid_length, in_file, tells_le, write_here, write_other, write_length, write_old, place_cases, or_none, if_none, last_append, some_is}
+use Rattle.dms_history.proofs.Runs.{after_push}
+use Rattle.dms_history.proofs.Sealed.{image_sealed, one_more_event}
+use Rattle.dms_running.specs.Telling.{Telling}
+use Rattle.dms_running.specs.Running.{State, entries_now, content_now, IsChanged, AllWritten}
+use Rattle.dms_running.specs.Frames.{Frame, Frames, with_frame, HoldsOne, Holds}
+
+true_not_false : true ≡ false → ⊥
+true_not_false e = absurd cc
+
+none_not_some : {A : Type 0} (x : A) → None ≡ Some x → ⊥
+none_not_some x e = absurd cc
+
+module _ (frames : Frames) (f b : ℕ) (o : Option Frame) where
+  pub frame_here : with_frame frames f b o f b ≡ o
+  frame_here = elim (place_cases f b f b) [
+    | inl place ↦ ap (λ k. cond k o (frames f b)) place.2
+    | inr apart ↦ absurd (apart.0 refl refl)
+  ]
+
+  pub frame_other : (g c : ℕ) → (f ≡ g → b ≡ c → ⊥) → with_frame frames f b o g c ≡ frames g c
+  frame_other g c off = elim (place_cases f b g c) [
+    | inl place ↦ absurd (off (sym place.0) (sym place.1))
+    | inr apart ↦ ap (λ k. cond k o (frames g c)) apart.1
+  ]
+
+same_place : (f b g c : ℕ) → ((f ≡ g) × (b ≡ c)) ⊎ (f ≡ g → b ≡ c → ⊥)
+same_place f b g c = elim (cases_eq f g) [
+  | inr other ↦ inr (λ e k. other e)
+  | inl same ↦ elim (cases_eq b c) [ inl also ↦ inl (same, also) | inr other ↦ inr (λ e k. other k) ]
+]
+
+-- one block gets another frame, the others keep theirs
+pub holds_with : (t : Telling) (s : State) (frames : Frames) (f b : ℕ) (o : Option Frame) → HoldsOne t s f b o → ((g c : ℕ) → (f ≡ g → b ≡ c → ⊥) → HoldsOne t s g c (frames g c)) → Holds t s (with_frame frames f b o)
+holds_with t s frames f b o one others g c = elim (same_place f b g c) [
+  | inl same ↦ subst (λ j. HoldsOne t s j c (with_frame frames f b o j c)) same.0
+      (subst (λ j. HoldsOne t s f j (with_frame frames f b o f j)) same.1 (subst (HoldsOne t s f b) (sym (frame_here frames f b o)) one))
+  | inr off ↦ subst (HoldsOne t s g c) (sym (frame_other frames f b o g c off)) (others g c off)
+]
+
+-- no block is held, and each stands in its file as the content has it
+pub holds_none : (t : Telling) (s : State) → AllWritten t s → Holds t s (λ f b. None)
+holds_none t s written f b = record {
+  held = λ x is. absurd (none_not_some x is);
+  stands = λ low clean. written f b low;
+  changed = λ x is dirty. absurd (none_not_some x is);
+}
+
+-- ---- a block is read into a frame, or one that isn't to be written is given up
+
+module _ (t : Telling) (s : State) (frames : Frames) (h : Holds t s frames) (f b : ℕ) where
+  pub holds_read : frames f b ≡ None → b < length (content_now t s f) → Holds t s (with_frame frames f b (Some (record { block = stored_of s.files f b; dirty = false })))
+  holds_read none low =
+      let x : Frame = record { block = stored_of s.files f b; dirty = false } in
+      let at : stored_of s.files f b ≡ block_in (content_now t s) f b = (h f b).stands low (λ y is. absurd (none_not_some y (sym none ∙ is))) in
+      holds_with t s frames f b (Some x) (record {
+        held = λ y is. let own : x ≡ y = some_is x y is in (low, ap (λ (z : Frame). z.block) (sym own) ∙ at);
+        stands = λ under clean. at;
+        changed = λ y is dirty. let own : x ≡ y = some_is x y is in absurd (true_not_false (sym dirty ∙ ap (λ (z : Frame). z.dirty) (sym own)));
+      }) (λ g c off. h g c)
+
+  pub holds_given_up : ((x : Frame) → frames f b ≡ Some x → x.dirty ≡ false) → Holds t s (with_frame frames f b None)
+  holds_given_up clean = holds_with t s frames f b None (record {
+    held = λ y is. absurd (none_not_some y is);
+    stands = λ low off. (h f b).stands low clean;
+    changed = λ y is dirty. absurd (none_not_some y is);
+  }) (λ g c off. h g c)
+
+-- ---- the state is another one with the same content and blocks, and changes stay changes
+
+pub holds_same : (t : Telling) (a b : State) (frames : Frames) → Holds t a frames → content_now t b ≡ content_now t a → stored_of b.files ≡ stored_of a.files → ((f k : ℕ) → IsChanged t a f k → IsChanged t b f k) → Holds t b frames
+holds_same t a b frames h content blocks changes f k = record {
+  held = λ x is. let r = (h f k).held x is in (subst (λ (c : Content). k < length (c f)) (sym content) r.0, r.1 ∙ ap (λ (c : Content). block_in c f k) (sym content));
+  stands = λ low clean. ap (λ (st : Stored). st f k) blocks ∙ (h f k).stands (subst (λ (c : Content). k < length (c f)) content low) clean ∙ ap (λ (c : Content). block_in c f k) (sym content);
+  changed = λ x is dirty. changes f k ((h f k).changed x is dirty);
+}
+
+-- ---- a block is changed
+
+module _ (t : Telling) (a later : State) (frames : Frames) (h : Holds t a frames) (f b : ℕ) (before : Option Block) (after : Block)
+    (tells : Tells b before (content_now t a f)) (grown : content_now t later ≡ with_block (content_now t a) f b after)
+    (entries : entries_now t later ≡ entries_now t a ++ image f b before after ∷ []) (blocks : stored_of later.files ≡ stored_of a.files) where
+  le : b ≤ length (content_now t a f)
+  le = tells_le b before (content_now t a f) tells
+
+  live_more : live_of (entries_now t later) ≡ live_of (entries_now t a) ++ change f b before after ∷ []
+  live_more = ap live_of entries ∙ ap (λ (l : List Event). (history l).live) (image_sealed (entries_now t a) f b before after) ∙ ap (λ (k : History). k.live) (one_more_event (events (entries_now t a)) (change f b before after))
+
+  behind : after_last is_control (live_of (entries_now t later)) ≡ after_last is_control (live_of (entries_now t a)) ++ change f b before after ∷ []
+  behind = ap (λ (l : List Event). after_last is_control l) live_more ∙ after_push is_control (live_of (entries_now t a)) (change f b before after) refl
+
+  both : (g k : ℕ) → last_after g k (after_last is_control (live_of (entries_now t later))) ≡ None → (is_at g k f b ≡ false) × (last_after g k (after_last is_control (live_of (entries_now t a))) ≡ None)
+  both g k none =
+      let r = or_none (last_after g k (change f b before after ∷ [])) (last_after g k (after_last is_control (live_of (entries_now t a))))
+      (sym (last_append (after_last is_control (live_of (entries_now t a))) (change f b before after ∷ []) g k) ∙ ap (λ (l : List Event). last_after g k l) (sym behind) ∙ none) in
+      (if_none (is_at g k f b) after r.0, r.1)
+
+  pub holds_changed : Holds t later (with_frame frames f b (Some (record { block = after; dirty = true })))
+  holds_changed =
+      let x : Frame = record { block = after; dirty = true } in
+      let was = content_now t a in
+      let long : b < length (with_block was f b after f) = omega (arith, ap length (in_file was f b after), laid_length b after (was f) le, le) in
+      holds_with t later frames f b (Some x) (record {
+        held = λ y is. let own : x ≡ y = some_is x y is in
+            (subst (λ (k : Content). b < length (k f)) (sym grown) long, ap (λ (z : Frame). z.block) (sym own) ∙ sym (ap (λ (k : Content). block_in k f b) grown ∙ write_here was f b after le));
+        stands = λ low clean. absurd (true_not_false (clean x refl));
+        changed = λ y is dirty none. elim (place_cases f b f b) [
+          | inl place ↦ absurd (true_not_false (sym place.2 ∙ (both f b none).0))
+          | inr apart ↦ absurd (apart.0 refl refl)
+        ];
+      }) (λ g k off.
+      let apart : g ≡ f → k ≡ b → ⊥ = λ p q. off (sym p) (sym q) in
+      record {
+        held = λ y is. let r = (h g k).held y is in
+            (subst (λ (l : Content). k < length (l g)) (sym grown) (omega (arith, r.0, write_length was f b after g le)), r.1 ∙ sym (ap (λ (l : Content). block_in l g k) grown ∙ write_other was f b after g k le apart r.0));
+        stands = λ low clean.
+            let old : k < length (was g) = write_old was f b after g k le apart (subst (λ (l : Content). k < length (l g)) grown low) in
+            ap (λ (st : Stored). st g k) blocks ∙ (h g k).stands old clean ∙ sym (ap (λ (l : Content). block_in l g k) grown ∙ write_other was f b after g k le apart old);
+        changed = λ y is dirty none. (h g k).changed y is dirty (both g k none).1;
+      })
+
+-- ---- a block is written, and its frame isn't to be written any more, or is given up
+
+module _ (t : Telling) (a later : State) (frames : Frames) (h : Holds t a frames) (f b : ℕ) (x : Frame) (is : frames f b ≡ Some x) (structure : 30000 < f) (sized : AllSized (content_now t a))
+    (written : later.files ≡ with_file a.files f (overlaid (1024 * b) x.block (a.files f))) (same : content_now t later ≡ content_now t a) (entries : entries_now t later ≡ entries_now t a) where
+  len : length x.block ≡ 1024
+  len = let r = (h f b).held x is in ap length r.1 ∙ sized f b r.0
+
+  now_there : stored_of later.files f b ≡ x.block
+  now_there = ap (λ (l : Files). stored_of l f b) written ∙ stored_written a.files f b x.block structure len
+
+  torn : InFile f (Torn (1024 * b) 1024) a.files later.files
+  torn = subst (λ (l : Files). InFile f (Torn (1024 * b) 1024) a.files l) (sym written)
+      (in_file_with f (Torn (1024 * b) 1024) a.files (overlaid (1024 * b) x.block (a.files f)) (subst (λ k. Torn (1024 * b) k (a.files f) (overlaid (1024 * b) x.block (a.files f))) len (torn_overlaid (1024 * b) x.block (a.files f))))
+
+  still : (g c : ℕ) → (f ≡ g → b ≡ c → ⊥) → length (stored_of a.files g c) ≡ 1024 → stored_of later.files g c ≡ stored_of a.files g c
+  still g c off whole =
+      let there = stored_whole a.files g c whole in
+      stored_apart a.files later.files f b g c torn (λ here at. off (sym here) (sym at)) (λ here less. subst (λ j. 1024 * c + 1024 ≤ length (a.files j)) here there.1)
+
+  others : (g c : ℕ) → (f ≡ g → b ≡ c → ⊥) → HoldsOne t later g c (frames g c)
+  others g c off = record {
+    held = λ y at. let r = (h g c).held y at in (subst (λ (k : Content). c < length (k g)) (sym same) r.0, r.1 ∙ ap (λ (k : Content). block_in k g c) (sym same));
+    stands = λ low clean.
+        let old : c < length (content_now t a g) = subst (λ (k : Content). c < length (k g)) same low in
+        let at = (h g c).stands old clean in
+        still g c off (ap length at ∙ sized g c old) ∙ at ∙ ap (λ (k : Content). block_in k g c) (sym same);
+    changed = λ y at dirty none. (h g c).changed y at dirty (subst (λ (l : List Entry). last_after g c (after_last is_control (live_of l)) ≡ None) entries none);
+  }
+
+  at_content : stored_of later.files f b ≡ block_in (content_now t later) f b
+  at_content = now_there ∙ ((h f b).held x is).1 ∙ ap (λ (k : Content). block_in k f b) (sym same)
+
+  pub holds_written : Holds t later (with_frame frames f b (Some (record { block = x.block; dirty = false })))
+  holds_written =
+      let z : Frame = record { block = x.block; dirty = false } in
+      holds_with t later frames f b (Some z) (record {
+        held = λ y at. let own : z ≡ y = some_is z y at in let r = (h f b).held x is in
+            (subst (λ (k : Content). b < length (k f)) (sym same) r.0, ap (λ (w : Frame). w.block) (sym own) ∙ r.1 ∙ ap (λ (k : Content). block_in k f b) (sym same));
+        stands = λ low clean. at_content;
+        changed = λ y at dirty. let own : z ≡ y = some_is z y at in absurd (true_not_false (sym dirty ∙ ap (λ (w : Frame). w.dirty) (sym own)));
+      }) others
+
+  pub holds_evicted : Holds t later (with_frame frames f b None)
+  holds_evicted = holds_with t later frames f b None (record {
+    held = λ y at. absurd (none_not_some y at);
+    stands = λ low clean. at_content;
+    changed = λ y at dirty. absurd (none_not_some y at);
+  }) others
+
+-- where no frame is to be written, all blocks are
+pub all_written : (t : Telling) (s : State) (frames : Frames) → Holds t s frames → ((f b : ℕ) (x : Frame) → frames f b ≡ Some x → x.dirty ≡ false) → AllWritten t s
+all_written t s frames h clean f b low = (h f b).stands low (clean f b)

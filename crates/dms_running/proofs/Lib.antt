@@ -1,0 +1,14 @@
+pub mod MayRun
+pub mod Plain
+pub mod Stopped
+pub mod Appending
+pub mod Early
+pub mod Framed
+pub mod Planned
+pub mod Controlled
+pub mod Beginning
+pub mod Rewriting
+pub mod Restored
+pub mod Ending
+pub mod Wholes
+pub mod Looking

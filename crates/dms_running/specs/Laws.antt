@@ -1,0 +1,56 @@
+-- Laws: what stands agrees, and what a database that may run becomes by one entry more or by other blocks.
+use Rattle.std.specs.Prelude.{ℕ, ◌-◌, ◌^◌, ◌<◌, ◌≤◌, ◌≡◌, Bool, true, List, [], ◌∷◌, ◌++◌, length, Option, Some, None}
+use Rattle.dms_site.specs.Files.{Files, stored_of}
+use Rattle.dms_history.specs.Events.{Block, Content, Stored}
+use Rattle.dms_history.specs.Replay.{Tells, with_block}
+use Rattle.dms_history.specs.Lists.{has, after_last}
+use Rattle.dms_history.specs.Places.{is_control, is_described, IsLive}
+use Rattle.dms_history.specs.History.{Pending, last_point}
+use Rattle.dms_history.specs.Images.{last_after}
+use Rattle.dms_history.specs.Base.{from_control}
+use Rattle.dms_history.specs.Pick.{Dumps}
+use Rattle.dms_history.specs.Entries.{Kind, Entry, image, quiet_point, begin_restore, how_of}
+use Rattle.dms_history.specs.EntryEvents.{history_of, live_of, next_of, Agrees}
+use Rattle.dms_history.specs.Kept.{content_told, Kept}
+use Rattle.dms_history.specs.Sizes.{AllSized, ImagesSized}
+use Rattle.dms_running.specs.Telling.{Telling}
+use Rattle.dms_running.specs.Standing.{Stands, MayRun, IsWhole}
+use Rattle.dms_running.specs.Points.{points_told}
+use Rattle.dms_running.specs.Begun.{ByAudit}
+
+-- In files that hold a database the entries agree with the dumps and blocks.
+abbrev pub WholeAgrees : Type 0
+WholeAgrees = (t : Telling) (files : Files) → IsWhole t files → Agrees t.first (t.entries files) (t.dumps files) (stored_of files)
+
+-- Files whose entries agree with the dumps and blocks hold a database, where a Control directly behind a whole Schema is live, the point
+-- of a restore that may be pending is live, each image has 1,024 bytes, and so has each block of the content, whatever base it is told over.
+abbrev pub AgreesWhole : Type 0
+AgreesWhole = (t : Telling) (files : Files) → Agrees t.first (t.entries files) (t.dumps files) (stored_of files) → has is_described (live_of (t.entries files)) ≡ true
+    → ((p : Pending) → (history_of (t.entries files)).pending ≡ Some p → IsLive (live_of (t.entries files)) p.point)
+    → ImagesSized (from_control (live_of (t.entries files)))
+    → ((base : Content) → Kept t.first (t.entries files) (t.dumps files) base (stored_of files) → AllSized (content_told (t.entries files) base))
+    → IsWhole t files
+
+-- An Image that tells what stood before it: it may still run, and the content has the block.
+abbrev pub RunsImage : Type 0
+RunsImage = (first : Bool) (es : List Entry) (dumps : Dumps) (base : Content) (stored : Stored) (f b : ℕ) (before : Option Block) (after : Block) → MayRun first es dumps base stored
+    → Tells b before (content_told es base f) → length after ≡ 1024
+    → MayRun first (es ++ image f b before after ∷ []) dumps base stored × (content_told (es ++ image f b before after ∷ []) base ≡ with_block (content_told es base) f b after)
+
+-- A quiet point with a number that is free: it may still run, and the content is the same.
+abbrev pub RunsQuiet : Type 0
+RunsQuiet = (first : Bool) (es : List Entry) (dumps : Dumps) (base : Content) (stored : Stored) (n : ℕ) → MayRun first es dumps base stored → next_of es ≤ n → n < 2 ^ 64 - 1
+    → MayRun first (es ++ quiet_point n ∷ []) dumps base stored × (content_told (es ++ quiet_point n ∷ []) base ≡ content_told es base)
+
+-- Blocks are written early, torn or whole: it may still run, where each block of the content without a change since the last Control stays.
+abbrev pub RunsWrites : Type 0
+RunsWrites = (first : Bool) (es : List Entry) (dumps : Dumps) (base : Content) (stored written : Stored) → MayRun first es dumps base stored
+    → ((f b : ℕ) → b < length (content_told es base f) → last_after f b (after_last is_control (from_control (live_of es))) ≡ None → written f b ≡ stored f b)
+    → MayRun first es dumps base written
+
+-- A Begin of a restore by the audit to the last point: all points stay, and so does the next number.
+abbrev pub BeginKeepsAll : Type 0
+BeginKeepsAll = (first : Bool) (es : List Entry) (dumps : Dumps) (base : Content) (stored : Stored) (m : ℕ) (kind : Kind) → MayRun first es dumps base stored → ByAudit (how_of kind)
+    → IsLive (live_of es) m → last_point (history_of es) ≡ Some m
+    → Stands first (es ++ begin_restore m kind ∷ []) dumps base stored
+    × (points_told dumps (es ++ begin_restore m kind ∷ []) stored ≡ points_told dumps es stored) × (next_of (es ++ begin_restore m kind ∷ []) ≡ next_of es)

@@ -1,0 +1,32 @@
+-- A planned list of entries that is appended and sealed over files on which nothing was pending.
+use Rattle.std.specs.Prelude.{ℕ, ◌<◌, ◌≤◌, ◌≡◌, List, ◌++◌, take}
+use Rattle.dms_moments.specs.Moments.{Clock, Now, Runs}
+use Rattle.dms_site.specs.Files.{Files, Left, stored_of}
+use Rattle.dms_history.specs.Events.{Content}
+use Rattle.dms_history.specs.Entries.{Entry}
+use Rattle.dms_history.specs.EntryEvents.{next_of}
+use Rattle.dms_running.specs.Telling.{Telling}
+use Rattle.dms_running.specs.Standing.{Stands}
+use Rattle.dms_running.specs.Points.{points_told, points_of, next_in}
+use Rattle.dms_running.specs.Sealing.{Appended, Settled}
+use Rattle.dms_running.specs.Running.{State}
+
+-- the first so many of the planned entries are sealed
+pub record Planned (t : Telling) (es : List Entry) (start : Files) (x : Left) : Type 0 where
+  pub some : ℕ
+  pub sealed : t.entries x.files ≡ t.entries start ++ take some es
+  pub above : (g : ℕ) → 20000 < g → x.files g ≡ start g
+
+-- So many entries were appended one after another since a moment at which nothing waited or was pending: the first of them are sealed,
+-- the others wait.
+pub record Lays (t : Telling) (es : List Entry) (start : Files) (old : Clock Left) (s : State) : Type 0 where
+  pub appended : Appended t es start s.files s.waiting
+  pub settled : Settled t s.files s.clock
+  pub since : Runs old s.clock (Planned t es start)
+  pub now : (x : Left) → Now s.clock x → Planned t es start x
+
+-- What holds of each front of a plan: it has the points of the start, a next number that is no lower, and stands.
+pub record KeepsAll (t : Telling) (es : List Entry) (start : Files) (base : Content) : Type 0 where
+  pub points : (k : ℕ) → points_told (t.dumps start) (t.entries start ++ take k es) (stored_of start) ≡ points_of t start
+  pub next : (k : ℕ) → next_in t start ≤ next_of (t.entries start ++ take k es)
+  pub stands : (k : ℕ) → Stands t.first (t.entries start ++ take k es) (t.dumps start) base (stored_of start)
