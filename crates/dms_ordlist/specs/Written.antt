@@ -1,5 +1,5 @@
 -- The blocks of a file after some of them were written, and how many there are.
-use Rattle.std.proofs.Common.{ℕ, ◌+◌, ◌≤◌, ◌<◌, ◌≡◌, ◌≢◌, ◌∙◌, max, List, ap, sym, subst, refl, eqb, arith}
+use Rattle.std.proofs.Common.{ℕ, ◌+◌, ◌≤◌, ◌<◌, ◌≡◌, ◌≢◌, ◌∙◌, max, List, ap, subst, arith}
 use Rattle.std.proofs.lemmas.Bool.Decides.{nat_tests}
 use Rattle.dms_block.specs.Content.{Content, laid, raised, with_block}
 use Rattle.dms_block.specs.ContentLaws.{in_file, in_others}
