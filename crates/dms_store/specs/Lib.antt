@@ -1,2 +1,8 @@
 pub mod Spelled
 pub mod SpelledLaws
+pub mod Lifted
+pub mod LiftedLaws
+pub mod Rows
+pub mod Serving
+pub mod Scans
+pub mod ScanLaws

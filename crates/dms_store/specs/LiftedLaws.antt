@@ -1,0 +1,147 @@
+-- What calls on blocks leave of a store.
+use Rattle.std.proofs.Common.{ℕ, zero, suc, ◌+◌, ◌<◌, ◌≤◌, ◌≡◌, ◌∙◌, ◌^◌, ◌++◌, List, [], ◌∷◌, Bool, true, false, cond, IsTrue, Some, None, refl, sym, ap, subst, length, map, take, arith}
+use Rattle.std.proofs.lemmas.List.{map-append, length-map}
+use Rattle.std.specs.List.{AllByRecursion}
+use Rattle.std.specs.Str.{bytes_eq}
+use Rattle.std.specs.declared.option.Option.{Option}
+use Rattle.std.specs.declared.result.Result.{Result}
+use Rattle.dms_moments.specs.Moments.{Now, Runs}
+use Rattle.std.proofs.lemmas.Slice.Eq.{bytes_eq-Decides}
+use Rattle.dms_moments.specs.MomentLaws.{runs_weaken}
+use Rattle.dms_moments.specs.SeenLaws.{runs_seen_as, now_seen_as}
+use Rattle.dms_block.specs.declared.block_fault.BlockFault.{BlockFault}
+use Rattle.dms_block.specs.Content.{Content}
+use Rattle.dms_block.specs.Counts.{CausedBy}
+use Rattle.dms_block.specs.Held.{Held, BlockPoint, BlockStop, Lasts, Passes, Prefix, Same, Room}
+use Rattle.dms_block.specs.Held as held
+use Rattle.dms_desc.specs.Shape.{Described}
+use Rattle.dms_desc_bytes.specs.Spelling.{spelling}
+use Rattle.dms_model.specs.Db.{Db}
+use Rattle.dms_model.specs.Points.{Point, Stop, Front, TextIs, TextGrows, Leaves, LeavesText, Stays, IsUnder}
+use Rattle.dms_model.specs.Seen as store
+use Rattle.dms_store.specs.Lifted.{db_of, point_of, stop_of, lifted, here_of, faults_with, seen_of, Serves}
+
+-- ---- the database
+
+pub db_same : (desc : Described) (s t : Bool) (c d : Content) → t ≡ s → (IsTrue s → d ≡ c) → db_of desc t d ≡ db_of desc s c
+db_same desc true t c d e is = ap (λ b. db_of desc b d) e ∙ ap (λ (x : Content). db_of desc true x) (is refl)
+db_same desc false t c d e is = ap (λ b. db_of desc b d) e
+
+-- ---- points and what stops leave
+
+module _ (desc : Described) where
+  map_take : (n : ℕ) (ps : List BlockPoint) → map (point_of desc) (take n ps) ≡ take n (map (point_of desc) ps)
+  map_take zero ps = refl
+  map_take (suc n) [] = refl
+  map_take (suc n) (p ∷ ps) = ap (λ (l : List Point). point_of desc p ∷ l) (map_take n ps)
+
+  front_lifted : (a : Held) (points : List BlockPoint) (next : ℕ) (x : BlockStop) → Prefix a.whole a.sure points next x → Front a.whole a.sure (map (point_of desc) points) next (stop_of desc x)
+  front_lifted a points next x p = record {
+    count = p.count;
+    enough = p.enough;
+    within = omega (arith, p.within, length-map points (point_of desc));
+    is = ap (map (point_of desc)) p.is ∙ map_take p.count points;
+    not_fallen = omega (arith, p.not_fallen, length-map points (point_of desc));
+    files = p.whole_files;
+  }
+
+  pub leaves_lifted : (a b : Held) (points : List BlockPoint) (next : ℕ) → held.Leaves a b points next → Leaves a.whole (lifted desc a.clock) (lifted desc b.clock) a.sure (map (point_of desc) points) next a.said
+  leaves_lifted a b points next run = runs_seen_as (stop_of desc) (runs_weaken run (λ x p. (front_lifted a points next x p.0, p.1)))
+
+  pub text_lifted : (a b : Held) (bytes : List ℕ) → held.LeavesText a b bytes → LeavesText a.whole (lifted desc a.clock) (lifted desc b.clock) a.sure (map (point_of desc) a.points) a.next a.said bytes
+  text_lifted a b bytes run = runs_seen_as (stop_of desc) (runs_weaken run (λ x p. (front_lifted a a.points a.next x p.0, p.1)))
+
+  blocks_here : (t : Bool) (c d : Content) → (IsTrue t → d ≡ c) → cond t c d ≡ d
+  blocks_here true c d is = sym (is refl)
+  blocks_here false c d is = refl
+
+  -- the point that would be made now is the one that the blocks below would make
+  pub here_lifted : (a : Held) → (a.here.number ≡ a.next) × (IsTrue a.told → a.here.blocks ≡ a.content) → point_of desc (here_of desc a) ≡ point_of desc a.here
+  here_lifted a is = λ i. point_of desc (record { number = sym is.0 i; blocks = blocks_here a.told a.content a.here.blocks is.1 i; schema = a.here.schema })
+
+  quiet_points : (a : Held) → (a.here.number ≡ a.next) × (IsTrue a.told → a.here.blocks ≡ a.content)
+      → map (point_of desc) (a.points ++ a.here ∷ []) ≡ map (point_of desc) a.points ++ point_of desc (here_of desc a) ∷ []
+  quiet_points a is = map-append (point_of desc) a.points (a.here ∷ []) ∙ ap (λ (p : Point). map (point_of desc) a.points ++ p ∷ []) (sym (here_lifted a is))
+
+  under_bytes : (p : BlockPoint) (b : Bool) → bytes_eq p.schema (spelling desc) ≡ b → (db : Db) → db_of desc b p.blocks ≡ Some db → p.schema ≡ spelling desc
+  under_bytes p true e db h = (bytes_eq-Decides p.schema (spelling desc)).0 e
+  under_bytes p false e db h = absurd (cc)
+
+  -- a point whose database is told stands under the bytes of this description
+  pub point_under : (p : BlockPoint) → IsUnder desc (point_of desc p)
+  point_under p db h = under_bytes p (bytes_eq p.schema (spelling desc)) refl db h
+
+  points_under : (ps : List BlockPoint) → AllByRecursion (IsUnder desc) (map (point_of desc) ps)
+  points_under [] = tt
+  points_under (p ∷ ps) = (point_under p, points_under ps)
+
+  here_db : (t : Bool) (c d : Content) (schema : List ℕ) → schema ≡ spelling desc → (db : Db) → db_of desc t c ≡ Some db → db_of desc (bytes_eq schema (spelling desc)) (cond t c d) ≡ Some db
+  here_db true c d schema is db h = ap (λ b. db_of desc b c) ((bytes_eq-Decides schema (spelling desc)).1 is) ∙ h
+  here_db false c d schema is db h = absurd (cc)
+
+-- ---- one call of a store
+
+module _ (desc : Described) (sound sound' : Type 0) (found found' : ℕ) (a b : Held) where
+  abbrev old : store.Seen
+  old = seen_of desc sound found a
+
+  abbrev new : store.Seen
+  new = seen_of desc sound' found' b
+
+  pub silent_lifted : Passes a b → store.IsSilent old new
+  silent_lifted p = record { next = p.next; said = p.said; leaves = λ tells room. leaves_lifted desc a b a.points a.next (p.leaves tells room) }
+
+  pub causes_lifted : {T : Type 0} (r : Result T BlockFault) → Lasts a b → a.uses.reads ≤ b.uses.reads → CausedBy r (faults_with desc a.faults found) (faults_with desc b.faults found') → store.HasCauses r old new
+  causes_lifted r lasts reads cause = record { tells = lasts.tells; desc = refl; whole = lasts.whole; whole_on = lasts.whole_on; cause = cause; reads = reads }
+
+  pub points_lifted : held.IfTold a ((b.points ≡ a.points) × (a.sure ≤ b.sure)) → store.StaysSure old new
+  points_lifted stays tells room = let s = stays tells room in (ap (map (point_of desc)) s.0, s.1)
+
+  pub keeps_lifted : sound' → Lasts a b → held.Stays a b → Same a b → store.Keeps old new
+  keeps_lifted sound lasts stays same = record {
+    sound = sound;
+    db = db_same desc a.told b.told a.content b.content lasts.told same.content;
+    mark = db_same desc a.told b.told a.mark b.mark lasts.told stays.mark;
+    points = points_lifted stays.points;
+  }
+
+  pub keeps_points_lifted : sound' → Lasts a b → held.Stays a b → store.KeepsPoints old new
+  keeps_points_lifted sound lasts stays = record { sound = sound; mark = db_same desc a.told b.told a.mark b.mark lasts.told stays.mark; points = points_lifted stays.points }
+
+  pub quiet_lifted : held.Agrees a → sound' → Lasts a b → held.MadeQuiet a b → store.MadeQuiet old new
+  quiet_lifted agrees sound lasts made = record {
+    sound = sound;
+    next = made.next;
+    db = λ room. db_same desc a.told b.told a.content b.content lasts.told (made.same room).content;
+    mark = λ room. db_same desc a.told b.told a.content b.mark lasts.told (made.mark room);
+    points = λ tells room. let s = made.points tells room in (ap (map (point_of desc)) s.0 ∙ quiet_points desc a (agrees.here tells room), s.1);
+  }
+
+  pub quiet_leaves : held.Agrees a → held.IfTold a (held.Leaves a b (a.points ++ a.here ∷ []) (a.next + 1))
+      → store.IfTold old (Leaves a.whole (lifted desc a.clock) (lifted desc b.clock) a.sure (map (point_of desc) a.points ++ point_of desc (here_of desc a) ∷ []) (a.next + 1) a.said)
+  quiet_leaves agrees leaves tells room =
+      subst (λ (ps : List Point). Leaves a.whole (lifted desc a.clock) (lifted desc b.clock) a.sure ps (a.next + 1) a.said) (quiet_points desc a (agrees.here tells room))
+      (leaves_lifted desc a b (a.points ++ a.here ∷ []) (a.next + 1) (leaves tells room))
+
+  pub sure_lifted : sound' → Lasts a b → held.MadeSure a b → store.MadeSure old new
+  sure_lifted sound lasts made = record {
+    sound = sound;
+    db = db_same desc a.told b.told a.content b.content lasts.told made.same.content;
+    mark = db_same desc a.told b.told a.mark b.mark lasts.told made.mark;
+    points = λ tells room. ap (map (point_of desc)) (made.points tells room);
+    sure = λ tells room. made.sure tells room ∙ sym (length-map a.points (point_of desc));
+  }
+
+-- ---- what is told hangs together
+
+pub agrees_lifted : (desc : Described) (sound : Type 0) (found : ℕ) (a : Held) → a.here.schema ≡ spelling desc → held.Agrees a → store.Agrees (seen_of desc sound found a)
+agrees_lifted desc sound found a schema agrees = record {
+  may_stop = λ tells. let x = agrees.may_stop tells in (stop_of desc x.0, (x.0, x.1, refl));
+  number = refl;
+  here = here_db desc a.told a.content a.here.blocks a.here.schema schema;
+  under = point_under desc (here_of desc a);
+  points = λ tells room. points_under desc a.points;
+  stop = λ tells room. now_seen_as (stop_of desc) a.clock (λ y. Front a.whole a.sure (map (point_of desc) a.points) a.next y × TextIs a.said y)
+      (λ x now. let p = agrees.stop tells room x now in (front_lifted desc a a.points a.next x p.0, p.1));
+  sure = λ tells room. omega (arith, agrees.sure tells room, length-map a.points (point_of desc));
+}
