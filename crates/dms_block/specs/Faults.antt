@@ -22,3 +22,12 @@ Undamaged (Err Memory) = ⊤
 Undamaged (Err (Full f)) = ⊤
 Undamaged (Err (Damaged f b)) = ⊥
 Undamaged (Err Say) = ⊤
+
+-- the audit had room
+abbrev pub NotFull : {T : Type 0} → Result T BlockFault → Type 0
+NotFull (Ok x) = ⊤
+NotFull (Err Disk) = ⊤
+NotFull (Err Memory) = ⊤
+NotFull (Err (Full f)) = ⊥
+NotFull (Err (Damaged f b)) = ⊤
+NotFull (Err Say) = ⊤

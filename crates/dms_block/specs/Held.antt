@@ -7,7 +7,7 @@ use Rattle.dms_moments.specs.Moments.{Clock, Now, Runs}
 use Rattle.dms_block.specs.declared.block_fault.BlockFault.{BlockFault}
 use Rattle.dms_block.specs.declared.block_fault.BlockFault.TheVariants.{Disk, Memory, Full, Damaged, Say}
 use Rattle.dms_block.specs.Counts.{Faults, Raised}
-use Rattle.dms_block.specs.Faults.{Unbroken}
+use Rattle.dms_block.specs.Faults.{NotFull, Unbroken}
 use Rattle.dms_block.specs.Content.{Content, block_in}
 
 -- a quiet point that stands on a disk: its number, its blocks by file, the bytes of its description
@@ -94,9 +94,9 @@ Leaves a b points next = Runs a.clock b.clock (λ stop. Prefix a.whole a.sure po
 abbrev pub LeavesText : Held → Held → List ℕ → Type 0
 LeavesText a b bytes = Runs a.clock b.clock (λ stop. Prefix a.whole a.sure a.points a.next stop × TextGrows a.said bytes stop)
 
--- the block isn't 1,024 bytes long, where the content is told
+-- the file has the block, and where the content is told the block isn't 1,024 bytes long
 abbrev pub IsShort : Held → ℕ → ℕ → Type 0
-IsShort h f b = IsTrue h.told → length (block_in h.content f b) ≡ 1024 → ⊥
+IsShort h f b = (b < h.counts f) × (IsTrue h.told → length (block_in h.content f b) ≡ 1024 → ⊥)
 
 -- one failure of this kind, with its cause
 abbrev pub Caused : BlockFault → Held → Held → Type 0
@@ -124,11 +124,12 @@ abbrev pub HasCausesOr : {T : Type 0} → (ℕ → ℕ → Type 0) → Result T 
 HasCausesOr P (Ok x) a b = b.faults ≡ a.faults
 HasCausesOr P (Err e) a b = CausedOr P e a b
 
--- whatever a call does, it stays the same kind of object
+-- whatever a call does, it stays the same kind of object, and a point that it makes stands under the same description
 pub record Lasts (a b : Held) : Type 0 where
-  pub told : IsTrue a.told → IsTrue b.told
+  pub told : b.told ≡ a.told
   pub tells : a.tells → b.tells
   pub owns : b.owns ≡ a.owns
+  pub schema : b.here.schema ≡ a.here.schema
   pub whole : (files : ℕ → List ℕ) → b.whole files → a.whole files
   pub whole_on : (files : ℕ → List ℕ) → a.whole files → b.whole files
 
@@ -174,16 +175,18 @@ pub record WentBack {T : Type 0} (result : Result T BlockFault) (a b : Uses) : T
   pub done : OnOk result (b.outs ≡ one_more a.outs)
   pub few : IsUpToOne a.outs b.outs
 
--- at most so many reads, and so many blocks changed. The count of reads never falls
+-- at most so many reads, and so many blocks changed. Neither count falls
 pub record Used (n m : ℕ) (a b : Uses) : Type 0 where
   pub not_fewer : a.reads ≤ b.reads
   pub reads : b.reads ≤ a.reads + n
+  pub not_less : a.spent ≤ b.spent
   pub spent : b.spent ≤ a.spent + m
   pub syncs : b.syncs ≡ a.syncs
   pub outs : b.outs ≡ a.outs
 
--- a call reads blocks alone, at most n of them
+-- a call reads blocks alone, at most n of them, and needs no room in the audit
 pub record Looks {T : Type 0} (n : ℕ) (result : Result T BlockFault) (a b : Held) : Type 0 where
+  pub not_full : NotFull result
   pub passes : Passes a b
   pub stays : Unbroken result (Stays a b)
   pub same : Unbroken result (Same a b)

@@ -1,5 +1,5 @@
 -- One call on blocks after another.
-use Rattle.std.proofs.Common.{ℕ, ◌+◌, ◌≤◌, ◌≡◌, ◌∙◌, List, length, refl, ap, subst, arith, inl, inr}
+use Rattle.std.proofs.Common.{ℕ, ◌+◌, ◌≤◌, ◌≡◌, ◌∙◌, List, length, refl, sym, ap, subst, arith, IsTrue, inl, inr}
 use Rattle.std.specs.Prelude.{IsErrOf}
 use Rattle.std.specs.declared.result.Result.{Result}
 use Rattle.std.specs.declared.result.Result.TheVariants.{Ok, Err}
@@ -8,7 +8,7 @@ use Rattle.dms_block.specs.declared.block_fault.BlockFault.{BlockFault}
 use Rattle.dms_block.specs.declared.block_fault.BlockFault.TheVariants.{Disk, Memory, Full, Damaged, Say}
 use Rattle.dms_block.specs.Content.{Content, block_in}
 use Rattle.dms_block.specs.Counts.{Faults, Raised}
-use Rattle.dms_block.specs.Faults.{Unbroken}
+use Rattle.dms_block.specs.Faults.{NotFull, Unbroken}
 use Rattle.dms_block.specs.Held.{Held, BlockStop, BlockPoint, Prefix, TextIs, Lasts, Passes, Stays, Same, Room, Leaves, Looks, Alters, Uses, Used, Caused, CausedOr, HasCauses, HasCausesOr, IsShort}
 
 pub unbroken_map : {T : Type 0} {P Q : Type 0} (r : Result T BlockFault) → (P → Q) → Unbroken r P → Unbroken r Q
@@ -30,11 +30,15 @@ unbroken_is (Err Say) p = tt
 pub unbroken_ok : {T : Type 0} {P : Type 0} {x : T} (r : Result T BlockFault) → r ≡ Ok x → Unbroken r P → P
 unbroken_ok {P = P} r is h = subst (λ s. Unbroken s P) is h
 
+-- what was told is told, and nothing else is
+pub told_after : {a b : Held} → Lasts a b → IsTrue a.told → IsTrue b.told
+told_after p t = subst (λ b. IsTrue b) (sym p.told) t
+
 pub lasts_none : (a : Held) → Lasts a a
-lasts_none a = record { told = λ t. t; tells = λ t. t; owns = refl; whole = λ files w. w; whole_on = λ files w. w }
+lasts_none a = record { told = refl; tells = λ t. t; owns = refl; schema = refl; whole = λ files w. w; whole_on = λ files w. w }
 
 pub lasts_on : {a b c : Held} → Lasts a b → Lasts b c → Lasts a c
-lasts_on p q = record { told = λ t. q.told (p.told t); tells = λ t. q.tells (p.tells t); owns = q.owns ∙ p.owns; whole = λ files w. p.whole files (q.whole files w); whole_on = λ files w. q.whole_on files (p.whole_on files w) }
+lasts_on p q = record { told = q.told ∙ p.told; tells = λ t. q.tells (p.tells t); owns = q.owns ∙ p.owns; schema = q.schema ∙ p.schema; whole = λ files w. p.whole files (q.whole files w); whole_on = λ files w. q.whole_on files (p.whole_on files w) }
 
 pub passes_none : (a : Held) → Passes a a
 passes_none a = record { lasts = lasts_none a; next = refl; said = refl; leaves = λ tells room. runs_none a.clock _ }
@@ -45,7 +49,7 @@ stays_none a sound = record { sound = sound; mark = λ t. refl; points = λ t ro
 pub stays_on : {a b c : Held} → Passes a b → Stays a b → Stays b c → Stays a c
 stays_on pass p q = record {
   sound = q.sound;
-  mark = λ t. q.mark (pass.lasts.told t) ∙ p.mark t;
+  mark = λ t. q.mark (told_after pass.lasts t) ∙ p.mark t;
   points = λ t room. let one = p.points t room in let two = q.points (pass.lasts.tells t) (omega (arith, pass.next, room)) in (two.0 ∙ one.0, omega (arith, one.1, two.1));
 }
 
@@ -53,7 +57,7 @@ pub same_none : (a : Held) → Same a a
 same_none a = record { counts = refl; content = λ t. refl }
 
 pub same_on : {a b c : Held} → Lasts a b → Same a b → Same b c → Same a c
-same_on lasts p q = record { counts = q.counts ∙ p.counts; content = λ t. q.content (lasts.told t) ∙ p.content t }
+same_on lasts p q = record { counts = q.counts ∙ p.counts; content = λ t. q.content (told_after lasts t) ∙ p.content t }
 
 -- what stops leave after calls that made no point
 prefix_still : (a b : Held) (points : List BlockPoint) (next : ℕ) (x : BlockStop) → Lasts a b → a.sure ≤ b.sure → Prefix b.whole b.sure points next x → Prefix a.whole a.sure points next x
@@ -77,21 +81,22 @@ passes_on {a} {b} {c} p stay q = record {
 }
 
 pub used_none : (n m : ℕ) (a : Uses) → Used n m a a
-used_none n m a = record { not_fewer = omega arith; reads = omega arith; spent = omega arith; syncs = refl; outs = refl }
+used_none n m a = record { not_fewer = omega arith; reads = omega arith; not_less = omega arith; spent = omega arith; syncs = refl; outs = refl }
 
 pub used_on : {n m n' m' : ℕ} {a b c : Uses} → Used n m a b → Used n' m' b c → Used (n + n') (m + m') a c
-used_on p q = record { not_fewer = omega (arith, p.not_fewer, q.not_fewer); reads = omega (arith, p.reads, q.reads); spent = omega (arith, p.spent, q.spent); syncs = q.syncs ∙ p.syncs; outs = q.outs ∙ p.outs }
+used_on p q = record { not_fewer = omega (arith, p.not_fewer, q.not_fewer); reads = omega (arith, p.reads, q.reads); not_less = omega (arith, p.not_less, q.not_less); spent = omega (arith, p.spent, q.spent); syncs = q.syncs ∙ p.syncs; outs = q.outs ∙ p.outs }
 
 pub used_more : {n m : ℕ} (n' m' : ℕ) {a b : Uses} → n ≤ n' → m ≤ m' → Used n m a b → Used n' m' a b
-used_more n' m' le le' p = record { not_fewer = p.not_fewer; reads = omega (arith, le, p.reads); spent = omega (arith, le', p.spent); syncs = p.syncs; outs = p.outs }
+used_more n' m' le le' p = record { not_fewer = p.not_fewer; reads = omega (arith, le, p.reads); not_less = p.not_less; spent = omega (arith, le', p.spent); syncs = p.syncs; outs = p.outs }
 
 -- nothing was read yet
-pub looks_none : {T : Type 0} (n : ℕ) (r : Result T BlockFault) (a : Held) → a.sound → Looks n r a a
-looks_none n r a sound = record { passes = passes_none a; stays = unbroken_is r (stays_none a sound); same = unbroken_is r (same_none a); counts = refl; uses = used_none n 0 a.uses }
+pub looks_none : {T : Type 0} (n : ℕ) (r : Result T BlockFault) (a : Held) → NotFull r → a.sound → Looks n r a a
+looks_none n r a room sound = record { not_full = room; passes = passes_none a; stays = unbroken_is r (stays_none a sound); same = unbroken_is r (same_none a); counts = refl; uses = used_none n 0 a.uses }
 
 -- more reads after reads that went well
 pub looks_on : {T U : Type 0} {m n : ℕ} {x : T} (r : Result U BlockFault) {a b c : Held} → Looks m (Ok x) a b → Looks n r b c → Looks (m + n) r a c
 looks_on {m = m} {n = n} r p q = record {
+  not_full = q.not_full;
   passes = passes_on p.passes p.stays q.passes;
   stays = unbroken_map r (λ s. stays_on p.passes p.stays s) q.stays;
   same = unbroken_map r (λ s. same_on p.passes.lasts p.same s) q.same;
@@ -100,8 +105,8 @@ looks_on {m = m} {n = n} r p q = record {
 }
 
 -- another answer, after which at most as much is promised
-pub looks_as : {T U : Type 0} {n : ℕ} {x : T} (r : Result U BlockFault) {a b : Held} → Looks n (Ok x) a b → Looks n r a b
-looks_as r p = record { passes = p.passes; stays = unbroken_is r p.stays; same = unbroken_is r p.same; counts = p.counts; uses = p.uses }
+pub looks_as : {T U : Type 0} {n : ℕ} {x : T} (r : Result U BlockFault) {a b : Held} → NotFull r → Looks n (Ok x) a b → Looks n r a b
+looks_as r room p = record { not_full = room; passes = p.passes; stays = unbroken_is r p.stays; same = unbroken_is r p.same; counts = p.counts; uses = p.uses }
 
 unbroken_err : (T U P : Type 0) (e : BlockFault) → Unbroken {T = T} (Err e) P → Unbroken {T = U} (Err e) P
 unbroken_err T U P Disk p = tt
@@ -110,13 +115,20 @@ unbroken_err T U P (Full f) p = tt
 unbroken_err T U P (Damaged f d) p = tt
 unbroken_err T U P Say p = tt
 
+not_full_err : (T U : Type 0) (e : BlockFault) → NotFull {T = T} (Err e) → NotFull {T = U} (Err e)
+not_full_err T U Disk p = tt
+not_full_err T U Memory p = tt
+not_full_err T U (Full f) p = p
+not_full_err T U (Damaged f d) p = tt
+not_full_err T U Say p = tt
+
 -- the same fault, handed on
 pub looks_err : {T U : Type 0} {n : ℕ} (e : BlockFault) {a b : Held} → Looks {T = T} n (Err e) a b → Looks {T = U} n (Err e) a b
-looks_err {T = T} {U = U} e {a} {b} p = record { passes = p.passes; stays = unbroken_err T U (Stays a b) e p.stays; same = unbroken_err T U (Same a b) e p.same; counts = p.counts; uses = p.uses }
+looks_err {T = T} {U = U} e {a} {b} p = record { not_full = not_full_err T U e p.not_full; passes = p.passes; stays = unbroken_err T U (Stays a b) e p.stays; same = unbroken_err T U (Same a b) e p.same; counts = p.counts; uses = p.uses }
 
 -- more reads were allowed
 pub looks_more : {T : Type 0} {m : ℕ} (n : ℕ) {r : Result T BlockFault} {a b : Held} → m ≤ n → Looks m r a b → Looks n r a b
-looks_more n le p = record { passes = p.passes; stays = p.stays; same = p.same; counts = p.counts; uses = used_more n 0 le (omega arith) p.uses }
+looks_more n le p = record { not_full = p.not_full; passes = p.passes; stays = p.stays; same = p.same; counts = p.counts; uses = used_more n 0 le (omega arith) p.uses }
 
 memory_is : {T : Type 0} {P : Type 0} (r : Result T BlockFault) → IsErrOf r Memory → Unbroken r P → P
 memory_is (Ok x) e p = p
@@ -149,7 +161,7 @@ alters_as y p = record { passes = p.passes; stays = p.stays; memory = λ e. absu
 -- causes
 
 pub short_on : {a b : Held} (f n : ℕ) → Lasts a b → Same a b → IsShort b f n → IsShort a f n
-short_on f n lasts same short = λ t long. short (lasts.told t) (ap (λ (c : Content). length (block_in c f n)) (same.content t) ∙ long)
+short_on {a} {b} f n lasts same short = (omega (arith, short.0, ap (λ (c : ℕ → ℕ). c f) same.counts), λ t long. short.1 (told_after lasts t) (ap (λ (c : Content). length (block_in c f n)) (same.content t) ∙ long))
 
 counted_on : (e : BlockFault) (a b c : Faults) → b ≡ a → Raised e b c → Raised e a c
 counted_on e a b c is h = subst (λ f. Raised e f c) is h

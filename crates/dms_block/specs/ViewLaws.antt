@@ -1,14 +1,14 @@
 -- What is seen through an overlay, over one call after another.
-use Rattle.std.proofs.Common.{ℕ, ◌+◌, ◌≤◌, ◌≡◌, ◌∙◌, IsTrue, List, length, refl, ap, arith}
+use Rattle.std.proofs.Common.{ℕ, ◌+◌, ◌≤◌, ◌≡◌, ◌∙◌, IsTrue, length, refl}
 use Rattle.std.specs.declared.result.Result.{Result}
 use Rattle.std.specs.declared.result.Result.TheVariants.{Ok, Err}
 use Rattle.dms_block.specs.declared.block_fault.BlockFault.{BlockFault}
 use Rattle.dms_block.specs.declared.blocks.Blocks.{Ghosts}
-use Rattle.dms_block.specs.declared.change.Change.{Change}
 use Rattle.dms_block.specs.declared.overlay.Overlay.{Overlay}
 use Rattle.dms_block.specs.Changing.{grown_is}
-use Rattle.dms_block.specs.Content.{Content, changed}
-use Rattle.dms_block.specs.Held.{Agrees, Held, Looks}
+use Rattle.dms_block.specs.Content.{changed}
+use Rattle.dms_block.specs.Faults.{NotFull}
+use Rattle.dms_block.specs.Held.{Agrees}
 use Rattle.dms_block.specs.HeldLaws.{looks_as, looks_err, looks_more, looks_none, looks_on}
 use Rattle.dms_block.specs.View.{Reads, seen, seen_counts, under, written}
 
@@ -21,8 +21,8 @@ module _ {B : Type 0} {g : Ghosts B} where
   pub seen_still : {T : Type 0} {n : ℕ} {x : T} {old new : Overlay B g} → Reads n (Ok x) old new → IsTrue (under old).told → seen new ≡ seen old
   seen_still {old = old} {new = new} reads told = λ i. changed (reads.written_still i) (reads.looks.same.content told i)
 
-  pub reads_none : {T : Type 0} (n : ℕ) (r : Result T BlockFault) (o : Overlay B g) → ((b : B) → g.same_blocks b b) → (under o).sound → Reads n r o o
-  reads_none n r o again sound = record { written_still = refl; looks = looks_none n r (under o) sound; same = again o.below }
+  pub reads_none : {T : Type 0} (n : ℕ) (r : Result T BlockFault) (o : Overlay B g) → ((b : B) → g.same_blocks b b) → NotFull r → (under o).sound → Reads n r o o
+  reads_none n r o again room sound = record { written_still = refl; looks = looks_none n r (under o) room sound; same = again o.below }
 
   pub reads_on : {T U : Type 0} {m n : ℕ} {x : T} (r : Result U BlockFault) {a b c : Overlay B g} → ((x y z : B) → g.same_blocks x y → g.same_blocks y z → g.same_blocks x z) → Reads m (Ok x) a b → Reads n r b c → Reads (m + n) r a c
   reads_on r {a} {b} {c} onward p q = record { written_still = q.written_still ∙ p.written_still; looks = looks_on r p.looks q.looks; same = onward a.below b.below c.below p.same q.same }
@@ -30,8 +30,8 @@ module _ {B : Type 0} {g : Ghosts B} where
   pub reads_more : {T : Type 0} {m : ℕ} (n : ℕ) {r : Result T BlockFault} {a b : Overlay B g} → m ≤ n → Reads m r a b → Reads n r a b
   reads_more n le p = record { written_still = p.written_still; looks = looks_more n le p.looks; same = p.same }
 
-  pub reads_as : {T U : Type 0} {n : ℕ} {x : T} (r : Result U BlockFault) {a b : Overlay B g} → Reads n (Ok x) a b → Reads n r a b
-  reads_as r p = record { written_still = p.written_still; looks = looks_as r p.looks; same = p.same }
+  pub reads_as : {T U : Type 0} {n : ℕ} {x : T} (r : Result U BlockFault) {a b : Overlay B g} → NotFull r → Reads n (Ok x) a b → Reads n r a b
+  reads_as r room p = record { written_still = p.written_still; looks = looks_as r room p.looks; same = p.same }
 
   pub reads_err : {T U : Type 0} {n : ℕ} (e : BlockFault) {a b : Overlay B g} → Reads {T = T} n (Err e) a b → Reads {T = U} n (Err e) a b
   reads_err {T = T} e p = record { written_still = p.written_still; looks = looks_err {T = T} e p.looks; same = p.same }

@@ -1,16 +1,16 @@
 -- Changes in memory, and how they are taken back.
-use Rattle.std.proofs.Common.{ℕ, zero, suc, ◌+◌, ◌-◌, ◌≤◌, ◌<◌, ◌≡◌, ◌≢◌, ◌∙◌, ◌⊎◌, inl, inr, ◌==◌, ◌&&◌, if◌then◌else◌, Bool, true, false, IsTrue, nat_lt, nat_le, List, [], ◌∷◌, ◌++◌, length, map, filter, get_or, set, take, drop, Option, Some, None, refl, sym, ap, subst, arith, length-append, length-take, append_assoc, append-nil}
+use Rattle.std.proofs.Common.{ℕ, zero, suc, ◌+◌, ◌≤◌, ◌<◌, ◌≡◌, ◌≢◌, ◌∙◌, ◌⊎◌, inl, inr, ◌&&◌, if◌then◌else◌, Bool, true, false, IsTrue, nat_lt, nat_le, List, [], ◌∷◌, ◌++◌, length, map, filter, get_or, set, take, drop, Option, Some, None, refl, sym, ap, subst, arith, length-append, length-take, append_assoc, append-nil}
 use Rattle.std.proofs.Props.{props}
 use Rattle.std.specs.Coded.{×_prop, Unit-prop, le_prop}
-use Rattle.std.proofs.lemmas.Bool.{cases_eq, cases_lt, false≢true}
+use Rattle.std.proofs.lemmas.Bool.{cases_eq, cases_lt}
 use Rattle.std.proofs.lemmas.Bool.Decides.{nat_tests}
 use Rattle.std.proofs.lemmas.List.Elements.{filter-append}
 use Rattle.std.proofs.lemmas.List.{length-map, take-append-le, take_more}
 use Rattle.dms_block.specs.declared.block.Block.{Block}
 use Rattle.dms_block.specs.declared.block.BlockId.{BlockId}
-use Rattle.dms_moments.specs.Moments.{Clock, Runs}
+use Rattle.dms_moments.specs.Moments.{Runs}
 use Rattle.dms_block.specs.declared.change.Change.{Change}
-use Rattle.dms_block.specs.Content.{Content, FitsIn, changed, grown, laid, limit, raised, with_block}
+use Rattle.dms_block.specs.Content.{Content, FitsIn, grown, laid, limit, with_block}
 use Rattle.dms_block.specs.Changing.{changed_push, fits_at, fits_take, grown_is}
 use Rattle.dms_block.specs.ContentLaws.{in_file, in_others}
 use Rattle.dms_block.specs.Held.{Agrees, BlockPoint, BlockStop, Passes, Prefix, Stays, TextIs, Uses}
@@ -420,7 +420,7 @@ agrees files log made d uses le = record {
 
 pub passes : (files files' : Files) (log log' : List Undo) (made d d' : ℕ) (uses uses' : Uses) → length files' ≡ length files → points_to files' log' made ≡ points_to files log made → d ≤ d' → Passes (held_of files log made d uses) (held_of files' log' made d' uses')
 passes files files' log log' made d d' uses uses' many points le = record {
-  lasts = record { told = λ t. t; tells = λ t. t; owns = λ i f. nat_lt 30000 f && nat_le f (30000 + many i); whole = λ fs w. w; whole_on = λ fs w. w };
+  lasts = record { told = refl; tells = λ t. t; owns = λ i f. nat_lt 30000 f && nat_le f (30000 + many i); schema = refl; whole = λ fs w. w; whole_on = λ fs w. w };
   next = refl;
   said = refl;
   leaves = λ t room. runs_quietly (points_to files log made) (points_to files' log' made) d d' _ points le;

@@ -1,5 +1,5 @@
 -- What blocks in memory stand for.
-use Rattle.std.specs.Prelude.{ℕ, ◌≡◌, ◌&&◌, Bool, nat_lt, nat_le, ◌+◌, [], IsTrue}
+use Rattle.std.specs.Prelude.{ℕ, ◌≡◌, ◌&&◌, nat_lt, nat_le, ◌+◌, []}
 use Rattle.dms_block.specs.Held.{Held}
 use Rattle.dms_memblocks.specs.declared.memory.MemBlocks.{MemBlocks}
 use Rattle.dms_memblocks.specs.Undoing.{held_of, rows}

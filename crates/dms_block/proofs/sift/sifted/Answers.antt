@@ -1,6 +1,6 @@
 use Rattle.std.proofs.Common.{◌∙◌, arith, ap, length, List}
 use Rattle.std.specs.declared.result.Result.TheVariants.{Ok, Err}
-use Rattle.dms_block.specs.HeldLaws.{looks_err, looks_more, looks_on}
+use Rattle.dms_block.specs.HeldLaws.{looks_err, looks_more, looks_on, told_after}
 use Rattle.dms_block.specs.declared.change.Change.{Change}
 use Rattle.dms_block.proofs.Sifting.{sift_on, takes_up_on}
 use Rattle.dms_block.specs.Changing.{no_change_of}
@@ -16,7 +16,7 @@ loop-change-preserved g c =
     let a : Held = g.B.Blocks.held c.args.below.now in
     let b : Held = g.B.Blocks.held c.loop-change.below in
     let before = c.loop-change.invariant in
-    let taken = takes_up_on a.told b.told a.content b.content a.counts b.counts _ _ _ before.looks.passes.lasts.told before.looks.same.content before.looks.counts c.in_default.ensures.taken in
+    let taken = takes_up_on a.told b.told a.content b.content a.counts b.counts _ _ _ (told_after before.looks.passes.lasts) before.looks.same.content before.looks.counts c.in_default.ensures.taken in
     record {
       looks = looks_on (Ok tt) before.looks c.in_default.ensures.looks;
       faults = c.in_default.ensures.causes ∙ before.faults;

@@ -1,7 +1,6 @@
 use Rattle.std.proofs.Common.{◌≡◌, ◌∙◌, ◌<◌, ◌++◌, ◌∷◌, [], List, ap, sym, length, subst, take, get_or, arith}
 use Rattle.std.specs.Global.{Vec}
 use Rattle.dms_block.specs.declared.block.Block.{Block}
-use Rattle.dms_memblocks.specs.declared.undo.Undo.{Undo}
 use Rattle.dms_memblocks.specs.Undoing.{old_in, put_in, rows}
 use Rattle.dms_memblocks.specs.UndoLaws.{set_same}
 use Rattle.dms_memblocks.proofs.Rows.{at_rows, set_with, take_old}

@@ -1,4 +1,4 @@
-use Rattle.std.proofs.Common.{ℕ, ◌≡◌, ◌+◌, ◌<◌, ◌∙◌, refl, ap, sym, length, get_or, [], subst, arith}
+use Rattle.std.proofs.Common.{◌+◌, refl, get_or, [], arith}
 use Rattle.dms_block.specs.declared.change.Change.{Change}
 use Rattle.dms_block.specs.Changing.{no_change_of}
 use Rattle.dms_memblocks.specs.declared.undo.Undo.{Undo}

@@ -1,4 +1,4 @@
-use Rattle.std.proofs.Common.{ℕ, ◌<◌, length, arith}
+use Rattle.std.proofs.Common.{◌<◌, length, arith}
 use Rattle.dms_memblocks.specs.Undoing.{taken_back}
 use Rattle.dms_memblocks.proofs.Rows.{set_with}
 use Rattle.dms_memblocks.proofs.files.take_back.Goals as goal

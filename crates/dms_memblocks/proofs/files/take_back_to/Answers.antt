@@ -1,4 +1,4 @@
-use Rattle.std.proofs.Common.{ℕ, ◌-◌, ◌+◌, ◌≡◌, ◌∙◌, ap, length, arith}
+use Rattle.std.proofs.Common.{◌-◌, ◌+◌, ◌≡◌, ◌∙◌, ap, length, arith}
 use Rattle.dms_memblocks.specs.Undoing.{rows, undo, undone}
 use Rattle.dms_memblocks.proofs.Rows.{back_end, back_step}
 use Rattle.dms_memblocks.proofs.files.take_back_to.Goals as goal

@@ -1,6 +1,6 @@
-use Rattle.std.proofs.Common.{ℕ, ◌≡◌, ◌∙◌, ◌++◌, ◌∷◌, List, [], ap, sym, subst, length, length-append, arith}
+use Rattle.std.proofs.Common.{◌≡◌, ◌∙◌, ◌++◌, ◌∷◌, List, [], ap, sym, subst, length, length-append, arith}
 use Rattle.dms_block.specs.declared.block.Block.{Block}
-use Rattle.dms_memblocks.specs.Undoing.{AreEmpty, Files, rows}
+use Rattle.dms_memblocks.specs.Undoing.{AreEmpty, rows}
 use Rattle.dms_memblocks.specs.UndoLaws.{empty_push}
 use Rattle.dms_memblocks.proofs.Rows.{rows_push}
 use Rattle.dms_memblocks.proofs.memory.empty_files.Goals as goal

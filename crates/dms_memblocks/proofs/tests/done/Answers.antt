@@ -1,9 +1,9 @@
-use Rattle.std.proofs.Common.{ℕ, ◌≡◌, ◌≤◌, ◌<◌, ◌+◌, ◌-◌, ◌∙◌, ap, sym, subst, length, List, [], Bool, IsTrue, arith}
+use Rattle.std.proofs.Common.{ℕ, ◌≡◌, ◌≤◌, ◌<◌, ◌+◌, ◌∙◌, ap, sym, subst, length, List, [], Bool, IsTrue, arith}
 use Rattle.std.specs.Prelude.{nat_lt, nat_le, ◌&&◌}
 use Rattle.std.proofs.lemmas.Bool.Decides.{nat_tests}
 use Rattle.dms_block.specs.declared.change.Change.{Change}
 use Rattle.dms_block.specs.Content.{FitsIn, with_change}
-use Rattle.dms_memblocks.specs.Undoing.{owns_of, rows}
+use Rattle.dms_memblocks.specs.Undoing.{rows}
 use Rattle.dms_memblocks.specs.View.{held}
 use Rattle.dms_memblocks.proofs.Rows.{length_rows}
 use Rattle.dms_memblocks.proofs.tests.done.Goals as goal

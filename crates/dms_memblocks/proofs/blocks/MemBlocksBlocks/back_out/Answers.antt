@@ -1,4 +1,4 @@
-use Rattle.std.proofs.Common.{ℕ, ◌≡◌, ◌∙◌, ◌≤◌, refl, ap, sym, subst, take, drop, length, length-take, arith}
+use Rattle.std.proofs.Common.{◌∙◌, ap, sym, subst, take, drop, length, length-take, arith}
 use Rattle.dms_block.specs.Held.{Passes, Stays, Uses}
 use Rattle.dms_memblocks.specs.Undoing.{AreBefore, AreSince, AreSmall, content_of, held_of, rows, undone}
 use Rattle.dms_memblocks.specs.UndoLaws.{out_before, out_content, out_passes, out_since, out_stays, undone_small}

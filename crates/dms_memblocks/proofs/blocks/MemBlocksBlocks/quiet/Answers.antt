@@ -1,4 +1,4 @@
-use Rattle.std.proofs.Common.{ℕ, ◌≡◌, ◌≤◌, ◌+◌, ◌<◌, refl, sym, subst, take, drop, length, arith}
+use Rattle.std.proofs.Common.{◌≤◌, ◌+◌, refl, sym, subst, length, arith}
 use Rattle.dms_memblocks.specs.Undoing.{AreBefore, AreSince, rows}
 use Rattle.dms_memblocks.specs.UndoLaws.{all_before, quiet_mark, quiet_points, runs_quiet, take_all, drop_all}
 use Rattle.dms_memblocks.proofs.blocks.MemBlocksBlocks.quiet.Goals as goal

@@ -1,4 +1,4 @@
-use Rattle.std.proofs.Common.{◌≡◌, refl, sym}
+use Rattle.std.proofs.Common.{refl, sym}
 use Rattle.dms_memblocks.specs.Undoing.{rows}
 use Rattle.dms_memblocks.specs.UndoLaws.{points-length}
 use Rattle.dms_memblocks.proofs.blocks.MemBlocksBlocks.sync.Goals as goal

@@ -1,4 +1,4 @@
-use Rattle.std.proofs.Common.{ℕ, ◌≡◌, ◌<◌, ◌∙◌, List, ap, sym, length, get_or, [], arith}
+use Rattle.std.proofs.Common.{◌≡◌, ◌<◌, ◌∙◌, List, ap, sym, length, get_or, [], arith}
 use Rattle.std.specs.Global.{Vec}
 use Rattle.dms_block.specs.declared.block.Block.{Block}
 use Rattle.dms_memblocks.specs.Undoing.{rows}

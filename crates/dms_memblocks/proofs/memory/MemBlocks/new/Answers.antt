@@ -1,7 +1,6 @@
-use Rattle.std.proofs.Common.{ℕ, ◌≡◌, ◌∙◌, ◌+◌, ap, sym, subst, refl, length, drop, List, arith}
+use Rattle.std.proofs.Common.{◌∙◌, ◌+◌, ap, refl}
 use Rattle.std.specs.Prelude.{nat_lt, nat_le, ◌&&◌}
-use Rattle.dms_memblocks.specs.declared.undo.Undo.{Undo}
-use Rattle.dms_memblocks.specs.Undoing.{AreSince, rows}
+use Rattle.dms_memblocks.specs.Undoing.{rows}
 use Rattle.dms_memblocks.specs.UndoLaws.{empty_content, empty_small}
 use Rattle.dms_memblocks.proofs.Rows.{length_rows}
 use Rattle.dms_memblocks.proofs.memory.MemBlocks.new.Goals as goal
