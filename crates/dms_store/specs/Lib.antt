@@ -6,3 +6,5 @@ pub mod Rows
 pub mod Serving
 pub mod Scans
 pub mod ScanLaws
+pub mod Noted
+pub mod Finding

@@ -1,5 +1,5 @@
 -- Blocks as a store sees them: each content as the database that it spells.
-use Rattle.std.specs.Prelude.{ℕ, ◌≡◌, ◌+◌, ◌≤◌, List, [], Bool, true, false, IsTrue, IsSome, Some, None, if◌then◌else◌, map}
+use Rattle.std.specs.Prelude.{ℕ, ◌≡◌, ◌≤◌, List, [], Bool, true, false, IsTrue, IsSome, Some, None, if◌then◌else◌, map}
 use Rattle.std.specs.declared.option.Option.{Option}
 use Rattle.std.specs.Str.{bytes_eq}
 use Rattle.dms_moments.specs.Moments.{Clock, seen_as}
@@ -16,7 +16,15 @@ use Rattle.dms_model.specs.Db.{Db}
 use Rattle.dms_model.specs.Points.{Point, Stop}
 use Rattle.dms_model.specs.Seen.{Effort, Seen}
 use Rattle.dms_slots.specs.SlotBlocks.{file_of}
+use Rattle.dms_store.specs.Serving.{IsServed}
 use Rattle.dms_store.specs.Spelled.{spelled}
+
+-- the store counts by itself how often it answers that a block is damaged, whoever found it so
+abbrev pub faults_with : Faults → ℕ → Faults
+faults_with f found = record f { damaged = found }
+
+abbrev pub effort_of : Uses → Effort
+effort_of u = record { spent = u.spent; syncs = u.syncs; outs = u.outs }
 
 module _ (desc : Described) where
   -- the database of blocks, where they are told
@@ -39,14 +47,7 @@ module _ (desc : Described) where
   abbrev pub here_of : Held → BlockPoint
   here_of h = record { number = h.next; blocks = if h.told then h.content else h.here.blocks; schema = h.here.schema }
 
-  -- blocks that the store itself found damaged are counted too
-  abbrev pub faults_with : Faults → ℕ → Faults
-  faults_with f found = record f { damaged = f.damaged + found }
-
-  abbrev pub effort_of : Uses → Effort
-  effort_of u = record { spent = u.spent; syncs = u.syncs; outs = u.outs }
-
-  -- what a store over blocks tells, that found so many damaged blocks itself
+  -- what a store over blocks tells, that so often answered that a block is damaged
   abbrev pub seen_of : Type 0 → ℕ → Held → Seen
   seen_of sound found h = record {
     tells = h.tells;
@@ -71,9 +72,10 @@ pub record IsStructureFile (file : ℕ) : Type 0 where
   pub low : file_of 1 ≤ file
   pub most : file ≤ file_of 200
 
--- Blocks that a store of this description is kept in: points are made under the bytes of the description, the object owns
+-- Blocks that a store of this description is kept in: the description is one that a schema can have, points are made under the bytes of the description, the object owns
 -- the file of each structure, and it owns files of structures alone.
 pub record Serves (desc : Described) (h : Held) : Type 0 where
+  pub served : IsServed desc
   pub schema : h.here.schema ≡ spelling desc
   pub all : (n : ℕ) → IsSome (structure_of desc n) → IsTrue (h.owns (file_of n))
   pub only : (file : ℕ) → IsTrue (h.owns file) → IsStructureFile file
@@ -83,3 +85,7 @@ pub record IsUsable {B : Type 0} {g : Ghosts B} (desc : Described) (o : Overlay 
   pub sound : (under o).sound
   pub none : written o ≡ []
   pub serves : Serves desc (under o)
+
+-- what a store tells, over these blocks
+abbrev pub store_seen : {B : Type 0} {g : Ghosts B} → Described → ℕ → Overlay B g → Seen
+store_seen desc found o = seen_of desc (IsUsable desc o) found (under o)

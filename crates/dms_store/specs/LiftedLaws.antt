@@ -5,11 +5,17 @@ use Rattle.std.specs.List.{AllByRecursion}
 use Rattle.std.specs.Str.{bytes_eq}
 use Rattle.std.specs.declared.option.Option.{Option}
 use Rattle.std.specs.declared.result.Result.{Result}
+use Rattle.std.specs.declared.result.Result.TheVariants.{Ok, Err}
 use Rattle.dms_moments.specs.Moments.{Now, Runs}
 use Rattle.std.proofs.lemmas.Slice.Eq.{bytes_eq-Decides}
 use Rattle.dms_moments.specs.MomentLaws.{runs_weaken}
 use Rattle.dms_moments.specs.SeenLaws.{runs_seen_as, now_seen_as}
 use Rattle.dms_block.specs.declared.block_fault.BlockFault.{BlockFault}
+use Rattle.dms_block.specs.declared.block_fault.BlockFault.TheVariants.{Disk, Memory, Full, Damaged, Say}
+use Rattle.dms_block.specs.declared.blocks.Blocks.{Ghosts}
+use Rattle.dms_block.specs.declared.overlay.Overlay.{Overlay}
+use Rattle.dms_block.specs.Faults.{Unbroken}
+use Rattle.dms_block.specs.View.{Reads, under, written}
 use Rattle.dms_block.specs.Content.{Content}
 use Rattle.dms_block.specs.Counts.{CausedBy}
 use Rattle.dms_block.specs.Held.{Held, BlockPoint, BlockStop, Lasts, Passes, Prefix, Same, Room}
@@ -19,7 +25,8 @@ use Rattle.dms_desc_bytes.specs.Spelling.{spelling}
 use Rattle.dms_model.specs.Db.{Db}
 use Rattle.dms_model.specs.Points.{Point, Stop, Front, TextIs, TextGrows, Leaves, LeavesText, Stays, IsUnder}
 use Rattle.dms_model.specs.Seen as store
-use Rattle.dms_store.specs.Lifted.{db_of, point_of, stop_of, lifted, here_of, faults_with, seen_of, Serves}
+use Rattle.dms_slots.specs.SlotBlocks.{file_of}
+use Rattle.dms_store.specs.Lifted.{IsUsable, Serves, db_of, effort_of, faults_with, here_of, lifted, point_of, seen_of, stop_of, store_seen}
 
 -- ---- the database
 
@@ -91,7 +98,7 @@ module _ (desc : Described) (sound sound' : Type 0) (found found' : ℕ) (a b : 
   pub silent_lifted : Passes a b → store.IsSilent old new
   silent_lifted p = record { next = p.next; said = p.said; leaves = λ tells room. leaves_lifted desc a b a.points a.next (p.leaves tells room) }
 
-  pub causes_lifted : {T : Type 0} (r : Result T BlockFault) → Lasts a b → a.uses.reads ≤ b.uses.reads → CausedBy r (faults_with desc a.faults found) (faults_with desc b.faults found') → store.HasCauses r old new
+  pub causes_lifted : {T : Type 0} (r : Result T BlockFault) → Lasts a b → a.uses.reads ≤ b.uses.reads → CausedBy r (faults_with a.faults found) (faults_with b.faults found') → store.HasCauses r old new
   causes_lifted r lasts reads cause = record { tells = lasts.tells; desc = refl; whole = lasts.whole; whole_on = lasts.whole_on; cause = cause; reads = reads }
 
   pub points_lifted : held.IfTold a ((b.points ≡ a.points) × (a.sure ≤ b.sure)) → store.StaysSure old new
@@ -145,3 +152,40 @@ agrees_lifted desc sound found a schema agrees = record {
       (λ x now. let p = agrees.stop tells room x now in (front_lifted desc a a.points a.next x p.0, p.1));
   sure = λ tells room. omega (arith, agrees.sure tells room, length-map a.points (point_of desc));
 }
+
+-- ---- calls through an overlay on which nothing is written
+
+unbroken_two : {T P Q R : Type 0} (r : Result T BlockFault) → (P → Q → R) → Unbroken r P → Unbroken r Q → Unbroken r R
+unbroken_two (Ok x) f p q = f p q
+unbroken_two (Err Disk) f p q = tt
+unbroken_two (Err Memory) f p q = f p q
+unbroken_two (Err (Full n)) f p q = tt
+unbroken_two (Err (Damaged n b)) f p q = tt
+unbroken_two (Err Say) f p q = tt
+
+pub serves_on : (desc : Described) (a b : Held) → Lasts a b → Serves desc a → Serves desc b
+serves_on desc a b lasts s = record {
+  served = s.served;
+  schema = lasts.schema ∙ s.schema;
+  all = λ n there. subst (λ (owns : ℕ → Bool). IsTrue (owns (file_of n))) (sym lasts.owns) (s.all n there);
+  only = λ file owned. s.only file (subst (λ (owns : ℕ → Bool). IsTrue (owns file)) lasts.owns owned);
+}
+
+module _ {B : Type 0} {g : Ghosts B} (desc : Described) (o o' : Overlay B g) where
+  pub usable_on : IsUsable desc o → Lasts (under o) (under o') → (under o').sound → written o' ≡ [] → IsUsable desc o'
+  usable_on usable lasts sound none = record { sound = sound; none = none; serves = serves_on desc (under o) (under o') lasts usable.serves }
+
+  -- reads keep the store as it was
+  pub reads_keep : {T : Type 0} {n : ℕ} (found found' : ℕ) (r : Result T BlockFault) → IsUsable desc o → Reads n r o o' → Unbroken r (store.Keeps (store_seen desc found o) (store_seen desc found' o'))
+  reads_keep found found' r usable reads =
+      unbroken_two r (λ stays same. keeps_lifted desc (IsUsable desc o) (IsUsable desc o') found found' (under o) (under o')
+          (usable_on usable reads.looks.passes.lasts stays.sound (reads.written_still ∙ usable.none)) reads.looks.passes.lasts stays same) reads.looks.stays reads.looks.same
+
+  pub reads_silent : {T : Type 0} {n : ℕ} {r : Result T BlockFault} (found found' : ℕ) → Reads n r o o' → store.IsSilent (store_seen desc found o) (store_seen desc found' o')
+  reads_silent found found' reads = silent_lifted desc (IsUsable desc o) (IsUsable desc o') found found' (under o) (under o') reads.looks.passes
+
+  pub reads_effort : {T : Type 0} {n : ℕ} {r : Result T BlockFault} → Reads n r o o' → effort_of (under o').uses ≡ effort_of (under o).uses
+  reads_effort reads =
+      let u = reads.looks.uses in
+      let spent : (under o').uses.spent ≡ (under o).uses.spent = omega (arith, u.spent, u.not_less) in
+      λ i. record { spent = spent i; syncs = u.syncs i; outs = u.outs i }

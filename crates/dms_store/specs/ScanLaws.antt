@@ -26,6 +26,7 @@ use Rattle.dms_model.specs.Db.{Db, Place}
 use Rattle.dms_model.specs.Members.{belongs, first_member, first_of, is_after_bound, is_before, is_before_bound, last_member, last_of, members, spot_of, spots_of}
 use Rattle.dms_model.specs.Valid.{is_data_set}
 use Rattle.dms_slots.specs.SlotBlocks.{or_free, slots_of}
+use Rattle.dms_store.specs.Finding.{structure_there}
 use Rattle.dms_store.specs.Rows.{AreNumbered, entries_in}
 use Rattle.dms_store.specs.Scans.{spot, owned_spot, first_used, last_used, start_of, stop_of}
 use Rattle.dms_store.specs.Spelled.{rows_from, rows_in, row_of, file_in, db_in}
@@ -302,10 +303,6 @@ module _ (owner : ℕ) where
 
 -- ---- the members of a data set
 
-structure_there : (ss : List Shape) (path : ℕ) (s : Shape) → cond (path == 0) None (slice_get ss (path - 1)) ≡ Some s → slice_get ss (path - 1) ≡ Some s
-structure_there ss zero s h = absurd (cc)
-structure_there ss (suc n) s h = let t : (suc n == 0) ≡ false = grind (arith, nat_tests) in sym (ap (λ b. cond b None (slice_get ss (suc n - 1))) t) ∙ h
-
 -- what is asked of a path that is a data set
 pub record IsSetPath (desc : Described) (path : ℕ) (s : Shape) : Type 0 where
   pub numbered : AreNumbered 1 desc.structures
@@ -313,21 +310,21 @@ pub record IsSetPath (desc : Described) (path : ℕ) (s : Shape) : Type 0 where
   pub set : is_data_set (Some s) ≡ true
   pub keyless : s.parts ≡ []
 
+no_entries : (desc : Described) (s : Shape) (c : Content) (owner : ℕ) → members s (db_in desc c) owner ≡ sorted (is_before s.parts) (spots_of s [] owner (entries (db_in desc c).records))
+unfolding db_in
+no_entries desc s c owner = refl
+
 module _ (desc : Described) (path : ℕ) (s : Shape) (at : IsSetPath desc path s) (c : Content) (owner : ℕ) where
   own : IsSet s
   own = of_set s at.set at.keyless
 
   members_are : members s (db_in desc c) owner ≡ spots_from owner 1 (slots_of s (file_in c s))
   members_are =
-      no_entries desc c
+      no_entries desc s c owner
       ∙ ap (λ es. sorted (is_before s.parts) (spots_of s [] owner es)) (entries_in desc c at.numbered)
       ∙ ap (sorted (is_before s.parts)) (spots_in s own owner c 1 (path - 1) desc.structures at.numbered at.set (structure_there desc.structures path s at.is))
       ∙ ap (λ ps. sorted (is_before ps) (spots_from owner 1 (slots_of s (file_in c s)))) at.keyless
       ∙ sorted_are owner 1 (slots_of s (file_in c s))
-    where
-      no_entries : (desc : Described) (c : Content) → members s (db_in desc c) owner ≡ sorted (is_before s.parts) (spots_of s [] owner (entries (db_in desc c).records))
-      unfolding db_in
-      no_entries desc c = refl
 
   pub first_at : (from : Bound) (m : ℕ) → start_of from ≡ Some m → first_member desc (db_in desc c) path owner from ≡ first_used owner (1 + m) (drop m (slots_of s (file_in c s)))
   unfolding first_member

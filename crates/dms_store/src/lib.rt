@@ -1,6 +1,10 @@
-//! What the blocks of structure files spell.
+//! What the blocks of structure files spell, and a database that is kept on them.
 #![tactic(auto)]
 
+mod getting;
 mod laws;
+mod note;
+mod store;
 
 pub use laws::{empty_law, spelled_law};
+pub use store::BlockStore;

@@ -1,0 +1,80 @@
+-- What is read of the blocks of a store.
+use Rattle.std.proofs.Common.{◌≡◌, ◌∙◌, ◌+◌, ◌-◌, ◌<◌, ◌≤◌, ℕ, zero, suc, List, [], ◌∷◌, Bool, true, false, cond, IsTrue, Some, None, refl, sym, ap, subst, slice_get, arith}
+use Rattle.std.specs.Prelude.{◌==◌, ◌&&◌, nat_le}
+use Rattle.std.specs.List.{AllByRecursion}
+use Rattle.std.specs.declared.option.Option.{Option}
+use Rattle.std.specs.FinMap.{get}
+use Rattle.std.proofs.lemmas.Bool.Decides.{nat_tests}
+use Rattle.dms_block.specs.declared.blocks.Blocks.{Ghosts}
+use Rattle.dms_block.specs.declared.change.Change.{Change}
+use Rattle.dms_block.specs.declared.overlay.Overlay.{Overlay}
+use Rattle.dms_block.specs.Content.{Content, changed}
+use Rattle.dms_block.specs.View.{seen, under, written}
+use Rattle.dms_desc.specs.declared.record.Record.{Record}
+use Rattle.dms_desc.specs.Lookups.{structure_of}
+use Rattle.dms_desc.specs.Shape.{Shape, Described}
+use Rattle.dms_layout.specs.declared.slot.Slot.{Slot}
+use Rattle.dms_model.specs.Valid.{is_data_set}
+use Rattle.dms_slots.specs.Seen.{BadIn}
+use Rattle.dms_slots.specs.SlotBlocks.{file_of, slot_at, slot_opt}
+use Rattle.dms_store.specs.Rows.{AreNumbered, get_in, rec_in, rec_opt}
+use Rattle.dms_store.specs.Scans.{spot}
+use Rattle.dms_store.specs.Serving.{IsServed, IsServedShape}
+use Rattle.dms_store.specs.Spelled.{db_in, file_in}
+
+module _ {B : Type 0} {g : Ghosts B} where
+  -- a block of the data set isn't one of slots
+  abbrev pub BadSlot : Described → ℕ → Overlay B g → ℕ → ℕ → Type 0
+  BadSlot desc set o f b = (s : Shape) × (structure_of desc set ≡ Some s) × BadIn s o f b
+
+  -- where nothing is written, what is seen stands below
+  pub seen_below : (o : Overlay B g) → written o ≡ [] → seen o ≡ (under o).content
+  seen_below o none = ap (λ (l : List Change). changed l (under o).content) none
+
+-- ---- structures that are served
+
+served_in : (ss : List Shape) (i : ℕ) (s : Shape) → AllByRecursion IsServedShape ss → slice_get ss i ≡ Some s → IsServedShape s
+served_in [] i s all at = absurd (cc)
+served_in (t ∷ ss) zero s all at = subst (λ (x : Shape). IsServedShape x) (some_shape t s at) all.0
+  where
+    some_shape : (x y : Shape) → ◌≡◌ {A = Option Shape} (Some x) (Some y) → x ≡ y
+    some_shape x y h = cc
+served_in (t ∷ ss) (suc i) s all at = served_in ss i s all.1 at
+
+pub structure_there : (ss : List Shape) (path : ℕ) (s : Shape) → cond (path == 0) None (slice_get ss (path - 1)) ≡ Some s → slice_get ss (path - 1) ≡ Some s
+structure_there ss zero s h = absurd (cc)
+structure_there ss (suc n) s h = let t : (suc n == 0) ≡ false = grind (arith, nat_tests) in sym (ap (λ b. cond b None (slice_get ss (suc n - 1))) t) ∙ h
+
+pub served_at : (desc : Described) (n : ℕ) (s : Shape) → IsServed desc → structure_of desc n ≡ Some s → IsServedShape s
+served_at desc n s served at = served_in desc.structures (n - 1) s served.each (structure_there desc.structures n s at)
+
+number_in : (ss : List Shape) (k i : ℕ) (s : Shape) → AreNumbered k ss → slice_get ss i ≡ Some s → s.number ≡ k + i
+number_in [] k i s numbered at = absurd (cc)
+number_in (t ∷ ss) k zero s numbered at = ap (λ (x : Shape). x.number) (sym (some_shape t s at)) ∙ numbered.0 ∙ omega arith
+  where
+    some_shape : (x y : Shape) → ◌≡◌ {A = Option Shape} (Some x) (Some y) → x ≡ y
+    some_shape x y h = cc
+number_in (t ∷ ss) k (suc i) s numbered at = number_in ss (k + 1) i s numbered.1 at ∙ omega arith
+
+not_none : (path : ℕ) (o : Option Shape) (s : Shape) → cond (path == 0) None o ≡ Some s → 1 ≤ path
+not_none zero o s h = absurd (cc)
+not_none (suc n) o s h = omega arith
+
+-- a structure that is looked up by a number has it
+pub number_at : (desc : Described) (n : ℕ) (s : Shape) → IsServed desc → structure_of desc n ≡ Some s → s.number ≡ n
+number_at desc n s served at =
+    number_in desc.structures 1 (n - 1) s served.numbered (structure_there desc.structures n s at) ∙ omega (arith, not_none n (slice_get desc.structures (n - 1)) s at)
+
+-- ---- one record
+
+set_if : (desc : Described) (set : ℕ) (s : Shape) → structure_of desc set ≡ Some s → IsTrue (is_data_set (structure_of desc set)) → is_data_set (Some s) ≡ true
+set_if desc set s at set_is = sym (ap is_data_set at) ∙ set_is
+
+-- what stands in the slot of a record is what the database has
+pub got : (desc : Described) (c : Content) (set number : ℕ) (s : Shape) (o : Option Slot) → IsServed desc → structure_of desc set ≡ Some s → is_data_set (Some s) ≡ true → 1 ≤ number
+    → slot_at s (c (file_of s.number)) number ≡ slot_opt o → rec_opt (slot_opt o) ≡ get (db_in desc c).records (set, number)
+got desc c set number s o served at set_is low is =
+    sym (get_in desc c served.numbered set number low
+    ∙ ap (λ x. rec_in c x number) at
+    ∙ ap (λ b. cond b (rec_opt (slot_at s (file_in c s) number)) None) set_is
+    ∙ ap rec_opt is)
