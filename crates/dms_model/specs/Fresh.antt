@@ -1,5 +1,5 @@
 -- The number of a new record: no record of its data set has it.
-use Rattle.std.proofs.Common.{◌≡◌, ◌+◌, ◌≤◌, ◌<◌, ℕ, List, [], ◌∷◌, Bool, true, false, cond, eqb, Some, None, refl, sym, ap, ◌∙◌, arith}
+use Rattle.std.proofs.Common.{◌≡◌, ◌+◌, ◌≤◌, ◌<◌, ℕ, suc, length, List, [], ◌∷◌, Bool, true, false, cond, eqb, Some, None, refl, sym, ap, ◌∙◌, arith}
 use Rattle.std.specs.Prelude.{◌&&◌, nat_lt, T}
 use Rattle.std.specs.FinMap.{get, find, get-entries, entries, entries_sorted, is_sorted}
 use Rattle.std.specs.FinMap.Entries.{below_all}
@@ -110,3 +110,17 @@ fresh_free db set = get-entries db (set, fresh db set) ∙ find_none set (fresh 
 -- numbers begin at 1
 pub fresh_from_one : (db : Records) (set : ℕ) → 1 ≤ fresh db set
 fresh_from_one db set = gap_above 1 (records_of db set)
+
+gap_at : (a b : Bool) (n : ℕ) (r : ℕ × Record) (rs : List (ℕ × Record)) → gap_from (n + 1) rs ≤ n + 1 + length rs → gap_from n rs ≤ n + length rs
+    → cond a (gap_from (n + 1) rs) (cond b (gap_from n rs) n) ≤ n + suc (length rs)
+gap_at true b n r rs h k = omega (arith, h)
+gap_at false true n r rs h k = omega (arith, k)
+gap_at false false n r rs h k = omega arith
+
+gap_below : (n : ℕ) (rs : List (ℕ × Record)) → gap_from n rs ≤ n + length rs
+gap_below n [] = omega arith
+gap_below n (r ∷ rs) = gap_at (eqb n r.0) (nat_lt r.0 n) n r rs (gap_below (n + 1) rs) (gap_below n rs)
+
+-- a new record's number is not above one more than the records of its data set
+pub fresh_below : (m : Records) (set : ℕ) → fresh m set ≤ 1 + length (records_of m set)
+fresh_below m set = gap_below 1 (records_of m set)

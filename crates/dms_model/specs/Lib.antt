@@ -1,7 +1,9 @@
 pub mod BackOut
 pub mod Db
 pub mod DescribedCode
+pub mod FitLaws
 pub mod Fitting
+pub mod Founds
 pub mod Fresh
 pub mod MemberLaws
 pub mod Members

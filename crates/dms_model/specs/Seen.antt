@@ -1,10 +1,12 @@
 -- What a store tells of itself, and what its calls leave of that.
-use Rattle.std.specs.Prelude.{ℕ, ◌≡◌, ◌≤◌, ◌<◌, ◌+◌, ◌-◌, ◌^◌, min, ◌++◌, [], ◌∷◌, List, length, Some, OnOk}
+use Rattle.std.specs.Prelude.{ℕ, ◌≡◌, ◌≤◌, ◌<◌, ◌+◌, ◌-◌, ◌^◌, min, ◌++◌, [], ◌∷◌, List, length, Some, OnOk, ⊤}
 use Rattle.std.specs.List.{AllByRecursion}
 use Rattle.std.specs.declared.option.Option.{Option}
 use Rattle.std.specs.declared.result.Result.{Result}
 use Rattle.dms_moments.specs.Moments.{Clock, Now}
+use Rattle.std.specs.declared.result.Result.TheVariants.{Ok, Err}
 use Rattle.dms_block.specs.declared.block_fault.BlockFault.{BlockFault}
+use Rattle.dms_block.specs.declared.block_fault.BlockFault.TheVariants.{Disk, Memory, Full, Damaged, Say}
 use Rattle.dms_block.specs.Counts.{Faults, CausedBy}
 use Rattle.dms_block.specs.Held.{IsUpToOne}
 use Rattle.dms_desc.specs.Shape.{Described}
@@ -27,6 +29,7 @@ no_effort = record { spent = 0; syncs = 0; outs = 0 }
 
 -- at most so many blocks were changed, no quiet point was made durable by it, and nothing went back
 pub record Spends (blocks : ℕ) (old new : Effort) : Type 0 where
+  pub least : old.spent ≤ new.spent
   pub spent : new.spent ≤ old.spent + blocks
   pub syncs : new.syncs ≡ old.syncs
   pub outs : new.outs ≡ old.outs
@@ -75,6 +78,15 @@ pub record Seen : Type 1 where
 -- where the points are told, and there is a number for one more
 abbrev pub IfTold : Seen → Type 0 → Type 0
 IfTold s P = s.tells → s.next + 1 < 2 ^ 64 → P
+
+-- a call that changes nothing needs no more room in a file
+abbrev pub Roomy : {T : Type 0} → Result T BlockFault → Type 0
+Roomy (Ok x) = ⊤
+Roomy (Err Disk) = ⊤
+Roomy (Err Memory) = ⊤
+Roomy (Err (Full f)) = ⊥
+Roomy (Err (Damaged f b)) = ⊤
+Roomy (Err Say) = ⊤
 
 -- whatever a call does: it stays the same kind of store, and a fault has a cause
 pub record HasCauses {T : Type 0} (result : Result T BlockFault) (old new : Seen) : Type 0 where

@@ -1,5 +1,5 @@
 -- What storing a record answers, and what it leaves.
-use Rattle.std.specs.Prelude.{◌≡◌, ℕ, ◌+◌, List, [], ◌∷◌, Bool, true, false, not, ◌&&◌, ◌==◌, Some, None, ⊤, if◌then◌else◌, nat_le, nat_lt, length, IfOk, slice_get}
+use Rattle.std.specs.Prelude.{◌≡◌, ℕ, ◌+◌, List, [], ◌∷◌, Bool, true, false, not, ◌&&◌, ◌==◌, Some, None, ⊤, if◌then◌else◌, nat_le, nat_lt, length, IfOk, is_some, slice_get}
 use Rattle.std.specs.declared.option.Option.{Option}
 use Rattle.std.specs.declared.result.Result.{Result}
 use Rattle.std.specs.FinMap.{insert, get, entries}
@@ -25,6 +25,11 @@ TellsOf (Some db) f answer = answer ≡ f db
 
 abbrev pub Tells : {T : Type 0} → Option Db → Result T BlockFault → (Db → T) → Type 0
 Tells told result f = IfOk result (TellsOf told f)
+
+-- there is such an item, and it is a link
+abbrev pub is_link_item : Option Item → Bool
+is_link_item None = false
+is_link_item (Some item) = is_link item.kind
 
 -- a link as it stood, and else the new value
 abbrev pub kept_value : Option Item → Value → Value → Value
@@ -82,8 +87,9 @@ abbrev pub is_full : Option Shape → ℕ → Bool
 is_full None count = true
 is_full (Some s) count = nat_le s.population count
 
+-- the number under which a record is stored: the one that is named, where a record has it, and else a new one, where there is room
 abbrev pub put_number : Described → Db → ℕ → Option ℕ → Put
-put_number desc db set (Some n) = Stored n
+put_number desc db set (Some n) = if is_some (get db.records (set, n)) then Stored n else Full
 put_number desc db set None = if is_full (structure_of desc set) (length (records_of db.records set)) then Full else Stored (fresh db.records set)
 
 abbrev pub put_unless : Option ℕ → Put → Put
@@ -103,8 +109,3 @@ abbrev pub put_after : Put → Described → Db → ℕ → Record → Db
 put_after (Stored n) desc db set rec = record db { records = insert db.records (set, n) (stored desc db set (Some n) rec) }
 put_after (Duplicate s) desc db set rec = db
 put_after Full desc db set rec = db
-
--- a told database stays told
-abbrev pub Puts : Option Db → Option Db → Described → ℕ → Option ℕ → Record → Put → Type 0
-Puts None new desc set number rec answer = ⊤
-Puts (Some db) new desc set number rec answer = (answer ≡ put_answer desc db set number rec) × (new ≡ Some (put_after (put_answer desc db set number rec) desc db set rec))

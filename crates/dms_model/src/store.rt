@@ -1,11 +1,12 @@
-ghost use Rattle.std.specs.Prelude.{◌≡◌, ◌<◌, ◌+◌, ◌*◌, ◌^◌, length, ◌++◌, [], ◌∷◌, Some, IfOk, OnOk, IsErrOf, IsOkUnless};
+ghost use Rattle.std.specs.Prelude.{◌≡◌, ◌<◌, ◌+◌, ◌*◌, ◌^◌, length, ◌++◌, [], ◌∷◌, Some, IfOk, IfSome, OnOk, IsErrOf, IsOkUnless};
 ghost use Rattle.std.specs.FinMap.{get};
 ghost use Rattle.dms_model.specs.Db.{Db};
 ghost use Rattle.dms_model.specs.Members.{first_member, last_member};
 ghost use Rattle.dms_model.specs.Points.{Leaves};
 ghost use Rattle.dms_block.specs.Texts.{Prints};
-ghost use Rattle.dms_model.specs.Seen.{Seen, Agrees, GoesBack, HasCauses, IfTold, IsMute, IsSilent, Keeps, KeepsPoints, MadeQuiet, MadeSure, SaysPart, Spends, Syncs};
-ghost use Rattle.dms_model.specs.Stores.{Puts, Tells};
+ghost use Rattle.dms_model.specs.Seen.{Seen, Agrees, GoesBack, HasCauses, IfTold, IsMute, IsSilent, Keeps, KeepsPoints, MadeQuiet, MadeSure, Roomy, SaysPart, Spends, Syncs};
+ghost use Rattle.dms_model.specs.Stores.{Tells};
+ghost use Rattle.dms_model.specs.Fitting.{IsDataSet, IsNumber, IsStructure, MayStart, PutFits, Puts, RecordFits, SpotFits};
 ghost use Rattle.dms_block.specs.Faults.{Unbroken, Undamaged};
 
 use crate::{Put, Spot};
@@ -24,19 +25,24 @@ pub trait Store {
     /// The same store, at another time.
     ghost same_store: { Self → Self → Type 0 };
 
-    /// The record of a data set with this number, or none.
+    /// The record of a data set with this number, or none. What it answers fits the data set, whatever it is told of.
     fn get(&mut self, alloc: Global, set: u16, number: u64) -> Result<Option<Record>, BlockFault>
-        requires { (seen self.old).sound }
+        requires sound { (seen self.old).sound }
+        requires set { IsDataSet (seen self.old).desc set }
+        requires number { IsNumber (seen self.old).desc set number }
         ensures found { Tells (seen self.old).db result (λ d. get d.records (set, number)) }
+        ensures fits { IfOk result (λ o. IfSome o (RecordFits (seen self.old).desc set)) }
         ensures keeps { Unbroken result (Keeps (seen self.old) (seen self.new)) }
         ensures silent { IsSilent (seen self.old) (seen self.new) }
         ensures same { same_store self.old self.new }
         ensures effort { (seen self.new).effort ≡ (seen self.old).effort }
         ensures undamaged { (d : Db) → (seen self.old).db ≡ Some d → Undamaged result }
         ensures mute_fault { IsErrOf result BlockFault.Say → ⊥ }
+        ensures room { Roomy result }
         ensures causes { HasCauses result (seen self.old) (seen self.new) };
 
-    /// The first member of a structure, for an owner (0 where it is disjoint), after a bound.
+    /// The first member of a structure, for an owner (0 where it is disjoint), after a bound. It is the database's where
+    /// the bound's key fits the structure's.
     fn first_from(
         &mut self,
         alloc: Global,
@@ -44,17 +50,22 @@ pub trait Store {
         owner: u64,
         from: &Bound,
     ) -> Result<Option<Spot>, BlockFault>
-        requires { (seen self.old).sound }
-        ensures found { Tells (seen self.old).db result (λ d. first_member (seen self.old).desc d path owner from.now) }
+        requires sound { (seen self.old).sound }
+        requires path { IsStructure (seen self.old).desc path }
+        requires owner { owner < 2 ^ 32 }
+        ensures found { MayStart (seen self.old).desc path owner from.now → Tells (seen self.old).db result (λ d. first_member (seen self.old).desc d path owner from.now) }
+        ensures fits { IfOk result (λ o. IfSome o (SpotFits (seen self.old).desc path)) }
         ensures keeps { Unbroken result (Keeps (seen self.old) (seen self.new)) }
         ensures silent { IsSilent (seen self.old) (seen self.new) }
         ensures same { same_store self.old self.new }
         ensures effort { (seen self.new).effort ≡ (seen self.old).effort }
         ensures undamaged { (d : Db) → (seen self.old).db ≡ Some d → Undamaged result }
         ensures mute_fault { IsErrOf result BlockFault.Say → ⊥ }
+        ensures room { Roomy result }
         ensures causes { HasCauses result (seen self.old) (seen self.new) };
 
-    /// The last member of a structure, for an owner (0 where it is disjoint), before a bound.
+    /// The last member of a structure, for an owner (0 where it is disjoint), before a bound. It is the database's where
+    /// the bound's key fits the structure's.
     fn last_to(
         &mut self,
         alloc: Global,
@@ -62,18 +73,22 @@ pub trait Store {
         owner: u64,
         to: &Bound,
     ) -> Result<Option<Spot>, BlockFault>
-        requires { (seen self.old).sound }
-        ensures found { Tells (seen self.old).db result (λ d. last_member (seen self.old).desc d path owner to.now) }
+        requires sound { (seen self.old).sound }
+        requires path { IsStructure (seen self.old).desc path }
+        requires owner { owner < 2 ^ 32 }
+        ensures found { MayStart (seen self.old).desc path owner to.now → Tells (seen self.old).db result (λ d. last_member (seen self.old).desc d path owner to.now) }
+        ensures fits { IfOk result (λ o. IfSome o (SpotFits (seen self.old).desc path)) }
         ensures keeps { Unbroken result (Keeps (seen self.old) (seen self.new)) }
         ensures silent { IsSilent (seen self.old) (seen self.new) }
         ensures same { same_store self.old self.new }
         ensures effort { (seen self.new).effort ≡ (seen self.old).effort }
         ensures undamaged { (d : Db) → (seen self.old).db ≡ Some d → Undamaged result }
         ensures mute_fault { IsErrOf result BlockFault.Say → ⊥ }
+        ensures room { Roomy result }
         ensures causes { HasCauses result (seen self.old) (seen self.new) };
 
     /// Stores a new record of a data set under the least free number, with null links, or replaces all items but the
-    /// links of the record with this number.
+    /// links of the record with this number. It does so where no REQUIRED item is null and VERIFY is met.
     fn put(
         &mut self,
         alloc: Global,
@@ -81,7 +96,11 @@ pub trait Store {
         number: Option<u64>,
         rec: &Record,
     ) -> Result<Put, BlockFault>
-        requires { (seen self.old).sound }
+        requires sound { (seen self.old).sound }
+        requires set { IsDataSet (seen self.old).desc set }
+        requires number { IfSome number (IsNumber (seen self.old).desc set) }
+        requires fits { RecordFits (seen self.old).desc set rec.now }
+        ensures fits { IfOk result (PutFits (seen self.old).desc set) }
         ensures put { IfOk result (Puts (seen self.old).db (seen self.new).db (seen self.old).desc set number rec.now) }
         ensures memory { IsErrOf result BlockFault.Memory → (seen self.new).db ≡ (seen self.old).db }
         ensures keeps { Unbroken result (KeepsPoints (seen self.old) (seen self.new)) }
