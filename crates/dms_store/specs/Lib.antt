@@ -8,3 +8,5 @@ pub mod Scans
 pub mod ScanLaws
 pub mod Noted
 pub mod Finding
+pub mod Files
+pub mod Storing

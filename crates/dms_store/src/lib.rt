@@ -4,7 +4,9 @@
 mod getting;
 mod laws;
 mod note;
+mod scanning;
 mod store;
 
+pub use getting::get;
 pub use laws::{empty_law, spelled_law};
 pub use store::BlockStore;

@@ -1,4 +1,4 @@
-ghost use Rattle.std.specs.Prelude.{◌≡◌, ◌<◌, ◌+◌, ◌^◌, ◌++◌, [], ◌∷◌, IfOk, IfErr, OnOk, IsErrOf, IsOkUnless};
+ghost use Rattle.std.specs.Prelude.{◌≡◌, ◌<◌, ◌+◌, ◌^◌, ◌++◌, [], ◌∷◌, Some, IfOk, IfErr, OnOk, IsErrOf, IsOkUnless};
 ghost use Rattle.dms_block.specs.Faults.{Undamaged};
 ghost use Rattle.dms_block.specs.Texts.{Prints};
 ghost use Rattle.dms_block.specs.View.{written};
@@ -6,8 +6,10 @@ ghost use Rattle.dms_desc.specs.Shape.{described};
 ghost use Rattle.dms_model.specs.Db.{Db};
 ghost use Rattle.dms_model.specs.Points.{Leaves};
 ghost use Rattle.dms_model.specs.Seen.{GoesBack, HasCauses, IfTold, IsMute, IsSilent, Keeps, KeepsPoints, MadeQuiet, MadeSure, SaysPart, Syncs};
-ghost use Rattle.dms_store.specs.Lifted.{IsUsable, Serves, store_seen};
+ghost use Rattle.dms_store.specs.Lifted.{IsUsable, Serves};
+ghost use Rattle.dms_store.specs.Storing.{seen_by};
 
+use crate::note::note;
 use dms_base::Memory;
 use dms_block::{BlockFault, Blocks, Overlay};
 use dms_desc::Description;
@@ -52,17 +54,64 @@ impl<B: Blocks> BlockStore<B> {
     pub fn quiet(&mut self) -> Result<u64, BlockFault>
         requires { IsUsable (described self.old.desc) self.old.over }
         ensures desc { self.new.desc ≡ self.old.desc }
-        ensures number { (B.held self.old.over.below).next + 1 < 2 ^ 64 → IfOk result (λ n. n ≡ (B.held self.old.over.below).next) }
-        ensures made { OnOk result (MadeQuiet (store_seen (described self.old.desc) self.old.found self.old.over) (store_seen (described self.new.desc) self.new.found self.new.over)) }
-        ensures mute { IsMute (store_seen (described self.old.desc) self.old.found self.old.over) (store_seen (described self.new.desc) self.new.found self.new.over) }
-        ensures leaves { let s = store_seen (described self.old.desc) self.old.found self.old.over in
-            IfTold s (Leaves s.whole s.clock (store_seen (described self.new.desc) self.new.found self.new.over).clock s.sure (s.points ++ s.here ∷ []) (s.next + 1) s.said) }
+        ensures number { (seen_by self.old).next + 1 < 2 ^ 64 → IfOk result (λ n. n ≡ (seen_by self.old).next) }
+        ensures made { OnOk result (MadeQuiet (seen_by self.old) (seen_by self.new)) }
+        ensures mute { IsMute (seen_by self.old) (seen_by self.new) }
+        ensures leaves { let s = seen_by self.old in IfTold s (Leaves s.whole s.clock (seen_by self.new).clock s.sure (s.points ++ s.here ∷ []) (s.next + 1) s.said) }
         ensures memory { IsErrOf result BlockFault.Memory → ⊥ }
         ensures same { B.same_blocks self.old.over.below self.new.over.below }
-        ensures effort { (store_seen (described self.new.desc) self.new.found self.new.over).effort ≡ (store_seen (described self.old.desc) self.old.found self.old.over).effort }
+        ensures effort { (seen_by self.new).effort ≡ (seen_by self.old).effort }
+        ensures undamaged { (d : Db) → (seen_by self.old).db ≡ Some d → Undamaged result }
         ensures mute_fault { IsErrOf result BlockFault.Say → ⊥ }
-        ensures causes { HasCauses result (store_seen (described self.old.desc) self.old.found self.old.over) (store_seen (described self.new.desc) self.new.found self.new.over) }
+        ensures causes { HasCauses result (seen_by self.old) (seen_by self.new) }
     {
-        self.over.below.quiet()
+        note(&mut self.found, self.over.below.quiet())
+    }
+
+    /// Makes all quiet points so far sure. Takes no memory.
+    pub fn sync(&mut self) -> Result<(), BlockFault>
+        requires { IsUsable (described self.old.desc) self.old.over }
+        ensures desc { self.new.desc ≡ self.old.desc }
+        ensures made { OnOk result (MadeSure (seen_by self.old) (seen_by self.new)) }
+        ensures memory { IsErrOf result BlockFault.Memory → ⊥ }
+        ensures silent { IsSilent (seen_by self.old) (seen_by self.new) }
+        ensures same { B.same_blocks self.old.over.below self.new.over.below }
+        ensures effort { Syncs result (seen_by self.old).effort (seen_by self.new).effort }
+        ensures undamaged { (d : Db) → (seen_by self.old).db ≡ Some d → Undamaged result }
+        ensures mute_fault { IsErrOf result BlockFault.Say → ⊥ }
+        ensures causes { HasCauses result (seen_by self.old) (seen_by self.new) }
+    {
+        note(&mut self.found, self.over.below.sync())
+    }
+
+    /// Goes back to the last quiet point, or to the database that it began with.
+    pub fn back_out(&mut self, alloc: Global) -> Result<(), BlockFault>
+        requires { IsUsable (described self.old.desc) self.old.over }
+        ensures desc { self.new.desc ≡ self.old.desc }
+        ensures db { OnOk result ((seen_by self.new).db ≡ (seen_by self.old).mark) }
+        ensures keeps { OnOk result (KeepsPoints (seen_by self.old) (seen_by self.new)) }
+        ensures silent { IsSilent (seen_by self.old) (seen_by self.new) }
+        ensures same { B.same_blocks self.old.over.below self.new.over.below }
+        ensures effort { GoesBack result (seen_by self.old).effort (seen_by self.new).effort }
+        ensures undamaged { (d : Db) → (seen_by self.old).db ≡ Some d → Undamaged result }
+        ensures mute_fault { IsErrOf result BlockFault.Say → ⊥ }
+        ensures causes { HasCauses result (seen_by self.old) (seen_by self.new) }
+    {
+        note(&mut self.found, self.over.below.back_out(alloc))
+    }
+
+    /// Prints. Takes no memory of its own. A failed call prints the first bytes or none.
+    pub fn say(&mut self, bytes: &[u8]) -> Result<(), BlockFault>
+        requires { IsUsable (described self.old.desc) self.old.over }
+        ensures desc { self.new.desc ≡ self.old.desc }
+        ensures text { OnOk result (Prints (seen_by self.old).said (seen_by self.new).said bytes.now) }
+        ensures part { SaysPart (seen_by self.old) (seen_by self.new) bytes.now }
+        ensures keeps { OnOk result (Keeps (seen_by self.old) (seen_by self.new)) }
+        ensures fault { IsOkUnless result BlockFault.Say }
+        ensures same { B.same_blocks self.old.over.below self.new.over.below }
+        ensures effort { (seen_by self.new).effort ≡ (seen_by self.old).effort }
+        ensures causes { HasCauses result (seen_by self.old) (seen_by self.new) }
+    {
+        note(&mut self.found, self.over.below.say(bytes))
     }
 }
