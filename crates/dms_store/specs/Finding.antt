@@ -1,21 +1,27 @@
 -- What is read of the blocks of a store.
-use Rattle.std.proofs.Common.{◌≡◌, ◌∙◌, ◌+◌, ◌-◌, ◌<◌, ◌≤◌, ℕ, zero, suc, List, [], ◌∷◌, Bool, true, false, cond, IsTrue, Some, None, refl, sym, ap, subst, slice_get, arith}
+use Rattle.std.proofs.Common.{◌≡◌, ◌∙◌, ◌+◌, ◌-◌, ◌<◌, ◌≤◌, ℕ, zero, suc, List, [], ◌∷◌, Bool, true, false, cond, IsTrue, Some, None, refl, sym, ap, subst, length, slice_get, arith}
 use Rattle.std.specs.Prelude.{◌==◌, ◌&&◌, nat_le}
 use Rattle.std.specs.List.{AllByRecursion}
 use Rattle.std.specs.declared.option.Option.{Option}
 use Rattle.std.specs.FinMap.{get}
 use Rattle.std.proofs.lemmas.Bool.Decides.{nat_tests}
+use Rattle.dms_base.specs.declared.value.Value.{Value}
+use Rattle.dms_base.specs.Fits.{fits}
 use Rattle.dms_block.specs.declared.blocks.Blocks.{Ghosts}
 use Rattle.dms_block.specs.declared.change.Change.{Change}
 use Rattle.dms_block.specs.declared.overlay.Overlay.{Overlay}
 use Rattle.dms_block.specs.Content.{Content, changed}
 use Rattle.dms_block.specs.View.{seen, under, written}
 use Rattle.dms_desc.specs.declared.record.Record.{Record}
-use Rattle.dms_desc.specs.Lookups.{structure_of}
+use Rattle.dms_desc.specs.declared.structure.Item.{Item}
+use Rattle.dms_desc.specs.Lookups.{items_of, structure_of}
 use Rattle.dms_desc.specs.Shape.{Shape, Described}
 use Rattle.dms_layout.specs.declared.slot.Slot.{Slot}
-use Rattle.dms_model.specs.Valid.{is_data_set}
-use Rattle.dms_slots.specs.Seen.{BadIn}
+use Rattle.dms_layout.specs.Slots.{SlotFits, all_fit}
+use Rattle.dms_model.specs.Fitting.{AreFitting, RecordFits}
+use Rattle.dms_model.specs.Valid.{OfItems, is_data_set}
+use Rattle.dms_sets.specs.Tests.{both_of}
+use Rattle.dms_slots.specs.Seen.{BadAt, BadIn}
 use Rattle.dms_slots.specs.SlotBlocks.{file_of, slot_at, slot_opt}
 use Rattle.dms_store.specs.Rows.{AreNumbered, get_in, rec_in, rec_opt}
 use Rattle.dms_store.specs.Scans.{spot}
@@ -26,6 +32,9 @@ module _ {B : Type 0} {g : Ghosts B} where
   -- a block of the data set isn't one of slots
   abbrev pub BadSlot : Described → ℕ → Overlay B g → ℕ → ℕ → Type 0
   BadSlot desc set o f b = (s : Shape) × (structure_of desc set ≡ Some s) × BadIn s o f b
+
+  pub bad_slot : (desc : Described) (set : ℕ) (s : Shape) (at f b : ℕ) (o : Overlay B g) → structure_of desc set ≡ Some s → BadAt s at o f b → BadSlot desc set o f b
+  bad_slot desc set s at f b o is bad = (s, is, bad.0)
 
   -- where nothing is written, what is seen stands below
   pub seen_below : (o : Overlay B g) → written o ≡ [] → seen o ≡ (under o).content
@@ -78,3 +87,27 @@ got desc c set number s o served at set_is low is =
     ∙ ap (λ x. rec_in c x number) at
     ∙ ap (λ b. cond b (rec_opt (slot_at s (file_in c s) number)) None) set_is
     ∙ ap rec_opt is)
+
+-- ---- what is answered fits
+
+fit_in : (items : List Item) (values : List Value) → all_fit items values ≡ true → OfItems items values (λ item v. fits item.kind v ≡ true)
+fit_in [] values h k item at = absurd (cc)
+fit_in (i ∷ is) [] h k item at = absurd (cc)
+fit_in (i ∷ is) (v ∷ vs) h zero item at = subst (λ (x : Item). fits x.kind v ≡ true) (some_one i item at) (both_of (fits i.kind v) (all_fit is vs) h).0
+  where
+    some_one : (x y : Item) → ◌≡◌ {A = Option Item} (Some x) (Some y) → x ≡ y
+    some_one x y h = cc
+fit_in (i ∷ is) (v ∷ vs) h (suc k) item at = fit_in is vs (both_of (fits i.kind v) (all_fit is vs) h).1 k item at
+
+fit_long : (items : List Item) (values : List Value) → all_fit items values ≡ true → length values ≡ length items
+fit_long [] [] h = refl
+fit_long [] (v ∷ vs) h = absurd (cc)
+fit_long (i ∷ is) [] h = absurd (cc)
+fit_long (i ∷ is) (v ∷ vs) h = ap suc (fit_long is vs (both_of (fits i.kind v) (all_fit is vs) h).1)
+
+-- the record of a slot that fits is one that its data set may hold
+pub slot_record : (desc : Described) (set : ℕ) (s : Shape) (slot : Slot) → structure_of desc set ≡ Some s → SlotFits s slot → RecordFits desc set slot.rec
+slot_record desc set s slot at f = record {
+  owner = f.owner;
+  values = subst (λ o. AreFitting (items_of o) slot.rec.values) (sym at) (record { lengths = fit_long s.items slot.rec.values f.values; fit = fit_in s.items slot.rec.values f.values; plain = f.plain });
+}

@@ -10,3 +10,4 @@ pub mod Noted
 pub mod Finding
 pub mod Files
 pub mod Storing
+pub mod Undamaged

@@ -1,12 +1,11 @@
-ghost use Rattle.std.specs.Prelude.{◌≡◌, ◌≤◌, ◌+◌, ◌*◌, IfOk, IsTrue, length, take, drop};
+ghost use Rattle.std.specs.Prelude.{◌≡◌, ◌<◌, ◌≤◌, ◌+◌, ◌*◌, IfOk, IfSome, IsTrue, length, take, drop};
 ghost use Rattle.dms_block.specs.Held.{HasCausesOr};
 ghost use Rattle.dms_block.specs.View.{Reads, under};
 ghost use Rattle.dms_desc.specs.Shape.{shape_of};
 ghost use Rattle.dms_layout.specs.Slots.{slot_width};
 ghost use Rattle.dms_slots.specs.Seen.{BadIn, blocks_of, count_of};
-ghost use Rattle.dms_slots.specs.SlotBlocks.{per_block, slots_of};
+ghost use Rattle.dms_slots.specs.SlotBlocks.{per_block, slot_opt, slots_of};
 ghost use Rattle.dms_store.specs.Scans.{first_used, last_used, owned_spot, start_of, stop_of};
-ghost use Rattle.dms_slots.specs.SlotBlocks.{slot_opt};
 
 use dms_block::{BlockFault, Blocks, Overlay};
 use dms_desc::{Bound, Structure, Values};
