@@ -7,9 +7,9 @@ use Rattle.dms_block.specs.Content.{laid}
 use Rattle.dms_ordlist.specs.declared.place.Look.{Look}
 use Rattle.dms_ordlist.specs.declared.place.Place.{Place}
 use Rattle.dms_ordlist.specs.Leads.{at_is, lead, rises_first, rises_second, rises_with, rising_is}
-use Rattle.dms_ordlist.specs.Linked.{front, numbers, said_by, times}
+use Rattle.dms_ordlist.specs.Linked.{Chain, front, numbers, said_by, times}
 use Rattle.dms_ordlist.specs.LinkedLaws.{numbers_times, times_own}
-use Rattle.dms_ordlist.specs.ListBlocks.{free_in, head_bytes, leaf_bytes}
+use Rattle.dms_ordlist.specs.ListBlocks.{free_in, head_bytes, leaf_bytes, leaf_in}
 use Rattle.dms_ordlist.specs.ListIn.{IsList, Leaf, Spare, entries_of, list_in}
 use Rattle.dms_ordlist.specs.Lists.{Rises, has_entry, with_entry, without}
 use Rattle.dms_ordlist.specs.ListWrites.{Taken, begun_written, here_written, split_written}
@@ -17,7 +17,7 @@ use Rattle.dms_ordlist.specs.Located.{located_has, located_missing, located_stan
 use Rattle.dms_ordlist.specs.Looks.{IsLook, ListOr, located, look_at, look_rises, parts_of}
 use Rattle.dms_ordlist.specs.Places.{IsPlace, PlaceHolds, entries_append, link_of}
 use Rattle.dms_ordlist.specs.Seen.{IsWidth}
-use Rattle.dms_ordlist.specs.SpellLaws.{AllWide, leaf_again}
+use Rattle.dms_ordlist.specs.SpellLaws.{AllWide, leaf_again, leaf_is}
 
 pub wide_append : (w : ℕ) (xs ys : List (List ℕ)) → AllWide w xs → AllWide w ys → AllWide w (xs ++ ys)
 wide_append w [] ys a b = b
@@ -260,3 +260,25 @@ no_spare width bs ls (x ∷ fs) free (inr list) is some said =
     let two : Option Spare = Some (front fs 0, x.1) in
     let same : one ≡ two = sym said ∙ ap (λ n. said_by free_in (slice_get bs n)) is ∙ list.free.1 in
     cc same
+
+-- each block of a list holds an entry
+chain_few : (width : ℕ) (look : ℕ → Option (List ℕ)) (ls : List Leaf) (behind : ℕ) → Chain (leaf_in width) look ls behind → length ls ≤ length (entries_of ls)
+chain_few width look [] behind chain = omega arith
+chain_few width look (l ∷ ls) behind chain =
+    omega (arith, leaf_some width (look l.0) (front ls behind) l.1 chain.1, chain_few width look ls behind chain.2, length-append l.1 (entries_of ls))
+  where
+    leaf_some : (width : ℕ) (o : Option (List ℕ)) (next : ℕ) (es : List (List ℕ)) → said_by (leaf_in width) o ≡ Some (next, es) → 0 < length es
+    leaf_some width None next es said = absurd (cc said)
+    leaf_some width (Some b) next es said = (leaf_is width b next es said).holds.some
+
+-- so a list has no more blocks than entries
+pub leaves_few : (c : List ℕ) (width : ℕ) (bs : List (List ℕ)) (xs : List (List ℕ)) (r : Look) (l : IsLook c width bs xs r) → length l.leaves ≤ length xs
+leaves_few c width bs xs r l = omega (arith, few l.leaves l.spares l.list, ap length l.entries)
+  where
+    few : (ls : List Leaf) (fs : List Spare) → ListOr width bs ls fs → length ls ≤ length (entries_of ls)
+    few ls fs (inl none) = omega (arith, ap length none.1)
+    few ls fs (inr is) = chain_few width (slice_get bs) ls 0 is.chain
+
+-- the blocks of a list that gets one more entry
+pub room_after : (c : List ℕ) (width : ℕ) (bs : List (List ℕ)) (xs : List (List ℕ)) (r : Look) (l : IsLook c width bs xs r) (f free n old : ℕ) → Taken width bs (front l.leaves 0) l.leaves f free → old ≡ length bs → n ≡ max old (f + 1) → n ≤ max old (2 + length xs)
+room_after c width bs xs r l f free n old t size is = omega (arith, t.room, leaves_few c width bs xs r l, size, is)

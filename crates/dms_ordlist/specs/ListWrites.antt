@@ -70,11 +70,13 @@ here_written width bs p s b es more fs bytes is low reads rises =
     list_by_open width (laid b bytes bs) (length bs) (put look b bytes) (front whole 0) (front fs 0) (p ++ (b, more) ∷ s) fs (laid_length b bytes bs (omega (arith, low)) ∙ omega (arith, low)) (laid_look b bytes bs (omega (arith, low))) o rises
     (ap (said_by head_in) (put_off look b bytes 0 (λ e. absurd (some (sym e)))) ∙ is.head)
 
--- a block is taken: the first free one, or a new one at the file's end; a file of no blocks gets its head before it
+-- A block is taken: the first free one, or a new one at the file's end; a file of no blocks gets its head before it. It grows only
+-- where none is free.
 pub record Taken (width : ℕ) (bs : List (List ℕ)) (first : ℕ) (ls : List Leaf) (f free : ℕ) : Type 0 where
   pub spares : List Spare
   pub chains : Opened width (max (length bs) (f + 1)) (slice_get bs) first free ls spares (f ∷ [])
   pub near : f ≤ max (length bs) 1
+  pub room : max (length bs) (f + 1) ≤ max (length bs) (2 + length ls)
 
 pub taken_none : (width : ℕ) (bs : List (List ℕ)) → length bs ≡ 0 → Taken width bs 0 [] 1 0
 taken_none width bs none = record {
@@ -90,6 +92,7 @@ taken_none width bs none = record {
     some = times_other 0 1 (λ e. absurd (omega (arith, e)));
   };
   near = omega arith;
+  room = omega arith;
 }
   where
     one_most : (n : ℕ) → times n (numbers {A = List (List ℕ)} []) + times n (numbers {A = Unit {0}} []) + times n (1 ∷ []) ≤ 1
@@ -112,6 +115,7 @@ taken_end width bs ls [] free f is head none end =
       spares = [];
       chains = subst (λ n. Opened width n (slice_get bs) (front ls 0) 0 ls [] (f ∷ [])) size (subst (λ n. Opened width (length bs + 1) (slice_get bs) (front ls 0) 0 ls [] (n ∷ [])) (sym end) o);
       near = omega (arith, end);
+      room = omega (arith, end, is.count_is);
     }
 taken_end width bs ls (x ∷ fs) free f is head none end = absurd (is.free.0 (sym head ∙ none))
 
@@ -134,6 +138,7 @@ taken_free width bs ls ((n, u) ∷ fs) f next is head some said =
       chains = subst (λ m. Opened width m (slice_get bs) (front ls 0) next ls fs (f ∷ [])) size
           (subst (λ m. Opened width (length bs) (slice_get bs) (front ls 0) next ls fs (m ∷ [])) (sym head) (subst (λ m. Opened width (length bs) (slice_get bs) (front ls 0) m ls fs (n ∷ [])) (sym behind) o));
       near = omega (arith, low, head);
+      room = omega (arith, low, head);
     }
 
 loose_some : (width count : ℕ) (look : ℕ → Option (List ℕ)) (first free : ℕ) (ls : List Leaf) (fs : List Spare) (f : ℕ) → Opened width count look first free ls fs (f ∷ []) → f ≡ 0 → ⊥

@@ -10,7 +10,7 @@ use Rattle.dms_block.specs.declared.blocks.Blocks.{Ghosts}
 use Rattle.dms_block.specs.declared.overlay.Overlay.{Overlay}
 use Rattle.dms_block.specs.Content.{Content, grown}
 use Rattle.dms_block.specs.Held.{HasCausesOr, Held}
-use Rattle.dms_block.specs.HeldLaws.{causes_or_on}
+use Rattle.dms_block.specs.HeldLaws.{causes_or_on, told_after}
 use Rattle.dms_block.specs.View.{Reads, seen, seen_counts, under}
 use Rattle.dms_block.specs.ViewLaws.{seen_still}
 use Rattle.dms_ordlist.specs.Linked.{said_by}
@@ -41,7 +41,7 @@ module _ {B : Type 0} {g : Ghosts B} where
   not_at_since reads_as a b file at reads f k h = (
     h.0,
     subst (λ m. k < m) (ap (λ (c : ℕ → ℕ). c file) (counts_still reads)) h.1,
-    λ told. ap (λ (l : List (List ℕ)). said_by reads_as (slice_get l at)) (sym (file_still file reads told)) ∙ h.2 (reads.looks.passes.lasts.told told),
+    λ told. ap (λ (l : List (List ℕ)). said_by reads_as (slice_get l at)) (sym (file_still file reads told)) ∙ h.2 (told_after reads.looks.passes.lasts told),
   )
 
 -- what stands at a number of a file

@@ -1,6 +1,7 @@
--- The blocks of a file after some of them were written.
-use Rattle.std.proofs.Common.{ℕ, ◌≡◌, ◌≢◌, ◌∙◌, List, ap}
-use Rattle.dms_block.specs.Content.{Content, laid, with_block}
+-- The blocks of a file after some of them were written, and how many there are.
+use Rattle.std.proofs.Common.{ℕ, ◌+◌, ◌≤◌, ◌<◌, ◌≡◌, ◌≢◌, ◌∙◌, max, List, ap, sym, subst, refl, eqb, arith}
+use Rattle.std.proofs.lemmas.Bool.Decides.{nat_tests}
+use Rattle.dms_block.specs.Content.{Content, laid, raised, with_block}
 use Rattle.dms_block.specs.ContentLaws.{in_file, in_others}
 
 module _ (c d : Content) (f : ℕ) where
@@ -23,3 +24,45 @@ module _ (c d : Content) (f : ℕ) where
   pub three_off : (h : List ℕ) (n : ℕ) (x : List ℕ) (m : ℕ) (y : List ℕ) (g : ℕ) → g ≢ f → d ≡ with_block (with_block (with_block c f 0 h) f n x) f m y → d g ≡ c g
   three_off h n x m y g off is =
       ap (λ (k : Content). k g) is ∙ in_others (with_block (with_block c f 0 h) f n x) f m y g off ∙ in_others (with_block c f 0 h) f n x g off ∙ in_others c f 0 h g off
+
+-- of all counts of blocks only that of one file rises, by two at most
+pub record Grown (file : ℕ) (a b : ℕ → ℕ) : Type 0 where
+  pub others : (g : ℕ) → g ≢ file → b g ≡ a g
+  pub kept : a file ≤ b file
+  pub more : b file ≤ a file + 2
+
+raised_at : (c : ℕ → ℕ) (f n : ℕ) → raised c f n f ≡ max (c f) (n + 1)
+raised_at c f n = grind (arith, nat_tests)
+
+raised_off : (c : ℕ → ℕ) (f n g : ℕ) → g ≢ f → raised c f n g ≡ c g
+raised_off c f n g off = grind (arith, nat_tests)
+
+module _ (c d : ℕ → ℕ) (f : ℕ) where
+  pub grown_none : d ≡ c → Grown f c d
+  grown_none is =
+      let here : d f ≡ c f = ap (λ (k : ℕ → ℕ). k f) is in
+      record { others = λ g off. ap (λ (k : ℕ → ℕ). k g) is; kept = omega (arith, here); more = omega (arith, here) }
+
+  pub two_count : (n : ℕ) → d ≡ raised (raised c f 0) f n → d f ≡ max (max (c f) 1) (n + 1)
+  two_count n is = omega (arith, ap (λ (k : ℕ → ℕ). k f) is, raised_at (raised c f 0) f n, raised_at c f 0)
+
+  pub two_grown : (n : ℕ) → n ≤ max (c f) 1 → d ≡ raised (raised c f 0) f n → Grown f c d
+  two_grown n near is = record {
+    others = λ g off. ap (λ (k : ℕ → ℕ). k g) is ∙ raised_off (raised c f 0) f n g off ∙ raised_off c f 0 g off;
+    kept = omega (arith, two_count n is);
+    more = omega (arith, two_count n is, near);
+  }
+
+  pub three_count : (n m : ℕ) → m < c f → d ≡ raised (raised (raised c f 0) f n) f m → d f ≡ max (c f) (n + 1)
+  three_count n m low is = omega (arith, low, ap (λ (k : ℕ → ℕ). k f) is, raised_at (raised (raised c f 0) f n) f m, raised_at (raised c f 0) f n, raised_at c f 0)
+
+  pub three_grown : (n m : ℕ) → n ≤ max (c f) 1 → m < c f → d ≡ raised (raised (raised c f 0) f n) f m → Grown f c d
+  three_grown n m near low is = record {
+    others = λ g off. ap (λ (k : ℕ → ℕ). k g) is ∙ raised_off (raised (raised c f 0) f n) f m g off ∙ raised_off (raised c f 0) f n g off ∙ raised_off c f 0 g off;
+    kept = omega (arith, three_count n m low is);
+    more = omega (arith, three_count n m low is, near, low);
+  }
+
+-- the same after reads, which leave the counts
+pub grown_since : (a b d : ℕ → ℕ) (f : ℕ) → b ≡ a → Grown f b d → Grown f a d
+grown_since a b d f still h = subst (λ (k : ℕ → ℕ). Grown f k d) still h

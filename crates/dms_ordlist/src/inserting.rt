@@ -1,4 +1,4 @@
-ghost use Rattle.std.specs.Prelude.{◌≡◌, ◌≢◌, ◌+◌, ◌*◌, ◌/◌, ◌≤◌, ◌<◌, ℕ, List, [], ◌∷◌, IfOk, IfSome, OnErr, OnOk, IsErrOf, IsTrue, Some, false, length, take, drop, not};
+ghost use Rattle.std.specs.Prelude.{◌≡◌, ◌≢◌, ◌+◌, ◌*◌, ◌/◌, ◌≤◌, ◌<◌, ℕ, List, [], ◌∷◌, IfOk, IfSome, OnErr, OnOk, IsErrOf, IsTrue, Some, false, length, take, drop, not, max};
 ghost use Rattle.dms_block.specs.Content.{laid};
 ghost use Rattle.dms_block.specs.Held.{HasCausesOr};
 ghost use Rattle.dms_block.specs.View.{Reads, Writes, seen, seen_counts, under, written};
@@ -11,6 +11,7 @@ ghost use Rattle.dms_ordlist.specs.Looks.{IfLook, ListOr};
 ghost use Rattle.dms_ordlist.specs.Places.{PlaceHolds};
 ghost use Rattle.dms_ordlist.specs.Seen.{IfList, IsWidth, NoList, NotAt};
 ghost use Rattle.dms_ordlist.specs.SpellLaws.{AllWide};
+ghost use Rattle.dms_ordlist.specs.Written.{Grown};
 
 use crate::looking::look;
 use crate::order::{lead, stands_at};
@@ -45,6 +46,8 @@ fn begin<B: Blocks>(
     requires width { IsWidth (length entry.now) }
     ensures list { OnOk result (IsTrue (under over.old).told → (fs : List Spare) → ListOr (length entry.now) (seen over.old file) [] fs → head.free ≡ front fs 0 → list_in (length entry.now) (seen over.new file) ≡ Some (entry.now ∷ [])) }
     ensures others { OnOk result (IsTrue (under over.old).told → (other : ℕ) → other ≢ file → seen over.new other ≡ seen over.old other) }
+    ensures grows { OnOk result (Grown file (seen_counts over.old) (seen_counts over.new)) }
+    ensures room { OnOk result (IsTrue (under over.old).told → (fs : List Spare) → ListOr (length entry.now) (seen over.old file) [] fs → head.free ≡ front fs 0 → seen_counts over.new file ≤ max (seen_counts over.old file) 2) }
     ensures writes { Writes 1 2 result over.old over.new }
     ensures idle { (f b : ℕ) → IsErrOf result (BlockFault.Damaged f b) → written over.new ≡ written over.old }
     ensures causes { HasCausesOr (λ f b. (head.free ≡ 0 → ⊥) × NotAt free_in over.old file head.free f b) result (under over.old) (under over.new) }
@@ -79,6 +82,8 @@ fn split<B: Blocks>(
     ensures seen { IfOk result (λ t. IsTrue (under over.old).told → seen over.new file ≡ laid number (leaf_bytes t.0 (take (length leaf.entries.items / 2) leaf.entries.items)) (laid t.0 (leaf_bytes leaf.next (drop (length leaf.entries.items / 2) leaf.entries.items)) (laid 0 (head_bytes head.first t.1) (seen over.old file)))) }
     ensures taken { IfOk result (λ t. IsTrue (under over.old).told → (w : ℕ) (ls : List Leaf) (fs : List Spare) → ListOr w (seen over.old file) ls fs → head.free ≡ front fs 0 → Taken w (seen over.old file) (front ls 0) ls t.0 t.1) }
     ensures others { OnOk result (IsTrue (under over.old).told → (other : ℕ) → other ≢ file → seen over.new other ≡ seen over.old other) }
+    ensures grows { OnOk result (Grown file (seen_counts over.old) (seen_counts over.new)) }
+    ensures count { IfOk result (λ t. seen_counts over.new file ≡ max (seen_counts over.old file) (t.0 + 1)) }
     ensures writes { Writes 1 3 result over.old over.new }
     ensures idle { (f b : ℕ) → IsErrOf result (BlockFault.Damaged f b) → written over.new ≡ written over.old }
     ensures causes { HasCausesOr (λ f b. (head.free ≡ 0 → ⊥) × NotAt free_in over.old file head.free f b) result (under over.old) (under over.new) }
@@ -120,6 +125,8 @@ fn insert_in<B: Blocks>(
     ensures answer { IfOk result (λ new. IfLook over.old file entry.now found (λ xs. new ≡ not (has_entry entry.now xs))) }
     ensures still { IfOk result (λ new. new ≡ false → written over.new ≡ written over.old) }
     ensures others { OnOk result (IsTrue (under over.old).told → (other : ℕ) → other ≢ file → seen over.new other ≡ seen over.old other) }
+    ensures grows { OnOk result (Grown file (seen_counts over.old) (seen_counts over.new)) }
+    ensures room { OnOk result (IfLook over.old file entry.now found (λ xs. seen_counts over.new file ≤ max (seen_counts over.old file) (2 + length xs))) }
     ensures writes { Writes 1 3 result over.old over.new }
     ensures idle { (f b : ℕ) → IsErrOf result (BlockFault.Damaged f b) → written over.new ≡ written over.old }
     ensures causes { HasCausesOr (λ f b. (found.head.free ≡ 0 → ⊥) × NotAt free_in over.old file found.head.free f b) result (under over.old) (under over.new) }
@@ -171,6 +178,8 @@ pub fn insert<B: Blocks>(
     ensures answer { IfOk result (λ new. IfList over.old file (length entry.now) (λ xs. new ≡ not (has_entry entry.now xs))) }
     ensures still { IfOk result (λ new. new ≡ false → written over.new ≡ written over.old) }
     ensures others { OnOk result (IsTrue (under over.old).told → (other : ℕ) → other ≢ file → seen over.new other ≡ seen over.old other) }
+    ensures grows { OnOk result (Grown file (seen_counts over.old) (seen_counts over.new)) }
+    ensures room { OnOk result (IfList over.old file (length entry.now) (λ xs. seen_counts over.new file ≤ max (seen_counts over.old file) (2 + length xs))) }
     ensures writes { Writes (2 + seen_counts over.old file) 3 result over.old over.new }
     ensures idle { (f b : ℕ) → IsErrOf result (BlockFault.Damaged f b) → written over.new ≡ written over.old }
     ensures causes { HasCausesOr (NoList over.old file (length entry.now)) result (under over.old) (under over.new) }

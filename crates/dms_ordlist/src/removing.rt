@@ -32,6 +32,7 @@ fn release<B: Blocks>(
     requires fits { IfSome before (SpotFits (seen_counts over.old file)) }
     ensures seen { OnOk result (IsTrue (under over.old).told → seen over.new file ≡ released before head.first head.free number next (seen over.old file)) }
     ensures others { OnOk result (IsTrue (under over.old).told → (other : ℕ) → other ≢ file → seen over.new other ≡ seen over.old other) }
+    ensures counts { OnOk result (seen_counts over.new ≡ seen_counts over.old) }
     ensures writes { Writes 0 3 result over.old over.new }
     ensures idle { (f b : ℕ) → IsErrOf result (BlockFault.Damaged f b) → written over.new ≡ written over.old }
     ensures causes { HasCausesOr (λ f b. ⊥) result (under over.old) (under over.new) }
@@ -75,6 +76,7 @@ fn remove_in<B: Blocks>(
     ensures answer { IfOk result (λ was. IfLook over.old file entry.now found (λ xs. was ≡ has_entry entry.now xs)) }
     ensures still { IfOk result (λ was. was ≡ false → written over.new ≡ written over.old) }
     ensures others { OnOk result (IsTrue (under over.old).told → (other : ℕ) → other ≢ file → seen over.new other ≡ seen over.old other) }
+    ensures counts { OnOk result (seen_counts over.new ≡ seen_counts over.old) }
     ensures writes { Writes 0 3 result over.old over.new }
     ensures idle { (f b : ℕ) → IsErrOf result (BlockFault.Damaged f b) → written over.new ≡ written over.old }
     ensures causes { HasCausesOr (λ f b. ⊥) result (under over.old) (under over.new) }
@@ -118,6 +120,7 @@ pub fn remove<B: Blocks>(
     ensures answer { IfOk result (λ was. IfList over.old file (length entry.now) (λ xs. was ≡ has_entry entry.now xs)) }
     ensures still { IfOk result (λ was. was ≡ false → written over.new ≡ written over.old) }
     ensures others { OnOk result (IsTrue (under over.old).told → (other : ℕ) → other ≢ file → seen over.new other ≡ seen over.old other) }
+    ensures counts { OnOk result (seen_counts over.new ≡ seen_counts over.old) }
     ensures writes { Writes (1 + seen_counts over.old file) 3 result over.old over.new }
     ensures idle { (f b : ℕ) → IsErrOf result (BlockFault.Damaged f b) → written over.new ≡ written over.old }
     ensures causes { HasCausesOr (NoList over.old file (length entry.now)) result (under over.old) (under over.new) }

@@ -9,9 +9,11 @@ use Rattle.std.proofs.lemmas.Nat.{div-add-mod'}
 use Rattle.std.proofs.Math.Nat as nat
 use Rattle.dms_desc.specs.declared.structure.Item.{Item}
 use Rattle.dms_desc.specs.Shape.{Shape}
+use Rattle.dms_layout.specs.declared.slot.Slot.{Slot}
 use Rattle.dms_layout.specs.declared.slot.SlotRead.{SlotRead}
 use Rattle.dms_layout.specs.declared.slot.SlotRead.TheVariants.{Free, Used, Bad}
-use Rattle.dms_layout.specs.Slots.{slot_width, slot_of, is_zero}
+use Rattle.dms_layout.specs.ReadLaws.{used_fits}
+use Rattle.dms_layout.specs.Slots.{SlotFits, slot_width, slot_of, is_zero}
 use Rattle.std.specs.List.{list_all}
 use Rattle.std.proofs.lemmas.Bool.{and_parts}
 use Rattle.dms_slots.specs.SlotBlocks.{per_block, block_of, is_slot, is_free, are_slots, is_block, cut, slots_by, slots_in, slots_of, or_free, slot_at, before_free, block_or_zeros, block_at}
@@ -104,6 +106,25 @@ bad_by false s block p e low h = refl
 pub bad_block : (s : Shape) (block : List ℕ) (p : ℕ) → p < per_block s.items → or_free (slice_get (slots_in s block) p) ≡ Bad → is_block s block ≡ false
 unfolding slots_in
 bad_block s block p low h = bad_by (is_block s block) s block p refl low h
+
+used_cut : (s : Shape) (k p : ℕ) (bytes : List ℕ) (slot : Slot) → or_free (slice_get (cut s k bytes) p) ≡ Used slot → SlotFits s slot
+used_cut s zero p bytes slot h = absurd (cc h)
+used_cut s (suc k) zero bytes slot h = (used_fits s (take (slot_width s.items) bytes) slot h).0
+used_cut s (suc k) (suc p) bytes slot h = used_cut s k p (drop (slot_width s.items) bytes) slot h
+
+used_bad : (s : Shape) (k p : ℕ) (slot : Slot) → or_free (slice_get (replicate k Bad) p) ≡ Used slot → SlotFits s slot
+used_bad s zero p slot h = absurd (cc h)
+used_bad s (suc k) zero slot h = absurd (cc h)
+used_bad s (suc k) (suc p) slot h = used_bad s k p slot h
+
+used_by : (b : Bool) (s : Shape) (block : List ℕ) (p : ℕ) (slot : Slot) → or_free (slice_get (slots_by b s block) p) ≡ Used slot → SlotFits s slot
+used_by true s block p slot h = used_cut s (per_block s.items) p block slot h
+used_by false s block p slot h = used_bad s (per_block s.items) p slot h
+
+-- a record that is read fits its data set
+pub used_there : (s : Shape) (block : List ℕ) (p : ℕ) (slot : Slot) → or_free (slice_get (slots_in s block) p) ≡ Used slot → SlotFits s slot
+unfolding slots_in
+used_there s block p slot h = used_by (is_block s block) s block p slot h
 
 -- ---- a walk through a block
 

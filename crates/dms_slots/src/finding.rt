@@ -1,10 +1,10 @@
 ghost use Rattle.std.specs.Prelude.{◌≡◌, ◌+◌, ◌-◌, ◌<◌, ◌≤◌, IfOk, IfSome, IfNone, IsTrue, length};
 ghost use Rattle.dms_desc.specs.Shape.{shape_of};
-ghost use Rattle.dms_layout.specs.Slots.{slot_width};
+ghost use Rattle.dms_layout.specs.Slots.{slot_width, SlotFits};
 ghost use Rattle.dms_block.specs.Held.{HasCausesOr};
 ghost use Rattle.dms_block.specs.View.{Reads, seen, seen_counts, under};
 ghost use Rattle.std.specs.Prelude.{◌/◌, slice_index_or, []};
-ghost use Rattle.dms_slots.specs.Seen.{blocks_of, count_of, BadIn};
+ghost use Rattle.dms_slots.specs.Seen.{blocks_of, count_of, BadAt, BadIn};
 ghost use Rattle.dms_slots.specs.SlotBlocks.{file_of, per_block, block_of, slot_at, slot_opt, slots_in, before_free, within, least_free, BadBlock};
 
 use crate::cutting::{before_free, file_of, is_block, per_block, slot_in};
@@ -13,8 +13,8 @@ use dms_desc::Structure;
 use dms_layout::{Slot, SlotRead};
 use std::alloc::Global;
 
-/// What stands in the slot of a record; none where it is free or was never needed. `Damaged` where the slot's block
-/// isn't one of a data set.
+/// What stands in the slot of a record; none where it is free or was never needed. The record fits its data set.
+/// `Damaged` where the slot's block isn't one of a data set, and names that block.
 pub fn read_slot<B: Blocks>(
     b: &mut Overlay<B>,
     alloc: Global,
@@ -27,7 +27,8 @@ pub fn read_slot<B: Blocks>(
     requires number { 1 ≤ number }
     ensures slot { IfOk result (λ o. IsTrue (under b.old).told → slot_at (shape_of s.now) (blocks_of (shape_of s.now) b.old) number ≡ slot_opt o) }
     ensures reads { Reads 1 result b.old b.new }
-    ensures causes { HasCausesOr (BadIn (shape_of s.now) b.old) result (under b.old) (under b.new) }
+    ensures fits { IfOk result (λ o. IfSome o (SlotFits (shape_of s.now))) }
+    ensures causes { HasCausesOr (BadAt (shape_of s.now) (block_of s.now.items number) b.old) result (under b.old) (under b.new) }
 {
     let file = file_of(s);
     let per = per_block(s) as u64;
@@ -57,7 +58,7 @@ fn taken_in<B: Blocks>(
     ensures taken { IfOk result (λ n. IsTrue (under b.old).told → n ≡ before_free (slots_in (shape_of s.now) (slice_index_or (blocks_of (shape_of s.now) b.old) block []))) }
     ensures most { IfOk result (λ n. n ≤ per_block s.now.items) }
     ensures reads { Reads 1 result b.old b.new }
-    ensures causes { HasCausesOr (BadIn (shape_of s.now) b.old) result (under b.old) (under b.new) }
+    ensures causes { HasCausesOr (BadAt (shape_of s.now) block b.old) result (under b.old) (under b.new) }
 {
     let file = file_of(s);
     let bytes = b.read(alloc, BlockId { file, block })?;

@@ -5,7 +5,7 @@ ghost use Rattle.dms_layout.specs.Slots.{all_fit, slot_bytes, slot_width};
 ghost use Rattle.dms_block.specs.Content.{raised, with_block};
 ghost use Rattle.dms_block.specs.Held.{HasCausesOr};
 ghost use Rattle.dms_block.specs.View.{Reads, Writes, seen, seen_counts, under, written};
-ghost use Rattle.dms_slots.specs.Seen.{blocks_of, count_of, BadIn, with_slot};
+ghost use Rattle.dms_slots.specs.Seen.{blocks_of, count_of, BadAt, with_slot};
 ghost use Rattle.dms_slots.specs.SlotBlocks.{file_of, block_of, place_of, is_block, block_at, BadBlock};
 
 use crate::cutting::{ahead, file_of, is_block, per_block, width_of};
@@ -42,7 +42,7 @@ fn block_at<B: Blocks>(
     ensures block { IfOk result (λ x. IsTrue (under b.old).told → x.0 ≡ block_at (blocks_of (shape_of s.now) b.old) block) }
     ensures good { IfOk result (λ x. block < count_of (shape_of s.now) b.old → is_block (shape_of s.now) x.0 ≡ true) }
     ensures reads { Reads 1 result b.old b.new }
-    ensures causes { HasCausesOr (BadIn (shape_of s.now) b.old) result (under b.old) (under b.new) }
+    ensures causes { HasCausesOr (BadAt (shape_of s.now) block b.old) result (under b.old) (under b.new) }
 {
     let file = file_of(s);
     if b.count(file) <= block {
@@ -75,7 +75,7 @@ fn write_bytes<B: Blocks>(
     ensures counts { OnOk result (seen_counts b.new ≡ raised (seen_counts b.old) (file_of s.now.number) (block_of s.now.items number)) }
     ensures writes { Writes 1 1 result b.old b.new }
     ensures err { OnErr result (written b.new ≡ written b.old) }
-    ensures causes { HasCausesOr (BadIn (shape_of s.now) b.old) result (under b.old) (under b.new) }
+    ensures causes { HasCausesOr (BadAt (shape_of s.now) (block_of s.now.items number) b.old) result (under b.old) (under b.new) }
 {
     let per = per_block(s) as u64;
     let block = ((number - 1) / per) as u32;
@@ -112,7 +112,7 @@ pub fn write_slot<B: Blocks>(
     ensures counts { OnOk result (seen_counts b.new ≡ raised (seen_counts b.old) (file_of s.now.number) (block_of s.now.items number)) }
     ensures writes { Writes 1 1 result b.old b.new }
     ensures err { OnErr result (written b.new ≡ written b.old) }
-    ensures causes { HasCausesOr (BadIn (shape_of s.now) b.old) result (under b.old) (under b.new) }
+    ensures causes { HasCausesOr (BadAt (shape_of s.now) (block_of s.now.items number) b.old) result (under b.old) (under b.new) }
 {
     let bytes = to_slot(alloc, s, slot)?;
     write_bytes(b, alloc, s, number, bytes.as_slice())
@@ -137,7 +137,7 @@ pub fn free_slot<B: Blocks>(
     ensures counts { OnOk result (seen_counts b.new ≡ raised (seen_counts b.old) (file_of s.now.number) (block_of s.now.items number)) }
     ensures writes { Writes 1 1 result b.old b.new }
     ensures err { OnErr result (written b.new ≡ written b.old) }
-    ensures causes { HasCausesOr (BadIn (shape_of s.now) b.old) result (under b.old) (under b.new) }
+    ensures causes { HasCausesOr (BadAt (shape_of s.now) (block_of s.now.items number) b.old) result (under b.old) (under b.new) }
 {
     let zeros = blank();
     write_bytes(b, alloc, s, number, ahead(&zeros.0, width_of(s)))

@@ -4,7 +4,7 @@ use Rattle.dms_block.specs.View.{seen, seen_counts}
 use Rattle.dms_block.specs.ViewLaws.{counts_seen}
 use Rattle.dms_ordlist.specs.Leads.{lead}
 use Rattle.dms_ordlist.specs.ListBlocks.{flat, head_bytes, leaf_bytes}
-use Rattle.dms_ordlist.specs.ListChanges.{at_same, here_list, holds_at, lower_fits, many_some, missing_has, one_over, split_list, stands_has, stands_with, upper_fits, wide_append, wide_drop, wide_take, with_at_place}
+use Rattle.dms_ordlist.specs.ListChanges.{at_same, here_list, holds_at, lower_fits, many_some, missing_has, one_over, room_after, split_list, stands_has, stands_with, upper_fits, wide_append, wide_drop, wide_take, with_at_place}
 use Rattle.dms_ordlist.specs.ListIn.{list_in}
 use Rattle.dms_ordlist.specs.Located.{lead_le}
 use Rattle.dms_ordlist.specs.SpellLaws.{AllWide, wide_room}
@@ -128,3 +128,12 @@ returns-clause-answer g c told xs l =
     let place : c.lead-i.result ≡ lead e es = c.lead-i.ensures.lead ∙ ap (lead e) c.deref.ensures.value in
     let off = at_same e es c.deref-2.result.now c.lead-i.result c.stands_at.result c.deref-2.ensures.value place c.stands_at.ensures ∙ c.if-stands_at.false in
     sym (ap not (missing_has e (length e) (seen_counts c.args.over.now c.args.file) (seen c.args.over.now c.args.file) xs c.args.found p c.requires.width l at c.requires.holds off))
+
+pub returns-clause-room : goal.returns-clause-room
+returns-clause-room g c told xs l =
+    let o = c.args.over.now in
+    let file = c.args.file in
+    let w = length c.args.entry.now in
+    let n = counts_seen o (g.met.B.Blocks.agrees o.below c.requires.sound) told file in
+    let t = c.in_ok-split.field-0 in
+    room_after c.args.entry.now w (seen o file) xs c.args.found l t.0 t.1 (seen_counts c.split.new.over file) (seen_counts o file) (c.in_ok-split.ensures.taken told w l.leaves l.spares l.list l.free) n c.in_ok-split.ensures.count

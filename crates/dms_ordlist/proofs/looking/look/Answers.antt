@@ -1,5 +1,6 @@
 use Rattle.std.proofs.Common.{◌<◌, ℕ, List, Some, None, refl, sym, ap, subst, length, slice_get, arith}
 use Rattle.std.specs.declared.result.Result.TheVariants.{Err}
+use Rattle.dms_block.specs.HeldLaws.{told_after}
 use Rattle.dms_block.specs.View.{seen, under}
 use Rattle.dms_block.specs.ViewLaws.{counts_seen}
 use Rattle.dms_ordlist.specs.declared.place.Look.{Look}
@@ -48,7 +49,7 @@ returns-in-Ok-reach-clause-look g c told xs is =
     let still = file_still c.args.file c.in-Ok.ensures.reads told in
     let r : Look = record { head = c.in-Ok.head; place = Some c.in-Ok-reach.place } in
     look_place c.args.bytes.now w (seen o c.args.file) xs r c.in-Ok-reach.place (λ e. absurd (omega (arith, e, n, c.count.ensures, c.if-count-eq0.false))) is (c.in-Ok.ensures.head told) refl
-    (λ ls chain head. c.in-Ok-reach.ensures.place (c.in-Ok.ensures.reads.looks.passes.lasts.told told) ls (subst (λ (l : List (List ℕ)). Chain (leaf_in w) (slice_get l) ls 0) (sym still) chain) head)
+    (λ ls chain head. c.in-Ok-reach.ensures.place (told_after c.in-Ok.ensures.reads.looks.passes.lasts told) ls (subst (λ (l : List (List ℕ)). Chain (leaf_in w) (slice_get l) ls 0) (sym still) chain) head)
 
 pub returns-in-Err-reach-clause-causes : goal.returns-in-Err-reach-clause-causes
 returns-in-Err-reach-clause-causes g c =
@@ -66,7 +67,7 @@ returns-in-Err-reach-clause-causes g c =
           let n = counts_seen o (g.met.B.Blocks.agrees o.below c.requires.sound) told file in
           let still = file_still file reads told in
           no_chain w (seen o file) c.in-Ok.head.first c.in-Ok.head.free (λ e. absurd (omega (arith, e, n, c.count.ensures, c.if-count-eq0.false))) (c.in-Ok.ensures.head told)
-          (λ ls chain head le. h.2 (reads.looks.passes.lasts.told told) ls (subst (λ (l : List (List ℕ)). Chain (leaf_in w) (slice_get l) ls 0) (sym still) chain) head (omega (arith, le, n, counts))),
+          (λ ls chain head le. h.2 (told_after reads.looks.passes.lasts told) ls (subst (λ (l : List (List ℕ)). Chain (leaf_in w) (slice_get l) ls 0) (sym still) chain) head (omega (arith, le, n, counts))),
     ))
     c.in-Ok.ensures.causes reads
     (causes_err Place Look (NoChain w b file c.in-Ok.head.first) (NoChain w b file c.in-Ok.head.first) c.in-Err-reach.fault (under b) (under c.reach.new.over) (λ f k h. h) c.in-Err-reach.ensures.causes)

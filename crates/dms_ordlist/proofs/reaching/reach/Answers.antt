@@ -1,5 +1,6 @@
 use Rattle.std.proofs.Common.{◌≡◌, ◌<◌, ◌∙◌, ℕ, List, inl, inr, sym, ap, subst, length, slice_get, arith}
 use Rattle.std.specs.declared.result.Result.TheVariants.{Ok, Err}
+use Rattle.dms_block.specs.HeldLaws.{told_after}
 use Rattle.dms_block.specs.View.{under}
 use Rattle.dms_block.specs.ViewLaws.{reads_as, reads_on}
 use Rattle.dms_ordlist.specs.declared.place.Place.{Place}
@@ -39,7 +40,7 @@ returns-then-leaf-eq0-clause-place g c told ls chain head =
     let w = c.args.width in
     let leaf = c.in-Ok.leaf in
     let still = file_still c.args.file before.reads told in
-    let said = ap (λ (l : List (List ℕ)). said_by (leaf_in w) (slice_get l c.loop-turn.at)) (sym still) ∙ c.in-Ok.ensures.leaf (before.reads.looks.passes.lasts.told told) in
+    let said = ap (λ (l : List (List ℕ)). said_by (leaf_in w) (slice_get l c.loop-turn.at)) (sym still) ∙ c.in-Ok.ensures.leaf (told_after before.reads.looks.passes.lasts told) in
     walked_place c.args.bytes.now ls w (look a c.args.file) chain c.loop-turn.before c.loop-turn._turn c.loop-turn.at leaf (before.walked told ls chain head) (λ e. absurd (omega (arith, e, before.some))) said (inl c.if-leaf-eq0.true)
 
 pub returns-then-lead-len-clause-place : goal.returns-then-lead-len-clause-place
@@ -49,7 +50,7 @@ returns-then-lead-len-clause-place g c told ls chain head =
     let w = c.args.width in
     let leaf = c.in-Ok.leaf in
     let still = file_still c.args.file before.reads told in
-    let said = ap (λ (l : List (List ℕ)). said_by (leaf_in w) (slice_get l c.loop-turn.at)) (sym still) ∙ c.in-Ok.ensures.leaf (before.reads.looks.passes.lasts.told told) in
+    let said = ap (λ (l : List (List ℕ)). said_by (leaf_in w) (slice_get l c.loop-turn.at)) (sym still) ∙ c.in-Ok.ensures.leaf (told_after before.reads.looks.passes.lasts told) in
     let low : lead c.args.bytes.now leaf.entries.items < length leaf.entries.items =
     omega (arith, c.if-lead-len.true, c.lead.ensures.lead, c.len.ensures, ap (lead c.args.bytes.now) c.deref.ensures.value) in
     walked_place c.args.bytes.now ls w (look a c.args.file) chain c.loop-turn.before c.loop-turn._turn c.loop-turn.at leaf (before.walked told ls chain head) (λ e. absurd (omega (arith, e, before.some))) said (inr low)
@@ -63,12 +64,12 @@ loop-turn-preserved g c =
     let all : lead c.args.bytes.now leaf.entries.items ≡ length leaf.entries.items =
     omega (arith, c.if-lead-len.false, c.lead.ensures.lead, c.lead.ensures.most, c.len.ensures, ap (lead c.args.bytes.now) c.deref.ensures.value, ap (λ (l : List (List ℕ)). length l) c.deref.ensures.value) in
     record {
-      reads = reads_as (Ok tt) (reads_on (Ok leaf) g.met.B.Blocks.same_then before.reads c.in-Ok.ensures.reads);
+      reads = reads_as (Ok tt) tt (reads_on (Ok leaf) g.met.B.Blocks.same_then before.reads c.in-Ok.ensures.reads);
       faults = c.in-Ok.ensures.causes ∙ before.faults;
       some = omega (arith, c.if-leaf-eq0.false);
       before = record { leaf = c.in-Ok.ensures.holds; there = subst (λ m. c.loop-turn.at < m) (ap (λ (k : ℕ → ℕ). k c.args.file) (counts_still before.reads)) c.in-Ok.ensures.there };
       walked = λ told ls chain head.
           let still = file_still c.args.file before.reads told in
-          let said = ap (λ (l : List (List ℕ)). said_by (leaf_in w) (slice_get l c.loop-turn.at)) (sym still) ∙ c.in-Ok.ensures.leaf (before.reads.looks.passes.lasts.told told) in
+          let said = ap (λ (l : List (List ℕ)). said_by (leaf_in w) (slice_get l c.loop-turn.at)) (sym still) ∙ c.in-Ok.ensures.leaf (told_after before.reads.looks.passes.lasts told) in
           walked_next c.args.bytes.now ls w (look a c.args.file) chain c.loop-turn.before c.loop-turn._turn c.loop-turn.at leaf (before.walked told ls chain head) (λ e. absurd (omega (arith, e, before.some))) said all;
     }

@@ -1,4 +1,11 @@
 use Rattle.std.proofs.Common.{◌≡◌, ◌≤◌, ◌<◌, ◌∙◌, [], List, ℕ, Some, sym, ap, subst, length, arith}
+use Rattle.std.specs.Prelude.{IsErrAnd, IsErrOf}
+use Rattle.std.specs.declared.result.Result.{Result}
+use Rattle.std.specs.declared.result.Result.TheVariants.{Ok, Err}
+use Rattle.dms_block.specs.declared.block_fault.BlockFault.{BlockFault}
+use Rattle.dms_block.specs.declared.block_fault.BlockFault.TheVariants.{Memory}
+use Rattle.dms_block.specs.Faults.{NotFull}
+use Rattle.dms_block.specs.Changing.{raised_old}
 use Rattle.dms_block.specs.Content.{laid}
 use Rattle.dms_block.specs.Held.{Looks}
 use Rattle.dms_block.specs.HeldLaws.{looks_none}
@@ -13,6 +20,12 @@ use Rattle.dms_ordlist.specs.Located.{at_low}
 use Rattle.dms_ordlist.specs.SpellLaws.{wide_room}
 use Rattle.dms_ordlist.specs.Written.{one_in, one_off}
 use Rattle.dms_ordlist.proofs.removing.remove_in.Goals as goal
+
+not_full_that : {T U : Type 0} (r : Result T BlockFault) (x : BlockFault) → IsErrAnd r (λ y. y ≡ x) → IsErrOf {T = U} (Err x) Memory → NotFull r
+not_full_that (Ok v) x h is = tt
+not_full_that {T = T} (Err e) x h is =
+    let memory : x ≡ Memory = cc is in
+    subst (λ f. NotFull {T = T} (Err f)) (sym (h ∙ memory)) tt
 
 pub returns-then-not-stands_at-clause-list : goal.returns-then-not-stands_at-clause-list
 returns-then-not-stands_at-clause-list g c told xs l is =
@@ -89,7 +102,7 @@ returns-in_err-write-clause-writes g c =
     let r = c.from_residual-in_err-write.result in
     let below = sym c.write.ensures.below in
     record {
-      looks = subst (λ b. Looks 0 r (g.B.Blocks.held o.below) (g.B.Blocks.held b)) below (looks_none 0 r (g.B.Blocks.held o.below) c.requires.sound);
+      looks = subst (λ b. Looks 0 r (g.B.Blocks.held o.below) (g.B.Blocks.held b)) below (looks_none 0 r (g.B.Blocks.held o.below) (not_full_that r _ c.from_residual-in_err-write.ensures.1 c.in_err-write.ensures.memory) c.requires.sound);
       more = omega (arith, c.write.ensures.more);
       same = subst (λ b. g.B.Blocks.same_blocks o.below b) below (g.met.B.Blocks.same_again o.below);
     }
@@ -124,3 +137,10 @@ returns-clause-answer g c told xs l =
 pub returns-clause-others : goal.returns-clause-others
 returns-clause-others g c told other off =
     one_off (seen c.args.over.now) (seen c.write.new.self) c.args.file c.in-Some.field-0.here.number c.leaf_block.result.0 other off (c.in_ok-write.ensures.seen told c.requires.sound)
+
+pub returns-clause-counts : goal.returns-clause-counts
+returns-clause-counts g c =
+    let o = c.args.over.now in
+    let p = c.in-Some.field-0 in
+    let held = holds_at (length c.args.entry.now) (seen_counts o c.args.file) c.args.found.place p c.in-Some.is c.requires.holds in
+    c.in_ok-write.ensures.counts ∙ raised_old (seen_counts o) c.args.file p.here.number held.here.there

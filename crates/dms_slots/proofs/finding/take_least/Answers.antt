@@ -2,7 +2,7 @@ use Rattle.std.proofs.Common.{◌≡◌, ◌<◌, ◌≤◌, ◌+◌, ◌*◌, �
 use Rattle.dms_desc.specs.Shape.{shape_of}
 use Rattle.dms_block.specs.Changing.{grown_is}
 use Rattle.dms_block.specs.Content.{Content, changed}
-use Rattle.dms_block.specs.HeldLaws.{looks_as, looks_on}
+use Rattle.dms_block.specs.HeldLaws.{looks_as, looks_on, told_after}
 use Rattle.dms_block.specs.View.{seen, seen_counts, under, written}
 use Rattle.dms_slots.specs.SlotBlocks.{file_of, slots_in, before_free, within}
 use Rattle.dms_slots.specs.SlotBlockLaws.{least_on, least_here, least_behind, place_low, some_weaker}
@@ -17,7 +17,7 @@ returns-then-taken-per-clause-least g c tells =
     let here = ap (seen_counts b) c.file_of.ensures in
     let low : c.loop-i.i < length (seen b f) = omega (arith, counted, here, c.count-count.ensures, c.loop-i-test.true) in
     let still : seen c.loop-i.b ≡ seen b = λ i. changed (r.written_still i) (r.looks.same.content tells i) in
-    let taken = c.in_ok-taken.ensures.taken (r.looks.passes.lasts.told tells) ∙ ap (λ (x : Content). before_free (slots_in (shape_of c.args.s.now) (get_or (x f) c.loop-i.i []))) still in
+    let taken = c.in_ok-taken.ensures.taken (told_after r.looks.passes.lasts tells) ∙ ap (λ (x : Content). before_free (slots_in (shape_of c.args.s.now) (get_or (x f) c.loop-i.i []))) still in
     let all = least_here (shape_of c.args.s.now) (seen b f) c.loop-i.i c.per_block-per.result c.in_ok-taken.taken _ low c.per_block-per.ensures.count taken c.if-taken-per.true (c.loop-i.invariant.used tells) in
     c.within.ensures.is ∙ ap (within c.args.s.now.population) (omega (arith, all, ap (λ k. k * c.per_block-per.result) c.from.ensures))
 
@@ -29,7 +29,7 @@ loop-i-preserved g c =
     record {
       reads = record {
         written_still = c.in_ok-taken.ensures.reads.written_still ∙ r.written_still;
-        looks = looks_as (Ok 0) (looks_on (Ok c.in_ok-taken.taken) r.looks c.in_ok-taken.ensures.reads.looks);
+        looks = looks_as (Ok 0) tt (looks_on (Ok c.in_ok-taken.taken) r.looks c.in_ok-taken.ensures.reads.looks);
         same = g.met.B.Blocks.same_then _ _ _ r.same c.in_ok-taken.ensures.reads.same;
       };
       faults = c.in_ok-taken.ensures.causes ∙ c.loop-i.invariant.faults;
@@ -38,7 +38,7 @@ loop-i-preserved g c =
           let here = ap (seen_counts b) c.file_of.ensures in
           let low : c.loop-i.i < length (seen b f) = omega (arith, counted, here, c.count-count.ensures, c.loop-i-test.true) in
           let still : seen c.loop-i.b ≡ seen b = λ i. changed (r.written_still i) (r.looks.same.content tells i) in
-          let taken = c.in_ok-taken.ensures.taken (r.looks.passes.lasts.told tells) ∙ ap (λ (x : Content). before_free (slots_in (shape_of c.args.s.now) (get_or (x f) c.loop-i.i []))) still in
+          let taken = c.in_ok-taken.ensures.taken (told_after r.looks.passes.lasts tells) ∙ ap (λ (x : Content). before_free (slots_in (shape_of c.args.s.now) (get_or (x f) c.loop-i.i []))) still in
           least_on (shape_of c.args.s.now) (seen b f) c.loop-i.i c.per_block-per.result c.in_ok-taken.taken _ low c.per_block-per.ensures.count taken c.if-taken-per.false (omega (arith, c.in_ok-taken.ensures.most, c.per_block-per.ensures.count)) (c.loop-i.invariant.used tells);
     }
 
