@@ -11,3 +11,7 @@ pub mod Finding
 pub mod Files
 pub mod Storing
 pub mod Undamaged
+pub mod WithinLaws
+pub mod ScanSteps
+pub mod Looked
+pub mod SetPaths

@@ -9,7 +9,7 @@ use Rattle.std.specs.declared.result.Result.TheVariants.{Ok, Err}
 use Rattle.dms_moments.specs.Moments.{Now, Runs}
 use Rattle.std.proofs.lemmas.Slice.Eq.{bytes_eq-Decides}
 use Rattle.dms_moments.specs.MomentLaws.{runs_weaken}
-use Rattle.dms_moments.specs.SeenLaws.{runs_seen_as, now_seen_as}
+use Rattle.dms_moments.specs.SeenLaws.{now_seen_as, runs_below_as, runs_seen_as}
 use Rattle.dms_block.specs.declared.block_fault.BlockFault.{BlockFault}
 use Rattle.dms_block.specs.declared.block_fault.BlockFault.TheVariants.{Disk, Memory, Full, Damaged, Say}
 use Rattle.dms_block.specs.declared.blocks.Blocks.{Ghosts}
@@ -189,3 +189,28 @@ module _ {B : Type 0} {g : Ghosts B} (desc : Described) (o o' : Overlay B g) whe
       let u = reads.looks.uses in
       let spent : (under o').uses.spent ≡ (under o).uses.spent = omega (arith, u.spent, u.not_less) in
       λ i. record { spent = spent i; syncs = u.syncs i; outs = u.outs i }
+
+-- ---- and down again
+
+module _ (desc : Described) where
+  point_one : (p q : BlockPoint) → point_of desc q ≡ point_of desc p → q ≡ p
+  point_one p q e = λ i. record { number = (e i).number; blocks = (e i).blocks; schema = (e i).schema }
+
+  head_one : (x y : Point) (xs ys : List Point) → ◌≡◌ {A = List Point} (x ∷ xs) (y ∷ ys) → x ≡ y
+  head_one x y xs ys h = cc
+
+  tail_one : (x y : Point) (xs ys : List Point) → ◌≡◌ {A = List Point} (x ∷ xs) (y ∷ ys) → xs ≡ ys
+  tail_one x y xs ys h = cc
+
+  points_one : (ps qs : List BlockPoint) → map (point_of desc) qs ≡ map (point_of desc) ps → qs ≡ ps
+  points_one [] [] e = refl
+  points_one [] (q ∷ qs) e = absurd (cc)
+  points_one (p ∷ ps) [] e = absurd (cc)
+  points_one (p ∷ ps) (q ∷ qs) e = λ i. point_one p q (head_one _ _ _ _ e) i ∷ points_one ps qs (tail_one _ _ _ _ e) i
+
+  stop_one : (x other : BlockStop) → stop_of desc other ≡ stop_of desc x → other ≡ x
+  stop_one x other e = λ i. record { files = (e i).files; points = points_one x.points other.points (ap (λ (y : Stop). y.points) e) i; next = (e i).next; said = (e i).said }
+
+  -- What stops leave of a store is what they leave of its blocks: no two outcomes below are seen as one.
+  pub lowered : {a b : Held} {Q : Stop → Type 0} → Runs (lifted desc a.clock) (lifted desc b.clock) Q → Runs a.clock b.clock (λ x. Q (stop_of desc x))
+  lowered run = runs_below_as (stop_of desc) stop_one run

@@ -1,12 +1,15 @@
 -- The members of a data set, slot by slot.
-use Rattle.std.specs.Prelude.{ℕ, ◌+◌, ◌-◌, List, [], ◌∷◌, Some, None, if◌then◌else◌, ◌==◌}
+use Rattle.std.specs.Prelude.{ℕ, ◌≡◌, ◌≤◌, ◌+◌, ◌-◌, List, [], ◌∷◌, Some, None, if◌then◌else◌, ◌==◌}
 use Rattle.std.specs.declared.option.Option.{Option}
 use Rattle.dms_desc.specs.declared.bound.Bound.{Bound}
 use Rattle.dms_desc.specs.declared.bound.Bound.TheVariants.{Start, End, At, From}
 use Rattle.dms_desc.specs.declared.record.Record.{Record}
 use Rattle.dms_desc.specs.Sorted.{or_else}
+use Rattle.dms_desc.specs.Shape.{Shape}
+use Rattle.dms_layout.specs.declared.slot.Slot.{Slot}
 use Rattle.dms_layout.specs.declared.slot.SlotRead.{SlotRead}
 use Rattle.dms_layout.specs.declared.slot.SlotRead.TheVariants.{Free, Used, Bad}
+use Rattle.dms_layout.specs.Slots.{SlotFits}
 use Rattle.dms_model.specs.declared.spot.Spot.{Spot}
 
 -- a record of a data set as a member: it has no key
@@ -42,3 +45,12 @@ stop_of Start count = 0
 stop_of End count = count
 stop_of (At key n) count = n - 1
 stop_of (From key) count = 0
+
+-- A member of a data set: its number is at most POPULATION, it has no key, and its record is that of a slot that fits.
+pub record IsRecordSpot (s : Shape) (x : Spot) : Type 0 where
+  pub low : 1 ≤ x.number
+  pub most : x.number ≤ s.population
+  pub keyless : x.key ≡ []
+  pub slot : Slot
+  pub fits : SlotFits s slot
+  pub same : slot.rec ≡ x.rec

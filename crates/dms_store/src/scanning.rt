@@ -1,25 +1,26 @@
-ghost use Rattle.std.specs.Prelude.{◌≡◌, ◌<◌, ◌≤◌, ◌+◌, ◌*◌, IfOk, IfSome, IsTrue, length, take, drop};
+ghost use Rattle.std.specs.Prelude.{◌≡◌, ◌≤◌, ◌+◌, ◌*◌, IfOk, IfSome, IsTrue, drop, length, min, take};
 ghost use Rattle.dms_block.specs.Held.{HasCausesOr};
 ghost use Rattle.dms_block.specs.View.{Reads, under};
 ghost use Rattle.dms_desc.specs.Shape.{shape_of};
 ghost use Rattle.dms_layout.specs.Slots.{slot_width};
 ghost use Rattle.dms_slots.specs.Seen.{BadIn, blocks_of, count_of};
-ghost use Rattle.dms_slots.specs.SlotBlocks.{per_block, slot_opt, slots_of};
-ghost use Rattle.dms_store.specs.Scans.{first_used, last_used, owned_spot, start_of, stop_of};
+ghost use Rattle.dms_slots.specs.SlotBlocks.{per_block, slot_at, slot_opt, slots_of};
+ghost use Rattle.dms_store.specs.Scans.{IsRecordSpot, first_used, last_used, owned_spot};
 
 use dms_block::{BlockFault, Blocks, Overlay};
-use dms_desc::{Bound, Structure, Values};
+use dms_desc::{Structure, Values};
 use dms_layout::Slot;
 use dms_model::Spot;
 use dms_slots::{file_of, per_block, read_slot};
 use std::alloc::Global;
 
-// How many slots the file of a data set has.
-fn slot_count<B: Blocks>(over: &Overlay<B>, s: &Structure) -> u64
+/// How many slots of a data set's file may have a record: those that there are, up to POPULATION.
+pub fn slot_count<B: Blocks>(over: &Overlay<B>, s: &Structure) -> u64
     requires few { length s.now.items ≤ 60 }
-    ensures { result ≡ count_of (shape_of s.now) over.now * per_block s.now.items }
+    ensures { result ≡ min (count_of (shape_of s.now) over.now * per_block s.now.items) s.now.population }
 {
-    u64::from(over.count(file_of(s))) * per_block(s) as u64
+    let slots = u64::from(over.count(file_of(s))) * per_block(s) as u64;
+    slots.min(u64::from(s.population))
 }
 
 // The record of a slot as a member, where it is this owner's.
@@ -41,8 +42,30 @@ fn owned(alloc: Global, owner: u64, number: u64, slot: Option<Slot>) -> Option<S
     }
 }
 
-// The first record of an owner behind so many slots.
-fn next_used<B: Blocks>(
+// The record with a number as a member, where it is this owner's.
+fn owned_at<B: Blocks>(
+    over: &mut Overlay<B>,
+    alloc: Global,
+    s: &Structure,
+    owner: u64,
+    number: u64,
+) -> Result<Option<Spot>, BlockFault>
+    requires sound { (under over.old).sound }
+    requires few { length s.now.items ≤ 60 }
+    requires fits { slot_width s.now.items ≤ 1024 }
+    requires low { 1 ≤ number }
+    requires most { number ≤ s.now.population }
+    ensures found { IfOk result (λ o. IsTrue (under over.old).told → o ≡ owned_spot owner number (slot_at (shape_of s.now) (blocks_of (shape_of s.now) over.old) number)) }
+    ensures fits { IfOk result (λ o. IfSome o (IsRecordSpot (shape_of s.now))) }
+    ensures reads { Reads 1 result over.old over.new }
+    ensures causes { HasCausesOr (BadIn (shape_of s.now) over.old) result (under over.old) (under over.new) }
+{
+    let slot = read_slot(over, alloc, s, number)?;
+    Ok(owned(alloc, owner, number, slot))
+}
+
+/// The first record of an owner behind so many slots, of those that may have one.
+pub fn next_used<B: Blocks>(
     over: &mut Overlay<B>,
     alloc: Global,
     s: &Structure,
@@ -52,22 +75,22 @@ fn next_used<B: Blocks>(
     requires sound { (under over.old).sound }
     requires few { length s.now.items ≤ 60 }
     requires fits { slot_width s.now.items ≤ 1024 }
-    ensures found { IfOk result (λ o. IsTrue (under over.old).told → o ≡ first_used owner (1 + from) (drop from (slots_of (shape_of s.now) (blocks_of (shape_of s.now) over.old)))) }
-    ensures reads { Reads (count_of (shape_of s.now) over.old * per_block s.now.items) result over.old over.new }
+    ensures found { IfOk result (λ o. IsTrue (under over.old).told → o ≡ first_used owner (1 + from) (drop from (take s.now.population (slots_of (shape_of s.now) (blocks_of (shape_of s.now) over.old))))) }
+    ensures fits { IfOk result (λ o. IfSome o (IsRecordSpot (shape_of s.now))) }
+    ensures reads { Reads s.now.population result over.old over.new }
     ensures causes { HasCausesOr (BadIn (shape_of s.now) over.old) result (under over.old) (under over.new) }
 {
     let count = slot_count(over, s);
     for i in from..count {
-        let slot = read_slot(over, alloc, s, i + 1)?;
-        if let Some(found) = owned(alloc, owner, i + 1, slot) {
+        if let Some(found) = owned_at(over, alloc, s, owner, i + 1)? {
             return Ok(Some(found));
         }
     }
     Ok(None)
 }
 
-// The last record of an owner among the first so many slots.
-fn last_used<B: Blocks>(
+/// The last record of an owner among the first so many slots, of those that may have one.
+pub fn last_used<B: Blocks>(
     over: &mut Overlay<B>,
     alloc: Global,
     s: &Structure,
@@ -77,40 +100,16 @@ fn last_used<B: Blocks>(
     requires sound { (under over.old).sound }
     requires few { length s.now.items ≤ 60 }
     requires fits { slot_width s.now.items ≤ 1024 }
-    requires within { stop ≤ count_of (shape_of s.now) over.old * per_block s.now.items }
+    requires within { stop ≤ min (count_of (shape_of s.now) over.old * per_block s.now.items) s.now.population }
     ensures found { IfOk result (λ o. IsTrue (under over.old).told → o ≡ last_used owner 1 (take stop (slots_of (shape_of s.now) (blocks_of (shape_of s.now) over.old)))) }
+    ensures fits { IfOk result (λ o. IfSome o (IsRecordSpot (shape_of s.now))) }
     ensures reads { Reads stop result over.old over.new }
     ensures causes { HasCausesOr (BadIn (shape_of s.now) over.old) result (under over.old) (under over.new) }
 {
     for i in 0..stop {
-        let slot = read_slot(over, alloc, s, stop - i)?;
-        if let Some(found) = owned(alloc, owner, stop - i, slot) {
+        if let Some(found) = owned_at(over, alloc, s, owner, stop - i)? {
             return Ok(Some(found));
         }
     }
     Ok(None)
-}
-
-// How many slots stand before those that a search from a bound on goes through.
-fn start_of(from: &Bound) -> Option<u64>
-    ensures { result ≡ start_of from.now }
-{
-    match from {
-        Bound::Start => Some(0),
-        Bound::End => None,
-        Bound::At(_, n) => Some(*n),
-        Bound::From(_) => Some(0),
-    }
-}
-
-// How many of so many slots a search up to a bound goes through.
-fn stop_of(to: &Bound, count: u64) -> u64
-    ensures { result ≡ stop_of to.now count }
-{
-    match to {
-        Bound::Start => 0,
-        Bound::End => count,
-        Bound::At(_, n) => n.saturating_sub(1),
-        Bound::From(_) => 0,
-    }
 }

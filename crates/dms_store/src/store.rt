@@ -1,18 +1,23 @@
-ghost use Rattle.std.specs.Prelude.{◌≡◌, ◌<◌, ◌+◌, ◌^◌, ◌++◌, [], ◌∷◌, Some, IfOk, IfErr, OnOk, IsErrOf, IsOkUnless};
+ghost use Rattle.std.specs.Prelude.{◌≡◌, ◌<◌, ◌+◌, ◌^◌, ◌++◌, [], ◌∷◌, Some, IfOk, IfSome, IfErr, OnOk, IsErrOf, IsOkUnless};
 ghost use Rattle.dms_block.specs.Faults.{Undamaged};
 ghost use Rattle.dms_block.specs.Texts.{Prints};
 ghost use Rattle.dms_block.specs.View.{written};
 ghost use Rattle.dms_desc.specs.Shape.{described};
 ghost use Rattle.dms_model.specs.Db.{Db};
+ghost use Rattle.dms_model.specs.Fitting.{IsDataSet, IsNumber, RecordFits};
 ghost use Rattle.dms_model.specs.Points.{Leaves};
 ghost use Rattle.dms_model.specs.Seen.{GoesBack, HasCauses, IfTold, IsMute, IsSilent, Keeps, KeepsPoints, MadeQuiet, MadeSure, SaysPart, Syncs};
 ghost use Rattle.dms_store.specs.Lifted.{IsUsable, Serves};
+ghost use Rattle.dms_model.specs.Stores.{Tells};
+ghost use Rattle.dms_store.specs.Looked.{Looked};
 ghost use Rattle.dms_store.specs.Storing.{seen_by};
+ghost use Rattle.std.specs.FinMap.{get};
 
+use crate::getting;
 use crate::note::note;
 use dms_base::Memory;
 use dms_block::{BlockFault, Blocks, Overlay};
-use dms_desc::Description;
+use dms_desc::{Description, Record};
 use std::alloc::Global;
 
 /// A database on blocks. Between two calls nothing is written over them.
@@ -48,6 +53,26 @@ impl<B: Blocks> BlockStore<B> {
         ensures { result ≡ self.over.below }
     {
         self.over.into_below()
+    }
+
+    /// The record of a data set with this number, or none.
+    pub fn get(
+        &mut self,
+        alloc: Global,
+        set: u16,
+        number: u64,
+    ) -> Result<Option<Record>, BlockFault>
+        requires sound { IsUsable (described self.old.desc) self.old.over }
+        requires set { IsDataSet (described self.old.desc) set }
+        requires number { IsNumber (described self.old.desc) set number }
+        ensures desc { self.new.desc ≡ self.old.desc }
+        ensures found { Tells (seen_by self.old).db result (λ d. get d.records (set, number)) }
+        ensures fits { IfOk result (λ o. IfSome o (RecordFits (described self.old.desc) set)) }
+        ensures looked { Looked result (seen_by self.old) (seen_by self.new) }
+        ensures same { B.same_blocks self.old.over.below self.new.over.below }
+    {
+        let found = getting::get(&mut self.over, alloc, &self.desc, set, number);
+        note(&mut self.found, found)
     }
 
     /// Makes a quiet point, and answers its number. Takes no memory. Where the next number is 2^64 - 1 it stays so.
