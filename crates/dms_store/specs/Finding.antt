@@ -1,6 +1,7 @@
 -- What is read of the blocks of a store.
-use Rattle.std.proofs.Common.{◌≡◌, ◌∙◌, ◌+◌, ◌-◌, ◌<◌, ◌≤◌, ℕ, zero, suc, List, [], ◌∷◌, Bool, true, false, cond, IsTrue, Some, None, refl, sym, ap, subst, length, slice_get, arith}
-use Rattle.std.specs.Prelude.{◌==◌, ◌&&◌, nat_le}
+use Rattle.std.proofs.Common.{◌≡◌, ◌∙◌, ◌+◌, ◌-◌, ◌*◌, ◌<◌, ◌≤◌, ℕ, min, zero, suc, List, [], ◌∷◌, Bool, true, false, cond, IfSome, IsTrue, Some, None, refl, sym, ap, subst, length, slice_get, arith}
+use Rattle.std.specs.Prelude.{◌==◌, ◌&&◌, nat_le, slice_index_or}
+use Rattle.std.specs.declared.result.Result.TheVariants.{Ok}
 use Rattle.std.specs.List.{AllByRecursion}
 use Rattle.std.specs.declared.option.Option.{Option}
 use Rattle.std.specs.FinMap.{get}
@@ -10,19 +11,24 @@ use Rattle.dms_base.specs.Fits.{fits}
 use Rattle.dms_block.specs.declared.blocks.Blocks.{Ghosts}
 use Rattle.dms_block.specs.declared.change.Change.{Change}
 use Rattle.dms_block.specs.declared.overlay.Overlay.{Overlay}
-use Rattle.dms_block.specs.Content.{Content, changed}
-use Rattle.dms_block.specs.View.{seen, under, written}
+use Rattle.dms_block.specs.Content.{Content, changed, grown}
+use Rattle.dms_block.specs.HeldLaws.{causes_or_on, lasts_none, same_none, told_after}
+use Rattle.dms_block.specs.Held.{HasCausesOr}
+use Rattle.dms_block.specs.declared.block_fault.BlockFault.{BlockFault}
+use Rattle.std.specs.declared.result.Result.{Result}
+use Rattle.dms_block.specs.View.{Reads, seen, under, written}
+use Rattle.dms_block.specs.ViewLaws.{seen_still}
 use Rattle.dms_desc.specs.declared.record.Record.{Record}
 use Rattle.dms_desc.specs.declared.structure.Item.{Item}
 use Rattle.dms_desc.specs.Lookups.{items_of, structure_of}
 use Rattle.dms_desc.specs.Shape.{Shape, Described}
 use Rattle.dms_layout.specs.declared.slot.Slot.{Slot}
 use Rattle.dms_layout.specs.Slots.{SlotFits, all_fit}
-use Rattle.dms_model.specs.Fitting.{AreFitting, RecordFits}
+use Rattle.dms_model.specs.Fitting.{AreFitting, IsNumber, RecordFits, population_of}
 use Rattle.dms_model.specs.Valid.{OfItems, is_data_set}
 use Rattle.dms_sets.specs.Tests.{both_of}
-use Rattle.dms_slots.specs.Seen.{BadAt, BadIn}
-use Rattle.dms_slots.specs.SlotBlocks.{file_of, slot_at, slot_opt}
+use Rattle.dms_slots.specs.Seen.{BadAt, BadIn, count_of}
+use Rattle.dms_slots.specs.SlotBlocks.{file_of, is_block, per_block, slot_at, slot_opt}
 use Rattle.dms_store.specs.Rows.{AreNumbered, get_in, rec_in, rec_opt}
 use Rattle.dms_store.specs.Scans.{spot}
 use Rattle.dms_store.specs.Serving.{IsServed, IsServedShape}
@@ -35,6 +41,26 @@ module _ {B : Type 0} {g : Ghosts B} where
 
   pub bad_slot : (desc : Described) (set : ℕ) (s : Shape) (at f b : ℕ) (o : Overlay B g) → structure_of desc set ≡ Some s → BadAt s at o f b → BadSlot desc set o f b
   bad_slot desc set s at f b o is bad = (s, is, bad.0)
+
+  -- how many slots may have a record: those of the file's blocks, up to POPULATION
+  abbrev pub most_slots : Shape → Overlay B g → ℕ
+  most_slots s o = min (count_of s o * per_block s.items) s.population
+
+  -- the same in the words of a path
+  pub causes_in : {T : Type 0} (desc : Described) (set : ℕ) (s : Shape) (o o' : Overlay B g) (r : Result T BlockFault) → structure_of desc set ≡ Some s → HasCausesOr (BadIn s o) r (under o) (under o') → HasCausesOr (BadSlot desc set o) r (under o) (under o')
+  causes_in desc set s o o' r is h = causes_or_on (BadIn s o) (BadSlot desc set o) r (under o) (under o) (under o') (λ f k bad. (s, is, bad)) refl (lasts_none (under o)) (same_none (under o)) h
+
+  -- a block that is bad after reads was bad before them
+  pub bad_since : {T : Type 0} {n : ℕ} {x : T} (s : Shape) (a b : Overlay B g) → Reads n (Ok x) a b → (f k : ℕ) → BadIn s b f k → BadIn s a f k
+  bad_since s a b reads f k bad = (
+    (
+      bad.0.0,
+      λ told.
+          let same : seen b (file_of s.number) ≡ seen a (file_of s.number) = ap (λ (c : Content). c (file_of s.number)) (seen_still reads told) in
+          subst (λ (bs : List (List ℕ)). (k < length bs) × (is_block s (slice_index_or bs k []) ≡ false)) same (bad.0.1 (told_after reads.looks.passes.lasts told)),
+    ),
+    subst (λ (m : ℕ). k < m) (λ i. grown (reads.written_still i) (reads.looks.counts i) (file_of s.number)) bad.1,
+  )
 
   -- where nothing is written, what is seen stands below
   pub seen_below : (o : Overlay B g) → written o ≡ [] → seen o ≡ (under o).content
@@ -76,7 +102,7 @@ number_at desc n s served at =
 
 -- ---- one record
 
-set_if : (desc : Described) (set : ℕ) (s : Shape) → structure_of desc set ≡ Some s → IsTrue (is_data_set (structure_of desc set)) → is_data_set (Some s) ≡ true
+pub set_if : (desc : Described) (set : ℕ) (s : Shape) → structure_of desc set ≡ Some s → IsTrue (is_data_set (structure_of desc set)) → is_data_set (Some s) ≡ true
 set_if desc set s at set_is = sym (ap is_data_set at) ∙ set_is
 
 -- what stands in the slot of a record is what the database has
@@ -111,3 +137,14 @@ slot_record desc set s slot at f = record {
   owner = f.owner;
   values = subst (λ o. AreFitting (items_of o) slot.rec.values) (sym at) (record { lengths = fit_long s.items slot.rec.values f.values; fit = fit_in s.items slot.rec.values f.values; plain = f.plain });
 }
+
+pub record_fits_opt : (desc : Described) (set : ℕ) (s : Shape) (o : Option Slot) → structure_of desc set ≡ Some s → IfSome o (SlotFits s) → IfSome (rec_opt (slot_opt o)) (RecordFits desc set)
+record_fits_opt desc set s None at f = tt
+record_fits_opt desc set s (Some slot) at f = slot_record desc set s slot at f
+
+-- a number that a record may have is at least 1
+pub low_number : (desc : Described) (set number : ℕ) → IsNumber desc set number → 1 ≤ number
+low_number desc set number h = low_of number (both_of (nat_le 1 number) (nat_le number (population_of (structure_of desc set))) h).0
+  where
+    low_of : (n : ℕ) → nat_le 1 n ≡ true → 1 ≤ n
+    low_of n t = grind (arith, nat_tests, t)

@@ -15,3 +15,4 @@ pub mod WithinLaws
 pub mod ScanSteps
 pub mod Looked
 pub mod SetPaths
+pub mod PathLaws

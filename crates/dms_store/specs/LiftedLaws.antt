@@ -179,7 +179,7 @@ module _ {B : Type 0} {g : Ghosts B} (desc : Described) (o o' : Overlay B g) whe
   pub reads_keep : {T : Type 0} {n : ℕ} (found found' : ℕ) (r : Result T BlockFault) → IsUsable desc o → Reads n r o o' → Unbroken r (store.Keeps (store_seen desc found o) (store_seen desc found' o'))
   reads_keep found found' r usable reads =
       unbroken_two r (λ stays same. keeps_lifted desc (IsUsable desc o) (IsUsable desc o') found found' (under o) (under o')
-          (usable_on usable reads.looks.passes.lasts stays.sound (reads.written_still ∙ usable.none)) reads.looks.passes.lasts stays same) reads.looks.stays reads.looks.same
+      (usable_on usable reads.looks.passes.lasts stays.sound (reads.written_still ∙ usable.none)) reads.looks.passes.lasts stays same) reads.looks.stays reads.looks.same
 
   pub reads_silent : {T : Type 0} {n : ℕ} {r : Result T BlockFault} (found found' : ℕ) → Reads n r o o' → store.IsSilent (store_seen desc found o) (store_seen desc found' o')
   reads_silent found found' reads = silent_lifted desc (IsUsable desc o) (IsUsable desc o') found found' (under o) (under o') reads.looks.passes
@@ -212,5 +212,5 @@ module _ (desc : Described) where
   stop_one x other e = λ i. record { files = (e i).files; points = points_one x.points other.points (ap (λ (y : Stop). y.points) e) i; next = (e i).next; said = (e i).said }
 
   -- What stops leave of a store is what they leave of its blocks: no two outcomes below are seen as one.
-  pub lowered : {a b : Held} {Q : Stop → Type 0} → Runs (lifted desc a.clock) (lifted desc b.clock) Q → Runs a.clock b.clock (λ x. Q (stop_of desc x))
-  lowered run = runs_below_as (stop_of desc) stop_one run
+  pub lowered : (a b : Held) {Q : Stop → Type 0} → Runs (lifted desc a.clock) (lifted desc b.clock) Q → Runs a.clock b.clock (λ x. Q (stop_of desc x))
+  lowered a b run = runs_below_as (stop_of desc) stop_one run

@@ -236,5 +236,5 @@ unfolding db_in
 entries_in desc c numbered =
     let order = all_sorted c 1 desc.structures numbered in
     let same : from_entries {R = place_cmp} (rows_in c desc.structures) ≡ from_sorted {R = place_cmp} (rows_in c desc.structures) =
-        same_map places_total places_same _ _ (λ q. get-from_entries places_total (rows_in c desc.structures) q ∙ sym (get-from_sorted place_cmp (rows_in c desc.structures) q order)) in
+    same_map places_total places_same _ _ (λ q. get-from_entries places_total (rows_in c desc.structures) q ∙ sym (get-from_sorted place_cmp (rows_in c desc.structures) q order)) in
     ap entries same ∙ entries-from_sorted place_cmp (rows_in c desc.structures) order

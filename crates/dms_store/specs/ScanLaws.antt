@@ -122,6 +122,7 @@ module _ (s : Shape) (is : IsSet s) (owner : ℕ) where
       where
         some_shape : (x y : Shape) → ◌≡◌ {A = Option Shape} (Some x) (Some y) → x ≡ y
         some_shape x y h = cc
+
         behind : (k i : ℕ) (ss : List Shape) → AreNumbered k ss → slice_get ss i ≡ Some s → k ≤ s.number
         behind k i [] numbered at = absurd (cc)
         behind k zero (t ∷ ss) numbered at = omega (arith, numbered.0, ap (λ (x : Shape). x.number) (some_shape t s at))

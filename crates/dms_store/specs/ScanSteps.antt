@@ -11,12 +11,17 @@ use Rattle.dms_slots.specs.SlotBlocks.{or_free, per_block, slot_at, slots_in, sl
 use Rattle.dms_store.specs.ScanLaws.{scan_back, scan_on}
 use Rattle.dms_store.specs.Scans.{first_used, last_used, owned_spot}
 
+none_of : (m : ℕ) → 0 ≡ 0 * m
+none_of m = omega arith
+
+one_more : (n m : ℕ) → m + n * m ≡ suc n * m
+one_more n m = omega (arith, nat.suc-mul n m)
+
 -- a file has as many slots as its blocks have
 pub slots_long : (s : Shape) (bs : List (List ℕ)) → length (slots_of s bs) ≡ length bs * per_block s.items
-slots_long s [] = refl
+slots_long s [] = none_of (per_block s.items)
 slots_long s (b ∷ bs) =
-    length-append (slots_in s b) (slots_of s bs)
-    ∙ (let rest = slots_long s bs in let here = slots_length s b in let e : length (slots_in s b) + length (slots_of s bs) ≡ suc (length bs) * per_block s.items = omega (arith, rest, here, nat.suc-mul (length bs) (per_block s.items)) in e)
+    length-append (slots_in s b) (slots_of s bs) ∙ (λ i. slots_length s b i + slots_long s bs i) ∙ one_more (length bs) (per_block s.items)
 
 take_get : (p i : ℕ) (rs : List SlotRead) → i < p → slice_get (take p rs) i ≡ slice_get rs i
 take_get zero i rs low = absurd (omega (arith, low))

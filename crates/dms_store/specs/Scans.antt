@@ -1,5 +1,5 @@
 -- The members of a data set, slot by slot.
-use Rattle.std.specs.Prelude.{ℕ, ◌≡◌, ◌≤◌, ◌+◌, ◌-◌, List, [], ◌∷◌, Some, None, if◌then◌else◌, ◌==◌}
+use Rattle.std.specs.Prelude.{ℕ, ◌≡◌, ◌≤◌, ◌+◌, ◌-◌, List, [], ◌∷◌, drop, Some, None, if◌then◌else◌, ◌==◌}
 use Rattle.std.specs.declared.option.Option.{Option}
 use Rattle.dms_desc.specs.declared.bound.Bound.{Bound}
 use Rattle.dms_desc.specs.declared.bound.Bound.TheVariants.{Start, End, At, From}
@@ -54,3 +54,8 @@ pub record IsRecordSpot (s : Shape) (x : Spot) : Type 0 where
   pub slot : Slot
   pub fits : SlotFits s slot
   pub same : slot.rec ≡ x.rec
+
+-- the first of an owner behind so many slots; none where a search goes through no slot
+abbrev pub first_by : ℕ → Option ℕ → List SlotRead → Option Spot
+first_by owner None rs = None
+first_by owner (Some m) rs = first_used owner (1 + m) (drop m rs)

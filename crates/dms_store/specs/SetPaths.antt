@@ -39,7 +39,7 @@ use Rattle.dms_store.specs.SpelledLaws.{IsFormed, spelled_fits}
 -- ---- a description that is served is formed
 
 module _ (all : List Shape) where
-  AllAt : ℕ → List Shape → Type 0
+  abbrev AllAt : ℕ → List Shape → Type 0
   AllAt k ss = (i : ℕ) (s : Shape) → slice_get ss i ≡ Some s → slice_get all (k + i) ≡ Some s
 
   numbered_there : (k : ℕ) (ss : List Shape) → AllAt k ss → AreNumbered (k + 1) ss → AllByRecursion (λ s. structure_at all s.number ≡ Some s) ss
@@ -65,7 +65,7 @@ populations_all (s ∷ ss) all = ((let p = all.0.population in let h : s.populat
 
 pub formed : (desc : Described) → IsServed desc → IsFormed desc
 formed desc served = record {
-  numbers = numbered_there desc.structures 0 desc.structures (λ i s at. at) served.numbered;
+  numbers = numbered_there desc.structures 0 desc.structures (λ i s at. ap (slice_get desc.structures) (let e : 0 + i ≡ i = omega arith in e) ∙ at) served.numbered;
   kinds = kinds_all desc.structures served.each;
   populations = populations_all desc.structures served.each;
 }

@@ -56,6 +56,13 @@ module _ (desc : Described) (h : Held) (serves : Serves desc h) (agrees : Agrees
   undamaged_or P (Err (Damaged f b)) after none (inr own) = none f b own.1
   undamaged_or P (Err Say) after none cause = tt
 
+-- where there is no structure there is no data set
+pub not_set : (desc : Described) (set : ℕ) → structure_of desc set ≡ None → IsTrue (is_data_set (structure_of desc set)) → ⊥
+not_set desc set none is_set = apart (sym (ap is_data_set none) ∙ is_set)
+  where
+    apart : false ≡ true → ⊥
+    apart h = absurd (cc)
+
 module _ {B : Type 0} {g : Ghosts B} (desc : Described) (o : Overlay B g) (usable : IsUsable desc o) (d : Db) (told : db_of desc (under o).told (under o).content ≡ Some d) where
   -- the blocks of a data set are blocks of slots
   pub no_bad_slot : (set f b : ℕ) → IsTrue (is_data_set (structure_of desc set)) → BadSlot desc set o f b → ⊥

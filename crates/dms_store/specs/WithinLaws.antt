@@ -126,7 +126,9 @@ spot_fits desc path s x at number is_set keyless f =
       where
         over_by : (s : Shape) → nat_lt s.kind 3 ≡ true → over s ≡ s.number
         over_by s t = ap (λ b. cond b s.number s.set) t
+
     over_path : (desc : Described) (path : ℕ) (s : Shape) → structure_of desc path ≡ Some s → over s ≡ path → set_of desc path ≡ path
     over_path desc path s at own = ap over_of at ∙ own
+
     in_range : (n p : ℕ) → 1 ≤ n → n ≤ p → (nat_le 1 n && nat_le n p) ≡ true
     in_range n p low most = grind (arith, nat_tests)

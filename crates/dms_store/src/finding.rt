@@ -1,18 +1,21 @@
-ghost use Rattle.std.specs.Prelude.{◌≡◌, IfOk, IfSome, min};
+ghost use Rattle.std.specs.Prelude.{◌≡◌, ◌≤◌, IfOk, IfSome, IsTrue, length, min, take};
 ghost use Rattle.dms_block.specs.Held.{HasCausesOr};
 ghost use Rattle.dms_block.specs.View.{Reads, under};
 ghost use Rattle.dms_desc.specs.Lookups.{structure_of};
-ghost use Rattle.dms_desc.specs.Shape.{described};
+ghost use Rattle.dms_desc.specs.Shape.{described, shape_of};
+ghost use Rattle.dms_layout.specs.Slots.{slot_width};
 ghost use Rattle.dms_model.specs.Fitting.{IsDataSet, SpotFits, population_of};
 ghost use Rattle.dms_model.specs.Members.{first_member, last_member};
 ghost use Rattle.dms_model.specs.Stores.{Tells};
-ghost use Rattle.dms_store.specs.Finding.{BadSlot};
+ghost use Rattle.dms_slots.specs.Seen.{BadIn, blocks_of};
+ghost use Rattle.dms_slots.specs.SlotBlocks.{slots_of};
+ghost use Rattle.dms_store.specs.Finding.{BadSlot, most_slots};
 ghost use Rattle.dms_store.specs.Lifted.{IsUsable, db_of};
-ghost use Rattle.dms_store.specs.Scans.{start_of, stop_of};
+ghost use Rattle.dms_store.specs.Scans.{IsRecordSpot, first_by, last_used, start_of, stop_of};
 
 use crate::scanning::{last_used, next_used, slot_count};
 use dms_block::{BlockFault, Blocks, Overlay};
-use dms_desc::{Bound, Description};
+use dms_desc::{Bound, Description, Structure};
 use dms_model::Spot;
 use std::alloc::Global;
 
@@ -40,6 +43,49 @@ fn stop_of(to: &Bound, count: u64) -> u64
     }
 }
 
+// The first record of an owner behind a bound.
+fn first_in<B: Blocks>(
+    over: &mut Overlay<B>,
+    alloc: Global,
+    s: &Structure,
+    owner: u64,
+    from: &Bound,
+) -> Result<Option<Spot>, BlockFault>
+    requires sound { (under over.old).sound }
+    requires few { length s.now.items ≤ 60 }
+    requires fits { slot_width s.now.items ≤ 1024 }
+    ensures found { IfOk result (λ o. IsTrue (under over.old).told → o ≡ first_by owner (start_of from.now) (take s.now.population (slots_of (shape_of s.now) (blocks_of (shape_of s.now) over.old)))) }
+    ensures fits { IfOk result (λ o. IfSome o (IsRecordSpot (shape_of s.now))) }
+    ensures reads { Reads s.now.population result over.old over.new }
+    ensures causes { HasCausesOr (BadIn (shape_of s.now) over.old) result (under over.old) (under over.new) }
+{
+    match start_of(from) {
+        None => Ok(None),
+        Some(start) => next_used(over, alloc, s, owner, start),
+    }
+}
+
+// The last record of an owner before a bound.
+fn last_in<B: Blocks>(
+    over: &mut Overlay<B>,
+    alloc: Global,
+    s: &Structure,
+    owner: u64,
+    to: &Bound,
+) -> Result<Option<Spot>, BlockFault>
+    requires sound { (under over.old).sound }
+    requires few { length s.now.items ≤ 60 }
+    requires fits { slot_width s.now.items ≤ 1024 }
+    ensures found { IfOk result (λ o. IsTrue (under over.old).told → o ≡ last_used owner 1
+        (take (min (stop_of to.now (most_slots (shape_of s.now) over.old)) (most_slots (shape_of s.now) over.old)) (slots_of (shape_of s.now) (blocks_of (shape_of s.now) over.old)))) }
+    ensures fits { IfOk result (λ o. IfSome o (IsRecordSpot (shape_of s.now))) }
+    ensures reads { Reads s.now.population result over.old over.new }
+    ensures causes { HasCausesOr (BadIn (shape_of s.now) over.old) result (under over.old) (under over.new) }
+{
+    let stop = stop_of(to, slot_count(over, s));
+    last_used(over, alloc, s, owner, stop)
+}
+
 /// The first record of a data set, for an owner (0 where it is disjoint), behind a bound.
 pub fn first_record<B: Blocks>(
     over: &mut Overlay<B>,
@@ -58,10 +104,7 @@ pub fn first_record<B: Blocks>(
 {
     match desc.structure(path) {
         None => Ok(None),
-        Some(s) => match start_of(from) {
-            None => Ok(None),
-            Some(start) => next_used(over, alloc, s, owner, start),
-        },
+        Some(s) => first_in(over, alloc, s, owner, from),
     }
 }
 
@@ -83,9 +126,6 @@ pub fn last_record<B: Blocks>(
 {
     match desc.structure(path) {
         None => Ok(None),
-        Some(s) => {
-            let stop = stop_of(to, slot_count(over, s));
-            last_used(over, alloc, s, owner, stop)
-        }
+        Some(s) => last_in(over, alloc, s, owner, to),
     }
 }

@@ -44,6 +44,9 @@ pub fn get<B: Blocks>(
 {
     match desc.structure(set) {
         None => Ok(None),
-        Some(s) => Ok(record_of(read_slot(over, alloc, s, number)?)),
+        Some(s) => match read_slot(over, alloc, s, number) {
+            Err(e) => Err(e),
+            Ok(slot) => Ok(record_of(slot)),
+        },
     }
 }

@@ -10,5 +10,5 @@ mod store;
 
 pub use finding::{first_record, last_record};
 pub use getting::get;
-pub use laws::{begins_law, empty_law, lifted_law, spelled_law};
+pub use laws::{empty_law, spelled_law};
 pub use store::BlockStore;

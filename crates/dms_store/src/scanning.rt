@@ -1,10 +1,11 @@
-ghost use Rattle.std.specs.Prelude.{◌≡◌, ◌≤◌, ◌+◌, ◌*◌, IfOk, IfSome, IsTrue, drop, length, min, take};
+ghost use Rattle.std.specs.Prelude.{◌≡◌, ◌≤◌, ◌+◌, IfOk, IfSome, IsTrue, drop, length, take};
 ghost use Rattle.dms_block.specs.Held.{HasCausesOr};
 ghost use Rattle.dms_block.specs.View.{Reads, under};
 ghost use Rattle.dms_desc.specs.Shape.{shape_of};
 ghost use Rattle.dms_layout.specs.Slots.{slot_width};
-ghost use Rattle.dms_slots.specs.Seen.{BadIn, blocks_of, count_of};
-ghost use Rattle.dms_slots.specs.SlotBlocks.{per_block, slot_at, slot_opt, slots_of};
+ghost use Rattle.dms_slots.specs.Seen.{BadIn, blocks_of};
+ghost use Rattle.dms_slots.specs.SlotBlocks.{slot_at, slot_opt, slots_of};
+ghost use Rattle.dms_store.specs.Finding.{most_slots};
 ghost use Rattle.dms_store.specs.Scans.{IsRecordSpot, first_used, last_used, owned_spot};
 
 use dms_block::{BlockFault, Blocks, Overlay};
@@ -17,7 +18,7 @@ use std::alloc::Global;
 /// How many slots of a data set's file may have a record: those that there are, up to POPULATION.
 pub fn slot_count<B: Blocks>(over: &Overlay<B>, s: &Structure) -> u64
     requires few { length s.now.items ≤ 60 }
-    ensures { result ≡ min (count_of (shape_of s.now) over.now * per_block s.now.items) s.now.population }
+    ensures { result ≡ most_slots (shape_of s.now) over.now }
 {
     let slots = u64::from(over.count(file_of(s))) * per_block(s) as u64;
     slots.min(u64::from(s.population))
@@ -60,8 +61,10 @@ fn owned_at<B: Blocks>(
     ensures reads { Reads 1 result over.old over.new }
     ensures causes { HasCausesOr (BadIn (shape_of s.now) over.old) result (under over.old) (under over.new) }
 {
-    let slot = read_slot(over, alloc, s, number)?;
-    Ok(owned(alloc, owner, number, slot))
+    match read_slot(over, alloc, s, number) {
+        Err(e) => Err(e),
+        Ok(slot) => Ok(owned(alloc, owner, number, slot)),
+    }
 }
 
 /// The first record of an owner behind so many slots, of those that may have one.
@@ -82,8 +85,10 @@ pub fn next_used<B: Blocks>(
 {
     let count = slot_count(over, s);
     for i in from..count {
-        if let Some(found) = owned_at(over, alloc, s, owner, i + 1)? {
-            return Ok(Some(found));
+        match owned_at(over, alloc, s, owner, i + 1) {
+            Err(e) => return Err(e),
+            Ok(Some(found)) => return Ok(Some(found)),
+            Ok(None) => {}
         }
     }
     Ok(None)
@@ -100,15 +105,17 @@ pub fn last_used<B: Blocks>(
     requires sound { (under over.old).sound }
     requires few { length s.now.items ≤ 60 }
     requires fits { slot_width s.now.items ≤ 1024 }
-    requires within { stop ≤ min (count_of (shape_of s.now) over.old * per_block s.now.items) s.now.population }
+    requires within { stop ≤ most_slots (shape_of s.now) over.old }
     ensures found { IfOk result (λ o. IsTrue (under over.old).told → o ≡ last_used owner 1 (take stop (slots_of (shape_of s.now) (blocks_of (shape_of s.now) over.old)))) }
     ensures fits { IfOk result (λ o. IfSome o (IsRecordSpot (shape_of s.now))) }
     ensures reads { Reads stop result over.old over.new }
     ensures causes { HasCausesOr (BadIn (shape_of s.now) over.old) result (under over.old) (under over.new) }
 {
     for i in 0..stop {
-        if let Some(found) = owned_at(over, alloc, s, owner, stop - i)? {
-            return Ok(Some(found));
+        match owned_at(over, alloc, s, owner, stop - i) {
+            Err(e) => return Err(e),
+            Ok(Some(found)) => return Ok(Some(found)),
+            Ok(None) => {}
         }
     }
     Ok(None)
