@@ -18,7 +18,7 @@ use Rattle.dms_sets.specs.Padded.{entry_width}
 use Rattle.dms_ordlist.specs.Lists.{with_entry, without, with_in, without_in, padded, first_from}
 use Rattle.dms_sets.specs.Fronts.{starts}
 use Rattle.dms_desc.specs.Sorted.{that_passes}
-use Rattle.dms_sets.specs.Changes.{ListsOf, Whole, OnlyList, PartFits, PartsFit, HasEntry, entry_in, front_in, is_seen}
+use Rattle.dms_sets.specs.Changes.{ListsOf, Whole, OnlyList, OnlyRoomy, PartFits, PartsFit, HasEntry, entry_in, front_in, is_seen}
 
 part_long : (o : Option ItemKind) (d : Bool) (v : Value) → PartFits o v → length (part_bytes o d v) ≡ part_width o
 part_long None d v f = absurd f
@@ -76,8 +76,8 @@ bound_is kinds s rec f =
     let four : 4 ≡ entry_width kinds s.parts - length (front_in kinds s rec) = omega (arith, long) in
     ap (λ n. front_in kinds s rec ++ replicate n 0) four
 
-pub put_only : (o : Option (List ℕ)) (q : List ℕ) (n w : ℕ) (a b : ListsOf) → o ≡ Some q → length q ≡ w → OnlyList (with_entry q) n (length q) a b → OnlyList (with_in o) n w a b
-put_only o q n w a b is long h = subst (λ (p : Option (List ℕ)). OnlyList (with_in p) n w a b) (sym is) (subst (λ v. OnlyList (with_entry q) n v a b) long h)
+pub put_only : (o : Option (List ℕ)) (q : List ℕ) (n w : ℕ) (a b : ListsOf) → o ≡ Some q → length q ≡ w → OnlyRoomy (with_entry q) n (length q) a b → OnlyRoomy (with_in o) n w a b
+put_only o q n w a b is long h = subst (λ (p : Option (List ℕ)). OnlyRoomy (with_in p) n w a b) (sym is) (subst (λ v. OnlyRoomy (with_entry q) n v a b) long h)
 
 pub taken_only : (o : Option (List ℕ)) (q : List ℕ) (n w : ℕ) (a b : ListsOf) → o ≡ Some q → length q ≡ w → OnlyList (without q) n (length q) a b → OnlyList (without_in o) n w a b
 taken_only o q n w a b is long h = subst (λ (p : Option (List ℕ)). OnlyList (without_in p) n w a b) (sym is) (subst (λ v. OnlyList (without q) n v a b) long h)

@@ -1,5 +1,5 @@
 -- One change of a record: what it does to the list of one set, and to the lists of all sets of the data set.
-use Rattle.std.specs.Prelude.{ℕ, ◌≤◌, ◌≡◌, List, [], ◌∷◌, ◌++◌, Bool, true, false, not, ◌&&◌, ◌==◌, nat_lt, Some, None, is_some, if◌then◌else◌}
+use Rattle.std.specs.Prelude.{ℕ, ◌+◌, ◌≤◌, ◌≡◌, ◌||◌, length, List, [], ◌∷◌, ◌++◌, Bool, true, false, not, ◌&&◌, ◌==◌, nat_lt, Some, None, is_some, if◌then◌else◌}
 use Rattle.std.specs.declared.option.Option.{Option}
 use Rattle.std.specs.Int.{w32, to_be_bytes}
 use Rattle.dms_base.specs.declared.value.Value.{Value}
@@ -37,6 +37,15 @@ pub record OnlyList (f : List (List ℕ) → List (List ℕ)) (n w : ℕ) (a b :
   pub here : (xs : List (List ℕ)) → a n w ≡ Some xs → b n w ≡ Some (f xs)
   pub others : (m v : ℕ) → (m == n) ≡ false → b m v ≡ a m v
 
+-- One more entry keeps the file of a list within 1,048,576 blocks.
+abbrev pub HasRoom : List (List ℕ) → Type 0
+HasRoom xs = length xs + 2 ≤ 1048576
+
+-- the same, where the list is known and has room for one more entry
+pub record OnlyRoomy (f : List (List ℕ) → List (List ℕ)) (n w : ℕ) (a b : ListsOf) : Type 0 where
+  pub here : (xs : List (List ℕ)) → a n w ≡ Some xs → HasRoom xs → b n w ≡ Some (f xs)
+  pub others : (m v : ℕ) → (m == n) ≡ false → b m v ≡ a m v
+
 -- ---- one set
 
 -- the list of a set
@@ -47,6 +56,10 @@ kept ls kinds s = ls s.number (entry_width kinds s.parts)
 abbrev pub ListChanged : (List (List ℕ) → List (List ℕ)) → List ItemKind → Shape → ListsOf → ListsOf → Type 0
 ListChanged f kinds s a b = OnlyList f s.number (entry_width kinds s.parts) a b
 
+-- the same, where it has room for one more entry
+abbrev pub ListGrown : (List (List ℕ) → List (List ℕ)) → List ItemKind → Shape → ListsOf → ListsOf → Type 0
+ListGrown f kinds s a b = OnlyRoomy f s.number (entry_width kinds s.parts) a b
+
 -- the lists of all other structures are as they were
 abbrev pub OthersStay : Shape → ListsOf → ListsOf → Type 0
 OthersStay s a b = (m v : ℕ) → (m == s.number) ≡ false → b m v ≡ a m v
@@ -54,6 +67,11 @@ OthersStay s a b = (m v : ℕ) → (m == s.number) ≡ false → b m v ≡ a m v
 -- the structure is a set or automatic subset of this data set
 abbrev pub is_over : Shape → ℕ → Bool
 is_over s set = nat_lt 2 s.kind && nat_lt s.kind 5 && (s.set == set)
+
+-- a set or automatic subset of this data set has this number
+abbrev pub has_number : List Shape → ℕ → ℕ → Bool
+has_number [] set m = false
+has_number (s ∷ ss) set m = (is_over s set && (m == s.number)) || has_number ss set m
 
 -- the entry of a record in a set of its data set, where the set takes it
 abbrev pub entry_in : List ItemKind → Shape → ℕ → Record → Option (List ℕ)
@@ -76,10 +94,10 @@ abbrev pub refuses : List ItemKind → Shape → Option Record → List (List �
 refuses kinds s None xs = false
 refuses kinds s (Some rec) xs = (not s.duplicates && takes s rec.values) && is_seen kinds s rec xs
 
--- A new record's entry is put into a list, unless the set refuses it.
+-- A new record's entry is put into a list that has room for it, unless the set refuses it.
 pub record Entered (kinds : List ItemKind) (s : Shape) (number : ℕ) (new : Option Record) (xs : List (List ℕ)) (left : Option (List (List ℕ))) (refused : Bool) : Type 0 where
   pub answer : refused ≡ refuses kinds s new xs
-  pub done : refused ≡ false → left ≡ Some (with_in (entry_opt kinds s number new) xs)
+  pub done : refused ≡ false → HasRoom xs → left ≡ Some (with_in (entry_opt kinds s number new) xs)
 
 -- What a change makes of one list: the old record's entry is taken out, and the new one's put in, unless the set refuses it.
 abbrev pub OneChanged : List ItemKind → Shape → ℕ → Option Record → Option Record → List (List ℕ) → Option (List (List ℕ)) → Bool → Type 0

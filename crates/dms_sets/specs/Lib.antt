@@ -19,3 +19,6 @@ pub mod Determined
 pub mod Puts
 pub mod Finds
 pub mod Kept
+pub mod Keeping
+pub mod KeepingLaws
+pub mod Few

@@ -51,7 +51,7 @@ above_not Less h = refl
 above_not Equal h = absurd h
 above_not Greater h = absurd h
 
-abbrev IsFound : List (Place × Record) → Place × Record → Type 0
+abbrev pub IsFound : List (Place × Record) → Place × Record → Type 0
 IsFound es e = find place_cmp e.0 es ≡ Some e.1
 
 found_later : (e : Place × Record) (es fs : List (Place × Record)) → T (below_all place_cmp e.0 fs) → AllByRecursion (IsFound es) fs → AllByRecursion (IsFound (e ∷ es)) fs
@@ -60,7 +60,7 @@ found_later e es (d ∷ fs) below all =
     let off : eq_by_cmp place_cmp d.0 e.0 ≡ false = ap is_eq (places_total.antisymm d.0 e.0) ∙ above_not (place_cmp e.0 d.0) (first_true _ _ below) in
     (ap (λ b. cond b (Some e.1) (find place_cmp d.0 es)) off ∙ all.0, found_later e es fs (second_true _ _ below) all.1)
 
-all_found : (es : List (Place × Record)) → T (is_sorted place_cmp es) → AllByRecursion (IsFound es) es
+pub all_found : (es : List (Place × Record)) → T (is_sorted place_cmp es) → AllByRecursion (IsFound es) es
 all_found [] order = tt
 all_found (e ∷ es) order = (
   ap (λ b. cond b (Some e.1) (find place_cmp e.0 es)) ((eq_by_cmp_equiv places_total).refl e.0),

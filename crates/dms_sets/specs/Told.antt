@@ -9,7 +9,7 @@ use Rattle.dms_ordlist.specs.Lists.{without_in}
 use Rattle.dms_sets.specs.declared.answer.SetAnswer.{SetAnswer}
 use Rattle.dms_sets.specs.declared.answer.SetAnswer.TheVariants.{Done, Duplicate}
 use Rattle.dms_sets.specs.Answers.{clash_seen}
-use Rattle.dms_sets.specs.Changes.{ListsOf, OptHasEntry, is_over, kept, entry_opt, refuses}
+use Rattle.dms_sets.specs.Changes.{HasRoom, ListsOf, OptHasEntry, is_over, kept, entry_opt, refuses}
 use Rattle.dms_sets.specs.Entries.{kinds_of}
 use Rattle.dms_desc.specs.Lookups.{structure_of, items_of}
 use Rattle.dms_sets.specs.Puts.{MayCome}
@@ -41,7 +41,8 @@ OptMayCome desc set (Some rec) = MayCome desc set rec
 abbrev pub HaveOwnNumbers : Described → Type 0
 HaveOwnNumbers desc = (j k : ℕ) (s t : Shape) → slice_get desc.structures j ≡ Some s → slice_get desc.structures k ≡ Some t → s.number ≡ t.number → j ≡ k
 
--- What is told of a change: the old record stands in the database, whose records fit, and the new one fits.
+-- What is told of a change: the old record stands in the database, whose records fit, the new one fits, and the list of each set
+-- over the data set has room for its entry.
 pub record Judged (desc : Described) (db : Db) (set number : ℕ) (old new : Option Record) : Type 0 where
   pub apart : HaveOwnNumbers desc
   pub named : OfStructures desc (λ s. is_kept s ≡ true → NameItems (items_over desc s) s.parts)
@@ -49,6 +50,7 @@ pub record Judged (desc : Described) (db : Db) (set number : ℕ) (old new : Opt
   pub small : number < 2 ^ 32
   pub records : RecordsFit desc db
   pub may : OptMayCome desc set new
+  pub room : OfStructures desc (λ s. is_over s set ≡ true → HasRoom (without_in (entry_opt (kinds_over desc s) s number old) (entries_of desc db s)))
 
 -- the first set in number order that refuses the new record
 abbrev pub clash_opt : Described → Db → ℕ → ℕ → Option Record → Option ℕ

@@ -1,6 +1,6 @@
 -- One change of a record, one structure after another.
 use Rattle.std.proofs.Common.{◌≡◌, ℕ, zero, suc, ◌+◌, ◌^◌, ◌<◌, ◌≤◌, List, [], ◌∷◌, ◌++◌, Bool, true, false, cond, Some, None, refl, sym, ap, ◌∙◌, subst, slice_get, length, length-append, arith, inl, inr}
-use Rattle.std.specs.Prelude.{◌&&◌, not, ◌==◌, nat_lt, is_some}
+use Rattle.std.specs.Prelude.{◌&&◌, ◌||◌, not, ◌==◌, nat_lt, is_some}
 use Rattle.std.specs.declared.option.Option.{Option}
 use Rattle.std.specs.FinMap.{get, entries}
 use Rattle.std.specs.Int.{w32, to_be_bytes}
@@ -19,7 +19,7 @@ use Rattle.dms_model.specs.Stores.{is_closed}
 use Rattle.dms_ordlist.specs.Lists.{with_in, without_in, padded, first_from}
 use Rattle.dms_sets.specs.declared.answer.SetAnswer.TheVariants.{Done, Duplicate}
 use Rattle.dms_sets.specs.Answers.{clash_seen, closed_is, is_blocked, old_entry}
-use Rattle.dms_sets.specs.Changes.{ListsOf, OneChanged, OthersStay, is_over, kept, entry_opt, refuses, front_in, is_seen}
+use Rattle.dms_sets.specs.Changes.{ListsOf, OneChanged, has_number, OthersStay, is_over, kept, entry_opt, refuses, front_in, is_seen}
 use Rattle.dms_sets.specs.Clashes.{key_front, look}
 use Rattle.dms_sets.specs.Entries.{entry_bytes, kinds_of, whole_width}
 use Rattle.dms_sets.specs.Fronts.{starts}
@@ -193,7 +193,7 @@ module _ (desc : Described) (db : Db) (set number : ℕ) (old new : Option Recor
       → OthersStay s a b → Upto desc db set number old new k a → Upto desc db set number old new (k + 1) b
   upto_step k s a b at h changed others u =
       let one = changed (entries_of desc db s) (u.left k s (omega arith) at (over_kept s set h)) in
-      let here : kept b (kinds_over desc s) s ≡ Some (entries_of desc (db_with db set number new) s) = one.done refl ∙ ap Some (sym (entries_here desc db set number old new judged k s at h)) in
+      let here : kept b (kinds_over desc s) s ≡ Some (entries_of desc (db_with db set number new) s) = one.done refl (judged.room k s at h) ∙ ap Some (sym (entries_here desc db set number old new judged k s at h)) in
       let refused : is_refused desc db set number old new s ≡ false = ap (λ t. t && refuses (kinds_over desc s) s new (without_in (entry_opt (kinds_over desc s) s number old) (entries_of desc db s))) h ∙ sym one.answer in
       record {
         done = λ j t lt is kept. elim (cases_lt j k) [
@@ -251,3 +251,15 @@ clash_new desc db set n rec none (s ∷ ss) =
     let kinds = kinds_over desc s in
     let front = key_front kinds s.parts rec.owner (key_of s.parts rec.values) in
     (λ i. cond (is_closed s set rec.values && is_some (look front (without_in (member_opt (entry_of kinds s) (set, n) (sym none i)) (entries_of desc db s)))) (Some s.number) (clash_new desc db set n rec none ss i))
+
+-- the number of a set over the data set
+pub number_over : (ss : List Shape) (k : ℕ) (s : Shape) (set m : ℕ) → slice_get ss k ≡ Some s → is_over s set ≡ true → (m == s.number) ≡ true → has_number ss set m ≡ true
+number_over [] k s set m at h same = absurd (cc)
+number_over (t ∷ ss) zero s set m at h same =
+    let here : t ≡ s = some_one t s at in
+    (λ i. (is_over (here i) set && (m == (here i).number)) || has_number ss set m) ∙ (λ i. (h i && same i) || has_number ss set m)
+number_over (t ∷ ss) (suc k) s set m at h same = ap (λ b. (is_over t set && (m == t.number)) || b) (number_over ss k s set m at h same) ∙ or_true (is_over t set && (m == t.number))
+  where
+    or_true : (b : Bool) → (b || true) ≡ true
+    or_true true = refl
+    or_true false = refl

@@ -3,6 +3,7 @@
 
 mod answer;
 mod entry;
+mod keeping;
 mod laws;
 mod lists;
 mod one;

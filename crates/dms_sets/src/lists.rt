@@ -1,9 +1,9 @@
-ghost use Rattle.std.specs.Prelude.{◌≡◌, ◌+◌, ℕ, List, Some, IfOk, IfErr, OnOk, length, not};
+ghost use Rattle.std.specs.Prelude.{◌≡◌, ◌+◌, ◌==◌, ℕ, Bool, true, List, Some, IfOk, IfErr, OnOk, length, not};
 ghost use Rattle.std.specs.declared.option.Option.{Option};
 ghost use Rattle.dms_block.specs.declared.block_fault.BlockFault.{BlockFault as Fault};
 ghost use Rattle.dms_block.specs.declared.block_fault.BlockFault.TheVariants.{Memory};
 ghost use Rattle.dms_ordlist.specs.Lists.{with_entry, without, has_entry, first_from, last_to};
-ghost use Rattle.dms_sets.specs.Changes.{Whole, OnlyList, IfListed};
+ghost use Rattle.dms_sets.specs.Changes.{Whole, OnlyList, OnlyRoomy, IfListed};
 
 use dms_base::Bytes;
 use dms_block::BlockFault;
@@ -21,23 +21,24 @@ pub trait Lists {
     /// The list of a structure may be asked for.
     ghost usable: { Self → ℕ → Type 0 };
 
-    /// What at most so many calls leave besides the lists, where none failed.
-    ghost calm: { ℕ → Self → Self → Type 0 };
+    /// What at most so many calls on the lists of these structures leave besides those lists, where none failed.
+    ghost calm: { (ℕ → Bool) → ℕ → Self → Self → Type 0 };
 
-    /// The same, where the last of them ended with this fault.
+    /// What at most so many calls leave where the last of them ended with this fault.
     ghost fails: { Fault → ℕ → Self → Self → Type 0 };
 
     /// A fault that isn't found in a list, but comes from below.
     ghost below: { Fault → Self → Self → Type 0 };
 
-    /// Puts an entry into its place: false where it stands there.
+    /// Puts an entry into its place: false where it stands there. A list that is known keeps known where it has room for
+    /// one more entry.
     fn insert(&mut self, alloc: Global, structure: u16, entry: &[u8]) -> Result<bool, BlockFault>
         requires usable { usable self.old structure }
         requires width { Whole (length entry.now) }
         ensures answer { IfOk result (λ b. IfListed (listed self.old structure (length entry.now)) (λ xs. b ≡ not (has_entry entry.now xs))) }
-        ensures list { OnOk result (OnlyList (with_entry entry.now) structure (length entry.now) (listed self.old) (listed self.new)) }
+        ensures list { OnOk result (OnlyRoomy (with_entry entry.now) structure (length entry.now) (listed self.old) (listed self.new)) }
         ensures usable { OnOk result ((n : ℕ) → usable self.old n → usable self.new n) }
-        ensures calm { OnOk result (calm 1 self.old self.new) }
+        ensures calm { OnOk result (calm (λ m. m == structure) 1 self.old self.new) }
         ensures fails { IfErr result (λ e. fails e 1 self.old self.new) }
         ensures below { IfErr result (λ e. IfListed (listed self.old structure (length entry.now)) (λ xs. below e self.old self.new)) };
 
@@ -48,7 +49,7 @@ pub trait Lists {
         ensures answer { IfOk result (λ b. IfListed (listed self.old structure (length entry.now)) (λ xs. b ≡ has_entry entry.now xs)) }
         ensures list { OnOk result (OnlyList (without entry.now) structure (length entry.now) (listed self.old) (listed self.new)) }
         ensures usable { OnOk result ((n : ℕ) → usable self.old n → usable self.new n) }
-        ensures calm { OnOk result (calm 1 self.old self.new) }
+        ensures calm { OnOk result (calm (λ m. m == structure) 1 self.old self.new) }
         ensures fails { IfErr result (λ e. fails e 1 self.old self.new) }
         ensures below { IfErr result (λ e. IfListed (listed self.old structure (length entry.now)) (λ xs. below e self.old self.new)) };
 
@@ -64,7 +65,7 @@ pub trait Lists {
         ensures found { IfOk result (λ o. IfListed (listed self.old structure (length from.now)) (λ xs. o ≡ first_from (Some from.now) xs)) }
         ensures list { OnOk result (listed self.new ≡ listed self.old) }
         ensures usable { OnOk result ((n : ℕ) → usable self.old n → usable self.new n) }
-        ensures calm { OnOk result (calm 1 self.old self.new) }
+        ensures calm { OnOk result (calm (λ m. m == structure) 1 self.old self.new) }
         ensures fails { IfErr result (λ e. fails e 1 self.old self.new) }
         ensures below { IfErr result (λ e. IfListed (listed self.old structure (length from.now)) (λ xs. below e self.old self.new)) };
 
@@ -80,21 +81,24 @@ pub trait Lists {
         ensures found { IfOk result (λ o. IfListed (listed self.old structure (length to.now)) (λ xs. o ≡ last_to (Some to.now) xs)) }
         ensures list { OnOk result (listed self.new ≡ listed self.old) }
         ensures usable { OnOk result ((n : ℕ) → usable self.old n → usable self.new n) }
-        ensures calm { OnOk result (calm 1 self.old self.new) }
+        ensures calm { OnOk result (calm (λ m. m == structure) 1 self.old self.new) }
         ensures fails { IfErr result (λ e. fails e 1 self.old self.new) }
         ensures below { IfErr result (λ e. IfListed (listed self.old structure (length to.now)) (λ xs. below e self.old self.new)) };
 
     /// No call leaves all as it was, and so does want of memory before any call.
-    ghost calm_none: { (n : ℕ) (s : Self) → calm n s s };
+    ghost calm_none: { (p : ℕ → Bool) (n : ℕ) (s : Self) → calm p n s s };
 
     ghost fails_memory: { (n : ℕ) (s : Self) → fails Memory n s s };
 
     ghost below_memory: { (s : Self) → below Memory s s };
 
     /// Calls after calls that didn't fail.
-    ghost calm_then: { (m n : ℕ) (a b c : Self) → calm m a b → calm n b c → calm (m + n) a c };
+    ghost calm_then: { (p : ℕ → Bool) (m n : ℕ) (a b c : Self) → calm p m a b → calm p n b c → calm p (m + n) a c };
 
-    ghost fails_then: { (e : Fault) (m n : ℕ) (a b c : Self) → calm m a b → fails e n b c → fails e (m + n) a c };
+    ghost fails_then: { (e : Fault) (p : ℕ → Bool) (m n : ℕ) (a b c : Self) → calm p m a b → fails e n b c → fails e (m + n) a c };
 
-    ghost below_then: { (e : Fault) (m : ℕ) (a b c : Self) → calm m a b → below e b c → below e a c };
+    ghost below_then: { (e : Fault) (p : ℕ → Bool) (m : ℕ) (a b c : Self) → calm p m a b → below e b c → below e a c };
+
+    /// More structures were allowed.
+    ghost calm_wider: { (p q : ℕ → Bool) (n : ℕ) (a b : Self) → ((m : ℕ) → p m ≡ true → q m ≡ true) → calm p n a b → calm q n a b };
 }

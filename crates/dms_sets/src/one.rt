@@ -1,8 +1,8 @@
-ghost use Rattle.std.specs.Prelude.{◌≡◌, ◌++◌, ◌∷◌, [], ℕ, Some, IfOk, IfErr, OnOk};
+ghost use Rattle.std.specs.Prelude.{◌≡◌, ◌==◌, ◌++◌, ◌∷◌, [], ℕ, Some, IfOk, IfErr, OnOk};
 ghost use Rattle.std.specs.Option.{option_copied};
 ghost use Rattle.dms_desc.specs.Shape.{shape_of};
 ghost use Rattle.dms_ordlist.specs.Lists.{with_in, without_in};
-ghost use Rattle.dms_sets.specs.Changes.{Changes, Enters, IfListed, ListChanged, OthersStay, HasEntry, OptHasEntry, entry_in, entry_opt, is_seen, kept, refuses};
+ghost use Rattle.dms_sets.specs.Changes.{Changes, Enters, IfListed, ListChanged, ListGrown, OthersStay, HasEntry, OptHasEntry, entry_in, entry_opt, is_seen, kept, refuses};
 ghost use Rattle.dms_sets.specs.Fronts.{starts};
 
 use crate::Lists;
@@ -41,7 +41,7 @@ fn take_out<L: Lists>(
     requires fits { HasEntry kinds.now (shape_of s.now) rec.now.values }
     ensures list { OnOk result (ListChanged (without_in (entry_in kinds.now (shape_of s.now) number rec.now)) kinds.now (shape_of s.now) (L.listed lists.old) (L.listed lists.new)) }
     ensures usable { OnOk result ((n : ℕ) → L.usable lists.old n → L.usable lists.new n) }
-    ensures calm { OnOk result (L.calm 1 lists.old lists.new) }
+    ensures calm { OnOk result (L.calm (λ m. m == s.now.number) 1 lists.old lists.new) }
     ensures fails { IfErr result (λ e. L.fails e 1 lists.old lists.new) }
     ensures below { IfErr result (λ e. IfListed (kept (L.listed lists.old) kinds.now (shape_of s.now)) (λ xs. L.below e lists.old lists.new)) }
 {
@@ -62,9 +62,9 @@ fn put_in<L: Lists>(
 ) -> Result<(), BlockFault>
     requires usable { L.usable lists.old s.now.number }
     requires fits { HasEntry kinds.now (shape_of s.now) rec.now.values }
-    ensures list { OnOk result (ListChanged (with_in (entry_in kinds.now (shape_of s.now) number rec.now)) kinds.now (shape_of s.now) (L.listed lists.old) (L.listed lists.new)) }
+    ensures list { OnOk result (ListGrown (with_in (entry_in kinds.now (shape_of s.now) number rec.now)) kinds.now (shape_of s.now) (L.listed lists.old) (L.listed lists.new)) }
     ensures usable { OnOk result ((n : ℕ) → L.usable lists.old n → L.usable lists.new n) }
-    ensures calm { OnOk result (L.calm 1 lists.old lists.new) }
+    ensures calm { OnOk result (L.calm (λ m. m == s.now.number) 1 lists.old lists.new) }
     ensures fails { IfErr result (λ e. L.fails e 1 lists.old lists.new) }
     ensures below { IfErr result (λ e. IfListed (kept (L.listed lists.old) kinds.now (shape_of s.now)) (λ xs. L.below e lists.old lists.new)) }
 {
@@ -87,7 +87,7 @@ fn is_taken<L: Lists>(
     ensures seen { IfOk result (λ b. IfListed (kept (L.listed lists.old) kinds.now (shape_of s.now)) (λ xs. b ≡ is_seen kinds.now (shape_of s.now) rec.now xs)) }
     ensures list { OnOk result (L.listed lists.new ≡ L.listed lists.old) }
     ensures usable { OnOk result ((n : ℕ) → L.usable lists.old n → L.usable lists.new n) }
-    ensures calm { OnOk result (L.calm 1 lists.old lists.new) }
+    ensures calm { OnOk result (L.calm (λ m. m == s.now.number) 1 lists.old lists.new) }
     ensures fails { IfErr result (λ e. L.fails e 1 lists.old lists.new) }
     ensures below { IfErr result (λ e. IfListed (kept (L.listed lists.old) kinds.now (shape_of s.now)) (λ xs. L.below e lists.old lists.new)) }
 {
@@ -112,7 +112,7 @@ fn refuses<L: Lists>(
     ensures answer { IfOk result (λ b. IfListed (kept (L.listed lists.old) kinds.now (shape_of s.now)) (λ xs. b ≡ refuses kinds.now (shape_of s.now) (Some rec.now) xs)) }
     ensures list { OnOk result (L.listed lists.new ≡ L.listed lists.old) }
     ensures usable { OnOk result ((n : ℕ) → L.usable lists.old n → L.usable lists.new n) }
-    ensures calm { OnOk result (L.calm 1 lists.old lists.new) }
+    ensures calm { OnOk result (L.calm (λ m. m == s.now.number) 1 lists.old lists.new) }
     ensures fails { IfErr result (λ e. L.fails e 1 lists.old lists.new) }
     ensures below { IfErr result (λ e. IfListed (kept (L.listed lists.old) kinds.now (shape_of s.now)) (λ xs. L.below e lists.old lists.new)) }
 {
@@ -135,7 +135,7 @@ fn leave<L: Lists>(
     requires fits { OptHasEntry kinds.now (shape_of s.now) (option_copied old) }
     ensures list { OnOk result (ListChanged (without_in (entry_opt kinds.now (shape_of s.now) number (option_copied old.entry))) kinds.now (shape_of s.now) (L.listed lists.old) (L.listed lists.new)) }
     ensures usable { OnOk result ((n : ℕ) → L.usable lists.old n → L.usable lists.new n) }
-    ensures calm { OnOk result (L.calm 1 lists.old lists.new) }
+    ensures calm { OnOk result (L.calm (λ m. m == s.now.number) 1 lists.old lists.new) }
     ensures fails { IfErr result (λ e. L.fails e 1 lists.old lists.new) }
     ensures below { IfErr result (λ e. IfListed (kept (L.listed lists.old) kinds.now (shape_of s.now)) (λ xs. L.below e lists.old lists.new)) }
 {
@@ -159,7 +159,7 @@ fn put_new<L: Lists>(
     ensures entered { IfOk result (λ refused. Enters kinds.now (shape_of s.now) number (Some rec.now) (L.listed lists.old) (L.listed lists.new) refused) }
     ensures others { OnOk result (OthersStay (shape_of s.now) (L.listed lists.old) (L.listed lists.new)) }
     ensures usable { OnOk result ((n : ℕ) → L.usable lists.old n → L.usable lists.new n) }
-    ensures calm { OnOk result (L.calm 2 lists.old lists.new) }
+    ensures calm { OnOk result (L.calm (λ m. m == s.now.number) 2 lists.old lists.new) }
     ensures fails { IfErr result (λ e. L.fails e 2 lists.old lists.new) }
     ensures below { IfErr result (λ e. IfListed (kept (L.listed lists.old) kinds.now (shape_of s.now)) (λ xs. L.below e lists.old lists.new)) }
 {
@@ -184,7 +184,7 @@ fn enter<L: Lists>(
     ensures entered { IfOk result (λ refused. Enters kinds.now (shape_of s.now) number (option_copied new.entry) (L.listed lists.old) (L.listed lists.new) refused) }
     ensures others { OnOk result (OthersStay (shape_of s.now) (L.listed lists.old) (L.listed lists.new)) }
     ensures usable { OnOk result ((n : ℕ) → L.usable lists.old n → L.usable lists.new n) }
-    ensures calm { OnOk result (L.calm 2 lists.old lists.new) }
+    ensures calm { OnOk result (L.calm (λ m. m == s.now.number) 2 lists.old lists.new) }
     ensures fails { IfErr result (λ e. L.fails e 2 lists.old lists.new) }
     ensures below { IfErr result (λ e. IfListed (kept (L.listed lists.old) kinds.now (shape_of s.now)) (λ xs. L.below e lists.old lists.new)) }
 {
@@ -211,7 +211,7 @@ pub fn change_one<L: Lists>(
         (L.listed lists.old) (L.listed lists.new) refused) }
     ensures others { OnOk result (OthersStay (shape_of s.now) (L.listed lists.old) (L.listed lists.new)) }
     ensures usable { OnOk result ((n : ℕ) → L.usable lists.old n → L.usable lists.new n) }
-    ensures calm { OnOk result (L.calm 3 lists.old lists.new) }
+    ensures calm { OnOk result (L.calm (λ m. m == s.now.number) 3 lists.old lists.new) }
     ensures fails { IfErr result (λ e. L.fails e 3 lists.old lists.new) }
     ensures below { IfErr result (λ e. IfListed (kept (L.listed lists.old) kinds.now (shape_of s.now)) (λ xs. L.below e lists.old lists.new)) }
 {

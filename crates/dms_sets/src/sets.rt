@@ -2,7 +2,7 @@ ghost use Rattle.std.specs.Prelude.{◌≡◌, ◌*◌, ℕ, true, IfOk, IfErr, 
 ghost use Rattle.std.specs.Option.{option_copied};
 ghost use Rattle.dms_desc.specs.Shape.{shape_of, described};
 ghost use Rattle.dms_desc.specs.Lookups.{structure_of, items_of};
-ghost use Rattle.dms_sets.specs.Changes.{is_over};
+ghost use Rattle.dms_sets.specs.Changes.{has_number, is_over};
 ghost use Rattle.dms_sets.specs.Told.{IfJudged, KeepsSets, MayEnter, OfStructures};
 
 use crate::entry::kinds_of;
@@ -36,6 +36,8 @@ fn items_of(desc: &Description, set: u16) -> &[Item]
 /// is taken out of each, and the new one's put in. Where a set without DUPLICATES has an entry of another record with
 /// the new one's owner and key, the call stops there, and the lists are to be forgotten.
 ///
+/// Nothing but the lists of these sets is changed.
+///
 /// `old` is the record that stands under the number, and `new` the one that is to stand there. Each fits its items,
 /// and no set has entries of more than 104 bytes.
 pub fn change<L: Lists>(
@@ -53,7 +55,7 @@ pub fn change<L: Lists>(
     ensures kept { IfOk result (λ a. IfJudged (described desc.now) set number (option_copied old.entry) (option_copied new.entry) (L.listed lists.old)
         (λ db. KeepsSets (described desc.now) db set number (option_copied new.entry) (L.listed lists.new) a)) }
     ensures usable { OnOk result ((n : ℕ) → L.usable lists.old n → L.usable lists.new n) }
-    ensures calm { OnOk result (L.calm (3 * length desc.now.structures) lists.old lists.new) }
+    ensures calm { OnOk result (L.calm (has_number (described desc.now).structures set) (3 * length desc.now.structures) lists.old lists.new) }
     ensures fails { IfErr result (λ e. L.fails e (3 * length desc.now.structures) lists.old lists.new) }
     ensures below { IfErr result (λ e. IfJudged (described desc.now) set number (option_copied old.entry) (option_copied new.entry) (L.listed lists.old) (λ db. L.below e lists.old lists.new)) }
 {

@@ -14,8 +14,8 @@ use Rattle.dms_desc.specs.declared.record.Record.{Record}
 use Rattle.dms_desc.specs.Shape.{Shape, Described}
 use Rattle.dms_layout.specs.declared.slot.SlotRead.{SlotRead}
 use Rattle.dms_layout.specs.declared.slot.SlotRead.TheVariants.{Free, Used, Bad}
-use Rattle.dms_model.specs.Valid.{is_data_set, owner_of, owner_stands}
-use Rattle.dms_model.specs.Db.{Db, Entry, Place}
+use Rattle.dms_model.specs.Valid.{is_data_set, link_stands, owner_of, owner_stands}
+use Rattle.dms_model.specs.Db.{Db, Entry, Place, Records}
 use Rattle.dms_desc.specs.Lookups.{structure_of, items_of}
 use Rattle.dms_ordlist.specs.ListIn.{list_in}
 use Rattle.dms_sets.specs.Padded.{entry_width}
@@ -83,11 +83,18 @@ owned_in desc db set n =
 
 -- ---- the files
 
--- a slot of a data set: free, or that of a record with a number of at most POPULATION, whose owner stands and whose counts are those of the database
+-- what each link of these values refers to exists
+abbrev pub links_stand : Records → List Item → List Value → Bool
+links_stand records [] vs = true
+links_stand records (i ∷ is) [] = true
+links_stand records (i ∷ is) (v ∷ vs) = link_stands records i.kind v && links_stand records is vs
+
+-- A slot of a data set: free, or that of a record with a number of at most POPULATION, whose owner and the records that its links
+-- refer to stand, and whose counts are those of the database.
 abbrev pub slot_stands : Described → Db → Shape → ℕ → SlotRead → Bool
 slot_stands desc db s n Free = true
 slot_stands desc db s n (Used slot) =
-    (nat_le n s.population && owner_stands db.records s.owner slot.rec.owner)
+    (nat_le n s.population && (owner_stands db.records s.owner slot.rec.owner && links_stand db.records s.items slot.rec.values))
     && ((slot.counted == counted_in desc db s.number n) && (slot.owned == owned_in desc db s.number n))
 slot_stands desc db s n Bad = false
 

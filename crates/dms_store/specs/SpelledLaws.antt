@@ -7,7 +7,9 @@ use Rattle.std.specs.FinMap.{get, entries, keys, empty, from_entries, get-from_e
 use Rattle.std.specs.Ordering.{eq_by_cmp}
 use Rattle.std.proofs.lemmas.Bool.Decides.{nat_tests}
 use Rattle.dms_base.specs.declared.value.Value.{Value}
+use Rattle.dms_base.specs.declared.value.Value.TheVariants.{Null, Text, Number, Bool as Truth, Bits, Link as Reference}
 use Rattle.dms_base.specs.declared.kind.ItemKind.{ItemKind}
+use Rattle.dms_base.specs.declared.kind.ItemKind.TheVariants.{Alpha, Number as Decimal, Bool as OneBit, Field, Link}
 use Rattle.dms_base.specs.Fits.{fits}
 use Rattle.dms_block.specs.Content.{Content}
 use Rattle.dms_desc.specs.declared.structure.Item.{Item}
@@ -21,8 +23,8 @@ use Rattle.dms_layout.specs.declared.slot.SlotRead.TheVariants.{Free, Used, Bad}
 use Rattle.dms_layout.specs.ReadLaws.{used_fits}
 use Rattle.dms_layout.specs.Slots.{SlotFits, AreKinds, all_fit, slot_width}
 use Rattle.dms_laws.specs.Sound.{IsFlat}
-use Rattle.dms_model.specs.Valid.{is_data_set, owner_stands}
-use Rattle.dms_model.specs.Db.{Db, Place, place_cmp, empty_db}
+use Rattle.dms_model.specs.Valid.{is_data_set, link_stands, owner_stands, refers}
+use Rattle.dms_model.specs.Db.{Db, Place, Records, place_cmp, empty_db}
 use Rattle.dms_desc.specs.Lookups.{structure_of, items_of}
 use Rattle.dms_ordlist.specs.ListIn.{list_in}
 use Rattle.dms_ordlist.specs.Lists.{empty_keys}
@@ -31,7 +33,7 @@ use Rattle.dms_sets.specs.Padded.{entry_width}
 use Rattle.dms_sets.specs.Sets.{entries_of, kinds_over, entry_of}
 use Rattle.dms_sets.specs.Spots.{some_item, ValuesFit, RecordFits, RecordsFit}
 use Rattle.dms_slots.specs.SlotBlocks.{file_of, slots_of, slots_in, slots_by, cut, is_block, per_block}
-use Rattle.dms_store.specs.Spelled.{rows_from, file_in, rows_in, db_in, counted_in, owned_in, slot_stands, slots_stand, is_list_of, has_none, is_kept, file_spells, files_spell, is_whole, files_fit, is_spelled, some_if, spelled}
+use Rattle.dms_store.specs.Spelled.{rows_from, file_in, rows_in, db_in, counted_in, owned_in, links_stand, slot_stands, slots_stand, is_list_of, has_none, is_kept, file_spells, files_spell, is_whole, files_fit, is_spelled, some_if, spelled}
 use Rattle.dms_sets.specs.Tests.{both_of, tied}
 
 -- ---- a content without blocks
@@ -102,6 +104,31 @@ module _ (c : Content) (none : (f : ℕ) → c f ≡ []) (desc : Described) wher
   pub empty_spelled : spelled desc c ≡ Some empty_db
   empty_spelled = (λ i. some_if (is_spelled_empty i) (db_empty c none desc i))
 
+-- ---- links
+
+-- what a link refers to exists also where there are more records
+still_refers : (old new : Records) (to : ℕ) (v : Value) → ((p : Place) → is_some (get old p) ≡ true → is_some (get new p) ≡ true) → refers old to v ≡ true → refers new to v ≡ true
+still_refers old new to Null more h = h
+still_refers old new to (Text a) more h = h
+still_refers old new to (Number a) more h = h
+still_refers old new to (Truth a) more h = h
+still_refers old new to (Bits a) more h = h
+still_refers old new to (Reference n) more h = more (to, n) h
+
+still_stands : (old new : Records) (k : ItemKind) (v : Value) → ((p : Place) → is_some (get old p) ≡ true → is_some (get new p) ≡ true) → link_stands old k v ≡ true → link_stands new k v ≡ true
+still_stands old new (Alpha n) v more h = h
+still_stands old new (Decimal n m k) v more h = h
+still_stands old new OneBit v more h = h
+still_stands old new (Field n) v more h = h
+still_stands old new (Link to counted) v more h = still_refers old new to v more h
+
+pub links_still : (old new : Records) (is : List Item) (vs : List Value) → ((p : Place) → is_some (get old p) ≡ true → is_some (get new p) ≡ true) → links_stand old is vs ≡ true → links_stand new is vs ≡ true
+links_still old new [] vs more h = refl
+links_still old new (i ∷ is) [] more h = refl
+links_still old new (i ∷ is) (v ∷ vs) more h =
+    let both = both_of (link_stands old i.kind v) (links_stand old is vs) h in
+    (λ j. still_stands old new i.kind v more both.0 j && links_still old new is vs more both.1 j)
+
 -- ---- the records
 
 -- what is asked of a description: its structures are numbered, and items and POPULATION are such as a schema can declare
@@ -110,7 +137,7 @@ pub record IsFormed (desc : Described) : Type 0 where
   pub kinds : AllByRecursion (λ s. AreKinds s.items) desc.structures
   pub populations : AllByRecursion (λ s. s.population < 2 ^ 32) desc.structures
 
--- A record of a database that blocks spell: it is of a data set, its number is one from 1 to POPULATION, and its slot fits and counts as the database does.
+-- A record of a database that blocks spell: it is of a data set, its number is one from 1 to POPULATION, what its links refer to exists, and its slot fits and counts as the database does.
 pub record RecordStands (desc : Described) (db : Db) (place : Place) (rec : Record) : Type 0 where
   pub shape : Shape
   pub slot : Slot
@@ -123,6 +150,7 @@ pub record RecordStands (desc : Described) (db : Db) (place : Place) (rec : Reco
   pub fits : SlotFits shape slot
   pub kinds : AreKinds shape.items
   pub owner : owner_stands db.records shape.owner rec.owner ≡ true
+  pub links : links_stand db.records shape.items rec.values ≡ true
   pub counted : slot.counted ≡ counted_in desc db place.0 place.1
   pub owned : slot.owned ≡ owned_in desc db place.0 place.1
 
@@ -160,8 +188,9 @@ file_fits s (b ∷ bs) = all_append (UsedFits s) (slots_in s b) (slots_of s bs) 
 module _ (desc : Described) (db : Db) (s : Shape) (is : structure_of desc s.number ≡ Some s) (data_set : is_data_set (Some s) ≡ true) (kinds : AreKinds s.items) (small : s.population < 2 ^ 32) where
   slot_record : (n : ℕ) (slot : Slot) → 1 ≤ n → SlotFits s slot → slot_stands desc db s n (Used slot) ≡ true → RecordStands desc db (s.number, n) slot.rec
   slot_record n slot low fits h =
-      let two = both_of (nat_le n s.population && owner_stands db.records s.owner slot.rec.owner) ((slot.counted == counted_in desc db s.number n) && (slot.owned == owned_in desc db s.number n)) h in
-      let place = both_of (nat_le n s.population) (owner_stands db.records s.owner slot.rec.owner) two.0 in
+      let two = both_of (nat_le n s.population && (owner_stands db.records s.owner slot.rec.owner && links_stand db.records s.items slot.rec.values)) ((slot.counted == counted_in desc db s.number n) && (slot.owned == owned_in desc db s.number n)) h in
+      let place = both_of (nat_le n s.population) (owner_stands db.records s.owner slot.rec.owner && links_stand db.records s.items slot.rec.values) two.0 in
+      let refers = both_of (owner_stands db.records s.owner slot.rec.owner) (links_stand db.records s.items slot.rec.values) place.1 in
       let counts = both_of (slot.counted == counted_in desc db s.number n) (slot.owned == owned_in desc db s.number n) two.1 in
       record {
         shape = s;
@@ -174,7 +203,8 @@ module _ (desc : Described) (db : Db) (s : Shape) (is : structure_of desc s.numb
         same = refl;
         fits = fits;
         kinds = kinds;
-        owner = place.1;
+        owner = refers.0;
+        links = refers.1;
         counted = grind (arith, nat_tests, counts.0);
         owned = grind (arith, nat_tests, counts.1);
       }

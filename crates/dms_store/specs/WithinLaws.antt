@@ -24,13 +24,14 @@ use Rattle.dms_sets.specs.Tests.{both_of}
 use Rattle.dms_slots.specs.SlotBlocks.{slot_opt}
 use Rattle.dms_store.specs.Finding.{slot_record}
 use Rattle.dms_store.specs.Scans.{IsRecordSpot, first_used, last_used, owned_spot, spot, stop_of}
-use Rattle.dms_store.specs.Spelled.{counted_in, owned_in, slot_stands, slots_stand}
+use Rattle.dms_store.specs.Spelled.{counted_in, links_stand, owned_in, slot_stands, slots_stand}
 
 module _ (desc : Described) (db : Db) (s : Shape) where
   low_number : (n : ℕ) (slot : Slot) → slot_stands desc db s n (Used slot) ≡ true → n ≤ s.population
   low_number n slot h =
-      let two = both_of (nat_le n s.population && owner_stands db.records s.owner slot.rec.owner) ((slot.counted == counted_in desc db s.number n) && (slot.owned == owned_in desc db s.number n)) h in
-      let one = both_of (nat_le n s.population) (owner_stands db.records s.owner slot.rec.owner) two.0 in
+      let stands = owner_stands db.records s.owner slot.rec.owner && links_stand db.records s.items slot.rec.values in
+      let two = both_of (nat_le n s.population && stands) ((slot.counted == counted_in desc db s.number n) && (slot.owned == owned_in desc db s.number n)) h in
+      let one = both_of (nat_le n s.population) stands two.0 in
       grind (arith, nat_tests, one.0)
 
   rest_stands : (n : ℕ) (r : SlotRead) (rs : List SlotRead) → slots_stand desc db s n (r ∷ rs) ≡ true → slots_stand desc db s (n + 1) rs ≡ true

@@ -1,0 +1,47 @@
+use Rattle.std.proofs.Common.{ℕ, ◌≡◌, ◌+◌, ◌<◌, ◌∙◌, List, Bool, Some, IsTrue, length, ap, sym, subst, arith}
+use Rattle.std.specs.Prelude.{not}
+use Rattle.std.specs.declared.option.Option.{Option}
+use Rattle.std.proofs.lemmas.Result.{on_ok_weaker}
+use Rattle.dms_block.specs.declared.block_fault.BlockFault.TheVariants.{Damaged}
+use Rattle.dms_block.specs.View.{seen_counts, under}
+use Rattle.dms_ordlist.specs.Lists.{with_entry, without, has_entry, first_from, last_to}
+use Rattle.dms_ordlist.specs.Seen.{IsWidth, NoList}
+use Rattle.dms_sets.specs.Keeping.{file_of}
+use Rattle.dms_sets.specs.KeepingLaws.{answer_of, below_long, below_write, calm_write, fails_long, fails_write, only_after, roomy_after, usable_write}
+use Rattle.dms_sets.proofs.keeping.OverlayLists.remove.Goals as goal
+
+pub returns-then-count-gt1048576-clause-fails : goal.returns-then-count-gt1048576-clause-fails
+returns-then-count-gt1048576-clause-fails g c = fails_long g.met.B.Blocks.same_again c.file_of-file.result 0 c.args.self.now
+
+pub returns-then-count-gt1048576-clause-below : goal.returns-then-count-gt1048576-clause-below
+returns-then-count-gt1048576-clause-below g c =
+    let a = c.args.self.now in
+    let long : 1048576 < seen_counts a c.file_of-file.result = omega (arith, c.count.ensures, c.if-count-gt1048576.true) in
+    below_long c.args.structure (length c.args.entry.now) c.file_of-file.result (Damaged c.file_of-file.result 0) a c.file_of-file.ensures (g.met.B.Blocks.agrees a.below c.requires.usable.0) long
+
+pub remove-requires-clause-owned : goal.remove-requires-clause-owned
+remove-requires-clause-owned g c = subst (λ f. IsTrue ((under c.args.self.now).owns f)) (sym c.file_of-file.ensures) c.requires.usable.1
+
+pub returns-clause-answer : goal.returns-clause-answer
+returns-clause-answer g c = answer_of c.args.structure (length c.args.entry.now) c.file_of-file.result (λ (b : Bool) xs. b ≡ has_entry c.args.entry.now xs) c.remove.result c.args.self.now c.file_of-file.ensures c.remove.ensures.answer
+
+pub returns-clause-list : goal.returns-clause-list
+returns-clause-list g c =
+    let a = c.args.self.now in
+    let b = c.remove.new.over in
+    only_after (without c.args.entry.now) c.args.structure (length c.args.entry.now) c.file_of-file.result a b c.file_of-file.ensures (g.met.B.Blocks.agrees a.below c.requires.usable.0) (λ sound. g.met.B.Blocks.agrees b.below sound)
+    (1 + seen_counts c.args.self.now c.file_of-file.result) c.remove.result c.remove.ensures.writes c.remove.ensures.list c.remove.ensures.counts c.remove.ensures.others
+
+pub returns-clause-usable : goal.returns-clause-usable
+returns-clause-usable g c = usable_write (1 + seen_counts c.args.self.now c.file_of-file.result) 3 c.remove.result c.args.self.now c.remove.new.over c.remove.ensures.writes
+
+pub returns-clause-calm : goal.returns-clause-calm
+returns-clause-calm g c =
+    calm_write c.args.structure (1 + seen_counts c.args.self.now c.file_of-file.result) c.file_of-file.result (NoList c.args.self.now c.file_of-file.result (length c.args.entry.now)) c.remove.result c.args.self.now c.remove.new.over c.file_of-file.ensures c.remove.ensures.writes c.remove.ensures.causes c.remove.ensures.others
+    (on_ok_weaker c.remove.result (λ same h off. ap (λ (k : ℕ → ℕ). k h) same) c.remove.ensures.counts)
+
+pub returns-clause-fails : goal.returns-clause-fails
+returns-clause-fails g c = fails_write (1 + seen_counts c.args.self.now c.file_of-file.result) (NoList c.args.self.now c.file_of-file.result (length c.args.entry.now)) c.remove.result c.args.self.now c.remove.new.over c.remove.ensures.writes c.remove.ensures.causes
+
+pub returns-clause-below : goal.returns-clause-below
+returns-clause-below g c = below_write c.args.structure (length c.args.entry.now) c.file_of-file.result c.remove.result c.args.self.now c.remove.new.over c.file_of-file.ensures c.remove.ensures.causes

@@ -1,0 +1,53 @@
+-- The ordered lists of structures as they are seen through an overlay, each in its structure's file.
+use Rattle.std.specs.Prelude.{ℕ, ◌+◌, ◌*◌, ◌≤◌, ◌≡◌, ◌&&◌, Bool, false, IsTrue, List, None, if◌then◌else◌, length, nat_le}
+use Rattle.std.specs.declared.option.Option.{Option}
+use Rattle.std.specs.declared.result.Result.TheVariants.{Ok, Err}
+use Rattle.dms_block.specs.declared.block_fault.BlockFault.{BlockFault}
+use Rattle.dms_block.specs.declared.blocks.Blocks.{Ghosts}
+use Rattle.dms_block.specs.declared.overlay.Overlay.{Overlay}
+use Rattle.dms_block.specs.Held.{HasCausesOr, Looks}
+use Rattle.dms_block.specs.View.{seen, seen_counts, under, written}
+use Rattle.dms_ordlist.specs.ListIn.{list_in}
+
+-- the file of a structure
+abbrev pub file_of : ℕ → ℕ
+file_of number = 30000 + number
+
+-- the list of a file, where the content is told; a list has at most 1,048,576 blocks
+abbrev pub list_told : Bool → ℕ → List (List ℕ) → Option (List (List ℕ))
+list_told told width bs = if told && nat_le (length bs) 1048576 then list_in width bs else None
+
+module _ {B : Type 0} {g : Ghosts B} where
+  abbrev pub listed : Overlay B g → ℕ → ℕ → Option (List (List ℕ))
+  listed o n width = list_told (under o).told width (seen o (file_of n))
+
+  -- the blocks below are usable, and the file of the structure is theirs
+  abbrev pub Usable : Overlay B g → ℕ → Type 0
+  Usable o n = (under o).sound × IsTrue ((under o).owns (file_of n))
+
+  -- the file of a structure is as it was
+  abbrev pub FileStays : ℕ → Overlay B g → Overlay B g → Type 0
+  FileStays n a b = (seen_counts b (file_of n) ≡ seen_counts a (file_of n)) × (IsTrue (under a).told → seen b (file_of n) ≡ seen a (file_of n))
+
+-- Calls on the lists of these structures that didn't fail: the blocks below were only read, each call wrote three blocks at most, and
+-- the files of all other structures are as they were.
+pub record Calm {B : Type 0} {g : Ghosts B} (p : ℕ → Bool) (n : ℕ) (a b : Overlay B g) : Type 0 where
+  pub told : (under b).told ≡ (under a).told
+  pub faults : (under b).faults ≡ (under a).faults
+  pub reads : ℕ
+  pub looks : (under a).sound → Looks {T = Unit {0}} reads (Ok tt) (under a) (under b)
+  pub more : length (written b) ≤ length (written a) + 3 * n
+  pub same : g.same_blocks a.below b.below
+  pub others : (m : ℕ) → p m ≡ false → FileStays m a b
+
+-- Calls of which the last one failed: the blocks below were only read, and the fault is theirs, or was found in a list.
+pub record Fails {B : Type 0} {g : Ghosts B} (e : BlockFault) (n : ℕ) (a b : Overlay B g) : Type 0 where
+  pub reads : ℕ
+  pub looks : (under a).sound → Looks {T = Unit {0}} reads (Err e) (under a) (under b)
+  pub causes : (under a).sound → HasCausesOr {T = Unit {0}} (λ f k. Unit {0}) (Err e) (under a) (under b)
+  pub more : length (written b) ≤ length (written a) + 3 * n
+  pub same : g.same_blocks a.below b.below
+
+-- the fault is that of the blocks below
+abbrev pub FromBelow : {B : Type 0} {g : Ghosts B} → BlockFault → Overlay B g → Overlay B g → Type 0
+FromBelow e a b = (under a).sound → HasCausesOr {T = Unit {0}} (λ f k. ⊥) (Err e) (under a) (under b)

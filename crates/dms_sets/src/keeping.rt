@@ -1,0 +1,77 @@
+ghost use Rattle.std.specs.Prelude.{◌≡◌};
+ghost use Rattle.dms_sets.specs.Keeping.{Calm, Fails, FromBelow, Usable, file_of, listed};
+ghost use Rattle.dms_sets.specs.KeepingLaws as laws;
+
+use crate::Lists;
+use dms_base::Bytes;
+use dms_block::{BlockFault, Blocks, Overlay};
+use std::alloc::Global;
+
+/// The file of a structure.
+fn file_of(structure: u16) -> u32
+    ensures { result ≡ file_of structure }
+{
+    30_000 + u32::from(structure)
+}
+
+/// Ordered lists, each in the file of its structure, as they are seen through an overlay. A file of more than
+/// 1,048,576 blocks is no list.
+impl<B: Blocks> Lists for Overlay<B> {
+    ghost listed = { λ o n w. listed o n w };
+
+    ghost usable = { λ o n. Usable o n };
+
+    ghost calm = { λ p n a b. Calm p n a b };
+
+    ghost fails = { λ e n a b. Fails e n a b };
+
+    ghost below = { λ e a b. FromBelow e a b };
+
+    ghost calm_none = { λ p n s. laws.calm_none B.Blocks.same_again p n s };
+
+    ghost fails_memory = { λ n s. laws.fails_memory B.Blocks.same_again n s };
+
+    ghost below_memory = { λ s. laws.below_memory s };
+
+    ghost calm_then = { λ p m n a b c one two. laws.calm_then B.Blocks.same_then p m n a b c one two };
+
+    ghost fails_then = { λ e p m n a b c one two. laws.fails_then B.Blocks.same_then e p m n a b c one two };
+
+    ghost below_then = { λ e p m a b c one two. laws.below_then e p m a b c one two };
+
+    ghost calm_wider = { λ p q n a b wider h. laws.calm_wider p q n a b wider h };
+
+    fn insert(&mut self, alloc: Global, structure: u16, entry: &[u8]) -> Result<bool, BlockFault> {
+        let file = file_of(structure);
+        if self.count(file) > 1_048_576 {
+            return Err(BlockFault::Damaged(file, 0));
+        }
+        dms_ordlist::insert(self, alloc, file, entry)
+    }
+
+    fn remove(&mut self, alloc: Global, structure: u16, entry: &[u8]) -> Result<bool, BlockFault> {
+        let file = file_of(structure);
+        if self.count(file) > 1_048_576 {
+            return Err(BlockFault::Damaged(file, 0));
+        }
+        dms_ordlist::remove(self, alloc, file, entry)
+    }
+
+    fn first_from(
+        &mut self,
+        alloc: Global,
+        structure: u16,
+        from: &[u8],
+    ) -> Result<Option<Bytes>, BlockFault> {
+        dms_ordlist::first_from(self, alloc, file_of(structure), from)
+    }
+
+    fn last_to(
+        &mut self,
+        alloc: Global,
+        structure: u16,
+        to: &[u8],
+    ) -> Result<Option<Bytes>, BlockFault> {
+        dms_ordlist::last_to(self, alloc, file_of(structure), to)
+    }
+}
