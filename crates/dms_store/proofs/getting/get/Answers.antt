@@ -41,7 +41,7 @@ returns-in-Ok-clause-found g c =
     let o = c.args.over.now in
     let s = shape_of c.in-Some.s.now in
     let at : structure_of desc c.args.set ≡ Some s = sym c.structure.ensures ∙ ap (λ (o : Option (Bor Structure)). option_map shape_of (option_copied o)) c.in-Some.is in
-    tells_if desc (under o).told (under o).content (λ d. get d.records (c.args.set, c.args.number)) c.record_of.result (λ told spelt.
+    tells_if (under o).told desc (under o).content (λ d. get d.records (c.args.set, c.args.number)) c.record_of.result (λ told spelt.
     let same : seen o ≡ (under o).content = seen_below o c.requires.usable.none in
     c.record_of.ensures
     ∙ got desc (under o).content c.args.set c.args.number s c.in-Ok.slot c.requires.usable.serves.served at (set_if desc c.args.set s at c.requires.set) (low_number desc c.args.set c.args.number c.requires.number)
