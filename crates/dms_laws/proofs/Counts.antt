@@ -1,4 +1,4 @@
--- How many records a data set has after one was stored, and how large a new record's number is.
+-- How many records a data set has after one was stored.
 use Rattle.std.proofs.Common.{◌≡◌, ◌≤◌, ◌+◌, ℕ, suc, List, [], ◌∷◌, Bool, true, false, cond, eqb, Some, refl, sym, ap, ◌∙◌, subst, length, arith, ◌&&◌}
 use Rattle.std.specs.Prelude.{T, nat_lt, is_some, ◌==◌}
 use Rattle.std.specs.declared.option.Option.{Option}
@@ -8,8 +8,8 @@ use Rattle.std.specs.declared.cmp.Ordering.{Ordering}
 use Rattle.std.specs.declared.cmp.Ordering.TheVariants.{Less, Equal, Greater}
 use Rattle.std.specs.Ordering.{is_eq}
 use Rattle.dms_desc.specs.declared.record.Record.{Record}
-use Rattle.dms_model.specs.Db.{Records, Place, place_cmp, rows_of, records_of, gap_from, fresh}
-use Rattle.dms_laws.proofs.Places.{places_total}
+use Rattle.dms_model.specs.Db.{Records, Place, place_cmp, rows_of, records_of}
+use Rattle.dms_model.specs.Places.{places_total}
 
 abbrev one_if : Bool → ℕ
 one_if b = cond b 1 0
@@ -66,17 +66,3 @@ pub count_replace : (m : Records) (n : ℕ) (k : Place) (v : Record) → is_some
 count_replace m n k v some =
     ap (λ (es : List (Place × Record)). length (rows_of n es)) (entries-insert places_total m k v)
     ∙ count_put_old n k v (entries m) (entries_sorted m) (ap is_some (sym (get-entries m k)) ∙ some)
-
-gap_at : (a b : Bool) (n : ℕ) (r : ℕ × Record) (rs : List (ℕ × Record)) → gap_from (n + 1) rs ≤ n + 1 + length rs → gap_from n rs ≤ n + length rs
-    → cond a (gap_from (n + 1) rs) (cond b (gap_from n rs) n) ≤ n + suc (length rs)
-gap_at true b n r rs h k = omega (arith, h)
-gap_at false true n r rs h k = omega (arith, k)
-gap_at false false n r rs h k = omega arith
-
-gap_below : (n : ℕ) (rs : List (ℕ × Record)) → gap_from n rs ≤ n + length rs
-gap_below n [] = omega arith
-gap_below n (r ∷ rs) = gap_at (eqb n r.0) (nat_lt r.0 n) n r rs (gap_below (n + 1) rs) (gap_below n rs)
-
--- a new record's number is not above one more than the records of its data set
-pub fresh_below : (m : Records) (set : ℕ) → fresh m set ≤ 1 + length (records_of m set)
-fresh_below m set = gap_below 1 (records_of m set)

@@ -1,6 +1,6 @@
 -- A member that a path finds is a record of the database.
 use Rattle.std.proofs.Common.{sym, ◌≡◌, ℕ, List, [], ◌∷◌, Bool, true, false, cond, Some, None, refl, ap, ◌∙◌, ◌&&◌, arith}
-use Rattle.std.specs.Prelude.{T, ◌==◌, eqb}
+use Rattle.std.specs.Prelude.{IfSome}
 use Rattle.std.specs.List.{AllByRecursion}
 use Rattle.std.specs.declared.option.Option.{Option}
 use Rattle.std.specs.FinMap.{get, get-entries, find, entries, entries_sorted, is_sorted}
@@ -25,113 +25,8 @@ use Rattle.dms_desc.specs.Sorted.{place_in, sorted, first, last, or_else}
 use Rattle.dms_model.specs.Members.{belongs, spot_of, spots_of, members, is_before, first_of, last_of, at_of, first_member, last_member, at_member, is_after_bound, is_before_bound, agrees}
 use Rattle.dms_model.specs.Session.{found_by, at_values, key_values, path_of}
 use Rattle.dms_model.specs.Valid.{IsValid, HaveOwnKeys, is_set, equal_keys, share_owner}
-use Rattle.dms_laws.proofs.Places.{places_total, itself}
-use Rattle.dms_laws.proofs.Lists.{all_both}
-
-first_true : (a b : Bool) → T (a && b) → T a
-first_true true b p = tt
-first_true false b p = absurd p
-
-second_true : (a b : Bool) → T (a && b) → T b
-second_true true b p = p
-second_true false b p = absurd p
-
-not_tied : (o : Ordering) → T (is_lt o) → is_eq (ordering_reverse o) ≡ false
-not_tied Less h = refl
-not_tied Equal h = absurd h
-not_tied Greater h = absurd h
-
-abbrev IsAbove : Place → Place × Record → Type 0
-IsAbove k x = T (is_lt (place_cmp k x.0))
-
-all_below : (k : Place) (es : List (Place × Record)) → T (below_all place_cmp k es) → AllByRecursion (IsAbove k) es
-all_below k [] h = tt
-all_below k (e ∷ es) h = (first_true (is_lt (place_cmp k e.0)) (below_all place_cmp k es) h, all_below k es (second_true (is_lt (place_cmp k e.0)) (below_all place_cmp k es) h))
-
-abbrev FoundIn : List (Place × Record) → Place × Record → Type 0
-FoundIn all x = find place_cmp x.0 all ≡ Some x.1
-
-found_behind : (e : Place × Record) (es : List (Place × Record)) (x : Place × Record) → IsAbove e.0 x → FoundIn es x → FoundIn (e ∷ es) x
-found_behind e es x above h =
-    ap (λ (b : Bool). cond b (Some e.1) (find place_cmp x.0 es)) (ap is_eq (places_total.antisymm x.0 e.0) ∙ not_tied (place_cmp e.0 x.0) above) ∙ h
-
--- each entry of a map is found at its place
-all_found : (es : List (Place × Record)) → T (is_sorted place_cmp es) → AllByRecursion (FoundIn es) es
-all_found [] order = tt
-all_found (e ∷ es) order =
-    let later = second_true (below_all place_cmp e.0 es) (is_sorted place_cmp es) order in (
-      ap (λ (b : Bool). cond b (Some e.1) (find place_cmp e.0 es)) (itself e.0),
-      all_both (FoundIn (e ∷ es)) es (found_behind e es) (all_below e.0 es (first_true (below_all place_cmp e.0 es) (is_sorted place_cmp es) order)) (all_found es later),
-    )
-
--- the spot is a record of a data set
-abbrev pub IsRecordOf : Records → ℕ → Spot → Type 0
-IsRecordOf records set r = get records (set, r.number) ≡ Some r.rec
-
--- the spot is a record that belongs to the structure for an owner, with its key
-pub record IsSpotOf (m : Records) (s : Shape) (manual : List Entry) (owner : ℕ) (x : Spot) : Type 0 where
-  pub stand : IsRecordOf m (over s) x
-  pub belong : belongs s manual owner ((over s, x.number), x.rec) ≡ true
-  pub key : x.key ≡ key_of s.parts x.rec.values
-
-set_here : (s : Shape) (n : ℕ) (a b : Bool) → eqb (over s) n ≡ a → (a && b) ≡ true → over s ≡ n
-set_here s n true b h k = grind (arith, nat_tests, h)
-set_here s n false b h k = absurd (cc)
-
-module _ (m : Records) (s : Shape) (manual : List Entry) (owner : ℕ) where
-  spot_at : (b : Bool) (e : Place × Record) (xs : List Spot) → belongs s manual owner e ≡ b → FoundIn (entries m) e → AllByRecursion (IsSpotOf m s manual owner) xs → AllByRecursion (IsSpotOf m s manual owner) (cond b (spot_of s.parts e ∷ xs) xs)
-  spot_at true e xs is found rest =
-      let here : over s ≡ e.0.0 = set_here s e.0.0 (over s == e.0.0) _ refl is in (
-        record {
-          stand = get-entries m (over s, e.0.1) ∙ ap (λ (n : ℕ). find place_cmp (n, e.0.1) (entries m)) here ∙ found;
-          belong = ap (λ (n : ℕ). belongs s manual owner ((n, e.0.1), e.1)) here ∙ is;
-          key = refl;
-        },
-        rest,
-      )
-  spot_at false e xs is found rest = rest
-
-  spots_stand : (es : List (Place × Record)) → AllByRecursion (FoundIn (entries m)) es → AllByRecursion (IsSpotOf m s manual owner) (spots_of s manual owner es)
-  spots_stand [] found = tt
-  spots_stand (e ∷ es) found = spot_at (belongs s manual owner e) e (spots_of s manual owner es) refl found.0 (spots_stand es found.1)
-
-module _ {A : Type 0} (P : A → Type 0) (less : A → A → Bool) where
-  placed_at : (b : Bool) (x y : A) (ys zs : List A) → P x → P y → AllByRecursion P ys → AllByRecursion P zs → AllByRecursion P (cond b (x ∷ y ∷ ys) (y ∷ zs))
-  placed_at true x y ys zs h k all more = (h, (k, all))
-  placed_at false x y ys zs h k all more = (k, more)
-
-  all_placed : (x : A) (ys : List A) → P x → AllByRecursion P ys → AllByRecursion P (place_in less x ys)
-  all_placed x [] h all = (h, tt)
-  all_placed x (y ∷ ys) h all = placed_at (less x y) x y ys (place_in less x ys) h all.0 all.1 (all_placed x ys h all.1)
-
-  all_sorted : (xs : List A) → AllByRecursion P xs → AllByRecursion P (sorted less xs)
-  all_sorted [] all = tt
-  all_sorted (x ∷ xs) all = all_placed x (sorted less xs) all.0 (all_sorted xs all.1)
-
--- it holds of what is there
-abbrev pub IfThere : {A : Type 0} → (A → Type 0) → Option A → Type 0
-IfThere P None = Unit {0}
-IfThere P (Some x) = P x
-
-module _ {A : Type 0} (P : A → Type 0) (p : A → Bool) where
-  there_if : (b : Bool) (x y : Option A) → IfThere P x → IfThere P y → IfThere P (cond b x y)
-  there_if true x y h k = h
-  there_if false x y h k = k
-
-  there_else : (x y : Option A) → IfThere P x → IfThere P y → IfThere P (or_else x y)
-  there_else None y h k = k
-  there_else (Some x) y h k = h
-
-  first_there : (xs : List A) → AllByRecursion P xs → IfThere P (first p xs)
-  first_there [] all = tt
-  first_there (x ∷ xs) all = there_if (p x) (Some x) (first p xs) all.0 (first_there xs all.1)
-
-  last_there : (xs : List A) → AllByRecursion P xs → IfThere P (last p xs)
-  last_there [] all = tt
-  last_there (x ∷ xs) all = there_else (last p xs) (cond (p x) (Some x) None) (last_there xs all.1) (there_if (p x) (Some x) None all.0 tt)
-
-pub members_are : (s : Shape) (db : Db) (owner : ℕ) → AllByRecursion (IsSpotOf db.records s db.entries owner) (members s db owner)
-members_are s db owner = all_sorted (IsSpotOf db.records s db.entries owner) (is_before s.parts) (spots_of s db.entries owner (entries db.records)) (spots_stand db.records s db.entries owner (entries db.records) (all_found (entries db.records) (entries_sorted db.records)))
+use Rattle.dms_model.specs.Places.{places_total, itself}
+use Rattle.dms_model.specs.Founds.{all_both, first_there, last_there, members_are, IsRecordOf, IsSpotOf}
 
 members_stand : (s : Shape) (db : Db) (owner : ℕ) → AllByRecursion (IsRecordOf db.records (over s)) (members s db owner)
 members_stand s db owner =
@@ -139,7 +34,7 @@ members_stand s db owner =
     all_both {P = IsSpotOf db.records s db.entries owner} {Q = IsSpotOf db.records s db.entries owner} (IsRecordOf db.records (over s)) (members s db owner) (λ x h k. h.stand) all all
 
 abbrev pub Stands : Db → ℕ → Option Spot → Type 0
-Stands db set o = IfThere (IsRecordOf db.records set) o
+Stands db set o = IfSome o (IsRecordOf db.records set)
 
 first_stands : (o : Option Shape) (db : Db) (owner : ℕ) (from : Bound) → Stands db (over_of o) (first_of o db owner from)
 first_stands None db owner from = tt

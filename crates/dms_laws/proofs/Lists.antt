@@ -7,16 +7,11 @@ use Rattle.std.proofs.lemmas.Slice.Eq.{bytes_eq-Decides}
 use Rattle.dms_model.specs.declared.program.Program.{Program}
 use Rattle.dms_model.specs.Db.{Place}
 use Rattle.dms_model.specs.Session.{place_of, without}
+use Rattle.dms_model.specs.Founds.{all_both}
 use Rattle.dms_laws.specs.Exclusive.{AreApart, AreAllApart, locks_it}
 
 pub flipped : (p q : Program) → AreApart p q → AreApart q p
 flipped p q h = record { names = λ e. h.names (sym e); locks = λ place a b. h.locks place b a }
-
-module _ {A : Type 0} {P Q : A → Type 0} (R : A → Type 0) where
-  -- what follows of each, with what holds of each
-  pub all_both : (ps : List A) → ((x : A) → P x → Q x → R x) → AllByRecursion P ps → AllByRecursion Q ps → AllByRecursion R ps
-  all_both [] f a b = tt
-  all_both (x ∷ ps) f a b = (f x a.0 b.0, all_both ps f a.1 b.1)
 
 module _ {A : Type 0} {P : A → Type 0} (R : A → Type 0) (g : A → A) where
   pub all_mapped : (ps : List A) → ((x : A) → P x → R (g x)) → AllByRecursion P ps → AllByRecursion R (map g ps)

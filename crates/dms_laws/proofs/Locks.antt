@@ -26,9 +26,10 @@ use Rattle.dms_model.specs.Stores.{put_answer, put_unless, put_number, is_full, 
 use Rattle.dms_model.specs.Session.{Session, Outcome, Kept, Refused, Keeps, Filled, Misfit, Values', refuse, done, shows, settle, keep, store_step, after_store, begin_step, after_begin, begin_unless, awaited, end_step, after_end, abort_step, find_step, after_find, found_by, create_step, put_step, put_area, after_put, filled, get_step, get_area, close_step, open_as, open_step, verb_step, step_at, step, with_program, with_work, with_lock, work_of, restart_of, someone_works, is_inquiry, opens, changes, path_of, new_program, place_of, carried, entered, left, without, idle, backed_out, found_program, stored_program, let_go, is_lock, is_elsewhere, area_kept, kept_unless, put_kept, missing_from, verified, area_values, area_number, record_of, is_free, one_more, with_values}
 use Rattle.dms_laws.specs.Exclusive.{AreApart, AreAllApart, AreSafe, AreExclusive, IsExclusive, locks_it, is_locked_for, backs_out, is_done, LocksStayExclusive, LosesNoUpdate, LeavesLocks, BacksOut, locks_left}
 use Rattle.dms_laws.specs.Runs.{after}
-use Rattle.dms_laws.proofs.Places.{get_other, stands_still, stands_there}
-use Rattle.dms_laws.proofs.Fresh.{fresh_free}
-use Rattle.dms_laws.proofs.Lists.{all_at, all_changed, all_mapped, all_pushed, all_without, all_both, apart_changed, apart_pushed, apart_mapped, apart_without, named_so, none_named, any_changed, any_pushed, any_without, any_mapped, of_lock}
+use Rattle.dms_model.specs.Places.{get_other, stands_still, stands_there}
+use Rattle.dms_model.specs.Founds.{all_both}
+use Rattle.dms_model.specs.Fresh.{fresh_free}
+use Rattle.dms_laws.proofs.Lists.{all_at, all_changed, all_mapped, all_pushed, all_without, apart_changed, apart_pushed, apart_mapped, apart_without, named_so, none_named, any_changed, any_pushed, any_without, any_mapped, of_lock}
 
 -- tests of locks
 
@@ -234,9 +235,10 @@ module _ (s : Session) (i : ℕ) (p : Program) (name : List ℕ) (at : slice_get
   kept_if true x y h k = h refl
   kept_if false x y h k = k
 
-  put_old : (desc : Described) (c : Option ℕ) (set number : ℕ) (a : Area) → locks_it p (set, number) ≡ true → KeptMoves (put_kept (put_unless c (Stored number)) desc p s.db set a)
-  put_old desc None set number a l = stored_moves desc set number a (λ no. absurd (cc))
-  put_old desc (Some d) set number a l = tt
+  put_old : (desc : Described) (c : Option ℕ) (b : Bool) (set number : ℕ) (a : Area) → locks_it p (set, number) ≡ true → KeptMoves (put_kept (put_unless c (cond b (Stored number) Full)) desc p s.db set a)
+  put_old desc None true set number a l = stored_moves desc set number a (λ no. absurd (cc))
+  put_old desc None false set number a l = tt
+  put_old desc (Some d) b set number a l = tt
 
   put_new_at : (desc : Described) (b : Bool) (set : ℕ) (a : Area) → KeptMoves (put_kept (cond b Full (Stored (fresh s.db.records set))) desc p s.db set a)
   put_new_at desc true set a = tt
@@ -250,7 +252,7 @@ module _ (s : Session) (i : ℕ) (p : Program) (name : List ℕ) (at : slice_get
   unfolding put_answer
   put_moves desc set (New values owner) current free = put_new desc (clash desc.structures s.db set None (stored desc s.db set None (record { owner = owner; values = values }))) set (New values owner)
   put_moves desc set (Old values) None free = absurd (cc)
-  put_moves desc set (Old values) (Some n) free = put_old desc (clash desc.structures s.db set (Some n) (stored desc s.db set (Some n) (record { owner = 0; values = values }))) set n (Old values) free
+  put_moves desc set (Old values) (Some n) free = put_old desc (clash desc.structures s.db set (Some n) (stored desc s.db set (Some n) (record { owner = 0; values = values }))) (is_some (get s.db.records (set, n))) set n (Old values) free
 
   unless_moves : (o : Option (List ℕ)) (desc : Described) (set : ℕ) (a : Area) (current : Option ℕ) → is_free a p set current ≡ true → KeptMoves (kept_unless o desc p s.db set a current)
   unless_moves (Some item) desc set a current free = tt

@@ -35,15 +35,17 @@ use Rattle.dms_model.specs.Spoken.{IsOuter, IsPlainLiteral}
 use Rattle.dms_model.specs.Valid.{OfItems, IsValid, is_data_set, is_set, link_stands}
 use Rattle.dms_laws.specs.Made.{IsWellMade, items_under, compares_no_link, has_no_link}
 use Rattle.dms_laws.specs.Runs.{after}
-use Rattle.dms_laws.specs.Sound.{AllNameOuter, IsSound, NamesOuter, IsFlat, AreFitting, AreaFits, AreasFit, StaysSound}
-use Rattle.dms_laws.proofs.Counts.{count_insert, count_replace, fresh_below}
+use Rattle.dms_laws.specs.Sound.{AllNameOuter, IsSound, NamesOuter, IsFlat, AreaFits, AreasFit, StaysSound}
+use Rattle.dms_laws.proofs.Counts.{count_insert, count_replace}
 use Rattle.dms_laws.proofs.Founds.{Stands, found_stands}
-use Rattle.dms_laws.proofs.Fresh.{fresh_free, fresh_from_one}
+use Rattle.dms_model.specs.Fresh.{fresh_below, fresh_free, fresh_from_one}
 use Rattle.dms_laws.proofs.Lists.{all_at, all_set, all_mapped, all_pushed, all_without}
 use Rattle.dms_laws.proofs.Locks.{locks_stay_exclusive}
 use Rattle.dms_laws.proofs.Points.{step_points}
 use Rattle.dms_laws.proofs.Stored.{MayStand, put_valid, put_flat, own_key}
-use Rattle.dms_laws.proofs.Values.{get_set_other, filled_fits, FilledFits, initial_fits, required_of, linked_fits, linked_agree, of_linked, null_fits, null_stands, other_stands, meets_agree}
+use Rattle.dms_model.specs.Fitting.{AreFitting}
+use Rattle.dms_model.specs.FitLaws.{get_set_other, filled_fits, FilledFits, initial_fits, linked_fits, of_linked, null_fits}
+use Rattle.dms_laws.proofs.Values.{required_of, linked_agree, null_stands, other_stands, meets_agree}
 
 -- what a program has at hand
 
@@ -261,9 +263,10 @@ module _ (desc : Described) (made : IsWellMade desc) (s : Session) (i : ℕ) (p 
         by false e = refl
 
     old_sane : (n : ℕ) (shape : Shape) (old : Record) → structure_of desc set ≡ Some shape → area_owner a ≡ 0 → AreFitting shape.items (area_values a) → get s.db.records (set, n) ≡ Some old
-        → (c : Option ℕ) → clash desc.structures s.db set (Some n) (stored desc s.db set (Some n) (record_of a)) ≡ c → KeptSane desc (put_kept (put_unless c (Stored n)) desc p s.db set a)
-    old_sane n shape old here owner values was (Some d) clear = tt
-    old_sane n shape old here owner values was None clear =
+        → (c : Option ℕ) → clash desc.structures s.db set (Some n) (stored desc s.db set (Some n) (record_of a)) ≡ c → (b : Bool) → KeptSane desc (put_kept (put_unless c (cond b (Stored n) Full)) desc p s.db set a)
+    old_sane n shape old here owner values was (Some d) clear b = tt
+    old_sane n shape old here owner values was None clear false = tt
+    old_sane n shape old here owner values was None clear true =
         let kind = ap is_data_set (sym here) ∙ sane.valid.sets (set, n) old was in
         let outer : IsOuter (Some shape) = record { data_set = kind; disjoint = sane.flat.disjoint (set, n) old shape was here } in
         let same = count_replace s.db.records set (set, n) (put_record set n a shape) (ap is_some was) in
@@ -304,8 +307,8 @@ module _ (desc : Described) (made : IsWellMade desc) (s : Session) (i : ℕ) (p 
           new_sane set (New values owner) none met shape here fits.0 fits.1.0 fits.1.1 c clear (nat_le shape.population (length (records_of s.db.records set))) refl
   put_sane set (Old values) None has free none met = absurd (cc)
   put_sane set (Old values) (Some n) has free none met =
-      locked_old set n free (KeptSane desc (put_kept (put_unless (clash desc.structures s.db set (Some n) (stored desc s.db set (Some n) (record { owner = 0; values = values }))) (Stored n)) desc p s.db set (Old values)))
-      (λ old shape was here. old_sane set (Old values) none met n shape old here refl (area_of set shape (Some (Old values)) here has) was (clash desc.structures s.db set (Some n) (stored desc s.db set (Some n) (record { owner = 0; values = values }))) refl)
+      locked_old set n free (KeptSane desc (put_kept (put_unless (clash desc.structures s.db set (Some n) (stored desc s.db set (Some n) (record { owner = 0; values = values }))) (cond (is_some (get s.db.records (set, n))) (Stored n) Full)) desc p s.db set (Old values)))
+      (λ old shape was here. old_sane set (Old values) none met n shape old here refl (area_of set shape (Some (Old values)) here has) was (clash desc.structures s.db set (Some n) (stored desc s.db set (Some n) (record { owner = 0; values = values }))) refl (is_some (get s.db.records (set, n))))
 
   unless_sane : (o : Option (List ℕ)) (set : ℕ) (a : Area) (current : Option ℕ) → (work_of p set).area ≡ Some a → is_free a p set current ≡ true → missing_from 0 (items_of (structure_of desc set)) (area_values a) ≡ o
       → KeptSane desc (kept_unless o desc p s.db set a current)

@@ -22,8 +22,9 @@ use Rattle.dms_model.specs.MemberLaws.{key_total}
 use Rattle.dms_model.specs.Stores.{has_equal, is_closed, is_other, clashes, clash}
 use Rattle.dms_model.specs.Spoken.{IsOuter}
 use Rattle.dms_model.specs.Valid.{OfRecords, OfItems, IsValid, EntryStands, value_at, is_data_set, is_set, owner_stands, link_stands, share_owner, equal_keys}
-use Rattle.dms_laws.specs.Sound.{IsFlat, AreFitting}
-use Rattle.dms_laws.proofs.Places.{places_total, place_is, itself}
+use Rattle.dms_laws.specs.Sound.{IsFlat}
+use Rattle.dms_model.specs.Fitting.{AreFitting}
+use Rattle.dms_model.specs.Places.{places_total, place_is, itself}
 use Rattle.dms_laws.proofs.Counts.{count_insert}
 use Rattle.dms_laws.proofs.Values.{link_still}
 

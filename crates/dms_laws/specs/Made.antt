@@ -9,12 +9,8 @@ use Rattle.dms_desc.specs.Plain.{IsPlain}
 use Rattle.dms_desc.specs.Shape.{Shape, Described, Tree, Empty, Test, Both, Either, Contrary}
 use Rattle.dms_desc.specs.Lookups.{structure_of, items_of}
 use Rattle.dms_desc.specs.Kinds.{is_link}
+use Rattle.dms_model.specs.Stores.{is_link_item}
 use Rattle.dms_model.specs.Valid.{is_set}
-
--- there is such an item, and it is a link
-abbrev pub is_link_item : Option Item → Bool
-is_link_item None = false
-is_link_item (Some item) = is_link item.kind
 
 -- no comparison of a condition is of a link
 abbrev pub compares_no_link : List Item → Tree → Bool

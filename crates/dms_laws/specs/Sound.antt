@@ -13,6 +13,7 @@ use Rattle.dms_model.specs.declared.program.Area.TheVariants.{New, Old}
 use Rattle.dms_model.specs.declared.verb.Verb.{Verb}
 use Rattle.dms_model.specs.declared.verb.Verb.TheVariants.{OpenUpdate, OpenInquiry, Close, Find, Create, Put, Get, Store, Begin, End, Abort}
 use Rattle.dms_model.specs.Db.{Db}
+use Rattle.dms_model.specs.Fitting.{AreFitting}
 use Rattle.dms_model.specs.Points.{Quiet}
 use Rattle.dms_desc.specs.Lookups.{structure_of}
 use Rattle.dms_model.specs.Session.{Session, step, work_of, fresh_session}
@@ -38,12 +39,6 @@ NamesOuter desc Abort = ⊤
 pub record IsFlat (desc : Described) (db : Db) : Type 0 where
   pub entries : db.entries ≡ []
   pub disjoint : OfRecords desc db (λ place rec shape. shape.owner ≡ 0)
-
--- values of an area: as many as items, each fits, and each text is one that an item may have
-pub record AreFitting (items : List Item) (values : List Value) : Type 0 where
-  pub lengths : length values ≡ length items
-  pub fit : OfItems items values (λ item v. fits item.kind v ≡ true)
-  pub plain : ArePlain values
 
 -- an area of a data set; a new one is of a disjoint one, and without owner
 abbrev pub AreaFits : Shape → Option Area → Type 0

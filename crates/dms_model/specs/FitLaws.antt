@@ -28,7 +28,7 @@ use Rattle.dms_model.specs.declared.put.Put.{Put}
 use Rattle.dms_model.specs.declared.put.Put.TheVariants.{Stored, Duplicate, Full}
 use Rattle.dms_model.specs.declared.verb.Setting.{Setting}
 use Rattle.dms_model.specs.Db.{Db, Place, Records, fresh, place_cmp, records_of}
-use Rattle.dms_model.specs.Fitting.{AreFitting, IsNumber, is_number, PlaceFits, PutFits, RecordFits, RecordsFit}
+use Rattle.dms_model.specs.Fitting.{AreFitting, IsNumber, is_number, PlaceFits, PutFits, RecordFits, RecordsFit, values_fit}
 use Rattle.dms_model.specs.Fresh.{fresh_below, fresh_from_one}
 use Rattle.dms_model.specs.Places.{place_is, places_total}
 use Rattle.dms_model.specs.Session.{fitted, setting_value, filled, Filled, Misfit, Values', item_name}
@@ -72,7 +72,7 @@ fits_some : (k : ItemKind) (o : Option Value) (v : Value) → IfSome o (λ v. Is
 fits_some k None v h e = absurd (cc)
 fits_some k (Some w) v h e = let is : w ≡ v = cc in subst (λ (x : Value). IsTrue (fits k x)) is h
 
-fitted_fits : (item : Item) (l : Literal) (v : Value) → value_for item.kind l ≡ Some v → fits item.kind v ≡ true
+pub fitted_fits : (item : Item) (l : Literal) (v : Value) → value_for item.kind l ≡ Some v → fits item.kind v ≡ true
 fitted_fits item l v h = fits_some item.kind (value_of item.kind l) v (value_of_fits item.kind l) (value_if (is_kind item.kind && is_literal l) (value_of item.kind l) v h)
 
 of_fitted : (o : Option Item) (item : Item) (l : Literal) (v : Value) → o ≡ Some item → fitted o l ≡ Some v → value_for item.kind l ≡ Some v
@@ -206,13 +206,6 @@ linked_on i items olds (v ∷ vs) zero j is within on =
     kept_on (slice_get items i) (or_null (slice_get olds i)) v (ap (λ (n : ℕ). is_link_item (slice_get items n)) (sym here) ∙ on) ∙ ap (value_at olds) (sym here)
 linked_on i items olds (v ∷ vs) (suc k) j is within on = linked_on (i + 1) items olds vs k j (omega (arith, is)) (omega (arith, within)) on
 
--- the same values but for links
-abbrev pub AgreeOff : List Item → List Value → List Value → Type 0
-AgreeOff items a b = (j : ℕ) → is_link_item (slice_get items j) ≡ false → value_at a j ≡ value_at b j
-
-pub linked_agree : (items : List Item) (olds vs : List Value) → AgreeOff items (linked_from 0 items olds vs) vs
-linked_agree items olds vs j off = linked_off 0 items olds vs j j (omega arith) off
-
 -- what holds of the new values of items, and of the old ones of links, holds of what is stored
 pub of_linked : (P : Item → Value → Type 0) (items : List Item) (olds vs : List Value) → length vs ≡ length items
     → ((k : ℕ) (item : Item) → slice_get items k ≡ Some item → is_link item.kind ≡ false → P item (value_at vs k))
@@ -315,3 +308,27 @@ unless_fits (Some s) desc set a h = tt
 pub answer_fits : (desc : Described) (db : Db) (set : ℕ) (number : Option ℕ) (rec : Record) → IfSome number (IsNumber desc set) → PutFits desc set (put_answer desc db set number rec)
 unfolding put_answer
 answer_fits desc db set number rec h = unless_fits (clash desc.structures db set number (stored desc db set number rec)) desc set (put_number desc db set number) (number_fits number desc db set h)
+
+-- ---- the test of values
+
+both_hold : (a b : Bool) → (a && b) ≡ true → (a ≡ true) × (b ≡ true)
+both_hold true b h = (refl, h)
+both_hold false b h = absurd (cc)
+
+-- as many values as items
+lengths_are : (items : List Item) (values : List Value) → values_fit items values ≡ true → length values ≡ length items
+lengths_are [] [] h = refl
+lengths_are [] (v ∷ vs) h = absurd (cc)
+lengths_are (i ∷ is) [] h = absurd (cc)
+lengths_are (i ∷ is) (v ∷ vs) h = ap suc (lengths_are is vs (both_hold (fits i.kind v) (values_fit is vs) h).1)
+
+each_is : (items : List Item) (values : List Value) → values_fit items values ≡ true → (k : ℕ) (item : Item) → slice_get items k ≡ Some item → fits item.kind (value_at values k) ≡ true
+each_is [] values h k item at = absurd (cc)
+each_is (i ∷ is) [] h k item at = absurd (cc)
+each_is (i ∷ is) (v ∷ vs) h zero item at =
+    let same : i ≡ item = cc in
+    subst (λ (x : Item). fits x.kind v ≡ true) same (both_hold (fits i.kind v) (values_fit is vs) h).0
+each_is (i ∷ is) (v ∷ vs) h (suc k) item at = each_is is vs (both_hold (fits i.kind v) (values_fit is vs) h).1 k item at
+
+pub are_fitting : (items : List Item) (values : List Value) → ArePlain values → values_fit items values ≡ true → AreFitting items values
+are_fitting items values plain h = record { lengths = lengths_are items values h; fit = each_is items values h; plain = plain }

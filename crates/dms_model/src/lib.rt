@@ -1,6 +1,7 @@
 //! The database as a map of records, the verbs, what each of them does, and what keeps a database.
 #![tactic(auto)]
 
+mod fitting;
 mod item_numbers;
 mod literals;
 mod locks;
@@ -14,6 +15,7 @@ mod verb;
 mod works;
 
 pub use dms_desc::{Bound, Record, Values};
+pub use fitting::{has_structure, is_data_set, is_numbered, record_fits, see_all_plain};
 pub use item_numbers::ItemNumbers;
 pub use literals::Literals;
 pub use locks::Locks;

@@ -1,4 +1,5 @@
 mod Answering
+mod Fits
 mod Joining
 mod Maps
 mod Members

@@ -1,4 +1,5 @@
 pub mod Clashes
+pub mod Props
 pub mod Rows
 pub mod Scans
 pub mod Speaking

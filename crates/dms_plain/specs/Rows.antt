@@ -3,6 +3,8 @@ use Rattle.std.specs.Prelude.{List, [], ◌∷◌, map, T, Some, None, ◌≡◌
 use Rattle.std.specs.declared.option.Option.{Option}
 use Rattle.std.specs.FinMap.{from_sorted, is_sorted, remove, insert, put}
 use Rattle.dms_desc.specs.declared.record.Record.{Record}
+use Rattle.dms_desc.specs.Shape.{Described}
+use Rattle.dms_model.specs.Fitting.{RecordsFit}
 use Rattle.dms_model.specs.Db.{Db, Place, Records, place_cmp}
 use Rattle.dms_plain.specs.declared.rows.Row.{Row}
 use Rattle.dms_plain.specs.declared.rows.Undo.{Undo}
@@ -42,3 +44,8 @@ db_of records = record { records = records; entries = [] }
 abbrev pub IsWhere : Place → List (Place × Record) → Where → Type 0
 IsWhere k es (AtRow i) = (i < length es) × ((v : Record) (d : Place × Record) → put place_cmp k v es ≡ slice_set es i ((slice_index_or es i d).0, v))
 IsWhere k es (BeforeRow i) = (i ≤ length es) × ((v : Record) → put place_cmp k v es ≡ insert_at es i (k, v))
+
+-- the records fit their data sets, and so do those before what was done
+pub record AllFit (desc : Described) (rows : List Row) (undo : List Undo) : Type 0 where
+  pub records : RecordsFit desc (records_in rows)
+  pub mark : RecordsFit desc (undone undo (records_in rows))

@@ -3,7 +3,9 @@ ghost use Rattle.std.proofs.Common.{◌∙◌};
 ghost use Rattle.dms_desc.specs.Shape.{described};
 ghost use Rattle.dms_model.specs.Db.{empty_db};
 ghost use Rattle.dms_model.specs.Seen.{Starts};
-ghost use Rattle.dms_plain.specs.Rows.{db_of, records_in, undone, IsInOrder};
+ghost use Rattle.std.proofs.Props.{props};
+ghost use Rattle.dms_plain.specs.Props.{AllFit-prop};
+ghost use Rattle.dms_plain.specs.Rows.{AllFit, db_of, records_in, undone, IsInOrder};
 ghost use Rattle.dms_plain.specs.Speaking.{OnlySpeaks, only_none, only_on};
 ghost use Rattle.dms_plain.specs.Told.{told, point_of, no_clock};
 
@@ -30,6 +32,7 @@ pub struct PlainStore<S> {
     outs: u64,
     site: S,
     ghost in_order: { IsInOrder rows.items },
+    ghost fit: { AllFit (described desc) rows.items undo.items } by { Prim.hlevel (props, AllFit-prop) },
 }
 
 impl<S: Site> PlainStore<S> {
@@ -55,6 +58,13 @@ impl<S: Site> PlainStore<S> {
             }),
             Err(e) => Err((e, site)),
         }
+    }
+
+    /// The description that it is kept under.
+    pub fn description(&self) -> &Description
+        ensures { result.now ≡ self.now.desc }
+    {
+        &self.desc
     }
 
     /// The site.

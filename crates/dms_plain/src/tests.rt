@@ -8,7 +8,7 @@ use dms_desc::{
     Bound, Cond, Description, Groups, Item, Items, KeyPart, KeyParts, Record, Structure,
     Structures, Values,
 };
-use dms_model::{Put, Spot, Store};
+use dms_model::{Put, Spot, Store, has_structure, is_data_set, is_numbered, record_fits};
 use dms_site::{Failed, Site};
 use std::alloc::Global;
 use std::process::Abort;
@@ -179,9 +179,11 @@ fn put(
     a: Value,
     b: &[u8],
 ) -> Put {
-    store
-        .put(rt.alloc(), 1, number, &record(rt, a, b))
-        .expect(rt, "put")
+    let rec = record(rt, a, b);
+    assert!(rt; is_data_set(store.description(), 1));
+    assert!(rt; is_numbered(store.description(), 1, number));
+    assert!(rt; record_fits(store.description(), 1, &rec));
+    store.put(rt.alloc(), 1, number, &rec).expect(rt, "put")
 }
 
 fn number_of(spot: Option<Spot>) -> u64 {
@@ -197,6 +199,7 @@ fn first(
     path: u16,
     from: &Bound,
 ) -> u64 {
+    assert!(rt; has_structure(store.description(), path));
     number_of(
         store
             .first_from(rt.alloc(), path, 0, from)
@@ -210,6 +213,7 @@ fn last(
     path: u16,
     upto: &Bound,
 ) -> u64 {
+    assert!(rt; has_structure(store.description(), path));
     number_of(store.last_to(rt.alloc(), path, 0, upto).expect(rt, "last"))
 }
 
@@ -280,6 +284,7 @@ fn null_stands_above_every_value_and_equals_null(rt: HostRuntime) {
 #[test]
 fn goes_on_from_a_bound(rt: HostRuntime) {
     let mut store = filled(&rt);
+    assert!(rt; has_structure(store.description(), 3));
     let spot = store
         .first_from(rt.alloc(), 3, 0, &Bound::Start)
         .expect(&rt, "first")
@@ -294,6 +299,8 @@ fn goes_on_from_a_bound(rt: HostRuntime) {
 
 /// The number A of a record whose link is null; 0 where there is none.
 fn shown(rt: &(impl AllocGlobal + Abort), store: &mut PlainStore<Paper>, number: u64) -> i64 {
+    assert!(rt; is_data_set(store.description(), 1));
+    assert!(rt; is_numbered(store.description(), 1, Some(number)));
     match store.get(rt.alloc(), 1, number).expect(rt, "get") {
         None => 0,
         Some(kept) => match kept.values.as_slice() {

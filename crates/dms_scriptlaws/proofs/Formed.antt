@@ -27,7 +27,8 @@ use Rattle.dms_desc_bytes.specs.Spelling.{is_data_set}
 use Rattle.dms_desc_bytes.specs.WellFormed.{IsWellFormed, are_sound, numbered, is_sound, is_data_set_sound, is_set_sound, has_sound_items, has_sound_groups, lacks_set_fields, is_key_sound, is_part_sound, is_key_item}
 use Rattle.dms_desc.specs.Lookups.{structure_at, structure_of, items_of as record_items}
 use Rattle.dms_desc.specs.Kinds.{is_link}
-use Rattle.dms_laws.specs.Made.{IsWellMade, is_link_item, compares_no_link, has_no_link, items_under}
+use Rattle.dms_model.specs.Stores.{is_link_item}
+use Rattle.dms_laws.specs.Made.{IsWellMade, compares_no_link, has_no_link, items_under}
 use Rattle.dms_scriptlaws.specs.Truths.{HasNames, IsRunnable}
 
 both : (a b : Bool) → (a && b) ≡ true → (a ≡ true) × (b ≡ true)

@@ -12,7 +12,7 @@ use Rattle.dms_storeverbs.specs.Costs.{Costs, is_done, up_if}
 use Rattle.dms_storeverbs.proofs.Calls.{if_err}
 
 pub spends_none : (n : ℕ) (a : Effort) → Spends n a a
-spends_none n a = record { spent = omega arith; syncs = refl; outs = refl }
+spends_none n a = record { least = omega arith; spent = omega arith; syncs = refl; outs = refl }
 
 pub spends_same : (n : ℕ) {a b : Effort} → b ≡ a → Spends n a b
 spends_same n {a} same = subst (λ (x : Effort). Spends n a x) (sym same) (spends_none n a)
@@ -27,6 +27,7 @@ idle_of false d f = refl
 -- a call without syncpoint and back-out
 pub answered_costs : {n : ℕ} {a b : Effort} {x : Answer} (backs : Bool) → x.sync ≡ None → (backs ≡ true → is_done x.reply ≡ false) → Spends n a b → Costs n backs (Ok x) a b
 answered_costs {a = a} {x = x} backs none idle p = record {
+  least = p.least;
   spent = p.spent;
   syncs = p.syncs ∙ sym (ap (λ (s : Option ℕ). up_if (is_some s) a.syncs) none);
   outs = p.outs ∙ sym (ap (λ (t : Bool). up_if t a.outs) (idle_of backs (is_done x.reply) idle));
@@ -36,11 +37,12 @@ answered_costs {a = a} {x = x} backs none idle p = record {
 
 -- one that failed before them
 pub failed_costs : {n : ℕ} {a b : Effort} {r : Result Answer BlockFault} (backs : Bool) → IsErr r → Spends n a b → Costs n backs r a b
-failed_costs {r = r} backs err p = record { spent = p.spent; syncs = if_err r _ err; outs = if_err r _ err; few_syncs = few_same p.syncs; few_outs = few_same p.outs }
+failed_costs {r = r} backs err p = record { least = p.least; spent = p.spent; syncs = if_err r _ err; outs = if_err r _ err; few_syncs = few_same p.syncs; few_outs = few_same p.outs }
 
 -- one that first stores a record
 pub then_costs : {n : ℕ} {a b c : Effort} {r : Result Answer BlockFault} → Spends n a b → Costs 0 false r b c → Costs n false r a c
 then_costs {c = c} {r = r} p q = record {
+  least = omega (arith, p.least, q.least);
   spent = omega (arith, p.spent, q.spent);
   syncs = subst (λ (k : ℕ). IfOk r (λ x. c.syncs ≡ up_if (is_some x.sync) k)) p.syncs q.syncs;
   outs = subst (λ (k : ℕ). IfOk r (λ x. c.outs ≡ up_if (false && is_done x.reply) k)) p.outs q.outs;
@@ -51,6 +53,7 @@ then_costs {c = c} {r = r} p q = record {
 -- a syncpoint was taken, or failed
 pub synced_costs : {a b c : Effort} {x : Answer} {n : ℕ} {T : Type 0} {t : T} → b ≡ a → Syncs {T = T} (Ok t) b c → x.sync ≡ Some n → Costs 0 false (Ok x) a c
 synced_costs {a} {b} {c} {x} same p some = subst (λ (e : Effort). Costs 0 false (Ok x) e c) same (record {
+  least = omega (arith, p.spent);
   spent = omega (arith, p.spent);
   syncs = p.done ∙ sym (ap (λ (s : Option ℕ). up_if (is_some s) b.syncs) some);
   outs = p.outs;
@@ -59,11 +62,12 @@ synced_costs {a} {b} {c} {x} same p some = subst (λ (e : Effort). Costs 0 false
 })
 
 pub unsynced_costs : {a b c : Effort} {r : Result Answer BlockFault} {T : Type 0} {s : Result T BlockFault} → IsErr r → b ≡ a → Syncs s b c → Costs 0 false r a c
-unsynced_costs {a} {b} {c} {r} err same p = subst (λ (e : Effort). Costs 0 false r e c) same (record { spent = omega (arith, p.spent); syncs = if_err r _ err; outs = if_err r _ err; few_syncs = p.few; few_outs = few_same p.outs })
+unsynced_costs {a} {b} {c} {r} err same p = subst (λ (e : Effort). Costs 0 false r e c) same (record { least = omega (arith, p.spent); spent = omega (arith, p.spent); syncs = if_err r _ err; outs = if_err r _ err; few_syncs = p.few; few_outs = few_same p.outs })
 
 -- the store went back, or failed
 pub backed_costs : {a b : Effort} {x : Answer} {T : Type 0} {t : T} → GoesBack {T = T} (Ok t) a b → x.sync ≡ None → is_done x.reply ≡ true → Costs 0 true (Ok x) a b
 backed_costs {a} p none done = record {
+  least = omega (arith, p.spent);
   spent = omega (arith, p.spent);
   syncs = p.syncs ∙ sym (ap (λ (s : Option ℕ). up_if (is_some s) a.syncs) none);
   outs = p.done ∙ sym (ap (λ (t : Bool). up_if t a.outs) done);
@@ -72,10 +76,11 @@ backed_costs {a} p none done = record {
 }
 
 pub unbacked_costs : {a b : Effort} {r : Result Answer BlockFault} {T : Type 0} {s : Result T BlockFault} → IsErr r → GoesBack s a b → Costs 0 true r a b
-unbacked_costs {r = r} err p = record { spent = omega (arith, p.spent); syncs = if_err r _ err; outs = if_err r _ err; few_syncs = few_same p.syncs; few_outs = p.few }
+unbacked_costs {r = r} err p = record { least = omega (arith, p.spent); spent = omega (arith, p.spent); syncs = if_err r _ err; outs = if_err r _ err; few_syncs = few_same p.syncs; few_outs = p.few }
 
 pub plain_costs : {n : ℕ} {a b : Effort} {x : Answer} → x.sync ≡ None → Spends n a b → Costs n false (Ok x) a b
 plain_costs {a = a} {x = x} none p = record {
+  least = p.least;
   spent = p.spent;
   syncs = p.syncs ∙ sym (ap (λ (s : Option ℕ). up_if (is_some s) a.syncs) none);
   outs = p.outs;

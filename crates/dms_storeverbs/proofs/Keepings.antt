@@ -11,7 +11,8 @@ use Rattle.dms_model.specs.declared.put.Put.{Put}
 use Rattle.dms_model.specs.declared.put.Put.TheVariants.{Stored, Duplicate, Full}
 use Rattle.dms_model.specs.Db.{Db}
 use Rattle.dms_desc.specs.Lookups.{structure_of, name_of}
-use Rattle.dms_model.specs.Stores.{put_answer, put_after, Puts}
+use Rattle.dms_model.specs.Stores.{put_answer, put_after}
+use Rattle.dms_model.specs.Fitting.{MayPut, Puts}
 use Rattle.dms_model.specs.Session.{Session, Kept, Refused}
 use Rattle.dms_storeverbs.specs.declared.refusal.Refusal.{Refusal}
 use Rattle.dms_storeverbs.specs.Keeping.{KeptIs}
@@ -23,9 +24,9 @@ kept_refused k r i s v is stands = subst (λ (x : Kept). KeptIs x i s (Some r) v
 
 module _ (desc desc' : Described) (told new mark : Option Db) (next since : ℕ) (programs : List Program) (pending : Bool) (p : Program) (s : Session) (i set : ℕ) (number : Option ℕ) (rec : Record) (k : Kept)
     (desc_is : desc' ≡ desc) (told_is : told ≡ Some s.db) (mark_is : mark ≡ Some s.mark) (next_is : next ≡ s.next) (pending_is : pending ≡ s.pending) (since_is : since ≡ s.since)
-    (k_is : k ≡ put_record (put_answer desc s.db set number rec) desc p s.db set rec) where
-  puts_of : (a : Put) → Puts told new desc' set number rec a → Puts (Some s.db) new desc' set number rec a
-  puts_of a puts = subst (λ (t : Option Db). Puts t new desc' set number rec a) told_is puts
+    (k_is : k ≡ put_record (put_answer desc s.db set number rec) desc p s.db set rec) (may : MayPut desc set rec) where
+  puts_of : (a : Put) → Puts told new desc' set number rec a → (a ≡ put_answer desc' s.db set number rec) × (new ≡ Some (put_after (put_answer desc' s.db set number rec) desc' s.db set rec))
+  puts_of a puts = subst (λ (t : Option Db). Puts t new desc' set number rec a) told_is puts (subst (λ (d : Described). MayPut d set rec) (sym desc_is) may)
 
   answered : (a : Put) → Puts told new desc' set number rec a → put_answer desc s.db set number rec ≡ a
   answered a puts = ap (λ (d : Described). put_answer d s.db set number rec) (sym desc_is) ∙ sym (puts_of a puts).0

@@ -2,7 +2,8 @@ pub mod Calls
 pub mod Closed
 pub mod Costing
 pub mod Ends
-pub mod FoundAt
+pub mod Fits
+mod FoundAt
 pub mod Keepings
 pub mod KeyValues
 pub mod Lasting

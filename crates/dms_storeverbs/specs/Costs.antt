@@ -59,6 +59,7 @@ up_if false n = n
 -- At most so many blocks are changed. Quiet points are made durable exactly where a syncpoint is answered, once; and the store
 -- goes back exactly where a back-out was asked for and is done, once. A call that fails did each of the two once at most.
 pub record Costs (blocks : ℕ) (backs : Bool) (result : Result Answer BlockFault) (old new : Effort) : Type 0 where
+  pub least : old.spent ≤ new.spent
   pub spent : new.spent ≤ old.spent + blocks
   pub syncs : IfOk result (λ a. new.syncs ≡ up_if (is_some a.sync) old.syncs)
   pub outs : IfOk result (λ a. new.outs ≡ up_if (backs && is_done a.reply) old.outs)

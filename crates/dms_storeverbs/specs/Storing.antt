@@ -1,5 +1,6 @@
 -- A record that is ready to be stored, and what storing it leaves of its program.
-use Rattle.std.specs.Prelude.{◌≡◌, ℕ, List, Some, None}
+use Rattle.std.specs.Prelude.{◌≡◌, ℕ, List, Some, None, IfSome, ⊤}
+use Rattle.dms_model.specs.Fitting.{IsDataSet, IsNumber, MayPut, RecordFits}
 use Rattle.std.specs.declared.option.Option.{Option}
 use Rattle.dms_base.specs.declared.category.Category.TheVariants.{Duplicates, LimitError}
 use Rattle.dms_desc.specs.declared.record.Record.{Record}
@@ -30,6 +31,22 @@ put_record Full desc p db set rec = Refused LimitError (name_of (structure_of de
 abbrev pub Judges : Judged → Described → Program → Db → ℕ → Type 0
 Judges (Not r) desc p db set = keep desc p db set ≡ Refused r.category r.name
 Judges (Ready number rec) desc p db set = keep desc p db set ≡ put_record (put_answer desc db set number rec) desc p db set rec
+
+-- a record that a data set may hold, without an owner, under a number that its records may have
+pub record Holds (desc : Described) (set : ℕ) (number : Option ℕ) (made : Record) : Type 0 where
+  pub set_is : IsDataSet desc set
+  pub number_is : IfSome number (IsNumber desc set)
+  pub unowned : made.owner ≡ 0
+  pub fits : RecordFits desc set made
+
+-- and that may be put
+pub record IsReady (desc : Described) (set : ℕ) (number : Option ℕ) (made : Record) : Type 0 where
+  pub held : Holds desc set number made
+  pub may : MayPut desc set made
+
+abbrev pub AreReady : Judged → Described → ℕ → Type 0
+AreReady (Not r) desc set = ⊤
+AreReady (Ready number rec) desc set = IsReady desc set number rec
 
 -- all literals went in, or the first one that doesn't fit is that of this item
 abbrev pub Fills : Option (List ℕ) → List Value → Filled → Type 0

@@ -3,6 +3,7 @@ ghost use Rattle.dms_desc.specs.Shape.{described};
 ghost use Rattle.dms_model.specs.declared.program.Program.{Program};
 ghost use Rattle.dms_model.specs.Db.{Db};
 ghost use Rattle.dms_model.specs.BackOut.{asks_back_out};
+ghost use Rattle.dms_model.specs.Fitting.{IsStructure};
 ghost use Rattle.dms_model.specs.Seen.{IsMute, IsSilent, StaysSure};
 ghost use Rattle.dms_desc.specs.Lookups.{parts_of, set_of, structure_of, items_of};
 ghost use Rattle.dms_model.specs.Session.{Session, find_step, found_by, verb_step, step, key_values, at_values};
@@ -15,7 +16,7 @@ use crate::refusal::{done, refused};
 use crate::{Engine, apart, areas, programs};
 use dms_base::{Category, Literal, Name};
 use dms_block::BlockFault;
-use dms_model::{Answer, Bound, Path, Spot, Store, Verb};
+use dms_model::{Answer, Bound, Path, Spot, Store, Verb, has_structure, see_all_plain};
 use std::alloc::Global;
 
 impl<St: Store> Engine<St> {
@@ -27,6 +28,7 @@ impl<St: Store> Engine<St> {
         literals: &[Literal],
     ) -> Result<Option<Spot>, BlockFault>
         requires sound { (seen self.old).sound }
+        requires path { IsStructure (described self.old.desc) x }
         ensures found { IfOk result (λ r. (d : Db) → (seen self.old).db ≡ Some d → r ≡ at_values (key_values (parts_of (structure_of (described self.old.desc) x)) (items_of (structure_of (described self.old.desc) (set_of (described self.old.desc) x))) literals.now) (described self.old.desc) d x) }
         ensures stands { OnOk result (SameSession self.old self.new) }
         ensures programs { self.new.programs.items ≡ self.old.programs.items }
@@ -41,6 +43,7 @@ impl<St: Store> Engine<St> {
         let Some(values) = key_values(alloc, self.desc.parts_of(x), items, literals)? else {
             return Ok(None);
         };
+        see_all_plain(values.as_slice());
         let key = values.copy(alloc)?;
         let spot = self.store.first_from(alloc, x, 0, &Bound::From(values))?;
         Ok(agreeing(self.desc.parts_of(x), key.as_slice(), spot))
@@ -60,6 +63,9 @@ impl<St: Store> Engine<St> {
         ensures mute_fault { IsErrOf result BlockFault.Say → ⊥ }
         ensures lasts { Lasts result self.old self.new }
     {
+        if !has_structure(&self.desc, apart::path_of(path)) {
+            return Ok(None);
+        }
         match path {
             Path::First(x) => self.store.first_from(alloc, *x, 0, &Bound::Start),
             Path::Last(x) => self.store.last_to(alloc, *x, 0, &Bound::End),

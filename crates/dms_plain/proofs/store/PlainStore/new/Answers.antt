@@ -2,6 +2,7 @@ use Rattle.std.proofs.Common.{◌∙◌, ap, refl, rules, List, Some}
 use Rattle.dms_model.specs.Db.{Records}
 use Rattle.dms_plain.specs.declared.rows.Row.{Row}
 use Rattle.dms_plain.specs.Rows.{records_in, db_of, undone}
+use Rattle.dms_plain.proofs.Fits.{none_fit}
 use Rattle.dms_plain.proofs.Maps.{no_rows}
 use Rattle.dms_plain.proofs.store.PlainStore.new.Goals as goal
 

@@ -6,7 +6,7 @@ use Rattle.dms_desc.specs.Shape.{described}
 use Rattle.dms_model.specs.declared.program.Program.{Program}
 use Rattle.dms_model.specs.Stores.{put_answer}
 use Rattle.dms_model.specs.Session.{keep, Refused}
-use Rattle.dms_storeverbs.specs.Storing.{put_record, with_stored}
+use Rattle.dms_storeverbs.specs.Storing.{IsReady, put_record, with_stored}
 use Rattle.dms_storeverbs.proofs.Keepings.{kept_refused, kept_stored, kept_duplicate, kept_full}
 use Rattle.dms_storeverbs.proofs.engine.Engine.keep.Goals as goal
 
@@ -15,7 +15,7 @@ returns-in-Refused-clause-kept g c = λ p at s stands.
     let d = described c.args.self.now.desc in
     let r = c.in-Refused.refusal in
     let p_is : c.index.result.now ≡ p = grind (arith, common_steps, gets) in
-    let judged : keep d c.index.result.now s.db c.args.set ≡ Refused r.category r.name = rw c.in-Refused.is at (c.in_ok-refusal.ensures s.db) in
+    let judged : keep d c.index.result.now s.db c.args.set ≡ Refused r.category r.name = rw c.in-Refused.is at (c.in_ok-refusal.ensures.judged s.db) in
     kept_refused _ r c.args.i s _ (ap (λ (q : Program). keep d q s.db c.args.set) (sym p_is) ∙ judged) stands
 
 pub returns-in_ok-stored-in-Stored-clause-kept : goal.returns-in_ok-stored-in-Stored-clause-kept
@@ -25,10 +25,11 @@ returns-in_ok-stored-in-Stored-clause-kept g c = λ p at s stands.
     let rec = c.in-Ready.rec in
     let p_is : c.index.result.now ≡ p = grind (arith, common_steps, gets) in
     let m_is : c.index_mut.result.now ≡ p = grind (arith, common_steps, gets) in
-    let judged : keep d c.index.result.now s.db c.args.set ≡ put_record (put_answer d s.db c.args.set number rec) d c.index.result.now s.db c.args.set rec = rw c.in-Ready.is at (c.in_ok-refusal.ensures s.db) in
+    let judged : keep d c.index.result.now s.db c.args.set ≡ put_record (put_answer d s.db c.args.set number rec) d c.index.result.now s.db c.args.set rec = rw c.in-Ready.is at (c.in_ok-refusal.ensures.judged s.db) in
     let k_is = subst (λ (q : Program). keep d q s.db c.args.set ≡ put_record (put_answer d s.db c.args.set number rec) d q s.db c.args.set rec) p_is judged in
+    let ready : IsReady d c.args.set number rec = rw c.in-Ready.is at c.in_ok-refusal.ensures.ready in
     let puts = rw c.in-Stored.is at c.in_ok-number.ensures.put in
-    kept_stored d _ _ _ _ _ _ _ _ p s c.args.i c.args.set number rec _ c.args.self.now.under stands.db (c.in_ok-number.ensures.keeps.mark ∙ stands.mark) (c.put.ensures.silent.next ∙ stands.next) stands.pending stands.since k_is c.in-Stored.number c.stored.new.program puts
+    kept_stored d _ _ _ _ _ _ _ _ p s c.args.i c.args.set number rec _ c.args.self.now.under stands.db (c.in_ok-number.ensures.keeps.mark ∙ stands.mark) (c.put.ensures.silent.next ∙ stands.next) stands.pending stands.since k_is ready.may c.in-Stored.number c.stored.new.program puts
     (c.in_ok-stored-in-Stored.ensures ∙ ap (λ (q : Program). with_stored q c.args.set c.in-Stored.number rec.values) m_is)
     (ap (λ (ps : List Program). slice_set ps c.args.i c.stored.new.program) stands.programs)
 
@@ -38,10 +39,11 @@ returns-in-Duplicate-clause-kept g c = λ p at s stands.
     let number = c.in-Ready.number in
     let rec = c.in-Ready.rec in
     let p_is : c.index.result.now ≡ p = grind (arith, common_steps, gets) in
-    let judged : keep d c.index.result.now s.db c.args.set ≡ put_record (put_answer d s.db c.args.set number rec) d c.index.result.now s.db c.args.set rec = rw c.in-Ready.is at (c.in_ok-refusal.ensures s.db) in
+    let judged : keep d c.index.result.now s.db c.args.set ≡ put_record (put_answer d s.db c.args.set number rec) d c.index.result.now s.db c.args.set rec = rw c.in-Ready.is at (c.in_ok-refusal.ensures.judged s.db) in
     let k_is = subst (λ (q : Program). keep d q s.db c.args.set ≡ put_record (put_answer d s.db c.args.set number rec) d q s.db c.args.set rec) p_is judged in
+    let ready : IsReady d c.args.set number rec = rw c.in-Ready.is at c.in_ok-refusal.ensures.ready in
     let puts = rw c.in-Duplicate.is at c.in_ok-number.ensures.put in
-    kept_duplicate d _ _ _ _ _ _ _ _ p s c.args.i c.args.set number rec _ c.args.self.now.under stands.db (c.in_ok-number.ensures.keeps.mark ∙ stands.mark) (c.put.ensures.silent.next ∙ stands.next) stands.pending stands.since k_is c.in-Duplicate.other c.name_of.result puts c.name_of.ensures stands.programs
+    kept_duplicate d _ _ _ _ _ _ _ _ p s c.args.i c.args.set number rec _ c.args.self.now.under stands.db (c.in_ok-number.ensures.keeps.mark ∙ stands.mark) (c.put.ensures.silent.next ∙ stands.next) stands.pending stands.since k_is ready.may c.in-Duplicate.other c.name_of.result puts c.name_of.ensures stands.programs
 
 pub returns-in-Full-clause-kept : goal.returns-in-Full-clause-kept
 returns-in-Full-clause-kept g c = λ p at s stands.
@@ -49,7 +51,8 @@ returns-in-Full-clause-kept g c = λ p at s stands.
     let number = c.in-Ready.number in
     let rec = c.in-Ready.rec in
     let p_is : c.index.result.now ≡ p = grind (arith, common_steps, gets) in
-    let judged : keep d c.index.result.now s.db c.args.set ≡ put_record (put_answer d s.db c.args.set number rec) d c.index.result.now s.db c.args.set rec = rw c.in-Ready.is at (c.in_ok-refusal.ensures s.db) in
+    let judged : keep d c.index.result.now s.db c.args.set ≡ put_record (put_answer d s.db c.args.set number rec) d c.index.result.now s.db c.args.set rec = rw c.in-Ready.is at (c.in_ok-refusal.ensures.judged s.db) in
     let k_is = subst (λ (q : Program). keep d q s.db c.args.set ≡ put_record (put_answer d s.db c.args.set number rec) d q s.db c.args.set rec) p_is judged in
+    let ready : IsReady d c.args.set number rec = rw c.in-Ready.is at c.in_ok-refusal.ensures.ready in
     let puts = rw c.in-Full.is at c.in_ok-number.ensures.put in
-    kept_full d _ _ _ _ _ _ _ _ p s c.args.i c.args.set number rec _ c.args.self.now.under stands.db (c.in_ok-number.ensures.keeps.mark ∙ stands.mark) (c.put.ensures.silent.next ∙ stands.next) stands.pending stands.since k_is c.name_of-in-Full.result puts c.name_of-in-Full.ensures stands.programs
+    kept_full d _ _ _ _ _ _ _ _ p s c.args.i c.args.set number rec _ c.args.self.now.under stands.db (c.in_ok-number.ensures.keeps.mark ∙ stands.mark) (c.put.ensures.silent.next ∙ stands.next) stands.pending stands.since k_is ready.may c.name_of-in-Full.result puts c.name_of-in-Full.ensures stands.programs

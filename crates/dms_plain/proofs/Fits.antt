@@ -1,0 +1,43 @@
+-- What rows answer fits where they do, and they still fit after each call.
+use Rattle.std.proofs.Common.{◌≡◌, ℕ, List, [], Some, None, refl, sym, ap, ◌∙◌, subst}
+use Rattle.std.specs.Prelude.{IfSome}
+use Rattle.std.specs.declared.option.Option.{Option}
+use Rattle.std.specs.FinMap.{get, get-empty, empty}
+use Rattle.dms_desc.specs.declared.record.Record.{Record}
+use Rattle.dms_desc.specs.Shape.{Described}
+use Rattle.dms_model.specs.declared.put.Put.{Put}
+use Rattle.dms_model.specs.Db.{Db, Records, place_cmp}
+use Rattle.dms_model.specs.Fitting.{PlaceFits, PutFits, RecordFits, RecordsFit}
+use Rattle.dms_model.specs.FitLaws.{after_fits}
+use Rattle.dms_model.specs.Stores.{put_after}
+use Rattle.dms_plain.specs.declared.rows.Row.{Row}
+use Rattle.dms_plain.specs.declared.rows.Undo.{Undo}
+use Rattle.dms_plain.specs.Rows.{AllFit, db_of, records_in, undone}
+
+got_at : (desc : Described) (records : Records) (set n : ℕ) (o : Option Record) → get records (set, n) ≡ o → RecordsFit desc records → IfSome o (RecordFits desc set)
+got_at desc records set n None at fit = tt
+got_at desc records set n (Some r) at fit = (fit (set, n) r at).held
+
+pub got_fits : (desc : Described) (records : Records) (set n : ℕ) → RecordsFit desc records → IfSome (get records (set, n)) (RecordFits desc set)
+got_fits desc records set n fit = got_at desc records set n (get records (set, n)) refl fit
+
+pub put_all_fit : (desc : Described) (rows new : List Row) (undo undo' : List Undo) (set : ℕ) (rec : Record) (a : Put) → AllFit desc rows undo → RecordFits desc set rec → PutFits desc set a
+    → db_of (records_in new) ≡ put_after a desc (db_of (records_in rows)) set rec → undone undo' (records_in new) ≡ undone undo (records_in rows) → AllFit desc new undo'
+put_all_fit desc rows new undo undo' set rec a all own number db mark = record {
+  records = subst (λ (d : Db). RecordsFit desc d.records) (sym db) (after_fits a desc (db_of (records_in rows)) set rec number all.records own);
+  mark = subst (RecordsFit desc) (sym mark) all.mark;
+}
+
+pub forgotten : (desc : Described) (rows : List Row) (undo undo' : List Undo) → undo' ≡ [] → AllFit desc rows undo → AllFit desc rows undo'
+forgotten desc rows undo undo' none all = subst (AllFit desc rows) (sym none) (record { records = all.records; mark = all.records })
+
+pub taken_back : (desc : Described) (rows new : List Row) (undo undo' : List Undo) → records_in new ≡ undone undo (records_in rows) → undo' ≡ [] → AllFit desc rows undo → AllFit desc new undo'
+taken_back desc rows new undo undo' back none all =
+    let now = subst (RecordsFit desc) (sym back) all.mark in
+    subst (AllFit desc new) (sym none) (record { records = now; mark = now })
+
+nothing : (C : Type 0) (records : Records) (place : ℕ × ℕ) (r : Record) → records ≡ empty → get records place ≡ Some r → C
+nothing C records place r none at = let gone = ap (λ (m : Records). get m place) none ∙ get-empty {X = Record} place_cmp place in absurd (cc)
+
+pub none_fit : (desc : Described) (records : Records) → records ≡ empty → RecordsFit desc records
+none_fit desc records none place r at = nothing (PlaceFits desc place r) records place r none at

@@ -1,0 +1,63 @@
+-- What the tests before a call of the store show.
+use Rattle.std.proofs.Common.{◌≡◌, ◌<◌, ◌-◌, ◌+◌, ◌^◌, ℕ, zero, suc, List, [], ◌∷◌, Bool, true, false, Some, None, refl, sym, ap, ◌∙◌, subst, length, arith}
+use Rattle.std.specs.Prelude.{◌&&◌, IsTrue, is_some, slice_get}
+use Rattle.std.specs.declared.option.Option.{Option}
+use Rattle.dms_base.specs.declared.value.Value.{Value}
+use Rattle.dms_base.specs.declared.kind.Literal.{Literal}
+use Rattle.dms_base.specs.Fits.{fits}
+use Rattle.dms_desc.specs.declared.structure.Item.{Item}
+use Rattle.dms_desc.specs.declared.structure.KeyPart.{KeyPart}
+use Rattle.dms_desc.specs.declared.bound.Bound.TheVariants.{Start, End as Behind}
+use Rattle.dms_desc.specs.Shape.{Shape, Described}
+use Rattle.dms_desc.specs.Lookups.{structure_of, items_of, parts_of, set_of}
+use Rattle.dms_model.specs.declared.spot.Spot.{Spot}
+use Rattle.dms_model.specs.declared.verb.Path.{Path}
+use Rattle.dms_model.specs.declared.verb.Path.TheVariants.{First, Last, At}
+use Rattle.dms_model.specs.Db.{Db}
+use Rattle.dms_model.specs.Fitting.{fits_item, key_fits}
+use Rattle.dms_model.specs.FitLaws.{fitted_fits}
+use Rattle.dms_model.specs.Members.{first_of, last_of, at_of, first_member, last_member, at_member}
+use Rattle.dms_model.specs.Session.{at_values, fitted, found_by, key_values, onto, path_of}
+
+and_true : (a b : Bool) → a ≡ true → IsTrue b → IsTrue (a && b)
+and_true true b h k = k
+and_true false b h k = absurd (cc)
+
+-- the values that literals spell for the parts of a key fit it
+fitted_item : (o : Option Item) (l : Literal) (v : Value) → fitted o l ≡ Some v → fits_item o v ≡ true
+fitted_item None l v h = absurd (cc)
+fitted_item (Some i) l v h = fitted_fits i l v h
+
+onto_fit : (p : KeyPart) (ps : List KeyPart) (items : List Item) (l : Literal) (a : Option Value) → fitted (slice_get items (p.item - 1)) l ≡ a → (b : Option (List Value)) → ((ws : List Value) → b ≡ Some ws → IsTrue (key_fits ps items ws))
+    → (vs : List Value) → onto a b ≡ Some vs → IsTrue (key_fits (p ∷ ps) items vs)
+onto_fit p ps items l None at b rest vs h = absurd (cc)
+onto_fit p ps items l (Some v) at None rest vs h = absurd (cc)
+onto_fit p ps items l (Some v) at (Some ws) rest vs h =
+    let same : v ∷ ws ≡ vs = cc in
+    subst (λ (xs : List Value). IsTrue (key_fits (p ∷ ps) items xs)) same (and_true (fits_item (slice_get items (p.item - 1)) v) (key_fits ps items ws) (fitted_item (slice_get items (p.item - 1)) l v at) (rest ws refl))
+
+pub key_is_fit : (ps : List KeyPart) (items : List Item) (ls : List Literal) (vs : List Value) → key_values ps items ls ≡ Some vs → IsTrue (key_fits ps items vs)
+key_is_fit ps items [] vs h =
+    let same : [] ≡ vs = cc in
+    subst (λ (xs : List Value). IsTrue (key_fits ps items xs)) same refl
+key_is_fit [] items (l ∷ ls) vs h = absurd (cc)
+key_is_fit (p ∷ ps) items (l ∷ ls) vs h = onto_fit p ps items l (fitted (slice_get items (p.item - 1)) l) refl (key_values ps items ls) (λ ws e. key_is_fit ps items ls ws e) vs h
+
+-- a path of no structure finds nothing
+none_at : (key : Option (List Value)) (desc : Described) (d : Db) (x : ℕ) → structure_of desc x ≡ None → at_values key desc d x ≡ None
+unfolding at_member
+none_at None desc d x none = refl
+none_at (Some key) desc d x none = ap (λ (o : Option Shape). at_of o d 0 key) none
+
+pub found_none : (desc : Described) (d : Db) (path : Path) → structure_of desc (path_of path) ≡ None → found_by desc d path ≡ None
+unfolding found_by first_member last_member
+found_none desc d (First x) none = ap (λ (o : Option Shape). first_of o d 0 Start) none
+found_none desc d (Last x) none = ap (λ (o : Option Shape). last_of o d 0 Behind) none
+found_none desc d (At x literals) none = none_at (key_values (parts_of (structure_of desc x)) (items_of (structure_of desc (set_of desc x))) literals) desc d x none
+
+none_of : {A : Type 0} (o : Option A) (b : Bool) → b ≡ is_some o → b ≡ false → o ≡ None
+none_of None b h e = refl
+none_of (Some x) b h e = absurd (cc)
+
+pub found_nothing : (desc : Described) (d : Db) (path : Path) (x : ℕ) (b : Bool) → x ≡ path_of path → b ≡ is_some (structure_of desc x) → b ≡ false → None ≡ found_by desc d path
+found_nothing desc d path x b here is none = sym (found_none desc d path (ap (structure_of desc) (sym here) ∙ none_of (structure_of desc x) b is none))
