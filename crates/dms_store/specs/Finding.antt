@@ -1,6 +1,6 @@
 -- What is read of the blocks of a store.
-use Rattle.std.proofs.Common.{◌≡◌, ◌∙◌, ◌+◌, ◌-◌, ◌*◌, ◌<◌, ◌≤◌, ℕ, min, zero, suc, List, [], ◌∷◌, Bool, true, false, cond, IfSome, IsTrue, Some, None, refl, sym, ap, subst, length, slice_get, arith}
-use Rattle.std.specs.Prelude.{◌==◌, ◌&&◌, nat_le, slice_index_or}
+use Rattle.std.proofs.Common.{◌≡◌, ◌∙◌, ◌+◌, ◌-◌, ◌*◌, ◌<◌, ◌≤◌, ℕ, min, zero, suc, List, [], ◌∷◌, true, false, cond, IfSome, IsTrue, Some, None, refl, sym, ap, subst, length, slice_get, arith}
+use Rattle.std.specs.Prelude.{◌==◌, nat_le, slice_index_or}
 use Rattle.std.specs.declared.result.Result.TheVariants.{Ok}
 use Rattle.std.specs.List.{AllByRecursion}
 use Rattle.std.specs.declared.option.Option.{Option}
@@ -18,7 +18,6 @@ use Rattle.dms_block.specs.declared.block_fault.BlockFault.{BlockFault}
 use Rattle.std.specs.declared.result.Result.{Result}
 use Rattle.dms_block.specs.View.{Reads, seen, under, written}
 use Rattle.dms_block.specs.ViewLaws.{seen_still}
-use Rattle.dms_desc.specs.declared.record.Record.{Record}
 use Rattle.dms_desc.specs.declared.structure.Item.{Item}
 use Rattle.dms_desc.specs.Lookups.{items_of, structure_of}
 use Rattle.dms_desc.specs.Shape.{Shape, Described}
@@ -30,7 +29,6 @@ use Rattle.dms_sets.specs.Tests.{both_of}
 use Rattle.dms_slots.specs.Seen.{BadAt, BadIn, count_of}
 use Rattle.dms_slots.specs.SlotBlocks.{file_of, is_block, per_block, slot_at, slot_opt}
 use Rattle.dms_store.specs.Rows.{AreNumbered, get_in, rec_in, rec_opt}
-use Rattle.dms_store.specs.Scans.{spot}
 use Rattle.dms_store.specs.Serving.{IsServed, IsServedShape}
 use Rattle.dms_store.specs.Spelled.{db_in, file_in}
 

@@ -1,5 +1,5 @@
 -- Blocks as a store sees them: each content as the database that it spells.
-use Rattle.std.specs.Prelude.{ℕ, ◌≡◌, ◌≤◌, List, [], Bool, true, false, IsTrue, IsSome, Some, None, if◌then◌else◌, map}
+use Rattle.std.specs.Prelude.{ℕ, ◌≡◌, ◌≤◌, [], Bool, true, false, IsTrue, IsSome, None, if◌then◌else◌, map}
 use Rattle.std.specs.declared.option.Option.{Option}
 use Rattle.std.specs.Str.{bytes_eq}
 use Rattle.dms_moments.specs.Moments.{Clock, seen_as}

@@ -1,12 +1,11 @@
 -- What calls on blocks leave of a store.
-use Rattle.std.proofs.Common.{ℕ, zero, suc, ◌+◌, ◌<◌, ◌≤◌, ◌≡◌, ◌∙◌, ◌^◌, ◌++◌, List, [], ◌∷◌, Bool, true, false, cond, IsTrue, Some, None, refl, sym, ap, subst, length, map, take, arith}
+use Rattle.std.proofs.Common.{ℕ, zero, suc, ◌+◌, ◌≤◌, ◌≡◌, ◌∙◌, ◌++◌, List, [], ◌∷◌, Bool, true, false, cond, IsTrue, Some, refl, sym, ap, subst, map, take, arith}
 use Rattle.std.proofs.lemmas.List.{map-append, length-map}
 use Rattle.std.specs.List.{AllByRecursion}
 use Rattle.std.specs.Str.{bytes_eq}
-use Rattle.std.specs.declared.option.Option.{Option}
 use Rattle.std.specs.declared.result.Result.{Result}
 use Rattle.std.specs.declared.result.Result.TheVariants.{Ok, Err}
-use Rattle.dms_moments.specs.Moments.{Now, Runs}
+use Rattle.dms_moments.specs.Moments.{Runs}
 use Rattle.std.proofs.lemmas.Slice.Eq.{bytes_eq-Decides}
 use Rattle.dms_moments.specs.MomentLaws.{runs_weaken}
 use Rattle.dms_moments.specs.SeenLaws.{now_seen_as, runs_below_as, runs_seen_as}
@@ -23,7 +22,7 @@ use Rattle.dms_block.specs.Held as held
 use Rattle.dms_desc.specs.Shape.{Described}
 use Rattle.dms_desc_bytes.specs.Spelling.{spelling}
 use Rattle.dms_model.specs.Db.{Db}
-use Rattle.dms_model.specs.Points.{Point, Stop, Front, TextIs, TextGrows, Leaves, LeavesText, Stays, IsUnder}
+use Rattle.dms_model.specs.Points.{Point, Stop, Front, TextIs, Leaves, LeavesText, IsUnder}
 use Rattle.dms_model.specs.Seen as store
 use Rattle.dms_slots.specs.SlotBlocks.{file_of}
 use Rattle.dms_store.specs.Lifted.{IsUsable, Serves, db_of, effort_of, faults_with, here_of, lifted, point_of, seen_of, stop_of, store_seen}

@@ -1,5 +1,5 @@
 -- What a search through the slots of a data set says of a database.
-use Rattle.std.proofs.Common.{◌≡◌, ◌∙◌, ◌+◌, ◌-◌, ◌*◌, ◌≤◌, ◌<◌, ℕ, zero, suc, List, [], Bool, true, IsTrue, IfOk, IfSome, Some, None, refl, sym, ap, subst, take, drop, length, min, arith}
+use Rattle.std.proofs.Common.{◌≡◌, ◌∙◌, ◌+◌, ◌*◌, ℕ, Bool, true, IsTrue, IfOk, IfSome, Some, None, refl, sym, ap, take, drop, length, min, arith}
 use Rattle.std.specs.declared.option.Option.{Option}
 use Rattle.std.specs.declared.result.Result.{Result}
 use Rattle.std.specs.declared.result.Result.TheVariants.{Ok, Err}
@@ -15,7 +15,7 @@ use Rattle.dms_model.specs.Fitting.{SpotFits}
 use Rattle.dms_model.specs.Members.{first_member, last_member}
 use Rattle.dms_model.specs.Stores.{TellsOf}
 use Rattle.dms_model.specs.Valid.{is_data_set}
-use Rattle.dms_slots.specs.SlotBlocks.{file_of, per_block, slots_of}
+use Rattle.dms_slots.specs.SlotBlocks.{per_block, slots_of}
 use Rattle.dms_store.specs.Files.{slots_at}
 use Rattle.dms_store.specs.Finding.{number_at, served_at}
 use Rattle.dms_store.specs.Lifted.{db_of}

@@ -1,5 +1,5 @@
 -- The records of a content: what stands under a number, and all of them in order.
-use Rattle.std.proofs.Common.{◌≡◌, ◌≢◌, ◌∙◌, ◌+◌, ◌-◌, ◌<◌, ◌≤◌, ℕ, zero, suc, List, [], ◌∷◌, ◌++◌, Bool, true, false, cond, Some, None, refl, sym, ap, subst, slice_get, arith}
+use Rattle.std.proofs.Common.{◌≡◌, ◌≢◌, ◌∙◌, ◌+◌, ◌-◌, ◌<◌, ◌≤◌, ℕ, zero, suc, List, [], ◌∷◌, ◌++◌, Bool, true, false, cond, Some, None, refl, sym, ap, slice_get, arith}
 use Rattle.std.specs.Prelude.{T, ◌==◌, ◌&&◌, if◌then◌else◌}
 use Rattle.std.specs.declared.option.Option.{Option}
 use Rattle.std.specs.FinMap.{entries, entries-from_sorted, find, from_entries, from_sorted, get, get-from_entries, get-from_sorted, is_sorted, same_map}
@@ -10,10 +10,9 @@ use Rattle.dms_block.specs.Content.{Content}
 use Rattle.dms_desc.specs.Lookups.{structure_of}
 use Rattle.dms_desc.specs.Shape.{Shape, Described}
 use Rattle.dms_desc.specs.declared.record.Record.{Record}
-use Rattle.dms_layout.specs.declared.slot.Slot.{Slot}
 use Rattle.dms_layout.specs.declared.slot.SlotRead.{SlotRead}
 use Rattle.dms_layout.specs.declared.slot.SlotRead.TheVariants.{Free, Used, Bad}
-use Rattle.dms_model.specs.Db.{Db, Place, place_cmp}
+use Rattle.dms_model.specs.Db.{Place, place_cmp}
 use Rattle.dms_model.specs.Valid.{is_data_set}
 use Rattle.dms_sets.specs.Listing.{places_total, places_same}
 use Rattle.dms_slots.specs.SlotBlocks.{or_free, slot_at, slots_of}

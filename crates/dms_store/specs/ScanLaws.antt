@@ -1,11 +1,10 @@
 -- The first member of a data set behind a bound is the first used slot from there on, and the last before one the last.
-use Rattle.std.proofs.Common.{◌≡◌, ◌≢◌, ◌∙◌, ◌+◌, ◌-◌, ◌≤◌, ◌<◌, ℕ, zero, suc, List, [], ◌∷◌, ◌++◌, Bool, true, false, cond, Some, None, refl, sym, ap, subst, take, drop, slice_get, length, arith}
+use Rattle.std.proofs.Common.{◌≡◌, ◌≢◌, ◌∙◌, ◌+◌, ◌-◌, ◌≤◌, ◌<◌, ℕ, zero, suc, List, [], ◌∷◌, ◌++◌, Bool, true, false, cond, Some, None, refl, sym, ap, take, drop, slice_get, length, arith}
 use Rattle.std.specs.Prelude.{◌&&◌, ◌==◌, nat_le, nat_lt}
 use Rattle.std.specs.declared.option.Option.{Option}
 use Rattle.std.specs.FinMap.{entries}
 use Rattle.std.specs.Ordering.{nat_cmp, ordering_then, is_lt, is_gt}
-use Rattle.std.specs.declared.cmp.Ordering.{Ordering}
-use Rattle.std.specs.declared.cmp.Ordering.TheVariants.{Less, Equal, Greater}
+use Rattle.std.specs.declared.cmp.Ordering.TheVariants.{Greater}
 use Rattle.std.proofs.lemmas.Bool.Decides.{nat_tests}
 use Rattle.dms_base.specs.declared.value.Value.{Value}
 use Rattle.dms_block.specs.Content.{Content}
@@ -14,22 +13,20 @@ use Rattle.dms_desc.specs.declared.bound.Bound.TheVariants.{Start, End, At, From
 use Rattle.dms_desc.specs.declared.structure.KeyPart.{KeyPart}
 use Rattle.dms_desc.specs.declared.record.Record.{Record}
 use Rattle.dms_desc.specs.Keys.{key_cmp}
-use Rattle.dms_desc.specs.Kinds.{over}
 use Rattle.dms_desc.specs.Lookups.{structure_of}
 use Rattle.dms_desc.specs.Shape.{Shape, Described}
 use Rattle.dms_desc.specs.Sorted.{sorted, place_in, first, last, or_else}
-use Rattle.dms_layout.specs.declared.slot.Slot.{Slot}
 use Rattle.dms_layout.specs.declared.slot.SlotRead.{SlotRead}
 use Rattle.dms_layout.specs.declared.slot.SlotRead.TheVariants.{Free, Used, Bad}
 use Rattle.dms_model.specs.declared.spot.Spot.{Spot}
-use Rattle.dms_model.specs.Db.{Db, Place}
+use Rattle.dms_model.specs.Db.{Place}
 use Rattle.dms_model.specs.Members.{belongs, first_member, first_of, is_after_bound, is_before, is_before_bound, last_member, last_of, members, spot_of, spots_of}
 use Rattle.dms_model.specs.Valid.{is_data_set}
 use Rattle.dms_slots.specs.SlotBlocks.{or_free, slots_of}
 use Rattle.dms_store.specs.Finding.{structure_there}
 use Rattle.dms_store.specs.Rows.{AreNumbered, entries_in}
 use Rattle.dms_store.specs.Scans.{spot, owned_spot, first_used, last_used, start_of, stop_of}
-use Rattle.dms_store.specs.Spelled.{rows_from, rows_in, row_of, file_in, db_in}
+use Rattle.dms_store.specs.Spelled.{rows_from, rows_in, file_in, db_in}
 
 -- ---- the members are the owner's used slots
 

@@ -1,7 +1,6 @@
 -- One step of a search through the slots of a data set.
-use Rattle.std.proofs.Common.{◌≡◌, ◌∙◌, ◌+◌, ◌-◌, ◌*◌, ◌≤◌, ◌<◌, ℕ, zero, suc, List, [], ◌∷◌, ◌++◌, Some, None, refl, sym, ap, subst, take, drop, length, length-append, min, slice_get, arith}
+use Rattle.std.proofs.Common.{◌≡◌, ◌∙◌, ◌+◌, ◌-◌, ◌*◌, ◌≤◌, ◌<◌, ℕ, zero, suc, List, [], ◌∷◌, Some, None, refl, ap, take, drop, length, length-append, min, slice_get, arith}
 use Rattle.std.proofs.Math.Nat as nat
-use Rattle.std.specs.declared.option.Option.{Option}
 use Rattle.dms_desc.specs.Shape.{Shape}
 use Rattle.dms_desc.specs.Sorted.{or_else}
 use Rattle.dms_layout.specs.declared.slot.SlotRead.{SlotRead}

@@ -1,5 +1,5 @@
 -- The descriptions that a store on blocks can keep a database under: those that a schema can have.
-use Rattle.std.specs.Prelude.{ℕ, ◌≡◌, ◌≤◌, List, [], true, Some, length}
+use Rattle.std.specs.Prelude.{◌≡◌, ◌≤◌, [], true, Some, length}
 use Rattle.std.specs.List.{AllByRecursion}
 use Rattle.dms_desc.specs.Shape.{Shape, Described}
 use Rattle.dms_layout.specs.Slots.{AreKinds, slot_width}

@@ -1,31 +1,29 @@
 -- The members of a set or automatic subset, by one look at its file's list.
-use Rattle.std.proofs.Common.{◌≡◌, ◌∙◌, ◌+◌, ◌-◌, ◌<◌, ◌≤◌, ◌^◌, ℕ, zero, suc, List, [], ◌∷◌, Bool, true, false, cond, IsTrue, Some, None, refl, sym, ap, subst, length, slice_get, arith}
-use Rattle.std.specs.Prelude.{◌==◌, ◌&&◌, nat_lt}
+use Rattle.std.proofs.Common.{◌≡◌, ◌∙◌, ◌+◌, ◌-◌, ◌<◌, ◌^◌, ℕ, zero, suc, List, [], ◌∷◌, true, false, cond, Some, None, refl, sym, ap, subst, slice_get, arith}
+use Rattle.std.specs.Prelude.{◌==◌, nat_lt}
 use Rattle.std.specs.List.{AllByRecursion}
 use Rattle.std.specs.declared.option.Option.{Option}
 use Rattle.std.proofs.lemmas.Bool.Decides.{nat_tests}
 use Rattle.dms_base.specs.declared.kind.ItemKind.{ItemKind}
 use Rattle.dms_base.specs.declared.value.Value.{Value}
-use Rattle.dms_base.specs.Fits.{IsKind, fits}
+use Rattle.dms_base.specs.Fits.{IsKind}
 use Rattle.dms_block.specs.Content.{Content}
 use Rattle.dms_desc.specs.declared.bound.Bound.{Bound}
 use Rattle.dms_desc.specs.declared.bound.Bound.TheVariants.{Start, End, At, From}
 use Rattle.dms_desc.specs.declared.structure.Item.{Item}
 use Rattle.dms_desc.specs.declared.structure.KeyPart.{KeyPart}
-use Rattle.dms_desc.specs.Lookups.{items_of, over_of, parts_of, set_of, structure_at, structure_of}
+use Rattle.dms_desc.specs.Lookups.{items_of, over_of, parts_of, structure_at, structure_of}
 use Rattle.dms_desc.specs.Kinds.{over}
-use Rattle.dms_desc.specs.Plain.{ArePlain, FitsKind, IsPlain}
+use Rattle.dms_desc.specs.Plain.{ArePlain, IsPlain}
 use Rattle.dms_desc.specs.Shape.{Shape, Described}
 use Rattle.dms_key.specs.KeyBytes as bytes
 use Rattle.dms_layout.specs.Slots.{AreKinds}
-use Rattle.dms_model.specs.Db.{Db}
 use Rattle.dms_model.specs.Fitting.{MayStart, fits_item, key_fits}
 use Rattle.dms_model.specs.Fitting as fitting
 use Rattle.dms_model.specs.Members.{first_member, last_member}
-use Rattle.dms_model.specs.Valid.{is_data_set}
 use Rattle.dms_ordlist.specs.Lists.{first_from, last_to}
 use Rattle.dms_sets.specs.Bounds as bounds
-use Rattle.dms_sets.specs.Entries.{IsKey, kinds_of}
+use Rattle.dms_sets.specs.Entries.{kinds_of}
 use Rattle.dms_sets.specs.Finds.{first_member_by, last_member_by, spot_by}
 use Rattle.dms_sets.specs.Padded.{BoundSmall, from_bytes, to_bytes}
 use Rattle.dms_sets.specs.Sets.{entries_of, items_over, kinds_over}

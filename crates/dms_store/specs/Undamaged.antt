@@ -1,6 +1,5 @@
 -- No block is found damaged where a database is told.
-use Rattle.std.proofs.Common.{◌≡◌, ◌∙◌, ◌<◌, ℕ, List, [], Bool, true, false, cond, IsTrue, Some, None, refl, sym, ap, subst, length, get_or, arith, inl, inr}
-use Rattle.std.specs.declared.option.Option.{Option}
+use Rattle.std.proofs.Common.{◌≡◌, ◌∙◌, ◌<◌, ℕ, List, [], Bool, true, false, IsTrue, Some, None, refl, sym, ap, subst, length, get_or, arith, inl, inr}
 use Rattle.std.specs.declared.result.Result.{Result}
 use Rattle.std.specs.declared.result.Result.TheVariants.{Ok, Err}
 use Rattle.dms_block.specs.declared.block_fault.BlockFault.{BlockFault}
@@ -9,13 +8,12 @@ use Rattle.dms_block.specs.declared.blocks.Blocks.{Ghosts}
 use Rattle.dms_block.specs.declared.overlay.Overlay.{Overlay}
 use Rattle.dms_block.specs.Content.{Content}
 use Rattle.dms_block.specs.Faults.{Undamaged}
-use Rattle.dms_block.specs.Held.{Agrees, Caused, CausedOr, HasCauses, HasCausesOr, Held, IsShort}
-use Rattle.dms_block.specs.View.{seen, under, written}
+use Rattle.dms_block.specs.Held.{Agrees, HasCauses, HasCausesOr, Held, IsShort}
+use Rattle.dms_block.specs.View.{seen, under}
 use Rattle.dms_desc.specs.Lookups.{structure_of}
 use Rattle.dms_desc.specs.Shape.{Shape, Described}
 use Rattle.dms_model.specs.Db.{Db}
 use Rattle.dms_model.specs.Valid.{is_data_set}
-use Rattle.dms_slots.specs.Seen.{BadIn}
 use Rattle.dms_slots.specs.SlotBlocks.{file_of, is_block}
 use Rattle.dms_store.specs.Files.{block_at, whole_at}
 use Rattle.dms_store.specs.Finding.{BadSlot, seen_below}

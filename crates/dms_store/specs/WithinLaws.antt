@@ -1,10 +1,8 @@
 -- Slots above POPULATION are free where a database is spelled, so a search stops there.
-use Rattle.std.proofs.Common.{◌≡◌, ◌∙◌, ◌+◌, ◌-◌, ◌≤◌, ◌<◌, ◌⊎◌, inl, inr, ℕ, zero, suc, List, [], ◌∷◌, Bool, true, false, cond, Some, None, IfSome, refl, sym, ap, subst, take, drop, length, min, arith}
+use Rattle.std.proofs.Common.{◌≡◌, ◌∙◌, ◌+◌, ◌≤◌, ◌<◌, ℕ, zero, suc, List, [], ◌∷◌, Bool, true, false, cond, Some, None, IfSome, refl, sym, ap, subst, take, drop, length, min, arith}
 use Rattle.std.specs.Prelude.{◌&&◌, ◌==◌, nat_le, nat_lt}
 use Rattle.std.specs.declared.option.Option.{Option}
 use Rattle.std.proofs.lemmas.Bool.Decides.{nat_tests}
-use Rattle.dms_desc.specs.declared.bound.Bound.{Bound}
-use Rattle.dms_desc.specs.declared.bound.Bound.TheVariants.{Start, End, At, From}
 use Rattle.dms_desc.specs.Lookups.{over_of, parts_of, set_of, structure_of}
 use Rattle.dms_desc.specs.Kinds.{over}
 use Rattle.dms_desc.specs.Keys.{key_of}
@@ -23,7 +21,7 @@ use Rattle.dms_model.specs.Valid.{is_data_set, owner_stands}
 use Rattle.dms_sets.specs.Tests.{both_of}
 use Rattle.dms_slots.specs.SlotBlocks.{slot_opt}
 use Rattle.dms_store.specs.Finding.{slot_record}
-use Rattle.dms_store.specs.Scans.{IsRecordSpot, first_used, last_used, owned_spot, spot, stop_of}
+use Rattle.dms_store.specs.Scans.{IsRecordSpot, first_used, last_used, owned_spot, spot}
 use Rattle.dms_store.specs.Spelled.{counted_in, links_stand, owned_in, slot_stands, slots_stand}
 
 module _ (desc : Described) (db : Db) (s : Shape) where

@@ -1,4 +1,4 @@
-use Rattle.std.proofs.Common.{Bor, ◌≡◌, ◌∙◌, ap, subst, sym, take, length, min, refl, Option, Some, None}
+use Rattle.std.proofs.Common.{Bor, ◌≡◌, ◌∙◌, ap, subst, sym, take, length, min, refl, Option, Some}
 use Rattle.std.specs.Option.{option_copied, option_map}
 use Rattle.dms_block.specs.Content.{Content}
 use Rattle.dms_block.specs.View.{Reads, seen, seen_counts, under}

@@ -1,10 +1,10 @@
-use Rattle.std.proofs.Common.{Bor, ◌≡◌, ◌∙◌, ◌≤◌, ap, subst, sym, length, true, IfSome, Option, Some, None}
+use Rattle.std.proofs.Common.{Bor, ◌≡◌, ◌∙◌, ap, subst, sym, IfSome, Option, Some}
 use Rattle.std.specs.Option.{option_copied, option_map}
 use Rattle.std.specs.FinMap.{get}
 use Rattle.dms_block.specs.Content.{Content}
 use Rattle.dms_block.specs.View.{seen, under}
 use Rattle.dms_desc.specs.Lookups.{structure_of}
-use Rattle.dms_desc.specs.Shape.{Shape, described, shape_of}
+use Rattle.dms_desc.specs.Shape.{described, shape_of}
 use Rattle.dms_desc.specs.declared.record.Record.{Record}
 use Rattle.dms_desc.specs.declared.structure.Structure.{Structure}
 use Rattle.dms_layout.specs.declared.slot.Slot.{Slot}
@@ -14,7 +14,6 @@ use Rattle.dms_slots.specs.Seen.{BadAt}
 use Rattle.dms_slots.specs.SlotBlocks.{block_of, file_of, slot_at}
 use Rattle.dms_store.specs.Finding.{BadSlot, bad_slot, got, low_number, record_fits_opt, seen_below, served_at, set_if}
 use Rattle.dms_store.specs.Noted.{tells_if}
-use Rattle.dms_store.specs.Rows.{rec_opt}
 use Rattle.dms_store.specs.Undamaged.{not_set}
 use Rattle.dms_store.proofs.getting.get.Goals as goal
 

@@ -1,7 +1,7 @@
-use Rattle.std.proofs.Common.{◌≡◌, ◌∙◌, ◌+◌, ◌-◌, ◌*◌, ◌<◌, ◌≤◌, ap, sym, subst, arith, length, min, IsTrue, Ok, Err, Some, None, Option, take}
+use Rattle.std.proofs.Common.{◌≡◌, ◌∙◌, ◌+◌, ◌-◌, ◌*◌, ap, sym, arith, length, Ok, Err, Some, None, Option, take}
 use Rattle.dms_block.specs.Content.{Content, changed}
 use Rattle.dms_block.specs.HeldLaws.{told_after}
-use Rattle.dms_block.specs.View.{seen, seen_counts, under}
+use Rattle.dms_block.specs.View.{seen, seen_counts}
 use Rattle.dms_block.specs.ViewLaws.{counts_seen, reads_as, reads_on}
 use Rattle.dms_desc.specs.Shape.{shape_of}
 use Rattle.dms_model.specs.declared.spot.Spot.{Spot}

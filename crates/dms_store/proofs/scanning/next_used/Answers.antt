@@ -1,7 +1,7 @@
-use Rattle.std.proofs.Common.{◌≡◌, ◌∙◌, ◌+◌, ◌-◌, ◌*◌, ◌<◌, ◌≤◌, ap, sym, subst, arith, length, min, IsTrue, Ok, Err, Some, None, Option}
+use Rattle.std.proofs.Common.{◌≡◌, ◌∙◌, ◌+◌, ◌-◌, ◌*◌, ◌<◌, ◌≤◌, ap, sym, arith, length, min, Ok, Err, Some, None, Option}
 use Rattle.dms_block.specs.Content.{Content, changed}
 use Rattle.dms_block.specs.HeldLaws.{told_after}
-use Rattle.dms_block.specs.View.{seen, seen_counts, under}
+use Rattle.dms_block.specs.View.{seen, seen_counts}
 use Rattle.dms_block.specs.ViewLaws.{counts_seen, reads_as, reads_more, reads_on}
 use Rattle.dms_desc.specs.Shape.{shape_of}
 use Rattle.dms_model.specs.declared.spot.Spot.{Spot}
@@ -9,7 +9,7 @@ use Rattle.dms_ordlist.specs.SeenLaws.{causes_since}
 use Rattle.dms_slots.specs.Seen.{BadIn}
 use Rattle.dms_slots.specs.SlotBlocks.{file_of, per_block, slot_at}
 use Rattle.dms_store.specs.Finding.{bad_since}
-use Rattle.dms_store.specs.Scans.{first_used, owned_spot}
+use Rattle.dms_store.specs.Scans.{owned_spot}
 use Rattle.dms_store.specs.ScanSteps.{next_end, next_found, next_free}
 use Rattle.dms_store.proofs.scanning.next_used.Goals as goal
 

@@ -1,6 +1,5 @@
 use Rattle.dms_block.specs.Faults.{Undamaged}
 use Rattle.dms_desc.specs.Shape.{described}
-use Rattle.dms_store.specs.Lifted.{IsUsable}
 use Rattle.dms_store.specs.LiftedLaws.{silent_lifted}
 use Rattle.dms_store.specs.Undamaged.{undamaged_below}
 use Rattle.std.proofs.Common.{subst, sym}
