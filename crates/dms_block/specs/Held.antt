@@ -94,9 +94,9 @@ Leaves a b points next = Runs a.clock b.clock (λ stop. Prefix a.whole a.sure po
 abbrev pub LeavesText : Held → Held → List ℕ → Type 0
 LeavesText a b bytes = Runs a.clock b.clock (λ stop. Prefix a.whole a.sure a.points a.next stop × TextGrows a.said bytes stop)
 
--- the file has the block, and where the content is told the block isn't 1,024 bytes long
+-- the file is the object's and has the block, and where the content is told the block isn't 1,024 bytes long
 abbrev pub IsShort : Held → ℕ → ℕ → Type 0
-IsShort h f b = (b < h.counts f) × (IsTrue h.told → length (block_in h.content f b) ≡ 1024 → ⊥)
+IsShort h f b = IsTrue (h.owns f) × (b < h.counts f) × (IsTrue h.told → length (block_in h.content f b) ≡ 1024 → ⊥)
 
 -- one failure of this kind, with its cause
 abbrev pub Caused : BlockFault → Held → Held → Type 0

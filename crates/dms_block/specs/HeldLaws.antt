@@ -1,5 +1,5 @@
 -- One call on blocks after another.
-use Rattle.std.proofs.Common.{ℕ, ◌+◌, ◌≤◌, ◌≡◌, ◌∙◌, List, length, refl, sym, ap, subst, arith, IsTrue, inl, inr}
+use Rattle.std.proofs.Common.{ℕ, ◌+◌, ◌≤◌, ◌≡◌, ◌∙◌, List, length, refl, sym, ap, subst, arith, Bool, IsTrue, inl, inr}
 use Rattle.std.specs.Prelude.{IsErrOf}
 use Rattle.std.specs.declared.result.Result.{Result}
 use Rattle.std.specs.declared.result.Result.TheVariants.{Ok, Err}
@@ -161,7 +161,11 @@ alters_as y p = record { passes = p.passes; stays = p.stays; memory = λ e. absu
 -- causes
 
 pub short_on : {a b : Held} (f n : ℕ) → Lasts a b → Same a b → IsShort b f n → IsShort a f n
-short_on {a} {b} f n lasts same short = (omega (arith, short.0, ap (λ (c : ℕ → ℕ). c f) same.counts), λ t long. short.1 (told_after lasts t) (ap (λ (c : Content). length (block_in c f n)) (same.content t) ∙ long))
+short_on {a} {b} f n lasts same short = (
+  subst (λ (owns : ℕ → Bool). IsTrue (owns f)) lasts.owns short.0,
+  omega (arith, short.1, ap (λ (c : ℕ → ℕ). c f) same.counts),
+  λ t long. short.2 (told_after lasts t) (ap (λ (c : Content). length (block_in c f n)) (same.content t) ∙ long),
+)
 
 counted_on : (e : BlockFault) (a b c : Faults) → b ≡ a → Raised e b c → Raised e a c
 counted_on e a b c is h = subst (λ f. Raised e f c) is h

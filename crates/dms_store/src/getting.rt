@@ -1,0 +1,52 @@
+ghost use Rattle.std.specs.Prelude.{◌≡◌, IfOk, IfSome};
+ghost use Rattle.std.specs.FinMap.{get};
+ghost use Rattle.dms_block.specs.Held.{HasCausesOr};
+ghost use Rattle.dms_block.specs.View.{Reads, under};
+ghost use Rattle.dms_desc.specs.Shape.{described};
+ghost use Rattle.dms_model.specs.Fitting.{IsDataSet, IsNumber, RecordFits};
+ghost use Rattle.dms_model.specs.Stores.{Tells};
+ghost use Rattle.dms_slots.specs.SlotBlocks.{slot_opt};
+ghost use Rattle.dms_store.specs.Finding.{BadSlot};
+ghost use Rattle.dms_store.specs.Lifted.{IsUsable, db_of};
+ghost use Rattle.dms_store.specs.Rows.{rec_opt};
+
+use dms_block::{BlockFault, Blocks, Overlay};
+use dms_desc::{Description, Record};
+use dms_layout::Slot;
+use dms_slots::read_slot;
+use std::alloc::Global;
+
+// The record of a slot.
+fn record_of(slot: Option<Slot>) -> Option<Record>
+    ensures { result ≡ rec_opt (slot_opt slot) }
+{
+    match slot {
+        None => None,
+        Some(slot) => Some(slot.rec),
+    }
+}
+
+/// The record of a data set with this number, or none.
+pub fn get<B: Blocks>(
+    over: &mut Overlay<B>,
+    alloc: Global,
+    desc: &Description,
+    set: u16,
+    number: u64,
+) -> Result<Option<Record>, BlockFault>
+    requires usable { IsUsable (described desc.now) over.old }
+    requires set { IsDataSet (described desc.now) set }
+    requires number { IsNumber (described desc.now) set number }
+    ensures found { Tells (db_of (described desc.now) (under over.old).told (under over.old).content) result (λ d. get d.records (set, number)) }
+    ensures fits { IfOk result (λ o. IfSome o (RecordFits (described desc.now) set)) }
+    ensures reads { Reads 1 result over.old over.new }
+    ensures causes { HasCausesOr (BadSlot (described desc.now) set over.old) result (under over.old) (under over.new) }
+{
+    match desc.structure(set) {
+        None => Ok(None),
+        Some(s) => match read_slot(over, alloc, s, number) {
+            Err(e) => Err(e),
+            Ok(slot) => Ok(record_of(slot)),
+        },
+    }
+}

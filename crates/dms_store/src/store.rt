@@ -1,0 +1,142 @@
+ghost use Rattle.std.specs.Prelude.{◌≡◌, ◌<◌, ◌+◌, ◌^◌, ◌++◌, [], ◌∷◌, Some, IfOk, IfSome, IfErr, OnOk, IsErrOf, IsOkUnless};
+ghost use Rattle.dms_block.specs.Faults.{Undamaged};
+ghost use Rattle.dms_block.specs.Texts.{Prints};
+ghost use Rattle.dms_block.specs.View.{written};
+ghost use Rattle.dms_desc.specs.Shape.{described};
+ghost use Rattle.dms_model.specs.Db.{Db};
+ghost use Rattle.dms_model.specs.Fitting.{IsDataSet, IsNumber, RecordFits};
+ghost use Rattle.dms_model.specs.Points.{Leaves};
+ghost use Rattle.dms_model.specs.Seen.{GoesBack, HasCauses, IfTold, IsMute, IsSilent, Keeps, KeepsPoints, MadeQuiet, MadeSure, SaysPart, Syncs};
+ghost use Rattle.dms_store.specs.Lifted.{IsUsable, Serves};
+ghost use Rattle.dms_model.specs.Stores.{Tells};
+ghost use Rattle.dms_store.specs.Looked.{Looked};
+ghost use Rattle.dms_store.specs.Storing.{seen_by};
+ghost use Rattle.std.specs.FinMap.{get};
+
+use crate::getting;
+use crate::note::note;
+use dms_base::Memory;
+use dms_block::{BlockFault, Blocks, Overlay};
+use dms_desc::{Description, Record};
+use std::alloc::Global;
+
+/// A database on blocks. Between two calls nothing is written over them.
+#[derive(Drop)]
+pub struct BlockStore<B: Blocks> {
+    pub desc: Description,
+    pub over: Overlay<B>,
+    /// How often it answered that a block is damaged. The count stands still at its type's end.
+    pub found: u64,
+}
+
+impl<B: Blocks> BlockStore<B> {
+    /// The database that blocks spell, under a copy of the description. Where memory is refused the blocks come back.
+    pub fn new(alloc: Global, desc: &Description, below: B) -> Result<BlockStore<B>, (Memory, B)>
+        ensures desc { IfOk result (λ s. described s.desc ≡ described desc.now) }
+        ensures below { IfOk result (λ s. s.over.below ≡ below) }
+        ensures found { IfOk result (λ s. s.found ≡ 0) }
+        ensures usable { (B.held below).sound → Serves (described desc.now) (B.held below) → IfOk result (λ s. IsUsable (described s.desc) s.over) }
+        ensures below_back { IfErr result (λ e. e.1 ≡ below) }
+    {
+        match desc.copy(alloc) {
+            Ok(desc) => Ok(BlockStore {
+                desc,
+                over: Overlay::new(alloc, below),
+                found: 0,
+            }),
+            Err(e) => Err((e, below)),
+        }
+    }
+
+    /// The blocks.
+    pub fn into_below(self) -> B
+        ensures { result ≡ self.over.below }
+    {
+        self.over.into_below()
+    }
+
+    /// The record of a data set with this number, or none.
+    pub fn get(
+        &mut self,
+        alloc: Global,
+        set: u16,
+        number: u64,
+    ) -> Result<Option<Record>, BlockFault>
+        requires sound { IsUsable (described self.old.desc) self.old.over }
+        requires set { IsDataSet (described self.old.desc) set }
+        requires number { IsNumber (described self.old.desc) set number }
+        ensures desc { self.new.desc ≡ self.old.desc }
+        ensures found { Tells (seen_by self.old).db result (λ d. get d.records (set, number)) }
+        ensures fits { IfOk result (λ o. IfSome o (RecordFits (described self.old.desc) set)) }
+        ensures looked { Looked result (seen_by self.old) (seen_by self.new) }
+        ensures same { B.same_blocks self.old.over.below self.new.over.below }
+    {
+        let found = getting::get(&mut self.over, alloc, &self.desc, set, number);
+        note(&mut self.found, found)
+    }
+
+    /// Makes a quiet point, and answers its number. Takes no memory. Where the next number is 2^64 - 1 it stays so.
+    pub fn quiet(&mut self) -> Result<u64, BlockFault>
+        requires { IsUsable (described self.old.desc) self.old.over }
+        ensures desc { self.new.desc ≡ self.old.desc }
+        ensures number { (seen_by self.old).next + 1 < 2 ^ 64 → IfOk result (λ n. n ≡ (seen_by self.old).next) }
+        ensures made { OnOk result (MadeQuiet (seen_by self.old) (seen_by self.new)) }
+        ensures mute { IsMute (seen_by self.old) (seen_by self.new) }
+        ensures leaves { let s = seen_by self.old in IfTold s (Leaves s.whole s.clock (seen_by self.new).clock s.sure (s.points ++ s.here ∷ []) (s.next + 1) s.said) }
+        ensures memory { IsErrOf result BlockFault.Memory → ⊥ }
+        ensures same { B.same_blocks self.old.over.below self.new.over.below }
+        ensures effort { (seen_by self.new).effort ≡ (seen_by self.old).effort }
+        ensures undamaged { (d : Db) → (seen_by self.old).db ≡ Some d → Undamaged result }
+        ensures mute_fault { IsErrOf result BlockFault.Say → ⊥ }
+        ensures causes { HasCauses result (seen_by self.old) (seen_by self.new) }
+    {
+        note(&mut self.found, self.over.below.quiet())
+    }
+
+    /// Makes all quiet points so far sure. Takes no memory.
+    pub fn sync(&mut self) -> Result<(), BlockFault>
+        requires { IsUsable (described self.old.desc) self.old.over }
+        ensures desc { self.new.desc ≡ self.old.desc }
+        ensures made { OnOk result (MadeSure (seen_by self.old) (seen_by self.new)) }
+        ensures memory { IsErrOf result BlockFault.Memory → ⊥ }
+        ensures silent { IsSilent (seen_by self.old) (seen_by self.new) }
+        ensures same { B.same_blocks self.old.over.below self.new.over.below }
+        ensures effort { Syncs result (seen_by self.old).effort (seen_by self.new).effort }
+        ensures undamaged { (d : Db) → (seen_by self.old).db ≡ Some d → Undamaged result }
+        ensures mute_fault { IsErrOf result BlockFault.Say → ⊥ }
+        ensures causes { HasCauses result (seen_by self.old) (seen_by self.new) }
+    {
+        note(&mut self.found, self.over.below.sync())
+    }
+
+    /// Goes back to the last quiet point, or to the database that it began with.
+    pub fn back_out(&mut self, alloc: Global) -> Result<(), BlockFault>
+        requires { IsUsable (described self.old.desc) self.old.over }
+        ensures desc { self.new.desc ≡ self.old.desc }
+        ensures db { OnOk result ((seen_by self.new).db ≡ (seen_by self.old).mark) }
+        ensures keeps { OnOk result (KeepsPoints (seen_by self.old) (seen_by self.new)) }
+        ensures silent { IsSilent (seen_by self.old) (seen_by self.new) }
+        ensures same { B.same_blocks self.old.over.below self.new.over.below }
+        ensures effort { GoesBack result (seen_by self.old).effort (seen_by self.new).effort }
+        ensures undamaged { (d : Db) → (seen_by self.old).db ≡ Some d → Undamaged result }
+        ensures mute_fault { IsErrOf result BlockFault.Say → ⊥ }
+        ensures causes { HasCauses result (seen_by self.old) (seen_by self.new) }
+    {
+        note(&mut self.found, self.over.below.back_out(alloc))
+    }
+
+    /// Prints. Takes no memory of its own. A failed call prints the first bytes or none.
+    pub fn say(&mut self, bytes: &[u8]) -> Result<(), BlockFault>
+        requires { IsUsable (described self.old.desc) self.old.over }
+        ensures desc { self.new.desc ≡ self.old.desc }
+        ensures text { OnOk result (Prints (seen_by self.old).said (seen_by self.new).said bytes.now) }
+        ensures part { SaysPart (seen_by self.old) (seen_by self.new) bytes.now }
+        ensures keeps { OnOk result (Keeps (seen_by self.old) (seen_by self.new)) }
+        ensures fault { IsOkUnless result BlockFault.Say }
+        ensures same { B.same_blocks self.old.over.below self.new.over.below }
+        ensures effort { (seen_by self.new).effort ≡ (seen_by self.old).effort }
+        ensures causes { HasCauses result (seen_by self.old) (seen_by self.new) }
+    {
+        note(&mut self.found, self.over.below.say(bytes))
+    }
+}
