@@ -1,7 +1,7 @@
 -- Scanning finds the entries of a new database.
-use Rattle.std.proofs.Common.{ℕ, zero, suc, ◌+◌, ◌/◌, ◌≤◌, ◌≡◌, Bool, true, false, List, [], ◌∷◌, ◌++◌, length, take, drop, get_or, refl, sym, ◌∙◌, ap, subst, arith}
+use Rattle.std.proofs.Common.{ℕ, zero, suc, ◌≤◌, ◌≡◌, Bool, true, false, List, [], ◌∷◌, ◌++◌, length, take, drop, get_or, refl, ◌∙◌, ap, arith}
 use Rattle.std.specs.Prelude.{◌&&◌, ◌||◌, slice_index}
-use Rattle.dms_site.specs.Files.{Files, overlaid, padded}
+use Rattle.dms_site.specs.Files.{overlaid, padded}
 use Rattle.dms_desc.specs.Shape.{Described}
 use Rattle.dms_desc_bytes.specs.Spelling.{spelling}
 use Rattle.dms_descfile.specs.DescriptionFile.{IsSealed, description_file}
@@ -13,7 +13,7 @@ use Rattle.dms_audfile.specs.WholeSchema.{is_control, closes_schema, holds_schem
 use Rattle.dms_audfile.specs.ScanLaws.{IsWritten}
 use Rattle.dms_audfile.proofs.Again.{written_is_found}
 use Rattle.dms_creation.specs.FirstEntries.{bodies_of, part_count, bodies, first_control, first_entries}
-use Rattle.dms_creation.specs.Creation.{gate_open, IsMade}
+use Rattle.dms_creation.specs.Creation.{gate_open}
 use Rattle.dms_creation.specs.FoundAgain.{MadeIsFound}
 
 -- ---- a whole Schema with its Control
