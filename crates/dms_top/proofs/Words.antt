@@ -24,8 +24,7 @@ two_words f [] w v b s t len first second one test = absurd (omega (arith, len))
 two_words f (x ∷ []) w v b s t len first second one test = absurd (omega (arith, len))
 two_words f (x ∷ y ∷ z ∷ zs) w v b s t len first second one test = absurd (omega (arith, len))
 two_words f (x ∷ y ∷ []) w v b s t len first second one test =
-    let is_first : f x ≡ s = ap f (sym first) ∙ (bytes_eq-Decides (f w) s).0 one in
-    (
+    let is_first : f x ≡ s = ap f (sym first) ∙ (bytes_eq-Decides (f w) s).0 one in (
       λ h. (λ i. is_first i ∷ (ap f (sym second) ∙ (bytes_eq-Decides (f v) t).0 (sym test ∙ h)) i ∷ []),
       λ h. test ∙ (bytes_eq-Decides (f v) t).1 (ap f second ∙ second_of (f x) (f y) s t h),
     )
