@@ -81,8 +81,7 @@ module _ {T : Type 0} where
   is_disk (result.Err Say) is = absurd cc
 
   pub of_disk : (r : Result T PrintFault) → IsErrOf r (Audit fault.Disk) → audit_status r ≡ DiskFault
-  of_disk (result.Ok x) is = absurd is
-  of_disk (result.Err e) is = ap (λ (f : PrintFault). audit_status {T} (result.Err f)) is
+  of_disk r is = ap (λ (q : Result T PrintFault). audit_status q) is
 
   pub is_say : (r : Result T PrintFault) → audit_status r ≡ SayFault → IsErrOf r Say
   is_say (result.Ok x) is = absurd cc
@@ -97,8 +96,7 @@ module _ {T : Type 0} where
   is_say (result.Err Say) is = refl
 
   pub of_say : (r : Result T PrintFault) → IsErrOf r Say → audit_status r ≡ SayFault
-  of_say (result.Ok x) is = absurd is
-  of_say (result.Err e) is = ap (λ (f : PrintFault). audit_status {T} (result.Err f)) is
+  of_say r is = ap (λ (q : Result T PrintFault). audit_status q) is
 
 -- a count of a call below, by the status that it is told as
 pub counted_as : (P Q : Type 0) (a b : ℕ) → (Q → P) → (P → Q) → counting.CountedAt P a b → CountedAt Q a b

@@ -15,6 +15,20 @@ one_word f (x ∷ []) w b t len at test = (
   λ h. test ∙ (bytes_eq-Decides (f w) t).1 (ap f at ∙ head_of [] [] (f x) t h),
 )
 
+second_of : (x y s t : List ℕ) → x ∷ y ∷ [] ≡ s ∷ t ∷ [] → y ≡ t
+second_of x y s t h = cc
+
+-- a list of two words whose first one is right
+pub two_words : {W : Type 0} (f : W → List ℕ) (ws : List W) (w v : W) (b : Bool) (s t : List ℕ) → length ws ≡ 2 → w ≡ get_or ws 0 w → v ≡ get_or ws 1 v → IsTrue (bytes_eq (f w) s) → b ≡ bytes_eq (f v) t → (IsTrue b → map f ws ≡ s ∷ t ∷ []) × (map f ws ≡ s ∷ t ∷ [] → IsTrue b)
+two_words f [] w v b s t len first second one test = absurd (omega (arith, len))
+two_words f (x ∷ []) w v b s t len first second one test = absurd (omega (arith, len))
+two_words f (x ∷ y ∷ z ∷ zs) w v b s t len first second one test = absurd (omega (arith, len))
+two_words f (x ∷ y ∷ []) w v b s t len first second one test =
+    let is_first : f x ≡ s = ap f (sym first) ∙ (bytes_eq-Decides (f w) s).0 one in (
+      λ h. (λ i. is_first i ∷ (ap f (sym second) ∙ (bytes_eq-Decides (f v) t).0 (sym test ∙ h)) i ∷ []),
+      λ h. test ∙ (bytes_eq-Decides (f v) t).1 (ap f second ∙ second_of (f x) (f y) s t h),
+    )
+
 pub not_both : (b : Bool) → b ≡ true → b ≡ false → ⊥
 not_both true p q = cc
 not_both false p q = cc

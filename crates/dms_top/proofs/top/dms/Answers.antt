@@ -122,3 +122,6 @@ returns-then-is_print_audit-clause-initialize_shut g c = λ tag is. absurd (tag_
 
 pub returns-then-is_print_audit-clause-initialize_stays : goal.returns-then-is_print_audit-clause-initialize_stays
 returns-then-is_print_audit-clause-initialize_stays g c = λ tag is. absurd (tag_print _ tag (c.is_print_audit.ensures.0 c.if-is_print_audit.true) is)
+
+pub returns-then-is_print_audit-clause-limit : goal.returns-then-is_print_audit-clause-limit
+returns-then-is_print_audit-clause-limit g c = λ is. absurd (not_both c.is_try.result (c.is_try.ensures.1 is) c.if-is_try.false)
