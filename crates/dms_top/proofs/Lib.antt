@@ -6,6 +6,7 @@ pub mod Digits
 pub mod Judgements
 pub mod Printing
 pub mod Sealed
+pub mod Stands
 pub mod Taken
 pub mod Words
 pub mod WholeInput

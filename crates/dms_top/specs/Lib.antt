@@ -1,10 +1,12 @@
 pub mod Answering
 pub mod Auditing
 pub mod Compiling
+pub mod Dumped
 pub mod Initializing
 pub mod Judged
 pub mod Judging
 pub mod Premises
 pub mod Schema
+pub mod State
 pub mod Taking
 pub mod Words

@@ -5,6 +5,7 @@ mod audit_run;
 mod compile_run;
 mod initialize_run;
 mod judge;
+pub mod laws;
 mod schema;
 mod status;
 mod tags;

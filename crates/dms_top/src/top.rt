@@ -15,6 +15,7 @@ ghost use Rattle.dms_top.specs.Compiling.{compiled_text, Says, IsSpoken, IsBefor
 ghost use Rattle.dms_top.specs.declared.status.SchemaFault.{SchemaFault as Refusal};
 ghost use Rattle.dms_top.specs.Judging.{judged};
 ghost use Rattle.dms_top.specs.Schema.{schema_text as text_of};
+ghost use Rattle.dms_top.specs.State.{StandsNew, BecomesNew};
 ghost use Rattle.dms_top.specs.Answering.{Printed, PrintedFront, PrintedWhole, WithinLimits, Passes, CutTry, try_events, try_text, script_of};
 ghost use Rattle.dms_top.specs.declared.status.LimitKind.{LimitKind as Kind};
 ghost use Rattle.dms_top.specs.Premises.{OnTry, OnCompile, OnInitialize, OnPrintAudit, OnReading, OfInput, OfSchema, OfNoSchema, OfScript, OfNoScript, CountedAt};
@@ -24,6 +25,7 @@ use crate::audit_run::{is_print_audit, print_trail};
 use crate::compile_run::compile_input;
 use crate::initialize_run::initialize_database;
 use crate::judge::{Judged, judge};
+use crate::laws::what_is_made_stands;
 use crate::schema::{TextFault, schema_text};
 use crate::status::{NeedFault, SchemaFault, Status};
 use crate::tags::initialize_tag;
@@ -196,6 +198,10 @@ pub fn dms<S: Site, I: Source>(
     ensures initialize_at_every_moment { OnInitialize words.now (λ tag. IsTrue S.tells → (d : Described) → IsSealed (S.files site.old 1) d → Initializes tag d (S.files site.old) (S.clock site.old) (S.clock site.new)) }
     // at status 0 it is exactly the new one
     ensures initialize_at_ok { OnInitialize words.now (λ tag. IsSpoken result → IsTrue S.tells → (d : Described) → IsSealed (S.files site.old 1) d → IsMade tag d (S.files site.old) (S.files site.new)) }
+    // at status 0 the files stand for point 0 and the empty database, the next point is 1, and the trail has that tag
+    ensures initialize_stands { OnInitialize words.now (λ tag. IsSpoken result → IsTrue S.tells → (d : Described) → IsSealed (S.files site.old 1) d → StandsNew tag d (S.files site.new)) }
+    // a stop leaves what it could leave at entry, or no database, or files that stand so
+    ensures initialize_stands_at_every_moment { OnInitialize words.now (λ tag. IsTrue S.tells → (d : Described) → IsSealed (S.files site.old 1) d → BecomesNew tag d (S.files site.old) (S.clock site.old) (S.clock site.new)) }
     // and a stop leaves no other
     ensures initialize_stable { OnInitialize words.now (λ tag. IsSpoken result → IsTrue S.tells → Only (S.files site.new) (S.clock site.new)) }
     // at status 0 exactly the line was printed, at 10 a prefix of it, else nothing
@@ -237,7 +243,10 @@ pub fn dms<S: Site, I: Source>(
         return print_trail(alloc, site);
     }
     match initialize_tag(words) {
-        Some(tag) => initialize_database(alloc, site, tag),
+        Some(tag) => {
+            what_is_made_stands();
+            initialize_database(alloc, site, tag)
+        }
         None => Status::BadWords,
     }
 }

@@ -1,6 +1,7 @@
 use Rattle.std.proofs.Common.{subst, ℕ}
 use Rattle.dms_creation.specs.Creation.{IsMade, Initializes}
 use Rattle.dms_top.proofs.Digits.{tag_try, tag_compile, tag_print, same_tag}
+use Rattle.dms_top.proofs.Stands.{becomes_new}
 use Rattle.dms_top.proofs.Words.{not_both}
 use Rattle.dms_top.proofs.top.dms.Goals as goal
 
@@ -125,3 +126,34 @@ returns-then-is_print_audit-clause-initialize_stays g c = λ tag is. absurd (tag
 
 pub returns-then-is_print_audit-clause-limit : goal.returns-then-is_print_audit-clause-limit
 returns-then-is_print_audit-clause-limit g c = λ is. absurd (not_both c.is_try.result (c.is_try.ensures.1 is) c.if-is_try.false)
+
+pub returns-then-is_try-clause-initialize_stands : goal.returns-then-is_try-clause-initialize_stands
+returns-then-is_try-clause-initialize_stands g c = λ tag is. absurd (tag_try _ tag (c.is_try.ensures.0 c.if-is_try.true) is)
+
+pub returns-then-is_compile-clause-initialize_stands : goal.returns-then-is_compile-clause-initialize_stands
+returns-then-is_compile-clause-initialize_stands g c = λ tag is. absurd (tag_compile _ tag (c.is_compile.ensures.0 c.if-is_compile.true) is)
+
+pub returns-then-is_print_audit-clause-initialize_stands : goal.returns-then-is_print_audit-clause-initialize_stands
+returns-then-is_print_audit-clause-initialize_stands g c = λ tag is. absurd (tag_print _ tag (c.is_print_audit.ensures.0 c.if-is_print_audit.true) is)
+
+pub returns-then-is_try-clause-initialize_stands_at_every_moment : goal.returns-then-is_try-clause-initialize_stands_at_every_moment
+returns-then-is_try-clause-initialize_stands_at_every_moment g c = λ tag is. absurd (tag_try _ tag (c.is_try.ensures.0 c.if-is_try.true) is)
+
+pub returns-then-is_compile-clause-initialize_stands_at_every_moment : goal.returns-then-is_compile-clause-initialize_stands_at_every_moment
+returns-then-is_compile-clause-initialize_stands_at_every_moment g c = λ tag is. absurd (tag_compile _ tag (c.is_compile.ensures.0 c.if-is_compile.true) is)
+
+pub returns-then-is_print_audit-clause-initialize_stands_at_every_moment : goal.returns-then-is_print_audit-clause-initialize_stands_at_every_moment
+returns-then-is_print_audit-clause-initialize_stands_at_every_moment g c = λ tag is. absurd (tag_print _ tag (c.is_print_audit.ensures.0 c.if-is_print_audit.true) is)
+
+pub returns-in-Some-clause-initialize_stands : goal.returns-in-Some-clause-initialize_stands
+returns-in-Some-clause-initialize_stands g c tag is spoken tells d sealed =
+    c.what_is_made_stands.ensures tag d (g.S.Site.files c.args.site.now) (g.S.Site.files c.initialize_database.new.site) sealed
+    (subst (λ (t : ℕ). IsMade t d (g.S.Site.files c.args.site.now) (g.S.Site.files c.initialize_database.new.site)) (same_tag _ c.in-Some.tag tag c.in-Some.ensures is) (c.initialize_database.ensures.made spoken tells d sealed))
+
+pub returns-in-Some-clause-initialize_stands_at_every_moment : goal.returns-in-Some-clause-initialize_stands_at_every_moment
+returns-in-Some-clause-initialize_stands_at_every_moment g c tag is tells d sealed =
+    becomes_new c.what_is_made_stands.ensures tag d (g.S.Site.files c.args.site.now) (g.S.Site.clock c.args.site.now) (g.S.Site.clock c.initialize_database.new.site) sealed
+    (subst (λ (t : ℕ). Initializes t d (g.S.Site.files c.args.site.now) (g.S.Site.clock c.args.site.now) (g.S.Site.clock c.initialize_database.new.site)) (same_tag _ c.in-Some.tag tag c.in-Some.ensures is) (c.initialize_database.ensures.moments tells d sealed))
+
+pub returns-in-None-clause-initialize_stands : goal.returns-in-None-clause-initialize_stands
+returns-in-None-clause-initialize_stands g c tag is spoken = absurd spoken
