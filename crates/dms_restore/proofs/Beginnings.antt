@@ -1,31 +1,28 @@
 -- A restore by the audit over a log.
-use Rattle.std.proofs.Common.{ℕ, zero, suc, ◌+◌, ◌≤◌, ◌<◌, ◌≡◌, Bool, true, false, List, [], ◌∷◌, ◌++◌, length, take, drop, refl, sym, ◌∙◌, ap, subst, arith}
-use Rattle.dms_moments.specs.Moments.{Clock, Now, Steps, After}
+use Rattle.std.proofs.Common.{ℕ, zero, suc, ◌<◌, ◌≡◌, true, false, List, [], ◌∷◌, ◌++◌, drop, refl, sym, ◌∙◌, ap, subst, arith}
+use Rattle.dms_moments.specs.Moments.{Clock, Steps}
 use Rattle.dms_moments.specs.MomentLaws.{steps_on}
 use Rattle.dms_site.specs.Files.{Files, Left, Only, Same}
-use Rattle.dms_history.specs.Events.{How}
 use Rattle.dms_history.specs.History.{Pending}
 use Rattle.dms_history.specs.Pick.{count_at}
 use Rattle.dms_history.specs.Entries.{Kind, Entry, begin_restore, how_of, by_halt_load, by_back_out, by_roll_back, by_rebuild, by_reconstruct}
 use Rattle.dms_audrec.specs.Spelling.{IsKind}
-use Rattle.dms_audfile.specs.declared.audit_end.AuditEnd.{AuditEnd}
-use Rattle.dms_audfile.specs.Blocks.{is_begin}
 use Rattle.dms_audfile.specs.BlockLaws.{ArePlain}
 use Rattle.dms_audfile.proofs.Growing.{writes_same}
 use Rattle.dms_audfile.specs.Ends as ends
 use Rattle.dms_audfile.specs.Ends.{EndsAt, Appends}
 use Rattle.dms_running.specs.Telling.{Telling, IsTelling}
 use Rattle.dms_running.specs.Points.{points_of, next_in}
-use Rattle.dms_running.specs.Sealing.{Seals, IsSealed, Settled}
+use Rattle.dms_running.specs.Sealing.{IsSealed}
 use Rattle.dms_running.specs.Running.{LeavesPoints}
-use Rattle.dms_running.specs.Restoring.{IsKept, Rewritten, Rewrites, RestoredTo}
-use Rattle.dms_running.specs.Begun.{ByAudit, IsBegun, LeavesAll, IsRestored, restore_to, outcome_now}
+use Rattle.dms_running.specs.Restoring.{IsKept, Rewritten, Rewrites}
+use Rattle.dms_running.specs.Begun.{ByAudit, IsBegun, LeavesAll, outcome_now}
 use Rattle.dms_running.proofs.Beginning.{begin_goes, all_sealed, begun, begun_points, begun_next, begun_outcome}
 use Rattle.dms_running.proofs.Restored.{restore_leaves, restore_begun, restored_all, restored_points, restored_next, restored_outcome}
 use Rattle.dms_restore.specs.Logging.{waits, View, view, telling, state, Ends, LogRuns, points, next}
-use Rattle.dms_restore.specs.Begins.{LastIs, begun_to, BegunAt, Begins, RestoredAt, Restores, LeavesEach}
+use Rattle.dms_restore.specs.Begins.{LastIs, begun_to, BegunAt, Begins, RestoredAt, Restores}
 use Rattle.dms_restore.specs.declared.told.Told.{Told}
-use Rattle.dms_restore.specs.Table.{EachTold, IsTable, AllStand}
+use Rattle.dms_restore.specs.Table.{IsTable, AllStand}
 use Rattle.dms_restore.proofs.Trails.{is_telling, first_low, waits_is}
 use Rattle.dms_restore.proofs.Tables.{table_stands}
 use Rattle.dms_restore.proofs.Logs.{Reads, tells, plain, entry_steps, same_telling, appended, ends_then, settles, sealing}

@@ -1,25 +1,23 @@
 -- A restore ends, or a control point is sealed.
-use Rattle.std.proofs.Common.{ℕ, suc, ◌+◌, ◌/◌, ◌≤◌, ◌<◌, ◌≡◌, List, [], ◌∷◌, ◌++◌, length, refl, sym, ◌∙◌, ap, subst, arith}
+use Rattle.std.proofs.Common.{ℕ, ◌/◌, ◌<◌, ◌≡◌, List, [], ◌∷◌, ◌++◌, length, refl, sym, ◌∙◌, ap, subst, arith}
 use Rattle.std.specs.Borrow.{Bor}
-use Rattle.dms_moments.specs.Moments.{Clock, Now, Runs}
-use Rattle.dms_site.specs.Files.{Files, Left, Only}
+use Rattle.dms_moments.specs.Moments.{Clock, Runs}
+use Rattle.dms_site.specs.Files.{Left, Only}
 use Rattle.dms_history.specs.History.{Pending}
-use Rattle.dms_history.specs.Pick.{count_at}
-use Rattle.dms_history.specs.Entries.{Entry, control_point, counts_in}
+use Rattle.dms_history.specs.Entries.{Entry, control_point}
 use Rattle.dms_history.specs.Schemas.{schema_entries}
 use Rattle.dms_history.specs.Plain.{blocks_seen}
 use Rattle.dms_audrec.specs.Reading.{counts_at}
 use Rattle.dms_audfile.specs.Ends.{EndsAt}
 use Rattle.dms_running.specs.Telling.{Telling, IsTelling}
-use Rattle.dms_running.specs.Points.{points_of, next_in}
+use Rattle.dms_running.specs.Points.{next_in}
 use Rattle.dms_running.specs.Plans.{Planned}
-use Rattle.dms_running.specs.Running.{State, IsRunning, content_now, points_now}
-use Rattle.dms_running.specs.Begun.{LeavesAll, IsSchemaControl, outcome_now}
+use Rattle.dms_running.specs.Running.{IsRunning, content_now, points_now}
+use Rattle.dms_running.specs.Begun.{LeavesAll, IsSchemaControl}
 use Rattle.dms_running.proofs.Ending.{end_leaves, end_runs, end_same, end_points}
 use Rattle.dms_running.proofs.Controlled.{control_leaves, control_runs, control_same, control_points}
-use Rattle.dms_restore.specs.Logging.{telling_of, waits, View, telling, state, Ends, LogRuns, points, content}
+use Rattle.dms_restore.specs.Logging.{telling_of, waits, View, telling, state, Ends, LogRuns}
 use Rattle.dms_restore.specs.Laying.{schema_control, Starts, SealsAll}
-use Rattle.dms_restore.specs.Begins.{BegunAt, RestoredAt}
 use Rattle.dms_restore.specs.Endings.{EndsBy, EndedAt, ControlBy, ControlledAt}
 use Rattle.dms_restore.proofs.Trails.{is_telling, first_low, waits_is, ends_waiting}
 use Rattle.dms_restore.proofs.Logs.{Reads}

@@ -1,14 +1,13 @@
 -- Entries appended one after another since a start.
-use Rattle.std.proofs.Common.{ℕ, zero, suc, ◌+◌, ◌≤◌, ◌<◌, ◌≡◌, List, [], ◌∷◌, ◌++◌, length, take, drop, get_or, refl, sym, ◌∙◌, ap, subst, arith, append_assoc}
+use Rattle.std.proofs.Common.{ℕ, zero, suc, ◌+◌, ◌≤◌, ◌<◌, ◌≡◌, List, [], ◌∷◌, ◌++◌, length, take, drop, get_or, refl, sym, ◌∙◌, ap, subst, arith}
 use Rattle.std.specs.Borrow.{Bor}
 use Rattle.std.proofs.lemmas.List.{take_more, take_all, take-append-drop}
-use Rattle.dms_moments.specs.Moments.{Clock, Now, Runs, Steps}
+use Rattle.dms_moments.specs.Moments.{Clock, Runs, Steps}
 use Rattle.dms_moments.specs.MomentLaws.{runs_weaken}
 use Rattle.dms_site.specs.Files.{Files, Left, Only}
 use Rattle.dms_history.specs.Entries.{Entry, schema_part}
 use Rattle.dms_history.specs.Schemas.{parts_of_schema, schema_entries}
 use Rattle.dms_history.specs.Plain.{blocks_seen}
-use Rattle.dms_history.proofs.Order.{append_none}
 use Rattle.dms_audrec.specs.Spelling.{spelling, IsEntry}
 use Rattle.dms_audfile.specs.declared.audit_end.AuditEnd.{AuditEnd}
 use Rattle.dms_audfile.specs.BlockLaws.{ArePlain}
@@ -16,9 +15,9 @@ use Rattle.dms_audfile.specs.TrailEntries.{trail_entries}
 use Rattle.dms_audfile.specs.Ends as ends
 use Rattle.dms_audfile.specs.Ends.{EndsAt, Appends}
 use Rattle.dms_running.specs.Telling.{Telling}
-use Rattle.dms_running.specs.Sealing.{Seals, Appended, IsSealed, Settled}
+use Rattle.dms_running.specs.Sealing.{Seals, IsSealed, Settled}
 use Rattle.dms_running.specs.Running.{State}
-use Rattle.dms_running.specs.Plans.{Planned, Lays}
+use Rattle.dms_running.specs.Plans.{Planned}
 use Rattle.dms_running.proofs.Planned.{planned_more, lays_none, lays_since, lays_more, lays_sealing, lays_sealed}
 use Rattle.dms_restore.specs.Logging.{telling_of, waits}
 use Rattle.dms_restore.specs.Laying.{AreParts, Starts, LaysEnd, SealsAll}

@@ -1,18 +1,17 @@
 -- Calls on the log of a running database.
-use Rattle.std.proofs.Common.{ℕ, ◌+◌, ◌*◌, ◌-◌, ◌^◌, ◌≤◌, ◌<◌, ◌≡◌, List, [], ◌∷◌, ◌++◌, length, take, drop, Option, refl, sym, ◌∙◌, ap, subst, arith, append_assoc}
+use Rattle.std.proofs.Common.{ℕ, ◌+◌, ◌*◌, ◌^◌, ◌<◌, ◌≡◌, List, [], ◌∷◌, ◌++◌, length, drop, Option, refl, sym, ◌∙◌, ap, subst, arith, append_assoc}
 use Rattle.dms_moments.specs.Moments.{Clock, Now, Steps}
 use Rattle.dms_site.specs.Files.{Files, Left, InFile, Torn, OnDisk}
 use Rattle.dms_history.specs.Events.{Block}
 use Rattle.dms_history.specs.Replay.{Tells}
 use Rattle.dms_history.specs.Entries.{Entry, image, quiet_point}
-use Rattle.dms_audfile.specs.declared.audit_end.AuditEnd.{AuditEnd}
 use Rattle.dms_audfile.specs.BlockLaws.{ArePlain}
 use Rattle.dms_audfile.specs.TrailEntries.{trail_entries}
 use Rattle.dms_audfile.specs.Ends as ends
 use Rattle.dms_audfile.specs.Ends.{EndsAt, Appends}
 use Rattle.dms_running.specs.Telling.{Telling, IsTelling}
 use Rattle.dms_running.specs.Sealing.{Seals, Appended, IsSealed, Settled}
-use Rattle.dms_running.specs.Running.{State, entries_now, points_now, next_now, content_now, sure_now, LeavesPoints, IsRunning}
+use Rattle.dms_running.specs.Running.{entries_now, points_now, next_now, content_now, sure_now, LeavesPoints, IsRunning}
 use Rattle.dms_running.proofs.Appending.{log_leaves, log_runs, log_next, log_points, log_content, quiet_leaves, quiet_runs, quiet_next, quiet_points, quiet_content, sync_leaves, sync_runs, sync_points, sync_next, sync_content, sync_surer, sync_sure, sync_entries}
 use Rattle.dms_running.proofs.Early.{early_leaves, early_runs, early_points, early_next, early_content, early_sure, later_all}
 use Rattle.dms_running.proofs.Stopped.{joined, blocks_same}

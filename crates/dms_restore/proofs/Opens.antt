@@ -1,8 +1,7 @@
 -- Files that hold a database, after a sync.
-use Rattle.std.proofs.Common.{◌≡◌, List, [], Some, None, sym, ap, subst}
+use Rattle.std.proofs.Common.{◌≡◌, [], Some, None, sym, ap, subst}
 use Rattle.dms_site.specs.Files.{Files, stored_of}
 use Rattle.dms_history.specs.History.{Pending}
-use Rattle.dms_history.specs.Entries.{Entry}
 use Rattle.dms_history.specs.EntryEvents.{history_of}
 use Rattle.dms_audfile.specs.TrailEntries.{trail_entries}
 use Rattle.dms_running.specs.Standing.{Stands, IsWhole}

@@ -1,12 +1,12 @@
 -- Entries that are appended are in the grammar, and fit a block.
-use Rattle.std.proofs.Common.{ℕ, ◌+◌, ◌*◌, ◌≤◌, ◌<◌, ◌^◌, ◌≡◌, List, [], ◌∷◌, ◌++◌, length, Option, Some, None, arith, length-append, ap, sym}
+use Rattle.std.proofs.Common.{ℕ, ◌≤◌, ◌<◌, ◌≡◌, List, [], ◌∷◌, ◌++◌, length, Option, Some, None, arith, length-append}
 use Rattle.std.specs.Prelude.{IfSome}
 use Rattle.std.specs.Borrow.{Bor}
 use Rattle.std.specs.Int.{w16, w32, w64, to_be_bytes}
 use Rattle.dms_fields.specs.PrefixLaws.{wide16, wide32, wide64}
 use Rattle.dms_history.specs.Entries.{Kind, by_halt_load, by_back_out, by_roll_back, by_rebuild, by_reconstruct, begin_restore, quiet_point, how_of}
 use Rattle.dms_audrec.specs.declared.entry.Entry.TheVariants.{Image}
-use Rattle.dms_audrec.specs.Spelling.{spelling, IsEntry, before_bytes}
+use Rattle.dms_audrec.specs.Spelling.{spelling, IsEntry}
 use Rattle.dms_audrec.specs.Seen.{entry_seen}
 use Rattle.dms_running.specs.Begun.{ByAudit}
 

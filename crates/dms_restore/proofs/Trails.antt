@@ -1,34 +1,31 @@
 -- A trail as entries of a database.
-use Rattle.std.proofs.Common.{ℕ, zero, suc, ◌+◌, ◌*◌, ◌-◌, ◌≤◌, ◌<◌, ◌≡◌, ◌⊎◌, inl, inr, Bool, true, false, cond, min, List, [], ◌∷◌, ◌++◌, map, length, take, drop, Option, Some, None, refl, sym, ◌∙◌, ap, subst, arith}
-use Rattle.std.specs.Prelude.{if◌then◌else◌}
+use Rattle.std.proofs.Common.{ℕ, zero, suc, ◌+◌, ◌*◌, ◌≤◌, ◌<◌, ◌≡◌, ◌⊎◌, inl, inr, false, cond, List, [], ◌∷◌, ◌++◌, map, length, take, drop, Option, Some, None, refl, sym, ◌∙◌, ap, subst, arith}
 use Rattle.std.specs.Option.{option_copied}
 use Rattle.std.specs.Borrow.{Bor}
 use Rattle.std.proofs.lemmas.List.{length-take}
-use Rattle.dms_moments.specs.Moments.{Clock, Now, Steps}
+use Rattle.dms_moments.specs.Moments.{Clock, Steps}
 use Rattle.dms_moments.specs.MomentLaws.{steps_weaken}
-use Rattle.dms_site.specs.Files.{Files, Left, Only, InFile, Torn, OnDisk}
-use Rattle.dms_history.specs.Events.{Block}
+use Rattle.dms_site.specs.Files.{Files, Left, InFile, Torn, OnDisk}
 use Rattle.dms_history.specs.Entries.{Entry, schema_part, image, byte_range, quiet_point, control_point, begin_restore}
 use Rattle.dms_audrec.specs.declared.entry.Entry.TheVariants.{Image}
-use Rattle.dms_audrec.specs.Spelling.{spelling, IsEntry}
+use Rattle.dms_audrec.specs.Spelling.{spelling}
 use Rattle.dms_audrec.specs.Seen.{entry_seen}
 use Rattle.dms_audfile.specs.declared.audit_end.AuditEnd.{AuditEnd}
 use Rattle.dms_audfile.specs.Gates.{sealed, is_full}
 use Rattle.dms_audfile.specs.Blocks.{is_begin, block_entries}
-use Rattle.dms_audfile.specs.BlockLaws.{spellings, ArePlain, IsAlone, entered_at, block_of}
+use Rattle.dms_audfile.specs.BlockLaws.{spellings, ArePlain, IsAlone, entered_at}
 use Rattle.dms_audfile.specs.Unsealed.{block_with}
 use Rattle.dms_audfile.specs.Trail.{trail_from}
 use Rattle.dms_audfile.specs.TrailEntries.{entry_of, entries_of, entries_in, trail_entries}
-use Rattle.dms_audfile.specs.Sealing.{Writes}
 use Rattle.dms_audfile.specs.Ends as ends
 use Rattle.dms_audfile.specs.Ends.{unsealed, EndsAt, Appends}
 use Rattle.dms_audfile.proofs.BlockRead.{block_is_read}
 use Rattle.dms_audfile.proofs.Growing.{writes_same}
 use Rattle.dms_audfile.proofs.Ended.{entries_settled}
-use Rattle.dms_running.specs.Telling.{Telling, IsTelling}
+use Rattle.dms_running.specs.Telling.{IsTelling}
 use Rattle.dms_running.specs.Sealing.{Seals, Appended, IsSealed, Settled}
 use Rattle.dms_running.specs.Running.{AllPlain}
-use Rattle.dms_restore.specs.Logging.{dumps_in, telling_of, waits}
+use Rattle.dms_restore.specs.Logging.{telling_of, waits}
 
 -- the trail depends on as many files as it may have
 trail_low : (n total f : ℕ) (x y : Files) → ((g : ℕ) → f ≤ g → g < f + n → x g ≡ y g) → trail_from n total f x ≡ trail_from n total f y

@@ -1,13 +1,13 @@
 -- A block is read from the audit and written.
-use Rattle.std.proofs.Common.{ℕ, zero, suc, ◌+◌, ◌*◌, ◌≤◌, ◌<◌, ◌≡◌, List, [], ◌∷◌, ◌++◌, length, drop, Some, refl, sym, ◌∙◌, ap, subst, arith}
-use Rattle.dms_moments.specs.Moments.{Clock, Now, Steps}
+use Rattle.std.proofs.Common.{ℕ, zero, suc, ◌*◌, ◌≤◌, ◌<◌, ◌≡◌, List, [], ◌∷◌, ◌++◌, length, drop, Some, refl, sym, ◌∙◌, ap, subst, arith}
+use Rattle.dms_moments.specs.Moments.{Clock, Steps}
 use Rattle.dms_moments.specs.MomentLaws.{steps_on, steps_weaken}
 use Rattle.dms_site.specs.Files.{Files, Left, Same, range, with_file, overlaid, InFile, Torn, OnDisk}
 use Rattle.dms_site.specs.Laws.{torn_refl, in_file_same}
 use Rattle.dms_history.specs.Events.{Event}
 use Rattle.dms_history.specs.Told.{told_block}
 use Rattle.dms_history.proofs.Order.{append_none}
-use Rattle.dms_running.specs.Restoring.{IsKept, Rewritten, Rewrites, StandsAsTold}
+use Rattle.dms_running.specs.Restoring.{Rewritten, Rewrites, StandsAsTold}
 use Rattle.dms_running.proofs.Rewriting.{rewritten_same}
 use Rattle.dms_restore.specs.declared.told.Told.{Told}
 use Rattle.dms_restore.specs.Table.{bytes_at}

@@ -1,6 +1,5 @@
 -- How a restore ends, and a control point of a database that runs.
-use Rattle.std.specs.Prelude.{ℕ, ◌/◌, ◌<◌, ◌≡◌, List, [], length}
-use Rattle.std.specs.Borrow.{Bor}
+use Rattle.std.specs.Prelude.{ℕ, ◌/◌, ◌≡◌, List, [], length}
 use Rattle.dms_site.specs.Files.{Only}
 use Rattle.dms_history.specs.History.{Pending}
 use Rattle.dms_history.specs.Pick.{count_at}

@@ -1,6 +1,5 @@
-use Rattle.std.proofs.Common.{◌≡◌, ◌+◌, ◌<◌, ◌≤◌, ◌∙◌, ℕ, List, [], ◌∷◌, ◌++◌, length, take, get_or, refl, sym, subst, arith}
-use Rattle.dms_history.specs.Entries.{Entry, schema_part}
-use Rattle.dms_history.specs.Schemas.{schema_entries}
+use Rattle.std.proofs.Common.{◌+◌, ◌≤◌, ◌∙◌, List, length, refl, sym, subst, arith}
+use Rattle.dms_history.specs.Entries.{Entry}
 use Rattle.dms_history.specs.Plain.{blocks_seen}
 use Rattle.dms_moments.specs.Moments.{Runs}
 use Rattle.dms_running.specs.Plans.{Planned}

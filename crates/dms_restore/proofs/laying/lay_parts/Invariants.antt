@@ -1,9 +1,6 @@
 use Rattle.std.proofs.Common.{◌≡◌, IsTrue, ℕ, take}
-use Rattle.dms_moments.specs.Moments.{Runs}
 use Rattle.dms_history.specs.Schemas.{schema_entries}
 use Rattle.dms_history.specs.Plain.{blocks_seen}
-use Rattle.dms_running.specs.Plans.{Planned}
-use Rattle.dms_restore.specs.Logging.{telling_of}
 use Rattle.dms_restore.specs.Laying.{Starts, LaysEnd}
 use Rattle.dms_restore.proofs.laying.lay_parts.Given as goal
 

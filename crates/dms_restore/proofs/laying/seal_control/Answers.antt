@@ -1,4 +1,4 @@
-use Rattle.std.proofs.Common.{◌≡◌, ◌∷◌, [], ◌∙◌, refl}
+use Rattle.std.proofs.Common.{◌∙◌, refl}
 use Rattle.dms_restore.proofs.Results.{four_ok}
 use Rattle.dms_restore.proofs.Laid.{lay_since, lay_one, lay_more, lay_sealing, lay_sealed}
 use Rattle.dms_restore.proofs.laying.seal_control.Goals as goal

@@ -1,5 +1,4 @@
-use Rattle.std.proofs.Common.{Err, ◌≡◌, ◌⊎◌, inl, inr, ◌+◌, ◌<◌, ◌^◌, ◌∙◌, ℕ, List, length, take, refl, sym, subst, arith, Some}
-use Rattle.dms_history.specs.Events.{Event}
+use Rattle.std.proofs.Common.{Err, inl, inr, ◌∙◌, refl, sym, subst, arith}
 use Rattle.dms_running.specs.Restoring.{IsKept}
 use Rattle.dms_running.proofs.Rewriting.{rewritten_same, rewritten_on, steps_still, steps_more}
 use Rattle.dms_restore.specs.declared.told.Told.{Told}

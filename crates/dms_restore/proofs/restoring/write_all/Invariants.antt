@@ -1,4 +1,4 @@
-use Rattle.std.proofs.Common.{◌≡◌, ◌≤◌, ℕ, IsTrue, List, length, take}
+use Rattle.std.proofs.Common.{◌≡◌, ℕ, IsTrue, List, length, take}
 use Rattle.dms_moments.specs.Moments.{Steps}
 use Rattle.dms_history.specs.Events.{Event}
 use Rattle.dms_running.specs.Restoring.{IsKept, Rewritten, Rewrites}

@@ -1,4 +1,4 @@
-use Rattle.std.proofs.Common.{◌≡◌, ◌+◌, ◌*◌, ◌<◌, ◌^◌, ℕ, List, length, Some, arith}
+use Rattle.std.proofs.Common.{arith}
 use Rattle.dms_running.specs.Restoring.{IsKept}
 use Rattle.dms_restore.proofs.Tables.{write_steps, write_rewrites}
 use Rattle.dms_restore.proofs.Writing.{look_then, then_rewritten, filled_whole, copy_moments, copy_torn, copy_written, copy_stands}

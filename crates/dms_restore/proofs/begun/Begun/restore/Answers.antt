@@ -1,4 +1,4 @@
-use Rattle.std.proofs.Common.{Err, ◌≡◌, sym, subst, List, ℕ}
+use Rattle.std.proofs.Common.{Err, sym, subst}
 use Rattle.dms_base.specs.Causes.{Rose}
 use Rattle.dms_restore.proofs.Results.{is_fault}
 use Rattle.dms_site.specs.Files.{Files, Only}

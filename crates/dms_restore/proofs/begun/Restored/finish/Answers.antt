@@ -1,4 +1,4 @@
-use Rattle.std.proofs.Common.{Err, ◌≡◌, refl}
+use Rattle.std.proofs.Common.{Err, refl}
 use Rattle.dms_restore.proofs.Endings.{end_starts, end_leave, ended}
 use Rattle.dms_restore.proofs.begun.Restored.finish.Goals as goal
 

@@ -1,4 +1,4 @@
-use Rattle.std.proofs.Common.{◌≡◌, refl}
+use Rattle.std.proofs.Common.{refl}
 use Rattle.dms_restore.proofs.Results.{one_ok}
 use Rattle.dms_restore.proofs.Endings.{control_starts, control_leave, controlled}
 use Rattle.dms_restore.proofs.log.Log.control.Goals as goal

@@ -1,4 +1,4 @@
-use Rattle.std.proofs.Common.{◌≡◌, refl}
+use Rattle.std.proofs.Common.{refl}
 use Rattle.std.specs.Option.{option_copied}
 use Rattle.dms_restore.proofs.Results.{both_ok}
 use Rattle.dms_restore.proofs.Trails.{image_seen}

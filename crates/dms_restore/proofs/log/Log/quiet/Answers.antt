@@ -1,4 +1,4 @@
-use Rattle.std.proofs.Common.{◌≡◌, refl}
+use Rattle.std.proofs.Common.{refl}
 use Rattle.dms_restore.proofs.Results.{both_ok}
 use Rattle.dms_restore.proofs.Sizes.{quiet_size}
 use Rattle.dms_restore.proofs.Logs.{quiet_leave, quiet_goes, quiet_logs}

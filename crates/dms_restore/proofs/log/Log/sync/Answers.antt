@@ -1,4 +1,4 @@
-use Rattle.std.proofs.Common.{◌≡◌, refl}
+use Rattle.std.proofs.Common.{refl}
 use Rattle.dms_restore.proofs.Results.{three_ok}
 use Rattle.dms_restore.proofs.Logs.{sync_leave, sync_goes, sync_keeps, sync_all_sure, nothing_waits}
 use Rattle.dms_restore.proofs.log.Log.sync.Goals as goal

@@ -1,4 +1,3 @@
-use Rattle.std.proofs.Common.{◌≡◌, ◌+◌, ◌*◌, ◌<◌, ◌^◌, length, arith}
 use Rattle.dms_restore.proofs.Logs.{early_leave, early_goes, early_keeps}
 use Rattle.dms_restore.proofs.log.Log.write.Goals as goal
 
