@@ -8,3 +8,4 @@ pub mod Endings
 pub mod Opens
 pub mod Sizes
 pub mod Writing
+pub mod Scans

@@ -1,7 +1,10 @@
--- Facts of a call that went well.
-use Rattle.std.specs.Prelude.{OnOk}
+-- Facts of a call by its answer.
+use Rattle.std.specs.Prelude.{ℕ, ◌+◌, ◌≤◌, ◌≡◌, OnOk, IsErrOf}
+use Rattle.std.proofs.Common.{subst}
 use Rattle.std.specs.declared.result.Result.{Result}
 use Rattle.std.specs.declared.result.Result.TheVariants.{Ok, Err}
+use Rattle.dms_base.specs.Causes.{Rose, HasCause}
+use Rattle.dms_audfile.specs.Counting.{CountedAt}
 
 pub one_ok : {T E P R : Type 0} (r : Result T E) → OnOk r P → (P → R) → OnOk r R
 one_ok (Ok x) one f = f one
@@ -23,3 +26,24 @@ four_ok (Err e) one two three four f = tt
 abbrev pub is_fault : {T E : Type 0} → Result T E → Type 0
 is_fault (Ok x) = ⊥
 is_fault (Err e) = Unit {0}
+
+same_error : {T E : Type 0} (fault e : E) → IsErrOf {T = T} (Err fault) e → fault ≡ e
+same_error fault e is = cc
+
+-- a count of a call that answered a fault, by that fault
+pub counted_fault : {T E : Type 0} (fault e : E) (before now : ℕ) → CountedAt (IsErrOf {T = T} (Err fault) e) before now → CountedAt (fault ≡ e) before now
+counted_fault fault e before now c = record {
+  later = c.later;
+  failed = λ is. c.failed (λ i. Err (is i));
+  once = c.once;
+  clean = λ other. c.clean (λ same. other (same_error fault e same));
+}
+
+-- a call of the site failed behind others that didn't
+pub counted_call : {T E F : Type 0} (fault e : E) (failed : F) (start before now : ℕ) → before ≡ start → fault ≡ e → HasCause {T = T} {E = F} before now (Err failed) → CountedAt (fault ≡ e) start now
+counted_call fault e failed start before now same is cause = record {
+  later = subst (λ n. n ≤ now) same cause.later;
+  failed = λ is. subst (λ n. Rose n now) same cause.failed;
+  once = subst (λ n. now ≤ n + 1) same cause.once;
+  clean = λ other. absurd (other is);
+}

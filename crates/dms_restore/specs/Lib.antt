@@ -3,3 +3,4 @@ pub mod Table
 pub mod Laying
 pub mod Begins
 pub mod Endings
+pub mod Scanned

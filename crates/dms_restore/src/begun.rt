@@ -1,10 +1,10 @@
 //! A restore by the audit, from its Begin to its Control. Each state owns the log and hands it back with each fault.
 
 ghost use Rattle.std.specs.Prelude.{◌≡◌, ◌⊎◌, ◌+◌, ◌<◌, ◌^◌, ℕ, IfOk, IfErr, IsTrue};
-ghost use Rattle.dms_base.specs.Causes.{Rose};
 ghost use Rattle.dms_history.specs.History.{Pending};
 ghost use Rattle.dms_history.specs.Entries.{how_of};
 ghost use Rattle.dms_audrec.specs.Seen.{how_seen};
+ghost use Rattle.dms_audfile.specs.Counting.{CountedAt};
 ghost use Rattle.dms_running.specs.Begun.{ByAudit};
 ghost use Rattle.dms_restore.specs.Logging.{view, LogRuns, points, next, Leaves};
 ghost use Rattle.dms_restore.specs.Begins.{LastIs, begun_to, BegunAt, Begins, RestoredAt, Restores, LeavesEach};
@@ -42,7 +42,9 @@ impl<S: Site> Log<S> {
         ensures said_then { IfErr result (λ e. S.said e.1.site ≡ S.said self.site) }
         ensures clean { IfOk result (λ b. S.disk_faults b.log.site ≡ S.disk_faults self.site) }
         ensures only { IfErr result (λ e. (e.0 ≡ AudFault.Disk) ⊎ (e.0 ≡ AudFault.Full self.end.limit)) }
-        ensures cause { IfErr result (λ e. e.0 ≡ AudFault.Disk → Rose (S.disk_faults self.site) (S.disk_faults e.1.site)) }
+        ensures disk { IfErr result (λ e. CountedAt (e.0 ≡ AudFault.Disk) (S.disk_faults self.site) (S.disk_faults e.1.site)) }
+        ensures say_faults { IfOk result (λ b. S.say_faults b.log.site ≡ S.say_faults self.site) }
+        ensures say_faults_then { IfErr result (λ e. S.say_faults e.1.site ≡ S.say_faults self.site) }
         ensures kind { IfOk result (λ b. (b.log.end.total ≡ self.end.total) × (b.log.end.tag ≡ self.end.tag) × (b.log.end.limit ≡ self.end.limit) × (b.log.first ≡ self.first)) }
     {
         let Log {
@@ -76,9 +78,12 @@ impl<S: Site> Begun<S> {
         ensures same { IfOk result (λ r. S.same_site self.log.site r.log.site) }
         ensures same_then { IfErr result (λ e. S.same_site self.log.site e.1.site) }
         ensures said { IfOk result (λ r. S.said r.log.site ≡ S.said self.log.site) }
+        ensures said_then { IfErr result (λ e. S.said e.1.site ≡ S.said self.log.site) }
         ensures clean { IfOk result (λ r. S.disk_faults r.log.site ≡ S.disk_faults self.log.site) }
         ensures only { IfErr result (λ e. (p : Pending) → IsTrue S.tells → IsTable p.entries p.point (S.files self.log.site) table.now → e.0 ≡ AudFault.Disk) }
-        ensures cause { IfErr result (λ e. e.0 ≡ AudFault.Disk → Rose (S.disk_faults self.log.site) (S.disk_faults e.1.site)) }
+        ensures disk { IfErr result (λ e. CountedAt (e.0 ≡ AudFault.Disk) (S.disk_faults self.log.site) (S.disk_faults e.1.site)) }
+        ensures say_faults { IfOk result (λ r. S.say_faults r.log.site ≡ S.say_faults self.log.site) }
+        ensures say_faults_then { IfErr result (λ e. S.say_faults e.1.site ≡ S.say_faults self.log.site) }
         ensures kind { IfOk result (λ r. (r.log.end ≡ self.log.end) × (r.log.first ≡ self.log.first)) }
     {
         let Begun { log } = self;

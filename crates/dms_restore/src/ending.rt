@@ -1,7 +1,6 @@
 //! The Schema and Control that end a restore, or make a control point.
 
 ghost use Rattle.std.specs.Prelude.{◌≡◌, ◌⊎◌, ◌/◌, ◌<◌, ◌≤◌, ◌^◌, ℕ, length, OnOk, IfOk, IfErr, IsErrOf, IsTrue};
-ghost use Rattle.dms_base.specs.Causes.{Rose};
 ghost use Rattle.dms_history.specs.History.{Pending};
 ghost use Rattle.dms_history.specs.Entries.{control_point};
 ghost use Rattle.dms_history.specs.Plain.{blocks_seen};
@@ -41,9 +40,12 @@ impl<S: Site> Restored<S> {
         ensures same { IfOk result (λ l. S.same_site self.log.site l.site) }
         ensures same_then { IfErr result (λ e. S.same_site self.log.site e.1.site) }
         ensures said { IfOk result (λ l. S.said l.site ≡ S.said self.log.site) }
+        ensures said_then { IfErr result (λ e. S.said e.1.site ≡ S.said self.log.site) }
         ensures clean { IfOk result (λ l. S.disk_faults l.site ≡ S.disk_faults self.log.site) }
         ensures only { IfErr result (λ e. (e.0 ≡ AudFault.Disk) ⊎ (e.0 ≡ AudFault.Full self.log.end.limit)) }
-        ensures cause { IfErr result (λ e. e.0 ≡ AudFault.Disk → Rose (S.disk_faults self.log.site) (S.disk_faults e.1.site)) }
+        ensures disk { IfErr result (λ e. CountedAt (e.0 ≡ AudFault.Disk) (S.disk_faults self.log.site) (S.disk_faults e.1.site)) }
+        ensures say_faults { IfOk result (λ l. S.say_faults l.site ≡ S.say_faults self.log.site) }
+        ensures say_faults_then { IfErr result (λ e. S.say_faults e.1.site ≡ S.say_faults self.log.site) }
         ensures kind { IfOk result (λ l. (l.end.total ≡ self.log.end.total) × (l.end.tag ≡ self.log.end.tag) × (l.end.limit ≡ self.log.end.limit) × (l.first ≡ self.log.first)) }
     {
         let Restored { log } = self;

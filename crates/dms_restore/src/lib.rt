@@ -8,8 +8,10 @@ mod laying;
 mod log;
 mod opening;
 mod restoring;
+mod scanning;
 mod told;
 
 pub use begun::{Begun, Restored};
 pub use log::Log;
+pub use scanning::{Found, Scanned};
 pub use told::Told;

@@ -1,6 +1,5 @@
-use Rattle.std.proofs.Common.{Err, sym, subst}
-use Rattle.dms_base.specs.Causes.{Rose}
-use Rattle.dms_restore.proofs.Results.{is_fault}
+use Rattle.std.proofs.Common.{refl, sym, subst}
+use Rattle.dms_restore.proofs.Results.{is_fault, counted_fault, counted_call}
 use Rattle.dms_site.specs.Files.{Files, Only}
 use Rattle.dms_running.specs.Restoring.{IsKept, Rewritten}
 use Rattle.dms_restore.specs.Table.{AllStand}
@@ -41,12 +40,12 @@ returns-in-Err-sync-clause-stopped g c p tells begun is =
     table_leave p _ begun (g.met.S.Site.may_stay c.args.self.log.site tells) c.args.table.now is _
     (then_looks (IsKept p.entries p.point) _ _ _ (c.write_all.ensures.moments p.entries p.point tells is.each) c.sync.ensures.moments)
 
-pub returns-in-Err-clause-cause : goal.returns-in-Err-clause-cause
-returns-in-Err-clause-cause g c disk = c.in-Err.ensures.disk.failed (λ i. Err (disk i))
+pub returns-in-Err-clause-disk : goal.returns-in-Err-clause-disk
+returns-in-Err-clause-disk g c = counted_fault _ _ _ _ c.in-Err.ensures.disk
 
 pub returns-in-Err-clause-only : goal.returns-in-Err-clause-only
 returns-in-Err-clause-only g c p tells is = c.in-Err.ensures.only p.entries p.point tells is.each
 
-pub returns-in-Err-sync-clause-cause : goal.returns-in-Err-sync-clause-cause
-returns-in-Err-sync-clause-cause g c disk =
-    subst (λ n. Rose n (g.S.Site.disk_faults c.sync.new.self)) (c.in_default.ensures.disk.clean (λ e. subst (λ r. is_fault r) (sym e) tt)) c.in-Err-sync.ensures.faults.failed
+pub returns-in-Err-sync-clause-disk : goal.returns-in-Err-sync-clause-disk
+returns-in-Err-sync-clause-disk g c =
+    counted_call _ _ _ _ _ _ (c.in_default.ensures.disk.clean (λ e. subst (λ r. is_fault r) (sym e) tt)) refl c.in-Err-sync.ensures.faults

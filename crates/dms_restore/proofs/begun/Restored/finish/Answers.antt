@@ -1,4 +1,5 @@
-use Rattle.std.proofs.Common.{Err, refl}
+use Rattle.std.proofs.Common.{refl}
+use Rattle.dms_restore.proofs.Results.{counted_fault}
 use Rattle.dms_restore.proofs.Endings.{end_starts, end_leave, ended}
 use Rattle.dms_restore.proofs.begun.Restored.finish.Goals as goal
 
@@ -20,5 +21,5 @@ returns-in-Err-clause-stopped g c p tells by =
     end_leave p _ read c.args.parts.now c.requires.some c.args.point c.args.next c.args.counts.now by _
     (c.seal_control.ensures.moments c.args.self.log.first tells (end_starts p _ read c.args.parts.now c.requires.some c.args.point c.args.next c.args.counts.now by))
 
-pub returns-in-Err-clause-cause : goal.returns-in-Err-clause-cause
-returns-in-Err-clause-cause g c disk = c.in-Err.ensures.disk.failed (λ i. Err (disk i))
+pub returns-in-Err-clause-disk : goal.returns-in-Err-clause-disk
+returns-in-Err-clause-disk g c = counted_fault _ _ _ _ c.in-Err.ensures.disk

@@ -1,6 +1,7 @@
-use Rattle.std.proofs.Common.{Err, refl}
+use Rattle.std.proofs.Common.{refl}
 use Rattle.dms_audrec.specs.Seen.{how_seen}
 use Rattle.dms_restore.proofs.Sizes.{begin_size}
+use Rattle.dms_restore.proofs.Results.{counted_fault}
 use Rattle.dms_restore.proofs.Beginnings.{kind_is, begin_leave, begin_begun, begin_keeps}
 use Rattle.dms_restore.proofs.log.Log.begin.Goals as goal
 
@@ -30,5 +31,5 @@ append-requires-clause-size g c = begin_size c.args.point (how_seen c.args.how) 
 pub append-requires-clause-entry : goal.append-requires-clause-entry
 append-requires-clause-entry g c = (c.ranges.point.fits, kind_is (how_seen c.args.how) c.requires.by_audit)
 
-pub returns-in-Err-clause-cause : goal.returns-in-Err-clause-cause
-returns-in-Err-clause-cause g c disk = c.in-Err.ensures.disk.failed (λ i. Err (disk i))
+pub returns-in-Err-clause-disk : goal.returns-in-Err-clause-disk
+returns-in-Err-clause-disk g c = counted_fault _ _ _ _ c.in-Err.ensures.disk

@@ -1,0 +1,6 @@
+use Rattle.dms_restore.proofs.Scans.{scan_places}
+use Rattle.dms_restore.proofs.scanning.Found.scan.Goals as goal
+
+pub returns-in-Ok-new-clause-places : goal.returns-in-Ok-new-clause-places
+returns-in-Ok-new-clause-places g c tells =
+    scan_places c.entries_stand_at_their_places.ensures c.what_is_found_are_the_entries.ensures _ _ _ _ _ _ _ _ _ (c.sync.ensures.files tells) c.in-Ok-new.ensures.kind.0 (c.in-Ok-scan.ensures.found tells) (c.in-Ok-scan.ensures.writes tells)
