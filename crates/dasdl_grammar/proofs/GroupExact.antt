@@ -39,7 +39,7 @@ use Rattle.dasdl_parse.proofs.CondComplete.{Runs, joins, turns_at-runs, Heads, h
 use Rattle.dasdl_parse.proofs.CondComplete.Runs.{here, step}
 use Rattle.dasdl_parse.proofs.ItemExact.{item_sound, item_complete}
 use Rattle.dasdl_grammar.proofs.SaidExact.{Went, turns_at-went}
-use Rattle.dasdl_grammar.specs.SaidSpelling.{Left}
+use Rattle.dasdl_grammar.specs.SaidSpelling.{SpellsFirst}
 
 -- one more item was read
 record ItemRead (s t : GroupItems) (ts rest : List Lexeme) : Type 0 where
@@ -88,7 +88,7 @@ more_items count s t us ts rest g h =
 regroup : (m g : List Lexeme) (y z : Lexeme) (r : List Lexeme) → m ++ (g ++ (y ∷ (z ∷ r))) ≡ ((m ++ g) ++ (y ∷ (z ∷ []))) ++ r
 regroup m g y z r = sym (append_assoc (m ++ g) (y ∷ (z ∷ [])) r ∙ append_assoc m g (y ∷ (z ∷ r)))
 
-pub group_sound : (count : ℕ) (ts : List Lexeme) (s : GroupItems) (rest : List Lexeme) → group_at count ts ≡ Ok (s, rest) → Left IsGroup ts s.items rest × (s.count ≡ count + length s.items) × (s.count ≤ 60)
+pub group_sound : (count : ℕ) (ts : List Lexeme) (s : GroupItems) (rest : List Lexeme) → group_at count ts ≡ Ok (s, rest) → SpellsFirst IsGroup ts s.items rest × (s.count ≡ count + length s.items) × (s.count ≤ 60)
 unfolding group_at
 group_sound count ts s rest h =
     let a = bind_ok (word_at (codes "GROUP") ts) _ _ h in
@@ -107,7 +107,7 @@ group_sound count ts s rest h =
     let y = sign_spelled 41 d.0.1 e.0 e.1 in
     let z = sign_spelled 59 e.0 f.0 f.1 in
     let all : ts ≡ (k.first ∷ (o.first ∷ ((m.used ++ g.used) ++ (y.first ∷ (z.first ∷ []))))) ++ f.0 = k.all ∙ ap (λ (xs : List Lexeme). k.first ∷ xs) (o.all ∙ ap (λ (xs : List Lexeme). o.first ∷ xs) (m.all ∙ ap (λ (xs : List Lexeme). m.used ++ xs) (g.all ∙ ap (λ (xs : List Lexeme). g.used ++ xs) (y.all ∙ ap (λ (xs : List Lexeme). y.first ∷ xs) z.all)) ∙ regroup m.used g.used y.first z.first f.0)) in
-    subst (λ (x : GroupItems × List Lexeme). Left IsGroup ts x.0.items x.1 × (x.0.count ≡ count + length x.0.items) × (x.0.count ≤ 60)) (ok_same (d.0.0, f.0) (s, rest) f.2)
+    subst (λ (x : GroupItems × List Lexeme). SpellsFirst IsGroup ts x.0.items x.1 × (x.0.count ≡ count + length x.0.items) × (x.0.count ≤ 60)) (ok_same (d.0.0, f.0) (s, rest) f.2)
     ((k.first ∷ (o.first ∷ ((m.used ++ g.used) ++ (y.first ∷ (z.first ∷ [])))), a_group k.first o.first y.first z.first d.0.0.items (m.used ++ g.used) k.token o.token g.is.are y.token z.token, all), g.is.total, g.is.few)
 
 -- a type's first word

@@ -17,7 +17,7 @@ use Rattle.dms_tokens.specs.Cursors.{starts, is_word, is_the_sign}
 use Rattle.dasdl_parse.specs.Cursors.{fault_at, word_at, sign_at, equal_at, number_at, turns_at, until_close}
 use Rattle.dasdl_parse.specs.Parameters.{no_pairs, no_audit_pairs, setting_at, measure_at, pair_at, next_pair_at, parameters_at, audit_pair_at, next_audit_pair_at, audit_at}
 use Rattle.dasdl_parse.specs.CondSpelling.{token_of, Reads}
-use Rattle.dasdl_grammar.specs.ParameterSpelling.{Listed, measure, setting, IsPair, IsAuditPair, AreParameters, IsTrail}
+use Rattle.dasdl_grammar.specs.ParameterSpelling.{ArePairs, measure, setting, IsPair, IsAuditPair, AreParameters, IsTrail}
 use Rattle.dasdl_grammar.specs.ParameterSpelling.Listed.{first_pair, next_pair}
 use Rattle.dasdl_grammar.specs.ParameterSpelling.IsPair.{says_syncpoint, says_controlpoint, says_buffers}
 use Rattle.dasdl_grammar.specs.ParameterSpelling.IsAuditPair.{says_blocks, says_files}
@@ -185,17 +185,17 @@ audit_pair_complete _ _ _ (says_files o n low high) us rest e =
 
 -- pairs with commas between them
 module _ {S : Type 0} (nothing : S) (pair : S → S → List Token → Type 0) (one next : S → List Lexeme → Read S) (is_next : (s : S) (ts : List Lexeme) → next s ts ≡ (sign_at 44 ts >>= λ ts1. one s ts1)) (is_sound : (s t : S) (ts rest : List Lexeme) → one s ts ≡ Ok (t, rest) → Reads (pair s) ts t rest) (is_complete : (s t : S) (xs : List Token) → pair s t xs → (us rest : List Lexeme) → map token_of us ≡ xs → one s (us ++ rest) ≡ Ok (t, rest)) where
-  keeps : (s t : S) (toks : List Token) (ts rest : List Lexeme) → Listed nothing pair s toks → next s ts ≡ Ok (t, rest) → Goes (Listed nothing pair) t toks ts rest
+  keeps : (s t : S) (toks : List Token) (ts rest : List Lexeme) → ArePairs nothing pair s toks → next s ts ≡ Ok (t, rest) → Goes (ArePairs nothing pair) t toks ts rest
   keeps s t toks ts rest d h =
       let b = bind_ok (sign_at 44 ts) (λ (ts1 : List Lexeme). one s ts1) (t, rest) (sym (is_next s ts) ∙ h) in
       let k = sign_spelled 44 ts b.0 b.1 in
       let r = is_sound s t b.0 rest b.2 in
       record { used = k.first ∷ r.used; is = rw k.token (next_pair s t toks (map token_of r.used) d r.is); all = k.all ∙ ap (λ (xs : List Lexeme). k.first ∷ xs) r.all }
 
-  list_sound : (ts : List Lexeme) (start t : S) (mid rest : List Lexeme) → one nothing ts ≡ Ok (start, mid) → turns_at until_close next start mid ≡ Ok (t, rest) → Reads (Listed nothing pair) ts t rest
+  list_sound : (ts : List Lexeme) (start t : S) (mid rest : List Lexeme) → one nothing ts ≡ Ok (start, mid) → turns_at until_close next start mid ≡ Ok (t, rest) → Reads (ArePairs nothing pair) ts t rest
   list_sound ts start t mid rest f h =
       let r = is_sound nothing start ts mid f in
-      let g = turns_at-goes (Listed nothing pair) until_close next keeps start t (map token_of r.used) mid rest (first_pair start (map token_of r.used) r.is) h in
+      let g = turns_at-goes (ArePairs nothing pair) until_close next keeps start t (map token_of r.used) mid rest (first_pair start (map token_of r.used) r.is) h in
       record { used = r.used ++ g.used; is = rw (map-append token_of r.used g.used) g.is; all = r.all ∙ ap (λ (xs : List Lexeme). r.used ++ xs) g.all ∙ sym (append_assoc r.used g.used rest) }
 
   record ReadsList (t : S) (us rest : List Lexeme) : Type 0 where
@@ -204,7 +204,7 @@ module _ {S : Type 0} (nothing : S) (pair : S → S → List Token → Type 0) (
     first : one nothing (us ++ rest) ≡ Ok (start, mid)
     others : Runs until_close next start mid t rest
 
-  list_runs : (t : S) (xs : List Token) → Listed nothing pair t xs → (us rest : List Lexeme) → map token_of us ≡ xs → ReadsList t us rest
+  list_runs : (t : S) (xs : List Token) → ArePairs nothing pair t xs → (us rest : List Lexeme) → map token_of us ≡ xs → ReadsList t us rest
   list_runs _ _ (first_pair t xs o) us rest e = record { start = t; mid = rest; first = is_complete nothing t xs o us rest e; others = here t rest }
   list_runs _ _ (next_pair s t xs ys d o) us rest e =
       let k = splits us xs (Sign 44 ∷ ys) e in

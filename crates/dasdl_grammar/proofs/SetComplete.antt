@@ -25,7 +25,7 @@ use Rattle.dasdl_parse.specs.Grammar.{no_data_set_options, data_set_option_at, n
 use Rattle.dasdl_parse.specs.CondSpelling.{token_of, Reads, IsCond, nodes}
 use Rattle.dasdl_parse.specs.CondSpelling.Part.{Whole}
 use Rattle.dasdl_parse.specs.KeySpelling.{IsKey}
-use Rattle.dasdl_grammar.specs.SaidSpelling.{Left, Said, IsCondDecl, IsKeyDecl, IsPopulation, IsDuplicates, IsForm, SetOption, DataSetOption}
+use Rattle.dasdl_grammar.specs.SaidSpelling.{SpellsFirst, Said, IsCondDecl, IsKeyDecl, IsPopulation, IsDuplicates, IsForm, SetOption, DataSetOption}
 use Rattle.dasdl_grammar.specs.SaidSpelling.IsCondDecl.{a_cond}
 use Rattle.dasdl_grammar.specs.SaidSpelling.IsKeyDecl.{a_key}
 use Rattle.dasdl_grammar.specs.SaidSpelling.IsPopulation.{a_population}
@@ -214,7 +214,7 @@ next_set : (s : SetOptions) (ts : List Lexeme) → next_set_option_at s ts ≡ (
 unfolding next_set_option_at
 next_set s ts = refl
 
-pub set_options_sound : (ts : List Lexeme) (t : SetOptions) (rest : List Lexeme) → turns_at until_semicolon next_set_option_at no_set_options ts ≡ Ok (t, rest) → Left (Said no_set_options SetOption) ts t rest
+pub set_options_sound : (ts : List Lexeme) (t : SetOptions) (rest : List Lexeme) → turns_at until_semicolon next_set_option_at no_set_options ts ≡ Ok (t, rest) → SpellsFirst (Said no_set_options SetOption) ts t rest
 set_options_sound = said_sound no_set_options SetOption set_option_at next_set_option_at next_set set_option_sound set_option_complete set_opens
 
 pub set_options_complete : (us rest : List Lexeme) (t : SetOptions) (z : Lexeme) → Said no_set_options SetOption t us → z.token ≡ Sign 59 → turns_at until_semicolon next_set_option_at no_set_options (us ++ (z ∷ rest)) ≡ Ok (t, z ∷ rest)
@@ -244,7 +244,7 @@ next_data_set : (s : DataSetOptions) (ts : List Lexeme) → next_data_set_option
 unfolding next_data_set_option_at
 next_data_set s ts = refl
 
-pub data_set_options_sound : (ts : List Lexeme) (t : DataSetOptions) (rest : List Lexeme) → turns_at until_semicolon next_data_set_option_at no_data_set_options ts ≡ Ok (t, rest) → Left (Said no_data_set_options DataSetOption) ts t rest
+pub data_set_options_sound : (ts : List Lexeme) (t : DataSetOptions) (rest : List Lexeme) → turns_at until_semicolon next_data_set_option_at no_data_set_options ts ≡ Ok (t, rest) → SpellsFirst (Said no_data_set_options DataSetOption) ts t rest
 data_set_options_sound = said_sound no_data_set_options DataSetOption data_set_option_at next_data_set_option_at next_data_set data_set_option_sound data_set_option_complete data_set_opens
 
 pub data_set_options_complete : (us rest : List Lexeme) (t : DataSetOptions) (z : Lexeme) → Said no_data_set_options DataSetOption t us → z.token ≡ Sign 59 → turns_at until_semicolon next_data_set_option_at no_data_set_options (us ++ (z ∷ rest)) ≡ Ok (t, z ∷ rest)
@@ -267,7 +267,7 @@ unfolding set_word_at word_at
 word_reads_2 k rest true e = rw e refl
 word_reads_2 k rest false e = rw e refl
 
-pub set_sound : (place : ℕ) (name : List ℕ) (ts : List Lexeme) (set : SetDecl) (rest : List Lexeme) → set_at place name ts ≡ Ok (set, rest) → Left (IsSet place name) ts set rest
+pub set_sound : (place : ℕ) (name : List ℕ) (ts : List Lexeme) (set : SetDecl) (rest : List Lexeme) → set_at place name ts ≡ Ok (set, rest) → SpellsFirst (IsSet place name) ts set rest
 unfolding set_at
 set_sound place name ts set rest h =
     let a = bind_ok (set_word_at ts) _ _ h in
@@ -281,7 +281,7 @@ set_sound place name ts set rest h =
     let s = set_options_sound c.0.1 d.0.0 d.0.1 d.1 in
     let z = sign_spelled 59 d.0.1 e.0 e.1 in
     let all : ts ≡ (k.first ∷ (o.first ∷ (t.1.first ∷ (s.0 ++ (z.first ∷ []))))) ++ e.0 = k.all ∙ ap (λ (xs : List Lexeme). k.first ∷ xs) (o.all ∙ ap (λ (xs : List Lexeme). o.first ∷ xs) (t.1.all ∙ ap (λ (xs : List Lexeme). t.1.first ∷ xs) (s.2 ∙ ap (λ (xs : List Lexeme). s.0 ++ xs) z.all ∙ sym (append_assoc s.0 (z.first ∷ []) e.0)))) in
-    subst (λ (x : SetDecl × List Lexeme). Left (IsSet place name) ts x.0 x.1) (ok_same (set_of place name a.0.0 c.0.0 d.0.0, e.0) (set, rest) e.2)
+    subst (λ (x : SetDecl × List Lexeme). SpellsFirst (IsSet place name) ts x.0 x.1) (ok_same (set_of place name a.0.0 c.0.0 d.0.0, e.0) (set, rest) e.2)
     (k.first ∷ (o.first ∷ (t.1.first ∷ (s.0 ++ (z.first ∷ [])))), a_set k.first o.first t.1.first z.first a.0.0 c.0.0 d.0.0 s.0 k.token o.token t.1.token t.0 s.1 z.token, all)
 
 set_step : (place : ℕ) (name : List ℕ) (k o t z : Lexeme) (subset : Bool) (of : List ℕ) (said : SetOptions) (ts rest : List Lexeme) → k.token ≡ Word (set_word subset) → o.token ≡ Word (codes "OF") → t.token ≡ Word of → is_name of ≡ true → turns_at until_semicolon next_set_option_at no_set_options ts ≡ Ok (said, z ∷ rest) → z.token ≡ Sign 59 → set_at place name (k ∷ (o ∷ (t ∷ ts))) ≡ Ok (set_of place name subset of said, rest)
@@ -294,7 +294,7 @@ set_complete place name _ rest _ (a_set k o t z subset of said us a b c named d 
     let same : (us ++ (z ∷ [])) ++ rest ≡ us ++ (z ∷ rest) = append_assoc us (z ∷ []) rest in
     rw same (set_step place name k o t z subset of said (us ++ (z ∷ rest)) rest a b c named (set_options_complete us rest said z d e) e)
 
-pub end_sound : (ts : List Lexeme) (end : DataSetEnd) (rest : List Lexeme) → data_set_end_at ts ≡ Ok (end, rest) → Left IsEnd ts end rest
+pub end_sound : (ts : List Lexeme) (end : DataSetEnd) (rest : List Lexeme) → data_set_end_at ts ≡ Ok (end, rest) → SpellsFirst IsEnd ts end rest
 unfolding data_set_end_at
 end_sound ts end rest h =
     let a = bind_ok (sign_at 41 ts) _ _ h in
@@ -304,7 +304,7 @@ end_sound ts end rest h =
     let s = data_set_options_sound a.0 d.0.0 d.0.1 d.1 in
     let z = sign_spelled 59 d.0.1 e.0 e.1 in
     let all : ts ≡ (k.first ∷ (s.0 ++ (z.first ∷ []))) ++ e.0 = k.all ∙ ap (λ (xs : List Lexeme). k.first ∷ xs) (s.2 ∙ ap (λ (xs : List Lexeme). s.0 ++ xs) z.all ∙ sym (append_assoc s.0 (z.first ∷ []) e.0)) in
-    subst (λ (x : DataSetEnd × List Lexeme). Left IsEnd ts x.0 x.1) (ok_same (record { verify = d.0.0.verify; population = or_else 1000000 d.0.0.population }, e.0) (end, rest) e.2)
+    subst (λ (x : DataSetEnd × List Lexeme). SpellsFirst IsEnd ts x.0 x.1) (ok_same (record { verify = d.0.0.verify; population = or_else 1000000 d.0.0.population }, e.0) (end, rest) e.2)
     (k.first ∷ (s.0 ++ (z.first ∷ [])), an_end k.first z.first d.0.0 s.0 k.token s.1 z.token, all)
 
 end_step : (c z : Lexeme) (said : DataSetOptions) (ts rest : List Lexeme) → c.token ≡ Sign 41 → turns_at until_semicolon next_data_set_option_at no_data_set_options ts ≡ Ok (said, z ∷ rest) → z.token ≡ Sign 59 → data_set_end_at (c ∷ ts) ≡ Ok (record { verify = said.verify; population = or_else 1000000 said.population }, rest)

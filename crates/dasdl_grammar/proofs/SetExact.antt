@@ -25,7 +25,7 @@ use Rattle.dasdl_parse.specs.Grammar.{no_data_set_options, data_set_option_at, n
 use Rattle.dasdl_parse.specs.CondSpelling.{token_of, Reads, IsCond, nodes}
 use Rattle.dasdl_parse.specs.CondSpelling.Part.{Whole}
 use Rattle.dasdl_parse.specs.KeySpelling.{IsKey}
-use Rattle.dasdl_grammar.specs.SaidSpelling.{Left, Said, IsCondDecl, IsKeyDecl, IsPopulation, IsDuplicates, IsForm, SetOption, DataSetOption}
+use Rattle.dasdl_grammar.specs.SaidSpelling.{SpellsFirst, Said, IsCondDecl, IsKeyDecl, IsPopulation, IsDuplicates, IsForm, SetOption, DataSetOption}
 use Rattle.dasdl_grammar.specs.SaidSpelling.IsCondDecl.{a_cond}
 use Rattle.dasdl_grammar.specs.SaidSpelling.IsKeyDecl.{a_key}
 use Rattle.dasdl_grammar.specs.SaidSpelling.IsPopulation.{a_population}
@@ -47,7 +47,7 @@ use Rattle.dasdl_grammar.proofs.SaidExact.{Follows, Opens, said_sound, said_comp
 place_is : (ts ls : List Lexeme) (l : Lexeme) → ts ≡ l ∷ ls → place_at ts ≡ l.place
 place_is ts ls l e = ap place_at e
 
-cond_decl_sound : (w : List ℕ) (ts : List Lexeme) (c : Condition) (rest : List Lexeme) → cond_decl_at w ts ≡ Ok (c, rest) → Left (IsCondDecl w) ts c rest
+cond_decl_sound : (w : List ℕ) (ts : List Lexeme) (c : Condition) (rest : List Lexeme) → cond_decl_at w ts ≡ Ok (c, rest) → SpellsFirst (IsCondDecl w) ts c rest
 unfolding cond_decl_at
 cond_decl_sound w ts c rest h =
     let a = bind_ok (word_at w ts) _ _ h in
@@ -56,7 +56,7 @@ cond_decl_sound w ts c rest h =
     let t = cond_sound a.0 b.0.0 b.0.1 b.1 in
     let few = cond_few a.0 b.0.0 b.0.1 b.1 in
     let is : IsCondDecl w (record { place = place_at ts; tree = b.0.0 }) (k.first ∷ t.used) = subst (λ (p : ℕ). IsCondDecl w (record { place = p; tree = b.0.0 }) (k.first ∷ t.used)) (sym (place_is ts a.0 k.first k.all)) (a_cond k.first b.0.0 t.used k.token t.is few) in
-    subst (λ (x : Condition × List Lexeme). Left (IsCondDecl w) ts x.0 x.1) (ok_same (record { place = place_at ts; tree = b.0.0 }, b.0.1) (c, rest) b.2)
+    subst (λ (x : Condition × List Lexeme). SpellsFirst (IsCondDecl w) ts x.0 x.1) (ok_same (record { place = place_at ts; tree = b.0.0 }, b.0.1) (c, rest) b.2)
     (k.first ∷ t.used, is, k.all ∙ ap (λ (xs : List Lexeme). k.first ∷ xs) t.all)
 
 cond_decl_step : (w : List ℕ) (l : Lexeme) (vs rest : List Lexeme) (tree : Tree) → is_word w (Word w) ≡ true → l.token ≡ Word w → cond_at (vs ++ rest) ≡ Ok (tree, rest) → cond_decl_at w (l ∷ (vs ++ rest)) ≡ Ok (record { place = l.place; tree = tree }, rest)
@@ -66,7 +66,7 @@ cond_decl_step w l vs rest tree t e f = rw (word_reads w l (vs ++ rest) t e, f) 
 pub cond_decl_reads : (w : List ℕ) → is_word w (Word w) ≡ true → (c : Condition) (us : List Lexeme) → IsCondDecl w c us → (rest : List Lexeme) → Follows rest → cond_decl_at w (us ++ rest) ≡ Ok (c, rest)
 cond_decl_reads w t _ _ (a_cond l tree vs e d few) rest f = cond_decl_step w l vs rest tree t e (cond_complete vs rest tree d few f.no_and f.no_or)
 
-key_decl_sound : (ts : List Lexeme) (k : KeyDecl) (rest : List Lexeme) → key_at ts ≡ Ok (k, rest) → Left IsKeyDecl ts k rest
+key_decl_sound : (ts : List Lexeme) (k : KeyDecl) (rest : List Lexeme) → key_at ts ≡ Ok (k, rest) → SpellsFirst IsKeyDecl ts k rest
 unfolding key_at
 key_decl_sound ts k rest h =
     let a = bind_ok (word_at (codes "KEY") ts) _ _ h in
@@ -76,7 +76,7 @@ key_decl_sound ts k rest h =
     let m = word_spelled (codes "IS") a.0 b.0 b.1 in
     let p = key_sound b.0 c.0.0 c.0.1 c.1 in
     let is : IsKeyDecl (record { place = place_at ts; parts = c.0.0 }) (l.first ∷ (m.first ∷ p.0.used)) = subst (λ (q : ℕ). IsKeyDecl (record { place = q; parts = c.0.0 }) (l.first ∷ (m.first ∷ p.0.used))) (sym (place_is ts a.0 l.first l.all)) (a_key l.first m.first c.0.0 p.0.used l.token m.token p.0.is p.1) in
-    subst (λ (x : KeyDecl × List Lexeme). Left IsKeyDecl ts x.0 x.1) (ok_same (record { place = place_at ts; parts = c.0.0 }, c.0.1) (k, rest) c.2)
+    subst (λ (x : KeyDecl × List Lexeme). SpellsFirst IsKeyDecl ts x.0 x.1) (ok_same (record { place = place_at ts; parts = c.0.0 }, c.0.1) (k, rest) c.2)
     (l.first ∷ (m.first ∷ p.0.used), is, l.all ∙ ap (λ (xs : List Lexeme). l.first ∷ xs) (m.all ∙ ap (λ (xs : List Lexeme). m.first ∷ xs) p.0.all))
 
 key_decl_step : (l m : Lexeme) (vs rest : List Lexeme) (parts : List PartDecl) → l.token ≡ Word (codes "KEY") → m.token ≡ Word (codes "IS") → parts_at (vs ++ rest) ≡ Ok (parts, rest) → key_at (l ∷ (m ∷ (vs ++ rest))) ≡ Ok (record { place = l.place; parts = parts }, rest)
@@ -140,7 +140,7 @@ form_sound ts f rest h =
     let l = word_spelled (codes "LIST") a.0 b.0 b.1 in
     subst (λ (x : ℕ × List Lexeme). Reads IsForm ts x.0 x.1) (ok_same (2, b.0) (f, rest) b.2) (record { used = k.first ∷ l.first ∷ []; is = rw (k.token, l.token) a_list; all = k.all ∙ ap (λ (xs : List Lexeme). k.first ∷ xs) l.all })) h
 
-plain_sound : (s t : SetOptions) (ts rest : List Lexeme) → plain_option_at s ts ≡ Ok (t, rest) → Left (SetOption s) ts t rest
+plain_sound : (s t : SetOptions) (ts rest : List Lexeme) → plain_option_at s ts ≡ Ok (t, rest) → SpellsFirst (SetOption s) ts t rest
 unfolding plain_option_at
 plain_sound s t ts rest h =
     both_pick {A = SetOptions × List Lexeme} (starts_duplicates ts) (is_none s.duplicates) _ _ (t, rest)
@@ -148,22 +148,22 @@ plain_sound s t ts rest h =
     let a = bind_ok (duplicates_at ts) _ _ e in
     let d = duplicates_sound ts a.0.0 a.0.1 a.1 in
     let o : SetOption s (record { cond = s.cond; key = s.key; duplicates = Some a.0.0; form = s.form; population = s.population }) d.used = subst (λ (x : Option Bool). SetOption (record { cond = s.cond; key = s.key; duplicates = x; form = s.form; population = s.population }) (record { cond = s.cond; key = s.key; duplicates = Some a.0.0; form = s.form; population = s.population }) d.used) (sym (none_is s.duplicates n)) (says_duplicates s.cond s.key s.form s.population a.0.0 d.used d.is) in
-    subst (λ (x : SetOptions × List Lexeme). Left (SetOption s) ts x.0 x.1) (ok_same (record { cond = s.cond; key = s.key; duplicates = Some a.0.0; form = s.form; population = s.population }, a.0.1) (t, rest) a.2) (d.used, o, d.all))
+    subst (λ (x : SetOptions × List Lexeme). SpellsFirst (SetOption s) ts x.0 x.1) (ok_same (record { cond = s.cond; key = s.key; duplicates = Some a.0.0; form = s.form; population = s.population }, a.0.1) (t, rest) a.2) (d.used, o, d.all))
     (both_pick {A = SetOptions × List Lexeme} (starts_form ts) (is_none s.form) _ _ (t, rest)
     (λ n e.
     let a = bind_ok (form_at ts) _ _ e in
     let d = form_sound ts a.0.0 a.0.1 a.1 in
     let o : SetOption s (record { cond = s.cond; key = s.key; duplicates = s.duplicates; form = Some a.0.0; population = s.population }) d.used = subst (λ (x : Option ℕ). SetOption (record { cond = s.cond; key = s.key; duplicates = s.duplicates; form = x; population = s.population }) (record { cond = s.cond; key = s.key; duplicates = s.duplicates; form = Some a.0.0; population = s.population }) d.used) (sym (none_is s.form n)) (says_form s.cond s.key s.duplicates s.population a.0.0 d.used d.is) in
-    subst (λ (x : SetOptions × List Lexeme). Left (SetOption s) ts x.0 x.1) (ok_same (record { cond = s.cond; key = s.key; duplicates = s.duplicates; form = Some a.0.0; population = s.population }, a.0.1) (t, rest) a.2) (d.used, o, d.all))
+    subst (λ (x : SetOptions × List Lexeme). SpellsFirst (SetOption s) ts x.0 x.1) (ok_same (record { cond = s.cond; key = s.key; duplicates = s.duplicates; form = Some a.0.0; population = s.population }, a.0.1) (t, rest) a.2) (d.used, o, d.all))
     (both_pick {A = SetOptions × List Lexeme} (starts (is_word (codes "POPULATION")) ts) (is_none s.population) _ _ (t, rest)
     (λ n e.
     let a = bind_ok (population_at ts) _ _ e in
     let d = population_sound ts a.0.0 a.0.1 a.1 in
     let o : SetOption s (record { cond = s.cond; key = s.key; duplicates = s.duplicates; form = s.form; population = Some a.0.0 }) d.used = subst (λ (x : Option ℕ). SetOption (record { cond = s.cond; key = s.key; duplicates = s.duplicates; form = s.form; population = x }) (record { cond = s.cond; key = s.key; duplicates = s.duplicates; form = s.form; population = Some a.0.0 }) d.used) (sym (none_is s.population n)) (says_population s.cond s.key s.duplicates s.form a.0.0 d.used d.is) in
-    subst (λ (x : SetOptions × List Lexeme). Left (SetOption s) ts x.0 x.1) (ok_same (record { cond = s.cond; key = s.key; duplicates = s.duplicates; form = s.form; population = Some a.0.0 }, a.0.1) (t, rest) a.2) (d.used, o, d.all))
+    subst (λ (x : SetOptions × List Lexeme). SpellsFirst (SetOption s) ts x.0 x.1) (ok_same (record { cond = s.cond; key = s.key; duplicates = s.duplicates; form = s.form; population = Some a.0.0 }, a.0.1) (t, rest) a.2) (d.used, o, d.all))
     (λ e. absurd (cc)))) h
 
-pub set_option_sound : (s t : SetOptions) (ts rest : List Lexeme) → set_option_at s ts ≡ Ok (t, rest) → Left (SetOption s) ts t rest
+pub set_option_sound : (s t : SetOptions) (ts rest : List Lexeme) → set_option_at s ts ≡ Ok (t, rest) → SpellsFirst (SetOption s) ts t rest
 unfolding set_option_at
 set_option_sound s t ts rest h =
     both_pick {A = SetOptions × List Lexeme} (starts (is_word (codes "WHERE")) ts) (is_none s.cond) _ _ (t, rest)
@@ -171,16 +171,16 @@ set_option_sound s t ts rest h =
     let a = bind_ok (cond_decl_at (codes "WHERE") ts) _ _ e in
     let d = cond_decl_sound (codes "WHERE") ts a.0.0 a.0.1 a.1 in
     let o : SetOption s (record { cond = Some a.0.0; key = s.key; duplicates = s.duplicates; form = s.form; population = s.population }) d.0 = subst (λ (x : Option Condition). SetOption (record { cond = x; key = s.key; duplicates = s.duplicates; form = s.form; population = s.population }) (record { cond = Some a.0.0; key = s.key; duplicates = s.duplicates; form = s.form; population = s.population }) d.0) (sym (none_is s.cond n)) (says_where s.key s.duplicates s.form s.population a.0.0 d.0 d.1) in
-    subst (λ (x : SetOptions × List Lexeme). Left (SetOption s) ts x.0 x.1) (ok_same (record { cond = Some a.0.0; key = s.key; duplicates = s.duplicates; form = s.form; population = s.population }, a.0.1) (t, rest) a.2) (d.0, o, d.2))
+    subst (λ (x : SetOptions × List Lexeme). SpellsFirst (SetOption s) ts x.0 x.1) (ok_same (record { cond = Some a.0.0; key = s.key; duplicates = s.duplicates; form = s.form; population = s.population }, a.0.1) (t, rest) a.2) (d.0, o, d.2))
     (both_pick {A = SetOptions × List Lexeme} (starts (is_word (codes "KEY")) ts) (is_none s.key) _ _ (t, rest)
     (λ n e.
     let a = bind_ok (key_at ts) _ _ e in
     let d = key_decl_sound ts a.0.0 a.0.1 a.1 in
     let o : SetOption s (record { cond = s.cond; key = Some a.0.0; duplicates = s.duplicates; form = s.form; population = s.population }) d.0 = subst (λ (x : Option KeyDecl). SetOption (record { cond = s.cond; key = x; duplicates = s.duplicates; form = s.form; population = s.population }) (record { cond = s.cond; key = Some a.0.0; duplicates = s.duplicates; form = s.form; population = s.population }) d.0) (sym (none_is s.key n)) (says_key s.cond s.duplicates s.form s.population a.0.0 d.0 d.1) in
-    subst (λ (x : SetOptions × List Lexeme). Left (SetOption s) ts x.0 x.1) (ok_same (record { cond = s.cond; key = Some a.0.0; duplicates = s.duplicates; form = s.form; population = s.population }, a.0.1) (t, rest) a.2) (d.0, o, d.2))
+    subst (λ (x : SetOptions × List Lexeme). SpellsFirst (SetOption s) ts x.0 x.1) (ok_same (record { cond = s.cond; key = Some a.0.0; duplicates = s.duplicates; form = s.form; population = s.population }, a.0.1) (t, rest) a.2) (d.0, o, d.2))
     (plain_sound s t ts rest)) h
 
-pub data_set_option_sound : (s t : DataSetOptions) (ts rest : List Lexeme) → data_set_option_at s ts ≡ Ok (t, rest) → Left (DataSetOption s) ts t rest
+pub data_set_option_sound : (s t : DataSetOptions) (ts rest : List Lexeme) → data_set_option_at s ts ≡ Ok (t, rest) → SpellsFirst (DataSetOption s) ts t rest
 unfolding data_set_option_at
 data_set_option_sound s t ts rest h =
     both_pick {A = DataSetOptions × List Lexeme} (starts (is_word (codes "VERIFY")) ts) (is_none s.verify) _ _ (t, rest)
@@ -188,11 +188,11 @@ data_set_option_sound s t ts rest h =
     let a = bind_ok (cond_decl_at (codes "VERIFY") ts) _ _ e in
     let d = cond_decl_sound (codes "VERIFY") ts a.0.0 a.0.1 a.1 in
     let o : DataSetOption s (record { verify = Some a.0.0; population = s.population }) d.0 = subst (λ (x : Option Condition). DataSetOption (record { verify = x; population = s.population }) (record { verify = Some a.0.0; population = s.population }) d.0) (sym (none_is s.verify n)) (says_verify s.population a.0.0 d.0 d.1) in
-    subst (λ (x : DataSetOptions × List Lexeme). Left (DataSetOption s) ts x.0 x.1) (ok_same (record { verify = Some a.0.0; population = s.population }, a.0.1) (t, rest) a.2) (d.0, o, d.2))
+    subst (λ (x : DataSetOptions × List Lexeme). SpellsFirst (DataSetOption s) ts x.0 x.1) (ok_same (record { verify = Some a.0.0; population = s.population }, a.0.1) (t, rest) a.2) (d.0, o, d.2))
     (both_pick {A = DataSetOptions × List Lexeme} (starts (is_word (codes "POPULATION")) ts) (is_none s.population) _ _ (t, rest)
     (λ n e.
     let a = bind_ok (population_at ts) _ _ e in
     let d = population_sound ts a.0.0 a.0.1 a.1 in
     let o : DataSetOption s (record { verify = s.verify; population = Some a.0.0 }) d.used = subst (λ (x : Option ℕ). DataSetOption (record { verify = s.verify; population = x }) (record { verify = s.verify; population = Some a.0.0 }) d.used) (sym (none_is s.population n)) (says_its_population s.verify a.0.0 d.used d.is) in
-    subst (λ (x : DataSetOptions × List Lexeme). Left (DataSetOption s) ts x.0 x.1) (ok_same (record { verify = s.verify; population = Some a.0.0 }, a.0.1) (t, rest) a.2) (d.used, o, d.all))
+    subst (λ (x : DataSetOptions × List Lexeme). SpellsFirst (DataSetOption s) ts x.0 x.1) (ok_same (record { verify = s.verify; population = Some a.0.0 }, a.0.1) (t, rest) a.2) (d.used, o, d.all))
     (λ e. absurd (cc))) h

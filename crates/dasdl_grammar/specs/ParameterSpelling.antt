@@ -9,9 +9,9 @@ use Rattle.dasdl_parse.specs.declared.parameters.AuditPairs.{AuditPairs}
 use Rattle.dasdl_parse.specs.Parameters.{no_pairs, no_audit_pairs}
 
 -- pairs with a comma between two, where a pair is what one more of them makes of what the others have said
-pub data Listed {S : Type 0} (nothing : S) (pair : S → S → List Token → Type 0) : S → List Token → Type 0 where
-  first_pair : (t : S) (xs : List Token) → pair nothing t xs → Listed nothing pair t xs
-  next_pair : (s t : S) (xs ys : List Token) → Listed nothing pair s xs → pair s t ys → Listed nothing pair t (xs ++ (Sign 44 ∷ ys))
+pub data ArePairs {S : Type 0} (nothing : S) (pair : S → S → List Token → Type 0) : S → List Token → Type 0 where
+  first_pair : (t : S) (xs : List Token) → pair nothing t xs → ArePairs nothing pair t xs
+  next_pair : (s t : S) (xs ys : List Token) → ArePairs nothing pair s xs → pair s t ys → ArePairs nothing pair t (xs ++ (Sign 44 ∷ ys))
 
 -- word = number unit
 abbrev pub measure : List ℕ → ℕ → List ℕ → List Token
@@ -33,8 +33,8 @@ pub data IsAuditPair : AuditPairs → AuditPairs → List Token → Type 0 where
 
 -- PARAMETERS ( pair { , pair } ) ;
 pub data AreParameters : Pairs → List Token → Type 0 where
-  parameters : (said : Pairs) (xs : List Token) → Listed no_pairs IsPair said xs → AreParameters said (Word (codes "PARAMETERS") ∷ (Sign 40 ∷ (xs ++ (Sign 41 ∷ (Sign 59 ∷ [])))))
+  parameters : (said : Pairs) (xs : List Token) → ArePairs no_pairs IsPair said xs → AreParameters said (Word (codes "PARAMETERS") ∷ (Sign 40 ∷ (xs ++ (Sign 41 ∷ (Sign 59 ∷ [])))))
 
 -- AUDIT TRAIL ( pair { , pair } ) ;
 pub data IsTrail : AuditPairs → List Token → Type 0 where
-  trail : (said : AuditPairs) (xs : List Token) → Listed no_audit_pairs IsAuditPair said xs → IsTrail said (Word (codes "AUDIT") ∷ (Word (codes "TRAIL") ∷ (Sign 40 ∷ (xs ++ (Sign 41 ∷ (Sign 59 ∷ []))))))
+  trail : (said : AuditPairs) (xs : List Token) → ArePairs no_audit_pairs IsAuditPair said xs → IsTrail said (Word (codes "AUDIT") ∷ (Word (codes "TRAIL") ∷ (Sign 40 ∷ (xs ++ (Sign 41 ∷ (Sign 59 ∷ []))))))

@@ -16,8 +16,8 @@ use Rattle.dasdl_parse.specs.CondSpelling.Part.{Whole}
 use Rattle.dasdl_parse.specs.KeySpelling.{IsKey}
 
 -- the first lexemes spell this, and the others are left
-abbrev pub Left : {A : Type 0} → (A → List Lexeme → Type 0) → List Lexeme → A → List Lexeme → Type 0
-Left spelled ts x rest = (used : List Lexeme) × spelled x used × (ts ≡ used ++ rest)
+abbrev pub SpellsFirst : {A : Type 0} → (A → List Lexeme → Type 0) → List Lexeme → A → List Lexeme → Type 0
+SpellsFirst spelled ts x rest = (used : List Lexeme) × spelled x used × (ts ≡ used ++ rest)
 
 -- what options say together, in any order, each with a comma before it or without one
 pub data Said {S : Type 0} (nothing : S) (option : S → S → List Lexeme → Type 0) : S → List Lexeme → Type 0 where

@@ -2,7 +2,7 @@ ghost use Rattle.dasdl_grammar.specs.SchemaSpelling.{IsSchema};
 ghost use Rattle.dms_tokens.specs.Tokens.{tokens_of};
 ghost use Rattle.dasdl_parse.specs.Grammar.{schema_of};
 ghost use Rattle.dasdl_parse.specs.declared.schema.Schema.{Schema};
-ghost use Rattle.dasdl_grammar.specs.SaidSpelling.{Left};
+ghost use Rattle.dasdl_grammar.specs.SaidSpelling.{SpellsFirst};
 ghost use Rattle.dasdl_grammar.specs.GroupSpelling.{IsGroup};
 ghost use Rattle.dasdl_grammar.specs.SetSpelling.{IsSet, IsHead, IsEnd};
 ghost use Rattle.dasdl_grammar.specs.ParameterSpelling.{AreParameters, IsTrail};
@@ -41,14 +41,14 @@ ghost use Rattle.dasdl_parse.specs.CondSpelling.Part.{Whole};
 /// What stands behind a group's name is read exactly where it is GROUP and items in brackets, by which its data set has
 /// no more than 60.
 pub fn group_law()
-    ensures sound { (count : ℕ) (ts rest : List Lexeme) (group : GroupItems) → group_at count ts ≡ Ok (group, rest) → Left IsGroup ts group.items rest × (group.count ≡ count + length group.items) × (group.count ≤ 60) }
+    ensures sound { (count : ℕ) (ts rest : List Lexeme) (group : GroupItems) → group_at count ts ≡ Ok (group, rest) → SpellsFirst IsGroup ts group.items rest × (group.count ≡ count + length group.items) × (group.count ≤ 60) }
     ensures complete { (count : ℕ) (us rest : List Lexeme) (items : List ItemDecl) → IsGroup items us → count + length items ≤ 60 → group_at count (us ++ rest) ≡ Ok (record { items = items; count = count + length items }, rest) }
 {}
 
 /// What stands behind a set's name is read exactly where it is SET or SUBSET, OF and a name, options in any order, each
 /// with a comma before it or without one and each said once at most, and a semicolon.
 pub fn set_law()
-    ensures sound { (place : ℕ) (name : List ℕ) (ts rest : List Lexeme) (set : SetDecl) → set_at place name ts ≡ Ok (set, rest) → Left (IsSet place name) ts set rest }
+    ensures sound { (place : ℕ) (name : List ℕ) (ts rest : List Lexeme) (set : SetDecl) → set_at place name ts ≡ Ok (set, rest) → SpellsFirst (IsSet place name) ts set rest }
     ensures complete { (place : ℕ) (name : List ℕ) (us rest : List Lexeme) (set : SetDecl) → IsSet place name set us → set_at place name (us ++ rest) ≡ Ok (set, rest) }
 {}
 
@@ -62,7 +62,7 @@ pub fn head_law()
 /// What stands behind a data set's members is read exactly where it is a bracket, options in any order, each said once
 /// at most, and a semicolon.
 pub fn end_law()
-    ensures sound { (ts rest : List Lexeme) (end : DataSetEnd) → data_set_end_at ts ≡ Ok (end, rest) → Left IsEnd ts end rest }
+    ensures sound { (ts rest : List Lexeme) (end : DataSetEnd) → data_set_end_at ts ≡ Ok (end, rest) → SpellsFirst IsEnd ts end rest }
     ensures complete { (us rest : List Lexeme) (end : DataSetEnd) → IsEnd end us → data_set_end_at (us ++ rest) ≡ Ok (end, rest) }
 {}
 

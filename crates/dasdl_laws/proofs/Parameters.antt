@@ -18,7 +18,7 @@ use Rattle.dasdl_parse.specs.declared.parameters.AuditPairs.{AuditPairs}
 use Rattle.dms_tokens.specs.declared.token.Token.{Token}
 use Rattle.dms_tokens.specs.declared.token.Lexeme.{Lexeme}
 use Rattle.dasdl_parse.specs.declared.declarations.Declaration.{Declaration}
-use Rattle.dasdl_grammar.specs.ParameterSpelling.{Listed, IsPair, IsAuditPair, AreParameters, IsTrail}
+use Rattle.dasdl_grammar.specs.ParameterSpelling.{ArePairs, IsPair, IsAuditPair, AreParameters, IsTrail}
 use Rattle.dasdl_grammar.specs.ParameterSpelling.Listed.{first_pair, next_pair}
 use Rattle.dasdl_grammar.specs.ParameterSpelling.IsPair.{says_syncpoint, says_controlpoint, says_buffers}
 use Rattle.dasdl_grammar.specs.ParameterSpelling.IsAuditPair.{says_blocks, says_files}
@@ -50,7 +50,7 @@ one_pair _ _ _ (says_syncpoint c b n low high) h = record { sync = (low, high); 
 one_pair _ _ _ (says_controlpoint s b n low high) h = record { sync = h.sync; control = (low, high); buffers = h.buffers }
 one_pair _ _ _ (says_buffers s c n low high) h = record { sync = h.sync; control = h.control; buffers = (low, high) }
 
-all_pairs : (t : Pairs) (xs : List Token) → Listed no_pairs IsPair t xs → Paired t
+all_pairs : (t : Pairs) (xs : List Token) → ArePairs no_pairs IsPair t xs → Paired t
 all_pairs _ _ (first_pair t xs p) = one_pair no_pairs t xs p (record { sync = tt; control = tt; buffers = tt })
 all_pairs _ _ (next_pair s t xs ys l p) = one_pair s t ys p (all_pairs s xs l)
 
@@ -58,7 +58,7 @@ one_audit_pair : (s t : AuditPairs) (xs : List Token) → IsAuditPair s t xs →
 one_audit_pair _ _ _ (says_blocks f n low high) h = record { blocks = (low, high); files = h.files }
 one_audit_pair _ _ _ (says_files b n low high) h = record { blocks = h.blocks; files = (low, high) }
 
-all_audit_pairs : (t : AuditPairs) (xs : List Token) → Listed no_audit_pairs IsAuditPair t xs → AuditPaired t
+all_audit_pairs : (t : AuditPairs) (xs : List Token) → ArePairs no_audit_pairs IsAuditPair t xs → AuditPaired t
 all_audit_pairs _ _ (first_pair t xs p) = one_audit_pair no_audit_pairs t xs p (record { blocks = tt; files = tt })
 all_audit_pairs _ _ (next_pair s t xs ys l p) = one_audit_pair s t ys p (all_audit_pairs s xs l)
 

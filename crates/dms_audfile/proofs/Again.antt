@@ -5,15 +5,15 @@ use Rattle.std.proofs.lemmas.Bool.{cases_lt, cases_eq}
 use Rattle.dms_site.specs.Files.{Files, Left}
 use Rattle.dms_history.specs.Entries.{Entry}
 use Rattle.dms_history.specs.Schemas.{Parts, no_parts, after_entry}
-use Rattle.dms_audfile.specs.Blocks.{Entered, block_entries}
+use Rattle.dms_audfile.specs.Blocks.{EntryInBlock, block_entries}
 use Rattle.dms_audfile.specs.Trail.{Span, trail_from}
-use Rattle.dms_audfile.specs.Sealing.{Writes}
+use Rattle.dms_audfile.specs.Sealing.{IsWrittenUpTo}
 use Rattle.dms_audfile.specs.Database.{HasDatabase}
 use Rattle.dms_audfile.specs.WholeSchema.{closes_schema, holds_schema_from, holds_schema}
 use Rattle.dms_audfile.specs.TrailEntries.{entry_of, entries_of, entries_in, trail_entries}
 use Rattle.dms_audfile.specs.TrailLaws.{read_trail, all_of}
-use Rattle.dms_audfile.specs.Ends.{AreFilled, Seals}
-use Rattle.dms_audfile.specs.Scanning.{Placed, entry_in, Read, broken, whole, then_read, place_of, places_of, found, no_schema, scanned}
+use Rattle.dms_audfile.specs.Ends.{AllHoldAnEntry, Seals}
+use Rattle.dms_audfile.specs.Scanning.{Placed, entry_in, TrailRead, broken, whole, then_read, place_of, places_of, found, no_schema, scanned}
 use Rattle.dms_audfile.specs.AuditTrail.{IsScanned}
 use Rattle.dms_audfile.specs.ScanLaws.{FoundAreEntries, ScansAgain, WrittenIsFound}
 use Rattle.dms_audfile.proofs.Ended.{writes_once}
@@ -27,22 +27,22 @@ map_on : (ps qs : List Placed) → map entry_in (ps ++ qs) ≡ map entry_in ps +
 map_on [] qs = refl
 map_on (p ∷ ps) qs = ap (λ (l : List Entry). p.entry ∷ l) (map_on ps qs)
 
-placed_entries : (f i : ℕ) (es : List Entered) → map entry_in (map (place_of f i) es) ≡ map entry_of es
+placed_entries : (f i : ℕ) (es : List EntryInBlock) → map entry_in (map (place_of f i) es) ≡ map entry_of es
 placed_entries f i [] = refl
 placed_entries f i (e ∷ es) = ap (λ (l : List Entry). e.entry ∷ l) (placed_entries f i es)
 
-block_found : (f i : ℕ) (r : Option (List Entered)) (qs : List Placed) → places_of f i r ≡ whole qs → map entry_in qs ≡ entries_of r
+block_found : (f i : ℕ) (r : Option (List EntryInBlock)) (qs : List Placed) → places_of f i r ≡ whole qs → map entry_in qs ≡ entries_of r
 block_found f i None qs e = absurd cc
 block_found f i (Some es) qs e =
     let same : map (place_of f i) es ≡ qs = cc e in
     ap (map entry_in) (sym same) ∙ placed_entries f i es
 
 -- what comes behind a block
-abbrev rest_read : ℕ → ℕ → ℕ → List (List ℕ) → Read
+abbrev rest_read : ℕ → ℕ → ℕ → List (List ℕ) → TrailRead
 rest_read total f i bs = cond (i == total) (read_trail total (f + 1) 1 bs) (read_trail total f (i + 1) bs)
 
 -- one of two parts is whole
-either : (P : List Placed → Type 0) (t : Bool) (a b : Read) (qs : List Placed) → ((ps : List Placed) → a ≡ whole ps → P ps) → ((ps : List Placed) → b ≡ whole ps → P ps) → cond t a b ≡ whole qs → P qs
+either : (P : List Placed → Type 0) (t : Bool) (a b : TrailRead) (qs : List Placed) → ((ps : List Placed) → a ≡ whole ps → P ps) → ((ps : List Placed) → b ≡ whole ps → P ps) → cond t a b ≡ whole qs → P qs
 either P true a b qs one two e = one qs e
 either P false a b qs one two e = two qs e
 
@@ -58,14 +58,14 @@ entries_read total f i (b ∷ bs) ps e =
 
 -- a block is in its grammar
 record IsRead (block : List ℕ) : Type 0 where
-  entries : List Entered
+  entries : List EntryInBlock
   is : block_entries block ≡ Some entries
 
 abbrev AreRead : List (List ℕ) → Type 0
 AreRead [] = Unit {0}
 AreRead (b ∷ bs) = IsRead b × AreRead bs
 
-block_is_read : (f i : ℕ) (block : List ℕ) (r : Option (List Entered)) (qs : List Placed) → block_entries block ≡ r → places_of f i r ≡ whole qs → IsRead block
+block_is_read : (f i : ℕ) (block : List ℕ) (r : Option (List EntryInBlock)) (qs : List Placed) → block_entries block ≡ r → places_of f i r ≡ whole qs → IsRead block
 block_is_read f i block None qs is e = absurd cc
 block_is_read f i block (Some es) qs is e = record { entries = es; is = is }
 
@@ -78,7 +78,7 @@ are_read total f i (b ∷ bs) ps e =
           (λ qs is. are_read total (f + 1) 1 bs qs is) (λ qs is. are_read total f (i + 1) bs qs is) w.then,
     )
 
-filled_are_read : (bs : List (List ℕ)) → AreFilled bs → AreRead bs
+filled_are_read : (bs : List (List ℕ)) → AllHoldAnEntry bs → AreRead bs
 filled_are_read [] are = tt
 filled_are_read (b ∷ bs) are = (record { entries = are.0.entries; is = are.0.read }, filled_are_read bs are.1)
 
@@ -86,17 +86,17 @@ read_on : (bs cs : List (List ℕ)) → AreRead bs → AreRead cs → AreRead (b
 read_on [] cs one two = two
 read_on (b ∷ bs) cs one two = (one.0, read_on bs cs one.1 two)
 
-record IsWholeRead (r : Read) : Type 0 where
+record IsWholeRead (r : TrailRead) : Type 0 where
   placed : List Placed
   is : r ≡ whole placed
 
-whole_then : (f i : ℕ) (block : List ℕ) (rest : Read) → IsRead block → IsWholeRead rest → IsWholeRead (then_read (places_of f i (block_entries block)) rest)
+whole_then : (f i : ℕ) (block : List ℕ) (rest : TrailRead) → IsRead block → IsWholeRead rest → IsWholeRead (then_read (places_of f i (block_entries block)) rest)
 whole_then f i block rest b r = record {
   placed = map (place_of f i) b.entries ++ r.placed;
   is = (λ j. then_read (places_of f i (b.is j)) (r.is j));
 }
 
-whole_either : (t : Bool) (a b : Read) → IsWholeRead a → IsWholeRead b → IsWholeRead (cond t a b)
+whole_either : (t : Bool) (a b : TrailRead) → IsWholeRead a → IsWholeRead b → IsWholeRead (cond t a b)
 whole_either true a b one two = one
 whole_either false a b one two = two
 
@@ -107,7 +107,7 @@ all_are_read total f i (b ∷ bs) are = whole_then f i b (rest_read total f i bs
 
 -- ---- what is found are the entries of the trail
 
-all_of_found : (first : ℕ) (r : Read) (ps : List Placed) → all_of first r ≡ found ps → r ≡ whole ps
+all_of_found : (first : ℕ) (r : TrailRead) (ps : List Placed) → all_of first r ≡ found ps → r ≡ whole ps
 all_of_found first (broken f b) ps e = absurd cc
 all_of_found first (whole qs) ps e = ap whole (of_all first qs ps e).0
 
@@ -116,20 +116,20 @@ record EndsThere (first last f : ℕ) : Type 0 where
   low : f ≤ last
   high : last ≤ f + 1
 
-ends_there : (files : Files) (ps : List Placed) (t : IsScanned files (found ps)) (total tag f n : ℕ) → Writes total tag t.first f n files → EndsThere t.first t.last f
+ends_there : (files : Files) (ps : List Placed) (t : IsScanned files (found ps)) (total tag f n : ℕ) → IsWrittenUpTo total tag t.first f n files → EndsThere t.first t.last f
 ends_there files ps t total tag f n w =
     let k = found_is_kept t.first t.last files ps t.span.order t.is in
     let one = fits_says (t.first - 10000) total (files t.first) (w.fits t.first (omega arith) w.order) in
     let two = fits_says (t.first - 10000) k.total (files t.first) (k.writes.fits t.first (omega arith) k.writes.order) in
     let same_total : k.total ≡ total = two.1 ∙ sym one.1 in
     let same_tag : k.tag ≡ tag = sym (k.writes.tags t.first (omega arith) k.writes.order) ∙ w.tags t.first (omega arith) w.order in
-    let v : Writes total tag t.first k.file k.count files = subst (λ a. Writes a tag t.first k.file k.count files) same_total (subst (λ a. Writes k.total a t.first k.file k.count files) same_tag k.writes) in
+    let v : IsWrittenUpTo total tag t.first k.file k.count files = subst (λ a. IsWrittenUpTo a tag t.first k.file k.count files) same_total (subst (λ a. IsWrittenUpTo k.total a t.first k.file k.count files) same_tag k.writes) in
     record {
       low = omega (arith, k.low, writes_once total tag t.first k.file k.count f n files v w);
       high = omega (arith, k.high, writes_once total tag t.first f n k.file k.count files w v);
     }
 
-trail_is_read : (files : Files) (ps : List Placed) (t : IsScanned files (found ps)) (total tag f n : ℕ) → Writes total tag t.first f n files → read_trail total t.first 1 (trail_from 10000 total t.first files) ≡ whole ps
+trail_is_read : (files : Files) (ps : List Placed) (t : IsScanned files (found ps)) (total tag f n : ℕ) → IsWrittenUpTo total tag t.first f n files → read_trail total t.first 1 (trail_from 10000 total t.first files) ≡ whole ps
 trail_is_read files ps t total tag f n w =
     let e = ends_there files ps t total tag f n w in
     all_of_found t.first (read_trail total t.first 1 (trail_from 10000 total t.first files)) ps
@@ -161,7 +161,7 @@ no_bytes : (bytes : List ℕ) → length bytes ≤ 0 → bytes ≡ []
 no_bytes [] none = refl
 no_bytes (b ∷ bytes) none = absurd (omega arith)
 
-new_last : (total tag f n : ℕ) (waiting : List Entry) (old new : Left) (ps : List Placed) (t : IsScanned old.files (found ps)) → Writes total tag t.first f n old.files → (s : Seals total tag t.first waiting old new) → NewLast t.first s.file new.files
+new_last : (total tag f n : ℕ) (waiting : List Entry) (old new : Left) (ps : List Placed) (t : IsScanned old.files (found ps)) → IsWrittenUpTo total tag t.first f n old.files → (s : Seals total tag t.first waiting old new) → NewLast t.first s.file new.files
 new_last total tag f n waiting old new ps t w s = elim (cases_lt s.file 20000) [
   | inl inside ↦ elim (cases_lt 0 (length (new.files (s.file + 1)))) [
     | inl some ↦ record {

@@ -9,8 +9,8 @@ use Rattle.dms_audrec.specs.Spelling.{spelling, IsEntry}
 use Rattle.dms_audrec.specs.EntryLaws.{entry_again}
 use Rattle.dms_audfile.specs.Header.{all_zero}
 use Rattle.dms_audfile.specs.Unsealed.{block_with}
-use Rattle.dms_audfile.specs.Blocks.{Entered, is_begin, stands_there, entries_from, used_in}
-use Rattle.dms_audfile.specs.BlockLaws.{spellings, ArePlain, IsAlone, entered_at, BlockIsRead}
+use Rattle.dms_audfile.specs.Blocks.{EntryInBlock, is_begin, stands_there, entries_from, used_in}
+use Rattle.dms_audfile.specs.BlockLaws.{spellings, AreNoBegins, IsAlone, entered_at, BlockIsRead}
 use Rattle.dms_audfile.proofs.Reading.{after_one, entries_step, entries_none, block_is}
 
 spelling_some : (e : Entry) → IsEntry e → 1 ≤ length (spelling e)
@@ -25,7 +25,7 @@ plain_stands : (at : ℕ) (e : Entry) (more : List ℕ) → is_begin e ≡ false
 plain_stands at e more off = ap (λ b. cond b ((at == 2) && (length more == 0)) true) off
 
 -- one entry, and what follows
-one_read : (k at : ℕ) (e : Entry) (more : List ℕ) (xs : List Entered) → IsEntry e → stands_there at e more ≡ true → entries_from k (at + length (spelling e)) more ≡ Some xs → entries_from (suc k) at (spelling e ++ more) ≡ Some ((record { offset = at; entry = e }) ∷ xs)
+one_read : (k at : ℕ) (e : Entry) (more : List ℕ) (xs : List EntryInBlock) → IsEntry e → stands_there at e more ≡ true → entries_from k (at + length (spelling e)) more ≡ Some xs → entries_from (suc k) at (spelling e ++ more) ≡ Some ((record { offset = at; entry = e }) ∷ xs)
 unfolding after_one
 one_read k at e more xs is stands rest =
     let some = spelling_some e is in
@@ -36,7 +36,7 @@ one_read k at e more xs is stands rest =
     ∙ ap (λ n. after_one e at true (entries_from k n more)) next
     ∙ ap (after_one e at true) rest
 
-entries_read : (es : List Entry) (k at : ℕ) → ArePlain es → length (spellings es) ≤ k → entries_from k at (spellings es) ≡ Some (entered_at at es)
+entries_read : (es : List Entry) (k at : ℕ) → AreNoBegins es → length (spellings es) ≤ k → entries_from k at (spellings es) ≡ Some (entered_at at es)
 entries_read [] k at are few = entries_none k at [] refl
 entries_read (e ∷ es) zero at are few = absurd (omega (arith, few, spelling_some e are.0, length-append (spelling e) (spellings es)))
 entries_read (e ∷ es) (suc k) at are few =
@@ -55,7 +55,7 @@ alone_read : (e : Entry) (k : ℕ) → IsEntry e → length (spellings (e ∷ []
 alone_read e zero is few = absurd (omega (arith, few, spelling_some e is, length-append (spelling e) []))
 alone_read e (suc k) is few = one_read k 2 e [] [] is (alone_stands e) (entries_none k (2 + length (spelling e)) [] refl)
 
-any_read : (es : List Entry) (k : ℕ) → ArePlain es ⊎ IsAlone es → length (spellings es) ≤ k → entries_from k 2 (spellings es) ≡ Some (entered_at 2 es)
+any_read : (es : List Entry) (k : ℕ) → AreNoBegins es ⊎ IsAlone es → length (spellings es) ≤ k → entries_from k 2 (spellings es) ≡ Some (entered_at 2 es)
 any_read es k (inl are) few = entries_read es k 2 are few
 any_read es k (inr a) few =
     subst (λ l. length (spellings l) ≤ k → entries_from k 2 (spellings l) ≡ Some (entered_at 2 l)) (sym a.is) (λ less. alone_read a.entry k a.fits less) few

@@ -10,10 +10,10 @@ use Rattle.dms_history.specs.Entries.{Entry, schema_part, image, byte_range, qui
 use Rattle.dms_audrec.specs.Spelling.{spelling, IsEntry}
 use Rattle.dms_audfile.specs.declared.audit_end.AuditEnd.{AuditEnd}
 use Rattle.dms_audfile.specs.Blocks.{block_entries, is_begin}
-use Rattle.dms_audfile.specs.BlockLaws.{spellings, ArePlain, IsAlone, entered_at, block_of}
+use Rattle.dms_audfile.specs.BlockLaws.{spellings, AreNoBegins, IsAlone, entered_at, block_of}
 use Rattle.dms_audfile.specs.Trail.{trail_from}
 use Rattle.dms_audfile.specs.TrailEntries.{entry_of, entries_of, entries_in, trail_entries}
-use Rattle.dms_audfile.specs.Ends.{unsealed, EndsAt, IsFilled, Grown, Seals, Appends, SealsAll}
+use Rattle.dms_audfile.specs.Ends.{unsealed, EndsAt, HoldsAnEntry, Grown, Seals, Appends, SealsAll}
 use Rattle.dms_audfile.specs.EndLaws.{filled_on}
 use Rattle.std.proofs.lemmas.Bool.{cases_lt, false≢true}
 use Rattle.dms_audfile.proofs.BlockRead.{block_is_read}
@@ -24,7 +24,7 @@ use Rattle.std.proofs.lemmas.Nat.{from_be_bytes-to_be_bytes_8}
 use Rattle.dms_moments.specs.Moments.{Clock, Steps}
 use Rattle.dms_site.specs.Files.{Files, Left, range}
 use Rattle.dms_audfile.specs.Header.{new_header, tag_said}
-use Rattle.dms_audfile.specs.Sealing.{Writes, GrowsLeft}
+use Rattle.dms_audfile.specs.Sealing.{IsWrittenUpTo, GrowsLeft}
 
 pub tag_new : (k total tag : ℕ) → tag < 2 ^ 64 → tag_said (new_header k total tag) ≡ tag
 unfolding tag_said new_header range
@@ -46,11 +46,11 @@ entered_entries : (at : ℕ) (es : List Entry) → map entry_of (entered_at at e
 entered_entries at [] = refl
 entered_entries at (e ∷ es) = ap (λ (l : List Entry). e ∷ l) (entered_entries (at + length (spelling e)) es)
 
-block_holds : (es : List Entry) → ArePlain es ⊎ IsAlone es → length (spellings es) ≤ 4094 → entries_of (block_entries (block_of es)) ≡ es
+block_holds : (es : List Entry) → AreNoBegins es ⊎ IsAlone es → length (spellings es) ≤ 4094 → entries_of (block_entries (block_of es)) ≡ es
 block_holds es kind few = ap entries_of (block_is_read es kind few) ∙ entered_entries 2 es
 
 -- one more block of entries
-pub trail_more : (total first : ℕ) (es : List Entry) (old new : Files) → ArePlain es ⊎ IsAlone es → length (spellings es) ≤ 4094
+pub trail_more : (total first : ℕ) (es : List Entry) (old new : Files) → AreNoBegins es ⊎ IsAlone es → length (spellings es) ≤ 4094
     → trail_from 10000 total first new ≡ trail_from 10000 total first old ++ block_of es ∷ [] → trail_entries total first new ≡ trail_entries total first old ++ es
 unfolding trail_entries
 trail_more total first es old new kind few grows =
@@ -62,7 +62,7 @@ trail_none total first b es old new same =
     ap entries_in (same ∙ append-nil (trail_from 10000 total first old)) ∙ sym (append-nil (entries_in (trail_from 10000 total first old)))
 
 -- the entries are those of the files that the trail reaches
-pub entries_settled : (total tag first f n : ℕ) (old new : Files) → 10001 ≤ first → f ≤ 20000 → Writes total tag first f n old → ((g : ℕ) → first ≤ g → g ≤ f → new g ≡ old g) → trail_entries total first new ≡ trail_entries total first old
+pub entries_settled : (total tag first f n : ℕ) (old new : Files) → 10001 ≤ first → f ≤ 20000 → IsWrittenUpTo total tag first f n old → ((g : ℕ) → first ≤ g → g ≤ f → new g ≡ old g) → trail_entries total first new ≡ trail_entries total first old
 unfolding trail_entries
 entries_settled total tag first f n old new low high w same =
     ap entries_in (trail_same (f - first) 10000 total first f old new (omega (arith, w.order)) (omega (arith, w.order)) w.full (stands_full total n (old f) w.stands w.not_full) same)
@@ -72,7 +72,7 @@ all_taken [] = refl
 all_taken (e ∷ es) = ap (λ (l : List Entry). e ∷ l) (all_taken es)
 
 -- a writer is in the first file that isn't full
-pub writes_once : (total tag first f n g m : ℕ) (files : Files) → Writes total tag first f n files → Writes total tag first g m files → g ≤ f
+pub writes_once : (total tag first f n g m : ℕ) (files : Files) → IsWrittenUpTo total tag first f n files → IsWrittenUpTo total tag first g m files → g ≤ f
 writes_once total tag first f n g m files w v = elim (cases_lt f g) [
   | inl before ↦ absurd (false≢true (sym (stands_full total n (files f) w.stands w.not_full) ∙ v.full f w.order before))
   | inr not ↦ not
@@ -82,7 +82,7 @@ entered_length : (at : ℕ) (es : List Entry) → length (entered_at at es) ≡ 
 entered_length at [] = refl
 entered_length at (e ∷ es) = ap suc (entered_length (at + length (spelling e)) es)
 
-pub block_filled : (es : List Entry) → ArePlain es ⊎ IsAlone es → length (spellings es) ≤ 4094 → 0 < length es → IsFilled (block_of es)
+pub block_filled : (es : List Entry) → AreNoBegins es ⊎ IsAlone es → length (spellings es) ≤ 4094 → 0 < length es → HoldsAnEntry (block_of es)
 block_filled es kind few some = record { entries = entered_at 2 es; read = block_is_read es kind few; some = omega (arith, some, entered_length 2 es) }
 
 pub grown_none : (total first : ℕ) (files : Files) → Grown total first files files
@@ -95,16 +95,16 @@ grown_on total first a b c one two = record {
   filled = filled_on one.made two.made one.filled two.filled;
 }
 
-pub grown_one : (total first : ℕ) (es : List Entry) (content : List ℕ) (old new : Files) → ArePlain es ⊎ IsAlone es → length (spellings es) ≤ 4094 → 0 < length es → content ≡ block_of es
+pub grown_one : (total first : ℕ) (es : List Entry) (content : List ℕ) (old new : Files) → AreNoBegins es ⊎ IsAlone es → length (spellings es) ≤ 4094 → 0 < length es → content ≡ block_of es
     → trail_from 10000 total first new ≡ trail_from 10000 total first old ++ content ∷ [] → Grown total first old new
-grown_one total first es content old new kind few some is trail = record { made = content ∷ []; trail = trail; filled = (subst (λ (l : List ℕ). IsFilled l) (sym is) (block_filled es kind few some), tt) }
+grown_one total first es content old new kind few some is trail = record { made = content ∷ []; trail = trail; filled = (subst (λ (l : List ℕ). HoldsAnEntry l) (sym is) (block_filled es kind few some), tt) }
 
 -- some entry waits where some bytes do
 pub some_wait : (end : AuditEnd) (es : List Entry) → unsealed end ≡ spellings es → length end.block.items ≡ 4096 → end.used ≢ 0 → 0 < length es
 some_wait end [] is size some = absurd (some (omega (arith, ap length is, length-take end.used (drop 2 end.block.items), length-drop 2 end.block.items, size)))
 some_wait end (e ∷ es) is size some = omega arith
 
-pub seals_of : (total tag first f n : ℕ) (es : List Entry) (content : List ℕ) (z x : Left) → 10001 ≤ first → Writes total tag first f n z.files → f < 20000 → ArePlain es ⊎ IsAlone es → length (spellings es) ≤ 4094 → 0 < length es → content ≡ block_of es
+pub seals_of : (total tag first f n : ℕ) (es : List Entry) (content : List ℕ) (z x : Left) → 10001 ≤ first → IsWrittenUpTo total tag first f n z.files → f < 20000 → AreNoBegins es ⊎ IsAlone es → length (spellings es) ≤ 4094 → 0 < length es → content ≡ block_of es
     → GrowsLeft total tag first f (content ∷ []) z x → Seals total tag first es z x
 seals_of total tag first f n es content z x low w high kind few nonempty is grows = by_count grows.files.some grows.files.within (grows.files.trail 10000 (omega (arith, w.order)))
   where
@@ -148,16 +148,16 @@ entry_long (quiet_point n) is = omega arith
 entry_long (control_point n next counts) is = omega arith
 entry_long (begin_restore n kind) is = omega arith
 
-pub none_waits : (es : List Entry) → ArePlain es ⊎ IsAlone es → [] ≡ spellings es → es ≡ []
+pub none_waits : (es : List Entry) → AreNoBegins es ⊎ IsAlone es → [] ≡ spellings es → es ≡ []
 none_waits [] kind none = refl
 none_waits (e ∷ es) (inl plain) none = absurd (no_bytes e (spellings es) plain.0 (sym none))
 none_waits (e ∷ es) (inr alone) none = absurd (no_bytes alone.entry [] alone.fits (sym (none ∙ ap spellings alone.is)))
 
 -- nothing is done
-pub seals_none : (total tag first f n : ℕ) (es : List Entry) (files : Files) (a : Clock Left) → Writes total tag first f n files → ((g : ℕ) → first ≤ g → g ≤ f → OnlyIn g files a) → f ≤ 20000 → Steps (Seals total tag first es) a a
+pub seals_none : (total tag first f n : ℕ) (es : List Entry) (files : Files) (a : Clock Left) → IsWrittenUpTo total tag first f n files → ((g : ℕ) → first ≤ g → g ≤ f → OnlyIn g files a) → f ≤ 20000 → Steps (Seals total tag first es) a a
 seals_none total tag first f n es files a w settled high = record { follows = λ x now. (x, now, here x now); runs = runs_none a _ }
   where
-    writes_at : (x : Left) → Now a x → Writes total tag first f n x.files
+    writes_at : (x : Left) → Now a x → IsWrittenUpTo total tag first f n x.files
     writes_at x now = writes_same total tag first f n files x.files w (λ g low high. settled g low high x now)
 
     here : (x : Left) → Now a x → Seals total tag first es x x
@@ -201,12 +201,12 @@ taken k j es more = ap (λ (l : List Entry). take (length (take k es) + j) l) (s
 dropped : (k j : ℕ) (es more : List Entry) → drop (length (take k es) + j) (es ++ more) ≡ drop j (drop k es ++ more)
 dropped k j es more = ap (λ (l : List Entry). drop (length (take k es) + j) l) (sym (parts_of k es more)) ∙ drop_behind (take k es) (drop k es ++ more) j
 
-plain_drop : (k : ℕ) (es : List Entry) → ArePlain es → ArePlain (drop k es)
+plain_drop : (k : ℕ) (es : List Entry) → AreNoBegins es → AreNoBegins (drop k es)
 plain_drop zero es plain = plain
 plain_drop (suc k) [] plain = tt
 plain_drop (suc k) (e ∷ es) plain = plain_drop k es plain.2
 
-plain_more : (es : List Entry) (e : Entry) → ArePlain es → IsEntry e → is_begin e ≡ false → ArePlain (es ++ e ∷ [])
+plain_more : (es : List Entry) (e : Entry) → AreNoBegins es → IsEntry e → is_begin e ≡ false → AreNoBegins (es ++ e ∷ [])
 plain_more [] e plain is off = (is, off, tt)
 plain_more (x ∷ es) e plain is off = (plain.0, plain.1, plain_more es e plain.2 is off)
 
@@ -259,7 +259,7 @@ appends_all end first es old new clock sealed grown ends =
       sealed = sealed ∙ ap (λ (l : List Entry). trail_entries end.total first old ++ l) (sym (all_taken es));
       grown = grown;
       ends = subst (λ (l : List Entry). EndsAt end first l new clock) (sym none) ends;
-      plain = subst (λ (l : List Entry). ArePlain l) (sym none) tt;
+      plain = subst (λ (l : List Entry). AreNoBegins l) (sym none) tt;
     }
   where
     all_dropped : (es : List Entry) → drop (length es) es ≡ []
@@ -277,16 +277,16 @@ seals_all_none end first es files clock none at =
       ends = subst (λ (l : List Entry). EndsAt end first l files clock) no_entry at;
     }
 
-pub appends_none : (end : AuditEnd) (first : ℕ) (es : List Entry) (files : Files) (clock : Clock Left) → ArePlain es → EndsAt end first es files clock → Appends end first es files files clock
+pub appends_none : (end : AuditEnd) (first : ℕ) (es : List Entry) (files : Files) (clock : Clock Left) → AreNoBegins es → EndsAt end first es files clock → Appends end first es files files clock
 appends_none end first es files clock plain ends = record { some = 0; sealed = sym (append-nil (trail_entries end.total first files)); grown = grown_none end.total first files; ends = ends; plain = plain }
 
 -- an entry is held behind those that wait
-pub held_ends : (end new : AuditEnd) (first : ℕ) (es : List Entry) (e : Entry) (files : Files) (clock : Clock Left) → EndsAt end first es files clock → ArePlain es → IsEntry e → (is_begin e ≡ true → end.used ≡ 0)
+pub held_ends : (end new : AuditEnd) (first : ℕ) (es : List Entry) (e : Entry) (files : Files) (clock : Clock Left) → EndsAt end first es files clock → AreNoBegins es → IsEntry e → (is_begin e ≡ true → end.used ≡ 0)
     → unsealed new ≡ unsealed end ++ spelling e → new.total ≡ end.total → new.tag ≡ end.tag → new.file ≡ end.file → new.count ≡ end.count → EndsAt new first (es ++ e ∷ []) files clock
 held_ends end new first es e files clock at plain is alone bytes total tag file count = record {
   low = at.low;
-  writes = subst (λ (f : ℕ). Writes new.total new.tag first f new.count files) (sym file) (subst (λ c. Writes new.total new.tag first end.file c files) (sym count)
-      (subst (λ t. Writes new.total t first end.file end.count files) (sym tag) (subst (λ t. Writes t end.tag first end.file end.count files) (sym total) at.writes)));
+  writes = subst (λ (f : ℕ). IsWrittenUpTo new.total new.tag first f new.count files) (sym file) (subst (λ c. IsWrittenUpTo new.total new.tag first end.file c files) (sym count)
+      (subst (λ t. IsWrittenUpTo new.total t first end.file end.count files) (sym tag) (subst (λ t. IsWrittenUpTo t end.tag first end.file end.count files) (sym total) at.writes)));
   settled = λ g low high. at.settled g low (omega (arith, high, file));
   bytes = bytes ∙ ap (λ (l : List ℕ). l ++ spelling e) at.bytes ∙ sym (spellings_more es e);
   kind = elim (bool_cases (is_begin e)) [
@@ -320,7 +320,7 @@ appends_held one new first es e old mid clock m same ends is off =
           ∙ ap (λ (l : List Entry). trail_entries new.total first old ++ l) (sym (append-nil (take m.some es)) ∙ sym (taken m.some 0 es (e ∷ [])));
       grown = subst (λ t. Grown t first old mid) (sym same) m.grown;
       ends = subst (λ (l : List Entry). EndsAt new first l mid clock) (sym more) ends;
-      plain = subst (λ (l : List Entry). ArePlain l) (sym more) (plain_more (drop m.some es) e m.plain is off);
+      plain = subst (λ (l : List Entry). AreNoBegins l) (sym more) (plain_more (drop m.some es) e m.plain is off);
     }
 
 pub appends_begun : (one new : AuditEnd) (first : ℕ) (es more : List Entry) (old mid files : Files) (b clock : Clock Left) (m : Appends one first es old mid b) → new.total ≡ one.total

@@ -7,19 +7,19 @@ use Rattle.dms_audfile.specs.Gates.{block_at, opened, sealed, is_full, blocks_fr
 use Rattle.dms_audfile.specs.Header.{header_fits, names_fit, zeros_fit, gates_fit, has_mark, number_said, says_blocks, blocks_said, tag_said}
 use Rattle.dms_audfile.specs.Blocks.{block_entries}
 use Rattle.dms_audfile.specs.Trail.{trail_from, first_open}
-use Rattle.dms_audfile.specs.Scanning.{Read, broken, whole, then_read, places_of, blocks_read, file_read, files_read, outcome_of, first_foreign}
+use Rattle.dms_audfile.specs.Scanning.{TrailRead, broken, whole, then_read, places_of, blocks_read, file_read, files_read, outcome_of, first_foreign}
 use Rattle.dms_audfile.specs.TrailLaws.{read_trail, all_of, ScansTrail}
 use Rattle.dms_audfile.proofs.Gates.{stands_full}
 use Rattle.dms_audfile.proofs.HeaderLaws.{opened_within}
 use Rattle.dms_audfile.proofs.Reading.{file_good, scan_at, at_end}
 
-then_then : (a b c : Read) → then_read (then_read a b) c ≡ then_read a (then_read b c)
+then_then : (a b c : TrailRead) → then_read (then_read a b) c ≡ then_read a (then_read b c)
 then_then (broken f b) r c = refl
 then_then (whole ps) (broken f b) c = refl
 then_then (whole ps) (whole qs) (broken f b) = refl
 then_then (whole ps) (whole qs) (whole rs) = ap whole (append_assoc ps qs rs)
 
-then_none : (r : Read) → then_read r (whole []) ≡ r
+then_none : (r : TrailRead) → then_read r (whole []) ≡ r
 then_none (broken f b) = refl
 then_none (whole ps) = ap whole (append-nil ps)
 
@@ -39,7 +39,7 @@ full_read total f (suc zero) i file rest some all =
     let on : (i == total) ≡ true = grind (arith, nat_tests) in
     let a = places_of f i (block_entries (block_at i file)) in
     ap (λ b. then_read a (cond b (read_trail total (f + 1) 1 rest) (read_trail total f (i + 1) rest))) on
-    ∙ ap (λ (r : Read). then_read r (read_trail total (f + 1) 1 rest)) (sym (then_none a))
+    ∙ ap (λ (r : TrailRead). then_read r (read_trail total (f + 1) 1 rest)) (sym (then_none a))
 full_read total f (suc (suc k)) i file rest some all =
     let off : (i == total) ≡ false = grind (arith, nat_tests) in
     let a = places_of f i (block_entries (block_at i file)) in
@@ -110,7 +110,7 @@ none_foreign (suc k) tag f files same =
     let e : f + 1 + k ≡ f + suc k = omega arith in
     ap (λ b. cond b (first_foreign k tag (f + 1) files) f) on ∙ none_foreign k tag (f + 1) files (λ g from upto. same g (omega arith) (omega arith)) ∙ e
 
-own : (first : ℕ) (r : Read) (g end : ℕ) → end ≤ g → outcome_of first r g end ≡ all_of first r
+own : (first : ℕ) (r : TrailRead) (g end : ℕ) → end ≤ g → outcome_of first r g end ≡ all_of first r
 own first (broken f b) g end far = refl
 own first (whole ps) g end far = grind (arith, nat_tests)
 

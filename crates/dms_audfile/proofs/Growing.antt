@@ -8,7 +8,7 @@ use Rattle.dms_site.specs.Laws.{get_or-range, range_overlaid, length-overlaid, t
 use Rattle.dms_audfile.specs.Gates.{block_at, gate, sealed, is_full}
 use Rattle.dms_audfile.specs.Header.{new_header, header_fits, tag_said}
 use Rattle.dms_audfile.specs.Trail.{trail_from}
-use Rattle.dms_audfile.specs.Sealing.{Stands, Writes, Grows, GrowsLeft, Anyhow}
+use Rattle.dms_audfile.specs.Sealing.{IsSealedUpTo, IsWrittenUpTo, Grows, GrowsLeft, Anyhow}
 use Rattle.dms_audfile.proofs.Gates.{stands_sealed, stands_full, stands_opened, content_stands, content_sealed, opened_stands, shut_stands, opened_sealed, shut_sealed}
 use Rattle.dms_audfile.proofs.Blank.{header_stands}
 use Rattle.dms_audfile.proofs.Heads.{fits_content, fits_gate, fits_new, tag_content, tag_gate}
@@ -17,22 +17,22 @@ use Rattle.dms_audfile.proofs.Several.{trail_grows}
 -- ---- what is kept while the trail doesn't grow
 
 pub record Kept (total tag first f n : ℕ) (old new : Files) : Type 0 where
-  pub writes : Writes total tag first f n new
+  pub writes : IsWrittenUpTo total tag first f n new
   pub trail : (m : ℕ) → f < first + m → trail_from m total first new ≡ trail_from m total first old
   pub others : (g : ℕ) → g ≢ f → g ≢ f + 1 → new g ≡ old g
 
-pub writes_same : (total tag first f n : ℕ) (old new : Files) → Writes total tag first f n old → ((g : ℕ) → first ≤ g → g ≤ f → new g ≡ old g) → Writes total tag first f n new
+pub writes_same : (total tag first f n : ℕ) (old new : Files) → IsWrittenUpTo total tag first f n old → ((g : ℕ) → first ≤ g → g ≤ f → new g ≡ old g) → IsWrittenUpTo total tag first f n new
 writes_same total tag first f n old new w same = record {
   order = w.order;
   some = w.some;
   not_full = w.not_full;
   full = λ g low high. ap (is_full total) (same g low (omega arith)) ∙ w.full g low high;
-  stands = subst (λ l. Stands total n l) (sym (same f w.order (omega arith))) w.stands;
+  stands = subst (λ l. IsSealedUpTo total n l) (sym (same f w.order (omega arith))) w.stands;
   fits = λ g low high. ap (header_fits (g - 10000) total) (same g low high) ∙ w.fits g low high;
   tags = λ g low high. ap tag_said (same g low high) ∙ w.tags g low high;
 }
 
-grows_by : (total tag first f n : ℕ) (y x : Files) (blocks : List (List ℕ)) → Writes total tag first f n y → ((g : ℕ) → first ≤ g → g < f → x g ≡ y g)
+grows_by : (total tag first f n : ℕ) (y x : Files) (blocks : List (List ℕ)) → IsWrittenUpTo total tag first f n y → ((g : ℕ) → first ≤ g → g < f → x g ≡ y g)
     → sealed total (x f) ≡ sealed total (y f) ++ blocks → (is_full total (x f) ≡ true → (r : ℕ) → trail_from r total (f + 1) x ≡ [])
     → (m : ℕ) → f < first + m → trail_from m total first x ≡ trail_from m total first y ++ blocks
 grows_by total tag first f n y x blocks w same grows none m long =
@@ -42,7 +42,7 @@ not_true : {A : Type 0} (b : Bool) → b ≡ false → b ≡ true → A
 not_true b off on = absurd (false≢true (sym off ∙ on))
 
 -- within the write of the content, or behind it
-pub content_kept : (total tag first f n : ℕ) (y x : Files) → Writes total tag first f n y → InFile f (Torn (4096 * (n + 1)) 4096) y x → Kept total tag first f n y x
+pub content_kept : (total tag first f n : ℕ) (y x : Files) → IsWrittenUpTo total tag first f n y → InFile f (Torn (4096 * (n + 1)) 4096) y x → Kept total tag first f n y x
 content_kept total tag first f n y x w step =
     let s = content_stands total n (y f) (x f) w.stands step.here in
     let none : is_full total (x f) ≡ true → (r : ℕ) → trail_from r total (f + 1) x ≡ [] = λ is. not_true _ (stands_full total n (x f) s w.not_full) is in
@@ -86,7 +86,7 @@ pub kept_same : (total tag first f n : ℕ) (z y x : Files) → Kept total tag f
 kept_same total tag first f n z y x k same = subst (λ (l : Files). Kept total tag first f n z l) (sym same) k
 
 -- behind a file whose gates are all closed there is nothing
-pub none_behind : (total f : ℕ) (x : Files) → 0 < total → Stands total 0 (x f) → (r : ℕ) → trail_from r total f x ≡ []
+pub none_behind : (total f : ℕ) (x : Files) → 0 < total → IsSealedUpTo total 0 (x f) → (r : ℕ) → trail_from r total f x ≡ []
 none_behind total f x some s zero = refl
 none_behind total f x some s (suc r) =
     ap (λ b. cond b (sealed total (x f) ++ trail_from r total (f + 1) x) (sealed total (x f))) (stands_full total 0 (x f) s some) ∙ stands_sealed total 0 (x f) s
@@ -94,10 +94,10 @@ none_behind total f x some s (suc r) =
 -- ---- the gate
 
 module _ (total tag first f n : ℕ) (content : List ℕ) (z y : Files) (k : Kept total tag first f n z y) (long : 4096 * (n + 2) ≤ length (y f)) (block : block_at (n + 1) (y f) ≡ content)
-    (next : n + 1 ≡ total → Stands total 0 (y (f + 1))) (head : n + 1 ≡ total → header_fits (f + 1 - 10000) total (y (f + 1)) ≡ true) (mark : n + 1 ≡ total → tag_said (y (f + 1)) ≡ tag) (x : Files) (step : InFile f (Torn (511 + (n + 1)) 1) y x) where
-  none_next : (m : ℕ) → m ≤ n + 1 → Stands total m (x f) → is_full total (x f) ≡ true → (r : ℕ) → trail_from r total (f + 1) x ≡ []
+    (next : n + 1 ≡ total → IsSealedUpTo total 0 (y (f + 1))) (head : n + 1 ≡ total → header_fits (f + 1 - 10000) total (y (f + 1)) ≡ true) (mark : n + 1 ≡ total → tag_said (y (f + 1)) ≡ tag) (x : Files) (step : InFile f (Torn (511 + (n + 1)) 1) y x) where
+  none_next : (m : ℕ) → m ≤ n + 1 → IsSealedUpTo total m (x f) → is_full total (x f) ≡ true → (r : ℕ) → trail_from r total (f + 1) x ≡ []
   none_next m few s is = elim (cases_eq (n + 1) total) [
-    | inl last ↦ none_behind total (f + 1) x (omega (arith, k.writes.some)) (subst (λ l. Stands total 0 l) (sym (step.others (f + 1) (omega arith))) (next last))
+    | inl last ↦ none_behind total (f + 1) x (omega (arith, k.writes.some)) (subst (λ l. IsSealedUpTo total 0 l) (sym (step.others (f + 1) (omega arith))) (next last))
     | inr not_last ↦ not_true _ (stands_full total m (x f) s (omega (arith, k.writes.not_full))) is
   ]
 
@@ -107,7 +107,7 @@ module _ (total tag first f n : ℕ) (content : List ℕ) (z y : Files) (k : Kep
   pub gate_others : (g : ℕ) → g ≢ f → g ≢ f + 1 → x g ≡ z g
   gate_others g one two = step.others g one ∙ k.others g one two
 
-  gate_fits : (m : ℕ) → Stands total m (x f) → (g : ℕ) → first ≤ g → g ≤ f → header_fits (g - 10000) total (x g) ≡ true
+  gate_fits : (m : ℕ) → IsSealedUpTo total m (x f) → (g : ℕ) → first ≤ g → g ≤ f → header_fits (g - 10000) total (x g) ≡ true
   gate_fits m s g low high = elim (cases_eq g f) [
     | inl is ↦ subst (λ j. header_fits (j - 10000) total (x j) ≡ true) (sym is)
         (fits_gate (f - 10000) total n m (y f) (x f) s k.writes.not_full k.writes.stands.few (omega (arith, long)) step.here (k.writes.fits f k.writes.order (omega arith)))
@@ -137,10 +137,10 @@ module _ (total tag first f n : ℕ) (content : List ℕ) (z y : Files) (k : Kep
       ∙ append-nil (trail_from m total first y) ∙ k.trail m far
 
   module _ (is : gate (n + 1) (x f) ≡ 1) where
-    stands : Stands total (n + 1) (x f)
+    stands : IsSealedUpTo total (n + 1) (x f)
     stands = opened_stands total n (y f) (x f) k.writes.stands k.writes.not_full long step.here is
 
-    pub gate_writes : n + 1 ≢ total → Writes total tag first f (n + 1) x
+    pub gate_writes : n + 1 ≢ total → IsWrittenUpTo total tag first f (n + 1) x
     gate_writes more = record {
       order = k.writes.order;
       some = k.writes.some;
@@ -155,7 +155,7 @@ module _ (total tag first f n : ℕ) (content : List ℕ) (z y : Files) (k : Kep
     unfolding is_full
     full_now last = let e = stands_opened total (n + 1) (x f) stands in grind (arith, nat_tests)
 
-    pub gate_writes_next : n + 1 ≡ total → Writes total tag first (f + 1) 0 x
+    pub gate_writes_next : n + 1 ≡ total → IsWrittenUpTo total tag first (f + 1) 0 x
     gate_writes_next last = record {
       order = omega (arith, k.writes.order);
       some = k.writes.some;
@@ -164,7 +164,7 @@ module _ (total tag first f n : ℕ) (content : List ℕ) (z y : Files) (k : Kep
         | inl here ↦ ap (λ j. is_full total (x j)) here ∙ full_now last
         | inr other ↦ ap (is_full total) (below g low (omega arith)) ∙ k.writes.full g low (omega arith)
       ];
-      stands = subst (λ l. Stands total 0 l) (sym (step.others (f + 1) (omega arith))) (next last);
+      stands = subst (λ l. IsSealedUpTo total 0 l) (sym (step.others (f + 1) (omega arith))) (next last);
       fits = λ g low high. elim (cases_eq g (f + 1)) [
         | inl here ↦ subst (λ j. header_fits (j - 10000) total (x j) ≡ true) (sym here) (ap (header_fits (f + 1 - 10000) total) (step.others (f + 1) (omega arith)) ∙ head last)
         | inr other ↦ gate_fits (n + 1) stands g low (omega arith)
@@ -181,7 +181,7 @@ module _ (total tag first f n : ℕ) (content : List ℕ) (z y : Files) (k : Kep
       | inr more ↦ record { some = 1; within = omega arith; trail = opened_trail is; others = gate_others; file = f; count = n + 1; writes = gate_writes more; low = omega arith; high = omega arith }
     ]
 
-  shut_writes : gate (n + 1) (x f) ≢ 1 → Writes total tag first f n x
+  shut_writes : gate (n + 1) (x f) ≢ 1 → IsWrittenUpTo total tag first f n x
   shut_writes not =
       let s = shut_stands total n (y f) (x f) k.writes.stands k.writes.not_full long step.here not in
       record {
@@ -213,7 +213,7 @@ module _ (total tag first f n : ℕ) (content : List ℕ) (z y : Files) (k : Kep
     pub gate_done : (m : ℕ) → f < first + m → trail_from m total first x ≡ trail_from m total first z ++ content ∷ []
     gate_done = opened_trail is_one
 
-    pub gate_done_writes : (n + 1 ≢ total → Writes total tag first f (n + 1) x) × (n + 1 ≡ total → Writes total tag first (f + 1) 0 x)
+    pub gate_done_writes : (n + 1 ≢ total → IsWrittenUpTo total tag first f (n + 1) x) × (n + 1 ≡ total → IsWrittenUpTo total tag first (f + 1) 0 x)
     gate_done_writes = (gate_writes is_one, gate_writes_next is_one)
 
 -- ---- outcomes
@@ -241,7 +241,7 @@ pub record KeptLeft (total tag first f n : ℕ) (old new : Left) : Type 0 where
   pub files : Kept total tag first f n old.files new.files
   pub said : new.said ≡ old.said
 
-pub content_step : (total tag first f n : ℕ) (content : List ℕ) (old : Files) → Writes total tag first f n old → length content ≡ 4096 → (z x : Left) → ((g : ℕ) → first ≤ g → g ≤ f → z.files g ≡ old g)
+pub content_step : (total tag first f n : ℕ) (content : List ℕ) (old : Files) → IsWrittenUpTo total tag first f n old → length content ≡ 4096 → (z x : Left) → ((g : ℕ) → first ≤ g → g ≤ f → z.files g ≡ old g)
     → OnDisk f (Torn (4096 * (n + 1)) (length content)) z x → KeptLeft total tag first f n z x
 content_step total tag first f n content old w size z x same step = record {
   files = content_kept total tag first f n z.files x.files (writes_same total tag first f n old z.files w same)
@@ -259,7 +259,7 @@ none_grows total tag first f n blocks z x k = kept_grows total tag first f n blo
 pub record Ready (total tag f n : ℕ) (content : List ℕ) (mid : Files) : Type 0 where
   pub long : 4096 * (n + 2) ≤ length (mid f)
   pub block : block_at (n + 1) (mid f) ≡ content
-  pub next : n + 1 ≡ total → Stands total 0 (mid (f + 1))
+  pub next : n + 1 ≡ total → IsSealedUpTo total 0 (mid (f + 1))
   pub head : n + 1 ≡ total → header_fits (f + 1 - 10000) total (mid (f + 1)) ≡ true
   pub mark : n + 1 ≡ total → tag_said (mid (f + 1)) ≡ tag
 
@@ -294,7 +294,7 @@ gate_step total tag first f n content z y x k r step = record {
 }
 
 -- all three are done
-module _ (total tag first f n : ℕ) (content : List ℕ) (old one two three : Files) (w : Writes total tag first f n old) (size : length content ≡ 4096) (r : Ready total tag f n content two)
+module _ (total tag first f n : ℕ) (content : List ℕ) (old one two three : Files) (w : IsWrittenUpTo total tag first f n old) (size : length content ≡ 4096) (r : Ready total tag f n content two)
     (wrote : one ≡ with_file old f (overlaid (4096 * (n + 1)) content (old f))) (others : InFile (f + 1) Anyhow one two) (gated : three ≡ with_file two f (overlaid (511 + (n + 1)) (1 ∷ []) (two f))) where
   kept : Kept total tag first f n old two
   kept = next_kept total tag first f n old one two
@@ -315,7 +315,7 @@ module _ (total tag first f n : ℕ) (content : List ℕ) (old one two three : F
   pub done_trail : (m : ℕ) → f < first + m → trail_from m total first three ≡ trail_from m total first old ++ content ∷ []
   done_trail = gate_done total tag first f n content old two kept r.long r.block r.next r.head r.mark three step whole
 
-  pub done_writes : (n + 1 ≢ total → Writes total tag first f (n + 1) three) × (n + 1 ≡ total → Writes total tag first (f + 1) 0 three)
+  pub done_writes : (n + 1 ≢ total → IsWrittenUpTo total tag first f (n + 1) three) × (n + 1 ≡ total → IsWrittenUpTo total tag first (f + 1) 0 three)
   done_writes = gate_done_writes total tag first f n content old two kept r.long r.block r.next r.head r.mark three step whole
 
   pub done_others : (g : ℕ) → g ≢ f → g ≢ f + 1 → three g ≡ old g

@@ -8,10 +8,10 @@ use Rattle.dms_site.specs.Files.{range, Torn}
 use Rattle.dms_site.specs.Laws.{range_same, get_or-range, length-range}
 use Rattle.dms_audfile.specs.Gates.{gate}
 use Rattle.dms_audfile.specs.Header.{all_zero, none_open, has_mark, number_said, blocks_said, tag_said, names_fit, zeros_fit, gates_fit, header_fits, new_header}
-use Rattle.dms_audfile.specs.Sealing.{Stands}
+use Rattle.dms_audfile.specs.Sealing.{IsSealedUpTo}
 use Rattle.dms_audfile.proofs.Gates.{stands_opened}
 use Rattle.dms_audfile.proofs.HeaderLaws.{opened_within}
-use Rattle.dms_audfile.proofs.Fronts.{fits_front}
+use Rattle.dms_audfile.proofs.Prefixes.{fits_front}
 use Rattle.dms_audfile.proofs.Blank.{blank_byte, blank_length}
 
 both_true : (a b : Bool) → (a && b) ≡ true → (a ≡ true) × (b ≡ true)
@@ -41,14 +41,14 @@ none_is (suc k) i file closed =
     let rest : none_open k (i + 1) file ≡ true = none_is k (i + 1) file (λ j low high. closed j (omega arith) (omega arith)) in
     grind (arith, nat_tests)
 
-stands_gates : (total m : ℕ) (file : List ℕ) → Stands total m file → gates_fit total file ≡ true
+stands_gates : (total m : ℕ) (file : List ℕ) → IsSealedUpTo total m file → gates_fit total file ≡ true
 unfolding gates_fit
 stands_gates total m file s =
     let e = stands_opened total m file s in
     (λ i. none_open (total - e i) (e i + 1) file) ∙ none_is (total - m) (m + 1) file (λ j low high. s.is_closed j (omega arith) (omega (arith, high, s.enough)))
 
 -- the write of a gate
-module _ (k total n m : ℕ) (old new : List ℕ) (s : Stands total m new) (more : n < total) (few : total ≤ 512) (long : 4096 ≤ length old) (torn : Torn (511 + (n + 1)) 1 old new) where
+module _ (k total n m : ℕ) (old new : List ℕ) (s : IsSealedUpTo total m new) (more : n < total) (few : total ≤ 512) (long : 4096 ≤ length old) (torn : Torn (511 + (n + 1)) 1 old new) where
   low_range : (at size : ℕ) → at + size ≤ 512 → range at size new ≡ range at size old
   low_range at size within = range_same at size old new (omega arith) (omega (arith, torn.no_shorter)) (λ i low high. torn.below i (omega arith) (omega arith))
 
@@ -93,7 +93,7 @@ blank_names k total tag small low few =
     let b : from_be_bytes w16 (to_be_bytes w16 total) ≡ total = from_be_bytes-to_be_bytes_2 total (omega arith) in
     grind (arith, nat_tests)
 
-pub fits_new : (k total tag : ℕ) (file : List ℕ) → file ≡ new_header k total tag → Stands total 0 file → k < 2 ^ 32 → 8 ≤ total → header_fits k total file ≡ true
+pub fits_new : (k total tag : ℕ) (file : List ℕ) → file ≡ new_header k total tag → IsSealedUpTo total 0 file → k < 2 ^ 32 → 8 ≤ total → header_fits k total file ≡ true
 unfolding header_fits zeros_fit
 fits_new k total tag file is s small low =
     let l : nat_le 4096 (length file) ≡ true = let e = blank_length k total tag in let h = ap length is in grind (arith, nat_tests) in

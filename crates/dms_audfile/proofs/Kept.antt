@@ -8,26 +8,26 @@ use Rattle.dms_site.specs.Laws.{length-range}
 use Rattle.dms_audfile.specs.WholeSchema.{holds_schema}
 use Rattle.dms_audfile.specs.Gates.{gate, block_at, opened_from, opened, is_full}
 use Rattle.dms_audfile.specs.Header.{all_zero, header_fits, names_fit, zeros_fit, gates_fit, none_open, says_blocks, blocks_said, tag_said}
-use Rattle.dms_audfile.specs.Blocks.{Entered, block_entries, used_in, entries_from}
+use Rattle.dms_audfile.specs.Blocks.{EntryInBlock, block_entries, used_in, entries_from}
 use Rattle.dms_audfile.specs.Trail.{first_open}
-use Rattle.dms_audfile.specs.Sealing.{Stands, Writes}
-use Rattle.dms_audfile.specs.Scanning.{Placed, entry_in, no_schema, all_found, Read, broken, whole, then_read, places_of, blocks_read, file_read, files_read, unsealed, missing, damaged, found, foreign, outcome_of, outcome_at, first_foreign, trail_read, scanned}
-use Rattle.dms_audfile.specs.TrailLaws.{IsKept, FoundIsKept}
+use Rattle.dms_audfile.specs.Sealing.{IsSealedUpTo, IsWrittenUpTo}
+use Rattle.dms_audfile.specs.Scanning.{Placed, entry_in, no_schema, all_found, TrailRead, broken, whole, then_read, places_of, blocks_read, file_read, files_read, unsealed, missing, damaged, found, foreign, outcome_of, outcome_at, first_foreign, trail_read, scanned}
+use Rattle.dms_audfile.specs.TrailLaws.{IsWritersTrail, FoundIsWritersTrail}
 use Rattle.dms_audfile.proofs.HeaderLaws.{opened_within}
 
-abbrev pub IsWhole : Read → Type 0
+abbrev pub IsWhole : TrailRead → Type 0
 IsWhole (broken f b) = ⊥
 IsWhole (whole ps) = Unit {0}
 
-is_whole : (r : Read) (ps : List Placed) → r ≡ whole ps → IsWhole r
+is_whole : (r : TrailRead) (ps : List Placed) → r ≡ whole ps → IsWhole r
 is_whole (broken f b) ps is = absurd cc
 is_whole (whole qs) ps is = tt
 
-first_whole : (a b : Read) → IsWhole (then_read a b) → IsWhole a
+first_whole : (a b : TrailRead) → IsWhole (then_read a b) → IsWhole a
 first_whole (broken f n) b w = w
 first_whole (whole ps) b w = tt
 
-rest_whole : (a b : Read) → IsWhole (then_read a b) → IsWhole b
+rest_whole : (a b : TrailRead) → IsWhole (then_read a b) → IsWhole b
 rest_whole (broken f n) b w = absurd w
 rest_whole (whole ps) (broken f n) w = w
 rest_whole (whole ps) (whole qs) w = tt
@@ -39,7 +39,7 @@ files_whole (suc k) total f files w g low high = elim (cases_eq g f) [
   | inr other ↦ files_whole k total (f + 1) files (rest_whole (file_read total f (files f)) (files_read k total (f + 1) files) w) g (omega arith) (omega arith)
 ]
 
-cond_whole : (b : Bool) (r : Read) (f : ℕ) → IsWhole (cond b r (broken f 0)) → (b ≡ true) × IsWhole r
+cond_whole : (b : Bool) (r : TrailRead) (f : ℕ) → IsWhole (cond b r (broken f 0)) → (b ≡ true) × IsWhole r
 cond_whole true r f w = (refl, w)
 cond_whole false r f w = absurd w
 
@@ -47,7 +47,7 @@ file_whole : (total f : ℕ) (file : List ℕ) → IsWhole (file_read total f fi
 unfolding file_read
 file_whole total f file w = cond_whole (header_fits (f - 10000) total file) (blocks_read (opened total file) 1 f file) f w
 
-cond_some : (b : Bool) (r : Option (List Entered)) (f n : ℕ) → IsWhole (places_of f n (cond b r None)) → b ≡ true
+cond_some : (b : Bool) (r : Option (List EntryInBlock)) (f n : ℕ) → IsWhole (places_of f n (cond b r None)) → b ≡ true
 cond_some true r f n w = refl
 cond_some false r f n w = absurd w
 
@@ -119,7 +119,7 @@ open_gates : (total i : ℕ) (file : List ℕ) → 1 ≤ i → i ≤ opened tota
 unfolding opened
 open_gates total i file low high = opened_gates total 1 i file low (omega arith)
 
-file_stands : (total f : ℕ) (file : List ℕ) → total ≤ 512 → IsWhole (file_read total f file) → Stands total (opened total file) file
+file_stands : (total f : ℕ) (file : List ℕ) → total ≤ 512 → IsWhole (file_read total f file) → IsSealedUpTo total (opened total file) file
 file_stands total f file few w =
     let parts = file_whole total f file w in
     let head = long_head (f - 10000) total file parts.0 in
@@ -189,7 +189,7 @@ of_all first qs ps is = by_case (holds_schema (map entry_in qs)) refl is
     by_case true on e = (same e, on)
     by_case false off e = absurd (no_found first ps e)
 
-of_found : (first : ℕ) (r : Read) (g end : ℕ) (ps : List Placed) → outcome_of first r g end ≡ found ps → (r ≡ whole ps) × (end ≤ g) × (holds_schema (map entry_in ps) ≡ true)
+of_found : (first : ℕ) (r : TrailRead) (g end : ℕ) (ps : List Placed) → outcome_of first r g end ≡ found ps → (r ≡ whole ps) × (end ≤ g) × (holds_schema (map entry_in ps) ≡ true)
 of_found first (broken f b) g end ps is = absurd cc
 of_found first (whole qs) g end ps is = elim (cases_lt g end) [
   | inl near ↦ absurd (no_foreign (sym (near_by near) ∙ is))
@@ -258,7 +258,7 @@ ends_well total first last e files ps is = elim (bool_cases (nat_lt last e)) [
     behind_it off = grind (arith, nat_tests)
 
 pub writes_by : (total first last e : ℕ) (files : Files) (ps : List Placed) → 8 ≤ total → total ≤ 512 → e ≡ first_open (last + 1 - first) total first files → outcome_at total first last e files ≡ found ps
-    → first ≤ last → Writes total (tag_said (files first)) first e (opened total (files e)) files
+    → first ≤ last → IsWrittenUpTo total (tag_said (files first)) first e (opened total (files e)) files
 writes_by total first last e files ps low few at is order =
     let w = ends_well total first last e files ps is in
     let o = subst (λ j. FirstOpen total first j files) (sym at) (open_found (last + 1 - first) total first files (omega (arith, w.inside, at, order))) in
@@ -273,7 +273,7 @@ writes_by total first last e files ps low few at is order =
       tags = λ g from upto. all_tagged (e + 1 - first) (tag_said (files first)) first files (omega (arith, o.low, w.own)) g from (omega (arith, o.low));
     }
 
-kept_by : (total first last e : ℕ) (files : Files) (ps : List Placed) → first ≤ last → 8 ≤ total → total ≤ 512 → e ≡ first_open (last + 1 - first) total first files → outcome_at total first last e files ≡ found ps → IsKept first last files
+kept_by : (total first last e : ℕ) (files : Files) (ps : List Placed) → first ≤ last → 8 ≤ total → total ≤ 512 → e ≡ first_open (last + 1 - first) total first files → outcome_at total first last e files ≡ found ps → IsWritersTrail first last files
 kept_by total first last e files ps order low few at is =
     let w = ends_well total first last e files ps is in
     record {
@@ -319,7 +319,7 @@ was_read first last files ps is =
     let w = ends_well (blocks_said (files first)) first last e files ps at.1 in
     record { total = blocks_said (files first); end = e; few = (said_range (files first) at.0).1; read = w.read; described = w.described }
 
-pub found_is_kept : FoundIsKept
+pub found_is_kept : FoundIsWritersTrail
 found_is_kept first last files ps order is =
     let at = scanned_at first last files ps is in
     let r = said_range (files first) at.0 in

@@ -16,8 +16,8 @@ use Rattle.dms_moments.specs.Moments.{Clock}
 use Rattle.dms_moments.specs.MomentLaws.{steps_on}
 use Rattle.dms_audfile.specs.Header.{all_zero, header_fits, says_blocks, blocks_said, tag_said}
 use Rattle.dms_audfile.specs.Trail.{first_open}
-use Rattle.dms_audfile.specs.Blocks.{Entered, block_entries, entries_from, stands_there, used_in}
-use Rattle.dms_audfile.specs.Scanning.{Placed, entry_in, no_schema, all_found, Read, broken, whole, then_read, places_of, Outcome, missing, unsealed, damaged, foreign, found, outcome_of, first_foreign, trail_read, outcome_at, scanned, blocks_read, file_read, files_read}
+use Rattle.dms_audfile.specs.Blocks.{EntryInBlock, block_entries, entries_from, stands_there, used_in}
+use Rattle.dms_audfile.specs.Scanning.{Placed, entry_in, no_schema, all_found, TrailRead, broken, whole, then_read, places_of, ScanOutcome, missing, unsealed, damaged, foreign, found, outcome_of, first_foreign, trail_read, outcome_at, scanned, blocks_read, file_read, files_read}
 use Rattle.dms_audfile.specs.Reads.{ReadInto, NotRead, NotScanned, FoundAll, IsBroken, OnlyReads}
 
 seen_behind : (s : Seen) (ps qs : List Placed) → seen_on s (ps ++ qs) ≡ seen_on (seen_on s ps) qs
@@ -25,7 +25,7 @@ seen_behind s [] qs = refl
 seen_behind s (p ∷ ps) qs = seen_behind (one_more s p) ps qs
 
 -- a part was read
-pub read_turn : (old new : Seen) (r rest : Read) → reached new ≡ gather old r → gather new rest ≡ gather old (then_read r rest)
+pub read_turn : (old new : Seen) (r rest : TrailRead) → reached new ≡ gather old r → gather new rest ≡ gather old (then_read r rest)
 read_turn old new (broken f b) rest is = absurd cc
 read_turn old new (whole qs) (broken f b) is = refl
 read_turn old new (whole qs) (whole ps) is =
@@ -33,17 +33,17 @@ read_turn old new (whole qs) (whole ps) is =
     ap reached (ap (λ (s : Seen). seen_on s ps) e ∙ sym (seen_behind old qs ps))
 
 -- a broken part
-gather_broken : (old : Seen) (r : Read) (f b : ℕ) → gather old r ≡ stopped f b → r ≡ broken f b
+gather_broken : (old : Seen) (r : TrailRead) (f b : ℕ) → gather old r ≡ stopped f b → r ≡ broken f b
 gather_broken old (broken g c) f b is =
     let e : g ≡ f = cc is in
     let h : c ≡ b = cc is in
     (λ i. broken (e i) (h i))
 gather_broken old (whole ps) f b is = absurd cc
 
-pub broken_turn : (old mid : Seen) (r rest all : Read) (f b : ℕ) → r ≡ broken f b → gather mid (then_read r rest) ≡ gather old all → all ≡ broken f b
-broken_turn old mid r rest all f b is so_far = gather_broken old all f b (sym so_far ∙ ap (λ (x : Read). gather mid (then_read x rest)) is)
+pub broken_turn : (old mid : Seen) (r rest all : TrailRead) (f b : ℕ) → r ≡ broken f b → gather mid (then_read r rest) ≡ gather old all → all ≡ broken f b
+broken_turn old mid r rest all f b is so_far = gather_broken old all f b (sym so_far ∙ ap (λ (x : TrailRead). gather mid (then_read x rest)) is)
 
-pub broken_place : (f b : ℕ) (r : Option (List Entered)) → IsBroken (places_of f b r) → places_of f b r ≡ broken f b
+pub broken_place : (f b : ℕ) (r : Option (List EntryInBlock)) → IsBroken (places_of f b r) → places_of f b r ≡ broken f b
 broken_place f b None is = refl
 broken_place f b (Some es) is = absurd is
 
@@ -63,7 +63,7 @@ pub files_none : (k total f : ℕ) (files : Files) → k ≡ 0 → files_read k 
 files_none zero total f files is = refl
 files_none (suc k) total f files is = absurd (omega arith)
 
-pub found_err : (old mid : Seen) (r rest all : Read) (e : AudFault) → NotRead r e → gather mid (then_read r rest) ≡ gather old all → NotRead all e
+pub found_err : (old mid : Seen) (r rest all : TrailRead) (e : AudFault) → NotRead r e → gather mid (then_read r rest) ≡ gather old all → NotRead all e
 found_err old mid r rest all NoDatabase is so_far = absurd is
 found_err old mid r rest all Disk is so_far = tt
 found_err old mid r rest all (Full k) is so_far = absurd is
@@ -73,10 +73,10 @@ found_err old mid r rest all (Damaged f b) is so_far = broken_turn old mid r res
 found_err old mid r rest all (Foreign k) is so_far = absurd is
 found_err old mid r rest all Memory is so_far = tt
 
-pub found_disk : (all : Read) (e : AudFault) → e ≡ Disk → NotRead all e
+pub found_disk : (all : TrailRead) (e : AudFault) → e ≡ Disk → NotRead all e
 found_disk all e is = subst (λ (x : AudFault). NotRead all x) (sym is) tt
 
-pub scans_disk : (outcome : Outcome) (e : AudFault) → e ≡ Disk → NotScanned outcome e
+pub scans_disk : (outcome : ScanOutcome) (e : AudFault) → e ≡ Disk → NotScanned outcome e
 scans_disk outcome e is = subst (λ (x : AudFault). NotScanned outcome x) (sym is) tt
 
 -- ---- calls that read alone
@@ -126,10 +126,10 @@ entries_stop k at [] some none = absurd (some refl)
 entries_stop zero at (b ∷ bs) some none = refl
 entries_stop (suc k) at (b ∷ bs) some none = ap (λ (r : Option (Entry × List ℕ)). r >>= (λ e. entries_from k (at + (length (b ∷ bs) - length e.1)) e.1 >>= (λ es. cond (stands_there at e.0 e.1) (Some ((record { offset = at; entry = e.0 }) ∷ es)) None))) none
 
-unfoldable pub after_one : Entry → ℕ → Bool → Option (List Entered) → Option (List Entered)
+unfoldable pub after_one : Entry → ℕ → Bool → Option (List EntryInBlock) → Option (List EntryInBlock)
 after_one e at b r = r >>= (λ es. cond b (Some ((record { offset = at; entry = e }) ∷ es)) None)
 
-after_none : (e : Entry) (at : ℕ) (r : Option (List Entered)) → after_one e at false r ≡ None
+after_none : (e : Entry) (at : ℕ) (r : Option (List EntryInBlock)) → after_one e at false r ≡ None
 unfolding after_one
 after_none e at None = refl
 after_none e at (Some es) = refl
@@ -148,7 +148,7 @@ entries_alone (suc k) at rest e more some is alone =
 abbrev pub at_place : ℕ → ℕ → ℕ → Entry → Placed
 at_place f b at e = record { place = record { file = f; block = b; offset = at }; entry = e }
 
-gather_one : (f b at : ℕ) (e : Entry) (old : Seen) (r : Option (List Entered)) → gather (one_more old (at_place f b at e)) (places_of f b r) ≡ gather old (places_of f b (after_one e at true r))
+gather_one : (f b at : ℕ) (e : Entry) (old : Seen) (r : Option (List EntryInBlock)) → gather (one_more old (at_place f b at e)) (places_of f b r) ≡ gather old (places_of f b (after_one e at true r))
 unfolding after_one
 gather_one f b at e old None = refl
 gather_one f b at e old (Some es) = refl
@@ -161,20 +161,20 @@ entries_turn (suc k) at next f b rest e more old low some is alone on =
     (λ i. gather (one_more old (at_place f b at e)) (places_of f b (entries_from (m i) (on i) more)))
     ∙ gather_one f b at e old (entries_from k (at + (length rest - length more)) more)
     ∙ ap (λ (t : Bool). gather old (places_of f b (after_one e at t (entries_from k (at + (length rest - length more)) more)))) (sym alone)
-    ∙ ap (λ (r : Option (List Entered)). gather old (places_of f b r)) (sym (entries_step k at rest e more some is))
+    ∙ ap (λ (r : Option (List EntryInBlock)). gather old (places_of f b r)) (sym (entries_step k at rest e more some is))
 
-broken_is : (r : Read) (f b : ℕ) → r ≡ broken f b → IsBroken r
+broken_is : (r : TrailRead) (f b : ℕ) → r ≡ broken f b → IsBroken r
 broken_is (broken g c) f b is = tt
 broken_is (whole ps) f b is = absurd cc
 
-pub broken_all : (old mid : Seen) (f b : ℕ) (r all : Option (List Entered)) → r ≡ None → gather mid (places_of f b r) ≡ gather old (places_of f b all) → IsBroken (places_of f b all)
+pub broken_all : (old mid : Seen) (f b : ℕ) (r all : Option (List EntryInBlock)) → r ≡ None → gather mid (places_of f b r) ≡ gather old (places_of f b all) → IsBroken (places_of f b all)
 broken_all old mid f b r all none so_far =
-    broken_is (places_of f b all) f b (gather_broken old (places_of f b all) f b (sym so_far ∙ ap (λ (x : Option (List Entered)). gather mid (places_of f b x)) none))
+    broken_is (places_of f b all) f b (gather_broken old (places_of f b all) f b (sym so_far ∙ ap (λ (x : Option (List EntryInBlock)). gather mid (places_of f b x)) none))
 
-pub whole_all : (old mid : Seen) (f b : ℕ) (r : Option (List Entered)) (all : Read) → r ≡ Some [] → gather mid (places_of f b r) ≡ gather old all → reached mid ≡ gather old all
-whole_all old mid f b r all is so_far = ap (λ (x : Option (List Entered)). gather mid (places_of f b x)) (sym is) ∙ so_far
+pub whole_all : (old mid : Seen) (f b : ℕ) (r : Option (List EntryInBlock)) (all : TrailRead) → r ≡ Some [] → gather mid (places_of f b r) ≡ gather old all → reached mid ≡ gather old all
+whole_all old mid f b r all is so_far = ap (λ (x : Option (List EntryInBlock)). gather mid (places_of f b x)) (sym is) ∙ so_far
 
-broken_block : (f b : ℕ) (r : Option (List Entered)) → r ≡ None → IsBroken (places_of f b r)
+broken_block : (f b : ℕ) (r : Option (List EntryInBlock)) → r ≡ None → IsBroken (places_of f b r)
 broken_block f b None is = tt
 broken_block f b (Some es) is = absurd cc
 
@@ -210,13 +210,13 @@ pub block_read : (f n : ℕ) (block bytes : List ℕ) (old new : Seen) (ok : Boo
     → ReadInto old (places_of f n (entries_from (length bytes) 2 bytes)) new ok → ReadInto old (places_of f n (block_entries block)) new ok
 block_read f n block bytes old new ok long few zeros is read =
     let len : length bytes ≡ used_in block = omega (arith, ap length is, length-drop 2 (take (2 + used_in block) block), length-take (2 + used_in block) block) in
-    subst (λ (r : Option (List Entered)). ReadInto old (places_of f n r) new ok) ((λ i. entries_from (len i) 2 (is i)) ∙ block_is block long few zeros) read
+    subst (λ (r : Option (List EntryInBlock)). ReadInto old (places_of f n r) new ok) ((λ i. entries_from (len i) 2 (is i)) ∙ block_is block long few zeros) read
 
-pub into_false : (old new : Seen) (r : Read) (ok : Bool) → ReadInto old r new ok → ok ≡ false → IsBroken r
+pub into_false : (old new : Seen) (r : TrailRead) (ok : Bool) → ReadInto old r new ok → ok ≡ false → IsBroken r
 into_false old new r true read off = absurd cc
 into_false old new r false read off = read
 
-pub into_true : (old new : Seen) (r : Read) (ok : Bool) → ReadInto old r new ok → ok ≡ true → reached new ≡ gather old r
+pub into_true : (old new : Seen) (r : TrailRead) (ok : Bool) → ReadInto old r new ok → ok ≡ true → reached new ≡ gather old r
 into_true old new r true read on = read
 into_true old new r false read on = absurd cc
 
@@ -253,23 +253,23 @@ pub at_end : (total first last e : ℕ) (files : Files) → e ≤ last → last 
     → outcome_at total first last e files ≡ trail_read first (e + 1) total files
 at_end total first last e files some late = grind (arith, nat_tests)
 
-pub not_scanned : (first : ℕ) (r : Read) (g end : ℕ) (outcome : Outcome) (e : AudFault) → outcome ≡ outcome_of first r g end → NotRead r e → NotScanned outcome e
+pub not_scanned : (first : ℕ) (r : TrailRead) (g end : ℕ) (outcome : ScanOutcome) (e : AudFault) → outcome ≡ outcome_of first r g end → NotRead r e → NotScanned outcome e
 not_scanned first r g end outcome NoDatabase at is = absurd is
 not_scanned first r g end outcome Disk at is = tt
 not_scanned first r g end outcome (Full k) at is = absurd is
 not_scanned first r g end outcome (Missing k) at is = absurd is
 not_scanned first r g end outcome (Unsealed k) at is = absurd is
-not_scanned first r g end outcome (Damaged f b) at is = at ∙ ap (λ (x : Read). outcome_of first x g end) is
+not_scanned first r g end outcome (Damaged f b) at is = at ∙ ap (λ (x : TrailRead). outcome_of first x g end) is
 not_scanned first r g end outcome (Foreign k) at is = absurd is
 not_scanned first r g end outcome Memory at is = tt
 
 -- all was read
-pub record ReadAll (r : Read) (new : Seen) : Type 0 where
+pub record ReadAll (r : TrailRead) (new : Seen) : Type 0 where
   pub entries : List Placed
   pub is : r ≡ whole entries
   pub known : new ≡ seen_on nothing_seen entries
 
-pub read_all : (old new : Seen) (r : Read) → old ≡ nothing_seen → reached new ≡ gather old r → ReadAll r new
+pub read_all : (old new : Seen) (r : TrailRead) → old ≡ nothing_seen → reached new ≡ gather old r → ReadAll r new
 read_all old new (broken f b) none read = absurd cc
 read_all old new (whole ps) none read =
     let e : new ≡ seen_on old ps = cc read in
@@ -291,34 +291,34 @@ seen_described s (p ∷ ps) = seen_described (one_more s p) ps ∙ or_or s.descr
 pub known_described : (new : Seen) (ps : List Placed) → new ≡ seen_on nothing_seen ps → new.described ≡ holds_schema (map entry_in ps)
 known_described new ps is = ap (λ (s : Seen). s.described) is ∙ seen_described nothing_seen ps
 
-pub found_as : (a b : Outcome) (new : Seen) → a ≡ b → FoundAll b new → FoundAll a new
+pub found_as : (a b : ScanOutcome) (new : Seen) → a ≡ b → FoundAll b new → FoundAll a new
 found_as a b new same all = record { entries = all.entries; is = same ∙ all.is; known = all.known }
 
 far_off : (first : ℕ) (ps : List Placed) (g end : ℕ) → end ≤ g → outcome_of first (whole ps) g end ≡ all_found first ps
 far_off first ps g end far = grind (arith, nat_tests)
 
 -- no tag differs, and a whole Schema with its Control stands there, or none does
-pub read_found : (first : ℕ) (old new : Seen) (r : Read) (g end : ℕ) → old ≡ nothing_seen → reached new ≡ gather old r → end ≤ g → new.described ≡ true → FoundAll (outcome_of first r g end) new
+pub read_found : (first : ℕ) (old new : Seen) (r : TrailRead) (g end : ℕ) → old ≡ nothing_seen → reached new ≡ gather old r → end ≤ g → new.described ≡ true → FoundAll (outcome_of first r g end) new
 read_found first old new r g end none read far on =
     let a = read_all old new r none read in
     let holds : holds_schema (map entry_in a.entries) ≡ true = sym (known_described new a.entries a.known) ∙ on in
     record {
       entries = a.entries;
-      is = ap (λ (x : Read). outcome_of first x g end) a.is ∙ far_off first a.entries g end far ∙ ap (λ b. cond b (found a.entries) (no_schema first)) holds;
+      is = ap (λ (x : TrailRead). outcome_of first x g end) a.is ∙ far_off first a.entries g end far ∙ ap (λ b. cond b (found a.entries) (no_schema first)) holds;
       known = a.known;
     }
 
-pub read_none : (first : ℕ) (old new : Seen) (r : Read) (g end : ℕ) → old ≡ nothing_seen → reached new ≡ gather old r → end ≤ g → new.described ≡ false → outcome_of first r g end ≡ no_schema first
+pub read_none : (first : ℕ) (old new : Seen) (r : TrailRead) (g end : ℕ) → old ≡ nothing_seen → reached new ≡ gather old r → end ≤ g → new.described ≡ false → outcome_of first r g end ≡ no_schema first
 read_none first old new r g end none read far off =
     let a = read_all old new r none read in
     let holds : holds_schema (map entry_in a.entries) ≡ false = sym (known_described new a.entries a.known) ∙ off in
-    ap (λ (x : Read). outcome_of first x g end) a.is ∙ far_off first a.entries g end far ∙ ap (λ b. cond b (found a.entries) (no_schema first)) holds
+    ap (λ (x : TrailRead). outcome_of first x g end) a.is ∙ far_off first a.entries g end far ∙ ap (λ b. cond b (found a.entries) (no_schema first)) holds
 
 -- a tag differs
-pub read_foreign : (first : ℕ) (old new : Seen) (r : Read) (g end : ℕ) → old ≡ nothing_seen → reached new ≡ gather old r → g < end → outcome_of first r g end ≡ foreign (g - 10000)
+pub read_foreign : (first : ℕ) (old new : Seen) (r : TrailRead) (g end : ℕ) → old ≡ nothing_seen → reached new ≡ gather old r → g < end → outcome_of first r g end ≡ foreign (g - 10000)
 read_foreign first old new r g end none read near =
     let a = read_all old new r none read in
-    ap (λ (x : Read). outcome_of first x g end) a.is ∙ near_by a.entries g end near
+    ap (λ (x : TrailRead). outcome_of first x g end) a.is ∙ near_by a.entries g end near
   where
     near_by : (ps : List Placed) (g end : ℕ) → g < end → outcome_of first (whole ps) g end ≡ foreign (g - 10000)
     near_by ps g end near = grind (arith, nat_tests)

@@ -10,9 +10,9 @@ use Rattle.dms_fields.specs.PrefixLaws.{bind_some, go_some}
 use Rattle.dms_audrec.specs.Reading.{entry_at}
 use Rattle.dms_audfile.specs.Gates.{block_at, opened}
 use Rattle.dms_audfile.specs.Header.{header_fits}
-use Rattle.dms_audfile.specs.Blocks.{Entered, block_entries, entries_from, stands_there, used_in}
+use Rattle.dms_audfile.specs.Blocks.{EntryInBlock, block_entries, entries_from, stands_there, used_in}
 use Rattle.dms_audfile.specs.Trail.{Span}
-use Rattle.dms_audfile.specs.Scanning.{Placed, Read, broken, whole, then_read, place_of, places_of, blocks_read, file_read, files_read, Outcome, no_database, unsealed, missing, damaged, foreign, found, scanned}
+use Rattle.dms_audfile.specs.Scanning.{Placed, TrailRead, broken, whole, then_read, place_of, places_of, blocks_read, file_read, files_read, ScanOutcome, no_database, unsealed, missing, damaged, foreign, found, scanned}
 use Rattle.dms_audfile.specs.AuditTrail.{IsNoDatabase, IsScanned, TrailIs, IsOneTrail, entry_from, entry_there, AreThere, EntriesAreThere}
 use Rattle.dms_audfile.specs.declared.place.Place.{Place}
 use Rattle.dms_audfile.proofs.HeaderLaws.{opened_within}
@@ -20,11 +20,11 @@ use Rattle.dms_audfile.proofs.Kept.{was_read, IsWhole, block_whole}
 use Rattle.dms_audfile.proofs.Leaving.{left_behind}
 
 -- at the offset of each of these an entry begins, and it is that one
-abbrev AllAt : List ℕ → List Entered → Type 0
+abbrev AllAt : List ℕ → List EntryInBlock → Type 0
 AllAt all [] = Unit {0}
 AllAt all (x ∷ xs) = (option_map (λ (y : Entry × List ℕ). y.0) (entry_at (drop x.offset all)) ≡ Some x.entry) × AllAt all xs
 
-entries_stand : (k at : ℕ) (all bs : List ℕ) (es : List Entered) → entries_from k at bs ≡ Some es → bs ≡ drop at all → AllAt all es
+entries_stand : (k at : ℕ) (all bs : List ℕ) (es : List EntryInBlock) → entries_from k at bs ≡ Some es → bs ≡ drop at all → AllAt all es
 entries_stand zero at all [] es e same =
     let is : [] ≡ es = cc e in
     subst (AllAt all) is tt
@@ -43,13 +43,13 @@ entries_stand (suc k) at all (b ∷ bs) es e same =
     ap (λ (l : List ℕ). option_map (λ (y : Entry × List ℕ). y.0) (entry_at l)) (sym same) ∙ ap (option_map (λ (y : Entry × List ℕ). y.0)) e1 in
     subst (AllAt all) g.1 (head, entries_stand k (at + d) all x.1 ys e2 rest)
 
-block_stands : (block : List ℕ) (es : List Entered) → block_entries block ≡ Some es → AllAt (take (2 + used_in block) block) es
+block_stands : (block : List ℕ) (es : List EntryInBlock) → block_entries block ≡ Some es → AllAt (take (2 + used_in block) block) es
 unfolding block_entries
 block_stands block es e =
     let all = take (2 + used_in block) block in
     entries_stand (used_in block) 2 all (drop 2 all) es (taken _ (entries_from (used_in block) 2 (drop 2 all)) e) refl
   where
-    taken : (b : Bool) (r : Option (List Entered)) → cond b r None ≡ Some es → r ≡ Some es
+    taken : (b : Bool) (r : Option (List EntryInBlock)) → cond b r None ≡ Some es → r ≡ Some es
     taken true r e = e
     taken false r e = absurd cc
 
@@ -81,12 +81,12 @@ pub there_held : (files : Files) (p : Place) (bytes : List ℕ) → bytes ≡ bl
 unfolding entry_there
 there_held files p bytes same = ap (entry_from p.offset) same
 
-there_in : (files : Files) (f i : ℕ) (es : List Entered) → 10001 ≤ f → 1 ≤ i → i ≤ 512 → length (block_at i (files f)) ≡ 4096 → AllAt (take (2 + used_in (block_at i (files f))) (block_at i (files f))) es → AreThere files (map (place_of f i) es)
+there_in : (files : Files) (f i : ℕ) (es : List EntryInBlock) → 10001 ≤ f → 1 ≤ i → i ≤ 512 → length (block_at i (files f)) ≡ 4096 → AllAt (take (2 + used_in (block_at i (files f))) (block_at i (files f))) es → AreThere files (map (place_of f i) es)
 unfolding entry_there
 there_in files f i [] low some few long at = tt
 there_in files f i (e ∷ es) low some few long at = (record { there = from_is e.offset (block_at i (files f)) long ∙ at.0; file = low; block = (some, few) }, there_in files f i es low some few long at.1)
 
-some_whole : (f i : ℕ) (r : Option (List Entered)) (es : List Entered) → r ≡ Some es → IsWhole (places_of f i r)
+some_whole : (f i : ℕ) (r : Option (List EntryInBlock)) (es : List EntryInBlock) → r ≡ Some es → IsWhole (places_of f i r)
 some_whole f i None es is = absurd cc
 some_whole f i (Some xs) es is = tt
 
@@ -95,19 +95,19 @@ there_on files [] qs one two = two
 there_on files (p ∷ ps) qs one two = (one.0, there_on files ps qs one.1 two)
 
 -- two parts that are whole
-pub record BothWhole (a b : Read) (ps : List Placed) : Type 0 where
+pub record BothWhole (a b : TrailRead) (ps : List Placed) : Type 0 where
   pub front : List Placed
   pub back : List Placed
   pub first : a ≡ whole front
   pub then : b ≡ whole back
   pub are : front ++ back ≡ ps
 
-pub both_whole : (a b : Read) (ps : List Placed) → then_read a b ≡ whole ps → BothWhole a b ps
+pub both_whole : (a b : TrailRead) (ps : List Placed) → then_read a b ≡ whole ps → BothWhole a b ps
 both_whole (broken f n) b ps e = absurd cc
 both_whole (whole qs) (broken f n) ps e = absurd cc
 both_whole (whole qs) (whole rs) ps e = record { front = qs; back = rs; first = refl; then = refl; are = cc e }
 
-placed_there : (files : Files) (f i : ℕ) (r : Option (List Entered)) (qs : List Placed) → 10001 ≤ f → 1 ≤ i → i ≤ 512 → block_entries (block_at i (files f)) ≡ r → places_of f i r ≡ whole qs → AreThere files qs
+placed_there : (files : Files) (f i : ℕ) (r : Option (List EntryInBlock)) (qs : List Placed) → 10001 ≤ f → 1 ≤ i → i ≤ 512 → block_entries (block_at i (files f)) ≡ r → places_of f i r ≡ whole qs → AreThere files qs
 placed_there files f i None qs low some few is e = absurd cc
 placed_there files f i (Some es) qs low some few is e =
     let same : map (place_of f i) es ≡ qs = cc e in
@@ -127,7 +127,7 @@ unfolding file_read
 file_there total f files ps few low e =
     blocks_there (opened total (files f)) 1 f files ps low (omega arith) (omega (arith, few, opened_within total (files f))) (fitting (header_fits (f - 10000) total (files f)) (blocks_read (opened total (files f)) 1 f (files f)) e)
   where
-    fitting : (b : Bool) (r : Read) → cond b r (broken f 0) ≡ whole ps → r ≡ whole ps
+    fitting : (b : Bool) (r : TrailRead) → cond b r (broken f 0) ≡ whole ps → r ≡ whole ps
     fitting true r e = e
     fitting false r e = absurd cc
 
@@ -162,17 +162,17 @@ span_first files f l g m one two = elim (cases_lt f g) [
   | inr not ↦ not
 ]
 
-scanned_once : (files : Files) (a b : Outcome) → IsScanned files a → IsScanned files b → a ≡ b
+scanned_once : (files : Files) (a b : ScanOutcome) → IsScanned files a → IsScanned files b → a ≡ b
 scanned_once files a b s t =
     let same_first : s.first ≡ t.first = omega (arith, span_first files s.first s.last t.first t.last s.span t.span, span_first files t.first t.last s.first s.last t.span s.span) in
     let same_last : s.last ≡ t.last = omega (arith, span_last files s.first s.last t.first t.last s.span t.span, span_last files t.first t.last s.first s.last t.span s.span) in
     sym s.is ∙ (λ i. scanned (same_first i) (same_last i) files) ∙ t.is
 
-never_none : (files : Files) (a : Outcome) → IsNoDatabase files → IsScanned files a → ⊥
+never_none : (files : Files) (a : ScanOutcome) → IsNoDatabase files → IsScanned files a → ⊥
 never_none files a (inl not) s = not s.database
 never_none files a (inr absent) s = not_both (files s.last) (absent s.last (omega (arith, s.span.low, s.span.order)) s.span.high) (s.span.present s.last s.span.order (omega arith))
 
-none_or : (files : Files) (a : Outcome) → TrailIs files a → ((no_database ≡ a) × IsNoDatabase files) ⊎ IsScanned files a
+none_or : (files : Files) (a : ScanOutcome) → TrailIs files a → ((no_database ≡ a) × IsNoDatabase files) ⊎ IsScanned files a
 none_or files no_database t = inl (refl, t)
 none_or files (unsealed k) t = inr t
 none_or files (missing k) t = inr t

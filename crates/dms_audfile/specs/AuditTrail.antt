@@ -7,7 +7,7 @@ use Rattle.dms_audfile.specs.Gates.{block_at}
 use Rattle.dms_audfile.specs.Blocks.{used_in}
 use Rattle.dms_audfile.specs.Trail.{Span}
 use Rattle.dms_audfile.specs.Database.{HasDatabase}
-use Rattle.dms_audfile.specs.Scanning.{Placed, place_in, Outcome, no_database, unsealed, missing, damaged, foreign, found, scanned}
+use Rattle.dms_audfile.specs.Scanning.{Placed, place_in, ScanOutcome, no_database, unsealed, missing, damaged, foreign, found, scanned}
 use Rattle.dms_audfile.specs.declared.place.Place.{Place}
 
 -- File 1 isn't a sealed description with the gate of the database open, or no audit file is present.
@@ -15,7 +15,7 @@ abbrev pub IsNoDatabase : Files → Type 0
 IsNoDatabase files = (HasDatabase (files 1) → ⊥) ⊎ ((g : ℕ) → 10001 ≤ g → g ≤ 20000 → files g ≡ [])
 
 -- There is a database, and of the trail's files, `first` to `last`, that is what scanning finds.
-pub record IsScanned (files : Files) (outcome : Outcome) : Type 0 where
+pub record IsScanned (files : Files) (outcome : ScanOutcome) : Type 0 where
   pub database : HasDatabase (files 1)
   pub first : ℕ
   pub last : ℕ
@@ -24,7 +24,7 @@ pub record IsScanned (files : Files) (outcome : Outcome) : Type 0 where
 
 -- The trail of an image. The refusals come in this order: no database; a gate that isn't open two files before the last; all gates
 -- open; the first header or sealed block outside its grammar; the first file of another tag; no whole Schema with its Control.
-abbrev pub TrailIs : Files → Outcome → Type 0
+abbrev pub TrailIs : Files → ScanOutcome → Type 0
 TrailIs files no_database = IsNoDatabase files
 TrailIs files (unsealed k) = IsScanned files (unsealed k)
 TrailIs files (missing k) = IsScanned files (missing k)
@@ -34,7 +34,7 @@ TrailIs files (found entries) = IsScanned files (found entries)
 
 -- An image has one trail at most.
 abbrev pub IsOneTrail : Type 0
-IsOneTrail = (files : Files) (a b : Outcome) → TrailIs files a → TrailIs files b → a ≡ b
+IsOneTrail = (files : Files) (a b : ScanOutcome) → TrailIs files a → TrailIs files b → a ≡ b
 
 -- the trail's first file and the places of all its entries, in order
 pub record IsFound (files : Files) (first : ℕ) (places : List Place) : Type 0 where

@@ -7,7 +7,7 @@ use Rattle.dms_audrec.specs.Reading.{entry_at}
 use Rattle.dms_audfile.specs.Header.{all_zero}
 
 -- an entry, and where it begins in its block
-pub record Entered : Type 0 where
+pub record EntryInBlock : Type 0 where
   pub offset : ℕ
   pub entry : Entry
 
@@ -24,7 +24,7 @@ abbrev pub stands_there : ℕ → Entry → List ℕ → Bool
 stands_there at e rest = if is_begin e then (at == 2) && (length rest == 0) else true
 
 -- whole entries one after another, at most n
-abbrev pub entries_from : ℕ → ℕ → List ℕ → Option (List Entered)
+abbrev pub entries_from : ℕ → ℕ → List ℕ → Option (List EntryInBlock)
 entries_from zero at [] = Some []
 entries_from zero at (b ∷ bs) = None
 entries_from (suc n) at [] = Some []
@@ -38,7 +38,7 @@ unfoldable pub used_in : List ℕ → ℕ
 used_in block = from_be_bytes w16 (take 2 block)
 
 -- the entries of a block, none where it isn't in the grammar
-unfoldable pub block_entries : List ℕ → Option (List Entered)
+unfoldable pub block_entries : List ℕ → Option (List EntryInBlock)
 block_entries block =
     if (length block == 4096) && (nat_le (used_in block) 4094 && all_zero (drop (2 + used_in block) block))
     then entries_from (used_in block) 2 (drop 2 (take (2 + used_in block) block)) else None

@@ -3,10 +3,10 @@ use Rattle.std.specs.Prelude.{ℕ, ◌+◌, ◌<◌, ◌≤◌, ◌≡◌, ◌==
 use Rattle.dms_moments.specs.Moments.{Clock}
 use Rattle.dms_site.specs.Files.{Files, Left, OnlyIn}
 use Rattle.dms_history.specs.Entries.{Entry}
-use Rattle.dms_audfile.specs.Blocks.{Entered, block_entries}
+use Rattle.dms_audfile.specs.Blocks.{EntryInBlock, block_entries}
 use Rattle.dms_audfile.specs.Trail.{trail_from}
-use Rattle.dms_audfile.specs.BlockLaws.{spellings, ArePlain, IsAlone}
-use Rattle.dms_audfile.specs.Sealing.{Writes}
+use Rattle.dms_audfile.specs.BlockLaws.{spellings, AreNoBegins, IsAlone}
+use Rattle.dms_audfile.specs.Sealing.{IsWrittenUpTo}
 use Rattle.dms_audfile.specs.TrailEntries.{trail_entries}
 use Rattle.dms_audfile.specs.declared.audit_end.AuditEnd.{AuditEnd}
 
@@ -17,26 +17,26 @@ unsealed end = take end.used (drop 2 end.block.items)
 -- The trail that begins with file `first` ends where this value says, nothing of its files is pending, and these entries wait to be sealed.
 pub record EndsAt (end : AuditEnd) (first : ℕ) (waiting : List Entry) (files : Files) (clock : Clock Left) : Type 0 where
   pub low : 10001 ≤ first
-  pub writes : Writes end.total end.tag first end.file end.count files
+  pub writes : IsWrittenUpTo end.total end.tag first end.file end.count files
   pub settled : (g : ℕ) → first ≤ g → g ≤ end.file → OnlyIn g files clock
   pub bytes : unsealed end ≡ spellings waiting
-  pub kind : ArePlain waiting ⊎ IsAlone waiting
+  pub kind : AreNoBegins waiting ⊎ IsAlone waiting
 
 -- a block is in its grammar and holds an entry
-pub record IsFilled (block : List ℕ) : Type 0 where
-  pub entries : List Entered
+pub record HoldsAnEntry (block : List ℕ) : Type 0 where
+  pub entries : List EntryInBlock
   pub read : block_entries block ≡ Some entries
   pub some : 0 < length entries
 
-abbrev pub AreFilled : List (List ℕ) → Type 0
-AreFilled [] = Unit {0}
-AreFilled (b ∷ bs) = IsFilled b × AreFilled bs
+abbrev pub AllHoldAnEntry : List (List ℕ) → Type 0
+AllHoldAnEntry [] = Unit {0}
+AllHoldAnEntry (b ∷ bs) = HoldsAnEntry b × AllHoldAnEntry bs
 
 -- the trail is the old one and some blocks behind it, each of which is in its grammar and holds an entry
 pub record Grown (total first : ℕ) (old new : Files) : Type 0 where
   pub made : List (List ℕ)
   pub trail : trail_from 10000 total first new ≡ trail_from 10000 total first old ++ made
-  pub filled : AreFilled made
+  pub filled : AllHoldAnEntry made
 
 -- The entries of the trail are the old ones and the first of some that wait, in blocks behind the old ones each of which is in
 -- its grammar and holds an entry. It is again a trail that a writer keeps, with the same number of blocks a file and the same
@@ -49,8 +49,8 @@ pub record Seals (total tag first : ℕ) (waiting : List Entry) (old new : Left)
   pub file : ℕ
   pub count : ℕ
   pub high : file ≤ 20000
-  pub writes : Writes total tag first file count new.files
-  pub later : (g m : ℕ) → Writes total tag first g m old.files → g ≤ file
+  pub writes : IsWrittenUpTo total tag first file count new.files
+  pub later : (g m : ℕ) → IsWrittenUpTo total tag first g m old.files → g ≤ file
   pub behind : (g : ℕ) → file + 1 < g → new.files g ≡ old.files g
   pub below : (g : ℕ) → g < first → new.files g ≡ old.files g
   pub above : (g : ℕ) → 20000 < g → new.files g ≡ old.files g
@@ -63,7 +63,7 @@ pub record Appends (end : AuditEnd) (first : ℕ) (entries : List Entry) (old ne
   pub sealed : trail_entries end.total first new ≡ trail_entries end.total first old ++ take some entries
   pub grown : Grown end.total first old new
   pub ends : EndsAt end first (drop some entries) new clock
-  pub plain : ArePlain (drop some entries)
+  pub plain : AreNoBegins (drop some entries)
 
 -- All entries that waited are sealed behind the old ones, in blocks each of which is in its grammar and holds an entry, and none
 -- waits.

@@ -2,7 +2,7 @@
 use Rattle.std.specs.Prelude.{ℕ, ◌||◌, Bool, false, List, [], ◌∷◌, ◌++◌}
 use Rattle.dms_history.specs.Schemas.{Parts, no_parts, after_entry}
 use Rattle.dms_audfile.specs.WholeSchema.{closes_schema}
-use Rattle.dms_audfile.specs.Scanning.{Placed, Read, broken, whole}
+use Rattle.dms_audfile.specs.Scanning.{Placed, TrailRead, broken, whole}
 use Rattle.dms_audfile.specs.declared.place.Place.{Place}
 use Rattle.dms_audfile.specs.declared.parts.SchemaParts.{SchemaParts}
 use Rattle.dms_audfile.specs.declared.gathered.Gathered.{Gathered}
@@ -28,7 +28,7 @@ pub data Reached : Type 0 where
   stopped : ℕ → ℕ → Reached
   reached : Seen → Reached
 
-abbrev pub gather : Seen → Read → Reached
+abbrev pub gather : Seen → TrailRead → Reached
 gather s (broken f b) = stopped f b
 gather s (whole ps) = reached (seen_on s ps)
 

@@ -4,7 +4,7 @@ use Rattle.std.specs.declared.result.Result.TheVariants.{Ok, Err}
 use Rattle.std.specs.Prelude.{ℕ, ◌≤◌, ◌≡◌, Bool, true, false, List, IsTrue, Option, Some, None}
 use Rattle.dms_moments.specs.Moments.{Clock, Steps}
 use Rattle.dms_site.specs.Files.{Files, Left, Same}
-use Rattle.dms_audfile.specs.Scanning.{Read, broken, whole, Outcome, no_database, unsealed, missing, damaged, foreign, found}
+use Rattle.dms_audfile.specs.Scanning.{TrailRead, broken, whole, ScanOutcome, no_database, unsealed, missing, damaged, foreign, found}
 use Rattle.dms_audfile.specs.Gathering.{Seen, nothing_seen, seen_on, reached, gather}
 use Rattle.dms_audfile.specs.Scanning.{Placed}
 use Rattle.dms_audfile.specs.AuditTrail.{TrailIs}
@@ -13,12 +13,12 @@ use Rattle.dms_audfile.specs.declared.fault.AudFault.TheVariants.{NoDatabase, Di
 use Rattle.dms_audfile.specs.Header.{says_blocks, blocks_said}
 
 -- nothing of it is whole
-abbrev pub IsBroken : Read → Type 0
+abbrev pub IsBroken : TrailRead → Type 0
 IsBroken (broken f b) = Unit {0}
 IsBroken (whole ps) = ⊥
 
 -- so was it read: behind what was known before, or it is broken
-abbrev pub ReadInto : Seen → Read → Seen → Bool → Type 0
+abbrev pub ReadInto : Seen → TrailRead → Seen → Bool → Type 0
 ReadInto old read new true = reached new ≡ gather old read
 ReadInto old read new false = IsBroken read
 
@@ -31,7 +31,7 @@ pub record OnlyReads (tells : Bool) (files new_files : Files) (text new_text : L
   pub say_faults : new_say ≡ say
 
 -- why it wasn't read: its first broken place is answered; a failure of the disk or want of memory says nothing
-abbrev pub NotRead : Read → AudFault → Type 0
+abbrev pub NotRead : TrailRead → AudFault → Type 0
 NotRead read NoDatabase = ⊥
 NotRead read Disk = Unit {0}
 NotRead read (Full k) = ⊥
@@ -42,12 +42,12 @@ NotRead read (Foreign k) = ⊥
 NotRead read Memory = Unit {0}
 
 -- so was it read: behind what was known before, or it wasn't
-abbrev pub ReadFound : {T : Type 0} → Seen → Read → Seen → Result T AudFault → Type 0
+abbrev pub ReadFound : {T : Type 0} → Seen → TrailRead → Seen → Result T AudFault → Type 0
 ReadFound old read new (Ok done) = reached new ≡ gather old read
 ReadFound old read new (Err fault) = NotRead read fault
 
 -- why it wasn't scanned: the first refusal in order is answered; a failure of the disk or want of memory says nothing
-abbrev pub NotScanned : Outcome → AudFault → Type 0
+abbrev pub NotScanned : ScanOutcome → AudFault → Type 0
 NotScanned outcome NoDatabase = ⊥
 NotScanned outcome Disk = Unit {0}
 NotScanned outcome (Full k) = ⊥
@@ -58,20 +58,20 @@ NotScanned outcome (Foreign k) = outcome ≡ foreign k
 NotScanned outcome Memory = Unit {0}
 
 -- all entries were found, and that is known of them
-pub record FoundAll (outcome : Outcome) (new : Seen) : Type 0 where
+pub record FoundAll (outcome : ScanOutcome) (new : Seen) : Type 0 where
   pub entries : List Placed
   pub is : outcome ≡ found entries
   pub known : new ≡ seen_on nothing_seen entries
 
 -- so was it scanned
-abbrev pub Scans : {T : Type 0} → Outcome → Seen → Result T AudFault → Type 0
+abbrev pub Scans : {T : Type 0} → ScanOutcome → Seen → Result T AudFault → Type 0
 Scans outcome new (Ok done) = FoundAll outcome new
 Scans outcome new (Err fault) = NotScanned outcome fault
 
 -- the number of blocks that a file says, or none
-abbrev pub Says : List ℕ → Option ℕ → Type 0
-Says file None = says_blocks file ≡ false
-Says file (Some n) = (says_blocks file ≡ true) × (n ≡ blocks_said file)
+abbrev pub SaysCount : List ℕ → Option ℕ → Type 0
+SaysCount file None = says_blocks file ≡ false
+SaysCount file (Some n) = (says_blocks file ≡ true) × (n ≡ blocks_said file)
 
 -- why scanning is refused
 abbrev pub Refuses : Files → AudFault → Type 0

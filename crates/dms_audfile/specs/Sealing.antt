@@ -6,7 +6,7 @@ use Rattle.dms_audfile.specs.Header.{header_fits, tag_said}
 use Rattle.dms_audfile.specs.Trail.{trail_from}
 
 -- n blocks of a file of `total` are sealed, the other gates are closed, and the file goes on to the place of the next block
-pub record Stands (total n : ℕ) (file : List ℕ) : Type 0 where
+pub record IsSealedUpTo (total n : ℕ) (file : List ℕ) : Type 0 where
   pub enough : n ≤ total
   pub few : total ≤ 512
   pub is_open : (i : ℕ) → 1 ≤ i → i ≤ n → gate i file ≡ 1
@@ -20,17 +20,17 @@ pub record Sealed (total f : ℕ) (blocks : List (List ℕ)) (old new : Files) :
   pub here : sealed total (new f) ≡ sealed total (old f) ++ take some blocks
   pub others : (g : ℕ) → g ≢ f → new g ≡ old g
 
-pub record Seals (total f : ℕ) (blocks : List (List ℕ)) (old new : Left) : Type 0 where
+pub record SealsBlocks (total f : ℕ) (blocks : List (List ℕ)) (old new : Left) : Type 0 where
   pub files : Sealed total f blocks old.files new.files
   pub said : new.said ≡ old.said
 
 -- The trail from file `first` on is written in file f, of whose blocks n are sealed; all files before it are full, and it isn't.
-pub record Writes (total tag first f n : ℕ) (files : Files) : Type 0 where
+pub record IsWrittenUpTo (total tag first f n : ℕ) (files : Files) : Type 0 where
   pub order : first ≤ f
   pub some : 8 ≤ total
   pub not_full : n < total
   pub full : (g : ℕ) → first ≤ g → g < f → is_full total (files g) ≡ true
-  pub stands : Stands total n (files f)
+  pub stands : IsSealedUpTo total n (files f)
   pub fits : (g : ℕ) → first ≤ g → g ≤ f → header_fits (g - 10000) total (files g) ≡ true
   pub tags : (g : ℕ) → first ≤ g → g ≤ f → tag_said (files g) ≡ tag
 
@@ -43,7 +43,7 @@ pub record Grows (total tag first f : ℕ) (blocks : List (List ℕ)) (old new :
   -- it is again one that a writer keeps, who is at that file, with so many of its blocks sealed
   pub file : ℕ
   pub count : ℕ
-  pub writes : Writes total tag first file count new
+  pub writes : IsWrittenUpTo total tag first file count new
   pub low : f ≤ file
   pub high : file ≤ f + 1
 

@@ -9,7 +9,7 @@ ghost use Rattle.dms_audfile.specs.TrailEntries.{trail_entries};
 ghost use Rattle.dms_audrec.specs.Spelling.{spelling, IsEntry};
 ghost use Rattle.dms_audrec.specs.Seen.{entry_seen};
 ghost use Rattle.dms_audfile.specs.Blocks.{is_begin};
-ghost use Rattle.dms_audfile.specs.BlockLaws.{ArePlain};
+ghost use Rattle.dms_audfile.specs.BlockLaws.{AreNoBegins};
 ghost use Rattle.dms_audfile.specs.Ends.{EndsAt, Seals, SealsAll, Appends, Grown, next_file, is_past};
 ghost use Rattle.dms_audfile.specs.Counting.{CountedAt};
 
@@ -92,7 +92,7 @@ impl AuditEnd {
         requires { size ≤ 4094 }
         ensures moments { (first : ℕ) (waiting : List meaning.Entry) → IsTrue S.tells → EndsAt self.old first waiting (S.files site.old) (S.clock site.old)
             → Steps (Seals self.old.total self.old.tag first waiting) (S.clock site.old) (S.clock site.new) }
-        ensures appends { OnOk result ((first : ℕ) (waiting : List meaning.Entry) → IsTrue S.tells → ArePlain waiting → EndsAt self.old first waiting (S.files site.old) (S.clock site.old)
+        ensures appends { OnOk result ((first : ℕ) (waiting : List meaning.Entry) → IsTrue S.tells → AreNoBegins waiting → EndsAt self.old first waiting (S.files site.old) (S.clock site.old)
             → Appends self.new first waiting (S.files site.old) (S.files site.new) (S.clock site.new)) }
         ensures room { OnOk result (self.new.used + size ≤ 4094) }
         ensures alone { OnOk result (IsTrue alone → self.new.used ≡ 0) }
@@ -133,9 +133,9 @@ impl AuditEnd {
     pub fn append<S: Site>(&mut self, site: &mut S, entry: &Entry<'_>) -> Result<(), AudFault>
         requires entry { IsEntry (entry_seen entry.now) }
         requires size { length (spelling (entry_seen entry.now)) ≤ 4094 }
-        ensures moments { (first : ℕ) (waiting : List meaning.Entry) → IsTrue S.tells → ArePlain waiting → EndsAt self.old first waiting (S.files site.old) (S.clock site.old)
+        ensures moments { (first : ℕ) (waiting : List meaning.Entry) → IsTrue S.tells → AreNoBegins waiting → EndsAt self.old first waiting (S.files site.old) (S.clock site.old)
             → Steps (Seals self.old.total self.old.tag first (waiting ++ entry_seen entry.now ∷ [])) (S.clock site.old) (S.clock site.new) }
-        ensures appends { OnOk result ((first : ℕ) (waiting : List meaning.Entry) → IsTrue S.tells → ArePlain waiting → EndsAt self.old first waiting (S.files site.old) (S.clock site.old)
+        ensures appends { OnOk result ((first : ℕ) (waiting : List meaning.Entry) → IsTrue S.tells → AreNoBegins waiting → EndsAt self.old first waiting (S.files site.old) (S.clock site.old)
             → Appends self.new first (waiting ++ entry_seen entry.now ∷ []) (S.files site.old) (S.files site.new) (S.clock site.new)) }
         ensures before { OnOk result (IsTrue S.tells → (g : ℕ) → g < self.old.file → S.files site.new g ≡ S.files site.old g) }
         ensures behind { OnOk result (IsTrue S.tells → (g : ℕ) → self.new.file < g → S.files site.new g ≡ S.files site.old g) }

@@ -7,7 +7,7 @@ ghost use Rattle.dms_site.specs.Files.{Only, OnlyIn};
 ghost use Rattle.dms_audrec.specs.Spelling.{spelling, IsEntry};
 ghost use Rattle.dms_audrec.specs.Seen.{entry_seen};
 ghost use Rattle.dms_audfile.specs.Trail.{trail_from};
-ghost use Rattle.dms_audfile.specs.Sealing.{Writes, GrowsLeft};
+ghost use Rattle.dms_audfile.specs.Sealing.{IsWrittenUpTo, GrowsLeft};
 ghost use Rattle.dms_audfile.specs.Unsealed.{block_with};
 ghost use Rattle.dms_audfile.specs.Ends.{unsealed, file_behind};
 
@@ -36,13 +36,13 @@ impl AuditEnd {
     /// Seals the entries that wait, as one block.
     pub(crate) fn seal_block<S: Site>(&mut self, site: &mut S) -> Result<(), Failed>
         requires allowed { self.old.file < 20000 }
-        ensures moments { (first : ℕ) → IsTrue S.tells → Writes self.old.total self.old.tag first self.old.file self.old.count (S.files site.old)
+        ensures moments { (first : ℕ) → IsTrue S.tells → IsWrittenUpTo self.old.total self.old.tag first self.old.file self.old.count (S.files site.old)
             → ((g : ℕ) → first ≤ g → g ≤ self.old.file → OnlyIn g (S.files site.old) (S.clock site.old))
             → Steps (GrowsLeft self.old.total self.old.tag first self.old.file (block_with (unsealed self.old) ∷ [])) (S.clock site.old) (S.clock site.new) }
-        ensures sealed { OnOk result ((first n : ℕ) → IsTrue S.tells → Writes self.old.total self.old.tag first self.old.file self.old.count (S.files site.old)
+        ensures sealed { OnOk result ((first n : ℕ) → IsTrue S.tells → IsWrittenUpTo self.old.total self.old.tag first self.old.file self.old.count (S.files site.old)
             → self.old.file < first + n → trail_from n self.old.total first (S.files site.new) ≡ trail_from n self.old.total first (S.files site.old) ++ block_with (unsealed self.old) ∷ []) }
-        ensures writes { OnOk result ((first : ℕ) → IsTrue S.tells → Writes self.old.total self.old.tag first self.old.file self.old.count (S.files site.old)
-            → Writes self.new.total self.new.tag first self.new.file self.new.count (S.files site.new)) }
+        ensures writes { OnOk result ((first : ℕ) → IsTrue S.tells → IsWrittenUpTo self.old.total self.old.tag first self.old.file self.old.count (S.files site.old)
+            → IsWrittenUpTo self.new.total self.new.tag first self.new.file self.new.count (S.files site.new)) }
         ensures before { OnOk result (IsTrue S.tells → (g : ℕ) → g < self.old.file → S.files site.new g ≡ S.files site.old g) }
         ensures behind { OnOk result (IsTrue S.tells → (g : ℕ) → self.new.file < g → S.files site.new g ≡ S.files site.old g) }
         ensures place { (self.old.file ≤ self.new.file) × (self.new.file ≤ self.old.file + 1) }

@@ -3,7 +3,7 @@ ghost use Rattle.std.specs.Int.{w16, w32, w64, from_be_bytes};
 ghost use Rattle.dms_site.specs.Files.{range};
 ghost use Rattle.dms_audfile.specs.Gates.{opened};
 ghost use Rattle.dms_audfile.specs.Header.{all_zero, none_open, has_mark, number_said, tag_said, names_fit, zeros_fit, gates_fit, blocks_said, says_blocks, header_fits};
-ghost use Rattle.dms_audfile.specs.Reads.{Says};
+ghost use Rattle.dms_audfile.specs.Reads.{SaysCount};
 
 /// Whether all bytes are zero.
 pub(crate) fn all_zero(bytes: &[u8]) -> bool
@@ -105,7 +105,7 @@ pub(crate) fn tag_said(header: &[u8]) -> u64
 /// The number of blocks that a header says; None where it says none.
 #[tactic(auto, unfolding(crate::specs::Header::says_blocks))]
 pub(crate) fn says_blocks(header: &[u8]) -> Option<u16>
-    ensures says { Says header.now result }
+    ensures says { SaysCount header.now result }
     ensures few { IfSome result (λ n. n ≤ 512) }
 {
     if header.len() < 10 {

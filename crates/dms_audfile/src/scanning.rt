@@ -6,8 +6,8 @@ ghost use Rattle.dms_audfile.specs.Gates.{block_at, opened, is_full};
 ghost use Rattle.dms_audfile.specs.Header.{header_fits, tag_said};
 ghost use Rattle.dms_audfile.specs.Trail.{first_open};
 ghost use Rattle.dms_audfile.specs.Scanning.{blocks_read, file_read, files_read, first_foreign, no_schema, trail_read, scanned};
-ghost use Rattle.dms_audfile.specs.Reads.{OnlyReads, ReadFound, NotScanned, Scans, Says};
-ghost use Rattle.dms_audfile.specs.Sealing.{Writes};
+ghost use Rattle.dms_audfile.specs.Reads.{OnlyReads, ReadFound, NotScanned, Scans, SaysCount};
+ghost use Rattle.dms_audfile.specs.Sealing.{IsWrittenUpTo};
 
 use crate::blocks::read_block;
 use crate::gathered::Gathered;
@@ -173,7 +173,7 @@ fn read_files<S: Site>(
 /// The number of blocks that the header of a file says; None where it says none.
 fn blocks_in<S: Site>(site: &mut S, file: u32, buffer: &mut [u8]) -> Result<Option<u16>, AudFault>
     requires size { length buffer.old ≡ 4096 }
-    ensures said { IfOk result (λ n. IsTrue S.tells → Says (S.files site.old file) n) }
+    ensures said { IfOk result (λ n. IsTrue S.tells → SaysCount (S.files site.old file) n) }
     ensures few { IfOk result (λ n. IfSome n (λ k. k ≤ 512)) }
     ensures reads { OnlyReads S.tells (S.files site.old) (S.files site.new) (S.said site.old) (S.said site.new) (S.clock site.old) (S.clock site.new) (S.disk_faults site.old) (S.disk_faults site.new) (S.say_faults site.old) (S.say_faults site.new) }
     ensures only { IfErr result (λ e. e ≡ AudFault.Disk) }
@@ -293,7 +293,7 @@ pub(crate) fn scan_span<S: Site>(
     requires order { first ≤ last }
     requires high { last ≤ 20000 }
     requires none { seen known.old ≡ nothing_seen }
-    ensures writes { IfOk result (λ r. IsTrue S.tells → Writes r.total r.tag first r.file r.count (S.files site.old)) }
+    ensures writes { IfOk result (λ r. IsTrue S.tells → IsWrittenUpTo r.total r.tag first r.file r.count (S.files site.old)) }
     ensures bounds { IfOk result (λ r. (first ≤ r.file) × (r.file ≤ last)) }
     ensures scanned { IsTrue S.tells → Scans (scanned first last (S.files site.old)) (seen known.new) result }
     ensures reads { OnlyReads S.tells (S.files site.old) (S.files site.new) (S.said site.old) (S.said site.new) (S.clock site.old) (S.clock site.new) (S.disk_faults site.old) (S.disk_faults site.new) (S.say_faults site.old) (S.say_faults site.new) }

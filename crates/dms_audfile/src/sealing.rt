@@ -4,7 +4,7 @@ ghost use Rattle.dms_moments.specs.Moments.{Steps};
 ghost use Rattle.dms_site.specs.Files.{Only, OnlyIn, OnDisk, Torn, overlaid, with_file};
 ghost use Rattle.dms_audfile.specs.Header.{new_header, tag_said};
 ghost use Rattle.dms_audfile.specs.Trail.{trail_from};
-ghost use Rattle.dms_audfile.specs.Sealing.{Writes, GrowsLeft, Anyhow};
+ghost use Rattle.dms_audfile.specs.Sealing.{IsWrittenUpTo, GrowsLeft, Anyhow};
 
 use dms_site::{Failed, Site, write_synced};
 
@@ -80,12 +80,12 @@ pub fn seal_block<S: Site>(
     requires few { total ≤ 512 }
     requires head { head.now ≡ new_header (file - 9999) total (tag_said head.now) }
     // A stop at any moment leaves the trail from before, with the new block or without; no other file changes.
-    ensures moments { (first : ℕ) → IsTrue S.tells → Writes total (tag_said head.now) first file count (S.files site.old) → ((g : ℕ) → first ≤ g → g ≤ file → OnlyIn g (S.files site.old) (S.clock site.old))
+    ensures moments { (first : ℕ) → IsTrue S.tells → IsWrittenUpTo total (tag_said head.now) first file count (S.files site.old) → ((g : ℕ) → first ≤ g → g ≤ file → OnlyIn g (S.files site.old) (S.clock site.old))
         → Steps (GrowsLeft total (tag_said head.now) first file (content.now ∷ [])) (S.clock site.old) (S.clock site.new) }
-    ensures sealed { OnOk result ((first n : ℕ) → IsTrue S.tells → Writes total (tag_said head.now) first file count (S.files site.old) → file < first + n
+    ensures sealed { OnOk result ((first n : ℕ) → IsTrue S.tells → IsWrittenUpTo total (tag_said head.now) first file count (S.files site.old) → file < first + n
         → trail_from n total first (S.files site.new) ≡ trail_from n total first (S.files site.old) ++ content.now ∷ []) }
-    ensures writes { OnOk result ((first : ℕ) → IsTrue S.tells → Writes total (tag_said head.now) first file count (S.files site.old)
-        → (count + 1 ≢ total → Writes total (tag_said head.now) first file (count + 1) (S.files site.new)) × (count + 1 ≡ total → Writes total (tag_said head.now) first (file + 1) 0 (S.files site.new))) }
+    ensures writes { OnOk result ((first : ℕ) → IsTrue S.tells → IsWrittenUpTo total (tag_said head.now) first file count (S.files site.old)
+        → (count + 1 ≢ total → IsWrittenUpTo total (tag_said head.now) first file (count + 1) (S.files site.new)) × (count + 1 ≡ total → IsWrittenUpTo total (tag_said head.now) first (file + 1) 0 (S.files site.new))) }
     ensures others { OnOk result (IsTrue S.tells → (g : ℕ) → g ≢ file → g ≢ file + 1 → S.files site.new g ≡ S.files site.old g) }
     ensures next { OnOk result (IsTrue S.tells → count + 1 ≢ total → S.files site.new (file + 1) ≡ S.files site.old (file + 1)) }
     ensures durable { OnOk result (IsTrue S.tells → Only (S.files site.new) (S.clock site.new)) }

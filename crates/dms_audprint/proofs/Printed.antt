@@ -8,7 +8,7 @@ use Rattle.std.specs.declared.result.Result.TheVariants.{Ok, Err}
 use Rattle.dms_moments.specs.Moments.{Clock, Steps}
 use Rattle.dms_moments.specs.MomentLaws.{steps_on, steps_weaken, runs_none}
 use Rattle.dms_history.specs.Entries.{Entry}
-use Rattle.dms_site.specs.Files.{Files, Left, Same, Prints}
+use Rattle.dms_site.specs.Files.{Files, Left, Same, PrintsPartOf}
 use Rattle.dms_audfile.specs.AuditTrail.{entry_there, IsThere, AreThere, IsFound, EntriesAreThere}
 use Rattle.dms_audfile.specs.Scanning.{Placed, place_in}
 use Rattle.dms_audfile.specs.declared.place.Place.{Place}
@@ -27,7 +27,7 @@ lines_more files (q ∷ qs) (suc k) d low =
     ap (λ n. lines_at files (take n (q ∷ qs))) e
     ∙ ap (λ (l : List ℕ). line_at files q ++ l) (lines_more files qs k d (omega (arith, low))) ∙ sym (append_assoc (line_at files q) (lines_at files (take k qs)) (line_at files (get_or qs k d)))
 
--- the lines of the first so many places are a front of all
+-- the lines of the first so many places are a prefix of all
 lines_front : (files : Files) (ps : List Place) (k : ℕ) → take (length (lines_at files (take k ps))) (lines_at files ps) ≡ lines_at files (take k ps)
 lines_front files [] zero = refl
 lines_front files [] (suc k) = refl
@@ -40,8 +40,8 @@ lines_front files (q ∷ qs) (suc k) =
 pub lines_all : (files : Files) (ps : List Place) (k : ℕ) → length ps ≤ k → lines_at files (take k ps) ≡ lines_at files ps
 lines_all files ps k past = ap (lines_at files) (take_all k ps past)
 
--- a front of the lines
-pub record Front (all bytes : List ℕ) : Type 0 where
+-- a prefix of the lines
+pub record TextPrefix (all bytes : List ℕ) : Type 0 where
   pub some : ℕ
   pub is : bytes ≡ take some all
 
@@ -50,8 +50,8 @@ min_of zero n = 0
 min_of (suc j) zero = 0
 min_of (suc j) (suc n) = suc (min_of j n)
 
--- a front of a front
-front_front : (all : List ℕ) (n j : ℕ) → Front all (take j (take n all))
+-- a prefix of a prefix
+front_front : (all : List ℕ) (n j : ℕ) → TextPrefix all (take j (take n all))
 front_front all n j = record { some = min_of j n; is = taken j n all }
   where
     taken : (j n : ℕ) (xs : List ℕ) → take j (take n xs) ≡ take (min_of j n) xs
@@ -61,7 +61,7 @@ front_front all n j = record { some = min_of j n; is = taken j n all }
     taken (suc j) (suc n) (x ∷ xs) = ap (λ (l : List ℕ). x ∷ l) (taken j n xs)
 
 -- the lines of the places so far, and a part of the next one
-part_of : (files : Files) (ps : List Place) (k j : ℕ) (d : Place) → k < length ps → Front (lines_at files ps) (lines_at files (take k ps) ++ take j (line_at files (get_or ps k d)))
+part_of : (files : Files) (ps : List Place) (k j : ℕ) (d : Place) → k < length ps → TextPrefix (lines_at files ps) (lines_at files (take k ps) ++ take j (line_at files (get_or ps k d)))
 part_of files ps k j d low =
     let line = line_at files (get_or ps k d) in
     let so_far = lines_at files (take k ps) in
@@ -86,7 +86,7 @@ pub line_then : (files other : Files) (ps : List Place) (k : ℕ) (d : Place) (s
 line_then files other ps k d start said new low same so_far more =
     more ∙ (λ i. so_far i ++ line_at (same i) (get_or ps k d)) ∙ append_assoc start (lines_at files (take k ps)) (line_at files (get_or ps k d)) ∙ ap (λ (l : List ℕ). start ++ l) (sym (lines_more files ps k d low))
 
--- the text so far is a front of all
+-- the text so far is a prefix of all
 pub part_now : (files : Files) (ps : List Place) (k : ℕ) (start said : List ℕ) → said ≡ start ++ lines_at files (take k ps) → (n : ℕ) × (said ≡ start ++ take n (lines_at files ps))
 part_now files ps k start said so_far = (length (lines_at files (take k ps)), so_far ∙ ap (λ (l : List ℕ). start ++ l) (sym (lines_front files ps k)))
 
@@ -184,7 +184,7 @@ prints_none c = record { follows = λ x now. (x, now, ([], record { files = refl
 pub prints_same : (a b : Clock Left) → Steps Same a b → Steps PrintsSome a b
 prints_same a b steps = steps_weaken steps (λ x y here same. ([], record { files = ap (λ (l : Left). l.files) same; some = 0; said = ap (λ (l : Left). l.said) same ∙ sym (append-nil x.said) }))
 
-pub prints_some : (a b : Clock Left) (bytes : List ℕ) → Steps (Prints bytes) a b → Steps PrintsSome a b
+pub prints_some : (a b : Clock Left) (bytes : List ℕ) → Steps (PrintsPartOf bytes) a b → Steps PrintsSome a b
 prints_some a b bytes steps = steps_weaken steps (λ x y here p. (bytes, p))
 
 both : (x y z : Left) → PrintsSome x y → PrintsSome y z → PrintsSome x z

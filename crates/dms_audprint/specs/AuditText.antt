@@ -20,13 +20,13 @@ pub record PrintsAudit (files : Files) (old new : List ℕ) : Type 0 where
   pub trail : TrailIs files (found entries)
   pub said : new ≡ old ++ audit_text entries
 
--- a front of them was printed
-pub record PrintsAuditFront (files : Files) (old new : List ℕ) : Type 0 where
+-- a prefix of them was printed
+pub record PrintsAuditPrefix (files : Files) (old new : List ℕ) : Type 0 where
   pub entries : List Placed
   pub trail : TrailIs files (found entries)
   pub some : ℕ
   pub said : new ≡ old ++ take some (audit_text entries)
 
--- nothing was printed, or a front of them
+-- nothing was printed, or a prefix of them
 abbrev pub PrintsPart : Files → List ℕ → List ℕ → Type 0
-PrintsPart files old new = (new ≡ old) ⊎ PrintsAuditFront files old new
+PrintsPart files old new = (new ≡ old) ⊎ PrintsAuditPrefix files old new

@@ -1,7 +1,7 @@
 -- Printing entries by their places.
 use Rattle.std.specs.Prelude.{ℕ, ◌-◌, ◌≤◌, ◌≡◌, List, [], ◌∷◌, ◌++◌, Option, Some, None}
 use Rattle.dms_history.specs.Entries.{Entry}
-use Rattle.dms_site.specs.Files.{Files, Left, Prints}
+use Rattle.dms_site.specs.Files.{Files, Left, PrintsPartOf}
 use Rattle.dms_audfile.specs.AuditTrail.{entry_there}
 use Rattle.dms_audfile.specs.Reads.{Refuses}
 use Rattle.dms_audfile.specs.declared.fault.AudFault.{AudFault}
@@ -35,7 +35,7 @@ AllStand files (p ∷ ps) = Stands files p × AllStand files ps
 
 -- some bytes were printed, and the files stay
 abbrev pub PrintsSome : Left → Left → Type 0
-PrintsSome old new = (bytes : List ℕ) × Prints bytes old new
+PrintsSome old new = (bytes : List ℕ) × PrintsPartOf bytes old new
 
 -- a failure of the disk, or want of memory
 abbrev pub IsOfOutside : AudFault → Type 0

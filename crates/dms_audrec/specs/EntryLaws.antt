@@ -8,24 +8,24 @@ use Rattle.std.proofs.lemmas.Bool.Decides.{nat_tests}
 use Rattle.dms_history.specs.Entries.{Entry, schema_part, image, byte_range, quiet_point, control_point, begin_restore, Kind, by_halt_load, by_back_out, by_roll_back, by_rebuild, by_reconstruct}
 use Rattle.dms_history.specs.declared.event.FileCount.{FileCount}
 use Rattle.dms_history.specs.declared.event.Row.{Row}
-use Rattle.dms_audrec.specs.Spelling.{spelling, before_bytes, IsSchema, IsImage, IsControl, IsKind, IsEntry, counts_rise, rows_rise, how_number, dump_of, rows_of, pair_bytes, count_file, count_blocks, row_file, row_number, AreSmall}
+use Rattle.dms_audrec.specs.Spelling.{spelling, before_bytes, IsSchemaSpelled, IsImage, IsControl, IsRestoreKind, IsEntry, counts_rise, rows_rise, how_number, dump_of, rows_of, pair_bytes, count_file, count_blocks, row_file, row_number, ArePairsSmall}
 use Rattle.dms_fields.specs.Prefix.{byte_first, number_first, bytes_first}
 use Rattle.dms_audrec.specs.Reading.{schema_at, before_at, image_at, quiet_at, control_at, begin_at, entry_at, counts_at, rows_at, kind_of, kind_fits}
 use Rattle.dms_audrec.specs.PairLaws.{counts_take, counts_length, counts_again, rows_take, rows_length, rows_again}
 use Rattle.dms_fields.specs.PrefixLaws.{IsBytes, IsBytes-take, bind_some, go_some, Takes, takes_then, wide16, wide32, wide64, number_takes, number_again, bytes_takes, bytes_again}
 
 -- from the front of bytes an entry behind its kind was read
-pub record Read (kind : ℕ) (bytes : List ℕ) (x : Entry × List ℕ) : Type 0 where
+pub record ReadsEntry (kind : ℕ) (bytes : List ℕ) (x : Entry × List ℕ) : Type 0 where
   pub parts : kind ∷ bytes ≡ spelling x.0 ++ x.1
   pub is : IsEntry x.0
 
-pub quiet_takes : (bytes : List ℕ) (x : Entry × List ℕ) → IsBytes bytes → quiet_at bytes ≡ Some x → Read 3 bytes x
+pub quiet_takes : (bytes : List ℕ) (x : Entry × List ℕ) → IsBytes bytes → quiet_at bytes ≡ Some x → ReadsEntry 3 bytes x
 unfolding quiet_at
 quiet_takes bytes x fits e =
     let n = bind_some (number_first w64 bytes) (λ n. Some (quiet_point n.0, n.1)) x e in
     let t = number_takes w64 (2 ^ 64) wide64 bytes n.0 fits n.1 in
     let is : (quiet_point n.0.0, n.0.1) ≡ x = cc (n.2) in
-    subst (λ x. Read 3 bytes x) is (record { parts = ap (λ (l : List ℕ). 3 ∷ l) t.0.parts; is = t.1 })
+    subst (λ x. ReadsEntry 3 bytes x) is (record { parts = ap (λ (l : List ℕ). 3 ∷ l) t.0.parts; is = t.1 })
 
 abbrev schema_fits : ℕ → ℕ → ℕ → Bool
 schema_fits part parts len = nat_le 1 part && nat_le part parts && (parts == part || len == 4000)
@@ -41,7 +41,7 @@ schema_tested part parts len some within full = elim (cases_eq parts part) [
 
 schema_from : (bytes : List ℕ) (part parts len : ℕ × List ℕ) (text : List ℕ × List ℕ) (x : Entry × List ℕ) → IsBytes bytes
     → number_first w16 bytes ≡ Some part → number_first w16 part.1 ≡ Some parts → number_first w16 parts.1 ≡ Some len → bytes_first len.0 len.1 ≡ Some text
-    → cond (schema_fits part.0 parts.0 len.0) (Some (schema_part part.0 parts.0 text.0, text.1)) None ≡ Some x → Read 1 bytes x
+    → cond (schema_fits part.0 parts.0 len.0) (Some (schema_part part.0 parts.0 text.0, text.1)) None ≡ Some x → ReadsEntry 1 bytes x
 schema_from bytes part parts len text x fits e1 e2 e3 e4 e5 =
     let a = number_takes w16 (2 ^ 16) wide16 bytes part fits e1 in
     let b = number_takes w16 (2 ^ 16) wide16 part.1 parts a.0.rest_fits e2 in
@@ -53,14 +53,14 @@ schema_from bytes part parts len text x fits e1 e2 e3 e4 e5 =
     let p = to_be_bytes w16 part.0 in
     let q = to_be_bytes w16 parts.0 in
     let size : to_be_bytes w16 len.0 ≡ to_be_bytes w16 (length text.0) = ap (λ k. to_be_bytes w16 k) (sym d.1) in
-    subst (λ x. Read 1 bytes x) g.1 (record {
+    subst (λ x. ReadsEntry 1 bytes x) g.1 (record {
       parts = ap (λ (l : List ℕ). 1 ∷ l) (whole.parts
           ∙ ap (λ (l : List ℕ). l ++ text.1) (append_assoc (p ++ q) (to_be_bytes w16 len.0) text.0 ∙ append_assoc p q (to_be_bytes w16 len.0 ++ text.0)
           ∙ ap (λ (l : List ℕ). p ++ (q ++ (l ++ text.0))) size));
       is = record { some = t.0; within = t.1; small = b.1; short = subst (λ k. k < 2 ^ 16) (sym d.1) c.1; full = λ less. d.1 ∙ t.2 less };
     })
 
-pub schema_takes : (bytes : List ℕ) (x : Entry × List ℕ) → IsBytes bytes → schema_at bytes ≡ Some x → Read 1 bytes x
+pub schema_takes : (bytes : List ℕ) (x : Entry × List ℕ) → IsBytes bytes → schema_at bytes ≡ Some x → ReadsEntry 1 bytes x
 unfolding schema_at
 schema_takes bytes x fits e =
     let (part, e1, r1) = bind_some (number_first w16 bytes) _ x e in
@@ -69,7 +69,7 @@ schema_takes bytes x fits e =
     let (text, e4, r4) = bind_some (bytes_first len.0 len.1) _ x r3 in
     schema_from bytes part parts len text x fits e1 e2 e3 e4 r4
 
-pub schema_again : (part parts : ℕ) (text rest : List ℕ) → IsSchema part parts text
+pub schema_again : (part parts : ℕ) (text rest : List ℕ) → IsSchemaSpelled part parts text
     → schema_at ((to_be_bytes w16 part ++ (to_be_bytes w16 parts ++ (to_be_bytes w16 (length text) ++ text))) ++ rest) ≡ Some (schema_part part parts text, rest)
 unfolding schema_at
 schema_again part parts text rest is =
@@ -115,7 +115,7 @@ image_tested file block low high place = grind (arith, nat_tests)
 
 image_from : (bytes : List ℕ) (file block : ℕ × List ℕ) (before : Option (List ℕ) × List ℕ) (after : List ℕ × List ℕ) (x : Entry × List ℕ) → IsBytes bytes
     → number_first w32 bytes ≡ Some file → number_first w32 file.1 ≡ Some block → before_at block.1 ≡ Some before → bytes_first 1024 before.1 ≡ Some after
-    → cond (image_fits file.0 block.0) (Some (image file.0 block.0 before.0 after.0, after.1)) None ≡ Some x → Read 2 bytes x
+    → cond (image_fits file.0 block.0) (Some (image file.0 block.0 before.0 after.0, after.1)) None ≡ Some x → ReadsEntry 2 bytes x
 image_from bytes file block before after x fits e1 e2 e3 e4 e5 =
     let a = number_takes w32 (2 ^ 32) wide32 bytes file fits e1 in
     let b = number_takes w32 (2 ^ 32) wide32 file.1 block a.0.rest_fits e2 in
@@ -126,13 +126,13 @@ image_from bytes file block before after x fits e1 e2 e3 e4 e5 =
     let whole = takes_then bytes _ _ _ _ (takes_then bytes _ _ _ _ (takes_then bytes _ _ _ _ a.0 b.0) c.0) d.0 in
     let p = to_be_bytes w32 file.0 in
     let q = to_be_bytes w32 block.0 in
-    subst (λ x. Read 2 bytes x) g.1 (record {
+    subst (λ x. ReadsEntry 2 bytes x) g.1 (record {
       parts = ap (λ (l : List ℕ). 2 ∷ l) (whole.parts
           ∙ ap (λ (l : List ℕ). l ++ after.1) (append_assoc (p ++ q) (before_bytes before.0) after.0 ∙ append_assoc p q (before_bytes before.0 ++ after.0)));
       is = record { low = t.0; high = t.1; place = t.2; old_size = c.1; new_size = d.1 };
     })
 
-pub image_takes : (bytes : List ℕ) (x : Entry × List ℕ) → IsBytes bytes → image_at bytes ≡ Some x → Read 2 bytes x
+pub image_takes : (bytes : List ℕ) (x : Entry × List ℕ) → IsBytes bytes → image_at bytes ≡ Some x → ReadsEntry 2 bytes x
 unfolding image_at
 image_takes bytes x fits e =
     let (file, e1, r1) = bind_some (number_first w32 bytes) _ x e in
@@ -171,7 +171,7 @@ front_fits whole text rest is fits =
 
 control_from : (bytes : List ℕ) (n next files : ℕ × List ℕ) (list : List ℕ × List ℕ) (x : Entry × List ℕ) → IsBytes bytes
     → number_first w64 bytes ≡ Some n → number_first w64 n.1 ≡ Some next → number_first w16 next.1 ≡ Some files → bytes_first (8 * files.0) files.1 ≡ Some list
-    → cond (counts_rise 30001 (counts_at files.0 list.0)) (Some (control_point n.0 next.0 (counts_at files.0 list.0), list.1)) None ≡ Some x → Read 4 bytes x
+    → cond (counts_rise 30001 (counts_at files.0 list.0)) (Some (control_point n.0 next.0 (counts_at files.0 list.0), list.1)) None ≡ Some x → ReadsEntry 4 bytes x
 control_from bytes n next files list x fits e1 e2 e3 e4 e5 =
     let a = number_takes w64 (2 ^ 64) wide64 bytes n fits e1 in
     let b = number_takes w64 (2 ^ 64) wide64 n.1 next a.0.rest_fits e2 in
@@ -186,14 +186,14 @@ control_from bytes n next files list x fits e1 e2 e3 e4 e5 =
     let r = to_be_bytes w16 files.0 in
     let size : r ≡ to_be_bytes w16 (length cs) = ap (λ k. to_be_bytes w16 k) (sym ps.many) in
     let spelled : list.0 ≡ pair_bytes count_file count_blocks cs = sym ps.spelled in
-    subst (λ x. Read 4 bytes x) g.1 (record {
+    subst (λ x. ReadsEntry 4 bytes x) g.1 (record {
       parts = ap (λ (l : List ℕ). 4 ∷ l) (whole.parts
           ∙ ap (λ (l : List ℕ). l ++ list.1) (append_assoc (p ++ q) r list.0 ∙ append_assoc p q (r ++ list.0)
           ∙ (λ i. p ++ (q ++ (size i ++ spelled i)))));
       is = record { number = a.1; next_number = b.1; few = subst (λ k. k < 2 ^ 16) (sym ps.many) c.1; rising = g.0; small = ps.small };
     })
 
-pub control_takes : (bytes : List ℕ) (x : Entry × List ℕ) → IsBytes bytes → control_at bytes ≡ Some x → Read 4 bytes x
+pub control_takes : (bytes : List ℕ) (x : Entry × List ℕ) → IsBytes bytes → control_at bytes ≡ Some x → ReadsEntry 4 bytes x
 unfolding control_at
 control_takes bytes x fits e =
     let (n, e1, r1) = bind_some (number_first w64 bytes) _ x e in
@@ -233,10 +233,10 @@ record KindIs (how d : ℕ) (rows : List Row) (kind : Kind) : Type 0 where
   number : how_number kind ≡ how
   dump : dump_of kind ≡ d
   named : rows_of kind ≡ rows
-  is : IsKind kind
+  is : IsRestoreKind kind
 
 module _ (d : ℕ) where
-  by_audit : (how : ℕ) (kind : Kind) → how_number kind ≡ how → dump_of kind ≡ 0 → rows_of kind ≡ [] → IsKind kind → (rows : List Row) → ((length rows == 0) && (d == 0)) ≡ true → KindIs how d rows kind
+  by_audit : (how : ℕ) (kind : Kind) → how_number kind ≡ how → dump_of kind ≡ 0 → rows_of kind ≡ [] → IsRestoreKind kind → (rows : List Row) → ((length rows == 0) && (d == 0)) ≡ true → KindIs how d rows kind
   by_audit how kind number none empty is [] e = record { number = number; dump = none ∙ grind (arith, nat_tests); named = empty; is = is }
   by_audit how kind number none empty is (r ∷ rs) e = absurd (grind (arith, nat_tests))
 
@@ -244,7 +244,7 @@ module _ (d : ℕ) where
   by_dump [] e = record { number = refl; dump = refl; named = refl; is = (grind (arith, nat_tests), grind (arith, nat_tests)) }
   by_dump (r ∷ rs) e = absurd (grind (arith, nat_tests))
 
-  by_rows : (rows : List Row) → (nat_le 1 d && (nat_le d 9999 && rows_rise 0 rows)) ≡ true → length rows < 2 ^ 16 → AreSmall row_file row_number rows → KindIs 5 d rows (by_reconstruct d rows)
+  by_rows : (rows : List Row) → (nat_le 1 d && (nat_le d 9999 && rows_rise 0 rows)) ≡ true → length rows < 2 ^ 16 → ArePairsSmall row_file row_number rows → KindIs 5 d rows (by_reconstruct d rows)
   by_rows rows e few small = record {
     number = refl;
     dump = refl;
@@ -252,7 +252,7 @@ module _ (d : ℕ) where
     is = ((grind (arith, nat_tests), grind (arith, nat_tests)), record { few = few; rising = grind (arith, nat_tests); small = small });
   }
 
-kind_test : (how d : ℕ) (rows : List Row) → kind_fits how d rows ≡ true → length rows < 2 ^ 16 → AreSmall row_file row_number rows → KindIs how d rows (kind_of how d rows)
+kind_test : (how d : ℕ) (rows : List Row) → kind_fits how d rows ≡ true → length rows < 2 ^ 16 → ArePairsSmall row_file row_number rows → KindIs how d rows (kind_of how d rows)
 kind_test how d rows e few small = elim (cases_eq how 1) [
   | inl is ↦ subst (λ h. kind_fits h d rows ≡ true → KindIs h d rows (kind_of h d rows)) (sym is) (λ t. by_audit d 1 by_halt_load refl refl refl tt rows t) e
   | inr not_one ↦ elim (cases_eq how 2) [
@@ -275,7 +275,7 @@ kind_test how d rows e few small = elim (cases_eq how 1) [
 
 begin_from : (bytes : List ℕ) (n how dump rows : ℕ × List ℕ) (list : List ℕ × List ℕ) (x : Entry × List ℕ) → IsBytes bytes
     → number_first w64 bytes ≡ Some n → byte_first n.1 ≡ Some how → number_first w16 how.1 ≡ Some dump → number_first w16 dump.1 ≡ Some rows → bytes_first (8 * rows.0) rows.1 ≡ Some list
-    → cond (kind_fits how.0 dump.0 (rows_at rows.0 list.0)) (Some (begin_restore n.0 (kind_of how.0 dump.0 (rows_at rows.0 list.0)), list.1)) None ≡ Some x → Read 5 bytes x
+    → cond (kind_fits how.0 dump.0 (rows_at rows.0 list.0)) (Some (begin_restore n.0 (kind_of how.0 dump.0 (rows_at rows.0 list.0)), list.1)) None ≡ Some x → ReadsEntry 5 bytes x
 begin_from bytes n how dump rows list x fits e1 e2 e3 e4 e5 e6 =
     let a = number_takes w64 (2 ^ 64) wide64 bytes n fits e1 in
     let b = byte_takes n.1 how a.0.rest_fits e2 in
@@ -294,14 +294,14 @@ begin_from bytes n how dump rows list x fits e1 e2 e3 e4 e5 e6 =
     let r = to_be_bytes w16 rows.0 in
     let size : r ≡ to_be_bytes w16 (length (rows_of kind)) = ap (λ k. to_be_bytes w16 k) (sym ps.many ∙ ap length (sym t.named)) in
     let spelled : list.0 ≡ pair_bytes row_file row_number (rows_of kind) = sym ps.spelled ∙ ap (pair_bytes row_file row_number) (sym t.named) in
-    subst (λ x. Read 5 bytes x) g.1 (record {
+    subst (λ x. ReadsEntry 5 bytes x) g.1 (record {
       parts = ap (λ (l : List ℕ). 5 ∷ l) (whole.parts
           ∙ ap (λ (l : List ℕ). l ++ list.1) (append_assoc ((p ++ h) ++ u) r list.0 ∙ append_assoc (p ++ h) u (r ++ list.0) ∙ append_assoc p h (u ++ (r ++ list.0))
           ∙ (λ i. p ++ (sym t.number i ∷ (to_be_bytes w16 (sym t.dump i) ++ (size i ++ spelled i))))));
       is = (a.1, t.is);
     })
 
-pub begin_takes : (bytes : List ℕ) (x : Entry × List ℕ) → IsBytes bytes → begin_at bytes ≡ Some x → Read 5 bytes x
+pub begin_takes : (bytes : List ℕ) (x : Entry × List ℕ) → IsBytes bytes → begin_at bytes ≡ Some x → ReadsEntry 5 bytes x
 unfolding begin_at
 begin_takes bytes x fits e =
     let (n, e1, r1) = bind_some (number_first w64 bytes) _ x e in
@@ -311,7 +311,7 @@ begin_takes bytes x fits e =
     let (list, e5, r5) = bind_some (bytes_first (8 * rows.0) rows.1) _ x r4 in
     begin_from bytes n how dump rows list x fits e1 e2 e3 e4 e5 r5
 
-begin_again : (n how d : ℕ) (rs : List Row) (kind : Kind) (rest : List ℕ) → n < 2 ^ 64 → d < 2 ^ 16 → length rs < 2 ^ 16 → AreSmall row_file row_number rs → kind_fits how d rs ≡ true → kind_of how d rs ≡ kind
+begin_again : (n how d : ℕ) (rs : List Row) (kind : Kind) (rest : List ℕ) → n < 2 ^ 64 → d < 2 ^ 16 → length rs < 2 ^ 16 → ArePairsSmall row_file row_number rs → kind_fits how d rs ≡ true → kind_of how d rs ≡ kind
     → begin_at ((to_be_bytes w64 n ++ (how ∷ (to_be_bytes w16 d ++ (to_be_bytes w16 (length rs) ++ pair_bytes row_file row_number rs)))) ++ rest) ≡ Some (begin_restore n kind, rest)
 unfolding begin_at
 begin_again n how d rs kind rest number low few small fits is =
@@ -331,7 +331,7 @@ begin_again n how d rs kind rest number low few small fits is =
       is,
     ) refl
 
-kind_again : (n : ℕ) (kind : Kind) (rest : List ℕ) → n < 2 ^ 64 → IsKind kind
+kind_again : (n : ℕ) (kind : Kind) (rest : List ℕ) → n < 2 ^ 64 → IsRestoreKind kind
     → begin_at ((to_be_bytes w64 n ++ (how_number kind ∷ (to_be_bytes w16 (dump_of kind) ++ (to_be_bytes w16 (length (rows_of kind)) ++ pair_bytes row_file row_number (rows_of kind))))) ++ rest) ≡ Some (begin_restore n kind, rest)
 kind_again n by_halt_load rest number is = begin_again n 1 0 [] by_halt_load rest number (omega arith) (omega arith) tt refl refl
 kind_again n by_back_out rest number is = begin_again n 2 0 [] by_back_out rest number (omega arith) (omega arith) tt refl refl
@@ -340,17 +340,17 @@ kind_again n (by_rebuild d) rest number is = begin_again n 4 d [] (by_rebuild d)
 kind_again n (by_reconstruct d rs) rest number is = begin_again n 5 d rs (by_reconstruct d rs) rest number (omega (arith, is.0.1)) is.1.few is.1.small (let a = is.0.0 in let b = is.0.1 in let r = is.1.rising in grind (arith, nat_tests)) refl
 
 -- what is read from the front
-pub record Front (bytes : List ℕ) (x : Entry × List ℕ) : Type 0 where
+pub record BeginsWithEntry (bytes : List ℕ) (x : Entry × List ℕ) : Type 0 where
   pub parts : bytes ≡ spelling x.0 ++ x.1
   pub is : IsEntry x.0
 
-front_of : (kind : ℕ) (bytes : List ℕ) (x : Entry × List ℕ) (k : ℕ) → k ≡ kind → Read kind bytes x → Front (k ∷ bytes) x
+front_of : (kind : ℕ) (bytes : List ℕ) (x : Entry × List ℕ) (k : ℕ) → k ≡ kind → ReadsEntry kind bytes x → BeginsWithEntry (k ∷ bytes) x
 front_of kind bytes x k is read = record { parts = ap (λ j. j ∷ bytes) is ∙ read.parts; is = read.is }
 
 abbrev chosen : ℕ → List ℕ → Option (Entry × List ℕ)
 chosen k rest = cond (k == 1) (schema_at rest) (cond (k == 2) (image_at rest) (cond (k == 3) (quiet_at rest) (cond (k == 4) (control_at rest) (cond (k == 5) (begin_at rest) None))))
 
-pub entry_takes : (bytes : List ℕ) (x : Entry × List ℕ) → IsBytes bytes → entry_at bytes ≡ Some x → Front bytes x
+pub entry_takes : (bytes : List ℕ) (x : Entry × List ℕ) → IsBytes bytes → entry_at bytes ≡ Some x → BeginsWithEntry bytes x
 unfolding entry_at
 entry_takes [] x fits e = absurd cc
 entry_takes (k ∷ rest) x fits e = elim (cases_eq k 1) [
@@ -382,13 +382,13 @@ entry_again (quiet_point n) rest is = quiet_again n rest is
 entry_again (control_point n next cs) rest is = control_again n next cs rest is
 entry_again (begin_restore n kind) rest is = kind_again n kind rest is.0 is.1
 
-pub front_found : (bytes : List ℕ) (item : Entry) (rest : List ℕ) → Front bytes (item, rest) → IsEntry item × (take (length bytes - length rest) bytes ≡ spelling item) × (length bytes - length rest ≤ length bytes)
+pub front_found : (bytes : List ℕ) (item : Entry) (rest : List ℕ) → BeginsWithEntry bytes (item, rest) → IsEntry item × (take (length bytes - length rest) bytes ≡ spelling item) × (length bytes - length rest ≤ length bytes)
 front_found bytes item rest front =
     let long = length-append (spelling item) rest in
     let n : length (spelling item) ≡ length bytes - length rest = omega (arith, long, ap length front.parts) in
     (front.is, ap (λ (l : List ℕ). take (length bytes - length rest) l) front.parts ∙ take_at (spelling item) rest (length bytes - length rest) n, omega arith)
 
-pub front_short : (bytes : List ℕ) (item : Entry) (rest : List ℕ) → Front bytes (item, rest) → length rest ≤ length bytes
+pub front_short : (bytes : List ℕ) (item : Entry) (rest : List ℕ) → BeginsWithEntry bytes (item, rest) → length rest ≤ length bytes
 front_short bytes item rest front = omega (arith, length-append (spelling item) rest, ap length front.parts)
 
 pub front_only : (bytes : List ℕ) (item e : Entry) (rest more : List ℕ) → Some (item, rest) ≡ entry_at bytes → IsEntry e → bytes ≡ spelling e ++ more → (item ≡ e) × (length bytes - length rest ≡ length (spelling e))
@@ -404,7 +404,7 @@ pub none_only : (bytes : List ℕ) (e : Entry) (more : List ℕ) → entry_at by
 none_only bytes e more none is parts = absurd (some_not_none (e, more) (sym (ap entry_at parts ∙ entry_again e more is) ∙ none))
 
 -- what follows the entry
-pub front_rest : (bytes : List ℕ) (e : Entry) (rest : List ℕ) → Front bytes (e, rest) → drop (length bytes - length rest) bytes ≡ rest
+pub front_rest : (bytes : List ℕ) (e : Entry) (rest : List ℕ) → BeginsWithEntry bytes (e, rest) → drop (length bytes - length rest) bytes ≡ rest
 front_rest bytes e rest front =
     let long = length-append (spelling e) rest in
     let n : length (spelling e) ≡ length bytes - length rest = omega (arith, long, ap length front.parts) in

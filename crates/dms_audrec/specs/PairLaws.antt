@@ -5,14 +5,14 @@ use Rattle.std.specs.Int.{w32, to_be_bytes, from_be_bytes}
 use Rattle.dms_history.specs.declared.event.FileCount.{FileCount}
 use Rattle.dms_history.specs.declared.event.Row.{Row}
 use Rattle.dms_fields.specs.Prefix.{pairs_first}
-use Rattle.dms_audrec.specs.Spelling.{pair_bytes, AreSmall, count_file, count_blocks, row_file, row_number}
+use Rattle.dms_audrec.specs.Spelling.{pair_bytes, ArePairsSmall, count_file, count_blocks, row_file, row_number}
 use Rattle.dms_audrec.specs.Reading.{count_of, row_of, counts_at, rows_at}
 use Rattle.dms_fields.specs.PrefixLaws.{IsBytes, IsBytes-take, IsBytes-drop, wide32}
 
 -- the pairs that n times eight bytes spell
 pub record Pairs {A : Type 0} (one two : A → ℕ) (n : ℕ) (bytes : List ℕ) (xs : List A) : Type 0 where
   pub spelled : pair_bytes one two xs ≡ bytes
-  pub small : AreSmall one two xs
+  pub small : ArePairsSmall one two xs
   pub many : length xs ≡ n
 
 module _ {A : Type 0} (make : ℕ → ℕ → A) (one two : A → ℕ) (one-is : (a b : ℕ) → one (make a b) ≡ a) (two-is : (a b : ℕ) → two (make a b) ≡ b) (whole : (x : A) → make (one x) (two x) ≡ x) where
@@ -42,7 +42,7 @@ module _ {A : Type 0} (make : ℕ → ℕ → A) (one two : A → ℕ) (one-is :
   pairs_length (x ∷ xs) =
       omega (arith, length-append (to_be_bytes w32 (one x)) (to_be_bytes w32 (two x) ++ pair_bytes one two xs), length-append (to_be_bytes w32 (two x)) (pair_bytes one two xs), wide32.len (one x), wide32.len (two x), pairs_length xs)
 
-  pairs_again : (xs : List A) → AreSmall one two xs → pairs_first make (length xs) (pair_bytes one two xs) ≡ xs
+  pairs_again : (xs : List A) → ArePairsSmall one two xs → pairs_first make (length xs) (pair_bytes one two xs) ≡ xs
   pairs_again [] small = refl
   pairs_again (x ∷ xs) small =
       let p = to_be_bytes w32 (one x) in
@@ -94,7 +94,7 @@ counts_take n bytes len fits = pairs_take count_of count_file count_blocks (λ a
 pub counts_length : (xs : List FileCount) → length (pair_bytes count_file count_blocks xs) ≡ 8 * length xs
 counts_length xs = pairs_length count_of count_file count_blocks (λ a b. refl) (λ a b. refl) (λ x. refl) xs
 
-pub counts_again : (xs : List FileCount) → AreSmall count_file count_blocks xs → counts_at (length xs) (pair_bytes count_file count_blocks xs) ≡ xs
+pub counts_again : (xs : List FileCount) → ArePairsSmall count_file count_blocks xs → counts_at (length xs) (pair_bytes count_file count_blocks xs) ≡ xs
 unfolding counts_at
 counts_again xs small = pairs_again count_of count_file count_blocks (λ a b. refl) (λ a b. refl) (λ x. refl) xs small
 
@@ -105,7 +105,7 @@ rows_take n bytes len fits = pairs_take row_of row_file row_number (λ a b. refl
 pub rows_length : (xs : List Row) → length (pair_bytes row_file row_number xs) ≡ 8 * length xs
 rows_length xs = pairs_length row_of row_file row_number (λ a b. refl) (λ a b. refl) (λ x. refl) xs
 
-pub rows_again : (xs : List Row) → AreSmall row_file row_number xs → rows_at (length xs) (pair_bytes row_file row_number xs) ≡ xs
+pub rows_again : (xs : List Row) → ArePairsSmall row_file row_number xs → rows_at (length xs) (pair_bytes row_file row_number xs) ≡ xs
 unfolding rows_at
 rows_again xs small = pairs_again row_of row_file row_number (λ a b. refl) (λ a b. refl) (λ x. refl) xs small
 

@@ -74,11 +74,11 @@ rows_rise low [] = true
 rows_rise low (r ∷ rs) = nat_le 30001 r.file && (nat_le r.file 30200 && (nat_le low (r.file * 2 ^ 32 + r.row) && rows_rise (r.file * 2 ^ 32 + r.row + 1) rs))
 
 -- both numbers of each pair fit four bytes
-abbrev pub AreSmall : {A : Type 0} → (A → ℕ) → (A → ℕ) → List A → Type 0
-AreSmall one two [] = Unit {0}
-AreSmall one two (x ∷ xs) = (one x < 2 ^ 32) × (two x < 2 ^ 32) × AreSmall one two xs
+abbrev pub ArePairsSmall : {A : Type 0} → (A → ℕ) → (A → ℕ) → List A → Type 0
+ArePairsSmall one two [] = Unit {0}
+ArePairsSmall one two (x ∷ xs) = (one x < 2 ^ 32) × (two x < 2 ^ 32) × ArePairsSmall one two xs
 
-pub record IsSchema (part parts : ℕ) (bytes : List ℕ) : Type 0 where
+pub record IsSchemaSpelled (part parts : ℕ) (bytes : List ℕ) : Type 0 where
   pub some : 1 ≤ part
   pub within : part ≤ parts
   pub small : parts < 2 ^ 16
@@ -97,7 +97,7 @@ pub record IsControl (n next : ℕ) (counts : List FileCount) : Type 0 where
   pub next_number : next < 2 ^ 64
   pub few : length counts < 2 ^ 16
   pub rising : counts_rise 30001 counts ≡ true
-  pub small : AreSmall count_file count_blocks counts
+  pub small : ArePairsSmall count_file count_blocks counts
 
 abbrev pub IsDump : ℕ → Type 0
 IsDump d = (1 ≤ d) × (d ≤ 9999)
@@ -105,20 +105,20 @@ IsDump d = (1 ≤ d) × (d ≤ 9999)
 pub record AreRows (rows : List Row) : Type 0 where
   pub few : length rows < 2 ^ 16
   pub rising : rows_rise 0 rows ≡ true
-  pub small : AreSmall row_file row_number rows
+  pub small : ArePairsSmall row_file row_number rows
 
-abbrev pub IsKind : Kind → Type 0
-IsKind by_halt_load = Unit {0}
-IsKind by_back_out = Unit {0}
-IsKind by_roll_back = Unit {0}
-IsKind (by_rebuild d) = IsDump d
-IsKind (by_reconstruct d rows) = IsDump d × AreRows rows
+abbrev pub IsRestoreKind : Kind → Type 0
+IsRestoreKind by_halt_load = Unit {0}
+IsRestoreKind by_back_out = Unit {0}
+IsRestoreKind by_roll_back = Unit {0}
+IsRestoreKind (by_rebuild d) = IsDump d
+IsRestoreKind (by_reconstruct d rows) = IsDump d × AreRows rows
 
 -- what has a spelling
 abbrev pub IsEntry : Entry → Type 0
-IsEntry (schema_part part parts bytes) = IsSchema part parts bytes
+IsEntry (schema_part part parts bytes) = IsSchemaSpelled part parts bytes
 IsEntry (image f b before after) = IsImage f b before after
 IsEntry (byte_range f b place bytes) = ⊥
 IsEntry (quiet_point n) = n < 2 ^ 64
 IsEntry (control_point n next counts) = IsControl n next counts
-IsEntry (begin_restore n kind) = (n < 2 ^ 64) × IsKind kind
+IsEntry (begin_restore n kind) = (n < 2 ^ 64) × IsRestoreKind kind

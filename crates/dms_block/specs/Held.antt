@@ -53,7 +53,7 @@ pub record Held : Type 1 where
   pub said : Option (List ℕ)
   -- the quiet points so far, how many of them each stop leaves, and the one that `quiet` would make now
   pub points : List BlockPoint
-  pub sure : ℕ
+  pub durable : ℕ
   pub here : BlockPoint
   -- what stops may leave
   pub clock : Clock BlockStop
@@ -61,18 +61,18 @@ pub record Held : Type 1 where
   pub uses : Uses
 
 -- there is a number for one more quiet point
-abbrev pub Room : Held → Type 0
-Room h = h.next + 1 < 2 ^ 64
+abbrev pub HasNextNumber : Held → Type 0
+HasNextNumber h = h.next + 1 < 2 ^ 64
 
 -- where the points are told, and there is a number for one more
 abbrev pub IfTold : Held → Type 0 → Type 0
-IfTold h P = h.tells → Room h → P
+IfTold h P = h.tells → HasNextNumber h → P
 
--- The first so many of the points, not fewer than were made sure, and a next number that has fallen by no more than the points
+-- The first so many of the points, not fewer than were made durable, and a next number that has fallen by no more than the points
 -- that are missing. Where none is missing it hasn't fallen. The files are as promised.
-pub record Prefix (whole : (ℕ → List ℕ) → Type 0) (sure : ℕ) (points : List BlockPoint) (next : ℕ) (stop : BlockStop) : Type 0 where
+pub record Prefix (whole : (ℕ → List ℕ) → Type 0) (durable : ℕ) (points : List BlockPoint) (next : ℕ) (stop : BlockStop) : Type 0 where
   pub count : ℕ
-  pub enough : sure ≤ count
+  pub enough : durable ≤ count
   pub within : count ≤ length points
   pub is : stop.points ≡ take count points
   pub not_fallen : next + count ≤ stop.next + length points
@@ -88,11 +88,11 @@ TextGrows said bytes stop = (t : List ℕ) → said ≡ Some t → (n : ℕ) × 
 
 -- at each moment of a call that prints nothing
 abbrev pub Leaves : Held → Held → List BlockPoint → ℕ → Type 0
-Leaves a b points next = Runs a.clock b.clock (λ stop. Prefix a.whole a.sure points next stop × TextIs a.said stop)
+Leaves a b points next = Runs a.clock b.clock (λ stop. Prefix a.whole a.durable points next stop × TextIs a.said stop)
 
 -- at each moment of a call that prints these bytes
 abbrev pub LeavesText : Held → Held → List ℕ → Type 0
-LeavesText a b bytes = Runs a.clock b.clock (λ stop. Prefix a.whole a.sure a.points a.next stop × TextGrows a.said bytes stop)
+LeavesText a b bytes = Runs a.clock b.clock (λ stop. Prefix a.whole a.durable a.points a.next stop × TextGrows a.said bytes stop)
 
 -- the file is the object's and has the block, and where the content is told the block isn't 1,024 bytes long
 abbrev pub IsShort : Held → ℕ → ℕ → Type 0
@@ -134,20 +134,20 @@ pub record Lasts (a b : Held) : Type 0 where
   pub whole_on : (files : ℕ → List ℕ) → a.whole files → b.whole files
 
 -- whatever it answers, a call makes no point and prints nothing
-pub record Passes (a b : Held) : Type 0 where
+pub record MakesNoPoint (a b : Held) : Type 0 where
   pub lasts : Lasts a b
   pub next : b.next ≡ a.next
   pub said : b.said ≡ a.said
   pub leaves : IfTold a (Leaves a b a.points a.next)
 
--- the object is usable, goes back to the same blocks, and what is sure stays sure
+-- the object is usable, goes back to the same blocks, and what is durable stays durable
 pub record Stays (a b : Held) : Type 0 where
   pub sound : b.sound
   pub mark : IsTrue a.told → b.mark ≡ a.mark
-  pub points : IfTold a ((b.points ≡ a.points) × (a.sure ≤ b.sure))
+  pub points : IfTold a ((b.points ≡ a.points) × (a.durable ≤ b.durable))
 
 -- the blocks are as they were
-pub record Same (a b : Held) : Type 0 where
+pub record SameBlocks (a b : Held) : Type 0 where
   pub counts : b.counts ≡ a.counts
   pub content : IsTrue a.told → b.content ≡ a.content
 
@@ -187,41 +187,41 @@ pub record Used (n m : ℕ) (a b : Uses) : Type 0 where
 -- a call reads blocks alone, at most n of them, and needs no room in the audit
 pub record Looks {T : Type 0} (n : ℕ) (result : Result T BlockFault) (a b : Held) : Type 0 where
   pub not_full : NotFull result
-  pub passes : Passes a b
+  pub passes : MakesNoPoint a b
   pub stays : Unbroken result (Stays a b)
-  pub same : Unbroken result (Same a b)
+  pub same : Unbroken result (SameBlocks a b)
   pub counts : b.counts ≡ a.counts
   pub uses : Used n 0 a.uses b.uses
 
 -- a call may change blocks, at most m of them, and reads at most n; without memory it changes none
 pub record Alters {T : Type 0} (n m : ℕ) (result : Result T BlockFault) (a b : Held) : Type 0 where
-  pub passes : Passes a b
+  pub passes : MakesNoPoint a b
   pub stays : Unbroken result (Stays a b)
-  pub memory : IsErrOf result Memory → Same a b
+  pub memory : IsErrOf result Memory → SameBlocks a b
   pub uses : Used n m a.uses b.uses
 
 -- a quiet point was made
 pub record MadeQuiet (a b : Held) : Type 0 where
   pub sound : b.sound
-  pub next : Room a → b.next ≡ a.next + 1
-  pub same : Room a → Same a b
-  pub mark : Room a → IsTrue a.told → b.mark ≡ a.content
-  pub points : IfTold a ((b.points ≡ a.points ++ a.here ∷ []) × (a.sure ≤ b.sure))
+  pub next : HasNextNumber a → b.next ≡ a.next + 1
+  pub same : HasNextNumber a → SameBlocks a b
+  pub mark : HasNextNumber a → IsTrue a.told → b.mark ≡ a.content
+  pub points : IfTold a ((b.points ≡ a.points ++ a.here ∷ []) × (a.durable ≤ b.durable))
 
--- all quiet points are sure
-pub record MadeSure (a b : Held) : Type 0 where
+-- all quiet points are durable
+pub record MadeDurable (a b : Held) : Type 0 where
   pub sound : b.sound
-  pub same : Same a b
+  pub same : SameBlocks a b
   pub mark : IsTrue a.told → b.mark ≡ a.mark
   pub points : IfTold a (b.points ≡ a.points)
-  pub sure : IfTold a (b.sure ≡ length a.points)
+  pub durable : IfTold a (b.durable ≡ length a.points)
 
 -- What is told hangs together. The counts are those of the content. Where stops are told some outcome of a stop now is possible.
--- A stop now leaves the first so many points, at least those that are sure, and the text. A point that was made now has the next
+-- A stop now leaves the first so many points, at least those that are durable, and the text. A point that was made now has the next
 -- number and the content.
-pub record Agrees (h : Held) : Type 0 where
+pub record BlocksAgree (h : Held) : Type 0 where
   pub counted : IsTrue h.told → (f : ℕ) → h.counts f ≡ length (h.content f)
   pub may_stop : h.tells → (x : BlockStop) × Now h.clock x
-  pub stop : IfTold h ((x : BlockStop) → Now h.clock x → Prefix h.whole h.sure h.points h.next x × TextIs h.said x)
+  pub stop : IfTold h ((x : BlockStop) → Now h.clock x → Prefix h.whole h.durable h.points h.next x × TextIs h.said x)
   pub here : IfTold h ((h.here.number ≡ h.next) × (IsTrue h.told → h.here.blocks ≡ h.content))
-  pub sure : IfTold h (h.sure ≤ length h.points)
+  pub durable : IfTold h (h.durable ≤ length h.points)

@@ -9,7 +9,7 @@ use Rattle.dms_block.specs.declared.block_fault.BlockFault.TheVariants.{Disk, Me
 use Rattle.dms_block.specs.Content.{Content, block_in}
 use Rattle.dms_block.specs.Counts.{Faults, Raised}
 use Rattle.dms_block.specs.Faults.{NotFull, Unbroken}
-use Rattle.dms_block.specs.Held.{Held, BlockStop, BlockPoint, Prefix, TextIs, Lasts, Passes, Stays, Same, Room, Leaves, Looks, Alters, Uses, Used, Caused, CausedOr, HasCauses, HasCausesOr, IsShort}
+use Rattle.dms_block.specs.Held.{Held, BlockStop, BlockPoint, Prefix, TextIs, Lasts, MakesNoPoint, Stays, SameBlocks, HasNextNumber, Leaves, Looks, Alters, Uses, Used, Caused, CausedOr, HasCauses, HasCausesOr, IsShort}
 
 pub unbroken_map : {T : Type 0} {P Q : Type 0} (r : Result T BlockFault) → (P → Q) → Unbroken r P → Unbroken r Q
 unbroken_map (Ok x) f p = f p
@@ -40,37 +40,37 @@ lasts_none a = record { told = refl; tells = λ t. t; owns = refl; schema = refl
 pub lasts_on : {a b c : Held} → Lasts a b → Lasts b c → Lasts a c
 lasts_on p q = record { told = q.told ∙ p.told; tells = λ t. q.tells (p.tells t); owns = q.owns ∙ p.owns; schema = q.schema ∙ p.schema; whole = λ files w. p.whole files (q.whole files w); whole_on = λ files w. q.whole_on files (p.whole_on files w) }
 
-pub passes_none : (a : Held) → Passes a a
+pub passes_none : (a : Held) → MakesNoPoint a a
 passes_none a = record { lasts = lasts_none a; next = refl; said = refl; leaves = λ tells room. runs_none a.clock _ }
 
 pub stays_none : (a : Held) → a.sound → Stays a a
 stays_none a sound = record { sound = sound; mark = λ t. refl; points = λ t room. (refl, omega arith) }
 
-pub stays_on : {a b c : Held} → Passes a b → Stays a b → Stays b c → Stays a c
+pub stays_on : {a b c : Held} → MakesNoPoint a b → Stays a b → Stays b c → Stays a c
 stays_on pass p q = record {
   sound = q.sound;
   mark = λ t. q.mark (told_after pass.lasts t) ∙ p.mark t;
   points = λ t room. let one = p.points t room in let two = q.points (pass.lasts.tells t) (omega (arith, pass.next, room)) in (two.0 ∙ one.0, omega (arith, one.1, two.1));
 }
 
-pub same_none : (a : Held) → Same a a
+pub same_none : (a : Held) → SameBlocks a a
 same_none a = record { counts = refl; content = λ t. refl }
 
-pub same_on : {a b c : Held} → Lasts a b → Same a b → Same b c → Same a c
+pub same_on : {a b c : Held} → Lasts a b → SameBlocks a b → SameBlocks b c → SameBlocks a c
 same_on lasts p q = record { counts = q.counts ∙ p.counts; content = λ t. q.content (told_after lasts t) ∙ p.content t }
 
 -- what stops leave after calls that made no point
-prefix_still : (a b : Held) (points : List BlockPoint) (next : ℕ) (x : BlockStop) → Lasts a b → a.sure ≤ b.sure → Prefix b.whole b.sure points next x → Prefix a.whole a.sure points next x
+prefix_still : (a b : Held) (points : List BlockPoint) (next : ℕ) (x : BlockStop) → Lasts a b → a.durable ≤ b.durable → Prefix b.whole b.durable points next x → Prefix a.whole a.durable points next x
 prefix_still a b points next x lasts low p = record { count = p.count; enough = omega (arith, low, p.enough); within = p.within; is = p.is; not_fallen = p.not_fallen; whole_files = lasts.whole x.files p.whole_files }
 
 -- a call after calls that made no point
-pub leaves_on : (a b c : Held) (points : List BlockPoint) (next : ℕ) → Passes a b → Stays a b → a.tells → Room a
-    → ((x : BlockStop) → Prefix a.whole a.sure a.points a.next x → Prefix a.whole a.sure points next x) → Leaves b c points next → Leaves a c points next
+pub leaves_on : (a b c : Held) (points : List BlockPoint) (next : ℕ) → MakesNoPoint a b → Stays a b → a.tells → HasNextNumber a
+    → ((x : BlockStop) → Prefix a.whole a.durable a.points a.next x → Prefix a.whole a.durable points next x) → Leaves b c points next → Leaves a c points next
 leaves_on a b c points next pass stay t room wider run =
-    runs_on {P = λ stop. Prefix a.whole a.sure points next stop × TextIs a.said stop} (runs_weaken (pass.leaves t room) (λ x p. (wider x p.0, p.1))) run
+    runs_on {P = λ stop. Prefix a.whole a.durable points next stop × TextIs a.said stop} (runs_weaken (pass.leaves t room) (λ x p. (wider x p.0, p.1))) run
     (λ x p. (prefix_still a b points next x pass.lasts (stay.points t room).1 p.0, λ text e. p.1 text (pass.said ∙ e)))
 
-pub passes_on : {a b c : Held} → Passes a b → Stays a b → Passes b c → Passes a c
+pub passes_on : {a b c : Held} → MakesNoPoint a b → Stays a b → MakesNoPoint b c → MakesNoPoint a c
 passes_on {a} {b} {c} p stay q = record {
   lasts = lasts_on p.lasts q.lasts;
   next = q.next ∙ p.next;
@@ -124,7 +124,7 @@ not_full_err T U Say p = tt
 
 -- the same fault, handed on
 pub looks_err : {T U : Type 0} {n : ℕ} (e : BlockFault) {a b : Held} → Looks {T = T} n (Err e) a b → Looks {T = U} n (Err e) a b
-looks_err {T = T} {U = U} e {a} {b} p = record { not_full = not_full_err T U e p.not_full; passes = p.passes; stays = unbroken_err T U (Stays a b) e p.stays; same = unbroken_err T U (Same a b) e p.same; counts = p.counts; uses = p.uses }
+looks_err {T = T} {U = U} e {a} {b} p = record { not_full = not_full_err T U e p.not_full; passes = p.passes; stays = unbroken_err T U (Stays a b) e p.stays; same = unbroken_err T U (SameBlocks a b) e p.same; counts = p.counts; uses = p.uses }
 
 -- more reads were allowed
 pub looks_more : {T : Type 0} {m : ℕ} (n : ℕ) {r : Result T BlockFault} {a b : Held} → m ≤ n → Looks m r a b → Looks n r a b
@@ -160,7 +160,7 @@ alters_as y p = record { passes = p.passes; stays = p.stays; memory = λ e. absu
 
 -- causes
 
-pub short_on : {a b : Held} (f n : ℕ) → Lasts a b → Same a b → IsShort b f n → IsShort a f n
+pub short_on : {a b : Held} (f n : ℕ) → Lasts a b → SameBlocks a b → IsShort b f n → IsShort a f n
 short_on {a} {b} f n lasts same short = (
   subst (λ (owns : ℕ → Bool). IsTrue (owns f)) lasts.owns short.0,
   omega (arith, short.1, ap (λ (c : ℕ → ℕ). c f) same.counts),
@@ -170,7 +170,7 @@ short_on {a} {b} f n lasts same short = (
 counted_on : (e : BlockFault) (a b c : Faults) → b ≡ a → Raised e b c → Raised e a c
 counted_on e a b c is h = subst (λ f. Raised e f c) is h
 
-caused_on : (e : BlockFault) (a b c : Held) → b.faults ≡ a.faults → Lasts a b → Same a b → Caused e b c → Caused e a c
+caused_on : (e : BlockFault) (a b c : Held) → b.faults ≡ a.faults → Lasts a b → SameBlocks a b → Caused e b c → Caused e a c
 caused_on Disk a b c is lasts same h = counted_on Disk a.faults b.faults c.faults is h
 caused_on Memory a b c is lasts same h = counted_on Memory a.faults b.faults c.faults is h
 caused_on (Full f) a b c is lasts same h = counted_on (Full f) a.faults b.faults c.faults is h
@@ -178,11 +178,11 @@ caused_on (Damaged f n) a b c is lasts same h = (counted_on (Damaged f n) a.faul
 caused_on Say a b c is lasts same h = counted_on Say a.faults b.faults c.faults is h
 
 -- a call after calls that went well and changed no block
-pub causes_on : {T : Type 0} (r : Result T BlockFault) (a b c : Held) → b.faults ≡ a.faults → Lasts a b → Same a b → HasCauses r b c → HasCauses r a c
+pub causes_on : {T : Type 0} (r : Result T BlockFault) (a b c : Held) → b.faults ≡ a.faults → Lasts a b → SameBlocks a b → HasCauses r b c → HasCauses r a c
 causes_on (Ok x) a b c is lasts same h = h ∙ is
 causes_on (Err e) a b c is lasts same h = caused_on e a b c is lasts same h
 
-caused_or_on : (P Q : ℕ → ℕ → Type 0) (e : BlockFault) (a b c : Held) → ((f n : ℕ) → P f n → Q f n) → b.faults ≡ a.faults → Lasts a b → Same a b → CausedOr P e b c → CausedOr Q e a c
+caused_or_on : (P Q : ℕ → ℕ → Type 0) (e : BlockFault) (a b c : Held) → ((f n : ℕ) → P f n → Q f n) → b.faults ≡ a.faults → Lasts a b → SameBlocks a b → CausedOr P e b c → CausedOr Q e a c
 caused_or_on P Q Disk a b c w is lasts same h = caused_on Disk a b c is lasts same h
 caused_or_on P Q Memory a b c w is lasts same h = caused_on Memory a b c is lasts same h
 caused_or_on P Q (Full f) a b c w is lasts same h = caused_on (Full f) a b c is lasts same h
@@ -190,7 +190,7 @@ caused_or_on P Q (Damaged f n) a b c w is lasts same (inl h) = inl (caused_on (D
 caused_or_on P Q (Damaged f n) a b c w is lasts same (inr h) = inr (h.0 ∙ is, w f n h.1)
 caused_or_on P Q Say a b c w is lasts same h = h
 
-pub causes_or_on : {T : Type 0} (P Q : ℕ → ℕ → Type 0) (r : Result T BlockFault) (a b c : Held) → ((f n : ℕ) → P f n → Q f n) → b.faults ≡ a.faults → Lasts a b → Same a b → HasCausesOr P r b c → HasCausesOr Q r a c
+pub causes_or_on : {T : Type 0} (P Q : ℕ → ℕ → Type 0) (r : Result T BlockFault) (a b c : Held) → ((f n : ℕ) → P f n → Q f n) → b.faults ≡ a.faults → Lasts a b → SameBlocks a b → HasCausesOr P r b c → HasCausesOr Q r a c
 causes_or_on P Q (Ok x) a b c w is lasts same h = h ∙ is
 causes_or_on P Q (Err e) a b c w is lasts same h = caused_or_on P Q e a b c w is lasts same h
 

@@ -25,13 +25,13 @@ module _ {B : Type 0} {g : Ghosts B} where
   seen_counts o = grown (written o) (under o).counts
 
 -- a call reads through an overlay, at most n blocks
-pub record Reads {B : Type 0} {g : Ghosts B} {T : Type 0} (n : ℕ) (result : Result T BlockFault) (old new : Overlay B g) : Type 0 where
+pub record ReadsOverlay {B : Type 0} {g : Ghosts B} {T : Type 0} (n : ℕ) (result : Result T BlockFault) (old new : Overlay B g) : Type 0 where
   pub written_still : written new ≡ written old
   pub looks : Looks n result (under old) (under new)
   pub same : g.same_blocks old.below new.below
 
 -- a call writes into an overlay, at most m blocks, and reads at most n
-pub record Writes {B : Type 0} {g : Ghosts B} {T : Type 0} (n m : ℕ) (result : Result T BlockFault) (old new : Overlay B g) : Type 0 where
+pub record WritesOverlay {B : Type 0} {g : Ghosts B} {T : Type 0} (n m : ℕ) (result : Result T BlockFault) (old new : Overlay B g) : Type 0 where
   pub looks : Looks n result (under old) (under new)
   pub more : length (written new) ≤ length (written old) + m
   pub same : g.same_blocks old.below new.below

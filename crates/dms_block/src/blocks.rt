@@ -1,7 +1,7 @@
 ghost use Rattle.std.specs.Prelude.{◌≡◌, ◌≤◌, ◌<◌, ◌+◌, ◌^◌, ◌++◌, [], ◌∷◌, ℕ, IfOk, OnOk, IsErrOf, IsOkUnless, IsTrue, length, min, ◌-◌};
 ghost use Rattle.dms_block.specs.Content.{block_in, changed, grown, FitsIn};
-ghost use Rattle.dms_block.specs.Held.{Agrees, Alters, HasCauses, Held, IfTold, Lasts, Leaves, LeavesText, Looks, MadeQuiet, MadeSure, Passes, Room, Same, Stays, Synced, WentBack, one_more};
-ghost use Rattle.dms_block.specs.Texts.{Prints, PrintsFront};
+ghost use Rattle.dms_block.specs.Held.{BlocksAgree, Alters, HasCauses, Held, IfTold, Lasts, Leaves, LeavesText, Looks, MadeQuiet, MadeDurable, MakesNoPoint, HasNextNumber, SameBlocks, Stays, Synced, WentBack, one_more};
+ghost use Rattle.dms_block.specs.Texts.{Prints, PrintsPrefix};
 
 use crate::{Block, BlockFault, BlockId, Changes};
 use std::alloc::Global;
@@ -48,7 +48,7 @@ pub trait Blocks {
     /// Makes a quiet point, and answers its number. Takes no memory. Where the next number is 2^64 - 1 it stays so.
     fn quiet(&mut self) -> Result<u64, BlockFault>
         requires { (held self.old).sound }
-        ensures number { Room (held self.old) → IfOk result (λ n. n ≡ (held self.old).next) }
+        ensures number { HasNextNumber (held self.old) → IfOk result (λ n. n ≡ (held self.old).next) }
         ensures made { OnOk result (MadeQuiet (held self.old) (held self.new)) }
         ensures not_fallen { (held self.old).next ≤ (held self.new).next }
         ensures said { (held self.new).said ≡ (held self.old).said }
@@ -60,11 +60,11 @@ pub trait Blocks {
         ensures silent { IsErrOf result BlockFault.Say → ⊥ }
         ensures same { same_blocks self.old self.new };
 
-    /// Makes all quiet points so far sure. Takes no memory.
+    /// Makes all quiet points so far durable. Takes no memory.
     fn sync(&mut self) -> Result<(), BlockFault>
         requires { (held self.old).sound }
-        ensures made { OnOk result (MadeSure (held self.old) (held self.new)) }
-        ensures passes { Passes (held self.old) (held self.new) }
+        ensures made { OnOk result (MadeDurable (held self.old) (held self.new)) }
+        ensures passes { MakesNoPoint (held self.old) (held self.new) }
         ensures uses { Synced result (held self.old).uses (held self.new).uses }
         ensures memory { IsErrOf result BlockFault.Memory → ⊥ }
         ensures causes { HasCauses result (held self.old) (held self.new) }
@@ -76,7 +76,7 @@ pub trait Blocks {
         requires { (held self.old).sound }
         ensures content { OnOk result (IsTrue (held self.old).told → (held self.new).content ≡ (held self.old).mark) }
         ensures stays { OnOk result (Stays (held self.old) (held self.new)) }
-        ensures passes { Passes (held self.old) (held self.new) }
+        ensures passes { MakesNoPoint (held self.old) (held self.new) }
         ensures uses { WentBack result (held self.old).uses (held self.new).uses }
         ensures causes { HasCauses result (held self.old) (held self.new) }
         ensures silent { IsErrOf result BlockFault.Say → ⊥ }
@@ -86,9 +86,9 @@ pub trait Blocks {
     fn say(&mut self, bytes: &[u8]) -> Result<(), BlockFault>
         requires { (held self.old).sound }
         ensures text { OnOk result (Prints (held self.old).said (held self.new).said bytes.now) }
-        ensures part { PrintsFront (held self.old).said (held self.new).said bytes.now }
+        ensures part { PrintsPrefix (held self.old).said (held self.new).said bytes.now }
         ensures stays { OnOk result (Stays (held self.old) (held self.new)) }
-        ensures unchanged { OnOk result (Same (held self.old) (held self.new)) }
+        ensures unchanged { OnOk result (SameBlocks (held self.old) (held self.new)) }
         ensures next { (held self.new).next ≡ (held self.old).next }
         ensures leaves { IfTold (held self.old) (LeavesText (held self.old) (held self.new) bytes.now) }
         ensures lasts { Lasts (held self.old) (held self.new) }
@@ -98,7 +98,7 @@ pub trait Blocks {
         ensures same { same_blocks self.old self.new };
 
     /// What sound blocks tell hangs together.
-    ghost agrees: { (s : Self) → (held s).sound → Agrees (held s) };
+    ghost agrees: { (s : Self) → (held s).sound → BlocksAgree (held s) };
 
     ghost same_again: { (s : Self) → same_blocks s s };
 

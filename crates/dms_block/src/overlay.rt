@@ -30,7 +30,7 @@ impl<B: Blocks> Overlay<B> {
     ghost use Rattle.std.specs.Prelude.{◌≤◌, OnErr, OnOk, IsErrOf, IsTrue, length};
     ghost use Rattle.dms_block.specs.Content.{block_in, differing, with_block};
     ghost use Rattle.dms_block.specs.Held.{Alters, HasCauses};
-    ghost use Rattle.dms_block.specs.View.{Reads, seen, seen_counts, under, written};
+    ghost use Rattle.dms_block.specs.View.{ReadsOverlay, seen, seen_counts, under, written};
 
     /// Nothing is written yet.
     pub fn new(alloc: Global, below: B) -> Overlay<B>
@@ -59,7 +59,7 @@ impl<B: Blocks> Overlay<B> {
         requires sound { (under self.old).sound }
         requires there { id.block < seen_counts self.old id.file }
         ensures block { IfOk result (λ x. IsTrue (under self.old).told → x.0 ≡ block_in (seen self.old) id.file id.block) }
-        ensures reads { Reads 1 result self.old self.new }
+        ensures reads { ReadsOverlay 1 result self.old self.new }
         ensures causes { HasCauses result (under self.old) (under self.new) }
         ensures silent { IsErrOf result BlockFault.Say → ⊥ }
     {

@@ -22,7 +22,7 @@ pub record OnFile (i : ℕ) (step : List ℕ → List ℕ → Type 0) (old new :
   pub said : new.said ≡ old.said
 
 -- An empty file was made that no name led to, and this name, which led to none, may lead to it.
-pub record Makes (name : List ℕ) (i : ℕ) (old new : World) : Type 0 where
+pub record MakesFile (name : List ℕ) (i : ℕ) (old new : World) : Type 0 where
   pub empty : new.bytes i ≡ []
   pub others : (j : ℕ) → j ≢ i → new.bytes j ≡ old.bytes j
   pub free : (m : List ℕ) → old.names m ≢ Some i

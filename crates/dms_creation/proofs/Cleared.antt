@@ -5,7 +5,7 @@ use Rattle.dms_moments.specs.Moments.{Clock, Steps}
 use Rattle.dms_moments.specs.MomentLaws.{runs_none, steps_on, steps_weaken}
 use Rattle.dms_site.specs.Files.{Files, Left, IsLastPresent, OnDisk, Same, with_file}
 use Rattle.dms_site.specs.Laws.{with_file_here, with_file_other}
-use Rattle.dms_creation.specs.Clearing.{Keeps, KeepsOutside, IsApart}
+use Rattle.dms_creation.specs.Clearing.{KeepsApart, KeepsOutside, IsApart}
 
 pub cut_absent : (old mid new : Files) (low high n : ℕ) → IsLastPresent old low high n → mid ≡ old → new ≡ with_file mid n (take 0 (mid n)) → (g : ℕ) → low ≤ g → g ≤ high → n ≤ g → new g ≡ []
 cut_absent old mid new low high n last same cut g from upto order = elim (cases_eq g n) [
@@ -13,14 +13,14 @@ cut_absent old mid new low high n last same cut g from upto order = elim (cases_
   | inr other ↦ ap (λ (l : Files). l g) cut ∙ with_file_other mid n (take 0 (mid n)) g other ∙ ap (λ (l : Files). l g) same ∙ last.absent g from upto (omega (arith, order, other))
 ]
 
-pub keeps_still : (a : Clock Left) → Steps Keeps a a
+pub keeps_still : (a : Clock Left) → Steps KeepsApart a a
 keeps_still a = record { follows = λ x now. (x, now, record { apart = λ g a. refl; said = refl }); runs = runs_none a _ }
 
-pub keeps_then : {a b c : Clock Left} → Steps Keeps a b → Steps Keeps b c → Steps Keeps a c
+pub keeps_then : {a b c : Clock Left} → Steps KeepsApart a b → Steps KeepsApart b c → Steps KeepsApart a c
 keeps_then one two = steps_on one two (λ z y x was now first then. record { apart = λ g a. then.apart g a ∙ first.apart g a; said = then.said ∙ first.said }) (λ z x now first. first)
 
 -- a call that looks
-pub keeps_same : {a b : Clock Left} → Steps Same a b → Steps Keeps a b
+pub keeps_same : {a b : Clock Left} → Steps Same a b → Steps KeepsApart a b
 keeps_same looks = steps_weaken looks (λ z x now same. record { apart = λ g a. ap (λ (l : Left). l.files g) same; said = ap (λ (l : Left). l.said) same })
 
 -- a range of audit files, dumps or structure files
@@ -40,7 +40,7 @@ pub not_first : (g : ℕ) → IsApart g → g ≢ 10001
 not_first g a = elim (apart_audit g a) [ inl low ↦ omega (arith, low) | inr high ↦ omega (arith, high) ]
 
 -- the header of the first audit file
-pub keeps_first : {a b : Clock Left} {step : List ℕ → List ℕ → Type 0} → Steps (OnDisk 10001 step) a b → Steps Keeps a b
+pub keeps_first : {a b : Clock Left} {step : List ℕ → List ℕ → Type 0} → Steps (OnDisk 10001 step) a b → Steps KeepsApart a b
 keeps_first steps = steps_weaken steps (λ z x now on. record { apart = λ g a. on.files.others g (not_first g a); said = on.said })
 
 -- ---- steps in one range
@@ -67,5 +67,5 @@ out_cut low high f from upto looks cuts =
     not_it : (g : ℕ) → (g < low) ⊎ (high < g) → g ≢ f
     not_it g out = elim out [ inl before ↦ omega (arith, before, from) | inr behind ↦ omega (arith, behind, upto) ]
 
-pub keeps_out : (low high : ℕ) {a b : Clock Left} → 10001 ≤ low → high ≤ 30200 → (high < 30000) ⊎ (30000 < low) → Steps (KeepsOutside low high) a b → Steps Keeps a b
+pub keeps_out : (low high : ℕ) {a b : Clock Left} → 10001 ≤ low → high ≤ 30200 → (high < 30000) ⊎ (30000 < low) → Steps (KeepsOutside low high) a b → Steps KeepsApart a b
 keeps_out low high from upto gap steps = steps_weaken steps (λ z x now out. record { apart = λ g a. out.others g (apart_out low high g from upto gap a); said = out.said })

@@ -7,21 +7,21 @@ use Rattle.dms_site.specs.Files.{Files, Left}
 use Rattle.dms_history.specs.Entries.{Entry}
 use Rattle.dms_audfile.specs.Trail.{trail_from}
 use Rattle.dms_audfile.specs.TrailEntries.{trail_entries}
-use Rattle.dms_audfile.specs.Sealing.{Writes}
-use Rattle.dms_audfile.specs.Ends.{EndsAt, AreFilled, Grown, Seals, Appends}
+use Rattle.dms_audfile.specs.Sealing.{IsWrittenUpTo}
+use Rattle.dms_audfile.specs.Ends.{EndsAt, AllHoldAnEntry, Grown, Seals, Appends}
 use Rattle.dms_audfile.specs.EndLaws.{filled_on}
 use Rattle.dms_audfile.specs.declared.audit_end.AuditEnd.{AuditEnd}
-use Rattle.dms_creation.specs.Clearing.{Keeps, IsClear, ApartStay}
+use Rattle.dms_creation.specs.Clearing.{KeepsApart, IsClear, ApartStay}
 use Rattle.dms_creation.specs.Laid.{Laid}
 use Rattle.dms_creation.proofs.Cleared.{apart_audit, not_first}
-use Rattle.dms_creation.specs.Creation.{IsTrail}
+use Rattle.dms_creation.specs.Creation.{IsFirstTrail}
 
-pub keeps_sealing : (total tag : ℕ) (es : List Entry) {a b : Clock Left} → Steps (Seals total tag 10001 es) a b → Steps Keeps a b
+pub keeps_sealing : (total tag : ℕ) (es : List Entry) {a b : Clock Left} → Steps (Seals total tag 10001 es) a b → Steps KeepsApart a b
 keeps_sealing total tag es steps = steps_weaken steps (λ z x now s. record { apart = λ g a. elim (apart_audit g a) [ inl low ↦ s.below g low | inr high ↦ s.above g high ]; said = s.said })
 
-filled_more : (total t : ℕ) (old files : Files) → t ≡ total → AreFilled (trail_from 10000 total 10001 old) → Grown t 10001 old files → AreFilled (trail_from 10000 t 10001 files)
+filled_more : (total t : ℕ) (old files : Files) → t ≡ total → AllHoldAnEntry (trail_from 10000 total 10001 old) → Grown t 10001 old files → AllHoldAnEntry (trail_from 10000 t 10001 files)
 filled_more total t old files same filled grown =
-    subst (λ (l : List (List ℕ)). AreFilled l) (sym grown.trail) (filled_on (trail_from 10000 t 10001 old) grown.made (subst (λ k. AreFilled (trail_from 10000 k 10001 old)) (sym same) filled) grown.filled)
+    subst (λ (l : List (List ℕ)). AllHoldAnEntry l) (sym grown.trail) (filled_on (trail_from 10000 t 10001 old) grown.made (subst (λ k. AllHoldAnEntry (trail_from 10000 k 10001 old)) (sym same) filled) grown.filled)
 
 -- one entry more
 pub laid_more : (end new : AuditEnd) (entries : List Entry) (e : Entry) (start : Files) (old files : Files) (a b : Clock Left) (l : Laid end entries start old a) → Appends new 10001 (l.waiting ++ e ∷ []) old files b → new.total ≡ end.total → end.file ≤ new.file
@@ -53,7 +53,7 @@ laid_first total end old files clock ends trail entries same others clear front 
   ends = ends;
   plain = tt;
   all = append-nil (trail_entries end.total 10001 files) ∙ ap (λ t. trail_entries t 10001 files) same ∙ entries;
-  filled = subst (λ (l : List (List ℕ)). AreFilled l) (sym (ap (λ t. trail_from 10000 t 10001 files) same ∙ trail)) tt;
+  filled = subst (λ (l : List (List ℕ)). AllHoldAnEntry l) (sym (ap (λ t. trail_from 10000 t 10001 files) same ∙ trail)) tt;
   behind = λ g far high. others g (omega (arith, far, front)) ∙ clear.audit g (omega (arith, far, front)) high;
   dumps = λ g low high. others g (omega (arith, low)) ∙ clear.dumps g low high;
   structures = λ g low high. others g (omega (arith, low)) ∙ clear.structures g low high;
@@ -67,14 +67,14 @@ module _ (end new : AuditEnd) (entries : List Entry) (start : Files) (old files 
   pub stands_apart : ApartStay start files
   stands_apart g a = elim (apart_audit g a) [ inl low ↦ before g (omega (arith, low, end.low)) ∙ l.apart g a | inr high ↦ behind g (omega (arith, high, new.high)) ∙ l.apart g a ]
 
-  pub stands_all : (tag blocks : ℕ) → new.tag ≡ tag → end.total ≡ blocks → IsTrail tag blocks entries files
+  pub stands_all : (tag blocks : ℕ) → new.tag ≡ tag → end.total ≡ blocks → IsFirstTrail tag blocks entries files
   stands_all tag blocks marked wide = record {
     file = new.file;
     count = new.count;
-    writes = subst (λ t. Writes blocks t 10001 new.file new.count files) marked (subst (λ t. Writes t new.tag 10001 new.file new.count files) (total ∙ wide) ends.writes);
+    writes = subst (λ t. IsWrittenUpTo blocks t 10001 new.file new.count files) marked (subst (λ t. IsWrittenUpTo t new.tag 10001 new.file new.count files) (total ∙ wide) ends.writes);
     high = new.high;
     exactly = subst (λ t. trail_entries t 10001 files ≡ entries) wide (sealed ∙ l.all);
-    filled = subst (λ t. AreFilled (trail_from 10000 t 10001 files)) wide (filled_more end.total end.total old files refl l.filled grown);
+    filled = subst (λ t. AllHoldAnEntry (trail_from 10000 t 10001 files)) wide (filled_more end.total end.total old files refl l.filled grown);
     behind = λ g far high. behind g far ∙ l.behind g (omega (arith, far, order)) high;
     dumps = λ g low high. behind g (omega (arith, low, new.high)) ∙ l.dumps g low high;
     structures = λ g low high. behind g (omega (arith, low, new.high)) ∙ l.structures g low high;

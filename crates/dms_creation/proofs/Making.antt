@@ -23,14 +23,14 @@ use Rattle.dms_audrec.specs.Spelling.{pair_bytes, count_file, count_blocks}
 use Rattle.dms_audrec.specs.Reading.{counts_at}
 use Rattle.dms_audfile.specs.Trail.{trail_from}
 use Rattle.dms_audfile.specs.TrailEntries.{entries_in, trail_entries}
-use Rattle.dms_audfile.specs.Ends.{AreFilled}
+use Rattle.dms_audfile.specs.Ends.{AllHoldAnEntry}
 use Rattle.dms_audfile.proofs.Several.{trail_same}
 use Rattle.dms_audfile.proofs.Gates.{stands_full}
 use Rattle.dms_audfile.proofs.Growing.{writes_same}
-use Rattle.dms_creation.specs.Clearing.{Keeps, IsApart, ApartStay, OthersStay}
+use Rattle.dms_creation.specs.Clearing.{KeepsApart, IsApart, ApartStay, AllButDescriptionStay}
 use Rattle.dms_creation.specs.FirstEntries.{bodies, zero_counts, first_entries}
-use Rattle.dms_creation.specs.Creation.{IsGate, IsTrail, IsReady, IsMade, IsShut, IsCreation, Initializes}
-use Rattle.dms_creation.specs.Plans.{Planned, HasRoom}
+use Rattle.dms_creation.specs.Creation.{IsGate, IsFirstTrail, IsReady, IsMade, IsShut, IsCreation, Initializes}
+use Rattle.dms_creation.specs.Plans.{Planned, HasShutDatabaseGate}
 use Rattle.dms_creation.proofs.Parts.{counts_read, counts_size}
 
 -- ---- the gate of the database
@@ -71,7 +71,7 @@ only_gate old new long torn is =
 
 -- ---- a trail that stays
 
-pub trail_kept : (tag total : ℕ) (entries : List Entry) (y x : Files) → ((g : ℕ) → g ≢ 1 → x g ≡ y g) → IsTrail tag total entries y → IsTrail tag total entries x
+pub trail_kept : (tag total : ℕ) (entries : List Entry) (y x : Files) → ((g : ℕ) → g ≢ 1 → x g ≡ y g) → IsFirstTrail tag total entries y → IsFirstTrail tag total entries x
 unfolding trail_entries
 trail_kept tag total entries y x same t =
     let trail : trail_from 10000 total 10001 x ≡ trail_from 10000 total 10001 y =
@@ -82,7 +82,7 @@ trail_kept tag total entries y x same t =
       writes = writes_same total tag 10001 t.file t.count y x t.writes (λ g low high. same g (omega (arith, low)));
       high = t.high;
       exactly = ap entries_in trail ∙ t.exactly;
-      filled = subst (λ (l : List (List ℕ)). AreFilled l) (sym trail) t.filled;
+      filled = subst (λ (l : List (List ℕ)). AllHoldAnEntry l) (sym trail) t.filled;
       behind = λ g far high. same g (omega (arith, far, t.writes.order)) ∙ t.behind g far high;
       dumps = λ g low high. same g (omega (arith, low)) ∙ t.dumps g low high;
       structures = λ g low high. same g (omega (arith, low)) ∙ t.structures g low high;
@@ -98,9 +98,9 @@ first_are n bytes counts d few is spelled counted =
     λ i. schema_entries (bodies (spelled i)) ++ control_point 0 1 (read i) ∷ []
 
 pub ready_of : (tag total n : ℕ) (bytes counts : List ℕ) (old : Files) (d : Described) (files : Files) → n ≤ 200 → counts ≡ pair_bytes count_file count_blocks (zero_counts n 1) → total ≡ d.blocks → bytes ≡ spelling d
-    → counts ≡ pair_bytes count_file count_blocks (zero_counts (length d.structures) 1) → ApartStay old files → IsTrail tag total (schema_entries (bodies bytes) ++ control_point 0 1 (counts_at (length counts / 8) counts) ∷ []) files → IsReady tag d old files
+    → counts ≡ pair_bytes count_file count_blocks (zero_counts (length d.structures) 1) → ApartStay old files → IsFirstTrail tag total (schema_entries (bodies bytes) ++ control_point 0 1 (counts_at (length counts / 8) counts) ∷ []) files → IsReady tag d old files
 ready_of tag total n bytes counts old d files few is wide spelled counted apart t =
-    record { apart = apart; trail = subst (λ (es : List Entry). IsTrail tag d.blocks es files) (first_are n bytes counts d few is spelled counted) (subst (λ k. IsTrail tag k (schema_entries (bodies bytes) ++ control_point 0 1 (counts_at (length counts / 8) counts) ∷ []) files) wide t) }
+    record { apart = apart; trail = subst (λ (es : List Entry). IsFirstTrail tag d.blocks es files) (first_are n bytes counts d few is spelled counted) (subst (λ k. IsFirstTrail tag k (schema_entries (bodies bytes) ++ control_point 0 1 (counts_at (length counts / 8) counts) ∷ []) files) wide t) }
 
 -- ---- stop by stop
 
@@ -110,7 +110,7 @@ one_apart = inl (omega arith)
 looked : (tag : ℕ) (d : Described) (old : Files) (a : Clock Left) (y x : Left) → Now a y → x ≡ y → Now a x
 looked tag d old a y x now same = subst (λ (z : Left). Now a z) (sym same) now
 
-shut_at : (tag : ℕ) (d : Described) (old : Files) (y x : Left) → HasRoom (old 1) → y.files ≡ old → Keeps y x → IsCreation tag d old x
+shut_at : (tag : ℕ) (d : Described) (old : Files) (y x : Left) → HasShutDatabaseGate (old 1) → y.files ≡ old → KeepsApart y x → IsCreation tag d old x
 shut_at tag d old y x room from k =
     let stay : ApartStay old x.files = λ g a. k.apart g a ∙ ap (λ (l : Files). l g) from in
     let here : IsShut (old 1) (old 1) = record { shut = room.shut; long = refl; bytes = λ i within other. refl } in
@@ -132,7 +132,7 @@ still_shut old new long torn not = record {
 gated_at : (tag : ℕ) (d : Described) (old mid : Files) (y x : Left) → 2 ≤ length (old 1) → y.files ≡ mid → IsReady tag d old mid → OnDisk 1 (Torn 1 1) y x → IsCreation tag d old x
 gated_at tag d old mid y x long from r step =
     let torn : Torn 1 1 (old 1) (x.files 1) = subst (λ (l : List ℕ). Torn 1 1 l (x.files 1)) (ap (λ (l : Files). l 1) from ∙ r.apart 1 one_apart) step.files.here in
-    let stay : OthersStay old x.files = λ g a other. step.files.others g other ∙ ap (λ (l : Files). l g) from ∙ r.apart g a in
+    let stay : AllButDescriptionStay old x.files = λ g a other. step.files.others g other ∙ ap (λ (l : Files). l g) from ∙ r.apart g a in
     elim (cases_eq (get_or (x.files 1) 1 0) 1) [
       | inr not ↦ inl (record { here = still_shut (old 1) (x.files 1) long torn not; others = stay })
       | inl is ↦ inr (record {
@@ -142,11 +142,11 @@ gated_at tag d old mid y x long from r step =
       })
     ]
 
-pub made_early : (tag : ℕ) (d : Described) (old : Files) (a b c : Clock Left) → HasRoom (old 1) → Steps Same a b → Only old b → Steps Keeps b c → Initializes tag d old a c
+pub made_early : (tag : ℕ) (d : Described) (old : Files) (a b c : Clock Left) → HasShutDatabaseGate (old 1) → Steps Same a b → Only old b → Steps KeepsApart b c → Initializes tag d old a c
 made_early tag d old a b c room looks only keeps =
     runs_step (runs_weaken looks.runs (λ x after. inl (looked tag d old a after.0 x after.1 after.2))) keeps (λ y x now k. inr (shut_at tag d old y x room (only y now) k))
 
-pub made_all : (tag : ℕ) (d : Described) (old mid : Files) (a b c e : Clock Left) → HasRoom (old 1) → Steps Same a b → Only old b → Steps Keeps b c → Only mid c → IsReady tag d old mid → Steps (OnDisk 1 (Torn 1 1)) c e → Initializes tag d old a e
+pub made_all : (tag : ℕ) (d : Described) (old mid : Files) (a b c e : Clock Left) → HasShutDatabaseGate (old 1) → Steps Same a b → Only old b → Steps KeepsApart b c → Only mid c → IsReady tag d old mid → Steps (OnDisk 1 (Torn 1 1)) c e → Initializes tag d old a e
 made_all tag d old mid a b c e room looks only keeps settled r gate =
     runs_step (made_early tag d old a b c room looks only keeps) gate (λ y x now step. inr (gated_at tag d old mid y x room.long (settled y now) r step))
 
@@ -200,10 +200,10 @@ planned_by file plan desc d sealed read bytes total counts =
     }
 
 -- behind what only looks
-pub initializes_after : (tag mark : ℕ) (d : Described) (old mid : Files) (a b c : Clock Left) → tag ≡ mark → mid ≡ old → Steps Same a b → (HasRoom (mid 1) → Initializes tag d mid b c) → HasRoom (old 1) → Initializes mark d old a c
+pub initializes_after : (tag mark : ℕ) (d : Described) (old mid : Files) (a b c : Clock Left) → tag ≡ mark → mid ≡ old → Steps Same a b → (HasShutDatabaseGate (mid 1) → Initializes tag d mid b c) → HasShutDatabaseGate (old 1) → Initializes mark d old a c
 initializes_after tag mark d old mid a b c marked same looks makes room =
     let run : Initializes mark d old b c =
-    subst (λ (l : Files). Initializes mark d l b c) same (subst (λ t. Initializes t d mid b c) marked (makes (subst (λ (l : Files). HasRoom (l 1)) (sym same) room))) in
+    subst (λ (l : Files). Initializes mark d l b c) same (subst (λ t. Initializes t d mid b c) marked (makes (subst (λ (l : Files). HasShutDatabaseGate (l 1)) (sym same) room))) in
     runs_on (only_looked mark d old a b looks) run (λ x made. weaker x made)
   where
     weaker : (x : Left) → Now b x ⊎ IsCreation mark d old x → Now a x ⊎ IsCreation mark d old x

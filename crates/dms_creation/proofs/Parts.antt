@@ -10,7 +10,7 @@ use Rattle.dms_audrec.specs.Reading.{counts_at}
 use Rattle.dms_history.specs.declared.event.FileCount.{FileCount}
 use Rattle.dms_history.specs.Entries.{Entry, schema_part, control_point}
 use Rattle.dms_history.specs.Schemas.{parts_of_schema, schema_entries}
-use Rattle.dms_audrec.specs.Spelling.{spelling, pair_bytes, count_file, count_blocks, counts_rise, AreSmall, IsControl}
+use Rattle.dms_audrec.specs.Spelling.{spelling, pair_bytes, count_file, count_blocks, counts_rise, ArePairsSmall, IsControl}
 use Rattle.dms_creation.specs.FirstEntries.{bodies_of, part_count, bodies, zero_counts}
 use Rattle.dms_creation.specs.Laid.{parts_upto}
 
@@ -85,7 +85,7 @@ zero_length : (n k : ℕ) → length (zero_counts n k) ≡ n
 zero_length zero k = refl
 zero_length (suc n) k = ap suc (zero_length n (k + 1))
 
-small_zero : (n k : ℕ) → k + n ≤ 201 → AreSmall count_file count_blocks (zero_counts n k)
+small_zero : (n k : ℕ) → k + n ≤ 201 → ArePairsSmall count_file count_blocks (zero_counts n k)
 small_zero zero k few = tt
 small_zero (suc n) k few =
     let wide : 30000 + k < 2 ^ 32 = omega (arith, few) in

@@ -11,11 +11,11 @@ abbrev pub ApartStay : Files → Files → Type 0
 ApartStay old new = (g : ℕ) → IsApart g → new g ≡ old g
 
 -- they stay, the description file left out
-abbrev pub OthersStay : Files → Files → Type 0
-OthersStay old new = (g : ℕ) → IsApart g → g ≢ 1 → new g ≡ old g
+abbrev pub AllButDescriptionStay : Files → Files → Type 0
+AllButDescriptionStay old new = (g : ℕ) → IsApart g → g ≢ 1 → new g ≡ old g
 
 -- the files that are no audit file, dump or structure file stay, and so does the text
-pub record Keeps (old new : Left) : Type 0 where
+pub record KeepsApart (old new : Left) : Type 0 where
   pub apart : ApartStay old.files new.files
   pub said : new.said ≡ old.said
 

@@ -4,11 +4,11 @@ use Rattle.dms_history.specs.Entries.{Entry}
 use Rattle.dms_moments.specs.Moments.{Clock, Now, Runs}
 use Rattle.dms_desc.specs.Shape.{Described}
 use Rattle.dms_site.specs.Files.{Files, Left, overlaid}
-use Rattle.dms_audfile.specs.Sealing.{Writes}
+use Rattle.dms_audfile.specs.Sealing.{IsWrittenUpTo}
 use Rattle.dms_audfile.specs.Trail.{trail_from}
 use Rattle.dms_audfile.specs.TrailEntries.{trail_entries}
-use Rattle.dms_audfile.specs.Ends.{AreFilled}
-use Rattle.dms_creation.specs.Clearing.{Cleared, ApartStay, OthersStay}
+use Rattle.dms_audfile.specs.Ends.{AllHoldAnEntry}
+use Rattle.dms_creation.specs.Clearing.{Cleared, ApartStay, AllButDescriptionStay}
 use Rattle.dms_creation.specs.FirstEntries.{first_entries}
 
 -- the description file with the database's gate open, its other bytes as they were
@@ -23,13 +23,13 @@ pub record IsGate (is_open : Bool) (file : List ℕ) : Type 0 where
 -- The trail of a new database stands: it begins with audit file 1, with so many blocks a file and that tag, and is exactly these
 -- entries, in blocks each of which is in its grammar and holds one. No audit file is present behind it, and no dump and no
 -- structure file is.
-pub record IsTrail (tag total : ℕ) (entries : List Entry) (files : Files) : Type 0 where
+pub record IsFirstTrail (tag total : ℕ) (entries : List Entry) (files : Files) : Type 0 where
   pub file : ℕ
   pub count : ℕ
-  pub writes : Writes total tag 10001 file count files
+  pub writes : IsWrittenUpTo total tag 10001 file count files
   pub high : file ≤ 20000
   pub exactly : trail_entries total 10001 files ≡ entries
-  pub filled : AreFilled (trail_from 10000 total 10001 files)
+  pub filled : AllHoldAnEntry (trail_from 10000 total 10001 files)
   pub behind : (g : ℕ) → file < g → g ≤ 20000 → files g ≡ []
   pub dumps : Cleared 20001 29999 files
   pub structures : Cleared 30001 30200 files
@@ -37,14 +37,14 @@ pub record IsTrail (tag total : ℕ) (entries : List Entry) (files : Files) : Ty
 -- All but the gate of a new database stands. Each file that is no audit file, dump or structure file is as in `old`.
 pub record IsReady (tag : ℕ) (d : Described) (old files : Files) : Type 0 where
   pub apart : ApartStay old files
-  pub trail : IsTrail tag d.blocks (first_entries d) files
+  pub trail : IsFirstTrail tag d.blocks (first_entries d) files
 
 -- The new database of a description, made of these files: the gate of the database is open in the description file, and its trail
 -- stands. Each other file that is no audit file, dump or structure file is as it was.
 pub record IsMade (tag : ℕ) (d : Described) (old files : Files) : Type 0 where
   pub here : files 1 ≡ gate_open (old 1)
-  pub trail : IsTrail tag d.blocks (first_entries d) files
-  pub others : OthersStay old files
+  pub trail : IsFirstTrail tag d.blocks (first_entries d) files
+  pub others : AllButDescriptionStay old files
 
 -- a description file in which the gate of the database isn't open, and that is otherwise this one
 pub record IsShut (one file : List ℕ) : Type 0 where
@@ -55,7 +55,7 @@ pub record IsShut (one file : List ℕ) : Type 0 where
 -- no database stands, and no file but the gate, the audit files, the dumps and the structure files is another than in `old`
 pub record IsUnmade (old files : Files) : Type 0 where
   pub here : IsShut (old 1) (files 1)
-  pub others : OthersStay old files
+  pub others : AllButDescriptionStay old files
 
 -- no database, since its gate isn't open in the description file, or exactly the new one
 abbrev pub IsCreation : ℕ → Described → Files → Left → Type 0

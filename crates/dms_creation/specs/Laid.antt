@@ -3,10 +3,10 @@ use Rattle.std.specs.Prelude.{ℕ, zero, suc, ◌+◌, ◌*◌, ◌<◌, ◌≤�
 use Rattle.dms_moments.specs.Moments.{Clock}
 use Rattle.dms_site.specs.Files.{Files, Left}
 use Rattle.dms_history.specs.Entries.{Entry, schema_part}
-use Rattle.dms_audfile.specs.BlockLaws.{ArePlain}
+use Rattle.dms_audfile.specs.BlockLaws.{AreNoBegins}
 use Rattle.dms_audfile.specs.Trail.{trail_from}
 use Rattle.dms_audfile.specs.TrailEntries.{trail_entries}
-use Rattle.dms_audfile.specs.Ends.{EndsAt, AreFilled}
+use Rattle.dms_audfile.specs.Ends.{EndsAt, AllHoldAnEntry}
 use Rattle.dms_audfile.specs.declared.audit_end.AuditEnd.{AuditEnd}
 use Rattle.dms_creation.specs.Clearing.{Cleared, ApartStay}
 
@@ -21,9 +21,9 @@ parts_upto all (suc n) bytes = parts_upto all n bytes ++ schema_part (n + 1) all
 pub record Laid (end : AuditEnd) (entries : List Entry) (old files : Files) (clock : Clock Left) : Type 0 where
   pub waiting : List Entry
   pub ends : EndsAt end 10001 waiting files clock
-  pub plain : ArePlain waiting
+  pub plain : AreNoBegins waiting
   pub all : trail_entries end.total 10001 files ++ waiting ≡ entries
-  pub filled : AreFilled (trail_from 10000 end.total 10001 files)
+  pub filled : AllHoldAnEntry (trail_from 10000 end.total 10001 files)
   pub behind : (g : ℕ) → end.file < g → g ≤ 20000 → files g ≡ []
   pub dumps : Cleared 20001 29999 files
   pub structures : Cleared 30001 30200 files

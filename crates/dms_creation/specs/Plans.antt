@@ -13,6 +13,6 @@ pub record Planned (plan : Plan) (d : Described) : Type 0 where
   pub counts : plan.counts ≡ pair_bytes count_file count_blocks (zero_counts (length d.structures) 1)
 
 -- a description file that has the gate of a database, which isn't open
-pub record HasRoom (file : List ℕ) : Type 0 where
+pub record HasShutDatabaseGate (file : List ℕ) : Type 0 where
   pub long : 2 ≤ length file
   pub shut : slice_index file 1 ≢ 1

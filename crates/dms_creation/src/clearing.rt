@@ -3,7 +3,7 @@
 ghost use Rattle.std.specs.Prelude.{◌≡◌, ◌≢◌, ◌⊎◌, ◌+◌, ◌^◌, ◌<◌, ◌≤◌, ℕ, [], IfOk, OnOk, IsTrue};
 ghost use Rattle.dms_base.specs.Causes.{HasCause};
 ghost use Rattle.dms_moments.specs.Moments.{Steps};
-ghost use Rattle.dms_creation.specs.Clearing.{Keeps, KeepsOutside, Cleared, IsClear, ApartStay};
+ghost use Rattle.dms_creation.specs.Clearing.{KeepsApart, KeepsOutside, Cleared, IsClear, ApartStay};
 
 use dms_site::{Failed, Site};
 
@@ -53,7 +53,7 @@ fn clear_range<S: Site>(site: &mut S, low: u32, high: u32) -> Result<(), Failed>
 pub(crate) fn clear_old<S: Site>(site: &mut S) -> Result<(), Failed>
     ensures clear { OnOk result (IsTrue S.tells → IsClear (S.files site.new)) }
     ensures apart { OnOk result (IsTrue S.tells → ApartStay (S.files site.old) (S.files site.new)) }
-    ensures moments { Steps Keeps (S.clock site.old) (S.clock site.new) }
+    ensures moments { Steps KeepsApart (S.clock site.old) (S.clock site.new) }
     ensures said { S.said site.new ≡ S.said site.old }
     ensures same_site { S.same_site site.old site.new }
     ensures faults { HasCause (S.disk_faults site.old) (S.disk_faults site.new) result }

@@ -10,10 +10,10 @@ ghost use Rattle.dms_audrec.specs.Reading.{counts_at};
 ghost use Rattle.dms_audrec.specs.Spelling.{spelling, IsEntry, IsControl};
 ghost use Rattle.dms_audrec.specs.Seen.{entry_seen};
 ghost use Rattle.dms_audfile.specs.Blocks.{is_begin};
-ghost use Rattle.dms_creation.specs.Clearing.{Keeps, IsClear, ApartStay};
+ghost use Rattle.dms_creation.specs.Clearing.{KeepsApart, IsClear, ApartStay};
 ghost use Rattle.dms_creation.specs.FirstEntries.{part_count, bodies};
 ghost use Rattle.dms_creation.specs.Laid.{Laid};
-ghost use Rattle.dms_creation.specs.Creation.{IsTrail};
+ghost use Rattle.dms_creation.specs.Creation.{IsFirstTrail};
 
 use dms_audfile::AuditEnd;
 use dms_audrec::Entry;
@@ -27,7 +27,7 @@ fn lay_entry<S: Site>(end: &mut AuditEnd, site: &mut S, entry: &Entry<'_>) -> Re
     requires near { end.old.file ≤ 15000 }
     requires limit { end.old.limit ≡ 9999 }
     ensures moments { IsTrue S.tells → (entries : List meaning.Entry) (old : Files) → Laid end.old entries old (S.files site.old) (S.clock site.old)
-        → Steps Keeps (S.clock site.old) (S.clock site.new) }
+        → Steps KeepsApart (S.clock site.old) (S.clock site.new) }
     ensures laid { OnOk result (IsTrue S.tells → (entries : List meaning.Entry) (old : Files) → Laid end.old entries old (S.files site.old) (S.clock site.old)
         → Laid end.new (entries ++ entry_seen entry.now ∷ []) old (S.files site.new) (S.clock site.new)) }
     ensures kind { (end.new.total ≡ end.old.total) × (end.new.tag ≡ end.old.tag) × (end.new.limit ≡ end.old.limit) }
@@ -67,7 +67,7 @@ fn lay_parts<S: Site>(end: &mut AuditEnd, site: &mut S, bytes: &[u8]) -> Result<
     requires near { end.old.file ≤ 10001 }
     requires limit { end.old.limit ≡ 9999 }
     ensures moments { IsTrue S.tells → (old : Files) → Laid end.old [] old (S.files site.old) (S.clock site.old)
-        → Steps Keeps (S.clock site.old) (S.clock site.new) }
+        → Steps KeepsApart (S.clock site.old) (S.clock site.new) }
     ensures laid { OnOk result (IsTrue S.tells → (old : Files) → Laid end.old [] old (S.files site.old) (S.clock site.old)
         → Laid end.new (schema_entries (bodies bytes.now)) old (S.files site.new) (S.clock site.new)) }
     ensures kind { (end.new.total ≡ end.old.total) × (end.new.tag ≡ end.old.tag) × (end.new.limit ≡ end.old.limit) }
@@ -104,9 +104,9 @@ pub(crate) fn lay_trail<S: Site>(
     requires empty { end.old.used ≡ 0 }
     requires control { IsControl 0 1 (counts_at (length counts.now / 8) counts.now) }
     requires size { length counts.now ≤ 1600 }
-    ensures moments { IsTrue S.tells → IsClear (S.files site.old) → Steps Keeps (S.clock site.old) (S.clock site.new) }
+    ensures moments { IsTrue S.tells → IsClear (S.files site.old) → Steps KeepsApart (S.clock site.old) (S.clock site.new) }
     ensures stands { OnOk result (IsTrue S.tells → IsClear (S.files site.old)
-        → IsTrail end.old.tag end.old.total (schema_entries (bodies bytes.now) ++ meaning.control_point 0 1 (counts_at (length counts.now / 8) counts.now) ∷ []) (S.files site.new)) }
+        → IsFirstTrail end.old.tag end.old.total (schema_entries (bodies bytes.now) ++ meaning.control_point 0 1 (counts_at (length counts.now / 8) counts.now) ∷ []) (S.files site.new)) }
     ensures apart { OnOk result (IsTrue S.tells → IsClear (S.files site.old) → ApartStay (S.files site.old) (S.files site.new)) }
     ensures durable { OnOk result (IsTrue S.tells → Only (S.files site.new) (S.clock site.new)) }
     ensures said { S.said site.new ≡ S.said site.old }

@@ -5,7 +5,7 @@ use Rattle.std.proofs.lemmas.Bool.{cases_eq}
 use Rattle.std.specs.Int.{w32, to_be_bytes}
 use Rattle.dms_moments.specs.Moments.{Clock, Now, Steps}
 use Rattle.dms_moments.specs.MomentLaws.{steps_on, runs_none, runs_on, runs_weaken}
-use Rattle.dms_site.specs.Files.{Files, Left, Torn, Cut, OnDisk, Only, Prints, Same, with_file, overlaid, padded}
+use Rattle.dms_site.specs.Files.{Files, Left, Torn, Cut, OnDisk, Only, PrintsPartOf, Same, with_file, overlaid, padded}
 use Rattle.dms_site.specs.Laws.{with_file_here}
 use Rattle.dms_descfile.specs.DescriptionFile.{description_file, IsUnsealed}
 use Rattle.dms_descfile.specs.Becoming.{Shuts, Becoming, IsCreated, Creates}
@@ -182,14 +182,14 @@ creates_behind made files mid {a} {b} {c} same first then =
       | inr other ↦ inr other
     ])
 
-said_over : (made text : List ℕ) (files : Files) (y x : Left) → IsCreated made files y → Prints text y x → IsCreated made files x
+said_over : (made text : List ℕ) (files : Files) (y x : Left) → IsCreated made files y → PrintsPartOf text y x → IsCreated made files x
 said_over made text files y x is step = record {
   here = subst (λ (l : Files). IsUnsealed (l 1) ⊎ (l 1 ≡ made)) (sym step.files) is.here;
   others = λ g ne. ap (λ (l : Files). l g) step.files ∙ is.others g ne;
 }
 
 -- a text that is printed once the description file is made
-pub creates_said : (made text : List ℕ) (files mid : Files) {a b c : Clock Left} → Creates made files a b → Only mid b → mid 1 ≡ made → ((g : ℕ) → g ≢ 1 → mid g ≡ files g) → Steps (Prints text) b c → Creates made files a c
+pub creates_said : (made text : List ℕ) (files mid : Files) {a b c : Clock Left} → Creates made files a b → Only mid b → mid 1 ≡ made → ((g : ℕ) → g ≢ 1 → mid g ≡ files g) → Steps (PrintsPartOf text) b c → Creates made files a c
 creates_said made text files mid first only is others then = runs_on first then.runs (λ x after.
     let y = after.0 in
     let same : y.files ≡ mid = only y after.1 in

@@ -12,7 +12,7 @@ use Rattle.dms_desc_bytes.specs.Spelling.{spelling}
 use Rattle.dms_desc_bytes.specs.Decoding.{Decodes}
 use Rattle.dms_site.specs.Files.{range}
 use Rattle.dms_descfile.specs.DescriptionFile.{description_file, IsUnsealed, Holds}
-use Rattle.dms_descfile.specs.Contents.{Content}
+use Rattle.dms_descfile.specs.Contents.{HasContent}
 
 -- a file whose length is that of no description file
 pub odd_unsealed : (file : List ℕ) → (length file < 6) ⊎ (65541 < length file) → IsUnsealed file
@@ -23,11 +23,11 @@ odd_unsealed file odd d s = elim odd [
 ]
 
 -- no content stands in a file that is too short, or whose gate isn't open
-pub short_none : (file bytes : List ℕ) → length file < 6 → Content file bytes → ⊥
+pub short_none : (file bytes : List ℕ) → length file < 6 → HasContent file bytes → ⊥
 unfolding description_file
 short_none file bytes short c = omega (arith, short, ap length c.is)
 
-pub closed_none : (file bytes : List ℕ) → get_or file 0 0 ≢ 1 → Content file bytes → ⊥
+pub closed_none : (file bytes : List ℕ) → get_or file 0 0 ≢ 1 → HasContent file bytes → ⊥
 unfolding description_file
 closed_none file bytes closed c = closed (ap (λ (l : List ℕ). get_or l 0 0) c.is)
 
@@ -59,7 +59,7 @@ at_head (a ∷ b ∷ c ∷ d ∷ e ∷ f ∷ rest) r content long gate is field 
     λ i. gate i ∷ b ∷ head i ++ sym is i
 
 -- the gate is open and the length is right
-pub found : (file r content : List ℕ) → 6 ≤ length file → get_or file 0 0 ≡ 1 → content ≡ take (length file - 6) (drop 6 file) → r ≡ to_be_bytes w32 (length content) → false ≡ not (bytes_eq (take 4 (drop 2 file)) r) → Content file content
+pub found : (file r content : List ℕ) → 6 ≤ length file → get_or file 0 0 ≡ 1 → content ≡ take (length file - 6) (drop 6 file) → r ≡ to_be_bytes w32 (length content) → false ≡ not (bytes_eq (take 4 (drop 2 file)) r) → HasContent file content
 found file r content long gate is field test = record {
   database = get_or file 1 0;
   is = at_head file r content long gate (is ∙ rest_of file) field ((bytes_eq-Decides (take 4 (drop 2 file)) r).0 (by_not (bytes_eq (take 4 (drop 2 file)) r) test));
@@ -74,7 +74,7 @@ unfolding description_file
 content_of gate database bytes file is = ap (λ (l : List ℕ). drop 6 l) is
 
 -- the length is wrong
-pub wrong_none : (file r content bytes : List ℕ) → content ≡ take (length file - 6) (drop 6 file) → r ≡ to_be_bytes w32 (length content) → true ≡ not (bytes_eq (take 4 (drop 2 file)) r) → Content file bytes → ⊥
+pub wrong_none : (file r content bytes : List ℕ) → content ≡ take (length file - 6) (drop 6 file) → r ≡ to_be_bytes w32 (length content) → true ≡ not (bytes_eq (take 4 (drop 2 file)) r) → HasContent file bytes → ⊥
 wrong_none file r content bytes is field test c =
     let same : content ≡ bytes = is ∙ rest_of file ∙ content_of 1 c.database bytes file c.is in
     let right : take 4 (drop 2 file) ≡ r = field_of c.database bytes file c.is ∙ ap (λ (l : List ℕ). to_be_bytes w32 (length l)) (sym same) ∙ sym field in
@@ -85,7 +85,7 @@ unfolding description_file
 length_of gate database bytes file is = omega (arith, ap length is)
 
 -- what the content spells is what the file holds
-pub holds_of : (file content : List ℕ) (read : Option Description) → Content file content → Decodes content read → length file ≤ 65541 → Holds file read
+pub holds_of : (file content : List ℕ) (read : Option Description) → HasContent file content → Decodes content read → length file ≤ 65541 → Holds file read
 holds_of file content None c decodes few = λ d s.
     decodes d s.well_formed (sym (content_of 1 s.database (spelling d) file s.is) ∙ content_of 1 c.database content file c.is)
 holds_of file content (Some d) c decodes few = record {

@@ -5,7 +5,7 @@ ghost use Rattle.dms_site.specs.Files.{Same};
 ghost use Rattle.dms_desc.specs.Shape.{described};
 ghost use Rattle.dms_desc_bytes.specs.WellFormed.{IsWellFormed};
 ghost use Rattle.dms_descfile.specs.DescriptionFile.{Holds};
-ghost use Rattle.dms_descfile.specs.Contents.{Contents, Reads};
+ghost use Rattle.dms_descfile.specs.Contents.{Contents, ReadsFile};
 
 use crate::FileFault;
 use dms_base::Memory;
@@ -55,7 +55,7 @@ fn description_in(alloc: Global, file: &[u8]) -> Result<Option<Description>, Mem
 
 /// The bytes of the description file; None where its length is that of no description file.
 fn file_bytes<S: Site>(alloc: Global, site: &mut S) -> Result<Option<Vec<u8>>, FileFault>
-    ensures read { IfOk result (λ found. IsTrue S.tells → Reads (S.files site.old 1) (option_map (λ v. v.items) found)) }
+    ensures read { IfOk result (λ found. IsTrue S.tells → ReadsFile (S.files site.old 1) (option_map (λ v. v.items) found)) }
     ensures bound { IfOk result (λ found. IfSome found (λ v. length v.items ≤ 65541)) }
     ensures files { IsTrue S.tells → S.files site.new ≡ S.files site.old }
     ensures said { S.said site.new ≡ S.said site.old }

@@ -12,9 +12,9 @@ abbrev pub Feeds : List ℕ → Option (List ℕ) → List ℕ → Option (List 
 Feeds held left held' left' byte = (all : List ℕ) → Remains held left all → (byte ≡ slice_get all 0) × Remains held' left' (drop 1 all)
 
 -- the same remains, and more is held now, or nothing only at the end
-abbrev pub Fills : List ℕ → Option (List ℕ) → List ℕ → Option (List ℕ) → Type 0
-Fills held left held' left' = (all : List ℕ) → Remains held left all → Remains held' left' all × (held' ≡ [] → all ≡ [])
+abbrev pub TakesMore : List ℕ → Option (List ℕ) → List ℕ → Option (List ℕ) → Type 0
+TakesMore held left held' left' = (all : List ℕ) → Remains held left all → Remains held' left' all × (held' ≡ [] → all ≡ [])
 
 -- taking failed: nothing is held, and what remained is still left
-abbrev pub Fails : List ℕ → Option (List ℕ) → List ℕ → Option (List ℕ) → Type 0
-Fails held left held' left' = (held' ≡ []) × ((all : List ℕ) → Remains held left all → left' ≡ Some all)
+abbrev pub TakingFails : List ℕ → Option (List ℕ) → List ℕ → Option (List ℕ) → Type 0
+TakingFails held left held' left' = (held' ≡ []) × ((all : List ℕ) → Remains held left all → left' ≡ Some all)

@@ -1,6 +1,6 @@
 ghost use Rattle.std.specs.Prelude.{◌≡◌, ◌≤◌, ◌<◌, [], IfOk, OnOk, OnErr};
 ghost use Rattle.dms_base.specs.Causes.{HasCause};
-ghost use Rattle.dms_feed.specs.Feeds.{Feeds, Fills, Fails};
+ghost use Rattle.dms_feed.specs.Feeds.{Feeds, TakesMore, TakingFails};
 
 use dms_site::{Failed, Source};
 use std::marker::Model;
@@ -37,8 +37,8 @@ impl Feed {
 
     /// Takes bytes where none is held. At a fault what remained still remains.
     fn fill<I: Source>(&mut self, source: &mut I) -> Result<(), Failed>
-        ensures fills { OnOk result (Fills self.old (I.left source.old) self.new (I.left source.new)) }
-        ensures fails { OnErr result (Fails self.old (I.left source.old) self.new (I.left source.new)) }
+        ensures fills { OnOk result (TakesMore self.old (I.left source.old) self.new (I.left source.new)) }
+        ensures fails { OnErr result (TakingFails self.old (I.left source.old) self.new (I.left source.new)) }
         ensures same { I.same_source source.old source.new }
         ensures cause { HasCause (I.faults source.old) (I.faults source.new) result }
     {
@@ -54,7 +54,7 @@ impl Feed {
     /// The next byte of what is held and then of the source, or none at the end. At a fault what remained still remains.
     pub fn next<I: Source>(&mut self, source: &mut I) -> Result<Option<u8>, Failed>
         ensures byte { IfOk result (Feeds self.old (I.left source.old) self.new (I.left source.new)) }
-        ensures fails { OnErr result (Fails self.old (I.left source.old) self.new (I.left source.new)) }
+        ensures fails { OnErr result (TakingFails self.old (I.left source.old) self.new (I.left source.new)) }
         ensures same { I.same_source source.old source.new }
         ensures cause { HasCause (I.faults source.old) (I.faults source.new) result }
     {

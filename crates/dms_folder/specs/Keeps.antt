@@ -4,11 +4,11 @@ use Rattle.std.specs.Prelude.{slice_get, slice_set}
 use Rattle.std.proofs.lemmas.Option.{same_Some, none-some}
 use Rattle.std.proofs.lemmas.Bool.{false≢true, cases_lt}
 use Rattle.dms_moments.specs.Moments.{Clock, Now, Steps}
-use Rattle.dms_calls.specs.World.{World, Unchanged, OnFile, Makes, StableFile}
+use Rattle.dms_calls.specs.World.{World, Unchanged, OnFile, MakesFile, StableFile}
 use Rattle.dms_folder.specs.declared.opened.Opened.{Opened}
 use Rattle.dms_calls.specs.Names.{name_of}
 use Rattle.dms_folder.specs.NameLaws.{name_inj}
-use Rattle.dms_folder.specs.Kept.{Kept, StableAt, Untouched}
+use Rattle.dms_folder.specs.Kept.{KeepsFolder, StableAt, Untouched}
 use Rattle.dms_folder.specs.Places.{get_set_same, get_set_other, get_push, get_push_in}
 
 -- equal or not
@@ -26,7 +26,7 @@ pub stable_same : {v w : World} {a b : Clock World} (n : ℕ) → StableAt v a n
 stable_same {v} {w} {a} {b} n stable same step = subst (λ (w : World). StableAt w b n) (sym same) (λ i is y now. stable i is y (no_new step y now))
 
 -- nothing is open, and nothing known to be stable
-pub kept_begun : {H : Type 0} (file : H → ℕ) (opened : List (Opened H)) (w : World) (c : Clock World) → opened ≡ [] → Kept file opened true false w c
+pub kept_begun : {H : Type 0} (file : H → ℕ) (opened : List (Opened H)) (w : World) (c : Clock World) → opened ≡ [] → KeepsFolder file opened true false w c
 kept_begun file opened w c none = record {
   named = λ k o is. absurd (none-some o (ap (λ (l : List (Opened _)). slice_get l k) (sym none) ∙ is));
   names = λ known. absurd (false≢true (sym known));
@@ -35,9 +35,9 @@ kept_begun file opened w c none = record {
 
 module _ {H : Type 0} {file : H → ℕ} {opened : List (Opened H)} {made synced : Bool} {w : World} {c : Clock World} where
   -- a call that changes nothing
-  pub kept_same : {w' : World} {c' : Clock World} → Kept file opened made synced w c → w' ≡ w → Steps Unchanged c c' → Kept file opened made synced w' c'
+  pub kept_same : {w' : World} {c' : Clock World} → KeepsFolder file opened made synced w c → w' ≡ w → Steps Unchanged c c' → KeepsFolder file opened made synced w' c'
   kept_same {w'} {c'} kept same step =
-      subst (λ (v : World). Kept file opened made synced v c') (sym same)
+      subst (λ (v : World). KeepsFolder file opened made synced v c') (sym same)
       (record {
         named = kept.named;
         names = λ none v now. kept.names none v (no_new step v now);
@@ -45,8 +45,8 @@ module _ {H : Type 0} {file : H → ℕ} {opened : List (Opened H)} {made synced
       })
 
   -- an open file is marked as touched
-  pub kept_touched : Kept file opened made synced w c → (k : ℕ) (o : Opened H) → slice_get opened k ≡ Some o → k < length opened
-      → Kept file (slice_set opened k (record { number = o.number; file = o.file; touched = true })) made synced w c
+  pub kept_touched : KeepsFolder file opened made synced w c → (k : ℕ) (o : Opened H) → slice_get opened k ≡ Some o → k < length opened
+      → KeepsFolder file (slice_set opened k (record { number = o.number; file = o.file; touched = true })) made synced w c
   kept_touched kept k o is within = record {
     named = λ j p at. ⊎_elim
         (λ e. let q : slice_get (slice_set opened k t) k ≡ Some p = subst (λ (j : ℕ). slice_get (slice_set opened k t) j ≡ Some p) e at in
@@ -66,11 +66,11 @@ module _ {H : Type 0} {file : H → ℕ} {opened : List (Opened H)} {made synced
       t = record { number = o.number; file = o.file; touched = true }
 
   -- the bytes of an open file are stable, and its mark is taken away
-  pub kept_cleared : {w' : World} {c' : Clock World} → Kept file opened made synced w c → (k : ℕ) (o : Opened H) → slice_get opened k ≡ Some o → k < length opened
+  pub kept_cleared : {w' : World} {c' : Clock World} → KeepsFolder file opened made synced w c → (k : ℕ) (o : Opened H) → slice_get opened k ≡ Some o → k < length opened
       → w' ≡ w → Steps Unchanged c c' → StableFile (file o.file) (w.bytes (file o.file)) c'
-      → Kept file (slice_set opened k (record { number = o.number; file = o.file; touched = false })) made synced w' c'
+      → KeepsFolder file (slice_set opened k (record { number = o.number; file = o.file; touched = false })) made synced w' c'
   kept_cleared {w'} {c'} kept k o is within same step stable =
-      subst (λ (v : World). Kept file (slice_set opened k t) made synced v c') (sym same)
+      subst (λ (v : World). KeepsFolder file (slice_set opened k t) made synced v c') (sym same)
       (record {
         named = λ j p at. ⊎_elim
             (λ e. let q : slice_get (slice_set opened k t) k ≡ Some p = subst (λ (j : ℕ). slice_get (slice_set opened k t) j ≡ Some p) e at in
@@ -95,8 +95,8 @@ module _ {H : Type 0} {file : H → ℕ} {opened : List (Opened H)} {made synced
       t = record { number = o.number; file = o.file; touched = false }
 
   -- the first open file is shut, which isn't touched
-  pub kept_dropped : {rest : List (Opened H)} → Kept file opened made synced w c → ((k : ℕ) → slice_get rest k ≡ slice_get opened (suc k))
-      → ((o : Opened H) → slice_get opened 0 ≡ Some o → o.touched ≡ false) → Kept file rest made synced w c
+  pub kept_dropped : {rest : List (Opened H)} → KeepsFolder file opened made synced w c → ((k : ℕ) → slice_get rest k ≡ slice_get opened (suc k))
+      → ((o : Opened H) → slice_get opened 0 ≡ Some o → o.touched ≡ false) → KeepsFolder file rest made synced w c
   kept_dropped {rest} kept moved first = record {
     named = λ k o is. kept.named (suc k) o (sym (moved k) ∙ is);
     names = kept.names;
@@ -108,7 +108,7 @@ module _ {H : Type 0} {file : H → ℕ} {opened : List (Opened H)} {made synced
       below un (suc k) o is number = un k o (moved k ∙ is) number
 
   -- one more file is open
-  pub kept_pushed : Kept file opened made synced w c → (o : Opened H) → w.names (name_of o.number) ≡ Some (file o.file) → Kept file (opened ++ o ∷ []) made synced w c
+  pub kept_pushed : KeepsFolder file opened made synced w c → (o : Opened H) → w.names (name_of o.number) ≡ Some (file o.file) → KeepsFolder file (opened ++ o ∷ []) made synced w c
   kept_pushed kept o leads = record {
     named = λ k p is. ⊎_elim (λ old. kept.named k p old) (λ e. subst (λ (p : Opened H). w.names (name_of p.number) ≡ Some (file p.file)) (sym e) leads) (get_push opened o k p is);
     names = kept.names;
@@ -116,8 +116,8 @@ module _ {H : Type 0} {file : H → ℕ} {opened : List (Opened H)} {made synced
   }
 
   -- a file is made: its name isn't stable
-  pub kept_made : {w' : World} {c' : Clock World} → Kept file opened made synced w c → (f i : ℕ) → f < 2 ^ 32 → w.names (name_of f) ≡ None
-      → Makes (name_of f) i w w' → Steps (Makes (name_of f) i) c c' → Kept file opened true synced w' c'
+  pub kept_made : {w' : World} {c' : Clock World} → KeepsFolder file opened made synced w c → (f i : ℕ) → f < 2 ^ 32 → w.names (name_of f) ≡ None
+      → MakesFile (name_of f) i w w' → Steps (MakesFile (name_of f) i) c c' → KeepsFolder file opened true synced w' c'
   kept_made {w'} {c'} kept f i small absent makes step = record {
     named = λ k o is. makes.names (name_of o.number) (λ e. none-some (file o.file) (sym absent ∙ ap (λ (m : List ℕ). w.names m) (sym e) ∙ kept.named k o is)) ∙ kept.named k o is;
     names = λ none. absurd (false≢true (sym none));
@@ -138,9 +138,9 @@ module _ {H : Type 0} {file : H → ℕ} {opened : List (Opened H)} {made synced
           (same_or_not n f)
 
   -- a file that is open and touched is written or cut
-  pub kept_written : {step : List ℕ → List ℕ → Type 0} {w' : World} {c' : Clock World} → Kept file opened made synced w c → (k f i : ℕ) (o : Opened H)
+  pub kept_written : {step : List ℕ → List ℕ → Type 0} {w' : World} {c' : Clock World} → KeepsFolder file opened made synced w c → (k f i : ℕ) (o : Opened H)
       → slice_get opened k ≡ Some o → o.number ≡ f → o.touched ≡ true → w.names (name_of f) ≡ Some i → ((g : ℕ) → g < 2 ^ 32 → w.names (name_of g) ≡ Some i → g ≡ f)
-      → OnFile i step w w' → Steps (OnFile i step) c c' → Kept file opened made synced w' c'
+      → OnFile i step w w' → Steps (OnFile i step) c c' → KeepsFolder file opened made synced w' c'
   kept_written {step} {w'} {c'} kept k f i o is number touched leads own moved call = record {
     named = λ j p at. moved.names (name_of p.number) ∙ kept.named j p at;
     names = λ none v now m. let y = call.follows v now in y.2.names m ∙ kept.names none y.0 y.1 m ∙ sym (moved.names m);
@@ -152,5 +152,5 @@ module _ {H : Type 0} {file : H → ℕ} {opened : List (Opened H)} {made synced
   }
 
   -- each file was synced
-  pub kept_known : Kept file opened made synced w c → ((n : ℕ) → n < 2 ^ 32 → StableAt w c n) → Kept file opened made true w c
+  pub kept_known : KeepsFolder file opened made synced w c → ((n : ℕ) → n < 2 ^ 32 → StableAt w c n) → KeepsFolder file opened made true w c
   kept_known kept stable = record { named = kept.named; names = kept.names; bytes = λ known n low un. stable n low }

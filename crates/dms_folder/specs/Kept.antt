@@ -15,7 +15,7 @@ StableAt world clock n = (i : ℕ) → world.names (name_of n) ≡ Some i → St
 
 -- Each open file is the one that its name leads to. The names are stable but where a file was made since the last sync.
 -- After the first sync the bytes are stable of each file that isn't open and touched.
-pub record Kept {H : Type 0} (file : H → ℕ) (opened : List (Opened H)) (made synced : Bool) (world : World) (clock : Clock World) : Type 0 where
+pub record KeepsFolder {H : Type 0} (file : H → ℕ) (opened : List (Opened H)) (made synced : Bool) (world : World) (clock : Clock World) : Type 0 where
   pub named : (k : ℕ) (o : Opened H) → slice_get opened k ≡ Some o → world.names (name_of o.number) ≡ Some (file o.file)
   pub names : made ≡ false → StableNames world.names clock
   pub bytes : IsTrue synced → (n : ℕ) → n < 2 ^ 32 → Untouched opened n → StableAt world clock n

@@ -11,7 +11,7 @@ use Rattle.dms_folder.specs.NameLaws.{name_inj}
 use Rattle.dms_folder.specs.Places.{get_push}
 use Rattle.dms_folder.specs.Kept.{StableAt, StableNext}
 use Rattle.dms_folder.specs.Keeps.{stable_same}
-use Rattle.dms_folder.specs.Listings.{Takes, IsLater}
+use Rattle.dms_folder.specs.Listings.{TakesName, IsLater}
 use Rattle.dms_folder.specs.Shown.{seen_absent}
 
 -- a name was given before, or is the one that was given now
@@ -39,7 +39,7 @@ abbrev pub Later : Files → ℕ → ℕ → ℕ → Option ℕ → ℕ → Type
 Later files start upto last name found = MatchOption name (found ≡ last) (λ number. IsLater files start upto last number found)
 
 pub absent_next : {old new : List (List ℕ)} (files : Files) (start upto last found : ℕ) (name : Option ℕ)
-    → AbsentGiven old files start upto last → Takes old new name → Later files start upto last name found → AbsentGiven new files start upto found
+    → AbsentGiven old files start upto last → TakesName old new name → Later files start upto last name found → AbsentGiven new files start upto found
 absent_next {old} {new} files start upto last found None before takes later n given low a b h =
     ⊎_elim
     (λ was. before n was low a b (omega (arith, h, later)))

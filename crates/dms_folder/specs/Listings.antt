@@ -5,7 +5,7 @@ use Rattle.dms_site.specs.Files.{Files}
 use Rattle.dms_calls.specs.Names.{name_of}
 
 -- A name was given: that of the database file of this number, or of none.
-pub record Takes (old new : List (List ℕ)) (found : Option ℕ) : Type 0 where
+pub record TakesName (old new : List (List ℕ)) (found : Option ℕ) : Type 0 where
   pub name : List ℕ
   pub given : new ≡ old ++ name ∷ []
   pub number : MatchOption found ((n : ℕ) → n < 2 ^ 32 → name ≢ name_of n) (λ n. (n < 2 ^ 32) × (name ≡ name_of n))

@@ -5,12 +5,12 @@ use Rattle.std.proofs.lemmas.List.{take_all}
 use Rattle.dms_moments.specs.Moments.{Clock, Now, Steps}
 use Rattle.dms_site.specs.Files.{Files, Left, with_file, InFile, OnDisk, Cut, Same, Only}
 use Rattle.dms_site.specs.Laws.{with_file_here, with_file_other, in_file_same}
-use Rattle.dms_calls.specs.World.{World, Unchanged, OnFile, Makes}
+use Rattle.dms_calls.specs.World.{World, Unchanged, OnFile, MakesFile}
 use Rattle.dms_calls.specs.Seen.{bytes_of, seen, seen_clock, left_of, seen_steps, seen_alike, seen_at, seen_at_same}
 use Rattle.dms_folder.specs.declared.opened.Opened.{Opened}
 use Rattle.dms_calls.specs.Names.{name_of}
 use Rattle.dms_folder.specs.NameLaws.{name_inj}
-use Rattle.dms_folder.specs.Kept.{Kept, Untouched}
+use Rattle.dms_folder.specs.Kept.{KeepsFolder, Untouched}
 use Rattle.dms_folder.specs.Keeps.{same_or_not}
 
 -- a file behind a name, where no bytes but those of one file changed
@@ -19,7 +19,7 @@ bytes_away v w i others None free = refl
 bytes_away v w i others (Some j) free = others j (λ e. free (ap (λ (k : ℕ). Some k) e))
 
 -- a made file is as one that isn't there
-pub makes_seen : (f i : ℕ) → f < 2 ^ 32 → (v w : World) → Makes (name_of f) i v w → seen name_of w ≡ seen name_of v
+pub makes_seen : (f i : ℕ) → f < 2 ^ 32 → (v w : World) → MakesFile (name_of f) i v w → seen name_of w ≡ seen name_of v
 makes_seen f i small v w makes = seen_alike name_of w v (λ g low. ⊎_elim
     (λ e. ⊎_elim
     (λ same. ap (λ o. bytes_of w o) (ap (λ (n : ℕ). w.names (name_of n)) e ∙ same) ∙ bytes_away v w i makes.others (v.names (name_of f)) (makes.free (name_of f)) ∙ ap (λ (n : ℕ). bytes_of v (v.names (name_of n))) (sym e))
@@ -31,7 +31,7 @@ makes_seen f i small v w makes = seen_alike name_of w v (λ g low. ⊎_elim
 left_same : (v w : World) → seen name_of w ≡ seen name_of v → w.said ≡ v.said → left_of name_of w ≡ left_of name_of v
 left_same v w files said = λ i. record { files = files i; said = said i }
 
-pub makes_steps : {a b : Clock World} (f i : ℕ) → f < 2 ^ 32 → Steps (Makes (name_of f) i) a b → Steps Same (seen_clock name_of a) (seen_clock name_of b)
+pub makes_steps : {a b : Clock World} (f i : ℕ) → f < 2 ^ 32 → Steps (MakesFile (name_of f) i) a b → Steps Same (seen_clock name_of a) (seen_clock name_of b)
 makes_steps f i small step = seen_steps name_of step (λ v w now makes. left_same v w (makes_seen f i small v w makes) makes.said)
 
 pub unchanged_steps : {a b : Clock World} → Steps Unchanged a b → Steps Same (seen_clock name_of a) (seen_clock name_of b)
@@ -66,7 +66,7 @@ in_file_is f old new bytes one is = λ i g. each g i
         (same_or_not g f)
 
 -- All is stable where all names and all open files are.
-pub only_seen : {H : Type 0} {file : H → ℕ} {opened : List (Opened H)} {made synced : Bool} {w : World} {c : Clock World} → Kept file opened made synced w c
+pub only_seen : {H : Type 0} {file : H → ℕ} {opened : List (Opened H)} {made synced : Bool} {w : World} {c : Clock World} → KeepsFolder file opened made synced w c
     → made ≡ false → IsTrue synced → ((n : ℕ) → Untouched opened n) → Only (seen name_of w) (seen_clock name_of c)
 unfolding seen_clock
 only_seen {w} kept named known un x now =

@@ -5,12 +5,12 @@ use Rattle.std.proofs.Math.Seq.{take-add}
 use Rattle.std.specs.declared.option.Option.{Option}
 use Rattle.dms_moments.specs.Moments.{Clock, Now, Steps}
 use Rattle.dms_moments.specs.MomentLaws.{steps_on}
-use Rattle.dms_site.specs.Files.{Prints}
+use Rattle.dms_site.specs.Files.{PrintsPartOf}
 use Rattle.dms_calls.specs.World.{World, Speaks}
 use Rattle.dms_calls.specs.Seen.{seen, seen_clock, seen_steps, bytes_of, seen_alike}
 use Rattle.dms_folder.specs.declared.opened.Opened.{Opened}
 use Rattle.dms_calls.specs.Names.{name_of}
-use Rattle.dms_folder.specs.Kept.{Kept}
+use Rattle.dms_folder.specs.Kept.{KeepsFolder}
 
 pub speaks_none : (text : List ℕ) (w : World) → Speaks text w w
 speaks_none text w = record { names = refl; bytes = refl; some = 0; said = sym (append-nil w.said) }
@@ -42,12 +42,12 @@ same_bytes v w bytes (Some i) = ap (λ (b : ℕ → List ℕ). b i) bytes
 pub seen_spoken : (v w : World) → w.names ≡ v.names → w.bytes ≡ v.bytes → seen name_of w ≡ seen name_of v
 seen_spoken v w names bytes = seen_alike name_of w v (λ f low. ap (λ (n : List ℕ → Option ℕ). bytes_of w (n (name_of f))) names ∙ same_bytes v w bytes (v.names (name_of f)))
 
-pub spoken_steps : {a b : Clock World} (text : List ℕ) → Steps (Speaks text) a b → Steps (Prints text) (seen_clock name_of a) (seen_clock name_of b)
+pub spoken_steps : {a b : Clock World} (text : List ℕ) → Steps (Speaks text) a b → Steps (PrintsPartOf text) (seen_clock name_of a) (seen_clock name_of b)
 spoken_steps text call = seen_steps name_of call (λ v w now s. record { files = seen_spoken v w s.names s.bytes; some = s.some; said = s.said })
 
 -- printing keeps what is kept
 pub kept_spoken : {H : Type 0} {file : H → ℕ} {opened : List (Opened H)} {made synced : Bool} {w : World} {c : Clock World} {text : List ℕ} {w' : World} {c' : Clock World}
-    → Kept file opened made synced w c → Speaks text w w' → Steps (Speaks text) c c' → Kept file opened made synced w' c'
+    → KeepsFolder file opened made synced w c → Speaks text w w' → Steps (Speaks text) c c' → KeepsFolder file opened made synced w' c'
 kept_spoken kept s step = record {
   named = λ k o is. ap (λ n. n (name_of o.number)) s.names ∙ kept.named k o is;
   names = λ none v now m. let y = step.follows v now in ap (λ n. n m) y.2.names ∙ kept.names none y.0 y.1 m ∙ sym (ap (λ n. n m) s.names);

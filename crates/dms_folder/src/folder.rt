@@ -4,7 +4,7 @@ ghost use Rattle.dms_site.specs.Files.{with_file, overlaid, range, InFile, Torn,
 ghost use Rattle.dms_calls.specs.World.{Unchanged, AllGiven};
 ghost use Rattle.dms_calls.specs.Seen.{seen, seen_clock};
 ghost use Rattle.dms_calls.specs.Names.{name_of};
-ghost use Rattle.dms_folder.specs.Kept.{Kept, StableAt, StableNext, IsAt, touched};
+ghost use Rattle.dms_folder.specs.Kept.{KeepsFolder, StableAt, StableNext, IsAt, touched};
 ghost use Rattle.dms_folder.specs.Listings.{IsLater};
 ghost use Rattle.std.specs.Bool.{MatchBool};
 
@@ -35,7 +35,7 @@ pub struct Folder<C: Calls> {
 impl<C: Calls + Drop> Folder<C> {
     /// The files of a folder, none of them open. Nothing is known to be stable.
     pub fn new(calls: C, alloc: Global) -> Result<Folder<C>, AllocError>
-        ensures kept { IfOk result (λ s. IsTrue C.tells → Kept C.file s.opened.items s.made s.synced (C.world s.calls) (C.clock s.calls)) }
+        ensures kept { IfOk result (λ s. IsTrue C.tells → KeepsFolder C.file s.opened.items s.made s.synced (C.world s.calls) (C.clock s.calls)) }
         ensures calls { IfOk result (λ s. s.calls ≡ calls) }
     {
         Ok(Folder {
@@ -51,9 +51,9 @@ impl<C: Calls> Folder<C> {
     /// Makes the bytes of an open file stable.
     fn sync_opened(&mut self, place: usize) -> Result<(), Failed>
         requires broken { C.broken self.old.calls ≡ false }
-        requires kept { IsTrue C.tells → Kept C.file self.old.opened.items self.old.made self.old.synced (C.world self.old.calls) (C.clock self.old.calls) }
+        requires kept { IsTrue C.tells → KeepsFolder C.file self.old.opened.items self.old.made self.old.synced (C.world self.old.calls) (C.clock self.old.calls) }
         requires place { place < length self.old.opened.items }
-        ensures kept { IsTrue C.tells → Kept C.file self.new.opened.items self.new.made self.new.synced (C.world self.new.calls) (C.clock self.new.calls) }
+        ensures kept { IsTrue C.tells → KeepsFolder C.file self.new.opened.items self.new.made self.new.synced (C.world self.new.calls) (C.clock self.new.calls) }
         ensures untouched { OnOk result ((o : Opened C.Handle) → slice_get self.new.opened.items place ≡ Some o → o.touched ≡ false) }
         ensures others { (k : ℕ) → k ≢ place → slice_get self.new.opened.items k ≡ slice_get self.old.opened.items k }
         ensures len { length self.new.opened.items ≡ length self.old.opened.items }
@@ -73,8 +73,8 @@ impl<C: Calls> Folder<C> {
     /// Makes the bytes of each open file stable.
     fn sync_all_opened(&mut self) -> Result<(), Failed>
         requires broken { C.broken self.old.calls ≡ false }
-        requires kept { IsTrue C.tells → Kept C.file self.old.opened.items self.old.made self.old.synced (C.world self.old.calls) (C.clock self.old.calls) }
-        ensures kept { IsTrue C.tells → Kept C.file self.new.opened.items self.new.made self.new.synced (C.world self.new.calls) (C.clock self.new.calls) }
+        requires kept { IsTrue C.tells → KeepsFolder C.file self.old.opened.items self.old.made self.old.synced (C.world self.old.calls) (C.clock self.old.calls) }
+        ensures kept { IsTrue C.tells → KeepsFolder C.file self.new.opened.items self.new.made self.new.synced (C.world self.new.calls) (C.clock self.new.calls) }
         ensures untouched { OnOk result ((k : ℕ) (o : Opened C.Handle) → slice_get self.new.opened.items k ≡ Some o → o.touched ≡ false) }
         ensures made { self.new.made ≡ self.old.made }
         ensures synced { self.new.synced ≡ self.old.synced }
@@ -91,8 +91,8 @@ impl<C: Calls> Folder<C> {
     /// Makes the names of the folder stable, where one was made.
     fn sync_names(&mut self) -> Result<(), Failed>
         requires broken { C.broken self.old.calls ≡ false }
-        requires kept { IsTrue C.tells → Kept C.file self.old.opened.items self.old.made self.old.synced (C.world self.old.calls) (C.clock self.old.calls) }
-        ensures kept { IsTrue C.tells → Kept C.file self.new.opened.items self.new.made self.new.synced (C.world self.new.calls) (C.clock self.new.calls) }
+        requires kept { IsTrue C.tells → KeepsFolder C.file self.old.opened.items self.old.made self.old.synced (C.world self.old.calls) (C.clock self.old.calls) }
+        ensures kept { IsTrue C.tells → KeepsFolder C.file self.new.opened.items self.new.made self.new.synced (C.world self.new.calls) (C.clock self.new.calls) }
         ensures opened { self.new.opened.items ≡ self.old.opened.items }
         ensures made { OnOk result (self.new.made ≡ false) }
         ensures synced { self.new.synced ≡ self.old.synced }
@@ -122,9 +122,9 @@ impl<C: Calls> Folder<C> {
     /// Keeps a file open, and shuts the first opened one where there are too many.
     fn keep(&mut self, number: u32, file: C::Handle) -> Result<usize, Failed>
         requires broken { C.broken self.old.calls ≡ false }
-        requires kept { IsTrue C.tells → Kept C.file self.old.opened.items self.old.made self.old.synced (C.world self.old.calls) (C.clock self.old.calls) }
+        requires kept { IsTrue C.tells → KeepsFolder C.file self.old.opened.items self.old.made self.old.synced (C.world self.old.calls) (C.clock self.old.calls) }
         requires named { IsTrue C.tells → (C.world self.old.calls).names (name_of number) ≡ Some (C.file file) }
-        ensures kept { IsTrue C.tells → Kept C.file self.new.opened.items self.new.made self.new.synced (C.world self.new.calls) (C.clock self.new.calls) }
+        ensures kept { IsTrue C.tells → KeepsFolder C.file self.new.opened.items self.new.made self.new.synced (C.world self.new.calls) (C.clock self.new.calls) }
         ensures place { IfOk result (λ i. IsAt self.new.opened.items i number) }
         ensures made { self.new.made ≡ self.old.made }
         ensures synced { self.new.synced ≡ self.old.synced }
@@ -142,9 +142,9 @@ impl<C: Calls> Folder<C> {
     /// Shuts the first opened file.
     fn drop_first(&mut self)
         requires some { 0 < length self.old.opened.items }
-        requires kept { IsTrue C.tells → Kept C.file self.old.opened.items self.old.made self.old.synced (C.world self.old.calls) (C.clock self.old.calls) }
+        requires kept { IsTrue C.tells → KeepsFolder C.file self.old.opened.items self.old.made self.old.synced (C.world self.old.calls) (C.clock self.old.calls) }
         requires untouched { (o : Opened C.Handle) → slice_get self.old.opened.items 0 ≡ Some o → o.touched ≡ false }
-        ensures kept { IsTrue C.tells → Kept C.file self.new.opened.items self.new.made self.new.synced (C.world self.new.calls) (C.clock self.new.calls) }
+        ensures kept { IsTrue C.tells → KeepsFolder C.file self.new.opened.items self.new.made self.new.synced (C.world self.new.calls) (C.clock self.new.calls) }
         ensures calls { self.new.calls ≡ self.old.calls }
         ensures made { self.new.made ≡ self.old.made }
         ensures synced { self.new.synced ≡ self.old.synced }
@@ -154,9 +154,9 @@ impl<C: Calls> Folder<C> {
 
     /// Puts a file behind the open ones.
     fn push(&mut self, number: u32, file: C::Handle) -> Result<usize, Failed>
-        requires kept { IsTrue C.tells → Kept C.file self.old.opened.items self.old.made self.old.synced (C.world self.old.calls) (C.clock self.old.calls) }
+        requires kept { IsTrue C.tells → KeepsFolder C.file self.old.opened.items self.old.made self.old.synced (C.world self.old.calls) (C.clock self.old.calls) }
         requires named { IsTrue C.tells → (C.world self.old.calls).names (name_of number) ≡ Some (C.file file) }
-        ensures kept { IsTrue C.tells → Kept C.file self.new.opened.items self.new.made self.new.synced (C.world self.new.calls) (C.clock self.new.calls) }
+        ensures kept { IsTrue C.tells → KeepsFolder C.file self.new.opened.items self.new.made self.new.synced (C.world self.new.calls) (C.clock self.new.calls) }
         ensures place { IfOk result (λ i. IsAt self.new.opened.items i number) }
         ensures calls { self.new.calls ≡ self.old.calls }
         ensures made { self.new.made ≡ self.old.made }
@@ -176,8 +176,8 @@ impl<C: Calls> Folder<C> {
     /// Finds a file among the open ones, or opens it. None where there is none.
     fn find(&mut self, file: u32) -> Result<Option<usize>, Failed>
         requires broken { C.broken self.old.calls ≡ false }
-        requires kept { IsTrue C.tells → Kept C.file self.old.opened.items self.old.made self.old.synced (C.world self.old.calls) (C.clock self.old.calls) }
-        ensures kept { IsTrue C.tells → Kept C.file self.new.opened.items self.new.made self.new.synced (C.world self.new.calls) (C.clock self.new.calls) }
+        requires kept { IsTrue C.tells → KeepsFolder C.file self.old.opened.items self.old.made self.old.synced (C.world self.old.calls) (C.clock self.old.calls) }
+        ensures kept { IsTrue C.tells → KeepsFolder C.file self.new.opened.items self.new.made self.new.synced (C.world self.new.calls) (C.clock self.new.calls) }
         ensures found { IfOk result (λ found. MatchOption found (IsTrue C.tells → (C.world self.old.calls).names (name_of file) ≡ None) (λ i. IsAt self.new.opened.items i file)) }
         ensures made { self.new.made ≡ self.old.made }
         ensures synced { self.new.synced ≡ self.old.synced }
@@ -198,9 +198,9 @@ impl<C: Calls> Folder<C> {
     /// Makes a file that isn't there.
     fn make(&mut self, file: u32) -> Result<usize, Failed>
         requires broken { C.broken self.old.calls ≡ false }
-        requires kept { IsTrue C.tells → Kept C.file self.old.opened.items self.old.made self.old.synced (C.world self.old.calls) (C.clock self.old.calls) }
+        requires kept { IsTrue C.tells → KeepsFolder C.file self.old.opened.items self.old.made self.old.synced (C.world self.old.calls) (C.clock self.old.calls) }
         requires absent { IsTrue C.tells → (C.world self.old.calls).names (name_of file) ≡ None }
-        ensures kept { IsTrue C.tells → Kept C.file self.new.opened.items self.new.made self.new.synced (C.world self.new.calls) (C.clock self.new.calls) }
+        ensures kept { IsTrue C.tells → KeepsFolder C.file self.new.opened.items self.new.made self.new.synced (C.world self.new.calls) (C.clock self.new.calls) }
         ensures place { IfOk result (λ i. IsAt self.new.opened.items i file) }
         ensures files { IsTrue C.tells → seen name_of (C.world self.new.calls) ≡ seen name_of (C.world self.old.calls) }
         ensures said { (C.world self.new.calls).said ≡ (C.world self.old.calls).said }
@@ -216,8 +216,8 @@ impl<C: Calls> Folder<C> {
     /// Finds or opens a file, and makes it where there is none.
     fn find_or_make(&mut self, file: u32) -> Result<usize, Failed>
         requires broken { C.broken self.old.calls ≡ false }
-        requires kept { IsTrue C.tells → Kept C.file self.old.opened.items self.old.made self.old.synced (C.world self.old.calls) (C.clock self.old.calls) }
-        ensures kept { IsTrue C.tells → Kept C.file self.new.opened.items self.new.made self.new.synced (C.world self.new.calls) (C.clock self.new.calls) }
+        requires kept { IsTrue C.tells → KeepsFolder C.file self.old.opened.items self.old.made self.old.synced (C.world self.old.calls) (C.clock self.old.calls) }
+        ensures kept { IsTrue C.tells → KeepsFolder C.file self.new.opened.items self.new.made self.new.synced (C.world self.new.calls) (C.clock self.new.calls) }
         ensures place { IfOk result (λ i. IsAt self.new.opened.items i file) }
         ensures files { IsTrue C.tells → seen name_of (C.world self.new.calls) ≡ seen name_of (C.world self.old.calls) }
         ensures said { (C.world self.new.calls).said ≡ (C.world self.old.calls).said }
@@ -234,9 +234,9 @@ impl<C: Calls> Folder<C> {
     /// call, and no file.
     pub fn write(&mut self, file: u32, at: u64, bytes: &[u8]) -> Result<(), Failed>
         requires broken { C.broken self.old.calls ≡ false }
-        requires kept { IsTrue C.tells → Kept C.file self.old.opened.items self.old.made self.old.synced (C.world self.old.calls) (C.clock self.old.calls) }
+        requires kept { IsTrue C.tells → KeepsFolder C.file self.old.opened.items self.old.made self.old.synced (C.world self.old.calls) (C.clock self.old.calls) }
         requires bound { at + length bytes.now < 2 ^ 40 }
-        ensures kept { IsTrue C.tells → Kept C.file self.new.opened.items self.new.made self.new.synced (C.world self.new.calls) (C.clock self.new.calls) }
+        ensures kept { IsTrue C.tells → KeepsFolder C.file self.new.opened.items self.new.made self.new.synced (C.world self.new.calls) (C.clock self.new.calls) }
         ensures written { OnOk result (IsTrue C.tells → seen name_of (C.world self.new.calls)
             ≡ with_file (seen name_of (C.world self.old.calls)) file (overlaid at bytes.now (seen name_of (C.world self.old.calls) file))) }
         ensures torn { IsTrue C.tells → InFile file (Torn at (length bytes.now)) (seen name_of (C.world self.old.calls)) (seen name_of (C.world self.new.calls)) }
@@ -256,8 +256,8 @@ impl<C: Calls> Folder<C> {
     /// Keeps that a file is written or cut.
     fn touch(&mut self, place: usize)
         requires place { place < length self.old.opened.items }
-        requires kept { IsTrue C.tells → Kept C.file self.old.opened.items self.old.made self.old.synced (C.world self.old.calls) (C.clock self.old.calls) }
-        ensures kept { IsTrue C.tells → Kept C.file self.new.opened.items self.new.made self.new.synced (C.world self.new.calls) (C.clock self.new.calls) }
+        requires kept { IsTrue C.tells → KeepsFolder C.file self.old.opened.items self.old.made self.old.synced (C.world self.old.calls) (C.clock self.old.calls) }
+        ensures kept { IsTrue C.tells → KeepsFolder C.file self.new.opened.items self.new.made self.new.synced (C.world self.new.calls) (C.clock self.new.calls) }
         ensures marked { (o : Opened C.Handle) → slice_get self.old.opened.items place ≡ Some o → slice_get self.new.opened.items place ≡ Some (touched o) }
         ensures calls { self.new.calls ≡ self.old.calls }
         ensures made { self.new.made ≡ self.old.made }
@@ -269,8 +269,8 @@ impl<C: Calls> Folder<C> {
     /// Makes what was written and cut stable, and the names of the folder where files were made. The first sync takes all files.
     pub fn sync(&mut self) -> Result<(), Failed>
         requires broken { C.broken self.old.calls ≡ false }
-        requires kept { IsTrue C.tells → Kept C.file self.old.opened.items self.old.made self.old.synced (C.world self.old.calls) (C.clock self.old.calls) }
-        ensures kept { IsTrue C.tells → Kept C.file self.new.opened.items self.new.made self.new.synced (C.world self.new.calls) (C.clock self.new.calls) }
+        requires kept { IsTrue C.tells → KeepsFolder C.file self.old.opened.items self.old.made self.old.synced (C.world self.old.calls) (C.clock self.old.calls) }
+        ensures kept { IsTrue C.tells → KeepsFolder C.file self.new.opened.items self.new.made self.new.synced (C.world self.new.calls) (C.clock self.new.calls) }
         ensures durable { OnOk result (IsTrue C.tells → Only (seen name_of (C.world self.old.calls)) (seen_clock name_of (C.clock self.new.calls))) }
         ensures world { C.world self.new.calls ≡ C.world self.old.calls }
         ensures moments { Steps Unchanged (C.clock self.old.calls) (C.clock self.new.calls) }
@@ -284,8 +284,8 @@ impl<C: Calls> Folder<C> {
     /// Makes the bytes of each file of the folder stable, at the first sync.
     fn sync_present(&mut self) -> Result<(), Failed>
         requires broken { C.broken self.old.calls ≡ false }
-        requires kept { IsTrue C.tells → Kept C.file self.old.opened.items self.old.made self.old.synced (C.world self.old.calls) (C.clock self.old.calls) }
-        ensures kept { IsTrue C.tells → Kept C.file self.new.opened.items self.new.made self.new.synced (C.world self.new.calls) (C.clock self.new.calls) }
+        requires kept { IsTrue C.tells → KeepsFolder C.file self.old.opened.items self.old.made self.old.synced (C.world self.old.calls) (C.clock self.old.calls) }
+        ensures kept { IsTrue C.tells → KeepsFolder C.file self.new.opened.items self.new.made self.new.synced (C.world self.new.calls) (C.clock self.new.calls) }
         ensures synced { OnOk result (IsTrue self.new.synced) }
         ensures world { C.world self.new.calls ≡ C.world self.old.calls }
         ensures moments { Steps Unchanged (C.clock self.old.calls) (C.clock self.new.calls) }
@@ -307,8 +307,8 @@ impl<C: Calls> Folder<C> {
     /// Takes the next name of a listing, and makes the bytes of its file stable where it is a database file's. False at the end.
     fn sync_next(&mut self, names: &mut C::Listing) -> Result<bool, Failed>
         requires broken { C.broken self.old.calls ≡ false }
-        requires kept { IsTrue C.tells → Kept C.file self.old.opened.items self.old.made self.old.synced (C.world self.old.calls) (C.clock self.old.calls) }
-        ensures kept { IsTrue C.tells → Kept C.file self.new.opened.items self.new.made self.new.synced (C.world self.new.calls) (C.clock self.new.calls) }
+        requires kept { IsTrue C.tells → KeepsFolder C.file self.old.opened.items self.old.made self.old.synced (C.world self.old.calls) (C.clock self.old.calls) }
+        ensures kept { IsTrue C.tells → KeepsFolder C.file self.new.opened.items self.new.made self.new.synced (C.world self.new.calls) (C.clock self.new.calls) }
         ensures next { IfOk result (λ more. MatchBool more (IsTrue C.tells → StableNext (C.given names.old) (C.given names.new) (C.world self.new.calls) (C.clock self.new.calls))
             (IsTrue C.tells → AllGiven (C.listed names.old) (C.world self.old.calls).names (C.given names.old))) }
         ensures listed { IsTrue C.tells → C.listed names.new ≡ C.listed names.old }
@@ -332,8 +332,8 @@ impl<C: Calls> Folder<C> {
     /// Makes the bytes of a file stable, open or not.
     fn sync_number(&mut self, file: u32) -> Result<(), Failed>
         requires broken { C.broken self.old.calls ≡ false }
-        requires kept { IsTrue C.tells → Kept C.file self.old.opened.items self.old.made self.old.synced (C.world self.old.calls) (C.clock self.old.calls) }
-        ensures kept { IsTrue C.tells → Kept C.file self.new.opened.items self.new.made self.new.synced (C.world self.new.calls) (C.clock self.new.calls) }
+        requires kept { IsTrue C.tells → KeepsFolder C.file self.old.opened.items self.old.made self.old.synced (C.world self.old.calls) (C.clock self.old.calls) }
+        ensures kept { IsTrue C.tells → KeepsFolder C.file self.new.opened.items self.new.made self.new.synced (C.world self.new.calls) (C.clock self.new.calls) }
         ensures stable { OnOk result (IsTrue C.tells → StableAt (C.world self.new.calls) (C.clock self.new.calls) file) }
         ensures opened { self.new.opened.items ≡ self.old.opened.items }
         ensures made { self.new.made ≡ self.old.made }
@@ -352,8 +352,8 @@ impl<C: Calls> Folder<C> {
     /// The greatest number of a file that isn't empty from `from` to `upto`, or 0.
     pub fn last_present(&mut self, from: u32, upto: u32) -> Result<u32, Failed>
         requires broken { C.broken self.old.calls ≡ false }
-        requires kept { IsTrue C.tells → Kept C.file self.old.opened.items self.old.made self.old.synced (C.world self.old.calls) (C.clock self.old.calls) }
-        ensures kept { IsTrue C.tells → Kept C.file self.new.opened.items self.new.made self.new.synced (C.world self.new.calls) (C.clock self.new.calls) }
+        requires kept { IsTrue C.tells → KeepsFolder C.file self.old.opened.items self.old.made self.old.synced (C.world self.old.calls) (C.clock self.old.calls) }
+        ensures kept { IsTrue C.tells → KeepsFolder C.file self.new.opened.items self.new.made self.new.synced (C.world self.new.calls) (C.clock self.new.calls) }
         ensures bound { IfOk result (λ n. 0 < n → (from ≤ n) × (n ≤ upto)) }
         ensures found { IfOk result (λ n. IsTrue C.tells → IsLastPresent (seen name_of (C.world self.old.calls)) from upto n) }
         ensures world { C.world self.new.calls ≡ C.world self.old.calls }
@@ -374,8 +374,8 @@ impl<C: Calls> Folder<C> {
     /// The number found, where it is in the range, greater than the last one, and its file isn't empty, and else the last one.
     fn later(&mut self, last: u32, found: Option<u32>, from: u32, upto: u32) -> Result<u32, Failed>
         requires broken { C.broken self.old.calls ≡ false }
-        requires kept { IsTrue C.tells → Kept C.file self.old.opened.items self.old.made self.old.synced (C.world self.old.calls) (C.clock self.old.calls) }
-        ensures kept { IsTrue C.tells → Kept C.file self.new.opened.items self.new.made self.new.synced (C.world self.new.calls) (C.clock self.new.calls) }
+        requires kept { IsTrue C.tells → KeepsFolder C.file self.old.opened.items self.old.made self.old.synced (C.world self.old.calls) (C.clock self.old.calls) }
+        ensures kept { IsTrue C.tells → KeepsFolder C.file self.new.opened.items self.new.made self.new.synced (C.world self.new.calls) (C.clock self.new.calls) }
         ensures bound { IfOk result (λ n. (n ≡ last) ⊎ ((from ≤ n) × (n ≤ upto))) }
         ensures later { IfOk result (λ n. IsTrue C.tells → MatchOption found (n ≡ last) (λ number. IsLater (seen name_of (C.world self.old.calls)) from upto last number n)) }
         ensures world { C.world self.new.calls ≡ C.world self.old.calls }
@@ -394,8 +394,8 @@ impl<C: Calls> Folder<C> {
     /// The length of a file in bytes, 0 where there is none.
     pub fn length(&mut self, file: u32) -> Result<u64, Failed>
         requires broken { C.broken self.old.calls ≡ false }
-        requires kept { IsTrue C.tells → Kept C.file self.old.opened.items self.old.made self.old.synced (C.world self.old.calls) (C.clock self.old.calls) }
-        ensures kept { IsTrue C.tells → Kept C.file self.new.opened.items self.new.made self.new.synced (C.world self.new.calls) (C.clock self.new.calls) }
+        requires kept { IsTrue C.tells → KeepsFolder C.file self.old.opened.items self.old.made self.old.synced (C.world self.old.calls) (C.clock self.old.calls) }
+        ensures kept { IsTrue C.tells → KeepsFolder C.file self.new.opened.items self.new.made self.new.synced (C.world self.new.calls) (C.clock self.new.calls) }
         ensures length { IfOk result (λ n. IsTrue C.tells → n ≡ length (seen name_of (C.world self.old.calls) file)) }
         ensures world { C.world self.new.calls ≡ C.world self.old.calls }
         ensures moments { Steps Unchanged (C.clock self.old.calls) (C.clock self.new.calls) }
@@ -410,9 +410,9 @@ impl<C: Calls> Folder<C> {
     /// Reads from a position on until the slice is full or the file ends.
     pub fn read(&mut self, file: u32, at: u64, into: &mut [u8]) -> Result<usize, Failed>
         requires broken { C.broken self.old.calls ≡ false }
-        requires kept { IsTrue C.tells → Kept C.file self.old.opened.items self.old.made self.old.synced (C.world self.old.calls) (C.clock self.old.calls) }
+        requires kept { IsTrue C.tells → KeepsFolder C.file self.old.opened.items self.old.made self.old.synced (C.world self.old.calls) (C.clock self.old.calls) }
         requires bound { at + length into.old < 2 ^ 40 }
-        ensures kept { IsTrue C.tells → Kept C.file self.new.opened.items self.new.made self.new.synced (C.world self.new.calls) (C.clock self.new.calls) }
+        ensures kept { IsTrue C.tells → KeepsFolder C.file self.new.opened.items self.new.made self.new.synced (C.world self.new.calls) (C.clock self.new.calls) }
         ensures bytes { IfOk result (λ n. IsTrue C.tells → (n ≡ length (range at (length into.old) (seen name_of (C.world self.old.calls) file)))
             × (into.new ≡ range at (length into.old) (seen name_of (C.world self.old.calls) file) ++ drop n into.old)) }
         ensures count { IfOk result (λ n. n ≤ length into.old) }
@@ -429,8 +429,8 @@ impl<C: Calls> Folder<C> {
     /// Cuts a file to a length.
     pub fn cut(&mut self, file: u32, len: u64) -> Result<(), Failed>
         requires broken { C.broken self.old.calls ≡ false }
-        requires kept { IsTrue C.tells → Kept C.file self.old.opened.items self.old.made self.old.synced (C.world self.old.calls) (C.clock self.old.calls) }
-        ensures kept { IsTrue C.tells → Kept C.file self.new.opened.items self.new.made self.new.synced (C.world self.new.calls) (C.clock self.new.calls) }
+        requires kept { IsTrue C.tells → KeepsFolder C.file self.old.opened.items self.old.made self.old.synced (C.world self.old.calls) (C.clock self.old.calls) }
+        ensures kept { IsTrue C.tells → KeepsFolder C.file self.new.opened.items self.new.made self.new.synced (C.world self.new.calls) (C.clock self.new.calls) }
         ensures cut { OnOk result (IsTrue C.tells → seen name_of (C.world self.new.calls)
             ≡ with_file (seen name_of (C.world self.old.calls)) file (take len (seen name_of (C.world self.old.calls) file))) }
         ensures torn { IsTrue C.tells → InFile file (Cut len) (seen name_of (C.world self.old.calls)) (seen name_of (C.world self.new.calls)) }
@@ -447,9 +447,9 @@ impl<C: Calls> Folder<C> {
     /// Cuts an open file to a length.
     fn cut_opened(&mut self, file: u32, place: usize, len: u64) -> Result<(), Failed>
         requires broken { C.broken self.old.calls ≡ false }
-        requires kept { IsTrue C.tells → Kept C.file self.old.opened.items self.old.made self.old.synced (C.world self.old.calls) (C.clock self.old.calls) }
+        requires kept { IsTrue C.tells → KeepsFolder C.file self.old.opened.items self.old.made self.old.synced (C.world self.old.calls) (C.clock self.old.calls) }
         requires place { IsAt self.old.opened.items place file }
-        ensures kept { IsTrue C.tells → Kept C.file self.new.opened.items self.new.made self.new.synced (C.world self.new.calls) (C.clock self.new.calls) }
+        ensures kept { IsTrue C.tells → KeepsFolder C.file self.new.opened.items self.new.made self.new.synced (C.world self.new.calls) (C.clock self.new.calls) }
         ensures cut { OnOk result (IsTrue C.tells → seen name_of (C.world self.new.calls)
             ≡ with_file (seen name_of (C.world self.old.calls)) file (take len (seen name_of (C.world self.old.calls) file))) }
         ensures torn { IsTrue C.tells → InFile file (Cut len) (seen name_of (C.world self.old.calls)) (seen name_of (C.world self.new.calls)) }

@@ -2,7 +2,7 @@ ghost use Rattle.std.specs.Prelude.{◌≡◌, ◌+◌, ◌<◌, ◌≤◌, IsTr
 ghost use Rattle.dms_base.specs.Causes.{Rose};
 ghost use Rattle.dms_calls.specs.Seen.{seen, seen_clock};
 ghost use Rattle.dms_calls.specs.Names.{name_of};
-ghost use Rattle.dms_folder.specs.Kept.{Kept};
+ghost use Rattle.dms_folder.specs.Kept.{KeepsFolder};
 
 use crate::folder::Folder;
 use crate::print::print_all;
@@ -19,7 +19,7 @@ pub struct FolderSite<C: Calls> {
     folder: Folder<C>,
     disk_faults: u64,
     say_faults: u64,
-    ghost kept: { IsTrue C.tells → Kept C.file folder.opened.items folder.made folder.synced (C.world folder.calls) (C.clock folder.calls) },
+    ghost kept: { IsTrue C.tells → KeepsFolder C.file folder.opened.items folder.made folder.synced (C.world folder.calls) (C.clock folder.calls) },
     ghost sound: { disk_faults ≡ 0 → C.broken folder.calls ≡ false },
 }
 

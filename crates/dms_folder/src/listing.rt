@@ -1,7 +1,7 @@
 ghost use Rattle.std.specs.Prelude.{◌≡◌, false, IfOk, OnOk, IsTrue, MatchOption};
 ghost use Rattle.dms_moments.specs.Moments.{Steps};
 ghost use Rattle.dms_calls.specs.World.{Unchanged, AllGiven};
-ghost use Rattle.dms_folder.specs.Listings.{Takes};
+ghost use Rattle.dms_folder.specs.Listings.{TakesName};
 
 use crate::name::file_number;
 use dms_calls::Calls;
@@ -21,7 +21,7 @@ pub fn next_number<C: Calls>(
     requires broken { C.broken calls.old ≡ false }
     ensures next { IfOk result (λ o. MatchOption o
         (IsTrue C.tells → AllGiven (C.listed names.old) (C.world calls.old).names (C.given names.old))
-        (λ found. IsTrue C.tells → Takes (C.given names.old) (C.given names.new) found)) }
+        (λ found. IsTrue C.tells → TakesName (C.given names.old) (C.given names.new) found)) }
     ensures listed { IsTrue C.tells → C.listed names.new ≡ C.listed names.old }
     ensures world { C.world calls.new ≡ C.world calls.old }
     ensures moments { Steps Unchanged (C.clock calls.old) (C.clock calls.new) }

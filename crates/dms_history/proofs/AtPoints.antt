@@ -38,7 +38,7 @@ split_first p (e ∷ es) found = split_first_case (p e) (has p es) e es (until_f
 has_until : (p : Event → Bool) (es : List Event) → has p (until_last p es) ≡ has p es
 has_until p [] = refl
 has_until p (e ∷ es) = elim (bool_cases (has p (e ∷ es))) [
-  | inl sure ↦ ap (λ b. has p (cond b (e ∷ until_last p es) [])) sure ∙ ap (λ b. p e || b) (has_until p es)
+  | inl durable ↦ ap (λ b. has p (cond b (e ∷ until_last p es) [])) durable ∙ ap (λ b. p e || b) (has_until p es)
   | inr off ↦ ap (λ b. has p (cond b (e ∷ until_last p es) [])) off ∙ sym off
 ]
 
@@ -65,14 +65,14 @@ pub suffix_none : (p : Event → Bool) (es : List Event) (f b : ℕ) → last_af
 suffix_none p es f b none =
     (or_none (last_after f b (after_last p es)) (last_after f b (until_last p es)) (sym (last_append (until_last p es) (after_last p es) f b) ∙ ap (λ (l : List Event). last_after f b l) (split_last p es) ∙ none)).0
 
--- behind the last Control of a front that ends with one
+-- behind the last Control of a prefix that ends with one
 after_front : (p : Event → Bool) (xs ys : List Event) (f b : ℕ) → last_after f b ys ≡ None → last_after f b (after_last p (until_last p xs ++ ys)) ≡ None
 after_front p [] ys f b none = suffix_none p ys f b none
 after_front p (e ∷ xs) ys f b none = elim (bool_cases (has p (e ∷ xs))) [
-  | inl sure ↦
+  | inl durable ↦
       let found : has p (e ∷ (until_last p xs ++ ys)) ≡ true =
-      has_append_left p (e ∷ until_last p xs) ys (ap (λ c. p e || c) (has_until p xs) ∙ sure) in
-      ap (λ c. last_after f b (after_last p (cond c (e ∷ until_last p xs) [] ++ ys))) sure
+      has_append_left p (e ∷ until_last p xs) ys (ap (λ c. p e || c) (has_until p xs) ∙ durable) in
+      ap (λ c. last_after f b (after_last p (cond c (e ∷ until_last p xs) [] ++ ys))) durable
       ∙ ap (λ c. last_after f b (cond c (after_last p (until_last p xs ++ ys)) (e ∷ (until_last p xs ++ ys)))) found
       ∙ after_front p xs ys f b none
   | inr off ↦ ap (λ c. last_after f b (after_last p (cond c (e ∷ until_last p xs) [] ++ ys))) off ∙ suffix_none p ys f b none

@@ -3,7 +3,7 @@ use Rattle.std.proofs.Common.{ℕ, ◌<◌, ◌≡◌, ◌||◌, ◌⊎◌, inl,
 use Rattle.std.proofs.lemmas.List.FromFn.{length-map-range_with_len, get_or-map-range_with_len}
 use Rattle.std.proofs.lemmas.Bool.Decides.{nat_tests}
 use Rattle.dms_history.specs.Events.{Block, Content, Stored, Counts, Event, change, quiet, control, begin, block_in}
-use Rattle.dms_history.specs.Replay.{Tells, Chain, replay, with_block}
+use Rattle.dms_history.specs.Replay.{TellsBefore, Chain, replay, with_block}
 use Rattle.dms_history.specs.Images.{is_at, or_else, last_after, first_before, value, choice}
 use Rattle.dms_history.specs.Lists.{has, after_last}
 use Rattle.dms_history.specs.Places.{is_control, is_begin}
@@ -76,7 +76,7 @@ record Walk (xs es : List Event) (c : Content) : Type 0 where
   firsts : (f b : ℕ) (o : Block) → last_after f b xs ≡ None → b < length (c f) → first_before f b es ≡ Some (Some o) → block_in c f b ≡ o
 
 tells_of : (xs es : List Event) (c : Content) (f b : ℕ) (before : Option Block) (after : Block) → Walk xs (change f b before after ∷ es) c → FitsCount before b (reached_count f 0 xs)
-    → ((old : Block) → last_after f b xs ≡ Some old → before ≡ Some old) → Tells b before (c f)
+    → ((old : Block) → last_after f b xs ≡ Some old → before ≡ Some old) → TellsBefore b before (c f)
 tells_of xs es c f b None after walk grows linked = grows ∙ sym (walk.lengths f)
 tells_of xs es c f b (Some old) after walk grows linked =
     let low : b < length (c f) = omega (arith, grows, walk.lengths f) in
@@ -85,7 +85,7 @@ tells_of xs es c f b (Some old) after walk grows linked =
       | inl none ↦ (low, sym (walk.firsts f b old none low (ap (λ t. cond t (Some (Some old)) (first_before f b es)) (at_self f b))))
     ]
 
-moves : (xs es : List Event) (c : Content) (f b : ℕ) (before : Option Block) (after : Block) → Walk xs (change f b before after ∷ es) c → Tells b before (c f)
+moves : (xs es : List Event) (c : Content) (f b : ℕ) (before : Option Block) (after : Block) → Walk xs (change f b before after ∷ es) c → TellsBefore b before (c f)
     → Walk (xs ++ change f b before after ∷ []) es (with_block c f b after)
 moves xs es c f b before after walk tells =
     let e = change f b before after in

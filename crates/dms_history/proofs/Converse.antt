@@ -1,7 +1,7 @@
 -- What has a base agrees.
 use Rattle.std.proofs.Common.{ℕ, ◌<◌, ◌≡◌, ◌||◌, inl, inr, Bool, true, false, cond, List, [], ◌∷◌, ◌++◌, length, get_or, Option, Some, None, refl, sym, ◌∙◌, ap, subst, arith, append_assoc}
 use Rattle.dms_history.specs.Events.{Block, Content, Stored, Counts, Event, change, quiet, control, begin}
-use Rattle.dms_history.specs.Replay.{Tells, Chain, replay, with_block}
+use Rattle.dms_history.specs.Replay.{TellsBefore, Chain, replay, with_block}
 use Rattle.dms_history.specs.Images.{is_at, or_else, last_after, first_before, value, choice}
 use Rattle.dms_history.specs.Lists.{has, after_last}
 use Rattle.dms_history.specs.Places.{is_control}
@@ -77,11 +77,11 @@ logged_below (quiet n ∷ es) c f b x chain last = logged_below es c f b x chain
 logged_below (control n next counts described ∷ es) c f b x chain last = logged_below es c f b x chain.1 last
 logged_below (begin n how ∷ es) c f b x chain last = absurd chain
 
-pub told : (before : Option Block) (b : ℕ) (l : List Block) → Tells b before l → b < length l → before ≡ Some (get_or l b [])
+pub told : (before : Option Block) (b : ℕ) (l : List Block) → TellsBefore b before l → b < length l → before ≡ Some (get_or l b [])
 told None b l tells low = absurd (omega arith)
 told (Some old) b l tells low = ap (λ x. Some x) tells.1
 
-grown : (before : Option Block) (b : ℕ) (l : List Block) → Tells b before l → FitsCount before b (length l)
+grown : (before : Option Block) (b : ℕ) (l : List Block) → TellsBefore b before l → FitsCount before b (length l)
 grown None b l tells = tells
 grown (Some old) b l tells = tells.0
 

@@ -3,7 +3,7 @@ use Rattle.std.proofs.Common.{ℕ, ◌+◌, max, ◌≡◌, ◌==◌, inl, inr, 
 use Rattle.std.proofs.lemmas.Bool.{cases_eq}
 use Rattle.std.proofs.lemmas.Bool.Decides.{nat_tests}
 use Rattle.dms_history.specs.Events.{Block, Content, Event, change, quiet, control, begin}
-use Rattle.dms_history.specs.Replay.{Tells, Chain, replay, with_block}
+use Rattle.dms_history.specs.Replay.{TellsBefore, Chain, replay, with_block}
 use Rattle.dms_history.specs.Lists.{has}
 use Rattle.dms_history.specs.Places.{is_control}
 use Rattle.dms_history.specs.Pick.{reached_count}
@@ -28,7 +28,7 @@ reached_any (begin n how ∷ xs) f k j found = reached_any xs f k j found
 
 -- ---- by the chain
 
-pub count_one : (c : Content) (f g b : ℕ) (before : Option Block) (after : Block) → Tells b before (c g) → reached_count f (length (c f)) (change g b before after ∷ []) ≡ length (with_block c g b after f)
+pub count_one : (c : Content) (f g b : ℕ) (before : Option Block) (after : Block) → TellsBefore b before (c g) → reached_count f (length (c f)) (change g b before after ∷ []) ≡ length (with_block c g b after f)
 count_one c f g b None after tells = elim (cases_eq g f) [
   | inl same ↦
       let long : b ≡ length (c f) = tells ∙ ap (λ j. length (c j)) same in

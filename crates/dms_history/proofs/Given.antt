@@ -24,7 +24,7 @@ true_not_false e = absurd cc
 
 -- ---- what stands before the first Control doesn't count
 
--- a front with a Control that begins with something else
+-- a prefix with a Control that begins with something else
 pub peel : (b c : Bool) (e : Event) (u : List Event) → is_control e ≡ false → has is_control (cond b (e ∷ []) (cond c (e ∷ u) [])) ≡ true → (b ≡ false) × (c ≡ true) × (has is_control u ≡ true)
 peel true c e u off found = absurd (true_not_false (sym found ∙ ap (λ k. k || false) off))
 peel false true e u off found = (refl, refl, ap (λ k. k || has is_control u) (sym off) ∙ found)
@@ -35,7 +35,7 @@ starts_from true c e u on = ap (λ k. cond k (e ∷ []) []) on
 starts_from false true e u on = ap (λ k. cond k (e ∷ u) (from_control u)) on
 starts_from false false e u on = refl
 
--- a front that has a Control is cut behind the first Control
+-- a prefix that has a Control is cut behind the first Control
 pub from_until : (p : Event → Bool) (es : List Event) → has is_control (until_first p es) ≡ true → from_control (until_first p es) ≡ until_first p (from_control es)
 from_until p [] found = refl
 from_until p (e ∷ es) found = elim (bool_cases (is_control e)) [

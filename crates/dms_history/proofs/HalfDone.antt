@@ -12,7 +12,7 @@ pub or_at : (b c : Bool) → b || c ≡ true → (b ≡ true) ⊎ ((b ≡ false)
 or_at true c e = inl refl
 or_at false c e = inr (refl, e)
 
--- what a front has, the whole has
+-- what a prefix has, the whole has
 pub has_front : (p q : Event → Bool) (es : List Event) → has q (until_first p es) ≡ true → has q es ≡ true
 has_front p q [] found = found
 has_front p q (e ∷ es) found = go (p e) (has p es) (λ more. has_front p q es more) found
@@ -22,7 +22,7 @@ has_front p q (e ∷ es) found = go (p e) (has p es) (λ more. has_front p q es 
     go false true rest at = elim (or_at (q e) (has q (until_first p es)) at) [ inl here ↦ true_or (q e) (has q es) here | inr more ↦ or_true_right (q e) (has q es) (rest more.1) ]
     go false false rest at = absurd (false_is_true at)
 
--- a front of a front
+-- a prefix of a prefix
 pub until_until : (p q : Event → Bool) (es : List Event) → has q (until_first p es) ≡ true → until_first q (until_first p es) ≡ until_first q es
 until_until p q [] found = refl
 until_until p q (e ∷ es) found = go (p e) (has p es) (λ more. until_until p q es more) (λ more. has_front p q es more) found

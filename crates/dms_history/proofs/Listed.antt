@@ -9,7 +9,7 @@ use Rattle.dms_history.specs.Places.{is_point, is_described, point_numbers, IsLi
 use Rattle.dms_history.specs.Pick.{blocks_at}
 use Rattle.dms_history.specs.Agrees.{Numbered}
 use Rattle.dms_history.specs.Points.{LivePoint, numbers_of, placed, new_place, numbers_from, live_numbers, point_at, live_points, AllAbove, Rises, AllLive, ListsPoints}
-use Rattle.dms_history.specs.LawsOfPointLists.{PointsListed, OneList, PointsFront, PointsStay}
+use Rattle.dms_history.specs.LawsOfPointLists.{PointsListed, OneList, PointsPrefix, PointsStay}
 use Rattle.dms_history.proofs.AtPoints.{true_or, or_true_right}
 use Rattle.dms_history.proofs.Base.{has_append}
 use Rattle.dms_history.proofs.HalfDone.{or_at}
@@ -241,7 +241,7 @@ pub points_alike : (live later : List Event) (counted then : Stored) (ns : List 
 points_alike live later counted then [] all same = refl
 points_alike live later counted then (n ∷ ns) all same = λ i. record { number = n; blocks = same n all.0 i } ∷ points_alike live later counted then ns all.1 same i
 
-pub points_front : PointsFront
+pub points_front : PointsPrefix
 unfolding live_points live_numbers
 points_front live more base counted later sound grown =
     ap (λ (l : List ℕ). map (point_at (live ++ more) later) l) (numbers_append [] live more)

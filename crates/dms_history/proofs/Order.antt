@@ -60,7 +60,7 @@ point_among (control m next counts described ∷ es) n found = elim (or_at (m ==
 ]
 point_among (begin m how ∷ es) n found = point_among es n found
 
--- a front ends with its point
+-- a prefix ends with its point
 pub front_ends : (es : List Event) (m : ℕ) → has (is_point m) es ≡ true → (xs : List ℕ) × (point_numbers (until_first (is_point m) es) ≡ xs ++ m ∷ [])
 front_ends [] m found = absurd (true_not_false (sym found))
 front_ends (change f b before after ∷ es) m found =

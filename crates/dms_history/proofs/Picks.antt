@@ -4,7 +4,7 @@ use Rattle.std.proofs.lemmas.List.{get_or_at, get_or_append_left, get_or-take, g
 use Rattle.std.proofs.lemmas.Bool.{cases_eq, cases_lt}
 use Rattle.std.proofs.lemmas.Bool.Decides.{nat_tests}
 use Rattle.dms_history.specs.Events.{Block, Content, Event, change, quiet, control, begin, block_in}
-use Rattle.dms_history.specs.Replay.{with_block, replay, Tells, Chain}
+use Rattle.dms_history.specs.Replay.{with_block, replay, TellsBefore, Chain}
 use Rattle.dms_history.specs.Images.{is_at, or_else, last_after, first_before, else_stored, value, choice}
 use Rattle.dms_history.specs.LawsOfPoints.{ChoiceGivesContent}
 
@@ -68,7 +68,7 @@ write_old c f b x g k le apart low = elim (cases_eq g f) [
 
 -- ---- events
 
-pub tells_le : (b : ℕ) (before : Option Block) (l : List Block) → Tells b before l → b ≤ length l
+pub tells_le : (b : ℕ) (before : Option Block) (l : List Block) → TellsBefore b before l → b ≤ length l
 tells_le b None l t = omega (arith, t)
 tells_le b (Some old) l t = omega (arith, t.0)
 
@@ -160,14 +160,14 @@ first_old (change g k before after ∷ es) c f b o chain low first =
     elim (place_cases f b g k) [
       | inl place ↦
           let same : before ≡ o = some_is before o (sym (ap (λ t. cond t (Some before) (first_before f b es)) place.2) ∙ first) in
-          let tells : Tells b before (c f) = subst (λ j. Tells b before (c j)) place.0 (subst (λ j. Tells j before (c g)) place.1 chain.0) in
+          let tells : TellsBefore b before (c f) = subst (λ j. TellsBefore b before (c j)) place.0 (subst (λ j. TellsBefore j before (c g)) place.1 chain.0) in
           sym same ∙ told before tells low
       | inr apart ↦
           let rest : first_before f b es ≡ Some o = sym (ap (λ t. cond t (Some before) (first_before f b es)) apart.1) ∙ first in
           first_old es (with_block c g k after) f b o chain.1 (omega (arith, low, write_length c g k after f le)) rest ∙ ap (λ x. Some x) (write_other c g k after f b le apart.0 low)
     ]
   where
-    told : (before : Option Block) → Tells b before (c f) → b < length (c f) → before ≡ Some (block_in c f b)
+    told : (before : Option Block) → TellsBefore b before (c f) → b < length (c f) → before ≡ Some (block_in c f b)
     told None tells low = absurd (omega arith)
     told (Some old) tells low = ap (λ x. Some x) tells.1
 first_old (quiet n ∷ es) c f b o chain low first = first_old es c f b o chain low first

@@ -42,7 +42,7 @@ module _ (live : List Event) (n f b : ℕ) (stored : Block) where
 true_not_false : true ≡ false → ⊥
 true_not_false e = absurd cc
 
--- the count that a front reaches is the count at its last point
+-- the count that a prefix reaches is the count at its last point
 pub count_there : (live front : List Event) (n f : ℕ) → until_first (is_point n) live ≡ front → reached_count f 0 front ≡ count_at live n f
 unfolding count_at
 count_there live front n f cut = sym (ap (λ (l : List Event). reached_count f 0 l) cut)

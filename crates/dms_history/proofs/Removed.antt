@@ -6,7 +6,7 @@ use Rattle.dms_history.specs.Images.{or_else, last_after}
 use Rattle.dms_history.specs.Lists.{has, until_first, after_last}
 use Rattle.dms_history.specs.Places.{is_control, is_described, is_point, IsLive}
 use Rattle.dms_history.specs.Base.{Sound, opening, from_control, Opened}
-use Rattle.dms_history.specs.LawsOfBase.{FrontGoes}
+use Rattle.dms_history.specs.LawsOfBase.{PrefixGoes}
 use Rattle.dms_history.proofs.Picks.{last_append, last_stands, chain_split}
 use Rattle.dms_history.proofs.AtPoints.{bool_cases, or_no, replay_append, or_true_right}
 use Rattle.dms_history.proofs.Base.{has_append, parts, after_behind}
@@ -16,7 +16,7 @@ use Rattle.dms_history.proofs.Given.{controlled, peel, from_has, at_point}
 true_not_false : true ≡ false → ⊥
 true_not_false e = absurd cc
 
--- a front without the point
+-- a prefix without the point
 until_past : (p : Event → Bool) (xs ys : List Event) → has p xs ≡ false → has p ys ≡ true → until_first p (xs ++ ys) ≡ xs ++ until_first p ys
 until_past p [] ys off found = refl
 until_past p (x ∷ xs) ys off found =
@@ -73,7 +73,7 @@ opening_on p (e ∷ es) found = elim (bool_cases (is_control e)) [
 not_opening : (es : List Event) (n : ℕ) → IsLive es n → until_first (is_point n) es ≡ opening es ++ until_first (is_point n) (from_control es)
 not_opening es n at = opening_on (is_point n) es (controlled es n at)
 
-pub front_goes : FrontGoes
+pub front_goes : PrefixGoes
 front_goes xs ys base counted sound opened found = elim (bool_cases (has is_control xs)) [
   | inr off ↦
       let r = behind_none xs ys off in

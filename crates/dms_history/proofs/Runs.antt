@@ -1,7 +1,7 @@
 -- What keeps entries and stored blocks sound.
 use Rattle.std.proofs.Common.{ℕ, ◌<◌, ◌≡◌, ◌||◌, inl, inr, Bool, true, false, cond, List, [], ◌∷◌, ◌++◌, length, Option, Some, None, refl, sym, ◌∙◌, ap, subst}
 use Rattle.dms_history.specs.Events.{Block, Content, Event, change, quiet, control, begin, block_in}
-use Rattle.dms_history.specs.Replay.{Tells, Chain, replay, with_block}
+use Rattle.dms_history.specs.Replay.{TellsBefore, Chain, replay, with_block}
 use Rattle.dms_history.specs.Images.{is_at, last_after}
 use Rattle.dms_history.specs.Lists.{has, after_last}
 use Rattle.dms_history.specs.Places.{is_control}
@@ -10,7 +10,7 @@ use Rattle.dms_history.proofs.Picks.{or_none, last_append, tells_le, write_other
 use Rattle.dms_history.proofs.AtPoints.{bool_cases, replay_append}
 use Rattle.dms_history.proofs.HalfDone.{chain_control}
 
-chain_push : (es : List Event) (c : Content) (f b : ℕ) (before : Option Block) (after : Block) → Chain es c → Tells b before (replay es c f) → Chain (es ++ change f b before after ∷ []) c
+chain_push : (es : List Event) (c : Content) (f b : ℕ) (before : Option Block) (after : Block) → Chain es c → TellsBefore b before (replay es c f) → Chain (es ++ change f b before after ∷ []) c
 chain_push [] c f b before after chain tells = (tells, tt)
 chain_push (change g k old new ∷ es) c f b before after chain tells = (chain.0, chain_push es (with_block c g k new) f b before after chain.1 tells)
 chain_push (quiet n ∷ es) c f b before after chain tells = chain_push es c f b before after chain tells

@@ -26,7 +26,7 @@ true_not_false e = absurd cc
 none_not_some : {A : Type 0} (x : A) → None ≡ Some x → ⊥
 none_not_some x e = absurd cc
 
--- ---- fronts
+-- ---- prefixes
 
 pub has_self : (p : Event → Bool) (es : List Event) → has p es ≡ true → has p (until_first p es) ≡ true
 has_self p [] found = found

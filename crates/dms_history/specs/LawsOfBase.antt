@@ -43,8 +43,8 @@ pub record HasLaterBase (xs ys : List Event) (here : Stored) : Type 0 where
   pub points : (n : ℕ) → IsLive ys n → has (is_point n) xs ≡ false → HasPoint (xs ++ ys) here n (blocks_at ys here n)
 
 -- Old audit files are removed from the front: what counts has a later base, and each live point whose place is not removed has its content.
-abbrev pub FrontGoes : Type 0
-FrontGoes = (xs ys : List Event) (base : Content) (here : Stored) → Sound (from_control (xs ++ ys)) base here → Opened (opening (xs ++ ys)) base → has is_control ys ≡ true
+abbrev pub PrefixGoes : Type 0
+PrefixGoes = (xs ys : List Event) (base : Content) (here : Stored) → Sound (from_control (xs ++ ys)) base here → Opened (opening (xs ++ ys)) base → has is_control ys ≡ true
     → HasLaterBase xs ys here
 
 -- What stands before the first Control stays as it is, whatever follows and wherever a Begin cuts behind that Control.

@@ -1,7 +1,7 @@
 -- Laws: what a database keeps between two calls goes on over each entry that it seals and each block that it writes.
 use Rattle.std.specs.Prelude.{ℕ, ◌-◌, ◌^◌, ◌<◌, ◌≤◌, ◌≡◌, Bool, true, List, [], ◌∷◌, ◌++◌, take, length, Option, Some, None}
 use Rattle.dms_history.specs.Events.{Block, Content, Stored, block_in}
-use Rattle.dms_history.specs.Replay.{Tells, with_block}
+use Rattle.dms_history.specs.Replay.{TellsBefore, with_block}
 use Rattle.dms_history.specs.Lists.{has, after_last}
 use Rattle.dms_history.specs.Places.{is_control, is_point, IsLive}
 use Rattle.dms_history.specs.History.{Pending, last_point}
@@ -35,7 +35,7 @@ KeptFirst = (one : List ℕ) (rest : List (List ℕ)) (dumps : Dumps) (stored : 
 -- An Image that tells what stood before it: the content has the block.
 abbrev pub KeptImage : Type 0
 KeptImage = (first : Bool) (entries : List Entry) (dumps : Dumps) (base : Content) (stored : Stored) (f b : ℕ) (before : Option Block) (after : Block) → Kept first entries dumps base stored
-    → IsIdle entries → Tells b before (content_told entries base f)
+    → IsIdle entries → TellsBefore b before (content_told entries base f)
     → KeptTelling first (entries ++ image f b before after ∷ []) dumps base stored (with_block (content_told entries base) f b after)
 
 -- A Range of a block with an Image itself since the last Control: the content has its bytes.

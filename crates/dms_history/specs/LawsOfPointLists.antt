@@ -21,8 +21,8 @@ abbrev pub OneList : Type 0
 OneList = (live : List Event) (counted : Stored) (points others : List LivePoint) → ListsPoints live counted points → ListsPoints live counted others → points ≡ others
 
 -- The points of a longer list of events begin with those of the shorter one, whatever was written by then.
-abbrev pub PointsFront : Type 0
-PointsFront = (live more : List Event) (base : Content) (counted later : Stored) → Sound (from_control live) base counted → Sound (from_control (live ++ more)) base later
+abbrev pub PointsPrefix : Type 0
+PointsPrefix = (live more : List Event) (base : Content) (counted later : Stored) → Sound (from_control live) base counted → Sound (from_control (live ++ more)) base later
     → live_points (live ++ more) later ≡ live_points live counted ++ map (point_at (live ++ more) later) (numbers_from live more)
 
 -- Other blocks over the same events: the same points.

@@ -1,7 +1,7 @@
 -- Laws: each step of a database that runs keeps it steady.
 use Rattle.std.specs.Prelude.{ℕ, ◌<◌, ◌≤◌, ◌≡◌, Bool, true, false, List, [], ◌∷◌, ◌++◌, length, Option, None}
 use Rattle.dms_history.specs.Events.{Block, Content, Stored, Counts, Event, change, quiet, control, block_in}
-use Rattle.dms_history.specs.Replay.{Tells, Chain, replay}
+use Rattle.dms_history.specs.Replay.{TellsBefore, Chain, replay}
 use Rattle.dms_history.specs.Lists.{has, after_last}
 use Rattle.dms_history.specs.Places.{is_control, is_described, IsLive}
 use Rattle.dms_history.specs.History.{History, after_event, history_from}
@@ -15,7 +15,7 @@ use Rattle.dms_history.specs.Points.{HasPoint}
 -- One more change is sealed, which tells what stood before it.
 abbrev pub Changes : Type 0
 Changes = (entries : List Event) (base : Content) (stored : Stored) (f b : ℕ) (before : Option Block) (after : Block) → Sound entries base stored
-    → Tells b before (replay entries base f) → Sound (entries ++ change f b before after ∷ []) base stored
+    → TellsBefore b before (replay entries base f) → Sound (entries ++ change f b before after ∷ []) base stored
 
 -- One more quiet point is sealed.
 abbrev pub Quiets : Type 0
@@ -32,9 +32,9 @@ Controls = (entries : List Event) (base : Content) (stored written : Stored) (n 
     → ((f : ℕ) → counts f ≡ length (replay entries base f)) → ((f b : ℕ) → b < length (replay entries base f) → written f b ≡ block_in (replay entries base) f b)
     → Sound (entries ++ control n next counts described ∷ []) base written
 
--- The same four over a whole history, whose front may have been removed.
+-- The same four over a whole history, whose prefix may have been removed.
 pub record RunsOn (dumps : Dumps) (h : History) (base : Content) (stored : Stored) : Type 0 where
-  pub change : (f b : ℕ) (before : Option Block) (after : Block) → Tells b before (replay (from_control h.live) base f) → Steady dumps (after_event h (change f b before after)) base stored
+  pub change : (f b : ℕ) (before : Option Block) (after : Block) → TellsBefore b before (replay (from_control h.live) base f) → Steady dumps (after_event h (change f b before after)) base stored
   pub quiet : (n : ℕ) → Steady dumps (after_event h (quiet n)) base stored
   pub writes : (written : Stored) → ((f b : ℕ) → b < length (replay (from_control h.live) base f) → last_after f b (after_last is_control (from_control h.live)) ≡ None → written f b ≡ stored f b)
       → Steady dumps h base written

@@ -18,14 +18,14 @@ replay [] content = content
 replay (e ∷ es) content = replay es (apply e content)
 
 -- A change tells what stood in its file before it: no before-image where the block is new and goes to the end, else the block that was there.
-abbrev pub Tells : ℕ → Option Block → List Block → Type 0
-Tells b None blocks = b ≡ length blocks
-Tells b (Some old) blocks = (b < length blocks) × (old ≡ slice_index_or blocks b [])
+abbrev pub TellsBefore : ℕ → Option Block → List Block → Type 0
+TellsBefore b None blocks = b ≡ length blocks
+TellsBefore b (Some old) blocks = (b < length blocks) × (old ≡ slice_index_or blocks b [])
 
 -- Each change tells what stood before it, and each Control has the counts of its moment.
 abbrev pub Chain : List Event → Content → Type 0
 Chain [] content = Unit {0}
-Chain (change f b before after ∷ es) content = Tells b before (content f) × Chain es (with_block content f b after)
+Chain (change f b before after ∷ es) content = TellsBefore b before (content f) × Chain es (with_block content f b after)
 Chain (quiet n ∷ es) content = Chain es content
 Chain (control n next counts described ∷ es) content = ((f : ℕ) → counts f ≡ length (content f)) × Chain es content
 Chain (begin n how ∷ es) content = ⊥

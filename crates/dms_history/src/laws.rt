@@ -1,11 +1,11 @@
 //! Laws of the definitions. Each stands on a function with an empty body, so that the check proves it.
 
 ghost use Rattle.dms_history.specs.LawsOfPoints.{ChoiceGivesContent, EachPoint, EachLivePoint, OpeningNeverCounts};
-ghost use Rattle.dms_history.specs.LawsOfBase.{AgreesHasBase, AgreesLeadsToBase, BaseAgrees, AgreesIsSteady, SteadyAgrees, OpeningStays, FrontGoes};
+ghost use Rattle.dms_history.specs.LawsOfBase.{AgreesHasBase, AgreesLeadsToBase, BaseAgrees, AgreesIsSteady, SteadyAgrees, OpeningStays, PrefixGoes};
 ghost use Rattle.dms_history.specs.LawsOfRunning.{Changes, Quiets, WritesEarly, Controls, RunsSteady, SealsRun, PointsGoOn, QuietIsLive, ControlStands};
 ghost use Rattle.dms_history.specs.Sizes.{SizedReplay, SizedBase};
 ghost use Rattle.dms_history.specs.Told.{EachTold, EachFromFile};
-ghost use Rattle.dms_history.specs.LawsOfPointLists.{PointsListed, OneList, PointsFront, PointsStay, ListsChange, ListsQuiet, ListsControl, ListsBegin, LastKeepsAll};
+ghost use Rattle.dms_history.specs.LawsOfPointLists.{PointsListed, OneList, PointsPrefix, PointsStay, ListsChange, ListsQuiet, ListsControl, ListsBegin, LastKeepsAll};
 ghost use Rattle.dms_history.specs.LawsOfSchemas.{EachSchema, SchemaStays, SchemaOfNew, LiveHasSchema};
 ghost use Rattle.dms_history.specs.Judge.{EachJudged};
 ghost use Rattle.dms_history.specs.LawsOfRestores.{RestoreBegins, RestoreWrites, RestoreEnds, EndsFirst, PendingWritesFirst, NoDumpCounts, PendingCuts, HereFixed};
@@ -36,7 +36,7 @@ pub fn stays_steady()
     ensures steady { AgreesIsSteady }
     ensures agrees { SteadyAgrees }
     ensures opening { OpeningStays }
-    ensures front { FrontGoes }
+    ensures front { PrefixGoes }
 {}
 
 /// A database that runs keeps steady over a change, a quiet point, an early write and a control point.
@@ -70,7 +70,7 @@ pub fn restores_keep()
 pub fn points_are_listed()
     ensures listed { PointsListed }
     ensures one { OneList }
-    ensures front { PointsFront }
+    ensures front { PointsPrefix }
     ensures stay { PointsStay }
     ensures change { ListsChange }
     ensures quiet { ListsQuiet }

@@ -17,7 +17,7 @@ use Rattle.dms_desc.specs.Shape.{Shape, Described}
 use Rattle.dms_model.specs.declared.spot.Spot.{Spot}
 use Rattle.dms_model.specs.declared.verb.Path.{Path}
 use Rattle.dms_model.specs.declared.verb.Path.TheVariants.{First, Last, At}
-use Rattle.dms_model.specs.Db.{Db, Entry, Records, Place, place_cmp}
+use Rattle.dms_model.specs.Db.{Db, SubsetEntry, Records, Place, place_cmp}
 use Rattle.dms_desc.specs.Keys.{key_of, key_cmp}
 use Rattle.dms_desc.specs.Kinds.{over}
 use Rattle.dms_desc.specs.Lookups.{structure_of, items_of, over_of, parts_of, set_of}

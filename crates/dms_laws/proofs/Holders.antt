@@ -8,7 +8,7 @@ use Rattle.std.proofs.lemmas.Slice.Eq.{bytes_eq-Decides}
 use Rattle.dms_model.specs.declared.program.Program.{Program}
 use Rattle.dms_model.specs.Db.{Place}
 use Rattle.dms_model.specs.Session.{Session}
-use Rattle.dms_laws.specs.Exclusive.{AreApart, AreAllApart, AreSafe, IsExclusive, HasOneHolder, is_locked_for, locks_it}
+use Rattle.dms_laws.specs.Exclusive.{ShareNoLock, AllShareNoLock, AreSafe, IsExclusive, HasOneHolder, is_locked_for, locks_it}
 use Rattle.dms_laws.proofs.Lists.{has, of_lock}
 
 named_parts : (who : List ℕ) (place : Place) (x : Program) → has who place x ≡ true → (x.name ≡ who) × (locks_it x place ≡ true)
@@ -19,17 +19,17 @@ named_parts who place x h = by (bytes_eq x.name who) (locks_it x place) refl h
     by false b e h = absurd (cc)
 
 -- one program locks it, and a later one doesn't
-not_later : (who : List ℕ) (place : Place) (x : Program) (ps : List Program) → AllByRecursion (AreApart x) ps → locks_it x place ≡ true → list_any (has who place) ps ≡ true → ⊥
-not_later who place x ps apart l any = of_lock (AreApart x) ⊥ who place (λ y a is r. a.locks place l r) ps apart any
+not_later : (who : List ℕ) (place : Place) (x : Program) (ps : List Program) → AllByRecursion (ShareNoLock x) ps → locks_it x place ≡ true → list_any (has who place) ps ≡ true → ⊥
+not_later who place x ps apart l any = of_lock (ShareNoLock x) ⊥ who place (λ y a is r. a.locks place l r) ps apart any
 
-two_at : (a b : Bool) (who other : List ℕ) (place : Place) (x : Program) (ps : List Program) → who ≢ other → AllByRecursion (AreApart x) ps → has who place x ≡ a → has other place x ≡ b
+two_at : (a b : Bool) (who other : List ℕ) (place : Place) (x : Program) (ps : List Program) → who ≢ other → AllByRecursion (ShareNoLock x) ps → has who place x ≡ a → has other place x ≡ b
     → (a || list_any (has who place) ps) ≡ true → (b || list_any (has other place) ps) ≡ true → (list_any (has who place) ps ≡ true → list_any (has other place) ps ≡ true → ⊥) → ⊥
 two_at true true who other place x ps unlike apart e f h k rest = unlike (sym (named_parts who place x e).0 ∙ (named_parts other place x f).0)
 two_at true false who other place x ps unlike apart e f h k rest = not_later other place x ps apart (named_parts who place x e).1 k
 two_at false true who other place x ps unlike apart e f h k rest = not_later who place x ps apart (named_parts other place x f).1 h
 two_at false false who other place x ps unlike apart e f h k rest = rest h k
 
-not_two : (who other : List ℕ) (place : Place) (ps : List Program) → who ≢ other → AreAllApart ps → list_any (has who place) ps ≡ true → list_any (has other place) ps ≡ true → ⊥
+not_two : (who other : List ℕ) (place : Place) (ps : List Program) → who ≢ other → AllShareNoLock ps → list_any (has who place) ps ≡ true → list_any (has other place) ps ≡ true → ⊥
 not_two who other place [] unlike apart h k = absurd (cc)
 not_two who other place (x ∷ ps) unlike apart h k = two_at (has who place x) (has other place x) who other place x ps unlike apart.0 refl refl h k (not_two who other place ps unlike apart.1)
 

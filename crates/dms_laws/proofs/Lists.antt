@@ -8,9 +8,9 @@ use Rattle.dms_model.specs.declared.program.Program.{Program}
 use Rattle.dms_model.specs.Db.{Place}
 use Rattle.dms_model.specs.Session.{place_of, without}
 use Rattle.dms_model.specs.Founds.{all_both}
-use Rattle.dms_laws.specs.Exclusive.{AreApart, AreAllApart, locks_it}
+use Rattle.dms_laws.specs.Exclusive.{ShareNoLock, AllShareNoLock, locks_it}
 
-pub flipped : (p q : Program) → AreApart p q → AreApart q p
+pub flipped : (p q : Program) → ShareNoLock p q → ShareNoLock q p
 flipped p q h = record { names = λ e. h.names (sym e); locks = λ place a b. h.locks place b a }
 
 module _ {A : Type 0} {P : A → Type 0} (R : A → Type 0) (g : A → A) where
@@ -39,37 +39,37 @@ module _ (P : Program → Type 0) where
   all_without (x ∷ ps) (suc i) a = (a.0, all_without ps i a.1)
 
 -- the program at a place changed, and the others but for what concerned it
-module _ (P Q : Program → Type 0) (p q : Program) (other : (x : Program) → AreApart p x → P x → Q x) (own : Q q) where
-  pub all_changed : (ps : List Program) (i : ℕ) → slice_get ps i ≡ Some p → AreAllApart ps → AllByRecursion P ps → AllByRecursion Q (slice_set ps i q)
+module _ (P Q : Program → Type 0) (p q : Program) (other : (x : Program) → ShareNoLock p x → P x → Q x) (own : Q q) where
+  pub all_changed : (ps : List Program) (i : ℕ) → slice_get ps i ≡ Some p → AllShareNoLock ps → AllByRecursion P ps → AllByRecursion Q (slice_set ps i q)
   all_changed [] i at apart a = absurd (cc)
   all_changed (x ∷ ps) zero at apart a =
       let is : x ≡ p = cc in
-      (own, all_both Q ps (λ y h k. other y (subst (λ (z : Program). AreApart z y) is h) k) apart.0 a.1)
+      (own, all_both Q ps (λ y h k. other y (subst (λ (z : Program). ShareNoLock z y) is h) k) apart.0 a.1)
   all_changed (x ∷ ps) (suc i) at apart a =
-      (other x (flipped x p (all_at (AreApart x) ps i p at apart.0)) a.0, all_changed ps i at apart.1 a.1)
+      (other x (flipped x p (all_at (ShareNoLock x) ps i p at apart.0)) a.0, all_changed ps i at apart.1 a.1)
 
-module _ (P : Program → Type 0) (p q : Program) (other : (x : Program) → AreApart p x → P x → AreApart q x) where
-  pub apart_changed : (ps : List Program) (i : ℕ) → slice_get ps i ≡ Some p → AreAllApart ps → AllByRecursion P ps → AreAllApart (slice_set ps i q)
+module _ (P : Program → Type 0) (p q : Program) (other : (x : Program) → ShareNoLock p x → P x → ShareNoLock q x) where
+  pub apart_changed : (ps : List Program) (i : ℕ) → slice_get ps i ≡ Some p → AllShareNoLock ps → AllByRecursion P ps → AllShareNoLock (slice_set ps i q)
   apart_changed [] i at apart a = absurd (cc)
   apart_changed (x ∷ ps) zero at apart a =
       let is : x ≡ p = cc in
-      (all_both (AreApart q) ps (λ y h k. other y (subst (λ (z : Program). AreApart z y) is h) k) apart.0 a.1, apart.1)
+      (all_both (ShareNoLock q) ps (λ y h k. other y (subst (λ (z : Program). ShareNoLock z y) is h) k) apart.0 a.1, apart.1)
   apart_changed (x ∷ ps) (suc i) at apart a =
-      let here = other x (flipped x p (all_at (AreApart x) ps i p at apart.0)) a.0 in
-      (all_set (AreApart x) ps i q apart.0 (flipped q x here), apart_changed ps i at apart.1 a.1)
+      let here = other x (flipped x p (all_at (ShareNoLock x) ps i p at apart.0)) a.0 in
+      (all_set (ShareNoLock x) ps i q apart.0 (flipped q x here), apart_changed ps i at apart.1 a.1)
 
-pub apart_pushed : (ps : List Program) (q : Program) → AreAllApart ps → AllByRecursion (λ x. AreApart x q) ps → AreAllApart (ps ++ q ∷ [])
+pub apart_pushed : (ps : List Program) (q : Program) → AllShareNoLock ps → AllByRecursion (λ x. ShareNoLock x q) ps → AllShareNoLock (ps ++ q ∷ [])
 apart_pushed [] q apart new = (tt, tt)
-apart_pushed (x ∷ ps) q apart new = (all_pushed (AreApart x) ps q apart.0 new.0, apart_pushed ps q apart.1 new.1)
+apart_pushed (x ∷ ps) q apart new = (all_pushed (ShareNoLock x) ps q apart.0 new.0, apart_pushed ps q apart.1 new.1)
 
-pub apart_without : (ps : List Program) (i : ℕ) → AreAllApart ps → AreAllApart (without i ps)
+pub apart_without : (ps : List Program) (i : ℕ) → AllShareNoLock ps → AllShareNoLock (without i ps)
 apart_without [] i apart = tt
 apart_without (x ∷ ps) zero apart = apart.1
-apart_without (x ∷ ps) (suc i) apart = (all_without (AreApart x) ps i apart.0, apart_without ps i apart.1)
+apart_without (x ∷ ps) (suc i) apart = (all_without (ShareNoLock x) ps i apart.0, apart_without ps i apart.1)
 
-pub apart_mapped : (g : Program → Program) → ((x y : Program) → AreApart x y → AreApart (g x) (g y)) → (ps : List Program) → AreAllApart ps → AreAllApart (map g ps)
+pub apart_mapped : (g : Program → Program) → ((x y : Program) → ShareNoLock x y → ShareNoLock (g x) (g y)) → (ps : List Program) → AllShareNoLock ps → AllShareNoLock (map g ps)
 apart_mapped g f [] apart = tt
-apart_mapped g f (x ∷ ps) apart = (all_mapped (AreApart (g x)) g ps (λ y h. f x y h) apart.0, apart_mapped g f ps apart.1)
+apart_mapped g f (x ∷ ps) apart = (all_mapped (ShareNoLock (g x)) g ps (λ y h. f x y h) apart.0, apart_mapped g f ps apart.1)
 
 -- names
 

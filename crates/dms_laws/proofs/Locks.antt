@@ -23,8 +23,8 @@ use Rattle.dms_model.specs.declared.spot.Spot.{Spot}
 use Rattle.dms_model.specs.Db.{Db, Place, fresh, records_of}
 use Rattle.dms_desc.specs.Lookups.{name_of, structure_of, items_of, set_of}
 use Rattle.dms_model.specs.Stores.{put_answer, put_unless, put_number, is_full, clash, put_after, linked, stored}
-use Rattle.dms_model.specs.Session.{Session, Outcome, Kept, Refused, Keeps, Filled, Misfit, Values', refuse, done, shows, settle, keep, store_step, after_store, begin_step, after_begin, begin_unless, awaited, end_step, after_end, abort_step, find_step, after_find, found_by, create_step, put_step, put_area, after_put, filled, get_step, get_area, close_step, open_as, open_step, verb_step, step_at, step, with_program, with_work, with_lock, work_of, restart_of, someone_works, is_inquiry, opens, changes, path_of, new_program, place_of, carried, entered, left, without, idle, backed_out, found_program, stored_program, let_go, is_lock, is_elsewhere, area_kept, kept_unless, put_kept, missing_from, verified, area_values, area_number, record_of, is_free, one_more, with_values}
-use Rattle.dms_laws.specs.Exclusive.{AreApart, AreAllApart, AreSafe, AreExclusive, IsExclusive, locks_it, is_locked_for, backs_out, is_done, LocksStayExclusive, LosesNoUpdate, LeavesLocks, BacksOut, locks_left}
+use Rattle.dms_model.specs.Session.{Session, Outcome, StoreResult, Refused, Keeps, Filled, Misfit, Values', refuse, done, shows, settle, keep, store_step, after_store, begin_step, after_begin, begin_unless, awaited, end_step, after_end, abort_step, find_step, after_find, found_by, create_step, put_step, put_area, after_put, filled, get_step, get_area, close_step, open_as, open_step, verb_step, step_at, step, with_program, with_work, with_lock, work_of, restart_of, someone_works, is_inquiry, opens, changes, path_of, new_program, place_of, carried, entered, left, without, idle, backed_out, found_program, stored_program, let_go, is_lock, is_elsewhere, area_kept, kept_unless, put_kept, missing_from, verified, area_values, area_number, record_of, is_free, one_more, with_values}
+use Rattle.dms_laws.specs.Exclusive.{ShareNoLock, AllShareNoLock, AreSafe, AreExclusive, IsExclusive, locks_it, is_locked_for, backs_out, is_done, LocksStayExclusive, LosesNoUpdate, LeavesLocks, BacksOut, locks_left}
 use Rattle.dms_laws.specs.Runs.{after}
 use Rattle.dms_model.specs.Places.{get_other, stands_still, stands_there}
 use Rattle.dms_model.specs.Founds.{all_both}
@@ -143,20 +143,20 @@ fair_settled s name verb t h =
     (fair_if s name verb t.pending _ _ (settle_fair s name verb t false 0 (t.next + 1) (Some t.next) [] ((t.next, t.db) ∷ []) h) (settle_fair s name verb t t.pending t.since (t.next + 1) None [] ((t.next, t.db) ∷ []) h))
 
 -- the other programs, each with what holds of it
-others_apart : (ps : List Program) (i : ℕ) (p : Program) → slice_get ps i ≡ Some p → AreAllApart ps → AllByRecursion (λ x. x.name ≢ p.name → AreApart p x) ps
+others_apart : (ps : List Program) (i : ℕ) (p : Program) → slice_get ps i ≡ Some p → AllShareNoLock ps → AllByRecursion (λ x. x.name ≢ p.name → ShareNoLock p x) ps
 others_apart [] i p at apart = tt
 others_apart (x ∷ ps) zero p at apart =
     let is : x ≡ p = cc in
-    ((λ n. absurd (n (ap (λ (y : Program). y.name) is))), all_both {P = AreApart x} {Q = AreApart x} (λ y. y.name ≢ p.name → AreApart p y) ps (λ y h k n. subst (λ (z : Program). AreApart z y) is h) apart.0 apart.0)
+    ((λ n. absurd (n (ap (λ (y : Program). y.name) is))), all_both {P = ShareNoLock x} {Q = ShareNoLock x} (λ y. y.name ≢ p.name → ShareNoLock p y) ps (λ y h k n. subst (λ (z : Program). ShareNoLock z y) is h) apart.0 apart.0)
 others_apart (x ∷ ps) (suc i) p at apart =
-    let a = all_at (AreApart x) ps i p at apart.0 in
+    let a = all_at (ShareNoLock x) ps i p at apart.0 in
     ((λ n. record { names = λ e. a.names (sym e); locks = λ place l r. a.locks place r l }), others_apart ps i p at apart.1)
 
 module _ (s : Session) (i : ℕ) (p : Program) (name : List ℕ) (at : slice_get s.programs i ≡ Some p) (ex : IsExclusive s) (own : p.name ≡ name) where
   mine : AreSafe s.db s.mark p
   mine = all_at (AreSafe s.db s.mark) s.programs i p at ex.safe
 
-  free_of : (x : Program) (place : Place) → AreApart p x → locks_it x place ≡ true → locks_it p place ≡ false
+  free_of : (x : Program) (place : Place) → ShareNoLock p x → locks_it x place ≡ true → locks_it p place ≡ false
   free_of x place a l = by (locks_it p place) refl
     where
       by : (b : Bool) → locks_it p place ≡ b → locks_it p place ≡ false
@@ -164,13 +164,13 @@ module _ (s : Session) (i : ℕ) (p : Program) (name : List ℕ) (at : slice_get
       by false e = e
 
   module _ (q : Program) (db : Db) (m : Moves s p q db) where
-    unchanged : (x : Program) → AreApart p x → AreSafe s.db s.mark x → (place : Place) → locks_it x place ≡ true → get db.records place ≡ get s.db.records place
+    unchanged : (x : Program) → ShareNoLock p x → AreSafe s.db s.mark x → (place : Place) → locks_it x place ≡ true → get db.records place ≡ get s.db.records place
     unchanged x a safe place l = m.same place (free_of x place a l) (safe.stand place l)
 
-    other_apart : (x : Program) → AreApart p x → AreSafe s.db s.mark x → AreApart q x
+    other_apart : (x : Program) → ShareNoLock p x → AreSafe s.db s.mark x → ShareNoLock q x
     other_apart x a safe = record { names = λ e. a.names (sym m.name ∙ e); locks = λ place l r. none_is_none (get s.db.records place) (m.new place (free_of x place a r) l) (safe.stand place r) }
 
-    other_safe : (x : Program) → AreApart p x → AreSafe s.db s.mark x → AreSafe db s.mark x
+    other_safe : (x : Program) → ShareNoLock p x → AreSafe s.db s.mark x → AreSafe db s.mark x
     other_safe x a safe = record { stand = λ place l. ap is_some (unchanged x a safe place l) ∙ safe.stand place l; kept = λ free place l. unchanged x a safe place l ∙ safe.kept free place l }
 
     moved : Marked s q db → AreExclusive db s.mark (slice_set s.programs i q)
@@ -180,7 +180,7 @@ module _ (s : Session) (i : ℕ) (p : Program) (name : List ℕ) (at : slice_get
     }
 
     abbrev Both : Program → Type 0
-    Both x = AreSafe s.db s.mark x × (x.name ≢ p.name → AreApart p x)
+    Both x = AreSafe s.db s.mark x × (x.name ≢ p.name → ShareNoLock p x)
 
     locked_same : (who : List ℕ) (place : Place) → who ≢ name → is_locked_for s who place ≡ true → get db.records place ≡ get s.db.records place
     locked_same who place apart was =
@@ -227,11 +227,11 @@ module _ (s : Session) (i : ℕ) (p : Program) (name : List ℕ) (at : slice_get
         same = λ place was some. get_other s.db.records (set, number) place v (λ is. none_is_none (get s.db.records (set, number)) (free (lock_if number place set was is)) (subst (λ (x : Place). is_some (get s.db.records x) ≡ true) is some));
       }
 
-  abbrev KeptMoves : Kept → Type 0
+  abbrev KeptMoves : StoreResult → Type 0
   KeptMoves (Refused c n) = Unit {0}
   KeptMoves (Keeps q db) = Moves s p q db
 
-  kept_if : (b : Bool) (x y : Kept) → (b ≡ true → KeptMoves x) → KeptMoves y → KeptMoves (cond b x y)
+  kept_if : (b : Bool) (x y : StoreResult) → (b ≡ true → KeptMoves x) → KeptMoves y → KeptMoves (cond b x y)
   kept_if true x y h k = h refl
   kept_if false x y h k = k
 
@@ -281,11 +281,11 @@ module _ (s : Session) (i : ℕ) (p : Program) (name : List ℕ) (at : slice_get
   left_moves : (q : Program) (db : Db) → Moves s p q db → Moves s p (left q) db
   left_moves q db m = record { name = m.name; new = λ place was now. absurd (cc); stand = λ place l. absurd (cc); same = m.same }
 
-  store_fair : (verb : Verb) (k : Kept) → KeptMoves k → Fair s name verb (after_store k i s)
+  store_fair : (verb : Verb) (k : StoreResult) → KeptMoves k → Fair s name verb (after_store k i s)
   store_fair verb (Refused c n) m = fair_refuse s name verb ex c n
   store_fair verb (Keeps q db) m = fair_moved (carried q) db (carried_moves q db m) verb s.pending s.since [] (λ active place l. absurd (cc))
 
-  after_begin_fair : (verb : Verb) (k : Kept) → KeptMoves k → Fair s name verb (after_begin k i s)
+  after_begin_fair : (verb : Verb) (k : StoreResult) → KeptMoves k → Fair s name verb (after_begin k i s)
   after_begin_fair verb (Refused c n) m = fair_refuse s name verb ex c n
   after_begin_fair verb (Keeps q db) m = fair_moved (entered q) db (entered_moves q db m) verb s.pending s.since [] (λ active place l. absurd (cc))
 
@@ -293,7 +293,7 @@ module _ (s : Session) (i : ℕ) (p : Program) (name : List ℕ) (at : slice_get
   begin_fair verb [] desc audit = after_begin_fair verb (cond audit (keep desc p s.db (restart_of desc)) (Keeps p s.db)) (if_moves audit desc)
   begin_fair verb (w ∷ ws) desc audit = record { exclusive = ex; same = λ who place apart was now. refl; locks = λ who place apart no. refl }
 
-  end_fair : (verb : Verb) (k : Kept) (desc : Described) (sync : Bool) → KeptMoves k → Fair s name verb (after_end k desc i s sync)
+  end_fair : (verb : Verb) (k : StoreResult) (desc : Described) (sync : Bool) → KeptMoves k → Fair s name verb (after_end k desc i s sync)
   end_fair verb (Refused c n) desc sync m = fair_refuse s name verb ex c n
   end_fair verb (Keeps q db) desc sync m =
       fair_settled s name verb (record s { db = db; programs = slice_set s.programs i (left q); pending = s.pending || sync || nat_le desc.syncpoint (one_more s.since); since = one_more s.since })
@@ -362,7 +362,7 @@ left_at false ls place h = (refl, h)
 backed_kept : (name : List ℕ) (x : Program) (place : Place) → locks_it (backed_out name x) place ≡ true → (x.active ≡ false) × (locks_it x place ≡ true)
 backed_kept name x place h = left_at x.active x.locks place (ap (list_any (is_lock place.0 place.1)) (sym (backed_locks name x)) ∙ h)
 
-backed_apart : (name : List ℕ) (x y : Program) → AreApart x y → AreApart (backed_out name x) (backed_out name y)
+backed_apart : (name : List ℕ) (x y : Program) → ShareNoLock x y → ShareNoLock (backed_out name x) (backed_out name y)
 backed_apart name x y a = record { names = λ e. a.names (sym (backed_name name x) ∙ e ∙ backed_name name y); locks = λ place l r. a.locks place (backed_kept name x place l).1 (backed_kept name y place r).1 }
 
 backed_safe : (db mark : Db) (name : List ℕ) (x : Program) → AreSafe db mark x → AreSafe mark mark (backed_out name x)
@@ -436,7 +436,7 @@ verb_fair desc i p s name (End audit sync) at ex own =
     (end_fair s i p name at ex own (End audit sync) (cond audit (keep desc p s.db (restart_of desc)) (Keeps p s.db)) desc sync (if_moves s i p name at ex own audit desc)) (fair_refuse s name (End audit sync) ex AuditError p.name)
 verb_fair desc i p s name Abort at ex own = fair_if s name Abort p.in_transaction _ _ (back_fair s p.name name ex) (fair_refuse s name Abort ex AuditError p.name)
 
-new_apart : (desc : Described) (name : List ℕ) (mode : Mode) (x : Program) → x.name ≢ name → AreApart x (new_program desc name mode)
+new_apart : (desc : Described) (name : List ℕ) (mode : Mode) (x : Program) → x.name ≢ name → ShareNoLock x (new_program desc name mode)
 new_apart desc name mode x apart = record { names = apart; locks = λ place l r. absurd (cc) }
 
 open_as_fair : (desc : Described) (s : Session) (name : List ℕ) (verb : Verb) (mode : Mode) → IsExclusive s → AllByRecursion (λ x. x.name ≢ name) s.programs → Fair s name verb (open_as desc s name mode)
@@ -445,7 +445,7 @@ open_as_fair desc s name verb mode ex none =
     fair_if s name verb (nat_le 64 (length s.programs)) (refuse s LimitError name) (done opened) (fair_refuse s name verb ex LimitError name)
     (record {
       exclusive = record {
-        apart = apart_pushed s.programs (new_program desc name mode) ex.apart (all_both {P = λ x. x.name ≢ name} {Q = λ x. x.name ≢ name} (λ x. AreApart x (new_program desc name mode)) s.programs (λ x h k. new_apart desc name mode x h) none none);
+        apart = apart_pushed s.programs (new_program desc name mode) ex.apart (all_both {P = λ x. x.name ≢ name} {Q = λ x. x.name ≢ name} (λ x. ShareNoLock x (new_program desc name mode)) s.programs (λ x h k. new_apart desc name mode x h) none none);
         safe = all_pushed (AreSafe s.db s.mark) s.programs (new_program desc name mode) ex.safe (record { stand = λ place l. absurd (cc); kept = λ free place l. absurd (cc) });
       };
       same = λ who place apart was now. refl;

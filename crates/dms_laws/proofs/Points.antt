@@ -15,7 +15,7 @@ use Rattle.dms_model.specs.declared.reply.Reply.TheVariants.{Exception}
 use Rattle.dms_model.specs.declared.spot.Spot.{Spot}
 use Rattle.dms_desc.specs.Lookups.{name_of, structure_of, items_of}
 use Rattle.dms_model.specs.Points.{Quiet}
-use Rattle.dms_model.specs.Session.{Session, Outcome, Kept, Refused, Keeps, Filled, Misfit, Values', refuse, done, settle, keep, store_step, after_store, begin_step, after_begin, begin_unless, awaited, end_step, after_end, abort_step, find_step, after_find, found_by, create_step, put_step, put_area, after_put, filled, get_step, get_area, close_step, open_as, open_step, verb_step, step_at, step, with_program, work_of, restart_of, someone_works, is_inquiry, opens, changes, path_of, new_program, place_of, without, area_values, left, one_more}
+use Rattle.dms_model.specs.Session.{Session, Outcome, StoreResult, Refused, Keeps, Filled, Misfit, Values', refuse, done, settle, keep, store_step, after_store, begin_step, after_begin, begin_unless, awaited, end_step, after_end, abort_step, find_step, after_find, found_by, create_step, put_step, put_area, after_put, filled, get_step, get_area, close_step, open_as, open_step, verb_step, step_at, step, with_program, work_of, restart_of, someone_works, is_inquiry, opens, changes, path_of, new_program, place_of, without, area_values, left, one_more}
 
 abbrev pub HasPoints : Outcome → Type 0
 HasPoints o = AllByRecursion (λ (q : Quiet). q.1 ≡ o.session.db) o.quiets
@@ -28,11 +28,11 @@ settle_points : (t : Session) → HasPoints (settle t)
 unfolding settle
 settle_points t = points_if (someone_works t.programs) _ _ tt (points_if t.pending _ _ (refl, tt) (refl, tt))
 
-store_points : (k : Kept) (i : ℕ) (s : Session) → HasPoints (after_store k i s)
+store_points : (k : StoreResult) (i : ℕ) (s : Session) → HasPoints (after_store k i s)
 store_points (Refused c n) i s = tt
 store_points (Keeps p db) i s = tt
 
-begun_points : (k : Kept) (i : ℕ) (s : Session) → HasPoints (after_begin k i s)
+begun_points : (k : StoreResult) (i : ℕ) (s : Session) → HasPoints (after_begin k i s)
 begun_points (Refused c n) i s = tt
 begun_points (Keeps p db) i s = tt
 
@@ -40,7 +40,7 @@ begin_points : (who : List (List ℕ)) (desc : Described) (i : ℕ) (p : Program
 begin_points [] desc i p s audit = begun_points (cond audit (keep desc p s.db (restart_of desc)) (Keeps p s.db)) i s
 begin_points (q ∷ qs) desc i p s audit = tt
 
-end_points : (k : Kept) (desc : Described) (i : ℕ) (s : Session) (sync : Bool) → HasPoints (after_end k desc i s sync)
+end_points : (k : StoreResult) (desc : Described) (i : ℕ) (s : Session) (sync : Bool) → HasPoints (after_end k desc i s sync)
 end_points (Refused c n) desc i s sync = tt
 end_points (Keeps p db) desc i s sync = settle_points (record s { db = db; programs = slice_set s.programs i (left p); pending = s.pending || sync || nat_le desc.syncpoint (one_more s.since); since = one_more s.since })
 

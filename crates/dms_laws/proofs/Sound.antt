@@ -29,7 +29,7 @@ use Rattle.dms_model.specs.Db.{Db, Place, fresh, records_of, rows_of, empty_db, 
 use Rattle.dms_model.specs.Points.{Quiet}
 use Rattle.dms_desc.specs.Lookups.{name_of, structure_of, items_of, set_of}
 use Rattle.dms_model.specs.Stores.{put_answer, put_unless, is_full, clash, put_after, linked, is_other, old_of, stored, values_of}
-use Rattle.dms_model.specs.Session.{Session, Outcome, Kept, Refused, Keeps, Filled, Misfit, Values', refuse, done, settle, keep, store_step, after_store, begin_step, after_begin, begin_unless, awaited, end_step, after_end, abort_step, find_step, after_find, found_by, create_step, put_step, put_area, after_put, filled, get_step, get_area, close_step, open_as, open_step, verb_step, step_at, step, with_program, with_work, with_values, work_of, no_work, or_none, restart_of, someone_works, is_inquiry, opens, changes, path_of, new_program, place_of, carried, entered, left, without, idle, backed_out, found_program, stored_program, let_go, is_lock, area_kept, kept_unless, put_kept, missing_from, verified, area_values, area_number, area_owner, record_of, is_free, one_more}
+use Rattle.dms_model.specs.Session.{Session, Outcome, StoreResult, Refused, Keeps, Filled, Misfit, Values', refuse, done, settle, keep, store_step, after_store, begin_step, after_begin, begin_unless, awaited, end_step, after_end, abort_step, find_step, after_find, found_by, create_step, put_step, put_area, after_put, filled, get_step, get_area, close_step, open_as, open_step, verb_step, step_at, step, with_program, with_work, with_values, work_of, no_work, or_none, restart_of, someone_works, is_inquiry, opens, changes, path_of, new_program, place_of, carried, entered, left, without, idle, backed_out, found_program, stored_program, let_go, is_lock, area_kept, kept_unless, put_kept, missing_from, verified, area_values, area_number, area_owner, record_of, is_free, one_more}
 use Rattle.dms_laws.specs.Exclusive.{AreSafe, IsExclusive, locks_it}
 use Rattle.dms_model.specs.Spoken.{IsOuter, IsPlainLiteral}
 use Rattle.dms_model.specs.Valid.{OfItems, IsValid, is_data_set, is_set, link_stands}
@@ -127,11 +127,11 @@ record Holds (desc : Described) (q : Program) (db : Db) : Type 0 where
   flat : IsFlat desc db
   areas : AreasFit desc q
 
-abbrev KeptSane : Described → Kept → Type 0
+abbrev KeptSane : Described → StoreResult → Type 0
 KeptSane desc (Refused c n) = Unit {0}
 KeptSane desc (Keeps q db) = Holds desc q db
 
-kept_if : (desc : Described) (b : Bool) (x y : Kept) → (b ≡ true → KeptSane desc x) → KeptSane desc y → KeptSane desc (cond b x y)
+kept_if : (desc : Described) (b : Bool) (x y : StoreResult) → (b ≡ true → KeptSane desc x) → KeptSane desc y → KeptSane desc (cond b x y)
 kept_if desc true x y h k = h refl
 kept_if desc false x y h k = k
 
@@ -330,11 +330,11 @@ module _ (desc : Described) (made : IsWellMade desc) (s : Session) (i : ℕ) (p 
   if_sane : (audit : Bool) → KeptSane desc (cond audit (keep desc p s.db (restart_of desc)) (Keeps p s.db))
   if_sane audit = kept_if desc audit (keep desc p s.db (restart_of desc)) (Keeps p s.db) (λ h. keep_sane (restart_of desc)) (record { valid = sane.valid; flat = sane.flat; areas = mine })
 
-  store_leaves : (k : Kept) → KeptSane desc k → Leaves desc (after_store k i s)
+  store_leaves : (k : StoreResult) → KeptSane desc k → Leaves desc (after_store k i s)
   store_leaves (Refused c n) h = sane
   store_leaves (Keeps q db) h = sane_with (carried q) db h.valid h.flat h.areas
 
-  begun_leaves : (k : Kept) → KeptSane desc k → Leaves desc (after_begin k i s)
+  begun_leaves : (k : StoreResult) → KeptSane desc k → Leaves desc (after_begin k i s)
   begun_leaves (Refused c n) h = sane
   begun_leaves (Keeps q db) h = sane_with (entered q) db h.valid h.flat h.areas
 
@@ -342,7 +342,7 @@ module _ (desc : Described) (made : IsWellMade desc) (s : Session) (i : ℕ) (p 
   begin_leaves [] audit = begun_leaves (cond audit (keep desc p s.db (restart_of desc)) (Keeps p s.db)) (if_sane audit)
   begin_leaves (w ∷ ws) audit = sane
 
-  end_leaves : (k : Kept) (sync : Bool) → KeptSane desc k → Leaves desc (after_end k desc i s sync)
+  end_leaves : (k : StoreResult) (sync : Bool) → KeptSane desc k → Leaves desc (after_end k desc i s sync)
   end_leaves (Refused c n) sync h = sane
   end_leaves (Keeps q db) sync h =
       settle_leaves desc (record s { db = db; programs = slice_set s.programs i (left q); pending = s.pending || sync || nat_le desc.syncpoint (one_more s.since); since = one_more s.since })

@@ -13,7 +13,7 @@ use Rattle.dms_desc.specs.declared.record.Record.{Record}
 use Rattle.dms_desc.specs.Shape.{Shape, Described}
 use Rattle.dms_desc.specs.Conds.{meets, is_null}
 use Rattle.dms_desc.specs.Plain.{ArePlain}
-use Rattle.dms_model.specs.Db.{Db, Entry, Place, Records, place_cmp, records_of}
+use Rattle.dms_model.specs.Db.{Db, SubsetEntry, Place, Records, place_cmp, records_of}
 use Rattle.dms_desc.specs.Keys.{key_of, key_cmp}
 use Rattle.dms_desc.specs.Kinds.{over, takes}
 use Rattle.dms_desc.specs.Lookups.{structure_of}
@@ -84,9 +84,9 @@ member_at s owner p a false e o h k =
     let both = both_of (owner == a.owner) (takes s a.values) k in
     record { automatic = e; set = sym o ∙ (grind (arith, nat_tests, h)); owned = grind (arith, nat_tests, both.0); taken = both.1 }
 
-member_of : (s : Shape) (manual : List Entry) (owner : ℕ) (p : Place) (a : Record) → manual ≡ [] → is_set s ≡ true → belongs s manual owner (p, a) ≡ true → IsMember s owner p a
+member_of : (s : Shape) (manual : List SubsetEntry) (owner : ℕ) (p : Place) (a : Record) → manual ≡ [] → is_set s ≡ true → belongs s manual owner (p, a) ≡ true → IsMember s owner p a
 member_of s manual owner p a none set h =
-    let plain = ap (λ (es : List Entry). belongs s es owner (p, a)) (sym none) ∙ h in
+    let plain = ap (λ (es : List SubsetEntry). belongs s es owner (p, a)) (sym none) ∙ h in
     let both = both_of (over s == p.0) (cond (s.kind == 5) (list_any (names s.number owner p.1) []) ((owner == a.owner) && takes s a.values)) plain in
     member_at s owner p a (s.kind == 5) refl (over_is s set) both.0 both.1
 
@@ -189,14 +189,14 @@ module _ (desc : Described) (db : Db) (k : Place) (rec : Record) (shape : Shape)
 
 -- the key of what is stored is its own where storing it clashes with no structure
 
-abbrev is_rival : Shape → List Entry → Option ℕ → Record → Place × Record → Bool
+abbrev is_rival : Shape → List SubsetEntry → Option ℕ → Record → Place × Record → Bool
 is_rival s manual number rec e = belongs s manual rec.owner e && is_other number e.0.1 && is_eq (key_cmp s.parts (key_of s.parts e.1.values) (key_of s.parts rec.values))
 
 yes_if : (b c : Bool) → c ≡ true → cond b true c ≡ true
 yes_if true c h = refl
 yes_if false c h = h
 
-rival_found : (s : Shape) (manual : List Entry) (number : Option ℕ) (rec : Record) (q : Place) (b : Record) (es : List (Place × Record)) → find place_cmp q es ≡ Some b → is_rival s manual number rec (q, b) ≡ true → has_equal s manual number rec es ≡ true
+rival_found : (s : Shape) (manual : List SubsetEntry) (number : Option ℕ) (rec : Record) (q : Place) (b : Record) (es : List (Place × Record)) → find place_cmp q es ≡ Some b → is_rival s manual number rec (q, b) ≡ true → has_equal s manual number rec es ≡ true
 rival_found s manual number rec q b [] at rival = absurd (cc)
 rival_found s manual number rec q b (e ∷ es) at rival = by (eq_by_cmp place_cmp q e.0) refl at (λ later. rival_found s manual number rec q b es later rival)
   where

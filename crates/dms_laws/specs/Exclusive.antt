@@ -19,14 +19,14 @@ abbrev pub locks_it : Program → Place → Bool
 locks_it p place = holds p place.0 (Some place.1)
 
 -- two open programs have not one name, and lock no record both
-pub record AreApart (p q : Program) : Type 0 where
+pub record ShareNoLock (p q : Program) : Type 0 where
   pub names : p.name ≢ q.name
   pub locks : (place : Place) → locks_it p place ≡ true → locks_it q place ≡ true → ⊥
 
 -- each program and each that was opened later
-abbrev pub AreAllApart : List Program → Type 0
-AreAllApart [] = ⊤
-AreAllApart (p ∷ ps) = AllByRecursion (AreApart p) ps × AreAllApart ps
+abbrev pub AllShareNoLock : List Program → Type 0
+AllShareNoLock [] = ⊤
+AllShareNoLock (p ∷ ps) = AllByRecursion (ShareNoLock p) ps × AllShareNoLock ps
 
 -- what a program holds locked is a record of the database; and while the program isn't active, the record is as it was at
 -- the last quiet point
@@ -36,7 +36,7 @@ pub record AreSafe (db mark : Db) (p : Program) : Type 0 where
 
 -- no two open programs have one name or lock one record, and what is locked is safe
 pub record AreExclusive (db mark : Db) (programs : List Program) : Type 0 where
-  pub apart : AreAllApart programs
+  pub apart : AllShareNoLock programs
   pub safe : AllByRecursion (AreSafe db mark) programs
 
 abbrev pub IsExclusive : Session → Type 0

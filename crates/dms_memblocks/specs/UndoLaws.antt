@@ -13,9 +13,9 @@ use Rattle.dms_block.specs.declared.change.Change.{Change}
 use Rattle.dms_block.specs.Content.{Content, FitsIn, grown, laid, limit, with_block}
 use Rattle.dms_block.specs.Changing.{changed_push, fits_at, fits_take, grown_is}
 use Rattle.dms_block.specs.ContentLaws.{in_file, in_others}
-use Rattle.dms_block.specs.Held.{Agrees, BlockPoint, BlockStop, Passes, Prefix, Stays, TextIs, Uses}
+use Rattle.dms_block.specs.Held.{BlocksAgree, BlockPoint, BlockStop, MakesNoPoint, Prefix, Stays, TextIs, Uses}
 use Rattle.dms_memblocks.specs.declared.undo.Undo.{Undo}
-use Rattle.dms_memblocks.specs.Undoing.{AreBefore, AreEmpty, AreSince, AreSmall, Files, after, bytes, content_of, old_in, owns_of, place, points_to, put_at, put_in, taken_back, undo, undone, Left, PutAll, clock_of, held_of}
+use Rattle.dms_memblocks.specs.Undoing.{AreBefore, AreEmpty, AreSince, AreSmall, Files, after, bytes, content_of, old_in, owns_of, place, points_to, put_at, put_in, taken_back, undo, undone, LeavesBlocks, PutAll, clock_of, held_of}
 
 pub AreBefore-prop : (n : ℕ) (us : List Undo) → IsProp (AreBefore n us)
 AreBefore-prop n [] = Unit-prop
@@ -340,11 +340,11 @@ quiet_points made mark files log before since =
 pub runs_quietly : (points points' : List BlockPoint) (d d' : ℕ) (P : BlockStop → Type 0) → points' ≡ points → d ≤ d' → Runs (clock_of points d) (clock_of points' d') P
 runs_quietly points points' d d' P is le = record {
   later = le;
-  only = λ t x low left. inl (subst (λ ps. Left ps t x) is left);
-  keeps = λ t x low left. subst (λ ps. Left ps t x) (sym is) left;
+  only = λ t x low left. inl (subst (λ ps. LeavesBlocks ps t x) is left);
+  keeps = λ t x low left. subst (λ ps. LeavesBlocks ps t x) (sym is) left;
 }
 
-left_more : (ps : List BlockPoint) (here : BlockPoint) (t : ℕ) (x : BlockStop) → Left ps t x → Left (ps ++ here ∷ []) t x
+left_more : (ps : List BlockPoint) (here : BlockPoint) (t : ℕ) (x : BlockStop) → LeavesBlocks ps t x → LeavesBlocks (ps ++ here ∷ []) t x
 left_more ps here t x left = record {
   count = left.count;
   enough = left.enough;
@@ -353,7 +353,7 @@ left_more ps here t x left = record {
   next = left.next;
 }
 
-made_or_left : (ps : List BlockPoint) (here : BlockPoint) (t d : ℕ) (x : BlockStop) → t ≤ d → d ≤ length ps → Left (ps ++ here ∷ []) t x → Left ps t x ⊎ (Prefix (λ f. Unit {0}) d (ps ++ here ∷ []) (length ps + 2) x × TextIs None x)
+made_or_left : (ps : List BlockPoint) (here : BlockPoint) (t d : ℕ) (x : BlockStop) → t ≤ d → d ≤ length ps → LeavesBlocks (ps ++ here ∷ []) t x → LeavesBlocks ps t x ⊎ (Prefix (λ f. Unit {0}) d (ps ++ here ∷ []) (length ps + 2) x × TextIs None x)
 made_or_left ps here t d x low le left = elim (cases_le left.count (length ps)) [
   | inl within ↦ inl (record { count = left.count; enough = left.enough; within = within; is = left.is ∙ take-append-le left.count ps (here ∷ []) within; next = left.next })
   | inr over ↦
@@ -372,12 +372,12 @@ runs_quiet made mark files log d le before since =
     let longer : length (ps ++ here ∷ []) ≡ made + 1 = omega (arith, length-append ps (here ∷ []), long) in
     record {
       later = omega arith;
-      only = λ t x low left. subst (λ n. Left ps t x ⊎ (Prefix (λ f. Unit {0}) d (ps ++ here ∷ []) n x × TextIs None x)) (omega (arith, long)) (made_or_left ps here t d x low (omega (arith, le, long)) (subst (λ l. Left l t x) is left));
-      keeps = λ t x low left. subst (λ l. Left l t x) (sym is) (left_more ps here t x left);
+      only = λ t x low left. subst (λ n. LeavesBlocks ps t x ⊎ (Prefix (λ f. Unit {0}) d (ps ++ here ∷ []) n x × TextIs None x)) (omega (arith, long)) (made_or_left ps here t d x low (omega (arith, le, long)) (subst (λ l. LeavesBlocks l t x) is left));
+      keeps = λ t x low left. subst (λ l. LeavesBlocks l t x) (sym is) (left_more ps here t x left);
     }
 
 -- what a stop now leaves
-pub stops : (files : Files) (log : List Undo) (made d : ℕ) (x : BlockStop) → Left (points_to files log made) d x → Prefix (λ f. Unit {0}) d (points_to files log made) (made + 1) x × TextIs None x
+pub stops : (files : Files) (log : List Undo) (made d : ℕ) (x : BlockStop) → LeavesBlocks (points_to files log made) d x → Prefix (λ f. Unit {0}) d (points_to files log made) (made + 1) x × TextIs None x
 stops files log made d x left =
     (record { count = left.count; enough = left.enough; within = left.within; is = left.is; not_fallen = omega (arith, left.next, points-length files log made); whole_files = tt }, λ s e. absurd (cc e))
 
@@ -408,17 +408,17 @@ empty_content files f empty = elim (cases_le f 30000) [
 
 -- what calls leave of what is told
 
-pub agrees : (files : Files) (log : List Undo) (made d : ℕ) (uses : Uses) → d ≤ made → Agrees (held_of files log made d uses)
+pub agrees : (files : Files) (log : List Undo) (made d : ℕ) (uses : Uses) → d ≤ made → BlocksAgree (held_of files log made d uses)
 unfolding stop_at
 agrees files log made d uses le = record {
   counted = λ t f. refl;
   may_stop = λ t. (stop_at files log made d, record { count = d; enough = omega arith; within = omega (arith, le, points-length files log made); is = refl; next = refl });
   stop = λ t room x now. stops files log made d x now;
   here = λ t room. (refl, λ told. refl);
-  sure = λ t room. omega (arith, le, points-length files log made);
+  durable = λ t room. omega (arith, le, points-length files log made);
 }
 
-pub passes : (files files' : Files) (log log' : List Undo) (made d d' : ℕ) (uses uses' : Uses) → length files' ≡ length files → points_to files' log' made ≡ points_to files log made → d ≤ d' → Passes (held_of files log made d uses) (held_of files' log' made d' uses')
+pub passes : (files files' : Files) (log log' : List Undo) (made d d' : ℕ) (uses uses' : Uses) → length files' ≡ length files → points_to files' log' made ≡ points_to files log made → d ≤ d' → MakesNoPoint (held_of files log made d uses) (held_of files' log' made d' uses')
 passes files files' log log' made d d' uses uses' many points le = record {
   lasts = record { told = refl; tells = λ t. t; owns = λ i f. nat_lt 30000 f && nat_le f (30000 + many i); schema = refl; whole = λ fs w. w; whole_on = λ fs w. w };
   next = refl;
@@ -433,7 +433,7 @@ undone_length : (us : List Undo) (files : Files) → length (undone us files) �
 undone_length [] files = refl
 undone_length (u ∷ us) files = set_length (undone us files) (place u.id.file) _ ∙ undone_length us files
 
-pub out_passes : (files : Files) (log : List Undo) (made mark d : ℕ) (uses uses' : Uses) → AreSince made (drop mark log) → Passes (held_of files log made d uses) (held_of (undone (drop mark log) files) (take mark log) made d uses')
+pub out_passes : (files : Files) (log : List Undo) (made mark d : ℕ) (uses uses' : Uses) → AreSince made (drop mark log) → MakesNoPoint (held_of files log made d uses) (held_of (undone (drop mark log) files) (take mark log) made d uses')
 out_passes files log made mark d uses uses' since = passes files (undone (drop mark log) files) log (take mark log) made d d uses uses' (undone_length (drop mark log) files) (out_points made mark files log since) (omega arith)
 
 pub out_stays : (files : Files) (log : List Undo) (made mark d : ℕ) (uses uses' : Uses) → AreSince made (drop mark log) → Stays (held_of files log made d uses) (held_of (undone (drop mark log) files) (take mark log) made d uses')

@@ -50,7 +50,7 @@ points_to files log (suc n) = points_to files log n ++ (record { number = suc n;
 
 -- What a stop since the moment t leaves: the first so many points, not fewer than t, and the next number behind them. The number
 -- of a moment is that of the points that were durable then.
-pub record Left (points : List BlockPoint) (t : ℕ) (stop : BlockStop) : Type 0 where
+pub record LeavesBlocks (points : List BlockPoint) (t : ℕ) (stop : BlockStop) : Type 0 where
   pub count : ℕ
   pub enough : t ≤ count
   pub within : count ≤ length points
@@ -58,7 +58,7 @@ pub record Left (points : List BlockPoint) (t : ℕ) (stop : BlockStop) : Type 0
   pub next : stop.next ≡ count + 1
 
 abbrev pub clock_of : List BlockPoint → ℕ → Clock BlockStop
-clock_of points durable = record { now = durable; left = Left points }
+clock_of points durable = record { now = durable; left = LeavesBlocks points }
 
 -- all that the blocks stand for
 abbrev pub held_of : Files → List Undo → ℕ → ℕ → Uses → Held
@@ -74,7 +74,7 @@ held_of files log made durable uses = record {
   next = made + 1;
   said = None;
   points = points_to files log made;
-  sure = durable;
+  durable = durable;
   here = record { number = made + 1; blocks = content_of files; schema = [] };
   clock = clock_of (points_to files log made) durable;
   faults = record { disk = 0; say = 0; full = 0; damaged = 0 };

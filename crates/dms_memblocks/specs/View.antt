@@ -13,4 +13,4 @@ pub record IsNew (files : ℕ) (h : Held) : Type 0 where
   pub content : (f : ℕ) → h.content f ≡ []
   pub next : h.next ≡ 1
   pub points : h.points ≡ []
-  pub sure : h.sure ≡ 0
+  pub durable : h.durable ≡ 0

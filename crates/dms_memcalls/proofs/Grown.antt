@@ -11,24 +11,24 @@ use Rattle.dms_site.specs.Laws.{with_file_here, with_file_other, torn_refl}
 use Rattle.dms_calls.specs.World.{World, OnFile, Speaks}
 use Rattle.dms_memcalls.specs.declared.event.Event.{Event}
 use Rattle.dms_memcalls.specs.declared.event.Event.TheVariants.{Looked, Made, Wrote, Shortened, Lengthened, Synced, SyncedNames, Printed, Found, Recalled}
-use Rattle.dms_memcalls.specs.Folders.{Seen, nothing, with_made, with_bytes, Alike, world_of}
+use Rattle.dms_memcalls.specs.Folders.{FolderSeen, nothing, with_made, with_bytes, Alike, world_of}
 use Rattle.dms_memcalls.specs.Events.{seen_after}
 use Rattle.dms_memcalls.specs.Outcomes.{seen_now, world_now, clock_of}
-use Rattle.dms_memcalls.specs.Steady.{Grew, seen_push, steps_grew, step_grew, on_file_same, speaks_none}
+use Rattle.dms_memcalls.specs.Steady.{IsUpToOneMore, seen_push, steps_grew, step_grew, on_file_same, speaks_none}
 
-pub alike_same : (a b : Seen) → a ≡ b → Alike a b
+pub alike_same : (a b : FolderSeen) → a ≡ b → Alike a b
 alike_same a b is = record {
-  count = ap (λ (s : Seen). s.count) is;
-  names = λ k low. ap (λ (s : Seen). s.names k) is;
-  bytes = ap (λ (s : Seen). s.bytes) is;
-  said = ap (λ (s : Seen). s.said) is;
+  count = ap (λ (s : FolderSeen). s.count) is;
+  names = λ k low. ap (λ (s : FolderSeen). s.names k) is;
+  bytes = ap (λ (s : FolderSeen). s.bytes) is;
+  said = ap (λ (s : FolderSeen). s.said) is;
 }
 
 pub nothing_seen : (events : List Event) → events ≡ [] → nothing ≡ seen_now events
 unfolding seen_now
 nothing_seen events none = sym (ap seen_now none)
 
-made_alike : (a b : Seen) (name bytes : List ℕ) → Alike a b → Alike (with_made a name bytes) (with_made b name bytes)
+made_alike : (a b : FolderSeen) (name bytes : List ℕ) → Alike a b → Alike (with_made a name bytes) (with_made b name bytes)
 made_alike a b name bytes alike = record {
   count = ap (λ (n : ℕ). n + 1) alike.count;
   names = names;
@@ -46,7 +46,7 @@ made_alike a b name bytes alike = record {
           ap (λ (n : ℕ). with_file a.names a.count name n) d ∙ with_file_here a.names a.count name ∙ sym (with_file_here b.names b.count name) ∙ ap (λ (n : ℕ). with_file b.names b.count name n) (sym e)
     ]
 
-bytes_alike : (a b : Seen) (f : ℕ) (g : List ℕ → List ℕ) → Alike a b → Alike (with_bytes a f (g (a.bytes f))) (with_bytes b f (g (b.bytes f)))
+bytes_alike : (a b : FolderSeen) (f : ℕ) (g : List ℕ → List ℕ) → Alike a b → Alike (with_bytes a f (g (a.bytes f))) (with_bytes b f (g (b.bytes f)))
 bytes_alike a b f g alike = record {
   count = alike.count;
   names = alike.names;
@@ -54,11 +54,11 @@ bytes_alike a b f g alike = record {
   said = alike.said;
 }
 
-said_alike : (a b : Seen) (text : List ℕ) → Alike a b → Alike (record a { said = a.said ++ text }) (record b { said = b.said ++ text })
+said_alike : (a b : FolderSeen) (text : List ℕ) → Alike a b → Alike (record a { said = a.said ++ text }) (record b { said = b.said ++ text })
 said_alike a b text alike = record { count = alike.count; names = alike.names; bytes = alike.bytes; said = ap (λ (l : List ℕ). l ++ text) alike.said }
 
 -- an event does the same to folders that are the same
-pub alike_after : (e : Event) (a b : Seen) → Alike a b → Alike (seen_after e a) (seen_after e b)
+pub alike_after : (e : Event) (a b : FolderSeen) → Alike a b → Alike (seen_after e a) (seen_after e b)
 alike_after (Looked ok) a b alike = alike
 alike_after (Made name ok) a b alike = made_alike a b _ _ alike
 alike_after (Wrote f at bytes true) a b alike = bytes_alike a b f (λ l. overlaid at bytes.items l) alike
@@ -74,9 +74,9 @@ alike_after (Printed bytes false) a b alike = alike
 alike_after (Found name bytes) a b alike = made_alike a b _ _ alike
 alike_after (Recalled bytes) a b alike = said_alike a b bytes.items alike
 
-pub alike_kept : (events all : List Event) (e : Event) (old new : Seen) → Alike old (seen_now events) → new ≡ seen_after e old → all ≡ events ++ e ∷ [] → Alike new (seen_now all)
+pub alike_kept : (events all : List Event) (e : Event) (old new : FolderSeen) → Alike old (seen_now events) → new ≡ seen_after e old → all ≡ events ++ e ∷ [] → Alike new (seen_now all)
 alike_kept events all e old new was now more =
-    subst (λ (s : Seen). Alike s (seen_now all)) (sym now) (subst (λ (s : Seen). Alike (seen_after e old) s) (sym (ap seen_now more ∙ seen_push events e)) (alike_after e old (seen_now events) was))
+    subst (λ (s : FolderSeen). Alike s (seen_now all)) (sym now) (subst (λ (s : FolderSeen). Alike (seen_after e old) s) (sym (ap seen_now more ∙ seen_push events e)) (alike_after e old (seen_now events) was))
 
 -- what was pushed where there was room
 pub surely_pushed : {T E : Type 0} (r : Result T E) (room len : ℕ) (xs ys zs : List Event) → OnErr r (room ≤ len) → len < room → zs ≡ (if is_ok r then xs else ys) → zs ≡ xs
@@ -88,7 +88,7 @@ any_err (Ok x) p = tt
 any_err (Err e) p = p
 
 -- a call that looks, or syncs
-module _ (events all : List Event) (e : Event) (grew : Grew events e all) where
+module _ (events all : List Event) (e : Event) (grew : IsUpToOneMore events e all) where
   pub grew_seen : seen_after e (seen_now events) ≡ seen_now events → seen_now all ≡ seen_now events
   grew_seen same = ⊎_elim (λ is. ap seen_now is) (λ more. ap seen_now more ∙ seen_push events e ∙ same) grew
 
@@ -97,17 +97,17 @@ module _ (events all : List Event) (e : Event) (grew : Grew events e all) where
 
 -- a write
 module _ (events all : List Event) (f at : ℕ) (v : Vec ℕ Global) (done : Bool) (bytes : List ℕ) (is : v.items ≡ bytes) where
-  pub wrote_torn : Grew events (Wrote f at v done) all → OnFile f (Torn at (length bytes)) (world_now events) (world_now all)
+  pub wrote_torn : IsUpToOneMore events (Wrote f at v done) all → OnFile f (Torn at (length bytes)) (world_now events) (world_now all)
   wrote_torn grew = subst (λ (l : List ℕ). OnFile f (Torn at (length l)) (world_now events) (world_now all)) is
       (step_grew events all (Wrote f at v done) (OnFile f (Torn at (length v.items))) grew (on_file_same f _ (torn_refl at (length v.items))) (λ x y step. step))
 
-  pub wrote_moments : Grew events (Wrote f at v done) all → Steps (OnFile f (Torn at (length bytes))) (clock_of events) (clock_of all)
+  pub wrote_moments : IsUpToOneMore events (Wrote f at v done) all → Steps (OnFile f (Torn at (length bytes))) (clock_of events) (clock_of all)
   wrote_moments grew = subst (λ (l : List ℕ). Steps (OnFile f (Torn at (length l))) (clock_of events) (clock_of all)) is
       (steps_grew events all (Wrote f at v done) (OnFile f (Torn at (length v.items))) grew (on_file_same f _ (torn_refl at (length v.items))) (λ x y step. step))
 
   pub wrote_done : all ≡ events ++ Wrote f at v done ∷ [] → IsTrue done → (world_now all).bytes f ≡ overlaid at (take (length bytes) bytes) ((world_now events).bytes f)
   wrote_done more yes' =
-      ap (λ (l : List Event). (seen_now l).bytes f) more ∙ ap (λ (s : Seen). s.bytes f) (seen_push events (Wrote f at v done)) ∙ by done yes'
+      ap (λ (l : List Event). (seen_now l).bytes f) more ∙ ap (λ (s : FolderSeen). s.bytes f) (seen_push events (Wrote f at v done)) ∙ by done yes'
     where
       by : (b : Bool) → IsTrue b → (seen_after (Wrote f at v b) (seen_now events)).bytes f ≡ overlaid at (take (length bytes) bytes) ((seen_now events).bytes f)
       by true now = with_file_here (seen_now events).bytes f _ ∙ ap (λ (l : List ℕ). overlaid at l ((seen_now events).bytes f)) (is ∙ sym (take_all (length bytes) bytes (omega arith)))
@@ -115,17 +115,17 @@ module _ (events all : List Event) (f at : ℕ) (v : Vec ℕ Global) (done : Boo
 
 -- printing
 module _ (events all : List Event) (v : Vec ℕ Global) (done : Bool) (bytes : List ℕ) (is : v.items ≡ bytes) where
-  pub spoke : Grew events (Printed v done) all → Speaks bytes (world_now events) (world_now all)
+  pub spoke : IsUpToOneMore events (Printed v done) all → Speaks bytes (world_now events) (world_now all)
   spoke grew = subst (λ (l : List ℕ). Speaks l (world_now events) (world_now all)) is
       (step_grew events all (Printed v done) (Speaks v.items) grew (speaks_none v.items) (λ x y step. step))
 
-  pub spoke_moments : Grew events (Printed v done) all → Steps (Speaks bytes) (clock_of events) (clock_of all)
+  pub spoke_moments : IsUpToOneMore events (Printed v done) all → Steps (Speaks bytes) (clock_of events) (clock_of all)
   spoke_moments grew = subst (λ (l : List ℕ). Steps (Speaks l) (clock_of events) (clock_of all)) is
       (steps_grew events all (Printed v done) (Speaks v.items) grew (speaks_none v.items) (λ x y step. step))
 
   pub spoke_done : all ≡ events ++ Printed v done ∷ [] → IsTrue done → (world_now all).said ≡ (world_now events).said ++ take (length bytes) bytes
   spoke_done more yes' =
-      ap (λ (l : List Event). (seen_now l).said) more ∙ ap (λ (s : Seen). s.said) (seen_push events (Printed v done)) ∙ by done yes'
+      ap (λ (l : List Event). (seen_now l).said) more ∙ ap (λ (s : FolderSeen). s.said) (seen_push events (Printed v done)) ∙ by done yes'
     where
       by : (b : Bool) → IsTrue b → (seen_after (Printed v b) (seen_now events)).said ≡ (seen_now events).said ++ take (length bytes) bytes
       by true now = ap (λ (l : List ℕ). (seen_now events).said ++ l) (is ∙ sym (take_all (length bytes) bytes (omega arith)))
@@ -145,7 +145,7 @@ padded_short file len le = take-append-le len file (replicate (len - length file
 module _ (events all : List Event) (f len : ℕ) (done : Bool) where
   pub cut_done : all ≡ events ++ Shortened f len done ∷ [] → IsTrue done → len ≤ length ((world_now events).bytes f) → (world_now all).bytes f ≡ take len (padded ((world_now events).bytes f) len)
   cut_done more yes' le =
-      ap (λ (l : List Event). (seen_now l).bytes f) more ∙ ap (λ (s : Seen). s.bytes f) (seen_push events (Shortened f len done)) ∙ by done yes'
+      ap (λ (l : List Event). (seen_now l).bytes f) more ∙ ap (λ (s : FolderSeen). s.bytes f) (seen_push events (Shortened f len done)) ∙ by done yes'
     where
       by : (b : Bool) → IsTrue b → (seen_after (Shortened f len b) (seen_now events)).bytes f ≡ take len (padded ((seen_now events).bytes f) len)
       by true now = with_file_here (seen_now events).bytes f _ ∙ sym (padded_short ((seen_now events).bytes f) len le)
@@ -153,7 +153,7 @@ module _ (events all : List Event) (f len : ℕ) (done : Bool) where
 
   pub grown_done : all ≡ events ++ Lengthened f len done ∷ [] → IsTrue done → length ((world_now events).bytes f) ≤ len → (world_now all).bytes f ≡ take len (padded ((world_now events).bytes f) len)
   grown_done more yes' le =
-      ap (λ (l : List Event). (seen_now l).bytes f) more ∙ ap (λ (s : Seen). s.bytes f) (seen_push events (Lengthened f len done)) ∙ by done yes'
+      ap (λ (l : List Event). (seen_now l).bytes f) more ∙ ap (λ (s : FolderSeen). s.bytes f) (seen_push events (Lengthened f len done)) ∙ by done yes'
     where
       by : (b : Bool) → IsTrue b → (seen_after (Lengthened f len b) (seen_now events)).bytes f ≡ take len (padded ((seen_now events).bytes f) len)
       by true now = with_file_here (seen_now events).bytes f _ ∙ sym (padded_long ((seen_now events).bytes f) len le)
@@ -161,30 +161,30 @@ module _ (events all : List Event) (f len : ℕ) (done : Bool) where
 
   pub equal_done : all ≡ events ++ Looked done ∷ [] → len ≡ length ((world_now events).bytes f) → (world_now all).bytes f ≡ take len (padded ((world_now events).bytes f) len)
   equal_done more e =
-      ap (λ (l : List Event). (seen_now l).bytes f) more ∙ ap (λ (s : Seen). s.bytes f) (seen_push events (Looked done))
+      ap (λ (l : List Event). (seen_now l).bytes f) more ∙ ap (λ (s : FolderSeen). s.bytes f) (seen_push events (Looked done))
       ∙ sym (padded_short ((seen_now events).bytes f) len (omega (arith, e)) ∙ take_all len ((seen_now events).bytes f) (omega (arith, e)))
 
 -- the steps of a call that gives a file a length
 module _ (events all : List Event) (f len : ℕ) (done : Bool) where
-  pub cut_step : Grew events (Shortened f len done) all → OnFile f (Cut len) (world_now events) (world_now all)
+  pub cut_step : IsUpToOneMore events (Shortened f len done) all → OnFile f (Cut len) (world_now events) (world_now all)
   cut_step grew = step_grew events all (Shortened f len done) (OnFile f (Cut len)) grew (on_file_same f (Cut len) (λ l. inl refl)) (λ x y step. step)
 
-  pub cut_moments : Grew events (Shortened f len done) all → Steps (OnFile f (Cut len)) (clock_of events) (clock_of all)
+  pub cut_moments : IsUpToOneMore events (Shortened f len done) all → Steps (OnFile f (Cut len)) (clock_of events) (clock_of all)
   cut_moments grew = steps_grew events all (Shortened f len done) (OnFile f (Cut len)) grew (on_file_same f (Cut len) (λ l. inl refl)) (λ x y step. step)
 
-  pub grown_step : Grew events (Lengthened f len done) all → OnFile f (Torn len 0) (world_now events) (world_now all)
+  pub grown_step : IsUpToOneMore events (Lengthened f len done) all → OnFile f (Torn len 0) (world_now events) (world_now all)
   grown_step grew = step_grew events all (Lengthened f len done) (OnFile f (Torn len 0)) grew (on_file_same f (Torn len 0) (torn_refl len 0)) (λ x y step. step)
 
-  pub grown_moments : Grew events (Lengthened f len done) all → Steps (OnFile f (Torn len 0)) (clock_of events) (clock_of all)
+  pub grown_moments : IsUpToOneMore events (Lengthened f len done) all → Steps (OnFile f (Torn len 0)) (clock_of events) (clock_of all)
   grown_moments grew = steps_grew events all (Lengthened f len done) (OnFile f (Torn len 0)) grew (on_file_same f (Torn len 0) (torn_refl len 0)) (λ x y step. step)
 
   equal_leads : (step : List ℕ → List ℕ → Type 0) → ((l : List ℕ) → step l l) → (v w : World) → w ≡ v → OnFile f step v w
   equal_leads step refls v w is = subst (λ (x : World). OnFile f step v x) (sym is) (on_file_same f step refls v)
 
-  pub equal_step : (step : List ℕ → List ℕ → Type 0) → ((l : List ℕ) → step l l) → Grew events (Looked done) all → OnFile f step (world_now events) (world_now all)
+  pub equal_step : (step : List ℕ → List ℕ → Type 0) → ((l : List ℕ) → step l l) → IsUpToOneMore events (Looked done) all → OnFile f step (world_now events) (world_now all)
   equal_step step refls grew = step_grew events all (Looked done) (OnFile f step) grew (on_file_same f step refls) (equal_leads step refls)
 
-  pub equal_moments : (step : List ℕ → List ℕ → Type 0) → ((l : List ℕ) → step l l) → Grew events (Looked done) all → Steps (OnFile f step) (clock_of events) (clock_of all)
+  pub equal_moments : (step : List ℕ → List ℕ → Type 0) → ((l : List ℕ) → step l l) → IsUpToOneMore events (Looked done) all → Steps (OnFile f step) (clock_of events) (clock_of all)
   equal_moments step refls grew = steps_grew events all (Looked done) (OnFile f step) grew (on_file_same f step refls) (equal_leads step refls)
 
 take_front : (n : ℕ) (xs : List ℕ) → take (length (take n xs)) xs ≡ take n xs

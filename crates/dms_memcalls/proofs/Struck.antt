@@ -10,7 +10,7 @@ use Rattle.dms_memcalls.specs.declared.event.Event.{Event}
 use Rattle.dms_memcalls.specs.declared.event.Event.TheVariants.{Found, Recalled}
 use Rattle.dms_memcalls.specs.Names.{leads}
 use Rattle.dms_memcalls.specs.NameLaws.{leads_is, leads_same}
-use Rattle.dms_memcalls.specs.Folders.{Seen, world_of}
+use Rattle.dms_memcalls.specs.Folders.{FolderSeen, world_of}
 use Rattle.dms_memcalls.specs.Events.{seen_after}
 use Rattle.dms_memcalls.specs.Outcomes.{seen_of, past_of, seen_now, world_now}
 use Rattle.dms_memcalls.specs.Steady.{past_push, seen_push}
@@ -19,12 +19,12 @@ use Rattle.dms_memcalls.specs.StruckLaws.{struck_left}
 use Rattle.dms_memcalls.proofs.Grown.{nothing_seen}
 
 -- a file that was changed
-pub changed_files : (left : Seen) (f : ℕ) (step : List ℕ → List ℕ → Type 0) (x : List ℕ) (files : Files) (said : List ℕ) → step (left.bytes f) x → files ≡ with_file left.bytes f x → said ≡ left.said
+pub changed_files : (left : FolderSeen) (f : ℕ) (step : List ℕ → List ℕ → Type 0) (x : List ℕ) (files : Files) (said : List ℕ) → step (left.bytes f) x → files ≡ with_file left.bytes f x → said ≡ left.said
     → Changed f step left (record { count = left.count; names = left.names; bytes = files; said = said })
 changed_files left f step x files said took now same = record { bytes = x; took = took; is = λ i. record { count = left.count; names = left.names; bytes = now i; said = same i } }
 
 -- one that was not
-pub changed_not : (left : Seen) (f : ℕ) (step : List ℕ → List ℕ → Type 0) → ((l : List ℕ) → step l l) → Changed f step left left
+pub changed_not : (left : FolderSeen) (f : ℕ) (step : List ℕ → List ℕ → Type 0) → ((l : List ℕ) → step l l) → Changed f step left left
 changed_not left f step refls = record { bytes = left.bytes f; took = refls (left.bytes f); is = λ i. record { count = left.count; names = left.names; bytes = λ k. same k i; said = left.said } }
   where
     same : (k : ℕ) → left.bytes k ≡ with_file left.bytes f (left.bytes f) k
@@ -44,23 +44,23 @@ past_next events p e is =
     sym (ap (λ (n : ℕ). past_of (take n events)) (sym one) ∙ ap past_of (take_suc events p e is) ∙ past_push (take p events) e)
 
 -- one more event before the stop
-pub shown_next : (events : List Event) (p : ℕ) (e : Event) (shown new : Seen) → slice_get events p ≡ Some e → shown ≡ seen_of (past_of (take p events)) → new ≡ seen_after e shown → new ≡ seen_of (past_of (take (p + 1) events))
-shown_next events p e shown new is was now = now ∙ ap (λ (s : Seen). seen_after e s) was ∙ ap seen_of (past_next events p e is)
+pub shown_next : (events : List Event) (p : ℕ) (e : Event) (shown new : FolderSeen) → slice_get events p ≡ Some e → shown ≡ seen_of (past_of (take p events)) → new ≡ seen_after e shown → new ≡ seen_of (past_of (take (p + 1) events))
+shown_next events p e shown new is was now = now ∙ ap (λ (s : FolderSeen). seen_after e s) was ∙ ap seen_of (past_next events p e is)
 
-pub left_next : (events : List Event) (p : ℕ) (e : Event) (shown left new : Seen) → slice_get events p ≡ Some e → shown ≡ seen_of (past_of (take p events)) → IsLeft (past_of (take p events)) left → Strikes e shown left new
+pub left_next : (events : List Event) (p : ℕ) (e : Event) (shown left new : FolderSeen) → slice_get events p ≡ Some e → shown ≡ seen_of (past_of (take p events)) → IsLeft (past_of (take p events)) left → Strikes e shown left new
     → IsLeft (past_of (take (p + 1) events)) new
 left_next events p e shown left new is was may struck =
-    subst (λ (l : List Event). IsLeft l new) (past_next events p e is) (struck_left (past_of (take p events)) left may e new (subst (λ (s : Seen). Strikes e s left new) was struck))
+    subst (λ (l : List Event). IsLeft l new) (past_next events p e is) (struck_left (past_of (take p events)) left may e new (subst (λ (s : FolderSeen). Strikes e s left new) was struck))
 
 -- the files of a folder up to that number came to another one
-pub record Came (disk : Seen) (n : ℕ) (now : Seen) : Type 0 where
+pub record Came (disk : FolderSeen) (n : ℕ) (now : FolderSeen) : Type 0 where
   pub count : now.count ≡ n
   pub names : (k : ℕ) → k < n → now.names k ≡ disk.names k
   pub bytes : (k : ℕ) → k < n → now.bytes k ≡ disk.bytes k
   pub said : now.said ≡ []
 
-pub came_none : (disk : Seen) (events : List Event) → events ≡ [] → Came disk 0 (seen_now events)
-came_none disk events none = subst (λ (s : Seen). Came disk 0 s) (nothing_seen events none)
+pub came_none : (disk : FolderSeen) (events : List Event) → events ≡ [] → Came disk 0 (seen_now events)
+came_none disk events none = subst (λ (s : FolderSeen). Came disk 0 s) (nothing_seen events none)
     (record { count = refl; names = λ k low. absurd (omega (arith, low)); bytes = λ k low. absurd (omega (arith, low)); said = refl })
 
 one_came : (disk now : Files) (n c : ℕ) (bytes : List ℕ) → c ≡ n → ((k : ℕ) → k < n → now k ≡ disk k) → bytes ≡ disk n → (k : ℕ) → k < n + 1 → with_file now c bytes k ≡ disk k
@@ -72,10 +72,10 @@ one_came disk now n c bytes count below is k low = elim (cases_lt k n) [
       ap (λ (j : ℕ). with_file now c bytes j) e ∙ with_file_here now c bytes ∙ is ∙ ap disk d
 ]
 
-pub came_next : (disk : Seen) (n : ℕ) (events all : List Event) (name bytes : Vec ℕ Global) → Came disk n (seen_now events) → all ≡ events ++ Found name bytes ∷ [] → name.items ≡ disk.names n → bytes.items ≡ disk.bytes n → Came disk (n + 1) (seen_now all)
+pub came_next : (disk : FolderSeen) (n : ℕ) (events all : List Event) (name bytes : Vec ℕ Global) → Came disk n (seen_now events) → all ≡ events ++ Found name bytes ∷ [] → name.items ≡ disk.names n → bytes.items ≡ disk.bytes n → Came disk (n + 1) (seen_now all)
 came_next disk n events all name bytes came more named held =
     let s = seen_now events in
-    subst (λ (x : Seen). Came disk (n + 1) x) (sym (ap seen_now more ∙ seen_push events (Found name bytes)))
+    subst (λ (x : FolderSeen). Came disk (n + 1) x) (sym (ap seen_now more ∙ seen_push events (Found name bytes)))
     (record {
       count = ap (λ (c : ℕ). c + 1) came.count;
       names = one_came disk.names s.names n s.count name.items came.count came.names named;
@@ -83,10 +83,10 @@ came_next disk n events all name bytes came more named held =
       said = came.said;
     })
 
-pub came_all : (disk : Seen) (n : ℕ) (events all : List Event) (said : Vec ℕ Global) → Came disk n (seen_now events) → n ≡ disk.count → all ≡ events ++ Recalled said ∷ [] → said.items ≡ disk.said → Shows (world_of disk) (world_now all)
+pub came_all : (disk : FolderSeen) (n : ℕ) (events all : List Event) (said : Vec ℕ Global) → Came disk n (seen_now events) → n ≡ disk.count → all ≡ events ++ Recalled said ∷ [] → said.items ≡ disk.said → Shows (world_of disk) (world_now all)
 came_all disk n events all said came every more same =
     let s = seen_now events in
-    subst (λ (x : Seen). Shows (world_of disk) (world_of x)) (sym (ap seen_now more ∙ seen_push events (Recalled said)))
+    subst (λ (x : FolderSeen). Shows (world_of disk) (world_of x)) (sym (ap seen_now more ∙ seen_push events (Recalled said)))
     (record {
       names = λ m. ap (λ (c : ℕ). leads c s.names m) (came.count ∙ every) ∙ leads_same disk.count disk.names s.names m (λ k low. came.names k (omega (arith, low, every)));
       bytes = λ m i at. came.bytes i (omega (arith, every, (leads_is disk.count disk.names m i at).0));

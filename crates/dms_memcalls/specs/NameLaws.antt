@@ -6,10 +6,10 @@ use Rattle.std.proofs.lemmas.Bool.{cases_lt, false≢true}
 use Rattle.std.proofs.lemmas.Slice.Eq.{bytes_eq-Decides}
 use Rattle.dms_site.specs.Files.{Files, with_file}
 use Rattle.dms_site.specs.Laws.{with_file_here, with_file_other}
-use Rattle.dms_calls.specs.World.{World, Makes}
+use Rattle.dms_calls.specs.World.{World, MakesFile}
 use Rattle.dms_memcalls.specs.Names.{is_name, or_next, leads}
 use Rattle.dms_memcalls.specs.Outcomes.{Adds}
-use Rattle.dms_memcalls.specs.Folders.{Seen, with_made, world_of}
+use Rattle.dms_memcalls.specs.Folders.{FolderSeen, with_made, world_of}
 
 pub name_is : (a m : List ℕ) → is_name a m ≡ true → a ≡ m
 name_is [] m is = absurd (false≢true is)
@@ -85,7 +85,7 @@ or_none None n = refl
 or_none (Some i) n = refl
 
 -- a name that leads to no file leads to the one that is made, or to none where that got none
-pub adds_seen : (s : Seen) (name given bytes : List ℕ) → (given ≡ name) ⊎ (given ≡ []) → Adds name bytes s.count (world_of s) (world_of (with_made s given bytes))
+pub adds_seen : (s : FolderSeen) (name given bytes : List ℕ) → (given ≡ name) ⊎ (given ≡ []) → Adds name bytes s.count (world_of s) (world_of (with_made s given bytes))
 adds_seen s name given bytes which = record {
   holds = with_file_here s.bytes s.count bytes;
   others = λ j other. with_file_other s.bytes s.count bytes j other;
@@ -106,5 +106,5 @@ adds_seen s name given bytes which = record {
     by None found false here = inl (leads_made s.count s.names given name ∙ (λ i. or_next (found i) s.count (here i)) ∙ sym found)
 
 -- a file without bytes was made
-pub adds_makes : (name : List ℕ) (i : ℕ) (v w : World) → Adds name [] i v w → Makes name i v w
+pub adds_makes : (name : List ℕ) (i : ℕ) (v w : World) → Adds name [] i v w → MakesFile name i v w
 adds_makes name i v w adds = record { empty = adds.holds; others = adds.others; free = adds.free; here = adds.here; names = adds.names; said = adds.said }

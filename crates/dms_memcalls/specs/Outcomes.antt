@@ -6,7 +6,7 @@ use Rattle.dms_calls.specs.World.{World, OnFile, Speaks}
 use Rattle.dms_memcalls.specs.declared.event.Event.{Event}
 use Rattle.dms_memcalls.specs.declared.event.Event.TheVariants.{Looked, Made, Wrote, Shortened, Lengthened, Synced, SyncedNames, Printed, Found, Recalled}
 use Rattle.dms_memcalls.specs.Names.{leads}
-use Rattle.dms_memcalls.specs.Folders.{Seen, nothing, world_of}
+use Rattle.dms_memcalls.specs.Folders.{FolderSeen, nothing, world_of}
 use Rattle.dms_memcalls.specs.Events.{seen_after}
 
 -- A file with these bytes was added that no name led to, and this name, which led to none, may lead to it.
@@ -21,32 +21,32 @@ pub record Adds (name bytes : List ℕ) (i : ℕ) (old new : World) : Type 0 whe
 -- What an event may make of an outcome, where s was seen before it. A call that changes something does its step whether it
 -- succeeded or not. A sync that succeeded leaves the outcomes alone in which what it syncs is as it was seen. The name of a file
 -- that was there before the first call may be lost until the names are synced, since whoever made it may not have done so.
-abbrev pub Takes : Seen → Event → World → World → Type 0
-Takes s (Looked ok) v w = w ≡ v
-Takes s (Made name ok) v w = Adds name.items [] s.count v w
-Takes s (Wrote f at bytes ok) v w = OnFile f (Torn at (length bytes.items)) v w
-Takes s (Shortened f len ok) v w = OnFile f (Cut len) v w
-Takes s (Lengthened f len ok) v w = OnFile f (Torn len 0) v w
-Takes s (Synced f ok) v w = (w ≡ v) × (IsTrue ok → w.bytes f ≡ s.bytes f)
-Takes s (SyncedNames ok) v w = (w ≡ v) × (IsTrue ok → (m : List ℕ) → w.names m ≡ leads s.count s.names m)
-Takes s (Printed bytes ok) v w = Speaks bytes.items v w
-Takes s (Found name bytes) v w = Adds name.items bytes.items s.count v w
-Takes s (Recalled bytes) v w = Speaks bytes.items v w
+abbrev pub EventMakes : FolderSeen → Event → World → World → Type 0
+EventMakes s (Looked ok) v w = w ≡ v
+EventMakes s (Made name ok) v w = Adds name.items [] s.count v w
+EventMakes s (Wrote f at bytes ok) v w = OnFile f (Torn at (length bytes.items)) v w
+EventMakes s (Shortened f len ok) v w = OnFile f (Cut len) v w
+EventMakes s (Lengthened f len ok) v w = OnFile f (Torn len 0) v w
+EventMakes s (Synced f ok) v w = (w ≡ v) × (IsTrue ok → w.bytes f ≡ s.bytes f)
+EventMakes s (SyncedNames ok) v w = (w ≡ v) × (IsTrue ok → (m : List ℕ) → w.names m ≡ leads s.count s.names m)
+EventMakes s (Printed bytes ok) v w = Speaks bytes.items v w
+EventMakes s (Found name bytes) v w = Adds name.items bytes.items s.count v w
+EventMakes s (Recalled bytes) v w = Speaks bytes.items v w
 
 -- An outcome has the text that was printed, and in it no file has another name than the one that is seen.
-pub record Fits (s : Seen) (w : World) : Type 0 where
+pub record IsOutcomeOf (s : FolderSeen) (w : World) : Type 0 where
   pub said : w.said ≡ s.said
   pub one_name : (m n : List ℕ) (i : ℕ) → w.names m ≡ Some i → leads s.count s.names n ≡ Some i → m ≡ n
 
 -- what is seen after these events, of which the newest comes first
-abbrev pub seen_of : List Event → Seen
+abbrev pub seen_of : List Event → FolderSeen
 seen_of [] = nothing
 seen_of (event ∷ past) = seen_after event (seen_of past)
 
 -- what a stop may leave after these events, of which the newest comes first: all that comes by their steps, one by one
-abbrev pub MayLeave : List Event → World → Type 0
-MayLeave [] w = w ≡ world_of nothing
-MayLeave (event ∷ past) w = Fits (seen_after event (seen_of past)) w × ((v : World) × MayLeave past v × Takes (seen_of past) event v w)
+abbrev pub WorldMayBeLeft : List Event → World → Type 0
+WorldMayBeLeft [] w = w ≡ world_of nothing
+WorldMayBeLeft (event ∷ past) w = IsOutcomeOf (seen_after event (seen_of past)) w × ((v : World) × WorldMayBeLeft past v × EventMakes (seen_of past) event v w)
 
 -- events in front of others, the newest first
 abbrev pub turned : List Event → List Event → List Event
@@ -58,16 +58,16 @@ abbrev pub past_of : List Event → List Event
 past_of events = turned events []
 
 -- what is seen after these events
-unfoldable pub seen_now : List Event → Seen
+unfoldable pub seen_now : List Event → FolderSeen
 seen_now events = seen_of (past_of events)
 
 abbrev pub world_now : List Event → World
 world_now events = world_of (seen_now events)
 
 -- a stop at a moment since t: after k of the events
-abbrev pub LeftSince : List Event → ℕ → World → Type 0
-LeftSince events t w = (k : ℕ) × (t ≤ k) × (k ≤ length events) × MayLeave (past_of (take k events)) w
+abbrev pub WorldLeftSince : List Event → ℕ → World → Type 0
+WorldLeftSince events t w = (k : ℕ) × (t ≤ k) × (k ≤ length events) × WorldMayBeLeft (past_of (take k events)) w
 
 -- the moments are counted by the events
 unfoldable pub clock_of : List Event → Clock World
-clock_of events = record { now = length events; left = LeftSince events }
+clock_of events = record { now = length events; left = WorldLeftSince events }

@@ -7,9 +7,9 @@ use Rattle.dms_calls.specs.World.{World, OnFile, Speaks}
 use Rattle.dms_memcalls.specs.declared.event.Event.{Event}
 use Rattle.dms_memcalls.specs.declared.event.Event.TheVariants.{Looked, Made, Wrote, Shortened, Lengthened, Synced, SyncedNames, Printed, Found, Recalled}
 use Rattle.dms_memcalls.specs.NameLaws.{adds_seen}
-use Rattle.dms_memcalls.specs.Folders.{Seen, nothing, with_made, with_bytes, world_of}
+use Rattle.dms_memcalls.specs.Folders.{FolderSeen, nothing, with_made, with_bytes, world_of}
 use Rattle.dms_memcalls.specs.Events.{seen_after}
-use Rattle.dms_memcalls.specs.Outcomes.{Adds, Takes, seen_of, MayLeave}
+use Rattle.dms_memcalls.specs.Outcomes.{Adds, EventMakes, seen_of, WorldMayBeLeft}
 use Rattle.dms_memcalls.specs.Steady.{fits_seen}
 
 -- a world in which one file has these bytes
@@ -17,7 +17,7 @@ abbrev pub put : ℕ → List ℕ → World → World
 put f bytes w = record { names = w.names; bytes = with_file w.bytes f bytes; said = w.said }
 
 -- a world with the names that are seen
-abbrev pub renamed : Seen → World → World
+abbrev pub renamed : FolderSeen → World → World
 renamed s w = record { names = (world_of s).names; bytes = w.bytes; said = w.said }
 
 module _ (f : ℕ) where
@@ -63,18 +63,18 @@ module _ (f : ℕ) where
   settle_spoken text old u v speaks = record { names = speaks.names; bytes = ap (λ (l : Files). with_file l f old) speaks.bytes; some = speaks.some; said = speaks.said }
 
   -- the bytes of a file that was written, where it is this one, and where not
-  written_here : (s : Seen) (i : ℕ) (bytes : List ℕ) → f ≡ i → (with_bytes s i bytes).bytes f ≡ bytes
+  written_here : (s : FolderSeen) (i : ℕ) (bytes : List ℕ) → f ≡ i → (with_bytes s i bytes).bytes f ≡ bytes
   written_here s i bytes e = ap (λ (k : ℕ). with_file s.bytes i bytes k) e ∙ with_file_here s.bytes i bytes
 
-  settle_changed : (s : Seen) (i : ℕ) (step : List ℕ → List ℕ → Type 0) (bytes : List ℕ) (u v : World) → OnFile i step u v → step (s.bytes i) bytes → OnFile i step (put f (s.bytes f) u) (put f ((with_bytes s i bytes).bytes f) v)
+  settle_changed : (s : FolderSeen) (i : ℕ) (step : List ℕ → List ℕ → Type 0) (bytes : List ℕ) (u v : World) → OnFile i step u v → step (s.bytes i) bytes → OnFile i step (put f (s.bytes f) u) (put f ((with_bytes s i bytes).bytes f) v)
   settle_changed s i step bytes u v on here = settle_file i step (s.bytes f) _ u v on
       (λ e. subst (λ (l : List ℕ). step l ((with_bytes s i bytes).bytes f)) (ap s.bytes (sym e)) (subst (λ (l : List ℕ). step (s.bytes i) l) (sym (written_here s i bytes e)) here))
       (λ other. with_file_other s.bytes i bytes f other)
 
-  settle_kept : (s : Seen) (i : ℕ) (step : List ℕ → List ℕ → Type 0) (u v : World) → OnFile i step u v → ((l : List ℕ) → step l l) → OnFile i step (put f (s.bytes f) u) (put f (s.bytes f) v)
+  settle_kept : (s : FolderSeen) (i : ℕ) (step : List ℕ → List ℕ → Type 0) (u v : World) → OnFile i step u v → ((l : List ℕ) → step l l) → OnFile i step (put f (s.bytes f) u) (put f (s.bytes f) v)
   settle_kept s i step u v on refls = settle_file i step (s.bytes f) (s.bytes f) u v on (λ e. refls (s.bytes f)) (λ other. refl)
 
-  settle_step : (s : Seen) (e : Event) (u v : World) → Takes s e u v → Takes s e (put f (s.bytes f) u) (put f ((seen_after e s).bytes f) v)
+  settle_step : (s : FolderSeen) (e : Event) (u v : World) → EventMakes s e u v → EventMakes s e (put f (s.bytes f) u) (put f ((seen_after e s).bytes f) v)
   settle_step s (Looked ok) u v step = ap (put f (s.bytes f)) step
   settle_step s (Made name ok) u v step = settle_added name.items [] s.count (s.bytes f) _ u v step (written_here s s.count []) (λ other. with_file_other s.bytes s.count [] f other)
   settle_step s (Wrote i at bytes true) u v step = settle_changed s i _ _ u v step (torn_overlaid at bytes.items (s.bytes i))
@@ -97,7 +97,7 @@ module _ (f : ℕ) where
   settle_step s (Recalled text) u v step = settle_spoken text.items (s.bytes f) u v step
 
   -- an outcome in which this file is as it is seen
-  pub settled : (past : List Event) (v : World) → MayLeave past v → MayLeave past (put f ((seen_of past).bytes f) v)
+  pub settled : (past : List Event) (v : World) → WorldMayBeLeft past v → WorldMayBeLeft past (put f ((seen_of past).bytes f) v)
   settled [] v may = subst (λ (w : World). put f [] w ≡ world_of nothing) (sym may) (λ i. record { names = (world_of nothing).names; bytes = λ k. none k i; said = [] })
     where
       none : (k : ℕ) → with_file (λ j. []) f [] k ≡ []
@@ -110,18 +110,18 @@ module _ (f : ℕ) where
     (put f ((seen_of past).bytes f) may.1.0, settled past may.1.0 may.1.1, settle_step (seen_of past) e may.1.0 v may.1.2),
   )
 
-rename_added : (s : Seen) (name given bytes : List ℕ) (u v : World) → (given ≡ name) ⊎ (given ≡ []) → Adds name bytes s.count u v → Adds name bytes s.count (renamed s u) (renamed (with_made s given bytes) v)
+rename_added : (s : FolderSeen) (name given bytes : List ℕ) (u v : World) → (given ≡ name) ⊎ (given ≡ []) → Adds name bytes s.count u v → Adds name bytes s.count (renamed s u) (renamed (with_made s given bytes) v)
 rename_added s name given bytes u v which adds =
     let seen = adds_seen s name given bytes which in
     record { holds = adds.holds; others = adds.others; free = seen.free; here = seen.here; names = seen.names; said = adds.said }
 
-rename_file : (s : Seen) (i : ℕ) (step : List ℕ → List ℕ → Type 0) (u v : World) → OnFile i step u v → OnFile i step (renamed s u) (renamed s v)
+rename_file : (s : FolderSeen) (i : ℕ) (step : List ℕ → List ℕ → Type 0) (u v : World) → OnFile i step u v → OnFile i step (renamed s u) (renamed s v)
 rename_file s i step u v on = record { here = on.here; others = on.others; names = λ m. refl; said = on.said }
 
-rename_spoken : (s : Seen) (text : List ℕ) (u v : World) → Speaks text u v → Speaks text (renamed s u) (renamed s v)
+rename_spoken : (s : FolderSeen) (text : List ℕ) (u v : World) → Speaks text u v → Speaks text (renamed s u) (renamed s v)
 rename_spoken s text u v speaks = record { names = refl; bytes = speaks.bytes; some = speaks.some; said = speaks.said }
 
-rename_step : (s : Seen) (e : Event) (u v : World) → Takes s e u v → Takes s e (renamed s u) (renamed (seen_after e s) v)
+rename_step : (s : FolderSeen) (e : Event) (u v : World) → EventMakes s e u v → EventMakes s e (renamed s u) (renamed (seen_after e s) v)
 rename_step s (Looked ok) u v step = ap (renamed s) step
 rename_step s (Made name true) u v step = rename_added s name.items name.items [] u v (inl refl) step
 rename_step s (Made name false) u v step = rename_added s name.items [] [] u v (inr refl) step
@@ -139,7 +139,7 @@ rename_step s (Found name bytes) u v step = rename_added s name.items name.items
 rename_step s (Recalled text) u v step = rename_spoken s text.items u v step
 
 -- an outcome in which all names are as they are seen
-pub settled_names : (past : List Event) (v : World) → MayLeave past v → MayLeave past (renamed (seen_of past) v)
+pub settled_names : (past : List Event) (v : World) → WorldMayBeLeft past v → WorldMayBeLeft past (renamed (seen_of past) v)
 settled_names [] v may = subst (λ (w : World). renamed nothing w ≡ world_of nothing) (sym may) refl
 settled_names (e ∷ past) v may = (
   record { said = may.0.said; one_name = (fits_seen (seen_after e (seen_of past))).one_name },

@@ -4,30 +4,30 @@ use Rattle.dms_site.specs.Files.{Torn, Cut}
 use Rattle.dms_calls.specs.World.{World}
 use Rattle.dms_memcalls.specs.declared.event.Event.{Event}
 use Rattle.dms_memcalls.specs.declared.event.Event.TheVariants.{Looked, Made, Wrote, Shortened, Lengthened, Synced, SyncedNames, Printed, Found, Recalled}
-use Rattle.dms_memcalls.specs.Folders.{Seen, with_made, with_bytes, world_of}
+use Rattle.dms_memcalls.specs.Folders.{FolderSeen, with_made, with_bytes, world_of}
 use Rattle.dms_memcalls.specs.Events.{seen_after}
-use Rattle.dms_memcalls.specs.Outcomes.{MayLeave, seen_of}
+use Rattle.dms_memcalls.specs.Outcomes.{WorldMayBeLeft, seen_of}
 
 -- one file has bytes that a step leads to
-pub record Changed (f : ℕ) (step : List ℕ → List ℕ → Type 0) (left new : Seen) : Type 0 where
+pub record Changed (f : ℕ) (step : List ℕ → List ℕ → Type 0) (left new : FolderSeen) : Type 0 where
   pub bytes : List ℕ
   pub took : step (left.bytes f) bytes
   pub is : new ≡ with_bytes left f bytes
 
 -- a file was added, with this name or with none
-pub record Added (name : List ℕ) (left new : Seen) : Type 0 where
+pub record Added (name : List ℕ) (left new : FolderSeen) : Type 0 where
   pub given : List ℕ
   pub which : (given ≡ name) ⊎ (given ≡ [])
   pub is : new ≡ with_made left given []
 
 -- what was left has the names that are seen
-pub record Named (s left new : Seen) : Type 0 where
+pub record Named (s left new : FolderSeen) : Type 0 where
   pub count : new.count ≡ left.count
   pub names : (k : ℕ) → k < s.count → new.names k ≡ s.names k
   pub bytes : new.bytes ≡ left.bytes
   pub said : new.said ≡ left.said
 
-abbrev pub Strikes : Event → Seen → Seen → Seen → Type 0
+abbrev pub Strikes : Event → FolderSeen → FolderSeen → FolderSeen → Type 0
 Strikes (Looked ok) s left new = new ≡ left
 Strikes (Made name ok) s left new = Added name.items left new
 Strikes (Wrote f at bytes ok) s left new = Changed f (Torn at (length bytes.items)) left new
@@ -42,11 +42,11 @@ Strikes (Found name bytes) s left new = new ≡ seen_after (Found name bytes) le
 Strikes (Recalled bytes) s left new = new ≡ seen_after (Recalled bytes) left
 
 -- a folder that a stop may leave after these events, of which the newest comes first
-pub record IsLeft (past : List Event) (left : Seen) : Type 0 where
+pub record IsLeft (past : List Event) (left : FolderSeen) : Type 0 where
   pub count : left.count ≡ (seen_of past).count
   pub said : left.said ≡ (seen_of past).said
   pub owners : (k : ℕ) → k < left.count → (left.names k ≡ []) ⊎ (((seen_of past).names k ≡ []) ⊎ (left.names k ≡ (seen_of past).names k))
-  pub may : MayLeave past (world_of left)
+  pub may : WorldMayBeLeft past (world_of left)
 
 -- the same names, the same bytes behind each, and the same text
 pub record Shows (w shown : World) : Type 0 where

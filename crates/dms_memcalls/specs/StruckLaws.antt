@@ -8,9 +8,9 @@ use Rattle.dms_memcalls.specs.declared.event.Event.{Event}
 use Rattle.dms_memcalls.specs.declared.event.Event.TheVariants.{Looked, Made, Wrote, Shortened, Lengthened, Synced, SyncedNames, Printed, Found, Recalled}
 use Rattle.dms_memcalls.specs.Names.{leads, is_name}
 use Rattle.dms_memcalls.specs.NameLaws.{name_is, leads_is, leads_same, adds_seen}
-use Rattle.dms_memcalls.specs.Folders.{Seen, nothing, with_made, with_bytes, with_said, world_of}
+use Rattle.dms_memcalls.specs.Folders.{FolderSeen, nothing, with_made, with_bytes, with_said, world_of}
 use Rattle.dms_memcalls.specs.Events.{seen_after}
-use Rattle.dms_memcalls.specs.Outcomes.{Adds, Takes, Fits, seen_of, MayLeave}
+use Rattle.dms_memcalls.specs.Outcomes.{Adds, EventMakes, IsOutcomeOf, seen_of, WorldMayBeLeft}
 use Rattle.dms_memcalls.specs.Steady.{on_file, speaks_all, speaks_none}
 use Rattle.dms_memcalls.specs.Settled.{put, renamed, settled, settled_names}
 use Rattle.dms_memcalls.specs.Strikes.{Changed, Named, Strikes, IsLeft}
@@ -19,7 +19,7 @@ use Rattle.dms_memcalls.specs.Strikes.{Changed, Named, Strikes, IsLeft}
 abbrev Agrees : List ℕ → List ℕ → Type 0
 Agrees here there = (here ≡ []) ⊎ ((there ≡ []) ⊎ (here ≡ there))
 
-abbrev AllAgree : Seen → Seen → Type 0
+abbrev AllAgree : FolderSeen → FolderSeen → Type 0
 AllAgree s left = (k : ℕ) → k < left.count → Agrees (left.names k) (s.names k)
 
 none_named : (a m : List ℕ) → a ≡ [] → is_name a m ≢ true
@@ -31,7 +31,7 @@ one_owner a b m n agrees at is = ⊎_elim
     (λ rest. ⊎_elim (λ none. absurd (none_named b n none is)) (λ same. sym (name_is a m at) ∙ same ∙ name_is b n is) rest)
     agrees
 
-fits_left : (s left : Seen) → left.said ≡ s.said → AllAgree s left → Fits s (world_of left)
+fits_left : (s left : FolderSeen) → left.said ≡ s.said → AllAgree s left → IsOutcomeOf s (world_of left)
 fits_left s left said agree = record {
   said = said;
   one_name = λ m n i at is.
@@ -41,10 +41,10 @@ fits_left s left said agree = record {
 
 -- one more event, of which this is left
 module _ (past : List Event) (e : Event) where
-  after : Seen
+  after : FolderSeen
   after = seen_after e (seen_of past)
 
-  next : (new : Seen) → new.count ≡ (seen_after e (seen_of past)).count → new.said ≡ (seen_after e (seen_of past)).said → AllAgree (seen_after e (seen_of past)) new → (v : World) → MayLeave past v → Takes (seen_of past) e v (world_of new) → IsLeft (e ∷ past) new
+  next : (new : FolderSeen) → new.count ≡ (seen_after e (seen_of past)).count → new.said ≡ (seen_after e (seen_of past)).said → AllAgree (seen_after e (seen_of past)) new → (v : World) → WorldMayBeLeft past v → EventMakes (seen_of past) e v (world_of new) → IsLeft (e ∷ past) new
   next new count said agree v may takes = record {
     count = count;
     said = said;
@@ -52,7 +52,7 @@ module _ (past : List Event) (e : Event) where
     may = (fits_left (seen_after e (seen_of past)) new said agree, (v, may, takes));
   }
 
-agree_made : (s left : Seen) (here there bytes other : List ℕ) → left.count ≡ s.count → AllAgree s left → Agrees here there → AllAgree (with_made s there bytes) (with_made left here other)
+agree_made : (s left : FolderSeen) (here there bytes other : List ℕ) → left.count ≡ s.count → AllAgree s left → Agrees here there → AllAgree (with_made s there bytes) (with_made left here other)
 agree_made s left here there bytes other count agree names k low = elim (cases_lt k left.count) [
   | inl before ↦
       let a : with_file left.names left.count here k ≡ left.names k = with_file_other left.names left.count here k (λ e. omega (arith, e, before)) in
@@ -66,56 +66,56 @@ agree_made s left here there bytes other count agree names k low = elim (cases_l
       subst (λ (l : List ℕ). Agrees l (with_file s.names s.count there k)) (sym a) (subst (λ (l : List ℕ). Agrees here l) (sym b) names)
 ]
 
-adds_left : (s left : Seen) (name given bytes : List ℕ) → left.count ≡ s.count → (given ≡ name) ⊎ (given ≡ []) → Adds name bytes s.count (world_of left) (world_of (with_made left given bytes))
+adds_left : (s left : FolderSeen) (name given bytes : List ℕ) → left.count ≡ s.count → (given ≡ name) ⊎ (given ≡ []) → Adds name bytes s.count (world_of left) (world_of (with_made left given bytes))
 adds_left s left name given bytes count which = subst (λ (n : ℕ). Adds name bytes n (world_of left) (world_of (with_made left given bytes))) count (adds_seen left name given bytes which)
 
-module _ (past : List Event) (left : Seen) (was : IsLeft past left) where
+module _ (past : List Event) (left : FolderSeen) (was : IsLeft past left) where
   s_count : left.count ≡ (seen_of past).count
   s_count = was.count
 
   -- a file with a name or none
-  made_left : (name given there bytes : List ℕ) (e : Event) (new : Seen) → seen_after e (seen_of past) ≡ with_made (seen_of past) there bytes → ((v w : World) → Adds name bytes (seen_of past).count v w → Takes (seen_of past) e v w)
+  made_left : (name given there bytes : List ℕ) (e : Event) (new : FolderSeen) → seen_after e (seen_of past) ≡ with_made (seen_of past) there bytes → ((v w : World) → Adds name bytes (seen_of past).count v w → EventMakes (seen_of past) e v w)
       → (given ≡ name) ⊎ (given ≡ []) → Agrees given there → new ≡ with_made left given bytes → IsLeft (e ∷ past) new
   made_left name given there bytes e new is takes which agrees now =
       let s = seen_of past in
-      subst (λ (n : Seen). IsLeft (e ∷ past) n) (sym now) (next past e (with_made left given bytes)
-      (ap (λ (n : ℕ). n + 1) was.count ∙ sym (ap (λ (x : Seen). x.count) is))
-      (was.said ∙ sym (ap (λ (x : Seen). x.said) is))
-      (subst (λ (x : Seen). AllAgree x (with_made left given bytes)) (sym is) (agree_made s left given there bytes bytes was.count was.owners agrees))
+      subst (λ (n : FolderSeen). IsLeft (e ∷ past) n) (sym now) (next past e (with_made left given bytes)
+      (ap (λ (n : ℕ). n + 1) was.count ∙ sym (ap (λ (x : FolderSeen). x.count) is))
+      (was.said ∙ sym (ap (λ (x : FolderSeen). x.said) is))
+      (subst (λ (x : FolderSeen). AllAgree x (with_made left given bytes)) (sym is) (agree_made s left given there bytes bytes was.count was.owners agrees))
       (world_of left) was.may (takes _ _ (adds_left s left name given bytes was.count which)))
 
   -- nothing changed
-  same_left : (e : Event) (new : Seen) → seen_after e (seen_of past) ≡ seen_of past → Takes (seen_of past) e (world_of left) (world_of left) → new ≡ left → IsLeft (e ∷ past) new
-  same_left e new is takes now = subst (λ (n : Seen). IsLeft (e ∷ past) n) (sym now) (next past e left
-      (was.count ∙ sym (ap (λ (x : Seen). x.count) is)) (was.said ∙ sym (ap (λ (x : Seen). x.said) is)) (subst (λ (x : Seen). AllAgree x left) (sym is) was.owners) (world_of left) was.may takes)
+  same_left : (e : Event) (new : FolderSeen) → seen_after e (seen_of past) ≡ seen_of past → EventMakes (seen_of past) e (world_of left) (world_of left) → new ≡ left → IsLeft (e ∷ past) new
+  same_left e new is takes now = subst (λ (n : FolderSeen). IsLeft (e ∷ past) n) (sym now) (next past e left
+      (was.count ∙ sym (ap (λ (x : FolderSeen). x.count) is)) (was.said ∙ sym (ap (λ (x : FolderSeen). x.said) is)) (subst (λ (x : FolderSeen). AllAgree x left) (sym is) was.owners) (world_of left) was.may takes)
 
   -- a file was changed
-  changed_left : (f : ℕ) (step : List ℕ → List ℕ → Type 0) (e : Event) (new : Seen) → (bytes : Files) → seen_after e (seen_of past) ≡ record (seen_of past) { bytes = bytes } → ((v w : World) → OnFile f step v w → Takes (seen_of past) e v w)
+  changed_left : (f : ℕ) (step : List ℕ → List ℕ → Type 0) (e : Event) (new : FolderSeen) → (bytes : Files) → seen_after e (seen_of past) ≡ record (seen_of past) { bytes = bytes } → ((v w : World) → OnFile f step v w → EventMakes (seen_of past) e v w)
       → Changed f step left new → IsLeft (e ∷ past) new
   changed_left f step e new bytes is takes changed =
       let there = with_bytes left f changed.bytes in
-      subst (λ (n : Seen). IsLeft (e ∷ past) n) (sym changed.is) (next past e there
-      (was.count ∙ sym (ap (λ (x : Seen). x.count) is)) (was.said ∙ sym (ap (λ (x : Seen). x.said) is)) (subst (λ (x : Seen). AllAgree x there) (sym is) was.owners)
+      subst (λ (n : FolderSeen). IsLeft (e ∷ past) n) (sym changed.is) (next past e there
+      (was.count ∙ sym (ap (λ (x : FolderSeen). x.count) is)) (was.said ∙ sym (ap (λ (x : FolderSeen). x.said) is)) (subst (λ (x : FolderSeen). AllAgree x there) (sym is) was.owners)
       (world_of left) was.may (takes _ _ (on_file left f step changed.bytes changed.took)))
 
   -- text was printed
-  spoken_left : (text : List ℕ) (e : Event) (new : Seen) → seen_after e (seen_of past) ≡ with_said (seen_of past) ((seen_of past).said ++ text) → ((v w : World) → Speaks text v w → Takes (seen_of past) e v w)
+  spoken_left : (text : List ℕ) (e : Event) (new : FolderSeen) → seen_after e (seen_of past) ≡ with_said (seen_of past) ((seen_of past).said ++ text) → ((v w : World) → Speaks text v w → EventMakes (seen_of past) e v w)
       → new ≡ with_said left (left.said ++ text) → IsLeft (e ∷ past) new
   spoken_left text e new is takes now =
       let there = with_said left (left.said ++ text) in
-      subst (λ (n : Seen). IsLeft (e ∷ past) n) (sym now) (next past e there
-      (was.count ∙ sym (ap (λ (x : Seen). x.count) is)) (ap (λ (l : List ℕ). l ++ text) was.said ∙ sym (ap (λ (x : Seen). x.said) is)) (subst (λ (x : Seen). AllAgree x there) (sym is) was.owners)
+      subst (λ (n : FolderSeen). IsLeft (e ∷ past) n) (sym now) (next past e there
+      (was.count ∙ sym (ap (λ (x : FolderSeen). x.count) is)) (ap (λ (l : List ℕ). l ++ text) was.said ∙ sym (ap (λ (x : FolderSeen). x.said) is)) (subst (λ (x : FolderSeen). AllAgree x there) (sym is) was.owners)
       (world_of left) was.may (takes _ _ (speaks_all left text)))
 
   -- a file is stable
-  synced_left : (f : ℕ) (new : Seen) → new ≡ with_bytes left f ((seen_of past).bytes f) → IsLeft (Synced f true ∷ past) new
+  synced_left : (f : ℕ) (new : FolderSeen) → new ≡ with_bytes left f ((seen_of past).bytes f) → IsLeft (Synced f true ∷ past) new
   synced_left f new now =
       let bytes = (seen_of past).bytes f in
-      subst (λ (n : Seen). IsLeft (Synced f true ∷ past) n) (sym now) (next past (Synced f true) (with_bytes left f bytes) was.count was.said was.owners
+      subst (λ (n : FolderSeen). IsLeft (Synced f true ∷ past) n) (sym now) (next past (Synced f true) (with_bytes left f bytes) was.count was.said was.owners
       (put f bytes (world_of left)) (settled f past (world_of left) was.may) (refl, λ done. with_file_here left.bytes f bytes))
 
   -- the names are stable
-  named_left : (new : Seen) → Named (seen_of past) left new → IsLeft (SyncedNames true ∷ past) new
+  named_left : (new : FolderSeen) → Named (seen_of past) left new → IsLeft (SyncedNames true ∷ past) new
   named_left new named = next past (SyncedNames true) new (named.count ∙ was.count) (named.said ∙ was.said)
       (λ k low. inr (inr (named.names k (omega (arith, low, named.count, was.count)))))
       (renamed (seen_of past) (world_of left)) (settled_names past (world_of left) was.may)
@@ -125,7 +125,7 @@ module _ (past : List Event) (left : Seen) (was : IsLeft past left) where
       names m = ap (λ (n : ℕ). leads n new.names m) (named.count ∙ was.count) ∙ leads_same (seen_of past).count (seen_of past).names new.names m named.names
 
   -- what a stop makes of one more event is what it may leave
-  pub struck_left : (e : Event) (new : Seen) → Strikes e (seen_of past) left new → IsLeft (e ∷ past) new
+  pub struck_left : (e : Event) (new : FolderSeen) → Strikes e (seen_of past) left new → IsLeft (e ∷ past) new
   struck_left (Looked ok) new struck = same_left (Looked ok) new refl refl struck
   struck_left (Made name true) new struck = made_left name.items struck.given name.items [] (Made name true) new refl (λ v w adds. adds) struck.which (⊎_elim (λ e. inr (inr e)) (λ none. inl none) struck.which) struck.is
   struck_left (Made name false) new struck = made_left name.items struck.given [] [] (Made name false) new refl (λ v w adds. adds) struck.which (inr (inl refl)) struck.is

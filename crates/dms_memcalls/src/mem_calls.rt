@@ -5,9 +5,9 @@ ghost use Rattle.dms_sitemem.specs.Slots.{files_of};
 ghost use Rattle.dms_calls.specs.World.{World, Unchanged};
 ghost use Rattle.dms_memcalls.specs.Names.{leads};
 ghost use Rattle.dms_memcalls.specs.Listings.{given_to};
-ghost use Rattle.dms_memcalls.specs.Outcomes.{MayLeave, past_of, seen_now, world_now, clock_of};
+ghost use Rattle.dms_memcalls.specs.Outcomes.{WorldMayBeLeft, past_of, seen_now, world_now, clock_of};
 ghost use Rattle.dms_memcalls.specs.Strikes.{Shows};
-ghost use Rattle.dms_memcalls.specs.Steady.{Grew, stays_now, fits_now, counts_since};
+ghost use Rattle.dms_memcalls.specs.Steady.{IsUpToOneMore, stays_now, fits_now, counts_since};
 
 use crate::crash::{begun, left_after};
 use crate::event::Event;
@@ -85,7 +85,7 @@ impl MemCalls {
     /// was printed up to the call's end.
     pub fn crash(&self, alloc: Global, call: usize, pick: u64) -> Result<MemCalls, Memory>
         requires { self.now.found + call ≤ length self.now.story.events.items }
-        ensures left { IfOk result (λ s. (w : World) × MayLeave (past_of (take (self.now.found + call) self.now.story.events.items)) w
+        ensures left { IfOk result (λ s. (w : World) × WorldMayBeLeft (past_of (take (self.now.found + call) self.now.story.events.items)) w
             × Shows w (world_now s.story.events.items)) }
     {
         let left = left_after(alloc, &self.story.events, self.found + call, pick)?;
@@ -106,7 +106,7 @@ impl MemCalls {
 
     /// Keeps a call with its success, and ends as it did.
     fn keep(&mut self, event: Event, done: bool) -> Result<(), Failed>
-        ensures grew { Grew self.old.story.events.items event self.new.story.events.items }
+        ensures grew { IsUpToOneMore self.old.story.events.items event self.new.story.events.items }
         ensures kept { OnOk result (IsTrue done × (self.new.story.events.items ≡ self.old.story.events.items ++ event ∷ [])) }
         ensures broken { self.new.broken ≡ self.old.broken }
     {
@@ -118,7 +118,7 @@ impl MemCalls {
 
     /// Keeps a call on the files with its success, and ends as it did.
     fn keep_disk(&mut self, event: Event, done: bool) -> Result<(), Failed>
-        ensures grew { Grew self.old.story.events.items event self.new.story.events.items }
+        ensures grew { IsUpToOneMore self.old.story.events.items event self.new.story.events.items }
         ensures kept { OnOk result (IsTrue done × (self.new.story.events.items ≡ self.old.story.events.items ++ event ∷ [])) }
         ensures broken { OnOk result (self.new.broken ≡ self.old.broken) }
     {

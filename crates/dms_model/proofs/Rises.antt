@@ -13,7 +13,7 @@ use Rattle.dms_model.specs.declared.verb.Verb.{Verb}
 use Rattle.dms_model.specs.declared.verb.Verb.TheVariants.{OpenUpdate, OpenInquiry, Close, Find, Create, Put as PutItems, Get, Store, Begin, End, Abort}
 use Rattle.dms_model.specs.declared.verb.Setting.{Setting}
 use Rattle.dms_model.specs.declared.spot.Spot.{Spot}
-use Rattle.dms_model.specs.Session.{Session, Outcome, Kept, Refused, Keeps, Filled, Misfit, Values', refuse, done, shows, settle, keep, store_step, after_store, begin_step, after_begin, begin_unless, awaited, end_step, after_end, abort_step, find_step, after_find, create_step, put_step, put_area, after_put, get_step, get_area, close_step, open_as, open_step, verb_step, step_at, step, work_of, restart_of, someone_works, opens, new_program}
+use Rattle.dms_model.specs.Session.{Session, Outcome, StoreResult, Refused, Keeps, Filled, Misfit, Values', refuse, done, shows, settle, keep, store_step, after_store, begin_step, after_begin, begin_unless, awaited, end_step, after_end, abort_step, find_step, after_find, create_step, put_step, put_area, after_put, get_step, get_area, close_step, open_as, open_step, verb_step, step_at, step, work_of, restart_of, someone_works, opens, new_program}
 use Rattle.dms_model.specs.Session.{is_waits}
 
 -- the next number rises by one at most, and a session in which a line waits is the one before
@@ -38,11 +38,11 @@ settle_small s t same =
     if_small s (someone_works t.programs) _ _ (shows_small s t [] same)
     (if_small s t.pending _ _ (record { not_fallen = omega (arith, same); high = omega (arith, same); waits = λ h. absurd (cc) }) (record { not_fallen = omega (arith, same); high = omega (arith, same); waits = λ h. absurd (cc) }))
 
-store_small : (s : Session) (i : ℕ) (k : Kept) → IsSmall s (after_store k i s)
+store_small : (s : Session) (i : ℕ) (k : StoreResult) → IsSmall s (after_store k i s)
 store_small s i (Refused c n) = refuse_small s c n
 store_small s i (Keeps p db) = shows_small s _ [] refl
 
-after_begin_small : (s : Session) (i : ℕ) (k : Kept) → IsSmall s (after_begin k i s)
+after_begin_small : (s : Session) (i : ℕ) (k : StoreResult) → IsSmall s (after_begin k i s)
 after_begin_small s i (Refused c n) = refuse_small s c n
 after_begin_small s i (Keeps p db) = shows_small s _ [] refl
 
@@ -50,7 +50,7 @@ begin_small : (who : List (List ℕ)) (desc : Described) (i : ℕ) (p : Program)
 begin_small [] desc i p s audit = after_begin_small s i (cond audit (keep desc p s.db (restart_of desc)) (Keeps p s.db))
 begin_small (q ∷ qs) desc i p s audit = record { not_fallen = omega arith; high = omega arith; waits = λ h. refl }
 
-end_small : (k : Kept) (desc : Described) (i : ℕ) (s : Session) (sync : Bool) → IsSmall s (after_end k desc i s sync)
+end_small : (k : StoreResult) (desc : Described) (i : ℕ) (s : Session) (sync : Bool) → IsSmall s (after_end k desc i s sync)
 end_small (Refused c n) desc i s sync = refuse_small s c n
 end_small (Keeps p db) desc i s sync = settle_small s _ refl
 
@@ -70,7 +70,7 @@ get_small : (a : Option Area) (desc : Described) (i : ℕ) (p : Program) (s : Se
 get_small None desc i p s set numbers = refuse_small s _ _
 get_small (Some a) desc i p s set numbers = shows_small s _ _ refl
 
-abbrev ending : Described → Program → Session → Bool → Kept
+abbrev ending : Described → Program → Session → Bool → StoreResult
 ending desc p s audit = cond audit (keep desc p s.db (restart_of desc)) (Keeps p s.db)
 
 abbrev restart_name : Described → List ℕ

@@ -18,14 +18,14 @@ abbrev pub Records : Type 0
 Records = FinMap place_cmp Record
 
 -- an entry of a manual subset: the subset, the owner's record, the record
-pub record Entry : Type 0 where
+pub record SubsetEntry : Type 0 where
   pub subset : ℕ
   pub owner : ℕ
   pub number : ℕ
 
 pub record Db : Type 0 where
   pub records : Records
-  pub entries : List Entry
+  pub entries : List SubsetEntry
 
 -- a database of no record
 abbrev pub empty_db : Db

@@ -13,7 +13,7 @@ use Rattle.dms_desc.specs.declared.record.Record.{Record}
 use Rattle.dms_desc.specs.declared.bound.Bound.{Bound}
 use Rattle.dms_desc.specs.Shape.{Shape, Described}
 use Rattle.dms_model.specs.declared.spot.Spot.{Spot}
-use Rattle.dms_model.specs.Db.{Db, Entry, Records, Place, place_cmp}
+use Rattle.dms_model.specs.Db.{Db, SubsetEntry, Records, Place, place_cmp}
 use Rattle.dms_desc.specs.Keys.{key_of}
 use Rattle.dms_desc.specs.Kinds.{over}
 use Rattle.dms_desc.specs.Lookups.{structure_of, over_of, parts_of}
@@ -69,7 +69,7 @@ abbrev pub IsRecordOf : Records → ℕ → Spot → Type 0
 IsRecordOf records set r = get records (set, r.number) ≡ Some r.rec
 
 -- the spot is a record that belongs to the structure for an owner, with its key
-pub record IsSpotOf (m : Records) (s : Shape) (manual : List Entry) (owner : ℕ) (x : Spot) : Type 0 where
+pub record IsSpotOf (m : Records) (s : Shape) (manual : List SubsetEntry) (owner : ℕ) (x : Spot) : Type 0 where
   pub stand : IsRecordOf m (over s) x
   pub belong : belongs s manual owner ((over s, x.number), x.rec) ≡ true
   pub key : x.key ≡ key_of s.parts x.rec.values
@@ -78,7 +78,7 @@ set_here : (s : Shape) (n : ℕ) (a b : Bool) → eqb (over s) n ≡ a → (a &&
 set_here s n true b h k = grind (arith, nat_tests, h)
 set_here s n false b h k = absurd (cc)
 
-module _ (m : Records) (s : Shape) (manual : List Entry) (owner : ℕ) where
+module _ (m : Records) (s : Shape) (manual : List SubsetEntry) (owner : ℕ) where
   spot_at : (b : Bool) (e : Place × Record) (xs : List Spot) → belongs s manual owner e ≡ b → FoundIn (entries m) e → AllByRecursion (IsSpotOf m s manual owner) xs → AllByRecursion (IsSpotOf m s manual owner) (cond b (spot_of s.parts e ∷ xs) xs)
   spot_at true e xs is found rest =
       let here : over s ≡ e.0.0 = set_here s e.0.0 (over s == e.0.0) _ refl is in (

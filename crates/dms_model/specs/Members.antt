@@ -17,7 +17,7 @@ use Rattle.dms_desc.specs.Kinds.{over, takes}
 use Rattle.dms_desc.specs.Lookups.{structure_of}
 use Rattle.dms_desc.specs.Sorted.{sorted, first, last}
 use Rattle.dms_model.specs.declared.spot.Spot.{Spot}
-use Rattle.dms_model.specs.Db.{Db, Entry, Place}
+use Rattle.dms_model.specs.Db.{Db, SubsetEntry, Place}
 
 -- by key, and then by record number
 abbrev pub spot_cmp : List KeyPart → Spot → Spot → Ordering
@@ -27,19 +27,19 @@ abbrev pub is_before : List KeyPart → Spot → Spot → Bool
 is_before parts a b = is_lt (spot_cmp parts a b)
 
 -- an entry of a manual subset names this record for this owner
-abbrev pub names : ℕ → ℕ → ℕ → Entry → Bool
+abbrev pub names : ℕ → ℕ → ℕ → SubsetEntry → Bool
 names subset owner number e = (e.subset == subset) && (e.owner == owner) && (e.number == number)
 
 -- a record belongs to a structure for an owner: to a manual subset by an entry; to a data set, set or automatic subset
 -- where the owner is its own, and it meets WHERE
-abbrev pub belongs : Shape → List Entry → ℕ → Place × Record → Bool
+abbrev pub belongs : Shape → List SubsetEntry → ℕ → Place × Record → Bool
 belongs s manual owner e = (over s == e.0.0) && (if s.kind == 5 then list_any (names s.number owner e.0.1) manual else (owner == e.1.owner) && takes s e.1.values)
 
 abbrev pub spot_of : List KeyPart → Place × Record → Spot
 spot_of parts e = record { number = e.0.1; key = key_of parts e.1.values; rec = e.1 }
 
 -- the members for one owner, in the order of the records' numbers
-abbrev pub spots_of : Shape → List Entry → ℕ → List (Place × Record) → List Spot
+abbrev pub spots_of : Shape → List SubsetEntry → ℕ → List (Place × Record) → List Spot
 spots_of s manual owner [] = []
 spots_of s manual owner (e ∷ es) = if belongs s manual owner e then spot_of s.parts e ∷ spots_of s manual owner es else spots_of s manual owner es
 

@@ -33,12 +33,12 @@ pub record Stop : Type 0 where
   pub next : ℕ
   pub said : List ℕ
 
--- The first so many of the points, not fewer than were made sure, and a next number that has fallen by no more than the points
+-- The first so many of the points, not fewer than were made durable, and a next number that has fallen by no more than the points
 -- that are missing: each of them may give its number back. Where none is missing it hasn't fallen. The files are whole, as
 -- the store means it
-pub record Front (whole : Files → Type 0) (sure : ℕ) (points : List Point) (next : ℕ) (stop : Stop) : Type 0 where
+pub record LeavesPrefix (whole : Files → Type 0) (durable : ℕ) (points : List Point) (next : ℕ) (stop : Stop) : Type 0 where
   pub count : ℕ
-  pub enough : sure ≤ count
+  pub enough : durable ≤ count
   pub within : count ≤ length points
   pub is : stop.points ≡ take count points
   pub not_fallen : next + count ≤ stop.next + length points
@@ -48,21 +48,21 @@ pub record Front (whole : Files → Type 0) (sure : ℕ) (points : List Point) (
 abbrev pub TextIs : Option (List ℕ) → Stop → Type 0
 TextIs said stop = (t : List ℕ) → said ≡ Some t → stop.said ≡ t
 
--- the text of then and a front of these bytes, where it is told
+-- the text of then and a prefix of these bytes, where it is told
 abbrev pub TextGrows : Option (List ℕ) → List ℕ → Stop → Type 0
 TextGrows said bytes stop = (t : List ℕ) → said ≡ Some t → (n : ℕ) × (stop.said ≡ t ++ take n bytes)
 
 -- at each moment of a call that prints nothing
 abbrev pub Leaves : (Files → Type 0) → Clock Stop → Clock Stop → ℕ → List Point → ℕ → Option (List ℕ) → Type 0
-Leaves whole old new sure points next said = Runs old new (λ stop. Front whole sure points next stop × TextIs said stop)
+Leaves whole old new durable points next said = Runs old new (λ stop. LeavesPrefix whole durable points next stop × TextIs said stop)
 
 -- at each moment of a call that prints these bytes
 abbrev pub LeavesText : (Files → Type 0) → Clock Stop → Clock Stop → ℕ → List Point → ℕ → Option (List ℕ) → List ℕ → Type 0
-LeavesText whole old new sure points next said bytes = Runs old new (λ stop. Front whole sure points next stop × TextGrows said bytes stop)
+LeavesText whole old new durable points next said bytes = Runs old new (λ stop. LeavesPrefix whole durable points next stop × TextGrows said bytes stop)
 
--- a call makes no point, and as many stay sure
+-- a call makes no point, and as many stay durable
 abbrev pub Stays : List Point → ℕ → List Point → ℕ → Type 0
-Stays points sure points' sure' = (points' ≡ points) × (sure ≤ sure')
+Stays points durable points' durable' = (points' ≡ points) × (durable ≤ durable')
 
 -- what definitions know of a point
 abbrev pub told : Point → ℕ × Option Db

@@ -11,8 +11,8 @@ use Rattle.dms_block.specs.Counts.{Faults, CausedBy}
 use Rattle.dms_block.specs.Held.{IsUpToOne}
 use Rattle.dms_desc.specs.Shape.{Described}
 use Rattle.dms_model.specs.Db.{Db}
-use Rattle.dms_model.specs.Points.{Files, Point, Stop, Front, TextIs, Leaves, LeavesText, Stays, IsUnder}
-use Rattle.dms_block.specs.Texts.{PrintsFront}
+use Rattle.dms_model.specs.Points.{Files, Point, Stop, LeavesPrefix, TextIs, Leaves, LeavesText, Stays, IsUnder}
+use Rattle.dms_block.specs.Texts.{PrintsPrefix}
 
 -- how many blocks were changed, how often quiet points were made durable, and how often the store went back to the last one
 pub record Effort : Type 0 where
@@ -64,7 +64,7 @@ pub record Seen : Type 1 where
   pub said : Option (List ℕ)
   -- the quiet points so far, how many of them each stop leaves, and the one that `quiet` would make now
   pub points : List Point
-  pub sure : ℕ
+  pub durable : ℕ
   pub here : Point
   -- what stops may leave, and what holds of the files in each of them
   pub clock : Clock Stop
@@ -101,35 +101,35 @@ pub record HasCauses {T : Type 0} (result : Result T BlockFault) (old new : Seen
 pub record IsSilent (old new : Seen) : Type 0 where
   pub next : new.next ≡ old.next
   pub said : new.said ≡ old.said
-  pub leaves : IfTold old (Leaves old.whole old.clock new.clock old.sure old.points old.next old.said)
+  pub leaves : IfTold old (Leaves old.whole old.clock new.clock old.durable old.points old.next old.said)
 
 -- a call says nothing and gives no number back
 pub record IsMute (old new : Seen) : Type 0 where
   pub not_fallen : old.next ≤ new.next
   pub said : new.said ≡ old.said
 
--- a call makes no quiet point and says a front of these bytes
+-- a call makes no quiet point and says a prefix of these bytes
 pub record SaysPart (old new : Seen) (bytes : List ℕ) : Type 0 where
   pub next : new.next ≡ old.next
-  pub part : PrintsFront old.said new.said bytes
-  pub leaves : IfTold old (LeavesText old.whole old.clock new.clock old.sure old.points old.next old.said bytes)
+  pub part : PrintsPrefix old.said new.said bytes
+  pub leaves : IfTold old (LeavesText old.whole old.clock new.clock old.durable old.points old.next old.said bytes)
 
--- no quiet point is made, and what is sure stays sure
-abbrev pub StaysSure : Seen → Seen → Type 0
-StaysSure old new = IfTold old (Stays old.points old.sure new.points new.sure)
+-- no quiet point is made, and what is durable stays durable
+abbrev pub StaysDurable : Seen → Seen → Type 0
+StaysDurable old new = IfTold old (Stays old.points old.durable new.points new.durable)
 
--- the store is usable, and what is sure stays sure
+-- the store is usable, and what is durable stays durable
 pub record KeepsPoints (old new : Seen) : Type 0 where
   pub sound : new.sound
   pub mark : new.mark ≡ old.mark
-  pub points : StaysSure old new
+  pub points : StaysDurable old new
 
 -- nothing has changed
 pub record Keeps (old new : Seen) : Type 0 where
   pub sound : new.sound
   pub db : new.db ≡ old.db
   pub mark : new.mark ≡ old.mark
-  pub points : StaysSure old new
+  pub points : StaysDurable old new
 
 -- a quiet point was made
 pub record MadeQuiet (old new : Seen) : Type 0 where
@@ -137,27 +137,27 @@ pub record MadeQuiet (old new : Seen) : Type 0 where
   pub next : old.next + 1 < 2 ^ 64 → new.next ≡ old.next + 1
   pub db : old.next + 1 < 2 ^ 64 → new.db ≡ old.db
   pub mark : old.next + 1 < 2 ^ 64 → new.mark ≡ old.db
-  pub points : IfTold old (Stays (old.points ++ old.here ∷ []) old.sure new.points new.sure)
+  pub points : IfTold old (Stays (old.points ++ old.here ∷ []) old.durable new.points new.durable)
 
--- all quiet points are sure
-pub record MadeSure (old new : Seen) : Type 0 where
+-- all quiet points are durable
+pub record MadeDurable (old new : Seen) : Type 0 where
   pub sound : new.sound
   pub db : new.db ≡ old.db
   pub mark : new.mark ≡ old.mark
   pub points : IfTold old (new.points ≡ old.points)
-  pub sure : IfTold old (new.sure ≡ length old.points)
+  pub durable : IfTold old (new.durable ≡ length old.points)
 
 -- What is told hangs together. Where stops are told some outcome of a stop now is possible. A point that was made now has the next number and, where that is told, the database; and where
 -- a point's database is told it stands under the store's description. A stop now leaves the first so many points, at least
--- those that are sure, and the text.
-pub record Agrees (s : Seen) : Type 0 where
+-- those that are durable, and the text.
+pub record StoreAgrees (s : Seen) : Type 0 where
   pub may_stop : s.tells → (x : Stop) × Now s.clock x
   pub number : s.here.number ≡ s.next
   pub here : (db : Db) → s.db ≡ Some db → s.here.db ≡ Some db
   pub under : IsUnder s.desc s.here
   pub points : IfTold s (AllByRecursion (IsUnder s.desc) s.points)
-  pub stop : IfTold s ((x : Stop) → Now s.clock x → Front s.whole s.sure s.points s.next x × TextIs s.said x)
-  pub sure : IfTold s (s.sure ≤ length s.points)
+  pub stop : IfTold s ((x : Stop) → Now s.clock x → LeavesPrefix s.whole s.durable s.points s.next x × TextIs s.said x)
+  pub durable : IfTold s (s.durable ≤ length s.points)
 
 -- a store that was made now: no quiet point yet, the next number, and this database, also to go back to
 pub record Starts (desc : Described) (next : ℕ) (db : Db) (s : Seen) : Type 0 where
@@ -167,7 +167,7 @@ pub record Starts (desc : Described) (next : ℕ) (db : Db) (s : Seen) : Type 0 
   pub mark : s.mark ≡ Some db
   pub next_is : s.next ≡ next
   pub points : s.points ≡ []
-  pub sure : s.sure ≡ 0
+  pub durable : s.durable ≡ 0
   pub fulls : s.faults.full ≡ 0
   pub damages : s.faults.damaged ≡ 0
   pub effort : s.effort ≡ no_effort

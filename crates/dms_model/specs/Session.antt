@@ -164,9 +164,9 @@ is_free (New values owner) p set current = true
 is_free (Old values) p set current = holds p set current
 
 -- a refusal, or the program and the database after storing
-pub data Kept : Type 0 where
-  Refused : Category → List ℕ → Kept
-  Keeps : Program → Db → Kept
+pub data StoreResult : Type 0 where
+  Refused : Category → List ℕ → StoreResult
+  Keeps : Program → Db → StoreResult
 
 abbrev pub record_of : Area → Record
 record_of a = record { owner = area_owner a; values = area_values a }
@@ -175,19 +175,19 @@ record_of a = record { owner = area_owner a; values = area_values a }
 abbrev pub stored_program : Program → ℕ → ℕ → Area → Program
 stored_program p set number a = with_lock (with_work p set (record { current = Some number; area = Some (Old (area_values a)) })) set number
 
-abbrev pub put_kept : Put → Described → Program → Db → ℕ → Area → Kept
+abbrev pub put_kept : Put → Described → Program → Db → ℕ → Area → StoreResult
 put_kept (Stored number) desc p db set a = Keeps (stored_program p set number a) (put_after (Stored number) desc db set (record_of a))
 put_kept (Duplicate d) desc p db set a = Refused Duplicates (name_of (structure_of desc d))
 put_kept Full desc p db set a = Refused LimitError (name_of (structure_of desc set))
 
-abbrev pub kept_unless : Option (List ℕ) → Described → Program → Db → ℕ → Area → Option ℕ → Kept
+abbrev pub kept_unless : Option (List ℕ) → Described → Program → Db → ℕ → Area → Option ℕ → StoreResult
 kept_unless (Some item) desc p db set a current = Refused DataError item
 kept_unless None desc p db set a current =
     if verified (structure_of desc set) (area_values a)
     then put_kept (put_answer desc db set (area_number a current) (record_of a)) desc p db set a
     else Refused DataError (name_of (structure_of desc set))
 
-abbrev pub area_kept : Option Area → Described → Program → Db → ℕ → Option ℕ → Kept
+abbrev pub area_kept : Option Area → Described → Program → Db → ℕ → Option ℕ → StoreResult
 area_kept None desc p db set current = Refused NoRecord (name_of (structure_of desc set))
 area_kept (Some a) desc p db set current =
     if is_free a p set current
@@ -196,10 +196,10 @@ area_kept (Some a) desc p db set current =
 
 -- storing a program's area of a data set. Refused in this order: no area; an Old one whose record the program doesn't hold
 -- locked; a REQUIRED item that is null; VERIFY not met; an equal key in a structure with NO DUPLICATES; POPULATION
-unfoldable pub keep : Described → Program → Db → ℕ → Kept
+unfoldable pub keep : Described → Program → Db → ℕ → StoreResult
 keep desc p db set = area_kept (work_of p set).area desc p db set (work_of p set).current
 
-abbrev pub after_store : Kept → ℕ → Session → Outcome
+abbrev pub after_store : StoreResult → ℕ → Session → Outcome
 after_store (Refused category name) i s = refuse s category name
 after_store (Keeps p db) i s = done (record s { db = db; programs = slice_set s.programs i (carried p) })
 
@@ -219,7 +219,7 @@ restart_of desc = restart_in desc.structures
 abbrev pub entered : Program → Program
 entered p = carried (record p { in_transaction = true })
 
-abbrev pub after_begin : Kept → ℕ → Session → Outcome
+abbrev pub after_begin : StoreResult → ℕ → Session → Outcome
 after_begin (Refused category name) i s = refuse s category name
 after_begin (Keeps p db) i s = done (record s { db = db; programs = slice_set s.programs i (entered p) })
 
@@ -246,7 +246,7 @@ left p = carried (record p { in_transaction = false; locks = [] })
 abbrev pub one_more : ℕ → ℕ
 one_more n = min (n + 1) (2 ^ 64 - 1)
 
-abbrev pub after_end : Kept → Described → ℕ → Session → Bool → Outcome
+abbrev pub after_end : StoreResult → Described → ℕ → Session → Bool → Outcome
 after_end (Refused category name) desc i s sync = refuse s category name
 after_end (Keeps p db) desc i s sync =
     settle (record s { db = db; programs = slice_set s.programs i (left p); pending = s.pending || sync || nat_le desc.syncpoint (one_more s.since); since = one_more s.since })

@@ -12,7 +12,7 @@ use Rattle.dms_desc.specs.Shape.{Shape, Described}
 use Rattle.dms_desc.specs.Conds.{or_null}
 use Rattle.dms_model.specs.declared.put.Put.{Put}
 use Rattle.dms_model.specs.declared.put.Put.TheVariants.{Stored, Duplicate, Full}
-use Rattle.dms_model.specs.Db.{Db, Entry, Place, records_of, fresh}
+use Rattle.dms_model.specs.Db.{Db, SubsetEntry, Place, records_of, fresh}
 use Rattle.dms_desc.specs.Keys.{key_of, key_cmp}
 use Rattle.dms_desc.specs.Kinds.{takes, is_link}
 use Rattle.dms_desc.specs.Lookups.{structure_of, items_of}
@@ -63,7 +63,7 @@ is_other None m = true
 is_other (Some n) m = not (n == m)
 
 -- another record of the owner stands in the structure with an equal key
-abbrev pub has_equal : Shape → List Entry → Option ℕ → Record → List (Place × Record) → Bool
+abbrev pub has_equal : Shape → List SubsetEntry → Option ℕ → Record → List (Place × Record) → Bool
 has_equal s manual number rec [] = false
 has_equal s manual number rec (e ∷ es) =
     if belongs s manual rec.owner e && is_other number e.0.1 && is_eq (key_cmp s.parts (key_of s.parts e.1.values) (key_of s.parts rec.values)) then true

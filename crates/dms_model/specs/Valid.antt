@@ -17,7 +17,7 @@ use Rattle.dms_desc.specs.Shape.{Shape, Described}
 use Rattle.dms_desc.specs.Conds.{meets, is_null, or_null}
 use Rattle.dms_desc.specs.Plain.{ArePlain}
 use Rattle.dms_model.specs.declared.spot.Spot.{Spot}
-use Rattle.dms_model.specs.Db.{Db, Entry, Place, Records, records_of}
+use Rattle.dms_model.specs.Db.{Db, SubsetEntry, Place, Records, records_of}
 use Rattle.dms_desc.specs.Keys.{key_of, key_cmp}
 use Rattle.dms_desc.specs.Lookups.{structure_of, over_of}
 use Rattle.dms_model.specs.Members.{belongs}
@@ -72,7 +72,7 @@ link_stands records (Field n) v = true
 link_stands records (Link to counted) v = refers records to v
 
 -- two records belong to a structure for one owner
-abbrev pub share_owner : Shape → List Entry → ℕ → Place × Record → Place × Record → Bool
+abbrev pub share_owner : Shape → List SubsetEntry → ℕ → Place × Record → Place × Record → Bool
 share_owner s manual owner a b = belongs s manual owner a && belongs s manual owner b
 
 abbrev pub equal_keys : Shape → Record → Record → Bool
@@ -83,17 +83,17 @@ abbrev pub HaveOwnKeys : Shape → List Spot → Type 0
 HaveOwnKeys s xs = AllByRecursion (λ x. AllByRecursion (λ y. is_eq (key_cmp s.parts x.key y.key) ≡ true → x.number ≡ y.number) xs) xs
 
 -- an entry of a manual subset: its record and its owner's exist
-pub record EntryStands (desc : Described) (db : Db) (e : Entry) : Type 0 where
+pub record EntryStands (desc : Described) (db : Db) (e : SubsetEntry) : Type 0 where
   pub manual : is_manual (structure_of desc e.subset) ≡ true
   pub member : is_some (get db.records (over_of (structure_of desc e.subset), e.number)) ≡ true
   pub owner : owner_stands db.records (owner_of (structure_of desc e.subset)) e.owner ≡ true
 
 -- entries by subset, then by owner, then by record
-abbrev pub entry_cmp : Entry → Entry → Ordering
+abbrev pub entry_cmp : SubsetEntry → SubsetEntry → Ordering
 entry_cmp a b = ordering_then (nat_cmp a.subset b.subset) (ordering_then (nat_cmp a.owner b.owner) (nat_cmp a.number b.number))
 
 -- each entry is before all later ones
-abbrev pub AreRising : List Entry → Type 0
+abbrev pub AreRising : List SubsetEntry → Type 0
 AreRising [] = ⊤
 AreRising (e ∷ es) = AllByRecursion (λ x. entry_cmp e x ≡ Less) es × AreRising es
 

@@ -4,7 +4,7 @@ ghost use Rattle.dms_model.specs.Db.{Db};
 ghost use Rattle.dms_model.specs.Members.{first_member, last_member};
 ghost use Rattle.dms_model.specs.Points.{Leaves};
 ghost use Rattle.dms_block.specs.Texts.{Prints};
-ghost use Rattle.dms_model.specs.Seen.{Seen, Agrees, GoesBack, HasCauses, IfTold, IsMute, IsSilent, Keeps, KeepsPoints, MadeQuiet, MadeSure, Roomy, SaysPart, Spends, Syncs};
+ghost use Rattle.dms_model.specs.Seen.{Seen, StoreAgrees, GoesBack, HasCauses, IfTold, IsMute, IsSilent, Keeps, KeepsPoints, MadeQuiet, MadeDurable, Roomy, SaysPart, Spends, Syncs};
 ghost use Rattle.dms_model.specs.Stores.{Tells};
 ghost use Rattle.dms_model.specs.Fitting.{IsDataSet, IsNumber, IsStructure, MayStart, PutFits, Puts, RecordFits, SpotFits};
 ghost use Rattle.dms_block.specs.Faults.{Unbroken, Undamaged};
@@ -117,7 +117,7 @@ pub trait Store {
         ensures number { (seen self.old).next + 1 < 2 ^ 64 → IfOk result (λ n. n ≡ (seen self.old).next) }
         ensures made { OnOk result (MadeQuiet (seen self.old) (seen self.new)) }
         ensures mute { IsMute (seen self.old) (seen self.new) }
-        ensures leaves { let s = seen self.old in IfTold s (Leaves s.whole s.clock (seen self.new).clock s.sure (s.points ++ s.here ∷ []) (s.next + 1) s.said) }
+        ensures leaves { let s = seen self.old in IfTold s (Leaves s.whole s.clock (seen self.new).clock s.durable (s.points ++ s.here ∷ []) (s.next + 1) s.said) }
         ensures memory { IsErrOf result BlockFault.Memory → ⊥ }
         ensures same { same_store self.old self.new }
         ensures effort { (seen self.new).effort ≡ (seen self.old).effort }
@@ -125,10 +125,10 @@ pub trait Store {
         ensures mute_fault { IsErrOf result BlockFault.Say → ⊥ }
         ensures causes { HasCauses result (seen self.old) (seen self.new) };
 
-    /// Makes all quiet points so far sure. Takes no memory.
+    /// Makes all quiet points so far durable. Takes no memory.
     fn sync(&mut self) -> Result<(), BlockFault>
         requires { (seen self.old).sound }
-        ensures made { OnOk result (MadeSure (seen self.old) (seen self.new)) }
+        ensures made { OnOk result (MadeDurable (seen self.old) (seen self.new)) }
         ensures memory { IsErrOf result BlockFault.Memory → ⊥ }
         ensures silent { IsSilent (seen self.old) (seen self.new) }
         ensures same { same_store self.old self.new }
@@ -161,7 +161,7 @@ pub trait Store {
         ensures causes { HasCauses result (seen self.old) (seen self.new) };
 
     /// What a sound store tells hangs together.
-    ghost agrees: { (s : Self) → (seen s).sound → Agrees (seen s) };
+    ghost agrees: { (s : Self) → (seen s).sound → StoreAgrees (seen s) };
 
     ghost same_again: { (s : Self) → same_store s s };
 

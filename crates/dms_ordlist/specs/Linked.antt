@@ -23,9 +23,9 @@ said_by reads None = None
 said_by reads (Some b) = reads b
 
 -- each block says the number of the next one and what it holds; the last one says what is behind the chain
-abbrev pub Chain : {A : Type 0} → (List ℕ → Option (ℕ × A)) → (ℕ → Option (List ℕ)) → List (ℕ × A) → ℕ → Type 0
-Chain reads look [] behind = Unit {0}
-Chain reads look (l ∷ ls) behind = (l.0 ≡ 0 → ⊥) × (said_by reads (look l.0) ≡ Some (front ls behind, l.1)) × Chain reads look ls behind
+abbrev pub BlockChain : {A : Type 0} → (List ℕ → Option (ℕ × A)) → (ℕ → Option (List ℕ)) → List (ℕ × A) → ℕ → Type 0
+BlockChain reads look [] behind = Unit {0}
+BlockChain reads look (l ∷ ls) behind = (l.0 ≡ 0 → ⊥) × (said_by reads (look l.0) ≡ Some (front ls behind, l.1)) × BlockChain reads look ls behind
 
 abbrev pub linked : {A : Type 0} → ℕ → Option (ℕ × A) → (ℕ → Option (List (ℕ × A))) → Option (List (ℕ × A))
 linked b None rest = None

@@ -3,7 +3,7 @@ use Rattle.std.proofs.Common.{◌≡◌, ℕ, zero, suc, ◌+◌, ◌≤◌, Lis
 use Rattle.std.specs.declared.option.Option.{Option}
 use Rattle.std.specs.Option.{option_map}
 use Rattle.std.proofs.lemmas.Bool.Decides.{nat_tests}
-use Rattle.dms_ordlist.specs.Linked.{Chain, front, linked, numbers, put, said_by, times, walk}
+use Rattle.dms_ordlist.specs.Linked.{BlockChain, front, linked, numbers, put, said_by, times, walk}
 
 pub times_append : (n : ℕ) (xs ys : List ℕ) → times n (xs ++ ys) ≡ times n xs + times n ys
 times_append n [] ys = omega arith
@@ -39,15 +39,15 @@ module _ {A : Type 0} where
   front_append (x ∷ xs) ys n = refl
 
   module _ (reads : List ℕ → Option (ℕ × A)) where
-    pub chain_first : (look : ℕ → Option (List ℕ)) (xs ys : List (ℕ × A)) (n : ℕ) → Chain reads look (xs ++ ys) n → Chain reads look xs (front ys n)
+    pub chain_first : (look : ℕ → Option (List ℕ)) (xs ys : List (ℕ × A)) (n : ℕ) → BlockChain reads look (xs ++ ys) n → BlockChain reads look xs (front ys n)
     chain_first look [] ys n c = tt
     chain_first look (x ∷ xs) ys n c = (c.0, c.1 ∙ ap (λ k. Some (k, x.1)) (front_append xs ys n), chain_first look xs ys n c.2)
 
-    pub chain_second : (look : ℕ → Option (List ℕ)) (xs ys : List (ℕ × A)) (n : ℕ) → Chain reads look (xs ++ ys) n → Chain reads look ys n
+    pub chain_second : (look : ℕ → Option (List ℕ)) (xs ys : List (ℕ × A)) (n : ℕ) → BlockChain reads look (xs ++ ys) n → BlockChain reads look ys n
     chain_second look [] ys n c = c
     chain_second look (x ∷ xs) ys n c = chain_second look xs ys n c.2
 
-    pub chain_both : (look : ℕ → Option (List ℕ)) (xs ys : List (ℕ × A)) (n : ℕ) → Chain reads look xs (front ys n) → Chain reads look ys n → Chain reads look (xs ++ ys) n
+    pub chain_both : (look : ℕ → Option (List ℕ)) (xs ys : List (ℕ × A)) (n : ℕ) → BlockChain reads look xs (front ys n) → BlockChain reads look ys n → BlockChain reads look (xs ++ ys) n
     chain_both look [] ys n c d = d
     chain_both look (x ∷ xs) ys n c d = (c.0, c.1 ∙ ap (λ k. Some (k, x.1)) (sym (front_append xs ys n)), chain_both look xs ys n c.2 d)
 
@@ -58,14 +58,14 @@ module _ {A : Type 0} where
     put_own look b bytes = grind (arith, nat_tests)
 
     -- a chain without the block that is changed stays
-    pub chain_still : (look : ℕ → Option (List ℕ)) (b : ℕ) (bytes : List ℕ) (xs : List (ℕ × A)) (n : ℕ) → times b (numbers xs) ≡ 0 → Chain reads look xs n → Chain reads (put look b bytes) xs n
+    pub chain_still : (look : ℕ → Option (List ℕ)) (b : ℕ) (bytes : List ℕ) (xs : List (ℕ × A)) (n : ℕ) → times b (numbers xs) ≡ 0 → BlockChain reads look xs n → BlockChain reads (put look b bytes) xs n
     chain_still look b bytes [] n none c = tt
     chain_still look b bytes (x ∷ xs) n none c =
         let off = times_apart b x.0 (numbers xs) none in
         (c.0, ap (said_by reads) (put_other look b bytes x.0 off.0) ∙ c.1, chain_still look b bytes xs n off.1 c.2)
 
     -- a block that is written begins a chain
-    pub chain_own : (look : ℕ → Option (List ℕ)) (b : ℕ) (bytes : List ℕ) (x : A) (xs : List (ℕ × A)) (n : ℕ) → (b ≡ 0 → ⊥) → reads bytes ≡ Some (front xs n, x) → times b (numbers xs) ≡ 0 → Chain reads look xs n → Chain reads (put look b bytes) ((b, x) ∷ xs) n
+    pub chain_own : (look : ℕ → Option (List ℕ)) (b : ℕ) (bytes : List ℕ) (x : A) (xs : List (ℕ × A)) (n : ℕ) → (b ≡ 0 → ⊥) → reads bytes ≡ Some (front xs n, x) → times b (numbers xs) ≡ 0 → BlockChain reads look xs n → BlockChain reads (put look b bytes) ((b, x) ∷ xs) n
     chain_own look b bytes x xs n some is none c = (some, ap (said_by reads) (put_own look b bytes) ∙ is, chain_still look b bytes xs n none c)
 
     -- the walk along a chain finds it
@@ -76,7 +76,7 @@ module _ {A : Type 0} where
     some_if zero p q off = absurd (off refl)
     some_if (suc b) p q off = ap (λ t. cond t p q) (let e : eqb (suc b) 0 ≡ false = grind (arith, nat_tests) in e)
 
-    pub walk_is : (look : ℕ → Option (List ℕ)) (n : ℕ) (xs : List (ℕ × A)) → length xs ≤ n → Chain reads look xs 0 → walk n reads look (front xs 0) ≡ Some xs
+    pub walk_is : (look : ℕ → Option (List ℕ)) (n : ℕ) (xs : List (ℕ × A)) → length xs ≤ n → BlockChain reads look xs 0 → walk n reads look (front xs 0) ≡ Some xs
     walk_is look zero [] le c = refl
     walk_is look (suc n) [] le c = refl
     walk_is look zero (x ∷ xs) le c = absurd (omega (arith, le))
@@ -87,7 +87,7 @@ module _ {A : Type 0} where
 
     -- and finds nothing but chains
     pub record Found (look : ℕ → Option (List ℕ)) (b : ℕ) (xs : List (ℕ × A)) : Type 0 where
-      pub chain : Chain reads look xs 0
+      pub chain : BlockChain reads look xs 0
       pub first : front xs 0 ≡ b
 
     found_end : (look : ℕ → Option (List ℕ)) (b : ℕ) (xs : List (ℕ × A)) → b ≡ 0 → Some [] ≡ Some xs → Found look b xs

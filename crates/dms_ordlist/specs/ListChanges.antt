@@ -7,16 +7,16 @@ use Rattle.dms_block.specs.Content.{laid}
 use Rattle.dms_ordlist.specs.declared.place.Look.{Look}
 use Rattle.dms_ordlist.specs.declared.place.Place.{Place}
 use Rattle.dms_ordlist.specs.Leads.{at_is, lead, rises_first, rises_second, rises_with, rising_is}
-use Rattle.dms_ordlist.specs.Linked.{Chain, front, numbers, said_by, times}
+use Rattle.dms_ordlist.specs.Linked.{BlockChain, front, numbers, said_by, times}
 use Rattle.dms_ordlist.specs.LinkedLaws.{numbers_times, times_own}
 use Rattle.dms_ordlist.specs.ListBlocks.{free_in, head_bytes, leaf_bytes, leaf_in}
 use Rattle.dms_ordlist.specs.ListIn.{IsList, Leaf, Spare, entries_of, list_in}
-use Rattle.dms_ordlist.specs.Lists.{Rises, has_entry, with_entry, without}
+use Rattle.dms_ordlist.specs.Lists.{AreInByteOrder, has_entry, with_entry, without}
 use Rattle.dms_ordlist.specs.ListWrites.{Taken, begun_written, here_written, split_written}
 use Rattle.dms_ordlist.specs.Located.{located_has, located_missing, located_stands, located_with}
 use Rattle.dms_ordlist.specs.Looks.{IsLook, ListOr, located, look_at, look_rises, parts_of}
 use Rattle.dms_ordlist.specs.Places.{IsPlace, PlaceHolds, entries_append, link_of}
-use Rattle.dms_ordlist.specs.Seen.{IsWidth}
+use Rattle.dms_ordlist.specs.Seen.{IsListWidth}
 use Rattle.dms_ordlist.specs.SpellLaws.{AllWide, leaf_again, leaf_is}
 
 pub wide_append : (w : ℕ) (xs ys : List (List ℕ)) → AllWide w xs → AllWide w ys → AllWide w (xs ++ ys)
@@ -44,7 +44,7 @@ free_low width bs first ls f free t =
     subst (λ n. n < max (length bs) (f + 1)) o.free_is (front_low t.spares (max (length bs) (f + 1)) (omega (arith, o.count_is)) (λ n some. o.low n (omega (arith, some))))
 
 -- the first entry of a list
-pub begun_list : (width : ℕ) (bs : List (List ℕ)) (first f free : ℕ) (entry : List ℕ) → IsWidth width → Taken width bs first [] f free → length bs ≤ 1048576 → length entry ≡ width
+pub begun_list : (width : ℕ) (bs : List (List ℕ)) (first f free : ℕ) (entry : List ℕ) → IsListWidth width → Taken width bs first [] f free → length bs ≤ 1048576 → length entry ≡ width
     → list_in width (laid f (leaf_bytes 0 (entry ∷ [])) (laid 0 (head_bytes f free) bs)) ≡ Some (entry ∷ [])
 begun_list width bs first f free entry w t room wide =
     let es = entry ∷ [] in
@@ -100,7 +100,7 @@ whole_low width count look ls fs is = front_low ls count (omega (arith, is.count
 abbrev pub with_at_place : List ℕ → List (List ℕ) → List (List ℕ)
 with_at_place c es = take (lead c es) es ++ c ∷ drop (lead c es) es
 
-module _ (c : List ℕ) (width count : ℕ) (bs : List (List ℕ)) (xs : List (List ℕ)) (r : Look) (p : Place) (w : IsWidth width) (l : IsLook c width bs xs r) (is : r.place ≡ Some p) (holds : IfSome r.place (PlaceHolds width count)) where
+module _ (c : List ℕ) (width count : ℕ) (bs : List (List ℕ)) (xs : List (List ℕ)) (r : Look) (p : Place) (w : IsListWidth width) (l : IsLook c width bs xs r) (is : r.place ≡ Some p) (holds : IfSome r.place (PlaceHolds width count)) where
   abbrev es : List (List ℕ)
   es = p.here.leaf.entries.items
 
@@ -113,21 +113,21 @@ module _ (c : List ℕ) (width count : ℕ) (bs : List (List ℕ)) (xs : List (L
   pub held : PlaceHolds width count p
   held = subst (λ o. IfSome o (PlaceHolds width count)) is holds
 
-  pub rising : Rises xs
-  rising = subst Rises l.entries (look_rises c width bs xs r l)
+  pub rising : AreInByteOrder xs
+  rising = subst AreInByteOrder l.entries (look_rises c width bs xs r l)
 
   -- it stands already
   pub stands_has : at_is c (slice_get es (lead c es)) ≡ true → has_entry c xs ≡ true
   stands_has on =
       let at = place in
       ap (has_entry c) (sym l.entries ∙ parts_of c l.leaves p at)
-      ∙ located_has c (entries_of at.ahead) es (entries_of at.behind) (located c l.leaves p at) (subst Rises (parts_of c l.leaves p at) (look_rises c width bs xs r l)) ∙ on
+      ∙ located_has c (entries_of at.ahead) es (entries_of at.behind) (located c l.leaves p at) (subst AreInByteOrder (parts_of c l.leaves p at) (look_rises c width bs xs r l)) ∙ on
 
   pub missing_has : at_is c (slice_get es (lead c es)) ≡ false → has_entry c xs ≡ false
   missing_has off =
       let at = place in
       ap (has_entry c) (sym l.entries ∙ parts_of c l.leaves p at)
-      ∙ located_has c (entries_of at.ahead) es (entries_of at.behind) (located c l.leaves p at) (subst Rises (parts_of c l.leaves p at) (look_rises c width bs xs r l)) ∙ off
+      ∙ located_has c (entries_of at.ahead) es (entries_of at.behind) (located c l.leaves p at) (subst AreInByteOrder (parts_of c l.leaves p at) (look_rises c width bs xs r l)) ∙ off
 
   pub stands_with : at_is c (slice_get es (lead c es)) ≡ true → with_entry c xs ≡ xs
   stands_with on =
@@ -139,7 +139,7 @@ module _ (c : List ℕ) (width count : ℕ) (bs : List (List ℕ)) (xs : List (L
   missing_without off =
       let at = place in
       let whole = sym l.entries ∙ parts_of c l.leaves p at in
-      ap (without c) whole ∙ located_missing c (entries_of at.ahead) es (entries_of at.behind) (located c l.leaves p at) (subst Rises (parts_of c l.leaves p at) (look_rises c width bs xs r l)) off ∙ sym whole
+      ap (without c) whole ∙ located_missing c (entries_of at.ahead) es (entries_of at.behind) (located c l.leaves p at) (subst AreInByteOrder (parts_of c l.leaves p at) (look_rises c width bs xs r l)) off ∙ sym whole
 
   with_parts : at_is c (slice_get es (lead c es)) ≡ false → with_entry c xs ≡ entries_of place.ahead ++ (with_at_place c es ++ entries_of place.behind)
   with_parts off =
@@ -149,8 +149,8 @@ module _ (c : List ℕ) (width count : ℕ) (bs : List (List ℕ)) (xs : List (L
   new_wide : length c ≡ width → AllWide width (with_at_place c es)
   new_wide wide = wide_append width (take (lead c es) es) (c ∷ drop (lead c es) es) (wide_take width (lead c es) es held.here.leaf.wide) (wide, wide_drop width (lead c es) es held.here.leaf.wide)
 
-  new_rises : at_is c (slice_get es (lead c es)) ≡ false → Rises (with_at_place c es ++ entries_of place.behind)
-  new_rises off = rises_second (entries_of place.ahead) (with_at_place c es ++ entries_of place.behind) (subst Rises (with_parts off) (rises_with c xs rising))
+  new_rises : at_is c (slice_get es (lead c es)) ≡ false → AreInByteOrder (with_at_place c es ++ entries_of place.behind)
+  new_rises off = rises_second (entries_of place.ahead) (with_at_place c es ++ entries_of place.behind) (subst AreInByteOrder (with_parts off) (rises_with c xs rising))
 
   pub list_at : (ls : List Leaf) → ListOr width bs l.leaves l.spares → (p' : l.leaves ≡ place.ahead ++ link_of p.here ∷ place.behind) → IsList width (length bs) (slice_get bs) (place.ahead ++ link_of p.here ∷ place.behind) l.spares
   list_at ls (inl none) e = absurd (nothing_in place.ahead place.behind (link_of p.here) (sym e ∙ none.1))
@@ -168,7 +168,7 @@ module _ (c : List ℕ) (width count : ℕ) (bs : List (List ℕ)) (xs : List (L
       let some : 0 < length new = omega (arith, length-append (take (lead c es) es) (c ∷ drop (lead c es) es)) in
       let reads = leaf_again width p.here.leaf.next new (omega (arith, w.low)) low (new_wide wide) (record { some = some; room = fits; rising = rising_is new rise }) ∙ ap (λ n. Some (n, new)) at.next in
       let whole : entries_of (at.ahead ++ (p.here.number, new) ∷ at.behind) ≡ with_entry c xs = entries_append at.ahead ((p.here.number, new) ∷ at.behind) ∙ sym (with_parts off) in
-      here_written width bs at.ahead at.behind p.here.number es new l.spares (leaf_bytes p.here.leaf.next new) list (omega (arith, held.here.there, size)) reads (subst Rises (sym whole) (rises_with c xs rising)) ∙ ap Some whole
+      here_written width bs at.ahead at.behind p.here.number es new l.spares (leaf_bytes p.here.leaf.next new) list (omega (arith, held.here.there, size)) reads (subst AreInByteOrder (sym whole) (rises_with c xs rising)) ∙ ap Some whole
 
   -- its block is parted
   pub split_list : (m f free : ℕ) → length c ≡ width → length bs ≤ 1048576 → count ≡ length bs → at_is c (slice_get es (lead c es)) ≡ false → 0 < m → m < length (with_at_place c es)
@@ -183,7 +183,7 @@ module _ (c : List ℕ) (width count : ℕ) (bs : List (List ℕ)) (xs : List (L
       let low : p.here.leaf.next < 2 ^ 32 = omega (arith, at.next, room, low_next width (length bs) (slice_get bs) at.ahead at.behind (link_of p.here) l.spares list) in
       let low_first : r.head.first < 2 ^ 32 = omega (arith, l.first, ap (λ ls. front ls 0) at.is, room, whole_low width (length bs) (slice_get bs) (at.ahead ++ link_of p.here ∷ at.behind) l.spares list) in
       let rise = rises_first new (entries_of at.behind) (new_rises off) in
-      let parts_rise = subst Rises (sym (take-append-drop m new)) rise in
+      let parts_rise = subst AreInByteOrder (sym (take-append-drop m new)) rise in
       let upper = leaf_again width p.here.leaf.next more (omega (arith, w.low)) low (wide_drop width m new (new_wide wide)) (record { some = some''; room = fits'; rising = rising_is more (rises_second less more parts_rise) }) ∙ ap (λ n. Some (n, more)) at.next in
       let lower = leaf_again width f less (omega (arith, w.low)) (omega (arith, t.near, room)) (wide_take width m new (new_wide wide)) (record { some = some'; room = fits; rising = rising_is less (rises_first less more parts_rise) }) in
       let halves : entries_of ((p.here.number, less) ∷ ((f, more) ∷ at.behind)) ≡ new ++ entries_of at.behind = sym (append_assoc less more (entries_of at.behind)) ∙ ap (λ (k : List (List ℕ)). k ++ entries_of at.behind) (take-append-drop m new) in
@@ -191,7 +191,7 @@ module _ (c : List ℕ) (width count : ℕ) (bs : List (List ℕ)) (xs : List (L
       entries_append at.ahead ((p.here.number, less) ∷ ((f, more) ∷ at.behind)) ∙ ap (λ (k : List (List ℕ)). entries_of at.ahead ++ k) halves ∙ sym (with_parts off) in
       let t' = subst (λ ls. Taken width bs r.head.first ls f free) at.is (subst (λ n. Taken width bs n l.leaves f free) (sym l.first) t) in
       split_written width bs r.head.first f free at.ahead at.behind p.here.number es less more (leaf_bytes f less) (leaf_bytes p.here.leaf.next more) t' (omega (arith, held.here.there, size)) low_first (omega (arith, t.near, room, free_low width bs (front l.leaves 0) l.leaves f free t)) upper lower
-      (subst Rises (sym whole) (rises_with c xs rising)) ∙ ap Some whole
+      (subst AreInByteOrder (sym whole) (rises_with c xs rising)) ∙ ap Some whole
 
 -- parts of a block that has one entry too many
 
@@ -218,12 +218,12 @@ rest_low : (len : ℕ) → (1 < len) ⊎ (len ≤ 1) → (len - len / 2 < len) �
 rest_low len (inl more) = inl (omega (arith, more))
 rest_low len (inr few) = inr few
 
-pub lower_fits : (w half : ℕ) (es : List (List ℕ)) → IsWidth w → half ≡ length es / 2 → length es * w ≤ 1017 + w → length (take half es) * w ≤ 1017
+pub lower_fits : (w half : ℕ) (es : List (List ℕ)) → IsListWidth w → half ≡ length es / 2 → length es * w ≤ 1017 + w → length (take half es) * w ≤ 1017
 lower_fits w half es width is almost =
     let size : length (take half es) ≡ length es / 2 = omega (arith, is, length-take half es) in
     subst (λ n. n * w ≤ 1017) (sym size) (part_fits w (length es) (length es / 2) width.most almost (half_low (length es) (few_or (length es))) (omega arith))
 
-pub upper_fits : (w half : ℕ) (es : List (List ℕ)) → IsWidth w → half ≡ length es / 2 → length es * w ≤ 1017 + w → length (drop half es) * w ≤ 1017
+pub upper_fits : (w half : ℕ) (es : List (List ℕ)) → IsListWidth w → half ≡ length es / 2 → length es * w ≤ 1017 + w → length (drop half es) * w ≤ 1017
 upper_fits w half es width is almost =
     let size : length (drop half es) ≡ length es - length es / 2 = omega (arith, is, length-drop half es) in
     subst (λ n. n * w ≤ 1017) (sym size) (part_fits w (length es) (length es - length es / 2) width.most almost (rest_low (length es) (few_or (length es))) (omega arith))
@@ -262,7 +262,7 @@ no_spare width bs ls (x ∷ fs) free (inr list) is some said =
     cc same
 
 -- each block of a list holds an entry
-chain_few : (width : ℕ) (look : ℕ → Option (List ℕ)) (ls : List Leaf) (behind : ℕ) → Chain (leaf_in width) look ls behind → length ls ≤ length (entries_of ls)
+chain_few : (width : ℕ) (look : ℕ → Option (List ℕ)) (ls : List Leaf) (behind : ℕ) → BlockChain (leaf_in width) look ls behind → length ls ≤ length (entries_of ls)
 chain_few width look [] behind chain = omega arith
 chain_few width look (l ∷ ls) behind chain =
     omega (arith, leaf_some width (look l.0) (front ls behind) l.1 chain.1, chain_few width look ls behind chain.2, length-append l.1 (entries_of ls))

@@ -2,9 +2,9 @@
 use Rattle.std.specs.Prelude.{ℕ, ◌+◌, ◌≡◌, ◌<◌, ◌≤◌, ◌==◌, ◌&&◌, Bool, List, [], ◌∷◌, ◌++◌, length, Some, None, if◌then◌else◌, nat_lt, slice_get}
 use Rattle.std.specs.declared.option.Option.{Option}
 use Rattle.std.specs.List.{list_all}
-use Rattle.dms_ordlist.specs.Lists.{Rises}
+use Rattle.dms_ordlist.specs.Lists.{AreInByteOrder}
 use Rattle.dms_ordlist.specs.ListBlocks.{head_in, free_in, leaf_in, is_rising}
-use Rattle.dms_ordlist.specs.Linked.{Chain, front, numbers, said_by, times, walk}
+use Rattle.dms_ordlist.specs.Linked.{BlockChain, front, numbers, said_by, times, walk}
 
 -- a block of the list: its number and its entries
 abbrev pub Leaf : Type 0
@@ -46,9 +46,9 @@ list_in width bs = list_if (length bs == 0) width bs
 -- the same as a relation: these chains are what the blocks spell
 pub record IsList (width count : ℕ) (look : ℕ → Option (List ℕ)) (ls : List Leaf) (fs : List Spare) : Type 0 where
   pub head : said_by head_in (look 0) ≡ Some (front ls 0, front fs 0)
-  pub chain : Chain (leaf_in width) look ls 0
-  pub free : Chain free_in look fs 0
+  pub chain : BlockChain (leaf_in width) look ls 0
+  pub free : BlockChain free_in look fs 0
   pub count_is : 1 + (length ls + length fs) ≡ count
   pub once : (n : ℕ) → times n (numbers ls) + times n (numbers fs) ≤ 1
   pub low : (n : ℕ) → 0 < times n (numbers ls) + times n (numbers fs) → n < count
-  pub rises : Rises (entries_of ls)
+  pub rises : AreInByteOrder (entries_of ls)

@@ -4,7 +4,7 @@ use Rattle.std.specs.Prelude.{◌&&◌}
 use Rattle.std.specs.declared.option.Option.{Option}
 use Rattle.std.specs.List.{list_all}
 use Rattle.std.proofs.lemmas.Bool.Decides.{nat_tests}
-use Rattle.dms_ordlist.specs.Lists.{Rises}
+use Rattle.dms_ordlist.specs.Lists.{AreInByteOrder}
 use Rattle.dms_ordlist.specs.Leads.{both_of, both_are, is_rises, rising_is}
 use Rattle.dms_ordlist.specs.ListBlocks.{free_in, head_in, is_rising, leaf_in}
 use Rattle.dms_ordlist.specs.Linked.{numbers, said_by, times, walk}
@@ -47,7 +47,7 @@ pub record AllOf (count : ℕ) (ls : List Leaf) (fs : List Spare) : Type 0 where
   pub count_is : 1 + (length ls + length fs) ≡ count
   pub once : (n : ℕ) → times n (numbers ls) + times n (numbers fs) ≤ 1
   pub low : (n : ℕ) → 0 < times n (numbers ls) + times n (numbers fs) → n < count
-  pub rises : Rises (entries_of ls)
+  pub rises : AreInByteOrder (entries_of ls)
 
 size_of : (ls : List Leaf) (fs : List Spare) → length (numbers ls ++ numbers fs) ≡ length ls + length fs
 size_of ls fs = omega (arith, length-append (numbers ls) (numbers fs), numbers_length ls, numbers_length fs)

@@ -12,12 +12,12 @@ use Rattle.dms_ordlist.specs.Linked.{front}
 use Rattle.dms_ordlist.specs.ListBlocks.{flat, free_bytes, head_bytes, leaf_bytes}
 use Rattle.dms_ordlist.specs.ListChanges.{front_low, held, list_at, low_next, more_times, place, rising, whole_low, wide_append, wide_drop, wide_take}
 use Rattle.dms_ordlist.specs.ListIn.{IsList, Leaf, Spare, entries_of, list_in}
-use Rattle.dms_ordlist.specs.Lists.{Rises, without}
+use Rattle.dms_ordlist.specs.Lists.{AreInByteOrder, without}
 use Rattle.dms_ordlist.specs.ListWrites.{first_freed, here_written, later_freed}
 use Rattle.dms_ordlist.specs.Located.{lead_le, located_without}
 use Rattle.dms_ordlist.specs.Looks.{IsLook, located, look_rises, parts_of}
 use Rattle.dms_ordlist.specs.Places.{Before, PlaceHolds, SpotHolds, entries_append, link_of}
-use Rattle.dms_ordlist.specs.Seen.{IsWidth}
+use Rattle.dms_ordlist.specs.Seen.{IsListWidth}
 use Rattle.dms_ordlist.specs.SpellLaws.{AllWide, few_enough, free_again, leaf_again, wide_room}
 
 -- the entries of the block without the one at its place
@@ -30,12 +30,12 @@ released None first free b next bs = laid b (free_bytes free) (laid 0 (head_byte
 released (Some s) first free b next bs = laid b (free_bytes free) (laid s.number (leaf_bytes next s.leaf.entries.items) (laid 0 (head_bytes first b) bs))
 
 -- a block whose entries fit, at a number of the file
-pub record SpotFits (count : ℕ) (s : Spot) : Type 0 where
+pub record LeafSpotFits (count : ℕ) (s : Spot) : Type 0 where
   pub few : length s.leaf.entries.items ≤ 1017
   pub room : length (flat s.leaf.entries.items) ≤ 1017
   pub there : s.number < count
 
-pub spot_fits : (width count : ℕ) (o : Option Spot) → IsWidth width → IfSome o (SpotHolds width count) → IfSome o (SpotFits count)
+pub spot_fits : (width count : ℕ) (o : Option Spot) → IsListWidth width → IfSome o (SpotHolds width count) → IfSome o (LeafSpotFits count)
 spot_fits width count None w holds = holds
 spot_fits width count (Some s) w holds = record {
   few = few_enough width (length s.leaf.entries.items) w.low holds.leaf.holds.room;
@@ -47,8 +47,8 @@ spare_low : (width count : ℕ) (look : ℕ → Option (List ℕ)) (ls : List Le
 spare_low width count look ls fs is = front_low fs count (omega (arith, is.count_is)) (λ n some. is.low n (omega (arith, some)))
 
 -- the block of the last entry leaves the chain
-released_list : (width count : ℕ) (bs : List (List ℕ)) (before : Option Spot) (ahead behind : List Leaf) (b : ℕ) (es : List (List ℕ)) (fs : List Spare) (first free next : ℕ) → IsWidth width → Before before ahead → IfSome before (SpotHolds width count)
-    → IsList width (length bs) (slice_get bs) (ahead ++ (b, es) ∷ behind) fs → first ≡ front (ahead ++ (b, es) ∷ behind) 0 → free ≡ front fs 0 → next ≡ front behind 0 → b < count → count ≡ length bs → length bs ≤ 1048576 → Rises (entries_of ahead ++ entries_of behind)
+released_list : (width count : ℕ) (bs : List (List ℕ)) (before : Option Spot) (ahead behind : List Leaf) (b : ℕ) (es : List (List ℕ)) (fs : List Spare) (first free next : ℕ) → IsListWidth width → Before before ahead → IfSome before (SpotHolds width count)
+    → IsList width (length bs) (slice_get bs) (ahead ++ (b, es) ∷ behind) fs → first ≡ front (ahead ++ (b, es) ∷ behind) 0 → free ≡ front fs 0 → next ≡ front behind 0 → b < count → count ≡ length bs → length bs ≤ 1048576 → AreInByteOrder (entries_of ahead ++ entries_of behind)
     → list_in width (released before first free b next bs) ≡ Some (entries_of ahead ++ entries_of behind)
 released_list width count bs None ahead behind b es fs first free next w at holds is head_is free_is next_is there size room rises =
     let list = subst (λ (a : List Leaf). IsList width (length bs) (slice_get bs) (a ++ (b, es) ∷ behind) fs) at is in
@@ -57,7 +57,7 @@ released_list width count bs None ahead behind b es fs first free next w at hold
     let spare = spare_low width (length bs) (slice_get bs) (ahead ++ (b, es) ∷ behind) fs is in
     ap (λ n. list_in width (laid b (free_bytes free) (laid 0 (head_bytes n b) bs))) next_is
     ∙ first_freed width bs behind b es fs (free_bytes free) list (omega (arith, there, size)) (omega (arith, there, size, room)) (omega (arith, room, low))
-    (free_again free (omega (arith, free_is, room, spare)) ∙ ap (λ n. Some (n, tt)) free_is) (subst Rises rest rises)
+    (free_again free (omega (arith, free_is, room, spare)) ∙ ap (λ n. Some (n, tt)) free_is) (subst AreInByteOrder rest rises)
     ∙ ap Some (sym rest)
 released_list width count bs (Some s) ahead behind b es fs first free next w at holds is head_is free_is next_is there size room rises =
     let q = at.0 in
@@ -72,7 +72,7 @@ released_list width count bs (Some s) ahead behind b es fs first free next w at 
     later_freed width bs first q behind s.number b ds es fs (leaf_bytes next ds) (free_bytes free) list (head_is ∙ ap (λ (l : List Leaf). front l 0) whole)
     (omega (arith, holds.there, size)) (omega (arith, there, size)) (omega (arith, there, size, room)) (omega (arith, head_is, low_first, room))
     (leaf_again width next ds (omega (arith, w.low)) (omega (arith, next_is, room, low)) holds.leaf.wide holds.leaf.holds ∙ ap (λ n. Some (n, ds)) next_is)
-    (free_again free (omega (arith, free_is, room, spare)) ∙ ap (λ n. Some (n, tt)) free_is) (subst Rises rest rises)
+    (free_again free (omega (arith, free_is, room, spare)) ∙ ap (λ n. Some (n, tt)) free_is) (subst AreInByteOrder rest rises)
     ∙ ap Some (sym rest)
 
 nil_of : {A : Type 0} (xs : List A) → length xs ≡ 0 → xs ≡ []
@@ -103,7 +103,7 @@ less_fits c w es room =
     omega (arith, length-append (take (lead c es) es) (drop (suc (lead c es)) es), length-take (lead c es) es, length-drop (suc (lead c es)) es, lead_le c es) in
     omega (arith, room, more_times (length (without_at_place c es)) (length es) w size)
 
-module _ (c : List ℕ) (width count : ℕ) (bs : List (List ℕ)) (xs : List (List ℕ)) (r : Look) (p : Place) (w : IsWidth width) (l : IsLook c width bs xs r) (is : r.place ≡ Some p) (holds : IfSome r.place (PlaceHolds width count)) where
+module _ (c : List ℕ) (width count : ℕ) (bs : List (List ℕ)) (xs : List (List ℕ)) (r : Look) (p : Place) (w : IsListWidth width) (l : IsLook c width bs xs r) (is : r.place ≡ Some p) (holds : IfSome r.place (PlaceHolds width count)) where
   abbrev es : List (List ℕ)
   es = p.here.leaf.entries.items
 
@@ -111,7 +111,7 @@ module _ (c : List ℕ) (width count : ℕ) (bs : List (List ℕ)) (xs : List (L
   without_parts on =
       let at = place c width count bs xs r p w l is holds in
       ap (without c) (sym l.entries ∙ parts_of c l.leaves p at)
-      ∙ located_without c (entries_of at.ahead) es (entries_of at.behind) (located c l.leaves p at) (subst Rises (parts_of c l.leaves p at) (look_rises c width bs xs r l)) on
+      ∙ located_without c (entries_of at.ahead) es (entries_of at.behind) (located c l.leaves p at) (subst AreInByteOrder (parts_of c l.leaves p at) (look_rises c width bs xs r l)) on
 
   -- the entry leaves its block
   pub here_removed : length bs ≤ 1048576 → count ≡ length bs → at_is c (slice_get es (lead c es)) ≡ true → 0 < length (without_at_place c es)
@@ -123,10 +123,10 @@ module _ (c : List ℕ) (width count : ℕ) (bs : List (List ℕ)) (xs : List (L
       let rises = rises_without c xs (rising c width count bs xs r p w l is holds) in
       let list = list_at c width count bs xs r p w l is holds l.leaves l.list at.is in
       let low : p.here.leaf.next < 2 ^ 32 = omega (arith, at.next, room, low_next width (length bs) (slice_get bs) at.ahead at.behind (link_of p.here) l.spares list) in
-      let rise = rises_first new (entries_of at.behind) (rises_second (entries_of at.ahead) (new ++ entries_of at.behind) (subst Rises (without_parts on) rises)) in
+      let rise = rises_first new (entries_of at.behind) (rises_second (entries_of at.ahead) (new ++ entries_of at.behind) (subst AreInByteOrder (without_parts on) rises)) in
       let reads = leaf_again width p.here.leaf.next new (omega (arith, w.low)) low (wide_less c width es h.here.leaf.wide) (record { some = some; room = less_fits c width es h.here.leaf.holds.room; rising = rising_is new rise }) ∙ ap (λ n. Some (n, new)) at.next in
       let whole : entries_of (at.ahead ++ (p.here.number, new) ∷ at.behind) ≡ without c xs = entries_append at.ahead ((p.here.number, new) ∷ at.behind) ∙ sym (without_parts on) in
-      here_written width bs at.ahead at.behind p.here.number es new l.spares (leaf_bytes p.here.leaf.next new) list (omega (arith, h.here.there, size)) reads (subst Rises (sym whole) rises) ∙ ap Some whole
+      here_written width bs at.ahead at.behind p.here.number es new l.spares (leaf_bytes p.here.leaf.next new) list (omega (arith, h.here.there, size)) reads (subst AreInByteOrder (sym whole) rises) ∙ ap Some whole
 
   -- the last entry of its block leaves, and the block with it
   pub last_removed : length bs ≤ 1048576 → count ≡ length bs → at_is c (slice_get es (lead c es)) ≡ true → length (without_at_place c es) ≡ 0
@@ -138,4 +138,4 @@ module _ (c : List ℕ) (width count : ℕ) (bs : List (List ℕ)) (xs : List (L
       let list = list_at c width count bs xs r p w l is holds l.leaves l.list at.is in
       let whole : without c xs ≡ entries_of at.ahead ++ entries_of at.behind = without_parts on ∙ ap (λ (k : List (List ℕ)). entries_of at.ahead ++ (k ++ entries_of at.behind)) (nil_of (without_at_place c es) none) in
       released_list width count bs p.before at.ahead at.behind p.here.number es l.spares r.head.first r.head.free p.here.leaf.next w at.before h.before list (l.first ∙ ap (λ (ls : List Leaf). front ls 0) at.is) l.free at.next h.here.there size room
-      (subst Rises whole rises) ∙ ap Some (sym whole)
+      (subst AreInByteOrder whole rises) ∙ ap Some (sym whole)

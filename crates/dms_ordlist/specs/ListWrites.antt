@@ -5,13 +5,13 @@ use Rattle.std.proofs.lemmas.Bool.{cases_eq}
 use Rattle.std.proofs.lemmas.Bool.Decides.{nat_tests}
 use Rattle.dms_block.specs.Content.{laid}
 use Rattle.dms_block.specs.ContentLaws.{laid_length}
-use Rattle.dms_ordlist.specs.Linked.{Chain, front, numbers, put, said_by, times}
+use Rattle.dms_ordlist.specs.Linked.{BlockChain, front, numbers, put, said_by, times}
 use Rattle.dms_ordlist.specs.LinkedLaws.{times_other, times_own}
 use Rattle.dms_ordlist.specs.ListBlocks.{free_in, head_bytes, head_in, leaf_in}
 use Rattle.dms_ordlist.specs.ListIn.{IsList, Leaf, Spare, entries_of, list_in}
 use Rattle.dms_ordlist.specs.ListInLaws.{list_of}
-use Rattle.dms_ordlist.specs.Lists.{Rises}
-use Rattle.dms_ordlist.specs.Opened.{Opened, begun, changed, closed, freed, headed, lengthened, opened, parted, taken, unlinked, unlinked_first}
+use Rattle.dms_ordlist.specs.Lists.{AreInByteOrder}
+use Rattle.dms_ordlist.specs.Opened.{IsOpenAt, begun, changed, closed, freed, headed, lengthened, opened, parted, taken, unlinked, unlinked_first}
 use Rattle.dms_ordlist.specs.SpellLaws.{head_again}
 
 if_same : (n : ℕ) (o p : Option (List ℕ)) → cond (eqb n n) o p ≡ o
@@ -45,7 +45,7 @@ put_look look other b x same = λ i. put (same i) b x
 pub put_off : (look : ℕ → Option (List ℕ)) (b : ℕ) (x : List ℕ) (n : ℕ) → (n ≡ b → ⊥) → put look b x n ≡ look n
 put_off look b x n off = grind (arith, nat_tests)
 
-pub list_by_open : (width : ℕ) (bs : List (List ℕ)) (count : ℕ) (look : ℕ → Option (List ℕ)) (first free : ℕ) (ls : List Leaf) (fs : List Spare) → length bs ≡ count → slice_get bs ≡ look → Opened width count look first free ls fs [] → Rises (entries_of ls)
+pub list_by_open : (width : ℕ) (bs : List (List ℕ)) (count : ℕ) (look : ℕ → Option (List ℕ)) (first free : ℕ) (ls : List Leaf) (fs : List Spare) → length bs ≡ count → slice_get bs ≡ look → IsOpenAt width count look first free ls fs [] → AreInByteOrder (entries_of ls)
     → said_by head_in (look 0) ≡ Some (first, free) → list_in width bs ≡ Some (entries_of ls)
 list_by_open width bs count look first free ls fs size is o rises head =
     list_of width bs ls fs (subst (λ n. IsList width n (slice_get bs) ls fs) (sym size) (subst (λ k. IsList width count k ls fs) (sym is) (closed width count look first free ls fs o rises head)))
@@ -55,13 +55,13 @@ pub chain_low : (width count : ℕ) (look : ℕ → Option (List ℕ)) (p s : Li
 chain_low width count look [] s b es fs is e = is.chain.0 e
 chain_low width count look (x ∷ p) s b es fs is e = later p is.chain.2
   where
-    later : (p : List Leaf) → Chain (leaf_in width) look (p ++ (b, es) ∷ s) 0 → ⊥
+    later : (p : List Leaf) → BlockChain (leaf_in width) look (p ++ (b, es) ∷ s) 0 → ⊥
     later [] chain = chain.0 e
     later (y ∷ p) chain = later p chain.2
 
 -- a block of entries is written in the place of another
 pub here_written : (width : ℕ) (bs : List (List ℕ)) (p s : List Leaf) (b : ℕ) (es more : List (List ℕ)) (fs : List Spare) (bytes : List ℕ) → IsList width (length bs) (slice_get bs) (p ++ (b, es) ∷ s) fs → b < length bs → leaf_in width bytes ≡ Some (front s 0, more)
-    → Rises (entries_of (p ++ (b, more) ∷ s)) → list_in width (laid b bytes bs) ≡ Some (entries_of (p ++ (b, more) ∷ s))
+    → AreInByteOrder (entries_of (p ++ (b, more) ∷ s)) → list_in width (laid b bytes bs) ≡ Some (entries_of (p ++ (b, more) ∷ s))
 here_written width bs p s b es more fs bytes is low reads rises =
     let look = slice_get bs in
     let whole = p ++ (b, es) ∷ s in
@@ -74,7 +74,7 @@ here_written width bs p s b es more fs bytes is low reads rises =
 -- where none is free.
 pub record Taken (width : ℕ) (bs : List (List ℕ)) (first : ℕ) (ls : List Leaf) (f free : ℕ) : Type 0 where
   pub spares : List Spare
-  pub chains : Opened width (max (length bs) (f + 1)) (slice_get bs) first free ls spares (f ∷ [])
+  pub chains : IsOpenAt width (max (length bs) (f + 1)) (slice_get bs) first free ls spares (f ∷ [])
   pub near : f ≤ max (length bs) 1
   pub room : max (length bs) (f + 1) ≤ max (length bs) (2 + length ls)
 
@@ -113,7 +113,7 @@ taken_end width bs ls [] free f is head none end =
     let size : length bs + 1 ≡ max (length bs) (f + 1) = omega (arith, end) in
     record {
       spares = [];
-      chains = subst (λ n. Opened width n (slice_get bs) (front ls 0) 0 ls [] (f ∷ [])) size (subst (λ n. Opened width (length bs + 1) (slice_get bs) (front ls 0) 0 ls [] (n ∷ [])) (sym end) o);
+      chains = subst (λ n. IsOpenAt width n (slice_get bs) (front ls 0) 0 ls [] (f ∷ [])) size (subst (λ n. IsOpenAt width (length bs + 1) (slice_get bs) (front ls 0) 0 ls [] (n ∷ [])) (sym end) o);
       near = omega (arith, end);
       room = omega (arith, end, is.count_is);
     }
@@ -135,13 +135,13 @@ taken_free width bs ls ((n, u) ∷ fs) f next is head some said =
     let size : length bs ≡ max (length bs) (f + 1) = omega (arith, low, head) in
     record {
       spares = fs;
-      chains = subst (λ m. Opened width m (slice_get bs) (front ls 0) next ls fs (f ∷ [])) size
-          (subst (λ m. Opened width (length bs) (slice_get bs) (front ls 0) next ls fs (m ∷ [])) (sym head) (subst (λ m. Opened width (length bs) (slice_get bs) (front ls 0) m ls fs (n ∷ [])) (sym behind) o));
+      chains = subst (λ m. IsOpenAt width m (slice_get bs) (front ls 0) next ls fs (f ∷ [])) size
+          (subst (λ m. IsOpenAt width (length bs) (slice_get bs) (front ls 0) next ls fs (m ∷ [])) (sym head) (subst (λ m. IsOpenAt width (length bs) (slice_get bs) (front ls 0) m ls fs (n ∷ [])) (sym behind) o));
       near = omega (arith, low, head);
       room = omega (arith, low, head);
     }
 
-loose_some : (width count : ℕ) (look : ℕ → Option (List ℕ)) (first free : ℕ) (ls : List Leaf) (fs : List Spare) (f : ℕ) → Opened width count look first free ls fs (f ∷ []) → f ≡ 0 → ⊥
+loose_some : (width count : ℕ) (look : ℕ → Option (List ℕ)) (first free : ℕ) (ls : List Leaf) (fs : List Spare) (f : ℕ) → IsOpenAt width count look first free ls fs (f ∷ []) → f ≡ 0 → ⊥
 loose_some width count look first free ls fs f o e = absurd (omega (arith, o.some, times_own f, ap (λ k. times k (f ∷ [])) e))
 
 -- what the head says after it was written, and blocks behind it
@@ -163,7 +163,7 @@ positive zero h = absurd (h refl)
 positive (suc n) h = omega arith
 
 -- the first entry
-pub begun_written : (width : ℕ) (bs : List (List ℕ)) (first f free : ℕ) (es : List (List ℕ)) (bytes : List ℕ) → Taken width bs first [] f free → f < 2 ^ 32 → free < 2 ^ 32 → leaf_in width bytes ≡ Some (0, es) → Rises (entries_of ((f, es) ∷ []))
+pub begun_written : (width : ℕ) (bs : List (List ℕ)) (first f free : ℕ) (es : List (List ℕ)) (bytes : List ℕ) → Taken width bs first [] f free → f < 2 ^ 32 → free < 2 ^ 32 → leaf_in width bytes ≡ Some (0, es) → AreInByteOrder (entries_of ((f, es) ∷ []))
     → list_in width (laid f bytes (laid 0 (head_bytes f free) bs)) ≡ Some (entries_of ((f, es) ∷ []))
 begun_written width bs first f free es bytes t low low' reads rises =
     let look = slice_get bs in
@@ -174,13 +174,13 @@ begun_written width bs first f free es bytes t low low' reads rises =
     list_by_open width (laid f bytes (laid 0 head bs)) count (put (put look 0 head) f bytes) f free ((f, es) ∷ []) t.spares (two_long bs head bytes f t.near (positive f some)) (two_look bs head bytes f t.near) o rises
     (said_off (put look 0 head) f bytes (f, free) some (head_said look f free low low'))
 
-open_low : (width count : ℕ) (look : ℕ → Option (List ℕ)) (p s : List Leaf) (b : ℕ) (es : List (List ℕ)) → Chain (leaf_in width) look (p ++ (b, es) ∷ s) 0 → b ≡ 0 → ⊥
+open_low : (width count : ℕ) (look : ℕ → Option (List ℕ)) (p s : List Leaf) (b : ℕ) (es : List (List ℕ)) → BlockChain (leaf_in width) look (p ++ (b, es) ∷ s) 0 → b ≡ 0 → ⊥
 open_low width count look [] s b es chain e = chain.0 e
 open_low width count look (x ∷ p) s b es chain e = open_low width count look p s b es chain.2 e
 
 -- a block that is parted in two
 pub split_written : (width : ℕ) (bs : List (List ℕ)) (first f free : ℕ) (p s : List Leaf) (b : ℕ) (es less more : List (List ℕ)) (bytes others : List ℕ) → Taken width bs first (p ++ (b, es) ∷ s) f free → b < length bs → first < 2 ^ 32 → free < 2 ^ 32
-    → leaf_in width others ≡ Some (front s 0, more) → leaf_in width bytes ≡ Some (f, less) → Rises (entries_of (p ++ (b, less) ∷ ((f, more) ∷ s)))
+    → leaf_in width others ≡ Some (front s 0, more) → leaf_in width bytes ≡ Some (f, less) → AreInByteOrder (entries_of (p ++ (b, less) ∷ ((f, more) ∷ s)))
     → list_in width (laid b bytes (laid f others (laid 0 (head_bytes first free) bs))) ≡ Some (entries_of (p ++ (b, less) ∷ ((f, more) ∷ s)))
 split_written width bs first f free p s b es less more bytes others t there low low' upper lower rises =
     let look = slice_get bs in
@@ -199,7 +199,7 @@ split_written width bs first f free p s b es less more bytes others t there low 
 
 -- the first block becomes a free one
 pub first_freed : (width : ℕ) (bs : List (List ℕ)) (s : List Leaf) (b : ℕ) (es : List (List ℕ)) (fs : List Spare) (bytes : List ℕ) → IsList width (length bs) (slice_get bs) ((b, es) ∷ s) fs → b < length bs → b < 2 ^ 32 → front s 0 < 2 ^ 32
-    → free_in bytes ≡ Some (front fs 0, tt) → Rises (entries_of s) → list_in width (laid b bytes (laid 0 (head_bytes (front s 0) b) bs)) ≡ Some (entries_of s)
+    → free_in bytes ≡ Some (front fs 0, tt) → AreInByteOrder (entries_of s) → list_in width (laid b bytes (laid 0 (head_bytes (front s 0) b) bs)) ≡ Some (entries_of s)
 first_freed width bs s b es fs bytes is there low low' reads rises =
     let look = slice_get bs in
     let count = length bs in
@@ -212,7 +212,7 @@ first_freed width bs s b es fs bytes is there low low' reads rises =
 
 -- a later block becomes a free one
 pub later_freed : (width : ℕ) (bs : List (List ℕ)) (first : ℕ) (q s : List Leaf) (a b : ℕ) (ds es : List (List ℕ)) (fs : List Spare) (before bytes : List ℕ) → IsList width (length bs) (slice_get bs) (q ++ (a, ds) ∷ ((b, es) ∷ s)) fs → first ≡ front (q ++ (a, ds) ∷ ((b, es) ∷ s)) 0
-    → a < length bs → b < length bs → b < 2 ^ 32 → first < 2 ^ 32 → leaf_in width before ≡ Some (front s 0, ds) → free_in bytes ≡ Some (front fs 0, tt) → Rises (entries_of (q ++ (a, ds) ∷ s))
+    → a < length bs → b < length bs → b < 2 ^ 32 → first < 2 ^ 32 → leaf_in width before ≡ Some (front s 0, ds) → free_in bytes ≡ Some (front fs 0, tt) → AreInByteOrder (entries_of (q ++ (a, ds) ∷ s))
     → list_in width (laid b bytes (laid a before (laid 0 (head_bytes first b) bs))) ≡ Some (entries_of (q ++ (a, ds) ∷ s))
 later_freed width bs first q s a b ds es fs before bytes is head_is there there' low low' reads reads' rises =
     let look = slice_get bs in
@@ -221,7 +221,7 @@ later_freed width bs first q s a b ds es fs before bytes is head_is there there'
     let whole = q ++ (a, ds) ∷ ((b, es) ∷ s) in
     let two = laid a before (laid 0 head bs) in
     let some = open_low width count look q ((b, es) ∷ s) a ds is.chain in
-    let start = subst (λ n. Opened width count look n (front fs 0) whole fs []) (sym head_is) (opened width count look whole fs is) in
+    let start = subst (λ n. IsOpenAt width count look n (front fs 0) whole fs []) (sym head_is) (opened width count look whole fs is) in
     let middle = unlinked width count (put look 0 head) first (front fs 0) q s a b ds es fs before (headed width count look first (front fs 0) whole fs [] head start) reads in
     let some' = loose_some width count (put (put look 0 head) a before) first (front fs 0) (q ++ (a, ds) ∷ s) fs b middle in
     let o = freed width count (put (put look 0 head) a before) first (front fs 0) b (q ++ (a, ds) ∷ s) fs bytes middle reads' in

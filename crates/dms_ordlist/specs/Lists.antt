@@ -16,8 +16,8 @@ abbrev pub bytes_cmp : List ℕ → List ℕ → Ordering
 bytes_cmp = slice_cmp nat_cmp
 
 -- byte strings, each once, in byte order
-abbrev pub Listed : Type 0
-Listed = FinMap bytes_cmp (Unit {0})
+abbrev pub ByteSet : Type 0
+ByteSet = FinMap bytes_cmp (Unit {0})
 
 pub bytes_same : IsAntisymmetric bytes_cmp
 bytes_same = slice_cmp-IsAntisymmetric nat_cmp-IsAntisymmetric
@@ -59,7 +59,7 @@ abbrev pub last : {A : Type 0} → (A → Bool) → List A → Option A
 last p [] = None
 last p (x ∷ xs) = or_else (last p xs) (cond (p x) (Some x) None)
 
--- bounds: a front filled with zeros to the width of the entries
+-- bounds: a prefix filled with zeros to the width of the entries
 abbrev pub padded : ℕ → List ℕ → List ℕ
 padded w p = p ++ replicate (w - length p) 0
 
@@ -80,14 +80,14 @@ abbrev pub last_to : Option (List ℕ) → List (List ℕ) → Option (List ℕ)
 last_to None xs = None
 last_to (Some c) xs = last (is_under c) xs
 
-abbrev pub AllAbove : List ℕ → List (List ℕ) → Type 0
-AllAbove x [] = Unit {0}
-AllAbove x (y ∷ ys) = (bytes_cmp x y ≡ Less) × AllAbove x ys
+abbrev pub AreAllAbove : List ℕ → List (List ℕ) → Type 0
+AreAllAbove x [] = Unit {0}
+AreAllAbove x (y ∷ ys) = (bytes_cmp x y ≡ Less) × AreAllAbove x ys
 
 -- each entry is less than all behind it
-abbrev pub Rises : List (List ℕ) → Type 0
-Rises [] = Unit {0}
-Rises (x ∷ xs) = AllAbove x xs × Rises xs
+abbrev pub AreInByteOrder : List (List ℕ) → Type 0
+AreInByteOrder [] = Unit {0}
+AreInByteOrder (x ∷ xs) = AreAllAbove x xs × AreInByteOrder xs
 
 abbrev pairs : Type 0
 pairs = List (List ℕ × Unit {0})
@@ -105,7 +105,7 @@ firsts_put : (x : List ℕ) (es : pairs) → firsts (put bytes_cmp x tt es) ≡ 
 firsts_put x [] = refl
 firsts_put x (e ∷ es) = put_at (bytes_cmp x e.0) x e es (firsts_put x es)
 
-pub keys_with : (x : List ℕ) (m : Listed) → keys (insert m x tt) ≡ with_entry x (keys m)
+pub keys_with : (x : List ℕ) (m : ByteSet) → keys (insert m x tt) ≡ with_entry x (keys m)
 keys_with x m = ap firsts (entries-insert nat_list_cmp_total m x tt) ∙ firsts_put x (entries m)
 
 firsts_where : (p : List ℕ → Bool) (es : pairs) → firsts (where_key bytes_cmp p es) ≡ filter p (firsts es)
@@ -141,7 +141,7 @@ module _ {K X : Type 0} {R : K → K → Ordering} (total : IsTotalOrder R) (sam
       ap (λ n. entries n) (removed_is x m)
       ∙ entries-from_sorted R (where_key R (λ y. not (eq_by_cmp R x y)) (entries m)) (is_sorted-where_key R (λ y. not (eq_by_cmp R x y)) (entries m) (entries_sorted m))
 
-pub keys_without : (x : List ℕ) (m : Listed) → keys (remove m x) ≡ without x (keys m)
+pub keys_without : (x : List ℕ) (m : ByteSet) → keys (remove m x) ≡ without x (keys m)
 keys_without x m = ap firsts (entries_removed nat_list_cmp_total bytes_same x m) ∙ firsts_where (other x) (entries m)
 
 first_true : (a b : Bool) → T (a && b) → T a
@@ -157,16 +157,16 @@ less_of Less h = refl
 less_of Equal h = absurd h
 less_of Greater h = absurd h
 
-above_of : (x : List ℕ) (es : pairs) → T (below_all bytes_cmp x es) → AllAbove x (firsts es)
+above_of : (x : List ℕ) (es : pairs) → T (below_all bytes_cmp x es) → AreAllAbove x (firsts es)
 above_of x [] h = tt
 above_of x (e ∷ es) h = (less_of (bytes_cmp x e.0) (first_true _ _ h), above_of x es (second_true _ _ h))
 
-rises_of : (es : pairs) → T (is_sorted bytes_cmp es) → Rises (firsts es)
+rises_of : (es : pairs) → T (is_sorted bytes_cmp es) → AreInByteOrder (firsts es)
 rises_of [] h = tt
 rises_of (e ∷ es) h = (above_of e.0 es (first_true _ _ h), rises_of es (second_true _ _ h))
 
 -- the keys of a map rise
-pub keys_rise : (m : Listed) → Rises (keys m)
+pub keys_rise : (m : ByteSet) → AreInByteOrder (keys m)
 keys_rise m = rises_of (entries m) (entries_sorted m)
 
 none_long : (es : pairs) → length es ≡ 0 → firsts es ≡ []

@@ -1,7 +1,7 @@
 -- A rising list in three parts, of which the middle one is where a byte string belongs.
 use Rattle.std.proofs.Common.{◌≡◌, ℕ, zero, suc, ◌+◌, ◌<◌, ◌≤◌, ◌⊎◌, inl, inr, List, [], ◌∷◌, ◌++◌, Bool, true, false, cond, Some, None, refl, sym, ap, ◌∙◌, length, take, drop, slice_get, append-nil, append_assoc, arith}
 use Rattle.std.specs.declared.option.Option.{Option}
-use Rattle.dms_ordlist.specs.Lists.{Rises, first_from, has_entry, is_under, last_to, or_else, with_entry, without}
+use Rattle.dms_ordlist.specs.Lists.{AreInByteOrder, first_from, has_entry, is_under, last_to, or_else, with_entry, without}
 use Rattle.dms_ordlist.specs.Leads.{at_is, first_at, has_at, last_at, last_of, lead, with_at, without_at}
 
 pub last_append : (xs ys : List (List ℕ)) → last_of (xs ++ ys) ≡ or_else (last_of ys) (last_of xs)
@@ -99,13 +99,13 @@ module _ (c : List ℕ) where
     drop_all : Located before here behind → drop (lead c whole) whole ≡ drop (lead c here) here ++ behind
     drop_all at = ap (λ n. drop n whole) (lead_all at) ∙ drop_past before (here ++ behind) (lead c here) ∙ drop_here here behind (lead c here) (lead_le here)
 
-    pub located_has : Located before here behind → Rises whole → has_entry c whole ≡ at_is c (slice_get here (lead c here))
+    pub located_has : Located before here behind → AreInByteOrder whole → has_entry c whole ≡ at_is c (slice_get here (lead c here))
     located_has at r = has_at c whole r ∙ ap (at_is c) (get_all at)
 
     pub located_first : Located before here behind → first_from (Some c) whole ≡ slice_get here (lead c here)
     located_first at = first_at c whole ∙ get_all at
 
-    pub located_last : Located before here behind → Rises whole → last_to (Some c) whole ≡ or_else (last_of (take (lead c here) here)) (last_of before)
+    pub located_last : Located before here behind → AreInByteOrder whole → last_to (Some c) whole ≡ or_else (last_of (take (lead c here) here)) (last_of before)
     located_last at r = last_at c whole r ∙ ap last_of (take_all at) ∙ last_append before (take (lead c here) here)
 
     pub located_stands : Located before here behind → at_is c (slice_get here (lead c here)) ≡ true → with_entry c whole ≡ whole
@@ -118,7 +118,7 @@ module _ (c : List ℕ) where
         ∙ append_assoc before (take (lead c here) here) (c ∷ (drop (lead c here) here ++ behind))
         ∙ ap (λ (l : List (List ℕ)). before ++ l) (sym (append_assoc (take (lead c here) here) (c ∷ drop (lead c here) here) behind))
 
-    pub located_missing : Located before here behind → Rises whole → at_is c (slice_get here (lead c here)) ≡ false → without c whole ≡ whole
+    pub located_missing : Located before here behind → AreInByteOrder whole → at_is c (slice_get here (lead c here)) ≡ false → without c whole ≡ whole
     located_missing at r is = without_at c whole r ∙ ap (λ b. cond b (take (lead c whole) whole ++ drop (suc (lead c whole)) whole) whole) (ap (at_is c) (get_all at) ∙ is)
 
     pub at_low : at_is c (slice_get here (lead c here)) ≡ true → lead c here < length here
@@ -134,7 +134,7 @@ module _ (c : List ℕ) where
         ap (λ n. drop n whole) (ap suc (lead_all at) ∙ (let e : suc (length before + lead c here) ≡ length before + suc (lead c here) = omega arith in e))
         ∙ drop_past before (here ++ behind) (suc (lead c here)) ∙ drop_here here behind (suc (lead c here)) (omega (arith, low))
 
-    pub located_without : Located before here behind → Rises whole → at_is c (slice_get here (lead c here)) ≡ true → without c whole ≡ before ++ ((take (lead c here) here ++ drop (suc (lead c here)) here) ++ behind)
+    pub located_without : Located before here behind → AreInByteOrder whole → at_is c (slice_get here (lead c here)) ≡ true → without c whole ≡ before ++ ((take (lead c here) here ++ drop (suc (lead c here)) here) ++ behind)
     located_without at r is =
         without_at c whole r ∙ ap (λ b. cond b (take (lead c whole) whole ++ drop (suc (lead c whole)) whole) whole) (ap (at_is c) (get_all at) ∙ is)
         ∙ (λ i. take_all at i ++ drop_next at (at_low is) i)

@@ -9,11 +9,11 @@ use Rattle.dms_ordlist.specs.declared.place.Spot.{Spot}
 use Rattle.dms_ordlist.specs.declared.place.Place.{Place}
 use Rattle.dms_ordlist.specs.declared.place.Look.{Look}
 use Rattle.dms_ordlist.specs.Leads.{last_of, lead}
-use Rattle.dms_ordlist.specs.Linked.{Chain, front, said_by}
+use Rattle.dms_ordlist.specs.Linked.{BlockChain, front, said_by}
 use Rattle.dms_ordlist.specs.ListBlocks.{head_in, leaf_in}
 use Rattle.dms_ordlist.specs.ListIn.{IsList, Leaf, Spare, entries_of, list_in}
 use Rattle.dms_ordlist.specs.ListInLaws.{list_is, none_is}
-use Rattle.dms_ordlist.specs.Lists.{Rises, first_from, last_to, or_else}
+use Rattle.dms_ordlist.specs.Lists.{AreInByteOrder, first_from, last_to, or_else}
 use Rattle.dms_ordlist.specs.Located.{Located, last_append, located_first, located_last}
 use Rattle.dms_ordlist.specs.Places.{Before, IsPlace, PlaceHolds, SpotHolds, entries_append, entries_one, link_of}
 
@@ -59,7 +59,7 @@ head_second look a b c d one two =
     let same : x ≡ y = sym one ∙ two in
     ap snd_of same
 
-pub no_leaves : (width : ℕ) (look : ℕ → Option (List ℕ)) (ls : List Leaf) → Chain (leaf_in width) look ls 0 → front ls 0 ≡ 0 → ls ≡ []
+pub no_leaves : (width : ℕ) (look : ℕ → Option (List ℕ)) (ls : List Leaf) → BlockChain (leaf_in width) look ls 0 → front ls 0 ≡ 0 → ls ≡ []
 no_leaves width look [] chain head = refl
 no_leaves width look (l ∷ ls) chain head = absurd (chain.0 head)
 
@@ -92,7 +92,7 @@ look_empty c width bs xs r some is said none three =
     }
 
 pub look_place : (c : List ℕ) (width : ℕ) (bs : List (List ℕ)) (xs : List (List ℕ)) (r : Look) (p : Place) → (length bs ≡ 0 → ⊥) → list_in width bs ≡ Some xs → said_by head_in (slice_get bs 0) ≡ Some (r.head.first, r.head.free) → r.place ≡ Some p
-    → ((ls : List Leaf) → Chain (leaf_in width) (slice_get bs) ls 0 → front ls 0 ≡ r.head.first → IsPlace c ls p) → IsLook c width bs xs r
+    → ((ls : List Leaf) → BlockChain (leaf_in width) (slice_get bs) ls 0 → front ls 0 ≡ r.head.first → IsPlace c ls p) → IsLook c width bs xs r
 look_place c width bs xs r p some is said three at =
     let s = list_is width bs xs some is in
     let one = head_first (slice_get bs) r.head.first r.head.free (front s.leaves 0) (front s.spares 0) said s.list.head in
@@ -121,7 +121,7 @@ no_head width bs some said = no_list width bs (list_in width bs) refl (λ xs is.
     cc same)
 
 pub no_chain : (width : ℕ) (bs : List (List ℕ)) (first free : ℕ) → (length bs ≡ 0 → ⊥) → said_by head_in (slice_get bs 0) ≡ Some (first, free)
-    → ((ls : List Leaf) → Chain (leaf_in width) (slice_get bs) ls 0 → front ls 0 ≡ first → length ls ≤ length bs → ⊥) → list_in width bs ≡ None
+    → ((ls : List Leaf) → BlockChain (leaf_in width) (slice_get bs) ls 0 → front ls 0 ≡ first → length ls ≤ length bs → ⊥) → list_in width bs ≡ None
 no_chain width bs first free some said off = no_list width bs (list_in width bs) refl (λ xs is.
     let s = list_is width bs xs some is in
     off s.leaves s.list.chain (sym (head_first (slice_get bs) first free (front s.leaves 0) (front s.spares 0) said s.list.head)) (omega (arith, s.list.count_is)))
@@ -166,10 +166,10 @@ last_ahead width count (Some s) ahead holds is =
     ap (λ l. last_of (entries_of l)) is.1 ∙ ap last_of (entries_append is.0 (link_of s ∷ []) ∙ ap (λ (l : List (List ℕ)). entries_of is.0 ++ l) (entries_one (link_of s)))
     ∙ last_append (entries_of is.0) s.leaf.entries.items ∙ last_some s.leaf.entries.items (last_of (entries_of is.0)) holds.leaf.holds.some
 
-pub place_lasts : (c : List ℕ) (width count : ℕ) (ls : List Leaf) (p : Place) → PlaceHolds width count p → Rises (entries_of ls) → IsPlace c ls p → last_to (Some c) (entries_of ls) ≡ place_last c p
+pub place_lasts : (c : List ℕ) (width count : ℕ) (ls : List Leaf) (p : Place) → PlaceHolds width count p → AreInByteOrder (entries_of ls) → IsPlace c ls p → last_to (Some c) (entries_of ls) ≡ place_last c p
 place_lasts c width count ls p holds rises at =
     let es = p.here.leaf.entries.items in
-    ap (last_to (Some c)) (parts_of c ls p at) ∙ located_last c (entries_of at.ahead) es (entries_of at.behind) (located c ls p at) (subst Rises (parts_of c ls p at) rises)
+    ap (last_to (Some c)) (parts_of c ls p at) ∙ located_last c (entries_of at.ahead) es (entries_of at.behind) (located c ls p at) (subst AreInByteOrder (parts_of c ls p at) rises)
     ∙ ap (or_else (last_of (take (lead c es) es))) (last_ahead width count p.before at.ahead holds.before at.before)
 
 -- a list that was looked at
@@ -180,11 +180,11 @@ look_at c width bs xs r p l is = subst (λ o. MatchOption o (l.leaves ≡ []) (I
 pub look_off : (c : List ℕ) (width : ℕ) (bs : List (List ℕ)) (xs : List (List ℕ)) (r : Look) (l : IsLook c width bs xs r) → r.place ≡ None → l.leaves ≡ []
 look_off c width bs xs r l is = subst (λ o. MatchOption o (l.leaves ≡ []) (IsPlace c l.leaves)) is l.place
 
-rises_by : (width : ℕ) (bs : List (List ℕ)) (ls : List Leaf) (fs : List Spare) → ((length bs ≡ 0) × (ls ≡ []) × (fs ≡ [])) ⊎ IsList width (length bs) (slice_get bs) ls fs → Rises (entries_of ls)
-rises_by width bs ls fs (inl none) = subst (λ l. Rises (entries_of l)) (sym none.1) tt
+rises_by : (width : ℕ) (bs : List (List ℕ)) (ls : List Leaf) (fs : List Spare) → ((length bs ≡ 0) × (ls ≡ []) × (fs ≡ [])) ⊎ IsList width (length bs) (slice_get bs) ls fs → AreInByteOrder (entries_of ls)
+rises_by width bs ls fs (inl none) = subst (λ l. AreInByteOrder (entries_of l)) (sym none.1) tt
 rises_by width bs ls fs (inr list) = list.rises
 
-pub look_rises : (c : List ℕ) (width : ℕ) (bs : List (List ℕ)) (xs : List (List ℕ)) (r : Look) (l : IsLook c width bs xs r) → Rises (entries_of l.leaves)
+pub look_rises : (c : List ℕ) (width : ℕ) (bs : List (List ℕ)) (xs : List (List ℕ)) (r : Look) (l : IsLook c width bs xs r) → AreInByteOrder (entries_of l.leaves)
 look_rises c width bs xs r l = rises_by width bs l.leaves l.spares l.list
 
 pub look_none_is : (c : List ℕ) (width : ℕ) (bs : List (List ℕ)) (xs : List (List ℕ)) (r : Look) → IsLook c width bs xs r → r.place ≡ None → xs ≡ []

@@ -2,23 +2,23 @@
 use Rattle.std.proofs.Common.{◌≡◌, ℕ, zero, suc, ◌+◌, ◌≤◌, ◌<◌, inl, inr, List, [], ◌∷◌, ◌++◌, Some, refl, sym, ap, ◌∙◌, length, length-append, arith}
 use Rattle.std.specs.declared.option.Option.{Option}
 use Rattle.std.proofs.lemmas.Bool.{cases_eq}
-use Rattle.dms_ordlist.specs.Lists.{Rises}
+use Rattle.dms_ordlist.specs.Lists.{AreInByteOrder}
 use Rattle.dms_ordlist.specs.ListBlocks.{free_in, head_in, leaf_in}
-use Rattle.dms_ordlist.specs.Linked.{Chain, front, numbers, put, said_by, times}
+use Rattle.dms_ordlist.specs.Linked.{BlockChain, front, numbers, put, said_by, times}
 use Rattle.dms_ordlist.specs.LinkedLaws.{chain_both, chain_first, chain_own, chain_second, chain_still, front_append, numbers_times, times_other, times_own}
 use Rattle.dms_ordlist.specs.ListIn.{IsList, Leaf, Spare, entries_of}
 
-pub record Opened (width count : ℕ) (look : ℕ → Option (List ℕ)) (first free : ℕ) (ls : List Leaf) (fs : List Spare) (loose : List ℕ) : Type 0 where
+pub record IsOpenAt (width count : ℕ) (look : ℕ → Option (List ℕ)) (first free : ℕ) (ls : List Leaf) (fs : List Spare) (loose : List ℕ) : Type 0 where
   pub first_is : front ls 0 ≡ first
   pub free_is : front fs 0 ≡ free
-  pub chain : Chain (leaf_in width) look ls 0
-  pub spare : Chain free_in look fs 0
+  pub chain : BlockChain (leaf_in width) look ls 0
+  pub spare : BlockChain free_in look fs 0
   pub count_is : 1 + (length ls + length fs + length loose) ≡ count
   pub once : (n : ℕ) → times n (numbers ls) + times n (numbers fs) + times n loose ≤ 1
   pub low : (n : ℕ) → 0 < times n (numbers ls) + times n (numbers fs) + times n loose → n < count
   pub some : times 0 loose ≡ 0
 
-pub opened : (width count : ℕ) (look : ℕ → Option (List ℕ)) (ls : List Leaf) (fs : List Spare) → IsList width count look ls fs → Opened width count look (front ls 0) (front fs 0) ls fs []
+pub opened : (width count : ℕ) (look : ℕ → Option (List ℕ)) (ls : List Leaf) (fs : List Spare) → IsList width count look ls fs → IsOpenAt width count look (front ls 0) (front fs 0) ls fs []
 opened width count look ls fs is = record {
   first_is = refl;
   free_is = refl;
@@ -30,7 +30,7 @@ opened width count look ls fs is = record {
   some = refl;
 }
 
-pub closed : (width count : ℕ) (look : ℕ → Option (List ℕ)) (first free : ℕ) (ls : List Leaf) (fs : List Spare) → Opened width count look first free ls fs [] → Rises (entries_of ls) → said_by head_in (look 0) ≡ Some (first, free) → IsList width count look ls fs
+pub closed : (width count : ℕ) (look : ℕ → Option (List ℕ)) (first free : ℕ) (ls : List Leaf) (fs : List Spare) → IsOpenAt width count look first free ls fs [] → AreInByteOrder (entries_of ls) → said_by head_in (look 0) ≡ Some (first, free) → IsList width count look ls fs
 closed width count look first free ls fs o rises head = record {
   head = head ∙ (λ i. Some (sym o.first_is i, sym o.free_is i));
   chain = o.chain;
@@ -42,7 +42,7 @@ closed width count look first free ls fs o rises head = record {
 }
 
 -- the first free block is taken
-pub taken : (width count : ℕ) (look : ℕ → Option (List ℕ)) (first free f : ℕ) (u : Unit {0}) (ls : List Leaf) (fs : List Spare) → Opened width count look first free ls ((f, u) ∷ fs) [] → Opened width count look first (front fs 0) ls fs (f ∷ [])
+pub taken : (width count : ℕ) (look : ℕ → Option (List ℕ)) (first free f : ℕ) (u : Unit {0}) (ls : List Leaf) (fs : List Spare) → IsOpenAt width count look first free ls ((f, u) ∷ fs) [] → IsOpenAt width count look first (front fs 0) ls fs (f ∷ [])
 taken width count look first free f u ls fs o = record {
   first_is = o.first_is;
   free_is = refl;
@@ -59,7 +59,7 @@ none_past n count zero e h = refl
 none_past n count (suc t) e h = absurd (omega (arith, e, h (omega arith)))
 
 -- a block at the file's end is taken
-pub lengthened : (width count : ℕ) (look : ℕ → Option (List ℕ)) (first free : ℕ) (ls : List Leaf) → Opened width count look first free ls [] [] → Opened width (count + 1) look first 0 ls [] (count ∷ [])
+pub lengthened : (width count : ℕ) (look : ℕ → Option (List ℕ)) (first free : ℕ) (ls : List Leaf) → IsOpenAt width count look first free ls [] [] → IsOpenAt width (count + 1) look first 0 ls [] (count ∷ [])
 lengthened width count look first free ls o = record {
   first_is = o.first_is;
   free_is = refl;
@@ -83,12 +83,12 @@ lengthened width count look first free ls o = record {
       | inr other ↦ omega (arith, times_other n k other)
     ]
 
-not_zero : {A : Type 0} (reads : List ℕ → Option (ℕ × A)) (look : ℕ → Option (List ℕ)) (xs : List (ℕ × A)) (n : ℕ) → Chain reads look xs n → times 0 (numbers xs) ≡ 0
+not_zero : {A : Type 0} (reads : List ℕ → Option (ℕ × A)) (look : ℕ → Option (List ℕ)) (xs : List (ℕ × A)) (n : ℕ) → BlockChain reads look xs n → times 0 (numbers xs) ≡ 0
 not_zero reads look [] n c = refl
 not_zero reads look (x ∷ xs) n c = omega (arith, times_other 0 x.0 c.0, not_zero reads look xs n c.2)
 
 -- the head is written
-pub headed : (width count : ℕ) (look : ℕ → Option (List ℕ)) (first free : ℕ) (ls : List Leaf) (fs : List Spare) (loose : List ℕ) (bytes : List ℕ) → Opened width count look first free ls fs loose → Opened width count (put look 0 bytes) first free ls fs loose
+pub headed : (width count : ℕ) (look : ℕ → Option (List ℕ)) (first free : ℕ) (ls : List Leaf) (fs : List Spare) (loose : List ℕ) (bytes : List ℕ) → IsOpenAt width count look first free ls fs loose → IsOpenAt width count (put look 0 bytes) first free ls fs loose
 headed width count look first free ls fs loose bytes o = record {
   first_is = o.first_is;
   free_is = o.free_is;
@@ -112,8 +112,8 @@ module _ (p s : List Leaf) (b : ℕ) where
   fronts es = front_append p ((b, es) ∷ s) 0
 
 -- a block gets other entries
-pub changed : (width count : ℕ) (look : ℕ → Option (List ℕ)) (first free : ℕ) (p s : List Leaf) (b : ℕ) (es es' : List (List ℕ)) (fs : List Spare) (bytes : List ℕ) → Opened width count look first free (p ++ (b, es) ∷ s) fs [] → leaf_in width bytes ≡ Some (front s 0, es')
-    → Opened width count (put look b bytes) first free (p ++ (b, es') ∷ s) fs []
+pub changed : (width count : ℕ) (look : ℕ → Option (List ℕ)) (first free : ℕ) (p s : List Leaf) (b : ℕ) (es es' : List (List ℕ)) (fs : List Spare) (bytes : List ℕ) → IsOpenAt width count look first free (p ++ (b, es) ∷ s) fs [] → leaf_in width bytes ≡ Some (front s 0, es')
+    → IsOpenAt width count (put look b bytes) first free (p ++ (b, es') ∷ s) fs []
 changed width count look first free p s b es es' fs bytes o is =
     let whole = p ++ (b, es) ∷ s in
     let own = times_own b in
@@ -136,9 +136,9 @@ changed width count look first free p s b es es' fs bytes o is =
     }
 
 -- a block is parted in two
-pub parted : (width count : ℕ) (look : ℕ → Option (List ℕ)) (first free : ℕ) (p s : List Leaf) (b f : ℕ) (es less more : List (List ℕ)) (fs : List Spare) (bytes others : List ℕ) → Opened width count look first free (p ++ (b, es) ∷ s) fs (f ∷ [])
+pub parted : (width count : ℕ) (look : ℕ → Option (List ℕ)) (first free : ℕ) (p s : List Leaf) (b f : ℕ) (es less more : List (List ℕ)) (fs : List Spare) (bytes others : List ℕ) → IsOpenAt width count look first free (p ++ (b, es) ∷ s) fs (f ∷ [])
     → leaf_in width others ≡ Some (front s 0, more) → leaf_in width bytes ≡ Some (f, less)
-    → Opened width count (put (put look f others) b bytes) first free (p ++ (b, less) ∷ ((f, more) ∷ s)) fs []
+    → IsOpenAt width count (put (put look f others) b bytes) first free (p ++ (b, less) ∷ ((f, more) ∷ s)) fs []
 parted width count look first free p s b f es less more fs bytes others o upper lower =
     let later = put look f others in
     let own = times_own b in
@@ -173,8 +173,8 @@ parted width count look first free p s b f es less more fs bytes others o upper 
     }
 
 -- the first block of a list
-pub begun : (width count : ℕ) (look : ℕ → Option (List ℕ)) (first free f : ℕ) (es : List (List ℕ)) (fs : List Spare) (bytes : List ℕ) → Opened width count look first free [] fs (f ∷ []) → leaf_in width bytes ≡ Some (0, es)
-    → Opened width count (put look f bytes) f free ((f, es) ∷ []) fs []
+pub begun : (width count : ℕ) (look : ℕ → Option (List ℕ)) (first free f : ℕ) (es : List (List ℕ)) (fs : List Spare) (bytes : List ℕ) → IsOpenAt width count look first free [] fs (f ∷ []) → leaf_in width bytes ≡ Some (0, es)
+    → IsOpenAt width count (put look f bytes) f free ((f, es) ∷ []) fs []
 begun width count look first free f es fs bytes o is =
     let own = times_own f in
     let at = o.once f in
@@ -192,7 +192,7 @@ begun width count look first free f es fs bytes o is =
     }
 
 -- the first block leaves the chain
-pub unlinked_first : (width count : ℕ) (look : ℕ → Option (List ℕ)) (first free : ℕ) (s : List Leaf) (b : ℕ) (es : List (List ℕ)) (fs : List Spare) → Opened width count look first free ((b, es) ∷ s) fs [] → Opened width count look (front s 0) free s fs (b ∷ [])
+pub unlinked_first : (width count : ℕ) (look : ℕ → Option (List ℕ)) (first free : ℕ) (s : List Leaf) (b : ℕ) (es : List (List ℕ)) (fs : List Spare) → IsOpenAt width count look first free ((b, es) ∷ s) fs [] → IsOpenAt width count look (front s 0) free s fs (b ∷ [])
 unlinked_first width count look first free s b es fs o = record {
   first_is = refl;
   free_is = o.free_is;
@@ -205,8 +205,8 @@ unlinked_first width count look first free s b es fs o = record {
 }
 
 -- a later block leaves the chain
-pub unlinked : (width count : ℕ) (look : ℕ → Option (List ℕ)) (first free : ℕ) (q s : List Leaf) (a b : ℕ) (ds es : List (List ℕ)) (fs : List Spare) (bytes : List ℕ) → Opened width count look first free (q ++ (a, ds) ∷ ((b, es) ∷ s)) fs [] → leaf_in width bytes ≡ Some (front s 0, ds)
-    → Opened width count (put look a bytes) first free (q ++ (a, ds) ∷ s) fs (b ∷ [])
+pub unlinked : (width count : ℕ) (look : ℕ → Option (List ℕ)) (first free : ℕ) (q s : List Leaf) (a b : ℕ) (ds es : List (List ℕ)) (fs : List Spare) (bytes : List ℕ) → IsOpenAt width count look first free (q ++ (a, ds) ∷ ((b, es) ∷ s)) fs [] → leaf_in width bytes ≡ Some (front s 0, ds)
+    → IsOpenAt width count (put look a bytes) first free (q ++ (a, ds) ∷ s) fs (b ∷ [])
 unlinked width count look first free q s a b ds es fs bytes o is =
     let old : (n : ℕ) → times n (numbers (q ++ (a, ds) ∷ ((b, es) ∷ s))) ≡ times n (numbers q) + (times n (a ∷ []) + (times n (b ∷ []) + times n (numbers s))) = λ n. omega (arith, nums q ((b, es) ∷ s) a n ds) in
     let own = times_own a in
@@ -229,8 +229,8 @@ unlinked width count look first free q s a b ds es fs bytes o is =
     }
 
 -- a block that is in no chain becomes the first free one
-pub freed : (width count : ℕ) (look : ℕ → Option (List ℕ)) (first free b : ℕ) (ls : List Leaf) (fs : List Spare) (bytes : List ℕ) → Opened width count look first free ls fs (b ∷ []) → free_in bytes ≡ Some (free, tt)
-    → Opened width count (put look b bytes) first b ls ((b, tt) ∷ fs) []
+pub freed : (width count : ℕ) (look : ℕ → Option (List ℕ)) (first free b : ℕ) (ls : List Leaf) (fs : List Spare) (bytes : List ℕ) → IsOpenAt width count look first free ls fs (b ∷ []) → free_in bytes ≡ Some (free, tt)
+    → IsOpenAt width count (put look b bytes) first b ls ((b, tt) ∷ fs) []
 freed width count look first free b ls fs bytes o is =
     let own = times_own b in
     let at = o.once b in

@@ -6,7 +6,7 @@ use Rattle.dms_ordlist.specs.declared.place.Spot.{Spot}
 use Rattle.dms_ordlist.specs.declared.place.Place.{Place}
 use Rattle.dms_ordlist.specs.declared.spelling.LeafBlock.{LeafBlock}
 use Rattle.dms_ordlist.specs.Leads.{lead}
-use Rattle.dms_ordlist.specs.Linked.{Chain, front, said_by}
+use Rattle.dms_ordlist.specs.Linked.{BlockChain, front, said_by}
 use Rattle.dms_ordlist.specs.LinkedLaws.{chain_second}
 use Rattle.dms_ordlist.specs.ListBlocks.{leaf_in}
 use Rattle.dms_ordlist.specs.ListIn.{Leaf, entries_of}
@@ -66,7 +66,7 @@ module _ (c : List ℕ) (ls : List Leaf) where
   pub walked_none : (at : ℕ) → front ls 0 ≡ at → Walked c ls None 0 at
   walked_none at head = record { ahead = []; behind = ls; is = refl; head = head; before = refl; low = refl; long = refl }
 
-  module _ (width : ℕ) (look : ℕ → Option (List ℕ)) (chain : Chain (leaf_in width) look ls 0) where
+  module _ (width : ℕ) (look : ℕ → Option (List ℕ)) (chain : BlockChain (leaf_in width) look ls 0) where
     -- what the chain says of the block that was reached
     record Here (ahead behind : List Leaf) (at next : ℕ) (es : List (List ℕ)) : Type 0 where
       pub others : List Leaf
@@ -74,7 +74,7 @@ module _ (c : List ℕ) (ls : List Leaf) where
       pub next_is : next ≡ front others 0
       pub ends : next ≡ 0 → others ≡ []
 
-    ends_at : (others : List Leaf) → Chain (leaf_in width) look others 0 → front others 0 ≡ 0 → others ≡ []
+    ends_at : (others : List Leaf) → BlockChain (leaf_in width) look others 0 → front others 0 ≡ 0 → others ≡ []
     ends_at [] rest zero_is = refl
     ends_at (l ∷ others) rest zero_is = absurd (rest.0 zero_is)
 
@@ -89,7 +89,7 @@ module _ (c : List ℕ) (ls : List Leaf) where
     here : (ahead behind : List Leaf) (at next : ℕ) (es : List (List ℕ)) → ls ≡ ahead ++ behind → front behind 0 ≡ at → (at ≡ 0 → ⊥) → said_by (leaf_in width) (look at) ≡ Some (next, es) → Here ahead behind at next es
     here ahead [] at next es is head some said = absurd (some (sym head))
     here ahead (l ∷ others) at next es is head some said =
-        let rest = chain_second (leaf_in width) look ahead (l ∷ others) 0 (subst (λ x. Chain (leaf_in width) look x 0) is chain) in
+        let rest = chain_second (leaf_in width) look ahead (l ∷ others) 0 (subst (λ x. BlockChain (leaf_in width) look x 0) is chain) in
         let one : Option Leaf = Some (next, es) in
         let two : Option Leaf = Some (front others 0, l.1) in
         let same : one ≡ two = sym said ∙ ap (λ n. said_by (leaf_in width) (look n)) (sym head) ∙ rest.1 in
@@ -105,7 +105,7 @@ module _ (c : List ℕ) (ls : List Leaf) where
     there : (ahead behind : List Leaf) (at : ℕ) → ls ≡ ahead ++ behind → front behind 0 ≡ at → (at ≡ 0 → ⊥) → said_by (leaf_in width) (look at) ≡ None → ⊥
     there ahead [] at is head some said = some (sym head)
     there ahead (l ∷ others) at is head some said =
-        let rest = chain_second (leaf_in width) look ahead (l ∷ others) 0 (subst (λ x. Chain (leaf_in width) look x 0) is chain) in
+        let rest = chain_second (leaf_in width) look ahead (l ∷ others) 0 (subst (λ x. BlockChain (leaf_in width) look x 0) is chain) in
         let none : Option Leaf = None in
         let one : Option Leaf = Some (front others 0, l.1) in
         let same : none ≡ one = sym said ∙ ap (λ n. said_by (leaf_in width) (look n)) (sym head) ∙ rest.1 in

@@ -4,12 +4,12 @@ use Rattle.std.specs.declared.option.Option.{Option}
 use Rattle.dms_block.specs.declared.blocks.Blocks.{Ghosts}
 use Rattle.dms_block.specs.declared.overlay.Overlay.{Overlay}
 use Rattle.dms_block.specs.View.{seen, seen_counts, under}
-use Rattle.dms_ordlist.specs.Linked.{Chain, front, said_by}
+use Rattle.dms_ordlist.specs.Linked.{BlockChain, front, said_by}
 use Rattle.dms_ordlist.specs.ListBlocks.{leaf_in}
 use Rattle.dms_ordlist.specs.ListIn.{Leaf, list_in}
 
 -- the width of entries
-pub record IsWidth (width : ℕ) : Type 0 where
+pub record IsListWidth (width : ℕ) : Type 0 where
   pub low : 8 ≤ width
   pub most : width ≤ 104
 
@@ -28,7 +28,7 @@ module _ {B : Type 0} {g : Ghosts B} where
   -- a block of the file, where no chain begins at a number that has no more blocks than the file
   abbrev pub NoChain : ℕ → Overlay B g → ℕ → ℕ → ℕ → ℕ → Type 0
   NoChain width o file first f b = (f ≡ file) × (b < seen_counts o file)
-      × (IsTrue (under o).told → (ls : List Leaf) → Chain (leaf_in width) (look o file) ls 0 → front ls 0 ≡ first → length ls ≤ seen_counts o file → ⊥)
+      × (IsTrue (under o).told → (ls : List Leaf) → BlockChain (leaf_in width) (look o file) ls 0 → front ls 0 ≡ first → length ls ≤ seen_counts o file → ⊥)
 
   -- a block of a file whose blocks are no list
   abbrev pub NoList : Overlay B g → ℕ → ℕ → ℕ → ℕ → Type 0

@@ -11,7 +11,7 @@ use Rattle.dms_block.specs.declared.overlay.Overlay.{Overlay}
 use Rattle.dms_block.specs.Content.{Content, grown}
 use Rattle.dms_block.specs.Held.{HasCausesOr, Held}
 use Rattle.dms_block.specs.HeldLaws.{causes_or_on, told_after}
-use Rattle.dms_block.specs.View.{Reads, seen, seen_counts, under}
+use Rattle.dms_block.specs.View.{ReadsOverlay, seen, seen_counts, under}
 use Rattle.dms_block.specs.ViewLaws.{seen_still}
 use Rattle.dms_ordlist.specs.Linked.{said_by}
 use Rattle.dms_ordlist.specs.Seen.{NotAt}
@@ -26,18 +26,18 @@ causes_err T U P Q (Damaged f n) a b w (inr h) = inr (h.0, w f n h.1)
 causes_err T U P Q Say a b w h = h
 
 module _ {B : Type 0} {g : Ghosts B} where
-  pub counts_still : {T : Type 0} {n : ℕ} {x : T} {old new : Overlay B g} → Reads n (Ok x) old new → seen_counts new ≡ seen_counts old
+  pub counts_still : {T : Type 0} {n : ℕ} {x : T} {old new : Overlay B g} → ReadsOverlay n (Ok x) old new → seen_counts new ≡ seen_counts old
   counts_still {old = old} {new = new} reads = λ i. grown (reads.written_still i) (reads.looks.counts i)
 
-  pub file_still : {T : Type 0} {n : ℕ} {x : T} {old new : Overlay B g} (file : ℕ) → Reads n (Ok x) old new → IsTrue (under old).told → seen new file ≡ seen old file
+  pub file_still : {T : Type 0} {n : ℕ} {x : T} {old new : Overlay B g} (file : ℕ) → ReadsOverlay n (Ok x) old new → IsTrue (under old).told → seen new file ≡ seen old file
   file_still file reads told = ap (λ (c : Content). c file) (seen_still reads told)
 
   -- a fault after reads that went well
-  pub causes_since : {T U : Type 0} {n : ℕ} {x : T} (P Q : ℕ → ℕ → Type 0) (r : Result U BlockFault) (a b c : Overlay B g) → ((f n : ℕ) → P f n → Q f n) → (under b).faults ≡ (under a).faults → Reads n (Ok x) a b → HasCausesOr P r (under b) (under c) → HasCausesOr Q r (under a) (under c)
+  pub causes_since : {T U : Type 0} {n : ℕ} {x : T} (P Q : ℕ → ℕ → Type 0) (r : Result U BlockFault) (a b c : Overlay B g) → ((f n : ℕ) → P f n → Q f n) → (under b).faults ≡ (under a).faults → ReadsOverlay n (Ok x) a b → HasCausesOr P r (under b) (under c) → HasCausesOr Q r (under a) (under c)
   causes_since P Q r a b c w is reads h = causes_or_on P Q r (under a) (under b) (under c) w is reads.looks.passes.lasts reads.looks.same h
 
   -- what isn't there after reads wasn't before
-  pub not_at_since : {T A : Type 0} {n : ℕ} {x : T} (reads_as : List ℕ → Option (ℕ × A)) (a b : Overlay B g) (file at : ℕ) → Reads n (Ok x) a b → (f k : ℕ) → NotAt reads_as b file at f k → NotAt reads_as a file at f k
+  pub not_at_since : {T A : Type 0} {n : ℕ} {x : T} (reads_as : List ℕ → Option (ℕ × A)) (a b : Overlay B g) (file at : ℕ) → ReadsOverlay n (Ok x) a b → (f k : ℕ) → NotAt reads_as b file at f k → NotAt reads_as a file at f k
   not_at_since reads_as a b file at reads f k h = (
     h.0,
     subst (λ m. k < m) (ap (λ (c : ℕ → ℕ). c file) (counts_still reads)) h.1,

@@ -62,12 +62,12 @@ true_le a b h = grind (arith, nat_tests)
 true_lt : (a b : ℕ) → ltb a b ≡ true → a < b
 true_lt a b h = grind (arith, nat_tests)
 
-pub record Holds (width : ℕ) (es : List (List ℕ)) : Type 0 where
+pub record HoldsEntries (width : ℕ) (es : List (List ℕ)) : Type 0 where
   pub some : 0 < length es
   pub room : length es * width ≤ 1017
   pub rising : is_rising es ≡ true
 
-pub may_holds : (width : ℕ) (es : List (List ℕ)) → may_hold width es ≡ true → Holds width es
+pub may_holds : (width : ℕ) (es : List (List ℕ)) → may_hold width es ≡ true → HoldsEntries width es
 may_holds width es h =
     let outer = both_of (ltb 0 (length es) && leb (length es * width) 1017) (is_rising es) h in
     let inner = both_of (ltb 0 (length es)) (leb (length es * width) 1017) outer.0 in
@@ -79,7 +79,7 @@ le_true a b h = grind (arith, nat_tests)
 lt_true : (a b : ℕ) → a < b → ltb a b ≡ true
 lt_true a b h = grind (arith, nat_tests)
 
-pub holds_may : (width : ℕ) (es : List (List ℕ)) → Holds width es → may_hold width es ≡ true
+pub holds_may : (width : ℕ) (es : List (List ℕ)) → HoldsEntries width es → may_hold width es ≡ true
 holds_may width es h = both_are _ _ (both_are _ _ (lt_true 0 (length es) h.some) (le_true (length es * width) 1017 h.room)) h.rising
 
 count_low : (width : ℕ) (es : List (List ℕ)) → 0 < width → length es * width ≤ 1017 → length es < 2 ^ 16
@@ -89,7 +89,7 @@ count_low (suc w) es low room = omega (arith, room, product (length es) w)
     product a b = grind arith
 count_low zero es low room = absurd (omega arith)
 
-pub leaf_again : (width next : ℕ) (es : List (List ℕ)) → 0 < width → next < 2 ^ 32 → AllWide width es → Holds width es → leaf_in width (leaf_bytes next es) ≡ Some (next, es)
+pub leaf_again : (width next : ℕ) (es : List (List ℕ)) → 0 < width → next < 2 ^ 32 → AllWide width es → HoldsEntries width es → leaf_in width (leaf_bytes next es) ≡ Some (next, es)
 unfolding leaf_in
 leaf_again width next es some low wide holds =
     let parts = leaf_parts next es in
@@ -120,7 +120,7 @@ leaf_long next es = filled_long (1 ∷ (to_be_bytes w16 (length es) ++ (to_be_by
 
 pub record IsLeaf (width next : ℕ) (es : List (List ℕ)) : Type 0 where
   pub wide : AllWide width es
-  pub holds : Holds width es
+  pub holds : HoldsEntries width es
 
 leaf_by : (width k next : ℕ) (b : List ℕ) → may_hold width (cut width k (drop 7 b)) ≡ true → b ≡ leaf_bytes next (cut width k (drop 7 b)) → IsLeaf width next (cut width k (drop 7 b))
 leaf_by width k next b may is =

@@ -1,10 +1,10 @@
 ghost use Rattle.std.specs.Prelude.{◌≡◌, ◌+◌, IfOk, OnErr, Some, length};
 ghost use Rattle.dms_block.specs.Held.{HasCausesOr};
-ghost use Rattle.dms_block.specs.View.{Reads, seen_counts, under};
+ghost use Rattle.dms_block.specs.View.{ReadsOverlay, seen_counts, under};
 ghost use Rattle.dms_ordlist.specs.Leads.{last_of};
 ghost use Rattle.dms_ordlist.specs.Lists.{first_from, last_to};
 ghost use Rattle.dms_ordlist.specs.Looks.{place_first, place_last};
-ghost use Rattle.dms_ordlist.specs.Seen.{IfList, IsWidth, NoList};
+ghost use Rattle.dms_ordlist.specs.Seen.{IfList, IsListWidth, NoList};
 ghost use Rattle.std.specs.Prelude.{◌≤◌, take, slice_get};
 
 use crate::looking::look;
@@ -68,9 +68,9 @@ pub fn first_from<B: Blocks>(
     from: &[u8],
 ) -> Result<Option<Bytes>, BlockFault>
     requires sound { (under over.old).sound }
-    requires width { IsWidth (length from.now) }
+    requires width { IsListWidth (length from.now) }
     ensures first { IfOk result (λ o. IfList over.old file (length from.now) (λ xs. o ≡ first_from (Some from.now) xs)) }
-    ensures reads { Reads (1 + seen_counts over.old file) result over.old over.new }
+    ensures reads { ReadsOverlay (1 + seen_counts over.old file) result over.old over.new }
     ensures causes { HasCausesOr (NoList over.old file (length from.now)) result (under over.old) (under over.new) }
 {
     let found = look(over, alloc, file, from)?;
@@ -88,9 +88,9 @@ pub fn last_to<B: Blocks>(
     upto: &[u8],
 ) -> Result<Option<Bytes>, BlockFault>
     requires sound { (under over.old).sound }
-    requires width { IsWidth (length upto.now) }
+    requires width { IsListWidth (length upto.now) }
     ensures last { IfOk result (λ o. IfList over.old file (length upto.now) (λ xs. o ≡ last_to (Some upto.now) xs)) }
-    ensures reads { Reads (1 + seen_counts over.old file) result over.old over.new }
+    ensures reads { ReadsOverlay (1 + seen_counts over.old file) result over.old over.new }
     ensures causes { HasCausesOr (NoList over.old file (length upto.now)) result (under over.old) (under over.new) }
 {
     let found = look(over, alloc, file, upto)?;

@@ -1,7 +1,7 @@
 ghost use Rattle.std.specs.Prelude.{◌≡◌, ◌≢◌, ◌+◌, ◌*◌, ◌/◌, ◌≤◌, ◌<◌, ℕ, List, [], ◌∷◌, IfOk, IfSome, OnErr, OnOk, IsErrOf, IsTrue, Some, false, length, take, drop, not, max};
 ghost use Rattle.dms_block.specs.Content.{laid};
 ghost use Rattle.dms_block.specs.Held.{HasCausesOr};
-ghost use Rattle.dms_block.specs.View.{Reads, Writes, seen, seen_counts, under, written};
+ghost use Rattle.dms_block.specs.View.{ReadsOverlay, WritesOverlay, seen, seen_counts, under, written};
 ghost use Rattle.dms_ordlist.specs.Linked.{front};
 ghost use Rattle.dms_ordlist.specs.ListBlocks.{free_in, head_bytes, leaf_bytes};
 ghost use Rattle.dms_ordlist.specs.ListIn.{Leaf, Spare, list_in};
@@ -9,7 +9,7 @@ ghost use Rattle.dms_ordlist.specs.ListWrites.{Taken};
 ghost use Rattle.dms_ordlist.specs.Lists.{has_entry, with_entry};
 ghost use Rattle.dms_ordlist.specs.Looks.{IfLook, ListOr};
 ghost use Rattle.dms_ordlist.specs.Places.{PlaceHolds};
-ghost use Rattle.dms_ordlist.specs.Seen.{IfList, IsWidth, NoList, NotAt};
+ghost use Rattle.dms_ordlist.specs.Seen.{IfList, IsListWidth, NoList, NotAt};
 ghost use Rattle.dms_ordlist.specs.SpellLaws.{AllWide};
 ghost use Rattle.dms_ordlist.specs.Written.{Grown};
 
@@ -43,12 +43,12 @@ fn begin<B: Blocks>(
     requires sound { (under over.old).sound }
     requires owned { IsTrue ((under over.old).owns file) }
     requires room { seen_counts over.old file ≤ 1048576 }
-    requires width { IsWidth (length entry.now) }
+    requires width { IsListWidth (length entry.now) }
     ensures list { OnOk result (IsTrue (under over.old).told → (fs : List Spare) → ListOr (length entry.now) (seen over.old file) [] fs → head.free ≡ front fs 0 → list_in (length entry.now) (seen over.new file) ≡ Some (entry.now ∷ [])) }
     ensures others { OnOk result (IsTrue (under over.old).told → (other : ℕ) → other ≢ file → seen over.new other ≡ seen over.old other) }
     ensures grows { OnOk result (Grown file (seen_counts over.old) (seen_counts over.new)) }
     ensures room { OnOk result (IsTrue (under over.old).told → (fs : List Spare) → ListOr (length entry.now) (seen over.old file) [] fs → head.free ≡ front fs 0 → seen_counts over.new file ≤ max (seen_counts over.old file) 2) }
-    ensures writes { Writes 1 2 result over.old over.new }
+    ensures writes { WritesOverlay 1 2 result over.old over.new }
     ensures idle { (f b : ℕ) → IsErrOf result (BlockFault.Damaged f b) → written over.new ≡ written over.old }
     ensures causes { HasCausesOr (λ f b. (head.free ≡ 0 → ⊥) × NotAt free_in over.old file head.free f b) result (under over.old) (under over.new) }
 {
@@ -75,7 +75,7 @@ fn split<B: Blocks>(
     requires sound { (under over.old).sound }
     requires owned { IsTrue ((under over.old).owns file) }
     requires room { seen_counts over.old file ≤ 1048576 }
-    requires width { IsWidth width }
+    requires width { IsListWidth width }
     requires wide { AllWide width leaf.entries.items }
     requires almost { length leaf.entries.items * width ≤ 1017 + width }
     requires there { number < seen_counts over.old file }
@@ -84,7 +84,7 @@ fn split<B: Blocks>(
     ensures others { OnOk result (IsTrue (under over.old).told → (other : ℕ) → other ≢ file → seen over.new other ≡ seen over.old other) }
     ensures grows { OnOk result (Grown file (seen_counts over.old) (seen_counts over.new)) }
     ensures count { IfOk result (λ t. seen_counts over.new file ≡ max (seen_counts over.old file) (t.0 + 1)) }
-    ensures writes { Writes 1 3 result over.old over.new }
+    ensures writes { WritesOverlay 1 3 result over.old over.new }
     ensures idle { (f b : ℕ) → IsErrOf result (BlockFault.Damaged f b) → written over.new ≡ written over.old }
     ensures causes { HasCausesOr (λ f b. (head.free ≡ 0 → ⊥) × NotAt free_in over.old file head.free f b) result (under over.old) (under over.new) }
 {
@@ -119,7 +119,7 @@ fn insert_in<B: Blocks>(
     requires sound { (under over.old).sound }
     requires owned { IsTrue ((under over.old).owns file) }
     requires room { seen_counts over.old file ≤ 1048576 }
-    requires width { IsWidth (length entry.now) }
+    requires width { IsListWidth (length entry.now) }
     requires holds { IfSome found.place (PlaceHolds (length entry.now) (seen_counts over.old file)) }
     ensures list { OnOk result (IfLook over.old file entry.now found (λ xs. list_in (length entry.now) (seen over.old file) ≡ Some xs → list_in (length entry.now) (seen over.new file) ≡ Some (with_entry entry.now xs))) }
     ensures answer { IfOk result (λ new. IfLook over.old file entry.now found (λ xs. new ≡ not (has_entry entry.now xs))) }
@@ -127,7 +127,7 @@ fn insert_in<B: Blocks>(
     ensures others { OnOk result (IsTrue (under over.old).told → (other : ℕ) → other ≢ file → seen over.new other ≡ seen over.old other) }
     ensures grows { OnOk result (Grown file (seen_counts over.old) (seen_counts over.new)) }
     ensures room { OnOk result (IfLook over.old file entry.now found (λ xs. seen_counts over.new file ≤ max (seen_counts over.old file) (2 + length xs))) }
-    ensures writes { Writes 1 3 result over.old over.new }
+    ensures writes { WritesOverlay 1 3 result over.old over.new }
     ensures idle { (f b : ℕ) → IsErrOf result (BlockFault.Damaged f b) → written over.new ≡ written over.old }
     ensures causes { HasCausesOr (λ f b. (found.head.free ≡ 0 → ⊥) × NotAt free_in over.old file found.head.free f b) result (under over.old) (under over.new) }
 {
@@ -173,14 +173,14 @@ pub fn insert<B: Blocks>(
     requires sound { (under over.old).sound }
     requires owned { IsTrue ((under over.old).owns file) }
     requires room { seen_counts over.old file ≤ 1048576 }
-    requires width { IsWidth (length entry.now) }
+    requires width { IsListWidth (length entry.now) }
     ensures list { OnOk result (IfList over.old file (length entry.now) (λ xs. list_in (length entry.now) (seen over.new file) ≡ Some (with_entry entry.now xs))) }
     ensures answer { IfOk result (λ new. IfList over.old file (length entry.now) (λ xs. new ≡ not (has_entry entry.now xs))) }
     ensures still { IfOk result (λ new. new ≡ false → written over.new ≡ written over.old) }
     ensures others { OnOk result (IsTrue (under over.old).told → (other : ℕ) → other ≢ file → seen over.new other ≡ seen over.old other) }
     ensures grows { OnOk result (Grown file (seen_counts over.old) (seen_counts over.new)) }
     ensures room { OnOk result (IfList over.old file (length entry.now) (λ xs. seen_counts over.new file ≤ max (seen_counts over.old file) (2 + length xs))) }
-    ensures writes { Writes (2 + seen_counts over.old file) 3 result over.old over.new }
+    ensures writes { WritesOverlay (2 + seen_counts over.old file) 3 result over.old over.new }
     ensures idle { (f b : ℕ) → IsErrOf result (BlockFault.Damaged f b) → written over.new ≡ written over.old }
     ensures causes { HasCausesOr (NoList over.old file (length entry.now)) result (under over.old) (under over.new) }
 {

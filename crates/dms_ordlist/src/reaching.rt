@@ -1,11 +1,11 @@
 ghost use Rattle.std.specs.Prelude.{◌≡◌, ◌<◌, ◌≤◌, ℕ, List, IfOk, IsTrue};
 ghost use Rattle.dms_block.specs.Held.{HasCausesOr};
-ghost use Rattle.dms_block.specs.View.{Reads, seen_counts, under};
-ghost use Rattle.dms_ordlist.specs.Linked.{Chain, front};
+ghost use Rattle.dms_block.specs.View.{ReadsOverlay, seen_counts, under};
+ghost use Rattle.dms_ordlist.specs.Linked.{BlockChain, front};
 ghost use Rattle.dms_ordlist.specs.ListBlocks.{leaf_in};
 ghost use Rattle.dms_ordlist.specs.ListIn.{Leaf};
 ghost use Rattle.dms_ordlist.specs.Places.{IsPlace, PlaceHolds, number_of};
-ghost use Rattle.dms_ordlist.specs.Seen.{IsWidth, NoChain, look};
+ghost use Rattle.dms_ordlist.specs.Seen.{IsListWidth, NoChain, look};
 
 use crate::order::lead;
 use crate::place::{Place, Spot};
@@ -34,12 +34,12 @@ pub fn reach<B: Blocks>(
     bytes: &[u8],
 ) -> Result<Place, BlockFault>
     requires sound { (under over.old).sound }
-    requires width { IsWidth width }
+    requires width { IsListWidth width }
     requires some { 0 < first }
     requires there { 0 < seen_counts over.old file }
-    ensures place { IfOk result (λ p. IsTrue (under over.old).told → (ls : List Leaf) → Chain (leaf_in width) (look over.old file) ls 0 → front ls 0 ≡ first → IsPlace bytes.now ls p) }
+    ensures place { IfOk result (λ p. IsTrue (under over.old).told → (ls : List Leaf) → BlockChain (leaf_in width) (look over.old file) ls 0 → front ls 0 ≡ first → IsPlace bytes.now ls p) }
     ensures holds { IfOk result (λ p. PlaceHolds width (seen_counts over.old file) p) }
-    ensures reads { Reads (seen_counts over.old file) result over.old over.new }
+    ensures reads { ReadsOverlay (seen_counts over.old file) result over.old over.new }
     ensures causes { HasCausesOr (NoChain width over.old file first) result (under over.old) (under over.new) }
 {
     let count = over.count(file);

@@ -1,9 +1,9 @@
 ghost use Rattle.std.specs.Prelude.{◌≡◌, ◌<◌, ◌^◌, IfOk, IsTrue, Some};
 ghost use Rattle.dms_block.specs.Held.{HasCausesOr};
-ghost use Rattle.dms_block.specs.View.{Reads, seen_counts, under};
+ghost use Rattle.dms_block.specs.View.{ReadsOverlay, seen_counts, under};
 ghost use Rattle.dms_ordlist.specs.Linked.{said_by};
 ghost use Rattle.dms_ordlist.specs.ListBlocks.{free_in, head_in, leaf_in};
-ghost use Rattle.dms_ordlist.specs.Seen.{IsWidth, NotAt, look};
+ghost use Rattle.dms_ordlist.specs.Seen.{IsListWidth, NotAt, look};
 ghost use Rattle.dms_ordlist.specs.SpellLaws.{IsLeaf};
 
 use crate::spelling::{Head, LeafBlock, free_of, head_of, leaf_of};
@@ -19,7 +19,7 @@ pub fn read_head<B: Blocks>(
     requires sound { (under over.old).sound }
     requires some { 0 < seen_counts over.old file }
     ensures head { IfOk result (λ h. IsTrue (under over.old).told → said_by head_in (look over.old file 0) ≡ Some (h.first, h.free)) }
-    ensures reads { Reads 1 result over.old over.new }
+    ensures reads { ReadsOverlay 1 result over.old over.new }
     ensures causes { HasCausesOr (NotAt head_in over.old file 0) result (under over.old) (under over.new) }
 {
     let block = over.read(alloc, BlockId { file, block: 0 })?;
@@ -40,7 +40,7 @@ pub fn read_free<B: Blocks>(
     requires some { 0 < seen_counts over.old file }
     ensures next { IfOk result (λ n. IsTrue (under over.old).told → said_by free_in (look over.old file at) ≡ Some (n, tt)) }
     ensures there { IfOk result (λ n. at < seen_counts over.old file) }
-    ensures reads { Reads 1 result over.old over.new }
+    ensures reads { ReadsOverlay 1 result over.old over.new }
     ensures causes { HasCausesOr (NotAt free_in over.old file at) result (under over.old) (under over.new) }
 {
     if over.count(file) <= at {
@@ -63,12 +63,12 @@ pub fn read_leaf<B: Blocks>(
     at: u32,
 ) -> Result<LeafBlock, BlockFault>
     requires sound { (under over.old).sound }
-    requires width { IsWidth width }
+    requires width { IsListWidth width }
     requires named { named_by < seen_counts over.old file }
     ensures leaf { IfOk result (λ x. IsTrue (under over.old).told → said_by (leaf_in width) (look over.old file at) ≡ Some (x.next, x.entries.items)) }
     ensures holds { IfOk result (λ x. IsLeaf width x.next x.entries.items) }
     ensures there { IfOk result (λ x. at < seen_counts over.old file) }
-    ensures reads { Reads 1 result over.old over.new }
+    ensures reads { ReadsOverlay 1 result over.old over.new }
     ensures causes { HasCausesOr (NotAt (leaf_in width) over.old file at) result (under over.old) (under over.new) }
 {
     if over.count(file) <= at {

@@ -1,7 +1,7 @@
 ghost use Rattle.std.specs.Prelude.{◌≡◌, ◌+◌, ◌≤◌, ◌<◌, ℕ, List, IfOk, OnErr, OnOk, IsErrOf, IsTrue, length, max};
 ghost use Rattle.dms_block.specs.Content.{limit, raised, with_block};
 ghost use Rattle.dms_block.specs.Held.{HasCausesOr};
-ghost use Rattle.dms_block.specs.View.{Reads, seen, seen_counts, under, written};
+ghost use Rattle.dms_block.specs.View.{ReadsOverlay, seen, seen_counts, under, written};
 ghost use Rattle.dms_ordlist.specs.Linked.{front};
 ghost use Rattle.dms_ordlist.specs.ListBlocks.{free_in, head_bytes};
 ghost use Rattle.dms_ordlist.specs.ListIn.{Leaf, Spare};
@@ -24,7 +24,7 @@ pub fn next_free<B: Blocks>(
     requires sound { (under over.old).sound }
     ensures taken { IfOk result (λ t. IsTrue (under over.old).told → (w : ℕ) (ls : List Leaf) (fs : List Spare) → ListOr w (seen over.old file) ls fs → head.free ≡ front fs 0 → Taken w (seen over.old file) (front ls 0) ls t.0 t.1) }
     ensures near { IfOk result (λ t. t.0 ≤ max (seen_counts over.old file) 1) }
-    ensures reads { Reads 1 result over.old over.new }
+    ensures reads { ReadsOverlay 1 result over.old over.new }
     ensures causes { HasCausesOr (λ f b. (head.free ≡ 0 → ⊥) × NotAt free_in over.old file head.free f b) result (under over.old) (under over.new) }
 {
     let count = over.count(file);

@@ -86,7 +86,7 @@ impl<S: Site> Store for PlainStore<S> {
       next = s.next;
       said = told S.tells_said (S.said s.site);
       points = [];
-      sure = 0;
+      durable = 0;
       here = point_of s.next (described s.desc) (db_of (records_in s.rows.items));
       clock = no_clock;
       whole = λ files. ⊤;
@@ -104,7 +104,7 @@ impl<S: Site> Store for PlainStore<S> {
       under = λ db is. refl;
       points = λ tells. absurd tells;
       stop = λ tells. absurd tells;
-      sure = λ tells. absurd tells;
+      durable = λ tells. absurd tells;
     } };
 
     ghost same_again = { λ s. (S.same_again s.site, refl, λ tells. refl, only_none (S.clock s.site)) };

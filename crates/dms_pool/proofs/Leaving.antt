@@ -9,7 +9,7 @@ use Rattle.dms_pool.specs.declared.frame.Frame.{Frame}
 use Rattle.dms_pool.specs.declared.frame.FrameKey.{FrameKey}
 use Rattle.dms_pool.specs.declared.pool.Pool.{Pool}
 use Rattle.dms_pool.specs.Entries.{Entries, id_of, ids_of, is_key, key_of, same_key}
-use Rattle.dms_pool.specs.Calls.{Cleans, GivesUp, HasRoom, Looked, Puts}
+use Rattle.dms_pool.specs.Calls.{Cleans, GivesUp, HasFrameFor, Looked, PutsFrame}
 use Rattle.dms_pool.specs.Held.{washed}
 use Rattle.dms_pool.proofs.Lasts.{IsLast, is_last}
 use Rattle.dms_pool.proofs.Same.{after, after_lookup, after_order, front, front_lookup, front_order, promoted_same, put_same}
@@ -29,11 +29,11 @@ looked id old new is =
 pub order_length : (es : Entries) → length (reverse (ids_of es)) ≡ length es
 order_length es = length-reverse (ids_of es) ∙ length-map es (λ e. id_of e.0)
 
-pub has_room : (id : BlockId) (pool : Pool) → HasRoom id pool → (nat_lt (length pool.frames.entries) pool.frames.cap || is_some (lookup (is_key id) pool.frames.entries)) ≡ true
+pub has_room : (id : BlockId) (pool : Pool) → HasFrameFor id pool → (nat_lt (length pool.frames.entries) pool.frames.cap || is_some (lookup (is_key id) pool.frames.entries)) ≡ true
 has_room id pool room = ap (λ n. nat_lt n pool.frames.cap || is_some (lookup (is_key id) pool.frames.entries)) (sym (order_length pool.frames.entries)) ∙ room
 
-pub puts : (id : BlockId) (v : Frame) (old new : Pool) → HasRoom id old
-    → new.frames ≡ lru_cache (put_entries same_key old.frames (key_of id) v) old.frames.cap → Puts id v old new
+pub puts : (id : BlockId) (v : Frame) (old new : Pool) → HasFrameFor id old
+    → new.frames ≡ lru_cache (put_entries same_key old.frames (key_of id) v) old.frames.cap → PutsFrame id v old new
 puts id v old new room is =
     let es = old.frames.entries in
     let all : new.frames.entries ≡ front id v es = ap (λ c. c.entries) is ∙ put_same id v old.frames (has_room id old room) in

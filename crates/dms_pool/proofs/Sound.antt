@@ -12,7 +12,7 @@ use Rattle.lru.specs.LruCache.{LruCache, lru_cache, promoted, put_entries}
 use Rattle.dms_block.specs.declared.block.BlockId.{BlockId}
 use Rattle.dms_pool.specs.declared.frame.Frame.{Frame}
 use Rattle.dms_pool.specs.declared.frame.FrameKey.{FrameKey}
-use Rattle.dms_pool.specs.Entries.{Entries, IsSound, id_of, is_key, key_of, same_key}
+use Rattle.dms_pool.specs.Entries.{Entries, IsSoundPool, id_of, is_key, key_of, same_key}
 use Rattle.dms_pool.proofs.Same.{after, front, or_nothing, promoted_same, put_same, same_id}
 
 all_turn : (P : FrameKey → Type 0) (t : Bool) (e : FrameKey × Frame) (es rest : Entries) → AllByRecursion P (keys_of (e ∷ es)) → AllByRecursion P (keys_of rest) → AllByRecursion P (keys_of (cond t es (e ∷ rest)))
@@ -80,26 +80,26 @@ or_held : (b : Bool) → (b || true) ≡ true
 or_held true = refl
 or_held false = refl
 
-sound_after : (o : Option Frame) (id : BlockId) (c : LruCache FrameKey Frame) → lookup (is_key id) c.entries ≡ o → IsSound c → IsSound (lru_cache (after o id c.entries) c.cap)
+sound_after : (o : Option Frame) (id : BlockId) (c : LruCache FrameKey Frame) → lookup (is_key id) c.entries ≡ o → IsSoundPool c → IsSoundPool (lru_cache (after o id c.entries) c.cap)
 sound_after None id c is sound = sound
 sound_after (Some f) id c is sound =
     (distinct_front id f c.entries sound.0, fits_front id f c.entries c.cap sound.1 (ap (λ (r : Option Frame). nat_lt (length c.entries) c.cap || is_some r) is ∙ or_held (nat_lt (length c.entries) c.cap)), sound.2)
 
-pub sound_promoted : (id : BlockId) (c new : LruCache FrameKey Frame) → IsSound c → new ≡ lru_cache (promoted (is_key id) c.entries) c.cap → IsSound new
+pub sound_promoted : (id : BlockId) (c new : LruCache FrameKey Frame) → IsSoundPool c → new ≡ lru_cache (promoted (is_key id) c.entries) c.cap → IsSoundPool new
 sound_promoted id c new sound is =
-    subst IsSound (sym (is ∙ ap (λ (l : Entries). lru_cache l c.cap) (promoted_same id c.entries))) (sound_after (lookup (is_key id) c.entries) id c refl sound)
+    subst IsSoundPool (sym (is ∙ ap (λ (l : Entries). lru_cache l c.cap) (promoted_same id c.entries))) (sound_after (lookup (is_key id) c.entries) id c refl sound)
 
-sound_put : (id : BlockId) (v : Frame) (c new : LruCache FrameKey Frame) → IsSound c → (nat_lt (length c.entries) c.cap || is_some (lookup (is_key id) c.entries)) ≡ true
-    → new ≡ lru_cache (put_entries same_key c (key_of id) v) c.cap → IsSound new
+sound_put : (id : BlockId) (v : Frame) (c new : LruCache FrameKey Frame) → IsSoundPool c → (nat_lt (length c.entries) c.cap || is_some (lookup (is_key id) c.entries)) ≡ true
+    → new ≡ lru_cache (put_entries same_key c (key_of id) v) c.cap → IsSoundPool new
 sound_put id v c new sound room is =
-    let front_sound : IsSound (lru_cache (front id v c.entries) c.cap) = (distinct_front id v c.entries sound.0, fits_front id v c.entries c.cap sound.1 room, sound.2) in
-    subst IsSound (sym (is ∙ ap (λ (l : Entries). lru_cache l c.cap) (put_same id v c room))) front_sound
+    let front_sound : IsSoundPool (lru_cache (front id v c.entries) c.cap) = (distinct_front id v c.entries sound.0, fits_front id v c.entries c.cap sound.1 room, sound.2) in
+    subst IsSoundPool (sym (is ∙ ap (λ (l : Entries). lru_cache l c.cap) (put_same id v c room))) front_sound
 
 -- also where memory was refused
-pub sound_either : {T E : Type 0} (r : Result T E) (id : BlockId) (v : Frame) (c new : LruCache FrameKey Frame) → IsSound c → (nat_lt (length c.entries) c.cap || is_some (lookup (is_key id) c.entries)) ≡ true
-    → OnOk r (new ≡ lru_cache (put_entries same_key c (key_of id) v) c.cap) → OnErr r (new ≡ c) → IsSound new
+pub sound_either : {T E : Type 0} (r : Result T E) (id : BlockId) (v : Frame) (c new : LruCache FrameKey Frame) → IsSoundPool c → (nat_lt (length c.entries) c.cap || is_some (lookup (is_key id) c.entries)) ≡ true
+    → OnOk r (new ≡ lru_cache (put_entries same_key c (key_of id) v) c.cap) → OnErr r (new ≡ c) → IsSoundPool new
 sound_either (Ok x) id v c new sound room is same = sound_put id v c new sound room is
-sound_either (Err e) id v c new sound room is same = subst IsSound (sym same) sound
+sound_either (Err e) id v c new sound room is same = subst IsSoundPool (sym same) sound
 
 -- fewer
 
@@ -119,11 +119,11 @@ length_take zero es = omega arith
 length_take (suc n) [] = omega arith
 length_take (suc n) (e ∷ es) = let le = length_take n es in omega (arith, le)
 
-pub sound_take : (n : ℕ) (c new : LruCache FrameKey Frame) → IsSound c → new ≡ lru_cache (take n c.entries) c.cap → IsSound new
+pub sound_take : (n : ℕ) (c new : LruCache FrameKey Frame) → IsSoundPool c → new ≡ lru_cache (take n c.entries) c.cap → IsSoundPool new
 sound_take n c new sound is =
     let le = length_take n c.entries in
-    let fewer : IsSound (lru_cache (take n c.entries) c.cap) = (distinct_take n c.entries sound.0, omega (arith, le, sound.1), sound.2) in
-    subst IsSound (sym is) fewer
+    let fewer : IsSoundPool (lru_cache (take n c.entries) c.cap) = (distinct_take n c.entries sound.0, omega (arith, le, sound.1), sound.2) in
+    subst IsSoundPool (sym is) fewer
 
 -- the same blocks
 
@@ -143,7 +143,7 @@ set_length : (id : BlockId) (es : Entries) (w : Frame) → length (set_value (is
 set_length id [] w = refl
 set_length id (e ∷ es) w = same_length (is_key id e.0) e es (set_value (is_key id) es w) w (set_length id es w) ∙ omega arith
 
-pub sound_set : (id : BlockId) (w : Frame) (c new : LruCache FrameKey Frame) → IsSound c → new ≡ lru_cache (set_value (is_key id) c.entries w) c.cap → IsSound new
+pub sound_set : (id : BlockId) (w : Frame) (c new : LruCache FrameKey Frame) → IsSoundPool c → new ≡ lru_cache (set_value (is_key id) c.entries w) c.cap → IsSoundPool new
 sound_set id w c new sound is =
-    let again : IsSound (lru_cache (set_value (is_key id) c.entries w) c.cap) = (subst (IsDistinct same_key) (sym (set_keys id c.entries w)) sound.0, rw (set_length id c.entries w) sound.1, sound.2) in
-    subst IsSound (sym is) again
+    let again : IsSoundPool (lru_cache (set_value (is_key id) c.entries w) c.cap) = (subst (IsDistinct same_key) (sym (set_keys id c.entries w)) sound.0, rw (set_length id c.entries w) sound.1, sound.2) in
+    subst IsSoundPool (sym is) again

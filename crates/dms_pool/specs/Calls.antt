@@ -7,12 +7,12 @@ use Rattle.dms_pool.specs.Entries.{is_id}
 use Rattle.dms_pool.specs.Held.{frame_of, most, order, used, washed}
 
 -- one more block can be held, or this one is
-abbrev pub HasRoom : BlockId → Pool → Type 0
-HasRoom id pool = (nat_lt (length (order pool)) (most pool) || is_some (frame_of id pool)) ≡ true
+abbrev pub HasFrameFor : BlockId → Pool → Type 0
+HasFrameFor id pool = (nat_lt (length (order pool)) (most pool) || is_some (frame_of id pool)) ≡ true
 
 -- everything stays
-abbrev pub Same : Pool → Pool → Type 0
-Same old new = new.frames ≡ old.frames
+abbrev pub SamePool : Pool → Pool → Type 0
+SamePool old new = new.frames ≡ old.frames
 
 -- no block is held, and n may be
 pub record IsEmpty (n : ℕ) (pool : Pool) : Type 0 where
@@ -27,7 +27,7 @@ pub record Looked (id : BlockId) (old new : Pool) : Type 0 where
   pub bound : most new ≡ most old
 
 -- this block has this frame now, and was used
-pub record Puts (id : BlockId) (f : Frame) (old new : Pool) : Type 0 where
+pub record PutsFrame (id : BlockId) (f : Frame) (old new : Pool) : Type 0 where
   pub holds : (x : BlockId) → frame_of x new ≡ (if is_id x id then Some f else frame_of x old)
   pub uses : order new ≡ used id (order old)
   pub bound : most new ≡ most old

@@ -29,5 +29,5 @@ abbrev pub ids_of : Entries → List BlockId
 ids_of = map (λ e. id_of e.0)
 
 -- no block is held twice, and no more than so many are held
-abbrev pub IsSound : LruCache FrameKey Frame → Type 0
-IsSound frames = IsDistinct same_key (keys_of frames.entries) × (length frames.entries ≤ frames.cap) × (0 < frames.cap)
+abbrev pub IsSoundPool : LruCache FrameKey Frame → Type 0
+IsSoundPool frames = IsDistinct same_key (keys_of frames.entries) × (length frames.entries ≤ frames.cap) × (0 < frames.cap)

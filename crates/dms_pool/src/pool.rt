@@ -1,6 +1,6 @@
 ghost use Rattle.std.specs.List.{IsDistinct-prop};
 ghost use Rattle.std.proofs.Props.{props};
-ghost use Rattle.dms_pool.specs.Entries.{IsSound};
+ghost use Rattle.dms_pool.specs.Entries.{IsSoundPool};
 
 use crate::{Frame, FrameKey};
 use dms_base::Memory;
@@ -13,12 +13,12 @@ use std::num::NonZeroUsize;
 #[derive(Drop)]
 pub struct Pool {
     pub frames: LruCache<FrameKey, Frame>,
-    pub ghost sound: { IsSound frames } by { Prim.hlevel (props, IsDistinct-prop) },
+    pub ghost sound: { IsSoundPool frames } by { Prim.hlevel (props, IsDistinct-prop) },
 }
 
 impl Pool {
     ghost use Rattle.std.specs.Prelude.{◌≡◌, ◌<◌, [], IfNone, IfOk, IfSome, IsOk, IsSome, OnErr, OnOk, false, find, length, nat_lt, option_map, reverse, true};
-    ghost use Rattle.dms_pool.specs.Calls.{Cleans, GivesUp, HasRoom, IsEmpty, Looked, Puts, Same};
+    ghost use Rattle.dms_pool.specs.Calls.{Cleans, GivesUp, HasFrameFor, IsEmpty, Looked, PutsFrame, SamePool};
     ghost use Rattle.dms_pool.specs.Held.{frame_of, framed, is_dirty, most, order};
 
     /// A pool for so many blocks, of which none is held yet. The table takes its memory here, and a frame when its block
@@ -49,9 +49,9 @@ impl Pool {
     /// Holds a block, in place of what was held of it. It is then the most recently used. Fails only for a block that
     /// wasn't held, and then changes nothing.
     pub fn put(&mut self, id: BlockId, block: &Block, dirty: bool) -> Result<(), Memory>
-        requires { HasRoom id self.old }
-        ensures ok { OnOk result (Puts id (framed block.now dirty) self.old self.new) }
-        ensures err { OnErr result (Same self.old self.new) }
+        requires { HasFrameFor id self.old }
+        ensures ok { OnOk result (PutsFrame id (framed block.now dirty) self.old self.new) }
+        ensures err { OnErr result (SamePool self.old self.new) }
         ensures again { IsSome (frame_of id self.old) → IsOk result }
     {
         let frame = Frame {
@@ -65,7 +65,7 @@ impl Pool {
     /// Gives up the least recently used block, and says whether it is still to be written.
     pub fn evict(&mut self) -> Option<(BlockId, Block, bool)>
         ensures gives { IfSome result (λ e. GivesUp e.0 (framed e.1 e.2) self.old self.new) }
-        ensures none { IfNone result ((order self.old ≡ []) × Same self.old self.new) }
+        ensures none { IfNone result ((order self.old ≡ []) × SamePool self.old self.new) }
     {
         let (key, frame) = self.frames.pop_lru()?;
         Some((key.id(), frame.block, frame.dirty))

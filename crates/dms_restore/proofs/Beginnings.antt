@@ -6,8 +6,8 @@ use Rattle.dms_site.specs.Files.{Files, Left, Only, Same}
 use Rattle.dms_history.specs.History.{Pending}
 use Rattle.dms_history.specs.Pick.{count_at}
 use Rattle.dms_history.specs.Entries.{Kind, Entry, begin_restore, how_of, by_halt_load, by_back_out, by_roll_back, by_rebuild, by_reconstruct}
-use Rattle.dms_audrec.specs.Spelling.{IsKind}
-use Rattle.dms_audfile.specs.BlockLaws.{ArePlain}
+use Rattle.dms_audrec.specs.Spelling.{IsRestoreKind}
+use Rattle.dms_audfile.specs.BlockLaws.{AreNoBegins}
 use Rattle.dms_audfile.proofs.Growing.{writes_same}
 use Rattle.dms_audfile.specs.Ends as ends
 use Rattle.dms_audfile.specs.Ends.{EndsAt, Appends}
@@ -28,7 +28,7 @@ use Rattle.dms_restore.proofs.Tables.{table_stands}
 use Rattle.dms_restore.proofs.Logs.{Reads, tells, plain, entry_steps, same_telling, appended, ends_then, settles, sealing}
 
 -- a restore by the audit has a spelling
-pub kind_is : (kind : Kind) → ByAudit (how_of kind) → IsKind kind
+pub kind_is : (kind : Kind) → ByAudit (how_of kind) → IsRestoreKind kind
 kind_is by_halt_load by_audit = tt
 kind_is by_back_out by_audit = tt
 kind_is by_roll_back by_audit = tt
@@ -36,7 +36,7 @@ kind_is (by_rebuild d) by_audit = absurd by_audit
 kind_is (by_reconstruct d rows) by_audit = absurd by_audit
 
 -- a Begin never waits
-none_waits : (w : List Entry) (m : ℕ) (kind : Kind) (k : ℕ) → ArePlain (drop k (w ++ begin_restore m kind ∷ [])) → drop k (w ++ begin_restore m kind ∷ []) ≡ []
+none_waits : (w : List Entry) (m : ℕ) (kind : Kind) (k : ℕ) → AreNoBegins (drop k (w ++ begin_restore m kind ∷ [])) → drop k (w ++ begin_restore m kind ∷ []) ≡ []
 none_waits [] m kind zero plain = absurd (true_not_false plain.1)
   where
     true_not_false : true ≡ false → ⊥
@@ -45,7 +45,7 @@ none_waits [] m kind (suc zero) plain = refl
 none_waits [] m kind (suc (suc k)) plain = refl
 none_waits (e ∷ w) m kind zero plain = absurd (not_plain w plain.2)
   where
-    not_plain : (w : List Entry) → ArePlain (w ++ begin_restore m kind ∷ []) → ⊥
+    not_plain : (w : List Entry) → AreNoBegins (w ++ begin_restore m kind ∷ []) → ⊥
     not_plain [] plain = true_not_false plain.1
       where
         true_not_false : true ≡ false → ⊥
@@ -57,13 +57,13 @@ module _ (a : View) (r : LogRuns a) (read : Reads a) (m : ℕ) (kind : Kind) (by
   abbrev pub the_begin : Entry
   the_begin = begin_restore m kind
 
-  pub begin_leave : (later : Clock Left) → ((first : ℕ) (waiting : List Entry) → ArePlain waiting → EndsAt a.end first waiting a.files a.clock → Steps (ends.Seals a.end.total a.end.tag first (waiting ++ the_begin ∷ [])) a.clock later)
+  pub begin_leave : (later : Clock Left) → ((first : ℕ) (waiting : List Entry) → AreNoBegins waiting → EndsAt a.end first waiting a.files a.clock → Steps (ends.Seals a.end.total a.end.tag first (waiting ++ the_begin ∷ [])) a.clock later)
       → LeavesPoints (telling a) (points a) (next a) (state a) later
   begin_leave later steps = begin_goes (telling a) (tells a r read) (state a) r.runs read m kind by_audit at later (entry_steps a r read the_begin later steps)
 
   module _ (b : View) (same : b.end.total ≡ a.end.total) (start : b.first ≡ a.first)
-      (steps : (first : ℕ) (waiting : List Entry) → ArePlain waiting → EndsAt a.end first waiting a.files a.clock → Steps (ends.Seals a.end.total a.end.tag first (waiting ++ the_begin ∷ [])) a.clock b.clock)
-      (appends : (first : ℕ) (waiting : List Entry) → ArePlain waiting → EndsAt a.end first waiting a.files a.clock → Appends b.end first (waiting ++ the_begin ∷ []) a.files b.files b.clock)
+      (steps : (first : ℕ) (waiting : List Entry) → AreNoBegins waiting → EndsAt a.end first waiting a.files a.clock → Steps (ends.Seals a.end.total a.end.tag first (waiting ++ the_begin ∷ [])) a.clock b.clock)
+      (appends : (first : ℕ) (waiting : List Entry) → AreNoBegins waiting → EndsAt a.end first waiting a.files a.clock → Appends b.end first (waiting ++ the_begin ∷ []) a.files b.files b.clock)
       (behind : (g : ℕ) → b.end.file < g → b.files g ≡ a.files g) where
     more : Appends b.end a.first (waits a.end ++ the_begin ∷ []) a.files b.files b.clock
     more = appends a.first (waits a.end) (plain a r read) r.ends

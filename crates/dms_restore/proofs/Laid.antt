@@ -10,7 +10,7 @@ use Rattle.dms_history.specs.Schemas.{parts_of_schema, schema_entries}
 use Rattle.dms_history.specs.Plain.{blocks_seen}
 use Rattle.dms_audrec.specs.Spelling.{spelling, IsEntry}
 use Rattle.dms_audfile.specs.declared.audit_end.AuditEnd.{AuditEnd}
-use Rattle.dms_audfile.specs.BlockLaws.{ArePlain}
+use Rattle.dms_audfile.specs.BlockLaws.{AreNoBegins}
 use Rattle.dms_audfile.specs.TrailEntries.{trail_entries}
 use Rattle.dms_audfile.specs.Ends as ends
 use Rattle.dms_audfile.specs.Ends.{EndsAt, Appends}
@@ -28,7 +28,7 @@ lay_none end first files clock s =
     let none : waits end ≡ [] = waits_is end first [] files clock s.ends in
     record {
       ends = ends_waiting end first [] files clock s.ends;
-      plain = subst (λ (l : List Entry). ArePlain l) (sym none) tt;
+      plain = subst (λ (l : List Entry). AreNoBegins l) (sym none) tt;
       lays = lays_none (telling_of end.total first) (record { waiting = waits end; files = files; clock = clock }) s.only none;
     }
 
@@ -36,7 +36,7 @@ module _ (total : ℕ) (old new : AuditEnd) (first : ℕ) (done : List Entry) (s
   abbrev pub then_ : State
   then_ = record { waiting = waits old; files = files; clock = clock }
 
-  module _ (e : Entry) (later : Clock Left) (steps : (first : ℕ) (waiting : List Entry) → ArePlain waiting → EndsAt old first waiting files clock → Steps (ends.Seals old.total old.tag first (waiting ++ e ∷ [])) clock later) where
+  module _ (e : Entry) (later : Clock Left) (steps : (first : ℕ) (waiting : List Entry) → AreNoBegins waiting → EndsAt old first waiting files clock → Steps (ends.Seals old.total old.tag first (waiting ++ e ∷ [])) clock later) where
     entry_steps : Steps (Seals (telling_of total first) (waits old ++ e ∷ [])) clock later
     entry_steps = subst (λ n. Steps (Seals (telling_of n first) (waits old ++ e ∷ [])) clock later) same
         (seals_as old.total old.tag first (waits old ++ e ∷ []) clock later (steps first (waits old) l.plain l.ends))
@@ -46,7 +46,7 @@ module _ (total : ℕ) (old new : AuditEnd) (first : ℕ) (done : List Entry) (s
     lay_since = lays_since (telling_of total first) done start began then_ l.lays (e ∷ []) later entry_steps
 
     pub lay_one : (now : Files) → new.total ≡ old.total → ((g : ℕ) → new.file < g → now g ≡ files g)
-        → ((first : ℕ) (waiting : List Entry) → ArePlain waiting → EndsAt old first waiting files clock → Appends new first (waiting ++ e ∷ []) files now later)
+        → ((first : ℕ) (waiting : List Entry) → AreNoBegins waiting → EndsAt old first waiting files clock → Appends new first (waiting ++ e ∷ []) files now later)
         → LaysEnd total new first (done ++ e ∷ []) start began now later
     lay_one now kind behind appends =
         let more = appends first (waits old) l.plain l.ends in
@@ -54,7 +54,7 @@ module _ (total : ℕ) (old new : AuditEnd) (first : ℕ) (done : List Entry) (s
         let ends_then : EndsAt new first (waits new) now later = ends_waiting new first (drop more.some (waits old ++ e ∷ [])) now later more.ends in
         record {
           ends = ends_then;
-          plain = subst (λ (k : List Entry). ArePlain k) (sym (waits_is new first (drop more.some (waits old ++ e ∷ [])) now later more.ends)) more.plain;
+          plain = subst (λ (k : List Entry). AreNoBegins k) (sym (waits_is new first (drop more.some (waits old ++ e ∷ [])) now later more.ends)) more.plain;
           lays = lays_more (telling_of total first) done start began then_ l.lays (e ∷ []) (record { waiting = waits new; files = now; clock = later }) entry_steps
               (subst (λ n. Settled (telling_of n first) now later) at (settled_as new first (waits new) now later ends_then))
               (appended_as total new first (waits old ++ e ∷ []) files now later at behind more);

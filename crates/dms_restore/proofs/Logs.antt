@@ -3,19 +3,19 @@ use Rattle.std.proofs.Common.{ℕ, ◌+◌, ◌*◌, ◌^◌, ◌<◌, ◌≡◌
 use Rattle.dms_moments.specs.Moments.{Clock, Now, Steps}
 use Rattle.dms_site.specs.Files.{Files, Left, InFile, Torn, OnDisk}
 use Rattle.dms_history.specs.Events.{Block}
-use Rattle.dms_history.specs.Replay.{Tells}
+use Rattle.dms_history.specs.Replay.{TellsBefore}
 use Rattle.dms_history.specs.Entries.{Entry, image, quiet_point}
-use Rattle.dms_audfile.specs.BlockLaws.{ArePlain}
+use Rattle.dms_audfile.specs.BlockLaws.{AreNoBegins}
 use Rattle.dms_audfile.specs.TrailEntries.{trail_entries}
 use Rattle.dms_audfile.specs.Ends as ends
 use Rattle.dms_audfile.specs.Ends.{EndsAt, Appends}
 use Rattle.dms_running.specs.Telling.{Telling, IsTelling}
 use Rattle.dms_running.specs.Sealing.{Seals, Appended, IsSealed, Settled}
-use Rattle.dms_running.specs.Running.{entries_now, points_now, next_now, content_now, sure_now, LeavesPoints, IsRunning}
-use Rattle.dms_running.proofs.Appending.{log_leaves, log_runs, log_next, log_points, log_content, quiet_leaves, quiet_runs, quiet_next, quiet_points, quiet_content, sync_leaves, sync_runs, sync_points, sync_next, sync_content, sync_surer, sync_sure, sync_entries}
-use Rattle.dms_running.proofs.Early.{early_leaves, early_runs, early_points, early_next, early_content, early_sure, later_all}
+use Rattle.dms_running.specs.Running.{entries_now, points_now, next_now, content_now, durable_now, LeavesPoints, IsRunning}
+use Rattle.dms_running.proofs.Appending.{log_leaves, log_runs, log_next, log_points, log_content, quiet_leaves, quiet_runs, quiet_next, quiet_points, quiet_content, sync_leaves, sync_runs, sync_points, sync_next, sync_content, sync_surer, sync_durable, sync_entries}
+use Rattle.dms_running.proofs.Early.{early_leaves, early_runs, early_points, early_next, early_content, early_durable, later_all}
 use Rattle.dms_running.proofs.Stopped.{joined, blocks_same}
-use Rattle.dms_restore.specs.Logging.{telling_of, waits, View, view, telling, state, Ends, LogRuns, points, sure, here, next, content, Logged, LogsImage, LogsQuiet, LogsNothing, LogsWrite}
+use Rattle.dms_restore.specs.Logging.{telling_of, waits, View, view, telling, state, Ends, LogRuns, points, durable, here, next, content, Logged, LogsImage, LogsQuiet, LogsNothing, LogsWrite}
 use Rattle.dms_restore.proofs.Trails.{is_telling, first_low, waits_is, ends_waiting, plain_waits, seals_as, appended_as, sealed_as, settled_as, ends_written}
 
 -- what is read of it
@@ -26,11 +26,11 @@ module _ (a : View) (r : LogRuns a) (read : Reads a) where
   pub tells : IsTelling (telling a)
   tells = is_telling a.end.total a.first (first_low a.end a.first (waits a.end) a.files a.clock r.ends)
 
-  pub plain : ArePlain (waits a.end)
+  pub plain : AreNoBegins (waits a.end)
   plain = plain_waits (waits a.end) r.runs.plain r.ends.kind
 
   -- the moments of an entry more
-  pub entry_steps : (e : Entry) (later : Clock Left) → ((first : ℕ) (waiting : List Entry) → ArePlain waiting → EndsAt a.end first waiting a.files a.clock → Steps (ends.Seals a.end.total a.end.tag first (waiting ++ e ∷ [])) a.clock later)
+  pub entry_steps : (e : Entry) (later : Clock Left) → ((first : ℕ) (waiting : List Entry) → AreNoBegins waiting → EndsAt a.end first waiting a.files a.clock → Steps (ends.Seals a.end.total a.end.tag first (waiting ++ e ∷ [])) a.clock later)
       → Steps (Seals (telling a) (waits a.end ++ e ∷ [])) a.clock later
   entry_steps e later steps = seals_as a.end.total a.end.tag a.first (waits a.end ++ e ∷ []) a.clock later (steps a.first (waits a.end) plain r.ends)
 
@@ -39,8 +39,8 @@ module _ (a : View) (r : LogRuns a) (read : Reads a) where
     same_telling = λ i. telling_of (sym kind i) (sym start i)
 
     -- an entry was appended
-    module _ (e : Entry) (steps : (first : ℕ) (waiting : List Entry) → ArePlain waiting → EndsAt a.end first waiting a.files a.clock → Steps (ends.Seals a.end.total a.end.tag first (waiting ++ e ∷ [])) a.clock b.clock)
-        (appends : (first : ℕ) (waiting : List Entry) → ArePlain waiting → EndsAt a.end first waiting a.files a.clock → Appends b.end first (waiting ++ e ∷ []) a.files b.files b.clock)
+    module _ (e : Entry) (steps : (first : ℕ) (waiting : List Entry) → AreNoBegins waiting → EndsAt a.end first waiting a.files a.clock → Steps (ends.Seals a.end.total a.end.tag first (waiting ++ e ∷ [])) a.clock b.clock)
+        (appends : (first : ℕ) (waiting : List Entry) → AreNoBegins waiting → EndsAt a.end first waiting a.files a.clock → Appends b.end first (waiting ++ e ∷ []) a.files b.files b.clock)
         (behind : (g : ℕ) → b.end.file < g → b.files g ≡ a.files g) where
       more : Appends b.end a.first (waits a.end ++ e ∷ []) a.files b.files b.clock
       more = appends a.first (waits a.end) plain r.ends
@@ -86,11 +86,11 @@ module _ (a : View) (r : LogRuns a) (read : Reads a) where
         points_same = ap (λ (t : Telling). points_now t (state b)) (sym same_telling) ∙ sync_points (telling a) tells (state a) r.runs read (state b) is_sealed nothing_waits;
         next_same = ap (λ (t : Telling). next_now t (state b)) (sym same_telling) ∙ sync_next (telling a) tells (state a) r.runs read (state b) is_sealed nothing_waits;
         content_same = ap (λ (t : Telling). content_now t (state b)) (sym same_telling) ∙ sync_content (telling a) tells (state a) r.runs read (state b) is_sealed nothing_waits;
-        surer = omega (arith, sync_surer (telling a) tells (state a) r.runs read (state b) is_sealed nothing_waits, ap (λ (t : Telling). sure_now t (state b)) same_telling);
+        surer = omega (arith, sync_surer (telling a) tells (state a) r.runs read (state b) is_sealed nothing_waits, ap (λ (t : Telling). durable_now t (state b)) same_telling);
       }
 
-      pub sync_all_sure : sure b ≡ length (points a)
-      sync_all_sure = ap (λ (t : Telling). sure_now t (state b)) (sym same_telling) ∙ sync_sure (telling a) tells (state a) r.runs read (state b) is_sealed nothing_waits
+      pub sync_all_durable : durable b ≡ length (points a)
+      sync_all_durable = ap (λ (t : Telling). durable_now t (state b)) (sym same_telling) ∙ sync_durable (telling a) tells (state a) r.runs read (state b) is_sealed nothing_waits
 
   -- what a stop leaves while what waits is sealed
   pub sync_leave : (later : Clock Left) → ((first : ℕ) (waiting : List Entry) → EndsAt a.end first waiting a.files a.clock → Steps (ends.Seals a.end.total a.end.tag first waiting) a.clock later)
@@ -99,15 +99,15 @@ module _ (a : View) (r : LogRuns a) (read : Reads a) where
 
   -- ---- an Image
 
-  module _ (f k : ℕ) (before : Option Block) (after : Block) (told : Tells k before (content a f)) (sized : length after ≡ 1024) (e : Entry) (is : e ≡ image f k before after) where
-    pub image_leave : (later : Clock Left) → ((first : ℕ) (waiting : List Entry) → ArePlain waiting → EndsAt a.end first waiting a.files a.clock → Steps (ends.Seals a.end.total a.end.tag first (waiting ++ e ∷ [])) a.clock later)
+  module _ (f k : ℕ) (before : Option Block) (after : Block) (told : TellsBefore k before (content a f)) (sized : length after ≡ 1024) (e : Entry) (is : e ≡ image f k before after) where
+    pub image_leave : (later : Clock Left) → ((first : ℕ) (waiting : List Entry) → AreNoBegins waiting → EndsAt a.end first waiting a.files a.clock → Steps (ends.Seals a.end.total a.end.tag first (waiting ++ e ∷ [])) a.clock later)
         → LeavesPoints (telling a) (points a) (next a) (state a) later
     image_leave later steps = log_leaves (telling a) tells (state a) r.runs read f k before after told sized later
         (subst (λ (d : Entry). Steps (Seals (telling a) (waits a.end ++ d ∷ [])) a.clock later) is (entry_steps e later steps))
 
     module _ (b : View) (kind : b.end.total ≡ a.end.total) (start : b.first ≡ a.first)
-        (steps : (first : ℕ) (waiting : List Entry) → ArePlain waiting → EndsAt a.end first waiting a.files a.clock → Steps (ends.Seals a.end.total a.end.tag first (waiting ++ e ∷ [])) a.clock b.clock)
-        (appends : (first : ℕ) (waiting : List Entry) → ArePlain waiting → EndsAt a.end first waiting a.files a.clock → Appends b.end first (waiting ++ e ∷ []) a.files b.files b.clock)
+        (steps : (first : ℕ) (waiting : List Entry) → AreNoBegins waiting → EndsAt a.end first waiting a.files a.clock → Steps (ends.Seals a.end.total a.end.tag first (waiting ++ e ∷ [])) a.clock b.clock)
+        (appends : (first : ℕ) (waiting : List Entry) → AreNoBegins waiting → EndsAt a.end first waiting a.files a.clock → Appends b.end first (waiting ++ e ∷ []) a.files b.files b.clock)
         (behind : (g : ℕ) → b.end.file < g → b.files g ≡ a.files g) where
       image_more : Appended (telling a) (waits a.end ++ image f k before after ∷ []) a.files b.files (waits b.end)
       image_more = subst (λ (d : Entry). Appended (telling a) (waits a.end ++ d ∷ []) a.files b.files (waits b.end)) is (appended b kind start e steps appends behind)
@@ -138,14 +138,14 @@ module _ (a : View) (r : LogRuns a) (read : Reads a) where
     numbered : quiet_point n ≡ quiet_point (next a)
     numbered = ap (λ k. quiet_point k) same
 
-    pub quiet_leave : (later : Clock Left) → ((first : ℕ) (waiting : List Entry) → ArePlain waiting → EndsAt a.end first waiting a.files a.clock → Steps (ends.Seals a.end.total a.end.tag first (waiting ++ quiet_point n ∷ [])) a.clock later)
+    pub quiet_leave : (later : Clock Left) → ((first : ℕ) (waiting : List Entry) → AreNoBegins waiting → EndsAt a.end first waiting a.files a.clock → Steps (ends.Seals a.end.total a.end.tag first (waiting ++ quiet_point n ∷ [])) a.clock later)
         → LeavesPoints (telling a) (points a ++ here a ∷ []) (next a + 1) (state a) later
     quiet_leave later steps = quiet_leaves (telling a) tells (state a) r.runs read roomy later
         (subst (λ (d : Entry). Steps (Seals (telling a) (waits a.end ++ d ∷ [])) a.clock later) numbered (entry_steps (quiet_point n) later steps))
 
     module _ (b : View) (kind : b.end.total ≡ a.end.total) (start : b.first ≡ a.first)
-        (steps : (first : ℕ) (waiting : List Entry) → ArePlain waiting → EndsAt a.end first waiting a.files a.clock → Steps (ends.Seals a.end.total a.end.tag first (waiting ++ quiet_point n ∷ [])) a.clock b.clock)
-        (appends : (first : ℕ) (waiting : List Entry) → ArePlain waiting → EndsAt a.end first waiting a.files a.clock → Appends b.end first (waiting ++ quiet_point n ∷ []) a.files b.files b.clock)
+        (steps : (first : ℕ) (waiting : List Entry) → AreNoBegins waiting → EndsAt a.end first waiting a.files a.clock → Steps (ends.Seals a.end.total a.end.tag first (waiting ++ quiet_point n ∷ [])) a.clock b.clock)
+        (appends : (first : ℕ) (waiting : List Entry) → AreNoBegins waiting → EndsAt a.end first waiting a.files a.clock → Appends b.end first (waiting ++ quiet_point n ∷ []) a.files b.files b.clock)
         (behind : (g : ℕ) → b.end.file < g → b.files g ≡ a.files g) where
       quiet_more : Appended (telling a) (waits a.end ++ quiet_point (next a) ∷ []) a.files b.files (waits b.end)
       quiet_more = subst (λ (d : Entry). Appended (telling a) (waits a.end ++ d ∷ []) a.files b.files (waits b.end)) numbered (appended b kind start (quiet_point n) steps appends behind)
@@ -185,7 +185,7 @@ module _ (a : View) (r : LogRuns a) (read : Reads a) where
 
       pub early_keeps : Reads then_ → LogsWrite a then_
       early_keeps reads = record {
-        sure_same = early_sure (telling a) tells (state a) r.runs read f k structure logged (state then_) refl step steps reads;
+        durable_same = early_durable (telling a) tells (state a) r.runs read f k structure logged (state then_) refl step steps reads;
         entries_same = later_all (telling a) tells (state a) r.runs read f k structure logged (state then_) refl step;
         points_same = early_points (telling a) tells (state a) r.runs read f k structure logged (state then_) refl step steps reads;
         next_same = early_next (telling a) tells (state a) r.runs read f k structure logged (state then_) refl step;

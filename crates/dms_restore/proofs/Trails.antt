@@ -13,7 +13,7 @@ use Rattle.dms_audrec.specs.Seen.{entry_seen}
 use Rattle.dms_audfile.specs.declared.audit_end.AuditEnd.{AuditEnd}
 use Rattle.dms_audfile.specs.Gates.{sealed, is_full}
 use Rattle.dms_audfile.specs.Blocks.{is_begin, block_entries}
-use Rattle.dms_audfile.specs.BlockLaws.{spellings, ArePlain, IsAlone, entered_at}
+use Rattle.dms_audfile.specs.BlockLaws.{spellings, AreNoBegins, IsAlone, entered_at}
 use Rattle.dms_audfile.specs.Unsealed.{block_with}
 use Rattle.dms_audfile.specs.Trail.{trail_from}
 use Rattle.dms_audfile.specs.TrailEntries.{entry_of, entries_of, entries_in, trail_entries}
@@ -69,10 +69,10 @@ not_begun (control_point n next counts) plain = refl
 not_begun (begin_restore n kind) plain = absurd plain.0
 
 -- what waits of a running database is in the grammar, and no Begin
-pub plain_waits : (w : List Entry) → AllPlain w → ArePlain w ⊎ IsAlone w → ArePlain w
+pub plain_waits : (w : List Entry) → AllPlain w → AreNoBegins w ⊎ IsAlone w → AreNoBegins w
 plain_waits w plain kind = elim kind [
   | inl all ↦ all
-  | inr one ↦ subst (λ (l : List Entry). ArePlain l) (sym one.is) (one.fits, not_begun one.entry (subst AllPlain one.is plain), tt)
+  | inr one ↦ subst (λ (l : List Entry). AreNoBegins l) (sym one.is) (one.fits, not_begun one.entry (subst AllPlain one.is plain), tt)
 ]
 
 -- ---- the moments and answers of the audit

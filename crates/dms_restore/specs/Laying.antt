@@ -9,7 +9,7 @@ use Rattle.dms_history.specs.Plain.{blocks_seen}
 use Rattle.dms_audrec.specs.Spelling.{spelling, IsEntry}
 use Rattle.dms_audrec.specs.Reading.{counts_at}
 use Rattle.dms_audfile.specs.declared.audit_end.AuditEnd.{AuditEnd}
-use Rattle.dms_audfile.specs.BlockLaws.{ArePlain}
+use Rattle.dms_audfile.specs.BlockLaws.{AreNoBegins}
 use Rattle.dms_audfile.specs.TrailEntries.{trail_entries}
 use Rattle.dms_audfile.specs.Ends.{EndsAt}
 use Rattle.dms_running.specs.Plans.{Lays}
@@ -32,7 +32,7 @@ pub record Starts (end : AuditEnd) (first : ℕ) (files : Files) (clock : Clock 
 -- These entries were appended since a start.
 pub record LaysEnd (total : ℕ) (end : AuditEnd) (first : ℕ) (done : List Entry) (start : Files) (began : Clock Left) (files : Files) (clock : Clock Left) : Type 0 where
   pub ends : EndsAt end first (waits end) files clock
-  pub plain : ArePlain (waits end)
+  pub plain : AreNoBegins (waits end)
   pub lays : Lays (telling_of total first) done start began (record { waiting = waits end; files = files; clock = clock })
 
 -- These entries were sealed since a start, and it is one again.

@@ -13,7 +13,7 @@ use Rattle.dms_audfile.specs.Unsealed.{block_with}
 use Rattle.dms_audfile.specs.TrailEntries.{entries_of, trail_entries}
 use Rattle.dms_audfile.specs.Ends.{unsealed, EndsAt}
 use Rattle.dms_running.specs.Telling.{Telling}
-use Rattle.dms_running.specs.Running.{State, entries_now, next_now, points_now, sure_now, here_now, content_now, IsRunning, IsLogged, IsChanged, LeavesPoints}
+use Rattle.dms_running.specs.Running.{State, entries_now, next_now, points_now, durable_now, here_now, content_now, IsRunning, IsLogged, IsChanged, LeavesPoints}
 
 -- No dump is read yet: while no restore by a dump is pending, none counts.
 abbrev pub dumps_in : Files → Dumps
@@ -56,8 +56,8 @@ pub record LogRuns (v : View) : Type 0 where
 abbrev pub points : View → List LivePoint
 points v = points_now (telling v) (state v)
 
-abbrev pub sure : View → ℕ
-sure v = sure_now (telling v) (state v)
+abbrev pub durable : View → ℕ
+durable v = durable_now (telling v) (state v)
 
 abbrev pub here : View → LivePoint
 here v = here_now (telling v) (state v)
@@ -75,7 +75,7 @@ Logged v f b = IsLogged (telling v) v.files f b
 abbrev pub Changed : View → ℕ → ℕ → Type 0
 Changed v f b = IsChanged (telling v) (state v) f b
 
--- A stop from then to now left the first so many of these points, at least those that were sure then, or what it could leave then.
+-- A stop from then to now left the first so many of these points, at least those that were durable then, or what it could leave then.
 abbrev pub Leaves : View → View → List LivePoint → ℕ → Type 0
 Leaves a b points next = LeavesPoints (telling a) points next (state a) b.clock
 
@@ -99,19 +99,19 @@ pub record LogsQuiet (a b : View) : Type 0 where
   pub content_same : content b ≡ content a
   pub blocks_same : stored_of b.files ≡ stored_of a.files
 
--- Entries, points, next number and content are the same, no fewer points are sure, and no structure file changed.
+-- Entries, points, next number and content are the same, no fewer points are durable, and no structure file changed.
 pub record LogsNothing (a b : View) : Type 0 where
   pub entries_same : entries b ≡ entries a
   pub points_same : points b ≡ points a
   pub next_same : next b ≡ next a
   pub content_same : content b ≡ content a
   pub blocks_same : stored_of b.files ≡ stored_of a.files
-  pub surer : sure a ≤ sure b
+  pub surer : durable a ≤ durable b
 
--- Entries, points, next number and content are the same, and as many points are sure.
+-- Entries, points, next number and content are the same, and as many points are durable.
 pub record LogsWrite (a b : View) : Type 0 where
   pub entries_same : entries b ≡ entries a
   pub points_same : points b ≡ points a
   pub next_same : next b ≡ next a
   pub content_same : content b ≡ content a
-  pub sure_same : sure b ≡ sure a
+  pub durable_same : durable b ≡ durable a

@@ -4,9 +4,9 @@ ghost use Rattle.std.specs.Prelude.{◌≡◌, ◌⊎◌, ◌+◌, ◌*◌, ◌^
 ghost use Rattle.std.specs.Option.{option_copied};
 ghost use Rattle.dms_base.specs.Causes.{HasCause};
 ghost use Rattle.dms_site.specs.Files.{with_file, overlaid};
-ghost use Rattle.dms_history.specs.Replay.{Tells};
+ghost use Rattle.dms_history.specs.Replay.{TellsBefore};
 ghost use Rattle.dms_audfile.specs.Counting.{CountedAt};
-ghost use Rattle.dms_restore.specs.Logging.{waits, view, LogRuns, points, sure, here, next, content, Logged, Leaves, LogsImage, LogsQuiet, LogsNothing, LogsWrite};
+ghost use Rattle.dms_restore.specs.Logging.{waits, view, LogRuns, points, durable, here, next, content, Logged, Leaves, LogsImage, LogsQuiet, LogsNothing, LogsWrite};
 
 use dms_audfile::{AudFault, AuditEnd};
 use dms_audrec::Entry;
@@ -32,7 +32,7 @@ impl<S: Site> Log<S> {
         after: &[u8],
     ) -> Result<(), AudFault>
         requires runs { IsTrue S.tells → LogRuns (view self.old.end self.old.first (S.files self.old.site) (S.clock self.old.site)) }
-        requires tells { IsTrue S.tells → Tells block (option_copied before) (content (view self.old.end self.old.first (S.files self.old.site) (S.clock self.old.site)) file) }
+        requires tells { IsTrue S.tells → TellsBefore block (option_copied before) (content (view self.old.end self.old.first (S.files self.old.site) (S.clock self.old.site)) file) }
         requires file { (30001 ≤ file) × (file ≤ 30200) }
         requires block { block < 2097152 }
         requires before { IfSome before (λ b. length b.now ≡ 1024) }
@@ -71,12 +71,12 @@ impl<S: Site> Log<S> {
         self.end.append(&mut self.site, &Entry::Quiet(number))
     }
 
-    /// Seals all that waits: every point so far is sure. Answers Disk alone, where a call of the site failed.
+    /// Seals all that waits: every point so far is durable. Answers Disk alone, where a call of the site failed.
     pub fn sync(&mut self) -> Result<(), AudFault>
         requires runs { IsTrue S.tells → LogRuns (view self.old.end self.old.first (S.files self.old.site) (S.clock self.old.site)) }
         ensures runs { OnOk result (IsTrue S.tells → LogRuns (view self.new.end self.new.first (S.files self.new.site) (S.clock self.new.site))) }
         ensures same { OnOk result (IsTrue S.tells → LogsNothing (view self.old.end self.old.first (S.files self.old.site) (S.clock self.old.site)) (view self.new.end self.new.first (S.files self.new.site) (S.clock self.new.site))) }
-        ensures sure { OnOk result (IsTrue S.tells → sure (view self.new.end self.new.first (S.files self.new.site) (S.clock self.new.site)) ≡ length (points (view self.old.end self.old.first (S.files self.old.site) (S.clock self.old.site)))) }
+        ensures durable { OnOk result (IsTrue S.tells → durable (view self.new.end self.new.first (S.files self.new.site) (S.clock self.new.site)) ≡ length (points (view self.old.end self.old.first (S.files self.old.site) (S.clock self.old.site)))) }
         ensures waits { OnOk result (IsTrue S.tells → waits self.new.end ≡ []) }
         ensures moments { IsTrue S.tells → let a = view self.old.end self.old.first (S.files self.old.site) (S.clock self.old.site) in Leaves a (view self.new.end self.new.first (S.files self.new.site) (S.clock self.new.site)) (points a) (next a) }
         ensures kind { (self.new.end.total ≡ self.old.end.total) × (self.new.end.tag ≡ self.old.end.tag) × (self.new.end.limit ≡ self.old.end.limit) × (self.new.first ≡ self.old.first) }

@@ -8,7 +8,7 @@ use Rattle.dms_storeverbs.specs.declared.engine.Engine.{Engine}
 use Rattle.dms_storeverbs.specs.View.{seen, Lasts, Lasted}
 use Rattle.dms_storeverbs.proofs.Lasting.{lasts_on}
 use Rattle.dms_runner.specs.declared.run.RunFault.{RunFault}
-use Rattle.dms_runner.specs.Blaming.{BlamedBy, LastsRun}
+use Rattle.dms_runner.specs.Blaming.{IsBlamedOn, LastsRun}
 
 module _ {St : Type 0} {g : Ghosts St} {T : Type 0} {a b c : Engine St g} (then_ : (x y z : St) → g.same_store x y → g.same_store y z → g.same_store x z) where
   pub run_on_lasts : {x : T} → Lasted a b → LastsRun (Ok x) b c → Lasted a c
@@ -23,7 +23,7 @@ module _ {St : Type 0} {g : Ghosts St} {T : Type 0} {a b c : Engine St g} (then_
     desc = q.desc ∙ p.causes.desc;
     whole = λ files w. p.causes.whole files (q.whole files w);
     whole_on = λ files w. q.whole_on files (p.causes.whole_on files w);
-    cause = subst (λ (x : Faults). BlamedBy r x (seen c).faults) p.causes.cause q.cause;
+    cause = subst (λ (x : Faults). IsBlamedOn r x (seen c).faults) p.causes.cause q.cause;
     reads = omega (arith, p.causes.reads, q.reads);
   }
 

@@ -7,7 +7,7 @@ use Rattle.dms_block.specs.declared.block_fault.BlockFault.TheVariants.{Disk, Me
 use Rattle.dms_block.specs.Counts.{Faults, CausedBy}
 use Rattle.dms_block.specs.Faults.{Undamaged}
 use Rattle.dms_model.specs.declared.program.Program.{Program}
-use Rattle.dms_model.specs.Seen.{Seen, IsMute, IsSilent, Keeps, SaysPart, StaysSure}
+use Rattle.dms_model.specs.Seen.{Seen, IsMute, IsSilent, Keeps, SaysPart, StaysDurable}
 use Rattle.std.proofs.Common.{ℕ, ◌≡◌, ◌≤◌, ◌+◌, List, [], ◌∷◌, ◌++◌, length, take, map, Some, None, refl, sym, ◌∙◌, ap, subst, arith, append_assoc, length-append, Bool, true, false}
 use Rattle.std.specs.declared.option.Option.{Option}
 use Rattle.std.proofs.lemmas.List.{append-nil, map-append, length-map, take-append-le, take_all}
@@ -17,64 +17,64 @@ use Rattle.dms_moments.specs.Moments.{Runs}
 use Rattle.dms_moments.specs.MomentLaws.{runs_none, runs_on, runs_weaken}
 use Rattle.dms_model.specs.declared.reply.Answer.{Answer}
 use Rattle.dms_model.specs.Db.{Db}
-use Rattle.dms_model.specs.Points.{Files, Point, Quiet, Stop, Front, TextIs, TextGrows, LeavesText, Leaves, Stays, told, known}
-use Rattle.dms_block.specs.Texts.{Prints, PrintsFront}
+use Rattle.dms_model.specs.Points.{Files, Point, Quiet, Stop, LeavesPrefix, TextIs, TextGrows, LeavesText, Leaves, Stays, told, known}
+use Rattle.dms_block.specs.Texts.{Prints, PrintsPrefix}
 use Rattle.dms_desc.specs.Shape.{Described}
 use Rattle.dms_model.specs.declared.verb.Verb.{Verb}
 use Rattle.dms_model.specs.Session.{Session, Outcome, ended, step}
-use Rattle.dms_storeverbs.specs.Laws.{Makes}
+use Rattle.dms_storeverbs.specs.Laws.{MakesWhereQuiet}
 use Rattle.dms_storeverbs.proofs.Quiet.{quiet_rule}
-use Rattle.dms_storeverbs.specs.View.{View, Did, Grew, Left, Made, Stands, view_of}
+use Rattle.dms_storeverbs.specs.View.{View, PerformsCall, PointsGrow, LeavesPoints, MakesPoints, StandsFor, view_of}
 use Rattle.dms_storeverbs.proofs.Calls.{lower, stays}
-use Rattle.dms_runner.specs.Events.{IsTold, Event, calls, says, goes_back, text_of, quiets_of, covered, sure_after, Stops, CutOff, SaidWhole, Ran, RanPart}
+use Rattle.dms_runner.specs.Events.{IsTold, RunEvent, calls, says, goes_back, text_of, quiets_of, durable_by, durable_after, CrashesFrom, IsCutShort, SaidWhole, Performs, PerformsPrefix}
 use Rattle.dms_runner.proofs.Texts.{prints_none, prints_on, front_none, front_all, front_of_first, front_on}
 
-pub text_on : (x y : List Event) → text_of (x ++ y) ≡ text_of x ++ text_of y
+pub text_on : (x y : List RunEvent) → text_of (x ++ y) ≡ text_of x ++ text_of y
 text_on [] y = refl
 text_on (e ∷ x) y = ap (λ (t : List ℕ). e.text ++ t) (text_on x y) ∙ sym (append_assoc e.text (text_of x) (text_of y))
 
-pub quiets_on : (x y : List Event) → quiets_of (x ++ y) ≡ quiets_of x ++ quiets_of y
+pub quiets_on : (x y : List RunEvent) → quiets_of (x ++ y) ≡ quiets_of x ++ quiets_of y
 quiets_on [] y = refl
 quiets_on (e ∷ x) y = ap (λ (q : List Quiet). e.quiets ++ q) (quiets_on x y) ∙ sym (append_assoc e.quiets (quiets_of x) (quiets_of y))
 
-count_on : (c d e : ℕ) (s : ℕ) (y : List Event) → c + d ≡ e → sure_after e s y ≡ sure_after (c + d) s y
-count_on c d e s y same = ap (λ (n : ℕ). sure_after n s y) (sym same)
+count_on : (c d e : ℕ) (s : ℕ) (y : List RunEvent) → c + d ≡ e → durable_after e s y ≡ durable_after (c + d) s y
+count_on c d e s y same = ap (λ (n : ℕ). durable_after n s y) (sym same)
 
-pub sure_on : (c s : ℕ) (x y : List Event) → sure_after c s (x ++ y) ≡ sure_after (c + length (quiets_of x)) (sure_after c s x) y
-sure_on c s [] y = let e : c ≡ c + 0 = omega arith in ap (λ (n : ℕ). sure_after n s y) e
-sure_on c s (e ∷ x) y =
+pub durable_on : (c s : ℕ) (x y : List RunEvent) → durable_after c s (x ++ y) ≡ durable_after (c + length (quiets_of x)) (durable_after c s x) y
+durable_on c s [] y = let e : c ≡ c + 0 = omega arith in ap (λ (n : ℕ). durable_after n s y) e
+durable_on c s (e ∷ x) y =
     let n = c + length e.quiets in
     let same : n + length (quiets_of x) ≡ c + length (e.quiets ++ quiets_of x) = omega (arith, length-append e.quiets (quiets_of x)) in
-    sure_on n (covered e.sync s n) x y ∙ ap (λ (k : ℕ). sure_after k (sure_after n (covered e.sync s n) x) y) same
+    durable_on n (durable_by e.sync s n) x y ∙ ap (λ (k : ℕ). durable_after k (durable_after n (durable_by e.sync s n) x) y) same
 
-covered_low : (sync : Option ℕ) (low high all : ℕ) → low ≤ high → covered sync low all ≤ covered sync high all
+covered_low : (sync : Option ℕ) (low high all : ℕ) → low ≤ high → durable_by sync low all ≤ durable_by sync high all
 covered_low None low high all under = under
 covered_low (Some n) low high all under = omega arith
 
--- where more is sure before, more is sure behind
-pub sure_low : (c low high : ℕ) (x : List Event) → low ≤ high → sure_after c low x ≤ sure_after c high x
-sure_low c low high [] under = under
-sure_low c low high (e ∷ x) under = sure_low (c + length e.quiets) (covered e.sync low (c + length e.quiets)) (covered e.sync high (c + length e.quiets)) x (covered_low e.sync low high (c + length e.quiets) under)
+-- where more is durable before, more is durable behind
+pub durable_low_at : (c low high : ℕ) (x : List RunEvent) → low ≤ high → durable_after c low x ≤ durable_after c high x
+durable_low_at c low high [] under = under
+durable_low_at c low high (e ∷ x) under = durable_low_at (c + length e.quiets) (durable_by e.sync low (c + length e.quiets)) (durable_by e.sync high (c + length e.quiets)) x (covered_low e.sync low high (c + length e.quiets) under)
 
-pub grew_none : (p : List Point) → Grew p [] p
+pub grew_none : (p : List Point) → PointsGrow p [] p
 grew_none p = record { more = []; is = sym (append-nil p); spells = refl }
 
-pub grew_on : {a b c : List Point} {q r : List Quiet} → Grew a q b → Grew b r c → Grew a (q ++ r) c
+pub grew_on : {a b c : List Point} {q r : List Quiet} → PointsGrow a q b → PointsGrow b r c → PointsGrow a (q ++ r) c
 grew_on {a} {q = q} {r = r} x y = record {
   more = x.more ++ y.more;
   is = y.is ∙ ap (λ (l : List Point). l ++ y.more) x.is ∙ append_assoc a x.more y.more;
   spells = map-append told x.more y.more ∙ ap (λ (l : List (ℕ × Option Db)). l ++ map told y.more) x.spells ∙ ap (λ (l : List (ℕ × Option Db)). map known q ++ l) y.spells ∙ sym (map-append known q r);
 }
 
-pub length_grew : {a b : List Point} {q : List Quiet} → Grew a q b → length b ≡ length a + length q
+pub length_grew : {a b : List Point} {q : List Quiet} → PointsGrow a q b → length b ≡ length a + length q
 length_grew {a} {b} {q} x = omega (arith, ap length x.is, length-append a x.more, length-map x.more told, ap length x.spells, length-map q known)
 
 -- what is left of later points is left of all
-pub left_on : {V W : Files → Type 0} {a b : List Point} {q r : List Quiet} {low high m n : ℕ} {stop : Stop} → ((files : Files) → V files → W files) → Grew a q b → low ≤ high → m + length q ≤ n → Left V high b n r stop → Left W low a m (q ++ r) stop
+pub left_on : {V W : Files → Type 0} {a b : List Point} {q r : List Quiet} {low high m n : ℕ} {stop : Stop} → ((files : Files) → V files → W files) → PointsGrow a q b → low ≤ high → m + length q ≤ n → LeavesPoints V high b n r stop → LeavesPoints W low a m (q ++ r) stop
 left_on {q = q} whole grew under fell l = record { made = q ++ l.made; rest = l.rest; all = l.all; front_of = append_assoc q l.made l.rest ∙ ap (λ (x : List Quiet). q ++ x) l.front_of; grew = grew_on grew l.grew; front = lower whole under (omega (arith, fell, length-append q l.made)) l.front }
 
 -- what is told before is told behind
-told_on : {a b : Seen} {x : List Event} → Ran a b x → a.tells → b.tells
+told_on : {a b : Seen} {x : List RunEvent} → Performs a b x → a.tells → b.tells
 told_on ran t = ran.tells t
 
 -- where the database is told, no count of damaged blocks rises
@@ -92,32 +92,32 @@ Sound a b = IsTold a → b.faults.damaged ≡ a.faults.damaged
 pub undamaged_by : {T : Type 0} (a b : Seen) (r : Result T BlockFault) → ((d : Db) → a.db ≡ Some d → Undamaged r) → CausedBy r a.faults b.faults → Sound a b
 undamaged_by a b r u p t = damaged_same r a.faults b.faults (u t.db t.db_is) p
 
-pub ran_none : (a : Seen) → Ran a a []
-ran_none a = record { text = prints_none a.said a.said refl; tells = λ t. t; whole = λ files w. w; told = λ t. t; undamaged = λ t. refl; next = omega arith; grew = λ t. grew_none a.points; sure = λ t. omega arith; moments = λ t. runs_none a.clock (Stops a []) }
+pub ran_none : (a : Seen) → Performs a a []
+ran_none a = record { text = prints_none a.said a.said refl; tells = λ t. t; whole = λ files w. w; told = λ t. t; undamaged = λ t. refl; next = omega arith; grew = λ t. grew_none a.points; durable = λ t. omega arith; moments = λ t. runs_none a.clock (CrashesFrom a []) }
 
 -- a stop within the first events
-pub stopped_first : (a : Seen) (x y : List Event) (stop : Stop) → Stops a x stop → Stops a (x ++ y) stop
-stopped_first a x y stop s = record { before = s.before; at = s.at; rest = s.rest ++ y; all = sym (append_assoc s.before (s.at ∷ s.rest) y) ∙ ap (λ (l : List Event). l ++ y) s.all; left = s.left; text = s.text }
+pub stopped_first : (a : Seen) (x y : List RunEvent) (stop : Stop) → CrashesFrom a x stop → CrashesFrom a (x ++ y) stop
+stopped_first a x y stop s = record { before = s.before; at = s.at; rest = s.rest ++ y; all = sym (append_assoc s.before (s.at ∷ s.rest) y) ∙ ap (λ (l : List RunEvent). l ++ y) s.all; left = s.left; text = s.text }
 
 -- a stop within the events behind those that happened
-pub stopped_on : (a b : Seen) (x y : List Event) (stop : Stop) → a.tells → Ran a b x → Stops b y stop → Stops a (x ++ y) stop
+pub stopped_on : (a b : Seen) (x y : List RunEvent) (stop : Stop) → a.tells → Performs a b x → CrashesFrom b y stop → CrashesFrom a (x ++ y) stop
 stopped_on a b x y stop t ran s =
     let c = length a.points in
-    let high : sure_after c a.sure (x ++ s.before) ≤ sure_after (length b.points) b.sure s.before =
-    omega (arith, sure_on c a.sure x s.before, ap (λ (n : ℕ). sure_after n (sure_after c a.sure x) s.before) (length_grew (ran.grew t)), sure_low (length b.points) (sure_after c a.sure x) b.sure s.before (ran.sure t)) in
+    let high : durable_after c a.durable (x ++ s.before) ≤ durable_after (length b.points) b.durable s.before =
+    omega (arith, durable_on c a.durable x s.before, ap (λ (n : ℕ). durable_after n (durable_after c a.durable x) s.before) (length_grew (ran.grew t)), durable_low_at (length b.points) (durable_after c a.durable x) b.durable s.before (ran.durable t)) in
     record {
       before = x ++ s.before;
       at = s.at;
       rest = s.rest;
-      all = append_assoc x s.before (s.at ∷ s.rest) ∙ ap (λ (l : List Event). x ++ l) s.all;
-      left = subst (λ (q : List Quiet). Left a.whole (sure_after c a.sure (x ++ s.before)) a.points a.next q stop) (sym (append_assoc (quiets_of x) (quiets_of s.before) s.at.quiets) ∙ ap (λ (q : List Quiet). q ++ s.at.quiets) (sym (quiets_on x s.before))) (left_on ran.whole (ran.grew t) high ran.next s.left);
+      all = append_assoc x s.before (s.at ∷ s.rest) ∙ ap (λ (l : List RunEvent). x ++ l) s.all;
+      left = subst (λ (q : List Quiet). LeavesPoints a.whole (durable_after c a.durable (x ++ s.before)) a.points a.next q stop) (sym (append_assoc (quiets_of x) (quiets_of s.before) s.at.quiets) ∙ ap (λ (q : List Quiet). q ++ s.at.quiets) (sym (quiets_on x s.before))) (left_on ran.whole (ran.grew t) high ran.next s.left);
       text = λ said is.
           let n = s.text (said ++ text_of x) (ran.text said is) in
           (n.0, n.1 ∙ ap (λ (l : List ℕ). l ++ take n.0 s.at.text) (append_assoc said (text_of x) (text_of s.before) ∙ ap (λ (l : List ℕ). said ++ l) (sym (text_on x s.before))));
     }
 
 -- events behind events
-pub ran_on : (a b c : Seen) (x y : List Event) → Ran a b x → Ran b c y → Ran a c (x ++ y)
+pub ran_on : (a b c : Seen) (x y : List RunEvent) → Performs a b x → Performs b c y → Performs a c (x ++ y)
 ran_on a b c x y first next = record {
   text = subst (λ (t : List ℕ). Prints a.said c.said t) (sym (text_on x y)) (prints_on a.said b.said c.said (text_of x) (text_of y) first.text next.text);
   tells = λ t. next.tells (first.tells t);
@@ -125,84 +125,84 @@ ran_on a b c x y first next = record {
   told = λ t. next.told (first.told t);
   undamaged = λ t. next.undamaged (first.told t) ∙ first.undamaged t;
   next = omega (arith, first.next, next.next, ap length (quiets_on x y), length-append (quiets_of x) (quiets_of y));
-  grew = λ t. subst (λ (q : List Quiet). Grew a.points q c.points) (sym (quiets_on x y)) (grew_on (first.grew t) (next.grew (told_on first t)));
-  sure = λ t. omega (arith, sure_on (length a.points) a.sure x y, ap (λ (n : ℕ). sure_after n (sure_after (length a.points) a.sure x) y) (length_grew (first.grew t)), sure_low (length b.points) (sure_after (length a.points) a.sure x) b.sure y (first.sure t), next.sure (told_on first t));
+  grew = λ t. subst (λ (q : List Quiet). PointsGrow a.points q c.points) (sym (quiets_on x y)) (grew_on (first.grew t) (next.grew (told_on first t)));
+  durable = λ t. omega (arith, durable_on (length a.points) a.durable x y, ap (λ (n : ℕ). durable_after n (durable_after (length a.points) a.durable x) y) (length_grew (first.grew t)), durable_low_at (length b.points) (durable_after (length a.points) a.durable x) b.durable y (first.durable t), next.durable (told_on first t));
   moments = λ t. runs_on (runs_weaken (first.moments t) (stopped_first a x y)) (next.moments (told_on first t)) (λ stop s. stopped_on a b x y stop t first s);
 }
 
 -- whole events
 
-pub whole_none : (a b : Option (List ℕ)) (x : List Event) → b ≡ a → SaidWhole a b x
+pub whole_none : (a b : Option (List ℕ)) (x : List RunEvent) → b ≡ a → SaidWhole a b x
 whole_none a b x same = (0, prints_none a b same)
 
-pub whole_all : (a b : Option (List ℕ)) (x : List Event) → Prints a b (text_of x) → SaidWhole a b x
-whole_all a b x all = (length x, subst (λ (e : List Event). Prints a b (text_of e)) (sym (take_all (length x) x (omega arith))) all)
+pub whole_all : (a b : Option (List ℕ)) (x : List RunEvent) → Prints a b (text_of x) → SaidWhole a b x
+whole_all a b x all = (length x, subst (λ (e : List RunEvent). Prints a b (text_of e)) (sym (take_all (length x) x (omega arith))) all)
 
-fewer : (t : Bool) (k : ℕ) (x : List Event) → t ≡ nat_le (length x) k → (n : ℕ) × (take k x ≡ take n x) × (n ≤ length x)
+fewer : (t : Bool) (k : ℕ) (x : List RunEvent) → t ≡ nat_le (length x) k → (n : ℕ) × (take k x ≡ take n x) × (n ≤ length x)
 fewer true k x e =
     let long : length x ≤ k = grind (arith, nat_tests) in
     (length x, take_all k x long ∙ sym (take_all (length x) x (omega arith)), omega arith)
 fewer false k x e = (k, refl, grind (arith, nat_tests))
 
-pub whole_of_first : (a b : Option (List ℕ)) (x y : List Event) → SaidWhole a b x → SaidWhole a b (x ++ y)
+pub whole_of_first : (a b : Option (List ℕ)) (x y : List RunEvent) → SaidWhole a b x → SaidWhole a b (x ++ y)
 whole_of_first a b x y part =
     let n = fewer (nat_le (length x) part.0) part.0 x refl in
-    (n.0, subst (λ (e : List Event). Prints a b (text_of e)) (n.1 ∙ sym (take-append-le n.0 x y n.2)) part.1)
+    (n.0, subst (λ (e : List RunEvent). Prints a b (text_of e)) (n.1 ∙ sym (take-append-le n.0 x y n.2)) part.1)
 
-pub whole_on : (a b c : Option (List ℕ)) (x y : List Event) → Prints a b (text_of x) → SaidWhole b c y → SaidWhole a c (x ++ y)
+pub whole_on : (a b c : Option (List ℕ)) (x y : List RunEvent) → Prints a b (text_of x) → SaidWhole b c y → SaidWhole a c (x ++ y)
 whole_on a b c x y first next =
     (length x + next.0, subst (λ (t : List ℕ). Prints a c t) (sym (ap text_of (take-append-add x y next.0) ∙ text_on x (take next.0 y))) (prints_on a b c (text_of x) (text_of (take next.0 y)) first next.1))
 
 -- no event of them happened
-pub part_none : {cut : Type 0} (a : Seen) (x : List Event) → RanPart cut a a x
-part_none a x = record { text = front_none a.said a.said (text_of x) refl; said_whole = λ uncut. whole_none a.said a.said x refl; undamaged = λ t. refl; moments = λ t. runs_none a.clock (Stops a x) }
+pub part_none : {cut : Type 0} (a : Seen) (x : List RunEvent) → PerformsPrefix cut a a x
+part_none a x = record { text = front_none a.said a.said (text_of x) refl; said_whole = λ uncut. whole_none a.said a.said x refl; undamaged = λ t. refl; moments = λ t. runs_none a.clock (CrashesFrom a x) }
 
 -- all of them happened
-pub part_all : {cut : Type 0} (a b : Seen) (x : List Event) → Ran a b x → RanPart cut a b x
+pub part_all : {cut : Type 0} (a b : Seen) (x : List RunEvent) → Performs a b x → PerformsPrefix cut a b x
 part_all a b x ran = record { text = front_all a.said b.said (text_of x) ran.text; said_whole = λ uncut. whole_all a.said b.said x ran.text; undamaged = ran.undamaged; moments = ran.moments }
 
--- a front of the first events is a front of all
-pub part_of_first : {cut : Type 0} (a b : Seen) (x y : List Event) → RanPart cut a b x → RanPart cut a b (x ++ y)
+-- a prefix of the first events is a prefix of all
+pub part_of_first : {cut : Type 0} (a b : Seen) (x y : List RunEvent) → PerformsPrefix cut a b x → PerformsPrefix cut a b (x ++ y)
 part_of_first a b x y part = record {
-  text = subst (λ (t : List ℕ). PrintsFront a.said b.said t) (sym (text_on x y)) (front_of_first a.said b.said (text_of x) (text_of y) part.text);
+  text = subst (λ (t : List ℕ). PrintsPrefix a.said b.said t) (sym (text_on x y)) (front_of_first a.said b.said (text_of x) (text_of y) part.text);
   said_whole = λ uncut. whole_of_first a.said b.said x y (part.said_whole uncut);
   undamaged = part.undamaged;
   moments = λ t. runs_weaken (part.moments t) (stopped_first a x y);
 }
 
--- events, and a front of those behind them
-pub part_on : {cut : Type 0} (a b c : Seen) (x y : List Event) → Ran a b x → RanPart cut b c y → RanPart cut a c (x ++ y)
+-- events, and a prefix of those behind them
+pub part_on : {cut : Type 0} (a b c : Seen) (x y : List RunEvent) → Performs a b x → PerformsPrefix cut b c y → PerformsPrefix cut a c (x ++ y)
 part_on a b c x y first next = record {
-  text = subst (λ (t : List ℕ). PrintsFront a.said c.said t) (sym (text_on x y)) (front_on a.said b.said c.said (text_of x) (text_of y) first.text next.text);
+  text = subst (λ (t : List ℕ). PrintsPrefix a.said c.said t) (sym (text_on x y)) (front_on a.said b.said c.said (text_of x) (text_of y) first.text next.text);
   said_whole = λ uncut. whole_on a.said b.said c.said x y first.text (next.said_whole uncut);
   undamaged = λ t. next.undamaged (first.told t) ∙ first.undamaged t;
   moments = λ t. runs_on (runs_weaken (first.moments t) (stopped_first a x y)) (next.moments (told_on first t)) (λ stop s. stopped_on a b x y stop t first s);
 }
 
 -- the same events, told otherwise
-pub ran_as : (a b : Seen) (x y : List Event) → x ≡ y → Ran a b x → Ran a b y
-ran_as a b x y is ran = subst (λ (l : List Event). Ran a b l) is ran
+pub ran_as : (a b : Seen) (x y : List RunEvent) → x ≡ y → Performs a b x → Performs a b y
+ran_as a b x y is ran = subst (λ (l : List RunEvent). Performs a b l) is ran
 
-pub part_as : {cut : Type 0} (a b : Seen) (x y : List Event) → x ≡ y → RanPart cut a b x → RanPart cut a b y
-part_as {cut} a b x y is part = subst (λ (l : List Event). RanPart cut a b l) is part
+pub part_as : {cut : Type 0} (a b : Seen) (x y : List RunEvent) → x ≡ y → PerformsPrefix cut a b x → PerformsPrefix cut a b y
+part_as {cut} a b x y is part = subst (λ (l : List RunEvent). PerformsPrefix cut a b l) is part
 
 -- where one is cut off the other is, too
-pub part_cut : {cut cut' : Type 0} (a b : Seen) (x : List Event) → (cut → cut') → RanPart cut a b x → RanPart cut' a b x
+pub part_cut : {cut cut' : Type 0} (a b : Seen) (x : List RunEvent) → (cut → cut') → PerformsPrefix cut a b x → PerformsPrefix cut' a b x
 part_cut a b x f part = record { text = part.text; said_whole = λ uncut. part.said_whole (λ is. uncut (f is)); undamaged = part.undamaged; moments = part.moments }
 
 -- the same fault, of whatever else would be answered
-pub cut_as : {T : Type 0} (r : Result T BlockFault) (f : BlockFault) → IsErrAnd r (λ x. x ≡ f) → f ≡ Say → CutOff r
+pub cut_as : {T : Type 0} (r : Result T BlockFault) (f : BlockFault) → IsErrAnd r (λ x. x ≡ f) → f ≡ Say → IsCutShort r
 cut_as (Ok x) f same is = absurd same
 cut_as (Err e) f same is = same ∙ is
 
 -- a fault of printing is the only one of a call that prints
-pub unless_cut : {T : Type 0} (r : Result T BlockFault) (P : Type 0) → IsOkUnless r Say → OnOk r P → (CutOff r → ⊥) → P
+pub unless_cut : {T : Type 0} (r : Result T BlockFault) (P : Type 0) → IsOkUnless r Say → OnOk r P → (IsCutShort r → ⊥) → P
 unless_cut (Ok x) P only p uncut = p
 unless_cut (Err f) P only p uncut = absurd (uncut only)
 
 -- bytes
 
-stopped_says : (a : Seen) (x : List ℕ) (stop : Stop) → Front a.whole a.sure a.points a.next stop × TextGrows a.said x stop → Stops a (says x ∷ []) stop
+stopped_says : (a : Seen) (x : List ℕ) (stop : Stop) → LeavesPrefix a.whole a.durable a.points a.next stop × TextGrows a.said x stop → CrashesFrom a (says x ∷ []) stop
 stopped_says a x stop p = record {
   before = [];
   at = says x;
@@ -212,7 +212,7 @@ stopped_says a x stop p = record {
   text = λ t is. let n = p.1 t is in (n.0, n.1 ∙ ap (λ (l : List ℕ). l ++ take n.0 x) (sym (append-nil t)));
 }
 
-pub ran_says : (a b : Seen) (x y : List ℕ) → x ≡ y → (a.tells → b.tells) → ((files : Files) → b.whole files → a.whole files) → Sound a b → Prints a.said b.said x → SaysPart a b x → Keeps a b → a.next + 1 < 2 ^ 64 → Ran a b (says y ∷ [])
+pub ran_says : (a b : Seen) (x y : List ℕ) → x ≡ y → (a.tells → b.tells) → ((files : Files) → b.whole files → a.whole files) → Sound a b → Prints a.said b.said x → SaysPart a b x → Keeps a b → a.next + 1 < 2 ^ 64 → Performs a b (says y ∷ [])
 ran_says a b x y is tells whole undamaged text part keeps room = record {
   text = subst (λ (t : List ℕ). Prints a.said b.said t) (is ∙ sym (append-nil y)) text;
   tells = tells;
@@ -221,25 +221,25 @@ ran_says a b x y is tells whole undamaged text part keeps room = record {
   undamaged = undamaged;
   next = omega (arith, part.next);
   grew = λ t. record { more = []; is = (keeps.points t room).0 ∙ sym (append-nil a.points); spells = refl };
-  sure = λ t. (keeps.points t room).1;
-  moments = λ t. runs_weaken (part.leaves t room) (λ stop p. subst (λ (z : List ℕ). Stops a (says z ∷ []) stop) is (stopped_says a x stop p));
+  durable = λ t. (keeps.points t room).1;
+  moments = λ t. runs_weaken (part.leaves t room) (λ stop p. subst (λ (z : List ℕ). CrashesFrom a (says z ∷ []) stop) is (stopped_says a x stop p));
 }
 
-pub part_says : {cut : Type 0} (a b : Seen) (x y : List ℕ) → x ≡ y → Sound a b → SaysPart a b x → ((cut → ⊥) → Prints a.said b.said x) → a.next + 1 < 2 ^ 64 → RanPart cut a b (says y ∷ [])
+pub part_says : {cut : Type 0} (a b : Seen) (x y : List ℕ) → x ≡ y → Sound a b → SaysPart a b x → ((cut → ⊥) → Prints a.said b.said x) → a.next + 1 < 2 ^ 64 → PerformsPrefix cut a b (says y ∷ [])
 part_says a b x y is undamaged part whole room = record {
   said_whole = λ uncut. whole_all a.said b.said (says y ∷ []) (subst (λ (t : List ℕ). Prints a.said b.said t) (is ∙ sym (append-nil y)) (whole uncut));
   undamaged = undamaged;
-  text = subst (λ (t : List ℕ). PrintsFront a.said b.said t) (is ∙ sym (append-nil y)) part.part;
-  moments = λ t. runs_weaken (part.leaves t room) (λ stop p. subst (λ (z : List ℕ). Stops a (says z ∷ []) stop) is (stopped_says a x stop p));
+  text = subst (λ (t : List ℕ). PrintsPrefix a.said b.said t) (is ∙ sym (append-nil y)) part.part;
+  moments = λ t. runs_weaken (part.leaves t room) (λ stop p. subst (λ (z : List ℕ). CrashesFrom a (says z ∷ []) stop) is (stopped_says a x stop p));
 }
 
 -- nothing to say
-pub ran_silent : (a : Seen) (x : List ℕ) → x ≡ [] → Ran a a (says x ∷ [])
-ran_silent a x is = subst (λ (t : List ℕ). Ran a a (says t ∷ [])) (sym is) (record { text = prints_none a.said a.said refl; tells = λ t. t; whole = λ files w. w; told = λ t. t; undamaged = λ t. refl; next = omega arith; grew = λ t. grew_none a.points; sure = λ t. omega arith; moments = λ t. runs_none a.clock (Stops a (says [] ∷ [])) })
+pub ran_silent : (a : Seen) (x : List ℕ) → x ≡ [] → Performs a a (says x ∷ [])
+ran_silent a x is = subst (λ (t : List ℕ). Performs a a (says t ∷ [])) (sym is) (record { text = prints_none a.said a.said refl; tells = λ t. t; whole = λ files w. w; told = λ t. t; undamaged = λ t. refl; next = omega arith; grew = λ t. grew_none a.points; durable = λ t. omega arith; moments = λ t. runs_none a.clock (CrashesFrom a (says [] ∷ [])) })
 
 -- calls
 
-numbered : (b : Bool) (s : Session) (o : Outcome) → Makes b s o → o.session.next ≡ s.next + length o.quiets
+numbered : (b : Bool) (s : Session) (o : Outcome) → MakesWhereQuiet b s o → o.session.next ≡ s.next + length o.quiets
 numbered true s o m = omega (arith, m.next, ap length m.quiets)
 numbered false s o m = omega (arith, m.next, ap length m.quiets)
 
@@ -247,7 +247,7 @@ numbered false s o m = omega (arith, m.next, ap length m.quiets)
 pub step_numbers : (desc : Described) (s : Session) (name : List ℕ) (verb : Verb) → (step desc s name verb).session.next ≡ s.next + length (step desc s name verb).quiets
 step_numbers desc s name verb = numbered _ s (step desc s name verb) (quiet_rule desc s name verb)
 
-stopped_calls : (a : Seen) (o : Outcome) (stop : Stop) → Left a.whole a.sure a.points a.next o.quiets stop × TextIs a.said stop → Stops a (calls o ∷ []) stop
+stopped_calls : (a : Seen) (o : Outcome) (stop : Stop) → LeavesPoints a.whole a.durable a.points a.next o.quiets stop × TextIs a.said stop → CrashesFrom a (calls o ∷ []) stop
 stopped_calls a o stop p = record {
   before = [];
   at = calls o;
@@ -257,11 +257,11 @@ stopped_calls a o stop p = record {
   text = λ t is. (0, p.1 t is ∙ sym (append-nil t) ∙ sym (append-nil (t ++ [])));
 }
 
-covered_made : (sync : Option ℕ) (before all sure : ℕ) → before ≤ sure → ((n : ℕ) → sync ≡ Some n → sure ≡ all) → covered sync before all ≤ sure
-covered_made None before all sure later synced = later
-covered_made (Some n) before all sure later synced = omega (arith, synced n refl)
+covered_made : (sync : Option ℕ) (before all durable : ℕ) → before ≤ durable → ((n : ℕ) → sync ≡ Some n → durable ≡ all) → durable_by sync before all ≤ durable
+covered_made None before all durable later synced = later
+covered_made (Some n) before all durable later synced = omega (arith, synced n refl)
 
-pub ran_calls : (a b : Seen) {programs : List Program} {pending : Bool} {since : ℕ} (o : Outcome) (answer : Answer) → (a.tells → b.tells) → ((files : Files) → b.whole files → a.whole files) → b.faults ≡ a.faults → IsMute a b → a.next + length o.quiets ≤ b.next → Did o a b (view_of b.db b.mark b.next programs pending since) (Ok answer) → Ran a b (calls o ∷ [])
+pub ran_calls : (a b : Seen) {programs : List Program} {pending : Bool} {since : ℕ} (o : Outcome) (answer : Answer) → (a.tells → b.tells) → ((files : Files) → b.whole files → a.whole files) → b.faults ≡ a.faults → IsMute a b → a.next + length o.quiets ≤ b.next → PerformsCall o a b (view_of b.db b.mark b.next programs pending since) (Ok answer) → Performs a b (calls o ∷ [])
 ran_calls a b o answer tells whole same mute next did = record {
   text = prints_none a.said b.said mute.said;
   tells = tells;
@@ -269,12 +269,12 @@ ran_calls a b o answer tells whole same mute next did = record {
   told = λ t. record { db = o.session.db; mark = o.session.mark; db_is = did.answers.session.db; mark_is = did.answers.session.mark };
   undamaged = λ t. ap (λ (f : Faults). f.damaged) same;
   next = omega (arith, next, ap length (append-nil o.quiets));
-  grew = λ t. subst (λ (q : List Quiet). Grew a.points q b.points) (sym (append-nil o.quiets)) (did.made t).grew;
-  sure = λ t. covered_made o.sync a.sure (length a.points + length o.quiets) b.sure (did.made t).later (λ n is. (did.made t).synced n (did.answers.sync ∙ is) ∙ length_grew (did.made t).grew);
+  grew = λ t. subst (λ (q : List Quiet). PointsGrow a.points q b.points) (sym (append-nil o.quiets)) (did.made t).grew;
+  durable = λ t. covered_made o.sync a.durable (length a.points + length o.quiets) b.durable (did.made t).later (λ n is. (did.made t).synced n (did.answers.sync ∙ is) ∙ length_grew (did.made t).grew);
   moments = λ t. runs_weaken (did.leaves t) (stopped_calls a o);
 }
 
-pub part_calls : {cut : Type 0} (a b : Seen) (v : View) (o : Outcome) {result : Result Answer BlockFault} → CausedBy result a.faults b.faults → IsMute a b → Did o a b v result → RanPart cut a b (calls o ∷ [])
+pub part_calls : {cut : Type 0} (a b : Seen) (v : View) (o : Outcome) {result : Result Answer BlockFault} → CausedBy result a.faults b.faults → IsMute a b → PerformsCall o a b v result → PerformsPrefix cut a b (calls o ∷ [])
 part_calls a b v o {result} cause mute did = record {
   said_whole = λ uncut. whole_none a.said b.said (calls o ∷ []) mute.said;
   undamaged = λ t. damaged_same result a.faults b.faults did.undamaged cause;
@@ -284,7 +284,7 @@ part_calls a b v o {result} cause mute did = record {
 
 -- the way back
 
-stopped_back : (a : Seen) (stop : Stop) → Front a.whole a.sure a.points a.next stop × TextIs a.said stop → Stops a (goes_back ∷ []) stop
+stopped_back : (a : Seen) (stop : Stop) → LeavesPrefix a.whole a.durable a.points a.next stop × TextIs a.said stop → CrashesFrom a (goes_back ∷ []) stop
 stopped_back a stop p = record {
   before = [];
   at = goes_back;
@@ -294,7 +294,7 @@ stopped_back a stop p = record {
   text = λ t is. (0, p.1 t is ∙ sym (append-nil t) ∙ sym (append-nil (t ++ [])));
 }
 
-pub ran_back : (a b : Seen) → (a.tells → b.tells) → ((files : Files) → b.whole files → a.whole files) → (IsTold a → IsTold b) → Sound a b → IsSilent a b → StaysSure a b → a.next + 1 < 2 ^ 64 → Ran a b (goes_back ∷ [])
+pub ran_back : (a b : Seen) → (a.tells → b.tells) → ((files : Files) → b.whole files → a.whole files) → (IsTold a → IsTold b) → Sound a b → IsSilent a b → StaysDurable a b → a.next + 1 < 2 ^ 64 → Performs a b (goes_back ∷ [])
 ran_back a b tells whole told undamaged silent points room = record {
   text = prints_none a.said b.said silent.said;
   tells = tells;
@@ -303,11 +303,11 @@ ran_back a b tells whole told undamaged silent points room = record {
   undamaged = undamaged;
   next = omega (arith, silent.next);
   grew = λ t. record { more = []; is = (points t room).0 ∙ sym (append-nil a.points); spells = refl };
-  sure = λ t. (points t room).1;
+  durable = λ t. (points t room).1;
   moments = λ t. runs_weaken (silent.leaves t room) (stopped_back a);
 }
 
-pub part_back : {cut : Type 0} (a b : Seen) → Sound a b → IsSilent a b → a.next + 1 < 2 ^ 64 → RanPart cut a b (goes_back ∷ [])
+pub part_back : {cut : Type 0} (a b : Seen) → Sound a b → IsSilent a b → a.next + 1 < 2 ^ 64 → PerformsPrefix cut a b (goes_back ∷ [])
 part_back a b undamaged silent room = record {
   said_whole = λ uncut. whole_none a.said b.said (goes_back ∷ []) silent.said;
   undamaged = undamaged;
@@ -317,7 +317,7 @@ part_back a b undamaged silent room = record {
 
 -- the end of a run leaves the databases told
 pub told_ended : {a b : Seen} {programs programs' : List Program} {pending pending' : Bool} {since since' : ℕ}
-    → ((s : Session) → Stands (view_of a.db a.mark a.next programs pending since) s → Stands (view_of b.db b.mark b.next programs' pending' since') (ended s)) → IsTold a → IsTold b
+    → ((s : Session) → StandsFor (view_of a.db a.mark a.next programs pending since) s → StandsFor (view_of b.db b.mark b.next programs' pending' since') (ended s)) → IsTold a → IsTold b
 told_ended {a} {programs = programs} {pending = pending} {since = since} f t =
     let s : Session = record { db = t.db; mark = t.mark; next = a.next; programs = programs; pending = pending; since = since } in
     let st = f s (record { db = t.db_is; mark = t.mark_is; next = refl; programs = refl; pending = refl; since = refl }) in

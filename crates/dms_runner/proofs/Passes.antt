@@ -1,95 +1,95 @@
--- One walk over the held lines, turn by turn.
+-- One retry over the waiting lines, turn by turn.
 use Rattle.dms_model.specs.Seen.{Seen}
 use Rattle.std.proofs.Common.{◌≡◌, ◌+◌, ◌<◌, ◌≤◌, ℕ, zero, suc, List, [], ◌∷◌, ◌++◌, Bool, true, false, cond, not, Some, None, refl, sym, ap, ◌∙◌, subst, arith, append_assoc, length, take, drop}
 use Rattle.std.specs.Prelude.{slice_get, slice_set}
 use Rattle.std.proofs.lemmas.List.{append-nil, take_more, take_more_set, drop_more, drop-set-lt, take_all, drop_all}
 use Rattle.std.proofs.lemmas.Option.{slice_get_within, get_or_from_slice_get}
 use Rattle.dms_desc.specs.Shape.{Described}
-use Rattle.dms_storeverbs.specs.View.{View, Stands}
+use Rattle.dms_storeverbs.specs.View.{View, StandsFor}
 use Rattle.dms_model.specs.Session.{Session, Outcome, step, is_waits}
 use Rattle.dms_model.proofs.Rises.{step_small}
-use Rattle.dms_runner.specs.declared.held.Held.{Held}
+use Rattle.dms_runner.specs.declared.waiting.WaitingLine.{WaitingLine}
 use Rattle.dms_runner.proofs.Happening.{ran_none, ran_on, part_on, part_of_first}
-use Rattle.dms_runner.specs.Events.{Event, Ran, RanPart}
-use Rattle.dms_runner.specs.Trying.{Tries, Passes}
-use Rattle.dms_runner.specs.Held.{has_line, tries, waiting, Walk, behind, answered_at, walk, walks}
+use Rattle.dms_runner.specs.Events.{RunEvent, Performs, PerformsPrefix}
+use Rattle.dms_runner.specs.Trying.{PerformsTry, PerformsRetry}
+use Rattle.dms_runner.specs.Waiting.{has_line, tries, said_to_wait, RetryEffect, events_before, answer_effect, retry, retries}
 
-second : (b c : Bool) (x y z : Walk) → b ≡ false → c ≡ true → cond b x (cond c y z) ≡ y
+second : (b c : Bool) (x y z : RetryEffect) → b ≡ false → c ≡ true → cond b x (cond c y z) ≡ y
 second b c x y z p q = rw (p, q) refl
 
-pub walk_skips : (desc : Described) (s : Session) (front : List Held) (h : Held) (hs : List Held) → has_line front h.program ≡ true → walk desc s front (h ∷ hs) ≡ walk desc s (front ++ h ∷ []) hs
-unfolding walk
-walk_skips desc s front h hs has = rw has refl
+pub retry_skips : (desc : Described) (s : Session) (front : List WaitingLine) (h : WaitingLine) (hs : List WaitingLine) → has_line front h.program ≡ true → retry desc s front (h ∷ hs) ≡ retry desc s (front ++ h ∷ []) hs
+unfolding retry
+retry_skips desc s front h hs has = rw has refl
 
-pub walk_waits : (desc : Described) (s : Session) (front : List Held) (h : Held) (hs : List Held) → has_line front h.program ≡ false → is_waits (step desc s h.program h.verb).reply ≡ true
-    → walk desc s front (h ∷ hs) ≡ behind (tries h (step desc s h.program h.verb)) (walk desc s (front ++ waiting h ∷ []) hs)
-unfolding walk
-walk_waits desc s front h hs has waits =
-    second (has_line front h.program) (is_waits (step desc s h.program h.verb).reply) _ _ _ has waits ∙ (ap (λ (t : Session). behind (tries h (step desc s h.program h.verb)) (walk desc t (front ++ waiting h ∷ []) hs)) ((step_small desc s h.program h.verb).waits waits))
+pub retry_waits : (desc : Described) (s : Session) (front : List WaitingLine) (h : WaitingLine) (hs : List WaitingLine) → has_line front h.program ≡ false → is_waits (step desc s h.program h.verb).reply ≡ true
+    → retry desc s front (h ∷ hs) ≡ events_before (tries h (step desc s h.program h.verb)) (retry desc s (front ++ said_to_wait h ∷ []) hs)
+unfolding retry
+retry_waits desc s front h hs has waits =
+    second (has_line front h.program) (is_waits (step desc s h.program h.verb).reply) _ _ _ has waits ∙ (ap (λ (t : Session). events_before (tries h (step desc s h.program h.verb)) (retry desc t (front ++ said_to_wait h ∷ []) hs)) ((step_small desc s h.program h.verb).waits waits))
 
-pub walk_answers : (desc : Described) (s : Session) (front : List Held) (h : Held) (hs : List Held) → has_line front h.program ≡ false → is_waits (step desc s h.program h.verb).reply ≡ false
-    → walk desc s front (h ∷ hs) ≡ answered_at h (step desc s h.program h.verb) (front ++ hs)
-unfolding walk
-walk_answers desc s front h hs has waits = rw (has, waits) refl
+pub retry_answers : (desc : Described) (s : Session) (front : List WaitingLine) (h : WaitingLine) (hs : List WaitingLine) → has_line front h.program ≡ false → is_waits (step desc s h.program h.verb).reply ≡ false
+    → retry desc s front (h ∷ hs) ≡ answer_effect h (step desc s h.program h.verb) (front ++ hs)
+unfolding retry
+retry_answers desc s front h hs has waits = rw (has, waits) refl
 
-pub walk_ends : (desc : Described) (s : Session) (front : List Held) → walk desc s front [] ≡ record { session = s; held = front; events = []; answered = false }
-unfolding walk
-walk_ends desc s front = refl
+pub retry_ends : (desc : Described) (s : Session) (front : List WaitingLine) → retry desc s front [] ≡ record { session = s; waiting = front; events = []; answered = false }
+unfolding retry
+retry_ends desc s front = refl
 
-pub walks_again : (n : ℕ) (desc : Described) (s : Session) (held : List Held) → (walk desc s [] held).answered ≡ true
-    → walks (suc n) desc s held ≡ behind (walk desc s [] held).events (walks n desc (walk desc s [] held).session (walk desc s [] held).held)
-unfolding walks
-walks_again n desc s held answered = rw answered refl
+pub retries_again : (n : ℕ) (desc : Described) (s : Session) (waiting : List WaitingLine) → (retry desc s [] waiting).answered ≡ true
+    → retries (suc n) desc s waiting ≡ events_before (retry desc s [] waiting).events (retries n desc (retry desc s [] waiting).session (retry desc s [] waiting).waiting)
+unfolding retries
+retries_again n desc s waiting answered = rw answered refl
 
-pub walks_end : (n : ℕ) (desc : Described) (s : Session) (held : List Held) → (walk desc s [] held).answered ≡ false → walks (suc n) desc s held ≡ walk desc s [] held
-unfolding walks
-walks_end n desc s held answered = rw answered refl
+pub retries_end : (n : ℕ) (desc : Described) (s : Session) (waiting : List WaitingLine) → (retry desc s [] waiting).answered ≡ false → retries (suc n) desc s waiting ≡ retry desc s [] waiting
+unfolding retries
+retries_end n desc s waiting answered = rw answered refl
 
--- how a walk stands at a place: the lines before it were passed over, and the rest is still to be tried
-pub record Passing (desc : Described) (s : Session) (first now : List Held) (i : ℕ) (v : View) (before after : Seen) : Type 0 where
-  pub events : List Event
-  pub is : walk desc s [] first ≡ behind events (walk desc s (take i now) (drop i now))
-  pub stands : Stands v s
-  pub ran : Ran before after events
+-- how a retry stands at a place: the lines before it were passed over, and the rest is still to be tried
+pub record Passing (desc : Described) (s : Session) (first now : List WaitingLine) (i : ℕ) (v : View) (before after : Seen) : Type 0 where
+  pub events : List RunEvent
+  pub is : retry desc s [] first ≡ events_before events (retry desc s (take i now) (drop i now))
+  pub stands : StandsFor v s
+  pub ran : Performs before after events
 
-pub passing_start : (desc : Described) (s : Session) (first : List Held) (v : View) (said : Seen) → Stands v s → Passing desc s first first 0 v said said
+pub passing_start : (desc : Described) (s : Session) (first : List WaitingLine) (v : View) (said : Seen) → StandsFor v s → Passing desc s first first 0 v said said
 passing_start desc s first v said stands = record { events = []; is = refl; stands = stands; ran = ran_none said }
 
-at_place : (now : List Held) (i : ℕ) (h : Held) → slice_get now i ≡ Some h → drop i now ≡ h ∷ drop (i + 1) now
-at_place now i h is = drop_more now i h (slice_get_within now i h is) ∙ ap (λ (x : Held). x ∷ drop (i + 1) now) (get_or_from_slice_get now i h h is)
+at_place : (now : List WaitingLine) (i : ℕ) (h : WaitingLine) → slice_get now i ≡ Some h → drop i now ≡ h ∷ drop (i + 1) now
+at_place now i h is = drop_more now i h (slice_get_within now i h is) ∙ ap (λ (x : WaitingLine). x ∷ drop (i + 1) now) (get_or_from_slice_get now i h h is)
 
-to_place : (now : List Held) (i : ℕ) (h : Held) → slice_get now i ≡ Some h → take (i + 1) now ≡ take i now ++ h ∷ []
-to_place now i h is = take_more now i h (slice_get_within now i h is) ∙ ap (λ (x : Held). take i now ++ x ∷ []) (get_or_from_slice_get now i h h is)
+to_place : (now : List WaitingLine) (i : ℕ) (h : WaitingLine) → slice_get now i ≡ Some h → take (i + 1) now ≡ take i now ++ h ∷ []
+to_place now i h is = take_more now i h (slice_get_within now i h is) ∙ ap (λ (x : WaitingLine). take i now ++ x ∷ []) (get_or_from_slice_get now i h h is)
 
 -- a line is passed over
-pub passing_skip : (desc : Described) (s : Session) (first now : List Held) (i : ℕ) (v : View) (before after : Seen) (h : Held) → slice_get now i ≡ Some h → has_line (take i now) h.program ≡ true
+pub passing_skip : (desc : Described) (s : Session) (first now : List WaitingLine) (i : ℕ) (v : View) (before after : Seen) (h : WaitingLine) → slice_get now i ≡ Some h → has_line (take i now) h.program ≡ true
     → Passing desc s first now i v before after → Passing desc s first now (i + 1) v before after
 passing_skip desc s first now i v before after h here has p =
-    let e : walk desc s (take i now) (drop i now) ≡ walk desc s (take (i + 1) now) (drop (i + 1) now) =
-    ap (λ (l : List Held). walk desc s (take i now) l) (at_place now i h here) ∙ walk_skips desc s (take i now) h (drop (i + 1) now) has ∙ ap (λ (l : List Held). walk desc s l (drop (i + 1) now)) (sym (to_place now i h here)) in
-    record { events = p.events; is = p.is ∙ ap (λ (w : Walk). behind p.events w) e; stands = p.stands; ran = p.ran }
+    let e : retry desc s (take i now) (drop i now) ≡ retry desc s (take (i + 1) now) (drop (i + 1) now) =
+    ap (λ (l : List WaitingLine). retry desc s (take i now) l) (at_place now i h here) ∙ retry_skips desc s (take i now) h (drop (i + 1) now) has ∙ ap (λ (l : List WaitingLine). retry desc s l (drop (i + 1) now)) (sym (to_place now i h here)) in
+    record { events = p.events; is = p.is ∙ ap (λ (w : RetryEffect). events_before p.events w) e; stands = p.stands; ran = p.ran }
 
-pub behind_on : (x y : List Event) (w : Walk) → behind x (behind y w) ≡ behind (x ++ y) w
+pub behind_on : (x y : List RunEvent) (w : RetryEffect) → events_before x (events_before y w) ≡ events_before (x ++ y) w
 behind_on x y w = λ j. record w { events = sym (append_assoc x y w.events) j }
 
 -- a line was tried and waits
-pub passing_wait : (desc : Described) (s : Session) (first now next : List Held) (i : ℕ) (v w : View) (before mid after : Seen) (h : Held) (answered : Bool)
-    → slice_get now i ≡ Some h → has_line (take i now) h.program ≡ false → next ≡ slice_set now i (waiting h) → answered ≡ false
-    → Tries (step desc s h.program h.verb) h answered w mid after → Passing desc s first now i v before mid → Passing desc s first next (i + 1) w before after
+pub passing_wait : (desc : Described) (s : Session) (first now next : List WaitingLine) (i : ℕ) (v w : View) (before mid after : Seen) (h : WaitingLine) (answered : Bool)
+    → slice_get now i ≡ Some h → has_line (take i now) h.program ≡ false → next ≡ slice_set now i (said_to_wait h) → answered ≡ false
+    → PerformsTry (step desc s h.program h.verb) h answered w mid after → Passing desc s first now i v before mid → Passing desc s first next (i + 1) w before after
 passing_wait desc s first now next i v w before mid after h answered here has set_ answered_is t p =
     let o = step desc s h.program h.verb in
     let waits : is_waits o.reply ≡ true = not_false (is_waits o.reply) (sym t.answers ∙ answered_is) in
     let within = slice_get_within now i h here in
-    let front : take (i + 1) next ≡ take i now ++ waiting h ∷ [] = ap (λ (l : List Held). take (i + 1) l) set_ ∙ take_more_set now i (waiting h) within in
-    let back : drop (i + 1) next ≡ drop (i + 1) now = ap (λ (l : List Held). drop (i + 1) l) set_ ∙ drop-set-lt (i + 1) now i (waiting h) (omega arith) in
-    let e : walk desc s (take i now) (drop i now) ≡ behind (tries h o) (walk desc s (take (i + 1) next) (drop (i + 1) next)) =
-    ap (λ (l : List Held). walk desc s (take i now) l) (at_place now i h here) ∙ walk_waits desc s (take i now) h (drop (i + 1) now) has waits
-    ∙ ap (λ (l : List Held). behind (tries h o) (walk desc s l (drop (i + 1) now))) (sym front)
-    ∙ ap (λ (l : List Held). behind (tries h o) (walk desc s (take (i + 1) next) l)) (sym back) in
+    let front : take (i + 1) next ≡ take i now ++ said_to_wait h ∷ [] = ap (λ (l : List WaitingLine). take (i + 1) l) set_ ∙ take_more_set now i (said_to_wait h) within in
+    let back : drop (i + 1) next ≡ drop (i + 1) now = ap (λ (l : List WaitingLine). drop (i + 1) l) set_ ∙ drop-set-lt (i + 1) now i (said_to_wait h) (omega arith) in
+    let e : retry desc s (take i now) (drop i now) ≡ events_before (tries h o) (retry desc s (take (i + 1) next) (drop (i + 1) next)) =
+    ap (λ (l : List WaitingLine). retry desc s (take i now) l) (at_place now i h here) ∙ retry_waits desc s (take i now) h (drop (i + 1) now) has waits
+    ∙ ap (λ (l : List WaitingLine). events_before (tries h o) (retry desc s l (drop (i + 1) now))) (sym front)
+    ∙ ap (λ (l : List WaitingLine). events_before (tries h o) (retry desc s (take (i + 1) next) l)) (sym back) in
     record {
       events = p.events ++ tries h o;
-      is = p.is ∙ ap (λ (x : Walk). behind p.events x) e ∙ behind_on p.events (tries h o) _;
-      stands = subst (λ (x : Session). Stands w x) ((step_small desc s h.program h.verb).waits waits) t.session;
+      is = p.is ∙ ap (λ (x : RetryEffect). events_before p.events x) e ∙ behind_on p.events (tries h o) _;
+      stands = subst (λ (x : Session). StandsFor w x) ((step_small desc s h.program h.verb).waits waits) t.session;
       ran = ran_on before mid after p.events (tries h o) p.ran t.ran;
     }
   where
@@ -101,55 +101,55 @@ one_on : (i : ℕ) → i + 1 ≡ suc i
 one_on i = omega arith
 
 -- a line was tried and answered
-pub passing_answered : (desc : Described) (s : Session) (first now : List Held) (i : ℕ) (v w : View) (before mid after : Seen) (h : Held) (answered : Bool)
+pub passing_answered : (desc : Described) (s : Session) (first now : List WaitingLine) (i : ℕ) (v w : View) (before mid after : Seen) (h : WaitingLine) (answered : Bool)
     → slice_get now i ≡ Some h → has_line (take i now) h.program ≡ false → answered ≡ true
-    → Tries (step desc s h.program h.verb) h answered w mid after → Passing desc s first now i v before mid → Passes (walk desc s [] first) w now (Some i) before after
+    → PerformsTry (step desc s h.program h.verb) h answered w mid after → Passing desc s first now i v before mid → PerformsRetry (retry desc s [] first) w now (Some i) before after
 passing_answered desc s first now i v w before mid after h answered here has answered_is t p =
     let o = step desc s h.program h.verb in
     let waits : is_waits o.reply ≡ false = not_true (is_waits o.reply) (sym t.answers ∙ answered_is) in
-    let e : walk desc s [] first ≡ behind p.events (answered_at h o (take i now ++ drop (i + 1) now)) =
-    p.is ∙ ap (λ (l : List Held). behind p.events (walk desc s (take i now) l)) (at_place now i h here) ∙ ap (λ (x : Walk). behind p.events x) (walk_answers desc s (take i now) h (drop (i + 1) now) has waits) in
+    let e : retry desc s [] first ≡ events_before p.events (answer_effect h o (take i now ++ drop (i + 1) now)) =
+    p.is ∙ ap (λ (l : List WaitingLine). events_before p.events (retry desc s (take i now) l)) (at_place now i h here) ∙ ap (λ (x : RetryEffect). events_before p.events x) (retry_answers desc s (take i now) h (drop (i + 1) now) has waits) in
     record {
-      session = subst (λ (x : Session). Stands w x) (sym (ap (λ (x : Walk). x.session) e)) t.session;
-      found_is = (slice_get_within now i h here, ap (λ (x : Walk). x.answered) e, ap (λ (x : Walk). x.held) e ∙ ap (λ (k : ℕ). take i now ++ drop k now) (one_on i));
-      ran = subst (λ (x : List Event). Ran before after x) (sym (ap (λ (x : Walk). x.events) e)) (ran_on before mid after p.events (tries h o) p.ran t.ran);
+      session = subst (λ (x : Session). StandsFor w x) (sym (ap (λ (x : RetryEffect). x.session) e)) t.session;
+      found_is = (slice_get_within now i h here, ap (λ (x : RetryEffect). x.answered) e, ap (λ (x : RetryEffect). x.waiting) e ∙ ap (λ (k : ℕ). take i now ++ drop k now) (one_on i));
+      ran = subst (λ (x : List RunEvent). Performs before after x) (sym (ap (λ (x : RetryEffect). x.events) e)) (ran_on before mid after p.events (tries h o) p.ran t.ran);
     }
   where
     not_true : (b : Bool) → not b ≡ true → b ≡ false
     not_true false e = refl
     not_true true e = absurd (cc)
 
--- the walk came to the end
-pub passing_end : (desc : Described) (s : Session) (first now : List Held) (i : ℕ) (v : View) (before after : Seen) → length now ≤ i
-    → Passing desc s first now i v before after → Passes (walk desc s [] first) v now None before after
+-- the retry came to the end
+pub passing_end : (desc : Described) (s : Session) (first now : List WaitingLine) (i : ℕ) (v : View) (before after : Seen) → length now ≤ i
+    → Passing desc s first now i v before after → PerformsRetry (retry desc s [] first) v now None before after
 passing_end desc s first now i v before after end p =
-    let e : walk desc s [] first ≡ behind p.events (record { session = s; held = now; events = []; answered = false }) =
-    p.is ∙ ap (λ (l : List Held). behind p.events (walk desc s (take i now) l)) (drop_all i now end) ∙ ap (λ (l : List Held). behind p.events (walk desc s l [])) (take_all i now end) ∙ ap (λ (x : Walk). behind p.events x) (walk_ends desc s now) in
+    let e : retry desc s [] first ≡ events_before p.events (record { session = s; waiting = now; events = []; answered = false }) =
+    p.is ∙ ap (λ (l : List WaitingLine). events_before p.events (retry desc s (take i now) l)) (drop_all i now end) ∙ ap (λ (l : List WaitingLine). events_before p.events (retry desc s l [])) (take_all i now end) ∙ ap (λ (x : RetryEffect). events_before p.events x) (retry_ends desc s now) in
     record {
-      session = subst (λ (x : Session). Stands v x) (sym (ap (λ (x : Walk). x.session) e)) p.stands;
-      found_is = (ap (λ (x : Walk). x.answered) e, ap (λ (x : Walk). x.held) e);
-      ran = subst (λ (x : List Event). Ran before after x) (sym (ap (λ (x : Walk). x.events) e ∙ append-nil p.events)) p.ran;
+      session = subst (λ (x : Session). StandsFor v x) (sym (ap (λ (x : RetryEffect). x.session) e)) p.stands;
+      found_is = (ap (λ (x : RetryEffect). x.answered) e, ap (λ (x : RetryEffect). x.waiting) e);
+      ran = subst (λ (x : List RunEvent). Performs before after x) (sym (ap (λ (x : RetryEffect). x.events) e ∙ append-nil p.events)) p.ran;
     }
 
--- a try that failed did a front of what the walk does
-pub passing_part : {cut : Type 0} (desc : Described) (s : Session) (first now : List Held) (i : ℕ) (v : View) (before mid after : Seen) (h : Held) → slice_get now i ≡ Some h → has_line (take i now) h.program ≡ false
-    → RanPart cut mid after (tries h (step desc s h.program h.verb)) → Passing desc s first now i v before mid → RanPart cut before after (walk desc s [] first).events
+-- a try that failed did a prefix of what the retry does
+pub passing_part : {cut : Type 0} (desc : Described) (s : Session) (first now : List WaitingLine) (i : ℕ) (v : View) (before mid after : Seen) (h : WaitingLine) → slice_get now i ≡ Some h → has_line (take i now) h.program ≡ false
+    → PerformsPrefix cut mid after (tries h (step desc s h.program h.verb)) → Passing desc s first now i v before mid → PerformsPrefix cut before after (retry desc s [] first).events
 passing_part {cut} desc s first now i v before mid after h here has part p =
     by_reply (is_waits (step desc s h.program h.verb).reply) refl
   where
     o : Outcome
     o = step desc s h.program h.verb
 
-    from : (x : Walk) (rest : List Event) → walk desc s (take i now) (drop i now) ≡ x → x.events ≡ tries h o ++ rest → RanPart cut before after (walk desc s [] first).events
-    from x rest e more = subst (λ (t : List Event). RanPart cut before after t) (sym (ap (λ (y : Walk). y.events) (p.is ∙ ap (λ (y : Walk). behind p.events y) e) ∙ ap (λ (t : List Event). p.events ++ t) more))
+    from : (x : RetryEffect) (rest : List RunEvent) → retry desc s (take i now) (drop i now) ≡ x → x.events ≡ tries h o ++ rest → PerformsPrefix cut before after (retry desc s [] first).events
+    from x rest e more = subst (λ (t : List RunEvent). PerformsPrefix cut before after t) (sym (ap (λ (y : RetryEffect). y.events) (p.is ∙ ap (λ (y : RetryEffect). events_before p.events y) e) ∙ ap (λ (t : List RunEvent). p.events ++ t) more))
         (part_on before mid after p.events (tries h o ++ rest) p.ran (part_of_first mid after (tries h o) rest part))
 
-    by_reply : (b : Bool) → is_waits o.reply ≡ b → RanPart cut before after (walk desc s [] first).events
-    by_reply true waits = from _ _ (ap (λ (l : List Held). walk desc s (take i now) l) (at_place now i h here) ∙ walk_waits desc s (take i now) h (drop (i + 1) now) has waits) refl
-    by_reply false waits = from _ [] (ap (λ (l : List Held). walk desc s (take i now) l) (at_place now i h here) ∙ walk_answers desc s (take i now) h (drop (i + 1) now) has waits) (sym (append-nil (tries h o)))
+    by_reply : (b : Bool) → is_waits o.reply ≡ b → PerformsPrefix cut before after (retry desc s [] first).events
+    by_reply true waits = from _ _ (ap (λ (l : List WaitingLine). retry desc s (take i now) l) (at_place now i h here) ∙ retry_waits desc s (take i now) h (drop (i + 1) now) has waits) refl
+    by_reply false waits = from _ [] (ap (λ (l : List WaitingLine). retry desc s (take i now) l) (at_place now i h here) ∙ retry_answers desc s (take i now) h (drop (i + 1) now) has waits) (sym (append-nil (tries h o)))
 
 -- the line at a place
-pub line_at : (held : List Held) (i : ℕ) → i < length held → (h : Held) × (slice_get held i ≡ Some h)
+pub line_at : (waiting : List WaitingLine) (i : ℕ) → i < length waiting → (h : WaitingLine) × (slice_get waiting i ≡ Some h)
 line_at [] i within = absurd (omega (arith, within))
 line_at (x ∷ xs) zero within = (x, refl)
 line_at (x ∷ xs) (suc i) within = line_at xs i (omega (arith, within))

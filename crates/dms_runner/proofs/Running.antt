@@ -9,12 +9,12 @@ use Rattle.dms_feed.specs.Lines.{raw_lines, first_line, after_line, onto_first}
 use Rattle.dms_model.specs.Db.{Db}
 use Rattle.dms_block.specs.Texts.{Prints}
 use Rattle.dms_model.specs.Session.{Session, ended}
-use Rattle.dms_storeverbs.specs.View.{View, Stands}
-use Rattle.dms_runner.specs.declared.held.Held.{Held}
-use Rattle.dms_runner.specs.Answers.{Going, Lined, Roomy, going_on, line_step, lines_run, onto, begun, script_run, ending, script_events}
-use Rattle.dms_runner.specs.Events.{Event, Ran, RanPart, text_of}
+use Rattle.dms_storeverbs.specs.View.{View, StandsFor}
+use Rattle.dms_runner.specs.declared.waiting.WaitingLine.{WaitingLine}
+use Rattle.dms_runner.specs.Answers.{RunState, LineEffect, HasRoomForLine, nothing_done, line_step, lines_run, lines_before, first_state, script_run, end_events, script_events}
+use Rattle.dms_runner.specs.Events.{RunEvent, Performs, PerformsPrefix, text_of}
 use Rattle.dms_feed.specs.Raws.{CutLine}
-use Rattle.dms_runner.specs.Running.{bytes_of, joined, TookLine, Answered, Took, PassesLines, PassesBytes, PassesHeld, CutInput}
+use Rattle.dms_runner.specs.Running.{bytes_of, text_of_lines, TakesScriptLine, AnswersWhole, TakesLines, PassesLines, PassesBytes, PassesWaiting, CutInput}
 use Rattle.dms_runner.proofs.Texts.{prints_on}
 use Rattle.dms_runner.proofs.Happening.{ran_none, ran_on, part_on, part_of_first}
 use Rattle.dms_runner.proofs.Lining.{line_low}
@@ -47,32 +47,32 @@ first_joined (b ∷ bs) = at (eqb b 10) (first_joined bs)
     at true h = refl
     at false h = ap (λ (l : List ℕ). b ∷ l) h
 
-pub joined_on : (xs ys : List (List ℕ)) → joined (xs ++ ys) ≡ joined xs ++ joined ys
+pub joined_on : (xs ys : List (List ℕ)) → text_of_lines (xs ++ ys) ≡ text_of_lines xs ++ text_of_lines ys
 joined_on [] ys = refl
-joined_on (x ∷ xs) ys = ap (λ (l : List ℕ). x ++ l) (joined_on xs ys) ∙ sym (append_assoc x (joined xs) (joined ys))
+joined_on (x ∷ xs) ys = ap (λ (l : List ℕ). x ++ l) (joined_on xs ys) ∙ sym (append_assoc x (text_of_lines xs) (text_of_lines ys))
 
 -- one line more stands before what follows it
-joined_step : (all rest : List ℕ) (done : List (List ℕ)) → all ≡ joined done ++ rest → all ≡ joined (done ++ first_line rest ∷ []) ++ after_line rest
+joined_step : (all rest : List ℕ) (done : List (List ℕ)) → all ≡ text_of_lines done ++ rest → all ≡ text_of_lines (done ++ first_line rest ∷ []) ++ after_line rest
 joined_step all rest done is =
     let l = first_line rest in
-    is ∙ ap (λ (r : List ℕ). joined done ++ r) (sym (first_joined rest)) ∙ sym (append_assoc (joined done) l (after_line rest))
-    ∙ ap (λ (k : List ℕ). (joined done ++ k) ++ after_line rest) (sym (append-nil l)) ∙ ap (λ (k : List ℕ). k ++ after_line rest) (sym (joined_on done (l ∷ [])))
+    is ∙ ap (λ (r : List ℕ). text_of_lines done ++ r) (sym (first_joined rest)) ∙ sym (append_assoc (text_of_lines done) l (after_line rest))
+    ∙ ap (λ (k : List ℕ). (text_of_lines done ++ k) ++ after_line rest) (sym (append-nil l)) ∙ ap (λ (k : List ℕ). k ++ after_line rest) (sym (joined_on done (l ∷ [])))
 
 -- The fold over lines
 
-run_none : (desc : Described) (g : Going) → lines_run desc g [] ≡ going_on g
+run_none : (desc : Described) (g : RunState) → lines_run desc g [] ≡ nothing_done g
 unfolding lines_run
 run_none desc g = refl
 
-run_step : (desc : Described) (g : Going) (l : List ℕ) (ls : List (List ℕ)) → (line_step desc g l).full ≡ false → lines_run desc g (l ∷ ls) ≡ onto (line_step desc g l) (lines_run desc (line_step desc g l).going ls)
+run_step : (desc : Described) (g : RunState) (l : List ℕ) (ls : List (List ℕ)) → (line_step desc g l).full ≡ false → lines_run desc g (l ∷ ls) ≡ lines_before (line_step desc g l) (lines_run desc (line_step desc g l).going ls)
 unfolding lines_run
 run_step desc g l ls room = rw room refl
 
-run_full : (desc : Described) (g : Going) (l : List ℕ) (ls : List (List ℕ)) → (line_step desc g l).full ≡ true → lines_run desc g (l ∷ ls) ≡ line_step desc g l
+run_full : (desc : Described) (g : RunState) (l : List ℕ) (ls : List (List ℕ)) → (line_step desc g l).full ≡ true → lines_run desc g (l ∷ ls) ≡ line_step desc g l
 unfolding lines_run
 run_full desc g l ls full = rw full refl
 
-onto_again : (a b c : Lined) → onto a (onto b c) ≡ onto (onto a b) c
+onto_again : (a b c : LineEffect) → lines_before a (lines_before b c) ≡ lines_before (lines_before a b) c
 onto_again a b c = λ j. record c { events = sym (append_assoc a.events b.events c.events) j }
 
 not_both : (b : Bool) (X : Type 0) → b ≡ true → b ≡ false → X
@@ -80,44 +80,44 @@ not_both true X p q = absurd (cc)
 not_both false X p q = absurd (cc)
 
 -- lines behind lines
-pub run_on : (desc : Described) (g : Going) (xs ys : List (List ℕ)) → (lines_run desc g xs).full ≡ false → lines_run desc g (xs ++ ys) ≡ onto (lines_run desc g xs) (lines_run desc (lines_run desc g xs).going ys)
-run_on desc g [] ys room = sym (ap (λ (l : Lined). onto l (lines_run desc l.going ys)) (run_none desc g))
+pub run_on : (desc : Described) (g : RunState) (xs ys : List (List ℕ)) → (lines_run desc g xs).full ≡ false → lines_run desc g (xs ++ ys) ≡ lines_before (lines_run desc g xs) (lines_run desc (lines_run desc g xs).going ys)
+run_on desc g [] ys room = sym (ap (λ (l : LineEffect). lines_before l (lines_run desc l.going ys)) (run_none desc g))
 run_on desc g (x ∷ xs) ys room = at (line_step desc g x).full refl (run_on desc (line_step desc g x).going xs ys)
   where
-    s : Lined
+    s : LineEffect
     s = line_step desc g x
 
-    at : (b : Bool) → s.full ≡ b → ((lines_run desc s.going xs).full ≡ false → lines_run desc s.going (xs ++ ys) ≡ onto (lines_run desc s.going xs) (lines_run desc (lines_run desc s.going xs).going ys))
-        → lines_run desc g (x ∷ (xs ++ ys)) ≡ onto (lines_run desc g (x ∷ xs)) (lines_run desc (lines_run desc g (x ∷ xs)).going ys)
-    at true is rest = not_both s.full _ is (sym (ap (λ (l : Lined). l.full) (run_full desc g x xs is)) ∙ room)
+    at : (b : Bool) → s.full ≡ b → ((lines_run desc s.going xs).full ≡ false → lines_run desc s.going (xs ++ ys) ≡ lines_before (lines_run desc s.going xs) (lines_run desc (lines_run desc s.going xs).going ys))
+        → lines_run desc g (x ∷ (xs ++ ys)) ≡ lines_before (lines_run desc g (x ∷ xs)) (lines_run desc (lines_run desc g (x ∷ xs)).going ys)
+    at true is rest = not_both s.full _ is (sym (ap (λ (l : LineEffect). l.full) (run_full desc g x xs is)) ∙ room)
     at false is rest =
-        let e : lines_run desc g (x ∷ xs) ≡ onto s (lines_run desc s.going xs) = run_step desc g x xs is in
-        let r : (lines_run desc s.going xs).full ≡ false = sym (ap (λ (l : Lined). l.full) e) ∙ room in
-        run_step desc g x (xs ++ ys) is ∙ ap (onto s) (rest r) ∙ onto_again s (lines_run desc s.going xs) (lines_run desc (lines_run desc s.going xs).going ys)
-        ∙ sym (ap (λ (l : Lined). onto l (lines_run desc l.going ys)) e)
+        let e : lines_run desc g (x ∷ xs) ≡ lines_before s (lines_run desc s.going xs) = run_step desc g x xs is in
+        let r : (lines_run desc s.going xs).full ≡ false = sym (ap (λ (l : LineEffect). l.full) e) ∙ room in
+        run_step desc g x (xs ++ ys) is ∙ ap (lines_before s) (rest r) ∙ onto_again s (lines_run desc s.going xs) (lines_run desc (lines_run desc s.going xs).going ys)
+        ∙ sym (ap (λ (l : LineEffect). lines_before l (lines_run desc l.going ys)) e)
 
 -- How a run stands
 
 -- after so many lines: those done, the bytes that are left, and what happened
-pub record Runs (desc : Described) (g : Going) (i room : ℕ) (all : List ℕ) (v : View) (held : List Held) (feed : List ℕ) (left : Option (List ℕ)) (before after : Seen) : Type 0 where
+pub record Runs (desc : Described) (g : RunState) (i room : ℕ) (all : List ℕ) (v : View) (waiting : List WaitingLine) (feed : List ℕ) (left : Option (List ℕ)) (before after : Seen) : Type 0 where
   pub done : List (List ℕ)
   pub rest : List ℕ
   pub remains : Remains feed left rest
   pub split : raw_lines all ≡ done ++ raw_lines rest
   pub count : length done ≡ i
   pub bytes : bytes_of done + room ≡ 2147483648
-  pub whole : all ≡ joined done ++ rest
+  pub whole : all ≡ text_of_lines done ++ rest
   pub roomy : (lines_run desc g done).full ≡ false
-  pub stands : Stands v (lines_run desc g done).going.session
-  pub held_is : held ≡ (lines_run desc g done).going.held
+  pub stands : StandsFor v (lines_run desc g done).going.session
+  pub waiting_is : waiting ≡ (lines_run desc g done).going.waiting
   pub line : (lines_run desc g done).going.line ≡ i
-  pub low : (lines_run desc g done).going.session.next + length (lines_run desc g done).going.held ≤ g.session.next + length g.held + i
-  pub ran : Ran before after (lines_run desc g done).events
+  pub low : (lines_run desc g done).going.session.next + length (lines_run desc g done).going.waiting ≤ g.session.next + length g.waiting + i
+  pub ran : Performs before after (lines_run desc g done).events
 
-pub runs_start : (desc : Described) (db : Db) (first : ℕ) (all : List ℕ) (v : View) (feed : List ℕ) (left : Option (List ℕ)) (now : Seen) → Stands v (begun db first).session → Remains feed left all
-    → Runs desc (begun db first) 0 2147483648 all v [] feed left now now
+pub runs_start : (desc : Described) (db : Db) (first : ℕ) (all : List ℕ) (v : View) (feed : List ℕ) (left : Option (List ℕ)) (now : Seen) → StandsFor v (first_state db first).session → Remains feed left all
+    → Runs desc (first_state db first) 0 2147483648 all v [] feed left now now
 runs_start desc db first all v feed left now stands remains =
-    let e : lines_run desc (begun db first) [] ≡ going_on (begun db first) = run_none desc (begun db first) in
+    let e : lines_run desc (first_state db first) [] ≡ nothing_done (first_state db first) = run_none desc (first_state db first) in
     record {
       done = [];
       rest = all;
@@ -126,34 +126,34 @@ runs_start desc db first all v feed left now stands remains =
       count = refl;
       bytes = refl;
       whole = refl;
-      roomy = ap (λ (l : Lined). l.full) e;
-      stands = subst (λ (s : Session). Stands v s) (sym (ap (λ (l : Lined). l.going.session) e)) stands;
-      held_is = sym (ap (λ (l : Lined). l.going.held) e);
-      line = ap (λ (l : Lined). l.going.line) e;
-      low = omega (arith, ap (λ (l : Lined). l.going.session.next) e, ap (λ (l : Lined). length l.going.held) e);
-      ran = subst (λ (t : List Event). Ran now now t) (sym (ap (λ (l : Lined). l.events) e)) (ran_none now);
+      roomy = ap (λ (l : LineEffect). l.full) e;
+      stands = subst (λ (s : Session). StandsFor v s) (sym (ap (λ (l : LineEffect). l.going.session) e)) stands;
+      waiting_is = sym (ap (λ (l : LineEffect). l.going.waiting) e);
+      line = ap (λ (l : LineEffect). l.going.line) e;
+      low = omega (arith, ap (λ (l : LineEffect). l.going.session.next) e, ap (λ (l : LineEffect). length l.going.waiting) e);
+      ran = subst (λ (t : List RunEvent). Performs now now t) (sym (ap (λ (l : LineEffect). l.events) e)) (ran_none now);
     }
 
 -- room for the numbers of the quiet points that the next line may lead to
-pub runs_room : (desc : Described) (db : Db) (first : ℕ) (i room : ℕ) (all : List ℕ) (v : View) (held : List Held) (feed : List ℕ) (left : Option (List ℕ)) (before after : Seen)
-    (r : Runs desc (begun db first) i room all v held feed left before after) → i < 1000000 → first + 1000003 < 2 ^ 64 → Roomy (lines_run desc (begun db first) r.done).going
-runs_room desc db first i room all v held feed left before after r more small = omega (arith, r.low, more, small)
+pub runs_room : (desc : Described) (db : Db) (first : ℕ) (i room : ℕ) (all : List ℕ) (v : View) (waiting : List WaitingLine) (feed : List ℕ) (left : Option (List ℕ)) (before after : Seen)
+    (r : Runs desc (first_state db first) i room all v waiting feed left before after) → i < 1000000 → first + 1000003 < 2 ^ 64 → HasRoomForLine (lines_run desc (first_state db first) r.done).going
+runs_room desc db first i room all v waiting feed left before after r more small = omega (arith, r.low, more, small)
 
 -- and for the one that the end asks for
-pub runs_next : (desc : Described) (db : Db) (first : ℕ) (i room : ℕ) (all : List ℕ) (v : View) (held : List Held) (feed : List ℕ) (left : Option (List ℕ)) (before after : Seen)
-    (r : Runs desc (begun db first) i room all v held feed left before after) → i ≤ 1000000 → first + 1000003 < 2 ^ 64 → (lines_run desc (begun db first) r.done).going.session.next + 1 < 2 ^ 64
-runs_next desc db first i room all v held feed left before after r few small = omega (arith, r.low, few, small)
+pub runs_next : (desc : Described) (db : Db) (first : ℕ) (i room : ℕ) (all : List ℕ) (v : View) (waiting : List WaitingLine) (feed : List ℕ) (left : Option (List ℕ)) (before after : Seen)
+    (r : Runs desc (first_state db first) i room all v waiting feed left before after) → i ≤ 1000000 → first + 1000003 < 2 ^ 64 → (lines_run desc (first_state db first) r.done).going.session.next + 1 < 2 ^ 64
+runs_next desc db first i room all v waiting feed left before after r few small = omega (arith, r.low, few, small)
 
-one_more : (desc : Described) (g : Going) (done : List (List ℕ)) (l : List ℕ) → (lines_run desc g done).full ≡ false → (line_step desc (lines_run desc g done).going l).full ≡ false
-    → lines_run desc g (done ++ l ∷ []) ≡ onto (lines_run desc g done) (onto (line_step desc (lines_run desc g done).going l) (going_on (line_step desc (lines_run desc g done).going l).going))
+one_more : (desc : Described) (g : RunState) (done : List (List ℕ)) (l : List ℕ) → (lines_run desc g done).full ≡ false → (line_step desc (lines_run desc g done).going l).full ≡ false
+    → lines_run desc g (done ++ l ∷ []) ≡ lines_before (lines_run desc g done) (lines_before (line_step desc (lines_run desc g done).going l) (nothing_done (line_step desc (lines_run desc g done).going l).going))
 one_more desc g done l room more =
     let now = (lines_run desc g done).going in
-    run_on desc g done (l ∷ []) room ∙ ap (onto (lines_run desc g done)) (run_step desc now l [] more ∙ ap (onto (line_step desc now l)) (run_none desc (line_step desc now l).going))
+    run_on desc g done (l ∷ []) room ∙ ap (lines_before (lines_run desc g done)) (run_step desc now l [] more ∙ ap (lines_before (line_step desc now l)) (run_none desc (line_step desc now l).going))
 
 -- one line more was taken
-pub runs_on : (desc : Described) (g : Going) (i room room' : ℕ) (all : List ℕ) (v w : View) (held next : List Held) (feed feed' : List ℕ) (left left' : Option (List ℕ)) (before mid after : Seen)
-    (r : Runs desc g i room all v held feed left before mid) → TookLine desc (lines_run desc g r.done).going r.rest room room' w next feed' left' mid after → Runs desc g (i + 1) room' all w next feed' left' before after
-runs_on desc g i room room' all v w held next feed feed' left left' before mid after r t =
+pub runs_on : (desc : Described) (g : RunState) (i room room' : ℕ) (all : List ℕ) (v w : View) (waiting next : List WaitingLine) (feed feed' : List ℕ) (left left' : Option (List ℕ)) (before mid after : Seen)
+    (r : Runs desc g i room all v waiting feed left before mid) → TakesScriptLine desc (lines_run desc g r.done).going r.rest room room' w next feed' left' mid after → Runs desc g (i + 1) room' all w next feed' left' before after
+runs_on desc g i room room' all v w waiting next feed feed' left left' before mid after r t =
     let now = (lines_run desc g r.done).going in
     let l = first_line r.rest in
     let s = line_step desc now l in
@@ -167,21 +167,21 @@ runs_on desc g i room room' all v w held next feed feed' left left' before mid a
       count = omega (arith, length-append r.done (l ∷ []), r.count);
       bytes = omega (arith, bytes_on r.done (l ∷ []), r.bytes, t.bytes);
       whole = joined_step all r.rest r.done r.whole;
-      roomy = ap (λ (x : Lined). x.full) e;
-      stands = subst (λ (x : Session). Stands w x) (sym (ap (λ (x : Lined). x.going.session) e)) t.goes.session;
-      held_is = t.goes.held_is ∙ sym (ap (λ (x : Lined). x.going.held) e);
-      line = ap (λ (x : Lined). x.going.line) e ∙ low.1 ∙ ap (λ (n : ℕ). n + 1) r.line;
-      low = omega (arith, r.low, low.0, ap (λ (x : Lined). x.going.session.next) e, ap (λ (x : Lined). length x.going.held) e);
-      ran = subst (λ (x : List Event). Ran before after x) (sym (ap (λ (x : Lined). x.events) e ∙ ap (λ (x : List Event). (lines_run desc g r.done).events ++ x) (append-nil s.events))) (ran_on before mid after (lines_run desc g r.done).events s.events r.ran t.goes.ran);
+      roomy = ap (λ (x : LineEffect). x.full) e;
+      stands = subst (λ (x : Session). StandsFor w x) (sym (ap (λ (x : LineEffect). x.going.session) e)) t.goes.session;
+      waiting_is = t.goes.waiting_is ∙ sym (ap (λ (x : LineEffect). x.going.waiting) e);
+      line = ap (λ (x : LineEffect). x.going.line) e ∙ low.1 ∙ ap (λ (n : ℕ). n + 1) r.line;
+      low = omega (arith, r.low, low.0, ap (λ (x : LineEffect). x.going.session.next) e, ap (λ (x : LineEffect). length x.going.waiting) e);
+      ran = subst (λ (x : List RunEvent). Performs before after x) (sym (ap (λ (x : LineEffect). x.events) e ∙ ap (λ (x : List RunEvent). (lines_run desc g r.done).events ++ x) (append-nil s.events))) (ran_on before mid after (lines_run desc g r.done).events s.events r.ran t.goes.ran);
     }
 
 taken : (all : List ℕ) (done more : List (List ℕ)) (i : ℕ) → raw_lines all ≡ done ++ more → length done ≡ i → take i (raw_lines all) ≡ done
 taken all done more i split count = ap (take i) split ∙ take_at done more i count
 
 -- the lines that were done, and what they answered
-pub runs_took : (desc : Described) (db : Db) (first : ℕ) (i room : ℕ) (all : List ℕ) (v : View) (held : List Held) (feed : List ℕ) (left : Option (List ℕ)) (before mid : Seen) (after : Option (List ℕ))
-    → Runs desc (begun db first) i room all v held feed left before mid → i ≤ 1000000 → Prints mid.said after [] → Took desc db first (raw_lines all) i before.said after
-runs_took desc db first i room all v held feed left before mid after r small same =
+pub runs_took : (desc : Described) (db : Db) (first : ℕ) (i room : ℕ) (all : List ℕ) (v : View) (waiting : List WaitingLine) (feed : List ℕ) (left : Option (List ℕ)) (before mid : Seen) (after : Option (List ℕ))
+    → Runs desc (first_state db first) i room all v waiting feed left before mid → i ≤ 1000000 → Prints mid.said after [] → TakesLines desc db first (raw_lines all) i before.said after
+runs_took desc db first i room all v waiting feed left before mid after r small same =
     let t : take i (raw_lines all) ≡ r.done = taken all r.done (raw_lines r.rest) i r.split r.count in
     record {
       within = omega (arith, ap length r.split, length-append r.done (raw_lines r.rest), r.count);
@@ -203,47 +203,47 @@ some_first [] h none = omega (arith, h)
 some_first (b ∷ bs) h none = cc
 
 -- the script has a line too many
-pub runs_lines : (desc : Described) (db : Db) (first : ℕ) (i room : ℕ) (all : List ℕ) (v : View) (held : List Held) (feed : List ℕ) (left : Option (List ℕ)) (before mid : Seen) (after : Option (List ℕ))
-    (r : Runs desc (begun db first) i room all v held feed left before mid) → Prints mid.said after [] → i ≡ 1000000 → r.rest ≢ [] → PassesLines desc db first (raw_lines all) before.said after
-runs_lines desc db first i room all v held feed left before mid after r same end some = (
+pub runs_lines : (desc : Described) (db : Db) (first : ℕ) (i room : ℕ) (all : List ℕ) (v : View) (waiting : List WaitingLine) (feed : List ℕ) (left : Option (List ℕ)) (before mid : Seen) (after : Option (List ℕ))
+    (r : Runs desc (first_state db first) i room all v waiting feed left before mid) → Prints mid.said after [] → i ≡ 1000000 → r.rest ≢ [] → PassesLines desc db first (raw_lines all) before.said after
+runs_lines desc db first i room all v waiting feed left before mid after r same end some = (
   omega (arith, ap length r.split, length-append r.done (raw_lines r.rest), r.count, end, some_lines r.rest some),
-  subst (λ (n : ℕ). Took desc db first (raw_lines all) n before.said after) end (runs_took desc db first i room all v held feed left before mid after r (omega (arith, end)) same),
+  subst (λ (n : ℕ). TakesLines desc db first (raw_lines all) n before.said after) end (runs_took desc db first i room all v waiting feed left before mid after r (omega (arith, end)) same),
 )
 
 -- the script has a byte too many
-pub runs_bytes : (desc : Described) (db : Db) (first : ℕ) (i room : ℕ) (all : List ℕ) (v : View) (held : List Held) (feed : List ℕ) (left : Option (List ℕ)) (before mid : Seen) (after : Option (List ℕ))
-    (r : Runs desc (begun db first) i room all v held feed left before mid) → i < 1000000 → Prints mid.said after [] → room < length (first_line r.rest) → PassesBytes desc db first (raw_lines all) before.said after
-runs_bytes desc db first i room all v held feed left before mid after r more same over = record {
+pub runs_bytes : (desc : Described) (db : Db) (first : ℕ) (i room : ℕ) (all : List ℕ) (v : View) (waiting : List WaitingLine) (feed : List ℕ) (left : Option (List ℕ)) (before mid : Seen) (after : Option (List ℕ))
+    (r : Runs desc (first_state db first) i room all v waiting feed left before mid) → i < 1000000 → Prints mid.said after [] → room < length (first_line r.rest) → PassesBytes desc db first (raw_lines all) before.said after
+runs_bytes desc db first i room all v waiting feed left before mid after r more same over = record {
   n = i;
-  took = runs_took desc db first i room all v held feed left before mid after r (omega (arith, more)) same;
+  took = runs_took desc db first i room all v waiting feed left before mid after r (omega (arith, more)) same;
   few = more;
   over = omega (arith, ap bytes_of (taken_more all r.rest r.done i r.split r.count (some_first r.rest (omega (arith, over)))), bytes_on r.done (first_line r.rest ∷ []), r.bytes, over);
 }
 
 -- a line would be one too many to hold
-pub runs_held : (desc : Described) (db : Db) (first : ℕ) (i room : ℕ) (all : List ℕ) (v : View) (held : List Held) (feed : List ℕ) (left : Option (List ℕ)) (before mid : Seen) (after : Option (List ℕ))
-    (r : Runs desc (begun db first) i room all v held feed left before mid) → i < 1000000 → Prints mid.said after [] → r.rest ≢ [] → (line_step desc (lines_run desc (begun db first) r.done).going (first_line r.rest)).full ≡ true → length (first_line r.rest) ≤ room
-    → PassesHeld desc db first (raw_lines all) before.said after
-runs_held desc db first i room all v held feed left before mid after r more same some full fits =
-    let g = begun db first in
+pub runs_waiting : (desc : Described) (db : Db) (first : ℕ) (i room : ℕ) (all : List ℕ) (v : View) (waiting : List WaitingLine) (feed : List ℕ) (left : Option (List ℕ)) (before mid : Seen) (after : Option (List ℕ))
+    (r : Runs desc (first_state db first) i room all v waiting feed left before mid) → i < 1000000 → Prints mid.said after [] → r.rest ≢ [] → (line_step desc (lines_run desc (first_state db first) r.done).going (first_line r.rest)).full ≡ true → length (first_line r.rest) ≤ room
+    → PassesWaiting desc db first (raw_lines all) before.said after
+runs_waiting desc db first i room all v waiting feed left before mid after r more same some full fits =
+    let g = first_state db first in
     let t = taken_more all r.rest r.done i r.split r.count some in
     record {
       n = i;
-      took = runs_took desc db first i room all v held feed left before mid after r (omega (arith, more)) same;
+      took = runs_took desc db first i room all v waiting feed left before mid after r (omega (arith, more)) same;
       few = more;
       short = omega (arith, ap bytes_of t, bytes_on r.done (first_line r.rest ∷ []), r.bytes, fits);
-      full = ap (λ (ls : List (List ℕ)). (script_run desc db first ls).full) t ∙ ap (λ (l : Lined). l.full) (run_on desc g r.done (first_line r.rest ∷ []) r.roomy) ∙ ap (λ (l : Lined). l.full) (run_full desc (lines_run desc g r.done).going (first_line r.rest) [] full) ∙ full;
+      full = ap (λ (ls : List (List ℕ)). (script_run desc db first ls).full) t ∙ ap (λ (l : LineEffect). l.full) (run_on desc g r.done (first_line r.rest ∷ []) r.roomy) ∙ ap (λ (l : LineEffect). l.full) (run_full desc (lines_run desc g r.done).going (first_line r.rest) [] full) ∙ full;
     }
 
 -- taking from the input failed
-pub runs_cut : (desc : Described) (db : Db) (first : ℕ) (k i room : ℕ) (all : List ℕ) (v : View) (held : List Held) (feed : List ℕ) (left left' : Option (List ℕ)) (before mid : Seen) (after : Option (List ℕ))
-    (r : Runs desc (begun db first) i room all v held feed left before mid) → i ≤ 1000000 → k ≤ room → (i ≡ 1000000 → k ≡ 0) → Prints mid.said after [] → CutLine k left' r.rest → CutInput desc db first all left' before.said after
-runs_cut desc db first k i room all v held feed left left' before mid after r small under last same cut = record {
+pub runs_cut : (desc : Described) (db : Db) (first : ℕ) (k i room : ℕ) (all : List ℕ) (v : View) (waiting : List WaitingLine) (feed : List ℕ) (left left' : Option (List ℕ)) (before mid : Seen) (after : Option (List ℕ))
+    (r : Runs desc (first_state db first) i room all v waiting feed left before mid) → i ≤ 1000000 → k ≤ room → (i ≡ 1000000 → k ≡ 0) → Prints mid.said after [] → CutLine k left' r.rest → CutInput desc db first all left' before.said after
+runs_cut desc db first k i room all v waiting feed left left' before mid after r small under last same cut = record {
   n = i;
-  took = runs_took desc db first i room all v held feed left before mid after r small same;
+  took = runs_took desc db first i room all v waiting feed left before mid after r small same;
   part = cut.part;
   rest = cut.rest;
-  whole = r.whole ∙ ap (λ (x : List ℕ). joined r.done ++ x) cut.whole ∙ ap (λ (ls : List (List ℕ)). joined ls ++ (cut.part ++ cut.rest)) (sym (taken all r.done (raw_lines r.rest) i r.split r.count));
+  whole = r.whole ∙ ap (λ (x : List ℕ). text_of_lines r.done ++ x) cut.whole ∙ ap (λ (ls : List (List ℕ)). text_of_lines ls ++ (cut.part ++ cut.rest)) (sym (taken all r.done (raw_lines r.rest) i r.split r.count));
   left_is = cut.left_is;
   unended = cut.unended;
   fits = omega (arith, ap bytes_of (taken all r.done (raw_lines r.rest) i r.split r.count), r.bytes, cut.fits, under);
@@ -254,56 +254,56 @@ lines_none : (rest : List ℕ) → rest ≡ [] → raw_lines rest ≡ []
 lines_none rest none = ap raw_lines none
 
 -- the input's end: what happens now ends the run
-pub runs_ran : (desc : Described) (db : Db) (first : ℕ) (i room : ℕ) (all : List ℕ) (v : View) (held : List Held) (feed : List ℕ) (left : Option (List ℕ)) (before mid after : Seen)
-    (r : Runs desc (begun db first) i room all v held feed left before mid) → r.rest ≡ [] → Ran mid after (ending held) → Ran before after (script_events desc db first (raw_lines all))
+pub runs_ran : (desc : Described) (db : Db) (first : ℕ) (i room : ℕ) (all : List ℕ) (v : View) (waiting : List WaitingLine) (feed : List ℕ) (left : Option (List ℕ)) (before mid after : Seen)
+    (r : Runs desc (first_state db first) i room all v waiting feed left before mid) → r.rest ≡ [] → Performs mid after (end_events waiting) → Performs before after (script_events desc db first (raw_lines all))
 unfolding script_events
-runs_ran desc db first i room all v held feed left before mid after r none last =
-    let g = begun db first in
+runs_ran desc db first i room all v waiting feed left before mid after r none last =
+    let g = first_state db first in
     let whole : raw_lines all ≡ r.done = r.split ∙ ap (λ (ls : List (List ℕ)). r.done ++ ls) (lines_none r.rest none) ∙ append-nil r.done in
-    subst (λ (ls : List (List ℕ)). Ran before after ((script_run desc db first ls).events ++ ending (script_run desc db first ls).going.held)) (sym whole)
-    (ran_on before mid after (lines_run desc g r.done).events (ending (lines_run desc g r.done).going.held) r.ran (subst (λ (hs : List Held). Ran mid after (ending hs)) r.held_is last))
+    subst (λ (ls : List (List ℕ)). Performs before after ((script_run desc db first ls).events ++ end_events (script_run desc db first ls).going.waiting)) (sym whole)
+    (ran_on before mid after (lines_run desc g r.done).events (end_events (lines_run desc g r.done).going.waiting) r.ran (subst (λ (hs : List WaitingLine). Performs mid after (end_events hs)) r.waiting_is last))
 
-pub runs_end : (desc : Described) (db : Db) (first : ℕ) (i room : ℕ) (all : List ℕ) (v : View) (held : List Held) (feed : List ℕ) (left : Option (List ℕ)) (before mid after : Seen)
-    (r : Runs desc (begun db first) i room all v held feed left before mid) → i ≤ 1000000 → r.rest ≡ [] → Ran mid after (ending held) → Answered desc db first (raw_lines all) before.said after.said
-runs_end desc db first i room all v held feed left before mid after r small none last =
+pub runs_end : (desc : Described) (db : Db) (first : ℕ) (i room : ℕ) (all : List ℕ) (v : View) (waiting : List WaitingLine) (feed : List ℕ) (left : Option (List ℕ)) (before mid after : Seen)
+    (r : Runs desc (first_state db first) i room all v waiting feed left before mid) → i ≤ 1000000 → r.rest ≡ [] → Performs mid after (end_events waiting) → AnswersWhole desc db first (raw_lines all) before.said after.said
+runs_end desc db first i room all v waiting feed left before mid after r small none last =
     let whole : raw_lines all ≡ r.done = r.split ∙ ap (λ (ls : List (List ℕ)). r.done ++ ls) (lines_none r.rest none) ∙ append-nil r.done in
     record {
       few = omega (arith, ap length whole, r.count, small);
       short = omega (arith, ap bytes_of whole, r.bytes);
       room = ap (λ (ls : List (List ℕ)). (script_run desc db first ls).full) whole ∙ r.roomy;
-      text = (runs_ran desc db first i room all v held feed left before mid after r none last).text;
+      text = (runs_ran desc db first i room all v waiting feed left before mid after r none last).text;
     }
 
 -- the session at the end, of the whole script
-pub runs_ended : (desc : Described) (db : Db) (first : ℕ) (i room : ℕ) (all : List ℕ) (v w : View) (held : List Held) (feed : List ℕ) (left : Option (List ℕ)) (before mid : Seen)
-    (r : Runs desc (begun db first) i room all v held feed left before mid) → r.rest ≡ [] → Stands w (ended (lines_run desc (begun db first) r.done).going.session) → Stands w (ended (script_run desc db first (raw_lines all)).going.session)
-runs_ended desc db first i room all v w held feed left before mid r none stands =
+pub runs_ended : (desc : Described) (db : Db) (first : ℕ) (i room : ℕ) (all : List ℕ) (v w : View) (waiting : List WaitingLine) (feed : List ℕ) (left : Option (List ℕ)) (before mid : Seen)
+    (r : Runs desc (first_state db first) i room all v waiting feed left before mid) → r.rest ≡ [] → StandsFor w (ended (lines_run desc (first_state db first) r.done).going.session) → StandsFor w (ended (script_run desc db first (raw_lines all)).going.session)
+runs_ended desc db first i room all v w waiting feed left before mid r none stands =
     let whole : raw_lines all ≡ r.done = r.split ∙ ap (λ (ls : List (List ℕ)). r.done ++ ls) (lines_none r.rest none) ∙ append-nil r.done in
-    subst (λ (ls : List (List ℕ)). Stands w (ended (script_run desc db first ls).going.session)) (sym whole) stands
+    subst (λ (ls : List (List ℕ)). StandsFor w (ended (script_run desc db first ls).going.session)) (sym whole) stands
 
--- a front of what the lines to come do is, behind what happened, a front of the whole
-pub runs_part : {cut : Type 0} (desc : Described) (db : Db) (first : ℕ) (i room : ℕ) (all : List ℕ) (v : View) (held : List Held) (feed : List ℕ) (left : Option (List ℕ)) (before mid after : Seen)
-    (r : Runs desc (begun db first) i room all v held feed left before mid) → RanPart cut mid after (lines_run desc (lines_run desc (begun db first) r.done).going (raw_lines r.rest)).events
-    → RanPart cut before after (script_events desc db first (raw_lines all))
+-- a prefix of what the lines to come do is, behind what happened, a prefix of the whole
+pub runs_part : {cut : Type 0} (desc : Described) (db : Db) (first : ℕ) (i room : ℕ) (all : List ℕ) (v : View) (waiting : List WaitingLine) (feed : List ℕ) (left : Option (List ℕ)) (before mid after : Seen)
+    (r : Runs desc (first_state db first) i room all v waiting feed left before mid) → PerformsPrefix cut mid after (lines_run desc (lines_run desc (first_state db first) r.done).going (raw_lines r.rest)).events
+    → PerformsPrefix cut before after (script_events desc db first (raw_lines all))
 unfolding script_events
-runs_part {cut} desc db first i room all v held feed left before mid after r part =
-    let g = begun db first in
-    let e : lines_run desc g (raw_lines all) ≡ onto (lines_run desc g r.done) (lines_run desc (lines_run desc g r.done).going (raw_lines r.rest)) = ap (lines_run desc g) r.split ∙ run_on desc g r.done (raw_lines r.rest) r.roomy in
-    part_of_first before after (lines_run desc g (raw_lines all)).events (ending (lines_run desc g (raw_lines all)).going.held)
-    (subst (λ (t : List Event). RanPart cut before after t) (sym (ap (λ (l : Lined). l.events) e)) (part_on before mid after (lines_run desc g r.done).events (lines_run desc (lines_run desc g r.done).going (raw_lines r.rest)).events r.ran part))
+runs_part {cut} desc db first i room all v waiting feed left before mid after r part =
+    let g = first_state db first in
+    let e : lines_run desc g (raw_lines all) ≡ lines_before (lines_run desc g r.done) (lines_run desc (lines_run desc g r.done).going (raw_lines r.rest)) = ap (lines_run desc g) r.split ∙ run_on desc g r.done (raw_lines r.rest) r.roomy in
+    part_of_first before after (lines_run desc g (raw_lines all)).events (end_events (lines_run desc g (raw_lines all)).going.waiting)
+    (subst (λ (t : List RunEvent). PerformsPrefix cut before after t) (sym (ap (λ (l : LineEffect). l.events) e)) (part_on before mid after (lines_run desc g r.done).events (lines_run desc (lines_run desc g r.done).going (raw_lines r.rest)).events r.ran part))
 
--- a front of what happens at the end
-pub runs_end_part : {cut : Type 0} (desc : Described) (db : Db) (first : ℕ) (i room : ℕ) (all : List ℕ) (v : View) (held : List Held) (feed : List ℕ) (left : Option (List ℕ)) (before mid after : Seen)
-    (r : Runs desc (begun db first) i room all v held feed left before mid) → r.rest ≡ [] → RanPart cut mid after (ending held) → RanPart cut before after (script_events desc db first (raw_lines all))
+-- a prefix of what happens at the end
+pub runs_end_part : {cut : Type 0} (desc : Described) (db : Db) (first : ℕ) (i room : ℕ) (all : List ℕ) (v : View) (waiting : List WaitingLine) (feed : List ℕ) (left : Option (List ℕ)) (before mid after : Seen)
+    (r : Runs desc (first_state db first) i room all v waiting feed left before mid) → r.rest ≡ [] → PerformsPrefix cut mid after (end_events waiting) → PerformsPrefix cut before after (script_events desc db first (raw_lines all))
 unfolding script_events
-runs_end_part {cut} desc db first i room all v held feed left before mid after r none part =
-    let g = begun db first in
+runs_end_part {cut} desc db first i room all v waiting feed left before mid after r none part =
+    let g = first_state db first in
     let whole : raw_lines all ≡ r.done = r.split ∙ ap (λ (ls : List (List ℕ)). r.done ++ ls) (lines_none r.rest none) ∙ append-nil r.done in
-    subst (λ (ls : List (List ℕ)). RanPart cut before after ((script_run desc db first ls).events ++ ending (script_run desc db first ls).going.held)) (sym whole)
-    (part_on before mid after (lines_run desc g r.done).events (ending (lines_run desc g r.done).going.held) r.ran (subst (λ (hs : List Held). RanPart cut mid after (ending hs)) r.held_is part))
+    subst (λ (ls : List (List ℕ)). PerformsPrefix cut before after ((script_run desc db first ls).events ++ end_events (script_run desc db first ls).going.waiting)) (sym whole)
+    (part_on before mid after (lines_run desc g r.done).events (end_events (lines_run desc g r.done).going.waiting) r.ran (subst (λ (hs : List WaitingLine). PerformsPrefix cut mid after (end_events hs)) r.waiting_is part))
 
--- a front of what a line does is one of what it and those behind it do
-pub line_part : {cut : Type 0} (desc : Described) (g : Going) (all : List ℕ) (before after : Seen) → all ≢ [] → RanPart cut before after (line_step desc g (first_line all)).events → RanPart cut before after (lines_run desc g (raw_lines all)).events
+-- a prefix of what a line does is one of what it and those behind it do
+pub line_part : {cut : Type 0} (desc : Described) (g : RunState) (all : List ℕ) (before after : Seen) → all ≢ [] → PerformsPrefix cut before after (line_step desc g (first_line all)).events → PerformsPrefix cut before after (lines_run desc g (raw_lines all)).events
 line_part {cut} desc g all before after some part = at (line_step desc g l).full refl
   where
     l : List ℕ
@@ -312,7 +312,7 @@ line_part {cut} desc g all before after some part = at (line_step desc g l).full
     more : List (List ℕ)
     more = raw_lines (after_line all)
 
-    at : (b : Bool) → (line_step desc g l).full ≡ b → RanPart cut before after (lines_run desc g (raw_lines all)).events
-    at true is = subst (λ (t : List Event). RanPart cut before after t) (sym (ap (λ (ls : List (List ℕ)). (lines_run desc g ls).events) (lines_step all some) ∙ ap (λ (x : Lined). x.events) (run_full desc g l more is))) part
-    at false is = subst (λ (t : List Event). RanPart cut before after t) (sym (ap (λ (ls : List (List ℕ)). (lines_run desc g ls).events) (lines_step all some) ∙ ap (λ (x : Lined). x.events) (run_step desc g l more is)))
+    at : (b : Bool) → (line_step desc g l).full ≡ b → PerformsPrefix cut before after (lines_run desc g (raw_lines all)).events
+    at true is = subst (λ (t : List RunEvent). PerformsPrefix cut before after t) (sym (ap (λ (ls : List (List ℕ)). (lines_run desc g ls).events) (lines_step all some) ∙ ap (λ (x : LineEffect). x.events) (run_full desc g l more is))) part
+    at false is = subst (λ (t : List RunEvent). PerformsPrefix cut before after t) (sym (ap (λ (ls : List (List ℕ)). (lines_run desc g ls).events) (lines_step all some) ∙ ap (λ (x : LineEffect). x.events) (run_step desc g l more is)))
         (part_of_first before after (line_step desc g l).events (lines_run desc (line_step desc g l).going more).events part)

@@ -10,93 +10,93 @@ use Rattle.dms_script.specs.declared.line.Line.{Line}
 use Rattle.dms_script.specs.declared.line.Line.TheVariants.{Empty, Verb as Spoken, Bad}
 use Rattle.dms_script.specs.Lines.{line_of}
 use Rattle.dms_script.specs.Replies.{bad_text, unanswered_text}
-use Rattle.dms_runner.specs.declared.held.Held.{Held}
-use Rattle.dms_runner.specs.Events.{Event, calls, says, goes_back, text_of, quiets_of}
-use Rattle.dms_runner.specs.Held.{has_line, answer_text, Walk, walks, behind}
+use Rattle.dms_runner.specs.declared.waiting.WaitingLine.{WaitingLine}
+use Rattle.dms_runner.specs.Events.{RunEvent, calls, says, goes_back, text_of, quiets_of}
+use Rattle.dms_runner.specs.Waiting.{has_line, answer_text, RetryEffect, retries, events_before}
 
--- how a run stands: the session, the held lines in order of line number, and how many lines were taken
-pub record Going : Type 0 where
+-- how a run stands: the session, the waiting lines in order of line number, and how many lines were taken
+pub record RunState : Type 0 where
   pub session : Session
-  pub held : List Held
+  pub waiting : List WaitingLine
   pub line : ℕ
 
 -- one line more was taken
-abbrev pub counted : Going → Going
-counted g = record g { line = g.line + 1 }
+abbrev pub one_line_more : RunState → RunState
+one_line_more g = record g { line = g.line + 1 }
 
 -- room for the numbers of the quiet points that one more line may lead to: a step makes one at most
-abbrev pub Roomy : Going → Type 0
-Roomy g = g.session.next + length g.held + 3 < 2 ^ 64
+abbrev pub HasRoomForLine : RunState → Type 0
+HasRoomForLine g = g.session.next + length g.waiting + 3 < 2 ^ 64
 
 -- what a line, or a row of lines, leaves and does, and whether one line too many would be held
-pub record Lined : Type 0 where
-  pub going : Going
-  pub events : List Event
+pub record LineEffect : Type 0 where
+  pub going : RunState
+  pub events : List RunEvent
   pub full : Bool
 
-abbrev pub going_on : Going → Lined
-going_on g = record { going = g; events = []; full = false }
+abbrev pub nothing_done : RunState → LineEffect
+nothing_done g = record { going = g; events = []; full = false }
 
-abbrev pub walked : ℕ → Walk → Lined
-walked line w = record { going = record { session = w.session; held = w.held; line = line }; events = w.events; full = false }
+abbrev pub after_retries : ℕ → RetryEffect → LineEffect
+after_retries line w = record { going = record { session = w.session; waiting = w.waiting; line = line }; events = w.events; full = false }
 
 -- At most so many lines are held; the next one is the limit. The try, where there was one, comes before that test; something is
 -- said only of a line that is held
-abbrev pub held_on : Going → Session → Held → List Event → List Event → Lined
-held_on g s h tried said =
-    if nat_le 10000 (length g.held) then record { going = record g { session = s }; events = tried; full = true }
-    else record { going = record { session = s; held = g.held ++ h ∷ []; line = g.line }; events = tried ++ said; full = false }
+abbrev pub put_to_wait : RunState → Session → WaitingLine → List RunEvent → List RunEvent → LineEffect
+put_to_wait g s h first_try_effect said =
+    if nat_le 10000 (length g.waiting) then record { going = record g { session = s }; events = first_try_effect; full = true }
+    else record { going = record { session = s; waiting = g.waiting ++ h ∷ []; line = g.line }; events = first_try_effect ++ said; full = false }
 
-abbrev pub first_line : ℕ → List ℕ → Verb → Bool → Held
+abbrev pub first_line : ℕ → List ℕ → Verb → Bool → WaitingLine
 first_line line name verb printed = record { line = line; program = name; verb = verb; printed = printed }
 
--- a line was tried for the first time: it is held, or answered, and then the held lines are walked
-abbrev pub tried : Described → Going → List ℕ → Verb → Outcome → Lined
-tried desc g name verb o =
-    if is_waits o.reply then held_on g o.session (first_line g.line name verb true) (calls o ∷ []) (says (answer_text g.line name o.reply o.sync) ∷ [])
-    else walked g.line (behind (calls o ∷ says (answer_text g.line name o.reply o.sync) ∷ []) (walks (length g.held) desc o.session g.held))
+-- a line was tried for the first time: it is held, or answered, and then the waiting lines are retried
+abbrev pub first_try_effect : Described → RunState → List ℕ → Verb → Outcome → LineEffect
+first_try_effect desc g name verb o =
+    if is_waits o.reply then put_to_wait g o.session (first_line g.line name verb true) (calls o ∷ []) (says (answer_text g.line name o.reply o.sync) ∷ [])
+    else after_retries g.line (events_before (calls o ∷ says (answer_text g.line name o.reply o.sync) ∷ []) (retries (length g.waiting) desc o.session g.waiting))
 
--- what a line leaves and does; g counts it already. A line whose program has a held line is held without a try
-abbrev pub spoken : Described → Going → Line → Lined
-spoken desc g Empty = going_on g
-spoken desc g (Bad place) = walked g.line (behind (says (bad_text g.line place) ∷ []) (walks (length g.held) desc g.session g.held))
-spoken desc g (Spoken name verb) =
-    if has_line g.held name then held_on g g.session (first_line g.line name verb false) [] []
-    else tried desc g name verb (step desc g.session name verb)
+-- what a line leaves and does; g counts it already. A line whose program has a waiting line is held without a try
+abbrev pub line_effect : Described → RunState → Line → LineEffect
+line_effect desc g Empty = nothing_done g
+line_effect desc g (Bad place) = after_retries g.line (events_before (says (bad_text g.line place) ∷ []) (retries (length g.waiting) desc g.session g.waiting))
+line_effect desc g (Spoken name verb) =
+    if has_line g.waiting name then put_to_wait g g.session (first_line g.line name verb false) [] []
+    else first_try_effect desc g name verb (step desc g.session name verb)
 
-unfoldable pub line_step : Described → Going → List ℕ → Lined
-line_step desc g raw = spoken desc (counted g) (line_of desc (line_text raw))
+unfoldable pub line_step : Described → RunState → List ℕ → LineEffect
+line_step desc g raw = line_effect desc (one_line_more g) (line_of desc (line_text raw))
 
-abbrev pub onto : Lined → Lined → Lined
-onto before after = record after { events = before.events ++ after.events }
+abbrev pub lines_before : LineEffect → LineEffect → LineEffect
+lines_before before after = record after { events = before.events ++ after.events }
 
 -- the lines in their order, up to the first that would be one too many to hold
-unfoldable pub lines_run : Described → Going → List (List ℕ) → Lined
-lines_run desc g [] = going_on g
-lines_run desc g (l ∷ ls) = if (line_step desc g l).full then line_step desc g l else onto (line_step desc g l) (lines_run desc (line_step desc g l).going ls)
+unfoldable pub lines_run : Described → RunState → List (List ℕ) → LineEffect
+lines_run desc g [] = nothing_done g
+lines_run desc g (l ∷ ls) = if (line_step desc g l).full then line_step desc g l else lines_before (line_step desc g l) (lines_run desc (line_step desc g l).going ls)
 
 -- the lines that are still held
-abbrev pub unanswered : List Held → List Event
-unanswered [] = []
-unanswered (h ∷ hs) = says (unanswered_text h.line h.program) ∷ unanswered hs
+abbrev pub unanswered_events : List WaitingLine → List RunEvent
+unanswered_events [] = []
+unanswered_events (h ∷ hs) = says (unanswered_text h.line h.program) ∷ unanswered_events hs
 
 -- the end of a run
-abbrev pub ending : List Held → List Event
-ending held = unanswered held ++ goes_back ∷ []
+abbrev pub end_events : List WaitingLine → List RunEvent
+end_events waiting = unanswered_events waiting ++ goes_back ∷ []
 
 -- at the beginning: no program, nothing held
-abbrev pub begun : Db → ℕ → Going
-begun db first = record { session = fresh_session db first; held = []; line = 0 }
+abbrev pub first_state : Db → ℕ → RunState
+first_state db first = record { session = fresh_session db first; waiting = []; line = 0 }
 
 -- the lines of a script as they stand in the input, each with the line feed that ends it, over a database whose next quiet
 -- point has this number
-abbrev pub script_run : Described → Db → ℕ → List (List ℕ) → Lined
-script_run desc db first lines = lines_run desc (begun db first) lines
+abbrev pub script_run : Described → Db → ℕ → List (List ℕ) → LineEffect
+script_run desc db first lines = lines_run desc (first_state db first) lines
 
 -- what a script does: its lines, then each line that is still held is answered, and the database goes back to the last quiet
 -- point
-unfoldable pub script_events : Described → Db → ℕ → List (List ℕ) → List Event
-script_events desc db first lines = (script_run desc db first lines).events ++ ending (script_run desc db first lines).going.held
+unfoldable pub script_events : Described → Db → ℕ → List (List ℕ) → List RunEvent
+script_events desc db first lines = (script_run desc db first lines).events ++ end_events (script_run desc db first lines).going.waiting
 
 -- what it answers
 abbrev pub answers_text : Described → Db → ℕ → List (List ℕ) → List ℕ

@@ -9,20 +9,20 @@ use Rattle.dms_model.specs.Points.{Files}
 use Rattle.dms_storeverbs.specs.declared.engine.Engine.{Engine}
 use Rattle.dms_storeverbs.specs.View.{seen}
 use Rattle.dms_runner.specs.declared.run.RunFault.{RunFault}
-use Rattle.dms_runner.specs.declared.run.RunFault.TheVariants.{Block, Input, Lines, Bytes, Held, Memory}
+use Rattle.dms_runner.specs.declared.run.RunFault.TheVariants.{Block, Input, Lines, Bytes, Waiting, Memory}
 
 -- a fault of the store was counted once, and no other was; where the run stopped for another reason none was
-abbrev pub Blamed : RunFault → Faults → Faults → Type 0
-Blamed (Block f) a b = Raised f a b
-Blamed Input a b = b ≡ a
-Blamed Lines a b = b ≡ a
-Blamed Bytes a b = b ≡ a
-Blamed Held a b = b ≡ a
-Blamed Memory a b = b ≡ a
+abbrev pub HasBlame : RunFault → Faults → Faults → Type 0
+HasBlame (Block f) a b = Raised f a b
+HasBlame Input a b = b ≡ a
+HasBlame Lines a b = b ≡ a
+HasBlame Bytes a b = b ≡ a
+HasBlame Waiting a b = b ≡ a
+HasBlame Memory a b = b ≡ a
 
-abbrev pub BlamedBy : {T : Type 0} → Result T RunFault → Faults → Faults → Type 0
-BlamedBy (Ok x) a b = b ≡ a
-BlamedBy (Err f) a b = Blamed f a b
+abbrev pub IsBlamedOn : {T : Type 0} → Result T RunFault → Faults → Faults → Type 0
+IsBlamedOn (Ok x) a b = b ≡ a
+IsBlamedOn (Err f) a b = HasBlame f a b
 
 -- the run stopped at a fault of printing: the last text may have been cut off
 abbrev pub CutRun : {T : Type 0} → Result T RunFault → Type 0
@@ -38,5 +38,5 @@ pub record LastsRun {St : Type 0} {g : Ghosts St} {T : Type 0} (result : Result 
   pub desc : (seen new).desc ≡ (seen old).desc
   pub whole : (files : Files) → (seen new).whole files → (seen old).whole files
   pub whole_on : (files : Files) → (seen old).whole files → (seen new).whole files
-  pub cause : BlamedBy result (seen old).faults (seen new).faults
+  pub cause : IsBlamedOn result (seen old).faults (seen new).faults
   pub reads : (seen old).reads ≤ (seen new).reads

@@ -5,16 +5,16 @@ use Rattle.dms_desc.specs.Shape.{Described}
 use Rattle.dms_model.specs.Db.{Db}
 use Rattle.dms_model.specs.Points.{Files, Point, Stop}
 use Rattle.dms_model.specs.Session.{ended}
-use Rattle.dms_storeverbs.specs.View.{Left}
+use Rattle.dms_storeverbs.specs.View.{LeavesPoints}
 use Rattle.dms_runner.specs.Answers.{script_run, left_by}
-use Rattle.dms_runner.specs.Events.{Event, text_of, quiets_of, Stopped}
+use Rattle.dms_runner.specs.Events.{RunEvent, text_of, quiets_of, CrashesWithin}
 
 -- these laws ask nothing of the files
 abbrev pub any : Files → Type 0
 any files = ⊤
 
 -- a stop of which something of the files is said, too
-pub any_stop : {W : Files → Type 0} {said : Option (List ℕ)} {points : List Point} {sure next : ℕ} {events : List Event} {stop : Stop} → Stopped W said points sure next events stop → Stopped any said points sure next events stop
+pub any_stop : {W : Files → Type 0} {said : Option (List ℕ)} {points : List Point} {durable next : ℕ} {events : List RunEvent} {stop : Stop} → CrashesWithin W said points durable next events stop → CrashesWithin any said points durable next events stop
 any_stop s =
     let f = s.left.front in
     record {
@@ -26,28 +26,28 @@ any_stop s =
       text = s.text;
     }
 
--- the quiet points are the first ones of those at first and all that are made behind them, and none that was sure at first is
--- missing; where all were sure at first the next number hasn't fallen; the text is a front of all that is said
-pub record Whole (said : Option (List ℕ)) (points : List Point) (sure next : ℕ) (events : List Event) (stop : Stop) : Type 0 where
-  pub left : Left any sure points next (quiets_of events) stop
-  pub not_fallen : sure ≡ length points → next ≤ stop.next
+-- the quiet points are the first ones of those at first and all that are made behind them, and none that was durable at first is
+-- missing; where all were durable at first the next number hasn't fallen; the text is a prefix of all that is said
+pub record LeavesOfRun (said : Option (List ℕ)) (points : List Point) (durable next : ℕ) (events : List RunEvent) (stop : Stop) : Type 0 where
+  pub left : LeavesPoints any durable points next (quiets_of events) stop
+  pub not_fallen : durable ≡ length points → next ≤ stop.next
   pub text : (t : List ℕ) → said ≡ Some t → (n : ℕ) × (stop.said ≡ t ++ take n (text_of events))
 
 abbrev pub WholeLaw : Type 0
-WholeLaw = (said : Option (List ℕ)) (points : List Point) (sure next : ℕ) (events : List Event) (stop : Stop) → sure ≤ length points → Stopped any said points sure next events stop → Whole said points sure next events stop
+WholeLaw = (said : Option (List ℕ)) (points : List Point) (durable next : ℕ) (events : List RunEvent) (stop : Stop) → durable ≤ length points → CrashesWithin any said points durable next events stop → LeavesOfRun said points durable next events stop
 
 -- where a byte was said behind a call that took a syncpoint, at least as many quiet points are left as there were when the call
 -- was over; with WholeLaw they are those
 abbrev pub SyncLaw : Type 0
-SyncLaw = (said : Option (List ℕ)) (points : List Point) (sure next : ℕ) (events : List Event) (stop : Stop) → sure ≤ length points → Stopped any said points sure next events stop
-    → (before : List Event) (call : Event) (rest : List Event) (n : ℕ) → before ++ call ∷ rest ≡ events → call.sync ≡ Some n
+SyncLaw = (said : Option (List ℕ)) (points : List Point) (durable next : ℕ) (events : List RunEvent) (stop : Stop) → durable ≤ length points → CrashesWithin any said points durable next events stop
+    → (before : List RunEvent) (call : RunEvent) (rest : List RunEvent) (n : ℕ) → before ++ call ∷ rest ≡ events → call.sync ≡ Some n
     → (t : List ℕ) → said ≡ Some t → length t + length (text_of before) + length call.text < length stop.said
     → length points + length (quiets_of before) + length call.quiets ≤ length stop.points
 
 -- where more quiet points are left than there were before an event, all that was to be said before that event is printed
 abbrev pub PointLaw : Type 0
-PointLaw = (said : Option (List ℕ)) (points : List Point) (sure next : ℕ) (events : List Event) (stop : Stop) → Stopped any said points sure next events stop
-    → (before : List Event) (at : Event) (rest : List Event) → before ++ at ∷ rest ≡ events → length points + length (quiets_of before) < length stop.points
+PointLaw = (said : Option (List ℕ)) (points : List Point) (durable next : ℕ) (events : List RunEvent) (stop : Stop) → CrashesWithin any said points durable next events stop
+    → (before : List RunEvent) (at : RunEvent) (rest : List RunEvent) → before ++ at ∷ rest ≡ events → length points + length (quiets_of before) < length stop.points
     → (t : List ℕ) → said ≡ Some t → length t + length (text_of before) ≤ length stop.said
 
 -- Each line makes one quiet point at most: the first number and the count of lines bound the next number at the end.

@@ -9,10 +9,10 @@ use Rattle.dms_model.specs.Seen.{Seen}
 use Rattle.dms_model.specs.Db.{Db}
 use Rattle.dms_block.specs.Texts.{Prints}
 use Rattle.dms_storeverbs.specs.View.{View}
-use Rattle.dms_runner.specs.declared.held.Held.{Held}
-use Rattle.dms_runner.specs.Answers.{Going, line_step, script_run, answers_text}
+use Rattle.dms_runner.specs.declared.waiting.WaitingLine.{WaitingLine}
+use Rattle.dms_runner.specs.Answers.{RunState, line_step, script_run, answers_text}
 use Rattle.dms_runner.specs.Events.{text_of}
-use Rattle.dms_runner.specs.Trying.{GoesOn}
+use Rattle.dms_runner.specs.Trying.{MatchesLine}
 
 -- how many bytes these lines have
 abbrev pub bytes_of : List (List ℕ) → ℕ
@@ -20,26 +20,26 @@ bytes_of [] = 0
 bytes_of (l ∷ ls) = length l + bytes_of ls
 
 -- these lines, one after another
-abbrev pub joined : List (List ℕ) → List ℕ
-joined [] = []
-joined (l ∷ ls) = l ++ joined ls
+abbrev pub text_of_lines : List (List ℕ) → List ℕ
+text_of_lines [] = []
+text_of_lines (l ∷ ls) = l ++ text_of_lines ls
 
 -- the first line of the input was taken, and there was room for its bytes
-pub record TookLine (desc : Described) (g : Going) (all : List ℕ) (room room' : ℕ) (now : View) (held : List Held) (feed : List ℕ) (left : Option (List ℕ)) (before after : Seen) : Type 0 where
+pub record TakesScriptLine (desc : Described) (g : RunState) (all : List ℕ) (room room' : ℕ) (now : View) (waiting : List WaitingLine) (feed : List ℕ) (left : Option (List ℕ)) (before after : Seen) : Type 0 where
   pub some : all ≢ []
   pub remains : Remains feed left (after_line all)
   pub bytes : room' + length (first_line all) ≡ room
-  pub goes : GoesOn (line_step desc g (first_line all)) true now held before after
+  pub goes : MatchesLine (line_step desc g (first_line all)) true now waiting before after
 
 -- the whole script was taken: it keeps the limits, no line was one too many to hold, and its answers were said
-pub record Answered (desc : Described) (db : Db) (first : ℕ) (lines : List (List ℕ)) (before after : Option (List ℕ)) : Type 0 where
+pub record AnswersWhole (desc : Described) (db : Db) (first : ℕ) (lines : List (List ℕ)) (before after : Option (List ℕ)) : Type 0 where
   pub few : length lines ≤ 1000000
   pub short : bytes_of lines ≤ 2147483648
   pub room : (script_run desc db first lines).full ≡ false
   pub text : Prints before after (answers_text desc db first lines)
 
 -- so many whole lines were taken, which keep the limits of lines and bytes, and what they answer was said
-pub record Took (desc : Described) (db : Db) (first : ℕ) (lines : List (List ℕ)) (n : ℕ) (before after : Option (List ℕ)) : Type 0 where
+pub record TakesLines (desc : Described) (db : Db) (first : ℕ) (lines : List (List ℕ)) (n : ℕ) (before after : Option (List ℕ)) : Type 0 where
   pub within : n ≤ length lines
   pub few : n ≤ 1000000
   pub short : bytes_of (take n lines) ≤ 2147483648
@@ -48,19 +48,19 @@ pub record Took (desc : Described) (db : Db) (first : ℕ) (lines : List (List �
 
 -- the script has a line too many: all lines before it were taken
 abbrev pub PassesLines : Described → Db → ℕ → List (List ℕ) → Option (List ℕ) → Option (List ℕ) → Type 0
-PassesLines desc db first lines before after = (1000000 < length lines) × Took desc db first lines 1000000 before after
+PassesLines desc db first lines before after = (1000000 < length lines) × TakesLines desc db first lines 1000000 before after
 
 -- the script has a byte too many, in a line that isn't one too many: the whole lines before it were taken
 pub record PassesBytes (desc : Described) (db : Db) (first : ℕ) (lines : List (List ℕ)) (before after : Option (List ℕ)) : Type 0 where
   pub n : ℕ
-  pub took : Took desc db first lines n before after
+  pub took : TakesLines desc db first lines n before after
   pub few : n < 1000000
   pub over : 2147483648 < bytes_of (take (n + 1) lines)
 
 -- a line, which keeps the limits of lines and bytes, would be one too many to hold: the lines before it were taken
-pub record PassesHeld (desc : Described) (db : Db) (first : ℕ) (lines : List (List ℕ)) (before after : Option (List ℕ)) : Type 0 where
+pub record PassesWaiting (desc : Described) (db : Db) (first : ℕ) (lines : List (List ℕ)) (before after : Option (List ℕ)) : Type 0 where
   pub n : ℕ
-  pub took : Took desc db first lines n before after
+  pub took : TakesLines desc db first lines n before after
   pub few : n < 1000000
   pub short : bytes_of (take (n + 1) lines) ≤ 2147483648
   pub full : (script_run desc db first (take (n + 1) lines)).full ≡ true
@@ -69,10 +69,10 @@ pub record PassesHeld (desc : Described) (db : Db) (first : ℕ) (lines : List (
 -- taken too, without its line feed, within the limits, and the rest of the input is left
 pub record CutInput (desc : Described) (db : Db) (first : ℕ) (all : List ℕ) (left : Option (List ℕ)) (before after : Option (List ℕ)) : Type 0 where
   pub n : ℕ
-  pub took : Took desc db first (raw_lines all) n before after
+  pub took : TakesLines desc db first (raw_lines all) n before after
   pub part : List ℕ
   pub rest : List ℕ
-  pub whole : all ≡ joined (take n (raw_lines all)) ++ (part ++ rest)
+  pub whole : all ≡ text_of_lines (take n (raw_lines all)) ++ (part ++ rest)
   pub left_is : left ≡ Some rest
   pub unended : IsUnended part
   pub fits : bytes_of (take n (raw_lines all)) + length part ≤ 2147483648

@@ -1,39 +1,39 @@
--- What the tries of held lines leave.
+-- What the tries of waiting lines leave.
 use Rattle.std.specs.Prelude.{◌≡◌, ◌<◌, ℕ, List, Bool, true, false, not, Some, None, length, remove}
 use Rattle.std.specs.declared.option.Option.{Option}
 use Rattle.dms_model.specs.Seen.{Seen}
 use Rattle.dms_model.specs.Session.{Outcome, is_waits}
-use Rattle.dms_storeverbs.specs.View.{View, Stands}
-use Rattle.dms_runner.specs.declared.held.Held.{Held}
-use Rattle.dms_runner.specs.Held.{Walk, tries}
-use Rattle.dms_runner.specs.Events.{Ran}
-use Rattle.dms_runner.specs.Answers.{Lined}
+use Rattle.dms_storeverbs.specs.View.{View, StandsFor}
+use Rattle.dms_runner.specs.declared.waiting.WaitingLine.{WaitingLine}
+use Rattle.dms_runner.specs.Waiting.{RetryEffect, tries}
+use Rattle.dms_runner.specs.Events.{Performs}
+use Rattle.dms_runner.specs.Answers.{LineEffect}
 
 -- a line was tried: whether it was answered, the session that stands now, and what was said of it
-pub record Tries (o : Outcome) (h : Held) (answered : Bool) (now : View) (before after : Seen) : Type 0 where
+pub record PerformsTry (o : Outcome) (h : WaitingLine) (answered : Bool) (now : View) (before after : Seen) : Type 0 where
   pub answers : answered ≡ not (is_waits o.reply)
-  pub session : Stands now o.session
-  pub ran : Ran before after (tries h o)
+  pub session : StandsFor now o.session
+  pub ran : Performs before after (tries h o)
 
-abbrev pub FoundIs : Walk → List Held → Option ℕ → Type 0
-FoundIs w held None = (w.answered ≡ false) × (w.held ≡ held)
-FoundIs w held (Some i) = (i < length held) × (w.answered ≡ true) × (w.held ≡ remove held i)
+abbrev pub MatchesFound : RetryEffect → List WaitingLine → Option ℕ → Type 0
+MatchesFound w waiting None = (w.answered ≡ false) × (w.waiting ≡ waiting)
+MatchesFound w waiting (Some i) = (i < length waiting) × (w.answered ≡ true) × (w.waiting ≡ remove waiting i)
 
--- one walk was made, up to the line at a place that was answered
-pub record Passes (w : Walk) (now : View) (held : List Held) (found : Option ℕ) (before after : Seen) : Type 0 where
-  pub session : Stands now w.session
-  pub found_is : FoundIs w held found
-  pub ran : Ran before after w.events
+-- one retry was made, up to the line at a place that was answered
+pub record PerformsRetry (w : RetryEffect) (now : View) (waiting : List WaitingLine) (found : Option ℕ) (before after : Seen) : Type 0 where
+  pub session : StandsFor now w.session
+  pub found_is : MatchesFound w waiting found
+  pub ran : Performs before after w.events
 
--- the walks were made
-pub record Walks (w : Walk) (now : View) (held : List Held) (before after : Seen) : Type 0 where
-  pub session : Stands now w.session
-  pub held_is : held ≡ w.held
-  pub ran : Ran before after w.events
+-- the retries were made
+pub record PerformsRetries (w : RetryEffect) (now : View) (waiting : List WaitingLine) (before after : Seen) : Type 0 where
+  pub session : StandsFor now w.session
+  pub waiting_is : waiting ≡ w.waiting
+  pub ran : Performs before after w.events
 
 -- a line was taken; on: whether there was room to hold it where it waits
-pub record GoesOn (l : Lined) (on : Bool) (now : View) (held : List Held) (before after : Seen) : Type 0 where
+pub record MatchesLine (l : LineEffect) (on : Bool) (now : View) (waiting : List WaitingLine) (before after : Seen) : Type 0 where
   pub full : l.full ≡ not on
-  pub session : Stands now l.going.session
-  pub held_is : held ≡ l.going.held
-  pub ran : Ran before after l.events
+  pub session : StandsFor now l.going.session
+  pub waiting_is : waiting ≡ l.going.waiting
+  pub ran : Performs before after l.events

@@ -1,11 +1,11 @@
 ghost use Rattle.dms_runner.specs.EventLaws.{WholeLaw, SyncLaw, PointLaw, LeftLaw, NextLaw};
 
-/// A stop within a run leaves a front of its text, and the first quiet points of those at its beginning and those that it makes.
+/// A stop within a run leaves a prefix of its text, and the first quiet points of those at its beginning and those that it makes.
 pub fn whole_law()
     ensures { WholeLaw }
 {}
 
-/// No byte behind a syncpoint is printed before that syncpoint's quiet points are sure.
+/// No byte behind a syncpoint is printed before that syncpoint's quiet points are durable.
 pub fn sync_law()
     ensures { SyncLaw }
 {}

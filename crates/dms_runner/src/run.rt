@@ -6,16 +6,16 @@ ghost use Rattle.dms_feed.specs.Feeds.{Remains};
 ghost use Rattle.dms_feed.specs.Lines.{raw_lines, first_line};
 ghost use Rattle.dms_feed.specs.Raws.{CutLine};
 ghost use Rattle.dms_model.specs.Db.{Db};
-ghost use Rattle.dms_block.specs.Texts.{Prints, PrintsFront};
+ghost use Rattle.dms_block.specs.Texts.{Prints, PrintsPrefix};
 ghost use Rattle.dms_model.specs.Session.{Session, fresh_session, ended};
-ghost use Rattle.dms_storeverbs.specs.View.{Lasts, SameSession, Stands, seen, view};
-ghost use Rattle.dms_runner.specs.Events.{text_of, CutOff, Ran, RanPart};
-ghost use Rattle.dms_runner.specs.Answers.{Going, Roomy, line_step, lines_run, unanswered, ending, script_run, script_events, answers_text};
-ghost use Rattle.dms_runner.specs.Running.{TookLine, Answered, PassesLines, PassesBytes, PassesHeld, CutInput};
-ghost use Rattle.dms_runner.specs.Starting.{AtSession, AtGoing, AtStart};
+ghost use Rattle.dms_storeverbs.specs.View.{Lasts, SameSession, StandsFor, seen, view};
+ghost use Rattle.dms_runner.specs.Events.{text_of, IsCutShort, Performs, PerformsPrefix};
+ghost use Rattle.dms_runner.specs.Answers.{RunState, HasRoomForLine, line_step, lines_run, unanswered_events, end_events, script_run, script_events, answers_text};
+ghost use Rattle.dms_runner.specs.Running.{TakesScriptLine, AnswersWhole, PassesLines, PassesBytes, PassesWaiting, CutInput};
+ghost use Rattle.dms_runner.specs.Starting.{AtSession, AtRunState, AtStart};
 ghost use Rattle.dms_runner.specs.Blaming.{CutRun, LastsRun};
 
-use crate::Held;
+use crate::WaitingLine;
 use crate::lines::take_line;
 use dms_block::BlockFault;
 use dms_feed::{Feed, RawFault, next_raw};
@@ -46,26 +46,26 @@ pub enum RunFault {
     /// The script has more bytes than it may have.
     Bytes,
     /// A line would be held that is one too many.
-    Held,
+    Waiting,
     Memory,
 }
 
 /// Says of each line that it is still held.
-fn say_held<St: Store>(
+fn say_waiting<St: Store>(
     alloc: Global,
     engine: &mut Engine<St>,
-    held: &[Held],
+    waiting: &[WaitingLine],
 ) -> Result<(), BlockFault>
     requires sound { (seen engine.old).sound }
-    ensures text { OnOk result (Prints (seen engine.old).said (seen engine.new).said (text_of (unanswered held.now))) }
-    ensures front { PrintsFront (seen engine.old).said (seen engine.new).said (text_of (unanswered held.now)) }
-    ensures ran { OnOk result ((seen engine.old).next + 1 < 2 ^ 64 → Ran (seen engine.old) (seen engine.new) (unanswered held.now)) }
-    ensures part { (seen engine.old).next + 1 < 2 ^ 64 → RanPart (CutOff result) (seen engine.old) (seen engine.new) (unanswered held.now) }
+    ensures text { OnOk result (Prints (seen engine.old).said (seen engine.new).said (text_of (unanswered_events waiting.now))) }
+    ensures front { PrintsPrefix (seen engine.old).said (seen engine.new).said (text_of (unanswered_events waiting.now)) }
+    ensures ran { OnOk result ((seen engine.old).next + 1 < 2 ^ 64 → Performs (seen engine.old) (seen engine.new) (unanswered_events waiting.now)) }
+    ensures part { (seen engine.old).next + 1 < 2 ^ 64 → PerformsPrefix (IsCutShort result) (seen engine.old) (seen engine.new) (unanswered_events waiting.now) }
     ensures number { (seen engine.new).next ≡ (seen engine.old).next }
     ensures stands { OnOk result (SameSession engine.old engine.new) }
     ensures lasts { Lasts result engine.old engine.new }
 {
-    for line in held {
+    for line in waiting {
         let text = unanswered_text(alloc, line.line, &line.program)?;
         engine.say(text.as_slice())?;
     }
@@ -74,18 +74,22 @@ fn say_held<St: Store>(
 
 /// Says of each line that it is still held, and goes back to the last quiet point where a program is in
 /// transaction state.
-fn end_run<St: Store>(alloc: Global, engine: &mut Engine<St>, held: &[Held]) -> Result<(), RunFault>
+fn end_run<St: Store>(
+    alloc: Global,
+    engine: &mut Engine<St>,
+    waiting: &[WaitingLine],
+) -> Result<(), RunFault>
     requires sound { (seen engine.old).sound }
-    ensures text { OnOk result (Prints (seen engine.old).said (seen engine.new).said (text_of (unanswered held.now))) }
-    ensures front { PrintsFront (seen engine.old).said (seen engine.new).said (text_of (unanswered held.now)) }
-    ensures ran { OnOk result ((seen engine.old).next + 1 < 2 ^ 64 → Ran (seen engine.old) (seen engine.new) (ending held.now)) }
-    ensures part { (seen engine.old).next + 1 < 2 ^ 64 → RanPart (CutRun result) (seen engine.old) (seen engine.new) (ending held.now) }
-    ensures ended { OnOk result ((s : Session) → Stands (view engine.old) s → Stands (view engine.new) (ended s)) }
-    ensures limits { (IsErrOf result RunFault.Lines → ⊥) × (IsErrOf result RunFault.Bytes → ⊥) × (IsErrOf result RunFault.Held → ⊥) }
+    ensures text { OnOk result (Prints (seen engine.old).said (seen engine.new).said (text_of (unanswered_events waiting.now))) }
+    ensures front { PrintsPrefix (seen engine.old).said (seen engine.new).said (text_of (unanswered_events waiting.now)) }
+    ensures ran { OnOk result ((seen engine.old).next + 1 < 2 ^ 64 → Performs (seen engine.old) (seen engine.new) (end_events waiting.now)) }
+    ensures part { (seen engine.old).next + 1 < 2 ^ 64 → PerformsPrefix (CutRun result) (seen engine.old) (seen engine.new) (end_events waiting.now) }
+    ensures ended { OnOk result ((s : Session) → StandsFor (view engine.old) s → StandsFor (view engine.new) (ended s)) }
+    ensures limits { (IsErrOf result RunFault.Lines → ⊥) × (IsErrOf result RunFault.Bytes → ⊥) × (IsErrOf result RunFault.Waiting → ⊥) }
     ensures lasts { LastsRun result engine.old engine.new }
     ensures input { IsErrOf result RunFault.Input → ⊥ }
 {
-    match say_held(alloc, engine, held) {
+    match say_waiting(alloc, engine, waiting) {
         Err(fault) => Err(RunFault::Block(fault)),
         Ok(()) => match engine.end(alloc) {
             Err(fault) => Err(RunFault::Block(fault)),
@@ -101,18 +105,18 @@ fn one_line<St: Store, I: Source>(
     engine: &mut Engine<St>,
     feed: &mut Feed,
     source: &mut I,
-    held: &mut Vec<Held>,
+    waiting: &mut Vec<WaitingLine>,
     line: u32,
     room: &mut u64,
 ) -> Result<bool, RunFault>
     requires sound { (seen engine.old).sound }
     requires room { room.old ≤ 2147483648 }
     requires line { line < 4294967295 }
-    ensures took { IfOk result (λ more. more ≡ true → (g : Going) (all : List ℕ) → Stands (view engine.old) g.session → g.held ≡ held.old.items → g.line ≡ line → Roomy g → Remains feed.old (I.left source.old) all → TookLine (described engine.old.desc) g all room.old room.new (view engine.new) held.new.items feed.new (I.left source.new) (seen engine.old) (seen engine.new)) }
-    ensures none { IfOk result (λ more. more ≡ false → (engine.new ≡ engine.old) × (held.new ≡ held.old) × ((all : List ℕ) → Remains feed.old (I.left source.old) all → (all ≡ []) × Remains feed.new (I.left source.new) [])) }
-    ensures part { (g : Going) (all : List ℕ) → Stands (view engine.old) g.session → g.held ≡ held.old.items → g.line ≡ line → Roomy g → Remains feed.old (I.left source.old) all → RanPart (CutRun result) (seen engine.old) (seen engine.new) (lines_run (described engine.old.desc) g (raw_lines all)).events }
+    ensures took { IfOk result (λ more. more ≡ true → (g : RunState) (all : List ℕ) → StandsFor (view engine.old) g.session → g.waiting ≡ waiting.old.items → g.line ≡ line → HasRoomForLine g → Remains feed.old (I.left source.old) all → TakesScriptLine (described engine.old.desc) g all room.old room.new (view engine.new) waiting.new.items feed.new (I.left source.new) (seen engine.old) (seen engine.new)) }
+    ensures none { IfOk result (λ more. more ≡ false → (engine.new ≡ engine.old) × (waiting.new ≡ waiting.old) × ((all : List ℕ) → Remains feed.old (I.left source.old) all → (all ≡ []) × Remains feed.new (I.left source.new) [])) }
+    ensures part { (g : RunState) (all : List ℕ) → StandsFor (view engine.old) g.session → g.waiting ≡ waiting.old.items → g.line ≡ line → HasRoomForLine g → Remains feed.old (I.left source.old) all → PerformsPrefix (CutRun result) (seen engine.old) (seen engine.new) (lines_run (described engine.old.desc) g (raw_lines all)).events }
     ensures bytes { IsErrOf result RunFault.Bytes → ((seen engine.new).said ≡ (seen engine.old).said) × ((all : List ℕ) → Remains feed.old (I.left source.old) all → room.old < length (first_line all)) }
-    ensures full_list { IsErrOf result RunFault.Held → (g : Going) (all : List ℕ) → Stands (view engine.old) g.session → g.held ≡ held.old.items → g.line ≡ line → Roomy g → Remains feed.old (I.left source.old) all → Prints (seen engine.old).said (seen engine.new).said [] × (all ≢ []) × ((line_step (described engine.old.desc) g (first_line all)).full ≡ true) × (length (first_line all) ≤ room.old) }
+    ensures full_list { IsErrOf result RunFault.Waiting → (g : RunState) (all : List ℕ) → StandsFor (view engine.old) g.session → g.waiting ≡ waiting.old.items → g.line ≡ line → HasRoomForLine g → Remains feed.old (I.left source.old) all → Prints (seen engine.old).said (seen engine.new).said [] × (all ≢ []) × ((line_step (described engine.old.desc) g (first_line all)).full ≡ true) × (length (first_line all) ≤ room.old) }
     ensures no_lines { IsErrOf result RunFault.Lines → ⊥ }
     ensures failed { IsErrOf result RunFault.Input → ((seen engine.new).said ≡ (seen engine.old).said) × ((all : List ℕ) → Remains feed.old (I.left source.old) all → CutLine room.old (I.left source.new) all) }
     ensures rest { OnOk result ((all : List ℕ) → Remains feed.old (I.left source.old) all → (rest : List ℕ) × Remains feed.new (I.left source.new) rest) }
@@ -131,9 +135,9 @@ fn one_line<St: Store, I: Source>(
         Ok(None) => Ok(false),
         Ok(Some(raw)) => {
             *room = room.saturating_sub(raw.length);
-            match take_line(alloc, engine, held, line + 1, raw.kept.as_slice()) {
+            match take_line(alloc, engine, waiting, line + 1, raw.kept.as_slice()) {
                 Ok(true) => Ok(true),
-                Ok(false) => Err(RunFault::Held),
+                Ok(false) => Err(RunFault::Waiting),
                 Err(fault) => Err(RunFault::Block(fault)),
             }
         }
@@ -145,7 +149,7 @@ fn after_last<I: Source>(alloc: Global, feed: &mut Feed, source: &mut I) -> Resu
     ensures end { OnOk result ((all : List ℕ) → Remains feed.old (I.left source.old) all → (all ≡ []) × Remains feed.new (I.left source.new) []) }
     ensures lines { IsErrOf result RunFault.Lines → (all : List ℕ) → Remains feed.old (I.left source.old) all → all ≢ [] }
     ensures failed { IsErrOf result RunFault.Input → (all : List ℕ) → Remains feed.old (I.left source.old) all → CutLine 0 (I.left source.new) all }
-    ensures limits { (IsErrOf result RunFault.Bytes → ⊥) × (IsErrOf result RunFault.Held → ⊥) }
+    ensures limits { (IsErrOf result RunFault.Bytes → ⊥) × (IsErrOf result RunFault.Waiting → ⊥) }
     ensures same_source { I.same_source source.old source.new }
     ensures taken { I.faults source.old ≤ I.faults source.new }
     ensures input { IsErrOf result RunFault.Input → Rose (I.faults source.old) (I.faults source.new) }
@@ -165,7 +169,7 @@ fn after_last<I: Source>(alloc: Global, feed: &mut Feed, source: &mut I) -> Resu
 /// Runs the lines that a feed and its source have left, and prints what they answer. At the end each
 /// line that is still held is answered, and the database goes back to the last quiet point where a
 /// program is in transaction state. Where taking from the source fails, the whole lines before that place are answered, and no
-/// held line is.
+/// waiting line is.
 pub fn run_lines<St: Store, I: Source>(
     alloc: Global,
     engine: &mut Engine<St>,
@@ -173,13 +177,13 @@ pub fn run_lines<St: Store, I: Source>(
     source: &mut I,
 ) -> Result<(), RunFault>
     requires sound { (seen engine.old).sound }
-    ensures answers { OnOk result (AtStart engine.old feed.old (I.left source.old) (λ db first all. Answered (described engine.old.desc) db first (raw_lines all) (seen engine.old).said (seen engine.new).said)) }
-    ensures part { AtStart engine.old feed.old (I.left source.old) (λ db first all. RanPart (CutRun result) (seen engine.old) (seen engine.new) (script_events (described engine.old.desc) db first (raw_lines all))) }
-    ensures ran { OnOk result (AtStart engine.old feed.old (I.left source.old) (λ db first all. Ran (seen engine.old) (seen engine.new) (script_events (described engine.old.desc) db first (raw_lines all)))) }
-    ensures ended { OnOk result (AtStart engine.old feed.old (I.left source.old) (λ db first all. Stands (view engine.new) (ended (script_run (described engine.old.desc) db first (raw_lines all)).going.session))) }
+    ensures answers { OnOk result (AtStart engine.old feed.old (I.left source.old) (λ db first all. AnswersWhole (described engine.old.desc) db first (raw_lines all) (seen engine.old).said (seen engine.new).said)) }
+    ensures part { AtStart engine.old feed.old (I.left source.old) (λ db first all. PerformsPrefix (CutRun result) (seen engine.old) (seen engine.new) (script_events (described engine.old.desc) db first (raw_lines all))) }
+    ensures ran { OnOk result (AtStart engine.old feed.old (I.left source.old) (λ db first all. Performs (seen engine.old) (seen engine.new) (script_events (described engine.old.desc) db first (raw_lines all)))) }
+    ensures ended { OnOk result (AtStart engine.old feed.old (I.left source.old) (λ db first all. StandsFor (view engine.new) (ended (script_run (described engine.old.desc) db first (raw_lines all)).going.session))) }
     ensures lines { IsErrOf result RunFault.Lines → AtStart engine.old feed.old (I.left source.old) (λ db first all. PassesLines (described engine.old.desc) db first (raw_lines all) (seen engine.old).said (seen engine.new).said) }
     ensures bytes { IsErrOf result RunFault.Bytes → AtStart engine.old feed.old (I.left source.old) (λ db first all. PassesBytes (described engine.old.desc) db first (raw_lines all) (seen engine.old).said (seen engine.new).said) }
-    ensures full_list { IsErrOf result RunFault.Held → AtStart engine.old feed.old (I.left source.old) (λ db first all. PassesHeld (described engine.old.desc) db first (raw_lines all) (seen engine.old).said (seen engine.new).said) }
+    ensures full_list { IsErrOf result RunFault.Waiting → AtStart engine.old feed.old (I.left source.old) (λ db first all. PassesWaiting (described engine.old.desc) db first (raw_lines all) (seen engine.old).said (seen engine.new).said) }
     ensures failed { IsErrOf result RunFault.Input → AtStart engine.old feed.old (I.left source.old) (λ db first all. CutInput (described engine.old.desc) db first all (I.left source.new) (seen engine.old).said (seen engine.new).said) }
     ensures lasts { LastsRun result engine.old engine.new }
     ensures end { OnOk result ((all : List ℕ) → Remains feed.old (I.left source.old) all → Remains feed.new (I.left source.new) []) }
@@ -189,18 +193,18 @@ pub fn run_lines<St: Store, I: Source>(
     ensures once { I.faults source.new ≤ I.faults source.old + 1 }
     ensures clean { (IsErrOf result RunFault.Input → ⊥) → I.faults source.new ≡ I.faults source.old }
 {
-    let mut held: Vec<Held> = Vec::new(alloc);
+    let mut waiting: Vec<WaitingLine> = Vec::new(alloc);
     let mut room = SCRIPT_BYTES;
     for line in 0..SCRIPT_LINES {
-        match one_line(alloc, engine, feed, source, &mut held, line, &mut room) {
+        match one_line(alloc, engine, feed, source, &mut waiting, line, &mut room) {
             Err(fault) => return Err(fault),
             Ok(true) => {}
-            Ok(false) => return end_run(alloc, engine, held.as_slice()),
+            Ok(false) => return end_run(alloc, engine, waiting.as_slice()),
         }
     }
     match after_last(alloc, feed, source) {
         Err(fault) => return Err(fault),
         Ok(()) => {}
     }
-    end_run(alloc, engine, held.as_slice())
+    end_run(alloc, engine, waiting.as_slice())
 }

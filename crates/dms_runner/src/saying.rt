@@ -1,14 +1,14 @@
 ghost use Rattle.std.specs.Prelude.{◌≡◌, ◌≤◌, ◌<◌, ◌+◌, ◌^◌, ◌++◌, [], ◌∷◌, ℕ, List, Bool, true, false, not, ◌&&◌, Some, None, IfOk, OnOk, IsErrOf, IsTrue, length};
 ghost use Rattle.dms_desc.specs.Shape.{described};
-ghost use Rattle.dms_block.specs.Texts.{Prints, PrintsFront};
+ghost use Rattle.dms_block.specs.Texts.{Prints, PrintsPrefix};
 ghost use Rattle.dms_model.specs.Session.{Session, step, is_waits};
-ghost use Rattle.dms_storeverbs.specs.View.{Lasts, SameSession, Stands, seen, view};
-ghost use Rattle.dms_runner.specs.Events.{says, CutOff, Ran, RanPart};
-ghost use Rattle.dms_runner.specs.Held.{answer_text, said_of, tries, sync_text};
-ghost use Rattle.dms_runner.specs.Trying.{Tries};
-ghost use Rattle.dms_runner.specs.Starting.{AtSession, AtGoing, AtStart};
+ghost use Rattle.dms_storeverbs.specs.View.{Lasts, SameSession, StandsFor, seen, view};
+ghost use Rattle.dms_runner.specs.Events.{says, IsCutShort, Performs, PerformsPrefix};
+ghost use Rattle.dms_runner.specs.Waiting.{answer_text, said_of, tries, sync_text};
+ghost use Rattle.dms_runner.specs.Trying.{PerformsTry};
+ghost use Rattle.dms_runner.specs.Starting.{AtSession, AtRunState, AtStart};
 
-use crate::Held;
+use crate::WaitingLine;
 use dms_base::{Bytes, Memory, Name};
 use dms_block::BlockFault;
 use dms_model::{Answer, Reply, Store};
@@ -41,7 +41,7 @@ fn push_sync(alloc: Global, text: &mut Bytes, sync: Option<u64>) -> Result<(), M
 }
 
 /// A reply, and then the syncpoint that its step took.
-#[tactic(auto, unfolding(crate::specs::Held::answer_text))]
+#[tactic(auto, unfolding(crate::specs::WaitingLine::answer_text))]
 fn answer_text(alloc: Global, line: u32, program: &Name, answer: &Answer) -> Result<Bytes, Memory>
     ensures { IfOk result (λ t. t ≡ answer_text line program.now answer.now.reply answer.now.sync) }
 {
@@ -60,9 +60,9 @@ pub fn say_answer<St: Store>(
 ) -> Result<(), BlockFault>
     requires sound { (seen engine.old).sound }
     ensures text { OnOk result (Prints (seen engine.old).said (seen engine.new).said (answer_text line program.now answer.now.reply answer.now.sync)) }
-    ensures front { PrintsFront (seen engine.old).said (seen engine.new).said (answer_text line program.now answer.now.reply answer.now.sync) }
-    ensures ran { OnOk result ((seen engine.old).next + 1 < 2 ^ 64 → Ran (seen engine.old) (seen engine.new) (says (answer_text line program.now answer.now.reply answer.now.sync) ∷ [])) }
-    ensures part { (seen engine.old).next + 1 < 2 ^ 64 → RanPart (CutOff result) (seen engine.old) (seen engine.new) (says (answer_text line program.now answer.now.reply answer.now.sync) ∷ []) }
+    ensures front { PrintsPrefix (seen engine.old).said (seen engine.new).said (answer_text line program.now answer.now.reply answer.now.sync) }
+    ensures ran { OnOk result ((seen engine.old).next + 1 < 2 ^ 64 → Performs (seen engine.old) (seen engine.new) (says (answer_text line program.now answer.now.reply answer.now.sync) ∷ [])) }
+    ensures part { (seen engine.old).next + 1 < 2 ^ 64 → PerformsPrefix (IsCutShort result) (seen engine.old) (seen engine.new) (says (answer_text line program.now answer.now.reply answer.now.sync) ∷ []) }
     ensures stands { OnOk result (SameSession engine.old engine.new) }
     ensures lasts { Lasts result engine.old engine.new }
 {
@@ -70,25 +70,25 @@ pub fn say_answer<St: Store>(
     engine.say(text.as_slice())
 }
 
-/// Says what a held line was answered; that it waits is said once.
+/// Says what a waiting line was answered; that it waits is said once.
 fn say_tried<St: Store>(
     alloc: Global,
     engine: &mut Engine<St>,
-    held: &Held,
+    waiting: &WaitingLine,
     answer: &Answer,
 ) -> Result<(), BlockFault>
     requires sound { (seen engine.old).sound }
-    ensures text { OnOk result (Prints (seen engine.old).said (seen engine.new).said (said_of held.now answer.now.reply answer.now.sync)) }
-    ensures front { PrintsFront (seen engine.old).said (seen engine.new).said (said_of held.now answer.now.reply answer.now.sync) }
-    ensures ran { OnOk result ((seen engine.old).next + 1 < 2 ^ 64 → Ran (seen engine.old) (seen engine.new) (says (said_of held.now answer.now.reply answer.now.sync) ∷ [])) }
-    ensures part { (seen engine.old).next + 1 < 2 ^ 64 → RanPart (CutOff result) (seen engine.old) (seen engine.new) (says (said_of held.now answer.now.reply answer.now.sync) ∷ []) }
+    ensures text { OnOk result (Prints (seen engine.old).said (seen engine.new).said (said_of waiting.now answer.now.reply answer.now.sync)) }
+    ensures front { PrintsPrefix (seen engine.old).said (seen engine.new).said (said_of waiting.now answer.now.reply answer.now.sync) }
+    ensures ran { OnOk result ((seen engine.old).next + 1 < 2 ^ 64 → Performs (seen engine.old) (seen engine.new) (says (said_of waiting.now answer.now.reply answer.now.sync) ∷ [])) }
+    ensures part { (seen engine.old).next + 1 < 2 ^ 64 → PerformsPrefix (IsCutShort result) (seen engine.old) (seen engine.new) (says (said_of waiting.now answer.now.reply answer.now.sync) ∷ []) }
     ensures stands { OnOk result (SameSession engine.old engine.new) }
     ensures lasts { Lasts result engine.old engine.new }
 {
-    if is_silent(&answer.reply, held.printed) {
+    if is_silent(&answer.reply, waiting.printed) {
         return Ok(());
     }
-    say_answer(alloc, engine, held.line, &held.program, answer)
+    say_answer(alloc, engine, waiting.line, &waiting.program, answer)
 }
 
 /// Whether nothing is said: a line waits, of which that was said.
@@ -98,18 +98,18 @@ fn is_silent(reply: &Reply, printed: bool) -> bool
     is_waits(reply) && printed
 }
 
-/// Tries a held line, and answers whether it was answered.
+/// Tries a waiting line, and answers whether it was answered.
 pub fn try_line<St: Store>(
     alloc: Global,
     engine: &mut Engine<St>,
-    held: &Held,
+    waiting: &WaitingLine,
 ) -> Result<bool, BlockFault>
     requires sound { (seen engine.old).sound }
-    ensures tried { IfOk result (λ answered. AtSession engine.old (λ s. Tries (step (described engine.old.desc) s held.now.program held.now.verb) held.now answered (view engine.new) (seen engine.old) (seen engine.new))) }
-    ensures part { AtSession engine.old (λ s. RanPart (CutOff result) (seen engine.old) (seen engine.new) (tries held.now (step (described engine.old.desc) s held.now.program held.now.verb))) }
+    ensures tried { IfOk result (λ answered. AtSession engine.old (λ s. PerformsTry (step (described engine.old.desc) s waiting.now.program waiting.now.verb) waiting.now answered (view engine.new) (seen engine.old) (seen engine.new))) }
+    ensures part { AtSession engine.old (λ s. PerformsPrefix (IsCutShort result) (seen engine.old) (seen engine.new) (tries waiting.now (step (described engine.old.desc) s waiting.now.program waiting.now.verb))) }
     ensures lasts { Lasts result engine.old engine.new }
 {
-    let answer = engine.call(alloc, &held.program, &held.verb)?;
-    say_tried(alloc, engine, held, &answer)?;
+    let answer = engine.call(alloc, &waiting.program, &waiting.verb)?;
+    say_tried(alloc, engine, waiting, &answer)?;
     Ok(!is_waits(&answer.reply))
 }

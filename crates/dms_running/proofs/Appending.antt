@@ -3,7 +3,7 @@ use Rattle.std.proofs.Common.{ℕ, ◌-◌, ◌+◌, ◌^◌, ◌≤◌, ◌<◌
 use Rattle.dms_moments.specs.Moments.{Clock, Now, Steps}
 use Rattle.dms_site.specs.Files.{Left, stored_of}
 use Rattle.dms_history.specs.Events.{Block, Content, Stored, Event, change, quiet}
-use Rattle.dms_history.specs.Replay.{Tells, with_block}
+use Rattle.dms_history.specs.Replay.{TellsBefore, with_block}
 use Rattle.dms_history.specs.Base.{from_control, Sound}
 use Rattle.dms_history.specs.Pick.{Dumps, blocks_at}
 use Rattle.dms_history.specs.History.{next_number}
@@ -16,9 +16,9 @@ use Rattle.dms_history.proofs.Sealed.{image_sealed, quiet_sealed}
 use Rattle.dms_history.proofs.Listed.{points_front, numbers_append}
 use Rattle.dms_running.specs.Telling.{Telling, IsTelling}
 use Rattle.dms_running.specs.Standing.{MayRun}
-use Rattle.dms_running.specs.Points.{points_told, points_of, LeavesFront}
+use Rattle.dms_running.specs.Points.{points_told, points_of, LeavesPointsPrefix}
 use Rattle.dms_running.specs.Sealing.{Seals, Appended, IsSealed, Settled}
-use Rattle.dms_running.specs.Running.{State, entries_now, next_now, points_now, sure_now, here_now, content_now, IsPlain, count_live, IsRunning, IsRead, LeavesPoints}
+use Rattle.dms_running.specs.Running.{State, entries_now, next_now, points_now, durable_now, here_now, content_now, IsPlain, count_live, IsRunning, IsRead, LeavesPoints}
 use Rattle.dms_running.proofs.MayRun.{sound, points_are, may_image, content_image, live_image, may_quiet, content_quiet, live_quiet, content_at, new_place_at, other_dumps}
 use Rattle.dms_running.proofs.Plain.{plain_push, push_all, take_whole}
 use Rattle.dms_running.proofs.Stopped.{more_points, blocks_same, joined, whole_read, old_read, front_left, seals_leaves, append_runs, seal_runs}
@@ -87,12 +87,12 @@ module _ (t : Telling) (telling : IsTelling t) (a : State) (r : IsRunning t a) (
 
   -- ---- an Image
 
-  module _ (f k : ℕ) (before : Option Block) (after : Block) (tells : Tells k before (content_now t a f)) (sized : length after ≡ 1024) where
+  module _ (f k : ℕ) (before : Option Block) (after : Block) (tells : TellsBefore k before (content_now t a f)) (sized : length after ≡ 1024) where
     abbrev pub the_image : Entry
     the_image = image f k before after
 
-    told : Tells k before (content_told all base f)
-    told = subst (λ (c : Content). Tells k before (c f)) content_is tells
+    told : TellsBefore k before (content_told all base f)
+    told = subst (λ (c : Content). TellsBefore k before (c f)) content_is tells
 
     each_image : (d : Dumps) (st : Stored) → MayRun t.first all d base st → MayRun t.first (all ++ the_image ∷ []) d base st
     each_image d st m = may_image t.first all d base st m f k before after told sized
@@ -218,8 +218,8 @@ module _ (t : Telling) (telling : IsTelling t) (a : State) (r : IsRunning t a) (
     pub sync_points : points_now t b ≡ points_now t a
     sync_points = λ i. points_told (dumps i) (sync_entries i) (blocks i)
 
-    pub sync_sure : sure_now t b ≡ length (points_now t a)
-    sync_sure = λ i. length (points_told (dumps i) (sealed.sealed i) (blocks i))
+    pub sync_durable : durable_now t b ≡ length (points_now t a)
+    sync_durable = λ i. length (points_told (dumps i) (sealed.sealed i) (blocks i))
 
     pub sync_next : next_now t b ≡ next_now t a
     sync_next = ap (λ (l : List Entry). next_of l) sync_entries
@@ -227,20 +227,20 @@ module _ (t : Telling) (telling : IsTelling t) (a : State) (r : IsRunning t a) (
     pub sync_content : content_now t b ≡ content_now t a
     sync_content = content_of t b all (stored_of a.files) (t.dumps a.files) base sync_entries blocks now_runs ∙ sym content_is
 
-    pub sync_surer : sure_now t a ≤ sure_now t b
+    pub sync_surer : durable_now t a ≤ durable_now t b
     sync_surer =
         let now = old_read t telling a a.waiting base r.settled r.each r.plain r.counted read in
         let more = more_points t.first (t.entries a.files) a.waiting (t.dumps a.files) (t.dumps a.files) base (stored_of a.files) (stored_of a.files) r.plain now now_runs in
-        omega (arith, sync_sure, ap (λ (l : List LivePoint). length l) more.1, length-append (points_of t a.files) more.0)
+        omega (arith, sync_durable, ap (λ (l : List LivePoint). length l) more.1, length-append (points_of t a.files) more.0)
 
--- not fewer points than are sure
-pub points_enough : (t : Telling) (telling : IsTelling t) (a : State) → IsRunning t a → IsRead a → sure_now t a ≤ length (points_now t a)
+-- not fewer points than are durable
+pub points_enough : (t : Telling) (telling : IsTelling t) (a : State) → IsRunning t a → IsRead a → durable_now t a ≤ length (points_now t a)
 points_enough t telling a r read =
     let now = old_read t telling a a.waiting r.base r.settled r.each r.plain r.counted read in
     let more = more_points t.first (t.entries a.files) a.waiting (t.dumps a.files) (t.dumps a.files) r.base (stored_of a.files) (stored_of a.files) r.plain now (now_runs t telling a r read) in
     omega (arith, ap (λ (l : List LivePoint). length l) more.1, length-append (points_of t a.files) more.0)
 
--- a stop now leaves a front of the points
-pub now_leaves : (t : Telling) (telling : IsTelling t) (a : State) → IsRunning t a → IsRead a → (x : Left) → Now a.clock x → LeavesFront t (points_now t a) (sure_now t a) (next_now t a) x
+-- a stop now leaves a prefix of the points
+pub now_leaves : (t : Telling) (telling : IsTelling t) (a : State) → IsRunning t a → IsRead a → (x : Left) → Now a.clock x → LeavesPointsPrefix t (points_now t a) (durable_now t a) (next_now t a) x
 now_leaves t telling a r read x now =
     front_left t telling a a.waiting r.base r.settled r.each r.plain r.counted read 0 x (r.settled x now ∙ sym (append_none (t.entries a.files))) (r.each 0 x now)

@@ -27,9 +27,9 @@ use Rattle.dms_history.proofs.Listed.{points_listed, one_list, points_stay}
 use Rattle.dms_history.proofs.ListSteps.{lists_begin, last_keeps_all}
 use Rattle.dms_running.specs.Telling.{Telling, IsTelling}
 use Rattle.dms_running.specs.Standing.{Stands, MayRun}
-use Rattle.dms_running.specs.Points.{points_told, points_of, next_in, LeavesFront}
+use Rattle.dms_running.specs.Points.{points_told, points_of, next_in, LeavesPointsPrefix}
 use Rattle.dms_running.specs.Sealing.{Seals, Appended, IsSealed, Settled}
-use Rattle.dms_running.specs.Running.{State, entries_now, next_now, points_now, sure_now, IsRunning, IsRead, LeavesPoints}
+use Rattle.dms_running.specs.Running.{State, entries_now, next_now, points_now, durable_now, IsRunning, IsRead, LeavesPoints}
 use Rattle.dms_running.specs.Begun.{ByAudit, IsBegun, IsLast, restore_to, outcome_now, content_at_point}
 use Rattle.dms_running.proofs.MayRun.{counted, sound, points_are}
 use Rattle.dms_running.proofs.Plain.{push_all, take_whole}
@@ -147,7 +147,7 @@ module _ (t : Telling) (telling : IsTelling t) (a : State) (r : IsRunning t a) (
     next_all : next_of (all ++ the_begin ∷ []) ≡ next_now t a
     next_all = begin_next t.first all (t.dumps x.files) base (stored_of x.files) run_all m kind by_audit at.lives
 
-    front_all : t.entries x.files ≡ all ++ the_begin ∷ [] → LeavesFront t (points_now t a) (sure_now t a) (next_now t a) x
+    front_all : t.entries x.files ≡ all ++ the_begin ∷ [] → LeavesPointsPrefix t (points_now t a) (durable_now t a) (next_now t a) x
     front_all is =
         let left = all_left t (points_now t a) (next_now t a) x (ap (λ (l : List Entry). points_told (t.dumps x.files) l (stored_of x.files)) is ∙ points_all)
         (omega (arith, ap (λ (l : List Entry). next_of l) is, next_all))
@@ -161,8 +161,8 @@ module _ (t : Telling) (telling : IsTelling t) (a : State) (r : IsRunning t a) (
           whole = left.whole;
         }
 
-    pub begin_front : LeavesFront t (points_now t a) (sure_now t a) (next_now t a) x
-    begin_front = push_all (λ l. t.entries x.files ≡ t.entries a.files ++ l → LeavesFront t (points_now t a) (sure_now t a) (next_now t a) x) a.waiting the_begin
+    pub begin_front : LeavesPointsPrefix t (points_now t a) (durable_now t a) (next_now t a) x
+    begin_front = push_all (λ l. t.entries x.files ≡ t.entries a.files ++ l → LeavesPointsPrefix t (points_now t a) (durable_now t a) (next_now t a) x) a.waiting the_begin
         (λ k is. front_left t telling a a.waiting base r.settled r.each r.plain r.counted read k x is (run_at k))
         (λ is. front_all (is ∙ sym behind)) s.some (s.sealed ∙ ap (λ (l : List Entry). l ++ take s.some (a.waiting ++ the_begin ∷ [])) (r.settled y now))
 

@@ -23,9 +23,9 @@ use Rattle.dms_history.proofs.Runs.{after_push}
 use Rattle.dms_history.proofs.Listed.{points_stay}
 use Rattle.dms_running.specs.Telling.{Telling, IsTelling}
 use Rattle.dms_running.specs.Standing.{MayRun}
-use Rattle.dms_running.specs.Points.{points_told, LeavesFront}
+use Rattle.dms_running.specs.Points.{points_told, LeavesPointsPrefix}
 use Rattle.dms_running.specs.Sealing.{IsSealed}
-use Rattle.dms_running.specs.Running.{State, entries_now, next_now, points_now, sure_now, content_now, count_live, IsRunning, IsRead, LeavesPoints, IsLogged, IsChanged, AllPlain}
+use Rattle.dms_running.specs.Running.{State, entries_now, next_now, points_now, durable_now, content_now, count_live, IsRunning, IsRead, LeavesPoints, IsLogged, IsChanged, AllPlain}
 use Rattle.dms_running.proofs.MayRun.{sound, has_one, points_are, content_sized, may_write, other_dumps}
 use Rattle.dms_running.proofs.Plain.{plain_grows, plain_take}
 use Rattle.dms_running.proofs.Stopped.{front_left, old_read, count_told}
@@ -138,8 +138,8 @@ module _ (t : Telling) (telling : IsTelling t) (a : State) (r : IsRunning t a) (
         pub early_content : content_now t c ≡ content_now t a
         early_content = content_of t c (entries_now t a) (stored_of c.files) (t.dumps c.files) base later_all refl later_may ∙ sym (content_is t telling a r read)
 
-        pub early_sure : sure_now t c ≡ sure_now t a
-        early_sure =
+        pub early_durable : durable_now t c ≡ durable_now t a
+        early_durable =
             let one = old_read t telling a a.waiting r.base r.settled r.each r.plain r.counted read in
             let two = old_read t telling c c.waiting early_runs.base early_runs.settled early_runs.each early_runs.plain early_runs.counted reads in
             count_told t.first (t.entries c.files) (t.dumps c.files) early_runs.base (stored_of c.files) two ∙ ap (λ (l : List Entry). count_live l) later_entries
@@ -154,9 +154,9 @@ pub changed_logged : (t : Telling) (a : State) (f k : ℕ) → a.waiting ≡ [] 
 changed_logged t a f k nothing changed none =
     changed (ap (λ (l : List Entry). last_after f k (after_last is_control (live_of l))) (ap (λ (l : List Entry). t.entries a.files ++ l) nothing ∙ append_none (t.entries a.files)) ∙ none)
 
--- a front of points of which more are sure, with a next number that is no lower
-pub leaves_less : (t : Telling) (points later : List LivePoint) (sure more next up : ℕ) (x : Left) → later ≡ points → sure ≤ more → next ≤ up → LeavesFront t later more up x → LeavesFront t points sure next x
-leaves_less t points later sure more next up x same le rise front = record {
+-- a prefix of points of which more are durable, with a next number that is no lower
+pub leaves_less : (t : Telling) (points later : List LivePoint) (durable more next up : ℕ) (x : Left) → later ≡ points → durable ≤ more → next ≤ up → LeavesPointsPrefix t later more up x → LeavesPointsPrefix t points durable next x
+leaves_less t points later durable more next up x same le rise front = record {
   count = front.count;
   enough = omega (arith, le, front.enough);
   within = omega (arith, front.within, ap (λ (l : List LivePoint). length l) same);
@@ -167,6 +167,6 @@ leaves_less t points later sure more next up x same le rise front = record {
 
 -- one call after another that leave the same points
 pub both_leave : (t : Telling) (points later : List LivePoint) (next up : ℕ) (a b : State) (end : Clock Left) → LeavesPoints t points next a b.clock → LeavesPoints t later up b end
-    → later ≡ points → sure_now t a ≤ sure_now t b → next ≤ up → LeavesPoints t points next a end
-both_leave t points later next up a b end first second same sure rise =
-    runs_on first second (λ x l. leaves_less t points later (sure_now t a) (sure_now t b) next up x same sure rise l)
+    → later ≡ points → durable_now t a ≤ durable_now t b → next ≤ up → LeavesPoints t points next a end
+both_leave t points later next up a b end first second same durable rise =
+    runs_on first second (λ x l. leaves_less t points later (durable_now t a) (durable_now t b) next up x same durable rise l)

@@ -5,7 +5,7 @@ use Rattle.dms_site.specs.Files.{Files, with_file, overlaid, InFile, Torn, store
 use Rattle.dms_site.specs.Laws.{torn_overlaid, in_file_with}
 use Rattle.dms_site.specs.StoredLaws.{stored_whole, stored_apart, stored_written}
 use Rattle.dms_history.specs.Events.{Block, Content, Stored, Event, change, block_in}
-use Rattle.dms_history.specs.Replay.{Tells, with_block}
+use Rattle.dms_history.specs.Replay.{TellsBefore, with_block}
 use Rattle.dms_history.specs.Lists.{after_last}
 use Rattle.dms_history.specs.Places.{is_control}
 use Rattle.dms_history.specs.Images.{is_at, last_after}
@@ -93,7 +93,7 @@ holds_same t a b frames h content blocks changes f k = record {
 -- ---- a block is changed
 
 module _ (t : Telling) (a later : State) (frames : Frames) (h : Holds t a frames) (f b : ℕ) (before : Option Block) (after : Block)
-    (tells : Tells b before (content_now t a f)) (grown : content_now t later ≡ with_block (content_now t a) f b after)
+    (tells : TellsBefore b before (content_now t a f)) (grown : content_now t later ≡ with_block (content_now t a) f b after)
     (entries : entries_now t later ≡ entries_now t a ++ image f b before after ∷ []) (blocks : stored_of later.files ≡ stored_of a.files) where
   le : b ≤ length (content_now t a f)
   le = tells_le b before (content_now t a f) tells

@@ -2,7 +2,7 @@
 use Rattle.std.proofs.Common.{ℕ, ◌-◌, ◌^◌, ◌≤◌, ◌<◌, ◌≡◌, Bool, true, false, cond, List, [], ◌∷◌, ◌++◌, length, Option, Some, None, refl, sym, ◌∙◌, ap, subst, arith}
 use Rattle.std.specs.Prelude.{◌&&◌, not}
 use Rattle.dms_history.specs.Events.{Block, Content, Stored, Event, change, quiet, control, begin}
-use Rattle.dms_history.specs.Replay.{Tells, with_block}
+use Rattle.dms_history.specs.Replay.{TellsBefore, with_block}
 use Rattle.dms_history.specs.Lists.{has, after_last}
 use Rattle.dms_history.specs.Places.{is_control, is_described, is_point}
 use Rattle.dms_history.specs.History.{History, history, after_event}
@@ -36,7 +36,7 @@ images_both (quiet n ∷ xs) ys one two = images_both xs ys one two
 images_both (control n next counts described ∷ xs) ys one two = images_both xs ys one two
 images_both (begin n how ∷ xs) ys one two = images_both xs ys one two
 
-before_sized : (b : ℕ) (before : Option Block) (c : Content) (f : ℕ) → Tells b before (c f) → AllSized c → IsSizedBefore before
+before_sized : (b : ℕ) (before : Option Block) (c : Content) (f : ℕ) → TellsBefore b before (c f) → AllSized c → IsSizedBefore before
 before_sized b None c f tells sized = tt
 before_sized b (Some old) c f tells sized = ap length tells.1 ∙ sized f b tells.0
 
@@ -83,7 +83,7 @@ module _ (first : Bool) (es : List Entry) (dumps : Dumps) (base : Content) (stor
       }
 
   -- an Image
-  module _ (f b : ℕ) (before : Option Block) (after : Block) (tells : Tells b before (content_told es base f)) (sized : length after ≡ 1024) where
+  module _ (f b : ℕ) (before : Option Block) (after : Block) (tells : TellsBefore b before (content_told es base f)) (sized : length after ≡ 1024) where
     abbrev pub with_image : List Entry
     with_image = es ++ image f b before after ∷ []
 

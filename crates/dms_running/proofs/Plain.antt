@@ -66,7 +66,7 @@ take_nothing (suc k) (e ∷ es) is = absurd cc
 pub take_whole : (l : List Entry) → take (length l) l ≡ l
 take_whole l = ap (λ (k : List Entry). take (length l) k) (sym (append_none l)) ∙ take_at l [] (length l) refl
 
--- what holds of each front of a list, and of it with one more
+-- what holds of each prefix of a list, and of it with one more
 pub push_all : (P : List Entry → Type 0) (ws : List Entry) (e : Entry) → ((k : ℕ) → P (take k ws)) → P (ws ++ e ∷ []) → (k : ℕ) → P (take k (ws ++ e ∷ []))
 push_all P ws e some whole zero = some zero
 push_all P [] e some whole (suc k) = subst (λ (l : List Entry). P (e ∷ l)) (sym (take_nothing k [] refl)) whole

@@ -13,7 +13,7 @@ use Rattle.dms_history.specs.EntryEvents.{next_of}
 use Rattle.dms_history.proofs.Order.{append_none}
 use Rattle.dms_running.specs.Telling.{Telling, IsTelling}
 use Rattle.dms_running.specs.Standing.{Stands, MayRun, IsWhole}
-use Rattle.dms_running.specs.Points.{points_told, points_of, next_in, LeavesFront}
+use Rattle.dms_running.specs.Points.{points_told, points_of, next_in, LeavesPointsPrefix}
 use Rattle.dms_running.specs.Sealing.{Seals, Appended, IsSealed, Settled}
 use Rattle.dms_running.specs.Running.{State, entries_now, count_live, AllPlain, IsRunning}
 use Rattle.dms_running.specs.Begun.{LeavesAll}
@@ -22,7 +22,7 @@ use Rattle.dms_running.proofs.Plain.{take_nothing}
 use Rattle.dms_running.proofs.Stopped.{blocks_same, joined}
 
 -- a stop leaves all of these points
-pub all_left : (t : Telling) (points : List LivePoint) (next : ℕ) (x : Left) → points_of t x.files ≡ points → next ≤ next_in t x.files → IsWhole t x.files → LeavesFront t points (length points) next x
+pub all_left : (t : Telling) (points : List LivePoint) (next : ℕ) (x : Left) → points_of t x.files ≡ points → next ≤ next_in t x.files → IsWhole t x.files → LeavesPointsPrefix t points (length points) next x
 all_left t points next x is up whole = record {
   count = length points;
   enough = omega arith;
@@ -123,7 +123,7 @@ module _ (t : Telling) (es : List Entry) (start : Files) (old : Clock Left) (s :
   lays_sealed later sealed = (sealed.sealed ∙ joined t es s.waiting start s.files l.appended, λ g up. sealed.above g up ∙ l.appended.above g up)
 
 module _ (t : Telling) (telling : IsTelling t) (es : List Entry) (a : State) (base : Content) (keeps : KeepsAll t es a.files base) (only : Only a.files a.clock) where
-  planned_front : (x : Left) → Planned t es a.files x → LeavesFront t (points_of t a.files) (length (points_of t a.files)) (next_in t a.files) x
+  planned_front : (x : Left) → Planned t es a.files x → LeavesPointsPrefix t (points_of t a.files) (length (points_of t a.files)) (next_in t a.files) x
   planned_front x p =
       all_left t (points_of t a.files) (next_in t a.files) x
       ((λ i. points_told (telling.dumps_between x.files a.files (λ g up below. p.above g up) i) (p.sealed i) (blocks_same x.files a.files p.above i)) ∙ keeps.points p.some)

@@ -24,7 +24,7 @@ use Rattle.dms_history.proofs.Keeping.{kept_restores}
 use Rattle.dms_history.proofs.Sizing.{sized_replay}
 use Rattle.dms_running.specs.Telling.{Telling, IsTelling}
 use Rattle.dms_running.specs.Standing.{Stands}
-use Rattle.dms_running.specs.Points.{points_told, points_of, next_in, LeavesFront}
+use Rattle.dms_running.specs.Points.{points_told, points_of, next_in, LeavesPointsPrefix}
 use Rattle.dms_running.specs.Running.{State, IsRead}
 use Rattle.dms_running.specs.Restoring.{IsKept, Rewritten, Rewrites, RestoredTo}
 use Rattle.dms_running.specs.Begun.{ByAudit, IsBegun, LeavesAll, IsRestored, outcome_now}
@@ -126,7 +126,7 @@ module _ (t : Telling) (telling : IsTelling t) (p : Pending) (a : State) (r : Is
     pub rewrites_stands : Stands t.first es (t.dumps x.files) r.base (stored_of x.files)
     rewrites_stands = other_dumps (t.dumps y.files) (t.dumps x.files) (stored_of x.files) (rewritten_stands t.first es r.base (t.dumps y.files) p r.pending r.by_audit y.files x.files step.files (r.each y now))
 
-    pub rewrites_front : LeavesFront t (points_of t a.files) (length (points_of t a.files)) (next_in t a.files) x
+    pub rewrites_front : LeavesPointsPrefix t (points_of t a.files) (length (points_of t a.files)) (next_in t a.files) x
     rewrites_front = all_left t (points_of t a.files) (next_in t a.files) x
         (ap (λ (l : List Entry). points_told (t.dumps x.files) l (stored_of x.files)) rewrites_entries
         ∙ points_fixed t.first es r.base (t.dumps x.files) p r.pending r.by_audit (stored_of x.files) (stored_of a.files) rewrites_stands (other_dumps (t.dumps a.files) (t.dumps x.files) (stored_of a.files) read_stands)

@@ -16,7 +16,7 @@ use Rattle.dms_history.proofs.Order.{append_none}
 use Rattle.dms_history.proofs.Listed.{points_front}
 use Rattle.dms_running.specs.Telling.{Telling, IsTelling}
 use Rattle.dms_running.specs.Standing.{Stands, MayRun}
-use Rattle.dms_running.specs.Points.{points_told, points_of, LeavesFront}
+use Rattle.dms_running.specs.Points.{points_told, points_of, LeavesPointsPrefix}
 use Rattle.dms_running.specs.Sealing.{Seals, Appended, IsSealed, Settled}
 use Rattle.dms_running.specs.Running.{State, entries_now, AllPlain, count_live, IsRunning, IsRead, LeavesPoints}
 use Rattle.dms_running.proofs.MayRun.{sound, points_are}
@@ -65,9 +65,9 @@ module _ (t : Telling) (telling : IsTelling t) (a : State) (es : List Entry) (ba
   pub old_read : MayRun t.first old (t.dumps a.files) base (stored_of a.files)
   old_read = subst (λ (l : List Entry). MayRun t.first l (t.dumps a.files) base (stored_of a.files)) (append_none old) (each_read 0)
 
-  -- a stop leaves so many of the entries more: a front of the points
+  -- a stop leaves so many of the entries more: a prefix of the points
   pub front_left : (k : ℕ) (x : Left) → t.entries x.files ≡ old ++ take k es → MayRun t.first (old ++ take k es) (t.dumps x.files) base (stored_of x.files)
-      → LeavesFront t (points_told (t.dumps a.files) (old ++ es) (stored_of a.files)) (length (points_of t a.files)) (next_of (old ++ es)) x
+      → LeavesPointsPrefix t (points_told (t.dumps a.files) (old ++ es) (stored_of a.files)) (length (points_of t a.files)) (next_of (old ++ es)) x
   front_left k x is here =
       let part = points_told (t.dumps x.files) (old ++ take k es) (stored_of x.files) in
       let all = points_told (t.dumps a.files) (old ++ es) (stored_of a.files) in

@@ -2,7 +2,7 @@
 use Rattle.std.specs.Prelude.{ℕ, ◌-◌, ◌^◌, ◌<◌, ◌≤◌, ◌≡◌, Bool, true, List, [], ◌∷◌, ◌++◌, length, Option, Some, None}
 use Rattle.dms_site.specs.Files.{Files, stored_of}
 use Rattle.dms_history.specs.Events.{Block, Content, Stored}
-use Rattle.dms_history.specs.Replay.{Tells, with_block}
+use Rattle.dms_history.specs.Replay.{TellsBefore, with_block}
 use Rattle.dms_history.specs.Lists.{has, after_last}
 use Rattle.dms_history.specs.Places.{is_control, is_described, IsLive}
 use Rattle.dms_history.specs.History.{Pending, last_point}
@@ -34,7 +34,7 @@ AgreesWhole = (t : Telling) (files : Files) → Agrees t.first (t.entries files)
 -- An Image that tells what stood before it: it may still run, and the content has the block.
 abbrev pub RunsImage : Type 0
 RunsImage = (first : Bool) (es : List Entry) (dumps : Dumps) (base : Content) (stored : Stored) (f b : ℕ) (before : Option Block) (after : Block) → MayRun first es dumps base stored
-    → Tells b before (content_told es base f) → length after ≡ 1024
+    → TellsBefore b before (content_told es base f) → length after ≡ 1024
     → MayRun first (es ++ image f b before after ∷ []) dumps base stored × (content_told (es ++ image f b before after ∷ []) base ≡ with_block (content_told es base) f b after)
 
 -- A quiet point with a number that is free: it may still run, and the content is the same.

@@ -25,7 +25,7 @@ pub record Lays (t : Telling) (es : List Entry) (start : Files) (old : Clock Lef
   pub since : Runs old s.clock (Planned t es start)
   pub now : (x : Left) → Now s.clock x → Planned t es start x
 
--- What holds of each front of a plan: it has the points of the start, a next number that is no lower, and stands.
+-- What holds of each prefix of a plan: it has the points of the start, a next number that is no lower, and stands.
 pub record KeepsAll (t : Telling) (es : List Entry) (start : Files) (base : Content) : Type 0 where
   pub points : (k : ℕ) → points_told (t.dumps start) (t.entries start ++ take k es) (stored_of start) ≡ points_of t start
   pub next : (k : ℕ) → next_in t start ≤ next_of (t.entries start ++ take k es)

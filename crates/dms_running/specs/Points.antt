@@ -22,11 +22,11 @@ points_of t files = points_told (t.dumps files) (t.entries files) (stored_of fil
 abbrev pub next_in : Telling → Files → ℕ
 next_in t files = next_of (t.entries files)
 
--- A stop leaves the first so many of these points, at least the sure ones, each with its content, in files that hold a database. The
+-- A stop leaves the first so many of these points, at least the durable ones, each with its content, in files that hold a database. The
 -- next number has fallen from this one by no more than the points that are missing.
-pub record LeavesFront (t : Telling) (points : List LivePoint) (sure next : ℕ) (x : Left) : Type 0 where
+pub record LeavesPointsPrefix (t : Telling) (points : List LivePoint) (durable next : ℕ) (x : Left) : Type 0 where
   pub count : ℕ
-  pub enough : sure ≤ count
+  pub enough : durable ≤ count
   pub within : count ≤ length points
   pub is : points_of t x.files ≡ take count points
   pub not_fallen : next + count ≤ next_in t x.files + length points

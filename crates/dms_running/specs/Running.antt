@@ -11,7 +11,7 @@ use Rattle.dms_history.specs.Entries.{Entry, schema_part, image, byte_range, qui
 use Rattle.dms_history.specs.EntryEvents.{live_of, next_of}
 use Rattle.dms_running.specs.Telling.{Telling}
 use Rattle.dms_running.specs.Standing.{MayRun}
-use Rattle.dms_running.specs.Points.{points_told, points_of, LeavesFront}
+use Rattle.dms_running.specs.Points.{points_told, points_of, LeavesPointsPrefix}
 use Rattle.dms_running.specs.Sealing.{Settled}
 
 -- what it holds in memory of its audit, what a read of the site gives, and what a stop leaves
@@ -33,8 +33,8 @@ abbrev pub points_now : Telling → State → List LivePoint
 points_now t s = points_told (t.dumps s.files) (entries_now t s) (stored_of s.files)
 
 -- how many of them each stop leaves
-abbrev pub sure_now : Telling → State → ℕ
-sure_now t s = length (points_of t s.files)
+abbrev pub durable_now : Telling → State → ℕ
+durable_now t s = length (points_of t s.files)
 
 -- the point that a quiet point would make now
 abbrev pub here_now : Telling → State → LivePoint
@@ -78,7 +78,7 @@ IsRead s = (x : Left) × Now s.clock x × (x.files ≡ s.files)
 -- A stop from then on, up to a later clock, left the first so many of these points, at least those that each stop left then, or what
 -- it could leave then.
 abbrev pub LeavesPoints : Telling → List LivePoint → ℕ → State → Clock Left → Type 0
-LeavesPoints t points next old later = Runs old.clock later (LeavesFront t points (sure_now t old) next)
+LeavesPoints t points next old later = Runs old.clock later (LeavesPointsPrefix t points (durable_now t old) next)
 
 -- block b of file f has a sealed change since the last Control
 abbrev pub IsLogged : Telling → Files → ℕ → ℕ → Type 0

@@ -40,7 +40,7 @@ use Rattle.dms_script.specs.Cursors.{word_at, equal_at, name_at, name_in, litera
 use Rattle.dms_script.specs.Lines.{line_of, sound_line, sound_len, bad_by, line_from, spoken_at, program_at, whole_verb_at, colon_at}
 use Rattle.dms_script.specs.Looks.{is_wanted, if_wanted, structure_named, has_kind, counted, if_settable, target_named, key_item_of, key_item, kind_named, run_of, run_named, whole_run, upward, numbers}
 use Rattle.dms_script.specs.Reads.{Read, or_bad, ◌>>=◌}
-use Rattle.dms_script.specs.Spoken.{HasOrder, is_such, Takes, TakeKey, TakesAt, IsWay, IsItemOf, HasRestart, NamesWhatIsThere, SpeaksWell, LinesSpeakWell}
+use Rattle.dms_script.specs.Spoken.{HasOrder, is_such, MaySetTo, TakeKey, TakesAt, IsWay, IsItemOf, HasRestart, NamesWhatIsThere, SpeaksWell, LinesSpeakWell}
 use Rattle.dms_script.specs.Verbs.{close_line_at, word_then, open_at, close_at, first_at, last_at, member_at, path_at, find_at, create_at, store_at, list_of, list_at, setting_at, put_at, shown_at, is_over, all_shown_at, get_at, mode_at, begin_at, sync_at, finish_at, abort_at, transaction_at, area_at, verb_at}
 
 both : (a b : Bool) → (a && b) ≡ true → (a ≡ true) × (b ≡ true)
@@ -194,7 +194,7 @@ module _ (desc : Described) (order : HasOrder desc) where
   unfolding key_item_at
   key_gives o ts = then_any (name_at ts) _ (λ r. HasKindOf o r.0) (λ name. or_gives (kind_named name.0 o) (place_at ts) name.1 (HasKindOf o) (kind_is name.0 o))
 
-  takes_kind : (o : Option Item) (kind : ItemKind) (l : Literal) → HasKindOf o kind → OfKind kind l → Takes o l
+  takes_kind : (o : Option Item) (kind : ItemKind) (l : Literal) → HasKindOf o kind → OfKind kind l → MaySetTo o l
   takes_kind None kind l h k = absurd h
   takes_kind (Some i) kind l h k = (h.0, (ap (λ (x : ItemKind). has_kind x l) h.1 ∙ k.0, k.1))
 
@@ -319,11 +319,11 @@ module _ (desc : Described) (order : HasOrder desc) where
   target_gives items done ts = then_any (name_at ts) _ (λ r. IsSettable items r.0) (λ name. or_gives (target_named name.0 items done) (place_at ts) name.1 (IsSettable items) (target_is name.0 items done))
 
   abbrev SetsWell : List Item → Setting → Type 0
-  SetsWell items t = Takes (slice_get items (t.item - 1)) t.literal
+  SetsWell items t = MaySetTo (slice_get items (t.item - 1)) t.literal
 
   setting_well : (items : List Item) (t : NamedItem) (l : Literal) → IsSettable items t → OfKind t.kind l → SetsWell items (record { item = t.number; literal = l })
   setting_well items t l h k =
-      subst (λ (o : Option Item). Takes o l) (sym (take_get 60 (t.number - 1) items h.target.item h.target.at))
+      subst (λ (o : Option Item). MaySetTo o l) (sym (take_get 60 (t.number - 1) items h.target.item h.target.at))
       (ap is_link h.target.kind ∙ h.no_link, (ap (λ (x : ItemKind). has_kind x l) h.target.kind ∙ k.0, k.1))
 
   setting_gives : (items : List Item) (done : List Setting) (ts : List Lexeme) → AllByRecursion (SetsWell items) done → IfOk (setting_at items done ts) (λ r. AllByRecursion (SetsWell items) r.0)

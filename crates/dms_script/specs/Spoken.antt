@@ -34,15 +34,15 @@ is_such wanted (Some s) = is_wanted wanted s
 
 -- an item may be set to a literal, or sought by it: it is there and no link, the literal is of its kind, and a text is one that
 -- an item may have
-abbrev pub Takes : Option Item → Literal → Type 0
-Takes None l = ⊥
-Takes (Some i) l = (is_link i.kind ≡ false) × ((has_kind i.kind l ≡ true) × IsPlainLiteral l)
+abbrev pub MaySetTo : Option Item → Literal → Type 0
+MaySetTo None l = ⊥
+MaySetTo (Some i) l = (is_link i.kind ≡ false) × ((has_kind i.kind l ≡ true) × IsPlainLiteral l)
 
 -- literals for the first items of a key
 abbrev pub TakeKey : List KeyPart → List Item → List Literal → Type 0
 TakeKey parts items [] = ⊤
 TakeKey [] items (l ∷ ls) = ⊥
-TakeKey (p ∷ ps) items (l ∷ ls) = Takes (slice_get items (p.item - 1)) l × TakeKey ps items ls
+TakeKey (p ∷ ps) items (l ∷ ls) = MaySetTo (slice_get items (p.item - 1)) l × TakeKey ps items ls
 
 abbrev pub TakesAt : Described → Option Shape → List Literal → Type 0
 TakesAt desc None literals = ⊥
@@ -70,7 +70,7 @@ NamesWhatIsThere desc OpenInquiry = ⊤
 NamesWhatIsThere desc Close = ⊤
 NamesWhatIsThere desc (Find path) = IsWay desc path
 NamesWhatIsThere desc (Create set) = is_such DataSet (structure_of desc set) ≡ true
-NamesWhatIsThere desc (Put set settings) = (is_such DataSet (structure_of desc set) ≡ true) × AllByRecursion (λ t. Takes (slice_get (items_of (structure_of desc set)) (t.item - 1)) t.literal) settings
+NamesWhatIsThere desc (Put set settings) = (is_such DataSet (structure_of desc set) ≡ true) × AllByRecursion (λ t. MaySetTo (slice_get (items_of (structure_of desc set)) (t.item - 1)) t.literal) settings
 NamesWhatIsThere desc (Get set items) = (is_such DataSet (structure_of desc set) ≡ true) × AllByRecursion (IsItemOf (items_of (structure_of desc set))) items
 NamesWhatIsThere desc (Store set) = is_such DataSet (structure_of desc set) ≡ true
 NamesWhatIsThere desc (Begin audit) = HasRestart desc

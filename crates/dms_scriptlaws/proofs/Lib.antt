@@ -1,7 +1,7 @@
 pub mod Digits
 pub mod Feeds
 pub mod Formed
-pub mod Fronts
+pub mod Prefixes
 pub mod Lined
 pub mod Named
 pub mod Scripts

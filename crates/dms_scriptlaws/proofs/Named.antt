@@ -26,7 +26,7 @@ use Rattle.dms_model.specs.declared.spot.Spot.{Spot}
 use Rattle.dms_model.specs.Db.{Db}
 use Rattle.dms_desc.specs.Lookups.{name_of, structure_of, items_of, set_of}
 use Rattle.dms_model.specs.Stores.{put_answer}
-use Rattle.dms_model.specs.Session.{Session, Outcome, Kept, Refused, Keeps, Filled, Misfit, Values', refuse, done, shows, settle, keep, store_step, after_store, begin_step, after_begin, begin_unless, awaited, workers, end_step, after_end, abort_step, find_step, after_find, found_by, create_step, put_step, put_area, after_put, filled, item_name, setting_value, get_step, get_area, get_text, more_text, item_text, close_step, open_as, open_step, verb_step, step_at, step, with_program, with_work, work_of, restart_of, someone_works, is_inquiry, opens, changes, path_of, new_program, place_of, carried, left, without, idle, backed_out, found_program, let_go, with_lock, area_kept, kept_unless, put_kept, missing_from, verified, area_values, area_number, record_of, is_free, one_more}
+use Rattle.dms_model.specs.Session.{Session, Outcome, StoreResult, Refused, Keeps, Filled, Misfit, Values', refuse, done, shows, settle, keep, store_step, after_store, begin_step, after_begin, begin_unless, awaited, workers, end_step, after_end, abort_step, find_step, after_find, found_by, create_step, put_step, put_area, after_put, filled, item_name, setting_value, get_step, get_area, get_text, more_text, item_text, close_step, open_as, open_step, verb_step, step_at, step, with_program, with_work, work_of, restart_of, someone_works, is_inquiry, opens, changes, path_of, new_program, place_of, carried, left, without, idle, backed_out, found_program, let_go, with_lock, area_kept, kept_unless, put_kept, missing_from, verified, area_values, area_number, record_of, is_free, one_more}
 use Rattle.dms_laws.specs.Sound.{AreaFits, AreasFit}
 use Rattle.dms_laws.proofs.Lists.{all_at, all_set, all_mapped, all_pushed, all_without}
 use Rattle.dms_scriptlaws.specs.Truths.{HasNames}
@@ -148,11 +148,11 @@ get_feed items (n ∷ ns) values h plain =
 
 -- storing
 
-abbrev KeptNamed : Kept → Type 0
+abbrev KeptNamed : StoreResult → Type 0
 KeptNamed (Refused c n) = NoFeed n
 KeptNamed (Keeps p db) = Named p
 
-kept_if : (b : Bool) (x y : Kept) → KeptNamed x → KeptNamed y → KeptNamed (cond b x y)
+kept_if : (b : Bool) (x y : StoreResult) → KeptNamed x → KeptNamed y → KeptNamed (cond b x y)
 kept_if true x y h k = h
 kept_if false x y h k = k
 
@@ -205,11 +205,11 @@ module _ (desc : Described) (names : HasNames desc) where
     keep_if : (audit : Bool) → KeptNamed (cond audit (keep desc p s.db (restart_of desc)) (Keeps p s.db))
     keep_if audit = kept_if audit (keep desc p s.db (restart_of desc)) (Keeps p s.db) (keep_named s.db (restart_of desc)) mine
 
-    store_named : (k : Kept) → KeptNamed k → LeavesNamed (after_store k i s)
+    store_named : (k : StoreResult) → KeptNamed k → LeavesNamed (after_store k i s)
     store_named (Refused c n) h = refused s c n h all
     store_named (Keeps q db) h = shown _ [] tt (with_named (carried q) h)
 
-    begun_named : (k : Kept) → KeptNamed k → LeavesNamed (after_begin k i s)
+    begun_named : (k : StoreResult) → KeptNamed k → LeavesNamed (after_begin k i s)
     begun_named (Refused c n) h = refused s c n h all
     begun_named (Keeps q db) h = shown _ [] tt (with_named _ h)
 
@@ -217,7 +217,7 @@ module _ (desc : Described) (names : HasNames desc) where
     begin_named [] audit h = begun_named (cond audit (keep desc p s.db (restart_of desc)) (Keeps p s.db)) (keep_if audit)
     begin_named (q ∷ qs) audit h = record { reply = h; names = all }
 
-    end_named : (k : Kept) (sync : Bool) → KeptNamed k → LeavesNamed (after_end k desc i s sync)
+    end_named : (k : StoreResult) (sync : Bool) → KeptNamed k → LeavesNamed (after_end k desc i s sync)
     end_named (Refused c n) sync h = refused s c n h all
     end_named (Keeps q db) sync h =
         settled (record s { db = db; programs = slice_set s.programs i (left q); pending = s.pending || sync || nat_le desc.syncpoint (one_more s.since); since = one_more s.since }) (with_named (left q) h)

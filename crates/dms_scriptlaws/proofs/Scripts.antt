@@ -23,12 +23,12 @@ use Rattle.dms_script.specs.declared.line.Line.{Line}
 use Rattle.dms_script.specs.declared.line.Line.TheVariants.{Verb as Spoken}
 use Rattle.dms_script.specs.declared.look.Wanted.TheVariants.{DataSet}
 use Rattle.dms_script.specs.Lines.{line_of}
-use Rattle.dms_script.specs.Spoken.{is_such, Takes, NamesWhatIsThere, SpeaksWell}
+use Rattle.dms_script.specs.Spoken.{is_such, MaySetTo, NamesWhatIsThere, SpeaksWell}
 use Rattle.dms_script.proofs.Spoken.{lines_speak_well}
 use Rattle.dms_runner.specs.Answers.{script_events, answers_quiets, last_quiet}
 use Rattle.dms_scriptlaws.specs.Truths.{IsRunnable, IsStart, TellsTrue, StopsTold, StayValid}
 use Rattle.dms_scriptlaws.proofs.Feeds.{name_feed, reply_none, bad_none, unanswered_none}
-use Rattle.dms_scriptlaws.proofs.Fronts.{truthful, leaves_told, numbered_rise}
+use Rattle.dms_scriptlaws.proofs.Prefixes.{truthful, leaves_told, numbered_rise}
 use Rattle.dms_scriptlaws.proofs.Named.{AreNamed, step_named}
 use Rattle.dms_scriptlaws.proofs.Speaking.{Speaks, IsTrueRun, true_run}
 
@@ -42,11 +42,11 @@ outer_shape s low h =
     let above : nat_lt 0 s.kind ≡ true = grind (arith, nat_tests, low) in
     record { data_set = ap (λ (b : Bool). b && nat_lt s.kind 3) above ∙ h'.0; disjoint = grind (arith, nat_tests, h'.1) }
 
-texts_of : (o : Option Item) (l : Literal) → Takes o l → IsPlainLiteral l
+texts_of : (o : Option Item) (l : Literal) → MaySetTo o l → IsPlainLiteral l
 texts_of None l h = absurd h
 texts_of (Some i) l h = h.1.1
 
-settings_plain : (items : List Item) (ts : List Setting) → AllByRecursion (λ (t : Setting). Takes (slice_get items (t.item - 1)) t.literal) ts → AllByRecursion (λ (t : Setting). IsPlainLiteral t.literal) ts
+settings_plain : (items : List Item) (ts : List Setting) → AllByRecursion (λ (t : Setting). MaySetTo (slice_get items (t.item - 1)) t.literal) ts → AllByRecursion (λ (t : Setting). IsPlainLiteral t.literal) ts
 settings_plain items [] h = tt
 settings_plain items (t ∷ ts) h = (texts_of (slice_get items (t.item - 1)) t.literal h.0, settings_plain items ts h.1)
 
@@ -100,7 +100,7 @@ module _ (desc : Described) (run : IsRunnable desc) where
     points = λ s name verb v k. (stays_sound desc run.made).points s name verb v.outer k.sound;
     reply = λ line s name verb v k. reply_none line name (step desc s name verb).reply (name_feed name v.named) (step_named desc run.names s name verb v.named k.named k.sound.areas).reply;
     bad = bad_none;
-    held = λ line name verb v. unanswered_none line name (name_feed name v.named);
+    waiting = λ line name verb v. unanswered_none line name (name_feed name v.named);
     spoken = λ raw name verb is. spoken_so (line_of desc raw) name verb (lines_speak_well desc run.order raw) is;
   }
 

@@ -12,13 +12,13 @@ use Rattle.dms_laws.specs.Made.{IsWellMade, OfAllItems}
 use Rattle.dms_laws.specs.Sound.{IsFlat}
 use Rattle.dms_runner.specs.Answers.{script_events, answers_quiets, left_by}
 use Rattle.dms_runner.specs.EventLaws.{any}
-use Rattle.dms_runner.specs.Events.{Event, Stopped, text_of, quiets_of, sure_after}
+use Rattle.dms_runner.specs.Events.{RunEvent, CrashesWithin, text_of, quiets_of, durable_after}
 use Rattle.dms_script.specs.Spoken.{HasOrder}
 use Rattle.dms_scriptlaws.specs.Told.{told}
 
 -- the quiet points of these events that a syncpoint among them made durable: all up to the last one that was taken
-abbrev pub durable : List Event → List Quiet
-durable events = take (sure_after 0 0 events) (quiets_of events)
+abbrev pub durable_quiets : List RunEvent → List Quiet
+durable_quiets events = take (durable_after 0 0 events) (quiets_of events)
 
 -- one of these quiet points has this number
 abbrev pub is_quiet_in : List Quiet → ℕ → Bool
@@ -30,15 +30,15 @@ is_point_in points n = list_any (λ (p : Point). p.number == n) points
 
 -- wherever the text breaks off, in what an event says, it tells nothing or the number of a quiet point that the events before
 -- that one made durable
-abbrev pub IsTruthful : List Event → Type 0
+abbrev pub IsTruthful : List RunEvent → Type 0
 IsTruthful events =
-    (before : List Event) (at : Event) (rest : List Event) (n : ℕ) → before ++ at ∷ rest ≡ events
-    → (told (text_of before ++ take n at.text) ≡ 0) ⊎ IsTrue (is_quiet_in (durable before) (told (text_of before ++ take n at.text)))
+    (before : List RunEvent) (at : RunEvent) (rest : List RunEvent) (n : ℕ) → before ++ at ∷ rest ≡ events
+    → (told (text_of before ++ take n at.text) ≡ 0) ⊎ IsTrue (is_quiet_in (durable_quiets before) (told (text_of before ++ take n at.text)))
 
 -- a stop within these events, before which all quiet points were durable, leaves the quiet point that its text tells
-abbrev pub LeavesTold : List Event → Type 0
+abbrev pub LeavesTold : List RunEvent → Type 0
 LeavesTold events =
-    (text printed : List ℕ) (points : List Point) (next : ℕ) (stop : Stop) → Stopped any (Some text) points (length points) next events stop
+    (text printed : List ℕ) (points : List Point) (next : ℕ) (stop : Stop) → CrashesWithin any (Some text) points (length points) next events stop
     → stop.said ≡ text ++ printed → (told printed ≡ 0) ⊎ IsTrue (is_point_in stop.points (told printed))
 
 -- the quiet points have rising numbers from this one on, without a gap

@@ -1,4 +1,4 @@
--- Std's word for a front is that of the laws.
+-- Std's word for a prefix is that of the laws.
 use Rattle.std.proofs.Common.{◌≡◌, ℕ, List, [], ◌∷◌, eqb, arith, refl, sym, ◌∙◌}
 use Rattle.std.specs.Prelude.{◌&&◌}
 use Rattle.std.specs.List as list
@@ -6,7 +6,7 @@ use Rattle.std.specs.Ordering.{is_eq, nat_cmp, ordering_then}
 use Rattle.std.specs.declared.cmp.Ordering.{Ordering}
 use Rattle.std.specs.declared.cmp.Ordering.TheVariants.{Less, Equal, Greater}
 use Rattle.std.proofs.lemmas.Bool.Decides.{nat_tests}
-use Rattle.dms_sets.specs.Fronts.{starts, front_cmp}
+use Rattle.dms_sets.specs.Prefixes.{starts, front_cmp}
 
 eq_at : (o : Ordering) (a b : ℕ) → nat_cmp a b ≡ o → eqb a b ≡ is_eq o
 eq_at Less a b h = grind (arith, nat_tests, h)

@@ -16,7 +16,7 @@ use Rattle.dms_sets.specs.Listing.{member_opt}
 use Rattle.dms_sets.specs.Sets.{entry_of, entries_of, kinds_over}
 use Rattle.dms_sets.specs.Owners.{AllFit}
 use Rattle.dms_sets.specs.Clashes.{key_front, look, new_taken, old_taken}
-use Rattle.dms_sets.specs.Entries.{IsKey}
+use Rattle.dms_sets.specs.Entries.{IsSetKey}
 use Rattle.dms_ordlist.specs.Lists.{without_in}
 use Rattle.dms_sets.specs.Tests.{both_of}
 
@@ -38,11 +38,11 @@ clash_seen desc (s ∷ ss) db set number rec = if is_closed s set rec.values && 
 -- the records that a set has, and a new one, fit
 pub record AreJudged (desc : Described) (db : Db) (rec : Record) (s : Shape) : Type 0 where
   pub all : AllFit (kinds_over desc s) s (entries db.records)
-  pub key : IsKey (kinds_over desc s) s.parts (key_of s.parts rec.values)
+  pub key : IsSetKey (kinds_over desc s) s.parts (key_of s.parts rec.values)
 
-abbrev pub IsNumber : Option ℕ → Type 0
-IsNumber None = ⊤
-IsNumber (Some n) = n < 2 ^ 32
+abbrev pub IsFoundNumber : Option ℕ → Type 0
+IsFoundNumber None = ⊤
+IsFoundNumber (Some n) = n < 2 ^ 32
 
 -- what is known of a closed structure
 pub record IsOpenTo (s : Shape) (set : ℕ) : Type 0 where
@@ -62,26 +62,26 @@ closed_is s set d t h =
     let same : s.set ≡ set = grind (arith, nat_tests, two.1) in
     record { auto = grind (arith, nat_tests, one.1); over = over_at (nat_lt s.kind 3) s set refl one.0 same }
 
-blocked_at : (desc : Described) (s : Shape) (db : Db) (set : ℕ) (number : Option ℕ) (rec : Record) → IsOpenTo s set → rec.owner < 2 ^ 32 → IsNumber number → AreJudged desc db rec s
+blocked_at : (desc : Described) (s : Shape) (db : Db) (set : ℕ) (number : Option ℕ) (rec : Record) → IsOpenTo s set → rec.owner < 2 ^ 32 → IsFoundNumber number → AreJudged desc db rec s
     → has_equal s db.entries number rec (entries db.records) ≡ is_blocked desc s db set number rec
 blocked_at desc s db set None rec able owned small judged = new_taken (kinds_over desc s) s db.entries rec able.auto owned judged.key db.records judged.all
 blocked_at desc s db set (Some n) rec able owned small judged =
     old_taken (kinds_over desc s) s db.entries rec able.auto owned judged.key db.records n small judged.all
     ∙ ap (λ (k : ℕ). is_blocked desc s db k (Some n) rec) able.over
 
-clash_turn : (b : Bool) (desc : Described) (s : Shape) (db : Db) (set : ℕ) (number : Option ℕ) (rec : Record) (o p : Option ℕ) → is_closed s set rec.values ≡ b → rec.owner < 2 ^ 32 → IsNumber number → (is_closed s set rec.values ≡ true → AreJudged desc db rec s) → o ≡ p
+clash_turn : (b : Bool) (desc : Described) (s : Shape) (db : Db) (set : ℕ) (number : Option ℕ) (rec : Record) (o p : Option ℕ) → is_closed s set rec.values ≡ b → rec.owner < 2 ^ 32 → IsFoundNumber number → (is_closed s set rec.values ≡ true → AreJudged desc db rec s) → o ≡ p
     → cond (b && has_equal s db.entries number rec (entries db.records)) (Some s.number) o ≡ cond (b && is_blocked desc s db set number rec) (Some s.number) p
 clash_turn true desc s db set number rec o p closed owned small judged rest =
     (λ i. cond (blocked_at desc s db set number rec (closed_is s set (not s.duplicates) (takes s rec.values) closed) owned small (judged closed) i) (Some s.number) (rest i))
 clash_turn false desc s db set number rec o p closed owned small judged rest = rest
 
-pub clash_is : (desc : Described) (ss : List Shape) (db : Db) (set : ℕ) (number : Option ℕ) (rec : Record) → rec.owner < 2 ^ 32 → IsNumber number → AllByRecursion (λ s. is_closed s set rec.values ≡ true → AreJudged desc db rec s) ss
+pub clash_is : (desc : Described) (ss : List Shape) (db : Db) (set : ℕ) (number : Option ℕ) (rec : Record) → rec.owner < 2 ^ 32 → IsFoundNumber number → AllByRecursion (λ s. is_closed s set rec.values ≡ true → AreJudged desc db rec s) ss
     → clash ss db set number rec ≡ clash_seen desc ss db set number rec
 clash_is desc [] db set number rec owned small all = refl
 clash_is desc (s ∷ ss) db set number rec owned small all =
     clash_turn (is_closed s set rec.values) desc s db set number rec (clash ss db set number rec) (clash_seen desc ss db set number rec) refl owned small all.0 (clash_is desc ss db set number rec owned small all.1)
 
 -- What is answered where a record would be stored: a duplicate exactly where a look at a set's entries finds its owner and key.
-pub answer_is : (desc : Described) (db : Db) (set : ℕ) (number : Option ℕ) (rec : Record) → rec.owner < 2 ^ 32 → IsNumber number → AllByRecursion (λ s. is_closed s set rec.values ≡ true → AreJudged desc db rec s) desc.structures
+pub answer_is : (desc : Described) (db : Db) (set : ℕ) (number : Option ℕ) (rec : Record) → rec.owner < 2 ^ 32 → IsFoundNumber number → AllByRecursion (λ s. is_closed s set rec.values ≡ true → AreJudged desc db rec s) desc.structures
     → judged desc db set number rec ≡ put_unless (clash_seen desc desc.structures db set number rec) (put_number desc db set number)
 answer_is desc db set number rec owned small all = ap (λ o. put_unless o (put_number desc db set number)) (clash_is desc desc.structures db set number rec owned small all)

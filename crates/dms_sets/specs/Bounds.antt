@@ -17,20 +17,20 @@ use Rattle.dms_desc.specs.declared.bound.Bound.{Bound}
 use Rattle.dms_desc.specs.declared.bound.Bound.TheVariants.{Start, End, At, From}
 use Rattle.dms_desc.specs.Shape.{Shape, Described}
 use Rattle.dms_model.specs.declared.spot.Spot.{Spot}
-use Rattle.dms_model.specs.Db.{Db, Entry, Place}
+use Rattle.dms_model.specs.Db.{Db, SubsetEntry, Place}
 use Rattle.dms_desc.specs.Keys.{key_cmp}
 use Rattle.dms_desc.specs.Kinds.{over}
 use Rattle.dms_desc.specs.Sorted.{first, that_passes, first_narrow}
 use Rattle.dms_model.specs.Members.{belongs, spot_of, spots_of, is_before, members, is_after_bound, first_of}
 use Rattle.dms_model.specs.MemberLaws.{spot_total, key_total}
-use Rattle.dms_sets.specs.Fronts.{front_cmp, reaches, front_append, front_whole, front_longer, reaches_is, is_below, in_order, still_past, past_front}
+use Rattle.dms_sets.specs.Prefixes.{front_cmp, reaches, front_append, front_whole, front_longer, reaches_is, is_below, in_order, still_past, past_front}
 use Rattle.dms_sets.specs.Sets.{listed_in, entries_of, kinds_over}
 use Rattle.dms_sets.specs.Owners.{is_of, of_owner, spot_bytes, spot_order, EntryFits, AllFit, all_sorted, owned_entries}
 use Rattle.dms_key.specs.KeyBytes.{key_bytes, key_width, KeyFits}
 use Rattle.dms_key.specs.KeyOrder.{equal_itself, prefix_order, key_length, split_key}
-use Rattle.dms_sets.specs.Entries.{entry_bytes, IsKey, fits_short, fits_take}
+use Rattle.dms_sets.specs.Entries.{entry_bytes, IsSetKey, fits_short, fits_take}
 use Rattle.std.proofs.lemmas.List.{length-take-le, take-append-drop}
-use Rattle.dms_ordlist.specs.Lists.{Rises, bytes_cmp, keys_rise}
+use Rattle.dms_ordlist.specs.Lists.{AreInByteOrder, bytes_cmp, keys_rise}
 use Rattle.dms_sets.specs.Tests.{and_true, both_of, not_true, then_nothing}
 
 -- an entry stands behind a bound of an owner
@@ -41,11 +41,11 @@ passes kinds ps owner (At key n) q = is_lt (bytes_cmp (entry_bytes kinds ps owne
 passes kinds ps owner (From key) q = reaches (to_be_bytes w32 owner ++ (key_bytes kinds ps key ++ [])) q
 
 -- the key of a bound fits
-abbrev pub BoundFits : List ItemKind → List KeyPart → Bound → Type 0
-BoundFits kinds ps Start = Unit {0}
-BoundFits kinds ps End = Unit {0}
-BoundFits kinds ps (At key n) = IsKey kinds ps key × (n < 2 ^ 32)
-BoundFits kinds ps (From key) = KeyFits kinds ps key
+abbrev pub BoundKeyFits : List ItemKind → List KeyPart → Bound → Type 0
+BoundKeyFits kinds ps Start = Unit {0}
+BoundKeyFits kinds ps End = Unit {0}
+BoundKeyFits kinds ps (At key n) = IsSetKey kinds ps key × (n < 2 ^ 32)
+BoundKeyFits kinds ps (From key) = KeyFits kinds ps key
 
 -- lists
 
@@ -78,7 +78,7 @@ and_was true c e n = absurd (cc (e, n))
 and_was false c e n = refl
 
 -- of one owner the first that passes is the first of all that passes, where that is the owner's
-pub owner_first : (owner : ℕ) (p : List ℕ → Bool) (xs : List (List ℕ)) → Rises xs → ((x : List ℕ) → p x ≡ true → is_gt (front_cmp (to_be_bytes w32 owner) x) ≡ false)
+pub owner_first : (owner : ℕ) (p : List ℕ → Bool) (xs : List (List ℕ)) → AreInByteOrder xs → ((x : List ℕ) → p x ≡ true → is_gt (front_cmp (to_be_bytes w32 owner) x) ≡ false)
     → first p (of_owner owner xs) ≡ that_passes (is_of owner) (first p xs)
 owner_first owner p xs rise past =
     first_filter (is_of owner) p xs
@@ -99,7 +99,7 @@ shorter_at Less p r q is h = refl
 shorter_at Equal p r q is h = refl
 shorter_at Greater p r q is h = absurd (cc (ap is_gt (front_longer p r q is), h))
 
--- what reaches a longer front reaches a shorter one
+-- what reaches a longer prefix reaches a shorter one
 pub shorter : (p r q : List ℕ) → is_gt (front_cmp (p ++ r) q) ≡ false → is_gt (front_cmp p q) ≡ false
 shorter p r q h = shorter_at (front_cmp p q) p r q refl h
 
@@ -117,8 +117,8 @@ front_widths : (kinds : List ItemKind) (ps : List KeyPart) (key whole : List Val
 front_widths kinds ps key whole f g e =
     key_length kinds ps key f ∙ ap (λ n. key_width kinds (take n ps)) e ∙ sym (key_length kinds ps (take (length key) whole) g)
 
--- the order of a front of first key values to a member's entry
-pub front_order : (kinds : List ItemKind) (ps : List KeyPart) (owner : ℕ) (key : List Value) (x : Spot) → KeyFits kinds ps key → IsKey kinds ps x.key
+-- the order of a prefix of first key values to a member's entry
+pub front_order : (kinds : List ItemKind) (ps : List KeyPart) (owner : ℕ) (key : List Value) (x : Spot) → KeyFits kinds ps key → IsSetKey kinds ps x.key
     → front_cmp (to_be_bytes w32 owner ++ (key_bytes kinds ps key ++ [])) (spot_bytes kinds ps owner x) ≡ ordering_reverse (key_cmp (take (length key) ps) (take (length key) x.key) key)
 front_order kinds ps owner key x f g =
     let o = to_be_bytes w32 owner in
@@ -142,8 +142,8 @@ front_order kinds ps owner key x f g =
     ∙ (key_total 0 (take l ps)).antisymm key own
 
 -- a member whose entry has its place in byte order
-pub record SpotFits (kinds : List ItemKind) (ps : List KeyPart) (x : Spot) : Type 0 where
-  pub key : IsKey kinds ps x.key
+pub record SpotKeyFits (kinds : List ItemKind) (ps : List KeyPart) (x : Spot) : Type 0 where
+  pub key : IsSetKey kinds ps x.key
   pub small : x.number < 2 ^ 32
 
 lt_reverse : (o : Ordering) → is_lt (ordering_reverse o) ≡ is_gt o
@@ -157,13 +157,13 @@ behind_front Equal = refl
 behind_front Greater = refl
 
 -- the order of a place and a member
-pub at_order : (kinds : List ItemKind) (ps : List KeyPart) (owner : ℕ) (key : List Value) (n : ℕ) (x : Spot) → IsKey kinds ps key → n < 2 ^ 32 → SpotFits kinds ps x
+pub at_order : (kinds : List ItemKind) (ps : List KeyPart) (owner : ℕ) (key : List Value) (n : ℕ) (x : Spot) → IsSetKey kinds ps key → n < 2 ^ 32 → SpotKeyFits kinds ps x
     → bytes_cmp (entry_bytes kinds ps owner key n) (spot_bytes kinds ps owner x) ≡ ordering_reverse (ordering_then (key_cmp ps x.key key) (nat_cmp x.number n))
 at_order kinds ps owner key n x f small g =
     let y : Spot = record { number = n; key = key; rec = x.rec } in
     spot_order kinds ps owner y x f g.key small g.small ∙ (spot_total ps).antisymm y x
 
-passes_is : (kinds : List ItemKind) (ps : List KeyPart) (owner : ℕ) (bound : Bound) (x : Spot) → BoundFits kinds ps bound → SpotFits kinds ps x → is_after_bound ps bound x ≡ passes kinds ps owner bound (spot_bytes kinds ps owner x)
+passes_is : (kinds : List ItemKind) (ps : List KeyPart) (owner : ℕ) (bound : Bound) (x : Spot) → BoundKeyFits kinds ps bound → SpotKeyFits kinds ps x → is_after_bound ps bound x ≡ passes kinds ps owner bound (spot_bytes kinds ps owner x)
 passes_is kinds ps owner Start x f g =
     sym (ap (λ o. not (is_gt o)) (front_whole (to_be_bytes w32 owner) (to_be_bytes w32 owner) (key_bytes kinds ps x.key ++ to_be_bytes w32 x.number) refl ∙ equal_itself (to_be_bytes w32 owner)))
 passes_is kinds ps owner End x f g = refl
@@ -172,33 +172,33 @@ passes_is kinds ps owner (At key n) x f g =
 passes_is kinds ps owner (From key) x f g =
     behind_front (key_cmp (take (length key) ps) (take (length key) x.key) key) ∙ sym (ap (λ o. not (is_gt o)) (front_order kinds ps owner key x f g.key))
 
-spot_fits_by : (b : Bool) (kinds : List ItemKind) (s : Shape) (e : Place × Record) (xs : List Spot) → (b ≡ true → (over s == e.0.0) ≡ true) → EntryFits kinds s e → AllByRecursion (SpotFits kinds s.parts) xs
-    → AllByRecursion (SpotFits kinds s.parts) (cond b (spot_of s.parts e ∷ xs) xs)
+spot_fits_by : (b : Bool) (kinds : List ItemKind) (s : Shape) (e : Place × Record) (xs : List Spot) → (b ≡ true → (over s == e.0.0) ≡ true) → EntryFits kinds s e → AllByRecursion (SpotKeyFits kinds s.parts) xs
+    → AllByRecursion (SpotKeyFits kinds s.parts) (cond b (spot_of s.parts e ∷ xs) xs)
 spot_fits_by true kinds s e xs at f rest = (record { key = f.key (at refl); small = f.small }, rest)
 spot_fits_by false kinds s e xs at f rest = rest
 
-spots_fit : (kinds : List ItemKind) (s : Shape) (manual : List Entry) (owner : ℕ) (es : List (Place × Record)) → AllFit kinds s es → AllByRecursion (SpotFits kinds s.parts) (spots_of s manual owner es)
+spots_fit : (kinds : List ItemKind) (s : Shape) (manual : List SubsetEntry) (owner : ℕ) (es : List (Place × Record)) → AllFit kinds s es → AllByRecursion (SpotKeyFits kinds s.parts) (spots_of s manual owner es)
 spots_fit kinds s manual owner [] all = tt
 spots_fit kinds s manual owner (e ∷ es) all =
     spot_fits_by (belongs s manual owner e) kinds s e (spots_of s manual owner es) (λ h. (both_of (over s == e.0.0) _ h).0) all.0 (spots_fit kinds s manual owner es all.1)
 
-pub members_fit : (desc : Described) (db : Db) (s : Shape) (owner : ℕ) → AllFit (kinds_over desc s) s (entries db.records) → AllByRecursion (SpotFits (kinds_over desc s) s.parts) (members s db owner)
+pub members_fit : (desc : Described) (db : Db) (s : Shape) (owner : ℕ) → AllFit (kinds_over desc s) s (entries db.records) → AllByRecursion (SpotKeyFits (kinds_over desc s) s.parts) (members s db owner)
 members_fit desc db s owner all =
-    all_sorted (is_before s.parts) (SpotFits (kinds_over desc s) s.parts) (spots_of s db.entries owner (entries db.records)) (spots_fit (kinds_over desc s) s db.entries owner (entries db.records) all)
+    all_sorted (is_before s.parts) (SpotKeyFits (kinds_over desc s) s.parts) (spots_of s db.entries owner (entries db.records)) (spots_fit (kinds_over desc s) s db.entries owner (entries db.records) all)
 
 pub all_to : {A : Type 0} (P Q : A → Type 0) (xs : List A) → ((x : A) → P x → Q x) → AllByRecursion P xs → AllByRecursion Q xs
 all_to P Q [] f all = tt
 all_to P Q (x ∷ xs) f all = (f x all.0, all_to P Q xs f all.1)
 
 -- The first member behind a bound is the first entry behind it, where that is the owner's.
-pub first_member_is : (desc : Described) (db : Db) (s : Shape) (owner : ℕ) (bound : Bound) → owner < 2 ^ 32 → (s.kind == 5) ≡ false → AllFit (kinds_over desc s) s (entries db.records) → BoundFits (kinds_over desc s) s.parts bound
+pub first_member_is : (desc : Described) (db : Db) (s : Shape) (owner : ℕ) (bound : Bound) → owner < 2 ^ 32 → (s.kind == 5) ≡ false → AllFit (kinds_over desc s) s (entries db.records) → BoundKeyFits (kinds_over desc s) s.parts bound
     → option_map (spot_bytes (kinds_over desc s) s.parts owner) (first_of (Some s) db owner bound) ≡ that_passes (is_of owner) (first (passes (kinds_over desc s) s.parts owner bound) (entries_of desc db s))
 first_member_is desc db s owner bound small auto all fits =
     let kinds = kinds_over desc s in
     let B = spot_bytes kinds s.parts owner in
     let p = passes kinds s.parts owner bound in
     let ms = members s db owner in
-    ap (option_map B) (first_alike (is_after_bound s.parts bound) (λ x. p (B x)) ms (all_to (SpotFits kinds s.parts) (λ x. is_after_bound s.parts bound x ≡ p (B x)) ms (λ x g. passes_is kinds s.parts owner bound x fits g) (members_fit desc db s owner all)))
+    ap (option_map B) (first_alike (is_after_bound s.parts bound) (λ x. p (B x)) ms (all_to (SpotKeyFits kinds s.parts) (λ x. is_after_bound s.parts bound x ≡ p (B x)) ms (λ x g. passes_is kinds s.parts owner bound x fits g) (members_fit desc db s owner all)))
     ∙ first_map p B ms
     ∙ ap (first p) (sym (owned_entries desc db s owner small auto all))
     ∙ owner_first owner p (entries_of desc db s) (keys_rise (listed_in kinds s db.records)) (λ x h. passes_owner kinds s.parts owner bound x h)

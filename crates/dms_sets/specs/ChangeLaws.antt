@@ -16,9 +16,9 @@ use Rattle.dms_desc.specs.Kinds.{takes}
 use Rattle.dms_sets.specs.Entries.{entry_bytes}
 use Rattle.dms_sets.specs.Padded.{entry_width}
 use Rattle.dms_ordlist.specs.Lists.{with_entry, without, with_in, without_in, padded, first_from}
-use Rattle.dms_sets.specs.Fronts.{starts}
+use Rattle.dms_sets.specs.Prefixes.{starts}
 use Rattle.dms_desc.specs.Sorted.{that_passes}
-use Rattle.dms_sets.specs.Changes.{ListsOf, Whole, OnlyList, OnlyRoomy, PartFits, PartsFit, HasEntry, entry_in, front_in, is_seen}
+use Rattle.dms_sets.specs.Changes.{ListsOf, IsEntryWidth, OnlyList, OnlyRoomy, PartFits, PartsFit, HasEntry, entry_in, front_in, is_seen}
 
 part_long : (o : Option ItemKind) (d : Bool) (v : Value) → PartFits o v → length (part_bytes o d v) ≡ part_width o
 part_long None d v f = absurd f
@@ -56,12 +56,12 @@ entry_long kinds s number rec q f h = taken_long (takes s rec.values) kinds s nu
 
 -- ---- as calls on a list have them
 
-pub entry_whole : (kinds : List ItemKind) (s : Shape) (number : ℕ) (rec : Record) (q : List ℕ) → HasEntry kinds s rec.values → entry_in kinds s number rec ≡ Some q → Whole (length q)
+pub entry_whole : (kinds : List ItemKind) (s : Shape) (number : ℕ) (rec : Record) (q : List ℕ) → HasEntry kinds s rec.values → entry_in kinds s number rec ≡ Some q → IsEntryWidth (length q)
 entry_whole kinds s number rec q f h =
     let long = entry_long kinds s number rec q f h in
     (omega (arith, long), omega (arith, long, f.width))
 
-pub front_whole : (kinds : List ItemKind) (s : Shape) (rec : Record) → HasEntry kinds s rec.values → Whole (length (front_in kinds s rec ++ 0 ∷ 0 ∷ 0 ∷ 0 ∷ []))
+pub front_whole : (kinds : List ItemKind) (s : Shape) (rec : Record) → HasEntry kinds s rec.values → IsEntryWidth (length (front_in kinds s rec ++ 0 ∷ 0 ∷ 0 ∷ 0 ∷ []))
 front_whole kinds s rec f =
     let long = front_long kinds s rec f in
     let more = length-append (front_in kinds s rec) (0 ∷ 0 ∷ 0 ∷ 0 ∷ []) in

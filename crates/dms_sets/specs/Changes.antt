@@ -15,7 +15,7 @@ use Rattle.dms_desc.specs.Kinds.{takes}
 use Rattle.dms_desc.specs.Sorted.{that_passes}
 use Rattle.dms_ordlist.specs.Lists.{padded, first_from, with_in, without_in}
 use Rattle.dms_sets.specs.Entries.{entry_bytes}
-use Rattle.dms_sets.specs.Fronts.{starts}
+use Rattle.dms_sets.specs.Prefixes.{starts}
 use Rattle.dms_sets.specs.Padded.{entry_width}
 
 -- ---- lists by structure
@@ -25,8 +25,8 @@ abbrev pub ListsOf : Type 0
 ListsOf = ℕ → ℕ → Option (List (List ℕ))
 
 -- a width that entries may have
-abbrev pub Whole : ℕ → Type 0
-Whole w = (8 ≤ w) × (w ≤ 104)
+abbrev pub IsEntryWidth : ℕ → Type 0
+IsEntryWidth w = (8 ≤ w) × (w ≤ 104)
 
 -- where the list is known
 abbrev pub IfListed : Option (List (List ℕ)) → (List (List ℕ) → Type 0) → Type 0
@@ -61,8 +61,8 @@ abbrev pub ListGrown : (List (List ℕ) → List (List ℕ)) → List ItemKind �
 ListGrown f kinds s a b = OnlyRoomy f s.number (entry_width kinds s.parts) a b
 
 -- the lists of all other structures are as they were
-abbrev pub OthersStay : Shape → ListsOf → ListsOf → Type 0
-OthersStay s a b = (m v : ℕ) → (m == s.number) ≡ false → b m v ≡ a m v
+abbrev pub OtherListsStay : Shape → ListsOf → ListsOf → Type 0
+OtherListsStay s a b = (m v : ℕ) → (m == s.number) ≡ false → b m v ≡ a m v
 
 -- the structure is a set or automatic subset of this data set
 abbrev pub is_over : Shape → ℕ → Bool
@@ -95,20 +95,20 @@ refuses kinds s None xs = false
 refuses kinds s (Some rec) xs = (not s.duplicates && takes s rec.values) && is_seen kinds s rec xs
 
 -- A new record's entry is put into a list that has room for it, unless the set refuses it.
-pub record Entered (kinds : List ItemKind) (s : Shape) (number : ℕ) (new : Option Record) (xs : List (List ℕ)) (left : Option (List (List ℕ))) (refused : Bool) : Type 0 where
+pub record EntersSet (kinds : List ItemKind) (s : Shape) (number : ℕ) (new : Option Record) (xs : List (List ℕ)) (left : Option (List (List ℕ))) (refused : Bool) : Type 0 where
   pub answer : refused ≡ refuses kinds s new xs
   pub done : refused ≡ false → HasRoom xs → left ≡ Some (with_in (entry_opt kinds s number new) xs)
 
 -- What a change makes of one list: the old record's entry is taken out, and the new one's put in, unless the set refuses it.
 abbrev pub OneChanged : List ItemKind → Shape → ℕ → Option Record → Option Record → List (List ℕ) → Option (List (List ℕ)) → Bool → Type 0
-OneChanged kinds s number old new xs left refused = Entered kinds s number new (without_in (entry_opt kinds s number old) xs) left refused
+OneChanged kinds s number old new xs left refused = EntersSet kinds s number new (without_in (entry_opt kinds s number old) xs) left refused
 
 -- the same of the lists, where that of the set is known
 abbrev pub Enters : List ItemKind → Shape → ℕ → Option Record → ListsOf → ListsOf → Bool → Type 0
-Enters kinds s number new a b refused = IfListed (kept a kinds s) (λ xs. Entered kinds s number new xs (kept b kinds s) refused)
+Enters kinds s number new a b refused = IfListed (kept a kinds s) (λ xs. EntersSet kinds s number new xs (kept b kinds s) refused)
 
-abbrev pub Changes : List ItemKind → Shape → ℕ → Option Record → Option Record → ListsOf → ListsOf → Bool → Type 0
-Changes kinds s number old new a b refused = IfListed (kept a kinds s) (λ xs. OneChanged kinds s number old new xs (kept b kinds s) refused)
+abbrev pub ChangesSet : List ItemKind → Shape → ℕ → Option Record → Option Record → ListsOf → ListsOf → Bool → Type 0
+ChangesSet kinds s number old new a b refused = IfListed (kept a kinds s) (λ xs. OneChanged kinds s number old new xs (kept b kinds s) refused)
 
 -- ---- what fits
 

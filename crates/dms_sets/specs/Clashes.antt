@@ -17,27 +17,27 @@ use Rattle.dms_desc.specs.declared.structure.KeyPart.{KeyPart}
 use Rattle.dms_desc.specs.declared.record.Record.{Record}
 use Rattle.dms_desc.specs.Shape.{Shape}
 use Rattle.dms_model.specs.MemberLaws.{key_total}
-use Rattle.dms_model.specs.Db.{Entry, Records, Place, place_cmp}
+use Rattle.dms_model.specs.Db.{SubsetEntry, Records, Place, place_cmp}
 use Rattle.dms_desc.specs.Keys.{key_of, key_cmp}
 use Rattle.dms_desc.specs.Kinds.{takes, over}
 use Rattle.dms_desc.specs.Sorted.{first, that_passes}
 use Rattle.dms_model.specs.Members.{names, belongs}
 use Rattle.dms_model.specs.Stores.{has_equal, is_other}
 use Rattle.dms_sets.specs.Listing.{listing, member_opt, AllPlaces, left, places_total, places_same}
-use Rattle.dms_sets.specs.Fronts.{starts, reaches, front_append, first_starts, any_first}
+use Rattle.dms_sets.specs.Prefixes.{starts, reaches, front_append, first_starts, any_first}
 use Rattle.dms_sets.specs.Sets.{entry_of, listed_in, number_in, entry_number, own_entry, place_in_entry, IsSmall, keys_with_opt, keys_without_opt}
 use Rattle.dms_sets.specs.Owners.{EntryFits, AllFit, belongs_is}
 use Rattle.dms_key.specs.KeyBytes.{key_bytes}
 use Rattle.dms_key.specs.KeyOrder.{four_cmp}
-use Rattle.dms_sets.specs.Entries.{entry_bytes, IsKey, whole_order, whole_width}
-use Rattle.dms_ordlist.specs.Lists.{Listed, any_with, bytes_cmp, empty_keys, entries_removed, keys_rise, with_in, without_in}
+use Rattle.dms_sets.specs.Entries.{entry_bytes, IsSetKey, whole_order, whole_width}
+use Rattle.dms_ordlist.specs.Lists.{ByteSet, any_with, bytes_cmp, empty_keys, entries_removed, keys_rise, with_in, without_in}
 use Rattle.dms_sets.specs.Tests.{and_true, then_nothing, tied}
 
 -- the front that the entries of an owner with a key have
 abbrev pub key_front : List ItemKind → List KeyPart → ℕ → List Value → List ℕ
 key_front kinds ps owner key = to_be_bytes w32 owner ++ (key_bytes kinds ps key ++ [])
 
--- the first entry with a front: the first one that reaches it, where that has it
+-- the first entry with a prefix: the first one that reaches it, where that has it
 abbrev pub look : List ℕ → List (List ℕ) → Option (List ℕ)
 look p xs = that_passes (starts p) (first (reaches p) xs)
 
@@ -55,7 +55,7 @@ eq_then : (a b : ℕ) (o : Ordering) → is_eq (ordering_then (nat_cmp a b) o) �
 eq_then a b o = eq_of_then (nat_cmp a b) o ∙ ap (λ t. t && is_eq o) (not_eq a b (nat_cmp a b) refl)
 
 -- an entry has a key's front where its owner and its key are these
-pub front_is : (kinds : List ItemKind) (ps : List KeyPart) (owner o : ℕ) (key other : List Value) (n : ℕ) → owner < 2 ^ 32 → o < 2 ^ 32 → IsKey kinds ps key → IsKey kinds ps other
+pub front_is : (kinds : List ItemKind) (ps : List KeyPart) (owner o : ℕ) (key other : List Value) (n : ℕ) → owner < 2 ^ 32 → o < 2 ^ 32 → IsSetKey kinds ps key → IsSetKey kinds ps other
     → starts (key_front kinds ps owner key) (entry_bytes kinds ps o other n) ≡ ((owner == o) && is_eq (key_cmp ps key other))
 front_is kinds ps owner o key other n p q f g =
     ap is_eq
@@ -72,7 +72,7 @@ any_alike : (p q : List ℕ → Bool) (xs : List (List ℕ)) → ((x : List ℕ)
 any_alike p q [] same = refl
 any_alike p q (x ∷ xs) same = (λ i. same x i || any_alike p q xs same i)
 
-module _ (kinds : List ItemKind) (s : Shape) (manual : List Entry) (rec : Record) (auto : (s.kind == 5) ≡ false) (owned : rec.owner < 2 ^ 32) (fits : IsKey kinds s.parts (key_of s.parts rec.values)) where
+module _ (kinds : List ItemKind) (s : Shape) (manual : List SubsetEntry) (rec : Record) (auto : (s.kind == 5) ≡ false) (owned : rec.owner < 2 ^ 32) (fits : IsSetKey kinds s.parts (key_of s.parts rec.values)) where
   abbrev the_front : List ℕ
   the_front = key_front kinds s.parts rec.owner (key_of s.parts rec.values)
 
@@ -188,5 +188,5 @@ module _ (kinds : List ItemKind) (s : Shape) (manual : List Entry) (rec : Record
       other_left n (entries m)
       ∙ ap (has_equal s manual None rec) (sym gone)
       ∙ new_taken (remove m k) fits'
-      ∙ ap (λ (x : Listed). is_some (look the_front (keys x))) (left (entry_of kinds s) (place_in_entry s) IsSmall (own_entry kinds s) m k (small_of (entries m) all) (small_of (entries (remove m k)) fits') small)
+      ∙ ap (λ (x : ByteSet). is_some (look the_front (keys x))) (left (entry_of kinds s) (place_in_entry s) IsSmall (own_entry kinds s) m k (small_of (entries m) all) (small_of (entries (remove m k)) fits') small)
       ∙ ap (λ (x : List (List ℕ)). is_some (look the_front x)) (keys_without_opt (member_opt (entry_of kinds s) k (get m k)) (listed_in kinds s m))

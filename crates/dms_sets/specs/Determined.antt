@@ -11,13 +11,13 @@ use Rattle.std.specs.Int.{w32, to_be_bytes}
 use Rattle.dms_desc.specs.Shape.{Shape, Described}
 use Rattle.dms_model.specs.Db.{Db}
 use Rattle.dms_model.specs.Members.{members}
-use Rattle.dms_sets.specs.Fronts.{front_cmp, front_whole}
+use Rattle.dms_sets.specs.Prefixes.{front_cmp, front_whole}
 use Rattle.dms_sets.specs.Sets.{listed_in, entries_of, kinds_over}
 use Rattle.dms_sets.specs.Owners.{is_of, of_owner, spot_bytes, AllFit, owned_entries}
-use Rattle.dms_sets.specs.Padded.{IsEntry, entries_shaped}
+use Rattle.dms_sets.specs.Padded.{IsSetEntry, entries_shaped}
 use Rattle.dms_key.specs.KeyBytes.{key_width}
 use Rattle.dms_key.specs.KeyOrder.{equal_itself}
-use Rattle.dms_ordlist.specs.Lists.{AllAbove, Rises, bytes_cmp, bytes_same, has_entry, is_same, keys_rise}
+use Rattle.dms_ordlist.specs.Lists.{AreAllAbove, AreInByteOrder, bytes_cmp, bytes_same, has_entry, is_same, keys_rise}
 use Rattle.dms_sets.specs.Tests.{tied}
 
 -- what holds of all entries holds of one that is there
@@ -58,13 +58,13 @@ has_kept p q (x ∷ xs) h =
     front_or (p x) q x (filter p xs)
     ∙ (λ i. kept_at p (is_same q x) q x true h refl i || has_kept p q xs h i)
 
-is_of_own : (w : ℕ) (q : List ℕ) → (e : IsEntry w q) → is_of e.owner q ≡ true
+is_of_own : (w : ℕ) (q : List ℕ) → (e : IsSetEntry w q) → is_of e.owner q ≡ true
 is_of_own w q e =
     ap is_eq (ap (front_cmp (to_be_bytes w32 e.owner)) e.is ∙ front_whole (to_be_bytes w32 e.owner) (to_be_bytes w32 e.owner) (e.key ++ to_be_bytes w32 e.number) refl ∙ equal_itself (to_be_bytes w32 e.owner))
 
-one_way : (w : ℕ) (xs ys : List (List ℕ)) (q : List ℕ) → AllByRecursion (IsEntry w) xs → ((owner : ℕ) → owner < 2 ^ 32 → of_owner owner xs ≡ of_owner owner ys) → has_entry q xs ≡ true → has_entry q ys ≡ true
+one_way : (w : ℕ) (xs ys : List (List ℕ)) (q : List ℕ) → AllByRecursion (IsSetEntry w) xs → ((owner : ℕ) → owner < 2 ^ 32 → of_owner owner xs ≡ of_owner owner ys) → has_entry q xs ≡ true → has_entry q ys ≡ true
 one_way w xs ys q all same has =
-    let e = has_all (IsEntry w) q xs all has in
+    let e = has_all (IsSetEntry w) q xs all has in
     let mine = is_of_own w q e in
     sym (has_kept (is_of e.owner) q ys mine) ∙ ap (has_entry q) (sym (same e.owner e.small_owner)) ∙ has_kept (is_of e.owner) q xs mine ∙ has
 
@@ -86,11 +86,11 @@ both_true : (a b : Bool) → T a → T b → T (a && b)
 both_true true b p q = q
 both_true false b p q = p
 
-above_pairs : (x : List ℕ) (ys : List (List ℕ)) → AllAbove x ys → T (below_all bytes_cmp x (pairs_of ys))
+above_pairs : (x : List ℕ) (ys : List (List ℕ)) → AreAllAbove x ys → T (below_all bytes_cmp x (pairs_of ys))
 above_pairs x [] all = tt
 above_pairs x (y ∷ ys) all = both_true (is_lt (bytes_cmp x y)) (below_all bytes_cmp x (pairs_of ys)) (subst (λ o. T (is_lt o)) (sym all.0) tt) (above_pairs x ys all.1)
 
-sorted_pairs : (xs : List (List ℕ)) → Rises xs → T (is_sorted bytes_cmp (pairs_of xs))
+sorted_pairs : (xs : List (List ℕ)) → AreInByteOrder xs → T (is_sorted bytes_cmp (pairs_of xs))
 sorted_pairs [] rise = tt
 sorted_pairs (x ∷ xs) rise = both_true (below_all bytes_cmp x (pairs_of xs)) (is_sorted bytes_cmp (pairs_of xs)) (above_pairs x xs rise.0) (sorted_pairs xs rise.1)
 
@@ -104,7 +104,7 @@ found_is q (x ∷ xs) =
     ap (cond (is_same q x) (Some tt)) (found_is q xs)
     ∙ or_cond (is_same q x) (has_entry q xs)
 
-pub rising_same : (xs ys : List (List ℕ)) → Rises xs → Rises ys → ((q : List ℕ) → has_entry q xs ≡ has_entry q ys) → xs ≡ ys
+pub rising_same : (xs ys : List (List ℕ)) → AreInByteOrder xs → AreInByteOrder ys → ((q : List ℕ) → has_entry q xs ≡ has_entry q ys) → xs ≡ ys
 rising_same xs ys rise rise' same =
     sym (firsts_again xs)
     ∙ ap (map (λ (e : List ℕ × Unit {0}). e.0))
@@ -113,7 +113,7 @@ rising_same xs ys rise rise' same =
 
 -- a rising list of entries that has for each owner the bytes of the members for that owner is the set's
 pub entries_determined : (desc : Described) (db : Db) (s : Shape) (xs : List (List ℕ)) → (s.kind == 5) ≡ false → AllFit (kinds_over desc s) s (entries db.records)
-    → Rises xs → AllByRecursion (IsEntry (key_width (kinds_over desc s) s.parts)) xs
+    → AreInByteOrder xs → AllByRecursion (IsSetEntry (key_width (kinds_over desc s) s.parts)) xs
     → ((owner : ℕ) → owner < 2 ^ 32 → of_owner owner xs ≡ map (spot_bytes (kinds_over desc s) s.parts owner) (members s db owner))
     → xs ≡ entries_of desc db s
 entries_determined desc db s xs auto all rise shaped same =

@@ -18,15 +18,15 @@ abbrev pub entry_bytes : List ItemKind → List KeyPart → ℕ → List Value �
 entry_bytes kinds parts owner key number = to_be_bytes w32 owner ++ (key_bytes kinds parts key ++ to_be_bytes w32 number)
 
 -- a key with a value for each part, each fitting its item
-pub record IsKey (kinds : List ItemKind) (ps : List KeyPart) (key : List Value) : Type 0 where
+pub record IsSetKey (kinds : List ItemKind) (ps : List KeyPart) (key : List Value) : Type 0 where
   pub fits : KeyFits kinds ps key
   pub whole : length key ≡ length ps
 
 -- the order of such keys is that of their bytes, which are of one length
-pub whole_order : (kinds : List ItemKind) (ps : List KeyPart) (a b : List Value) → IsKey kinds ps a → IsKey kinds ps b → bytes_cmp (key_bytes kinds ps a) (key_bytes kinds ps b) ≡ key_cmp ps a b
+pub whole_order : (kinds : List ItemKind) (ps : List KeyPart) (a b : List Value) → IsSetKey kinds ps a → IsSetKey kinds ps b → bytes_cmp (key_bytes kinds ps a) (key_bytes kinds ps b) ≡ key_cmp ps a b
 whole_order kinds ps a b f g = key_order kinds ps a b f.fits g.fits f.whole g.whole
 
-pub whole_width : (kinds : List ItemKind) (ps : List KeyPart) (a : List Value) → IsKey kinds ps a → length (key_bytes kinds ps a) ≡ key_width kinds ps
+pub whole_width : (kinds : List ItemKind) (ps : List KeyPart) (a : List Value) → IsSetKey kinds ps a → length (key_bytes kinds ps a) ≡ key_width kinds ps
 whole_width kinds ps a f = whole_length kinds ps a f.fits f.whole
 
 -- the first values of a key

@@ -9,9 +9,9 @@ use Rattle.dms_block.specs.declared.block_fault.BlockFault.{BlockFault}
 use Rattle.dms_block.specs.declared.block_fault.BlockFault.TheVariants.{Disk, Memory, Full, Damaged, Say}
 use Rattle.dms_block.specs.declared.blocks.Blocks.{Ghosts}
 use Rattle.dms_block.specs.declared.overlay.Overlay.{Overlay}
-use Rattle.dms_block.specs.Held.{Agrees, HasCausesOr, Looks}
+use Rattle.dms_block.specs.Held.{BlocksAgree, HasCausesOr, Looks}
 use Rattle.dms_block.specs.HeldLaws.{causes_or_on, looks_as, looks_err, looks_none, looks_on}
-use Rattle.dms_block.specs.View.{Reads, Writes, seen, seen_counts, under, written}
+use Rattle.dms_block.specs.View.{ReadsOverlay, WritesOverlay, seen, seen_counts, under, written}
 use Rattle.dms_block.specs.ViewLaws.{counts_seen, seen_still}
 use Rattle.dms_ordlist.specs.ListIn.{list_in}
 use Rattle.dms_ordlist.specs.Seen.{IfList, NoList}
@@ -130,7 +130,7 @@ module _ {B : Type 0} {g : Ghosts B} where
 
   -- ---- one call that writes, into the file f of the structure s
 
-  pub calm_write : {T : Type 0} (s k f : ℕ) (P : ℕ → ℕ → Type 0) (r : Result T BlockFault) (a b : Overlay B g) → f ≡ file_of s → Writes k 3 r a b → HasCausesOr P r (under a) (under b)
+  pub calm_write : {T : Type 0} (s k f : ℕ) (P : ℕ → ℕ → Type 0) (r : Result T BlockFault) (a b : Overlay B g) → f ≡ file_of s → WritesOverlay k 3 r a b → HasCausesOr P r (under a) (under b)
       → OnOk r (IsTrue (under a).told → (h : ℕ) → h ≢ f → seen b h ≡ seen a h) → OnOk r ((h : ℕ) → h ≢ f → seen_counts b h ≡ seen_counts a h) → OnOk r (Calm (λ m. m == s) 1 a b)
   calm_write s k f P (Ok x) a b is writes causes others counts = record {
     told = writes.looks.passes.lasts.told;
@@ -143,7 +143,7 @@ module _ {B : Type 0} {g : Ghosts B} where
   }
   calm_write s k f P (Err e) a b is writes causes others counts = tt
 
-  pub fails_write : {T : Type 0} (k : ℕ) (P : ℕ → ℕ → Type 0) (r : Result T BlockFault) (a b : Overlay B g) → Writes k 3 r a b → HasCausesOr P r (under a) (under b) → IfErr r (λ e. Fails e 1 a b)
+  pub fails_write : {T : Type 0} (k : ℕ) (P : ℕ → ℕ → Type 0) (r : Result T BlockFault) (a b : Overlay B g) → WritesOverlay k 3 r a b → HasCausesOr P r (under a) (under b) → IfErr r (λ e. Fails e 1 a b)
   fails_write k P (Ok x) a b writes causes = tt
   fails_write {T = T} k P (Err e) a b writes causes = record {
     reads = k;
@@ -153,7 +153,7 @@ module _ {B : Type 0} {g : Ghosts B} where
     same = writes.same;
   }
 
-  pub usable_write : {T : Type 0} (k n : ℕ) (r : Result T BlockFault) (a b : Overlay B g) → Writes k n r a b → OnOk r ((m : ℕ) → Usable a m → Usable b m)
+  pub usable_write : {T : Type 0} (k n : ℕ) (r : Result T BlockFault) (a b : Overlay B g) → WritesOverlay k n r a b → OnOk r ((m : ℕ) → Usable a m → Usable b m)
   usable_write k n (Ok x) a b writes = λ m usable. (writes.looks.stays.sound, (λ i. writes.looks.passes.lasts.owns i (file_of m)) ∙ usable.1)
   usable_write k n (Err e) a b writes = tt
 
@@ -171,7 +171,7 @@ module _ {B : Type 0} {g : Ghosts B} where
   answer_of s w f Q (Err e) a is answer = tt
 
   -- the list that a call leaves
-  module _ (fn : List (List ℕ) → List (List ℕ)) (s w f : ℕ) (a b : Overlay B g) (is : f ≡ file_of s) (before : Agrees (under a)) (after : (under b).sound → Agrees (under b)) where
+  module _ (fn : List (List ℕ) → List (List ℕ)) (s w f : ℕ) (a b : Overlay B g) (is : f ≡ file_of s) (before : BlocksAgree (under a)) (after : (under b).sound → BlocksAgree (under b)) where
     list_after : IfList a f w (λ xs. list_in w (seen b f) ≡ Some (fn xs)) → (told : (under b).told ≡ (under a).told) (xs : List (List ℕ)) → IsTold (under a).told w (seen a (file_of s)) xs → length (seen b (file_of s)) ≤ 1048576 → listed b s w ≡ Some (fn xs)
     list_after list told xs t few =
         told_list (under b).told w (seen b (file_of s)) (fn xs) (told ∙ t.told_is) few
@@ -180,11 +180,11 @@ module _ {B : Type 0} {g : Ghosts B} where
     counts_at : (under b).sound → (told : (under b).told ≡ (under a).told) → IsTrue (under a).told → (seen_counts a f ≡ length (seen a (file_of s))) × (seen_counts b f ≡ length (seen b (file_of s)))
     counts_at sound told t = (counts_seen a before t f ∙ ap (λ k. length (seen a k)) is, counts_seen b (after sound) (told ∙ t) f ∙ ap (λ k. length (seen b k)) is)
 
-    others_at : {T : Type 0} (k : ℕ) (x : T) → Writes k 3 (Ok x) a b → (IsTrue (under a).told → (h : ℕ) → h ≢ f → seen b h ≡ seen a h) → ((h : ℕ) → h ≢ f → seen_counts b h ≡ seen_counts a h) → (m v : ℕ) → (m == s) ≡ false → listed b m v ≡ listed a m v
+    others_at : {T : Type 0} (k : ℕ) (x : T) → WritesOverlay k 3 (Ok x) a b → (IsTrue (under a).told → (h : ℕ) → h ≢ f → seen b h ≡ seen a h) → ((h : ℕ) → h ≢ f → seen_counts b h ≡ seen_counts a h) → (m v : ℕ) → (m == s) ≡ false → listed b m v ≡ listed a m v
     others_at k x writes others counts m v off =
         let apart = files_off s m f is off in listed_still a b m v writes.looks.passes.lasts.told (counts (file_of m) apart, λ told. others told (file_of m) apart)
 
-    pub roomy_after : {T : Type 0} (k : ℕ) (r : Result T BlockFault) → Writes k 3 r a b → OnOk r (IfList a f w (λ xs. list_in w (seen b f) ≡ Some (fn xs))) → OnOk r (IfList a f w (λ xs. seen_counts b f ≤ max (seen_counts a f) (2 + length xs)))
+    pub roomy_after : {T : Type 0} (k : ℕ) (r : Result T BlockFault) → WritesOverlay k 3 r a b → OnOk r (IfList a f w (λ xs. list_in w (seen b f) ≡ Some (fn xs))) → OnOk r (IfList a f w (λ xs. seen_counts b f ≤ max (seen_counts a f) (2 + length xs)))
         → OnOk r (IsTrue (under a).told → (h : ℕ) → h ≢ f → seen b h ≡ seen a h) → OnOk r ((h : ℕ) → h ≢ f → seen_counts b h ≡ seen_counts a h) → OnOk r (OnlyRoomy fn s w (listed a) (listed b))
     roomy_after k (Ok x) writes list few others counts = record {
       here = λ xs at room.
@@ -197,7 +197,7 @@ module _ {B : Type 0} {g : Ghosts B} where
     }
     roomy_after k (Err e) writes list few others counts = tt
 
-    pub only_after : {T : Type 0} (k : ℕ) (r : Result T BlockFault) → Writes k 3 r a b → OnOk r (IfList a f w (λ xs. list_in w (seen b f) ≡ Some (fn xs))) → OnOk r (seen_counts b ≡ seen_counts a)
+    pub only_after : {T : Type 0} (k : ℕ) (r : Result T BlockFault) → WritesOverlay k 3 r a b → OnOk r (IfList a f w (λ xs. list_in w (seen b f) ≡ Some (fn xs))) → OnOk r (seen_counts b ≡ seen_counts a)
         → OnOk r (IsTrue (under a).told → (h : ℕ) → h ≢ f → seen b h ≡ seen a h) → OnOk r (OnlyList fn s w (listed a) (listed b))
     only_after k (Ok x) writes list counts others = record {
       here = λ xs at.
@@ -212,13 +212,13 @@ module _ {B : Type 0} {g : Ghosts B} where
 
   -- ---- one call that reads
 
-  pub writes_of : {T : Type 0} (k m : ℕ) (r : Result T BlockFault) (a b : Overlay B g) → Reads k r a b → Writes k m r a b
+  pub writes_of : {T : Type 0} (k m : ℕ) (r : Result T BlockFault) (a b : Overlay B g) → ReadsOverlay k r a b → WritesOverlay k m r a b
   writes_of k m r a b reads = record { looks = reads.looks; more = omega (arith, ap length reads.written_still); same = reads.same }
 
-  files_read : {T : Type 0} (k : ℕ) (x : T) (a b : Overlay B g) → Reads k (Ok x) a b → (m : ℕ) → FileStays m a b
+  files_read : {T : Type 0} (k : ℕ) (x : T) (a b : Overlay B g) → ReadsOverlay k (Ok x) a b → (m : ℕ) → FileStays m a b
   files_read k x a b reads m = (ap (λ (c : ℕ → ℕ). c (file_of m)) (counts_still reads), λ told i. seen_still reads told i (file_of m))
 
-  pub calm_read : {T : Type 0} (s k : ℕ) (P : ℕ → ℕ → Type 0) (r : Result T BlockFault) (a b : Overlay B g) → Reads k r a b → HasCausesOr P r (under a) (under b) → OnOk r (Calm (λ m. m == s) 1 a b)
+  pub calm_read : {T : Type 0} (s k : ℕ) (P : ℕ → ℕ → Type 0) (r : Result T BlockFault) (a b : Overlay B g) → ReadsOverlay k r a b → HasCausesOr P r (under a) (under b) → OnOk r (Calm (λ m. m == s) 1 a b)
   calm_read s k P (Ok x) a b reads causes = record {
     told = reads.looks.passes.lasts.told;
     faults = causes;
@@ -230,7 +230,7 @@ module _ {B : Type 0} {g : Ghosts B} where
   }
   calm_read s k P (Err e) a b reads causes = tt
 
-  pub list_read : {T : Type 0} (k : ℕ) (r : Result T BlockFault) (a b : Overlay B g) → Reads k r a b → OnOk r (listed b ≡ listed a)
+  pub list_read : {T : Type 0} (k : ℕ) (r : Result T BlockFault) (a b : Overlay B g) → ReadsOverlay k r a b → OnOk r (listed b ≡ listed a)
   list_read k (Ok x) a b reads = λ i n w. listed_still a b n w reads.looks.passes.lasts.told (files_read k x a b reads n) i
   list_read k (Err e) a b reads = tt
 
@@ -245,7 +245,7 @@ module _ {B : Type 0} {g : Ghosts B} where
     same = again a.below;
   }
 
-  pub below_long : (s w f : ℕ) (e : BlockFault) (a : Overlay B g) → f ≡ file_of s → Agrees (under a) → 1048576 < seen_counts a f → IfListed (listed a s w) (λ xs. FromBelow e a a)
+  pub below_long : (s w f : ℕ) (e : BlockFault) (a : Overlay B g) → f ≡ file_of s → BlocksAgree (under a) → 1048576 < seen_counts a f → IfListed (listed a s w) (λ xs. FromBelow e a a)
   below_long s w f e a is agrees long xs at =
       let t = told_is (under a).told w (seen a (file_of s)) xs at in
       absurd (omega (arith, long, counts_seen a agrees t.told_is f, ap (λ k. length (seen a k)) is, t.few))

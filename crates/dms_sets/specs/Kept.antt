@@ -18,9 +18,9 @@ use Rattle.dms_desc.specs.Lookups.{structure_of, items_of}
 use Rattle.dms_desc.specs.Kinds.{is_link}
 use Rattle.dms_model.specs.Stores.{kept_value, linked_from, linked, values_of, old_of, stored, put_answer, put_after, put_number, put_unless}
 use Rattle.dms_desc.specs.Plain.{FitsKind}
-use Rattle.dms_sets.specs.Spots.{ValuesFit, RecordFits, RecordsFit, put_fits}
+use Rattle.dms_sets.specs.Spots.{ValuesFit, RecordHasSpot, RecordsFit, put_fits}
 use Rattle.std.specs.List.{AllByRecursion}
-use Rattle.dms_sets.specs.Answers.{IsNumber, clash_seen, answer_is}
+use Rattle.dms_sets.specs.Answers.{IsFoundNumber, clash_seen, answer_is}
 use Rattle.dms_sets.specs.Puts.{IsNamed, MayCome, all_judged}
 
 kept_has : (P : Value → Type 0) (o : Option Item) (item : Item) (old v : Value) → o ≡ Some item → P v → P old → P (kept_value o old v)
@@ -51,7 +51,7 @@ old_values desc db place None rec is fits new k item at = null_kind item.kind (o
 old_values desc db place (Some r) rec is fits new k item at = (fits place r is).values k item at
 
 -- what is stored for a record that may come fits
-pub stored_fits : (desc : Described) (db : Db) (set n : ℕ) (rec : Record) → RecordsFit desc db → MayCome desc set rec → n < 2 ^ 32 → RecordFits desc (set, n) (linked (items_of (structure_of desc set)) (get db.records (set, n)) rec)
+pub stored_fits : (desc : Described) (db : Db) (set n : ℕ) (rec : Record) → RecordsFit desc db → MayCome desc set rec → n < 2 ^ 32 → RecordHasSpot desc (set, n) (linked (items_of (structure_of desc set)) (get db.records (set, n)) rec)
 stored_fits desc db set n rec fits may small =
     let items = items_of (structure_of desc set) in
     let old = get db.records (set, n) in
@@ -82,7 +82,7 @@ stored_comes desc db set number rec fits may =
 
 -- Storing a record answers a duplicate exactly for the first set without DUPLICATES in whose entries, without that of the record that it replaces,
 -- the first that reaches the owner and key of what would be stored has them.
-pub put_answers : (desc : Described) (db : Db) (set : ℕ) (number : Option ℕ) (rec : Record) → AllByRecursion (IsNamed desc) desc.structures → RecordsFit desc db → MayCome desc set rec → IsNumber number
+pub put_answers : (desc : Described) (db : Db) (set : ℕ) (number : Option ℕ) (rec : Record) → AllByRecursion (IsNamed desc) desc.structures → RecordsFit desc db → MayCome desc set rec → IsFoundNumber number
     → put_answer desc db set number rec ≡ put_unless (clash_seen desc desc.structures db set number (stored desc db set number rec)) (put_number desc db set number)
 unfolding put_answer
 put_answers desc db set number rec named fits may small =

@@ -21,14 +21,14 @@ use Rattle.dms_desc.specs.Keys.{key_cmp}
 use Rattle.dms_desc.specs.Sorted.{last, or_else, that_passes}
 use Rattle.dms_model.specs.Members.{members, is_before_bound, last_of}
 use Rattle.dms_key.specs.ByteOrder.{equal_is, greater_is}
-use Rattle.dms_sets.specs.Fronts.{front_cmp, front_whole, reaches_is}
+use Rattle.dms_sets.specs.Prefixes.{front_cmp, front_whole, reaches_is}
 use Rattle.dms_sets.specs.Sets.{listed_in, entries_of, kinds_over}
 use Rattle.dms_sets.specs.Owners.{is_of, of_owner, spot_bytes, AllFit, owned_entries}
-use Rattle.dms_sets.specs.Bounds.{BoundFits, SpotFits, at_order, front_order, members_fit, all_to}
+use Rattle.dms_sets.specs.Bounds.{BoundKeyFits, SpotKeyFits, at_order, front_order, members_fit, all_to}
 use Rattle.dms_key.specs.KeyBytes.{key_bytes}
 use Rattle.dms_key.specs.KeyOrder.{equal_itself}
 use Rattle.dms_sets.specs.Entries.{entry_bytes}
-use Rattle.dms_ordlist.specs.Lists.{AllAbove, Rises, bytes_cmp, keys_rise}
+use Rattle.dms_ordlist.specs.Lists.{AreAllAbove, AreInByteOrder, bytes_cmp, keys_rise}
 use Rattle.dms_sets.specs.Tests.{gt_reverse, not_true}
 
 -- an entry stands before a bound of an owner
@@ -47,7 +47,7 @@ greater_on Equal Equal a b c f g h x y rest p q = ap (λ o. ordering_then o h) (
 greater_on Less r a b c f g h x y rest p q = absurd (cc)
 greater_on o Greater a b c f g h x y rest p q = absurd (cc)
 
--- what is below a string that is below a front is below it too
+-- what is below a string that is below a prefix is below it too
 front_greater : (p x y : List ℕ) → front_cmp p x ≡ Greater → bytes_cmp y x ≡ Less → front_cmp p y ≡ Greater
 front_greater [] x y h k = absurd (cc)
 front_greater (a ∷ p) x [] h k = refl
@@ -96,7 +96,7 @@ last_has : (P : List ℕ → Type 0) (p : List ℕ → Bool) (xs : List (List �
 last_has P p [] all = tt
 last_has P p (x ∷ xs) all = at_last (λ y. P y × (p y ≡ true)) (last p xs) (p x) x (last_has P p xs all.1) (λ h. (all.0, h))
 
-above_all : (x : List ℕ) (ys : List (List ℕ)) → AllAbove x ys → AllByRecursion (λ y. bytes_cmp x y ≡ Less) ys
+above_all : (x : List ℕ) (ys : List (List ℕ)) → AreAllAbove x ys → AllByRecursion (λ y. bytes_cmp x y ≡ Less) ys
 above_all x [] all = tt
 above_all x (y ∷ ys) all = (all.0, above_all x ys all.1)
 
@@ -122,13 +122,13 @@ module _ (owner : ℕ) (p : List ℕ → Bool) (upto : (x : List ℕ) → p x �
           ap (λ t. cond (t && b) (Some x) None) off
 
   -- of one owner the last that passes is the last of all that passes, where that is the owner's
-  narrow_last : (xs : List (List ℕ)) → Rises xs → last (λ x. is_of owner x && p x) xs ≡ that_passes (is_of owner) (last p xs)
+  narrow_last : (xs : List (List ℕ)) → AreInByteOrder xs → last (λ x. is_of owner x && p x) xs ≡ that_passes (is_of owner) (last p xs)
   narrow_last [] rise = refl
   narrow_last (x ∷ xs) rise =
       ap (λ o. or_else o (cond (is_of owner x && p x) (Some x) None)) (narrow_last xs rise.1)
       ∙ last_turn (last p xs) (p x) (is_of owner x) x refl refl (last_has (λ y. bytes_cmp x y ≡ Less) p xs (above_all x xs rise.0))
 
-  pub owner_last : (xs : List (List ℕ)) → Rises xs → last p (of_owner owner xs) ≡ that_passes (is_of owner) (last p xs)
+  pub owner_last : (xs : List (List ℕ)) → AreInByteOrder xs → last p (of_owner owner xs) ≡ that_passes (is_of owner) (last p xs)
   owner_last xs rise = last_filter (is_of owner) p xs ∙ narrow_last xs rise
 
 gt_not_lt : (o : Ordering) → is_gt o ≡ true → is_lt o ≡ false
@@ -136,7 +136,7 @@ gt_not_lt Less h = absurd (cc)
 gt_not_lt Equal h = refl
 gt_not_lt Greater h = refl
 
--- what is above a front is above all strings that have it
+-- what is above a prefix is above all strings that have it
 front_above : (p r q : List ℕ) → front_cmp p q ≡ Less → front_cmp (p ++ r) q ≡ Less
 front_above [] r q h = absurd (cc)
 front_above (a ∷ p) r [] h = absurd (cc)
@@ -167,7 +167,7 @@ before_front Less = refl
 before_front Equal = refl
 before_front Greater = refl
 
-precedes_is : (kinds : List ItemKind) (ps : List KeyPart) (owner : ℕ) (bound : Bound) (x : Spot) → BoundFits kinds ps bound → SpotFits kinds ps x → is_before_bound ps bound x ≡ precedes kinds ps owner bound (spot_bytes kinds ps owner x)
+precedes_is : (kinds : List ItemKind) (ps : List KeyPart) (owner : ℕ) (bound : Bound) (x : Spot) → BoundKeyFits kinds ps bound → SpotKeyFits kinds ps x → is_before_bound ps bound x ≡ precedes kinds ps owner bound (spot_bytes kinds ps owner x)
 precedes_is kinds ps owner Start x f g = refl
 precedes_is kinds ps owner End x f g =
     sym (ap (λ o. not (is_lt o)) (front_whole (to_be_bytes w32 owner) (to_be_bytes w32 owner) (key_bytes kinds ps x.key ++ to_be_bytes w32 x.number) refl ∙ equal_itself (to_be_bytes w32 owner)))
@@ -177,14 +177,14 @@ precedes_is kinds ps owner (From key) x f g =
     before_front (key_cmp (take (length key) ps) (take (length key) x.key) key) ∙ sym (ap is_gt (front_order kinds ps owner key x f g.key))
 
 -- The last member before a bound is the last entry before it, where that is the owner's.
-pub last_member_is : (desc : Described) (db : Db) (s : Shape) (owner : ℕ) (bound : Bound) → owner < 2 ^ 32 → (s.kind == 5) ≡ false → AllFit (kinds_over desc s) s (entries db.records) → BoundFits (kinds_over desc s) s.parts bound
+pub last_member_is : (desc : Described) (db : Db) (s : Shape) (owner : ℕ) (bound : Bound) → owner < 2 ^ 32 → (s.kind == 5) ≡ false → AllFit (kinds_over desc s) s (entries db.records) → BoundKeyFits (kinds_over desc s) s.parts bound
     → option_map (spot_bytes (kinds_over desc s) s.parts owner) (last_of (Some s) db owner bound) ≡ that_passes (is_of owner) (last (precedes (kinds_over desc s) s.parts owner bound) (entries_of desc db s))
 last_member_is desc db s owner bound small auto all fits =
     let kinds = kinds_over desc s in
     let B = spot_bytes kinds s.parts owner in
     let p = precedes kinds s.parts owner bound in
     let ms = members s db owner in
-    ap (option_map B) (last_alike (is_before_bound s.parts bound) (λ x. p (B x)) ms (all_to (SpotFits kinds s.parts) (λ x. is_before_bound s.parts bound x ≡ p (B x)) ms (λ x g. precedes_is kinds s.parts owner bound x fits g) (members_fit desc db s owner all)))
+    ap (option_map B) (last_alike (is_before_bound s.parts bound) (λ x. p (B x)) ms (all_to (SpotKeyFits kinds s.parts) (λ x. is_before_bound s.parts bound x ≡ p (B x)) ms (λ x g. precedes_is kinds s.parts owner bound x fits g) (members_fit desc db s owner all)))
     ∙ last_map p B ms
     ∙ ap (last p) (sym (owned_entries desc db s owner small auto all))
     ∙ owner_last owner p (λ x h. precedes_owner kinds s.parts owner bound x h) (entries_of desc db s) (keys_rise (listed_in kinds s db.records))

@@ -4,7 +4,7 @@ pub mod ChangeLaws
 pub mod Entries
 pub mod Listing
 pub mod Sets
-pub mod Fronts
+pub mod Prefixes
 pub mod Owners
 pub mod Clashes
 pub mod Answers

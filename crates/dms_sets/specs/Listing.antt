@@ -13,14 +13,14 @@ use Rattle.std.proofs.lemmas.Cmp.{then_total, on_total, eq_by_cmp_equiv}
 use Rattle.dms_desc.specs.declared.record.Record.{Record}
 use Rattle.dms_model.specs.Db.{Records, Place, place_cmp}
 use Rattle.dms_desc.specs.Sorted.{or_else}
-use Rattle.dms_ordlist.specs.Lists.{bytes_cmp, Listed, bytes_same}
+use Rattle.dms_ordlist.specs.Lists.{bytes_cmp, ByteSet, bytes_same}
 use Rattle.dms_sets.specs.Tests.{first_true, second_true, tied}
 
-abbrev pub with_opt : Option (List ℕ) → Listed → Listed
+abbrev pub with_opt : Option (List ℕ) → ByteSet → ByteSet
 with_opt None m = m
 with_opt (Some x) m = insert m x tt
 
-abbrev pub without_opt : Option (List ℕ) → Listed → Listed
+abbrev pub without_opt : Option (List ℕ) → ByteSet → ByteSet
 without_opt None m = m
 without_opt (Some x) m = remove m x
 
@@ -48,13 +48,13 @@ abbrev minus : Option (Unit {0}) → Option (Unit {0}) → Option (Unit {0})
 minus None b = b
 minus (Some x) b = None
 
-get_with : (o : Option (List ℕ)) (m : Listed) (q : List ℕ) → get (with_opt o m) q ≡ or_else (test_of q o) (get m q)
+get_with : (o : Option (List ℕ)) (m : ByteSet) (q : List ℕ) → get (with_opt o m) q ≡ or_else (test_of q o) (get m q)
 get_with None m q = refl
 get_with (Some x) m q =
     get-insert nat_list_cmp_total m x tt q
     ∙ elim (eq_by_cmp bytes_cmp q x) as (λ b. cond b (Some tt) (get m q) ≡ or_else (cond b (Some tt) None) (get m q)) [ true ↦ refl | false ↦ refl ]
 
-get_without : (o : Option (List ℕ)) (m : Listed) (q : List ℕ) → get (without_opt o m) q ≡ minus (test_of q o) (get m q)
+get_without : (o : Option (List ℕ)) (m : ByteSet) (q : List ℕ) → get (without_opt o m) q ≡ minus (test_of q o) (get m q)
 get_without None m q = refl
 get_without (Some x) m q =
     get-remove nat_list_cmp_total m x q
@@ -74,7 +74,7 @@ never false n = refl
 
 -- A listing gives each record at most one member.
 module _ (member : Place → Record → Option (List ℕ)) where
-  abbrev pub listing : List (Place × Record) → Listed
+  abbrev pub listing : List (Place × Record) → ByteSet
   listing [] = empty
   listing (e ∷ es) = with_opt (member e.0 e.1) (listing es)
 
@@ -82,7 +82,7 @@ module _ (member : Place → Record → Option (List ℕ)) where
   member_opt k None = None
   member_opt k (Some r) = member k r
 
-  abbrev pub listing_of : Records → Listed
+  abbrev pub listing_of : Records → ByteSet
   listing_of m = listing (entries m)
 
 -- it holds of each place

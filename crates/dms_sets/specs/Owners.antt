@@ -16,19 +16,19 @@ use Rattle.dms_desc.specs.declared.structure.KeyPart.{KeyPart}
 use Rattle.dms_desc.specs.declared.record.Record.{Record}
 use Rattle.dms_desc.specs.Shape.{Shape, Described}
 use Rattle.dms_model.specs.declared.spot.Spot.{Spot}
-use Rattle.dms_model.specs.Db.{Db, Entry, Place, place_cmp}
+use Rattle.dms_model.specs.Db.{Db, SubsetEntry, Place, place_cmp}
 use Rattle.dms_desc.specs.Keys.{key_of, key_cmp}
 use Rattle.dms_desc.specs.Kinds.{takes, over}
 use Rattle.dms_desc.specs.Sorted.{sorted, place_in}
 use Rattle.dms_model.specs.Members.{names, belongs, spot_of, spots_of, spot_cmp, is_before, members}
 use Rattle.dms_sets.specs.Listing.{listing}
-use Rattle.dms_sets.specs.Fronts.{starts, front_whole}
+use Rattle.dms_sets.specs.Prefixes.{starts, front_whole}
 use Rattle.dms_key.specs.ByteOrder.{append_cmp, less_is}
 use Rattle.dms_sets.specs.Sets.{entry_of, entries_of, kinds_over, keys_with_opt}
 use Rattle.dms_key.specs.KeyBytes.{key_bytes}
 use Rattle.dms_key.specs.KeyOrder.{four_cmp, equal_itself}
-use Rattle.dms_sets.specs.Entries.{entry_bytes, IsKey, whole_order, whole_width}
-use Rattle.dms_ordlist.specs.Lists.{AllAbove, Rises, bytes_cmp, bytes_same, empty_keys, keys_rise, with_entry, with_in}
+use Rattle.dms_sets.specs.Entries.{entry_bytes, IsSetKey, whole_order, whole_width}
+use Rattle.dms_ordlist.specs.Lists.{AreAllAbove, AreInByteOrder, bytes_cmp, bytes_same, empty_keys, keys_rise, with_entry, with_in}
 use Rattle.dms_sets.specs.Tests.{both_of, first_true, second_true}
 
 abbrev pub is_of : ℕ → List ℕ → Bool
@@ -45,7 +45,7 @@ spot_bytes kinds ps owner x = entry_bytes kinds ps owner x.key x.number
 pub record EntryFits (kinds : List ItemKind) (s : Shape) (e : Place × Record) : Type 0 where
   pub small : e.0.1 < 2 ^ 32
   pub owner : e.1.owner < 2 ^ 32
-  pub key : (over s == e.0.0) ≡ true → IsKey kinds s.parts (key_of s.parts e.1.values)
+  pub key : (over s == e.0.0) ≡ true → IsSetKey kinds s.parts (key_of s.parts e.1.values)
 
 abbrev pub AllFit : List ItemKind → Shape → List (Place × Record) → Type 0
 AllFit kinds s [] = Unit {0}
@@ -65,17 +65,17 @@ module _ (p : List ℕ → Bool) (x : List ℕ) where
   filter_drops [] h = ap (λ b. cond b (x ∷ []) []) h
   filter_drops (y ∷ ys) h = drop_step (bytes_cmp x y) y ys h (filter_drops ys h)
 
-  above_filter : (ys : List (List ℕ)) → AllAbove x ys → AllAbove x (filter p ys)
+  above_filter : (ys : List (List ℕ)) → AreAllAbove x ys → AreAllAbove x (filter p ys)
   above_filter [] all = tt
   above_filter (y ∷ ys) all =
       let rest = above_filter ys all.1 in
-      elim (p y) as (λ b. AllAbove x (cond b (y ∷ filter p ys) (filter p ys))) [ true ↦ (all.0, rest) | false ↦ rest ]
+      elim (p y) as (λ b. AreAllAbove x (cond b (y ∷ filter p ys) (filter p ys))) [ true ↦ (all.0, rest) | false ↦ rest ]
 
-  above_trans : (y : List ℕ) (ys : List (List ℕ)) → bytes_cmp x y ≡ Less → AllAbove y ys → AllAbove x ys
+  above_trans : (y : List ℕ) (ys : List (List ℕ)) → bytes_cmp x y ≡ Less → AreAllAbove y ys → AreAllAbove x ys
   above_trans y [] h all = tt
   above_trans y (z ∷ ys) h all = (nat_list_cmp_total.trans x y z h all.0, above_trans y ys h all.1)
 
-  front_entry : (ys : List (List ℕ)) → AllAbove x ys → with_entry x ys ≡ x ∷ ys
+  front_entry : (ys : List (List ℕ)) → AreAllAbove x ys → with_entry x ys ≡ x ∷ ys
   front_entry [] all = refl
   front_entry (y ∷ ys) all = ap (λ o. by_order o (x ∷ y ∷ ys) (y ∷ ys) (y ∷ with_entry x ys)) all.0
 
@@ -83,7 +83,7 @@ module _ (p : List ℕ → Bool) (x : List ℕ) where
   keep_later true y ys h = sym (ap (λ o. by_order o (x ∷ y ∷ ys) (y ∷ ys) (y ∷ with_entry x ys)) h)
   keep_later false y ys h = refl
 
-  keep_step : (o : Ordering) (y : List ℕ) (ys : List (List ℕ)) → bytes_cmp x y ≡ o → p x ≡ true → Rises (y ∷ ys) → filter p (with_entry x ys) ≡ with_entry x (filter p ys)
+  keep_step : (o : Ordering) (y : List ℕ) (ys : List (List ℕ)) → bytes_cmp x y ≡ o → p x ≡ true → AreInByteOrder (y ∷ ys) → filter p (with_entry x ys) ≡ with_entry x (filter p ys)
       → filter p (by_order o (x ∷ y ∷ ys) (y ∷ ys) (y ∷ with_entry x ys)) ≡ with_entry x (filter p (y ∷ ys))
   keep_step Less y ys is h rise rest =
       ap (λ b. cond b (x ∷ filter p (y ∷ ys)) (filter p (y ∷ ys))) h
@@ -95,7 +95,7 @@ module _ (p : List ℕ → Bool) (x : List ℕ) where
   keep_step Greater y ys is h rise rest = ap (λ (zs : List (List ℕ)). cond (p y) (y ∷ zs) zs) rest ∙ keep_later (p y) y (filter p ys) is
 
   -- one that passes comes to its place among those that pass
-  pub filter_keeps : (ys : List (List ℕ)) → p x ≡ true → Rises ys → filter p (with_entry x ys) ≡ with_entry x (filter p ys)
+  pub filter_keeps : (ys : List (List ℕ)) → p x ≡ true → AreInByteOrder ys → filter p (with_entry x ys) ≡ with_entry x (filter p ys)
   filter_keeps [] h rise = ap (λ b. cond b (x ∷ []) []) h
   filter_keeps (y ∷ ys) h rise = keep_step (bytes_cmp x y) y ys refl h rise (filter_keeps ys h rise.1)
 
@@ -133,7 +133,7 @@ then_less : (o p r : Ordering) → o ≡ Equal → ordering_then o (ordering_the
 then_less o p r e = ap (λ z. ordering_then z (ordering_then p r)) e
 
 -- the order of members is that of their entries
-pub spot_order : (kinds : List ItemKind) (ps : List KeyPart) (owner : ℕ) (x y : Spot) → IsKey kinds ps x.key → IsKey kinds ps y.key → x.number < 2 ^ 32 → y.number < 2 ^ 32
+pub spot_order : (kinds : List ItemKind) (ps : List KeyPart) (owner : ℕ) (x y : Spot) → IsSetKey kinds ps x.key → IsSetKey kinds ps y.key → x.number < 2 ^ 32 → y.number < 2 ^ 32
     → bytes_cmp (spot_bytes kinds ps owner x) (spot_bytes kinds ps owner y) ≡ spot_cmp ps x y
 spot_order kinds ps owner x y f g p q =
     let o = to_be_bytes w32 owner in
@@ -159,10 +159,10 @@ is_of_entry kinds ps owner o key n p q =
     ap is_eq (front_whole (to_be_bytes w32 owner) (to_be_bytes w32 o) (key_bytes kinds ps key ++ to_be_bytes w32 n) refl ∙ four_cmp owner o p q) ∙ eq_of owner o
 
 -- what belongs to a data set, set or automatic subset
-pub belongs_is : (s : Shape) (manual : List Entry) (owner : ℕ) (e : Place × Record) → (s.kind == 5) ≡ false → belongs s manual owner e ≡ ((over s == e.0.0) && ((owner == e.1.owner) && takes s e.1.values))
+pub belongs_is : (s : Shape) (manual : List SubsetEntry) (owner : ℕ) (e : Place × Record) → (s.kind == 5) ≡ false → belongs s manual owner e ≡ ((over s == e.0.0) && ((owner == e.1.owner) && takes s e.1.values))
 belongs_is s manual owner e auto = ap (λ b. (over s == e.0.0) && cond b (list_any (names s.number owner e.0.1) manual) ((owner == e.1.owner) && takes s e.1.values)) auto
 
-module _ (kinds : List ItemKind) (s : Shape) (manual : List Entry) (owner : ℕ) (small : owner < 2 ^ 32) where
+module _ (kinds : List ItemKind) (s : Shape) (manual : List SubsetEntry) (owner : ℕ) (small : owner < 2 ^ 32) where
   abbrev B : Spot → List ℕ
   B x = spot_bytes kinds s.parts owner x
 
@@ -186,7 +186,7 @@ module _ (kinds : List ItemKind) (s : Shape) (manual : List Entry) (owner : ℕ)
   all_alike e (d ∷ es) f all at below =
       alike_by (belongs s manual owner d) e d (spots_of s manual owner es) refl f all.0 at (first_true _ _ below) (all_alike e es f all.1 at (second_true _ _ below))
 
-  turn : (a t w : Bool) (e : Place × Record) (es : List (Place × Record)) (ys : List (List ℕ)) → (over s == e.0.0) ≡ a → (owner == e.1.owner) ≡ w → EntryFits kinds s e → AllFit kinds s es → T (below_all place_cmp e.0 es) → Rises ys
+  turn : (a t w : Bool) (e : Place × Record) (es : List (Place × Record)) (ys : List (List ℕ)) → (over s == e.0.0) ≡ a → (owner == e.1.owner) ≡ w → EntryFits kinds s e → AllFit kinds s es → T (below_all place_cmp e.0 es) → AreInByteOrder ys
       → of_owner owner ys ≡ map B (sorted (is_before s.parts) (spots_of s manual owner es))
       → of_owner owner (with_in (cond (a && t) (Some (entry_bytes kinds s.parts e.1.owner (key_of s.parts e.1.values) e.0.1)) None) ys)
       ≡ map B (sorted (is_before s.parts) (cond (a && (w && t)) (spot_of s.parts e ∷ spots_of s manual owner es) (spots_of s manual owner es)))

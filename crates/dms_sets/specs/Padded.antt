@@ -24,19 +24,19 @@ use Rattle.dms_desc.specs.Sorted.{first, last, or_else, that_passes}
 use Rattle.dms_sets.specs.Listing.{listing}
 use Rattle.dms_sets.specs.Clashes.{look}
 use Rattle.dms_key.specs.ByteOrder.{append_cmp, high_first_length, less_is, equal_is}
-use Rattle.dms_sets.specs.Fronts.{front_cmp, starts, reaches, front_whole, gt_then}
+use Rattle.dms_sets.specs.Prefixes.{front_cmp, starts, reaches, front_whole, gt_then}
 use Rattle.dms_sets.specs.Sets.{entry_of, entries_of, kinds_over, keys_with_opt}
 use Rattle.dms_sets.specs.Owners.{EntryFits, AllFit}
-use Rattle.dms_sets.specs.Bounds.{passes, BoundFits}
+use Rattle.dms_sets.specs.Bounds.{passes, BoundKeyFits}
 use Rattle.dms_sets.specs.Lasts.{precedes}
 use Rattle.dms_key.specs.KeyBytes.{key_bytes, key_width, KeyFits}
 use Rattle.dms_key.specs.KeyOrder.{four_cmp, key_most}
-use Rattle.dms_sets.specs.Entries.{entry_bytes, IsKey, whole_width}
+use Rattle.dms_sets.specs.Entries.{entry_bytes, IsSetKey, whole_width}
 use Rattle.dms_ordlist.specs.Lists as list
 use Rattle.dms_ordlist.specs.Lists.{bytes_cmp, empty_keys, is_same, with_entry, with_in, without_in, padded, not_below, is_under, first_from, last_to}
 
 -- the form of an entry
-pub record IsEntry (width : ℕ) (q : List ℕ) : Type 0 where
+pub record IsSetEntry (width : ℕ) (q : List ℕ) : Type 0 where
   pub owner : ℕ
   pub key : List ℕ
   pub number : ℕ
@@ -49,7 +49,7 @@ pub record IsEntry (width : ℕ) (q : List ℕ) : Type 0 where
 abbrev pub entry_width : List ItemKind → List KeyPart → ℕ
 entry_width kinds ps = 4 + (key_width kinds ps + 4)
 
-pub entry_long : (width : ℕ) (q : List ℕ) → IsEntry width q → length q ≡ 4 + (width + 4)
+pub entry_long : (width : ℕ) (q : List ℕ) → IsSetEntry width q → length q ≡ 4 + (width + 4)
 entry_long width q e =
     ap length e.is ∙ length-append (to_be_bytes w32 e.owner) (e.key ++ to_be_bytes w32 e.number)
     ∙ ap (λ n. 4 + n) (length-append e.key (to_be_bytes w32 e.number) ∙ ap (λ n. n + 4) e.long)
@@ -64,23 +64,23 @@ module _ (P : List ℕ → Type 0) (x : List ℕ) (h : P x) where
   all_with [] all = (h, tt)
   all_with (y ∷ ys) all = all_step (bytes_cmp x y) y ys all.0 all.1 (all_with ys all.1)
 
-shaped_at : (a t : Bool) (kinds : List ItemKind) (s : Shape) (e : Place × Record) (ys : List (List ℕ)) → (over s == e.0.0) ≡ a → EntryFits kinds s e → AllByRecursion (IsEntry (key_width kinds s.parts)) ys
-    → AllByRecursion (IsEntry (key_width kinds s.parts)) (with_in (cond (a && t) (Some (entry_bytes kinds s.parts e.1.owner (key_of s.parts e.1.values) e.0.1)) None) ys)
+shaped_at : (a t : Bool) (kinds : List ItemKind) (s : Shape) (e : Place × Record) (ys : List (List ℕ)) → (over s == e.0.0) ≡ a → EntryFits kinds s e → AllByRecursion (IsSetEntry (key_width kinds s.parts)) ys
+    → AllByRecursion (IsSetEntry (key_width kinds s.parts)) (with_in (cond (a && t) (Some (entry_bytes kinds s.parts e.1.owner (key_of s.parts e.1.values) e.0.1)) None) ys)
 shaped_at true true kinds s e ys at f all =
-    all_with (IsEntry (key_width kinds s.parts)) (entry_bytes kinds s.parts e.1.owner (key_of s.parts e.1.values) e.0.1)
+    all_with (IsSetEntry (key_width kinds s.parts)) (entry_bytes kinds s.parts e.1.owner (key_of s.parts e.1.values) e.0.1)
     (record { owner = e.1.owner; key = key_bytes kinds s.parts (key_of s.parts e.1.values); number = e.0.1; is = refl; small_owner = f.owner; small = f.small; long = whole_width kinds s.parts (key_of s.parts e.1.values) (f.key at) }) ys all
 shaped_at true false kinds s e ys at f all = all
 shaped_at false t kinds s e ys at f all = all
 
-shaped_in : (kinds : List ItemKind) (s : Shape) (es : List (Place × Record)) → AllFit kinds s es → AllByRecursion (IsEntry (key_width kinds s.parts)) (keys (listing (entry_of kinds s) es))
-shaped_in kinds s [] all = subst (AllByRecursion (IsEntry (key_width kinds s.parts))) (sym empty_keys) tt
+shaped_in : (kinds : List ItemKind) (s : Shape) (es : List (Place × Record)) → AllFit kinds s es → AllByRecursion (IsSetEntry (key_width kinds s.parts)) (keys (listing (entry_of kinds s) es))
+shaped_in kinds s [] all = subst (AllByRecursion (IsSetEntry (key_width kinds s.parts))) (sym empty_keys) tt
 shaped_in kinds s (e ∷ es) all =
     let ys = keys (listing (entry_of kinds s) es) in
-    subst (AllByRecursion (IsEntry (key_width kinds s.parts))) (sym (keys_with_opt (entry_of kinds s e.0 e.1) (listing (entry_of kinds s) es)))
+    subst (AllByRecursion (IsSetEntry (key_width kinds s.parts))) (sym (keys_with_opt (entry_of kinds s e.0 e.1) (listing (entry_of kinds s) es)))
     (shaped_at (over s == e.0.0) (takes s e.1.values) kinds s e ys refl all.0 (shaped_in kinds s es all.1))
 
 -- all entries of a set have one form and one width
-pub entries_shaped : (desc : Described) (db : Db) (s : Shape) → AllFit (kinds_over desc s) s (entries db.records) → AllByRecursion (IsEntry (key_width (kinds_over desc s) s.parts)) (entries_of desc db s)
+pub entries_shaped : (desc : Described) (db : Db) (s : Shape) → AllFit (kinds_over desc s) s (entries db.records) → AllByRecursion (IsSetEntry (key_width (kinds_over desc s) s.parts)) (entries_of desc db s)
 entries_shaped desc db s all = shaped_in (kinds_over desc s) s (entries db.records) all
 
 -- bounds of that width
@@ -100,7 +100,7 @@ pad_gt k [] q h = zeros_low k q (h ∙ omega arith)
 pad_gt k (a ∷ p) [] h = absurd (omega (arith, h))
 pad_gt k (a ∷ p) (b ∷ q) h = gt_then (nat_cmp a b) (bytes_cmp (p ++ replicate k 0) q) (front_cmp p q) (pad_gt k p q (omega (arith, h)))
 
--- to reach a front is not to be below it, filled with zeros
+-- to reach a prefix is not to be below it, filled with zeros
 pub padded_gt : (w : ℕ) (p q : List ℕ) → length q ≡ w → length p ≤ w → is_gt (bytes_cmp (padded w p) q) ≡ is_gt (front_cmp p q)
 padded_gt w p q h le = pad_gt (w - length p) p q (h ∙ omega (arith, le))
 
@@ -121,7 +121,7 @@ to_bytes kinds ps owner End = Some (padded (entry_width kinds ps) (to_be_bytes w
 to_bytes kinds ps owner (At key n) = Some (entry_bytes kinds ps owner key n)
 to_bytes kinds ps owner (From key) = Some (padded (entry_width kinds ps) (front_of kinds ps owner key))
 
--- the numbers of a bound have a successor, and a front isn't longer than an entry
+-- the numbers of a bound have a successor, and a prefix isn't longer than an entry
 abbrev pub BoundSmall : List ItemKind → List KeyPart → Bound → Type 0
 BoundSmall kinds ps Start = Unit {0}
 BoundSmall kinds ps End = Unit {0}
@@ -142,7 +142,7 @@ next_then Equal Greater n m = refl
 next_then Greater p n m = refl
 
 -- the order of an entry to one of that form
-entry_order : (kinds : List ItemKind) (ps : List KeyPart) (owner : ℕ) (key : List Value) (n : ℕ) (q : List ℕ) → IsKey kinds ps key → n < 2 ^ 32 → owner < 2 ^ 32 → (e : IsEntry (key_width kinds ps) q)
+entry_order : (kinds : List ItemKind) (ps : List KeyPart) (owner : ℕ) (key : List Value) (n : ℕ) (q : List ℕ) → IsSetKey kinds ps key → n < 2 ^ 32 → owner < 2 ^ 32 → (e : IsSetEntry (key_width kinds ps) q)
     → bytes_cmp (entry_bytes kinds ps owner key n) q ≡ ordering_then (nat_cmp owner e.owner) (ordering_then (bytes_cmp (key_bytes kinds ps key) e.key) (nat_cmp n e.number))
 entry_order kinds ps owner key n q f small own e =
     ap (bytes_cmp (entry_bytes kinds ps owner key n)) e.is
@@ -185,42 +185,42 @@ module _ (kinds : List ItemKind) (ps : List KeyPart) (owner : ℕ) (own : owner 
   small_owner = omega (arith, own)
 
   -- the first entry behind a bound, by one look
-  pub first_is : (bound : Bound) (xs : List (List ℕ)) → BoundFits kinds ps bound → BoundSmall kinds ps bound → AllByRecursion (IsEntry (key_width kinds ps)) xs → first (passes kinds ps owner bound) xs ≡ first_from (from_bytes kinds ps owner bound) xs
+  pub first_is : (bound : Bound) (xs : List (List ℕ)) → BoundKeyFits kinds ps bound → BoundSmall kinds ps bound → AllByRecursion (IsSetEntry (key_width kinds ps)) xs → first (passes kinds ps owner bound) xs ≡ first_from (from_bytes kinds ps owner bound) xs
   first_is Start xs f g all =
-      first_same (IsEntry (key_width kinds ps)) (passes kinds ps owner Start) (not_below (padded (entry_width kinds ps) (to_be_bytes w32 owner))) xs
+      first_same (IsSetEntry (key_width kinds ps)) (passes kinds ps owner Start) (not_below (padded (entry_width kinds ps) (to_be_bytes w32 owner))) xs
       (λ q e. sym (ap not (padded_gt (entry_width kinds ps) (to_be_bytes w32 owner) q (entry_long (key_width kinds ps) q e) (four_short owner)))) all
   first_is End xs f g all = none_pass xs
   first_is (At key n) xs f g all =
-      first_same (IsEntry (key_width kinds ps)) (passes kinds ps owner (At key n)) (not_below (entry_bytes kinds ps owner key (n + 1))) xs
+      first_same (IsSetEntry (key_width kinds ps)) (passes kinds ps owner (At key n)) (not_below (entry_bytes kinds ps owner key (n + 1))) xs
       (λ q e.
       ap is_lt (entry_order kinds ps owner key n q f.0 f.1 small_owner e)
       ∙ next_then (nat_cmp owner e.owner) (bytes_cmp (key_bytes kinds ps key) e.key) n e.number
       ∙ sym (ap (λ o. not (is_gt o)) (entry_order kinds ps owner key (n + 1) q f.0 g small_owner e))) all
   first_is (From key) xs f g all =
-      first_same (IsEntry (key_width kinds ps)) (passes kinds ps owner (From key)) (not_below (padded (entry_width kinds ps) (front_of kinds ps owner key))) xs
+      first_same (IsSetEntry (key_width kinds ps)) (passes kinds ps owner (From key)) (not_below (padded (entry_width kinds ps) (front_of kinds ps owner key))) xs
       (λ q e. sym (ap not (padded_gt (entry_width kinds ps) (front_of kinds ps owner key) q (entry_long (key_width kinds ps) q e) (front_short kinds ps owner key f)))) all
 
-  owner_order : (n : ℕ) (q : List ℕ) → n < 2 ^ 32 → (e : IsEntry (key_width kinds ps) q) → front_cmp (to_be_bytes w32 n) q ≡ nat_cmp n e.owner
+  owner_order : (n : ℕ) (q : List ℕ) → n < 2 ^ 32 → (e : IsSetEntry (key_width kinds ps) q) → front_cmp (to_be_bytes w32 n) q ≡ nat_cmp n e.owner
   owner_order n q small e =
       ap (front_cmp (to_be_bytes w32 n)) e.is ∙ front_whole (to_be_bytes w32 n) (to_be_bytes w32 e.owner) (e.key ++ to_be_bytes w32 e.number) refl ∙ four_cmp n e.owner small e.small_owner
 
   -- the last entry before a bound, by one look
-  pub last_is : (bound : Bound) (xs : List (List ℕ)) → BoundFits kinds ps bound → AllByRecursion (IsEntry (key_width kinds ps)) xs → last (precedes kinds ps owner bound) xs ≡ last_to (to_bytes kinds ps owner bound) xs
+  pub last_is : (bound : Bound) (xs : List (List ℕ)) → BoundKeyFits kinds ps bound → AllByRecursion (IsSetEntry (key_width kinds ps)) xs → last (precedes kinds ps owner bound) xs ≡ last_to (to_bytes kinds ps owner bound) xs
   last_is Start xs f all = none_last xs
   last_is End xs f all =
-      last_same (IsEntry (key_width kinds ps)) (precedes kinds ps owner End) (is_under (padded (entry_width kinds ps) (to_be_bytes w32 (owner + 1)))) xs
+      last_same (IsSetEntry (key_width kinds ps)) (precedes kinds ps owner End) (is_under (padded (entry_width kinds ps) (to_be_bytes w32 (owner + 1)))) xs
       (λ q e.
       ap (λ o. not (is_lt o)) (owner_order owner q small_owner e) ∙ ge_next owner e.owner ∙ sym (ap is_gt (owner_order (owner + 1) q own e))
       ∙ sym (padded_gt (entry_width kinds ps) (to_be_bytes w32 (owner + 1)) q (entry_long (key_width kinds ps) q e) (four_short (owner + 1)))) all
-  last_is (At key n) xs f all = last_same (IsEntry (key_width kinds ps)) (precedes kinds ps owner (At key n)) (is_under (entry_bytes kinds ps owner key n)) xs (λ q e. refl) all
+  last_is (At key n) xs f all = last_same (IsSetEntry (key_width kinds ps)) (precedes kinds ps owner (At key n)) (is_under (entry_bytes kinds ps owner key n)) xs (λ q e. refl) all
   last_is (From key) xs f all =
-      last_same (IsEntry (key_width kinds ps)) (precedes kinds ps owner (From key)) (is_under (padded (entry_width kinds ps) (front_of kinds ps owner key))) xs
+      last_same (IsSetEntry (key_width kinds ps)) (precedes kinds ps owner (From key)) (is_under (padded (entry_width kinds ps) (front_of kinds ps owner key))) xs
       (λ q e. sym (padded_gt (entry_width kinds ps) (front_of kinds ps owner key) q (entry_long (key_width kinds ps) q e) (front_short kinds ps owner key f))) all
 
 -- the look for a duplicate, by a bound of the entries' width
-pub look_is : (w : ℕ) (p : List ℕ) (xs : List (List ℕ)) → length p ≤ 4 + (w + 4) → AllByRecursion (IsEntry w) xs → look p xs ≡ that_passes (starts p) (first_from (Some (padded (4 + (w + 4)) p)) xs)
+pub look_is : (w : ℕ) (p : List ℕ) (xs : List (List ℕ)) → length p ≤ 4 + (w + 4) → AllByRecursion (IsSetEntry w) xs → look p xs ≡ that_passes (starts p) (first_from (Some (padded (4 + (w + 4)) p)) xs)
 look_is w p xs le all =
-    ap (that_passes (starts p)) (first_same (IsEntry w) (reaches p) (not_below (padded (4 + (w + 4)) p)) xs (λ q e. sym (ap not (padded_gt (4 + (w + 4)) p q (entry_long w q e) le))) all)
+    ap (that_passes (starts p)) (first_same (IsSetEntry w) (reaches p) (not_below (padded (4 + (w + 4)) p)) xs (λ q e. sym (ap not (padded_gt (4 + (w + 4)) p q (entry_long w q e) le))) all)
 
 pub all_filter : (P : List ℕ → Type 0) (t : List ℕ → Bool) (xs : List (List ℕ)) → AllByRecursion P xs → AllByRecursion P (filter t xs)
 all_filter P t [] all = tt

@@ -27,7 +27,7 @@ use Rattle.dms_sets.specs.Listing.{left, still, stands, is_new, places_same, wit
 use Rattle.dms_key.specs.ByteOrder.{high_first_length}
 use Rattle.dms_key.specs.KeyBytes.{key_bytes}
 use Rattle.dms_sets.specs.Entries.{entry_bytes, kinds_of}
-use Rattle.dms_ordlist.specs.Lists.{has_entry, Listed, entries_removed, keys_with, keys_without, with_in, without_in}
+use Rattle.dms_ordlist.specs.Lists.{has_entry, ByteSet, entries_removed, keys_with, keys_without, with_in, without_in}
 
 -- the entry of a record in a set or automatic subset, where it belongs there
 abbrev pub entry_of : List ItemKind → Shape → Place → Record → Option (List ℕ)
@@ -47,7 +47,7 @@ abbrev pub IsSmall : Place → Type 0
 IsSmall k = k.1 < 2 ^ 32
 
 -- the entries of a set: one for each record of its data set that it takes, in byte order
-abbrev pub listed_in : List ItemKind → Shape → Records → Listed
+abbrev pub listed_in : List ItemKind → Shape → Records → ByteSet
 listed_in kinds s records = listing_of (entry_of kinds s) records
 
 abbrev pub items_over : Described → Shape → List Item
@@ -102,11 +102,11 @@ small_put k v (e ∷ es) here all = small_at (place_cmp k e.0) k v e es here all
 pub small_insert : (m : Records) (k : Place) (v : Record) → IsSmall k → AllPlaces IsSmall (entries m) → AllPlaces IsSmall (entries (insert m k v))
 small_insert m k v here all = subst (AllPlaces IsSmall) (sym (entries-insert places_total m k v)) (small_put k v (entries m) here all)
 
-pub keys_with_opt : (o : Option (List ℕ)) (m : Listed) → keys (with_opt o m) ≡ with_in o (keys m)
+pub keys_with_opt : (o : Option (List ℕ)) (m : ByteSet) → keys (with_opt o m) ≡ with_in o (keys m)
 keys_with_opt None m = refl
 keys_with_opt (Some x) m = keys_with x m
 
-pub keys_without_opt : (o : Option (List ℕ)) (m : Listed) → keys (without_opt o m) ≡ without_in o (keys m)
+pub keys_without_opt : (o : Option (List ℕ)) (m : ByteSet) → keys (without_opt o m) ≡ without_in o (keys m)
 keys_without_opt None m = refl
 keys_without_opt (Some x) m = keys_without x m
 
@@ -115,7 +115,7 @@ keys_without_opt (Some x) m = keys_without x m
 pub entries_changed : (kinds : List ItemKind) (s : Shape) (m : Records) (k : Place) (v : Record) → AllPlaces IsSmall (entries m) → IsSmall k
     → keys (listed_in kinds s (insert m k v)) ≡ with_in (entry_of kinds s k v) (without_in (member_opt (entry_of kinds s) k (get m k)) (keys (listed_in kinds s m)))
 entries_changed kinds s m k v all here =
-    ap (λ (n : Listed). keys n) (changed (entry_of kinds s) (place_in_entry s) IsSmall (own_entry kinds s) m k v all (small_insert m k v here all) here)
+    ap (λ (n : ByteSet). keys n) (changed (entry_of kinds s) (place_in_entry s) IsSmall (own_entry kinds s) m k v all (small_insert m k v here all) here)
     ∙ keys_with_opt (entry_of kinds s k v) (without_opt (member_opt (entry_of kinds s) k (get m k)) (listed_in kinds s m))
     ∙ ap (with_in (entry_of kinds s k v)) (keys_without_opt (member_opt (entry_of kinds s) k (get m k)) (listed_in kinds s m))
 
@@ -125,7 +125,7 @@ pub entries_put : (desc : Described) (db : Db) (s : Shape) (set n : ℕ) (rec : 
     ≡ with_in (entry_of (kinds_over desc s) s (set, n) (stored desc db set (Some n) rec)) (without_in (member_opt (entry_of (kinds_over desc s) s) (set, n) (get db.records (set, n))) (entries_of desc db s))
 entries_put desc db s set n rec all small = entries_changed (kinds_over desc s) s db.records (set, n) (stored desc db set (Some n) rec) all small
 
-has_key : (m : Listed) (q : List ℕ) → is_some (get m q) ≡ has_entry q (keys m)
+has_key : (m : ByteSet) (q : List ℕ) → is_some (get m q) ≡ has_entry q (keys m)
 has_key m q = contains_key-keys m q
 
 small_where : (p : Place → Bool) (es : List (Place × Record)) → AllPlaces IsSmall es → AllPlaces IsSmall (where_key place_cmp p es)
@@ -141,12 +141,12 @@ module _ (kinds : List ItemKind) (s : Shape) (m : Records) (k : Place) (all : Al
   -- after a record was removed
   pub entries_left : keys (listed_in kinds s (remove m k)) ≡ without_in (member_opt (entry_of kinds s) k (get m k)) (keys (listed_in kinds s m))
   entries_left =
-      ap (λ (n : Listed). keys n) (left (entry_of kinds s) (place_in_entry s) IsSmall (own_entry kinds s) m k all (small_remove m k all) here)
+      ap (λ (n : ByteSet). keys n) (left (entry_of kinds s) (place_in_entry s) IsSmall (own_entry kinds s) m k all (small_remove m k all) here)
       ∙ keys_without_opt (member_opt (entry_of kinds s) k (get m k)) (listed_in kinds s m)
 
   -- a put that changes no entry of the set
   pub entries_still : (v : Record) → entry_of kinds s k v ≡ member_opt (entry_of kinds s) k (get m k) → keys (listed_in kinds s (insert m k v)) ≡ keys (listed_in kinds s m)
-  entries_still v same = ap (λ (n : Listed). keys n) (still (entry_of kinds s) (place_in_entry s) IsSmall (own_entry kinds s) m k v all (small_insert m k v here all) same)
+  entries_still v same = ap (λ (n : ByteSet). keys n) (still (entry_of kinds s) (place_in_entry s) IsSmall (own_entry kinds s) m k v all (small_insert m k v here all) same)
 
   -- the entry of a record that stands is there
   pub entry_stands : (r : Record) (q : List ℕ) → get m k ≡ Some r → entry_of kinds s k r ≡ Some q → has_entry q (keys (listed_in kinds s m)) ≡ true

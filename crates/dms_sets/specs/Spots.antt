@@ -19,7 +19,7 @@ use Rattle.dms_desc.specs.declared.bound.Bound.{Bound}
 use Rattle.dms_desc.specs.Shape.{Shape, Described}
 use Rattle.dms_desc.specs.Conds.{or_null, item_of}
 use Rattle.dms_model.specs.declared.spot.Spot.{Spot}
-use Rattle.dms_model.specs.Db.{Db, Entry, Place, place_cmp}
+use Rattle.dms_model.specs.Db.{Db, SubsetEntry, Place, place_cmp}
 use Rattle.dms_desc.specs.Keys.{key_of}
 use Rattle.dms_desc.specs.Kinds.{over}
 use Rattle.dms_desc.specs.Lookups.{items_of, structure_of}
@@ -29,10 +29,10 @@ use Rattle.dms_sets.specs.Listing.{places_total, places_same}
 use Rattle.dms_base.specs.declared.kind.ItemKind.{ItemKind}
 use Rattle.dms_desc.specs.Plain.{FitsKind}
 use Rattle.dms_key.specs.KeyBytes.{FitsPart, KeyFits}
-use Rattle.dms_sets.specs.Entries.{kinds_of, IsKey}
+use Rattle.dms_sets.specs.Entries.{kinds_of, IsSetKey}
 use Rattle.dms_sets.specs.Sets.{place_in_entry, number_in, entry_number, entries_of, items_over, kinds_over}
 use Rattle.dms_sets.specs.Owners.{is_of, spot_bytes, EntryFits, AllFit, all_sorted}
-use Rattle.dms_sets.specs.Bounds.{passes, BoundFits, first_member_is}
+use Rattle.dms_sets.specs.Bounds.{passes, BoundKeyFits, first_member_is}
 use Rattle.dms_sets.specs.Lasts.{precedes, last_member_is}
 use Rattle.dms_sets.specs.Tests.{both_of, first_true, second_true, tied}
 
@@ -83,7 +83,7 @@ module _ (s : Shape) (db : Db) (kinds : List ItemKind) (owner : ℕ) where
   back_by true e xs here rest = (here refl, rest)
   back_by false e xs here rest = rest
 
-  all_back : (manual : List Entry) (es : List (Place × Record)) → AllFit kinds s es → AllByRecursion (IsFound (entries db.records)) es → AllByRecursion IsBack (spots_of s manual owner es)
+  all_back : (manual : List SubsetEntry) (es : List (Place × Record)) → AllFit kinds s es → AllByRecursion (IsFound (entries db.records)) es → AllByRecursion IsBack (spots_of s manual owner es)
   all_back manual [] fits found = tt
   all_back manual (e ∷ es) fits found =
       back_by (belongs s manual owner e) e (spots_of s manual owner es) (λ h. back_at e (both_of (over s == e.0.0) _ h).0 fits.0 found.0) (all_back manual es fits.1 found.1)
@@ -111,7 +111,7 @@ module _ (s : Shape) (db : Db) (kinds : List ItemKind) (owner : ℕ) where
 
 -- The first member behind a bound is that of the first entry behind it, where that is the owner's.
 pub first_member_at : (desc : Described) (db : Db) (path : ℕ) (s : Shape) (owner : ℕ) (bound : Bound) → structure_of desc path ≡ Some s → owner < 2 ^ 32 → (s.kind == 5) ≡ false
-    → AllFit (kinds_over desc s) s (entries db.records) → BoundFits (kinds_over desc s) s.parts bound
+    → AllFit (kinds_over desc s) s (entries db.records) → BoundKeyFits (kinds_over desc s) s.parts bound
     → first_member desc db path owner bound ≡ and_then (that_passes (is_of owner) (first (passes (kinds_over desc s) s.parts owner bound) (entries_of desc db s))) (spot_at s db)
 unfolding first_member
 first_member_at desc db path s owner bound has small auto all fits =
@@ -121,7 +121,7 @@ first_member_at desc db path s owner bound has small auto all fits =
 
 -- The last member before a bound is that of the last entry before it, where that is the owner's.
 pub last_member_at : (desc : Described) (db : Db) (path : ℕ) (s : Shape) (owner : ℕ) (bound : Bound) → structure_of desc path ≡ Some s → owner < 2 ^ 32 → (s.kind == 5) ≡ false
-    → AllFit (kinds_over desc s) s (entries db.records) → BoundFits (kinds_over desc s) s.parts bound
+    → AllFit (kinds_over desc s) s (entries db.records) → BoundKeyFits (kinds_over desc s) s.parts bound
     → last_member desc db path owner bound ≡ and_then (that_passes (is_of owner) (last (precedes (kinds_over desc s) s.parts owner bound) (entries_of desc db s))) (spot_at s db)
 unfolding last_member
 last_member_at desc db path s owner bound has small auto all fits =
@@ -157,19 +157,19 @@ key_long [] values = refl
 key_long (p ∷ ps) values = ap suc (key_long ps values)
 
 -- a record's key fits where its values do
-pub key_fits : (items : List Item) (ps : List KeyPart) (values : List Value) → ValuesFit items values → NameItems items ps → IsKey (kinds_of items) ps (key_of ps values)
+pub key_fits : (items : List Item) (ps : List KeyPart) (values : List Value) → ValuesFit items values → NameItems items ps → IsSetKey (kinds_of items) ps (key_of ps values)
 key_fits items ps values fit named = record { fits = values_fit items ps values fit named; whole = key_long ps values }
 
 -- a record of a database whose entries have their places in byte order
-pub record RecordFits (desc : Described) (place : Place) (rec : Record) : Type 0 where
+pub record RecordHasSpot (desc : Described) (place : Place) (rec : Record) : Type 0 where
   pub small : place.1 < 2 ^ 32
   pub owner : rec.owner < 2 ^ 32
   pub values : ValuesFit (items_of (structure_of desc place.0)) rec.values
 
 abbrev pub RecordsFit : Described → Db → Type 0
-RecordsFit desc db = (place : Place) (rec : Record) → get db.records place ≡ Some rec → RecordFits desc place rec
+RecordsFit desc db = (place : Place) (rec : Record) → get db.records place ≡ Some rec → RecordHasSpot desc place rec
 
-entry_fits : (desc : Described) (s : Shape) (e : Place × Record) → NameItems (items_over desc s) s.parts → RecordFits desc e.0 e.1 → EntryFits (kinds_over desc s) s e
+entry_fits : (desc : Described) (s : Shape) (e : Place × Record) → NameItems (items_over desc s) s.parts → RecordHasSpot desc e.0 e.1 → EntryFits (kinds_over desc s) s e
 entry_fits desc s e named f =
     record {
       small = f.small;
@@ -188,12 +188,12 @@ all_fit_in desc db s (e ∷ es) named fits found =
 pub all_fit : (desc : Described) (db : Db) (s : Shape) → NameItems (items_over desc s) s.parts → RecordsFit desc db → AllFit (kinds_over desc s) s (entries db.records)
 all_fit desc db s named fits = all_fit_in desc db s (entries db.records) named fits (all_found (entries db.records) (entries_sorted db.records))
 
-fit_at : (b : Bool) (desc : Described) (db : Db) (k q : Place) (v r : Record) → eq_by_cmp place_cmp q k ≡ b → RecordsFit desc db → RecordFits desc k v → cond b (Some v) (get db.records q) ≡ Some r → RecordFits desc q r
+fit_at : (b : Bool) (desc : Described) (db : Db) (k q : Place) (v r : Record) → eq_by_cmp place_cmp q k ≡ b → RecordsFit desc db → RecordHasSpot desc k v → cond b (Some v) (get db.records q) ≡ Some r → RecordHasSpot desc q r
 fit_at true desc db k q v r e fits new at =
     let same : v ≡ r = cc in
-    subst (λ (p : Place). RecordFits desc p r) (sym (places_same q k (tied (place_cmp q k) e))) (subst (RecordFits desc k) same new)
+    subst (λ (p : Place). RecordHasSpot desc p r) (sym (places_same q k (tied (place_cmp q k) e))) (subst (RecordHasSpot desc k) same new)
 fit_at false desc db k q v r e fits new at = fits q r at
 
 -- and they do after one that fits was put
-pub put_fits : (desc : Described) (db : Db) (k : Place) (v : Record) → RecordsFit desc db → RecordFits desc k v → RecordsFit desc (record db { records = insert db.records k v })
+pub put_fits : (desc : Described) (db : Db) (k : Place) (v : Record) → RecordsFit desc db → RecordHasSpot desc k v → RecordsFit desc (record db { records = insert db.records k v })
 put_fits desc db k v fits new q r at = fit_at (eq_by_cmp place_cmp q k) desc db k q v r refl fits new (sym (get-insert places_total db.records k v q) ∙ at)

@@ -43,7 +43,7 @@ HaveOwnNumbers desc = (j k : ℕ) (s t : Shape) → slice_get desc.structures j 
 
 -- What is told of a change: the old record stands in the database, whose records fit, the new one fits, and the list of each set
 -- over the data set has room for its entry.
-pub record Judged (desc : Described) (db : Db) (set number : ℕ) (old new : Option Record) : Type 0 where
+pub record ChangeStands (desc : Described) (db : Db) (set number : ℕ) (old new : Option Record) : Type 0 where
   pub apart : HaveOwnNumbers desc
   pub named : OfStructures desc (λ s. is_kept s ≡ true → NameItems (items_over desc s) s.parts)
   pub old_is : get db.records (set, number) ≡ old
@@ -68,7 +68,7 @@ pub record KeepsSets (desc : Described) (db : Db) (set number : ℕ) (new : Opti
 
 -- where a database is told
 abbrev pub IfJudged : Described → ℕ → ℕ → Option Record → Option Record → ListsOf → (Db → Type 0) → Type 0
-IfJudged desc set number old new ls P = (db : Db) → Judged desc db set number old new → AreListed desc db ls → P db
+IfJudged desc set number old new ls P = (db : Db) → ChangeStands desc db set number old new → AreListed desc db ls → P db
 
 -- a set over the data set refuses the new record
 abbrev pub is_refused : Described → Db → ℕ → ℕ → Option Record → Option Record → Shape → Bool

@@ -19,17 +19,17 @@ use Rattle.dms_model.specs.Stores.{is_closed}
 use Rattle.dms_ordlist.specs.Lists.{with_in, without_in, padded, first_from}
 use Rattle.dms_sets.specs.declared.answer.SetAnswer.TheVariants.{Done, Duplicate}
 use Rattle.dms_sets.specs.Answers.{clash_seen, closed_is, is_blocked, old_entry}
-use Rattle.dms_sets.specs.Changes.{ListsOf, OneChanged, has_number, OthersStay, is_over, kept, entry_opt, refuses, front_in, is_seen}
+use Rattle.dms_sets.specs.Changes.{ListsOf, OneChanged, has_number, OtherListsStay, is_over, kept, entry_opt, refuses, front_in, is_seen}
 use Rattle.dms_sets.specs.Clashes.{key_front, look}
 use Rattle.dms_sets.specs.Entries.{entry_bytes, kinds_of, whole_width}
-use Rattle.dms_sets.specs.Fronts.{starts}
+use Rattle.dms_sets.specs.Prefixes.{starts}
 use Rattle.dms_sets.specs.Listing.{member_opt, AllPlaces}
-use Rattle.dms_sets.specs.Padded.{IsEntry, entry_width, entries_shaped, all_without, look_is}
+use Rattle.dms_sets.specs.Padded.{IsSetEntry, entry_width, entries_shaped, all_without, look_is}
 use Rattle.dms_sets.specs.Puts.{all_small}
 use Rattle.dms_sets.specs.Sets.{IsSmall, entry_of, entries_of, items_over, kinds_over, entries_changed, entries_left}
 use Rattle.dms_sets.specs.Spots.{ValuesFit, all_fit, key_fits}
 use Rattle.dms_sets.specs.Tests.{both_of}
-use Rattle.dms_sets.specs.Told.{AreListed, Judged, KeepsSets, Upto, answer_of, clash_opt, db_with, is_kept, is_refused}
+use Rattle.dms_sets.specs.Told.{AreListed, ChangeStands, KeepsSets, Upto, answer_of, clash_opt, db_with, is_kept, is_refused}
 
 -- ---- what is over the data set
 
@@ -65,7 +65,7 @@ entries_with : (desc : Described) (db : Db) (s : Shape) (set n : ℕ) (new : Opt
 entries_with desc db s set n None all small = entries_left (kinds_over desc s) s db.records (set, n) all small
 entries_with desc db s set n (Some rec) all small = entries_changed (kinds_over desc s) s db.records (set, n) rec all small
 
-module _ (desc : Described) (db : Db) (set number : ℕ) (old new : Option Record) (judged : Judged desc db set number old new) where
+module _ (desc : Described) (db : Db) (set number : ℕ) (old new : Option Record) (judged : ChangeStands desc db set number old new) where
   places : (k : ℕ) (s : Shape) → slice_get desc.structures k ≡ Some s → is_kept s ≡ true → AllPlaces IsSmall (entries db.records)
   places k s at kept = all_small (kinds_over desc s) s (entries db.records) (all_fit desc db s (judged.named k s at kept) judged.records)
 
@@ -92,7 +92,7 @@ regrouped : (o d t b : Bool) → (o && ((d && t) && b)) ≡ (((o && d) && t) && 
 regrouped true d t b = refl
 regrouped false d t b = refl
 
-module _ (desc : Described) (db : Db) (set number : ℕ) (old : Option Record) (rec : Record) (judged : Judged desc db set number old (Some rec)) where
+module _ (desc : Described) (db : Db) (set number : ℕ) (old : Option Record) (rec : Record) (judged : ChangeStands desc db set number old (Some rec)) where
   seen_is : (k : ℕ) (s : Shape) → slice_get desc.structures k ≡ Some s → is_over s set ≡ true
       → is_seen (kinds_over desc s) s rec (without_in (entry_opt (kinds_over desc s) s number old) (entries_of desc db s)) ≡ is_blocked desc s db set (Some number) rec
   seen_is k s at h =
@@ -107,7 +107,7 @@ module _ (desc : Described) (db : Db) (set number : ℕ) (old : Option Record) (
       let xs = without_in (old_entry kinds s db.records set (Some number)) (entries_of desc db s) in
       let gone : entry_opt kinds s number old ≡ old_entry kinds s db.records set (Some number) =
       sym (ap (member_opt (entry_of kinds s) (set, number)) judged.old_is ∙ member_here kinds s set number old same) in
-      let shaped = all_without (IsEntry w) (old_entry kinds s db.records set (Some number)) (entries_of desc db s) (entries_shaped desc db s (all_fit desc db s named judged.records)) in
+      let shaped = all_without (IsSetEntry w) (old_entry kinds s db.records set (Some number)) (entries_of desc db s) (entries_shaped desc db s (all_fit desc db s named judged.records)) in
       let key = whole_width kinds s.parts (key_of s.parts rec.values) fit in
       let whole = length-append (to_be_bytes w32 rec.owner) (key_bytes kinds s.parts (key_of s.parts rec.values)) in
       let short : length p ≤ 4 + (w + 4) = subst (λ (q : List ℕ). length q ≤ 4 + (w + 4)) (sym is) (omega (arith, key, whole)) in
@@ -158,7 +158,7 @@ found_low (t ∷ ss) (suc j) s at = omega (arith, found_low ss j s at)
 some_one : (x y : Shape) → ◌≡◌ {A = Option Shape} (Some x) (Some y) → x ≡ y
 some_one x y h = cc
 
-module _ (desc : Described) (db : Db) (set number : ℕ) (old new : Option Record) (judged : Judged desc db set number old new) where
+module _ (desc : Described) (db : Db) (set number : ℕ) (old new : Option Record) (judged : ChangeStands desc db set number old new) where
   pub upto_none : (a : ListsOf) → AreListed desc db a → Upto desc db set number old new 0 a
   upto_none a are = record { done = λ j s lt at kept. absurd (omega (arith, lt)); left = λ j s le at kept. are j s at kept; none = λ j s lt at. absurd (omega (arith, lt)) }
 
@@ -190,7 +190,7 @@ module _ (desc : Described) (db : Db) (set number : ℕ) (old new : Option Recor
   -- one that is over it is changed
   pub upto_step : (k : ℕ) (s : Shape) (a b : ListsOf) → slice_get desc.structures k ≡ Some s → is_over s set ≡ true
       → ((xs : List (List ℕ)) → kept a (kinds_over desc s) s ≡ Some xs → OneChanged (kinds_over desc s) s number old new xs (kept b (kinds_over desc s) s) false)
-      → OthersStay s a b → Upto desc db set number old new k a → Upto desc db set number old new (k + 1) b
+      → OtherListsStay s a b → Upto desc db set number old new k a → Upto desc db set number old new (k + 1) b
   upto_step k s a b at h changed others u =
       let one = changed (entries_of desc db s) (u.left k s (omega arith) at (over_kept s set h)) in
       let here : kept b (kinds_over desc s) s ≡ Some (entries_of desc (db_with db set number new) s) = one.done refl (judged.room k s at h) ∙ ap Some (sym (entries_here desc db set number old new judged k s at h)) in
@@ -208,12 +208,12 @@ module _ (desc : Described) (db : Db) (set number : ℕ) (old new : Option Recor
       }
 
 -- all are changed
-no_clash : (desc : Described) (db : Db) (set number : ℕ) (old new : Option Record) → Judged desc db set number old new → (now : ListsOf) → Upto desc db set number old new (length desc.structures) now → clash_opt desc db set number new ≡ None
+no_clash : (desc : Described) (db : Db) (set number : ℕ) (old new : Option Record) → ChangeStands desc db set number old new → (now : ListsOf) → Upto desc db set number old new (length desc.structures) now → clash_opt desc db set number new ≡ None
 no_clash desc db set number old None judged now u = refl
 no_clash desc db set number old (Some rec) judged now u =
     clash_none desc db set (Some number) rec desc.structures (λ j s lt at. sym (refused_is desc db set number old rec judged j s at) ∙ u.none j s lt at)
 
-pub upto_end : (desc : Described) (db : Db) (set number : ℕ) (old new : Option Record) → Judged desc db set number old new → (now : ListsOf) → Upto desc db set number old new (length desc.structures) now → KeepsSets desc db set number new now Done
+pub upto_end : (desc : Described) (db : Db) (set number : ℕ) (old new : Option Record) → ChangeStands desc db set number old new → (now : ListsOf) → Upto desc db set number old new (length desc.structures) now → KeepsSets desc db set number new now Done
 upto_end desc db set number old new judged now u =
     record {
       answer_is = ap answer_of (sym (no_clash desc db set number old new judged now u));
@@ -221,7 +221,7 @@ upto_end desc db set number old new judged now u =
     }
 
 -- one refuses
-clash_here : (desc : Described) (db : Db) (set number : ℕ) (old new : Option Record) → Judged desc db set number old new → (k : ℕ) (s : Shape) (now : ListsOf) → slice_get desc.structures k ≡ Some s → is_over s set ≡ true
+clash_here : (desc : Described) (db : Db) (set number : ℕ) (old new : Option Record) → ChangeStands desc db set number old new → (k : ℕ) (s : Shape) (now : ListsOf) → slice_get desc.structures k ≡ Some s → is_over s set ≡ true
     → true ≡ refuses (kinds_over desc s) s new (without_in (entry_opt (kinds_over desc s) s number old) (entries_of desc db s))
     → Upto desc db set number old new k now → clash_opt desc db set number new ≡ Some s.number
 clash_here desc db set number old None judged k s now at h refused u = absurd (cc)
@@ -230,7 +230,7 @@ clash_here desc db set number old (Some rec) judged k s now at h refused u =
     (sym (refused_is desc db set number old rec judged k s at) ∙ ap (λ b. b && refuses (kinds_over desc s) s (Some rec) (without_in (entry_opt (kinds_over desc s) s number old) (entries_of desc db s))) h ∙ sym refused)
     (λ j t lt is. sym (refused_is desc db set number old rec judged j t is) ∙ u.none j t lt is)
 
-pub upto_refused : (desc : Described) (db : Db) (set number : ℕ) (old new : Option Record) → Judged desc db set number old new → (k : ℕ) (s : Shape) (a b : ListsOf) → slice_get desc.structures k ≡ Some s → is_over s set ≡ true
+pub upto_refused : (desc : Described) (db : Db) (set number : ℕ) (old new : Option Record) → ChangeStands desc db set number old new → (k : ℕ) (s : Shape) (a b : ListsOf) → slice_get desc.structures k ≡ Some s → is_over s set ≡ true
     → ((xs : List (List ℕ)) → kept a (kinds_over desc s) s ≡ Some xs → OneChanged (kinds_over desc s) s number old new xs (kept b (kinds_over desc s) s) true)
     → Upto desc db set number old new k a → KeepsSets desc db set number new b (Duplicate s.number)
 upto_refused desc db set number old new judged k s a b at h changed u =

@@ -3,7 +3,7 @@ ghost use Rattle.std.specs.declared.option.Option.{Option};
 ghost use Rattle.dms_block.specs.declared.block_fault.BlockFault.{BlockFault as Fault};
 ghost use Rattle.dms_block.specs.declared.block_fault.BlockFault.TheVariants.{Memory};
 ghost use Rattle.dms_ordlist.specs.Lists.{with_entry, without, has_entry, first_from, last_to};
-ghost use Rattle.dms_sets.specs.Changes.{Whole, OnlyList, OnlyRoomy, IfListed};
+ghost use Rattle.dms_sets.specs.Changes.{IsEntryWidth, OnlyList, OnlyRoomy, IfListed};
 
 use dms_base::Bytes;
 use dms_block::BlockFault;
@@ -34,7 +34,7 @@ pub trait Lists {
     /// one more entry.
     fn insert(&mut self, alloc: Global, structure: u16, entry: &[u8]) -> Result<bool, BlockFault>
         requires usable { usable self.old structure }
-        requires width { Whole (length entry.now) }
+        requires width { IsEntryWidth (length entry.now) }
         ensures answer { IfOk result (λ b. IfListed (listed self.old structure (length entry.now)) (λ xs. b ≡ not (has_entry entry.now xs))) }
         ensures list { OnOk result (OnlyRoomy (with_entry entry.now) structure (length entry.now) (listed self.old) (listed self.new)) }
         ensures usable { OnOk result ((n : ℕ) → usable self.old n → usable self.new n) }
@@ -45,7 +45,7 @@ pub trait Lists {
     /// Takes an entry out: false where it doesn't stand there.
     fn remove(&mut self, alloc: Global, structure: u16, entry: &[u8]) -> Result<bool, BlockFault>
         requires usable { usable self.old structure }
-        requires width { Whole (length entry.now) }
+        requires width { IsEntryWidth (length entry.now) }
         ensures answer { IfOk result (λ b. IfListed (listed self.old structure (length entry.now)) (λ xs. b ≡ has_entry entry.now xs)) }
         ensures list { OnOk result (OnlyList (without entry.now) structure (length entry.now) (listed self.old) (listed self.new)) }
         ensures usable { OnOk result ((n : ℕ) → usable self.old n → usable self.new n) }
@@ -61,7 +61,7 @@ pub trait Lists {
         from: &[u8],
     ) -> Result<Option<Bytes>, BlockFault>
         requires usable { usable self.old structure }
-        requires width { Whole (length from.now) }
+        requires width { IsEntryWidth (length from.now) }
         ensures found { IfOk result (λ o. IfListed (listed self.old structure (length from.now)) (λ xs. o ≡ first_from (Some from.now) xs)) }
         ensures list { OnOk result (listed self.new ≡ listed self.old) }
         ensures usable { OnOk result ((n : ℕ) → usable self.old n → usable self.new n) }
@@ -77,7 +77,7 @@ pub trait Lists {
         to: &[u8],
     ) -> Result<Option<Bytes>, BlockFault>
         requires usable { usable self.old structure }
-        requires width { Whole (length to.now) }
+        requires width { IsEntryWidth (length to.now) }
         ensures found { IfOk result (λ o. IfListed (listed self.old structure (length to.now)) (λ xs. o ≡ last_to (Some to.now) xs)) }
         ensures list { OnOk result (listed self.new ≡ listed self.old) }
         ensures usable { OnOk result ((n : ℕ) → usable self.old n → usable self.new n) }

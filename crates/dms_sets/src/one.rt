@@ -2,8 +2,8 @@ ghost use Rattle.std.specs.Prelude.{◌≡◌, ◌==◌, ◌++◌, ◌∷◌, []
 ghost use Rattle.std.specs.Option.{option_copied};
 ghost use Rattle.dms_desc.specs.Shape.{shape_of};
 ghost use Rattle.dms_ordlist.specs.Lists.{with_in, without_in};
-ghost use Rattle.dms_sets.specs.Changes.{Changes, Enters, IfListed, ListChanged, ListGrown, OthersStay, HasEntry, OptHasEntry, entry_in, entry_opt, is_seen, kept, refuses};
-ghost use Rattle.dms_sets.specs.Fronts.{starts};
+ghost use Rattle.dms_sets.specs.Changes.{ChangesSet, Enters, IfListed, ListChanged, ListGrown, OtherListsStay, HasEntry, OptHasEntry, entry_in, entry_opt, is_seen, kept, refuses};
+ghost use Rattle.dms_sets.specs.Prefixes.{starts};
 
 use crate::Lists;
 use crate::entry::{entry, front, takes};
@@ -12,14 +12,14 @@ use dms_block::BlockFault;
 use dms_desc::{Record, Structure};
 use std::alloc::Global;
 
-// Whether bytes begin with a front.
+// Whether bytes begin with a prefix.
 fn starts(front: &[u8], bytes: &[u8]) -> bool
     ensures { result ≡ starts front.now bytes.now }
 {
     bytes.starts_with(front)
 }
 
-// A front, and zeros for the record's number.
+// A prefix, and zeros for the record's number.
 fn bound(alloc: Global, front: &Bytes) -> Result<Bytes, Memory>
     ensures { IfOk result (λ b. b ≡ front.now ++ 0 ∷ 0 ∷ 0 ∷ 0 ∷ []) }
 {
@@ -157,7 +157,7 @@ fn put_new<L: Lists>(
     requires usable { L.usable lists.old s.now.number }
     requires fits { HasEntry kinds.now (shape_of s.now) rec.now.values }
     ensures entered { IfOk result (λ refused. Enters kinds.now (shape_of s.now) number (Some rec.now) (L.listed lists.old) (L.listed lists.new) refused) }
-    ensures others { OnOk result (OthersStay (shape_of s.now) (L.listed lists.old) (L.listed lists.new)) }
+    ensures others { OnOk result (OtherListsStay (shape_of s.now) (L.listed lists.old) (L.listed lists.new)) }
     ensures usable { OnOk result ((n : ℕ) → L.usable lists.old n → L.usable lists.new n) }
     ensures calm { OnOk result (L.calm (λ m. m == s.now.number) 2 lists.old lists.new) }
     ensures fails { IfErr result (λ e. L.fails e 2 lists.old lists.new) }
@@ -182,7 +182,7 @@ fn enter<L: Lists>(
     requires usable { L.usable lists.old s.now.number }
     requires fits { OptHasEntry kinds.now (shape_of s.now) (option_copied new) }
     ensures entered { IfOk result (λ refused. Enters kinds.now (shape_of s.now) number (option_copied new.entry) (L.listed lists.old) (L.listed lists.new) refused) }
-    ensures others { OnOk result (OthersStay (shape_of s.now) (L.listed lists.old) (L.listed lists.new)) }
+    ensures others { OnOk result (OtherListsStay (shape_of s.now) (L.listed lists.old) (L.listed lists.new)) }
     ensures usable { OnOk result ((n : ℕ) → L.usable lists.old n → L.usable lists.new n) }
     ensures calm { OnOk result (L.calm (λ m. m == s.now.number) 2 lists.old lists.new) }
     ensures fails { IfErr result (λ e. L.fails e 2 lists.old lists.new) }
@@ -207,9 +207,9 @@ pub fn change_one<L: Lists>(
     requires usable { L.usable lists.old s.now.number }
     requires old { OptHasEntry kinds.now (shape_of s.now) (option_copied old) }
     requires new { OptHasEntry kinds.now (shape_of s.now) (option_copied new) }
-    ensures changed { IfOk result (λ refused. Changes kinds.now (shape_of s.now) number (option_copied old.entry) (option_copied new.entry)
+    ensures changed { IfOk result (λ refused. ChangesSet kinds.now (shape_of s.now) number (option_copied old.entry) (option_copied new.entry)
         (L.listed lists.old) (L.listed lists.new) refused) }
-    ensures others { OnOk result (OthersStay (shape_of s.now) (L.listed lists.old) (L.listed lists.new)) }
+    ensures others { OnOk result (OtherListsStay (shape_of s.now) (L.listed lists.old) (L.listed lists.new)) }
     ensures usable { OnOk result ((n : ℕ) → L.usable lists.old n → L.usable lists.new n) }
     ensures calm { OnOk result (L.calm (λ m. m == s.now.number) 3 lists.old lists.new) }
     ensures fails { IfErr result (λ e. L.fails e 3 lists.old lists.new) }

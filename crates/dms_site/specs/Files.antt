@@ -55,7 +55,7 @@ pub record OnDisk (f : ℕ) (step : List ℕ → List ℕ → Type 0) (old new :
   pub said : new.said ≡ old.said
 
 -- some of these bytes were printed, from the first on, and the files stay
-pub record Prints (bytes : List ℕ) (old new : Left) : Type 0 where
+pub record PrintsPartOf (bytes : List ℕ) (old new : Left) : Type 0 where
   pub files : new.files ≡ old.files
   pub some : ℕ
   pub said : new.said ≡ old.said ++ take some bytes

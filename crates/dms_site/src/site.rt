@@ -1,7 +1,7 @@
 ghost use Rattle.std.specs.Prelude.{◌≡◌, ◌+◌, ◌^◌, ◌<◌, ◌≤◌, ℕ, Bool, List, ◌++◌, length, take, drop, IfOk, OnOk, IsTrue};
 ghost use Rattle.dms_base.specs.Causes.{HasCause};
 ghost use Rattle.dms_moments.specs.Moments.{Clock, Now, Steps};
-ghost use Rattle.dms_site.specs.Files.{Files, Left, with_file, range, overlaid, InFile, Torn, Cut, OnDisk, Prints, Same, Only, IsLastPresent};
+ghost use Rattle.dms_site.specs.Files.{Files, Left, with_file, range, overlaid, InFile, Torn, Cut, OnDisk, PrintsPartOf, Same, Only, IsLastPresent};
 
 /// A call of the outside failed.
 #[derive(Clone, Copy, Debug, PartialEq, Eq)]
@@ -112,7 +112,7 @@ pub trait Site {
         ensures some_said { IsTrue tells_said → (k : ℕ) × (said self.new ≡ said self.old ++ take k bytes.now) }
         ensures files { IsTrue tells → files self.new ≡ files self.old }
         ensures same_site { same_site self.old self.new }
-        ensures moments { Steps (Prints bytes.now) (clock self.old) (clock self.new) }
+        ensures moments { Steps (PrintsPartOf bytes.now) (clock self.old) (clock self.new) }
         ensures faults { HasCause (say_faults self.old) (say_faults self.new) result }
         ensures disk_faults { disk_faults self.new ≡ disk_faults self.old };
 

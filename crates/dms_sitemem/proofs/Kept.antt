@@ -5,7 +5,7 @@ use Rattle.std.proofs.lemmas.List.{take_all, append-nil}
 use Rattle.std.proofs.lemmas.Bool.{false≢true}
 use Rattle.std.proofs.lemmas.Bool.Decides.{nat_tests}
 use Rattle.dms_moments.specs.Moments.{Steps}
-use Rattle.dms_site.specs.Files.{Files, Left, with_file, overlaid, InFile, Torn, Cut, OnDisk, Prints, Only}
+use Rattle.dms_site.specs.Files.{Files, Left, with_file, overlaid, InFile, Torn, Cut, OnDisk, PrintsPartOf, Only}
 use Rattle.dms_site.specs.Laws.{torn_overlaid, torn_refl, in_file_with, in_file_same}
 use Rattle.dms_sitemem.specs.declared.event.Event.{Event}
 use Rattle.dms_sitemem.specs.declared.event.Event.TheVariants.{Looked, Wrote, Shortened, Synced, Said, Replaced, Recalled}
@@ -64,7 +64,7 @@ same_steps events all step is refls = subst (λ l. Steps step (clock_of events) 
 pub disk_same : (f : ℕ) (step : List ℕ → List ℕ → Type 0) → ((l : List ℕ) → step l l) → (x : Left) → OnDisk f step x x
 disk_same f step refls x = record { files = in_file_same f step x.files (refls (x.files f)); said = refl }
 
-pub prints_none : (bytes : List ℕ) (x : Left) → Prints bytes x x
+pub prints_none : (bytes : List ℕ) (x : Left) → PrintsPartOf bytes x x
 prints_none bytes x = record { files = refl; some = 0; said = sym (append-nil x.said) }
 
 -- one more write
@@ -102,8 +102,8 @@ say_some false v bytes old new same is = (0, is ∙ sym (append-nil old))
 pub say_none : (bytes old new : List ℕ) → new ≡ old → (k : ℕ) × (new ≡ old ++ take k bytes)
 say_none bytes old new is = (0, is ∙ sym (append-nil old))
 
-pub say_steps : (events all : List Event) (v : Vec ℕ Global) (ok : Bool) (bytes : List ℕ) → v.items ≡ bytes → More events (Said v ok) all → Steps (Prints bytes) (clock_of events) (clock_of all)
-say_steps events all v ok bytes is more = subst (λ (l : List ℕ). Steps (Prints l) (clock_of events) (clock_of all)) is (more_steps events all _ _ more (say_leads (state_of events) v ok))
+pub say_steps : (events all : List Event) (v : Vec ℕ Global) (ok : Bool) (bytes : List ℕ) → v.items ≡ bytes → More events (Said v ok) all → Steps (PrintsPartOf bytes) (clock_of events) (clock_of all)
+say_steps events all v ok bytes is more = subst (λ (l : List ℕ). Steps (PrintsPartOf l) (clock_of events) (clock_of all)) is (more_steps events all _ _ more (say_leads (state_of events) v ok))
 
 pub sync_only : (events all : List Event) (ok : Bool) (old : Files) → More events (Synced ok) all → old ≡ (state_of events).files → IsTrue ok → Only old (clock_of all)
 sync_only events all true old more was yes' x now = subst (λ (l : List Event). Only (state_of events).files (clock_of l)) (sym more) (synced_only events) x now ∙ sym was

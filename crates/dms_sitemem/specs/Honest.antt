@@ -4,13 +4,13 @@ use Rattle.std.specs.declared.alloc.Global.{Global}
 use Rattle.std.proofs.lemmas.List.{take_all, take-append-le, append-nil, length-replicate}
 use Rattle.std.proofs.lemmas.Bool.{cases_lt}
 use Rattle.dms_moments.specs.Moments.{Clock, Now, Runs, After, Steps}
-use Rattle.dms_site.specs.Files.{Files, Left, with_file, overlaid, InFile, Torn, Cut, OnDisk, Prints, Same, Only}
+use Rattle.dms_site.specs.Files.{Files, Left, with_file, overlaid, InFile, Torn, Cut, OnDisk, PrintsPartOf, Same, Only}
 use Rattle.dms_site.specs.Laws.{torn_overlaid, torn_refl, in_file_with, in_file_same}
 use Rattle.dms_sitemem.specs.declared.event.Event.{Event}
 use Rattle.dms_sitemem.specs.declared.event.Event.TheVariants.{Looked, Wrote, Shortened, Synced, Said, Replaced, Recalled}
 use Rattle.dms_sitemem.specs.declared.pick.Fill.{Fill}
 use Rattle.dms_sitemem.specs.declared.pick.Fill.TheVariants.{Old, New, Sevens, Drawn}
-use Rattle.dms_sitemem.specs.Replay.{Takes, Reaches, State, empty, MayLeave, after, run, state_of, LeftSince, clock_of}
+use Rattle.dms_sitemem.specs.Replay.{EventMayMake, Reaches, State, empty, MayLeave, after, run, state_of, LeftSince, clock_of}
 use Rattle.dms_sitemem.specs.Picks.{drawn, start_of, count_of, marked, Struck, struck, fill_of, cuts_of, picked}
 
 run_push : (events : List Event) (event : Event) (s : State) → run (events ++ event ∷ []) s ≡ after event (run events s)
@@ -124,7 +124,7 @@ module _ (s : State) where
   sync_leads false x (inl now, said) = (x, (inl now, said), refl)
   sync_leads false x (inr reached, said) = (x, (inr (passed x.files reached), said), refl)
 
-  pub say_leads : (bytes : Vec ℕ Global) (ok : Bool) (x : Left) → MayLeave (after (Said bytes ok) s) x → (y : Left) × MayLeave s y × Prints bytes.items y x
+  pub say_leads : (bytes : Vec ℕ Global) (ok : Bool) (x : Left) → MayLeave (after (Said bytes ok) s) x → (y : Left) × MayLeave s y × PrintsPartOf bytes.items y x
   say_leads bytes true x (from, said) = (
     record { files = x.files; said = s.said },
     (⊎_elim (λ now. inl now) (λ reached. inr (passed x.files reached)) from, refl),
@@ -183,7 +183,7 @@ marked_torn New seed at bytes file = torn_overlaid at bytes file
 marked_torn Sevens seed at bytes file = torn_gap at bytes _ file (length-replicate (count_of at bytes file) 7)
 marked_torn Drawn seed at bytes file = torn_gap at bytes _ file (length-drawn (count_of at bytes file) seed)
 
-strikes : (fill : Fill) (cuts : Bool) (event : Event) (s : Struck) → Takes event s.files (struck fill cuts event s).files
+strikes : (fill : Fill) (cuts : Bool) (event : Event) (s : Struck) → EventMayMake event s.files (struck fill cuts event s).files
 strikes fill cuts (Looked ok) s = refl
 strikes fill cuts (Wrote f at bytes ok) s = in_file_with f _ s.files _ (marked_torn fill s.seed at bytes.items (s.files f))
 strikes fill true (Shortened f len ok) s = in_file_with f _ s.files _ (inr refl)

@@ -6,8 +6,8 @@ use Rattle.dms_sitemem.specs.declared.event.Event.{Event}
 use Rattle.dms_sitemem.specs.declared.event.Event.TheVariants.{Looked, Wrote, Shortened, Synced, Said}
 
 -- an event keeps this call, with its success
-abbrev pub IsLook : Bool → Event → Type 0
-IsLook done event = event ≡ Looked done
+abbrev pub IsLookEvent : Bool → Event → Type 0
+IsLookEvent done event = event ≡ Looked done
 
 abbrev pub IsWrite : ℕ → ℕ → List ℕ → Bool → Event → Type 0
 IsWrite file at bytes done event = (v : Vec ℕ Global) × (v.items ≡ bytes) × (event ≡ Wrote file at v done)
@@ -26,9 +26,9 @@ abbrev pub OneMore : (Bool → Event → Type 0) → Bool → List Event → Lis
 OneMore is done old new = (event : Event) × is done event × (new ≡ old ++ event ∷ [])
 
 -- the journal keeps one event more, or none where memory is refused
-abbrev pub Kept : {E : Type 0} → (Bool → Event → Type 0) → List Event → List Event → Result Bool E → Type 0
-Kept is old new (Ok done) = OneMore is done old new
-Kept is old new (Err e) = new ≡ old
+abbrev pub KeepsEvent : {E : Type 0} → (Bool → Event → Type 0) → List Event → List Event → Result Bool E → Type 0
+KeepsEvent is old new (Ok done) = OneMore is done old new
+KeepsEvent is old new (Err e) = new ≡ old
 
 -- the same by what the site answers: a call that answered was kept as one that succeeded, and one that failed as one that
 -- failed, or not at all where memory is refused

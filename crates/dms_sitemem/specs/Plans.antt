@@ -27,7 +27,7 @@ Failing (Err e) = ⊤
 
 -- How a call ends. It is the next one: made counts the calls before it, and then those with it.
 -- Named calls fail. Another one fails only where memory was refused, which is counted, and then the call may not be numbered.
-pub record Ends {T E : Type 0} (plan : Plan) (made made' refused refused' : ℕ) (result : Result T E) : Type 0 where
+pub record EndsByPlan {T E : Type 0} (plan : Plan) (made made' refused refused' : ℕ) (result : Result T E) : Type 0 where
   pub named : IsTrue (is_named plan (made + 1)) → IsErr result
   pub cause : OnErr result (IsTrue (is_named plan (made + 1)) ⊎ Rose refused refused')
   pub later : refused ≤ refused'

@@ -8,19 +8,19 @@ use Rattle.dms_sitemem.specs.Events.{files_after, said_after, is_sync}
 
 -- What a stop may make of the files where this event isn't followed by a sync.
 -- A write may leave any bytes in its range and past the old end, whether it succeeded or not, and a cut may have happened or not.
-abbrev pub Takes : Event → Files → Files → Type 0
-Takes (Looked ok) old new = new ≡ old
-Takes (Wrote f at bytes ok) old new = InFile f (Torn at (length bytes.items)) old new
-Takes (Shortened f len ok) old new = InFile f (Cut len) old new
-Takes (Synced ok) old new = new ≡ old
-Takes (Said bytes ok) old new = new ≡ old
-Takes (Replaced f bytes) old new = new ≡ with_file old f bytes.items
-Takes (Recalled bytes) old new = new ≡ old
+abbrev pub EventMayMake : Event → Files → Files → Type 0
+EventMayMake (Looked ok) old new = new ≡ old
+EventMayMake (Wrote f at bytes ok) old new = InFile f (Torn at (length bytes.items)) old new
+EventMayMake (Shortened f len ok) old new = InFile f (Cut len) old new
+EventMayMake (Synced ok) old new = new ≡ old
+EventMayMake (Said bytes ok) old new = new ≡ old
+EventMayMake (Replaced f bytes) old new = new ≡ with_file old f bytes.items
+EventMayMake (Recalled bytes) old new = new ≡ old
 
 -- from the files at the last sync through the events since, of which the newest comes first
 abbrev pub Reaches : Files → List Event → Files → Type 0
 Reaches stable [] files = files ≡ stable
-Reaches stable (event ∷ earlier) files = (before : Files) × Reaches stable earlier before × Takes event before files
+Reaches stable (event ∷ earlier) files = (before : Files) × Reaches stable earlier before × EventMayMake event before files
 
 -- what is read, the files at the last sync that succeeded, the events since with the newest first, and the text
 pub record State : Type 0 where

@@ -1,7 +1,7 @@
 ghost use Rattle.std.specs.Prelude.{◌≡◌, ◌+◌, ℕ, List, ◌++◌, not, length, take, OnOk, OnErr, IfOk, IsTrue};
 ghost use Rattle.dms_moments.specs.Moments.{Steps};
-ghost use Rattle.dms_site.specs.Files.{with_file, overlaid, InFile, Torn, Cut, OnDisk, Prints, Same, Only};
-ghost use Rattle.dms_sitemem.specs.Keeping.{Kept, IsLook, IsWrite, IsCut, IsSync, IsSaying};
+ghost use Rattle.dms_site.specs.Files.{with_file, overlaid, InFile, Torn, Cut, OnDisk, PrintsPartOf, Same, Only};
+ghost use Rattle.dms_sitemem.specs.Keeping.{KeepsEvent, IsLookEvent, IsWrite, IsCut, IsSync, IsSaying};
 ghost use Rattle.dms_sitemem.specs.Slots.{files_of};
 ghost use Rattle.dms_sitemem.specs.Plans.{is_named};
 ghost use Rattle.dms_sitemem.specs.Replay.{clock_of};
@@ -24,7 +24,7 @@ impl Journal {
         ensures files { files_of self.new.image.files ≡ files_of self.old.image.files }
         ensures said { self.new.image.said.items ≡ self.old.image.said.items }
         ensures moments { Steps Same (clock_of self.old.events.items) (clock_of self.new.events.items) }
-        ensures kept { Kept IsLook self.old.events.items self.new.events.items result }
+        ensures kept { KeepsEvent IsLookEvent self.old.events.items self.new.events.items result }
         ensures made { OnOk result (self.new.made ≡ self.old.made + 1) }
         ensures unmade { OnErr result (self.new.made ≡ self.old.made) }
         ensures plan { self.new.plan ≡ self.old.plan }
@@ -41,7 +41,7 @@ impl Journal {
         ensures torn { InFile file (Torn at (length bytes.now)) (files_of self.old.image.files) (files_of self.new.image.files) }
         ensures said { self.new.image.said.items ≡ self.old.image.said.items }
         ensures moments { Steps (OnDisk file (Torn at (length bytes.now))) (clock_of self.old.events.items) (clock_of self.new.events.items) }
-        ensures kept { Kept (IsWrite file at bytes.now) self.old.events.items self.new.events.items result }
+        ensures kept { KeepsEvent (IsWrite file at bytes.now) self.old.events.items self.new.events.items result }
         ensures made { OnOk result (self.new.made ≡ self.old.made + 1) }
         ensures unmade { OnErr result (self.new.made ≡ self.old.made) }
         ensures plan { self.new.plan ≡ self.old.plan }
@@ -59,7 +59,7 @@ impl Journal {
         ensures torn { InFile file (Cut len) (files_of self.old.image.files) (files_of self.new.image.files) }
         ensures said { self.new.image.said.items ≡ self.old.image.said.items }
         ensures moments { Steps (OnDisk file (Cut len)) (clock_of self.old.events.items) (clock_of self.new.events.items) }
-        ensures kept { Kept (IsCut file len) self.old.events.items self.new.events.items result }
+        ensures kept { KeepsEvent (IsCut file len) self.old.events.items self.new.events.items result }
         ensures made { OnOk result (self.new.made ≡ self.old.made + 1) }
         ensures unmade { OnErr result (self.new.made ≡ self.old.made) }
         ensures plan { self.new.plan ≡ self.old.plan }
@@ -76,7 +76,7 @@ impl Journal {
         ensures files { files_of self.new.image.files ≡ files_of self.old.image.files }
         ensures said { self.new.image.said.items ≡ self.old.image.said.items }
         ensures moments { Steps Same (clock_of self.old.events.items) (clock_of self.new.events.items) }
-        ensures kept { Kept IsSync self.old.events.items self.new.events.items result }
+        ensures kept { KeepsEvent IsSync self.old.events.items self.new.events.items result }
         ensures made { OnOk result (self.new.made ≡ self.old.made + 1) }
         ensures unmade { OnErr result (self.new.made ≡ self.old.made) }
         ensures plan { self.new.plan ≡ self.old.plan }
@@ -92,8 +92,8 @@ impl Journal {
         ensures said { IfOk result (λ done. IsTrue done → self.new.image.said.items ≡ self.old.image.said.items ++ bytes.now) }
         ensures some_said { (k : ℕ) × (self.new.image.said.items ≡ self.old.image.said.items ++ take k bytes.now) }
         ensures files { files_of self.new.image.files ≡ files_of self.old.image.files }
-        ensures moments { Steps (Prints bytes.now) (clock_of self.old.events.items) (clock_of self.new.events.items) }
-        ensures kept { Kept (IsSaying bytes.now) self.old.events.items self.new.events.items result }
+        ensures moments { Steps (PrintsPartOf bytes.now) (clock_of self.old.events.items) (clock_of self.new.events.items) }
+        ensures kept { KeepsEvent (IsSaying bytes.now) self.old.events.items self.new.events.items result }
         ensures made { OnOk result (self.new.made ≡ self.old.made + 1) }
         ensures unmade { OnErr result (self.new.made ≡ self.old.made) }
         ensures plan { self.new.plan ≡ self.old.plan }

@@ -1,10 +1,10 @@
 ghost use Rattle.std.specs.Prelude.{◌≡◌, ◌+◌, ◌-◌, ◌^◌, ◌<◌, ◌≤◌, ℕ, List, [], ◌++◌, true, None, length, take, drop, min, nat_lt, if◌then◌else◌, IfOk, OnOk, OnErr, IsTrue};
 ghost use Rattle.dms_base.specs.Causes.{HasCause};
 ghost use Rattle.dms_moments.specs.Moments.{Steps};
-ghost use Rattle.dms_site.specs.Files.{Left, with_file, range, overlaid, InFile, Torn, Cut, OnDisk, Prints, Same, Only, IsLastPresent};
-ghost use Rattle.dms_sitemem.specs.Keeping.{KeptCall, IsLook, IsWrite, IsCut, IsSync, IsSaying};
+ghost use Rattle.dms_site.specs.Files.{Left, with_file, range, overlaid, InFile, Torn, Cut, OnDisk, PrintsPartOf, Same, Only, IsLastPresent};
+ghost use Rattle.dms_sitemem.specs.Keeping.{KeptCall, IsLookEvent, IsWrite, IsCut, IsSync, IsSaying};
 ghost use Rattle.dms_sitemem.specs.Slots.{files_of};
-ghost use Rattle.dms_sitemem.specs.Plans.{Ends};
+ghost use Rattle.dms_sitemem.specs.Plans.{EndsByPlan};
 ghost use Rattle.dms_sitemem.specs.Events.{through};
 ghost use Rattle.dms_sitemem.specs.Picks.{Struck, picked_after};
 ghost use Rattle.dms_sitemem.specs.Replay.{State, MayLeave, state_of, clock_of};
@@ -170,8 +170,8 @@ impl Site for MemSite {
         ensures moments { Steps Same (clock_of self.old.journal.events.items) (clock_of self.new.journal.events.items) }
         ensures faults { HasCause self.old.tally.disk_faults self.new.tally.disk_faults result }
         ensures say_faults { self.new.tally.say_faults ≡ self.old.tally.say_faults }
-        ensures kept { KeptCall IsLook self.old.journal.events.items self.new.journal.events.items result }
-        ensures ends { Ends self.old.journal.plan self.old.journal.made self.new.journal.made self.old.tally.refused self.new.tally.refused result }
+        ensures kept { KeptCall IsLookEvent self.old.journal.events.items self.new.journal.events.items result }
+        ensures ends { EndsByPlan self.old.journal.plan self.old.journal.made self.new.journal.made self.old.tally.refused self.new.tally.refused result }
         ensures plan { self.new.journal.plan ≡ self.old.journal.plan }
         ensures given { self.new.tally.given ≡ self.old.tally.given }
     {
@@ -189,8 +189,8 @@ impl Site for MemSite {
         ensures moments { Steps Same (clock_of self.old.journal.events.items) (clock_of self.new.journal.events.items) }
         ensures faults { HasCause self.old.tally.disk_faults self.new.tally.disk_faults result }
         ensures say_faults { self.new.tally.say_faults ≡ self.old.tally.say_faults }
-        ensures kept { KeptCall IsLook self.old.journal.events.items self.new.journal.events.items result }
-        ensures ends { Ends self.old.journal.plan self.old.journal.made self.new.journal.made self.old.tally.refused self.new.tally.refused result }
+        ensures kept { KeptCall IsLookEvent self.old.journal.events.items self.new.journal.events.items result }
+        ensures ends { EndsByPlan self.old.journal.plan self.old.journal.made self.new.journal.made self.old.tally.refused self.new.tally.refused result }
         ensures plan { self.new.journal.plan ≡ self.old.journal.plan }
         ensures given { self.new.tally.given ≡ self.old.tally.given }
     {
@@ -210,8 +210,8 @@ impl Site for MemSite {
         ensures moments { Steps Same (clock_of self.old.journal.events.items) (clock_of self.new.journal.events.items) }
         ensures faults { HasCause self.old.tally.disk_faults self.new.tally.disk_faults result }
         ensures say_faults { self.new.tally.say_faults ≡ self.old.tally.say_faults }
-        ensures kept { KeptCall IsLook self.old.journal.events.items self.new.journal.events.items result }
-        ensures ends { Ends self.old.journal.plan self.old.journal.made self.new.journal.made self.old.tally.refused self.new.tally.refused result }
+        ensures kept { KeptCall IsLookEvent self.old.journal.events.items self.new.journal.events.items result }
+        ensures ends { EndsByPlan self.old.journal.plan self.old.journal.made self.new.journal.made self.old.tally.refused self.new.tally.refused result }
         ensures plan { self.new.journal.plan ≡ self.old.journal.plan }
         ensures given { IfOk result (λ n. self.new.tally.given ≡ (if nat_lt 30000 file then min (self.old.tally.given + n) (2 ^ 64 - 1) else self.old.tally.given)) }
         ensures none_given { OnErr result (self.new.tally.given ≡ self.old.tally.given) }
@@ -233,7 +233,7 @@ impl Site for MemSite {
         ensures faults { HasCause self.old.tally.disk_faults self.new.tally.disk_faults result }
         ensures say_faults { self.new.tally.say_faults ≡ self.old.tally.say_faults }
         ensures kept { KeptCall (IsWrite file at bytes.now) self.old.journal.events.items self.new.journal.events.items result }
-        ensures ends { Ends self.old.journal.plan self.old.journal.made self.new.journal.made self.old.tally.refused self.new.tally.refused result }
+        ensures ends { EndsByPlan self.old.journal.plan self.old.journal.made self.new.journal.made self.old.tally.refused self.new.tally.refused result }
         ensures plan { self.new.journal.plan ≡ self.old.journal.plan }
         ensures given { self.new.tally.given ≡ self.old.tally.given }
     {
@@ -250,7 +250,7 @@ impl Site for MemSite {
         ensures faults { HasCause self.old.tally.disk_faults self.new.tally.disk_faults result }
         ensures say_faults { self.new.tally.say_faults ≡ self.old.tally.say_faults }
         ensures kept { KeptCall (IsCut file len) self.old.journal.events.items self.new.journal.events.items result }
-        ensures ends { Ends self.old.journal.plan self.old.journal.made self.new.journal.made self.old.tally.refused self.new.tally.refused result }
+        ensures ends { EndsByPlan self.old.journal.plan self.old.journal.made self.new.journal.made self.old.tally.refused self.new.tally.refused result }
         ensures plan { self.new.journal.plan ≡ self.old.journal.plan }
         ensures given { self.new.tally.given ≡ self.old.tally.given }
     {
@@ -267,7 +267,7 @@ impl Site for MemSite {
         ensures faults { HasCause self.old.tally.disk_faults self.new.tally.disk_faults result }
         ensures say_faults { self.new.tally.say_faults ≡ self.old.tally.say_faults }
         ensures kept { KeptCall IsSync self.old.journal.events.items self.new.journal.events.items result }
-        ensures ends { Ends self.old.journal.plan self.old.journal.made self.new.journal.made self.old.tally.refused self.new.tally.refused result }
+        ensures ends { EndsByPlan self.old.journal.plan self.old.journal.made self.new.journal.made self.old.tally.refused self.new.tally.refused result }
         ensures plan { self.new.journal.plan ≡ self.old.journal.plan }
         ensures given { self.new.tally.given ≡ self.old.tally.given }
     {
@@ -280,11 +280,11 @@ impl Site for MemSite {
         ensures some_said { (k : ℕ) × (self.new.journal.image.said.items ≡ self.old.journal.image.said.items ++ take k bytes.now) }
         ensures files { files_of self.new.journal.image.files ≡ files_of self.old.journal.image.files }
         ensures same_site { Unit {0} }
-        ensures moments { Steps (Prints bytes.now) (clock_of self.old.journal.events.items) (clock_of self.new.journal.events.items) }
+        ensures moments { Steps (PrintsPartOf bytes.now) (clock_of self.old.journal.events.items) (clock_of self.new.journal.events.items) }
         ensures faults { HasCause self.old.tally.say_faults self.new.tally.say_faults result }
         ensures disk_faults { self.new.tally.disk_faults ≡ self.old.tally.disk_faults }
         ensures kept { KeptCall (IsSaying bytes.now) self.old.journal.events.items self.new.journal.events.items result }
-        ensures ends { Ends self.old.journal.plan self.old.journal.made self.new.journal.made self.old.tally.refused self.new.tally.refused result }
+        ensures ends { EndsByPlan self.old.journal.plan self.old.journal.made self.new.journal.made self.old.tally.refused self.new.tally.refused result }
         ensures plan { self.new.journal.plan ≡ self.old.journal.plan }
         ensures given { self.new.tally.given ≡ self.old.tally.given }
     {

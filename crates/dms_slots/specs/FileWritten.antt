@@ -17,7 +17,7 @@ use Rattle.dms_layout.specs.declared.slot.SlotRead.TheVariants.{Free, Used, Bad}
 use Rattle.dms_layout.specs.Slots.{slot_width, slot_bytes, slot_of, is_zero, SlotFits, AreKinds}
 use Rattle.dms_layout.specs.SlotLaws.{slot_again, slot_long}
 use Rattle.dms_layout.specs.ReadLaws.{used_fits, free_is, free_again}
-use Rattle.dms_slots.specs.SlotBlocks.{file_of, per_block, block_of, place_of, is_slot, are_slots, is_block, cut, slots_by, slots_in, or_free, slot_at, block_at, slot_put, MayPut}
+use Rattle.dms_slots.specs.SlotBlocks.{file_of, per_block, block_of, place_of, is_slot, are_slots, is_block, cut, slots_by, slots_in, or_free, slot_at, block_at, slot_put, MayPutSlot}
 use Rattle.dms_slots.specs.SlotBlockLaws.{bad_block, place_bad, slot_there, slot_past, slots_length, some_at, none_at}
 use Rattle.dms_slots.specs.Written.{room, block_written}
 
@@ -142,7 +142,7 @@ some_slot w fits low =
     let some : 1 ≤ 1024 / w = (nat.le-div_iff_mul-le low).1 once in
     omega (arith, some)
 
-module _ (s : Shape) (c : Content) (number : ℕ) (bytes : List ℕ) (may : MayPut s c number) (fine : slot_of s bytes ≢ Bad) where
+module _ (s : Shape) (c : Content) (number : ℕ) (bytes : List ℕ) (may : MayPutSlot s c number) (fine : slot_of s bytes ≢ Bad) where
   abbrev old : List ℕ
   old = block_at (c (file_of s.number)) (block_of s.items number)
 
@@ -195,11 +195,11 @@ used_fine : (s : Shape) (slot : Slot) → AreKinds s.items → SlotFits s slot �
 used_fine s slot kinds fits = λ e. let h : Used slot ≡ Bad = sym (slot_again s slot kinds fits) ∙ e in cc h
 
 -- a record that was written is read
-pub put_used : (s : Shape) (c : Content) (number : ℕ) (slot : Slot) → AreKinds s.items → SlotFits s slot → MayPut s c number
+pub put_used : (s : Shape) (c : Content) (number : ℕ) (slot : Slot) → AreKinds s.items → SlotFits s slot → MayPutSlot s c number
     → slot_at s (slot_put s number (slot_bytes s.items slot) c (file_of s.number)) number ≡ Used slot
 put_used s c number slot kinds fits may = put_here s c number (slot_bytes s.items slot) may (used_fine s slot kinds fits) ∙ slot_again s slot kinds fits
 
 -- a slot that was made free is free
-pub put_free : (s : Shape) (c : Content) (number : ℕ) → MayPut s c number
+pub put_free : (s : Shape) (c : Content) (number : ℕ) → MayPutSlot s c number
     → slot_at s (slot_put s number (replicate (slot_width s.items) 0) c (file_of s.number)) number ≡ Free
 put_free s c number may = put_here s c number (replicate (slot_width s.items) 0) may (free_fine s) ∙ free_again s

@@ -105,7 +105,7 @@ slot_put s number bytes c = with_block c (file_of s.number) (block_of s.items nu
     (laid (place_of s.items number * slot_width s.items) bytes (block_at (c (file_of s.number)) (block_of s.items number)))
 
 -- the slot of a number may be written: it stands in a block of the file or in the next one, and isn't bad
-pub record MayPut (s : Shape) (c : Content) (number : ℕ) : Type 0 where
+pub record MayPutSlot (s : Shape) (c : Content) (number : ℕ) : Type 0 where
   pub fits : slot_width s.items ≤ 1024
   pub low : 1 ≤ number
   pub next : block_of s.items number ≤ length (c (file_of s.number))

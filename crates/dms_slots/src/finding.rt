@@ -2,7 +2,7 @@ ghost use Rattle.std.specs.Prelude.{◌≡◌, ◌+◌, ◌-◌, ◌<◌, ◌≤
 ghost use Rattle.dms_desc.specs.Shape.{shape_of};
 ghost use Rattle.dms_layout.specs.Slots.{slot_width, SlotFits};
 ghost use Rattle.dms_block.specs.Held.{HasCausesOr};
-ghost use Rattle.dms_block.specs.View.{Reads, seen, seen_counts, under};
+ghost use Rattle.dms_block.specs.View.{ReadsOverlay, seen, seen_counts, under};
 ghost use Rattle.std.specs.Prelude.{◌/◌, slice_index_or, []};
 ghost use Rattle.dms_slots.specs.Seen.{blocks_of, count_of, BadAt, BadIn};
 ghost use Rattle.dms_slots.specs.SlotBlocks.{file_of, per_block, block_of, slot_at, slot_opt, slots_in, before_free, within, least_free, BadBlock};
@@ -26,7 +26,7 @@ pub fn read_slot<B: Blocks>(
     requires fits { slot_width s.now.items ≤ 1024 }
     requires number { 1 ≤ number }
     ensures slot { IfOk result (λ o. IsTrue (under b.old).told → slot_at (shape_of s.now) (blocks_of (shape_of s.now) b.old) number ≡ slot_opt o) }
-    ensures reads { Reads 1 result b.old b.new }
+    ensures reads { ReadsOverlay 1 result b.old b.new }
     ensures fits { IfOk result (λ o. IfSome o (SlotFits (shape_of s.now))) }
     ensures causes { HasCausesOr (BadAt (shape_of s.now) (block_of s.now.items number) b.old) result (under b.old) (under b.new) }
 {
@@ -57,7 +57,7 @@ fn taken_in<B: Blocks>(
     requires there { block < count_of (shape_of s.now) b.old }
     ensures taken { IfOk result (λ n. IsTrue (under b.old).told → n ≡ before_free (slots_in (shape_of s.now) (slice_index_or (blocks_of (shape_of s.now) b.old) block []))) }
     ensures most { IfOk result (λ n. n ≤ per_block s.now.items) }
-    ensures reads { Reads 1 result b.old b.new }
+    ensures reads { ReadsOverlay 1 result b.old b.new }
     ensures causes { HasCausesOr (BadAt (shape_of s.now) block b.old) result (under b.old) (under b.new) }
 {
     let file = file_of(s);
@@ -91,7 +91,7 @@ pub fn take_least<B: Blocks>(
     requires fits { slot_width s.now.items ≤ 1024 }
     ensures least { IfOk result (λ o. IsTrue (under b.old).told → o ≡ least_free (shape_of s.now) (blocks_of (shape_of s.now) b.old)) }
     ensures place { IfOk result (λ o. IfSome o (λ n. (1 ≤ n) × (n ≤ s.now.population) × (block_of s.now.items n ≤ count_of (shape_of s.now) b.old))) }
-    ensures reads { Reads (count_of (shape_of s.now) b.old) result b.old b.new }
+    ensures reads { ReadsOverlay (count_of (shape_of s.now) b.old) result b.old b.new }
     ensures causes { HasCausesOr (BadIn (shape_of s.now) b.old) result (under b.old) (under b.new) }
 {
     let per = per_block(s);

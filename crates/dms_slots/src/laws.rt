@@ -5,7 +5,7 @@ ghost use Rattle.dms_block.specs.Content.{Content};
 ghost use Rattle.dms_layout.specs.declared.slot.Slot.{Slot};
 ghost use Rattle.dms_layout.specs.declared.slot.SlotRead.TheVariants.{Free, Used, Bad};
 ghost use Rattle.dms_layout.specs.Slots.{slot_bytes, slot_width, slot_of, SlotFits, AreKinds};
-ghost use Rattle.dms_slots.specs.SlotBlocks.{file_of, per_block, is_slot, is_block, slots_in, slot_at, slot_put, MayPut};
+ghost use Rattle.dms_slots.specs.SlotBlocks.{file_of, per_block, is_slot, is_block, slots_in, slot_at, slot_put, MayPutSlot};
 
 /// A law: a block in which one slot was written is a block, that slot is the one that was written, and the others are
 /// as they were.
@@ -19,11 +19,11 @@ pub fn written_law()
 /// A law: in a file in which the slot of a number was written, also in a new block, that slot is the one that was
 /// written, and those of all other numbers are as they were. All other files are as they were.
 pub fn file_law()
-    ensures used { (s : Shape) (c : Content) (number : ℕ) (slot : Slot) → AreKinds s.items → SlotFits s slot → MayPut s c number
+    ensures used { (s : Shape) (c : Content) (number : ℕ) (slot : Slot) → AreKinds s.items → SlotFits s slot → MayPutSlot s c number
         → slot_at s (slot_put s number (slot_bytes s.items slot) c (file_of s.number)) number ≡ Used slot }
-    ensures free { (s : Shape) (c : Content) (number : ℕ) → MayPut s c number
+    ensures free { (s : Shape) (c : Content) (number : ℕ) → MayPutSlot s c number
         → slot_at s (slot_put s number (replicate (slot_width s.items) 0) c (file_of s.number)) number ≡ Free }
-    ensures others { (s : Shape) (c : Content) (number : ℕ) (bytes : List ℕ) → MayPut s c number → slot_of s bytes ≢ Bad
+    ensures others { (s : Shape) (c : Content) (number : ℕ) (bytes : List ℕ) → MayPutSlot s c number → slot_of s bytes ≢ Bad
         → (other : ℕ) → 1 ≤ other → other ≢ number
         → slot_at s (slot_put s number bytes c (file_of s.number)) other ≡ slot_at s (c (file_of s.number)) other }
     ensures files { (s : Shape) (c : Content) (number : ℕ) (bytes : List ℕ) (file : ℕ) → file ≢ file_of s.number

@@ -4,7 +4,7 @@ ghost use Rattle.dms_fields.specs.Fields.{laid};
 ghost use Rattle.dms_layout.specs.Slots.{all_fit, slot_bytes, slot_width};
 ghost use Rattle.dms_block.specs.Content.{raised, with_block};
 ghost use Rattle.dms_block.specs.Held.{HasCausesOr};
-ghost use Rattle.dms_block.specs.View.{Reads, Writes, seen, seen_counts, under, written};
+ghost use Rattle.dms_block.specs.View.{ReadsOverlay, WritesOverlay, seen, seen_counts, under, written};
 ghost use Rattle.dms_slots.specs.Seen.{blocks_of, count_of, BadAt, with_slot};
 ghost use Rattle.dms_slots.specs.SlotBlocks.{file_of, block_of, place_of, is_block, block_at, BadBlock};
 
@@ -41,7 +41,7 @@ fn block_at<B: Blocks>(
     requires few { length s.now.items ≤ 60 }
     ensures block { IfOk result (λ x. IsTrue (under b.old).told → x.0 ≡ block_at (blocks_of (shape_of s.now) b.old) block) }
     ensures good { IfOk result (λ x. block < count_of (shape_of s.now) b.old → is_block (shape_of s.now) x.0 ≡ true) }
-    ensures reads { Reads 1 result b.old b.new }
+    ensures reads { ReadsOverlay 1 result b.old b.new }
     ensures causes { HasCausesOr (BadAt (shape_of s.now) block b.old) result (under b.old) (under b.new) }
 {
     let file = file_of(s);
@@ -73,7 +73,7 @@ fn write_bytes<B: Blocks>(
     requires long { length bytes.now ≡ slot_width s.now.items }
     ensures seen { OnOk result (IsTrue (under b.old).told → seen b.new ≡ with_slot (shape_of s.now) number bytes.now b.old) }
     ensures counts { OnOk result (seen_counts b.new ≡ raised (seen_counts b.old) (file_of s.now.number) (block_of s.now.items number)) }
-    ensures writes { Writes 1 1 result b.old b.new }
+    ensures writes { WritesOverlay 1 1 result b.old b.new }
     ensures err { OnErr result (written b.new ≡ written b.old) }
     ensures causes { HasCausesOr (BadAt (shape_of s.now) (block_of s.now.items number) b.old) result (under b.old) (under b.new) }
 {
@@ -110,7 +110,7 @@ pub fn write_slot<B: Blocks>(
     requires values { IsTrue (all_fit s.now.items slot.now.rec.values) }
     ensures seen { OnOk result (IsTrue (under b.old).told → seen b.new ≡ with_slot (shape_of s.now) number (slot_bytes s.now.items slot.now) b.old) }
     ensures counts { OnOk result (seen_counts b.new ≡ raised (seen_counts b.old) (file_of s.now.number) (block_of s.now.items number)) }
-    ensures writes { Writes 1 1 result b.old b.new }
+    ensures writes { WritesOverlay 1 1 result b.old b.new }
     ensures err { OnErr result (written b.new ≡ written b.old) }
     ensures causes { HasCausesOr (BadAt (shape_of s.now) (block_of s.now.items number) b.old) result (under b.old) (under b.new) }
 {
@@ -135,7 +135,7 @@ pub fn free_slot<B: Blocks>(
     requires next { block_of s.now.items number ≤ count_of (shape_of s.now) b.old }
     ensures seen { OnOk result (IsTrue (under b.old).told → seen b.new ≡ with_slot (shape_of s.now) number (replicate (slot_width s.now.items) 0) b.old) }
     ensures counts { OnOk result (seen_counts b.new ≡ raised (seen_counts b.old) (file_of s.now.number) (block_of s.now.items number)) }
-    ensures writes { Writes 1 1 result b.old b.new }
+    ensures writes { WritesOverlay 1 1 result b.old b.new }
     ensures err { OnErr result (written b.new ≡ written b.old) }
     ensures causes { HasCausesOr (BadAt (shape_of s.now) (block_of s.now.items number) b.old) result (under b.old) (under b.new) }
 {

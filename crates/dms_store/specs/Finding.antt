@@ -16,7 +16,7 @@ use Rattle.dms_block.specs.HeldLaws.{causes_or_on, lasts_none, same_none, told_a
 use Rattle.dms_block.specs.Held.{HasCausesOr}
 use Rattle.dms_block.specs.declared.block_fault.BlockFault.{BlockFault}
 use Rattle.std.specs.declared.result.Result.{Result}
-use Rattle.dms_block.specs.View.{Reads, seen, under, written}
+use Rattle.dms_block.specs.View.{ReadsOverlay, seen, under, written}
 use Rattle.dms_block.specs.ViewLaws.{seen_still}
 use Rattle.dms_desc.specs.declared.structure.Item.{Item}
 use Rattle.dms_desc.specs.Lookups.{items_of, structure_of}
@@ -49,7 +49,7 @@ module _ {B : Type 0} {g : Ghosts B} where
   causes_in desc set s o o' r is h = causes_or_on (BadIn s o) (BadSlot desc set o) r (under o) (under o) (under o') (λ f k bad. (s, is, bad)) refl (lasts_none (under o)) (same_none (under o)) h
 
   -- a block that is bad after reads was bad before them
-  pub bad_since : {T : Type 0} {n : ℕ} {x : T} (s : Shape) (a b : Overlay B g) → Reads n (Ok x) a b → (f k : ℕ) → BadIn s b f k → BadIn s a f k
+  pub bad_since : {T : Type 0} {n : ℕ} {x : T} (s : Shape) (a b : Overlay B g) → ReadsOverlay n (Ok x) a b → (f k : ℕ) → BadIn s b f k → BadIn s a f k
   bad_since s a b reads f k bad = (
     (
       bad.0.0,

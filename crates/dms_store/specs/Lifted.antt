@@ -58,7 +58,7 @@ module _ (desc : Described) where
     next = h.next;
     said = h.said;
     points = map point_of h.points;
-    sure = h.sure;
+    durable = h.durable;
     here = point_of (here_of h);
     clock = lifted h.clock;
     whole = h.whole;

@@ -14,15 +14,15 @@ use Rattle.dms_block.specs.declared.block_fault.BlockFault.TheVariants.{Disk, Me
 use Rattle.dms_block.specs.declared.blocks.Blocks.{Ghosts}
 use Rattle.dms_block.specs.declared.overlay.Overlay.{Overlay}
 use Rattle.dms_block.specs.Faults.{Unbroken}
-use Rattle.dms_block.specs.View.{Reads, under, written}
+use Rattle.dms_block.specs.View.{ReadsOverlay, under, written}
 use Rattle.dms_block.specs.Content.{Content}
 use Rattle.dms_block.specs.Counts.{CausedBy}
-use Rattle.dms_block.specs.Held.{Held, BlockPoint, BlockStop, Lasts, Passes, Prefix, Same, Room}
+use Rattle.dms_block.specs.Held.{Held, BlockPoint, BlockStop, Lasts, MakesNoPoint, Prefix, SameBlocks, HasNextNumber}
 use Rattle.dms_block.specs.Held as held
 use Rattle.dms_desc.specs.Shape.{Described}
 use Rattle.dms_desc_bytes.specs.Spelling.{spelling}
 use Rattle.dms_model.specs.Db.{Db}
-use Rattle.dms_model.specs.Points.{Point, Stop, Front, TextIs, Leaves, LeavesText, IsUnder}
+use Rattle.dms_model.specs.Points.{Point, Stop, LeavesPrefix, TextIs, Leaves, LeavesText, IsUnder}
 use Rattle.dms_model.specs.Seen as store
 use Rattle.dms_slots.specs.SlotBlocks.{file_of}
 use Rattle.dms_store.specs.Lifted.{IsUsable, Serves, db_of, effort_of, faults_with, here_of, lifted, point_of, seen_of, stop_of, store_seen}
@@ -41,7 +41,7 @@ module _ (desc : Described) where
   map_take (suc n) [] = refl
   map_take (suc n) (p ∷ ps) = ap (λ (l : List Point). point_of desc p ∷ l) (map_take n ps)
 
-  front_lifted : (a : Held) (points : List BlockPoint) (next : ℕ) (x : BlockStop) → Prefix a.whole a.sure points next x → Front a.whole a.sure (map (point_of desc) points) next (stop_of desc x)
+  front_lifted : (a : Held) (points : List BlockPoint) (next : ℕ) (x : BlockStop) → Prefix a.whole a.durable points next x → LeavesPrefix a.whole a.durable (map (point_of desc) points) next (stop_of desc x)
   front_lifted a points next x p = record {
     count = p.count;
     enough = p.enough;
@@ -51,10 +51,10 @@ module _ (desc : Described) where
     files = p.whole_files;
   }
 
-  pub leaves_lifted : (a b : Held) (points : List BlockPoint) (next : ℕ) → held.Leaves a b points next → Leaves a.whole (lifted desc a.clock) (lifted desc b.clock) a.sure (map (point_of desc) points) next a.said
+  pub leaves_lifted : (a b : Held) (points : List BlockPoint) (next : ℕ) → held.Leaves a b points next → Leaves a.whole (lifted desc a.clock) (lifted desc b.clock) a.durable (map (point_of desc) points) next a.said
   leaves_lifted a b points next run = runs_seen_as (stop_of desc) (runs_weaken run (λ x p. (front_lifted a points next x p.0, p.1)))
 
-  pub text_lifted : (a b : Held) (bytes : List ℕ) → held.LeavesText a b bytes → LeavesText a.whole (lifted desc a.clock) (lifted desc b.clock) a.sure (map (point_of desc) a.points) a.next a.said bytes
+  pub text_lifted : (a b : Held) (bytes : List ℕ) → held.LeavesText a b bytes → LeavesText a.whole (lifted desc a.clock) (lifted desc b.clock) a.durable (map (point_of desc) a.points) a.next a.said bytes
   text_lifted a b bytes run = runs_seen_as (stop_of desc) (runs_weaken run (λ x p. (front_lifted a a.points a.next x p.0, p.1)))
 
   blocks_here : (t : Bool) (c d : Content) → (IsTrue t → d ≡ c) → cond t c d ≡ d
@@ -94,16 +94,16 @@ module _ (desc : Described) (sound sound' : Type 0) (found found' : ℕ) (a b : 
   abbrev new : store.Seen
   new = seen_of desc sound' found' b
 
-  pub silent_lifted : Passes a b → store.IsSilent old new
+  pub silent_lifted : MakesNoPoint a b → store.IsSilent old new
   silent_lifted p = record { next = p.next; said = p.said; leaves = λ tells room. leaves_lifted desc a b a.points a.next (p.leaves tells room) }
 
   pub causes_lifted : {T : Type 0} (r : Result T BlockFault) → Lasts a b → a.uses.reads ≤ b.uses.reads → CausedBy r (faults_with a.faults found) (faults_with b.faults found') → store.HasCauses r old new
   causes_lifted r lasts reads cause = record { tells = lasts.tells; desc = refl; whole = lasts.whole; whole_on = lasts.whole_on; cause = cause; reads = reads }
 
-  pub points_lifted : held.IfTold a ((b.points ≡ a.points) × (a.sure ≤ b.sure)) → store.StaysSure old new
+  pub points_lifted : held.IfTold a ((b.points ≡ a.points) × (a.durable ≤ b.durable)) → store.StaysDurable old new
   points_lifted stays tells room = let s = stays tells room in (ap (map (point_of desc)) s.0, s.1)
 
-  pub keeps_lifted : sound' → Lasts a b → held.Stays a b → Same a b → store.Keeps old new
+  pub keeps_lifted : sound' → Lasts a b → held.Stays a b → SameBlocks a b → store.Keeps old new
   keeps_lifted sound lasts stays same = record {
     sound = sound;
     db = db_same desc a.told b.told a.content b.content lasts.told same.content;
@@ -124,18 +124,18 @@ module _ (desc : Described) (sound sound' : Type 0) (found found' : ℕ) (a b : 
   }
 
   pub quiet_leaves : held.Agrees a → held.IfTold a (held.Leaves a b (a.points ++ a.here ∷ []) (a.next + 1))
-      → store.IfTold old (Leaves a.whole (lifted desc a.clock) (lifted desc b.clock) a.sure (map (point_of desc) a.points ++ point_of desc (here_of desc a) ∷ []) (a.next + 1) a.said)
+      → store.IfTold old (Leaves a.whole (lifted desc a.clock) (lifted desc b.clock) a.durable (map (point_of desc) a.points ++ point_of desc (here_of desc a) ∷ []) (a.next + 1) a.said)
   quiet_leaves agrees leaves tells room =
-      subst (λ (ps : List Point). Leaves a.whole (lifted desc a.clock) (lifted desc b.clock) a.sure ps (a.next + 1) a.said) (quiet_points desc a (agrees.here tells room))
+      subst (λ (ps : List Point). Leaves a.whole (lifted desc a.clock) (lifted desc b.clock) a.durable ps (a.next + 1) a.said) (quiet_points desc a (agrees.here tells room))
       (leaves_lifted desc a b (a.points ++ a.here ∷ []) (a.next + 1) (leaves tells room))
 
-  pub sure_lifted : sound' → Lasts a b → held.MadeSure a b → store.MadeSure old new
-  sure_lifted sound lasts made = record {
+  pub durable_lifted : sound' → Lasts a b → held.MadeDurable a b → store.MadeDurable old new
+  durable_lifted sound lasts made = record {
     sound = sound;
     db = db_same desc a.told b.told a.content b.content lasts.told made.same.content;
     mark = db_same desc a.told b.told a.mark b.mark lasts.told made.mark;
     points = λ tells room. ap (map (point_of desc)) (made.points tells room);
-    sure = λ tells room. made.sure tells room ∙ sym (length-map a.points (point_of desc));
+    durable = λ tells room. made.durable tells room ∙ sym (length-map a.points (point_of desc));
   }
 
 -- ---- what is told hangs together
@@ -147,9 +147,9 @@ agrees_lifted desc sound found a schema agrees = record {
   here = here_db desc a.told a.content a.here.blocks a.here.schema schema;
   under = point_under desc (here_of desc a);
   points = λ tells room. points_under desc a.points;
-  stop = λ tells room. now_seen_as (stop_of desc) a.clock (λ y. Front a.whole a.sure (map (point_of desc) a.points) a.next y × TextIs a.said y)
+  stop = λ tells room. now_seen_as (stop_of desc) a.clock (λ y. LeavesPrefix a.whole a.durable (map (point_of desc) a.points) a.next y × TextIs a.said y)
       (λ x now. let p = agrees.stop tells room x now in (front_lifted desc a a.points a.next x p.0, p.1));
-  sure = λ tells room. omega (arith, agrees.sure tells room, length-map a.points (point_of desc));
+  durable = λ tells room. omega (arith, agrees.durable tells room, length-map a.points (point_of desc));
 }
 
 -- ---- calls through an overlay on which nothing is written
@@ -175,15 +175,15 @@ module _ {B : Type 0} {g : Ghosts B} (desc : Described) (o o' : Overlay B g) whe
   usable_on usable lasts sound none = record { sound = sound; none = none; serves = serves_on desc (under o) (under o') lasts usable.serves }
 
   -- reads keep the store as it was
-  pub reads_keep : {T : Type 0} {n : ℕ} (found found' : ℕ) (r : Result T BlockFault) → IsUsable desc o → Reads n r o o' → Unbroken r (store.Keeps (store_seen desc found o) (store_seen desc found' o'))
+  pub reads_keep : {T : Type 0} {n : ℕ} (found found' : ℕ) (r : Result T BlockFault) → IsUsable desc o → ReadsOverlay n r o o' → Unbroken r (store.Keeps (store_seen desc found o) (store_seen desc found' o'))
   reads_keep found found' r usable reads =
       unbroken_two r (λ stays same. keeps_lifted desc (IsUsable desc o) (IsUsable desc o') found found' (under o) (under o')
       (usable_on usable reads.looks.passes.lasts stays.sound (reads.written_still ∙ usable.none)) reads.looks.passes.lasts stays same) reads.looks.stays reads.looks.same
 
-  pub reads_silent : {T : Type 0} {n : ℕ} {r : Result T BlockFault} (found found' : ℕ) → Reads n r o o' → store.IsSilent (store_seen desc found o) (store_seen desc found' o')
+  pub reads_silent : {T : Type 0} {n : ℕ} {r : Result T BlockFault} (found found' : ℕ) → ReadsOverlay n r o o' → store.IsSilent (store_seen desc found o) (store_seen desc found' o')
   reads_silent found found' reads = silent_lifted desc (IsUsable desc o) (IsUsable desc o') found found' (under o) (under o') reads.looks.passes
 
-  pub reads_effort : {T : Type 0} {n : ℕ} {r : Result T BlockFault} → Reads n r o o' → effort_of (under o').uses ≡ effort_of (under o).uses
+  pub reads_effort : {T : Type 0} {n : ℕ} {r : Result T BlockFault} → ReadsOverlay n r o o' → effort_of (under o').uses ≡ effort_of (under o).uses
   reads_effort reads =
       let u = reads.looks.uses in
       let spent : (under o').uses.spent ≡ (under o).uses.spent = omega (arith, u.spent, u.not_less) in

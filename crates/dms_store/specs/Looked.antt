@@ -8,8 +8,8 @@ use Rattle.dms_block.specs.declared.block_fault.BlockFault.TheVariants.{Disk, Me
 use Rattle.dms_block.specs.declared.blocks.Blocks.{Ghosts}
 use Rattle.dms_block.specs.declared.overlay.Overlay.{Overlay}
 use Rattle.dms_block.specs.Faults.{NotFull, Unbroken, Undamaged}
-use Rattle.dms_block.specs.Held.{Agrees, HasCausesOr, Held}
-use Rattle.dms_block.specs.View.{Reads, under}
+use Rattle.dms_block.specs.Held.{BlocksAgree, HasCausesOr, Held}
+use Rattle.dms_block.specs.View.{ReadsOverlay, under}
 use Rattle.dms_desc.specs.Shape.{Described}
 use Rattle.dms_model.specs.Db.{Db}
 use Rattle.dms_model.specs.Seen as store
@@ -45,7 +45,7 @@ mute_or P (Err (Damaged f n)) a b h is = absurd (cc)
 mute_or P (Err Say) a b h is = h
 
 module _ {B : Type 0} {g : Ghosts B} (desc : Described) (found found' : ℕ) (o o' : Overlay B g) where
-  pub looked : {T : Type 0} {n : ℕ} (P : ℕ → ℕ → Type 0) (r : Result T BlockFault) → found < 2 ^ 64 → found' ≡ noted_by r found → IsUsable desc o → Agrees (under o) → Reads n r o o' → HasCausesOr P r (under o) (under o')
+  pub looked : {T : Type 0} {n : ℕ} (P : ℕ → ℕ → Type 0) (r : Result T BlockFault) → found < 2 ^ 64 → found' ≡ noted_by r found → IsUsable desc o → BlocksAgree (under o) → ReadsOverlay n r o o' → HasCausesOr P r (under o) (under o')
       → ((d : Db) → db_of desc (under o).told (under o).content ≡ Some d → (f b : ℕ) → P f b → ⊥) → Looked r (store_seen desc found o) (store_seen desc found' o')
   looked P r small noted usable agrees reads cause none = record {
     keeps = reads_keep desc o o' found found' r usable reads;

@@ -15,7 +15,7 @@ use Rattle.dms_desc.specs.Shape.{Shape, Described}
 use Rattle.dms_layout.specs.declared.slot.SlotRead.{SlotRead}
 use Rattle.dms_layout.specs.declared.slot.SlotRead.TheVariants.{Free, Used, Bad}
 use Rattle.dms_model.specs.Valid.{is_data_set, link_stands, owner_of, owner_stands}
-use Rattle.dms_model.specs.Db.{Db, Entry, Place, Records}
+use Rattle.dms_model.specs.Db.{Db, SubsetEntry, Place, Records}
 use Rattle.dms_desc.specs.Lookups.{structure_of, items_of}
 use Rattle.dms_ordlist.specs.ListIn.{list_in}
 use Rattle.dms_sets.specs.Padded.{entry_width}
@@ -79,7 +79,7 @@ counted_in desc db set n = sum_by (λ (e : Place × Record). links_to set n (ite
 unfoldable pub owned_in : Described → Db → ℕ → ℕ → ℕ
 owned_in desc db set n =
     count_by (λ (e : Place × Record). (owner_of (structure_of desc e.0.0) == set) && (e.1.owner == n)) (entries db.records)
-    + count_by (λ (e : Entry). (owner_of (structure_of desc e.subset) == set) && (e.owner == n)) db.entries
+    + count_by (λ (e : SubsetEntry). (owner_of (structure_of desc e.subset) == set) && (e.owner == n)) db.entries
 
 -- ---- the files
 

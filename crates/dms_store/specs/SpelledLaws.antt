@@ -31,7 +31,7 @@ use Rattle.dms_ordlist.specs.Lists.{empty_keys}
 use Rattle.dms_sets.specs.Listing.{places_total, places_same, listing}
 use Rattle.dms_sets.specs.Padded.{entry_width}
 use Rattle.dms_sets.specs.Sets.{entries_of, kinds_over, entry_of}
-use Rattle.dms_sets.specs.Spots.{some_item, ValuesFit, RecordFits, RecordsFit}
+use Rattle.dms_sets.specs.Spots.{some_item, ValuesFit, RecordHasSpot, RecordsFit}
 use Rattle.dms_slots.specs.SlotBlocks.{file_of, slots_of, slots_in, slots_by, cut, is_block, per_block}
 use Rattle.dms_store.specs.Spelled.{rows_from, file_in, rows_in, db_in, counted_in, owned_in, links_stand, slot_stands, slots_stand, is_list_of, has_none, is_kept, file_spells, files_spell, is_whole, files_fit, is_spelled, some_if, spelled}
 use Rattle.dms_sets.specs.Tests.{both_of, tied}
@@ -295,7 +295,7 @@ value_fits (i ∷ is) (v ∷ vs) zero item kinds fit plain at =
     subst (λ (j : Item). FitsKind j.kind v) same (record { kind = kinds.0; fits = both.0; plain = plain.0 })
 value_fits (i ∷ is) (v ∷ vs) (suc k) item kinds fit plain at = value_fits is vs k item kinds.1 (both_of (fits i.kind v) (all_fit is vs) fit).1 plain.1 at
 
-record_fits : (desc : Described) (db : Db) (place : Place) (rec : Record) → RecordStands desc db place rec → RecordFits desc place rec
+record_fits : (desc : Described) (db : Db) (place : Place) (rec : Record) → RecordStands desc db place rec → RecordHasSpot desc place rec
 record_fits desc db place rec r =
     record {
       small = omega (arith, r.most, r.small);

@@ -8,7 +8,7 @@ use Rattle.dms_block.specs.declared.blocks.Blocks.{Ghosts}
 use Rattle.dms_block.specs.declared.overlay.Overlay.{Overlay}
 use Rattle.dms_block.specs.Content.{Content}
 use Rattle.dms_block.specs.Faults.{Undamaged}
-use Rattle.dms_block.specs.Held.{Agrees, HasCauses, HasCausesOr, Held, IsShort}
+use Rattle.dms_block.specs.Held.{BlocksAgree, HasCauses, HasCausesOr, Held, IsShort}
 use Rattle.dms_block.specs.View.{seen, under}
 use Rattle.dms_desc.specs.Lookups.{structure_of}
 use Rattle.dms_desc.specs.Shape.{Shape, Described}
@@ -29,7 +29,7 @@ pub told_spelled : (desc : Described) (told : Bool) (c : Content) (d : Db) → d
 told_spelled desc true c d h = (refl, spelled_by (is_spelled desc c) (db_in desc c) d h)
 told_spelled desc false c d h = absurd (cc)
 
-module _ (desc : Described) (h : Held) (serves : Serves desc h) (agrees : Agrees h) (d : Db) (told : db_of desc h.told h.content ≡ Some d) where
+module _ (desc : Described) (h : Held) (serves : Serves desc h) (agrees : BlocksAgree h) (d : Db) (told : db_of desc h.told h.content ≡ Some d) where
   none_short : (f b : ℕ) → IsShort h f b → ⊥
   none_short f b short =
       let both = told_spelled desc h.told h.content d told in

@@ -1,6 +1,6 @@
 ghost use Rattle.std.specs.Prelude.{◌≡◌, ◌≤◌, IfOk, IfSome, IsTrue, length, min, take};
 ghost use Rattle.dms_block.specs.Held.{HasCausesOr};
-ghost use Rattle.dms_block.specs.View.{Reads, under};
+ghost use Rattle.dms_block.specs.View.{ReadsOverlay, under};
 ghost use Rattle.dms_desc.specs.Lookups.{structure_of};
 ghost use Rattle.dms_desc.specs.Shape.{described, shape_of};
 ghost use Rattle.dms_layout.specs.Slots.{slot_width};
@@ -56,7 +56,7 @@ fn first_in<B: Blocks>(
     requires fits { slot_width s.now.items ≤ 1024 }
     ensures found { IfOk result (λ o. IsTrue (under over.old).told → o ≡ first_by owner (start_of from.now) (take s.now.population (slots_of (shape_of s.now) (blocks_of (shape_of s.now) over.old)))) }
     ensures fits { IfOk result (λ o. IfSome o (IsRecordSpot (shape_of s.now))) }
-    ensures reads { Reads s.now.population result over.old over.new }
+    ensures reads { ReadsOverlay s.now.population result over.old over.new }
     ensures causes { HasCausesOr (BadIn (shape_of s.now) over.old) result (under over.old) (under over.new) }
 {
     match start_of(from) {
@@ -79,7 +79,7 @@ fn last_in<B: Blocks>(
     ensures found { IfOk result (λ o. IsTrue (under over.old).told → o ≡ last_used owner 1
         (take (min (stop_of to.now (most_slots (shape_of s.now) over.old)) (most_slots (shape_of s.now) over.old)) (slots_of (shape_of s.now) (blocks_of (shape_of s.now) over.old)))) }
     ensures fits { IfOk result (λ o. IfSome o (IsRecordSpot (shape_of s.now))) }
-    ensures reads { Reads s.now.population result over.old over.new }
+    ensures reads { ReadsOverlay s.now.population result over.old over.new }
     ensures causes { HasCausesOr (BadIn (shape_of s.now) over.old) result (under over.old) (under over.new) }
 {
     let stop = stop_of(to, slot_count(over, s));
@@ -99,7 +99,7 @@ pub fn first_record<B: Blocks>(
     requires path { IsDataSet (described desc.now) path }
     ensures found { Tells (db_of (described desc.now) (under over.old).told (under over.old).content) result (λ d. first_member (described desc.now) d path owner from.now) }
     ensures fits { IfOk result (λ o. IfSome o (SpotFits (described desc.now) path)) }
-    ensures reads { Reads (population_of (structure_of (described desc.now) path)) result over.old over.new }
+    ensures reads { ReadsOverlay (population_of (structure_of (described desc.now) path)) result over.old over.new }
     ensures causes { HasCausesOr (BadSlot (described desc.now) path over.old) result (under over.old) (under over.new) }
 {
     match desc.structure(path) {
@@ -121,7 +121,7 @@ pub fn last_record<B: Blocks>(
     requires path { IsDataSet (described desc.now) path }
     ensures found { Tells (db_of (described desc.now) (under over.old).told (under over.old).content) result (λ d. last_member (described desc.now) d path owner to.now) }
     ensures fits { IfOk result (λ o. IfSome o (SpotFits (described desc.now) path)) }
-    ensures reads { Reads (population_of (structure_of (described desc.now) path)) result over.old over.new }
+    ensures reads { ReadsOverlay (population_of (structure_of (described desc.now) path)) result over.old over.new }
     ensures causes { HasCausesOr (BadSlot (described desc.now) path over.old) result (under over.old) (under over.new) }
 {
     match desc.structure(path) {

@@ -1,7 +1,7 @@
 ghost use Rattle.std.specs.Prelude.{◌≡◌, IfOk, IfSome};
 ghost use Rattle.std.specs.FinMap.{get};
 ghost use Rattle.dms_block.specs.Held.{HasCausesOr};
-ghost use Rattle.dms_block.specs.View.{Reads, under};
+ghost use Rattle.dms_block.specs.View.{ReadsOverlay, under};
 ghost use Rattle.dms_desc.specs.Shape.{described};
 ghost use Rattle.dms_model.specs.Fitting.{IsDataSet, IsNumber, RecordFits};
 ghost use Rattle.dms_model.specs.Stores.{Tells};
@@ -39,7 +39,7 @@ pub fn get<B: Blocks>(
     requires number { IsNumber (described desc.now) set number }
     ensures found { Tells (db_of (described desc.now) (under over.old).told (under over.old).content) result (λ d. get d.records (set, number)) }
     ensures fits { IfOk result (λ o. IfSome o (RecordFits (described desc.now) set)) }
-    ensures reads { Reads 1 result over.old over.new }
+    ensures reads { ReadsOverlay 1 result over.old over.new }
     ensures causes { HasCausesOr (BadSlot (described desc.now) set over.old) result (under over.old) (under over.new) }
 {
     match desc.structure(set) {

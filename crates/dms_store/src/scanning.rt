@@ -1,6 +1,6 @@
 ghost use Rattle.std.specs.Prelude.{◌≡◌, ◌≤◌, ◌+◌, IfOk, IfSome, IsTrue, drop, length, take};
 ghost use Rattle.dms_block.specs.Held.{HasCausesOr};
-ghost use Rattle.dms_block.specs.View.{Reads, under};
+ghost use Rattle.dms_block.specs.View.{ReadsOverlay, under};
 ghost use Rattle.dms_desc.specs.Shape.{shape_of};
 ghost use Rattle.dms_layout.specs.Slots.{slot_width};
 ghost use Rattle.dms_slots.specs.Seen.{BadIn, blocks_of};
@@ -58,7 +58,7 @@ fn owned_at<B: Blocks>(
     requires most { number ≤ s.now.population }
     ensures found { IfOk result (λ o. IsTrue (under over.old).told → o ≡ owned_spot owner number (slot_at (shape_of s.now) (blocks_of (shape_of s.now) over.old) number)) }
     ensures fits { IfOk result (λ o. IfSome o (IsRecordSpot (shape_of s.now))) }
-    ensures reads { Reads 1 result over.old over.new }
+    ensures reads { ReadsOverlay 1 result over.old over.new }
     ensures causes { HasCausesOr (BadIn (shape_of s.now) over.old) result (under over.old) (under over.new) }
 {
     match read_slot(over, alloc, s, number) {
@@ -80,7 +80,7 @@ pub fn next_used<B: Blocks>(
     requires fits { slot_width s.now.items ≤ 1024 }
     ensures found { IfOk result (λ o. IsTrue (under over.old).told → o ≡ first_used owner (1 + from) (drop from (take s.now.population (slots_of (shape_of s.now) (blocks_of (shape_of s.now) over.old))))) }
     ensures fits { IfOk result (λ o. IfSome o (IsRecordSpot (shape_of s.now))) }
-    ensures reads { Reads s.now.population result over.old over.new }
+    ensures reads { ReadsOverlay s.now.population result over.old over.new }
     ensures causes { HasCausesOr (BadIn (shape_of s.now) over.old) result (under over.old) (under over.new) }
 {
     let count = slot_count(over, s);
@@ -108,7 +108,7 @@ pub fn last_used<B: Blocks>(
     requires within { stop ≤ most_slots (shape_of s.now) over.old }
     ensures found { IfOk result (λ o. IsTrue (under over.old).told → o ≡ last_used owner 1 (take stop (slots_of (shape_of s.now) (blocks_of (shape_of s.now) over.old)))) }
     ensures fits { IfOk result (λ o. IfSome o (IsRecordSpot (shape_of s.now))) }
-    ensures reads { Reads stop result over.old over.new }
+    ensures reads { ReadsOverlay stop result over.old over.new }
     ensures causes { HasCausesOr (BadIn (shape_of s.now) over.old) result (under over.old) (under over.new) }
 {
     for i in 0..stop {

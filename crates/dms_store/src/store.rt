@@ -6,7 +6,7 @@ ghost use Rattle.dms_desc.specs.Shape.{described};
 ghost use Rattle.dms_model.specs.Db.{Db};
 ghost use Rattle.dms_model.specs.Fitting.{IsDataSet, IsNumber, RecordFits};
 ghost use Rattle.dms_model.specs.Points.{Leaves};
-ghost use Rattle.dms_model.specs.Seen.{GoesBack, HasCauses, IfTold, IsMute, IsSilent, Keeps, KeepsPoints, MadeQuiet, MadeSure, SaysPart, Syncs};
+ghost use Rattle.dms_model.specs.Seen.{GoesBack, HasCauses, IfTold, IsMute, IsSilent, Keeps, KeepsPoints, MadeQuiet, MadeDurable, SaysPart, Syncs};
 ghost use Rattle.dms_store.specs.Lifted.{IsUsable, Serves};
 ghost use Rattle.dms_model.specs.Stores.{Tells};
 ghost use Rattle.dms_store.specs.Looked.{Looked};
@@ -82,7 +82,7 @@ impl<B: Blocks> BlockStore<B> {
         ensures number { (seen_by self.old).next + 1 < 2 ^ 64 → IfOk result (λ n. n ≡ (seen_by self.old).next) }
         ensures made { OnOk result (MadeQuiet (seen_by self.old) (seen_by self.new)) }
         ensures mute { IsMute (seen_by self.old) (seen_by self.new) }
-        ensures leaves { let s = seen_by self.old in IfTold s (Leaves s.whole s.clock (seen_by self.new).clock s.sure (s.points ++ s.here ∷ []) (s.next + 1) s.said) }
+        ensures leaves { let s = seen_by self.old in IfTold s (Leaves s.whole s.clock (seen_by self.new).clock s.durable (s.points ++ s.here ∷ []) (s.next + 1) s.said) }
         ensures memory { IsErrOf result BlockFault.Memory → ⊥ }
         ensures same { B.same_blocks self.old.over.below self.new.over.below }
         ensures effort { (seen_by self.new).effort ≡ (seen_by self.old).effort }
@@ -93,11 +93,11 @@ impl<B: Blocks> BlockStore<B> {
         note(&mut self.found, self.over.below.quiet())
     }
 
-    /// Makes all quiet points so far sure. Takes no memory.
+    /// Makes all quiet points so far durable. Takes no memory.
     pub fn sync(&mut self) -> Result<(), BlockFault>
         requires { IsUsable (described self.old.desc) self.old.over }
         ensures desc { self.new.desc ≡ self.old.desc }
-        ensures made { OnOk result (MadeSure (seen_by self.old) (seen_by self.new)) }
+        ensures made { OnOk result (MadeDurable (seen_by self.old) (seen_by self.new)) }
         ensures memory { IsErrOf result BlockFault.Memory → ⊥ }
         ensures silent { IsSilent (seen_by self.old) (seen_by self.new) }
         ensures same { B.same_blocks self.old.over.below self.new.over.below }

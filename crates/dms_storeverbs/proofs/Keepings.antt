@@ -13,16 +13,16 @@ use Rattle.dms_model.specs.Db.{Db}
 use Rattle.dms_desc.specs.Lookups.{structure_of, name_of}
 use Rattle.dms_model.specs.Stores.{put_answer, put_after}
 use Rattle.dms_model.specs.Fitting.{MayPut, Puts}
-use Rattle.dms_model.specs.Session.{Session, Kept, Refused}
+use Rattle.dms_model.specs.Session.{Session, StoreResult, Refused}
 use Rattle.dms_storeverbs.specs.declared.refusal.Refusal.{Refusal}
 use Rattle.dms_storeverbs.specs.Keeping.{KeptIs}
 use Rattle.dms_storeverbs.specs.Storing.{put_record, with_stored}
-use Rattle.dms_storeverbs.specs.View.{View, Stands, view_of}
+use Rattle.dms_storeverbs.specs.View.{View, StandsFor, view_of}
 
-pub kept_refused : (k : Kept) (r : Refusal) (i : ℕ) (s : Session) (v : View) → k ≡ Refused r.category r.name → Stands v s → KeptIs k i s (Some r) v
-kept_refused k r i s v is stands = subst (λ (x : Kept). KeptIs x i s (Some r) v) (sym is) (refl, stands)
+pub kept_refused : (k : StoreResult) (r : Refusal) (i : ℕ) (s : Session) (v : View) → k ≡ Refused r.category r.name → StandsFor v s → KeptIs k i s (Some r) v
+kept_refused k r i s v is stands = subst (λ (x : StoreResult). KeptIs x i s (Some r) v) (sym is) (refl, stands)
 
-module _ (desc desc' : Described) (told new mark : Option Db) (next since : ℕ) (programs : List Program) (pending : Bool) (p : Program) (s : Session) (i set : ℕ) (number : Option ℕ) (rec : Record) (k : Kept)
+module _ (desc desc' : Described) (told new mark : Option Db) (next since : ℕ) (programs : List Program) (pending : Bool) (p : Program) (s : Session) (i set : ℕ) (number : Option ℕ) (rec : Record) (k : StoreResult)
     (desc_is : desc' ≡ desc) (told_is : told ≡ Some s.db) (mark_is : mark ≡ Some s.mark) (next_is : next ≡ s.next) (pending_is : pending ≡ s.pending) (since_is : since ≡ s.since)
     (k_is : k ≡ put_record (put_answer desc s.db set number rec) desc p s.db set rec) (may : MayPut desc set rec) where
   puts_of : (a : Put) → Puts told new desc' set number rec a → (a ≡ put_answer desc' s.db set number rec) × (new ≡ Some (put_after (put_answer desc' s.db set number rec) desc' s.db set rec))
@@ -39,12 +39,12 @@ module _ (desc desc' : Described) (told new mark : Option Db) (next since : ℕ)
 
   pub kept_stored : (n : ℕ) (q : Program) → Puts told new desc' set number rec (Stored n) → q ≡ with_stored p set n rec.values → programs ≡ slice_set s.programs i q → KeptIs k i s None (view_of new mark next programs pending since)
   kept_stored n q puts q_is programs_is =
-      subst (λ (x : Kept). KeptIs x i s None (view_of new mark next programs pending since)) (sym (keeps (Stored n) puts))
+      subst (λ (x : StoreResult). KeptIs x i s None (view_of new mark next programs pending since)) (sym (keeps (Stored n) puts))
       (refl, record { db = left_db (Stored n) puts; mark = mark_is; next = next_is; programs = programs_is ∙ ap (λ (x : Program). slice_set s.programs i x) q_is; pending = pending_is; since = since_is })
 
   kept_not : (a : Put) (c : Category) (name name' : List ℕ) → put_record a desc p s.db set rec ≡ Refused c name → put_after a desc s.db set rec ≡ s.db → Puts told new desc' set number rec a → name' ≡ name → programs ≡ s.programs → KeptIs k i s (Some (record { category = c; name = name' })) (view_of new mark next programs pending since)
   kept_not a c name name' not same puts name_is programs_is =
-      subst (λ (x : Kept). KeptIs x i s (Some (record { category = c; name = name' })) (view_of new mark next programs pending since)) (sym (keeps a puts ∙ not))
+      subst (λ (x : StoreResult). KeptIs x i s (Some (record { category = c; name = name' })) (view_of new mark next programs pending since)) (sym (keeps a puts ∙ not))
       (ap (λ (x : List ℕ). Some (record { category = c; name = x })) name_is, record { db = left_db a puts ∙ ap (λ (d : Db). Some d) same; mark = mark_is; next = next_is; programs = programs_is; pending = pending_is; since = since_is })
 
   pub kept_duplicate : (d : ℕ) (name : List ℕ) → Puts told new desc' set number rec (Duplicate d) → name ≡ name_of (structure_of desc d) → programs ≡ s.programs → KeptIs k i s (Some (record { category = Duplicates; name = name })) (view_of new mark next programs pending since)

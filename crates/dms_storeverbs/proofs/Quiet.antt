@@ -18,9 +18,9 @@ use Rattle.dms_model.specs.declared.verb.Setting.{Setting}
 use Rattle.dms_model.specs.Db.{Db}
 use Rattle.dms_desc.specs.Lookups.{name_of, structure_of, items_of, set_of}
 use Rattle.dms_model.specs.Stores.{put_answer}
-use Rattle.dms_model.specs.Session.{Session, Outcome, Kept, Refused, Keeps, Filled, Misfit, Values', refuse, done, shows, settle, keep, store_step, after_store, begin_step, after_begin, begin_unless, awaited, end_step, after_end, abort_step, find_step, after_find, found_by, create_step, put_step, put_area, after_put, filled, get_step, get_area, close_step, open_as, open_step, verb_step, step_at, step, with_program, work_of, restart_of, someone_works, is_inquiry, opens, changes, path_of, new_program, place_of, carried, entered, left, without, idle, found_program, let_go, area_kept, kept_unless, put_kept, missing_from, verified, area_values, area_number, record_of, is_free, one_more}
+use Rattle.dms_model.specs.Session.{Session, Outcome, StoreResult, Refused, Keeps, Filled, Misfit, Values', refuse, done, shows, settle, keep, store_step, after_store, begin_step, after_begin, begin_unless, awaited, end_step, after_end, abort_step, find_step, after_find, found_by, create_step, put_step, put_area, after_put, filled, get_step, get_area, close_step, open_as, open_step, verb_step, step_at, step, with_program, work_of, restart_of, someone_works, is_inquiry, opens, changes, path_of, new_program, place_of, carried, entered, left, without, idle, found_program, let_go, area_kept, kept_unless, put_kept, missing_from, verified, area_values, area_number, record_of, is_free, one_more}
 use Rattle.dms_model.specs.BackOut.{asks_back_out}
-use Rattle.dms_storeverbs.specs.Laws.{MakesNone, Makes, falls_quiet, QuietRule}
+use Rattle.dms_storeverbs.specs.Laws.{MakesNone, MakesWhereQuiet, falls_quiet, QuietRule}
 
 -- no quiet point was made, and someone who worked still works
 pub record Steady (s : Session) (o : Outcome) : Type 0 where
@@ -32,8 +32,8 @@ still_at true w w' h = refl
 still_at false false w' h = refl
 still_at false true w' h = rw (h refl) refl
 
-by_steady : (verb : Verb) (s : Session) (o : Outcome) → Steady s o → Makes (falls_quiet verb s o.session) s o
-by_steady verb s o steady = subst (λ (b : Bool). Makes b s o) (sym (still_at (asks_back_out verb) (someone_works s.programs) (someone_works o.session.programs) steady.works)) steady.none
+by_steady : (verb : Verb) (s : Session) (o : Outcome) → Steady s o → MakesWhereQuiet (falls_quiet verb s o.session) s o
+by_steady verb s o steady = subst (λ (b : Bool). MakesWhereQuiet b s o) (sym (still_at (asks_back_out verb) (someone_works s.programs) (someone_works o.session.programs) steady.works)) steady.none
 
 -- programs that work
 
@@ -87,7 +87,7 @@ steady_if : (s : Session) (b : Bool) (x y : Outcome) → Steady s x → Steady s
 steady_if s true x y p q = p
 steady_if s false x y p q = q
 
-makes_if : (verb : Verb) (s : Session) (b : Bool) (x y : Outcome) → Makes (falls_quiet verb s x.session) s x → Makes (falls_quiet verb s y.session) s y → Makes (falls_quiet verb s (cond b x y).session) s (cond b x y)
+makes_if : (verb : Verb) (s : Session) (b : Bool) (x y : Outcome) → MakesWhereQuiet (falls_quiet verb s x.session) s x → MakesWhereQuiet (falls_quiet verb s y.session) s y → MakesWhereQuiet (falls_quiet verb s (cond b x y).session) s (cond b x y)
 makes_if verb s true x y p q = p
 makes_if verb s false x y p q = q
 
@@ -103,11 +103,11 @@ module _ (s : Session) (i : ℕ) (p : Program) (at : slice_get s.programs i ≡ 
   steady_at q text same = steady_shows s (with_program s i q) text refl refl (λ w. set_works s.programs i p q at same ∙ w)
 
   -- storing leaves the program at work as it was
-  abbrev pub SameWork : Kept → Type 0
+  abbrev pub SameWork : StoreResult → Type 0
   SameWork (Refused c n) = Unit {0}
   SameWork (Keeps q db) = q.in_transaction ≡ p.in_transaction
 
-  pub same_if : (b : Bool) (x y : Kept) → SameWork x → SameWork y → SameWork (cond b x y)
+  pub same_if : (b : Bool) (x y : StoreResult) → SameWork x → SameWork y → SameWork (cond b x y)
   same_if true x y u v = u
   same_if false x y u v = v
 
@@ -131,11 +131,11 @@ module _ (s : Session) (i : ℕ) (p : Program) (at : slice_get s.programs i ≡ 
   pub if_same : (audit : Bool) (desc : Described) → SameWork (cond audit (keep desc p s.db (restart_of desc)) (Keeps p s.db))
   if_same audit desc = same_if audit (keep desc p s.db (restart_of desc)) (Keeps p s.db) (keep_same desc s.db (restart_of desc)) refl
 
-  store_steady : (k : Kept) → SameWork k → Steady s (after_store k i s)
+  store_steady : (k : StoreResult) → SameWork k → Steady s (after_store k i s)
   store_steady (Refused c n) same = steady_refuse s c n
   store_steady (Keeps q db) same = steady_shows s _ [] refl refl (λ w. set_works s.programs i p (carried q) at same ∙ w)
 
-  after_begin_steady : (k : Kept) → Steady s (after_begin k i s)
+  after_begin_steady : (k : StoreResult) → Steady s (after_begin k i s)
   after_begin_steady (Refused c n) = steady_refuse s c n
   after_begin_steady (Keeps q db) = steady_shows s _ [] refl refl (λ w. set_enters s.programs i p (entered q) at refl)
 
@@ -169,7 +169,7 @@ module _ (s : Session) (i : ℕ) (p : Program) (at : slice_get s.programs i ≡ 
   store_rule : (b : Bool) (desc : Described) (set : ℕ) → Steady s (cond b (after_store (keep desc p s.db set) i s) (refuse s AuditError p.name))
   store_rule b desc set = steady_if s b _ _ (store_steady (keep desc p s.db set) (keep_same desc s.db set)) (steady_refuse s AuditError p.name)
 
-settle_at : (verb : Verb) (s t : Session) (w b : Bool) → asks_back_out verb ≡ false → someone_works s.programs ≡ true → t.next ≡ s.next → t.mark ≡ s.mark → (s.pending ≡ true → t.pending ≡ true) → someone_works t.programs ≡ w → t.pending ≡ b → Makes (falls_quiet verb s (settle t).session) s (settle t)
+settle_at : (verb : Verb) (s t : Session) (w b : Bool) → asks_back_out verb ≡ false → someone_works s.programs ≡ true → t.next ≡ s.next → t.mark ≡ s.mark → (s.pending ≡ true → t.pending ≡ true) → someone_works t.programs ≡ w → t.pending ≡ b → MakesWhereQuiet (falls_quiet verb s (settle t).session) s (settle t)
 unfolding settle
 settle_at verb s t true b other works number mark pending e f = rw e (by_steady verb s (done t) (steady_shows s t [] number mark (λ h. e)))
 settle_at verb s t false true other works number mark pending e f =
@@ -181,13 +181,13 @@ or_pending : (a b c : Bool) → a ≡ true → (a || b || c) ≡ true
 or_pending true b c h = refl
 or_pending false b c h = absurd (cc)
 
-end_rule : (desc : Described) (s : Session) (i : ℕ) (p : Program) (verb : Verb) (k : Kept) (sync : Bool) → asks_back_out verb ≡ false → someone_works s.programs ≡ true → Makes (falls_quiet verb s (after_end k desc i s sync).session) s (after_end k desc i s sync)
+end_rule : (desc : Described) (s : Session) (i : ℕ) (p : Program) (verb : Verb) (k : StoreResult) (sync : Bool) → asks_back_out verb ≡ false → someone_works s.programs ≡ true → MakesWhereQuiet (falls_quiet verb s (after_end k desc i s sync).session) s (after_end k desc i s sync)
 end_rule desc s i p verb (Refused c n) sync other works = by_steady verb s (refuse s c n) (steady_refuse s c n)
 end_rule desc s i p verb (Keeps q db) sync other works =
     let t : Session = record s { db = db; programs = slice_set s.programs i (left q); pending = s.pending || sync || nat_le desc.syncpoint (one_more s.since); since = one_more s.since } in
     settle_at verb s t (someone_works t.programs) t.pending other works refl refl (or_pending s.pending sync (nat_le desc.syncpoint (one_more s.since))) refl refl
 
-end_at : (desc : Described) (s : Session) (i : ℕ) (p : Program) (at : slice_get s.programs i ≡ Some p) (b audit sync : Bool) → p.in_transaction ≡ b → Makes (falls_quiet (End audit sync) s (cond b (after_end (cond audit (keep desc p s.db (restart_of desc)) (Keeps p s.db)) desc i s sync) (refuse s AuditError p.name)).session) s (cond b (after_end (cond audit (keep desc p s.db (restart_of desc)) (Keeps p s.db)) desc i s sync) (refuse s AuditError p.name))
+end_at : (desc : Described) (s : Session) (i : ℕ) (p : Program) (at : slice_get s.programs i ≡ Some p) (b audit sync : Bool) → p.in_transaction ≡ b → MakesWhereQuiet (falls_quiet (End audit sync) s (cond b (after_end (cond audit (keep desc p s.db (restart_of desc)) (Keeps p s.db)) desc i s sync) (refuse s AuditError p.name)).session) s (cond b (after_end (cond audit (keep desc p s.db (restart_of desc)) (Keeps p s.db)) desc i s sync) (refuse s AuditError p.name))
 end_at desc s i p at true audit sync is = end_rule desc s i p (End audit sync) (cond audit (keep desc p s.db (restart_of desc)) (Keeps p s.db)) sync refl (works_at s.programs i p at is)
 end_at desc s i p at false audit sync is = by_steady (End audit sync) s (refuse s AuditError p.name) (steady_refuse s AuditError p.name)
 
@@ -195,7 +195,7 @@ none_if : (s : Session) (b : Bool) (x y : Outcome) → MakesNone s x → MakesNo
 none_if s true x y u v = u
 none_if s false x y u v = v
 
-verb_rule : (desc : Described) (i : ℕ) (p : Program) (s : Session) (v : Verb) → slice_get s.programs i ≡ Some p → Makes (falls_quiet v s (verb_step desc i p s v).session) s (verb_step desc i p s v)
+verb_rule : (desc : Described) (i : ℕ) (p : Program) (s : Session) (v : Verb) → slice_get s.programs i ≡ Some p → MakesWhereQuiet (falls_quiet v s (verb_step desc i p s v).session) s (verb_step desc i p s v)
 unfolding verb_step store_step begin_step end_step abort_step find_step create_step put_step get_step close_step
 verb_rule desc i p s OpenUpdate at = by_steady OpenUpdate s _ (steady_refuse s _ _)
 verb_rule desc i p s OpenInquiry at = by_steady OpenInquiry s _ (steady_refuse s _ _)
@@ -231,7 +231,7 @@ open_steady desc s name Abort = steady_refuse s _ _
 abbrev pub due_outcome : Session → ℕ → Program → List ℕ → Outcome
 due_outcome s i p name = record { session = with_program s i (record p { owes_abort = false }); reply = Exception AbortDue name; sync = None; quiets = [] }
 
-step_at_rule : (desc : Described) (o : Option Program) (i : ℕ) (s : Session) (name : List ℕ) (v : Verb) → slice_get s.programs i ≡ o → Makes (falls_quiet v s (step_at desc o i s name v).session) s (step_at desc o i s name v)
+step_at_rule : (desc : Described) (o : Option Program) (i : ℕ) (s : Session) (name : List ℕ) (v : Verb) → slice_get s.programs i ≡ o → MakesWhereQuiet (falls_quiet v s (step_at desc o i s name v).session) s (step_at desc o i s name v)
 step_at_rule desc None i s name v at = by_steady v s _ (open_steady desc s name v)
 step_at_rule desc (Some p) i s name v at =
     makes_if v s (opens v) _ _ (by_steady v s _ (steady_refuse s _ _))

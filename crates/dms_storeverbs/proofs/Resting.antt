@@ -11,7 +11,7 @@ use Rattle.dms_model.specs.declared.verb.Verb.TheVariants.{OpenUpdate, OpenInqui
 use Rattle.dms_model.specs.declared.spot.Spot.{Spot}
 use Rattle.dms_model.specs.declared.verb.Setting.{Setting}
 use Rattle.dms_desc.specs.Lookups.{structure_of, items_of}
-use Rattle.dms_model.specs.Session.{Session, Outcome, Kept, Refused, Keeps, Filled, Misfit, Values', refuse, done, settle, keep, store_step, after_store, begin_step, after_begin, begin_unless, awaited, end_step, after_end, abort_step, find_step, after_find, found_by, create_step, put_step, put_area, after_put, filled, get_step, get_area, close_step, open_step, verb_step, step_at, step, work_of, restart_of, someone_works, is_inquiry, opens, changes, path_of, place_of, carried, entered, left, without, one_more, area_values}
+use Rattle.dms_model.specs.Session.{Session, Outcome, StoreResult, Refused, Keeps, Filled, Misfit, Values', refuse, done, settle, keep, store_step, after_store, begin_step, after_begin, begin_unless, awaited, end_step, after_end, abort_step, find_step, after_find, found_by, create_step, put_step, put_area, after_put, filled, get_step, get_area, close_step, open_step, verb_step, step_at, step, work_of, restart_of, someone_works, is_inquiry, opens, changes, path_of, place_of, carried, entered, left, without, one_more, area_values}
 use Rattle.dms_storeverbs.specs.Laws.{Rests, RestRule}
 use Rattle.dms_storeverbs.proofs.Quiet.{Steady, set_enters, SameWork, keep_same, find_steady, get_steady, close_steady, steady_at, let_go_works, open_steady, due_outcome, set_works}
 
@@ -41,11 +41,11 @@ settle_rests s t false true works pending = rw (works, pending) (λ is idle. ref
 settle_rests s t false false works pending = rw (works, pending) (λ is idle. refl)
 
 module _ (s : Session) (i : ℕ) (p : Program) (at : slice_get s.programs i ≡ Some p) where
-  store_rests : (k : Kept) → SameWork s i p at k → p.in_transaction ≡ true → Resting s (after_store k i s)
+  store_rests : (k : StoreResult) → SameWork s i p at k → p.in_transaction ≡ true → Resting s (after_store k i s)
   store_rests (Refused c n) same is = λ r. r
   store_rests (Keeps q db) same is = working s (after_store (Keeps q db) i s) (set_enters s.programs i p (carried q) at (same ∙ is))
 
-  begin_rests : (k : Kept) → Resting s (after_begin k i s)
+  begin_rests : (k : StoreResult) → Resting s (after_begin k i s)
   begin_rests (Refused c n) = λ r. r
   begin_rests (Keeps q db) = working s (after_begin (Keeps q db) i s) (set_enters s.programs i p (entered q) at refl)
 
@@ -53,7 +53,7 @@ module _ (s : Session) (i : ℕ) (p : Program) (at : slice_get s.programs i ≡ 
   unless_rests [] desc audit = begin_rests (cond audit (keep desc p s.db (restart_of desc)) (Keeps p s.db))
   unless_rests (q ∷ qs) desc audit = λ r. r
 
-  end_rests : (k : Kept) (desc : Described) (sync : Bool) → Resting s (after_end k desc i s sync)
+  end_rests : (k : StoreResult) (desc : Described) (sync : Bool) → Resting s (after_end k desc i s sync)
   end_rests (Refused c n) desc sync = λ r. r
   end_rests (Keeps q db) desc sync =
       let t : Session = record s { db = db; programs = slice_set s.programs i (left q); pending = s.pending || sync || nat_le desc.syncpoint (one_more s.since); since = one_more s.since } in

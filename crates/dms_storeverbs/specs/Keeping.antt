@@ -4,17 +4,17 @@ use Rattle.std.specs.declared.option.Option.{Option}
 use Rattle.dms_desc.specs.Shape.{Described}
 use Rattle.dms_model.specs.declared.program.Program.{Program}
 use Rattle.dms_model.specs.Db.{Db}
-use Rattle.dms_model.specs.Session.{Session, Kept, Refused, Keeps, keep, restart_of}
+use Rattle.dms_model.specs.Session.{Session, StoreResult, Refused, Keeps, keep, restart_of}
 use Rattle.dms_storeverbs.specs.declared.refusal.Refusal.{Refusal}
-use Rattle.dms_storeverbs.specs.View.{View, Stands}
+use Rattle.dms_storeverbs.specs.View.{View, StandsFor}
 
 -- a refusal leaves all as it was; else the program and the database are those after storing
-abbrev pub KeptIs : Kept → ℕ → Session → Option Refusal → View → Type 0
-KeptIs (Refused category name) i s answer new = (answer ≡ Some (record { category = category; name = name })) × Stands new s
-KeptIs (Keeps p db) i s answer new = (answer ≡ None) × Stands new (record s { db = db; programs = slice_set s.programs i p })
+abbrev pub KeptIs : StoreResult → ℕ → Session → Option Refusal → View → Type 0
+KeptIs (Refused category name) i s answer new = (answer ≡ Some (record { category = category; name = name })) × StandsFor new s
+KeptIs (Keeps p db) i s answer new = (answer ≡ None) × StandsFor new (record s { db = db; programs = slice_set s.programs i p })
 
 -- with AUDIT the area of the restart data set is stored
-abbrev pub kept_if : Bool → Described → Program → Db → Kept
+abbrev pub kept_if : Bool → Described → Program → Db → StoreResult
 kept_if audit desc p db = if audit then keep desc p db (restart_of desc) else Keeps p db
 
 -- these programs are waited for, or nobody is

@@ -12,7 +12,7 @@ use Rattle.dms_model.specs.declared.put.Put.TheVariants.{Stored, Duplicate, Full
 use Rattle.dms_model.specs.Db.{Db}
 use Rattle.dms_desc.specs.Lookups.{structure_of, name_of}
 use Rattle.dms_model.specs.Stores.{put_answer, put_after}
-use Rattle.dms_model.specs.Session.{Kept, Refused, Keeps, keep, with_work, with_lock, Filled, Misfit, Values'}
+use Rattle.dms_model.specs.Session.{StoreResult, Refused, Keeps, keep, with_work, with_lock, Filled, Misfit, Values'}
 use Rattle.dms_base.specs.declared.value.Value.{Value}
 use Rattle.dms_storeverbs.specs.declared.storing.Judged.{Judged}
 use Rattle.dms_storeverbs.specs.declared.storing.Judged.TheVariants.{Refused as Not, Ready}
@@ -22,15 +22,15 @@ abbrev pub with_stored : Program → ℕ → ℕ → List Value → Program
 with_stored p set number values = with_lock (with_work p set (record { current = Some number; area = Some (Old values) })) set number
 
 -- what the answer of a store says of a record
-abbrev pub put_record : Put → Described → Program → Db → ℕ → Record → Kept
+abbrev pub put_record : Put → Described → Program → Db → ℕ → Record → StoreResult
 put_record (Stored number) desc p db set rec = Keeps (with_stored p set number rec.values) (put_after (Stored number) desc db set rec)
 put_record (Duplicate d) desc p db set rec = Refused Duplicates (name_of (structure_of desc d))
 put_record Full desc p db set rec = Refused LimitError (name_of (structure_of desc set))
 
 -- a program's area was refused, or the rest is what the store answers to this record, under this number
-abbrev pub Judges : Judged → Described → Program → Db → ℕ → Type 0
-Judges (Not r) desc p db set = keep desc p db set ≡ Refused r.category r.name
-Judges (Ready number rec) desc p db set = keep desc p db set ≡ put_record (put_answer desc db set number rec) desc p db set rec
+abbrev pub MatchesJudging : Judged → Described → Program → Db → ℕ → Type 0
+MatchesJudging (Not r) desc p db set = keep desc p db set ≡ Refused r.category r.name
+MatchesJudging (Ready number rec) desc p db set = keep desc p db set ≡ put_record (put_answer desc db set number rec) desc p db set rec
 
 -- a record that a data set may hold, without an owner, under a number that its records may have
 pub record Holds (desc : Described) (set : ℕ) (number : Option ℕ) (made : Record) : Type 0 where
@@ -49,6 +49,6 @@ AreReady (Not r) desc set = ⊤
 AreReady (Ready number rec) desc set = IsReady desc set number rec
 
 -- all literals went in, or the first one that doesn't fit is that of this item
-abbrev pub Fills : Option (List ℕ) → List Value → Filled → Type 0
-Fills None values made = made ≡ Values' values
-Fills (Some item) values made = made ≡ Misfit item
+abbrev pub FillsItems : Option (List ℕ) → List Value → Filled → Type 0
+FillsItems None values made = made ≡ Values' values
+FillsItems (Some item) values made = made ≡ Misfit item

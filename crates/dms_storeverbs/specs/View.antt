@@ -11,7 +11,7 @@ use Rattle.dms_model.specs.declared.reply.Answer.{Answer}
 use Rattle.dms_model.specs.declared.store.Store.{Ghosts}
 use Rattle.dms_model.specs.Db.{Db}
 use Rattle.dms_model.specs.Seen.{Seen, HasCauses}
-use Rattle.dms_model.specs.Points.{Files, Point, Quiet, Stop, Front, TextIs, told, known}
+use Rattle.dms_model.specs.Points.{Files, Point, Quiet, Stop, LeavesPrefix, TextIs, told, known}
 use Rattle.dms_model.specs.Session.{Session, Outcome}
 use Rattle.dms_storeverbs.specs.declared.engine.Engine.{Engine}
 
@@ -29,7 +29,7 @@ abbrev pub view_of : Option Db → Option Db → ℕ → List Program → Bool �
 view_of db mark next programs pending since = record { db = db; mark = mark; next = next; programs = programs; pending = pending; since = since }
 
 -- a view stands for a session: its store tells the databases, and they are the session's
-pub record Stands (v : View) (s : Session) : Type 0 where
+pub record StandsFor (v : View) (s : Session) : Type 0 where
   pub db : v.db ≡ Some s.db
   pub mark : v.mark ≡ Some s.mark
   pub next : v.next ≡ s.next
@@ -42,32 +42,32 @@ abbrev pub Room : ℕ → Type 0
 Room next = next + 2 < 2 ^ 64
 
 -- the answer and what is left are those of an outcome
-pub record Is (outcome : Outcome) (answer : Answer) (new : View) : Type 0 where
+pub record MatchesOutcome (outcome : Outcome) (answer : Answer) (new : View) : Type 0 where
   pub reply : answer.reply ≡ outcome.reply
   pub sync : answer.sync ≡ outcome.sync
-  pub session : Stands new outcome.session
+  pub session : StandsFor new outcome.session
 
 -- the points grew by these quiet points
-pub record Grew (old : List Point) (quiets : List Quiet) (new : List Point) : Type 0 where
+pub record PointsGrow (old : List Point) (quiets : List Quiet) (new : List Point) : Type 0 where
   pub more : List Point
   pub is : new ≡ old ++ more
   pub spells : map told more ≡ map known quiets
 
--- what stands in a stop: the first so many of the points and the quiet points behind them, at least those that are sure, and
+-- what stands in a stop: the first so many of the points and the quiet points behind them, at least those that are durable, and
 -- the next number behind those, fallen by no more than the points that are missing. The files are whole
-pub record Left (whole : Files → Type 0) (sure : ℕ) (points : List Point) (next : ℕ) (quiets : List Quiet) (stop : Stop) : Type 0 where
+pub record LeavesPoints (whole : Files → Type 0) (durable : ℕ) (points : List Point) (next : ℕ) (quiets : List Quiet) (stop : Stop) : Type 0 where
   pub made : List Quiet
   pub rest : List Quiet
   pub all : List Point
   pub front_of : made ++ rest ≡ quiets
-  pub grew : Grew points made all
-  pub front : Front whole sure all (next + length made) stop
+  pub grew : PointsGrow points made all
+  pub front : LeavesPrefix whole durable all (next + length made) stop
 
--- after a call: the points of then and its quiet points, and all are sure where a syncpoint is answered
-pub record Made (answer : Answer) (sure : ℕ) (points : List Point) (quiets : List Quiet) (sure' : ℕ) (points' : List Point) : Type 0 where
-  pub grew : Grew points quiets points'
-  pub later : sure ≤ sure'
-  pub synced : (n : ℕ) → answer.sync ≡ Some n → sure' ≡ length points'
+-- after a call: the points of then and its quiet points, and all are durable where a syncpoint is answered
+pub record MakesPoints (answer : Answer) (durable : ℕ) (points : List Point) (quiets : List Quiet) (durable' : ℕ) (points' : List Point) : Type 0 where
+  pub grew : PointsGrow points quiets points'
+  pub later : durable ≤ durable'
+  pub synced : (n : ℕ) → answer.sync ≡ Some n → durable' ≡ length points'
 
 module _ {St : Type 0} {g : Ghosts St} where
   -- what an engine's store tells
@@ -79,18 +79,18 @@ module _ {St : Type 0} {g : Ghosts St} where
 
 -- the same session stands
 abbrev pub SameSession : {St : Type 0} {g : Ghosts St} → Engine St g → Engine St g → Type 0
-SameSession old new = (s : Session) → Stands (view old) s → Stands (view new) s
+SameSession old new = (s : Session) → StandsFor (view old) s → StandsFor (view new) s
 
 -- a call did what an outcome says: its answer, its quiet points, and what a stop within it leaves. It found no block damaged
-pub record Did (o : Outcome) (old new : Seen) (now : View) (result : Result Answer BlockFault) : Type 0 where
-  pub answers : IfOk result (λ answer. Is o answer now)
-  pub made : old.tells → IfOk result (λ answer. Made answer old.sure old.points o.quiets new.sure new.points)
+pub record PerformsCall (o : Outcome) (old new : Seen) (now : View) (result : Result Answer BlockFault) : Type 0 where
+  pub answers : IfOk result (λ answer. MatchesOutcome o answer now)
+  pub made : old.tells → IfOk result (λ answer. MakesPoints answer old.durable old.points o.quiets new.durable new.points)
   pub undamaged : Undamaged result
-  pub leaves : old.tells → Runs old.clock new.clock (λ stop. Left old.whole old.sure old.points old.next o.quiets stop × TextIs old.said stop)
+  pub leaves : old.tells → Runs old.clock new.clock (λ stop. LeavesPoints old.whole old.durable old.points old.next o.quiets stop × TextIs old.said stop)
 
 -- a call does what f gives of the session that stands before it
 abbrev pub Does : {St : Type 0} {g : Ghosts St} → Engine St g → Engine St g → Result Answer BlockFault → (Session → Outcome) → Type 0
-Does old new result f = (s : Session) → Stands (view old) s → Room s.next → Did (f s) (seen old) (seen new) (view new) result
+Does old new result f = (s : Session) → StandsFor (view old) s → Room s.next → PerformsCall (f s) (seen old) (seen new) (view new) result
 
 -- whatever a call does, it stays the same engine, usable without a fault, and a fault has a cause
 pub record Lasts {St : Type 0} {g : Ghosts St} {T : Type 0} (result : Result T BlockFault) (old new : Engine St g) : Type 0 where

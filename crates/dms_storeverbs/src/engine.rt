@@ -4,7 +4,7 @@ ghost use Rattle.dms_model.specs.Db.{Db};
 ghost use Rattle.dms_model.specs.DescribedCode.{described_set};
 ghost use Rattle.dms_block.specs.Faults.{Undamaged};
 ghost use Rattle.dms_block.specs.Texts.{Prints};
-ghost use Rattle.dms_model.specs.Seen.{GoesBack, IsSilent, Keeps, SaysPart, StaysSure};
+ghost use Rattle.dms_model.specs.Seen.{GoesBack, IsSilent, Keeps, SaysPart, StaysDurable};
 ghost use Rattle.dms_model.specs.Session.{Session, fresh_session, ended, someone_works};
 
 use crate::programs;
@@ -30,14 +30,14 @@ pub struct Engine<St: Store> {
 }
 
 impl<St: Store> Engine<St> {
-    ghost use Rattle.dms_storeverbs.specs.View.{Lasts, SameSession, Stands, seen, view};
+    ghost use Rattle.dms_storeverbs.specs.View.{Lasts, SameSession, StandsFor, seen, view};
 
     /// An engine without programs over a store. After `Memory` the store is as it was.
     pub fn new(alloc: Global, desc: &Description, store: St) -> Result<Engine<St>, (Memory, St)>
         requires sound { (St.seen store).sound }
         requires desc { (St.seen store).desc ≡ described desc.now }
         requires mark { (St.seen store).mark ≡ (St.seen store).db }
-        ensures stands { IfOk result (λ e. (d : Db) → (St.seen store).db ≡ Some d → Stands (view e) (fresh_session d (St.seen store).next)) }
+        ensures stands { IfOk result (λ e. (d : Db) → (St.seen store).db ≡ Some d → StandsFor (view e) (fresh_session d (St.seen store).next)) }
         ensures store { IfOk result (λ e. e.store ≡ store) }
         ensures described { IfOk result (λ e. described e.desc ≡ described desc.now) }
         ensures memory { IfErr result (λ e. e.1 ≡ store) }
@@ -57,8 +57,8 @@ impl<St: Store> Engine<St> {
     /// Goes back to the last quiet point where a program is in transaction state.
     pub fn end(&mut self, alloc: Global) -> Result<(), BlockFault>
         requires sound { (seen self.old).sound }
-        ensures ended { OnOk result ((s : Session) → Stands (view self.old) s → Stands (view self.new) (ended s)) }
-        ensures points { OnOk result (StaysSure (seen self.old) (seen self.new)) }
+        ensures ended { OnOk result ((s : Session) → StandsFor (view self.old) s → StandsFor (view self.new) (ended s)) }
+        ensures points { OnOk result (StaysDurable (seen self.old) (seen self.new)) }
         ensures undamaged { (d : Db) → (seen self.old).db ≡ Some d → Undamaged result }
         ensures goes_back { someone_works self.old.programs.items ≡ true → GoesBack result (seen self.old).effort (seen self.new).effort }
         ensures stays { someone_works self.old.programs.items ≡ false → (seen self.new).effort ≡ (seen self.old).effort }

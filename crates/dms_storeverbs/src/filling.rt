@@ -5,7 +5,7 @@ ghost use Rattle.dms_desc.specs.declared.structure.Item.{Item};
 ghost use Rattle.dms_desc.specs.Conds.{item_of};
 ghost use Rattle.dms_model.specs.declared.program.Area.{Area};
 ghost use Rattle.dms_model.specs.Session.{filled, item_name, item_text, more_text, get_text, with_values};
-ghost use Rattle.dms_storeverbs.specs.Storing.{Fills};
+ghost use Rattle.dms_storeverbs.specs.Storing.{FillsItems};
 
 use crate::keys::fitted;
 use dms_base::{Bytes, ItemKind, Memory, Name, Value, text_for};
@@ -41,7 +41,7 @@ pub fn fill(
     settings: &[Setting],
     values: &mut Values,
 ) -> Result<Option<Name>, Memory>
-    ensures { IfOk result (λ item. Fills item values.new (filled items.now settings.now values.old)) }
+    ensures { IfOk result (λ item. FillsItems item values.new (filled items.now settings.now values.old)) }
 {
     for setting in settings {
         match fitted(alloc, items, setting.item, &setting.literal)? {

@@ -1,7 +1,7 @@
 ghost use Rattle.std.specs.Prelude.{◌≡◌, true, IfOk};
 ghost use Rattle.dms_desc.specs.Shape.{described};
 ghost use Rattle.dms_model.specs.Db.{Db};
-ghost use Rattle.dms_storeverbs.specs.Storing.{AreReady, Holds, Judges};
+ghost use Rattle.dms_storeverbs.specs.Storing.{AreReady, Holds, MatchesJudging};
 
 use crate::areas::{area_at, area_number, area_values, current_at, is_free, missing, record_of};
 use crate::refusal::Refusal;
@@ -45,7 +45,7 @@ pub fn judge(
     program: &Program,
     set: u16,
 ) -> Result<Judged, Memory>
-    ensures judged { IfOk result (λ j. (db : Db) → Judges j (described desc.now) program.now db set) }
+    ensures judged { IfOk result (λ j. (db : Db) → MatchesJudging j (described desc.now) program.now db set) }
     ensures ready { IfOk result (λ j. AreReady j (described desc.now) set) }
 {
     let Some(area) = area_at(program, set) else {

@@ -1,13 +1,13 @@
 ghost use Rattle.std.specs.Prelude.{◌≡◌, ◌≤◌, ◌<◌, ◌+◌, ◌^◌, ℕ, List, Bool, true, false, Some, None, IfOk, OnOk, IsErrOf, IsTrue, slice_get, length, if◌then◌else◌, []};
 ghost use Rattle.dms_desc.specs.Shape.{described};
 ghost use Rattle.dms_model.specs.declared.program.Program.{Program};
-ghost use Rattle.dms_model.specs.Seen.{IsMute, IsSilent, Spends, StaysSure};
+ghost use Rattle.dms_model.specs.Seen.{IsMute, IsSilent, Spends, StaysDurable};
 ghost use Rattle.dms_model.specs.Session.{Session, keep, settle, store_step, begin_step, end_step, abort_step};
 ghost use Rattle.dms_block.specs.Faults.{Undamaged};
 ghost use Rattle.dms_model.specs.Db.{Db};
 ghost use Rattle.dms_storeverbs.specs.Costs.{Costs, limit_if};
 ghost use Rattle.dms_storeverbs.specs.Keeping.{KeptIs, kept_if};
-ghost use Rattle.dms_storeverbs.specs.View.{Does, Lasts, Stands, seen, view};
+ghost use Rattle.dms_storeverbs.specs.View.{Does, Lasts, StandsFor, seen, view};
 
 use crate::refusal::{Refusal, done, refused};
 use crate::schema::restart_of;
@@ -24,9 +24,9 @@ impl<St: Store> Engine<St> {
     fn keep(&mut self, alloc: Global, i: usize, set: u16) -> Result<Option<Refusal>, BlockFault>
         requires place { i < length self.old.programs.items }
         requires sound { (seen self.old).sound }
-        ensures kept { IfOk result (λ r. (p : Program) → slice_get self.old.programs.items i ≡ Some p → (s : Session) → Stands (view self.old) s → KeptIs (keep (described self.old.desc) p s.db set) i s r (view self.new)) }
+        ensures kept { IfOk result (λ r. (p : Program) → slice_get self.old.programs.items i ≡ Some p → (s : Session) → StandsFor (view self.old) s → KeptIs (keep (described self.old.desc) p s.db set) i s r (view self.new)) }
         ensures count { OnOk result (length self.new.programs.items ≡ length self.old.programs.items) }
-        ensures points { OnOk result (StaysSure (seen self.old) (seen self.new)) }
+        ensures points { OnOk result (StaysDurable (seen self.old) (seen self.new)) }
         ensures silent { IsSilent (seen self.old) (seen self.new) }
         ensures undamaged { (d : Db) → (seen self.old).db ≡ Some d → Undamaged result }
         ensures spends { Spends (limit_if true (seen self.old).desc) (seen self.old).effort (seen self.new).effort }
@@ -63,9 +63,9 @@ impl<St: Store> Engine<St> {
     ) -> Result<Option<Refusal>, BlockFault>
         requires place { i < length self.old.programs.items }
         requires sound { (seen self.old).sound }
-        ensures kept { IfOk result (λ r. (p : Program) → slice_get self.old.programs.items i ≡ Some p → (s : Session) → Stands (view self.old) s → KeptIs (kept_if audit (described self.old.desc) p s.db) i s r (view self.new)) }
+        ensures kept { IfOk result (λ r. (p : Program) → slice_get self.old.programs.items i ≡ Some p → (s : Session) → StandsFor (view self.old) s → KeptIs (kept_if audit (described self.old.desc) p s.db) i s r (view self.new)) }
         ensures count { OnOk result (length self.new.programs.items ≡ length self.old.programs.items) }
-        ensures points { OnOk result (StaysSure (seen self.old) (seen self.new)) }
+        ensures points { OnOk result (StaysDurable (seen self.old) (seen self.new)) }
         ensures silent { IsSilent (seen self.old) (seen self.new) }
         ensures undamaged { (d : Db) → (seen self.old).db ≡ Some d → Undamaged result }
         ensures spends { Spends (limit_if audit (seen self.old).desc) (seen self.old).effort (seen self.new).effort }

@@ -4,12 +4,12 @@ ghost use Rattle.dms_model.specs.declared.program.Program.{Program};
 ghost use Rattle.dms_model.specs.Db.{Db};
 ghost use Rattle.dms_model.specs.BackOut.{asks_back_out};
 ghost use Rattle.dms_model.specs.Fitting.{IsStructure};
-ghost use Rattle.dms_model.specs.Seen.{IsMute, IsSilent, StaysSure};
+ghost use Rattle.dms_model.specs.Seen.{IsMute, IsSilent, StaysDurable};
 ghost use Rattle.dms_desc.specs.Lookups.{parts_of, set_of, structure_of, items_of};
 ghost use Rattle.dms_model.specs.Session.{Session, find_step, found_by, verb_step, step, key_values, at_values};
 ghost use Rattle.dms_block.specs.Faults.{Undamaged};
 ghost use Rattle.dms_storeverbs.specs.Costs.{Costs, block_limit, takes_none};
-ghost use Rattle.dms_storeverbs.specs.View.{Does, Lasts, SameSession, Stands, seen, view};
+ghost use Rattle.dms_storeverbs.specs.View.{Does, Lasts, SameSession, StandsFor, seen, view};
 
 use crate::keys::{agreeing, key_values};
 use crate::refusal::{done, refused};
@@ -32,7 +32,7 @@ impl<St: Store> Engine<St> {
         ensures found { IfOk result (λ r. (d : Db) → (seen self.old).db ≡ Some d → r ≡ at_values (key_values (parts_of (structure_of (described self.old.desc) x)) (items_of (structure_of (described self.old.desc) (set_of (described self.old.desc) x))) literals.now) (described self.old.desc) d x) }
         ensures stands { OnOk result (SameSession self.old self.new) }
         ensures programs { self.new.programs.items ≡ self.old.programs.items }
-        ensures points { OnOk result (StaysSure (seen self.old) (seen self.new)) }
+        ensures points { OnOk result (StaysDurable (seen self.old) (seen self.new)) }
         ensures silent { IsSilent (seen self.old) (seen self.new) }
         ensures undamaged { (d : Db) → (seen self.old).db ≡ Some d → Undamaged result }
         ensures effort { (seen self.new).effort ≡ (seen self.old).effort }
@@ -56,7 +56,7 @@ impl<St: Store> Engine<St> {
         ensures found { IfOk result (λ r. (d : Db) → (seen self.old).db ≡ Some d → r ≡ found_by (described self.old.desc) d path.now) }
         ensures stands { OnOk result (SameSession self.old self.new) }
         ensures programs { self.new.programs.items ≡ self.old.programs.items }
-        ensures points { OnOk result (StaysSure (seen self.old) (seen self.new)) }
+        ensures points { OnOk result (StaysDurable (seen self.old) (seen self.new)) }
         ensures silent { IsSilent (seen self.old) (seen self.new) }
         ensures undamaged { (d : Db) → (seen self.old).db ≡ Some d → Undamaged result }
         ensures effort { (seen self.new).effort ≡ (seen self.old).effort }

@@ -11,7 +11,7 @@ use Rattle.dms_tokens.specs.declared.token.Lexeme.{Lexeme}
 use Rattle.dms_tokens.specs.declared.reading.Reading.TheVariants.{Between, Comment}
 use Rattle.dms_tokens.specs.Lexing.{is_blank, is_plain, is_letter, is_digit, is_sign}
 use Rattle.dms_tokens.specs.Tokens.{lexeme, tokens_from, fresh_byte, comment_byte, byte_turn, end_turn}
-use Rattle.dms_tokens.specs.Spelling.{behind_point, number_of, Spells, IsLongest, is_past_comment, AreTokens}
+use Rattle.dms_tokens.specs.Spelling.{behind_point, number_of, SpellsToken, IsLongest, is_past_comment, AreTokens}
 use Rattle.dms_tokens.specs.Spelling.AreTokens.{the_end, a_blank, a_comment, a_token, unreadable}
 use Rattle.dms_tokens.proofs.WordScan.{stopped, never, is_byte}
 use Rattle.dms_tokens.proofs.Shapes.{class_of, letter_above, letter_below, sign_class, blank_class, Shape, shape_of, nothing_spelled, shape_class, word_is, Tail, number_shape_is, Signs, plus_is, minus_is, string_is, sign_is, equal_is, less_is, greater_is}
@@ -61,13 +61,13 @@ shape_same _ _ _ u not_equal_shape s = elim (less_is 60 (62 ∷ []) u s refl) [ 
 shape_same _ _ _ u greater_shape s = sym (greater_is 62 [] u s refl)
 shape_same _ _ _ u greater_equal_shape s = sym (greater_is 62 (61 ∷ []) u s refl).1
 
-spelled_same : (xs : List ℕ) (t u : Token) → Spells xs t → Spells xs u → t ≡ u
+spelled_same : (xs : List ℕ) (t u : Token) → SpellsToken xs t → SpellsToken xs u → t ≡ u
 spelled_same [] t u d f = absurd (nothing_spelled t d)
 spelled_same (b ∷ bs) t u d f = shape_same b bs t u (shape_of b bs t d) (shape_of b bs u f)
 
 -- A text begins with one token at most
 
--- of two fronts of a text one is a front of the other
+-- of two prefixes of a text one is a prefix of the other
 record Longer (f r g s : List ℕ) : Type 0 where
   more : List ℕ
   front : g ≡ f ++ more
@@ -91,12 +91,12 @@ record Same (f r : List ℕ) (t : Token) (g s : List ℕ) (u : Token) : Type 0 w
 
 same_by : (f r g s : List ℕ) (t u : Token) → IsLongest f r t → IsLongest g s u → Longer f r g s → Same f r t g s u
 same_by f r g s t u l m k =
-    let none : k.more ≡ [] = l.longest k.more s u k.rest (subst (λ (xs : List ℕ). Spells xs u) k.front m.spelled) in
+    let none : k.more ≡ [] = l.longest k.more s u k.rest (subst (λ (xs : List ℕ). SpellsToken xs u) k.front m.spelled) in
     let front : f ≡ g = sym (k.front ∙ ap (λ (xs : List ℕ). f ++ xs) none ∙ append-nil f) in
     record {
       front = front;
       rest = k.rest ∙ ap (λ (xs : List ℕ). xs ++ s) none;
-      token = spelled_same g t u (subst (λ (xs : List ℕ). Spells xs t) front l.spelled) m.spelled;
+      token = spelled_same g t u (subst (λ (xs : List ℕ). SpellsToken xs t) front l.spelled) m.spelled;
     }
 
 turned : (f r g s : List ℕ) (t u : Token) → Same g s u f r t → Same f r t g s u
@@ -166,7 +166,7 @@ shape_plain _ _ _ not_equal_shape = refl
 shape_plain _ _ _ greater_shape = refl
 shape_plain _ _ _ greater_equal_shape = refl
 
-spelled_plain : (b : ℕ) (bs front rest : List ℕ) (t : Token) → b ∷ bs ≡ front ++ rest → Spells front t → is_plain b ≡ true
+spelled_plain : (b : ℕ) (bs front rest : List ℕ) (t : Token) → b ∷ bs ≡ front ++ rest → SpellsToken front t → is_plain b ≡ true
 spelled_plain b bs [] rest t e d = absurd (nothing_spelled t d)
 spelled_plain b bs (c ∷ f) rest t e d = let same : b ≡ c = cc in ap is_plain same ∙ shape_plain c f t (shape_of c f t d)
 
@@ -258,7 +258,7 @@ end_read : (place : ℕ) → tokens_from Between place [] ≡ lexeme End place �
 unfolding end_turn
 end_read place = refl
 
-some_bytes : (front : List ℕ) (t : Token) → Spells front t → 1 ≤ length front
+some_bytes : (front : List ℕ) (t : Token) → SpellsToken front t → 1 ≤ length front
 some_bytes [] t d = absurd (nothing_spelled t d)
 some_bytes (b ∷ bs) t d = omega arith
 
@@ -303,7 +303,7 @@ token_read_by place text front rest t e l (inl k) =
     k.reads ∙ rw (s.front, s.rest, s.token) refl
 token_read_by place text front rest t e l (inr k) = absurd (k.none front rest t e l)
 
-first_is : (b : ℕ) (bs : List ℕ) (t : Token) → Spells (b ∷ bs) t → (is_blank b ≡ false) × (b == 37 ≡ false)
+first_is : (b : ℕ) (bs : List ℕ) (t : Token) → SpellsToken (b ∷ bs) t → (is_blank b ≡ false) × (b == 37 ≡ false)
 first_is b bs t d =
     let c = shape_class b bs t (shape_of b bs t d) in
     (false_from_ne_true (is_blank b) (λ (h : is_blank b ≡ true). let k = blank_class b h in omega arith), false_from_ne_true (b == 37) (λ (h : b == 37 ≡ true). let k : class_of b ≡ 11 = ap class_of (is_byte b 37 h) in omega arith))

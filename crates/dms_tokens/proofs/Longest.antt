@@ -10,7 +10,7 @@ use Rattle.dms_tokens.specs.declared.token.Token.TheVariants.{Word, Quoted, Sign
 use Rattle.dms_tokens.specs.declared.reading.Reading.TheVariants.{Between, Word as InWord, Whole, Quoted as InQuotes}
 use Rattle.dms_tokens.specs.Lexing.{is_blank, upper, is_letter, is_digit, is_sign}
 use Rattle.dms_tokens.specs.Tokens.{lexeme, tokens_from, first_digit, fresh_byte, byte_turn, signed_byte, less_byte, greater_byte, end_turn}
-use Rattle.dms_tokens.specs.Spelling.{goes_on, behind_point, number_of, doubled, IsSigned, Spells, IsLongest}
+use Rattle.dms_tokens.specs.Spelling.{goes_on, behind_point, number_of, doubled, IsSigned, SpellsToken, IsLongest}
 use Rattle.dms_tokens.specs.Spelling.IsSigned.{no_sign, with_plus, with_minus}
 use Rattle.dms_tokens.specs.Spelling.Spells.{a_word, a_number, a_string, a_sign, a_comparison}
 use Rattle.dms_tokens.proofs.WordScan.{stopped, never, scans, is_byte}
@@ -129,7 +129,7 @@ signs_true g m b bs t k =
     let f : k.others ≡ bs = let e : b ∷ bs ≡ k.first ∷ k.others = k.all in cc in
     rw (← f) (tail_true g m k.first k.others t k.tail)
 
-number_more : (s : List ℕ) (g n : Bool) (b : ℕ) (xs : List ℕ) (t : Token) → IsSigned s g n → is_digit b ≡ true → Spells (s ++ (b ∷ xs)) t → number_tail xs ≡ true
+number_more : (s : List ℕ) (g n : Bool) (b : ℕ) (xs : List ℕ) (t : Token) → IsSigned s g n → is_digit b ≡ true → SpellsToken (s ++ (b ∷ xs)) t → number_tail xs ≡ true
 number_more _ _ _ b xs t no_sign i d = tail_true false false b xs t (number_shape_is b xs t (shape_of b xs t d) i)
 number_more _ _ _ b xs t with_plus i d = signs_true true false b xs t (plus_is 43 (b ∷ xs) t (shape_of 43 (b ∷ xs) t d) refl)
 number_more _ _ _ b xs t with_minus i d = signs_true true true b xs t (minus_is 45 (b ∷ xs) t (shape_of 45 (b ∷ xs) t d) refl)
@@ -142,7 +142,7 @@ signed_no_quote _ _ _ b xs text with_minus i e = let same : ◌≡◌ {A = ℕ} 
 number_longest : (s : List ℕ) (g n : Bool) (b : ℕ) (text : List ℕ) (k : NumberScan text) → IsSigned s g n → is_digit b ≡ true → IsLongest (s ++ (b ∷ (k.whole ++ behind_point k.fraction))) k.rest (number_of g n (b ∷ k.whole) k.fraction)
 number_longest s g n b text k d i = record {
   spelled = a_number s g n b k.whole k.fraction d i k.digits k.decimals;
-  longest = λ m back t e f. number_ends k.whole k.fraction k.rest m back k.digits k.ends k.no_point e (number_more s g n b ((k.whole ++ behind_point k.fraction) ++ m) t d i (subst (λ (xs : List ℕ). Spells xs t) (append_assoc s (b ∷ (k.whole ++ behind_point k.fraction)) m) f));
+  longest = λ m back t e f. number_ends k.whole k.fraction k.rest m back k.digits k.ends k.no_point e (number_more s g n b ((k.whole ++ behind_point k.fraction) ++ m) t d i (subst (λ (xs : List ℕ). SpellsToken xs t) (append_assoc s (b ∷ (k.whole ++ behind_point k.fraction)) m) f));
   closed = λ xs back e f. signed_no_quote s g n b (k.whole ++ behind_point k.fraction) xs d i e;
 }
 
@@ -321,7 +321,7 @@ nil_closed bs e = cc
 front_closed : (rest m back : List ℕ) → Closed rest → rest ≡ m ++ back → Closed m
 front_closed rest m back c e bs f = c (bs ++ back) (e ∙ ap (λ (xs : List ℕ). xs ++ back) f)
 
-string_ends : (text rest m back : List ℕ) (t : Token) → Closed rest → rest ≡ m ++ back → Spells ((34 ∷ (doubled text ++ 34 ∷ [])) ++ m) t → m ≡ []
+string_ends : (text rest m back : List ℕ) (t : Token) → Closed rest → rest ≡ m ++ back → SpellsToken ((34 ∷ (doubled text ++ 34 ∷ [])) ++ m) t → m ≡ []
 string_ends text rest m back t c e d =
     let k = string_is 34 ((doubled text ++ 34 ∷ []) ++ m) t (shape_of 34 ((doubled text ++ 34 ∷ []) ++ m) t d) refl in
     let same : doubled k.text ++ (34 ∷ []) ≡ doubled text ++ (34 ∷ m) = sym k.all ∙ append_assoc (doubled text) (34 ∷ []) m in
@@ -453,10 +453,10 @@ greater_two : (c : ℕ) (m : List ℕ) (t : Token) → greater_with (c ∷ m) t 
 greater_two c [] t k = refl
 greater_two c (d ∷ m) t k = absurd k
 
-less_with_of : (m : List ℕ) (t : Token) → Spells (60 ∷ m) t → less_with m t
+less_with_of : (m : List ℕ) (t : Token) → SpellsToken (60 ∷ m) t → less_with m t
 less_with_of m t d = less_is 60 m t (shape_of 60 m t d) refl
 
-greater_with_of : (m : List ℕ) (t : Token) → Spells (62 ∷ m) t → greater_with m t
+greater_with_of : (m : List ℕ) (t : Token) → SpellsToken (62 ∷ m) t → greater_with m t
 greater_with_of m t d = greater_is 62 m t (shape_of 62 m t d) refl
 
 less_taken : (place : ℕ) (bs : List ℕ) → ((m back : List ℕ) (t : Token) → bs ≡ m ++ back → less_with m t → m ≡ []) → tokens_from Between place (60 ∷ bs) ≡ lexeme (Compare Less) place ∷ tokens_from Between (place + 1) bs → Taken place (60 ∷ bs)

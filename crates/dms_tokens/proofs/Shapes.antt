@@ -9,7 +9,7 @@ use Rattle.dms_base.specs.declared.op.Op.TheVariants.{Equal, NotEqual, Less, Les
 use Rattle.dms_tokens.specs.declared.token.Token.{Token}
 use Rattle.dms_tokens.specs.declared.token.Token.TheVariants.{Word, Quoted, Sign, Compare}
 use Rattle.dms_tokens.specs.Lexing.{is_blank, is_printable, upper, is_letter, is_digit, is_sign}
-use Rattle.dms_tokens.specs.Spelling.{goes_on, behind_point, number_of, doubled, op_text, IsSigned, Spells}
+use Rattle.dms_tokens.specs.Spelling.{goes_on, behind_point, number_of, doubled, op_text, IsSigned, SpellsToken}
 use Rattle.dms_tokens.specs.Spelling.IsSigned.{no_sign, with_plus, with_minus}
 use Rattle.dms_tokens.specs.Spelling.Spells.{a_word, a_number, a_string, a_sign, a_comparison}
 use Rattle.dms_tokens.proofs.WordScan.{is_byte}
@@ -115,7 +115,7 @@ op_shaped LessEqual = record { first = 60; others = 61 ∷ []; all = refl; shape
 op_shaped Greater = record { first = 62; others = []; all = refl; shape = greater_shape }
 op_shaped GreaterEqual = record { first = 62; others = 61 ∷ []; all = refl; shape = greater_equal_shape }
 
-shaped : (xs : List ℕ) (t : Token) → Spells xs t → Shaped xs t
+shaped : (xs : List ℕ) (t : Token) → SpellsToken xs t → Shaped xs t
 shaped _ _ (a_word b bs l g) = record { first = b; others = bs; all = refl; shape = word_shape b bs l g }
 shaped _ _ (a_number s g m b ws fs d i j k) = number_shaped s g m b ws fs d i j k
 shaped _ _ (a_string text p l) = record { first = 34; others = doubled text ++ 34 ∷ []; all = refl; shape = string_shape text p l }
@@ -126,10 +126,10 @@ moved : (c b : ℕ) (cs bs : List ℕ) (t : Token) → c ≡ b → cs ≡ bs →
 moved c b cs bs t e f s = rw (← e, ← f) s
 
 -- the shape of bytes whose first one is known
-pub shape_of : (b : ℕ) (bs : List ℕ) (t : Token) → Spells (b ∷ bs) t → Shape b bs t
+pub shape_of : (b : ℕ) (bs : List ℕ) (t : Token) → SpellsToken (b ∷ bs) t → Shape b bs t
 shape_of b bs t d = let s = shaped (b ∷ bs) t d in moved s.first b s.others bs t (cc) (cc) s.shape
 
-pub nothing_spelled : (t : Token) → Spells [] t → ⊥
+pub nothing_spelled : (t : Token) → SpellsToken [] t → ⊥
 nothing_spelled t d = let s = shaped [] t d in let e : [] ≡ s.first ∷ s.others = s.all in cc
 
 -- no token begins with a byte of another class

@@ -25,7 +25,7 @@ dash h b bs e f = rw (e, f) refl
 other : (h : Bool) (b : ℕ) (bs : List ℕ) → is_letter b || is_digit b ≡ false → b == 45 ≡ false → goes_on h (b ∷ bs) ≡ false
 other h b bs e f = rw (e, f) refl
 
--- no front of a text goes on with a word
+-- no prefix of a text goes on with a word
 abbrev pub Ends : Bool → List ℕ → Type 0
 Ends h text = (m back : List ℕ) → text ≡ m ++ back → goes_on h m ≡ true → m ≡ []
 

@@ -51,18 +51,18 @@ op_text Greater = codes ">"
 op_text GreaterEqual = codes ">="
 
 -- these bytes have the form of this token
-pub data Spells : List ℕ → Token → Type 0 where
-  a_word : (b : ℕ) (bs : List ℕ) → is_letter b ≡ true → goes_on false bs ≡ true → Spells (b ∷ bs) (Word (map upper (b ∷ bs)))
-  a_number : (sign : List ℕ) (signed minus : Bool) (b : ℕ) (whole fraction : List ℕ) → IsSigned sign signed minus → is_digit b ≡ true → list_all is_digit whole ≡ true → list_all is_digit fraction ≡ true → Spells (sign ++ (b ∷ (whole ++ behind_point fraction))) (number_of signed minus (b ∷ whole) fraction)
-  a_string : (text : List ℕ) → list_all is_printable text ≡ true → length text ≤ 200 → Spells (34 ∷ (doubled text ++ 34 ∷ [])) (Quoted text)
-  a_sign : (b : ℕ) → is_sign b ≡ true → Spells (b ∷ []) (Sign b)
-  a_comparison : (op : Op) → Spells (op_text op) (Compare op)
+pub data SpellsToken : List ℕ → Token → Type 0 where
+  a_word : (b : ℕ) (bs : List ℕ) → is_letter b ≡ true → goes_on false bs ≡ true → SpellsToken (b ∷ bs) (Word (map upper (b ∷ bs)))
+  a_number : (sign : List ℕ) (signed minus : Bool) (b : ℕ) (whole fraction : List ℕ) → IsSigned sign signed minus → is_digit b ≡ true → list_all is_digit whole ≡ true → list_all is_digit fraction ≡ true → SpellsToken (sign ++ (b ∷ (whole ++ behind_point fraction))) (number_of signed minus (b ∷ whole) fraction)
+  a_string : (text : List ℕ) → list_all is_printable text ≡ true → length text ≤ 200 → SpellsToken (34 ∷ (doubled text ++ 34 ∷ [])) (Quoted text)
+  a_sign : (b : ℕ) → is_sign b ≡ true → SpellsToken (b ∷ []) (Sign b)
+  a_comparison : (op : Op) → SpellsToken (op_text op) (Compare op)
 
--- a token's bytes begin a text, and none follow that could belong to it: they have its form, no longer front of the
+-- a token's bytes begin a text, and none follow that could belong to it: they have its form, no longer prefix of the
 -- text has a token's form, and behind a string no quote stands, which would be one of its characters
 pub record IsLongest (front rest : List ℕ) (token : Token) : Type 0 where
-  pub spelled : Spells front token
-  pub longest : (more back : List ℕ) (t : Token) → rest ≡ more ++ back → Spells (front ++ more) t → more ≡ []
+  pub spelled : SpellsToken front token
+  pub longest : (more back : List ℕ) (t : Token) → rest ≡ more ++ back → SpellsToken (front ++ more) t → more ≡ []
   pub closed : (text back : List ℕ) → front ≡ 34 ∷ text → rest ≡ 34 ∷ back → ⊥
 
 -- no byte of a comment that goes on stands first

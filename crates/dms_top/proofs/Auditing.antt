@@ -16,7 +16,7 @@ use Rattle.dms_top.specs.declared.status.Status.{Status}
 use Rattle.dms_top.specs.declared.status.Status.TheVariants.{Ok, SayFault, DiskFault}
 use Rattle.dms_top.specs.Auditing.{IsOfPrinting, RefusesTrail, audit_status}
 use Rattle.dms_top.specs.Premises.{CountedAt}
-use Rattle.dms_top.specs.Words.{IsSilent}
+use Rattle.dms_top.specs.Words.{ComesUnsaid}
 
 module _ {T : Type 0} where
   pub of_printing : (r : Result T PrintFault) → IsOfPrinting (audit_status r)
@@ -43,7 +43,7 @@ module _ {T : Type 0} where
   printed (result.Err (Audit fault.Memory)) was is = absurd cc
   printed (result.Err Say) was is = absurd cc
 
-  pub silent : (r : Result T PrintFault) {A B : Type 0} → IfErr r (λ e. A → (IsLate e → ⊥) → B) → A → IsSilent (audit_status r) → B
+  pub silent : (r : Result T PrintFault) {A B : Type 0} → IfErr r (λ e. A → (IsLate e → ⊥) → B) → A → ComesUnsaid (audit_status r) → B
   silent (result.Ok x) was a quiet = absurd quiet
   silent (result.Err (Audit fault.NoDatabase)) was a quiet = was a (λ late. absurd late)
   silent (result.Err (Audit fault.Disk)) was a quiet = absurd quiet

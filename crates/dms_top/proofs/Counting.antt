@@ -7,15 +7,15 @@ use Rattle.dms_block.specs.Counts.{Faults}
 use Rattle.dms_block.specs.declared.block_fault.BlockFault.{BlockFault}
 use Rattle.dms_block.specs.declared.block_fault.BlockFault.TheVariants.{Disk, Memory as NoMemory, Full, Damaged, Say}
 use Rattle.dms_runner.specs.declared.run.RunFault.{RunFault}
-use Rattle.dms_runner.specs.declared.run.RunFault.TheVariants.{Block, Input, Lines, Bytes, Held, Memory}
-use Rattle.dms_runner.specs.Blaming.{BlamedBy}
+use Rattle.dms_runner.specs.declared.run.RunFault.TheVariants.{Block, Input, Lines, Bytes, Waiting, Memory}
+use Rattle.dms_runner.specs.Blaming.{IsBlamedOn}
 use Rattle.dms_top.specs.Premises.{CountedAt}
 
 unsaid : (P : Type 0) (a b : Faults) → b.say ≡ a.say → (P → ⊥) → CountedAt P a.say b.say
 unsaid P a b same other = record { later = omega (arith, same); failed = λ is. absurd (other is); once = omega (arith, same); clean = λ not_so. same }
 
 -- a run that printed in vain counted that once, and any other run counted no such failure
-pub say_counted : {T : Type 0} (P : Type 0) (r : Result T RunFault) (a b : Faults) → (P → IsErrOf r (Block Say)) → (IsErrOf r (Block Say) → P) → BlamedBy r a b → CountedAt P a.say b.say
+pub say_counted : {T : Type 0} (P : Type 0) (r : Result T RunFault) (a b : Faults) → (P → IsErrOf r (Block Say)) → (IsErrOf r (Block Say) → P) → IsBlamedOn r a b → CountedAt P a.say b.say
 say_counted P (Ok x) a b of to caused = unsaid P a b (ap (λ (f : Faults). f.say) caused) (λ is. cc (of is))
 say_counted P (Err (Block Disk)) a b of to caused = unsaid P a b (ap (λ (f : Faults). f.say) caused.1) (λ is. cc (of is))
 say_counted P (Err (Block NoMemory)) a b of to caused = unsaid P a b (ap (λ (f : Faults). f.say) caused) (λ is. cc (of is))
@@ -25,7 +25,7 @@ say_counted P (Err (Block Say)) a b of to caused = record { later = caused.0.lat
 say_counted P (Err Input) a b of to caused = unsaid P a b (ap (λ (f : Faults). f.say) caused) (λ is. cc (of is))
 say_counted P (Err Lines) a b of to caused = unsaid P a b (ap (λ (f : Faults). f.say) caused) (λ is. cc (of is))
 say_counted P (Err Bytes) a b of to caused = unsaid P a b (ap (λ (f : Faults). f.say) caused) (λ is. cc (of is))
-say_counted P (Err Held) a b of to caused = unsaid P a b (ap (λ (f : Faults). f.say) caused) (λ is. cc (of is))
+say_counted P (Err Waiting) a b of to caused = unsaid P a b (ap (λ (f : Faults). f.say) caused) (λ is. cc (of is))
 say_counted P (Err Memory) a b of to caused = unsaid P a b (ap (λ (f : Faults). f.say) caused) (λ is. cc (of is))
 
 -- a count that is known by what stands at both ends

@@ -9,12 +9,12 @@ use Rattle.dms_model.specs.Db.{empty_db}
 use Rattle.dms_plain.specs.Told.{told}
 use Rattle.dms_runner.specs.Answers.{lines_run, script_run}
 use Rattle.dms_runner.specs.Events.{text_of}
-use Rattle.dms_runner.specs.Running.{bytes_of, joined, CutInput}
+use Rattle.dms_runner.specs.Running.{bytes_of, text_of_lines, CutInput}
 use Rattle.dms_runner.proofs.Running.{joined_on}
 use Rattle.dms_block.specs.Texts.{Prints}
 use Rattle.dms_top.specs.Answering.{CutTry}
 use Rattle.dms_top.specs.Schema.{script_part}
-use Rattle.dms_top.specs.Taking.{Leaves, IsBehind, CutText}
+use Rattle.dms_top.specs.Taking.{LeavesLines, IsBehind, CutText}
 
 -- the same texts
 pub cut_moved : (d d' : Described) (all : List ℕ) (left left' : Option (List ℕ)) (b : Bool) (before after before' after' : List ℕ) → left ≡ left' → after ≡ after' → before ≡ before' → d ≡ d'
@@ -46,7 +46,7 @@ cut_text d all left said c =
       within = omega (arith, ap length c.leaves.lines, length-append c.done (raw_lines c.rest));
       part = c.cut.part;
       rest = c.cut.rest;
-      whole = c.leaves.whole ∙ ap (λ (x : List ℕ). joined c.done ++ x) c.cut.whole ∙ ap (λ (ls : List (List ℕ)). joined ls ++ (c.cut.part ++ c.cut.rest)) (sym t);
+      whole = c.leaves.whole ∙ ap (λ (x : List ℕ). text_of_lines c.done ++ x) c.cut.whole ∙ ap (λ (ls : List (List ℕ)). text_of_lines ls ++ (c.cut.part ++ c.cut.rest)) (sym t);
       left_is = c.cut.left_is;
       unended = c.cut.unended;
       few = omega (arith, ap length none);
@@ -58,7 +58,7 @@ cut_text d all left said c =
     }
 
 -- within the script: the lines of the script that were taken are answered
-pub cut_script : (d : Described) (done : List (List ℕ)) (all mid : List ℕ) (left : Option (List ℕ)) (before after : Option (List ℕ)) → Leaves done all mid → IsBehind done mid
+pub cut_script : (d : Described) (done : List (List ℕ)) (all mid : List ℕ) (left : Option (List ℕ)) (before after : Option (List ℕ)) → LeavesLines done all mid → IsBehind done mid
     → CutInput d empty_db 1 mid left before after → CutTry d all left before after
 cut_script d done all mid left before after leaves behind c =
     let ls = take c.n (raw_lines mid) in
@@ -69,8 +69,8 @@ cut_script d done all mid left before after leaves behind c =
       within = omega (arith, ap length leaves.lines, length-append done (raw_lines mid), c.took.within);
       part = c.part;
       rest = c.rest;
-      whole = leaves.whole ∙ ap (λ (x : List ℕ). joined done ++ x) c.whole ∙ sym (append_assoc (joined done) (joined ls) (c.part ++ c.rest))
-          ∙ ap (λ (x : List ℕ). x ++ (c.part ++ c.rest)) (sym (joined_on done ls)) ∙ ap (λ (xs : List (List ℕ)). joined xs ++ (c.part ++ c.rest)) (sym t);
+      whole = leaves.whole ∙ ap (λ (x : List ℕ). text_of_lines done ++ x) c.whole ∙ sym (append_assoc (text_of_lines done) (text_of_lines ls) (c.part ++ c.rest))
+          ∙ ap (λ (x : List ℕ). x ++ (c.part ++ c.rest)) (sym (joined_on done ls)) ∙ ap (λ (xs : List (List ℕ)). text_of_lines xs ++ (c.part ++ c.rest)) (sym t);
       left_is = c.left_is;
       unended = c.unended;
       few = omega (arith, ap length s, length-take c.n (raw_lines mid), c.took.few);

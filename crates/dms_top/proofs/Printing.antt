@@ -4,51 +4,51 @@ use Rattle.std.proofs.lemmas.List.{append-nil}
 use Rattle.std.proofs.lemmas.Option.{same_Some}
 use Rattle.dms_desc.specs.Shape.{Described}
 use Rattle.dms_model.specs.Db.{empty_db}
-use Rattle.dms_block.specs.Texts.{Prints, PrintsFront}
+use Rattle.dms_block.specs.Texts.{Prints, PrintsPrefix}
 use Rattle.dms_model.specs.Session.{fresh_session}
-use Rattle.dms_storeverbs.specs.View.{View, Stands}
+use Rattle.dms_storeverbs.specs.View.{View, StandsFor}
 use Rattle.dms_plain.specs.Told.{told}
 use Rattle.dms_runner.specs.Answers.{answers_text, script_events}
-use Rattle.dms_runner.specs.Events.{Event, SaidWhole, text_of}
-use Rattle.dms_runner.specs.Running.{Answered}
+use Rattle.dms_runner.specs.Events.{RunEvent, SaidWhole, text_of}
+use Rattle.dms_runner.specs.Running.{AnswersWhole}
 use Rattle.dms_top.specs.declared.status.SchemaFault.{SchemaFault}
 use Rattle.dms_top.specs.declared.status.LimitKind.{LimitKind}
-use Rattle.dms_top.specs.Answering.{Printed, PrintedFront, PrintedWhole, WithinLimits, Passes, judged_events, judged_text}
+use Rattle.dms_top.specs.Answering.{Printed, PrintedPrefix, PrintedWhole, WithinLimits, PassesLimit, judged_events, judged_text}
 
 -- a text that is told
 pub told_prints : (b : Bool) (before after text : List ℕ) → b ≡ true → Prints (told b before) (told b after) text → Printed before after text
 told_prints true before after text is prints = same_Some _ _ (prints before refl)
 told_prints false before after text is prints = absurd (cc)
 
-pub told_front : (b : Bool) (before after text : List ℕ) → b ≡ true → PrintsFront (told b before) (told b after) text → PrintedFront before after text
+pub told_front : (b : Bool) (before after text : List ℕ) → b ≡ true → PrintsPrefix (told b before) (told b after) text → PrintedPrefix before after text
 told_front true before after text is prints = let p = prints before refl in (p.0, same_Some _ _ p.1)
 told_front false before after text is prints = absurd (cc)
 
-pub limits_kept : (d : Described) (lines : List (List ℕ)) (before after : Option (List ℕ)) → Answered d empty_db 1 lines before after → WithinLimits d lines
+pub limits_kept : (d : Described) (lines : List (List ℕ)) (before after : Option (List ℕ)) → AnswersWhole d empty_db 1 lines before after → WithinLimits d lines
 limits_kept d lines before after a = record { few = a.few; short = a.short; room = a.room }
 
-pub nothing_printed : (before after text : List ℕ) → after ≡ before → PrintedFront before after text
+pub nothing_printed : (before after text : List ℕ) → after ≡ before → PrintedPrefix before after text
 nothing_printed before after text same = (0, same ∙ sym (append-nil before))
 
 -- the text of an accepted schema's script
 pub text_accepted : (j : Result Described SchemaFault) (d : Described) (lines : List (List ℕ)) → j ≡ Ok d → judged_text j lines ≡ answers_text d empty_db 1 lines
 text_accepted j d lines is = ap (λ (x : Result Described SchemaFault). judged_text x lines) is
 
-pub stands_at : (v : View) (n m : ℕ) → n ≡ m → Stands v (fresh_session empty_db n) → Stands v (fresh_session empty_db m)
-stands_at v n m same stands = subst (λ (k : ℕ). Stands v (fresh_session empty_db k)) same stands
+pub stands_at : (v : View) (n m : ℕ) → n ≡ m → StandsFor v (fresh_session empty_db n) → StandsFor v (fresh_session empty_db m)
+stands_at v n m same stands = subst (λ (k : ℕ). StandsFor v (fresh_session empty_db k)) same stands
 
 -- the same texts
-pub front_moved : (before after text before' after' text' : List ℕ) → after ≡ after' → before ≡ before' → text ≡ text' → PrintedFront before' after' text' → PrintedFront before after text
+pub front_moved : (before after text before' after' text' : List ℕ) → after ≡ after' → before ≡ before' → text ≡ text' → PrintedPrefix before' after' text' → PrintedPrefix before after text
 front_moved before after text before' after' text' a b t p = (p.0, a ∙ p.1 ∙ ap (λ (x : List ℕ). x ++ take p.0 text') (sym b) ∙ ap (λ (x : List ℕ). before ++ take p.0 x) (sym t))
 
 pub printed_moved : (before after text before' after' text' : List ℕ) → after ≡ after' → before ≡ before' → text ≡ text' → Printed before' after' text' → Printed before after text
 printed_moved before after text before' after' text' a b t p = a ∙ p ∙ ap (λ (x : List ℕ). x ++ text') (sym b) ∙ ap (λ (x : List ℕ). before ++ x) (sym t)
 
 pub passes_moved : (k : LimitKind) (d d' : Described) (lines : List (List ℕ)) (b : Bool) (before after before' after' : List ℕ) → after ≡ after' → before ≡ before' → d ≡ d'
-    → Passes k d' lines (told b before') (told b after') → Passes k d lines (told b before) (told b after)
+    → PassesLimit k d' lines (told b before') (told b after') → PassesLimit k d lines (told b before) (told b after)
 passes_moved k d d' lines b before after before' after' a o e p =
-    subst (λ (x : List ℕ). Passes k d lines (told b before) (told b x)) (sym a)
-    (subst (λ (x : List ℕ). Passes k d lines (told b x) (told b after')) (sym o) (subst (λ (x : Described). Passes k x lines (told b before') (told b after')) (sym e) p))
+    subst (λ (x : List ℕ). PassesLimit k d lines (told b before) (told b x)) (sym a)
+    (subst (λ (x : List ℕ). PassesLimit k d lines (told b x) (told b after')) (sym o) (subst (λ (x : Described). PassesLimit k x lines (told b before') (told b after')) (sym e) p))
 
 pub within_moved : (d d' : Described) (lines : List (List ℕ)) → d ≡ d' → WithinLimits d' lines → WithinLimits d lines
 within_moved d d' lines e w = subst (λ (x : Described). WithinLimits x lines) (sym e) w
@@ -70,8 +70,8 @@ same_description j d e first then_ = ap (or_that d) (sym then_ ∙ first)
 pub within_lines : (d : Described) (lines lines' : List (List ℕ)) → lines' ≡ lines → WithinLimits d lines' → WithinLimits d lines
 within_lines d lines lines' e w = subst (λ (x : List (List ℕ)). WithinLimits d x) e w
 
-pub passes_lines : (k : LimitKind) (d : Described) (lines lines' : List (List ℕ)) (before after : Option (List ℕ)) → lines' ≡ lines → Passes k d lines' before after → Passes k d lines before after
-passes_lines k d lines lines' before after e p = subst (λ (x : List (List ℕ)). Passes k d x before after) e p
+pub passes_lines : (k : LimitKind) (d : Described) (lines lines' : List (List ℕ)) (before after : Option (List ℕ)) → lines' ≡ lines → PassesLimit k d lines' before after → PassesLimit k d lines before after
+passes_lines k d lines lines' before after e p = subst (λ (x : List (List ℕ)). PassesLimit k d x before after) e p
 
 pub not_refused : (j : Result Described SchemaFault) (d : Described) (e : SchemaFault) → j ≡ Ok d → j ≡ Err e → ⊥
 not_refused (Ok x) d e p q = absurd (cc)
@@ -79,16 +79,16 @@ not_refused (Err x) d e p q = absurd (cc)
 
 -- whole events
 
-pub told_whole : (b : Bool) (before after : List ℕ) (events : List Event) → b ≡ true → SaidWhole (told b before) (told b after) events → PrintedWhole before after events
+pub told_whole : (b : Bool) (before after : List ℕ) (events : List RunEvent) → b ≡ true → SaidWhole (told b before) (told b after) events → PrintedWhole before after events
 told_whole b before after events is whole = (whole.0, told_prints b before after (text_of (take whole.0 events)) is whole.1)
 
-pub nothing_whole : (before after : List ℕ) (events : List Event) → after ≡ before → PrintedWhole before after events
+pub nothing_whole : (before after : List ℕ) (events : List RunEvent) → after ≡ before → PrintedWhole before after events
 nothing_whole before after events same = (0, same ∙ sym (append-nil before))
 
-pub whole_moved : (before after before' after' : List ℕ) (events events' : List Event) → after ≡ after' → before ≡ before' → events ≡ events' → PrintedWhole before' after' events' → PrintedWhole before after events
+pub whole_moved : (before after before' after' : List ℕ) (events events' : List RunEvent) → after ≡ after' → before ≡ before' → events ≡ events' → PrintedWhole before' after' events' → PrintedWhole before after events
 whole_moved before after before' after' events events' a b e p =
     subst (λ (x : List ℕ). PrintedWhole before x events) (sym a)
-    (subst (λ (x : List ℕ). PrintedWhole x after' events) (sym b) (subst (λ (x : List Event). PrintedWhole before' after' x) (sym e) p))
+    (subst (λ (x : List ℕ). PrintedWhole x after' events) (sym b) (subst (λ (x : List RunEvent). PrintedWhole before' after' x) (sym e) p))
 
 pub events_accepted : (j : Result Described SchemaFault) (d : Described) (lines : List (List ℕ)) → j ≡ Ok d → judged_events j lines ≡ script_events d empty_db 1 lines
 events_accepted j d lines is = ap (λ (x : Result Described SchemaFault). judged_events x lines) is

@@ -9,10 +9,10 @@ use Rattle.dms_runner.proofs.Lining.{line_text_long}
 use Rattle.dms_feed.specs.Feeds.{Remains}
 use Rattle.dms_feed.specs.Lines.{raw_lines, first_line, after_line, line_text}
 use Rattle.dms_feed.specs.Raws.{CutLine}
-use Rattle.dms_runner.specs.Running.{joined}
+use Rattle.dms_runner.specs.Running.{text_of_lines}
 use Rattle.dms_runner.proofs.Running.{first_joined, joined_on}
 use Rattle.dms_top.specs.Schema.{is_script, schema_part, script_part, schema_text}
-use Rattle.dms_top.specs.Taking.{Leaves, GoesOn, Ends, IsLong, IsText, CutText}
+use Rattle.dms_top.specs.Taking.{LeavesLines, TakesTextLine, EndsText, IsLong, IsWholeText, CutText}
 
 pub text_on : (all : List ℕ) → all ≢ [] → is_script (first_line all) ≡ false → schema_text all ≡ first_line all ++ schema_text (after_line all)
 text_on all some other = ap schema_part (lines_step all some) ∙ ap (λ (t : Bool). cond t [] (first_line all ++ schema_text (after_line all))) other
@@ -56,22 +56,22 @@ line_some (b ∷ bs) some = at (eqb b 10) b bs
     at false b bs = omega arith
 
 -- one line was taken
-leaves_one : (all : List ℕ) → all ≢ [] → Leaves (first_line all ∷ []) all (after_line all)
+leaves_one : (all : List ℕ) → all ≢ [] → LeavesLines (first_line all ∷ []) all (after_line all)
 leaves_one all some = record { lines = lines_step all some; whole = sym (first_joined all) ∙ ap (λ (l : List ℕ). l ++ after_line all) (sym (append-nil (first_line all))) }
 
 -- lines, and then lines
-leaves_on : (a b : List (List ℕ)) (all mid rest : List ℕ) → Leaves a all mid → Leaves b mid rest → Leaves (a ++ b) all rest
+leaves_on : (a b : List (List ℕ)) (all mid rest : List ℕ) → LeavesLines a all mid → LeavesLines b mid rest → LeavesLines (a ++ b) all rest
 leaves_on a b all mid rest p q = record {
   lines = p.lines ∙ ap (λ (ls : List (List ℕ)). a ++ ls) q.lines ∙ sym (append_assoc a b (raw_lines rest));
-  whole = p.whole ∙ ap (λ (x : List ℕ). joined a ++ x) q.whole ∙ sym (append_assoc (joined a) (joined b) rest) ∙ ap (λ (x : List ℕ). x ++ rest) (sym (joined_on a b));
+  whole = p.whole ∙ ap (λ (x : List ℕ). text_of_lines a ++ x) q.whole ∙ sym (append_assoc (text_of_lines a) (text_of_lines b) rest) ∙ ap (λ (x : List ℕ). x ++ rest) (sym (joined_on a b));
 }
 
-leaves_none : (all : List ℕ) → all ≡ [] → Leaves [] all (after_line all)
+leaves_none : (all : List ℕ) → all ≡ [] → LeavesLines [] all (after_line all)
 leaves_none all none = record { lines = ap raw_lines none ∙ sym (ap (λ (l : List ℕ). raw_lines (after_line l)) none); whole = none ∙ sym (ap after_line none) }
 
 -- a line that isn't SCRIPT was added
 pub goes_on : (all old new kept held : List ℕ) (n : ℕ) (left : Option (List ℕ)) → all ≢ [] → kept ≡ take 1000008 (first_line all) → n ≡ length (first_line all) → n ≤ 1000008
-    → is_script kept ≡ false → new ≡ old ++ kept → Remains held left (after_line all) → GoesOn old new all held left
+    → is_script kept ≡ false → new ≡ old ++ kept → Remains held left (after_line all) → TakesTextLine old new all held left
 goes_on all old new kept held n left some is len small other added remains =
     let w : kept ≡ first_line all = whole (first_line all) kept n is len small in
     let o : is_script (first_line all) ≡ false = ap is_script (sym w) ∙ other in
@@ -86,7 +86,7 @@ goes_on all old new kept held n left some is len small other added remains =
     }
 
 pub ends_at : (all old kept held : List ℕ) (n : ℕ) (left : Option (List ℕ)) → all ≢ [] → kept ≡ take 1000008 (first_line all) → n ≡ length (first_line all) → n ≤ 1000008
-    → is_script kept ≡ true → Remains held left (after_line all) → Ends old old all held left
+    → is_script kept ≡ true → Remains held left (after_line all) → EndsText old old all held left
 ends_at all old kept held n left some is len small here remains =
     let w : kept ≡ first_line all = whole (first_line all) kept n is len small in
     let h : is_script (first_line all) ≡ true = ap is_script (sym w) ∙ here in
@@ -101,7 +101,7 @@ ends_at all old kept held n left some is len small here remains =
       behind = λ i. ap (λ (t : Bool). cond t (take i (raw_lines (after_line all))) (script_part (take i (raw_lines (after_line all))))) h;
     }
 
-pub ends_none : (all old held : List ℕ) (left : Option (List ℕ)) → all ≡ [] → Remains held left (after_line all) → Ends old old all held left
+pub ends_none : (all old held : List ℕ) (left : Option (List ℕ)) → all ≡ [] → Remains held left (after_line all) → EndsText old old all held left
 ends_none all old held left none remains = record {
   rest = after_line all;
   remains = remains;
@@ -131,13 +131,13 @@ pub record Reaches (n : ℕ) (text all held : List ℕ) (left : Option (List ℕ
   pub script : script_part (raw_lines all) ≡ script_part (raw_lines rest)
   pub grown : n ≤ length text
   pub done : List (List ℕ)
-  pub leaves : Leaves done all rest
+  pub leaves : LeavesLines done all rest
   pub before : (ls : List (List ℕ)) → script_part (done ++ ls) ≡ script_part ls
 
 pub reaches_start : (all held : List ℕ) (left : Option (List ℕ)) → Remains held left all → Reaches 0 [] all held left
 reaches_start all held left remains = record { rest = all; remains = remains; is = refl; script = refl; grown = omega arith; done = []; leaves = record { lines = refl; whole = refl }; before = λ ls. refl }
 
-pub reaches_on : (n : ℕ) (old new all held held' : List ℕ) (left left' : Option (List ℕ)) (r : Reaches n old all held left) → GoesOn old new r.rest held' left' → Reaches (n + 1) new all held' left'
+pub reaches_on : (n : ℕ) (old new all held held' : List ℕ) (left left' : Option (List ℕ)) (r : Reaches n old all held left) → TakesTextLine old new r.rest held' left' → Reaches (n + 1) new all held' left'
 reaches_on n old new all held held' left left' r g =
     let l = first_line r.rest in
     record {
@@ -151,7 +151,7 @@ reaches_on n old new all held held' left left' r g =
       before = λ ls. ap script_part (append_assoc r.done (l ∷ []) ls) ∙ r.before (l ∷ ls) ∙ ap (λ (t : Bool). cond t ls (script_part ls)) g.other;
     }
 
-pub reaches_end : (n : ℕ) (old new all held held' : List ℕ) (left left' : Option (List ℕ)) (r : Reaches n old all held left) → Ends old new r.rest held' left' → IsText new all held' left'
+pub reaches_end : (n : ℕ) (old new all held held' : List ℕ) (left left' : Option (List ℕ)) (r : Reaches n old all held left) → EndsText old new r.rest held' left' → IsWholeText new all held' left'
 reaches_end n old new all held held' left left' r e = record {
   is = e.text ∙ sym (r.is ∙ ap (λ (t : List ℕ). old ++ t) e.none ∙ append-nil old);
   rest = e.rest;

@@ -9,11 +9,11 @@ use Rattle.dms_feed.specs.Lines.{raw_lines}
 use Rattle.dms_feed.specs.Raws.{IsUnended}
 use Rattle.dms_model.specs.Db.{empty_db}
 use Rattle.dms_runner.specs.Answers.{script_run, script_events, answers_text}
-use Rattle.dms_runner.specs.Events.{Event, text_of}
-use Rattle.dms_runner.specs.Running.{bytes_of, joined, PassesLines, PassesBytes, PassesHeld}
+use Rattle.dms_runner.specs.Events.{RunEvent, text_of}
+use Rattle.dms_runner.specs.Running.{bytes_of, text_of_lines, PassesLines, PassesBytes, PassesWaiting}
 use Rattle.dms_top.specs.declared.status.SchemaFault.{SchemaFault}
 use Rattle.dms_top.specs.declared.status.LimitKind.{LimitKind}
-use Rattle.dms_top.specs.declared.status.LimitKind.TheVariants.{Lines, Bytes, Held}
+use Rattle.dms_top.specs.declared.status.LimitKind.TheVariants.{Lines, Bytes, Waiting}
 use Rattle.dms_top.specs.Judging.{judged}
 use Rattle.dms_top.specs.Schema.{schema_text, script_part}
 
@@ -34,20 +34,20 @@ try_text input = judged_text (judged (schema_text input)) (script_of input)
 abbrev pub Printed : List ℕ → List ℕ → List ℕ → Type 0
 Printed before after text = after ≡ before ++ text
 
--- the text grew by a front of these bytes
-abbrev pub PrintedFront : List ℕ → List ℕ → List ℕ → Type 0
-PrintedFront before after text = (n : ℕ) × (after ≡ before ++ take n text)
+-- the text grew by a prefix of these bytes
+abbrev pub PrintedPrefix : List ℕ → List ℕ → List ℕ → Type 0
+PrintedPrefix before after text = (n : ℕ) × (after ≡ before ++ take n text)
 
 -- what a script does over the empty database, event by event; nothing where the schema is refused
-abbrev pub judged_events : Result Described SchemaFault → List (List ℕ) → List Event
+abbrev pub judged_events : Result Described SchemaFault → List (List ℕ) → List RunEvent
 judged_events (Ok d) lines = script_events d empty_db 1 lines
 judged_events (Err e) lines = []
 
-abbrev pub try_events : List ℕ → List Event
+abbrev pub try_events : List ℕ → List RunEvent
 try_events input = judged_events (judged (schema_text input)) (script_of input)
 
 -- the text grew by that of the first so many of these events, each one whole
-abbrev pub PrintedWhole : List ℕ → List ℕ → List Event → Type 0
+abbrev pub PrintedWhole : List ℕ → List ℕ → List RunEvent → Type 0
 PrintedWhole before after events = (k : ℕ) × Printed before after (text_of (take k events))
 
 -- a script that keeps the limits: 1,000,000 lines, 2,147,483,648 bytes, and no line that is one too many to hold
@@ -57,10 +57,10 @@ pub record WithinLimits (d : Described) (lines : List (List ℕ)) : Type 0 where
   pub room : (script_run d empty_db 1 lines).full ≡ false
 
 -- a script that passes a limit: what the lines before that place answer was printed, where the text is told
-abbrev pub Passes : LimitKind → Described → List (List ℕ) → Option (List ℕ) → Option (List ℕ) → Type 0
-Passes Lines d lines before after = PassesLines d empty_db 1 lines before after
-Passes Bytes d lines before after = PassesBytes d empty_db 1 lines before after
-Passes Held d lines before after = PassesHeld d empty_db 1 lines before after
+abbrev pub PassesLimit : LimitKind → Described → List (List ℕ) → Option (List ℕ) → Option (List ℕ) → Type 0
+PassesLimit Lines d lines before after = PassesLines d empty_db 1 lines before after
+PassesLimit Bytes d lines before after = PassesBytes d empty_db 1 lines before after
+PassesLimit Waiting d lines before after = PassesWaiting d empty_db 1 lines before after
 
 -- taking from the input failed: so many whole lines of it were taken, and what those among them answer that are lines of
 -- the script, which keep the limits with that part, was printed, where the text is told; a part of the next line was taken too, without its line feed, and the rest of the input is left
@@ -69,7 +69,7 @@ pub record CutTry (d : Described) (input : List ℕ) (left : Option (List ℕ)) 
   pub within : n ≤ length (raw_lines input)
   pub part : List ℕ
   pub rest : List ℕ
-  pub whole : input ≡ joined (take n (raw_lines input)) ++ (part ++ rest)
+  pub whole : input ≡ text_of_lines (take n (raw_lines input)) ++ (part ++ rest)
   pub left_is : left ≡ Some rest
   pub unended : IsUnended part
   pub few : length (script_part (take n (raw_lines input))) ≤ 1000000

@@ -12,20 +12,20 @@ use Rattle.dms_top.specs.declared.status.Status.TheVariants.{Ok, BadWords, Schem
 unfoldable pub compiled_text : ℕ → List ℕ
 compiled_text count = codes "COMPILED " ++ decimal count ++ codes " STRUCTURES" ++ 10 ∷ []
 
--- one line is printed: whole at Ok, a front of it where printing failed, and else nothing
-abbrev pub Says : Status → List ℕ → List ℕ → List ℕ → Type 0
-Says Ok line old new = new ≡ old ++ line
-Says BadWords line old new = new ≡ old
-Says (SchemaRefused f) line old new = new ≡ old
-Says NoDatabase line old new = new ≡ old
-Says (Needed n) line old new = new ≡ old
-Says (Damaged f b) line old new = new ≡ old
-Says InputFault line old new = new ≡ old
-Says Memory line old new = new ≡ old
-Says (Limit l) line old new = new ≡ old
-Says SayFault line old new = (k : ℕ) × (new ≡ old ++ take k line)
-Says DiskFault line old new = new ≡ old
-Says Exists line old new = new ≡ old
+-- one line is printed: whole at Ok, a prefix of it where printing failed, and else nothing
+abbrev pub SaysLine : Status → List ℕ → List ℕ → List ℕ → Type 0
+SaysLine Ok line old new = new ≡ old ++ line
+SaysLine BadWords line old new = new ≡ old
+SaysLine (SchemaRefused f) line old new = new ≡ old
+SaysLine NoDatabase line old new = new ≡ old
+SaysLine (Needed n) line old new = new ≡ old
+SaysLine (Damaged f b) line old new = new ≡ old
+SaysLine InputFault line old new = new ≡ old
+SaysLine Memory line old new = new ≡ old
+SaysLine (Limit l) line old new = new ≡ old
+SaysLine SayFault line old new = (k : ℕ) × (new ≡ old ++ take k line)
+SaysLine DiskFault line old new = new ≡ old
+SaysLine Exists line old new = new ≡ old
 
 -- the statuses of `compile` with which something was said, or may have been
 abbrev pub IsSpoken : Status → Type 0
@@ -83,7 +83,7 @@ abbrev pub SaysSealed : List ℕ → Clock Left → Clock Left → Type 0
 SaysSealed made old new = Runs old new (λ x. ((y : Left) × Now old y × (x.said ≡ y.said)) ⊎ (x.files 1 ≡ made))
 
 -- the files and the text stay, and a stop on the way leaves what it could leave before
-pub record IsKept (files files' : Files) (said said' : List ℕ) (old new : Clock Left) : Type 0 where
+pub record FilesAndTextStay (files files' : Files) (said said' : List ℕ) (old new : Clock Left) : Type 0 where
   pub files_is : files' ≡ files
   pub said_is : said' ≡ said
   pub moments : Steps Same old new

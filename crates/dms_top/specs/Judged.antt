@@ -8,7 +8,7 @@ use Rattle.dms_top.specs.declared.judge.Judged.{Judged}
 use Rattle.dms_top.specs.declared.judge.Judged.TheVariants.{Description, Refused, Memory}
 
 -- the answer is this description or fault; want of memory says nothing
-abbrev pub Judges : Judged → Result Described SchemaFault → Type 0
-Judges (Description d) judged = judged ≡ Ok (described d)
-Judges (Refused e) judged = judged ≡ Err e
-Judges Memory judged = ⊤
+abbrev pub AnswersJudging : Judged → Result Described SchemaFault → Type 0
+AnswersJudging (Description d) judged = judged ≡ Ok (described d)
+AnswersJudging (Refused e) judged = judged ≡ Err e
+AnswersJudging Memory judged = ⊤

@@ -4,22 +4,22 @@ use Rattle.std.specs.declared.option.Option.{Option}
 use Rattle.dms_feed.specs.Feeds.{Remains}
 use Rattle.dms_feed.specs.Lines.{raw_lines, first_line}
 use Rattle.dms_feed.specs.Raws.{CutLine}
-use Rattle.dms_runner.specs.Running.{joined}
+use Rattle.dms_runner.specs.Running.{text_of_lines}
 use Rattle.dms_top.specs.Schema.{is_script, schema_text, script_part}
 
 -- these whole lines were taken, and the rest remains
-pub record Leaves (done : List (List ℕ)) (all rest : List ℕ) : Type 0 where
+pub record LeavesLines (done : List (List ℕ)) (all rest : List ℕ) : Type 0 where
   pub lines : raw_lines all ≡ done ++ raw_lines rest
-  pub whole : all ≡ joined done ++ rest
+  pub whole : all ≡ text_of_lines done ++ rest
 
 -- the text goes on behind a line that was added to it
-pub record GoesOn (old new all held : List ℕ) (left : Option (List ℕ)) : Type 0 where
+pub record TakesTextLine (old new all held : List ℕ) (left : Option (List ℕ)) : Type 0 where
   pub rest : List ℕ
   pub remains : Remains held left rest
   pub text : old ++ schema_text all ≡ new ++ schema_text rest
   pub script : script_part (raw_lines all) ≡ script_part (raw_lines rest)
   pub longer : length old < length new
-  pub leaves : Leaves (first_line all ∷ []) all rest
+  pub leaves : LeavesLines (first_line all ∷ []) all rest
   pub other : is_script (first_line all) ≡ false
 
 -- what follows these lines is of the script, whatever number of lines is taken of it
@@ -27,38 +27,38 @@ abbrev pub IsBehind : List (List ℕ) → List ℕ → Type 0
 IsBehind done rest = (i : ℕ) → script_part (done ++ take i (raw_lines rest)) ≡ take i (raw_lines rest)
 
 -- the text ended: at a line SCRIPT, behind which the script's lines stand, or at the input's end
-pub record Ends (old new all held : List ℕ) (left : Option (List ℕ)) : Type 0 where
+pub record EndsText (old new all held : List ℕ) (left : Option (List ℕ)) : Type 0 where
   pub rest : List ℕ
   pub remains : Remains held left rest
   pub text : new ≡ old
   pub none : schema_text all ≡ []
   pub script : raw_lines rest ≡ script_part (raw_lines all)
   pub done : List (List ℕ)
-  pub leaves : Leaves done all rest
+  pub leaves : LeavesLines done all rest
   pub behind : IsBehind done rest
 
-abbrev pub Took : Bool → List ℕ → List ℕ → List ℕ → List ℕ → Option (List ℕ) → Type 0
-Took true old new all held left = GoesOn old new all held left
-Took false old new all held left = Ends old new all held left
+abbrev pub TakesOrEnds : Bool → List ℕ → List ℕ → List ℕ → List ℕ → Option (List ℕ) → Type 0
+TakesOrEnds true old new all held left = TakesTextLine old new all held left
+TakesOrEnds false old new all held left = EndsText old new all held left
 
 -- the text has more bytes than a schema's may have
 abbrev pub IsLong : List ℕ → List ℕ → Type 0
 IsLong old all = 1000000 < length (old ++ schema_text all)
 
 -- the whole text was taken, and the script's lines remain
-pub record IsText (text all held : List ℕ) (left : Option (List ℕ)) : Type 0 where
+pub record IsWholeText (text all held : List ℕ) (left : Option (List ℕ)) : Type 0 where
   pub is : text ≡ schema_text all
   pub rest : List ℕ
   pub remains : Remains held left rest
   pub script : raw_lines rest ≡ script_part (raw_lines all)
   pub done : List (List ℕ)
-  pub leaves : Leaves done all rest
+  pub leaves : LeavesLines done all rest
   pub behind : IsBehind done rest
 
 -- taking failed within the text: behind these lines, none of which is of the script
 pub record CutText (all : List ℕ) (left : Option (List ℕ)) : Type 0 where
   pub done : List (List ℕ)
   pub rest : List ℕ
-  pub leaves : Leaves done all rest
+  pub leaves : LeavesLines done all rest
   pub none : script_part done ≡ []
   pub cut : CutLine 1000008 left rest

@@ -66,19 +66,19 @@ IsPast DiskFault = ⊤
 IsPast Exists = ⊤
 
 -- the statuses that come before anything is printed
-abbrev pub IsSilent : Status → Type 0
-IsSilent Ok = ⊥
-IsSilent BadWords = ⊤
-IsSilent (SchemaRefused f) = ⊤
-IsSilent NoDatabase = ⊤
-IsSilent (Needed n) = ⊤
-IsSilent (Damaged f b) = ⊤
-IsSilent InputFault = ⊥
-IsSilent Memory = ⊥
-IsSilent (Limit l) = ⊥
-IsSilent SayFault = ⊥
-IsSilent DiskFault = ⊥
-IsSilent Exists = ⊤
+abbrev pub ComesUnsaid : Status → Type 0
+ComesUnsaid Ok = ⊥
+ComesUnsaid BadWords = ⊤
+ComesUnsaid (SchemaRefused f) = ⊤
+ComesUnsaid NoDatabase = ⊤
+ComesUnsaid (Needed n) = ⊤
+ComesUnsaid (Damaged f b) = ⊤
+ComesUnsaid InputFault = ⊥
+ComesUnsaid Memory = ⊥
+ComesUnsaid (Limit l) = ⊥
+ComesUnsaid SayFault = ⊥
+ComesUnsaid DiskFault = ⊥
+ComesUnsaid Exists = ⊤
 
 -- the statuses that come before a call on the site is made
 abbrev pub IsUntouched : Status → Type 0

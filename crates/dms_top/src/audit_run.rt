@@ -5,7 +5,7 @@ ghost use Rattle.dms_plain.specs.Speaking.{OnlySpeaks};
 ghost use Rattle.dms_audprint.specs.AuditText.{PrintsAudit, PrintsPart};
 ghost use Rattle.dms_top.specs.Auditing.{IsOfPrinting, RefusesTrail, audit_status};
 ghost use Rattle.dms_top.specs.Premises.{CountedAt};
-ghost use Rattle.dms_top.specs.Words.{IsPrintAudit, IsSilent};
+ghost use Rattle.dms_top.specs.Words.{IsPrintAudit, ComesUnsaid};
 
 use crate::status::{NeedFault, Status};
 use dms_audfile::AudFault;
@@ -49,7 +49,7 @@ pub fn print_trail<S: Site>(alloc: Global, site: &mut S) -> Status
     ensures statuses { IsOfPrinting result }
     ensures prints { result ≡ Status.Ok → IsTrue S.tells → IsTrue S.tells_said → PrintsAudit (S.files site.old) (S.said site.old) (S.said site.new) }
     ensures part { IsTrue S.tells → IsTrue S.tells_said → PrintsPart (S.files site.old) (S.said site.old) (S.said site.new) }
-    ensures silent { IsTrue S.tells → IsSilent result → S.said site.new ≡ S.said site.old }
+    ensures silent { IsTrue S.tells → ComesUnsaid result → S.said site.new ≡ S.said site.old }
     ensures refused { IsTrue S.tells → RefusesTrail (S.files site.old) result }
     ensures files { IsTrue S.tells → S.files site.new ≡ S.files site.old }
     ensures only_speaks { OnlySpeaks (S.clock site.old) (S.clock site.new) }

@@ -6,7 +6,7 @@ ghost use Rattle.dms_desc.specs.Shape.{Described};
 ghost use Rattle.dms_descfile.specs.DescriptionFile.{IsSealed, IsUnsealed};
 ghost use Rattle.dms_site.specs.Files.{Same, Only};
 ghost use Rattle.dms_creation.specs.Creation.{IsMade, Initializes};
-ghost use Rattle.dms_top.specs.Compiling.{Says, IsSpoken, IsBefore};
+ghost use Rattle.dms_top.specs.Compiling.{SaysLine, IsSpoken, IsBefore};
 ghost use Rattle.dms_top.specs.Initializing.{initialized_text, IsOfCreation};
 ghost use Rattle.dms_top.specs.Premises.{CountedAt};
 
@@ -29,7 +29,7 @@ pub fn initialize_database<S: Site>(alloc: Global, site: &mut S, tag: u64) -> St
     ensures no_description { result ≡ Status.Needed NeedFault.NoDescription → IsTrue S.tells → IsUnsealed (S.files site.old 1) }
     ensures exists { result ≡ Status.Exists → IsTrue S.tells → slice_index (S.files site.old 1) 1 ≡ 1 }
     ensures exists_described { result ≡ Status.Exists → IsTrue S.tells → (d : Described) × IsSealed (S.files site.old 1) d }
-    ensures says { IsTrue S.tells_said → Says result initialized_text (S.said site.old) (S.said site.new) }
+    ensures says { IsTrue S.tells_said → SaysLine result initialized_text (S.said site.old) (S.said site.new) }
     ensures same_site { S.same_site site.old site.new }
     ensures disk { CountedAt (result ≡ Status.DiskFault) (S.disk_faults site.old) (S.disk_faults site.new) }
     ensures say { CountedAt (result ≡ Status.SayFault) (S.say_faults site.old) (S.say_faults site.new) }

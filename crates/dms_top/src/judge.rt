@@ -1,7 +1,7 @@
 ghost use Rattle.std.specs.Prelude.{◌≡◌, Ok, Err};
 ghost use Rattle.dasdl_compile.specs.Compile.{compiled};
 ghost use Rattle.dms_top.specs.Judging.{compiled_as, judged};
-ghost use Rattle.dms_top.specs.Judged.{Judges};
+ghost use Rattle.dms_top.specs.Judged.{AnswersJudging};
 
 use crate::status::SchemaFault;
 use dasdl_compile::{CompileFault, compile};
@@ -18,7 +18,7 @@ pub enum Judged {
 }
 
 fn compiled(alloc: Global, schema: &Schema) -> Judged
-    ensures { Judges result (compiled_as (compiled schema.now.parameters schema.now.declarations)) }
+    ensures { AnswersJudging result (compiled_as (compiled schema.now.parameters schema.now.declarations)) }
 {
     match compile(alloc, schema) {
         Ok(desc) => Judged::Description(desc),
@@ -30,7 +30,7 @@ fn compiled(alloc: Global, schema: &Schema) -> Judged
 /// The description that a text spells, or its first fault.
 #[tactic(auto, unfolding(crate::specs::Judging::judged))]
 pub fn judge(alloc: Global, text: &[u8]) -> Judged
-    ensures { Judges result (judged text.now) }
+    ensures { AnswersJudging result (judged text.now) }
 {
     match parse(alloc, text) {
         Ok(schema) => compiled(alloc, &schema),

@@ -3,7 +3,7 @@ ghost use Rattle.dms_feed.specs.Feeds.{Remains};
 ghost use Rattle.dms_top.specs.Schema.{is_script, schema_text as text_of};
 ghost use Rattle.dms_feed.specs.Raws.{CutLine};
 ghost use Rattle.dms_top.specs.Premises.{CountedAt};
-ghost use Rattle.dms_top.specs.Taking.{Took, IsLong, IsText, CutText};
+ghost use Rattle.dms_top.specs.Taking.{TakesOrEnds, IsLong, IsWholeText, CutText};
 
 use dms_base::Bytes;
 use dms_feed::{Feed, RawFault, line_text, next_raw};
@@ -38,7 +38,7 @@ fn schema_line<I: Source>(
     source: &mut I,
     text: &mut Bytes,
 ) -> Result<bool, TextFault>
-    ensures line { IfOk result (λ more. (all : List ℕ) → Remains feed.old (I.left source.old) all → Took more text.old text.new all feed.new (I.left source.new)) }
+    ensures line { IfOk result (λ more. (all : List ℕ) → Remains feed.old (I.left source.old) all → TakesOrEnds more text.old text.new all feed.new (I.left source.new)) }
     ensures long { IsErrOf result TextFault.Long → (all : List ℕ) → Remains feed.old (I.left source.old) all → IsLong text.old all }
     ensures failed { IsErrOf result TextFault.Input → (all : List ℕ) → Remains feed.old (I.left source.old) all → CutLine 1000008 (I.left source.new) all }
     ensures same { I.same_source source.old source.new }
@@ -71,7 +71,7 @@ pub fn schema_text<I: Source>(
     feed: &mut Feed,
     source: &mut I,
 ) -> Result<Bytes, TextFault>
-    ensures text { IfOk result (λ text. (all : List ℕ) → Remains feed.old (I.left source.old) all → IsText text all feed.new (I.left source.new)) }
+    ensures text { IfOk result (λ text. (all : List ℕ) → Remains feed.old (I.left source.old) all → IsWholeText text all feed.new (I.left source.new)) }
     ensures long { IsErrOf result TextFault.Long → (all : List ℕ) → Remains feed.old (I.left source.old) all → 1000000 < length (text_of all) }
     ensures failed { IsErrOf result TextFault.Input → (all : List ℕ) → Remains feed.old (I.left source.old) all → CutText all (I.left source.new) }
     ensures same { I.same_source source.old source.new }

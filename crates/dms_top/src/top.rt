@@ -11,15 +11,15 @@ ghost use Rattle.dms_top.specs.Initializing.{initialized_text, IsOfCreation};
 ghost use Rattle.dms_top.specs.Taking.{CutText};
 ghost use Rattle.dms_plain.specs.Speaking.{OnlySpeaks};
 ghost use Rattle.dms_plain.specs.Told.{told};
-ghost use Rattle.dms_top.specs.Compiling.{compiled_text, Says, IsSpoken, IsBefore, CreatesSome, SaysSealed, IsKept};
+ghost use Rattle.dms_top.specs.Compiling.{compiled_text, SaysLine, IsSpoken, IsBefore, CreatesSome, SaysSealed, FilesAndTextStay};
 ghost use Rattle.dms_top.specs.declared.status.SchemaFault.{SchemaFault as Refusal};
 ghost use Rattle.dms_top.specs.Judging.{judged};
 ghost use Rattle.dms_top.specs.Schema.{schema_text as text_of};
 ghost use Rattle.dms_top.specs.State.{StandsNew, BecomesNew};
-ghost use Rattle.dms_top.specs.Answering.{Printed, PrintedFront, PrintedWhole, WithinLimits, Passes, CutTry, try_events, try_text, script_of};
+ghost use Rattle.dms_top.specs.Answering.{Printed, PrintedPrefix, PrintedWhole, WithinLimits, PassesLimit, CutTry, try_events, try_text, script_of};
 ghost use Rattle.dms_top.specs.declared.status.LimitKind.{LimitKind as Kind};
 ghost use Rattle.dms_top.specs.Premises.{OnTry, OnCompile, OnInitialize, OnPrintAudit, OnReading, OfInput, OfSchema, OfNoSchema, OfScript, OfNoScript, CountedAt};
-ghost use Rattle.dms_top.specs.Words.{IsTry, IsCompile, IsPrintAudit, IsCommand, IsOfTry, IsOfCompile, IsPast, IsSilent, IsUntouched};
+ghost use Rattle.dms_top.specs.Words.{IsTry, IsCompile, IsPrintAudit, IsCommand, IsOfTry, IsOfCompile, IsPast, ComesUnsaid, IsUntouched};
 
 use crate::audit_run::{is_print_audit, print_trail};
 use crate::compile_run::compile_input;
@@ -64,11 +64,11 @@ fn try_input<S: Site, I: Source>(alloc: Global, site: &mut S, input: &mut I) -> 
     ensures files { IsTrue S.tells → S.files site.new ≡ S.files site.old }
     ensures only_speaks { OnlySpeaks (S.clock site.old) (S.clock site.new) }
     ensures answers { result ≡ Status.Ok → IsTrue S.tells_said → OfInput (I.left input.old) (λ all. Printed (S.said site.old) (S.said site.new) (try_text all)) }
-    ensures part { IsTrue S.tells_said → OfInput (I.left input.old) (λ all. PrintedFront (S.said site.old) (S.said site.new) (try_text all)) }
+    ensures part { IsTrue S.tells_said → OfInput (I.left input.old) (λ all. PrintedPrefix (S.said site.old) (S.said site.new) (try_text all)) }
     ensures whole_answers { result ≡ Status.Memory → IsTrue S.tells_said → OfInput (I.left input.old) (λ all. PrintedWhole (S.said site.old) (S.said site.new) (try_events all)) }
-    ensures silent { IsTrue S.tells_said → IsSilent result → S.said site.new ≡ S.said site.old }
+    ensures silent { IsTrue S.tells_said → ComesUnsaid result → S.said site.new ≡ S.said site.old }
     ensures within { result ≡ Status.Ok → OfScript (I.left input.old) (λ d all. WithinLimits d (script_of all)) }
-    ensures limit { (k : Kind) → result ≡ Status.Limit k → OfScript (I.left input.old) (λ d all. Passes k d (script_of all) (told S.tells_said (S.said site.old)) (told S.tells_said (S.said site.new))) }
+    ensures limit { (k : Kind) → result ≡ Status.Limit k → OfScript (I.left input.old) (λ d all. PassesLimit k d (script_of all) (told S.tells_said (S.said site.old)) (told S.tells_said (S.said site.new))) }
     ensures input_cut { result ≡ Status.InputFault → OfScript (I.left input.old) (λ d all. CutTry d all (I.left input.new) (told S.tells_said (S.said site.old)) (told S.tells_said (S.said site.new))) }
     ensures input_cut_refused { result ≡ Status.InputFault → OfNoScript (I.left input.old) (λ all. CutText all (I.left input.new)) }
     ensures same_site { S.same_site site.old site.new }
@@ -135,15 +135,15 @@ pub fn dms<S: Site, I: Source>(
     // at status 0 exactly what the script answers was printed
     ensures answers { OnTry words.now (result ≡ Status.Ok → IsTrue S.tells_said → OfInput (I.left input.old) (λ all. Printed (S.said site.old) (S.said site.new) (try_text all))) }
     // at every status a prefix of that was printed
-    ensures part { OnTry words.now (IsTrue S.tells_said → OfInput (I.left input.old) (λ all. PrintedFront (S.said site.old) (S.said site.new) (try_text all))) }
+    ensures part { OnTry words.now (IsTrue S.tells_said → OfInput (I.left input.old) (λ all. PrintedPrefix (S.said site.old) (S.said site.new) (try_text all))) }
     // at status 7 that was the text of whole answers
     ensures whole_answers { OnTry words.now (result ≡ Status.Memory → IsTrue S.tells_said → OfInput (I.left input.old) (λ all. PrintedWhole (S.said site.old) (S.said site.new) (try_events all))) }
     // at the statuses that come before the script nothing was printed
-    ensures silent { OnTry words.now (IsTrue S.tells_said → IsSilent result → S.said site.new ≡ S.said site.old) }
+    ensures silent { OnTry words.now (IsTrue S.tells_said → ComesUnsaid result → S.said site.new ≡ S.said site.old) }
     // at status 0 the script keeps the limits
     ensures within { OnTry words.now (result ≡ Status.Ok → OfScript (I.left input.old) (λ d all. WithinLimits d (script_of all))) }
     // at status 8 it passes that limit and none before, and what the lines before answer was printed
-    ensures limit { OnTry words.now ((k : Kind) → result ≡ Status.Limit k → OfScript (I.left input.old) (λ d all. Passes k d (script_of all) (told S.tells_said (S.said site.old)) (told S.tells_said (S.said site.new)))) }
+    ensures limit { OnTry words.now ((k : Kind) → result ≡ Status.Limit k → OfScript (I.left input.old) (λ d all. PassesLimit k d (script_of all) (told S.tells_said (S.said site.old)) (told S.tells_said (S.said site.new)))) }
     // at status 6 what the whole lines that were taken answer was printed
     ensures input_cut { OnTry words.now (result ≡ Status.InputFault → OfScript (I.left input.old) (λ d all. CutTry d all (I.left input.new) (told S.tells_said (S.said site.old)) (told S.tells_said (S.said site.new)))) }
     // at status 6 with a refused schema taking failed within its text
@@ -170,7 +170,7 @@ pub fn dms<S: Site, I: Source>(
     // statuses 0 and 10 come only where it was none
     ensures compile_unsealed { OnCompile words.now (IsSpoken result → IsTrue S.tells → IsUnsealed (S.files site.old 1)) }
     // at status 0 exactly the line was printed, at 10 a prefix of it, else nothing
-    ensures compile_says { OnCompile words.now (IsTrue S.tells_said → OfSchema (I.left input.old) (λ d. Says result (compiled_text (length d.structures)) (S.said site.old) (S.said site.new))) }
+    ensures compile_says { OnCompile words.now (IsTrue S.tells_said → OfSchema (I.left input.old) (λ d. SaysLine result (compiled_text (length d.structures)) (S.said site.old) (S.said site.new))) }
     // at the other statuses nothing was printed, whatever the input
     ensures compile_silent { OnCompile words.now (IsTrue S.tells_said → (IsSpoken result → ⊥) → S.said site.new ≡ S.said site.old) }
     // a stop leaves what it could leave at entry, or there file 1 is no sealed description or exactly the text's
@@ -178,7 +178,7 @@ pub fn dms<S: Site, I: Source>(
     // whatever the input tells, the same with some description
     ensures creation_of_some { OnCompile words.now (IsTrue S.tells → CreatesSome (S.files site.old) (S.clock site.old) (S.clock site.new)) }
     // a sealed description at entry is not touched at any moment
-    ensures compile_kept { OnCompile words.now (IsTrue S.tells → (d : Described) → IsSealed (S.files site.old 1) d → IsKept (S.files site.old) (S.files site.new) (S.said site.old) (S.said site.new) (S.clock site.old) (S.clock site.new)) }
+    ensures compile_kept { OnCompile words.now (IsTrue S.tells → (d : Described) → IsSealed (S.files site.old 1) d → FilesAndTextStay (S.files site.old) (S.files site.new) (S.said site.old) (S.said site.new) (S.clock site.old) (S.clock site.new)) }
     // at status 0 file 1 is exactly the text's description
     ensures creation_at_ok { OnCompile words.now (IsSpoken result → IsTrue S.tells → OfSchema (I.left input.old) (λ d. S.files site.new 1 ≡ sealed_file d)) }
     // and it is sealed and well-formed
@@ -205,7 +205,7 @@ pub fn dms<S: Site, I: Source>(
     // and a stop leaves no other
     ensures initialize_stable { OnInitialize words.now (λ tag. IsSpoken result → IsTrue S.tells → Only (S.files site.new) (S.clock site.new)) }
     // at status 0 exactly the line was printed, at 10 a prefix of it, else nothing
-    ensures initialize_says { OnInitialize words.now (λ tag. IsTrue S.tells_said → Says result initialized_text (S.said site.old) (S.said site.new)) }
+    ensures initialize_says { OnInitialize words.now (λ tag. IsTrue S.tells_said → SaysLine result initialized_text (S.said site.old) (S.said site.new)) }
     // status 4 comes only where file 1 is no sealed description, and 0 and 10 only where it is one
     ensures no_description { OnInitialize words.now (λ tag. result ≡ Status.Needed NeedFault.NoDescription → IsTrue S.tells → IsUnsealed (S.files site.old 1)) }
     ensures initialize_described { OnInitialize words.now (λ tag. IsSpoken result → IsTrue S.tells → (d : Described) × IsSealed (S.files site.old 1) d) }
@@ -225,7 +225,7 @@ pub fn dms<S: Site, I: Source>(
     // at every status a prefix of these lines was printed, or nothing
     ensures audit_part { OnPrintAudit words.now (IsTrue S.tells → IsTrue S.tells_said → PrintsPart (S.files site.old) (S.said site.old) (S.said site.new)) }
     // at the statuses 3, 4 and 9 nothing was printed
-    ensures audit_silent { OnPrintAudit words.now (IsTrue S.tells → IsSilent result → S.said site.new ≡ S.said site.old) }
+    ensures audit_silent { OnPrintAudit words.now (IsTrue S.tells → ComesUnsaid result → S.said site.new ≡ S.said site.old) }
     // they come only as the first refusal of the trail, in the order of scanning
     ensures audit_refused { OnPrintAudit words.now (IsTrue S.tells → RefusesTrail (S.files site.old) result) }
     // the files stay

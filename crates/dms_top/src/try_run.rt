@@ -8,10 +8,10 @@ ghost use Rattle.dms_plain.specs.Told.{told};
 ghost use Rattle.dms_runner.specs.Answers.{answers_text, script_events};
 ghost use Rattle.dms_runner.specs.Blaming.{CutRun};
 ghost use Rattle.dms_runner.specs.Running.{CutInput};
-ghost use Rattle.dms_top.specs.Answering.{Printed, PrintedFront, PrintedWhole, WithinLimits, Passes};
+ghost use Rattle.dms_top.specs.Answering.{Printed, PrintedPrefix, PrintedWhole, WithinLimits, PassesLimit};
 ghost use Rattle.dms_top.specs.declared.status.LimitKind.{LimitKind as Kind};
 ghost use Rattle.dms_top.specs.Premises.{OfRest, CountedAt};
-ghost use Rattle.dms_top.specs.Words.{IsOfTry, IsSilent};
+ghost use Rattle.dms_top.specs.Words.{IsOfTry, ComesUnsaid};
 ghost use Rattle.dms_top.specs.declared.status.SchemaFault.{SchemaFault as Refusal};
 
 use crate::status::{LimitKind, Status};
@@ -36,8 +36,8 @@ fn status_of(fault: RunFault) -> Status
     ensures say { (result ≡ Status.SayFault → fault ≡ RunFault.Block BlockFault.Say) × (fault ≡ RunFault.Block BlockFault.Say → result ≡ Status.SayFault) }
     ensures lines { result ≡ Status.Limit LimitKind.Lines → fault ≡ RunFault.Lines }
     ensures bytes { result ≡ Status.Limit LimitKind.Bytes → fault ≡ RunFault.Bytes }
-    ensures held { result ≡ Status.Limit LimitKind.Held → fault ≡ RunFault.Held }
-    ensures spoken { IsSilent result → ⊥ }
+    ensures held { result ≡ Status.Limit LimitKind.Waiting → fault ≡ RunFault.Waiting }
+    ensures spoken { ComesUnsaid result → ⊥ }
 {
     match fault {
         RunFault::Block(BlockFault::Say) => Status::SayFault,
@@ -45,7 +45,7 @@ fn status_of(fault: RunFault) -> Status
         RunFault::Input => Status::InputFault,
         RunFault::Lines => Status::Limit(LimitKind::Lines),
         RunFault::Bytes => Status::Limit(LimitKind::Bytes),
-        RunFault::Held => Status::Limit(LimitKind::Held),
+        RunFault::Waiting => Status::Limit(LimitKind::Waiting),
         RunFault::Memory => Status::Memory,
     }
 }
@@ -64,8 +64,8 @@ fn status_after(ran: Result<(), RunFault>) -> Status
     ensures memory { result ≡ Status.Memory → CutRun ran → ⊥ }
     ensures lines { result ≡ Status.Limit LimitKind.Lines → IsErrOf ran RunFault.Lines }
     ensures bytes { result ≡ Status.Limit LimitKind.Bytes → IsErrOf ran RunFault.Bytes }
-    ensures held { result ≡ Status.Limit LimitKind.Held → IsErrOf ran RunFault.Held }
-    ensures spoken { IsSilent result → ⊥ }
+    ensures held { result ≡ Status.Limit LimitKind.Waiting → IsErrOf ran RunFault.Waiting }
+    ensures spoken { ComesUnsaid result → ⊥ }
 {
     match ran {
         Ok(()) => Status::Ok,
@@ -87,9 +87,9 @@ pub fn try_lines<S: Site, I: Source>(
     ensures end { result ≡ Status.Ok → OfRest feed.old (I.left source.old) (λ all. Remains feed.new (I.left source.new) []) }
     ensures answers { result ≡ Status.Ok → IsTrue S.tells_said → OfRest feed.old (I.left source.old) (λ all. Printed (S.said site.old) (S.said site.new) (answers_text (described desc.now) empty_db 1 (raw_lines all))) }
     ensures within { result ≡ Status.Ok → OfRest feed.old (I.left source.old) (λ all. WithinLimits (described desc.now) (raw_lines all)) }
-    ensures part { IsTrue S.tells_said → OfRest feed.old (I.left source.old) (λ all. PrintedFront (S.said site.old) (S.said site.new) (answers_text (described desc.now) empty_db 1 (raw_lines all))) }
+    ensures part { IsTrue S.tells_said → OfRest feed.old (I.left source.old) (λ all. PrintedPrefix (S.said site.old) (S.said site.new) (answers_text (described desc.now) empty_db 1 (raw_lines all))) }
     ensures whole_answers { result ≡ Status.Memory → IsTrue S.tells_said → OfRest feed.old (I.left source.old) (λ all. PrintedWhole (S.said site.old) (S.said site.new) (script_events (described desc.now) empty_db 1 (raw_lines all))) }
-    ensures limit { (k : Kind) → result ≡ Status.Limit k → OfRest feed.old (I.left source.old) (λ all. Passes k (described desc.now) (raw_lines all) (told S.tells_said (S.said site.old)) (told S.tells_said (S.said site.new))) }
+    ensures limit { (k : Kind) → result ≡ Status.Limit k → OfRest feed.old (I.left source.old) (λ all. PassesLimit k (described desc.now) (raw_lines all) (told S.tells_said (S.said site.old)) (told S.tells_said (S.said site.new))) }
     ensures input_cut { result ≡ Status.InputFault → OfRest feed.old (I.left source.old) (λ all. CutInput (described desc.now) empty_db 1 all (I.left source.new) (told S.tells_said (S.said site.old)) (told S.tells_said (S.said site.new))) }
     ensures input { CountedAt (result ≡ Status.InputFault) (I.faults source.old) (I.faults source.new) }
     ensures disk { CountedAt (result ≡ Status.DiskFault) (S.disk_faults site.old) (S.disk_faults site.new) }
@@ -99,7 +99,7 @@ pub fn try_lines<S: Site, I: Source>(
     ensures only_speaks { OnlySpeaks (S.clock site.old) (S.clock site.new) }
     ensures same_site { S.same_site site.old site.new }
     ensures same_source { I.same_source source.old source.new }
-    ensures spoken { IsSilent result → ⊥ }
+    ensures spoken { ComesUnsaid result → ⊥ }
 {
     match PlainStore::new(alloc, desc, site) {
         Err((_fault, _site)) => Status::Memory,

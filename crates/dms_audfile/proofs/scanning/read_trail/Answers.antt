@@ -4,7 +4,7 @@ use Rattle.dms_audfile.specs.Gathering.{seen}
 use Rattle.dms_audfile.specs.Header.{tag_said}
 use Rattle.dms_audfile.specs.Counting.{not_counted}
 use Rattle.dms_audfile.specs.declared.fault.AudFault.TheVariants.{Disk}
-use Rattle.dms_audfile.specs.Scanning.{Read, Outcome, files_read, first_foreign, outcome_of, foreign, no_schema}
+use Rattle.dms_audfile.specs.Scanning.{TrailRead, ScanOutcome, files_read, first_foreign, outcome_of, foreign, no_schema}
 use Rattle.dms_audfile.specs.Reads.{FoundAll, NotScanned}
 use Rattle.dms_audfile.proofs.Reading.{not_scanned, scans_disk, read_found, read_none, read_foreign}
 use Rattle.dms_audfile.proofs.scanning.read_trail.Goals as goal
@@ -26,7 +26,7 @@ returns-then-other-end-clause-read g c tells =
     let two = c.in-Ok-tag_in.ensures.reads.files_stay tells ∙ one in
     let tag_is = c.in-Ok-tag_in.ensures.said tells ∙ ap (λ (l : Files). tag_said (l c.args.first)) one in
     let at : c.in-Ok-first_foreign.other ≡ first_foreign k (tag_said (files c.args.first)) c.args.first files = c.in-Ok-first_foreign.ensures.found tells ∙ (λ i. first_foreign k (tag_is i) c.args.first (two i)) in
-    let r : Read = files_read k c.args.total c.args.first files in
+    let r : TrailRead = files_read k c.args.total c.args.first files in
     subst (λ h. outcome_of c.args.first r h c.args.end ≡ foreign (c.in-Ok-first_foreign.other - 10000)) at
     (read_foreign c.args.first (seen c.args.known.now) (seen c.read_files.new.known) r c.in-Ok-first_foreign.other c.args.end c.requires.none (c.in-Ok.ensures.read tells) c.if-other-end.true)
 
@@ -38,7 +38,7 @@ returns-then-known-clause-read g c tells =
     let two = c.in-Ok-tag_in.ensures.reads.files_stay tells ∙ one in
     let tag_is = c.in-Ok-tag_in.ensures.said tells ∙ ap (λ (l : Files). tag_said (l c.args.first)) one in
     let at : c.in-Ok-first_foreign.other ≡ first_foreign k (tag_said (files c.args.first)) c.args.first files = c.in-Ok-first_foreign.ensures.found tells ∙ (λ i. first_foreign k (tag_is i) c.args.first (two i)) in
-    let r : Read = files_read k c.args.total c.args.first files in
+    let r : TrailRead = files_read k c.args.total c.args.first files in
     subst (λ h. FoundAll (outcome_of c.args.first r h c.args.end) (seen c.read_files.new.known)) at
     (read_found c.args.first (seen c.args.known.now) (seen c.read_files.new.known) r c.in-Ok-first_foreign.other c.args.end c.requires.none (c.in-Ok.ensures.read tells) (omega (arith, c.if-other-end.false)) c.if-known.true)
 
@@ -50,8 +50,8 @@ returns-else-known-clause-read g c tells =
     let two = c.in-Ok-tag_in.ensures.reads.files_stay tells ∙ one in
     let tag_is = c.in-Ok-tag_in.ensures.said tells ∙ ap (λ (l : Files). tag_said (l c.args.first)) one in
     let at : c.in-Ok-first_foreign.other ≡ first_foreign k (tag_said (files c.args.first)) c.args.first files = c.in-Ok-first_foreign.ensures.found tells ∙ (λ i. first_foreign k (tag_is i) c.args.first (two i)) in
-    let r : Read = files_read k c.args.total c.args.first files in
-    subst (λ (o : Outcome). NotScanned o c.no_schema.result) (sym (subst (λ h. outcome_of c.args.first r h c.args.end ≡ no_schema c.args.first) at
+    let r : TrailRead = files_read k c.args.total c.args.first files in
+    subst (λ (o : ScanOutcome). NotScanned o c.no_schema.result) (sym (subst (λ h. outcome_of c.args.first r h c.args.end ≡ no_schema c.args.first) at
     (read_none c.args.first (seen c.args.known.now) (seen c.read_files.new.known) r c.in-Ok-first_foreign.other c.args.end c.requires.none (c.in-Ok.ensures.read tells) (omega (arith, c.if-other-end.false)) c.if-known.false))) c.no_schema.ensures.why
 
 pub returns-else-known-clause-disk : goal.returns-else-known-clause-disk

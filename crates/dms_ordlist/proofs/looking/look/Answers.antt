@@ -6,7 +6,7 @@ use Rattle.dms_block.specs.ViewLaws.{counts_seen}
 use Rattle.dms_ordlist.specs.declared.place.Look.{Look}
 use Rattle.dms_ordlist.specs.declared.place.Place.{Place}
 use Rattle.dms_ordlist.specs.declared.spelling.Head.{Head}
-use Rattle.dms_ordlist.specs.Linked.{Chain}
+use Rattle.dms_ordlist.specs.Linked.{BlockChain}
 use Rattle.dms_ordlist.specs.ListBlocks.{head_in, leaf_in}
 use Rattle.dms_ordlist.specs.Looks.{look_empty, look_none, look_place, no_chain, no_head}
 use Rattle.dms_ordlist.specs.Seen.{NoChain, NoList, NotAt}
@@ -49,7 +49,7 @@ returns-in-Ok-reach-clause-look g c told xs is =
     let still = file_still c.args.file c.in-Ok.ensures.reads told in
     let r : Look = record { head = c.in-Ok.head; place = Some c.in-Ok-reach.place } in
     look_place c.args.bytes.now w (seen o c.args.file) xs r c.in-Ok-reach.place (λ e. absurd (omega (arith, e, n, c.count.ensures, c.if-count-eq0.false))) is (c.in-Ok.ensures.head told) refl
-    (λ ls chain head. c.in-Ok-reach.ensures.place (told_after c.in-Ok.ensures.reads.looks.passes.lasts told) ls (subst (λ (l : List (List ℕ)). Chain (leaf_in w) (slice_get l) ls 0) (sym still) chain) head)
+    (λ ls chain head. c.in-Ok-reach.ensures.place (told_after c.in-Ok.ensures.reads.looks.passes.lasts told) ls (subst (λ (l : List (List ℕ)). BlockChain (leaf_in w) (slice_get l) ls 0) (sym still) chain) head)
 
 pub returns-in-Err-reach-clause-causes : goal.returns-in-Err-reach-clause-causes
 returns-in-Err-reach-clause-causes g c =
@@ -67,7 +67,7 @@ returns-in-Err-reach-clause-causes g c =
           let n = counts_seen o (g.met.B.Blocks.agrees o.below c.requires.sound) told file in
           let still = file_still file reads told in
           no_chain w (seen o file) c.in-Ok.head.first c.in-Ok.head.free (λ e. absurd (omega (arith, e, n, c.count.ensures, c.if-count-eq0.false))) (c.in-Ok.ensures.head told)
-          (λ ls chain head le. h.2 (told_after reads.looks.passes.lasts told) ls (subst (λ (l : List (List ℕ)). Chain (leaf_in w) (slice_get l) ls 0) (sym still) chain) head (omega (arith, le, n, counts))),
+          (λ ls chain head le. h.2 (told_after reads.looks.passes.lasts told) ls (subst (λ (l : List (List ℕ)). BlockChain (leaf_in w) (slice_get l) ls 0) (sym still) chain) head (omega (arith, le, n, counts))),
     ))
     c.in-Ok.ensures.causes reads
     (causes_err Place Look (NoChain w b file c.in-Ok.head.first) (NoChain w b file c.in-Ok.head.first) c.in-Err-reach.fault (under b) (under c.reach.new.over) (λ f k h. h) c.in-Err-reach.ensures.causes)

@@ -4,7 +4,7 @@ use Rattle.dms_desc.specs.Shape.{described}
 use Rattle.dms_script.specs.Replies.{bad_text}
 use Rattle.dms_runner.specs.Events.{says}
 use Rattle.dms_runner.proofs.Happening.{undamaged_by, ran_says, part_none, part_says, part_of_first, part_on, part_cut, cut_as}
-use Rattle.dms_runner.proofs.Lining.{goes_walked, walks_from, walks_part_from}
+use Rattle.dms_runner.proofs.Lining.{goes_retried, retries_from, retries_part_from}
 use Rattle.dms_runner.proofs.lines.bad_line.Goals as goal
 
 pub returns-in_err-text-clause-part : goal.returns-in_err-text-clause-part
@@ -16,21 +16,21 @@ returns-in_err-say-clause-part g c = λ now stands same line room.
     let text : c.as_slice.result.now ≡ bad_text now.line c.args.place = c.as_slice.ensures ∙ c.in_ok-text.ensures ∙ ap (λ (n : ℕ). bad_text n c.args.place) (sym line) in
     part_of_first _ _ (says (bad_text now.line c.args.place) ∷ []) _ (part_says _ _ _ _ text (undamaged_by _ (seen c.say.new.self) c.say.result c.say.ensures.undamaged c.say.ensures.lasts.causes.cause) c.say.ensures.part (λ uncut. absurd (uncut (cut_as _ _ c.from_residual-in_err-say.ensures.1 c.in_err-say.ensures.fault))) room')
 
-pub returns-in_err-walk_all-clause-part : goal.returns-in_err-walk_all-clause-part
-returns-in_err-walk_all-clause-part g c = λ now stands same line room.
+pub returns-in_err-retry_all-clause-part : goal.returns-in_err-retry_all-clause-part
+returns-in_err-retry_all-clause-part g c = λ now stands same line room.
     let room' : (seen c.args.engine.now).next + 1 < 2 ^ 64 = omega (arith, stands.next, room) in
     let text : c.as_slice.result.now ≡ bad_text now.line c.args.place = c.as_slice.ensures ∙ c.in_ok-text.ensures ∙ ap (λ (n : ℕ). bad_text n c.args.place) (sym line) in
     let said = ran_says _ _ _ _ text c.say.ensures.lasts.causes.tells c.say.ensures.lasts.causes.whole (undamaged_by _ (seen c.say.new.self) c.say.result c.say.ensures.undamaged c.say.ensures.lasts.causes.cause) c.in_ok-say.ensures.text c.say.ensures.part c.in_ok-say.ensures.keeps room' in
     part_on _ _ _ (says (bad_text now.line c.args.place) ∷ []) _ said
-    (walks_part_from _ _ now.session _ _ _ _ (ap described c.say.ensures.lasts.description) (sym same) (part_cut _ _ _ (cut_as _ _ c.from_residual-in_err-walk_all.ensures.1) (c.in_err-walk_all.ensures.part now.session (c.in_ok-say.ensures.stands now.session stands) (omega (arith, room, ap length same)))))
+    (retries_part_from _ _ now.session _ _ _ _ (ap described c.say.ensures.lasts.description) (sym same) (part_cut _ _ _ (cut_as _ _ c.from_residual-in_err-retry_all.ensures.1) (c.in_err-retry_all.ensures.part now.session (c.in_ok-say.ensures.stands now.session stands) (omega (arith, room, ap length same)))))
 
 pub returns-clause-lined : goal.returns-clause-lined
 returns-clause-lined g c = λ now stands same line room.
     let room' : (seen c.args.engine.now).next + 1 < 2 ^ 64 = omega (arith, stands.next, room) in
     let text : c.as_slice.result.now ≡ bad_text now.line c.args.place = c.as_slice.ensures ∙ c.in_ok-text.ensures ∙ ap (λ (n : ℕ). bad_text n c.args.place) (sym line) in
     let said = ran_says _ _ _ _ text c.say.ensures.lasts.causes.tells c.say.ensures.lasts.causes.whole (undamaged_by _ (seen c.say.new.self) c.say.result c.say.ensures.undamaged c.say.ensures.lasts.causes.cause) c.in_ok-say.ensures.text c.say.ensures.part c.in_ok-say.ensures.keeps room' in
-    goes_walked _ now now.session (says (bad_text now.line c.args.place) ∷ []) _ _ _ _ _ said
-    (walks_from _ _ now.session _ _ _ _ _ _ (ap described c.say.ensures.lasts.description) (sym same) (c.in_ok-walk_all.ensures.walks now.session (c.in_ok-say.ensures.stands now.session stands) (omega (arith, room, ap length same))))
+    goes_retried _ now now.session (says (bad_text now.line c.args.place) ∷ []) _ _ _ _ _ said
+    (retries_from _ _ now.session _ _ _ _ _ _ (ap described c.say.ensures.lasts.description) (sym same) (c.in_ok-retry_all.ensures.retries now.session (c.in_ok-say.ensures.stands now.session stands) (omega (arith, room, ap length same))))
 
 pub returns-clause-part : goal.returns-clause-part
 returns-clause-part g c = λ now stands same line room.
@@ -38,4 +38,4 @@ returns-clause-part g c = λ now stands same line room.
     let text : c.as_slice.result.now ≡ bad_text now.line c.args.place = c.as_slice.ensures ∙ c.in_ok-text.ensures ∙ ap (λ (n : ℕ). bad_text n c.args.place) (sym line) in
     let said = ran_says _ _ _ _ text c.say.ensures.lasts.causes.tells c.say.ensures.lasts.causes.whole (undamaged_by _ (seen c.say.new.self) c.say.result c.say.ensures.undamaged c.say.ensures.lasts.causes.cause) c.in_ok-say.ensures.text c.say.ensures.part c.in_ok-say.ensures.keeps room' in
     part_on _ _ _ (says (bad_text now.line c.args.place) ∷ []) _ said
-    (walks_part_from _ _ now.session _ _ _ _ (ap described c.say.ensures.lasts.description) (sym same) (c.in_ok-walk_all.ensures.part now.session (c.in_ok-say.ensures.stands now.session stands) (omega (arith, room, ap length same))))
+    (retries_part_from _ _ now.session _ _ _ _ (ap described c.say.ensures.lasts.description) (sym same) (c.in_ok-retry_all.ensures.part now.session (c.in_ok-say.ensures.stands now.session stands) (omega (arith, room, ap length same))))

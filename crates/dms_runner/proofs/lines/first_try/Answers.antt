@@ -3,12 +3,12 @@ use Rattle.std.proofs.Common.{◌∙◌, ◌+◌, ◌<◌, ◌^◌, [], ◌∷�
 use Rattle.dms_desc.specs.Shape.{described}
 use Rattle.dms_model.specs.Session.{step, is_waits}
 use Rattle.dms_model.proofs.Rises.{step_small}
-use Rattle.dms_runner.specs.declared.held.Held.{Held as HeldLine}
-use Rattle.dms_runner.specs.Held.{answer_text}
-use Rattle.dms_runner.specs.Answers.{Lined, first_line}
+use Rattle.dms_runner.specs.declared.waiting.WaitingLine.{WaitingLine as LineWaiting}
+use Rattle.dms_runner.specs.Waiting.{answer_text}
+use Rattle.dms_runner.specs.Answers.{LineEffect, first_line}
 use Rattle.dms_runner.specs.Events.{calls, says}
 use Rattle.dms_runner.proofs.Happening.{step_numbers, ran_calls, ran_on, ran_as, part_calls, part_of_first, part_on, part_all, part_as, part_cut, cut_as}
-use Rattle.dms_runner.proofs.Lining.{lined_as, goes_walked, walks_from, walks_part_from, goes_held, goes_full, tried_starts, tried_waits, tried_answered, says_answer, held_events, full_events}
+use Rattle.dms_runner.proofs.Lining.{lined_as, goes_retried, retries_from, retries_part_from, goes_waiting, goes_full, tried_starts, tried_waits, tried_answered, says_answer, waiting_events, full_events}
 use Rattle.dms_runner.proofs.lines.first_try.Goals as goal
 
 pub returns-in_err-answer-clause-part : goal.returns-in_err-answer-clause-part
@@ -26,10 +26,10 @@ returns-in_err-say_answer-clause-part g c = λ now stands same line room.
     let called = ran_calls _ _ o c.in_ok-answer.answer c.call.ensures.lasts.causes.tells c.call.ensures.lasts.causes.whole c.in_ok-answer.ensures.lasts.causes.cause c.call.ensures.mute (omega (arith, stands.next, is.session.next, step_numbers (described c.args.engine.now.desc) now.session c.args.name c.args.verb)) did in
     let text = says_answer c.args.line now.line c.args.name c.in_ok-answer.answer.reply o.reply c.in_ok-answer.answer.sync o.sync (sym line) is.reply is.sync in
     let e = tried_answered (described c.args.engine.now.desc) now c.args.name c.args.verb o (ap is_waits (sym is.reply) ∙ sym c.is_waits.ensures ∙ c.if-not-is_waits.true) in
-    part_as _ _ _ _ (sym (ap (λ (l : Lined). l.events) e)) (part_of_first _ _ (calls o ∷ says (answer_text now.line c.args.name o.reply o.sync) ∷ []) _ (part_on _ _ _ (calls o ∷ []) _ called (part_as _ _ _ _ text (part_cut _ _ _ (cut_as _ _ c.from_residual-in_err-say_answer.ensures.1) (c.in_err-say_answer.ensures.part room')))))
+    part_as _ _ _ _ (sym (ap (λ (l : LineEffect). l.events) e)) (part_of_first _ _ (calls o ∷ says (answer_text now.line c.args.name o.reply o.sync) ∷ []) _ (part_on _ _ _ (calls o ∷ []) _ called (part_as _ _ _ _ text (part_cut _ _ _ (cut_as _ _ c.from_residual-in_err-say_answer.ensures.1) (c.in_err-say_answer.ensures.part room')))))
 
-pub returns-in_err-walk_all-clause-part : goal.returns-in_err-walk_all-clause-part
-returns-in_err-walk_all-clause-part g c = λ now stands same line room.
+pub returns-in_err-retry_all-clause-part : goal.returns-in_err-retry_all-clause-part
+returns-in_err-retry_all-clause-part g c = λ now stands same line room.
     let o = step (described c.args.engine.now.desc) now.session c.args.name c.args.verb in
     let did = c.in_ok-answer.ensures.step now.session stands (omega (arith, room)) in
     let is = did.answers in
@@ -37,8 +37,8 @@ returns-in_err-walk_all-clause-part g c = λ now stands same line room.
     let called = ran_calls _ _ o c.in_ok-answer.answer c.call.ensures.lasts.causes.tells c.call.ensures.lasts.causes.whole c.in_ok-answer.ensures.lasts.causes.cause c.call.ensures.mute (omega (arith, stands.next, is.session.next, step_numbers (described c.args.engine.now.desc) now.session c.args.name c.args.verb)) did in
     let text = says_answer c.args.line now.line c.args.name c.in_ok-answer.answer.reply o.reply c.in_ok-answer.answer.sync o.sync (sym line) is.reply is.sync in
     let e = tried_answered (described c.args.engine.now.desc) now c.args.name c.args.verb o (ap is_waits (sym is.reply) ∙ sym c.is_waits.ensures ∙ c.if-not-is_waits.true) in
-    part_as _ _ _ _ (sym (ap (λ (l : Lined). l.events) e)) (part_on _ _ _ (calls o ∷ says (answer_text now.line c.args.name o.reply o.sync) ∷ []) _ (ran_on _ _ _ (calls o ∷ []) (says (answer_text now.line c.args.name o.reply o.sync) ∷ []) called (ran_as _ _ _ _ text (c.in_ok-say_answer.ensures.ran room')))
-    (walks_part_from _ _ o.session _ _ _ _ (ap described (c.say_answer.ensures.lasts.description ∙ c.call.ensures.lasts.description)) (sym same) (part_cut _ _ _ (cut_as _ _ c.from_residual-in_err-walk_all.ensures.1) (c.in_err-walk_all.ensures.part o.session (c.in_ok-say_answer.ensures.stands o.session is.session) (omega (arith, room, ap length same, (step_small (described c.args.engine.now.desc) now.session c.args.name c.args.verb).high))))))
+    part_as _ _ _ _ (sym (ap (λ (l : LineEffect). l.events) e)) (part_on _ _ _ (calls o ∷ says (answer_text now.line c.args.name o.reply o.sync) ∷ []) _ (ran_on _ _ _ (calls o ∷ []) (says (answer_text now.line c.args.name o.reply o.sync) ∷ []) called (ran_as _ _ _ _ text (c.in_ok-say_answer.ensures.ran room')))
+    (retries_part_from _ _ o.session _ _ _ _ (ap described (c.say_answer.ensures.lasts.description ∙ c.call.ensures.lasts.description)) (sym same) (part_cut _ _ _ (cut_as _ _ c.from_residual-in_err-retry_all.ensures.1) (c.in_err-retry_all.ensures.part o.session (c.in_ok-say_answer.ensures.stands o.session is.session) (omega (arith, room, ap length same, (step_small (described c.args.engine.now.desc) now.session c.args.name c.args.verb).high))))))
 
 pub returns-then-not-is_waits-clause-lined : goal.returns-then-not-is_waits-clause-lined
 returns-then-not-is_waits-clause-lined g c = λ now stands same line room.
@@ -49,8 +49,8 @@ returns-then-not-is_waits-clause-lined g c = λ now stands same line room.
     let called = ran_calls _ _ o c.in_ok-answer.answer c.call.ensures.lasts.causes.tells c.call.ensures.lasts.causes.whole c.in_ok-answer.ensures.lasts.causes.cause c.call.ensures.mute (omega (arith, stands.next, is.session.next, step_numbers (described c.args.engine.now.desc) now.session c.args.name c.args.verb)) did in
     let text = says_answer c.args.line now.line c.args.name c.in_ok-answer.answer.reply o.reply c.in_ok-answer.answer.sync o.sync (sym line) is.reply is.sync in
     let e = tried_answered (described c.args.engine.now.desc) now c.args.name c.args.verb o (ap is_waits (sym is.reply) ∙ sym c.is_waits.ensures ∙ c.if-not-is_waits.true) in
-    lined_as _ _ _ _ _ _ _ (sym e) (goes_walked _ now o.session (calls o ∷ says (answer_text now.line c.args.name o.reply o.sync) ∷ []) _ _ _ _ _ (ran_on _ _ _ (calls o ∷ []) (says (answer_text now.line c.args.name o.reply o.sync) ∷ []) called (ran_as _ _ _ _ text (c.in_ok-say_answer.ensures.ran room')))
-    (walks_from _ _ o.session _ _ _ _ _ _ (ap described (c.say_answer.ensures.lasts.description ∙ c.call.ensures.lasts.description)) (sym same) (c.in_ok-walk_all.ensures.walks o.session (c.in_ok-say_answer.ensures.stands o.session is.session) (omega (arith, room, ap length same, (step_small (described c.args.engine.now.desc) now.session c.args.name c.args.verb).high)))))
+    lined_as _ _ _ _ _ _ _ (sym e) (goes_retried _ now o.session (calls o ∷ says (answer_text now.line c.args.name o.reply o.sync) ∷ []) _ _ _ _ _ (ran_on _ _ _ (calls o ∷ []) (says (answer_text now.line c.args.name o.reply o.sync) ∷ []) called (ran_as _ _ _ _ text (c.in_ok-say_answer.ensures.ran room')))
+    (retries_from _ _ o.session _ _ _ _ _ _ (ap described (c.say_answer.ensures.lasts.description ∙ c.call.ensures.lasts.description)) (sym same) (c.in_ok-retry_all.ensures.retries o.session (c.in_ok-say_answer.ensures.stands o.session is.session) (omega (arith, room, ap length same, (step_small (described c.args.engine.now.desc) now.session c.args.name c.args.verb).high)))))
 
 pub returns-then-not-is_waits-clause-part : goal.returns-then-not-is_waits-clause-part
 returns-then-not-is_waits-clause-part g c = λ now stands same line room.
@@ -61,11 +61,11 @@ returns-then-not-is_waits-clause-part g c = λ now stands same line room.
     let called = ran_calls _ _ o c.in_ok-answer.answer c.call.ensures.lasts.causes.tells c.call.ensures.lasts.causes.whole c.in_ok-answer.ensures.lasts.causes.cause c.call.ensures.mute (omega (arith, stands.next, is.session.next, step_numbers (described c.args.engine.now.desc) now.session c.args.name c.args.verb)) did in
     let text = says_answer c.args.line now.line c.args.name c.in_ok-answer.answer.reply o.reply c.in_ok-answer.answer.sync o.sync (sym line) is.reply is.sync in
     let e = tried_answered (described c.args.engine.now.desc) now c.args.name c.args.verb o (ap is_waits (sym is.reply) ∙ sym c.is_waits.ensures ∙ c.if-not-is_waits.true) in
-    part_as _ _ _ _ (sym (ap (λ (l : Lined). l.events) e)) (part_on _ _ _ (calls o ∷ says (answer_text now.line c.args.name o.reply o.sync) ∷ []) _ (ran_on _ _ _ (calls o ∷ []) (says (answer_text now.line c.args.name o.reply o.sync) ∷ []) called (ran_as _ _ _ _ text (c.in_ok-say_answer.ensures.ran room')))
-    (walks_part_from _ _ o.session _ _ _ _ (ap described (c.say_answer.ensures.lasts.description ∙ c.call.ensures.lasts.description)) (sym same) (c.in_ok-walk_all.ensures.part o.session (c.in_ok-say_answer.ensures.stands o.session is.session) (omega (arith, room, ap length same, (step_small (described c.args.engine.now.desc) now.session c.args.name c.args.verb).high)))))
+    part_as _ _ _ _ (sym (ap (λ (l : LineEffect). l.events) e)) (part_on _ _ _ (calls o ∷ says (answer_text now.line c.args.name o.reply o.sync) ∷ []) _ (ran_on _ _ _ (calls o ∷ []) (says (answer_text now.line c.args.name o.reply o.sync) ∷ []) called (ran_as _ _ _ _ text (c.in_ok-say_answer.ensures.ran room')))
+    (retries_part_from _ _ o.session _ _ _ _ (ap described (c.say_answer.ensures.lasts.description ∙ c.call.ensures.lasts.description)) (sym same) (c.in_ok-retry_all.ensures.part o.session (c.in_ok-say_answer.ensures.stands o.session is.session) (omega (arith, room, ap length same, (step_small (described c.args.engine.now.desc) now.session c.args.name c.args.verb).high)))))
 
-pub returns-then-len-ge-HELD_LINES-clause-lined : goal.returns-then-len-ge-HELD_LINES-clause-lined
-returns-then-len-ge-HELD_LINES-clause-lined g c = λ now stands same line room.
+pub returns-then-len-ge-WAITING_LINES-clause-lined : goal.returns-then-len-ge-WAITING_LINES-clause-lined
+returns-then-len-ge-WAITING_LINES-clause-lined g c = λ now stands same line room.
     let o = step (described c.args.engine.now.desc) now.session c.args.name c.args.verb in
     let did = c.in_ok-answer.ensures.step now.session stands (omega (arith, room)) in
     let is = did.answers in
@@ -73,10 +73,10 @@ returns-then-len-ge-HELD_LINES-clause-lined g c = λ now stands same line room.
     let called = ran_calls _ _ o c.in_ok-answer.answer c.call.ensures.lasts.causes.tells c.call.ensures.lasts.causes.whole c.in_ok-answer.ensures.lasts.causes.cause c.call.ensures.mute (omega (arith, stands.next, is.session.next, step_numbers (described c.args.engine.now.desc) now.session c.args.name c.args.verb)) did in
     let text = says_answer c.args.line now.line c.args.name c.in_ok-answer.answer.reply o.reply c.in_ok-answer.answer.sync o.sync (sym line) is.reply is.sync in
     let e = tried_waits (described c.args.engine.now.desc) now c.args.name c.args.verb o (ap is_waits (sym is.reply) ∙ sym c.is_waits.ensures ∙ c.if-not-is_waits.false) in
-    lined_as _ _ _ _ _ _ _ (sym e) (goes_full now o.session (first_line now.line c.args.name c.args.verb true) (calls o ∷ []) _ _ _ _ _ (omega (arith, ap length same, c.if-len-ge-HELD_LINES.true, c.len.ensures, c.args.held.now.ok.0)) is.session (sym same) called)
+    lined_as _ _ _ _ _ _ _ (sym e) (goes_full now o.session (first_line now.line c.args.name c.args.verb true) (calls o ∷ []) _ _ _ _ _ (omega (arith, ap length same, c.if-len-ge-WAITING_LINES.true, c.len.ensures, c.args.waiting.now.ok.0)) is.session (sym same) called)
 
-pub returns-then-len-ge-HELD_LINES-clause-part : goal.returns-then-len-ge-HELD_LINES-clause-part
-returns-then-len-ge-HELD_LINES-clause-part g c = λ now stands same line room.
+pub returns-then-len-ge-WAITING_LINES-clause-part : goal.returns-then-len-ge-WAITING_LINES-clause-part
+returns-then-len-ge-WAITING_LINES-clause-part g c = λ now stands same line room.
     let o = step (described c.args.engine.now.desc) now.session c.args.name c.args.verb in
     let did = c.in_ok-answer.ensures.step now.session stands (omega (arith, room)) in
     let is = did.answers in
@@ -84,7 +84,7 @@ returns-then-len-ge-HELD_LINES-clause-part g c = λ now stands same line room.
     let called = ran_calls _ _ o c.in_ok-answer.answer c.call.ensures.lasts.causes.tells c.call.ensures.lasts.causes.whole c.in_ok-answer.ensures.lasts.causes.cause c.call.ensures.mute (omega (arith, stands.next, is.session.next, step_numbers (described c.args.engine.now.desc) now.session c.args.name c.args.verb)) did in
     let text = says_answer c.args.line now.line c.args.name c.in_ok-answer.answer.reply o.reply c.in_ok-answer.answer.sync o.sync (sym line) is.reply is.sync in
     let e = tried_waits (described c.args.engine.now.desc) now c.args.name c.args.verb o (ap is_waits (sym is.reply) ∙ sym c.is_waits.ensures ∙ c.if-not-is_waits.false) in
-    part_as _ _ _ _ (sym (ap (λ (l : Lined). l.events) e ∙ full_events now o.session _ _ _ (omega (arith, ap length same, c.if-len-ge-HELD_LINES.true, c.len.ensures, c.args.held.now.ok.0)))) (part_all _ _ _ called)
+    part_as _ _ _ _ (sym (ap (λ (l : LineEffect). l.events) e ∙ full_events now o.session _ _ _ (omega (arith, ap length same, c.if-len-ge-WAITING_LINES.true, c.len.ensures, c.args.waiting.now.ok.0)))) (part_all _ _ _ called)
 
 pub returns-in_err-say_answer-2-clause-part : goal.returns-in_err-say_answer-2-clause-part
 returns-in_err-say_answer-2-clause-part g c = λ now stands same line room.
@@ -95,8 +95,8 @@ returns-in_err-say_answer-2-clause-part g c = λ now stands same line room.
     let called = ran_calls _ _ o c.in_ok-answer.answer c.call.ensures.lasts.causes.tells c.call.ensures.lasts.causes.whole c.in_ok-answer.ensures.lasts.causes.cause c.call.ensures.mute (omega (arith, stands.next, is.session.next, step_numbers (described c.args.engine.now.desc) now.session c.args.name c.args.verb)) did in
     let text = says_answer c.args.line now.line c.args.name c.in_ok-answer.answer.reply o.reply c.in_ok-answer.answer.sync o.sync (sym line) is.reply is.sync in
     let e = tried_waits (described c.args.engine.now.desc) now c.args.name c.args.verb o (ap is_waits (sym is.reply) ∙ sym c.is_waits.ensures ∙ c.if-not-is_waits.false) in
-    let few : length now.held < 10000 = omega (arith, ap length same, c.if-len-ge-HELD_LINES.false, c.len.ensures, c.args.held.now.ok.0) in
-    part_as _ _ _ _ (sym (ap (λ (l : Lined). l.events) e ∙ held_events now o.session _ _ _ few)) (part_on _ _ _ (calls o ∷ []) _ called (part_as _ _ _ _ text (part_cut _ _ _ (cut_as _ _ c.from_residual-in_err-say_answer-2.ensures.1) (c.in_err-say_answer-2.ensures.part room'))))
+    let few : length now.waiting < 10000 = omega (arith, ap length same, c.if-len-ge-WAITING_LINES.false, c.len.ensures, c.args.waiting.now.ok.0) in
+    part_as _ _ _ _ (sym (ap (λ (l : LineEffect). l.events) e ∙ waiting_events now o.session _ _ _ few)) (part_on _ _ _ (calls o ∷ []) _ called (part_as _ _ _ _ text (part_cut _ _ _ (cut_as _ _ c.from_residual-in_err-say_answer-2.ensures.1) (c.in_err-say_answer-2.ensures.part room'))))
 
 pub returns-in_err-push-clause-part : goal.returns-in_err-push-clause-part
 returns-in_err-push-clause-part g c = λ now stands same line room.
@@ -107,8 +107,8 @@ returns-in_err-push-clause-part g c = λ now stands same line room.
     let called = ran_calls _ _ o c.in_ok-answer.answer c.call.ensures.lasts.causes.tells c.call.ensures.lasts.causes.whole c.in_ok-answer.ensures.lasts.causes.cause c.call.ensures.mute (omega (arith, stands.next, is.session.next, step_numbers (described c.args.engine.now.desc) now.session c.args.name c.args.verb)) did in
     let text = says_answer c.args.line now.line c.args.name c.in_ok-answer.answer.reply o.reply c.in_ok-answer.answer.sync o.sync (sym line) is.reply is.sync in
     let e = tried_waits (described c.args.engine.now.desc) now c.args.name c.args.verb o (ap is_waits (sym is.reply) ∙ sym c.is_waits.ensures ∙ c.if-not-is_waits.false) in
-    let few : length now.held < 10000 = omega (arith, ap length same, c.if-len-ge-HELD_LINES.false, c.len.ensures, c.args.held.now.ok.0) in
-    part_as _ _ _ _ (sym (ap (λ (l : Lined). l.events) e ∙ held_events now o.session _ _ _ few)) (part_all _ _ _ (ran_on _ _ _ (calls o ∷ []) (says (answer_text now.line c.args.name o.reply o.sync) ∷ []) called (ran_as _ _ _ _ text (c.in_ok-say_answer-2.ensures.ran room'))))
+    let few : length now.waiting < 10000 = omega (arith, ap length same, c.if-len-ge-WAITING_LINES.false, c.len.ensures, c.args.waiting.now.ok.0) in
+    part_as _ _ _ _ (sym (ap (λ (l : LineEffect). l.events) e ∙ waiting_events now o.session _ _ _ few)) (part_all _ _ _ (ran_on _ _ _ (calls o ∷ []) (says (answer_text now.line c.args.name o.reply o.sync) ∷ []) called (ran_as _ _ _ _ text (c.in_ok-say_answer-2.ensures.ran room'))))
 
 pub returns-clause-lined : goal.returns-clause-lined
 returns-clause-lined g c = λ now stands same line room.
@@ -119,9 +119,9 @@ returns-clause-lined g c = λ now stands same line room.
     let called = ran_calls _ _ o c.in_ok-answer.answer c.call.ensures.lasts.causes.tells c.call.ensures.lasts.causes.whole c.in_ok-answer.ensures.lasts.causes.cause c.call.ensures.mute (omega (arith, stands.next, is.session.next, step_numbers (described c.args.engine.now.desc) now.session c.args.name c.args.verb)) did in
     let text = says_answer c.args.line now.line c.args.name c.in_ok-answer.answer.reply o.reply c.in_ok-answer.answer.sync o.sync (sym line) is.reply is.sync in
     let e = tried_waits (described c.args.engine.now.desc) now c.args.name c.args.verb o (ap is_waits (sym is.reply) ∙ sym c.is_waits.ensures ∙ c.if-not-is_waits.false) in
-    let few : length now.held < 10000 = omega (arith, ap length same, c.if-len-ge-HELD_LINES.false, c.len.ensures, c.args.held.now.ok.0) in
-    lined_as _ _ _ _ _ _ _ (sym e) (goes_held now o.session (first_line now.line c.args.name c.args.verb true) (calls o ∷ []) _ _ _ _ _ few (c.in_ok-say_answer-2.ensures.stands o.session is.session)
-    (c.in_ok-push.ensures.items ∙ ap (λ (n : ℕ). c.args.held.now.items ++ first_line n c.args.name c.args.verb true ∷ []) (sym line) ∙ ap (λ (l : List HeldLine). l ++ first_line now.line c.args.name c.args.verb true ∷ []) (sym same)) (ran_on _ _ _ (calls o ∷ []) (says (answer_text now.line c.args.name o.reply o.sync) ∷ []) called (ran_as _ _ _ _ text (c.in_ok-say_answer-2.ensures.ran room'))))
+    let few : length now.waiting < 10000 = omega (arith, ap length same, c.if-len-ge-WAITING_LINES.false, c.len.ensures, c.args.waiting.now.ok.0) in
+    lined_as _ _ _ _ _ _ _ (sym e) (goes_waiting now o.session (first_line now.line c.args.name c.args.verb true) (calls o ∷ []) _ _ _ _ _ few (c.in_ok-say_answer-2.ensures.stands o.session is.session)
+    (c.in_ok-push.ensures.items ∙ ap (λ (n : ℕ). c.args.waiting.now.items ++ first_line n c.args.name c.args.verb true ∷ []) (sym line) ∙ ap (λ (l : List LineWaiting). l ++ first_line now.line c.args.name c.args.verb true ∷ []) (sym same)) (ran_on _ _ _ (calls o ∷ []) (says (answer_text now.line c.args.name o.reply o.sync) ∷ []) called (ran_as _ _ _ _ text (c.in_ok-say_answer-2.ensures.ran room'))))
 
 pub returns-clause-part : goal.returns-clause-part
 returns-clause-part g c = λ now stands same line room.
@@ -132,5 +132,5 @@ returns-clause-part g c = λ now stands same line room.
     let called = ran_calls _ _ o c.in_ok-answer.answer c.call.ensures.lasts.causes.tells c.call.ensures.lasts.causes.whole c.in_ok-answer.ensures.lasts.causes.cause c.call.ensures.mute (omega (arith, stands.next, is.session.next, step_numbers (described c.args.engine.now.desc) now.session c.args.name c.args.verb)) did in
     let text = says_answer c.args.line now.line c.args.name c.in_ok-answer.answer.reply o.reply c.in_ok-answer.answer.sync o.sync (sym line) is.reply is.sync in
     let e = tried_waits (described c.args.engine.now.desc) now c.args.name c.args.verb o (ap is_waits (sym is.reply) ∙ sym c.is_waits.ensures ∙ c.if-not-is_waits.false) in
-    let few : length now.held < 10000 = omega (arith, ap length same, c.if-len-ge-HELD_LINES.false, c.len.ensures, c.args.held.now.ok.0) in
-    part_as _ _ _ _ (sym (ap (λ (l : Lined). l.events) e ∙ held_events now o.session _ _ _ few)) (part_all _ _ _ (ran_on _ _ _ (calls o ∷ []) (says (answer_text now.line c.args.name o.reply o.sync) ∷ []) called (ran_as _ _ _ _ text (c.in_ok-say_answer-2.ensures.ran room'))))
+    let few : length now.waiting < 10000 = omega (arith, ap length same, c.if-len-ge-WAITING_LINES.false, c.len.ensures, c.args.waiting.now.ok.0) in
+    part_as _ _ _ _ (sym (ap (λ (l : LineEffect). l.events) e ∙ waiting_events now o.session _ _ _ few)) (part_all _ _ _ (ran_on _ _ _ (calls o ∷ []) (says (answer_text now.line c.args.name o.reply o.sync) ∷ []) called (ran_as _ _ _ _ text (c.in_ok-say_answer-2.ensures.ran room'))))

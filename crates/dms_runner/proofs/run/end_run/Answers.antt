@@ -9,17 +9,17 @@ returns-in-Err-clause-part g c = λ room. part_of_first _ _ _ _ (part_cut _ _ _ 
 
 pub returns-in-Err-end-clause-part : goal.returns-in-Err-end-clause-part
 returns-in-Err-end-clause-part g c = λ room.
-    let room' : (seen c.say_held.new.engine).next + 1 < 2 ^ 64 = omega (arith, c.say_held.ensures.number, room) in
+    let room' : (seen c.say_waiting.new.engine).next + 1 < 2 ^ 64 = omega (arith, c.say_waiting.ensures.number, room) in
     part_on _ _ _ _ _ (c.in-Ok.ensures.ran room) (part_back _ _ (undamaged_by _ (seen c.end.new.self) c.end.result c.end.ensures.undamaged c.end.ensures.lasts.causes.cause) c.end.ensures.silent room')
 
 pub returns-in-Ok-end-clause-ran : goal.returns-in-Ok-end-clause-ran
 returns-in-Ok-end-clause-ran g c = λ room.
-    let room' : (seen c.say_held.new.engine).next + 1 < 2 ^ 64 = omega (arith, c.say_held.ensures.number, room) in
+    let room' : (seen c.say_waiting.new.engine).next + 1 < 2 ^ 64 = omega (arith, c.say_waiting.ensures.number, room) in
     ran_on _ _ _ _ _ (c.in-Ok.ensures.ran room) (ran_back _ _ c.end.ensures.lasts.causes.tells c.end.ensures.lasts.causes.whole (told_ended c.in-Ok-end.ensures.ended) (undamaged_by _ (seen c.end.new.self) c.end.result c.end.ensures.undamaged c.end.ensures.lasts.causes.cause) c.end.ensures.silent c.in-Ok-end.ensures.points room')
 
 pub returns-in-Ok-end-clause-part : goal.returns-in-Ok-end-clause-part
 returns-in-Ok-end-clause-part g c = λ room.
-    let room' : (seen c.say_held.new.engine).next + 1 < 2 ^ 64 = omega (arith, c.say_held.ensures.number, room) in
+    let room' : (seen c.say_waiting.new.engine).next + 1 < 2 ^ 64 = omega (arith, c.say_waiting.ensures.number, room) in
     part_on _ _ _ _ _ (c.in-Ok.ensures.ran room) (part_back _ _ (undamaged_by _ (seen c.end.new.self) c.end.result c.end.ensures.undamaged c.end.ensures.lasts.causes.cause) c.end.ensures.silent room')
 
 pub returns-in-Ok-end-clause-ended : goal.returns-in-Ok-end-clause-ended

@@ -5,16 +5,16 @@ use Rattle.dms_desc.specs.declared.description.Description.{Description}
 use Rattle.dms_desc.specs.Shape.{described}
 use Rattle.dms_feed.specs.Lines.{raw_lines}
 use Rattle.dms_storeverbs.specs.declared.engine.Engine.{Engine}
-use Rattle.dms_storeverbs.specs.View.{seen, view, Stands}
-use Rattle.dms_runner.specs.declared.held.Held.{Held}
-use Rattle.dms_runner.specs.Answers.{begun, lines_run, ending, script_events}
-use Rattle.dms_runner.specs.Events.{Ran, RanPart}
+use Rattle.dms_storeverbs.specs.View.{seen, view, StandsFor}
+use Rattle.dms_runner.specs.declared.waiting.WaitingLine.{WaitingLine}
+use Rattle.dms_runner.specs.Answers.{first_state, lines_run, end_events, script_events}
+use Rattle.dms_runner.specs.Events.{Performs, PerformsPrefix}
 use Rattle.dms_runner.specs.Blaming.{CutRun}
-use Rattle.dms_runner.specs.Running.{PassesBytes, PassesHeld, CutInput}
+use Rattle.dms_runner.specs.Running.{PassesBytes, PassesWaiting, CutInput}
 use Rattle.dms_runner.proofs.Always.{always_ok, then_on, fault_as}
 use Rattle.dms_runner.proofs.Texts.{prints_none}
 use Rattle.dms_runner.proofs.Happening.{part_none, part_as}
-use Rattle.dms_runner.proofs.Running.{Runs, runs_start, runs_room, runs_on, runs_lines, runs_bytes, runs_held, runs_cut, runs_end, runs_ran, runs_ended, runs_next, runs_part, runs_end_part}
+use Rattle.dms_runner.proofs.Running.{Runs, runs_start, runs_room, runs_on, runs_lines, runs_bytes, runs_waiting, runs_cut, runs_end, runs_ran, runs_ended, runs_next, runs_part, runs_end_part}
 use Rattle.dms_runner.proofs.run.run_lines.Goals as goal
 
 pub loop-line-init : goal.loop-line-init
@@ -25,13 +25,13 @@ loop-line-init g c = record {
   small = omega arith;
   few = omega arith;
   rest = λ all remains. (all, remains);
-  runs = λ db first all stands small remains. subst (λ (hs : List Held). Runs (described c.args.engine.now.desc) (begun db first) 0 2147483648 all (view c.args.engine.now) hs c.args.feed.now (g.I.Source.left c.args.source.now) (seen c.args.engine.now) (seen c.args.engine.now)) (sym c.new-held.ensures.items) (runs_start _ db first all _ _ _ _ stands remains);
+  runs = λ db first all stands small remains. subst (λ (hs : List WaitingLine). Runs (described c.args.engine.now.desc) (first_state db first) 0 2147483648 all (view c.args.engine.now) hs c.args.feed.now (g.I.Source.left c.args.source.now) (seen c.args.engine.now) (seen c.args.engine.now)) (sym c.new-waiting.ensures.items) (runs_start _ db first all _ _ _ _ stands remains);
 }
 
 pub returns-in-Err-clause-part : goal.returns-in-Err-clause-part
 returns-in-Err-clause-part g c = λ db first all stands small remains.
-    let r = subst (λ (d : Description). Runs (described d) (begun db first) c.loop-line.line c.loop-line.room all (view c.loop-line.engine) c.loop-line.held.items c.loop-line.feed (g.I.Source.left c.loop-line.source) (seen c.args.engine.now) (seen c.loop-line.engine)) (sym c.loop-line.invariant.lasts.description) (c.loop-line.invariant.runs db first all stands small remains) in
-    let p = part_as _ _ _ _ (ap (λ (d : Description). script_events (described d) db first (raw_lines all)) c.loop-line.invariant.lasts.description) (runs_part _ db first _ _ all _ _ _ _ _ _ _ r (c.in-Err.ensures.part (lines_run (described c.loop-line.engine.desc) (begun db first) r.done).going r.rest r.stands (sym r.held_is) r.line (runs_room (described c.loop-line.engine.desc) db first _ _ all _ _ _ _ _ _ r (omega (arith, c.loop-line-test.true)) small) r.remains)) in
+    let r = subst (λ (d : Description). Runs (described d) (first_state db first) c.loop-line.line c.loop-line.room all (view c.loop-line.engine) c.loop-line.waiting.items c.loop-line.feed (g.I.Source.left c.loop-line.source) (seen c.args.engine.now) (seen c.loop-line.engine)) (sym c.loop-line.invariant.lasts.description) (c.loop-line.invariant.runs db first all stands small remains) in
+    let p = part_as _ _ _ _ (ap (λ (d : Description). script_events (described d) db first (raw_lines all)) c.loop-line.invariant.lasts.description) (runs_part _ db first _ _ all _ _ _ _ _ _ _ r (c.in-Err.ensures.part (lines_run (described c.loop-line.engine.desc) (first_state db first) r.done).going r.rest r.stands (sym r.waiting_is) r.line (runs_room (described c.loop-line.engine.desc) db first _ _ all _ _ _ _ _ _ r (omega (arith, c.loop-line-test.true)) small) r.remains)) in
     p
 
 pub returns-in-Err-clause-lines : goal.returns-in-Err-clause-lines
@@ -39,19 +39,19 @@ returns-in-Err-clause-lines g c = λ e. absurd (c.in-Err.ensures.no_lines (fault
 
 pub returns-in-Err-clause-bytes : goal.returns-in-Err-clause-bytes
 returns-in-Err-clause-bytes g c = λ e db first all stands small remains.
-    let r = subst (λ (d : Description). Runs (described d) (begun db first) c.loop-line.line c.loop-line.room all (view c.loop-line.engine) c.loop-line.held.items c.loop-line.feed (g.I.Source.left c.loop-line.source) (seen c.args.engine.now) (seen c.loop-line.engine)) (sym c.loop-line.invariant.lasts.description) (c.loop-line.invariant.runs db first all stands small remains) in
+    let r = subst (λ (d : Description). Runs (described d) (first_state db first) c.loop-line.line c.loop-line.room all (view c.loop-line.engine) c.loop-line.waiting.items c.loop-line.feed (g.I.Source.left c.loop-line.source) (seen c.args.engine.now) (seen c.loop-line.engine)) (sym c.loop-line.invariant.lasts.description) (c.loop-line.invariant.runs db first all stands small remains) in
     let b = c.in-Err.ensures.bytes (fault_as _ _ c.in-Err.fault _ refl refl e) in
     subst (λ (d : Description). PassesBytes (described d) db first (raw_lines all) (seen c.args.engine.now).said (seen c.one_line.new.engine).said) c.loop-line.invariant.lasts.description (runs_bytes _ db first _ _ all _ _ _ _ _ _ _ r (omega (arith, c.loop-line-test.true)) (prints_none _ _ b.0) (b.1 r.rest r.remains))
 
 pub returns-in-Err-clause-full_list : goal.returns-in-Err-clause-full_list
 returns-in-Err-clause-full_list g c = λ e db first all stands small remains.
-    let r = subst (λ (d : Description). Runs (described d) (begun db first) c.loop-line.line c.loop-line.room all (view c.loop-line.engine) c.loop-line.held.items c.loop-line.feed (g.I.Source.left c.loop-line.source) (seen c.args.engine.now) (seen c.loop-line.engine)) (sym c.loop-line.invariant.lasts.description) (c.loop-line.invariant.runs db first all stands small remains) in
-    let f = c.in-Err.ensures.full_list (fault_as _ _ c.in-Err.fault _ refl refl e) (lines_run (described c.loop-line.engine.desc) (begun db first) r.done).going r.rest r.stands (sym r.held_is) r.line (runs_room (described c.loop-line.engine.desc) db first _ _ all _ _ _ _ _ _ r (omega (arith, c.loop-line-test.true)) small) r.remains in
-    subst (λ (d : Description). PassesHeld (described d) db first (raw_lines all) (seen c.args.engine.now).said (seen c.one_line.new.engine).said) c.loop-line.invariant.lasts.description (runs_held _ db first _ _ all _ _ _ _ _ _ _ r (omega (arith, c.loop-line-test.true)) f.0 f.1 f.2 f.3)
+    let r = subst (λ (d : Description). Runs (described d) (first_state db first) c.loop-line.line c.loop-line.room all (view c.loop-line.engine) c.loop-line.waiting.items c.loop-line.feed (g.I.Source.left c.loop-line.source) (seen c.args.engine.now) (seen c.loop-line.engine)) (sym c.loop-line.invariant.lasts.description) (c.loop-line.invariant.runs db first all stands small remains) in
+    let f = c.in-Err.ensures.full_list (fault_as _ _ c.in-Err.fault _ refl refl e) (lines_run (described c.loop-line.engine.desc) (first_state db first) r.done).going r.rest r.stands (sym r.waiting_is) r.line (runs_room (described c.loop-line.engine.desc) db first _ _ all _ _ _ _ _ _ r (omega (arith, c.loop-line-test.true)) small) r.remains in
+    subst (λ (d : Description). PassesWaiting (described d) db first (raw_lines all) (seen c.args.engine.now).said (seen c.one_line.new.engine).said) c.loop-line.invariant.lasts.description (runs_waiting _ db first _ _ all _ _ _ _ _ _ _ r (omega (arith, c.loop-line-test.true)) f.0 f.1 f.2 f.3)
 
 pub returns-in-Err-clause-failed : goal.returns-in-Err-clause-failed
 returns-in-Err-clause-failed g c = λ e db first all stands small remains.
-    let r = subst (λ (d : Description). Runs (described d) (begun db first) c.loop-line.line c.loop-line.room all (view c.loop-line.engine) c.loop-line.held.items c.loop-line.feed (g.I.Source.left c.loop-line.source) (seen c.args.engine.now) (seen c.loop-line.engine)) (sym c.loop-line.invariant.lasts.description) (c.loop-line.invariant.runs db first all stands small remains) in
+    let r = subst (λ (d : Description). Runs (described d) (first_state db first) c.loop-line.line c.loop-line.room all (view c.loop-line.engine) c.loop-line.waiting.items c.loop-line.feed (g.I.Source.left c.loop-line.source) (seen c.args.engine.now) (seen c.loop-line.engine)) (sym c.loop-line.invariant.lasts.description) (c.loop-line.invariant.runs db first all stands small remains) in
     let b = c.in-Err.ensures.failed (fault_as _ _ c.in-Err.fault _ refl refl e) in
     subst (λ (d : Description). CutInput (described d) db first all (g.I.Source.left c.one_line.new.source) (seen c.args.engine.now).said (seen c.one_line.new.engine).said) c.loop-line.invariant.lasts.description (runs_cut _ db first _ _ _ all _ _ _ _ _ _ _ _ r c.loop-line.invariant.few (omega arith) (λ end. absurd (omega (arith, end, c.loop-line-test.true))) (prints_none _ _ b.0) (b.1 r.rest r.remains))
 
@@ -60,21 +60,21 @@ returns-in-Ok-false-clause-answers g c = then_on c.end_run.result _ _ (λ ran. �
     let none = (rw c.in-Ok-false.field-0-test at c.in-Ok-false.ensures.none) refl in
     let r = c.loop-line.invariant.runs db first all stands small remains in
     let room' : (seen c.one_line.new.engine).next + 1 < 2 ^ 64 = omega (arith, ap (λ (e : Engine g.row.St.Denot g.St.Store). (seen e).next) none.0, r.stands.next, runs_next _ db first _ _ all _ _ _ _ _ _ r c.loop-line.invariant.few small) in
-    let last : Ran (seen c.loop-line.engine) (seen c.end_run.new.engine) (ending c.loop-line.held.items) = subst (λ (e : Engine g.row.St.Denot g.St.Store). Ran (seen e) (seen c.end_run.new.engine) (ending c.loop-line.held.items)) none.0 (subst (λ (l : List Held). Ran (seen c.one_line.new.engine) (seen c.end_run.new.engine) (ending l)) (c.as_slice.ensures.value ∙ ap (λ (v : Vec Held Global). v.items) none.1) (ran room')) in
+    let last : Performs (seen c.loop-line.engine) (seen c.end_run.new.engine) (end_events c.loop-line.waiting.items) = subst (λ (e : Engine g.row.St.Denot g.St.Store). Performs (seen e) (seen c.end_run.new.engine) (end_events c.loop-line.waiting.items)) none.0 (subst (λ (l : List WaitingLine). Performs (seen c.one_line.new.engine) (seen c.end_run.new.engine) (end_events l)) (c.as_slice.ensures.value ∙ ap (λ (v : Vec WaitingLine Global). v.items) none.1) (ran room')) in
     runs_end _ db first _ _ all _ _ _ _ _ _ _ r c.loop-line.invariant.few (none.2 r.rest r.remains).0 last) c.end_run.ensures.ran
 
 pub returns-in-Ok-false-clause-ended : goal.returns-in-Ok-false-clause-ended
 returns-in-Ok-false-clause-ended g c = then_on c.end_run.result _ _ (λ ends. λ db first all stands small remains.
     let none = (rw c.in-Ok-false.field-0-test at c.in-Ok-false.ensures.none) refl in
     let r = c.loop-line.invariant.runs db first all stands small remains in
-    runs_ended _ db first _ _ all _ _ _ _ _ _ _ r (none.2 r.rest r.remains).0 (ends _ (subst (λ (e : Engine g.row.St.Denot g.St.Store). Stands (view e) (lines_run (described c.args.engine.now.desc) (begun db first) r.done).going.session) (sym none.0) r.stands))) c.end_run.ensures.ended
+    runs_ended _ db first _ _ all _ _ _ _ _ _ _ r (none.2 r.rest r.remains).0 (ends _ (subst (λ (e : Engine g.row.St.Denot g.St.Store). StandsFor (view e) (lines_run (described c.args.engine.now.desc) (first_state db first) r.done).going.session) (sym none.0) r.stands))) c.end_run.ensures.ended
 
 pub returns-in-Ok-false-clause-ran : goal.returns-in-Ok-false-clause-ran
 returns-in-Ok-false-clause-ran g c = then_on c.end_run.result _ _ (λ ran. λ db first all stands small remains.
     let none = (rw c.in-Ok-false.field-0-test at c.in-Ok-false.ensures.none) refl in
     let r = c.loop-line.invariant.runs db first all stands small remains in
     let room' : (seen c.one_line.new.engine).next + 1 < 2 ^ 64 = omega (arith, ap (λ (e : Engine g.row.St.Denot g.St.Store). (seen e).next) none.0, r.stands.next, runs_next _ db first _ _ all _ _ _ _ _ _ r c.loop-line.invariant.few small) in
-    let last : Ran (seen c.loop-line.engine) (seen c.end_run.new.engine) (ending c.loop-line.held.items) = subst (λ (e : Engine g.row.St.Denot g.St.Store). Ran (seen e) (seen c.end_run.new.engine) (ending c.loop-line.held.items)) none.0 (subst (λ (l : List Held). Ran (seen c.one_line.new.engine) (seen c.end_run.new.engine) (ending l)) (c.as_slice.ensures.value ∙ ap (λ (v : Vec Held Global). v.items) none.1) (ran room')) in
+    let last : Performs (seen c.loop-line.engine) (seen c.end_run.new.engine) (end_events c.loop-line.waiting.items) = subst (λ (e : Engine g.row.St.Denot g.St.Store). Performs (seen e) (seen c.end_run.new.engine) (end_events c.loop-line.waiting.items)) none.0 (subst (λ (l : List WaitingLine). Performs (seen c.one_line.new.engine) (seen c.end_run.new.engine) (end_events l)) (c.as_slice.ensures.value ∙ ap (λ (v : Vec WaitingLine Global). v.items) none.1) (ran room')) in
     runs_ran _ db first _ _ all _ _ _ _ _ _ _ r (none.2 r.rest r.remains).0 last) c.end_run.ensures.ran
 
 pub returns-in-Ok-false-clause-part : goal.returns-in-Ok-false-clause-part
@@ -82,7 +82,7 @@ returns-in-Ok-false-clause-part g c = λ db first all stands small remains.
     let none = (rw c.in-Ok-false.field-0-test at c.in-Ok-false.ensures.none) refl in
     let r = c.loop-line.invariant.runs db first all stands small remains in
     let room' : (seen c.one_line.new.engine).next + 1 < 2 ^ 64 = omega (arith, ap (λ (e : Engine g.row.St.Denot g.St.Store). (seen e).next) none.0, r.stands.next, runs_next _ db first _ _ all _ _ _ _ _ _ r c.loop-line.invariant.few small) in
-    let last : RanPart (CutRun c.end_run.result) (seen c.loop-line.engine) (seen c.end_run.new.engine) (ending c.loop-line.held.items) = subst (λ (e : Engine g.row.St.Denot g.St.Store). RanPart (CutRun c.end_run.result) (seen e) (seen c.end_run.new.engine) (ending c.loop-line.held.items)) none.0 (subst (λ (l : List Held). RanPart (CutRun c.end_run.result) (seen c.one_line.new.engine) (seen c.end_run.new.engine) (ending l)) (c.as_slice.ensures.value ∙ ap (λ (v : Vec Held Global). v.items) none.1) (c.end_run.ensures.part room')) in
+    let last : PerformsPrefix (CutRun c.end_run.result) (seen c.loop-line.engine) (seen c.end_run.new.engine) (end_events c.loop-line.waiting.items) = subst (λ (e : Engine g.row.St.Denot g.St.Store). PerformsPrefix (CutRun c.end_run.result) (seen e) (seen c.end_run.new.engine) (end_events c.loop-line.waiting.items)) none.0 (subst (λ (l : List WaitingLine). PerformsPrefix (CutRun c.end_run.result) (seen c.one_line.new.engine) (seen c.end_run.new.engine) (end_events l)) (c.as_slice.ensures.value ∙ ap (λ (v : Vec WaitingLine Global). v.items) none.1) (c.end_run.ensures.part room')) in
     let p = runs_end_part _ db first _ _ all _ _ _ _ _ _ _ r (none.2 r.rest r.remains).0 last in
     p
 
@@ -118,8 +118,8 @@ loop-line-preserved g c = record {
       let kept = c.loop-line.invariant.rest all remains in
       c.in-Ok-true.ensures.rest kept.0 kept.1;
   runs = λ db first all stands small remains.
-      let r = subst (λ (d : Description). Runs (described d) (begun db first) c.loop-line.line c.loop-line.room all (view c.loop-line.engine) c.loop-line.held.items c.loop-line.feed (g.I.Source.left c.loop-line.source) (seen c.args.engine.now) (seen c.loop-line.engine)) (sym c.loop-line.invariant.lasts.description) (c.loop-line.invariant.runs db first all stands small remains) in
-      subst (λ (d : Description). Runs (described d) (begun db first) (c.loop-line.line + 1) c.one_line.new.room all (view c.one_line.new.engine) c.one_line.new.held.items c.one_line.new.feed (g.I.Source.left c.one_line.new.source) (seen c.args.engine.now) (seen c.one_line.new.engine)) c.loop-line.invariant.lasts.description (runs_on _ (begun db first) _ _ _ all _ _ _ _ _ _ _ _ _ _ _ r ((rw c.in-Ok-true.field-0-test at c.in-Ok-true.ensures.took) refl (lines_run (described c.loop-line.engine.desc) (begun db first) r.done).going r.rest r.stands (sym r.held_is) r.line (runs_room (described c.loop-line.engine.desc) db first _ _ all _ _ _ _ _ _ r (omega (arith, c.loop-line-test.true)) small) r.remains));
+      let r = subst (λ (d : Description). Runs (described d) (first_state db first) c.loop-line.line c.loop-line.room all (view c.loop-line.engine) c.loop-line.waiting.items c.loop-line.feed (g.I.Source.left c.loop-line.source) (seen c.args.engine.now) (seen c.loop-line.engine)) (sym c.loop-line.invariant.lasts.description) (c.loop-line.invariant.runs db first all stands small remains) in
+      subst (λ (d : Description). Runs (described d) (first_state db first) (c.loop-line.line + 1) c.one_line.new.room all (view c.one_line.new.engine) c.one_line.new.waiting.items c.one_line.new.feed (g.I.Source.left c.one_line.new.source) (seen c.args.engine.now) (seen c.one_line.new.engine)) c.loop-line.invariant.lasts.description (runs_on _ (first_state db first) _ _ _ all _ _ _ _ _ _ _ _ _ _ _ r ((rw c.in-Ok-true.field-0-test at c.in-Ok-true.ensures.took) refl (lines_run (described c.loop-line.engine.desc) (first_state db first) r.done).going r.rest r.stands (sym r.waiting_is) r.line (runs_room (described c.loop-line.engine.desc) db first _ _ all _ _ _ _ _ _ r (omega (arith, c.loop-line-test.true)) small) r.remains));
 }
 
 pub returns-in-Err-after_last-clause-part : goal.returns-in-Err-after_last-clause-part
@@ -151,7 +151,7 @@ pub returns-clause-answers : goal.returns-clause-answers
 returns-clause-answers g c = then_on c.end_run-2.result _ _ (λ ran. λ db first all stands small remains.
     let r = c.loop-line.invariant.runs db first all stands small remains in
     let room' : (seen c.loop-line.engine).next + 1 < 2 ^ 64 = omega (arith, r.stands.next, runs_next _ db first _ _ all _ _ _ _ _ _ r c.loop-line.invariant.few small) in
-    let last : Ran (seen c.loop-line.engine) (seen c.end_run-2.new.engine) (ending c.loop-line.held.items) = subst (λ (l : List Held). Ran (seen c.loop-line.engine) (seen c.end_run-2.new.engine) (ending l)) c.as_slice-2.ensures.value (ran room') in
+    let last : Performs (seen c.loop-line.engine) (seen c.end_run-2.new.engine) (end_events c.loop-line.waiting.items) = subst (λ (l : List WaitingLine). Performs (seen c.loop-line.engine) (seen c.end_run-2.new.engine) (end_events l)) c.as_slice-2.ensures.value (ran room') in
     runs_end _ db first _ _ all _ _ _ _ _ _ _ r c.loop-line.invariant.few (c.in-Ok.ensures.end r.rest r.remains).0 last) c.end_run-2.ensures.ran
 
 pub returns-clause-ended : goal.returns-clause-ended
@@ -163,14 +163,14 @@ pub returns-clause-ran : goal.returns-clause-ran
 returns-clause-ran g c = then_on c.end_run-2.result _ _ (λ ran. λ db first all stands small remains.
     let r = c.loop-line.invariant.runs db first all stands small remains in
     let room' : (seen c.loop-line.engine).next + 1 < 2 ^ 64 = omega (arith, r.stands.next, runs_next _ db first _ _ all _ _ _ _ _ _ r c.loop-line.invariant.few small) in
-    let last : Ran (seen c.loop-line.engine) (seen c.end_run-2.new.engine) (ending c.loop-line.held.items) = subst (λ (l : List Held). Ran (seen c.loop-line.engine) (seen c.end_run-2.new.engine) (ending l)) c.as_slice-2.ensures.value (ran room') in
+    let last : Performs (seen c.loop-line.engine) (seen c.end_run-2.new.engine) (end_events c.loop-line.waiting.items) = subst (λ (l : List WaitingLine). Performs (seen c.loop-line.engine) (seen c.end_run-2.new.engine) (end_events l)) c.as_slice-2.ensures.value (ran room') in
     runs_ran _ db first _ _ all _ _ _ _ _ _ _ r (c.in-Ok.ensures.end r.rest r.remains).0 last) c.end_run-2.ensures.ran
 
 pub returns-clause-part : goal.returns-clause-part
 returns-clause-part g c = λ db first all stands small remains.
     let r = c.loop-line.invariant.runs db first all stands small remains in
     let room' : (seen c.loop-line.engine).next + 1 < 2 ^ 64 = omega (arith, r.stands.next, runs_next _ db first _ _ all _ _ _ _ _ _ r c.loop-line.invariant.few small) in
-    let last : RanPart (CutRun c.end_run-2.result) (seen c.loop-line.engine) (seen c.end_run-2.new.engine) (ending c.loop-line.held.items) = subst (λ (l : List Held). RanPart (CutRun c.end_run-2.result) (seen c.loop-line.engine) (seen c.end_run-2.new.engine) (ending l)) c.as_slice-2.ensures.value (c.end_run-2.ensures.part room') in
+    let last : PerformsPrefix (CutRun c.end_run-2.result) (seen c.loop-line.engine) (seen c.end_run-2.new.engine) (end_events c.loop-line.waiting.items) = subst (λ (l : List WaitingLine). PerformsPrefix (CutRun c.end_run-2.result) (seen c.loop-line.engine) (seen c.end_run-2.new.engine) (end_events l)) c.as_slice-2.ensures.value (c.end_run-2.ensures.part room') in
     let p = runs_end_part _ db first _ _ all _ _ _ _ _ _ _ r (c.in-Ok.ensures.end r.rest r.remains).0 last in
     p
 

@@ -1,9 +1,9 @@
 use Rattle.std.proofs.Common.{◌≡◌, ◌≤◌, ◌<◌, ◌+◌, ◌^◌, ℕ, List, IsTrue}
 use Rattle.dms_desc.specs.Shape.{described}
 use Rattle.dms_model.specs.Session.{fresh_session}
-use Rattle.dms_storeverbs.specs.View.{Lasted, seen, view, Stands}
+use Rattle.dms_storeverbs.specs.View.{Lasted, seen, view, StandsFor}
 use Rattle.dms_runner.proofs.Running.{Runs}
-use Rattle.dms_runner.specs.Answers.{begun}
+use Rattle.dms_runner.specs.Answers.{first_state}
 use Rattle.dms_model.specs.Db.{Db}
 use Rattle.dms_feed.specs.Feeds.{Remains}
 use Rattle.dms_runner.proofs.run.run_lines.Given as goal
@@ -16,6 +16,6 @@ invariant-loop-line g l = record {
   small : l.room ≤ 2147483648;
   few : l.line ≤ 1000000;
   rest : (all : List ℕ) → Remains l.fn.feed (g.I.Source.left l.fn.source) all → (rest : List ℕ) × Remains l.feed (g.I.Source.left l.source) rest;
-  runs : (db : Db) (first : ℕ) (all : List ℕ) → Stands (view l.fn.engine) (fresh_session db first) → first + 1000003 < 2 ^ 64 → Remains l.fn.feed (g.I.Source.left l.fn.source) all
-      → Runs (described l.fn.engine.desc) (begun db first) l.line l.room all (view l.engine) l.held.items l.feed (g.I.Source.left l.source) (seen l.fn.engine) (seen l.engine);
+  runs : (db : Db) (first : ℕ) (all : List ℕ) → StandsFor (view l.fn.engine) (fresh_session db first) → first + 1000003 < 2 ^ 64 → Remains l.fn.feed (g.I.Source.left l.fn.source) all
+      → Runs (described l.fn.engine.desc) (first_state db first) l.line l.room all (view l.engine) l.waiting.items l.feed (g.I.Source.left l.source) (seen l.fn.engine) (seen l.engine);
 }

@@ -1,8 +1,8 @@
 use Rattle.std.proofs.Common.{sym, ap, ◌∙◌, ◌++◌, ◌∷◌, [], Some, length, subst}
 use Rattle.dms_desc.specs.Shape.{shape_of}
 use Rattle.dms_ordlist.specs.Lists.{first_from}
-use Rattle.dms_sets.specs.Fronts.{starts}
-use Rattle.dms_sets.specs.Changes.{Whole, IfListed}
+use Rattle.dms_sets.specs.Prefixes.{starts}
+use Rattle.dms_sets.specs.Changes.{IsEntryWidth, IfListed}
 use Rattle.dms_sets.specs.ChangeLaws.{front_whole, bound_long, seen_none, seen_some}
 use Rattle.dms_sets.proofs.Faults.{if_that}
 use Rattle.dms_sets.proofs.one.is_taken.Goals as goal
@@ -10,7 +10,7 @@ use Rattle.dms_sets.proofs.one.is_taken.Goals as goal
 pub first_from-requires-clause-width : goal.first_from-requires-clause-width
 first_from-requires-clause-width g c =
     let is = c.as_slice.ensures ∙ c.in_ok-bound.ensures ∙ ap (λ b. b ++ 0 ∷ 0 ∷ 0 ∷ 0 ∷ []) c.in_ok-front.ensures in
-    subst (λ q. Whole (length q)) (sym is) (front_whole c.args.kinds.now (shape_of c.args.s.now) c.args.rec.now c.requires.fits)
+    subst (λ q. IsEntryWidth (length q)) (sym is) (front_whole c.args.kinds.now (shape_of c.args.s.now) c.args.rec.now c.requires.fits)
 
 pub returns-in_err-first_from-clause-below : goal.returns-in_err-first_from-clause-below
 returns-in_err-first_from-clause-below g c =

@@ -1,13 +1,13 @@
 use Rattle.std.proofs.Common.{sym, ap, ◌∙◌, length, subst}
 use Rattle.dms_desc.specs.Shape.{shape_of}
-use Rattle.dms_sets.specs.Changes.{Whole, IfListed}
+use Rattle.dms_sets.specs.Changes.{IsEntryWidth, IfListed}
 use Rattle.dms_sets.specs.ChangeLaws.{entry_whole, entry_long, put_only}
 use Rattle.dms_sets.proofs.Faults.{if_that}
 use Rattle.dms_sets.proofs.one.put_in.Goals as goal
 
 pub insert-requires-clause-width : goal.insert-requires-clause-width
 insert-requires-clause-width g c =
-    subst (λ q. Whole (length q)) (sym c.as_slice.ensures)
+    subst (λ q. IsEntryWidth (length q)) (sym c.as_slice.ensures)
     (entry_whole c.args.kinds.now (shape_of c.args.s.now) c.args.number c.args.rec.now _ c.requires.fits (sym c.in_ok-entry.ensures ∙ c.in-Some.is))
 
 pub returns-in_ok-insert-clause-list : goal.returns-in_ok-insert-clause-list

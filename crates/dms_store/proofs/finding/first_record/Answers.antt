@@ -1,7 +1,7 @@
 use Rattle.std.proofs.Common.{Bor, ◌≡◌, ◌∙◌, ap, subst, sym, take, Option, Some}
 use Rattle.std.specs.Option.{option_copied, option_map}
 use Rattle.dms_block.specs.Content.{Content}
-use Rattle.dms_block.specs.View.{Reads, seen, under}
+use Rattle.dms_block.specs.View.{ReadsOverlay, seen, under}
 use Rattle.dms_desc.specs.Lookups.{structure_of}
 use Rattle.dms_desc.specs.Shape.{Shape, described, shape_of}
 use Rattle.dms_desc.specs.declared.structure.Structure.{Structure}
@@ -51,7 +51,7 @@ returns-in-Some-clause-fits g c =
 pub returns-in-Some-clause-reads : goal.returns-in-Some-clause-reads
 returns-in-Some-clause-reads g c =
     let at : structure_of (described c.args.desc.now) c.args.path ≡ Some (shape_of c.in-Some.s.now) = sym c.structure.ensures ∙ ap (λ (o : Option (Bor Structure)). option_map shape_of (option_copied o)) c.in-Some.is in
-    subst (λ (x : Option Shape). Reads (population_of x) c.first_in.result c.args.over.now c.first_in.new.over) (sym at) c.first_in.ensures.reads
+    subst (λ (x : Option Shape). ReadsOverlay (population_of x) c.first_in.result c.args.over.now c.first_in.new.over) (sym at) c.first_in.ensures.reads
 
 pub returns-in-Some-clause-causes : goal.returns-in-Some-clause-causes
 returns-in-Some-clause-causes g c =

@@ -3,7 +3,7 @@ use Rattle.dms_desc.specs.Shape.{Described, described}
 use Rattle.dms_feed.specs.Lines.{raw_lines}
 use Rattle.dms_model.specs.Db.{empty_db}
 use Rattle.dms_runner.specs.Answers.{answers_text, script_events}
-use Rattle.dms_top.specs.Answering.{Passes}
+use Rattle.dms_top.specs.Answering.{PassesLimit}
 use Rattle.dms_top.proofs.Printing.{told_front, told_prints, told_whole, whole_moved, limits_kept, stands_at, front_moved, printed_moved, passes_moved, within_moved, on_ok}
 use Rattle.dms_top.proofs.Counting.{say_counted, counted_moved}
 use Rattle.dms_top.proofs.Cutting.{cut_moved}
@@ -11,7 +11,7 @@ use Rattle.dms_plain.specs.Told.{told}
 use Rattle.dms_feed.specs.Feeds.{Remains}
 use Rattle.dms_top.specs.declared.status.Status.TheVariants.{Limit}
 use Rattle.dms_top.specs.declared.status.LimitKind.{LimitKind}
-use Rattle.dms_top.specs.declared.status.LimitKind.TheVariants.{Lines, Bytes, Held}
+use Rattle.dms_top.specs.declared.status.LimitKind.TheVariants.{Lines, Bytes, Waiting}
 use Rattle.dms_top.proofs.try_run.try_lines.Given.{Over}
 use Rattle.dms_top.proofs.try_run.try_lines.Goals as goal
 
@@ -44,10 +44,10 @@ returns-in-Ok-new-clause-limit g c = λ k is all remains.
     passes_moved k _ (described c.in-Ok-new.engine.desc) _ g.S.Site.tells_said _ _ (g.S.Site.said c.in-Ok-new.engine.store.site.now) (g.S.Site.said c.run_lines-ran.new.engine.store.site.now) (search rules) (search rules) (sym c.in-Ok-new.ensures.described) (passes g c k is all remains)
   where
     passes : (g : Over) (c : goal.After-status_after g) (k : LimitKind) → c.status_after.result ≡ Limit k → (all : List ℕ) → Remains c.args.feed.now (g.I.Source.left c.args.source.now) all
-        → Passes k (described c.in-Ok-new.engine.desc) (raw_lines all) (told g.S.Site.tells_said (g.S.Site.said c.in-Ok-new.engine.store.site.now)) (told g.S.Site.tells_said (g.S.Site.said c.run_lines-ran.new.engine.store.site.now))
+        → PassesLimit k (described c.in-Ok-new.engine.desc) (raw_lines all) (told g.S.Site.tells_said (g.S.Site.said c.in-Ok-new.engine.store.site.now)) (told g.S.Site.tells_said (g.S.Site.said c.run_lines-ran.new.engine.store.site.now))
     passes g c Lines is all remains = c.run_lines-ran.ensures.lines (c.status_after.ensures.lines is) empty_db 1 all (stands_at _ _ 1 c.in-Ok.ensures.starts.next_is (c.in-Ok-new.ensures.stands empty_db c.in-Ok.ensures.starts.db_is)) (omega arith) remains
     passes g c Bytes is all remains = c.run_lines-ran.ensures.bytes (c.status_after.ensures.bytes is) empty_db 1 all (stands_at _ _ 1 c.in-Ok.ensures.starts.next_is (c.in-Ok-new.ensures.stands empty_db c.in-Ok.ensures.starts.db_is)) (omega arith) remains
-    passes g c Held is all remains = c.run_lines-ran.ensures.full_list (c.status_after.ensures.held is) empty_db 1 all (stands_at _ _ 1 c.in-Ok.ensures.starts.next_is (c.in-Ok-new.ensures.stands empty_db c.in-Ok.ensures.starts.db_is)) (omega arith) remains
+    passes g c Waiting is all remains = c.run_lines-ran.ensures.full_list (c.status_after.ensures.held is) empty_db 1 all (stands_at _ _ 1 c.in-Ok.ensures.starts.next_is (c.in-Ok-new.ensures.stands empty_db c.in-Ok.ensures.starts.db_is)) (omega arith) remains
 
 pub returns-in-Ok-new-clause-input : goal.returns-in-Ok-new-clause-input
 returns-in-Ok-new-clause-input g c = record {

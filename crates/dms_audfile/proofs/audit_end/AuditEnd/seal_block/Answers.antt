@@ -3,7 +3,7 @@ use Rattle.std.proofs.Common.{inl, inr}
 use Rattle.std.proofs.lemmas.Bool.{cases_eq}
 use Rattle.dms_audfile.specs.Header.{new_header, tag_said}
 use Rattle.dms_audfile.specs.Trail.{trail_from}
-use Rattle.dms_audfile.specs.Sealing.{Writes}
+use Rattle.dms_audfile.specs.Sealing.{IsWrittenUpTo}
 use Rattle.dms_audfile.specs.Unsealed.{block_with}
 use Rattle.dms_audfile.specs.Ends.{unsealed}
 use Rattle.dms_audfile.proofs.Laying.{written_back}
@@ -29,7 +29,7 @@ returns-in_err-seal_block-clause-moments g c first tells w settled =
     let content : c.deref.result.now ≡ block_with (unsealed s) =
     c.deref.ensures.value ∙ written_back s.block.len c.finish.new.block s.block.items long ∙ c.finish.ensures ∙ ap (λ (l : List ℕ). block_with (take s.used (drop 2 l))) c.deref_mut.ensures.value in
     let old = g.S.Site.files c.args.site.now in
-    let was : Writes s.total (tag_said c.deref-2.result.now) first s.file s.count old = subst (λ k. Writes s.total k first s.file s.count old) (sym tag_is) w in
+    let was : IsWrittenUpTo s.total (tag_said c.deref-2.result.now) first s.file s.count old = subst (λ k. IsWrittenUpTo s.total k first s.file s.count old) (sym tag_is) w in
     grows_as (tag_said c.deref-2.result.now) s.tag s.total first s.file c.deref.result.now (block_with (unsealed s)) _ _ tag_is content (c.seal_block.ensures.moments first tells was settled)
 
 pub returns-then-self-clause-moments : goal.returns-then-self-clause-moments
@@ -42,7 +42,7 @@ returns-then-self-clause-moments g c first tells w settled =
     let content : c.deref.result.now ≡ block_with (unsealed s) =
     c.deref.ensures.value ∙ written_back s.block.len c.finish.new.block s.block.items long ∙ c.finish.ensures ∙ ap (λ (l : List ℕ). block_with (take s.used (drop 2 l))) c.deref_mut.ensures.value in
     let old = g.S.Site.files c.args.site.now in
-    let was : Writes s.total (tag_said c.deref-2.result.now) first s.file s.count old = subst (λ k. Writes s.total k first s.file s.count old) (sym tag_is) w in
+    let was : IsWrittenUpTo s.total (tag_said c.deref-2.result.now) first s.file s.count old = subst (λ k. IsWrittenUpTo s.total k first s.file s.count old) (sym tag_is) w in
     grows_as (tag_said c.deref-2.result.now) s.tag s.total first s.file c.deref.result.now (block_with (unsealed s)) _ _ tag_is content (c.seal_block.ensures.moments first tells was settled)
 
 pub returns-else-self-clause-moments : goal.returns-else-self-clause-moments
@@ -55,7 +55,7 @@ returns-else-self-clause-moments g c first tells w settled =
     let content : c.deref.result.now ≡ block_with (unsealed s) =
     c.deref.ensures.value ∙ written_back s.block.len c.finish.new.block s.block.items long ∙ c.finish.ensures ∙ ap (λ (l : List ℕ). block_with (take s.used (drop 2 l))) c.deref_mut.ensures.value in
     let old = g.S.Site.files c.args.site.now in
-    let was : Writes s.total (tag_said c.deref-2.result.now) first s.file s.count old = subst (λ k. Writes s.total k first s.file s.count old) (sym tag_is) w in
+    let was : IsWrittenUpTo s.total (tag_said c.deref-2.result.now) first s.file s.count old = subst (λ k. IsWrittenUpTo s.total k first s.file s.count old) (sym tag_is) w in
     grows_as (tag_said c.deref-2.result.now) s.tag s.total first s.file c.deref.result.now (block_with (unsealed s)) _ _ tag_is content (c.seal_block.ensures.moments first tells was settled)
 
 pub returns-then-self-clause-sealed : goal.returns-then-self-clause-sealed
@@ -68,7 +68,7 @@ returns-then-self-clause-sealed g c first n tells w far =
     let content : c.deref.result.now ≡ block_with (unsealed s) =
     c.deref.ensures.value ∙ written_back s.block.len c.finish.new.block s.block.items long ∙ c.finish.ensures ∙ ap (λ (l : List ℕ). block_with (take s.used (drop 2 l))) c.deref_mut.ensures.value in
     let old = g.S.Site.files c.args.site.now in
-    let was : Writes s.total (tag_said c.deref-2.result.now) first s.file s.count old = subst (λ k. Writes s.total k first s.file s.count old) (sym tag_is) w in
+    let was : IsWrittenUpTo s.total (tag_said c.deref-2.result.now) first s.file s.count old = subst (λ k. IsWrittenUpTo s.total k first s.file s.count old) (sym tag_is) w in
     c.in_ok-seal_block.ensures.sealed first n tells was far ∙ ap (λ (l : List ℕ). trail_from n s.total first old ++ l ∷ []) content
 
 pub returns-then-self-clause-writes : goal.returns-then-self-clause-writes
@@ -78,8 +78,8 @@ returns-then-self-clause-writes g c first tells w =
     let head : c.deref-2.result.now ≡ c.make_header.new.head = c.deref-2.ensures.value ∙ written_back s.head.len c.make_header.new.head s.head.items size in
     let tag_is : tag_said c.deref-2.result.now ≡ s.tag = ap tag_said head ∙ c.make_header.ensures.tag in
     let old = g.S.Site.files c.args.site.now in
-    let was : Writes s.total (tag_said c.deref-2.result.now) first s.file s.count old = subst (λ k. Writes s.total k first s.file s.count old) (sym tag_is) w in
-    subst (λ k. Writes s.total k first (s.file + 1) 0 (g.S.Site.files c.seal_block.new.site)) tag_is ((c.in_ok-seal_block.ensures.writes first tells was).1 c.if-self.true)
+    let was : IsWrittenUpTo s.total (tag_said c.deref-2.result.now) first s.file s.count old = subst (λ k. IsWrittenUpTo s.total k first s.file s.count old) (sym tag_is) w in
+    subst (λ k. IsWrittenUpTo s.total k first (s.file + 1) 0 (g.S.Site.files c.seal_block.new.site)) tag_is ((c.in_ok-seal_block.ensures.writes first tells was).1 c.if-self.true)
 
 pub returns-else-self-clause-sealed : goal.returns-else-self-clause-sealed
 returns-else-self-clause-sealed g c first n tells w far =
@@ -91,7 +91,7 @@ returns-else-self-clause-sealed g c first n tells w far =
     let content : c.deref.result.now ≡ block_with (unsealed s) =
     c.deref.ensures.value ∙ written_back s.block.len c.finish.new.block s.block.items long ∙ c.finish.ensures ∙ ap (λ (l : List ℕ). block_with (take s.used (drop 2 l))) c.deref_mut.ensures.value in
     let old = g.S.Site.files c.args.site.now in
-    let was : Writes s.total (tag_said c.deref-2.result.now) first s.file s.count old = subst (λ k. Writes s.total k first s.file s.count old) (sym tag_is) w in
+    let was : IsWrittenUpTo s.total (tag_said c.deref-2.result.now) first s.file s.count old = subst (λ k. IsWrittenUpTo s.total k first s.file s.count old) (sym tag_is) w in
     c.in_ok-seal_block.ensures.sealed first n tells was far ∙ ap (λ (l : List ℕ). trail_from n s.total first old ++ l ∷ []) content
 
 pub returns-else-self-clause-writes : goal.returns-else-self-clause-writes
@@ -101,8 +101,8 @@ returns-else-self-clause-writes g c first tells w =
     let head : c.deref-2.result.now ≡ c.make_header.new.head = c.deref-2.ensures.value ∙ written_back s.head.len c.make_header.new.head s.head.items size in
     let tag_is : tag_said c.deref-2.result.now ≡ s.tag = ap tag_said head ∙ c.make_header.ensures.tag in
     let old = g.S.Site.files c.args.site.now in
-    let was : Writes s.total (tag_said c.deref-2.result.now) first s.file s.count old = subst (λ k. Writes s.total k first s.file s.count old) (sym tag_is) w in
-    subst (λ k. Writes s.total k first s.file (s.count + 1) (g.S.Site.files c.seal_block.new.site)) tag_is ((c.in_ok-seal_block.ensures.writes first tells was).0 c.if-self.false)
+    let was : IsWrittenUpTo s.total (tag_said c.deref-2.result.now) first s.file s.count old = subst (λ k. IsWrittenUpTo s.total k first s.file s.count old) (sym tag_is) w in
+    subst (λ k. IsWrittenUpTo s.total k first s.file (s.count + 1) (g.S.Site.files c.seal_block.new.site)) tag_is ((c.in_ok-seal_block.ensures.writes first tells was).0 c.if-self.false)
 
 pub returns-then-self-clause-next : goal.returns-then-self-clause-next
 returns-then-self-clause-next g c = sym (behind_more c.args.self.now c.if-self.true)

@@ -4,7 +4,7 @@ use Rattle.std.proofs.lemmas.Option.{MatchOption-at_none, MatchOption-at_some}
 use Rattle.dms_calls.specs.Names.{name_of}
 use Rattle.dms_calls.specs.World.{World, AllGiven}
 use Rattle.dms_calls.specs.Seen.{seen}
-use Rattle.dms_folder.specs.Listings.{Takes}
+use Rattle.dms_folder.specs.Listings.{TakesName}
 use Rattle.dms_folder.specs.ListingLaws.{Later, absent_next, present_next, last_at_end}
 use Rattle.dms_folder.specs.Moves.{same_twice}
 use Rattle.dms_folder.proofs.folder.Folder.last_present.Goals as goal
@@ -26,7 +26,7 @@ loop-turn-preserved g c =
     let e = c.later.ensures in
     let found = c.in_ok-last-in-Some.last in
     let w = g.C.Calls.world c.args.self.now.calls in
-    let takes : IsTrue g.C.Calls.tells → Takes (g.C.Calls.given l.names) (g.C.Calls.given c.next_number.new.names) c.in-Some.found =
+    let takes : IsTrue g.C.Calls.tells → TakesName (g.C.Calls.given l.names) (g.C.Calls.given c.next_number.new.names) c.in-Some.found =
     λ t. MatchOption-at_some _ _ c.in-Some.found c.in-Some.is c.in_ok-next_number.ensures.next t in
     let same : g.C.Calls.world c.next_number.new.calls ≡ w = n.world ∙ l.invariant.world in
     let later : IsTrue g.C.Calls.tells → Later (seen name_of w) c.args.from c.args.upto l.last c.in-Some.found found =

@@ -1,7 +1,7 @@
 use Rattle.std.proofs.Common.{◌≡◌, false, IsTrue}
 use Rattle.dms_moments.specs.Moments.{Steps}
 use Rattle.dms_calls.specs.World.{Unchanged}
-use Rattle.dms_folder.specs.Kept.{Kept}
+use Rattle.dms_folder.specs.Kept.{KeepsFolder}
 use Rattle.dms_folder.specs.ListingLaws.{StableGiven}
 use Rattle.dms_folder.proofs.folder.Folder.sync_present.Given as goal
 
@@ -11,7 +11,7 @@ invariant-loop-turn g l =
     let clock = g.C.Calls.clock l.self.calls in
     record {
       broken : g.C.Calls.broken l.self.calls ≡ false;
-      kept : IsTrue g.C.Calls.tells → Kept g.C.Calls.file l.self.opened.items l.self.made l.self.synced world clock;
+      kept : IsTrue g.C.Calls.tells → KeepsFolder g.C.Calls.file l.self.opened.items l.self.made l.self.synced world clock;
       before : IsTrue g.C.Calls.tells → StableGiven (g.C.Calls.given l.names) world clock;
       listed : IsTrue g.C.Calls.tells → g.C.Calls.listed l.names ≡ (g.C.Calls.world l.fn.self.calls).names;
       world : world ≡ g.C.Calls.world l.fn.self.calls;

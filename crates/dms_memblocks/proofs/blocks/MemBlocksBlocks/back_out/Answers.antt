@@ -1,5 +1,5 @@
 use Rattle.std.proofs.Common.{◌∙◌, ap, sym, subst, take, drop, length, length-take, arith}
-use Rattle.dms_block.specs.Held.{Passes, Stays, Uses}
+use Rattle.dms_block.specs.Held.{MakesNoPoint, Stays, Uses}
 use Rattle.dms_memblocks.specs.Undoing.{AreBefore, AreSince, AreSmall, content_of, held_of, rows, undone}
 use Rattle.dms_memblocks.specs.UndoLaws.{out_before, out_content, out_passes, out_since, out_stays, undone_small}
 use Rattle.dms_memblocks.specs.View.{held}
@@ -42,6 +42,6 @@ pub returns-clause-passes : goal.returns-clause-passes
 returns-clause-passes c =
     let b = c.args.self.now in
     let uses : Uses = record { reads = b.reads; spent = b.spent; syncs = b.syncs; outs = c.saturating_add-self.result } in
-    subst (λ fs. Passes (held b) (held_of fs c.take_back_to.new.log.items b.made b.durable uses)) (sym c.take_back_to.ensures.files)
-    (subst (λ l. Passes (held b) (held_of (undone (drop b.mark b.log.items) (rows b.files.items)) l b.made b.durable uses)) (sym c.take_back_to.ensures.log)
+    subst (λ fs. MakesNoPoint (held b) (held_of fs c.take_back_to.new.log.items b.made b.durable uses)) (sym c.take_back_to.ensures.files)
+    (subst (λ l. MakesNoPoint (held b) (held_of (undone (drop b.mark b.log.items) (rows b.files.items)) l b.made b.durable uses)) (sym c.take_back_to.ensures.log)
     (out_passes (rows b.files.items) b.log.items b.made b.mark b.durable _ uses b.since))

@@ -14,5 +14,5 @@ returns c = record {
   content = λ f. empty_content (rows c.in_ok-files.files.items) f c.in_ok-files.ensures.1;
   next = refl;
   points = refl;
-  sure = refl;
+  durable = refl;
 }

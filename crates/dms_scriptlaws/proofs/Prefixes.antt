@@ -4,12 +4,12 @@ use Rattle.std.proofs.lemmas.Bool.Decides.{nat_tests}
 use Rattle.std.proofs.lemmas.List.{append_assoc, length-map, length-append}
 use Rattle.dms_model.specs.Db.{Db}
 use Rattle.dms_model.specs.Points.{Point, Quiet, told as told_point, known}
-use Rattle.dms_runner.specs.Events.{Event, text_of, quiets_of, sure_after, covered}
+use Rattle.dms_runner.specs.Events.{RunEvent, text_of, quiets_of, durable_after, durable_by}
 use Rattle.dms_runner.proofs.Happening.{quiets_on}
 use Rattle.dms_scriptlaws.specs.Told.{told}
 use Rattle.dms_scriptlaws.specs.Truths.{is_quiet_in, is_point_in, IsTruthful, LeavesTold, RiseFrom}
 use Rattle.dms_scriptlaws.proofs.Telling.{IsSafe, Honest, Numbered, told_stopped, told_safe}
-use Rattle.dms_scriptlaws.proofs.Speaking.{IsTrueRun, sure_within}
+use Rattle.dms_scriptlaws.proofs.Speaking.{IsTrueRun, durable_within}
 
 pub numbered_rise : (n : ℕ) (qs : List Quiet) → Numbered n qs → RiseFrom n qs
 numbered_rise n [] h = refl
@@ -33,19 +33,19 @@ numbered_has f n (suc k) (q ∷ qs) h low high few =
     let is : q.0 ≡ f = h.0 in
     or_has (q.0 == n) (is_quiet_in (take k qs) n) (λ e. let apart : f + 1 ≤ n = grind (arith, nat_tests, e, is, low) in numbered_has (f + 1) n k qs h.1 apart (omega (arith, high)) (omega (arith, few)))
 
-module _ (first : ℕ) (Q : Quiet → Type 0) (events : List Event) (r : IsTrueRun first Q events) where
-  before_numbered : (before : List Event) (at : Event) (rest : List Event) → before ++ at ∷ rest ≡ events → Numbered first (quiets_of before ++ (at.quiets ++ quiets_of rest))
+module _ (first : ℕ) (Q : Quiet → Type 0) (events : List RunEvent) (r : IsTrueRun first Q events) where
+  before_numbered : (before : List RunEvent) (at : RunEvent) (rest : List RunEvent) → before ++ at ∷ rest ≡ events → Numbered first (quiets_of before ++ (at.quiets ++ quiets_of rest))
   before_numbered before at rest split = subst (Numbered first) (ap quiets_of (sym split) ∙ quiets_on before (at ∷ rest)) r.numbered
 
-  told_so : (before : List Event) (at : Event) (rest : List Event) (n : ℕ) → before ++ at ∷ rest ≡ events → IsSafe first (sure_after 0 0 before) (told (text_of before ++ take n at.text))
+  told_so : (before : List RunEvent) (at : RunEvent) (rest : List RunEvent) (n : ℕ) → before ++ at ∷ rest ≡ events → IsSafe first (durable_after 0 0 before) (told (text_of before ++ take n at.text))
   told_so before at rest n split =
-      told_safe first (sure_after 0 0 before) [] (text_of before ++ take n at.text) (told_stopped first 0 0 n before at rest (omega arith) (subst (Honest first 0 0) (sym split) r.honest))
+      told_safe first (durable_after 0 0 before) [] (text_of before ++ take n at.text) (told_stopped first 0 0 n before at rest (omega arith) (subst (Honest first 0 0) (sym split) r.honest))
 
   pub truthful : IsTruthful events
   truthful before at rest n split =
       ⊎_elim (λ h. inl h)
-      (λ h. inr (numbered_has first (told (text_of before ++ take n at.text)) (sure_after 0 0 before) (quiets_of before) (numbered_front first (quiets_of before) (at.quiets ++ quiets_of rest) (before_numbered before at rest split)) h.0 h.1
-      (omega (arith, sure_within 0 0 before (omega arith)))))
+      (λ h. inr (numbered_has first (told (text_of before ++ take n at.text)) (durable_after 0 0 before) (quiets_of before) (numbered_front first (quiets_of before) (at.quiets ++ quiets_of rest) (before_numbered before at rest split)) h.0 h.1
+      (omega (arith, durable_within 0 0 before (omega arith)))))
       (told_so before at rest n split)
 
   -- a stop
@@ -54,15 +54,15 @@ module _ (first : ℕ) (Q : Quiet → Type 0) (events : List Event) (r : IsTrueR
   front_same [] b c e = e
   front_same (x ∷ xs) b c e = front_same xs b c (let t : xs ++ b ≡ xs ++ c = cc in t)
 
-  covered_shift : (c : ℕ) (o : Option ℕ) (s s' all all' : ℕ) → s' ≡ c + s → all' ≡ c + all → covered o s' all' ≡ c + covered o s all
+  covered_shift : (c : ℕ) (o : Option ℕ) (s s' all all' : ℕ) → s' ≡ c + s → all' ≡ c + all → durable_by o s' all' ≡ c + durable_by o s all
   covered_shift c None s s' all all' e f = e
   covered_shift c (Some n) s s' all all' e f = f
 
-  sure_shift : (c n s n' s' : ℕ) (es : List Event) → n' ≡ c + n → s' ≡ c + s → sure_after n' s' es ≡ c + sure_after n s es
-  sure_shift c n s n' s' [] e f = f
-  sure_shift c n s n' s' (x ∷ es) e f =
+  durable_shift : (c n s n' s' : ℕ) (es : List RunEvent) → n' ≡ c + n → s' ≡ c + s → durable_after n' s' es ≡ c + durable_after n s es
+  durable_shift c n s n' s' [] e f = f
+  durable_shift c n s n' s' (x ∷ es) e f =
       let all : n' + length x.quiets ≡ c + (n + length x.quiets) = omega (arith, e) in
-      sure_shift c (n + length x.quiets) (covered x.sync s (n + length x.quiets)) (n' + length x.quiets) (covered x.sync s' (n' + length x.quiets)) es all (covered_shift c x.sync s s' (n + length x.quiets) (n' + length x.quiets) f all)
+      durable_shift c (n + length x.quiets) (durable_by x.sync s (n + length x.quiets)) (n' + length x.quiets) (durable_by x.sync s' (n' + length x.quiets)) es all (covered_shift c x.sync s s' (n + length x.quiets) (n' + length x.quiets) f all)
 
   or_later : (b c : Bool) → c ≡ true → (b || c) ≡ true
   or_later true c h = refl
@@ -95,15 +95,15 @@ module _ (first : ℕ) (Q : Quiet → Type 0) (events : List Event) (r : IsTrueR
   leaves_told text printed points next stop s said =
       let tx = s.text text refl in
       let is : printed ≡ text_of s.before ++ take tx.0 s.at.text = front_same text printed _ (sym said ∙ tx.1 ∙ append_assoc text (text_of s.before) (take tx.0 s.at.text)) in
-      let safe : IsSafe first (sure_after 0 0 s.before) (told printed) = subst (λ (t : List ℕ). IsSafe first (sure_after 0 0 s.before) (told t)) (sym is) (told_so s.before s.at s.rest tx.0 s.all) in
+      let safe : IsSafe first (durable_after 0 0 s.before) (told printed) = subst (λ (t : List ℕ). IsSafe first (durable_after 0 0 s.before) (told t)) (sym is) (told_so s.before s.at s.rest tx.0 s.all) in
       let c = length points in
       let l = s.left in
       let f = l.front in
       let g = l.grew in
-      let shift = sure_shift c 0 0 c c s.before (omega arith) (omega arith) in
+      let shift = durable_shift c 0 0 c c s.before (omega arith) (omega arith) in
       let lengths : length g.more ≡ length l.made = sym (length-map g.more told_point) ∙ ap length g.spells ∙ length-map l.made known in
       let all : length l.all ≡ c + length g.more = ap length g.is ∙ length-append points g.more in
-      let enough : c + sure_after 0 0 s.before ≤ f.count = omega (arith, shift, f.enough) in
+      let enough : c + durable_after 0 0 s.before ≤ f.count = omega (arith, shift, f.enough) in
       let within : f.count ≤ c + length l.made = omega (arith, f.within, all, lengths) in
       let whole = before_numbered s.before s.at s.rest s.all in
       let numbered : Numbered first (quiets_of s.before ++ s.at.quiets) = numbered_front first (quiets_of s.before ++ s.at.quiets) (quiets_of s.rest) (subst (Numbered first) (sym (append_assoc (quiets_of s.before) s.at.quiets (quiets_of s.rest))) whole) in

@@ -9,9 +9,9 @@ use Rattle.std.specs.Cmp.Lexicographic.{nat_list_cmp_total}
 use Rattle.std.proofs.lemmas.Cmp.{ranked}
 use Rattle.dms_desc.specs.Sorted.{first, NoneLess, InOrder, that_passes, first_narrow}
 use Rattle.dms_key.specs.ByteOrder.{less_is, equal_is}
-use Rattle.dms_ordlist.specs.Lists.{AllAbove, Rises, bytes_cmp, bytes_same}
+use Rattle.dms_ordlist.specs.Lists.{AreAllAbove, AreInByteOrder, bytes_cmp, bytes_same}
 
--- a front against the front of a string
+-- a prefix against the front of a string
 abbrev pub front_cmp : List ℕ → List ℕ → Ordering
 front_cmp [] q = Equal
 front_cmp (a ∷ p) [] = Greater
@@ -30,7 +30,7 @@ then_assoc Less p r = refl
 then_assoc Equal p r = refl
 then_assoc Greater p r = refl
 
--- fronts of strings that begin with as many bytes
+-- prefixes of strings that begin with as many bytes
 pub front_append : (x y p q : List ℕ) → length x ≡ length y → front_cmp (x ++ p) (y ++ q) ≡ ordering_then (bytes_cmp x y) (front_cmp p q)
 front_append [] [] p q e = refl
 front_append [] (b ∷ y) p q e = absurd (omega (arith, e))
@@ -48,7 +48,7 @@ gt_then Less p r h = refl
 gt_then Equal p r h = h
 gt_then Greater p r h = refl
 
--- to be below a front is to be below it as a string, so a comparison of strings finds where it is reached
+-- to be below a prefix is to be below it as a string, so a comparison of strings finds where it is reached
 pub reaches_is : (p q : List ℕ) → is_gt (front_cmp p q) ≡ is_gt (bytes_cmp p q)
 reaches_is [] [] = refl
 reaches_is [] (b ∷ q) = refl
@@ -64,7 +64,7 @@ less_on Equal Equal a b c f g h x y rest p q = ap (λ o. ordering_then o h) (equ
 less_on Greater r a b c f g h x y rest p q = absurd (cc)
 less_on o Greater a b c f g h x y rest p q = absurd (cc)
 
--- what is above a string that is above a front is above it too
+-- what is above a string that is above a prefix is above it too
 pub front_less : (p x y : List ℕ) → front_cmp p x ≡ Less → bytes_cmp x y ≡ Less → front_cmp p y ≡ Less
 front_less [] x y h k = absurd (cc)
 front_less (a ∷ p) [] y h k = absurd (cc)
@@ -77,7 +77,7 @@ greater_then Less p r f h = absurd (cc)
 greater_then Equal p r f h = f h
 greater_then Greater p r f h = refl
 
--- what is below a front is below a longer one
+-- what is below a prefix is below a longer one
 pub front_longer : (p r q : List ℕ) → front_cmp p q ≡ Greater → front_cmp (p ++ r) q ≡ Greater
 front_longer [] r q h = absurd (cc)
 front_longer (a ∷ p) r [] h = refl
@@ -88,11 +88,11 @@ front_longer (a ∷ p) r (b ∷ q) h = greater_then (nat_cmp a b) (front_cmp p q
 abbrev pub is_below : List ℕ → List ℕ → Bool
 is_below x y = is_lt (bytes_cmp x y)
 
-none_less : (x : List ℕ) (ys : List (List ℕ)) → AllAbove x ys → NoneLess is_below x ys
+none_less : (x : List ℕ) (ys : List (List ℕ)) → AreAllAbove x ys → NoneLess is_below x ys
 none_less x [] all = tt
 none_less x (y ∷ ys) all = (ap is_lt (nat_list_cmp_total.antisymm y x ∙ ap ordering_reverse all.0), none_less x ys all.1)
 
-pub in_order : (xs : List (List ℕ)) → Rises xs → InOrder is_below xs
+pub in_order : (xs : List (List ℕ)) → AreInByteOrder xs → InOrder is_below xs
 in_order [] rise = tt
 in_order (x ∷ xs) rise = (none_less x xs rise.0, in_order xs rise.1)
 
@@ -111,12 +111,12 @@ upto_less Less p x y is h k = front_less p x y h is
 upto_less Equal p x y is h k = ap (front_cmp p) (sym (bytes_same x y is)) ∙ h
 upto_less Greater p x y is h k = absurd (cc)
 
--- behind a string that is past a front, all strings are
+-- behind a string that is past a prefix, all strings are
 pub still_past : (p x y : List ℕ) → front_cmp p x ≡ Less → is_below y x ≡ false → front_cmp p y ≡ Less
 still_past p x y h k = upto_less (bytes_cmp x y) p x y refl h (ap is_lt (sym (nat_list_cmp_total.antisymm y x)) ∙ k)
 
--- The first string with a front is the first one that reaches it, where that one has it. Else there is none.
-pub first_starts : (p : List ℕ) (xs : List (List ℕ)) → Rises xs → first (starts p) xs ≡ that_passes (starts p) (first (reaches p) xs)
+-- The first string with a prefix is the first one that reaches it, where that one has it. Else there is none.
+pub first_starts : (p : List ℕ) (xs : List (List ℕ)) → AreInByteOrder xs → first (starts p) xs ≡ that_passes (starts p) (first (reaches p) xs)
 first_starts p xs rise =
     first_narrow is_below (reaches p) (starts p) (λ x h. within_front (front_cmp p x) h)
     (λ x y w n none. ap is_eq (still_past p x y (past_front (front_cmp p x) w n) none)) xs (in_order xs rise)

@@ -8,7 +8,7 @@ use Rattle.dms_site.specs.Files.{range}
 use Rattle.dms_site.specs.Laws.{get_or-range, length-range}
 use Rattle.dms_audfile.specs.Gates.{gate, opened}
 use Rattle.dms_audfile.specs.Header.{all_zero, none_open, has_mark, number_said, blocks_said, says_blocks, tag_said, names_fit, zeros_fit, gates_fit, header_fits}
-use Rattle.dms_audfile.specs.Reads.{Says}
+use Rattle.dms_audfile.specs.Reads.{SaysCount}
 use Rattle.dms_audfile.proofs.HeaderLaws.{opened_range}
 
 pub range_front : (m at n : ℕ) (file : List ℕ) → at + n ≤ m → range at n (range 0 m file) ≡ range at n file
@@ -73,7 +73,7 @@ module _ (file : List ℕ) where
   unfolding header_fits
   fits_front k total few within = λ i. long_front 4096 (omega arith) i && (names_front k total i && (zeros_front total few i && gates_front total few within i))
 
-pub says_file : (file : List ℕ) (n : Option ℕ) → Says (range 0 4096 file) n → Says file n
+pub says_file : (file : List ℕ) (n : Option ℕ) → SaysCount (range 0 4096 file) n → SaysCount file n
 says_file file None says = sym (says_front file) ∙ says
 says_file file (Some n) says = (sym (says_front file) ∙ says.0, says.1 ∙ blocks_front file)
 

@@ -3,7 +3,7 @@ use dms_model::Verb;
 
 /// A line that is held.
 #[derive(Debug, Drop)]
-pub struct Held {
+pub struct WaitingLine {
     /// Counted from 1.
     pub line: u32,
     pub program: Name,

@@ -1,0 +1,17 @@
+use Rattle.dms_block.specs.Texts.{Prints}
+use Rattle.std.proofs.Common.{◌≡◌, ◌≤◌, ◌<◌, ◌+◌, ◌^◌, take, IsTrue}
+use Rattle.dms_desc.specs.Shape.{described}
+use Rattle.dms_runner.specs.Events.{text_of, Performs}
+use Rattle.dms_model.specs.Session.{Session}
+use Rattle.dms_storeverbs.specs.View.{Lasted, seen, view, StandsFor}
+use Rattle.dms_runner.specs.Answers.{unanswered_events}
+use Rattle.dms_runner.proofs.run.say_waiting.Given as goal
+
+abbrev pub invariant-loop-line : goal.invariant-loop-line
+invariant-loop-line g l = record {
+  lasts : Lasted l.fn.engine l.engine;
+  stands : (s : Session) → StandsFor (view l.fn.engine) s → StandsFor (view l.engine) s;
+  next : (seen l.engine).next ≡ (seen l.fn.engine).next;
+  text : Prints (seen l.fn.engine).said (seen l.engine).said (text_of (unanswered_events (take l.line-index l.waiting)));
+  ran : (seen l.fn.engine).next + 1 < 2 ^ 64 → Performs (seen l.fn.engine) (seen l.engine) (unanswered_events (take l.line-index l.waiting));
+}

@@ -1,0 +1,105 @@
+ghost use Rattle.std.specs.Prelude.{◌≡◌, ◌≤◌, ◌<◌, ◌+◌, ◌^◌, ◌++◌, [], ◌∷◌, ℕ, List, Bool, true, false, not, Some, None, IfOk, IfSome, OnOk, IsErrOf, length, IsTrue};
+ghost use Rattle.dms_desc.specs.Shape.{described};
+ghost use Rattle.dms_model.specs.Session.{Session, step, is_waits};
+ghost use Rattle.dms_storeverbs.specs.View.{Lasts, SameSession, StandsFor, seen, view};
+ghost use Rattle.dms_runner.specs.Events.{IsCutShort, PerformsPrefix};
+ghost use Rattle.std.specs.Prelude.{slice_get, take, slice_set};
+ghost use Rattle.dms_runner.specs.declared.waiting.WaitingLine.{WaitingLine as LineWaiting};
+ghost use Rattle.dms_runner.specs.Waiting.{has_line, tries, said_to_wait, retry, retries};
+ghost use Rattle.dms_runner.specs.Trying.{PerformsRetry, PerformsTry, PerformsRetries};
+ghost use Rattle.dms_runner.specs.Starting.{AtSession, AtRunState, AtStart};
+
+use crate::WaitingLine;
+use crate::saying::try_line;
+use dms_base::Name;
+use dms_block::BlockFault;
+use dms_model::Store;
+use dms_storeverbs::Engine;
+use std::alloc::Global;
+
+/// Whether a line of this program is among these.
+pub fn has_line(waiting: &[WaitingLine], name: &Name) -> bool
+    ensures { result ≡ has_line waiting.now name.now }
+{
+    waiting.iter().any(|h| h.program.is(name))
+}
+
+/// Whether a waiting line is passed over: an earlier line of its program is held, too.
+fn is_passed(waiting: &[WaitingLine], i: usize) -> bool
+    requires { i < length waiting.now }
+    ensures { (h : LineWaiting) → slice_get waiting.now i ≡ Some h → result ≡ has_line (take i waiting.now) h.program }
+{
+    has_line(&waiting[..i], &waiting[i].program)
+}
+
+/// Tries the waiting line at a place.
+fn try_at<St: Store>(
+    alloc: Global,
+    engine: &mut Engine<St>,
+    waiting: &[WaitingLine],
+    i: usize,
+) -> Result<bool, BlockFault>
+    requires sound { (seen engine.old).sound }
+    requires place { i < length waiting.now }
+    ensures tried { IfOk result (λ answered. (h : LineWaiting) → slice_get waiting.now i ≡ Some h → AtSession engine.old (λ s. PerformsTry (step (described engine.old.desc) s h.program h.verb) h answered (view engine.new) (seen engine.old) (seen engine.new))) }
+    ensures part { (h : LineWaiting) → slice_get waiting.now i ≡ Some h → AtSession engine.old (λ s. PerformsPrefix (IsCutShort result) (seen engine.old) (seen engine.new) (tries h (step (described engine.old.desc) s h.program h.verb))) }
+    ensures lasts { Lasts result engine.old engine.new }
+{
+    try_line(alloc, engine, &waiting[i])
+}
+
+/// Notes of the waiting line at a place that it was said to wait.
+fn note_waiting(waiting: &mut [WaitingLine], i: usize)
+    requires { i < length waiting.old }
+    ensures noted { (h : LineWaiting) → slice_get waiting.old i ≡ Some h → waiting.new ≡ slice_set waiting.old i (said_to_wait h) }
+    ensures long { length waiting.new ≡ length waiting.old }
+{
+    waiting[i].printed = true;
+}
+
+/// Tries the waiting lines from the front, up to the first that is answered, and answers its place.
+fn pass<St: Store>(
+    alloc: Global,
+    engine: &mut Engine<St>,
+    waiting: &mut [WaitingLine],
+) -> Result<Option<usize>, BlockFault>
+    requires sound { (seen engine.old).sound }
+    ensures place { IfOk result (λ found. IfSome found (λ i. i < length waiting.new)) }
+    ensures long { length waiting.new ≡ length waiting.old }
+    ensures passes { IfOk result (λ found. AtSession engine.old (λ s. PerformsRetry (retry (described engine.old.desc) s [] waiting.old) (view engine.new) waiting.new found (seen engine.old) (seen engine.new))) }
+    ensures part { AtSession engine.old (λ s. PerformsPrefix (IsCutShort result) (seen engine.old) (seen engine.new) (retry (described engine.old.desc) s [] waiting.old).events) }
+    ensures lasts { Lasts result engine.old engine.new }
+{
+    for i in 0..waiting.len() {
+        if is_passed(waiting, i) {
+            continue;
+        }
+        if try_at(alloc, engine, waiting, i)? {
+            return Ok(Some(i));
+        }
+        note_waiting(waiting, i);
+    }
+    Ok(None)
+}
+
+/// Retries the waiting lines until nothing in them is answered.
+pub fn retry_all<St: Store>(
+    alloc: Global,
+    engine: &mut Engine<St>,
+    waiting: &mut Vec<WaitingLine>,
+) -> Result<(), BlockFault>
+    requires sound { (seen engine.old).sound }
+    ensures retries { OnOk result ((s : Session) → StandsFor (view engine.old) s → s.next + length waiting.old.items + 2 < 2 ^ 64 → PerformsRetries (retries (length waiting.old.items) (described engine.old.desc) s waiting.old.items) (view engine.new) waiting.new.items (seen engine.old) (seen engine.new)) }
+    ensures part { (s : Session) → StandsFor (view engine.old) s → s.next + length waiting.old.items + 2 < 2 ^ 64 → PerformsPrefix (IsCutShort result) (seen engine.old) (seen engine.new) (retries (length waiting.old.items) (described engine.old.desc) s waiting.old.items).events }
+    ensures lasts { Lasts result engine.old engine.new }
+{
+    for _turn in 0..waiting.len() {
+        match pass(alloc, engine, waiting.as_mut_slice())? {
+            None => return Ok(()),
+            Some(i) => {
+                let _answered = waiting.remove(i);
+            }
+        }
+    }
+    Ok(())
+}
