@@ -79,15 +79,6 @@ pub record Seen : Type 1 where
 abbrev pub IfTold : Seen → Type 0 → Type 0
 IfTold s P = s.tells → s.next + 1 < 2 ^ 64 → P
 
--- a call that changes nothing needs no more room in a file
-abbrev pub Roomy : {T : Type 0} → Result T BlockFault → Type 0
-Roomy (Ok x) = ⊤
-Roomy (Err Disk) = ⊤
-Roomy (Err Memory) = ⊤
-Roomy (Err (Full f)) = ⊥
-Roomy (Err (Damaged f b)) = ⊤
-Roomy (Err Say) = ⊤
-
 -- whatever a call does: it stays the same kind of store, and a fault has a cause
 pub record HasCauses {T : Type 0} (result : Result T BlockFault) (old new : Seen) : Type 0 where
   pub tells : old.tells → new.tells

@@ -4,10 +4,10 @@ ghost use Rattle.dms_model.specs.Db.{Db};
 ghost use Rattle.dms_model.specs.Members.{first_member, last_member};
 ghost use Rattle.dms_model.specs.Points.{Leaves};
 ghost use Rattle.dms_block.specs.Texts.{Prints};
-ghost use Rattle.dms_model.specs.Seen.{Seen, StoreAgrees, GoesBack, HasCauses, IfTold, IsMute, IsSilent, Keeps, KeepsPoints, MadeQuiet, MadeDurable, Roomy, SaysPart, Spends, Syncs};
+ghost use Rattle.dms_model.specs.Seen.{Seen, StoreAgrees, GoesBack, HasCauses, IfTold, IsMute, IsSilent, Keeps, KeepsPoints, MadeQuiet, MadeDurable, SaysPart, Spends, Syncs};
 ghost use Rattle.dms_model.specs.Stores.{Tells};
 ghost use Rattle.dms_model.specs.Fitting.{IsDataSet, IsNumber, IsStructure, MayStart, PutFits, Puts, RecordFits, SpotFits};
-ghost use Rattle.dms_block.specs.Faults.{Unbroken, Undamaged};
+ghost use Rattle.dms_block.specs.Faults.{Unbroken, Undamaged, NotFull};
 
 use crate::{Put, Spot};
 use dms_block::BlockFault;
@@ -38,7 +38,7 @@ pub trait Store {
         ensures effort { (seen self.new).effort ≡ (seen self.old).effort }
         ensures undamaged { (d : Db) → (seen self.old).db ≡ Some d → Undamaged result }
         ensures mute_fault { IsErrOf result BlockFault.Say → ⊥ }
-        ensures room { Roomy result }
+        ensures room { NotFull result }
         ensures causes { HasCauses result (seen self.old) (seen self.new) };
 
     /// The first member of a structure, for an owner (0 where it is disjoint), after a bound. It is the database's where
@@ -61,7 +61,7 @@ pub trait Store {
         ensures effort { (seen self.new).effort ≡ (seen self.old).effort }
         ensures undamaged { (d : Db) → (seen self.old).db ≡ Some d → Undamaged result }
         ensures mute_fault { IsErrOf result BlockFault.Say → ⊥ }
-        ensures room { Roomy result }
+        ensures room { NotFull result }
         ensures causes { HasCauses result (seen self.old) (seen self.new) };
 
     /// The last member of a structure, for an owner (0 where it is disjoint), before a bound. It is the database's where
@@ -84,7 +84,7 @@ pub trait Store {
         ensures effort { (seen self.new).effort ≡ (seen self.old).effort }
         ensures undamaged { (d : Db) → (seen self.old).db ≡ Some d → Undamaged result }
         ensures mute_fault { IsErrOf result BlockFault.Say → ⊥ }
-        ensures room { Roomy result }
+        ensures room { NotFull result }
         ensures causes { HasCauses result (seen self.old) (seen self.new) };
 
     /// Stores a new record of a data set under the least free number, with null links, or replaces all items but the

@@ -25,7 +25,7 @@ pub record Looked {T : Type 0} (result : Result T BlockFault) (old new : store.S
   pub effort : new.effort ≡ old.effort
   pub undamaged : (d : Db) → old.db ≡ Some d → Undamaged result
   pub mute_fault : IsErrOf result Say → ⊥
-  pub room : store.Roomy result
+  pub room : NotFull result
   pub causes : store.HasCauses result old new
 
 roomy : {T : Type 0} (r : Result T BlockFault) → NotFull r → store.Roomy r

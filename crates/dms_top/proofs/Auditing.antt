@@ -15,7 +15,7 @@ use Rattle.dms_audprint.specs.declared.fault.PrintFault.TheVariants.{Audit, Say}
 use Rattle.dms_top.specs.declared.status.Status.{Status}
 use Rattle.dms_top.specs.declared.status.Status.TheVariants.{Ok, SayFault, DiskFault}
 use Rattle.dms_top.specs.Auditing.{IsOfPrinting, RefusesTrail, audit_status}
-use Rattle.dms_top.specs.Premises.{CountedAt}
+use Rattle.dms_audfile.specs.Counting.{CountedAt}
 use Rattle.dms_top.specs.Words.{ComesUnsaid}
 
 module _ {T : Type 0} where

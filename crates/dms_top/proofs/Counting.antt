@@ -9,7 +9,7 @@ use Rattle.dms_block.specs.declared.block_fault.BlockFault.TheVariants.{Disk, Me
 use Rattle.dms_runner.specs.declared.run.RunFault.{RunFault}
 use Rattle.dms_runner.specs.declared.run.RunFault.TheVariants.{Block, Input, Lines, Bytes, Waiting, Memory}
 use Rattle.dms_runner.specs.Blaming.{IsBlamedOn}
-use Rattle.dms_top.specs.Premises.{CountedAt}
+use Rattle.dms_audfile.specs.Counting.{CountedAt}
 
 unsaid : (P : Type 0) (a b : Faults) → b.say ≡ a.say → (P → ⊥) → CountedAt P a.say b.say
 unsaid P a b same other = record { later = omega (arith, same); failed = λ is. absurd (other is); once = omega (arith, same); clean = λ not_so. same }

@@ -5,7 +5,6 @@ use Rattle.std.specs.declared.string.String.{String}
 use Rattle.std.specs.declared.alloc.Global.{Global}
 use Rattle.std.specs.declared.option.Option.{Option}
 use Rattle.std.specs.declared.result.Result.TheVariants.{Ok, Err}
-use Rattle.dms_base.specs.Causes.{Rose}
 use Rattle.dms_desc.specs.Shape.{Described}
 use Rattle.dms_feed.specs.Feeds.{Remains}
 use Rattle.dms_top.specs.declared.status.SchemaFault.{SchemaFault}
@@ -56,10 +55,3 @@ OfNoScript left P = (all : List ℕ) (e : SchemaFault) → left ≡ Some all →
 -- it holds of all that is held of the input and that its source has left
 abbrev pub OfRest : List ℕ → Option (List ℕ) → (List ℕ → Type 0) → Type 0
 OfRest held left P = (all : List ℕ) → Remains held left all → P all
-
--- A count of failures rose by one where the call ended so, and else stayed. A count at its type's end stands for one that rose.
-pub record CountedAt (P : Type 0) (before now : ℕ) : Type 0 where
-  pub later : before ≤ now
-  pub failed : P → Rose before now
-  pub once : now ≤ before + 1
-  pub clean : (P → ⊥) → now ≡ before

@@ -4,7 +4,7 @@ ghost use Rattle.std.specs.Prelude.{◌≡◌, ◌↔◌, map, string_bytes, IsT
 ghost use Rattle.dms_plain.specs.Speaking.{OnlySpeaks};
 ghost use Rattle.dms_audprint.specs.AuditText.{PrintsAudit, PrintsPart};
 ghost use Rattle.dms_top.specs.Auditing.{IsOfPrinting, RefusesTrail, audit_status};
-ghost use Rattle.dms_top.specs.Premises.{CountedAt};
+ghost use Rattle.dms_audfile.specs.Counting.{CountedAt};
 ghost use Rattle.dms_top.specs.Words.{IsPrintAudit, ComesUnsaid};
 
 use crate::status::{NeedFault, Status};

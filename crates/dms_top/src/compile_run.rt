@@ -8,7 +8,8 @@ ghost use Rattle.dms_top.specs.declared.status.LimitKind.{LimitKind as Kind};
 ghost use Rattle.dms_top.specs.declared.status.SchemaFault.{SchemaFault as Refusal};
 ghost use Rattle.dms_top.specs.Compiling.{compiled_text, SaysLine, IsSpoken, IsBefore, IsOfFile, CreatesSome, SaysSealed, FilesAndTextStay};
 ghost use Rattle.dms_top.specs.Judging.{judged};
-ghost use Rattle.dms_top.specs.Premises.{OfInput, OfSchema, OfNoSchema, CountedAt};
+ghost use Rattle.dms_top.specs.Premises.{OfInput, OfSchema, OfNoSchema};
+ghost use Rattle.dms_audfile.specs.Counting.{CountedAt};
 ghost use Rattle.dms_top.specs.Words.{IsOfCompile, IsPast, IsUntouched};
 
 use crate::judge::{Judged, judge};

@@ -8,7 +8,7 @@ ghost use Rattle.dms_site.specs.Files.{Same, Only};
 ghost use Rattle.dms_creation.specs.Creation.{IsMade, Initializes};
 ghost use Rattle.dms_top.specs.Compiling.{SaysLine, IsSpoken, IsBefore};
 ghost use Rattle.dms_top.specs.Initializing.{initialized_text, IsOfCreation};
-ghost use Rattle.dms_top.specs.Premises.{CountedAt};
+ghost use Rattle.dms_audfile.specs.Counting.{CountedAt};
 
 use crate::status::{NeedFault, Status};
 use dms_creation::{CreationFault, initialize};

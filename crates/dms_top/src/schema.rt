@@ -2,7 +2,7 @@ ghost use Rattle.std.specs.Prelude.{◌≡◌, ◌≤◌, ◌<◌, [], ℕ, List
 ghost use Rattle.dms_feed.specs.Feeds.{Remains};
 ghost use Rattle.dms_top.specs.Schema.{is_script, schema_text as text_of};
 ghost use Rattle.dms_feed.specs.Raws.{CutLine};
-ghost use Rattle.dms_top.specs.Premises.{CountedAt};
+ghost use Rattle.dms_audfile.specs.Counting.{CountedAt};
 ghost use Rattle.dms_top.specs.Taking.{TakesOrEnds, IsLong, IsWholeText, CutText};
 
 use dms_base::Bytes;

@@ -18,7 +18,8 @@ ghost use Rattle.dms_top.specs.Schema.{schema_text as text_of};
 ghost use Rattle.dms_top.specs.State.{StandsNew, BecomesNew};
 ghost use Rattle.dms_top.specs.Answering.{Printed, PrintedPrefix, PrintedWhole, WithinLimits, PassesLimit, CutTry, try_events, try_text, script_of};
 ghost use Rattle.dms_top.specs.declared.status.LimitKind.{LimitKind as Kind};
-ghost use Rattle.dms_top.specs.Premises.{OnTry, OnCompile, OnInitialize, OnPrintAudit, OnReading, OfInput, OfSchema, OfNoSchema, OfScript, OfNoScript, CountedAt};
+ghost use Rattle.dms_top.specs.Premises.{OnTry, OnCompile, OnInitialize, OnPrintAudit, OnReading, OfInput, OfSchema, OfNoSchema, OfScript, OfNoScript};
+ghost use Rattle.dms_audfile.specs.Counting.{CountedAt};
 ghost use Rattle.dms_top.specs.Words.{IsTry, IsCompile, IsPrintAudit, IsCommand, IsOfTry, IsOfCompile, IsPast, ComesUnsaid, IsUntouched};
 
 use crate::audit_run::{is_print_audit, print_trail};

@@ -10,7 +10,8 @@ ghost use Rattle.dms_runner.specs.Blaming.{CutRun};
 ghost use Rattle.dms_runner.specs.Running.{CutInput};
 ghost use Rattle.dms_top.specs.Answering.{Printed, PrintedPrefix, PrintedWhole, WithinLimits, PassesLimit};
 ghost use Rattle.dms_top.specs.declared.status.LimitKind.{LimitKind as Kind};
-ghost use Rattle.dms_top.specs.Premises.{OfRest, CountedAt};
+ghost use Rattle.dms_top.specs.Premises.{OfRest};
+ghost use Rattle.dms_audfile.specs.Counting.{CountedAt};
 ghost use Rattle.dms_top.specs.Words.{IsOfTry, ComesUnsaid};
 ghost use Rattle.dms_top.specs.declared.status.SchemaFault.{SchemaFault as Refusal};
 

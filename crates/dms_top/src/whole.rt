@@ -1,5 +1,5 @@
 ghost use Rattle.std.specs.Prelude.{◌≡◌, ◌≤◌, ◌<◌, [], ℕ, List, Some, IfOk, IsErrOf, length};
-ghost use Rattle.dms_top.specs.Premises.{CountedAt};
+ghost use Rattle.dms_audfile.specs.Counting.{CountedAt};
 
 use crate::schema::TextFault;
 use dms_base::Bytes;
