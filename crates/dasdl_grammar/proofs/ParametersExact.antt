@@ -18,7 +18,7 @@ use Rattle.dasdl_parse.specs.Cursors.{fault_at, word_at, sign_at, equal_at, numb
 use Rattle.dasdl_parse.specs.Parameters.{no_pairs, no_audit_pairs, setting_at, measure_at, pair_at, next_pair_at, parameters_at, audit_pair_at, next_audit_pair_at, audit_at}
 use Rattle.dasdl_parse.specs.CondSpelling.{token_of, Reads}
 use Rattle.dasdl_grammar.specs.ParameterSpelling.{ArePairs, measure, setting, IsPair, IsAuditPair, AreParameters, IsTrail}
-use Rattle.dasdl_grammar.specs.ParameterSpelling.Listed.{first_pair, next_pair}
+use Rattle.dasdl_grammar.specs.ParameterSpelling.ArePairs.{first_pair, next_pair}
 use Rattle.dasdl_grammar.specs.ParameterSpelling.IsPair.{says_syncpoint, says_controlpoint, says_buffers}
 use Rattle.dasdl_grammar.specs.ParameterSpelling.IsAuditPair.{says_blocks, says_files}
 use Rattle.dasdl_grammar.specs.ParameterSpelling.AreParameters.{parameters}

@@ -19,7 +19,7 @@ use Rattle.dms_tokens.specs.declared.token.Token.{Token}
 use Rattle.dms_tokens.specs.declared.token.Lexeme.{Lexeme}
 use Rattle.dasdl_parse.specs.declared.declarations.Declaration.{Declaration}
 use Rattle.dasdl_grammar.specs.ParameterSpelling.{ArePairs, IsPair, IsAuditPair, AreParameters, IsTrail}
-use Rattle.dasdl_grammar.specs.ParameterSpelling.Listed.{first_pair, next_pair}
+use Rattle.dasdl_grammar.specs.ParameterSpelling.ArePairs.{first_pair, next_pair}
 use Rattle.dasdl_grammar.specs.ParameterSpelling.IsPair.{says_syncpoint, says_controlpoint, says_buffers}
 use Rattle.dasdl_grammar.specs.ParameterSpelling.IsAuditPair.{says_blocks, says_files}
 use Rattle.dasdl_grammar.specs.ParameterSpelling.AreParameters.{parameters}

@@ -114,7 +114,7 @@ module _ (desc : Described) (sound sound' : Type 0) (found found' : ℕ) (a b : 
   pub keeps_points_lifted : sound' → Lasts a b → held.Stays a b → store.KeepsPoints old new
   keeps_points_lifted sound lasts stays = record { sound = sound; mark = db_same desc a.told b.told a.mark b.mark lasts.told stays.mark; points = points_lifted stays.points }
 
-  pub quiet_lifted : held.Agrees a → sound' → Lasts a b → held.MadeQuiet a b → store.MadeQuiet old new
+  pub quiet_lifted : held.BlocksAgree a → sound' → Lasts a b → held.MadeQuiet a b → store.MadeQuiet old new
   quiet_lifted agrees sound lasts made = record {
     sound = sound;
     next = made.next;
@@ -123,7 +123,7 @@ module _ (desc : Described) (sound sound' : Type 0) (found found' : ℕ) (a b : 
     points = λ tells room. let s = made.points tells room in (ap (map (point_of desc)) s.0 ∙ quiet_points desc a (agrees.here tells room), s.1);
   }
 
-  pub quiet_leaves : held.Agrees a → held.IfTold a (held.Leaves a b (a.points ++ a.here ∷ []) (a.next + 1))
+  pub quiet_leaves : held.BlocksAgree a → held.IfTold a (held.Leaves a b (a.points ++ a.here ∷ []) (a.next + 1))
       → store.IfTold old (Leaves a.whole (lifted desc a.clock) (lifted desc b.clock) a.durable (map (point_of desc) a.points ++ point_of desc (here_of desc a) ∷ []) (a.next + 1) a.said)
   quiet_leaves agrees leaves tells room =
       subst (λ (ps : List Point). Leaves a.whole (lifted desc a.clock) (lifted desc b.clock) a.durable ps (a.next + 1) a.said) (quiet_points desc a (agrees.here tells room))
@@ -140,7 +140,7 @@ module _ (desc : Described) (sound sound' : Type 0) (found found' : ℕ) (a b : 
 
 -- ---- what is told hangs together
 
-pub agrees_lifted : (desc : Described) (sound : Type 0) (found : ℕ) (a : Held) → a.here.schema ≡ spelling desc → held.Agrees a → store.Agrees (seen_of desc sound found a)
+pub agrees_lifted : (desc : Described) (sound : Type 0) (found : ℕ) (a : Held) → a.here.schema ≡ spelling desc → held.BlocksAgree a → store.StoreAgrees (seen_of desc sound found a)
 agrees_lifted desc sound found a schema agrees = record {
   may_stop = λ tells. let x = agrees.may_stop tells in (stop_of desc x.0, (x.0, x.1, refl));
   number = refl;

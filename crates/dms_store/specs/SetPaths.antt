@@ -109,7 +109,7 @@ keys_fit items (p ∷ ps) (v ∷ vs) kinds fit plain =
     let both = both_of (fits_item (slice_get items (p.item - 1)) v) (key_fits ps items vs) fit in
     (part_fits items p v (slice_get items (p.item - 1)) refl kinds both.0 plain.0, keys_fit items ps vs kinds both.1 plain.1)
 
-bound_fits : (items : List Item) (ps : List KeyPart) (bound : Bound) → AreKinds items → fitting.BoundFits ps items bound → bounds.BoundFits (kinds_of items) ps bound × BoundSmall (kinds_of items) ps bound
+bound_fits : (items : List Item) (ps : List KeyPart) (bound : Bound) → AreKinds items → fitting.BoundFits ps items bound → bounds.BoundKeyFits (kinds_of items) ps bound × BoundSmall (kinds_of items) ps bound
 bound_fits items ps Start kinds f = (tt, tt)
 bound_fits items ps End kinds f = (tt, tt)
 bound_fits items ps (At key n) kinds f =
@@ -128,7 +128,7 @@ kept_apart s h = let both = both_of (nat_lt 2 s.kind) (nat_lt s.kind 5) h in gri
 -- The first member of a set or automatic subset behind a bound, and the last one before it, are those of one look at the list
 -- of its file.
 module _ (desc : Described) (path : ℕ) (s : Shape) (c : Content) (served : IsServed desc) (at : structure_of desc path ≡ Some s) (kept : is_kept s ≡ true) (spelt : is_spelled desc c ≡ true) (owner : ℕ) (bound : Bound) (may : MayStart desc path owner bound) where
-  fitted : bounds.BoundFits (kinds_over desc s) s.parts bound × BoundSmall (kinds_over desc s) s.parts bound
+  fitted : bounds.BoundKeyFits (kinds_over desc s) s.parts bound × BoundSmall (kinds_over desc s) s.parts bound
   fitted =
       bound_fits (items_over desc s) s.parts bound (kinds_at desc (structure_of desc (over s)) (over s) served refl)
       (subst (λ (o : Option Shape). fitting.BoundFits (parts_of o) (items_of (structure_of desc (over_of o))) bound) at may.fits)

@@ -12,7 +12,7 @@ use Rattle.dms_tokens.specs.Lexing.{is_blank, upper, is_letter, is_digit, is_sig
 use Rattle.dms_tokens.specs.Tokens.{lexeme, tokens_from, first_digit, fresh_byte, byte_turn, signed_byte, less_byte, greater_byte, end_turn}
 use Rattle.dms_tokens.specs.Spelling.{goes_on, behind_point, number_of, doubled, IsSigned, SpellsToken, IsLongest}
 use Rattle.dms_tokens.specs.Spelling.IsSigned.{no_sign, with_plus, with_minus}
-use Rattle.dms_tokens.specs.Spelling.Spells.{a_word, a_number, a_string, a_sign, a_comparison}
+use Rattle.dms_tokens.specs.Spelling.SpellsToken.{a_word, a_number, a_string, a_sign, a_comparison}
 use Rattle.dms_tokens.proofs.WordScan.{stopped, never, scans, is_byte}
 use Rattle.dms_tokens.proofs.NumberScan.{NoDigit, NumberScan, number_scan, number_is, nil_digit, no_digit}
 use Rattle.dms_tokens.proofs.StringScan.{Closes, Breaks, StringScan, string_scan, doubled_plain, doubled_quote, no_quote}

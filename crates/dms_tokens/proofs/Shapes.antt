@@ -11,7 +11,7 @@ use Rattle.dms_tokens.specs.declared.token.Token.TheVariants.{Word, Quoted, Sign
 use Rattle.dms_tokens.specs.Lexing.{is_blank, is_printable, upper, is_letter, is_digit, is_sign}
 use Rattle.dms_tokens.specs.Spelling.{goes_on, behind_point, number_of, doubled, op_text, IsSigned, SpellsToken}
 use Rattle.dms_tokens.specs.Spelling.IsSigned.{no_sign, with_plus, with_minus}
-use Rattle.dms_tokens.specs.Spelling.Spells.{a_word, a_number, a_string, a_sign, a_comparison}
+use Rattle.dms_tokens.specs.Spelling.SpellsToken.{a_word, a_number, a_string, a_sign, a_comparison}
 use Rattle.dms_tokens.proofs.WordScan.{is_byte}
 
 -- what may begin with a byte: 1 a word, 2 to 4 a number, 5 a string, 6 a sign, 7 to 9 a comparison, 0 nothing; 10 is a
