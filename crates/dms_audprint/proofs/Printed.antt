@@ -12,7 +12,7 @@ use Rattle.dms_site.specs.Files.{Files, Left, Same, PrintsPartOf}
 use Rattle.dms_audfile.specs.AuditTrail.{entry_there, IsThere, AreThere, IsFound, EntriesAreThere}
 use Rattle.dms_audfile.specs.Scanning.{Placed, place_in}
 use Rattle.dms_audfile.specs.declared.place.Place.{Place}
-use Rattle.dms_audprint.specs.AuditText.{placed_line, audit_text, PrintsAudit, PrintsPart}
+use Rattle.dms_audprint.specs.AuditText.{placed_line, audit_text, HasTrail, PrintsAudit, PrintsPart}
 use Rattle.dms_audfile.specs.declared.fault.AudFault.TheVariants.{NoDatabase, Disk, Full, Missing, Unsealed, Damaged, Foreign, Memory}
 use Rattle.dms_audprint.specs.Printing.{line_of, line_at, lines_at, Stands, AllStand, PrintsSome, IsLate, RefusesAudit}
 use Rattle.dms_audprint.specs.declared.fault.PrintFault.{PrintFault}
@@ -142,6 +142,10 @@ on_ok : {T E : Type 0} (r : Result T E) {P Q : Type 0} → OnOk r P → (P → Q
 on_ok (Ok x) p more = more p
 on_ok (Err e) p more = tt
 
+always_ok : {T E : Type 0} (r : Result T E) {P : Type 0} → P → OnOk r P
+always_ok (Ok x) p = p
+always_ok (Err e) p = tt
+
 if_err : {T E : Type 0} (r : Result T E) (A : Type 0) {P Q : E → Type 0} → (A → IfErr r P) → ((e : E) → P e → Q e) → IfErr r (λ e. A → Q e)
 if_err (Ok x) A p more = tt
 if_err (Err e) A p more = λ a. more e (p a)
@@ -158,6 +162,9 @@ module _ {T : Type 0} (tells tells_said : Bool) (files other : Files) (first : �
     trail = (found_is t).trail;
     said = found_whole files other (found_is t).entries ps start said new (there t) (found_is t).places_are (same t) stays (one t told);
   })
+
+  pub audit_found : OnOk r (IsTrue tells → HasTrail files)
+  audit_found = always_ok r (λ t. record { entries = (found_is t).entries; trail = (found_is t).trail })
 
   pub audit_part : (IsTrue tells → IsTrue tells_said → (k : ℕ) × (new ≡ said ++ take k (lines_at other ps))) → IsTrue tells → IsTrue tells_said → PrintsPart files start new
   audit_part was t told = inr (record {

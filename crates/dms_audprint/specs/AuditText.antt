@@ -14,6 +14,11 @@ abbrev pub audit_text : List Placed → List ℕ
 audit_text [] = []
 audit_text (p ∷ ps) = placed_line p ++ audit_text ps
 
+-- these files hold a trail, with a whole description and its control point
+pub record HasTrail (files : Files) : Type 0 where
+  pub entries : List Placed
+  pub trail : TrailIs files (found entries)
+
 -- the lines of all entries of the trail of these files were printed
 pub record PrintsAudit (files : Files) (old new : List ℕ) : Type 0 where
   pub entries : List Placed

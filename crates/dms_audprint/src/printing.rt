@@ -5,7 +5,7 @@ ghost use Rattle.dms_moments.specs.Moments.{Steps};
 ghost use Rattle.dms_site.specs.Files.{Files};
 ghost use Rattle.dms_audfile.specs.Counting.{CountedAt};
 ghost use Rattle.dms_audfile.specs.EntryReading.{IsCurrent, HoldsBlock};
-ghost use Rattle.dms_audprint.specs.AuditText.{PrintsAudit, PrintsPart};
+ghost use Rattle.dms_audprint.specs.AuditText.{HasTrail, PrintsAudit, PrintsPart};
 ghost use Rattle.dms_audprint.specs.Printing.{line_at, lines_at, Stands, AllStand, PrintsSome, IsOfOutside, IsLate, RefusesAudit};
 
 use crate::PrintFault;
@@ -98,6 +98,7 @@ fn print_places<S: Site>(alloc: Global, site: &mut S, places: &[Place]) -> Resul
 /// Nothing is changed at any moment. Answers Disk and Say where a call of the site failed, and Memory.
 pub fn print_audit<S: Site>(alloc: Global, site: &mut S) -> Result<(), PrintFault>
     ensures printed { OnOk result (IsTrue S.tells → IsTrue S.tells_said → PrintsAudit (S.files site.old) (S.said site.old) (S.said site.new)) }
+    ensures found { OnOk result (IsTrue S.tells → HasTrail (S.files site.old)) }
     ensures refused { IfErr result (λ fault. IsTrue S.tells → RefusesAudit (S.files site.old) fault) }
     ensures silent { IfErr result (λ fault. IsTrue S.tells → (IsLate fault → ⊥) → S.said site.new ≡ S.said site.old) }
     ensures part { IsTrue S.tells → IsTrue S.tells_said → PrintsPart (S.files site.old) (S.said site.old) (S.said site.new) }

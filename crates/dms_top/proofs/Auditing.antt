@@ -9,12 +9,13 @@ use Rattle.dms_site.specs.Files.{Files, Left}
 use Rattle.dms_plain.specs.Speaking.{OnlySpeaks}
 use Rattle.dms_audfile.specs.Counting as counting
 use Rattle.dms_audfile.specs.declared.fault.AudFault.TheVariants as fault
+use Rattle.dms_audprint.specs.AuditText.{HasTrail}
 use Rattle.dms_audprint.specs.Printing.{PrintsSome, IsLate, RefusesAudit}
 use Rattle.dms_audprint.specs.declared.fault.PrintFault.{PrintFault}
 use Rattle.dms_audprint.specs.declared.fault.PrintFault.TheVariants.{Audit, Say}
 use Rattle.dms_top.specs.declared.status.Status.{Status}
 use Rattle.dms_top.specs.declared.status.Status.TheVariants.{Ok, SayFault, DiskFault}
-use Rattle.dms_top.specs.Auditing.{IsOfPrinting, RefusesTrail, audit_status}
+use Rattle.dms_top.specs.Auditing.{IsOfPrinting, JudgesTrail, audit_status}
 use Rattle.dms_audfile.specs.Counting.{CountedAt}
 use Rattle.dms_top.specs.Words.{ComesUnsaid}
 
@@ -55,17 +56,17 @@ module _ {T : Type 0} where
   silent (result.Err (Audit fault.Memory)) was a quiet = absurd quiet
   silent (result.Err Say) was a quiet = absurd quiet
 
-  pub refused : (r : Result T PrintFault) (files : Files) {A : Type 0} → IfErr r (λ e. A → RefusesAudit files e) → A → RefusesTrail files (audit_status r)
-  refused (result.Ok x) files was a = tt
-  refused (result.Err (Audit fault.NoDatabase)) files was a = was a
-  refused (result.Err (Audit fault.Disk)) files was a = tt
-  refused (result.Err (Audit (fault.Full k))) files was a = tt
-  refused (result.Err (Audit (fault.Missing k))) files was a = was a
-  refused (result.Err (Audit (fault.Unsealed k))) files was a = was a
-  refused (result.Err (Audit (fault.Damaged f b))) files was a = was a
-  refused (result.Err (Audit (fault.Foreign k))) files was a = was a
-  refused (result.Err (Audit fault.Memory)) files was a = tt
-  refused (result.Err Say) files was a = tt
+  pub refused : (r : Result T PrintFault) (files : Files) {A : Type 0} → IfErr r (λ e. A → RefusesAudit files e) → OnOk r (A → HasTrail files) → A → JudgesTrail files (audit_status r)
+  refused (result.Ok x) files was found a = found a
+  refused (result.Err (Audit fault.NoDatabase)) files was found a = was a
+  refused (result.Err (Audit fault.Disk)) files was found a = tt
+  refused (result.Err (Audit (fault.Full k))) files was found a = tt
+  refused (result.Err (Audit (fault.Missing k))) files was found a = was a
+  refused (result.Err (Audit (fault.Unsealed k))) files was found a = was a
+  refused (result.Err (Audit (fault.Damaged f b))) files was found a = was a
+  refused (result.Err (Audit (fault.Foreign k))) files was found a = was a
+  refused (result.Err (Audit fault.Memory)) files was found a = tt
+  refused (result.Err Say) files was found a = tt
 
   -- a status comes of one fault
   pub is_disk : (r : Result T PrintFault) → audit_status r ≡ DiskFault → IsErrOf r (Audit fault.Disk)

@@ -6,6 +6,7 @@ use Rattle.dms_site.specs.Files.{Files}
 use Rattle.dms_audfile.specs.AuditTrail.{TrailIs}
 use Rattle.dms_audfile.specs.Scanning.{no_database, unsealed, missing, damaged, foreign}
 use Rattle.dms_audfile.specs.declared.fault.AudFault.TheVariants as fault
+use Rattle.dms_audprint.specs.AuditText.{HasTrail}
 use Rattle.dms_audprint.specs.declared.fault.PrintFault.{PrintFault}
 use Rattle.dms_audprint.specs.declared.fault.PrintFault.TheVariants.{Audit, Say}
 use Rattle.dms_top.specs.declared.status.NeedFault.{NeedFault}
@@ -42,20 +43,20 @@ NeedsAudit files (AuditMissing k) = TrailIs files (missing k)
 NeedsAudit files (AuditUnsealed k) = TrailIs files (unsealed k)
 NeedsAudit files (AuditForeign k) = TrailIs files (foreign k)
 
--- A status that refuses the trail of these files is its first refusal by scanning; the others say nothing of it.
-abbrev pub RefusesTrail : Files → Status → Type 0
-RefusesTrail files Ok = ⊤
-RefusesTrail files BadWords = ⊤
-RefusesTrail files (SchemaRefused f) = ⊤
-RefusesTrail files NoDatabase = TrailIs files no_database
-RefusesTrail files (Needed n) = NeedsAudit files n
-RefusesTrail files InputFault = ⊤
-RefusesTrail files Memory = ⊤
-RefusesTrail files (Limit l) = ⊤
-RefusesTrail files (Damaged f b) = TrailIs files (damaged f b)
-RefusesTrail files SayFault = ⊤
-RefusesTrail files DiskFault = ⊤
-RefusesTrail files Exists = ⊤
+-- At status 0 these files hold a trail. A status that refuses it is its first refusal by scanning; the others say nothing of it.
+abbrev pub JudgesTrail : Files → Status → Type 0
+JudgesTrail files Ok = HasTrail files
+JudgesTrail files BadWords = ⊤
+JudgesTrail files (SchemaRefused f) = ⊤
+JudgesTrail files NoDatabase = TrailIs files no_database
+JudgesTrail files (Needed n) = NeedsAudit files n
+JudgesTrail files InputFault = ⊤
+JudgesTrail files Memory = ⊤
+JudgesTrail files (Limit l) = ⊤
+JudgesTrail files (Damaged f b) = TrailIs files (damaged f b)
+JudgesTrail files SayFault = ⊤
+JudgesTrail files DiskFault = ⊤
+JudgesTrail files Exists = ⊤
 
 -- The status behind printing the audit. Nothing is sealed then, so no file is full; that is told as want of memory.
 abbrev pub audit_status : {T : Type 0} → Result T PrintFault → Status

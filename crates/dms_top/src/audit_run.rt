@@ -3,7 +3,7 @@
 ghost use Rattle.std.specs.Prelude.{◌≡◌, ◌↔◌, map, string_bytes, IsTrue};
 ghost use Rattle.dms_plain.specs.Speaking.{OnlySpeaks};
 ghost use Rattle.dms_audprint.specs.AuditText.{PrintsAudit, PrintsPart};
-ghost use Rattle.dms_top.specs.Auditing.{IsOfPrinting, RefusesTrail, audit_status};
+ghost use Rattle.dms_top.specs.Auditing.{IsOfPrinting, JudgesTrail, audit_status};
 ghost use Rattle.dms_audfile.specs.Counting.{CountedAt};
 ghost use Rattle.dms_top.specs.Words.{IsPrintAudit, ComesUnsaid};
 
@@ -50,7 +50,7 @@ pub fn print_trail<S: Site>(alloc: Global, site: &mut S) -> Status
     ensures prints { result ≡ Status.Ok → IsTrue S.tells → IsTrue S.tells_said → PrintsAudit (S.files site.old) (S.said site.old) (S.said site.new) }
     ensures part { IsTrue S.tells → IsTrue S.tells_said → PrintsPart (S.files site.old) (S.said site.old) (S.said site.new) }
     ensures silent { IsTrue S.tells → ComesUnsaid result → S.said site.new ≡ S.said site.old }
-    ensures refused { IsTrue S.tells → RefusesTrail (S.files site.old) result }
+    ensures refused { IsTrue S.tells → JudgesTrail (S.files site.old) result }
     ensures files { IsTrue S.tells → S.files site.new ≡ S.files site.old }
     ensures only_speaks { OnlySpeaks (S.clock site.old) (S.clock site.new) }
     ensures same_site { S.same_site site.old site.new }

@@ -6,7 +6,7 @@ ghost use Rattle.dms_moments.specs.Moments.{Steps};
 ghost use Rattle.dms_site.specs.Files.{Same, Only};
 ghost use Rattle.dms_audprint.specs.AuditText.{PrintsAudit, PrintsPart};
 ghost use Rattle.dms_creation.specs.Creation.{IsMade, Initializes};
-ghost use Rattle.dms_top.specs.Auditing.{IsOfPrinting, RefusesTrail};
+ghost use Rattle.dms_top.specs.Auditing.{IsOfPrinting, JudgesTrail};
 ghost use Rattle.dms_top.specs.Initializing.{initialized_text, IsOfCreation};
 ghost use Rattle.dms_top.specs.Taking.{CutText};
 ghost use Rattle.dms_plain.specs.Speaking.{OnlySpeaks};
@@ -227,8 +227,8 @@ pub fn dms<S: Site, I: Source>(
     ensures audit_part { OnPrintAudit words.now (IsTrue S.tells → IsTrue S.tells_said → PrintsPart (S.files site.old) (S.said site.old) (S.said site.new)) }
     // at the statuses 3, 4 and 9 nothing was printed
     ensures audit_silent { OnPrintAudit words.now (IsTrue S.tells → ComesUnsaid result → S.said site.new ≡ S.said site.old) }
-    // they come only as the first refusal of the trail, in the order of scanning
-    ensures audit_refused { OnPrintAudit words.now (IsTrue S.tells → RefusesTrail (S.files site.old) result) }
+    // at status 0 the files hold a trail; those three come only as its first refusal, in the order of scanning
+    ensures audit_refused { OnPrintAudit words.now (IsTrue S.tells → JudgesTrail (S.files site.old) result) }
     // the files stay
     ensures audit_files { OnPrintAudit words.now (IsTrue S.tells → S.files site.new ≡ S.files site.old) }
     // a stop at each moment leaves what a stop at entry could leave, with more text or none
