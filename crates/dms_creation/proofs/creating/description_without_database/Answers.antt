@@ -4,7 +4,7 @@ use Rattle.dms_site.specs.Files.{Files}
 use Rattle.dms_desc.specs.Shape.{described}
 use Rattle.dms_descfile.specs.DescriptionFile.{IsSealed}
 use Rattle.dms_creation.proofs.Making.{sealed_long}
-use Rattle.dms_creation.proofs.creating.judge.Goals as goal
+use Rattle.dms_creation.proofs.creating.description_without_database.Goals as goal
 
 pub returns-in-Ok-None-clause-no_description : goal.returns-in-Ok-None-clause-no_description
 returns-in-Ok-None-clause-no_description g c is tells = (rw c.in-Ok-None.field-0-is at c.in-Ok-None.ensures.found) tells

@@ -1,6 +1,6 @@
 use Rattle.std.proofs.Common.{◌∙◌, sym, []}
 use Rattle.dasdl_compile.proofs.Titles.{titles-set}
-use Rattle.dasdl_compile.proofs.drafts.Drafts.judge.Goals as goal
+use Rattle.dasdl_compile.proofs.drafts.Drafts.add_member.Goals as goal
 
 pub invariant_of-self : goal.invariant_of-self
 invariant_of-self c =
