@@ -42,7 +42,10 @@ fn has_database<S: Site>(site: &mut S) -> Result<bool, Failed>
 }
 
 /// The description of which a database is to be made, or why none is made. Nothing changes.
-fn description_without_database<S: Site>(alloc: Global, site: &mut S) -> Result<Description, CreationFault>
+fn description_without_database<S: Site>(
+    alloc: Global,
+    site: &mut S,
+) -> Result<Description, CreationFault>
     ensures sealed { IfOk result (λ d. IsTrue S.tells → IsSealed (S.files site.old 1) (described d)) }
     ensures shut { IfOk result (λ d. IsTrue S.tells → slice_index (S.files site.old 1) 1 ≢ 1) }
     ensures sound { IfOk result (λ d. IsWellFormed (described d)) }
