@@ -5,7 +5,7 @@ use Rattle.std.specs.declared.result.Result.TheVariants.{Ok, Err}
 use Rattle.dms_desc.specs.declared.structure.Item.{Item}
 use Rattle.dms_desc.specs.declared.structure.Group.{Group}
 use Rattle.dms_desc.specs.declared.structure.KeyPart.{KeyPart}
-use Rattle.dasdl_parse.specs.declared.declarations.PartDecl.{PartDecl}
+use Rattle.dasdl_phrases.specs.declared.key_parts.PartDecl.{PartDecl}
 use Rattle.dasdl_compile.specs.declared.fault.CompileFault.TheVariants.{Unknown, KeyItem, KeyLong}
 use Rattle.dasdl_compile.specs.declared.draft.Draft.{Draft}
 use Rattle.dms_desc.specs.declared.lookups.NamedItem.{NamedItem}

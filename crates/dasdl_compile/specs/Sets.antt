@@ -5,9 +5,9 @@ use Rattle.std.specs.declared.result.Result.TheVariants.{Ok, Err}
 use Rattle.dms_desc.specs.declared.structure.KeyPart.{KeyPart}
 use Rattle.dms_desc.specs.Shape.{Tree}
 use Rattle.dms_desc.specs.Shape.Tree.{Empty}
-use Rattle.dasdl_parse.specs.Trees.{Condition}
+use Rattle.dasdl_phrases.specs.Trees.{Condition}
 use Rattle.dasdl_parse.specs.declared.declarations.SetDecl.{SetDecl}
-use Rattle.dasdl_parse.specs.declared.declarations.KeyDecl.{KeyDecl}
+use Rattle.dasdl_phrases.specs.declared.key_parts.KeyDecl.{KeyDecl}
 use Rattle.dasdl_compile.specs.declared.fault.CompileFault.TheVariants.{Twice, Unknown, KeyItem, CondKind, Embedding}
 use Rattle.dasdl_compile.specs.declared.draft.Draft.{Draft}
 use Rattle.dasdl_compile.specs.declared.work.Work.{Work}

@@ -66,7 +66,7 @@ fn inside_at(
         return Ok(());
     }
     let owner = work.made.as_slice()[at].owner;
-    work.made.judge(at, alloc, outline, declaration)?;
+    work.made.add_member(at, alloc, outline, declaration)?;
     work.within = open_after(declaration, owner, work.within);
     Ok(())
 }

@@ -45,7 +45,7 @@ impl Condition {
         }
     }
 
-    /// Both of two.
+    /// Both of two, or Memory where memory ran out.
     pub fn and(self, alloc: Global, other: Condition) -> Result<Condition, Memory>
         ensures { IfOk result (λ c. c ≡ Both self other) }
     {
@@ -53,7 +53,7 @@ impl Condition {
         Ok(Condition { kept })
     }
 
-    /// One of two.
+    /// One of two, or Memory where memory ran out.
     pub fn or(self, alloc: Global, other: Condition) -> Result<Condition, Memory>
         ensures { IfOk result (λ c. c ≡ Either self other) }
     {
@@ -61,7 +61,7 @@ impl Condition {
         Ok(Condition { kept })
     }
 
-    /// Not this one.
+    /// Not this one, or Memory where memory ran out.
     pub fn negated(self, alloc: Global) -> Result<Condition, Memory>
         ensures { IfOk result (λ c. c ≡ Contrary self) }
     {

@@ -1,17 +1,17 @@
 ghost use Rattle.std.specs.Prelude.{◌≡◌};
-ghost use Rattle.dasdl_parse.specs.Trees.{tree_of};
+ghost use Rattle.dasdl_phrases.specs.Trees.{tree_of};
 ghost use Rattle.dasdl_compile.specs.Answers.{Gives};
 ghost use Rattle.dasdl_compile.specs.Conditions.{literal_of, compared, condition, verified};
 
 use crate::condition::Condition;
 use crate::fault::CompileFault;
 use crate::kinds::value_in;
-use dasdl_parse::{CondDecl, CondTree};
+use dasdl_phrases::{CondDecl, CondTree};
 use dms_base::{ItemKind, Literal, Name, Op, Value};
 use dms_desc::{Item, item_named};
 use std::alloc::Global;
 
-/// The value of a literal for an item.
+/// The value of a literal for the item of this name and type, or CondKind with the name where it isn't for the item.
 #[tactic(auto, unfolding(crate::specs::Conditions::literal_of))]
 pub fn literal_of(
     alloc: Global,
@@ -47,7 +47,8 @@ fn compared(
     }
 }
 
-/// A condition on the records with these items.
+/// A condition on the records with these items, or its first fault in text order: Unknown with a name that no item
+/// has, or CondKind with that of the item that a literal isn't for.
 #[tactic(auto, unfolding(crate::specs::Conditions::condition))]
 pub fn condition(alloc: Global, items: &[Item], tree: &CondTree) -> Result<Condition, CompileFault>
     ensures { Gives result (condition items.now (tree_of tree.now)) }
@@ -71,7 +72,7 @@ pub fn condition(alloc: Global, items: &[Item], tree: &CondTree) -> Result<Condi
     }
 }
 
-/// The condition of VERIFY.
+/// The condition of VERIFY, which is Nothing where none is said; the faults are those of `condition`.
 #[tactic(auto, unfolding(crate::specs::Conditions::verified))]
 pub fn verified(
     alloc: Global,

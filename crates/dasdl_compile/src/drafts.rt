@@ -119,9 +119,9 @@ impl Drafts {
         self.kept.as_slice()
     }
 
-    /// A member is judged in the data set at this place.
+    /// Adds a member to the data set at this place, or answers why it can't be one.
     #[tactic(auto, using(std::proofs::lemmas::Option::gets))]
-    pub fn judge(
+    pub fn add_member(
         &mut self,
         at: usize,
         alloc: Global,

@@ -5,7 +5,7 @@ use crate::draft::Draft;
 use dms_base::Name;
 use dms_desc::{Item, group_named, item_named};
 
-/// The number of the structure behind these.
+/// The number of the structure behind these, 1 where there is none; no number is above 65,535.
 pub fn next_structure(drafts: &[Draft]) -> u16
     ensures { result ≡ next_structure drafts.now }
 {
@@ -15,7 +15,7 @@ pub fn next_structure(drafts: &[Draft]) -> u16
     (drafts.len() + 1) as u16
 }
 
-/// The number of the item behind these.
+/// The number of the item behind these, 1 where there is none; no number is above 255.
 pub fn next_item(items: &[Item]) -> u8
     ensures { result ≡ next_item items.now }
 {

@@ -6,7 +6,7 @@ ghost use Rattle.dasdl_compile.specs.Tables.{untitled};
 use crate::draft::Draft;
 use crate::fault::CompileFault;
 use crate::steps::{Steps, all_steps};
-use dasdl_parse::PartDecl;
+use dasdl_phrases::PartDecl;
 use dms_base::Name;
 use dms_desc::{Item, KeyPart, KeyParts, after_item, group_named, item_named, item_width};
 use std::alloc::Global;
@@ -145,7 +145,9 @@ fn short_key(name: &Name, key: KeySoFar) -> Result<KeyParts, CompileFault>
     Ok(key.parts)
 }
 
-/// The key of a set, which has this name, over a data set.
+/// The key of the set of this name over a data set, at most 16 parts of 96 bytes together, or its first fault:
+/// Unknown with a name that is no item or group, KeyItem with that of a link or of an item that stands twice, then
+/// KeyItem with the set's name where there are more parts, and KeyLong with the bytes where there are more.
 #[tactic(auto, unfolding(crate::specs::Keys::key_at))]
 pub fn key_at(
     alloc: Global,

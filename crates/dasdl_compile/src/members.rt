@@ -17,7 +17,7 @@ use std::alloc::Global;
 /// The bytes that a record may have.
 const RECORD_BYTES: u32 = 480;
 
-/// How many items a group has.
+/// How many items a group has, where 255 stands for more.
 pub fn count_of(items: &[ItemDecl]) -> u8
     ensures { result ≡ count_of items.now }
 {

@@ -14,7 +14,7 @@ use dms_base::{ItemKind, Value};
 use dms_desc::{Group, Item};
 use std::alloc::Global;
 
-/// The kind of a data set.
+/// The kind of a data set: 1, or 2 for the restart data set.
 pub fn data_set_kind(restart: bool) -> u8
     ensures { result ≡ data_set_kind restart }
 {

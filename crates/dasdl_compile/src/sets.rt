@@ -10,7 +10,8 @@ use crate::fault::CompileFault;
 use crate::find::{kind_of, next_structure};
 use crate::keys::key_at;
 use crate::work::Work;
-use dasdl_parse::{CondDecl, KeyDecl, SetDecl};
+use dasdl_parse::SetDecl;
+use dasdl_phrases::{CondDecl, KeyDecl};
 use dms_desc::{Groups, Items, KeyPart, KeyParts};
 use std::alloc::Global;
 
@@ -182,7 +183,8 @@ fn set_over(
     Ok(())
 }
 
-/// A set or subset: its name, its data set, and the rest.
+/// Adds a set or subset, or answers its first fault: Twice with its name, then Unknown with that of its data set, then
+/// those of the rest.
 #[tactic(auto, unfolding(crate::specs::Sets::set_at))]
 pub fn set_at(
     work: &mut Work,

@@ -12,6 +12,7 @@ pub trait Steps<C, T>: Drop {
     /// What no step changes.
     ghost fixed: { Self → List ℕ × ℕ };
 
+    /// Takes one of them, or answers its fault.
     fn step(&mut self, alloc: Global, known: &C, one: &T) -> Result<(), CompileFault>
         ensures made { Makes result self.new (step_at known.now self.old one.now) }
         ensures kept { fixed self.new ≡ fixed self.old };

@@ -118,7 +118,7 @@ fn with_structure(before: u32, draft: &Draft) -> u32
     set_width(head, draft)
 }
 
-/// The bytes of the description of these structures.
+/// The bytes of the description of these structures; the count stops at 2^32 - 1.
 #[tactic(auto, unfolding(crate::specs::Widths::structures_width))]
 pub fn description_width(drafts: &[Draft]) -> u32
     ensures { result ≡ description_width drafts.now }

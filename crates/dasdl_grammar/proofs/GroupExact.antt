@@ -7,7 +7,7 @@ use Rattle.std.specs.declared.result.Result.{Result}
 use Rattle.std.specs.declared.result.Result.TheVariants.{Ok, Err}
 use Rattle.dms_base.specs.Name.{is_name}
 use Rattle.dms_base.specs.declared.kind.ItemKind.{ItemKind}
-use Rattle.dasdl_parse.specs.declared.fault.ParseFault.{ParseFault}
+use Rattle.dasdl_phrases.specs.declared.fault.ParseFault.{ParseFault}
 use Rattle.dms_tokens.specs.declared.token.Token.{Token}
 use Rattle.dms_tokens.specs.declared.token.Token.TheVariants.{Word, Sign}
 use Rattle.dms_tokens.specs.declared.token.Lexeme.{Lexeme}
@@ -15,15 +15,15 @@ use Rattle.dasdl_parse.specs.declared.declarations.ItemDecl.{ItemDecl}
 use Rattle.dasdl_parse.specs.declared.declarations.DataSetDecl.{DataSetDecl}
 use Rattle.dasdl_parse.specs.declared.items.ItemOptions.{ItemOptions}
 use Rattle.dasdl_parse.specs.declared.items.GroupItems.{GroupItems}
-use Rattle.dasdl_parse.specs.Reads.{◌>>=◌, Read}
+use Rattle.dasdl_phrases.specs.Reads.{◌>>=◌, Read}
 use Rattle.dms_tokens.specs.Cursors.{place_at, starts, is_word, is_the_sign}
-use Rattle.dasdl_parse.specs.Cursors.{fault_at, word_at, sign_at, name_at, turns_at, until_close}
-use Rattle.dasdl_parse.specs.Kinds.{starts_kind}
+use Rattle.dasdl_phrases.specs.Cursors.{fault_at, word_at, sign_at, name_at, turns_at, until_close}
+use Rattle.dasdl_phrases.specs.Kinds.{starts_kind}
 use Rattle.dasdl_parse.specs.Items.{item_at, group_item_at, next_group_item_at, group_at}
 use Rattle.dasdl_parse.specs.Grammar.{restart_at, data_set_at}
-use Rattle.dasdl_parse.specs.CondSpelling.{token_of, Reads}
-use Rattle.dasdl_parse.specs.KindSpelling.{IsKind}
-use Rattle.dasdl_parse.specs.KindSpelling.IsKind.{an_alpha, a_number, a_truth, a_field}
+use Rattle.dasdl_phrases.specs.CondSpelling.{token_of, Reads}
+use Rattle.dasdl_phrases.specs.KindSpelling.{IsKind}
+use Rattle.dasdl_phrases.specs.KindSpelling.IsKind.{an_alpha, a_number, a_truth, a_field}
 use Rattle.dasdl_parse.specs.ItemSpelling.{IsItem}
 use Rattle.dasdl_parse.specs.ItemSpelling.IsItem.{an_item}
 use Rattle.dasdl_grammar.specs.GroupSpelling.{IsNamedItem, AreItems, IsGroup}
@@ -32,11 +32,11 @@ use Rattle.dasdl_grammar.specs.GroupSpelling.AreItems.{first_item, next_item}
 use Rattle.dasdl_grammar.specs.GroupSpelling.IsGroup.{a_group}
 use Rattle.dasdl_grammar.specs.SetSpelling.{IsHead}
 use Rattle.dasdl_grammar.specs.SetSpelling.IsHead.{a_head, a_restart_head}
-use Rattle.dasdl_parse.proofs.Inverting.{bind_ok, skip_ok, ok_same}
-use Rattle.dasdl_parse.proofs.SpelledTokens.{Starts, word_spelled, sign_spelled, name_spelled}
-use Rattle.dasdl_parse.proofs.CondSound.{pick}
-use Rattle.dasdl_parse.proofs.CondComplete.{Runs, joins, turns_at-runs, Heads, heads, none_left, word_reads, sign_reads, name_reads}
-use Rattle.dasdl_parse.proofs.CondComplete.Runs.{here, step}
+use Rattle.dasdl_phrases.proofs.Inverting.{bind_ok, skip_ok, ok_same}
+use Rattle.dasdl_phrases.proofs.SpelledTokens.{Starts, word_spelled, sign_spelled, name_spelled}
+use Rattle.dasdl_phrases.proofs.CondSound.{pick}
+use Rattle.dasdl_phrases.proofs.CondComplete.{Runs, joins, turns_at-runs, Heads, heads, none_left, word_reads, sign_reads, name_reads}
+use Rattle.dasdl_phrases.proofs.CondComplete.Runs.{here, step}
 use Rattle.dasdl_parse.proofs.ItemExact.{item_sound, item_complete}
 use Rattle.dasdl_grammar.proofs.SaidExact.{Went, turns_at-went}
 use Rattle.dasdl_grammar.specs.SaidSpelling.{SpellsFirst}

@@ -6,29 +6,29 @@ use Rattle.std.specs.declared.option.Option.{Option}
 use Rattle.std.specs.declared.result.Result.{Result}
 use Rattle.std.specs.declared.result.Result.TheVariants.{Ok, Err}
 use Rattle.dms_base.specs.declared.op.Op.TheVariants.{Equal}
-use Rattle.dasdl_parse.specs.declared.fault.ParseFault.{ParseFault}
+use Rattle.dasdl_phrases.specs.declared.fault.ParseFault.{ParseFault}
 use Rattle.dms_tokens.specs.declared.token.Token.{Token}
 use Rattle.dms_tokens.specs.declared.token.Token.TheVariants.{Word, Number, Sign, Compare}
 use Rattle.dms_tokens.specs.declared.token.Lexeme.{Lexeme}
 use Rattle.dasdl_parse.specs.declared.parameters.Pairs.{Pairs}
 use Rattle.dasdl_parse.specs.declared.parameters.AuditPairs.{AuditPairs}
-use Rattle.dasdl_parse.specs.Reads.{◌>>=◌, Read}
+use Rattle.dasdl_phrases.specs.Reads.{◌>>=◌, Read}
 use Rattle.dms_tokens.specs.Cursors.{starts, is_word, is_the_sign}
-use Rattle.dasdl_parse.specs.Cursors.{fault_at, word_at, sign_at, equal_at, number_at, turns_at, until_close}
+use Rattle.dasdl_phrases.specs.Cursors.{fault_at, word_at, sign_at, equal_at, number_at, turns_at, until_close}
 use Rattle.dasdl_parse.specs.Parameters.{no_pairs, no_audit_pairs, setting_at, measure_at, pair_at, next_pair_at, parameters_at, audit_pair_at, next_audit_pair_at, audit_at}
-use Rattle.dasdl_parse.specs.CondSpelling.{token_of, Reads}
+use Rattle.dasdl_phrases.specs.CondSpelling.{token_of, Reads}
 use Rattle.dasdl_grammar.specs.ParameterSpelling.{ArePairs, measure, setting, IsPair, IsAuditPair, AreParameters, IsTrail}
 use Rattle.dasdl_grammar.specs.ParameterSpelling.ArePairs.{first_pair, next_pair}
 use Rattle.dasdl_grammar.specs.ParameterSpelling.IsPair.{says_syncpoint, says_controlpoint, says_buffers}
 use Rattle.dasdl_grammar.specs.ParameterSpelling.IsAuditPair.{says_blocks, says_files}
 use Rattle.dasdl_grammar.specs.ParameterSpelling.AreParameters.{parameters}
 use Rattle.dasdl_grammar.specs.ParameterSpelling.IsTrail.{trail}
-use Rattle.dasdl_parse.proofs.Inverting.{bind_ok, ok_same}
-use Rattle.dasdl_parse.proofs.SpelledTokens.{Starts, word_spelled, sign_spelled, equal_spelled}
-use Rattle.dasdl_parse.proofs.TurnsSound.{Goes, turns_at-goes}
-use Rattle.dasdl_parse.proofs.CondComplete.{Runs, joins, turns_at-runs, Splits, splits, Heads, heads, none_left, word_reads, sign_reads}
-use Rattle.dasdl_parse.proofs.CondComplete.Runs.{here, step}
-use Rattle.dasdl_parse.proofs.KindExact.{InRange, number_spelled, number_reads}
+use Rattle.dasdl_phrases.proofs.Inverting.{bind_ok, ok_same}
+use Rattle.dasdl_phrases.proofs.SpelledTokens.{Starts, word_spelled, sign_spelled, equal_spelled}
+use Rattle.dasdl_phrases.proofs.TurnsSound.{Goes, turns_at-goes}
+use Rattle.dasdl_phrases.proofs.CondComplete.{Runs, joins, turns_at-runs, Splits, splits, Heads, heads, none_left, word_reads, sign_reads}
+use Rattle.dasdl_phrases.proofs.CondComplete.Runs.{here, step}
+use Rattle.dasdl_phrases.proofs.KindExact.{InRange, number_spelled, number_reads}
 use Rattle.dasdl_parse.proofs.ItemOptionsExact.{both_pick, none_is}
 
 -- a number in its range behind a word

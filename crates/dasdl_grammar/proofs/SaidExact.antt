@@ -4,21 +4,21 @@ use Rattle.std.proofs.lemmas.List.{append-nil}
 use Rattle.std.specs.Prelude.{codes}
 use Rattle.std.specs.declared.result.Result.{Result}
 use Rattle.std.specs.declared.result.Result.TheVariants.{Ok, Err}
-use Rattle.dasdl_parse.specs.declared.fault.ParseFault.{ParseFault}
+use Rattle.dasdl_phrases.specs.declared.fault.ParseFault.{ParseFault}
 use Rattle.dms_tokens.specs.declared.token.Token.{Token}
 use Rattle.dms_tokens.specs.declared.token.Token.TheVariants.{Word, Sign}
 use Rattle.dms_tokens.specs.declared.token.Lexeme.{Lexeme}
-use Rattle.dasdl_parse.specs.Reads.{◌>>=◌, Read, Pass}
+use Rattle.dasdl_phrases.specs.Reads.{◌>>=◌, Read, Pass}
 use Rattle.dms_tokens.specs.Cursors.{starts, is_word, is_the_sign}
-use Rattle.dasdl_parse.specs.Cursors.{turns, turns_at, fault_at, comma_at, until_semicolon}
-use Rattle.dasdl_parse.specs.CondSpelling.{token_of}
+use Rattle.dasdl_phrases.specs.Cursors.{turns, turns_at, fault_at, comma_at, until_semicolon}
+use Rattle.dasdl_phrases.specs.CondSpelling.{token_of}
 use Rattle.dasdl_grammar.specs.SaidSpelling.{Said}
 use Rattle.dasdl_grammar.specs.SaidSpelling.Said.{nothing_said, said_more, said_behind_comma}
-use Rattle.dasdl_parse.proofs.Inverting.{bind_ok, ok_same}
-use Rattle.dasdl_parse.proofs.SpelledTokens.{is_sign_is}
-use Rattle.dasdl_parse.proofs.CondSound.{pick}
-use Rattle.dasdl_parse.proofs.CondComplete.{Runs, joins, turns_at-runs}
-use Rattle.dasdl_parse.proofs.CondComplete.Runs.{here, step}
+use Rattle.dasdl_phrases.proofs.Inverting.{bind_ok, ok_same}
+use Rattle.dasdl_phrases.proofs.SpelledTokens.{is_sign_is}
+use Rattle.dasdl_phrases.proofs.CondSound.{pick}
+use Rattle.dasdl_phrases.proofs.CondComplete.{Runs, joins, turns_at-runs}
+use Rattle.dasdl_phrases.proofs.CondComplete.Runs.{here, step}
 use Rattle.dasdl_parse.proofs.OptionsExact.{comma_cases, comma_none, comma_one}
 
 -- these lexemes more are read, and it holds of all

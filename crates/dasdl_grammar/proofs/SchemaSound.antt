@@ -9,10 +9,10 @@ use Rattle.std.specs.declared.result.Result.TheVariants.{Ok, Err}
 use Rattle.dms_base.specs.Name.{is_name}
 use Rattle.dms_base.specs.Reserved.{is_reserved}
 use Rattle.dms_base.specs.declared.kind.ItemKind.{ItemKind}
-use Rattle.dasdl_parse.specs.KindSpelling.{IsKind}
-use Rattle.dasdl_parse.specs.KindSpelling.IsKind.{an_alpha, a_number, a_truth, a_field}
+use Rattle.dasdl_phrases.specs.KindSpelling.{IsKind}
+use Rattle.dasdl_phrases.specs.KindSpelling.IsKind.{an_alpha, a_number, a_truth, a_field}
 use Rattle.dasdl_parse.specs.ItemSpelling.IsItem.{an_item as whole_item}
-use Rattle.dasdl_parse.specs.declared.fault.ParseFault.{ParseFault}
+use Rattle.dasdl_phrases.specs.declared.fault.ParseFault.{ParseFault}
 use Rattle.dms_tokens.specs.declared.token.Token.{Token}
 use Rattle.dms_tokens.specs.declared.token.Token.TheVariants.{Word, Sign, End}
 use Rattle.dms_tokens.specs.declared.token.Lexeme.{Lexeme}
@@ -27,18 +27,18 @@ use Rattle.dasdl_parse.specs.declared.declarations.DataSetEnd.{DataSetEnd}
 use Rattle.dasdl_parse.specs.declared.declarations.ItemDecl.{ItemDecl}
 use Rattle.dasdl_parse.specs.declared.declarations.LinkDecl.{LinkDecl}
 use Rattle.dasdl_parse.specs.declared.declarations.SetDecl.{SetDecl}
-use Rattle.dasdl_parse.specs.declared.grammar.Open.{Open}
-use Rattle.dasdl_parse.specs.declared.grammar.Open.TheVariants.{Outside, One, Two, Three}
+use Rattle.dasdl_parse.specs.declared.within.Open.{Open}
+use Rattle.dasdl_parse.specs.declared.within.Open.TheVariants.{Outside, One, Two, Three}
 use Rattle.dasdl_parse.specs.declared.grammar.Progress.{Progress}
-use Rattle.dasdl_parse.specs.Reads.{◌>>=◌, Read}
+use Rattle.dasdl_phrases.specs.Reads.{◌>>=◌, Read}
 use Rattle.dms_tokens.specs.Cursors.{place_at, starts, is_word, is_the_sign, is_end}
-use Rattle.dasdl_parse.specs.Cursors.{fault_at, name_at, turns_at}
-use Rattle.dasdl_parse.specs.Kinds.{starts_kind}
+use Rattle.dasdl_phrases.specs.Cursors.{fault_at, name_at, turns_at}
+use Rattle.dasdl_phrases.specs.Kinds.{starts_kind}
 use Rattle.dasdl_parse.specs.Grammar.{items_of, with_items, opened, closed, is_inside, is_deepest, declared, with_pairs, with_audit_pairs, parameters_turn_at, audit_turn_at, item_turn_at, group_turn_at, counted_with, link_turn_at, starts_set, starts_data_set, structure_turn_at, declared_turn_at, end_turn_at, named_turn_at, schema_turn_at, schema_done, default_parameters, no_progress, schema_at}
 use Rattle.dasdl_parse.specs.Sets.{set_at, or_else}
 use Rattle.dasdl_parse.specs.Items.{item_at, group_at, link_at}
 use Rattle.dasdl_parse.specs.Grammar.{data_set_at, data_set_end_at}
-use Rattle.dasdl_parse.specs.CondSpelling.{token_of}
+use Rattle.dasdl_phrases.specs.CondSpelling.{token_of}
 use Rattle.dasdl_parse.specs.ItemSpelling.{IsItem, IsLink}
 use Rattle.dasdl_parse.specs.ItemSpelling.IsLink.{a_link as plain_link, a_counted_link}
 use Rattle.dasdl_grammar.specs.GroupSpelling.{IsGroup}
@@ -56,20 +56,20 @@ use Rattle.dasdl_grammar.specs.ParameterSpelling.IsTrail.{trail}
 use Rattle.dasdl_grammar.proofs.ParametersExact.{parameters_complete, audit_complete}
 use Rattle.dasdl_parse.specs.Parameters.{parameters_at, audit_at}
 use Rattle.dasdl_grammar.specs.SchemaSpelling.Members.{a_set, a_data_set, an_item, a_link, a_group, a_first, a_further}
-use Rattle.dasdl_parse.proofs.CondComplete.{Runs, joins, turns_at-runs, Heads, heads, none_left, name_reads, is_no_keyword}
-use Rattle.dasdl_parse.proofs.CondComplete.Runs.{here, step}
+use Rattle.dasdl_phrases.proofs.CondComplete.{Runs, joins, turns_at-runs, Heads, heads, none_left, name_reads, is_no_keyword}
+use Rattle.dasdl_phrases.proofs.CondComplete.Runs.{here, step}
 use Rattle.dasdl_parse.proofs.ItemExact.{item_complete, link_complete}
 use Rattle.dasdl_grammar.proofs.GroupExact.{group_complete, head_complete, item_first}
 use Rattle.dasdl_grammar.proofs.SetComplete.{set_complete, end_complete}
-use Rattle.dasdl_parse.proofs.Inverting.{bind_ok, skip_ok, ok_same}
-use Rattle.dasdl_parse.proofs.SpelledTokens.{Starts, name_spelled}
-use Rattle.dasdl_parse.proofs.CondSound.{pick}
+use Rattle.dasdl_phrases.proofs.Inverting.{bind_ok, skip_ok, ok_same}
+use Rattle.dasdl_phrases.proofs.SpelledTokens.{Starts, name_spelled}
+use Rattle.dasdl_phrases.proofs.CondSound.{pick}
 use Rattle.dasdl_parse.proofs.ItemExact.{item_sound, link_sound}
 use Rattle.dasdl_grammar.proofs.GroupExact.{group_sound, head_sound}
 use Rattle.dasdl_grammar.proofs.SetComplete.{set_sound, end_sound}
 use Rattle.dasdl_grammar.proofs.ParametersExact.{parameters_sound, audit_sound}
 use Rattle.dasdl_grammar.proofs.SaidExact.{Went, turns_at-went}
-use Rattle.dasdl_parse.proofs.TurnsSound.{turns_at-ends}
+use Rattle.dasdl_phrases.proofs.TurnsSound.{turns_at-ends}
 use Rattle.dasdl_parse.specs.Grammar.{schema_of}
 use Rattle.dms_tokens.specs.Tokens.{tokens_of}
 use Rattle.std.specs.Prelude.{nat_lt}

@@ -6,25 +6,26 @@ use Rattle.std.specs.declared.option.Option.{Option}
 use Rattle.std.specs.declared.result.Result.{Result}
 use Rattle.std.specs.declared.result.Result.TheVariants.{Ok, Err}
 use Rattle.dms_base.specs.declared.op.Op.TheVariants.{Equal}
-use Rattle.dasdl_parse.specs.declared.fault.ParseFault.{ParseFault}
+use Rattle.dasdl_phrases.specs.declared.fault.ParseFault.{ParseFault}
 use Rattle.dms_tokens.specs.declared.token.Token.{Token}
 use Rattle.dms_tokens.specs.declared.token.Token.TheVariants.{Word, Number, Sign, Compare}
 use Rattle.dms_tokens.specs.declared.token.Lexeme.{Lexeme}
-use Rattle.dasdl_parse.specs.declared.declarations.PartDecl.{PartDecl}
-use Rattle.dasdl_parse.specs.declared.declarations.KeyDecl.{KeyDecl}
+use Rattle.dasdl_phrases.specs.declared.key_parts.PartDecl.{PartDecl}
+use Rattle.dasdl_phrases.specs.declared.key_parts.KeyDecl.{KeyDecl}
 use Rattle.dasdl_parse.specs.declared.sets.SetOptions.{SetOptions}
-use Rattle.dasdl_parse.specs.declared.grammar.DataSetOptions.{DataSetOptions}
-use Rattle.dasdl_parse.specs.TreeCodes.{Tree}
-use Rattle.dasdl_parse.specs.Trees.{Condition}
-use Rattle.dasdl_parse.specs.Reads.{◌>>=◌, Read}
+use Rattle.dasdl_parse.specs.declared.data_sets.DataSetOptions.{DataSetOptions}
+use Rattle.dasdl_phrases.specs.TreeCodes.{Tree}
+use Rattle.dasdl_phrases.specs.Trees.{Condition}
+use Rattle.dasdl_phrases.specs.Reads.{◌>>=◌, Read}
 use Rattle.dms_tokens.specs.Cursors.{place_at, starts, is_word, is_the_sign}
-use Rattle.dasdl_parse.specs.Cursors.{fault_at, word_at, sign_at, equal_at, number_at, comma_at, turns_at, until_semicolon}
-use Rattle.dasdl_parse.specs.Conditions.{cond_at, cond_decl_at}
-use Rattle.dasdl_parse.specs.Sets.{parts_at, key_at, population_at, duplicates_at, form_at, starts_duplicates, starts_form, no_set_options, plain_option_at, set_option_at, next_set_option_at}
+use Rattle.dasdl_phrases.specs.Cursors.{fault_at, word_at, sign_at, equal_at, number_at, comma_at, turns_at, until_semicolon}
+use Rattle.dasdl_phrases.specs.Conditions.{cond_at, cond_decl_at}
+use Rattle.dasdl_phrases.specs.Keys.{parts_at, key_at}
+use Rattle.dasdl_parse.specs.Sets.{population_at, duplicates_at, form_at, starts_duplicates, starts_form, no_set_options, plain_option_at, set_option_at, next_set_option_at}
 use Rattle.dasdl_parse.specs.Grammar.{no_data_set_options, data_set_option_at, next_data_set_option_at}
-use Rattle.dasdl_parse.specs.CondSpelling.{token_of, Reads, IsCond, nodes}
-use Rattle.dasdl_parse.specs.CondSpelling.Part.{Whole}
-use Rattle.dasdl_parse.specs.KeySpelling.{IsKey}
+use Rattle.dasdl_phrases.specs.CondSpelling.{token_of, Reads, IsCond, nodes}
+use Rattle.dasdl_phrases.specs.CondSpelling.Part.{Whole}
+use Rattle.dasdl_phrases.specs.KeySpelling.{IsKey}
 use Rattle.dasdl_grammar.specs.SaidSpelling.{SpellsFirst, Said, IsCondDecl, IsKeyDecl, IsPopulation, IsDuplicates, IsForm, SetOption, DataSetOption}
 use Rattle.dasdl_grammar.specs.SaidSpelling.IsCondDecl.{a_cond}
 use Rattle.dasdl_grammar.specs.SaidSpelling.IsKeyDecl.{a_key}
@@ -33,29 +34,29 @@ use Rattle.dasdl_grammar.specs.SaidSpelling.IsDuplicates.{allowed, not_allowed}
 use Rattle.dasdl_grammar.specs.SaidSpelling.IsForm.{a_tree, a_list}
 use Rattle.dasdl_grammar.specs.SaidSpelling.SetOption.{says_where, says_key, says_duplicates, says_form, says_population}
 use Rattle.dasdl_grammar.specs.SaidSpelling.DataSetOption.{says_verify, says_its_population}
-use Rattle.dasdl_parse.proofs.Inverting.{bind_ok, ok_same}
-use Rattle.dasdl_parse.proofs.SpelledTokens.{Starts, word_spelled, sign_spelled, equal_spelled}
-use Rattle.dasdl_parse.proofs.CondSound.{cond_sound, pick}
-use Rattle.dasdl_parse.proofs.CondNodes.{cond_few}
-use Rattle.dasdl_parse.proofs.CondComplete.{cond_complete, Heads, heads, none_left, word_reads}
-use Rattle.dasdl_parse.proofs.KeyExact.{key_sound}
-use Rattle.dasdl_parse.proofs.KeyComplete.{key_complete}
-use Rattle.dasdl_parse.proofs.KindExact.{InRange, number_spelled, number_reads}
+use Rattle.dasdl_phrases.proofs.Inverting.{bind_ok, ok_same}
+use Rattle.dasdl_phrases.proofs.SpelledTokens.{Starts, word_spelled, sign_spelled, equal_spelled}
+use Rattle.dasdl_phrases.proofs.CondSound.{cond_sound, pick}
+use Rattle.dasdl_phrases.proofs.CondNodes.{cond_few}
+use Rattle.dasdl_phrases.proofs.CondComplete.{cond_complete, Heads, heads, none_left, word_reads}
+use Rattle.dasdl_phrases.proofs.KeyExact.{key_sound}
+use Rattle.dasdl_phrases.proofs.KeyComplete.{key_complete}
+use Rattle.dasdl_phrases.proofs.KindExact.{InRange, number_spelled, number_reads}
 use Rattle.dasdl_parse.proofs.ItemOptionsExact.{both_pick, none_is}
 use Rattle.dasdl_grammar.proofs.SaidExact.{Follows, Opens, said_sound, said_complete}
 use Rattle.dms_base.specs.Name.{is_name}
 use Rattle.dasdl_parse.specs.declared.declarations.SetDecl.{SetDecl}
 use Rattle.dasdl_parse.specs.declared.declarations.DataSetDecl.{DataSetDecl}
 use Rattle.dasdl_parse.specs.declared.declarations.DataSetEnd.{DataSetEnd}
-use Rattle.dasdl_parse.specs.Cursors.{name_at}
+use Rattle.dasdl_phrases.specs.Cursors.{name_at}
 use Rattle.dasdl_parse.specs.Sets.{set_word_at, set_of, set_at, or_else}
 use Rattle.dasdl_parse.specs.Grammar.{restart_at, data_set_at, data_set_end_at}
 use Rattle.dasdl_grammar.specs.SetSpelling.{set_word, IsSet, IsEnd, IsHead}
 use Rattle.dasdl_grammar.specs.SetSpelling.IsSet.{a_set}
 use Rattle.dasdl_grammar.specs.SetSpelling.IsEnd.{an_end}
 use Rattle.dasdl_grammar.specs.SetSpelling.IsHead.{a_head, a_restart_head}
-use Rattle.dasdl_parse.proofs.SpelledTokens.{name_spelled}
-use Rattle.dasdl_parse.proofs.CondComplete.{name_reads, sign_reads}
+use Rattle.dasdl_phrases.proofs.SpelledTokens.{name_spelled}
+use Rattle.dasdl_phrases.proofs.CondComplete.{name_reads, sign_reads}
 use Rattle.dasdl_grammar.proofs.SetExact.{cond_decl_reads, key_decl_reads, population_reads, set_option_sound, data_set_option_sound}
 
 -- whether a word stands first

@@ -4,7 +4,7 @@ use Rattle.dms_base.specs.Name.{is_name}
 use Rattle.dms_tokens.specs.declared.token.Token.TheVariants.{Word, Sign}
 use Rattle.dms_tokens.specs.declared.token.Lexeme.{Lexeme}
 use Rattle.dasdl_parse.specs.declared.declarations.ItemDecl.{ItemDecl}
-use Rattle.dasdl_parse.specs.CondSpelling.{token_of}
+use Rattle.dasdl_phrases.specs.CondSpelling.{token_of}
 use Rattle.dasdl_parse.specs.ItemSpelling.{IsItem}
 
 -- name type { [ , ] option } ; where the item stands at its name

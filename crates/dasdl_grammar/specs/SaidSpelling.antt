@@ -5,15 +5,15 @@ use Rattle.dms_base.specs.declared.op.Op.TheVariants.{Equal}
 use Rattle.dms_tokens.specs.declared.token.Token.{Token}
 use Rattle.dms_tokens.specs.declared.token.Token.TheVariants.{Word, Number, Sign, Compare}
 use Rattle.dms_tokens.specs.declared.token.Lexeme.{Lexeme}
-use Rattle.dasdl_parse.specs.declared.declarations.PartDecl.{PartDecl}
-use Rattle.dasdl_parse.specs.declared.declarations.KeyDecl.{KeyDecl}
+use Rattle.dasdl_phrases.specs.declared.key_parts.PartDecl.{PartDecl}
+use Rattle.dasdl_phrases.specs.declared.key_parts.KeyDecl.{KeyDecl}
 use Rattle.dasdl_parse.specs.declared.sets.SetOptions.{SetOptions}
-use Rattle.dasdl_parse.specs.declared.grammar.DataSetOptions.{DataSetOptions}
-use Rattle.dasdl_parse.specs.TreeCodes.{Tree}
-use Rattle.dasdl_parse.specs.Trees.{Condition}
-use Rattle.dasdl_parse.specs.CondSpelling.{token_of, IsCond, nodes}
-use Rattle.dasdl_parse.specs.CondSpelling.Part.{Whole}
-use Rattle.dasdl_parse.specs.KeySpelling.{IsKey}
+use Rattle.dasdl_parse.specs.declared.data_sets.DataSetOptions.{DataSetOptions}
+use Rattle.dasdl_phrases.specs.TreeCodes.{Tree}
+use Rattle.dasdl_phrases.specs.Trees.{Condition}
+use Rattle.dasdl_phrases.specs.CondSpelling.{token_of, IsCond, nodes}
+use Rattle.dasdl_phrases.specs.CondSpelling.Part.{Whole}
+use Rattle.dasdl_phrases.specs.KeySpelling.{IsKey}
 
 -- the first lexemes spell this, and the others are left
 abbrev pub SpellsFirst : {A : Type 0} → (A → List Lexeme → Type 0) → List Lexeme → A → List Lexeme → Type 0

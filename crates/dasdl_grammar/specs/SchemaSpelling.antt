@@ -16,7 +16,7 @@ use Rattle.dasdl_parse.specs.declared.declarations.ItemDecl.{ItemDecl}
 use Rattle.dasdl_parse.specs.declared.declarations.LinkDecl.{LinkDecl}
 use Rattle.dasdl_parse.specs.declared.declarations.SetDecl.{SetDecl}
 use Rattle.dasdl_parse.specs.Grammar.{default_parameters, with_pairs, with_audit_pairs}
-use Rattle.dasdl_parse.specs.CondSpelling.{token_of}
+use Rattle.dasdl_phrases.specs.CondSpelling.{token_of}
 use Rattle.dasdl_parse.specs.ItemSpelling.{IsItem, IsLink}
 use Rattle.dasdl_grammar.specs.GroupSpelling.{IsGroup}
 use Rattle.dasdl_grammar.specs.SetSpelling.{IsSet, IsHead, IsEnd}

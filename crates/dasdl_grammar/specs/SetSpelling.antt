@@ -8,7 +8,7 @@ use Rattle.dasdl_parse.specs.declared.declarations.SetDecl.{SetDecl}
 use Rattle.dasdl_parse.specs.declared.declarations.DataSetDecl.{DataSetDecl}
 use Rattle.dasdl_parse.specs.declared.declarations.DataSetEnd.{DataSetEnd}
 use Rattle.dasdl_parse.specs.declared.sets.SetOptions.{SetOptions}
-use Rattle.dasdl_parse.specs.declared.grammar.DataSetOptions.{DataSetOptions}
+use Rattle.dasdl_parse.specs.declared.data_sets.DataSetOptions.{DataSetOptions}
 use Rattle.dasdl_parse.specs.Sets.{no_set_options, set_of, or_else}
 use Rattle.dasdl_parse.specs.Grammar.{no_data_set_options}
 use Rattle.dasdl_grammar.specs.SaidSpelling.{Said, SetOption, DataSetOption}

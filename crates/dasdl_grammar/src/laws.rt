@@ -19,24 +19,24 @@ ghost use Rattle.dasdl_parse.specs.declared.parameters.AuditPairs.{AuditPairs};
 ghost use Rattle.std.specs.Prelude.{◌≡◌, ◌≤◌, ◌<◌, ◌+◌, ◌++◌, ℕ, List, map, length, true, false, codes};
 ghost use Rattle.std.specs.declared.result.Result.TheVariants.{Ok};
 ghost use Rattle.dms_tokens.specs.declared.token.Lexeme.{Lexeme};
-ghost use Rattle.dasdl_parse.specs.TreeCodes.{Tree};
-ghost use Rattle.dasdl_parse.specs.Conditions.{cond_at};
+ghost use Rattle.dasdl_phrases.specs.TreeCodes.{Tree};
+ghost use Rattle.dasdl_phrases.specs.Conditions.{cond_at};
 ghost use Rattle.dms_tokens.specs.Cursors.{starts, is_word, is_the_sign};
-ghost use Rattle.dasdl_parse.specs.Cursors.{turns_at, until_semicolon};
+ghost use Rattle.dasdl_phrases.specs.Cursors.{turns_at, until_semicolon};
 ghost use Rattle.dasdl_parse.specs.declared.items.ItemOptions.{ItemOptions};
 ghost use Rattle.dasdl_parse.specs.Items.{next_item_option_at, no_options, item_at, link_at};
 ghost use Rattle.dasdl_parse.specs.OptionSpelling.{AreItemOptions};
-ghost use Rattle.dasdl_parse.specs.declared.declarations.PartDecl.{PartDecl};
-ghost use Rattle.dasdl_parse.specs.KeySpelling.{IsKey};
+ghost use Rattle.dasdl_phrases.specs.declared.key_parts.PartDecl.{PartDecl};
+ghost use Rattle.dasdl_phrases.specs.KeySpelling.{IsKey};
 ghost use Rattle.dasdl_parse.specs.ItemSpelling.{IsItem, IsLink};
 ghost use Rattle.dasdl_parse.specs.declared.declarations.ItemDecl.{ItemDecl};
 ghost use Rattle.dasdl_parse.specs.declared.declarations.LinkDecl.{LinkDecl};
-ghost use Rattle.dasdl_parse.specs.KindSpelling.{IsKind};
-ghost use Rattle.dasdl_parse.specs.Kinds.{kind_at};
+ghost use Rattle.dasdl_phrases.specs.KindSpelling.{IsKind};
+ghost use Rattle.dasdl_phrases.specs.Kinds.{kind_at};
 ghost use Rattle.dms_base.specs.declared.kind.ItemKind.{ItemKind};
-ghost use Rattle.dasdl_parse.specs.Sets.{parts_at};
-ghost use Rattle.dasdl_parse.specs.CondSpelling.{IsCond, Reads, nodes, token_of};
-ghost use Rattle.dasdl_parse.specs.CondSpelling.Part.{Whole};
+ghost use Rattle.dasdl_phrases.specs.Keys.{parts_at};
+ghost use Rattle.dasdl_phrases.specs.CondSpelling.{IsCond, Reads, nodes, token_of};
+ghost use Rattle.dasdl_phrases.specs.CondSpelling.Part.{Whole};
 
 /// What stands behind a group's name is read exactly where it is GROUP and items in brackets, by which its data set has
 /// no more than 60.

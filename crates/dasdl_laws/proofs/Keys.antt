@@ -13,7 +13,7 @@ use Rattle.dms_desc_bytes.specs.Finding.{item_at}
 use Rattle.dms_desc_bytes.specs.Lists.{apart, total}
 use Rattle.dms_desc.specs.Widths.{item_width}
 use Rattle.dms_desc_bytes.specs.WellFormed.{is_part_sound, parts_differ, part_width, is_key_sound}
-use Rattle.dasdl_parse.specs.declared.declarations.PartDecl.{PartDecl}
+use Rattle.dasdl_phrases.specs.declared.key_parts.PartDecl.{PartDecl}
 use Rattle.dasdl_compile.specs.declared.draft.Draft.{Draft}
 use Rattle.dasdl_compile.specs.declared.keys.Run.{Run}
 use Rattle.dasdl_compile.specs.declared.keys.KeySoFar.{KeySoFar}

@@ -15,7 +15,7 @@ use Rattle.dms_desc_bytes.specs.Conditions.{is_nothing, is_condition}
 use Rattle.dms_desc_bytes.specs.Lists.{apart, is_within}
 use Rattle.dms_desc_bytes.specs.Members.{items_in_group, is_no_link, is_group_sound, members_differ, groups_follow}
 use Rattle.dms_desc_bytes.specs.WellFormed.{has_sound_verify}
-use Rattle.dasdl_parse.specs.Trees.{Condition}
+use Rattle.dasdl_phrases.specs.Trees.{Condition}
 use Rattle.dasdl_parse.specs.declared.declarations.ItemDecl.{ItemDecl}
 use Rattle.dasdl_parse.specs.declared.declarations.GroupDecl.{GroupDecl}
 use Rattle.dasdl_parse.specs.declared.declarations.DataSetEnd.{DataSetEnd}

@@ -14,9 +14,9 @@ use Rattle.dms_desc_bytes.specs.Conditions.{is_condition, is_nothing}
 use Rattle.dms_desc_bytes.specs.Finding.{kind_of, owner_of, items_at}
 use Rattle.dms_desc_bytes.specs.Spelling.{is_data_set}
 use Rattle.dms_desc_bytes.specs.WellFormed.{numbered, is_key_sound, is_set_placed}
-use Rattle.dasdl_parse.specs.Trees.{Condition}
+use Rattle.dasdl_phrases.specs.Trees.{Condition}
 use Rattle.dasdl_parse.specs.declared.declarations.SetDecl.{SetDecl}
-use Rattle.dasdl_parse.specs.declared.declarations.KeyDecl.{KeyDecl}
+use Rattle.dasdl_phrases.specs.declared.key_parts.KeyDecl.{KeyDecl}
 use Rattle.dasdl_compile.specs.declared.fault.CompileFault.{CompileFault}
 use Rattle.dasdl_compile.specs.declared.draft.Draft.{Draft}
 use Rattle.dasdl_compile.specs.declared.sets.SetOptions.{SetOptions}

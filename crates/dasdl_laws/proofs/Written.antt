@@ -16,14 +16,14 @@ use Rattle.dms_tokens.specs.declared.token.Token.{Token}
 use Rattle.dasdl_parse.specs.declared.items.ItemOptions.{ItemOptions}
 use Rattle.dasdl_parse.specs.declared.declarations.ItemDecl.{ItemDecl}
 use Rattle.dasdl_parse.specs.Items.{no_options}
-use Rattle.dasdl_parse.specs.TreeCodes.{Tree}
-use Rattle.dasdl_parse.specs.CondSpelling.{IsLiteral, IsCond, Part}
-use Rattle.dasdl_parse.specs.CondSpelling.IsLiteral.{a_text, a_number as a_whole_number, a_decimal, a_true, a_false, a_null}
-use Rattle.dasdl_parse.specs.CondSpelling.IsCond.{a_term, an_or, a_factor, an_and, a_not, brackets, a_test}
-use Rattle.dasdl_parse.specs.KindSpelling.{IsKind, IsWidth, ArePlaces}
-use Rattle.dasdl_parse.specs.KindSpelling.IsKind.{an_alpha, a_number, a_truth, a_field}
-use Rattle.dasdl_parse.specs.KindSpelling.IsWidth.{without_sign, with_sign, joined_sign}
-use Rattle.dasdl_parse.specs.KindSpelling.ArePlaces.{no_places, some_places}
+use Rattle.dasdl_phrases.specs.TreeCodes.{Tree}
+use Rattle.dasdl_phrases.specs.CondSpelling.{IsLiteral, IsCond, Part}
+use Rattle.dasdl_phrases.specs.CondSpelling.IsLiteral.{a_text, a_number as a_whole_number, a_decimal, a_true, a_false, a_null}
+use Rattle.dasdl_phrases.specs.CondSpelling.IsCond.{a_term, an_or, a_factor, an_and, a_not, brackets, a_test}
+use Rattle.dasdl_phrases.specs.KindSpelling.{IsKind, IsWidth, ArePlaces}
+use Rattle.dasdl_phrases.specs.KindSpelling.IsKind.{an_alpha, a_number, a_truth, a_field}
+use Rattle.dasdl_phrases.specs.KindSpelling.IsWidth.{without_sign, with_sign, joined_sign}
+use Rattle.dasdl_phrases.specs.KindSpelling.ArePlaces.{no_places, some_places}
 use Rattle.dasdl_parse.specs.OptionSpelling.{Options, ItemOption}
 use Rattle.dasdl_parse.specs.OptionSpelling.Options.{none_said, one_more, behind_comma}
 use Rattle.dasdl_parse.specs.OptionSpelling.ItemOption.{says_required, says_initial, says_null}
@@ -32,8 +32,8 @@ use Rattle.dasdl_parse.specs.ItemSpelling.IsItem.{an_item}
 use Rattle.std.specs.List.{AllByRecursion}
 use Rattle.std.proofs.Common.{length-append}
 use Rattle.dms_desc_bytes.specs.Lists.{is_within}
-use Rattle.dasdl_parse.specs.Trees.{Condition}
-use Rattle.dasdl_parse.specs.CondSpelling.{nodes as nodes_of}
+use Rattle.dasdl_phrases.specs.Trees.{Condition}
+use Rattle.dasdl_phrases.specs.CondSpelling.{nodes as nodes_of}
 use Rattle.dasdl_parse.specs.Sets.{or_else, no_set_options}
 use Rattle.dasdl_parse.specs.Grammar.{no_data_set_options}
 use Rattle.dms_tokens.specs.declared.token.Lexeme.{Lexeme}
@@ -42,7 +42,7 @@ use Rattle.dasdl_parse.specs.declared.declarations.DataSetDecl.{DataSetDecl}
 use Rattle.dasdl_parse.specs.declared.declarations.DataSetEnd.{DataSetEnd}
 use Rattle.dasdl_parse.specs.declared.declarations.SetDecl.{SetDecl}
 use Rattle.dasdl_parse.specs.declared.sets.SetOptions.{SetOptions}
-use Rattle.dasdl_parse.specs.declared.grammar.DataSetOptions.{DataSetOptions}
+use Rattle.dasdl_parse.specs.declared.data_sets.DataSetOptions.{DataSetOptions}
 use Rattle.dasdl_parse.specs.ItemSpelling.{IsLink}
 use Rattle.dasdl_parse.specs.ItemSpelling.IsLink.{a_link, a_counted_link}
 use Rattle.dasdl_grammar.specs.GroupSpelling.{IsNamedItem, AreItems, IsGroup}
@@ -60,11 +60,11 @@ use Rattle.dasdl_grammar.specs.SetSpelling.{IsSet, IsEnd, IsHead}
 use Rattle.dasdl_grammar.specs.SetSpelling.IsSet.{a_set}
 use Rattle.dasdl_grammar.specs.SetSpelling.IsEnd.{an_end}
 use Rattle.dasdl_grammar.specs.SetSpelling.IsHead.{a_head, a_restart_head}
-use Rattle.dasdl_parse.specs.declared.declarations.PartDecl.{PartDecl}
-use Rattle.dasdl_parse.specs.declared.declarations.KeyDecl.{KeyDecl}
-use Rattle.dasdl_parse.specs.KeySpelling.{AreParts, IsKey}
-use Rattle.dasdl_parse.specs.KeySpelling.AreParts.{first_part, next_part}
-use Rattle.dasdl_parse.specs.KeySpelling.IsKey.{lone_part, in_brackets}
+use Rattle.dasdl_phrases.specs.declared.key_parts.PartDecl.{PartDecl}
+use Rattle.dasdl_phrases.specs.declared.key_parts.KeyDecl.{KeyDecl}
+use Rattle.dasdl_phrases.specs.KeySpelling.{AreParts, IsKey}
+use Rattle.dasdl_phrases.specs.KeySpelling.AreParts.{first_part, next_part}
+use Rattle.dasdl_phrases.specs.KeySpelling.IsKey.{lone_part, in_brackets}
 use Rattle.dasdl_grammar.specs.SaidSpelling.{IsKeyDecl}
 use Rattle.dasdl_grammar.specs.SaidSpelling.IsKeyDecl.{a_key}
 use Rattle.dasdl_laws.proofs.Judged.{are_plain}

@@ -13,20 +13,20 @@ use Rattle.dasdl_parse.specs.declared.declarations.ItemDecl.{ItemDecl}
 use Rattle.dasdl_parse.specs.declared.declarations.LinkDecl.{LinkDecl}
 use Rattle.dasdl_parse.specs.declared.items.ItemOptions.{ItemOptions}
 use Rattle.dms_tokens.specs.Cursors.{starts, is_word, is_the_sign}
-use Rattle.dasdl_parse.specs.Cursors.{word_at, sign_at, name_at, turns_at, until_semicolon}
-use Rattle.dasdl_parse.specs.Kinds.{kind_at}
+use Rattle.dasdl_phrases.specs.Cursors.{word_at, sign_at, name_at, turns_at, until_semicolon}
+use Rattle.dasdl_phrases.specs.Kinds.{kind_at}
 use Rattle.dasdl_parse.specs.Items.{no_options, next_item_option_at, item_at, counted_at, link_at}
-use Rattle.dasdl_parse.specs.CondSpelling.{token_of, Reads}
-use Rattle.dasdl_parse.specs.KindSpelling.{IsKind}
+use Rattle.dasdl_phrases.specs.CondSpelling.{token_of, Reads}
+use Rattle.dasdl_phrases.specs.KindSpelling.{IsKind}
 use Rattle.dasdl_parse.specs.OptionSpelling.{AreItemOptions}
 use Rattle.dasdl_parse.specs.ItemSpelling.{IsItem, IsLink}
 use Rattle.dasdl_parse.specs.ItemSpelling.IsItem.{an_item}
 use Rattle.dasdl_parse.specs.ItemSpelling.IsLink.{a_link, a_counted_link}
-use Rattle.dasdl_parse.proofs.Inverting.{bind_ok, skip_ok, ok_same}
-use Rattle.dasdl_parse.proofs.SpelledTokens.{Starts, word_spelled, sign_spelled, name_spelled}
-use Rattle.dasdl_parse.proofs.CondSound.{pick}
-use Rattle.dasdl_parse.proofs.CondComplete.{splits, heads, none_left, word_reads, sign_reads, name_reads}
-use Rattle.dasdl_parse.proofs.KindExact.{kind_sound, kind_complete}
+use Rattle.dasdl_phrases.proofs.Inverting.{bind_ok, skip_ok, ok_same}
+use Rattle.dasdl_phrases.proofs.SpelledTokens.{Starts, word_spelled, sign_spelled, name_spelled}
+use Rattle.dasdl_phrases.proofs.CondSound.{pick}
+use Rattle.dasdl_phrases.proofs.CondComplete.{splits, heads, none_left, word_reads, sign_reads, name_reads}
+use Rattle.dasdl_phrases.proofs.KindExact.{kind_sound, kind_complete}
 use Rattle.dasdl_parse.proofs.ItemOptionsExact.{item_options_sound, item_options_complete}
 
 pub item_sound : (place : ℕ) (name : List ℕ) (ts : List Lexeme) (item : ItemDecl) (rest : List Lexeme) → item_at place name ts ≡ Ok (item, rest) → Reads (IsItem place name) ts item rest

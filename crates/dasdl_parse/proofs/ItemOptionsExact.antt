@@ -8,22 +8,22 @@ use Rattle.std.specs.declared.result.Result.TheVariants.{Ok}
 use Rattle.dms_base.specs.declared.op.Op.TheVariants.{Equal}
 use Rattle.dms_base.specs.declared.kind.Literal.{Literal}
 use Rattle.dms_base.specs.declared.kind.Literal.TheVariants.{Null}
-use Rattle.dasdl_parse.specs.declared.fault.ParseFault.{ParseFault}
+use Rattle.dasdl_phrases.specs.declared.fault.ParseFault.{ParseFault}
 use Rattle.dms_tokens.specs.declared.token.Token.{Token}
 use Rattle.dms_tokens.specs.declared.token.Token.TheVariants.{Word, Compare}
 use Rattle.dms_tokens.specs.declared.token.Lexeme.{Lexeme}
 use Rattle.dasdl_parse.specs.declared.items.ItemOptions.{ItemOptions}
-use Rattle.dasdl_parse.specs.Reads.{◌>>=◌, Read}
+use Rattle.dasdl_phrases.specs.Reads.{◌>>=◌, Read}
 use Rattle.dms_tokens.specs.Cursors.{starts, is_word, is_the_sign}
-use Rattle.dasdl_parse.specs.Cursors.{word_at, equal_at, comma_at, turns_at, until_semicolon}
-use Rattle.dasdl_parse.specs.Kinds.{literal_at}
+use Rattle.dasdl_phrases.specs.Cursors.{word_at, equal_at, comma_at, turns_at, until_semicolon}
+use Rattle.dasdl_phrases.specs.Kinds.{literal_at}
 use Rattle.dasdl_parse.specs.Items.{no_options, item_option_at, next_item_option_at}
-use Rattle.dasdl_parse.specs.CondSpelling.{token_of, Reads, IsLiteral}
+use Rattle.dasdl_phrases.specs.CondSpelling.{token_of, Reads, IsLiteral}
 use Rattle.dasdl_parse.specs.OptionSpelling.{ItemOption, AreItemOptions}
 use Rattle.dasdl_parse.specs.OptionSpelling.ItemOption.{says_required, says_initial, says_null}
-use Rattle.dasdl_parse.proofs.Inverting.{bind_ok, ok_same}
-use Rattle.dasdl_parse.proofs.SpelledTokens.{word_spelled, equal_spelled, literal_spelled}
-use Rattle.dasdl_parse.proofs.CondComplete.{heads, none_left, literal_reads}
+use Rattle.dasdl_phrases.proofs.Inverting.{bind_ok, ok_same}
+use Rattle.dasdl_phrases.proofs.SpelledTokens.{word_spelled, equal_spelled, literal_spelled}
+use Rattle.dasdl_phrases.proofs.CondComplete.{heads, none_left, literal_reads}
 use Rattle.dasdl_parse.proofs.OptionsExact.{Begins, options_sound, options_complete}
 
 is_next : (s : ItemOptions) (ts : List Lexeme) → next_item_option_at s ts ≡ (comma_at ts >>= λ t1. item_option_at s t1)

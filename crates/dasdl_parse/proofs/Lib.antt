@@ -1,14 +1,3 @@
-pub mod CondComplete
-pub mod CondNodes
-pub mod CondSound
-pub mod Inverting
-pub mod KeyComplete
-pub mod KeyExact
-pub mod KindExact
-pub mod Nots
 pub mod ItemExact
 pub mod ItemOptionsExact
 pub mod OptionsExact
-pub mod SpelledTokens
-pub mod Turning
-pub mod TurnsSound

@@ -4,17 +4,17 @@ use Rattle.std.specs.declared.result.Result.TheVariants.{Ok}
 use Rattle.dms_tokens.specs.declared.token.Token.{Token}
 use Rattle.dms_tokens.specs.declared.token.Token.TheVariants.{Word, Sign}
 use Rattle.dms_tokens.specs.declared.token.Lexeme.{Lexeme}
-use Rattle.dasdl_parse.specs.Reads.{◌>>=◌, Read, Pass}
+use Rattle.dasdl_phrases.specs.Reads.{◌>>=◌, Read, Pass}
 use Rattle.dms_tokens.specs.Cursors.{starts, is_the_sign}
-use Rattle.dasdl_parse.specs.Cursors.{turns_at, comma_at, until_semicolon}
-use Rattle.dasdl_parse.specs.CondSpelling.{token_of, Reads}
+use Rattle.dasdl_phrases.specs.Cursors.{turns_at, comma_at, until_semicolon}
+use Rattle.dasdl_phrases.specs.CondSpelling.{token_of, Reads}
 use Rattle.dasdl_parse.specs.OptionSpelling.{Options}
 use Rattle.dasdl_parse.specs.OptionSpelling.Options.{none_said, one_more, behind_comma}
-use Rattle.dasdl_parse.proofs.Inverting.{bind_ok, ok_same}
-use Rattle.dasdl_parse.proofs.SpelledTokens.{is_sign_is}
-use Rattle.dasdl_parse.proofs.TurnsSound.{Goes, turns_at-goes}
-use Rattle.dasdl_parse.proofs.CondComplete.{Runs, joins, turns_at-runs, splits, heads, none_left}
-use Rattle.dasdl_parse.proofs.CondComplete.Runs.{here, step}
+use Rattle.dasdl_phrases.proofs.Inverting.{bind_ok, ok_same}
+use Rattle.dasdl_phrases.proofs.SpelledTokens.{is_sign_is}
+use Rattle.dasdl_phrases.proofs.TurnsSound.{Goes, turns_at-goes}
+use Rattle.dasdl_phrases.proofs.CondComplete.{Runs, joins, turns_at-runs, splits, heads, none_left}
+use Rattle.dasdl_phrases.proofs.CondComplete.Runs.{here, step}
 
 -- a comma was left behind, or there was none
 pub comma_cases : (b : Bool) (l : Lexeme) (ls rest : List Lexeme) → ◌≡◌ {A = Pass} (Ok (cond b ls (l ∷ ls))) (Ok rest) → ((b ≡ true) × (ls ≡ rest)) ⊎ (l ∷ ls ≡ rest)

@@ -2,10 +2,10 @@
 use Rattle.std.specs.Prelude.{ℕ, ◌+◌, List, [], ◌∷◌, ◌++◌, Bool, true, false, ◌&&◌, ◌||◌, not, nat_le, nat_lt, length, codes, is_none, Some, None, if◌then◌else◌}
 use Rattle.std.specs.declared.result.Result.{Result}
 use Rattle.std.specs.declared.result.Result.TheVariants.{Ok, Err}
-use Rattle.dasdl_parse.specs.declared.fault.ParseFault.{ParseFault}
-use Rattle.dasdl_parse.specs.declared.fault.ParseFault.TheVariants.{TooMany}
+use Rattle.dasdl_phrases.specs.declared.fault.ParseFault.{ParseFault}
+use Rattle.dasdl_phrases.specs.declared.fault.ParseFault.TheVariants.{TooMany}
 use Rattle.dms_tokens.specs.declared.token.Lexeme.{Lexeme}
-use Rattle.dasdl_parse.specs.Reads.{Read, ◌>>=◌}
+use Rattle.dasdl_phrases.specs.Reads.{Read, ◌>>=◌}
 use Rattle.dasdl_parse.specs.declared.schema.Parameters.{Parameters}
 use Rattle.dasdl_parse.specs.declared.schema.Schema.{Schema}
 use Rattle.dasdl_parse.specs.declared.parameters.Pairs.{Pairs}
@@ -14,16 +14,16 @@ use Rattle.dasdl_parse.specs.declared.declarations.Declaration.{Declaration}
 use Rattle.dasdl_parse.specs.declared.declarations.Declaration.TheVariants.{DataSet, Item, Group, Link, SetOf, End as EndOf}
 use Rattle.dasdl_parse.specs.declared.declarations.DataSetDecl.{DataSetDecl}
 use Rattle.dasdl_parse.specs.declared.declarations.DataSetEnd.{DataSetEnd}
-use Rattle.dasdl_parse.specs.declared.grammar.DataSetOptions.{DataSetOptions}
-use Rattle.dasdl_parse.specs.declared.grammar.Open.{Open}
-use Rattle.dasdl_parse.specs.declared.grammar.Open.TheVariants.{Outside, One, Two, Three}
+use Rattle.dasdl_parse.specs.declared.data_sets.DataSetOptions.{DataSetOptions}
+use Rattle.dasdl_parse.specs.declared.within.Open.{Open}
+use Rattle.dasdl_parse.specs.declared.within.Open.TheVariants.{Outside, One, Two, Three}
 use Rattle.dasdl_parse.specs.declared.grammar.Progress.{Progress}
 use Rattle.dms_tokens.specs.Cursors.{place_at, starts, is_word, is_the_sign, is_end}
-use Rattle.dasdl_parse.specs.Cursors.{fault_at, word_at, sign_at, comma_at, name_at, turns_at, until_semicolon}
+use Rattle.dasdl_phrases.specs.Cursors.{fault_at, word_at, sign_at, comma_at, name_at, turns_at, until_semicolon}
 use Rattle.dasdl_parse.specs.Parameters.{parameters_at, audit_at}
-use Rattle.dasdl_parse.specs.Kinds.{starts_kind}
+use Rattle.dasdl_phrases.specs.Kinds.{starts_kind}
 use Rattle.dasdl_parse.specs.Items.{item_at, group_at, link_at}
-use Rattle.dasdl_parse.specs.Conditions.{cond_decl_at}
+use Rattle.dasdl_phrases.specs.Conditions.{cond_decl_at}
 use Rattle.dasdl_parse.specs.Sets.{population_at, set_at, or_else}
 use Rattle.dms_tokens.specs.Tokens.{tokens_of}
 

@@ -7,7 +7,7 @@ use Rattle.dms_base.specs.declared.kind.ItemKind.{ItemKind}
 use Rattle.dasdl_parse.specs.declared.declarations.ItemDecl.{ItemDecl}
 use Rattle.dasdl_parse.specs.declared.declarations.LinkDecl.{LinkDecl}
 use Rattle.dasdl_parse.specs.declared.items.ItemOptions.{ItemOptions}
-use Rattle.dasdl_parse.specs.KindSpelling.{IsKind}
+use Rattle.dasdl_phrases.specs.KindSpelling.{IsKind}
 use Rattle.dasdl_parse.specs.OptionSpelling.{AreItemOptions}
 
 -- type { [ , ] option } ;

@@ -2,16 +2,16 @@
 use Rattle.std.specs.Prelude.{ℕ, ◌+◌, List, [], ◌∷◌, ◌++◌, Bool, true, false, ◌&&◌, not, nat_le, codes, is_none, Some, None, if◌then◌else◌}
 use Rattle.std.specs.declared.result.Result.TheVariants.{Ok, Err}
 use Rattle.dms_base.specs.declared.kind.Literal.TheVariants.{Null}
-use Rattle.dasdl_parse.specs.declared.fault.ParseFault.TheVariants.{TooMany}
+use Rattle.dasdl_phrases.specs.declared.fault.ParseFault.TheVariants.{TooMany}
 use Rattle.dms_tokens.specs.declared.token.Lexeme.{Lexeme}
-use Rattle.dasdl_parse.specs.Reads.{Read, ◌>>=◌}
+use Rattle.dasdl_phrases.specs.Reads.{Read, ◌>>=◌}
 use Rattle.dasdl_parse.specs.declared.declarations.ItemDecl.{ItemDecl}
 use Rattle.dasdl_parse.specs.declared.declarations.LinkDecl.{LinkDecl}
 use Rattle.dasdl_parse.specs.declared.items.ItemOptions.{ItemOptions}
 use Rattle.dasdl_parse.specs.declared.items.GroupItems.{GroupItems}
 use Rattle.dms_tokens.specs.Cursors.{place_at, starts, is_word}
-use Rattle.dasdl_parse.specs.Cursors.{fault_at, word_at, sign_at, equal_at, comma_at, name_at, turns_at, until_close, until_semicolon}
-use Rattle.dasdl_parse.specs.Kinds.{literal_at, kind_at, starts_kind}
+use Rattle.dasdl_phrases.specs.Cursors.{fault_at, word_at, sign_at, equal_at, comma_at, name_at, turns_at, until_close, until_semicolon}
+use Rattle.dasdl_phrases.specs.Kinds.{literal_at, kind_at, starts_kind}
 
 abbrev pub no_options : ItemOptions
 no_options = record { required = false; initial = None }

@@ -1,16 +1,6 @@
-pub mod Branches
-pub mod CondSpelling
-pub mod Conditions
-pub mod Cursors
 pub mod Grammar
 pub mod ItemSpelling
 pub mod Items
-pub mod KeySpelling
-pub mod KindSpelling
-pub mod Kinds
 pub mod OptionSpelling
 pub mod Parameters
-pub mod Reads
 pub mod Sets
-pub mod TreeCodes
-pub mod Trees

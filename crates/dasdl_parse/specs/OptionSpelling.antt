@@ -7,7 +7,7 @@ use Rattle.dms_base.specs.declared.kind.Literal.TheVariants.{Null}
 use Rattle.dms_tokens.specs.declared.token.Token.{Token}
 use Rattle.dms_tokens.specs.declared.token.Token.TheVariants.{Word, Sign, Compare}
 use Rattle.dasdl_parse.specs.declared.items.ItemOptions.{ItemOptions}
-use Rattle.dasdl_parse.specs.CondSpelling.{IsLiteral}
+use Rattle.dasdl_phrases.specs.CondSpelling.{IsLiteral}
 use Rattle.dasdl_parse.specs.Items.{no_options}
 
 -- what options say together, where an option is what one more of them makes of what the others have said

@@ -2,9 +2,9 @@
 use Rattle.std.specs.Prelude.{ℕ, List, ◌&&◌, codes, is_none, Some, None, if◌then◌else◌}
 use Rattle.std.specs.declared.result.Result.TheVariants.{Ok, Err}
 use Rattle.dms_tokens.specs.declared.token.Lexeme.{Lexeme}
-use Rattle.dasdl_parse.specs.Reads.{Read, ◌>>=◌}
+use Rattle.dasdl_phrases.specs.Reads.{Read, ◌>>=◌}
 use Rattle.dms_tokens.specs.Cursors.{starts, is_word}
-use Rattle.dasdl_parse.specs.Cursors.{fault_at, word_at, sign_at, equal_at, number_at, turns_at, until_close}
+use Rattle.dasdl_phrases.specs.Cursors.{fault_at, word_at, sign_at, equal_at, number_at, turns_at, until_close}
 use Rattle.dasdl_parse.specs.declared.parameters.Pairs.{Pairs}
 use Rattle.dasdl_parse.specs.declared.parameters.AuditPairs.{AuditPairs}
 

@@ -1,5 +1,5 @@
-use crate::conditions::CondDecl;
-use crate::lists::{ItemDecls, PartDecls};
+use crate::lists::ItemDecls;
+use dasdl_phrases::{CondDecl, KeyDecl};
 use dms_base::{ItemKind, Literal, Name};
 
 /// What a schema declares, one after another in text order. What stands between a data set and its
@@ -93,20 +93,4 @@ pub struct SetDecl {
     pub form: u8,
     /// The most entries that it may have, 1 to 1,000,000.
     pub population: u32,
-}
-
-/// A key.
-#[derive(Debug, Drop)]
-pub struct KeyDecl {
-    /// Where the word KEY stands, counted in bytes from 1.
-    pub place: u32,
-    pub parts: PartDecls,
-}
-
-/// A part of a key.
-#[derive(Debug, Drop)]
-pub struct PartDecl {
-    /// An item or a group.
-    pub name: Name,
-    pub descending: bool,
 }

@@ -1,20 +1,18 @@
 ghost use Rattle.std.specs.Prelude.{◌≡◌, List, ℕ, ◌≤◌, ◌<◌, IfOk, true};
-ghost use Rattle.dasdl_parse.specs.Reads.{Takes, Gives};
-ghost use Rattle.dasdl_parse.specs.Cursors.{until_semicolon};
-ghost use Rattle.dasdl_parse.specs.Grammar.{items_of, with_items, opened, closed, is_inside, is_deepest, declared, with_pairs, with_audit_pairs, parameters_turn_at, audit_turn_at, item_turn_at, group_turn_at, counted_with, link_turn_at, restart_at, data_set_at, starts_set, starts_data_set, structure_turn_at, declared_turn_at, data_set_option_at, next_data_set_option_at, data_set_end_at, end_turn_at, named_turn_at, schema_turn_at, schema_done, schema_at, schema_of};
+ghost use Rattle.dasdl_phrases.specs.Reads.{Takes, Gives};
+ghost use Rattle.dasdl_phrases.specs.Cursors.{until_semicolon};
+ghost use Rattle.dasdl_parse.specs.Grammar.{with_items, opened, closed, is_inside, is_deepest, declared, with_pairs, with_audit_pairs, parameters_turn_at, audit_turn_at, item_turn_at, group_turn_at, counted_with, link_turn_at, starts_set, starts_data_set, structure_turn_at, declared_turn_at, end_turn_at, named_turn_at, schema_turn_at, schema_done, schema_at, schema_of};
 
-use crate::cond::cond_decl;
-use crate::conditions::CondDecl;
-use crate::declarations::{DataSetDecl, DataSetEnd, Declaration, GroupDecl};
-use crate::expect::{expect_sign, expect_word, fault, read_name};
-use crate::fault::ParseFault;
+use crate::data_sets::{data_set, data_set_end};
+use crate::declarations::{Declaration, GroupDecl};
 use crate::items::{ITEMS, group, item, link};
-use crate::kinds::starts_kind;
 use crate::lists::Declarations;
 use crate::parameters::{AuditPairs, Pairs, audit, parameters};
 use crate::schema::{Parameters, Schema};
-use crate::sets::{POPULATION, population, set};
-use crate::turns::{Turns, read_turns};
+use crate::sets::set;
+use crate::within::Open;
+use dasdl_phrases::expect::{expect_sign, expect_word, fault, read_name};
+use dasdl_phrases::{ParseFault, Turns, read_turns, starts_kind};
 use dms_base::{Memory, Name};
 use dms_tokens::{Cursor, Lexeme, tokens};
 use std::alloc::Global;
@@ -24,22 +22,6 @@ pub const STRUCTURES: u8 = 200;
 
 /// The bytes that a text may have.
 pub const TEXT_BYTES: usize = 1_000_000;
-
-/// The data sets that are open, the innermost last, with the items that each has so far.
-#[derive(Clone, Copy)]
-pub enum Open {
-    Outside,
-    One(u8),
-    Two(u8, u8),
-    Three(u8, u8, u8),
-}
-
-/// What a data set's options have said so far.
-#[derive(Drop)]
-pub struct DataSetOptions {
-    pub verify: Option<CondDecl>,
-    pub population: Option<u32>,
-}
 
 /// A schema so far.
 #[derive(Drop)]
@@ -54,74 +36,6 @@ pub struct Progress {
     /// Whether the innermost data set that is open has no member yet.
     pub fresh: bool,
     pub declarations: Declarations,
-}
-
-impl Open {
-    fn items(self) -> u8
-        ensures { result ≡ items_of self }
-    {
-        match self {
-            Open::Outside => 0,
-            Open::One(items) => items,
-            Open::Two(_, items) => items,
-            Open::Three(_, _, items) => items,
-        }
-    }
-
-    fn with_items(self, items: u8) -> Open
-        ensures { result ≡ with_items self items }
-    {
-        match self {
-            Open::Outside => Open::Outside,
-            Open::One(_) => Open::One(items),
-            Open::Two(first, _) => Open::Two(first, items),
-            Open::Three(first, second, _) => Open::Three(first, second, items),
-        }
-    }
-
-    fn opened(self) -> Open
-        ensures { result ≡ opened self }
-    {
-        match self {
-            Open::Outside => Open::One(0),
-            Open::One(first) => Open::Two(first, 0),
-            Open::Two(first, second) => Open::Three(first, second, 0),
-            Open::Three(first, second, third) => Open::Three(first, second, third),
-        }
-    }
-
-    fn closed(self) -> Open
-        ensures { result ≡ closed self }
-    {
-        match self {
-            Open::Outside => Open::Outside,
-            Open::One(_) => Open::Outside,
-            Open::Two(first, _) => Open::One(first),
-            Open::Three(first, second, _) => Open::Two(first, second),
-        }
-    }
-
-    fn is_inside(self) -> bool
-        ensures { result ≡ is_inside self }
-    {
-        match self {
-            Open::Outside => false,
-            Open::One(_) => true,
-            Open::Two(_, _) => true,
-            Open::Three(_, _, _) => true,
-        }
-    }
-
-    fn is_deepest(self) -> bool
-        ensures { result ≡ is_deepest self }
-    {
-        match self {
-            Open::Outside => false,
-            Open::One(_) => false,
-            Open::Two(_, _) => false,
-            Open::Three(_, _, _) => true,
-        }
-    }
 }
 
 /// One more declaration stands within what is open.
@@ -288,34 +202,6 @@ fn link_turn(
     Ok(next)
 }
 
-/// `[RESTART]`: whether it is said.
-#[tactic(auto, unfolding(crate::specs::Grammar::restart_at))]
-fn restart(cursor: &mut Cursor<'_>) -> Result<bool, ParseFault>
-    ensures { Takes result cursor.new (restart_at cursor.old) }
-{
-    if cursor.starts_word(b"RESTART") {
-        expect_word(cursor, b"RESTART")?;
-        return Ok(true);
-    }
-    Ok(false)
-}
-
-/// `[RESTART] DATA SET (` behind a data set's name.
-#[tactic(auto, unfolding(crate::specs::Grammar::data_set_at))]
-fn data_set(cursor: &mut Cursor<'_>, place: u32, name: Name) -> Result<DataSetDecl, ParseFault>
-    ensures { Takes result cursor.new (data_set_at place name cursor.old) }
-{
-    let restart = restart(cursor)?;
-    expect_word(cursor, b"DATA")?;
-    expect_word(cursor, b"SET")?;
-    expect_sign(cursor, b'(')?;
-    Ok(DataSetDecl {
-        place,
-        name,
-        restart,
-    })
-}
-
 fn starts_set(cursor: &Cursor<'_>) -> bool
     ensures { result ≡ starts_set cursor.now }
 {
@@ -395,60 +281,6 @@ fn declared_turn(
         return group_turn(state, cursor, place, name);
     }
     link_turn(state, cursor, place, name)
-}
-
-#[tactic(auto, unfolding(crate::specs::Grammar::data_set_option_at))]
-fn data_set_option(
-    mut options: DataSetOptions,
-    cursor: &mut Cursor<'_>,
-) -> Result<DataSetOptions, ParseFault>
-    ensures { Takes result cursor.new (data_set_option_at options cursor.old) }
-{
-    if cursor.starts_word(b"VERIFY") && options.verify.is_none() {
-        let said = cond_decl(cursor, b"VERIFY")?;
-        options.verify = Some(said);
-        return Ok(options);
-    }
-    if cursor.starts_word(b"POPULATION") && options.population.is_none() {
-        let said = population(cursor)?;
-        options.population = Some(said);
-        return Ok(options);
-    }
-    Err(fault(cursor))
-}
-
-impl Turns for DataSetOptions {
-    ghost done_at = { until_semicolon };
-
-    ghost turn_at = { next_data_set_option_at };
-
-    fn is_done(&self, cursor: &Cursor<'_>) -> bool {
-        cursor.starts_sign(b';')
-    }
-
-    #[tactic(auto, unfolding(crate::specs::Grammar::next_data_set_option_at, crate::specs::Cursors::comma_at))]
-    fn turn(self, cursor: &mut Cursor<'_>) -> Result<DataSetOptions, ParseFault> {
-        cursor.comma();
-        data_set_option(self, cursor)
-    }
-}
-
-/// `) {[,] option} ;` behind a data set's members.
-#[tactic(auto, unfolding(crate::specs::Grammar::data_set_end_at))]
-fn data_set_end(cursor: &mut Cursor<'_>) -> Result<DataSetEnd, ParseFault>
-    ensures { Takes result cursor.new (data_set_end_at cursor.old) }
-{
-    expect_sign(cursor, b')')?;
-    let nothing = DataSetOptions {
-        verify: None,
-        population: None,
-    };
-    let said = read_turns(nothing, cursor)?;
-    expect_sign(cursor, b';')?;
-    Ok(DataSetEnd {
-        verify: said.verify,
-        population: said.population.unwrap_or(POPULATION),
-    })
 }
 
 #[tactic(auto, unfolding(crate::specs::Grammar::end_turn_at))]

@@ -1,14 +1,12 @@
 ghost use Rattle.std.specs.Prelude.{◌≡◌, List, ℕ, ◌≤◌, ◌<◌, IfOk, true};
-ghost use Rattle.dasdl_parse.specs.Reads.{Takes};
-ghost use Rattle.dasdl_parse.specs.Cursors.{until_close, until_semicolon};
+ghost use Rattle.dasdl_phrases.specs.Reads.{Takes};
+ghost use Rattle.dasdl_phrases.specs.Cursors.{until_close, until_semicolon};
 ghost use Rattle.dasdl_parse.specs.Items.{item_option_at, next_item_option_at, item_at, group_item_at, next_group_item_at, group_at, counted_at, link_at};
 
 use crate::declarations::{ItemDecl, LinkDecl};
-use crate::expect::{expect_equal, expect_sign, expect_word, fault, read_name};
-use crate::fault::ParseFault;
-use crate::kinds::{kind, literal, starts_kind};
 use crate::lists::ItemDecls;
-use crate::turns::{Turns, read_turns};
+use dasdl_phrases::expect::{expect_equal, expect_sign, expect_word, fault, read_name};
+use dasdl_phrases::{ParseFault, Turns, kind, literal, read_turns, starts_kind};
 use dms_base::{Literal, Name};
 use dms_tokens::Cursor;
 
@@ -71,7 +69,7 @@ impl Turns for ItemOptions {
         cursor.starts_sign(b';')
     }
 
-    #[tactic(auto, unfolding(crate::specs::Items::next_item_option_at, crate::specs::Cursors::comma_at))]
+    #[tactic(auto, unfolding(crate::specs::Items::next_item_option_at, dasdl_phrases::specs::Cursors::comma_at))]
     fn turn(self, cursor: &mut Cursor<'_>) -> Result<ItemOptions, ParseFault> {
         cursor.comma();
         item_option(self, cursor)

@@ -1,50 +1,21 @@
-ghost use Rattle.std.specs.Prelude.{◌≡◌, ◌≤◌, ◌<◌, ◌++◌, ℕ, List, map, length, true, false, codes};
+ghost use Rattle.std.specs.Prelude.{◌≡◌, ◌<◌, ◌++◌, ℕ, List, map, true};
 ghost use Rattle.std.specs.declared.result.Result.TheVariants.{Ok};
 ghost use Rattle.dms_tokens.specs.declared.token.Lexeme.{Lexeme};
-ghost use Rattle.dasdl_parse.specs.TreeCodes.{Tree};
-ghost use Rattle.dasdl_parse.specs.Conditions.{cond_at};
-ghost use Rattle.dms_tokens.specs.Cursors.{starts, is_word, is_the_sign};
-ghost use Rattle.dasdl_parse.specs.Cursors.{turns_at, until_semicolon};
+ghost use Rattle.dms_tokens.specs.Cursors.{starts, is_the_sign};
+ghost use Rattle.dasdl_phrases.specs.Cursors.{turns_at, until_semicolon};
 ghost use Rattle.dasdl_parse.specs.declared.items.ItemOptions.{ItemOptions};
 ghost use Rattle.dasdl_parse.specs.Items.{next_item_option_at, no_options, item_at, link_at};
 ghost use Rattle.dasdl_parse.specs.OptionSpelling.{AreItemOptions};
-ghost use Rattle.dasdl_parse.specs.declared.declarations.PartDecl.{PartDecl};
-ghost use Rattle.dasdl_parse.specs.KeySpelling.{IsKey};
 ghost use Rattle.dasdl_parse.specs.ItemSpelling.{IsItem, IsLink};
 ghost use Rattle.dasdl_parse.specs.declared.declarations.ItemDecl.{ItemDecl};
 ghost use Rattle.dasdl_parse.specs.declared.declarations.LinkDecl.{LinkDecl};
-ghost use Rattle.dasdl_parse.specs.KindSpelling.{IsKind};
-ghost use Rattle.dasdl_parse.specs.Kinds.{kind_at};
-ghost use Rattle.dms_base.specs.declared.kind.ItemKind.{ItemKind};
-ghost use Rattle.dasdl_parse.specs.Sets.{parts_at};
-ghost use Rattle.dasdl_parse.specs.CondSpelling.{IsCond, Reads, nodes, token_of};
-ghost use Rattle.dasdl_parse.specs.CondSpelling.Part.{Whole};
-
-/// A condition is read exactly where it is one of the grammar with at most 100 nodes: OR joins terms, AND joins factors, both from the left, NOT stands
-/// before a factor, and brackets hold a whole condition.
-pub fn condition_law()
-    ensures sound { (ts rest : List Lexeme) (t : Tree) → cond_at ts ≡ Ok (t, rest) → Reads (IsCond Whole) ts t rest × (nodes t ≤ 100) }
-    ensures complete { (us rest : List Lexeme) (t : Tree) → IsCond Whole t (map token_of us) → nodes t ≤ 100 → starts (is_word (codes "AND")) rest ≡ false → starts (is_word (codes "OR")) rest ≡ false → cond_at (us ++ rest) ≡ Ok (t, rest) }
-{}
+ghost use Rattle.dasdl_phrases.specs.CondSpelling.{Reads, token_of};
 
 /// The options of an item are read exactly where they are some: in any order, each with a comma before it or without
 /// one, REQUIRED once at most, and INITIALVALUE or NULL once at most.
 pub fn item_options_law()
     ensures sound { (ts rest : List Lexeme) (said : ItemOptions) → turns_at until_semicolon next_item_option_at no_options ts ≡ Ok (said, rest) → Reads AreItemOptions ts said rest }
     ensures complete { (us rest : List Lexeme) (said : ItemOptions) → AreItemOptions said (map token_of us) → starts (is_the_sign 59) rest ≡ true → turns_at until_semicolon next_item_option_at no_options (us ++ rest) ≡ Ok (said, rest) }
-{}
-
-/// A key is read exactly where it is one part, or parts in brackets with a comma between two, at most 16, and each
-/// part is a name with a direction behind it or without one.
-pub fn key_law()
-    ensures sound { (ts rest : List Lexeme) (parts : List PartDecl) → parts_at ts ≡ Ok (parts, rest) → Reads IsKey ts parts rest × (length parts ≤ 16) }
-    ensures complete { (us rest : List Lexeme) (parts : List PartDecl) → IsKey parts (map token_of us) → length parts ≤ 16 → starts (is_word (codes "ASCENDING")) rest ≡ false → starts (is_word (codes "DESCENDING")) rest ≡ false → parts_at (us ++ rest) ≡ Ok (parts, rest) }
-{}
-
-/// An item's type is read exactly where it is one, with its numbers in their ranges.
-pub fn kind_law()
-    ensures sound { (ts rest : List Lexeme) (kind : ItemKind) → kind_at ts ≡ Ok (kind, rest) → Reads IsKind ts kind rest }
-    ensures complete { (us rest : List Lexeme) (kind : ItemKind) → IsKind kind (map token_of us) → kind_at (us ++ rest) ≡ Ok (kind, rest) }
 {}
 
 /// What stands behind an item's name is read exactly where it is a type, options and a semicolon.

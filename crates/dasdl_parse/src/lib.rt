@@ -1,28 +1,21 @@
 //! Reads the text of a schema.
 #![tactic(auto)]
 
-mod cond;
-mod conditions;
+mod data_sets;
 mod declarations;
-mod expect;
-mod fault;
 mod grammar;
 mod items;
-mod kinds;
 mod laws;
-mod levels;
 mod lists;
 mod parameters;
 mod schema;
 mod sets;
-mod turns;
+mod within;
 
-pub use conditions::{CondDecl, CondTree};
 pub use declarations::{
-    DataSetDecl, DataSetEnd, Declaration, GroupDecl, ItemDecl, KeyDecl, LinkDecl, PartDecl, SetDecl,
+    DataSetDecl, DataSetEnd, Declaration, GroupDecl, ItemDecl, LinkDecl, SetDecl,
 };
-pub use fault::ParseFault;
 pub use grammar::parse;
-pub use laws::{condition_law, item_law, item_options_law, key_law, kind_law, link_law};
-pub use lists::{Declarations, ItemDecls, PartDecls};
+pub use laws::{item_law, item_options_law, link_law};
+pub use lists::{Declarations, ItemDecls};
 pub use schema::{Parameters, Schema};

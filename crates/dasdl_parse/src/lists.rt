@@ -1,6 +1,6 @@
 ghost use Rattle.std.specs.Prelude.{◌≡◌, ◌++◌, ◌∷◌, [], OnErr, OnOk};
 
-use crate::declarations::{Declaration, ItemDecl, PartDecl};
+use crate::declarations::{Declaration, ItemDecl};
 use dms_base::Memory;
 use std::alloc::Global;
 use std::marker::Model;
@@ -41,48 +41,6 @@ impl ItemDecls {
 
     /// The list.
     pub fn as_slice(&self) -> &[ItemDecl]
-        ensures { result.now ≡ self.now }
-    {
-        self.kept.as_slice()
-    }
-}
-
-/// The parts of a key.
-#[derive(Debug, Drop)]
-pub struct PartDecls {
-    kept: Vec<PartDecl>,
-}
-
-impl Model for PartDecls {
-    ghost use Rattle.std.specs.Prelude.{List};
-    ghost use Rattle.dasdl_parse.specs.declared.declarations.PartDecl.{PartDecl};
-
-    ghost Value = { List PartDecl };
-
-    ghost view = { λ v. v.kept.items };
-}
-
-impl PartDecls {
-    /// The empty list.
-    pub fn new(alloc: Global) -> PartDecls
-        ensures { result ≡ [] }
-    {
-        PartDecls {
-            kept: Vec::new(alloc),
-        }
-    }
-
-    /// Adds one at the end.
-    pub fn push(&mut self, part: PartDecl) -> Result<(), Memory>
-        ensures ok { OnOk result (self.new ≡ self.old ++ part ∷ []) }
-        ensures err { OnErr result (self.new ≡ self.old) }
-    {
-        self.kept.push(part)?;
-        Ok(())
-    }
-
-    /// The list.
-    pub fn as_slice(&self) -> &[PartDecl]
         ensures { result.now ≡ self.now }
     {
         self.kept.as_slice()

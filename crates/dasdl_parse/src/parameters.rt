@@ -1,12 +1,11 @@
 ghost use Rattle.std.specs.Prelude.{◌≡◌, List, ℕ, ◌<◌, ◌^◌};
-ghost use Rattle.dasdl_parse.specs.Reads.{Takes};
+ghost use Rattle.dasdl_phrases.specs.Reads.{Takes};
 ghost use Rattle.dms_tokens.specs.Cursors.{starts, is_the_sign};
-ghost use Rattle.dasdl_parse.specs.Cursors.{until_close};
+ghost use Rattle.dasdl_phrases.specs.Cursors.{until_close};
 ghost use Rattle.dasdl_parse.specs.Parameters.{setting_at, measure_at, pair_at, next_pair_at, parameters_at, audit_pair_at, next_audit_pair_at, audit_at};
 
-use crate::expect::{expect_equal, expect_sign, expect_word, fault, read_number};
-use crate::fault::ParseFault;
-use crate::turns::{Turns, read_turns};
+use dasdl_phrases::expect::{expect_equal, expect_sign, expect_word, fault, read_number};
+use dasdl_phrases::{ParseFault, Turns, read_turns};
 use dms_tokens::Cursor;
 
 /// What PARAMETERS has said so far.

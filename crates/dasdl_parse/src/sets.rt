@@ -1,22 +1,15 @@
 ghost use Rattle.std.specs.Prelude.{◌≡◌, List, ℕ, ◌≤◌, ◌<◌, IfOk};
-ghost use Rattle.dasdl_parse.specs.Reads.{Takes};
-ghost use Rattle.dasdl_parse.specs.Cursors.{until_close, until_semicolon};
-ghost use Rattle.dasdl_parse.specs.Sets.{direction_at, part_at, next_part_at, parts_at, key_at, population_at, duplicates_at, form_at, starts_duplicates, starts_form, plain_option_at, set_option_at, next_set_option_at, set_word_at, set_of, set_at};
+ghost use Rattle.dasdl_phrases.specs.Reads.{Takes};
+ghost use Rattle.dasdl_phrases.specs.Cursors.{until_semicolon};
+ghost use Rattle.dasdl_parse.specs.Sets.{population_at, duplicates_at, form_at, starts_duplicates, starts_form, plain_option_at, set_option_at, next_set_option_at, set_word_at, set_of, set_at};
 
-use crate::cond::cond_decl;
-use crate::conditions::CondDecl;
-use crate::declarations::{KeyDecl, PartDecl, SetDecl};
-use crate::expect::{
-    expect_equal, expect_sign, expect_word, fault, read_name, read_number, starts_free,
+use crate::declarations::SetDecl;
+use dasdl_phrases::expect::{
+    expect_equal, expect_sign, expect_word, fault, read_name, read_number,
 };
-use crate::fault::ParseFault;
-use crate::lists::PartDecls;
-use crate::turns::{Turns, read_turns};
+use dasdl_phrases::{CondDecl, KeyDecl, ParseFault, Turns, cond_decl, key, read_turns};
 use dms_base::Name;
 use dms_tokens::Cursor;
-
-/// The parts that a key may have.
-pub const PARTS: usize = 16;
 
 /// The most entries or records that a structure may have.
 pub const POPULATION: u32 = 1_000_000;
@@ -29,83 +22,6 @@ pub struct SetOptions {
     pub duplicates: Option<bool>,
     pub form: Option<u8>,
     pub population: Option<u32>,
-}
-
-/// `[ASCENDING | DESCENDING]`: whether it is DESCENDING.
-#[tactic(auto, unfolding(crate::specs::Sets::direction_at))]
-fn direction(cursor: &mut Cursor<'_>) -> Result<bool, ParseFault>
-    ensures { Takes result cursor.new (direction_at cursor.old) }
-{
-    if cursor.starts_word(b"ASCENDING") {
-        expect_word(cursor, b"ASCENDING")?;
-        return Ok(false);
-    }
-    if cursor.starts_word(b"DESCENDING") {
-        expect_word(cursor, b"DESCENDING")?;
-        return Ok(true);
-    }
-    Ok(false)
-}
-
-/// One more part of a key.
-#[tactic(auto, unfolding(crate::specs::Sets::part_at))]
-fn part(mut parts: PartDecls, cursor: &mut Cursor<'_>) -> Result<PartDecls, ParseFault>
-    ensures { Takes result cursor.new (part_at parts cursor.old) }
-{
-    if !starts_free(cursor) {
-        return Err(fault(cursor));
-    }
-    if parts.as_slice().len() >= PARTS {
-        return Err(ParseFault::TooMany(16));
-    }
-    let name = read_name(cursor)?;
-    let descending = direction(cursor)?;
-    parts.push(PartDecl { name, descending })?;
-    Ok(parts)
-}
-
-impl Turns for PartDecls {
-    ghost done_at = { until_close };
-
-    ghost turn_at = { next_part_at };
-
-    fn is_done(&self, cursor: &Cursor<'_>) -> bool {
-        cursor.starts_sign(b')')
-    }
-
-    #[tactic(auto, unfolding(crate::specs::Sets::next_part_at))]
-    fn turn(self, cursor: &mut Cursor<'_>) -> Result<PartDecls, ParseFault> {
-        expect_sign(cursor, b',')?;
-        part(self, cursor)
-    }
-}
-
-/// `part | ( part {, part} )`.
-#[tactic(auto, unfolding(crate::specs::Sets::parts_at))]
-fn parts(cursor: &mut Cursor<'_>) -> Result<PartDecls, ParseFault>
-    ensures { Takes result cursor.new (parts_at cursor.old) }
-{
-    let nothing = PartDecls::new(cursor.alloc());
-    if !cursor.starts_sign(b'(') {
-        return part(nothing, cursor);
-    }
-    expect_sign(cursor, b'(')?;
-    let first = part(nothing, cursor)?;
-    let all = read_turns(first, cursor)?;
-    expect_sign(cursor, b')')?;
-    Ok(all)
-}
-
-/// `KEY IS parts`.
-#[tactic(auto, unfolding(crate::specs::Sets::key_at))]
-fn key(cursor: &mut Cursor<'_>) -> Result<KeyDecl, ParseFault>
-    ensures { Takes result cursor.new (key_at cursor.old) }
-{
-    let place = cursor.place();
-    expect_word(cursor, b"KEY")?;
-    expect_word(cursor, b"IS")?;
-    let parts = parts(cursor)?;
-    Ok(KeyDecl { place, parts })
 }
 
 /// `POPULATION = number`.
@@ -210,7 +126,7 @@ impl Turns for SetOptions {
         cursor.starts_sign(b';')
     }
 
-    #[tactic(auto, unfolding(crate::specs::Sets::next_set_option_at, crate::specs::Cursors::comma_at))]
+    #[tactic(auto, unfolding(crate::specs::Sets::next_set_option_at, dasdl_phrases::specs::Cursors::comma_at))]
     fn turn(self, cursor: &mut Cursor<'_>) -> Result<SetOptions, ParseFault> {
         cursor.comma();
         set_option(self, cursor)

@@ -2,8 +2,8 @@
 use Rattle.std.specs.Prelude.{ℕ, List, [], ◌∷◌, ◌++◌, codes, decimal}
 use Rattle.dasdl_compile.specs.declared.fault.CompileFault.{CompileFault}
 use Rattle.dasdl_compile.specs.declared.fault.CompileFault.TheVariants.{Twice, Unknown, KeyItem, CondKind, RecordLong, KeyLong, NoRestart, Embedding, DescriptionLong, Memory as NoRoom}
-use Rattle.dasdl_parse.specs.declared.fault.ParseFault.{ParseFault}
-use Rattle.dasdl_parse.specs.declared.fault.ParseFault.TheVariants.{BadCharacter, Expected, NumberRange, TooMany, Memory as NoSpace}
+use Rattle.dasdl_phrases.specs.declared.fault.ParseFault.{ParseFault}
+use Rattle.dasdl_phrases.specs.declared.fault.ParseFault.TheVariants.{BadCharacter, Expected, NumberRange, TooMany, Memory as NoSpace}
 use Rattle.dms.specs.declared.texts.Ending.{Ending}
 use Rattle.dms.specs.declared.texts.Ending.TheVariants.{Command, InUse}
 use Rattle.dms_top.specs.declared.status.LimitKind.{LimitKind}

@@ -3,7 +3,7 @@ ghost use Rattle.dms.specs.Lines.{parse_words, compile_words, need_words, lines_
 ghost use Rattle.dms.specs.Numbers.{number_of};
 
 use dasdl_compile::CompileFault;
-use dasdl_parse::ParseFault;
+use dasdl_phrases::ParseFault;
 use dms_base::Name;
 use dms_top::{LimitKind, NeedFault, SchemaFault, Status};
 use std::fmt;

@@ -42,7 +42,10 @@ fn has_database<S: Site>(site: &mut S) -> Result<bool, Failed>
 }
 
 /// The description of which a database is to be made, or why none is made. Nothing changes.
-fn judge<S: Site>(alloc: Global, site: &mut S) -> Result<Description, CreationFault>
+fn description_without_database<S: Site>(
+    alloc: Global,
+    site: &mut S,
+) -> Result<Description, CreationFault>
     ensures sealed { IfOk result (λ d. IsTrue S.tells → IsSealed (S.files site.old 1) (described d)) }
     ensures shut { IfOk result (λ d. IsTrue S.tells → slice_index (S.files site.old 1) 1 ≢ 1) }
     ensures sound { IfOk result (λ d. IsWellFormed (described d)) }
@@ -142,7 +145,7 @@ pub fn initialize<S: Site>(alloc: Global, site: &mut S, tag: u64) -> Result<(), 
     ensures clean { (IsErrOf result CreationFault.Disk → ⊥) → S.disk_faults site.new ≡ S.disk_faults site.old }
     ensures say_faults { S.say_faults site.new ≡ S.say_faults site.old }
 {
-    let desc = match judge(alloc, site) {
+    let desc = match description_without_database(alloc, site) {
         Ok(desc) => desc,
         Err(fault) => return Err(fault),
     };

@@ -2,7 +2,7 @@
 use Rattle.std.proofs.Common.{◌≡◌, ◌<◌, ◌∙◌, ap, sym, Err, Ok, Some, None, Option, Result, List, ℕ, [], ◌∷◌, ◌++◌, length, nat_lt, true, IsOk, arith, subst, refl}
 use Rattle.std.proofs.lemmas.Bool.Decides.{nat_tests}
 use Rattle.std.proofs.lemmas.Option.{none-some, same_Some}
-use Rattle.dasdl_parse.specs.declared.fault.ParseFault.TheVariants.{TooMany}
+use Rattle.dasdl_phrases.specs.declared.fault.ParseFault.TheVariants.{TooMany}
 use Rattle.dasdl_parse.specs.Grammar.{schema_of}
 use Rattle.dms_desc.specs.Shape.{Described}
 use Rattle.dms_feed.specs.Feeds.{Remains}

@@ -1,7 +1,7 @@
 -- A description that was compiled and written is a sealed one.
 use Rattle.std.proofs.Common.{◌≡◌, ◌≤◌, ap, refl, List, ℕ, Ok, Err, Result, length, nat_le, true, arith}
 use Rattle.std.proofs.lemmas.Bool.Decides.{nat_tests}
-use Rattle.dasdl_parse.specs.declared.fault.ParseFault.{ParseFault}
+use Rattle.dasdl_phrases.specs.declared.fault.ParseFault.{ParseFault}
 use Rattle.dasdl_parse.specs.declared.schema.Schema.{Schema}
 use Rattle.dasdl_parse.specs.Grammar.{schema_of}
 use Rattle.dasdl_compile.specs.declared.fault.CompileFault.{CompileFault}

@@ -2,7 +2,7 @@
 use Rattle.std.specs.Prelude.{ℕ, List}
 use Rattle.std.specs.declared.result.Result.{Result}
 use Rattle.std.specs.declared.result.Result.TheVariants.{Ok, Err}
-use Rattle.dasdl_parse.specs.declared.fault.ParseFault.{ParseFault}
+use Rattle.dasdl_phrases.specs.declared.fault.ParseFault.{ParseFault}
 use Rattle.dasdl_parse.specs.declared.schema.Schema.{Schema}
 use Rattle.dasdl_parse.specs.Grammar.{schema_of}
 use Rattle.dasdl_compile.specs.declared.fault.CompileFault.{CompileFault}

@@ -16,7 +16,7 @@ use crate::judge::{Judged, judge};
 use crate::schema::TextFault;
 use crate::status::{SchemaFault, Status};
 use crate::whole::whole_text;
-use dasdl_parse::ParseFault;
+use dasdl_phrases::ParseFault;
 use dms_base::{Bytes, Memory};
 use dms_desc::Description;
 use dms_descfile::{FileFault, read_description, seal_description};

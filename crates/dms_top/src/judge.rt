@@ -5,7 +5,8 @@ ghost use Rattle.dms_top.specs.Judged.{AnswersJudging};
 
 use crate::status::SchemaFault;
 use dasdl_compile::{CompileFault, compile};
-use dasdl_parse::{ParseFault, Schema, parse};
+use dasdl_parse::{Schema, parse};
+use dasdl_phrases::ParseFault;
 use dms_desc::Description;
 use std::alloc::Global;
 

@@ -1,5 +1,5 @@
 use dasdl_compile::CompileFault;
-use dasdl_parse::ParseFault;
+use dasdl_phrases::ParseFault;
 
 /// Why a schema is refused: its first fault in text order.
 #[derive(Clone, Copy, Debug, PartialEq, Eq)]

@@ -31,7 +31,7 @@ use crate::schema::{TextFault, schema_text};
 use crate::status::{NeedFault, SchemaFault, Status};
 use crate::tags::initialize_tag;
 use crate::try_run::try_lines;
-use dasdl_parse::ParseFault;
+use dasdl_phrases::ParseFault;
 use dms_feed::Feed;
 use dms_site::{Site, Source};
 use std::alloc::Global;

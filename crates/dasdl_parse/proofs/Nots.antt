@@ -1,8 +1,0 @@
--- One NOT more.
-use Rattle.std.proofs.Common.{◌+◌, ◌≡◌, ℕ, suc, refl, arith}
-use Rattle.dasdl_parse.specs.TreeCodes.{Tree}
-use Rattle.dasdl_parse.specs.TreeCodes.Tree.{Turned}
-use Rattle.dasdl_parse.specs.Branches.{negated}
-
-pub negated-one : (n : ℕ) (t : Tree) → negated (n + 1) t ≡ Turned (negated n t)
-negated-one n t = let k : n + 1 ≡ suc n = omega arith in rw k refl

@@ -1,0 +1,11 @@
+pub mod CondComplete
+pub mod CondNodes
+pub mod CondSound
+pub mod Inverting
+pub mod KeyComplete
+pub mod KeyExact
+pub mod KindExact
+pub mod Nots
+pub mod SpelledTokens
+pub mod Turning
+pub mod TurnsSound

@@ -1,0 +1,11 @@
+pub mod Branches
+pub mod CondSpelling
+pub mod Conditions
+pub mod Cursors
+pub mod KeySpelling
+pub mod Keys
+pub mod KindSpelling
+pub mod Kinds
+pub mod Reads
+pub mod TreeCodes
+pub mod Trees
