@@ -64,7 +64,8 @@ impl Blocks for MemBlocks {
         Ok(())
     }
 
-    fn say(&mut self, _bytes: &[u8]) -> Result<(), BlockFault> {
+    fn say(&mut self, bytes: &[u8]) -> Result<(), BlockFault> {
+        let _kept = self.text.extend_from_slice(bytes);
         Ok(())
     }
 }

@@ -27,6 +27,8 @@ pub struct MemBlocks {
     pub spent: u64,
     pub syncs: u64,
     pub outs: u64,
+    /// What was printed, as far as memory allowed. No clause speaks of it.
+    pub text: Vec<u8>,
     pub ghost room: { made + 1 < 2 ^ 64 },
     pub ghost durable_low: { durable ≤ made },
     pub ghost small: { AreSmall (rows files.items) } by { Prim.hlevel (props, AreSmall-prop) },
@@ -65,6 +67,7 @@ impl MemBlocks {
             spent: 0,
             syncs: 0,
             outs: 0,
+            text: Vec::new(alloc),
         })
     }
 
