@@ -216,8 +216,7 @@ fn all_counted_links(structures: &[Structure]) -> u32
     count
 }
 
-/// Whether each parameter is in its range: the syncpoint and the control point 1 to 10,000, buffers 8 to 4,096, the
-/// blocks of an audit file 8 to 512, its files 2 to 9,999.
+/// Whether each parameter is in its range.
 #[tactic(auto, unfolding(crate::specs::WellFormed::has_parameters))]
 pub fn has_parameters(desc: &Description) -> bool
     ensures { result ≡ has_parameters (described desc.now) }

@@ -41,14 +41,14 @@ pub fn items_at(structures: &[Structure], number: u16) -> &[Item]
     }
 }
 
-/// Whether this is the kind of a data set: 1, or 2 for the restart data set.
+/// Whether this is the kind of a data set.
 pub fn is_data_set(kind: u8) -> bool
     ensures { result ≡ is_data_set kind }
 {
     kind == 1 || kind == 2
 }
 
-/// The item with this number, which counts from 1; None where there is none.
+/// The item with this number.
 pub fn item_at(items: &[Item], number: u8) -> Option<&Item>
     ensures { option_copied result ≡ item_at items.now number }
 {

@@ -83,7 +83,7 @@ impl<'a> Input<'a> {
         front
     }
 
-    /// The next number of two bytes, the high one first; 0 where so many aren't left.
+    /// The next number of two bytes.
     #[tactic(auto, unfolding(crate::specs::Reading::number_at))]
     pub fn u16(&mut self) -> u16
         ensures { (result, self.new) ≡ number_at w16 self.old }
@@ -95,7 +95,7 @@ impl<'a> Input<'a> {
         u16::from_be_bytes([field[0], field[1]])
     }
 
-    /// The next number of four bytes, the high one first; 0 where so many aren't left.
+    /// The next number of four bytes.
     #[tactic(auto, unfolding(crate::specs::Reading::number_at))]
     pub fn u32(&mut self) -> u32
         ensures { (result, self.new) ≡ number_at w32 self.old }
@@ -107,7 +107,7 @@ impl<'a> Input<'a> {
         u32::from_be_bytes([field[0], field[1], field[2], field[3]])
     }
 
-    /// The next number of eight bytes, the high one first; 0 where so many aren't left.
+    /// The next number of eight bytes.
     #[tactic(auto, unfolding(crate::specs::Reading::number_at))]
     pub fn u64(&mut self) -> u64
         ensures { (result, self.new) ≡ number_at w64 self.old }
@@ -138,7 +138,7 @@ impl<'a> Input<'a> {
         self.bytes(n as usize)
     }
 
-    /// The next name, a length and so many bytes; the name UNKNOWN where they spell none.
+    /// The next name.
     #[tactic(auto, unfolding(crate::specs::Reading::name_at))]
     pub fn name(&mut self) -> Name
         ensures { (result, self.new) ≡ name_at self.old }
@@ -180,7 +180,7 @@ impl<'a> Input<'a> {
         Value::Bits(self.u64())
     }
 
-    /// The next literal, Null where none is spelled, or Memory where memory ran out.
+    /// The next literal.
     #[tactic(auto, unfolding(crate::specs::Reading::literal_at))]
     pub fn literal(&mut self, alloc: Global) -> Result<Value, Memory>
         ensures { IfOk result (λ v. (v, self.new) ≡ literal_at self.old) }

@@ -148,8 +148,7 @@ fn read_description(alloc: Global, bytes: &[u8]) -> Result<Description, Memory>
 }
 
 /// The description that these bytes spell; None exactly where no well-formed description is spelled so.
-/// What stands in the bytes is read, and then it must be well-formed and written as the same bytes. Memory is the
-/// only error.
+/// What stands in the bytes is read, and then it must be well-formed and written as the same bytes.
 pub fn decode(alloc: Global, bytes: &[u8]) -> Result<Option<Description>, Memory>
     ensures { IfOk result (λ found. Decodes bytes.now found) }
 {
