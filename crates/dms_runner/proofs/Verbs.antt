@@ -7,11 +7,11 @@ use Rattle.dms_model.specs.Verbs.{IsVerbOf}
 use Rattle.dms_runner.specs.declared.waiting.WaitingLine.{WaitingLine}
 use Rattle.dms_runner.specs.Waiting.{AreVerbs, said_to_wait}
 
-pub verbs_under : {d e : Described} {waiting : List WaitingLine} → d ≡ e → AreVerbs d waiting → AreVerbs e waiting
-verbs_under {waiting = waiting} same h = subst (λ (x : Described). AreVerbs x waiting) same h
+pub verbs_under : {d e : Described} (waiting : List WaitingLine) → d ≡ e → AreVerbs d waiting → AreVerbs e waiting
+verbs_under waiting same h = subst (λ (x : Described). AreVerbs x waiting) same h
 
-pub verbs_in : {d : Described} {a b : List WaitingLine} → a ≡ b → AreVerbs d a → AreVerbs d b
-verbs_in {d = d} same h = subst (AreVerbs d) same h
+pub verbs_in : (d : Described) {a b : List WaitingLine} → a ≡ b → AreVerbs d a → AreVerbs d b
+verbs_in d same h = subst (AreVerbs d) same h
 
 pub verb_at : (desc : Described) (waiting : List WaitingLine) (i : ℕ) (h : WaitingLine) → slice_get waiting i ≡ Some h → AreVerbs desc waiting → IsVerbOf desc h.verb
 verb_at desc [] i h at all = absurd (cc)

@@ -42,7 +42,7 @@ fn push_sync(alloc: Global, text: &mut Bytes, sync: Option<u64>) -> Result<(), M
 }
 
 /// A reply, and then the syncpoint that its step took.
-#[tactic(auto, unfolding(crate::specs::WaitingLine::answer_text))]
+#[tactic(auto, unfolding(crate::specs::Waiting::answer_text))]
 fn answer_text(alloc: Global, line: u32, program: &Name, answer: &Answer) -> Result<Bytes, Memory>
     ensures { IfOk result (λ t. t ≡ answer_text line program.now answer.now.reply answer.now.sync) }
 {

@@ -9,10 +9,10 @@ use Rattle.dms_runner.proofs.Lining.{goes_retried, retries_from, retries_part_fr
 use Rattle.dms_runner.proofs.lines.bad_line.Goals as goal
 
 pub retry_all-requires-clause-verbs : goal.retry_all-requires-clause-verbs
-retry_all-requires-clause-verbs g c = verbs_under (ap described (sym c.say.ensures.lasts.description)) c.requires.verbs
+retry_all-requires-clause-verbs g c = verbs_under _ (ap described (sym c.say.ensures.lasts.description)) c.requires.verbs
 
 pub returns-clause-verbs : goal.returns-clause-verbs
-returns-clause-verbs g c = verbs_under (ap described c.say.ensures.lasts.description) c.in_ok-retry_all.ensures.verbs
+returns-clause-verbs g c = verbs_under _ (ap described c.say.ensures.lasts.description) c.in_ok-retry_all.ensures.verbs
 
 pub returns-in_err-text-clause-part : goal.returns-in_err-text-clause-part
 returns-in_err-text-clause-part g c = λ now stands same line may. part_none _ _

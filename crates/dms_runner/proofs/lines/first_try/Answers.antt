@@ -14,10 +14,10 @@ use Rattle.dms_runner.proofs.Lining.{lined_as, goes_retried, retries_from, retri
 use Rattle.dms_runner.proofs.lines.first_try.Goals as goal
 
 pub retry_all-requires-clause-verbs : goal.retry_all-requires-clause-verbs
-retry_all-requires-clause-verbs g c = verbs_under (ap described (sym (c.say_answer.ensures.lasts.description ∙ c.call.ensures.lasts.description))) c.requires.verbs
+retry_all-requires-clause-verbs g c = verbs_under _ (ap described (sym (c.say_answer.ensures.lasts.description ∙ c.call.ensures.lasts.description))) c.requires.verbs
 
 pub returns-then-not-is_waits-clause-verbs : goal.returns-then-not-is_waits-clause-verbs
-returns-then-not-is_waits-clause-verbs g c = verbs_under (ap described (c.say_answer.ensures.lasts.description ∙ c.call.ensures.lasts.description)) c.in_ok-retry_all.ensures.verbs
+returns-then-not-is_waits-clause-verbs g c = verbs_under _ (ap described (c.say_answer.ensures.lasts.description ∙ c.call.ensures.lasts.description)) c.in_ok-retry_all.ensures.verbs
 
 pub returns-clause-verbs : goal.returns-clause-verbs
 returns-clause-verbs g c = verbs_pushed _ _ _ _ c.in_ok-push.ensures.items c.requires.verb c.requires.verbs

@@ -31,7 +31,7 @@ loop-i-preserved-then-is_passed g c =
     }
 
 pub try_at-requires-clause-verbs : goal.try_at-requires-clause-verbs
-try_at-requires-clause-verbs g c = verbs_under (ap described (sym c.loop-i.invariant.lasts.description)) c.loop-i.invariant.verbs
+try_at-requires-clause-verbs g c = verbs_under _ (ap described (sym c.loop-i.invariant.lasts.description)) c.loop-i.invariant.verbs
 
 pub returns-in_err-try_at-clause-part : goal.returns-in_err-try_at-clause-part
 returns-in_err-try_at-clause-part g c = λ s stands may.

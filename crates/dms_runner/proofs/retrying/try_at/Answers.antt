@@ -10,7 +10,7 @@ use Rattle.dms_runner.proofs.Verbs.{verb_read}
 use Rattle.dms_runner.proofs.retrying.try_at.Goals as goal
 
 pub try_line-requires-clause-verb : goal.try_line-requires-clause-verb
-try_line-requires-clause-verb g c = verb_read _ c.args.waiting.now c.args.i c.index-waiting-i.result c.requires.place c.index-waiting-i.is c.requires.verbs
+try_line-requires-clause-verb g c = verb_read (described c.args.engine.now.desc) c.args.waiting.now c.args.i c.index-waiting-i.result c.requires.place c.index-waiting-i.is c.requires.verbs
 
 pub returns-clause-part : goal.returns-clause-part
 returns-clause-part g c = λ h is s stands may.

@@ -21,7 +21,7 @@ use Rattle.dms_runner.proofs.run.run_lines.Goals as goal
 pub loop-line-init : goal.loop-line-init
 loop-line-init g c = record {
   lasts = lasts_none g.met.St.Store.same_again _ c.requires.sound;
-  verbs = verbs_in (sym c.new-waiting.ensures.items) tt;
+  verbs = verbs_in _ (sym c.new-waiting.ensures.items) tt;
   taken = refl;
   same_source = g.met.I.Source.same_again _;
   small = omega arith;
@@ -31,7 +31,7 @@ loop-line-init g c = record {
 }
 
 pub one_line-requires-clause-verbs : goal.one_line-requires-clause-verbs
-one_line-requires-clause-verbs g c = verbs_under (ap described (sym c.loop-line.invariant.lasts.description)) c.loop-line.invariant.verbs
+one_line-requires-clause-verbs g c = verbs_under _ (ap described (sym c.loop-line.invariant.lasts.description)) c.loop-line.invariant.verbs
 
 pub returns-in-Err-clause-part : goal.returns-in-Err-clause-part
 returns-in-Err-clause-part g c = λ db first all stands small remains.
@@ -115,7 +115,7 @@ returns-in-Ok-false-clause-same_source g c = g.met.I.Source.same_then _ _ _ c.lo
 pub loop-line-preserved : goal.loop-line-preserved
 loop-line-preserved g c = record {
   lasts = run_on_lasts g.met.St.Store.same_then c.loop-line.invariant.lasts c.in-Ok-true.ensures.lasts;
-  verbs = verbs_under (ap described c.loop-line.invariant.lasts.description) c.in-Ok-true.ensures.verbs;
+  verbs = verbs_under _ (ap described c.loop-line.invariant.lasts.description) c.in-Ok-true.ensures.verbs;
   taken = c.in-Ok-true.ensures.clean (no_fault _ _) ∙ c.loop-line.invariant.taken;
   same_source = g.met.I.Source.same_then _ _ _ c.loop-line.invariant.same_source c.one_line.ensures.same_source;
   small = omega (arith, c.loop-line.invariant.small, c.one_line.ensures.room);
