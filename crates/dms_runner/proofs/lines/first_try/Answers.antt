@@ -20,7 +20,7 @@ pub returns-then-not-is_waits-clause-verbs : goal.returns-then-not-is_waits-clau
 returns-then-not-is_waits-clause-verbs g c = verbs_under _ (ap described (c.say_answer.ensures.lasts.description ∙ c.call.ensures.lasts.description)) c.in_ok-retry_all.ensures.verbs
 
 pub returns-clause-verbs : goal.returns-clause-verbs
-returns-clause-verbs g c = verbs_pushed _ _ _ _ c.in_ok-push.ensures.items c.requires.verb c.requires.verbs
+returns-clause-verbs g c = verbs_pushed (described c.args.engine.now.desc) _ _ _ c.in_ok-push.ensures.items c.requires.verb c.requires.verbs
 
 pub returns-in_err-answer-clause-part : goal.returns-in_err-answer-clause-part
 returns-in_err-answer-clause-part g c = λ now stands same line may.

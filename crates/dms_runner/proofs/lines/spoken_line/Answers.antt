@@ -29,7 +29,7 @@ returns-then-not-has_line-clause-part g c = λ now stands same line may.
     subst (λ (l : LineEffect). PerformsPrefix (IsCutShort c.first_try.result) (seen c.args.engine.now) (seen c.first_try.new.engine) l.events) (sym (spoken_tried (described c.args.engine.now.desc) now c.args.name c.args.verb has)) (c.first_try.ensures.part now stands same line may)
 
 pub returns-clause-verbs : goal.returns-clause-verbs
-returns-clause-verbs g c = verbs_pushed _ _ _ _ c.in_ok-push.ensures.items c.requires.verb c.requires.verbs
+returns-clause-verbs g c = verbs_pushed (described c.args.engine.now.desc) _ _ _ c.in_ok-push.ensures.items c.requires.verb c.requires.verbs
 
 pub returns-then-len-ge-WAITING_LINES-clause-lined : goal.returns-then-len-ge-WAITING_LINES-clause-lined
 returns-then-len-ge-WAITING_LINES-clause-lined g c = λ now stands same line may.

@@ -59,7 +59,7 @@ loop-i-preserved g c =
     let h = line_at c.loop-i.waiting c.loop-i.i (omega (arith, c.loop-i-test.true, c.loop-i.invariant.long)) in
     record {
       lasts = lasts_on g.met.St.Store.same_then c.loop-i.invariant.lasts c.in_ok-try_at.ensures.lasts;
-      verbs = verbs_noted _ _ _ _ h.0 h.1 (c.note_waiting.ensures.noted h.0 h.1) c.loop-i.invariant.verbs;
+      verbs = verbs_noted (described c.args.engine.now.desc) _ _ _ h.0 h.1 (c.note_waiting.ensures.noted h.0 h.1) c.loop-i.invariant.verbs;
       long = c.note_waiting.ensures.long ∙ c.loop-i.invariant.long;
       passing = λ s stands may.
           let p = c.loop-i.invariant.passing s stands may in

@@ -19,12 +19,12 @@ loop-turn-init g c = record {
 }
 
 pub pass-requires-clause-verbs : goal.pass-requires-clause-verbs
-pass-requires-clause-verbs g c = verbs_in _ (sym c.as_mut_slice.ensures.value) (verbs_under _ (ap described (sym c.loop-turn.invariant.lasts.description)) c.loop-turn.invariant.verbs)
+pass-requires-clause-verbs g c = verbs_in (described c.loop-turn.engine.desc) (sym c.as_mut_slice.ensures.value) (verbs_under _ (ap described (sym c.loop-turn.invariant.lasts.description)) c.loop-turn.invariant.verbs)
 
 pub returns-in-None-clause-verbs : goal.returns-in-None-clause-verbs
 returns-in-None-clause-verbs g c =
     let back = written c.loop-turn.waiting.items c.pass.new.waiting c.loop-turn.waiting.len c.loop-turn.waiting.ok.0 (c.pass.ensures.long ∙ ap length c.as_mut_slice.ensures.value) in
-    verbs_in _ (sym back) (verbs_under _ (ap described c.loop-turn.invariant.lasts.description) c.in_ok-pass.ensures.verbs)
+    verbs_in (described c.args.engine.now.desc) (sym back) (verbs_under _ (ap described c.loop-turn.invariant.lasts.description) c.in_ok-pass.ensures.verbs)
 
 pub returns-in_err-pass-clause-part : goal.returns-in_err-pass-clause-part
 returns-in_err-pass-clause-part g c = λ s stands room held.
@@ -52,8 +52,8 @@ loop-turn-preserved g c = record {
   verbs =
       let back = written c.loop-turn.waiting.items c.pass.new.waiting c.loop-turn.waiting.len c.loop-turn.waiting.ok.0 (c.pass.ensures.long ∙ ap length c.as_mut_slice.ensures.value) in
       let place : c.in-Some.i < length c.pass.new.waiting = rw c.in-Some.is at c.in_ok-pass.ensures.place in
-      verbs_in _ (sym (c.remove-answered.ensures.items ∙ ap (λ (l : List WaitingLine). remove l c.in-Some.i) back))
-      (verbs_removed _ c.pass.new.waiting c.in-Some.i place (verbs_under _ (ap described c.loop-turn.invariant.lasts.description) c.in_ok-pass.ensures.verbs));
+      verbs_in (described c.args.engine.now.desc) (sym (c.remove-answered.ensures.items ∙ ap (λ (l : List WaitingLine). remove l c.in-Some.i) back))
+      (verbs_removed (described c.args.engine.now.desc) c.pass.new.waiting c.in-Some.i place (verbs_under _ (ap described c.loop-turn.invariant.lasts.description) c.in_ok-pass.ensures.verbs));
   retrying = λ s stands room held.
       let k = c.loop-turn.invariant.retrying s stands room held in
       let back = written c.loop-turn.waiting.items c.pass.new.waiting c.loop-turn.waiting.len c.loop-turn.waiting.ok.0 (c.pass.ensures.long ∙ ap length c.as_mut_slice.ensures.value) in

@@ -21,7 +21,7 @@ use Rattle.dms_runner.proofs.run.run_lines.Goals as goal
 pub loop-line-init : goal.loop-line-init
 loop-line-init g c = record {
   lasts = lasts_none g.met.St.Store.same_again _ c.requires.sound;
-  verbs = verbs_in _ (sym c.new-waiting.ensures.items) tt;
+  verbs = verbs_in (described c.args.engine.now.desc) (sym c.new-waiting.ensures.items) tt;
   taken = refl;
   same_source = g.met.I.Source.same_again _;
   small = omega arith;
