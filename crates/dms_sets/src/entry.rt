@@ -35,8 +35,8 @@ fn item_copy(alloc: Global, values: &[Value], item: u8) -> Result<Value, Memory>
     }
 }
 
-// The key of a record.
-fn key_of(alloc: Global, parts: &[KeyPart], values: &[Value]) -> Result<Values, Memory>
+/// The key of a record.
+pub fn key_of(alloc: Global, parts: &[KeyPart], values: &[Value]) -> Result<Values, Memory>
     ensures { IfOk result (λ k. k ≡ key_of parts.now values.now) }
 {
     let mut key = Values::new(alloc);

@@ -1,0 +1,6 @@
+pub mod ByKind
+pub mod Looking
+pub mod Members
+pub mod Numbers
+pub mod Served
+pub mod Standing

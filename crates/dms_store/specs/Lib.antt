@@ -16,3 +16,5 @@ pub mod ScanSteps
 pub mod Looked
 pub mod SetPaths
 pub mod PathLaws
+pub mod Listed
+pub mod StoreLaws

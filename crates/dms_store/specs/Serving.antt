@@ -1,6 +1,7 @@
 -- The descriptions that a store on blocks can keep a database under: those that a schema can have.
 use Rattle.std.specs.Prelude.{◌≡◌, ◌≤◌, [], true, Some, length}
 use Rattle.std.specs.List.{AllByRecursion}
+use Rattle.dms_desc.specs.Lookups.{structure_of}
 use Rattle.dms_desc.specs.Shape.{Shape, Described}
 use Rattle.dms_layout.specs.Slots.{AreKinds, slot_width}
 use Rattle.dms_model.specs.Valid.{is_data_set}
@@ -20,10 +21,12 @@ pub record IsServedShape (s : Shape) : Type 0 where
   pub population : s.population ≤ 1000000
   pub keyless : is_data_set (Some s) ≡ true → s.parts ≡ []
 
--- a set or automatic subset: its key and its condition name items of its data set that are no links, and an entry has at
--- most 104 bytes
+-- a set or automatic subset: its records are those of a data set, its key and its condition name items of that which are no
+-- links, the key has at most 16 parts, and an entry at most 104 bytes
 pub record IsServedSet (desc : Described) (s : Shape) : Type 0 where
+  pub data_set : is_data_set (structure_of desc s.set) ≡ true
   pub named : IsNamed desc s
+  pub few : length s.parts ≤ 16
   pub width : entry_width (kinds_over desc s) s.parts ≤ 104
 
 -- at most 200 structures, numbered in their order

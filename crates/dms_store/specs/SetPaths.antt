@@ -89,18 +89,19 @@ kind_at (x ∷ xs) zero item kinds at = subst (λ (y : Item). IsKind y.kind) (so
     some_one x y h = cc
 kind_at (x ∷ xs) (suc i) item kinds at = kind_at xs i item kinds.1 at
 
-got : (items : List Item) (i : ℕ) (item : Item) → slice_get items i ≡ Some item → slice_get (kinds_of items) i ≡ Some item.kind
-got [] i item h = absurd (cc)
-got (x ∷ xs) zero item h = ap (λ (y : Item). Some y.kind) (some_one x item h)
+-- the kind of an item
+pub kind_there : (items : List Item) (i : ℕ) (item : Item) → slice_get items i ≡ Some item → slice_get (kinds_of items) i ≡ Some item.kind
+kind_there [] i item h = absurd (cc)
+kind_there (x ∷ xs) zero item h = ap (λ (y : Item). Some y.kind) (some_one x item h)
   where
     some_one : (x y : Item) → ◌≡◌ {A = Option Item} (Some x) (Some y) → x ≡ y
     some_one x y h = cc
-got (x ∷ xs) (suc i) item h = got xs i item h
+kind_there (x ∷ xs) (suc i) item h = kind_there xs i item h
 
 part_fits : (items : List Item) (p : KeyPart) (v : Value) (o : Option Item) → slice_get items (p.item - 1) ≡ o → AreKinds items → fits_item o v ≡ true → IsPlain v → bytes.FitsPart (bytes.kind_of (kinds_of items) p) v
 part_fits items p v None at kinds fit plain = absurd (cc)
 part_fits items p v (Some item) at kinds fit plain =
-    subst (λ (k : Option ItemKind). bytes.FitsPart k v) (sym (got items (p.item - 1) item at)) (record { kind = kind_at items (p.item - 1) item kinds at; fits = fit; plain = plain })
+    subst (λ (k : Option ItemKind). bytes.FitsPart k v) (sym (kind_there items (p.item - 1) item at)) (record { kind = kind_at items (p.item - 1) item kinds at; fits = fit; plain = plain })
 
 keys_fit : (items : List Item) (ps : List KeyPart) (key : List Value) → AreKinds items → key_fits ps items key ≡ true → ArePlain key → bytes.KeyFits (kinds_of items) ps key
 keys_fit items ps [] kinds fit plain = tt
@@ -125,13 +126,18 @@ kinds_at desc (Some s) n served at = (served_at desc n s served at).kinds
 kept_apart : (s : Shape) → is_kept s ≡ true → (s.kind == 5) ≡ false
 kept_apart s h = let both = both_of (nat_lt 2 s.kind) (nat_lt s.kind 5) h in grind (arith, nat_tests, both.1)
 
+-- what may be looked for in a path may be looked for in its list
+pub may_look : (desc : Described) (path : ℕ) (s : Shape) → IsServed desc → structure_of desc path ≡ Some s → (owner : ℕ) (bound : Bound) → MayStart desc path owner bound
+    → bounds.BoundKeyFits (kinds_over desc s) s.parts bound × BoundSmall (kinds_over desc s) s.parts bound
+may_look desc path s served at owner bound may =
+    bound_fits (items_over desc s) s.parts bound (kinds_at desc (structure_of desc (over s)) (over s) served refl)
+    (subst (λ (o : Option Shape). fitting.BoundFits (parts_of o) (items_of (structure_of desc (over_of o))) bound) at may.fits)
+
 -- The first member of a set or automatic subset behind a bound, and the last one before it, are those of one look at the list
 -- of its file.
 module _ (desc : Described) (path : ℕ) (s : Shape) (c : Content) (served : IsServed desc) (at : structure_of desc path ≡ Some s) (kept : is_kept s ≡ true) (spelt : is_spelled desc c ≡ true) (owner : ℕ) (bound : Bound) (may : MayStart desc path owner bound) where
   fitted : bounds.BoundKeyFits (kinds_over desc s) s.parts bound × BoundSmall (kinds_over desc s) s.parts bound
-  fitted =
-      bound_fits (items_over desc s) s.parts bound (kinds_at desc (structure_of desc (over s)) (over s) served refl)
-      (subst (λ (o : Option Shape). fitting.BoundFits (parts_of o) (items_of (structure_of desc (over_of o))) bound) at may.fits)
+  fitted = may_look desc path s served at owner bound may
 
   is_told : spelled desc c ≡ Some (db_in desc c)
   is_told = ap (λ t. some_if t (db_in desc c)) spelt

@@ -1,9 +1,9 @@
-ghost use Rattle.std.specs.Prelude.{◌≡◌, IfOk, IfSome};
+ghost use Rattle.std.specs.Prelude.{◌≡◌, IfOk, IfSome, Some};
 ghost use Rattle.std.specs.FinMap.{get};
 ghost use Rattle.dms_block.specs.Held.{HasCausesOr};
 ghost use Rattle.dms_block.specs.View.{ReadsOverlay, under};
-ghost use Rattle.dms_desc.specs.Shape.{described};
-ghost use Rattle.dms_model.specs.Fitting.{IsDataSet, IsNumber, RecordFits};
+ghost use Rattle.dms_desc.specs.Shape.{described, shape_of};
+ghost use Rattle.dms_model.specs.Fitting.{IsDataSet, IsNumber, RecordFits, is_number};
 ghost use Rattle.dms_model.specs.Stores.{Tells};
 ghost use Rattle.dms_slots.specs.SlotBlocks.{slot_opt};
 ghost use Rattle.dms_store.specs.Finding.{BadSlot};
@@ -11,7 +11,7 @@ ghost use Rattle.dms_store.specs.Lifted.{IsUsable, db_of};
 ghost use Rattle.dms_store.specs.Rows.{rec_opt};
 
 use dms_block::{BlockFault, Blocks, Overlay};
-use dms_desc::{Description, Record};
+use dms_desc::{Description, Record, Structure};
 use dms_layout::Slot;
 use dms_slots::read_slot;
 use std::alloc::Global;
@@ -26,7 +26,14 @@ fn record_of(slot: Option<Slot>) -> Option<Record>
     }
 }
 
-/// The record of a data set with this number, or none.
+// Whether a record of a data set may have this number.
+fn is_number(s: &Structure, number: u64) -> bool
+    ensures { result ≡ is_number (Some (shape_of s.now)) number }
+{
+    1 <= number && number <= u64::from(s.population)
+}
+
+/// The record of a data set with this number, or none. A number that no record may have is none without a read.
 pub fn get<B: Blocks>(
     over: &mut Overlay<B>,
     alloc: Global,
@@ -36,17 +43,22 @@ pub fn get<B: Blocks>(
 ) -> Result<Option<Record>, BlockFault>
     requires usable { IsUsable (described desc.now) over.old }
     requires set { IsDataSet (described desc.now) set }
-    requires number { IsNumber (described desc.now) set number }
     ensures found { Tells (db_of (described desc.now) (under over.old).told (under over.old).content) result (λ d. get d.records (set, number)) }
     ensures fits { IfOk result (λ o. IfSome o (RecordFits (described desc.now) set)) }
+    ensures number { IfOk result (λ o. IfSome o (λ r. IsNumber (described desc.now) set number)) }
     ensures reads { ReadsOverlay 1 result over.old over.new }
     ensures causes { HasCausesOr (BadSlot (described desc.now) set over.old) result (under over.old) (under over.new) }
 {
     match desc.structure(set) {
         None => Ok(None),
-        Some(s) => match read_slot(over, alloc, s, number) {
-            Err(e) => Err(e),
-            Ok(slot) => Ok(record_of(slot)),
-        },
+        Some(s) => {
+            if !is_number(s, number) {
+                return Ok(None);
+            }
+            match read_slot(over, alloc, s, number) {
+                Err(e) => Err(e),
+                Ok(slot) => Ok(record_of(slot)),
+            }
+        }
     }
 }

@@ -3,9 +3,11 @@ ghost use Rattle.std.specs.FinMap.{get};
 ghost use Rattle.dms_block.specs.Content.{Content};
 ghost use Rattle.dms_desc.specs.declared.record.Record.{Record};
 ghost use Rattle.dms_desc.specs.Shape.{Described};
+ghost use Rattle.dms_desc_bytes.specs.WellFormed.{IsWellFormed};
 ghost use Rattle.dms_laws.specs.Sound.{IsFlat};
 ghost use Rattle.dms_model.specs.Db.{Db, Place, empty_db};
 ghost use Rattle.dms_sets.specs.Spots.{RecordsFit};
+ghost use Rattle.dms_store.specs.Serving.{IsServed};
 ghost use Rattle.dms_store.specs.Spelled.{spelled};
 ghost use Rattle.dms_store.specs.SpelledLaws.{IsFormed, AreDisjoint, RecordStands};
 
@@ -23,4 +25,9 @@ pub fn spelled_law()
         → (place : Place) (rec : Record) → get db.records place ≡ Some rec → RecordStands desc db place rec }
     ensures fits { (desc : Described) (c : Content) (db : Db) → IsFormed desc → spelled desc c ≡ Some db → RecordsFit desc db }
     ensures flat { (desc : Described) (c : Content) (db : Db) → IsFormed desc → AreDisjoint desc → spelled desc c ≡ Some db → IsFlat desc db }
+{}
+
+/// A law: each description that a schema can have is one that a store on blocks can keep a database under.
+pub fn served_law()
+    ensures { (desc : Described) → IsWellFormed desc → IsServed desc }
 {}

@@ -1,14 +1,19 @@
 //! What the blocks of structure files spell, and a database that is kept on them.
 #![tactic(auto)]
 
+mod bounds;
+mod entries;
 mod finding;
 mod getting;
 mod laws;
+mod listed;
 mod note;
+mod paths;
 mod scanning;
 mod store;
 
 pub use finding::{first_record, last_record};
 pub use getting::get;
-pub use laws::{empty_law, spelled_law};
+pub use laws::{empty_law, served_law, spelled_law};
+pub use paths::{first_from, last_to};
 pub use store::BlockStore;

@@ -4,7 +4,8 @@ ghost use Rattle.dms_block.specs.Texts.{Prints};
 ghost use Rattle.dms_block.specs.View.{written};
 ghost use Rattle.dms_desc.specs.Shape.{described};
 ghost use Rattle.dms_model.specs.Db.{Db};
-ghost use Rattle.dms_model.specs.Fitting.{IsDataSet, IsNumber, RecordFits};
+ghost use Rattle.dms_model.specs.Fitting.{IsDataSet, IsStructure, MayStart, RecordFits, SpotFits};
+ghost use Rattle.dms_model.specs.Members.{first_member, last_member};
 ghost use Rattle.dms_model.specs.Points.{Leaves};
 ghost use Rattle.dms_model.specs.Seen.{GoesBack, HasCauses, IfTold, IsMute, IsSilent, Keeps, KeepsPoints, MadeQuiet, MadeDurable, SaysPart, Syncs};
 ghost use Rattle.dms_store.specs.Lifted.{IsUsable, Serves};
@@ -13,11 +14,12 @@ ghost use Rattle.dms_store.specs.Looked.{Looked};
 ghost use Rattle.dms_store.specs.Storing.{seen_by};
 ghost use Rattle.std.specs.FinMap.{get};
 
-use crate::getting;
 use crate::note::note;
+use crate::{getting, paths};
 use dms_base::Memory;
 use dms_block::{BlockFault, Blocks, Overlay};
-use dms_desc::{Description, Record};
+use dms_desc::{Bound, Description, Record};
+use dms_model::Spot;
 use std::alloc::Global;
 
 /// A database on blocks. Between two calls nothing is written over them.
@@ -55,7 +57,7 @@ impl<B: Blocks> BlockStore<B> {
         self.over.into_below()
     }
 
-    /// The record of a data set with this number, or none.
+    /// The record of a data set with this number, or none. A number that no record may have is none without a read.
     pub fn get(
         &mut self,
         alloc: Global,
@@ -64,7 +66,6 @@ impl<B: Blocks> BlockStore<B> {
     ) -> Result<Option<Record>, BlockFault>
         requires sound { IsUsable (described self.old.desc) self.old.over }
         requires set { IsDataSet (described self.old.desc) set }
-        requires number { IsNumber (described self.old.desc) set number }
         ensures desc { self.new.desc ≡ self.old.desc }
         ensures found { Tells (seen_by self.old).db result (λ d. get d.records (set, number)) }
         ensures fits { IfOk result (λ o. IfSome o (RecordFits (described self.old.desc) set)) }
@@ -72,6 +73,50 @@ impl<B: Blocks> BlockStore<B> {
         ensures same { B.same_blocks self.old.over.below self.new.over.below }
     {
         let found = getting::get(&mut self.over, alloc, &self.desc, set, number);
+        note(&mut self.found, found)
+    }
+
+    /// The first member of a structure, for an owner (0 where it is disjoint), behind a bound. It is the database's where
+    /// the bound's key fits the structure's. A manual subset has no member yet.
+    pub fn first_from(
+        &mut self,
+        alloc: Global,
+        path: u16,
+        owner: u64,
+        from: &Bound,
+    ) -> Result<Option<Spot>, BlockFault>
+        requires sound { IsUsable (described self.old.desc) self.old.over }
+        requires path { IsStructure (described self.old.desc) path }
+        requires owner { owner < 2 ^ 32 }
+        ensures desc { self.new.desc ≡ self.old.desc }
+        ensures found { MayStart (described self.old.desc) path owner from.now → Tells (seen_by self.old).db result (λ d. first_member (described self.old.desc) d path owner from.now) }
+        ensures fits { IfOk result (λ o. IfSome o (SpotFits (described self.old.desc) path)) }
+        ensures looked { Looked result (seen_by self.old) (seen_by self.new) }
+        ensures same { B.same_blocks self.old.over.below self.new.over.below }
+    {
+        let found = paths::first_from(&mut self.over, alloc, &self.desc, path, owner, from);
+        note(&mut self.found, found)
+    }
+
+    /// The last member of a structure, for an owner (0 where it is disjoint), before a bound. It is the database's where
+    /// the bound's key fits the structure's. A manual subset has no member yet.
+    pub fn last_to(
+        &mut self,
+        alloc: Global,
+        path: u16,
+        owner: u64,
+        to: &Bound,
+    ) -> Result<Option<Spot>, BlockFault>
+        requires sound { IsUsable (described self.old.desc) self.old.over }
+        requires path { IsStructure (described self.old.desc) path }
+        requires owner { owner < 2 ^ 32 }
+        ensures desc { self.new.desc ≡ self.old.desc }
+        ensures found { MayStart (described self.old.desc) path owner to.now → Tells (seen_by self.old).db result (λ d. last_member (described self.old.desc) d path owner to.now) }
+        ensures fits { IfOk result (λ o. IfSome o (SpotFits (described self.old.desc) path)) }
+        ensures looked { Looked result (seen_by self.old) (seen_by self.new) }
+        ensures same { B.same_blocks self.old.over.below self.new.over.below }
+    {
+        let found = paths::last_to(&mut self.over, alloc, &self.desc, path, owner, to);
         note(&mut self.found, found)
     }
 

@@ -1,0 +1,70 @@
+use Rattle.std.proofs.Common.{◌≡◌, ◌∙◌, ◌≤◌, List, ℕ, true, Option, Some, None, Ok, subst, sym}
+use Rattle.dms_base.specs.declared.bytes.Bytes.{Bytes}
+use Rattle.dms_block.specs.View.{seen_counts, under}
+use Rattle.dms_desc.specs.Shape.{described, shape_of}
+use Rattle.dms_model.specs.declared.spot.Spot.{Spot}
+use Rattle.dms_model.specs.Stores.{Tells}
+use Rattle.dms_ordlist.specs.Lists.{has_entry, last_to}
+use Rattle.dms_ordlist.specs.Seen.{IfList, NoList}
+use Rattle.dms_ordlist.specs.SeenLaws.{causes_err, causes_since}
+use Rattle.dms_sets.specs.Finds.{spot_by}
+use Rattle.dms_sets.specs.Padded.{entry_width, to_bytes}
+use Rattle.dms_sets.specs.Sets.{kinds_over}
+use Rattle.dms_slots.specs.SlotBlocks.{file_of}
+use Rattle.dms_store.specs.Lifted.{db_of}
+use Rattle.dms_store.specs.LiftedLaws.{db_same}
+use Rattle.dms_store.specs.Listed.{BadEntry, BadPath, MayLook}
+use Rattle.dms_store.proofs.Members.{entry_path, last_path, list_path, tells_none}
+use Rattle.dms_store.proofs.paths.last_listed.Goals as goal
+
+pub returns-in-Err-clause-causes : goal.returns-in-Err-clause-causes
+returns-in-Err-clause-causes g c =
+    let desc = described c.args.desc.now in
+    let o = c.args.over.now in
+    let s = shape_of c.args.s.now in
+    let ks = c.as_slice.result.now in
+    let is : ks ≡ kinds_over desc s = c.as_slice.ensures.value ∙ c.in_ok-kinds.ensures in
+    causes_err (Option Bytes) (Option Spot) (NoList o (file_of s.number) (entry_width ks s.parts)) (BadPath desc s.number o) c.in-Err.e (under o) (under c.last_entry.new.over)
+    (λ f n h. list_path desc s c.requires.usable.serves.served c.requires.there c.requires.kept o c.requires.usable ks is f n h) c.in-Err.ensures.causes
+
+pub returns-in-Ok-None-clause-found : goal.returns-in-Ok-None-clause-found
+returns-in-Ok-None-clause-found g c may =
+    let desc = described c.args.desc.now in
+    let o = c.args.over.now in
+    let s = shape_of c.args.s.now in
+    let ks = c.as_slice.result.now in
+    let is : ks ≡ kinds_over desc s = c.as_slice.ensures.value ∙ c.in_ok-kinds.ensures in
+    last_path desc s c.requires.usable.serves.served c.requires.there c.requires.kept o c.requires.usable ks is c.args.owner c.args.to.now may None (Ok None)
+    (rw c.in-Ok-None.field-0-is at c.in-Ok-None.ensures.found) (tells_none s c.args.owner (db_of desc (under o).told (under o).content))
+
+pub returns-clause-found : goal.returns-clause-found
+returns-clause-found g c may =
+    let desc = described c.args.desc.now in
+    let o = c.args.over.now in
+    let o' = c.last_entry.new.over in
+    let s = shape_of c.args.s.now in
+    let ks = c.as_slice.result.now in
+    let is : ks ≡ kinds_over desc s = c.as_slice.ensures.value ∙ c.in_ok-kinds.ensures in
+    let q = c.as_slice-in-Ok-Some-2.result.now in
+    let reads = c.in-Ok-Some.ensures.reads in
+    let same = db_same desc (under o).told (under o').told (under o).content (under o').content reads.looks.passes.lasts.told reads.looks.same.content in
+    last_path desc s c.requires.usable.serves.served c.requires.there c.requires.kept o c.requires.usable ks is c.args.owner c.args.to.now may (Some q) c.member_at.result
+    (subst (λ (p : List ℕ). MayLook ks s.parts c.args.to.now → IfList o (file_of s.number) (entry_width ks s.parts) (λ xs. Some p ≡ last_to (to_bytes ks s.parts c.args.owner c.args.to.now) xs))
+    (sym c.as_slice-in-Ok-Some-2.ensures) (rw c.in-Ok-Some.field-0-is at c.in-Ok-Some.ensures.found))
+    (subst (λ d. Tells d c.member_at.result (λ e. spot_by s e c.args.owner (Some q))) same c.member_at.ensures.found)
+
+pub returns-clause-causes : goal.returns-clause-causes
+returns-clause-causes g c =
+    let desc = described c.args.desc.now in
+    let o = c.args.over.now in
+    let o' = c.last_entry.new.over in
+    let s = shape_of c.args.s.now in
+    let ks = c.as_slice.result.now in
+    let is : ks ≡ kinds_over desc s = c.as_slice.ensures.value ∙ c.in_ok-kinds.ensures in
+    let q = c.as_slice-in-Ok-Some-2.result.now in
+    let reads = c.in-Ok-Some.ensures.reads in
+    let some : 1 ≤ seen_counts o (file_of s.number) = rw c.in-Ok-Some.field-0-is at c.in-Ok-Some.ensures.there in
+    let listed : IfList o (file_of s.number) (entry_width ks s.parts) (λ xs. has_entry q xs ≡ true) =
+    subst (λ (p : List ℕ). IfList o (file_of s.number) (entry_width ks s.parts) (λ xs. has_entry p xs ≡ true)) (sym c.as_slice-in-Ok-Some-2.ensures) (rw c.in-Ok-Some.field-0-is at c.in-Ok-Some.ensures.listed) in
+    causes_since {U = Option Spot} (BadEntry desc s q o') (BadPath desc s.number o) c.member_at.result o o' c.member_at.new.over
+    (entry_path desc s c.requires.usable.serves.served c.requires.there c.requires.kept o c.requires.usable ks is o' q reads some listed) c.in-Ok-Some.ensures.causes reads c.member_at.ensures.causes

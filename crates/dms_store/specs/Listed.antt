@@ -1,0 +1,52 @@
+-- The members of sets and automatic subsets, and what an entry of their lists stands for.
+use Rattle.std.specs.Prelude.{ℕ, ◌≡◌, ◌<◌, ◌+◌, ◌⊎◌, List, Bool, false, Some, None, if◌then◌else◌}
+use Rattle.std.specs.declared.option.Option.{Option}
+use Rattle.std.specs.FinMap.{get}
+use Rattle.std.specs.Str.{bytes_eq}
+use Rattle.dms_base.specs.declared.kind.ItemKind.{ItemKind}
+use Rattle.dms_block.specs.declared.blocks.Blocks.{Ghosts}
+use Rattle.dms_block.specs.declared.overlay.Overlay.{Overlay}
+use Rattle.dms_block.specs.View.{seen_counts, under}
+use Rattle.dms_desc.specs.declared.bound.Bound.{Bound}
+use Rattle.dms_desc.specs.declared.record.Record.{Record}
+use Rattle.dms_desc.specs.declared.structure.KeyPart.{KeyPart}
+use Rattle.dms_desc.specs.Lookups.{set_of, structure_of}
+use Rattle.dms_desc.specs.Shape.{Shape, Described}
+use Rattle.dms_model.specs.Db.{Db}
+use Rattle.dms_model.specs.Fitting.{population_of}
+use Rattle.dms_model.specs.Valid.{is_data_set}
+use Rattle.dms_sets.specs.Bounds.{BoundKeyFits}
+use Rattle.dms_sets.specs.Padded.{BoundSmall}
+use Rattle.dms_sets.specs.Sets.{entry_of, kinds_over, place_in_entry}
+use Rattle.dms_slots.specs.SlotBlocks.{file_of}
+use Rattle.dms_store.specs.Finding.{BadSlot}
+use Rattle.dms_store.specs.Lifted.{db_of}
+
+-- the key of a bound fits, and the number behind that of a bound is one of four bytes
+abbrev pub MayLook : List ItemKind → List KeyPart → Bound → Type 0
+MayLook kinds ps bound = BoundKeyFits kinds ps bound × BoundSmall kinds ps bound
+
+-- these bytes are an entry
+abbrev pub is_entry : Option (List ℕ) → List ℕ → Bool
+is_entry None bytes = false
+is_entry (Some own) bytes = bytes_eq own bytes
+
+-- an entry of a set stands for a record of the database
+abbrev pub StandsFor : Described → Shape → Db → List ℕ → Type 0
+StandsFor desc s d q = (r : Record) × (get d.records (place_in_entry s q) ≡ Some r) × (entry_of (kinds_over desc s) s (place_in_entry s q) r ≡ Some q)
+
+module _ {B : Type 0} {g : Ghosts B} where
+  -- a block of the data set isn't one of slots, or an entry of the set stands for no record: then the first block of the set's file is named
+  abbrev pub BadEntry : Described → Shape → List ℕ → Overlay B g → ℕ → ℕ → Type 0
+  BadEntry desc s q o f b = BadSlot desc s.set o f b
+      ⊎ ((f ≡ file_of s.number) × (b ≡ 0) × ((d : Db) → db_of desc (under o).told (under o).content ≡ Some d → StandsFor desc s d q → ⊥))
+
+  -- how many blocks a look at the members of a structure reads at most
+  abbrev pub most_reads : Described → ℕ → Overlay B g → ℕ
+  most_reads desc path o = if is_data_set (structure_of desc path) then population_of (structure_of desc path) else 2 + seen_counts o (file_of path)
+
+-- A block of the structure's file, or of its data set's, of blocks of which no database is told.
+pub record BadPath {B : Type 0} {g : Ghosts B} (desc : Described) (path : ℕ) (o : Overlay B g) (f b : ℕ) : Type 0 where
+  pub file : (f ≡ file_of path) ⊎ (f ≡ file_of (set_of desc path))
+  pub there : b < seen_counts o f
+  pub untold : (d : Db) → db_of desc (under o).told (under o).content ≡ Some d → ⊥
