@@ -16,3 +16,15 @@ pub mod ScanSteps
 pub mod Looked
 pub mod SetPaths
 pub mod PathLaws
+pub mod PuttingCounts
+pub mod PuttingSlots
+pub mod PuttingSteps
+pub mod PuttingAfter
+pub mod PuttingLaws
+pub mod PuttingFresh
+pub mod Putting
+pub mod PuttingAnswers
+pub mod PuttingOver
+pub mod PuttingCalls
+pub mod PuttingEnters
+pub mod PuttingJudged

@@ -28,14 +28,6 @@ pub record Looked {T : Type 0} (result : Result T BlockFault) (old new : store.S
   pub room : NotFull result
   pub causes : store.HasCauses result old new
 
-roomy : {T : Type 0} (r : Result T BlockFault) → NotFull r → store.Roomy r
-roomy (Ok x) h = tt
-roomy (Err Disk) h = tt
-roomy (Err Memory) h = tt
-roomy (Err (Full f)) h = h
-roomy (Err (Damaged f b)) h = tt
-roomy (Err Say) h = tt
-
 mute_or : {T : Type 0} (P : ℕ → ℕ → Type 0) (r : Result T BlockFault) (a b : Held) → HasCausesOr P r a b → IsErrOf r Say → ⊥
 mute_or P (Ok x) a b h is = absurd (cc)
 mute_or P (Err Disk) a b h is = absurd (cc)
@@ -53,7 +45,7 @@ module _ {B : Type 0} {g : Ghosts B} (desc : Described) (found found' : ℕ) (o 
     effort = reads_effort desc o o' reads;
     undamaged = λ d told. undamaged_or desc (under o) usable.serves agrees d told P r (under o') (none d told) cause;
     mute_fault = mute_or P r (under o) (under o') cause;
-    room = roomy r reads.looks.not_full;
+    room = reads.looks.not_full;
     causes = causes_lifted desc (IsUsable desc o) (IsUsable desc o') found found' (under o) (under o') r reads.looks.passes.lasts reads.looks.uses.not_fewer
         (causes_noted (under o) (under o') found found' small P r noted cause);
   }
