@@ -28,3 +28,6 @@ pub mod PuttingOver
 pub mod PuttingCalls
 pub mod PuttingEnters
 pub mod PuttingJudged
+pub mod PuttingNumbers
+pub mod PuttingPlaced
+pub mod PuttingStore

@@ -25,6 +25,12 @@ IsSeenAfter desc db set rec c (Stored n) = spelled desc c ≡ Some (put_after (S
 IsSeenAfter desc db set rec c (Duplicate s) = ⊤
 IsSeenAfter desc db set rec c Full = ⊤
 
--- The answer is that of storing the record in the database that the old content spells, and what is then seen spells the one with it.
+-- The answer is that of storing the record in the database that the old content spells, and where the record is stored what is then
+-- seen spells the one with it.
+abbrev pub AnswersOver : Described → Content → Content → ℕ → Option ℕ → Record → Put → Type 0
+AnswersOver desc c d set number rec answer = (db : Db) → spelled desc c ≡ Some db → MayStore desc db set number rec → (answer ≡ put_answer desc db set number rec) × IsSeenAfter desc db set rec d answer
+
+-- The answer is that of storing the record in the database that the old content spells, and the new content spells the database after it.
 abbrev pub Answers : Described → Content → Content → ℕ → Option ℕ → Record → Put → Type 0
-Answers desc c d set number rec answer = (db : Db) → spelled desc c ≡ Some db → MayStore desc db set number rec → (answer ≡ put_answer desc db set number rec) × IsSeenAfter desc db set rec d answer
+Answers desc c d set number rec answer = (db : Db) → spelled desc c ≡ Some db → MayStore desc db set number rec
+    → (answer ≡ put_answer desc db set number rec) × (spelled desc d ≡ Some (put_after answer desc db set rec))

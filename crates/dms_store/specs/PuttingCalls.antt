@@ -7,9 +7,9 @@ use Rattle.dms_block.specs.declared.block_fault.BlockFault.{BlockFault}
 use Rattle.dms_block.specs.declared.block_fault.BlockFault.TheVariants.{Disk, Memory, Full, Damaged, Say}
 use Rattle.dms_block.specs.declared.blocks.Blocks.{Ghosts}
 use Rattle.dms_block.specs.declared.overlay.Overlay.{Overlay}
-use Rattle.dms_block.specs.Faults.{NotFull}
-use Rattle.dms_block.specs.Held.{Alters, HasCauses, HasCausesOr, Held, Looks}
-use Rattle.dms_block.specs.HeldLaws.{alters_more, alters_on, causes_on, causes_or, causes_or_on, lasts_none, looks_alters, looks_as, looks_err, looks_none, looks_on, same_none}
+use Rattle.dms_block.specs.Faults.{NotFull, Unbroken}
+use Rattle.dms_block.specs.Held.{Alters, HasCauses, HasCausesOr, Held, Looks, Stays}
+use Rattle.dms_block.specs.HeldLaws.{alters_as, alters_more, alters_on, causes_on, causes_or, causes_or_on, lasts_none, looks_alters, looks_as, looks_err, looks_none, looks_on, same_none}
 use Rattle.dms_block.specs.View.{ReadsOverlay, WritesOverlay, under, written}
 use Rattle.dms_ordlist.specs.SeenLaws.{causes_err}
 use Rattle.dms_sets.specs.Keeping.{Calm, Fails, FromBelow}
@@ -77,6 +77,18 @@ module _ {B : Type 0} {g : Ghosts B} where
         causes = causes_or_on P (λ f k. ⊤) r (under a) (under b) (under c) (λ f k h. tt) calm.faults first.passes.lasts first.same causes;
       }
 
+  -- another answer
+  pub enters_as : {T U : Type 0} {x : T} (m : ℕ) (y : U) (a b : Overlay B g) → Enters m (Ok x) a b → Enters m (Ok y) a b
+  enters_as m y a b h = record { reads = h.reads; writes = record { looks = looks_as (Ok y) tt h.writes.looks; more = h.writes.more; same = h.writes.same }; causes = h.causes }
+
+  -- the same fault, handed on
+  pub enters_err : {T U : Type 0} (m : ℕ) (e : BlockFault) (a b : Overlay B g) → Enters {T = T} m (Err e) a b → Enters {T = U} m (Err e) a b
+  enters_err {T = T} {U = U} m e a b h = record {
+    reads = h.reads;
+    writes = record { looks = looks_err e h.writes.looks; more = h.writes.more; same = h.writes.same };
+    causes = causes_err T U (λ f k. ⊤) (λ f k. ⊤) e (under a) (under b) (λ f k x. x) h.causes;
+  }
+
   -- the blocks below are handed what was written
   pub hands_down : {T U : Type 0} {x : T} (m n : ℕ) (r : Result U BlockFault) (a b c : Overlay B g) → ((x y z : B) → g.same_blocks x y → g.same_blocks y z → g.same_blocks x z) → Enters m (Ok x) a b → written a ≡ [] → n ≡ length (written b)
       → Alters n n r (under b) (under c) → HasCauses r (under b) (under c) → (IsErrOf r Say → ⊥) → g.same_blocks b.below c.below → HandsDown m r a c
@@ -94,4 +106,44 @@ module _ {B : Type 0} {g : Ghosts B} where
     alters = subst (λ (x : B). Alters enters.reads m r (under a) (g.held x)) (sym same) (looks_alters m r enters.writes.looks);
     causes = subst (λ (x : B). HasCausesOr (λ f k. ⊤) r (under a) (g.held x)) (sym same) enters.causes;
     same = subst (λ (x : B). g.same_blocks a.below x) (sym same) enters.writes.same;
+  }
+
+  pub drops_causes : {T : Type 0} (P : ℕ → ℕ → Type 0) (r : Result T BlockFault) (a b c : Overlay B g) → HasCausesOr P r (under a) (under b) → c.below ≡ b.below → HasCausesOr P r (under a) (under c)
+  drops_causes P r a b c causes same = subst (λ (x : B). HasCausesOr P r (under a) (g.held x)) (sym same) causes
+
+  -- the causes of a call that hands down, after one that wrote over the blocks
+  pub hands_causes : {T U : Type 0} {x : T} (m : ℕ) (r : Result U BlockFault) (a b c : Overlay B g) → Enters m (Ok x) a b → HasCauses r (under b) (under c) → (IsErrOf r Say → ⊥) → HasCausesOr (λ f k. ⊥) r (under a) (under c)
+  hands_causes m r a b c enters causes silent = causes_or_on (λ f k. ⊥) (λ f k. ⊥) r (under a) (under b) (under c) (λ f k h. h) enters.causes enters.writes.looks.passes.lasts enters.writes.looks.same (causes_or (λ f k. ⊥) r (under b) (under c) causes silent)
+
+  -- what stands below is as it was
+  pub drops_content : {T : Type 0} {x : T} (m : ℕ) (a b c : Overlay B g) → Enters m (Ok x) a b → c.below ≡ b.below → IsTrue (under a).told → (under c).content ≡ (under a).content
+  drops_content m a b c enters same told = ap (λ (x : B). (g.held x).content) same ∙ enters.writes.looks.same.content told
+
+  pub enters_told : {T : Type 0} {x : T} (m : ℕ) (a b : Overlay B g) → Enters m (Ok x) a b → IsTrue (under a).told → IsTrue (under b).told
+  enters_told m a b enters told = enters.writes.looks.passes.lasts.told ∙ told
+
+unbroken_err : (T U P : Type 0) (e : BlockFault) → Unbroken {T = T} (Err e) P → Unbroken {T = U} (Err e) P
+unbroken_err T U P Disk p = tt
+unbroken_err T U P Memory p = p
+unbroken_err T U P (Full f) p = tt
+unbroken_err T U P (Damaged f d) p = tt
+unbroken_err T U P Say p = tt
+
+memory_err : (T U : Type 0) (e : BlockFault) → IsErrOf {T = U} (Err e) Memory → IsErrOf {T = T} (Err e) Memory
+memory_err T U Disk h = absurd (cc)
+memory_err T U Memory h = refl
+memory_err T U (Full f) h = absurd (cc)
+memory_err T U (Damaged f d) h = absurd (cc)
+memory_err T U Say h = absurd (cc)
+
+module _ {B : Type 0} {g : Ghosts B} where
+  pub hands_as : {T U : Type 0} {x : T} (m : ℕ) (y : U) (a b : Overlay B g) → HandsDown m (Ok x) a b → HandsDown m (Ok y) a b
+  hands_as m y a b h = record { reads = h.reads; alters = alters_as y h.alters; causes = h.causes; same = h.same }
+
+  pub hands_err : {T U : Type 0} (m : ℕ) (e : BlockFault) (a b : Overlay B g) → HandsDown {T = T} m (Err e) a b → HandsDown {T = U} m (Err e) a b
+  hands_err {T = T} {U = U} m e a b h = record {
+    reads = h.reads;
+    alters = record { passes = h.alters.passes; stays = unbroken_err T U (Stays (under a) (under b)) e h.alters.stays; memory = λ is. h.alters.memory (memory_err T U e is); uses = h.alters.uses };
+    causes = causes_err T U (λ f k. ⊤) (λ f k. ⊤) e (under a) (under b) (λ f k x. x) h.causes;
+    same = h.same;
   }

@@ -58,6 +58,18 @@ IsEntered desc db set number made d (Stored n) = (n ≡ number) × (clash_seen d
 IsEntered desc db set number made d (Refused s) = clash_seen desc desc.structures db set (Some number) made ≡ Some s
 IsEntered desc db set number made d Full = ⊥
 
+-- what is answered where no number is free
+abbrev pub IsJudged : Described → Db → ℕ → ℕ → Record → Put → Type 0
+IsJudged desc db set number made (Stored n) = ⊥
+IsJudged desc db set number made (Refused s) = clash_seen desc desc.structures db set (Some number) made ≡ Some s
+IsJudged desc db set number made Full = clash_seen desc desc.structures db set (Some number) made ≡ None
+
+-- A database was told, and this slot stands under the number.
+pub record IsFound {B : Type 0} {g : Ghosts B} (desc : Described) (db : Db) (s : Shape) (number : ℕ) (o : Option Slot) (a : Overlay B g) : Type 0 where
+  pub told : IsTrue (under a).told
+  pub spelt : spelled desc (under a).content ≡ Some db
+  pub was : slot_at s (seen a (file_of s.number)) number ≡ slot_opt o
+
 -- A database was told, this slot stands under the number, and that one is what is to be written for the record.
 pub record IsPlaced {B : Type 0} {g : Ghosts B} (desc : Described) (db : Db) (s : Shape) (number : ℕ) (o : Option Slot) (rec : Record) (old : Option Record) (slot : Slot) (a : Overlay B g) : Type 0 where
   pub told : IsTrue (under a).told
@@ -152,6 +164,9 @@ module _ {B : Type 0} {g : Ghosts B} (desc : Described) (served : IsServed desc)
 
   files : SpellsFiles desc db (seen a)
   files = spelled_files desc (seen a) db served spelt_seen
+
+  pub blocks_good : list_all (is_block s) (seen a (file_of s.number)) ≡ true
+  blocks_good = (files.slots.each set s may.at may.is_set).blocks
 
   small : number < 2 ^ 32
   small = omega (arith, may.most, (served_at desc set s served may.at).population)

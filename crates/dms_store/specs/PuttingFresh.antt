@@ -68,7 +68,7 @@ taken_before (Bad ∷ rs) zero low r is = λ e. let h : Bad ≡ Free = is ∙ e 
 taken_before (Used slot ∷ rs) (suc i) low r is = taken_before rs i (omega (arith, low)) r is
 taken_before (Bad ∷ rs) (suc i) low r is = taken_before rs i (omega (arith, low)) r is
 
-free_there : (rs : List SlotRead) → or_free (slice_get rs (before_free rs)) ≡ Free
+pub free_there : (rs : List SlotRead) → or_free (slice_get rs (before_free rs)) ≡ Free
 free_there [] = refl
 free_there (Free ∷ rs) = refl
 free_there (Used slot ∷ rs) = free_there rs

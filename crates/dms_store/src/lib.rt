@@ -13,5 +13,5 @@ mod store;
 pub use finding::{first_record, last_record};
 pub use getting::get;
 pub use laws::{empty_law, spelled_law};
-pub use putting::put_law;
+pub use putting::{put, put_law};
 pub use store::BlockStore;
