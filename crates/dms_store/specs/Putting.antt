@@ -1,5 +1,5 @@
 -- What a store on blocks answers where a record is to be stored.
-use Rattle.std.specs.Prelude.{◌≡◌, ◌<◌, ◌^◌, ℕ, Bool, true, false, IfSome, IsTrue, Some, None, ⊤, is_some}
+use Rattle.std.specs.Prelude.{◌≡◌, ℕ, true, IfSome, Some, ⊤, is_some}
 use Rattle.std.specs.declared.option.Option.{Option}
 use Rattle.std.specs.FinMap.{get}
 use Rattle.dms_block.specs.Content.{Content}

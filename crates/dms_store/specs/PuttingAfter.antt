@@ -1,17 +1,16 @@
 -- The database after one record is stored: what its slots count, what refers to what.
-use Rattle.std.proofs.Common.{◌≡◌, ◌≢◌, ◌∙◌, ◌+◌, ◌≤◌, ℕ, zero, suc, List, [], ◌∷◌, Bool, true, false, cond, Some, None, refl, sym, ap, subst, length, arith}
+use Rattle.std.proofs.Common.{◌≡◌, ◌∙◌, ◌+◌, ◌≤◌, ℕ, List, [], ◌∷◌, Bool, true, false, cond, Some, None, refl, sym, ap, length, arith}
 use Rattle.std.specs.Prelude.{◌&&◌, ◌==◌, count_by, is_some, sum_by}
 use Rattle.std.specs.declared.option.Option.{Option}
-use Rattle.std.specs.FinMap.{entries, entries_sorted, find, get, get-entries, get-insert, insert}
+use Rattle.std.specs.FinMap.{entries, entries_sorted, get, get-entries, get-insert, insert}
 use Rattle.std.specs.Ordering.{eq_by_cmp}
 use Rattle.std.proofs.lemmas.Bool.Decides.{nat_tests}
-use Rattle.dms_block.specs.Content.{Content}
 use Rattle.dms_base.specs.declared.kind.ItemKind.{ItemKind}
 use Rattle.dms_base.specs.declared.kind.ItemKind.TheVariants.{Alpha, Number as Decimal, Bool as OneBit, Field, Link}
 use Rattle.dms_base.specs.declared.value.Value.{Value}
 use Rattle.dms_base.specs.declared.value.Value.TheVariants.{Null, Text, Number, Bool as Truth, Bits, Link as Reference}
 use Rattle.dms_desc.specs.Lookups.{items_of, structure_of}
-use Rattle.dms_desc.specs.Shape.{Shape, Described}
+use Rattle.dms_desc.specs.Shape.{Described}
 use Rattle.dms_desc.specs.declared.record.Record.{Record}
 use Rattle.dms_desc.specs.declared.structure.Item.{Item}
 use Rattle.dms_layout.specs.declared.slot.Slot.{Slot}

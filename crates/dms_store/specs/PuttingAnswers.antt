@@ -1,31 +1,24 @@
 -- What the change of the sets answers is what storing the record answers.
-use Rattle.std.proofs.Common.{◌≡◌, ◌≢◌, ◌∙◌, ◌+◌, ◌-◌, ◌^◌, ◌<◌, ◌≤◌, ℕ, zero, suc, List, [], ◌∷◌, Bool, true, false, cond, IfSome, IsTrue, Some, None, refl, sym, ap, subst, length, slice_get, arith}
-use Rattle.std.specs.Prelude.{◌&&◌, ◌==◌, is_some, nat_le, nat_lt, not}
+use Rattle.std.proofs.Common.{◌≡◌, ◌^◌, ◌<◌, ℕ, suc, List, [], ◌∷◌, true, Some, None, refl, sym, ap, subst, length, arith}
+use Rattle.std.specs.Prelude.{◌&&◌, ◌==◌, not}
 use Rattle.std.specs.List.{AllByRecursion}
 use Rattle.std.specs.declared.option.Option.{Option}
 use Rattle.std.specs.FinMap.{get}
-use Rattle.std.proofs.lemmas.Bool.Decides.{nat_tests}
 use Rattle.dms_base.specs.Fits.{fits}
 use Rattle.dms_base.specs.declared.value.Value.{Value}
 use Rattle.dms_block.specs.Content.{Content}
-use Rattle.dms_desc.specs.Conds.{or_null}
 use Rattle.dms_desc.specs.Kinds.{over, takes}
 use Rattle.dms_desc.specs.Lookups.{items_of, structure_of}
-use Rattle.dms_desc.specs.Plain.{ArePlain}
 use Rattle.dms_desc.specs.Shape.{Shape, Described}
 use Rattle.dms_desc.specs.declared.record.Record.{Record}
 use Rattle.dms_desc.specs.declared.structure.Item.{Item}
-use Rattle.dms_layout.specs.Slots.{AreKinds, SlotFits, all_fit}
-use Rattle.dms_layout.specs.declared.slot.Slot.{Slot}
-use Rattle.dms_model.specs.declared.put.Put.{Put}
-use Rattle.dms_model.specs.declared.put.Put.TheVariants.{Stored, Duplicate as Refused, Full}
-use Rattle.dms_model.specs.Db.{Db, Place}
+use Rattle.dms_layout.specs.Slots.{AreKinds, all_fit}
+use Rattle.dms_model.specs.Db.{Db}
 use Rattle.dms_model.specs.Fitting.{AreFitting, RecordFits}
-use Rattle.dms_model.specs.FitLaws.{linked_fits}
-use Rattle.dms_model.specs.Stores.{is_closed, linked, put_answer, put_number, put_unless, stored, values_of}
-use Rattle.dms_model.specs.Valid.{OfItems, is_data_set}
+use Rattle.dms_model.specs.Stores.{is_closed, put_answer, put_number, put_unless, stored}
+use Rattle.dms_model.specs.Valid.{OfItems}
 use Rattle.dms_sets.specs.Answers.{AreJudged, IsFoundNumber, answer_is, clash_seen, closed_is}
-use Rattle.dms_sets.specs.Changes.{HasRoom, entry_opt, is_over}
+use Rattle.dms_sets.specs.Changes.{HasRoom, entry_opt}
 use Rattle.dms_sets.specs.Few.{entries_few, few_room}
 use Rattle.dms_sets.specs.Puts.{MayCome}
 use Rattle.dms_sets.specs.Sets.{entries_of, items_over, kinds_over}
@@ -33,7 +26,6 @@ use Rattle.dms_sets.specs.Spots.{NameItems, RecordsFit, ValuesFit, key_fits}
 use Rattle.dms_sets.specs.Spots as spots
 use Rattle.dms_sets.specs.Tests.{both_of}
 use Rattle.dms_sets.specs.Told.{ChangeStands, HaveOwnNumbers, OfStructures, answer_of}
-use Rattle.dms_sets.specs.declared.answer.SetAnswer.{SetAnswer}
 use Rattle.dms_sets.specs.declared.answer.SetAnswer.TheVariants.{Done, Duplicate}
 use Rattle.dms_ordlist.specs.Lists.{without_in}
 use Rattle.dms_store.specs.Finding.{number_at, served_at}
@@ -41,7 +33,7 @@ use Rattle.dms_store.specs.PuttingSlots.{structure_here}
 use Rattle.dms_store.specs.Serving.{IsServed, IsServedSet}
 use Rattle.dms_store.specs.SetPaths.{formed, set_at}
 use Rattle.dms_store.specs.Spelled.{is_kept, spelled}
-use Rattle.dms_store.specs.SpelledLaws.{RecordStands, spelled_fits, spelled_stands, value_fits}
+use Rattle.dms_store.specs.SpelledLaws.{spelled_fits, spelled_stands, value_fits}
 
 -- ---- what is stored fits
 

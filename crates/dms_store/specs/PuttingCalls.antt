@@ -1,5 +1,5 @@
 -- Calls over the blocks while one record is stored: what they leave below, and what is written over it.
-use Rattle.std.proofs.Common.{◌≡◌, ◌∙◌, ◌+◌, ◌*◌, ◌≤◌, ℕ, [], IsTrue, Some, refl, sym, ap, subst, length, inl, inr, arith, Bool}
+use Rattle.std.proofs.Common.{◌≡◌, ◌∙◌, ◌+◌, ◌*◌, ◌≤◌, ℕ, [], IsTrue, refl, sym, ap, subst, length, arith, Bool}
 use Rattle.std.specs.Prelude.{⊤, IsErrOf}
 use Rattle.std.specs.declared.result.Result.{Result}
 use Rattle.std.specs.declared.result.Result.TheVariants.{Ok, Err}
@@ -8,11 +8,11 @@ use Rattle.dms_block.specs.declared.block_fault.BlockFault.TheVariants.{Disk, Me
 use Rattle.dms_block.specs.declared.blocks.Blocks.{Ghosts}
 use Rattle.dms_block.specs.declared.overlay.Overlay.{Overlay}
 use Rattle.dms_block.specs.Faults.{NotFull, Unbroken}
-use Rattle.dms_block.specs.Held.{Alters, HasCauses, HasCausesOr, Held, Looks, Stays}
-use Rattle.dms_block.specs.HeldLaws.{alters_as, alters_more, alters_on, causes_on, causes_or, causes_or_on, lasts_none, looks_alters, looks_as, looks_err, looks_none, looks_on, same_none}
+use Rattle.dms_block.specs.Held.{Alters, HasCauses, HasCausesOr, Stays}
+use Rattle.dms_block.specs.HeldLaws.{alters_as, alters_more, alters_on, causes_or, causes_or_on, looks_alters, looks_as, looks_err, looks_none, looks_on}
 use Rattle.dms_block.specs.View.{ReadsOverlay, WritesOverlay, under, written}
 use Rattle.dms_ordlist.specs.SeenLaws.{causes_err}
-use Rattle.dms_sets.specs.Keeping.{Calm, Fails, FromBelow}
+use Rattle.dms_sets.specs.Keeping.{Calm, Fails}
 
 -- A call reads what stands below, and writes at most m blocks over it.
 pub record Enters {B : Type 0} {g : Ghosts B} {T : Type 0} (m : ℕ) (result : Result T BlockFault) (a b : Overlay B g) : Type 0 where

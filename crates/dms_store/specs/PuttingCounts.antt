@@ -1,22 +1,20 @@
 -- How many counted links refer to a record, and how many records it owns, after one record is stored.
-use Rattle.std.proofs.Common.{◌≡◌, ◌≢◌, ◌∙◌, ◌+◌, ◌≤◌, ℕ, zero, suc, List, [], ◌∷◌, Bool, true, false, cond, Some, None, refl, sym, ap, subst, slice_get, length, arith}
-use Rattle.std.specs.Prelude.{T, ◌&&◌, ◌==◌, is_some, sum_by, count_by}
+use Rattle.std.proofs.Common.{◌≡◌, ◌∙◌, ◌+◌, ℕ, suc, List, [], ◌∷◌, Bool, true, false, cond, Some, None, refl, ap, slice_get, length, arith}
+use Rattle.std.specs.Prelude.{T, ◌&&◌, ◌==◌, sum_by}
 use Rattle.std.specs.List.{AllByRecursion}
-use Rattle.std.specs.Ordering.{eq_by_cmp, is_eq, is_lt}
+use Rattle.std.specs.Ordering.{is_eq, is_lt}
 use Rattle.std.specs.declared.cmp.Ordering.{Ordering}
 use Rattle.std.specs.declared.cmp.Ordering.TheVariants.{Less, Equal, Greater}
 use Rattle.std.specs.declared.option.Option.{Option}
 use Rattle.std.specs.FinMap.{entries, entries-insert, entries_sorted, find, get, get-entries, insert, is_sorted, put}
 use Rattle.std.specs.FinMap.Entries.{below_all, by_order}
-use Rattle.std.proofs.lemmas.Bool.Decides.{nat_tests}
 use Rattle.std.proofs.lemmas.List.Sums.{sum_by-cons}
 use Rattle.dms_base.specs.declared.kind.ItemKind.{ItemKind}
 use Rattle.dms_base.specs.declared.kind.ItemKind.TheVariants.{Alpha, Number as Decimal, Bool as OneBit, Field, Link}
 use Rattle.dms_base.specs.declared.value.Value.{Value}
-use Rattle.dms_base.specs.declared.value.Value.TheVariants.{Null, Text, Number, Bool as Truth, Bits, Link as Reference}
+use Rattle.dms_base.specs.declared.value.Value.TheVariants.{Null}
 use Rattle.dms_desc.specs.Conds.{or_null}
 use Rattle.dms_desc.specs.Kinds.{is_link}
-use Rattle.dms_desc.specs.Shape.{Shape, Described}
 use Rattle.dms_desc.specs.declared.record.Record.{Record}
 use Rattle.dms_desc.specs.declared.structure.Item.{Item}
 use Rattle.dms_model.specs.Db.{Place, Records, place_cmp}
@@ -25,7 +23,7 @@ use Rattle.dms_model.specs.Valid.{link_stands}
 use Rattle.dms_sets.specs.Listing.{places_same, places_total}
 use Rattle.dms_sets.specs.Spots.{IsFound, all_found}
 use Rattle.dms_sets.specs.Tests.{first_true, second_true}
-use Rattle.dms_store.specs.Spelled.{is_counted_to, is_number, links_stand, links_to}
+use Rattle.dms_store.specs.Spelled.{is_counted_to, links_stand, links_to}
 
 -- ---- a sum over all records, after one of them is put
 

@@ -1,9 +1,8 @@
 -- What a change of the sets and a written slot make of the database that is seen.
-use Rattle.std.proofs.Common.{◌≡◌, ◌≢◌, ◌∙◌, ◌+◌, ◌-◌, ◌*◌, ◌^◌, ◌<◌, ◌≤◌, ℕ, zero, suc, List, [], ◌∷◌, Bool, true, false, cond, IfSome, IsTrue, IsSome, Some, None, refl, sym, ap, subst, length, slice_get, arith}
+use Rattle.std.proofs.Common.{◌≡◌, ◌∙◌, ◌^◌, ◌<◌, ◌≤◌, ℕ, suc, List, [], ◌∷◌, Bool, true, false, IfSome, IsTrue, IsSome, Some, None, refl, sym, ap, subst, length, slice_get, arith}
 use Rattle.std.specs.Prelude.{◌&&◌, ◌||◌, ◌==◌, not}
 use Rattle.std.specs.List.{list_all}
 use Rattle.std.specs.declared.option.Option.{Option}
-use Rattle.std.specs.FinMap.{get}
 use Rattle.dms_base.specs.declared.kind.ItemKind.{ItemKind}
 use Rattle.dms_base.specs.declared.value.Value.{Value}
 use Rattle.dms_block.specs.declared.blocks.Blocks.{Ghosts}
@@ -29,13 +28,11 @@ use Rattle.dms_model.specs.Fitting.{AreFitting, RecordFits}
 use Rattle.dms_model.specs.Stores.{linked}
 use Rattle.dms_model.specs.Valid.{is_data_set}
 use Rattle.dms_sets.specs.Answers.{clash_seen, closed_is}
-use Rattle.dms_sets.specs.Changes.{HasEntry, OptHasEntry, PartFits, PartsFit, has_number, is_over}
-use Rattle.dms_sets.specs.Entries.{kinds_of}
+use Rattle.dms_sets.specs.Changes.{HasEntry, PartFits, PartsFit, has_number, is_over}
 use Rattle.dms_sets.specs.Keeping.{Calm, Usable, listed}
-use Rattle.dms_sets.specs.Padded.{entry_width}
 use Rattle.dms_sets.specs.Sets.{items_over, kinds_over}
 use Rattle.dms_sets.specs.Spots.{ValuesFit, key_fits}
-use Rattle.dms_sets.specs.Told.{AreListed, ChangeStands, KeepsSets, MayEnter, OfStructures, answer_of}
+use Rattle.dms_sets.specs.Told.{AreListed, ChangeStands, KeepsSets, MayEnter, OfStructures}
 use Rattle.dms_sets.specs.ToldLaws.{kinds_same, over_kept}
 use Rattle.dms_sets.specs.declared.answer.SetAnswer.TheVariants.{Done, Duplicate}
 use Rattle.dms_slots.specs.SlotBlocks.{block_of, file_of, is_block, slot_at, slot_opt, slot_put}

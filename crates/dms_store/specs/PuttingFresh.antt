@@ -1,15 +1,14 @@
 -- The least free slot is that of a new record, and there is none where the data set is full.
 use Rattle.std.proofs.Common.{◌≡◌, ◌≢◌, ◌∙◌, ◌+◌, ◌-◌, ◌<◌, ◌≤◌, ℕ, zero, suc, List, [], ◌∷◌, Bool, true, false, cond, eqb, Some, None, inl, inr, refl, sym, ap, subst, length, slice_get, arith}
-use Rattle.std.specs.Prelude.{T, is_some, nat_le, nat_lt, not}
+use Rattle.std.specs.Prelude.{nat_le, nat_lt, not}
 use Rattle.std.specs.List.{AllByRecursion}
 use Rattle.std.specs.declared.option.Option.{Option}
-use Rattle.std.specs.FinMap.{entries, entries_sorted, find, get, get-entries, is_sorted}
+use Rattle.std.specs.FinMap.{entries, entries_sorted, find, get, get-entries}
 use Rattle.std.specs.Ordering.{eq_by_cmp}
 use Rattle.std.proofs.lemmas.Bool.{cases_lt}
 use Rattle.std.proofs.lemmas.Bool.Decides.{nat_tests}
 use Rattle.dms_desc.specs.Shape.{Shape}
 use Rattle.dms_desc.specs.declared.record.Record.{Record}
-use Rattle.dms_layout.specs.declared.slot.Slot.{Slot}
 use Rattle.dms_layout.specs.declared.slot.SlotRead.{SlotRead}
 use Rattle.dms_layout.specs.declared.slot.SlotRead.TheVariants.{Free, Used, Bad}
 use Rattle.dms_model.specs.Db.{Place, Records, fresh, gap_from, place_cmp, records_of, rows_of}

@@ -1,6 +1,6 @@
 -- A content that spells a database spells the one with a record stored, once the lists and the slot are changed.
-use Rattle.std.proofs.Common.{◌≡◌, ◌≢◌, ◌∙◌, ◌+◌, ◌-◌, ◌≤◌, ℕ, max, zero, suc, List, [], ◌∷◌, Bool, true, false, cond, Some, None, inl, inr, refl, sym, ap, subst, length, slice_get, arith}
-use Rattle.std.specs.Prelude.{◌&&◌, ◌||◌, ◌==◌, is_some, nat_lt}
+use Rattle.std.proofs.Common.{◌≡◌, ◌∙◌, ◌+◌, ◌-◌, ◌≤◌, ℕ, zero, suc, List, [], ◌∷◌, Bool, true, false, cond, Some, None, inl, inr, refl, sym, ap, subst, length, slice_get, arith}
+use Rattle.std.specs.Prelude.{◌&&◌, ◌||◌, ◌==◌, nat_lt}
 use Rattle.std.specs.List.{list_all}
 use Rattle.std.specs.declared.option.Option.{Option}
 use Rattle.std.specs.FinMap.{get}
@@ -14,7 +14,6 @@ use Rattle.dms_desc.specs.Shape.{Shape, Described}
 use Rattle.dms_desc.specs.declared.record.Record.{Record}
 use Rattle.dms_desc.specs.declared.structure.Item.{Item}
 use Rattle.dms_layout.specs.declared.slot.Slot.{Slot}
-use Rattle.dms_layout.specs.declared.slot.SlotRead.TheVariants.{Free, Used, Bad}
 use Rattle.dms_model.specs.Db.{Db, Place, place_cmp}
 use Rattle.dms_model.specs.Stores.{linked, linked_from, values_of}
 use Rattle.dms_model.specs.Valid.{is_data_set, owner_of, owner_stands}
@@ -24,10 +23,10 @@ use Rattle.dms_sets.specs.Padded.{entry_width}
 use Rattle.dms_sets.specs.Sets.{entries_of, kinds_over}
 use Rattle.dms_sets.specs.Tests.{both_of}
 use Rattle.dms_slots.specs.SlotBlocks.{block_of, file_of, per_block, slot_at, slot_opt}
-use Rattle.dms_store.specs.Finding.{number_at, served_at, structure_there}
+use Rattle.dms_store.specs.Finding.{number_at, served_at}
 use Rattle.dms_store.specs.PuttingAfter.{after_get, counted_none, counted_still, more, owned_none, owned_still, owner_more, slot_after, slot_links, with_record}
 use Rattle.dms_store.specs.PuttingCounts.{stand_linked}
-use Rattle.dms_store.specs.PuttingSlots.{AllFit, FileStands, FilesStand, ListsSpell, OneFits, SlotStands, SpellsFiles, spelled_again, spelled_files, structure_here}
+use Rattle.dms_store.specs.PuttingSlots.{AllFit, FileStands, FilesStand, ListsSpell, SlotStands, SpellsFiles, spelled_again, spelled_files, structure_here}
 use Rattle.dms_store.specs.PuttingSteps.{SlotChanged, step}
 use Rattle.dms_store.specs.Rows.{AreNumbered, rec_in, rec_opt}
 use Rattle.dms_store.specs.Serving.{IsServed}

@@ -1,27 +1,26 @@
 -- The number under which a record is stored, by the slots of its data set.
-use Rattle.std.proofs.Common.{◌≡◌, ◌≢◌, ◌∙◌, ◌+◌, ◌-◌, ◌<◌, ◌≤◌, ℕ, List, Bool, true, false, cond, Some, None, refl, sym, ap, subst, length, slice_get, arith}
+use Rattle.std.proofs.Common.{◌≡◌, ◌≢◌, ◌∙◌, ◌+◌, ◌-◌, ◌≤◌, ℕ, Bool, true, false, cond, Some, None, refl, sym, ap, length, slice_get, arith}
 use Rattle.std.specs.Prelude.{is_some, nat_le, not}
 use Rattle.std.specs.declared.option.Option.{Option}
 use Rattle.std.specs.FinMap.{get}
-use Rattle.std.proofs.lemmas.Bool.Decides.{nat_tests}
 use Rattle.dms_block.specs.Content.{Content}
 use Rattle.dms_desc.specs.Lookups.{structure_of}
 use Rattle.dms_desc.specs.Shape.{Shape, Described}
 use Rattle.dms_desc.specs.declared.record.Record.{Record}
-use Rattle.dms_layout.specs.declared.slot.SlotRead.TheVariants.{Free, Used, Bad}
+use Rattle.dms_layout.specs.declared.slot.SlotRead.TheVariants.{Free, Bad}
 use Rattle.dms_model.specs.declared.put.Put.TheVariants.{Stored, Full}
 use Rattle.dms_model.specs.Db.{Db, Place, fresh, records_of}
 use Rattle.dms_model.specs.Stores.{is_full, put_number}
 use Rattle.dms_model.specs.Valid.{is_data_set}
 use Rattle.dms_slots.specs.FileWritten.{all_good}
-use Rattle.dms_slots.specs.SlotBlocks.{before_free, is_block, least_free, or_free, slot_at, slots_of, within}
+use Rattle.dms_slots.specs.SlotBlocks.{before_free, least_free, or_free, slot_at, slots_of}
 use Rattle.dms_store.specs.PuttingFresh.{free_there, fresh_is, full_is}
 use Rattle.dms_store.specs.PuttingSlots.{SpellsFiles, some_slots, spelled_files}
 use Rattle.dms_store.specs.Rows.{rec_in, rec_opt}
 use Rattle.dms_store.specs.Serving.{IsServed}
 use Rattle.dms_store.specs.SetPaths.{formed}
 use Rattle.dms_store.specs.Spelled.{file_in, spelled}
-use Rattle.dms_store.specs.SpelledLaws.{RecordStands, spelled_stands}
+use Rattle.dms_store.specs.SpelledLaws.{spelled_stands}
 
 some_within : (b : Bool) (most k n : ℕ) → nat_le k most ≡ b → ◌≡◌ {A = Option ℕ} (cond b (Some k) None) (Some n) → (k ≡ n) × (nat_le k most ≡ true)
 some_within true most k n is h = (cc, is)

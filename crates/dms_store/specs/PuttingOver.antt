@@ -1,23 +1,17 @@
 -- What is seen over the blocks while one record is stored.
-use Rattle.std.proofs.Common.{◌≡◌, ◌≢◌, ◌∙◌, ◌+◌, ◌*◌, ◌-◌, ◌<◌, ◌≤◌, ℕ, zero, suc, List, [], ◌∷◌, Bool, true, false, cond, IsTrue, Some, None, inl, inr, refl, sym, ap, subst, length, slice_get, arith}
-use Rattle.std.specs.Prelude.{◌&&◌, ◌==◌}
+use Rattle.std.proofs.Common.{◌≡◌, ◌∙◌, ◌-◌, ◌<◌, ◌≤◌, ℕ, zero, suc, List, [], ◌∷◌, true, IsTrue, Some, inl, inr, sym, ap, length, slice_get, arith}
+use Rattle.std.specs.Prelude.{◌&&◌}
 use Rattle.std.specs.List.{list_all}
-use Rattle.std.specs.declared.option.Option.{Option}
-use Rattle.std.specs.declared.result.Result.{Result}
-use Rattle.std.specs.declared.result.Result.TheVariants.{Ok, Err}
 use Rattle.std.proofs.lemmas.Bool.{cases_eq}
 use Rattle.std.proofs.lemmas.Bool.Decides.{nat_tests}
-use Rattle.dms_block.specs.declared.block_fault.BlockFault.{BlockFault}
 use Rattle.dms_block.specs.declared.blocks.Blocks.{Ghosts}
 use Rattle.dms_block.specs.declared.change.Change.{Change}
 use Rattle.dms_block.specs.declared.overlay.Overlay.{Overlay}
 use Rattle.dms_block.specs.Content.{Content, changed, laid, with_block}
 use Rattle.dms_block.specs.ContentLaws.{in_file, in_others}
-use Rattle.dms_block.specs.View.{seen, under, written}
-use Rattle.dms_desc.specs.Lookups.{structure_of}
+use Rattle.dms_block.specs.View.{seen, under}
 use Rattle.dms_desc.specs.Shape.{Shape, Described}
 use Rattle.dms_model.specs.Db.{Db}
-use Rattle.dms_model.specs.Valid.{is_data_set}
 use Rattle.dms_sets.specs.Changes.{has_number}
 use Rattle.dms_sets.specs.Keeping.{Calm, listed}
 use Rattle.dms_sets.specs.KeepingLaws.{told_is, told_list}
@@ -30,7 +24,7 @@ use Rattle.dms_store.specs.Finding.{number_at, structure_there}
 use Rattle.dms_store.specs.PuttingLaws.{ListsPut, no_set}
 use Rattle.dms_store.specs.PuttingSlots.{SpellsFiles, structure_here}
 use Rattle.dms_store.specs.Serving.{IsServed}
-use Rattle.dms_store.specs.Spelled.{is_kept, is_whole}
+use Rattle.dms_store.specs.Spelled.{is_whole}
 
 -- ---- whole blocks
 

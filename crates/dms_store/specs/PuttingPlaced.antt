@@ -1,5 +1,5 @@
 -- The same, in the words of the calls that store a record.
-use Rattle.std.proofs.Common.{◌≡◌, ◌∙◌, ◌+◌, ◌*◌, ◌≤◌, ℕ, [], Bool, true, IfSome, IsTrue, Some, None, refl, sym, ap, subst, length, arith}
+use Rattle.std.proofs.Common.{◌≡◌, ◌∙◌, ◌+◌, ◌≤◌, ℕ, [], Bool, true, IfSome, IsTrue, Some, None, sym, ap, subst, length, arith}
 use Rattle.std.specs.FinMap.{get}
 use Rattle.std.specs.List.{list_all}
 use Rattle.std.specs.Prelude.{◌&&◌, nat_le}
@@ -15,14 +15,13 @@ use Rattle.dms_block.specs.ViewLaws.{seen_still}
 use Rattle.dms_desc.specs.Lookups.{items_of, structure_of}
 use Rattle.dms_desc.specs.Shape.{Shape, Described}
 use Rattle.dms_desc.specs.declared.record.Record.{Record}
-use Rattle.dms_desc.specs.declared.structure.Item.{Item}
 use Rattle.dms_layout.specs.Slots.{SlotFits, all_fit, slot_bytes}
 use Rattle.dms_layout.specs.declared.slot.Slot.{Slot}
 use Rattle.dms_model.specs.declared.put.Put.TheVariants.{Stored, Duplicate as Refused, Full}
 use Rattle.dms_model.specs.Db.{Db}
 use Rattle.dms_model.specs.Fitting.{AreFitting, IsNumber, RecordFits, is_number}
 use Rattle.dms_model.specs.FitLaws.{linked_fits, null_fits}
-use Rattle.dms_model.specs.Stores.{linked, values_of}
+use Rattle.dms_model.specs.Stores.{linked}
 use Rattle.dms_model.specs.Valid.{is_data_set}
 use Rattle.dms_sets.specs.Answers.{clash_seen}
 use Rattle.dms_sets.specs.Changes.{has_number}

@@ -1,11 +1,10 @@
 -- The files of data sets slot by slot, and the files of a content that spells a database.
-use Rattle.std.proofs.Common.{◌≡◌, ◌≢◌, ◌∙◌, ◌+◌, ◌-◌, ◌<◌, ◌≤◌, ℕ, max, zero, suc, List, [], ◌∷◌, ◌++◌, Bool, true, false, cond, Some, None, inl, inr, refl, sym, ap, subst, length, slice_get, arith}
+use Rattle.std.proofs.Common.{◌≡◌, ◌≢◌, ◌∙◌, ◌+◌, ◌-◌, ◌<◌, ◌≤◌, ℕ, zero, suc, List, [], ◌∷◌, ◌++◌, Bool, true, false, cond, Some, None, refl, sym, ap, subst, length, slice_get, arith}
 use Rattle.std.specs.Prelude.{◌&&◌, ◌||◌, ◌==◌, is_some, nat_le}
 use Rattle.std.specs.List.{list_all}
 use Rattle.std.specs.declared.option.Option.{Option}
 use Rattle.std.specs.FinMap.{find, get, get-from_entries, same_map}
 use Rattle.std.specs.Ordering.{eq_by_cmp}
-use Rattle.std.proofs.lemmas.Bool.{cases_eq}
 use Rattle.std.proofs.lemmas.Bool.Decides.{nat_tests}
 use Rattle.std.proofs.lemmas.Slice.Eq.{bytes_eq-Decides}
 use Rattle.dms_block.specs.Content.{Content}
@@ -16,7 +15,7 @@ use Rattle.dms_layout.specs.Slots.{slot_width}
 use Rattle.dms_layout.specs.declared.slot.Slot.{Slot}
 use Rattle.dms_layout.specs.declared.slot.SlotRead.{SlotRead}
 use Rattle.dms_layout.specs.declared.slot.SlotRead.TheVariants.{Free, Used, Bad}
-use Rattle.dms_model.specs.Db.{Db, Place, SubsetEntry, place_cmp}
+use Rattle.dms_model.specs.Db.{Db, Place, place_cmp}
 use Rattle.dms_model.specs.Valid.{is_data_set, owner_stands}
 use Rattle.dms_ordlist.specs.ListIn.{list_in}
 use Rattle.dms_sets.specs.Listing.{places_same, places_total}
@@ -27,9 +26,9 @@ use Rattle.dms_slots.specs.FileWritten.{all_good, some_slot}
 use Rattle.dms_slots.specs.SlotBlocks.{file_of, is_block, or_free, per_block, slot_at, slots_of}
 use Rattle.dms_store.specs.Files.{file_at, list_at, slots_at}
 use Rattle.dms_store.specs.Finding.{number_at, served_at}
-use Rattle.dms_store.specs.Rows.{get_in, rec_in, rec_opt}
+use Rattle.dms_store.specs.Rows.{get_in, rec_in}
 use Rattle.dms_store.specs.Serving.{IsServed}
-use Rattle.dms_store.specs.Spelled.{counted_in, db_in, file_in, file_spells, files_fit, files_spell, has_none, is_kept, is_list_of, is_spelled, is_whole, links_stand, lists_eq, owned_in, row_of, rows_from, rows_in, slot_stands, slots_stand, some_if, spelled}
+use Rattle.dms_store.specs.Spelled.{counted_in, db_in, file_in, file_spells, files_fit, files_spell, has_none, is_kept, is_list_of, is_spelled, is_whole, links_stand, lists_eq, owned_in, rows_from, rows_in, slot_stands, slots_stand, some_if, spelled}
 use Rattle.dms_store.specs.SpelledLaws.{spells}
 
 -- ---- definitions
@@ -171,7 +170,6 @@ lists_spell desc c spelt = record {
   kept = λ n s at no_set kept. list_at desc c n s spelt at no_set kept;
   manual = λ n s at no_set no_list. manual_by desc (db_in desc c) s (file_in c s) no_set no_list (file_at desc c n s spelt at);
 }
-
 
 one_fits : (desc : Described) (c : Content) (n : ℕ) → ((nat_le (length (c (file_of n))) 1048576 && list_all is_whole (c (file_of n))) && (is_some (structure_of desc n) || has_none (c (file_of n)))) ≡ true → OneFits desc c n
 one_fits desc c n h =

@@ -1,25 +1,21 @@
 -- The files of data sets after the slot of one record has changed.
-use Rattle.std.proofs.Common.{◌≡◌, ◌≢◌, ◌∙◌, ◌+◌, ◌≤◌, ℕ, zero, suc, max, List, Bool, true, false, cond, Some, None, inl, inr, refl, sym, ap, subst, length, arith}
-use Rattle.std.specs.Prelude.{is_some}
+use Rattle.std.proofs.Common.{◌≡◌, ◌≢◌, ◌∙◌, ◌+◌, ◌≤◌, ℕ, zero, suc, max, List, true, cond, Some, None, inl, inr, refl, sym, ap, subst, length, arith}
 use Rattle.std.specs.List.{list_all}
 use Rattle.std.specs.declared.option.Option.{Option}
 use Rattle.std.specs.FinMap.{get}
 use Rattle.std.specs.Ordering.{eq_by_cmp}
 use Rattle.std.proofs.lemmas.Bool.{cases_eq}
-use Rattle.std.proofs.lemmas.Bool.Decides.{nat_tests}
 use Rattle.dms_block.specs.Content.{Content, with_block}
 use Rattle.dms_block.specs.ContentLaws.{in_file, in_others, laid_length}
 use Rattle.dms_desc.specs.Lookups.{structure_of}
 use Rattle.dms_desc.specs.Shape.{Shape, Described}
-use Rattle.dms_desc.specs.declared.record.Record.{Record}
-use Rattle.dms_layout.specs.Slots.{AreKinds, SlotFits, slot_bytes, slot_width}
+use Rattle.dms_layout.specs.Slots.{SlotFits, slot_bytes}
 use Rattle.dms_layout.specs.declared.slot.Slot.{Slot}
-use Rattle.dms_layout.specs.declared.slot.SlotRead.{SlotRead}
-use Rattle.dms_layout.specs.declared.slot.SlotRead.TheVariants.{Free, Used, Bad}
+use Rattle.dms_layout.specs.declared.slot.SlotRead.TheVariants.{Used}
 use Rattle.dms_model.specs.Db.{Db, Place, place_cmp}
 use Rattle.dms_model.specs.Valid.{is_data_set}
-use Rattle.dms_slots.specs.FileWritten.{all_good, put_blocks, put_other, put_used, some_slot, used_fine}
-use Rattle.dms_slots.specs.SlotBlocks.{MayPutSlot, block_at, block_of, file_of, is_block, per_block, slot_at, slot_put}
+use Rattle.dms_slots.specs.FileWritten.{all_good, put_blocks, put_other, put_used, used_fine}
+use Rattle.dms_slots.specs.SlotBlocks.{MayPutSlot, block_of, file_of, is_block, slot_at, slot_put}
 use Rattle.dms_store.specs.Finding.{number_at, served_at}
 use Rattle.dms_store.specs.PuttingSlots.{FileStands, FilesStand, SlotStands, other_number, other_set, same_at, some_slots}
 use Rattle.dms_store.specs.Rows.{rec_in, rec_opt}

@@ -51,12 +51,7 @@ fn value_here(values: &[Value], i: usize) -> Option<&Value>
 }
 
 // These values, but the links as they stood.
-fn linked(
-    alloc: Global,
-    items: &[Item],
-    olds: &[Value],
-    news: &[Value],
-) -> Result<Values, Memory>
+fn linked(alloc: Global, items: &[Item], olds: &[Value], news: &[Value]) -> Result<Values, Memory>
     ensures { IfOk result (λ v. v ≡ linked_from 0 items.now olds.now news.now) }
 {
     let mut made = Values::new(alloc);
@@ -67,12 +62,7 @@ fn linked(
 }
 
 // A record's owner and values, but the links as they stood.
-fn linked_over(
-    alloc: Global,
-    s: &Structure,
-    olds: &[Value],
-    rec: &Record,
-) -> Result<Record, Memory>
+fn linked_over(alloc: Global, s: &Structure, olds: &[Value], rec: &Record) -> Result<Record, Memory>
     ensures { IfOk result (λ r. r ≡ linked_over s.now.items olds.now rec.now) }
 {
     Ok(Record {

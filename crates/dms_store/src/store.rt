@@ -14,9 +14,8 @@ ghost use Rattle.dms_store.specs.PuttingStore.{Changed, Stores};
 ghost use Rattle.dms_store.specs.Storing.{seen_by};
 ghost use Rattle.std.specs.FinMap.{get};
 
-use crate::getting;
 use crate::note::note;
-use crate::putting;
+use crate::{getting, putting};
 use dms_base::Memory;
 use dms_block::{BlockFault, Blocks, Overlay};
 use dms_desc::{Description, Record};

@@ -1,4 +1,4 @@
-use Rattle.std.proofs.Common.{ℕ, ◌≡◌, ◌∙◌, ◌≤◌, IfSome, Option, Some, ap, subst, sym}
+use Rattle.std.proofs.Common.{ℕ, ◌∙◌, ◌≤◌, IfSome, Option, ap, subst, sym}
 use Rattle.std.specs.declared.option.Option.TheVariants.{None}
 use Rattle.std.proofs.lemmas.Result.{IfOk-weaker}
 use Rattle.dms_block.specs.Content.{Content}

@@ -1,4 +1,4 @@
-use Rattle.std.proofs.Common.{Bor, ◌≡◌, ◌∙◌, ◌≤◌, IfSome, IsTrue, Option, Some, ap, subst, sym}
+use Rattle.std.proofs.Common.{Bor, ◌≡◌, ◌∙◌, IsTrue, Option, Some, ap, subst, sym}
 use Rattle.std.specs.Option.{option_copied, option_map}
 use Rattle.dms_desc.specs.Lookups.{structure_of}
 use Rattle.dms_desc.specs.Shape.{described, shape_of}

@@ -1,4 +1,4 @@
-use Rattle.std.proofs.Common.{◌≡◌, ◌∙◌, ◌+◌, ◌*◌, ◌≤◌, true, IsTrue, Some, refl, sym, ap, subst, length, arith}
+use Rattle.std.proofs.Common.{◌∙◌, ◌+◌, ◌*◌, IsTrue, Some, subst, length, arith}
 use Rattle.std.specs.Option.{option_copied}
 use Rattle.std.specs.declared.result.Result.TheVariants.{Ok, Err}
 use Rattle.dms_block.specs.HeldLaws.{causes_or_on}

@@ -1,4 +1,4 @@
-use Rattle.std.proofs.Common.{◌+◌, ◌*◌, ◌≤◌, length, refl, subst, sym}
+use Rattle.std.proofs.Common.{◌+◌, ◌*◌, length, refl, subst, sym}
 use Rattle.std.specs.Prelude.{IfOk}
 use Rattle.dms_desc.specs.Shape.{described}
 use Rattle.dms_model.specs.Fitting.{PutFits}
