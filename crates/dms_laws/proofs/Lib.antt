@@ -1,8 +1,9 @@
 mod Counts
+pub mod Formed
 mod Founds
 mod Holders
 pub mod Lists
-mod Locks
+pub mod Locks
 mod Points
 pub mod Sound
 mod Stored

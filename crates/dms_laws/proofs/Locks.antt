@@ -235,10 +235,9 @@ module _ (s : Session) (i : ℕ) (p : Program) (name : List ℕ) (at : slice_get
   kept_if true x y h k = h refl
   kept_if false x y h k = k
 
-  put_old : (desc : Described) (c : Option ℕ) (b : Bool) (set number : ℕ) (a : Area) → locks_it p (set, number) ≡ true → KeptMoves (put_kept (put_unless c (cond b (Stored number) Full)) desc p s.db set a)
-  put_old desc None true set number a l = stored_moves desc set number a (λ no. absurd (cc))
-  put_old desc None false set number a l = tt
-  put_old desc (Some d) b set number a l = tt
+  put_old : (desc : Described) (c : Option ℕ) (set number : ℕ) (a : Area) → locks_it p (set, number) ≡ true → KeptMoves (put_kept (put_unless c (Stored number)) desc p s.db set a)
+  put_old desc None set number a l = stored_moves desc set number a (λ no. absurd (cc))
+  put_old desc (Some d) set number a l = tt
 
   put_new_at : (desc : Described) (b : Bool) (set : ℕ) (a : Area) → KeptMoves (put_kept (cond b Full (Stored (fresh s.db.records set))) desc p s.db set a)
   put_new_at desc true set a = tt
@@ -252,7 +251,7 @@ module _ (s : Session) (i : ℕ) (p : Program) (name : List ℕ) (at : slice_get
   unfolding put_answer
   put_moves desc set (New values owner) current free = put_new desc (clash desc.structures s.db set None (stored desc s.db set None (record { owner = owner; values = values }))) set (New values owner)
   put_moves desc set (Old values) None free = absurd (cc)
-  put_moves desc set (Old values) (Some n) free = put_old desc (clash desc.structures s.db set (Some n) (stored desc s.db set (Some n) (record { owner = 0; values = values }))) (is_some (get s.db.records (set, n))) set n (Old values) free
+  put_moves desc set (Old values) (Some n) free = put_old desc (clash desc.structures s.db set (Some n) (stored desc s.db set (Some n) (record { owner = 0; values = values }))) set n (Old values) free
 
   unless_moves : (o : Option (List ℕ)) (desc : Described) (set : ℕ) (a : Area) (current : Option ℕ) → is_free a p set current ≡ true → KeptMoves (kept_unless o desc p s.db set a current)
   unless_moves (Some item) desc set a current free = tt

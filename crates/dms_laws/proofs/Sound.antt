@@ -35,7 +35,7 @@ use Rattle.dms_model.specs.Spoken.{IsOuter, IsPlainLiteral}
 use Rattle.dms_model.specs.Valid.{OfItems, IsValid, is_data_set, is_set, link_stands}
 use Rattle.dms_laws.specs.Made.{IsWellMade, items_under, compares_no_link, has_no_link}
 use Rattle.dms_laws.specs.Runs.{after}
-use Rattle.dms_laws.specs.Sound.{AllNameOuter, IsSound, NamesOuter, IsFlat, AreaFits, AreasFit, StaysSound}
+use Rattle.dms_laws.specs.Sound.{AllNameOuter, IsSound, NamesOuter, IsFlat, StaysSound}
 use Rattle.dms_laws.proofs.Counts.{count_insert, count_replace}
 use Rattle.dms_laws.proofs.Founds.{Stands, found_stands}
 use Rattle.dms_model.specs.Fresh.{fresh_below, fresh_free, fresh_from_one}
@@ -43,62 +43,28 @@ use Rattle.dms_laws.proofs.Lists.{all_at, all_set, all_mapped, all_pushed, all_w
 use Rattle.dms_laws.proofs.Locks.{locks_stay_exclusive}
 use Rattle.dms_laws.proofs.Points.{step_points}
 use Rattle.dms_laws.proofs.Stored.{MayStand, put_valid, put_flat, own_key}
+use Rattle.dms_model.specs.Areas.{AreaFits, AreasFit}
+use Rattle.dms_model.specs.AreaLaws.{backed_works, let_go_works, new_works, values_fit, with_new, works_if, works_with}
 use Rattle.dms_model.specs.Fitting.{AreFitting}
-use Rattle.dms_model.specs.FitLaws.{get_set_other, filled_fits, FilledFits, initial_fits, linked_fits, of_linked, null_fits}
+use Rattle.dms_model.specs.FitLaws.{filled_fits, FilledFits, initial_fits, linked_fits, of_linked, null_fits}
 use Rattle.dms_laws.proofs.Values.{required_of, linked_agree, null_stands, other_stands, meets_agree}
 
 -- what a program has at hand
 
-set_area : (P : Option Area → Type 0) (ws : List Work) (j : ℕ) (w : Work) → P w.area → P None → P (or_none (slice_get (slice_set ws j w) j)).area
-set_area P [] j w h none = none
-set_area P (x ∷ ws) zero w h none = h
-set_area P (x ∷ ws) (suc j) w h none = set_area P ws j w h none
-
-from_one : (desc : Described) (set : ℕ) (shape : Shape) → structure_of desc set ≡ Some shape → 1 ≤ set
-from_one desc zero shape h = absurd (cc)
-from_one desc (suc n) shape h = omega arith
-
-one_shape : (o : Option Shape) (a b : Shape) → o ≡ Some a → o ≡ Some b → a ≡ b
-one_shape o a b e f = cc
-
 areas_with : (desc : Described) (p : Program) (set : ℕ) (shape : Shape) (w : Work) → structure_of desc set ≡ Some shape → AreaFits shape w.area → AreasFit desc p → AreasFit desc (with_work p set w)
-areas_with desc p set shape w here fits all set' shape' here' = by (eqb set set') refl
-  where
-    by : (b : Bool) → eqb set set' ≡ b → AreaFits shape' (work_of (with_work p set w) set').area
-    by true e =
-        let is : set ≡ set' = grind (arith, nat_tests, e) in
-        let same = one_shape (structure_of desc set') shape shape' (ap (structure_of desc) (sym is) ∙ here) here' in
-        subst (λ (n : ℕ). AreaFits shape' (or_none (slice_get (slice_set p.works (set - 1) w) (n - 1))).area) is
-        (set_area (AreaFits shape') p.works (set - 1) w (subst (λ (x : Shape). AreaFits x w.area) same fits) tt)
-    by false e =
-        let low = from_one desc set shape here in
-        let low' = from_one desc set' shape' here' in
-        let apart : (set - 1 ≡ set' - 1 → ⊥) = λ h. grind (arith, nat_tests, e, h, low, low') in
-        subst (λ (o : Option Work). AreaFits shape' (or_none o).area) (sym (get_set_other p.works (set - 1) (set' - 1) w apart)) (all set' shape' here')
+areas_with desc p set shape w here fits all = works_with desc (λ x v. AreaFits x v.area) p set shape w here fits (λ x. tt) all
 
 areas_if : (desc : Described) (b : Bool) (x y : Program) → AreasFit desc x → AreasFit desc y → AreasFit desc (cond b x y)
-areas_if desc true x y h k = h
-areas_if desc false x y h k = k
+areas_if desc b x y h k = works_if desc (λ x v. AreaFits x v.area) b x y h k
 
 let_go_areas : (desc : Described) (p : Program) (set : ℕ) → AreasFit desc p → AreasFit desc (let_go p set)
-let_go_areas desc p set h = areas_if desc p.in_transaction p (record p { locks = _ }) h h
-
-no_area : (n j : ℕ) → (or_none (slice_get (replicate n no_work) j)).area ≡ None
-no_area zero j = refl
-no_area (suc n) zero = refl
-no_area (suc n) (suc j) = no_area n j
+let_go_areas desc p set h = let_go_works desc (λ x v. AreaFits x v.area) p set h
 
 new_areas : (desc : Described) (name : List ℕ) (mode : Mode) → AreasFit desc (new_program desc name mode)
-new_areas desc name mode set shape here = subst (AreaFits shape) (sym (no_area (length desc.structures) (set - 1))) tt
-
-lost_area : (ws : List Work) (j : ℕ) → (or_none (slice_get (map (λ (w : Work). no_work) ws) j)).area ≡ None
-lost_area [] j = refl
-lost_area (w ∷ ws) zero = refl
-lost_area (w ∷ ws) (suc j) = lost_area ws j
+new_areas desc name mode = new_works desc (λ x v. AreaFits x v.area) (λ x. tt) name mode
 
 backed_areas : (desc : Described) (name : List ℕ) (p : Program) → AreasFit desc p → AreasFit desc (backed_out name p)
-unfolding backed_out
-backed_areas desc name p h = areas_if desc p.active _ _ (λ set shape here. subst (AreaFits shape) (sym (lost_area p.works (set - 1))) tt) h
+backed_areas desc name p h = backed_works desc (λ x v. AreaFits x v.area) (λ x. tt) name p h
 
 -- the databases and areas of a session
 record Sane (desc : Described) (db mark : Db) (programs : List Program) : Type 0 where
@@ -263,10 +229,9 @@ module _ (desc : Described) (made : IsWellMade desc) (s : Session) (i : ℕ) (p 
         by false e = refl
 
     old_sane : (n : ℕ) (shape : Shape) (old : Record) → structure_of desc set ≡ Some shape → area_owner a ≡ 0 → AreFitting shape.items (area_values a) → get s.db.records (set, n) ≡ Some old
-        → (c : Option ℕ) → clash desc.structures s.db set (Some n) (stored desc s.db set (Some n) (record_of a)) ≡ c → (b : Bool) → KeptSane desc (put_kept (put_unless c (cond b (Stored n) Full)) desc p s.db set a)
-    old_sane n shape old here owner values was (Some d) clear b = tt
-    old_sane n shape old here owner values was None clear false = tt
-    old_sane n shape old here owner values was None clear true =
+        → (c : Option ℕ) → clash desc.structures s.db set (Some n) (stored desc s.db set (Some n) (record_of a)) ≡ c → KeptSane desc (put_kept (put_unless c (Stored n)) desc p s.db set a)
+    old_sane n shape old here owner values was (Some d) clear = tt
+    old_sane n shape old here owner values was None clear =
         let kind = ap is_data_set (sym here) ∙ sane.valid.sets (set, n) old was in
         let outer : IsOuter (Some shape) = record { data_set = kind; disjoint = sane.flat.disjoint (set, n) old shape was here } in
         let same = count_replace s.db.records set (set, n) (put_record set n a shape) (ap is_some was) in
@@ -307,8 +272,8 @@ module _ (desc : Described) (made : IsWellMade desc) (s : Session) (i : ℕ) (p 
           new_sane set (New values owner) none met shape here fits.0 fits.1.0 fits.1.1 c clear (nat_le shape.population (length (records_of s.db.records set))) refl
   put_sane set (Old values) None has free none met = absurd (cc)
   put_sane set (Old values) (Some n) has free none met =
-      locked_old set n free (KeptSane desc (put_kept (put_unless (clash desc.structures s.db set (Some n) (stored desc s.db set (Some n) (record { owner = 0; values = values }))) (cond (is_some (get s.db.records (set, n))) (Stored n) Full)) desc p s.db set (Old values)))
-      (λ old shape was here. old_sane set (Old values) none met n shape old here refl (area_of set shape (Some (Old values)) here has) was (clash desc.structures s.db set (Some n) (stored desc s.db set (Some n) (record { owner = 0; values = values }))) refl (is_some (get s.db.records (set, n))))
+      locked_old set n free (KeptSane desc (put_kept (put_unless (clash desc.structures s.db set (Some n) (stored desc s.db set (Some n) (record { owner = 0; values = values }))) (Stored n)) desc p s.db set (Old values)))
+      (λ old shape was here. old_sane set (Old values) none met n shape old here refl (area_of set shape (Some (Old values)) here has) was (clash desc.structures s.db set (Some n) (stored desc s.db set (Some n) (record { owner = 0; values = values }))) refl)
 
   unless_sane : (o : Option (List ℕ)) (set : ℕ) (a : Area) (current : Option ℕ) → (work_of p set).area ≡ Some a → is_free a p set current ≡ true → missing_from 0 (items_of (structure_of desc set)) (area_values a) ≡ o
       → KeptSane desc (kept_unless o desc p s.db set a current)
@@ -386,14 +351,6 @@ module _ (desc : Described) (made : IsWellMade desc) (s : Session) (i : ℕ) (p 
       let fits : AreFitting shape.items (map (λ (t : Item). t.initial) (items_of (structure_of desc set))) =
       subst (λ (o : Option Shape). AreFitting shape.items (map (λ (t : Item). t.initial) (items_of o))) (sym here) (initial_fits shape.items (made.initial set shape here) (made.plain set shape here)) in
       sane_at (carried (let_go (with_work p set w) set)) (let_go_areas desc (with_work p set w) set (areas_with desc p set shape w here (out, (refl, fits)) mine)))
-
-  with_new : (shape : Shape) (a : Area) (new : List Value) → AreaFits shape (Some a) → AreFitting shape.items new → AreaFits shape (Some (with_values a new))
-  with_new shape (New values owner) new old fits = (old.0, (old.1.0, fits))
-  with_new shape (Old values) new old fits = fits
-
-  values_fit : (shape : Shape) (a : Area) → AreaFits shape (Some a) → AreFitting shape.items (area_values a)
-  values_fit shape (New values owner) h = h.1.1
-  values_fit shape (Old values) h = h
 
   after_put_leaves : (f : Filled) (set : ℕ) (a : Area) (shape : Shape) → structure_of desc set ≡ Some shape → AreaFits shape (Some a) → FilledFits shape.items f → Leaves desc (after_put f i p s set a)
   after_put_leaves (Misfit item) set a shape here old fits = sane

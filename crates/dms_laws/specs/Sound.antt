@@ -1,25 +1,17 @@
 -- A session whose databases are valid, and whose programs have at hand what may be stored.
-use Rattle.std.specs.Prelude.{◌≡◌, ℕ, List, [], true, Some, None, ⊤, length}
+use Rattle.std.specs.Prelude.{◌≡◌, ℕ, List, [], ⊤}
 use Rattle.std.specs.List.{AllByRecursion}
-use Rattle.std.specs.declared.option.Option.{Option}
-use Rattle.dms_base.specs.declared.value.Value.{Value}
-use Rattle.dms_base.specs.Fits.{fits}
-use Rattle.dms_desc.specs.declared.structure.Item.{Item}
-use Rattle.dms_desc.specs.Plain.{ArePlain}
-use Rattle.dms_desc.specs.Shape.{Shape, Described}
-use Rattle.dms_model.specs.declared.program.Program.{Program}
-use Rattle.dms_model.specs.declared.program.Area.{Area}
-use Rattle.dms_model.specs.declared.program.Area.TheVariants.{New, Old}
+use Rattle.dms_desc.specs.Shape.{Described}
 use Rattle.dms_model.specs.declared.verb.Verb.{Verb}
 use Rattle.dms_model.specs.declared.verb.Verb.TheVariants.{OpenUpdate, OpenInquiry, Close, Find, Create, Put, Get, Store, Begin, End, Abort}
 use Rattle.dms_model.specs.Db.{Db}
-use Rattle.dms_model.specs.Fitting.{AreFitting}
+use Rattle.dms_model.specs.Areas.{AreasFit}
 use Rattle.dms_model.specs.Points.{Quiet}
 use Rattle.dms_desc.specs.Lookups.{structure_of}
-use Rattle.dms_model.specs.Session.{Session, step, work_of, fresh_session}
+use Rattle.dms_model.specs.Session.{Session, step, fresh_session}
 use Rattle.dms_laws.specs.Exclusive.{IsExclusive}
 use Rattle.dms_model.specs.Spoken.{IsOuter, IsPlainLiteral}
-use Rattle.dms_model.specs.Valid.{OfRecords, OfItems, IsValid}
+use Rattle.dms_model.specs.Valid.{OfRecords, IsValid}
 
 -- the data set that CREATE or PUT names is one of the outer level, and a text that PUT gives is one that an item may have
 abbrev pub NamesOuter : Described → Verb → Type 0
@@ -39,16 +31,6 @@ NamesOuter desc Abort = ⊤
 pub record IsFlat (desc : Described) (db : Db) : Type 0 where
   pub entries : db.entries ≡ []
   pub disjoint : OfRecords desc db (λ place rec shape. shape.owner ≡ 0)
-
--- an area of a data set; a new one is of a disjoint one, and without owner
-abbrev pub AreaFits : Shape → Option Area → Type 0
-AreaFits shape None = ⊤
-AreaFits shape (Some (New values owner)) = IsOuter (Some shape) × ((owner ≡ 0) × AreFitting shape.items values)
-AreaFits shape (Some (Old values)) = AreFitting shape.items values
-
--- each area of a program fits
-abbrev pub AreasFit : Described → Program → Type 0
-AreasFit desc p = (set : ℕ) (shape : Shape) → structure_of desc set ≡ Some shape → AreaFits shape (work_of p set).area
 
 -- the databases now and at the last quiet point are valid, no two programs lock one record, and areas hold what may be stored
 pub record IsSound (desc : Described) (s : Session) : Type 0 where

@@ -288,12 +288,8 @@ new_at false desc set count n s at e low high =
     let room : count < s.population = grind (arith, nat_tests, e) in
     subst (λ (o : Option Shape). IsTrue (is_number o n)) (sym at) (within n s.population low (omega (arith, room, high)))
 
-number_if : (b : Bool) (desc : Described) (set n : ℕ) → IsNumber desc set n → PutFits desc set (cond b (Stored n) Full)
-number_if true desc set n h = h
-number_if false desc set n h = tt
-
 number_fits : (number : Option ℕ) (desc : Described) (db : Db) (set : ℕ) → IfSome number (IsNumber desc set) → PutFits desc set (put_number desc db set number)
-number_fits (Some n) desc db set h = number_if (is_some (get db.records (set, n))) desc set n h
+number_fits (Some n) desc db set h = h
 number_fits None desc db set h = by (structure_of desc set) refl
   where
     by : (o : Option Shape) → structure_of desc set ≡ o → PutFits desc set (cond (is_full o (length (records_of db.records set))) Full (Stored (fresh db.records set)))

@@ -1,5 +1,5 @@
 -- What a store takes and answers: structures of their kinds, numbers of records, values that fit, bounds of keys.
-use Rattle.std.specs.Prelude.{◌≡◌, ◌≤◌, ◌<◌, ◌+◌, ◌-◌, ◌^◌, ℕ, List, [], ◌∷◌, Bool, true, false, ◌&&◌, nat_le, Some, None, IsTrue, ⊤, is_some, length, slice_get}
+use Rattle.std.specs.Prelude.{◌≡◌, ◌≤◌, ◌<◌, ◌+◌, ◌-◌, ◌^◌, ℕ, List, [], ◌∷◌, Bool, true, false, ◌&&◌, nat_le, Some, None, IsTrue, IfSome, ⊤, is_some, length, slice_get}
 use Rattle.std.specs.declared.option.Option.{Option}
 use Rattle.std.specs.FinMap.{get}
 use Rattle.dms_base.specs.declared.value.Value.{Value}
@@ -19,7 +19,7 @@ use Rattle.dms_desc.specs.Keys.{key_of}
 use Rattle.dms_desc.specs.Lookups.{items_of, structure_of, parts_of, set_of}
 use Rattle.dms_model.specs.Session.{missing_from, verified}
 use Rattle.dms_model.specs.Stores.{put_answer, put_after}
-use Rattle.dms_model.specs.Valid.{OfItems, is_data_set, owner_of}
+use Rattle.dms_model.specs.Valid.{OfItems, is_data_set, owner_of, owner_stands}
 
 -- ---- structures and numbers
 
@@ -99,9 +99,15 @@ pub record MayStart (desc : Described) (path owner : ℕ) (bound : Bound) : Type
   pub owned : owner + 1 < 2 ^ 32
   pub fits : BoundFits (parts_of (structure_of desc path)) (items_of (structure_of desc (set_of desc path))) bound
 
--- this record may be stored: without owner where its data set is disjoint, no REQUIRED item is null, and VERIFY is met
-pub record MayPut (desc : Described) (set : ℕ) (rec : Record) : Type 0 where
-  pub disjoint : owner_of (structure_of desc set) ≡ 0 → rec.owner ≡ 0
+-- a record of the data set has this number
+abbrev pub HasRecord : Db → ℕ → ℕ → Type 0
+HasRecord db set n = IsTrue (is_some (get db.records (set, n)))
+
+-- This record may be stored, under the number that is named or as a new one: its owner's record stands, and it has no owner where
+-- its data set is disjoint; the record that it replaces stands; no REQUIRED item is null, and VERIFY is met
+pub record MayPut (desc : Described) (db : Db) (set : ℕ) (number : Option ℕ) (rec : Record) : Type 0 where
+  pub owner : IsTrue (owner_stands db.records (owner_of (structure_of desc set)) rec.owner)
+  pub replaced : IfSome number (HasRecord db set)
   pub required : missing_from 0 (items_of (structure_of desc set)) rec.values ≡ None
   pub verified : verified (structure_of desc set) rec.values ≡ true
 
@@ -111,7 +117,7 @@ pub record MayPut (desc : Described) (set : ℕ) (rec : Record) : Type 0 where
 abbrev pub Puts : Option Db → Option Db → Described → ℕ → Option ℕ → Record → Put → Type 0
 Puts None new desc set number rec answer = ⊤
 Puts (Some db) new desc set number rec answer =
-    MayPut desc set rec → (answer ≡ put_answer desc db set number rec) × (new ≡ Some (put_after (put_answer desc db set number rec) desc db set rec))
+    MayPut desc db set number rec → (answer ≡ put_answer desc db set number rec) × (new ≡ Some (put_after (put_answer desc db set number rec) desc db set rec))
 
 -- a member: its number is one of its data set, its record fits, and its key is the record's
 pub record SpotFits (desc : Described) (path : ℕ) (x : Spot) : Type 0 where

@@ -1,3 +1,5 @@
+pub mod AreaLaws
+pub mod Areas
 pub mod BackOut
 pub mod Db
 pub mod DescribedCode
@@ -9,6 +11,7 @@ pub mod MemberLaws
 pub mod Members
 pub mod Places
 pub mod Points
+pub mod Props
 pub mod Seen
 pub mod Session
 pub mod Spoken

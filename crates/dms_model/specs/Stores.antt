@@ -87,9 +87,9 @@ abbrev pub is_full : Option Shape → ℕ → Bool
 is_full None count = true
 is_full (Some s) count = nat_le s.population count
 
--- the number under which a record is stored: the one that is named, where a record has it, and else a new one, where there is room
+-- the number under which a record is stored: the one that is named, and else a new one, where there is room
 abbrev pub put_number : Described → Db → ℕ → Option ℕ → Put
-put_number desc db set (Some n) = if is_some (get db.records (set, n)) then Stored n else Full
+put_number desc db set (Some n) = Stored n
 put_number desc db set None = if is_full (structure_of desc set) (length (records_of db.records set)) then Full else Stored (fresh db.records set)
 
 abbrev pub put_unless : Option ℕ → Put → Put

@@ -1,7 +1,7 @@
--- The verbs that a script line can spell under a description.
-use Rattle.std.specs.Prelude.{ℕ, ◌-◌, List, [], ◌∷◌, Bool, true, false, not, ◌&&◌, ◌==◌, nat_lt, nat_le, Some, None, IsTrue, is_some, length, slice_get}
+-- The verbs that a script line can spell under a description: what they name is there, and of its kind.
+use Rattle.std.specs.Prelude.{◌≤◌, ℕ, ◌-◌, List, [], ◌∷◌, Bool, true, false, not, ◌&&◌, ◌==◌, nat_lt, Some, None, IsTrue, ⊤, length, slice_get}
 use Rattle.std.specs.declared.option.Option.{Option}
-use Rattle.std.specs.List.{list_all, list_any}
+use Rattle.std.specs.List.{AllByRecursion}
 use Rattle.dms_base.specs.declared.kind.ItemKind.{ItemKind}
 use Rattle.dms_base.specs.declared.kind.ItemKind.TheVariants.{Alpha, Number as Decimal, Bool as OneBit, Field, Link}
 use Rattle.dms_base.specs.declared.kind.Literal.{Literal}
@@ -15,25 +15,9 @@ use Rattle.dms_model.specs.declared.verb.Path.TheVariants.{First, Last, At}
 use Rattle.dms_model.specs.declared.verb.Verb.{Verb}
 use Rattle.dms_model.specs.declared.verb.Verb.TheVariants.{OpenUpdate, OpenInquiry, Close, Find, Create, Put, Get, Store, Begin, End, Abort}
 use Rattle.dms_desc.specs.Lookups.{items_of, structure_of, parts_of, set_of}
-use Rattle.dms_model.specs.Session.{restart_of}
 use Rattle.dms_desc.specs.Kinds.{is_link}
-
--- ---- structures that a line names: each stands in no other data set
-
--- a data set, or the restart data set
-abbrev pub is_outer_set : Option Shape → Bool
-is_outer_set None = false
-is_outer_set (Some s) = nat_lt 0 s.kind && nat_lt s.kind 3 && (s.owner == 0)
-
--- a data set, a set or an automatic subset
-abbrev pub is_outer_path : Option Shape → Bool
-is_outer_path None = false
-is_outer_path (Some s) = nat_lt 0 s.kind && nat_lt s.kind 5 && (s.owner == 0)
-
--- the restart data set
-abbrev pub is_outer_restart : Option Shape → Bool
-is_outer_restart None = false
-is_outer_restart (Some s) = (s.kind == 2) && (s.owner == 0)
+use Rattle.dms_model.specs.Session.{restart_of}
+use Rattle.dms_model.specs.Spoken.{IsOuter, IsPlainLiteral}
 
 -- ---- items and literals
 
@@ -51,56 +35,48 @@ abbrev pub takes_literal : Option Item → Literal → Bool
 takes_literal None l = false
 takes_literal (Some i) l = not (is_link i.kind) && has_kind i.kind l
 
-abbrev pub is_setting : List Item → Setting → Bool
-is_setting items t = nat_le 1 t.item && takes_literal (slice_get items (t.item - 1)) t.literal
+-- the item takes the literal, whose text is one that an item may have
+pub record TakesLiteral (item : Option Item) (l : Literal) : Type 0 where
+  pub kind : IsTrue (takes_literal item l)
+  pub plain : IsPlainLiteral l
 
-abbrev pub sets_item : ℕ → Setting → Bool
-sets_item n t = t.item == n
-
--- no item is set twice
-abbrev pub settings_differ : List Setting → Bool
-settings_differ [] = true
-settings_differ (t ∷ ts) = not (list_any (sets_item t.item) ts) && settings_differ ts
+abbrev pub IsSettingOf : List Item → Setting → Type 0
+IsSettingOf items t = TakesLiteral (slice_get items (t.item - 1)) t.literal
 
 -- there is an item or a link with this number
-abbrev pub is_shown : List Item → ℕ → Bool
-is_shown items n = nat_le 1 n && nat_le n (length items)
+abbrev pub IsItemOf : List Item → ℕ → Type 0
+IsItemOf items n = (1 ≤ n) × (n ≤ length items)
 
--- no more literals than parts of the key, and each of the kind of its part's item
-abbrev pub is_key : List KeyPart → List Item → List Literal → Bool
-is_key ps items [] = true
-is_key [] items (l ∷ ls) = false
-is_key (p ∷ ps) items (l ∷ ls) = takes_literal (slice_get items (p.item - 1)) l && is_key ps items ls
-
-abbrev pub is_none : {A : Type 0} → List A → Bool
-is_none [] = true
-is_none (x ∷ xs) = false
+-- literals for the first parts of a key
+abbrev pub IsKeyOf : List KeyPart → List Item → List Literal → Type 0
+IsKeyOf ps items [] = ⊤
+IsKeyOf [] items (l ∷ ls) = ⊥
+IsKeyOf (p ∷ ps) items (l ∷ ls) = TakesLiteral (slice_get items (p.item - 1)) l × IsKeyOf ps items ls
 
 -- ---- verbs
 
--- a member that a line can name; AT gives one literal at least
-abbrev pub is_path : Described → Path → Bool
-is_path desc (First x) = is_outer_path (structure_of desc x)
-is_path desc (Last x) = is_outer_path (structure_of desc x)
-is_path desc (At x literals) =
-    is_outer_path (structure_of desc x) && not (is_none literals) && is_key (parts_of (structure_of desc x)) (items_of (structure_of desc (set_of desc x))) literals
+-- a data set, a set or an automatic subset that stands in no data set
+abbrev pub is_outer_path : Option Shape → Bool
+is_outer_path None = false
+is_outer_path (Some s) = nat_lt s.kind 5 && (s.owner == 0)
 
-abbrev pub is_put : List Item → List Setting → Bool
-is_put items settings = not (is_none settings) && list_all (is_setting items) settings && settings_differ settings
+-- a member that a line can name
+abbrev pub IsPathOf : Described → Path → Type 0
+IsPathOf desc (First x) = IsTrue (is_outer_path (structure_of desc x))
+IsPathOf desc (Last x) = IsTrue (is_outer_path (structure_of desc x))
+IsPathOf desc (At x literals) = IsTrue (is_outer_path (structure_of desc x)) × IsKeyOf (parts_of (structure_of desc x)) (items_of (structure_of desc (set_of desc x))) literals
 
--- a verb that a line can spell: what it names is there and of its kind. Those of transactions name the restart data set
-abbrev pub is_verb : Described → Verb → Bool
-is_verb desc OpenUpdate = true
-is_verb desc OpenInquiry = true
-is_verb desc Close = true
-is_verb desc (Find path) = is_path desc path
-is_verb desc (Create set) = is_outer_set (structure_of desc set)
-is_verb desc (Put set settings) = is_outer_set (structure_of desc set) && is_put (items_of (structure_of desc set)) settings
-is_verb desc (Get set numbers) = is_outer_set (structure_of desc set) && list_all (is_shown (items_of (structure_of desc set))) numbers
-is_verb desc (Store set) = is_outer_set (structure_of desc set)
-is_verb desc (Begin audit) = is_outer_restart (structure_of desc (restart_of desc))
-is_verb desc (End audit sync) = is_outer_restart (structure_of desc (restart_of desc))
-is_verb desc Abort = is_outer_restart (structure_of desc (restart_of desc))
-
+-- what a verb names is there and of its kind, in a data set that stands in no other; those of transactions ask for a restart
+-- data set
 abbrev pub IsVerbOf : Described → Verb → Type 0
-IsVerbOf desc verb = IsTrue (is_verb desc verb)
+IsVerbOf desc OpenUpdate = ⊤
+IsVerbOf desc OpenInquiry = ⊤
+IsVerbOf desc Close = ⊤
+IsVerbOf desc (Find path) = IsPathOf desc path
+IsVerbOf desc (Create set) = IsOuter (structure_of desc set)
+IsVerbOf desc (Put set settings) = IsOuter (structure_of desc set) × AllByRecursion (IsSettingOf (items_of (structure_of desc set))) settings
+IsVerbOf desc (Get set numbers) = IsOuter (structure_of desc set) × AllByRecursion (IsItemOf (items_of (structure_of desc set))) numbers
+IsVerbOf desc (Store set) = IsOuter (structure_of desc set)
+IsVerbOf desc (Begin audit) = IsOuter (structure_of desc (restart_of desc))
+IsVerbOf desc (End audit sync) = IsOuter (structure_of desc (restart_of desc))
+IsVerbOf desc Abort = IsOuter (structure_of desc (restart_of desc))

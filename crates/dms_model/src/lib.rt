@@ -3,6 +3,7 @@
 
 mod fitting;
 mod item_numbers;
+mod keys;
 mod literals;
 mod locks;
 mod program;
@@ -17,6 +18,7 @@ mod works;
 pub use dms_desc::{Bound, Record, Values};
 pub use fitting::{has_structure, is_data_set, is_numbered, record_fits, see_all_plain};
 pub use item_numbers::ItemNumbers;
+pub use keys::{part_order, value_at};
 pub use literals::Literals;
 pub use locks::Locks;
 pub use program::{Area, Lock, Mode, Program, Work};

@@ -25,11 +25,11 @@ pub trait Store {
     /// The same store, at another time.
     ghost same_store: { Self → Self → Type 0 };
 
-    /// The record of a data set with this number, or none. What it answers fits the data set, whatever it is told of.
+    /// The record of a data set with this number, or none: a number outside 1 to POPULATION is that of no record. What it
+    /// answers fits the data set, whatever it is told of.
     fn get(&mut self, alloc: Global, set: u16, number: u64) -> Result<Option<Record>, BlockFault>
         requires sound { (seen self.old).sound }
         requires set { IsDataSet (seen self.old).desc set }
-        requires number { IsNumber (seen self.old).desc set number }
         ensures found { Tells (seen self.old).db result (λ d. get d.records (set, number)) }
         ensures fits { IfOk result (λ o. IfSome o (RecordFits (seen self.old).desc set)) }
         ensures keeps { Unbroken result (Keeps (seen self.old) (seen self.new)) }
@@ -42,7 +42,7 @@ pub trait Store {
         ensures causes { HasCauses result (seen self.old) (seen self.new) };
 
     /// The first member of a structure, for an owner (0 where it is disjoint), after a bound. It is the database's where
-    /// the bound's key fits the structure's.
+    /// the owner is below 2^32 - 1 and the bound's key fits the structure's, with a member's number below 2^32 - 1.
     fn first_from(
         &mut self,
         alloc: Global,
@@ -65,7 +65,7 @@ pub trait Store {
         ensures causes { HasCauses result (seen self.old) (seen self.new) };
 
     /// The last member of a structure, for an owner (0 where it is disjoint), before a bound. It is the database's where
-    /// the bound's key fits the structure's.
+    /// the owner is below 2^32 - 1 and the bound's key fits the structure's, with a member's number below 2^32 - 1.
     fn last_to(
         &mut self,
         alloc: Global,
@@ -88,7 +88,8 @@ pub trait Store {
         ensures causes { HasCauses result (seen self.old) (seen self.new) };
 
     /// Stores a new record of a data set under the least free number, with null links, or replaces all items but the
-    /// links of the record with this number. It does so where no REQUIRED item is null and VERIFY is met.
+    /// links of the record with this number. It does so where that record and the record's owner stand, no REQUIRED item
+    /// is null and VERIFY is met.
     fn put(
         &mut self,
         alloc: Global,

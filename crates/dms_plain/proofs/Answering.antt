@@ -1,11 +1,10 @@
 -- What putting a record answers over rows is what it answers over their database.
 use Rattle.std.proofs.Common.{◌≡◌, ℕ, List, [], ◌∷◌, cond, Some, None, refl, sym, ap, ◌∙◌}
-use Rattle.std.specs.Prelude.{◌&&◌, is_some}
+use Rattle.std.specs.Prelude.{◌&&◌}
 use Rattle.std.specs.declared.option.Option.{Option}
-use Rattle.std.specs.FinMap.{entries, get-entries}
+use Rattle.std.specs.FinMap.{entries}
 use Rattle.dms_desc.specs.declared.record.Record.{Record}
 use Rattle.dms_desc.specs.Shape.{Shape, Described}
-use Rattle.dms_model.specs.declared.put.Put.TheVariants.{Stored, Full}
 use Rattle.dms_model.specs.Db.{Records, Place}
 use Rattle.dms_model.specs.Stores.{clash, is_closed, has_equal, judged, put_number, put_unless}
 use Rattle.dms_plain.specs.declared.rows.Row.{Row}
@@ -19,7 +18,7 @@ clash_same (s ∷ ss) records set number rec = ap (λ (o : Option ℕ). cond (is
 
 number_same : (desc : Described) (records : Records) (set : ℕ) (number : Option ℕ) → number_in desc (entries records) set number ≡ put_number desc (db_of records) set number
 number_same desc records set None = refl
-number_same desc records set (Some n) = ap (λ (o : Option Record). cond (is_some o) (Stored n) Full) (sym (get-entries records (set, n)))
+number_same desc records set (Some n) = refl
 
 put_same : (desc : Described) (records : Records) (set : ℕ) (number : Option ℕ) (rec : Record) → put_in desc (entries records) set number rec ≡ judged desc (db_of records) set number rec
 put_same desc records set number rec = λ i. put_unless (clash_same desc.structures records set number rec i) (number_same desc records set number i)

@@ -1,6 +1,6 @@
 -- What a record that is put replaces.
 use Rattle.std.proofs.Common.{◌≡◌, ℕ, Bool, true, false, cond, Option, Some, None, sym, ap, ◌∙◌}
-use Rattle.std.specs.Prelude.{is_some, length}
+use Rattle.std.specs.Prelude.{length}
 use Rattle.std.specs.FinMap.{get}
 use Rattle.dms_desc.specs.declared.record.Record.{Record}
 use Rattle.dms_desc.specs.Shape.{Described}
@@ -16,15 +16,11 @@ fresh_at false desc db set n is =
     let same : fresh db.records set ≡ n = cc in
     sym (fresh_free db.records set) ∙ ap (λ (m : ℕ). get db.records (set, m)) same
 
-named_at : (b : Bool) (db : Db) (set n m : ℕ) → cond b (Stored m) Full ≡ Stored n → get db.records (set, m) ≡ get db.records (set, n)
-named_at true db set n m is =
-    let same : m ≡ n = cc in
-    ap (λ (k : ℕ). get db.records (set, k)) same
-named_at false db set n m is = absurd (cc)
-
 number_at : (desc : Described) (db : Db) (set n : ℕ) (number : Option ℕ) → put_number desc db set number ≡ Stored n → old_of db set number ≡ get db.records (set, n)
 number_at desc db set n None is = fresh_at (is_full (structure_of desc set) (length (records_of db.records set))) desc db set n is
-number_at desc db set n (Some m) is = named_at (is_some (get db.records (set, m))) db set n m is
+number_at desc db set n (Some m) is =
+    let same : m ≡ n = cc in
+    ap (λ (k : ℕ). get db.records (set, k)) same
 
 unless_at : (c : Option ℕ) (desc : Described) (db : Db) (set n : ℕ) (number : Option ℕ) → put_unless c (put_number desc db set number) ≡ Stored n → old_of db set number ≡ get db.records (set, n)
 unless_at None desc db set n number is = number_at desc db set n number is

@@ -6,11 +6,12 @@ ghost use Rattle.dms_model.specs.Stores.{is_closed, is_other, has_equal, kept_va
 ghost use Rattle.dms_plain.specs.Rows.{entries_of};
 ghost use Rattle.dms_plain.specs.Clashes.{clash_in};
 
-use crate::keys::{order_of_keys, value_here};
+use crate::keys::order_of_keys;
 use crate::rows::Row;
 use crate::scan::belongs;
 use dms_base::{Memory, Value};
 use dms_desc::{Item, Record, Structure, Values};
+use dms_model::value_at;
 use std::alloc::Global;
 
 fn is_other(number: Option<u64>, m: u64) -> bool
@@ -113,7 +114,7 @@ pub fn linked(
 {
     let mut made = Values::new(alloc);
     for (i, value) in news.iter().enumerate() {
-        made.push(kept_value(alloc, item_here(items, i), value_here(olds, i), value)?)?;
+        made.push(kept_value(alloc, item_here(items, i), value_at(olds, i), value)?)?;
     }
     Ok(made)
 }

@@ -1,11 +1,11 @@
-ghost use Rattle.std.specs.Prelude.{◌≡◌, IfOk, slice_get};
+ghost use Rattle.std.specs.Prelude.{◌≡◌, IfOk};
 ghost use Rattle.std.specs.Option.{option_copied};
 ghost use Rattle.dms_desc.specs.Conds.{or_null, item_of};
-ghost use Rattle.dms_desc.specs.Keys.{key_of, key_cmp, turned};
-ghost use Rattle.dms_base.specs.Orders.{value_cmp};
+ghost use Rattle.dms_desc.specs.Keys.{key_of, key_cmp};
 
-use dms_base::{Memory, Value, order};
+use dms_base::{Memory, Value};
 use dms_desc::{KeyPart, Values};
+use dms_model::{part_order, value_at};
 use std::alloc::Global;
 use std::cmp::Ordering;
 
@@ -16,26 +16,6 @@ fn item_at(values: &[Value], item: u8) -> Option<&Value>
     values.get((item as usize).saturating_sub(1))
 }
 
-/// The value at an index.
-pub fn value_here(values: &[Value], i: usize) -> Option<&Value>
-    ensures { or_null (option_copied result) ≡ or_null (slice_get values.now i) }
-{
-    values.get(i)
-}
-
-/// Two values in the direction of a part, a missing one as null.
-fn part_order(descending: bool, a: Option<&Value>, b: Option<&Value>) -> Ordering
-    ensures { result ≡ turned descending (value_cmp (or_null (option_copied a.entry)) (or_null (option_copied b.entry))) }
-{
-    let ahead = match (a, b) {
-        (Some(x), Some(y)) => order(x, y),
-        (Some(x), None) => order(x, &Value::Null),
-        (None, Some(y)) => order(&Value::Null, y),
-        (None, None) => Ordering::Equal,
-    };
-    if descending { ahead.reverse() } else { ahead }
-}
-
 /// The order of a record's key and a key.
 pub fn order_to_key(parts: &[KeyPart], values: &[Value], key: &[Value]) -> Ordering
     ensures { result ≡ key_cmp parts.now (key_of parts.now values.now) key.now }
@@ -44,7 +24,7 @@ pub fn order_to_key(parts: &[KeyPart], values: &[Value], key: &[Value]) -> Order
         let ahead = part_order(
             part.descending,
             item_at(values, part.item),
-            value_here(key, i),
+            value_at(key, i),
         );
         match ahead {
             Ordering::Equal => {}

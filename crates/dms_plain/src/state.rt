@@ -43,12 +43,7 @@ fn put_in(desc: &Description, rows: &[Row], set: u16, number: Option<u64>, made:
         return Put::Duplicate(s);
     }
     match number {
-        Some(n) => {
-            if rows::look(rows, set, n).is_none() {
-                return Put::Full;
-            }
-            Put::Stored(n)
-        }
+        Some(n) => Put::Stored(n),
         None => {
             if is_full(desc.structure(set), rows::count(rows, set)) {
                 return Put::Full;

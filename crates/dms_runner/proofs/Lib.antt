@@ -1,7 +1,9 @@
 pub mod Always
 pub mod Blames
+pub mod Exclusive
 pub mod Happening
 pub mod Leaving
+pub mod LineVerbs
 pub mod Lining
 pub mod Passes
 pub mod Rooms
@@ -10,4 +12,5 @@ pub mod Texts
 pub mod Tried
 pub mod Turns
 pub mod Unanswered
+pub mod Verbs
 pub mod Whole

@@ -11,7 +11,10 @@ use Rattle.dms_block.specs.Texts.{Prints}
 use Rattle.dms_model.specs.Session.{Session, ended}
 use Rattle.dms_storeverbs.specs.View.{View, StandsFor}
 use Rattle.dms_runner.specs.declared.waiting.WaitingLine.{WaitingLine}
-use Rattle.dms_runner.specs.Answers.{RunState, LineEffect, HasRoomForLine, nothing_done, line_step, lines_run, lines_before, first_state, script_run, end_events, script_events}
+use Rattle.dms_laws.specs.Exclusive.{IsExclusive}
+use Rattle.dms_laws.proofs.Locks.{locks_stay_exclusive}
+use Rattle.dms_runner.proofs.Exclusive.{line_exclusive}
+use Rattle.dms_runner.specs.Answers.{RunState, LineEffect, MayTakeLine, nothing_done, line_step, lines_run, lines_before, first_state, script_run, end_events, script_events}
 use Rattle.dms_runner.specs.Events.{RunEvent, Performs, PerformsPrefix, text_of}
 use Rattle.dms_feed.specs.Raws.{CutLine}
 use Rattle.dms_runner.specs.Running.{bytes_of, text_of_lines, TakesScriptLine, AnswersWhole, TakesLines, PassesLines, PassesBytes, PassesWaiting, CutInput}
@@ -110,6 +113,7 @@ pub record Runs (desc : Described) (g : RunState) (i room : ℕ) (all : List ℕ
   pub roomy : (lines_run desc g done).full ≡ false
   pub stands : StandsFor v (lines_run desc g done).going.session
   pub waiting_is : waiting ≡ (lines_run desc g done).going.waiting
+  pub exclusive : IsExclusive (lines_run desc g done).going.session
   pub line : (lines_run desc g done).going.line ≡ i
   pub low : (lines_run desc g done).going.session.next + length (lines_run desc g done).going.waiting ≤ g.session.next + length g.waiting + i
   pub ran : Performs before after (lines_run desc g done).events
@@ -129,15 +133,16 @@ runs_start desc db first all v feed left now stands remains =
       roomy = ap (λ (l : LineEffect). l.full) e;
       stands = subst (λ (s : Session). StandsFor v s) (sym (ap (λ (l : LineEffect). l.going.session) e)) stands;
       waiting_is = sym (ap (λ (l : LineEffect). l.going.waiting) e);
+      exclusive = subst IsExclusive (sym (ap (λ (l : LineEffect). l.going.session) e)) (locks_stay_exclusive.first db first);
       line = ap (λ (l : LineEffect). l.going.line) e;
       low = omega (arith, ap (λ (l : LineEffect). l.going.session.next) e, ap (λ (l : LineEffect). length l.going.waiting) e);
       ran = subst (λ (t : List RunEvent). Performs now now t) (sym (ap (λ (l : LineEffect). l.events) e)) (ran_none now);
     }
 
--- room for the numbers of the quiet points that the next line may lead to
+-- the next line may be taken
 pub runs_room : (desc : Described) (db : Db) (first : ℕ) (i room : ℕ) (all : List ℕ) (v : View) (waiting : List WaitingLine) (feed : List ℕ) (left : Option (List ℕ)) (before after : Seen)
-    (r : Runs desc (first_state db first) i room all v waiting feed left before after) → i < 1000000 → first + 1000003 < 2 ^ 64 → HasRoomForLine (lines_run desc (first_state db first) r.done).going
-runs_room desc db first i room all v waiting feed left before after r more small = omega (arith, r.low, more, small)
+    (r : Runs desc (first_state db first) i room all v waiting feed left before after) → i < 1000000 → first + 1000003 < 2 ^ 64 → MayTakeLine (lines_run desc (first_state db first) r.done).going
+runs_room desc db first i room all v waiting feed left before after r more small = record { room = omega (arith, r.low, more, small); exclusive = r.exclusive }
 
 -- and for the one that the end asks for
 pub runs_next : (desc : Described) (db : Db) (first : ℕ) (i room : ℕ) (all : List ℕ) (v : View) (waiting : List WaitingLine) (feed : List ℕ) (left : Option (List ℕ)) (before after : Seen)
@@ -170,6 +175,7 @@ runs_on desc g i room room' all v w waiting next feed feed' left left' before mi
       roomy = ap (λ (x : LineEffect). x.full) e;
       stands = subst (λ (x : Session). StandsFor w x) (sym (ap (λ (x : LineEffect). x.going.session) e)) t.goes.session;
       waiting_is = t.goes.waiting_is ∙ sym (ap (λ (x : LineEffect). x.going.waiting) e);
+      exclusive = subst IsExclusive (sym (ap (λ (x : LineEffect). x.going.session) e)) (line_exclusive desc now l r.exclusive);
       line = ap (λ (x : LineEffect). x.going.line) e ∙ low.1 ∙ ap (λ (n : ℕ). n + 1) r.line;
       low = omega (arith, r.low, low.0, ap (λ (x : LineEffect). x.going.session.next) e, ap (λ (x : LineEffect). length x.going.waiting) e);
       ran = subst (λ (x : List RunEvent). Performs before after x) (sym (ap (λ (x : LineEffect). x.events) e ∙ ap (λ (x : List RunEvent). (lines_run desc g r.done).events ++ x) (append-nil s.events))) (ran_on before mid after (lines_run desc g r.done).events s.events r.ran t.goes.ran);

@@ -5,6 +5,7 @@ use Rattle.std.specs.declared.option.Option.{Option}
 use Rattle.std.specs.List.{remove}
 use Rattle.std.proofs.lemmas.List.{append-nil, take_at}
 use Rattle.dms_desc.specs.Shape.{Described}
+use Rattle.dms_laws.specs.Exclusive.{IsExclusive}
 use Rattle.dms_storeverbs.specs.View.{View, StandsFor, Room}
 use Rattle.dms_model.specs.Session.{Session, step, is_waits}
 use Rattle.dms_model.proofs.Rises.{step_small}
@@ -12,6 +13,7 @@ use Rattle.dms_runner.specs.declared.waiting.WaitingLine.{WaitingLine}
 use Rattle.dms_runner.specs.Waiting.{has_line, said_to_wait, RetryEffect, events_before, retry, retries}
 use Rattle.dms_runner.specs.Trying.{PerformsRetry, PerformsRetries}
 use Rattle.dms_runner.specs.Events.{RunEvent, Performs, PerformsPrefix}
+use Rattle.dms_runner.proofs.Exclusive.{retry_exclusive}
 use Rattle.dms_runner.proofs.Happening.{ran_none, ran_on, part_on, part_of_first}
 use Rattle.dms_runner.proofs.Passes.{retry_skips, retry_waits, retry_answers, retry_ends, retries_again, retries_end, behind_on}
 
@@ -55,11 +57,12 @@ pub record Retrying (desc : Described) (s : Session) (first : List WaitingLine) 
   pub fuel : left + turn ≡ length first
   pub is : retries (length first) desc s first ≡ events_before events (retries left desc at now)
   pub stands : StandsFor v at
+  pub exclusive : IsExclusive at
   pub low : at.next + length now ≤ s.next + length first
   pub ran : Performs before after events
 
-pub retrying_start : (desc : Described) (s : Session) (first : List WaitingLine) (v : View) (said : Seen) → StandsFor v s → Retrying desc s first 0 first v said said
-retrying_start desc s first v said stands = record { events = []; at = s; left = length first; fuel = omega arith; is = refl; stands = stands; low = omega arith; ran = ran_none said }
+pub retrying_start : (desc : Described) (s : Session) (first : List WaitingLine) (v : View) (said : Seen) → StandsFor v s → IsExclusive s → Retrying desc s first 0 first v said said
+retrying_start desc s first v said stands held = record { events = []; at = s; left = length first; fuel = omega arith; is = refl; stands = stands; exclusive = held; low = omega arith; ran = ran_none said }
 
 pub retrying_room : (desc : Described) (s : Session) (first : List WaitingLine) (turn : ℕ) (now : List WaitingLine) (v : View) (before after : Seen) (k : Retrying desc s first turn now v before after) → s.next + length first + 2 < 2 ^ 64 → Room k.at.next
 retrying_room desc s first turn now v before after k room = omega (arith, k.low, room)
@@ -84,6 +87,7 @@ retrying_on desc s first turn now next last i v w before mid after k more p gone
       fuel = omega (arith, fuel);
       is = is ∙ ap (λ (y : RetryEffect). events_before k.events y) (retries_again n desc k.at now p.found_is.1) ∙ behind_on k.events x.events _ ∙ ap (λ (l : List WaitingLine). events_before (k.events ++ x.events) (retries n desc x.session l)) waiting_is;
       stands = p.session;
+      exclusive = retry_exclusive desc k.at [] now k.exclusive;
       low = omega (arith, k.low, retry_low desc k.at [] now, ap length waiting_is);
       ran = ran_on before mid after k.events x.events k.ran p.ran;
     }

@@ -2,6 +2,7 @@
 use Rattle.std.specs.Prelude.{◌<◌, ◌^◌, ℕ, ◌+◌, List, [], ◌∷◌, ◌++◌, Bool, true, false, if◌then◌else◌, nat_le, length}
 use Rattle.dms_desc.specs.Shape.{Described}
 use Rattle.dms_feed.specs.Lines.{line_text}
+use Rattle.dms_laws.specs.Exclusive.{IsExclusive}
 use Rattle.dms_model.specs.declared.verb.Verb.{Verb}
 use Rattle.dms_model.specs.Db.{Db}
 use Rattle.dms_model.specs.Points.{Quiet}
@@ -27,6 +28,11 @@ one_line_more g = record g { line = g.line + 1 }
 -- room for the numbers of the quiet points that one more line may lead to: a step makes one at most
 abbrev pub HasRoomForLine : RunState → Type 0
 HasRoomForLine g = g.session.next + length g.waiting + 3 < 2 ^ 64
+
+-- one more line may be taken: there is room, no two programs lock one record, and what is locked is a record of the database
+pub record MayTakeLine (g : RunState) : Type 0 where
+  pub room : HasRoomForLine g
+  pub exclusive : IsExclusive g.session
 
 -- what a line, or a row of lines, leaves and does, and whether one line too many would be held
 pub record LineEffect : Type 0 where

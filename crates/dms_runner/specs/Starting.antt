@@ -6,18 +6,18 @@ use Rattle.dms_model.specs.declared.store.Store.{Ghosts}
 use Rattle.dms_model.specs.Db.{Db}
 use Rattle.dms_model.specs.Session.{Session, fresh_session}
 use Rattle.dms_storeverbs.specs.declared.engine.Engine.{Engine}
-use Rattle.dms_storeverbs.specs.View.{StandsFor, Room, view}
+use Rattle.dms_storeverbs.specs.View.{StandsFor, MayStep, view}
 use Rattle.dms_runner.specs.declared.waiting.WaitingLine.{WaitingLine}
-use Rattle.dms_runner.specs.Answers.{RunState, HasRoomForLine}
+use Rattle.dms_runner.specs.Answers.{RunState, MayTakeLine}
 
 module _ {St : Type 0} {g : Ghosts St} where
-  -- it holds of the session that stands, with room for its quiet points
+  -- it holds of the session that stands, in which a verb may be carried out
   abbrev pub AtSession : Engine St g → (Session → Type 0) → Type 0
-  AtSession e P = (s : Session) → StandsFor (view e) s → Room s.next → P s
+  AtSession e P = (s : Session) → StandsFor (view e) s → MayStep s → P s
 
   -- it holds of the run that goes on here: these lines are held, and this is the line's number
   abbrev pub AtRunState : Engine St g → List WaitingLine → ℕ → (RunState → Type 0) → Type 0
-  AtRunState e waiting line P = (now : RunState) → StandsFor (view e) now.session → now.waiting ≡ waiting → now.line ≡ line → HasRoomForLine now → P now
+  AtRunState e waiting line P = (now : RunState) → StandsFor (view e) now.session → now.waiting ≡ waiting → now.line ≡ line → MayTakeLine now → P now
 
   -- it holds of the database, the first number and the input of a run that starts here
   abbrev pub AtStart : Engine St g → List ℕ → Option (List ℕ) → (Db → ℕ → List ℕ → Type 0) → Type 0

@@ -1,14 +1,19 @@
 -- Waiting lines: the retry over them, and what each try does.
 use Rattle.std.specs.Prelude.{ℕ, List, [], ◌∷◌, ◌++◌, Bool, true, false, ◌&&◌, Some, None, if◌then◌else◌, zero, suc}
 use Rattle.std.specs.declared.option.Option.{Option}
-use Rattle.std.specs.List.{list_any}
+use Rattle.std.specs.List.{list_any, AllByRecursion}
 use Rattle.std.specs.Str.{bytes_eq}
 use Rattle.dms_desc.specs.Shape.{Described}
 use Rattle.dms_model.specs.declared.reply.Reply.{Reply}
 use Rattle.dms_model.specs.Session.{Session, Outcome, step, is_waits}
+use Rattle.dms_model.specs.Verbs.{IsVerbOf}
 use Rattle.dms_script.specs.Replies.{reply_text, syncpoint_text}
 use Rattle.dms_runner.specs.declared.waiting.WaitingLine.{WaitingLine}
 use Rattle.dms_runner.specs.Events.{RunEvent, calls, says}
+
+-- each of these lines has a verb that a line can spell
+abbrev pub AreVerbs : Described → List WaitingLine → Type 0
+AreVerbs desc waiting = AllByRecursion (λ h. IsVerbOf desc h.verb) waiting
 
 -- a line of this program is among these
 abbrev pub has_line : List WaitingLine → List ℕ → Bool

@@ -6,8 +6,10 @@ ghost use Rattle.dms_runner.specs.Events.{IsCutShort, PerformsPrefix};
 ghost use Rattle.dms_feed.specs.Lines.{line_text};
 ghost use Rattle.dms_model.specs.declared.verb.Verb.{Verb};
 ghost use Rattle.dms_script.specs.declared.line.Line.TheVariants.{Empty, Verb as Spoken, Bad};
-ghost use Rattle.dms_runner.specs.Answers.{RunState, HasRoomForLine, line_step, line_effect, first_try_effect, one_line_more};
+ghost use Rattle.dms_runner.specs.Answers.{RunState, MayTakeLine, line_step, line_effect, first_try_effect, one_line_more};
+ghost use Rattle.dms_model.specs.Verbs.{IsVerbOf};
 ghost use Rattle.dms_runner.specs.Trying.{MatchesLine};
+ghost use Rattle.dms_runner.specs.Waiting.{AreVerbs};
 ghost use Rattle.dms_runner.specs.Starting.{AtSession, AtRunState, AtStart};
 
 use crate::WaitingLine;
@@ -33,8 +35,10 @@ fn bad_line<St: Store>(
     place: u32,
 ) -> Result<bool, BlockFault>
     requires sound { (seen engine.old).sound }
+    requires verbs { AreVerbs (described engine.old.desc) waiting.old.items }
     ensures lined { IfOk result (λ on. AtRunState engine.old waiting.old.items line (λ g. MatchesLine (line_effect (described engine.old.desc) g (Bad place)) on (view engine.new) waiting.new.items (seen engine.old) (seen engine.new))) }
     ensures part { AtRunState engine.old waiting.old.items line (λ g. PerformsPrefix (IsCutShort result) (seen engine.old) (seen engine.new) (line_effect (described engine.old.desc) g (Bad place)).events) }
+    ensures verbs { OnOk result (AreVerbs (described engine.old.desc) waiting.new.items) }
     ensures lasts { Lasts result engine.old engine.new }
 {
     let text = bad_text(alloc, line, place)?;
@@ -53,8 +57,11 @@ fn first_try<St: Store>(
     verb: Verb,
 ) -> Result<bool, BlockFault>
     requires sound { (seen engine.old).sound }
+    requires verbs { AreVerbs (described engine.old.desc) waiting.old.items }
+    requires verb { IsVerbOf (described engine.old.desc) verb }
     ensures lined { IfOk result (λ on. AtRunState engine.old waiting.old.items line (λ g. MatchesLine (first_try_effect (described engine.old.desc) g name verb (step (described engine.old.desc) g.session name verb)) on (view engine.new) waiting.new.items (seen engine.old) (seen engine.new))) }
     ensures part { AtRunState engine.old waiting.old.items line (λ g. PerformsPrefix (IsCutShort result) (seen engine.old) (seen engine.new) (first_try_effect (described engine.old.desc) g name verb (step (described engine.old.desc) g.session name verb)).events) }
+    ensures verbs { OnOk result (AreVerbs (described engine.old.desc) waiting.new.items) }
     ensures lasts { Lasts result engine.old engine.new }
 {
     let answer = engine.call(alloc, &name, &verb)?;
@@ -86,8 +93,11 @@ fn spoken_line<St: Store>(
     verb: Verb,
 ) -> Result<bool, BlockFault>
     requires sound { (seen engine.old).sound }
+    requires verbs { AreVerbs (described engine.old.desc) waiting.old.items }
+    requires verb { IsVerbOf (described engine.old.desc) verb }
     ensures lined { IfOk result (λ on. AtRunState engine.old waiting.old.items line (λ g. MatchesLine (line_effect (described engine.old.desc) g (Spoken name verb)) on (view engine.new) waiting.new.items (seen engine.old) (seen engine.new))) }
     ensures part { AtRunState engine.old waiting.old.items line (λ g. PerformsPrefix (IsCutShort result) (seen engine.old) (seen engine.new) (line_effect (described engine.old.desc) g (Spoken name verb)).events) }
+    ensures verbs { OnOk result (AreVerbs (described engine.old.desc) waiting.new.items) }
     ensures lasts { Lasts result engine.old engine.new }
 {
     if !has_line(waiting.as_slice(), &name) {
@@ -115,8 +125,10 @@ pub fn take_line<St: Store>(
     raw: &[u8],
 ) -> Result<bool, BlockFault>
     requires sound { (seen engine.old).sound }
-    ensures lined { IfOk result (λ on. (g : RunState) (whole : List ℕ) → raw.now ≡ take 2003 whole → StandsFor (view engine.old) g.session → g.waiting ≡ waiting.old.items → g.line + 1 ≡ line → HasRoomForLine g → MatchesLine (line_step (described engine.old.desc) g whole) on (view engine.new) waiting.new.items (seen engine.old) (seen engine.new)) }
-    ensures part { (g : RunState) (whole : List ℕ) → raw.now ≡ take 2003 whole → StandsFor (view engine.old) g.session → g.waiting ≡ waiting.old.items → g.line + 1 ≡ line → HasRoomForLine g → PerformsPrefix (IsCutShort result) (seen engine.old) (seen engine.new) (line_step (described engine.old.desc) g whole).events }
+    requires verbs { AreVerbs (described engine.old.desc) waiting.old.items }
+    ensures lined { IfOk result (λ on. (g : RunState) (whole : List ℕ) → raw.now ≡ take 2003 whole → StandsFor (view engine.old) g.session → g.waiting ≡ waiting.old.items → g.line + 1 ≡ line → MayTakeLine g → MatchesLine (line_step (described engine.old.desc) g whole) on (view engine.new) waiting.new.items (seen engine.old) (seen engine.new)) }
+    ensures part { (g : RunState) (whole : List ℕ) → raw.now ≡ take 2003 whole → StandsFor (view engine.old) g.session → g.waiting ≡ waiting.old.items → g.line + 1 ≡ line → MayTakeLine g → PerformsPrefix (IsCutShort result) (seen engine.old) (seen engine.new) (line_step (described engine.old.desc) g whole).events }
+    ensures verbs { OnOk result (AreVerbs (described engine.old.desc) waiting.new.items) }
     ensures lasts { Lasts result engine.old engine.new }
 {
     match read_line(alloc, engine.description(), line_text(raw))? {

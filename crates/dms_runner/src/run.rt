@@ -10,8 +10,9 @@ ghost use Rattle.dms_block.specs.Texts.{Prints, PrintsPrefix};
 ghost use Rattle.dms_model.specs.Session.{Session, fresh_session, ended};
 ghost use Rattle.dms_storeverbs.specs.View.{Lasts, SameSession, StandsFor, seen, view};
 ghost use Rattle.dms_runner.specs.Events.{text_of, IsCutShort, Performs, PerformsPrefix};
-ghost use Rattle.dms_runner.specs.Answers.{RunState, HasRoomForLine, line_step, lines_run, unanswered_events, end_events, script_run, script_events, answers_text};
+ghost use Rattle.dms_runner.specs.Answers.{RunState, MayTakeLine, line_step, lines_run, unanswered_events, end_events, script_run, script_events, answers_text};
 ghost use Rattle.dms_runner.specs.Running.{TakesScriptLine, AnswersWhole, PassesLines, PassesBytes, PassesWaiting, CutInput};
+ghost use Rattle.dms_runner.specs.Waiting.{AreVerbs};
 ghost use Rattle.dms_runner.specs.Starting.{AtSession, AtRunState, AtStart};
 ghost use Rattle.dms_runner.specs.Blaming.{CutRun, LastsRun};
 
@@ -110,16 +111,18 @@ fn one_line<St: Store, I: Source>(
     room: &mut u64,
 ) -> Result<bool, RunFault>
     requires sound { (seen engine.old).sound }
+    requires verbs { AreVerbs (described engine.old.desc) waiting.old.items }
     requires room { room.old ≤ 2147483648 }
     requires line { line < 4294967295 }
-    ensures took { IfOk result (λ more. more ≡ true → (g : RunState) (all : List ℕ) → StandsFor (view engine.old) g.session → g.waiting ≡ waiting.old.items → g.line ≡ line → HasRoomForLine g → Remains feed.old (I.left source.old) all → TakesScriptLine (described engine.old.desc) g all room.old room.new (view engine.new) waiting.new.items feed.new (I.left source.new) (seen engine.old) (seen engine.new)) }
+    ensures took { IfOk result (λ more. more ≡ true → (g : RunState) (all : List ℕ) → StandsFor (view engine.old) g.session → g.waiting ≡ waiting.old.items → g.line ≡ line → MayTakeLine g → Remains feed.old (I.left source.old) all → TakesScriptLine (described engine.old.desc) g all room.old room.new (view engine.new) waiting.new.items feed.new (I.left source.new) (seen engine.old) (seen engine.new)) }
     ensures none { IfOk result (λ more. more ≡ false → (engine.new ≡ engine.old) × (waiting.new ≡ waiting.old) × ((all : List ℕ) → Remains feed.old (I.left source.old) all → (all ≡ []) × Remains feed.new (I.left source.new) [])) }
-    ensures part { (g : RunState) (all : List ℕ) → StandsFor (view engine.old) g.session → g.waiting ≡ waiting.old.items → g.line ≡ line → HasRoomForLine g → Remains feed.old (I.left source.old) all → PerformsPrefix (CutRun result) (seen engine.old) (seen engine.new) (lines_run (described engine.old.desc) g (raw_lines all)).events }
+    ensures part { (g : RunState) (all : List ℕ) → StandsFor (view engine.old) g.session → g.waiting ≡ waiting.old.items → g.line ≡ line → MayTakeLine g → Remains feed.old (I.left source.old) all → PerformsPrefix (CutRun result) (seen engine.old) (seen engine.new) (lines_run (described engine.old.desc) g (raw_lines all)).events }
     ensures bytes { IsErrOf result RunFault.Bytes → ((seen engine.new).said ≡ (seen engine.old).said) × ((all : List ℕ) → Remains feed.old (I.left source.old) all → room.old < length (first_line all)) }
-    ensures full_list { IsErrOf result RunFault.Waiting → (g : RunState) (all : List ℕ) → StandsFor (view engine.old) g.session → g.waiting ≡ waiting.old.items → g.line ≡ line → HasRoomForLine g → Remains feed.old (I.left source.old) all → Prints (seen engine.old).said (seen engine.new).said [] × (all ≢ []) × ((line_step (described engine.old.desc) g (first_line all)).full ≡ true) × (length (first_line all) ≤ room.old) }
+    ensures full_list { IsErrOf result RunFault.Waiting → (g : RunState) (all : List ℕ) → StandsFor (view engine.old) g.session → g.waiting ≡ waiting.old.items → g.line ≡ line → MayTakeLine g → Remains feed.old (I.left source.old) all → Prints (seen engine.old).said (seen engine.new).said [] × (all ≢ []) × ((line_step (described engine.old.desc) g (first_line all)).full ≡ true) × (length (first_line all) ≤ room.old) }
     ensures no_lines { IsErrOf result RunFault.Lines → ⊥ }
     ensures failed { IsErrOf result RunFault.Input → ((seen engine.new).said ≡ (seen engine.old).said) × ((all : List ℕ) → Remains feed.old (I.left source.old) all → CutLine room.old (I.left source.new) all) }
     ensures rest { OnOk result ((all : List ℕ) → Remains feed.old (I.left source.old) all → (rest : List ℕ) × Remains feed.new (I.left source.new) rest) }
+    ensures verbs { OnOk result (AreVerbs (described engine.old.desc) waiting.new.items) }
     ensures lasts { LastsRun result engine.old engine.new }
     ensures room { room.new ≤ room.old }
     ensures same_source { I.same_source source.old source.new }

@@ -2,6 +2,7 @@ ghost use Rattle.std.specs.Prelude.{◌≡◌, ◌≤◌, ◌<◌, ◌+◌, ◌^
 ghost use Rattle.dms_desc.specs.Shape.{described};
 ghost use Rattle.dms_block.specs.Texts.{Prints, PrintsPrefix};
 ghost use Rattle.dms_model.specs.Session.{Session, step, is_waits};
+ghost use Rattle.dms_model.specs.Verbs.{IsVerbOf};
 ghost use Rattle.dms_storeverbs.specs.View.{Lasts, SameSession, StandsFor, seen, view};
 ghost use Rattle.dms_runner.specs.Events.{says, IsCutShort, Performs, PerformsPrefix};
 ghost use Rattle.dms_runner.specs.Waiting.{answer_text, said_of, tries, sync_text};
@@ -105,6 +106,7 @@ pub fn try_line<St: Store>(
     waiting: &WaitingLine,
 ) -> Result<bool, BlockFault>
     requires sound { (seen engine.old).sound }
+    requires verb { IsVerbOf (described engine.old.desc) waiting.now.verb }
     ensures tried { IfOk result (λ answered. AtSession engine.old (λ s. PerformsTry (step (described engine.old.desc) s waiting.now.program waiting.now.verb) waiting.now answered (view engine.new) (seen engine.old) (seen engine.new))) }
     ensures part { AtSession engine.old (λ s. PerformsPrefix (IsCutShort result) (seen engine.old) (seen engine.new) (tries waiting.now (step (described engine.old.desc) s waiting.now.program waiting.now.verb))) }
     ensures lasts { Lasts result engine.old engine.new }

@@ -27,7 +27,7 @@ use Rattle.dms_model.specs.Db.{Db}
 use Rattle.dms_desc.specs.Lookups.{name_of, structure_of, items_of, set_of}
 use Rattle.dms_model.specs.Stores.{put_answer}
 use Rattle.dms_model.specs.Session.{Session, Outcome, StoreResult, Refused, Keeps, Filled, Misfit, Values', refuse, done, shows, settle, keep, store_step, after_store, begin_step, after_begin, begin_unless, awaited, workers, end_step, after_end, abort_step, find_step, after_find, found_by, create_step, put_step, put_area, after_put, filled, item_name, setting_value, get_step, get_area, get_text, more_text, item_text, close_step, open_as, open_step, verb_step, step_at, step, with_program, with_work, work_of, restart_of, someone_works, is_inquiry, opens, changes, path_of, new_program, place_of, carried, left, without, idle, backed_out, found_program, let_go, with_lock, area_kept, kept_unless, put_kept, missing_from, verified, area_values, area_number, record_of, is_free, one_more}
-use Rattle.dms_laws.specs.Sound.{AreaFits, AreasFit}
+use Rattle.dms_model.specs.Areas.{AreaFits, AreasFit}
 use Rattle.dms_laws.proofs.Lists.{all_at, all_set, all_mapped, all_pushed, all_without}
 use Rattle.dms_scriptlaws.specs.Truths.{HasNames}
 use Rattle.dms_scriptlaws.proofs.Digits.{NoFeed}

@@ -21,26 +21,16 @@ use Rattle.dms_laws.specs.Sound.{IsSound, NamesOuter}
 use Rattle.dms_laws.proofs.Sound.{stays_sound, empty_valid, empty_flat}
 use Rattle.dms_script.specs.declared.line.Line.{Line}
 use Rattle.dms_script.specs.declared.line.Line.TheVariants.{Verb as Spoken}
-use Rattle.dms_script.specs.declared.look.Wanted.TheVariants.{DataSet}
 use Rattle.dms_script.specs.Lines.{line_of}
-use Rattle.dms_script.specs.Spoken.{is_such, MaySetTo, NamesWhatIsThere, SpeaksWell}
+use Rattle.dms_script.specs.Spoken.{MaySetTo, NamesWhatIsThere, SpeaksWell}
 use Rattle.dms_script.proofs.Spoken.{lines_speak_well}
+use Rattle.dms_runner.proofs.LineVerbs.{outer_of}
 use Rattle.dms_runner.specs.Answers.{script_events, answers_quiets, last_quiet}
 use Rattle.dms_scriptlaws.specs.Truths.{IsRunnable, IsStart, TellsTrue, StopsTold, StayValid}
 use Rattle.dms_scriptlaws.proofs.Feeds.{name_feed, reply_none, bad_none, unanswered_none}
 use Rattle.dms_scriptlaws.proofs.Prefixes.{truthful, leaves_told, numbered_rise}
 use Rattle.dms_scriptlaws.proofs.Named.{AreNamed, step_named}
 use Rattle.dms_scriptlaws.proofs.Speaking.{Speaks, IsTrueRun, true_run}
-
-both : (a b : Bool) → (a && b) ≡ true → (a ≡ true) × (b ≡ true)
-both true b e = (refl, e)
-both false b e = absurd (cc)
-
-outer_shape : (s : Shape) → 1 ≤ s.kind → (nat_lt s.kind 3 && s.owner == 0) ≡ true → IsOuter (Some s)
-outer_shape s low h =
-    let h' = both (nat_lt s.kind 3) (s.owner == 0) h in
-    let above : nat_lt 0 s.kind ≡ true = grind (arith, nat_tests, low) in
-    record { data_set = ap (λ (b : Bool). b && nat_lt s.kind 3) above ∙ h'.0; disjoint = grind (arith, nat_tests, h'.1) }
 
 texts_of : (o : Option Item) (l : Literal) → MaySetTo o l → IsPlainLiteral l
 texts_of None l h = absurd h
@@ -65,20 +55,13 @@ module _ (desc : Described) (run : IsRunnable desc) where
     named : IsName name
     outer : NamesOuter desc verb
 
-  outer_of : (n : ℕ) → is_such DataSet (structure_of desc n) ≡ true → IsOuter (structure_of desc n)
-  outer_of n h = by (structure_of desc n) refl h
-    where
-      by : (o : Option Shape) → structure_of desc n ≡ o → is_such DataSet o ≡ true → IsOuter (structure_of desc n)
-      by None here h = absurd (cc)
-      by (Some s) here h = subst IsOuter (sym here) (outer_shape s (run.kinds n s here) h)
-
   names_outer : (verb : Verb) → NamesWhatIsThere desc verb → NamesOuter desc verb
   names_outer OpenUpdate h = tt
   names_outer OpenInquiry h = tt
   names_outer Close h = tt
   names_outer (Find path) h = tt
-  names_outer (Create set) h = outer_of set h
-  names_outer (Put set settings) h = (outer_of set h.0, settings_plain (items_of (structure_of desc set)) settings h.1)
+  names_outer (Create set) h = outer_of desc run.kinds set h
+  names_outer (Put set settings) h = (outer_of desc run.kinds set h.0, settings_plain (items_of (structure_of desc set)) settings h.1)
   names_outer (Get set items) h = tt
   names_outer (Store set) h = tt
   names_outer (Begin audit) h = tt

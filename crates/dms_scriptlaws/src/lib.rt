@@ -5,4 +5,4 @@ mod truth;
 mod valid;
 
 pub use truth::{stop_law, told_law, truth_law};
-pub use valid::{quiets_law, runnable_law, scripts_stay_valid};
+pub use valid::{quiets_law, runnable_law, scripts_stay_valid, verb_law};

@@ -2,6 +2,10 @@ ghost use Rattle.std.specs.Prelude.{◌≡◌, ℕ, List};
 ghost use Rattle.std.specs.declared.result.Result.TheVariants.{Ok};
 ghost use Rattle.dms_desc.specs.Shape.{Described};
 ghost use Rattle.dms_desc_bytes.specs.WellFormed.{IsWellFormed};
+ghost use Rattle.dms_model.specs.declared.verb.Verb.{Verb};
+ghost use Rattle.dms_model.specs.Verbs.{IsVerbOf};
+ghost use Rattle.dms_script.specs.declared.line.Line.TheVariants.{Verb as Spoken};
+ghost use Rattle.dms_script.specs.Lines.{line_of};
 ghost use Rattle.dms_model.specs.Db.{Db, empty_db};
 ghost use Rattle.dasdl_parse.specs.Grammar.{schema_of};
 ghost use Rattle.dasdl_parse.specs.declared.schema.Schema.{Schema};
@@ -12,6 +16,12 @@ ghost use Rattle.dms_scriptlaws.specs.Truths.{IsRunnable, IsStart, StayValid, Te
 /// it is in order.
 pub fn runnable_law()
     ensures { (desc : Described) → IsWellFormed desc → IsRunnable desc }
+{}
+
+/// The verb of a line is one that the engine may be called with, under each well-formed description: what it names is there and
+/// of its kind.
+pub fn verb_law()
+    ensures { (desc : Described) → IsWellFormed desc → (line : List ℕ) (name : List ℕ) (verb : Verb) → line_of desc line ≡ Spoken name verb → IsVerbOf desc verb }
 {}
 
 /// The database of each quiet point of a script, and the one that it leaves, are valid where the first one is; their numbers

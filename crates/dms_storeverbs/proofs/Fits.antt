@@ -42,22 +42,3 @@ key_is_fit ps items [] vs h =
     subst (λ (xs : List Value). IsTrue (key_fits ps items xs)) same refl
 key_is_fit [] items (l ∷ ls) vs h = absurd (cc)
 key_is_fit (p ∷ ps) items (l ∷ ls) vs h = onto_fit p ps items l (fitted (slice_get items (p.item - 1)) l) refl (key_values ps items ls) (λ ws e. key_is_fit ps items ls ws e) vs h
-
--- a path of no structure finds nothing
-none_at : (key : Option (List Value)) (desc : Described) (d : Db) (x : ℕ) → structure_of desc x ≡ None → at_values key desc d x ≡ None
-unfolding at_member
-none_at None desc d x none = refl
-none_at (Some key) desc d x none = ap (λ (o : Option Shape). at_of o d 0 key) none
-
-pub found_none : (desc : Described) (d : Db) (path : Path) → structure_of desc (path_of path) ≡ None → found_by desc d path ≡ None
-unfolding found_by first_member last_member
-found_none desc d (First x) none = ap (λ (o : Option Shape). first_of o d 0 Start) none
-found_none desc d (Last x) none = ap (λ (o : Option Shape). last_of o d 0 Behind) none
-found_none desc d (At x literals) none = none_at (key_values (parts_of (structure_of desc x)) (items_of (structure_of desc (set_of desc x))) literals) desc d x none
-
-none_of : {A : Type 0} (o : Option A) (b : Bool) → b ≡ is_some o → b ≡ false → o ≡ None
-none_of None b h e = refl
-none_of (Some x) b h e = absurd (cc)
-
-pub found_nothing : (desc : Described) (d : Db) (path : Path) (x : ℕ) (b : Bool) → x ≡ path_of path → b ≡ is_some (structure_of desc x) → b ≡ false → None ≡ found_by desc d path
-found_nothing desc d path x b here is none = sym (found_none desc d path (ap (structure_of desc) (sym here) ∙ none_of (structure_of desc x) b is none))

@@ -1,6 +1,7 @@
 -- What a store's answer leaves of an engine.
-use Rattle.std.proofs.Common.{◌≡◌, ℕ, List, Bool, Some, None, refl, sym, ap, ◌∙◌, subst}
-use Rattle.std.specs.Prelude.{slice_set}
+use Rattle.std.proofs.Common.{◌≡◌, ℕ, List, Bool, true, Some, None, refl, sym, ap, ◌∙◌, subst}
+use Rattle.std.specs.Prelude.{slice_get, slice_set, is_some, IfSome, IsTrue}
+use Rattle.std.specs.FinMap.{get}
 use Rattle.std.specs.declared.option.Option.{Option}
 use Rattle.dms_base.specs.declared.category.Category.{Category}
 use Rattle.dms_base.specs.declared.category.Category.TheVariants.{Duplicates, LimitError}
@@ -9,24 +10,46 @@ use Rattle.dms_desc.specs.Shape.{Described}
 use Rattle.dms_model.specs.declared.program.Program.{Program}
 use Rattle.dms_model.specs.declared.put.Put.{Put}
 use Rattle.dms_model.specs.declared.put.Put.TheVariants.{Stored, Duplicate, Full}
-use Rattle.dms_model.specs.Db.{Db}
+use Rattle.dms_model.specs.Db.{Db, Place, Records}
 use Rattle.dms_desc.specs.Lookups.{structure_of, name_of}
 use Rattle.dms_model.specs.Stores.{put_answer, put_after}
-use Rattle.dms_model.specs.Fitting.{MayPut, Puts}
+use Rattle.dms_model.specs.Fitting.{HasRecord, MayPut, Puts}
+use Rattle.dms_model.specs.Spoken.{IsOuter}
+use Rattle.dms_model.specs.Valid.{owner_of, owner_stands}
+use Rattle.dms_laws.specs.Exclusive.{AreSafe, IsExclusive, locks_it}
+use Rattle.dms_laws.proofs.Lists.{all_at}
 use Rattle.dms_model.specs.Session.{Session, StoreResult, Refused}
 use Rattle.dms_storeverbs.specs.declared.refusal.Refusal.{Refusal}
 use Rattle.dms_storeverbs.specs.Keeping.{KeptIs}
-use Rattle.dms_storeverbs.specs.Storing.{put_record, with_stored}
+use Rattle.dms_storeverbs.specs.Storing.{IsReady, put_record, with_stored}
 use Rattle.dms_storeverbs.specs.View.{View, StandsFor, view_of}
 
 pub kept_refused : (k : StoreResult) (r : Refusal) (i : ℕ) (s : Session) (v : View) → k ≡ Refused r.category r.name → StandsFor v s → KeptIs k i s (Some r) v
 kept_refused k r i s v is stands = subst (λ (x : StoreResult). KeptIs x i s (Some r) v) (sym is) (refl, stands)
 
+owner_so : (records : Records) (set owner : ℕ) → set ≡ 0 → owner ≡ 0 → IsTrue (owner_stands records set owner)
+owner_so records set owner disjoint unowned = subst (λ (n : ℕ). IsTrue (owner_stands records n owner)) (sym disjoint) (subst (λ (n : ℕ). IsTrue (owner_stands records 0 n)) (sym unowned) refl)
+
+replaced_so : (db : Db) (q : Program) (set : ℕ) (number : Option ℕ) → ((place : Place) → locks_it q place ≡ true → is_some (get db.records place) ≡ true) → IfSome number (λ n. locks_it q (set, n) ≡ true) → IfSome number (HasRecord db set)
+replaced_so db q set None stand locked = tt
+replaced_so db q set (Some n) stand locked = stand (set, n) locked
+
+-- what is ready may be put: the record that it replaces is locked, and so it stands
+pub may_put : (desc : Described) (s : Session) (q p : Program) (set i : ℕ) (number : Option ℕ) (rec : Record) → p ≡ q → slice_get s.programs i ≡ Some p → IsExclusive s → IsOuter (structure_of desc set) → IsReady desc q set number rec → MayPut desc s.db set number rec
+may_put desc s q p set i number rec same at held outer ready =
+    let safe : AreSafe s.db s.mark q = subst (AreSafe s.db s.mark) same (all_at (AreSafe s.db s.mark) s.programs i p at held.safe) in
+    record {
+      owner = owner_so s.db.records (owner_of (structure_of desc set)) rec.owner outer.disjoint ready.unowned;
+      replaced = replaced_so s.db q set number safe.stand ready.locked;
+      required = ready.required;
+      verified = ready.verified;
+    }
+
 module _ (desc desc' : Described) (told new mark : Option Db) (next since : ℕ) (programs : List Program) (pending : Bool) (p : Program) (s : Session) (i set : ℕ) (number : Option ℕ) (rec : Record) (k : StoreResult)
     (desc_is : desc' ≡ desc) (told_is : told ≡ Some s.db) (mark_is : mark ≡ Some s.mark) (next_is : next ≡ s.next) (pending_is : pending ≡ s.pending) (since_is : since ≡ s.since)
-    (k_is : k ≡ put_record (put_answer desc s.db set number rec) desc p s.db set rec) (may : MayPut desc set rec) where
+    (k_is : k ≡ put_record (put_answer desc s.db set number rec) desc p s.db set rec) (may : MayPut desc s.db set number rec) where
   puts_of : (a : Put) → Puts told new desc' set number rec a → (a ≡ put_answer desc' s.db set number rec) × (new ≡ Some (put_after (put_answer desc' s.db set number rec) desc' s.db set rec))
-  puts_of a puts = subst (λ (t : Option Db). Puts t new desc' set number rec a) told_is puts (subst (λ (d : Described). MayPut d set rec) (sym desc_is) may)
+  puts_of a puts = subst (λ (t : Option Db). Puts t new desc' set number rec a) told_is puts (subst (λ (d : Described). MayPut d s.db set number rec) (sym desc_is) may)
 
   answered : (a : Put) → Puts told new desc' set number rec a → put_answer desc s.db set number rec ≡ a
   answered a puts = ap (λ (d : Described). put_answer d s.db set number rec) (sym desc_is) ∙ sym (puts_of a puts).0

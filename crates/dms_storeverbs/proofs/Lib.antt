@@ -1,3 +1,4 @@
+pub mod AtHand
 pub mod Calls
 pub mod Closed
 pub mod Costing

@@ -1,6 +1,7 @@
 -- A record that is ready to be stored, and what storing it leaves of its program.
-use Rattle.std.specs.Prelude.{◌≡◌, ℕ, List, Some, None, IfSome, ⊤}
-use Rattle.dms_model.specs.Fitting.{IsDataSet, IsNumber, MayPut, RecordFits}
+use Rattle.std.specs.Prelude.{◌≡◌, ℕ, List, true, Some, None, IfSome, ⊤}
+use Rattle.dms_laws.specs.Exclusive.{locks_it}
+use Rattle.dms_model.specs.Fitting.{IsNumber, RecordFits}
 use Rattle.std.specs.declared.option.Option.{Option}
 use Rattle.dms_base.specs.declared.category.Category.TheVariants.{Duplicates, LimitError}
 use Rattle.dms_desc.specs.declared.record.Record.{Record}
@@ -10,9 +11,9 @@ use Rattle.dms_model.specs.declared.program.Area.TheVariants.{Old}
 use Rattle.dms_model.specs.declared.put.Put.{Put}
 use Rattle.dms_model.specs.declared.put.Put.TheVariants.{Stored, Duplicate, Full}
 use Rattle.dms_model.specs.Db.{Db}
-use Rattle.dms_desc.specs.Lookups.{structure_of, name_of}
+use Rattle.dms_desc.specs.Lookups.{items_of, structure_of, name_of}
 use Rattle.dms_model.specs.Stores.{put_answer, put_after}
-use Rattle.dms_model.specs.Session.{StoreResult, Refused, Keeps, keep, with_work, with_lock, Filled, Misfit, Values'}
+use Rattle.dms_model.specs.Session.{StoreResult, Refused, Keeps, keep, missing_from, verified, with_work, with_lock, Filled, Misfit, Values'}
 use Rattle.dms_base.specs.declared.value.Value.{Value}
 use Rattle.dms_storeverbs.specs.declared.storing.Judged.{Judged}
 use Rattle.dms_storeverbs.specs.declared.storing.Judged.TheVariants.{Refused as Not, Ready}
@@ -32,21 +33,19 @@ abbrev pub MatchesJudging : Judged → Described → Program → Db → ℕ → 
 MatchesJudging (Not r) desc p db set = keep desc p db set ≡ Refused r.category r.name
 MatchesJudging (Ready number rec) desc p db set = keep desc p db set ≡ put_record (put_answer desc db set number rec) desc p db set rec
 
--- a record that a data set may hold, without an owner, under a number that its records may have
-pub record Holds (desc : Described) (set : ℕ) (number : Option ℕ) (made : Record) : Type 0 where
-  pub set_is : IsDataSet desc set
+-- a record that its data set may hold, without an owner and as its REQUIRED items and VERIFY ask, as a new one or for one that the
+-- program holds locked
+pub record IsReady (desc : Described) (p : Program) (set : ℕ) (number : Option ℕ) (made : Record) : Type 0 where
   pub number_is : IfSome number (IsNumber desc set)
+  pub locked : IfSome number (λ n. locks_it p (set, n) ≡ true)
   pub unowned : made.owner ≡ 0
   pub fits : RecordFits desc set made
+  pub required : missing_from 0 (items_of (structure_of desc set)) made.values ≡ None
+  pub verified : verified (structure_of desc set) made.values ≡ true
 
--- and that may be put
-pub record IsReady (desc : Described) (set : ℕ) (number : Option ℕ) (made : Record) : Type 0 where
-  pub held : Holds desc set number made
-  pub may : MayPut desc set made
-
-abbrev pub AreReady : Judged → Described → ℕ → Type 0
-AreReady (Not r) desc set = ⊤
-AreReady (Ready number rec) desc set = IsReady desc set number rec
+abbrev pub AreReady : Judged → Described → Program → ℕ → Type 0
+AreReady (Not r) desc p set = ⊤
+AreReady (Ready number rec) desc p set = IsReady desc p set number rec
 
 -- all literals went in, or the first one that doesn't fit is that of this item
 abbrev pub FillsItems : Option (List ℕ) → List Value → Filled → Type 0

@@ -6,6 +6,7 @@ use Rattle.std.specs.declared.result.Result.TheVariants.{Ok}
 use Rattle.dms_block.specs.declared.block_fault.BlockFault.{BlockFault}
 use Rattle.dms_block.specs.Faults.{Undamaged}
 use Rattle.dms_moments.specs.Moments.{Runs}
+use Rattle.dms_laws.specs.Exclusive.{IsExclusive}
 use Rattle.dms_model.specs.declared.program.Program.{Program}
 use Rattle.dms_model.specs.declared.reply.Answer.{Answer}
 use Rattle.dms_model.specs.declared.store.Store.{Ghosts}
@@ -40,6 +41,12 @@ pub record StandsFor (v : View) (s : Session) : Type 0 where
 -- room for the number of one more quiet point, and for the one behind it
 abbrev pub Room : ℕ → Type 0
 Room next = next + 2 < 2 ^ 64
+
+-- a session in which a verb may be carried out: there is room for its quiet point, no two programs lock one record, and what is
+-- locked is a record of the database
+pub record MayStep (s : Session) : Type 0 where
+  pub room : Room s.next
+  pub exclusive : IsExclusive s
 
 -- the answer and what is left are those of an outcome
 pub record MatchesOutcome (outcome : Outcome) (answer : Answer) (new : View) : Type 0 where
@@ -88,9 +95,12 @@ pub record PerformsCall (o : Outcome) (old new : Seen) (now : View) (result : Re
   pub undamaged : Undamaged result
   pub leaves : old.tells → Runs old.clock new.clock (λ stop. LeavesPoints old.whole old.durable old.points old.next o.quiets stop × TextIs old.said stop)
 
--- a call does what f gives of the session that stands before it
+-- a call does what f gives of the session that stands before it, where this holds of the session
+abbrev pub DoesWhere : (Session → Type 0) → {St : Type 0} {g : Ghosts St} → Engine St g → Engine St g → Result Answer BlockFault → (Session → Outcome) → Type 0
+DoesWhere P old new result f = (s : Session) → StandsFor (view old) s → P s → PerformsCall (f s) (seen old) (seen new) (view new) result
+
 abbrev pub Does : {St : Type 0} {g : Ghosts St} → Engine St g → Engine St g → Result Answer BlockFault → (Session → Outcome) → Type 0
-Does old new result f = (s : Session) → StandsFor (view old) s → Room s.next → PerformsCall (f s) (seen old) (seen new) (view new) result
+Does old new result f = DoesWhere MayStep old new result f
 
 -- whatever a call does, it stays the same engine, usable without a fault, and a fault has a cause
 pub record Lasts {St : Type 0} {g : Ghosts St} {T : Type 0} (result : Result T BlockFault) (old new : Engine St g) : Type 0 where

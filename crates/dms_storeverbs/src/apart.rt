@@ -1,8 +1,13 @@
 ghost use Rattle.std.specs.Prelude.{◌≡◌, ◌<◌, ℕ, Some, None, true, false, IfOk, IsOk, IfSome, length, slice_get};
+ghost use Rattle.std.specs.List.{AllByRecursion};
 ghost use Rattle.dms_desc.specs.Shape.{Described, described};
 ghost use Rattle.dms_model.specs.declared.program.Program.{Program};
+ghost use Rattle.dms_desc.specs.Lookups.{items_of, structure_of};
+ghost use Rattle.dms_model.specs.Areas.{InitialsFit, ProgramsFit};
 ghost use Rattle.dms_model.specs.BackOut.{asks_back_out};
 ghost use Rattle.dms_model.specs.Session.{path_of, open_as, open_step, close_step, create_step, put_step, get_step, opens, changes, is_inquiry};
+ghost use Rattle.dms_model.specs.Spoken.{IsOuter};
+ghost use Rattle.dms_model.specs.Verbs.{IsSettingOf};
 ghost use Rattle.dms_storeverbs.specs.Apart.{Apart, Admits};
 ghost use Rattle.dms_storeverbs.specs.Costs.{is_done, takes_none};
 
@@ -34,8 +39,10 @@ fn open_as(
     name: &Name,
     mode: Mode,
 ) -> Result<Answer, Memory>
+    requires fit { ProgramsFit (described desc.now) programs.old.items }
     ensures apart { Apart (λ s. open_as (described desc.now) s name.now mode) programs.old.items result programs.new.items }
     ensures unsynced { IfOk result (λ a. a.sync ≡ None) }
+    ensures fit { ProgramsFit (described desc.now) programs.new.items }
 {
     if programs.len() >= 64 {
         return Ok(refused(Category::LimitError, *name));
@@ -53,10 +60,12 @@ pub fn open(
     name: &Name,
     verb: &Verb,
 ) -> Result<Answer, Memory>
+    requires fit { ProgramsFit (described desc.now) programs.old.items }
     ensures apart { Apart (λ s. open_step (described desc.now) s name.now verb.now) programs.old.items result programs.new.items }
     ensures no_memory { takes_none verb.now ≡ true → IsOk result }
     ensures no_back_out { asks_back_out verb.now ≡ true → IfOk result (λ a. is_done a.reply ≡ false) }
     ensures unsynced { IfOk result (λ a. a.sync ≡ None) }
+    ensures fit { ProgramsFit (described desc.now) programs.new.items }
 {
     match verb {
         Verb::OpenUpdate => open_as(alloc, desc, programs, name, Mode::Update),
@@ -104,6 +113,7 @@ fn is_inquiry(mode: Mode) -> bool
 #[tactic(auto, using(std::proofs::lemmas::Option::gets))]
 pub fn admit(programs: &mut Vec<Program>, i: usize, name: &Name, verb: &Verb) -> Option<Answer>
     requires { i < length programs.old.items }
+    ensures fit { (desc : Described) → ProgramsFit desc programs.old.items → ProgramsFit desc programs.new.items }
     ensures count { length programs.new.items ≡ length programs.old.items }
     ensures refused { IfSome result (λ a. (a.sync ≡ None) × (is_done a.reply ≡ false)) }
     ensures admits { (desc : Described) (p : Program) → slice_get programs.old.items i ≡ Some p → Admits result desc p i name.now verb.now programs.old.items programs.new.items }
@@ -126,6 +136,7 @@ pub fn admit(programs: &mut Vec<Program>, i: usize, name: &Name, verb: &Verb) ->
 pub fn close(alloc: Global, programs: &mut Vec<Program>, i: usize) -> Result<Answer, Memory>
     requires { i < length programs.old.items }
     ensures apart { (p : Program) → slice_get programs.old.items i ≡ Some p → Apart (λ s. close_step i p s) programs.old.items result programs.new.items }
+    ensures fit { (desc : Described) → ProgramsFit desc programs.old.items → ProgramsFit desc programs.new.items }
     ensures unsynced { IfOk result (λ a. a.sync ≡ None) }
 {
     if programs[i].in_transaction {
@@ -144,8 +155,12 @@ pub fn create(
     i: usize,
     set: u16,
 ) -> Result<Answer, Memory>
-    requires { i < length programs.old.items }
+    requires place { i < length programs.old.items }
+    requires fit { ProgramsFit (described desc.now) programs.old.items }
+    requires initial { InitialsFit (described desc.now) }
+    requires outer { IsOuter (structure_of (described desc.now) set) }
     ensures apart { (p : Program) → slice_get programs.old.items i ≡ Some p → Apart (λ s. create_step (described desc.now) i p s set) programs.old.items result programs.new.items }
+    ensures fit { ProgramsFit (described desc.now) programs.new.items }
     ensures unsynced { IfOk result (λ a. a.sync ≡ None) }
 {
     let values = initial_values(alloc, desc.items_of(set))?;
@@ -163,8 +178,12 @@ pub fn put(
     set: u16,
     settings: &Settings,
 ) -> Result<Answer, Memory>
-    requires { i < length programs.old.items }
+    requires place { i < length programs.old.items }
+    requires fit { ProgramsFit (described desc.now) programs.old.items }
+    requires outer { IsOuter (structure_of (described desc.now) set) }
+    requires settings { AllByRecursion (IsSettingOf (items_of (structure_of (described desc.now) set))) settings.now }
     ensures apart { (p : Program) → slice_get programs.old.items i ≡ Some p → Apart (λ s. put_step (described desc.now) i p s set settings.now) programs.old.items result programs.new.items }
+    ensures fit { ProgramsFit (described desc.now) programs.new.items }
     ensures unsynced { IfOk result (λ a. a.sync ≡ None) }
 {
     let Some(area) = areas::area_at(&programs[i], set) else {
@@ -189,8 +208,10 @@ pub fn get(
     set: u16,
     numbers: &ItemNumbers,
 ) -> Result<Answer, Memory>
-    requires { i < length programs.old.items }
+    requires place { i < length programs.old.items }
+    requires fit { ProgramsFit (described desc.now) programs.old.items }
     ensures apart { (p : Program) → slice_get programs.old.items i ≡ Some p → Apart (λ s. get_step (described desc.now) i p s set numbers.now) programs.old.items result programs.new.items }
+    ensures fit { ProgramsFit (described desc.now) programs.new.items }
     ensures unsynced { IfOk result (λ a. a.sync ≡ None) }
 {
     let Some(area) = areas::area_at(&programs[i], set) else {

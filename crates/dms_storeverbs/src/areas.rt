@@ -1,4 +1,4 @@
-ghost use Rattle.std.specs.Prelude.{◌≡◌, ◌-◌, Some, None, OnOk, IfOk, slice_get, map, List, ◌&&◌, not, is_some};
+ghost use Rattle.std.specs.Prelude.{◌≡◌, ◌-◌, Some, None, OnErr, OnOk, IfOk, slice_get, map, List, ◌&&◌, not, is_some};
 ghost use Rattle.std.specs.List.{list_any};
 ghost use Rattle.std.specs.Option.{option_copied};
 ghost use Rattle.dms_desc.specs.Conds.{is_null, or_null};
@@ -200,19 +200,30 @@ pub fn put(program: &mut Program, set: u16, area: Area)
     program.active = true;
 }
 
-/// A record was stored under a number: it is current and locked, and the area a copy of it.
-pub fn stored(program: &mut Program, set: u16, number: u64, values: Values) -> Result<(), Memory>
-    ensures { OnOk result (program.new ≡ with_stored program.old set number values) }
+/// The record is locked for the program. After `Memory` the program is as it was.
+fn lock(program: &mut Program, set: u16, number: u64) -> Result<(), Memory>
+    ensures ok { OnOk result (program.new ≡ with_lock program.old set number) }
+    ensures err { OnErr result (program.new ≡ program.old) }
 {
+    if is_locked(program.locks.as_slice(), set, number) {
+        return Ok(());
+    }
+    program.locks.push(Lock { set, number })
+}
+
+/// A record was stored under a number: it is current and locked, and the area a copy of it. After `Memory` the program is as
+/// it was.
+pub fn stored(program: &mut Program, set: u16, number: u64, values: Values) -> Result<(), Memory>
+    ensures ok { OnOk result (program.new ≡ with_stored program.old set number values) }
+    ensures err { OnErr result (program.new ≡ program.old) }
+{
+    lock(program, set, number)?;
     let work = Work {
         current: Some(number),
         area: Some(Area::Old(values)),
     };
     program.works.set(place_of(set), work);
-    if is_locked(program.locks.as_slice(), set, number) {
-        return Ok(());
-    }
-    program.locks.push(Lock { set, number })
+    Ok(())
 }
 
 /// The program is in transaction state.

@@ -1,7 +1,10 @@
 ghost use Rattle.std.specs.Prelude.{◌≡◌, true, false, Some, IfOk, OnOk, IsErrOf, IsOkUnless, IfErr};
 ghost use Rattle.dms_desc.specs.Shape.{described};
+ghost use Rattle.dms_desc_bytes.specs.WellFormed.{IsWellFormed};
+ghost use Rattle.dms_model.specs.Areas.{ProgramsFit};
 ghost use Rattle.dms_model.specs.Db.{Db};
 ghost use Rattle.dms_model.specs.DescribedCode.{described_set};
+ghost use Rattle.dms_model.specs.Props.{IsWellFormed-prop, ProgramsFit-prop};
 ghost use Rattle.dms_block.specs.Faults.{Undamaged};
 ghost use Rattle.dms_block.specs.Texts.{Prints};
 ghost use Rattle.dms_model.specs.Seen.{GoesBack, IsSilent, Keeps, SaysPart, StaysDurable};
@@ -14,8 +17,8 @@ use dms_desc::Description;
 use dms_model::{Program, Store};
 use std::alloc::Global;
 
-/// The machine of verbs over a store: what programs ask of a database, one verb after another. After a
-/// fault it is only taken apart.
+/// The machine of verbs over a store: what programs ask of a database, one verb after another. What they have at hand fits
+/// the data sets. After a fault it is only taken apart.
 pub struct Engine<St: Store> {
     /// What the store is kept under.
     pub desc: Description,
@@ -27,15 +30,18 @@ pub struct Engine<St: Store> {
     /// The transactions since the last syncpoint. The count stands still at its type's end.
     pub since: u64,
     ghost under: { (St.seen store).desc ≡ described desc } by { described_set (St.seen store).desc (described desc) },
+    ghost formed: { IsWellFormed (described desc) } by { IsWellFormed-prop (described desc) },
+    ghost fit: { ProgramsFit (described desc) programs.items } by { ProgramsFit-prop (described desc) programs.items },
 }
 
 impl<St: Store> Engine<St> {
     ghost use Rattle.dms_storeverbs.specs.View.{Lasts, SameSession, StandsFor, seen, view};
 
-    /// An engine without programs over a store. After `Memory` the store is as it was.
+    /// An engine without programs over a store, under a description that a schema can have. After `Memory` the store is as it was.
     pub fn new(alloc: Global, desc: &Description, store: St) -> Result<Engine<St>, (Memory, St)>
         requires sound { (St.seen store).sound }
         requires desc { (St.seen store).desc ≡ described desc.now }
+        requires formed { IsWellFormed (described desc.now) }
         requires mark { (St.seen store).mark ≡ (St.seen store).db }
         ensures stands { IfOk result (λ e. (d : Db) → (St.seen store).db ≡ Some d → StandsFor (view e) (fresh_session d (St.seen store).next)) }
         ensures store { IfOk result (λ e. e.store ≡ store) }

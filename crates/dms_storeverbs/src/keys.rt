@@ -1,15 +1,12 @@
 ghost use Rattle.std.specs.Prelude.{◌≡◌, ◌-◌, IfOk, take, slice_get};
-ghost use Rattle.std.specs.Option.{option_copied};
-ghost use Rattle.dms_base.specs.Orders.{value_cmp};
-ghost use Rattle.dms_desc.specs.Conds.{or_null};
-ghost use Rattle.dms_desc.specs.Keys.{turned, key_cmp};
+ghost use Rattle.dms_desc.specs.Keys.{key_cmp};
 ghost use Rattle.dms_model.specs.Members.{agrees};
 ghost use Rattle.dms_model.specs.Session.{fitted, key_values};
 ghost use Rattle.dms_desc.specs.Sorted.{that_passes};
 
-use dms_base::{Literal, Memory, Value, order, value_for};
+use dms_base::{Literal, Memory, Value, value_for};
 use dms_desc::{Item, KeyPart, Values};
-use dms_model::Spot;
+use dms_model::{Spot, part_order, value_at};
 use std::alloc::Global;
 use std::cmp::Ordering;
 
@@ -48,26 +45,6 @@ pub fn key_values(
         }
     }
     Ok(Some(values))
-}
-
-/// The value at a place, if there is one.
-fn value_at(values: &[Value], k: usize) -> Option<&Value>
-    ensures { or_null (option_copied result) ≡ or_null (slice_get values.now k) }
-{
-    values.get(k)
-}
-
-/// The order of two values by a part of a key, a missing one as null.
-fn part_order(descending: bool, a: Option<&Value>, b: Option<&Value>) -> Ordering
-    ensures { result ≡ turned descending (value_cmp (or_null (option_copied a.entry)) (or_null (option_copied b.entry))) }
-{
-    let ahead = match (a, b) {
-        (Some(x), Some(y)) => order(x, y),
-        (Some(x), None) => order(x, &Value::Null),
-        (None, Some(y)) => order(&Value::Null, y),
-        (None, None) => Ordering::Equal,
-    };
-    if descending { ahead.reverse() } else { ahead }
 }
 
 /// The order of two keys by these parts.

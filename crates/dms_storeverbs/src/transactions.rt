@@ -1,17 +1,20 @@
 ghost use Rattle.std.specs.Prelude.{◌≡◌, ◌≤◌, ◌<◌, ◌+◌, ◌^◌, ℕ, List, Bool, true, false, Some, None, IfOk, OnOk, IsErrOf, IsTrue, slice_get, length, if◌then◌else◌, []};
+ghost use Rattle.dms_desc.specs.Lookups.{structure_of};
 ghost use Rattle.dms_desc.specs.Shape.{described};
+ghost use Rattle.dms_laws.specs.Exclusive.{IsExclusive};
 ghost use Rattle.dms_model.specs.declared.program.Program.{Program};
 ghost use Rattle.dms_model.specs.Seen.{IsMute, IsSilent, Spends, StaysDurable};
-ghost use Rattle.dms_model.specs.Session.{Session, keep, settle, store_step, begin_step, end_step, abort_step};
+ghost use Rattle.dms_model.specs.Session.{Session, keep, restart_of, settle, store_step, begin_step, end_step, abort_step};
+ghost use Rattle.dms_model.specs.Spoken.{IsOuter};
 ghost use Rattle.dms_block.specs.Faults.{Undamaged};
 ghost use Rattle.dms_model.specs.Db.{Db};
 ghost use Rattle.dms_storeverbs.specs.Costs.{Costs, limit_if};
 ghost use Rattle.dms_storeverbs.specs.Keeping.{KeptIs, kept_if};
-ghost use Rattle.dms_storeverbs.specs.View.{Does, Lasts, StandsFor, seen, view};
+ghost use Rattle.dms_storeverbs.specs.View.{Does, DoesWhere, Lasts, Room, StandsFor, seen, view};
 
 use crate::refusal::{Refusal, done, refused};
 use crate::schema::restart_of;
-use crate::storing::{Judged, judge};
+use crate::storing::{Judged, judge_record};
 use crate::{Engine, areas, programs};
 use dms_base::{Bytes, Category};
 use dms_block::BlockFault;
@@ -22,9 +25,10 @@ impl<St: Store> Engine<St> {
     /// Stores a program's area of a data set, by the list of refusals that STORE, BEGIN and END share.
     #[tactic(auto, using(std::proofs::lemmas::Option::gets))]
     fn keep(&mut self, alloc: Global, i: usize, set: u16) -> Result<Option<Refusal>, BlockFault>
+        requires outer { IsOuter (structure_of (described self.old.desc) set) }
         requires place { i < length self.old.programs.items }
         requires sound { (seen self.old).sound }
-        ensures kept { IfOk result (λ r. (p : Program) → slice_get self.old.programs.items i ≡ Some p → (s : Session) → StandsFor (view self.old) s → KeptIs (keep (described self.old.desc) p s.db set) i s r (view self.new)) }
+        ensures kept { IfOk result (λ r. (p : Program) → slice_get self.old.programs.items i ≡ Some p → (s : Session) → StandsFor (view self.old) s → IsExclusive s → KeptIs (keep (described self.old.desc) p s.db set) i s r (view self.new)) }
         ensures count { OnOk result (length self.new.programs.items ≡ length self.old.programs.items) }
         ensures points { OnOk result (StaysDurable (seen self.old) (seen self.new)) }
         ensures silent { IsSilent (seen self.old) (seen self.new) }
@@ -33,7 +37,7 @@ impl<St: Store> Engine<St> {
         ensures mute_fault { IsErrOf result BlockFault.Say → ⊥ }
         ensures lasts { Lasts result self.old self.new }
     {
-        let (number, rec) = match judge(alloc, &self.desc, &self.programs[i], set)? {
+        let (number, rec) = match judge_record(alloc, &self.desc, &self.programs[i], set)? {
             Judged::Refused(refusal) => return Ok(Some(refusal)),
             Judged::Ready(number, rec) => (number, rec),
         };
@@ -61,9 +65,10 @@ impl<St: Store> Engine<St> {
         i: usize,
         audit: bool,
     ) -> Result<Option<Refusal>, BlockFault>
+        requires restart { IsOuter (structure_of (described self.old.desc) (restart_of (described self.old.desc))) }
         requires place { i < length self.old.programs.items }
         requires sound { (seen self.old).sound }
-        ensures kept { IfOk result (λ r. (p : Program) → slice_get self.old.programs.items i ≡ Some p → (s : Session) → StandsFor (view self.old) s → KeptIs (kept_if audit (described self.old.desc) p s.db) i s r (view self.new)) }
+        ensures kept { IfOk result (λ r. (p : Program) → slice_get self.old.programs.items i ≡ Some p → (s : Session) → StandsFor (view self.old) s → IsExclusive s → KeptIs (kept_if audit (described self.old.desc) p s.db) i s r (view self.new)) }
         ensures count { OnOk result (length self.new.programs.items ≡ length self.old.programs.items) }
         ensures points { OnOk result (StaysDurable (seen self.old) (seen self.new)) }
         ensures silent { IsSilent (seen self.old) (seen self.new) }
@@ -85,7 +90,7 @@ impl<St: Store> Engine<St> {
     #[tactic(auto, using(std::proofs::lemmas::Option::gets), unfolding(dms_model::specs::Session::settle))]
     fn settle(&mut self, alloc: Global) -> Result<Answer, BlockFault>
         requires sound { (seen self.old).sound }
-        ensures step { Does self.old self.new result (λ s. settle s) }
+        ensures step { DoesWhere (λ s. Room s.next) self.old self.new result (λ s. settle s) }
         ensures mute { IsMute (seen self.old) (seen self.new) }
         ensures costs { Costs (limit_if false (seen self.old).desc) false result (seen self.old).effort (seen self.new).effort }
         ensures no_memory { IsErrOf result BlockFault.Memory → ⊥ }
@@ -112,6 +117,7 @@ impl<St: Store> Engine<St> {
     /// STORE.
     #[tactic(auto, using(std::proofs::lemmas::Option::gets), unfolding(dms_model::specs::Session::store_step))]
     pub(crate) fn store(&mut self, alloc: Global, i: usize, set: u16) -> Result<Answer, BlockFault>
+        requires outer { IsOuter (structure_of (described self.old.desc) set) }
         requires place { i < length self.old.programs.items }
         requires sound { (seen self.old).sound }
         ensures step { (p : Program) → slice_get self.old.programs.items i ≡ Some p → Does self.old self.new result (λ s. store_step (described self.old.desc) i p s set) }
@@ -138,6 +144,7 @@ impl<St: Store> Engine<St> {
         i: usize,
         audit: bool,
     ) -> Result<Answer, BlockFault>
+        requires restart { IsOuter (structure_of (described self.old.desc) (restart_of (described self.old.desc))) }
         requires place { i < length self.old.programs.items }
         requires sound { (seen self.old).sound }
         ensures step { (p : Program) → slice_get self.old.programs.items i ≡ Some p → Does self.old self.new result (λ s. begin_step (described self.old.desc) i p s audit) }
@@ -176,6 +183,7 @@ impl<St: Store> Engine<St> {
         audit: bool,
         sync: bool,
     ) -> Result<Answer, BlockFault>
+        requires restart { IsOuter (structure_of (described self.old.desc) (restart_of (described self.old.desc))) }
         requires place { i < length self.old.programs.items }
         requires sound { (seen self.old).sound }
         ensures step { (p : Program) → slice_get self.old.programs.items i ≡ Some p → Does self.old self.new result (λ s. end_step (described self.old.desc) i p s audit sync) }

@@ -1,12 +1,13 @@
-ghost use Rattle.std.specs.Prelude.{◌≡◌, ◌≤◌, ◌<◌, ◌+◌, ◌^◌, ℕ, List, Bool, true, false, Some, None, IfOk, OnOk, IsErrOf, IsTrue, slice_get, length, if◌then◌else◌, []};
+ghost use Rattle.std.specs.Prelude.{◌≡◌, ◌≤◌, ◌<◌, ◌+◌, ◌^◌, ℕ, List, Bool, true, false, Some, None, IfOk, IfSome, OnOk, IsErrOf, IsTrue, slice_get, length, if◌then◌else◌, []};
 ghost use Rattle.dms_desc.specs.Shape.{described};
 ghost use Rattle.dms_model.specs.declared.program.Program.{Program};
 ghost use Rattle.dms_model.specs.Db.{Db};
 ghost use Rattle.dms_model.specs.BackOut.{asks_back_out};
-ghost use Rattle.dms_model.specs.Fitting.{IsStructure};
+ghost use Rattle.dms_model.specs.Fitting.{IsStructure, SpotFits};
 ghost use Rattle.dms_model.specs.Seen.{IsMute, IsSilent, StaysDurable};
 ghost use Rattle.dms_desc.specs.Lookups.{parts_of, set_of, structure_of, items_of};
-ghost use Rattle.dms_model.specs.Session.{Session, find_step, found_by, verb_step, step, key_values, at_values};
+ghost use Rattle.dms_model.specs.Session.{Session, find_step, found_by, path_of, verb_step, step, key_values, at_values};
+ghost use Rattle.dms_model.specs.Verbs.{IsPathOf, IsVerbOf};
 ghost use Rattle.dms_block.specs.Faults.{Undamaged};
 ghost use Rattle.dms_storeverbs.specs.Costs.{Costs, block_limit, takes_none};
 ghost use Rattle.dms_storeverbs.specs.View.{Does, Lasts, SameSession, StandsFor, seen, view};
@@ -16,7 +17,7 @@ use crate::refusal::{done, refused};
 use crate::{Engine, apart, areas, programs};
 use dms_base::{Category, Literal, Name};
 use dms_block::BlockFault;
-use dms_model::{Answer, Bound, Path, Spot, Store, Verb, has_structure, see_all_plain};
+use dms_model::{Answer, Bound, Path, Spot, Store, Verb, see_all_plain};
 use std::alloc::Global;
 
 impl<St: Store> Engine<St> {
@@ -29,6 +30,7 @@ impl<St: Store> Engine<St> {
     ) -> Result<Option<Spot>, BlockFault>
         requires sound { (seen self.old).sound }
         requires path { IsStructure (described self.old.desc) x }
+        ensures fits { IfOk result (λ o. IfSome o (SpotFits (described self.old.desc) x)) }
         ensures found { IfOk result (λ r. (d : Db) → (seen self.old).db ≡ Some d → r ≡ at_values (key_values (parts_of (structure_of (described self.old.desc) x)) (items_of (structure_of (described self.old.desc) (set_of (described self.old.desc) x))) literals.now) (described self.old.desc) d x) }
         ensures stands { OnOk result (SameSession self.old self.new) }
         ensures programs { self.new.programs.items ≡ self.old.programs.items }
@@ -53,6 +55,8 @@ impl<St: Store> Engine<St> {
     #[tactic(auto, using(std::proofs::lemmas::Option::gets), unfolding(dms_model::specs::Session::found_by))]
     fn found(&mut self, alloc: Global, path: &Path) -> Result<Option<Spot>, BlockFault>
         requires sound { (seen self.old).sound }
+        requires path { IsPathOf (described self.old.desc) path.now }
+        ensures fits { IfOk result (λ o. IfSome o (SpotFits (described self.old.desc) (path_of path.now))) }
         ensures found { IfOk result (λ r. (d : Db) → (seen self.old).db ≡ Some d → r ≡ found_by (described self.old.desc) d path.now) }
         ensures stands { OnOk result (SameSession self.old self.new) }
         ensures programs { self.new.programs.items ≡ self.old.programs.items }
@@ -63,9 +67,6 @@ impl<St: Store> Engine<St> {
         ensures mute_fault { IsErrOf result BlockFault.Say → ⊥ }
         ensures lasts { Lasts result self.old self.new }
     {
-        if !has_structure(&self.desc, apart::path_of(path)) {
-            return Ok(None);
-        }
         match path {
             Path::First(x) => self.store.first_from(alloc, *x, 0, &Bound::Start),
             Path::Last(x) => self.store.last_to(alloc, *x, 0, &Bound::End),
@@ -76,6 +77,7 @@ impl<St: Store> Engine<St> {
     /// FIND.
     #[tactic(auto, using(std::proofs::lemmas::Option::gets), unfolding(dms_model::specs::Session::find_step))]
     fn find(&mut self, alloc: Global, i: usize, path: &Path) -> Result<Answer, BlockFault>
+        requires path { IsPathOf (described self.old.desc) path.now }
         requires place { i < length self.old.programs.items }
         requires sound { (seen self.old).sound }
         ensures step { (p : Program) → slice_get self.old.programs.items i ≡ Some p → Does self.old self.new result (λ s. find_step (described self.old.desc) i p s path.now) }
@@ -97,6 +99,7 @@ impl<St: Store> Engine<St> {
     /// The verb of an open program that owes no ABORT and may do it.
     #[tactic(auto, using(std::proofs::lemmas::Option::gets), unfolding(dms_model::specs::Session::verb_step))]
     fn verb(&mut self, alloc: Global, i: usize, verb: &Verb) -> Result<Answer, BlockFault>
+        requires verb { IsVerbOf (described self.old.desc) verb.now }
         requires place { i < length self.old.programs.items }
         requires sound { (seen self.old).sound }
         ensures step { (p : Program) → slice_get self.old.programs.items i ≡ Some p → Does self.old self.new result (λ s. verb_step (described self.old.desc) i p s verb.now) }
@@ -136,9 +139,10 @@ impl<St: Store> Engine<St> {
         }
     }
 
-    /// One step of a program: what its verb answers and leaves.
+    /// One step of a program: what its verb, one that a line can spell, answers and leaves.
     #[tactic(auto, using(std::proofs::lemmas::Option::gets), unfolding(dms_model::specs::Session::step))]
     pub fn call(&mut self, alloc: Global, program: &Name, verb: &Verb) -> Result<Answer, BlockFault>
+        requires verb { IsVerbOf (described self.old.desc) verb.now }
         requires sound { (seen self.old).sound }
         ensures step { Does self.old self.new result (λ s. step (described self.old.desc) s program.now verb.now) }
         ensures mute { IsMute (seen self.old) (seen self.new) }

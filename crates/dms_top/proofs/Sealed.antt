@@ -32,7 +32,8 @@ read_as : (r : Result Schema ParseFault) (d : Described) → parsed_as r ≡ Ok 
 read_as (Ok s) d is = record { schema = s; read = refl; made_of = made (compiled s.parameters s.declarations) d is }
 read_as (Err e) d is = absurd (cc)
 
-judged_well : (text : List ℕ) (d : Described) → judged text ≡ Ok d → IsWellFormed d
+-- a description that was compiled is one that a schema can have
+pub judged_well : (text : List ℕ) (d : Described) → judged text ≡ Ok d → IsWellFormed d
 unfolding judged
 judged_well text d is = let r = read_as (schema_of text) d is in well_formed text r.schema d r.read r.made_of
 

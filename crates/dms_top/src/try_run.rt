@@ -1,5 +1,6 @@
 ghost use Rattle.std.specs.Prelude.{◌≡◌, ◌≢◌, ◌≤◌, [], ℕ, List, Some, IsTrue, IsOk, IsErrOf};
 ghost use Rattle.dms_desc.specs.Shape.{described};
+ghost use Rattle.dms_desc_bytes.specs.WellFormed.{IsWellFormed};
 ghost use Rattle.dms_feed.specs.Feeds.{Remains};
 ghost use Rattle.dms_feed.specs.Lines.{raw_lines};
 ghost use Rattle.dms_model.specs.Db.{empty_db};
@@ -74,7 +75,8 @@ fn status_after(ran: Result<(), RunFault>) -> Status
     }
 }
 
-/// Runs the lines that a feed and its source have left over a database in memory that begins empty.
+/// Runs the lines that a feed and its source have left over a database in memory that begins empty, under a description that a
+/// schema can have.
 pub fn try_lines<S: Site, I: Source>(
     alloc: Global,
     desc: &Description,
@@ -82,6 +84,7 @@ pub fn try_lines<S: Site, I: Source>(
     feed: &mut Feed,
     source: &mut I,
 ) -> Status
+    requires { IsWellFormed (described desc.now) }
     ensures statuses { IsOfTry result }
     ensures words { result ≢ Status.BadWords }
     ensures schema { (f : Refusal) → result ≢ Status.SchemaRefused f }

@@ -3,39 +3,46 @@ use Rattle.std.proofs.Common.{◌≡◌, ◌∙◌, ◌+◌, ◌<◌, ◌^◌, [
 use Rattle.dms_desc.specs.Shape.{described}
 use Rattle.dms_script.specs.Replies.{bad_text}
 use Rattle.dms_runner.specs.Events.{says}
+use Rattle.dms_runner.proofs.Verbs.{verbs_under}
 use Rattle.dms_runner.proofs.Happening.{undamaged_by, ran_says, part_none, part_says, part_of_first, part_on, part_cut, cut_as}
 use Rattle.dms_runner.proofs.Lining.{goes_retried, retries_from, retries_part_from}
 use Rattle.dms_runner.proofs.lines.bad_line.Goals as goal
 
+pub retry_all-requires-clause-verbs : goal.retry_all-requires-clause-verbs
+retry_all-requires-clause-verbs g c = verbs_under (ap described (sym c.say.ensures.lasts.description)) c.requires.verbs
+
+pub returns-clause-verbs : goal.returns-clause-verbs
+returns-clause-verbs g c = verbs_under (ap described c.say.ensures.lasts.description) c.in_ok-retry_all.ensures.verbs
+
 pub returns-in_err-text-clause-part : goal.returns-in_err-text-clause-part
-returns-in_err-text-clause-part g c = λ now stands same line room. part_none _ _
+returns-in_err-text-clause-part g c = λ now stands same line may. part_none _ _
 
 pub returns-in_err-say-clause-part : goal.returns-in_err-say-clause-part
-returns-in_err-say-clause-part g c = λ now stands same line room.
-    let room' : (seen c.args.engine.now).next + 1 < 2 ^ 64 = omega (arith, stands.next, room) in
+returns-in_err-say-clause-part g c = λ now stands same line may.
+    let room' : (seen c.args.engine.now).next + 1 < 2 ^ 64 = omega (arith, stands.next, may.room) in
     let text : c.as_slice.result.now ≡ bad_text now.line c.args.place = c.as_slice.ensures ∙ c.in_ok-text.ensures ∙ ap (λ (n : ℕ). bad_text n c.args.place) (sym line) in
     part_of_first _ _ (says (bad_text now.line c.args.place) ∷ []) _ (part_says _ _ _ _ text (undamaged_by _ (seen c.say.new.self) c.say.result c.say.ensures.undamaged c.say.ensures.lasts.causes.cause) c.say.ensures.part (λ uncut. absurd (uncut (cut_as _ _ c.from_residual-in_err-say.ensures.1 c.in_err-say.ensures.fault))) room')
 
 pub returns-in_err-retry_all-clause-part : goal.returns-in_err-retry_all-clause-part
-returns-in_err-retry_all-clause-part g c = λ now stands same line room.
-    let room' : (seen c.args.engine.now).next + 1 < 2 ^ 64 = omega (arith, stands.next, room) in
+returns-in_err-retry_all-clause-part g c = λ now stands same line may.
+    let room' : (seen c.args.engine.now).next + 1 < 2 ^ 64 = omega (arith, stands.next, may.room) in
     let text : c.as_slice.result.now ≡ bad_text now.line c.args.place = c.as_slice.ensures ∙ c.in_ok-text.ensures ∙ ap (λ (n : ℕ). bad_text n c.args.place) (sym line) in
     let said = ran_says _ _ _ _ text c.say.ensures.lasts.causes.tells c.say.ensures.lasts.causes.whole (undamaged_by _ (seen c.say.new.self) c.say.result c.say.ensures.undamaged c.say.ensures.lasts.causes.cause) c.in_ok-say.ensures.text c.say.ensures.part c.in_ok-say.ensures.keeps room' in
     part_on _ _ _ (says (bad_text now.line c.args.place) ∷ []) _ said
-    (retries_part_from _ _ now.session _ _ _ _ (ap described c.say.ensures.lasts.description) (sym same) (part_cut _ _ _ (cut_as _ _ c.from_residual-in_err-retry_all.ensures.1) (c.in_err-retry_all.ensures.part now.session (c.in_ok-say.ensures.stands now.session stands) (omega (arith, room, ap length same)))))
+    (retries_part_from _ _ now.session _ _ _ _ (ap described c.say.ensures.lasts.description) (sym same) (part_cut _ _ _ (cut_as _ _ c.from_residual-in_err-retry_all.ensures.1) (c.in_err-retry_all.ensures.part now.session (c.in_ok-say.ensures.stands now.session stands) (omega (arith, may.room, ap length same)) may.exclusive)))
 
 pub returns-clause-lined : goal.returns-clause-lined
-returns-clause-lined g c = λ now stands same line room.
-    let room' : (seen c.args.engine.now).next + 1 < 2 ^ 64 = omega (arith, stands.next, room) in
+returns-clause-lined g c = λ now stands same line may.
+    let room' : (seen c.args.engine.now).next + 1 < 2 ^ 64 = omega (arith, stands.next, may.room) in
     let text : c.as_slice.result.now ≡ bad_text now.line c.args.place = c.as_slice.ensures ∙ c.in_ok-text.ensures ∙ ap (λ (n : ℕ). bad_text n c.args.place) (sym line) in
     let said = ran_says _ _ _ _ text c.say.ensures.lasts.causes.tells c.say.ensures.lasts.causes.whole (undamaged_by _ (seen c.say.new.self) c.say.result c.say.ensures.undamaged c.say.ensures.lasts.causes.cause) c.in_ok-say.ensures.text c.say.ensures.part c.in_ok-say.ensures.keeps room' in
     goes_retried _ now now.session (says (bad_text now.line c.args.place) ∷ []) _ _ _ _ _ said
-    (retries_from _ _ now.session _ _ _ _ _ _ (ap described c.say.ensures.lasts.description) (sym same) (c.in_ok-retry_all.ensures.retries now.session (c.in_ok-say.ensures.stands now.session stands) (omega (arith, room, ap length same))))
+    (retries_from _ _ now.session _ _ _ _ _ _ (ap described c.say.ensures.lasts.description) (sym same) (c.in_ok-retry_all.ensures.retries now.session (c.in_ok-say.ensures.stands now.session stands) (omega (arith, may.room, ap length same)) may.exclusive))
 
 pub returns-clause-part : goal.returns-clause-part
-returns-clause-part g c = λ now stands same line room.
-    let room' : (seen c.args.engine.now).next + 1 < 2 ^ 64 = omega (arith, stands.next, room) in
+returns-clause-part g c = λ now stands same line may.
+    let room' : (seen c.args.engine.now).next + 1 < 2 ^ 64 = omega (arith, stands.next, may.room) in
     let text : c.as_slice.result.now ≡ bad_text now.line c.args.place = c.as_slice.ensures ∙ c.in_ok-text.ensures ∙ ap (λ (n : ℕ). bad_text n c.args.place) (sym line) in
     let said = ran_says _ _ _ _ text c.say.ensures.lasts.causes.tells c.say.ensures.lasts.causes.whole (undamaged_by _ (seen c.say.new.self) c.say.result c.say.ensures.undamaged c.say.ensures.lasts.causes.cause) c.in_ok-say.ensures.text c.say.ensures.part c.in_ok-say.ensures.keeps room' in
     part_on _ _ _ (says (bad_text now.line c.args.place) ∷ []) _ said
-    (retries_part_from _ _ now.session _ _ _ _ (ap described c.say.ensures.lasts.description) (sym same) (c.in_ok-retry_all.ensures.part now.session (c.in_ok-say.ensures.stands now.session stands) (omega (arith, room, ap length same))))
+    (retries_part_from _ _ now.session _ _ _ _ (ap described c.say.ensures.lasts.description) (sym same) (c.in_ok-retry_all.ensures.part now.session (c.in_ok-say.ensures.stands now.session stands) (omega (arith, may.room, ap length same)) may.exclusive))

@@ -6,9 +6,13 @@ use Rattle.dms_runner.specs.Events.{IsCutShort, PerformsPrefix}
 use Rattle.dms_model.specs.Session.{step}
 use Rattle.dms_runner.specs.declared.waiting.WaitingLine.{WaitingLine as LineWaiting}
 use Rattle.dms_runner.specs.Waiting.{tries}
+use Rattle.dms_runner.proofs.Verbs.{verb_read}
 use Rattle.dms_runner.proofs.retrying.try_at.Goals as goal
 
+pub try_line-requires-clause-verb : goal.try_line-requires-clause-verb
+try_line-requires-clause-verb g c = verb_read _ c.args.waiting.now c.args.i c.index-waiting-i.result c.requires.place c.index-waiting-i.is c.requires.verbs
+
 pub returns-clause-part : goal.returns-clause-part
-returns-clause-part g c = λ h is s stands room.
+returns-clause-part g c = λ h is s stands may.
     let e : c.index-waiting-i.result ≡ h = c.index-waiting-i.is ∙ get_or_from_slice_get c.args.waiting.now c.args.i h c.index-waiting-i.result is in
-    subst (λ (x : LineWaiting). PerformsPrefix (IsCutShort c.try_line.result) (seen c.args.engine.now) (seen c.try_line.new.engine) (tries x (step (described c.args.engine.now.desc) s x.program x.verb))) e (c.try_line.ensures.part s stands room)
+    subst (λ (x : LineWaiting). PerformsPrefix (IsCutShort c.try_line.result) (seen c.args.engine.now) (seen c.try_line.new.engine) (tries x (step (described c.args.engine.now.desc) s x.program x.verb))) e (c.try_line.ensures.part s stands may)

@@ -13,6 +13,7 @@ use Rattle.dms_runner.specs.Blaming.{CutRun}
 use Rattle.dms_runner.specs.Running.{PassesBytes, PassesWaiting, CutInput}
 use Rattle.dms_runner.proofs.Always.{always_ok, then_on, fault_as}
 use Rattle.dms_runner.proofs.Texts.{prints_none}
+use Rattle.dms_runner.proofs.Verbs.{verbs_in, verbs_under}
 use Rattle.dms_runner.proofs.Happening.{part_none, part_as}
 use Rattle.dms_runner.proofs.Running.{Runs, runs_start, runs_room, runs_on, runs_lines, runs_bytes, runs_waiting, runs_cut, runs_end, runs_ran, runs_ended, runs_next, runs_part, runs_end_part}
 use Rattle.dms_runner.proofs.run.run_lines.Goals as goal
@@ -20,6 +21,7 @@ use Rattle.dms_runner.proofs.run.run_lines.Goals as goal
 pub loop-line-init : goal.loop-line-init
 loop-line-init g c = record {
   lasts = lasts_none g.met.St.Store.same_again _ c.requires.sound;
+  verbs = verbs_in (sym c.new-waiting.ensures.items) tt;
   taken = refl;
   same_source = g.met.I.Source.same_again _;
   small = omega arith;
@@ -27,6 +29,9 @@ loop-line-init g c = record {
   rest = λ all remains. (all, remains);
   runs = λ db first all stands small remains. subst (λ (hs : List WaitingLine). Runs (described c.args.engine.now.desc) (first_state db first) 0 2147483648 all (view c.args.engine.now) hs c.args.feed.now (g.I.Source.left c.args.source.now) (seen c.args.engine.now) (seen c.args.engine.now)) (sym c.new-waiting.ensures.items) (runs_start _ db first all _ _ _ _ stands remains);
 }
+
+pub one_line-requires-clause-verbs : goal.one_line-requires-clause-verbs
+one_line-requires-clause-verbs g c = verbs_under (ap described (sym c.loop-line.invariant.lasts.description)) c.loop-line.invariant.verbs
 
 pub returns-in-Err-clause-part : goal.returns-in-Err-clause-part
 returns-in-Err-clause-part g c = λ db first all stands small remains.
@@ -110,6 +115,7 @@ returns-in-Ok-false-clause-same_source g c = g.met.I.Source.same_then _ _ _ c.lo
 pub loop-line-preserved : goal.loop-line-preserved
 loop-line-preserved g c = record {
   lasts = run_on_lasts g.met.St.Store.same_then c.loop-line.invariant.lasts c.in-Ok-true.ensures.lasts;
+  verbs = verbs_under (ap described c.loop-line.invariant.lasts.description) c.in-Ok-true.ensures.verbs;
   taken = c.in-Ok-true.ensures.clean (no_fault _ _) ∙ c.loop-line.invariant.taken;
   same_source = g.met.I.Source.same_then _ _ _ c.loop-line.invariant.same_source c.one_line.ensures.same_source;
   small = omega (arith, c.loop-line.invariant.small, c.one_line.ensures.room);

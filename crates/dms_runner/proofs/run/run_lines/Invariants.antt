@@ -3,6 +3,7 @@ use Rattle.dms_desc.specs.Shape.{described}
 use Rattle.dms_model.specs.Session.{fresh_session}
 use Rattle.dms_storeverbs.specs.View.{Lasted, seen, view, StandsFor}
 use Rattle.dms_runner.proofs.Running.{Runs}
+use Rattle.dms_runner.specs.Waiting.{AreVerbs}
 use Rattle.dms_runner.specs.Answers.{first_state}
 use Rattle.dms_model.specs.Db.{Db}
 use Rattle.dms_feed.specs.Feeds.{Remains}
@@ -11,6 +12,7 @@ use Rattle.dms_runner.proofs.run.run_lines.Given as goal
 abbrev pub invariant-loop-line : goal.invariant-loop-line
 invariant-loop-line g l = record {
   lasts : Lasted l.fn.engine l.engine;
+  verbs : AreVerbs (described l.fn.engine.desc) l.waiting.items;
   taken : g.I.Source.faults l.source ≡ g.I.Source.faults l.fn.source;
   same_source : g.I.Source.same_source l.fn.source l.source;
   small : l.room ≤ 2147483648;

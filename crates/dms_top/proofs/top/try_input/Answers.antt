@@ -8,7 +8,11 @@ use Rattle.dms_top.proofs.Printing.{nothing_printed, nothing_whole, printed_move
 use Rattle.dms_top.specs.Judging.{judged}
 use Rattle.dms_top.proofs.Cutting.{cut_text, cut_script, cut_described}
 use Rattle.dms_top.proofs.Judgements.{long_judged, refused_is, ok_of, no_more, at_start}
+use Rattle.dms_top.proofs.Sealed.{judged_well}
 use Rattle.dms_top.proofs.top.try_input.Goals as goal
+
+pub try_lines-requires : goal.try_lines-requires
+try_lines-requires g c = judged_well _ _ c.in-Description.ensures
 
 pub returns-in-Err-Long-clause-refused : goal.returns-in-Err-Long-clause-refused
 returns-in-Err-Long-clause-refused g c = λ f is all left.

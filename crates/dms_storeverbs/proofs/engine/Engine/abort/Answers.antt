@@ -1,4 +1,4 @@
-use Rattle.std.proofs.Common.{◌≡◌, arith, true, false, refl, ap, ◌∙◌, length, map, rules}
+use Rattle.std.proofs.Common.{◌≡◌, List, arith, true, false, refl, ap, ◌∙◌, length, map, rules}
 use Rattle.std.proofs.lemmas.List.{with_items_is, length-map}
 use Rattle.std.proofs.lemmas.Grind.{common_steps}
 use Rattle.std.proofs.lemmas.Option.{gets}
@@ -8,26 +8,33 @@ use Rattle.dms_storeverbs.proofs.Calls.{failed, silently, unchanged}
 use Rattle.dms_block.specs.Faults.{Undamaged}
 use Rattle.dms_storeverbs.proofs.Costing.{answered_costs, backed_costs, spends_none, unbacked_costs}
 use Rattle.dms_storeverbs.specs.Costs.{is_done}
+use Rattle.dms_desc.specs.Shape.{described}
+use Rattle.dms_storeverbs.proofs.AtHand.{backed_fit}
 use Rattle.dms_storeverbs.proofs.engine.Engine.abort.Goals as goal
+
+pub invariant_of-self-2-clause-fit : goal.invariant_of-self-2-clause-fit
+invariant_of-self-2-clause-fit g c =
+    let back = with_items_is c.args.self.now.programs c.back_out-2.new.programs (ap length c.back_out-2.ensures ∙ length-map c.as_mut_slice.result.now (backed_out c.index.result.now.name) ∙ c.as_mut_slice.ensures.len) in
+    backed_fit (described c.args.self.now.desc) c.args.self.now.programs.items _ c.index.result.now.name (back ∙ c.back_out-2.ensures ∙ ap (λ (ps : List Program). map (backed_out c.index.result.now.name) ps) c.as_mut_slice.ensures.value) c.args.self.now.fit
 
 pub returns-then-not-index-clause-step : goal.returns-then-not-index-clause-step
 unfolding abort_step
-returns-then-not-index-clause-step g c = λ p at s stands room.
+returns-then-not-index-clause-step g c = λ p at s stands may.
     let idle : p.in_transaction ≡ false = grind (arith, common_steps, gets) in
     rw idle (unchanged refl c.refused.ensures.sync (record { reply = grind (arith, common_steps, gets); sync = c.refused.ensures.sync; session = stands }))
 
 pub returns-in_err-back_out-clause-step : goal.returns-in_err-back_out-clause-step
-returns-in_err-back_out-clause-step g c = λ p at s stands room. failed c.from_residual.ensures.0 (let u : Undamaged c.back_out.result = c.back_out.ensures.undamaged s.db stands.db in search rules) c.back_out.ensures.silent s stands.next room
+returns-in_err-back_out-clause-step g c = λ p at s stands may. failed c.from_residual.ensures.0 (let u : Undamaged c.back_out.result = c.back_out.ensures.undamaged s.db stands.db in search rules) c.back_out.ensures.silent s stands.next may.room
 
 pub returns-clause-step : goal.returns-clause-step
 unfolding abort_step
-returns-clause-step g c = λ p at s stands room.
+returns-clause-step g c = λ p at s stands may.
     let works : p.in_transaction ≡ true = grind (arith, common_steps, gets) in
     let p_is : c.index.result.now ≡ p = grind (arith, common_steps, gets) in
     let name_is = ap (λ (q : Program). q.name) p_is in
     let items_is = c.as_mut_slice.ensures.value ∙ stands.programs in
     let mapped : c.back_out-2.new.programs ≡ map (backed_out p.name) s.programs = c.back_out-2.ensures ∙ (λ j. map (backed_out (name_is j)) (items_is j)) in
-    rw works (silently c.back_out.ensures.silent c.in_ok-back_out.ensures.keeps.points s stands.next room refl c.done.ensures.sync (record {
+    rw works (silently c.back_out.ensures.silent c.in_ok-back_out.ensures.keeps.points s stands.next may.room refl c.done.ensures.sync (record {
       reply = c.done.ensures.reply;
       sync = c.done.ensures.sync;
       session = record {

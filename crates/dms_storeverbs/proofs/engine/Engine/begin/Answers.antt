@@ -15,16 +15,23 @@ use Rattle.dms_storeverbs.proofs.Ends.{begin_refused, begin_done, begin_quiets}
 use Rattle.dms_storeverbs.proofs.Unfolds.{begin_lacks, begin_waits, begin_goes}
 use Rattle.dms_block.specs.Faults.{Undamaged}
 use Rattle.dms_storeverbs.proofs.Costing.{failed_costs, plain_costs, spends_none}
+use Rattle.dms_model.specs.Areas.{WorksFit}
+use Rattle.dms_storeverbs.proofs.AtHand.{one_changed}
 use Rattle.dms_storeverbs.proofs.engine.Engine.begin.Goals as goal
+
+pub invariant_of-self-clause-fit : goal.invariant_of-self-clause-fit
+invariant_of-self-clause-fit g c =
+    let low : c.args.i < length c.keep_restart.new.self.programs.items = omega (arith, c.requires.place, c.in_ok-refusal.ensures.count) in
+    one_changed (described c.keep_restart.new.self.desc) c.keep_restart.new.self.programs.items c.args.i c.index_mut.result.now c.enter.new.program low c.index_mut.ensures.value (λ x. subst (WorksFit (described c.keep_restart.new.self.desc)) (sym c.enter.ensures) x) c.keep_restart.new.self.fit
 
 pub returns-then-index-clause-step : goal.returns-then-index-clause-step
 unfolding begin_step
-returns-then-index-clause-step g c = λ p at s stands room.
+returns-then-index-clause-step g c = λ p at s stands may.
     let works : p.in_transaction ≡ true = grind (arith, common_steps, gets) in
     rw works (unchanged refl c.refused.ensures.sync (record { reply = grind (arith, common_steps, gets); sync = c.refused.ensures.sync; session = stands }))
 
 pub returns-then-lacks-clause-step : goal.returns-then-lacks-clause-step
-returns-then-lacks-clause-step g c = λ p at s stands room.
+returns-then-lacks-clause-step g c = λ p at s stands may.
     let d = described c.args.self.now.desc in
     let idle : p.in_transaction ≡ false = grind (arith, common_steps, gets) in
     let p_is : c.index-2.result.now ≡ p = grind (arith, common_steps, gets) in
@@ -34,7 +41,7 @@ returns-then-lacks-clause-step g c = λ p at s stands room.
     did_from (begin_lacks d c.args.i p s c.args.audit idle lacks) (unchanged refl said.sync (record { reply = said.reply ∙ ap (λ (n : List ℕ). Exception NoRecord n) (c.name_of.ensures ∙ ap (λ (n : ℕ). name_of (structure_of d n)) rest); sync = said.sync; session = stands }))
 
 pub returns-in-Some-clause-step : goal.returns-in-Some-clause-step
-returns-in-Some-clause-step g c = λ p at s stands room.
+returns-in-Some-clause-step g c = λ p at s stands may.
     let d = described c.args.self.now.desc in
     let idle : p.in_transaction ≡ false = grind (arith, common_steps, gets) in
     let p_is : c.index-2.result.now ≡ p = grind (arith, common_steps, gets) in
@@ -45,10 +52,10 @@ returns-in-Some-clause-step g c = λ p at s stands room.
     did_from (begin_waits d c.args.i p s c.args.audit idle lacks (λ e. a.1 (who_is ∙ e))) (unchanged refl refl (record { reply = ap (λ (ns : List (List ℕ)). Waits ns) (a.0 ∙ who_is); sync = refl; session = stands }))
 
 pub returns-in_err-refusal-clause-step : goal.returns-in_err-refusal-clause-step
-returns-in_err-refusal-clause-step g c = λ p at s stands room. failed c.from_residual-in_err-refusal.ensures.0 (let u : Undamaged c.keep_restart.result = c.keep_restart.ensures.undamaged s.db stands.db in search rules) c.keep_restart.ensures.silent s stands.next room
+returns-in_err-refusal-clause-step g c = λ p at s stands may. failed c.from_residual-in_err-refusal.ensures.0 (let u : Undamaged c.keep_restart.result = c.keep_restart.ensures.undamaged s.db stands.db in search rules) c.keep_restart.ensures.silent s stands.next may.room
 
 pub returns-in-Some-2-clause-step : goal.returns-in-Some-2-clause-step
-returns-in-Some-2-clause-step g c = λ p at s stands room.
+returns-in-Some-2-clause-step g c = λ p at s stands may.
     let d = described c.args.self.now.desc in
     let idle : p.in_transaction ≡ false = grind (arith, common_steps, gets) in
     let p_is : c.index-2.result.now ≡ p = grind (arith, common_steps, gets) in
@@ -58,12 +65,12 @@ returns-in-Some-2-clause-step g c = λ p at s stands room.
     let nobody = sym who_is ∙ (rw c.in_default.is at c.in_ok-awaited.ensures) in
     let goes = begin_goes d c.args.i p s c.args.audit idle lacks nobody in
     let k = kept_if c.args.audit d p s.db in
-    let kept = rw c.in-Some-2.is at (c.in_ok-refusal.ensures.kept p at s stands) in
+    let kept = rw c.in-Some-2.is at (c.in_ok-refusal.ensures.kept p at s stands may.exclusive) in
     let said = c.refused-in-Some-2.ensures in
-    did_from goes (silently c.keep_restart.ensures.silent c.in_ok-refusal.ensures.points s stands.next room (begin_quiets k c.args.i s) said.sync (begin_refused k c.args.i s c.in-Some-2.refusal _ c.refused-in-Some-2.result kept said.reply said.sync))
+    did_from goes (silently c.keep_restart.ensures.silent c.in_ok-refusal.ensures.points s stands.next may.room (begin_quiets k c.args.i s) said.sync (begin_refused k c.args.i s c.in-Some-2.refusal _ c.refused-in-Some-2.result kept said.reply said.sync))
 
 pub returns-clause-step : goal.returns-clause-step
-returns-clause-step g c = λ p at s stands room.
+returns-clause-step g c = λ p at s stands may.
     let d = described c.args.self.now.desc in
     let idle : p.in_transaction ≡ false = grind (arith, common_steps, gets) in
     let p_is : c.index-2.result.now ≡ p = grind (arith, common_steps, gets) in
@@ -74,9 +81,9 @@ returns-clause-step g c = λ p at s stands room.
     let goes = begin_goes d c.args.i p s c.args.audit idle lacks nobody in
     let k = kept_if c.args.audit d p s.db in
     let low : c.args.i < length s.programs = subst (λ (ps : List Program). c.args.i < length ps) stands.programs c.requires.place in
-    let kept = rw c.in_default-2.is at (c.in_ok-refusal.ensures.kept p at s stands) in
+    let kept = rw c.in_default-2.is at (c.in_ok-refusal.ensures.kept p at s stands may.exclusive) in
     let said = c.done.ensures in
-    did_from goes (silently c.keep_restart.ensures.silent c.in_ok-refusal.ensures.points s stands.next room (begin_quiets k c.args.i s) said.sync (begin_done k c.args.i s c.index_mut.result.now c.enter.new.program c.done.result _ _ _ _ _ _ low kept c.index_mut.ensures.value c.enter.ensures said.reply said.sync))
+    did_from goes (silently c.keep_restart.ensures.silent c.in_ok-refusal.ensures.points s stands.next may.room (begin_quiets k c.args.i s) said.sync (begin_done k c.args.i s c.index_mut.result.now c.enter.new.program c.done.result _ _ _ _ _ _ low kept c.index_mut.ensures.value c.enter.ensures said.reply said.sync))
 
 pub returns-then-index-clause-costs : goal.returns-then-index-clause-costs
 returns-then-index-clause-costs g c = plain_costs c.refused.ensures.sync (spends_none _ _)

@@ -9,8 +9,11 @@ use Rattle.dms_storeverbs.proofs.Unfolds.{step_opens, step_is_at, there_is}
 use Rattle.dms_storeverbs.proofs.Costing.{answered_costs, spends_none}
 use Rattle.dms_storeverbs.proofs.engine.Engine.call.Goals as goal
 
+pub invariant_of-self-2-clause-fit : goal.invariant_of-self-2-clause-fit
+invariant_of-self-2-clause-fit g c = c.admit.ensures.fit (described c.args.self.now.desc) c.args.self.now.fit
+
 pub returns-then-i-len-clause-step : goal.returns-then-i-len-clause-step
-returns-then-i-len-clause-step g c = λ s stands room.
+returns-then-i-len-clause-step g c = λ s stands may.
     let d = described c.args.self.now.desc in
     let place : c.place_of-i.result ≡ place_of c.args.program.now s.programs = c.place_of-i.ensures.place ∙ ap (λ (ps : List Program). place_of c.args.program.now ps) (c.as_slice.ensures.value ∙ stands.programs) in
     let past : length c.args.self.now.programs.items ≤ c.place_of-i.result = grind (arith, common_steps) in
@@ -18,7 +21,7 @@ returns-then-i-len-clause-step g c = λ s stands room.
     did_from (step_opens d s c.args.program.now c.args.verb.now c.place_of-i.result place past') (apart_did (c.in_ok-open.ensures.apart s (sym stands.programs)) stands)
 
 pub returns-in-Some-clause-step : goal.returns-in-Some-clause-step
-returns-in-Some-clause-step g c = λ s stands room.
+returns-in-Some-clause-step g c = λ s stands may.
     let d = described c.args.self.now.desc in
     let low : c.place_of-i.result < length c.args.self.now.programs.items = grind (arith, common_steps) in
     let there = there_is c.args.self.now.programs.items c.place_of-i.result low in
@@ -27,7 +30,7 @@ returns-in-Some-clause-step g c = λ s stands room.
     did_from (step_is_at d s c.args.program.now c.args.verb.now c.place_of-i.result there.0 place at') (apart_did (c.in-Some.ensures.admits d there.0 there.1 s (sym stands.programs)) stands)
 
 pub returns-clause-step : goal.returns-clause-step
-returns-clause-step g c = λ s stands room.
+returns-clause-step g c = λ s stands may.
     let d = described c.args.self.now.desc in
     let low : c.place_of-i.result < length c.args.self.now.programs.items = grind (arith, common_steps) in
     let there = there_is c.args.self.now.programs.items c.place_of-i.result low in
@@ -36,7 +39,7 @@ returns-clause-step g c = λ s stands room.
     let place : c.place_of-i.result ≡ place_of c.args.program.now s.programs = c.place_of-i.ensures.place ∙ ap (λ (ps : List Program). place_of c.args.program.now ps) (c.as_slice.ensures.value ∙ stands.programs) in
     let at' : slice_get s.programs c.place_of-i.result ≡ Some there.0 = subst (λ (ps : List Program). slice_get ps c.place_of-i.result ≡ Some there.0) stands.programs there.1 in
     let goes = step_is_at d s c.args.program.now c.args.verb.now c.place_of-i.result there.0 place at' in
-    did_from (goes ∙ admits.1 s) (c.verb.ensures.step there.0 there' s (record { db = stands.db; mark = stands.mark; next = stands.next; programs = admits.0 ∙ stands.programs; pending = stands.pending; since = stands.since }) room)
+    did_from (goes ∙ admits.1 s) (c.verb.ensures.step there.0 there' s (record { db = stands.db; mark = stands.mark; next = stands.next; programs = admits.0 ∙ stands.programs; pending = stands.pending; since = stands.since }) may)
 
 pub returns-then-i-len-clause-costs : goal.returns-then-i-len-clause-costs
 returns-then-i-len-clause-costs g c = answered_costs _ c.in_ok-open.ensures.unsynced (λ is. c.in_ok-open.ensures.no_back_out is) (spends_none _ _)

@@ -11,37 +11,44 @@ use Rattle.dms_storeverbs.proofs.Ends.{end_refused, end_refused_quiets, end_goes
 use Rattle.dms_storeverbs.proofs.Unfolds.{end_step_goes, end_outside}
 use Rattle.dms_block.specs.Faults.{Undamaged}
 use Rattle.dms_storeverbs.proofs.Costing.{failed_costs, plain_costs, spends_none, then_costs}
+use Rattle.dms_model.specs.Areas.{WorksFit}
+use Rattle.dms_storeverbs.proofs.AtHand.{one_changed}
 use Rattle.dms_storeverbs.proofs.engine.Engine.end_transaction.Goals as goal
 
+pub invariant_of-self-clause-fit : goal.invariant_of-self-clause-fit
+invariant_of-self-clause-fit g c =
+    let low : c.args.i < length c.keep_restart.new.self.programs.items = omega (arith, c.requires.place, c.in_ok-refusal.ensures.count) in
+    one_changed (described c.keep_restart.new.self.desc) c.keep_restart.new.self.programs.items c.args.i c.index_mut.result.now c.leave.new.program low c.index_mut.ensures.value (λ x. subst (WorksFit (described c.keep_restart.new.self.desc)) (sym c.leave.ensures) x) c.keep_restart.new.self.fit
+
 pub returns-then-not-index-clause-step : goal.returns-then-not-index-clause-step
-returns-then-not-index-clause-step g c = λ p at s stands room.
+returns-then-not-index-clause-step g c = λ p at s stands may.
     let idle : p.in_transaction ≡ false = grind (arith, common_steps, gets) in
     did_from (end_outside (described c.args.self.now.desc) c.args.i p s c.args.audit c.args.sync idle) (unchanged refl c.refused.ensures.sync (record { reply = grind (arith, common_steps, gets); sync = c.refused.ensures.sync; session = stands }))
 
 pub returns-in_err-refusal-clause-step : goal.returns-in_err-refusal-clause-step
-returns-in_err-refusal-clause-step g c = λ p at s stands room. failed c.from_residual.ensures.0 (let u : Undamaged c.keep_restart.result = c.keep_restart.ensures.undamaged s.db stands.db in search rules) c.keep_restart.ensures.silent s stands.next room
+returns-in_err-refusal-clause-step g c = λ p at s stands may. failed c.from_residual.ensures.0 (let u : Undamaged c.keep_restart.result = c.keep_restart.ensures.undamaged s.db stands.db in search rules) c.keep_restart.ensures.silent s stands.next may.room
 
 pub returns-in-Some-clause-step : goal.returns-in-Some-clause-step
-returns-in-Some-clause-step g c = λ p at s stands room.
+returns-in-Some-clause-step g c = λ p at s stands may.
     let d = described c.args.self.now.desc in
     let k = kept_if c.args.audit d p s.db in
     let works : p.in_transaction ≡ true = grind (arith, common_steps, gets) in
-    let kept = rw c.in-Some.is at (c.in_ok-refusal.ensures.kept p at s stands) in
+    let kept = rw c.in-Some.is at (c.in_ok-refusal.ensures.kept p at s stands may.exclusive) in
     let said = c.refused-in-Some.ensures in
     did_from (end_step_goes d c.args.i p s c.args.audit c.args.sync works)
-    (silently c.keep_restart.ensures.silent c.in_ok-refusal.ensures.points s stands.next room (end_refused_quiets k d c.args.i s c.args.sync c.in-Some.refusal _ kept) said.sync (end_refused k d c.args.i s c.args.sync c.in-Some.refusal _ c.refused-in-Some.result kept said.reply said.sync))
+    (silently c.keep_restart.ensures.silent c.in_ok-refusal.ensures.points s stands.next may.room (end_refused_quiets k d c.args.i s c.args.sync c.in-Some.refusal _ kept) said.sync (end_refused k d c.args.i s c.args.sync c.in-Some.refusal _ c.refused-in-Some.result kept said.reply said.sync))
 
 pub returns-clause-step : goal.returns-clause-step
-returns-clause-step g c = λ p at s stands room.
+returns-clause-step g c = λ p at s stands may.
     let d = described c.args.self.now.desc in
     let works : p.in_transaction ≡ true = grind (arith, common_steps, gets) in
     let goes = end_step_goes d c.args.i p s c.args.audit c.args.sync works in
     let low : c.args.i < length s.programs = subst (λ (ps : List Program). c.args.i < length ps) stands.programs c.requires.place in
-    let kept = rw c.in_default.is at (c.in_ok-refusal.ensures.kept p at s stands) in
+    let kept = rw c.in_default.is at (c.in_ok-refusal.ensures.kept p at s stands may.exclusive) in
     let descr = c.keep_restart.ensures.lasts.description in
     let due = c.is_due-self.ensures ∙ (λ j. c.keep_restart.new.self.pending || c.args.sync || nat_le (descr j).syncpoint (c.one_more-self.ensures j)) in
     did_from goes (end_goes (λ (o : Outcome). PerformsCall o (seen c.args.self.now) (seen c.settle.new.self) (view c.settle.new.self) c.settle.result) (kept_if c.args.audit d p s.db) d c.args.i s c.args.sync c.index_mut.result.now c.leave.new.program _ _ _ _ c.one_more-self.result _ _ c.is_due-self.result low kept c.index_mut.ensures.value c.leave.ensures
-    (λ t pend sinc nxt st. then_did c.keep_restart.ensures.lasts.causes.whole c.keep_restart.ensures.silent c.in_ok-refusal.ensures.points s stands.next room c.keep_restart.ensures.lasts.causes.tells (c.settle.ensures.step t (st (due ∙ sym pend) (c.one_more-self.ensures ∙ sym sinc)) (omega (arith, nxt, room)))))
+    (λ t pend sinc nxt st. then_did c.keep_restart.ensures.lasts.causes.whole c.keep_restart.ensures.silent c.in_ok-refusal.ensures.points s stands.next may.room c.keep_restart.ensures.lasts.causes.tells (c.settle.ensures.step t (st (due ∙ sym pend) (c.one_more-self.ensures ∙ sym sinc)) (omega (arith, nxt, may.room)))))
 
 pub returns-then-not-index-clause-costs : goal.returns-then-not-index-clause-costs
 returns-then-not-index-clause-costs g c = plain_costs c.refused.ensures.sync (spends_none _ _)

@@ -5,7 +5,32 @@ use Rattle.dms_model.specs.Session.{settle, someone_works}
 use Rattle.dms_storeverbs.proofs.Calls.{if_err, quieted, synced, told_known, settled_quiets}
 use Rattle.dms_block.specs.Faults.{Undamaged}
 use Rattle.dms_storeverbs.proofs.Costing.{failed_costs, plain_costs, spends_none, spends_same, synced_costs, unsynced_costs}
+use Rattle.std.proofs.Common.{List, ap, length, map}
+use Rattle.std.proofs.lemmas.List.{with_items_is, length-map}
+use Rattle.dms_desc.specs.Shape.{described}
+use Rattle.dms_model.specs.declared.program.Program.{Program}
+use Rattle.dms_model.specs.Session.{idle}
+use Rattle.dms_storeverbs.proofs.AtHand.{idle_fit}
 use Rattle.dms_storeverbs.proofs.engine.Engine.settle.Goals as goal
+
+pub invariant_of-self-then-not-self-clause-fit : goal.invariant_of-self-then-not-self-clause-fit
+invariant_of-self-then-not-self-clause-fit g c =
+    let back = with_items_is c.args.self.now.programs c.clear_active.new.programs (ap length c.clear_active.ensures ∙ length-map c.as_mut_slice.result.now idle ∙ c.as_mut_slice.ensures.len) in
+    idle_fit (described c.args.self.now.desc) c.args.self.now.programs.items _ (back ∙ c.clear_active.ensures ∙ ap (λ (ps : List Program). map idle ps) c.as_mut_slice.ensures.value) c.args.self.now.fit
+
+pub invariant_of-self-in-Break-branch-2 : goal.invariant_of-self-in-Break-branch-2
+invariant_of-self-in-Break-branch-2 g c =
+    let back = with_items_is c.args.self.now.programs c.clear_active.new.programs (ap length c.clear_active.ensures ∙ length-map c.as_mut_slice.result.now idle ∙ c.as_mut_slice.ensures.len) in
+    record {
+      under = c.sync.ensures.causes.desc ∙ c.quiet.ensures.causes.desc ∙ c.args.self.now.under;
+      formed = c.args.self.now.formed;
+      fit = idle_fit (described c.args.self.now.desc) c.args.self.now.programs.items _ (back ∙ c.clear_active.ensures ∙ ap (λ (ps : List Program). map idle ps) c.as_mut_slice.ensures.value) c.args.self.now.fit;
+    }
+
+pub invariant_of-self-2-clause-fit : goal.invariant_of-self-2-clause-fit
+invariant_of-self-2-clause-fit g c =
+    let back = with_items_is c.args.self.now.programs c.clear_active.new.programs (ap length c.clear_active.ensures ∙ length-map c.as_mut_slice.result.now idle ∙ c.as_mut_slice.ensures.len) in
+    idle_fit (described c.args.self.now.desc) c.args.self.now.programs.items _ (back ∙ c.clear_active.ensures ∙ ap (λ (ps : List Program). map idle ps) c.as_mut_slice.ensures.value) c.args.self.now.fit
 
 pub returns-in_err-number-clause-step : goal.returns-in_err-number-clause-step
 returns-in_err-number-clause-step g c = λ s stands room.

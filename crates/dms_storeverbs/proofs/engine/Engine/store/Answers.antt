@@ -9,33 +9,39 @@ use Rattle.dms_storeverbs.proofs.Ends.{store_refused, store_done, store_quiets}
 use Rattle.dms_storeverbs.proofs.Unfolds.{store_goes}
 use Rattle.dms_block.specs.Faults.{Undamaged}
 use Rattle.dms_storeverbs.proofs.Costing.{failed_costs, plain_costs, spends_none}
+use Rattle.dms_storeverbs.proofs.AtHand.{one_changed}
 use Rattle.dms_storeverbs.proofs.engine.Engine.store.Goals as goal
+
+pub invariant_of-self-clause-fit : goal.invariant_of-self-clause-fit
+invariant_of-self-clause-fit g c =
+    let low : c.args.i < length c.keep.new.self.programs.items = omega (arith, c.requires.place, c.in_ok-refusal.ensures.count) in
+    one_changed (described c.keep.new.self.desc) c.keep.new.self.programs.items c.args.i c.index_mut.result.now _ low c.index_mut.ensures.value (λ x. x) c.keep.new.self.fit
 
 pub returns-then-not-index-clause-step : goal.returns-then-not-index-clause-step
 unfolding store_step
-returns-then-not-index-clause-step g c = λ p at s stands room.
+returns-then-not-index-clause-step g c = λ p at s stands may.
     let idle : p.in_transaction ≡ false = grind (arith, common_steps, gets) in
     rw idle (unchanged refl c.refused.ensures.sync (record { reply = grind (arith, common_steps, gets); sync = c.refused.ensures.sync; session = stands }))
 
 pub returns-in_err-refusal-clause-step : goal.returns-in_err-refusal-clause-step
-returns-in_err-refusal-clause-step g c = λ p at s stands room. failed c.from_residual.ensures.0 (let u : Undamaged c.keep.result = c.keep.ensures.undamaged s.db stands.db in search rules) c.keep.ensures.silent s stands.next room
+returns-in_err-refusal-clause-step g c = λ p at s stands may. failed c.from_residual.ensures.0 (let u : Undamaged c.keep.result = c.keep.ensures.undamaged s.db stands.db in search rules) c.keep.ensures.silent s stands.next may.room
 
 pub returns-in-Some-clause-step : goal.returns-in-Some-clause-step
-returns-in-Some-clause-step g c = λ p at s stands room.
+returns-in-Some-clause-step g c = λ p at s stands may.
     let k = keep (described c.args.self.now.desc) p s.db c.args.set in
     let works : p.in_transaction ≡ true = grind (arith, common_steps, gets) in
-    let kept = rw c.in-Some.is at (c.in_ok-refusal.ensures.kept p at s stands) in
+    let kept = rw c.in-Some.is at (c.in_ok-refusal.ensures.kept p at s stands may.exclusive) in
     let said = c.refused-in-Some.ensures in
-    did_from (store_goes _ c.args.i p s c.args.set works) (silently c.keep.ensures.silent c.in_ok-refusal.ensures.points s stands.next room (store_quiets k c.args.i s) said.sync (store_refused k c.args.i s c.in-Some.refusal _ c.refused-in-Some.result kept said.reply said.sync))
+    did_from (store_goes _ c.args.i p s c.args.set works) (silently c.keep.ensures.silent c.in_ok-refusal.ensures.points s stands.next may.room (store_quiets k c.args.i s) said.sync (store_refused k c.args.i s c.in-Some.refusal _ c.refused-in-Some.result kept said.reply said.sync))
 
 pub returns-clause-step : goal.returns-clause-step
-returns-clause-step g c = λ p at s stands room.
+returns-clause-step g c = λ p at s stands may.
     let k = keep (described c.args.self.now.desc) p s.db c.args.set in
     let works : p.in_transaction ≡ true = grind (arith, common_steps, gets) in
     let low : c.args.i < length s.programs = subst (λ (ps : List Program). c.args.i < length ps) stands.programs c.requires.place in
-    let kept = rw c.in_default.is at (c.in_ok-refusal.ensures.kept p at s stands) in
+    let kept = rw c.in_default.is at (c.in_ok-refusal.ensures.kept p at s stands may.exclusive) in
     let said = c.done.ensures in
-    did_from (store_goes _ c.args.i p s c.args.set works) (silently c.keep.ensures.silent c.in_ok-refusal.ensures.points s stands.next room (store_quiets k c.args.i s) said.sync (store_done k c.args.i s c.index_mut.result.now _ c.done.result _ _ _ _ _ _ low kept c.index_mut.ensures.value refl said.reply said.sync))
+    did_from (store_goes _ c.args.i p s c.args.set works) (silently c.keep.ensures.silent c.in_ok-refusal.ensures.points s stands.next may.room (store_quiets k c.args.i s) said.sync (store_done k c.args.i s c.index_mut.result.now _ c.done.result _ _ _ _ _ _ low kept c.index_mut.ensures.value refl said.reply said.sync))
 
 pub returns-then-not-index-clause-costs : goal.returns-then-not-index-clause-costs
 returns-then-not-index-clause-costs g c = plain_costs c.refused.ensures.sync (spends_none _ _)

@@ -5,23 +5,31 @@ use Rattle.dms_base.specs.declared.category.Category.TheVariants.{OpenError}
 use Rattle.dms_storeverbs.proofs.Calls.{apart_did, unchanged}
 use Rattle.dms_model.specs.Session.{verb_step, refuse}
 use Rattle.dms_storeverbs.proofs.Costing.{plain_costs, spends_none}
+use Rattle.dms_desc.specs.Shape.{described}
+use Rattle.dms_laws.proofs.Formed.{initials}
 use Rattle.dms_storeverbs.proofs.engine.Engine.verb.Goals as goal
+
+pub invariant_of-self-clause-fit : goal.invariant_of-self-clause-fit
+invariant_of-self-clause-fit g c = c.close.ensures.fit (described c.args.self.now.desc) c.args.self.now.fit
+
+pub create-requires-clause-initial : goal.create-requires-clause-initial
+create-requires-clause-initial g c = initials (described c.args.self.now.desc) c.args.self.now.formed
 
 pub returns-in_ok-close-in-Close-clause-step : goal.returns-in_ok-close-in-Close-clause-step
 unfolding verb_step
-returns-in_ok-close-in-Close-clause-step g c = λ p at s stands room. rw c.in-Close.is (apart_did (c.in_ok-close-in-Close.ensures.apart p at s (sym stands.programs)) stands)
+returns-in_ok-close-in-Close-clause-step g c = λ p at s stands may. rw c.in-Close.is (apart_did (c.in_ok-close-in-Close.ensures.apart p at s (sym stands.programs)) stands)
 
 pub returns-in_ok-create-in-Create-clause-step : goal.returns-in_ok-create-in-Create-clause-step
 unfolding verb_step
-returns-in_ok-create-in-Create-clause-step g c = λ p at s stands room. rw c.in-Create.is (apart_did (c.in_ok-create-in-Create.ensures.apart p at s (sym stands.programs)) stands)
+returns-in_ok-create-in-Create-clause-step g c = λ p at s stands may. rw c.in-Create.is (apart_did (c.in_ok-create-in-Create.ensures.apart p at s (sym stands.programs)) stands)
 
 pub returns-in_ok-put-in-Put-clause-step : goal.returns-in_ok-put-in-Put-clause-step
 unfolding verb_step
-returns-in_ok-put-in-Put-clause-step g c = λ p at s stands room. rw c.in-Put.is (apart_did (c.in_ok-put-in-Put.ensures.apart p at s (sym stands.programs)) stands)
+returns-in_ok-put-in-Put-clause-step g c = λ p at s stands may. rw c.in-Put.is (apart_did (c.in_ok-put-in-Put.ensures.apart p at s (sym stands.programs)) stands)
 
 pub returns-in_ok-get-in-Get-clause-step : goal.returns-in_ok-get-in-Get-clause-step
 unfolding verb_step
-returns-in_ok-get-in-Get-clause-step g c = λ p at s stands room. rw c.in-Get.is (apart_did (c.in_ok-get-in-Get.ensures.apart p at s (sym stands.programs)) stands)
+returns-in_ok-get-in-Get-clause-step g c = λ p at s stands may. rw c.in-Get.is (apart_did (c.in_ok-get-in-Get.ensures.apart p at s (sym stands.programs)) stands)
 
 pub returns-in-Find-clause-step : goal.returns-in-Find-clause-step
 unfolding verb_step
@@ -45,7 +53,7 @@ returns-in-Abort-clause-step g c = λ p at. rw c.in-Abort.is (c.abort.ensures.st
 
 pub returns-in-OpenUpdate-clause-step : goal.returns-in-OpenUpdate-clause-step
 unfolding verb_step
-returns-in-OpenUpdate-clause-step g c = λ p at s stands room.
+returns-in-OpenUpdate-clause-step g c = λ p at s stands may.
     let did = unchanged {o = refuse s OpenError p.name} refl c.refused.ensures.sync (record { reply = grind (arith, common_steps, gets); sync = c.refused.ensures.sync; session = stands }) in
     ⊎_elim (λ e. rw e did) (λ e. rw e did) c.in-OpenUpdate.is
 
