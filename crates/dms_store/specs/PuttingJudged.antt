@@ -25,7 +25,7 @@ use Rattle.dms_store.specs.PuttingAfter.{with_record}
 use Rattle.dms_store.specs.PuttingAnswers.{answers}
 use Rattle.dms_store.specs.PuttingEnters.{IsEntered, IsJudged}
 use Rattle.dms_store.specs.PuttingLaws.{IsFree}
-use Rattle.dms_store.specs.PuttingNumbers.{free_new, none_above, number_new, number_none, number_old, record_is}
+use Rattle.dms_store.specs.PuttingNumbers.{free_new, none_above, number_new, number_none, record_is}
 use Rattle.dms_store.specs.PuttingPlaced.{made_fits}
 use Rattle.dms_store.specs.Rows.{rec_opt}
 use Rattle.dms_store.specs.Serving.{IsServed}
@@ -98,7 +98,7 @@ module _ (desc : Described) (served : IsServed desc) (db : Db) (c d : Content) (
       let there : get db.records (set, n) ≡ Some slot.rec = record_is desc served db c set s spelt at is_set n low ∙ ap rec_opt was in
       let made_is : stored desc db set (Some n) rec ≡ linked s.items (Some slot.rec) rec = λ i. linked (items_of (at i)) (there i) rec in
       entered_answers desc served db c d set s (Some n) n rec (linked s.items (Some slot.rec) rec) spelt at small made_is (made_fits desc set s (Some slot) rec at slots fits) refl
-      p (number_old desc served db c set s spelt at is_set n (ap is_some there)) made_is h
+      p refl made_is h
 
   -- and one that isn't there
   pub gone_answers : (n : ℕ) → 1 ≤ n → slot_at s (file_in c s) n ≡ Free → is_some (get db.records (set, n)) ≡ true → ⊥

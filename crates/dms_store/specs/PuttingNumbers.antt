@@ -81,7 +81,3 @@ module _ (desc : Described) (served : IsServed desc) (db : Db) (c : Content) (se
       by : (o : Option Record) → get db.records (set, s.population + 1) ≡ o → o ≡ None
       by None is = refl
       by (Some r) is = absurd (omega (arith, most_number (set, s.population + 1) r is refl))
-
-  -- the record that is named is there
-  pub number_old : (n : ℕ) → is_some (get db.records (set, n)) ≡ true → put_number desc db set (Some n) ≡ Stored n
-  number_old n there = ap (λ b. cond b (Stored n) Full) there
