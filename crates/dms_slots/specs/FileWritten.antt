@@ -3,7 +3,7 @@ use Rattle.std.proofs.Common.{◌≡◌, ◌≢◌, ◌+◌, ◌-◌, ◌*◌, �
 use Rattle.std.specs.Prelude.{◌==◌}
 use Rattle.std.specs.declared.option.Option.TheVariants.{Some}
 use Rattle.std.specs.List.{list_all}
-use Rattle.std.proofs.lemmas.Bool.{cases_eq, cases_lt, and_from, true≢false}
+use Rattle.std.proofs.lemmas.Bool.{cases_eq, cases_lt, and_from, and_parts, true≢false}
 use Rattle.std.proofs.lemmas.List.{length-replicate, take-replicate, drop-replicate}
 use Rattle.std.proofs.lemmas.Nat.{div-add-mod'}
 use Rattle.std.proofs.Math.Nat as nat
@@ -131,12 +131,27 @@ good_block s bs number some fine =
 pub slot_good : (s : Shape) (bs : List (List ℕ)) (number : ℕ) → 0 < per_block s.items → is_block s (block_at bs (block_of s.items number)) ≡ true → slot_at s bs number ≢ Bad
 slot_good s bs number some good = λ e. true≢false (sym good ∙ bad_block s (block_at bs (block_of s.items number)) (place_of s.items number) (nat.mod-lt (number - 1) some) (sym (slot_is s bs number some) ∙ e))
 
+block_there : (s : Shape) (bs : List (List ℕ)) (b : ℕ) → list_all (is_block s) bs ≡ true → is_block s (block_at bs b) ≡ true
+block_there s [] b all = zeros_block s
+block_there s (x ∷ bs) zero all = (and_parts (is_block s x) (list_all (is_block s) bs) all).0
+block_there s (x ∷ bs) (suc b) all = block_there s bs b (and_parts (is_block s x) (list_all (is_block s) bs) all).1
+
+-- so none of a file of such blocks is
+pub all_good : (s : Shape) (bs : List (List ℕ)) (number : ℕ) → 0 < per_block s.items → list_all (is_block s) bs ≡ true → slot_at s bs number ≢ Bad
+all_good s bs number some all = slot_good s bs number some (block_there s bs (block_of s.items number) all)
+
+all_laid : (p : List ℕ → Bool) (b : ℕ) (x : List ℕ) (bs : List (List ℕ)) → list_all p bs ≡ true → p x ≡ true → list_all p (block_laid b x bs) ≡ true
+all_laid p zero x [] all good = and_from _ _ good refl
+all_laid p (suc b) x [] all good = and_from _ _ good refl
+all_laid p zero x (z ∷ bs) all good = and_from _ _ good (and_parts (p z) (list_all p bs) all).1
+all_laid p (suc b) x (z ∷ bs) all good = let both = and_parts (p z) (list_all p bs) all in and_from _ _ both.0 (all_laid p b x bs both.1 good)
+
 same_number : (items_per a b : ℕ) → 0 < items_per → 1 ≤ a → 1 ≤ b → (a - 1) / items_per ≡ (b - 1) / items_per → (a - 1) % items_per ≡ (b - 1) % items_per → a ≡ b
 same_number per a b some low_a low_b blocks places =
     let e : (a - 1) / per * per + (a - 1) % per ≡ (b - 1) / per * per + (b - 1) % per = (λ i. blocks i * per + places i) in
     omega (arith, div-add-mod' (a - 1) per, div-add-mod' (b - 1) per, e)
 
-some_slot : (w : ℕ) → w ≤ 1024 → 0 < w → 0 < 1024 / w
+pub some_slot : (w : ℕ) → w ≤ 1024 → 0 < w → 0 < 1024 / w
 some_slot w fits low =
     let once : 1 * w ≤ 1024 = omega (arith, fits) in
     let some : 1 ≤ 1024 / w = (nat.le-div_iff_mul-le low).1 once in
@@ -188,10 +203,18 @@ module _ (s : Shape) (c : Content) (number : ℕ) (bytes : List ℕ) (may : MayP
         | inr off ↦ start ∙ ap over (off_laid b k new (c (file_of s.number)) may.next off) ∙ end
       ]
 
+  -- the file still has blocks of slots alone
+  pub put_blocks : list_all (is_block s) (c (file_of s.number)) ≡ true → list_all (is_block s) (slot_put s number bytes c (file_of s.number)) ≡ true
+  put_blocks all =
+      let good = good_block s (c (file_of s.number)) number some may.sound in
+      let is = slot_fine (slot_of s bytes) fine in
+      let here = (block_written s (place_of s.items number) bytes old (nat.mod-lt (number - 1) some) (slot_size s bytes _ refl is) is good).0 in
+      ap (list_all (is_block s)) blocks_are ∙ all_laid (is_block s) (block_of s.items number) new (c (file_of s.number)) all here
+
 free_fine : (s : Shape) → slot_of s (replicate (slot_width s.items) 0) ≢ Bad
 free_fine s = λ e. let h : Free ≡ Bad = sym (free_again s) ∙ e in cc h
 
-used_fine : (s : Shape) (slot : Slot) → AreKinds s.items → SlotFits s slot → slot_of s (slot_bytes s.items slot) ≢ Bad
+pub used_fine : (s : Shape) (slot : Slot) → AreKinds s.items → SlotFits s slot → slot_of s (slot_bytes s.items slot) ≢ Bad
 used_fine s slot kinds fits = λ e. let h : Used slot ≡ Bad = sym (slot_again s slot kinds fits) ∙ e in cc h
 
 -- a record that was written is read

@@ -28,6 +28,7 @@ pub fn read_slot<B: Blocks>(
     ensures slot { IfOk result (λ o. IsTrue (under b.old).told → slot_at (shape_of s.now) (blocks_of (shape_of s.now) b.old) number ≡ slot_opt o) }
     ensures reads { ReadsOverlay 1 result b.old b.new }
     ensures fits { IfOk result (λ o. IfSome o (SlotFits (shape_of s.now))) }
+    ensures there { IfOk result (λ o. IfSome o (λ x. block_of s.now.items number < count_of (shape_of s.now) b.old)) }
     ensures causes { HasCausesOr (BadAt (shape_of s.now) (block_of s.now.items number) b.old) result (under b.old) (under b.new) }
 {
     let file = file_of(s);

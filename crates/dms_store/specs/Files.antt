@@ -118,7 +118,7 @@ few_at desc c file spelt is =
     let t : nat_le (length (c file)) 1048576 ≡ true = ap (λ f. nat_le (length (c f)) 1048576) (sym e) ∙ fits.few in
     grind (arith, nat_tests, t)
 
-all_of : (p : List ℕ → Bool) (bs : List (List ℕ)) (b : ℕ) → list_all p bs ≡ true → b < length bs → p (get_or bs b []) ≡ true
+pub all_of : (p : List ℕ → Bool) (bs : List (List ℕ)) (b : ℕ) → list_all p bs ≡ true → b < length bs → p (get_or bs b []) ≡ true
 all_of p [] b all low = absurd (omega (arith, low))
 all_of p (x ∷ bs) zero all low = (both_of (p x) (list_all p bs) all).0
 all_of p (x ∷ bs) (suc b) all low = all_of p bs b (both_of (p x) (list_all p bs) all).1 (omega (arith, low))

@@ -286,7 +286,7 @@ spelled_stands desc c db formed h =
 
 -- ---- what they hold
 
-value_fits : (items : List Item) (values : List Value) (k : ℕ) (item : Item) → AreKinds items → all_fit items values ≡ true → ArePlain values → slice_get items k ≡ Some item → FitsKind item.kind (or_null (slice_get values k))
+pub value_fits : (items : List Item) (values : List Value) (k : ℕ) (item : Item) → AreKinds items → all_fit items values ≡ true → ArePlain values → slice_get items k ≡ Some item → FitsKind item.kind (or_null (slice_get values k))
 value_fits [] values k item kinds fit plain at = absurd (cc)
 value_fits (i ∷ is) [] k item kinds fit plain at = absurd (cc)
 value_fits (i ∷ is) (v ∷ vs) zero item kinds fit plain at =

@@ -6,9 +6,11 @@ mod entries;
 mod finding;
 mod getting;
 mod laws;
+mod linking;
 mod listed;
 mod note;
 mod paths;
+mod putting;
 mod scanning;
 mod store;
 
@@ -16,4 +18,5 @@ pub use finding::{first_record, last_record};
 pub use getting::get;
 pub use laws::{empty_law, served_law, spelled_law};
 pub use paths::{first_from, last_to};
+pub use putting::{put, put_law};
 pub use store::BlockStore;

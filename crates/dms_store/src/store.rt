@@ -1,25 +1,26 @@
-ghost use Rattle.std.specs.Prelude.{◌≡◌, ◌<◌, ◌+◌, ◌^◌, ◌++◌, [], ◌∷◌, Some, IfOk, IfSome, IfErr, OnOk, IsErrOf, IsOkUnless};
+ghost use Rattle.std.specs.Prelude.{◌≡◌, ◌<◌, ◌+◌, ◌^◌, ◌++◌, [], ◌∷◌, Some, IfOk, IfSome, IfErr, OnOk, IsErrOf, IsOkUnless, ◌*◌, length};
 ghost use Rattle.dms_block.specs.Faults.{Undamaged};
 ghost use Rattle.dms_block.specs.Texts.{Prints};
 ghost use Rattle.dms_block.specs.View.{written};
 ghost use Rattle.dms_desc.specs.Shape.{described};
 ghost use Rattle.dms_model.specs.Db.{Db};
-ghost use Rattle.dms_model.specs.Fitting.{IsDataSet, IsStructure, MayStart, RecordFits, SpotFits};
+ghost use Rattle.dms_model.specs.Fitting.{IsDataSet, IsNumber, IsStructure, MayStart, PutFits, RecordFits, SpotFits};
 ghost use Rattle.dms_model.specs.Members.{first_member, last_member};
 ghost use Rattle.dms_model.specs.Points.{Leaves};
 ghost use Rattle.dms_model.specs.Seen.{GoesBack, HasCauses, IfTold, IsMute, IsSilent, Keeps, KeepsPoints, MadeQuiet, MadeDurable, SaysPart, Syncs};
 ghost use Rattle.dms_store.specs.Lifted.{IsUsable, Serves};
 ghost use Rattle.dms_model.specs.Stores.{Tells};
 ghost use Rattle.dms_store.specs.Looked.{Looked};
+ghost use Rattle.dms_store.specs.PuttingStore.{Changed, Stores};
 ghost use Rattle.dms_store.specs.Storing.{seen_by};
 ghost use Rattle.std.specs.FinMap.{get};
 
 use crate::note::note;
-use crate::{getting, paths};
+use crate::{getting, paths, putting};
 use dms_base::Memory;
 use dms_block::{BlockFault, Blocks, Overlay};
 use dms_desc::{Bound, Description, Record};
-use dms_model::Spot;
+use dms_model::{Put, Spot};
 use std::alloc::Global;
 
 /// A database on blocks. Between two calls nothing is written over them.
@@ -183,5 +184,28 @@ impl<B: Blocks> BlockStore<B> {
         ensures causes { HasCauses result (seen_by self.old) (seen_by self.new) }
     {
         note(&mut self.found, self.over.below.say(bytes))
+    }
+
+    /// Stores a new record of a data set under the least free number, with null links, or replaces all items but the
+    /// links of the record with this number. It is the database's where the data set is disjoint.
+    pub fn put(
+        &mut self,
+        alloc: Global,
+        set: u16,
+        number: Option<u64>,
+        rec: &Record,
+    ) -> Result<Put, BlockFault>
+        requires sound { IsUsable (described self.old.desc) self.old.over }
+        requires set { IsDataSet (described self.old.desc) set }
+        requires number { IfSome number (IsNumber (described self.old.desc) set) }
+        requires fits { RecordFits (described self.old.desc) set rec.now }
+        ensures desc { self.new.desc ≡ self.old.desc }
+        ensures fits { IfOk result (PutFits (described self.old.desc) set) }
+        ensures put { IfOk result (Stores (described self.old.desc) (seen_by self.old).db (seen_by self.new).db set number rec.now) }
+        ensures changed { Changed (64 * length (described self.old.desc).structures) result (seen_by self.old) (seen_by self.new) }
+        ensures same { B.same_blocks self.old.over.below self.new.over.below }
+    {
+        let stored = putting::put(&mut self.over, alloc, &self.desc, set, number, rec);
+        note(&mut self.found, stored)
     }
 }

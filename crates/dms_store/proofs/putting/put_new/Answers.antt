@@ -1,0 +1,70 @@
+use Rattle.std.proofs.Common.{ℕ, ◌∙◌, ◌≤◌, IfSome, Option, ap, subst, sym}
+use Rattle.std.specs.declared.option.Option.TheVariants.{None}
+use Rattle.std.proofs.lemmas.Result.{IfOk-weaker}
+use Rattle.dms_block.specs.Content.{Content}
+use Rattle.dms_block.specs.HeldLaws.{causes_or_on}
+use Rattle.dms_block.specs.View.{seen, under}
+use Rattle.dms_desc.specs.Shape.{described, shape_of}
+use Rattle.dms_model.specs.declared.put.Put.{Put}
+use Rattle.dms_ordlist.specs.SeenLaws.{causes_err}
+use Rattle.dms_slots.specs.Seen.{BadIn, count_of}
+use Rattle.dms_slots.specs.SlotBlocks.{block_of, file_of, least_free}
+use Rattle.dms_store.specs.Finding.{seen_below}
+use Rattle.dms_store.specs.PuttingCalls.{enters_on}
+use Rattle.dms_store.specs.PuttingJudged.{free_of, new_answers, none_answers}
+use Rattle.dms_store.specs.PuttingNumbers.{free_new}
+use Rattle.dms_store.specs.PuttingPlaced.{found_on, none_bad, spelt_on, told_on}
+use Rattle.dms_store.proofs.putting.put_new.Goals as goal
+
+pub returns-in-Err-clause-below : goal.returns-in-Err-clause-below
+returns-in-Err-clause-below g c db told spelt =
+    let s = shape_of c.args.s.now in
+    let a = c.args.over.now in
+    causes_err (Option ℕ) Put (BadIn s a) (λ f k. ⊥) c.in-Err.e (under a) (under c.take_least.new.b)
+    (λ f k bad. none_bad (described c.args.desc.now) a s db c.requires.usable c.requires.at c.requires.set told spelt f k bad) c.in-Err.ensures.causes
+
+pub returns-in-Ok-None-clause-enters : goal.returns-in-Ok-None-clause-enters
+returns-in-Ok-None-clause-enters g c =
+    enters_on _ c.judge.result c.args.over.now c.take_least.new.b c.judge.new.over g.met.B.Blocks.same_then c.in-Ok-None.ensures.reads c.in-Ok-None.ensures.causes c.judge.ensures.enters
+
+pub returns-in-Ok-None-clause-answers : goal.returns-in-Ok-None-clause-answers
+returns-in-Ok-None-clause-answers g c =
+    IfOk-weaker c.judge.result _ _ (λ p h told db spelt may.
+    let desc = described c.args.desc.now in
+    let s = shape_of c.args.s.now in
+    let a = c.args.over.now in
+    let b = c.take_least.new.b in
+    let least = sym c.in-Ok-None.field-0-is ∙ c.in-Ok-None.ensures.least told ∙ ap (λ (x : Content). least_free s (x (file_of s.number))) (seen_below a c.requires.usable.none) in
+    none_answers desc c.requires.usable.serves.served db (under a).content (seen c.judge.new.over) s.number s c.args.rec.now spelt c.requires.at c.requires.set c.requires.new p least
+    (h db (told_on desc a b c.requires.usable db told spelt c.in-Ok-None.ensures.reads) (spelt_on desc a b c.requires.usable db told spelt c.in-Ok-None.ensures.reads))) c.judge.ensures.judged
+
+pub returns-in-Ok-Some-clause-enters : goal.returns-in-Ok-Some-clause-enters
+returns-in-Ok-Some-clause-enters g c =
+    enters_on _ c.store_at.result c.args.over.now c.take_least.new.b c.store_at.new.over g.met.B.Blocks.same_then c.in-Ok-Some.ensures.reads c.in-Ok-Some.ensures.causes c.store_at.ensures.enters
+
+pub returns-in-Ok-Some-clause-below : goal.returns-in-Ok-Some-clause-below
+returns-in-Ok-Some-clause-below g c db told spelt =
+    let desc = described c.args.desc.now in
+    let s = shape_of c.args.s.now in
+    let a = c.args.over.now in
+    let b = c.take_least.new.b in
+    let reads = c.in-Ok-Some.ensures.reads in
+    let least = sym c.in-Ok-Some.field-0-is ∙ c.in-Ok-Some.ensures.least told ∙ ap (λ (x : Content). least_free s (x (file_of s.number))) (seen_below a c.requires.usable.none) in
+    causes_or_on (λ f k. ⊥) (λ f k. ⊥) c.store_at.result (under a) (under b) (under c.store_at.new.over) (λ f k h. h) c.in-Ok-Some.ensures.causes reads.looks.passes.lasts reads.looks.same
+    (c.store_at.ensures.below db (found_on desc a b c.requires.usable db told spelt reads s c.in-Ok-Some.number None
+    (free_new desc c.requires.usable.serves.served db (under a).content s.number s spelt c.requires.at c.requires.set c.in-Ok-Some.number least)))
+
+pub returns-in-Ok-Some-clause-answers : goal.returns-in-Ok-Some-clause-answers
+returns-in-Ok-Some-clause-answers g c =
+    IfOk-weaker c.store_at.result _ _ (λ p h told db spelt may.
+    let desc = described c.args.desc.now in
+    let s = shape_of c.args.s.now in
+    let a = c.args.over.now in
+    let b = c.take_least.new.b in
+    let reads = c.in-Ok-Some.ensures.reads in
+    let n = c.in-Ok-Some.number in
+    let least = sym c.in-Ok-Some.field-0-is ∙ c.in-Ok-Some.ensures.least told ∙ ap (λ (x : Content). least_free s (x (file_of s.number))) (seen_below a c.requires.usable.none) in
+    let found = found_on desc a b c.requires.usable db told spelt reads s n None (free_new desc c.requires.usable.serves.served db (under a).content s.number s spelt c.requires.at c.requires.set n least) in
+    let place = subst (λ (o : Option ℕ). IfSome o (λ k. (1 ≤ k) × (k ≤ s.population) × (block_of s.items k ≤ count_of s a))) c.in-Ok-Some.field-0-is c.in-Ok-Some.ensures.place in
+    new_answers desc c.requires.usable.serves.served db (under a).content (seen c.store_at.new.over) s.number s c.args.rec.now spelt c.requires.at c.requires.set c.requires.new n p place.0 least
+    (h db found (free_of desc db s.number s None c.args.rec.now c.requires.at may))) c.store_at.ensures.entered

@@ -1,0 +1,26 @@
+use Rattle.std.proofs.Common.{◌+◌, ◌*◌, length, refl, subst, sym}
+use Rattle.std.specs.Prelude.{IfOk}
+use Rattle.dms_desc.specs.Shape.{described}
+use Rattle.dms_model.specs.Fitting.{PutFits}
+use Rattle.dms_store.specs.Lifted.{store_seen}
+use Rattle.dms_store.specs.PuttingStore.{Changed, Stores, changed, few_structures, stores}
+use Rattle.dms_store.proofs.store.BlockStore.put.Goals as goal
+
+pub returns-clause-fits : goal.returns-clause-fits
+returns-clause-fits g c = subst (λ r. IfOk r (PutFits (described c.args.self.now.desc) c.args.set)) (sym c.note.ensures.same) c.put-stored.ensures.fits
+
+pub returns-clause-put : goal.returns-clause-put
+returns-clause-put g c =
+    let desc = described c.args.self.now.desc in
+    let o = c.args.self.now.over in
+    subst (λ r. IfOk r (Stores desc (store_seen desc c.args.self.now.found o).db (store_seen desc c.note.new.found c.put-stored.new.over).db c.args.set c.args.number c.args.rec.now)) (sym c.note.ensures.same)
+    (stores desc c.args.self.now.found c.note.new.found o c.put-stored.new.over (9 * length c.args.self.now.desc.structures + 1) c.args.set c.args.number c.args.rec.now c.put-stored.result c.put-stored.ensures.hands_down c.put-stored.ensures.answers)
+
+pub returns-clause-changed : goal.returns-clause-changed
+returns-clause-changed g c =
+    let desc = described c.args.self.now.desc in
+    let o = c.args.self.now.over in
+    let n = length c.args.self.now.desc.structures in
+    subst (λ r. Changed (64 * length desc.structures) r (store_seen desc c.args.self.now.found o) (store_seen desc c.note.new.found c.put-stored.new.over)) (sym c.note.ensures.same)
+    (changed desc c.args.self.now.found c.note.new.found o c.put-stored.new.over (9 * n + 1) (64 * length desc.structures) c.put-stored.result (few_structures desc c.args.self.now.desc.structures c.args.set refl c.requires.set) c.note.ensures.small c.note.ensures.noted c.requires.sound
+    (g.met.B.Blocks.agrees o.below c.requires.sound.sound) c.put-stored.ensures.written c.put-stored.ensures.hands_down c.put-stored.ensures.below)

@@ -1,0 +1,182 @@
+-- The same, in the words of the calls that store a record.
+use Rattle.std.proofs.Common.{◌≡◌, ◌∙◌, ◌+◌, ◌≤◌, ℕ, [], Bool, true, IfSome, IsTrue, Some, None, sym, ap, subst, length, arith}
+use Rattle.std.specs.FinMap.{get}
+use Rattle.std.specs.List.{list_all}
+use Rattle.std.specs.Prelude.{◌&&◌, nat_le}
+use Rattle.std.specs.declared.result.Result.TheVariants.{Ok}
+use Rattle.std.proofs.lemmas.Bool.Decides.{nat_tests}
+use Rattle.std.specs.declared.option.Option.{Option}
+use Rattle.dms_block.specs.declared.blocks.Blocks.{Ghosts}
+use Rattle.dms_block.specs.declared.overlay.Overlay.{Overlay}
+use Rattle.dms_block.specs.Content.{Content}
+use Rattle.dms_block.specs.Held.{BlocksAgree}
+use Rattle.dms_block.specs.View.{ReadsOverlay, seen, seen_counts, under, written}
+use Rattle.dms_block.specs.ViewLaws.{seen_still}
+use Rattle.dms_desc.specs.Lookups.{items_of, structure_of}
+use Rattle.dms_desc.specs.Shape.{Shape, Described}
+use Rattle.dms_desc.specs.declared.record.Record.{Record}
+use Rattle.dms_layout.specs.Slots.{SlotFits, all_fit, slot_bytes}
+use Rattle.dms_layout.specs.declared.slot.Slot.{Slot}
+use Rattle.dms_model.specs.declared.put.Put.TheVariants.{Stored, Duplicate as Refused, Full}
+use Rattle.dms_model.specs.Db.{Db}
+use Rattle.dms_model.specs.Fitting.{AreFitting, IsNumber, RecordFits, is_number}
+use Rattle.dms_model.specs.FitLaws.{linked_fits, null_fits}
+use Rattle.dms_model.specs.Stores.{linked}
+use Rattle.dms_model.specs.Valid.{is_data_set}
+use Rattle.dms_sets.specs.Answers.{clash_seen}
+use Rattle.dms_sets.specs.Changes.{has_number}
+use Rattle.dms_sets.specs.Keeping.{Calm, listed}
+use Rattle.dms_sets.specs.Tests.{both_of}
+use Rattle.dms_sets.specs.Told.{AreListed, ChangeStands, KeepsSets}
+use Rattle.dms_sets.specs.declared.answer.SetAnswer.TheVariants.{Done, Duplicate}
+use Rattle.dms_slots.specs.SlotBlocks.{block_of, file_of, is_block, slot_at, slot_opt, slot_put}
+use Rattle.dms_slots.specs.Seen.{BadAt, BadIn}
+use Rattle.dms_store.specs.Files.{all_of}
+use Rattle.dms_store.specs.Finding.{record_fits_opt, seen_below, served_at}
+use Rattle.dms_store.specs.Lifted.{IsUsable, db_of}
+use Rattle.dms_store.specs.PuttingAfter.{slot_after, slot_links}
+use Rattle.dms_store.specs.PuttingAnswers.{change_stands, fit_all, none_refused, one_refused}
+use Rattle.dms_store.specs.PuttingEnters.{IsEntered, IsFound, IsJudged, IsPlaced, are, blocks_good, entered, refused, set_off, stands}
+use Rattle.dms_store.specs.PuttingLaws.{IsFree, MayStand}
+use Rattle.dms_store.specs.PuttingNumbers.{none_above}
+use Rattle.dms_store.specs.PuttingOver.{AreWhole, are_listed}
+use Rattle.dms_store.specs.PuttingSlots.{spelled_files}
+use Rattle.dms_store.specs.Rows.{rec_opt}
+use Rattle.dms_store.specs.Serving.{IsServed}
+use Rattle.dms_store.specs.Spelled.{spelled}
+use Rattle.dms_store.specs.Undamaged.{no_bad_slot}
+
+-- what is stored for a record that fits, links as they stood, fits
+pub made_fits : (desc : Described) (set : ℕ) (s : Shape) (o : Option Slot) (rec : Record) → structure_of desc set ≡ Some s → IfSome o (SlotFits s) → RecordFits desc set rec → RecordFits desc set (linked s.items (rec_opt (slot_opt o)) rec)
+made_fits desc set s o rec at old fits = record {
+  owner = fits.owner;
+  values = subst (λ (q : Option Shape). AreFitting (items_of q) (linked s.items (rec_opt (slot_opt o)) rec).values) (sym at) (by o old (subst (λ (q : Option Shape). AreFitting (items_of q) rec.values) at fits.values));
+}
+  where
+    olds : (x : Record) → RecordFits desc set x → AreFitting s.items x.values
+    olds x f = subst (λ (q : Option Shape). AreFitting (items_of q) x.values) at f.values
+
+    by : (x : Option Slot) → IfSome x (SlotFits s) → AreFitting s.items rec.values → AreFitting s.items (linked s.items (rec_opt (slot_opt x)) rec).values
+    by None f g = linked_fits s.items [] rec.values g (λ k item there. null_fits item.kind) tt
+    by (Some slot) f g = let h = olds slot.rec (record_fits_opt desc set s (Some slot) at f) in linked_fits s.items slot.rec.values rec.values g h.fit h.plain
+
+-- as the codec of slots asks it
+pub values_all : (desc : Described) (set : ℕ) (s : Shape) (rec : Record) → structure_of desc set ≡ Some s → RecordFits desc set rec → IsTrue (all_fit s.items rec.values)
+values_all desc set s rec at fits = let f : AreFitting s.items rec.values = subst (λ (q : Option Shape). AreFitting (items_of q) rec.values) at fits.values in fit_all s.items rec.values f.lengths f.fit
+
+pub few_numbers : (desc : Described) (set number : ℕ) (s : Shape) → IsServed desc → structure_of desc set ≡ Some s → number ≤ s.population → number ≤ 1000000
+few_numbers desc set number s served at most = omega (arith, most, (served_at desc set s served at).population)
+
+module _ {B : Type 0} {g : Ghosts B} (desc : Described) (a : Overlay B g) (usable : IsUsable desc a) (agrees : BlocksAgree (under a)) (s : Shape) (number : ℕ) (at : structure_of desc s.number ≡ Some s) (is_set : is_data_set (Some s) ≡ true) (low : 1 ≤ number) (most : number ≤ s.population)
+    (slot : Slot) (fits : RecordFits desc s.number slot.rec) (old : Option Record) (db : Db) (o : Option Slot) (rec : Record) (p : IsPlaced desc db s number o rec old slot a) where
+  may : MayStand desc s.number number s rec
+  may = record { at = at; is_set = is_set; low = low; most = most; long = p.long }
+
+  pub made_is : slot.rec ≡ linked s.items (rec_opt (slot_opt o)) rec
+  made_is = ap (λ (x : Slot). x.rec) p.slot_is ∙ slot_links s.items o rec
+
+  made_fit : RecordFits desc s.number (linked s.items (rec_opt (slot_opt o)) rec)
+  made_fit = subst (RecordFits desc s.number) made_is fits
+
+  pub listed_at : AreListed desc db (listed a)
+  listed_at = are desc usable.serves.served s s.number number o rec db a p.told agrees usable.none p.spelt may p.was made_fit
+
+  pub stands_at : ChangeStands desc db s.number number old (Some slot.rec)
+  stands_at = subst (λ (r : Record). ChangeStands desc db s.number number old (Some r)) (sym made_is) (stands desc usable.serves.served s s.number number o rec db a p.told agrees usable.none p.spelt may p.was made_fit old p.old_is)
+
+  -- the blocks of the data set's file are blocks of slots
+  pub not_bad : (b : Overlay B g) (n k f i : ℕ) → Calm (has_number desc.structures s.number) n a b → BadAt s k b f i → ⊥
+  not_bad b n k f i calm bad =
+      let told : IsTrue (under b).told = calm.told ∙ p.told in
+      let same : seen b (file_of s.number) ≡ seen a (file_of s.number) = (calm.others s.number (set_off desc s.number s.number s usable.serves.served at is_set)).1 p.told in
+      let here = bad.0.0.1 told in
+      let good = ap (list_all (is_block s)) same ∙ blocks_good desc usable.serves.served s s.number number o rec db a p.told agrees usable.none p.spelt may p.was made_fit in
+      absurd (cc (all_of (is_block s) (seen b (file_of s.number)) i good here.0, here.1))
+
+  pub entered_at : IsFree s rec → (b z : Overlay B g) (n : ℕ) → Calm (has_number desc.structures s.number) n a b → KeepsSets desc db s.number number (Some slot.rec) (listed b) Done → block_of s.items number ≤ seen_counts a (file_of s.number)
+      → seen z ≡ slot_put s number (slot_bytes s.items slot) (seen b) → AreWhole (written z) → (under z).content ≡ (under a).content → IsEntered desc db s.number number slot.rec (seen z) (Stored number)
+  entered_at free b z n calm kept next is whole still =
+      subst (λ (r : Record). IsEntered desc db s.number number r (seen z) (Stored number)) (sym made_is)
+      (entered desc usable.serves.served s s.number number o rec db a p.told agrees usable.none p.spelt may p.was made_fit free b z n calm
+      (subst (λ (r : Record). KeepsSets desc db s.number number (Some r) (listed b) Done) made_is kept) p.slots next
+      (is ∙ ap (λ (x : Slot). slot_put s number (slot_bytes s.items x) (seen b)) p.slot_is) whole still)
+
+  pub refused_at : (b : Overlay B g) (k : ℕ) → KeepsSets desc db s.number number (Some slot.rec) (listed b) (Duplicate k) → IsEntered desc db s.number number slot.rec (seen b) (Refused k)
+  refused_at b k kept =
+      subst (λ (r : Record). IsEntered desc db s.number number r (seen b) (Refused k)) (sym made_is)
+      (refused desc usable.serves.served s s.number number o rec db a p.told agrees usable.none p.spelt may p.was made_fit b k
+      (subst (λ (r : Record). KeepsSets desc db s.number number (Some r) (listed b) (Duplicate k)) made_is kept))
+
+-- ---- what the calls ask
+
+pub after_fits : (desc : Described) (set : ℕ) (s : Shape) (o : Option Slot) (rec : Record) (x : Slot) → structure_of desc set ≡ Some s → IfSome o (SlotFits s) → RecordFits desc set rec → x ≡ slot_after s.items o rec → RecordFits desc set x.rec
+after_fits desc set s o rec x at old fits is = subst (RecordFits desc set) (sym (ap (λ (y : Slot). y.rec) is ∙ slot_links s.items o rec)) (made_fits desc set s o rec at old fits)
+
+pub long_of : (desc : Described) (set : ℕ) (s : Shape) (rec : Record) → structure_of desc set ≡ Some s → RecordFits desc set rec → length rec.values ≡ length s.items
+long_of desc set s rec at fits = fits.values.lengths ∙ ap (λ (o : Option Shape). length (items_of o)) at
+
+pub number_fits : (desc : Described) (set number : ℕ) (s : Shape) → structure_of desc set ≡ Some s → 1 ≤ number → number ≤ s.population → IsNumber desc set number
+number_fits desc set number s at low most = ap (λ o. is_number o number) at ∙ in_range number s.population low most
+  where
+    in_range : (n p : ℕ) → 1 ≤ n → n ≤ p → (nat_le 1 n && nat_le n p) ≡ true
+    in_range n p low most = grind (arith, nat_tests)
+
+pub placed : {B : Type 0} {g : Ghosts B} (desc : Described) (db : Db) (s : Shape) (number : ℕ) (o : Option Slot) (rec : Record) (old : Option Record) (slot : Slot) (a : Overlay B g) → IsFound desc db s number o a → structure_of desc s.number ≡ Some s → IfSome o (SlotFits s) → RecordFits desc s.number rec
+    → rec_opt (slot_opt o) ≡ old → slot ≡ slot_after s.items o rec → IsPlaced desc db s number o rec old slot a
+placed desc db s number o rec old slot a found at slots fits old_is slot_is = record { told = found.told; spelt = found.spelt; was = found.was; slots = slots; long = long_of desc s.number s rec at fits; old_is = old_is; slot_is = slot_is }
+
+-- ---- where no number is free
+
+module _ {B : Type 0} {g : Ghosts B} (desc : Described) (a : Overlay B g) (usable : IsUsable desc a) (s : Shape) (number : ℕ) (at : structure_of desc s.number ≡ Some s) (is_set : is_data_set (Some s) ≡ true) (above : number ≡ s.population + 1) (slot : Slot) (rec : Record)
+    (slot_is : slot ≡ slot_after s.items None rec) (fits : RecordFits desc s.number rec) (db : Db) (told : IsTrue (under a).told) (spelt : spelled desc (under a).content ≡ Some db) where
+  rec_is : slot.rec ≡ linked s.items None rec
+  rec_is = ap (λ (x : Slot). x.rec) slot_is
+
+  pub listed_none : AreListed desc db (listed a)
+  listed_none = are_listed desc usable.serves.served db a told (spelled_files desc (seen a) db usable.serves.served (ap (spelled desc) (seen_below a usable.none) ∙ spelt))
+
+  pub stands_none : ChangeStands desc db s.number number None (Some slot.rec)
+  stands_none =
+      change_stands desc (under a).content db s.number number s None slot.rec usable.serves.served spelt at (omega (arith, above, (served_at desc s.number s usable.serves.served at).population))
+      (ap (λ n. get db.records (s.number, n)) above ∙ none_above desc usable.serves.served db (under a).content s.number s spelt at is_set) (after_fits desc s.number s None rec slot at tt fits slot_is)
+
+  clash_is : clash_seen desc desc.structures db s.number (Some (s.population + 1)) (linked s.items None rec) ≡ clash_seen desc desc.structures db s.number (Some number) slot.rec
+  clash_is = λ i. clash_seen desc desc.structures db s.number (Some (sym above i)) (sym rec_is i)
+
+  pub refused_none : (b : Overlay B g) (k : ℕ) → KeepsSets desc db s.number number (Some slot.rec) (listed b) (Duplicate k) → IsJudged desc db s.number (s.population + 1) (linked s.items None rec) (Refused k)
+  refused_none b k kept = clash_is ∙ one_refused (clash_seen desc desc.structures db s.number (Some number) slot.rec) k kept.answer_is
+
+  pub full_none : (b : Overlay B g) → KeepsSets desc db s.number number (Some slot.rec) (listed b) Done → IsJudged desc db s.number (s.population + 1) (linked s.items None rec) Full
+  full_none b kept = clash_is ∙ none_refused (clash_seen desc desc.structures db s.number (Some number) slot.rec) kept.answer_is
+
+-- ---- no block of slots is bad
+
+pub db_told : (desc : Described) (told : Bool) (c : Content) (db : Db) → IsTrue told → spelled desc c ≡ Some db → db_of desc told c ≡ Some db
+db_told desc told c db is spelt = ap (λ b. db_of desc b c) is ∙ spelt
+
+pub none_bad : {B : Type 0} {g : Ghosts B} (desc : Described) (a : Overlay B g) (s : Shape) (db : Db) → IsUsable desc a → structure_of desc s.number ≡ Some s → is_data_set (Some s) ≡ true → IsTrue (under a).told → spelled desc (under a).content ≡ Some db → (f k : ℕ) → BadIn s a f k → ⊥
+none_bad desc a s db usable at is_set told spelt f k bad = no_bad_slot desc a usable db (db_told desc (under a).told (under a).content db told spelt) s.number f k (ap is_data_set at ∙ is_set) (s, at, bad)
+
+-- ---- after a read
+
+module _ {B : Type 0} {g : Ghosts B} (desc : Described) (a b : Overlay B g) (usable : IsUsable desc a) (db : Db) (told : IsTrue (under a).told) (spelt : spelled desc (under a).content ≡ Some db) {T : Type 0} {n : ℕ} {x : T} (reads : ReadsOverlay n (Ok x) a b) where
+  pub told_on : IsTrue (under b).told
+  told_on = reads.looks.passes.lasts.told ∙ told
+
+  pub spelt_on : spelled desc (under b).content ≡ Some db
+  spelt_on = ap (spelled desc) (reads.looks.same.content told) ∙ spelt
+
+  pub found_on : (s : Shape) (number : ℕ) (o : Option Slot) → slot_at s ((under a).content (file_of s.number)) number ≡ slot_opt o → IsFound desc db s number o b
+  found_on s number o was = record {
+    told = told_on;
+    spelt = spelt_on;
+    was = ap (λ (c : Content). slot_at s (c (file_of s.number)) number) (seen_still reads told ∙ seen_below a usable.none) ∙ was;
+  }
+
+-- numbers that are named are those of the data set
+pub numbers_of : (desc : Described) (set : ℕ) (s : Shape) (o : Option ℕ) → structure_of desc set ≡ Some s → IfSome o (IsNumber desc set) → IfSome o (λ n. (1 ≤ n) × (n ≤ s.population))
+numbers_of desc set s None at h = tt
+numbers_of desc set s (Some n) at h = in_range n s.population (sym (ap (λ o. is_number o n) at) ∙ h)
+  where
+    in_range : (n p : ℕ) → (nat_le 1 n && nat_le n p) ≡ true → (1 ≤ n) × (n ≤ p)
+    in_range n p h = let both = both_of (nat_le 1 n) (nat_le n p) h in (grind (arith, nat_tests, both.0), grind (arith, nat_tests, both.1))

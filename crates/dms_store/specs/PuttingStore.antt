@@ -1,0 +1,101 @@
+-- What storing a record leaves of a store.
+use Rattle.std.proofs.Common.{◌≡◌, ◌∙◌, ◌+◌, ◌*◌, ◌<◌, ◌≤◌, ◌^◌, ◌-◌, ℕ, List, [], ◌∷◌, Bool, true, false, cond, IsTrue, Some, None, slice_get, map, refl, ap, length, arith}
+use Rattle.std.specs.Prelude.{◌==◌, ⊤, IfOk, IsErrOf}
+use Rattle.std.specs.declared.option.Option.{Option}
+use Rattle.std.specs.declared.result.Result.{Result}
+use Rattle.std.specs.declared.result.Result.TheVariants.{Ok, Err}
+use Rattle.std.proofs.lemmas.List.{length-map}
+use Rattle.std.proofs.lemmas.Result.{IfOk-weaker}
+use Rattle.dms_block.specs.declared.block_fault.BlockFault.{BlockFault}
+use Rattle.dms_block.specs.declared.block_fault.BlockFault.TheVariants.{Disk, Memory, Full, Damaged, Say}
+use Rattle.dms_block.specs.declared.blocks.Blocks.{Ghosts}
+use Rattle.dms_block.specs.declared.overlay.Overlay.{Overlay}
+use Rattle.dms_block.specs.Content.{Content}
+use Rattle.dms_block.specs.Faults.{Unbroken, Undamaged}
+use Rattle.dms_block.specs.Held.{BlocksAgree, HasCausesOr, Held}
+use Rattle.dms_block.specs.HeldLaws.{unbroken_map}
+use Rattle.dms_block.specs.View.{under, written}
+use Rattle.dms_desc.specs.Shape.{Shape, Described, shape_of}
+use Rattle.dms_desc.specs.declared.structure.Structure.{Structure}
+use Rattle.dms_desc.specs.declared.record.Record.{Record}
+use Rattle.dms_model.specs.declared.put.Put.{Put}
+use Rattle.dms_model.specs.Db.{Db}
+use Rattle.dms_model.specs.Fitting.{IsDataSet}
+use Rattle.dms_model.specs.Seen as store
+use Rattle.dms_model.specs.Stores.{put_after, put_answer}
+use Rattle.dms_store.specs.Lifted.{IsUsable, db_of, store_seen}
+use Rattle.dms_store.specs.LiftedLaws.{causes_lifted, db_same, keeps_points_lifted, silent_lifted, usable_on}
+use Rattle.dms_store.specs.Noted.{causes_noted, noted_by}
+use Rattle.dms_store.specs.Putting.{Answers, MayStore}
+use Rattle.dms_store.specs.PuttingCalls.{HandsDown}
+use Rattle.dms_store.specs.Spelled.{spelled}
+use Rattle.dms_store.specs.Undamaged.{not_set, undamaged_or}
+
+-- A call that may change so many blocks: what is durable stays durable, without memory nothing has changed, and a fault has its cause.
+pub record Changed {T : Type 0} (blocks : ℕ) (result : Result T BlockFault) (old new : store.Seen) : Type 0 where
+  pub memory : IsErrOf result Memory → new.db ≡ old.db
+  pub keeps : Unbroken result (store.KeepsPoints old new)
+  pub silent : store.IsSilent old new
+  pub effort : store.Spends blocks old.effort new.effort
+  pub undamaged : (d : Db) → old.db ≡ Some d → Undamaged result
+  pub mute_fault : IsErrOf result Say → ⊥
+  pub causes : store.HasCauses result old new
+
+-- where the record may be stored the answer and the database after it are those of storing it
+abbrev pub Stores : Described → Option Db → Option Db → ℕ → Option ℕ → Record → Put → Type 0
+Stores desc old new set number rec answer = (db : Db) → old ≡ Some db → MayStore desc db set number rec
+    → (answer ≡ put_answer desc db set number rec) × (new ≡ Some (put_after (put_answer desc db set number rec) desc db set rec))
+
+mute_or : {T : Type 0} (P : ℕ → ℕ → Type 0) (r : Result T BlockFault) (a b : Held) → HasCausesOr P r a b → IsErrOf r Say → ⊥
+mute_or P (Ok x) a b h is = absurd (cc)
+mute_or P (Err Disk) a b h is = absurd (cc)
+mute_or P (Err Memory) a b h is = absurd (cc)
+mute_or P (Err (Full f)) a b h is = absurd (cc)
+mute_or P (Err (Damaged f n)) a b h is = absurd (cc)
+mute_or P (Err Say) a b h is = h
+
+-- a told database is that which a told content spells
+told_db : (desc : Described) (told : Bool) (c : Content) (d : Db) → db_of desc told c ≡ Some d → IsTrue told × (spelled desc c ≡ Some d)
+told_db desc true c d h = (refl, h)
+told_db desc false c d h = absurd (cc)
+
+-- a data set is one of the structures
+pub some_structure : (desc : Described) (set : ℕ) → IsDataSet desc set → 9 * length desc.structures + 1 ≤ 64 * length desc.structures
+some_structure desc set is = by desc.structures refl
+  where
+    by : (ss : List Shape) → desc.structures ≡ ss → 9 * length desc.structures + 1 ≤ 64 * length desc.structures
+    by [] none = absurd (not_set desc set (nothing set (set == 0) none) is)
+      where
+        nothing : (n : ℕ) (b : Bool) → desc.structures ≡ [] → cond b None (slice_get desc.structures (n - 1)) ≡ None
+        nothing n true e = refl
+        nothing n false e = ap (λ (xs : List Shape). slice_get xs (n - 1)) e
+    by (s ∷ ss) some = omega (arith, ap length some)
+
+pub few_structures : (desc : Described) (ss : List Structure) (set : ℕ) → desc.structures ≡ map shape_of ss → IsDataSet desc set → 9 * length ss + 1 ≤ 64 * length desc.structures
+few_structures desc ss set are is = omega (arith, some_structure desc set is, ap (λ (l : List Shape). length l) are, length-map ss shape_of)
+
+module _ {B : Type 0} {g : Ghosts B} (desc : Described) (found found' : ℕ) (o o' : Overlay B g) where
+  pub changed : {T : Type 0} (m k : ℕ) (r : Result T BlockFault) → m ≤ k → found < 2 ^ 64 → found' ≡ noted_by r found → IsUsable desc o → BlocksAgree (under o) → written o' ≡ [] → HandsDown m r o o'
+      → ((db : Db) → IsTrue (under o).told → spelled desc (under o).content ≡ Some db → HasCausesOr (λ f b. ⊥) r (under o) (under o')) → Changed k r (store_seen desc found o) (store_seen desc found' o')
+  changed m k r le small noted usable agrees none hands below =
+      let lasts = hands.alters.passes.lasts in
+      let uses = hands.alters.uses in
+      record {
+        memory = λ is. db_same desc (under o).told (under o').told (under o).content (under o').content lasts.told (hands.alters.memory is).content;
+        keeps = unbroken_map r (λ stays. keeps_points_lifted desc (IsUsable desc o) (IsUsable desc o') found found' (under o) (under o') (usable_on desc o o' usable lasts stays.sound none) lasts stays) hands.alters.stays;
+        silent = silent_lifted desc (IsUsable desc o) (IsUsable desc o') found found' (under o) (under o') hands.alters.passes;
+        effort = record { least = uses.not_less; spent = omega (arith, uses.spent, le); syncs = uses.syncs; outs = uses.outs };
+        undamaged = λ d told. let t = told_db desc (under o).told (under o).content d told in undamaged_or desc (under o) usable.serves agrees d told (λ f b. ⊥) r (under o') (λ f b h. h) (below d t.0 t.1);
+        mute_fault = mute_or (λ f b. ⊤) r (under o) (under o') hands.causes;
+        causes = causes_lifted desc (IsUsable desc o) (IsUsable desc o') found found' (under o) (under o') r lasts uses.not_fewer (causes_noted (under o) (under o') found found' small (λ f b. ⊤) r noted hands.causes);
+      }
+
+  -- the database after it
+  pub stores : (m : ℕ) (set : ℕ) (number : Option ℕ) (rec : Record) (r : Result Put BlockFault) → HandsDown m r o o' → IfOk r (λ p. IsTrue (under o).told → Answers desc (under o).content (under o').content set number rec p)
+      → IfOk r (Stores desc (store_seen desc found o).db (store_seen desc found' o').db set number rec)
+  stores m set number rec r hands answers =
+      IfOk-weaker r _ _ (λ p h db is may.
+      let t = told_db desc (under o).told (under o).content db is in
+      let answer = h t.0 db t.1 may in
+      let told : (under o').told ≡ true = hands.alters.passes.lasts.told ∙ t.0 in
+      (answer.0, ap (λ b. db_of desc b (under o').content) told ∙ answer.1 ∙ ap (λ a. Some (put_after a desc db set rec)) answer.0)) answers
