@@ -9,3 +9,6 @@ pub mod Opens
 pub mod Sizes
 pub mod Writing
 pub mod Scans
+pub mod Callers
+pub mod Spots
+pub mod TableParts

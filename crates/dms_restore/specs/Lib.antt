@@ -4,3 +4,5 @@ pub mod Laying
 pub mod Begins
 pub mod Endings
 pub mod Scanned
+pub mod LiveEntries
+pub mod Named

@@ -5,13 +5,20 @@
 mod begun;
 mod ending;
 mod laying;
+mod live;
 mod log;
+mod naming;
 mod opening;
+mod placing;
 mod restoring;
 mod scanning;
+mod table;
 mod told;
 
 pub use begun::{Begun, Restored};
+pub use live::{ControlAt, ImageAt, LiveEntry, Spot};
 pub use log::Log;
+pub use placing::place;
 pub use scanning::{Found, Scanned};
+pub use table::table_of;
 pub use told::Told;
