@@ -12,3 +12,6 @@ pub mod Scans
 pub mod Callers
 pub mod Spots
 pub mod TableParts
+pub mod EntryPlaces
+pub mod Traced
+pub mod ReadOn

@@ -6,3 +6,4 @@ pub mod Endings
 pub mod Scanned
 pub mod LiveEntries
 pub mod Named
+pub mod Tracing

@@ -24,7 +24,7 @@ pub struct ControlAt {
     /// The position of the bytes of its counts.
     pub at: u64,
     /// How many bytes they are.
-    pub size: u32,
+    pub size: u64,
 }
 
 /// A live entry of the audit, as it is kept in memory: its bytes stay in the audit file.
@@ -43,4 +43,24 @@ pub struct Spot {
     pub audit: u32,
     /// The position in it.
     pub at: u64,
+}
+
+/// How a pending restore goes. One by a dump has the dump's number.
+#[derive(Clone, Copy)]
+pub enum HowAt {
+    HaltLoad,
+    BackOut,
+    Rollback,
+    ByDump(u16),
+}
+
+/// A restore that is begun and not ended.
+#[derive(Clone, Copy)]
+pub struct PendingAt {
+    pub point: u64,
+    pub how: HowAt,
+    /// How many of the live entries before its Begin it kept: those up to the place of its point.
+    pub kept: usize,
+    /// Whether its point has a place.
+    pub has_place: bool,
 }
