@@ -169,16 +169,16 @@ image_parts bytes x e =
     subst (λ (y : Entry × List ℕ). ImageParts bytes (before_of y.0) (after_of y.0)) is
     (elim (before_parts block.1 before e3) [
       | inl none ↦ record {
-          new = λ off. (after_is.0 ∙ ap (take 1024) (none.1 ∙ ap (drop 1) behind ∙ drop-drop 1 8 bytes), after_is.2);
-          old = λ y on. absurd (none_not_some y (sym none.0 ∙ on));
-        }
+        new = λ off. (after_is.0 ∙ ap (take 1024) (none.1 ∙ ap (drop 1) behind ∙ drop-drop 1 8 bytes), after_is.2);
+        old = λ y on. absurd (none_not_some y (sym none.0 ∙ on));
+      }
       | inr some ↦ record {
-          new = λ off. absurd (none_not_some some.0 (sym off ∙ some.1));
-          old = λ y on.
-              let same : some.0 ≡ y = some_is some.0 y (sym some.1 ∙ on) in
-              let rest : drop 1 block.1 ≡ drop 9 bytes = ap (drop 1) behind ∙ drop-drop 1 8 bytes in
-              (sym same ∙ some.2 ∙ ap (take 1024) rest, ap length (sym same) ∙ some.3, after_is.0 ∙ ap (take 1024) (some.4 ∙ ap (drop 1024) rest ∙ drop-drop 1024 9 bytes), after_is.2);
-        }
+        new = λ off. absurd (none_not_some some.0 (sym off ∙ some.1));
+        old = λ y on.
+            let same : some.0 ≡ y = some_is some.0 y (sym some.1 ∙ on) in
+            let rest : drop 1 block.1 ≡ drop 9 bytes = ap (drop 1) behind ∙ drop-drop 1 8 bytes in
+            (sym same ∙ some.2 ∙ ap (take 1024) rest, ap length (sym same) ∙ some.3, after_is.0 ∙ ap (take 1024) (some.4 ∙ ap (drop 1024) rest ∙ drop-drop 1024 9 bytes), after_is.2);
+      }
     ])
 
 pub record ControlParts (bytes : List ℕ) (counts : List FileCount) : Type 0 where
@@ -281,11 +281,11 @@ image_there files p f b before after is =
     record {
       new = λ none. let r = parts.new none in (part_there 1024 10 p.offset m p.block (files p.file) after (r.0 ∙ ap (take 1024) shift) r.1, r.1);
       old = λ y some. let r = parts.old y some in (
-          part_there 1024 10 p.offset m p.block (files p.file) y (r.0 ∙ ap (take 1024) shift) r.1,
-          r.1,
-          part_there 1024 1034 p.offset m p.block (files p.file) after (r.2 ∙ ap (take 1024) far) r.3,
-          r.3,
-        );
+        part_there 1024 10 p.offset m p.block (files p.file) y (r.0 ∙ ap (take 1024) shift) r.1,
+        r.1,
+        part_there 1024 1034 p.offset m p.block (files p.file) after (r.2 ∙ ap (take 1024) far) r.3,
+        r.3,
+      );
     }
 
 -- Where the counts of a Control stand.

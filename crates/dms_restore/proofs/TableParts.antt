@@ -78,9 +78,9 @@ module _ (spots left later : Spots) (table : List Told) (g k : ℕ) (o : Option 
   lists_new none = record {
     sub = still;
     all = λ f b s is. elim (so.all f b s is) [
-        | inl there ↦ elim (other f b s there) [ inl left_over ↦ inl left_over | inr this ↦ absurd (none_not_some s (sym none ∙ this.2)) ]
-        | inr among ↦ inr among
-      ];
+      | inl there ↦ elim (other f b s there) [ inl left_over ↦ inl left_over | inr this ↦ absurd (none_not_some s (sym none ∙ this.2)) ]
+      | inr among ↦ inr among
+    ];
     each = so.each;
     blocks = so.blocks;
   }
@@ -91,12 +91,12 @@ module _ (spots left later : Spots) (table : List Told) (g k : ℕ) (o : Option 
       record {
         sub = still;
         all = λ f b q at. elim (so.all f b q at) [
-            | inl there ↦ elim (other f b q there) [
-                | inl left_over ↦ inl left_over
-                | inr this ↦ inr (subst (λ (l : List Told). IsAmong f b l) (sym is) (among_end f b table t this.0 this.1))
-              ]
-            | inr among ↦ inr (subst (λ (l : List Told). IsAmong f b l) (sym is) (among_push f b table t among))
-          ];
+          | inl there ↦ elim (other f b q there) [
+            | inl left_over ↦ inl left_over
+            | inr this ↦ inr (subst (λ (l : List Told). IsAmong f b l) (sym is) (among_end f b table t this.0 this.1))
+          ]
+          | inr among ↦ inr (subst (λ (l : List Told). IsAmong f b l) (sym is) (among_push f b table t among))
+        ];
         each = subst (AllFromSpots spots) (sym is) (from_push spots table t so.each (so.sub g k o found ∙ ap (λ (p : Option Spot). Some p) here));
         blocks = blocks;
       }

@@ -115,7 +115,7 @@ module _ (files : Files) (entries : List Entry) (e : Entry) (l : LiveEntry) (old
       record {
         live_is = ap (λ (h : History). h.live) shape ∙ lives;
         pending_matches =
-          subst (λ (k : List LiveEntry). MatchesPending files k new.removed.items new.pending (history_of (entries ++ e ∷ [])).pending) (sym pushes.live)
+            subst (λ (k : List LiveEntry). MatchesPending files k new.removed.items new.pending (history_of (entries ++ e ∷ [])).pending) (sym pushes.live)
             (subst (λ (k : List LiveEntry). MatchesPending files (old.live.items ++ l ∷ []) k new.pending (history_of (entries ++ e ∷ [])).pending) (sym pushes.removed)
             (subst (λ (q : Option PendingAt). MatchesPending files (old.live.items ++ l ∷ []) old.removed.items q (history_of (entries ++ e ∷ [])).pending) (sym pending)
             (subst (λ (p : Option Pending). MatchesPending files (old.live.items ++ l ∷ []) old.removed.items old.pending p) (ap (λ (h : History). h.pending) (sym shape))
@@ -174,7 +174,7 @@ traced_part files entries part parts bytes old new live removed pending next rea
     record {
       live_is = ap (λ (h : History). h.live) hist ∙ t.live_is ∙ (λ i. events_at files (sym live i).items);
       pending_matches =
-        subst (λ k. MatchesPending files k.items new.removed.items new.pending (history_of (entries ++ schema_part part parts bytes ∷ [])).pending) (sym live)
+          subst (λ k. MatchesPending files k.items new.removed.items new.pending (history_of (entries ++ schema_part part parts bytes ∷ [])).pending) (sym live)
           (subst (λ k. MatchesPending files old.live.items k.items new.pending (history_of (entries ++ schema_part part parts bytes ∷ [])).pending) (sym removed)
           (subst (λ (q : Option PendingAt). MatchesPending files old.live.items old.removed.items q (history_of (entries ++ schema_part part parts bytes ∷ [])).pending) (sym pending)
           (subst (λ (p : Option Pending). MatchesPending files old.live.items old.removed.items old.pending p) (ap (λ (h : History). h.pending) (sym hist)) t.pending_matches)));
@@ -208,7 +208,7 @@ traced_begin files entries m kind q old new how point pending within live remove
     record {
       live_is = ap (λ (h : History). h.live) hist ∙ cut ∙ ap (events_at files) (sym live);
       pending_matches =
-        subst (λ (k : List LiveEntry). MatchesPending files k new.removed.items new.pending (history_of (entries ++ begin_restore m kind ∷ [])).pending) (sym live)
+          subst (λ (k : List LiveEntry). MatchesPending files k new.removed.items new.pending (history_of (entries ++ begin_restore m kind ∷ [])).pending) (sym live)
           (subst (λ (k : List LiveEntry). MatchesPending files (take q.kept old_live) k new.pending (history_of (entries ++ begin_restore m kind ∷ [])).pending) (sym removed)
           (subst (λ (w : Option PendingAt). MatchesPending files (take q.kept old_live) (drop q.kept old_live) w (history_of (entries ++ begin_restore m kind ∷ [])).pending) (sym pending)
           (subst (λ (o : Option Pending). MatchesPending files (take q.kept old_live) (drop q.kept old_live) (Some q) o) (ap (λ (h : History). h.pending) (sym hist)) is)));

@@ -22,10 +22,7 @@ use std::collections::BTreeMap;
 fn is_block(told: &Told) -> bool
     ensures { IsTrue result → IsBlock told.now }
 {
-    30000 < told.file
-        && told.block < 2097152
-        && told.audit <= 30000
-        && told.at < 1099511626752
+    30000 < told.file && told.block < 2097152 && told.audit <= 30000 && told.at < 1099511626752
 }
 
 /// Adds a block to a table. Damaged where it is no block of a structure file, or its bytes can't stand where it says.

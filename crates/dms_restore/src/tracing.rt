@@ -85,13 +85,7 @@ fn image_at(place: &Place, file: u32, block: u32, before: Option<&[u8]>) -> Imag
 }
 
 /// A Control at a place.
-fn control_at(
-    place: &Place,
-    point: u64,
-    next: u64,
-    counts: &[u8],
-    described: bool,
-) -> ControlAt
+fn control_at(place: &Place, point: u64, next: u64, counts: &[u8], described: bool) -> ControlAt
     ensures stands { (files : Files) → entry_there files place.now ≡ Some (control_point point next (counts_at (length counts.now / 8) counts.now))
         → event_at files (Controlled result) ≡ control point next (counts_in (counts_at (length counts.now / 8) counts.now)) described }
     ensures is { (result.point ≡ point) × (result.next ≡ next) }

@@ -96,7 +96,7 @@ newest_is t telling a r read f b x is =
     let from = from_control (live_of all) in
     let late : last_after f b (after_last is_control from) ≡ Some x = ap (λ (l : List Event). last_after f b l) (after_from (live_of all) (has_one t.first all (t.dumps a.files) r.base (stored_of a.files) m)) ∙ is in
     let whole : last_after f b from ≡ Some x = ap (λ (l : List Event). last_after f b l) (sym (split_last is_control from)) ∙ last_append (until_last is_control from) (after_last is_control from) f b
-        ∙ ap (λ o. or_else o (last_after f b (until_last is_control from))) late in
+    ∙ ap (λ o. or_else o (last_after f b (until_last is_control from))) late in
     ap (λ (c : Content). block_in c f b) (content_is t telling a r read) ∙ last_stands from r.base f b x s.chain whole
 
 -- where nothing waits, a block that was changed since the last Control has its newest Image sealed, and that has the bytes of the content
