@@ -1,7 +1,7 @@
 -- A table of what the audit tells, from the places of the blocks that entries name.
 use Rattle.std.specs.Prelude.{option_map}
 use Rattle.std.proofs.Common.{ℕ, ◌≡◌, ◌⊎◌, inl, inr, Bool, true, false, cond, List, [], ◌∷◌, ◌++◌, length, Option, Some, None, refl, sym, ◌∙◌, ap, subst}
-use Rattle.dms_site.specs.Files.{Files, range}
+use Rattle.dms_site.specs.Files.{Files}
 use Rattle.dms_history.specs.Events.{Block, Event}
 use Rattle.dms_history.specs.Lists.{until_first, after_first, until_last, after_last}
 use Rattle.dms_history.specs.Places.{is_control, is_point}
@@ -9,15 +9,13 @@ use Rattle.dms_history.specs.Images.{is_at, or_else, last_after, first_before}
 use Rattle.dms_history.specs.Told.{undone_to, told_block}
 use Rattle.dms_history.proofs.Picks.{place_cases, some_is, last_append}
 use Rattle.dms_history.proofs.AtPoints.{split_last}
-use Rattle.dms_restore.specs.declared.live.ImageAt.{ImageAt}
 use Rattle.dms_restore.specs.declared.live.LiveEntry.{LiveEntry}
 use Rattle.dms_restore.specs.declared.live.LiveEntry.TheVariants.{Changed, Quiet, Controlled}
 use Rattle.dms_restore.specs.declared.live.Spot.{Spot}
 use Rattle.dms_restore.specs.declared.told.Told.{Told}
-use Rattle.dms_restore.specs.LiveEntries.{event_at, events_at, before_in, after_in, HasWholeBlocks, AllHaveWholeBlocks}
+use Rattle.dms_restore.specs.LiveEntries.{events_at, before_in, after_in, AllHaveWholeBlocks}
 use Rattle.dms_restore.specs.Named.{Spots, spot_of, bytes_of, named, AllFromSpots}
 use Rattle.dms_restore.specs.Table.{bytes_at, IsBlock, AreBlocks, EachTold, IsAmong, IsTable}
-use Rattle.dms_restore.proofs.Spots.{key_is}
 
 true_not_false : true ≡ false → ⊥
 true_not_false e = absurd cc

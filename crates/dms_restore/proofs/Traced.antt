@@ -1,10 +1,10 @@
 -- One more entry of a trail whose live entries are kept in memory.
 use Rattle.std.specs.Prelude.{if◌then◌else◌, ◌==◌, ◌&&◌}
-use Rattle.std.proofs.Common.{ℕ, zero, suc, ◌+◌, ◌-◌, ◌^◌, ◌≤◌, ◌<◌, min, max, ◌≡◌, Bool, true, false, cond, List, [], ◌∷◌, ◌++◌, map, length, take, drop, Option, Some, None, refl, sym, ◌∙◌, ap, subst, arith}
+use Rattle.std.proofs.Common.{ℕ, zero, suc, ◌+◌, ◌-◌, ◌^◌, ◌≤◌, ◌<◌, min, max, ◌≡◌, Bool, false, cond, List, [], ◌∷◌, ◌++◌, length, take, drop, Option, Some, None, refl, sym, ◌∙◌, ap, subst, arith}
 use Rattle.std.proofs.lemmas.Bool.Decides.{nat_tests}
 use Rattle.std.proofs.lemmas.List.{map-append, length-take, take-append-drop}
 use Rattle.dms_site.specs.Files.{Files}
-use Rattle.dms_history.specs.Events.{Block, How, Event, change, quiet, control, begin}
+use Rattle.dms_history.specs.Events.{Block, Event, control, begin}
 use Rattle.dms_history.specs.Lists.{until_first, after_first}
 use Rattle.dms_history.specs.Places.{is_point}
 use Rattle.dms_history.specs.History.{Pending, History, after_event, history, next_number}
@@ -12,14 +12,13 @@ use Rattle.dms_history.specs.Ranges.{event, told_events}
 use Rattle.dms_history.specs.Entries.{Entry, Kind, schema_part, image, quiet_point, control_point, begin_restore, counts_in, how_of}
 use Rattle.dms_history.specs.declared.event.FileCount.{FileCount}
 use Rattle.dms_history.specs.Schemas.{Parts, no_parts, after_entry, parts_from, is_whole}
-use Rattle.dms_history.specs.EntryEvents.{said_by, events, history_of, live_of, next_of}
+use Rattle.dms_history.specs.EntryEvents.{said_by, events, history_of, live_of}
 use Rattle.dms_history.proofs.Order.{next_steps}
 use Rattle.dms_history.proofs.OneMore.{parts_more, history_entry, next_entry, history_schema, next_schema, next_quiet}
 use Rattle.dms_restore.specs.declared.live.ImageAt.{ImageAt}
 use Rattle.dms_restore.specs.declared.live.ControlAt.{ControlAt}
 use Rattle.dms_restore.specs.declared.live.LiveEntry.{LiveEntry}
 use Rattle.dms_restore.specs.declared.live.LiveEntry.TheVariants.{Changed, Quiet, Controlled}
-use Rattle.dms_restore.specs.declared.live.HowAt.{HowAt}
 use Rattle.dms_restore.specs.declared.live.PendingAt.{PendingAt}
 use Rattle.dms_restore.specs.declared.tracing.TrailHistory.{TrailHistory}
 use Rattle.dms_restore.specs.LiveEntries.{event_at, events_at, before_in, after_in, HasWholeBlocks, AllHaveWholeBlocks}

@@ -1,5 +1,5 @@
 -- Live entries as they are kept in memory, and what they tell of files.
-use Rattle.std.specs.Prelude.{ℕ, ◌-◌, ◌/◌, ◌≡◌, if◌then◌else◌, false, List, [], ◌∷◌, map, length, Option, Some, None}
+use Rattle.std.specs.Prelude.{◌-◌, ◌/◌, ◌≡◌, if◌then◌else◌, false, List, [], ◌∷◌, map, length, Option, Some, None}
 use Rattle.dms_site.specs.Files.{Files, range}
 use Rattle.dms_history.specs.Events.{Block, Event, change, quiet, control}
 use Rattle.dms_history.specs.Entries.{counts_in}

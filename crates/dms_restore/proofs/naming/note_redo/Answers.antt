@@ -1,4 +1,4 @@
-use Rattle.std.proofs.Common.{◌≡◌, List, Option, take, Some, sym, ◌∙◌, ap, arith}
+use Rattle.std.proofs.Common.{List, take, Some, sym, ◌∙◌, ap, arith}
 use Rattle.std.specs.Prelude.{option_map}
 use Rattle.dms_history.specs.Events.{Block, Event}
 use Rattle.dms_history.specs.Images.{last_after}

@@ -1,4 +1,4 @@
-use Rattle.std.proofs.Common.{◌≡◌, List, take, sym, ◌∙◌, ap, arith}
+use Rattle.std.proofs.Common.{List, take, sym, ◌∙◌, ap, arith}
 use Rattle.dms_history.specs.Events.{Event}
 use Rattle.dms_history.specs.Images.{or_else, first_before}
 use Rattle.dms_restore.specs.LiveEntries.{events_at}

@@ -1,4 +1,4 @@
-use Rattle.std.proofs.Common.{List, Some, sym, ◌∙◌, refl, subst, arith}
+use Rattle.std.proofs.Common.{sym, ◌∙◌, refl, subst, arith}
 use Rattle.dms_site.specs.Files.{Files}
 use Rattle.dms_audfile.proofs.Reading.{reads_on}
 use Rattle.dms_audfile.specs.declared.place.Place.{Place}
