@@ -35,4 +35,3 @@ pub mod Alone
 pub mod SchemaParts
 pub mod Sizing
 pub mod Keeping
-pub mod OneMore

@@ -14,7 +14,7 @@ use Rattle.dms_history.specs.Lists.{has, after_last}
 use Rattle.dms_history.proofs.Cuts.{Rest}
 use Rattle.dms_history.proofs.Runs.{has_push}
 use Rattle.dms_history.proofs.Picks.{place_cases, last_append}
-use Rattle.dms_history.proofs.OneMore.{last_more, first_append}
+use Rattle.dms_running.proofs.OneMore.{last_more, first_append}
 use Rattle.dms_restore.specs.declared.live.Spot.{Spot}
 use Rattle.dms_restore.specs.declared.live.ImageAt.{ImageAt}
 use Rattle.dms_restore.specs.declared.live.LiveEntry.{LiveEntry}

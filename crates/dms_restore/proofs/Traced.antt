@@ -14,7 +14,7 @@ use Rattle.dms_history.specs.declared.event.FileCount.{FileCount}
 use Rattle.dms_history.specs.Schemas.{Parts, no_parts, after_entry, parts_from, is_whole}
 use Rattle.dms_history.specs.EntryEvents.{said_by, events, history_of, live_of}
 use Rattle.dms_history.proofs.Order.{next_steps}
-use Rattle.dms_history.proofs.OneMore.{parts_more, history_entry, next_entry, history_schema, next_schema, next_quiet}
+use Rattle.dms_running.proofs.OneMore.{parts_more, history_entry, next_entry, history_schema, next_schema, next_quiet}
 use Rattle.dms_restore.specs.declared.live.ImageAt.{ImageAt}
 use Rattle.dms_restore.specs.declared.live.ControlAt.{ControlAt}
 use Rattle.dms_restore.specs.declared.live.LiveEntry.{LiveEntry}

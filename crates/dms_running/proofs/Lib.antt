@@ -12,4 +12,5 @@ pub mod Restored
 pub mod Ending
 pub mod Wholes
 pub mod Looking
+pub mod OneMore
 pub mod NoRoom

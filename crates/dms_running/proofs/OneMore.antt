@@ -2,9 +2,8 @@
 use Rattle.std.specs.Prelude.{if◌then◌else◌}
 use Rattle.std.proofs.Common.{ℕ, ◌+◌, ◌-◌, ◌^◌, min, max, ◌≡◌, Bool, true, false, cond, Option, Some, None, List, [], ◌∷◌, ◌++◌, refl, sym, ◌∙◌, ap, arith}
 use Rattle.dms_history.specs.Events.{Block, Event, change, quiet, control, begin}
-use Rattle.dms_history.specs.History.{History, after_event, history, next_number}
+use Rattle.dms_history.specs.History.{after_event, history, next_number}
 use Rattle.dms_history.specs.Images.{is_at, or_else, last_after, first_before}
-use Rattle.dms_history.specs.Told.{undone_to}
 use Rattle.dms_history.specs.Ranges.{event}
 use Rattle.dms_history.specs.Entries.{Entry, schema_part}
 use Rattle.dms_history.specs.Schemas.{no_parts, after_entry, parts_from}
@@ -63,19 +62,3 @@ first_append f b (change g k before after ∷ xs) ys = or_first (is_at f b g k) 
 first_append f b (quiet n ∷ xs) ys = first_append f b xs ys
 first_append f b (control n next counts described ∷ xs) ys = first_append f b xs ys
 first_append f b (begin n how ∷ xs) ys = first_append f b xs ys
-
--- The last after-image before a place, else what stood before the first change behind it: none of them where nothing names the block,
--- and no bytes where that change made it new.
-abbrev pub redone_or_undone : Option Block → Option (Option Block) → Option (Option Block)
-redone_or_undone None first = first
-redone_or_undone (Some x) first = Some (Some x)
-
-pub told_either : (o : Option Block) (first : Option (Option Block)) → undone_to (redone_or_undone o first) ≡ or_else o (undone_to first)
-told_either None first = refl
-told_either (Some x) first = refl
-
--- one more event behind the place: a block that was named stays as it was
-pub undone_more : (o : Option Block) (f b : ℕ) (es : List Event) (g k : ℕ) (before : Option Block) (after : Block)
-    → redone_or_undone o (first_before f b (es ++ change g k before after ∷ [])) ≡ or_else (redone_or_undone o (first_before f b es)) (if is_at f b g k then Some before else None)
-undone_more None f b es g k before after = first_append f b es (change g k before after ∷ [])
-undone_more (Some x) f b es g k before after = refl
