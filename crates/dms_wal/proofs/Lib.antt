@@ -1,0 +1,13 @@
+pub mod Lifts
+pub mod Pooled
+pub mod Stills
+pub mod Causes
+pub mod Backs
+pub mod Pointed
+pub mod Stepped
+pub mod Tabled
+pub mod Roomed
+pub mod Fetched
+pub mod Imaged
+pub mod Synced
+pub mod Rooming
