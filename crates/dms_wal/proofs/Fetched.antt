@@ -16,6 +16,7 @@ use Rattle.dms_block.specs.declared.block.BlockId.{BlockId}
 use Rattle.dms_block.specs.Content.{block_in}
 use Rattle.dms_block.specs.Held.{IsShort}
 use Rattle.dms_history.specs.Events.{Content}
+use Rattle.dms_history.proofs.Picks.{some_is}
 use Rattle.dms_pool.specs.declared.pool.Pool.{Pool}
 use Rattle.dms_pool.specs.declared.frame.Frame as pools
 use Rattle.dms_pool.specs.Calls.{PutsFrame, SamePool, Looked}
@@ -52,6 +53,18 @@ owned_by l f b low =
       | inl there ↦ let few : f ≤ 30000 + length l = omega (arith, there, structure) in grind (arith, nat_tests, structure, few)
       | inr beyond ↦ absurd (omega (arith, low, count_at l f structure, past l (f - 30001) (omega (arith, beyond))))
     ]
+
+-- a frame whose block was answered, and none
+some_frame : (o : Option pools.Frame) (b : Block) → Some b ≡ option_map (λ f. f.block) o → (x : pools.Frame) × (o ≡ Some x) × (x.block ≡ b)
+some_frame (Some x) b is = (x, refl, sym (some_is b x.block is))
+some_frame None b is = absurd cc
+
+no_frame : (o : Option pools.Frame) → None ≡ option_map (λ f. f.block) o → o ≡ None
+no_frame (Some x) is = absurd cc
+no_frame None is = refl
+
+pub asked_none : (id : BlockId) (old new : Pool) → Looked id old new → None ≡ option_map (λ f. f.block) (frame_of id old) → frame_of id new ≡ None
+asked_none id old new looked is = looked.holds id ∙ no_frame (frame_of id old) is
 
 module _ {S : Type 0} (g : Ghosts S) (r : Running S) (u : IsUsable g r) where
   -- the site was only looked at
@@ -131,3 +144,13 @@ module _ {S : Type 0} (g : Ghosts S) (r : Running S) (u : IsUsable g r) where
   -- and a read was counted
   pub usable_counted : (n : ℕ) → IsUsable g (record r { reads = n })
   usable_counted n = record { unbroken = u.unbroken; table = u.table; counted = u.counted; goes = λ t. let k = u.goes t in record { runs = k.runs; holds = k.holds; numbered = k.numbered; counted = k.counted } }
+
+  -- the block that is held is that of the content
+  pub asked_block : (id : BlockId) (block : Block) → Some block ≡ option_map (λ f. f.block) (frame_of id r.pool) → IsTrue g.tells → block.0 ≡ block_in (content (view_of g r.log)) id.file id.block
+  asked_block id block is t =
+      let x = some_frame (frame_of id r.pool) block is in
+      ap (λ (b : Block). b.0) (sym x.2) ∙ (((u.goes t).holds id.file id.block).held (frame_seen x.0) (ap (λ (o : Option pools.Frame). option_map frame_seen o) x.1)).1
+
+  -- a held block was asked for, and counted
+  pub usable_read : (id : BlockId) (p : Pool) (n : ℕ) → Looked id r.pool p → IsUsable g (record r { pool = p; reads = n })
+  usable_read id p n looked = let k = usable_asked id p looked in record { unbroken = k.unbroken; table = k.table; counted = k.counted; goes = λ t. let j = k.goes t in record { runs = j.runs; holds = j.holds; numbered = j.numbered; counted = j.counted } }

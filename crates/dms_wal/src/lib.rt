@@ -3,6 +3,8 @@
 
 mod faults;
 mod points;
+mod reading;
+mod room;
 mod running;
 
 pub use running::Running;

@@ -1,9 +1,8 @@
 //! A running database, as it is made and taken apart.
 
-ghost use Rattle.std.specs.Prelude.{◌≡◌, ◌<◌, ◌^◌, [], IfErr, IfOk, IsTrue};
-ghost use Rattle.dms_running.specs.Running.{AllWritten};
-ghost use Rattle.dms_restore.specs.Logging.{telling, state, LogRuns};
-ghost use Rattle.dms_wal.specs.Lifting.{IsTable, count_of};
+ghost use Rattle.std.specs.Prelude.{◌≡◌, ◌<◌, IfErr, IfOk, IsTrue};
+ghost use Rattle.dms_block.specs.Held.{BlocksAgree};
+ghost use Rattle.dms_wal.specs.Lifting.{IsTable};
 ghost use Rattle.dms_wal.specs.Database.{IsUsable, held, view_of};
 ghost use Rattle.dms_wal.specs.Starting.{StartsFrom};
 
@@ -111,4 +110,9 @@ impl<S: Site> Running<S> {
             0
         }
     }
+
+    /// What a usable database tells hangs together.
+    pub fn agrees(&self)
+        ensures { (held S.Site self.now).sound → BlocksAgree (held S.Site self.now) }
+    {}
 }
