@@ -9,3 +9,9 @@ pub mod Opens
 pub mod Sizes
 pub mod Writing
 pub mod Scans
+pub mod Callers
+pub mod Spots
+pub mod TableParts
+pub mod EntryPlaces
+pub mod Traced
+pub mod ReadOn

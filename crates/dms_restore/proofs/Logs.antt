@@ -1,23 +1,28 @@
 -- Calls on the log of a running database.
-use Rattle.std.proofs.Common.{ℕ, ◌+◌, ◌*◌, ◌^◌, ◌<◌, ◌≡◌, List, [], ◌∷◌, ◌++◌, length, drop, Option, refl, sym, ◌∙◌, ap, subst, arith, append_assoc}
+use Rattle.std.proofs.Common.{ℕ, ◌+◌, ◌*◌, ◌^◌, ◌<◌, ◌≡◌, List, [], ◌∷◌, ◌++◌, length, drop, Option, Some, None, refl, sym, ◌∙◌, ap, subst, arith, append_assoc}
 use Rattle.dms_moments.specs.Moments.{Clock, Now, Steps}
 use Rattle.dms_moments.specs.MomentLaws.{steps_weaken}
 use Rattle.dms_site.specs.Files.{Files, Left, InFile, Torn, OnDisk}
 use Rattle.dms_history.specs.Events.{Block}
 use Rattle.dms_history.specs.Replay.{TellsBefore}
 use Rattle.dms_history.specs.Entries.{Entry, image, quiet_point}
+use Rattle.dms_history.specs.EntryEvents.{next_of}
 use Rattle.dms_audfile.specs.BlockLaws.{AreNoBegins}
 use Rattle.dms_audfile.specs.TrailEntries.{trail_entries}
 use Rattle.dms_audfile.specs.Ends as ends
-use Rattle.dms_audfile.specs.Ends.{EndsAt, Appends}
+use Rattle.dms_audfile.specs.Ends.{EndsAt, Appends, SealsAll}
 use Rattle.dms_running.specs.Telling.{Telling, IsTelling}
 use Rattle.dms_running.specs.Sealing.{Seals, Appended, IsSealed, Settled}
-use Rattle.dms_running.specs.Running.{entries_now, points_now, next_now, content_now, durable_now, LeavesPoints, IsRunning}
+use Rattle.dms_running.specs.Running.{entries_now, points_now, next_now, content_now, durable_now, LeavesPoints, IsRunning, IsLogged}
 use Rattle.dms_running.proofs.Appending.{log_leaves, log_runs, log_next, log_points, log_content, quiet_leaves, quiet_runs, quiet_next, quiet_points, quiet_content, sync_leaves, sync_runs, sync_points, sync_next, sync_content, sync_surer, sync_durable, sync_entries}
 use Rattle.dms_running.proofs.Early.{early_leaves, early_runs, early_points, early_next, early_content, early_durable, later_all}
 use Rattle.dms_running.proofs.Stopped.{joined, blocks_same}
-use Rattle.dms_restore.specs.Logging.{telling_of, waits, View, view, telling, state, Ends, LogRuns, points, durable, here, next, content, IsSilent, Logged, LogsImage, LogsQuiet, LogsNothing, LogsWrite}
+use Rattle.dms_running.proofs.NoRoom.{full_runs, full_entries, full_points, full_content, full_durable}
+use Rattle.dms_restore.specs.Logging.{telling_of, waits, View, view, telling, state, Ends, LogRuns, points, durable, here, next, content, IsSilent, IsNewestSealed, SealsWaiting, LogsImage, LogsQuiet, LogsNothing, LogsWrite}
 use Rattle.dms_restore.proofs.Trails.{is_telling, first_low, waits_is, ends_waiting, plain_waits, seals_as, appended_as, sealed_as, settled_as, ends_written}
+
+some_not_none : (x : Block) → Some x ≡ None → ⊥
+some_not_none x e = absurd cc
 
 -- what is read of it
 abbrev pub Reads : View → Type 0
@@ -106,6 +111,43 @@ module _ (a : View) (r : LogRuns a) (read : Reads a) where
       → LeavesPoints (telling a) (points a) (next a) (state a) later
   sync_leave later steps = sync_leaves (telling a) tells (state a) r.runs read later (seals_as a.end.total a.end.tag a.first (waits a.end) a.clock later (steps a.first (waits a.end) r.ends))
 
+  -- ---- the audit has no room for one more entry
+
+  module _ (b : View) (kind : b.end.total ≡ a.end.total) (start : b.first ≡ a.first) (e : Entry)
+      (steps : (first : ℕ) (waiting : List Entry) → AreNoBegins waiting → EndsAt a.end first waiting a.files a.clock → Steps (ends.Seals a.end.total a.end.tag first (waiting ++ e ∷ [])) a.clock b.clock)
+      (kept : (first : ℕ) (waiting : List Entry) → EndsAt a.end first waiting a.files a.clock → SealsAll b.end first waiting a.files b.files b.clock) (reads : Reads b) where
+    all : SealsAll b.end a.first (waits a.end) a.files b.files b.clock
+    all = kept a.first (waits a.end) r.ends
+
+    none_waits : waits b.end ≡ []
+    none_waits = waits_is b.end a.first [] b.files b.clock all.ends
+
+    full_ends : Ends b
+    full_ends = subst (λ n. EndsAt b.end n (waits b.end) b.files b.clock) (sym start) (ends_waiting b.end a.first [] b.files b.clock all.ends)
+
+    full_settles : Settled (telling a) b.files b.clock
+    full_settles = subst (λ (t : Telling). Settled t b.files b.clock) (sym (same_telling b kind start)) (settled_as b.end b.first (waits b.end) b.files b.clock full_ends)
+
+    is_all : trail_entries a.end.total a.first b.files ≡ trail_entries a.end.total a.first a.files ++ waits a.end
+    is_all = subst (λ n. trail_entries n a.first b.files ≡ trail_entries n a.first a.files ++ waits a.end) kind all.sealed
+
+    full_steps : Steps (Seals (telling a) (waits a.end ++ e ∷ [])) a.clock b.clock
+    full_steps = entry_steps e b.clock steps
+
+    pub full_seals : SealsWaiting a b
+    full_seals = record {
+      runs = record {
+        ends = full_ends;
+        runs = subst (λ (t : Telling). IsRunning t (state b)) (same_telling b kind start) (full_runs (telling a) tells (state a) r.runs read (waits a.end ++ e ∷ []) (state b) full_steps full_settles is_all none_waits);
+      };
+      nothing = none_waits;
+      entries_same = ap (λ (t : Telling). entries_now t (state b)) (sym (same_telling b kind start)) ∙ full_entries (telling a) tells (state a) r.runs read (waits a.end ++ e ∷ []) (state b) full_steps full_settles is_all none_waits;
+      points_same = ap (λ (t : Telling). points_now t (state b)) (sym (same_telling b kind start)) ∙ full_points (telling a) tells (state a) r.runs read (waits a.end ++ e ∷ []) (state b) full_steps full_settles is_all none_waits reads;
+      next_same = ap (λ (t : Telling). next_now t (state b)) (sym (same_telling b kind start)) ∙ ap (λ (l : List Entry). next_of l) (full_entries (telling a) tells (state a) r.runs read (waits a.end ++ e ∷ []) (state b) full_steps full_settles is_all none_waits);
+      content_same = ap (λ (t : Telling). content_now t (state b)) (sym (same_telling b kind start)) ∙ full_content (telling a) tells (state a) r.runs read (waits a.end ++ e ∷ []) (state b) full_steps full_settles is_all none_waits reads;
+      all_durable = ap (λ (t : Telling). durable_now t (state b)) (sym (same_telling b kind start)) ∙ full_durable (telling a) tells (state a) r.runs read (waits a.end ++ e ∷ []) (state b) full_steps full_settles is_all none_waits reads;
+    }
+
   -- ---- an Image
 
   module _ (f k : ℕ) (before : Option Block) (after : Block) (told : TellsBefore k before (content a f)) (sized : length after ≡ 1024) (e : Entry) (is : e ≡ image f k before after) where
@@ -178,7 +220,7 @@ module _ (a : View) (r : LogRuns a) (read : Reads a) where
 
   -- ---- a structure block is written early
 
-  module _ (f k : ℕ) (structure : 30000 < f) (logged : Logged a f k) where
+  module _ (f k : ℕ) (structure : 30000 < f) (logged : IsLogged (telling a) a.files f k) where
     pub early_leave : (later : Clock Left) → Steps (OnDisk f (Torn (1024 * k) 1024)) a.clock later → LeavesPoints (telling a) (points a) (next a) (state a) later
     early_leave later steps = early_leaves (telling a) tells (state a) r.runs read f k structure logged later steps
 
@@ -200,3 +242,7 @@ module _ (a : View) (r : LogRuns a) (read : Reads a) where
         next_same = early_next (telling a) tells (state a) r.runs read f k structure logged (state then_) refl step;
         content_same = early_content (telling a) tells (state a) r.runs read f k structure logged (state then_) refl step steps reads;
       }
+
+-- a block whose newest Image is sealed has a sealed change
+pub newest_logged : (a : View) (f k : ℕ) (bytes : Block) → IsNewestSealed a f k bytes → IsLogged (telling a) a.files f k
+newest_logged a f k bytes newest none = absurd (some_not_none bytes (sym newest.sealed ∙ none))

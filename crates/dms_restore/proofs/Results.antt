@@ -1,5 +1,5 @@
 -- Facts of a call by its answer.
-use Rattle.std.specs.Prelude.{ℕ, ◌+◌, ◌≤◌, ◌≡◌, OnOk, IsErrOf}
+use Rattle.std.specs.Prelude.{ℕ, ◌+◌, ◌≤◌, ◌≡◌, OnOk, IfOk, IsErrOf}
 use Rattle.std.proofs.Common.{subst}
 use Rattle.std.specs.declared.result.Result.{Result}
 use Rattle.std.specs.declared.result.Result.TheVariants.{Ok, Err}
@@ -47,3 +47,7 @@ counted_call fault e failed start before now same is cause = record {
   once = subst (λ n. now ≤ n + 1) same cause.once;
   clean = λ other. absurd (other is);
 }
+
+pub two_if_ok : {T E : Type 0} {P Q R : T → Type 0} (r : Result T E) → IfOk r P → IfOk r Q → ((v : T) → P v → Q v → R v) → IfOk r R
+two_if_ok (Ok x) one two f = f x one two
+two_if_ok (Err e) one two f = tt

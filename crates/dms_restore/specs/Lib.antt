@@ -4,3 +4,6 @@ pub mod Laying
 pub mod Begins
 pub mod Endings
 pub mod Scanned
+pub mod LiveEntries
+pub mod Named
+pub mod Tracing

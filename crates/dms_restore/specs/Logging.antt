@@ -1,19 +1,23 @@
 -- The end of an audit trail over its files, as a running database.
-use Rattle.std.specs.Prelude.{ℕ, ◌+◌, ◌≤◌, ◌==◌, ◌≡◌, List, [], ◌∷◌, ◌++◌, Option}
+use Rattle.std.specs.Prelude.{ℕ, ◌+◌, ◌≤◌, ◌==◌, ◌≡◌, List, [], ◌∷◌, ◌++◌, length, Option, Some, None}
 use Rattle.dms_moments.specs.Moments.{Clock}
 use Rattle.dms_site.specs.Files.{Files, Left, stored_of}
 use Rattle.dms_history.specs.Events.{Block, Content}
 use Rattle.dms_history.specs.Replay.{with_block}
+use Rattle.dms_history.specs.Lists.{after_last}
+use Rattle.dms_history.specs.Places.{is_control}
+use Rattle.dms_history.specs.Images.{last_after}
 use Rattle.dms_history.specs.Pick.{Dumps}
 use Rattle.dms_history.specs.Points.{LivePoint}
 use Rattle.dms_history.specs.Entries.{Entry, image, quiet_point}
+use Rattle.dms_history.specs.EntryEvents.{events, live_of}
 use Rattle.dms_audfile.specs.declared.audit_end.AuditEnd.{AuditEnd}
 use Rattle.dms_audfile.specs.Blocks.{block_entries}
 use Rattle.dms_audfile.specs.Unsealed.{block_with}
 use Rattle.dms_audfile.specs.TrailEntries.{entries_of, trail_entries}
 use Rattle.dms_audfile.specs.Ends.{unsealed, EndsAt}
 use Rattle.dms_running.specs.Telling.{Telling}
-use Rattle.dms_running.specs.Running.{State, entries_now, next_now, points_now, durable_now, here_now, content_now, IsRunning, IsLogged, IsChanged, LeavesPoints}
+use Rattle.dms_running.specs.Running.{State, entries_now, next_now, points_now, durable_now, here_now, content_now, IsRunning, IsChanged, LeavesPoints}
 
 -- No dump is read yet: while no restore by a dump is pending, none counts.
 abbrev pub dumps_in : Files → Dumps
@@ -68,10 +72,13 @@ next v = next_now (telling v) (state v)
 abbrev pub content : View → Content
 content v = content_now (telling v) (state v)
 
--- block b of file f has a change since the last Control, sealed, or sealed or waiting
-abbrev pub Logged : View → ℕ → ℕ → Type 0
-Logged v f b = IsLogged (telling v) v.files f b
+-- The newest Image of block b of file f since the last Control is sealed, and it has these bytes: so the sealed audit tells of the
+-- block, and no Image of it waits.
+pub record IsNewestSealed (v : View) (f b : ℕ) (bytes : Block) : Type 0 where
+  pub sealed : last_after f b (after_last is_control (live_of (trail_entries v.end.total v.first v.files))) ≡ Some bytes
+  pub none_waits : last_after f b (events (waits v.end)) ≡ None
 
+-- block b of file f has a change since the last Control, sealed or waiting
 abbrev pub Changed : View → ℕ → ℕ → Type 0
 Changed v f b = IsChanged (telling v) (state v) f b
 
@@ -111,6 +118,17 @@ pub record LogsNothing (a b : View) : Type 0 where
   pub content_same : content b ≡ content a
   pub blocks_same : stored_of b.files ≡ stored_of a.files
   pub surer : durable a ≤ durable b
+
+-- The audit has no room: all that waited is sealed, and nothing more was logged. The database runs with the same entries, points, next
+-- number and content, and all points are durable.
+pub record SealsWaiting (a b : View) : Type 0 where
+  pub runs : LogRuns b
+  pub nothing : waits b.end ≡ []
+  pub entries_same : entries b ≡ entries a
+  pub points_same : points b ≡ points a
+  pub next_same : next b ≡ next a
+  pub content_same : content b ≡ content a
+  pub all_durable : durable b ≡ length (points a)
 
 -- Entries, points, next number and content are the same, and as many points are durable.
 pub record LogsWrite (a b : View) : Type 0 where

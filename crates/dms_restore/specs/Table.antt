@@ -10,10 +10,13 @@ use Rattle.dms_restore.specs.declared.told.Told.{Told}
 abbrev pub bytes_at : Files → Told → Block
 bytes_at files t = range t.at 1024 (files t.audit)
 
--- blocks of structure files, and places in files that are none
+-- a block of a structure file, and a place in a file that is none
+abbrev pub IsBlock : Told → Type 0
+IsBlock t = (30000 < t.file) × (t.block < 2097152) × (t.audit ≤ 30000) × (t.at + 1024 < 2 ^ 40)
+
 abbrev pub AreBlocks : List Told → Type 0
 AreBlocks [] = Unit {0}
-AreBlocks (t ∷ ts) = ((30000 < t.file) × (t.block < 2097152) × (t.audit ≤ 30000) × (t.at + 1024 < 2 ^ 40)) × AreBlocks ts
+AreBlocks (t ∷ ts) = IsBlock t × AreBlocks ts
 
 -- The audit tells of each of them at a point what stands at its place, which is a whole block.
 abbrev pub EachTold : List Event → ℕ → Files → List Told → Type 0

@@ -1,12 +1,14 @@
 //! A restore by the audit, from its Begin to its Control. Each state owns the log and hands it back with each fault.
 
-ghost use Rattle.std.specs.Prelude.{◌≡◌, ◌⊎◌, ◌+◌, ◌<◌, ◌^◌, ℕ, IfOk, IfErr, IsTrue};
+ghost use Rattle.std.specs.Prelude.{◌≡◌, ◌⊎◌, ◌+◌, ◌<◌, ◌^◌, ℕ, true, false, length, IfOk, IfErr, IsTrue};
 ghost use Rattle.dms_history.specs.History.{Pending};
-ghost use Rattle.dms_history.specs.Entries.{how_of};
+ghost use Rattle.dms_history.specs.Entries.{how_of, begin_restore};
+ghost use Rattle.dms_audrec.specs.Spelling.{spelling};
 ghost use Rattle.dms_audrec.specs.Seen.{how_seen};
 ghost use Rattle.dms_audfile.specs.Counting.{CountedAt};
+ghost use Rattle.dms_audfile.specs.Ends.{is_past};
 ghost use Rattle.dms_running.specs.Begun.{ByAudit};
-ghost use Rattle.dms_restore.specs.Logging.{view, LogRuns, points, next, Leaves};
+ghost use Rattle.dms_restore.specs.Logging.{view, LogRuns, points, next, SealsWaiting, Leaves};
 ghost use Rattle.dms_restore.specs.Begins.{LastIs, begun_to, BegunAt, Begins, RestoredAt, Restores, LeavesEach};
 ghost use Rattle.dms_restore.specs.Table.{AreBlocks, IsTable};
 
@@ -42,6 +44,9 @@ impl<S: Site> Log<S> {
         ensures said_then { IfErr result (λ e. S.said e.1.site ≡ S.said self.site) }
         ensures clean { IfOk result (λ b. S.disk_faults b.log.site ≡ S.disk_faults self.site) }
         ensures only { IfErr result (λ e. (e.0 ≡ AudFault.Disk) ⊎ (e.0 ≡ AudFault.Full self.end.limit)) }
+        ensures past { IfErr result (λ e. e.0 ≡ AudFault.Full self.end.limit → is_past self.end (length (spelling (begin_restore point (how_seen how.entry)))) true ≡ true) }
+        ensures within { IfOk result (λ b. is_past self.end (length (spelling (begin_restore point (how_seen how.entry)))) true ≡ false) }
+        ensures kept { IfErr result (λ e. e.0 ≡ AudFault.Full self.end.limit → IsTrue S.tells → SealsWaiting (view self.end self.first (S.files self.site) (S.clock self.site)) (view e.1.end e.1.first (S.files e.1.site) (S.clock e.1.site))) }
         ensures disk { IfErr result (λ e. CountedAt (e.0 ≡ AudFault.Disk) (S.disk_faults self.site) (S.disk_faults e.1.site)) }
         ensures say_faults { IfOk result (λ b. S.say_faults b.log.site ≡ S.say_faults self.site) }
         ensures say_faults_then { IfErr result (λ e. S.say_faults e.1.site ≡ S.say_faults self.site) }

@@ -5,13 +5,24 @@
 mod begun;
 mod ending;
 mod laying;
+mod live;
 mod log;
+mod naming;
 mod opening;
+mod placing;
+mod reading;
 mod restoring;
 mod scanning;
+mod table;
 mod told;
+mod tracing;
 
 pub use begun::{Begun, Restored};
+pub use live::{ControlAt, HowAt, ImageAt, LiveEntry, PendingAt, Spot};
 pub use log::Log;
+pub use placing::place;
+pub use reading::read_trail;
 pub use scanning::{Found, Scanned};
+pub use table::table_of;
 pub use told::Told;
+pub use tracing::TrailHistory;

@@ -1,13 +1,16 @@
 //! The end of an audit trail over its site.
 
-ghost use Rattle.std.specs.Prelude.{◌≡◌, ◌⊎◌, ◌+◌, ◌*◌, ◌^◌, ◌<◌, ◌≤◌, ◌++◌, [], ◌∷◌, ℕ, length, OnOk, IfErr, IfSome, IsErrOf, IsTrue};
+ghost use Rattle.std.specs.Prelude.{◌≡◌, ◌⊎◌, ◌+◌, ◌*◌, ◌^◌, ◌<◌, ◌≤◌, ◌++◌, [], ◌∷◌, ℕ, true, false, length, OnOk, IfErr, IfSome, IsErrOf, IsTrue};
 ghost use Rattle.std.specs.Option.{option_copied};
 ghost use Rattle.dms_base.specs.Causes.{HasCause};
 ghost use Rattle.dms_moments.specs.Moments.{Steps};
 ghost use Rattle.dms_site.specs.Files.{with_file, overlaid};
 ghost use Rattle.dms_history.specs.Replay.{TellsBefore};
+ghost use Rattle.dms_history.specs.Entries.{image, quiet_point};
+ghost use Rattle.dms_audrec.specs.Spelling.{spelling};
 ghost use Rattle.dms_audfile.specs.Counting.{CountedAt};
-ghost use Rattle.dms_restore.specs.Logging.{waits, view, LogRuns, points, durable, here, next, content, IsSilent, Logged, Leaves, LogsImage, LogsQuiet, LogsNothing, LogsWrite};
+ghost use Rattle.dms_audfile.specs.Ends.{is_past};
+ghost use Rattle.dms_restore.specs.Logging.{waits, view, LogRuns, points, durable, here, next, content, IsSilent, IsNewestSealed, SealsWaiting, Leaves, LogsImage, LogsQuiet, LogsNothing, LogsWrite};
 
 use dms_audfile::{AudFault, AuditEnd};
 use dms_audrec::Entry;
@@ -23,8 +26,8 @@ pub struct Log<S: Site> {
 impl<S: Site> Log<S> {
     /// Logs the Image of a block that is changed: none before it where the block is new.
     ///
-    /// Where it doesn't fit behind what waits, that is sealed first. Answers Disk where a call of the site failed, and else Full where
-    /// the audit has no room; then the Image wasn't logged.
+    /// Where it doesn't fit behind what waits, that is sealed first. Answers Disk where a call of the site failed, and else Full exactly
+    /// where the audit has no room; then the Image wasn't logged, and all that waited is sealed.
     pub fn image(
         &mut self,
         file: u32,
@@ -45,6 +48,9 @@ impl<S: Site> Log<S> {
         ensures kind { (self.new.end.total ≡ self.old.end.total) × (self.new.end.tag ≡ self.old.end.tag) × (self.new.end.limit ≡ self.old.end.limit) × (self.new.first ≡ self.old.first) }
         ensures only { IfErr result (λ e. (e ≡ AudFault.Disk) ⊎ (e ≡ AudFault.Full self.old.end.limit)) }
         ensures full { IsErrOf result (AudFault.Full self.old.end.limit) → (self.new.end.used ≡ 0) × (10000 + self.old.end.limit < self.new.end.file) }
+        ensures past { IsErrOf result (AudFault.Full self.old.end.limit) → is_past self.old.end (length (spelling (image file block (option_copied before.entry) after.now))) false ≡ true }
+        ensures within { OnOk result (is_past self.old.end (length (spelling (image file block (option_copied before.entry) after.now))) false ≡ false) }
+        ensures kept { IsErrOf result (AudFault.Full self.old.end.limit) → IsTrue S.tells → SealsWaiting (view self.old.end self.old.first (S.files self.old.site) (S.clock self.old.site)) (view self.new.end self.new.first (S.files self.new.site) (S.clock self.new.site)) }
         ensures said { S.said self.new.site ≡ S.said self.old.site }
         ensures same_site { S.same_site self.old.site self.new.site }
         ensures disk { CountedAt (IsErrOf result AudFault.Disk) (S.disk_faults self.old.site) (S.disk_faults self.new.site) }
@@ -66,6 +72,9 @@ impl<S: Site> Log<S> {
         ensures kind { (self.new.end.total ≡ self.old.end.total) × (self.new.end.tag ≡ self.old.end.tag) × (self.new.end.limit ≡ self.old.end.limit) × (self.new.first ≡ self.old.first) }
         ensures only { IfErr result (λ e. (e ≡ AudFault.Disk) ⊎ (e ≡ AudFault.Full self.old.end.limit)) }
         ensures full { IsErrOf result (AudFault.Full self.old.end.limit) → (self.new.end.used ≡ 0) × (10000 + self.old.end.limit < self.new.end.file) }
+        ensures past { IsErrOf result (AudFault.Full self.old.end.limit) → is_past self.old.end (length (spelling (quiet_point number))) false ≡ true }
+        ensures within { OnOk result (is_past self.old.end (length (spelling (quiet_point number))) false ≡ false) }
+        ensures kept { IsErrOf result (AudFault.Full self.old.end.limit) → IsTrue S.tells → SealsWaiting (view self.old.end self.old.first (S.files self.old.site) (S.clock self.old.site)) (view self.new.end self.new.first (S.files self.new.site) (S.clock self.new.site)) }
         ensures said { S.said self.new.site ≡ S.said self.old.site }
         ensures same_site { S.same_site self.old.site self.new.site }
         ensures disk { CountedAt (IsErrOf result AudFault.Disk) (S.disk_faults self.old.site) (S.disk_faults self.new.site) }
@@ -93,13 +102,13 @@ impl<S: Site> Log<S> {
         self.end.seal(&mut self.site)
     }
 
-    /// Writes a structure block whose newest Image is sealed, and doesn't sync.
+    /// Writes a structure block with the bytes of its newest Image, which is sealed, and doesn't sync.
     pub fn write(&mut self, file: u32, block: u32, bytes: &[u8]) -> Result<(), Failed>
         requires runs { IsTrue S.tells → LogRuns (view self.old.end self.old.first (S.files self.old.site) (S.clock self.old.site)) }
         requires structure { 30000 < file }
         requires place { block < 2097152 }
         requires size { length bytes.now ≡ 1024 }
-        requires logged { IsTrue S.tells → Logged (view self.old.end self.old.first (S.files self.old.site) (S.clock self.old.site)) file block }
+        requires sealed { IsTrue S.tells → IsNewestSealed (view self.old.end self.old.first (S.files self.old.site) (S.clock self.old.site)) file block bytes.now }
         ensures runs { IsTrue S.tells → LogRuns (view self.new.end self.new.first (S.files self.new.site) (S.clock self.new.site)) }
         ensures same { IsTrue S.tells → LogsWrite (view self.old.end self.old.first (S.files self.old.site) (S.clock self.old.site)) (view self.new.end self.new.first (S.files self.new.site) (S.clock self.new.site)) }
         ensures written { OnOk result (IsTrue S.tells → S.files self.new.site ≡ with_file (S.files self.old.site) file (overlaid (1024 * block) bytes.now (S.files self.old.site file))) }

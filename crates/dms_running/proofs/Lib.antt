@@ -12,3 +12,4 @@ pub mod Restored
 pub mod Ending
 pub mod Wholes
 pub mod Looking
+pub mod NoRoom

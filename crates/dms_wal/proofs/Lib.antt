@@ -5,9 +5,7 @@ pub mod Causes
 pub mod Backs
 pub mod Pointed
 pub mod Stepped
-pub mod Tabled
 pub mod Roomed
 pub mod Fetched
-pub mod Imaged
 pub mod Synced
 pub mod Rooming

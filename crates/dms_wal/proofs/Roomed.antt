@@ -1,5 +1,5 @@
 -- A block is given up, and written first where it is changed.
-use Rattle.std.proofs.Common.{ℕ, ◌<◌, ◌≤◌, ◌≡◌, true, false, IsTrue, List, length, Option, Some, None, refl, sym, ◌∙◌, ap, subst, arith}
+use Rattle.std.proofs.Common.{ℕ, ◌<◌, ◌≤◌, ◌≡◌, true, false, IsTrue, List, [], length, Option, Some, None, refl, sym, ◌∙◌, ap, subst, arith}
 use Rattle.std.specs.Prelude.{option_map}
 use Rattle.std.specs.declared.result.Result.{Result}
 use Rattle.std.specs.declared.result.Result.TheVariants.{Ok, Err}
@@ -11,7 +11,13 @@ use Rattle.dms_site.specs.Files.{Left}
 use Rattle.dms_block.specs.declared.block.Block.{Block}
 use Rattle.dms_block.specs.declared.block.BlockId.{BlockId}
 use Rattle.dms_block.specs.Content.{limit}
-use Rattle.dms_history.specs.Events.{Content}
+use Rattle.dms_history.specs.Events.{Content, block_in}
+use Rattle.dms_history.specs.Lists.{after_last}
+use Rattle.dms_history.specs.Places.{is_control}
+use Rattle.dms_history.specs.Images.{last_after}
+use Rattle.dms_history.specs.Entries.{Entry}
+use Rattle.dms_history.specs.EntryEvents.{live_of}
+use Rattle.dms_restore.proofs.Callers.{changed_newest}
 use Rattle.dms_history.proofs.Picks.{some_is}
 use Rattle.dms_pool.specs.declared.frame.Frame as pools
 use Rattle.dms_pool.specs.declared.frame.FrameKey.{FrameKey}
@@ -28,7 +34,7 @@ use Rattle.dms_running.proofs.Early.{both_leave}
 use Rattle.dms_running.proofs.Framed.{holds_given_up}
 use Rattle.dms_restore.specs.declared.log.Log.{Log}
 use Rattle.dms_restore.specs.Logging as logs
-use Rattle.dms_restore.specs.Logging.{View, telling, state, points, durable, content, LogRuns, IsSilent}
+use Rattle.dms_restore.specs.Logging.{View, telling, state, points, durable, content, waits, LogRuns, LogsNothing, IsNewestSealed, IsSilent}
 use Rattle.dms_restore.proofs.Logs.{Reads}
 use Rattle.dms_wal.specs.declared.running.Running.{Running}
 use Rattle.dms_wal.specs.Lifting.{count_of}
@@ -52,6 +58,11 @@ then_err {U = U} {F = F} e f a m n same c = subst (λ k. HasCause {T = U} {E = F
 
 pub then_ok : {T U E F : Type 0} (x : T) (y : U) (a m n : ℕ) → m ≡ a → HasCause {T = T} {E = E} m n (Ok x) → HasCause {T = U} {E = F} a n (Ok y)
 then_ok {U = U} {F = F} x y a m n same c = subst (λ k. HasCause {T = U} {E = F} k n (Ok y)) same (record { later = c.later; failed = tt; once = tt; clean = c.clean })
+
+-- once what waits is sealed, the newest Image of a changed block is
+pub newest : (a m : View) → LogRuns m → Reads m → waits m.end ≡ [] → LogsNothing a m → (f k : ℕ) (bytes : List ℕ) → logs.Changed a f k → block_in (content a) f k ≡ bytes → IsNewestSealed m f k bytes
+newest a m runs read nothing s f k bytes changed is =
+    changed_newest m runs read nothing f k bytes (λ none. changed (ap (λ (l : List Entry). last_after f k (after_last is_control (live_of l))) (sym s.entries_same) ∙ none)) (ap (λ (c : Content). block_in c f k) s.content_same ∙ is)
 
 module _ {S : Type 0} (g : Ghosts S) (r : Running S) (u : IsUsable g r) (p : Pool) where
   -- the same pool
@@ -98,6 +109,9 @@ module _ {S : Type 0} (g : Ghosts S) (r : Running S) (u : IsUsable g r) (p : Poo
 
     pub changed : x.dirty ≡ true → IsTrue g.tells → logs.Changed (view_of g r.log) id.file id.block
     changed dirty t = ((u.goes t).holds id.file id.block).changed (frame_seen x) frame_at dirty
+
+    pub held_block : IsTrue g.tells → block_in (content (view_of g r.log)) id.file id.block ≡ x.block.0
+    held_block t = sym ((((u.goes t).holds id.file id.block).held (frame_seen x) frame_at).1)
 
   pub usable_back : (id : BlockId) (block : Block) → GivesUp id (framed block true) r.pool p → (l : Log S) → telling (view_of g l) ≡ telling (view_of g r.log) → (IsTrue g.tells → LogRuns (view_of g l)) → (IsTrue g.tells → Reads (view_of g r.log))
       → (IsTrue g.tells → WritesBack (view_of g r.log) (view_of g l) id.file id.block block.0) → IsUsable g (record r { log = l; pool = p })

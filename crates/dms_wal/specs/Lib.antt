@@ -3,4 +3,3 @@ pub mod Database
 pub mod Starting
 pub mod Faults
 pub mod Writing
-pub mod Changing

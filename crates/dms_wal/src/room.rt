@@ -3,10 +3,10 @@
 ghost use Rattle.std.specs.Prelude.{◌≡◌, ◌<◌, IfErr, IsTrue, None, OnOk};
 ghost use Rattle.dms_base.specs.Causes.{HasCause};
 ghost use Rattle.dms_moments.specs.Moments.{Steps};
-ghost use Rattle.dms_block.specs.Content.{limit};
+ghost use Rattle.dms_block.specs.Content.{block_in, limit};
 ghost use Rattle.dms_block.specs.Held.{HasCauses, Looks};
 ghost use Rattle.dms_pool.specs.Held.{frame_of};
-ghost use Rattle.dms_restore.specs.Logging.{telling, points, next, Changed, IsSilent, Leaves, LogRuns};
+ghost use Rattle.dms_restore.specs.Logging.{telling, points, next, content, Changed, IsSilent, Leaves, LogRuns};
 ghost use Rattle.dms_wal.specs.Database.{held, view_of};
 ghost use Rattle.dms_wal.specs.Writing.{WritesBack};
 
@@ -15,7 +15,7 @@ use dms_block::{Block, BlockFault, BlockId};
 use dms_restore::Log;
 use dms_site::Site;
 
-/// Seals what waits, and writes a changed block. Doesn't sync the block. Answers Disk alone.
+/// Seals what waits, and writes a changed block as the content has it. Doesn't sync the block. Answers Disk alone.
 pub(crate) fn write_back<S: Site>(
     log: &mut Log<S>,
     id: BlockId,
@@ -25,6 +25,7 @@ pub(crate) fn write_back<S: Site>(
     requires structure { 30000 < id.file }
     requires place { id.block < limit }
     requires changed { IsTrue S.tells → Changed (view_of S.Site log.old) id.file id.block }
+    requires block { IsTrue S.tells → block_in (content (view_of S.Site log.old)) id.file id.block ≡ block.now.0 }
     ensures runs { OnOk result (IsTrue S.tells → LogRuns (view_of S.Site log.new)) }
     ensures back { OnOk result (IsTrue S.tells → WritesBack (view_of S.Site log.old) (view_of S.Site log.new) id.file id.block block.now.0) }
     ensures moments { IsTrue S.tells → let a = view_of S.Site log.old in Leaves a (view_of S.Site log.new) (points a) (next a) }

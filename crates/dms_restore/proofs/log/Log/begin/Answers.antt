@@ -1,7 +1,8 @@
-use Rattle.std.proofs.Common.{refl}
+use Rattle.std.proofs.Common.{Err, refl}
 use Rattle.dms_audrec.specs.Seen.{how_seen}
 use Rattle.dms_restore.proofs.Sizes.{begin_size}
 use Rattle.dms_restore.proofs.Results.{counted_fault}
+use Rattle.dms_restore.proofs.Logs.{full_seals}
 use Rattle.dms_restore.proofs.Beginnings.{kind_is, begin_leave, begin_begun, begin_keeps}
 use Rattle.dms_restore.proofs.log.Log.begin.Goals as goal
 
@@ -33,3 +34,11 @@ append-requires-clause-entry g c = (c.ranges.point.fits, kind_is (how_seen c.arg
 
 pub returns-in-Err-clause-disk : goal.returns-in-Err-clause-disk
 returns-in-Err-clause-disk g c = counted_fault _ _ _ _ c.in-Err.ensures.disk
+
+pub returns-in-Err-clause-kept : goal.returns-in-Err-clause-kept
+returns-in-Err-clause-kept g c full tells =
+    full_seals _ (c.requires.runs tells) (g.met.S.Site.may_stay c.args.self.site tells) _ c.append.ensures.kind.0 refl _
+    (λ first waiting plain ends. c.append.ensures.moments first waiting tells plain ends) (λ first waiting ends. c.in-Err.ensures.kept (λ i. Err (full i)) first waiting tells ends) (g.met.S.Site.may_stay c.append.new.site tells)
+
+pub returns-in-Err-clause-past : goal.returns-in-Err-clause-past
+returns-in-Err-clause-past g c full = c.in-Err.ensures.past (λ i. Err (full i))

@@ -1,7 +1,7 @@
 use Rattle.std.proofs.Common.{refl}
 use Rattle.dms_restore.proofs.Results.{both_ok}
 use Rattle.dms_restore.proofs.Sizes.{quiet_size}
-use Rattle.dms_restore.proofs.Logs.{quiet_leave, quiet_goes, quiet_logs, entry_silent}
+use Rattle.dms_restore.proofs.Logs.{full_seals, quiet_leave, quiet_goes, quiet_logs, entry_silent}
 use Rattle.dms_restore.proofs.log.Log.quiet.Goals as goal
 
 pub returns-clause-moments : goal.returns-clause-moments
@@ -23,3 +23,8 @@ append-requires-clause-size g c = quiet_size c.args.number
 
 pub returns-clause-silent : goal.returns-clause-silent
 returns-clause-silent g c tells = entry_silent _ (c.requires.runs tells) (g.met.S.Site.may_stay c.args.self.now.site tells) _ _ (λ first waiting plain ends. c.append.ensures.moments first waiting tells plain ends)
+
+pub returns-clause-kept : goal.returns-clause-kept
+returns-clause-kept g c full tells =
+    full_seals _ (c.requires.runs tells) (g.met.S.Site.may_stay c.args.self.now.site tells) _ c.append.ensures.kind.0 refl _
+    (λ first waiting plain ends. c.append.ensures.moments first waiting tells plain ends) (λ first waiting ends. c.append.ensures.kept full first waiting tells ends) (g.met.S.Site.may_stay c.append.new.site tells)

@@ -2,7 +2,7 @@ use Rattle.std.proofs.Common.{subst}
 use Rattle.dms_pool.specs.Calls.{GivesUp}
 use Rattle.dms_pool.specs.Held.{framed}
 use Rattle.dms_block.specs.HeldLaws.{used_none}
-use Rattle.dms_wal.proofs.Roomed.{changed, usable_clean}
+use Rattle.dms_wal.proofs.Roomed.{changed, held_block, usable_clean}
 use Rattle.dms_wal.proofs.Rooming.{room_made, disk_failed}
 use Rattle.dms_wal.proofs.Stepped.{looks_sound}
 use Rattle.dms_wal.proofs.running.Running.make_room.Goals as goal
@@ -25,3 +25,6 @@ pub returns-in-Some-default-default-false-clause-looks :
     goal.returns-in-Some-default-default-false-clause-looks
 returns-in-Some-default-default-false-clause-looks g c =
     looks_sound _ 0 _ _ _ tt (usable_clean g.S.Site c.args.self.now c.requires c.evict.new.self _ _ c.in-Some-default-default-false.ensures.gives c.in-Some-default-default-false.field-0-2-test) (used_none 0 0 _)
+
+pub write_back-requires-clause-block : goal.write_back-requires-clause-block
+write_back-requires-clause-block g c tells = held_block g.S.Site c.args.self.now c.requires c.evict.new.self _ _ c.in-Some-default-default-true.ensures.gives tells

@@ -1,0 +1,63 @@
+-- The entries of a trail are read one after another.
+use Rattle.std.proofs.Common.{ℕ, zero, suc, ◌+◌, ◌<◌, ◌≡◌, Bool, List, [], ◌∷◌, ◌++◌, map, length, take, get_or, Some, refl, sym, ◌∙◌, ap, subst, arith}
+use Rattle.std.proofs.lemmas.List.{take_more, take_all, map-append}
+use Rattle.dms_moments.specs.Moments.{Clock, After}
+use Rattle.dms_moments.specs.MomentLaws.{runs_none}
+use Rattle.dms_site.specs.Files.{Files, Left, Same}
+use Rattle.dms_audfile.specs.Reads.{OnlyReads}
+use Rattle.dms_history.specs.Entries.{Entry, quiet_point}
+use Rattle.dms_audfile.specs.Scanning.{Placed, place_in, entry_in}
+use Rattle.dms_audfile.specs.AuditTrail.{entry_there, IsThere, AreThere}
+use Rattle.dms_audfile.specs.declared.place.Place.{Place}
+use Rattle.dms_history.proofs.Picks.{some_is}
+use Rattle.dms_restore.specs.declared.tracing.TrailHistory.{TrailHistory}
+use Rattle.dms_restore.specs.Tracing.{IsTraced}
+
+abbrev pub no_place : Placed
+no_place = record { place = record { file = 0; block = 0; offset = 0 }; entry = quiet_point 0 }
+
+get_place : (ps : List Placed) (i : ℕ) (d : Place) → i < length ps → get_or (map place_in ps) i d ≡ (get_or ps i no_place).place
+get_place [] i d low = absurd (omega (arith, low))
+get_place (p ∷ ps) zero d low = refl
+get_place (p ∷ ps) (suc i) d low = get_place ps i d (omega (arith, low))
+
+there_at : (files : Files) (ps : List Placed) (i : ℕ) → i < length ps → AreThere files ps → IsThere files (get_or ps i no_place)
+there_at files [] i low all = absurd (omega (arith, low))
+there_at files (p ∷ ps) zero low all = all.0
+there_at files (p ∷ ps) (suc i) low all = there_at files ps i (omega (arith, low)) all.1
+
+map_length : (ps : List Placed) → length (map place_in ps) ≡ length ps
+map_length [] = refl
+map_length (p ∷ ps) = ap suc (map_length ps)
+
+entries_more : (ps : List Placed) (i : ℕ) → i < length ps → map entry_in (take (i + 1) ps) ≡ map entry_in (take i ps) ++ (get_or ps i no_place).entry ∷ []
+entries_more ps i low = ap (map entry_in) (take_more ps i no_place low) ∙ map-append entry_in (take i ps) (get_or ps i no_place ∷ [])
+
+pub read_next : (files other : Files) (places : List Place) (i : ℕ) (d : Place) (old new : TrailHistory) → i < length places → other ≡ files
+    → ((entries : List Entry) (e : Entry) → entry_there other (get_or places i d) ≡ Some e → IsTraced other entries old → IsTraced other (entries ++ e ∷ []) new)
+    → (ps : List Placed) → places ≡ map place_in ps → AreThere files ps → IsTraced files (map entry_in (take i ps)) old → IsTraced files (map entry_in (take (i + 1) ps)) new
+read_next files other places i d old new low same step ps are there t =
+    let under : i < length ps = omega (arith, low, ap length are, map_length ps) in
+    let p = get_or ps i no_place in
+    let at : get_or places i d ≡ p.place = ap (λ (l : List Place). get_or l i d) are ∙ get_place ps i d under in
+    let here : entry_there other (get_or places i d) ≡ Some p.entry = (λ j. entry_there (same j) (at j)) ∙ (there_at files ps i under there).there in
+    subst (λ (l : List Entry). IsTraced files l new) (sym (entries_more ps i under))
+    (subst (λ (f : Files). IsTraced f (map entry_in (take i ps) ++ p.entry ∷ []) new) same
+    (step (map entry_in (take i ps)) p.entry here (subst (λ (f : Files). IsTraced f (map entry_in (take i ps)) old) (sym same) t)))
+
+pub read_all : (files : Files) (places : List Place) (i : ℕ) (h : TrailHistory) (ps : List Placed) → length places < i + 1 → places ≡ map place_in ps → IsTraced files (map entry_in (take i ps)) h → IsTraced files (map entry_in ps) h
+read_all files places i h ps le are t = subst (λ (l : List Placed). IsTraced files (map entry_in l) h) (take_all i ps (omega (arith, le, ap length are, map_length ps))) t
+
+-- the entry that was read is the one that stands there
+pub read_is : (files : Files) (entries : List Entry) (e seen : Entry) (old new : TrailHistory) → Some seen ≡ Some e → (IsTraced files entries old → IsTraced files (entries ++ seen ∷ []) new) → IsTraced files entries old → IsTraced files (entries ++ e ∷ []) new
+read_is files entries e seen old new is step t = subst (λ (x : Entry). IsTraced files (entries ++ x ∷ []) new) (some_is seen e is) (step t)
+
+-- nothing was read yet
+pub reads_none : (tells : Bool) (files : Files) (text : List ℕ) (clock : Clock Left) (disk say : ℕ) → OnlyReads tells files files text text clock clock disk disk say say
+reads_none tells files text clock disk say = record {
+  files_stay = λ yes_is. refl;
+  text_stays = refl;
+  moments = record { follows = λ x now. (x, now, refl); runs = runs_none clock (After clock Same) };
+  later = omega arith;
+  say_faults = refl;
+}

@@ -1,0 +1,14 @@
+use Rattle.std.proofs.Common.{◌≡◌, Option, Some, sym, ◌∙◌, ap}
+use Rattle.std.specs.Prelude.{option_map}
+use Rattle.dms_history.specs.Entries as meaning
+use Rattle.dms_audrec.specs.Seen.{entry_seen}
+use Rattle.dms_audfile.specs.AuditTrail.{entry_there}
+use Rattle.dms_restore.proofs.ReadOn.{read_is}
+use Rattle.dms_restore.proofs.reading.read_one.Goals as goal
+
+pub returns-in-Ok-add-clause-added : goal.returns-in-Ok-add-clause-added
+returns-in-Ok-add-clause-added g c tells current entries e there t =
+    let files = g.S.Site.files c.args.site.now in
+    let seen : entry_there files c.args.place.now ≡ Some (entry_seen c.in-Some.entry) =
+    sym (c.entry.ensures.there files (c.in-Ok.ensures.holds tells current)) ∙ ap (option_map entry_seen) c.in-Some.is in
+    read_is files entries e (entry_seen c.in-Some.entry) c.args.history.now c.add.new.self (sym seen ∙ there) (λ s. c.in-Ok-add.ensures files entries seen s) t

@@ -1,0 +1,104 @@
+//! The table of what the audit tells of each block at a point.
+
+ghost use Rattle.std.specs.Prelude.{◌≡◌, ◌⊎◌, ◌++◌, [], ◌∷◌, ℕ, List, Some, None, option_map, OnOk, IfOk, IfErr, IsTrue};
+ghost use Rattle.dms_site.specs.Files.{Files};
+ghost use Rattle.dms_history.specs.Events.{Event};
+ghost use Rattle.dms_history.specs.Lists.{until_first, after_first, after_last};
+ghost use Rattle.dms_history.specs.Places.{is_control, is_point};
+ghost use Rattle.dms_history.specs.Images.{or_else, last_after, first_before};
+ghost use Rattle.dms_restore.specs.declared.live.Spot as spot;
+ghost use Rattle.dms_restore.specs.LiveEntries.{events_at, AllHaveWholeBlocks};
+ghost use Rattle.dms_restore.specs.Named.{spot_of, named, AllFromSpots};
+ghost use Rattle.dms_restore.specs.Table.{IsBlock, AreBlocks, IsAmong, IsTable};
+
+use crate::naming::{note_redo, note_undo, take_first};
+use crate::placing::after_control;
+use crate::{LiveEntry, Spot, Told};
+use dms_audfile::AudFault;
+use std::alloc::{AllocError, Global};
+use std::collections::BTreeMap;
+
+/// Whether this is a block of a structure file, and its bytes stand in a file that is none.
+fn is_block(told: &Told) -> bool
+    ensures { IsTrue result → IsBlock told.now }
+{
+    30000 < told.file && told.block < 2097152 && told.audit <= 30000 && told.at < 1099511626752
+}
+
+/// Adds a block to a table. Damaged where it is no block of a structure file, or its bytes can't stand where it says.
+fn add_told(table: &mut Vec<Told>, file: u32, block: u32, spot: Spot) -> Result<(), AudFault>
+    requires blocks { AreBlocks table.old.items }
+    ensures blocks { OnOk result (AreBlocks table.new.items) }
+    ensures added { OnOk result (table.new.items ≡ table.old.items ++ record { file = file; block = block; audit = spot.audit; at = spot.at } ∷ []) }
+    ensures only { IfErr result (λ e. (e ≡ AudFault.Memory) ⊎ (e ≡ AudFault.Damaged spot.audit 0)) }
+{
+    let told = Told {
+        file,
+        block,
+        audit: spot.audit,
+        at: spot.at,
+    };
+    if is_block(&told) {
+        match table.push(told) {
+            Ok(()) => Ok(()),
+            Err(_) => Err(AudFault::Memory),
+        }
+    } else {
+        Err(AudFault::Damaged(spot.audit, 0))
+    }
+}
+
+/// The blocks that have a place, as a table.
+fn list_told(
+    alloc: Global,
+    spots: BTreeMap<(u32, u32), Option<Spot>>,
+) -> Result<Vec<Told>, AudFault>
+    ensures blocks { IfOk result (λ v. AreBlocks v.items) }
+    ensures each { IfOk result (λ v. AllFromSpots spots v.items) }
+    ensures only { IfErr result (λ e. (e ≡ AudFault.Memory) ⊎ ((k : ℕ) × (e ≡ AudFault.Damaged k 0))) }
+    ensures all { IfOk result (λ v. (f b : ℕ) (s : spot.Spot) → spot_of spots f b ≡ Some (Some s) → IsAmong f b v.items) }
+{
+    let mut table = Vec::new(alloc);
+    let mut left = spots;
+    while let Some((key, place)) = take_first(&mut left) {
+        match place {
+            Some(spot) => add_told(&mut table, key.0, key.1, spot)?,
+            None => {}
+        }
+    }
+    Ok(table)
+}
+
+/// The places of the blocks that live entries name: those up to a point, and those behind it.
+fn spots_of(
+    alloc: Global,
+    front: &[LiveEntry],
+    behind: &[LiveEntry],
+) -> Result<BTreeMap<(u32, u32), Option<Spot>>, AllocError>
+    ensures { IfOk result (λ m. (files : Files) (f b : ℕ) → named files m f b ≡ or_else (option_map (λ x. Some x) (last_after f b (after_last is_control (events_at files front.now)))) (first_before f b (events_at files behind.now))) }
+{
+    let mut spots = BTreeMap::new(alloc);
+    note_redo(&mut spots, &front[after_control(front)..])?;
+    note_undo(&mut spots, behind)?;
+    Ok(spots)
+}
+
+/// What the audit tells of each block at a point, and of no other: `front` are the live entries up to the place of the point, `behind`
+/// those behind it. A block that is new behind the point, and those that no entry names, are left as they stand.
+///
+/// Reads no file. Answers Memory, and Damaged where an Image isn't of a block of a structure file.
+pub fn table_of(
+    alloc: Global,
+    front: &[LiveEntry],
+    behind: &[LiveEntry],
+) -> Result<Vec<Told>, AudFault>
+    ensures blocks { IfOk result (λ v. AreBlocks v.items) }
+    ensures table { IfOk result (λ v. (files : Files) (live : List Event) (m : ℕ) → until_first (is_point m) live ≡ events_at files front.now → after_first (is_point m) live ≡ events_at files behind.now
+        → AllHaveWholeBlocks files front.now → AllHaveWholeBlocks files behind.now → IsTable live m files v.items) }
+    ensures only { IfErr result (λ e. (e ≡ AudFault.Memory) ⊎ ((k : ℕ) × (e ≡ AudFault.Damaged k 0))) }
+{
+    match spots_of(alloc, front, behind) {
+        Ok(spots) => list_told(alloc, spots),
+        Err(_) => Err(AudFault::Memory),
+    }
+}
