@@ -1,17 +1,16 @@
 -- A block that was written, and the frames.
-use Rattle.std.proofs.Common.{ℕ, ◌*◌, ◌+◌, ◌<◌, ◌≤◌, ◌≡◌, true, false, List, length, Option, Some, None, refl, sym, ◌∙◌, ap, subst, arith}
+use Rattle.std.proofs.Common.{ℕ, ◌*◌, ◌+◌, ◌<◌, ◌≤◌, ◌≡◌, true, List, length, Some, None, sym, ◌∙◌, ap, subst}
 use Rattle.dms_site.specs.Files.{Files, with_file, overlaid, InFile, Torn, stored_of}
 use Rattle.dms_site.specs.Laws.{torn_overlaid, in_file_with}
 use Rattle.dms_site.specs.StoredLaws.{stored_whole, stored_apart, stored_written}
 use Rattle.dms_history.specs.Events.{Content, Stored, block_in}
 use Rattle.dms_history.specs.Sizes.{AllSized}
 use Rattle.dms_running.specs.Telling.{Telling}
-use Rattle.dms_running.specs.Running.{State, content_now}
-use Rattle.dms_running.specs.Frames.{Frame, Frames, Holds, HoldsOne, with_frame}
+use Rattle.dms_running.specs.Running.{content_now}
+use Rattle.dms_running.specs.Frames.{Frames, Holds, HoldsOne, with_frame}
 use Rattle.dms_running.proofs.Appending.{now_runs, content_is}
 use Rattle.dms_running.proofs.MayRun.{content_sized}
 use Rattle.dms_running.proofs.Framed.{holds_with}
-use Rattle.dms_restore.specs.Logging as logs
 use Rattle.dms_restore.specs.Logging.{View, telling, state, content, entries, LogRuns, LogsNothing, LogsWrite}
 use Rattle.dms_restore.proofs.Logs as lemmas
 use Rattle.dms_restore.proofs.Logs.{Reads}

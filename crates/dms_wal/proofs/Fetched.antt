@@ -1,12 +1,12 @@
 -- A block is read from its file, and held.
-use Rattle.std.proofs.Common.{ℕ, zero, suc, ◌+◌, ◌-◌, ◌*◌, ◌<◌, ◌≤◌, ◌≡◌, ◌++◌, true, false, IsTrue, List, [], ◌∷◌, length, drop, get_or, Option, Some, None, inl, inr, refl, sym, ◌∙◌, ap, subst, arith}
-use Rattle.std.specs.Prelude.{option_map, OnOk, OnErr, nat_lt, nat_le, ◌&&◌}
+use Rattle.std.proofs.Common.{ℕ, zero, suc, ◌+◌, ◌-◌, ◌*◌, ◌<◌, ◌≤◌, ◌≡◌, ◌++◌, false, IsTrue, List, [], ◌∷◌, length, drop, get_or, Option, Some, None, inl, inr, refl, sym, ◌∙◌, ap, subst, arith}
+use Rattle.std.specs.Prelude.{option_map, OnOk, OnErr}
 use Rattle.std.specs.declared.result.Result.{Result}
 use Rattle.std.specs.declared.result.Result.TheVariants.{Ok, Err}
 use Rattle.std.proofs.lemmas.Bool.{cases_lt}
 use Rattle.std.proofs.lemmas.Bool.Decides.{nat_tests}
 use Rattle.dms_base.specs.declared.Memory.{Memory}
-use Rattle.dms_moments.specs.Moments.{Clock, Now, Steps}
+use Rattle.dms_moments.specs.Moments.{Now, Steps}
 use Rattle.dms_moments.specs.MomentLaws.{steps_weaken}
 use Rattle.dms_site.specs.declared.site.Site.{Ghosts}
 use Rattle.dms_site.specs.Files.{Left, Same, range, stored_of}
@@ -14,14 +14,13 @@ use Rattle.dms_site.specs.StoredLaws.{stored_at}
 use Rattle.dms_block.specs.declared.block.Block.{Block}
 use Rattle.dms_block.specs.declared.block.BlockId.{BlockId}
 use Rattle.dms_block.specs.Content.{block_in}
-use Rattle.dms_block.specs.Held.{IsShort}
 use Rattle.dms_history.specs.Events.{Content}
 use Rattle.dms_history.proofs.Picks.{some_is}
 use Rattle.dms_pool.specs.declared.pool.Pool.{Pool}
 use Rattle.dms_pool.specs.declared.frame.Frame as pools
 use Rattle.dms_pool.specs.Calls.{PutsFrame, SamePool, Looked}
 use Rattle.dms_pool.specs.Held.{frame_of, framed}
-use Rattle.dms_running.specs.Frames.{Frame, Holds, with_frame}
+use Rattle.dms_running.specs.Frames.{Holds, with_frame}
 use Rattle.dms_running.proofs.Framed.{holds_read}
 use Rattle.dms_running.proofs.Looking.{look_leaves}
 use Rattle.dms_restore.specs.declared.log.Log.{Log}
@@ -30,9 +29,9 @@ use Rattle.dms_restore.specs.Logging.{telling, state, points, content, IsSilent}
 use Rattle.dms_restore.proofs.Writing.{filled_whole}
 use Rattle.dms_wal.specs.declared.running.Running.{Running}
 use Rattle.dms_wal.specs.Lifting.{count_of, owns_of}
-use Rattle.dms_wal.specs.Database.{view_of, frame_seen, frames_of, held, IsUsable}
+use Rattle.dms_wal.specs.Database.{view_of, frame_seen, frames_of, IsUsable}
 use Rattle.dms_wal.proofs.Pooled.{holds_like, frames_put, counted_put, frames_looked, counted_looked}
-use Rattle.dms_wal.proofs.Stills.{KeepsFiles, goes_still}
+use Rattle.dms_wal.proofs.Stills.{goes_still}
 use Rattle.dms_wal.proofs.Stepped.{in_table}
 use Rattle.dms_wal.proofs.Roomed.{usable_same}
 

@@ -1,9 +1,9 @@
 -- What calls of a log leave of it, as blocks see it.
-use Rattle.std.proofs.Common.{ℕ, zero, suc, ◌+◌, ◌≤◌, ◌≡◌, ◌⊎◌, inl, inr, ⊎_elim, Bool, IsTrue, List, [], ◌∷◌, ◌++◌, length, length-take, take, map, Option, Some, refl, sym, ◌∙◌, ap, subst, arith}
+use Rattle.std.proofs.Common.{ℕ, zero, suc, ◌+◌, ◌≤◌, ◌≡◌, inl, inr, ⊎_elim, Bool, IsTrue, List, [], ◌∷◌, ◌++◌, length, length-take, take, map, Option, Some, refl, sym, ◌∙◌, ap, subst, arith}
 use Rattle.std.specs.Prelude.{◌&&◌, nat_lt, nat_le}
-use Rattle.std.proofs.lemmas.List.{length-map, map-append}
+use Rattle.std.proofs.lemmas.List.{length-map}
 use Rattle.dms_moments.specs.Moments.{Clock, Now, Runs, Steps}
-use Rattle.dms_moments.specs.MomentLaws.{runs_weaken, runs_none}
+use Rattle.dms_moments.specs.MomentLaws.{runs_weaken}
 use Rattle.dms_moments.specs.SeenLaws.{runs_seen_as, now_seen_as, runs_below_as}
 use Rattle.dms_site.specs.Files.{Left}
 use Rattle.dms_block.specs.Content.{Content}
@@ -12,7 +12,7 @@ use Rattle.dms_block.specs.Held.{Held, BlockPoint, BlockStop, Uses, Prefix, Text
 use Rattle.dms_history.specs.Points.{LivePoint}
 use Rattle.dms_running.specs.Telling.{Telling}
 use Rattle.dms_running.specs.Standing.{IsWhole}
-use Rattle.dms_running.specs.Points.{LeavesPointsPrefix, points_of, next_in}
+use Rattle.dms_running.specs.Points.{LeavesPointsPrefix, points_of}
 use Rattle.dms_running.proofs.Appending.{now_leaves, points_enough}
 use Rattle.dms_restore.specs.Logging as logs
 use Rattle.dms_restore.specs.Logging.{View, telling, state, points, durable, here, content, LogRuns, IsSilent}

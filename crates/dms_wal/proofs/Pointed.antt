@@ -1,13 +1,12 @@
 -- Quiet points, syncs and printing, as blocks see them.
-use Rattle.std.proofs.Common.{ℕ, ◌+◌, ◌^◌, ◌<◌, ◌≤◌, ◌≡◌, Bool, IsTrue, List, [], ◌∷◌, ◌++◌, length, take, map, Option, Some, refl, sym, ◌∙◌, ap, subst, arith}
+use Rattle.std.proofs.Common.{ℕ, ◌+◌, ◌≤◌, ◌≡◌, Bool, IsTrue, List, [], ◌∷◌, ◌++◌, length, take, map, Option, refl, sym, ◌∙◌, ap, subst, arith}
 use Rattle.std.proofs.lemmas.List.{length-map, map-append}
 use Rattle.dms_moments.specs.Moments.{Clock, Now, Runs, Steps}
 use Rattle.dms_moments.specs.MomentLaws.{runs_weaken}
 use Rattle.dms_moments.specs.SeenLaws.{runs_seen_as}
 use Rattle.dms_site.specs.Files.{Files, Left, PrintsPartOf}
 use Rattle.dms_block.specs.Counts.{Faults}
-use Rattle.dms_block.specs.Held.{Held, BlockPoint, BlockStop, HasNextNumber, IfTold, Leaves, LeavesText, MadeDurable, MadeQuiet, Prefix, TextGrows, Uses}
-use Rattle.dms_history.specs.Points.{LivePoint}
+use Rattle.dms_block.specs.Held.{Held, BlockPoint, HasNextNumber, IfTold, Leaves, MadeDurable, MadeQuiet, Prefix, TextGrows, Uses}
 use Rattle.dms_running.specs.Points.{LeavesPointsPrefix, points_of, next_in}
 use Rattle.dms_running.specs.Standing.{IsWhole}
 use Rattle.dms_running.proofs.Appending.{now_leaves}
@@ -16,7 +15,7 @@ use Rattle.dms_restore.specs.Logging.{View, view, telling, state, points, durabl
 use Rattle.dms_restore.proofs.Logs as lemmas
 use Rattle.dms_restore.proofs.Logs.{Reads}
 use Rattle.dms_wal.specs.Lifting.{point_under, stop_of, lifted, last_blocks, held_of}
-use Rattle.dms_wal.proofs.Lifts.{TellsText, front_lifted, leaves_lifted, last_here, stays_by}
+use Rattle.dms_wal.proofs.Lifts.{TellsText, front_lifted, leaves_lifted, last_here}
 
 -- there is no further number
 pub quiet_none : (a : Held) → a.sound → (HasNextNumber a → ⊥) → MadeQuiet a a

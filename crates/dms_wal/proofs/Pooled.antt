@@ -10,7 +10,7 @@ use Rattle.dms_pool.specs.Calls.{GivesUp, IsEmpty, Looked, PutsFrame}
 use Rattle.dms_history.proofs.Picks.{place_cases}
 use Rattle.dms_running.specs.Telling.{Telling}
 use Rattle.dms_running.specs.Running.{State}
-use Rattle.dms_running.specs.Frames.{Frame, Frames, Holds, HoldsOne, with_frame}
+use Rattle.dms_running.specs.Frames.{Frames, Holds, HoldsOne, with_frame}
 use Rattle.dms_wal.specs.Lifting.{count_of}
 use Rattle.dms_wal.specs.Database.{frame_seen, frames_of, HoldsCounted}
 

@@ -1,21 +1,20 @@
 -- A database that runs on: after a call that keeps its files, and after calls of its log.
-use Rattle.std.proofs.Common.{ℕ, ◌+◌, ◌<◌, ◌≤◌, ◌≡◌, ◌^◌, List, [], ◌∷◌, ◌++◌, length, take, Option, None, refl, sym, ◌∙◌, ap, subst, arith}
+use Rattle.std.proofs.Common.{ℕ, ◌+◌, ◌<◌, ◌≡◌, ◌^◌, List, [], ◌∷◌, ◌++◌, length, take, None, refl, sym, ◌∙◌, ap, subst, arith}
 use Rattle.dms_moments.specs.Moments.{Clock, Steps}
 use Rattle.dms_site.specs.Files.{Files, Left, stored_of}
-use Rattle.dms_block.specs.declared.block.BlockId.{BlockId}
-use Rattle.dms_history.specs.Events.{Content, Event, quiet, block_in}
+use Rattle.dms_history.specs.Events.{Content, Event, quiet}
 use Rattle.dms_history.specs.Lists.{after_last}
 use Rattle.dms_history.specs.Places.{is_control}
 use Rattle.dms_history.specs.Images.{last_after}
 use Rattle.dms_history.specs.Entries.{Entry, quiet_point}
-use Rattle.dms_history.specs.EntryEvents.{live_of, next_of}
+use Rattle.dms_history.specs.EntryEvents.{live_of}
 use Rattle.dms_history.proofs.Picks.{last_append}
 use Rattle.dms_history.proofs.Runs.{after_push}
 use Rattle.dms_pool.specs.declared.pool.Pool.{Pool}
 use Rattle.dms_running.specs.Telling.{Telling}
 use Rattle.dms_running.specs.Standing.{MayRun}
-use Rattle.dms_running.specs.Running.{State, entries_now, content_now, IsRunning, IsChanged, AllWritten}
-use Rattle.dms_running.specs.Frames.{Frame, Frames, Holds}
+use Rattle.dms_running.specs.Running.{entries_now, content_now, IsChanged}
+use Rattle.dms_running.specs.Frames.{Frames, Holds}
 use Rattle.dms_running.proofs.Appending.{now_runs}
 use Rattle.dms_running.proofs.Framed.{holds_same, holds_none}
 use Rattle.dms_running.proofs.MayRun.{live_quiet}
@@ -23,7 +22,6 @@ use Rattle.dms_restore.specs.Logging as logs
 use Rattle.dms_restore.specs.Logging.{View, view, telling, state, content, entries, LogRuns, LogsNothing, LogsQuiet}
 use Rattle.dms_restore.proofs.Logs as lemmas
 use Rattle.dms_restore.proofs.Logs.{Reads}
-use Rattle.dms_wal.specs.Lifting.{count_of}
 use Rattle.dms_wal.specs.Database.{GoesWith, frames_of}
 use Rattle.dms_wal.specs.Starting.{StartsFrom}
 use Rattle.dms_wal.proofs.Pooled.{holds_like, frames_empty}

@@ -1,17 +1,17 @@
 -- Quiet points, syncs and printing of a running database.
-use Rattle.std.proofs.Common.{ℕ, ◌+◌, ◌^◌, ◌<◌, ◌≤◌, ◌≡◌, ◌++◌, Bool, cond, IsTrue, List, [], ◌∷◌, length, Option, Some, None, refl, sym, ◌∙◌, ap, subst, arith}
-use Rattle.dms_moments.specs.Moments.{Clock, Now, Runs, Steps}
+use Rattle.std.proofs.Common.{ℕ, ◌+◌, ◌^◌, ◌<◌, ◌≤◌, ◌≡◌, ◌++◌, Bool, cond, IsTrue, List, [], ◌∷◌, length, Some, None, refl, sym, ap, subst, arith}
+use Rattle.dms_moments.specs.Moments.{Now, Steps}
 use Rattle.dms_moments.specs.MomentLaws.{steps_weaken}
 use Rattle.dms_site.specs.declared.site.Site.{Ghosts}
 use Rattle.dms_site.specs.Files.{Files, Left, PrintsPartOf}
-use Rattle.dms_block.specs.Held.{BlocksAgree, HasNextNumber, IfTold, Leaves, LeavesText, MadeDurable, MadeQuiet, MakesNoPoint, Stays}
+use Rattle.dms_block.specs.Held.{BlocksAgree, IfTold, Leaves, LeavesText, MadeDurable, MadeQuiet, MakesNoPoint, Stays}
 use Rattle.dms_restore.specs.declared.log.Log.{Log}
 use Rattle.dms_restore.specs.Logging as logs
 use Rattle.dms_restore.specs.Logging.{telling_of, telling, view, points, durable, here, LogRuns, IsSilent, LogsNothing, LogsQuiet}
 use Rattle.dms_wal.specs.declared.running.Running.{Running}
 use Rattle.dms_wal.specs.Database.{held, view_of, said_of, faults_of, uses_of, IsUsable}
-use Rattle.dms_wal.proofs.Lifts.{TellsText, agrees_by, passes_by, stays_by, surer}
-use Rattle.dms_wal.proofs.Stills.{KeepsFiles, goes_still, goes_sealed, goes_quiet}
+use Rattle.dms_wal.proofs.Lifts.{agrees_by, passes_by, stays_by, surer}
+use Rattle.dms_wal.proofs.Stills.{goes_still, goes_sealed, goes_quiet}
 use Rattle.dms_wal.proofs.Pointed.{quiet_made, quiet_leaves, sync_made, say_leaves}
 use Rattle.dms_wal.proofs.Stepped.{text}
 

@@ -1,5 +1,5 @@
 -- What a running database tells, and what it is between two calls.
-use Rattle.std.specs.Prelude.{ℕ, ◌<◌, ◌≡◌, Bool, true, false, List, if◌then◌else◌, length, IsTrue, Some, None, option_map}
+use Rattle.std.specs.Prelude.{ℕ, ◌<◌, ◌≡◌, false, List, if◌then◌else◌, length, IsTrue, Some, None, option_map}
 use Rattle.std.specs.declared.option.Option.{Option}
 use Rattle.dms_site.specs.declared.site.Site.{Ghosts}
 use Rattle.dms_block.specs.declared.block.BlockId.{BlockId}

@@ -1,5 +1,5 @@
 -- A log over its site as blocks tell it: points, stops, counts of blocks.
-use Rattle.std.specs.Prelude.{ℕ, ◌+◌, ◌-◌, ◌≤◌, ◌&&◌, Bool, List, [], ◌∷◌, if◌then◌else◌, map, length, nat_lt, nat_le, slice_index_or, IsTrue, Some, None}
+use Rattle.std.specs.Prelude.{ℕ, ◌+◌, ◌-◌, ◌≤◌, ◌&&◌, Bool, List, [], ◌∷◌, if◌then◌else◌, map, length, nat_lt, nat_le, slice_index_or, IsTrue}
 use Rattle.std.specs.declared.option.Option.{Option}
 use Rattle.dms_moments.specs.Moments.{Clock, seen_as}
 use Rattle.dms_site.specs.Files.{Left}

@@ -1,4 +1,4 @@
-use Rattle.std.proofs.Common.{ℕ, replicate, refl, arith}
+use Rattle.std.proofs.Common.{ℕ, replicate, arith}
 use Rattle.std.proofs.lemmas.List.{length-replicate}
 use Rattle.dms_wal.proofs.Fetched.{fetched, not_whole, owned_by}
 use Rattle.dms_wal.proofs.Rooming.{looks_looked}
