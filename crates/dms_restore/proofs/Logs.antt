@@ -1,6 +1,7 @@
 -- Calls on the log of a running database.
 use Rattle.std.proofs.Common.{ℕ, ◌+◌, ◌*◌, ◌^◌, ◌<◌, ◌≡◌, List, [], ◌∷◌, ◌++◌, length, drop, Option, Some, None, refl, sym, ◌∙◌, ap, subst, arith, append_assoc}
 use Rattle.dms_moments.specs.Moments.{Clock, Now, Steps}
+use Rattle.dms_moments.specs.MomentLaws.{steps_weaken}
 use Rattle.dms_site.specs.Files.{Files, Left, InFile, Torn, OnDisk}
 use Rattle.dms_history.specs.Events.{Block}
 use Rattle.dms_history.specs.Replay.{TellsBefore}
@@ -17,7 +18,7 @@ use Rattle.dms_running.proofs.Appending.{log_leaves, log_runs, log_next, log_poi
 use Rattle.dms_running.proofs.Early.{early_leaves, early_runs, early_points, early_next, early_content, early_durable, later_all}
 use Rattle.dms_running.proofs.Stopped.{joined, blocks_same}
 use Rattle.dms_running.proofs.NoRoom.{full_runs, full_entries, full_points, full_content, full_durable}
-use Rattle.dms_restore.specs.Logging.{telling_of, waits, View, view, telling, state, Ends, LogRuns, points, durable, here, next, content, IsNewestSealed, SealsWaiting, LogsImage, LogsQuiet, LogsNothing, LogsWrite}
+use Rattle.dms_restore.specs.Logging.{telling_of, waits, View, view, telling, state, Ends, LogRuns, points, durable, here, next, content, IsSilent, IsNewestSealed, SealsWaiting, LogsImage, LogsQuiet, LogsNothing, LogsWrite}
 use Rattle.dms_restore.proofs.Trails.{is_telling, first_low, waits_is, ends_waiting, plain_waits, seals_as, appended_as, sealed_as, settled_as, ends_written}
 
 some_not_none : (x : Block) → Some x ≡ None → ⊥
@@ -38,6 +39,14 @@ module _ (a : View) (r : LogRuns a) (read : Reads a) where
   pub entry_steps : (e : Entry) (later : Clock Left) → ((first : ℕ) (waiting : List Entry) → AreNoBegins waiting → EndsAt a.end first waiting a.files a.clock → Steps (ends.Seals a.end.total a.end.tag first (waiting ++ e ∷ [])) a.clock later)
       → Steps (Seals (telling a) (waits a.end ++ e ∷ [])) a.clock later
   entry_steps e later steps = seals_as a.end.total a.end.tag a.first (waits a.end ++ e ∷ []) a.clock later (steps a.first (waits a.end) plain r.ends)
+
+  -- nothing is printed meanwhile
+  pub entry_silent : (e : Entry) (later : Clock Left) → ((first : ℕ) (waiting : List Entry) → AreNoBegins waiting → EndsAt a.end first waiting a.files a.clock → Steps (ends.Seals a.end.total a.end.tag first (waiting ++ e ∷ [])) a.clock later)
+      → Steps IsSilent a.clock later
+  entry_silent e later steps = steps_weaken (entry_steps e later steps) (λ x y now s. s.said)
+
+  pub sync_silent : (later : Clock Left) → ((first : ℕ) (waiting : List Entry) → EndsAt a.end first waiting a.files a.clock → Steps (ends.Seals a.end.total a.end.tag first waiting) a.clock later) → Steps IsSilent a.clock later
+  sync_silent later steps = steps_weaken (steps a.first (waits a.end) r.ends) (λ x y now s. s.said)
 
   module _ (b : View) (kind : b.end.total ≡ a.end.total) (start : b.first ≡ a.first) where
     pub same_telling : telling a ≡ telling b

@@ -86,6 +86,10 @@ Changed v f b = IsChanged (telling v) (state v) f b
 abbrev pub Leaves : View → View → List LivePoint → ℕ → Type 0
 Leaves a b points next = LeavesPoints (telling a) points next (state a) b.clock
 
+-- nothing is printed
+abbrev pub IsSilent : Left → Left → Type 0
+IsSilent old new = new.said ≡ old.said
+
 -- all entries, those that wait among them
 abbrev pub entries : View → List Entry
 entries v = entries_now (telling v) (state v)

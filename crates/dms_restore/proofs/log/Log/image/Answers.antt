@@ -7,7 +7,7 @@ use Rattle.dms_audfile.specs.Ends.{is_past}
 use Rattle.dms_restore.proofs.Results.{one_ok, both_ok}
 use Rattle.dms_restore.proofs.Trails.{image_seen}
 use Rattle.dms_restore.proofs.Sizes.{image_entry, image_size}
-use Rattle.dms_restore.proofs.Logs.{full_seals, image_leave, image_goes, image_logs}
+use Rattle.dms_restore.proofs.Logs.{full_seals, image_leave, image_goes, image_logs, entry_silent}
 use Rattle.dms_restore.proofs.log.Log.image.Goals as goal
 
 pub returns-clause-moments : goal.returns-clause-moments
@@ -32,6 +32,9 @@ append-requires-clause-entry g c = image_entry c.args.file c.args.block c.args.b
 
 pub append-requires-clause-size : goal.append-requires-clause-size
 append-requires-clause-size g c = image_size c.args.file c.args.block c.args.before c.args.after c.requires.before c.requires.after
+
+pub returns-clause-silent : goal.returns-clause-silent
+returns-clause-silent g c tells = entry_silent _ (c.requires.runs tells) (g.met.S.Site.may_stay c.args.self.now.site tells) _ _ (λ first waiting plain ends. c.append.ensures.moments first waiting tells plain ends)
 
 pub returns-clause-kept : goal.returns-clause-kept
 returns-clause-kept g c full tells =

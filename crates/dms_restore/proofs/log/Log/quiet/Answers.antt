@@ -1,7 +1,7 @@
 use Rattle.std.proofs.Common.{refl}
 use Rattle.dms_restore.proofs.Results.{both_ok}
 use Rattle.dms_restore.proofs.Sizes.{quiet_size}
-use Rattle.dms_restore.proofs.Logs.{full_seals, quiet_leave, quiet_goes, quiet_logs}
+use Rattle.dms_restore.proofs.Logs.{full_seals, quiet_leave, quiet_goes, quiet_logs, entry_silent}
 use Rattle.dms_restore.proofs.log.Log.quiet.Goals as goal
 
 pub returns-clause-moments : goal.returns-clause-moments
@@ -20,6 +20,9 @@ returns-clause-logs g c = both_ok c.append.result c.append.ensures.appends c.app
 
 pub append-requires-clause-size : goal.append-requires-clause-size
 append-requires-clause-size g c = quiet_size c.args.number
+
+pub returns-clause-silent : goal.returns-clause-silent
+returns-clause-silent g c tells = entry_silent _ (c.requires.runs tells) (g.met.S.Site.may_stay c.args.self.now.site tells) _ _ (λ first waiting plain ends. c.append.ensures.moments first waiting tells plain ends)
 
 pub returns-clause-kept : goal.returns-clause-kept
 returns-clause-kept g c full tells =

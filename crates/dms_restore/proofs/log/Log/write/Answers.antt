@@ -1,3 +1,4 @@
+use Rattle.dms_moments.specs.MomentLaws.{steps_weaken}
 use Rattle.dms_restore.proofs.Logs.{early_leave, early_goes, early_keeps, newest_logged}
 use Rattle.dms_restore.proofs.log.Log.write.Goals as goal
 
@@ -14,3 +15,6 @@ pub returns-clause-same : goal.returns-clause-same
 returns-clause-same g c tells =
     early_keeps _ (c.requires.runs tells) (g.met.S.Site.may_stay c.args.self.now.site tells) c.args.file c.args.block c.requires.structure (newest_logged _ c.args.file c.args.block c.args.bytes.now (c.requires.sealed tells)) _ _
     (rw (c.from.ensures, c.requires.size) at (c.write_at.ensures.torn tells)) (rw (c.from.ensures, c.requires.size) at c.write_at.ensures.moments) (g.met.S.Site.may_stay c.write_at.new.self tells)
+
+pub returns-clause-silent : goal.returns-clause-silent
+returns-clause-silent g c tells = steps_weaken c.write_at.ensures.moments (λ x y now s. s.said)

@@ -1,0 +1,11 @@
+pub mod Lifts
+pub mod Pooled
+pub mod Stills
+pub mod Causes
+pub mod Backs
+pub mod Pointed
+pub mod Stepped
+pub mod Roomed
+pub mod Fetched
+pub mod Synced
+pub mod Rooming

@@ -1,0 +1,136 @@
+-- What calls of a log leave of it, as blocks see it.
+use Rattle.std.proofs.Common.{ℕ, zero, suc, ◌+◌, ◌≤◌, ◌≡◌, inl, inr, ⊎_elim, Bool, IsTrue, List, [], ◌∷◌, ◌++◌, length, length-take, take, map, Option, Some, refl, sym, ◌∙◌, ap, subst, arith}
+use Rattle.std.specs.Prelude.{◌&&◌, nat_lt, nat_le}
+use Rattle.std.proofs.lemmas.List.{length-map}
+use Rattle.dms_moments.specs.Moments.{Clock, Now, Runs, Steps}
+use Rattle.dms_moments.specs.MomentLaws.{runs_weaken}
+use Rattle.dms_moments.specs.SeenLaws.{runs_seen_as, now_seen_as, runs_below_as}
+use Rattle.dms_site.specs.Files.{Left}
+use Rattle.dms_block.specs.Content.{Content}
+use Rattle.dms_block.specs.Counts.{Faults}
+use Rattle.dms_block.specs.Held.{Held, BlockPoint, BlockStop, Uses, Prefix, TextIs, Lasts, MakesNoPoint, Stays, BlocksAgree}
+use Rattle.dms_history.specs.Points.{LivePoint}
+use Rattle.dms_running.specs.Telling.{Telling}
+use Rattle.dms_running.specs.Standing.{IsWhole}
+use Rattle.dms_running.specs.Points.{LeavesPointsPrefix, points_of}
+use Rattle.dms_running.proofs.Appending.{now_leaves, points_enough}
+use Rattle.dms_restore.specs.Logging as logs
+use Rattle.dms_restore.specs.Logging.{View, telling, state, points, durable, here, content, LogRuns, IsSilent}
+use Rattle.dms_restore.proofs.Logs as lemmas
+use Rattle.dms_restore.proofs.Logs.{Reads}
+use Rattle.dms_wal.specs.Lifting.{point_under, stop_of, lifted, last_blocks, count_of, held_of}
+
+-- two things that are said of the same time
+pub both_run : {X : Type 0} {a b : Clock X} {P Q : X → Type 0} → Runs a b P → Runs a b Q → Runs a b (λ x. P x × Q x)
+both_run one two = record {
+  later = one.later;
+  only = λ t x le left. ⊎_elim (λ was. inl was) (λ p. ⊎_elim (λ was. inl was) (λ q. inr (p, q)) (two.only t x le left)) (one.only t x le left);
+  keeps = one.keeps;
+}
+
+module _ (schema : List ℕ) where
+  map_take : (n : ℕ) (ps : List LivePoint) → map (point_under schema) (take n ps) ≡ take n (map (point_under schema) ps)
+  map_take zero ps = refl
+  map_take (suc n) [] = refl
+  map_take (suc n) (p ∷ ps) = ap (λ (l : List BlockPoint). point_under schema p ∷ l) (map_take n ps)
+
+  pub front_lifted : (t : Telling) (ps : List LivePoint) (low next : ℕ) (x : Left) → LeavesPointsPrefix t ps low next x → Prefix (IsWhole t) low (map (point_under schema) ps) next (stop_of t schema x)
+  front_lifted t ps low next x p = record {
+    count = p.count;
+    enough = p.enough;
+    within = omega (arith, p.within, length-map ps (point_under schema));
+    is = ap (map (point_under schema)) p.is ∙ map_take p.count ps;
+    not_fallen = omega (arith, p.not_fallen, length-map ps (point_under schema), length-map (points_of t x.files) (point_under schema));
+    whole_files = p.whole;
+  }
+
+  -- no two outcomes of a site are seen as one: what stops leave of the blocks is what they leave of the site
+  stop_one : (t : Telling) (x other : Left) → stop_of t schema other ≡ stop_of t schema x → other ≡ x
+  stop_one t x other e = λ i. record { files = (e i).files; said = (e i).said }
+
+  pub lowered : (t : Telling) (a b : Clock Left) {Q : BlockStop → Type 0} → Runs (lifted t schema a) (lifted t schema b) Q → Runs a b (λ x. Q (stop_of t schema x))
+  lowered t a b run = runs_below_as (stop_of t schema) (stop_one t) run
+
+  -- a stop now leaves this text, where it is told
+  abbrev pub TellsText : Option (List ℕ) → Clock Left → Type 0
+  TellsText said clock = (y : Left) → Now clock y → (s : List ℕ) → said ≡ Some s → y.said ≡ s
+
+  -- what stops leave of a log while nothing is printed
+  pub leaves_lifted : (a b : View) → telling b ≡ telling a → (ps : List LivePoint) (next : ℕ) (said : Option (List ℕ)) → TellsText said a.clock → logs.Leaves a b ps next → Steps IsSilent a.clock b.clock
+      → Runs (lifted (telling a) schema a.clock) (lifted (telling b) schema b.clock) (λ stop. Prefix (IsWhole (telling a)) (durable a) (map (point_under schema) ps) next stop × TextIs said stop)
+  leaves_lifted a b same ps next said text leaves silent =
+      subst (λ (t : Telling). Runs (lifted (telling a) schema a.clock) (lifted t schema b.clock) (λ stop. Prefix (IsWhole (telling a)) (durable a) (map (point_under schema) ps) next stop × TextIs said stop)) (sym same)
+      (runs_seen_as (stop_of (telling a) schema) (runs_weaken (both_run leaves silent.runs)
+      (λ x p. (front_lifted (telling a) ps (durable a) next x p.0, λ s is. p.1.2 ∙ text p.1.0 p.1.1 s is))))
+
+-- no fewer points are durable after a call than before it
+module _ (a b : View) (same : telling b ≡ telling a) (r : LogRuns a) (read : Reads a) (then_ : Reads b) (counts : (t : ℕ) (x : Left) → t ≤ b.clock.now → Now b.clock x → b.clock.left t x) where
+  enough_of : (ps : List LivePoint) (next : ℕ) (x : Left) → LeavesPointsPrefix (telling a) ps (durable a) next x → durable a ≤ length (points_of (telling a) x.files)
+  enough_of ps next x p = omega (arith, p.enough, p.within, ap (λ (l : List LivePoint). length l) p.is, length-take p.count ps)
+
+  pub surer : (ps : List LivePoint) (next : ℕ) → logs.Leaves a b ps next → durable a ≤ durable b
+  surer ps next leaves =
+      let x = then_.0 in
+      let low : durable a ≤ length (points_of (telling a) x.files) =
+      ⊎_elim (λ was. enough_of (points a) (logs.next a) x (now_leaves (telling a) (lemmas.tells a r read) (state a) r.runs read x was)) (λ p. enough_of ps next x p)
+      (leaves.only a.clock.now x (omega arith) (counts a.clock.now x leaves.later then_.1)) in
+      let there : length (points_of (telling b) x.files) ≡ length (points_of (telling a) x.files) = λ i. length (points_of (same i) x.files) in
+      let read_then : length (points_of (telling b) x.files) ≡ length (points_of (telling b) b.files) = λ i. length (points_of (telling b) (then_.2 i)) in
+      omega (arith, low, there, read_then)
+
+last_push : (none : Content) (ps : List LivePoint) (p : LivePoint) → last_blocks none (ps ++ p ∷ []) ≡ p.blocks
+last_push none [] p = refl
+last_push none (q ∷ ps) p = last_push q.blocks ps p
+
+pub last_here : (none : Content) (ps : List LivePoint) (p : LivePoint) → last_blocks none (ps ++ p ∷ []) ≡ p.blocks
+last_here = last_push
+
+module _ (tells : Bool) (sound sound' : Type 0) (a b : View) (schema : List ℕ) (next next' : ℕ) (counts counts' : List ℕ) (said said' : Option (List ℕ)) (faults faults' : Faults) (uses uses' : Uses) where
+  abbrev old : Held
+  old = held_of tells sound a schema next counts said faults uses
+
+  abbrev new : Held
+  new = held_of tells sound' b schema next' counts' said' faults' uses'
+
+  pub lasts_by : telling b ≡ telling a → length counts' ≡ length counts → Lasts old new
+  lasts_by same many = record {
+    told = refl;
+    tells = λ t. t;
+    owns = λ i f. nat_lt 30000 f && nat_le f (30000 + many i);
+    schema = refl;
+    whole = λ files w. subst (λ (t : Telling). IsWhole t files) same w;
+    whole_on = λ files w. subst (λ (t : Telling). IsWhole t files) (sym same) w;
+  }
+
+  pub passes_by : telling b ≡ telling a → length counts' ≡ length counts → next' ≡ next → said' ≡ said → (IsTrue tells → next ≡ logs.next a) → TellsText schema said a.clock
+      → (IsTrue tells → logs.Leaves a b (points a) (logs.next a)) → (IsTrue tells → Steps IsSilent a.clock b.clock) → MakesNoPoint old new
+  passes_by same many nexts saids numbered text leaves silent = record {
+    lasts = lasts_by same many;
+    next = nexts;
+    said = saids;
+    leaves = λ t room. leaves_lifted schema a b same (points a) next said text (subst (λ n. logs.Leaves a b (points a) n) (sym (numbered t)) (leaves t)) (silent t);
+  }
+
+  pub stays_by : sound' → (IsTrue tells → (points b ≡ points a) × (durable a ≤ durable b)) → Stays old new
+  stays_by usable same = record {
+    sound = usable;
+    mark = λ t. ap (last_blocks (λ f. [])) (same t).0;
+    points = λ t room. (ap (map (point_under schema)) (same t).0, (same t).1);
+  }
+
+-- what is told hangs together
+pub agrees_by : (tells : Bool) (sound : Type 0) (v : View) (schema : List ℕ) (next : ℕ) (counts : List ℕ) (said : Option (List ℕ)) (faults : Faults) (uses : Uses)
+    → (IsTrue tells → LogRuns v) → (IsTrue tells → Reads v) → (IsTrue tells → next ≡ logs.next v) → (IsTrue tells → (f : ℕ) → count_of counts f ≡ length (content v f)) → TellsText schema said v.clock
+    → BlocksAgree (held_of tells sound v schema next counts said faults uses)
+agrees_by tells sound v schema next counts said faults uses runs read numbered counted text = record {
+  counted = counted;
+  may_stop = λ t. (stop_of (telling v) schema (read t).0, ((read t).0, (read t).1, refl));
+  stop = λ t room. now_seen_as (stop_of (telling v) schema) v.clock (λ stop. Prefix (IsWhole (telling v)) (durable v) (map (point_under schema) (points v)) next stop × TextIs said stop)
+      (λ x now. (
+        front_lifted schema (telling v) (points v) (durable v) next x
+            (subst (λ n. LeavesPointsPrefix (telling v) (points v) (durable v) n x) (sym (numbered t)) (now_leaves (telling v) (lemmas.tells v (runs t) (read t)) (state v) (runs t).runs (read t) x now)),
+        text x now,
+      ));
+  here = λ t room. (sym (numbered t), λ told. refl);
+  durable = λ t room. omega (arith, points_enough (telling v) (lemmas.tells v (runs t) (read t)) (state v) (runs t).runs (read t), length-map (points v) (point_under schema));
+}

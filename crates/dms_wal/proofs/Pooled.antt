@@ -1,0 +1,69 @@
+-- The frames of a pool after its calls.
+use Rattle.std.proofs.Common.{ℕ, ◌<◌, ◌≡◌, Bool, true, false, cond, inl, inr, List, Option, Some, None, refl, sym, ◌∙◌, ap, subst, arith}
+use Rattle.std.specs.Prelude.{option_map}
+use Rattle.dms_block.specs.declared.block.BlockId.{BlockId}
+use Rattle.dms_pool.specs.declared.frame.Frame as pools
+use Rattle.dms_pool.specs.declared.pool.Pool.{Pool}
+use Rattle.dms_pool.specs.Entries.{is_id}
+use Rattle.dms_pool.specs.Held.{frame_of}
+use Rattle.dms_pool.specs.Calls.{GivesUp, IsEmpty, Looked, PutsFrame}
+use Rattle.dms_history.proofs.Picks.{place_cases}
+use Rattle.dms_running.specs.Telling.{Telling}
+use Rattle.dms_running.specs.Running.{State}
+use Rattle.dms_running.specs.Frames.{Frames, Holds, HoldsOne, with_frame}
+use Rattle.dms_wal.specs.Lifting.{count_of}
+use Rattle.dms_wal.specs.Database.{frame_seen, frames_of, HoldsCounted}
+
+none_not_some : {A : Type 0} (x : A) → None ≡ Some x → ⊥
+none_not_some x e = absurd cc
+
+map_if : (t : Bool) (o p : Option pools.Frame) → option_map frame_seen (cond t o p) ≡ cond t (option_map frame_seen o) (option_map frame_seen p)
+map_if true o p = refl
+map_if false o p = refl
+
+-- frames that are the same at each block
+pub holds_like : (t : Telling) (s : State) (frames other : Frames) → ((g c : ℕ) → other g c ≡ frames g c) → Holds t s frames → Holds t s other
+holds_like t s frames other same h g c = subst (HoldsOne t s g c) (sym (same g c)) (h g c)
+
+module _ (id : BlockId) (x : pools.Frame) (old new : Pool) where
+  pub frames_put : PutsFrame id x old new → (g c : ℕ) → frames_of new g c ≡ with_frame (frames_of old) id.file id.block (Some (frame_seen x)) g c
+  frames_put p g c =
+      let at : BlockId = record { file = g; block = c } in
+      ap (λ (o : Option pools.Frame). option_map frame_seen o) (p.holds at) ∙ map_if (is_id at id) (Some x) (frame_of at old)
+
+  pub frames_up : GivesUp id x old new → (g c : ℕ) → frames_of new g c ≡ with_frame (frames_of old) id.file id.block None g c
+  frames_up p g c =
+      let at : BlockId = record { file = g; block = c } in
+      ap (λ (o : Option pools.Frame). option_map frame_seen o) (p.holds at) ∙ map_if (is_id at id) None (frame_of at old)
+
+  pub counted_put : (counts : List ℕ) → PutsFrame id x old new → HoldsCounted old counts → id.block < count_of counts id.file → HoldsCounted new counts
+  counted_put counts p h low other y is = elim (place_cases id.file id.block other.file other.block) [
+    | inl place ↦ omega (arith, low, place.1, ap (λ f. count_of counts f) place.0)
+    | inr apart ↦ h other y (sym (ap (λ k. cond k (Some x) (frame_of other old)) apart.1) ∙ sym (p.holds other) ∙ is)
+  ]
+
+  pub counted_up : (counts : List ℕ) → GivesUp id x old new → HoldsCounted old counts → HoldsCounted new counts
+  counted_up counts p h other y is = elim (place_cases id.file id.block other.file other.block) [
+    | inl place ↦ absurd (none_not_some y (sym (ap (λ k. cond k None (frame_of other old)) place.2) ∙ sym (p.holds other) ∙ is))
+    | inr apart ↦ h other y (sym (ap (λ k. cond k None (frame_of other old)) apart.1) ∙ sym (p.holds other) ∙ is)
+  ]
+
+  -- what isn't held before isn't held then
+  pub fewer_up : GivesUp id x old new → (other : BlockId) → frame_of other old ≡ None → frame_of other new ≡ None
+  fewer_up p other none = elim (place_cases id.file id.block other.file other.block) [
+    | inl place ↦ p.holds other ∙ ap (λ k. cond k None (frame_of other old)) place.2
+    | inr apart ↦ p.holds other ∙ ap (λ k. cond k None (frame_of other old)) apart.1 ∙ none
+  ]
+
+module _ (id : BlockId) (old new : Pool) (l : Looked id old new) where
+  pub frames_looked : (g c : ℕ) → frames_of new g c ≡ frames_of old g c
+  frames_looked g c = ap (λ (o : Option pools.Frame). option_map frame_seen o) (l.holds (record { file = g; block = c }))
+
+  pub counted_looked : (counts : List ℕ) → HoldsCounted old counts → HoldsCounted new counts
+  counted_looked counts h other y is = h other y (sym (l.holds other) ∙ is)
+
+pub frames_empty : (n : ℕ) (pool : Pool) → IsEmpty n pool → (g c : ℕ) → frames_of pool g c ≡ None
+frames_empty n pool empty g c = ap (λ (o : Option pools.Frame). option_map frame_seen o) (empty.holds (record { file = g; block = c }))
+
+pub counted_empty : (n : ℕ) (pool : Pool) (counts : List ℕ) → IsEmpty n pool → HoldsCounted pool counts
+counted_empty n pool counts empty id x is = absurd (none_not_some x (sym (empty.holds id) ∙ is))

@@ -1,0 +1,70 @@
+-- A step of a running database: another log, another pool, perhaps other counts.
+use Rattle.std.proofs.Common.{ℕ, ◌≤◌, ◌<◌, ◌≡◌, inl, inr, Bool, true, false, cond, IsTrue, List, length, Some, None, refl, ◌∙◌, ap, arith}
+use Rattle.std.specs.Global.{Vec}
+use Rattle.std.specs.declared.result.Result.{Result}
+use Rattle.std.proofs.lemmas.Bool.{cases_lt}
+use Rattle.std.proofs.lemmas.Bool.Decides.{nat_tests}
+use Rattle.dms_moments.specs.Moments.{Now, Steps}
+use Rattle.dms_moments.specs.MomentLaws.{runs_none}
+use Rattle.dms_site.specs.declared.site.Site.{Ghosts}
+use Rattle.dms_site.specs.Files.{Left}
+use Rattle.dms_block.specs.declared.block_fault.BlockFault.{BlockFault}
+use Rattle.dms_block.specs.Faults.{NotFull}
+use Rattle.dms_block.specs.Held.{Held, Looks, MakesNoPoint, Stays, Used, Uses}
+use Rattle.dms_block.specs.HeldLaws.{unbroken_is}
+use Rattle.dms_history.specs.Points.{LivePoint}
+use Rattle.dms_history.proofs.Picks.{some_is}
+use Rattle.dms_pool.specs.declared.pool.Pool.{Pool}
+use Rattle.dms_restore.specs.declared.log.Log.{Log}
+use Rattle.dms_restore.specs.Logging as logs
+use Rattle.dms_restore.specs.Logging.{View, telling, points, durable, content, LogRuns, IsSilent}
+use Rattle.dms_wal.specs.declared.running.Running.{Running}
+use Rattle.dms_wal.specs.Lifting.{count_of}
+use Rattle.dms_wal.specs.Database.{held, view_of, said_of, faults_of, uses_of, IsUsable}
+use Rattle.dms_wal.proofs.Lifts.{TellsText, passes_by, stays_by, surer}
+
+none_not_some : {A : Type 0} (x : A) → None ≡ Some x → ⊥
+none_not_some x e = absurd cc
+
+text_at : (b : Bool) (said : List ℕ) (y : Left) → (IsTrue b → y.said ≡ said) → (s : List ℕ) → cond b (Some said) None ≡ Some s → y.said ≡ s
+text_at true said y is s same = is refl ∙ some_is said s same
+text_at false said y is s same = absurd (none_not_some s same)
+
+-- a file with a block is one of the table
+pub in_table : (counts : List ℕ) (f b : ℕ) → b < count_of counts f → 30000 < f
+in_table counts f b low = elim (cases_lt 30000 f) [
+  | inl structure ↦ structure
+  | inr other ↦ let none : count_of counts f ≡ 0 = grind (arith, nat_tests, other) in absurd (omega (arith, low, none))
+]
+
+-- nothing is changed but what is kept in memory, and what it was used for
+pub looks_sound : {T : Type 0} (r : Result T BlockFault) (n : ℕ) (a : Held) (sound : Type 0) (uses : Uses) → NotFull r → sound → Used n 0 a.uses uses → Looks n r a (record a { sound = sound; uses = uses })
+looks_sound r n a sound uses room usable used = record {
+  not_full = room;
+  passes = record { lasts = record { told = refl; tells = λ t. t; owns = refl; schema = refl; whole = λ files w. w; whole_on = λ files w. w }; next = refl; said = refl; leaves = λ t room. runs_none a.clock _ };
+  stays = unbroken_is r (record { sound = usable; mark = λ t. refl; points = λ t room. (refl, omega arith) });
+  same = unbroken_is r (record { counts = refl; content = λ t. refl });
+  counts = refl;
+  uses = used;
+}
+
+module _ {S : Type 0} (g : Ghosts S) (now_said : (s : S) (x : Left) → IsTrue g.tells_said → Now (g.clock s) x → x.said ≡ g.said s) where
+  pub text : (schema : List ℕ) (log : Log S) → TellsText schema (said_of g log) (g.clock log.site)
+  text schema log y now s is = text_at g.tells_said (g.said log.site) y (λ t. now_said log.site y t now) s is
+
+  module _ (r : Running S) (u : IsUsable g r) (l : Log S) (p : Pool) (b : Bool) (full : ℕ) (cs : Vec ℕ) (kind : telling (view_of g l) ≡ telling (view_of g r.log)) where
+    abbrev pub after : Running S
+    after = record r { log = l; pool = p; broken = b; full = full; counts = cs }
+
+    pub passes_step : length cs.items ≡ length r.counts.items → g.said l.site ≡ g.said r.log.site → (IsTrue g.tells → logs.Leaves (view_of g r.log) (view_of g l) (points (view_of g r.log)) (logs.next (view_of g r.log)))
+        → (IsTrue g.tells → Steps IsSilent (g.clock r.log.site) (g.clock l.site)) → MakesNoPoint (held g r) (held g after)
+    passes_step many said leaves silent = passes_by g.tells (IsUsable g r) (IsUsable g after) (view_of g r.log) (view_of g l) r.schema.items r.next r.next r.counts.items cs.items (said_of g r.log) (said_of g l)
+        (faults_of g r) (faults_of g after) (uses_of g r) (uses_of g after) kind many refl (ap (λ (s : List ℕ). cond g.tells_said (Some s) None) said) (λ t. (u.goes t).numbered) (text r.schema.items r.log) leaves silent
+
+    module _ (stay : (s : S) → IsTrue g.tells → (x : Left) × Now (g.clock s) x × (x.files ≡ g.files s)) (counts_now : (s : S) (t : ℕ) (x : Left) → t ≤ (g.clock s).now → Now (g.clock s) x → (g.clock s).left t x) where
+      pub surer_step : (IsTrue g.tells) → (ps : List LivePoint) (next : ℕ) → logs.Leaves (view_of g r.log) (view_of g l) ps next → durable (view_of g r.log) ≤ durable (view_of g l)
+      surer_step t ps next leaves = surer (view_of g r.log) (view_of g l) kind (u.goes t).runs (stay r.log.site t) (stay l.site t) (counts_now l.site) ps next leaves
+
+      pub stays_step : IsUsable g after → (IsTrue g.tells → points (view_of g l) ≡ points (view_of g r.log)) → (IsTrue g.tells → logs.Leaves (view_of g r.log) (view_of g l) (points (view_of g r.log)) (logs.next (view_of g r.log))) → Stays (held g r) (held g after)
+      stays_step usable same leaves = stays_by g.tells (IsUsable g r) (IsUsable g after) (view_of g r.log) (view_of g l) r.schema.items r.next r.next r.counts.items cs.items (said_of g r.log) (said_of g l)
+          (faults_of g r) (faults_of g after) (uses_of g r) (uses_of g after) usable (λ t. (same t, surer_step t (points (view_of g r.log)) (logs.next (view_of g r.log)) (leaves t)))

@@ -1,0 +1,18 @@
+use Rattle.std.proofs.Common.{arith}
+use Rattle.dms_wal.proofs.Backs.{writes_back}
+use Rattle.dms_wal.proofs.Roomed.{newest, then_silent}
+use Rattle.dms_wal.proofs.room.write_back.Goals as goal
+
+pub returns-in-Ok-write-clause-back : goal.returns-in-Ok-write-clause-back
+returns-in-Ok-write-clause-back g c tells =
+    writes_back _ _ _ c.args.id.file c.args.id.block c.args.block.now.0 c.requires.structure (omega arith) (c.in-Ok.ensures.same tells) (c.write.ensures.same tells) (c.in-Ok-write.ensures.written tells)
+
+pub returns-in-Ok-write-clause-silent : goal.returns-in-Ok-write-clause-silent
+returns-in-Ok-write-clause-silent g c tells = then_silent (c.sync.ensures.silent tells) (c.write.ensures.silent tells)
+
+pub returns-in-Err-write-clause-silent : goal.returns-in-Err-write-clause-silent
+returns-in-Err-write-clause-silent g c tells = then_silent (c.sync.ensures.silent tells) (c.write.ensures.silent tells)
+
+pub write-requires-clause-sealed : goal.write-requires-clause-sealed
+write-requires-clause-sealed g c tells =
+    newest _ _ (c.in-Ok.ensures.runs tells) (g.met.S.Site.may_stay c.sync.new.self.site tells) (c.in-Ok.ensures.waits tells) (c.in-Ok.ensures.same tells) c.args.id.file c.args.id.block c.args.block.now.0 (c.requires.changed tells) (c.requires.block tells)

@@ -1,0 +1,22 @@
+use Rattle.std.proofs.Common.{ℕ, ap, arith}
+use Rattle.std.specs.declared.result.Result.TheVariants.{Err}
+use Rattle.dms_block.specs.declared.block.Block.{Block}
+use Rattle.dms_block.specs.HeldLaws.{causes_on, looks_as, looks_on}
+use Rattle.dms_wal.specs.Database.{held}
+use Rattle.dms_wal.proofs.running.Running.load.Goals as goal
+
+pub fetch-requires-clause-there : goal.fetch-requires-clause-there
+fetch-requires-clause-there g c = omega (arith, ap (λ (k : ℕ → ℕ). k c.args.id.file) c.make_room.ensures.looks.counts, c.requires.there)
+
+pub hold-requires-clause-there : goal.hold-requires-clause-there
+hold-requires-clause-there g c = omega (arith, ap (λ (k : ℕ → ℕ). k c.args.id.file) c.make_room.ensures.looks.counts, ap (λ (k : ℕ → ℕ). k c.args.id.file) c.fetch.ensures.looks.counts, c.requires.there)
+
+pub returns-in-Ok-fetch-clause-looks : goal.returns-in-Ok-fetch-clause-looks
+returns-in-Ok-fetch-clause-looks g c = looks_as _ tt (looks_on _ (looks_on _ c.in-Ok.ensures.looks c.in-Ok-fetch.ensures.looks) c.hold.ensures.looks)
+
+pub returns-in-Err-fetch-clause-looks : goal.returns-in-Err-fetch-clause-looks
+returns-in-Err-fetch-clause-looks g c = looks_on _ c.in-Ok.ensures.looks c.in-Err-fetch.ensures.looks
+
+pub returns-in-Err-fetch-clause-causes : goal.returns-in-Err-fetch-clause-causes
+returns-in-Err-fetch-clause-causes g c =
+    causes_on {T = Block} (Err c.in-Err-fetch.fault) (held g.S.Site c.args.self.now) (held g.S.Site c.make_room.new.self) (held g.S.Site c.fetch.new.self) c.in-Ok.ensures.causes c.in-Ok.ensures.looks.passes.lasts c.in-Ok.ensures.looks.same c.in-Err-fetch.ensures.causes

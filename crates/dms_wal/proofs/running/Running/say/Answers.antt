@@ -1,0 +1,18 @@
+use Rattle.std.proofs.Common.{false}
+use Rattle.dms_wal.proofs.Synced.{say_stays, say_left}
+use Rattle.dms_wal.proofs.running.Running.say.Goals as goal
+
+pub returns-in-Ok-clause-stays : goal.returns-in-Ok-clause-stays
+returns-in-Ok-clause-stays g c =
+    let m = g.met.S.Site in
+    say_stays g.S.Site m.may_stay m.now_said m.counts_now c.args.self.now c.requires c.say.new.self c.say.ensures.files c.args.bytes.now c.say.ensures.moments
+
+pub returns-in-Ok-clause-leaves : goal.returns-in-Ok-clause-leaves
+returns-in-Ok-clause-leaves g c =
+    let m = g.met.S.Site in
+    say_left g.S.Site m.may_stay m.now_said m.counts_now c.args.self.now c.requires c.say.new.self c.say.ensures.files c.args.bytes.now c.say.ensures.moments false
+
+pub returns-in-Err-clause-leaves : goal.returns-in-Err-clause-leaves
+returns-in-Err-clause-leaves g c =
+    let m = g.met.S.Site in
+    say_left g.S.Site m.may_stay m.now_said m.counts_now c.args.self.now c.requires c.say.new.self c.say.ensures.files c.args.bytes.now c.say.ensures.moments false

@@ -1,0 +1,5 @@
+pub mod Lifting
+pub mod Database
+pub mod Starting
+pub mod Faults
+pub mod Writing

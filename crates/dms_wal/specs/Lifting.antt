@@ -1,0 +1,63 @@
+-- A log over its site as blocks tell it: points, stops, counts of blocks.
+use Rattle.std.specs.Prelude.{ℕ, ◌+◌, ◌-◌, ◌≤◌, ◌&&◌, Bool, List, [], ◌∷◌, if◌then◌else◌, map, length, nat_lt, nat_le, slice_index_or, IsTrue}
+use Rattle.std.specs.declared.option.Option.{Option}
+use Rattle.dms_moments.specs.Moments.{Clock, seen_as}
+use Rattle.dms_site.specs.Files.{Left}
+use Rattle.dms_block.specs.Content.{Content, limit}
+use Rattle.dms_block.specs.Counts.{Faults}
+use Rattle.dms_block.specs.Held.{Held, BlockPoint, BlockStop, Uses}
+use Rattle.dms_history.specs.Points.{LivePoint}
+use Rattle.dms_running.specs.Telling.{Telling}
+use Rattle.dms_running.specs.Standing.{IsWhole}
+use Rattle.dms_running.specs.Points.{points_of, next_in}
+use Rattle.dms_restore.specs.Logging.{View, telling, points, durable, here, content}
+
+-- a point that stands under these bytes of a description
+abbrev pub point_under : List ℕ → LivePoint → BlockPoint
+point_under schema p = record { number = p.number; blocks = p.blocks; schema = schema }
+
+-- what a stop leaves of a site, as blocks see it
+abbrev pub stop_of : Telling → List ℕ → Left → BlockStop
+stop_of t schema x = record { files = x.files; points = map (point_under schema) (points_of t x.files); next = next_in t x.files; said = x.said }
+
+abbrev pub lifted : Telling → List ℕ → Clock Left → Clock BlockStop
+lifted t schema clock = seen_as (stop_of t schema) clock
+
+-- the blocks at the last of these points, and these blocks where there is none
+abbrev pub last_blocks : Content → List LivePoint → Content
+last_blocks none [] = none
+last_blocks none (p ∷ ps) = last_blocks p.blocks ps
+
+-- how many blocks a file has, by a table of the files 30,001 and on
+abbrev pub count_of : List ℕ → ℕ → ℕ
+count_of counts f = if nat_lt 30000 f then slice_index_or counts (f - 30001) 0 else 0
+
+-- the files of the table
+abbrev pub owns_of : List ℕ → ℕ → Bool
+owns_of counts f = nat_lt 30000 f && nat_le f (30000 + length counts)
+
+-- A table of at most 200 files, none of more blocks than may be.
+pub record IsTable (counts : List ℕ) : Type 0 where
+  pub few : length counts ≤ 200
+  pub small : (f : ℕ) → count_of counts f ≤ limit
+
+-- What a running database tells of its blocks: all of its log, where the site tells its files, and the table of counts in any case.
+abbrev pub held_of : Bool → Type 0 → View → List ℕ → ℕ → List ℕ → Option (List ℕ) → Faults → Uses → Held
+held_of tells sound v schema next counts said faults uses = record {
+  told = tells;
+  tells = IsTrue tells;
+  sound = sound;
+  whole = IsWhole (telling v);
+  owns = owns_of counts;
+  counts = count_of counts;
+  content = content v;
+  mark = last_blocks (λ f. []) (points v);
+  next = next;
+  said = said;
+  points = map (point_under schema) (points v);
+  durable = durable v;
+  here = point_under schema (here v);
+  clock = lifted (telling v) schema v.clock;
+  faults = faults;
+  uses = uses;
+}

@@ -1,0 +1,10 @@
+//! The running database: blocks whose changes are logged first, held in a pool, and written once their Images are sealed.
+#![tactic(auto)]
+
+mod faults;
+mod points;
+mod reading;
+mod room;
+mod running;
+
+pub use running::Running;

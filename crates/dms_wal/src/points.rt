@@ -1,0 +1,93 @@
+//! Quiet points, syncs and printing.
+
+ghost use Rattle.std.specs.Prelude.{◌≡◌, ◌≤◌, ◌<◌, ◌+◌, ◌^◌, ◌++◌, [], ◌∷◌, IfOk, IsErrOf, IsOkUnless, OnOk};
+ghost use Rattle.dms_block.specs.Held.{HasCauses, HasNextNumber, IfTold, Lasts, Leaves, LeavesText, MadeDurable, MadeQuiet, MakesNoPoint, SameBlocks, Stays, Synced};
+ghost use Rattle.dms_block.specs.Texts.{Prints, PrintsPrefix};
+ghost use Rattle.dms_wal.specs.Database.{held};
+
+use crate::Running;
+use crate::faults::append_fault;
+use dms_block::BlockFault;
+use dms_site::Site;
+
+impl<S: Site> Running<S> {
+    /// Makes a quiet point, and answers its number. Takes no memory. Where the next number is 2^64 - 1 it stays so.
+    ///
+    /// One quiet point is logged, which the next sync makes durable. Answers Disk, and Full where the audit has no room.
+    pub fn quiet(&mut self) -> Result<u64, BlockFault>
+        requires { (held S.Site self.old).sound }
+        ensures number { HasNextNumber (held S.Site self.old) → IfOk result (λ n. n ≡ (held S.Site self.old).next) }
+        ensures made { OnOk result (MadeQuiet (held S.Site self.old) (held S.Site self.new)) }
+        ensures not_fallen { (held S.Site self.old).next ≤ (held S.Site self.new).next }
+        ensures said { (held S.Site self.new).said ≡ (held S.Site self.old).said }
+        ensures leaves { let a = held S.Site self.old in IfTold a (Leaves a (held S.Site self.new) (a.points ++ a.here ∷ []) (a.next + 1)) }
+        ensures lasts { Lasts (held S.Site self.old) (held S.Site self.new) }
+        ensures uses { (held S.Site self.new).uses ≡ (held S.Site self.old).uses }
+        ensures memory { IsErrOf result BlockFault.Memory → ⊥ }
+        ensures causes { HasCauses result (held S.Site self.old) (held S.Site self.new) }
+        ensures silent { IsErrOf result BlockFault.Say → ⊥ }
+        ensures same { S.same_site self.old.log.site self.new.log.site }
+    {
+        let number = self.next;
+        if number == u64::MAX {
+            return Ok(number);
+        }
+        match self.log.quiet(number) {
+            Ok(()) => {
+                self.next = number + 1;
+                Ok(number)
+            }
+            Err(fault) => {
+                self.broken = true;
+                Err(append_fault(fault, &mut self.full))
+            }
+        }
+    }
+
+    /// Seals all that waits: all quiet points so far are durable. Takes no memory. Answers Disk alone.
+    pub fn sync(&mut self) -> Result<(), BlockFault>
+        requires { (held S.Site self.old).sound }
+        ensures made { OnOk result (MadeDurable (held S.Site self.old) (held S.Site self.new)) }
+        ensures passes { MakesNoPoint (held S.Site self.old) (held S.Site self.new) }
+        ensures uses { Synced result (held S.Site self.old).uses (held S.Site self.new).uses }
+        ensures memory { IsErrOf result BlockFault.Memory → ⊥ }
+        ensures causes { HasCauses result (held S.Site self.old) (held S.Site self.new) }
+        ensures silent { IsErrOf result BlockFault.Say → ⊥ }
+        ensures same { S.same_site self.old.log.site self.new.log.site }
+    {
+        match self.log.sync() {
+            Ok(()) => {
+                self.syncs = self.syncs.saturating_add(1);
+                Ok(())
+            }
+            Err(_) => {
+                self.broken = true;
+                Err(BlockFault::Disk)
+            }
+        }
+    }
+
+    /// Prints. Takes no memory of its own. A failed call prints the first bytes or none.
+    pub fn say(&mut self, bytes: &[u8]) -> Result<(), BlockFault>
+        requires { (held S.Site self.old).sound }
+        ensures text { OnOk result (Prints (held S.Site self.old).said (held S.Site self.new).said bytes.now) }
+        ensures part { PrintsPrefix (held S.Site self.old).said (held S.Site self.new).said bytes.now }
+        ensures stays { OnOk result (Stays (held S.Site self.old) (held S.Site self.new)) }
+        ensures unchanged { OnOk result (SameBlocks (held S.Site self.old) (held S.Site self.new)) }
+        ensures next { (held S.Site self.new).next ≡ (held S.Site self.old).next }
+        ensures leaves { IfTold (held S.Site self.old) (LeavesText (held S.Site self.old) (held S.Site self.new) bytes.now) }
+        ensures lasts { Lasts (held S.Site self.old) (held S.Site self.new) }
+        ensures uses { (held S.Site self.new).uses ≡ (held S.Site self.old).uses }
+        ensures fault { IsOkUnless result BlockFault.Say }
+        ensures causes { HasCauses result (held S.Site self.old) (held S.Site self.new) }
+        ensures same { S.same_site self.old.log.site self.new.log.site }
+    {
+        match self.log.site.say(bytes) {
+            Ok(()) => Ok(()),
+            Err(_) => {
+                self.broken = true;
+                Err(BlockFault::Say)
+            }
+        }
+    }
+}

@@ -1,0 +1,76 @@
+//! Room in the pool: a changed block is written once its newest Image is sealed, and then given up.
+
+ghost use Rattle.std.specs.Prelude.{◌≡◌, ◌<◌, IfErr, IsTrue, None, OnOk};
+ghost use Rattle.dms_base.specs.Causes.{HasCause};
+ghost use Rattle.dms_moments.specs.Moments.{Steps};
+ghost use Rattle.dms_block.specs.Content.{block_in, limit};
+ghost use Rattle.dms_block.specs.Held.{HasCauses, Looks};
+ghost use Rattle.dms_pool.specs.Held.{frame_of};
+ghost use Rattle.dms_restore.specs.Logging.{telling, points, next, content, Changed, IsSilent, Leaves, LogRuns};
+ghost use Rattle.dms_wal.specs.Database.{held, view_of};
+ghost use Rattle.dms_wal.specs.Writing.{WritesBack};
+
+use crate::Running;
+use dms_block::{Block, BlockFault, BlockId};
+use dms_restore::Log;
+use dms_site::Site;
+
+/// Seals what waits, and writes a changed block as the content has it. Doesn't sync the block. Answers Disk alone.
+pub(crate) fn write_back<S: Site>(
+    log: &mut Log<S>,
+    id: BlockId,
+    block: &Block,
+) -> Result<(), BlockFault>
+    requires runs { IsTrue S.tells → LogRuns (view_of S.Site log.old) }
+    requires structure { 30000 < id.file }
+    requires place { id.block < limit }
+    requires changed { IsTrue S.tells → Changed (view_of S.Site log.old) id.file id.block }
+    requires block { IsTrue S.tells → block_in (content (view_of S.Site log.old)) id.file id.block ≡ block.now.0 }
+    ensures runs { OnOk result (IsTrue S.tells → LogRuns (view_of S.Site log.new)) }
+    ensures back { OnOk result (IsTrue S.tells → WritesBack (view_of S.Site log.old) (view_of S.Site log.new) id.file id.block block.now.0) }
+    ensures moments { IsTrue S.tells → let a = view_of S.Site log.old in Leaves a (view_of S.Site log.new) (points a) (next a) }
+    ensures silent { IsTrue S.tells → Steps IsSilent (S.clock log.old.site) (S.clock log.new.site) }
+    ensures kind { telling (view_of S.Site log.new) ≡ telling (view_of S.Site log.old) }
+    ensures only { IfErr result (λ e. e ≡ BlockFault.Disk) }
+    ensures said { S.said log.new.site ≡ S.said log.old.site }
+    ensures same_site { S.same_site log.old.site log.new.site }
+    ensures faults { HasCause (S.disk_faults log.old.site) (S.disk_faults log.new.site) result }
+    ensures say_faults { S.say_faults log.new.site ≡ S.say_faults log.old.site }
+{
+    match log.sync() {
+        Ok(()) => {}
+        Err(_) => return Err(BlockFault::Disk),
+    }
+    match log.write(id.file, id.block, &block.0) {
+        Ok(()) => Ok(()),
+        Err(_) => Err(BlockFault::Disk),
+    }
+}
+
+impl<S: Site> Running<S> {
+    /// Where the pool is full, gives up the least recently used block, and writes it first if it is changed: what waits is
+    /// sealed before. Answers Disk alone.
+    pub(crate) fn make_room(&mut self) -> Result<(), BlockFault>
+        requires { (held S.Site self.old).sound }
+        ensures looks { Looks 0 result (held S.Site self.old) (held S.Site self.new) }
+        ensures causes { HasCauses result (held S.Site self.old) (held S.Site self.new) }
+        ensures only { IfErr result (λ e. e ≡ BlockFault.Disk) }
+        ensures fewer { (id : _) → frame_of id self.old.pool ≡ None → frame_of id self.new.pool ≡ None }
+        ensures same { S.same_site self.old.log.site self.new.log.site }
+    {
+        if self.pool.room() {
+            return Ok(());
+        }
+        match self.pool.evict() {
+            None => Ok(()),
+            Some((_, _, false)) => Ok(()),
+            Some((id, block, true)) => match write_back(&mut self.log, id, &block) {
+                Ok(()) => Ok(()),
+                Err(fault) => {
+                    self.broken = true;
+                    Err(fault)
+                }
+            },
+        }
+    }
+}
