@@ -7,7 +7,7 @@ use Rattle.dasdl_phrases.specs.declared.fault.ParseFault.TheVariants.{BadCharact
 use Rattle.dms.specs.declared.texts.Ending.{Ending}
 use Rattle.dms.specs.declared.texts.Ending.TheVariants.{Command, InUse}
 use Rattle.dms_top.specs.declared.status.LimitKind.{LimitKind}
-use Rattle.dms_top.specs.declared.status.LimitKind.TheVariants.{Lines, Bytes, Held}
+use Rattle.dms_top.specs.declared.status.LimitKind.TheVariants.{Lines, Bytes, Waiting}
 use Rattle.dms_top.specs.declared.status.SchemaFault.{SchemaFault}
 use Rattle.dms_top.specs.declared.status.SchemaFault.TheVariants.{Parse, Compile}
 use Rattle.dms_top.specs.declared.status.Status.{Status}
