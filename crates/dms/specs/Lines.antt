@@ -47,7 +47,7 @@ schema_words (Compile fault) = compile_words fault
 abbrev pub limit_words : LimitKind → List ℕ
 limit_words Lines = codes "too many lines"
 limit_words Bytes = codes "too many bytes"
-limit_words Held = codes "too many held lines"
+limit_words Waiting = codes "too many held lines"
 
 -- what is needed and isn't found
 abbrev pub need_words : NeedFault → List ℕ
