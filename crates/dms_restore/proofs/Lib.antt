@@ -15,3 +15,6 @@ pub mod TableParts
 pub mod EntryPlaces
 pub mod Traced
 pub mod ReadOn
+pub mod PendingTables
+pub mod SpotParts
+pub mod Numbered

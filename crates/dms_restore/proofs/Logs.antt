@@ -100,7 +100,7 @@ module _ (a : View) (r : LogRuns a) (read : Reads a) where
         points_same = ap (λ (t : Telling). points_now t (state b)) (sym same_telling) ∙ sync_points (telling a) tells (state a) r.runs read (state b) is_sealed nothing_waits;
         next_same = ap (λ (t : Telling). next_now t (state b)) (sym same_telling) ∙ sync_next (telling a) tells (state a) r.runs read (state b) is_sealed nothing_waits;
         content_same = ap (λ (t : Telling). content_now t (state b)) (sym same_telling) ∙ sync_content (telling a) tells (state a) r.runs read (state b) is_sealed nothing_waits;
-        surer = omega (arith, sync_surer (telling a) tells (state a) r.runs read (state b) is_sealed nothing_waits, ap (λ (t : Telling). durable_now t (state b)) same_telling);
+        durable_kept = omega (arith, sync_surer (telling a) tells (state a) r.runs read (state b) is_sealed nothing_waits, ap (λ (t : Telling). durable_now t (state b)) same_telling);
       }
 
       pub sync_all_durable : durable b ≡ length (points a)

@@ -1,5 +1,5 @@
 -- The entries of a trail are read one after another.
-use Rattle.std.proofs.Common.{ℕ, zero, suc, ◌+◌, ◌<◌, ◌≡◌, Bool, List, [], ◌∷◌, ◌++◌, map, length, take, get_or, Some, refl, sym, ◌∙◌, ap, subst, arith}
+use Rattle.std.proofs.Common.{ℕ, zero, suc, ◌+◌, ◌<◌, ◌≡◌, ◌⊎◌, inl, inr, Bool, List, [], ◌∷◌, ◌++◌, map, length, take, drop, get_or, Some, IsTrue, refl, sym, ◌∙◌, ap, subst, arith}
 use Rattle.std.proofs.lemmas.List.{take_more, take_all, map-append}
 use Rattle.dms_moments.specs.Moments.{Clock, After}
 use Rattle.dms_moments.specs.MomentLaws.{runs_none}
@@ -9,8 +9,11 @@ use Rattle.dms_history.specs.Entries.{Entry, quiet_point}
 use Rattle.dms_audfile.specs.Scanning.{Placed, place_in, entry_in}
 use Rattle.dms_audfile.specs.AuditTrail.{entry_there, IsThere, AreThere}
 use Rattle.dms_audfile.specs.declared.place.Place.{Place}
+use Rattle.dms_audfile.specs.declared.fault.AudFault.{AudFault}
+use Rattle.dms_audfile.specs.declared.fault.AudFault.TheVariants.{Disk, Damaged, Memory}
 use Rattle.dms_history.proofs.Picks.{some_is}
 use Rattle.dms_restore.specs.declared.tracing.TrailHistory.{TrailHistory}
+use Rattle.dms_restore.specs.Scanned.{HasNoEntry, IsNoEntryOf}
 use Rattle.dms_restore.specs.Tracing.{IsTraced}
 
 abbrev pub no_place : Placed
@@ -51,6 +54,50 @@ read_all files places i h ps le are t = subst (λ (l : List Placed). IsTraced fi
 -- the entry that was read is the one that stands there
 pub read_is : (files : Files) (entries : List Entry) (e seen : Entry) (old new : TrailHistory) → Some seen ≡ Some e → (IsTraced files entries old → IsTraced files (entries ++ seen ∷ []) new) → IsTraced files entries old → IsTraced files (entries ++ e ∷ []) new
 read_is files entries e seen old new is step t = subst (λ (x : Entry). IsTraced files (entries ++ x ∷ []) new) (some_is seen e is) (step t)
+
+-- ---- no entry stands at a place
+
+split_at : (places : List Place) (i : ℕ) (d : Place) → i < length places → places ≡ take i places ++ get_or places i d ∷ drop (suc i) places
+split_at [] i d low = absurd (omega (arith, low))
+split_at (p ∷ ps) zero d low = refl
+split_at (p ∷ ps) (suc i) d low = ap (λ (l : List Place). p ∷ l) (split_at ps i d (omega (arith, low)))
+
+pub no_entry_at : (tells : Bool) (files other : Files) (places : List Place) (i : ℕ) (d : Place) (e : AudFault) → i < length places → (IsTrue tells → other ≡ files)
+    → (e ≡ Disk) ⊎ ((e ≡ Memory) ⊎ ((e ≡ Damaged (get_or places i d).file (get_or places i d).block) × (IsTrue tells → HasNoEntry other (get_or places i d))))
+    → (e ≡ Disk) ⊎ ((e ≡ Memory) ⊎ IsNoEntryOf tells files places e)
+no_entry_at tells files other places i d e low same is = elim is [
+  | inl disk ↦ inl disk
+  | inr rest ↦ elim rest [
+    | inl memory ↦ inr (inl memory)
+    | inr damaged ↦ inr (inr (record {
+      place = get_or places i d;
+      before = take i places;
+      after = drop (suc i) places;
+      among = split_at places i d low;
+      is = damaged.0;
+      none = λ t. subst (λ (f : Files). HasNoEntry f (get_or places i d)) (same t) (damaged.1 t);
+    }))
+  ]
+]
+
+-- why a block wasn't loaded
+pub load_only : (tells : Bool) (held : Type 0) (files : Files) (p : Place) (e : AudFault) → (e ≡ Disk) ⊎ ((e ≡ Damaged p.file p.block) × (512 < p.block))
+    → (e ≡ Disk) ⊎ ((e ≡ Memory) ⊎ ((e ≡ Damaged p.file p.block) × (IsTrue tells → held → HasNoEntry files p)))
+load_only tells held files p e is = elim is [
+  | inl disk ↦ inl disk
+  | inr high ↦ inr (inr (high.0, λ t current. inl high.1))
+]
+
+-- the reader held a block of these files
+pub current_fault : (tells : Bool) (held : Type 0) (files : Files) (p : Place) (e : AudFault) → (IsTrue tells → held)
+    → (e ≡ Disk) ⊎ ((e ≡ Memory) ⊎ ((e ≡ Damaged p.file p.block) × (IsTrue tells → held → HasNoEntry files p))) → (e ≡ Disk) ⊎ ((e ≡ Memory) ⊎ ((e ≡ Damaged p.file p.block) × (IsTrue tells → HasNoEntry files p)))
+current_fault tells held files p e has is = elim is [
+  | inl disk ↦ inl disk
+  | inr rest ↦ elim rest [
+    | inl memory ↦ inr (inl memory)
+    | inr damaged ↦ inr (inr (damaged.0, λ t. damaged.1 t (has t)))
+  ]
+]
 
 -- nothing was read yet
 pub reads_none : (tells : Bool) (files : Files) (text : List ℕ) (clock : Clock Left) (disk say : ℕ) → OnlyReads tells files files text text clock clock disk disk say say

@@ -48,6 +48,10 @@ counted_call fault e failed start before now same is cause = record {
   clean = λ other. absurd (other is);
 }
 
+pub one_if_ok : {T E : Type 0} {P R : T → Type 0} (r : Result T E) → IfOk r P → ((v : T) → P v → R v) → IfOk r R
+one_if_ok (Ok x) one f = f x one
+one_if_ok (Err e) one f = tt
+
 pub two_if_ok : {T E : Type 0} {P Q R : T → Type 0} (r : Result T E) → IfOk r P → IfOk r Q → ((v : T) → P v → Q v → R v) → IfOk r R
 two_if_ok (Ok x) one two f = f x one two
 two_if_ok (Err e) one two f = tt

@@ -1,13 +1,19 @@
 -- The places of a trail that was scanned.
-use Rattle.std.proofs.Common.{ℕ, ◌≡◌, List, map, sym, ◌∙◌, subst}
+use Rattle.std.proofs.Common.{ℕ, ◌≡◌, ◌⊎◌, inl, inr, Bool, List, [], ◌∷◌, ◌++◌, map, Some, None, IsTrue, sym, ◌∙◌, ap, subst, arith}
 use Rattle.dms_site.specs.Files.{Files}
-use Rattle.dms_audfile.specs.Scanning.{entry_in}
-use Rattle.dms_audfile.specs.AuditTrail.{IsFound, EntriesAreThere, AreThere}
+use Rattle.dms_history.specs.Entries.{Entry}
+use Rattle.dms_audfile.specs.AuditTrail.{IsFound, EntriesAreThere, entry_there, AreThere}
 use Rattle.dms_audfile.specs.ScanLaws.{FoundAreEntries}
 use Rattle.dms_audfile.specs.Sealing.{IsWrittenUpTo}
 use Rattle.dms_audfile.specs.TrailEntries.{trail_entries}
 use Rattle.dms_audfile.specs.declared.place.Place.{Place}
-use Rattle.dms_restore.specs.Scanned.{ArePlaces}
+use Rattle.dms_audfile.specs.declared.fault.AudFault.{AudFault}
+use Rattle.dms_audfile.specs.declared.fault.AudFault.TheVariants.{Disk, Memory}
+use Rattle.dms_audfile.specs.Scanning.{Placed, place_in, entry_in}
+use Rattle.dms_audfile.specs.Reads.{Refuses}
+use Rattle.dms_restore.specs.declared.tracing.TrailHistory.{TrailHistory}
+use Rattle.dms_restore.specs.Scanned.{ArePlaces, HasNoEntry, IsNoEntryOf}
+use Rattle.dms_restore.specs.Tracing.{IsTraced}
 
 pub scan_places : EntriesAreThere → FoundAreEntries → (old files : Files) (all total tag first file count : ℕ) (places : List Place) → files ≡ old → all ≡ total → IsFound files first places → IsWrittenUpTo total tag first file count files → ArePlaces all first old places
 scan_places stand are old files all total tag first file count places same kind found writes =
@@ -18,3 +24,47 @@ scan_places stand are old files all total tag first file count places same kind 
       entries_are = entries ∙ (λ i. trail_entries (sym kind i) (found.first_is i) (same i));
       there = subst (λ (l : Files). AreThere l found.entries) same (stand files found.entries found.trail);
     }
+
+-- the entries at the places that were found are those of the trail
+pub scan_traced : (old files : Files) (total first : ℕ) (places lent : List Place) (h : TrailHistory) → lent ≡ places → files ≡ old → ArePlaces total first old places
+    → ((ps : List Placed) → lent ≡ map place_in ps → AreThere files ps → IsTraced files (map entry_in ps) h) → IsTraced old (trail_entries total first old) h
+scan_traced old files total first places lent h same still a read =
+    subst (λ l. IsTraced old l h) a.entries_are
+    (subst (λ (f : Files). IsTraced f (map entry_in a.placed) h) still (read a.placed (same ∙ a.places_are) (subst (λ (f : Files). AreThere f a.placed) (sym still) a.there)))
+
+-- the disk and memory refuse nothing
+pub plain_refusal : (files : Files) (e : AudFault) → (e ≡ Disk) ⊎ (e ≡ Memory) → Refuses files e
+plain_refusal files e is = elim is [
+  | inl disk ↦ subst (Refuses files) (sym disk) tt
+  | inr memory ↦ subst (Refuses files) (sym memory) tt
+]
+
+none_not_some : (x : Entry) → None ≡ Some x → ⊥
+none_not_some x e = absurd cc
+
+-- where an entry stands at each place, none is missing
+none_missing : (files : Files) (ps : List Placed) (before after : List Place) (p : Place) → AreThere files ps → map place_in ps ≡ before ++ p ∷ after → HasNoEntry files p → ⊥
+none_missing files [] [] after p there is none = absurd cc
+none_missing files [] (q ∷ before) after p there is none = absurd cc
+none_missing files (x ∷ ps) [] after p there is none =
+    let same : x.place ≡ p = cc is in
+    elim none [
+      | inl high ↦ omega (arith, high, there.0.block.1, ap (λ (q : Place). q.block) same)
+      | inr gone ↦ none_not_some x.entry (sym gone ∙ ap (entry_there files) (sym same) ∙ there.0.there)
+    ]
+none_missing files (x ∷ ps) (q ∷ before) after p there is none = none_missing files ps before after p there.1 (cc is) none
+
+pub scan_refused : (tells : Bool) (old files : Files) (total first : ℕ) (places lent : List Place) (e : AudFault) → IsTrue tells → lent ≡ places → files ≡ old → ArePlaces total first old places
+    → (e ≡ Disk) ⊎ ((e ≡ Memory) ⊎ IsNoEntryOf tells files lent e) → Refuses old e
+scan_refused tells old files total first places lent e t same still a is = elim is [
+  | inl disk ↦ plain_refusal old e (inl disk)
+  | inr rest ↦ elim rest [
+    | inl memory ↦ plain_refusal old e (inr memory)
+    | inr missing ↦ absurd (none_missing files a.placed missing.before missing.after missing.place (subst (λ (f : Files). AreThere f a.placed) (sym still) a.there)
+        (sym a.places_are ∙ sym same ∙ missing.among) (missing.none t))
+  ]
+]
+
+-- the same, by the files and the size that the end of the trail has
+pub traced_as : (old files : Files) (all total first : ℕ) (h : TrailHistory) → files ≡ old → all ≡ total → IsTraced files (trail_entries total first files) h → IsTraced old (trail_entries all first old) h
+traced_as old files all total first h same kind t = subst (λ (f : Files). IsTraced f (trail_entries all first f) h) same (subst (λ k. IsTraced files (trail_entries k first files) h) (sym kind) t)

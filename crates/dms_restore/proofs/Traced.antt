@@ -40,7 +40,7 @@ whole_push : (files : Files) (xs : List LiveEntry) (x : LiveEntry) → AllHaveWh
 whole_push files [] x all one = (one, tt)
 whole_push files (y ∷ xs) x all one = (all.0, whole_push files xs x all.1 one)
 
-whole_take : (files : Files) (k : ℕ) (xs : List LiveEntry) → AllHaveWholeBlocks files xs → AllHaveWholeBlocks files (take k xs)
+pub whole_take : (files : Files) (k : ℕ) (xs : List LiveEntry) → AllHaveWholeBlocks files xs → AllHaveWholeBlocks files (take k xs)
 whole_take files zero xs all = tt
 whole_take files (suc k) [] all = tt
 whole_take files (suc k) (x ∷ xs) all = (all.0, whole_take files k xs all.1)

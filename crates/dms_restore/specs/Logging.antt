@@ -117,7 +117,7 @@ pub record LogsNothing (a b : View) : Type 0 where
   pub next_same : next b ≡ next a
   pub content_same : content b ≡ content a
   pub blocks_same : stored_of b.files ≡ stored_of a.files
-  pub surer : durable a ≤ durable b
+  pub durable_kept : durable a ≤ durable b
 
 -- The audit has no room: all that waited is sealed, and nothing more was logged. The database runs with the same entries, points, next
 -- number and content, and all points are durable.

@@ -1,12 +1,17 @@
 -- The blocks that some entries name, each with the place of its bytes, or with none where it was new.
-use Rattle.std.specs.Prelude.{ℕ, ◌≡◌, List, [], ◌∷◌, Option, Some, None, option_map}
+use Rattle.std.specs.Prelude.{ℕ, ◌-◌, ◌≡◌, ◌⊎◌, List, [], ◌∷◌, Option, Some, None, option_map}
 use Rattle.std.specs.declared.cmp.Ordering.{Ordering}
 use Rattle.std.specs.Ordering.{nat_cmp, ordering_then}
 use Rattle.std.specs.BTreeMap.{BTreeMap, get}
 use Rattle.dms_site.specs.Files.{Files, range}
 use Rattle.dms_history.specs.Events.{Block}
+use Rattle.dms_audfile.specs.declared.fault.AudFault.{AudFault}
+use Rattle.dms_audfile.specs.declared.fault.AudFault.TheVariants.{Damaged}
+use Rattle.dms_restore.specs.declared.live.LiveEntry.{LiveEntry}
+use Rattle.dms_restore.specs.declared.live.LiveEntry.TheVariants.{Changed, Quiet, Controlled}
 use Rattle.dms_restore.specs.declared.live.Spot.{Spot}
 use Rattle.dms_restore.specs.declared.told.Told.{Told}
+use Rattle.dms_restore.specs.Table.{IsBlock}
 
 -- blocks in the order of their files and numbers
 abbrev pub block_cmp : ℕ × ℕ → ℕ × ℕ → Ordering
@@ -31,3 +36,27 @@ named files spots f b = option_map (bytes_of files) (spot_of spots f b)
 abbrev pub AllFromSpots : Spots → List Told → Type 0
 AllFromSpots spots [] = Unit {0}
 AllFromSpots spots (t ∷ ts) = (spot_of spots t.file t.block ≡ Some (Some (record { audit = t.audit; at = t.at }))) × AllFromSpots spots ts
+
+-- the entry is an Image of the block, and the block after or before the change stands there
+abbrev pub IsSpotOf : LiveEntry → ℕ → ℕ → Spot → Type 0
+IsSpotOf (Changed i) f b s = (i.file ≡ f) × (i.block ≡ b) × (s.audit ≡ i.audit) × ((s.at ≡ i.at) ⊎ (s.at ≡ i.at - 1024))
+IsSpotOf (Quiet n) f b s = ⊥
+IsSpotOf (Controlled c) f b s = ⊥
+
+-- so is one of them
+abbrev pub IsSpotAmong : List LiveEntry → ℕ → ℕ → Spot → Type 0
+IsSpotAmong [] f b s = ⊥
+IsSpotAmong (e ∷ es) f b s = IsSpotOf e f b s ⊎ IsSpotAmong es f b s
+
+-- the block isn't one of a structure file, or its bytes can't stand there
+abbrev pub IsNoBlock : ℕ → ℕ → Spot → Type 0
+IsNoBlock f b s = IsBlock (record { file = f; block = b; audit = s.audit; at = s.at }) → ⊥
+
+-- One of the entries is an Image that isn't of a block of a structure file, and the fault names its audit file.
+pub record HasNoBlock (front behind : List LiveEntry) (fault : AudFault) : Type 0 where
+  pub file : ℕ
+  pub block : ℕ
+  pub spot : Spot
+  pub among : IsSpotAmong front file block spot ⊎ IsSpotAmong behind file block spot
+  pub is : fault ≡ Damaged spot.audit 0
+  pub none : IsNoBlock file block spot

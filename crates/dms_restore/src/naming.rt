@@ -1,12 +1,14 @@
 //! The blocks that live entries name, each with the place of its bytes.
 
-ghost use Rattle.std.specs.Prelude.{◌≡◌, ◌++◌, [], ◌∷◌, ℕ, ◌<◌, List, Option, if◌then◌else◌, Some, None, option_map, OnOk, IfNone, IfSome};
+ghost use Rattle.std.specs.Prelude.{◌≡◌, ◌⊎◌, ◌-◌, ◌++◌, [], ◌∷◌, ℕ, ◌<◌, List, Option, if◌then◌else◌, Some, None, option_map, OnOk, IfNone, IfSome};
 ghost use Rattle.std.specs.BTreeMap.{btree_map_len};
 ghost use Rattle.dms_site.specs.Files.{Files};
 ghost use Rattle.dms_history.specs.Events.{Block, Event};
 ghost use Rattle.dms_history.specs.Images.{is_at, or_else, last_after, first_before};
+ghost use Rattle.dms_restore.specs.declared.live.Spot as spot;
+ghost use Rattle.dms_restore.specs.declared.live.LiveEntry.TheVariants.{Changed};
 ghost use Rattle.dms_restore.specs.LiveEntries.{event_at, events_at, before_in, after_in};
-ghost use Rattle.dms_restore.specs.Named.{spot_of, bytes_of, named};
+ghost use Rattle.dms_restore.specs.Named.{spot_of, bytes_of, named, IsSpotOf, IsSpotAmong};
 
 use crate::{ImageAt, LiveEntry, Spot};
 use std::alloc::AllocError;
@@ -17,7 +19,8 @@ fn note_after(
     spots: &mut BTreeMap<(u32, u32), Option<Spot>>,
     image: &ImageAt,
 ) -> Result<(), AllocError>
-    ensures { OnOk result ((files : Files) (f b : ℕ) → named files spots.new f b ≡ (if is_at f b image.now.file image.now.block then Some (Some (after_in files image.now)) else named files spots.old f b)) }
+    ensures names { OnOk result ((files : Files) (f b : ℕ) → named files spots.new f b ≡ (if is_at f b image.now.file image.now.block then Some (Some (after_in files image.now)) else named files spots.old f b)) }
+    ensures from { OnOk result ((f b : ℕ) (s : spot.Spot) → spot_of spots.new f b ≡ Some (Some s) → (spot_of spots.old f b ≡ Some (Some s)) ⊎ IsSpotOf (Changed image.now) f b s) }
 {
     let spot = Spot {
         audit: image.audit,
@@ -29,7 +32,8 @@ fn note_after(
 
 /// Where the block before a change stands; none where it is new.
 fn before_of(image: &ImageAt) -> Option<Spot>
-    ensures { (files : Files) → bytes_of files result ≡ before_in files image.now }
+    ensures at { IfSome result (λ s. (s.audit ≡ image.now.audit) × (s.at ≡ image.now.at - 1024)) }
+    ensures is { (files : Files) → bytes_of files result ≡ before_in files image.now }
 {
     if image.is_new {
         None
@@ -46,7 +50,8 @@ fn note_before(
     spots: &mut BTreeMap<(u32, u32), Option<Spot>>,
     image: &ImageAt,
 ) -> Result<(), AllocError>
-    ensures { OnOk result ((files : Files) (f b : ℕ) → named files spots.new f b ≡ or_else (named files spots.old f b) (if is_at f b image.now.file image.now.block then Some (before_in files image.now) else None)) }
+    ensures from { OnOk result ((f b : ℕ) (s : spot.Spot) → spot_of spots.new f b ≡ Some (Some s) → (spot_of spots.old f b ≡ Some (Some s)) ⊎ IsSpotOf (Changed image.now) f b s) }
+    ensures names { OnOk result ((files : Files) (f b : ℕ) → named files spots.new f b ≡ or_else (named files spots.old f b) (if is_at f b image.now.file image.now.block then Some (before_in files image.now) else None)) }
 {
     let key = (image.file, image.block);
     if spots.contains_key(&key) {
@@ -61,7 +66,8 @@ fn redo_one(
     spots: &mut BTreeMap<(u32, u32), Option<Spot>>,
     entry: &LiveEntry,
 ) -> Result<(), AllocError>
-    ensures { OnOk result ((files : Files) (f b : ℕ) (es : List Event) → named files spots.old f b ≡ option_map (λ x. Some x) (last_after f b es)
+    ensures from { OnOk result ((f b : ℕ) (s : spot.Spot) → spot_of spots.new f b ≡ Some (Some s) → (spot_of spots.old f b ≡ Some (Some s)) ⊎ IsSpotOf entry.now f b s) }
+    ensures names { OnOk result ((files : Files) (f b : ℕ) (es : List Event) → named files spots.old f b ≡ option_map (λ x. Some x) (last_after f b es)
         → named files spots.new f b ≡ option_map (λ x. Some x) (last_after f b (es ++ event_at files entry.now ∷ []))) }
 {
     match entry {
@@ -76,7 +82,8 @@ fn undo_one(
     spots: &mut BTreeMap<(u32, u32), Option<Spot>>,
     entry: &LiveEntry,
 ) -> Result<(), AllocError>
-    ensures { OnOk result ((files : Files) (f b : ℕ) (start : Option (Option Block)) (es : List Event) → named files spots.old f b ≡ or_else start (first_before f b es)
+    ensures from { OnOk result ((f b : ℕ) (s : spot.Spot) → spot_of spots.new f b ≡ Some (Some s) → (spot_of spots.old f b ≡ Some (Some s)) ⊎ IsSpotOf entry.now f b s) }
+    ensures names { OnOk result ((files : Files) (f b : ℕ) (start : Option (Option Block)) (es : List Event) → named files spots.old f b ≡ or_else start (first_before f b es)
         → named files spots.new f b ≡ or_else start (first_before f b (es ++ event_at files entry.now ∷ []))) }
 {
     match entry {
@@ -92,7 +99,8 @@ pub(crate) fn note_redo(
     redo: &[LiveEntry],
 ) -> Result<(), AllocError>
     requires { (f b : ℕ) → spot_of spots.old f b ≡ None }
-    ensures { OnOk result ((files : Files) (f b : ℕ) → named files spots.new f b ≡ option_map (λ x. Some x) (last_after f b (events_at files redo.now))) }
+    ensures from { OnOk result ((f b : ℕ) (s : spot.Spot) → spot_of spots.new f b ≡ Some (Some s) → IsSpotAmong redo.now f b s) }
+    ensures names { OnOk result ((files : Files) (f b : ℕ) → named files spots.new f b ≡ option_map (λ x. Some x) (last_after f b (events_at files redo.now))) }
 {
     for entry in redo {
         redo_one(spots, entry)?;
@@ -105,7 +113,8 @@ pub(crate) fn note_undo(
     spots: &mut BTreeMap<(u32, u32), Option<Spot>>,
     undo: &[LiveEntry],
 ) -> Result<(), AllocError>
-    ensures { OnOk result ((files : Files) (f b : ℕ) → named files spots.new f b ≡ or_else (named files spots.old f b) (first_before f b (events_at files undo.now))) }
+    ensures from { OnOk result ((f b : ℕ) (s : spot.Spot) → spot_of spots.new f b ≡ Some (Some s) → (spot_of spots.old f b ≡ Some (Some s)) ⊎ IsSpotAmong undo.now f b s) }
+    ensures names { OnOk result ((files : Files) (f b : ℕ) → named files spots.new f b ≡ or_else (named files spots.old f b) (first_before f b (events_at files undo.now))) }
 {
     for entry in undo {
         undo_one(spots, entry)?;

@@ -1,12 +1,13 @@
 //! Reading the entries of a trail by their places, once from the front.
 
-ghost use Rattle.std.specs.Prelude.{◌≡◌, ◌++◌, [], ◌∷◌, List, Some, map, OnOk, IfOk, IfErr, IsErrOf, IsTrue};
+ghost use Rattle.std.specs.Prelude.{◌≡◌, ◌⊎◌, ◌++◌, [], ◌∷◌, List, Some, map, OnOk, IfOk, IfErr, IsErrOf, IsTrue};
 ghost use Rattle.dms_history.specs.Entries as meaning;
 ghost use Rattle.dms_audfile.specs.Counting.{CountedAt};
 ghost use Rattle.dms_audfile.specs.Reads.{OnlyReads};
 ghost use Rattle.dms_audfile.specs.Scanning.{Placed, place_in, entry_in};
 ghost use Rattle.dms_audfile.specs.AuditTrail.{AreThere, entry_there};
 ghost use Rattle.dms_audfile.specs.EntryReading.{IsCurrent};
+ghost use Rattle.dms_restore.specs.Scanned.{HasNoEntry, IsNoEntryOf};
 ghost use Rattle.dms_restore.specs.Tracing.{IsTraced};
 
 use crate::TrailHistory;
@@ -25,6 +26,8 @@ fn read_one<S: Site>(
     ensures current { IsTrue S.tells → IsCurrent reader.old (S.files site.old) → IsCurrent reader.new (S.files site.old) }
     ensures added { OnOk result (IsTrue S.tells → IsCurrent reader.old (S.files site.old) → (entries : List meaning.Entry) (e : meaning.Entry) → entry_there (S.files site.old) place.now ≡ Some e
         → IsTraced (S.files site.old) entries history.old → IsTraced (S.files site.old) (entries ++ e ∷ []) history.new) }
+    ensures only { IfErr result (λ e. (e ≡ AudFault.Disk) ⊎ ((e ≡ AudFault.Memory) ⊎ ((e ≡ AudFault.Damaged place.now.file place.now.block)
+        × (IsTrue S.tells → IsCurrent reader.old (S.files site.old) → HasNoEntry (S.files site.old) place.now)))) }
     ensures reads { OnlyReads S.tells (S.files site.old) (S.files site.new) (S.said site.old) (S.said site.new) (S.clock site.old) (S.clock site.new) (S.disk_faults site.old) (S.disk_faults site.new) (S.say_faults site.old) (S.say_faults site.new) }
     ensures same_site { S.same_site site.old site.new }
     ensures disk { CountedAt (IsErrOf result AudFault.Disk) (S.disk_faults site.old) (S.disk_faults site.new) }
@@ -45,16 +48,17 @@ fn read_one<S: Site>(
 /// The live entries of a trail whose entries stand at these places, and the restore that is pending.
 ///
 /// Reads each block of the audit once, and nothing changes. Answers Disk where a call of the site failed, Memory, and Damaged where no
-/// entry stands at a place.
+/// entry stands at a place, which is so of no trail that was scanned.
 pub fn read_trail<S: Site>(
     alloc: Global,
     site: &mut S,
     places: &[Place],
 ) -> Result<TrailHistory, AudFault>
     ensures traced { IfOk result (λ h. IsTrue S.tells → (placed : List Placed) → places.now ≡ map place_in placed → AreThere (S.files site.old) placed → IsTraced (S.files site.old) (map entry_in placed) h) }
+    ensures only { IfErr result (λ e. (e ≡ AudFault.Disk) ⊎ ((e ≡ AudFault.Memory) ⊎ IsNoEntryOf S.tells (S.files site.old) places.now e)) }
     ensures reads { OnlyReads S.tells (S.files site.old) (S.files site.new) (S.said site.old) (S.said site.new) (S.clock site.old) (S.clock site.new) (S.disk_faults site.old) (S.disk_faults site.new) (S.say_faults site.old) (S.say_faults site.new) }
     ensures same_site { S.same_site site.old site.new }
-    ensures disk { IfErr result (λ e. CountedAt (e ≡ AudFault.Disk) (S.disk_faults site.old) (S.disk_faults site.new)) }
+    ensures disk { CountedAt (IsErrOf result AudFault.Disk) (S.disk_faults site.old) (S.disk_faults site.new) }
 {
     let mut reader = match EntryReader::new(alloc) {
         Ok(reader) => reader,

@@ -6,12 +6,15 @@ ghost use Rattle.dms_site.specs.Files.{Same};
 ghost use Rattle.dms_audfile.specs.Counting.{CountedAt};
 ghost use Rattle.dms_audfile.specs.Reads.{Refuses};
 ghost use Rattle.dms_audfile.specs.AuditTrail.{IsFound};
+ghost use Rattle.dms_audfile.specs.TrailEntries.{trail_entries};
 ghost use Rattle.dms_restore.specs.Laying.{Starts};
 ghost use Rattle.dms_restore.specs.Scanned.{ArePlaces};
+ghost use Rattle.dms_restore.specs.Tracing.{IsTraced};
 
-use crate::Log;
+use crate::trail_scan::{TrailScan, scan_trail};
+use crate::{Log, TrailHistory};
 use dms_audfile::laws::{entries_stand_at_their_places, what_is_found_are_the_entries};
-use dms_audfile::{AudFault, AuditEnd, AuditStart, Place};
+use dms_audfile::{AudFault, AuditEnd, Place};
 use dms_site::Site;
 use std::alloc::Global;
 
@@ -26,10 +29,12 @@ pub struct Scanned<S: Site> {
     pub log: Log<S>,
     /// Where the entries of its trail begin, in order.
     pub places: Vec<Place>,
+    /// What its entries tell.
+    pub history: TrailHistory,
 }
 
 impl<S: Site> Found<S> {
-    /// Syncs, and scans the audit trail. What is appended may go on up to audit file `limit`, from 1 to 9,999.
+    /// Syncs, scans the audit trail, and reads its entries. What is appended may go on up to audit file `limit`, from 1 to 9,999.
     ///
     /// Nothing changes. Answers the first refusal of the trail, Disk where a call of the site failed, and Memory.
     pub fn scan(self, alloc: Global, limit: u32) -> Result<Scanned<S>, (AudFault, Found<S>)>
@@ -37,6 +42,7 @@ impl<S: Site> Found<S> {
         ensures starts { IfOk result (λ s. IsTrue S.tells → Starts s.log.end s.log.first (S.files s.log.site) (S.clock s.log.site)) }
         ensures found { IfOk result (λ s. IsTrue S.tells → IsFound (S.files self.site) s.log.first s.places.items) }
         ensures places { IfOk result (λ s. IsTrue S.tells → ArePlaces s.log.end.total s.log.first (S.files self.site) s.places.items) }
+        ensures traced { IfOk result (λ s. IsTrue S.tells → IsTraced (S.files self.site) (trail_entries s.log.end.total s.log.first (S.files self.site)) s.history) }
         ensures limit { IfOk result (λ s. s.log.end.limit ≡ limit) }
         ensures refused { IfErr result (λ e. IsTrue S.tells → Refuses (S.files self.site) e.0) }
         ensures files { IfOk result (λ s. IsTrue S.tells → S.files s.log.site ≡ S.files self.site) }
@@ -59,10 +65,11 @@ impl<S: Site> Found<S> {
             Ok(()) => {}
             Err(_) => return Err((AudFault::Disk, Found { site })),
         }
-        let scan = match AuditStart::scan(alloc, &mut site) {
-            Ok(scan) => scan,
+        let read = match scan_trail(alloc, &mut site) {
+            Ok(read) => read,
             Err(fault) => return Err((fault, Found { site })),
         };
+        let TrailScan { scan, history } = read;
         match AuditEnd::new(alloc, &scan.reach, limit) {
             Ok(end) => Ok(Scanned {
                 log: Log {
@@ -71,6 +78,7 @@ impl<S: Site> Found<S> {
                     first: scan.first,
                 },
                 places: scan.places,
+                history,
             }),
             Err(_) => Err((AudFault::Memory, Found { site })),
         }

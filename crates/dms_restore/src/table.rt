@@ -1,6 +1,6 @@
 //! The table of what the audit tells of each block at a point.
 
-ghost use Rattle.std.specs.Prelude.{◌≡◌, ◌⊎◌, ◌++◌, [], ◌∷◌, ℕ, List, Some, None, option_map, OnOk, IfOk, IfErr, IsTrue};
+ghost use Rattle.std.specs.Prelude.{◌≡◌, ◌⊎◌, ◌↔◌, ◌++◌, [], ◌∷◌, ℕ, List, Some, None, option_map, OnOk, IfOk, IfErr, IsTrue};
 ghost use Rattle.dms_site.specs.Files.{Files};
 ghost use Rattle.dms_history.specs.Events.{Event};
 ghost use Rattle.dms_history.specs.Lists.{until_first, after_first, after_last};
@@ -8,7 +8,7 @@ ghost use Rattle.dms_history.specs.Places.{is_control, is_point};
 ghost use Rattle.dms_history.specs.Images.{or_else, last_after, first_before};
 ghost use Rattle.dms_restore.specs.declared.live.Spot as spot;
 ghost use Rattle.dms_restore.specs.LiveEntries.{events_at, AllHaveWholeBlocks};
-ghost use Rattle.dms_restore.specs.Named.{spot_of, named, AllFromSpots};
+ghost use Rattle.dms_restore.specs.Named.{spot_of, named, AllFromSpots, IsSpotAmong, IsNoBlock, HasNoBlock};
 ghost use Rattle.dms_restore.specs.Table.{IsBlock, AreBlocks, IsAmong, IsTable};
 
 use crate::naming::{note_redo, note_undo, take_first};
@@ -20,7 +20,7 @@ use std::collections::BTreeMap;
 
 /// Whether this is a block of a structure file, and its bytes stand in a file that is none.
 fn is_block(told: &Told) -> bool
-    ensures { IsTrue result → IsBlock told.now }
+    ensures { IsTrue result ↔ IsBlock told.now }
 {
     30000 < told.file && told.block < 2097152 && told.audit <= 30000 && told.at < 1099511626752
 }
@@ -30,7 +30,7 @@ fn add_told(table: &mut Vec<Told>, file: u32, block: u32, spot: Spot) -> Result<
     requires blocks { AreBlocks table.old.items }
     ensures blocks { OnOk result (AreBlocks table.new.items) }
     ensures added { OnOk result (table.new.items ≡ table.old.items ++ record { file = file; block = block; audit = spot.audit; at = spot.at } ∷ []) }
-    ensures only { IfErr result (λ e. (e ≡ AudFault.Memory) ⊎ (e ≡ AudFault.Damaged spot.audit 0)) }
+    ensures only { IfErr result (λ e. (e ≡ AudFault.Memory) ⊎ ((e ≡ AudFault.Damaged spot.audit 0) × IsNoBlock file block spot)) }
 {
     let told = Told {
         file,
@@ -55,14 +55,17 @@ fn list_told(
 ) -> Result<Vec<Told>, AudFault>
     ensures blocks { IfOk result (λ v. AreBlocks v.items) }
     ensures each { IfOk result (λ v. AllFromSpots spots v.items) }
-    ensures only { IfErr result (λ e. (e ≡ AudFault.Memory) ⊎ ((k : ℕ) × (e ≡ AudFault.Damaged k 0))) }
+    ensures only { IfErr result (λ e. (e ≡ AudFault.Memory) ⊎ ((f : ℕ) × (b : ℕ) × (s : spot.Spot) × (spot_of spots f b ≡ Some (Some s)) × (e ≡ AudFault.Damaged s.audit 0) × IsNoBlock f b s)) }
     ensures all { IfOk result (λ v. (f b : ℕ) (s : spot.Spot) → spot_of spots f b ≡ Some (Some s) → IsAmong f b v.items) }
 {
     let mut table = Vec::new(alloc);
     let mut left = spots;
     while let Some((key, place)) = take_first(&mut left) {
         match place {
-            Some(spot) => add_told(&mut table, key.0, key.1, spot)?,
+            Some(spot) => match add_told(&mut table, key.0, key.1, spot) {
+                Ok(()) => {}
+                Err(fault) => return Err(fault),
+            },
             None => {}
         }
     }
@@ -75,7 +78,8 @@ fn spots_of(
     front: &[LiveEntry],
     behind: &[LiveEntry],
 ) -> Result<BTreeMap<(u32, u32), Option<Spot>>, AllocError>
-    ensures { IfOk result (λ m. (files : Files) (f b : ℕ) → named files m f b ≡ or_else (option_map (λ x. Some x) (last_after f b (after_last is_control (events_at files front.now)))) (first_before f b (events_at files behind.now))) }
+    ensures from { IfOk result (λ m. (f b : ℕ) (s : spot.Spot) → spot_of m f b ≡ Some (Some s) → IsSpotAmong front.now f b s ⊎ IsSpotAmong behind.now f b s) }
+    ensures names { IfOk result (λ m. (files : Files) (f b : ℕ) → named files m f b ≡ or_else (option_map (λ x. Some x) (last_after f b (after_last is_control (events_at files front.now)))) (first_before f b (events_at files behind.now))) }
 {
     let mut spots = BTreeMap::new(alloc);
     note_redo(&mut spots, &front[after_control(front)..])?;
@@ -95,7 +99,7 @@ pub fn table_of(
     ensures blocks { IfOk result (λ v. AreBlocks v.items) }
     ensures table { IfOk result (λ v. (files : Files) (live : List Event) (m : ℕ) → until_first (is_point m) live ≡ events_at files front.now → after_first (is_point m) live ≡ events_at files behind.now
         → AllHaveWholeBlocks files front.now → AllHaveWholeBlocks files behind.now → IsTable live m files v.items) }
-    ensures only { IfErr result (λ e. (e ≡ AudFault.Memory) ⊎ ((k : ℕ) × (e ≡ AudFault.Damaged k 0))) }
+    ensures only { IfErr result (λ e. (e ≡ AudFault.Memory) ⊎ HasNoBlock front.now behind.now e) }
 {
     match spots_of(alloc, front, behind) {
         Ok(spots) => list_told(alloc, spots),

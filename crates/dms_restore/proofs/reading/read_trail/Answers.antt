@@ -4,7 +4,7 @@ use Rattle.dms_audfile.proofs.Reading.{reads_on}
 use Rattle.dms_audfile.specs.declared.place.Place.{Place}
 use Rattle.dms_audfile.specs.EntryReading.{IsCurrent}
 use Rattle.dms_restore.proofs.Results.{is_fault}
-use Rattle.dms_restore.proofs.ReadOn.{reads_none, read_next, read_all}
+use Rattle.dms_restore.proofs.ReadOn.{reads_none, read_next, read_all, no_entry_at, current_fault}
 use Rattle.dms_restore.proofs.reading.read_trail.Goals as goal
 
 pub loop-place-init : goal.loop-place-init
@@ -31,3 +31,10 @@ loop-place-preserved g c =
 
 pub returns-clause-traced : goal.returns-clause-traced
 returns-clause-traced g c tells ps are there = read_all _ c.args.places.now c.loop-place.place-index c.loop-place.history ps (omega (arith, c.loop-place-test.false)) are (c.loop-place.invariant.traced tells ps are there)
+
+pub returns-in-Err-read_one-clause-only : goal.returns-in-Err-read_one-clause-only
+returns-in-Err-read_one-clause-only g c =
+    let inv = c.loop-place.invariant in
+    let d : Place = record { file = 0; block = 0; offset = 0 } in
+    no_entry_at g.S.Site.tells (g.S.Site.files c.args.site.now) (g.S.Site.files c.loop-place.site) c.args.places.now c.loop-place.place-index d _ c.loop-place-test.true (λ t. inv.reads.files_stay t)
+    (current_fault g.S.Site.tells _ _ _ _ (λ t. subst (λ (l : Files). IsCurrent c.loop-place.reader l) (sym (inv.reads.files_stay t)) (inv.current t)) c.in-Err-read_one.ensures.only)

@@ -1,0 +1,11 @@
+use Rattle.dms_restore.proofs.Results.{one_if_ok}
+use Rattle.dms_restore.proofs.PendingTables.{table_lent}
+use Rattle.dms_restore.proofs.SpotParts.{lent_fault}
+use Rattle.dms_restore.proofs.tracing.TrailHistory.pending_table.Goals as goal
+
+pub returns-in-Some-clause-table : goal.returns-in-Some-clause-table
+returns-in-Some-clause-table c = one_if_ok c.table_at.result c.table_at.ensures.table (λ v table files entries p t is.
+    table_lent files entries c.args.self.now c.in-Some.at p _ _ v.items c.deref.ensures.value c.deref-in-Some.ensures.value (table files p) c.in-Some.is is t)
+
+pub returns-in-Some-clause-only : goal.returns-in-Some-clause-only
+returns-in-Some-clause-only c = lent_fault c.table_at.result c.args.self.now.live.items c.args.self.now.removed.items _ _ c.deref.ensures.value c.deref-in-Some.ensures.value c.table_at.ensures.only
