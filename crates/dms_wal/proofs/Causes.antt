@@ -1,16 +1,20 @@
 -- Why a call of a running database fails.
-use Rattle.std.proofs.Common.{ℕ, ◌≡◌, ◌⊎◌, inl, inr, sym, subst}
+use Rattle.std.proofs.Common.{ℕ, ◌+◌, ◌<◌, ◌≡◌, ◌⊎◌, ◌∙◌, inl, inr, sym, subst, arith}
 use Rattle.std.specs.Prelude.{IsErrOf}
 use Rattle.std.specs.declared.result.Result.TheVariants.{Err}
 use Rattle.dms_base.specs.Causes.{HasCause}
 use Rattle.dms_audfile.specs.declared.fault.AudFault.{AudFault}
 use Rattle.dms_audfile.specs.declared.fault.AudFault.TheVariants.{NoDatabase, Disk, Full, Missing, Unsealed, Damaged, Foreign, Memory}
 use Rattle.dms_audfile.specs.Counting.{CountedAt}
+use Rattle.dms_audfile.specs.declared.audit_end.AuditEnd.{AuditEnd}
+use Rattle.dms_block.specs.declared.block.BlockId.{BlockId}
 use Rattle.dms_block.specs.declared.block_fault.BlockFault.{BlockFault}
 use Rattle.dms_block.specs.declared.block_fault.BlockFault.TheVariants as block
 use Rattle.dms_block.specs.Counts.{Faults, RoseOnce, Raised}
 use Rattle.dms_block.specs.Held.{Held, Caused}
-use Rattle.dms_wal.specs.Faults.{IsSeenAs}
+use Rattle.dms_wal.specs.Changing.{DamagedOnly}
+use Rattle.dms_block.specs.Faults.{NotFull}
+use Rattle.dms_wal.specs.Faults.{IsSeenAs, StandsFull}
 
 -- a failed call of the disk, counted once
 pub rose_once : {T E : Type 0} (e : E) (before now : ℕ) → HasCause {T = T} before now (Err e) → RoseOnce before now
@@ -61,3 +65,40 @@ no_memory e (inr is) same = let at = is.1 in cc
 pub no_say : {T : Type 0} (e : BlockFault) → (e ≡ block.Disk) ⊎ ((n : ℕ) × (e ≡ block.Full n)) → IsErrOf {T = T} (Err e) block.Say → ⊥
 no_say e (inl is) same = cc
 no_say e (inr is) same = let at = is.1 in cc
+
+-- so no block was found damaged
+pub none_damaged : {T : Type 0} (e : BlockFault) (id : BlockId) → (e ≡ block.Disk) ⊎ ((n : ℕ) × (e ≡ block.Full n)) → DamagedOnly {T = T} id (Err e)
+none_damaged e id (inl is) f n same = absurd cc
+none_damaged e id (inr is) f n same = let at = is.1 in absurd cc
+
+pub damaged_on : {T U : Type 0} (e : BlockFault) (id : BlockId) → DamagedOnly {T = T} id (Err e) → DamagedOnly {T = U} id (Err e)
+damaged_on e id only f n same = only f n (cc same)
+
+-- where Full is answered, the audit was full
+no_disk : (e : BlockFault) (n : ℕ) → e ≡ block.Disk → e ≡ block.Full n → ⊥
+no_disk e n at is = cc
+
+full_is : (e : BlockFault) (n limit : ℕ) → e ≡ block.Full limit → e ≡ block.Full n → n ≡ limit
+full_is e n limit at is = cc
+
+pub full_seen : {T : Type 0} (f : AudFault) (e : BlockFault) (limit old new n : ℕ) → (f ≡ Disk) ⊎ (f ≡ Full limit) → IsSeenAs f e old new → IsErrOf {T = T} (Err e) (block.Full n) → (n ≡ limit) × (f ≡ Full limit)
+full_seen f e limit old new n (inl at) seen is = absurd (no_disk e n (subst (λ x. IsSeenAs x e old new) at seen).0 (cc is))
+full_seen f e limit old new n (inr at) seen is = (full_is e n limit (subst (λ x. IsSeenAs x e old new) at seen).0 (cc is), at)
+
+pub full_left : {T : Type 0} (f : AudFault) (e : BlockFault) (old new n : ℕ) (end after : AuditEnd) → (f ≡ Disk) ⊎ (f ≡ Full end.limit) → IsSeenAs f e old new → after.limit ≡ end.limit
+    → (IsErrOf {T = Unit {0}} (Err f) (Full end.limit) → (after.used ≡ 0) × (10000 + end.limit < after.file)) → IsErrOf {T = T} (Err e) (block.Full n) → StandsFull after n
+full_left f e old new n end after only seen same full is =
+    let s = full_seen f e end.limit old new n only seen is in
+    let at = full (λ i. Err (s.1 i)) in
+    (s.0 ∙ sym same, at.0, omega (arith, at.1, s.0))
+
+-- a call that needs no room doesn't answer Full
+pub not_full : (T U : Type 0) (e : BlockFault) (n : ℕ) → NotFull {T = T} (Err e) → IsErrOf {T = U} (Err e) (block.Full n) → ⊥
+not_full T U block.Disk n room is = cc
+not_full T U block.Memory n room is = cc
+not_full T U (block.Full m) n room is = room
+not_full T U (block.Damaged f k) n room is = cc
+not_full T U block.Say n room is = cc
+
+pub disk_not_full : {T : Type 0} (e : BlockFault) (n : ℕ) → e ≡ block.Disk → IsErrOf {T = T} (Err e) (block.Full n) → ⊥
+disk_not_full e n at is = cc

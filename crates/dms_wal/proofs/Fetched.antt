@@ -33,13 +33,11 @@ use Rattle.dms_wal.specs.Database.{view_of, frame_seen, frames_of, IsUsable}
 use Rattle.dms_wal.proofs.Pooled.{holds_like, frames_put, counted_put, frames_looked, counted_looked}
 use Rattle.dms_wal.proofs.Stills.{goes_still}
 use Rattle.dms_wal.proofs.Stepped.{in_table}
+use Rattle.dms_wal.proofs.Tabled.{count_at}
 use Rattle.dms_wal.proofs.Roomed.{usable_same}
 
 none_not_some : {A : Type 0} (x : A) → None ≡ Some x → ⊥
 none_not_some x e = absurd cc
-
-count_at : (l : List ℕ) (f : ℕ) → 30000 < f → count_of l f ≡ get_or l (f - 30001) 0
-count_at l f structure = grind (arith, nat_tests, structure)
 
 past : (l : List ℕ) (i : ℕ) → length l ≤ i → get_or l i 0 ≡ 0
 past [] i le = refl

@@ -9,3 +9,6 @@ pub mod Roomed
 pub mod Fetched
 pub mod Synced
 pub mod Rooming
+pub mod Tabled
+pub mod Imaged
+pub mod Made

@@ -1,6 +1,8 @@
 -- The frames of a pool after its calls.
 use Rattle.std.proofs.Common.{ℕ, ◌<◌, ◌≡◌, Bool, true, false, cond, inl, inr, List, Option, Some, None, refl, sym, ◌∙◌, ap, subst, arith}
-use Rattle.std.specs.Prelude.{option_map}
+use Rattle.std.specs.Prelude.{option_map, is_some, IsSome}
+use Rattle.std.proofs.lemmas.Bool.{false≢true}
+use Rattle.dms_block.specs.declared.block.Block.{Block}
 use Rattle.dms_block.specs.declared.block.BlockId.{BlockId}
 use Rattle.dms_pool.specs.declared.frame.Frame as pools
 use Rattle.dms_pool.specs.declared.pool.Pool.{Pool}
@@ -67,3 +69,13 @@ frames_empty n pool empty g c = ap (λ (o : Option pools.Frame). option_map fram
 
 pub counted_empty : (n : ℕ) (pool : Pool) (counts : List ℕ) → IsEmpty n pool → HoldsCounted pool counts
 counted_empty n pool counts empty id x is = absurd (none_not_some x (sym (empty.holds id) ∙ is))
+
+-- a block that wasn't got isn't held
+pub not_got : (o : Option pools.Frame) (got : Option Block) (b : Bool) → got ≡ option_map (λ f. f.block) o → b ≡ is_some got → b ≡ false → o ≡ None
+not_got None got b value is off = refl
+not_got (Some x) got b value is off = absurd (false≢true (sym off ∙ is ∙ ap (λ (z : Option Block). is_some z) value))
+
+-- nor is one that couldn't be put
+pub failed_lacks : (o : Option pools.Frame) → (IsSome o → false ≡ true) → o ≡ None
+failed_lacks None fails = refl
+failed_lacks (Some x) fails = absurd (false≢true (fails refl))

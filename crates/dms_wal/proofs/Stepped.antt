@@ -38,11 +38,17 @@ in_table counts f b low = elim (cases_lt 30000 f) [
 ]
 
 -- nothing is changed but what is kept in memory, and what it was used for
+pub passes_sound : (a : Held) (sound : Type 0) (uses : Uses) → MakesNoPoint a (record a { sound = sound; uses = uses })
+passes_sound a sound uses = record { lasts = record { told = refl; tells = λ t. t; owns = refl; schema = refl; whole = λ files w. w; whole_on = λ files w. w }; next = refl; said = refl; leaves = λ t room. runs_none a.clock _ }
+
+pub stays_sound : (a : Held) (sound : Type 0) (uses : Uses) → sound → Stays a (record a { sound = sound; uses = uses })
+stays_sound a sound uses usable = record { sound = usable; mark = λ t. refl; points = λ t room. (refl, omega arith) }
+
 pub looks_sound : {T : Type 0} (r : Result T BlockFault) (n : ℕ) (a : Held) (sound : Type 0) (uses : Uses) → NotFull r → sound → Used n 0 a.uses uses → Looks n r a (record a { sound = sound; uses = uses })
 looks_sound r n a sound uses room usable used = record {
   not_full = room;
-  passes = record { lasts = record { told = refl; tells = λ t. t; owns = refl; schema = refl; whole = λ files w. w; whole_on = λ files w. w }; next = refl; said = refl; leaves = λ t room. runs_none a.clock _ };
-  stays = unbroken_is r (record { sound = usable; mark = λ t. refl; points = λ t room. (refl, omega arith) });
+  passes = passes_sound a sound uses;
+  stays = unbroken_is r (stays_sound a sound uses usable);
   same = unbroken_is r (record { counts = refl; content = λ t. refl });
   counts = refl;
   uses = used;

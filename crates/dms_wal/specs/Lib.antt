@@ -3,3 +3,4 @@ pub mod Database
 pub mod Starting
 pub mod Faults
 pub mod Writing
+pub mod Changing

@@ -1,9 +1,11 @@
 //! Quiet points, syncs and printing.
 
-ghost use Rattle.std.specs.Prelude.{◌≡◌, ◌≤◌, ◌<◌, ◌+◌, ◌^◌, ◌++◌, [], ◌∷◌, IfOk, IsErrOf, IsOkUnless, OnOk};
+ghost use Rattle.std.specs.Prelude.{◌≡◌, ◌≤◌, ◌<◌, ◌+◌, ◌^◌, ◌++◌, [], ◌∷◌, IfErr, IfOk, IsErrOf, IsOkUnless, IsTrue, OnOk, false, true};
 ghost use Rattle.dms_block.specs.Held.{HasCauses, HasNextNumber, IfTold, Lasts, Leaves, LeavesText, MadeDurable, MadeQuiet, MakesNoPoint, SameBlocks, Stays, Synced};
 ghost use Rattle.dms_block.specs.Texts.{Prints, PrintsPrefix};
-ghost use Rattle.dms_wal.specs.Database.{held};
+ghost use Rattle.dms_restore.specs.Logging.{SealsWaiting};
+ghost use Rattle.dms_wal.specs.Database.{held, view_of};
+ghost use Rattle.dms_wal.specs.Faults.{lacks_room, StandsFull};
 
 use crate::Running;
 use crate::faults::append_fault;
@@ -13,7 +15,8 @@ use dms_site::Site;
 impl<S: Site> Running<S> {
     /// Makes a quiet point, and answers its number. Takes no memory. Where the next number is 2^64 - 1 it stays so.
     ///
-    /// One quiet point is logged, which the next sync makes durable. Answers Disk, and Full where the audit has no room.
+    /// One quiet point is logged, which the next sync makes durable. Answers Disk, and Full exactly where no call of the site
+    /// failed and the audit has no room; then all that waited is sealed.
     pub fn quiet(&mut self) -> Result<u64, BlockFault>
         requires { (held S.Site self.old).sound }
         ensures number { HasNextNumber (held S.Site self.old) → IfOk result (λ n. n ≡ (held S.Site self.old).next) }
@@ -24,6 +27,10 @@ impl<S: Site> Running<S> {
         ensures lasts { Lasts (held S.Site self.old) (held S.Site self.new) }
         ensures uses { (held S.Site self.new).uses ≡ (held S.Site self.old).uses }
         ensures memory { IsErrOf result BlockFault.Memory → ⊥ }
+        ensures full { (n : _) → IsErrOf result (BlockFault.Full n) → StandsFull self.new.log.end n }
+        ensures past { (n : _) → IsErrOf result (BlockFault.Full n) → lacks_room self.old.log.end self.old.next ≡ true }
+        ensures within { HasNextNumber (held S.Site self.old) → OnOk result (lacks_room self.old.log.end self.old.next ≡ false) }
+        ensures kept { (n : _) → IsErrOf result (BlockFault.Full n) → IsTrue S.tells → SealsWaiting (view_of S.Site self.old.log) (view_of S.Site self.new.log) }
         ensures causes { HasCauses result (held S.Site self.old) (held S.Site self.new) }
         ensures silent { IsErrOf result BlockFault.Say → ⊥ }
         ensures same { S.same_site self.old.log.site self.new.log.site }
@@ -51,6 +58,7 @@ impl<S: Site> Running<S> {
         ensures passes { MakesNoPoint (held S.Site self.old) (held S.Site self.new) }
         ensures uses { Synced result (held S.Site self.old).uses (held S.Site self.new).uses }
         ensures memory { IsErrOf result BlockFault.Memory → ⊥ }
+        ensures only { IfErr result (λ e. e ≡ BlockFault.Disk) }
         ensures causes { HasCauses result (held S.Site self.old) (held S.Site self.new) }
         ensures silent { IsErrOf result BlockFault.Say → ⊥ }
         ensures same { S.same_site self.old.log.site self.new.log.site }

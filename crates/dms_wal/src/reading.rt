@@ -4,6 +4,7 @@ ghost use Rattle.std.specs.Prelude.{◌≡◌, ◌<◌, IfErr, IfOk, IsErrOf, Is
 ghost use Rattle.dms_block.specs.Content.{block_in};
 ghost use Rattle.dms_block.specs.Held.{HasCauses, Looks, one_more};
 ghost use Rattle.dms_pool.specs.Held.{frame_of};
+ghost use Rattle.dms_wal.specs.Changing.{DamagedOnly};
 ghost use Rattle.dms_wal.specs.Database.{held};
 
 use crate::Running;
@@ -19,6 +20,7 @@ impl<S: Site> Running<S> {
         ensures looks { Looks 1 result (held S.Site self.old) (held S.Site self.new) }
         ensures reads { (held S.Site self.new).uses.reads ≡ one_more (held S.Site self.old).uses.reads }
         ensures causes { HasCauses result (held S.Site self.old) (held S.Site self.new) }
+        ensures memory { IsErrOf result BlockFault.Memory → ⊥ }
         ensures silent { IsErrOf result BlockFault.Say → ⊥ }
         ensures same { S.same_site self.old.log.site self.new.log.site }
     {
@@ -37,6 +39,7 @@ impl<S: Site> Running<S> {
         ensures block { IfOk result (λ x. IsTrue (held S.Site self.old).told → x.0 ≡ block_in (held S.Site self.old).content id.file id.block) }
         ensures looks { Looks 0 result (held S.Site self.old) (held S.Site self.new) }
         ensures causes { HasCauses result (held S.Site self.old) (held S.Site self.new) }
+        ensures memory { IsErrOf result BlockFault.Memory → ⊥ }
         ensures silent { IsErrOf result BlockFault.Say → ⊥ }
         ensures same { S.same_site self.old.log.site self.new.log.site }
     {
@@ -62,6 +65,8 @@ impl<S: Site> Running<S> {
         ensures looks { Looks 0 result (held S.Site self.old) (held S.Site self.new) }
         ensures causes { HasCauses result (held S.Site self.old) (held S.Site self.new) }
         ensures pool { self.new.pool ≡ self.old.pool }
+        ensures memory { IsErrOf result BlockFault.Memory → ⊥ }
+        ensures damaged { DamagedOnly id result }
         ensures silent { IsErrOf result BlockFault.Say → ⊥ }
         ensures same { S.same_site self.old.log.site self.new.log.site }
     {

@@ -1,5 +1,7 @@
 use Rattle.std.proofs.Common.{refl, false, arith}
 use Rattle.dms_wal.proofs.Synced.{kind_is, quiet_done, quiet_left}
+use Rattle.std.specs.declared.result.Result.TheVariants.{Err}
+use Rattle.dms_wal.proofs.Causes.{full_left, full_seen}
 use Rattle.dms_wal.proofs.running.Running.quiet.Goals as goal
 
 pub returns-in-Ok-clause-made : goal.returns-in-Ok-clause-made
@@ -16,3 +18,14 @@ pub returns-in-Err-clause-leaves : goal.returns-in-Err-clause-leaves
 returns-in-Err-clause-leaves g c =
     let m = g.met.S.Site in
     quiet_left g.S.Site m.may_stay m.now_said m.counts_now c.args.self.now c.requires c.quiet.new.self (kind_is c.quiet.ensures.kind.0 c.quiet.ensures.kind.3) c.quiet.ensures.moments false 0 0 c.quiet.ensures.silent
+
+pub returns-in-Err-clause-full : goal.returns-in-Err-clause-full
+returns-in-Err-clause-full g c n is = full_left c.in-Err.fault c.append_fault.result _ _ n c.args.self.now.log.end c.quiet.new.self.end c.in-Err.ensures.only c.append_fault.ensures c.quiet.ensures.kind.2 c.in-Err.ensures.full is
+
+pub returns-in-Err-clause-past : goal.returns-in-Err-clause-past
+returns-in-Err-clause-past g c n is =
+    let seen = full_seen c.in-Err.fault c.append_fault.result _ _ _ n c.in-Err.ensures.only c.append_fault.ensures is in c.in-Err.ensures.past (λ i. Err (seen.1 i))
+
+pub returns-in-Err-clause-kept : goal.returns-in-Err-clause-kept
+returns-in-Err-clause-kept g c n is =
+    let seen = full_seen c.in-Err.fault c.append_fault.result _ _ _ n c.in-Err.ensures.only c.append_fault.ensures is in c.in-Err.ensures.kept (λ i. Err (seen.1 i))

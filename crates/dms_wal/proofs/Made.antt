@@ -1,0 +1,110 @@
+-- Changes were made, as far as a loop over all of them has come.
+use Rattle.std.proofs.Common.{ℕ, ◌+◌, ◌<◌, ◌≤◌, ◌≡◌, ◌∙◌, Bool, IsTrue, List, [], ◌∷◌, ◌++◌, length, take, get_or, refl, sym, ap, subst, arith}
+use Rattle.std.proofs.lemmas.List.{take_all, take_more}
+use Rattle.std.specs.Prelude.{IsErrOf}
+use Rattle.std.specs.declared.result.Result.TheVariants.{Ok, Err}
+use Rattle.dms_block.specs.declared.block.BlockId.{BlockId}
+use Rattle.dms_block.specs.declared.block_fault.BlockFault.{BlockFault}
+use Rattle.dms_block.specs.declared.block_fault.BlockFault.TheVariants.{Disk, Memory, Full, Damaged, Say}
+use Rattle.dms_block.specs.declared.change.Change.{Change}
+use Rattle.dms_block.specs.Content.{Content, block_in, changed, grown, raised, limit, with_block, AreApart, FitsIn, NoneOf}
+use Rattle.dms_block.specs.Changing.{apart_at, changed_push, fits_at, fits_content, grown_push, none_changed, was_below}
+use Rattle.dms_block.specs.Counts.{Faults, Raised}
+use Rattle.dms_block.specs.Held.{Alters, Caused, Held, IsShort, MakesNoPoint, Stays, Used, Uses}
+use Rattle.dms_block.specs.HeldLaws.{passes_none, passes_on, stays_none, stays_on, told_after, unbroken_map, used_more, used_none, used_on}
+use Rattle.dms_wal.specs.Changing.{DamagedOnly}
+use Rattle.dms_wal.proofs.Stepped.{passes_sound, stays_sound}
+
+-- these changes were made, and nothing else
+pub record MadeChanges (xs : List Change) (a b : Held) : Type 0 where
+  pub counts : b.counts ≡ grown xs a.counts
+  pub content : IsTrue a.told → b.content ≡ changed xs a.content
+  pub passes : MakesNoPoint a b
+  pub stays : Stays a b
+  pub uses : Used 0 0 a.uses b.uses
+  pub faults : b.faults ≡ a.faults
+
+pub made_none : (a : Held) → a.sound → MadeChanges [] a a
+made_none a sound = record { counts = refl; content = λ t. refl; passes = passes_none a; stays = stays_none a sound; uses = used_none 0 0 a.uses; faults = refl }
+
+-- one change further
+pub made_push : (xs : List Change) (x : Change) (a b c : Held) → MadeChanges xs a b → c.counts ≡ raised b.counts x.id.file x.id.block → (IsTrue b.told → c.content ≡ with_block b.content x.id.file x.id.block x.block.0)
+    → Alters 0 0 (Ok (tt {0})) b c → c.faults ≡ b.faults → MadeChanges (xs ++ x ∷ []) a c
+made_push xs x a b c s counts content one faults = record {
+  counts = counts ∙ ap (λ (k : ℕ → ℕ). raised k x.id.file x.id.block) s.counts ∙ sym (grown_push xs x a.counts);
+  content = λ t. content (told_after s.passes.lasts t) ∙ ap (λ (d : Content). with_block d x.id.file x.id.block x.block.0) (s.content t) ∙ sym (changed_push xs x a.content);
+  passes = passes_on s.passes s.stays one.passes;
+  stays = stays_on s.passes s.stays one.stays;
+  uses = used_on s.uses one.uses;
+  faults = faults ∙ s.faults;
+}
+
+pub made_more : (all items : List Change) (i : ℕ) (d : Change) → items ≡ all → i < length items → (a b c : Held) → MadeChanges (take i all) a b → c.counts ≡ raised b.counts (get_or items i d).id.file (get_or items i d).id.block
+    → (IsTrue b.told → c.content ≡ with_block b.content (get_or items i d).id.file (get_or items i d).id.block (get_or items i d).block.0) → Alters 0 0 (Ok (tt {0})) b c → c.faults ≡ b.faults → MadeChanges (take (i + 1) all) a c
+made_more all items i d is low a b c s counts content one faults =
+    let x = get_or items i d in
+    let longer : take (i + 1) all ≡ take i all ++ x ∷ [] = subst (λ l. take (i + 1) l ≡ take i l ++ x ∷ []) is (take_more items i d low) in
+    subst (λ (l : List Change). MadeChanges l a c) (sym longer) (made_push (take i all) x a b c s counts content one faults)
+
+-- the last one failed, and not by memory
+pub made_failed : (m : ℕ) (xs : List Change) (e : BlockFault) (a b c : Held) → MadeChanges xs a b → Alters {T = Unit {0}} 0 0 (Err e) b c → (IsErrOf {T = Unit {0}} (Err e) Memory → ⊥) → Alters {T = Unit {0}} 0 m (Err e) a c
+made_failed m xs e a b c s one off = record {
+  passes = passes_on s.passes s.stays one.passes;
+  stays = unbroken_map {T = Unit {0}} (Err e) (λ p. stays_on s.passes s.stays p) one.stays;
+  memory = λ is. absurd (off is);
+  uses = used_more 0 m (omega arith) (omega arith) (used_on s.uses one.uses);
+}
+
+-- all were made, and are counted
+pub made_all : (m : ℕ) (xs : List Change) (a b : Held) (sound : Type 0) (uses : Uses) → MadeChanges xs a b → sound → Used 0 m b.uses uses → Alters 0 m (Ok (tt {0})) a (record b { sound = sound; uses = uses })
+made_all m xs a b sound uses s usable used = record {
+  passes = passes_on s.passes s.stays (passes_sound b sound uses);
+  stays = stays_on s.passes s.stays (stays_sound b sound uses usable);
+  memory = λ e. absurd (cc e);
+  uses = used_more 0 m (omega arith) (omega arith) (used_on s.uses used);
+}
+
+-- a block of which no change was made was short before
+short_before : (xs : List Change) (a b : Held) (f n : ℕ) → MadeChanges xs a b → FitsIn xs a.owns a.counts → (IsTrue a.told → (g : ℕ) → a.counts g ≡ length (a.content g)) → NoneOf f n xs → IsShort b f n → IsShort a f n
+short_before xs a b f n s fits counted none short = (
+  subst (λ (owns : ℕ → Bool). IsTrue (owns f)) s.passes.lasts.owns short.0,
+  was_below xs a.owns a.counts f n fits none (subst (λ (k : ℕ → ℕ). n < k f) s.counts short.1),
+  λ t long. short.2 (told_after s.passes.lasts t)
+      (ap (λ (d : Content). length (block_in d f n)) (s.content t) ∙ ap (λ (l : List ℕ). length l) (none_changed xs a.content f n (fits_content xs a.owns a.counts a.content (counted t) fits) none) ∙ long),
+)
+
+raised_from : (e : BlockFault) (a b c : Faults) → b ≡ a → Raised e b c → Raised e a c
+raised_from e a b c is h = subst (λ f. Raised e f c) is h
+
+-- a fault after changes has its cause
+pub made_causes : (xs : List Change) (id : BlockId) (e : BlockFault) (a b c : Held) → MadeChanges xs a b → FitsIn xs a.owns a.counts → (IsTrue a.told → (g : ℕ) → a.counts g ≡ length (a.content g)) → NoneOf id.file id.block xs
+    → DamagedOnly {T = Unit {0}} id (Err e) → Caused e b c → Caused e a c
+made_causes xs id Disk a b c s fits counted none only h = raised_from Disk a.faults b.faults c.faults s.faults h
+made_causes xs id Memory a b c s fits counted none only h = raised_from Memory a.faults b.faults c.faults s.faults h
+made_causes xs id (Full m) a b c s fits counted none only h = raised_from (Full m) a.faults b.faults c.faults s.faults h
+made_causes xs id (Damaged f n) a b c s fits counted none only h =
+    let at = only f n refl in
+    let off : NoneOf f n xs = subst (λ g. NoneOf g n xs) (sym at.0) (subst (λ k. NoneOf id.file k xs) (sym at.1) none) in
+    (raised_from (Damaged f n) a.faults b.faults c.faults s.faults h.0, short_before xs a b f n s fits counted off h.1)
+made_causes xs id Say a b c s fits counted none only h = raised_from Say a.faults b.faults c.faults s.faults h
+
+module _ (all items : List Change) (i : ℕ) (d : Change) (is : items ≡ all) (low : i < length items) where
+  there : i < length all
+  there = subst (λ (l : List Change). i < length l) is low
+
+  -- the next change fits what the ones before it made
+  pub next_fits : (a b : Held) → FitsIn all a.owns a.counts → MadeChanges (take i all) a b
+      → IsTrue (b.owns (get_or items i d).id.file) × ((get_or items i d).id.block < limit) × ((get_or items i d).id.block ≤ b.counts (get_or items i d).id.file)
+  next_fits a b fits s =
+      let x = get_or items i d in
+      let fit : IsTrue (a.owns x.id.file) × (x.id.block < limit) × (x.id.block ≤ grown (take i all) a.counts x.id.file) =
+      subst (λ (l : List Change). IsTrue (a.owns (get_or l i d).id.file) × ((get_or l i d).id.block < limit) × ((get_or l i d).id.block ≤ grown (take i all) a.counts (get_or l i d).id.file)) (sym is) (fits_at all a.owns a.counts i d fits there) in
+      (subst (λ (owns : ℕ → Bool). IsTrue (owns x.id.file)) (sym s.passes.lasts.owns) fit.0, fit.1, subst (λ (k : ℕ → ℕ). x.id.block ≤ k x.id.file) (sym s.counts) fit.2)
+
+  -- and is of another block
+  pub next_apart : AreApart all → NoneOf (get_or items i d).id.file (get_or items i d).id.block (take i all)
+  next_apart apart = subst (λ (l : List Change). NoneOf (get_or l i d).id.file (get_or l i d).id.block (take i all)) (sym is) (apart_at all i d apart there)
+
+-- the loop came to the end
+pub made_whole : (all items : List Change) (i : ℕ) → items ≡ all → length items ≤ i → (a b : Held) → MadeChanges (take i all) a b → MadeChanges all a b
+made_whole all items i is le a b s = subst (λ (l : List Change). MadeChanges l a b) (take_all i all (subst (λ (l : List Change). length l ≤ i) is le)) s

@@ -1,0 +1,14 @@
+use Rattle.std.proofs.Common.{take}
+use Rattle.dms_block.specs.Held.{Held}
+use Rattle.dms_wal.specs.Database.{held}
+use Rattle.dms_wal.proofs.Made.{MadeChanges}
+use Rattle.dms_wal.proofs.running.Running.apply.Given as goal
+
+abbrev pub invariant-loop-change : goal.invariant-loop-change
+invariant-loop-change g l =
+    let a : Held = held g.S.Site l.fn.self in
+    let b : Held = held g.S.Site l.self in
+    record {
+      made : MadeChanges (take l.change-index l.changes.items.items) a b;
+      same : g.S.Site.same_site l.fn.self.log.site l.self.log.site;
+    }

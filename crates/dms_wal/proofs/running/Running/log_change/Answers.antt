@@ -1,0 +1,58 @@
+use Rattle.std.proofs.Common.{ℕ, IsTrue, List, Option, refl, sym, ◌∙◌, subst}
+use Rattle.std.specs.Option.{option_copied}
+use Rattle.std.proofs.Common.{inl}
+use Rattle.dms_history.specs.Replay.{TellsBefore}
+use Rattle.dms_restore.specs.Logging.{content}
+use Rattle.dms_wal.specs.Database.{view_of}
+use Rattle.dms_wal.proofs.Causes.{disk_not_full, disk_or_full, full_left}
+use Rattle.dms_wal.proofs.Synced.{kind_is}
+use Rattle.dms_wal.proofs.Imaged.{alters_made, alters_failed, counted_more, imaged, usable_changed, with_same, then_left}
+use Rattle.dms_wal.proofs.Roomed.{then_silent}
+use Rattle.dms_wal.proofs.Tabled.{raised_there}
+use Rattle.dms_wal.proofs.running.Running.log_change.Goals as goal
+
+pub returns-in-Err-clause-alters : goal.returns-in-Err-clause-alters
+returns-in-Err-clause-alters g c =
+    let m = g.met.S.Site in
+    alters_failed g.S.Site m.may_stay m.now_said m.counts_now c.args.self.now c.requires.sound c.image.new.self (kind_is c.image.ensures.kind.0 c.image.ensures.kind.3) c.image.ensures.said c.image.ensures.moments c.image.ensures.silent
+    c.append_fault.result (disk_or_full _ _ _ _ c.append_fault.ensures) c.args.self.now.pool _ c.args.self.now.counts refl
+
+pub keep-requires-clause-imaged : goal.keep-requires-clause-imaged
+keep-requires-clause-imaged g c t =
+    imaged (view_of g.S.Site c.args.self.now.log) (view_of g.S.Site c.image.new.self) c.args.self.now.pool c.args.change.now.id.file c.args.change.now.id.block (option_copied c.bytes_of.result) c.args.change.now.block.0 (kind_is c.image.ensures.kind.0 c.image.ensures.kind.3) (c.in-Ok.ensures.runs t) (c.requires.sound.goes t).holds
+    (subst (λ (o : Option (List ℕ)). TellsBefore c.args.change.now.id.block o (content (view_of g.S.Site c.args.self.now.log) c.args.change.now.id.file)) (sym c.bytes_of.ensures.bytes) (c.requires.before t)) (c.in-Ok.ensures.logs t)
+
+pub returns-in-Ok-keep-clause-content : goal.returns-in-Ok-keep-clause-content
+returns-in-Ok-keep-clause-content g c t = (c.in-Ok-keep.ensures.kept t).content_same ∙ (c.in-Ok.ensures.logs t).content_is ∙ sym (with_same _ _ _ _)
+
+pub returns-in-Ok-keep-clause-alters : goal.returns-in-Ok-keep-clause-alters
+returns-in-Ok-keep-clause-alters g c =
+    let m = g.met.S.Site in
+    let r = c.args.self.now in
+    let u = c.requires.sound in
+    let kind = kind_is c.image.ensures.kind.0 c.image.ensures.kind.3 in
+    let id = c.args.change.now.id in
+    let told = λ (t : IsTrue g.S.Site.tells). subst (λ (o : Option (List ℕ)). TellsBefore id.block o (content (view_of g.S.Site r.log) id.file)) (sym c.bytes_of.ensures.bytes) (c.requires.before t) in
+    alters_made g.S.Site m.may_stay m.now_said m.counts_now r u c.keep.new.log (c.keep.ensures.kind ∙ kind) (c.keep.ensures.said ∙ c.image.ensures.said)
+    (then_left g.S.Site m.may_stay m.counts_now r u c.image.new.self c.keep.new.log id.file id.block (option_copied c.bytes_of.result) c.args.change.now.block.0 kind c.in-Ok.ensures.logs c.image.ensures.moments c.keep.ensures.moments)
+    (λ t. then_silent (c.image.ensures.silent t) (c.keep.ensures.silent t)) c.keep.new.pool _ c.raise.ensures.files
+    (usable_changed g.S.Site r u id c.args.change.now.block (option_copied c.bytes_of.result) c.requires.owned c.requires.low told c.image.new.self c.keep.new.log c.keep.new.pool _ c.in-Ok.ensures.logs c.in-Ok-keep.ensures.kept c.raise.ensures.raised c.raise.ensures.files
+    (c.keep.ensures.counted _ (counted_more r.pool r.counts.items _ id.file id.block u.counted c.raise.ensures.raised) (raised_there r.counts.items _ id.file id.block c.raise.ensures.raised)))
+    (λ t. (c.in-Ok-keep.ensures.kept t).points_same ∙ (c.in-Ok.ensures.logs t).points_same)
+
+pub returns-in-Err-keep-clause-alters : goal.returns-in-Err-keep-clause-alters
+returns-in-Err-keep-clause-alters g c =
+    let m = g.met.S.Site in
+    let r = c.args.self.now in
+    let u = c.requires.sound in
+    let kind = kind_is c.image.ensures.kind.0 c.image.ensures.kind.3 in
+    let id = c.args.change.now.id in
+    alters_failed g.S.Site m.may_stay m.now_said m.counts_now r u c.keep.new.log (c.keep.ensures.kind ∙ kind) (c.keep.ensures.said ∙ c.image.ensures.said)
+    (then_left g.S.Site m.may_stay m.counts_now r u c.image.new.self c.keep.new.log id.file id.block (option_copied c.bytes_of.result) c.args.change.now.block.0 kind c.in-Ok.ensures.logs c.image.ensures.moments c.keep.ensures.moments)
+    (λ t. then_silent (c.image.ensures.silent t) (c.keep.ensures.silent t)) c.in-Err-keep.fault (inl c.in-Err-keep.ensures.only) c.keep.new.pool _ _ c.raise.ensures.files
+
+pub returns-in-Err-clause-full : goal.returns-in-Err-clause-full
+returns-in-Err-clause-full g c n is = full_left c.in-Err.fault c.append_fault.result _ _ n c.args.self.now.log.end c.image.new.self.end c.in-Err.ensures.only c.append_fault.ensures c.image.ensures.kind.2 c.in-Err.ensures.full is
+
+pub returns-in-Err-keep-clause-full : goal.returns-in-Err-keep-clause-full
+returns-in-Err-keep-clause-full g c n is = absurd (disk_not_full c.in-Err-keep.fault n c.in-Err-keep.ensures.only is)

@@ -1,0 +1,195 @@
+//! Changes: each is logged by one Image before the pool has it.
+
+ghost use Rattle.std.specs.Prelude.{◌≡◌, ◌≤◌, ◌<◌, ◌+◌, ◌-◌, ◌^◌, IfErr, IfOk, IfSome, IsErrOf, IsTrue, OnOk, length, min, option_map};
+ghost use Rattle.std.specs.Option.{option_copied};
+ghost use Rattle.dms_base.specs.Causes.{HasCause};
+ghost use Rattle.dms_moments.specs.Moments.{Steps};
+ghost use Rattle.dms_block.specs.Content.{changed, grown, limit, raised, FitsIn};
+ghost use Rattle.dms_block.specs.Held.{Alters, HasCauses, Looks};
+ghost use Rattle.dms_restore.specs.Logging.{telling, points, next, IsSilent, Leaves};
+ghost use Rattle.dms_wal.specs.Lifting.{count_of, owns_of};
+ghost use Rattle.dms_wal.specs.Database.{held, view_of, HoldsCounted};
+ghost use Rattle.dms_wal.specs.Faults.{StandsFull};
+ghost use Rattle.dms_wal.specs.Changing.{DamagedOnly, HasChange, IsImaged, KeepsLog, TellsOld};
+
+use crate::Running;
+use crate::faults::append_fault;
+use crate::room::write_back;
+use dms_block::{Block, BlockFault, BlockId, Change, Changes};
+use dms_pool::Pool;
+use dms_restore::Log;
+use dms_site::Site;
+
+/// The bytes of a block, if there is one.
+fn bytes_of(block: &Option<Block>) -> Option<&[u8]>
+    ensures bytes { option_copied result ≡ option_map (λ x. x.0) block.now }
+    ensures size { IfSome result (λ b. length b.now ≡ 1024) }
+{
+    match block {
+        Some(block) => Some(&block.0),
+        None => None,
+    }
+}
+
+/// The table of counts once a block is there.
+fn raise(counts: &mut Vec<u32>, id: BlockId)
+    requires owned { IsTrue (owns_of counts.old.items id.file) }
+    requires low { id.block < limit }
+    ensures raised { count_of counts.new.items ≡ raised (count_of counts.old.items) id.file id.block }
+    ensures files { length counts.new.items ≡ length counts.old.items }
+{
+    let at = (id.file - 30_001) as usize;
+    if counts[at] <= id.block {
+        counts[at] = id.block + 1;
+    }
+}
+
+/// Holds a changed block whose Image was just logged, where there is room and memory, and else writes it. Answers Disk alone.
+fn keep<S: Site>(
+    log: &mut Log<S>,
+    pool: &mut Pool,
+    id: BlockId,
+    block: &Block,
+) -> Result<(), BlockFault>
+    requires structure { 30000 < id.file }
+    requires place { id.block < limit }
+    requires imaged { IsTrue S.tells → IsImaged (view_of S.Site log.old) pool.old id.file id.block block.now.0 }
+    ensures kept { OnOk result (IsTrue S.tells → KeepsLog (view_of S.Site log.old) (view_of S.Site log.new) pool.new) }
+    ensures counted { (counts : _) → HoldsCounted pool.old counts → id.block < count_of counts id.file → HoldsCounted pool.new counts }
+    ensures moments { IsTrue S.tells → let a = view_of S.Site log.old in Leaves a (view_of S.Site log.new) (points a) (next a) }
+    ensures silent { IsTrue S.tells → Steps IsSilent (S.clock log.old.site) (S.clock log.new.site) }
+    ensures kind { telling (view_of S.Site log.new) ≡ telling (view_of S.Site log.old) }
+    ensures only { IfErr result (λ e. e ≡ BlockFault.Disk) }
+    ensures said { S.said log.new.site ≡ S.said log.old.site }
+    ensures same_site { S.same_site log.old.site log.new.site }
+    ensures faults { HasCause (S.disk_faults log.old.site) (S.disk_faults log.new.site) result }
+    ensures say_faults { S.say_faults log.new.site ≡ S.say_faults log.old.site }
+{
+    let held = pool.get(id).is_some();
+    if !held && !pool.room() {
+        return write_back(log, id, block);
+    }
+    match pool.put(id, block, true) {
+        Ok(()) => Ok(()),
+        Err(_) => write_back(log, id, block),
+    }
+}
+
+impl<S: Site> Running<S> {
+    /// Makes all changes. Each is of a file that the object owns and of a block below 2,097,152, and each new block
+    /// stands at its file's count, further new ones rising from there.
+    ///
+    /// Each changed block gets one Image, and nothing else is logged. Answers Disk, Damaged, and Full where the audit has no room.
+    pub fn apply(&mut self, changes: &Changes) -> Result<(), BlockFault>
+        requires sound { (held S.Site self.old).sound }
+        requires fits { FitsIn changes.now.items.items (held S.Site self.old).owns (held S.Site self.old).counts }
+        ensures counts { OnOk result ((held S.Site self.new).counts ≡ grown changes.now.items.items (held S.Site self.old).counts) }
+        ensures content { OnOk result (IsTrue (held S.Site self.old).told → (held S.Site self.new).content ≡ changed changes.now.items.items (held S.Site self.old).content) }
+        ensures alters { Alters 0 (length changes.now.items.items) result (held S.Site self.old) (held S.Site self.new) }
+        ensures spent { OnOk result ((held S.Site self.new).uses.spent ≡ min ((held S.Site self.old).uses.spent + length changes.now.items.items) (2 ^ 64 - 1)) }
+        ensures memory { IsErrOf result BlockFault.Memory → ⊥ }
+        ensures full { (n : _) → IsErrOf result (BlockFault.Full n) → StandsFull self.new.log.end n }
+        ensures causes { HasCauses result (held S.Site self.old) (held S.Site self.new) }
+        ensures silent { IsErrOf result BlockFault.Say → ⊥ }
+        ensures same { S.same_site self.old.log.site self.new.log.site }
+    {
+        let items = changes.as_slice();
+        let count = items.len() as u64;
+        for change in items {
+            match self.change(change) {
+                Ok(()) => {}
+                Err(fault) => return Err(fault),
+            }
+        }
+        self.spent = self.spent.saturating_add(count);
+        Ok(())
+    }
+
+    /// Makes one change.
+    fn change(&mut self, change: &Change) -> Result<(), BlockFault>
+        requires sound { (held S.Site self.old).sound }
+        requires owned { IsTrue ((held S.Site self.old).owns change.now.id.file) }
+        requires low { change.now.id.block < limit }
+        requires place { change.now.id.block ≤ (held S.Site self.old).counts change.now.id.file }
+        ensures counts { OnOk result ((held S.Site self.new).counts ≡ raised (held S.Site self.old).counts change.now.id.file change.now.id.block) }
+        ensures content { OnOk result (HasChange (held S.Site self.old) (held S.Site self.new) change.now) }
+        ensures alters { Alters 0 0 result (held S.Site self.old) (held S.Site self.new) }
+        ensures full { (n : _) → IsErrOf result (BlockFault.Full n) → StandsFull self.new.log.end n }
+        ensures causes { HasCauses result (held S.Site self.old) (held S.Site self.new) }
+        ensures memory { IsErrOf result BlockFault.Memory → ⊥ }
+        ensures damaged { DamagedOnly change.now.id result }
+        ensures silent { IsErrOf result BlockFault.Say → ⊥ }
+        ensures same { S.same_site self.old.log.site self.new.log.site }
+    {
+        match self.before(change.id) {
+            Ok(before) => self.log_change(change, &before),
+            Err(fault) => Err(fault),
+        }
+    }
+
+    /// The block that a change takes away, none where it is of a new one. The pool has room for the change then, where it can.
+    fn before(&mut self, id: BlockId) -> Result<Option<Block>, BlockFault>
+        requires sound { (held S.Site self.old).sound }
+        requires place { id.block ≤ (held S.Site self.old).counts id.file }
+        ensures before { IfOk result (λ o. TellsOld (held S.Site self.old) id o) }
+        ensures looks { Looks 0 result (held S.Site self.old) (held S.Site self.new) }
+        ensures causes { HasCauses result (held S.Site self.old) (held S.Site self.new) }
+        ensures memory { IsErrOf result BlockFault.Memory → ⊥ }
+        ensures damaged { DamagedOnly id result }
+        ensures silent { IsErrOf result BlockFault.Say → ⊥ }
+        ensures same { S.same_site self.old.log.site self.new.log.site }
+    {
+        if let Some(block) = self.pool.get(id) {
+            return Ok(Some(block));
+        }
+        match self.make_room() {
+            Ok(()) => {}
+            Err(fault) => return Err(fault),
+        }
+        if id.block < self.count(id.file) {
+            match self.fetch(id) {
+                Ok(block) => Ok(Some(block)),
+                Err(fault) => Err(fault),
+            }
+        } else {
+            Ok(None)
+        }
+    }
+
+    /// Logs the Image of a change, and then has it in the pool or in its file.
+    fn log_change(&mut self, change: &Change, before: &Option<Block>) -> Result<(), BlockFault>
+        requires sound { (held S.Site self.old).sound }
+        requires owned { IsTrue ((held S.Site self.old).owns change.now.id.file) }
+        requires low { change.now.id.block < limit }
+        requires before { TellsOld (held S.Site self.old) change.now.id before.now }
+        ensures counts { OnOk result ((held S.Site self.new).counts ≡ raised (held S.Site self.old).counts change.now.id.file change.now.id.block) }
+        ensures content { OnOk result (HasChange (held S.Site self.old) (held S.Site self.new) change.now) }
+        ensures alters { Alters 0 0 result (held S.Site self.old) (held S.Site self.new) }
+        ensures full { (n : _) → IsErrOf result (BlockFault.Full n) → StandsFull self.new.log.end n }
+        ensures causes { HasCauses result (held S.Site self.old) (held S.Site self.new) }
+        ensures memory { IsErrOf result BlockFault.Memory → ⊥ }
+        ensures damaged { DamagedOnly change.now.id result }
+        ensures silent { IsErrOf result BlockFault.Say → ⊥ }
+        ensures same { S.same_site self.old.log.site self.new.log.site }
+    {
+        let id = change.id;
+        match self
+            .log
+            .image(id.file, id.block, bytes_of(before), &change.block.0)
+        {
+            Ok(()) => {}
+            Err(fault) => {
+                self.broken = true;
+                return Err(append_fault(fault, &mut self.full));
+            }
+        }
+        raise(&mut self.counts, id);
+        match keep(&mut self.log, &mut self.pool, id, &change.block) {
+            Ok(()) => Ok(()),
+            Err(fault) => {
+                self.broken = true;
+                Err(fault)
+            }
+        }
+    }
+}
