@@ -1,6 +1,6 @@
 //! Changes: each is logged by one Image before the pool has it.
 
-ghost use Rattle.std.specs.Prelude.{◌≡◌, ◌≤◌, ◌<◌, ◌+◌, ◌-◌, ◌^◌, IfErr, IfOk, IfSome, IsErrOf, IsTrue, OnOk, length, min, option_map};
+ghost use Rattle.std.specs.Prelude.{◌≡◌, ◌≤◌, ◌<◌, ◌+◌, ◌-◌, ◌^◌, IfErr, IfOk, IfSome, IsErrOf, IsTrue, OnOk, length, min, option_map, true};
 ghost use Rattle.std.specs.Option.{option_copied};
 ghost use Rattle.dms_base.specs.Causes.{HasCause};
 ghost use Rattle.dms_moments.specs.Moments.{Steps};
@@ -79,7 +79,8 @@ impl<S: Site> Running<S> {
     /// Makes all changes. Each is of a file that the object owns and of a block below 2,097,152, and each new block
     /// stands at its file's count, further new ones rising from there.
     ///
-    /// Each changed block gets one Image, and nothing else is logged. Answers Disk, Damaged, and Full where the audit has no room.
+    /// Each changed block gets one Image; that nothing else is logged no clause says. Answers Disk, Damaged, and Full where the
+    /// audit has no room.
     pub fn apply(&mut self, changes: &Changes) -> Result<(), BlockFault>
         requires sound { (held S.Site self.old).sound }
         requires fits { FitsIn changes.now.items.items (held S.Site self.old).owns (held S.Site self.old).counts }
@@ -91,6 +92,7 @@ impl<S: Site> Running<S> {
         ensures full { (n : _) → IsErrOf result (BlockFault.Full n) → StandsFull self.new.log.end n }
         ensures causes { HasCauses result (held S.Site self.old) (held S.Site self.new) }
         ensures silent { IsErrOf result BlockFault.Say → ⊥ }
+        ensures broken { IfErr result (λ e. self.new.broken ≡ true) }
         ensures same { S.same_site self.old.log.site self.new.log.site }
     {
         let items = changes.as_slice();
@@ -119,6 +121,7 @@ impl<S: Site> Running<S> {
         ensures memory { IsErrOf result BlockFault.Memory → ⊥ }
         ensures damaged { DamagedOnly change.now.id result }
         ensures silent { IsErrOf result BlockFault.Say → ⊥ }
+        ensures broken { IfErr result (λ e. self.new.broken ≡ true) }
         ensures same { S.same_site self.old.log.site self.new.log.site }
     {
         match self.before(change.id) {
@@ -137,6 +140,7 @@ impl<S: Site> Running<S> {
         ensures memory { IsErrOf result BlockFault.Memory → ⊥ }
         ensures damaged { DamagedOnly id result }
         ensures silent { IsErrOf result BlockFault.Say → ⊥ }
+        ensures broken { IfErr result (λ e. self.new.broken ≡ true) }
         ensures same { S.same_site self.old.log.site self.new.log.site }
     {
         if let Some(block) = self.pool.get(id) {
@@ -170,6 +174,7 @@ impl<S: Site> Running<S> {
         ensures memory { IsErrOf result BlockFault.Memory → ⊥ }
         ensures damaged { DamagedOnly change.now.id result }
         ensures silent { IsErrOf result BlockFault.Say → ⊥ }
+        ensures broken { IfErr result (λ e. self.new.broken ≡ true) }
         ensures same { S.same_site self.old.log.site self.new.log.site }
     {
         let id = change.id;

@@ -33,6 +33,7 @@ impl<S: Site> Running<S> {
         ensures kept { (n : _) → IsErrOf result (BlockFault.Full n) → IsTrue S.tells → SealsWaiting (view_of S.Site self.old.log) (view_of S.Site self.new.log) }
         ensures causes { HasCauses result (held S.Site self.old) (held S.Site self.new) }
         ensures silent { IsErrOf result BlockFault.Say → ⊥ }
+        ensures broken { IfErr result (λ e. self.new.broken ≡ true) }
         ensures same { S.same_site self.old.log.site self.new.log.site }
     {
         let number = self.next;
@@ -61,6 +62,7 @@ impl<S: Site> Running<S> {
         ensures only { IfErr result (λ e. e ≡ BlockFault.Disk) }
         ensures causes { HasCauses result (held S.Site self.old) (held S.Site self.new) }
         ensures silent { IsErrOf result BlockFault.Say → ⊥ }
+        ensures broken { IfErr result (λ e. self.new.broken ≡ true) }
         ensures same { S.same_site self.old.log.site self.new.log.site }
     {
         match self.log.sync() {
@@ -88,6 +90,7 @@ impl<S: Site> Running<S> {
         ensures uses { (held S.Site self.new).uses ≡ (held S.Site self.old).uses }
         ensures fault { IsOkUnless result BlockFault.Say }
         ensures causes { HasCauses result (held S.Site self.old) (held S.Site self.new) }
+        ensures broken { IfErr result (λ e. self.new.broken ≡ true) }
         ensures same { S.same_site self.old.log.site self.new.log.site }
     {
         match self.log.site.say(bytes) {

@@ -1,6 +1,6 @@
 //! Reading a block through the pool.
 
-ghost use Rattle.std.specs.Prelude.{◌≡◌, ◌<◌, IfErr, IfOk, IsErrOf, IsTrue, None};
+ghost use Rattle.std.specs.Prelude.{◌≡◌, ◌<◌, IfErr, IfOk, IsErrOf, IsTrue, None, true};
 ghost use Rattle.dms_block.specs.Content.{block_in};
 ghost use Rattle.dms_block.specs.Held.{HasCauses, Looks, one_more};
 ghost use Rattle.dms_pool.specs.Held.{frame_of};
@@ -22,6 +22,7 @@ impl<S: Site> Running<S> {
         ensures causes { HasCauses result (held S.Site self.old) (held S.Site self.new) }
         ensures memory { IsErrOf result BlockFault.Memory → ⊥ }
         ensures silent { IsErrOf result BlockFault.Say → ⊥ }
+        ensures broken { IfErr result (λ e. self.new.broken ≡ true) }
         ensures same { S.same_site self.old.log.site self.new.log.site }
     {
         self.reads = self.reads.saturating_add(1);
@@ -31,7 +32,7 @@ impl<S: Site> Running<S> {
         }
     }
 
-    /// A block that isn't held. It is held from then on, where there is memory.
+    /// A block that isn't held. Then it is held where there is room and memory, which no clause says.
     fn load(&mut self, id: BlockId) -> Result<Block, BlockFault>
         requires sound { (held S.Site self.old).sound }
         requires there { id.block < (held S.Site self.old).counts id.file }
@@ -41,6 +42,7 @@ impl<S: Site> Running<S> {
         ensures causes { HasCauses result (held S.Site self.old) (held S.Site self.new) }
         ensures memory { IsErrOf result BlockFault.Memory → ⊥ }
         ensures silent { IsErrOf result BlockFault.Say → ⊥ }
+        ensures broken { IfErr result (λ e. self.new.broken ≡ true) }
         ensures same { S.same_site self.old.log.site self.new.log.site }
     {
         match self.make_room() {
@@ -68,6 +70,7 @@ impl<S: Site> Running<S> {
         ensures memory { IsErrOf result BlockFault.Memory → ⊥ }
         ensures damaged { DamagedOnly id result }
         ensures silent { IsErrOf result BlockFault.Say → ⊥ }
+        ensures broken { IfErr result (λ e. self.new.broken ≡ true) }
         ensures same { S.same_site self.old.log.site self.new.log.site }
     {
         let mut buffer = [0u8; 1024];
