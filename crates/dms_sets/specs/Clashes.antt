@@ -33,7 +33,7 @@ use Rattle.dms_sets.specs.Entries.{entry_bytes, IsSetKey, whole_order, whole_wid
 use Rattle.dms_ordlist.specs.Lists.{ByteSet, any_with, bytes_cmp, empty_keys, entries_removed, keys_rise, with_in, without_in}
 use Rattle.dms_sets.specs.Tests.{and_true, then_nothing, tied}
 
--- the front that the entries of an owner with a key have
+-- the prefix that the entries of an owner with a key have
 abbrev pub key_front : List ItemKind → List KeyPart → ℕ → List Value → List ℕ
 key_front kinds ps owner key = to_be_bytes w32 owner ++ (key_bytes kinds ps key ++ [])
 
@@ -54,7 +54,7 @@ eq_of_then Greater o = refl
 eq_then : (a b : ℕ) (o : Ordering) → is_eq (ordering_then (nat_cmp a b) o) ≡ ((a == b) && is_eq o)
 eq_then a b o = eq_of_then (nat_cmp a b) o ∙ ap (λ t. t && is_eq o) (not_eq a b (nat_cmp a b) refl)
 
--- an entry has a key's front where its owner and its key are these
+-- an entry has a key's prefix where its owner and its key are these
 pub front_is : (kinds : List ItemKind) (ps : List KeyPart) (owner o : ℕ) (key other : List Value) (n : ℕ) → owner < 2 ^ 32 → o < 2 ^ 32 → IsSetKey kinds ps key → IsSetKey kinds ps other
     → starts (key_front kinds ps owner key) (entry_bytes kinds ps o other n) ≡ ((owner == o) && is_eq (key_cmp ps key other))
 front_is kinds ps owner o key other n p q f g =
