@@ -56,6 +56,13 @@ pub record WithinLimits (d : Described) (lines : List (List ℕ)) : Type 0 where
   pub short : bytes_of lines ≤ 2147483648
   pub room : (script_run d empty_db 1 lines).full ≡ false
 
+-- the text that these lines answer from the empty database on, and its events
+abbrev pub lines_text : Described → List ℕ → List ℕ
+lines_text d all = answers_text d empty_db 1 (raw_lines all)
+
+abbrev pub lines_events : Described → List ℕ → List RunEvent
+lines_events d all = script_events d empty_db 1 (raw_lines all)
+
 -- a script that passes a limit: what the lines before that place answer was printed, where the text is told
 abbrev pub PassesLimit : LimitKind → Described → List (List ℕ) → Option (List ℕ) → Option (List ℕ) → Type 0
 PassesLimit Lines d lines before after = PassesLines d empty_db 1 lines before after

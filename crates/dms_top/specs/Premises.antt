@@ -6,7 +6,9 @@ use Rattle.std.specs.declared.alloc.Global.{Global}
 use Rattle.std.specs.declared.option.Option.{Option}
 use Rattle.std.specs.declared.result.Result.TheVariants.{Ok, Err}
 use Rattle.dms_desc.specs.Shape.{Described}
+use Rattle.dms_descfile.specs.DescriptionFile.{IsSealed}
 use Rattle.dms_feed.specs.Feeds.{Remains}
+use Rattle.dms_site.specs.Files.{Files}
 use Rattle.dms_top.specs.declared.status.SchemaFault.{SchemaFault}
 use Rattle.dms_top.specs.Judging.{judged}
 use Rattle.dms_top.specs.Schema.{schema_text}
@@ -39,6 +41,10 @@ OfInput left P = (all : List ℕ) → left ≡ Some all → P all
 -- it holds of the description that the whole input is a schema of
 abbrev pub OfSchema : Option (List ℕ) → (Described → Type 0) → Type 0
 OfSchema left P = (all : List ℕ) (d : Described) → left ≡ Some all → judged all ≡ Ok d → P d
+
+-- it holds of the description that file 1 is, sealed
+abbrev pub OfSealed : Files → (Described → Type 0) → Type 0
+OfSealed files P = (d : Described) → IsSealed (files 1) d → P d
 
 -- it holds where the whole input is no schema
 abbrev pub OfNoSchema : Option (List ℕ) → Type 0 → Type 0

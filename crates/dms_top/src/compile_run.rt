@@ -3,12 +3,13 @@ ghost use Rattle.dms_desc.specs.Shape.{Described, described};
 ghost use Rattle.dms_desc_bytes.specs.Spelling.{spelling};
 ghost use Rattle.dms_descfile.specs.DescriptionFile.{sealed_file, IsSealed, IsUnsealed};
 ghost use Rattle.dms_descfile.specs.Becoming.{Creates};
-ghost use Rattle.dms_site.specs.Files.{Only};
+ghost use Rattle.dms_moments.specs.Moments.{Steps};
+ghost use Rattle.dms_site.specs.Files.{Same, Only};
 ghost use Rattle.dms_top.specs.declared.status.LimitKind.{LimitKind as Kind};
 ghost use Rattle.dms_top.specs.declared.status.SchemaFault.{SchemaFault as Refusal};
 ghost use Rattle.dms_top.specs.Compiling.{compiled_text, SaysLine, IsSpoken, IsBefore, IsOfFile, CreatesSome, SaysSealed, FilesAndTextStay};
 ghost use Rattle.dms_top.specs.Judging.{judged};
-ghost use Rattle.dms_top.specs.Premises.{OfInput, OfSchema, OfNoSchema};
+ghost use Rattle.dms_top.specs.Premises.{OfInput, OfSchema, OfSealed, OfNoSchema};
 ghost use Rattle.dms_audfile.specs.Counting.{CountedAt};
 ghost use Rattle.dms_top.specs.Words.{IsOfCompile, IsPast, IsUntouched};
 
@@ -44,6 +45,7 @@ fn seal_and_say<S: Site>(alloc: Global, site: &mut S, desc: &Description, line: 
     ensures sealed { IsSpoken result → IsTrue S.tells → S.files site.new 1 ≡ sealed_file (described desc.now) }
     ensures others { IsTrue S.tells → (g : ℕ) → g ≢ 1 → S.files site.new g ≡ S.files site.old g }
     ensures before { IsBefore result → IsTrue S.tells → S.files site.new ≡ S.files site.old }
+    ensures stays { IsBefore result → Steps Same (S.clock site.old) (S.clock site.new) }
     ensures says { IsTrue S.tells_said → SaysLine result line.now (S.said site.old) (S.said site.new) }
     ensures creates { IsTrue S.tells → Creates (sealed_file (described desc.now)) (S.files site.old) (S.clock site.old) (S.clock site.new) }
     ensures stable { IsSpoken result → IsTrue S.tells → Only (S.files site.new) (S.clock site.new) }
@@ -73,11 +75,12 @@ fn create<S: Site>(alloc: Global, site: &mut S, desc: &Description) -> Status
     ensures sealed { IsSpoken result → IsTrue S.tells → S.files site.new 1 ≡ sealed_file (described desc.now) }
     ensures others { IsTrue S.tells → (g : ℕ) → g ≢ 1 → S.files site.new g ≡ S.files site.old g }
     ensures before { IsBefore result → IsTrue S.tells → S.files site.new ≡ S.files site.old }
+    ensures stays { IsBefore result → Steps Same (S.clock site.old) (S.clock site.new) }
     ensures says { IsTrue S.tells_said → SaysLine result (compiled_text (length desc.now.structures)) (S.said site.old) (S.said site.new) }
     ensures creates { IsTrue S.tells → Creates (sealed_file (described desc.now)) (S.files site.old) (S.clock site.old) (S.clock site.new) }
     ensures stable { IsSpoken result → IsTrue S.tells → Only (S.files site.new) (S.clock site.new) }
     ensures says_sealed { IsTrue S.tells → SaysSealed (sealed_file (described desc.now)) (S.clock site.old) (S.clock site.new) }
-    ensures kept { IsTrue S.tells → (d : Described) → IsSealed (S.files site.old 1) d → FilesAndTextStay (S.files site.old) (S.files site.new) (S.said site.old) (S.said site.new) (S.clock site.old) (S.clock site.new) }
+    ensures kept { IsTrue S.tells → OfSealed (S.files site.old) (λ d. FilesAndTextStay (S.files site.old) (S.files site.new) (S.said site.old) (S.said site.new) (S.clock site.old) (S.clock site.new)) }
     ensures same_site { S.same_site site.old site.new }
     ensures disk { CountedAt (result ≡ Status.DiskFault) (S.disk_faults site.old) (S.disk_faults site.new) }
     ensures say { CountedAt (result ≡ Status.SayFault) (S.say_faults site.old) (S.say_faults site.new) }
@@ -114,13 +117,14 @@ pub fn compile_input<S: Site, I: Source>(alloc: Global, site: &mut S, input: &mu
     ensures is_sealed { IsSpoken result → IsTrue S.tells → OfSchema (I.left input.old) (λ d. IsSealed (S.files site.new 1) d) }
     ensures others { IsTrue S.tells → (g : ℕ) → g ≢ 1 → S.files site.new g ≡ S.files site.old g }
     ensures before { IsBefore result → IsTrue S.tells → S.files site.new ≡ S.files site.old }
+    ensures stays { IsBefore result → Steps Same (S.clock site.old) (S.clock site.new) }
     ensures says { IsTrue S.tells_said → OfSchema (I.left input.old) (λ d. SaysLine result (compiled_text (length d.structures)) (S.said site.old) (S.said site.new)) }
     ensures silent { IsTrue S.tells_said → (IsSpoken result → ⊥) → S.said site.new ≡ S.said site.old }
     ensures creates { IsTrue S.tells → OfSchema (I.left input.old) (λ d. Creates (sealed_file d) (S.files site.old) (S.clock site.old) (S.clock site.new)) }
     ensures creates_some { IsTrue S.tells → CreatesSome (S.files site.old) (S.clock site.old) (S.clock site.new) }
     ensures stable { IsSpoken result → IsTrue S.tells → Only (S.files site.new) (S.clock site.new) }
     ensures says_sealed { IsTrue S.tells → OfSchema (I.left input.old) (λ d. SaysSealed (sealed_file d) (S.clock site.old) (S.clock site.new)) }
-    ensures kept { IsTrue S.tells → (d : Described) → IsSealed (S.files site.old 1) d → FilesAndTextStay (S.files site.old) (S.files site.new) (S.said site.old) (S.said site.new) (S.clock site.old) (S.clock site.new) }
+    ensures kept { IsTrue S.tells → OfSealed (S.files site.old) (λ d. FilesAndTextStay (S.files site.old) (S.files site.new) (S.said site.old) (S.said site.new) (S.clock site.old) (S.clock site.new)) }
     ensures sealed_some { IsSpoken result → IsTrue S.tells → (d : Described) × IsSealed (S.files site.new 1) d }
     ensures same_site { S.same_site site.old site.new }
     ensures same_source { I.same_source input.old input.new }

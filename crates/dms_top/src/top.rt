@@ -18,7 +18,7 @@ ghost use Rattle.dms_top.specs.Schema.{schema_text as text_of};
 ghost use Rattle.dms_top.specs.State.{StandsNew, BecomesNew};
 ghost use Rattle.dms_top.specs.Answering.{Printed, PrintedPrefix, PrintedWhole, WithinLimits, PassesLimit, CutTry, try_events, try_text, script_of};
 ghost use Rattle.dms_top.specs.declared.status.LimitKind.{LimitKind as Kind};
-ghost use Rattle.dms_top.specs.Premises.{OnTry, OnCompile, OnInitialize, OnPrintAudit, OnReading, OfInput, OfSchema, OfNoSchema, OfScript, OfNoScript};
+ghost use Rattle.dms_top.specs.Premises.{OnTry, OnCompile, OnInitialize, OnPrintAudit, OnReading, OfInput, OfSchema, OfSealed, OfNoSchema, OfScript, OfNoScript};
 ghost use Rattle.dms_audfile.specs.Counting.{CountedAt};
 ghost use Rattle.dms_top.specs.Words.{IsTry, IsCompile, IsPrintAudit, IsCommand, IsOfTry, IsOfCompile, IsPast, ComesUnsaid, IsUntouched};
 
@@ -179,7 +179,7 @@ pub fn dms<S: Site, I: Source>(
     // whatever the input tells, the same with some description
     ensures creation_of_some { OnCompile words.now (IsTrue S.tells → CreatesSome (S.files site.old) (S.clock site.old) (S.clock site.new)) }
     // a sealed description at entry is not touched at any moment
-    ensures compile_kept { OnCompile words.now (IsTrue S.tells → (d : Described) → IsSealed (S.files site.old 1) d → FilesAndTextStay (S.files site.old) (S.files site.new) (S.said site.old) (S.said site.new) (S.clock site.old) (S.clock site.new)) }
+    ensures compile_kept { OnCompile words.now (IsTrue S.tells → OfSealed (S.files site.old) (λ d. FilesAndTextStay (S.files site.old) (S.files site.new) (S.said site.old) (S.said site.new) (S.clock site.old) (S.clock site.new))) }
     // at status 0 file 1 is exactly the text's description
     ensures creation_at_ok { OnCompile words.now (IsSpoken result → IsTrue S.tells → OfSchema (I.left input.old) (λ d. S.files site.new 1 ≡ sealed_file d)) }
     // and it is sealed and well-formed
@@ -190,19 +190,21 @@ pub fn dms<S: Site, I: Source>(
     ensures stable_at_ok { OnCompile words.now (IsSpoken result → IsTrue S.tells → Only (S.files site.new) (S.clock site.new)) }
     // no text comes before the file is whole
     ensures says_sealed_at_every_moment { OnCompile words.now (IsTrue S.tells → OfSchema (I.left input.old) (λ d. SaysSealed (sealed_file d) (S.clock site.old) (S.clock site.new))) }
+    // at the statuses that come before a file is changed a stop leaves what it could leave before
+    ensures compile_stays { OnCompile words.now (IsBefore result → Steps Same (S.clock site.old) (S.clock site.new)) }
     // ---- `initialize`
     // nothing of the input is taken
     ensures initialize_untaken { OnInitialize words.now (λ tag. input.new ≡ input.old) }
     // only the statuses 0, 4 with no description, 5, 7, 10 and 11 come
     ensures initialize_statuses { OnInitialize words.now (λ tag. IsOfCreation result) }
     // of a sealed description a stop leaves what it could leave at entry, or there no database, or exactly the new one
-    ensures initialize_at_every_moment { OnInitialize words.now (λ tag. IsTrue S.tells → (d : Described) → IsSealed (S.files site.old 1) d → Initializes tag d (S.files site.old) (S.clock site.old) (S.clock site.new)) }
+    ensures initialize_at_every_moment { OnInitialize words.now (λ tag. IsTrue S.tells → OfSealed (S.files site.old) (λ d. Initializes tag d (S.files site.old) (S.clock site.old) (S.clock site.new))) }
     // at status 0 it is exactly the new one
-    ensures initialize_at_ok { OnInitialize words.now (λ tag. IsSpoken result → IsTrue S.tells → (d : Described) → IsSealed (S.files site.old 1) d → IsMade tag d (S.files site.old) (S.files site.new)) }
+    ensures initialize_at_ok { OnInitialize words.now (λ tag. IsSpoken result → IsTrue S.tells → OfSealed (S.files site.old) (λ d. IsMade tag d (S.files site.old) (S.files site.new))) }
     // at status 0 the files stand for point 0 and the empty database, the next point is 1, and the trail has that tag
-    ensures initialize_stands { OnInitialize words.now (λ tag. IsSpoken result → IsTrue S.tells → (d : Described) → IsSealed (S.files site.old 1) d → StandsNew tag d (S.files site.new)) }
+    ensures initialize_stands { OnInitialize words.now (λ tag. IsSpoken result → IsTrue S.tells → OfSealed (S.files site.old) (λ d. StandsNew tag d (S.files site.new))) }
     // a stop leaves what it could leave at entry, or no database, or files that stand so
-    ensures initialize_stands_at_every_moment { OnInitialize words.now (λ tag. IsTrue S.tells → (d : Described) → IsSealed (S.files site.old 1) d → BecomesNew tag d (S.files site.old) (S.clock site.old) (S.clock site.new)) }
+    ensures initialize_stands_at_every_moment { OnInitialize words.now (λ tag. IsTrue S.tells → OfSealed (S.files site.old) (λ d. BecomesNew tag d (S.files site.old) (S.clock site.old) (S.clock site.new))) }
     // and a stop leaves no other
     ensures initialize_stable { OnInitialize words.now (λ tag. IsSpoken result → IsTrue S.tells → Only (S.files site.new) (S.clock site.new)) }
     // at status 0 exactly the line was printed, at 10 a prefix of it, else nothing

@@ -6,10 +6,9 @@ ghost use Rattle.dms_feed.specs.Lines.{raw_lines};
 ghost use Rattle.dms_model.specs.Db.{empty_db};
 ghost use Rattle.dms_plain.specs.Speaking.{OnlySpeaks};
 ghost use Rattle.dms_plain.specs.Told.{told};
-ghost use Rattle.dms_runner.specs.Answers.{answers_text, script_events};
 ghost use Rattle.dms_runner.specs.Blaming.{CutRun};
 ghost use Rattle.dms_runner.specs.Running.{CutInput};
-ghost use Rattle.dms_top.specs.Answering.{Printed, PrintedPrefix, PrintedWhole, WithinLimits, PassesLimit};
+ghost use Rattle.dms_top.specs.Answering.{Printed, PrintedPrefix, PrintedWhole, WithinLimits, PassesLimit, lines_text, lines_events};
 ghost use Rattle.dms_top.specs.declared.status.LimitKind.{LimitKind as Kind};
 ghost use Rattle.dms_top.specs.Premises.{OfRest};
 ghost use Rattle.dms_audfile.specs.Counting.{CountedAt};
@@ -89,10 +88,10 @@ pub fn try_lines<S: Site, I: Source>(
     ensures words { result ≢ Status.BadWords }
     ensures schema { (f : Refusal) → result ≢ Status.SchemaRefused f }
     ensures end { result ≡ Status.Ok → OfRest feed.old (I.left source.old) (λ all. Remains feed.new (I.left source.new) []) }
-    ensures answers { result ≡ Status.Ok → IsTrue S.tells_said → OfRest feed.old (I.left source.old) (λ all. Printed (S.said site.old) (S.said site.new) (answers_text (described desc.now) empty_db 1 (raw_lines all))) }
+    ensures answers { result ≡ Status.Ok → IsTrue S.tells_said → OfRest feed.old (I.left source.old) (λ all. Printed (S.said site.old) (S.said site.new) (lines_text (described desc.now) all)) }
     ensures within { result ≡ Status.Ok → OfRest feed.old (I.left source.old) (λ all. WithinLimits (described desc.now) (raw_lines all)) }
-    ensures part { IsTrue S.tells_said → OfRest feed.old (I.left source.old) (λ all. PrintedPrefix (S.said site.old) (S.said site.new) (answers_text (described desc.now) empty_db 1 (raw_lines all))) }
-    ensures whole_answers { result ≡ Status.Memory → IsTrue S.tells_said → OfRest feed.old (I.left source.old) (λ all. PrintedWhole (S.said site.old) (S.said site.new) (script_events (described desc.now) empty_db 1 (raw_lines all))) }
+    ensures part { IsTrue S.tells_said → OfRest feed.old (I.left source.old) (λ all. PrintedPrefix (S.said site.old) (S.said site.new) (lines_text (described desc.now) all)) }
+    ensures whole_answers { result ≡ Status.Memory → IsTrue S.tells_said → OfRest feed.old (I.left source.old) (λ all. PrintedWhole (S.said site.old) (S.said site.new) (lines_events (described desc.now) all)) }
     ensures limit { (k : Kind) → result ≡ Status.Limit k → OfRest feed.old (I.left source.old) (λ all. PassesLimit k (described desc.now) (raw_lines all) (told S.tells_said (S.said site.old)) (told S.tells_said (S.said site.new))) }
     ensures input_cut { result ≡ Status.InputFault → OfRest feed.old (I.left source.old) (λ all. CutInput (described desc.now) empty_db 1 all (I.left source.new) (told S.tells_said (S.said site.old)) (told S.tells_said (S.said site.new))) }
     ensures input { CountedAt (result ≡ Status.InputFault) (I.faults source.old) (I.faults source.new) }
