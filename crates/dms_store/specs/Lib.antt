@@ -26,6 +26,7 @@ pub mod PuttingAfter
 pub mod PuttingMany
 pub mod PuttingLaws
 pub mod PuttingOwners
+pub mod Owning
 pub mod PuttingFresh
 pub mod Putting
 pub mod PuttingAnswers
