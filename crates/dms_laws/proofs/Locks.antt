@@ -16,6 +16,7 @@ use Rattle.dms_model.specs.declared.program.Area.TheVariants.{New, Old}
 use Rattle.dms_model.specs.declared.program.Mode.{Mode}
 use Rattle.dms_model.specs.declared.verb.Verb.{Verb}
 use Rattle.dms_model.specs.declared.verb.Verb.TheVariants.{OpenUpdate, OpenInquiry, Close, Find, Create, Put as PutItems, Get, Store, Begin, End, Abort}
+use Rattle.dms_model.specs.declared.verb.Path.{Path}
 use Rattle.dms_model.specs.declared.verb.Setting.{Setting}
 use Rattle.dms_model.specs.declared.reply.Reply.TheVariants.{Done, Exception}
 use Rattle.dms_model.specs.declared.put.Put.TheVariants.{Stored, Full}
@@ -23,8 +24,9 @@ use Rattle.dms_model.specs.declared.spot.Spot.{Spot}
 use Rattle.dms_model.specs.Db.{Db, Place, fresh, records_of}
 use Rattle.dms_desc.specs.Lookups.{name_of, structure_of, items_of, set_of}
 use Rattle.dms_model.specs.Stores.{put_answer, put_unless, put_number, is_full, clash, put_after, linked, stored}
-use Rattle.dms_model.specs.Session.{Session, Outcome, StoreResult, Refused, Keeps, Filled, Misfit, Values', refuse, done, shows, settle, keep, store_step, after_store, begin_step, after_begin, begin_unless, awaited, end_step, after_end, abort_step, find_step, after_find, found_by, create_step, put_step, put_area, after_put, filled, get_step, get_area, close_step, open_as, open_step, verb_step, step_at, step, with_program, with_work, with_lock, work_of, restart_of, someone_works, is_inquiry, opens, changes, path_of, new_program, place_of, carried, entered, left, without, idle, backed_out, found_program, stored_program, let_go, is_lock, is_elsewhere, area_kept, kept_unless, put_kept, missing_from, verified, area_values, area_number, record_of, is_free, one_more, with_values}
+use Rattle.dms_model.specs.Session.{Session, Outcome, StoreResult, Refused, Keeps, Filled, Misfit, Values', refuse, done, shows, settle, keep, store_step, after_store, begin_step, after_begin, begin_unless, awaited, end_step, after_end, abort_step, find_step, find_for, after_find, found_by, create_step, create_for, owner_for, put_step, put_area, after_put, filled, get_step, get_area, close_step, open_as, open_in, open_step, verb_step, step_at, step, with_program, with_work, with_lock, work_of, restart_of, someone_works, is_inquiry, opens, changes, path_of, new_program, place_of, carried, entered, left, without, idle, backed_out, found_program, stored_program, let_go, is_lock, is_elsewhere, area_kept, kept_unless, put_kept, missing_from, verified, area_values, area_number, record_of, is_free, one_more, with_values}
 use Rattle.dms_laws.specs.Exclusive.{ShareNoLock, AllShareNoLock, AreSafe, AreExclusive, IsExclusive, locks_it, is_locked_for, backs_out, is_done, LocksStayExclusive, LosesNoUpdate, LeavesLocks, BacksOut, locks_left}
+use Rattle.dms_model.specs.Traits.{traits}
 use Rattle.dms_laws.specs.Runs.{after}
 use Rattle.dms_model.specs.Places.{get_other, stands_still, stands_there}
 use Rattle.dms_model.specs.Founds.{all_both}
@@ -306,10 +308,18 @@ module _ (s : Session) (i : ℕ) (p : Program) (name : List ℕ) (at : slice_get
       let w = with_work p (set_of desc x) (record { current = Some r.number; area = Some (Old r.rec.values) }) in
       fair_at verb (found_program p (set_of desc x) r) [] (cond_name p.in_transaction w _ p.name refl refl) (λ place l. let_go_locks w (set_of desc x) place l)
 
+  find_for_fair : (verb : Verb) (o : Option ℕ) (desc : Described) (path : Path) → Fair s name verb (find_for o desc i p s path)
+  find_for_fair verb None desc path = fair_refuse s name verb ex _ _
+  find_for_fair verb (Some owner) desc path = find_fair verb (found_by desc s.db owner path) desc (path_of path)
+
   create_fair : (verb : Verb) (set : ℕ) (a : Area) → Fair s name verb (shows (with_program s i (carried (let_go (with_work p set (record { current = None; area = Some a })) set))) [])
   create_fair verb set a =
       let w = with_work p set (record { current = None; area = Some a }) in
       fair_at verb (let_go w set) [] (cond_name p.in_transaction w _ p.name refl refl) (λ place l. let_go_locks w set place l)
+
+  create_for_fair : (verb : Verb) (o : Option ℕ) (desc : Described) (set : ℕ) → Fair s name verb (create_for o desc i p s set)
+  create_for_fair verb None desc set = fair_refuse s name verb ex _ _
+  create_for_fair verb (Some owner) desc set = create_fair verb set _
 
   after_put_fair : (verb : Verb) (f : Filled) (set : ℕ) (a : Area) → Fair s name verb (after_put f i p s set a)
   after_put_fair verb (Misfit item) set a = fair_refuse s name verb ex _ _
@@ -419,8 +429,8 @@ unfolding verb_step store_step begin_step end_step abort_step find_step create_s
 verb_fair desc i p s name OpenUpdate at ex own = fair_refuse s name OpenUpdate ex _ _
 verb_fair desc i p s name OpenInquiry at ex own = fair_refuse s name OpenInquiry ex _ _
 verb_fair desc i p s name Close at ex own = fair_if s name Close p.in_transaction _ _ (fair_refuse s name Close ex _ _) (close_fair s i p name at ex own Close)
-verb_fair desc i p s name (Find path) at ex own = find_fair s i p name at ex own (Find path) (found_by desc s.db path) desc (path_of path)
-verb_fair desc i p s name (Create set) at ex own = create_fair s i p name at ex own (Create set) set _
+verb_fair desc i p s name (Find path) at ex own = find_for_fair s i p name at ex own (Find path) (owner_for desc p (path_of path)) desc path
+verb_fair desc i p s name (Create set) at ex own = create_for_fair s i p name at ex own (Create set) (owner_for desc p set) desc set
 verb_fair desc i p s name (PutItems set settings) at ex own = put_fair s i p name at ex own (PutItems set settings) (work_of p set).area desc set settings
 verb_fair desc i p s name (Get set items) at ex own = get_fair s i p name at ex own (Get set items) (work_of p set).area desc set items
 verb_fair desc i p s name (Store set) at ex own =
@@ -451,19 +461,13 @@ open_as_fair desc s name verb mode ex none =
       locks = λ who place apart no. any_pushed who place s.programs (new_program desc name mode) (λ e. apart (sym e));
     })
 
+open_in_fair : (o : Option Mode) (desc : Described) (s : Session) (name : List ℕ) (v : Verb) → IsExclusive s → AllByRecursion (λ x. x.name ≢ name) s.programs → Fair s name v (open_in o desc s name)
+open_in_fair None desc s name v ex none = fair_refuse s name v ex _ _
+open_in_fair (Some mode) desc s name v ex none = open_as_fair desc s name v mode ex none
+
 open_fair : (desc : Described) (s : Session) (name : List ℕ) (v : Verb) → IsExclusive s → AllByRecursion (λ x. x.name ≢ name) s.programs → Fair s name v (open_step desc s name v)
 unfolding open_step
-open_fair desc s name OpenUpdate ex none = open_as_fair desc s name OpenUpdate _ ex none
-open_fair desc s name OpenInquiry ex none = open_as_fair desc s name OpenInquiry _ ex none
-open_fair desc s name Close ex none = fair_refuse s name Close ex _ _
-open_fair desc s name (Find path) ex none = fair_refuse s name (Find path) ex _ _
-open_fair desc s name (Create set) ex none = fair_refuse s name (Create set) ex _ _
-open_fair desc s name (PutItems set settings) ex none = fair_refuse s name (PutItems set settings) ex _ _
-open_fair desc s name (Get set items) ex none = fair_refuse s name (Get set items) ex _ _
-open_fair desc s name (Store set) ex none = fair_refuse s name (Store set) ex _ _
-open_fair desc s name (Begin audit) ex none = fair_refuse s name (Begin audit) ex _ _
-open_fair desc s name (End audit sync) ex none = fair_refuse s name (End audit sync) ex _ _
-open_fair desc s name Abort ex none = fair_refuse s name Abort ex _ _
+open_fair desc s name v ex none = open_in_fair (traits v).opens desc s name v ex none
 
 step_at_fair : (desc : Described) (o : Option Program) (s : Session) (name : List ℕ) (v : Verb) → slice_get s.programs (place_of name s.programs) ≡ o → IsExclusive s → Fair s name v (step_at desc o (place_of name s.programs) s name v)
 step_at_fair desc None s name v at ex = open_fair desc s name v ex (none_named s.programs name at)

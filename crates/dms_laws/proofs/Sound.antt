@@ -19,8 +19,10 @@ use Rattle.dms_model.specs.declared.program.Work.{Work}
 use Rattle.dms_model.specs.declared.program.Area.{Area}
 use Rattle.dms_model.specs.declared.program.Area.TheVariants.{New, Old}
 use Rattle.dms_model.specs.declared.program.Mode.{Mode}
+use Rattle.dms_model.specs.Traits.{traits}
 use Rattle.dms_model.specs.declared.verb.Verb.{Verb}
 use Rattle.dms_model.specs.declared.verb.Verb.TheVariants.{OpenUpdate, OpenInquiry, Close, Find, Create, Put as PutItems, Get, Store, Begin, End, Abort}
+use Rattle.dms_model.specs.declared.verb.Path.{Path}
 use Rattle.dms_model.specs.declared.verb.Setting.{Setting}
 use Rattle.dms_model.specs.declared.reply.Reply.TheVariants.{Exception}
 use Rattle.dms_model.specs.declared.put.Put.TheVariants.{Stored, Full}
@@ -29,7 +31,7 @@ use Rattle.dms_model.specs.Db.{Db, Place, fresh, records_of, rows_of, empty_db, 
 use Rattle.dms_model.specs.Points.{Quiet}
 use Rattle.dms_desc.specs.Lookups.{name_of, structure_of, items_of, set_of}
 use Rattle.dms_model.specs.Stores.{put_answer, put_unless, is_full, clash, put_after, linked, is_other, old_of, stored, values_of, kept_owner}
-use Rattle.dms_model.specs.Session.{Session, Outcome, StoreResult, Refused, Keeps, Filled, Misfit, Values', refuse, done, settle, keep, store_step, after_store, begin_step, after_begin, begin_unless, awaited, end_step, after_end, abort_step, find_step, after_find, found_by, create_step, put_step, put_area, after_put, filled, get_step, get_area, close_step, open_as, open_step, verb_step, step_at, step, with_program, with_work, with_values, work_of, no_work, or_none, restart_of, someone_works, is_inquiry, opens, changes, path_of, new_program, place_of, carried, entered, left, without, idle, backed_out, found_program, stored_program, let_go, is_lock, area_kept, kept_unless, put_kept, missing_from, verified, area_values, area_number, area_owner, record_of, is_free, one_more}
+use Rattle.dms_model.specs.Session.{Session, Outcome, StoreResult, Refused, Keeps, Filled, Misfit, Values', refuse, done, settle, keep, store_step, after_store, begin_step, after_begin, begin_unless, awaited, end_step, after_end, abort_step, find_step, find_for, after_find, found_by, create_step, create_for, created, owner_for, put_step, put_area, after_put, filled, get_step, get_area, close_step, open_as, open_in, open_step, verb_step, step_at, step, with_program, with_work, with_values, work_of, no_work, or_none, restart_of, someone_works, is_inquiry, opens, changes, path_of, new_program, place_of, carried, entered, left, without, idle, backed_out, found_program, stored_program, let_go, is_lock, area_kept, kept_unless, put_kept, missing_from, verified, area_values, area_number, area_owner, record_of, is_free, one_more}
 use Rattle.dms_laws.specs.Exclusive.{AreSafe, IsExclusive, locks_it}
 use Rattle.dms_model.specs.Spoken.{IsOuter, IsPlainLiteral}
 use Rattle.dms_model.specs.Valid.{OfItems, IsValid, is_data_set, is_set, link_stands, owner_stands}
@@ -44,7 +46,7 @@ use Rattle.dms_laws.proofs.Locks.{locks_stay_exclusive}
 use Rattle.dms_laws.proofs.Points.{step_points}
 use Rattle.dms_laws.proofs.Stored.{MayStand, put_valid, put_flat, own_key}
 use Rattle.dms_model.specs.Areas.{AreaFits, AreasFit}
-use Rattle.dms_model.specs.AreaLaws.{backed_works, let_go_works, new_works, values_fit, with_new, works_if, works_with}
+use Rattle.dms_model.specs.AreaLaws.{backed_works, let_go_works, new_works, no_owner, values_fit, with_new, works_if, works_with}
 use Rattle.dms_model.specs.Fitting.{AreFitting}
 use Rattle.dms_model.specs.FitLaws.{filled_fits, FilledFits, initial_fits, linked_fits, of_linked, null_fits}
 use Rattle.dms_laws.proofs.Values.{required_of, linked_agree, null_stands, other_stands, meets_agree}
@@ -173,8 +175,8 @@ module _ (desc : Described) (made : IsWellMade desc) (s : Session) (i : ℕ) (p 
       meets_agree shape.items shape.cond (put_record set n a shape).values (area_values a) (linked_agree shape.items (olds set n) (area_values a)) (ap (λ (is : List Item). compares_no_link is shape.cond) (sym under) ∙ made.conditions set shape here)
 
   -- what is stored in a data set of the outer level has no owner
-  no_owner : (set n : ℕ) (shape : Shape) → structure_of desc set ≡ Some shape → IsOuter (Some shape) → (owner : ℕ) → owner ≡ 0 → kept_owner (get s.db.records (set, n)) owner ≡ 0
-  no_owner set n shape here outer owner none = by (get s.db.records (set, n)) refl
+  unowned : (set n : ℕ) (shape : Shape) → structure_of desc set ≡ Some shape → IsOuter (Some shape) → (owner : ℕ) → owner ≡ 0 → kept_owner (get s.db.records (set, n)) owner ≡ 0
+  unowned set n shape here outer owner none = by (get s.db.records (set, n)) refl
     where
       alone : (to m : ℕ) → to ≡ 0 → owner_stands s.db.records to m ≡ true → m ≡ 0
       alone to m e h = let is : (m == 0) ≡ true = sym (ap (λ (k : ℕ). owner_stands s.db.records k m) e) ∙ h in grind (arith, nat_tests, is)
@@ -199,7 +201,7 @@ module _ (desc : Described) (made : IsWellMade desc) (s : Session) (i : ℕ) (p 
       record {
         here = here;
         outer = outer;
-        owner = no_owner set n shape here outer (area_owner a) owner;
+        owner = unowned set n shape here outer (area_owner a) owner;
         values = linked_fits shape.items (olds set n) (area_values a) values fit_before plain_before;
         links = of_linked (λ item v. link_stands s.db.records item.kind v ≡ true) shape.items (olds set n) (area_values a) values.lengths
             (λ j item at off. other_stands s.db.records item.kind _ off) (λ j item at on. links_before j item at);
@@ -345,6 +347,10 @@ module _ (desc : Described) (made : IsWellMade desc) (s : Session) (i : ℕ) (p 
       let w : Work = record { current = Some r.number; area = Some (Old r.rec.values) } in
       sane_at (carried (found_program p (set_of desc x) r)) (let_go_areas desc (with_work p (set_of desc x) w) (set_of desc x) (areas_with desc p (set_of desc x) shape w here fits mine)))
 
+  find_for_leaves : (o : Option ℕ) (path : Path) → Leaves desc (find_for o desc i p s path)
+  find_for_leaves None path = sane
+  find_for_leaves (Some owner) path = find_leaves (found_by desc s.db owner path) (path_of path) (found_stands desc s.db owner path)
+
   -- areas
 
   outer_shape : (set : ℕ) → IsOuter (structure_of desc set) → (C : Type 0) → ((shape : Shape) → structure_of desc set ≡ Some shape → IsOuter (Some shape) → C) → C
@@ -354,14 +360,18 @@ module _ (desc : Described) (made : IsWellMade desc) (s : Session) (i : ℕ) (p 
       by None h = let kind = ap is_data_set (sym h) ∙ outer.data_set in absurd (cc)
       by (Some shape) h = with_shape shape h (subst IsOuter h outer)
 
-  create_leaves : (set : ℕ) → IsOuter (structure_of desc set) → Leaves desc (done (with_program s i (carried (let_go (with_work p set (record { current = None; area = Some (New (map (λ (t : Item). t.initial) (items_of (structure_of desc set))) 0) })) set))))
-  create_leaves set outer =
-      let w : Work = record { current = None; area = Some (New (map (λ (t : Item). t.initial) (items_of (structure_of desc set))) 0) } in
+  create_leaves : (set owner : ℕ) → IsOuter (structure_of desc set) → owner ≡ 0 → Leaves desc (done (with_program s i (carried (created desc p set owner))))
+  create_leaves set owner outer none =
+      let w : Work = record { current = None; area = Some (New (map (λ (t : Item). t.initial) (items_of (structure_of desc set))) owner) } in
       outer_shape set outer (Leaves desc (done (with_program s i (carried (let_go (with_work p set w) set)))))
       (λ shape here out.
       let fits : AreFitting shape.items (map (λ (t : Item). t.initial) (items_of (structure_of desc set))) =
       subst (λ (o : Option Shape). AreFitting shape.items (map (λ (t : Item). t.initial) (items_of o))) (sym here) (initial_fits shape.items (made.initial set shape here) (made.plain set shape here)) in
-      sane_at (carried (let_go (with_work p set w) set)) (let_go_areas desc (with_work p set w) set (areas_with desc p set shape w here (out, (refl, fits)) mine)))
+      sane_at (carried (let_go (with_work p set w) set)) (let_go_areas desc (with_work p set w) set (areas_with desc p set shape w here (out, (none, fits)) mine)))
+
+  create_for_leaves : (o : Option ℕ) (set : ℕ) → owner_for desc p set ≡ o → IsOuter (structure_of desc set) → Leaves desc (create_for o desc i p s set)
+  create_for_leaves None set is outer = sane
+  create_for_leaves (Some owner) set is outer = create_leaves set owner outer (no_owner desc p set owner outer.disjoint is)
 
   after_put_leaves : (f : Filled) (set : ℕ) (a : Area) (shape : Shape) → structure_of desc set ≡ Some shape → AreaFits shape (Some a) → FilledFits shape.items f → Leaves desc (after_put f i p s set a)
   after_put_leaves (Misfit item) set a shape here old fits = sane
@@ -402,8 +412,8 @@ unfolding verb_step store_step begin_step end_step abort_step find_step create_s
 verb_leaves desc made i p s OpenUpdate outer at ex sane = sane
 verb_leaves desc made i p s OpenInquiry outer at ex sane = sane
 verb_leaves desc made i p s Close outer at ex sane = leaves_if desc p.in_transaction (refuse s AuditError p.name) _ sane (close_leaves desc made s i p at ex sane)
-verb_leaves desc made i p s (Find path) outer at ex sane = find_leaves desc made s i p at ex sane (found_by desc s.db path) (path_of path) (found_stands desc s.db path)
-verb_leaves desc made i p s (Create set) outer at ex sane = create_leaves desc made s i p at ex sane set outer
+verb_leaves desc made i p s (Find path) outer at ex sane = find_for_leaves desc made s i p at ex sane (owner_for desc p (path_of path)) path
+verb_leaves desc made i p s (Create set) outer at ex sane = create_for_leaves desc made s i p at ex sane (owner_for desc p set) set refl outer.0
 verb_leaves desc made i p s (PutItems set settings) outer at ex sane = put_leaves desc made s i p at ex sane (work_of p set).area set settings outer.0 outer.1 refl
 verb_leaves desc made i p s (Get set items) outer at ex sane = get_leaves desc made s i p at ex sane (work_of p set).area set items
 verb_leaves desc made i p s (Store set) outer at ex sane =
@@ -423,19 +433,13 @@ open_as_leaves desc s name mode sane =
     leaves_if desc (nat_le 64 (length s.programs)) (refuse s LimitError name) (done opened) sane
     (record { valid = sane.valid; valid_mark = sane.valid_mark; flat = sane.flat; flat_mark = sane.flat_mark; areas = all_pushed (AreasFit desc) s.programs (new_program desc name mode) sane.areas (new_areas desc name mode) })
 
+open_in_leaves : (o : Option Mode) (desc : Described) (s : Session) (name : List ℕ) → Sane desc s.db s.mark s.programs → Leaves desc (open_in o desc s name)
+open_in_leaves None desc s name sane = sane
+open_in_leaves (Some mode) desc s name sane = open_as_leaves desc s name mode sane
+
 open_leaves : (desc : Described) (s : Session) (name : List ℕ) (v : Verb) → Sane desc s.db s.mark s.programs → Leaves desc (open_step desc s name v)
 unfolding open_step
-open_leaves desc s name OpenUpdate sane = open_as_leaves desc s name _ sane
-open_leaves desc s name OpenInquiry sane = open_as_leaves desc s name _ sane
-open_leaves desc s name Close sane = sane
-open_leaves desc s name (Find path) sane = sane
-open_leaves desc s name (Create set) sane = sane
-open_leaves desc s name (PutItems set settings) sane = sane
-open_leaves desc s name (Get set items) sane = sane
-open_leaves desc s name (Store set) sane = sane
-open_leaves desc s name (Begin audit) sane = sane
-open_leaves desc s name (End audit sync) sane = sane
-open_leaves desc s name Abort sane = sane
+open_leaves desc s name v sane = open_in_leaves (traits v).opens desc s name sane
 
 step_at_leaves : (desc : Described) → IsWellMade desc → (o : Option Program) (i : ℕ) (s : Session) (name : List ℕ) (v : Verb) → NamesOuter desc v → slice_get s.programs i ≡ o → IsExclusive s → Sane desc s.db s.mark s.programs → Leaves desc (step_at desc o i s name v)
 step_at_leaves desc made None i s name v outer at ex sane = open_leaves desc s name v sane

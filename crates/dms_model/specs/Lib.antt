@@ -16,5 +16,6 @@ pub mod Seen
 pub mod Session
 pub mod Spoken
 pub mod Stores
+pub mod Traits
 pub mod Valid
 pub mod Verbs

@@ -37,6 +37,8 @@ use Rattle.dms_model.specs.Points.{Quiet}
 use Rattle.dms_desc.specs.Lookups.{structure_of, name_of, items_of, parts_of, set_of}
 use Rattle.dms_model.specs.Members.{first_member, last_member, at_member}
 use Rattle.dms_model.specs.Stores.{put_answer, put_after}
+use Rattle.dms_model.specs.Traits.{traits}
+use Rattle.dms_model.specs.Valid.{owner_of}
 
 -- what the verbs change: the database, that of the last quiet point or else of the beginning, the number of the next quiet
 -- point, the open programs in the order of their opening (each with its locks), whether a syncpoint is pending, and the
@@ -91,6 +93,14 @@ or_none (Some w) = w
 abbrev pub work_of : Program → ℕ → Work
 work_of p set = or_none (slice_get p.works (set - 1))
 
+-- its current record of a data set
+abbrev pub current_of : Program → ℕ → Option ℕ
+current_of p set = (work_of p set).current
+
+-- its area of a data set
+abbrev pub area_of : Program → ℕ → Option Area
+area_of p set = (work_of p set).area
+
 abbrev pub with_work : Program → ℕ → Work → Program
 with_work p set w = record p { works = slice_set p.works (set - 1) w }
 
@@ -134,6 +144,21 @@ settle s =
     else (if s.pending
     then record { session = record s { mark = s.db; next = s.next + 1; programs = map idle s.programs; pending = false; since = 0 }; reply = Done []; sync = Some s.next; quiets = (s.next, s.db) ∷ [] }
     else record { session = record s { mark = s.db; next = s.next + 1; programs = map idle s.programs }; reply = Done []; sync = None; quiets = (s.next, s.db) ∷ [] })
+
+-- Owners
+
+-- the record of this data set that owns what a program finds or makes: its current one; 0 stands for no data set
+abbrev pub owner_in : Program → ℕ → Option ℕ
+owner_in p to = if to == 0 then Some 0 else current_of p to
+
+-- the owner of what a program finds or makes in a structure: its current record of the data set that the structure stands in,
+-- where it has one, and 0 where the structure stands in none
+abbrev pub owner_for : Described → Program → ℕ → Option ℕ
+owner_for desc p x = owner_in p (owner_of (structure_of desc x))
+
+-- without an owner nothing is found or made there
+abbrev pub refuse_unowned : Described → Session → ℕ → Outcome
+refuse_unowned desc s x = refuse s NoRecord (name_of (structure_of desc (owner_of (structure_of desc x))))
 
 -- Storing
 
@@ -290,15 +315,15 @@ key_values parts items [] = Some []
 key_values [] items (l ∷ ls) = None
 key_values (p ∷ ps) items (l ∷ ls) = onto (fitted (slice_get items (p.item - 1)) l) (key_values ps items ls)
 
-abbrev pub at_values : Option (List Value) → Described → Db → ℕ → Option Spot
-at_values None desc db x = None
-at_values (Some key) desc db x = at_member desc db x 0 key
+abbrev pub at_values : Option (List Value) → Described → Db → ℕ → ℕ → Option Spot
+at_values None desc db x owner = None
+at_values (Some key) desc db x owner = at_member desc db x owner key
 
--- the member that a path names
-unfoldable pub found_by : Described → Db → Path → Option Spot
-found_by desc db (First x) = first_member desc db x 0 Start
-found_by desc db (Last x) = last_member desc db x 0 Behind
-found_by desc db (At x literals) = at_values (key_values (parts_of (structure_of desc x)) (items_of (structure_of desc (set_of desc x))) literals) desc db x
+-- the member that a path names, among those of an owner
+unfoldable pub found_by : Described → Db → ℕ → Path → Option Spot
+found_by desc db owner (First x) = first_member desc db x owner Start
+found_by desc db owner (Last x) = last_member desc db x owner Behind
+found_by desc db owner (At x literals) = at_values (key_values (parts_of (structure_of desc x)) (items_of (structure_of desc (set_of desc x))) literals) desc db x owner
 
 abbrev pub path_of : Path → ℕ
 path_of (First x) = x
@@ -313,15 +338,25 @@ abbrev pub after_find : Option Spot → Described → ℕ → Program → Sessio
 after_find None desc i p s x = refuse s NotFound (name_of (structure_of desc x))
 after_find (Some r) desc i p s x = done (with_program s i (carried (found_program p (set_of desc x) r)))
 
+abbrev pub find_for : Option ℕ → Described → ℕ → Program → Session → Path → Outcome
+find_for None desc i p s path = refuse_unowned desc s (path_of path)
+find_for (Some owner) desc i p s path = after_find (found_by desc s.db owner path) desc i p s (path_of path)
+
 unfoldable pub find_step : Described → ℕ → Program → Session → Path → Outcome
-find_step desc i p s path = after_find (found_by desc s.db path) desc i p s (path_of path)
+find_step desc i p s path = find_for (owner_for desc p (path_of path)) desc i p s path
 
 -- Areas
 
--- no current record, and a new area with the initial values; links are null there
+-- no current record, and a new area of this owner with the initial values; links are null there
+abbrev pub created : Described → Program → ℕ → ℕ → Program
+created desc p set owner = let_go (with_work p set (record { current = None; area = Some (New (map (λ (t : Item). t.initial) (items_of (structure_of desc set))) owner) })) set
+
+abbrev pub create_for : Option ℕ → Described → ℕ → Program → Session → ℕ → Outcome
+create_for None desc i p s set = refuse_unowned desc s set
+create_for (Some owner) desc i p s set = done (with_program s i (carried (created desc p set owner)))
+
 unfoldable pub create_step : Described → ℕ → Program → Session → ℕ → Outcome
-create_step desc i p s set =
-    done (with_program s i (carried (let_go (with_work p set (record { current = None; area = Some (New (map (λ (t : Item). t.initial) (items_of (structure_of desc set))) 0) })) set)))
+create_step desc i p s set = create_for (owner_for desc p set) desc i p s set
 
 -- the values of an area after a PUT, or the first item whose literal doesn't fit
 pub data Filled : Type 0 where
@@ -396,19 +431,14 @@ open_as desc s name mode =
     if nat_le 64 (length s.programs) then refuse s LimitError name
     else done (record s { programs = s.programs ++ new_program desc name mode ∷ [] })
 
+-- what opens the database for a program that isn't open, and all else is refused
+abbrev pub open_in : Option Mode → Described → Session → List ℕ → Outcome
+open_in None desc s name = refuse s OpenError name
+open_in (Some mode) desc s name = open_as desc s name mode
+
 -- a verb of a program that isn't open
 unfoldable pub open_step : Described → Session → List ℕ → Verb → Outcome
-open_step desc s name OpenUpdate = open_as desc s name Update
-open_step desc s name OpenInquiry = open_as desc s name Inquiry
-open_step desc s name Close = refuse s OpenError name
-open_step desc s name (Find path) = refuse s OpenError name
-open_step desc s name (Create set) = refuse s OpenError name
-open_step desc s name (PutItems set settings) = refuse s OpenError name
-open_step desc s name (Get set items) = refuse s OpenError name
-open_step desc s name (Store set) = refuse s OpenError name
-open_step desc s name (Begin audit) = refuse s OpenError name
-open_step desc s name (End audit sync) = refuse s OpenError name
-open_step desc s name Abort = refuse s OpenError name
+open_step desc s name verb = open_in (traits verb).opens desc s name
 
 -- One step
 
@@ -417,31 +447,11 @@ is_inquiry Update = false
 is_inquiry Inquiry = true
 
 abbrev pub opens : Verb → Bool
-opens OpenUpdate = true
-opens OpenInquiry = true
-opens Close = false
-opens (Find path) = false
-opens (Create set) = false
-opens (PutItems set settings) = false
-opens (Get set items) = false
-opens (Store set) = false
-opens (Begin audit) = false
-opens (End audit sync) = false
-opens Abort = false
+opens verb = is_some (traits verb).opens
 
 -- the verbs that a program which opened for inquiry is refused
 abbrev pub changes : Verb → Bool
-changes OpenUpdate = false
-changes OpenInquiry = false
-changes Close = false
-changes (Find path) = false
-changes (Create set) = false
-changes (PutItems set settings) = false
-changes (Get set items) = false
-changes (Store set) = true
-changes (Begin audit) = true
-changes (End audit sync) = true
-changes Abort = true
+changes verb = (traits verb).changes
 
 -- the verb of an open program that owes no ABORT and may do it
 unfoldable pub verb_step : Described → ℕ → Program → Session → Verb → Outcome

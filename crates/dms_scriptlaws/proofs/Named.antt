@@ -18,6 +18,7 @@ use Rattle.dms_model.specs.declared.program.Area.TheVariants.{New, Old}
 use Rattle.dms_model.specs.declared.program.Mode.{Mode}
 use Rattle.dms_model.specs.declared.verb.Verb.{Verb}
 use Rattle.dms_model.specs.declared.verb.Verb.TheVariants.{OpenUpdate, OpenInquiry, Close, Find, Create, Put as PutItems, Get, Store, Begin, End, Abort}
+use Rattle.dms_model.specs.declared.verb.Path.{Path}
 use Rattle.dms_model.specs.declared.verb.Setting.{Setting}
 use Rattle.dms_model.specs.declared.reply.Reply.TheVariants.{Exception}
 use Rattle.dms_model.specs.declared.put.Put.{Put}
@@ -26,8 +27,10 @@ use Rattle.dms_model.specs.declared.spot.Spot.{Spot}
 use Rattle.dms_model.specs.Db.{Db}
 use Rattle.dms_desc.specs.Lookups.{name_of, structure_of, items_of, set_of}
 use Rattle.dms_model.specs.Stores.{put_answer}
-use Rattle.dms_model.specs.Session.{Session, Outcome, StoreResult, Refused, Keeps, Filled, Misfit, Values', refuse, done, shows, settle, keep, store_step, after_store, begin_step, after_begin, begin_unless, awaited, workers, end_step, after_end, abort_step, find_step, after_find, found_by, create_step, put_step, put_area, after_put, filled, item_name, setting_value, get_step, get_area, get_text, more_text, item_text, close_step, open_as, open_step, verb_step, step_at, step, with_program, with_work, work_of, restart_of, someone_works, is_inquiry, opens, changes, path_of, new_program, place_of, carried, left, without, idle, backed_out, found_program, let_go, with_lock, area_kept, kept_unless, put_kept, missing_from, verified, area_values, area_number, record_of, is_free, one_more}
+use Rattle.dms_model.specs.Session.{Session, Outcome, StoreResult, Refused, Keeps, Filled, Misfit, Values', refuse, done, shows, settle, keep, store_step, after_store, begin_step, after_begin, begin_unless, awaited, workers, end_step, after_end, abort_step, find_step, find_for, after_find, found_by, create_step, create_for, owner_for, refuse_unowned, put_step, put_area, after_put, filled, item_name, setting_value, get_step, get_area, get_text, more_text, item_text, close_step, open_as, open_step, verb_step, step_at, step, with_program, with_work, work_of, restart_of, someone_works, is_inquiry, opens, changes, path_of, new_program, place_of, carried, left, without, idle, backed_out, found_program, let_go, with_lock, area_kept, kept_unless, put_kept, missing_from, verified, area_values, area_number, record_of, is_free, one_more, open_in}
+use Rattle.dms_model.specs.Traits.{traits}
 use Rattle.dms_model.specs.Areas.{AreaFits, AreasFit}
+use Rattle.dms_model.specs.Valid.{owner_of}
 use Rattle.dms_laws.proofs.Lists.{all_at, all_set, all_mapped, all_pushed, all_without}
 use Rattle.dms_scriptlaws.specs.Truths.{HasNames}
 use Rattle.dms_scriptlaws.proofs.Digits.{NoFeed}
@@ -227,6 +230,17 @@ module _ (desc : Described) (names : HasNames desc) where
     find_named (Some r) x =
         shown _ [] tt (with_named (carried (found_program p (set_of desc x) r)) (let_go_named (with_work p (set_of desc x) (record { current = Some r.number; area = Some (Old r.rec.values) })) (set_of desc x) mine))
 
+    owner_feed : (x : ℕ) → LeavesNamed (refuse_unowned desc s x)
+    owner_feed x = refused s _ _ (shape_feed (owner_of (structure_of desc x))) all
+
+    find_for_named : (o : Option ℕ) (path : Path) → LeavesNamed (find_for o desc i p s path)
+    find_for_named None path = owner_feed (path_of path)
+    find_for_named (Some owner) path = find_named (found_by desc s.db owner path) (path_of path)
+
+    create_for_named : (o : Option ℕ) (set : ℕ) → LeavesNamed (create_for o desc i p s set)
+    create_for_named None set = owner_feed set
+    create_for_named (Some owner) set = shown _ [] tt (with_named _ (let_go_named (with_work p set _) set mine))
+
     after_put_named : (f : Filled) (set : ℕ) (a : Area) → FilledClean f → LeavesNamed (after_put f i p s set a)
     after_put_named (Misfit item) set a h = refused s _ item h all
     after_put_named (Values' values) set a h = shown _ [] tt (with_named _ mine)
@@ -271,8 +285,8 @@ module _ (desc : Described) (names : HasNames desc) where
   verb_named i p s OpenUpdate at all fit = refused s _ p.name (mine_feed s i p at all) all
   verb_named i p s OpenInquiry at all fit = refused s _ p.name (mine_feed s i p at all) all
   verb_named i p s Close at all fit = leaves_if p.in_transaction (refuse s AuditError p.name) (done (record s { programs = without i s.programs })) (refused s _ p.name (mine_feed s i p at all) all) (shown _ [] tt (all_without Named s.programs i all))
-  verb_named i p s (Find path) at all fit = find_named s i p at all (found_by desc s.db path) (path_of path)
-  verb_named i p s (Create set) at all fit = shown _ [] tt (with_named s i p at all _ (let_go_named (with_work p set _) set (mine s i p at all)))
+  verb_named i p s (Find path) at all fit = find_for_named s i p at all (owner_for desc p (path_of path)) path
+  verb_named i p s (Create set) at all fit = create_for_named s i p at all (owner_for desc p set) set
   verb_named i p s (PutItems set settings) at all fit = put_area_named s i p at all (work_of p set).area set settings
   verb_named i p s (Get set items) at all fit = get_named s i p at all (work_of p set).area set items fit refl
   verb_named i p s (Store set) at all fit = leaves_if p.in_transaction (after_store (keep desc p s.db set) i s) (refuse s AuditError p.name) (store_named s i p at all (keep desc p s.db set) (keep_named s i p at all s.db set)) (refused s _ p.name (mine_feed s i p at all) all)
@@ -292,19 +306,13 @@ open_as_named desc s name mode named all =
     leaves_if (nat_le 64 (length s.programs)) (refuse s LimitError name) (done (record s { programs = s.programs ++ new_program desc name mode ∷ [] }))
     (refused s _ name (name_feed name named) all) (shown _ [] tt (all_pushed Named s.programs (new_program desc name mode) all named))
 
+open_in_named : (o : Option Mode) (desc : Described) (s : Session) (name : List ℕ) → IsName name → AreNamed s.programs → LeavesNamed (open_in o desc s name)
+open_in_named None desc s name named all = refused s _ name (name_feed name named) all
+open_in_named (Some mode) desc s name named all = open_as_named desc s name mode named all
+
 open_named : (desc : Described) (s : Session) (name : List ℕ) (v : Verb) → IsName name → AreNamed s.programs → LeavesNamed (open_step desc s name v)
 unfolding open_step
-open_named desc s name OpenUpdate named all = open_as_named desc s name _ named all
-open_named desc s name OpenInquiry named all = open_as_named desc s name _ named all
-open_named desc s name Close named all = refused s _ name (name_feed name named) all
-open_named desc s name (Find path) named all = refused s _ name (name_feed name named) all
-open_named desc s name (Create set) named all = refused s _ name (name_feed name named) all
-open_named desc s name (PutItems set settings) named all = refused s _ name (name_feed name named) all
-open_named desc s name (Get set items) named all = refused s _ name (name_feed name named) all
-open_named desc s name (Store set) named all = refused s _ name (name_feed name named) all
-open_named desc s name (Begin audit) named all = refused s _ name (name_feed name named) all
-open_named desc s name (End audit sync) named all = refused s _ name (name_feed name named) all
-open_named desc s name Abort named all = refused s _ name (name_feed name named) all
+open_named desc s name v named all = open_in_named (traits v).opens desc s name named all
 
 step_at_named : (desc : Described) → HasNames desc → (o : Option Program) (i : ℕ) (s : Session) (name : List ℕ) (v : Verb) → slice_get s.programs i ≡ o → IsName name → AreNamed s.programs → AllByRecursion (AreasFit desc) s.programs
     → LeavesNamed (step_at desc o i s name v)

@@ -14,12 +14,14 @@ use Rattle.dms_model.specs.declared.reply.Reply.TheVariants.{Exception}
 use Rattle.dms_model.specs.declared.put.Put.{Put}
 use Rattle.dms_model.specs.declared.put.Put.TheVariants.{Stored, Duplicate, Full}
 use Rattle.dms_model.specs.declared.spot.Spot.{Spot}
+use Rattle.dms_model.specs.declared.verb.Path.{Path}
 use Rattle.dms_model.specs.declared.verb.Setting.{Setting}
 use Rattle.dms_model.specs.Db.{Db}
 use Rattle.dms_desc.specs.Lookups.{name_of, structure_of, items_of, set_of}
 use Rattle.dms_model.specs.Stores.{put_answer}
-use Rattle.dms_model.specs.Session.{Session, Outcome, StoreResult, Refused, Keeps, Filled, Misfit, Values', refuse, done, shows, settle, keep, store_step, after_store, begin_step, after_begin, begin_unless, awaited, end_step, after_end, abort_step, find_step, after_find, found_by, create_step, put_step, put_area, after_put, filled, get_step, get_area, close_step, open_as, open_step, verb_step, step_at, step, with_program, work_of, restart_of, someone_works, is_inquiry, opens, changes, path_of, new_program, place_of, carried, entered, left, without, idle, found_program, let_go, area_kept, kept_unless, put_kept, missing_from, verified, area_values, area_number, record_of, is_free, one_more}
+use Rattle.dms_model.specs.Session.{Session, Outcome, StoreResult, Refused, Keeps, Filled, Misfit, Values', refuse, done, shows, settle, keep, store_step, after_store, begin_step, after_begin, begin_unless, awaited, end_step, after_end, abort_step, find_step, find_for, after_find, found_by, create_step, create_for, owner_for, put_step, put_area, after_put, filled, get_step, get_area, close_step, open_as, open_in, open_step, verb_step, step_at, step, with_program, work_of, restart_of, someone_works, is_inquiry, opens, changes, path_of, new_program, place_of, carried, entered, left, without, idle, found_program, let_go, area_kept, kept_unless, put_kept, missing_from, verified, area_values, area_number, record_of, is_free, one_more}
 use Rattle.dms_model.specs.BackOut.{asks_back_out}
+use Rattle.dms_model.specs.Traits.{traits}
 use Rattle.dms_storeverbs.specs.Laws.{MakesNone, MakesWhereQuiet, falls_quiet, QuietRule}
 
 -- no quiet point was made, and someone who worked still works
@@ -150,6 +152,14 @@ module _ (s : Session) (i : ℕ) (p : Program) (at : slice_get s.programs i ≡ 
   find_steady None desc x = steady_refuse s _ _
   find_steady (Some r) desc x = steady_at (carried (found_program p (set_of desc x) r)) [] (let_go_works _ (set_of desc x))
 
+  pub find_for_steady : (o : Option ℕ) (desc : Described) (path : Path) → Steady s (find_for o desc i p s path)
+  find_for_steady None desc path = steady_refuse s _ _
+  find_for_steady (Some owner) desc path = find_steady (found_by desc s.db owner path) desc (path_of path)
+
+  pub create_for_steady : (o : Option ℕ) (desc : Described) (set : ℕ) → Steady s (create_for o desc i p s set)
+  create_for_steady None desc set = steady_refuse s _ _
+  create_for_steady (Some owner) desc set = steady_at _ [] (let_go_works _ set)
+
   after_put_steady : (f : Filled) (set : ℕ) (a : Area) → Steady s (after_put f i p s set a)
   after_put_steady (Misfit item) set a = steady_refuse s _ _
   after_put_steady (Values' values) set a = steady_at _ [] refl
@@ -200,8 +210,8 @@ unfolding verb_step store_step begin_step end_step abort_step find_step create_s
 verb_rule desc i p s OpenUpdate at = by_steady OpenUpdate s _ (steady_refuse s _ _)
 verb_rule desc i p s OpenInquiry at = by_steady OpenInquiry s _ (steady_refuse s _ _)
 verb_rule desc i p s Close at = by_steady Close s _ (close_steady s i p at p.in_transaction refl)
-verb_rule desc i p s (Find path) at = by_steady (Find path) s _ (find_steady s i p at (found_by desc s.db path) desc (path_of path))
-verb_rule desc i p s (Create set) at = by_steady (Create set) s _ (steady_at s i p at _ [] (let_go_works s i p at _ set))
+verb_rule desc i p s (Find path) at = by_steady (Find path) s _ (find_for_steady s i p at (owner_for desc p (path_of path)) desc path)
+verb_rule desc i p s (Create set) at = by_steady (Create set) s _ (create_for_steady s i p at (owner_for desc p set) desc set)
 verb_rule desc i p s (PutItems set settings) at = by_steady (PutItems set settings) s _ (put_steady s i p at (work_of p set).area desc set settings)
 verb_rule desc i p s (Get set items) at = by_steady (Get set items) s _ (get_steady s i p at (work_of p set).area desc set items)
 verb_rule desc i p s (Store set) at = by_steady (Store set) s _ (store_rule s i p at p.in_transaction desc set)
@@ -214,19 +224,13 @@ open_as_steady desc s name mode =
     let opened : Session = record s { programs = s.programs ++ new_program desc name mode ∷ [] } in
     steady_if s (nat_le 64 (length s.programs)) (refuse s LimitError name) (done opened) (steady_refuse s LimitError name) (steady_shows s opened [] refl refl (push_works s.programs (new_program desc name mode)))
 
+open_in_steady : (o : Option Mode) (desc : Described) (s : Session) (name : List ℕ) → Steady s (open_in o desc s name)
+open_in_steady None desc s name = steady_refuse s _ _
+open_in_steady (Some mode) desc s name = open_as_steady desc s name mode
+
 pub open_steady : (desc : Described) (s : Session) (name : List ℕ) (v : Verb) → Steady s (open_step desc s name v)
 unfolding open_step
-open_steady desc s name OpenUpdate = open_as_steady desc s name _
-open_steady desc s name OpenInquiry = open_as_steady desc s name _
-open_steady desc s name Close = steady_refuse s _ _
-open_steady desc s name (Find path) = steady_refuse s _ _
-open_steady desc s name (Create set) = steady_refuse s _ _
-open_steady desc s name (PutItems set settings) = steady_refuse s _ _
-open_steady desc s name (Get set items) = steady_refuse s _ _
-open_steady desc s name (Store set) = steady_refuse s _ _
-open_steady desc s name (Begin audit) = steady_refuse s _ _
-open_steady desc s name (End audit sync) = steady_refuse s _ _
-open_steady desc s name Abort = steady_refuse s _ _
+open_steady desc s name v = open_in_steady (traits v).opens desc s name
 
 abbrev pub due_outcome : Session → ℕ → Program → List ℕ → Outcome
 due_outcome s i p name = record { session = with_program s i (record p { owes_abort = false }); reply = Exception AbortDue name; sync = None; quiets = [] }

@@ -11,7 +11,7 @@ use Rattle.dms_model.specs.declared.spot.Spot.{Spot}
 use Rattle.dms_model.specs.declared.verb.Verb.{Verb}
 use Rattle.dms_model.specs.declared.verb.Path.{Path}
 use Rattle.dms_desc.specs.Lookups.{structure_of, name_of, set_of}
-use Rattle.dms_model.specs.Session.{Session, Outcome, refuse, done, keep, store_step, after_store, begin_step, after_begin, begin_unless, awaited, end_step, after_end, find_step, after_find, found_by, found_program, with_program, carried, path_of, restart_of, work_of, step, step_at, open_step, place_of}
+use Rattle.dms_model.specs.Session.{Session, Outcome, refuse, done, keep, store_step, after_store, begin_step, after_begin, begin_unless, awaited, end_step, after_end, find_step, find_for, after_find, found_by, owner_for, refuse_unowned, found_program, with_program, carried, path_of, restart_of, work_of, step, step_at, open_step, place_of}
 use Rattle.dms_storeverbs.specs.Keeping.{kept_if}
 
 pub there_is : {A : Type 0} (xs : List A) (i : ℕ) → i < length xs → (x : A) × (slice_get xs i ≡ Some x)
@@ -56,13 +56,17 @@ pub end_outside : (desc : Described) (i : ℕ) (p : Program) (s : Session) (audi
 unfolding end_step
 end_outside desc i p s audit sync idle = end_if p.in_transaction (after_end (kept_if audit desc p s.db) desc i s sync) (refuse s AuditError p.name) idle
 
-pub find_none : (desc : Described) (i : ℕ) (p : Program) (s : Session) (path : Path) → found_by desc s.db path ≡ None → find_step desc i p s path ≡ refuse s NotFound (name_of (structure_of desc (path_of path)))
+pub find_unowned : (desc : Described) (i : ℕ) (p : Program) (s : Session) (path : Path) → owner_for desc p (path_of path) ≡ None → find_step desc i p s path ≡ refuse_unowned desc s (path_of path)
 unfolding find_step
-find_none desc i p s path none = ap (λ (r : Option Spot). after_find r desc i p s (path_of path)) none
+find_unowned desc i p s path nobody = ap (λ (o : Option ℕ). find_for o desc i p s path) nobody
 
-pub find_some : (desc : Described) (i : ℕ) (p : Program) (s : Session) (path : Path) (r : Spot) → found_by desc s.db path ≡ Some r → find_step desc i p s path ≡ done (with_program s i (carried (found_program p (set_of desc (path_of path)) r)))
+pub find_none : (desc : Described) (i : ℕ) (p : Program) (s : Session) (path : Path) (owner : ℕ) → owner_for desc p (path_of path) ≡ Some owner → found_by desc s.db owner path ≡ None → find_step desc i p s path ≡ refuse s NotFound (name_of (structure_of desc (path_of path)))
 unfolding find_step
-find_some desc i p s path r some = ap (λ (t : Option Spot). after_find t desc i p s (path_of path)) some
+find_none desc i p s path owner own none = ap (λ (o : Option ℕ). find_for o desc i p s path) own ∙ ap (λ (r : Option Spot). after_find r desc i p s (path_of path)) none
+
+pub find_some : (desc : Described) (i : ℕ) (p : Program) (s : Session) (path : Path) (owner : ℕ) (r : Spot) → owner_for desc p (path_of path) ≡ Some owner → found_by desc s.db owner path ≡ Some r → find_step desc i p s path ≡ done (with_program s i (carried (found_program p (set_of desc (path_of path)) r)))
+unfolding find_step
+find_some desc i p s path owner r own some = ap (λ (o : Option ℕ). find_for o desc i p s path) own ∙ ap (λ (t : Option Spot). after_find t desc i p s (path_of path)) some
 
 pub step_opens : (desc : Described) (s : Session) (name : List ℕ) (v : Verb) (i : ℕ) → i ≡ place_of name s.programs → length s.programs ≤ i → step desc s name v ≡ open_step desc s name v
 unfolding step
