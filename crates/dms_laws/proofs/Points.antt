@@ -17,7 +17,7 @@ use Rattle.dms_model.specs.declared.reply.Reply.TheVariants.{Exception}
 use Rattle.dms_model.specs.declared.spot.Spot.{Spot}
 use Rattle.dms_desc.specs.Lookups.{name_of, structure_of, items_of}
 use Rattle.dms_model.specs.Points.{Quiet}
-use Rattle.dms_model.specs.Session.{Session, Outcome, StoreResult, Refused, Keeps, Filled, Misfit, Values', refuse, done, settle, keep, store_step, after_store, begin_step, after_begin, begin_unless, awaited, end_step, after_end, abort_step, find_step, find_for, after_find, found_by, create_step, create_for, owner_for, put_step, put_area, after_put, filled, get_step, get_area, close_step, open_as, open_in, open_step, verb_step, step_at, step, with_program, work_of, restart_of, someone_works, is_inquiry, opens, changes, path_of, new_program, place_of, without, area_values, left, one_more}
+use Rattle.dms_model.specs.Session.{Session, Outcome, StoreResult, Refused, Keeps, Filled, Misfit, Values', refuse, done, settle, keep, store_step, after_store, begin_step, after_begin, begun, end_step, after_end, abort_step, find_step, find_for, after_find, found_by, create_step, create_for, owner_for, put_step, put_area, after_put, filled, get_step, get_area, close_step, open_as, open_in, open_step, verb_step, step_at, step, with_program, work_of, restart_of, someone_works, is_inquiry, opens, changes, path_of, new_program, place_of, without, area_values, left, one_more}
 
 abbrev pub HasPoints : Outcome → Type 0
 HasPoints o = AllByRecursion (λ (q : Quiet). q.1 ≡ o.session.db) o.quiets
@@ -31,19 +31,15 @@ unfolding settle
 settle_points t = points_if (someone_works t.programs) _ _ tt (points_if t.pending _ _ (refl, tt) (refl, tt))
 
 store_points : (k : StoreResult) (i : ℕ) (s : Session) → HasPoints (after_store k i s)
-store_points (Refused c n) i s = tt
+store_points (Refused r) i s = tt
 store_points (Keeps p db) i s = tt
 
 begun_points : (k : StoreResult) (i : ℕ) (s : Session) → HasPoints (after_begin k i s)
-begun_points (Refused c n) i s = tt
+begun_points (Refused r) i s = tt
 begun_points (Keeps p db) i s = tt
 
-begin_points : (who : List (List ℕ)) (desc : Described) (i : ℕ) (p : Program) (s : Session) (audit : Bool) → HasPoints (begin_unless who desc i p s audit)
-begin_points [] desc i p s audit = begun_points (cond audit (keep desc p s.db (restart_of desc)) (Keeps p s.db)) i s
-begin_points (q ∷ qs) desc i p s audit = tt
-
 end_points : (k : StoreResult) (desc : Described) (i : ℕ) (s : Session) (sync : Bool) → HasPoints (after_end k desc i s sync)
-end_points (Refused c n) desc i s sync = tt
+end_points (Refused r) desc i s sync = tt
 end_points (Keeps p db) desc i s sync = settle_points (record s { db = db; programs = slice_set s.programs i (left p); pending = s.pending || sync || nat_le desc.syncpoint (one_more s.since); since = one_more s.since })
 
 find_points : (r : Option Spot) (desc : Described) (i : ℕ) (p : Program) (s : Session) (x : ℕ) → HasPoints (after_find r desc i p s x)
@@ -80,7 +76,7 @@ verb_points desc i p s (Create set) = create_for_points (owner_for desc p set) d
 verb_points desc i p s (PutItems set settings) = put_points (work_of p set).area desc i p s set settings
 verb_points desc i p s (Get set items) = get_points (work_of p set).area desc i p s set items
 verb_points desc i p s (Store set) = points_if p.in_transaction (after_store (keep desc p s.db set) i s) (refuse s AuditError p.name) (store_points (keep desc p s.db set) i s) tt
-verb_points desc i p s (Begin audit) = points_if p.in_transaction (refuse s AuditError p.name) _ tt (points_if (audit && not (is_some (work_of p (restart_of desc)).area)) (refuse s NoRecord (name_of (structure_of desc (restart_of desc)))) _ tt (begin_points (awaited s) desc i p s audit))
+verb_points desc i p s (Begin audit) = points_if p.in_transaction (refuse s AuditError p.name) (after_begin (begun desc p s audit) i s) tt (begun_points (begun desc p s audit) i s)
 verb_points desc i p s (End audit sync) =
     points_if p.in_transaction (after_end (cond audit (keep desc p s.db (restart_of desc)) (Keeps p s.db)) desc i s sync) (refuse s AuditError p.name)
     (end_points (cond audit (keep desc p s.db (restart_of desc)) (Keeps p s.db)) desc i s sync) tt

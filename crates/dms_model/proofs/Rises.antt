@@ -13,8 +13,9 @@ use Rattle.dms_model.specs.declared.verb.Verb.{Verb}
 use Rattle.dms_model.specs.declared.verb.Verb.TheVariants.{OpenUpdate, OpenInquiry, Close, Find, Create, Put as PutItems, Get, Store, Begin, End, Abort}
 use Rattle.dms_model.specs.declared.verb.Path.{Path}
 use Rattle.dms_model.specs.declared.verb.Setting.{Setting}
+use Rattle.dms_model.specs.declared.reply.Reply.{Reply}
 use Rattle.dms_model.specs.declared.spot.Spot.{Spot}
-use Rattle.dms_model.specs.Session.{Session, Outcome, StoreResult, Refused, Keeps, Filled, Misfit, Values', refuse, done, shows, settle, keep, store_step, after_store, begin_step, after_begin, begin_unless, awaited, end_step, after_end, abort_step, find_step, find_for, after_find, create_step, create_for, put_step, put_area, after_put, get_step, get_area, close_step, open_as, open_in, open_step, verb_step, step_at, step, work_of, restart_of, someone_works, opens, new_program}
+use Rattle.dms_model.specs.Session.{Session, Outcome, StoreResult, Refused, Keeps, Filled, Misfit, Values', refuse, replies, done, shows, settle, keep, store_step, after_store, begin_step, after_begin, begun, end_step, after_end, abort_step, find_step, find_for, after_find, create_step, create_for, put_step, put_area, after_put, get_step, get_area, close_step, open_as, open_in, open_step, verb_step, step_at, step, work_of, restart_of, someone_works, opens, new_program}
 use Rattle.dms_model.specs.Session.{is_waits}
 use Rattle.dms_model.specs.Traits.{traits}
 
@@ -27,6 +28,9 @@ pub record IsSmall (s : Session) (o : Outcome) : Type 0 where
 if_small : (s : Session) (b : Bool) (x y : Outcome) → IsSmall s x → IsSmall s y → IsSmall s (cond b x y)
 if_small s true x y p q = p
 if_small s false x y p q = q
+
+replies_small : (s : Session) (r : Reply) → IsSmall s (replies s r)
+replies_small s r = record { not_fallen = omega arith; high = omega arith; waits = λ h. refl }
 
 refuse_small : (s : Session) (c : Category) (n : List ℕ) → IsSmall s (refuse s c n)
 refuse_small s c n = record { not_fallen = omega arith; high = omega arith; waits = λ h. absurd (cc) }
@@ -41,19 +45,15 @@ settle_small s t same =
     (if_small s t.pending _ _ (record { not_fallen = omega (arith, same); high = omega (arith, same); waits = λ h. absurd (cc) }) (record { not_fallen = omega (arith, same); high = omega (arith, same); waits = λ h. absurd (cc) }))
 
 store_small : (s : Session) (i : ℕ) (k : StoreResult) → IsSmall s (after_store k i s)
-store_small s i (Refused c n) = refuse_small s c n
+store_small s i (Refused r) = replies_small s r
 store_small s i (Keeps p db) = shows_small s _ [] refl
 
 after_begin_small : (s : Session) (i : ℕ) (k : StoreResult) → IsSmall s (after_begin k i s)
-after_begin_small s i (Refused c n) = refuse_small s c n
+after_begin_small s i (Refused r) = replies_small s r
 after_begin_small s i (Keeps p db) = shows_small s _ [] refl
 
-begin_small : (who : List (List ℕ)) (desc : Described) (i : ℕ) (p : Program) (s : Session) (audit : Bool) → IsSmall s (begin_unless who desc i p s audit)
-begin_small [] desc i p s audit = after_begin_small s i (cond audit (keep desc p s.db (restart_of desc)) (Keeps p s.db))
-begin_small (q ∷ qs) desc i p s audit = record { not_fallen = omega arith; high = omega arith; waits = λ h. refl }
-
 end_small : (k : StoreResult) (desc : Described) (i : ℕ) (s : Session) (sync : Bool) → IsSmall s (after_end k desc i s sync)
-end_small (Refused c n) desc i s sync = refuse_small s c n
+end_small (Refused r) desc i s sync = replies_small s r
 end_small (Keeps p db) desc i s sync = settle_small s _ refl
 
 find_small : (r : Option Spot) (desc : Described) (i : ℕ) (p : Program) (s : Session) (x : ℕ) → IsSmall s (after_find r desc i p s x)
@@ -83,9 +83,6 @@ get_small (Some a) desc i p s set numbers = shows_small s _ _ refl
 abbrev ending : Described → Program → Session → Bool → StoreResult
 ending desc p s audit = cond audit (keep desc p s.db (restart_of desc)) (Keeps p s.db)
 
-abbrev restart_name : Described → List ℕ
-restart_name desc = name_of (structure_of desc (restart_of desc))
-
 verb_small : (desc : Described) (i : ℕ) (p : Program) (s : Session) (v : Verb) → IsSmall s (verb_step desc i p s v)
 unfolding verb_step store_step begin_step end_step abort_step find_step create_step put_step get_step close_step
 verb_small desc i p s OpenUpdate = refuse_small s _ _
@@ -96,7 +93,7 @@ verb_small desc i p s (Create set) = create_for_small _ desc i p s set
 verb_small desc i p s (PutItems set settings) = put_small _ desc i p s set settings
 verb_small desc i p s (Get set items) = get_small _ desc i p s set items
 verb_small desc i p s (Store set) = if_small s p.in_transaction (after_store (keep desc p s.db set) i s) (refuse s AuditError p.name) (store_small s i (keep desc p s.db set)) (refuse_small s AuditError p.name)
-verb_small desc i p s (Begin audit) = if_small s p.in_transaction _ _ (refuse_small s _ _) (if_small s (audit && not (is_some (work_of p (restart_of desc)).area)) (refuse s NoRecord (restart_name desc)) _ (refuse_small s NoRecord (restart_name desc)) (begin_small (awaited s) desc i p s audit))
+verb_small desc i p s (Begin audit) = if_small s p.in_transaction (refuse s AuditError p.name) (after_begin (begun desc p s audit) i s) (refuse_small s AuditError p.name) (after_begin_small s i (begun desc p s audit))
 verb_small desc i p s (End audit sync) = if_small s p.in_transaction (after_end (ending desc p s audit) desc i s sync) (refuse s AuditError p.name) (end_small (ending desc p s audit) desc i s sync) (refuse_small s AuditError p.name)
 verb_small desc i p s Abort = if_small s p.in_transaction _ _ (shows_small s _ [] refl) (refuse_small s _ _)
 

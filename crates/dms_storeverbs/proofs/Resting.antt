@@ -12,7 +12,7 @@ use Rattle.dms_model.specs.declared.spot.Spot.{Spot}
 use Rattle.dms_model.specs.declared.verb.Path.{Path}
 use Rattle.dms_model.specs.declared.verb.Setting.{Setting}
 use Rattle.dms_desc.specs.Lookups.{structure_of, items_of}
-use Rattle.dms_model.specs.Session.{Session, Outcome, StoreResult, Refused, Keeps, Filled, Misfit, Values', refuse, done, settle, keep, store_step, after_store, begin_step, after_begin, begin_unless, awaited, end_step, after_end, abort_step, find_step, find_for, after_find, found_by, create_step, create_for, owner_for, put_step, put_area, after_put, filled, get_step, get_area, close_step, open_in, open_step, verb_step, step_at, step, work_of, restart_of, someone_works, is_inquiry, opens, changes, path_of, place_of, carried, entered, left, without, one_more, area_values}
+use Rattle.dms_model.specs.Session.{Session, Outcome, StoreResult, Refused, Keeps, Filled, Misfit, Values', refuse, done, settle, keep, store_step, after_store, begin_step, after_begin, begun, end_step, after_end, abort_step, find_step, find_for, after_find, found_by, create_step, create_for, owner_for, put_step, put_area, after_put, filled, get_step, get_area, close_step, open_in, open_step, verb_step, step_at, step, work_of, restart_of, someone_works, is_inquiry, opens, changes, path_of, place_of, carried, entered, left, without, one_more, area_values}
 use Rattle.dms_model.specs.declared.program.Mode.{Mode}
 use Rattle.dms_model.specs.Traits.{traits}
 use Rattle.dms_storeverbs.specs.Laws.{Rests, RestRule}
@@ -45,19 +45,15 @@ settle_rests s t false false works pending = rw (works, pending) (λ is idle. re
 
 module _ (s : Session) (i : ℕ) (p : Program) (at : slice_get s.programs i ≡ Some p) where
   store_rests : (k : StoreResult) → SameWork s i p at k → p.in_transaction ≡ true → Resting s (after_store k i s)
-  store_rests (Refused c n) same is = λ r. r
+  store_rests (Refused reply) same is = λ r. r
   store_rests (Keeps q db) same is = working s (after_store (Keeps q db) i s) (set_enters s.programs i p (carried q) at (same ∙ is))
 
   begin_rests : (k : StoreResult) → Resting s (after_begin k i s)
-  begin_rests (Refused c n) = λ r. r
+  begin_rests (Refused reply) = λ r. r
   begin_rests (Keeps q db) = working s (after_begin (Keeps q db) i s) (set_enters s.programs i p (entered q) at refl)
 
-  unless_rests : (who : List (List ℕ)) (desc : Described) (audit : Bool) → Resting s (begin_unless who desc i p s audit)
-  unless_rests [] desc audit = begin_rests (cond audit (keep desc p s.db (restart_of desc)) (Keeps p s.db))
-  unless_rests (q ∷ qs) desc audit = λ r. r
-
   end_rests : (k : StoreResult) (desc : Described) (sync : Bool) → Resting s (after_end k desc i s sync)
-  end_rests (Refused c n) desc sync = λ r. r
+  end_rests (Refused reply) desc sync = λ r. r
   end_rests (Keeps q db) desc sync =
       let t : Session = record s { db = db; programs = slice_set s.programs i (left q); pending = s.pending || sync || nat_le desc.syncpoint (one_more s.since); since = one_more s.since } in
       settle_rests s t (someone_works t.programs) t.pending refl refl
@@ -104,7 +100,7 @@ verb_rests desc i p s (Create set) at = create_for_rests s i p at (owner_for des
 verb_rests desc i p s (PutItems set settings) at = put_rests s i p at (work_of p set).area desc set settings
 verb_rests desc i p s (Get set items) at = get_rests s i p at (work_of p set).area desc set items
 verb_rests desc i p s (Store set) at = store_at s i p at p.in_transaction refl desc set
-verb_rests desc i p s (Begin audit) at = resting_if s p.in_transaction _ _ (λ r. r) (resting_if s (audit && not (is_some (work_of p (restart_of desc)).area)) _ _ (λ r. r) (unless_rests s i p at (awaited s) desc audit))
+verb_rests desc i p s (Begin audit) at = resting_if s p.in_transaction (refuse s AuditError p.name) (after_begin (begun desc p s audit) i s) (λ r. r) (begin_rests s i p at (begun desc p s audit))
 verb_rests desc i p s (End audit sync) at = resting_if s p.in_transaction _ _ (end_rests s i p at (cond audit (keep desc p s.db (restart_of desc)) (Keeps p s.db)) desc sync) (λ r. r)
 verb_rests desc i p s Abort at = resting_if s p.in_transaction _ _ (λ is idle. refl) (λ r. r)
 
