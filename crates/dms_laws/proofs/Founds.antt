@@ -48,17 +48,17 @@ at_stands : (o : Option Shape) (db : Db) (owner : ℕ) (key : List Value) → St
 at_stands None db owner key = tt
 at_stands (Some s) db owner key = first_there (IsRecordOf db.records (over s)) (agrees s.parts key) (members s db owner) (members_stand s db owner)
 
-key_stands : (key : Option (List Value)) (desc : Described) (db : Db) (x : ℕ) → Stands db (set_of desc x) (at_values key desc db x)
+key_stands : (key : Option (List Value)) (desc : Described) (db : Db) (x owner : ℕ) → Stands db (set_of desc x) (at_values key desc db x owner)
 unfolding at_member
-key_stands None desc db x = tt
-key_stands (Some key) desc db x = at_stands (structure_of desc x) db 0 key
+key_stands None desc db x owner = tt
+key_stands (Some key) desc db x owner = at_stands (structure_of desc x) db owner key
 
 -- what a path finds is a record of its data set
-pub found_stands : (desc : Described) (db : Db) (path : Path) → Stands db (set_of desc (path_of path)) (found_by desc db path)
+pub found_stands : (desc : Described) (db : Db) (owner : ℕ) (path : Path) → Stands db (set_of desc (path_of path)) (found_by desc db owner path)
 unfolding found_by first_member last_member
-found_stands desc db (First x) = first_stands (structure_of desc x) db 0 Start
-found_stands desc db (Last x) = last_stands (structure_of desc x) db 0 Behind
-found_stands desc db (At x literals) = key_stands (key_values (parts_of (structure_of desc x)) (items_of (structure_of desc (set_of desc x))) literals) desc db x
+found_stands desc db owner (First x) = first_stands (structure_of desc x) db owner Start
+found_stands desc db owner (Last x) = last_stands (structure_of desc x) db owner Behind
+found_stands desc db owner (At x literals) = key_stands (key_values (parts_of (structure_of desc x)) (items_of (structure_of desc (set_of desc x))) literals) desc db x owner
 
 -- in a valid database, of members of one owner in a set or subset without DUPLICATES two with equal keys are one
 pub members_own_keys : (desc : Described) (db : Db) → IsValid desc db → (n : ℕ) (s : Shape) → structure_of desc n ≡ Some s → is_set s ≡ true → s.duplicates ≡ false → (owner : ℕ) → HaveOwnKeys s (members s db owner)

@@ -16,15 +16,20 @@ use Rattle.dms_model.specs.declared.program.Area.TheVariants.{New, Old}
 use Rattle.dms_model.specs.declared.program.Mode.{Mode}
 use Rattle.dms_model.specs.declared.verb.Verb.{Verb}
 use Rattle.dms_model.specs.declared.verb.Verb.TheVariants.{OpenUpdate, OpenInquiry, Close, Find, Create, Put as PutItems, Get, Store, Begin, End, Abort}
+use Rattle.dms_model.specs.declared.verb.Path.{Path}
 use Rattle.dms_model.specs.declared.verb.Setting.{Setting}
+use Rattle.dms_base.specs.declared.value.Value.{Value}
+use Rattle.dms_model.specs.declared.reply.Reply.{Reply}
 use Rattle.dms_model.specs.declared.reply.Reply.TheVariants.{Done, Exception}
+use Rattle.dms_model.specs.StoreLaws.{IsStorable, begun_any, keep_any, new_stored, old_stored}
 use Rattle.dms_model.specs.declared.put.Put.TheVariants.{Stored, Full}
 use Rattle.dms_model.specs.declared.spot.Spot.{Spot}
 use Rattle.dms_model.specs.Db.{Db, Place, fresh, records_of}
 use Rattle.dms_desc.specs.Lookups.{name_of, structure_of, items_of, set_of}
 use Rattle.dms_model.specs.Stores.{put_answer, put_unless, put_number, is_full, clash, put_after, linked, stored}
-use Rattle.dms_model.specs.Session.{Session, Outcome, StoreResult, Refused, Keeps, Filled, Misfit, Values', refuse, done, shows, settle, keep, store_step, after_store, begin_step, after_begin, begin_unless, awaited, end_step, after_end, abort_step, find_step, after_find, found_by, create_step, put_step, put_area, after_put, filled, get_step, get_area, close_step, open_as, open_step, verb_step, step_at, step, with_program, with_work, with_lock, work_of, restart_of, someone_works, is_inquiry, opens, changes, path_of, new_program, place_of, carried, entered, left, without, idle, backed_out, found_program, stored_program, let_go, is_lock, is_elsewhere, area_kept, kept_unless, put_kept, missing_from, verified, area_values, area_number, record_of, is_free, one_more, with_values}
+use Rattle.dms_model.specs.Session.{Session, Outcome, StoreResult, Refused, Keeps, Filled, Misfit, Values', refuse, done, shows, settle, keep, store_step, after_store, begin_step, after_begin, begun, current_of, holds, replies, end_step, after_end, abort_step, find_step, find_for, after_find, found_by, create_step, create_for, owner_for, put_step, put_area, after_put, filled, get_step, get_area, close_step, open_as, open_in, open_step, verb_step, step_at, step, with_program, with_work, with_lock, work_of, restart_of, someone_works, is_inquiry, opens, changes, path_of, new_program, place_of, carried, entered, left, without, idle, backed_out, found_program, stored_program, let_go, is_lock, is_elsewhere, area_values, area_number, record_of, is_free, one_more, with_values}
 use Rattle.dms_laws.specs.Exclusive.{ShareNoLock, AllShareNoLock, AreSafe, AreExclusive, IsExclusive, locks_it, is_locked_for, backs_out, is_done, LocksStayExclusive, LosesNoUpdate, LeavesLocks, BacksOut, locks_left}
+use Rattle.dms_model.specs.Traits.{traits}
 use Rattle.dms_laws.specs.Runs.{after}
 use Rattle.dms_model.specs.Places.{get_other, stands_still, stands_there}
 use Rattle.dms_model.specs.Founds.{all_both}
@@ -117,8 +122,11 @@ fair_if : (s : Session) (name : List ℕ) (verb : Verb) (b : Bool) (x y : Outcom
 fair_if s name verb true x y h k = h
 fair_if s name verb false x y h k = k
 
+fair_replies : (s : Session) (name : List ℕ) (verb : Verb) → IsExclusive s → (r : Reply) → Fair s name verb (replies s r)
+fair_replies s name verb ex r = record { exclusive = ex; same = λ who place apart was now. refl; locks = λ who place apart no. refl }
+
 fair_refuse : (s : Session) (name : List ℕ) (verb : Verb) → IsExclusive s → (c : Category) (n : List ℕ) → Fair s name verb (refuse s c n)
-fair_refuse s name verb ex c n = record { exclusive = ex; same = λ who place apart was now. refl; locks = λ who place apart no. refl }
+fair_refuse s name verb ex c n = fair_replies s name verb ex (Exception c n)
 
 idle_safe : (db mark : Db) (x : Program) → AreSafe db mark x → AreSafe db db (idle x)
 idle_safe db mark x h = record { stand = h.stand; kept = λ free place l. refl }
@@ -228,48 +236,38 @@ module _ (s : Session) (i : ℕ) (p : Program) (name : List ℕ) (at : slice_get
       }
 
   abbrev KeptMoves : StoreResult → Type 0
-  KeptMoves (Refused c n) = Unit {0}
+  KeptMoves (Refused r) = Unit {0}
   KeptMoves (Keeps q db) = Moves s p q db
 
   kept_if : (b : Bool) (x y : StoreResult) → (b ≡ true → KeptMoves x) → KeptMoves y → KeptMoves (cond b x y)
   kept_if true x y h k = h refl
   kept_if false x y h k = k
 
-  put_old : (desc : Described) (c : Option ℕ) (set number : ℕ) (a : Area) → locks_it p (set, number) ≡ true → KeptMoves (put_kept (put_unless c (Stored number)) desc p s.db set a)
-  put_old desc None set number a l = stored_moves desc set number a (λ no. absurd (cc))
-  put_old desc (Some d) set number a l = tt
+  old_from : (desc : Described) (set : ℕ) (values : List Value) (c : Option ℕ) (n : ℕ) → holds p set c ≡ true → put_answer desc s.db set c (record_of (Old values)) ≡ Stored n
+      → Moves s p (stored_program p set n (Old values)) (put_after (Stored n) desc s.db set (record_of (Old values)))
+  old_from desc set values None n free is = absurd (cc)
+  old_from desc set values (Some m) n free is =
+      let same = (old_stored desc s.db set m n (record_of (Old values)) is).number in
+      let l : locks_it p (set, n) ≡ true = subst (λ (k : ℕ). locks_it p (set, k) ≡ true) same free in
+      stored_moves desc set n (Old values) (λ no. absurd (cc))
 
-  put_new_at : (desc : Described) (b : Bool) (set : ℕ) (a : Area) → KeptMoves (put_kept (cond b Full (Stored (fresh s.db.records set))) desc p s.db set a)
-  put_new_at desc true set a = tt
-  put_new_at desc false set a = stored_moves desc set (fresh s.db.records set) a (λ no. fresh_free s.db.records set)
-
-  put_new : (desc : Described) (c : Option ℕ) (set : ℕ) (a : Area) → KeptMoves (put_kept (put_unless c (put_number desc s.db set None)) desc p s.db set a)
-  put_new desc None set a = put_new_at desc (is_full (structure_of desc set) (length (records_of s.db.records set))) set a
-  put_new desc (Some d) set a = tt
-
-  put_moves : (desc : Described) (set : ℕ) (a : Area) (current : Option ℕ) → is_free a p set current ≡ true → KeptMoves (put_kept (put_answer desc s.db set (area_number a current) (record_of a)) desc p s.db set a)
-  unfolding put_answer
-  put_moves desc set (New values owner) current free = put_new desc (clash desc.structures s.db set None (stored desc s.db set None (record { owner = owner; values = values }))) set (New values owner)
-  put_moves desc set (Old values) None free = absurd (cc)
-  put_moves desc set (Old values) (Some n) free = put_old desc (clash desc.structures s.db set (Some n) (stored desc s.db set (Some n) (record { owner = 0; values = values }))) set n (Old values) free
-
-  unless_moves : (o : Option (List ℕ)) (desc : Described) (set : ℕ) (a : Area) (current : Option ℕ) → is_free a p set current ≡ true → KeptMoves (kept_unless o desc p s.db set a current)
-  unless_moves (Some item) desc set a current free = tt
-  unless_moves None desc set a current free = kept_if (verified (structure_of desc set) (area_values a)) (put_kept (put_answer desc s.db set (area_number a current) (record_of a)) desc p s.db set a) (Refused DataError (name_of (structure_of desc set))) (λ h. put_moves desc set a current free) tt
-
-  area_moves : (o : Option Area) (desc : Described) (set : ℕ) (current : Option ℕ) → KeptMoves (area_kept o desc p s.db set current)
-  area_moves None desc set current = tt
-  area_moves (Some a) desc set current = kept_if (is_free a p set current) (kept_unless (missing_from 0 (items_of (structure_of desc set)) (area_values a)) desc p s.db set a current) (Refused NotLocked (name_of (structure_of desc set))) (unless_moves (missing_from 0 (items_of (structure_of desc set)) (area_values a)) desc set a current) tt
+  kept_from : (desc : Described) (set : ℕ) (a : Area) (n : ℕ) → IsStorable desc p s.db set a n → Moves s p (stored_program p set n a) (put_after (Stored n) desc s.db set (record_of a))
+  kept_from desc set (New values owner) n may =
+      let new = new_stored desc s.db set n (record_of (New values owner)) may.answer in
+      stored_moves desc set n (New values owner) (λ no. subst (λ (k : ℕ). get s.db.records (set, k) ≡ None) new.number (fresh_free s.db.records set))
+  kept_from desc set (Old values) n may = old_from desc set values (current_of p set) n may.free may.answer
 
   keep_moves : (desc : Described) (set : ℕ) → KeptMoves (keep desc p s.db set)
-  unfolding keep
-  keep_moves desc set = area_moves (work_of p set).area desc set (work_of p set).current
+  keep_moves desc set = keep_any KeptMoves desc p s.db set (kept_from desc set) (λ r. tt)
 
   same_moves : Moves s p p s.db
   same_moves = moves_same p refl (λ place l. l)
 
   if_moves : (audit : Bool) (desc : Described) → KeptMoves (cond audit (keep desc p s.db (restart_of desc)) (Keeps p s.db))
   if_moves audit desc = kept_if audit (keep desc p s.db (restart_of desc)) (Keeps p s.db) (λ h. keep_moves desc (restart_of desc)) same_moves
+
+  begun_moves : (audit : Bool) (desc : Described) → KeptMoves (begun desc p s audit)
+  begun_moves audit desc = begun_any KeptMoves desc p s audit (λ is. kept_from desc (restart_of desc)) same_moves (λ r. tt)
 
   carried_moves : (q : Program) (db : Db) → Moves s p q db → Moves s p (carried q) db
   carried_moves q db m = record { name = m.name; new = m.new; stand = m.stand; same = m.same }
@@ -281,19 +279,15 @@ module _ (s : Session) (i : ℕ) (p : Program) (name : List ℕ) (at : slice_get
   left_moves q db m = record { name = m.name; new = λ place was now. absurd (cc); stand = λ place l. absurd (cc); same = m.same }
 
   store_fair : (verb : Verb) (k : StoreResult) → KeptMoves k → Fair s name verb (after_store k i s)
-  store_fair verb (Refused c n) m = fair_refuse s name verb ex c n
+  store_fair verb (Refused r) m = fair_replies s name verb ex r
   store_fair verb (Keeps q db) m = fair_moved (carried q) db (carried_moves q db m) verb s.pending s.since [] (λ active place l. absurd (cc))
 
   after_begin_fair : (verb : Verb) (k : StoreResult) → KeptMoves k → Fair s name verb (after_begin k i s)
-  after_begin_fair verb (Refused c n) m = fair_refuse s name verb ex c n
+  after_begin_fair verb (Refused r) m = fair_replies s name verb ex r
   after_begin_fair verb (Keeps q db) m = fair_moved (entered q) db (entered_moves q db m) verb s.pending s.since [] (λ active place l. absurd (cc))
 
-  begin_fair : (verb : Verb) (who : List (List ℕ)) (desc : Described) (audit : Bool) → Fair s name verb (begin_unless who desc i p s audit)
-  begin_fair verb [] desc audit = after_begin_fair verb (cond audit (keep desc p s.db (restart_of desc)) (Keeps p s.db)) (if_moves audit desc)
-  begin_fair verb (w ∷ ws) desc audit = record { exclusive = ex; same = λ who place apart was now. refl; locks = λ who place apart no. refl }
-
   end_fair : (verb : Verb) (k : StoreResult) (desc : Described) (sync : Bool) → KeptMoves k → Fair s name verb (after_end k desc i s sync)
-  end_fair verb (Refused c n) desc sync m = fair_refuse s name verb ex c n
+  end_fair verb (Refused r) desc sync m = fair_replies s name verb ex r
   end_fair verb (Keeps q db) desc sync m =
       fair_settled s name verb (record s { db = db; programs = slice_set s.programs i (left q); pending = s.pending || sync || nat_le desc.syncpoint (one_more s.since); since = one_more s.since })
       (fair_moved (left q) db (left_moves q db m) verb (s.pending || sync || nat_le desc.syncpoint (one_more s.since)) (one_more s.since) [] (λ active place l. absurd (cc)))
@@ -306,10 +300,18 @@ module _ (s : Session) (i : ℕ) (p : Program) (name : List ℕ) (at : slice_get
       let w = with_work p (set_of desc x) (record { current = Some r.number; area = Some (Old r.rec.values) }) in
       fair_at verb (found_program p (set_of desc x) r) [] (cond_name p.in_transaction w _ p.name refl refl) (λ place l. let_go_locks w (set_of desc x) place l)
 
+  find_for_fair : (verb : Verb) (o : Option ℕ) (desc : Described) (path : Path) → Fair s name verb (find_for o desc i p s path)
+  find_for_fair verb None desc path = fair_refuse s name verb ex _ _
+  find_for_fair verb (Some owner) desc path = find_fair verb (found_by desc s.db owner path) desc (path_of path)
+
   create_fair : (verb : Verb) (set : ℕ) (a : Area) → Fair s name verb (shows (with_program s i (carried (let_go (with_work p set (record { current = None; area = Some a })) set))) [])
   create_fair verb set a =
       let w = with_work p set (record { current = None; area = Some a }) in
       fair_at verb (let_go w set) [] (cond_name p.in_transaction w _ p.name refl refl) (λ place l. let_go_locks w set place l)
+
+  create_for_fair : (verb : Verb) (o : Option ℕ) (desc : Described) (set : ℕ) → Fair s name verb (create_for o desc i p s set)
+  create_for_fair verb None desc set = fair_refuse s name verb ex _ _
+  create_for_fair verb (Some owner) desc set = create_fair verb set _
 
   after_put_fair : (verb : Verb) (f : Filled) (set : ℕ) (a : Area) → Fair s name verb (after_put f i p s set a)
   after_put_fair verb (Misfit item) set a = fair_refuse s name verb ex _ _
@@ -419,17 +421,16 @@ unfolding verb_step store_step begin_step end_step abort_step find_step create_s
 verb_fair desc i p s name OpenUpdate at ex own = fair_refuse s name OpenUpdate ex _ _
 verb_fair desc i p s name OpenInquiry at ex own = fair_refuse s name OpenInquiry ex _ _
 verb_fair desc i p s name Close at ex own = fair_if s name Close p.in_transaction _ _ (fair_refuse s name Close ex _ _) (close_fair s i p name at ex own Close)
-verb_fair desc i p s name (Find path) at ex own = find_fair s i p name at ex own (Find path) (found_by desc s.db path) desc (path_of path)
-verb_fair desc i p s name (Create set) at ex own = create_fair s i p name at ex own (Create set) set _
+verb_fair desc i p s name (Find path) at ex own = find_for_fair s i p name at ex own (Find path) (owner_for desc p (path_of path)) desc path
+verb_fair desc i p s name (Create set) at ex own = create_for_fair s i p name at ex own (Create set) (owner_for desc p set) desc set
 verb_fair desc i p s name (PutItems set settings) at ex own = put_fair s i p name at ex own (PutItems set settings) (work_of p set).area desc set settings
 verb_fair desc i p s name (Get set items) at ex own = get_fair s i p name at ex own (Get set items) (work_of p set).area desc set items
 verb_fair desc i p s name (Store set) at ex own =
     fair_if s name (Store set) p.in_transaction (after_store (keep desc p s.db set) i s) (refuse s AuditError p.name)
     (store_fair s i p name at ex own (Store set) (keep desc p s.db set) (keep_moves s i p name at ex own desc set)) (fair_refuse s name (Store set) ex AuditError p.name)
 verb_fair desc i p s name (Begin audit) at ex own =
-    fair_if s name (Begin audit) p.in_transaction _ _ (fair_refuse s name (Begin audit) ex AuditError p.name)
-    (fair_if s name (Begin audit) (audit && not (is_some (work_of p (restart_of desc)).area)) _ _ (fair_refuse s name (Begin audit) ex NoRecord (name_of (structure_of desc (restart_of desc))))
-    (begin_fair s i p name at ex own (Begin audit) (awaited s) desc audit))
+    fair_if s name (Begin audit) p.in_transaction (refuse s AuditError p.name) (after_begin (begun desc p s audit) i s) (fair_refuse s name (Begin audit) ex AuditError p.name)
+    (after_begin_fair s i p name at ex own (Begin audit) (begun desc p s audit) (begun_moves s i p name at ex own audit desc))
 verb_fair desc i p s name (End audit sync) at ex own =
     fair_if s name (End audit sync) p.in_transaction (after_end (cond audit (keep desc p s.db (restart_of desc)) (Keeps p s.db)) desc i s sync) (refuse s AuditError p.name)
     (end_fair s i p name at ex own (End audit sync) (cond audit (keep desc p s.db (restart_of desc)) (Keeps p s.db)) desc sync (if_moves s i p name at ex own audit desc)) (fair_refuse s name (End audit sync) ex AuditError p.name)
@@ -451,19 +452,13 @@ open_as_fair desc s name verb mode ex none =
       locks = λ who place apart no. any_pushed who place s.programs (new_program desc name mode) (λ e. apart (sym e));
     })
 
+open_in_fair : (o : Option Mode) (desc : Described) (s : Session) (name : List ℕ) (v : Verb) → IsExclusive s → AllByRecursion (λ x. x.name ≢ name) s.programs → Fair s name v (open_in o desc s name)
+open_in_fair None desc s name v ex none = fair_refuse s name v ex _ _
+open_in_fair (Some mode) desc s name v ex none = open_as_fair desc s name v mode ex none
+
 open_fair : (desc : Described) (s : Session) (name : List ℕ) (v : Verb) → IsExclusive s → AllByRecursion (λ x. x.name ≢ name) s.programs → Fair s name v (open_step desc s name v)
 unfolding open_step
-open_fair desc s name OpenUpdate ex none = open_as_fair desc s name OpenUpdate _ ex none
-open_fair desc s name OpenInquiry ex none = open_as_fair desc s name OpenInquiry _ ex none
-open_fair desc s name Close ex none = fair_refuse s name Close ex _ _
-open_fair desc s name (Find path) ex none = fair_refuse s name (Find path) ex _ _
-open_fair desc s name (Create set) ex none = fair_refuse s name (Create set) ex _ _
-open_fair desc s name (PutItems set settings) ex none = fair_refuse s name (PutItems set settings) ex _ _
-open_fair desc s name (Get set items) ex none = fair_refuse s name (Get set items) ex _ _
-open_fair desc s name (Store set) ex none = fair_refuse s name (Store set) ex _ _
-open_fair desc s name (Begin audit) ex none = fair_refuse s name (Begin audit) ex _ _
-open_fair desc s name (End audit sync) ex none = fair_refuse s name (End audit sync) ex _ _
-open_fair desc s name Abort ex none = fair_refuse s name Abort ex _ _
+open_fair desc s name v ex none = open_in_fair (traits v).opens desc s name v ex none
 
 step_at_fair : (desc : Described) (o : Option Program) (s : Session) (name : List ℕ) (v : Verb) → slice_get s.programs (place_of name s.programs) ≡ o → IsExclusive s → Fair s name v (step_at desc o (place_of name s.programs) s name v)
 step_at_fair desc None s name v at ex = open_fair desc s name v ex (none_named s.programs name at)

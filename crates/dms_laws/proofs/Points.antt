@@ -8,14 +8,16 @@ use Rattle.dms_desc.specs.Shape.{Described}
 use Rattle.dms_model.specs.declared.program.Program.{Program}
 use Rattle.dms_model.specs.declared.program.Area.{Area}
 use Rattle.dms_model.specs.declared.program.Mode.{Mode}
+use Rattle.dms_model.specs.Traits.{traits}
 use Rattle.dms_model.specs.declared.verb.Verb.{Verb}
 use Rattle.dms_model.specs.declared.verb.Verb.TheVariants.{OpenUpdate, OpenInquiry, Close, Find, Create, Put as PutItems, Get, Store, Begin, End, Abort}
+use Rattle.dms_model.specs.declared.verb.Path.{Path}
 use Rattle.dms_model.specs.declared.verb.Setting.{Setting}
 use Rattle.dms_model.specs.declared.reply.Reply.TheVariants.{Exception}
 use Rattle.dms_model.specs.declared.spot.Spot.{Spot}
 use Rattle.dms_desc.specs.Lookups.{name_of, structure_of, items_of}
 use Rattle.dms_model.specs.Points.{Quiet}
-use Rattle.dms_model.specs.Session.{Session, Outcome, StoreResult, Refused, Keeps, Filled, Misfit, Values', refuse, done, settle, keep, store_step, after_store, begin_step, after_begin, begin_unless, awaited, end_step, after_end, abort_step, find_step, after_find, found_by, create_step, put_step, put_area, after_put, filled, get_step, get_area, close_step, open_as, open_step, verb_step, step_at, step, with_program, work_of, restart_of, someone_works, is_inquiry, opens, changes, path_of, new_program, place_of, without, area_values, left, one_more}
+use Rattle.dms_model.specs.Session.{Session, Outcome, StoreResult, Refused, Keeps, Filled, Misfit, Values', refuse, done, settle, keep, store_step, after_store, begin_step, after_begin, begun, end_step, after_end, abort_step, find_step, find_for, after_find, found_by, create_step, create_for, owner_for, put_step, put_area, after_put, filled, get_step, get_area, close_step, open_as, open_in, open_step, verb_step, step_at, step, with_program, work_of, restart_of, someone_works, is_inquiry, opens, changes, path_of, new_program, place_of, without, area_values, left, one_more}
 
 abbrev pub HasPoints : Outcome → Type 0
 HasPoints o = AllByRecursion (λ (q : Quiet). q.1 ≡ o.session.db) o.quiets
@@ -29,24 +31,28 @@ unfolding settle
 settle_points t = points_if (someone_works t.programs) _ _ tt (points_if t.pending _ _ (refl, tt) (refl, tt))
 
 store_points : (k : StoreResult) (i : ℕ) (s : Session) → HasPoints (after_store k i s)
-store_points (Refused c n) i s = tt
+store_points (Refused r) i s = tt
 store_points (Keeps p db) i s = tt
 
 begun_points : (k : StoreResult) (i : ℕ) (s : Session) → HasPoints (after_begin k i s)
-begun_points (Refused c n) i s = tt
+begun_points (Refused r) i s = tt
 begun_points (Keeps p db) i s = tt
 
-begin_points : (who : List (List ℕ)) (desc : Described) (i : ℕ) (p : Program) (s : Session) (audit : Bool) → HasPoints (begin_unless who desc i p s audit)
-begin_points [] desc i p s audit = begun_points (cond audit (keep desc p s.db (restart_of desc)) (Keeps p s.db)) i s
-begin_points (q ∷ qs) desc i p s audit = tt
-
 end_points : (k : StoreResult) (desc : Described) (i : ℕ) (s : Session) (sync : Bool) → HasPoints (after_end k desc i s sync)
-end_points (Refused c n) desc i s sync = tt
+end_points (Refused r) desc i s sync = tt
 end_points (Keeps p db) desc i s sync = settle_points (record s { db = db; programs = slice_set s.programs i (left p); pending = s.pending || sync || nat_le desc.syncpoint (one_more s.since); since = one_more s.since })
 
 find_points : (r : Option Spot) (desc : Described) (i : ℕ) (p : Program) (s : Session) (x : ℕ) → HasPoints (after_find r desc i p s x)
 find_points None desc i p s x = tt
 find_points (Some r) desc i p s x = tt
+
+find_for_points : (o : Option ℕ) (desc : Described) (i : ℕ) (p : Program) (s : Session) (path : Path) → HasPoints (find_for o desc i p s path)
+find_for_points None desc i p s path = tt
+find_for_points (Some owner) desc i p s path = find_points (found_by desc s.db owner path) desc i p s (path_of path)
+
+create_for_points : (o : Option ℕ) (desc : Described) (i : ℕ) (p : Program) (s : Session) (set : ℕ) → HasPoints (create_for o desc i p s set)
+create_for_points None desc i p s set = tt
+create_for_points (Some owner) desc i p s set = tt
 
 after_put_points : (f : Filled) (i : ℕ) (p : Program) (s : Session) (set : ℕ) (a : Area) → HasPoints (after_put f i p s set a)
 after_put_points (Misfit item) i p s set a = tt
@@ -65,12 +71,12 @@ unfolding verb_step store_step begin_step end_step abort_step find_step create_s
 verb_points desc i p s OpenUpdate = tt
 verb_points desc i p s OpenInquiry = tt
 verb_points desc i p s Close = points_if p.in_transaction (refuse s AuditError p.name) (done (record s { programs = without i s.programs })) tt tt
-verb_points desc i p s (Find path) = find_points (found_by desc s.db path) desc i p s (path_of path)
-verb_points desc i p s (Create set) = tt
+verb_points desc i p s (Find path) = find_for_points (owner_for desc p (path_of path)) desc i p s path
+verb_points desc i p s (Create set) = create_for_points (owner_for desc p set) desc i p s set
 verb_points desc i p s (PutItems set settings) = put_points (work_of p set).area desc i p s set settings
 verb_points desc i p s (Get set items) = get_points (work_of p set).area desc i p s set items
 verb_points desc i p s (Store set) = points_if p.in_transaction (after_store (keep desc p s.db set) i s) (refuse s AuditError p.name) (store_points (keep desc p s.db set) i s) tt
-verb_points desc i p s (Begin audit) = points_if p.in_transaction (refuse s AuditError p.name) _ tt (points_if (audit && not (is_some (work_of p (restart_of desc)).area)) (refuse s NoRecord (name_of (structure_of desc (restart_of desc)))) _ tt (begin_points (awaited s) desc i p s audit))
+verb_points desc i p s (Begin audit) = points_if p.in_transaction (refuse s AuditError p.name) (after_begin (begun desc p s audit) i s) tt (begun_points (begun desc p s audit) i s)
 verb_points desc i p s (End audit sync) =
     points_if p.in_transaction (after_end (cond audit (keep desc p s.db (restart_of desc)) (Keeps p s.db)) desc i s sync) (refuse s AuditError p.name)
     (end_points (cond audit (keep desc p s.db (restart_of desc)) (Keeps p s.db)) desc i s sync) tt
@@ -79,19 +85,13 @@ verb_points desc i p s Abort = points_if p.in_transaction _ (refuse s AuditError
 open_as_points : (desc : Described) (s : Session) (name : List ℕ) (mode : Mode) → HasPoints (open_as desc s name mode)
 open_as_points desc s name mode = points_if (nat_le 64 (length s.programs)) (refuse s LimitError name) (done (record s { programs = s.programs ++ new_program desc name mode ∷ [] })) tt tt
 
+open_in_points : (o : Option Mode) (desc : Described) (s : Session) (name : List ℕ) → HasPoints (open_in o desc s name)
+open_in_points None desc s name = tt
+open_in_points (Some mode) desc s name = open_as_points desc s name mode
+
 open_points : (desc : Described) (s : Session) (name : List ℕ) (v : Verb) → HasPoints (open_step desc s name v)
 unfolding open_step
-open_points desc s name OpenUpdate = open_as_points desc s name _
-open_points desc s name OpenInquiry = open_as_points desc s name _
-open_points desc s name Close = tt
-open_points desc s name (Find path) = tt
-open_points desc s name (Create set) = tt
-open_points desc s name (PutItems set settings) = tt
-open_points desc s name (Get set items) = tt
-open_points desc s name (Store set) = tt
-open_points desc s name (Begin audit) = tt
-open_points desc s name (End audit sync) = tt
-open_points desc s name Abort = tt
+open_points desc s name v = open_in_points (traits v).opens desc s name
 
 step_at_points : (desc : Described) (o : Option Program) (i : ℕ) (s : Session) (name : List ℕ) (v : Verb) → HasPoints (step_at desc o i s name v)
 step_at_points desc None i s name v = open_points desc s name v

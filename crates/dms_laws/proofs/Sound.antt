@@ -19,8 +19,10 @@ use Rattle.dms_model.specs.declared.program.Work.{Work}
 use Rattle.dms_model.specs.declared.program.Area.{Area}
 use Rattle.dms_model.specs.declared.program.Area.TheVariants.{New, Old}
 use Rattle.dms_model.specs.declared.program.Mode.{Mode}
+use Rattle.dms_model.specs.Traits.{traits}
 use Rattle.dms_model.specs.declared.verb.Verb.{Verb}
 use Rattle.dms_model.specs.declared.verb.Verb.TheVariants.{OpenUpdate, OpenInquiry, Close, Find, Create, Put as PutItems, Get, Store, Begin, End, Abort}
+use Rattle.dms_model.specs.declared.verb.Path.{Path}
 use Rattle.dms_model.specs.declared.verb.Setting.{Setting}
 use Rattle.dms_model.specs.declared.reply.Reply.TheVariants.{Exception}
 use Rattle.dms_model.specs.declared.put.Put.TheVariants.{Stored, Full}
@@ -29,7 +31,7 @@ use Rattle.dms_model.specs.Db.{Db, Place, fresh, records_of, rows_of, empty_db, 
 use Rattle.dms_model.specs.Points.{Quiet}
 use Rattle.dms_desc.specs.Lookups.{name_of, structure_of, items_of, set_of}
 use Rattle.dms_model.specs.Stores.{put_answer, put_unless, is_full, clash, put_after, linked, is_other, old_of, stored, values_of, kept_owner}
-use Rattle.dms_model.specs.Session.{Session, Outcome, StoreResult, Refused, Keeps, Filled, Misfit, Values', refuse, done, settle, keep, store_step, after_store, begin_step, after_begin, begin_unless, awaited, end_step, after_end, abort_step, find_step, after_find, found_by, create_step, put_step, put_area, after_put, filled, get_step, get_area, close_step, open_as, open_step, verb_step, step_at, step, with_program, with_work, with_values, work_of, no_work, or_none, restart_of, someone_works, is_inquiry, opens, changes, path_of, new_program, place_of, carried, entered, left, without, idle, backed_out, found_program, stored_program, let_go, is_lock, area_kept, kept_unless, put_kept, missing_from, verified, area_values, area_number, area_owner, record_of, is_free, one_more}
+use Rattle.dms_model.specs.Session.{Session, Outcome, StoreResult, Refused, Keeps, Filled, Misfit, Values', refuse, done, settle, keep, store_step, after_store, begin_step, after_begin, begun, current_of, holds, end_step, after_end, abort_step, find_step, find_for, after_find, found_by, create_step, create_for, created, owner_for, put_step, put_area, after_put, filled, get_step, get_area, close_step, open_as, open_in, open_step, verb_step, step_at, step, with_program, with_work, with_values, work_of, no_work, or_none, restart_of, someone_works, is_inquiry, opens, changes, path_of, new_program, place_of, carried, entered, left, without, idle, backed_out, found_program, stored_program, let_go, is_lock, missing_from, verified, area_values, area_number, area_owner, record_of, is_free, one_more}
 use Rattle.dms_laws.specs.Exclusive.{AreSafe, IsExclusive, locks_it}
 use Rattle.dms_model.specs.Spoken.{IsOuter, IsPlainLiteral}
 use Rattle.dms_model.specs.Valid.{OfItems, IsValid, is_data_set, is_set, link_stands, owner_stands}
@@ -44,8 +46,9 @@ use Rattle.dms_laws.proofs.Locks.{locks_stay_exclusive}
 use Rattle.dms_laws.proofs.Points.{step_points}
 use Rattle.dms_laws.proofs.Stored.{MayStand, put_valid, put_flat, own_key}
 use Rattle.dms_model.specs.Areas.{AreaFits, AreasFit}
-use Rattle.dms_model.specs.AreaLaws.{backed_works, let_go_works, new_works, values_fit, with_new, works_if, works_with}
+use Rattle.dms_model.specs.AreaLaws.{backed_works, let_go_works, new_works, no_owner, values_fit, with_new, works_if, works_with}
 use Rattle.dms_model.specs.Fitting.{AreFitting}
+use Rattle.dms_model.specs.StoreLaws.{HasNewNumber, KeepsNumber, IsStorable, begun_any, keep_any, new_stored, old_stored}
 use Rattle.dms_model.specs.FitLaws.{filled_fits, FilledFits, initial_fits, linked_fits, of_linked, null_fits}
 use Rattle.dms_laws.proofs.Values.{required_of, linked_agree, null_stands, other_stands, meets_agree}
 
@@ -94,7 +97,7 @@ record Holds (desc : Described) (q : Program) (db : Db) : Type 0 where
   areas : AreasFit desc q
 
 abbrev KeptSane : Described → StoreResult → Type 0
-KeptSane desc (Refused c n) = Unit {0}
+KeptSane desc (Refused r) = Unit {0}
 KeptSane desc (Keeps q db) = Holds desc q db
 
 kept_if : (desc : Described) (b : Bool) (x y : StoreResult) → (b ≡ true → KeptSane desc x) → KeptSane desc y → KeptSane desc (cond b x y)
@@ -173,8 +176,8 @@ module _ (desc : Described) (made : IsWellMade desc) (s : Session) (i : ℕ) (p 
       meets_agree shape.items shape.cond (put_record set n a shape).values (area_values a) (linked_agree shape.items (olds set n) (area_values a)) (ap (λ (is : List Item). compares_no_link is shape.cond) (sym under) ∙ made.conditions set shape here)
 
   -- what is stored in a data set of the outer level has no owner
-  no_owner : (set n : ℕ) (shape : Shape) → structure_of desc set ≡ Some shape → IsOuter (Some shape) → (owner : ℕ) → owner ≡ 0 → kept_owner (get s.db.records (set, n)) owner ≡ 0
-  no_owner set n shape here outer owner none = by (get s.db.records (set, n)) refl
+  unowned : (set n : ℕ) (shape : Shape) → structure_of desc set ≡ Some shape → IsOuter (Some shape) → (owner : ℕ) → owner ≡ 0 → kept_owner (get s.db.records (set, n)) owner ≡ 0
+  unowned set n shape here outer owner none = by (get s.db.records (set, n)) refl
     where
       alone : (to m : ℕ) → to ≡ 0 → owner_stands s.db.records to m ≡ true → m ≡ 0
       alone to m e h = let is : (m == 0) ≡ true = sym (ap (λ (k : ℕ). owner_stands s.db.records k m) e) ∙ h in grind (arith, nat_tests, is)
@@ -199,7 +202,7 @@ module _ (desc : Described) (made : IsWellMade desc) (s : Session) (i : ℕ) (p 
       record {
         here = here;
         outer = outer;
-        owner = no_owner set n shape here outer (area_owner a) owner;
+        owner = unowned set n shape here outer (area_owner a) owner;
         values = linked_fits shape.items (olds set n) (area_values a) values fit_before plain_before;
         links = of_linked (λ item v. link_stands s.db.records item.kind v ≡ true) shape.items (olds set n) (area_values a) values.lengths
             (λ j item at off. other_stands s.db.records item.kind _ off) (λ j item at on. links_before j item at);
@@ -217,19 +220,18 @@ module _ (desc : Described) (made : IsWellMade desc) (s : Session) (i : ℕ) (p 
     as_stored number n b shape here old = λ i. linked (items_of (here i)) (old i) (record_of b)
 
     -- a new record, in a data set that has room
-    new_sane : (shape : Shape) → structure_of desc set ≡ Some shape → IsOuter (Some shape) → area_owner a ≡ 0 → AreFitting shape.items (area_values a)
-        → (c : Option ℕ) → clash desc.structures s.db set None (stored desc s.db set None (record_of a)) ≡ c → (b : Bool) → nat_le shape.population (length (records_of s.db.records set)) ≡ b
-        → KeptSane desc (put_kept (put_unless c (cond b Full (Stored (fresh s.db.records set)))) desc p s.db set a)
-    new_sane shape here outer owner values (Some d) clear b room = tt
-    new_sane shape here outer owner values None clear true room = tt
-    new_sane shape here outer owner values None clear false room =
-        let n = fresh s.db.records set in
-        let few : length (records_of s.db.records set) < shape.population = grind (arith, nat_tests, room) in
+    new_sane : (n : ℕ) (shape : Shape) → structure_of desc set ≡ Some shape → IsOuter (Some shape) → area_owner a ≡ 0 → AreFitting shape.items (area_values a) → HasNewNumber desc s.db set n (record_of a)
+        → Holds desc (stored_program p set n a) (put_after (Stored n) desc s.db set (record_of a))
+    new_sane n shape here outer owner values new =
+        let m = fresh s.db.records set in
+        let full : nat_le shape.population (length (records_of s.db.records set)) ≡ false = ap (λ (o : Option Shape). is_full o (length (records_of s.db.records set))) (sym here) ∙ new.room in
+        let few : length (records_of s.db.records set) < shape.population = grind (arith, nat_tests, full) in
         let low = fresh_from_one s.db.records set in
         let high = fresh_below s.db.records set in
-        let more = one_at_most (set == set) (length (records_of (insert s.db.records (set, n) (put_record set n a shape)) set)) (length (records_of s.db.records set)) (count_insert s.db.records set (set, n) (put_record set n a shape)) in
-        let free = ap (λ (r : Record). clash desc.structures s.db set None r) (sym (as_stored None n a shape here (sym (fresh_free s.db.records set)))) ∙ clear in
-        stored_sane set n a shape values (may_stand set n a shape None here outer owner values none met free (λ q apart same. refl) (low, omega (arith, few, high)) (omega (arith, few, more)))
+        let more = one_at_most (set == set) (length (records_of (insert s.db.records (set, m) (put_record set m a shape)) set)) (length (records_of s.db.records set)) (count_insert s.db.records set (set, m) (put_record set m a shape)) in
+        let free = ap (λ (r : Record). clash desc.structures s.db set None r) (sym (as_stored None m a shape here (sym (fresh_free s.db.records set)))) ∙ new.clear in
+        subst (λ (k : ℕ). Holds desc (stored_program p set k a) (put_after (Stored k) desc s.db set (record_of a))) new.number
+        (stored_sane set m a shape values (may_stand set m a shape None here outer owner values none met free (λ q apart same. refl) (low, omega (arith, few, high)) (omega (arith, few, more))))
 
     -- a record that is replaced
     other_number : (n : ℕ) (q : Place) → q ≢ (set, n) → q.0 ≡ set → is_other (Some n) q.1 ≡ true
@@ -239,16 +241,16 @@ module _ (desc : Described) (made : IsWellMade desc) (s : Session) (i : ℕ) (p 
         by true e = let is : n ≡ q.1 = grind (arith, nat_tests, e) in absurd (apart (λ j. (same j, sym is j)))
         by false e = refl
 
-    old_sane : (n : ℕ) (shape : Shape) (old : Record) → structure_of desc set ≡ Some shape → area_owner a ≡ 0 → AreFitting shape.items (area_values a) → get s.db.records (set, n) ≡ Some old
-        → (c : Option ℕ) → clash desc.structures s.db set (Some n) (stored desc s.db set (Some n) (record_of a)) ≡ c → KeptSane desc (put_kept (put_unless c (Stored n)) desc p s.db set a)
-    old_sane n shape old here owner values was (Some d) clear = tt
-    old_sane n shape old here owner values was None clear =
-        let kind = ap is_data_set (sym here) ∙ sane.valid.sets (set, n) old was in
-        let outer : IsOuter (Some shape) = record { data_set = kind; disjoint = sane.flat.disjoint (set, n) old shape was here } in
-        let same = count_replace s.db.records set (set, n) (put_record set n a shape) (ap is_some was) in
+    old_sane : (m n : ℕ) (shape : Shape) (old : Record) → structure_of desc set ≡ Some shape → area_owner a ≡ 0 → AreFitting shape.items (area_values a) → get s.db.records (set, m) ≡ Some old → KeepsNumber desc s.db set m n (record_of a)
+        → Holds desc (stored_program p set n a) (put_after (Stored n) desc s.db set (record_of a))
+    old_sane m n shape old here owner values was keeps =
+        let kind = ap is_data_set (sym here) ∙ sane.valid.sets (set, m) old was in
+        let outer : IsOuter (Some shape) = record { data_set = kind; disjoint = sane.flat.disjoint (set, m) old shape was here } in
+        let same = count_replace s.db.records set (set, m) (put_record set m a shape) (ap is_some was) in
         let few = sane.valid.populations set shape here kind in
-        let free = ap (λ (r : Record). clash desc.structures s.db set (Some n) r) (sym (as_stored (Some n) n a shape here refl)) ∙ clear in
-        stored_sane set n a shape values (may_stand set n a shape (Some n) here outer owner values none met free (other_number n) (sane.valid.numbers (set, n) old shape was here) (omega (arith, same, few)))
+        let free = ap (λ (r : Record). clash desc.structures s.db set (Some m) r) (sym (as_stored (Some m) m a shape here refl)) ∙ keeps.clear in
+        subst (λ (k : ℕ). Holds desc (stored_program p set k a) (put_after (Stored k) desc s.db set (record_of a))) keeps.number
+        (stored_sane set m a shape values (may_stand set m a shape (Some m) here outer owner values none met free (other_number m) (sane.valid.numbers (set, m) old shape was here) (omega (arith, same, few))))
 
   -- a locked record stands
   locked_old : (set n : ℕ) → locks_it p (set, n) ≡ true → (C : Type 0) → ((old : Record) (shape : Shape) → get s.db.records (set, n) ≡ Some old → structure_of desc set ≡ Some shape → C) → C
@@ -262,64 +264,48 @@ module _ (desc : Described) (made : IsWellMade desc) (s : Session) (i : ℕ) (p 
       by (Some old) e some None h = let kind = ap is_data_set (sym h) ∙ sane.valid.sets (set, n) old e in absurd (cc)
       by (Some old) e some (Some shape) h = with_old old shape e h
 
-  area_of : (set : ℕ) (shape : Shape) (o : Option Area) → structure_of desc set ≡ Some shape → (work_of p set).area ≡ o → AreaFits shape o
-  area_of set shape o here is = subst (AreaFits shape) is (mine set shape here)
+  area_fits : (set : ℕ) (shape : Shape) (o : Option Area) → structure_of desc set ≡ Some shape → (work_of p set).area ≡ o → AreaFits shape o
+  area_fits set shape o here is = subst (AreaFits shape) is (mine set shape here)
 
-  put_sane : (set : ℕ) (a : Area) (current : Option ℕ) → (work_of p set).area ≡ Some a → is_free a p set current ≡ true
-      → missing_from 0 (items_of (structure_of desc set)) (area_values a) ≡ None → verified (structure_of desc set) (area_values a) ≡ true
-      → KeptSane desc (put_kept (put_answer desc s.db set (area_number a current) (record_of a)) desc p s.db set a)
-  unfolding put_answer
-  put_sane set (New values owner) current has free none met = by (structure_of desc set) refl (clash desc.structures s.db set None (stored desc s.db set None (record { owner = owner; values = values }))) refl
+  old_kept : (set : ℕ) (values : List Value) (c : Option ℕ) (n : ℕ) → (work_of p set).area ≡ Some (Old values) → holds p set c ≡ true → missing_from 0 (items_of (structure_of desc set)) values ≡ None
+      → verified (structure_of desc set) values ≡ true → put_answer desc s.db set c (record_of (Old values)) ≡ Stored n → Holds desc (stored_program p set n (Old values)) (put_after (Stored n) desc s.db set (record_of (Old values)))
+  old_kept set values None n has free none met is = absurd (cc)
+  old_kept set values (Some m) n has free none met is =
+      locked_old set m free (Holds desc (stored_program p set n (Old values)) (put_after (Stored n) desc s.db set (record_of (Old values))))
+      (λ old shape was here. old_sane set (Old values) none met m n shape old here refl (area_fits set shape (Some (Old values)) here has) was (old_stored desc s.db set m n (record_of (Old values)) is))
+
+  kept_sane : (set : ℕ) (a : Area) (n : ℕ) → IsStorable desc p s.db set a n → Holds desc (stored_program p set n a) (put_after (Stored n) desc s.db set (record_of a))
+  kept_sane set (New values owner) n may = by (structure_of desc set) refl
     where
-      full : (c : Option ℕ) → KeptSane desc (put_kept (put_unless c Full) desc p s.db set (New values owner))
-      full None = tt
-      full (Some d) = tt
+      new : HasNewNumber desc s.db set n (record_of (New values owner))
+      new = new_stored desc s.db set n (record_of (New values owner)) may.answer
 
-      by : (o : Option Shape) → structure_of desc set ≡ o → (c : Option ℕ) → clash desc.structures s.db set None (stored desc s.db set None (record { owner = owner; values = values })) ≡ c
-          → KeptSane desc (put_kept (put_unless c (cond (is_full o (length (records_of s.db.records set))) Full (Stored (fresh s.db.records set)))) desc p s.db set (New values owner))
-      by None here c clear = full c
-      by (Some shape) here c clear =
-          let fits = area_of set shape (Some (New values owner)) here has in
-          new_sane set (New values owner) none met shape here fits.0 fits.1.0 fits.1.1 c clear (nat_le shape.population (length (records_of s.db.records set))) refl
-  put_sane set (Old values) None has free none met = absurd (cc)
-  put_sane set (Old values) (Some n) has free none met =
-      locked_old set n free (KeptSane desc (put_kept (put_unless (clash desc.structures s.db set (Some n) (stored desc s.db set (Some n) (record { owner = 0; values = values }))) (Stored n)) desc p s.db set (Old values)))
-      (λ old shape was here. old_sane set (Old values) none met n shape old here refl (area_of set shape (Some (Old values)) here has) was (clash desc.structures s.db set (Some n) (stored desc s.db set (Some n) (record { owner = 0; values = values }))) refl)
-
-  unless_sane : (o : Option (List ℕ)) (set : ℕ) (a : Area) (current : Option ℕ) → (work_of p set).area ≡ Some a → is_free a p set current ≡ true → missing_from 0 (items_of (structure_of desc set)) (area_values a) ≡ o
-      → KeptSane desc (kept_unless o desc p s.db set a current)
-  unless_sane (Some item) set a current has free none = tt
-  unless_sane None set a current has free none =
-      kept_if desc (verified (structure_of desc set) (area_values a)) (put_kept (put_answer desc s.db set (area_number a current) (record_of a)) desc p s.db set a) (Refused DataError (name_of (structure_of desc set)))
-      (λ met. put_sane set a current has free none met) tt
-
-  area_sane : (o : Option Area) (set : ℕ) (current : Option ℕ) → (work_of p set).area ≡ o → KeptSane desc (area_kept o desc p s.db set current)
-  area_sane None set current has = tt
-  area_sane (Some a) set current has =
-      kept_if desc (is_free a p set current) (kept_unless (missing_from 0 (items_of (structure_of desc set)) (area_values a)) desc p s.db set a current) (Refused NotLocked (name_of (structure_of desc set)))
-      (λ free. unless_sane (missing_from 0 (items_of (structure_of desc set)) (area_values a)) set a current has free refl) tt
+      by : (o : Option Shape) → structure_of desc set ≡ o → Holds desc (stored_program p set n (New values owner)) (put_after (Stored n) desc s.db set (record_of (New values owner)))
+      by None here = absurd (let no : true ≡ false = ap (λ (o : Option Shape). is_full o (length (records_of s.db.records set))) (sym here) ∙ new.room in cc)
+      by (Some shape) here =
+          let fits = area_fits set shape (Some (New values owner)) here may.area in
+          new_sane set (New values owner) may.required may.verified n shape here fits.0 fits.1.0 fits.1.1 new
+  kept_sane set (Old values) n may = old_kept set values (current_of p set) n may.area may.free may.required may.verified may.answer
 
   keep_sane : (set : ℕ) → KeptSane desc (keep desc p s.db set)
-  unfolding keep
-  keep_sane set = area_sane (work_of p set).area set (work_of p set).current refl
+  keep_sane set = keep_any (KeptSane desc) desc p s.db set (kept_sane set) (λ r. tt)
 
   if_sane : (audit : Bool) → KeptSane desc (cond audit (keep desc p s.db (restart_of desc)) (Keeps p s.db))
   if_sane audit = kept_if desc audit (keep desc p s.db (restart_of desc)) (Keeps p s.db) (λ h. keep_sane (restart_of desc)) (record { valid = sane.valid; flat = sane.flat; areas = mine })
 
+  begun_sane : (audit : Bool) → KeptSane desc (begun desc p s audit)
+  begun_sane audit = begun_any (KeptSane desc) desc p s audit (λ is. kept_sane (restart_of desc)) (record { valid = sane.valid; flat = sane.flat; areas = mine }) (λ r. tt)
+
   store_leaves : (k : StoreResult) → KeptSane desc k → Leaves desc (after_store k i s)
-  store_leaves (Refused c n) h = sane
+  store_leaves (Refused r) h = sane
   store_leaves (Keeps q db) h = sane_with (carried q) db h.valid h.flat h.areas
 
   begun_leaves : (k : StoreResult) → KeptSane desc k → Leaves desc (after_begin k i s)
-  begun_leaves (Refused c n) h = sane
+  begun_leaves (Refused r) h = sane
   begun_leaves (Keeps q db) h = sane_with (entered q) db h.valid h.flat h.areas
 
-  begin_leaves : (who : List (List ℕ)) (audit : Bool) → Leaves desc (begin_unless who desc i p s audit)
-  begin_leaves [] audit = begun_leaves (cond audit (keep desc p s.db (restart_of desc)) (Keeps p s.db)) (if_sane audit)
-  begin_leaves (w ∷ ws) audit = sane
-
   end_leaves : (k : StoreResult) (sync : Bool) → KeptSane desc k → Leaves desc (after_end k desc i s sync)
-  end_leaves (Refused c n) sync h = sane
+  end_leaves (Refused r) sync h = sane
   end_leaves (Keeps q db) sync h =
       settle_leaves desc (record s { db = db; programs = slice_set s.programs i (left q); pending = s.pending || sync || nat_le desc.syncpoint (one_more s.since); since = one_more s.since })
       (sane_with (left q) db h.valid h.flat h.areas)
@@ -345,6 +331,10 @@ module _ (desc : Described) (made : IsWellMade desc) (s : Session) (i : ℕ) (p 
       let w : Work = record { current = Some r.number; area = Some (Old r.rec.values) } in
       sane_at (carried (found_program p (set_of desc x) r)) (let_go_areas desc (with_work p (set_of desc x) w) (set_of desc x) (areas_with desc p (set_of desc x) shape w here fits mine)))
 
+  find_for_leaves : (o : Option ℕ) (path : Path) → Leaves desc (find_for o desc i p s path)
+  find_for_leaves None path = sane
+  find_for_leaves (Some owner) path = find_leaves (found_by desc s.db owner path) (path_of path) (found_stands desc s.db owner path)
+
   -- areas
 
   outer_shape : (set : ℕ) → IsOuter (structure_of desc set) → (C : Type 0) → ((shape : Shape) → structure_of desc set ≡ Some shape → IsOuter (Some shape) → C) → C
@@ -354,14 +344,18 @@ module _ (desc : Described) (made : IsWellMade desc) (s : Session) (i : ℕ) (p 
       by None h = let kind = ap is_data_set (sym h) ∙ outer.data_set in absurd (cc)
       by (Some shape) h = with_shape shape h (subst IsOuter h outer)
 
-  create_leaves : (set : ℕ) → IsOuter (structure_of desc set) → Leaves desc (done (with_program s i (carried (let_go (with_work p set (record { current = None; area = Some (New (map (λ (t : Item). t.initial) (items_of (structure_of desc set))) 0) })) set))))
-  create_leaves set outer =
-      let w : Work = record { current = None; area = Some (New (map (λ (t : Item). t.initial) (items_of (structure_of desc set))) 0) } in
+  create_leaves : (set owner : ℕ) → IsOuter (structure_of desc set) → owner ≡ 0 → Leaves desc (done (with_program s i (carried (created desc p set owner))))
+  create_leaves set owner outer none =
+      let w : Work = record { current = None; area = Some (New (map (λ (t : Item). t.initial) (items_of (structure_of desc set))) owner) } in
       outer_shape set outer (Leaves desc (done (with_program s i (carried (let_go (with_work p set w) set)))))
       (λ shape here out.
       let fits : AreFitting shape.items (map (λ (t : Item). t.initial) (items_of (structure_of desc set))) =
       subst (λ (o : Option Shape). AreFitting shape.items (map (λ (t : Item). t.initial) (items_of o))) (sym here) (initial_fits shape.items (made.initial set shape here) (made.plain set shape here)) in
-      sane_at (carried (let_go (with_work p set w) set)) (let_go_areas desc (with_work p set w) set (areas_with desc p set shape w here (out, (refl, fits)) mine)))
+      sane_at (carried (let_go (with_work p set w) set)) (let_go_areas desc (with_work p set w) set (areas_with desc p set shape w here (out, (none, fits)) mine)))
+
+  create_for_leaves : (o : Option ℕ) (set : ℕ) → owner_for desc p set ≡ o → IsOuter (structure_of desc set) → Leaves desc (create_for o desc i p s set)
+  create_for_leaves None set is outer = sane
+  create_for_leaves (Some owner) set is outer = create_leaves set owner outer (no_owner desc p set owner outer.disjoint is)
 
   after_put_leaves : (f : Filled) (set : ℕ) (a : Area) (shape : Shape) → structure_of desc set ≡ Some shape → AreaFits shape (Some a) → FilledFits shape.items f → Leaves desc (after_put f i p s set a)
   after_put_leaves (Misfit item) set a shape here old fits = sane
@@ -375,7 +369,7 @@ module _ (desc : Described) (made : IsWellMade desc) (s : Session) (i : ℕ) (p 
       let f = filled (items_of (structure_of desc set)) settings (area_values a) in
       outer_shape set outer (Leaves desc (after_put f i p s set a))
       (λ shape here out.
-      let old = area_of set shape (Some a) here has in
+      let old = area_fits set shape (Some a) here has in
       let fits : FilledFits shape.items f = subst (λ (o : Option Shape). FilledFits shape.items (filled (items_of o) settings (area_values a))) (sym here) (filled_fits shape.items settings (area_values a) plain (values_fit shape a old)) in
       after_put_leaves f set a shape here old fits)
 
@@ -402,16 +396,15 @@ unfolding verb_step store_step begin_step end_step abort_step find_step create_s
 verb_leaves desc made i p s OpenUpdate outer at ex sane = sane
 verb_leaves desc made i p s OpenInquiry outer at ex sane = sane
 verb_leaves desc made i p s Close outer at ex sane = leaves_if desc p.in_transaction (refuse s AuditError p.name) _ sane (close_leaves desc made s i p at ex sane)
-verb_leaves desc made i p s (Find path) outer at ex sane = find_leaves desc made s i p at ex sane (found_by desc s.db path) (path_of path) (found_stands desc s.db path)
-verb_leaves desc made i p s (Create set) outer at ex sane = create_leaves desc made s i p at ex sane set outer
+verb_leaves desc made i p s (Find path) outer at ex sane = find_for_leaves desc made s i p at ex sane (owner_for desc p (path_of path)) path
+verb_leaves desc made i p s (Create set) outer at ex sane = create_for_leaves desc made s i p at ex sane (owner_for desc p set) set refl outer.0
 verb_leaves desc made i p s (PutItems set settings) outer at ex sane = put_leaves desc made s i p at ex sane (work_of p set).area set settings outer.0 outer.1 refl
 verb_leaves desc made i p s (Get set items) outer at ex sane = get_leaves desc made s i p at ex sane (work_of p set).area set items
 verb_leaves desc made i p s (Store set) outer at ex sane =
     leaves_if desc p.in_transaction (after_store (keep desc p s.db set) i s) (refuse s AuditError p.name) (store_leaves desc made s i p at ex sane (keep desc p s.db set) (keep_sane desc made s i p at ex sane set)) sane
 verb_leaves desc made i p s (Begin audit) outer at ex sane =
-    leaves_if desc p.in_transaction (refuse s AuditError p.name) _ sane
-    (leaves_if desc (audit && not (is_some (work_of p (restart_of desc)).area)) (refuse s NoRecord (name_of (structure_of desc (restart_of desc)))) _ sane
-    (begin_leaves desc made s i p at ex sane (awaited s) audit))
+    leaves_if desc p.in_transaction (refuse s AuditError p.name) (after_begin (begun desc p s audit) i s) sane
+    (begun_leaves desc made s i p at ex sane (begun desc p s audit) (begun_sane desc made s i p at ex sane audit))
 verb_leaves desc made i p s (End audit sync) outer at ex sane =
     leaves_if desc p.in_transaction (after_end (cond audit (keep desc p s.db (restart_of desc)) (Keeps p s.db)) desc i s sync) (refuse s AuditError p.name)
     (end_leaves desc made s i p at ex sane (cond audit (keep desc p s.db (restart_of desc)) (Keeps p s.db)) sync (if_sane desc made s i p at ex sane audit)) sane
@@ -423,19 +416,13 @@ open_as_leaves desc s name mode sane =
     leaves_if desc (nat_le 64 (length s.programs)) (refuse s LimitError name) (done opened) sane
     (record { valid = sane.valid; valid_mark = sane.valid_mark; flat = sane.flat; flat_mark = sane.flat_mark; areas = all_pushed (AreasFit desc) s.programs (new_program desc name mode) sane.areas (new_areas desc name mode) })
 
+open_in_leaves : (o : Option Mode) (desc : Described) (s : Session) (name : List ℕ) → Sane desc s.db s.mark s.programs → Leaves desc (open_in o desc s name)
+open_in_leaves None desc s name sane = sane
+open_in_leaves (Some mode) desc s name sane = open_as_leaves desc s name mode sane
+
 open_leaves : (desc : Described) (s : Session) (name : List ℕ) (v : Verb) → Sane desc s.db s.mark s.programs → Leaves desc (open_step desc s name v)
 unfolding open_step
-open_leaves desc s name OpenUpdate sane = open_as_leaves desc s name _ sane
-open_leaves desc s name OpenInquiry sane = open_as_leaves desc s name _ sane
-open_leaves desc s name Close sane = sane
-open_leaves desc s name (Find path) sane = sane
-open_leaves desc s name (Create set) sane = sane
-open_leaves desc s name (PutItems set settings) sane = sane
-open_leaves desc s name (Get set items) sane = sane
-open_leaves desc s name (Store set) sane = sane
-open_leaves desc s name (Begin audit) sane = sane
-open_leaves desc s name (End audit sync) sane = sane
-open_leaves desc s name Abort sane = sane
+open_leaves desc s name v sane = open_in_leaves (traits v).opens desc s name sane
 
 step_at_leaves : (desc : Described) → IsWellMade desc → (o : Option Program) (i : ℕ) (s : Session) (name : List ℕ) (v : Verb) → NamesOuter desc v → slice_get s.programs i ≡ o → IsExclusive s → Sane desc s.db s.mark s.programs → Leaves desc (step_at desc o i s name v)
 step_at_leaves desc made None i s name v outer at ex sane = open_leaves desc s name v sane

@@ -1,9 +1,8 @@
 -- A session whose databases are valid, and whose programs have at hand what may be stored.
-use Rattle.std.specs.Prelude.{◌≡◌, ℕ, List, [], ⊤}
+use Rattle.std.specs.Prelude.{◌≡◌, ℕ, List, [], IfSome}
 use Rattle.std.specs.List.{AllByRecursion}
 use Rattle.dms_desc.specs.Shape.{Described}
 use Rattle.dms_model.specs.declared.verb.Verb.{Verb}
-use Rattle.dms_model.specs.declared.verb.Verb.TheVariants.{OpenUpdate, OpenInquiry, Close, Find, Create, Put, Get, Store, Begin, End, Abort}
 use Rattle.dms_model.specs.Db.{Db}
 use Rattle.dms_model.specs.Areas.{AreasFit}
 use Rattle.dms_model.specs.Points.{Quiet}
@@ -11,21 +10,12 @@ use Rattle.dms_desc.specs.Lookups.{structure_of}
 use Rattle.dms_model.specs.Session.{Session, step, fresh_session}
 use Rattle.dms_laws.specs.Exclusive.{IsExclusive}
 use Rattle.dms_model.specs.Spoken.{IsOuter, IsPlainLiteral}
+use Rattle.dms_model.specs.Traits.{traits}
 use Rattle.dms_model.specs.Valid.{OfRecords, IsValid}
 
 -- the data set that CREATE or PUT names is one of the outer level, and a text that PUT gives is one that an item may have
 abbrev pub NamesOuter : Described → Verb → Type 0
-NamesOuter desc OpenUpdate = ⊤
-NamesOuter desc OpenInquiry = ⊤
-NamesOuter desc Close = ⊤
-NamesOuter desc (Find path) = ⊤
-NamesOuter desc (Create set) = IsOuter (structure_of desc set)
-NamesOuter desc (Put set settings) = IsOuter (structure_of desc set) × AllByRecursion (λ t. IsPlainLiteral t.literal) settings
-NamesOuter desc (Get set items) = ⊤
-NamesOuter desc (Store set) = ⊤
-NamesOuter desc (Begin audit) = ⊤
-NamesOuter desc (End audit sync) = ⊤
-NamesOuter desc Abort = ⊤
+NamesOuter desc verb = IfSome (traits verb).outer (λ set. IsOuter (structure_of desc set)) × AllByRecursion (λ t. IsPlainLiteral t.literal) (traits verb).settings
 
 -- a database as the verbs of today make it: no embedded record, and no entry of a manual subset
 pub record IsFlat (desc : Described) (db : Db) : Type 0 where

@@ -18,8 +18,9 @@ use Rattle.dms_model.specs.declared.verb.Setting.{Setting}
 use Rattle.dms_model.specs.Areas.{OfWorks, AreaFits, WorkFits, WorksFit, InitialsFit}
 use Rattle.dms_model.specs.Fitting.{AreFitting, IsNumber, RecordFits, SpotFits, is_number}
 use Rattle.dms_model.specs.FitLaws.{filled_fits, FilledFits, get_set_other}
-use Rattle.dms_model.specs.Session.{area_values, backed_out, filled, Filled, Misfit, Values', found_program, is_lock, let_go, new_program, no_work, or_none, with_lock, with_values, with_work, work_of}
+use Rattle.dms_model.specs.Session.{area_values, backed_out, filled, Filled, Misfit, Values', found_program, is_lock, let_go, new_program, no_work, or_none, with_lock, with_values, with_work, work_of, created, owner_for, owner_in}
 use Rattle.dms_model.specs.Spoken.{IsOuter, IsPlainLiteral}
+use Rattle.dms_model.specs.Valid.{owner_of}
 
 -- ---- one work
 
@@ -117,16 +118,22 @@ outer_shape desc set C outer with_shape = by (structure_of desc set) refl outer
     by None here h = absurd (let no = h.data_set in cc)
     by (Some shape) here h = with_shape shape here h
 
+-- what stands in no data set has no owner
+pub no_owner : (desc : Described) (p : Program) (x owner : ℕ) → owner_of (structure_of desc x) ≡ 0 → owner_for desc p x ≡ Some owner → owner ≡ 0
+no_owner desc p x owner disjoint is =
+    let both : ◌≡◌ {A = Option ℕ} (Some 0) (Some owner) = sym (ap (owner_in p) disjoint) ∙ is in
+    let same : 0 ≡ owner = cc in
+    sym same
+
 -- a new area has the initial values
-pub created_works : (desc : Described) (p : Program) (set : ℕ) → InitialsFit desc → IsOuter (structure_of desc set) → WorksFit desc p
-    → WorksFit desc (let_go (with_work p set (record { current = None; area = Some (New (map (λ (t : Item). t.initial) (items_of (structure_of desc set))) 0) })) set)
-created_works desc p set initials outer all =
-    let w : Work = record { current = None; area = Some (New (map (λ (t : Item). t.initial) (items_of (structure_of desc set))) 0) } in
+pub created_works : (desc : Described) (p : Program) (set owner : ℕ) → InitialsFit desc → IsOuter (structure_of desc set) → owner ≡ 0 → WorksFit desc p → WorksFit desc (created desc p set owner)
+created_works desc p set owner initials outer none all =
+    let w : Work = record { current = None; area = Some (New (map (λ (t : Item). t.initial) (items_of (structure_of desc set))) owner) } in
     outer_shape desc set _ outer
     (λ shape here out.
     let fits : AreFitting shape.items (map (λ (t : Item). t.initial) (items_of (structure_of desc set))) =
     subst (λ (o : Option Shape). AreFitting shape.items (map (λ (t : Item). t.initial) (items_of o))) (sym here) (initials set shape here) in
-    let_go_works desc WorkFits (with_work p set w) set (works_with desc WorkFits p set shape w here (record { area = (out, (refl, fits)); current = tt }) none_fits all))
+    let_go_works desc WorkFits (with_work p set w) set (works_with desc WorkFits p set shape w here (record { area = (out, (none, fits)); current = tt }) none_fits all))
 
 pub with_new : (shape : Shape) (a : Area) (new : List Value) → AreaFits shape (Some a) → AreFitting shape.items new → AreaFits shape (Some (with_values a new))
 with_new shape (New values owner) new old fits = (old.0, (old.1.0, fits))

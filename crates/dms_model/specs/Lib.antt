@@ -15,6 +15,8 @@ pub mod Props
 pub mod Seen
 pub mod Session
 pub mod Spoken
+pub mod StoreLaws
 pub mod Stores
+pub mod Traits
 pub mod Valid
 pub mod Verbs

@@ -37,6 +37,8 @@ use Rattle.dms_model.specs.Points.{Quiet}
 use Rattle.dms_desc.specs.Lookups.{structure_of, name_of, items_of, parts_of, set_of}
 use Rattle.dms_model.specs.Members.{first_member, last_member, at_member}
 use Rattle.dms_model.specs.Stores.{put_answer, put_after}
+use Rattle.dms_model.specs.Traits.{traits}
+use Rattle.dms_model.specs.Valid.{owner_of}
 
 -- what the verbs change: the database, that of the last quiet point or else of the beginning, the number of the next quiet
 -- point, the open programs in the order of their opening (each with its locks), whether a syncpoint is pending, and the
@@ -56,9 +58,17 @@ pub record Outcome : Type 0 where
   pub sync : Option ℕ
   pub quiets : List Quiet
 
--- a refusal leaves the session as it was
+-- an answer in place of a verb's effect leaves the session as it was
+abbrev pub replies : Session → Reply → Outcome
+replies s reply = record { session = s; reply = reply; sync = None; quiets = [] }
+
 abbrev pub refuse : Session → Category → List ℕ → Outcome
-refuse s category name = record { session = s; reply = Exception category name; sync = None; quiets = [] }
+refuse s category name = replies s (Exception category name)
+
+-- a list of such answers, each with its condition: the first that holds
+abbrev pub first_held : List (Bool × Reply) → Option Reply
+first_held [] = None
+first_held (r ∷ rs) = if r.0 then Some r.1 else first_held rs
 
 abbrev pub shows : Session → List ℕ → Outcome
 shows s text = record { session = s; reply = Done text; sync = None; quiets = [] }
@@ -90,6 +100,14 @@ or_none (Some w) = w
 -- what a program has at hand of a data set
 abbrev pub work_of : Program → ℕ → Work
 work_of p set = or_none (slice_get p.works (set - 1))
+
+-- its current record of a data set
+abbrev pub current_of : Program → ℕ → Option ℕ
+current_of p set = (work_of p set).current
+
+-- its area of a data set
+abbrev pub area_of : Program → ℕ → Option Area
+area_of p set = (work_of p set).area
 
 abbrev pub with_work : Program → ℕ → Work → Program
 with_work p set w = record p { works = slice_set p.works (set - 1) w }
@@ -135,6 +153,21 @@ settle s =
     then record { session = record s { mark = s.db; next = s.next + 1; programs = map idle s.programs; pending = false; since = 0 }; reply = Done []; sync = Some s.next; quiets = (s.next, s.db) ∷ [] }
     else record { session = record s { mark = s.db; next = s.next + 1; programs = map idle s.programs }; reply = Done []; sync = None; quiets = (s.next, s.db) ∷ [] })
 
+-- Owners
+
+-- the record of this data set that owns what a program finds or makes: its current one; 0 stands for no data set
+abbrev pub owner_in : Program → ℕ → Option ℕ
+owner_in p to = if to == 0 then Some 0 else current_of p to
+
+-- the owner of what a program finds or makes in a structure: its current record of the data set that the structure stands in,
+-- where it has one, and 0 where the structure stands in none
+abbrev pub owner_for : Described → Program → ℕ → Option ℕ
+owner_for desc p x = owner_in p (owner_of (structure_of desc x))
+
+-- without an owner nothing is found or made there
+abbrev pub refuse_unowned : Described → Session → ℕ → Outcome
+refuse_unowned desc s x = refuse s NoRecord (name_of (structure_of desc (owner_of (structure_of desc x))))
+
 -- Storing
 
 -- the first REQUIRED item that is null, from the k-th value on
@@ -163,11 +196,6 @@ abbrev pub is_free : Area → Program → ℕ → Option ℕ → Bool
 is_free (New values owner) p set current = true
 is_free (Old values) p set current = holds p set current
 
--- a refusal, or the program and the database after storing
-pub data StoreResult : Type 0 where
-  Refused : Category → List ℕ → StoreResult
-  Keeps : Program → Db → StoreResult
-
 abbrev pub record_of : Area → Record
 record_of a = record { owner = area_owner a; values = area_values a }
 
@@ -175,32 +203,80 @@ record_of a = record { owner = area_owner a; values = area_values a }
 abbrev pub stored_program : Program → ℕ → ℕ → Area → Program
 stored_program p set number a = with_lock (with_work p set (record { current = Some number; area = Some (Old (area_values a)) })) set number
 
-abbrev pub put_kept : Put → Described → Program → Db → ℕ → Area → StoreResult
-put_kept (Stored number) desc p db set a = Keeps (stored_program p set number a) (put_after (Stored number) desc db set (record_of a))
-put_kept (Duplicate d) desc p db set a = Refused Duplicates (name_of (structure_of desc d))
-put_kept Full desc p db set a = Refused LimitError (name_of (structure_of desc set))
+-- this answer in place of storing, or the program and the database after it
+pub data StoreResult : Type 0 where
+  Refused : Reply → StoreResult
+  Keeps : Program → Db → StoreResult
 
-abbrev pub kept_unless : Option (List ℕ) → Described → Program → Db → ℕ → Area → Option ℕ → StoreResult
-kept_unless (Some item) desc p db set a current = Refused DataError item
-kept_unless None desc p db set a current =
-    if verified (structure_of desc set) (area_values a)
-    then put_kept (put_answer desc db set (area_number a current) (record_of a)) desc p db set a
-    else Refused DataError (name_of (structure_of desc set))
+abbrev pub unless : Option Reply → StoreResult → StoreResult
+unless None k = k
+unless (Some reply) k = Refused reply
 
-abbrev pub area_kept : Option Area → Described → Program → Db → ℕ → Option ℕ → StoreResult
-area_kept None desc p db set current = Refused NoRecord (name_of (structure_of desc set))
-area_kept (Some a) desc p db set current =
-    if is_free a p set current
-    then kept_unless (missing_from 0 (items_of (structure_of desc set)) (area_values a)) desc p db set a current
-    else Refused NotLocked (name_of (structure_of desc set))
+-- the area that is stored; without one nothing is
+abbrev pub or_no_area : Option Area → Area
+or_no_area None = Old []
+or_no_area (Some a) = a
 
--- storing a program's area of a data set. Refused in this order: no area; an Old one whose record the program doesn't hold
--- locked; a REQUIRED item that is null; VERIFY not met; an equal key in a structure with NO DUPLICATES; POPULATION
+-- what a store answers to an area, and the number under which it stored the record
+abbrev pub put_of : Described → Db → ℕ → Area → Option ℕ → Put
+put_of desc db set a current = put_answer desc db set (area_number a current) (record_of a)
+
+abbrev pub number_of : Put → ℕ
+number_of (Stored number) = number
+number_of (Duplicate d) = 0
+number_of Full = 0
+
+abbrev pub duplicate_of : Put → ℕ
+duplicate_of (Stored number) = 0
+duplicate_of (Duplicate d) = d
+duplicate_of Full = 0
+
+abbrev pub is_duplicate : Put → Bool
+is_duplicate (Stored number) = false
+is_duplicate (Duplicate d) = true
+is_duplicate Full = false
+
+abbrev pub is_full_answer : Put → Bool
+is_full_answer (Stored number) = false
+is_full_answer (Duplicate d) = false
+is_full_answer Full = true
+
+abbrev pub or_unknown : Option (List ℕ) → List ℕ
+or_unknown None = unknown_name
+or_unknown (Some name) = name
+
+-- The list of STORE, as conditions with their answers. First: no area
+abbrev pub lacks_area : Described → Option Area → ℕ → Bool × Reply
+lacks_area desc o set = (not (is_some o), Exception NoRecord (name_of (structure_of desc set)))
+
+-- then: an Old one whose record the program doesn't hold locked; a REQUIRED item that is null; VERIFY not met; an equal key in a
+-- structure with NO DUPLICATES; POPULATION
+abbrev pub area_refusals : Area → Put → Described → Program → ℕ → List (Bool × Reply)
+area_refusals a answer desc p set =
+    (not (is_free a p set (current_of p set)), Exception NotLocked (name_of (structure_of desc set)))
+    ∷ (is_some (missing_from 0 (items_of (structure_of desc set)) (area_values a)), Exception DataError (or_unknown (missing_from 0 (items_of (structure_of desc set)) (area_values a))))
+    ∷ (not (verified (structure_of desc set) (area_values a)), Exception DataError (name_of (structure_of desc set)))
+    ∷ (is_duplicate answer, Exception Duplicates (name_of (structure_of desc (duplicate_of answer))))
+    ∷ (is_full_answer answer, Exception LimitError (name_of (structure_of desc set)))
+    ∷ []
+
+-- what storing an area leaves, where nothing refuses it
+abbrev pub storing : Area → Put → Described → Program → Db → ℕ → StoreResult
+storing a answer desc p db set = Keeps (stored_program p set (number_of answer) a) (put_after answer desc db set (record_of a))
+
+abbrev pub kept_with : Option Area → Put → Described → Program → Db → ℕ → StoreResult
+kept_with o answer desc p db set = unless (first_held (lacks_area desc o set ∷ area_refusals (or_no_area o) answer desc p set)) (storing (or_no_area o) answer desc p db set)
+
+-- what a store answers to a program's area of a data set
+abbrev pub area_answer : Described → Program → Db → ℕ → Put
+area_answer desc p db set = put_of desc db set (or_no_area (area_of p set)) (current_of p set)
+
+-- storing a program's area of a data set: the first that holds of its list is answered
 unfoldable pub keep : Described → Program → Db → ℕ → StoreResult
-keep desc p db set = area_kept (work_of p set).area desc p db set (work_of p set).current
+keep desc p db set = kept_with (area_of p set) (area_answer desc p db set) desc p db set
 
 abbrev pub after_store : StoreResult → ℕ → Session → Outcome
-after_store (Refused category name) i s = refuse s category name
+after_store (Refused reply) i s = replies s reply
 after_store (Keeps p db) i s = done (record s { db = db; programs = slice_set s.programs i (carried p) })
 
 unfoldable pub store_step : Described → ℕ → Program → Session → ℕ → Outcome
@@ -220,23 +296,30 @@ abbrev pub entered : Program → Program
 entered p = carried (record p { in_transaction = true })
 
 abbrev pub after_begin : StoreResult → ℕ → Session → Outcome
-after_begin (Refused category name) i s = refuse s category name
+after_begin (Refused reply) i s = replies s reply
 after_begin (Keeps p db) i s = done (record s { db = db; programs = slice_set s.programs i (entered p) })
 
 -- for whom a BEGIN-TRANSACTION waits: while a syncpoint is pending, for all programs in transaction state
 abbrev pub awaited : Session → List (List ℕ)
 awaited s = if s.pending then workers s.programs else []
 
-abbrev pub begin_unless : List (List ℕ) → Described → ℕ → Program → Session → Bool → Outcome
-begin_unless (q ∷ qs) desc i p s audit = record { session = s; reply = Waits (q ∷ qs); sync = None; quiets = [] }
-begin_unless [] desc i p s audit = after_begin (if audit then keep desc p s.db (restart_of desc) else Keeps p s.db) i s
+abbrev pub has_some : List (List ℕ) → Bool
+has_some [] = false
+has_some (q ∷ qs) = true
 
--- with AUDIT the restart record is stored: its area is asked for first, the rest once there is nobody to wait for
+-- The list of BEGIN: with AUDIT that of STORE for the restart record, and its wait behind the first of it
+abbrev pub begin_refusals : Bool → List (List ℕ) → Option Area → Put → Described → Program → ℕ → List (Bool × Reply)
+begin_refusals true who o answer desc p restart = lacks_area desc o restart ∷ (has_some who, Waits who) ∷ area_refusals (or_no_area o) answer desc p restart
+begin_refusals false who o answer desc p restart = (has_some who, Waits who) ∷ []
+
+abbrev pub begun_with : Bool → List (List ℕ) → Option Area → Put → Described → Program → Db → ℕ → StoreResult
+begun_with audit who o answer desc p db restart = unless (first_held (begin_refusals audit who o answer desc p restart)) (if audit then storing (or_no_area o) answer desc p db restart else Keeps p db)
+
+unfoldable pub begun : Described → Program → Session → Bool → StoreResult
+begun desc p s audit = begun_with audit (awaited s) (area_of p (restart_of desc)) (area_answer desc p s.db (restart_of desc)) desc p s.db (restart_of desc)
+
 unfoldable pub begin_step : Described → ℕ → Program → Session → Bool → Outcome
-begin_step desc i p s audit =
-    if p.in_transaction then refuse s AuditError p.name
-    else (if audit && not (is_some (work_of p (restart_of desc)).area) then refuse s NoRecord (name_of (structure_of desc (restart_of desc)))
-    else begin_unless (awaited s) desc i p s audit)
+begin_step desc i p s audit = if p.in_transaction then refuse s AuditError p.name else after_begin (begun desc p s audit) i s
 
 -- transaction state is left, and all locks are freed
 abbrev pub left : Program → Program
@@ -247,7 +330,7 @@ abbrev pub one_more : ℕ → ℕ
 one_more n = min (n + 1) (2 ^ 64 - 1)
 
 abbrev pub after_end : StoreResult → Described → ℕ → Session → Bool → Outcome
-after_end (Refused category name) desc i s sync = refuse s category name
+after_end (Refused reply) desc i s sync = replies s reply
 after_end (Keeps p db) desc i s sync =
     settle (record s { db = db; programs = slice_set s.programs i (left p); pending = s.pending || sync || nat_le desc.syncpoint (one_more s.since); since = one_more s.since })
 
@@ -290,15 +373,15 @@ key_values parts items [] = Some []
 key_values [] items (l ∷ ls) = None
 key_values (p ∷ ps) items (l ∷ ls) = onto (fitted (slice_get items (p.item - 1)) l) (key_values ps items ls)
 
-abbrev pub at_values : Option (List Value) → Described → Db → ℕ → Option Spot
-at_values None desc db x = None
-at_values (Some key) desc db x = at_member desc db x 0 key
+abbrev pub at_values : Option (List Value) → Described → Db → ℕ → ℕ → Option Spot
+at_values None desc db x owner = None
+at_values (Some key) desc db x owner = at_member desc db x owner key
 
--- the member that a path names
-unfoldable pub found_by : Described → Db → Path → Option Spot
-found_by desc db (First x) = first_member desc db x 0 Start
-found_by desc db (Last x) = last_member desc db x 0 Behind
-found_by desc db (At x literals) = at_values (key_values (parts_of (structure_of desc x)) (items_of (structure_of desc (set_of desc x))) literals) desc db x
+-- the member that a path names, among those of an owner
+unfoldable pub found_by : Described → Db → ℕ → Path → Option Spot
+found_by desc db owner (First x) = first_member desc db x owner Start
+found_by desc db owner (Last x) = last_member desc db x owner Behind
+found_by desc db owner (At x literals) = at_values (key_values (parts_of (structure_of desc x)) (items_of (structure_of desc (set_of desc x))) literals) desc db x owner
 
 abbrev pub path_of : Path → ℕ
 path_of (First x) = x
@@ -313,15 +396,25 @@ abbrev pub after_find : Option Spot → Described → ℕ → Program → Sessio
 after_find None desc i p s x = refuse s NotFound (name_of (structure_of desc x))
 after_find (Some r) desc i p s x = done (with_program s i (carried (found_program p (set_of desc x) r)))
 
+abbrev pub find_for : Option ℕ → Described → ℕ → Program → Session → Path → Outcome
+find_for None desc i p s path = refuse_unowned desc s (path_of path)
+find_for (Some owner) desc i p s path = after_find (found_by desc s.db owner path) desc i p s (path_of path)
+
 unfoldable pub find_step : Described → ℕ → Program → Session → Path → Outcome
-find_step desc i p s path = after_find (found_by desc s.db path) desc i p s (path_of path)
+find_step desc i p s path = find_for (owner_for desc p (path_of path)) desc i p s path
 
 -- Areas
 
--- no current record, and a new area with the initial values; links are null there
+-- no current record, and a new area of this owner with the initial values; links are null there
+abbrev pub created : Described → Program → ℕ → ℕ → Program
+created desc p set owner = let_go (with_work p set (record { current = None; area = Some (New (map (λ (t : Item). t.initial) (items_of (structure_of desc set))) owner) })) set
+
+abbrev pub create_for : Option ℕ → Described → ℕ → Program → Session → ℕ → Outcome
+create_for None desc i p s set = refuse_unowned desc s set
+create_for (Some owner) desc i p s set = done (with_program s i (carried (created desc p set owner)))
+
 unfoldable pub create_step : Described → ℕ → Program → Session → ℕ → Outcome
-create_step desc i p s set =
-    done (with_program s i (carried (let_go (with_work p set (record { current = None; area = Some (New (map (λ (t : Item). t.initial) (items_of (structure_of desc set))) 0) })) set)))
+create_step desc i p s set = create_for (owner_for desc p set) desc i p s set
 
 -- the values of an area after a PUT, or the first item whose literal doesn't fit
 pub data Filled : Type 0 where
@@ -396,19 +489,14 @@ open_as desc s name mode =
     if nat_le 64 (length s.programs) then refuse s LimitError name
     else done (record s { programs = s.programs ++ new_program desc name mode ∷ [] })
 
+-- what opens the database for a program that isn't open, and all else is refused
+abbrev pub open_in : Option Mode → Described → Session → List ℕ → Outcome
+open_in None desc s name = refuse s OpenError name
+open_in (Some mode) desc s name = open_as desc s name mode
+
 -- a verb of a program that isn't open
 unfoldable pub open_step : Described → Session → List ℕ → Verb → Outcome
-open_step desc s name OpenUpdate = open_as desc s name Update
-open_step desc s name OpenInquiry = open_as desc s name Inquiry
-open_step desc s name Close = refuse s OpenError name
-open_step desc s name (Find path) = refuse s OpenError name
-open_step desc s name (Create set) = refuse s OpenError name
-open_step desc s name (PutItems set settings) = refuse s OpenError name
-open_step desc s name (Get set items) = refuse s OpenError name
-open_step desc s name (Store set) = refuse s OpenError name
-open_step desc s name (Begin audit) = refuse s OpenError name
-open_step desc s name (End audit sync) = refuse s OpenError name
-open_step desc s name Abort = refuse s OpenError name
+open_step desc s name verb = open_in (traits verb).opens desc s name
 
 -- One step
 
@@ -417,31 +505,11 @@ is_inquiry Update = false
 is_inquiry Inquiry = true
 
 abbrev pub opens : Verb → Bool
-opens OpenUpdate = true
-opens OpenInquiry = true
-opens Close = false
-opens (Find path) = false
-opens (Create set) = false
-opens (PutItems set settings) = false
-opens (Get set items) = false
-opens (Store set) = false
-opens (Begin audit) = false
-opens (End audit sync) = false
-opens Abort = false
+opens verb = is_some (traits verb).opens
 
 -- the verbs that a program which opened for inquiry is refused
 abbrev pub changes : Verb → Bool
-changes OpenUpdate = false
-changes OpenInquiry = false
-changes Close = false
-changes (Find path) = false
-changes (Create set) = false
-changes (PutItems set settings) = false
-changes (Get set items) = false
-changes (Store set) = true
-changes (Begin audit) = true
-changes (End audit sync) = true
-changes Abort = true
+changes verb = (traits verb).changes
 
 -- the verb of an open program that owes no ABORT and may do it
 unfoldable pub verb_step : Described → ℕ → Program → Session → Verb → Outcome

@@ -18,16 +18,21 @@ use Rattle.dms_model.specs.declared.program.Area.TheVariants.{New, Old}
 use Rattle.dms_model.specs.declared.program.Mode.{Mode}
 use Rattle.dms_model.specs.declared.verb.Verb.{Verb}
 use Rattle.dms_model.specs.declared.verb.Verb.TheVariants.{OpenUpdate, OpenInquiry, Close, Find, Create, Put as PutItems, Get, Store, Begin, End, Abort}
+use Rattle.dms_model.specs.declared.verb.Path.{Path}
 use Rattle.dms_model.specs.declared.verb.Setting.{Setting}
+use Rattle.dms_model.specs.declared.reply.Reply.{Reply}
 use Rattle.dms_model.specs.declared.reply.Reply.TheVariants.{Exception}
+use Rattle.dms_model.specs.StoreLaws.{AllAnswers, begun_by, keep_by}
 use Rattle.dms_model.specs.declared.put.Put.{Put}
 use Rattle.dms_model.specs.declared.put.Put.TheVariants.{Stored, Duplicate, Full}
 use Rattle.dms_model.specs.declared.spot.Spot.{Spot}
 use Rattle.dms_model.specs.Db.{Db}
 use Rattle.dms_desc.specs.Lookups.{name_of, structure_of, items_of, set_of}
 use Rattle.dms_model.specs.Stores.{put_answer}
-use Rattle.dms_model.specs.Session.{Session, Outcome, StoreResult, Refused, Keeps, Filled, Misfit, Values', refuse, done, shows, settle, keep, store_step, after_store, begin_step, after_begin, begin_unless, awaited, workers, end_step, after_end, abort_step, find_step, after_find, found_by, create_step, put_step, put_area, after_put, filled, item_name, setting_value, get_step, get_area, get_text, more_text, item_text, close_step, open_as, open_step, verb_step, step_at, step, with_program, with_work, work_of, restart_of, someone_works, is_inquiry, opens, changes, path_of, new_program, place_of, carried, left, without, idle, backed_out, found_program, let_go, with_lock, area_kept, kept_unless, put_kept, missing_from, verified, area_values, area_number, record_of, is_free, one_more}
+use Rattle.dms_model.specs.Session.{Session, Outcome, StoreResult, Refused, Keeps, Filled, Misfit, Values', refuse, done, shows, settle, keep, store_step, after_store, begin_step, after_begin, begun, begin_refusals, area_answer, area_of, area_refusals, duplicate_of, or_no_area, or_unknown, replies, stored_program, awaited, workers, end_step, after_end, abort_step, find_step, find_for, after_find, found_by, create_step, create_for, owner_for, refuse_unowned, put_step, put_area, after_put, filled, item_name, setting_value, get_step, get_area, get_text, more_text, item_text, close_step, open_as, open_step, verb_step, step_at, step, with_program, with_work, work_of, restart_of, someone_works, is_inquiry, opens, changes, path_of, new_program, place_of, carried, left, without, idle, backed_out, found_program, let_go, with_lock, missing_from, area_values, area_number, record_of, is_free, one_more, open_in}
+use Rattle.dms_model.specs.Traits.{traits}
 use Rattle.dms_model.specs.Areas.{AreaFits, AreasFit}
+use Rattle.dms_model.specs.Valid.{owner_of}
 use Rattle.dms_laws.proofs.Lists.{all_at, all_set, all_mapped, all_pushed, all_without}
 use Rattle.dms_scriptlaws.specs.Truths.{HasNames}
 use Rattle.dms_scriptlaws.proofs.Digits.{NoFeed}
@@ -48,6 +53,9 @@ pub record LeavesNamed (o : Outcome) : Type 0 where
 leaves_if : (b : Bool) (x y : Outcome) → LeavesNamed x → LeavesNamed y → LeavesNamed (cond b x y)
 leaves_if true x y h k = h
 leaves_if false x y h k = k
+
+replied : (s : Session) (r : Reply) → IsClean r → AreNamed s.programs → LeavesNamed (replies s r)
+replied s r h all = record { reply = h; names = all }
 
 refused : (s : Session) (c : Category) (n : List ℕ) → NoFeed n → AreNamed s.programs → LeavesNamed (refuse s c n)
 refused s c n h all = record { reply = h; names = all }
@@ -107,6 +115,10 @@ item_name_feed [] k h = unknown_feed
 item_name_feed (i ∷ items) zero h = h.0
 item_name_feed (i ∷ items) (suc k) h = item_name_feed items k h.1
 
+unknown_or : (o : Option (List ℕ)) → IfSome o NoFeed → NoFeed (or_unknown o)
+unknown_or None h = unknown_feed
+unknown_or (Some name) h = h
+
 abbrev FilledClean : Filled → Type 0
 FilledClean (Misfit name) = NoFeed name
 FilledClean (Values' values) = Unit {0}
@@ -149,7 +161,7 @@ get_feed items (n ∷ ns) values h plain =
 -- storing
 
 abbrev KeptNamed : StoreResult → Type 0
-KeptNamed (Refused c n) = NoFeed n
+KeptNamed (Refused r) = IsClean r
 KeptNamed (Keeps p db) = Named p
 
 kept_if : (b : Bool) (x y : StoreResult) → KeptNamed x → KeptNamed y → KeptNamed (cond b x y)
@@ -181,44 +193,35 @@ module _ (desc : Described) (names : HasNames desc) where
     with_named : (q : Program) → Named q → AreNamed (slice_set s.programs i q)
     with_named q h = all_set Named s.programs i q all h
 
-    put_named : (a : Put) (db : Db) (set : ℕ) (x : Area) → KeptNamed (put_kept a desc p db set x)
-    put_named (Stored n) db set x = with_lock_named (with_work p set (record { current = Some n; area = Some (Old (area_values x)) })) set n mine
-    put_named (Duplicate d) db set x = shape_feed d
-    put_named Full db set x = shape_feed set
+    kept_named : (db : Db) (set : ℕ) (a : Area) (n : ℕ) → Named (stored_program p set n a)
+    kept_named db set a n = with_lock_named (with_work p set (record { current = Some n; area = Some (Old (area_values a)) })) set n mine
 
-    unless_named : (o : Option (List ℕ)) (db : Db) (set : ℕ) (a : Area) (current : Option ℕ) → IfSome o NoFeed → KeptNamed (kept_unless o desc p db set a current)
-    unless_named (Some item) db set a current h = h
-    unless_named None db set a current h =
-        kept_if (verified (structure_of desc set) (area_values a)) (put_kept (put_answer desc db set (area_number a current) (record_of a)) desc p db set a) (Refused _ (name_of (structure_of desc set)))
-        (put_named (put_answer desc db set (area_number a current) (record_of a)) db set a) (shape_feed set)
+    area_clean : (a : Area) (answer : Put) (set : ℕ) → AllAnswers IsClean (area_refusals a answer desc p set)
+    area_clean a answer set = (shape_feed set, (unknown_or (missing_from 0 (items_of (structure_of desc set)) (area_values a)) (missing_feed 0 (items_of (structure_of desc set)) (area_values a) (set_items set)), (shape_feed set, (shape_feed (duplicate_of answer), (shape_feed set, tt)))))
 
-    area_named : (o : Option Area) (db : Db) (set : ℕ) (current : Option ℕ) → KeptNamed (area_kept o desc p db set current)
-    area_named None db set current = shape_feed set
-    area_named (Some a) db set current =
-        kept_if (is_free a p set current) (kept_unless (missing_from 0 (items_of (structure_of desc set)) (area_values a)) desc p db set a current) (Refused _ (name_of (structure_of desc set)))
-        (unless_named (missing_from 0 (items_of (structure_of desc set)) (area_values a)) db set a current (missing_feed 0 (items_of (structure_of desc set)) (area_values a) (set_items set))) (shape_feed set)
+    begun_clean : (audit : Bool) (who : List (List ℕ)) (o : Option Area) (answer : Put) (set : ℕ) → AllByRecursion NoFeed who → AllAnswers IsClean (begin_refusals audit who o answer desc p set)
+    begun_clean true who o answer set h = (shape_feed set, (h, area_clean (or_no_area o) answer set))
+    begun_clean false who o answer set h = (h, tt)
 
     keep_named : (db : Db) (set : ℕ) → KeptNamed (keep desc p db set)
-    unfolding keep
-    keep_named db set = area_named (work_of p set).area db set (work_of p set).current
+    keep_named db set = keep_by KeptNamed desc p db set (λ a n may. kept_named db set a n) (shape_feed set, area_clean (or_no_area (area_of p set)) (area_answer desc p db set) set)
+
+    begun_kept : (audit : Bool) → AllByRecursion NoFeed (awaited s) → KeptNamed (begun desc p s audit)
+    begun_kept audit h = begun_by KeptNamed desc p s audit (λ is a n may. kept_named s.db (restart_of desc) a n) mine (begun_clean audit (awaited s) (area_of p (restart_of desc)) (area_answer desc p s.db (restart_of desc)) (restart_of desc) h)
 
     keep_if : (audit : Bool) → KeptNamed (cond audit (keep desc p s.db (restart_of desc)) (Keeps p s.db))
     keep_if audit = kept_if audit (keep desc p s.db (restart_of desc)) (Keeps p s.db) (keep_named s.db (restart_of desc)) mine
 
     store_named : (k : StoreResult) → KeptNamed k → LeavesNamed (after_store k i s)
-    store_named (Refused c n) h = refused s c n h all
+    store_named (Refused r) h = replied s r h all
     store_named (Keeps q db) h = shown _ [] tt (with_named (carried q) h)
 
     begun_named : (k : StoreResult) → KeptNamed k → LeavesNamed (after_begin k i s)
-    begun_named (Refused c n) h = refused s c n h all
+    begun_named (Refused r) h = replied s r h all
     begun_named (Keeps q db) h = shown _ [] tt (with_named _ h)
 
-    begin_named : (who : List (List ℕ)) (audit : Bool) → AllByRecursion NoFeed who → LeavesNamed (begin_unless who desc i p s audit)
-    begin_named [] audit h = begun_named (cond audit (keep desc p s.db (restart_of desc)) (Keeps p s.db)) (keep_if audit)
-    begin_named (q ∷ qs) audit h = record { reply = h; names = all }
-
     end_named : (k : StoreResult) (sync : Bool) → KeptNamed k → LeavesNamed (after_end k desc i s sync)
-    end_named (Refused c n) sync h = refused s c n h all
+    end_named (Refused r) sync h = replied s r h all
     end_named (Keeps q db) sync h =
         settled (record s { db = db; programs = slice_set s.programs i (left q); pending = s.pending || sync || nat_le desc.syncpoint (one_more s.since); since = one_more s.since }) (with_named (left q) h)
 
@@ -226,6 +229,17 @@ module _ (desc : Described) (names : HasNames desc) where
     find_named None x = refused s _ _ (shape_feed x) all
     find_named (Some r) x =
         shown _ [] tt (with_named (carried (found_program p (set_of desc x) r)) (let_go_named (with_work p (set_of desc x) (record { current = Some r.number; area = Some (Old r.rec.values) })) (set_of desc x) mine))
+
+    owner_feed : (x : ℕ) → LeavesNamed (refuse_unowned desc s x)
+    owner_feed x = refused s _ _ (shape_feed (owner_of (structure_of desc x))) all
+
+    find_for_named : (o : Option ℕ) (path : Path) → LeavesNamed (find_for o desc i p s path)
+    find_for_named None path = owner_feed (path_of path)
+    find_for_named (Some owner) path = find_named (found_by desc s.db owner path) (path_of path)
+
+    create_for_named : (o : Option ℕ) (set : ℕ) → LeavesNamed (create_for o desc i p s set)
+    create_for_named None set = owner_feed set
+    create_for_named (Some owner) set = shown _ [] tt (with_named _ (let_go_named (with_work p set _) set mine))
 
     after_put_named : (f : Filled) (set : ℕ) (a : Area) → FilledClean f → LeavesNamed (after_put f i p s set a)
     after_put_named (Misfit item) set a h = refused s _ item h all
@@ -271,15 +285,14 @@ module _ (desc : Described) (names : HasNames desc) where
   verb_named i p s OpenUpdate at all fit = refused s _ p.name (mine_feed s i p at all) all
   verb_named i p s OpenInquiry at all fit = refused s _ p.name (mine_feed s i p at all) all
   verb_named i p s Close at all fit = leaves_if p.in_transaction (refuse s AuditError p.name) (done (record s { programs = without i s.programs })) (refused s _ p.name (mine_feed s i p at all) all) (shown _ [] tt (all_without Named s.programs i all))
-  verb_named i p s (Find path) at all fit = find_named s i p at all (found_by desc s.db path) (path_of path)
-  verb_named i p s (Create set) at all fit = shown _ [] tt (with_named s i p at all _ (let_go_named (with_work p set _) set (mine s i p at all)))
+  verb_named i p s (Find path) at all fit = find_for_named s i p at all (owner_for desc p (path_of path)) path
+  verb_named i p s (Create set) at all fit = create_for_named s i p at all (owner_for desc p set) set
   verb_named i p s (PutItems set settings) at all fit = put_area_named s i p at all (work_of p set).area set settings
   verb_named i p s (Get set items) at all fit = get_named s i p at all (work_of p set).area set items fit refl
   verb_named i p s (Store set) at all fit = leaves_if p.in_transaction (after_store (keep desc p s.db set) i s) (refuse s AuditError p.name) (store_named s i p at all (keep desc p s.db set) (keep_named s i p at all s.db set)) (refused s _ p.name (mine_feed s i p at all) all)
   verb_named i p s (Begin audit) at all fit =
-      leaves_if p.in_transaction (refuse s AuditError p.name) _ (refused s _ p.name (mine_feed s i p at all) all)
-      (leaves_if (audit && not (is_some (work_of p (restart_of desc)).area)) (refuse s NoRecord (name_of (structure_of desc (restart_of desc)))) _ (refused s _ _ (shape_feed (restart_of desc)) all)
-      (begin_named s i p at all (awaited s) audit (awaited_feed s all)))
+      leaves_if p.in_transaction (refuse s AuditError p.name) (after_begin (begun desc p s audit) i s) (refused s _ p.name (mine_feed s i p at all) all)
+      (begun_named s i p at all (begun desc p s audit) (begun_kept s i p at all audit (awaited_feed s all)))
   verb_named i p s (End audit sync) at all fit =
       leaves_if p.in_transaction (after_end (cond audit (keep desc p s.db (restart_of desc)) (Keeps p s.db)) desc i s sync) (refuse s AuditError p.name)
       (end_named s i p at all (cond audit (keep desc p s.db (restart_of desc)) (Keeps p s.db)) sync (keep_if s i p at all audit)) (refused s _ p.name (mine_feed s i p at all) all)
@@ -292,19 +305,13 @@ open_as_named desc s name mode named all =
     leaves_if (nat_le 64 (length s.programs)) (refuse s LimitError name) (done (record s { programs = s.programs ++ new_program desc name mode ∷ [] }))
     (refused s _ name (name_feed name named) all) (shown _ [] tt (all_pushed Named s.programs (new_program desc name mode) all named))
 
+open_in_named : (o : Option Mode) (desc : Described) (s : Session) (name : List ℕ) → IsName name → AreNamed s.programs → LeavesNamed (open_in o desc s name)
+open_in_named None desc s name named all = refused s _ name (name_feed name named) all
+open_in_named (Some mode) desc s name named all = open_as_named desc s name mode named all
+
 open_named : (desc : Described) (s : Session) (name : List ℕ) (v : Verb) → IsName name → AreNamed s.programs → LeavesNamed (open_step desc s name v)
 unfolding open_step
-open_named desc s name OpenUpdate named all = open_as_named desc s name _ named all
-open_named desc s name OpenInquiry named all = open_as_named desc s name _ named all
-open_named desc s name Close named all = refused s _ name (name_feed name named) all
-open_named desc s name (Find path) named all = refused s _ name (name_feed name named) all
-open_named desc s name (Create set) named all = refused s _ name (name_feed name named) all
-open_named desc s name (PutItems set settings) named all = refused s _ name (name_feed name named) all
-open_named desc s name (Get set items) named all = refused s _ name (name_feed name named) all
-open_named desc s name (Store set) named all = refused s _ name (name_feed name named) all
-open_named desc s name (Begin audit) named all = refused s _ name (name_feed name named) all
-open_named desc s name (End audit sync) named all = refused s _ name (name_feed name named) all
-open_named desc s name Abort named all = refused s _ name (name_feed name named) all
+open_named desc s name v named all = open_in_named (traits v).opens desc s name named all
 
 step_at_named : (desc : Described) → HasNames desc → (o : Option Program) (i : ℕ) (s : Session) (name : List ℕ) (v : Verb) → slice_get s.programs i ≡ o → IsName name → AreNamed s.programs → AllByRecursion (AreasFit desc) s.programs
     → LeavesNamed (step_at desc o i s name v)

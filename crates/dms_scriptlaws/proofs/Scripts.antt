@@ -56,17 +56,17 @@ module _ (desc : Described) (run : IsRunnable desc) where
     outer : NamesOuter desc verb
 
   names_outer : (verb : Verb) → NamesWhatIsThere desc verb → NamesOuter desc verb
-  names_outer OpenUpdate h = tt
-  names_outer OpenInquiry h = tt
-  names_outer Close h = tt
-  names_outer (Find path) h = tt
-  names_outer (Create set) h = outer_of desc run.kinds set h
+  names_outer OpenUpdate h = (tt, tt)
+  names_outer OpenInquiry h = (tt, tt)
+  names_outer Close h = (tt, tt)
+  names_outer (Find path) h = (tt, tt)
+  names_outer (Create set) h = (outer_of desc run.kinds set h, tt)
   names_outer (Put set settings) h = (outer_of desc run.kinds set h.0, settings_plain (items_of (structure_of desc set)) settings h.1)
-  names_outer (Get set items) h = tt
-  names_outer (Store set) h = tt
-  names_outer (Begin audit) h = tt
-  names_outer (End audit sync) h = tt
-  names_outer Abort h = tt
+  names_outer (Get set items) h = (tt, tt)
+  names_outer (Store set) h = (tt, tt)
+  names_outer (Begin audit) h = (tt, tt)
+  names_outer (End audit sync) h = (tt, tt)
+  names_outer Abort h = (tt, tt)
 
   spoken_so : (l : Line) (name : List ℕ) (verb : Verb) → SpeaksWell desc l → l ≡ Spoken name verb → MaySay name verb
   spoken_so l name verb h e = let h' : SpeaksWell desc (Spoken name verb) = subst (SpeaksWell desc) e h in record { named = h'.0; outer = names_outer verb h'.1 }

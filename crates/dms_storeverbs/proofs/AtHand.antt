@@ -17,9 +17,9 @@ use Rattle.dms_model.specs.declared.program.Program.{Program}
 use Rattle.dms_model.specs.declared.spot.Spot.{Spot}
 use Rattle.dms_model.specs.declared.verb.Setting.{Setting}
 use Rattle.dms_model.specs.Areas.{InitialsFit, ProgramsFit, WorkFits, WorksFit}
-use Rattle.dms_model.specs.AreaLaws.{backed_works, created_works, found_works, new_works, none_fits, put_works, stored_works}
+use Rattle.dms_model.specs.AreaLaws.{backed_works, created_works, found_works, new_works, no_owner, none_fits, put_works, stored_works}
 use Rattle.dms_model.specs.Fitting.{IsNumber, RecordFits, SpotFits}
-use Rattle.dms_model.specs.Session.{area_values, backed_out, carried, filled, found_program, idle, let_go, new_program, Values', with_values, with_work, work_of}
+use Rattle.dms_model.specs.Session.{area_values, backed_out, carried, filled, found_program, idle, let_go, new_program, owner_for, Values', with_values, with_work, work_of}
 use Rattle.dms_model.specs.Spoken.{IsOuter, IsPlainLiteral}
 use Rattle.dms_model.specs.Verbs.{IsSettingOf}
 use Rattle.dms_laws.proofs.Lists.{all_mapped, all_pushed, all_set, all_without}
@@ -61,11 +61,11 @@ same_at (p ∷ ps) zero x y low at at' = at ∙ sym at'
 same_at (p ∷ ps) (suc i) x y low at at' = same_at ps i x y (omega (arith, low)) at at'
 
 -- CREATE
-pub created_as : (desc : Described) (x y : Program) (set : ℕ) (values : List Value) → y ≡ carried (let_go (with_work x set (record { current = None; area = Some (New values 0) })) set)
-    → values ≡ map (λ (t : Item). t.initial) (items_of (structure_of desc set)) → InitialsFit desc → IsOuter (structure_of desc set) → WorksFit desc x → WorksFit desc y
-created_as desc x y set values is values_is initials outer fit =
+pub created_as : (desc : Described) (x y : Program) (set owner : ℕ) (values : List Value) → y ≡ carried (let_go (with_work x set (record { current = None; area = Some (New values owner) })) set)
+    → values ≡ map (λ (t : Item). t.initial) (items_of (structure_of desc set)) → owner_for desc x set ≡ Some owner → InitialsFit desc → IsOuter (structure_of desc set) → WorksFit desc x → WorksFit desc y
+created_as desc x y set owner values is values_is own initials outer fit =
     subst (WorksFit desc) (sym is)
-    (subst (λ (vs : List Value). WorksFit desc (let_go (with_work x set (record { current = None; area = Some (New vs 0) })) set)) (sym values_is) (created_works desc x set initials outer fit))
+    (subst (λ (vs : List Value). WorksFit desc (let_go (with_work x set (record { current = None; area = Some (New vs owner) })) set)) (sym values_is) (created_works desc x set owner initials outer (no_owner desc x set owner outer.disjoint own) fit))
 
 plain_texts : (items : List Item) (ts : List Setting) → AllByRecursion (IsSettingOf items) ts → AllByRecursion (λ (t : Setting). IsPlainLiteral t.literal) ts
 plain_texts items [] h = tt

@@ -9,6 +9,7 @@ use Rattle.dms_desc.specs.declared.record.Record.{Record}
 use Rattle.dms_desc.specs.Shape.{Described}
 use Rattle.dms_model.specs.declared.program.Program.{Program}
 use Rattle.dms_model.specs.declared.put.Put.{Put}
+use Rattle.dms_model.specs.declared.reply.Reply.TheVariants.{Exception}
 use Rattle.dms_model.specs.declared.put.Put.TheVariants.{Stored, Duplicate, Full}
 use Rattle.dms_model.specs.Db.{Db, Place, Records}
 use Rattle.dms_desc.specs.Lookups.{structure_of, name_of}
@@ -24,7 +25,7 @@ use Rattle.dms_storeverbs.specs.Keeping.{KeptIs}
 use Rattle.dms_storeverbs.specs.Storing.{IsReady, put_record, with_stored}
 use Rattle.dms_storeverbs.specs.View.{View, StandsFor, view_of}
 
-pub kept_refused : (k : StoreResult) (r : Refusal) (i : ℕ) (s : Session) (v : View) → k ≡ Refused r.category r.name → StandsFor v s → KeptIs k i s (Some r) v
+pub kept_refused : (k : StoreResult) (r : Refusal) (i : ℕ) (s : Session) (v : View) → k ≡ Refused (Exception r.category r.name) → StandsFor v s → KeptIs k i s (Some r) v
 kept_refused k r i s v is stands = subst (λ (x : StoreResult). KeptIs x i s (Some r) v) (sym is) (refl, stands)
 
 owner_so : (records : Records) (set owner : ℕ) → set ≡ 0 → owner ≡ 0 → IsTrue (owner_stands records set owner)
@@ -65,10 +66,10 @@ module _ (desc desc' : Described) (told new mark : Option Db) (next since : ℕ)
       subst (λ (x : StoreResult). KeptIs x i s None (view_of new mark next programs pending since)) (sym (keeps (Stored n) puts))
       (refl, record { db = left_db (Stored n) puts; mark = mark_is; next = next_is; programs = programs_is ∙ ap (λ (x : Program). slice_set s.programs i x) q_is; pending = pending_is; since = since_is })
 
-  kept_not : (a : Put) (c : Category) (name name' : List ℕ) → put_record a desc p s.db set rec ≡ Refused c name → put_after a desc s.db set rec ≡ s.db → Puts told new desc' set number rec a → name' ≡ name → programs ≡ s.programs → KeptIs k i s (Some (record { category = c; name = name' })) (view_of new mark next programs pending since)
+  kept_not : (a : Put) (c : Category) (name name' : List ℕ) → put_record a desc p s.db set rec ≡ Refused (Exception c name) → put_after a desc s.db set rec ≡ s.db → Puts told new desc' set number rec a → name' ≡ name → programs ≡ s.programs → KeptIs k i s (Some (record { category = c; name = name' })) (view_of new mark next programs pending since)
   kept_not a c name name' not same puts name_is programs_is =
       subst (λ (x : StoreResult). KeptIs x i s (Some (record { category = c; name = name' })) (view_of new mark next programs pending since)) (sym (keeps a puts ∙ not))
-      (ap (λ (x : List ℕ). Some (record { category = c; name = x })) name_is, record { db = left_db a puts ∙ ap (λ (d : Db). Some d) same; mark = mark_is; next = next_is; programs = programs_is; pending = pending_is; since = since_is })
+      (ap (λ (x : List ℕ). Some (Exception c x)) name_is, record { db = left_db a puts ∙ ap (λ (d : Db). Some d) same; mark = mark_is; next = next_is; programs = programs_is; pending = pending_is; since = since_is })
 
   pub kept_duplicate : (d : ℕ) (name : List ℕ) → Puts told new desc' set number rec (Duplicate d) → name ≡ name_of (structure_of desc d) → programs ≡ s.programs → KeptIs k i s (Some (record { category = Duplicates; name = name })) (view_of new mark next programs pending since)
   kept_duplicate d name puts name_is programs_is = kept_not (Duplicate d) Duplicates (name_of (structure_of desc d)) name refl refl puts name_is programs_is

@@ -14,12 +14,16 @@ use Rattle.dms_model.specs.declared.reply.Reply.TheVariants.{Exception}
 use Rattle.dms_model.specs.declared.put.Put.{Put}
 use Rattle.dms_model.specs.declared.put.Put.TheVariants.{Stored, Duplicate, Full}
 use Rattle.dms_model.specs.declared.spot.Spot.{Spot}
+use Rattle.dms_model.specs.declared.verb.Path.{Path}
 use Rattle.dms_model.specs.declared.verb.Setting.{Setting}
 use Rattle.dms_model.specs.Db.{Db}
 use Rattle.dms_desc.specs.Lookups.{name_of, structure_of, items_of, set_of}
-use Rattle.dms_model.specs.Stores.{put_answer}
-use Rattle.dms_model.specs.Session.{Session, Outcome, StoreResult, Refused, Keeps, Filled, Misfit, Values', refuse, done, shows, settle, keep, store_step, after_store, begin_step, after_begin, begin_unless, awaited, end_step, after_end, abort_step, find_step, after_find, found_by, create_step, put_step, put_area, after_put, filled, get_step, get_area, close_step, open_as, open_step, verb_step, step_at, step, with_program, work_of, restart_of, someone_works, is_inquiry, opens, changes, path_of, new_program, place_of, carried, entered, left, without, idle, found_program, let_go, area_kept, kept_unless, put_kept, missing_from, verified, area_values, area_number, record_of, is_free, one_more}
+use Rattle.dms_model.specs.Stores.{put_after}
+use Rattle.dms_model.specs.StoreLaws.{keep_any}
+use Rattle.dms_model.specs.declared.reply.Reply.{Reply}
+use Rattle.dms_model.specs.Session.{Session, Outcome, StoreResult, Refused, Keeps, Filled, Misfit, Values', refuse, done, shows, settle, keep, store_step, after_store, begin_step, after_begin, begun, replies, stored_program, end_step, after_end, abort_step, find_step, find_for, after_find, found_by, create_step, create_for, owner_for, put_step, put_area, after_put, filled, get_step, get_area, close_step, open_as, open_in, open_step, verb_step, step_at, step, with_program, work_of, restart_of, someone_works, is_inquiry, opens, changes, path_of, new_program, place_of, carried, entered, left, without, idle, found_program, let_go, area_values, area_number, record_of, is_free, one_more}
 use Rattle.dms_model.specs.BackOut.{asks_back_out}
+use Rattle.dms_model.specs.Traits.{traits}
 use Rattle.dms_storeverbs.specs.Laws.{MakesNone, MakesWhereQuiet, falls_quiet, QuietRule}
 
 -- no quiet point was made, and someone who worked still works
@@ -91,6 +95,9 @@ makes_if : (verb : Verb) (s : Session) (b : Bool) (x y : Outcome) → MakesWhere
 makes_if verb s true x y p q = p
 makes_if verb s false x y p q = q
 
+pub steady_replies : (s : Session) (r : Reply) → Steady s (replies s r)
+steady_replies s r = record { none = record { quiets = refl; next = refl; mark = refl; unsynced = refl }; works = λ h. h }
+
 pub steady_refuse : (s : Session) (c : Category) (n : List ℕ) → Steady s (refuse s c n)
 steady_refuse s c n = record { none = record { quiets = refl; next = refl; mark = refl; unsynced = refl }; works = λ h. h }
 
@@ -104,44 +111,29 @@ module _ (s : Session) (i : ℕ) (p : Program) (at : slice_get s.programs i ≡ 
 
   -- storing leaves the program at work as it was
   abbrev pub SameWork : StoreResult → Type 0
-  SameWork (Refused c n) = Unit {0}
+  SameWork (Refused r) = Unit {0}
   SameWork (Keeps q db) = q.in_transaction ≡ p.in_transaction
 
   pub same_if : (b : Bool) (x y : StoreResult) → SameWork x → SameWork y → SameWork (cond b x y)
   same_if true x y u v = u
   same_if false x y u v = v
 
-  put_same : (answer : Put) (desc : Described) (db : Db) (set : ℕ) (a : Area) → SameWork (put_kept answer desc p db set a)
-  put_same (Stored number) desc db set a = cond_works _ p.in_transaction _ _ refl refl
-  put_same (Duplicate d) desc db set a = tt
-  put_same Full desc db set a = tt
-
-  unless_same : (o : Option (List ℕ)) (desc : Described) (db : Db) (set : ℕ) (a : Area) (current : Option ℕ) → SameWork (kept_unless o desc p db set a current)
-  unless_same (Some item) desc db set a current = tt
-  unless_same None desc db set a current = same_if (verified (structure_of desc set) (area_values a)) (put_kept (put_answer desc db set (area_number a current) (record_of a)) desc p db set a) (Refused DataError (name_of (structure_of desc set))) (put_same (put_answer desc db set (area_number a current) (record_of a)) desc db set a) tt
-
-  area_same : (o : Option Area) (desc : Described) (db : Db) (set : ℕ) (current : Option ℕ) → SameWork (area_kept o desc p db set current)
-  area_same None desc db set current = tt
-  area_same (Some a) desc db set current = same_if (is_free a p set current) (kept_unless (missing_from 0 (items_of (structure_of desc set)) (area_values a)) desc p db set a current) (Refused NotLocked (name_of (structure_of desc set))) (unless_same (missing_from 0 (items_of (structure_of desc set)) (area_values a)) desc db set a current) tt
+  kept_same : (desc : Described) (db : Db) (set : ℕ) (a : Area) (n : ℕ) → SameWork (Keeps (stored_program p set n a) (put_after (Stored n) desc db set (record_of a)))
+  kept_same desc db set a n = cond_works _ p.in_transaction _ _ refl refl
 
   pub keep_same : (desc : Described) (db : Db) (set : ℕ) → SameWork (keep desc p db set)
-  unfolding keep
-  keep_same desc db set = area_same (work_of p set).area desc db set (work_of p set).current
+  keep_same desc db set = keep_any SameWork desc p db set (λ a n may. kept_same desc db set a n) (λ r. tt)
 
   pub if_same : (audit : Bool) (desc : Described) → SameWork (cond audit (keep desc p s.db (restart_of desc)) (Keeps p s.db))
   if_same audit desc = same_if audit (keep desc p s.db (restart_of desc)) (Keeps p s.db) (keep_same desc s.db (restart_of desc)) refl
 
   store_steady : (k : StoreResult) → SameWork k → Steady s (after_store k i s)
-  store_steady (Refused c n) same = steady_refuse s c n
+  store_steady (Refused r) same = steady_replies s r
   store_steady (Keeps q db) same = steady_shows s _ [] refl refl (λ w. set_works s.programs i p (carried q) at same ∙ w)
 
   after_begin_steady : (k : StoreResult) → Steady s (after_begin k i s)
-  after_begin_steady (Refused c n) = steady_refuse s c n
+  after_begin_steady (Refused r) = steady_replies s r
   after_begin_steady (Keeps q db) = steady_shows s _ [] refl refl (λ w. set_enters s.programs i p (entered q) at refl)
-
-  begin_steady : (who : List (List ℕ)) (desc : Described) (audit : Bool) → Steady s (begin_unless who desc i p s audit)
-  begin_steady [] desc audit = after_begin_steady (cond audit (keep desc p s.db (restart_of desc)) (Keeps p s.db))
-  begin_steady (q ∷ qs) desc audit = record { none = record { quiets = refl; next = refl; mark = refl; unsynced = refl }; works = λ h. h }
 
   pub let_go_works : (q : Program) (set : ℕ) → (let_go q set).in_transaction ≡ q.in_transaction
   let_go_works q set = cond_works q.in_transaction q.in_transaction _ _ refl refl
@@ -149,6 +141,14 @@ module _ (s : Session) (i : ℕ) (p : Program) (at : slice_get s.programs i ≡ 
   pub find_steady : (r : Option Spot) (desc : Described) (x : ℕ) → Steady s (after_find r desc i p s x)
   find_steady None desc x = steady_refuse s _ _
   find_steady (Some r) desc x = steady_at (carried (found_program p (set_of desc x) r)) [] (let_go_works _ (set_of desc x))
+
+  pub find_for_steady : (o : Option ℕ) (desc : Described) (path : Path) → Steady s (find_for o desc i p s path)
+  find_for_steady None desc path = steady_refuse s _ _
+  find_for_steady (Some owner) desc path = find_steady (found_by desc s.db owner path) desc (path_of path)
+
+  pub create_for_steady : (o : Option ℕ) (desc : Described) (set : ℕ) → Steady s (create_for o desc i p s set)
+  create_for_steady None desc set = steady_refuse s _ _
+  create_for_steady (Some owner) desc set = steady_at _ [] (let_go_works _ set)
 
   after_put_steady : (f : Filled) (set : ℕ) (a : Area) → Steady s (after_put f i p s set a)
   after_put_steady (Misfit item) set a = steady_refuse s _ _
@@ -182,7 +182,7 @@ or_pending true b c h = refl
 or_pending false b c h = absurd (cc)
 
 end_rule : (desc : Described) (s : Session) (i : ℕ) (p : Program) (verb : Verb) (k : StoreResult) (sync : Bool) → asks_back_out verb ≡ false → someone_works s.programs ≡ true → MakesWhereQuiet (falls_quiet verb s (after_end k desc i s sync).session) s (after_end k desc i s sync)
-end_rule desc s i p verb (Refused c n) sync other works = by_steady verb s (refuse s c n) (steady_refuse s c n)
+end_rule desc s i p verb (Refused r) sync other works = by_steady verb s (replies s r) (steady_replies s r)
 end_rule desc s i p verb (Keeps q db) sync other works =
     let t : Session = record s { db = db; programs = slice_set s.programs i (left q); pending = s.pending || sync || nat_le desc.syncpoint (one_more s.since); since = one_more s.since } in
     settle_at verb s t (someone_works t.programs) t.pending other works refl refl (or_pending s.pending sync (nat_le desc.syncpoint (one_more s.since))) refl refl
@@ -200,12 +200,12 @@ unfolding verb_step store_step begin_step end_step abort_step find_step create_s
 verb_rule desc i p s OpenUpdate at = by_steady OpenUpdate s _ (steady_refuse s _ _)
 verb_rule desc i p s OpenInquiry at = by_steady OpenInquiry s _ (steady_refuse s _ _)
 verb_rule desc i p s Close at = by_steady Close s _ (close_steady s i p at p.in_transaction refl)
-verb_rule desc i p s (Find path) at = by_steady (Find path) s _ (find_steady s i p at (found_by desc s.db path) desc (path_of path))
-verb_rule desc i p s (Create set) at = by_steady (Create set) s _ (steady_at s i p at _ [] (let_go_works s i p at _ set))
+verb_rule desc i p s (Find path) at = by_steady (Find path) s _ (find_for_steady s i p at (owner_for desc p (path_of path)) desc path)
+verb_rule desc i p s (Create set) at = by_steady (Create set) s _ (create_for_steady s i p at (owner_for desc p set) desc set)
 verb_rule desc i p s (PutItems set settings) at = by_steady (PutItems set settings) s _ (put_steady s i p at (work_of p set).area desc set settings)
 verb_rule desc i p s (Get set items) at = by_steady (Get set items) s _ (get_steady s i p at (work_of p set).area desc set items)
 verb_rule desc i p s (Store set) at = by_steady (Store set) s _ (store_rule s i p at p.in_transaction desc set)
-verb_rule desc i p s (Begin audit) at = by_steady (Begin audit) s _ (steady_if s p.in_transaction _ _ (steady_refuse s AuditError p.name) (steady_if s (audit && not (is_some (work_of p (restart_of desc)).area)) _ _ (steady_refuse s NoRecord (name_of (structure_of desc (restart_of desc)))) (begin_steady s i p at (awaited s) desc audit)))
+verb_rule desc i p s (Begin audit) at = by_steady (Begin audit) s _ (steady_if s p.in_transaction (refuse s AuditError p.name) (after_begin (begun desc p s audit) i s) (steady_refuse s AuditError p.name) (after_begin_steady s i p at (begun desc p s audit)))
 verb_rule desc i p s (End audit sync) at = end_at desc s i p at p.in_transaction audit sync refl
 verb_rule desc i p s Abort at = none_if s p.in_transaction _ _ (record { quiets = refl; next = refl; mark = refl; unsynced = refl }) (record { quiets = refl; next = refl; mark = refl; unsynced = refl })
 
@@ -214,19 +214,13 @@ open_as_steady desc s name mode =
     let opened : Session = record s { programs = s.programs ++ new_program desc name mode ∷ [] } in
     steady_if s (nat_le 64 (length s.programs)) (refuse s LimitError name) (done opened) (steady_refuse s LimitError name) (steady_shows s opened [] refl refl (push_works s.programs (new_program desc name mode)))
 
+open_in_steady : (o : Option Mode) (desc : Described) (s : Session) (name : List ℕ) → Steady s (open_in o desc s name)
+open_in_steady None desc s name = steady_refuse s _ _
+open_in_steady (Some mode) desc s name = open_as_steady desc s name mode
+
 pub open_steady : (desc : Described) (s : Session) (name : List ℕ) (v : Verb) → Steady s (open_step desc s name v)
 unfolding open_step
-open_steady desc s name OpenUpdate = open_as_steady desc s name _
-open_steady desc s name OpenInquiry = open_as_steady desc s name _
-open_steady desc s name Close = steady_refuse s _ _
-open_steady desc s name (Find path) = steady_refuse s _ _
-open_steady desc s name (Create set) = steady_refuse s _ _
-open_steady desc s name (PutItems set settings) = steady_refuse s _ _
-open_steady desc s name (Get set items) = steady_refuse s _ _
-open_steady desc s name (Store set) = steady_refuse s _ _
-open_steady desc s name (Begin audit) = steady_refuse s _ _
-open_steady desc s name (End audit sync) = steady_refuse s _ _
-open_steady desc s name Abort = steady_refuse s _ _
+open_steady desc s name v = open_in_steady (traits v).opens desc s name
 
 abbrev pub due_outcome : Session → ℕ → Program → List ℕ → Outcome
 due_outcome s i p name = record { session = with_program s i (record p { owes_abort = false }); reply = Exception AbortDue name; sync = None; quiets = [] }

@@ -9,11 +9,14 @@ use Rattle.dms_model.specs.declared.program.Area.{Area}
 use Rattle.dms_model.specs.declared.verb.Verb.{Verb}
 use Rattle.dms_model.specs.declared.verb.Verb.TheVariants.{OpenUpdate, OpenInquiry, Close, Find, Create, Put as PutItems, Get, Store, Begin, End, Abort}
 use Rattle.dms_model.specs.declared.spot.Spot.{Spot}
+use Rattle.dms_model.specs.declared.verb.Path.{Path}
 use Rattle.dms_model.specs.declared.verb.Setting.{Setting}
 use Rattle.dms_desc.specs.Lookups.{structure_of, items_of}
-use Rattle.dms_model.specs.Session.{Session, Outcome, StoreResult, Refused, Keeps, Filled, Misfit, Values', refuse, done, settle, keep, store_step, after_store, begin_step, after_begin, begin_unless, awaited, end_step, after_end, abort_step, find_step, after_find, found_by, create_step, put_step, put_area, after_put, filled, get_step, get_area, close_step, open_step, verb_step, step_at, step, work_of, restart_of, someone_works, is_inquiry, opens, changes, path_of, place_of, carried, entered, left, without, one_more, area_values}
+use Rattle.dms_model.specs.Session.{Session, Outcome, StoreResult, Refused, Keeps, Filled, Misfit, Values', refuse, done, settle, keep, store_step, after_store, begin_step, after_begin, begun, end_step, after_end, abort_step, find_step, find_for, after_find, found_by, create_step, create_for, owner_for, put_step, put_area, after_put, filled, get_step, get_area, close_step, open_in, open_step, verb_step, step_at, step, work_of, restart_of, someone_works, is_inquiry, opens, changes, path_of, place_of, carried, entered, left, without, one_more, area_values}
+use Rattle.dms_model.specs.declared.program.Mode.{Mode}
+use Rattle.dms_model.specs.Traits.{traits}
 use Rattle.dms_storeverbs.specs.Laws.{Rests, RestRule}
-use Rattle.dms_storeverbs.proofs.Quiet.{Steady, set_enters, SameWork, keep_same, find_steady, get_steady, close_steady, steady_at, let_go_works, open_steady, due_outcome, set_works}
+use Rattle.dms_storeverbs.proofs.Quiet.{Steady, set_enters, SameWork, keep_same, find_steady, get_steady, close_steady, steady_at, let_go_works, create_for_steady, open_steady, due_outcome, set_works}
 
 -- what an outcome makes of it
 abbrev Resting : Session → Outcome → Type 0
@@ -42,19 +45,15 @@ settle_rests s t false false works pending = rw (works, pending) (λ is idle. re
 
 module _ (s : Session) (i : ℕ) (p : Program) (at : slice_get s.programs i ≡ Some p) where
   store_rests : (k : StoreResult) → SameWork s i p at k → p.in_transaction ≡ true → Resting s (after_store k i s)
-  store_rests (Refused c n) same is = λ r. r
+  store_rests (Refused reply) same is = λ r. r
   store_rests (Keeps q db) same is = working s (after_store (Keeps q db) i s) (set_enters s.programs i p (carried q) at (same ∙ is))
 
   begin_rests : (k : StoreResult) → Resting s (after_begin k i s)
-  begin_rests (Refused c n) = λ r. r
+  begin_rests (Refused reply) = λ r. r
   begin_rests (Keeps q db) = working s (after_begin (Keeps q db) i s) (set_enters s.programs i p (entered q) at refl)
 
-  unless_rests : (who : List (List ℕ)) (desc : Described) (audit : Bool) → Resting s (begin_unless who desc i p s audit)
-  unless_rests [] desc audit = begin_rests (cond audit (keep desc p s.db (restart_of desc)) (Keeps p s.db))
-  unless_rests (q ∷ qs) desc audit = λ r. r
-
   end_rests : (k : StoreResult) (desc : Described) (sync : Bool) → Resting s (after_end k desc i s sync)
-  end_rests (Refused c n) desc sync = λ r. r
+  end_rests (Refused reply) desc sync = λ r. r
   end_rests (Keeps q db) desc sync =
       let t : Session = record s { db = db; programs = slice_set s.programs i (left q); pending = s.pending || sync || nat_le desc.syncpoint (one_more s.since); since = one_more s.since } in
       settle_rests s t (someone_works t.programs) t.pending refl refl
@@ -66,6 +65,14 @@ module _ (s : Session) (i : ℕ) (p : Program) (at : slice_get s.programs i ≡ 
   find_rests : (r : Option Spot) (desc : Described) (x : ℕ) → Resting s (after_find r desc i p s x)
   find_rests None desc x = resting s _ (find_steady s i p at None desc x) refl
   find_rests (Some r) desc x = resting s _ (find_steady s i p at (Some r) desc x) refl
+
+  find_for_rests : (o : Option ℕ) (desc : Described) (path : Path) → Resting s (find_for o desc i p s path)
+  find_for_rests None desc path = λ r. r
+  find_for_rests (Some owner) desc path = find_rests (found_by desc s.db owner path) desc (path_of path)
+
+  create_for_rests : (o : Option ℕ) (desc : Described) (set : ℕ) → Resting s (create_for o desc i p s set)
+  create_for_rests None desc set = λ r. r
+  create_for_rests (Some owner) desc set = resting s _ (create_for_steady s i p at (Some owner) desc set) refl
 
   after_put_rests : (f : Filled) (set : ℕ) (a : Area) → Resting s (after_put f i p s set a)
   after_put_rests (Misfit item) set a = λ r. r
@@ -88,12 +95,12 @@ unfolding verb_step store_step begin_step end_step abort_step find_step create_s
 verb_rests desc i p s OpenUpdate at = λ r. r
 verb_rests desc i p s OpenInquiry at = λ r. r
 verb_rests desc i p s Close at = close_rests s i p at p.in_transaction refl
-verb_rests desc i p s (Find path) at = find_rests s i p at (found_by desc s.db path) desc (path_of path)
-verb_rests desc i p s (Create set) at = resting s _ (steady_at s i p at _ [] (let_go_works s i p at _ set)) refl
+verb_rests desc i p s (Find path) at = find_for_rests s i p at (owner_for desc p (path_of path)) desc path
+verb_rests desc i p s (Create set) at = create_for_rests s i p at (owner_for desc p set) desc set
 verb_rests desc i p s (PutItems set settings) at = put_rests s i p at (work_of p set).area desc set settings
 verb_rests desc i p s (Get set items) at = get_rests s i p at (work_of p set).area desc set items
 verb_rests desc i p s (Store set) at = store_at s i p at p.in_transaction refl desc set
-verb_rests desc i p s (Begin audit) at = resting_if s p.in_transaction _ _ (λ r. r) (resting_if s (audit && not (is_some (work_of p (restart_of desc)).area)) _ _ (λ r. r) (unless_rests s i p at (awaited s) desc audit))
+verb_rests desc i p s (Begin audit) at = resting_if s p.in_transaction (refuse s AuditError p.name) (after_begin (begun desc p s audit) i s) (λ r. r) (begin_rests s i p at (begun desc p s audit))
 verb_rests desc i p s (End audit sync) at = resting_if s p.in_transaction _ _ (end_rests s i p at (cond audit (keep desc p s.db (restart_of desc)) (Keeps p s.db)) desc sync) (λ r. r)
 verb_rests desc i p s Abort at = resting_if s p.in_transaction _ _ (λ is idle. refl) (λ r. r)
 
@@ -101,19 +108,13 @@ open_db : (s : Session) (b : Bool) (x y : Outcome) → x.session.db ≡ s.db →
 open_db s true x y e f = e
 open_db s false x y e f = f
 
+open_in_db : (o : Option Mode) (desc : Described) (s : Session) (name : List ℕ) → (open_in o desc s name).session.db ≡ s.db
+open_in_db None desc s name = refl
+open_in_db (Some mode) desc s name = open_db s (nat_le 64 (length s.programs)) (refuse s LimitError name) _ refl refl
+
 opened_db : (desc : Described) (s : Session) (name : List ℕ) (v : Verb) → (open_step desc s name v).session.db ≡ s.db
 unfolding open_step
-opened_db desc s name OpenUpdate = open_db s (nat_le 64 (length s.programs)) (refuse s LimitError name) _ refl refl
-opened_db desc s name OpenInquiry = open_db s (nat_le 64 (length s.programs)) (refuse s LimitError name) _ refl refl
-opened_db desc s name Close = refl
-opened_db desc s name (Find path) = refl
-opened_db desc s name (Create set) = refl
-opened_db desc s name (PutItems set settings) = refl
-opened_db desc s name (Get set items) = refl
-opened_db desc s name (Store set) = refl
-opened_db desc s name (Begin audit) = refl
-opened_db desc s name (End audit sync) = refl
-opened_db desc s name Abort = refl
+opened_db desc s name v = open_in_db (traits v).opens desc s name
 
 step_at_rests : (desc : Described) (o : Option Program) (i : ℕ) (s : Session) (name : List ℕ) (v : Verb) → slice_get s.programs i ≡ o → Resting s (step_at desc o i s name v)
 step_at_rests desc None i s name v at = resting s _ (open_steady desc s name v) (opened_db desc s name v)

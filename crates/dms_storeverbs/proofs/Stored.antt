@@ -1,9 +1,12 @@
 -- What a store's answer says, told of the record and of the area, and which areas may be stored.
-use Rattle.std.proofs.Common.{◌≡◌, ◌<◌, ◌^◌, ℕ, true, Some, None, refl, sym, subst, arith}
-use Rattle.std.specs.Prelude.{IfSome, IsTrue}
+use Rattle.std.proofs.Common.{◌≡◌, ◌<◌, ◌^◌, ◌∙◌, ℕ, List, Bool, true, false, cond, not, Some, None, refl, ap, sym, subst, arith}
+use Rattle.std.specs.Prelude.{IfSome, IsTrue, is_some}
 use Rattle.std.specs.declared.option.Option.{Option}
 use Rattle.dms_desc.specs.declared.record.Record.{Record}
-use Rattle.dms_desc.specs.Lookups.{items_of, structure_of}
+use Rattle.dms_desc.specs.Lookups.{items_of, name_of, structure_of}
+use Rattle.dms_base.specs.declared.category.Category.TheVariants.{DataError, NoRecord, NotLocked}
+use Rattle.dms_model.specs.declared.reply.Reply.{Reply}
+use Rattle.dms_model.specs.declared.reply.Reply.TheVariants.{Exception}
 use Rattle.dms_desc.specs.Shape.{Shape, Described}
 use Rattle.dms_model.specs.declared.program.Program.{Program}
 use Rattle.dms_model.specs.declared.program.Area.{Area}
@@ -13,15 +16,51 @@ use Rattle.dms_model.specs.declared.put.Put.TheVariants.{Stored, Duplicate, Full
 use Rattle.dms_model.specs.Db.{Db}
 use Rattle.dms_model.specs.Areas.{AreaFits, WorksFit}
 use Rattle.dms_model.specs.Fitting.{AreFitting, IsNumber, RecordFits, is_number}
-use Rattle.dms_model.specs.Session.{area_number, area_values, is_free, missing_from, put_kept, record_of, verified, work_of}
+use Rattle.dms_model.specs.Session.{StoreResult, Refused, area_answer, area_number, area_values, current_of, is_free, keep, kept_with, missing_from, or_no_area, or_unknown, put_of, record_of, unless, verified, work_of}
 use Rattle.dms_model.specs.Spoken.{IsOuter}
 use Rattle.dms_laws.specs.Exclusive.{locks_it}
 use Rattle.dms_storeverbs.specs.Storing.{IsReady, put_record}
 
-pub put_records : (answer : Put) (desc : Described) (p : Program) (db : Db) (set : ℕ) (a : Area) → put_kept answer desc p db set a ≡ put_record answer desc p db set (record_of a)
-put_records (Stored number) desc p db set a = refl
-put_records (Duplicate d) desc p db set a = refl
-put_records Full desc p db set a = refl
+-- ---- the list of refusals, one after another
+
+held : (b : Bool) (r : Reply) (o : Option Reply) (k : StoreResult) → b ≡ true → unless (cond b (Some r) o) k ≡ Refused r
+held b r o k is = rw is refl
+
+off : (b : Bool) (r : Reply) (o : Option Reply) (k : StoreResult) (x : StoreResult) → b ≡ false → unless o k ≡ x → unless (cond b (Some r) o) k ≡ x
+off b r o k x is next = rw is next
+
+module _ (desc : Described) (p : Program) (db : Db) (set : ℕ) where
+  pub keep_none : (work_of p set).area ≡ None → keep desc p db set ≡ Refused (Exception NoRecord (name_of (structure_of desc set)))
+  unfolding keep
+  keep_none none = ap (λ (o : Option Area). kept_with o (area_answer desc p db set) desc p db set) none
+
+  module _ (a : Area) (has : (work_of p set).area ≡ Some a) where
+    abbrev answer : Put
+    answer = put_of desc db set a (current_of p set)
+
+    here : keep desc p db set ≡ kept_with (Some a) answer desc p db set
+    unfolding keep
+    here = λ j. kept_with (has j) (put_of desc db set (or_no_area (has j)) (current_of p set)) desc p db set
+
+    pub keep_unlocked : is_free a p set (current_of p set) ≡ false → keep desc p db set ≡ Refused (Exception NotLocked (name_of (structure_of desc set)))
+    keep_unlocked free = here ∙ held _ _ _ _ (ap not free)
+
+    module _ (free : is_free a p set (current_of p set) ≡ true) where
+      pub keep_missing : (item : List ℕ) → missing_from 0 (items_of (structure_of desc set)) (area_values a) ≡ Some item → keep desc p db set ≡ Refused (Exception DataError item)
+      keep_missing item is =
+          here ∙ off _ _ _ _ _ (ap not free) (held _ _ _ _ (ap is_some is) ∙ ap (λ (o : Option (List ℕ)). Refused (Exception DataError (or_unknown o))) is)
+
+      module _ (none : missing_from 0 (items_of (structure_of desc set)) (area_values a) ≡ None) where
+        pub keep_unverified : verified (structure_of desc set) (area_values a) ≡ false → keep desc p db set ≡ Refused (Exception DataError (name_of (structure_of desc set)))
+        keep_unverified met = here ∙ off _ _ _ _ _ (ap not free) (off _ _ _ _ _ (ap is_some none) (held _ _ _ _ (ap not met)))
+
+        by_answer : (o : Put) → verified (structure_of desc set) (area_values a) ≡ true → kept_with (Some a) o desc p db set ≡ put_record o desc p db set (record_of a)
+        by_answer (Stored n) met = off _ _ _ _ _ (ap not free) (off _ _ _ _ _ (ap is_some none) (off _ _ _ _ _ (ap not met) refl))
+        by_answer (Duplicate d) met = off _ _ _ _ _ (ap not free) (off _ _ _ _ _ (ap is_some none) (off _ _ _ _ _ (ap not met) refl))
+        by_answer Full met = off _ _ _ _ _ (ap not free) (off _ _ _ _ _ (ap is_some none) (off _ _ _ _ _ (ap not met) refl))
+
+        pub keep_ready : verified (structure_of desc set) (area_values a) ≡ true → keep desc p db set ≡ put_record answer desc p db set (record_of a)
+        keep_ready met = here ∙ by_answer answer met
 
 -- ---- what is ready
 
@@ -37,10 +76,10 @@ unowned_of desc set a None here outer mine = absurd (let no = outer.data_set in 
 unowned_of desc set (New values owner) (Some shape) here outer mine = (mine shape here).1.0
 unowned_of desc set (Old values) (Some shape) here outer mine = refl
 
-current_of : (desc : Described) (set : ℕ) (current : Option ℕ) (o : Option Shape) → structure_of desc set ≡ o → IsOuter o → ((shape : Shape) → structure_of desc set ≡ Some shape → IfSome current (λ n. IsTrue (is_number (Some shape) n))) → IfSome current (IsNumber desc set)
-current_of desc set None o here outer mine = tt
-current_of desc set (Some n) None here outer mine = absurd (let no = outer.data_set in cc)
-current_of desc set (Some n) (Some shape) here outer mine = subst (λ (x : Option Shape). IsTrue (is_number x n)) (sym here) (mine shape here)
+current_fits : (desc : Described) (set : ℕ) (current : Option ℕ) (o : Option Shape) → structure_of desc set ≡ o → IsOuter o → ((shape : Shape) → structure_of desc set ≡ Some shape → IfSome current (λ n. IsTrue (is_number (Some shape) n))) → IfSome current (IsNumber desc set)
+current_fits desc set None o here outer mine = tt
+current_fits desc set (Some n) None here outer mine = absurd (let no = outer.data_set in cc)
+current_fits desc set (Some n) (Some shape) here outer mine = subst (λ (x : Option Shape). IsTrue (is_number x n)) (sym here) (mine shape here)
 
 number_of : (desc : Described) (set : ℕ) (a : Area) (current : Option ℕ) → IfSome current (IsNumber desc set) → IfSome (area_number a current) (IsNumber desc set)
 number_of desc set (New values owner) current h = tt
@@ -56,7 +95,7 @@ pub ready : (desc : Described) (p : Program) (set : ℕ) (a : Area) (number : Op
     → missing_from 0 (items_of (structure_of desc set)) (area_values a) ≡ None → verified (structure_of desc set) (area_values a) ≡ true → number ≡ area_number a (work_of p set).current → rec ≡ record_of a → IsReady desc p set number rec
 ready desc p set a number rec outer fit has free none met number_is rec_is =
     let mine : ((shape : Shape) → structure_of desc set ≡ Some shape → AreaFits shape (Some a)) = λ shape here. subst (AreaFits shape) has (fit set shape here).area in
-    let current = current_of desc set (work_of p set).current (structure_of desc set) refl outer (λ shape here. (fit set shape here).current) in
+    let current = current_fits desc set (work_of p set).current (structure_of desc set) refl outer (λ shape here. (fit set shape here).current) in
     let made : IsReady desc p set (area_number a (work_of p set).current) (record_of a) = record {
       number_is = number_of desc set a (work_of p set).current current;
       locked = locked_of p set a (work_of p set).current free;

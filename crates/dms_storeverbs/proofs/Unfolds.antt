@@ -6,12 +6,16 @@ use Rattle.std.proofs.lemmas.Option.{slice_get_past}
 use Rattle.dms_base.specs.declared.category.Category.TheVariants.{NoRecord, NotFound, AuditError}
 use Rattle.dms_desc.specs.Shape.{Described}
 use Rattle.dms_model.specs.declared.program.Program.{Program}
-use Rattle.dms_model.specs.declared.reply.Reply.TheVariants.{Waits}
+use Rattle.dms_model.specs.declared.program.Area.{Area}
+use Rattle.dms_model.specs.declared.put.Put.{Put}
+use Rattle.dms_model.specs.declared.reply.Reply.{Reply}
+use Rattle.dms_model.specs.declared.reply.Reply.TheVariants.{Exception, Waits}
+use Rattle.dms_model.specs.Db.{Db}
 use Rattle.dms_model.specs.declared.spot.Spot.{Spot}
 use Rattle.dms_model.specs.declared.verb.Verb.{Verb}
 use Rattle.dms_model.specs.declared.verb.Path.{Path}
 use Rattle.dms_desc.specs.Lookups.{structure_of, name_of, set_of}
-use Rattle.dms_model.specs.Session.{Session, Outcome, refuse, done, keep, store_step, after_store, begin_step, after_begin, begin_unless, awaited, end_step, after_end, find_step, after_find, found_by, found_program, with_program, carried, path_of, restart_of, work_of, step, step_at, open_step, place_of}
+use Rattle.dms_model.specs.Session.{Session, Outcome, StoreResult, Refused, area_answer, area_of, area_refusals, begun, begun_with, first_held, has_some, or_no_area, storing, unless, refuse, done, keep, store_step, after_store, begin_step, after_begin, awaited, end_step, after_end, find_step, find_for, after_find, found_by, owner_for, refuse_unowned, found_program, with_program, carried, path_of, restart_of, work_of, step, step_at, open_step, place_of}
 use Rattle.dms_storeverbs.specs.Keeping.{kept_if}
 
 pub there_is : {A : Type 0} (xs : List A) (i : ℕ) → i < length xs → (x : A) × (slice_get xs i ≡ Some x)
@@ -23,30 +27,48 @@ pub store_goes : (desc : Described) (i : ℕ) (p : Program) (s : Session) (set :
 unfolding store_step
 store_goes desc i p s set works = rw works refl
 
-pub begin_lacks : (desc : Described) (i : ℕ) (p : Program) (s : Session) (audit : Bool) → p.in_transaction ≡ false → (audit && not (is_some (work_of p (restart_of desc)).area)) ≡ true → begin_step desc i p s audit ≡ refuse s NoRecord (name_of (structure_of desc (restart_of desc)))
-unfolding begin_step
-begin_lacks desc i p s audit idle lacks = rw (idle, lacks) refl
-
-begin_at : (who : List (List ℕ)) (desc : Described) (i : ℕ) (p : Program) (s : Session) (audit : Bool) → (who ≡ [] → ⊥) → begin_unless who desc i p s audit ≡ record { session = s; reply = Waits who; sync = None; quiets = [] }
-begin_at [] desc i p s audit some = absurd (some refl)
-begin_at (q ∷ qs) desc i p s audit some = refl
-
 end_if : (a : Bool) (x y : Outcome) → a ≡ false → cond a x y ≡ y
 end_if a x y p = rw p refl
 
-begin_if : (a b : Bool) (x y z : Outcome) → a ≡ false → b ≡ false → cond a x (cond b y z) ≡ z
-begin_if a b x y z p q = rw (p, q) refl
-
--- nothing is refused before the turn of BEGIN's wait
-begin_turn : (desc : Described) (i : ℕ) (p : Program) (s : Session) (audit : Bool) → p.in_transaction ≡ false → (audit && not (is_some (work_of p (restart_of desc)).area)) ≡ false → begin_step desc i p s audit ≡ begin_unless (awaited s) desc i p s audit
+begin_of : (desc : Described) (i : ℕ) (p : Program) (s : Session) (audit : Bool) (k : StoreResult) → p.in_transaction ≡ false → begun desc p s audit ≡ k → begin_step desc i p s audit ≡ after_begin k i s
 unfolding begin_step
-begin_turn desc i p s audit idle has = begin_if p.in_transaction (audit && not (is_some (work_of p (restart_of desc)).area)) (refuse s AuditError p.name) (refuse s NoRecord (name_of (structure_of desc (restart_of desc)))) (begin_unless (awaited s) desc i p s audit) idle has
+begin_of desc i p s audit k idle is = end_if p.in_transaction (refuse s AuditError p.name) (after_begin (begun desc p s audit) i s) idle ∙ ap (λ (x : StoreResult). after_begin x i s) is
+
+yes_held : (b : Bool) (r : Reply) (o : Option Reply) (k : StoreResult) → b ≡ true → unless (cond b (Some r) o) k ≡ Refused r
+yes_held b r o k is = rw is refl
+
+not_held : (b : Bool) (r : Reply) (o : Option Reply) → b ≡ false → cond b (Some r) o ≡ o
+not_held b r o is = rw is refl
+
+-- BEGIN's list: no area of the restart data set
+begun_lacks : (audit : Bool) (who : List (List ℕ)) (o : Option Area) (answer : Put) (desc : Described) (p : Program) (db : Db) (set : ℕ) → (audit && not (is_some o)) ≡ true → begun_with audit who o answer desc p db set ≡ Refused (Exception NoRecord (name_of (structure_of desc set)))
+begun_lacks true who o answer desc p db set lacks = yes_held (not (is_some o)) (Exception NoRecord (name_of (structure_of desc set))) (first_held ((has_some who, Waits who) ∷ area_refusals (or_no_area o) answer desc p set)) (storing (or_no_area o) answer desc p db set) lacks
+begun_lacks false who o answer desc p db set lacks = absurd (cc)
+
+pub begin_lacks : (desc : Described) (i : ℕ) (p : Program) (s : Session) (audit : Bool) → p.in_transaction ≡ false → (audit && not (is_some (work_of p (restart_of desc)).area)) ≡ true → begin_step desc i p s audit ≡ refuse s NoRecord (name_of (structure_of desc (restart_of desc)))
+unfolding begun
+begin_lacks desc i p s audit idle lacks = begin_of desc i p s audit _ idle (begun_lacks audit (awaited s) (area_of p (restart_of desc)) (area_answer desc p s.db (restart_of desc)) desc p s.db (restart_of desc) lacks)
+
+-- its wait
+begun_waits : (audit : Bool) (who : List (List ℕ)) (o : Option Area) (answer : Put) (desc : Described) (p : Program) (db : Db) (set : ℕ) → (audit && not (is_some o)) ≡ false → (who ≡ [] → ⊥) → begun_with audit who o answer desc p db set ≡ Refused (Waits who)
+begun_waits audit [] o answer desc p db set has some = absurd (some refl)
+begun_waits true (q ∷ qs) o answer desc p db set has some = ap (λ (x : Option Reply). unless x (storing (or_no_area o) answer desc p db set)) (not_held (not (is_some o)) (Exception NoRecord (name_of (structure_of desc set))) (Some (Waits (q ∷ qs))) has)
+begun_waits false (q ∷ qs) o answer desc p db set has some = refl
 
 pub begin_waits : (desc : Described) (i : ℕ) (p : Program) (s : Session) (audit : Bool) → p.in_transaction ≡ false → (audit && not (is_some (work_of p (restart_of desc)).area)) ≡ false → (awaited s ≡ [] → ⊥) → begin_step desc i p s audit ≡ record { session = s; reply = Waits (awaited s); sync = None; quiets = [] }
-begin_waits desc i p s audit idle has some = begin_turn desc i p s audit idle has ∙ begin_at (awaited s) desc i p s audit some
+unfolding begun
+begin_waits desc i p s audit idle has some = begin_of desc i p s audit _ idle (begun_waits audit (awaited s) (area_of p (restart_of desc)) (area_answer desc p s.db (restart_of desc)) desc p s.db (restart_of desc) has some)
 
-pub begin_goes : (desc : Described) (i : ℕ) (p : Program) (s : Session) (audit : Bool) → p.in_transaction ≡ false → (audit && not (is_some (work_of p (restart_of desc)).area)) ≡ false → awaited s ≡ [] → begin_step desc i p s audit ≡ after_begin (kept_if audit desc p s.db) i s
-begin_goes desc i p s audit idle has nobody = begin_turn desc i p s audit idle has ∙ ap (λ (who : List (List ℕ)). begin_unless who desc i p s audit) nobody
+-- and the rest, which is that of storing
+begun_goes : (audit : Bool) (desc : Described) (p : Program) (db : Db) → begun_with audit [] (area_of p (restart_of desc)) (area_answer desc p db (restart_of desc)) desc p db (restart_of desc) ≡ kept_if audit desc p db
+unfolding keep
+begun_goes true desc p db = refl
+begun_goes false desc p db = refl
+
+pub begin_goes : (desc : Described) (i : ℕ) (p : Program) (s : Session) (audit : Bool) → p.in_transaction ≡ false → awaited s ≡ [] → begin_step desc i p s audit ≡ after_begin (kept_if audit desc p s.db) i s
+unfolding begun
+begin_goes desc i p s audit idle nobody =
+    begin_of desc i p s audit _ idle (ap (λ (who : List (List ℕ)). begun_with audit who (area_of p (restart_of desc)) (area_answer desc p s.db (restart_of desc)) desc p s.db (restart_of desc)) nobody ∙ begun_goes audit desc p s.db)
 
 pub end_step_goes : (desc : Described) (i : ℕ) (p : Program) (s : Session) (audit sync : Bool) → p.in_transaction ≡ true → end_step desc i p s audit sync ≡ after_end (kept_if audit desc p s.db) desc i s sync
 unfolding end_step
@@ -56,13 +78,17 @@ pub end_outside : (desc : Described) (i : ℕ) (p : Program) (s : Session) (audi
 unfolding end_step
 end_outside desc i p s audit sync idle = end_if p.in_transaction (after_end (kept_if audit desc p s.db) desc i s sync) (refuse s AuditError p.name) idle
 
-pub find_none : (desc : Described) (i : ℕ) (p : Program) (s : Session) (path : Path) → found_by desc s.db path ≡ None → find_step desc i p s path ≡ refuse s NotFound (name_of (structure_of desc (path_of path)))
+pub find_unowned : (desc : Described) (i : ℕ) (p : Program) (s : Session) (path : Path) → owner_for desc p (path_of path) ≡ None → find_step desc i p s path ≡ refuse_unowned desc s (path_of path)
 unfolding find_step
-find_none desc i p s path none = ap (λ (r : Option Spot). after_find r desc i p s (path_of path)) none
+find_unowned desc i p s path nobody = ap (λ (o : Option ℕ). find_for o desc i p s path) nobody
 
-pub find_some : (desc : Described) (i : ℕ) (p : Program) (s : Session) (path : Path) (r : Spot) → found_by desc s.db path ≡ Some r → find_step desc i p s path ≡ done (with_program s i (carried (found_program p (set_of desc (path_of path)) r)))
+pub find_none : (desc : Described) (i : ℕ) (p : Program) (s : Session) (path : Path) (owner : ℕ) → owner_for desc p (path_of path) ≡ Some owner → found_by desc s.db owner path ≡ None → find_step desc i p s path ≡ refuse s NotFound (name_of (structure_of desc (path_of path)))
 unfolding find_step
-find_some desc i p s path r some = ap (λ (t : Option Spot). after_find t desc i p s (path_of path)) some
+find_none desc i p s path owner own none = ap (λ (o : Option ℕ). find_for o desc i p s path) own ∙ ap (λ (r : Option Spot). after_find r desc i p s (path_of path)) none
+
+pub find_some : (desc : Described) (i : ℕ) (p : Program) (s : Session) (path : Path) (owner : ℕ) (r : Spot) → owner_for desc p (path_of path) ≡ Some owner → found_by desc s.db owner path ≡ Some r → find_step desc i p s path ≡ done (with_program s i (carried (found_program p (set_of desc (path_of path)) r)))
+unfolding find_step
+find_some desc i p s path owner r own some = ap (λ (o : Option ℕ). find_for o desc i p s path) own ∙ ap (λ (t : Option Spot). after_find t desc i p s (path_of path)) some
 
 pub step_opens : (desc : Described) (s : Session) (name : List ℕ) (v : Verb) (i : ℕ) → i ≡ place_of name s.programs → length s.programs ≤ i → step desc s name v ≡ open_step desc s name v
 unfolding step

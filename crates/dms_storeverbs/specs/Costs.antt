@@ -7,9 +7,9 @@ use Rattle.dms_model.specs.declared.reply.Answer.{Answer}
 use Rattle.dms_model.specs.declared.reply.Reply.{Reply}
 use Rattle.dms_model.specs.declared.reply.Reply.TheVariants.{Done, Exception, Waits}
 use Rattle.dms_model.specs.declared.verb.Verb.{Verb}
-use Rattle.dms_model.specs.declared.verb.Verb.TheVariants.{OpenUpdate, OpenInquiry, Close, Find, Create, Put, Get, Store, Begin, End, Abort}
 use Rattle.dms_block.specs.Held.{IsUpToOne}
 use Rattle.dms_model.specs.Seen.{Effort, one_up}
+use Rattle.dms_model.specs.Traits.{traits}
 
 abbrev pub is_done : Reply → Bool
 is_done (Done text) = true
@@ -18,31 +18,11 @@ is_done (Waits names) = false
 
 -- the verbs that may store a record: STORE, and BEGIN and END with AUDIT
 abbrev pub stores : Verb → Bool
-stores OpenUpdate = false
-stores OpenInquiry = false
-stores Close = false
-stores (Find path) = false
-stores (Create set) = false
-stores (Put set settings) = false
-stores (Get set items) = false
-stores (Store set) = true
-stores (Begin audit) = audit
-stores (End audit sync) = audit
-stores Abort = false
+stores verb = (traits verb).stores
 
 -- END-TRANSACTION NO-AUDIT, with SYNC or without, takes no memory
 abbrev pub takes_none : Verb → Bool
-takes_none OpenUpdate = false
-takes_none OpenInquiry = false
-takes_none Close = false
-takes_none (Find path) = false
-takes_none (Create set) = false
-takes_none (Put set settings) = false
-takes_none (Get set items) = false
-takes_none (Store set) = false
-takes_none (Begin audit) = false
-takes_none (End audit sync) = not audit
-takes_none Abort = false
+takes_none verb = (traits verb).spares
 
 -- at most 64 blocks of each structure are changed for the one record that is stored, and none where none is
 abbrev pub limit_if : Bool → Described → ℕ

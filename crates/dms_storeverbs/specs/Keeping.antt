@@ -4,13 +4,19 @@ use Rattle.std.specs.declared.option.Option.{Option}
 use Rattle.dms_desc.specs.Shape.{Described}
 use Rattle.dms_model.specs.declared.program.Program.{Program}
 use Rattle.dms_model.specs.Db.{Db}
+use Rattle.dms_model.specs.declared.reply.Reply.{Reply}
+use Rattle.dms_model.specs.declared.reply.Reply.TheVariants.{Exception}
 use Rattle.dms_model.specs.Session.{Session, StoreResult, Refused, Keeps, keep, restart_of}
 use Rattle.dms_storeverbs.specs.declared.refusal.Refusal.{Refusal}
 use Rattle.dms_storeverbs.specs.View.{View, StandsFor}
 
+abbrev pub reply_of : Option Refusal → Option Reply
+reply_of None = None
+reply_of (Some r) = Some (Exception r.category r.name)
+
 -- a refusal leaves all as it was; else the program and the database are those after storing
 abbrev pub KeptIs : StoreResult → ℕ → Session → Option Refusal → View → Type 0
-KeptIs (Refused category name) i s answer new = (answer ≡ Some (record { category = category; name = name })) × StandsFor new s
+KeptIs (Refused reply) i s answer new = (reply_of answer ≡ Some reply) × StandsFor new s
 KeptIs (Keeps p db) i s answer new = (answer ≡ None) × StandsFor new (record s { db = db; programs = slice_set s.programs i p })
 
 -- with AUDIT the area of the restart data set is stored

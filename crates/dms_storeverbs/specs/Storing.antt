@@ -9,6 +9,7 @@ use Rattle.dms_desc.specs.Shape.{Described}
 use Rattle.dms_model.specs.declared.program.Program.{Program}
 use Rattle.dms_model.specs.declared.program.Area.TheVariants.{Old}
 use Rattle.dms_model.specs.declared.put.Put.{Put}
+use Rattle.dms_model.specs.declared.reply.Reply.TheVariants.{Exception}
 use Rattle.dms_model.specs.declared.put.Put.TheVariants.{Stored, Duplicate, Full}
 use Rattle.dms_model.specs.Db.{Db}
 use Rattle.dms_desc.specs.Lookups.{items_of, structure_of, name_of}
@@ -25,12 +26,12 @@ with_stored p set number values = with_lock (with_work p set (record { current =
 -- what the answer of a store says of a record
 abbrev pub put_record : Put → Described → Program → Db → ℕ → Record → StoreResult
 put_record (Stored number) desc p db set rec = Keeps (with_stored p set number rec.values) (put_after (Stored number) desc db set rec)
-put_record (Duplicate d) desc p db set rec = Refused Duplicates (name_of (structure_of desc d))
-put_record Full desc p db set rec = Refused LimitError (name_of (structure_of desc set))
+put_record (Duplicate d) desc p db set rec = Refused (Exception Duplicates (name_of (structure_of desc d)))
+put_record Full desc p db set rec = Refused (Exception LimitError (name_of (structure_of desc set)))
 
 -- a program's area was refused, or the rest is what the store answers to this record, under this number
 abbrev pub MatchesJudging : JudgedRecord → Described → Program → Db → ℕ → Type 0
-MatchesJudging (Not r) desc p db set = keep desc p db set ≡ Refused r.category r.name
+MatchesJudging (Not r) desc p db set = keep desc p db set ≡ Refused (Exception r.category r.name)
 MatchesJudging (Ready number rec) desc p db set = keep desc p db set ≡ put_record (put_answer desc db set number rec) desc p db set rec
 
 -- a record that its data set may hold, without an owner and as its REQUIRED items and VERIFY ask, as a new one or for one that the

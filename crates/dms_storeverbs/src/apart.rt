@@ -5,7 +5,8 @@ ghost use Rattle.dms_model.specs.declared.program.Program.{Program};
 ghost use Rattle.dms_desc.specs.Lookups.{items_of, structure_of};
 ghost use Rattle.dms_model.specs.Areas.{InitialsFit, ProgramsFit};
 ghost use Rattle.dms_model.specs.BackOut.{asks_back_out};
-ghost use Rattle.dms_model.specs.Session.{path_of, open_as, open_step, close_step, create_step, put_step, get_step, opens, changes, is_inquiry};
+ghost use Rattle.dms_model.specs.Session.{path_of, open_as, open_step, close_step, create_step, put_step, get_step, is_inquiry};
+ghost use Rattle.dms_model.specs.Traits.{traits};
 ghost use Rattle.dms_model.specs.Spoken.{IsOuter};
 ghost use Rattle.dms_model.specs.Verbs.{IsSettingOf};
 ghost use Rattle.dms_storeverbs.specs.Apart.{Apart, Admits};
@@ -15,6 +16,7 @@ use crate::areas;
 use crate::filling::{fill, get_text, initial_values, with_values};
 use crate::programs::new_program;
 use crate::refusal::{done, refused};
+use crate::schema::owner_of;
 use dms_base::{Category, Memory, Name};
 use dms_desc::Description;
 use dms_model::{Answer, ItemNumbers, Mode, Path, Program, Reply, Settings, Verb};
@@ -67,31 +69,26 @@ pub fn open(
     ensures unsynced { IfOk result (λ a. a.sync ≡ None) }
     ensures fit { ProgramsFit (described desc.now) programs.new.items }
 {
-    match verb {
-        Verb::OpenUpdate => open_as(alloc, desc, programs, name, Mode::Update),
-        Verb::OpenInquiry => open_as(alloc, desc, programs, name, Mode::Inquiry),
-        Verb::Close
-        | Verb::Find(_)
-        | Verb::Create(_)
-        | Verb::Put(_, _)
-        | Verb::Get(_, _)
-        | Verb::Store(_)
-        | Verb::Begin(_)
-        | Verb::End(_, _)
-        | Verb::Abort => Ok(refused(Category::OpenError, *name)),
+    match opens(verb) {
+        None => Ok(refused(Category::OpenError, *name)),
+        Some(mode) => open_as(alloc, desc, programs, name, mode),
     }
 }
 
-/// Whether a verb opens the database.
-fn opens(verb: &Verb) -> bool
-    ensures { result ≡ opens verb.now }
+/// The mode in which a verb opens the database, where it opens it.
+fn opens(verb: &Verb) -> Option<Mode>
+    ensures { result ≡ (traits verb.now).opens }
 {
-    matches!(verb, Verb::OpenUpdate | Verb::OpenInquiry)
+    match verb {
+        Verb::OpenUpdate => Some(Mode::Update),
+        Verb::OpenInquiry => Some(Mode::Inquiry),
+        _ => None,
+    }
 }
 
 /// Whether a program that opened the database for inquiry is refused a verb.
 fn changes(verb: &Verb) -> bool
-    ensures { result ≡ changes verb.now }
+    ensures { result ≡ (traits verb.now).changes }
 {
     matches!(
         verb,
@@ -118,7 +115,7 @@ pub fn admit(programs: &mut Vec<Program>, i: usize, name: &Name, verb: &Verb) ->
     ensures refused { IfSome result (λ a. (a.sync ≡ None) × (is_done a.reply ≡ false)) }
     ensures admits { (desc : Described) (p : Program) → slice_get programs.old.items i ≡ Some p → Admits result desc p i name.now verb.now programs.old.items programs.new.items }
 {
-    if opens(verb) {
+    if opens(verb).is_some() {
         return Some(refused(Category::OpenError, *name));
     }
     if programs[i].owes_abort {
@@ -163,8 +160,11 @@ pub fn create(
     ensures fit { ProgramsFit (described desc.now) programs.new.items }
     ensures unsynced { IfOk result (λ a. a.sync ≡ None) }
 {
+    let Some(owner) = areas::owner_for(desc, &programs[i], set) else {
+        return Ok(refused(Category::NoRecord, desc.name_of(owner_of(desc, set))));
+    };
     let values = initial_values(alloc, desc.items_of(set))?;
-    areas::create(&mut programs[i], set, values);
+    areas::create(&mut programs[i], set, values, owner);
     Ok(done(alloc))
 }
 

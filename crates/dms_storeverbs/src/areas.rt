@@ -3,12 +3,14 @@ ghost use Rattle.std.specs.List.{list_any};
 ghost use Rattle.std.specs.Option.{option_copied};
 ghost use Rattle.dms_desc.specs.Conds.{is_null, or_null};
 ghost use Rattle.dms_desc.specs.declared.structure.Item.{Item};
-ghost use Rattle.dms_model.specs.Session.{work_of, or_none, is_lock, holds, let_go, with_work, with_lock, found_program, area_values, area_owner, area_number, is_free, record_of, left, carried, entered, missing_from};
+ghost use Rattle.dms_model.specs.Session.{work_of, or_none, is_lock, holds, let_go, with_work, with_lock, found_program, area_values, area_owner, area_number, is_free, record_of, left, carried, entered, missing_from, owner_for};
+ghost use Rattle.dms_desc.specs.Shape.{described};
 ghost use Rattle.dms_model.specs.declared.program.Area.{Area};
 ghost use Rattle.dms_storeverbs.specs.Storing.{with_stored};
 
+use crate::schema::owner_of;
 use dms_base::{Memory, Name, Value};
-use dms_desc::{Item, Record, Values};
+use dms_desc::{Description, Item, Record, Values};
 use dms_model::{Area, Lock, Program, Spot, Work};
 use std::alloc::Global;
 
@@ -51,6 +53,18 @@ pub fn current_at(program: &Program, set: u16) -> Option<u64>
         None => None,
         Some(work) => work.current,
     }
+}
+
+/// The number of the record that owns what a program finds or makes in a structure, 0 where the structure stands in no data set; none
+/// where the program has no current record of that data set.
+pub fn owner_for(desc: &Description, program: &Program, x: u16) -> Option<u64>
+    ensures { result ≡ owner_for (described desc.now) program.now x }
+{
+    let to = owner_of(desc, x);
+    if to == 0 {
+        return Some(0);
+    }
+    current_at(program, to)
 }
 
 /// The values of an area.
@@ -175,13 +189,13 @@ pub fn find(program: &mut Program, set: u16, spot: Spot)
     program.active = true;
 }
 
-/// No record is current, and the area is a new one.
-pub fn create(program: &mut Program, set: u16, values: Values)
-    ensures { program.new ≡ carried (let_go (with_work program.old set (record { current = None; area = Some (Area.New values 0) })) set) }
+/// No record is current, and the area is a new one, of a record with this owner.
+pub fn create(program: &mut Program, set: u16, values: Values, owner: u64)
+    ensures { program.new ≡ carried (let_go (with_work program.old set (record { current = None; area = Some (Area.New values owner) })) set) }
 {
     let work = Work {
         current: None,
-        area: Some(Area::New(values, 0)),
+        area: Some(Area::New(values, owner)),
     };
     program.works.set(place_of(set), work);
     let_go(program, set);

@@ -2,6 +2,7 @@ ghost use Rattle.std.specs.Prelude.{◌≡◌};
 ghost use Rattle.dms_desc.specs.Shape.{described};
 ghost use Rattle.dms_desc.specs.Lookups.{structure_of};
 ghost use Rattle.dms_model.specs.Session.{verified, restart_of};
+ghost use Rattle.dms_model.specs.Valid.{owner_of};
 
 use dms_base::Value;
 use dms_desc::{Description, meets};
@@ -13,6 +14,16 @@ pub fn verified(desc: &Description, set: u16, values: &[Value]) -> bool
     match desc.structure(set) {
         None => true,
         Some(structure) => meets(&structure.cond, values),
+    }
+}
+
+/// The number of the data set that a structure stands in, 0 where it stands in none.
+pub fn owner_of(desc: &Description, number: u16) -> u16
+    ensures { result ≡ owner_of (structure_of (described desc.now) number) }
+{
+    match desc.structure(number) {
+        None => 0,
+        Some(structure) => structure.owner,
     }
 }
 

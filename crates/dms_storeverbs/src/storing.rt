@@ -30,7 +30,6 @@ fn refused(category: Category, name: Name) -> JudgedRecord
 
 /// Judges a program's area of a data set before it is stored. Refused in this order: no area; that of a
 /// record that the program doesn't hold locked; a REQUIRED item that is null; VERIFY not met.
-#[tactic(auto, using(crate::proofs::Stored::put_records), unfolding(dms_model::specs::Session::keep))]
 pub fn judge_record(
     alloc: Global,
     desc: &Description,

@@ -14,6 +14,7 @@ ghost use Rattle.dms_storeverbs.specs.View.{Does, EngineLasts, SameSession, Stan
 
 use crate::keys::{agreeing, key_values};
 use crate::refusal::{done, refused};
+use crate::schema::owner_of;
 use crate::{Engine, apart, areas, programs};
 use dms_base::{Category, Literal, Name};
 use dms_block::BlockFault;
@@ -21,17 +22,19 @@ use dms_model::{Answer, Bound, Path, Spot, Store, Verb, see_all_plain};
 use std::alloc::Global;
 
 impl<St: Store> Engine<St> {
-    /// The first member of a path whose first key items these literals spell.
+    /// The first member of a path, for an owner, whose first key items these literals spell.
     fn found_at(
         &mut self,
         alloc: Global,
         x: u16,
+        owner: u64,
         literals: &[Literal],
     ) -> Result<Option<Spot>, BlockFault>
         requires sound { (seen self.old).sound }
+        requires owner { owner + 1 < 2 ^ 32 }
         requires path { IsStructure (described self.old.desc) x }
         ensures fits { IfOk result (λ o. IfSome o (SpotFits (described self.old.desc) x)) }
-        ensures found { IfOk result (λ r. (d : Db) → (seen self.old).db ≡ Some d → r ≡ at_values (key_values (parts_of (structure_of (described self.old.desc) x)) (items_of (structure_of (described self.old.desc) (set_of (described self.old.desc) x))) literals.now) (described self.old.desc) d x) }
+        ensures found { IfOk result (λ r. (d : Db) → (seen self.old).db ≡ Some d → r ≡ at_values (key_values (parts_of (structure_of (described self.old.desc) x)) (items_of (structure_of (described self.old.desc) (set_of (described self.old.desc) x))) literals.now) (described self.old.desc) d x owner) }
         ensures stands { OnOk result (SameSession self.old self.new) }
         ensures programs { self.new.programs.items ≡ self.old.programs.items }
         ensures points { OnOk result (StaysDurable (seen self.old) (seen self.new)) }
@@ -47,17 +50,20 @@ impl<St: Store> Engine<St> {
         };
         see_all_plain(values.as_slice());
         let key = values.copy(alloc)?;
-        let spot = self.store.first_from(alloc, x, 0, &Bound::From(values))?;
+        let spot = self
+            .store
+            .first_from(alloc, x, owner, &Bound::From(values))?;
         Ok(agreeing(self.desc.parts_of(x), key.as_slice(), spot))
     }
 
-    /// The member that a path names.
+    /// The member that a path names, among those of an owner.
     #[tactic(auto, using(std::proofs::lemmas::Option::gets), unfolding(dms_model::specs::Session::found_by))]
-    fn found(&mut self, alloc: Global, path: &Path) -> Result<Option<Spot>, BlockFault>
+    fn found(&mut self, alloc: Global, owner: u64, path: &Path) -> Result<Option<Spot>, BlockFault>
         requires sound { (seen self.old).sound }
+        requires owner { owner + 1 < 2 ^ 32 }
         requires path { IsPathOf (described self.old.desc) path.now }
         ensures fits { IfOk result (λ o. IfSome o (SpotFits (described self.old.desc) (path_of path.now))) }
-        ensures found { IfOk result (λ r. (d : Db) → (seen self.old).db ≡ Some d → r ≡ found_by (described self.old.desc) d path.now) }
+        ensures found { IfOk result (λ r. (d : Db) → (seen self.old).db ≡ Some d → r ≡ found_by (described self.old.desc) d owner path.now) }
         ensures stands { OnOk result (SameSession self.old self.new) }
         ensures programs { self.new.programs.items ≡ self.old.programs.items }
         ensures points { OnOk result (StaysDurable (seen self.old) (seen self.new)) }
@@ -68,9 +74,9 @@ impl<St: Store> Engine<St> {
         ensures lasts { EngineLasts result self.old self.new }
     {
         match path {
-            Path::First(x) => self.store.first_from(alloc, *x, 0, &Bound::Start),
-            Path::Last(x) => self.store.last_to(alloc, *x, 0, &Bound::End),
-            Path::At(x, literals) => self.found_at(alloc, *x, literals.as_slice()),
+            Path::First(x) => self.store.first_from(alloc, *x, owner, &Bound::Start),
+            Path::Last(x) => self.store.last_to(alloc, *x, owner, &Bound::End),
+            Path::At(x, literals) => self.found_at(alloc, *x, owner, literals.as_slice()),
         }
     }
 
@@ -89,7 +95,11 @@ impl<St: Store> Engine<St> {
         let x = apart::path_of(path);
         let name = self.desc.name_of(x);
         let set = self.desc.set_of(x);
-        let Some(spot) = self.found(alloc, path)? else {
+        let Some(owner) = areas::owner_for(&self.desc, &self.programs[i], x) else {
+            let owned = self.desc.name_of(owner_of(&self.desc, x));
+            return Ok(refused(Category::NoRecord, owned));
+        };
+        let Some(spot) = self.found(alloc, owner, path)? else {
             return Ok(refused(Category::NotFound, name));
         };
         areas::find(&mut self.programs[i], set, spot);

@@ -20,6 +20,6 @@ returns-clause-found g c = λ d told.
       fit = key_is_fit (parts_of (structure_of desc c.args.x)) (items_of (structure_of desc (set_of desc c.args.x))) lits c.in-Some.values key_is;
       plain = subst ArePlain c.as_slice.ensures c.see_all_plain.ensures;
     } in
-    let may = subst (λ (e : Described). MayStart e c.args.x 0 (From c.in-Some.values)) (sym c.args.self.now.under) (record { owned = omega arith; fits = fit }) in
-    found_at_is desc (g.St.Store.seen c.args.self.now.store).desc (g.St.Store.seen c.args.self.now.store).db d c.args.x c.as_slice-2.result.now c.in-Some.values _ c.in_ok-spot.spot c.agreeing.result c.parts_of-2.result.now
+    let may = subst (λ (e : Described). MayStart e c.args.x c.args.owner (From c.in-Some.values)) (sym c.args.self.now.under) (record { owned = c.requires.owner; fits = fit }) in
+    found_at_is desc (g.St.Store.seen c.args.self.now.store).desc (g.St.Store.seen c.args.self.now.store).db d c.args.x c.args.owner c.as_slice-2.result.now c.in-Some.values _ c.in_ok-spot.spot c.agreeing.result c.parts_of-2.result.now
     c.args.self.now.under told key_is (c.as_slice-2.ensures ∙ c.in_ok-key.ensures) c.parts_of-2.ensures (c.in_ok-spot.ensures.found may) c.agreeing.ensures

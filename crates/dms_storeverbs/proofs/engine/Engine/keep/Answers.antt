@@ -10,6 +10,7 @@ use Rattle.dms_storeverbs.specs.Storing.{IsReady, put_record, with_stored}
 use Rattle.dms_storeverbs.proofs.Keepings.{kept_refused, kept_stored, kept_duplicate, kept_full, may_put}
 use Rattle.dms_desc.specs.Shape.{Described}
 use Rattle.dms_model.specs.declared.put.Put.TheVariants.{Stored}
+use Rattle.dms_model.specs.declared.reply.Reply.TheVariants.{Exception}
 use Rattle.dms_model.specs.Fitting.{IsNumber, PutFits}
 use Rattle.dms_storeverbs.proofs.AtHand.{one_changed, one_fits, stored_either}
 use Rattle.dms_storeverbs.proofs.engine.Engine.keep.Goals as goal
@@ -32,7 +33,7 @@ returns-in-Refused-clause-kept g c = λ p at s stands held.
     let d = described c.args.self.now.desc in
     let r = c.in-Refused.refusal in
     let p_is : c.index.result.now ≡ p = grind (arith, common_steps, gets) in
-    let judged : keep d c.index.result.now s.db c.args.set ≡ Refused r.category r.name = rw c.in-Refused.is at (c.in_ok-refusal.ensures.judged s.db) in
+    let judged : keep d c.index.result.now s.db c.args.set ≡ Refused (Exception r.category r.name) = rw c.in-Refused.is at (c.in_ok-refusal.ensures.judged s.db) in
     kept_refused _ r c.args.i s _ (ap (λ (q : Program). keep d q s.db c.args.set) (sym p_is) ∙ judged) stands
 
 pub returns-in_ok-stored-in-Stored-clause-kept : goal.returns-in_ok-stored-in-Stored-clause-kept
