@@ -11,8 +11,8 @@ use Rattle.dms_base.specs.Spelling.{is_kind}
 use Rattle.dms_desc.specs.declared.structure.Item.{Item}
 use Rattle.dms_desc.specs.Shape.{Tree}
 use Rattle.dms_desc.specs.Shape.Tree.{Empty, Test, Both, Either, Contrary}
-use Rattle.dasdl_phrases.specs.TreeCodes.{Tree as Written}
-use Rattle.dasdl_phrases.specs.TreeCodes.Tree.{Test as Compared, Both as And', Either as Or', Turned}
+use Rattle.dasdl_phrases.specs.TreeCodes.{WrittenTree as Written}
+use Rattle.dasdl_phrases.specs.TreeCodes.WrittenTree.{Test as Compared, Both as And', Either as Or', Turned}
 use Rattle.dasdl_phrases.specs.Trees.{Condition}
 use Rattle.dasdl_compile.specs.declared.fault.CompileFault.TheVariants.{Unknown, CondKind}
 use Rattle.dms_desc.specs.declared.lookups.NamedItem.{NamedItem}

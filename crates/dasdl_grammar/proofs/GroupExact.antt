@@ -22,8 +22,8 @@ use Rattle.dasdl_phrases.specs.Kinds.{starts_kind}
 use Rattle.dasdl_parse.specs.Items.{item_at, group_item_at, next_group_item_at, group_at}
 use Rattle.dasdl_parse.specs.Grammar.{restart_at, data_set_at}
 use Rattle.dasdl_phrases.specs.CondSpelling.{token_of, Reads}
-use Rattle.dasdl_phrases.specs.KindSpelling.{IsKind}
-use Rattle.dasdl_phrases.specs.KindSpelling.IsKind.{an_alpha, a_number, a_truth, a_field}
+use Rattle.dasdl_phrases.specs.KindSpelling.{SpellsKind}
+use Rattle.dasdl_phrases.specs.KindSpelling.SpellsKind.{an_alpha, a_number, a_truth, a_field}
 use Rattle.dasdl_parse.specs.ItemSpelling.{IsItem}
 use Rattle.dasdl_parse.specs.ItemSpelling.IsItem.{an_item}
 use Rattle.dasdl_grammar.specs.GroupSpelling.{IsNamedItem, AreItems, IsGroup}
@@ -111,7 +111,7 @@ group_sound count ts s rest h =
     ((k.first ∷ (o.first ∷ ((m.used ++ g.used) ++ (y.first ∷ (z.first ∷ [])))), a_group k.first o.first y.first z.first d.0.0.items (m.used ++ g.used) k.token o.token g.is.are y.token z.token, all), g.is.total, g.is.few)
 
 -- a type's first word
-kind_first : (kind : ItemKind) (xs : List Token) → IsKind kind xs → (us rest : List Lexeme) (ys : List Token) → map token_of us ≡ xs ++ ys → starts_kind (us ++ rest) ≡ true
+kind_first : (kind : ItemKind) (xs : List Token) → SpellsKind kind xs → (us rest : List Lexeme) (ys : List Token) → map token_of us ≡ xs ++ ys → starts_kind (us ++ rest) ≡ true
 kind_first _ _ (an_alpha n a b) us rest ys e = let k = heads us (Word (codes "ALPHA")) _ e in rw (k.all, k.token) refl
 kind_first _ _ (a_number n m s xs zs w p) us rest ys e = let k = heads us (Word (codes "NUMBER")) _ e in rw (k.all, k.token) refl
 kind_first _ _ a_truth us rest ys e = let k = heads us (Word (codes "BOOLEAN")) _ e in rw (k.all, k.token) refl

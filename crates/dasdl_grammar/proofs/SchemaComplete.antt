@@ -8,8 +8,8 @@ use Rattle.std.specs.declared.result.Result.TheVariants.{Ok, Err}
 use Rattle.dms_base.specs.Name.{is_name}
 use Rattle.dms_base.specs.Reserved.{is_reserved}
 use Rattle.dms_base.specs.declared.kind.ItemKind.{ItemKind}
-use Rattle.dasdl_phrases.specs.KindSpelling.{IsKind}
-use Rattle.dasdl_phrases.specs.KindSpelling.IsKind.{an_alpha, a_number, a_truth, a_field}
+use Rattle.dasdl_phrases.specs.KindSpelling.{SpellsKind}
+use Rattle.dasdl_phrases.specs.KindSpelling.SpellsKind.{an_alpha, a_number, a_truth, a_field}
 use Rattle.dasdl_parse.specs.ItemSpelling.IsItem.{an_item as whole_item}
 use Rattle.dasdl_phrases.specs.declared.fault.ParseFault.{ParseFault}
 use Rattle.dms_tokens.specs.declared.token.Token.{Token}
@@ -162,7 +162,7 @@ head_flags : (place : ℕ) (name : List ℕ) (head : DataSetDecl) (xs : List Tok
 head_flags place name _ _ a_head us rest e = let k = heads us (Word (codes "DATA")) _ e in (rw (k.all, k.token) refl, rw (k.all, k.token) refl)
 head_flags place name _ _ a_restart_head us rest e = let k = heads us (Word (codes "RESTART")) _ e in (rw (k.all, k.token) refl, rw (k.all, k.token) refl)
 
-kind_flags : (kind : ItemKind) (xs : List Token) → IsKind kind xs → (us rest : List Lexeme) (ys : List Token) → map token_of us ≡ xs ++ ys → (starts_set (us ++ rest) ≡ false) × (starts_data_set (us ++ rest) ≡ false)
+kind_flags : (kind : ItemKind) (xs : List Token) → SpellsKind kind xs → (us rest : List Lexeme) (ys : List Token) → map token_of us ≡ xs ++ ys → (starts_set (us ++ rest) ≡ false) × (starts_data_set (us ++ rest) ≡ false)
 kind_flags _ _ (an_alpha n a b) us rest ys e = let k = heads us (Word (codes "ALPHA")) _ e in (rw (k.all, k.token) refl, rw (k.all, k.token) refl)
 kind_flags _ _ (a_number n m s xs zs w p) us rest ys e = let k = heads us (Word (codes "NUMBER")) _ e in (rw (k.all, k.token) refl, rw (k.all, k.token) refl)
 kind_flags _ _ a_truth us rest ys e = let k = heads us (Word (codes "BOOLEAN")) _ e in (rw (k.all, k.token) refl, rw (k.all, k.token) refl)

@@ -9,8 +9,8 @@ use Rattle.std.specs.declared.result.Result.TheVariants.{Ok, Err}
 use Rattle.dms_base.specs.Name.{is_name}
 use Rattle.dms_base.specs.Reserved.{is_reserved}
 use Rattle.dms_base.specs.declared.kind.ItemKind.{ItemKind}
-use Rattle.dasdl_phrases.specs.KindSpelling.{IsKind}
-use Rattle.dasdl_phrases.specs.KindSpelling.IsKind.{an_alpha, a_number, a_truth, a_field}
+use Rattle.dasdl_phrases.specs.KindSpelling.{SpellsKind}
+use Rattle.dasdl_phrases.specs.KindSpelling.SpellsKind.{an_alpha, a_number, a_truth, a_field}
 use Rattle.dasdl_parse.specs.ItemSpelling.IsItem.{an_item as whole_item}
 use Rattle.dasdl_phrases.specs.declared.fault.ParseFault.{ParseFault}
 use Rattle.dms_tokens.specs.declared.token.Token.{Token}

@@ -14,7 +14,7 @@ use Rattle.dasdl_phrases.specs.declared.key_parts.PartDecl.{PartDecl}
 use Rattle.dasdl_phrases.specs.declared.key_parts.KeyDecl.{KeyDecl}
 use Rattle.dasdl_parse.specs.declared.sets.SetOptions.{SetOptions}
 use Rattle.dasdl_parse.specs.declared.data_sets.DataSetOptions.{DataSetOptions}
-use Rattle.dasdl_phrases.specs.TreeCodes.{Tree}
+use Rattle.dasdl_phrases.specs.TreeCodes.{WrittenTree}
 use Rattle.dasdl_phrases.specs.Trees.{Condition}
 use Rattle.dasdl_phrases.specs.Reads.{◌>>=◌, Read}
 use Rattle.dms_tokens.specs.Cursors.{place_at, starts, is_word, is_the_sign}
@@ -24,7 +24,7 @@ use Rattle.dasdl_phrases.specs.Keys.{parts_at, key_at}
 use Rattle.dasdl_parse.specs.Sets.{population_at, duplicates_at, form_at, starts_duplicates, starts_form, no_set_options, plain_option_at, set_option_at, next_set_option_at}
 use Rattle.dasdl_parse.specs.Grammar.{no_data_set_options, data_set_option_at, next_data_set_option_at}
 use Rattle.dasdl_phrases.specs.CondSpelling.{token_of, Reads, IsCond, nodes}
-use Rattle.dasdl_phrases.specs.CondSpelling.Part.{Whole}
+use Rattle.dasdl_phrases.specs.CondSpelling.CondPart.{Whole}
 use Rattle.dasdl_phrases.specs.KeySpelling.{IsKey}
 use Rattle.dasdl_grammar.specs.SaidSpelling.{SpellsFirst, Said, IsCondDecl, IsKeyDecl, IsPopulation, IsDuplicates, IsForm, SetOption, DataSetOption}
 use Rattle.dasdl_grammar.specs.SaidSpelling.IsCondDecl.{a_cond}

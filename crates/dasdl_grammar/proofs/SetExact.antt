@@ -14,7 +14,7 @@ use Rattle.dasdl_phrases.specs.declared.key_parts.PartDecl.{PartDecl}
 use Rattle.dasdl_phrases.specs.declared.key_parts.KeyDecl.{KeyDecl}
 use Rattle.dasdl_parse.specs.declared.sets.SetOptions.{SetOptions}
 use Rattle.dasdl_parse.specs.declared.data_sets.DataSetOptions.{DataSetOptions}
-use Rattle.dasdl_phrases.specs.TreeCodes.{Tree}
+use Rattle.dasdl_phrases.specs.TreeCodes.{WrittenTree}
 use Rattle.dasdl_phrases.specs.Trees.{Condition}
 use Rattle.dasdl_phrases.specs.Reads.{◌>>=◌, Read}
 use Rattle.dms_tokens.specs.Cursors.{place_at, starts, is_word, is_the_sign}
@@ -24,7 +24,7 @@ use Rattle.dasdl_phrases.specs.Keys.{parts_at, key_at}
 use Rattle.dasdl_parse.specs.Sets.{population_at, duplicates_at, form_at, starts_duplicates, starts_form, no_set_options, plain_option_at, set_option_at, next_set_option_at}
 use Rattle.dasdl_parse.specs.Grammar.{no_data_set_options, data_set_option_at, next_data_set_option_at}
 use Rattle.dasdl_phrases.specs.CondSpelling.{token_of, Reads, IsCond, nodes}
-use Rattle.dasdl_phrases.specs.CondSpelling.Part.{Whole}
+use Rattle.dasdl_phrases.specs.CondSpelling.CondPart.{Whole}
 use Rattle.dasdl_phrases.specs.KeySpelling.{IsKey}
 use Rattle.dasdl_grammar.specs.SaidSpelling.{SpellsFirst, Said, IsCondDecl, IsKeyDecl, IsPopulation, IsDuplicates, IsForm, SetOption, DataSetOption}
 use Rattle.dasdl_grammar.specs.SaidSpelling.IsCondDecl.{a_cond}
@@ -60,7 +60,7 @@ cond_decl_sound w ts c rest h =
     subst (λ (x : Condition × List Lexeme). SpellsFirst (IsCondDecl w) ts x.0 x.1) (ok_same (record { place = place_at ts; tree = b.0.0 }, b.0.1) (c, rest) b.2)
     (k.first ∷ t.used, is, k.all ∙ ap (λ (xs : List Lexeme). k.first ∷ xs) t.all)
 
-cond_decl_step : (w : List ℕ) (l : Lexeme) (vs rest : List Lexeme) (tree : Tree) → is_word w (Word w) ≡ true → l.token ≡ Word w → cond_at (vs ++ rest) ≡ Ok (tree, rest) → cond_decl_at w (l ∷ (vs ++ rest)) ≡ Ok (record { place = l.place; tree = tree }, rest)
+cond_decl_step : (w : List ℕ) (l : Lexeme) (vs rest : List Lexeme) (tree : WrittenTree) → is_word w (Word w) ≡ true → l.token ≡ Word w → cond_at (vs ++ rest) ≡ Ok (tree, rest) → cond_decl_at w (l ∷ (vs ++ rest)) ≡ Ok (record { place = l.place; tree = tree }, rest)
 unfolding cond_decl_at
 cond_decl_step w l vs rest tree t e f = rw (word_reads w l (vs ++ rest) t e, f) refl
 

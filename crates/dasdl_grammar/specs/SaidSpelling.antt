@@ -9,10 +9,10 @@ use Rattle.dasdl_phrases.specs.declared.key_parts.PartDecl.{PartDecl}
 use Rattle.dasdl_phrases.specs.declared.key_parts.KeyDecl.{KeyDecl}
 use Rattle.dasdl_parse.specs.declared.sets.SetOptions.{SetOptions}
 use Rattle.dasdl_parse.specs.declared.data_sets.DataSetOptions.{DataSetOptions}
-use Rattle.dasdl_phrases.specs.TreeCodes.{Tree}
+use Rattle.dasdl_phrases.specs.TreeCodes.{WrittenTree}
 use Rattle.dasdl_phrases.specs.Trees.{Condition}
 use Rattle.dasdl_phrases.specs.CondSpelling.{token_of, IsCond, nodes}
-use Rattle.dasdl_phrases.specs.CondSpelling.Part.{Whole}
+use Rattle.dasdl_phrases.specs.CondSpelling.CondPart.{Whole}
 use Rattle.dasdl_phrases.specs.KeySpelling.{IsKey}
 
 -- the first lexemes spell this, and the others are left
@@ -27,7 +27,7 @@ pub data Said {S : Type 0} (nothing : S) (option : S → S → List Lexeme → T
 
 -- a word, and a condition of at most 100 nodes; it stands where the word does
 pub data IsCondDecl (word : List ℕ) : Condition → List Lexeme → Type 0 where
-  a_cond : (l : Lexeme) (tree : Tree) (vs : List Lexeme) → l.token ≡ Word word → IsCond Whole tree (map token_of vs) → nodes tree ≤ 100 → IsCondDecl word (record { place = l.place; tree = tree }) (l ∷ vs)
+  a_cond : (l : Lexeme) (tree : WrittenTree) (vs : List Lexeme) → l.token ≡ Word word → IsCond Whole tree (map token_of vs) → nodes tree ≤ 100 → IsCondDecl word (record { place = l.place; tree = tree }) (l ∷ vs)
 
 -- KEY IS, and a key of at most 16 parts; it stands where the word KEY does
 pub data IsKeyDecl : KeyDecl → List Lexeme → Type 0 where

@@ -19,7 +19,7 @@ ghost use Rattle.dasdl_parse.specs.declared.parameters.AuditPairs.{AuditPairs};
 ghost use Rattle.std.specs.Prelude.{◌≡◌, ◌≤◌, ◌<◌, ◌+◌, ◌++◌, ℕ, List, map, length, true, false, codes};
 ghost use Rattle.std.specs.declared.result.Result.TheVariants.{Ok};
 ghost use Rattle.dms_tokens.specs.declared.token.Lexeme.{Lexeme};
-ghost use Rattle.dasdl_phrases.specs.TreeCodes.{Tree};
+ghost use Rattle.dasdl_phrases.specs.TreeCodes.{WrittenTree};
 ghost use Rattle.dasdl_phrases.specs.Conditions.{cond_at};
 ghost use Rattle.dms_tokens.specs.Cursors.{starts, is_word, is_the_sign};
 ghost use Rattle.dasdl_phrases.specs.Cursors.{turns_at, until_semicolon};
@@ -31,12 +31,12 @@ ghost use Rattle.dasdl_phrases.specs.KeySpelling.{IsKey};
 ghost use Rattle.dasdl_parse.specs.ItemSpelling.{IsItem, IsLink};
 ghost use Rattle.dasdl_parse.specs.declared.declarations.ItemDecl.{ItemDecl};
 ghost use Rattle.dasdl_parse.specs.declared.declarations.LinkDecl.{LinkDecl};
-ghost use Rattle.dasdl_phrases.specs.KindSpelling.{IsKind};
+ghost use Rattle.dasdl_phrases.specs.KindSpelling.{SpellsKind};
 ghost use Rattle.dasdl_phrases.specs.Kinds.{kind_at};
 ghost use Rattle.dms_base.specs.declared.kind.ItemKind.{ItemKind};
 ghost use Rattle.dasdl_phrases.specs.Keys.{parts_at};
 ghost use Rattle.dasdl_phrases.specs.CondSpelling.{IsCond, Reads, nodes, token_of};
-ghost use Rattle.dasdl_phrases.specs.CondSpelling.Part.{Whole};
+ghost use Rattle.dasdl_phrases.specs.CondSpelling.CondPart.{Whole};
 
 /// What stands behind a group's name is read exactly where it is GROUP and items in brackets, by which its data set has
 /// no more than 60.

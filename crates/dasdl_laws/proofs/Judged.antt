@@ -15,8 +15,8 @@ use Rattle.dms_desc.specs.Shape.Tree.{Test, Both, Either, Contrary}
 use Rattle.dms_desc_bytes.specs.Conditions.{nodes, is_comparable, compares_well, is_condition}
 use Rattle.dms_desc_bytes.specs.Finding.{item_at}
 use Rattle.dasdl_phrases.specs.CondSpelling.{nodes as nodes_of}
-use Rattle.dasdl_phrases.specs.TreeCodes.{Tree as Written}
-use Rattle.dasdl_phrases.specs.TreeCodes.Tree.{Test as Compared, Both as And', Either as Or', Turned}
+use Rattle.dasdl_phrases.specs.TreeCodes.{WrittenTree as Written}
+use Rattle.dasdl_phrases.specs.TreeCodes.WrittenTree.{Test as Compared, Both as And', Either as Or', Turned}
 use Rattle.dms_desc.specs.declared.lookups.NamedItem.{NamedItem}
 use Rattle.dasdl_compile.specs.Conditions.{value_in, or_fault, literal_of, compared_with, compared, condition}
 use Rattle.dms_desc.specs.Lookups.{item_named, after_item}

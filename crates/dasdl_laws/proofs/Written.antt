@@ -16,12 +16,12 @@ use Rattle.dms_tokens.specs.declared.token.Token.{Token}
 use Rattle.dasdl_parse.specs.declared.items.ItemOptions.{ItemOptions}
 use Rattle.dasdl_parse.specs.declared.declarations.ItemDecl.{ItemDecl}
 use Rattle.dasdl_parse.specs.Items.{no_options}
-use Rattle.dasdl_phrases.specs.TreeCodes.{Tree}
-use Rattle.dasdl_phrases.specs.CondSpelling.{IsLiteral, IsCond, Part}
-use Rattle.dasdl_phrases.specs.CondSpelling.IsLiteral.{a_text, a_number as a_whole_number, a_decimal, a_true, a_false, a_null}
+use Rattle.dasdl_phrases.specs.TreeCodes.{WrittenTree}
+use Rattle.dasdl_phrases.specs.CondSpelling.{SpellsLiteral, IsCond, CondPart}
+use Rattle.dasdl_phrases.specs.CondSpelling.SpellsLiteral.{a_text, a_number as a_whole_number, a_decimal, a_true, a_false, a_null}
 use Rattle.dasdl_phrases.specs.CondSpelling.IsCond.{a_term, an_or, a_factor, an_and, a_not, brackets, a_test}
-use Rattle.dasdl_phrases.specs.KindSpelling.{IsKind, IsWidth, ArePlaces}
-use Rattle.dasdl_phrases.specs.KindSpelling.IsKind.{an_alpha, a_number, a_truth, a_field}
+use Rattle.dasdl_phrases.specs.KindSpelling.{SpellsKind, IsWidth, ArePlaces}
+use Rattle.dasdl_phrases.specs.KindSpelling.SpellsKind.{an_alpha, a_number, a_truth, a_field}
 use Rattle.dasdl_phrases.specs.KindSpelling.IsWidth.{without_sign, with_sign, joined_sign}
 use Rattle.dasdl_phrases.specs.KindSpelling.ArePlaces.{no_places, some_places}
 use Rattle.dasdl_parse.specs.OptionSpelling.{Options, ItemOption}
@@ -110,7 +110,7 @@ plain_text bytes text h =
 
 -- ---- literals
 
-pub literal_plain : (l : Literal) (t : Token) → IsLiteral l t → is_plain_literal l ≡ true
+pub literal_plain : (l : Literal) (t : Token) → SpellsLiteral l t → is_plain_literal l ≡ true
 literal_plain _ _ (a_text bytes text e) = plain_text bytes text e
 literal_plain _ _ (a_whole_number n) = refl
 literal_plain _ _ (a_decimal minus digits places) = refl
@@ -118,7 +118,7 @@ literal_plain _ _ a_true = refl
 literal_plain _ _ a_false = refl
 literal_plain _ _ a_null = refl
 
-pub condition_plain : (p : Part) (c : Tree) (ts : List Token) → IsCond p c ts → are_plain c ≡ true
+pub condition_plain : (p : CondPart) (c : WrittenTree) (ts : List Token) → IsCond p c ts → are_plain c ≡ true
 condition_plain _ _ _ (a_term t ts c) = condition_plain _ t ts c
 condition_plain _ _ _ (an_or a b xs ys c d) = and_from _ _ (condition_plain _ a xs c) (condition_plain _ b ys d)
 condition_plain _ _ _ (a_factor t ts c) = condition_plain _ t ts c
@@ -142,7 +142,7 @@ places_range : (n m : ℕ) (xs : List Token) → ArePlaces n m xs → m ≤ n
 places_range _ _ _ (no_places n) = omega arith
 places_range _ _ _ (some_places n m low) = low
 
-kind_range : (k : ItemKind) (xs : List Token) → IsKind k xs → (is_kind k ≡ true) × (is_link k ≡ false)
+kind_range : (k : ItemKind) (xs : List Token) → SpellsKind k xs → (is_kind k ≡ true) × (is_link k ≡ false)
 kind_range _ _ (an_alpha n low high) = (and_from _ _ (le-leb 1 n low) (le-leb n 200 high), refl)
 kind_range _ _ (a_number n m s xs ys w p) =
     let a = width_range s n xs w in

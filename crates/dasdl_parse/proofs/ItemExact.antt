@@ -17,7 +17,7 @@ use Rattle.dasdl_phrases.specs.Cursors.{word_at, sign_at, name_at, turns_at, unt
 use Rattle.dasdl_phrases.specs.Kinds.{kind_at}
 use Rattle.dasdl_parse.specs.Items.{no_options, next_item_option_at, item_at, counted_at, link_at}
 use Rattle.dasdl_phrases.specs.CondSpelling.{token_of, Reads}
-use Rattle.dasdl_phrases.specs.KindSpelling.{IsKind}
+use Rattle.dasdl_phrases.specs.KindSpelling.{SpellsKind}
 use Rattle.dasdl_parse.specs.OptionSpelling.{AreItemOptions}
 use Rattle.dasdl_parse.specs.ItemSpelling.{IsItem, IsLink}
 use Rattle.dasdl_parse.specs.ItemSpelling.IsItem.{an_item}
@@ -54,7 +54,7 @@ item_reads _ _ _ _ (an_item place name kind said xs ys d o) us rest e =
     let z = heads b.b (Sign 59) [] b.back in
     let same : us ++ rest ≡ a.a ++ (b.a ++ (z.l ∷ rest)) = ap (λ (vs : List Lexeme). vs ++ rest) (a.all ∙ ap (λ (vs : List Lexeme). a.a ++ vs) (b.all ∙ ap (λ (vs : List Lexeme). b.a ++ vs) (z.all ∙ ap (λ (vs : List Lexeme). z.l ∷ vs) (none_left z.b z.back)))) ∙ simp append_assoc in
     let ends : starts (is_the_sign 59) (z.l ∷ rest) ≡ true = rw z.token refl in
-    let first = kind_complete a.a (b.a ++ (z.l ∷ rest)) kind (subst (λ (vs : List Token). IsKind kind vs) (sym a.front) d) in
+    let first = kind_complete a.a (b.a ++ (z.l ∷ rest)) kind (subst (λ (vs : List Token). SpellsKind kind vs) (sym a.front) d) in
     let second = item_options_complete b.a (z.l ∷ rest) said (subst (λ (vs : List Token). AreItemOptions said vs) (sym b.front) o) ends in
     rw same (item_step place name kind said (a.a ++ (b.a ++ (z.l ∷ rest))) (b.a ++ (z.l ∷ rest)) rest z.l first second z.token)
 

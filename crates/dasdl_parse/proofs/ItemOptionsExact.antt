@@ -18,7 +18,7 @@ use Rattle.dms_tokens.specs.Cursors.{starts, is_word, is_the_sign}
 use Rattle.dasdl_phrases.specs.Cursors.{word_at, equal_at, comma_at, turns_at, until_semicolon}
 use Rattle.dasdl_phrases.specs.Kinds.{literal_at}
 use Rattle.dasdl_parse.specs.Items.{no_options, item_option_at, next_item_option_at}
-use Rattle.dasdl_phrases.specs.CondSpelling.{token_of, Reads, IsLiteral}
+use Rattle.dasdl_phrases.specs.CondSpelling.{token_of, Reads, SpellsLiteral}
 use Rattle.dasdl_parse.specs.OptionSpelling.{ItemOption, AreItemOptions}
 use Rattle.dasdl_parse.specs.OptionSpelling.ItemOption.{says_required, says_initial, says_null}
 use Rattle.dasdl_phrases.proofs.Inverting.{bind_ok, ok_same}
@@ -90,7 +90,7 @@ complete_required : (initial : Option Literal) (k : Lexeme) (rest : List Lexeme)
 unfolding item_option_at word_at
 complete_required initial k rest e = rw e refl
 
-complete_initial : (required : Bool) (k e l : Lexeme) (rest : List Lexeme) (x : Literal) (t : Token) → k.token ≡ Word (codes "INITIALVALUE") → e.token ≡ Compare Equal → l.token ≡ t → IsLiteral x t → item_option_at (record { required = required; initial = None }) (k ∷ e ∷ l ∷ rest) ≡ Ok (record { required = required; initial = Some x }, rest)
+complete_initial : (required : Bool) (k e l : Lexeme) (rest : List Lexeme) (x : Literal) (t : Token) → k.token ≡ Word (codes "INITIALVALUE") → e.token ≡ Compare Equal → l.token ≡ t → SpellsLiteral x t → item_option_at (record { required = required; initial = None }) (k ∷ e ∷ l ∷ rest) ≡ Ok (record { required = required; initial = Some x }, rest)
 unfolding item_option_at word_at equal_at
 complete_initial required k e l rest x t a b c d = rw (a, b, literal_reads l rest x t c d) refl
 

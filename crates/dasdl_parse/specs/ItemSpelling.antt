@@ -7,12 +7,12 @@ use Rattle.dms_base.specs.declared.kind.ItemKind.{ItemKind}
 use Rattle.dasdl_parse.specs.declared.declarations.ItemDecl.{ItemDecl}
 use Rattle.dasdl_parse.specs.declared.declarations.LinkDecl.{LinkDecl}
 use Rattle.dasdl_parse.specs.declared.items.ItemOptions.{ItemOptions}
-use Rattle.dasdl_phrases.specs.KindSpelling.{IsKind}
+use Rattle.dasdl_phrases.specs.KindSpelling.{SpellsKind}
 use Rattle.dasdl_parse.specs.OptionSpelling.{AreItemOptions}
 
 -- type { [ , ] option } ;
 pub data IsItem : ℕ → List ℕ → ItemDecl → List Token → Type 0 where
-  an_item : (place : ℕ) (name : List ℕ) (kind : ItemKind) (said : ItemOptions) (xs ys : List Token) → IsKind kind xs → AreItemOptions said ys → IsItem place name (record { place = place; name = name; kind = kind; required = said.required; initial = said.initial }) (xs ++ (ys ++ (Sign 59 ∷ [])))
+  an_item : (place : ℕ) (name : List ℕ) (kind : ItemKind) (said : ItemOptions) (xs ys : List Token) → SpellsKind kind xs → AreItemOptions said ys → IsItem place name (record { place = place; name = name; kind = kind; required = said.required; initial = said.initial }) (xs ++ (ys ++ (Sign 59 ∷ [])))
 
 -- LINK TO name [ COUNTED ] ;
 pub data IsLink : ℕ → List ℕ → LinkDecl → List Token → Type 0 where

@@ -7,7 +7,7 @@ use Rattle.dms_base.specs.declared.kind.Literal.TheVariants.{Null}
 use Rattle.dms_tokens.specs.declared.token.Token.{Token}
 use Rattle.dms_tokens.specs.declared.token.Token.TheVariants.{Word, Sign, Compare}
 use Rattle.dasdl_parse.specs.declared.items.ItemOptions.{ItemOptions}
-use Rattle.dasdl_phrases.specs.CondSpelling.{IsLiteral}
+use Rattle.dasdl_phrases.specs.CondSpelling.{SpellsLiteral}
 use Rattle.dasdl_parse.specs.Items.{no_options}
 
 -- what options say together, where an option is what one more of them makes of what the others have said
@@ -19,7 +19,7 @@ pub data Options {S : Type 0} (nothing : S) (option : S → S → List Token →
 -- REQUIRED once, and INITIALVALUE or NULL once
 pub data ItemOption : ItemOptions → ItemOptions → List Token → Type 0 where
   says_required : (initial : Option Literal) → ItemOption (record { required = false; initial = initial }) (record { required = true; initial = initial }) (Word (codes "REQUIRED") ∷ [])
-  says_initial : (required : Bool) (l : Literal) (t : Token) → IsLiteral l t → ItemOption (record { required = required; initial = None }) (record { required = required; initial = Some l }) (Word (codes "INITIALVALUE") ∷ (Compare Equal ∷ (t ∷ [])))
+  says_initial : (required : Bool) (l : Literal) (t : Token) → SpellsLiteral l t → ItemOption (record { required = required; initial = None }) (record { required = required; initial = Some l }) (Word (codes "INITIALVALUE") ∷ (Compare Equal ∷ (t ∷ [])))
   says_null : (required : Bool) → ItemOption (record { required = required; initial = None }) (record { required = required; initial = Some Null }) (Word (codes "NULL") ∷ [])
 
 -- what the options of an item say

@@ -16,17 +16,17 @@ use Rattle.dms_tokens.specs.declared.token.Token.TheVariants.{Word, Sign, Compar
 use Rattle.dms_tokens.specs.declared.token.Lexeme.{Lexeme}
 use Rattle.dasdl_phrases.specs.declared.levels.Level.{Level}
 use Rattle.dasdl_phrases.specs.declared.cond.CondRead.{CondRead}
-use Rattle.dasdl_phrases.specs.TreeCodes.{Tree}
-use Rattle.dasdl_phrases.specs.TreeCodes.Tree.{Test, Both, Either, Turned}
+use Rattle.dasdl_phrases.specs.TreeCodes.{WrittenTree}
+use Rattle.dasdl_phrases.specs.TreeCodes.WrittenTree.{Test, Both, Either, Turned}
 use Rattle.dasdl_phrases.specs.Branches.{negated, with_or}
 use Rattle.dasdl_phrases.specs.Reads.{Read}
 use Rattle.dms_tokens.specs.Cursors.{starts, is_word, is_the_sign}
 use Rattle.dasdl_phrases.specs.Cursors.{turns, turns_at, is_free, word_at, sign_at, name_at}
 use Rattle.dasdl_phrases.specs.Kinds.{literal_at, literal_of}
 use Rattle.dasdl_phrases.specs.Conditions.{completed, no_level, no_cond, op_at, compare_at, compare_turn_at, not_turn_at, open_turn_at, factor_turn_at, and_turn_at, or_turn_at, close_turn_at, join_turn_at, cond_turn_at, cond_done, cond_at}
-use Rattle.dasdl_phrases.specs.CondSpelling.{token_of, IsLiteral, Part, IsCond, nodes}
-use Rattle.dasdl_phrases.specs.CondSpelling.IsLiteral.{a_text, a_number, a_decimal, a_true, a_false, a_null}
-use Rattle.dasdl_phrases.specs.CondSpelling.Part.{Whole, Term, Factor}
+use Rattle.dasdl_phrases.specs.CondSpelling.{token_of, SpellsLiteral, CondPart, IsCond, nodes}
+use Rattle.dasdl_phrases.specs.CondSpelling.SpellsLiteral.{a_text, a_number, a_decimal, a_true, a_false, a_null}
+use Rattle.dasdl_phrases.specs.CondSpelling.CondPart.{Whole, Term, Factor}
 use Rattle.dasdl_phrases.specs.CondSpelling.IsCond.{a_term, an_or, a_factor, an_and, a_not, brackets, a_test}
 use Rattle.dasdl_phrases.proofs.Turning.{turns-done, turns-one}
 
@@ -86,7 +86,7 @@ none_left (u ∷ us) h = absurd (cc)
 abbrev wanting : List Level → Level → ℕ → CondRead
 wanting outer level n = record { outer = outer; level = level; done = None; nodes = n }
 
-abbrev holding : List Level → Option Tree → Tree → ℕ → CondRead
+abbrev holding : List Level → Option WrittenTree → WrittenTree → ℕ → CondRead
 holding outer either t n = record { outer = outer; level = record { either = either; both = None; nots = 0 }; done = Some t; nodes = n }
 
 abbrev CondRuns : CondRead → List Lexeme → CondRead → List Lexeme → Type 0
@@ -111,23 +111,23 @@ open_step : (outer : List Level) (level : Level) (n : ℕ) (l : Lexeme) (ls : Li
 unfolding cond_turn_at factor_turn_at open_turn_at sign_at
 open_step outer level n l ls e = rw e refl
 
-and_step : (outer : List Level) (either : Option Tree) (t : Tree) (n : ℕ) (l : Lexeme) (ls : List Lexeme) → l.token ≡ Word (codes "AND") → n < 100 → cond_turn_at (holding outer either t n) (l ∷ ls) ≡ Ok (wanting outer (record { either = either; both = Some t; nots = 0 }) (n + 1), ls)
+and_step : (outer : List Level) (either : Option WrittenTree) (t : WrittenTree) (n : ℕ) (l : Lexeme) (ls : List Lexeme) → l.token ≡ Word (codes "AND") → n < 100 → cond_turn_at (holding outer either t n) (l ∷ ls) ≡ Ok (wanting outer (record { either = either; both = Some t; nots = 0 }) (n + 1), ls)
 unfolding cond_turn_at join_turn_at and_turn_at word_at
 and_step outer either t n l ls e h = rw (e, few n h) refl
 
-or_step : (outer : List Level) (either : Option Tree) (t : Tree) (n : ℕ) (l : Lexeme) (ls : List Lexeme) → l.token ≡ Word (codes "OR") → n < 100 → cond_turn_at (holding outer either t n) (l ∷ ls) ≡ Ok (wanting outer (record { either = Some (with_or either t); both = None; nots = 0 }) (n + 1), ls)
+or_step : (outer : List Level) (either : Option WrittenTree) (t : WrittenTree) (n : ℕ) (l : Lexeme) (ls : List Lexeme) → l.token ≡ Word (codes "OR") → n < 100 → cond_turn_at (holding outer either t n) (l ∷ ls) ≡ Ok (wanting outer (record { either = Some (with_or either t); both = None; nots = 0 }) (n + 1), ls)
 unfolding cond_turn_at join_turn_at or_turn_at word_at
 or_step outer either t n l ls e h = rw (e, few n h) refl
 
-close_step : (outer : List Level) (level : Level) (either : Option Tree) (t : Tree) (n : ℕ) (l : Lexeme) (ls : List Lexeme) → l.token ≡ Sign 41 → cond_turn_at (holding (level ∷ outer) either t n) (l ∷ ls) ≡ Ok (completed outer level n (with_or either t), ls)
+close_step : (outer : List Level) (level : Level) (either : Option WrittenTree) (t : WrittenTree) (n : ℕ) (l : Lexeme) (ls : List Lexeme) → l.token ≡ Sign 41 → cond_turn_at (holding (level ∷ outer) either t n) (l ∷ ls) ≡ Ok (completed outer level n (with_or either t), ls)
 unfolding cond_turn_at join_turn_at close_turn_at sign_at
 close_step outer level either t n l ls e = rw e refl
 
-goes_on : (outer : List Level) (either : Option Tree) (t : Tree) (n : ℕ) (l : Lexeme) (ls : List Lexeme) → (l.token ≡ Word (codes "AND")) → cond_done (holding outer either t n) (l ∷ ls) ≡ false
+goes_on : (outer : List Level) (either : Option WrittenTree) (t : WrittenTree) (n : ℕ) (l : Lexeme) (ls : List Lexeme) → (l.token ≡ Word (codes "AND")) → cond_done (holding outer either t n) (l ∷ ls) ≡ false
 goes_on [] either t n l ls e = rw e refl
 goes_on (x ∷ xs) either t n l ls e = refl
 
-goes_on_or : (outer : List Level) (either : Option Tree) (t : Tree) (n : ℕ) (l : Lexeme) (ls : List Lexeme) → (l.token ≡ Word (codes "OR")) → cond_done (holding outer either t n) (l ∷ ls) ≡ false
+goes_on_or : (outer : List Level) (either : Option WrittenTree) (t : WrittenTree) (n : ℕ) (l : Lexeme) (ls : List Lexeme) → (l.token ≡ Word (codes "OR")) → cond_done (holding outer either t n) (l ∷ ls) ≡ false
 goes_on_or [] either t n l ls e = rw e refl
 goes_on_or (x ∷ xs) either t n l ls e = refl
 
@@ -157,7 +157,7 @@ pub name_reads : (l : Lexeme) (ls : List Lexeme) (n : List ℕ) → l.token ≡ 
 unfolding name_at
 name_reads l ls n e h = rw (e, is_unreserved n h, is_short n h, h) refl
 
-literal_is : (x : Literal) (t : Token) (place : ℕ) (ls : List Lexeme) → IsLiteral x t → literal_of t place ls ≡ Ok (x, ls)
+literal_is : (x : Literal) (t : Token) (place : ℕ) (ls : List Lexeme) → SpellsLiteral x t → literal_of t place ls ≡ Ok (x, ls)
 literal_is _ _ place ls (a_text bytes text e) = rw e refl
 literal_is _ _ place ls (a_number n) = refl
 literal_is _ _ place ls (a_decimal m d p) = refl
@@ -165,7 +165,7 @@ literal_is _ _ place ls a_true = refl
 literal_is _ _ place ls a_false = refl
 literal_is _ _ place ls a_null = refl
 
-pub literal_reads : (l : Lexeme) (ls : List Lexeme) (x : Literal) (t : Token) → l.token ≡ t → IsLiteral x t → literal_at (l ∷ ls) ≡ Ok (x, ls)
+pub literal_reads : (l : Lexeme) (ls : List Lexeme) (x : Literal) (t : Token) → l.token ≡ t → SpellsLiteral x t → literal_at (l ∷ ls) ≡ Ok (x, ls)
 unfolding literal_at
 literal_reads l ls x t e h = rw e (literal_is x t l.place ls h)
 
@@ -173,62 +173,62 @@ op_reads : (l : Lexeme) (ls : List Lexeme) (o : Op) → l.token ≡ Compare o �
 unfolding op_at
 op_reads l ls o e = rw e refl
 
-compare_reads : (k l m : Lexeme) (ls : List Lexeme) (n : List ℕ) (o : Op) (x : Literal) (t : Token) → k.token ≡ Word n → is_name n ≡ true → l.token ≡ Compare o → m.token ≡ t → IsLiteral x t → compare_at (k ∷ l ∷ m ∷ ls) ≡ Ok (Test n o x, ls)
+compare_reads : (k l m : Lexeme) (ls : List Lexeme) (n : List ℕ) (o : Op) (x : Literal) (t : Token) → k.token ≡ Word n → is_name n ≡ true → l.token ≡ Compare o → m.token ≡ t → SpellsLiteral x t → compare_at (k ∷ l ∷ m ∷ ls) ≡ Ok (Test n o x, ls)
 unfolding compare_at
 compare_reads k l m ls n o x t e h f g i = rw (name_reads k (l ∷ m ∷ ls) n e h, op_reads l (m ∷ ls) o f, literal_reads m ls x t g i) refl
 
-compare_step : (outer : List Level) (level : Level) (c : ℕ) (k l m : Lexeme) (ls : List Lexeme) (n : List ℕ) (o : Op) (x : Literal) (t : Token) → c < 100 → k.token ≡ Word n → is_name n ≡ true → l.token ≡ Compare o → m.token ≡ t → IsLiteral x t → compare_turn_at (wanting outer level c) (k ∷ l ∷ m ∷ ls) ≡ Ok (completed outer level (c + 1) (Test n o x), ls)
+compare_step : (outer : List Level) (level : Level) (c : ℕ) (k l m : Lexeme) (ls : List Lexeme) (n : List ℕ) (o : Op) (x : Literal) (t : Token) → c < 100 → k.token ≡ Word n → is_name n ≡ true → l.token ≡ Compare o → m.token ≡ t → SpellsLiteral x t → compare_turn_at (wanting outer level c) (k ∷ l ∷ m ∷ ls) ≡ Ok (completed outer level (c + 1) (Test n o x), ls)
 unfolding compare_turn_at
 compare_step outer level c k l m ls n o x t b e h f g i =
     let free : starts is_free (k ∷ l ∷ m ∷ ls) ≡ true = rw (e, is_unreserved n h) refl in
     rw (free, few c b, compare_reads k l m ls n o x t e h f g i) refl
 
-test_step : (outer : List Level) (level : Level) (c : ℕ) (k l m : Lexeme) (ls : List Lexeme) (n : List ℕ) (o : Op) (x : Literal) (t : Token) → c < 100 → k.token ≡ Word n → is_name n ≡ true → l.token ≡ Compare o → m.token ≡ t → IsLiteral x t → cond_turn_at (wanting outer level c) (k ∷ l ∷ m ∷ ls) ≡ Ok (completed outer level (c + 1) (Test n o x), ls)
+test_step : (outer : List Level) (level : Level) (c : ℕ) (k l m : Lexeme) (ls : List Lexeme) (n : List ℕ) (o : Op) (x : Literal) (t : Token) → c < 100 → k.token ≡ Word n → is_name n ≡ true → l.token ≡ Compare o → m.token ≡ t → SpellsLiteral x t → cond_turn_at (wanting outer level c) (k ∷ l ∷ m ∷ ls) ≡ Ok (completed outer level (c + 1) (Test n o x), ls)
 unfolding cond_turn_at factor_turn_at
 test_step outer level c k l m ls n o x t b e h f g i =
     let no_not : starts (is_word (codes "NOT")) (k ∷ l ∷ m ∷ ls) ≡ false = rw e (is_no_keyword (codes "NOT") n not_is_reserved h) in
     let no_open : starts (is_the_sign 40) (k ∷ l ∷ m ∷ ls) ≡ false = rw e refl in
     rw (no_not, no_open) (compare_step outer level c k l m ls n o x t b e h f g i)
 
-negated_in : (n : ℕ) (t : Tree) → negated (n + 1) t ≡ negated n (Turned t)
+negated_in : (n : ℕ) (t : WrittenTree) → negated (n + 1) t ≡ negated n (Turned t)
 negated_in zero t = refl
-negated_in (suc n) t = let k : suc n + 1 ≡ suc (n + 1) = omega arith in rw k (ap (λ (u : Tree). Turned u) (negated_in n t))
+negated_in (suc n) t = let k : suc n + 1 ≡ suc (n + 1) = omega arith in rw k (ap (λ (u : WrittenTree). Turned u) (negated_in n t))
 
-completed_not : (outer : List Level) (level : Level) (n m : ℕ) (t : Tree) → n ≡ m → completed outer (record { either = level.either; both = level.both; nots = level.nots + 1 }) n t ≡ completed outer level m (Turned t)
+completed_not : (outer : List Level) (level : Level) (n m : ℕ) (t : WrittenTree) → n ≡ m → completed outer (record { either = level.either; both = level.both; nots = level.nots + 1 }) n t ≡ completed outer level m (Turned t)
 unfolding completed
 completed_not outer level n m t e = rw (e, negated_in level.nots t) refl
 
-completed_alone : (outer : List Level) (either : Option Tree) (n : ℕ) (t : Tree) → completed outer (record { either = either; both = None; nots = 0 }) n t ≡ holding outer either t n
+completed_alone : (outer : List Level) (either : Option WrittenTree) (n : ℕ) (t : WrittenTree) → completed outer (record { either = either; both = None; nots = 0 }) n t ≡ holding outer either t n
 unfolding completed
 completed_alone outer either n t = refl
 
-completed_both : (outer : List Level) (either : Option Tree) (a t : Tree) (n m : ℕ) → n ≡ m → completed outer (record { either = either; both = Some a; nots = 0 }) n t ≡ holding outer either (Both a t) m
+completed_both : (outer : List Level) (either : Option WrittenTree) (a t : WrittenTree) (n m : ℕ) → n ≡ m → completed outer (record { either = either; both = Some a; nots = 0 }) n t ≡ holding outer either (Both a t) m
 unfolding completed
 completed_both outer either a t n m e = rw e refl
 
 -- what a whole condition leads to
-record WholeRuns (outer : List Level) (n : ℕ) (t : Tree) (us rest : List Lexeme) : Type 0 where
-  either : Option Tree
-  last : Tree
+record WholeRuns (outer : List Level) (n : ℕ) (t : WrittenTree) (us rest : List Lexeme) : Type 0 where
+  either : Option WrittenTree
+  last : WrittenTree
   same : with_or either last ≡ t
   run : CondRuns (wanting outer no_level n) (us ++ rest) (holding outer either last (n + nodes t)) rest
 
-abbrev Claim : Part → Tree → List Token → Type 0
+abbrev Claim : CondPart → WrittenTree → List Token → Type 0
 Claim Whole t toks = (us rest : List Lexeme) (outer : List Level) (n : ℕ) → map token_of us ≡ toks → n + nodes t ≤ 100 → WholeRuns outer n t us rest
-Claim Term t toks = (us rest : List Lexeme) (outer : List Level) (either : Option Tree) (n : ℕ) → map token_of us ≡ toks → n + nodes t ≤ 100 → CondRuns (wanting outer (record { either = either; both = None; nots = 0 }) n) (us ++ rest) (holding outer either t (n + nodes t)) rest
+Claim Term t toks = (us rest : List Lexeme) (outer : List Level) (either : Option WrittenTree) (n : ℕ) → map token_of us ≡ toks → n + nodes t ≤ 100 → CondRuns (wanting outer (record { either = either; both = None; nots = 0 }) n) (us ++ rest) (holding outer either t (n + nodes t)) rest
 Claim Factor t toks = (us rest : List Lexeme) (outer : List Level) (level : Level) (n : ℕ) → map token_of us ≡ toks → n + nodes t ≤ 100 → level.nots ≤ n → CondRuns (wanting outer level n) (us ++ rest) (completed outer level (n + nodes t) t) rest
 
 -- a joined condition, cut at what joins it
 cut : (us rest a b c : List Lexeme) (l : Lexeme) → us ≡ a ++ b → b ≡ l ∷ c → us ++ rest ≡ a ++ (l ∷ (c ++ rest))
 cut us rest a b c l e f = ap (λ (vs : List Lexeme). vs ++ rest) e ∙ append_assoc a b rest ∙ ap (λ (vs : List Lexeme). a ++ (vs ++ rest)) f
 
-some_node : (t : Tree) → 1 ≤ nodes t
+some_node : (t : WrittenTree) → 1 ≤ nodes t
 some_node (Test n o x) = omega arith
 some_node (Both a b) = omega arith
 some_node (Either a b) = omega arith
 some_node (Turned a) = omega arith
 
-either_runs : (a b : Tree) (xs ys : List Token) → Claim Whole a xs → Claim Term b ys → Claim Whole (Either a b) (xs ++ (Word (codes "OR") ∷ ys))
+either_runs : (a b : WrittenTree) (xs ys : List Token) → Claim Whole a xs → Claim Term b ys → Claim Whole (Either a b) (xs ++ (Word (codes "OR") ∷ ys))
 either_runs a b xs ys f g us rest outer n e h =
     let s = splits us xs (Word (codes "OR") ∷ ys) e in
     let k = heads s.b (Word (codes "OR")) ys s.back in
@@ -241,11 +241,11 @@ either_runs a b xs ys f g us rest outer n e h =
     record {
       either = Some (with_or first.either first.last);
       last = b;
-      same = ap (λ (x : Tree). Either x b) first.same;
+      same = ap (λ (x : WrittenTree). Either x b) first.same;
       run = rw (cut us rest s.a s.b k.b k.l s.all k.all, ← count) all;
     }
 
-both_runs : (a b : Tree) (xs ys : List Token) → Claim Term a xs → Claim Factor b ys → Claim Term (Both a b) (xs ++ (Word (codes "AND") ∷ ys))
+both_runs : (a b : WrittenTree) (xs ys : List Token) → Claim Term a xs → Claim Factor b ys → Claim Term (Both a b) (xs ++ (Word (codes "AND") ∷ ys))
 both_runs a b xs ys f g us rest outer either n e h =
     let s = splits us xs (Word (codes "AND") ∷ ys) e in
     let k = heads s.b (Word (codes "AND")) ys s.back in
@@ -257,7 +257,7 @@ both_runs a b xs ys f g us rest outer either n e h =
     rw (cut us rest s.a s.b k.b k.l s.all k.all)
     (joins cond_done cond_turn_at _ _ _ _ _ _ first (step _ _ _ _ (k.b ++ rest) _ (goes_on outer either a (n + nodes a) k.l (k.b ++ rest) k.token) (and_step outer either a (n + nodes a) k.l (k.b ++ rest) k.token few_so_far) (omega arith) third))
 
-not_runs : (t : Tree) (ts : List Token) → Claim Factor t ts → Claim Factor (Turned t) (Word (codes "NOT") ∷ ts)
+not_runs : (t : WrittenTree) (ts : List Token) → Claim Factor t ts → Claim Factor (Turned t) (Word (codes "NOT") ∷ ts)
 not_runs t ts f us rest outer level n e h b =
     let k = heads us (Word (codes "NOT")) ts e in
     let few_so_far : n < 100 = omega (arith, some_node t) in
@@ -266,7 +266,7 @@ not_runs t ts f us rest outer level n e h b =
     let last = subst (λ (x : CondRead). CondRuns (wanting outer (record { either = level.either; both = level.both; nots = level.nots + 1 }) (n + 1)) (k.b ++ rest) x rest) (completed_not outer level _ _ t count) more in
     rw k.all (step _ _ _ _ (k.b ++ rest) _ refl (not_step outer level n k.l (k.b ++ rest) k.token few_so_far (omega arith)) (omega arith) last)
 
-brackets_run : (t : Tree) (ts : List Token) → Claim Whole t ts → Claim Factor t (Sign 40 ∷ (ts ++ (Sign 41 ∷ [])))
+brackets_run : (t : WrittenTree) (ts : List Token) → Claim Whole t ts → Claim Factor t (Sign 40 ∷ (ts ++ (Sign 41 ∷ [])))
 brackets_run t ts f us rest outer level n e h b =
     let k = heads us (Sign 40) (ts ++ (Sign 41 ∷ [])) e in
     let s = splits k.b ts (Sign 41 ∷ []) k.back in
@@ -277,12 +277,12 @@ brackets_run t ts f us rest outer level n e h b =
     step _ _ _ _ (m.b ++ rest) _ refl closed (omega arith) (here _ _) in
     let whole = joins cond_done cond_turn_at _ _ _ _ _ _ inner.run ended in
     let no_more : m.b ++ rest ≡ rest = ap (λ (vs : List Lexeme). vs ++ rest) (none_left m.b m.back) in
-    let whole_2 = subst (λ (x : Tree). CondRuns (wanting (level ∷ outer) no_level n) (s.a ++ (m.l ∷ (m.b ++ rest))) (completed outer level (n + nodes t) x) (m.b ++ rest)) inner.same whole in
+    let whole_2 = subst (λ (x : WrittenTree). CondRuns (wanting (level ∷ outer) no_level n) (s.a ++ (m.l ∷ (m.b ++ rest))) (completed outer level (n + nodes t) x) (m.b ++ rest)) inner.same whole in
     let whole_3 = subst (λ (vs : List Lexeme). CondRuns (wanting (level ∷ outer) no_level n) (s.a ++ (m.l ∷ (m.b ++ rest))) (completed outer level (n + nodes t) t) vs) no_more whole_2 in
     let whole_4 = subst (λ (vs : List Lexeme). CondRuns (wanting (level ∷ outer) no_level n) vs (completed outer level (n + nodes t) t) rest) (sym (cut k.b rest s.a s.b m.b m.l s.all m.all)) whole_3 in
     rw k.all (step _ _ _ _ (k.b ++ rest) _ refl (open_step outer level n k.l (k.b ++ rest) k.token) (omega arith) whole_4)
 
-test_runs : (n : List ℕ) (o : Op) (x : Literal) (t : Token) → is_name n ≡ true → IsLiteral x t → Claim Factor (Test n o x) (Word n ∷ (Compare o ∷ (t ∷ [])))
+test_runs : (n : List ℕ) (o : Op) (x : Literal) (t : Token) → is_name n ≡ true → SpellsLiteral x t → Claim Factor (Test n o x) (Word n ∷ (Compare o ∷ (t ∷ [])))
 test_runs n o x t named lit us rest outer level c e h b =
     let k = heads us (Word n) (Compare o ∷ (t ∷ [])) e in
     let l = heads k.b (Compare o) (t ∷ []) k.back in
@@ -290,7 +290,7 @@ test_runs n o x t named lit us rest outer level c e h b =
     let same : us ≡ k.l ∷ l.l ∷ m.l ∷ [] = k.all ∙ ap (λ (vs : List Lexeme). k.l ∷ vs) (l.all ∙ ap (λ (vs : List Lexeme). l.l ∷ vs) (m.all ∙ ap (λ (vs : List Lexeme). m.l ∷ vs) (none_left m.b m.back))) in
     rw same (step _ _ _ _ rest _ refl (test_step outer level c k.l l.l m.l rest n o x t (omega arith) k.token named l.token m.token lit) (omega arith) (here _ _))
 
-complete : (p : Part) (t : Tree) (toks : List Token) → IsCond p t toks → Claim p t toks
+complete : (p : CondPart) (t : WrittenTree) (toks : List Token) → IsCond p t toks → Claim p t toks
 complete _ _ _ (a_term t ts d) = λ us rest outer n e h. record { either = None; last = t; same = refl; run = complete Term t ts d us rest outer None n e h }
 complete _ _ _ (an_or a b xs ys d f) = either_runs a b xs ys (complete Whole a xs d) (complete Term b ys f)
 complete _ _ _ (a_factor t ts d) = λ us rest outer either n e h. subst (λ (x : CondRead). CondRuns (wanting outer (record { either = either; both = None; nots = 0 }) n) (us ++ rest) x rest) (completed_alone outer either (n + nodes t) t) (complete Factor t ts d us rest outer (record { either = either; both = None; nots = 0 }) n e h (omega arith))
@@ -299,7 +299,7 @@ complete _ _ _ (a_not t ts d) = not_runs t ts (complete Factor t ts d)
 complete _ _ _ (brackets t ts d) = brackets_run t ts (complete Whole t ts d)
 complete _ _ _ (a_test n o x t named lit) = test_runs n o x t named lit
 
-pub cond_complete : (us rest : List Lexeme) (t : Tree) → IsCond Whole t (map token_of us) → nodes t ≤ 100 → starts (is_word (codes "AND")) rest ≡ false → starts (is_word (codes "OR")) rest ≡ false → cond_at (us ++ rest) ≡ Ok (t, rest)
+pub cond_complete : (us rest : List Lexeme) (t : WrittenTree) → IsCond Whole t (map token_of us) → nodes t ≤ 100 → starts (is_word (codes "AND")) rest ≡ false → starts (is_word (codes "OR")) rest ≡ false → cond_at (us ++ rest) ≡ Ok (t, rest)
 unfolding cond_at
 cond_complete us rest t d h na nor =
     let r = complete Whole t (map token_of us) d us rest [] 0 refl (omega arith) in

@@ -8,8 +8,8 @@ use Rattle.std.specs.declared.result.Result.TheVariants.{Ok, Err}
 use Rattle.dms_tokens.specs.declared.token.Lexeme.{Lexeme}
 use Rattle.dasdl_phrases.specs.declared.levels.Level.{Level}
 use Rattle.dasdl_phrases.specs.declared.cond.CondRead.{CondRead}
-use Rattle.dasdl_phrases.specs.TreeCodes.{Tree}
-use Rattle.dasdl_phrases.specs.TreeCodes.Tree.{Test}
+use Rattle.dasdl_phrases.specs.TreeCodes.{WrittenTree}
+use Rattle.dasdl_phrases.specs.TreeCodes.WrittenTree.{Test}
 use Rattle.dasdl_phrases.specs.Branches.{negated, with_and, with_or}
 use Rattle.dasdl_phrases.specs.Reads.{◌>>=◌, Read}
 use Rattle.dms_tokens.specs.Cursors.{starts, is_word, is_the_sign}
@@ -40,7 +40,7 @@ module _ {S : Type 0} (P : S → Type 0) (done : S → List Lexeme → Bool) (on
   turns_at-keep s t ts rest h e = turns-keep _ s t ts rest h e
 
 -- the nodes of what stands before OR or AND, and that word
-abbrev joined_nodes : Option Tree → ℕ
+abbrev joined_nodes : Option WrittenTree → ℕ
 joined_nodes None = 0
 joined_nodes (Some t) = nodes t + 1
 
@@ -51,31 +51,31 @@ abbrev outer_nodes : List Level → ℕ
 outer_nodes [] = 0
 outer_nodes (l ∷ ls) = level_nodes l + outer_nodes ls
 
-abbrev inner_nodes : Option Tree → Level → ℕ
+abbrev inner_nodes : Option WrittenTree → Level → ℕ
 inner_nodes None level = level_nodes level
 inner_nodes (Some t) level = joined_nodes level.either + nodes t
 
 -- as many nodes as are counted, and at most 100
-record Counts (outer : List Level) (level : Level) (done : Option Tree) (n : ℕ) : Type 0 where
+record Counts (outer : List Level) (level : Level) (done : Option WrittenTree) (n : ℕ) : Type 0 where
   all : n ≡ outer_nodes outer + inner_nodes done level
   few : n ≤ 100
 
 abbrev Counted : CondRead → Type 0
 Counted s = Counts s.outer s.level s.done s.nodes
 
-nodes_negated : (n : ℕ) (t : Tree) → nodes (negated n t) ≡ n + nodes t
+nodes_negated : (n : ℕ) (t : WrittenTree) → nodes (negated n t) ≡ n + nodes t
 nodes_negated zero t = omega arith
 nodes_negated (suc n) t = omega (arith, nodes_negated n t)
 
-nodes_and : (o : Option Tree) (t : Tree) → nodes (with_and o t) ≡ joined_nodes o + nodes t
+nodes_and : (o : Option WrittenTree) (t : WrittenTree) → nodes (with_and o t) ≡ joined_nodes o + nodes t
 nodes_and None t = omega arith
 nodes_and (Some a) t = omega arith
 
-nodes_or : (o : Option Tree) (t : Tree) → nodes (with_or o t) ≡ joined_nodes o + nodes t
+nodes_or : (o : Option WrittenTree) (t : WrittenTree) → nodes (with_or o t) ≡ joined_nodes o + nodes t
 nodes_or None t = omega arith
 nodes_or (Some a) t = omega arith
 
-completed_counts : (outer : List Level) (level : Level) (n : ℕ) (t : Tree) → n ≡ outer_nodes outer + level_nodes level + nodes t → n ≤ 100 → Counted (completed outer level n t)
+completed_counts : (outer : List Level) (level : Level) (n : ℕ) (t : WrittenTree) → n ≡ outer_nodes outer + level_nodes level + nodes t → n ≤ 100 → Counted (completed outer level n t)
 unfolding completed
 completed_counts outer level n t e few = record {
   all = omega (arith, e, nodes_and level.both (negated level.nots t), nodes_negated level.nots t);
@@ -85,13 +85,13 @@ completed_counts outer level n t e few = record {
 abbrev Keeps : Read CondRead → Type 0
 Keeps read = (t : CondRead) (rest : List Lexeme) → read ≡ Ok (t, rest) → Counted t
 
-test_nodes : (ts : List Lexeme) (t : Tree) (rest : List Lexeme) → compare_at ts ≡ Ok (t, rest) → nodes t ≡ 1
+test_nodes : (ts : List Lexeme) (t : WrittenTree) (rest : List Lexeme) → compare_at ts ≡ Ok (t, rest) → nodes t ≡ 1
 unfolding compare_at
 test_nodes ts t rest h =
     let a = bind_ok (name_at ts) _ _ h in
     let b = bind_ok (op_at a.0.1) _ _ a.2 in
     let c = bind_ok (literal_at b.0.1) _ _ b.2 in
-    sym (ap (λ (x : Tree × List Lexeme). nodes x.0) (ok_same (Test a.0.0 b.0.0 c.0.0, c.0.1) (t, rest) c.2))
+    sym (ap (λ (x : WrittenTree × List Lexeme). nodes x.0) (ok_same (Test a.0.0 b.0.0 c.0.0, c.0.1) (t, rest) c.2))
 
 below : (n : ℕ) → nat_le 100 n ≡ false → n + 1 ≤ 100
 below n h = grind (arith, nat_tests)
@@ -127,7 +127,7 @@ factor_counts s ts k t rest h =
     (not_counts s ts k t rest)
     (pick (starts (is_the_sign 40) ts) (open_turn_at s ts) (compare_turn_at s ts) (t, rest) (open_counts s ts k t rest) (compare_counts s ts k t rest)) h
 
-and_counts : (outer : List Level) (level : Level) (n : ℕ) (left : Tree) (ts : List Lexeme) → Counts outer level (Some left) n → Keeps (and_turn_at outer level n left ts)
+and_counts : (outer : List Level) (level : Level) (n : ℕ) (left : WrittenTree) (ts : List Lexeme) → Counts outer level (Some left) n → Keeps (and_turn_at outer level n left ts)
 unfolding and_turn_at
 and_counts outer level n left ts k t rest h =
     let a = skip_ok (nat_le 100 n) _ _ _ h in
@@ -135,7 +135,7 @@ and_counts outer level n left ts k t rest h =
     subst (λ (x : CondRead × List Lexeme). Counted x.0) (ok_same (record { outer = outer; level = record { either = level.either; both = Some left; nots = 0 }; done = None; nodes = n + 1 }, b.0) (t, rest) b.2)
     (record { all = omega (arith, k.all); few = below n a.0 })
 
-or_counts : (outer : List Level) (level : Level) (n : ℕ) (left : Tree) (ts : List Lexeme) → Counts outer level (Some left) n → Keeps (or_turn_at outer level n left ts)
+or_counts : (outer : List Level) (level : Level) (n : ℕ) (left : WrittenTree) (ts : List Lexeme) → Counts outer level (Some left) n → Keeps (or_turn_at outer level n left ts)
 unfolding or_turn_at
 or_counts outer level n left ts k t rest h =
     let a = skip_ok (nat_le 100 n) _ _ _ h in
@@ -143,7 +143,7 @@ or_counts outer level n left ts k t rest h =
     subst (λ (x : CondRead × List Lexeme). Counted x.0) (ok_same (record { outer = outer; level = record { either = Some (with_or level.either left); both = None; nots = 0 }; done = None; nodes = n + 1 }, b.0) (t, rest) b.2)
     (record { all = omega (arith, k.all, nodes_or level.either left); few = below n a.0 })
 
-close_counts : (outer : List Level) (level : Level) (n : ℕ) (left : Tree) (ts : List Lexeme) → Counts outer level (Some left) n → Keeps (close_turn_at outer level n left ts)
+close_counts : (outer : List Level) (level : Level) (n : ℕ) (left : WrittenTree) (ts : List Lexeme) → Counts outer level (Some left) n → Keeps (close_turn_at outer level n left ts)
 unfolding close_turn_at
 close_counts [] level n left ts k t rest h = absurd (cc)
 close_counts (up ∷ outer) level n left ts k t rest h =
@@ -151,14 +151,14 @@ close_counts (up ∷ outer) level n left ts k t rest h =
     subst (λ (x : CondRead × List Lexeme). Counted x.0) (ok_same (completed outer up n (with_or level.either left), b.0) (t, rest) b.2)
     (completed_counts outer up n (with_or level.either left) (omega (arith, k.all, nodes_or level.either left)) k.few)
 
-join_counts : (outer : List Level) (level : Level) (n : ℕ) (left : Tree) (ts : List Lexeme) → Counts outer level (Some left) n → Keeps (join_turn_at outer level n left ts)
+join_counts : (outer : List Level) (level : Level) (n : ℕ) (left : WrittenTree) (ts : List Lexeme) → Counts outer level (Some left) n → Keeps (join_turn_at outer level n left ts)
 unfolding join_turn_at
 join_counts outer level n left ts k t rest h =
     pick (starts (is_word (codes "AND")) ts) (and_turn_at outer level n left ts) (cond (starts (is_word (codes "OR")) ts) (or_turn_at outer level n left ts) (close_turn_at outer level n left ts)) (t, rest)
     (and_counts outer level n left ts k t rest)
     (pick (starts (is_word (codes "OR")) ts) (or_turn_at outer level n left ts) (close_turn_at outer level n left ts) (t, rest) (or_counts outer level n left ts k t rest) (close_counts outer level n left ts k t rest)) h
 
-turn_counts_by : (done : Option Tree) (s : CondRead) (ts : List Lexeme) → Counts s.outer s.level done s.nodes → Keeps (cond_turn_by done s ts)
+turn_counts_by : (done : Option WrittenTree) (s : CondRead) (ts : List Lexeme) → Counts s.outer s.level done s.nodes → Keeps (cond_turn_by done s ts)
 turn_counts_by None s ts k = factor_counts s ts k
 turn_counts_by (Some left) s ts k = join_counts s.outer s.level s.nodes left ts k
 
@@ -166,12 +166,12 @@ turn_counts : (s t : CondRead) (ts rest : List Lexeme) → Counted s → cond_tu
 unfolding cond_turn_at
 turn_counts s t ts rest k h = turn_counts_by s.done s ts k t rest h
 
-finished_few : (done : Option Tree) (outer : List Level) (level : Level) (n : ℕ) (t : Tree) (ts rest : List Lexeme) → Counts outer level done n → finished done level.either ts ≡ Ok (t, rest) → nodes t ≤ 100
+finished_few : (done : Option WrittenTree) (outer : List Level) (level : Level) (n : ℕ) (t : WrittenTree) (ts rest : List Lexeme) → Counts outer level done n → finished done level.either ts ≡ Ok (t, rest) → nodes t ≤ 100
 finished_few None outer level n t ts rest k h = absurd (cc)
 finished_few (Some left) outer level n t ts rest k h =
-    subst (λ (x : Tree × List Lexeme). nodes x.0 ≤ 100) (ok_same (with_or level.either left, ts) (t, rest) h) (omega (arith, k.all, k.few, nodes_or level.either left))
+    subst (λ (x : WrittenTree × List Lexeme). nodes x.0 ≤ 100) (ok_same (with_or level.either left, ts) (t, rest) h) (omega (arith, k.all, k.few, nodes_or level.either left))
 
-pub cond_few : (ts : List Lexeme) (t : Tree) (rest : List Lexeme) → cond_at ts ≡ Ok (t, rest) → nodes t ≤ 100
+pub cond_few : (ts : List Lexeme) (t : WrittenTree) (rest : List Lexeme) → cond_at ts ≡ Ok (t, rest) → nodes t ≤ 100
 unfolding cond_at
 cond_few ts t rest h =
     let b = bind_ok (turns_at cond_done cond_turn_at no_cond ts) _ _ h in

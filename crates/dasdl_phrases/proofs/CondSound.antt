@@ -12,27 +12,27 @@ use Rattle.dms_tokens.specs.declared.token.Token.TheVariants.{Word, Sign}
 use Rattle.dms_tokens.specs.declared.token.Lexeme.{Lexeme}
 use Rattle.dasdl_phrases.specs.declared.levels.Level.{Level}
 use Rattle.dasdl_phrases.specs.declared.cond.CondRead.{CondRead}
-use Rattle.dasdl_phrases.specs.TreeCodes.{Tree}
-use Rattle.dasdl_phrases.specs.TreeCodes.Tree.{Test}
+use Rattle.dasdl_phrases.specs.TreeCodes.{WrittenTree}
+use Rattle.dasdl_phrases.specs.TreeCodes.WrittenTree.{Test}
 use Rattle.dasdl_phrases.specs.Branches.{negated, with_and, with_or, is_nil}
 use Rattle.dms_tokens.specs.Cursors.{starts, is_word, is_the_sign}
 use Rattle.dasdl_phrases.specs.Cursors.{is_free, word_at, sign_at, name_at, turns_at}
 use Rattle.dasdl_phrases.specs.Kinds.{literal_at}
 use Rattle.dasdl_phrases.specs.Conditions.{completed, no_level, no_cond, op_at, compare_at, compare_turn_at, not_turn_at, open_turn_at, factor_turn_at, and_turn_at, or_turn_at, close_turn_at, join_turn_at, cond_turn_by, cond_turn_at, cond_done, cond_at, finished}
 use Rattle.dasdl_phrases.specs.CondSpelling.{token_of, IsCond, Reads}
-use Rattle.dasdl_phrases.specs.CondSpelling.Part.{Whole, Term, Factor}
+use Rattle.dasdl_phrases.specs.CondSpelling.CondPart.{Whole, Term, Factor}
 use Rattle.dasdl_phrases.specs.CondSpelling.IsCond.{a_term, an_or, a_factor, an_and, a_not, brackets, a_test}
 use Rattle.dasdl_phrases.proofs.Inverting.{bind_ok, skip_ok, ok_same}
 use Rattle.dasdl_phrases.proofs.SpelledTokens.{word_spelled, sign_spelled, name_spelled, op_spelled, literal_spelled}
 use Rattle.dasdl_phrases.proofs.TurnsSound.{Goes, turns_at-goes, turns_at-ends}
 
 -- what stands before OR
-abbrev IsEither : Option Tree → List Token → Type 0
+abbrev IsEither : Option WrittenTree → List Token → Type 0
 IsEither None ts = ts ≡ []
 IsEither (Some a) ts = (xs : List Token) × IsCond Whole a xs × (ts ≡ xs ++ (Word (codes "OR") ∷ []))
 
 -- what stands before AND
-abbrev IsBoth : Option Tree → List Token → Type 0
+abbrev IsBoth : Option WrittenTree → List Token → Type 0
 IsBoth None ts = ts ≡ []
 IsBoth (Some a) ts = (xs : List Token) × IsCond Term a xs × (ts ≡ xs ++ (Word (codes "AND") ∷ []))
 
@@ -61,7 +61,7 @@ record IsWanting (outer : List Level) (level : Level) (ts : List Token) : Type 0
   all : ts ≡ front ++ own
 
 -- what has been read where a factor has been read
-record IsDone (outer : List Level) (level : Level) (t : Tree) (ts : List Token) : Type 0 where
+record IsDone (outer : List Level) (level : Level) (t : WrittenTree) (ts : List Token) : Type 0 where
   front : List Token
   either : List Token
   term : List Token
@@ -70,22 +70,22 @@ record IsDone (outer : List Level) (level : Level) (t : Tree) (ts : List Token) 
   is : IsCond Term t term
   all : ts ≡ front ++ (either ++ term)
 
-abbrev StandsBy : Option Tree → List Level → Level → List Token → Type 0
+abbrev StandsBy : Option WrittenTree → List Level → Level → List Token → Type 0
 StandsBy None outer level ts = IsWanting outer level ts
 StandsBy (Some t) outer level ts = IsDone outer level t ts
 
 abbrev Stands : CondRead → List Token → Type 0
 Stands s ts = StandsBy s.done s.outer s.level ts
 
-with_either : (e : Option Tree) (ts zs : List Token) (t : Tree) → IsEither e ts → IsCond Term t zs → IsCond Whole (with_or e t) (ts ++ zs)
+with_either : (e : Option WrittenTree) (ts zs : List Token) (t : WrittenTree) → IsEither e ts → IsCond Term t zs → IsCond Whole (with_or e t) (ts ++ zs)
 with_either None ts zs t is h = rw is (a_term t zs h)
 with_either (Some a) ts zs t is h = rw (is.2, append_assoc) (an_or a t is.0 zs is.1 h)
 
-with_both : (e : Option Tree) (ts zs : List Token) (t : Tree) → IsBoth e ts → IsCond Factor t zs → IsCond Term (with_and e t) (ts ++ zs)
+with_both : (e : Option WrittenTree) (ts zs : List Token) (t : WrittenTree) → IsBoth e ts → IsCond Factor t zs → IsCond Term (with_and e t) (ts ++ zs)
 with_both None ts zs t is h = rw is (a_factor t zs h)
 with_both (Some a) ts zs t is h = rw (is.2, append_assoc) (an_and a t is.0 zs is.1 h)
 
-turned : (n : ℕ) (t : Tree) (zs : List Token) → IsCond Factor t zs → IsCond Factor (negated n t) (nots_of n ++ zs)
+turned : (n : ℕ) (t : WrittenTree) (zs : List Token) → IsCond Factor t zs → IsCond Factor (negated n t) (nots_of n ++ zs)
 turned zero t zs h = h
 turned (suc n) t zs h = a_not (negated n t) (nots_of n ++ zs) (turned n t zs h)
 
@@ -93,7 +93,7 @@ nots_more : (n : ℕ) → nots_of (n + 1) ≡ nots_of n ++ (Word (codes "NOT") �
 nots_more zero = refl
 nots_more (suc n) = let k : suc n + 1 ≡ suc (n + 1) = omega arith in rw k (ap (λ (xs : List Token). Word (codes "NOT") ∷ xs) (nots_more n))
 
-completes : (outer : List Level) (level : Level) (nodes : ℕ) (t : Tree) (front own zs : List Token) → IsOuter outer front → IsLevel level own → IsCond Factor t zs → Stands (completed outer level nodes t) ((front ++ own) ++ zs)
+completes : (outer : List Level) (level : Level) (nodes : ℕ) (t : WrittenTree) (front own zs : List Token) → IsOuter outer front → IsLevel level own → IsCond Factor t zs → Stands (completed outer level nodes t) ((front ++ own) ++ zs)
 unfolding completed
 completes outer level nodes t front own zs o l f = record {
   front = front;
@@ -105,7 +105,7 @@ completes outer level nodes t front own zs o l f = record {
   all = ap (λ (xs : List Token). (front ++ xs) ++ zs) l.all ∙ simp append_assoc;
 }
 
-compare_spelled : (ts : List Lexeme) (t : Tree) (rest : List Lexeme) → compare_at ts ≡ Ok (t, rest) → Reads (IsCond Factor) ts t rest
+compare_spelled : (ts : List Lexeme) (t : WrittenTree) (rest : List Lexeme) → compare_at ts ≡ Ok (t, rest) → Reads (IsCond Factor) ts t rest
 unfolding compare_at
 compare_spelled ts t rest h =
     let a = bind_ok (name_at ts) _ _ h in
@@ -115,7 +115,7 @@ compare_spelled ts t rest h =
     let o = op_spelled a.0.1 b.0.0 b.0.1 b.1 in
     let l = literal_spelled b.0.1 c.0.0 c.0.1 c.1 in
     let g = ok_same (Test a.0.0 b.0.0 c.0.0, c.0.1) (t, rest) c.2 in
-    subst (λ (x : Tree × List Lexeme). Reads (IsCond Factor) ts x.0 x.1) g (record {
+    subst (λ (x : WrittenTree × List Lexeme). Reads (IsCond Factor) ts x.0 x.1) g (record {
       used = n.1.first ∷ (o.first ∷ (l.first ∷ []));
       is = rw (n.1.token, o.token) (a_test a.0.0 b.0.0 c.0.0 l.first.token n.0 l.is);
       all = n.1.all ∙ ap (λ (xs : List Lexeme). n.1.first ∷ xs) (o.all ∙ ap (λ (xs : List Lexeme). o.first ∷ xs) l.all);
@@ -189,7 +189,7 @@ factor_goes s t toks ts rest w h =
     (not_goes s t toks ts rest w)
     (pick (starts (is_the_sign 40) ts) (open_turn_at s ts) (compare_turn_at s ts) (t, rest) (open_goes s t toks ts rest w) (compare_goes s t toks ts rest w)) h
 
-and_goes : (outer : List Level) (level : Level) (nodes : ℕ) (left : Tree) (t : CondRead) (toks : List Token) (ts rest : List Lexeme) → IsDone outer level left toks → and_turn_at outer level nodes left ts ≡ Ok (t, rest) → Goes Stands t toks ts rest
+and_goes : (outer : List Level) (level : Level) (nodes : ℕ) (left : WrittenTree) (t : CondRead) (toks : List Token) (ts rest : List Lexeme) → IsDone outer level left toks → and_turn_at outer level nodes left ts ≡ Ok (t, rest) → Goes Stands t toks ts rest
 unfolding and_turn_at
 and_goes outer level nodes left t toks ts rest d h =
     let a = skip_ok (nat_le 100 nodes) _ _ _ h in
@@ -214,7 +214,7 @@ and_goes outer level nodes left t toks ts rest d h =
       all = k.all;
     })
 
-or_goes : (outer : List Level) (level : Level) (nodes : ℕ) (left : Tree) (t : CondRead) (toks : List Token) (ts rest : List Lexeme) → IsDone outer level left toks → or_turn_at outer level nodes left ts ≡ Ok (t, rest) → Goes Stands t toks ts rest
+or_goes : (outer : List Level) (level : Level) (nodes : ℕ) (left : WrittenTree) (t : CondRead) (toks : List Token) (ts rest : List Lexeme) → IsDone outer level left toks → or_turn_at outer level nodes left ts ≡ Ok (t, rest) → Goes Stands t toks ts rest
 unfolding or_turn_at
 or_goes outer level nodes left t toks ts rest d h =
     let a = skip_ok (nat_le 100 nodes) _ _ _ h in
@@ -239,7 +239,7 @@ or_goes outer level nodes left t toks ts rest d h =
       all = k.all;
     })
 
-close_goes : (outer : List Level) (level : Level) (nodes : ℕ) (left : Tree) (t : CondRead) (toks : List Token) (ts rest : List Lexeme) → IsDone outer level left toks → close_turn_at outer level nodes left ts ≡ Ok (t, rest) → Goes Stands t toks ts rest
+close_goes : (outer : List Level) (level : Level) (nodes : ℕ) (left : WrittenTree) (t : CondRead) (toks : List Token) (ts rest : List Lexeme) → IsDone outer level left toks → close_turn_at outer level nodes left ts ≡ Ok (t, rest) → Goes Stands t toks ts rest
 unfolding close_turn_at
 close_goes [] level nodes left t toks ts rest d h = absurd (cc)
 close_goes (up ∷ outer) level nodes left t toks ts rest d h =
@@ -256,14 +256,14 @@ close_goes (up ∷ outer) level nodes left t toks ts rest d h =
       all = m.all;
     })
 
-join_goes : (outer : List Level) (level : Level) (nodes : ℕ) (left : Tree) (t : CondRead) (toks : List Token) (ts rest : List Lexeme) → IsDone outer level left toks → join_turn_at outer level nodes left ts ≡ Ok (t, rest) → Goes Stands t toks ts rest
+join_goes : (outer : List Level) (level : Level) (nodes : ℕ) (left : WrittenTree) (t : CondRead) (toks : List Token) (ts rest : List Lexeme) → IsDone outer level left toks → join_turn_at outer level nodes left ts ≡ Ok (t, rest) → Goes Stands t toks ts rest
 unfolding join_turn_at
 join_goes outer level nodes left t toks ts rest d h =
     pick (starts (is_word (codes "AND")) ts) (and_turn_at outer level nodes left ts) (cond (starts (is_word (codes "OR")) ts) (or_turn_at outer level nodes left ts) (close_turn_at outer level nodes left ts)) (t, rest)
     (and_goes outer level nodes left t toks ts rest d)
     (pick (starts (is_word (codes "OR")) ts) (or_turn_at outer level nodes left ts) (close_turn_at outer level nodes left ts) (t, rest) (or_goes outer level nodes left t toks ts rest d) (close_goes outer level nodes left t toks ts rest d)) h
 
-goes_by : (done : Option Tree) (s t : CondRead) (toks : List Token) (ts rest : List Lexeme) → StandsBy done s.outer s.level toks → cond_turn_by done s ts ≡ Ok (t, rest) → Goes Stands t toks ts rest
+goes_by : (done : Option WrittenTree) (s t : CondRead) (toks : List Token) (ts rest : List Lexeme) → StandsBy done s.outer s.level toks → cond_turn_by done s ts ≡ Ok (t, rest) → Goes Stands t toks ts rest
 goes_by None s t toks ts rest w h = factor_goes s t toks ts rest w h
 goes_by (Some left) s t toks ts rest d h = join_goes s.outer s.level s.nodes left t toks ts rest d h
 
@@ -275,14 +275,14 @@ outside_none : (outer : List Level) (front : List Token) → is_nil outer ≡ tr
 outside_none [] front h o = o
 outside_none (l ∷ ls) front h o = absurd (cc)
 
-finishes : (done : Option Tree) (outer : List Level) (level : Level) (used : List Token) (t : Tree) (ts rest : List Lexeme) → is_nil outer ≡ true → StandsBy done outer level used → finished done level.either ts ≡ Ok (t, rest) → IsCond Whole t used × (ts ≡ rest)
+finishes : (done : Option WrittenTree) (outer : List Level) (level : Level) (used : List Token) (t : WrittenTree) (ts rest : List Lexeme) → is_nil outer ≡ true → StandsBy done outer level used → finished done level.either ts ≡ Ok (t, rest) → IsCond Whole t used × (ts ≡ rest)
 finishes None outer level used t ts rest n w h = absurd (cc)
 finishes (Some left) outer level used t ts rest n d h =
     let g = ok_same (with_or level.either left, ts) (t, rest) h in
     let k : used ≡ d.either ++ d.term = d.all ∙ ap (λ (xs : List Token). xs ++ (d.either ++ d.term)) (outside_none outer d.front n d.outside) in
-    (subst (λ (x : Tree × List Lexeme). IsCond Whole x.0 used) g (rw k (with_either level.either d.either d.term left d.before_or d.is)), ap (λ (x : Tree × List Lexeme). x.1) g)
+    (subst (λ (x : WrittenTree × List Lexeme). IsCond Whole x.0 used) g (rw k (with_either level.either d.either d.term left d.before_or d.is)), ap (λ (x : WrittenTree × List Lexeme). x.1) g)
 
-pub cond_sound : (ts : List Lexeme) (t : Tree) (rest : List Lexeme) → cond_at ts ≡ Ok (t, rest) → Reads (IsCond Whole) ts t rest
+pub cond_sound : (ts : List Lexeme) (t : WrittenTree) (rest : List Lexeme) → cond_at ts ≡ Ok (t, rest) → Reads (IsCond Whole) ts t rest
 unfolding cond_at
 cond_sound ts t rest h =
     let b = bind_ok (turns_at cond_done cond_turn_at no_cond ts) _ _ h in

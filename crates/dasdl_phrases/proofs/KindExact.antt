@@ -19,10 +19,10 @@ use Rattle.dms_tokens.specs.Cursors.{starts, is_word, is_the_sign}
 use Rattle.dasdl_phrases.specs.Cursors.{word_at, sign_at, number_at, number_of}
 use Rattle.dasdl_phrases.specs.Kinds.{joined, joined_of, behind, signed, unsigned, is_any_word, signed_width_of, signed_width_at, width_at, size_at, places_at, alpha_at, field_at, decimal_at, truth_at, kind_at}
 use Rattle.dasdl_phrases.specs.CondSpelling.{token_of, Reads}
-use Rattle.dasdl_phrases.specs.KindSpelling.{IsWidth, ArePlaces, IsKind}
+use Rattle.dasdl_phrases.specs.KindSpelling.{IsWidth, ArePlaces, SpellsKind}
 use Rattle.dasdl_phrases.specs.KindSpelling.IsWidth.{without_sign, with_sign, joined_sign}
 use Rattle.dasdl_phrases.specs.KindSpelling.ArePlaces.{no_places, some_places}
-use Rattle.dasdl_phrases.specs.KindSpelling.IsKind.{an_alpha, a_number, a_truth, a_field}
+use Rattle.dasdl_phrases.specs.KindSpelling.SpellsKind.{an_alpha, a_number, a_truth, a_field}
 use Rattle.dasdl_phrases.proofs.Inverting.{bind_ok, guard_ok, ok_same}
 use Rattle.dasdl_phrases.proofs.SpelledTokens.{Starts, word_spelled, sign_spelled}
 use Rattle.dasdl_phrases.proofs.CondSound.{pick}
@@ -88,32 +88,32 @@ size_reads : (high : ℕ) (k l m : Lexeme) (rest : List Lexeme) (n : ℕ) → k.
 unfolding size_at
 size_reads high k l m rest n a b c d e = rw (sign_reads 40 k (l ∷ m ∷ rest) refl a, number_reads 1 high l (m ∷ rest) n b d e, sign_reads 41 m rest refl c) refl
 
-alpha_sound : (ts : List Lexeme) (kind : ItemKind) (rest : List Lexeme) → alpha_at ts ≡ Ok (kind, rest) → Reads IsKind ts kind rest
+alpha_sound : (ts : List Lexeme) (kind : ItemKind) (rest : List Lexeme) → alpha_at ts ≡ Ok (kind, rest) → Reads SpellsKind ts kind rest
 unfolding alpha_at
 alpha_sound ts kind rest h =
     let a = bind_ok (word_at (codes "ALPHA") ts) _ _ h in
     let b = bind_ok (size_at 200 a.0) _ _ a.2 in
     let k = word_spelled (codes "ALPHA") ts a.0 a.1 in
     let s = size_sound 200 a.0 b.0.0 b.0.1 b.1 in
-    subst (λ (x : ItemKind × List Lexeme). Reads IsKind ts x.0 x.1) (ok_same (Alpha b.0.0, b.0.1) (kind, rest) b.2)
+    subst (λ (x : ItemKind × List Lexeme). Reads SpellsKind ts x.0 x.1) (ok_same (Alpha b.0.0, b.0.1) (kind, rest) b.2)
     (record { used = k.first ∷ s.0; is = rw (k.token, s.1) (an_alpha b.0.0 s.3 s.4); all = k.all ∙ ap (λ (xs : List Lexeme). k.first ∷ xs) s.2 })
 
-field_sound : (ts : List Lexeme) (kind : ItemKind) (rest : List Lexeme) → field_at ts ≡ Ok (kind, rest) → Reads IsKind ts kind rest
+field_sound : (ts : List Lexeme) (kind : ItemKind) (rest : List Lexeme) → field_at ts ≡ Ok (kind, rest) → Reads SpellsKind ts kind rest
 unfolding field_at
 field_sound ts kind rest h =
     let a = bind_ok (word_at (codes "FIELD") ts) _ _ h in
     let b = bind_ok (size_at 48 a.0) _ _ a.2 in
     let k = word_spelled (codes "FIELD") ts a.0 a.1 in
     let s = size_sound 48 a.0 b.0.0 b.0.1 b.1 in
-    subst (λ (x : ItemKind × List Lexeme). Reads IsKind ts x.0 x.1) (ok_same (Field b.0.0, b.0.1) (kind, rest) b.2)
+    subst (λ (x : ItemKind × List Lexeme). Reads SpellsKind ts x.0 x.1) (ok_same (Field b.0.0, b.0.1) (kind, rest) b.2)
     (record { used = k.first ∷ s.0; is = rw (k.token, s.1) (a_field b.0.0 s.3 s.4); all = k.all ∙ ap (λ (xs : List Lexeme). k.first ∷ xs) s.2 })
 
-truth_sound : (ts : List Lexeme) (kind : ItemKind) (rest : List Lexeme) → truth_at ts ≡ Ok (kind, rest) → Reads IsKind ts kind rest
+truth_sound : (ts : List Lexeme) (kind : ItemKind) (rest : List Lexeme) → truth_at ts ≡ Ok (kind, rest) → Reads SpellsKind ts kind rest
 unfolding truth_at
 truth_sound ts kind rest h =
     let a = bind_ok (word_at (codes "BOOLEAN") ts) _ _ h in
     let k = word_spelled (codes "BOOLEAN") ts a.0 a.1 in
-    subst (λ (x : ItemKind × List Lexeme). Reads IsKind ts x.0 x.1) (ok_same (Truth, a.0) (kind, rest) a.2)
+    subst (λ (x : ItemKind × List Lexeme). Reads SpellsKind ts x.0 x.1) (ok_same (Truth, a.0) (kind, rest) a.2)
     (record { used = k.first ∷ []; is = rw k.token a_truth; all = k.all })
 
 abbrev WidthRead : List Lexeme → Bool × ℕ → List Lexeme → Type 0
@@ -188,7 +188,7 @@ places_sound high ts m rest h =
     record { used = k.first ∷ (n.is.first ∷ []); is = rw (k.token, n.is.token) (some_places high m n.most); all = k.all ∙ ap (λ (xs : List Lexeme). k.first ∷ xs) n.is.all })
     (λ e. subst (λ (x : ℕ × List Lexeme). Reads (ArePlaces high) ts x.0 x.1) (ok_same (0, ts) (m, rest) e) (record { used = []; is = no_places high; all = refl })) h
 
-decimal_sound : (ts : List Lexeme) (kind : ItemKind) (rest : List Lexeme) → decimal_at ts ≡ Ok (kind, rest) → Reads IsKind ts kind rest
+decimal_sound : (ts : List Lexeme) (kind : ItemKind) (rest : List Lexeme) → decimal_at ts ≡ Ok (kind, rest) → Reads SpellsKind ts kind rest
 unfolding decimal_at
 decimal_sound ts kind rest h =
     let a = bind_ok (word_at (codes "NUMBER") ts) _ _ h in
@@ -203,10 +203,10 @@ decimal_sound ts kind rest h =
     let z = sign_spelled 41 d.0.1 e.0 e.1 in
     let toks : map token_of (k.first ∷ (l.first ∷ (w.0 ++ (p.used ++ (z.first ∷ []))))) ≡ Word (codes "NUMBER") ∷ (Sign 40 ∷ (map token_of w.0 ++ (map token_of p.used ++ (Sign 41 ∷ [])))) = rw (k.token, l.token, map-append token_of w.0 (p.used ++ (z.first ∷ [])), map-append token_of p.used (z.first ∷ []), z.token) refl in
     let all : ts ≡ (k.first ∷ (l.first ∷ (w.0 ++ (p.used ++ (z.first ∷ []))))) ++ e.0 = k.all ∙ ap (λ (xs : List Lexeme). k.first ∷ xs) (l.all ∙ ap (λ (xs : List Lexeme). l.first ∷ xs) (w.2 ∙ ap (λ (xs : List Lexeme). w.0 ++ xs) (p.all ∙ ap (λ (xs : List Lexeme). p.used ++ xs) z.all) ∙ simp append_assoc)) in
-    subst (λ (x : ItemKind × List Lexeme). Reads IsKind ts x.0 x.1) (ok_same (Digits c.0.0.1 d.0.0 c.0.0.0, e.0) (kind, rest) e.2)
+    subst (λ (x : ItemKind × List Lexeme). Reads SpellsKind ts x.0 x.1) (ok_same (Digits c.0.0.1 d.0.0 c.0.0.0, e.0) (kind, rest) e.2)
     (record { used = k.first ∷ (l.first ∷ (w.0 ++ (p.used ++ (z.first ∷ [])))); is = rw toks (a_number c.0.0.1 d.0.0 c.0.0.0 (map token_of w.0) (map token_of p.used) w.1 p.is); all = all })
 
-pub kind_sound : (ts : List Lexeme) (kind : ItemKind) (rest : List Lexeme) → kind_at ts ≡ Ok (kind, rest) → Reads IsKind ts kind rest
+pub kind_sound : (ts : List Lexeme) (kind : ItemKind) (rest : List Lexeme) → kind_at ts ≡ Ok (kind, rest) → Reads SpellsKind ts kind rest
 unfolding kind_at
 kind_sound ts kind rest h =
     pick (starts (is_word (codes "ALPHA")) ts) (alpha_at ts) _ (kind, rest) (alpha_sound ts kind rest)
@@ -289,7 +289,7 @@ decimal_reads k l z ws ps rest n m s a b c w p =
     let picked : starts (is_word (codes "NUMBER")) (k ∷ l ∷ (ws ++ (ps ++ (z ∷ rest)))) ≡ true = rw a refl in
     rw (not_alpha, picked, word_reads (codes "NUMBER") k (l ∷ (ws ++ (ps ++ (z ∷ rest)))) refl a, sign_reads 40 l (ws ++ (ps ++ (z ∷ rest))) refl b, w, p, sign_reads 41 z rest refl c) refl
 
-reads : (kind : ItemKind) (xs : List Token) → IsKind kind xs → (us rest : List Lexeme) → map token_of us ≡ xs → kind_at (us ++ rest) ≡ Ok (kind, rest)
+reads : (kind : ItemKind) (xs : List Token) → SpellsKind kind xs → (us rest : List Lexeme) → map token_of us ≡ xs → kind_at (us ++ rest) ≡ Ok (kind, rest)
 reads _ _ (an_alpha n a b) us rest e =
     let k = heads us (Word (codes "ALPHA")) (Sign 40 ∷ (Number n ∷ (Sign 41 ∷ []))) e in
     let l = heads k.b (Sign 40) (Number n ∷ (Sign 41 ∷ [])) k.back in
@@ -318,5 +318,5 @@ reads _ _ (a_number n m s xs ys w p) us rest e =
     let same : us ++ rest ≡ k.l ∷ l.l ∷ (a.a ++ (b.a ++ (z.l ∷ rest))) = ap (λ (vs : List Lexeme). vs ++ rest) (k.all ∙ ap (λ (vs : List Lexeme). k.l ∷ vs) (l.all ∙ ap (λ (vs : List Lexeme). l.l ∷ vs) tail)) ∙ ap (λ (vs : List Lexeme). k.l ∷ l.l ∷ vs) (simp append_assoc) in
     rw same (decimal_reads k.l l.l z.l a.a b.a rest n m s k.token l.token z.token (width_reads s n xs w a.a (b.a ++ (z.l ∷ rest)) a.front) (places_reads n m ys p b.a z.l rest b.front z.token))
 
-pub kind_complete : (us rest : List Lexeme) (kind : ItemKind) → IsKind kind (map token_of us) → kind_at (us ++ rest) ≡ Ok (kind, rest)
+pub kind_complete : (us rest : List Lexeme) (kind : ItemKind) → SpellsKind kind (map token_of us) → kind_at (us ++ rest) ≡ Ok (kind, rest)
 kind_complete us rest kind d = reads kind (map token_of us) d us rest refl

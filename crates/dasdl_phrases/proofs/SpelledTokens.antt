@@ -22,8 +22,8 @@ use Rattle.dasdl_phrases.specs.Cursors.{word_at, sign_at, equal_at, name_at, nam
 use Rattle.dms_tokens.specs.Cursors.{constant}
 use Rattle.dasdl_phrases.specs.Kinds.{literal_at, literal_of, quoted_of, constant_of}
 use Rattle.dasdl_phrases.specs.Conditions.{op_at, op_of}
-use Rattle.dasdl_phrases.specs.CondSpelling.{IsLiteral}
-use Rattle.dasdl_phrases.specs.CondSpelling.IsLiteral.{a_text, a_number, a_decimal, a_true, a_false, a_null}
+use Rattle.dasdl_phrases.specs.CondSpelling.{SpellsLiteral}
+use Rattle.dasdl_phrases.specs.CondSpelling.SpellsLiteral.{a_text, a_number, a_decimal, a_true, a_false, a_null}
 use Rattle.dasdl_phrases.proofs.Inverting.{guard_ok, skip_ok, ok_same}
 
 pub is_word_is : (w : List ℕ) (t : Token) → is_word w t ≡ true → t ≡ Word w
@@ -137,48 +137,48 @@ op_spelled (l ∷ ls) o rest h =
     let g = op_of_ok l.token l.place o ls rest h in
     record { first = l; token = g.0; all = ap (λ (xs : List Lexeme). l ∷ xs) g.1 }
 
-constant_by : (p q r : Bool) (b : List ℕ) (l : Literal) → (p ≡ true → b ≡ codes "TRUE") → (q ≡ true → b ≡ codes "FALSE") → (r ≡ true → b ≡ codes "NULL") → cond p (Some (Boolean true)) (cond q (Some (Boolean false)) (cond r (Some Null) None)) ≡ Some l → IsLiteral l (Word b)
+constant_by : (p q r : Bool) (b : List ℕ) (l : Literal) → (p ≡ true → b ≡ codes "TRUE") → (q ≡ true → b ≡ codes "FALSE") → (r ≡ true → b ≡ codes "NULL") → cond p (Some (Boolean true)) (cond q (Some (Boolean false)) (cond r (Some Null) None)) ≡ Some l → SpellsLiteral l (Word b)
 constant_by true q r b l t f n h =
     let e : Boolean true ≡ l = cc in
-    subst (λ (x : Literal). IsLiteral x (Word b)) e (subst (λ (w : List ℕ). IsLiteral (Boolean true) (Word w)) (sym (t refl)) a_true)
+    subst (λ (x : Literal). SpellsLiteral x (Word b)) e (subst (λ (w : List ℕ). SpellsLiteral (Boolean true) (Word w)) (sym (t refl)) a_true)
 constant_by false true r b l t f n h =
     let e : Boolean false ≡ l = cc in
-    subst (λ (x : Literal). IsLiteral x (Word b)) e (subst (λ (w : List ℕ). IsLiteral (Boolean false) (Word w)) (sym (f refl)) a_false)
+    subst (λ (x : Literal). SpellsLiteral x (Word b)) e (subst (λ (w : List ℕ). SpellsLiteral (Boolean false) (Word w)) (sym (f refl)) a_false)
 constant_by false false true b l t f n h =
     let e : Null ≡ l = cc in
-    subst (λ (x : Literal). IsLiteral x (Word b)) e (subst (λ (w : List ℕ). IsLiteral Null (Word w)) (sym (n refl)) a_null)
+    subst (λ (x : Literal). SpellsLiteral x (Word b)) e (subst (λ (w : List ℕ). SpellsLiteral Null (Word w)) (sym (n refl)) a_null)
 constant_by false false false b l t f n h = absurd (cc)
 
-constant_is : (b : List ℕ) (l : Literal) → constant b ≡ Some l → IsLiteral l (Word b)
+constant_is : (b : List ℕ) (l : Literal) → constant b ≡ Some l → SpellsLiteral l (Word b)
 constant_is b l h =
     constant_by (bytes_eq b (codes "TRUE")) (bytes_eq b (codes "FALSE")) (bytes_eq b (codes "NULL")) b l (bytes_eq-Decides b (codes "TRUE")).0 (bytes_eq-Decides b (codes "FALSE")).0 (bytes_eq-Decides b (codes "NULL")).0 h
 
 -- a literal, and the token that spells it
 pub record IsRead (l : Literal) (ts rest : List Lexeme) : Type 0 where
   pub first : Lexeme
-  pub is : IsLiteral l first.token
+  pub is : SpellsLiteral l first.token
   pub all : ts ≡ first ∷ rest
 
-constant_of_ok : (o : Option Literal) (b : List ℕ) (place : ℕ) (l : Literal) (ls rest : List Lexeme) → constant b ≡ o → constant_of o place ls ≡ Ok (l, rest) → IsLiteral l (Word b) × (ls ≡ rest)
+constant_of_ok : (o : Option Literal) (b : List ℕ) (place : ℕ) (l : Literal) (ls rest : List Lexeme) → constant b ≡ o → constant_of o place ls ≡ Ok (l, rest) → SpellsLiteral l (Word b) × (ls ≡ rest)
 constant_of_ok (Some k) b place l ls rest e h =
     let g = ok_same (k, ls) (l, rest) h in
     (constant_is b l (e ∙ ap (λ (x : Literal × List Lexeme). Some x.0) g), ap (λ (x : Literal × List Lexeme). x.1) g)
 constant_of_ok None b place l ls rest e h = absurd (cc)
 
-quoted_of_ok : (o : Option (List ℕ)) (b : List ℕ) (place : ℕ) (l : Literal) (ls rest : List Lexeme) → text_of b ≡ o → quoted_of o place ls ≡ Ok (l, rest) → IsLiteral l (Quoted b) × (ls ≡ rest)
+quoted_of_ok : (o : Option (List ℕ)) (b : List ℕ) (place : ℕ) (l : Literal) (ls rest : List Lexeme) → text_of b ≡ o → quoted_of o place ls ≡ Ok (l, rest) → SpellsLiteral l (Quoted b) × (ls ≡ rest)
 quoted_of_ok (Some k) b place l ls rest e h =
     let g = ok_same (Text k, ls) (l, rest) h in
-    (subst (λ (x : Literal). IsLiteral x (Quoted b)) (ap (λ (x : Literal × List Lexeme). x.0) g) (a_text b k e), ap (λ (x : Literal × List Lexeme). x.1) g)
+    (subst (λ (x : Literal). SpellsLiteral x (Quoted b)) (ap (λ (x : Literal × List Lexeme). x.0) g) (a_text b k e), ap (λ (x : Literal × List Lexeme). x.1) g)
 quoted_of_ok None b place l ls rest e h = absurd (cc)
 
-literal_of_ok : (t : Token) (place : ℕ) (l : Literal) (ls rest : List Lexeme) → literal_of t place ls ≡ Ok (l, rest) → IsLiteral l t × (ls ≡ rest)
+literal_of_ok : (t : Token) (place : ℕ) (l : Literal) (ls rest : List Lexeme) → literal_of t place ls ≡ Ok (l, rest) → SpellsLiteral l t × (ls ≡ rest)
 literal_of_ok (Quoted b) place l ls rest h = quoted_of_ok (text_of b) b place l ls rest refl h
 literal_of_ok (Number n) place l ls rest h =
     let g = ok_same (Amount false n 0, ls) (l, rest) h in
-    (subst (λ (x : Literal). IsLiteral x (Number n)) (ap (λ (x : Literal × List Lexeme). x.0) g) (a_number n), ap (λ (x : Literal × List Lexeme). x.1) g)
+    (subst (λ (x : Literal). SpellsLiteral x (Number n)) (ap (λ (x : Literal × List Lexeme). x.0) g) (a_number n), ap (λ (x : Literal × List Lexeme). x.1) g)
 literal_of_ok (Decimal m d p) place l ls rest h =
     let g = ok_same (Amount m d p, ls) (l, rest) h in
-    (subst (λ (x : Literal). IsLiteral x (Decimal m d p)) (ap (λ (x : Literal × List Lexeme). x.0) g) (a_decimal m d p), ap (λ (x : Literal × List Lexeme). x.1) g)
+    (subst (λ (x : Literal). SpellsLiteral x (Decimal m d p)) (ap (λ (x : Literal × List Lexeme). x.0) g) (a_decimal m d p), ap (λ (x : Literal × List Lexeme). x.1) g)
 literal_of_ok (Word b) place l ls rest h = constant_of_ok (constant b) b place l ls rest refl h
 literal_of_ok Long place l ls rest h = absurd (cc)
 literal_of_ok (Sign b) place l ls rest h = absurd (cc)

@@ -1,21 +1,21 @@
 -- How conditions are joined.
 use Rattle.std.specs.Prelude.{◌≡◌, ℕ, zero, suc, List, [], ◌∷◌, Bool, true, false, Some, None}
 use Rattle.std.specs.declared.option.Option.{Option}
-use Rattle.dasdl_phrases.specs.TreeCodes.{Tree}
-use Rattle.dasdl_phrases.specs.TreeCodes.Tree.{Both, Either, Turned}
+use Rattle.dasdl_phrases.specs.TreeCodes.{WrittenTree}
+use Rattle.dasdl_phrases.specs.TreeCodes.WrittenTree.{Both, Either, Turned}
 
 -- behind so many NOTs
-abbrev pub negated : ℕ → Tree → Tree
+abbrev pub negated : ℕ → WrittenTree → WrittenTree
 negated zero t = t
 negated (suc n) t = Turned (negated n t)
 
 -- behind AND, where there is one
-abbrev pub with_and : Option Tree → Tree → Tree
+abbrev pub with_and : Option WrittenTree → WrittenTree → WrittenTree
 with_and None t = t
 with_and (Some left) t = Both left t
 
 -- behind OR, where there is one
-abbrev pub with_or : Option Tree → Tree → Tree
+abbrev pub with_or : Option WrittenTree → WrittenTree → WrittenTree
 with_or None t = t
 with_or (Some left) t = Either left t
 

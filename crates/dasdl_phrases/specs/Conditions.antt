@@ -8,8 +8,8 @@ use Rattle.dms_tokens.specs.declared.token.Token.{Token}
 use Rattle.dms_tokens.specs.declared.token.Token.TheVariants.{Compare}
 use Rattle.dms_tokens.specs.declared.token.Lexeme.{Lexeme}
 use Rattle.dasdl_phrases.specs.Reads.{Read, ◌>>=◌}
-use Rattle.dasdl_phrases.specs.TreeCodes.{Tree}
-use Rattle.dasdl_phrases.specs.TreeCodes.Tree.{Test}
+use Rattle.dasdl_phrases.specs.TreeCodes.{WrittenTree}
+use Rattle.dasdl_phrases.specs.TreeCodes.WrittenTree.{Test}
 use Rattle.dasdl_phrases.specs.Trees.{Condition}
 use Rattle.dasdl_phrases.specs.Branches.{negated, with_and, with_or, is_nil}
 use Rattle.dasdl_phrases.specs.declared.levels.Level.{Level}
@@ -23,7 +23,7 @@ abbrev pub no_level : Level
 no_level = record { either = None; both = None; nots = 0 }
 
 -- a factor is read: the NOTs before it turn it, and it joins what stands before AND
-unfoldable pub completed : List Level → Level → ℕ → Tree → CondRead
+unfoldable pub completed : List Level → Level → ℕ → WrittenTree → CondRead
 completed outer level nodes t = record {
   outer = outer;
   level = record { either = level.either; both = None; nots = 0 };
@@ -40,7 +40,7 @@ op_at [] = Err (Expected 0)
 op_at (l ∷ ls) = op_of l.token l.place ls
 
 -- name op literal
-unfoldable pub compare_at : List Lexeme → Read Tree
+unfoldable pub compare_at : List Lexeme → Read WrittenTree
 compare_at ts = do
   name ← name_at ts
   op ← op_at name.1
@@ -84,14 +84,14 @@ factor_turn_at s ts =
     else (if starts (is_the_sign 40) ts then open_turn_at s ts
     else compare_turn_at s ts)
 
-unfoldable pub and_turn_at : List Level → Level → ℕ → Tree → List Lexeme → Read CondRead
+unfoldable pub and_turn_at : List Level → Level → ℕ → WrittenTree → List Lexeme → Read CondRead
 and_turn_at outer level nodes t ts =
     if nat_le 100 nodes then Err (TooMany 100)
     else (do
       t1 ← word_at (codes "AND") ts
       Ok (record { outer = outer; level = record { either = level.either; both = Some t; nots = 0 }; done = None; nodes = nodes + 1 }, t1))
 
-unfoldable pub or_turn_at : List Level → Level → ℕ → Tree → List Lexeme → Read CondRead
+unfoldable pub or_turn_at : List Level → Level → ℕ → WrittenTree → List Lexeme → Read CondRead
 or_turn_at outer level nodes t ts =
     if nat_le 100 nodes then Err (TooMany 100)
     else (do
@@ -99,20 +99,20 @@ or_turn_at outer level nodes t ts =
       Ok (record { outer = outer; level = record { either = Some (with_or level.either t); both = None; nots = 0 }; done = None; nodes = nodes + 1 }, t1))
 
 -- a closing bracket ends a factor of what is outside
-unfoldable pub close_turn_at : List Level → Level → ℕ → Tree → List Lexeme → Read CondRead
+unfoldable pub close_turn_at : List Level → Level → ℕ → WrittenTree → List Lexeme → Read CondRead
 close_turn_at [] inner nodes t ts = Err (fault_at ts)
 close_turn_at (level ∷ outer) inner nodes t ts = do
   t1 ← sign_at 41 ts
   Ok (completed outer level nodes (with_or inner.either t), t1)
 
 -- where a factor has been read
-unfoldable pub join_turn_at : List Level → Level → ℕ → Tree → List Lexeme → Read CondRead
+unfoldable pub join_turn_at : List Level → Level → ℕ → WrittenTree → List Lexeme → Read CondRead
 join_turn_at outer level nodes t ts =
     if starts (is_word (codes "AND")) ts then and_turn_at outer level nodes t ts
     else (if starts (is_word (codes "OR")) ts then or_turn_at outer level nodes t ts
     else close_turn_at outer level nodes t ts)
 
-abbrev pub cond_turn_by : Option Tree → CondRead → List Lexeme → Read CondRead
+abbrev pub cond_turn_by : Option WrittenTree → CondRead → List Lexeme → Read CondRead
 cond_turn_by None s ts = factor_turn_at s ts
 cond_turn_by (Some t) s ts = join_turn_at s.outer s.level s.nodes t ts
 
@@ -126,11 +126,11 @@ cond_done s ts = is_some s.done && is_nil s.outer && not (starts (is_word (codes
 abbrev pub no_cond : CondRead
 no_cond = record { outer = []; level = no_level; done = None; nodes = 0 }
 
-abbrev pub finished : Option Tree → Option Tree → List Lexeme → Read Tree
+abbrev pub finished : Option WrittenTree → Option WrittenTree → List Lexeme → Read WrittenTree
 finished None either ts = Err (fault_at ts)
 finished (Some t) either ts = Ok (with_or either t, ts)
 
-unfoldable pub cond_at : List Lexeme → Read Tree
+unfoldable pub cond_at : List Lexeme → Read WrittenTree
 cond_at ts = do
   s ← turns_at cond_done cond_turn_at no_cond ts
   finished s.0.done s.0.level.either s.1

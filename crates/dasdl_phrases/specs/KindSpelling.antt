@@ -18,8 +18,8 @@ pub data ArePlaces : ℕ → ℕ → List Token → Type 0 where
   some_places : (n m : ℕ) → m ≤ n → ArePlaces n m (Sign 44 ∷ (Number m ∷ []))
 
 -- ALPHA ( number ) | NUMBER ( [ S ] number [ , number ] ) | BOOLEAN | FIELD ( number )
-pub data IsKind : ItemKind → List Token → Type 0 where
-  an_alpha : (n : ℕ) → 1 ≤ n → n ≤ 200 → IsKind (Alpha n) (Word (codes "ALPHA") ∷ (Sign 40 ∷ (Number n ∷ (Sign 41 ∷ []))))
-  a_number : (n m : ℕ) (signed : Bool) (xs ys : List Token) → IsWidth signed n xs → ArePlaces n m ys → IsKind (Digits n m signed) (Word (codes "NUMBER") ∷ (Sign 40 ∷ (xs ++ (ys ++ (Sign 41 ∷ [])))))
-  a_truth : IsKind Truth (Word (codes "BOOLEAN") ∷ [])
-  a_field : (n : ℕ) → 1 ≤ n → n ≤ 48 → IsKind (Field n) (Word (codes "FIELD") ∷ (Sign 40 ∷ (Number n ∷ (Sign 41 ∷ []))))
+pub data SpellsKind : ItemKind → List Token → Type 0 where
+  an_alpha : (n : ℕ) → 1 ≤ n → n ≤ 200 → SpellsKind (Alpha n) (Word (codes "ALPHA") ∷ (Sign 40 ∷ (Number n ∷ (Sign 41 ∷ []))))
+  a_number : (n m : ℕ) (signed : Bool) (xs ys : List Token) → IsWidth signed n xs → ArePlaces n m ys → SpellsKind (Digits n m signed) (Word (codes "NUMBER") ∷ (Sign 40 ∷ (xs ++ (ys ++ (Sign 41 ∷ [])))))
+  a_truth : SpellsKind Truth (Word (codes "BOOLEAN") ∷ [])
+  a_field : (n : ℕ) → 1 ≤ n → n ≤ 48 → SpellsKind (Field n) (Word (codes "FIELD") ∷ (Sign 40 ∷ (Number n ∷ (Sign 41 ∷ []))))

@@ -10,60 +10,60 @@ use Rattle.dms_base.specs.contracts.op.Op as op_row
 use Rattle.dms_base.specs.contracts.kind.Literal as literal_row
 
 -- what is compared, or two conditions joined, or one turned
-pub data Tree : Type 0 where
-  Test : List ℕ → Op → Literal → Tree
-  Both : Tree → Tree → Tree
-  Either : Tree → Tree → Tree
-  Turned : Tree → Tree
+pub data WrittenTree : Type 0 where
+  Test : List ℕ → Op → Literal → WrittenTree
+  Both : WrittenTree → WrittenTree → WrittenTree
+  Either : WrittenTree → WrittenTree → WrittenTree
+  Turned : WrittenTree → WrittenTree
 
 -- a comparison, or 0 for AND, 1 for OR, 2 for NOT
 abbrev pub Part : Type 0
 Part = (List ℕ × (Op × Literal)) ⊎ ℕ
 
-abbrev pub parts : Tree → List Part
+abbrev pub parts : WrittenTree → List Part
 parts (Test name op literal) = inl (name, (op, literal)) ∷ []
 parts (Both a b) = parts a ++ (parts b ++ inr 0 ∷ [])
 parts (Either a b) = parts a ++ (parts b ++ inr 1 ∷ [])
 parts (Turned a) = parts a ++ inr 2 ∷ []
 
 -- a part takes its operands, the last one first
-abbrev pub taken : Part → List Tree → List Tree
+abbrev pub taken : Part → List WrittenTree → List WrittenTree
 taken (inl c) ts = Test c.0 c.1.0 c.1.1 ∷ ts
 taken (inr zero) (b ∷ a ∷ ts) = Both a b ∷ ts
 taken (inr (suc zero)) (b ∷ a ∷ ts) = Either a b ∷ ts
 taken (inr (suc (suc n))) (a ∷ ts) = Turned a ∷ ts
 taken (inr n) ts = ts
 
-abbrev pub built : List Part → List Tree → List Tree
+abbrev pub built : List Part → List WrittenTree → List WrittenTree
 built [] ts = ts
 built (p ∷ ps) ts = built ps (taken p ts)
 
-abbrev pub first_tree : List Tree → Tree
+abbrev pub first_tree : List WrittenTree → WrittenTree
 first_tree [] = Test [] Equal Null
 first_tree (t ∷ ts) = t
 
-built-append : (ps qs : List Part) (ts : List Tree) → built (ps ++ qs) ts ≡ built qs (built ps ts)
+built-append : (ps qs : List Part) (ts : List WrittenTree) → built (ps ++ qs) ts ≡ built qs (built ps ts)
 built-append [] qs ts = refl
 built-append (p ∷ ps) qs ts = built-append ps qs (taken p ts)
 
-built-parts : (t : Tree) (ts : List Tree) → built (parts t) ts ≡ t ∷ ts
+built-parts : (t : WrittenTree) (ts : List WrittenTree) → built (parts t) ts ≡ t ∷ ts
 built-parts (Test name op literal) ts = refl
 built-parts (Both a b) ts =
     built-append (parts a) (parts b ++ inr 0 ∷ []) ts
-    ∙ ap (λ (us : List Tree). built (parts b ++ inr 0 ∷ []) us) (built-parts a ts)
+    ∙ ap (λ (us : List WrittenTree). built (parts b ++ inr 0 ∷ []) us) (built-parts a ts)
     ∙ built-append (parts b) (inr 0 ∷ []) (a ∷ ts)
-    ∙ ap (λ (us : List Tree). built (inr 0 ∷ []) us) (built-parts b (a ∷ ts))
+    ∙ ap (λ (us : List WrittenTree). built (inr 0 ∷ []) us) (built-parts b (a ∷ ts))
 built-parts (Either a b) ts =
     built-append (parts a) (parts b ++ inr 1 ∷ []) ts
-    ∙ ap (λ (us : List Tree). built (parts b ++ inr 1 ∷ []) us) (built-parts a ts)
+    ∙ ap (λ (us : List WrittenTree). built (parts b ++ inr 1 ∷ []) us) (built-parts a ts)
     ∙ built-append (parts b) (inr 1 ∷ []) (a ∷ ts)
-    ∙ ap (λ (us : List Tree). built (inr 1 ∷ []) us) (built-parts b (a ∷ ts))
+    ∙ ap (λ (us : List WrittenTree). built (inr 1 ∷ []) us) (built-parts b (a ∷ ts))
 built-parts (Turned a) ts =
     built-append (parts a) (inr 2 ∷ []) ts
-    ∙ ap (λ (us : List Tree). built (inr 2 ∷ []) us) (built-parts a ts)
+    ∙ ap (λ (us : List WrittenTree). built (inr 2 ∷ []) us) (built-parts a ts)
 
-pub tree_again : (t : Tree) → first_tree (built (parts t) []) ≡ t
+pub tree_again : (t : WrittenTree) → first_tree (built (parts t) []) ≡ t
 tree_again t = ap first_tree (built-parts t [])
 
-abbrev pub tree_code : Coded Tree
+abbrev pub tree_code : Coded WrittenTree
 tree_code = code_by (List Part) (coded_list (coded⊎ (coded× (coded_list coded_ℕ) (coded× op_row.the_row.coded literal_row.the_row.coded)) coded_ℕ)) parts (λ ps. first_tree (built ps [])) tree_again

@@ -1,7 +1,7 @@
 ghost use Rattle.std.specs.Prelude.{◌≡◌, IfOk};
 ghost use Rattle.dasdl_phrases.specs.Trees.{tree_of};
 ghost use Rattle.dasdl_phrases.specs.Branches.{negated, with_and, with_or};
-ghost use Rattle.dasdl_phrases.specs.TreeCodes.Tree.{Test, Turned};
+ghost use Rattle.dasdl_phrases.specs.TreeCodes.WrittenTree.{Test, Turned};
 
 use dms_base::{Literal, Memory, Name, Op};
 use std::alloc::Global;
@@ -62,9 +62,9 @@ pub struct Branch {
 }
 
 impl Model for Branch {
-    ghost use Rattle.dasdl_phrases.specs.TreeCodes.{Tree, tree_code};
+    ghost use Rattle.dasdl_phrases.specs.TreeCodes.{WrittenTree, tree_code};
 
-    ghost Value = { Tree };
+    ghost Value = { WrittenTree };
 
     ghost coded = { tree_code };
 

@@ -1,23 +1,23 @@
 ghost use Rattle.std.specs.Prelude.{◌≡◌, ◌≤◌, ◌++◌, List, map, length, false, codes};
 ghost use Rattle.std.specs.declared.result.Result.TheVariants.{Ok};
 ghost use Rattle.dms_tokens.specs.declared.token.Lexeme.{Lexeme};
-ghost use Rattle.dasdl_phrases.specs.TreeCodes.{Tree};
+ghost use Rattle.dasdl_phrases.specs.TreeCodes.{WrittenTree};
 ghost use Rattle.dasdl_phrases.specs.Conditions.{cond_at};
 ghost use Rattle.dms_tokens.specs.Cursors.{starts, is_word};
 ghost use Rattle.dasdl_phrases.specs.declared.key_parts.PartDecl.{PartDecl};
 ghost use Rattle.dasdl_phrases.specs.KeySpelling.{IsKey};
-ghost use Rattle.dasdl_phrases.specs.KindSpelling.{IsKind};
+ghost use Rattle.dasdl_phrases.specs.KindSpelling.{SpellsKind};
 ghost use Rattle.dasdl_phrases.specs.Kinds.{kind_at};
 ghost use Rattle.dms_base.specs.declared.kind.ItemKind.{ItemKind};
 ghost use Rattle.dasdl_phrases.specs.Keys.{parts_at};
 ghost use Rattle.dasdl_phrases.specs.CondSpelling.{IsCond, Reads, nodes, token_of};
-ghost use Rattle.dasdl_phrases.specs.CondSpelling.Part.{Whole};
+ghost use Rattle.dasdl_phrases.specs.CondSpelling.CondPart.{Whole};
 
 /// A condition is read exactly where it is one of the grammar with at most 100 nodes: OR joins terms, AND joins factors, both from the left, NOT stands
 /// before a factor, and brackets hold a whole condition.
 pub fn condition_law()
-    ensures sound { (ts rest : List Lexeme) (t : Tree) → cond_at ts ≡ Ok (t, rest) → Reads (IsCond Whole) ts t rest × (nodes t ≤ 100) }
-    ensures complete { (us rest : List Lexeme) (t : Tree) → IsCond Whole t (map token_of us) → nodes t ≤ 100 → starts (is_word (codes "AND")) rest ≡ false → starts (is_word (codes "OR")) rest ≡ false → cond_at (us ++ rest) ≡ Ok (t, rest) }
+    ensures sound { (ts rest : List Lexeme) (t : WrittenTree) → cond_at ts ≡ Ok (t, rest) → Reads (IsCond Whole) ts t rest × (nodes t ≤ 100) }
+    ensures complete { (us rest : List Lexeme) (t : WrittenTree) → IsCond Whole t (map token_of us) → nodes t ≤ 100 → starts (is_word (codes "AND")) rest ≡ false → starts (is_word (codes "OR")) rest ≡ false → cond_at (us ++ rest) ≡ Ok (t, rest) }
 {}
 
 /// A key is read exactly where it is one part, or parts in brackets with a comma between two, at most 16, and each
@@ -29,6 +29,6 @@ pub fn key_law()
 
 /// An item's type is read exactly where it is one, with its numbers in their ranges.
 pub fn kind_law()
-    ensures sound { (ts rest : List Lexeme) (kind : ItemKind) → kind_at ts ≡ Ok (kind, rest) → Reads IsKind ts kind rest }
-    ensures complete { (us rest : List Lexeme) (kind : ItemKind) → IsKind kind (map token_of us) → kind_at (us ++ rest) ≡ Ok (kind, rest) }
+    ensures sound { (ts rest : List Lexeme) (kind : ItemKind) → kind_at ts ≡ Ok (kind, rest) → Reads SpellsKind ts kind rest }
+    ensures complete { (us rest : List Lexeme) (kind : ItemKind) → SpellsKind kind (map token_of us) → kind_at (us ++ rest) ≡ Ok (kind, rest) }
 {}

@@ -6,7 +6,7 @@ use Rattle.dms_audfile.specs.declared.fault.AudFault.{AudFault}
 use Rattle.dms_audfile.specs.declared.fault.AudFault.TheVariants.{NoDatabase, Disk, Full, Missing, Unsealed, Damaged, Foreign, Memory}
 use Rattle.dms_history.specs.Schemas.{after_entry}
 use Rattle.dms_audfile.specs.WholeSchema.{closes_schema, holds_schema_from, holds_schema}
-use Rattle.dms_audfile.specs.Gathering.{Seen, nothing_seen, one_more, seen_on, stopped, reached, gather}
+use Rattle.dms_audfile.specs.Gathering.{Known, nothing_seen, one_more, seen_on, stopped, reached, gather}
 use Rattle.dms_site.specs.Files.{Files, Left}
 use Rattle.dms_audfile.specs.Gates.{block_at, opened, is_full}
 use Rattle.dms_history.specs.Entries.{Entry}
@@ -20,27 +20,27 @@ use Rattle.dms_audfile.specs.Blocks.{EntryInBlock, block_entries, entries_from, 
 use Rattle.dms_audfile.specs.Scanning.{Placed, entry_in, no_schema, all_found, TrailRead, broken, whole, then_read, places_of, ScanOutcome, missing, unsealed, damaged, foreign, found, outcome_of, first_foreign, trail_read, outcome_at, scanned, blocks_read, file_read, files_read}
 use Rattle.dms_audfile.specs.Reads.{ReadInto, NotRead, NotScanned, FoundAll, IsBroken, OnlyReads}
 
-seen_behind : (s : Seen) (ps qs : List Placed) → seen_on s (ps ++ qs) ≡ seen_on (seen_on s ps) qs
+seen_behind : (s : Known) (ps qs : List Placed) → seen_on s (ps ++ qs) ≡ seen_on (seen_on s ps) qs
 seen_behind s [] qs = refl
 seen_behind s (p ∷ ps) qs = seen_behind (one_more s p) ps qs
 
 -- a part was read
-pub read_turn : (old new : Seen) (r rest : TrailRead) → reached new ≡ gather old r → gather new rest ≡ gather old (then_read r rest)
+pub read_turn : (old new : Known) (r rest : TrailRead) → reached new ≡ gather old r → gather new rest ≡ gather old (then_read r rest)
 read_turn old new (broken f b) rest is = absurd cc
 read_turn old new (whole qs) (broken f b) is = refl
 read_turn old new (whole qs) (whole ps) is =
     let e : new ≡ seen_on old qs = cc is in
-    ap reached (ap (λ (s : Seen). seen_on s ps) e ∙ sym (seen_behind old qs ps))
+    ap reached (ap (λ (s : Known). seen_on s ps) e ∙ sym (seen_behind old qs ps))
 
 -- a broken part
-gather_broken : (old : Seen) (r : TrailRead) (f b : ℕ) → gather old r ≡ stopped f b → r ≡ broken f b
+gather_broken : (old : Known) (r : TrailRead) (f b : ℕ) → gather old r ≡ stopped f b → r ≡ broken f b
 gather_broken old (broken g c) f b is =
     let e : g ≡ f = cc is in
     let h : c ≡ b = cc is in
     (λ i. broken (e i) (h i))
 gather_broken old (whole ps) f b is = absurd cc
 
-pub broken_turn : (old mid : Seen) (r rest all : TrailRead) (f b : ℕ) → r ≡ broken f b → gather mid (then_read r rest) ≡ gather old all → all ≡ broken f b
+pub broken_turn : (old mid : Known) (r rest all : TrailRead) (f b : ℕ) → r ≡ broken f b → gather mid (then_read r rest) ≡ gather old all → all ≡ broken f b
 broken_turn old mid r rest all f b is so_far = gather_broken old all f b (sym so_far ∙ ap (λ (x : TrailRead). gather mid (then_read x rest)) is)
 
 pub broken_place : (f b : ℕ) (r : Option (List EntryInBlock)) → IsBroken (places_of f b r) → places_of f b r ≡ broken f b
@@ -63,7 +63,7 @@ pub files_none : (k total f : ℕ) (files : Files) → k ≡ 0 → files_read k 
 files_none zero total f files is = refl
 files_none (suc k) total f files is = absurd (omega arith)
 
-pub found_err : (old mid : Seen) (r rest all : TrailRead) (e : AudFault) → NotRead r e → gather mid (then_read r rest) ≡ gather old all → NotRead all e
+pub found_err : (old mid : Known) (r rest all : TrailRead) (e : AudFault) → NotRead r e → gather mid (then_read r rest) ≡ gather old all → NotRead all e
 found_err old mid r rest all NoDatabase is so_far = absurd is
 found_err old mid r rest all Disk is so_far = tt
 found_err old mid r rest all (Full k) is so_far = absurd is
@@ -148,12 +148,12 @@ entries_alone (suc k) at rest e more some is alone =
 abbrev pub at_place : ℕ → ℕ → ℕ → Entry → Placed
 at_place f b at e = record { place = record { file = f; block = b; offset = at }; entry = e }
 
-gather_one : (f b at : ℕ) (e : Entry) (old : Seen) (r : Option (List EntryInBlock)) → gather (one_more old (at_place f b at e)) (places_of f b r) ≡ gather old (places_of f b (after_one e at true r))
+gather_one : (f b at : ℕ) (e : Entry) (old : Known) (r : Option (List EntryInBlock)) → gather (one_more old (at_place f b at e)) (places_of f b r) ≡ gather old (places_of f b (after_one e at true r))
 unfolding after_one
 gather_one f b at e old None = refl
 gather_one f b at e old (Some es) = refl
 
-pub entries_turn : (k at next f b : ℕ) (rest : List ℕ) (e : Entry) (more : List ℕ) (old : Seen) → 0 < k → length rest ≢ 0 → entry_at rest ≡ Some (e, more) → stands_there at e more ≡ true → next ≡ at + (length rest - length more)
+pub entries_turn : (k at next f b : ℕ) (rest : List ℕ) (e : Entry) (more : List ℕ) (old : Known) → 0 < k → length rest ≢ 0 → entry_at rest ≡ Some (e, more) → stands_there at e more ≡ true → next ≡ at + (length rest - length more)
     → gather (one_more old (at_place f b at e)) (places_of f b (entries_from (k - 1) next more)) ≡ gather old (places_of f b (entries_from k at rest))
 entries_turn zero at next f b rest e more old low some is alone on = absurd (omega arith)
 entries_turn (suc k) at next f b rest e more old low some is alone on =
@@ -167,11 +167,11 @@ broken_is : (r : TrailRead) (f b : ℕ) → r ≡ broken f b → IsBroken r
 broken_is (broken g c) f b is = tt
 broken_is (whole ps) f b is = absurd cc
 
-pub broken_all : (old mid : Seen) (f b : ℕ) (r all : Option (List EntryInBlock)) → r ≡ None → gather mid (places_of f b r) ≡ gather old (places_of f b all) → IsBroken (places_of f b all)
+pub broken_all : (old mid : Known) (f b : ℕ) (r all : Option (List EntryInBlock)) → r ≡ None → gather mid (places_of f b r) ≡ gather old (places_of f b all) → IsBroken (places_of f b all)
 broken_all old mid f b r all none so_far =
     broken_is (places_of f b all) f b (gather_broken old (places_of f b all) f b (sym so_far ∙ ap (λ (x : Option (List EntryInBlock)). gather mid (places_of f b x)) none))
 
-pub whole_all : (old mid : Seen) (f b : ℕ) (r : Option (List EntryInBlock)) (all : TrailRead) → r ≡ Some [] → gather mid (places_of f b r) ≡ gather old all → reached mid ≡ gather old all
+pub whole_all : (old mid : Known) (f b : ℕ) (r : Option (List EntryInBlock)) (all : TrailRead) → r ≡ Some [] → gather mid (places_of f b r) ≡ gather old all → reached mid ≡ gather old all
 whole_all old mid f b r all is so_far = ap (λ (x : Option (List EntryInBlock)). gather mid (places_of f b x)) (sym is) ∙ so_far
 
 broken_block : (f b : ℕ) (r : Option (List EntryInBlock)) → r ≡ None → IsBroken (places_of f b r)
@@ -206,17 +206,17 @@ wrong_used block wrong = grind (arith, nat_tests)
 pub wrong_zeros : (block : List ℕ) → all_zero (drop (2 + used_in block) block) ≡ false → block_test block ≡ false
 wrong_zeros block wrong = grind (arith, nat_tests)
 
-pub block_read : (f n : ℕ) (block bytes : List ℕ) (old new : Seen) (ok : Bool) → length block ≡ 4096 → used_in block ≤ 4094 → all_zero (drop (2 + used_in block) block) ≡ true → bytes ≡ drop 2 (take (2 + used_in block) block)
+pub block_read : (f n : ℕ) (block bytes : List ℕ) (old new : Known) (ok : Bool) → length block ≡ 4096 → used_in block ≤ 4094 → all_zero (drop (2 + used_in block) block) ≡ true → bytes ≡ drop 2 (take (2 + used_in block) block)
     → ReadInto old (places_of f n (entries_from (length bytes) 2 bytes)) new ok → ReadInto old (places_of f n (block_entries block)) new ok
 block_read f n block bytes old new ok long few zeros is read =
     let len : length bytes ≡ used_in block = omega (arith, ap length is, length-drop 2 (take (2 + used_in block) block), length-take (2 + used_in block) block) in
     subst (λ (r : Option (List EntryInBlock)). ReadInto old (places_of f n r) new ok) ((λ i. entries_from (len i) 2 (is i)) ∙ block_is block long few zeros) read
 
-pub into_false : (old new : Seen) (r : TrailRead) (ok : Bool) → ReadInto old r new ok → ok ≡ false → IsBroken r
+pub into_false : (old new : Known) (r : TrailRead) (ok : Bool) → ReadInto old r new ok → ok ≡ false → IsBroken r
 into_false old new r true read off = absurd cc
 into_false old new r false read off = read
 
-pub into_true : (old new : Seen) (r : TrailRead) (ok : Bool) → ReadInto old r new ok → ok ≡ true → reached new ≡ gather old r
+pub into_true : (old new : Known) (r : TrailRead) (ok : Bool) → ReadInto old r new ok → ok ≡ true → reached new ≡ gather old r
 into_true old new r true read on = read
 into_true old new r false read on = absurd cc
 
@@ -264,19 +264,19 @@ not_scanned first r g end outcome (Foreign k) at is = absurd is
 not_scanned first r g end outcome Memory at is = tt
 
 -- all was read
-pub record ReadAll (r : TrailRead) (new : Seen) : Type 0 where
+pub record ReadAll (r : TrailRead) (new : Known) : Type 0 where
   pub entries : List Placed
   pub is : r ≡ whole entries
   pub known : new ≡ seen_on nothing_seen entries
 
-pub read_all : (old new : Seen) (r : TrailRead) → old ≡ nothing_seen → reached new ≡ gather old r → ReadAll r new
+pub read_all : (old new : Known) (r : TrailRead) → old ≡ nothing_seen → reached new ≡ gather old r → ReadAll r new
 read_all old new (broken f b) none read = absurd cc
 read_all old new (whole ps) none read =
     let e : new ≡ seen_on old ps = cc read in
-    record { entries = ps; is = refl; known = e ∙ ap (λ (s : Seen). seen_on s ps) none }
+    record { entries = ps; is = refl; known = e ∙ ap (λ (s : Known). seen_on s ps) none }
 
 -- whether a whole Schema with its Control was seen
-seen_described : (s : Seen) (ps : List Placed) → (seen_on s ps).described ≡ (s.described || holds_schema_from s.parts (map entry_in ps))
+seen_described : (s : Known) (ps : List Placed) → (seen_on s ps).described ≡ (s.described || holds_schema_from s.parts (map entry_in ps))
 seen_described s [] = sym (or_false s.described)
   where
     or_false : (b : Bool) → (b || false) ≡ b
@@ -288,17 +288,17 @@ seen_described s (p ∷ ps) = seen_described (one_more s p) ps ∙ or_or s.descr
     or_or true b c = refl
     or_or false b c = refl
 
-pub known_described : (new : Seen) (ps : List Placed) → new ≡ seen_on nothing_seen ps → new.described ≡ holds_schema (map entry_in ps)
-known_described new ps is = ap (λ (s : Seen). s.described) is ∙ seen_described nothing_seen ps
+pub known_described : (new : Known) (ps : List Placed) → new ≡ seen_on nothing_seen ps → new.described ≡ holds_schema (map entry_in ps)
+known_described new ps is = ap (λ (s : Known). s.described) is ∙ seen_described nothing_seen ps
 
-pub found_as : (a b : ScanOutcome) (new : Seen) → a ≡ b → FoundAll b new → FoundAll a new
+pub found_as : (a b : ScanOutcome) (new : Known) → a ≡ b → FoundAll b new → FoundAll a new
 found_as a b new same all = record { entries = all.entries; is = same ∙ all.is; known = all.known }
 
 far_off : (first : ℕ) (ps : List Placed) (g end : ℕ) → end ≤ g → outcome_of first (whole ps) g end ≡ all_found first ps
 far_off first ps g end far = grind (arith, nat_tests)
 
 -- no tag differs, and a whole Schema with its Control stands there, or none does
-pub read_found : (first : ℕ) (old new : Seen) (r : TrailRead) (g end : ℕ) → old ≡ nothing_seen → reached new ≡ gather old r → end ≤ g → new.described ≡ true → FoundAll (outcome_of first r g end) new
+pub read_found : (first : ℕ) (old new : Known) (r : TrailRead) (g end : ℕ) → old ≡ nothing_seen → reached new ≡ gather old r → end ≤ g → new.described ≡ true → FoundAll (outcome_of first r g end) new
 read_found first old new r g end none read far on =
     let a = read_all old new r none read in
     let holds : holds_schema (map entry_in a.entries) ≡ true = sym (known_described new a.entries a.known) ∙ on in
@@ -308,14 +308,14 @@ read_found first old new r g end none read far on =
       known = a.known;
     }
 
-pub read_none : (first : ℕ) (old new : Seen) (r : TrailRead) (g end : ℕ) → old ≡ nothing_seen → reached new ≡ gather old r → end ≤ g → new.described ≡ false → outcome_of first r g end ≡ no_schema first
+pub read_none : (first : ℕ) (old new : Known) (r : TrailRead) (g end : ℕ) → old ≡ nothing_seen → reached new ≡ gather old r → end ≤ g → new.described ≡ false → outcome_of first r g end ≡ no_schema first
 read_none first old new r g end none read far off =
     let a = read_all old new r none read in
     let holds : holds_schema (map entry_in a.entries) ≡ false = sym (known_described new a.entries a.known) ∙ off in
     ap (λ (x : TrailRead). outcome_of first x g end) a.is ∙ far_off first a.entries g end far ∙ ap (λ b. cond b (found a.entries) (no_schema first)) holds
 
 -- a tag differs
-pub read_foreign : (first : ℕ) (old new : Seen) (r : TrailRead) (g end : ℕ) → old ≡ nothing_seen → reached new ≡ gather old r → g < end → outcome_of first r g end ≡ foreign (g - 10000)
+pub read_foreign : (first : ℕ) (old new : Known) (r : TrailRead) (g end : ℕ) → old ≡ nothing_seen → reached new ≡ gather old r → g < end → outcome_of first r g end ≡ foreign (g - 10000)
 read_foreign first old new r g end none read near =
     let a = read_all old new r none read in
     ap (λ (x : TrailRead). outcome_of first x g end) a.is ∙ near_by a.entries g end near

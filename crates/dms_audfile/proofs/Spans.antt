@@ -11,7 +11,7 @@ use Rattle.dms_audfile.specs.declared.fault.AudFault.TheVariants.{NoDatabase, Di
 use Rattle.dms_audfile.specs.Database.{HasDatabase, SaysDatabase, SaysGate}
 use Rattle.std.specs.Prelude.{nat_eq, slice_index, IsErrOf}
 use Rattle.std.proofs.lemmas.Bool.Decides.{nat_tests}
-use Rattle.dms_audfile.specs.Gathering.{Seen, nothing_seen, one_more, seen_on}
+use Rattle.dms_audfile.specs.Gathering.{Known, nothing_seen, one_more, seen_on}
 use Rattle.dms_audfile.specs.AuditTrail.{IsFound}
 use Rattle.dms_audfile.specs.Trail.{Span, Begins}
 use Rattle.dms_audfile.specs.Scanning.{Placed, place_in, scanned}
@@ -40,14 +40,14 @@ refuses_of files first last (Damaged f b) d s is = record { database = d; first 
 refuses_of files first last (Foreign k) d s is = record { database = d; first = first; last = last; span = s; is = is }
 refuses_of files first last Memory d s is = tt
 
-seen_places : (s : Seen) (ps : List Placed) → (seen_on s ps).places ≡ s.places ++ map place_in ps
+seen_places : (s : Known) (ps : List Placed) → (seen_on s ps).places ≡ s.places ++ map place_in ps
 seen_places s [] = sym (append-nil s.places)
 seen_places s (p ∷ ps) = seen_places (one_more s p) ps ∙ append_assoc s.places (p.place ∷ []) (map place_in ps)
 
-pub found_of : (files : Files) (first last : ℕ) (new : Seen) → HasDatabase (files 1) → Span files first last → FoundAll (scanned first last files) new → IsFound files first new.places
+pub found_of : (files : Files) (first last : ℕ) (new : Known) → HasDatabase (files 1) → Span files first last → FoundAll (scanned first last files) new → IsFound files first new.places
 found_of files first last new d s a = record {
   entries = a.entries;
-  places_are = ap (λ (x : Seen). x.places) a.known ∙ seen_places nothing_seen a.entries;
+  places_are = ap (λ (x : Known). x.places) a.known ∙ seen_places nothing_seen a.entries;
   trail = record { database = d; first = first; last = last; span = s; is = a.is };
   first_is = refl;
 }

@@ -5,7 +5,7 @@ use Rattle.std.specs.Prelude.{ℕ, ◌≤◌, ◌≡◌, Bool, true, false, List
 use Rattle.dms_moments.specs.Moments.{Clock, Steps}
 use Rattle.dms_site.specs.Files.{Files, Left, Same}
 use Rattle.dms_audfile.specs.Scanning.{TrailRead, broken, whole, ScanOutcome, no_database, unsealed, missing, damaged, foreign, found}
-use Rattle.dms_audfile.specs.Gathering.{Seen, nothing_seen, seen_on, reached, gather}
+use Rattle.dms_audfile.specs.Gathering.{Known, nothing_seen, seen_on, reached, gather}
 use Rattle.dms_audfile.specs.Scanning.{Placed}
 use Rattle.dms_audfile.specs.AuditTrail.{TrailIs}
 use Rattle.dms_audfile.specs.declared.fault.AudFault.{AudFault}
@@ -18,7 +18,7 @@ IsBroken (broken f b) = Unit {0}
 IsBroken (whole ps) = ⊥
 
 -- so was it read: behind what was known before, or it is broken
-abbrev pub ReadInto : Seen → TrailRead → Seen → Bool → Type 0
+abbrev pub ReadInto : Known → TrailRead → Known → Bool → Type 0
 ReadInto old read new true = reached new ≡ gather old read
 ReadInto old read new false = IsBroken read
 
@@ -42,7 +42,7 @@ NotRead read (Foreign k) = ⊥
 NotRead read Memory = Unit {0}
 
 -- so was it read: behind what was known before, or it wasn't
-abbrev pub ReadFound : {T : Type 0} → Seen → TrailRead → Seen → Result T AudFault → Type 0
+abbrev pub ReadFound : {T : Type 0} → Known → TrailRead → Known → Result T AudFault → Type 0
 ReadFound old read new (Ok done) = reached new ≡ gather old read
 ReadFound old read new (Err fault) = NotRead read fault
 
@@ -58,13 +58,13 @@ NotScanned outcome (Foreign k) = outcome ≡ foreign k
 NotScanned outcome Memory = Unit {0}
 
 -- all entries were found, and that is known of them
-pub record FoundAll (outcome : ScanOutcome) (new : Seen) : Type 0 where
+pub record FoundAll (outcome : ScanOutcome) (new : Known) : Type 0 where
   pub entries : List Placed
   pub is : outcome ≡ found entries
   pub known : new ≡ seen_on nothing_seen entries
 
 -- so was it scanned
-abbrev pub Scans : {T : Type 0} → ScanOutcome → Seen → Result T AudFault → Type 0
+abbrev pub Scans : {T : Type 0} → ScanOutcome → Known → Result T AudFault → Type 0
 Scans outcome new (Ok done) = FoundAll outcome new
 Scans outcome new (Err fault) = NotScanned outcome fault
 

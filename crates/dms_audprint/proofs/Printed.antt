@@ -14,7 +14,7 @@ use Rattle.dms_audfile.specs.Scanning.{Placed, place_in}
 use Rattle.dms_audfile.specs.declared.place.Place.{Place}
 use Rattle.dms_audprint.specs.AuditText.{placed_line, audit_text, HasTrail, PrintsAudit, PrintsPart}
 use Rattle.dms_audfile.specs.declared.fault.AudFault.TheVariants.{NoDatabase, Disk, Full, Missing, Unsealed, Damaged, Foreign, Memory}
-use Rattle.dms_audprint.specs.Printing.{line_of, line_at, lines_at, Stands, AllStand, PrintsSome, IsLate, RefusesAudit}
+use Rattle.dms_audprint.specs.Printing.{line_of, line_at, lines_at, HoldsEntry, AllHoldEntries, PrintsSome, IsLate, RefusesAudit}
 use Rattle.dms_audprint.specs.declared.fault.PrintFault.{PrintFault}
 use Rattle.dms_audprint.specs.declared.fault.PrintFault.TheVariants.{Audit, Say}
 
@@ -91,16 +91,16 @@ pub part_now : (files : Files) (ps : List Place) (k : ℕ) (start said : List �
 part_now files ps k start said so_far = (length (lines_at files (take k ps)), so_far ∙ ap (λ (l : List ℕ). start ++ l) (sym (lines_front files ps k)))
 
 -- one of them
-stands_at : (files : Files) (ps : List Place) (k : ℕ) (d : Place) → AllStand files ps → k < length ps → Stands files (get_or ps k d)
+stands_at : (files : Files) (ps : List Place) (k : ℕ) (d : Place) → AllHoldEntries files ps → k < length ps → HoldsEntry files (get_or ps k d)
 stands_at files [] k d all low = absurd (omega (arith, low))
 stands_at files (q ∷ qs) zero d all low = all.0
 stands_at files (q ∷ qs) (suc k) d all low = stands_at files qs k d all.1 (omega (arith, low))
 
-pub stands_then : (files other : Files) (ps : List Place) (k : ℕ) (d : Place) → AllStand files ps → k < length ps → other ≡ files → Stands other (get_or ps k d)
-stands_then files other ps k d all low same = subst (λ (l : Files). Stands l (get_or ps k d)) (sym same) (stands_at files ps k d all low)
+pub stands_then : (files other : Files) (ps : List Place) (k : ℕ) (d : Place) → AllHoldEntries files ps → k < length ps → other ≡ files → HoldsEntry other (get_or ps k d)
+stands_then files other ps k d all low same = subst (λ (l : Files). HoldsEntry l (get_or ps k d)) (sym same) (stands_at files ps k d all low)
 
 -- entries that are there stand at their places, and their lines are theirs
-pub stands_all : (files : Files) (es : List Placed) → AreThere files es → AllStand files (map place_in es)
+pub stands_all : (files : Files) (es : List Placed) → AreThere files es → AllHoldEntries files (map place_in es)
 stands_all files [] all = tt
 stands_all files (e ∷ es) all = (record { entry = e.entry; there = all.0.there; within = all.0.block.1 }, stands_all files es all.1)
 
@@ -110,10 +110,10 @@ lines_there files (e ∷ es) all =
     ap (λ (o : Option Entry). line_of e.place o ++ lines_at files (map place_in es)) all.0.there ∙ ap (λ (l : List ℕ). placed_line e ++ l) (lines_there files es all.1)
 
 -- the places that were found
-pub all_stand : (files other : Files) (es : List Placed) (ps : List Place) → AreThere files es → ps ≡ map place_in es → other ≡ files → AllStand other ps
+pub all_stand : (files other : Files) (es : List Placed) (ps : List Place) → AreThere files es → ps ≡ map place_in es → other ≡ files → AllHoldEntries other ps
 all_stand files other es ps there are same =
-    let one : AllStand files ps = subst (AllStand files) (sym are) (stands_all files es there) in
-    subst (λ (l : Files). AllStand l ps) (sym same) one
+    let one : AllHoldEntries files ps = subst (AllHoldEntries files) (sym are) (stands_all files es there) in
+    subst (λ (l : Files). AllHoldEntries l ps) (sym same) one
 
 found_lines : (files other : Files) (es : List Placed) (ps : List Place) → AreThere files es → ps ≡ map place_in es → other ≡ files → lines_at other ps ≡ audit_text es
 found_lines files other es ps there are same = (λ i. lines_at (same i) (are i)) ∙ lines_there files es there
@@ -174,13 +174,13 @@ module _ {T : Type 0} (tells tells_said : Bool) (files other : Files) (first : �
     said = found_front files other (found_is t).entries ps (was t told).0 start said new (there t) (found_is t).places_are (same t) stays (was t told).1;
   })
 
-  late : (IsTrue tells → AllStand other ps → IfErr r IsLate) → IsTrue tells → IfErr r IsLate
+  late : (IsTrue tells → AllHoldEntries other ps → IfErr r IsLate) → IsTrue tells → IfErr r IsLate
   late was t = was t (all_stand files other (found_is t).entries ps (there t) (found_is t).places_are (same t))
 
-  pub audit_refused : (IsTrue tells → AllStand other ps → IfErr r IsLate) → IfErr r (λ fault. IsTrue tells → RefusesAudit files fault)
+  pub audit_refused : (IsTrue tells → AllHoldEntries other ps → IfErr r IsLate) → IfErr r (λ fault. IsTrue tells → RefusesAudit files fault)
   audit_refused was = if_err r (IsTrue tells) (late was) (λ fault is. late_refuses files fault is)
 
-  pub audit_silent : (IsTrue tells → AllStand other ps → IfErr r IsLate) → IfErr r (λ fault. IsTrue tells → (IsLate fault → ⊥) → new ≡ start)
+  pub audit_silent : (IsTrue tells → AllHoldEntries other ps → IfErr r IsLate) → IfErr r (λ fault. IsTrue tells → (IsLate fault → ⊥) → new ≡ start)
   audit_silent was = if_err r (IsTrue tells) (late was) (λ fault is not_late. absurd (not_late is))
 
 -- ---- moments

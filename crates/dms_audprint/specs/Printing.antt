@@ -24,14 +24,14 @@ lines_at files [] = []
 lines_at files (p ∷ ps) = line_at files p ++ lines_at files ps
 
 -- an entry stands at a place, in a block of an audit file
-pub record Stands (files : Files) (p : Place) : Type 0 where
+pub record HoldsEntry (files : Files) (p : Place) : Type 0 where
   pub entry : Entry
   pub there : entry_there files p ≡ Some entry
   pub within : p.block ≤ 512
 
-abbrev pub AllStand : Files → List Place → Type 0
-AllStand files [] = Unit {0}
-AllStand files (p ∷ ps) = Stands files p × AllStand files ps
+abbrev pub AllHoldEntries : Files → List Place → Type 0
+AllHoldEntries files [] = Unit {0}
+AllHoldEntries files (p ∷ ps) = HoldsEntry files p × AllHoldEntries files ps
 
 -- some bytes were printed, and the files stay
 abbrev pub PrintsSome : Left → Left → Type 0

@@ -6,7 +6,7 @@ ghost use Rattle.dms_site.specs.Files.{Files};
 ghost use Rattle.dms_audfile.specs.Counting.{CountedAt};
 ghost use Rattle.dms_audfile.specs.EntryReading.{IsCurrent, HoldsBlock};
 ghost use Rattle.dms_audprint.specs.AuditText.{HasTrail, PrintsAudit, PrintsPart};
-ghost use Rattle.dms_audprint.specs.Printing.{line_at, lines_at, Stands, AllStand, PrintsSome, IsOfOutside, IsLate, RefusesAudit};
+ghost use Rattle.dms_audprint.specs.Printing.{line_at, lines_at, HoldsEntry, AllHoldEntries, PrintsSome, IsOfOutside, IsLate, RefusesAudit};
 
 use crate::PrintFault;
 use crate::line::{EntryLine, line_text};
@@ -19,7 +19,7 @@ use std::alloc::Global;
 /// The line of the entry at a place whose block the reader holds. Damaged where no entry is there.
 fn line_there(alloc: Global, reader: &EntryReader, place: &Place) -> Result<Bytes, AudFault>
     ensures line { IfOk result (λ text. (files : Files) → HoldsBlock reader.now place.now files → text ≡ line_at files place.now) }
-    ensures there { (files : Files) → HoldsBlock reader.now place.now files → Stands files place.now → IfErr result IsOfOutside }
+    ensures there { (files : Files) → HoldsBlock reader.now place.now files → HoldsEntry files place.now → IfErr result IsOfOutside }
     ensures no_disk { IfErr result (λ e. e ≡ AudFault.Disk → ⊥) }
 {
     match reader.entry(place) {
@@ -48,7 +48,7 @@ fn print_entry<S: Site>(
     ensures current { IsTrue S.tells → IsCurrent reader.old (S.files site.old) → IsCurrent reader.new (S.files site.old) }
     ensures printed { OnOk result (IsTrue S.tells → IsTrue S.tells_said → IsCurrent reader.old (S.files site.old) → S.said site.new ≡ S.said site.old ++ line_at (S.files site.old) place.now) }
     ensures part { IsTrue S.tells → IsTrue S.tells_said → IsCurrent reader.old (S.files site.old) → (k : ℕ) × (S.said site.new ≡ S.said site.old ++ take k (line_at (S.files site.old) place.now)) }
-    ensures there { IsTrue S.tells → IsCurrent reader.old (S.files site.old) → Stands (S.files site.old) place.now → IfErr result IsLate }
+    ensures there { IsTrue S.tells → IsCurrent reader.old (S.files site.old) → HoldsEntry (S.files site.old) place.now → IfErr result IsLate }
     ensures files { IsTrue S.tells → S.files site.new ≡ S.files site.old }
     ensures moments { Steps PrintsSome (S.clock site.old) (S.clock site.new) }
     ensures same_site { S.same_site site.old site.new }
@@ -73,7 +73,7 @@ fn print_entry<S: Site>(
 fn print_places<S: Site>(alloc: Global, site: &mut S, places: &[Place]) -> Result<(), PrintFault>
     ensures printed { OnOk result (IsTrue S.tells → IsTrue S.tells_said → S.said site.new ≡ S.said site.old ++ lines_at (S.files site.old) places.now) }
     ensures part { IsTrue S.tells → IsTrue S.tells_said → (k : ℕ) × (S.said site.new ≡ S.said site.old ++ take k (lines_at (S.files site.old) places.now)) }
-    ensures there { IsTrue S.tells → AllStand (S.files site.old) places.now → IfErr result IsLate }
+    ensures there { IsTrue S.tells → AllHoldEntries (S.files site.old) places.now → IfErr result IsLate }
     ensures files { IsTrue S.tells → S.files site.new ≡ S.files site.old }
     ensures moments { Steps PrintsSome (S.clock site.old) (S.clock site.new) }
     ensures same_site { S.same_site site.old site.new }

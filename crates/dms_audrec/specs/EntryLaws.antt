@@ -12,7 +12,7 @@ use Rattle.dms_audrec.specs.Spelling.{spelling, before_bytes, IsSchemaSpelled, I
 use Rattle.dms_fields.specs.Prefix.{byte_first, number_first, bytes_first}
 use Rattle.dms_audrec.specs.Reading.{schema_at, before_at, image_at, quiet_at, control_at, begin_at, entry_at, counts_at, rows_at, kind_of, kind_fits}
 use Rattle.dms_audrec.specs.PairLaws.{counts_take, counts_length, counts_again, rows_take, rows_length, rows_again}
-use Rattle.dms_fields.specs.PrefixLaws.{IsBytes, IsBytes-take, bind_some, go_some, Takes, takes_then, wide16, wide32, wide64, number_takes, number_again, bytes_takes, bytes_again}
+use Rattle.dms_fields.specs.PrefixLaws.{IsBytes, IsBytes-take, bind_some, go_some, TakesPrefix, takes_then, wide16, wide32, wide64, number_takes, number_again, bytes_takes, bytes_again}
 
 -- from the front of bytes an entry behind its kind was read
 pub record ReadsEntry (kind : ℕ) (bytes : List ℕ) (x : Entry × List ℕ) : Type 0 where
@@ -86,17 +86,17 @@ schema_again part parts text rest is =
       schema_tested part parts (length text) is.some is.within is.full,
     ) refl
 
-before_takes : (bytes : List ℕ) (x : Option (List ℕ) × List ℕ) → IsBytes bytes → before_at bytes ≡ Some x → Takes bytes (before_bytes x.0) x.1 × IfSome x.0 (λ b. length b ≡ 1024)
+before_takes : (bytes : List ℕ) (x : Option (List ℕ) × List ℕ) → IsBytes bytes → before_at bytes ≡ Some x → TakesPrefix bytes (before_bytes x.0) x.1 × IfSome x.0 (λ b. length b ≡ 1024)
 unfolding before_at
 before_takes [] x fits e = absurd cc
 before_takes (zero ∷ rest) x fits e =
     let is : (None, rest) ≡ x = cc e in
-    subst (λ (x : Option (List ℕ) × List ℕ). Takes (0 ∷ rest) (before_bytes x.0) x.1 × IfSome x.0 (λ b. length b ≡ 1024)) is (record { parts = refl; rest_fits = λ i. fits (suc i) }, tt)
+    subst (λ (x : Option (List ℕ) × List ℕ). TakesPrefix (0 ∷ rest) (before_bytes x.0) x.1 × IfSome x.0 (λ b. length b ≡ 1024)) is (record { parts = refl; rest_fits = λ i. fits (suc i) }, tt)
 before_takes (suc zero ∷ rest) x fits e =
     let (bytes, e1, r1) = bind_some (bytes_first 1024 rest) _ x e in
     let is : (Some bytes.0, bytes.1) ≡ x = cc r1 in
     let t = bytes_takes 1024 rest bytes (λ i. fits (suc i)) e1 in
-    subst (λ (x : Option (List ℕ) × List ℕ). Takes (1 ∷ rest) (before_bytes x.0) x.1 × IfSome x.0 (λ b. length b ≡ 1024)) is (record { parts = ap (λ (l : List ℕ). 1 ∷ l) t.0.parts; rest_fits = t.0.rest_fits }, t.1)
+    subst (λ (x : Option (List ℕ) × List ℕ). TakesPrefix (1 ∷ rest) (before_bytes x.0) x.1 × IfSome x.0 (λ b. length b ≡ 1024)) is (record { parts = ap (λ (l : List ℕ). 1 ∷ l) t.0.parts; rest_fits = t.0.rest_fits }, t.1)
 before_takes (suc (suc b) ∷ rest) x fits e = absurd cc
 
 before_again : (before : Option (List ℕ)) (rest : List ℕ) → IfSome before (λ b. length b ≡ 1024) → before_at (before_bytes before ++ rest) ≡ Some (before, rest)
@@ -223,11 +223,11 @@ control_again n next cs rest is =
 
 -- ---- Begin
 
-byte_takes : (bytes : List ℕ) (x : ℕ × List ℕ) → IsBytes bytes → byte_first bytes ≡ Some x → Takes bytes (x.0 ∷ []) x.1
+byte_takes : (bytes : List ℕ) (x : ℕ × List ℕ) → IsBytes bytes → byte_first bytes ≡ Some x → TakesPrefix bytes (x.0 ∷ []) x.1
 byte_takes [] x fits e = absurd cc
 byte_takes (b ∷ bs) x fits e =
     let is : (b, bs) ≡ x = cc e in
-    subst (λ (x : ℕ × List ℕ). Takes (b ∷ bs) (x.0 ∷ []) x.1) is (record { parts = refl; rest_fits = λ i. fits (suc i) })
+    subst (λ (x : ℕ × List ℕ). TakesPrefix (b ∷ bs) (x.0 ∷ []) x.1) is (record { parts = refl; rest_fits = λ i. fits (suc i) })
 
 record KindIs (how d : ℕ) (rows : List Row) (kind : Kind) : Type 0 where
   number : how_number kind ≡ how

@@ -29,8 +29,8 @@ use Rattle.dms_audfile.proofs.Gates.{stands_full}
 use Rattle.dms_audfile.proofs.Growing.{writes_same}
 use Rattle.dms_creation.specs.Clearing.{KeepsApart, IsApart, ApartStay, AllButDescriptionStay}
 use Rattle.dms_creation.specs.FirstEntries.{bodies, zero_counts, first_entries}
-use Rattle.dms_creation.specs.Creation.{IsGate, IsFirstTrail, IsReady, IsMade, IsShut, IsCreation, Initializes}
-use Rattle.dms_creation.specs.Plans.{Planned, HasShutDatabaseGate}
+use Rattle.dms_creation.specs.Creation.{IsGate, IsFirstTrail, IsReadyToOpen, IsMade, IsShut, IsCreation, Initializes}
+use Rattle.dms_creation.specs.Plans.{IsPlanOf, HasShutDatabaseGate}
 use Rattle.dms_creation.proofs.Parts.{counts_read, counts_size}
 
 -- ---- the gate of the database
@@ -98,7 +98,7 @@ first_are n bytes counts d few is spelled counted =
     λ i. schema_entries (bodies (spelled i)) ++ control_point 0 1 (read i) ∷ []
 
 pub ready_of : (tag total n : ℕ) (bytes counts : List ℕ) (old : Files) (d : Described) (files : Files) → n ≤ 200 → counts ≡ pair_bytes count_file count_blocks (zero_counts n 1) → total ≡ d.blocks → bytes ≡ spelling d
-    → counts ≡ pair_bytes count_file count_blocks (zero_counts (length d.structures) 1) → ApartStay old files → IsFirstTrail tag total (schema_entries (bodies bytes) ++ control_point 0 1 (counts_at (length counts / 8) counts) ∷ []) files → IsReady tag d old files
+    → counts ≡ pair_bytes count_file count_blocks (zero_counts (length d.structures) 1) → ApartStay old files → IsFirstTrail tag total (schema_entries (bodies bytes) ++ control_point 0 1 (counts_at (length counts / 8) counts) ∷ []) files → IsReadyToOpen tag d old files
 ready_of tag total n bytes counts old d files few is wide spelled counted apart t =
     record { apart = apart; trail = subst (λ (es : List Entry). IsFirstTrail tag d.blocks es files) (first_are n bytes counts d few is spelled counted) (subst (λ k. IsFirstTrail tag k (schema_entries (bodies bytes) ++ control_point 0 1 (counts_at (length counts / 8) counts) ∷ []) files) wide t) }
 
@@ -129,7 +129,7 @@ still_shut old new long torn not = record {
     at_each (suc zero) h other = absurd (other refl)
     at_each (suc (suc i)) h other = torn.above (suc (suc i)) h (omega arith)
 
-gated_at : (tag : ℕ) (d : Described) (old mid : Files) (y x : Left) → 2 ≤ length (old 1) → y.files ≡ mid → IsReady tag d old mid → OnDisk 1 (Torn 1 1) y x → IsCreation tag d old x
+gated_at : (tag : ℕ) (d : Described) (old mid : Files) (y x : Left) → 2 ≤ length (old 1) → y.files ≡ mid → IsReadyToOpen tag d old mid → OnDisk 1 (Torn 1 1) y x → IsCreation tag d old x
 gated_at tag d old mid y x long from r step =
     let torn : Torn 1 1 (old 1) (x.files 1) = subst (λ (l : List ℕ). Torn 1 1 l (x.files 1)) (ap (λ (l : Files). l 1) from ∙ r.apart 1 one_apart) step.files.here in
     let stay : AllButDescriptionStay old x.files = λ g a other. step.files.others g other ∙ ap (λ (l : Files). l g) from ∙ r.apart g a in
@@ -146,11 +146,11 @@ pub made_early : (tag : ℕ) (d : Described) (old : Files) (a b c : Clock Left) 
 made_early tag d old a b c room looks only keeps =
     runs_step (runs_weaken looks.runs (λ x after. inl (looked tag d old a after.0 x after.1 after.2))) keeps (λ y x now k. inr (shut_at tag d old y x room (only y now) k))
 
-pub made_all : (tag : ℕ) (d : Described) (old mid : Files) (a b c e : Clock Left) → HasShutDatabaseGate (old 1) → Steps Same a b → Only old b → Steps KeepsApart b c → Only mid c → IsReady tag d old mid → Steps (OnDisk 1 (Torn 1 1)) c e → Initializes tag d old a e
+pub made_all : (tag : ℕ) (d : Described) (old mid : Files) (a b c e : Clock Left) → HasShutDatabaseGate (old 1) → Steps Same a b → Only old b → Steps KeepsApart b c → Only mid c → IsReadyToOpen tag d old mid → Steps (OnDisk 1 (Torn 1 1)) c e → Initializes tag d old a e
 made_all tag d old mid a b c e room looks only keeps settled r gate =
     runs_step (made_early tag d old a b c room looks only keeps) gate (λ y x now step. inr (gated_at tag d old mid y x room.long (settled y now) r step))
 
-pub made_files : (tag : ℕ) (d : Described) (old mid new : Files) → IsReady tag d old mid → new ≡ with_file mid 1 (overlaid 1 (1 ∷ []) (mid 1)) → IsMade tag d old new
+pub made_files : (tag : ℕ) (d : Described) (old mid new : Files) → IsReadyToOpen tag d old mid → new ≡ with_file mid 1 (overlaid 1 (1 ∷ []) (mid 1)) → IsMade tag d old new
 made_files tag d old mid new r is =
     let stay : (g : ℕ) → g ≢ 1 → new g ≡ mid g = λ g other. ap (λ (l : Files). l g) is ∙ with_file_other mid 1 (overlaid 1 (1 ∷ []) (mid 1)) g other in
     record {
@@ -189,7 +189,7 @@ same_sealed : (file : List ℕ) (d e : Described) → IsSealed file d → IsSeal
 same_sealed file d e one two = spelled_once d e one.well_formed two.well_formed (sym (behind_head one.database (spelling d) file one.is) ∙ behind_head two.database (spelling e) file two.is)
 
 pub planned_by : (file : List ℕ) (plan : Plan) (desc : Description) (d : Described) → IsSealed file d → IsSealed file (described desc) → plan.bytes ≡ spelling (described desc) → plan.end.total ≡ desc.blocks
-    → plan.counts ≡ pair_bytes count_file count_blocks (zero_counts (length desc.structures) 1) → Planned plan d
+    → plan.counts ≡ pair_bytes count_file count_blocks (zero_counts (length desc.structures) 1) → IsPlanOf plan d
 planned_by file plan desc d sealed read bytes total counts =
     let same : described desc ≡ d = same_sealed file (described desc) d read sealed in
     let many : length desc.structures ≡ length d.structures = sym (length-map desc.structures shape_of) ∙ ap (λ (x : Described). length x.structures) same in

@@ -35,7 +35,7 @@ pub record IsFirstTrail (tag total : ℕ) (entries : List Entry) (files : Files)
   pub structures : Cleared 30001 30200 files
 
 -- All but the gate of a new database stands. Each file that is no audit file, dump or structure file is as in `old`.
-pub record IsReady (tag : ℕ) (d : Described) (old files : Files) : Type 0 where
+pub record IsReadyToOpen (tag : ℕ) (d : Described) (old files : Files) : Type 0 where
   pub apart : ApartStay old files
   pub trail : IsFirstTrail tag d.blocks (first_entries d) files
 

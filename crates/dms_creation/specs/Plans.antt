@@ -7,7 +7,7 @@ use Rattle.dms_creation.specs.declared.planning.Plan.{Plan}
 use Rattle.dms_creation.specs.FirstEntries.{zero_counts}
 
 -- it is what the database of this description needs
-pub record Planned (plan : Plan) (d : Described) : Type 0 where
+pub record IsPlanOf (plan : Plan) (d : Described) : Type 0 where
   pub bytes : plan.bytes ≡ spelling d
   pub total : plan.end.total ≡ d.blocks
   pub counts : plan.counts ≡ pair_bytes count_file count_blocks (zero_counts (length d.structures) 1)

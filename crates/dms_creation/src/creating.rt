@@ -11,8 +11,8 @@ ghost use Rattle.dms_audrec.specs.Spelling.{pair_bytes, count_file, count_blocks
 ghost use Rattle.dms_audfile.specs.Counting.{CountedAt};
 ghost use Rattle.dms_creation.specs.Clearing.{KeepsApart};
 ghost use Rattle.dms_creation.specs.FirstEntries.{zero_counts};
-ghost use Rattle.dms_creation.specs.Creation.{IsReady, IsMade, Initializes, IsGate};
-ghost use Rattle.dms_creation.specs.Plans.{Planned, HasShutDatabaseGate};
+ghost use Rattle.dms_creation.specs.Creation.{IsReadyToOpen, IsMade, Initializes, IsGate};
+ghost use Rattle.dms_creation.specs.Plans.{IsPlanOf, HasShutDatabaseGate};
 
 use crate::CreationFault;
 use crate::clearing::clear_old;
@@ -81,8 +81,8 @@ fn prepare<S: Site>(site: &mut S, made: &mut Plan) -> Result<(), Failed>
     requires empty { made.old.end.used ≡ 0 }
     requires structures { (n : ℕ) × (n ≤ 200) × (made.old.counts ≡ pair_bytes count_file count_blocks (zero_counts n 1)) }
     ensures moments { IsTrue S.tells → Steps KeepsApart (S.clock site.old) (S.clock site.new) }
-    ensures ready { OnOk result (IsTrue S.tells → (d : Described) → Planned made.old d
-        → IsReady made.old.end.tag d (S.files site.old) (S.files site.new)) }
+    ensures ready { OnOk result (IsTrue S.tells → (d : Described) → IsPlanOf made.old d
+        → IsReadyToOpen made.old.end.tag d (S.files site.old) (S.files site.new)) }
     ensures durable { OnOk result (IsTrue S.tells → Only (S.files site.new) (S.clock site.new)) }
     ensures said { S.said site.new ≡ S.said site.old }
     ensures same_site { S.same_site site.old site.new }
@@ -108,8 +108,8 @@ fn make<S: Site>(site: &mut S, made: &mut Plan) -> Result<(), Failed>
     requires none { made.old.end.count ≡ 0 }
     requires empty { made.old.end.used ≡ 0 }
     requires structures { (n : ℕ) × (n ≤ 200) × (made.old.counts ≡ pair_bytes count_file count_blocks (zero_counts n 1)) }
-    ensures moments { IsTrue S.tells → (d : Described) → Planned made.old d → HasShutDatabaseGate (S.files site.old 1) → Initializes made.old.end.tag d (S.files site.old) (S.clock site.old) (S.clock site.new) }
-    ensures made { OnOk result (IsTrue S.tells → (d : Described) → Planned made.old d → IsMade made.old.end.tag d (S.files site.old) (S.files site.new)) }
+    ensures moments { IsTrue S.tells → (d : Described) → IsPlanOf made.old d → HasShutDatabaseGate (S.files site.old 1) → Initializes made.old.end.tag d (S.files site.old) (S.clock site.old) (S.clock site.new) }
+    ensures made { OnOk result (IsTrue S.tells → (d : Described) → IsPlanOf made.old d → IsMade made.old.end.tag d (S.files site.old) (S.files site.new)) }
     ensures durable { OnOk result (IsTrue S.tells → Only (S.files site.new) (S.clock site.new)) }
     ensures said { S.said site.new ≡ S.said site.old }
     ensures same_site { S.same_site site.old site.new }

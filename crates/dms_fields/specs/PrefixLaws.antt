@@ -34,11 +34,11 @@ go_some true x y e = (refl, cc)
 go_some false x y e = absurd cc
 
 -- what a reader took from the front
-pub record Takes (bytes text rest : List ℕ) : Type 0 where
+pub record TakesPrefix (bytes text rest : List ℕ) : Type 0 where
   pub parts : bytes ≡ text ++ rest
   pub rest_fits : IsBytes rest
 
-pub takes_then : (a x b y c : List ℕ) → Takes a x b → Takes b y c → Takes a (x ++ y) c
+pub takes_then : (a x b y c : List ℕ) → TakesPrefix a x b → TakesPrefix b y c → TakesPrefix a (x ++ y) c
 takes_then a x b y c p q = record { parts = p.parts ∙ ap (λ (t : List ℕ). x ++ t) q.parts ∙ sym (append_assoc x y c); rest_fits = q.rest_fits }
 
 pub record IsWide (w : Width) (limit : ℕ) : Type 0 where
@@ -71,7 +71,7 @@ wide64 = record {
   below = λ bytes fits. omega (arith, fits 0, fits 1, fits 2, fits 3, fits 4, fits 5, fits 6, fits 7);
 }
 
-pub number_takes : (w : Width) (limit : ℕ) (wide : IsWide w limit) (bytes : List ℕ) (n : ℕ × List ℕ) → IsBytes bytes → number_first w bytes ≡ Some n → Takes bytes (to_be_bytes w n.0) n.1 × (n.0 < limit)
+pub number_takes : (w : Width) (limit : ℕ) (wide : IsWide w limit) (bytes : List ℕ) (n : ℕ × List ℕ) → IsBytes bytes → number_first w bytes ≡ Some n → TakesPrefix bytes (to_be_bytes w n.0) n.1 × (n.0 < limit)
 number_takes w limit wide bytes n fits e =
     let g = stop_some (ltb (length bytes) (byte_len w)) (from_be_bytes w (take (byte_len w) bytes), drop (byte_len w) bytes) n e in
     let long : byte_len w ≤ length bytes = ltb-false _ _ g.0 in
@@ -86,11 +86,11 @@ number_again w limit wide n rest lt =
     let long : ltb (length (to_be_bytes w n ++ rest)) (byte_len w) ≡ false = le-ltb _ _ (omega (arith, length-append (to_be_bytes w n) rest)) in
     rw (long, take_at (to_be_bytes w n) rest (byte_len w) len, drop_at (to_be_bytes w n) rest (byte_len w) len, wide.again n lt) refl
 
-pub bytes_takes : (n : ℕ) (bytes : List ℕ) (x : List ℕ × List ℕ) → IsBytes bytes → bytes_first n bytes ≡ Some x → Takes bytes x.0 x.1 × (length x.0 ≡ n)
+pub bytes_takes : (n : ℕ) (bytes : List ℕ) (x : List ℕ × List ℕ) → IsBytes bytes → bytes_first n bytes ≡ Some x → TakesPrefix bytes x.0 x.1 × (length x.0 ≡ n)
 bytes_takes n bytes x fits e =
     let g = stop_some (ltb (length bytes) n) (take n bytes, drop n bytes) x e in
     let long : n ≤ length bytes = ltb-false _ _ g.0 in
-    subst (λ (p : List ℕ × List ℕ). Takes bytes p.0 p.1 × (length p.0 ≡ n)) g.1 (record { parts = sym (take-append-drop n bytes); rest_fits = IsBytes-drop n bytes fits }, omega (arith, length-take n bytes))
+    subst (λ (p : List ℕ × List ℕ). TakesPrefix bytes p.0 p.1 × (length p.0 ≡ n)) g.1 (record { parts = sym (take-append-drop n bytes); rest_fits = IsBytes-drop n bytes fits }, omega (arith, length-take n bytes))
 
 pub bytes_again : (n : ℕ) (text rest : List ℕ) → length text ≡ n → bytes_first n (text ++ rest) ≡ Some (text, rest)
 bytes_again n text rest len =

@@ -5,7 +5,7 @@ use Rattle.std.proofs.lemmas.Option.{same_Some, none-some}
 use Rattle.std.proofs.lemmas.Bool.{false≢true, cases_lt}
 use Rattle.dms_moments.specs.Moments.{Clock, Now, Steps}
 use Rattle.dms_calls.specs.World.{World, Unchanged, OnFile, MakesFile, StableFile}
-use Rattle.dms_folder.specs.declared.opened.Opened.{Opened}
+use Rattle.dms_folder.specs.declared.opened.OpenedFile.{OpenedFile}
 use Rattle.dms_calls.specs.Names.{name_of}
 use Rattle.dms_folder.specs.NameLaws.{name_inj}
 use Rattle.dms_folder.specs.Kept.{KeepsFolder, StableAt, Untouched}
@@ -26,14 +26,14 @@ pub stable_same : {v w : World} {a b : Clock World} (n : ℕ) → StableAt v a n
 stable_same {v} {w} {a} {b} n stable same step = subst (λ (w : World). StableAt w b n) (sym same) (λ i is y now. stable i is y (no_new step y now))
 
 -- nothing is open, and nothing known to be stable
-pub kept_begun : {H : Type 0} (file : H → ℕ) (opened : List (Opened H)) (w : World) (c : Clock World) → opened ≡ [] → KeepsFolder file opened true false w c
+pub kept_begun : {H : Type 0} (file : H → ℕ) (opened : List (OpenedFile H)) (w : World) (c : Clock World) → opened ≡ [] → KeepsFolder file opened true false w c
 kept_begun file opened w c none = record {
-  named = λ k o is. absurd (none-some o (ap (λ (l : List (Opened _)). slice_get l k) (sym none) ∙ is));
+  named = λ k o is. absurd (none-some o (ap (λ (l : List (OpenedFile _)). slice_get l k) (sym none) ∙ is));
   names = λ known. absurd (false≢true (sym known));
   bytes = λ known. absurd (false≢true known);
 }
 
-module _ {H : Type 0} {file : H → ℕ} {opened : List (Opened H)} {made synced : Bool} {w : World} {c : Clock World} where
+module _ {H : Type 0} {file : H → ℕ} {opened : List (OpenedFile H)} {made synced : Bool} {w : World} {c : Clock World} where
   -- a call that changes nothing
   pub kept_same : {w' : World} {c' : Clock World} → KeepsFolder file opened made synced w c → w' ≡ w → Steps Unchanged c c' → KeepsFolder file opened made synced w' c'
   kept_same {w'} {c'} kept same step =
@@ -45,28 +45,28 @@ module _ {H : Type 0} {file : H → ℕ} {opened : List (Opened H)} {made synced
       })
 
   -- an open file is marked as touched
-  pub kept_touched : KeepsFolder file opened made synced w c → (k : ℕ) (o : Opened H) → slice_get opened k ≡ Some o → k < length opened
+  pub kept_touched : KeepsFolder file opened made synced w c → (k : ℕ) (o : OpenedFile H) → slice_get opened k ≡ Some o → k < length opened
       → KeepsFolder file (slice_set opened k (record { number = o.number; file = o.file; touched = true })) made synced w c
   kept_touched kept k o is within = record {
     named = λ j p at. ⊎_elim
         (λ e. let q : slice_get (slice_set opened k t) k ≡ Some p = subst (λ (j : ℕ). slice_get (slice_set opened k t) j ≡ Some p) e at in
         let r : t ≡ p = same_Some t p (sym (get_set_same opened k t within) ∙ q) in
-        subst (λ (p : Opened H). w.names (name_of p.number) ≡ Some (file p.file)) r (kept.named k o is))
+        subst (λ (p : OpenedFile H). w.names (name_of p.number) ≡ Some (file p.file)) r (kept.named k o is))
         (λ other. kept.named j p (sym (get_set_other opened k j t other) ∙ at))
         (same_or_not j k);
     names = kept.names;
     bytes = λ known n low un. kept.bytes known n low (λ j p at number. ⊎_elim
         (λ e. let q : p ≡ o = same_Some p o (sym at ∙ ap (λ (j : ℕ). slice_get opened j) e ∙ is) in
-        absurd (false≢true (sym (un k t (get_set_same opened k t within) (ap (λ (p : Opened H). p.number) (sym q) ∙ number)))))
+        absurd (false≢true (sym (un k t (get_set_same opened k t within) (ap (λ (p : OpenedFile H). p.number) (sym q) ∙ number)))))
         (λ other. un j p (get_set_other opened k j t other ∙ at) number)
         (same_or_not j k));
   }
     where
-      t : Opened H
+      t : OpenedFile H
       t = record { number = o.number; file = o.file; touched = true }
 
   -- the bytes of an open file are stable, and its mark is taken away
-  pub kept_cleared : {w' : World} {c' : Clock World} → KeepsFolder file opened made synced w c → (k : ℕ) (o : Opened H) → slice_get opened k ≡ Some o → k < length opened
+  pub kept_cleared : {w' : World} {c' : Clock World} → KeepsFolder file opened made synced w c → (k : ℕ) (o : OpenedFile H) → slice_get opened k ≡ Some o → k < length opened
       → w' ≡ w → Steps Unchanged c c' → StableFile (file o.file) (w.bytes (file o.file)) c'
       → KeepsFolder file (slice_set opened k (record { number = o.number; file = o.file; touched = false })) made synced w' c'
   kept_cleared {w'} {c'} kept k o is within same step stable =
@@ -75,7 +75,7 @@ module _ {H : Type 0} {file : H → ℕ} {opened : List (Opened H)} {made synced
         named = λ j p at. ⊎_elim
             (λ e. let q : slice_get (slice_set opened k t) k ≡ Some p = subst (λ (j : ℕ). slice_get (slice_set opened k t) j ≡ Some p) e at in
             let r : t ≡ p = same_Some t p (sym (get_set_same opened k t within) ∙ q) in
-            subst (λ (p : Opened H). w.names (name_of p.number) ≡ Some (file p.file)) r (kept.named k o is))
+            subst (λ (p : OpenedFile H). w.names (name_of p.number) ≡ Some (file p.file)) r (kept.named k o is))
             (λ other. kept.named j p (sym (get_set_other opened k j t other) ∙ at))
             (same_or_not j k);
         names = λ none v now. kept.names none v (no_new step v now);
@@ -85,18 +85,18 @@ module _ {H : Type 0} {file : H → ℕ} {opened : List (Opened H)} {made synced
             subst (λ (i : ℕ). StableFile i (w.bytes i) c') f stable)
             (λ other. λ v now. kept.bytes known n low (λ j p there number. ⊎_elim
             (λ e. let q : p ≡ o = same_Some p o (sym there ∙ ap (λ (j : ℕ). slice_get opened j) e ∙ is) in
-            absurd (other (ap (λ (p : Opened H). p.number) (sym q) ∙ number)))
+            absurd (other (ap (λ (p : OpenedFile H). p.number) (sym q) ∙ number)))
             (λ away. un j p (get_set_other opened k j t away ∙ there) number)
             (same_or_not j k)) i at v (no_new step v now))
             (same_or_not o.number n);
       })
     where
-      t : Opened H
+      t : OpenedFile H
       t = record { number = o.number; file = o.file; touched = false }
 
   -- the first open file is shut, which isn't touched
-  pub kept_dropped : {rest : List (Opened H)} → KeepsFolder file opened made synced w c → ((k : ℕ) → slice_get rest k ≡ slice_get opened (suc k))
-      → ((o : Opened H) → slice_get opened 0 ≡ Some o → o.touched ≡ false) → KeepsFolder file rest made synced w c
+  pub kept_dropped : {rest : List (OpenedFile H)} → KeepsFolder file opened made synced w c → ((k : ℕ) → slice_get rest k ≡ slice_get opened (suc k))
+      → ((o : OpenedFile H) → slice_get opened 0 ≡ Some o → o.touched ≡ false) → KeepsFolder file rest made synced w c
   kept_dropped {rest} kept moved first = record {
     named = λ k o is. kept.named (suc k) o (sym (moved k) ∙ is);
     names = kept.names;
@@ -108,9 +108,9 @@ module _ {H : Type 0} {file : H → ℕ} {opened : List (Opened H)} {made synced
       below un (suc k) o is number = un k o (moved k ∙ is) number
 
   -- one more file is open
-  pub kept_pushed : KeepsFolder file opened made synced w c → (o : Opened H) → w.names (name_of o.number) ≡ Some (file o.file) → KeepsFolder file (opened ++ o ∷ []) made synced w c
+  pub kept_pushed : KeepsFolder file opened made synced w c → (o : OpenedFile H) → w.names (name_of o.number) ≡ Some (file o.file) → KeepsFolder file (opened ++ o ∷ []) made synced w c
   kept_pushed kept o leads = record {
-    named = λ k p is. ⊎_elim (λ old. kept.named k p old) (λ e. subst (λ (p : Opened H). w.names (name_of p.number) ≡ Some (file p.file)) (sym e) leads) (get_push opened o k p is);
+    named = λ k p is. ⊎_elim (λ old. kept.named k p old) (λ e. subst (λ (p : OpenedFile H). w.names (name_of p.number) ≡ Some (file p.file)) (sym e) leads) (get_push opened o k p is);
     names = kept.names;
     bytes = λ known n low un. kept.bytes known n low (λ k p is number. un k p (get_push_in opened o k p is) number);
   }
@@ -138,7 +138,7 @@ module _ {H : Type 0} {file : H → ℕ} {opened : List (Opened H)} {made synced
           (same_or_not n f)
 
   -- a file that is open and touched is written or cut
-  pub kept_written : {step : List ℕ → List ℕ → Type 0} {w' : World} {c' : Clock World} → KeepsFolder file opened made synced w c → (k f i : ℕ) (o : Opened H)
+  pub kept_written : {step : List ℕ → List ℕ → Type 0} {w' : World} {c' : Clock World} → KeepsFolder file opened made synced w c → (k f i : ℕ) (o : OpenedFile H)
       → slice_get opened k ≡ Some o → o.number ≡ f → o.touched ≡ true → w.names (name_of f) ≡ Some i → ((g : ℕ) → g < 2 ^ 32 → w.names (name_of g) ≡ Some i → g ≡ f)
       → OnFile i step w w' → Steps (OnFile i step) c c' → KeepsFolder file opened made synced w' c'
   kept_written {step} {w'} {c'} kept k f i o is number touched leads own moved call = record {

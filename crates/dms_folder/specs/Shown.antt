@@ -7,7 +7,7 @@ use Rattle.dms_site.specs.Files.{Files, Left, with_file, InFile, OnDisk, Cut, Sa
 use Rattle.dms_site.specs.Laws.{with_file_here, with_file_other, in_file_same}
 use Rattle.dms_calls.specs.World.{World, Unchanged, OnFile, MakesFile}
 use Rattle.dms_calls.specs.Seen.{bytes_of, seen, seen_clock, left_of, seen_steps, seen_alike, seen_at, seen_at_same}
-use Rattle.dms_folder.specs.declared.opened.Opened.{Opened}
+use Rattle.dms_folder.specs.declared.opened.OpenedFile.{OpenedFile}
 use Rattle.dms_calls.specs.Names.{name_of}
 use Rattle.dms_folder.specs.NameLaws.{name_inj}
 use Rattle.dms_folder.specs.Kept.{KeepsFolder, Untouched}
@@ -66,7 +66,7 @@ in_file_is f old new bytes one is = λ i g. each g i
         (same_or_not g f)
 
 -- All is stable where all names and all open files are.
-pub only_seen : {H : Type 0} {file : H → ℕ} {opened : List (Opened H)} {made synced : Bool} {w : World} {c : Clock World} → KeepsFolder file opened made synced w c
+pub only_seen : {H : Type 0} {file : H → ℕ} {opened : List (OpenedFile H)} {made synced : Bool} {w : World} {c : Clock World} → KeepsFolder file opened made synced w c
     → made ≡ false → IsTrue synced → ((n : ℕ) → Untouched opened n) → Only (seen name_of w) (seen_clock name_of c)
 unfolding seen_clock
 only_seen {w} kept named known un x now =

@@ -8,7 +8,7 @@ use Rattle.dms_moments.specs.MomentLaws.{steps_on}
 use Rattle.dms_site.specs.Files.{PrintsPartOf}
 use Rattle.dms_calls.specs.World.{World, Speaks}
 use Rattle.dms_calls.specs.Seen.{seen, seen_clock, seen_steps, bytes_of, seen_alike}
-use Rattle.dms_folder.specs.declared.opened.Opened.{Opened}
+use Rattle.dms_folder.specs.declared.opened.OpenedFile.{OpenedFile}
 use Rattle.dms_calls.specs.Names.{name_of}
 use Rattle.dms_folder.specs.Kept.{KeepsFolder}
 
@@ -46,7 +46,7 @@ pub spoken_steps : {a b : Clock World} (text : List ℕ) → Steps (Speaks text)
 spoken_steps text call = seen_steps name_of call (λ v w now s. record { files = seen_spoken v w s.names s.bytes; some = s.some; said = s.said })
 
 -- printing keeps what is kept
-pub kept_spoken : {H : Type 0} {file : H → ℕ} {opened : List (Opened H)} {made synced : Bool} {w : World} {c : Clock World} {text : List ℕ} {w' : World} {c' : Clock World}
+pub kept_spoken : {H : Type 0} {file : H → ℕ} {opened : List (OpenedFile H)} {made synced : Bool} {w : World} {c : Clock World} {text : List ℕ} {w' : World} {c' : Clock World}
     → KeepsFolder file opened made synced w c → Speaks text w w' → Steps (Speaks text) c c' → KeepsFolder file opened made synced w' c'
 kept_spoken kept s step = record {
   named = λ k o is. ap (λ n. n (name_of o.number)) s.names ∙ kept.named k o is;

@@ -10,7 +10,7 @@ ghost use Rattle.std.specs.Bool.{MatchBool};
 
 use crate::listing::{MOST_NAMES, next_number};
 use crate::name::file_name;
-use crate::opened::Opened;
+use crate::opened::OpenedFile;
 use crate::read::read_full;
 use crate::write::write_all;
 use dms_calls::Calls;
@@ -25,7 +25,7 @@ const MOST_OPEN: usize = 64;
 pub struct Folder<C: Calls> {
     pub calls: C,
     /// The files that are open, the first opened first.
-    pub opened: Vec<Opened<C::Handle>>,
+    pub opened: Vec<OpenedFile<C::Handle>>,
     /// Whether a file was made since the last sync, by this program or by one before it.
     pub made: bool,
     /// Whether each file was synced once. Before it an earlier program may have left files that are not stable.
@@ -54,7 +54,7 @@ impl<C: Calls> Folder<C> {
         requires kept { IsTrue C.tells → KeepsFolder C.file self.old.opened.items self.old.made self.old.synced (C.world self.old.calls) (C.clock self.old.calls) }
         requires place { place < length self.old.opened.items }
         ensures kept { IsTrue C.tells → KeepsFolder C.file self.new.opened.items self.new.made self.new.synced (C.world self.new.calls) (C.clock self.new.calls) }
-        ensures untouched { OnOk result ((o : Opened C.Handle) → slice_get self.new.opened.items place ≡ Some o → o.touched ≡ false) }
+        ensures untouched { OnOk result ((o : OpenedFile C.Handle) → slice_get self.new.opened.items place ≡ Some o → o.touched ≡ false) }
         ensures others { (k : ℕ) → k ≢ place → slice_get self.new.opened.items k ≡ slice_get self.old.opened.items k }
         ensures len { length self.new.opened.items ≡ length self.old.opened.items }
         ensures made { self.new.made ≡ self.old.made }
@@ -75,7 +75,7 @@ impl<C: Calls> Folder<C> {
         requires broken { C.broken self.old.calls ≡ false }
         requires kept { IsTrue C.tells → KeepsFolder C.file self.old.opened.items self.old.made self.old.synced (C.world self.old.calls) (C.clock self.old.calls) }
         ensures kept { IsTrue C.tells → KeepsFolder C.file self.new.opened.items self.new.made self.new.synced (C.world self.new.calls) (C.clock self.new.calls) }
-        ensures untouched { OnOk result ((k : ℕ) (o : Opened C.Handle) → slice_get self.new.opened.items k ≡ Some o → o.touched ≡ false) }
+        ensures untouched { OnOk result ((k : ℕ) (o : OpenedFile C.Handle) → slice_get self.new.opened.items k ≡ Some o → o.touched ≡ false) }
         ensures made { self.new.made ≡ self.old.made }
         ensures synced { self.new.synced ≡ self.old.synced }
         ensures world { C.world self.new.calls ≡ C.world self.old.calls }
@@ -143,7 +143,7 @@ impl<C: Calls> Folder<C> {
     fn drop_first(&mut self)
         requires some { 0 < length self.old.opened.items }
         requires kept { IsTrue C.tells → KeepsFolder C.file self.old.opened.items self.old.made self.old.synced (C.world self.old.calls) (C.clock self.old.calls) }
-        requires untouched { (o : Opened C.Handle) → slice_get self.old.opened.items 0 ≡ Some o → o.touched ≡ false }
+        requires untouched { (o : OpenedFile C.Handle) → slice_get self.old.opened.items 0 ≡ Some o → o.touched ≡ false }
         ensures kept { IsTrue C.tells → KeepsFolder C.file self.new.opened.items self.new.made self.new.synced (C.world self.new.calls) (C.clock self.new.calls) }
         ensures calls { self.new.calls ≡ self.old.calls }
         ensures made { self.new.made ≡ self.old.made }
@@ -163,7 +163,7 @@ impl<C: Calls> Folder<C> {
         ensures synced { self.new.synced ≡ self.old.synced }
     {
         let place = self.opened.len();
-        match self.opened.push(Opened {
+        match self.opened.push(OpenedFile {
             number,
             file,
             touched: false,
@@ -258,7 +258,7 @@ impl<C: Calls> Folder<C> {
         requires place { place < length self.old.opened.items }
         requires kept { IsTrue C.tells → KeepsFolder C.file self.old.opened.items self.old.made self.old.synced (C.world self.old.calls) (C.clock self.old.calls) }
         ensures kept { IsTrue C.tells → KeepsFolder C.file self.new.opened.items self.new.made self.new.synced (C.world self.new.calls) (C.clock self.new.calls) }
-        ensures marked { (o : Opened C.Handle) → slice_get self.old.opened.items place ≡ Some o → slice_get self.new.opened.items place ≡ Some (touched o) }
+        ensures marked { (o : OpenedFile C.Handle) → slice_get self.old.opened.items place ≡ Some o → slice_get self.new.opened.items place ≡ Some (touched o) }
         ensures calls { self.new.calls ≡ self.old.calls }
         ensures made { self.new.made ≡ self.old.made }
         ensures synced { self.new.synced ≡ self.old.synced }

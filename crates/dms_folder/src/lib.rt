@@ -11,4 +11,4 @@ mod read;
 mod write;
 
 pub use folder_site::FolderSite;
-pub use opened::Opened;
+pub use opened::OpenedFile;

@@ -77,10 +77,10 @@ FitsPart None v = ⊥
 FitsPart (Some k) v = FitsKind k v
 
 -- there are no more values than parts, and each fits its part's item
-abbrev pub KeyFits : List ItemKind → List KeyPart → List Value → Type 0
-KeyFits kinds ps [] = Unit {0}
-KeyFits kinds [] (v ∷ vs) = ⊥
-KeyFits kinds (p ∷ ps) (v ∷ vs) = FitsPart (kind_of kinds p) v × KeyFits kinds ps vs
+abbrev pub KeyHasKinds : List ItemKind → List KeyPart → List Value → Type 0
+KeyHasKinds kinds ps [] = Unit {0}
+KeyHasKinds kinds [] (v ∷ vs) = ⊥
+KeyHasKinds kinds (p ∷ ps) (v ∷ vs) = FitsPart (kind_of kinds p) v × KeyHasKinds kinds ps vs
 
 -- the order of byte strings
 abbrev pub bytes_cmp : List ℕ → List ℕ → Ordering

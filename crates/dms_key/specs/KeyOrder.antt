@@ -26,7 +26,7 @@ use Rattle.dms_desc.specs.Conds.{is_null, or_null}
 use Rattle.dms_desc.specs.Widths.{width_of}
 use Rattle.dms_desc.specs.Keys.{key_cmp_from, key_cmp, turned}
 use Rattle.dms_key.specs.ByteOrder.{less_is, equal_is, greater_is, append_cmp, AreBytes, complement_cmp, moved_cmp, high_first_cmp, high_first_bytes}
-use Rattle.dms_key.specs.KeyBytes.{bytes_cmp, shifted, bit_of, field_bytes, turned_bytes, kind_of, part_bytes, part_width, key_bytes, key_width, FitsPart, KeyFits}
+use Rattle.dms_key.specs.KeyBytes.{bytes_cmp, shifted, bit_of, field_bytes, turned_bytes, kind_of, part_bytes, part_width, key_bytes, key_width, FitsPart, KeyHasKinds}
 use Rattle.dms_desc.specs.Plain.{FitsKind}
 
 -- numbers of so many bytes
@@ -273,7 +273,7 @@ key_next i (p ∷ ps) v w a b =
     (λ j. ordering_then (turned p.descending (value_cmp (or_null (slice_next a v i j)) (or_null (slice_next b w i j)))) (key_next (i + 1) ps v w a b j))
 
 -- the order of the first values of keys is that of their bytes
-pub prefix_order : (kinds : List ItemKind) (ps : List KeyPart) (a b : List Value) → KeyFits kinds ps a → KeyFits kinds ps b → length a ≡ length b
+pub prefix_order : (kinds : List ItemKind) (ps : List KeyPart) (a b : List Value) → KeyHasKinds kinds ps a → KeyHasKinds kinds ps b → length a ≡ length b
     → bytes_cmp (key_bytes kinds ps a) (key_bytes kinds ps b) ≡ key_cmp (take (length a) ps) a b
 prefix_order kinds ps [] [] f g e = refl
 prefix_order kinds ps [] (w ∷ b) f g e = absurd (omega (arith, e))
@@ -286,12 +286,12 @@ prefix_order kinds (p ∷ ps) (v ∷ a) (w ∷ b) f g e =
     ∙ (λ j. ordering_then (part_order o d v w f.0 g.0 j) ((prefix_order kinds ps a b f.1 g.1 (omega (arith, e)) ∙ sym (key_next 0 (take (length a) ps) v w a b)) j))
 
 -- and that of whole keys
-pub key_order : (kinds : List ItemKind) (ps : List KeyPart) (a b : List Value) → KeyFits kinds ps a → KeyFits kinds ps b → length a ≡ length ps → length b ≡ length ps
+pub key_order : (kinds : List ItemKind) (ps : List KeyPart) (a b : List Value) → KeyHasKinds kinds ps a → KeyHasKinds kinds ps b → length a ≡ length ps → length b ≡ length ps
     → bytes_cmp (key_bytes kinds ps a) (key_bytes kinds ps b) ≡ key_cmp ps a b
 key_order kinds ps a b f g e h = prefix_order kinds ps a b f g (e ∙ sym h) ∙ ap (λ qs. key_cmp qs a b) (take_all (length a) ps (omega (arith, e)))
 
 -- the first values of keys take as many bytes as their parts say
-pub key_length : (kinds : List ItemKind) (ps : List KeyPart) (a : List Value) → KeyFits kinds ps a → length (key_bytes kinds ps a) ≡ key_width kinds (take (length a) ps)
+pub key_length : (kinds : List ItemKind) (ps : List KeyPart) (a : List Value) → KeyHasKinds kinds ps a → length (key_bytes kinds ps a) ≡ key_width kinds (take (length a) ps)
 key_length kinds ps [] f = refl
 key_length kinds [] (v ∷ a) f = absurd f
 key_length kinds (p ∷ ps) (v ∷ a) f =
@@ -299,7 +299,7 @@ key_length kinds (p ∷ ps) (v ∷ a) f =
     ∙ (λ j. part_length (kind_of kinds p) p.descending v f.0 j + key_length kinds ps a f.1 j)
 
 -- never more than a whole key
-pub key_most : (kinds : List ItemKind) (ps : List KeyPart) (a : List Value) → KeyFits kinds ps a → length (key_bytes kinds ps a) ≤ key_width kinds ps
+pub key_most : (kinds : List ItemKind) (ps : List KeyPart) (a : List Value) → KeyHasKinds kinds ps a → length (key_bytes kinds ps a) ≤ key_width kinds ps
 key_most kinds ps [] f = omega arith
 key_most kinds [] (v ∷ a) f = absurd f
 key_most kinds (p ∷ ps) (v ∷ a) f =
@@ -323,5 +323,5 @@ null_highest k (Bits b) f h = refl
 null_highest k (Reference b) f h = refl
 
 -- whole keys have one length
-pub whole_length : (kinds : List ItemKind) (ps : List KeyPart) (a : List Value) → KeyFits kinds ps a → length a ≡ length ps → length (key_bytes kinds ps a) ≡ key_width kinds ps
+pub whole_length : (kinds : List ItemKind) (ps : List KeyPart) (a : List Value) → KeyHasKinds kinds ps a → length a ≡ length ps → length (key_bytes kinds ps a) ≡ key_width kinds ps
 whole_length kinds ps a f e = key_length kinds ps a f ∙ ap (key_width kinds) (take_all (length a) ps (omega (arith, e)))

@@ -8,15 +8,15 @@ ghost use Rattle.dms_desc.specs.declared.structure.KeyPart.{KeyPart};
 ghost use Rattle.dms_desc.specs.Conds.{is_null};
 ghost use Rattle.dms_desc.specs.Plain.{FitsKind};
 ghost use Rattle.dms_desc.specs.Keys.{key_cmp};
-ghost use Rattle.dms_key.specs.KeyBytes.{bytes_cmp, field_bytes, key_bytes, key_width, KeyFits};
+ghost use Rattle.dms_key.specs.KeyBytes.{bytes_cmp, field_bytes, key_bytes, key_width, KeyHasKinds};
 
 /// A law: the order of bytes is that of the values of one kind, with null above all others, that of whole keys, in
 /// each direction of each part, and that of the first values of keys.
 pub fn order_law()
-    ensures keys { (kinds : List ItemKind) (ps : List KeyPart) (a b : List Value) → KeyFits kinds ps a → KeyFits kinds ps b
+    ensures keys { (kinds : List ItemKind) (ps : List KeyPart) (a b : List Value) → KeyHasKinds kinds ps a → KeyHasKinds kinds ps b
         → length a ≡ length ps → length b ≡ length ps
         → bytes_cmp (key_bytes kinds ps a) (key_bytes kinds ps b) ≡ key_cmp ps a b }
-    ensures first_values { (kinds : List ItemKind) (ps : List KeyPart) (a b : List Value) → KeyFits kinds ps a → KeyFits kinds ps b
+    ensures first_values { (kinds : List ItemKind) (ps : List KeyPart) (a b : List Value) → KeyHasKinds kinds ps a → KeyHasKinds kinds ps b
         → length a ≡ length b
         → bytes_cmp (key_bytes kinds ps a) (key_bytes kinds ps b) ≡ key_cmp (take (length a) ps) a b }
     ensures values { (k : ItemKind) (v w : Value) → FitsKind k v → FitsKind k w
@@ -28,11 +28,11 @@ pub fn order_law()
 /// A law: whole keys have one length, `max_key`, the first values of keys as many bytes as their parts say, and no
 /// key has more than `max_key`.
 pub fn width_law()
-    ensures whole { (kinds : List ItemKind) (ps : List KeyPart) (a : List Value) → KeyFits kinds ps a → length a ≡ length ps
+    ensures whole { (kinds : List ItemKind) (ps : List KeyPart) (a : List Value) → KeyHasKinds kinds ps a → length a ≡ length ps
         → length (key_bytes kinds ps a) ≡ key_width kinds ps }
-    ensures first_values { (kinds : List ItemKind) (ps : List KeyPart) (a : List Value) → KeyFits kinds ps a
+    ensures first_values { (kinds : List ItemKind) (ps : List KeyPart) (a : List Value) → KeyHasKinds kinds ps a
         → length (key_bytes kinds ps a) ≡ key_width kinds (take (length a) ps) }
-    ensures most { (kinds : List ItemKind) (ps : List KeyPart) (a : List Value) → KeyFits kinds ps a
+    ensures most { (kinds : List ItemKind) (ps : List KeyPart) (a : List Value) → KeyHasKinds kinds ps a
         → length (key_bytes kinds ps a) ≤ key_width kinds ps }
 {}
 

@@ -4,9 +4,9 @@ use Rattle.std.proofs.lemmas.List.{get_or-take, take-take}
 use Rattle.std.proofs.lemmas.Bool.{cases_lt}
 use Rattle.std.specs.Global.{Vec}
 use Rattle.dms_block.specs.declared.block.Block.{Block}
-use Rattle.dms_memblocks.specs.declared.undo.Undo.{Undo}
+use Rattle.dms_memblocks.specs.declared.undo.BlockUndo.{BlockUndo}
 use Rattle.dms_memblocks.specs.UndoLaws.{drop_all, take_all}
-use Rattle.dms_memblocks.specs.Undoing.{Files, old_in, rows, undo, undone}
+use Rattle.dms_memblocks.specs.Undoing.{BlockLists, old_in, rows, undo, undone}
 
 pub set_rows : (vs : List (Vec Block)) (k : ℕ) (v : Vec Block) → rows (set vs k v) ≡ set (rows vs) k v.items
 set_rows [] k v = refl
@@ -28,7 +28,7 @@ set_high [] k l high = refl
 set_high (x ∷ fs) zero l high = absurd (omega arith)
 set_high (x ∷ fs) (suc k) l high = ap (λ m. x ∷ m) (set_high fs k l (omega arith))
 
-pub take_old : (us : List Undo) (u : Undo) → take (length us) (us ++ u ∷ []) ≡ us
+pub take_old : (us : List BlockUndo) (u : BlockUndo) → take (length us) (us ++ u ∷ []) ≡ us
 take_old [] u = refl
 take_old (v ∷ us) u = ap (λ l. v ∷ l) (take_old us u)
 
@@ -45,16 +45,16 @@ set_with vs k p d v h place low was now =
 
 -- the last changes taken back
 
-drops : (k : ℕ) (u : Undo) (us : List Undo) → drop (k + 1) us ≡ drop (suc k + 1) (u ∷ us)
+drops : (k : ℕ) (u : BlockUndo) (us : List BlockUndo) → drop (k + 1) us ≡ drop (suc k + 1) (u ∷ us)
 drops k u us = let e : suc (k + 1) ≡ suc k + 1 = omega arith in ap (λ n. drop n (u ∷ us)) e
 
-drop_at : (k : ℕ) (us : List Undo) (d : Undo) → k < length us → drop k us ≡ get_or us k d ∷ drop (k + 1) us
+drop_at : (k : ℕ) (us : List BlockUndo) (d : BlockUndo) → k < length us → drop k us ≡ get_or us k d ∷ drop (k + 1) us
 drop_at zero [] d low = absurd (omega arith)
 drop_at (suc k) [] d low = absurd (omega arith)
 drop_at zero (u ∷ us) d low = refl
 drop_at (suc k) (u ∷ us) d low = drop_at k us d (omega arith) ∙ ap (λ l. get_or us k d ∷ l) (drops k u us)
 
-pub back_step : (old log log' : List Undo) (r0 r r' : Files) (d : Undo) (last : ℕ) → last + 1 ≡ length log → log ≡ take (length log) old → r ≡ undone (drop (length log) old) r0 → log' ≡ take last log → r' ≡ undo (get_or log last d) r
+pub back_step : (old log log' : List BlockUndo) (r0 r r' : BlockLists) (d : BlockUndo) (last : ℕ) → last + 1 ≡ length log → log ≡ take (length log) old → r ≡ undone (drop (length log) old) r0 → log' ≡ take last log → r' ≡ undo (get_or log last d) r
     → (log' ≡ take (length log') old) × (r' ≡ undone (drop (length log') old) r0) × (length log' ≡ last)
 back_step old log log' r0 r r' d last is so_far back less now =
     let long : length log ≤ length old = omega (arith, ap length so_far, length-take (length log) old) in
@@ -66,7 +66,7 @@ back_step old log log' r0 r r' d last is so_far back less now =
       short,
     )
 
-pub back_end : (old log : List Undo) (n : ℕ) → log ≡ take (length log) old → min n (length old) ≤ length log → length log ≤ n → (take (length log) old ≡ take n old) × (drop (length log) old ≡ drop n old)
+pub back_end : (old log : List BlockUndo) (n : ℕ) → log ≡ take (length log) old → min n (length old) ≤ length log → length log ≤ n → (take (length log) old ≡ take n old) × (drop (length log) old ≡ drop n old)
 back_end old log n so_far enough few = elim (cases_lt n (length old)) [
   | inl less ↦ let is : length log ≡ n = omega (arith, less, enough, few) in (ap (λ k. take k old) is, ap (λ k. drop k old) is)
   | inr no_less ↦

@@ -7,11 +7,11 @@ use Rattle.dms_block.specs.declared.block.Block.{Block}
 use Rattle.dms_block.specs.declared.change.Change.{Change}
 use Rattle.dms_block.specs.Content.{Content, changed, limit}
 use Rattle.dms_block.specs.Held.{BlockPoint, BlockStop, Held, Uses}
-use Rattle.dms_memblocks.specs.declared.undo.Undo.{Undo}
+use Rattle.dms_memblocks.specs.declared.undo.BlockUndo.{BlockUndo}
 
 -- the files 30,001 and on, each as the list of its blocks
-abbrev pub Files : Type 0
-Files = List (List Block)
+abbrev pub BlockLists : Type 0
+BlockLists = List (List Block)
 
 abbrev pub bytes : Block → List ℕ
 bytes x = x.0
@@ -20,10 +20,10 @@ bytes x = x.0
 abbrev pub place : ℕ → ℕ
 place f = f - 30001
 
-abbrev pub content_of : Files → Content
+abbrev pub content_of : BlockLists → Content
 content_of files = λ f. if nat_lt 30000 f then map bytes (slice_index_or files (place f) []) else []
 
-abbrev pub owns_of : Files → ℕ → Bool
+abbrev pub owns_of : BlockLists → ℕ → Bool
 owns_of files f = nat_lt 30000 f && nat_le f (30000 + length files)
 
 -- a file without a change: the old block stands again, or the new one is gone
@@ -31,20 +31,20 @@ abbrev pub taken_back : ℕ → Option Block → List Block → List Block
 taken_back b None blocks = take b blocks
 taken_back b (Some x) blocks = set blocks b x
 
-abbrev pub undo : Undo → Files → Files
+abbrev pub undo : BlockUndo → BlockLists → BlockLists
 undo u files = set files (place u.id.file) (taken_back u.id.block u.old (slice_index_or files (place u.id.file) []))
 
 -- the files before these changes, of which the last is taken back first
-abbrev pub undone : List Undo → Files → Files
+abbrev pub undone : List BlockUndo → BlockLists → BlockLists
 undone [] files = files
 undone (u ∷ us) files = undo u (undone us files)
 
 -- the changes after a quiet point
-abbrev pub after : ℕ → List Undo → List Undo
+abbrev pub after : ℕ → List BlockUndo → List BlockUndo
 after n log = filter (λ u. nat_lt n u.point) log
 
 -- the quiet points 1 to n, under these bytes of a description
-abbrev pub points_to : List ℕ → Files → List Undo → ℕ → List BlockPoint
+abbrev pub points_to : List ℕ → BlockLists → List BlockUndo → ℕ → List BlockPoint
 points_to schema files log zero = []
 points_to schema files log (suc n) = points_to schema files log n ++ (record { number = suc n; blocks = content_of (undone (after (suc n) log) files); schema = schema } ∷ [])
 
@@ -61,7 +61,7 @@ abbrev pub clock_of : List BlockPoint → ℕ → Clock BlockStop
 clock_of points durable = record { now = durable; left = LeavesBlocks points }
 
 -- all that the blocks stand for, where points are made under these bytes of a description
-abbrev pub held_of : List ℕ → Files → List Undo → ℕ → ℕ → Uses → Held
+abbrev pub held_of : List ℕ → BlockLists → List BlockUndo → ℕ → ℕ → Uses → Held
 held_of schema files log made durable uses = record {
   told = true;
   tells = ⊤;
@@ -82,17 +82,17 @@ held_of schema files log made durable uses = record {
 }
 
 -- all changes are before the point of this number
-abbrev pub AreBefore : ℕ → List Undo → Type 0
+abbrev pub AreBefore : ℕ → List BlockUndo → Type 0
 AreBefore n [] = Unit {0}
 AreBefore n (u ∷ us) = (u.point ≤ n) × AreBefore n us
 
 -- all changes are between the points n and n + 1
-abbrev pub AreSince : ℕ → List Undo → Type 0
+abbrev pub AreSince : ℕ → List BlockUndo → Type 0
 AreSince n [] = Unit {0}
 AreSince n (u ∷ us) = (n < u.point) × (u.point ≤ n + 1) × AreSince n us
 
 -- no file has more blocks than there are numbers for
-abbrev pub AreSmall : Files → Type 0
+abbrev pub AreSmall : BlockLists → Type 0
 AreSmall [] = Unit {0}
 AreSmall (blocks ∷ files) = (length blocks ≤ limit) × AreSmall files
 
@@ -107,12 +107,12 @@ old_in zero (x ∷ blocks) = Some x
 old_in (suc b) (x ∷ blocks) = old_in b blocks
 
 -- one block of one file is another one, or a new one
-abbrev pub put_at : ℕ → ℕ → Block → Files → Files
+abbrev pub put_at : ℕ → ℕ → Block → BlockLists → BlockLists
 put_at k b x files = set files k (put_in b x (slice_index_or files k []))
 
 -- changes were made and logged, and the log takes them back
-pub record PutAll (made : ℕ) (changes : List Change) (files : Files) (log : List Undo) (files' : Files) (log' : List Undo) : Type 0 where
-  pub more : List Undo
+pub record PutAll (made : ℕ) (changes : List Change) (files : BlockLists) (log : List BlockUndo) (files' : BlockLists) (log' : List BlockUndo) : Type 0 where
+  pub more : List BlockUndo
   pub logged : log' ≡ log ++ more
   pub since : AreSince made more
   pub back : undone more files' ≡ files
@@ -121,10 +121,10 @@ pub record PutAll (made : ℕ) (changes : List Change) (files : Files) (log : Li
   pub small : AreSmall files'
 
 -- the files as lists
-abbrev pub rows : List (Vec Block) → Files
+abbrev pub rows : List (Vec Block) → BlockLists
 rows files = map (λ v. v.items) files
 
 -- no file has a block
-abbrev pub AreEmpty : Files → Type 0
+abbrev pub AreEmpty : BlockLists → Type 0
 AreEmpty [] = Unit {0}
 AreEmpty (blocks ∷ files) = (blocks ≡ []) × AreEmpty files

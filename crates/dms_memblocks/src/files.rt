@@ -2,12 +2,12 @@ ghost use Rattle.std.specs.Prelude.{◌≡◌, ◌≤◌, ◌<◌, ◌+◌, ◌^
 ghost use Rattle.dms_block.specs.Content.{FitsIn};
 ghost use Rattle.dms_memblocks.specs.Undoing.{AreSmall, PutAll, content_of, old_in, owns_of, place, put_at, rows, undo, undone};
 
-use crate::Undo;
+use crate::BlockUndo;
 use crate::undo::{old_of, place_of, put_block, restore};
 use dms_block::{Block, BlockFault, Change};
 
 /// Takes one change back.
-fn take_back(files: &mut Vec<Vec<Block>>, entry: &Undo)
+fn take_back(files: &mut Vec<Vec<Block>>, entry: &BlockUndo)
     ensures { rows files.new.items ≡ undo entry.now (rows files.old.items) }
 {
     let at = place_of(entry.id.file);
@@ -17,7 +17,7 @@ fn take_back(files: &mut Vec<Vec<Block>>, entry: &Undo)
 }
 
 /// Takes all changes back but the first so many of the log, the last one first.
-pub fn take_back_to(files: &mut Vec<Vec<Block>>, log: &mut Vec<Undo>, n: usize)
+pub fn take_back_to(files: &mut Vec<Vec<Block>>, log: &mut Vec<BlockUndo>, n: usize)
     ensures files { rows files.new.items ≡ undone (drop n log.old.items) (rows files.old.items) }
     ensures log { log.new.items ≡ take n log.old.items }
 {
@@ -31,7 +31,7 @@ pub fn take_back_to(files: &mut Vec<Vec<Block>>, log: &mut Vec<Undo>, n: usize)
 /// Makes one change and logs it, or none.
 fn put(
     files: &mut Vec<Vec<Block>>,
-    log: &mut Vec<Undo>,
+    log: &mut Vec<BlockUndo>,
     point: u64,
     change: &Change,
 ) -> Result<(), BlockFault>
@@ -45,7 +45,7 @@ fn put(
     let b = change.id.block as usize;
     let old = old_of(&files[at], b);
     let before = log.len();
-    log.push(Undo {
+    log.push(BlockUndo {
         point,
         id: change.id,
         old,
@@ -62,7 +62,7 @@ fn put(
 /// Makes all changes and logs them, or none. `made` is the number of the last quiet point.
 pub fn put_all(
     files: &mut Vec<Vec<Block>>,
-    log: &mut Vec<Undo>,
+    log: &mut Vec<BlockUndo>,
     made: u64,
     changes: &[Change],
 ) -> Result<(), BlockFault>

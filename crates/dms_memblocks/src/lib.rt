@@ -7,7 +7,7 @@ mod memory;
 mod undo;
 
 pub use memory::MemBlocks;
-pub use undo::Undo;
+pub use undo::BlockUndo;
 
 #[cfg(test)]
 mod tests;

@@ -4,7 +4,7 @@ ghost use Rattle.dms_block.specs.Content.{limit};
 ghost use Rattle.dms_memblocks.specs.Undoing.{AreBefore, AreEmpty, AreSince, AreSmall, bytes, rows};
 ghost use Rattle.dms_memblocks.specs.UndoLaws.{AreBefore-prop, AreSince-prop, AreSmall-prop};
 
-use crate::Undo;
+use crate::BlockUndo;
 use crate::undo::place_of;
 use dms_base::{Bytes, Memory};
 use dms_block::Block;
@@ -16,7 +16,7 @@ use std::alloc::Global;
 pub struct MemBlocks {
     pub files: Vec<Vec<Block>>,
     /// What all changes took away, the last one at the end.
-    pub log: Vec<Undo>,
+    pub log: Vec<BlockUndo>,
     /// How many entries the log had at the last quiet point.
     pub mark: usize,
     /// The number of the last quiet point, 0 for none.

@@ -5,7 +5,7 @@ use dms_block::{Block, BlockFault, BlockId, Change};
 
 /// What a change took away.
 #[derive(Clone, Copy, Debug, PartialEq, Eq)]
-pub struct Undo {
+pub struct BlockUndo {
     /// The number of the quiet point to come when the change was made.
     pub point: u64,
     pub id: BlockId,

@@ -8,8 +8,8 @@ use Rattle.std.specs.declared.alloc.Global.{Global}
 use Rattle.std.proofs.lemmas.Bool.{false≢true}
 use Rattle.dms_moments.specs.Moments.{Now, Steps}
 use Rattle.dms_calls.specs.World.{World, OnFile, MakesFile, Speaks}
-use Rattle.dms_memcalls.specs.declared.event.Event.{Event}
-use Rattle.dms_memcalls.specs.declared.event.Event.TheVariants.{Looked, Made, Wrote, Shortened, Lengthened, Synced, SyncedNames, Printed, Found, Recalled}
+use Rattle.dms_memcalls.specs.declared.event.CallEvent.{CallEvent}
+use Rattle.dms_memcalls.specs.declared.event.CallEvent.TheVariants.{Looked, Made, Wrote, Shortened, Lengthened, Synced, SyncedNames, Printed, Found, Recalled}
 use Rattle.dms_calls.specs.Names.{IsFileName, name_of}
 use Rattle.dms_memcalls.specs.Names.{is_name, or_next}
 use Rattle.dms_memcalls.specs.NameLaws.{leads_is, leads_made, adds_makes}
@@ -30,7 +30,7 @@ same_or_not m n = by (bytes_eq m n) refl
     by false is = inr (λ e. false≢true (sym is ∙ (bytes_eq-Decides m n).1 e))
 
 -- the file that an event touches, where it touches one
-abbrev pub touches : FolderSeen → Event → ℕ
+abbrev pub touches : FolderSeen → CallEvent → ℕ
 touches s (Looked ok) = 0
 touches s (Made name ok) = s.count
 touches s (Wrote f at bytes ok) = f
@@ -43,7 +43,7 @@ touches s (Found name bytes) = s.count
 touches s (Recalled bytes) = 0
 
 -- a number above those of all files that were touched
-pub above : List Event → ℕ
+pub above : List CallEvent → ℕ
 above [] = 0
 above (e ∷ past) = touches (seen_of past) e + 1 + above past
 
@@ -71,7 +71,7 @@ free_added i n name bytes v w low adds free = record {
 free_spoken : (i : ℕ) (text : List ℕ) (v w : World) → Speaks text v w → IsFree i v → IsFree i w
 free_spoken i text v w speaks free = record { bytes = ap (λ (l : ℕ → List ℕ). l i) speaks.bytes ∙ free.bytes; names = λ m is. free.names m (sym (ap (λ (l : List ℕ → Option ℕ). l m) speaks.names) ∙ is) }
 
-free_step : (i : ℕ) (s : FolderSeen) (e : Event) (v w : World) → touches s e < i → IsFree i v → EventMakes s e v w → IsFree i w
+free_step : (i : ℕ) (s : FolderSeen) (e : CallEvent) (v w : World) → touches s e < i → IsFree i v → EventMakes s e v w → IsFree i w
 free_step i s (Looked ok) v w low free step = free_same i v w step free
 free_step i s (Made name ok) v w low free step = free_added i s.count name.items [] v w low step free
 free_step i s (Wrote f at bytes ok) v w low free step = free_file i f _ v w low step free
@@ -83,14 +83,14 @@ free_step i s (Printed bytes ok) v w low free step = free_spoken i bytes.items v
 free_step i s (Found name bytes) v w low free step = free_added i s.count name.items bytes.items v w low step free
 free_step i s (Recalled bytes) v w low free step = free_spoken i bytes.items v w step free
 
-free_of : (past : List Event) (i : ℕ) (w : World) → above past ≤ i → WorldMayBeLeft past w → IsFree i w
+free_of : (past : List CallEvent) (i : ℕ) (w : World) → above past ≤ i → WorldMayBeLeft past w → IsFree i w
 unfolding above
 free_of [] i w le may = free_same i (world_of nothing) w may (record { bytes = refl; names = λ m is. omega (arith, (leads_is 0 _ m i is).0) })
 free_of (e ∷ past) i w le may =
     let low : above past ≤ i = omega (arith, le) in
     free_step i (seen_of past) e may.1.0 w (omega (arith, le)) (free_of past i may.1.0 low may.1.1) may.1.2
 
-pub free_now : (events : List Event) (w : World) → Now (clock_of events) w → IsFree (above (past_of events)) w
+pub free_now : (events : List CallEvent) (w : World) → Now (clock_of events) w → IsFree (above (past_of events)) w
 free_now events w now = free_of (past_of events) (above (past_of events)) w (omega arith) (left_now events w now)
 
 -- nothing was made, under a number that is free
@@ -98,7 +98,7 @@ makes_none : (i : ℕ) (name : List ℕ) (w : World) → IsFree i w → MakesFil
 makes_none i name w free = record { empty = free.bytes; others = λ j other. refl; free = free.names; here = inl refl; names = λ m other. refl; said = refl }
 
 -- no event
-pub made_nothing : (events : List Event) (name : List ℕ) → (i : ℕ) × Steps (MakesFile name i) (clock_of events) (clock_of events) × MakesFile name i (world_now events) (world_now events)
+pub made_nothing : (events : List CallEvent) (name : List ℕ) → (i : ℕ) × Steps (MakesFile name i) (clock_of events) (clock_of events) × MakesFile name i (world_now events) (world_now events)
 made_nothing events name =
     let i = above (past_of events) in (
       i,
@@ -110,11 +110,11 @@ made_nothing events name =
     )
 
 -- no event
-pub made_none : (events all : List Event) (name : List ℕ) → all ≡ events → (i : ℕ) × Steps (MakesFile name i) (clock_of events) (clock_of all) × MakesFile name i (world_now events) (world_now all)
-made_none events all name same = subst (λ (l : List Event). (i : ℕ) × Steps (MakesFile name i) (clock_of events) (clock_of l) × MakesFile name i (world_now events) (world_now l)) (sym same) (made_nothing events name)
+pub made_none : (events all : List CallEvent) (name : List ℕ) → all ≡ events → (i : ℕ) × Steps (MakesFile name i) (clock_of events) (clock_of all) × MakesFile name i (world_now events) (world_now all)
+made_none events all name same = subst (λ (l : List CallEvent). (i : ℕ) × Steps (MakesFile name i) (clock_of events) (clock_of l) × MakesFile name i (world_now events) (world_now l)) (sym same) (made_nothing events name)
 
 -- one more file, of this name or of none
-pub made_one : (events all : List Event) (v : Vec ℕ Global) (done : Bool) (name : List ℕ) → v.items ≡ name → all ≡ events ++ Made v done ∷ []
+pub made_one : (events all : List CallEvent) (v : Vec ℕ Global) (done : Bool) (name : List ℕ) → v.items ≡ name → all ≡ events ++ Made v done ∷ []
     → Steps (MakesFile name (seen_now events).count) (clock_of events) (clock_of all) × MakesFile name (seen_now events).count (world_now events) (world_now all)
 made_one events all v done name is more =
     let i = (seen_now events).count in
@@ -124,7 +124,7 @@ made_one events all v done name is more =
     )
 
 -- a file that was to be made, of which nothing was kept, or one more event
-pub made_grew : (events all : List Event) (v : Vec ℕ Global) (done : Bool) (name : List ℕ) → v.items ≡ name → IsUpToOneMore events (Made v done) all
+pub made_grew : (events all : List CallEvent) (v : Vec ℕ Global) (done : Bool) (name : List ℕ) → v.items ≡ name → IsUpToOneMore events (Made v done) all
     → (i : ℕ) × Steps (MakesFile name i) (clock_of events) (clock_of all) × MakesFile name i (world_now events) (world_now all)
 made_grew events all v done name is grew = ⊎_elim
     (λ same. made_none events all name same)
@@ -137,8 +137,8 @@ unfolding name_of
 full_name name named = subst (λ (l : List ℕ). is_name l l ≡ true) (sym named.is) ((bytes_eq-Decides (name_of named.number) (name_of named.number)).1 refl)
 
 -- a file that was made, at a name that led to none
-pub made_here : (events all : List Event) (v : Vec ℕ Global) (done : Bool) (name : List ℕ) → all ≡ events ++ Made v done ∷ [] → IsTrue done → v.items ≡ name → IsFileName name → (world_now events).names name ≡ None → (world_now all).names name ≡ Some (seen_now events).count
-made_here events all v done name more yes' is named none = ap (λ (l : List Event). (world_now l).names name) more ∙ ap (λ (s : FolderSeen). (world_of s).names name) (seen_push events (Made v done)) ∙ by done yes'
+pub made_here : (events all : List CallEvent) (v : Vec ℕ Global) (done : Bool) (name : List ℕ) → all ≡ events ++ Made v done ∷ [] → IsTrue done → v.items ≡ name → IsFileName name → (world_now events).names name ≡ None → (world_now all).names name ≡ Some (seen_now events).count
+made_here events all v done name more yes' is named none = ap (λ (l : List CallEvent). (world_now l).names name) more ∙ ap (λ (s : FolderSeen). (world_of s).names name) (seen_push events (Made v done)) ∙ by done yes'
   where
     by : (b : Bool) → IsTrue b → (world_of (seen_after (Made v b) (seen_now events))).names name ≡ Some (seen_now events).count
     by true now =
@@ -147,5 +147,5 @@ made_here events all v done name more yes' is named none = ap (λ (l : List Even
     by false now = absurd (false≢true now)
 
 -- what is said of a file that was to be made
-pub made_said : (events all : List Event) (v : Vec ℕ Global) (done : Bool) → IsUpToOneMore events (Made v done) all → (seen_now all).said ≡ (seen_now events).said
-made_said events all v done grew = ⊎_elim (λ same. ap (λ (l : List Event). (seen_now l).said) same) (λ more. ap (λ (l : List Event). (seen_now l).said) more ∙ ap (λ (s : FolderSeen). s.said) (seen_push events (Made v done))) grew
+pub made_said : (events all : List CallEvent) (v : Vec ℕ Global) (done : Bool) → IsUpToOneMore events (Made v done) all → (seen_now all).said ≡ (seen_now events).said
+made_said events all v done grew = ⊎_elim (λ same. ap (λ (l : List CallEvent). (seen_now l).said) same) (λ more. ap (λ (l : List CallEvent). (seen_now l).said) more ∙ ap (λ (s : FolderSeen). s.said) (seen_push events (Made v done))) grew

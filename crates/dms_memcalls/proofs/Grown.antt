@@ -9,8 +9,8 @@ use Rattle.dms_moments.specs.Moments.{Steps}
 use Rattle.dms_site.specs.Files.{Files, range, with_file, overlaid, padded, Torn, Cut}
 use Rattle.dms_site.specs.Laws.{with_file_here, with_file_other, torn_refl}
 use Rattle.dms_calls.specs.World.{World, OnFile, Speaks}
-use Rattle.dms_memcalls.specs.declared.event.Event.{Event}
-use Rattle.dms_memcalls.specs.declared.event.Event.TheVariants.{Looked, Made, Wrote, Shortened, Lengthened, Synced, SyncedNames, Printed, Found, Recalled}
+use Rattle.dms_memcalls.specs.declared.event.CallEvent.{CallEvent}
+use Rattle.dms_memcalls.specs.declared.event.CallEvent.TheVariants.{Looked, Made, Wrote, Shortened, Lengthened, Synced, SyncedNames, Printed, Found, Recalled}
 use Rattle.dms_memcalls.specs.Folders.{FolderSeen, nothing, with_made, with_bytes, Alike, world_of}
 use Rattle.dms_memcalls.specs.Events.{seen_after}
 use Rattle.dms_memcalls.specs.Outcomes.{seen_now, world_now, clock_of}
@@ -24,7 +24,7 @@ alike_same a b is = record {
   said = ap (λ (s : FolderSeen). s.said) is;
 }
 
-pub nothing_seen : (events : List Event) → events ≡ [] → nothing ≡ seen_now events
+pub nothing_seen : (events : List CallEvent) → events ≡ [] → nothing ≡ seen_now events
 unfolding seen_now
 nothing_seen events none = sym (ap seen_now none)
 
@@ -58,7 +58,7 @@ said_alike : (a b : FolderSeen) (text : List ℕ) → Alike a b → Alike (recor
 said_alike a b text alike = record { count = alike.count; names = alike.names; bytes = alike.bytes; said = ap (λ (l : List ℕ). l ++ text) alike.said }
 
 -- an event does the same to folders that are the same
-pub alike_after : (e : Event) (a b : FolderSeen) → Alike a b → Alike (seen_after e a) (seen_after e b)
+pub alike_after : (e : CallEvent) (a b : FolderSeen) → Alike a b → Alike (seen_after e a) (seen_after e b)
 alike_after (Looked ok) a b alike = alike
 alike_after (Made name ok) a b alike = made_alike a b _ _ alike
 alike_after (Wrote f at bytes true) a b alike = bytes_alike a b f (λ l. overlaid at bytes.items l) alike
@@ -74,12 +74,12 @@ alike_after (Printed bytes false) a b alike = alike
 alike_after (Found name bytes) a b alike = made_alike a b _ _ alike
 alike_after (Recalled bytes) a b alike = said_alike a b bytes.items alike
 
-pub alike_kept : (events all : List Event) (e : Event) (old new : FolderSeen) → Alike old (seen_now events) → new ≡ seen_after e old → all ≡ events ++ e ∷ [] → Alike new (seen_now all)
+pub alike_kept : (events all : List CallEvent) (e : CallEvent) (old new : FolderSeen) → Alike old (seen_now events) → new ≡ seen_after e old → all ≡ events ++ e ∷ [] → Alike new (seen_now all)
 alike_kept events all e old new was now more =
     subst (λ (s : FolderSeen). Alike s (seen_now all)) (sym now) (subst (λ (s : FolderSeen). Alike (seen_after e old) s) (sym (ap seen_now more ∙ seen_push events e)) (alike_after e old (seen_now events) was))
 
 -- what was pushed where there was room
-pub surely_pushed : {T E : Type 0} (r : Result T E) (room len : ℕ) (xs ys zs : List Event) → OnErr r (room ≤ len) → len < room → zs ≡ (if is_ok r then xs else ys) → zs ≡ xs
+pub surely_pushed : {T E : Type 0} (r : Result T E) (room len : ℕ) (xs ys zs : List CallEvent) → OnErr r (room ≤ len) → len < room → zs ≡ (if is_ok r then xs else ys) → zs ≡ xs
 surely_pushed (Ok x) room len xs ys zs full more is = is
 surely_pushed (Err e) room len xs ys zs full more is = absurd (omega (arith, full, more))
 
@@ -88,7 +88,7 @@ any_err (Ok x) p = tt
 any_err (Err e) p = p
 
 -- a call that looks, or syncs
-module _ (events all : List Event) (e : Event) (grew : IsUpToOneMore events e all) where
+module _ (events all : List CallEvent) (e : CallEvent) (grew : IsUpToOneMore events e all) where
   pub grew_seen : seen_after e (seen_now events) ≡ seen_now events → seen_now all ≡ seen_now events
   grew_seen same = ⊎_elim (λ is. ap seen_now is) (λ more. ap seen_now more ∙ seen_push events e ∙ same) grew
 
@@ -96,7 +96,7 @@ module _ (events all : List Event) (e : Event) (grew : IsUpToOneMore events e al
   grew_world same = ap world_of (grew_seen same)
 
 -- a write
-module _ (events all : List Event) (f at : ℕ) (v : Vec ℕ Global) (done : Bool) (bytes : List ℕ) (is : v.items ≡ bytes) where
+module _ (events all : List CallEvent) (f at : ℕ) (v : Vec ℕ Global) (done : Bool) (bytes : List ℕ) (is : v.items ≡ bytes) where
   pub wrote_torn : IsUpToOneMore events (Wrote f at v done) all → OnFile f (Torn at (length bytes)) (world_now events) (world_now all)
   wrote_torn grew = subst (λ (l : List ℕ). OnFile f (Torn at (length l)) (world_now events) (world_now all)) is
       (step_grew events all (Wrote f at v done) (OnFile f (Torn at (length v.items))) grew (on_file_same f _ (torn_refl at (length v.items))) (λ x y step. step))
@@ -107,14 +107,14 @@ module _ (events all : List Event) (f at : ℕ) (v : Vec ℕ Global) (done : Boo
 
   pub wrote_done : all ≡ events ++ Wrote f at v done ∷ [] → IsTrue done → (world_now all).bytes f ≡ overlaid at (take (length bytes) bytes) ((world_now events).bytes f)
   wrote_done more yes' =
-      ap (λ (l : List Event). (seen_now l).bytes f) more ∙ ap (λ (s : FolderSeen). s.bytes f) (seen_push events (Wrote f at v done)) ∙ by done yes'
+      ap (λ (l : List CallEvent). (seen_now l).bytes f) more ∙ ap (λ (s : FolderSeen). s.bytes f) (seen_push events (Wrote f at v done)) ∙ by done yes'
     where
       by : (b : Bool) → IsTrue b → (seen_after (Wrote f at v b) (seen_now events)).bytes f ≡ overlaid at (take (length bytes) bytes) ((seen_now events).bytes f)
       by true now = with_file_here (seen_now events).bytes f _ ∙ ap (λ (l : List ℕ). overlaid at l ((seen_now events).bytes f)) (is ∙ sym (take_all (length bytes) bytes (omega arith)))
       by false now = absurd (false≢true now)
 
 -- printing
-module _ (events all : List Event) (v : Vec ℕ Global) (done : Bool) (bytes : List ℕ) (is : v.items ≡ bytes) where
+module _ (events all : List CallEvent) (v : Vec ℕ Global) (done : Bool) (bytes : List ℕ) (is : v.items ≡ bytes) where
   pub spoke : IsUpToOneMore events (Printed v done) all → Speaks bytes (world_now events) (world_now all)
   spoke grew = subst (λ (l : List ℕ). Speaks l (world_now events) (world_now all)) is
       (step_grew events all (Printed v done) (Speaks v.items) grew (speaks_none v.items) (λ x y step. step))
@@ -125,7 +125,7 @@ module _ (events all : List Event) (v : Vec ℕ Global) (done : Bool) (bytes : L
 
   pub spoke_done : all ≡ events ++ Printed v done ∷ [] → IsTrue done → (world_now all).said ≡ (world_now events).said ++ take (length bytes) bytes
   spoke_done more yes' =
-      ap (λ (l : List Event). (seen_now l).said) more ∙ ap (λ (s : FolderSeen). s.said) (seen_push events (Printed v done)) ∙ by done yes'
+      ap (λ (l : List CallEvent). (seen_now l).said) more ∙ ap (λ (s : FolderSeen). s.said) (seen_push events (Printed v done)) ∙ by done yes'
     where
       by : (b : Bool) → IsTrue b → (seen_after (Printed v b) (seen_now events)).said ≡ (seen_now events).said ++ take (length bytes) bytes
       by true now = ap (λ (l : List ℕ). (seen_now events).said ++ l) (is ∙ sym (take_all (length bytes) bytes (omega arith)))
@@ -142,10 +142,10 @@ padded_short : (file : List ℕ) (len : ℕ) → len ≤ length file → take le
 unfolding padded
 padded_short file len le = take-append-le len file (replicate (len - length file) 0) le
 
-module _ (events all : List Event) (f len : ℕ) (done : Bool) where
+module _ (events all : List CallEvent) (f len : ℕ) (done : Bool) where
   pub cut_done : all ≡ events ++ Shortened f len done ∷ [] → IsTrue done → len ≤ length ((world_now events).bytes f) → (world_now all).bytes f ≡ take len (padded ((world_now events).bytes f) len)
   cut_done more yes' le =
-      ap (λ (l : List Event). (seen_now l).bytes f) more ∙ ap (λ (s : FolderSeen). s.bytes f) (seen_push events (Shortened f len done)) ∙ by done yes'
+      ap (λ (l : List CallEvent). (seen_now l).bytes f) more ∙ ap (λ (s : FolderSeen). s.bytes f) (seen_push events (Shortened f len done)) ∙ by done yes'
     where
       by : (b : Bool) → IsTrue b → (seen_after (Shortened f len b) (seen_now events)).bytes f ≡ take len (padded ((seen_now events).bytes f) len)
       by true now = with_file_here (seen_now events).bytes f _ ∙ sym (padded_short ((seen_now events).bytes f) len le)
@@ -153,7 +153,7 @@ module _ (events all : List Event) (f len : ℕ) (done : Bool) where
 
   pub grown_done : all ≡ events ++ Lengthened f len done ∷ [] → IsTrue done → length ((world_now events).bytes f) ≤ len → (world_now all).bytes f ≡ take len (padded ((world_now events).bytes f) len)
   grown_done more yes' le =
-      ap (λ (l : List Event). (seen_now l).bytes f) more ∙ ap (λ (s : FolderSeen). s.bytes f) (seen_push events (Lengthened f len done)) ∙ by done yes'
+      ap (λ (l : List CallEvent). (seen_now l).bytes f) more ∙ ap (λ (s : FolderSeen). s.bytes f) (seen_push events (Lengthened f len done)) ∙ by done yes'
     where
       by : (b : Bool) → IsTrue b → (seen_after (Lengthened f len b) (seen_now events)).bytes f ≡ take len (padded ((seen_now events).bytes f) len)
       by true now = with_file_here (seen_now events).bytes f _ ∙ sym (padded_long ((seen_now events).bytes f) len le)
@@ -161,11 +161,11 @@ module _ (events all : List Event) (f len : ℕ) (done : Bool) where
 
   pub equal_done : all ≡ events ++ Looked done ∷ [] → len ≡ length ((world_now events).bytes f) → (world_now all).bytes f ≡ take len (padded ((world_now events).bytes f) len)
   equal_done more e =
-      ap (λ (l : List Event). (seen_now l).bytes f) more ∙ ap (λ (s : FolderSeen). s.bytes f) (seen_push events (Looked done))
+      ap (λ (l : List CallEvent). (seen_now l).bytes f) more ∙ ap (λ (s : FolderSeen). s.bytes f) (seen_push events (Looked done))
       ∙ sym (padded_short ((seen_now events).bytes f) len (omega (arith, e)) ∙ take_all len ((seen_now events).bytes f) (omega (arith, e)))
 
 -- the steps of a call that gives a file a length
-module _ (events all : List Event) (f len : ℕ) (done : Bool) where
+module _ (events all : List CallEvent) (f len : ℕ) (done : Bool) where
   pub cut_step : IsUpToOneMore events (Shortened f len done) all → OnFile f (Cut len) (world_now events) (world_now all)
   cut_step grew = step_grew events all (Shortened f len done) (OnFile f (Cut len)) grew (on_file_same f (Cut len) (λ l. inl refl)) (λ x y step. step)
 

@@ -6,25 +6,25 @@ use Rattle.std.proofs.lemmas.Option.{same_Some, none-some}
 use Rattle.std.proofs.lemmas.Bool.{cases_lt, cases_eq}
 use Rattle.dms_site.specs.Files.{Files, with_file}
 use Rattle.dms_site.specs.Laws.{with_file_here, with_file_other}
-use Rattle.dms_memcalls.specs.declared.event.Event.{Event}
-use Rattle.dms_memcalls.specs.declared.event.Event.TheVariants.{Found, Recalled}
+use Rattle.dms_memcalls.specs.declared.event.CallEvent.{CallEvent}
+use Rattle.dms_memcalls.specs.declared.event.CallEvent.TheVariants.{Found, Recalled}
 use Rattle.dms_memcalls.specs.Names.{leads}
 use Rattle.dms_memcalls.specs.NameLaws.{leads_is, leads_same}
 use Rattle.dms_memcalls.specs.Folders.{FolderSeen, world_of}
 use Rattle.dms_memcalls.specs.Events.{seen_after}
 use Rattle.dms_memcalls.specs.Outcomes.{seen_of, past_of, seen_now, world_now}
 use Rattle.dms_memcalls.specs.Steady.{past_push, seen_push}
-use Rattle.dms_memcalls.specs.Strikes.{Changed, Strikes, IsLeft, Shows}
+use Rattle.dms_memcalls.specs.Strikes.{FileChanged, Strikes, IsLeft, Shows}
 use Rattle.dms_memcalls.specs.StruckLaws.{struck_left}
 use Rattle.dms_memcalls.proofs.Grown.{nothing_seen}
 
 -- a file that was changed
 pub changed_files : (left : FolderSeen) (f : ℕ) (step : List ℕ → List ℕ → Type 0) (x : List ℕ) (files : Files) (said : List ℕ) → step (left.bytes f) x → files ≡ with_file left.bytes f x → said ≡ left.said
-    → Changed f step left (record { count = left.count; names = left.names; bytes = files; said = said })
+    → FileChanged f step left (record { count = left.count; names = left.names; bytes = files; said = said })
 changed_files left f step x files said took now same = record { bytes = x; took = took; is = λ i. record { count = left.count; names = left.names; bytes = now i; said = same i } }
 
 -- one that was not
-pub changed_not : (left : FolderSeen) (f : ℕ) (step : List ℕ → List ℕ → Type 0) → ((l : List ℕ) → step l l) → Changed f step left left
+pub changed_not : (left : FolderSeen) (f : ℕ) (step : List ℕ → List ℕ → Type 0) → ((l : List ℕ) → step l l) → FileChanged f step left left
 changed_not left f step refls = record { bytes = left.bytes f; took = refls (left.bytes f); is = λ i. record { count = left.count; names = left.names; bytes = λ k. same k i; said = left.said } }
   where
     same : (k : ℕ) → left.bytes k ≡ with_file left.bytes f (left.bytes f) k
@@ -38,19 +38,19 @@ take_suc [] p x is = absurd (none-some x is)
 take_suc (y ∷ xs) zero x is = ap (λ z. z ∷ []) (same_Some y x is)
 take_suc (y ∷ xs) (suc p) x is = ap (λ l. y ∷ l) (take_suc xs p x is)
 
-past_next : (events : List Event) (p : ℕ) (e : Event) → slice_get events p ≡ Some e → e ∷ past_of (take p events) ≡ past_of (take (p + 1) events)
+past_next : (events : List CallEvent) (p : ℕ) (e : CallEvent) → slice_get events p ≡ Some e → e ∷ past_of (take p events) ≡ past_of (take (p + 1) events)
 past_next events p e is =
     let one : suc p ≡ p + 1 = omega arith in
     sym (ap (λ (n : ℕ). past_of (take n events)) (sym one) ∙ ap past_of (take_suc events p e is) ∙ past_push (take p events) e)
 
 -- one more event before the stop
-pub shown_next : (events : List Event) (p : ℕ) (e : Event) (shown new : FolderSeen) → slice_get events p ≡ Some e → shown ≡ seen_of (past_of (take p events)) → new ≡ seen_after e shown → new ≡ seen_of (past_of (take (p + 1) events))
+pub shown_next : (events : List CallEvent) (p : ℕ) (e : CallEvent) (shown new : FolderSeen) → slice_get events p ≡ Some e → shown ≡ seen_of (past_of (take p events)) → new ≡ seen_after e shown → new ≡ seen_of (past_of (take (p + 1) events))
 shown_next events p e shown new is was now = now ∙ ap (λ (s : FolderSeen). seen_after e s) was ∙ ap seen_of (past_next events p e is)
 
-pub left_next : (events : List Event) (p : ℕ) (e : Event) (shown left new : FolderSeen) → slice_get events p ≡ Some e → shown ≡ seen_of (past_of (take p events)) → IsLeft (past_of (take p events)) left → Strikes e shown left new
+pub left_next : (events : List CallEvent) (p : ℕ) (e : CallEvent) (shown left new : FolderSeen) → slice_get events p ≡ Some e → shown ≡ seen_of (past_of (take p events)) → IsLeft (past_of (take p events)) left → Strikes e shown left new
     → IsLeft (past_of (take (p + 1) events)) new
 left_next events p e shown left new is was may struck =
-    subst (λ (l : List Event). IsLeft l new) (past_next events p e is) (struck_left (past_of (take p events)) left may e new (subst (λ (s : FolderSeen). Strikes e s left new) was struck))
+    subst (λ (l : List CallEvent). IsLeft l new) (past_next events p e is) (struck_left (past_of (take p events)) left may e new (subst (λ (s : FolderSeen). Strikes e s left new) was struck))
 
 -- the files of a folder up to that number came to another one
 pub record Came (disk : FolderSeen) (n : ℕ) (now : FolderSeen) : Type 0 where
@@ -59,7 +59,7 @@ pub record Came (disk : FolderSeen) (n : ℕ) (now : FolderSeen) : Type 0 where
   pub bytes : (k : ℕ) → k < n → now.bytes k ≡ disk.bytes k
   pub said : now.said ≡ []
 
-pub came_none : (disk : FolderSeen) (events : List Event) → events ≡ [] → Came disk 0 (seen_now events)
+pub came_none : (disk : FolderSeen) (events : List CallEvent) → events ≡ [] → Came disk 0 (seen_now events)
 came_none disk events none = subst (λ (s : FolderSeen). Came disk 0 s) (nothing_seen events none)
     (record { count = refl; names = λ k low. absurd (omega (arith, low)); bytes = λ k low. absurd (omega (arith, low)); said = refl })
 
@@ -72,7 +72,7 @@ one_came disk now n c bytes count below is k low = elim (cases_lt k n) [
       ap (λ (j : ℕ). with_file now c bytes j) e ∙ with_file_here now c bytes ∙ is ∙ ap disk d
 ]
 
-pub came_next : (disk : FolderSeen) (n : ℕ) (events all : List Event) (name bytes : Vec ℕ Global) → Came disk n (seen_now events) → all ≡ events ++ Found name bytes ∷ [] → name.items ≡ disk.names n → bytes.items ≡ disk.bytes n → Came disk (n + 1) (seen_now all)
+pub came_next : (disk : FolderSeen) (n : ℕ) (events all : List CallEvent) (name bytes : Vec ℕ Global) → Came disk n (seen_now events) → all ≡ events ++ Found name bytes ∷ [] → name.items ≡ disk.names n → bytes.items ≡ disk.bytes n → Came disk (n + 1) (seen_now all)
 came_next disk n events all name bytes came more named held =
     let s = seen_now events in
     subst (λ (x : FolderSeen). Came disk (n + 1) x) (sym (ap seen_now more ∙ seen_push events (Found name bytes)))
@@ -83,7 +83,7 @@ came_next disk n events all name bytes came more named held =
       said = came.said;
     })
 
-pub came_all : (disk : FolderSeen) (n : ℕ) (events all : List Event) (said : Vec ℕ Global) → Came disk n (seen_now events) → n ≡ disk.count → all ≡ events ++ Recalled said ∷ [] → said.items ≡ disk.said → Shows (world_of disk) (world_now all)
+pub came_all : (disk : FolderSeen) (n : ℕ) (events all : List CallEvent) (said : Vec ℕ Global) → Came disk n (seen_now events) → n ≡ disk.count → all ≡ events ++ Recalled said ∷ [] → said.items ≡ disk.said → Shows (world_of disk) (world_now all)
 came_all disk n events all said came every more same =
     let s = seen_now events in
     subst (λ (x : FolderSeen). Shows (world_of disk) (world_of x)) (sym (ap seen_now more ∙ seen_push events (Recalled said)))

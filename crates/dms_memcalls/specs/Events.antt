@@ -1,12 +1,12 @@
 -- What each event makes of what is seen.
 use Rattle.std.specs.Prelude.{[], ◌++◌, take, if◌then◌else◌}
 use Rattle.dms_site.specs.Files.{overlaid}
-use Rattle.dms_memcalls.specs.declared.event.Event.{Event}
-use Rattle.dms_memcalls.specs.declared.event.Event.TheVariants.{Looked, Made, Wrote, Shortened, Lengthened, Synced, SyncedNames, Printed, Found, Recalled}
+use Rattle.dms_memcalls.specs.declared.event.CallEvent.{CallEvent}
+use Rattle.dms_memcalls.specs.declared.event.CallEvent.TheVariants.{Looked, Made, Wrote, Shortened, Lengthened, Synced, SyncedNames, Printed, Found, Recalled}
 use Rattle.dms_memcalls.specs.Folders.{FolderSeen, with_made, with_bytes, with_said}
 
 -- A call that failed changes nothing that is seen, but that a file which was to be made has a number, and no name.
-abbrev pub seen_after : Event → FolderSeen → FolderSeen
+abbrev pub seen_after : CallEvent → FolderSeen → FolderSeen
 seen_after (Looked ok) s = s
 seen_after (Made name ok) s = with_made s (if ok then name.items else []) []
 seen_after (Wrote f at bytes ok) s = if ok then with_bytes s f (overlaid at bytes.items (s.bytes f)) else s

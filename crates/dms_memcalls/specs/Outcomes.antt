@@ -3,8 +3,8 @@ use Rattle.std.specs.Prelude.{ℕ, ◌≤◌, ◌≡◌, ◌≢◌, ◌⊎◌, N
 use Rattle.dms_moments.specs.Moments.{Clock}
 use Rattle.dms_site.specs.Files.{Torn, Cut}
 use Rattle.dms_calls.specs.World.{World, OnFile, Speaks}
-use Rattle.dms_memcalls.specs.declared.event.Event.{Event}
-use Rattle.dms_memcalls.specs.declared.event.Event.TheVariants.{Looked, Made, Wrote, Shortened, Lengthened, Synced, SyncedNames, Printed, Found, Recalled}
+use Rattle.dms_memcalls.specs.declared.event.CallEvent.{CallEvent}
+use Rattle.dms_memcalls.specs.declared.event.CallEvent.TheVariants.{Looked, Made, Wrote, Shortened, Lengthened, Synced, SyncedNames, Printed, Found, Recalled}
 use Rattle.dms_memcalls.specs.Names.{leads}
 use Rattle.dms_memcalls.specs.Folders.{FolderSeen, nothing, world_of}
 use Rattle.dms_memcalls.specs.Events.{seen_after}
@@ -21,7 +21,7 @@ pub record Adds (name bytes : List ℕ) (i : ℕ) (old new : World) : Type 0 whe
 -- What an event may make of an outcome, where s was seen before it. A call that changes something does its step whether it
 -- succeeded or not. A sync that succeeded leaves the outcomes alone in which what it syncs is as it was seen. The name of a file
 -- that was there before the first call may be lost until the names are synced, since whoever made it may not have done so.
-abbrev pub EventMakes : FolderSeen → Event → World → World → Type 0
+abbrev pub EventMakes : FolderSeen → CallEvent → World → World → Type 0
 EventMakes s (Looked ok) v w = w ≡ v
 EventMakes s (Made name ok) v w = Adds name.items [] s.count v w
 EventMakes s (Wrote f at bytes ok) v w = OnFile f (Torn at (length bytes.items)) v w
@@ -39,35 +39,35 @@ pub record IsOutcomeOf (s : FolderSeen) (w : World) : Type 0 where
   pub one_name : (m n : List ℕ) (i : ℕ) → w.names m ≡ Some i → leads s.count s.names n ≡ Some i → m ≡ n
 
 -- what is seen after these events, of which the newest comes first
-abbrev pub seen_of : List Event → FolderSeen
+abbrev pub seen_of : List CallEvent → FolderSeen
 seen_of [] = nothing
 seen_of (event ∷ past) = seen_after event (seen_of past)
 
 -- what a stop may leave after these events, of which the newest comes first: all that comes by their steps, one by one
-abbrev pub WorldMayBeLeft : List Event → World → Type 0
+abbrev pub WorldMayBeLeft : List CallEvent → World → Type 0
 WorldMayBeLeft [] w = w ≡ world_of nothing
 WorldMayBeLeft (event ∷ past) w = IsOutcomeOf (seen_after event (seen_of past)) w × ((v : World) × WorldMayBeLeft past v × EventMakes (seen_of past) event v w)
 
 -- events in front of others, the newest first
-abbrev pub turned : List Event → List Event → List Event
+abbrev pub turned : List CallEvent → List CallEvent → List CallEvent
 turned [] past = past
 turned (event ∷ events) past = turned events (event ∷ past)
 
 -- these events, the newest first
-abbrev pub past_of : List Event → List Event
+abbrev pub past_of : List CallEvent → List CallEvent
 past_of events = turned events []
 
 -- what is seen after these events
-unfoldable pub seen_now : List Event → FolderSeen
+unfoldable pub seen_now : List CallEvent → FolderSeen
 seen_now events = seen_of (past_of events)
 
-abbrev pub world_now : List Event → World
+abbrev pub world_now : List CallEvent → World
 world_now events = world_of (seen_now events)
 
 -- a stop at a moment since t: after k of the events
-abbrev pub WorldLeftSince : List Event → ℕ → World → Type 0
+abbrev pub WorldLeftSince : List CallEvent → ℕ → World → Type 0
 WorldLeftSince events t w = (k : ℕ) × (t ≤ k) × (k ≤ length events) × WorldMayBeLeft (past_of (take k events)) w
 
 -- the moments are counted by the events
-unfoldable pub clock_of : List Event → Clock World
+unfoldable pub clock_of : List CallEvent → Clock World
 clock_of events = record { now = length events; left = WorldLeftSince events }

@@ -4,8 +4,8 @@ use Rattle.std.proofs.lemmas.Bool.{cases_eq}
 use Rattle.dms_site.specs.Files.{Files, with_file}
 use Rattle.dms_site.specs.Laws.{with_file_here, with_file_other, torn_overlaid, torn_refl}
 use Rattle.dms_calls.specs.World.{World, OnFile, Speaks}
-use Rattle.dms_memcalls.specs.declared.event.Event.{Event}
-use Rattle.dms_memcalls.specs.declared.event.Event.TheVariants.{Looked, Made, Wrote, Shortened, Lengthened, Synced, SyncedNames, Printed, Found, Recalled}
+use Rattle.dms_memcalls.specs.declared.event.CallEvent.{CallEvent}
+use Rattle.dms_memcalls.specs.declared.event.CallEvent.TheVariants.{Looked, Made, Wrote, Shortened, Lengthened, Synced, SyncedNames, Printed, Found, Recalled}
 use Rattle.dms_memcalls.specs.NameLaws.{adds_seen}
 use Rattle.dms_memcalls.specs.Folders.{FolderSeen, nothing, with_made, with_bytes, world_of}
 use Rattle.dms_memcalls.specs.Events.{seen_after}
@@ -74,7 +74,7 @@ module _ (f : ℕ) where
   settle_kept : (s : FolderSeen) (i : ℕ) (step : List ℕ → List ℕ → Type 0) (u v : World) → OnFile i step u v → ((l : List ℕ) → step l l) → OnFile i step (put f (s.bytes f) u) (put f (s.bytes f) v)
   settle_kept s i step u v on refls = settle_file i step (s.bytes f) (s.bytes f) u v on (λ e. refls (s.bytes f)) (λ other. refl)
 
-  settle_step : (s : FolderSeen) (e : Event) (u v : World) → EventMakes s e u v → EventMakes s e (put f (s.bytes f) u) (put f ((seen_after e s).bytes f) v)
+  settle_step : (s : FolderSeen) (e : CallEvent) (u v : World) → EventMakes s e u v → EventMakes s e (put f (s.bytes f) u) (put f ((seen_after e s).bytes f) v)
   settle_step s (Looked ok) u v step = ap (put f (s.bytes f)) step
   settle_step s (Made name ok) u v step = settle_added name.items [] s.count (s.bytes f) _ u v step (written_here s s.count []) (λ other. with_file_other s.bytes s.count [] f other)
   settle_step s (Wrote i at bytes true) u v step = settle_changed s i _ _ u v step (torn_overlaid at bytes.items (s.bytes i))
@@ -97,7 +97,7 @@ module _ (f : ℕ) where
   settle_step s (Recalled text) u v step = settle_spoken text.items (s.bytes f) u v step
 
   -- an outcome in which this file is as it is seen
-  pub settled : (past : List Event) (v : World) → WorldMayBeLeft past v → WorldMayBeLeft past (put f ((seen_of past).bytes f) v)
+  pub settled : (past : List CallEvent) (v : World) → WorldMayBeLeft past v → WorldMayBeLeft past (put f ((seen_of past).bytes f) v)
   settled [] v may = subst (λ (w : World). put f [] w ≡ world_of nothing) (sym may) (λ i. record { names = (world_of nothing).names; bytes = λ k. none k i; said = [] })
     where
       none : (k : ℕ) → with_file (λ j. []) f [] k ≡ []
@@ -121,7 +121,7 @@ rename_file s i step u v on = record { here = on.here; others = on.others; names
 rename_spoken : (s : FolderSeen) (text : List ℕ) (u v : World) → Speaks text u v → Speaks text (renamed s u) (renamed s v)
 rename_spoken s text u v speaks = record { names = refl; bytes = speaks.bytes; some = speaks.some; said = speaks.said }
 
-rename_step : (s : FolderSeen) (e : Event) (u v : World) → EventMakes s e u v → EventMakes s e (renamed s u) (renamed (seen_after e s) v)
+rename_step : (s : FolderSeen) (e : CallEvent) (u v : World) → EventMakes s e u v → EventMakes s e (renamed s u) (renamed (seen_after e s) v)
 rename_step s (Looked ok) u v step = ap (renamed s) step
 rename_step s (Made name true) u v step = rename_added s name.items name.items [] u v (inl refl) step
 rename_step s (Made name false) u v step = rename_added s name.items [] [] u v (inr refl) step
@@ -139,7 +139,7 @@ rename_step s (Found name bytes) u v step = rename_added s name.items name.items
 rename_step s (Recalled text) u v step = rename_spoken s text.items u v step
 
 -- an outcome in which all names are as they are seen
-pub settled_names : (past : List Event) (v : World) → WorldMayBeLeft past v → WorldMayBeLeft past (renamed (seen_of past) v)
+pub settled_names : (past : List CallEvent) (v : World) → WorldMayBeLeft past v → WorldMayBeLeft past (renamed (seen_of past) v)
 settled_names [] v may = subst (λ (w : World). renamed nothing w ≡ world_of nothing) (sym may) refl
 settled_names (e ∷ past) v may = (
   record { said = may.0.said; one_name = (fits_seen (seen_after e (seen_of past))).one_name },

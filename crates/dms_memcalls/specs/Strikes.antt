@@ -2,14 +2,14 @@
 use Rattle.std.specs.Prelude.{ℕ, ◌<◌, ◌≡◌, ◌⊎◌, true, false, List, [], length, Some}
 use Rattle.dms_site.specs.Files.{Torn, Cut}
 use Rattle.dms_calls.specs.World.{World}
-use Rattle.dms_memcalls.specs.declared.event.Event.{Event}
-use Rattle.dms_memcalls.specs.declared.event.Event.TheVariants.{Looked, Made, Wrote, Shortened, Lengthened, Synced, SyncedNames, Printed, Found, Recalled}
+use Rattle.dms_memcalls.specs.declared.event.CallEvent.{CallEvent}
+use Rattle.dms_memcalls.specs.declared.event.CallEvent.TheVariants.{Looked, Made, Wrote, Shortened, Lengthened, Synced, SyncedNames, Printed, Found, Recalled}
 use Rattle.dms_memcalls.specs.Folders.{FolderSeen, with_made, with_bytes, world_of}
 use Rattle.dms_memcalls.specs.Events.{seen_after}
 use Rattle.dms_memcalls.specs.Outcomes.{WorldMayBeLeft, seen_of}
 
 -- one file has bytes that a step leads to
-pub record Changed (f : ℕ) (step : List ℕ → List ℕ → Type 0) (left new : FolderSeen) : Type 0 where
+pub record FileChanged (f : ℕ) (step : List ℕ → List ℕ → Type 0) (left new : FolderSeen) : Type 0 where
   pub bytes : List ℕ
   pub took : step (left.bytes f) bytes
   pub is : new ≡ with_bytes left f bytes
@@ -27,12 +27,12 @@ pub record Named (s left new : FolderSeen) : Type 0 where
   pub bytes : new.bytes ≡ left.bytes
   pub said : new.said ≡ left.said
 
-abbrev pub Strikes : Event → FolderSeen → FolderSeen → FolderSeen → Type 0
+abbrev pub Strikes : CallEvent → FolderSeen → FolderSeen → FolderSeen → Type 0
 Strikes (Looked ok) s left new = new ≡ left
 Strikes (Made name ok) s left new = Added name.items left new
-Strikes (Wrote f at bytes ok) s left new = Changed f (Torn at (length bytes.items)) left new
-Strikes (Shortened f len ok) s left new = Changed f (Cut len) left new
-Strikes (Lengthened f len ok) s left new = Changed f (Torn len 0) left new
+Strikes (Wrote f at bytes ok) s left new = FileChanged f (Torn at (length bytes.items)) left new
+Strikes (Shortened f len ok) s left new = FileChanged f (Cut len) left new
+Strikes (Lengthened f len ok) s left new = FileChanged f (Torn len 0) left new
 Strikes (Synced f true) s left new = new ≡ with_bytes left f (s.bytes f)
 Strikes (Synced f false) s left new = new ≡ left
 Strikes (SyncedNames true) s left new = Named s left new
@@ -42,7 +42,7 @@ Strikes (Found name bytes) s left new = new ≡ seen_after (Found name bytes) le
 Strikes (Recalled bytes) s left new = new ≡ seen_after (Recalled bytes) left
 
 -- a folder that a stop may leave after these events, of which the newest comes first
-pub record IsLeft (past : List Event) (left : FolderSeen) : Type 0 where
+pub record IsLeft (past : List CallEvent) (left : FolderSeen) : Type 0 where
   pub count : left.count ≡ (seen_of past).count
   pub said : left.said ≡ (seen_of past).said
   pub owners : (k : ℕ) → k < left.count → (left.names k ≡ []) ⊎ (((seen_of past).names k ≡ []) ⊎ (left.names k ≡ (seen_of past).names k))

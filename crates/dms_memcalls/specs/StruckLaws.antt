@@ -4,8 +4,8 @@ use Rattle.std.proofs.lemmas.Bool.{cases_lt, false≢true}
 use Rattle.dms_site.specs.Files.{Files, with_file}
 use Rattle.dms_site.specs.Laws.{with_file_here, with_file_other}
 use Rattle.dms_calls.specs.World.{World, OnFile, Speaks}
-use Rattle.dms_memcalls.specs.declared.event.Event.{Event}
-use Rattle.dms_memcalls.specs.declared.event.Event.TheVariants.{Looked, Made, Wrote, Shortened, Lengthened, Synced, SyncedNames, Printed, Found, Recalled}
+use Rattle.dms_memcalls.specs.declared.event.CallEvent.{CallEvent}
+use Rattle.dms_memcalls.specs.declared.event.CallEvent.TheVariants.{Looked, Made, Wrote, Shortened, Lengthened, Synced, SyncedNames, Printed, Found, Recalled}
 use Rattle.dms_memcalls.specs.Names.{leads, is_name}
 use Rattle.dms_memcalls.specs.NameLaws.{name_is, leads_is, leads_same, adds_seen}
 use Rattle.dms_memcalls.specs.Folders.{FolderSeen, nothing, with_made, with_bytes, with_said, world_of}
@@ -13,19 +13,19 @@ use Rattle.dms_memcalls.specs.Events.{seen_after}
 use Rattle.dms_memcalls.specs.Outcomes.{Adds, EventMakes, IsOutcomeOf, seen_of, WorldMayBeLeft}
 use Rattle.dms_memcalls.specs.Steady.{on_file, speaks_all, speaks_none}
 use Rattle.dms_memcalls.specs.Settled.{put, renamed, settled, settled_names}
-use Rattle.dms_memcalls.specs.Strikes.{Changed, Named, Strikes, IsLeft}
+use Rattle.dms_memcalls.specs.Strikes.{FileChanged, Named, Strikes, IsLeft}
 
 -- one name here and there, where there is one in both
-abbrev Agrees : List ℕ → List ℕ → Type 0
-Agrees here there = (here ≡ []) ⊎ ((there ≡ []) ⊎ (here ≡ there))
+abbrev NamesAgree : List ℕ → List ℕ → Type 0
+NamesAgree here there = (here ≡ []) ⊎ ((there ≡ []) ⊎ (here ≡ there))
 
 abbrev AllAgree : FolderSeen → FolderSeen → Type 0
-AllAgree s left = (k : ℕ) → k < left.count → Agrees (left.names k) (s.names k)
+AllAgree s left = (k : ℕ) → k < left.count → NamesAgree (left.names k) (s.names k)
 
 none_named : (a m : List ℕ) → a ≡ [] → is_name a m ≢ true
 none_named a m none is = false≢true (ap (λ (l : List ℕ). is_name l m) (sym none) ∙ is)
 
-one_owner : (a b m n : List ℕ) → Agrees a b → is_name a m ≡ true → is_name b n ≡ true → m ≡ n
+one_owner : (a b m n : List ℕ) → NamesAgree a b → is_name a m ≡ true → is_name b n ≡ true → m ≡ n
 one_owner a b m n agrees at is = ⊎_elim
     (λ none. absurd (none_named a m none at))
     (λ rest. ⊎_elim (λ none. absurd (none_named b n none is)) (λ same. sym (name_is a m at) ∙ same ∙ name_is b n is) rest)
@@ -40,7 +40,7 @@ fits_left s left said agree = record {
 }
 
 -- one more event, of which this is left
-module _ (past : List Event) (e : Event) where
+module _ (past : List CallEvent) (e : CallEvent) where
   after : FolderSeen
   after = seen_after e (seen_of past)
 
@@ -52,30 +52,30 @@ module _ (past : List Event) (e : Event) where
     may = (fits_left (seen_after e (seen_of past)) new said agree, (v, may, takes));
   }
 
-agree_made : (s left : FolderSeen) (here there bytes other : List ℕ) → left.count ≡ s.count → AllAgree s left → Agrees here there → AllAgree (with_made s there bytes) (with_made left here other)
+agree_made : (s left : FolderSeen) (here there bytes other : List ℕ) → left.count ≡ s.count → AllAgree s left → NamesAgree here there → AllAgree (with_made s there bytes) (with_made left here other)
 agree_made s left here there bytes other count agree names k low = elim (cases_lt k left.count) [
   | inl before ↦
       let a : with_file left.names left.count here k ≡ left.names k = with_file_other left.names left.count here k (λ e. omega (arith, e, before)) in
       let b : with_file s.names s.count there k ≡ s.names k = with_file_other s.names s.count there k (λ e. omega (arith, e, before, count)) in
-      subst (λ (l : List ℕ). Agrees l (with_file s.names s.count there k)) (sym a) (subst (λ (l : List ℕ). Agrees (left.names k) l) (sym b) (agree k before))
+      subst (λ (l : List ℕ). NamesAgree l (with_file s.names s.count there k)) (sym a) (subst (λ (l : List ℕ). NamesAgree (left.names k) l) (sym b) (agree k before))
   | inr last ↦
       let e : k ≡ left.count = omega (arith, low, last) in
       let d : k ≡ s.count = omega (arith, e, count) in
       let a : with_file left.names left.count here k ≡ here = ap (λ (n : ℕ). with_file left.names left.count here n) e ∙ with_file_here left.names left.count here in
       let b : with_file s.names s.count there k ≡ there = ap (λ (n : ℕ). with_file s.names s.count there n) d ∙ with_file_here s.names s.count there in
-      subst (λ (l : List ℕ). Agrees l (with_file s.names s.count there k)) (sym a) (subst (λ (l : List ℕ). Agrees here l) (sym b) names)
+      subst (λ (l : List ℕ). NamesAgree l (with_file s.names s.count there k)) (sym a) (subst (λ (l : List ℕ). NamesAgree here l) (sym b) names)
 ]
 
 adds_left : (s left : FolderSeen) (name given bytes : List ℕ) → left.count ≡ s.count → (given ≡ name) ⊎ (given ≡ []) → Adds name bytes s.count (world_of left) (world_of (with_made left given bytes))
 adds_left s left name given bytes count which = subst (λ (n : ℕ). Adds name bytes n (world_of left) (world_of (with_made left given bytes))) count (adds_seen left name given bytes which)
 
-module _ (past : List Event) (left : FolderSeen) (was : IsLeft past left) where
+module _ (past : List CallEvent) (left : FolderSeen) (was : IsLeft past left) where
   s_count : left.count ≡ (seen_of past).count
   s_count = was.count
 
   -- a file with a name or none
-  made_left : (name given there bytes : List ℕ) (e : Event) (new : FolderSeen) → seen_after e (seen_of past) ≡ with_made (seen_of past) there bytes → ((v w : World) → Adds name bytes (seen_of past).count v w → EventMakes (seen_of past) e v w)
-      → (given ≡ name) ⊎ (given ≡ []) → Agrees given there → new ≡ with_made left given bytes → IsLeft (e ∷ past) new
+  made_left : (name given there bytes : List ℕ) (e : CallEvent) (new : FolderSeen) → seen_after e (seen_of past) ≡ with_made (seen_of past) there bytes → ((v w : World) → Adds name bytes (seen_of past).count v w → EventMakes (seen_of past) e v w)
+      → (given ≡ name) ⊎ (given ≡ []) → NamesAgree given there → new ≡ with_made left given bytes → IsLeft (e ∷ past) new
   made_left name given there bytes e new is takes which agrees now =
       let s = seen_of past in
       subst (λ (n : FolderSeen). IsLeft (e ∷ past) n) (sym now) (next past e (with_made left given bytes)
@@ -85,13 +85,13 @@ module _ (past : List Event) (left : FolderSeen) (was : IsLeft past left) where
       (world_of left) was.may (takes _ _ (adds_left s left name given bytes was.count which)))
 
   -- nothing changed
-  same_left : (e : Event) (new : FolderSeen) → seen_after e (seen_of past) ≡ seen_of past → EventMakes (seen_of past) e (world_of left) (world_of left) → new ≡ left → IsLeft (e ∷ past) new
+  same_left : (e : CallEvent) (new : FolderSeen) → seen_after e (seen_of past) ≡ seen_of past → EventMakes (seen_of past) e (world_of left) (world_of left) → new ≡ left → IsLeft (e ∷ past) new
   same_left e new is takes now = subst (λ (n : FolderSeen). IsLeft (e ∷ past) n) (sym now) (next past e left
       (was.count ∙ sym (ap (λ (x : FolderSeen). x.count) is)) (was.said ∙ sym (ap (λ (x : FolderSeen). x.said) is)) (subst (λ (x : FolderSeen). AllAgree x left) (sym is) was.owners) (world_of left) was.may takes)
 
   -- a file was changed
-  changed_left : (f : ℕ) (step : List ℕ → List ℕ → Type 0) (e : Event) (new : FolderSeen) → (bytes : Files) → seen_after e (seen_of past) ≡ record (seen_of past) { bytes = bytes } → ((v w : World) → OnFile f step v w → EventMakes (seen_of past) e v w)
-      → Changed f step left new → IsLeft (e ∷ past) new
+  changed_left : (f : ℕ) (step : List ℕ → List ℕ → Type 0) (e : CallEvent) (new : FolderSeen) → (bytes : Files) → seen_after e (seen_of past) ≡ record (seen_of past) { bytes = bytes } → ((v w : World) → OnFile f step v w → EventMakes (seen_of past) e v w)
+      → FileChanged f step left new → IsLeft (e ∷ past) new
   changed_left f step e new bytes is takes changed =
       let there = with_bytes left f changed.bytes in
       subst (λ (n : FolderSeen). IsLeft (e ∷ past) n) (sym changed.is) (next past e there
@@ -99,7 +99,7 @@ module _ (past : List Event) (left : FolderSeen) (was : IsLeft past left) where
       (world_of left) was.may (takes _ _ (on_file left f step changed.bytes changed.took)))
 
   -- text was printed
-  spoken_left : (text : List ℕ) (e : Event) (new : FolderSeen) → seen_after e (seen_of past) ≡ with_said (seen_of past) ((seen_of past).said ++ text) → ((v w : World) → Speaks text v w → EventMakes (seen_of past) e v w)
+  spoken_left : (text : List ℕ) (e : CallEvent) (new : FolderSeen) → seen_after e (seen_of past) ≡ with_said (seen_of past) ((seen_of past).said ++ text) → ((v w : World) → Speaks text v w → EventMakes (seen_of past) e v w)
       → new ≡ with_said left (left.said ++ text) → IsLeft (e ∷ past) new
   spoken_left text e new is takes now =
       let there = with_said left (left.said ++ text) in
@@ -125,7 +125,7 @@ module _ (past : List Event) (left : FolderSeen) (was : IsLeft past left) where
       names m = ap (λ (n : ℕ). leads n new.names m) (named.count ∙ was.count) ∙ leads_same (seen_of past).count (seen_of past).names new.names m named.names
 
   -- what a stop makes of one more event is what it may leave
-  pub struck_left : (e : Event) (new : FolderSeen) → Strikes e (seen_of past) left new → IsLeft (e ∷ past) new
+  pub struck_left : (e : CallEvent) (new : FolderSeen) → Strikes e (seen_of past) left new → IsLeft (e ∷ past) new
   struck_left (Looked ok) new struck = same_left (Looked ok) new refl refl struck
   struck_left (Made name true) new struck = made_left name.items struck.given name.items [] (Made name true) new refl (λ v w adds. adds) struck.which (⊎_elim (λ e. inr (inr e)) (λ none. inl none) struck.which) struck.is
   struck_left (Made name false) new struck = made_left name.items struck.given [] [] (Made name false) new refl (λ v w adds. adds) struck.which (inr (inl refl)) struck.is

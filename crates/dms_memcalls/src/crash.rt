@@ -5,50 +5,50 @@ ghost use Rattle.dms_memcalls.specs.Folders.{with_bytes, world_of};
 ghost use Rattle.dms_memcalls.specs.Views.{view};
 ghost use Rattle.dms_memcalls.specs.Events.{seen_after};
 ghost use Rattle.dms_memcalls.specs.Outcomes.{past_of, world_now};
-ghost use Rattle.dms_memcalls.specs.Strikes.{Added, Changed, Named, Strikes, IsLeft, Shows};
+ghost use Rattle.dms_memcalls.specs.Strikes.{Added, FileChanged, Named, Strikes, IsLeft, Shows};
 
-use crate::disk::Disk;
-use crate::event::Event;
+use crate::disk::MemDisk;
+use crate::event::CallEvent;
 use crate::story::Story;
 use dms_sitemem::{Fill, Image, fill_of, strike_write};
 use std::alloc::{AllocError, Global};
 
 /// A folder as it is seen, and as a stop leaves it by a pick.
 #[derive(Drop)]
-struct Stop {
-    shown: Disk,
-    left: Disk,
+struct CallStop {
+    shown: MemDisk,
+    left: MemDisk,
     fill: Fill,
     /// Whether cuts and new lengths have happened, and new names are there.
     odd: bool,
     seed: u64,
 }
 
-impl Stop {
+impl CallStop {
     /// What a stop makes of an event.
-    fn strike(&mut self, event: &Event) -> Result<(), AllocError>
+    fn strike(&mut self, event: &CallEvent) -> Result<(), AllocError>
         ensures struck { OnOk result (Strikes event.now (view self.old.shown) (view self.old.left) (view self.new.left)) }
         ensures shown { self.new.shown ≡ self.old.shown }
     {
         let left = &mut self.left;
         match event {
-            Event::Made(name, _) => strike_name(left, name, self.odd),
-            Event::Wrote(file, at, bytes, _) => {
+            CallEvent::Made(name, _) => strike_name(left, name, self.odd),
+            CallEvent::Wrote(file, at, bytes, _) => {
                 strike_bytes(left, *file, *at, bytes, self.fill, &mut self.seed)
             }
-            Event::Shortened(file, len, _) => {
+            CallEvent::Shortened(file, len, _) => {
                 strike_cut(left, *file, *len, self.odd);
                 Ok(())
             }
-            Event::Lengthened(file, len, _) => strike_growth(left, *file, *len, self.odd),
-            Event::Synced(file, true) => settle_file(left, *file, &self.shown),
-            Event::SyncedNames(true) => settle_names(left, &self.shown),
+            CallEvent::Lengthened(file, len, _) => strike_growth(left, *file, *len, self.odd),
+            CallEvent::Synced(file, true) => settle_file(left, *file, &self.shown),
+            CallEvent::SyncedNames(true) => settle_names(left, &self.shown),
             _ => left.apply(event),
         }
     }
 
     /// One more event.
-    fn pass(&mut self, event: &Event) -> Result<(), AllocError>
+    fn pass(&mut self, event: &CallEvent) -> Result<(), AllocError>
         ensures struck { OnOk result (Strikes event.now (view self.old.shown) (view self.old.left) (view self.new.left)) }
         ensures shown { OnOk result (view self.new.shown ≡ seen_after event.now (view self.old.shown)) }
     {
@@ -58,7 +58,7 @@ impl Stop {
 }
 
 /// A made name is there or not.
-fn strike_name(left: &mut Disk, name: &[u8], odd: bool) -> Result<(), AllocError>
+fn strike_name(left: &mut MemDisk, name: &[u8], odd: bool) -> Result<(), AllocError>
     ensures { OnOk result (Added name.now (view left.old) (view left.new)) }
 {
     if odd {
@@ -70,21 +70,21 @@ fn strike_name(left: &mut Disk, name: &[u8], odd: bool) -> Result<(), AllocError
 
 /// Written bytes are there, or the old ones, or others.
 fn strike_bytes(
-    left: &mut Disk,
+    left: &mut MemDisk,
     file: u32,
     at: u64,
     bytes: &[u8],
     fill: Fill,
     seed: &mut u64,
 ) -> Result<(), AllocError>
-    ensures { OnOk result (Changed file (Torn at (length bytes.now)) (view left.old) (view left.new)) }
+    ensures { OnOk result (FileChanged file (Torn at (length bytes.now)) (view left.old) (view left.new)) }
 {
     strike_write(&mut left.files, file, at, bytes, fill, seed)
 }
 
 /// A cut happened or not.
-fn strike_cut(left: &mut Disk, file: u32, len: u64, odd: bool)
-    ensures { Changed file (Cut len) (view left.old) (view left.new) }
+fn strike_cut(left: &mut MemDisk, file: u32, len: u64, odd: bool)
+    ensures { FileChanged file (Cut len) (view left.old) (view left.new) }
 {
     if odd {
         left.files.cut(file, len);
@@ -92,8 +92,8 @@ fn strike_cut(left: &mut Disk, file: u32, len: u64, odd: bool)
 }
 
 /// Zeros were added or not.
-fn strike_growth(left: &mut Disk, file: u32, len: u64, odd: bool) -> Result<(), AllocError>
-    ensures { OnOk result (Changed file (Torn len 0) (view left.old) (view left.new)) }
+fn strike_growth(left: &mut MemDisk, file: u32, len: u64, odd: bool) -> Result<(), AllocError>
+    ensures { OnOk result (FileChanged file (Torn len 0) (view left.old) (view left.new)) }
 {
     if odd {
         return left.files.write(file, len, &[]);
@@ -102,14 +102,14 @@ fn strike_growth(left: &mut Disk, file: u32, len: u64, odd: bool) -> Result<(), 
 }
 
 /// A file is as it is seen.
-fn settle_file(left: &mut Disk, file: u32, shown: &Disk) -> Result<(), AllocError>
+fn settle_file(left: &mut MemDisk, file: u32, shown: &MemDisk) -> Result<(), AllocError>
     ensures { OnOk result (view left.new ≡ with_bytes (view left.old) file (files_of shown.now.files.files file)) }
 {
     left.files.set(file, shown.files.bytes(file))
 }
 
 /// The names are as they are seen.
-fn settle_names(left: &mut Disk, shown: &Disk) -> Result<(), AllocError>
+fn settle_names(left: &mut MemDisk, shown: &MemDisk) -> Result<(), AllocError>
     ensures { OnOk result (Named (view shown.now) (view left.old) (view left.new)) }
 {
     left.names = names_of(left.names.alloc, shown)?;
@@ -117,7 +117,7 @@ fn settle_names(left: &mut Disk, shown: &Disk) -> Result<(), AllocError>
 }
 
 /// The names of the files of a disk.
-pub fn names_of(alloc: Global, disk: &Disk) -> Result<Image, AllocError>
+pub fn names_of(alloc: Global, disk: &MemDisk) -> Result<Image, AllocError>
     ensures { IfOk result (λ names. (k : ℕ) → k < disk.now.count → files_of names.files k ≡ files_of disk.now.names.files k) }
 {
     let mut names = Image::new(alloc);
@@ -130,16 +130,16 @@ pub fn names_of(alloc: Global, disk: &Disk) -> Result<Image, AllocError>
 /// What a stop leaves by a pick after the first of these events, so many of them.
 pub fn left_after(
     alloc: Global,
-    events: &[Event],
+    events: &[CallEvent],
     count: usize,
     pick: u64,
-) -> Result<Disk, AllocError>
+) -> Result<MemDisk, AllocError>
     requires { count ≤ length events.now }
     ensures { IfOk result (λ disk. IsLeft (past_of (take count events.now)) (view disk)) }
 {
-    let mut stop = Stop {
-        shown: Disk::new(alloc),
-        left: Disk::new(alloc),
+    let mut stop = CallStop {
+        shown: MemDisk::new(alloc),
+        left: MemDisk::new(alloc),
         fill: fill_of(pick),
         odd: pick % 2 == 1,
         seed: pick,
@@ -151,16 +151,16 @@ pub fn left_after(
 }
 
 /// The story of a folder that begins with the files of a disk and its text.
-pub fn begun(alloc: Global, disk: &Disk) -> Result<Story, AllocError>
+pub fn begun(alloc: Global, disk: &MemDisk) -> Result<Story, AllocError>
     ensures { IfOk result (λ story. Shows (world_of (view disk.now)) (world_now story.events.items)) }
 {
     let mut story = Story::new(alloc);
     for file in 0..disk.count {
         let name = disk.names.bytes(file).to_vec(alloc)?;
         let bytes = disk.files.bytes(file).to_vec(alloc)?;
-        story.keep(Event::Found(name, bytes))?;
+        story.keep(CallEvent::Found(name, bytes))?;
     }
     let said = disk.files.said.as_slice().to_vec(alloc)?;
-    story.keep(Event::Recalled(said))?;
+    story.keep(CallEvent::Recalled(said))?;
     Ok(story)
 }

@@ -5,13 +5,13 @@ ghost use Rattle.dms_memcalls.specs.Folders.{nothing, with_made, Alike};
 ghost use Rattle.dms_memcalls.specs.Views.{view};
 ghost use Rattle.dms_memcalls.specs.Events.{seen_after};
 
-use crate::event::Event;
+use crate::event::CallEvent;
 use dms_sitemem::Image;
 use std::alloc::{AllocError, Global};
 
 /// The files of a folder, by numbers from 0 on: the name of each, empty where it has none, and its bytes.
 #[derive(Drop)]
-pub struct Disk {
+pub struct MemDisk {
     pub names: Image,
     /// The bytes, and the text that was printed.
     pub files: Image,
@@ -19,12 +19,12 @@ pub struct Disk {
     pub count: u32,
 }
 
-impl Disk {
+impl MemDisk {
     /// No files and no text.
-    pub fn new(alloc: Global) -> Disk
+    pub fn new(alloc: Global) -> MemDisk
         ensures { view result ≡ nothing }
     {
-        Disk {
+        MemDisk {
             names: Image::new(alloc),
             files: Image::new(alloc),
             count: 0,
@@ -67,22 +67,22 @@ impl Disk {
 
     /// Does what an event does. A call that failed changes nothing that is seen, but a file that was to be made has none of
     /// the names.
-    pub fn apply(&mut self, event: &Event) -> Result<(), AllocError>
+    pub fn apply(&mut self, event: &CallEvent) -> Result<(), AllocError>
         ensures done { OnOk result (view self.new ≡ seen_after event.now (view self.old)) }
         ensures same { OnErr result (Alike (view self.new) (view self.old)) }
     {
         match event {
-            Event::Made(name, true) => self.make(name, &[]),
-            Event::Made(_, false) => self.make(&[], &[]),
-            Event::Wrote(file, at, bytes, true) => self.files.write(*file, *at, bytes),
-            Event::Shortened(file, len, true) => {
+            CallEvent::Made(name, true) => self.make(name, &[]),
+            CallEvent::Made(_, false) => self.make(&[], &[]),
+            CallEvent::Wrote(file, at, bytes, true) => self.files.write(*file, *at, bytes),
+            CallEvent::Shortened(file, len, true) => {
                 self.files.cut(*file, *len);
                 Ok(())
             }
-            Event::Lengthened(file, len, true) => self.files.write(*file, *len, &[]),
-            Event::Printed(bytes, true) => self.files.say(bytes),
-            Event::Found(name, bytes) => self.make(name, bytes),
-            Event::Recalled(bytes) => self.files.say(bytes),
+            CallEvent::Lengthened(file, len, true) => self.files.write(*file, *len, &[]),
+            CallEvent::Printed(bytes, true) => self.files.say(bytes),
+            CallEvent::Found(name, bytes) => self.make(name, bytes),
+            CallEvent::Recalled(bytes) => self.files.say(bytes),
             _ => Ok(()),
         }
     }

@@ -1,6 +1,6 @@
 /// What was done to a folder. A flag says whether the call succeeded.
 #[derive(Drop)]
-pub enum Event {
+pub enum CallEvent {
     /// A name, a length, bytes or a listing were asked for.
     Looked(bool),
     /// A file of this name was made.

@@ -3,7 +3,7 @@ ghost use Rattle.dms_sitemem.specs.Slots.{files_of};
 ghost use Rattle.dms_memcalls.specs.Listings.{given_to};
 
 use crate::crash::names_of;
-use crate::disk::Disk;
+use crate::disk::MemDisk;
 use dms_sitemem::Image;
 use std::alloc::{AllocError, Global};
 
@@ -18,7 +18,7 @@ pub struct MemListing {
 
 impl MemListing {
     /// A listing that has given no name.
-    pub(crate) fn new(alloc: Global, disk: &Disk) -> Result<MemListing, AllocError>
+    pub(crate) fn new(alloc: Global, disk: &MemDisk) -> Result<MemListing, AllocError>
         ensures place { IfOk result (λ l. l.place ≡ 0) }
         ensures count { IfOk result (λ l. l.count ≡ disk.now.count) }
         ensures names { IfOk result (λ l. (k : ℕ) → k < disk.now.count → files_of l.names.files k ≡ files_of disk.now.names.files k) }

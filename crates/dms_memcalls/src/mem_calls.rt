@@ -10,7 +10,7 @@ ghost use Rattle.dms_memcalls.specs.Strikes.{Shows};
 ghost use Rattle.dms_memcalls.specs.Steady.{IsUpToOneMore, stays_now, fits_now, counts_since};
 
 use crate::crash::{begun, left_after};
-use crate::event::Event;
+use crate::event::CallEvent;
 use crate::listing::MemListing;
 use crate::story::Story;
 use dms_base::Memory;
@@ -105,7 +105,7 @@ impl MemCalls {
     }
 
     /// Keeps a call with its success, and ends as it did.
-    fn keep(&mut self, event: Event, done: bool) -> Result<(), Failed>
+    fn keep(&mut self, event: CallEvent, done: bool) -> Result<(), Failed>
         ensures grew { IsUpToOneMore self.old.story.events.items event self.new.story.events.items }
         ensures kept { OnOk result (IsTrue done × (self.new.story.events.items ≡ self.old.story.events.items ++ event ∷ [])) }
         ensures broken { self.new.broken ≡ self.old.broken }
@@ -117,7 +117,7 @@ impl MemCalls {
     }
 
     /// Keeps a call on the files with its success, and ends as it did.
-    fn keep_disk(&mut self, event: Event, done: bool) -> Result<(), Failed>
+    fn keep_disk(&mut self, event: CallEvent, done: bool) -> Result<(), Failed>
         ensures grew { IsUpToOneMore self.old.story.events.items event self.new.story.events.items }
         ensures kept { OnOk result (IsTrue done × (self.new.story.events.items ≡ self.old.story.events.items ++ event ∷ [])) }
         ensures broken { OnOk result (self.new.broken ≡ self.old.broken) }
@@ -143,7 +143,7 @@ impl MemCalls {
         ensures broken { OnOk result (self.new.broken ≡ self.old.broken) }
     {
         let done = self.succeeds();
-        self.keep_disk(Event::Looked(done), done)
+        self.keep_disk(CallEvent::Looked(done), done)
     }
 }
 
@@ -190,7 +190,7 @@ impl Calls for MemCalls {
         };
         let file = self.story.disk.count;
         let done = self.succeeds();
-        match self.keep_disk(Event::Made(copy, done), done) {
+        match self.keep_disk(CallEvent::Made(copy, done), done) {
             Ok(()) => Ok(MemHandle { file }),
             Err(_) => Err(Failed),
         }
@@ -211,7 +211,7 @@ impl Calls for MemCalls {
             return Err(self.fail());
         };
         let done = self.succeeds();
-        self.keep_disk(Event::Wrote(handle.file, at, copy, done), done)?;
+        self.keep_disk(CallEvent::Wrote(handle.file, at, copy, done), done)?;
         Ok(bytes.len())
     }
 
@@ -219,22 +219,22 @@ impl Calls for MemCalls {
         let size = self.story.bytes(handle.file).len() as u64;
         let done = self.succeeds();
         if len < size {
-            return self.keep_disk(Event::Shortened(handle.file, len, done), done);
+            return self.keep_disk(CallEvent::Shortened(handle.file, len, done), done);
         }
         if size < len {
-            return self.keep_disk(Event::Lengthened(handle.file, len, done), done);
+            return self.keep_disk(CallEvent::Lengthened(handle.file, len, done), done);
         }
-        self.keep_disk(Event::Looked(done), done)
+        self.keep_disk(CallEvent::Looked(done), done)
     }
 
     fn fsync(&mut self, handle: &MemHandle) -> Result<(), Failed> {
         let done = self.succeeds();
-        self.keep_disk(Event::Synced(handle.file, done), done)
+        self.keep_disk(CallEvent::Synced(handle.file, done), done)
     }
 
     fn fsync_folder(&mut self) -> Result<(), Failed> {
         let done = self.succeeds();
-        self.keep_disk(Event::SyncedNames(done), done)
+        self.keep_disk(CallEvent::SyncedNames(done), done)
     }
 
     fn list(&mut self) -> Result<MemListing, Failed> {
@@ -265,7 +265,7 @@ impl Calls for MemCalls {
             return Err(Failed);
         };
         let done = self.succeeds();
-        self.keep(Event::Printed(copy, done), done)?;
+        self.keep(CallEvent::Printed(copy, done), done)?;
         Ok(bytes.len())
     }
 }

@@ -3,15 +3,15 @@ ghost use Rattle.dms_memcalls.specs.Folders.{Alike};
 ghost use Rattle.dms_memcalls.specs.Views.{view};
 ghost use Rattle.dms_memcalls.specs.Outcomes.{seen_now, world_now};
 
-use crate::disk::Disk;
-use crate::event::Event;
+use crate::disk::MemDisk;
+use crate::event::CallEvent;
 use std::alloc::{AllocError, Global};
 
 /// All that was done to a folder, and what it made of it. A want of memory changes nothing.
 #[derive(Drop)]
 pub struct Story {
-    pub disk: Disk,
-    pub events: Vec<Event>,
+    pub disk: MemDisk,
+    pub events: Vec<CallEvent>,
     ghost alike: { Alike (view disk) (seen_now events.items) },
 }
 
@@ -21,13 +21,13 @@ impl Story {
         ensures { result.events.items ≡ [] }
     {
         Story {
-            disk: Disk::new(alloc),
+            disk: MemDisk::new(alloc),
             events: Vec::new(alloc),
         }
     }
 
     /// Keeps an event and does it.
-    pub fn keep(&mut self, event: Event) -> Result<(), AllocError>
+    pub fn keep(&mut self, event: CallEvent) -> Result<(), AllocError>
         ensures kept { OnOk result (self.new.events.items ≡ self.old.events.items ++ event ∷ []) }
         ensures unkept { OnErr result (self.new.events.items ≡ self.old.events.items) }
     {

@@ -4,6 +4,7 @@
 mod fitting;
 mod item_numbers;
 mod keys;
+mod linking;
 mod literals;
 mod locks;
 mod program;
@@ -18,7 +19,8 @@ mod works;
 pub use dms_desc::{Bound, Record, Values};
 pub use fitting::{has_structure, is_data_set, is_numbered, record_fits, see_all_plain};
 pub use item_numbers::ItemNumbers;
-pub use keys::{part_order, value_at};
+pub use keys::{item_at, key_of, part_order, value_at};
+pub use linking::linked;
 pub use literals::Literals;
 pub use locks::Locks;
 pub use program::{Area, Lock, Mode, Program, Work};

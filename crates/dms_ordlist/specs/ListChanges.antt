@@ -5,7 +5,7 @@ use Rattle.std.specs.Prelude.{IfSome}
 use Rattle.std.proofs.lemmas.List.{take-append-drop}
 use Rattle.dms_block.specs.Content.{laid}
 use Rattle.dms_ordlist.specs.declared.place.Look.{Look}
-use Rattle.dms_ordlist.specs.declared.place.Place.{Place}
+use Rattle.dms_ordlist.specs.declared.place.ListPlace.{ListPlace}
 use Rattle.dms_ordlist.specs.Leads.{at_is, lead, rises_first, rises_second, rises_with, rising_is}
 use Rattle.dms_ordlist.specs.Linked.{BlockChain, front, numbers, said_by, times}
 use Rattle.dms_ordlist.specs.LinkedLaws.{numbers_times, times_own}
@@ -55,11 +55,11 @@ begun_list width bs first f free entry w t room wide =
 pub at_same : (c : List ℕ) (es ds : List (List ℕ)) (i : ℕ) (t : Bool) → ds ≡ es → i ≡ lead c es → t ≡ at_is c (slice_get ds i) → at_is c (slice_get es (lead c es)) ≡ t
 at_same c es ds i t same place is = sym (is ∙ (λ j. at_is c (slice_get (same j) (place j))))
 
-pub holds_at : (w count : ℕ) (o : Option Place) (p : Place) → o ≡ Some p → IfSome o (PlaceHolds w count) → PlaceHolds w count p
+pub holds_at : (w count : ℕ) (o : Option ListPlace) (p : ListPlace) → o ≡ Some p → IfSome o (PlaceHolds w count) → PlaceHolds w count p
 holds_at w count o p is h = subst (λ x. IfSome x (PlaceHolds w count)) is h
 
 -- the list of a look, with the place
-record Parts (c : List ℕ) (width : ℕ) (bs : List (List ℕ)) (xs : List (List ℕ)) (r : Look) (p : Place) : Type 0 where
+record ListParts (c : List ℕ) (width : ℕ) (bs : List (List ℕ)) (xs : List (List ℕ)) (r : Look) (p : ListPlace) : Type 0 where
   pub ahead : List Leaf
   pub behind : List Leaf
   pub spares : List Spare
@@ -73,7 +73,7 @@ nothing_in : {A : Type 0} (xs ys : List A) (x : A) → xs ++ x ∷ ys ≡ [] →
 nothing_in [] ys x h = cc h
 nothing_in (y ∷ xs) ys x h = cc h
 
-parts_by : (c : List ℕ) (width : ℕ) (bs : List (List ℕ)) (xs : List (List ℕ)) (r : Look) (p : Place) (l : IsLook c width bs xs r) → (at : IsPlace c l.leaves p) → ListOr width bs l.leaves l.spares → Parts c width bs xs r p
+parts_by : (c : List ℕ) (width : ℕ) (bs : List (List ℕ)) (xs : List (List ℕ)) (r : Look) (p : ListPlace) (l : IsLook c width bs xs r) → (at : IsPlace c l.leaves p) → ListOr width bs l.leaves l.spares → ListParts c width bs xs r p
 parts_by c width bs xs r p l at (inl none) = absurd (nothing_in at.ahead at.behind (link_of p.here) (sym at.is ∙ none.1))
 parts_by c width bs xs r p l at (inr is) = record {
   ahead = at.ahead;
@@ -86,7 +86,7 @@ parts_by c width bs xs r p l at (inr is) = record {
   whole = sym l.entries ∙ parts_of c l.leaves p at;
 }
 
-parts : (c : List ℕ) (width : ℕ) (bs : List (List ℕ)) (xs : List (List ℕ)) (r : Look) (p : Place) (l : IsLook c width bs xs r) → (at : IsPlace c l.leaves p) → Parts c width bs xs r p
+parts : (c : List ℕ) (width : ℕ) (bs : List (List ℕ)) (xs : List (List ℕ)) (r : Look) (p : ListPlace) (l : IsLook c width bs xs r) → (at : IsPlace c l.leaves p) → ListParts c width bs xs r p
 parts c width bs xs r p l at = parts_by c width bs xs r p l at l.list
 
 pub low_next : (width count : ℕ) (look : ℕ → Option (List ℕ)) (p s : List Leaf) (l : Leaf) (fs : List Spare) → IsList width count look (p ++ l ∷ s) fs → front s 0 < count
@@ -100,14 +100,14 @@ whole_low width count look ls fs is = front_low ls count (omega (arith, is.count
 abbrev pub with_at_place : List ℕ → List (List ℕ) → List (List ℕ)
 with_at_place c es = take (lead c es) es ++ c ∷ drop (lead c es) es
 
-module _ (c : List ℕ) (width count : ℕ) (bs : List (List ℕ)) (xs : List (List ℕ)) (r : Look) (p : Place) (w : IsListWidth width) (l : IsLook c width bs xs r) (is : r.place ≡ Some p) (holds : IfSome r.place (PlaceHolds width count)) where
+module _ (c : List ℕ) (width count : ℕ) (bs : List (List ℕ)) (xs : List (List ℕ)) (r : Look) (p : ListPlace) (w : IsListWidth width) (l : IsLook c width bs xs r) (is : r.place ≡ Some p) (holds : IfSome r.place (PlaceHolds width count)) where
   abbrev es : List (List ℕ)
   es = p.here.leaf.entries.items
 
   abbrev pub place : IsPlace c l.leaves p
   place = look_at c width bs xs r p l is
 
-  abbrev found : Parts c width bs xs r p
+  abbrev found : ListParts c width bs xs r p
   found = parts c width bs xs r p l place
 
   pub held : PlaceHolds width count p

@@ -5,8 +5,8 @@ use Rattle.std.specs.Prelude.{IfSome}
 use Rattle.std.proofs.lemmas.Bool.Decides.{nat_tests}
 use Rattle.dms_block.specs.Content.{laid}
 use Rattle.dms_ordlist.specs.declared.place.Look.{Look}
-use Rattle.dms_ordlist.specs.declared.place.Place.{Place}
-use Rattle.dms_ordlist.specs.declared.place.Spot.{Spot}
+use Rattle.dms_ordlist.specs.declared.place.ListPlace.{ListPlace}
+use Rattle.dms_ordlist.specs.declared.place.NumberedLeaf.{NumberedLeaf}
 use Rattle.dms_ordlist.specs.Leads.{at_is, lead, rises_first, rises_second, rises_without, rising_is}
 use Rattle.dms_ordlist.specs.Linked.{front}
 use Rattle.dms_ordlist.specs.ListBlocks.{flat, free_bytes, head_bytes, leaf_bytes}
@@ -25,17 +25,17 @@ abbrev pub without_at_place : List ℕ → List (List ℕ) → List (List ℕ)
 without_at_place c es = take (lead c es) es ++ drop (suc (lead c es)) es
 
 -- the blocks after one became the first free one: the head, or the block before it, leads to the next one
-abbrev pub released : Option Spot → ℕ → ℕ → ℕ → ℕ → List (List ℕ) → List (List ℕ)
+abbrev pub released : Option NumberedLeaf → ℕ → ℕ → ℕ → ℕ → List (List ℕ) → List (List ℕ)
 released None first free b next bs = laid b (free_bytes free) (laid 0 (head_bytes next b) bs)
 released (Some s) first free b next bs = laid b (free_bytes free) (laid s.number (leaf_bytes next s.leaf.entries.items) (laid 0 (head_bytes first b) bs))
 
 -- a block whose entries fit, at a number of the file
-pub record LeafSpotFits (count : ℕ) (s : Spot) : Type 0 where
+pub record LeafSpotFits (count : ℕ) (s : NumberedLeaf) : Type 0 where
   pub few : length s.leaf.entries.items ≤ 1017
   pub room : length (flat s.leaf.entries.items) ≤ 1017
   pub there : s.number < count
 
-pub spot_fits : (width count : ℕ) (o : Option Spot) → IsListWidth width → IfSome o (SpotHolds width count) → IfSome o (LeafSpotFits count)
+pub spot_fits : (width count : ℕ) (o : Option NumberedLeaf) → IsListWidth width → IfSome o (SpotHolds width count) → IfSome o (LeafSpotFits count)
 spot_fits width count None w holds = holds
 spot_fits width count (Some s) w holds = record {
   few = few_enough width (length s.leaf.entries.items) w.low holds.leaf.holds.room;
@@ -47,7 +47,7 @@ spare_low : (width count : ℕ) (look : ℕ → Option (List ℕ)) (ls : List Le
 spare_low width count look ls fs is = front_low fs count (omega (arith, is.count_is)) (λ n some. is.low n (omega (arith, some)))
 
 -- the block of the last entry leaves the chain
-released_list : (width count : ℕ) (bs : List (List ℕ)) (before : Option Spot) (ahead behind : List Leaf) (b : ℕ) (es : List (List ℕ)) (fs : List Spare) (first free next : ℕ) → IsListWidth width → Before before ahead → IfSome before (SpotHolds width count)
+released_list : (width count : ℕ) (bs : List (List ℕ)) (before : Option NumberedLeaf) (ahead behind : List Leaf) (b : ℕ) (es : List (List ℕ)) (fs : List Spare) (first free next : ℕ) → IsListWidth width → Before before ahead → IfSome before (SpotHolds width count)
     → IsList width (length bs) (slice_get bs) (ahead ++ (b, es) ∷ behind) fs → first ≡ front (ahead ++ (b, es) ∷ behind) 0 → free ≡ front fs 0 → next ≡ front behind 0 → b < count → count ≡ length bs → length bs ≤ 1048576 → AreInByteOrder (entries_of ahead ++ entries_of behind)
     → list_in width (released before first free b next bs) ≡ Some (entries_of ahead ++ entries_of behind)
 released_list width count bs None ahead behind b es fs first free next w at holds is head_is free_is next_is there size room rises =
@@ -103,7 +103,7 @@ less_fits c w es room =
     omega (arith, length-append (take (lead c es) es) (drop (suc (lead c es)) es), length-take (lead c es) es, length-drop (suc (lead c es)) es, lead_le c es) in
     omega (arith, room, more_times (length (without_at_place c es)) (length es) w size)
 
-module _ (c : List ℕ) (width count : ℕ) (bs : List (List ℕ)) (xs : List (List ℕ)) (r : Look) (p : Place) (w : IsListWidth width) (l : IsLook c width bs xs r) (is : r.place ≡ Some p) (holds : IfSome r.place (PlaceHolds width count)) where
+module _ (c : List ℕ) (width count : ℕ) (bs : List (List ℕ)) (xs : List (List ℕ)) (r : Look) (p : ListPlace) (w : IsListWidth width) (l : IsLook c width bs xs r) (is : r.place ≡ Some p) (holds : IfSome r.place (PlaceHolds width count)) where
   abbrev es : List (List ℕ)
   es = p.here.leaf.entries.items
 

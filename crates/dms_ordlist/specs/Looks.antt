@@ -5,8 +5,8 @@ use Rattle.std.specs.declared.option.Option.{Option}
 use Rattle.dms_block.specs.declared.blocks.Blocks.{Ghosts}
 use Rattle.dms_block.specs.declared.overlay.Overlay.{Overlay}
 use Rattle.dms_block.specs.View.{seen, under}
-use Rattle.dms_ordlist.specs.declared.place.Spot.{Spot}
-use Rattle.dms_ordlist.specs.declared.place.Place.{Place}
+use Rattle.dms_ordlist.specs.declared.place.NumberedLeaf.{NumberedLeaf}
+use Rattle.dms_ordlist.specs.declared.place.ListPlace.{ListPlace}
 use Rattle.dms_ordlist.specs.declared.place.Look.{Look}
 use Rattle.dms_ordlist.specs.Leads.{last_of, lead}
 use Rattle.dms_ordlist.specs.Linked.{BlockChain, front, said_by}
@@ -91,7 +91,7 @@ look_empty c width bs xs r some is said none three =
       place = subst (λ o. MatchOption o (s.leaves ≡ []) (IsPlace c s.leaves)) (sym three) (no_leaves width (slice_get bs) s.leaves s.list.chain (sym one ∙ none));
     }
 
-pub look_place : (c : List ℕ) (width : ℕ) (bs : List (List ℕ)) (xs : List (List ℕ)) (r : Look) (p : Place) → (length bs ≡ 0 → ⊥) → list_in width bs ≡ Some xs → said_by head_in (slice_get bs 0) ≡ Some (r.head.first, r.head.free) → r.place ≡ Some p
+pub look_place : (c : List ℕ) (width : ℕ) (bs : List (List ℕ)) (xs : List (List ℕ)) (r : Look) (p : ListPlace) → (length bs ≡ 0 → ⊥) → list_in width bs ≡ Some xs → said_by head_in (slice_get bs 0) ≡ Some (r.head.first, r.head.free) → r.place ≡ Some p
     → ((ls : List Leaf) → BlockChain (leaf_in width) (slice_get bs) ls 0 → front ls 0 ≡ r.head.first → IsPlace c ls p) → IsLook c width bs xs r
 look_place c width bs xs r p some is said three at =
     let s = list_is width bs xs some is in
@@ -128,28 +128,28 @@ no_chain width bs first free some said off = no_list width bs (list_in width bs)
 
 -- what stands at the place
 
-abbrev pub last_before : Option Spot → Option (List ℕ)
+abbrev pub last_before : Option NumberedLeaf → Option (List ℕ)
 last_before None = None
 last_before (Some s) = last_of s.leaf.entries.items
 
-abbrev pub place_first : List ℕ → Place → Option (List ℕ)
+abbrev pub place_first : List ℕ → ListPlace → Option (List ℕ)
 place_first c p = slice_get p.here.leaf.entries.items (lead c p.here.leaf.entries.items)
 
-abbrev pub place_last : List ℕ → Place → Option (List ℕ)
+abbrev pub place_last : List ℕ → ListPlace → Option (List ℕ)
 place_last c p = or_else (last_of (take (lead c p.here.leaf.entries.items) p.here.leaf.entries.items)) (last_before p.before)
 
 -- the entries are those before the block, its own, and those behind it
-pub parts_of : (c : List ℕ) (ls : List Leaf) (p : Place) (at : IsPlace c ls p) → entries_of ls ≡ entries_of at.ahead ++ (p.here.leaf.entries.items ++ entries_of at.behind)
+pub parts_of : (c : List ℕ) (ls : List Leaf) (p : ListPlace) (at : IsPlace c ls p) → entries_of ls ≡ entries_of at.ahead ++ (p.here.leaf.entries.items ++ entries_of at.behind)
 parts_of c ls p at = ap entries_of at.is ∙ entries_append at.ahead (link_of p.here ∷ at.behind)
 
-pub located : (c : List ℕ) (ls : List Leaf) (p : Place) (at : IsPlace c ls p) → Located c (entries_of at.ahead) p.here.leaf.entries.items (entries_of at.behind)
+pub located : (c : List ℕ) (ls : List Leaf) (p : ListPlace) (at : IsPlace c ls p) → Located c (entries_of at.ahead) p.here.leaf.entries.items (entries_of at.behind)
 located c ls p at = record { low = at.low; stop = stops at.stop }
   where
     stops : {P : Type 0} {behind : List Leaf} → P ⊎ (behind ≡ []) → P ⊎ (entries_of behind ≡ [])
     stops (inl h) = inl h
     stops (inr h) = inr (ap entries_of h)
 
-pub place_firsts : (c : List ℕ) (ls : List Leaf) (p : Place) → IsPlace c ls p → first_from (Some c) (entries_of ls) ≡ place_first c p
+pub place_firsts : (c : List ℕ) (ls : List Leaf) (p : ListPlace) → IsPlace c ls p → first_from (Some c) (entries_of ls) ≡ place_first c p
 place_firsts c ls p at = ap (first_from (Some c)) (parts_of c ls p at) ∙ located_first c (entries_of at.ahead) p.here.leaf.entries.items (entries_of at.behind) (located c ls p at)
 
 last_some : (es : List (List ℕ)) (o : Option (List ℕ)) → 0 < length es → or_else (last_of es) o ≡ last_of es
@@ -160,13 +160,13 @@ last_some (x ∷ es) o some = step (last_of es) x o
     step None x o = refl
     step (Some y) x o = refl
 
-last_ahead : (width count : ℕ) (before : Option Spot) (ahead : List Leaf) → IfSome before (SpotHolds width count) → Before before ahead → last_of (entries_of ahead) ≡ last_before before
+last_ahead : (width count : ℕ) (before : Option NumberedLeaf) (ahead : List Leaf) → IfSome before (SpotHolds width count) → Before before ahead → last_of (entries_of ahead) ≡ last_before before
 last_ahead width count None ahead holds is = ap (λ l. last_of (entries_of l)) is
 last_ahead width count (Some s) ahead holds is =
     ap (λ l. last_of (entries_of l)) is.1 ∙ ap last_of (entries_append is.0 (link_of s ∷ []) ∙ ap (λ (l : List (List ℕ)). entries_of is.0 ++ l) (entries_one (link_of s)))
     ∙ last_append (entries_of is.0) s.leaf.entries.items ∙ last_some s.leaf.entries.items (last_of (entries_of is.0)) holds.leaf.holds.some
 
-pub place_lasts : (c : List ℕ) (width count : ℕ) (ls : List Leaf) (p : Place) → PlaceHolds width count p → AreInByteOrder (entries_of ls) → IsPlace c ls p → last_to (Some c) (entries_of ls) ≡ place_last c p
+pub place_lasts : (c : List ℕ) (width count : ℕ) (ls : List Leaf) (p : ListPlace) → PlaceHolds width count p → AreInByteOrder (entries_of ls) → IsPlace c ls p → last_to (Some c) (entries_of ls) ≡ place_last c p
 place_lasts c width count ls p holds rises at =
     let es = p.here.leaf.entries.items in
     ap (last_to (Some c)) (parts_of c ls p at) ∙ located_last c (entries_of at.ahead) es (entries_of at.behind) (located c ls p at) (subst AreInByteOrder (parts_of c ls p at) rises)
@@ -174,7 +174,7 @@ place_lasts c width count ls p holds rises at =
 
 -- a list that was looked at
 
-pub look_at : (c : List ℕ) (width : ℕ) (bs : List (List ℕ)) (xs : List (List ℕ)) (r : Look) (p : Place) (l : IsLook c width bs xs r) → r.place ≡ Some p → IsPlace c l.leaves p
+pub look_at : (c : List ℕ) (width : ℕ) (bs : List (List ℕ)) (xs : List (List ℕ)) (r : Look) (p : ListPlace) (l : IsLook c width bs xs r) → r.place ≡ Some p → IsPlace c l.leaves p
 look_at c width bs xs r p l is = subst (λ o. MatchOption o (l.leaves ≡ []) (IsPlace c l.leaves)) is l.place
 
 pub look_off : (c : List ℕ) (width : ℕ) (bs : List (List ℕ)) (xs : List (List ℕ)) (r : Look) (l : IsLook c width bs xs r) → r.place ≡ None → l.leaves ≡ []
@@ -190,10 +190,10 @@ look_rises c width bs xs r l = rises_by width bs l.leaves l.spares l.list
 pub look_none_is : (c : List ℕ) (width : ℕ) (bs : List (List ℕ)) (xs : List (List ℕ)) (r : Look) → IsLook c width bs xs r → r.place ≡ None → xs ≡ []
 look_none_is c width bs xs r l is = sym l.entries ∙ ap entries_of (look_off c width bs xs r l is)
 
-pub look_first : (c : List ℕ) (width : ℕ) (bs : List (List ℕ)) (xs : List (List ℕ)) (r : Look) (p : Place) → IsLook c width bs xs r → r.place ≡ Some p → first_from (Some c) xs ≡ place_first c p
+pub look_first : (c : List ℕ) (width : ℕ) (bs : List (List ℕ)) (xs : List (List ℕ)) (r : Look) (p : ListPlace) → IsLook c width bs xs r → r.place ≡ Some p → first_from (Some c) xs ≡ place_first c p
 look_first c width bs xs r p l is = ap (first_from (Some c)) (sym l.entries) ∙ place_firsts c l.leaves p (look_at c width bs xs r p l is)
 
-pub look_last : (c : List ℕ) (width count : ℕ) (bs : List (List ℕ)) (xs : List (List ℕ)) (r : Look) (p : Place) → IfSome r.place (PlaceHolds width count) → IsLook c width bs xs r → r.place ≡ Some p → last_to (Some c) xs ≡ place_last c p
+pub look_last : (c : List ℕ) (width count : ℕ) (bs : List (List ℕ)) (xs : List (List ℕ)) (r : Look) (p : ListPlace) → IfSome r.place (PlaceHolds width count) → IsLook c width bs xs r → r.place ≡ Some p → last_to (Some c) xs ≡ place_last c p
 look_last c width count bs xs r p holds l is =
     ap (last_to (Some c)) (sym l.entries) ∙ place_lasts c width count l.leaves p (subst (λ o. IfSome o (PlaceHolds width count)) is holds) (look_rises c width bs xs r l) (look_at c width bs xs r p l is)
 

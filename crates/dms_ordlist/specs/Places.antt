@@ -2,8 +2,8 @@
 use Rattle.std.proofs.Common.{ℕ, ◌+◌, ◌≤◌, ◌<◌, ◌≡◌, ◌⊎◌, inl, inr, ◌∙◌, List, [], ◌∷◌, ◌++◌, Some, None, length, refl, sym, ap, subst, append-nil, append_assoc, length-append, arith}
 use Rattle.std.specs.Prelude.{IfSome}
 use Rattle.std.specs.declared.option.Option.{Option}
-use Rattle.dms_ordlist.specs.declared.place.Spot.{Spot}
-use Rattle.dms_ordlist.specs.declared.place.Place.{Place}
+use Rattle.dms_ordlist.specs.declared.place.NumberedLeaf.{NumberedLeaf}
+use Rattle.dms_ordlist.specs.declared.place.ListPlace.{ListPlace}
 use Rattle.dms_ordlist.specs.declared.spelling.LeafBlock.{LeafBlock}
 use Rattle.dms_ordlist.specs.Leads.{lead}
 use Rattle.dms_ordlist.specs.Linked.{BlockChain, front, said_by}
@@ -13,30 +13,30 @@ use Rattle.dms_ordlist.specs.ListIn.{Leaf, entries_of}
 use Rattle.dms_ordlist.specs.Located.{lead_past}
 use Rattle.dms_ordlist.specs.SpellLaws.{IsLeaf}
 
-abbrev pub link_of : Spot → Leaf
+abbrev pub link_of : NumberedLeaf → Leaf
 link_of s = (s.number, s.leaf.entries.items)
 
 -- the number of a block, 0 where it is none
-abbrev pub number_of : Option Spot → ℕ
+abbrev pub number_of : Option NumberedLeaf → ℕ
 number_of None = 0
 number_of (Some s) = s.number
 
 -- a block is the last of these
-abbrev pub Before : Option Spot → List Leaf → Type 0
+abbrev pub Before : Option NumberedLeaf → List Leaf → Type 0
 Before None ahead = ahead ≡ []
 Before (Some s) ahead = (others : List Leaf) × (ahead ≡ others ++ link_of s ∷ [])
 
 -- the block is one of the file's, and holds what may be
-pub record SpotHolds (width count : ℕ) (s : Spot) : Type 0 where
+pub record SpotHolds (width count : ℕ) (s : NumberedLeaf) : Type 0 where
   pub leaf : IsLeaf width s.leaf.next s.leaf.entries.items
   pub there : s.number < count
 
-pub record PlaceHolds (width count : ℕ) (p : Place) : Type 0 where
+pub record PlaceHolds (width count : ℕ) (p : ListPlace) : Type 0 where
   pub here : SpotHolds width count p.here
   pub before : IfSome p.before (SpotHolds width count)
 
 -- All entries before the block are less, and one of its own isn't, or it is the last block.
-pub record IsPlace (c : List ℕ) (ls : List Leaf) (p : Place) : Type 0 where
+pub record IsPlace (c : List ℕ) (ls : List Leaf) (p : ListPlace) : Type 0 where
   pub ahead : List Leaf
   pub behind : List Leaf
   pub is : ls ≡ ahead ++ link_of p.here ∷ behind
@@ -46,7 +46,7 @@ pub record IsPlace (c : List ℕ) (ls : List Leaf) (p : Place) : Type 0 where
   pub stop : (lead c p.here.leaf.entries.items < length p.here.leaf.entries.items) ⊎ (behind ≡ [])
 
 -- a walk has come to this number after so many blocks
-pub record Walked (c : List ℕ) (ls : List Leaf) (back : Option Spot) (turn at : ℕ) : Type 0 where
+pub record Walked (c : List ℕ) (ls : List Leaf) (back : Option NumberedLeaf) (turn at : ℕ) : Type 0 where
   pub ahead : List Leaf
   pub behind : List Leaf
   pub is : ls ≡ ahead ++ behind
@@ -111,7 +111,7 @@ module _ (c : List ℕ) (ls : List Leaf) where
         let same : none ≡ one = sym said ∙ ap (λ n. said_by (leaf_in width) (look n)) (sym head) ∙ rest.1 in
         cc same
 
-    pub walked_place : (before : Option Spot) (turn at : ℕ) (leaf : LeafBlock) → Walked c ls before turn at → (at ≡ 0 → ⊥) → said_by (leaf_in width) (look at) ≡ Some (leaf.next, leaf.entries.items)
+    pub walked_place : (before : Option NumberedLeaf) (turn at : ℕ) (leaf : LeafBlock) → Walked c ls before turn at → (at ≡ 0 → ⊥) → said_by (leaf_in width) (look at) ≡ Some (leaf.next, leaf.entries.items)
         → (leaf.next ≡ 0) ⊎ (lead c leaf.entries.items < length leaf.entries.items) → IsPlace c ls (record { before = before; here = record { number = at; leaf = leaf } })
     walked_place before turn at leaf walked some said stop =
         let h = here walked.ahead walked.behind at leaf.next leaf.entries.items walked.is walked.head some said in
@@ -130,10 +130,10 @@ module _ (c : List ℕ) (ls : List Leaf) where
         stops ends (inr p) = inl p
 
     -- the number that was reached is that of a block of entries
-    pub walked_there : (before : Option Spot) (turn at : ℕ) → Walked c ls before turn at → (at ≡ 0 → ⊥) → said_by (leaf_in width) (look at) ≡ None → ⊥
+    pub walked_there : (before : Option NumberedLeaf) (turn at : ℕ) → Walked c ls before turn at → (at ≡ 0 → ⊥) → said_by (leaf_in width) (look at) ≡ None → ⊥
     walked_there before turn at walked some said = there walked.ahead walked.behind at walked.is walked.head some said
 
-    pub walked_next : (before : Option Spot) (turn at : ℕ) (leaf : LeafBlock) → Walked c ls before turn at → (at ≡ 0 → ⊥) → said_by (leaf_in width) (look at) ≡ Some (leaf.next, leaf.entries.items)
+    pub walked_next : (before : Option NumberedLeaf) (turn at : ℕ) (leaf : LeafBlock) → Walked c ls before turn at → (at ≡ 0 → ⊥) → said_by (leaf_in width) (look at) ≡ Some (leaf.next, leaf.entries.items)
         → lead c leaf.entries.items ≡ length leaf.entries.items → Walked c ls (Some (record { number = at; leaf = leaf })) (turn + 1) leaf.next
     walked_next before turn at leaf walked some said all =
         let es = leaf.entries.items in
@@ -153,5 +153,5 @@ module _ (c : List ℕ) (ls : List Leaf) where
   more_left [] at head some = absurd (some (sym head))
   more_left (l ∷ behind) at head some = omega arith
 
-  pub walked_long : (before : Option Spot) (turn at : ℕ) → Walked c ls before turn at → (at ≡ 0 → ⊥) → turn < length ls
+  pub walked_long : (before : Option NumberedLeaf) (turn at : ℕ) → Walked c ls before turn at → (at ≡ 0 → ⊥) → turn < length ls
   walked_long before turn at walked some = omega (arith, ap length walked.is, length-append walked.ahead walked.behind, walked.long, more_left walked.behind at walked.head some)

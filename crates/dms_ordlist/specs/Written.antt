@@ -26,7 +26,7 @@ module _ (c d : Content) (f : ℕ) where
       ap (λ (k : Content). k g) is ∙ in_others (with_block (with_block c f 0 h) f n x) f m y g off ∙ in_others (with_block c f 0 h) f n x g off ∙ in_others c f 0 h g off
 
 -- of all counts of blocks only that of one file rises, by two at most
-pub record Grown (file : ℕ) (a b : ℕ → ℕ) : Type 0 where
+pub record CountGrown (file : ℕ) (a b : ℕ → ℕ) : Type 0 where
   pub others : (g : ℕ) → g ≢ file → b g ≡ a g
   pub kept : a file ≤ b file
   pub more : b file ≤ a file + 2
@@ -38,7 +38,7 @@ raised_off : (c : ℕ → ℕ) (f n g : ℕ) → g ≢ f → raised c f n g ≡ 
 raised_off c f n g off = grind (arith, nat_tests)
 
 module _ (c d : ℕ → ℕ) (f : ℕ) where
-  pub grown_none : d ≡ c → Grown f c d
+  pub grown_none : d ≡ c → CountGrown f c d
   grown_none is =
       let here : d f ≡ c f = ap (λ (k : ℕ → ℕ). k f) is in
       record { others = λ g off. ap (λ (k : ℕ → ℕ). k g) is; kept = omega (arith, here); more = omega (arith, here) }
@@ -46,7 +46,7 @@ module _ (c d : ℕ → ℕ) (f : ℕ) where
   pub two_count : (n : ℕ) → d ≡ raised (raised c f 0) f n → d f ≡ max (max (c f) 1) (n + 1)
   two_count n is = omega (arith, ap (λ (k : ℕ → ℕ). k f) is, raised_at (raised c f 0) f n, raised_at c f 0)
 
-  pub two_grown : (n : ℕ) → n ≤ max (c f) 1 → d ≡ raised (raised c f 0) f n → Grown f c d
+  pub two_grown : (n : ℕ) → n ≤ max (c f) 1 → d ≡ raised (raised c f 0) f n → CountGrown f c d
   two_grown n near is = record {
     others = λ g off. ap (λ (k : ℕ → ℕ). k g) is ∙ raised_off (raised c f 0) f n g off ∙ raised_off c f 0 g off;
     kept = omega (arith, two_count n is);
@@ -56,7 +56,7 @@ module _ (c d : ℕ → ℕ) (f : ℕ) where
   pub three_count : (n m : ℕ) → m < c f → d ≡ raised (raised (raised c f 0) f n) f m → d f ≡ max (c f) (n + 1)
   three_count n m low is = omega (arith, low, ap (λ (k : ℕ → ℕ). k f) is, raised_at (raised (raised c f 0) f n) f m, raised_at (raised c f 0) f n, raised_at c f 0)
 
-  pub three_grown : (n m : ℕ) → n ≤ max (c f) 1 → m < c f → d ≡ raised (raised (raised c f 0) f n) f m → Grown f c d
+  pub three_grown : (n m : ℕ) → n ≤ max (c f) 1 → m < c f → d ≡ raised (raised (raised c f 0) f n) f m → CountGrown f c d
   three_grown n m near low is = record {
     others = λ g off. ap (λ (k : ℕ → ℕ). k g) is ∙ raised_off (raised (raised c f 0) f n) f m g off ∙ raised_off (raised c f 0) f n g off ∙ raised_off c f 0 g off;
     kept = omega (arith, three_count n m low is);
@@ -64,5 +64,5 @@ module _ (c d : ℕ → ℕ) (f : ℕ) where
   }
 
 -- the same after reads, which leave the counts
-pub grown_since : (a b d : ℕ → ℕ) (f : ℕ) → b ≡ a → Grown f b d → Grown f a d
-grown_since a b d f still h = subst (λ (k : ℕ → ℕ). Grown f k d) still h
+pub grown_since : (a b d : ℕ → ℕ) (f : ℕ) → b ≡ a → CountGrown f b d → CountGrown f a d
+grown_since a b d f still h = subst (λ (k : ℕ → ℕ). CountGrown f k d) still h

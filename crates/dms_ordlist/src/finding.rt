@@ -9,7 +9,7 @@ ghost use Rattle.std.specs.Prelude.{◌≤◌, take, slice_get};
 
 use crate::looking::look;
 use crate::order::lead;
-use crate::place::Place;
+use crate::place::ListPlace;
 use dms_base::{Bytes, Memory};
 use dms_block::{BlockFault, Blocks, Overlay};
 use std::alloc::Global;
@@ -36,7 +36,7 @@ fn last_of(entries: &[Bytes], alloc: Global, count: usize) -> Result<Option<Byte
 }
 
 /// The first entry from a place on that isn't below these bytes.
-fn first_in(place: &Place, alloc: Global, from: &[u8]) -> Result<Option<Bytes>, Memory>
+fn first_in(place: &ListPlace, alloc: Global, from: &[u8]) -> Result<Option<Bytes>, Memory>
     ensures { IfOk result (λ o. o ≡ place_first from.now place.now) }
 {
     let entries = place.here.leaf.entries.as_slice();
@@ -44,7 +44,7 @@ fn first_in(place: &Place, alloc: Global, from: &[u8]) -> Result<Option<Bytes>, 
 }
 
 /// The last entry before a place, or in it, that is below these bytes.
-fn last_in(place: &Place, alloc: Global, upto: &[u8]) -> Result<Option<Bytes>, Memory>
+fn last_in(place: &ListPlace, alloc: Global, upto: &[u8]) -> Result<Option<Bytes>, Memory>
     ensures { IfOk result (λ o. o ≡ place_last upto.now place.now) }
 {
     let entries = place.here.leaf.entries.as_slice();

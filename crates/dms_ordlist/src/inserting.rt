@@ -11,12 +11,12 @@ ghost use Rattle.dms_ordlist.specs.Looks.{IfLook, ListOr};
 ghost use Rattle.dms_ordlist.specs.Places.{PlaceHolds};
 ghost use Rattle.dms_ordlist.specs.Seen.{IfList, IsListWidth, NoList, NotAt};
 ghost use Rattle.dms_ordlist.specs.SpellLaws.{AllWide};
-ghost use Rattle.dms_ordlist.specs.Written.{Grown};
+ghost use Rattle.dms_ordlist.specs.Written.{CountGrown};
 
 use crate::looking::look;
 use crate::order::{lead, stands_at};
-use crate::place::{Look, Place, Spot};
-use crate::spelling::{Head, LeafBlock, leaf_block};
+use crate::place::{ListPlace, Look, NumberedLeaf};
+use crate::spelling::{LeafBlock, ListHead, leaf_block};
 use crate::writing::{next_free, write_three, write_two};
 use dms_base::{Bytes, Memory};
 use dms_block::{BlockFault, BlockId, Blocks, Overlay};
@@ -37,7 +37,7 @@ fn begin<B: Blocks>(
     over: &mut Overlay<B>,
     alloc: Global,
     file: u32,
-    head: Head,
+    head: ListHead,
     entry: &[u8],
 ) -> Result<(), BlockFault>
     requires sound { (under over.old).sound }
@@ -46,7 +46,7 @@ fn begin<B: Blocks>(
     requires width { IsListWidth (length entry.now) }
     ensures list { OnOk result (IsTrue (under over.old).told → (fs : List Spare) → ListOr (length entry.now) (seen over.old file) [] fs → head.free ≡ front fs 0 → list_in (length entry.now) (seen over.new file) ≡ Some (entry.now ∷ [])) }
     ensures others { OnOk result (IsTrue (under over.old).told → (other : ℕ) → other ≢ file → seen over.new other ≡ seen over.old other) }
-    ensures grows { OnOk result (Grown file (seen_counts over.old) (seen_counts over.new)) }
+    ensures grows { OnOk result (CountGrown file (seen_counts over.old) (seen_counts over.new)) }
     ensures room { OnOk result (IsTrue (under over.old).told → (fs : List Spare) → ListOr (length entry.now) (seen over.old file) [] fs → head.free ≡ front fs 0 → seen_counts over.new file ≤ max (seen_counts over.old file) 2) }
     ensures writes { WritesOverlay 1 2 result over.old over.new }
     ensures idle { (f b : ℕ) → IsErrOf result (BlockFault.Damaged f b) → written over.new ≡ written over.old }
@@ -54,7 +54,7 @@ fn begin<B: Blocks>(
 {
     let leaf = leaf_with(alloc, entry)?;
     let (number, free) = next_free(over, alloc, file, head)?;
-    let first = Head {
+    let first = ListHead {
         first: number,
         free,
     };
@@ -67,7 +67,7 @@ fn split<B: Blocks>(
     over: &mut Overlay<B>,
     alloc: Global,
     file: u32,
-    head: Head,
+    head: ListHead,
     number: u32,
     leaf: LeafBlock,
     width: usize,
@@ -82,7 +82,7 @@ fn split<B: Blocks>(
     ensures seen { IfOk result (λ t. IsTrue (under over.old).told → seen over.new file ≡ laid number (leaf_bytes t.0 (take (length leaf.entries.items / 2) leaf.entries.items)) (laid t.0 (leaf_bytes leaf.next (drop (length leaf.entries.items / 2) leaf.entries.items)) (laid 0 (head_bytes head.first t.1) (seen over.old file)))) }
     ensures taken { IfOk result (λ t. IsTrue (under over.old).told → (w : ℕ) (ls : List Leaf) (fs : List Spare) → ListOr w (seen over.old file) ls fs → head.free ≡ front fs 0 → Taken w (seen over.old file) (front ls 0) ls t.0 t.1) }
     ensures others { OnOk result (IsTrue (under over.old).told → (other : ℕ) → other ≢ file → seen over.new other ≡ seen over.old other) }
-    ensures grows { OnOk result (Grown file (seen_counts over.old) (seen_counts over.new)) }
+    ensures grows { OnOk result (CountGrown file (seen_counts over.old) (seen_counts over.new)) }
     ensures count { IfOk result (λ t. seen_counts over.new file ≡ max (seen_counts over.old file) (t.0 + 1)) }
     ensures writes { WritesOverlay 1 3 result over.old over.new }
     ensures idle { (f b : ℕ) → IsErrOf result (BlockFault.Damaged f b) → written over.new ≡ written over.old }
@@ -100,7 +100,7 @@ fn split<B: Blocks>(
         next: fresh,
         entries,
     });
-    let head = Head {
+    let head = ListHead {
         first: head.first,
         free,
     };
@@ -125,7 +125,7 @@ fn insert_in<B: Blocks>(
     ensures answer { IfOk result (λ new. IfLook over.old file entry.now found (λ xs. new ≡ not (has_entry entry.now xs))) }
     ensures still { IfOk result (λ new. new ≡ false → written over.new ≡ written over.old) }
     ensures others { OnOk result (IsTrue (under over.old).told → (other : ℕ) → other ≢ file → seen over.new other ≡ seen over.old other) }
-    ensures grows { OnOk result (Grown file (seen_counts over.old) (seen_counts over.new)) }
+    ensures grows { OnOk result (CountGrown file (seen_counts over.old) (seen_counts over.new)) }
     ensures room { OnOk result (IfLook over.old file entry.now found (λ xs. seen_counts over.new file ≤ max (seen_counts over.old file) (2 + length xs))) }
     ensures writes { WritesOverlay 1 3 result over.old over.new }
     ensures idle { (f b : ℕ) → IsErrOf result (BlockFault.Damaged f b) → written over.new ≡ written over.old }
@@ -134,7 +134,7 @@ fn insert_in<B: Blocks>(
     let Look { head, place } = found;
     let here = match place {
         Some(
-            Place {
+            ListPlace {
                 before: _before,
                 here,
             },
@@ -144,7 +144,7 @@ fn insert_in<B: Blocks>(
             return Ok(true);
         }
     };
-    let Spot { number, mut leaf } = here;
+    let NumberedLeaf { number, mut leaf } = here;
     let i = lead(&leaf.entries, entry);
     if stands_at(&leaf.entries, i, entry) {
         return Ok(false);
@@ -178,7 +178,7 @@ pub fn insert<B: Blocks>(
     ensures answer { IfOk result (λ new. IfList over.old file (length entry.now) (λ xs. new ≡ not (has_entry entry.now xs))) }
     ensures still { IfOk result (λ new. new ≡ false → written over.new ≡ written over.old) }
     ensures others { OnOk result (IsTrue (under over.old).told → (other : ℕ) → other ≢ file → seen over.new other ≡ seen over.old other) }
-    ensures grows { OnOk result (Grown file (seen_counts over.old) (seen_counts over.new)) }
+    ensures grows { OnOk result (CountGrown file (seen_counts over.old) (seen_counts over.new)) }
     ensures room { OnOk result (IfList over.old file (length entry.now) (λ xs. seen_counts over.new file ≤ max (seen_counts over.old file) (2 + length xs))) }
     ensures writes { WritesOverlay (2 + seen_counts over.old file) 3 result over.old over.new }
     ensures idle { (f b : ℕ) → IsErrOf result (BlockFault.Damaged f b) → written over.new ≡ written over.old }

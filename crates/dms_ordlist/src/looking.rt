@@ -8,7 +8,7 @@ ghost use Rattle.dms_ordlist.specs.Seen.{IfList, IsListWidth, NoList};
 use crate::place::Look;
 use crate::reaching::reach;
 use crate::reading::read_head;
-use crate::spelling::Head;
+use crate::spelling::ListHead;
 use dms_block::{BlockFault, Blocks, Overlay};
 use std::alloc::Global;
 
@@ -27,7 +27,7 @@ pub fn look<B: Blocks>(
     ensures causes { HasCausesOr (NoList over.old file (length bytes.now)) result (under over.old) (under over.new) }
 {
     if over.count(file) == 0 {
-        let head = Head { first: 0, free: 0 };
+        let head = ListHead { first: 0, free: 0 };
         return Ok(Look { head, place: None });
     }
     let head = match read_head(over, alloc, file) {

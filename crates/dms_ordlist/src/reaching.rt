@@ -8,13 +8,13 @@ ghost use Rattle.dms_ordlist.specs.Places.{IsPlace, PlaceHolds, number_of};
 ghost use Rattle.dms_ordlist.specs.Seen.{IsListWidth, NoChain, look};
 
 use crate::order::lead;
-use crate::place::{Place, Spot};
+use crate::place::{ListPlace, NumberedLeaf};
 use crate::reading::read_leaf;
 use dms_block::{BlockFault, Blocks, Overlay};
 use std::alloc::Global;
 
 /// The number of a block, 0 where it is none.
-fn number_of(spot: &Option<Spot>) -> u32
+fn number_of(spot: &Option<NumberedLeaf>) -> u32
     ensures { result ≡ number_of spot.now }
 {
     match spot {
@@ -32,7 +32,7 @@ pub fn reach<B: Blocks>(
     width: usize,
     first: u32,
     bytes: &[u8],
-) -> Result<Place, BlockFault>
+) -> Result<ListPlace, BlockFault>
     requires sound { (under over.old).sound }
     requires width { IsListWidth width }
     requires some { 0 < first }
@@ -51,15 +51,15 @@ pub fn reach<B: Blocks>(
             Err(fault) => return Err(fault),
         };
         if leaf.next == 0 {
-            let here = Spot { number: at, leaf };
-            return Ok(Place { before, here });
+            let here = NumberedLeaf { number: at, leaf };
+            return Ok(ListPlace { before, here });
         }
         if lead(&leaf.entries, bytes) < leaf.entries.len() {
-            let here = Spot { number: at, leaf };
-            return Ok(Place { before, here });
+            let here = NumberedLeaf { number: at, leaf };
+            return Ok(ListPlace { before, here });
         }
         let next = leaf.next;
-        before = Some(Spot { number: at, leaf });
+        before = Some(NumberedLeaf { number: at, leaf });
         at = next;
     }
     Err(BlockFault::Damaged(file, number_of(&before)))

@@ -6,7 +6,7 @@ ghost use Rattle.dms_ordlist.specs.ListBlocks.{free_in, head_in, leaf_in};
 ghost use Rattle.dms_ordlist.specs.Seen.{IsListWidth, NotAt, look};
 ghost use Rattle.dms_ordlist.specs.SpellLaws.{IsLeaf};
 
-use crate::spelling::{Head, LeafBlock, free_of, head_of, leaf_of};
+use crate::spelling::{LeafBlock, ListHead, free_of, head_of, leaf_of};
 use dms_block::{BlockFault, BlockId, Blocks, Overlay};
 use std::alloc::Global;
 
@@ -15,7 +15,7 @@ pub fn read_head<B: Blocks>(
     over: &mut Overlay<B>,
     alloc: Global,
     file: u32,
-) -> Result<Head, BlockFault>
+) -> Result<ListHead, BlockFault>
     requires sound { (under over.old).sound }
     requires some { 0 < seen_counts over.old file }
     ensures head { IfOk result (λ h. IsTrue (under over.old).told → said_by head_in (look over.old file 0) ≡ Some (h.first, h.free)) }

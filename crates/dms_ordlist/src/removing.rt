@@ -10,8 +10,8 @@ ghost use Rattle.dms_ordlist.specs.Seen.{IfList, IsListWidth, NoList};
 
 use crate::looking::look;
 use crate::order::{lead, stands_at};
-use crate::place::{Look, Place, Spot};
-use crate::spelling::{Head, LeafBlock, free_block, leaf_block};
+use crate::place::{ListPlace, Look, NumberedLeaf};
+use crate::spelling::{LeafBlock, ListHead, free_block, leaf_block};
 use crate::writing::{write_three, write_two};
 use dms_block::{BlockFault, BlockId, Blocks, Overlay};
 use std::alloc::Global;
@@ -20,8 +20,8 @@ use std::alloc::Global;
 fn release<B: Blocks>(
     over: &mut Overlay<B>,
     file: u32,
-    head: Head,
-    before: Option<Spot>,
+    head: ListHead,
+    before: Option<NumberedLeaf>,
     number: u32,
     next: u32,
 ) -> Result<(), BlockFault>
@@ -40,14 +40,14 @@ fn release<B: Blocks>(
     let freed = free_block(head.free);
     match before {
         None => {
-            let head = Head {
+            let head = ListHead {
                 first: next,
                 free: number,
             };
             write_two(over, file, head, number, &freed)
         }
-        Some(Spot { number: at, leaf }) => {
-            let head = Head {
+        Some(NumberedLeaf { number: at, leaf }) => {
+            let head = ListHead {
                 first: head.first,
                 free: number,
             };
@@ -83,10 +83,10 @@ fn remove_in<B: Blocks>(
 {
     let Look { head, place } = found;
     let (before, here) = match place {
-        Some(Place { before, here }) => (before, here),
+        Some(ListPlace { before, here }) => (before, here),
         None => return Ok(false),
     };
-    let Spot { number, mut leaf } = here;
+    let NumberedLeaf { number, mut leaf } = here;
     let i = lead(&leaf.entries, entry);
     if !stands_at(&leaf.entries, i, entry) {
         return Ok(false);

@@ -11,7 +11,7 @@ use std::alloc::Global;
 
 /// The head of a list: the number of the first block of entries and that of the first free one, 0 for none.
 #[derive(Clone, Copy)]
-pub struct Head {
+pub struct ListHead {
     pub first: u32,
     pub free: u32,
 }
@@ -40,7 +40,7 @@ fn u32_in(block: &Block, at: usize) -> u32
 }
 
 /// The block of a head.
-pub fn head_block(head: Head) -> Block
+pub fn head_block(head: ListHead) -> Block
     ensures { result.0 ≡ head_bytes head.first head.free }
 {
     let mut block = [0; 1024];
@@ -62,10 +62,10 @@ pub fn free_block(next: u32) -> Block
 }
 
 /// The head that a block spells; none where it is no head.
-pub fn head_of(block: &Block) -> Option<Head>
+pub fn head_of(block: &Block) -> Option<ListHead>
     ensures { option_map (λ h. (h.first, h.free)) result ≡ head_in block.now.0 }
 {
-    let head = Head {
+    let head = ListHead {
         first: u32_in(block, 2),
         free: u32_in(block, 6),
     };

@@ -10,7 +10,7 @@ ghost use Rattle.dms_ordlist.specs.Looks.{ListOr};
 ghost use Rattle.dms_ordlist.specs.Seen.{NotAt};
 
 use crate::reading::read_free;
-use crate::spelling::{Head, head_block};
+use crate::spelling::{ListHead, head_block};
 use dms_block::{Block, BlockFault, BlockId, Blocks, Overlay};
 use std::alloc::Global;
 
@@ -19,7 +19,7 @@ pub fn next_free<B: Blocks>(
     over: &mut Overlay<B>,
     alloc: Global,
     file: u32,
-    head: Head,
+    head: ListHead,
 ) -> Result<(u32, u32), BlockFault>
     requires sound { (under over.old).sound }
     ensures taken { IfOk result (λ t. IsTrue (under over.old).told → (w : ℕ) (ls : List Leaf) (fs : List Spare) → ListOr w (seen over.old file) ls fs → head.free ≡ front fs 0 → Taken w (seen over.old file) (front ls 0) ls t.0 t.1) }
@@ -44,7 +44,7 @@ pub fn next_free<B: Blocks>(
 pub fn write_two<B: Blocks>(
     over: &mut Overlay<B>,
     file: u32,
-    head: Head,
+    head: ListHead,
     number: u32,
     block: &Block,
 ) -> Result<(), BlockFault>
@@ -71,7 +71,7 @@ pub fn write_two<B: Blocks>(
 pub fn write_three<B: Blocks>(
     over: &mut Overlay<B>,
     file: u32,
-    head: Head,
+    head: ListHead,
     number: u32,
     block: &Block,
     other: u32,

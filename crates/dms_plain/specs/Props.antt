@@ -5,7 +5,7 @@ use Rattle.dms_desc.specs.Shape.{Described}
 use Rattle.dms_model.specs.Props.{ArePlain-prop}
 use Rattle.dms_plain.specs.declared.rows.Row.{Row}
 use Rattle.dms_plain.specs.declared.rows.Undo.{Undo}
-use Rattle.dms_plain.specs.Rows.{AllFit}
+use Rattle.dms_plain.specs.Rows.{RowsFit}
 
-pub AllFit-prop : (desc : Described) (rows : List Row) (undo : List Undo) → IsProp (AllFit desc rows undo)
-AllFit-prop desc rows undo = hlevel (props, ArePlain-prop)
+pub RowsFit-prop : (desc : Described) (rows : List Row) (undo : List Undo) → IsProp (RowsFit desc rows undo)
+RowsFit-prop desc rows undo = hlevel (props, ArePlain-prop)

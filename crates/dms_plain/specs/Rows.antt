@@ -46,6 +46,6 @@ IsWhere k es (AtRow i) = (i < length es) × ((v : Record) (d : Place × Record) 
 IsWhere k es (BeforeRow i) = (i ≤ length es) × ((v : Record) → put place_cmp k v es ≡ insert_at es i (k, v))
 
 -- the records fit their data sets, and so do those before what was done
-pub record AllFit (desc : Described) (rows : List Row) (undo : List Undo) : Type 0 where
+pub record RowsFit (desc : Described) (rows : List Row) (undo : List Undo) : Type 0 where
   pub records : RecordsFit desc (records_in rows)
   pub mark : RecordsFit desc (undone undo (records_in rows))

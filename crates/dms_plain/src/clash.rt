@@ -1,18 +1,14 @@
-ghost use Rattle.std.specs.Prelude.{◌≡◌, [], IfOk, map, slice_get};
-ghost use Rattle.std.specs.Option.{option_copied};
-ghost use Rattle.dms_desc.specs.Conds.{or_null};
+ghost use Rattle.std.specs.Prelude.{◌≡◌, [], map};
 ghost use Rattle.dms_desc.specs.Shape.{shape_of};
-ghost use Rattle.dms_model.specs.Stores.{is_closed, is_other, has_equal, kept_value, linked_from};
+ghost use Rattle.dms_model.specs.Stores.{is_closed, is_other, has_equal};
 ghost use Rattle.dms_plain.specs.Rows.{entries_of};
 ghost use Rattle.dms_plain.specs.Clashes.{clash_in};
 
 use crate::keys::order_of_keys;
 use crate::rows::Row;
 use crate::scan::belongs;
-use dms_base::{Memory, Value};
-use dms_desc::{Item, Record, Structure, Values};
-use dms_model::value_at;
-use std::alloc::Global;
+use dms_base::Value;
+use dms_desc::{Record, Structure};
 
 fn is_other(number: Option<u64>, m: u64) -> bool
     ensures { result ≡ is_other number m }
@@ -66,55 +62,4 @@ pub fn clash(
         }
     }
     None
-}
-
-fn copy_of(alloc: Global, value: Option<&Value>) -> Result<Value, Memory>
-    ensures { IfOk result (λ v. v ≡ or_null (option_copied value.entry)) }
-{
-    match value {
-        None => Ok(Value::Null),
-        Some(value) => value.copy(alloc),
-    }
-}
-
-/// A copy of a link as it stood, and else of the new value.
-fn kept_value(
-    alloc: Global,
-    item: Option<&Item>,
-    old: Option<&Value>,
-    new: &Value,
-) -> Result<Value, Memory>
-    ensures { IfOk result (λ v. v ≡ kept_value (option_copied item.entry) (or_null (option_copied old.entry)) new.now) }
-{
-    match item {
-        None => new.copy(alloc),
-        Some(item) => {
-            if item.is_link() {
-                return copy_of(alloc, old);
-            }
-            new.copy(alloc)
-        }
-    }
-}
-
-fn item_here(items: &[Item], i: usize) -> Option<&Item>
-    ensures { option_copied result ≡ slice_get items.now i }
-{
-    items.get(i)
-}
-
-/// These values, but the links as they stood.
-pub fn linked(
-    alloc: Global,
-    items: &[Item],
-    olds: &[Value],
-    news: &[Value],
-) -> Result<Values, Memory>
-    ensures { IfOk result (λ v. v ≡ linked_from 0 items.now olds.now news.now) }
-{
-    let mut made = Values::new(alloc);
-    for (i, value) in news.iter().enumerate() {
-        made.push(kept_value(alloc, item_here(items, i), value_at(olds, i), value)?)?;
-    }
-    Ok(made)
 }

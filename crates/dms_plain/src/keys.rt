@@ -1,20 +1,10 @@
-ghost use Rattle.std.specs.Prelude.{◌≡◌, IfOk};
-ghost use Rattle.std.specs.Option.{option_copied};
-ghost use Rattle.dms_desc.specs.Conds.{or_null, item_of};
+ghost use Rattle.std.specs.Prelude.{◌≡◌};
 ghost use Rattle.dms_desc.specs.Keys.{key_of, key_cmp};
 
-use dms_base::{Memory, Value};
-use dms_desc::{KeyPart, Values};
-use dms_model::{part_order, value_at};
-use std::alloc::Global;
+use dms_base::Value;
+use dms_desc::KeyPart;
+use dms_model::{item_at, part_order, value_at};
 use std::cmp::Ordering;
-
-/// The value of an item, counted from 1.
-fn item_at(values: &[Value], item: u8) -> Option<&Value>
-    ensures { or_null (option_copied result) ≡ item_of values.now item }
-{
-    values.get((item as usize).saturating_sub(1))
-}
 
 /// The order of a record's key and a key.
 pub fn order_to_key(parts: &[KeyPart], values: &[Value], key: &[Value]) -> Ordering
@@ -50,24 +40,4 @@ pub fn order_of_keys(parts: &[KeyPart], a: &[Value], b: &[Value]) -> Ordering
         }
     }
     Ordering::Equal
-}
-
-fn item_copy(alloc: Global, values: &[Value], item: u8) -> Result<Value, Memory>
-    ensures { IfOk result (λ v. v ≡ item_of values.now item) }
-{
-    match item_at(values, item) {
-        None => Ok(Value::Null),
-        Some(value) => value.copy(alloc),
-    }
-}
-
-/// The key of a record.
-pub fn key_of(alloc: Global, parts: &[KeyPart], values: &[Value]) -> Result<Values, Memory>
-    ensures { IfOk result (λ k. k ≡ key_of parts.now values.now) }
-{
-    let mut key = Values::new(alloc);
-    for part in parts {
-        key.push(item_copy(alloc, values, part.item)?)?;
-    }
-    Ok(key)
 }

@@ -9,13 +9,12 @@ ghost use Rattle.dms_plain.specs.Rows.{entries_of, records_in, db_of, IsInOrder,
 ghost use Rattle.dms_plain.specs.Clashes.{put_in};
 ghost use Rattle.dms_plain.specs.Scans.{spot_at, soonest, latest};
 
-use crate::clash::{clash, linked};
-use crate::keys::key_of;
+use crate::clash::clash;
 use crate::rows::{self, Row, Undo};
 use crate::scan;
 use dms_base::{Memory, Value};
 use dms_desc::{Bound, Description, Record, Structure};
-use dms_model::{Put, Spot};
+use dms_model::{Put, Spot, key_of, linked};
 use std::alloc::Global;
 
 /// The record at a place of the database.

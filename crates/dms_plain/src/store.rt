@@ -4,8 +4,8 @@ ghost use Rattle.dms_desc.specs.Shape.{described};
 ghost use Rattle.dms_model.specs.Db.{empty_db};
 ghost use Rattle.dms_model.specs.Seen.{Starts};
 ghost use Rattle.std.proofs.Props.{props};
-ghost use Rattle.dms_plain.specs.Props.{AllFit-prop};
-ghost use Rattle.dms_plain.specs.Rows.{AllFit, db_of, records_in, undone, IsInOrder};
+ghost use Rattle.dms_plain.specs.Props.{RowsFit-prop};
+ghost use Rattle.dms_plain.specs.Rows.{RowsFit, db_of, records_in, undone, IsInOrder};
 ghost use Rattle.dms_plain.specs.Speaking.{OnlySpeaks, only_none, only_on};
 ghost use Rattle.dms_plain.specs.Told.{told, point_of, no_clock};
 
@@ -33,7 +33,7 @@ pub struct PlainStore<S> {
     outs: u64,
     site: S,
     ghost in_order: { IsInOrder rows.items },
-    ghost fit: { AllFit (described desc) rows.items undo.items } by { Prim.hlevel (props, AllFit-prop) },
+    ghost fit: { RowsFit (described desc) rows.items undo.items } by { Prim.hlevel (props, RowsFit-prop) },
 }
 
 impl<S: Site> PlainStore<S> {

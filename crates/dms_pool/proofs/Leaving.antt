@@ -9,13 +9,13 @@ use Rattle.dms_pool.specs.declared.frame.Frame.{Frame}
 use Rattle.dms_pool.specs.declared.frame.FrameKey.{FrameKey}
 use Rattle.dms_pool.specs.declared.pool.Pool.{Pool}
 use Rattle.dms_pool.specs.Entries.{Entries, id_of, ids_of, is_key, key_of, same_key}
-use Rattle.dms_pool.specs.Calls.{Cleans, GivesUp, HasFrameFor, Looked, PutsFrame}
+use Rattle.dms_pool.specs.Calls.{Cleans, GivesUp, HasFrameFor, FrameUsed, PutsFrame}
 use Rattle.dms_pool.specs.Held.{washed}
 use Rattle.dms_pool.proofs.Lasts.{IsLast, is_last}
 use Rattle.dms_pool.proofs.Same.{after, after_lookup, after_order, front, front_lookup, front_order, promoted_same, put_same}
 use Rattle.dms_pool.proofs.Washed.{none_clean, set_clean, set_ids}
 
-pub looked : (id : BlockId) (old new : Pool) → new.frames ≡ lru_cache (promoted (is_key id) old.frames.entries) old.frames.cap → Looked id old new
+pub looked : (id : BlockId) (old new : Pool) → new.frames ≡ lru_cache (promoted (is_key id) old.frames.entries) old.frames.cap → FrameUsed id old new
 looked id old new is =
     let es = old.frames.entries in
     let all : new.frames.entries ≡ after (lookup (is_key id) es) id es = ap (λ c. c.entries) is ∙ promoted_same id es in

@@ -21,7 +21,7 @@ pub record IsEmpty (n : ℕ) (pool : Pool) : Type 0 where
   pub bound : most pool ≡ n
 
 -- a block was asked for: where it is held, this was a use of it
-pub record Looked (id : BlockId) (old new : Pool) : Type 0 where
+pub record FrameUsed (id : BlockId) (old new : Pool) : Type 0 where
   pub holds : (x : BlockId) → frame_of x new ≡ frame_of x old
   pub uses : order new ≡ (if is_some (frame_of id old) then used id (order old) else order old)
   pub bound : most new ≡ most old

@@ -18,7 +18,7 @@ pub struct Pool {
 
 impl Pool {
     ghost use Rattle.std.specs.Prelude.{◌≡◌, ◌<◌, [], IfNone, IfOk, IfSome, IsOk, IsSome, OnErr, OnOk, false, find, length, nat_lt, option_map, reverse, true};
-    ghost use Rattle.dms_pool.specs.Calls.{Cleans, GivesUp, HasFrameFor, IsEmpty, Looked, PutsFrame, SamePool};
+    ghost use Rattle.dms_pool.specs.Calls.{Cleans, GivesUp, HasFrameFor, IsEmpty, FrameUsed, PutsFrame, SamePool};
     ghost use Rattle.dms_pool.specs.Held.{frame_of, framed, is_dirty, most, order};
 
     /// A pool for so many blocks, of which none is held yet. The table takes its memory here, and a frame when its block
@@ -38,7 +38,7 @@ impl Pool {
     /// The block, where it is held. It is then the most recently used.
     pub fn get(&mut self, id: BlockId) -> Option<Block>
         ensures value { result ≡ option_map (λ f. f.block) (frame_of id self.old) }
-        ensures looked { Looked id self.old self.new }
+        ensures looked { FrameUsed id self.old self.new }
     {
         let key = FrameKey::of(id);
         let found = self.frames.peek(&key).map(|frame| frame.block);

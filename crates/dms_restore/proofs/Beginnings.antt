@@ -13,16 +13,16 @@ use Rattle.dms_audfile.specs.Ends as ends
 use Rattle.dms_audfile.specs.Ends.{EndsAt, Appends}
 use Rattle.dms_running.specs.Telling.{Telling, IsTelling}
 use Rattle.dms_running.specs.Points.{points_of, next_in}
-use Rattle.dms_running.specs.Sealing.{IsSealed}
+use Rattle.dms_running.specs.Sealing.{AreSealed}
 use Rattle.dms_running.specs.Running.{LeavesPoints}
 use Rattle.dms_running.specs.Restoring.{IsKept, Rewritten, Rewrites}
 use Rattle.dms_running.specs.Begun.{ByAudit, IsBegun, LeavesAll, outcome_now}
 use Rattle.dms_running.proofs.Beginning.{begin_goes, all_sealed, begun, begun_points, begun_next, begun_outcome}
 use Rattle.dms_running.proofs.Restored.{restore_leaves, restore_begun, restored_all, restored_points, restored_next, restored_outcome}
-use Rattle.dms_restore.specs.Logging.{waits, View, view, telling, state, Ends, LogRuns, points, next}
-use Rattle.dms_restore.specs.Begins.{LastIs, begun_to, BegunAt, Begins, RestoredAt, Restores}
+use Rattle.dms_restore.specs.Logging.{waits, LogView, view, telling, state, Ends, LogRuns, points, next}
+use Rattle.dms_restore.specs.Begins.{LastIs, begun_to, BegunAt, BeginsRestore, RestoredAt, Restores}
 use Rattle.dms_restore.specs.declared.told.Told.{Told}
-use Rattle.dms_restore.specs.Table.{IsTable, AllStand}
+use Rattle.dms_restore.specs.Table.{IsTable, AllStandAsTold}
 use Rattle.dms_restore.proofs.Trails.{is_telling, first_low, waits_is}
 use Rattle.dms_restore.proofs.Tables.{table_stands}
 use Rattle.dms_restore.proofs.Logs.{Reads, tells, plain, entry_steps, same_telling, appended, ends_then, settles, sealing}
@@ -53,7 +53,7 @@ none_waits (e ∷ w) m kind zero plain = absurd (not_plain w plain.2)
     not_plain (d ∷ w) plain = not_plain w plain.2
 none_waits (e ∷ w) m kind (suc k) plain = none_waits w m kind k plain
 
-module _ (a : View) (r : LogRuns a) (read : Reads a) (m : ℕ) (kind : Kind) (by_audit : ByAudit (how_of kind)) (at : LastIs a m) where
+module _ (a : LogView) (r : LogRuns a) (read : Reads a) (m : ℕ) (kind : Kind) (by_audit : ByAudit (how_of kind)) (at : LastIs a m) where
   abbrev pub the_begin : Entry
   the_begin = begin_restore m kind
 
@@ -61,7 +61,7 @@ module _ (a : View) (r : LogRuns a) (read : Reads a) (m : ℕ) (kind : Kind) (by
       → LeavesPoints (telling a) (points a) (next a) (state a) later
   begin_leave later steps = begin_goes (telling a) (tells a r read) (state a) r.runs read m kind by_audit at later (entry_steps a r read the_begin later steps)
 
-  module _ (b : View) (same : b.end.total ≡ a.end.total) (start : b.first ≡ a.first)
+  module _ (b : LogView) (same : b.end.total ≡ a.end.total) (start : b.first ≡ a.first)
       (steps : (first : ℕ) (waiting : List Entry) → AreNoBegins waiting → EndsAt a.end first waiting a.files a.clock → Steps (ends.Seals a.end.total a.end.tag first (waiting ++ the_begin ∷ [])) a.clock b.clock)
       (appends : (first : ℕ) (waiting : List Entry) → AreNoBegins waiting → EndsAt a.end first waiting a.files a.clock → Appends b.end first (waiting ++ the_begin ∷ []) a.files b.files b.clock)
       (behind : (g : ℕ) → b.end.file < g → b.files g ≡ a.files g) where
@@ -71,7 +71,7 @@ module _ (a : View) (r : LogRuns a) (read : Reads a) (m : ℕ) (kind : Kind) (by
     nothing : waits b.end ≡ []
     nothing = waits_is b.end a.first (drop more.some (waits a.end ++ the_begin ∷ [])) b.files b.clock more.ends ∙ none_waits (waits a.end) m kind more.some more.plain
 
-    sealed : IsSealed (telling a) (waits a.end ++ the_begin ∷ []) a.files b.files
+    sealed : AreSealed (telling a) (waits a.end ++ the_begin ∷ []) a.files b.files
     sealed = all_sealed (telling a) (waits a.end ++ the_begin ∷ []) (waits b.end) a.files b.files (appended a r read b same start the_begin steps appends behind) nothing
 
     pub begin_begun : BegunAt (begun_to a m (how_of kind)) b
@@ -81,7 +81,7 @@ module _ (a : View) (r : LogRuns a) (read : Reads a) (m : ℕ) (kind : Kind) (by
           (begun (telling a) (tells a r read) (state a) r.runs read m kind by_audit at (state b) sealed nothing (sealing a r read b same start the_begin steps appends behind) (settles a r read b same start the_begin steps appends behind));
     }
 
-    pub begin_keeps : Begins a b m (how_of kind)
+    pub begin_keeps : BeginsRestore a b m (how_of kind)
     begin_keeps = record {
       points_same = ap (λ (t : Telling). points_of t b.files) (sym (same_telling a r read b same start)) ∙ begun_points (telling a) (tells a r read) (state a) r.runs read m kind by_audit at (state b) sealed;
       next_same = ap (λ (t : Telling). next_in t b.files) (sym (same_telling a r read b same start)) ∙ begun_next (telling a) (tells a r read) (state a) r.runs read m kind by_audit at (state b) sealed;
@@ -94,7 +94,7 @@ module _ (a : View) (r : LogRuns a) (read : Reads a) (m : ℕ) (kind : Kind) (by
 pub then_looks : (keeps : ℕ → ℕ → Type 0) (a b c : Clock Left) → Steps (Rewrites keeps) a b → Steps Same b c → Steps (Rewrites keeps) a c
 then_looks keeps a b c one two = steps_on one two (λ x y z was now step look. subst (λ (l : Left). Rewrites keeps x l) (sym look) step) (λ x y was step. step)
 
-module _ (p : Pending) (a : View) (r : BegunAt p a) (read : Reads a) (table : List Told) (is : IsTable p.entries p.point a.files table) where
+module _ (p : Pending) (a : LogView) (r : BegunAt p a) (read : Reads a) (table : List Told) (is : IsTable p.entries p.point a.files table) where
   abbrev pub tells_it : IsTelling (telling a)
   tells_it = is_telling a.end.total a.first (first_low a.end a.first (waits a.end) a.files a.clock r.ends)
 
@@ -102,7 +102,7 @@ module _ (p : Pending) (a : View) (r : BegunAt p a) (read : Reads a) (table : Li
   table_leave later steps = restore_leaves (telling a) tells_it p (state a) r.begun read later steps
 
   module _ (files : Files) (clock : Clock Left) (steps : Steps (Rewrites (IsKept p.entries p.point)) a.clock clock) (written : Rewritten (IsKept p.entries p.point) a.files files) where
-    abbrev pub then_ : View
+    abbrev pub then_ : LogView
     then_ = view a.end a.first files clock
 
     ends_still : Ends then_
@@ -119,7 +119,7 @@ module _ (p : Pending) (a : View) (r : BegunAt p a) (read : Reads a) (table : Li
     pub table_begun : BegunAt p then_
     table_begun = record { ends = ends_still; begun = restore_begun (telling a) tells_it p (state a) r.begun read (state then_) written r.begun.nothing steps }
 
-    pub table_restored : AllStand p.entries p.point files table → Only files clock → RestoredAt p then_
+    pub table_restored : AllStandAsTold p.entries p.point files table → Only files clock → RestoredAt p then_
     table_restored all only = record {
       restored = restored_all (telling a) tells_it p (state a) r.begun read (state then_) written (λ f. table_stands p.entries p.point a.files files table is all f (count_at p.entries p.point f));
       only = only;

@@ -15,15 +15,15 @@ use Rattle.dms_audfile.specs.TrailEntries.{trail_entries}
 use Rattle.dms_audfile.specs.Ends as ends
 use Rattle.dms_audfile.specs.Ends.{EndsAt, Appends}
 use Rattle.dms_running.specs.Telling.{Telling}
-use Rattle.dms_running.specs.Sealing.{Seals, IsSealed, Settled}
+use Rattle.dms_running.specs.Sealing.{SealsSome, AreSealed, Settled}
 use Rattle.dms_running.specs.Running.{State}
 use Rattle.dms_running.specs.Plans.{Planned}
 use Rattle.dms_running.proofs.Planned.{planned_more, lays_none, lays_since, lays_more, lays_sealing, lays_sealed}
 use Rattle.dms_restore.specs.Logging.{telling_of, waits}
-use Rattle.dms_restore.specs.Laying.{AreParts, Starts, LaysEnd, SealsAll}
+use Rattle.dms_restore.specs.Laying.{AreSchemaParts, IsAtStart, LaysEnd, SealsSince}
 use Rattle.dms_restore.proofs.Trails.{waits_is, ends_waiting, seals_as, appended_as, sealed_as, settled_as}
 
-pub lay_none : (end : AuditEnd) (first : ℕ) (files : Files) (clock : Clock Left) → Starts end first files clock → LaysEnd end.total end first [] files clock files clock
+pub lay_none : (end : AuditEnd) (first : ℕ) (files : Files) (clock : Clock Left) → IsAtStart end first files clock → LaysEnd end.total end first [] files clock files clock
 lay_none end first files clock s =
     let none : waits end ≡ [] = waits_is end first [] files clock s.ends in
     record {
@@ -37,8 +37,8 @@ module _ (total : ℕ) (old new : AuditEnd) (first : ℕ) (done : List Entry) (s
   then_ = record { waiting = waits old; files = files; clock = clock }
 
   module _ (e : Entry) (later : Clock Left) (steps : (first : ℕ) (waiting : List Entry) → AreNoBegins waiting → EndsAt old first waiting files clock → Steps (ends.Seals old.total old.tag first (waiting ++ e ∷ [])) clock later) where
-    entry_steps : Steps (Seals (telling_of total first) (waits old ++ e ∷ [])) clock later
-    entry_steps = subst (λ n. Steps (Seals (telling_of n first) (waits old ++ e ∷ [])) clock later) same
+    entry_steps : Steps (SealsSome (telling_of total first) (waits old ++ e ∷ [])) clock later
+    entry_steps = subst (λ n. Steps (SealsSome (telling_of n first) (waits old ++ e ∷ [])) clock later) same
         (seals_as old.total old.tag first (waits old ++ e ∷ []) clock later (steps first (waits old) l.plain l.ends))
 
     -- what a stop leaves while one entry more is appended
@@ -64,14 +64,14 @@ module _ (total : ℕ) (old new : AuditEnd) (first : ℕ) (done : List Entry) (s
   module _ (later : Clock Left) (steps : (first : ℕ) (waiting : List Entry) → EndsAt old first waiting files clock → Steps (ends.Seals old.total old.tag first waiting) clock later) where
     pub lay_sealing : Runs began later (Planned (telling_of total first) done start)
     lay_sealing = lays_sealing (telling_of total first) done start began then_ l.lays later
-        (subst (λ n. Steps (Seals (telling_of n first) (waits old)) clock later) same (seals_as old.total old.tag first (waits old) clock later (steps first (waits old) l.ends)))
+        (subst (λ n. Steps (SealsSome (telling_of n first) (waits old)) clock later) same (seals_as old.total old.tag first (waits old) clock later (steps first (waits old) l.ends)))
 
     pub lay_sealed : (now : Files) → Only now later → ((g : ℕ) → new.file < g → now g ≡ files g)
         → ((first : ℕ) (waiting : List Entry) → EndsAt old first waiting files clock → trail_entries old.total first now ≡ trail_entries old.total first files ++ waiting)
         → ((first : ℕ) (waiting : List Entry) → EndsAt old first waiting files clock → EndsAt new first [] now later)
-        → SealsAll total new first done start now later
+        → SealsSince total new first done start now later
     lay_sealed now only behind sealed ends_ =
-        let all : IsSealed (telling_of total first) (waits old) files now = subst (λ n. IsSealed (telling_of n first) (waits old) files now) same (sealed_as old.total new first (waits old) files now behind (sealed first (waits old) l.ends)) in
+        let all : AreSealed (telling_of total first) (waits old) files now = subst (λ n. AreSealed (telling_of n first) (waits old) files now) same (sealed_as old.total new first (waits old) files now behind (sealed first (waits old) l.ends)) in
         let r = lays_sealed (telling_of total first) done start began then_ l.lays now all in
         record { sealed = r.0; above = r.1; starts = record { ends = ends_ first (waits old) l.ends; only = only } }
 
@@ -81,7 +81,7 @@ lay_more t done rest start a b runs = runs_weaken runs (λ x p. planned_more t d
 
 -- ---- parts
 
-pub parts_at : (all k : ℕ) (bs : List (List ℕ)) (i : ℕ) → AreParts all k bs → i < length bs → IsEntry (schema_part (k + i) all (get_or bs i [])) × (length (spelling (schema_part (k + i) all (get_or bs i []))) ≤ 4094)
+pub parts_at : (all k : ℕ) (bs : List (List ℕ)) (i : ℕ) → AreSchemaParts all k bs → i < length bs → IsEntry (schema_part (k + i) all (get_or bs i [])) × (length (spelling (schema_part (k + i) all (get_or bs i []))) ≤ 4094)
 parts_at all k [] i parts low = absurd (omega (arith, low))
 parts_at all k (b ∷ bs) zero parts low = let e : k + 0 ≡ k = omega arith in subst (λ j. IsEntry (schema_part j all b) × (length (spelling (schema_part j all b)) ≤ 4094)) (sym e) parts.0
 parts_at all k (b ∷ bs) (suc i) parts low =
@@ -120,7 +120,7 @@ some_parts t bs i start a b runs =
     subst (λ (l : List Entry). Runs a b (Planned t l start)) (take-append-drop i (schema_entries bs)) (lay_more t (take i (schema_entries bs)) (drop i (schema_entries bs)) start a b runs)
 
 -- a part of the program
-pub part_entry : (parts : List (Bor (List ℕ))) (i : ℕ) (d : Bor (List ℕ)) → AreParts (length parts) 1 (blocks_seen parts) → i < length parts
+pub part_entry : (parts : List (Bor (List ℕ))) (i : ℕ) (d : Bor (List ℕ)) → AreSchemaParts (length parts) 1 (blocks_seen parts) → i < length parts
     → IsEntry (schema_part (i + 1) (length parts) (get_or parts i d).now) × (length (spelling (schema_part (i + 1) (length parts) (get_or parts i d).now)) ≤ 4094)
 part_entry parts i d fits low =
     let e : 1 + i ≡ i + 1 = omega arith in

@@ -12,23 +12,23 @@ use Rattle.dms_audfile.specs.TrailEntries.{trail_entries}
 use Rattle.dms_audfile.specs.Ends as ends
 use Rattle.dms_audfile.specs.Ends.{EndsAt, Appends, SealsAll}
 use Rattle.dms_running.specs.Telling.{Telling, IsTelling}
-use Rattle.dms_running.specs.Sealing.{Seals, Appended, IsSealed, Settled}
+use Rattle.dms_running.specs.Sealing.{SealsSome, Appended, AreSealed, Settled}
 use Rattle.dms_running.specs.Running.{entries_now, points_now, next_now, content_now, durable_now, LeavesPoints, IsRunning, IsLogged}
 use Rattle.dms_running.proofs.Appending.{log_leaves, log_runs, log_next, log_points, log_content, quiet_leaves, quiet_runs, quiet_next, quiet_points, quiet_content, sync_leaves, sync_runs, sync_points, sync_next, sync_content, sync_surer, sync_durable, sync_entries}
 use Rattle.dms_running.proofs.Early.{early_leaves, early_runs, early_points, early_next, early_content, early_durable, later_all}
 use Rattle.dms_running.proofs.Stopped.{joined, blocks_same}
 use Rattle.dms_running.proofs.NoRoom.{full_runs, full_entries, full_points, full_content, full_durable}
-use Rattle.dms_restore.specs.Logging.{telling_of, waits, View, view, telling, state, Ends, LogRuns, points, durable, here, next, content, IsSilent, IsNewestSealed, SealsWaiting, LogsImage, LogsQuiet, LogsNothing, LogsWrite}
+use Rattle.dms_restore.specs.Logging.{telling_of, waits, LogView, view, telling, state, Ends, LogRuns, points, durable, here, next, content, PrintsNothing, IsNewestSealed, SealsWaiting, LogsImage, LogsQuiet, LogsNothing, LogsWrite}
 use Rattle.dms_restore.proofs.Trails.{is_telling, first_low, waits_is, ends_waiting, plain_waits, seals_as, appended_as, sealed_as, settled_as, ends_written}
 
 some_not_none : (x : Block) → Some x ≡ None → ⊥
 some_not_none x e = absurd cc
 
 -- what is read of it
-abbrev pub Reads : View → Type 0
+abbrev pub Reads : LogView → Type 0
 Reads v = (x : Left) × Now v.clock x × (x.files ≡ v.files)
 
-module _ (a : View) (r : LogRuns a) (read : Reads a) where
+module _ (a : LogView) (r : LogRuns a) (read : Reads a) where
   pub tells : IsTelling (telling a)
   tells = is_telling a.end.total a.first (first_low a.end a.first (waits a.end) a.files a.clock r.ends)
 
@@ -37,18 +37,18 @@ module _ (a : View) (r : LogRuns a) (read : Reads a) where
 
   -- the moments of an entry more
   pub entry_steps : (e : Entry) (later : Clock Left) → ((first : ℕ) (waiting : List Entry) → AreNoBegins waiting → EndsAt a.end first waiting a.files a.clock → Steps (ends.Seals a.end.total a.end.tag first (waiting ++ e ∷ [])) a.clock later)
-      → Steps (Seals (telling a) (waits a.end ++ e ∷ [])) a.clock later
+      → Steps (SealsSome (telling a) (waits a.end ++ e ∷ [])) a.clock later
   entry_steps e later steps = seals_as a.end.total a.end.tag a.first (waits a.end ++ e ∷ []) a.clock later (steps a.first (waits a.end) plain r.ends)
 
   -- nothing is printed meanwhile
   pub entry_silent : (e : Entry) (later : Clock Left) → ((first : ℕ) (waiting : List Entry) → AreNoBegins waiting → EndsAt a.end first waiting a.files a.clock → Steps (ends.Seals a.end.total a.end.tag first (waiting ++ e ∷ [])) a.clock later)
-      → Steps IsSilent a.clock later
+      → Steps PrintsNothing a.clock later
   entry_silent e later steps = steps_weaken (entry_steps e later steps) (λ x y now s. s.said)
 
-  pub sync_silent : (later : Clock Left) → ((first : ℕ) (waiting : List Entry) → EndsAt a.end first waiting a.files a.clock → Steps (ends.Seals a.end.total a.end.tag first waiting) a.clock later) → Steps IsSilent a.clock later
+  pub sync_silent : (later : Clock Left) → ((first : ℕ) (waiting : List Entry) → EndsAt a.end first waiting a.files a.clock → Steps (ends.Seals a.end.total a.end.tag first waiting) a.clock later) → Steps PrintsNothing a.clock later
   sync_silent later steps = steps_weaken (steps a.first (waits a.end) r.ends) (λ x y now s. s.said)
 
-  module _ (b : View) (kind : b.end.total ≡ a.end.total) (start : b.first ≡ a.first) where
+  module _ (b : LogView) (kind : b.end.total ≡ a.end.total) (start : b.first ≡ a.first) where
     pub same_telling : telling a ≡ telling b
     same_telling = λ i. telling_of (sym kind i) (sym start i)
 
@@ -68,7 +68,7 @@ module _ (a : View) (r : LogRuns a) (read : Reads a) where
       pub settles : Settled (telling a) b.files b.clock
       settles = subst (λ (t : Telling). Settled t b.files b.clock) (sym same_telling) (settled_as b.end b.first (waits b.end) b.files b.clock ends_then)
 
-      pub sealing : Steps (Seals (telling a) (waits a.end ++ e ∷ [])) a.clock b.clock
+      pub sealing : Steps (SealsSome (telling a) (waits a.end ++ e ∷ [])) a.clock b.clock
       sealing = entry_steps e b.clock steps
 
     -- what waits was sealed
@@ -82,7 +82,7 @@ module _ (a : View) (r : LogRuns a) (read : Reads a) where
       sealed_ends : Ends b
       sealed_ends = subst (λ n. EndsAt b.end n (waits b.end) b.files b.clock) (sym start) (ends_waiting b.end a.first [] b.files b.clock (end a.first (waits a.end) r.ends))
 
-      pub is_sealed : IsSealed (telling a) (waits a.end) a.files b.files
+      pub is_sealed : AreSealed (telling a) (waits a.end) a.files b.files
       is_sealed = sealed_as a.end.total b.end a.first (waits a.end) a.files b.files behind (all a.first (waits a.end) r.ends)
 
       pub sync_goes : LogRuns b
@@ -113,7 +113,7 @@ module _ (a : View) (r : LogRuns a) (read : Reads a) where
 
   -- ---- the audit has no room for one more entry
 
-  module _ (b : View) (kind : b.end.total ≡ a.end.total) (start : b.first ≡ a.first) (e : Entry)
+  module _ (b : LogView) (kind : b.end.total ≡ a.end.total) (start : b.first ≡ a.first) (e : Entry)
       (steps : (first : ℕ) (waiting : List Entry) → AreNoBegins waiting → EndsAt a.end first waiting a.files a.clock → Steps (ends.Seals a.end.total a.end.tag first (waiting ++ e ∷ [])) a.clock b.clock)
       (kept : (first : ℕ) (waiting : List Entry) → EndsAt a.end first waiting a.files a.clock → SealsAll b.end first waiting a.files b.files b.clock) (reads : Reads b) where
     all : SealsAll b.end a.first (waits a.end) a.files b.files b.clock
@@ -131,7 +131,7 @@ module _ (a : View) (r : LogRuns a) (read : Reads a) where
     is_all : trail_entries a.end.total a.first b.files ≡ trail_entries a.end.total a.first a.files ++ waits a.end
     is_all = subst (λ n. trail_entries n a.first b.files ≡ trail_entries n a.first a.files ++ waits a.end) kind all.sealed
 
-    full_steps : Steps (Seals (telling a) (waits a.end ++ e ∷ [])) a.clock b.clock
+    full_steps : Steps (SealsSome (telling a) (waits a.end ++ e ∷ [])) a.clock b.clock
     full_steps = entry_steps e b.clock steps
 
     pub full_seals : SealsWaiting a b
@@ -154,9 +154,9 @@ module _ (a : View) (r : LogRuns a) (read : Reads a) where
     pub image_leave : (later : Clock Left) → ((first : ℕ) (waiting : List Entry) → AreNoBegins waiting → EndsAt a.end first waiting a.files a.clock → Steps (ends.Seals a.end.total a.end.tag first (waiting ++ e ∷ [])) a.clock later)
         → LeavesPoints (telling a) (points a) (next a) (state a) later
     image_leave later steps = log_leaves (telling a) tells (state a) r.runs read f k before after told sized later
-        (subst (λ (d : Entry). Steps (Seals (telling a) (waits a.end ++ d ∷ [])) a.clock later) is (entry_steps e later steps))
+        (subst (λ (d : Entry). Steps (SealsSome (telling a) (waits a.end ++ d ∷ [])) a.clock later) is (entry_steps e later steps))
 
-    module _ (b : View) (kind : b.end.total ≡ a.end.total) (start : b.first ≡ a.first)
+    module _ (b : LogView) (kind : b.end.total ≡ a.end.total) (start : b.first ≡ a.first)
         (steps : (first : ℕ) (waiting : List Entry) → AreNoBegins waiting → EndsAt a.end first waiting a.files a.clock → Steps (ends.Seals a.end.total a.end.tag first (waiting ++ e ∷ [])) a.clock b.clock)
         (appends : (first : ℕ) (waiting : List Entry) → AreNoBegins waiting → EndsAt a.end first waiting a.files a.clock → Appends b.end first (waiting ++ e ∷ []) a.files b.files b.clock)
         (behind : (g : ℕ) → b.end.file < g → b.files g ≡ a.files g) where
@@ -168,7 +168,7 @@ module _ (a : View) (r : LogRuns a) (read : Reads a) where
         ends = ends_then b kind start e steps appends behind;
         runs = subst (λ (t : Telling). IsRunning t (state b)) (same_telling b kind start)
             (log_runs (telling a) tells (state a) r.runs read f k before after told sized (state b) image_more
-            (subst (λ (d : Entry). Steps (Seals (telling a) (waits a.end ++ d ∷ [])) a.clock b.clock) is (sealing b kind start e steps appends behind)) (settles b kind start e steps appends behind));
+            (subst (λ (d : Entry). Steps (SealsSome (telling a) (waits a.end ++ d ∷ [])) a.clock b.clock) is (sealing b kind start e steps appends behind)) (settles b kind start e steps appends behind));
       }
 
       pub image_logs : LogsImage a b f k before after
@@ -192,9 +192,9 @@ module _ (a : View) (r : LogRuns a) (read : Reads a) where
     pub quiet_leave : (later : Clock Left) → ((first : ℕ) (waiting : List Entry) → AreNoBegins waiting → EndsAt a.end first waiting a.files a.clock → Steps (ends.Seals a.end.total a.end.tag first (waiting ++ quiet_point n ∷ [])) a.clock later)
         → LeavesPoints (telling a) (points a ++ here a ∷ []) (next a + 1) (state a) later
     quiet_leave later steps = quiet_leaves (telling a) tells (state a) r.runs read roomy later
-        (subst (λ (d : Entry). Steps (Seals (telling a) (waits a.end ++ d ∷ [])) a.clock later) numbered (entry_steps (quiet_point n) later steps))
+        (subst (λ (d : Entry). Steps (SealsSome (telling a) (waits a.end ++ d ∷ [])) a.clock later) numbered (entry_steps (quiet_point n) later steps))
 
-    module _ (b : View) (kind : b.end.total ≡ a.end.total) (start : b.first ≡ a.first)
+    module _ (b : LogView) (kind : b.end.total ≡ a.end.total) (start : b.first ≡ a.first)
         (steps : (first : ℕ) (waiting : List Entry) → AreNoBegins waiting → EndsAt a.end first waiting a.files a.clock → Steps (ends.Seals a.end.total a.end.tag first (waiting ++ quiet_point n ∷ [])) a.clock b.clock)
         (appends : (first : ℕ) (waiting : List Entry) → AreNoBegins waiting → EndsAt a.end first waiting a.files a.clock → Appends b.end first (waiting ++ quiet_point n ∷ []) a.files b.files b.clock)
         (behind : (g : ℕ) → b.end.file < g → b.files g ≡ a.files g) where
@@ -206,7 +206,7 @@ module _ (a : View) (r : LogRuns a) (read : Reads a) where
         ends = ends_then b kind start (quiet_point n) steps appends behind;
         runs = subst (λ (t : Telling). IsRunning t (state b)) (same_telling b kind start)
             (quiet_runs (telling a) tells (state a) r.runs read roomy (state b) quiet_more
-            (subst (λ (d : Entry). Steps (Seals (telling a) (waits a.end ++ d ∷ [])) a.clock b.clock) numbered (sealing b kind start (quiet_point n) steps appends behind)) (settles b kind start (quiet_point n) steps appends behind));
+            (subst (λ (d : Entry). Steps (SealsSome (telling a) (waits a.end ++ d ∷ [])) a.clock b.clock) numbered (sealing b kind start (quiet_point n) steps appends behind)) (settles b kind start (quiet_point n) steps appends behind));
       }
 
       pub quiet_logs : LogsQuiet a b
@@ -225,7 +225,7 @@ module _ (a : View) (r : LogRuns a) (read : Reads a) where
     early_leave later steps = early_leaves (telling a) tells (state a) r.runs read f k structure logged later steps
 
     module _ (files : Files) (clock : Clock Left) (step : InFile f (Torn (1024 * k) 1024) a.files files) (steps : Steps (OnDisk f (Torn (1024 * k) 1024)) a.clock clock) where
-      abbrev pub then_ : View
+      abbrev pub then_ : LogView
       then_ = view a.end a.first files clock
 
       pub early_goes : LogRuns then_
@@ -244,5 +244,5 @@ module _ (a : View) (r : LogRuns a) (read : Reads a) where
       }
 
 -- a block whose newest Image is sealed has a sealed change
-pub newest_logged : (a : View) (f k : ℕ) (bytes : Block) → IsNewestSealed a f k bytes → IsLogged (telling a) a.files f k
+pub newest_logged : (a : LogView) (f k : ℕ) (bytes : Block) → IsNewestSealed a f k bytes → IsLogged (telling a) a.files f k
 newest_logged a f k bytes newest none = absurd (some_not_none bytes (sym newest.sealed ∙ none))

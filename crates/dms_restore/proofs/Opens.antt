@@ -7,12 +7,12 @@ use Rattle.dms_audfile.specs.TrailEntries.{trail_entries}
 use Rattle.dms_running.specs.Standing.{Stands, IsWhole}
 use Rattle.dms_running.specs.Begun.{ByAudit}
 use Rattle.dms_running.proofs.Planned.{still_runs}
-use Rattle.dms_restore.specs.Logging.{waits, View, telling, state, Ends, LogRuns}
-use Rattle.dms_restore.specs.Laying.{Starts}
+use Rattle.dms_restore.specs.Logging.{waits, LogView, telling, state, Ends, LogRuns}
+use Rattle.dms_restore.specs.Laying.{IsAtStart}
 use Rattle.dms_restore.specs.Begins.{BegunAt}
 use Rattle.dms_restore.proofs.Trails.{waits_is, ends_waiting}
 
-module _ (v : View) (s : Starts v.end v.first v.files v.clock) (w : IsWhole (telling v) v.files) where
+module _ (v : LogView) (s : IsAtStart v.end v.first v.files v.clock) (w : IsWhole (telling v) v.files) where
   nothing : waits v.end ≡ []
   nothing = waits_is v.end v.first [] v.files v.clock s.ends
 

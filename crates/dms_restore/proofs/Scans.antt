@@ -12,10 +12,10 @@ use Rattle.dms_audfile.specs.declared.fault.AudFault.TheVariants.{Disk, Memory}
 use Rattle.dms_audfile.specs.Scanning.{Placed, place_in, entry_in}
 use Rattle.dms_audfile.specs.Reads.{Refuses}
 use Rattle.dms_restore.specs.declared.tracing.TrailHistory.{TrailHistory}
-use Rattle.dms_restore.specs.Scanned.{ArePlaces, HasNoEntry, IsNoEntryOf}
+use Rattle.dms_restore.specs.Scanned.{AreEntryPlaces, HasNoEntry, IsNoEntryOf}
 use Rattle.dms_restore.specs.Tracing.{IsTraced}
 
-pub scan_places : EntriesAreThere → FoundAreEntries → (old files : Files) (all total tag first file count : ℕ) (places : List Place) → files ≡ old → all ≡ total → IsFound files first places → IsWrittenUpTo total tag first file count files → ArePlaces all first old places
+pub scan_places : EntriesAreThere → FoundAreEntries → (old files : Files) (all total tag first file count : ℕ) (places : List Place) → files ≡ old → all ≡ total → IsFound files first places → IsWrittenUpTo total tag first file count files → AreEntryPlaces all first old places
 scan_places stand are old files all total tag first file count places same kind found writes =
     let entries : map entry_in found.entries ≡ trail_entries total found.trail.first files = are files found.entries found.trail total tag file count (subst (λ k. IsWrittenUpTo total tag k file count files) (sym found.first_is) writes) in
     record {
@@ -26,7 +26,7 @@ scan_places stand are old files all total tag first file count places same kind 
     }
 
 -- the entries at the places that were found are those of the trail
-pub scan_traced : (old files : Files) (total first : ℕ) (places lent : List Place) (h : TrailHistory) → lent ≡ places → files ≡ old → ArePlaces total first old places
+pub scan_traced : (old files : Files) (total first : ℕ) (places lent : List Place) (h : TrailHistory) → lent ≡ places → files ≡ old → AreEntryPlaces total first old places
     → ((ps : List Placed) → lent ≡ map place_in ps → AreThere files ps → IsTraced files (map entry_in ps) h) → IsTraced old (trail_entries total first old) h
 scan_traced old files total first places lent h same still a read =
     subst (λ l. IsTraced old l h) a.entries_are
@@ -54,7 +54,7 @@ none_missing files (x ∷ ps) [] after p there is none =
     ]
 none_missing files (x ∷ ps) (q ∷ before) after p there is none = none_missing files ps before after p there.1 (cc is) none
 
-pub scan_refused : (tells : Bool) (old files : Files) (total first : ℕ) (places lent : List Place) (e : AudFault) → IsTrue tells → lent ≡ places → files ≡ old → ArePlaces total first old places
+pub scan_refused : (tells : Bool) (old files : Files) (total first : ℕ) (places lent : List Place) (e : AudFault) → IsTrue tells → lent ≡ places → files ≡ old → AreEntryPlaces total first old places
     → (e ≡ Disk) ⊎ ((e ≡ Memory) ⊎ IsNoEntryOf tells files lent e) → Refuses old e
 scan_refused tells old files total first places lent e t same still a is = elim is [
   | inl disk ↦ plain_refusal old e (inl disk)

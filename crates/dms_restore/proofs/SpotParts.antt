@@ -12,7 +12,7 @@ use Rattle.dms_restore.specs.declared.live.Spot.{Spot}
 use Rattle.dms_restore.specs.declared.live.ImageAt.{ImageAt}
 use Rattle.dms_restore.specs.declared.live.LiveEntry.{LiveEntry}
 use Rattle.dms_restore.specs.declared.live.LiveEntry.TheVariants.{Changed}
-use Rattle.dms_restore.specs.Named.{block_cmp, Spots, spot_of, IsSpotOf, IsSpotAmong, IsNoBlock, HasNoBlock}
+use Rattle.dms_restore.specs.Named.{block_cmp, Spots, spot_of, IsImageSpot, IsSpotAmong, IsNoBlock, HasNoBlock}
 use Rattle.dms_restore.proofs.Spots.{picked, no_entry}
 
 pub none_not_some : {A : Type 0} (x : A) → None ≡ Some x → ⊥
@@ -23,7 +23,7 @@ abbrev pub IsOfImage : ImageAt → Spot → Type 0
 IsOfImage i s = (s.audit ≡ i.audit) × ((s.at ≡ i.at) ⊎ (s.at ≡ i.at - 1024))
 
 pub spot_set : (f b : ℕ) (i : ImageAt) (now was : Option (Option Spot)) (o : Option Spot) (s : Spot) → now ≡ cond (is_eq (block_cmp (i.file, i.block) (f, b))) (Some o) was → ((t : Spot) → o ≡ Some t → IsOfImage i t)
-    → now ≡ Some (Some s) → (was ≡ Some (Some s)) ⊎ IsSpotOf (Changed i) f b s
+    → now ≡ Some (Some s) → (was ≡ Some (Some s)) ⊎ IsImageSpot (Changed i) f b s
 spot_set f b i now was o s step at is = elim (place_cases f b i.file i.block) [
   | inl here ↦
       let same : Some o ≡ Some (Some s) = ap (λ t. cond t (Some o) was) (sym here.2) ∙ sym (picked f b i.file i.block now (Some o) was step) ∙ is in
@@ -52,7 +52,7 @@ spot_old : (es : List LiveEntry) (e : LiveEntry) (f b : ℕ) (s : Spot) → IsSp
 spot_old [] e f b s among = absurd among
 spot_old (x ∷ es) e f b s among = elim among [ inl here ↦ inl here | inr more ↦ inr (spot_old es e f b s more) ]
 
-spot_new : (es : List LiveEntry) (e : LiveEntry) (f b : ℕ) (s : Spot) → IsSpotOf e f b s → IsSpotAmong (es ++ e ∷ []) f b s
+spot_new : (es : List LiveEntry) (e : LiveEntry) (f b : ℕ) (s : Spot) → IsImageSpot e f b s → IsSpotAmong (es ++ e ∷ []) f b s
 spot_new [] e f b s is = inl is
 spot_new (x ∷ es) e f b s is = inr (spot_new es e f b s is)
 
@@ -60,7 +60,7 @@ spot_new (x ∷ es) e f b s is = inr (spot_new es e f b s is)
 pub spot_before : (es : List LiveEntry) (i : ℕ) (f b : ℕ) (s : Spot) → i < length es → IsSpotAmong (take i es) f b s → IsSpotAmong (take (i + 1) es) f b s
 spot_before es i f b s low among = subst (λ (l : List LiveEntry). IsSpotAmong l f b s) (sym (take_more es i no_entry low)) (spot_old (take i es) (get_or es i no_entry) f b s among)
 
-pub spot_here : (es : List LiveEntry) (i : ℕ) (f b : ℕ) (s : Spot) → i < length es → IsSpotOf (get_or es i no_entry) f b s → IsSpotAmong (take (i + 1) es) f b s
+pub spot_here : (es : List LiveEntry) (i : ℕ) (f b : ℕ) (s : Spot) → i < length es → IsImageSpot (get_or es i no_entry) f b s → IsSpotAmong (take (i + 1) es) f b s
 spot_here es i f b s low is = subst (λ (l : List LiveEntry). IsSpotAmong l f b s) (sym (take_more es i no_entry low)) (spot_new (take i es) (get_or es i no_entry) f b s is)
 
 pub spot_all : (es : List LiveEntry) (i : ℕ) (f b : ℕ) (s : Spot) → length es ≤ i → IsSpotAmong (take i es) f b s → IsSpotAmong es f b s

@@ -15,7 +15,7 @@ use Rattle.dms_restore.specs.declared.live.Spot.{Spot}
 use Rattle.dms_restore.specs.declared.told.Told.{Told}
 use Rattle.dms_restore.specs.LiveEntries.{events_at, before_in, after_in, AllHaveWholeBlocks}
 use Rattle.dms_restore.specs.Named.{Spots, spot_of, bytes_of, named, AllFromSpots}
-use Rattle.dms_restore.specs.Table.{bytes_at, IsBlock, AreBlocks, EachTold, IsAmong, IsTable}
+use Rattle.dms_restore.specs.Table.{bytes_at, IsBlock, AreBlocks, EachIsTold, IsAmong, IsTable}
 
 true_not_false : true ≡ false → ⊥
 true_not_false e = absurd cc
@@ -177,7 +177,7 @@ module _ (files : Files) (spots : Spots) (front behind : List LiveEntry) (live :
     | inr first ↦ whole_first files f b behind x behind_whole first
   ]
 
-  each : (ts : List Told) → AllFromSpots spots ts → EachTold live m files ts
+  each : (ts : List Told) → AllFromSpots spots ts → EachIsTold live m files ts
   each [] from = tt
   each (t ∷ ts) from =
       let told : told_block live m t.file t.block ≡ Some (bytes_at files t) = told_named t.file t.block ∙ ap (λ o. undone_to (option_map (bytes_of files) o)) from.0 in

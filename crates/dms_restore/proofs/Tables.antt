@@ -11,17 +11,17 @@ use Rattle.dms_history.proofs.Picks.{some_is}
 use Rattle.dms_running.specs.Restoring.{IsKept, Rewritten, Rewrites, StandsAsTold, RestoredTo}
 use Rattle.dms_running.proofs.Rewriting.{rewritten_torn, steps_torn, told_free, stands_written}
 use Rattle.dms_restore.specs.declared.told.Told.{Told}
-use Rattle.dms_restore.specs.Table.{bytes_at, AreBlocks, EachTold, IsAmong, IsTable, AllStand}
+use Rattle.dms_restore.specs.Table.{bytes_at, AreBlocks, EachIsTold, IsAmong, IsTable, AllStandAsTold}
 
 -- files that are no structure files stay, and so do the places
-pub each_later : (live : List Event) (m : ℕ) (keeps : ℕ → ℕ → Type 0) (x y : Files) (ts : List Told) → AreBlocks ts → Rewritten keeps x y → EachTold live m x ts → EachTold live m y ts
+pub each_later : (live : List Event) (m : ℕ) (keeps : ℕ → ℕ → Type 0) (x y : Files) (ts : List Told) → AreBlocks ts → Rewritten keeps x y → EachIsTold live m x ts → EachIsTold live m y ts
 each_later live m keeps x y [] blocks step each = tt
 each_later live m keeps x y (t ∷ ts) blocks step each =
     let same : bytes_at y t ≡ bytes_at x t = ap (λ (l : List ℕ). range t.at 1024 l) (step.others t.audit blocks.0.2) in
     ((each.0.0 ∙ ap (λ (b : Block). Some b) (sym same), ap length same ∙ each.0.1), each_later live m keeps x y ts blocks.1 step each.1)
 
 -- one of them
-pub each_at : (live : List Event) (m : ℕ) (files : Files) (ts : List Told) (i : ℕ) (d : Told) → EachTold live m files ts → i < length ts
+pub each_at : (live : List Event) (m : ℕ) (files : Files) (ts : List Told) (i : ℕ) (d : Told) → EachIsTold live m files ts → i < length ts
     → (told_block live m (get_or ts i d).file (get_or ts i d).block ≡ Some (bytes_at files (get_or ts i d))) × (length (bytes_at files (get_or ts i d)) ≡ 1024)
 each_at live m files [] i d each low = absurd (omega (arith, low))
 each_at live m files (t ∷ ts) zero d each low = each.0
@@ -45,25 +45,25 @@ stands_still live m f b g c x y step one was block told len = elim (cases_eq g f
   ]
 ]
 
-stand_still : (live : List Event) (m f b : ℕ) (x y : Files) (ts : List Told) → InFile f (Torn (1024 * b) 1024) x y → StandsAsTold live m y f b → AllStand live m x ts → AllStand live m y ts
+stand_still : (live : List Event) (m f b : ℕ) (x y : Files) (ts : List Told) → InFile f (Torn (1024 * b) 1024) x y → StandsAsTold live m y f b → AllStandAsTold live m x ts → AllStandAsTold live m y ts
 stand_still live m f b x y [] step one all = tt
 stand_still live m f b x y (t ∷ ts) step one all = (stands_still live m f b t.file t.block x y step one all.0, stand_still live m f b x y ts step one all.1)
 
-stand_push : (live : List Event) (m : ℕ) (files : Files) (ts : List Told) (t : Told) → AllStand live m files ts → StandsAsTold live m files t.file t.block → AllStand live m files (ts ++ t ∷ [])
+stand_push : (live : List Event) (m : ℕ) (files : Files) (ts : List Told) (t : Told) → AllStandAsTold live m files ts → StandsAsTold live m files t.file t.block → AllStandAsTold live m files (ts ++ t ∷ [])
 stand_push live m files [] t all one = (one, tt)
 stand_push live m files (s ∷ ts) t all one = (all.0, stand_push live m files ts t all.1 one)
 
 -- one more stands
 pub stand_more : (live : List Event) (m : ℕ) (x y : Files) (ts : List Told) (i : ℕ) (d : Told) → i < length ts → InFile (get_or ts i d).file (Torn (1024 * (get_or ts i d).block) 1024) x y
-    → StandsAsTold live m y (get_or ts i d).file (get_or ts i d).block → AllStand live m x (take i ts) → AllStand live m y (take (i + 1) ts)
+    → StandsAsTold live m y (get_or ts i d).file (get_or ts i d).block → AllStandAsTold live m x (take i ts) → AllStandAsTold live m y (take (i + 1) ts)
 stand_more live m x y ts i d low step one all =
     let t = get_or ts i d in
-    subst (λ (l : List Told). AllStand live m y l) (sym (take_more ts i d low)) (stand_push live m y (take i ts) t (stand_still live m t.file t.block x y (take i ts) step one all) one)
+    subst (λ (l : List Told). AllStandAsTold live m y l) (sym (take_more ts i d low)) (stand_push live m y (take i ts) t (stand_still live m t.file t.block x y (take i ts) step one all) one)
 
-pub stand_all : (live : List Event) (m : ℕ) (files : Files) (ts : List Told) (i : ℕ) → length ts ≤ i → AllStand live m files (take i ts) → AllStand live m files ts
-stand_all live m files ts i le all = subst (λ (l : List Told). AllStand live m files l) (take_all i ts le) all
+pub stand_all : (live : List Event) (m : ℕ) (files : Files) (ts : List Told) (i : ℕ) → length ts ≤ i → AllStandAsTold live m files (take i ts) → AllStandAsTold live m files ts
+stand_all live m files ts i le all = subst (λ (l : List Told). AllStandAsTold live m files l) (take_all i ts le) all
 
-among_stands : (live : List Event) (m f b : ℕ) (files : Files) (ts : List Told) → AllStand live m files ts → IsAmong f b ts → StandsAsTold live m files f b
+among_stands : (live : List Event) (m f b : ℕ) (files : Files) (ts : List Told) → AllStandAsTold live m files ts → IsAmong f b ts → StandsAsTold live m files f b
 among_stands live m f b files [] all among = absurd among
 among_stands live m f b files (t ∷ ts) all among = elim among [
   | inl here ↦ subst (λ j. StandsAsTold live m files j b) here.0 (subst (λ j. StandsAsTold live m files t.file j) here.1 all.0)
@@ -71,7 +71,7 @@ among_stands live m f b files (t ∷ ts) all among = elim among [
 ]
 
 -- where the blocks of the table of a point stand, each block stands that the audit tells
-pub table_stands : (live : List Event) (m : ℕ) (old files : Files) (ts : List Told) → IsTable live m old ts → AllStand live m files ts → (f k : ℕ) → RestoredTo live m files f k
+pub table_stands : (live : List Event) (m : ℕ) (old files : Files) (ts : List Told) → IsTable live m old ts → AllStandAsTold live m files ts → (f k : ℕ) → RestoredTo live m files f k
 table_stands live m old files ts table all f k b low x told len = among_stands live m f b files ts all (table.all f b x told) x told len
 
 -- ---- one block is written

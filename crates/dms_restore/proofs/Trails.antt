@@ -23,7 +23,7 @@ use Rattle.dms_audfile.proofs.BlockRead.{block_is_read}
 use Rattle.dms_audfile.proofs.Growing.{writes_same}
 use Rattle.dms_audfile.proofs.Ended.{entries_settled}
 use Rattle.dms_running.specs.Telling.{IsTelling}
-use Rattle.dms_running.specs.Sealing.{Seals, Appended, IsSealed, Settled}
+use Rattle.dms_running.specs.Sealing.{SealsSome, Appended, AreSealed, Settled}
 use Rattle.dms_running.specs.Running.{AllPlain}
 use Rattle.dms_restore.specs.Logging.{telling_of, waits}
 
@@ -77,7 +77,7 @@ plain_waits w plain kind = elim kind [
 
 -- ---- the moments and answers of the audit
 
-pub seals_as : (total tag first : ℕ) (w : List Entry) (old new : Clock Left) → Steps (ends.Seals total tag first w) old new → Steps (Seals (telling_of total first) w) old new
+pub seals_as : (total tag first : ℕ) (w : List Entry) (old new : Clock Left) → Steps (ends.Seals total tag first w) old new → Steps (SealsSome (telling_of total first) w) old new
 seals_as total tag first w old new steps = steps_weaken steps (λ y x now s. record { some = s.some; sealed = s.entries; above = s.above; said = s.said })
 
 pub appended_as : (total : ℕ) (new : AuditEnd) (first : ℕ) (es : List Entry) (old later : Files) (clock : Clock Left) → new.total ≡ total → ((g : ℕ) → new.file < g → later g ≡ old g) → Appends new first es old later clock
@@ -89,7 +89,7 @@ appended_as total new first es old later clock same behind a = record {
   above = λ g up. behind g (omega (arith, up, new.high));
 }
 
-pub sealed_as : (total : ℕ) (new : AuditEnd) (first : ℕ) (es : List Entry) (old later : Files) → ((g : ℕ) → new.file < g → later g ≡ old g) → trail_entries total first later ≡ trail_entries total first old ++ es → IsSealed (telling_of total first) es old later
+pub sealed_as : (total : ℕ) (new : AuditEnd) (first : ℕ) (es : List Entry) (old later : Files) → ((g : ℕ) → new.file < g → later g ≡ old g) → trail_entries total first later ≡ trail_entries total first old ++ es → AreSealed (telling_of total first) es old later
 sealed_as total new first es old later behind is = record { sealed = is; above = λ g up. behind g (omega (arith, up, new.high)) }
 
 pub settled_as : (end : AuditEnd) (first : ℕ) (w : List Entry) (files : Files) (clock : Clock Left) → EndsAt end first w files clock → Settled (telling_of end.total first) files clock

@@ -16,16 +16,16 @@ use Rattle.dms_running.specs.Plans.{Lays}
 use Rattle.dms_restore.specs.Logging.{telling_of, waits}
 
 -- parts from number k on, of so many, are in the grammar, and each fits a block
-abbrev pub AreParts : ℕ → ℕ → List (List ℕ) → Type 0
-AreParts all k [] = Unit {0}
-AreParts all k (bytes ∷ rest) = (IsEntry (schema_part k all bytes) × (length (spelling (schema_part k all bytes)) ≤ 4094)) × AreParts all (k + 1) rest
+abbrev pub AreSchemaParts : ℕ → ℕ → List (List ℕ) → Type 0
+AreSchemaParts all k [] = Unit {0}
+AreSchemaParts all k (bytes ∷ rest) = (IsEntry (schema_part k all bytes) × (length (spelling (schema_part k all bytes)) ≤ 4094)) × AreSchemaParts all (k + 1) rest
 
 -- the whole Schema in these parts, and directly behind it a Control with these counts
 abbrev pub schema_control : List (Bor (List ℕ)) → ℕ → ℕ → List ℕ → List Entry
 schema_control parts point next counts = schema_entries (blocks_seen parts) ++ control_point point next (counts_at (length counts / 8) counts) ∷ []
 
 -- The trail ends where it is said to, no entry waits, and a stop now leaves what is read.
-pub record Starts (end : AuditEnd) (first : ℕ) (files : Files) (clock : Clock Left) : Type 0 where
+pub record IsAtStart (end : AuditEnd) (first : ℕ) (files : Files) (clock : Clock Left) : Type 0 where
   pub ends : EndsAt end first [] files clock
   pub only : Only files clock
 
@@ -36,7 +36,7 @@ pub record LaysEnd (total : ℕ) (end : AuditEnd) (first : ℕ) (done : List Ent
   pub lays : Lays (telling_of total first) done start began (record { waiting = waits end; files = files; clock = clock })
 
 -- These entries were sealed since a start, and it is one again.
-pub record SealsAll (total : ℕ) (end : AuditEnd) (first : ℕ) (entries : List Entry) (start files : Files) (clock : Clock Left) : Type 0 where
+pub record SealsSince (total : ℕ) (end : AuditEnd) (first : ℕ) (entries : List Entry) (start files : Files) (clock : Clock Left) : Type 0 where
   pub sealed : trail_entries total first files ≡ trail_entries total first start ++ entries
   pub above : (g : ℕ) → 20000 < g → files g ≡ start g
-  pub starts : Starts end first files clock
+  pub starts : IsAtStart end first files clock

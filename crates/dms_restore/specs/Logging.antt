@@ -32,70 +32,70 @@ unfoldable pub waits : AuditEnd → List Entry
 waits end = entries_of (block_entries (block_with (unsealed end)))
 
 -- the end of a trail, its first file, what a read of the site gives, and what a stop leaves
-pub record View : Type 1 where
+pub record LogView : Type 1 where
   pub end : AuditEnd
   pub first : ℕ
   pub files : Files
   pub clock : Clock Left
 
-abbrev pub view : AuditEnd → ℕ → Files → Clock Left → View
+abbrev pub view : AuditEnd → ℕ → Files → Clock Left → LogView
 view end first files clock = record { end = end; first = first; files = files; clock = clock }
 
-abbrev pub telling : View → Telling
+abbrev pub telling : LogView → Telling
 telling v = telling_of v.end.total v.first
 
-abbrev pub state : View → State
+abbrev pub state : LogView → State
 state v = record { waiting = waits v.end; files = v.files; clock = v.clock }
 
 -- The trail ends where it is said to, and nothing of its files is pending.
-abbrev pub Ends : View → Type 0
+abbrev pub Ends : LogView → Type 0
 Ends v = EndsAt v.end v.first (waits v.end) v.files v.clock
 
 -- So it is, and the database runs.
-pub record LogRuns (v : View) : Type 0 where
+pub record LogRuns (v : LogView) : Type 0 where
   pub ends : Ends v
   pub runs : IsRunning (telling v) (state v)
 
 -- the points so far, how many of them each stop leaves, the one that a quiet point would make, the next number, the content
-abbrev pub points : View → List LivePoint
+abbrev pub points : LogView → List LivePoint
 points v = points_now (telling v) (state v)
 
-abbrev pub durable : View → ℕ
+abbrev pub durable : LogView → ℕ
 durable v = durable_now (telling v) (state v)
 
-abbrev pub here : View → LivePoint
+abbrev pub here : LogView → LivePoint
 here v = here_now (telling v) (state v)
 
-abbrev pub next : View → ℕ
+abbrev pub next : LogView → ℕ
 next v = next_now (telling v) (state v)
 
-abbrev pub content : View → Content
+abbrev pub content : LogView → Content
 content v = content_now (telling v) (state v)
 
 -- The newest Image of block b of file f since the last Control is sealed, and it has these bytes: so the sealed audit tells of the
 -- block, and no Image of it waits.
-pub record IsNewestSealed (v : View) (f b : ℕ) (bytes : Block) : Type 0 where
+pub record IsNewestSealed (v : LogView) (f b : ℕ) (bytes : Block) : Type 0 where
   pub sealed : last_after f b (after_last is_control (live_of (trail_entries v.end.total v.first v.files))) ≡ Some bytes
   pub none_waits : last_after f b (events (waits v.end)) ≡ None
 
 -- block b of file f has a change since the last Control, sealed or waiting
-abbrev pub Changed : View → ℕ → ℕ → Type 0
-Changed v f b = IsChanged (telling v) (state v) f b
+abbrev pub IsChangedBlock : LogView → ℕ → ℕ → Type 0
+IsChangedBlock v f b = IsChanged (telling v) (state v) f b
 
 -- A stop from then to now left the first so many of these points, at least those that were durable then, or what it could leave then.
-abbrev pub Leaves : View → View → List LivePoint → ℕ → Type 0
-Leaves a b points next = LeavesPoints (telling a) points next (state a) b.clock
+abbrev pub LogLeaves : LogView → LogView → List LivePoint → ℕ → Type 0
+LogLeaves a b points next = LeavesPoints (telling a) points next (state a) b.clock
 
 -- nothing is printed
-abbrev pub IsSilent : Left → Left → Type 0
-IsSilent old new = new.said ≡ old.said
+abbrev pub PrintsNothing : Left → Left → Type 0
+PrintsNothing old new = new.said ≡ old.said
 
 -- all entries, those that wait among them
-abbrev pub entries : View → List Entry
+abbrev pub entries : LogView → List Entry
 entries v = entries_now (telling v) (state v)
 
 -- An Image was logged: it stands behind the old entries, the content has the block, and no structure file changed.
-pub record LogsImage (a b : View) (f k : ℕ) (before : Option Block) (after : Block) : Type 0 where
+pub record LogsImage (a b : LogView) (f k : ℕ) (before : Option Block) (after : Block) : Type 0 where
   pub entries_are : entries b ≡ entries a ++ image f k before after ∷ []
   pub points_same : points b ≡ points a
   pub next_same : next b ≡ next a
@@ -103,7 +103,7 @@ pub record LogsImage (a b : View) (f k : ℕ) (before : Option Block) (after : B
   pub blocks_same : stored_of b.files ≡ stored_of a.files
 
 -- A quiet point was made, with the content of now, and no structure file changed.
-pub record LogsQuiet (a b : View) : Type 0 where
+pub record LogsQuiet (a b : LogView) : Type 0 where
   pub entries_are : entries b ≡ entries a ++ quiet_point (next a) ∷ []
   pub points_are : points b ≡ points a ++ here a ∷ []
   pub next_is : next b ≡ next a + 1
@@ -111,7 +111,7 @@ pub record LogsQuiet (a b : View) : Type 0 where
   pub blocks_same : stored_of b.files ≡ stored_of a.files
 
 -- Entries, points, next number and content are the same, no fewer points are durable, and no structure file changed.
-pub record LogsNothing (a b : View) : Type 0 where
+pub record LogsNothing (a b : LogView) : Type 0 where
   pub entries_same : entries b ≡ entries a
   pub points_same : points b ≡ points a
   pub next_same : next b ≡ next a
@@ -121,7 +121,7 @@ pub record LogsNothing (a b : View) : Type 0 where
 
 -- The audit has no room: all that waited is sealed, and nothing more was logged. The database runs with the same entries, points, next
 -- number and content, and all points are durable.
-pub record SealsWaiting (a b : View) : Type 0 where
+pub record SealsWaiting (a b : LogView) : Type 0 where
   pub runs : LogRuns b
   pub nothing : waits b.end ≡ []
   pub entries_same : entries b ≡ entries a
@@ -131,7 +131,7 @@ pub record SealsWaiting (a b : View) : Type 0 where
   pub all_durable : durable b ≡ length (points a)
 
 -- Entries, points, next number and content are the same, and as many points are durable.
-pub record LogsWrite (a b : View) : Type 0 where
+pub record LogsWrite (a b : LogView) : Type 0 where
   pub entries_same : entries b ≡ entries a
   pub points_same : points b ≡ points a
   pub next_same : next b ≡ next a

@@ -38,15 +38,15 @@ AllFromSpots spots [] = Unit {0}
 AllFromSpots spots (t ∷ ts) = (spot_of spots t.file t.block ≡ Some (Some (record { audit = t.audit; at = t.at }))) × AllFromSpots spots ts
 
 -- the entry is an Image of the block, and the block after or before the change stands there
-abbrev pub IsSpotOf : LiveEntry → ℕ → ℕ → Spot → Type 0
-IsSpotOf (Changed i) f b s = (i.file ≡ f) × (i.block ≡ b) × (s.audit ≡ i.audit) × ((s.at ≡ i.at) ⊎ (s.at ≡ i.at - 1024))
-IsSpotOf (Quiet n) f b s = ⊥
-IsSpotOf (Controlled c) f b s = ⊥
+abbrev pub IsImageSpot : LiveEntry → ℕ → ℕ → Spot → Type 0
+IsImageSpot (Changed i) f b s = (i.file ≡ f) × (i.block ≡ b) × (s.audit ≡ i.audit) × ((s.at ≡ i.at) ⊎ (s.at ≡ i.at - 1024))
+IsImageSpot (Quiet n) f b s = ⊥
+IsImageSpot (Controlled c) f b s = ⊥
 
 -- so is one of them
 abbrev pub IsSpotAmong : List LiveEntry → ℕ → ℕ → Spot → Type 0
 IsSpotAmong [] f b s = ⊥
-IsSpotAmong (e ∷ es) f b s = IsSpotOf e f b s ⊎ IsSpotAmong es f b s
+IsSpotAmong (e ∷ es) f b s = IsImageSpot e f b s ⊎ IsSpotAmong es f b s
 
 -- the block isn't one of a structure file, or its bytes can't stand there
 abbrev pub IsNoBlock : ℕ → ℕ → Spot → Type 0

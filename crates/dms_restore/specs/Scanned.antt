@@ -10,7 +10,7 @@ use Rattle.dms_audfile.specs.declared.fault.AudFault.TheVariants.{Damaged}
 
 -- The places are those of all entries of the trail that begins with file `first` and has so many blocks a file, in order, and each
 -- entry stands at its place.
-pub record ArePlaces (total first : ℕ) (files : Files) (places : List Place) : Type 0 where
+pub record AreEntryPlaces (total first : ℕ) (files : Files) (places : List Place) : Type 0 where
   pub placed : List Placed
   pub places_are : places ≡ map place_in placed
   pub entries_are : map entry_in placed ≡ trail_entries total first files

@@ -19,9 +19,9 @@ AreBlocks [] = Unit {0}
 AreBlocks (t ∷ ts) = IsBlock t × AreBlocks ts
 
 -- The audit tells of each of them at a point what stands at its place, which is a whole block.
-abbrev pub EachTold : List Event → ℕ → Files → List Told → Type 0
-EachTold live m files [] = Unit {0}
-EachTold live m files (t ∷ ts) = ((told_block live m t.file t.block ≡ Some (bytes_at files t)) × (length (bytes_at files t) ≡ 1024)) × EachTold live m files ts
+abbrev pub EachIsTold : List Event → ℕ → Files → List Told → Type 0
+EachIsTold live m files [] = Unit {0}
+EachIsTold live m files (t ∷ ts) = ((told_block live m t.file t.block ≡ Some (bytes_at files t)) × (length (bytes_at files t) ≡ 1024)) × EachIsTold live m files ts
 
 -- the block is one of them
 abbrev pub IsAmong : ℕ → ℕ → List Told → Type 0
@@ -30,10 +30,10 @@ IsAmong f b (t ∷ ts) = ((t.file ≡ f) × (t.block ≡ b)) ⊎ IsAmong f b ts
 
 -- The table of a point: what the audit tells of each block, and of no other.
 pub record IsTable (live : List Event) (m : ℕ) (files : Files) (table : List Told) : Type 0 where
-  pub each : EachTold live m files table
+  pub each : EachIsTold live m files table
   pub all : (f b : ℕ) (x : Block) → told_block live m f b ≡ Some x → IsAmong f b table
 
 -- each of these blocks stands as the audit tells it
-abbrev pub AllStand : List Event → ℕ → Files → List Told → Type 0
-AllStand live m files [] = Unit {0}
-AllStand live m files (t ∷ ts) = StandsAsTold live m files t.file t.block × AllStand live m files ts
+abbrev pub AllStandAsTold : List Event → ℕ → Files → List Told → Type 0
+AllStandAsTold live m files [] = Unit {0}
+AllStandAsTold live m files (t ∷ ts) = StandsAsTold live m files t.file t.block × AllStandAsTold live m files ts

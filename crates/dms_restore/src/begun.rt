@@ -8,8 +8,8 @@ ghost use Rattle.dms_audrec.specs.Seen.{how_seen};
 ghost use Rattle.dms_audfile.specs.Counting.{CountedAt};
 ghost use Rattle.dms_audfile.specs.Ends.{is_past};
 ghost use Rattle.dms_running.specs.Begun.{ByAudit};
-ghost use Rattle.dms_restore.specs.Logging.{view, LogRuns, points, next, SealsWaiting, Leaves};
-ghost use Rattle.dms_restore.specs.Begins.{LastIs, begun_to, BegunAt, Begins, RestoredAt, Restores, LeavesEach};
+ghost use Rattle.dms_restore.specs.Logging.{view, LogRuns, points, next, SealsWaiting, LogLeaves};
+ghost use Rattle.dms_restore.specs.Begins.{LastIs, begun_to, BegunAt, BeginsRestore, RestoredAt, Restores, LeavesEach};
 ghost use Rattle.dms_restore.specs.Table.{AreBlocks, IsTable};
 
 use crate::restoring::write_all;
@@ -35,9 +35,9 @@ impl<S: Site> Log<S> {
         requires by_audit { ByAudit (how_of (how_seen how)) }
         requires last { IsTrue S.tells → LastIs (view self.end self.first (S.files self.site) (S.clock self.site)) point }
         ensures begun { IfOk result (λ b. IsTrue S.tells → BegunAt (begun_to (view self.end self.first (S.files self.site) (S.clock self.site)) point (how_of (how_seen how.entry))) (view b.log.end b.log.first (S.files b.log.site) (S.clock b.log.site))) }
-        ensures keeps { IfOk result (λ b. IsTrue S.tells → Begins (view self.end self.first (S.files self.site) (S.clock self.site)) (view b.log.end b.log.first (S.files b.log.site) (S.clock b.log.site)) point (how_of (how_seen how.entry))) }
-        ensures moments { IfOk result (λ b. IsTrue S.tells → let a = view self.end self.first (S.files self.site) (S.clock self.site) in Leaves a (view b.log.end b.log.first (S.files b.log.site) (S.clock b.log.site)) (points a) (next a)) }
-        ensures stopped { IfErr result (λ e. IsTrue S.tells → let a = view self.end self.first (S.files self.site) (S.clock self.site) in Leaves a (view e.1.end e.1.first (S.files e.1.site) (S.clock e.1.site)) (points a) (next a)) }
+        ensures keeps { IfOk result (λ b. IsTrue S.tells → BeginsRestore (view self.end self.first (S.files self.site) (S.clock self.site)) (view b.log.end b.log.first (S.files b.log.site) (S.clock b.log.site)) point (how_of (how_seen how.entry))) }
+        ensures moments { IfOk result (λ b. IsTrue S.tells → let a = view self.end self.first (S.files self.site) (S.clock self.site) in LogLeaves a (view b.log.end b.log.first (S.files b.log.site) (S.clock b.log.site)) (points a) (next a)) }
+        ensures stopped { IfErr result (λ e. IsTrue S.tells → let a = view self.end self.first (S.files self.site) (S.clock self.site) in LogLeaves a (view e.1.end e.1.first (S.files e.1.site) (S.clock e.1.site)) (points a) (next a)) }
         ensures same { IfOk result (λ b. S.same_site self.site b.log.site) }
         ensures same_then { IfErr result (λ e. S.same_site self.site e.1.site) }
         ensures said { IfOk result (λ b. S.said b.log.site ≡ S.said self.site) }

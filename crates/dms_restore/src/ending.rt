@@ -9,7 +9,7 @@ ghost use Rattle.dms_audrec.specs.Reading.{counts_at};
 ghost use Rattle.dms_audfile.specs.Counting.{CountedAt};
 ghost use Rattle.dms_restore.specs.Logging.{view, LogRuns};
 ghost use Rattle.dms_restore.specs.Begins.{LeavesEach};
-ghost use Rattle.dms_restore.specs.Laying.{AreParts};
+ghost use Rattle.dms_restore.specs.Laying.{AreSchemaParts};
 ghost use Rattle.dms_restore.specs.Endings.{EndsBy, EndedAt, ControlBy, ControlledAt};
 
 use crate::laying::seal_control;
@@ -28,7 +28,7 @@ impl<S: Site> Restored<S> {
     ) -> Result<Log<S>, (AudFault, Log<S>)>
         requires some { 0 < length parts.now }
         requires few { length parts.now < 2 ^ 16 }
-        requires parts { AreParts (length parts.now) 1 (blocks_seen parts.now) }
+        requires parts { AreSchemaParts (length parts.now) 1 (blocks_seen parts.now) }
         requires control { IsEntry (control_point point next (counts_at (length counts.now / 8) counts.now)) }
         requires size { length (spelling (control_point point next (counts_at (length counts.now / 8) counts.now))) ≤ 4094 }
         ensures ended { IfOk result (λ l. (p : Pending) → IsTrue S.tells → EndsBy p (view self.log.end self.log.first (S.files self.log.site) (S.clock self.log.site)) point next counts.now
@@ -72,7 +72,7 @@ impl<S: Site> Log<S> {
     ) -> Result<(), AudFault>
         requires some { 0 < length parts.now }
         requires few { length parts.now < 2 ^ 16 }
-        requires parts { AreParts (length parts.now) 1 (blocks_seen parts.now) }
+        requires parts { AreSchemaParts (length parts.now) 1 (blocks_seen parts.now) }
         requires control { IsEntry (control_point point next (counts_at (length counts.now / 8) counts.now)) }
         requires size { length (spelling (control_point point next (counts_at (length counts.now / 8) counts.now))) ≤ 4094 }
         requires runs { IsTrue S.tells → LogRuns (view self.old.end self.old.first (S.files self.old.site) (S.clock self.old.site)) }

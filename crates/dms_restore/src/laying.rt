@@ -10,7 +10,7 @@ ghost use Rattle.dms_audrec.specs.Reading.{counts_at};
 ghost use Rattle.dms_audfile.specs.Counting.{CountedAt};
 ghost use Rattle.dms_running.specs.Plans.{Planned};
 ghost use Rattle.dms_restore.specs.Logging.{telling_of};
-ghost use Rattle.dms_restore.specs.Laying.{AreParts, schema_control, Starts, LaysEnd, SealsAll};
+ghost use Rattle.dms_restore.specs.Laying.{AreSchemaParts, schema_control, IsAtStart, LaysEnd, SealsSince};
 
 use dms_audfile::{AudFault, AuditEnd};
 use dms_audrec::Entry;
@@ -19,10 +19,10 @@ use dms_site::Site;
 /// Appends the parts of a description.
 fn lay_parts<S: Site>(end: &mut AuditEnd, site: &mut S, parts: &[&[u8]]) -> Result<(), AudFault>
     requires few { length parts.now < 2 ^ 16 }
-    requires parts { AreParts (length parts.now) 1 (blocks_seen parts.now) }
-    ensures moments { (first : ℕ) → IsTrue S.tells → Starts end.old first (S.files site.old) (S.clock site.old)
+    requires parts { AreSchemaParts (length parts.now) 1 (blocks_seen parts.now) }
+    ensures moments { (first : ℕ) → IsTrue S.tells → IsAtStart end.old first (S.files site.old) (S.clock site.old)
         → Runs (S.clock site.old) (S.clock site.new) (Planned (telling_of end.old.total first) (schema_entries (blocks_seen parts.now)) (S.files site.old)) }
-    ensures laid { OnOk result ((first : ℕ) → IsTrue S.tells → Starts end.old first (S.files site.old) (S.clock site.old)
+    ensures laid { OnOk result ((first : ℕ) → IsTrue S.tells → IsAtStart end.old first (S.files site.old) (S.clock site.old)
         → LaysEnd end.old.total end.new first (schema_entries (blocks_seen parts.now)) (S.files site.old) (S.clock site.old) (S.files site.new) (S.clock site.new)) }
     ensures kind { (end.new.total ≡ end.old.total) × (end.new.tag ≡ end.old.tag) × (end.new.limit ≡ end.old.limit) }
     ensures only { IfErr result (λ e. (e ≡ AudFault.Disk) ⊎ (e ≡ AudFault.Full end.old.limit)) }
@@ -52,13 +52,13 @@ pub(crate) fn seal_control<S: Site>(
     counts: &[u8],
 ) -> Result<(), AudFault>
     requires few { length parts.now < 2 ^ 16 }
-    requires parts { AreParts (length parts.now) 1 (blocks_seen parts.now) }
+    requires parts { AreSchemaParts (length parts.now) 1 (blocks_seen parts.now) }
     requires control { IsEntry (control_point point next (counts_at (length counts.now / 8) counts.now)) }
     requires size { length (spelling (control_point point next (counts_at (length counts.now / 8) counts.now))) ≤ 4094 }
-    ensures moments { (first : ℕ) → IsTrue S.tells → Starts end.old first (S.files site.old) (S.clock site.old)
+    ensures moments { (first : ℕ) → IsTrue S.tells → IsAtStart end.old first (S.files site.old) (S.clock site.old)
         → Runs (S.clock site.old) (S.clock site.new) (Planned (telling_of end.old.total first) (schema_control parts.now point next counts.now) (S.files site.old)) }
-    ensures sealed { OnOk result ((first : ℕ) → IsTrue S.tells → Starts end.old first (S.files site.old) (S.clock site.old)
-        → SealsAll end.old.total end.new first (schema_control parts.now point next counts.now) (S.files site.old) (S.files site.new) (S.clock site.new)) }
+    ensures sealed { OnOk result ((first : ℕ) → IsTrue S.tells → IsAtStart end.old first (S.files site.old) (S.clock site.old)
+        → SealsSince end.old.total end.new first (schema_control parts.now point next counts.now) (S.files site.old) (S.files site.new) (S.clock site.new)) }
     ensures kind { (end.new.total ≡ end.old.total) × (end.new.tag ≡ end.old.tag) × (end.new.limit ≡ end.old.limit) }
     ensures only { IfErr result (λ e. (e ≡ AudFault.Disk) ⊎ (e ≡ AudFault.Full end.old.limit)) }
     ensures said { S.said site.new ≡ S.said site.old }

@@ -10,7 +10,7 @@ ghost use Rattle.dms_history.specs.Entries.{image, quiet_point};
 ghost use Rattle.dms_audrec.specs.Spelling.{spelling};
 ghost use Rattle.dms_audfile.specs.Counting.{CountedAt};
 ghost use Rattle.dms_audfile.specs.Ends.{is_past};
-ghost use Rattle.dms_restore.specs.Logging.{waits, view, LogRuns, points, durable, here, next, content, IsSilent, IsNewestSealed, SealsWaiting, Leaves, LogsImage, LogsQuiet, LogsNothing, LogsWrite};
+ghost use Rattle.dms_restore.specs.Logging.{waits, view, LogRuns, points, durable, here, next, content, PrintsNothing, IsNewestSealed, SealsWaiting, LogLeaves, LogsImage, LogsQuiet, LogsNothing, LogsWrite};
 
 use dms_audfile::{AudFault, AuditEnd};
 use dms_audrec::Entry;
@@ -43,8 +43,8 @@ impl<S: Site> Log<S> {
         requires after { length after.now ≡ 1024 }
         ensures runs { OnOk result (IsTrue S.tells → LogRuns (view self.new.end self.new.first (S.files self.new.site) (S.clock self.new.site))) }
         ensures logs { OnOk result (IsTrue S.tells → LogsImage (view self.old.end self.old.first (S.files self.old.site) (S.clock self.old.site)) (view self.new.end self.new.first (S.files self.new.site) (S.clock self.new.site)) file block (option_copied before.entry) after.now) }
-        ensures moments { IsTrue S.tells → let a = view self.old.end self.old.first (S.files self.old.site) (S.clock self.old.site) in Leaves a (view self.new.end self.new.first (S.files self.new.site) (S.clock self.new.site)) (points a) (next a) }
-        ensures silent { IsTrue S.tells → Steps IsSilent (S.clock self.old.site) (S.clock self.new.site) }
+        ensures moments { IsTrue S.tells → let a = view self.old.end self.old.first (S.files self.old.site) (S.clock self.old.site) in LogLeaves a (view self.new.end self.new.first (S.files self.new.site) (S.clock self.new.site)) (points a) (next a) }
+        ensures silent { IsTrue S.tells → Steps PrintsNothing (S.clock self.old.site) (S.clock self.new.site) }
         ensures kind { (self.new.end.total ≡ self.old.end.total) × (self.new.end.tag ≡ self.old.end.tag) × (self.new.end.limit ≡ self.old.end.limit) × (self.new.first ≡ self.old.first) }
         ensures only { IfErr result (λ e. (e ≡ AudFault.Disk) ⊎ (e ≡ AudFault.Full self.old.end.limit)) }
         ensures full { IsErrOf result (AudFault.Full self.old.end.limit) → (self.new.end.used ≡ 0) × (10000 + self.old.end.limit < self.new.end.file) }
@@ -67,8 +67,8 @@ impl<S: Site> Log<S> {
         requires room { number + 1 < 2 ^ 64 }
         ensures runs { OnOk result (IsTrue S.tells → LogRuns (view self.new.end self.new.first (S.files self.new.site) (S.clock self.new.site))) }
         ensures logs { OnOk result (IsTrue S.tells → LogsQuiet (view self.old.end self.old.first (S.files self.old.site) (S.clock self.old.site)) (view self.new.end self.new.first (S.files self.new.site) (S.clock self.new.site))) }
-        ensures moments { IsTrue S.tells → let a = view self.old.end self.old.first (S.files self.old.site) (S.clock self.old.site) in Leaves a (view self.new.end self.new.first (S.files self.new.site) (S.clock self.new.site)) (points a ++ here a ∷ []) (next a + 1) }
-        ensures silent { IsTrue S.tells → Steps IsSilent (S.clock self.old.site) (S.clock self.new.site) }
+        ensures moments { IsTrue S.tells → let a = view self.old.end self.old.first (S.files self.old.site) (S.clock self.old.site) in LogLeaves a (view self.new.end self.new.first (S.files self.new.site) (S.clock self.new.site)) (points a ++ here a ∷ []) (next a + 1) }
+        ensures silent { IsTrue S.tells → Steps PrintsNothing (S.clock self.old.site) (S.clock self.new.site) }
         ensures kind { (self.new.end.total ≡ self.old.end.total) × (self.new.end.tag ≡ self.old.end.tag) × (self.new.end.limit ≡ self.old.end.limit) × (self.new.first ≡ self.old.first) }
         ensures only { IfErr result (λ e. (e ≡ AudFault.Disk) ⊎ (e ≡ AudFault.Full self.old.end.limit)) }
         ensures full { IsErrOf result (AudFault.Full self.old.end.limit) → (self.new.end.used ≡ 0) × (10000 + self.old.end.limit < self.new.end.file) }
@@ -90,8 +90,8 @@ impl<S: Site> Log<S> {
         ensures same { OnOk result (IsTrue S.tells → LogsNothing (view self.old.end self.old.first (S.files self.old.site) (S.clock self.old.site)) (view self.new.end self.new.first (S.files self.new.site) (S.clock self.new.site))) }
         ensures durable { OnOk result (IsTrue S.tells → durable (view self.new.end self.new.first (S.files self.new.site) (S.clock self.new.site)) ≡ length (points (view self.old.end self.old.first (S.files self.old.site) (S.clock self.old.site)))) }
         ensures waits { OnOk result (IsTrue S.tells → waits self.new.end ≡ []) }
-        ensures moments { IsTrue S.tells → let a = view self.old.end self.old.first (S.files self.old.site) (S.clock self.old.site) in Leaves a (view self.new.end self.new.first (S.files self.new.site) (S.clock self.new.site)) (points a) (next a) }
-        ensures silent { IsTrue S.tells → Steps IsSilent (S.clock self.old.site) (S.clock self.new.site) }
+        ensures moments { IsTrue S.tells → let a = view self.old.end self.old.first (S.files self.old.site) (S.clock self.old.site) in LogLeaves a (view self.new.end self.new.first (S.files self.new.site) (S.clock self.new.site)) (points a) (next a) }
+        ensures silent { IsTrue S.tells → Steps PrintsNothing (S.clock self.old.site) (S.clock self.new.site) }
         ensures kind { (self.new.end.total ≡ self.old.end.total) × (self.new.end.tag ≡ self.old.end.tag) × (self.new.end.limit ≡ self.old.end.limit) × (self.new.first ≡ self.old.first) }
         ensures only { IfErr result (λ e. e ≡ AudFault.Disk) }
         ensures said { S.said self.new.site ≡ S.said self.old.site }
@@ -112,8 +112,8 @@ impl<S: Site> Log<S> {
         ensures runs { IsTrue S.tells → LogRuns (view self.new.end self.new.first (S.files self.new.site) (S.clock self.new.site)) }
         ensures same { IsTrue S.tells → LogsWrite (view self.old.end self.old.first (S.files self.old.site) (S.clock self.old.site)) (view self.new.end self.new.first (S.files self.new.site) (S.clock self.new.site)) }
         ensures written { OnOk result (IsTrue S.tells → S.files self.new.site ≡ with_file (S.files self.old.site) file (overlaid (1024 * block) bytes.now (S.files self.old.site file))) }
-        ensures moments { IsTrue S.tells → let a = view self.old.end self.old.first (S.files self.old.site) (S.clock self.old.site) in Leaves a (view self.new.end self.new.first (S.files self.new.site) (S.clock self.new.site)) (points a) (next a) }
-        ensures silent { IsTrue S.tells → Steps IsSilent (S.clock self.old.site) (S.clock self.new.site) }
+        ensures moments { IsTrue S.tells → let a = view self.old.end self.old.first (S.files self.old.site) (S.clock self.old.site) in LogLeaves a (view self.new.end self.new.first (S.files self.new.site) (S.clock self.new.site)) (points a) (next a) }
+        ensures silent { IsTrue S.tells → Steps PrintsNothing (S.clock self.old.site) (S.clock self.new.site) }
         ensures end { (self.new.end ≡ self.old.end) × (self.new.first ≡ self.old.first) }
         ensures said { S.said self.new.site ≡ S.said self.old.site }
         ensures same_site { S.same_site self.old.site self.new.site }

@@ -8,7 +8,7 @@ ghost use Rattle.dms_history.specs.Images.{is_at, or_else, last_after, first_bef
 ghost use Rattle.dms_restore.specs.declared.live.Spot as spot;
 ghost use Rattle.dms_restore.specs.declared.live.LiveEntry.TheVariants.{Changed};
 ghost use Rattle.dms_restore.specs.LiveEntries.{event_at, events_at, before_in, after_in};
-ghost use Rattle.dms_restore.specs.Named.{spot_of, bytes_of, named, IsSpotOf, IsSpotAmong};
+ghost use Rattle.dms_restore.specs.Named.{spot_of, bytes_of, named, IsImageSpot, IsSpotAmong};
 
 use crate::{ImageAt, LiveEntry, Spot};
 use std::alloc::AllocError;
@@ -20,7 +20,7 @@ fn note_after(
     image: &ImageAt,
 ) -> Result<(), AllocError>
     ensures names { OnOk result ((files : Files) (f b : ℕ) → named files spots.new f b ≡ (if is_at f b image.now.file image.now.block then Some (Some (after_in files image.now)) else named files spots.old f b)) }
-    ensures from { OnOk result ((f b : ℕ) (s : spot.Spot) → spot_of spots.new f b ≡ Some (Some s) → (spot_of spots.old f b ≡ Some (Some s)) ⊎ IsSpotOf (Changed image.now) f b s) }
+    ensures from { OnOk result ((f b : ℕ) (s : spot.Spot) → spot_of spots.new f b ≡ Some (Some s) → (spot_of spots.old f b ≡ Some (Some s)) ⊎ IsImageSpot (Changed image.now) f b s) }
 {
     let spot = Spot {
         audit: image.audit,
@@ -50,7 +50,7 @@ fn note_before(
     spots: &mut BTreeMap<(u32, u32), Option<Spot>>,
     image: &ImageAt,
 ) -> Result<(), AllocError>
-    ensures from { OnOk result ((f b : ℕ) (s : spot.Spot) → spot_of spots.new f b ≡ Some (Some s) → (spot_of spots.old f b ≡ Some (Some s)) ⊎ IsSpotOf (Changed image.now) f b s) }
+    ensures from { OnOk result ((f b : ℕ) (s : spot.Spot) → spot_of spots.new f b ≡ Some (Some s) → (spot_of spots.old f b ≡ Some (Some s)) ⊎ IsImageSpot (Changed image.now) f b s) }
     ensures names { OnOk result ((files : Files) (f b : ℕ) → named files spots.new f b ≡ or_else (named files spots.old f b) (if is_at f b image.now.file image.now.block then Some (before_in files image.now) else None)) }
 {
     let key = (image.file, image.block);
@@ -66,7 +66,7 @@ fn redo_one(
     spots: &mut BTreeMap<(u32, u32), Option<Spot>>,
     entry: &LiveEntry,
 ) -> Result<(), AllocError>
-    ensures from { OnOk result ((f b : ℕ) (s : spot.Spot) → spot_of spots.new f b ≡ Some (Some s) → (spot_of spots.old f b ≡ Some (Some s)) ⊎ IsSpotOf entry.now f b s) }
+    ensures from { OnOk result ((f b : ℕ) (s : spot.Spot) → spot_of spots.new f b ≡ Some (Some s) → (spot_of spots.old f b ≡ Some (Some s)) ⊎ IsImageSpot entry.now f b s) }
     ensures names { OnOk result ((files : Files) (f b : ℕ) (es : List Event) → named files spots.old f b ≡ option_map (λ x. Some x) (last_after f b es)
         → named files spots.new f b ≡ option_map (λ x. Some x) (last_after f b (es ++ event_at files entry.now ∷ []))) }
 {
@@ -82,7 +82,7 @@ fn undo_one(
     spots: &mut BTreeMap<(u32, u32), Option<Spot>>,
     entry: &LiveEntry,
 ) -> Result<(), AllocError>
-    ensures from { OnOk result ((f b : ℕ) (s : spot.Spot) → spot_of spots.new f b ≡ Some (Some s) → (spot_of spots.old f b ≡ Some (Some s)) ⊎ IsSpotOf entry.now f b s) }
+    ensures from { OnOk result ((f b : ℕ) (s : spot.Spot) → spot_of spots.new f b ≡ Some (Some s) → (spot_of spots.old f b ≡ Some (Some s)) ⊎ IsImageSpot entry.now f b s) }
     ensures names { OnOk result ((files : Files) (f b : ℕ) (start : Option (Option Block)) (es : List Event) → named files spots.old f b ≡ or_else start (first_before f b es)
         → named files spots.new f b ≡ or_else start (first_before f b (es ++ event_at files entry.now ∷ []))) }
 {

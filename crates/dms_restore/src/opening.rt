@@ -7,7 +7,7 @@ ghost use Rattle.dms_audfile.specs.TrailEntries.{trail_entries};
 ghost use Rattle.dms_running.specs.Standing.{IsWhole};
 ghost use Rattle.dms_running.specs.Begun.{ByAudit};
 ghost use Rattle.dms_restore.specs.Logging.{telling_of, view, LogRuns};
-ghost use Rattle.dms_restore.specs.Laying.{Starts};
+ghost use Rattle.dms_restore.specs.Laying.{IsAtStart};
 ghost use Rattle.dms_restore.specs.Begins.{BegunAt};
 
 use crate::{Begun, Log};
@@ -20,7 +20,7 @@ impl<S: Site> Log<S> {
         ensures site { result.site ≡ site }
         ensures end { result.end ≡ end }
         ensures first { result.first ≡ first }
-        ensures runs { IsTrue S.tells → Starts end first (S.files site) (S.clock site) → IsWhole (telling_of end.total first) (S.files site)
+        ensures runs { IsTrue S.tells → IsAtStart end first (S.files site) (S.clock site) → IsWhole (telling_of end.total first) (S.files site)
             → (history_of (trail_entries end.total first (S.files site))).pending ≡ None → LogRuns (view result.end result.first (S.files result.site) (S.clock result.site)) }
     {
         Log { site, end, first }
@@ -29,7 +29,7 @@ impl<S: Site> Log<S> {
     /// Goes on with a restore by the audit that is pending.
     pub fn resume(self) -> Begun<S>
         ensures log { result.log ≡ self }
-        ensures begun { (p : Pending) → IsTrue S.tells → Starts self.end self.first (S.files self.site) (S.clock self.site) → IsWhole (telling_of self.end.total self.first) (S.files self.site)
+        ensures begun { (p : Pending) → IsTrue S.tells → IsAtStart self.end self.first (S.files self.site) (S.clock self.site) → IsWhole (telling_of self.end.total self.first) (S.files self.site)
             → (history_of (trail_entries self.end.total self.first (S.files self.site))).pending ≡ Some p → ByAudit p.how
             → BegunAt p (view result.log.end result.log.first (S.files result.log.site) (S.clock result.log.site)) }
     {

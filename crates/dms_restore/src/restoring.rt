@@ -7,7 +7,7 @@ ghost use Rattle.dms_history.specs.Events.{Event};
 ghost use Rattle.dms_history.specs.Told.{told_block};
 ghost use Rattle.dms_audfile.specs.Counting.{CountedAt};
 ghost use Rattle.dms_running.specs.Restoring.{IsKept, Rewritten, Rewrites, StandsAsTold};
-ghost use Rattle.dms_restore.specs.Table.{bytes_at, AreBlocks, EachTold, AllStand};
+ghost use Rattle.dms_restore.specs.Table.{bytes_at, AreBlocks, EachIsTold, AllStandAsTold};
 
 use crate::Told;
 use dms_audfile::AudFault;
@@ -52,13 +52,13 @@ fn write_told<S: Site>(site: &mut S, told: &Told, buffer: &mut [u8]) -> Result<(
 /// Answers Disk where a call of the site failed. Damaged never comes where the audit tells what stands at each place.
 pub(crate) fn write_all<S: Site>(site: &mut S, table: &[Told]) -> Result<(), AudFault>
     requires blocks { AreBlocks table.now }
-    ensures moments { (live : List Event) (m : ℕ) → IsTrue S.tells → EachTold live m (S.files site.old) table.now
+    ensures moments { (live : List Event) (m : ℕ) → IsTrue S.tells → EachIsTold live m (S.files site.old) table.now
         → Steps (Rewrites (IsKept live m)) (S.clock site.old) (S.clock site.new) }
-    ensures written { (live : List Event) (m : ℕ) → IsTrue S.tells → EachTold live m (S.files site.old) table.now
+    ensures written { (live : List Event) (m : ℕ) → IsTrue S.tells → EachIsTold live m (S.files site.old) table.now
         → Rewritten (IsKept live m) (S.files site.old) (S.files site.new) }
-    ensures done { OnOk result ((live : List Event) (m : ℕ) → IsTrue S.tells → EachTold live m (S.files site.old) table.now
-        → AllStand live m (S.files site.new) table.now) }
-    ensures only { IfErr result (λ e. (live : List Event) (m : ℕ) → IsTrue S.tells → EachTold live m (S.files site.old) table.now → e ≡ AudFault.Disk) }
+    ensures done { OnOk result ((live : List Event) (m : ℕ) → IsTrue S.tells → EachIsTold live m (S.files site.old) table.now
+        → AllStandAsTold live m (S.files site.new) table.now) }
+    ensures only { IfErr result (λ e. (live : List Event) (m : ℕ) → IsTrue S.tells → EachIsTold live m (S.files site.old) table.now → e ≡ AudFault.Disk) }
     ensures said { S.said site.new ≡ S.said site.old }
     ensures same_site { S.same_site site.old site.new }
     ensures disk { CountedAt (IsErrOf result AudFault.Disk) (S.disk_faults site.old) (S.disk_faults site.new) }

@@ -9,7 +9,7 @@ ghost use Rattle.dms_audfile.specs.TrailEntries.{trail_entries};
 ghost use Rattle.dms_running.specs.Standing.{IsWhole};
 ghost use Rattle.dms_running.specs.Begun.{ByAudit};
 ghost use Rattle.dms_restore.specs.Logging.{telling_of, view};
-ghost use Rattle.dms_restore.specs.Laying.{Starts};
+ghost use Rattle.dms_restore.specs.Laying.{IsAtStart};
 ghost use Rattle.dms_restore.specs.Begins.{BegunAt};
 ghost use Rattle.dms_restore.specs.Named.{HasNoBlock};
 ghost use Rattle.dms_restore.specs.Table.{AreBlocks, IsTable};
@@ -33,7 +33,7 @@ impl<S: Site> Scanned<S> {
     /// Makes no call of the site. Answers Memory, and Damaged where an Image isn't of a block of a structure file.
     pub fn resume(self, alloc: Global) -> Result<Resumed<S>, (AudFault, Scanned<S>)>
         ensures log { IfOk result (λ r. r.begun.log ≡ self.log) }
-        ensures begun { IfOk result (λ r. (p : Pending) → IsTrue S.tells → Starts self.log.end self.log.first (S.files self.log.site) (S.clock self.log.site)
+        ensures begun { IfOk result (λ r. (p : Pending) → IsTrue S.tells → IsAtStart self.log.end self.log.first (S.files self.log.site) (S.clock self.log.site)
             → IsWhole (telling_of self.log.end.total self.log.first) (S.files self.log.site) → (history_of (trail_entries self.log.end.total self.log.first (S.files self.log.site))).pending ≡ Some p → ByAudit p.how
             → BegunAt p (view r.begun.log.end r.begun.log.first (S.files r.begun.log.site) (S.clock r.begun.log.site))) }
         ensures blocks { IfOk result (λ r. AreBlocks r.table.items) }

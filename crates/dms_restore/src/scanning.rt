@@ -7,8 +7,8 @@ ghost use Rattle.dms_audfile.specs.Counting.{CountedAt};
 ghost use Rattle.dms_audfile.specs.Reads.{Refuses};
 ghost use Rattle.dms_audfile.specs.AuditTrail.{IsFound};
 ghost use Rattle.dms_audfile.specs.TrailEntries.{trail_entries};
-ghost use Rattle.dms_restore.specs.Laying.{Starts};
-ghost use Rattle.dms_restore.specs.Scanned.{ArePlaces};
+ghost use Rattle.dms_restore.specs.Laying.{IsAtStart};
+ghost use Rattle.dms_restore.specs.Scanned.{AreEntryPlaces};
 ghost use Rattle.dms_restore.specs.Tracing.{IsTraced};
 
 use crate::trail_scan::{TrailScan, scan_trail};
@@ -39,9 +39,9 @@ impl<S: Site> Found<S> {
     /// Nothing changes. Answers the first refusal of the trail, Disk where a call of the site failed, and Memory.
     pub fn scan(self, alloc: Global, limit: u32) -> Result<Scanned<S>, (AudFault, Found<S>)>
         requires { limit ≤ 9999 }
-        ensures starts { IfOk result (λ s. IsTrue S.tells → Starts s.log.end s.log.first (S.files s.log.site) (S.clock s.log.site)) }
+        ensures starts { IfOk result (λ s. IsTrue S.tells → IsAtStart s.log.end s.log.first (S.files s.log.site) (S.clock s.log.site)) }
         ensures found { IfOk result (λ s. IsTrue S.tells → IsFound (S.files self.site) s.log.first s.places.items) }
-        ensures places { IfOk result (λ s. IsTrue S.tells → ArePlaces s.log.end.total s.log.first (S.files self.site) s.places.items) }
+        ensures places { IfOk result (λ s. IsTrue S.tells → AreEntryPlaces s.log.end.total s.log.first (S.files self.site) s.places.items) }
         ensures traced { IfOk result (λ s. IsTrue S.tells → IsTraced (S.files self.site) (trail_entries s.log.end.total s.log.first (S.files self.site)) s.history) }
         ensures limit { IfOk result (λ s. s.log.end.limit ≡ limit) }
         ensures refused { IfErr result (λ e. IsTrue S.tells → Refuses (S.files self.site) e.0) }

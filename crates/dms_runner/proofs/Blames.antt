@@ -5,14 +5,14 @@ use Rattle.std.specs.declared.result.Result.TheVariants.{Ok, Err}
 use Rattle.dms_block.specs.Counts.{Faults}
 use Rattle.dms_model.specs.declared.store.Store.{Ghosts}
 use Rattle.dms_storeverbs.specs.declared.engine.Engine.{Engine}
-use Rattle.dms_storeverbs.specs.View.{seen, Lasts, Lasted}
+use Rattle.dms_storeverbs.specs.View.{seen, EngineLasts, Lasted}
 use Rattle.dms_storeverbs.proofs.Lasting.{lasts_on}
 use Rattle.dms_runner.specs.declared.run.RunFault.{RunFault}
 use Rattle.dms_runner.specs.Blaming.{IsBlamedOn, LastsRun}
 
 module _ {St : Type 0} {g : Ghosts St} {T : Type 0} {a b c : Engine St g} (then_ : (x y z : St) → g.same_store x y → g.same_store y z → g.same_store x z) where
   pub run_on_lasts : {x : T} → Lasted a b → LastsRun (Ok x) b c → Lasted a c
-  run_on_lasts {x} p q = lasts_on then_ p (let r : Lasts (Ok x) b c = record { sound = q.sound; description = q.description; same = q.same; causes = record { tells = q.tells; desc = q.desc; whole = q.whole; whole_on = q.whole_on; cause = q.cause; reads = q.reads } } in r)
+  run_on_lasts {x} p q = lasts_on then_ p (let r : EngineLasts (Ok x) b c = record { sound = q.sound; description = q.description; same = q.same; causes = record { tells = q.tells; desc = q.desc; whole = q.whole; whole_on = q.whole_on; cause = q.cause; reads = q.reads } } in r)
 
   pub run_then_lasts : {r : Result T RunFault} → Lasted a b → LastsRun r b c → LastsRun r a c
   run_then_lasts {r} p q = record {

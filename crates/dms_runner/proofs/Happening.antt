@@ -24,7 +24,7 @@ use Rattle.dms_model.specs.declared.verb.Verb.{Verb}
 use Rattle.dms_model.specs.Session.{Session, Outcome, ended, step}
 use Rattle.dms_storeverbs.specs.Laws.{MakesWhereQuiet}
 use Rattle.dms_storeverbs.proofs.Quiet.{quiet_rule}
-use Rattle.dms_storeverbs.specs.View.{View, PerformsCall, PointsGrow, LeavesPoints, MakesPoints, StandsFor, view_of}
+use Rattle.dms_storeverbs.specs.View.{View, PerformsCall, PointsGrow, LeavesQuiets, MakesPoints, StandsFor, view_of}
 use Rattle.dms_storeverbs.proofs.Calls.{lower, stays}
 use Rattle.dms_runner.specs.Events.{IsTold, RunEvent, calls, says, goes_back, text_of, quiets_of, durable_by, durable_after, CrashesFrom, IsCutShort, SaidWhole, Performs, PerformsPrefix}
 use Rattle.dms_runner.proofs.Texts.{prints_none, prints_on, front_none, front_all, front_of_first, front_on}
@@ -70,7 +70,7 @@ pub length_grew : {a b : List Point} {q : List Quiet} → PointsGrow a q b → l
 length_grew {a} {b} {q} x = omega (arith, ap length x.is, length-append a x.more, length-map x.more told, ap length x.spells, length-map q known)
 
 -- what is left of later points is left of all
-pub left_on : {V W : Files → Type 0} {a b : List Point} {q r : List Quiet} {low high m n : ℕ} {stop : Stop} → ((files : Files) → V files → W files) → PointsGrow a q b → low ≤ high → m + length q ≤ n → LeavesPoints V high b n r stop → LeavesPoints W low a m (q ++ r) stop
+pub left_on : {V W : Files → Type 0} {a b : List Point} {q r : List Quiet} {low high m n : ℕ} {stop : Stop} → ((files : Files) → V files → W files) → PointsGrow a q b → low ≤ high → m + length q ≤ n → LeavesQuiets V high b n r stop → LeavesQuiets W low a m (q ++ r) stop
 left_on {q = q} whole grew under fell l = record { made = q ++ l.made; rest = l.rest; all = l.all; front_of = append_assoc q l.made l.rest ∙ ap (λ (x : List Quiet). q ++ x) l.front_of; grew = grew_on grew l.grew; front = lower whole under (omega (arith, fell, length-append q l.made)) l.front }
 
 -- what is told before is told behind
@@ -110,7 +110,7 @@ stopped_on a b x y stop t ran s =
       at = s.at;
       rest = s.rest;
       all = append_assoc x s.before (s.at ∷ s.rest) ∙ ap (λ (l : List RunEvent). x ++ l) s.all;
-      left = subst (λ (q : List Quiet). LeavesPoints a.whole (durable_after c a.durable (x ++ s.before)) a.points a.next q stop) (sym (append_assoc (quiets_of x) (quiets_of s.before) s.at.quiets) ∙ ap (λ (q : List Quiet). q ++ s.at.quiets) (sym (quiets_on x s.before))) (left_on ran.whole (ran.grew t) high ran.next s.left);
+      left = subst (λ (q : List Quiet). LeavesQuiets a.whole (durable_after c a.durable (x ++ s.before)) a.points a.next q stop) (sym (append_assoc (quiets_of x) (quiets_of s.before) s.at.quiets) ∙ ap (λ (q : List Quiet). q ++ s.at.quiets) (sym (quiets_on x s.before))) (left_on ran.whole (ran.grew t) high ran.next s.left);
       text = λ said is.
           let n = s.text (said ++ text_of x) (ran.text said is) in
           (n.0, n.1 ∙ ap (λ (l : List ℕ). l ++ take n.0 s.at.text) (append_assoc said (text_of x) (text_of s.before) ∙ ap (λ (l : List ℕ). said ++ l) (sym (text_on x s.before))));
@@ -247,7 +247,7 @@ numbered false s o m = omega (arith, m.next, ap length m.quiets)
 pub step_numbers : (desc : Described) (s : Session) (name : List ℕ) (verb : Verb) → (step desc s name verb).session.next ≡ s.next + length (step desc s name verb).quiets
 step_numbers desc s name verb = numbered _ s (step desc s name verb) (quiet_rule desc s name verb)
 
-stopped_calls : (a : Seen) (o : Outcome) (stop : Stop) → LeavesPoints a.whole a.durable a.points a.next o.quiets stop × TextIs a.said stop → CrashesFrom a (calls o ∷ []) stop
+stopped_calls : (a : Seen) (o : Outcome) (stop : Stop) → LeavesQuiets a.whole a.durable a.points a.next o.quiets stop × TextIs a.said stop → CrashesFrom a (calls o ∷ []) stop
 stopped_calls a o stop p = record {
   before = [];
   at = calls o;

@@ -5,7 +5,7 @@ use Rattle.dms_desc.specs.Shape.{Described}
 use Rattle.dms_model.specs.Db.{Db}
 use Rattle.dms_model.specs.Points.{Files, Point, Stop}
 use Rattle.dms_model.specs.Session.{ended}
-use Rattle.dms_storeverbs.specs.View.{LeavesPoints}
+use Rattle.dms_storeverbs.specs.View.{LeavesQuiets}
 use Rattle.dms_runner.specs.Answers.{script_run, left_by}
 use Rattle.dms_runner.specs.Events.{RunEvent, text_of, quiets_of, CrashesWithin}
 
@@ -29,7 +29,7 @@ any_stop s =
 -- the quiet points are the first ones of those at first and all that are made behind them, and none that was durable at first is
 -- missing; where all were durable at first the next number hasn't fallen; the text is a prefix of all that is said
 pub record LeavesOfRun (said : Option (List ℕ)) (points : List Point) (durable next : ℕ) (events : List RunEvent) (stop : Stop) : Type 0 where
-  pub left : LeavesPoints any durable points next (quiets_of events) stop
+  pub left : LeavesQuiets any durable points next (quiets_of events) stop
   pub not_fallen : durable ≡ length points → next ≤ stop.next
   pub text : (t : List ℕ) → said ≡ Some t → (n : ℕ) × (stop.said ≡ t ++ take n (text_of events))
 

@@ -11,7 +11,7 @@ use Rattle.dms_block.specs.Texts.{Prints, PrintsPrefix}
 use Rattle.dms_model.specs.Db.{Db}
 use Rattle.dms_model.specs.Seen.{Seen}
 use Rattle.dms_model.specs.Session.{Outcome}
-use Rattle.dms_storeverbs.specs.View.{PointsGrow, LeavesPoints}
+use Rattle.dms_storeverbs.specs.View.{PointsGrow, LeavesQuiets}
 
 -- an event: the quiet points that are made in it, the syncpoint that it takes, and the bytes that are said
 pub record RunEvent : Type 0 where
@@ -60,7 +60,7 @@ pub record CrashesWithin (whole : Files → Type 0) (said : Option (List ℕ)) (
   pub at : RunEvent
   pub rest : List RunEvent
   pub all : before ++ at ∷ rest ≡ events
-  pub left : LeavesPoints whole (durable_after (length points) durable before) points next (quiets_of before ++ at.quiets) stop
+  pub left : LeavesQuiets whole (durable_after (length points) durable before) points next (quiets_of before ++ at.quiets) stop
   pub text : (t : List ℕ) → said ≡ Some t → (n : ℕ) × (stop.said ≡ (t ++ text_of before) ++ take n at.text)
 
 abbrev pub CrashesFrom : Seen → List RunEvent → Stop → Type 0

@@ -1,7 +1,7 @@
 ghost use Rattle.std.specs.Prelude.{◌≡◌, ◌≤◌, ◌<◌, ◌+◌, ◌^◌, ◌++◌, [], ◌∷◌, take, ℕ, List, Bool, true, false, not, Some, None, IfOk, OnOk, IsErrOf, IsTrue, length, OnErr};
 ghost use Rattle.dms_desc.specs.Shape.{described};
 ghost use Rattle.dms_model.specs.Session.{Session, step, is_waits};
-ghost use Rattle.dms_storeverbs.specs.View.{Lasts, SameSession, StandsFor, seen, view};
+ghost use Rattle.dms_storeverbs.specs.View.{EngineLasts, SameSession, StandsFor, seen, view};
 ghost use Rattle.dms_runner.specs.Events.{IsCutShort, PerformsPrefix};
 ghost use Rattle.dms_feed.specs.Lines.{line_text};
 ghost use Rattle.dms_model.specs.declared.verb.Verb.{Verb};
@@ -39,7 +39,7 @@ fn bad_line<St: Store>(
     ensures lined { IfOk result (λ on. AtRunState engine.old waiting.old.items line (λ g. MatchesLine (line_effect (described engine.old.desc) g (Bad place)) on (view engine.new) waiting.new.items (seen engine.old) (seen engine.new))) }
     ensures part { AtRunState engine.old waiting.old.items line (λ g. PerformsPrefix (IsCutShort result) (seen engine.old) (seen engine.new) (line_effect (described engine.old.desc) g (Bad place)).events) }
     ensures verbs { OnOk result (AreVerbs (described engine.old.desc) waiting.new.items) }
-    ensures lasts { Lasts result engine.old engine.new }
+    ensures lasts { EngineLasts result engine.old engine.new }
 {
     let text = bad_text(alloc, line, place)?;
     engine.say(text.as_slice())?;
@@ -62,7 +62,7 @@ fn first_try<St: Store>(
     ensures lined { IfOk result (λ on. AtRunState engine.old waiting.old.items line (λ g. MatchesLine (first_try_effect (described engine.old.desc) g name verb (step (described engine.old.desc) g.session name verb)) on (view engine.new) waiting.new.items (seen engine.old) (seen engine.new))) }
     ensures part { AtRunState engine.old waiting.old.items line (λ g. PerformsPrefix (IsCutShort result) (seen engine.old) (seen engine.new) (first_try_effect (described engine.old.desc) g name verb (step (described engine.old.desc) g.session name verb)).events) }
     ensures verbs { OnOk result (AreVerbs (described engine.old.desc) waiting.new.items) }
-    ensures lasts { Lasts result engine.old engine.new }
+    ensures lasts { EngineLasts result engine.old engine.new }
 {
     let answer = engine.call(alloc, &name, &verb)?;
     if !is_waits(&answer.reply) {
@@ -98,7 +98,7 @@ fn spoken_line<St: Store>(
     ensures lined { IfOk result (λ on. AtRunState engine.old waiting.old.items line (λ g. MatchesLine (line_effect (described engine.old.desc) g (Spoken name verb)) on (view engine.new) waiting.new.items (seen engine.old) (seen engine.new))) }
     ensures part { AtRunState engine.old waiting.old.items line (λ g. PerformsPrefix (IsCutShort result) (seen engine.old) (seen engine.new) (line_effect (described engine.old.desc) g (Spoken name verb)).events) }
     ensures verbs { OnOk result (AreVerbs (described engine.old.desc) waiting.new.items) }
-    ensures lasts { Lasts result engine.old engine.new }
+    ensures lasts { EngineLasts result engine.old engine.new }
 {
     if !has_line(waiting.as_slice(), &name) {
         return first_try(alloc, engine, waiting, line, name, verb);
@@ -129,7 +129,7 @@ pub fn take_line<St: Store>(
     ensures lined { IfOk result (λ on. (g : RunState) (whole : List ℕ) → raw.now ≡ take 2003 whole → StandsFor (view engine.old) g.session → g.waiting ≡ waiting.old.items → g.line + 1 ≡ line → MayTakeLine g → MatchesLine (line_step (described engine.old.desc) g whole) on (view engine.new) waiting.new.items (seen engine.old) (seen engine.new)) }
     ensures part { (g : RunState) (whole : List ℕ) → raw.now ≡ take 2003 whole → StandsFor (view engine.old) g.session → g.waiting ≡ waiting.old.items → g.line + 1 ≡ line → MayTakeLine g → PerformsPrefix (IsCutShort result) (seen engine.old) (seen engine.new) (line_step (described engine.old.desc) g whole).events }
     ensures verbs { OnOk result (AreVerbs (described engine.old.desc) waiting.new.items) }
-    ensures lasts { Lasts result engine.old engine.new }
+    ensures lasts { EngineLasts result engine.old engine.new }
 {
     match read_line(alloc, engine.description(), line_text(raw))? {
         Line::Empty => Ok(true),

@@ -2,7 +2,7 @@ ghost use Rattle.std.specs.Prelude.{◌≡◌, ◌≤◌, ◌<◌, ◌+◌, ◌^
 ghost use Rattle.dms_desc.specs.Shape.{described};
 ghost use Rattle.dms_laws.specs.Exclusive.{IsExclusive};
 ghost use Rattle.dms_model.specs.Session.{Session, step, is_waits};
-ghost use Rattle.dms_storeverbs.specs.View.{Lasts, SameSession, StandsFor, seen, view};
+ghost use Rattle.dms_storeverbs.specs.View.{EngineLasts, SameSession, StandsFor, seen, view};
 ghost use Rattle.dms_runner.specs.Events.{IsCutShort, PerformsPrefix};
 ghost use Rattle.std.specs.Prelude.{slice_get, take, slice_set};
 ghost use Rattle.dms_runner.specs.declared.waiting.WaitingLine.{WaitingLine as LineWaiting};
@@ -45,7 +45,7 @@ fn try_at<St: Store>(
     requires place { i < length waiting.now }
     ensures tried { IfOk result (λ answered. (h : LineWaiting) → slice_get waiting.now i ≡ Some h → AtSession engine.old (λ s. PerformsTry (step (described engine.old.desc) s h.program h.verb) h answered (view engine.new) (seen engine.old) (seen engine.new))) }
     ensures part { (h : LineWaiting) → slice_get waiting.now i ≡ Some h → AtSession engine.old (λ s. PerformsPrefix (IsCutShort result) (seen engine.old) (seen engine.new) (tries h (step (described engine.old.desc) s h.program h.verb))) }
-    ensures lasts { Lasts result engine.old engine.new }
+    ensures lasts { EngineLasts result engine.old engine.new }
 {
     try_line(alloc, engine, &waiting[i])
 }
@@ -72,7 +72,7 @@ fn pass<St: Store>(
     ensures passes { IfOk result (λ found. AtSession engine.old (λ s. PerformsRetry (retry (described engine.old.desc) s [] waiting.old) (view engine.new) waiting.new found (seen engine.old) (seen engine.new))) }
     ensures part { AtSession engine.old (λ s. PerformsPrefix (IsCutShort result) (seen engine.old) (seen engine.new) (retry (described engine.old.desc) s [] waiting.old).events) }
     ensures verbs { OnOk result (AreVerbs (described engine.old.desc) waiting.new) }
-    ensures lasts { Lasts result engine.old engine.new }
+    ensures lasts { EngineLasts result engine.old engine.new }
 {
     for i in 0..waiting.len() {
         if is_passed(waiting, i) {
@@ -97,7 +97,7 @@ pub fn retry_all<St: Store>(
     ensures retries { OnOk result ((s : Session) → StandsFor (view engine.old) s → s.next + length waiting.old.items + 2 < 2 ^ 64 → IsExclusive s → PerformsRetries (retries (length waiting.old.items) (described engine.old.desc) s waiting.old.items) (view engine.new) waiting.new.items (seen engine.old) (seen engine.new)) }
     ensures part { (s : Session) → StandsFor (view engine.old) s → s.next + length waiting.old.items + 2 < 2 ^ 64 → IsExclusive s → PerformsPrefix (IsCutShort result) (seen engine.old) (seen engine.new) (retries (length waiting.old.items) (described engine.old.desc) s waiting.old.items).events }
     ensures verbs { OnOk result (AreVerbs (described engine.old.desc) waiting.new.items) }
-    ensures lasts { Lasts result engine.old engine.new }
+    ensures lasts { EngineLasts result engine.old engine.new }
 {
     for _turn in 0..waiting.len() {
         match pass(alloc, engine, waiting.as_mut_slice())? {

@@ -8,7 +8,7 @@ ghost use Rattle.dms_feed.specs.Raws.{CutLine};
 ghost use Rattle.dms_model.specs.Db.{Db};
 ghost use Rattle.dms_block.specs.Texts.{Prints, PrintsPrefix};
 ghost use Rattle.dms_model.specs.Session.{Session, fresh_session, ended};
-ghost use Rattle.dms_storeverbs.specs.View.{Lasts, SameSession, StandsFor, seen, view};
+ghost use Rattle.dms_storeverbs.specs.View.{EngineLasts, SameSession, StandsFor, seen, view};
 ghost use Rattle.dms_runner.specs.Events.{text_of, IsCutShort, Performs, PerformsPrefix};
 ghost use Rattle.dms_runner.specs.Answers.{RunState, MayTakeLine, line_step, lines_run, unanswered_events, end_events, script_run, script_events, answers_text};
 ghost use Rattle.dms_runner.specs.Running.{TakesScriptLine, AnswersWhole, PassesLines, PassesBytes, PassesWaiting, CutInput};
@@ -64,7 +64,7 @@ fn say_waiting<St: Store>(
     ensures part { (seen engine.old).next + 1 < 2 ^ 64 → PerformsPrefix (IsCutShort result) (seen engine.old) (seen engine.new) (unanswered_events waiting.now) }
     ensures number { (seen engine.new).next ≡ (seen engine.old).next }
     ensures stands { OnOk result (SameSession engine.old engine.new) }
-    ensures lasts { Lasts result engine.old engine.new }
+    ensures lasts { EngineLasts result engine.old engine.new }
 {
     for line in waiting {
         let text = unanswered_text(alloc, line.line, &line.program)?;

@@ -3,7 +3,7 @@ ghost use Rattle.dms_desc.specs.Shape.{described};
 ghost use Rattle.dms_block.specs.Texts.{Prints, PrintsPrefix};
 ghost use Rattle.dms_model.specs.Session.{Session, step, is_waits};
 ghost use Rattle.dms_model.specs.Verbs.{IsVerbOf};
-ghost use Rattle.dms_storeverbs.specs.View.{Lasts, SameSession, StandsFor, seen, view};
+ghost use Rattle.dms_storeverbs.specs.View.{EngineLasts, SameSession, StandsFor, seen, view};
 ghost use Rattle.dms_runner.specs.Events.{says, IsCutShort, Performs, PerformsPrefix};
 ghost use Rattle.dms_runner.specs.Waiting.{answer_text, said_of, tries, sync_text};
 ghost use Rattle.dms_runner.specs.Trying.{PerformsTry};
@@ -65,7 +65,7 @@ pub fn say_answer<St: Store>(
     ensures ran { OnOk result ((seen engine.old).next + 1 < 2 ^ 64 → Performs (seen engine.old) (seen engine.new) (says (answer_text line program.now answer.now.reply answer.now.sync) ∷ [])) }
     ensures part { (seen engine.old).next + 1 < 2 ^ 64 → PerformsPrefix (IsCutShort result) (seen engine.old) (seen engine.new) (says (answer_text line program.now answer.now.reply answer.now.sync) ∷ []) }
     ensures stands { OnOk result (SameSession engine.old engine.new) }
-    ensures lasts { Lasts result engine.old engine.new }
+    ensures lasts { EngineLasts result engine.old engine.new }
 {
     let text = answer_text(alloc, line, program, answer)?;
     engine.say(text.as_slice())
@@ -84,7 +84,7 @@ fn say_tried<St: Store>(
     ensures ran { OnOk result ((seen engine.old).next + 1 < 2 ^ 64 → Performs (seen engine.old) (seen engine.new) (says (said_of waiting.now answer.now.reply answer.now.sync) ∷ [])) }
     ensures part { (seen engine.old).next + 1 < 2 ^ 64 → PerformsPrefix (IsCutShort result) (seen engine.old) (seen engine.new) (says (said_of waiting.now answer.now.reply answer.now.sync) ∷ []) }
     ensures stands { OnOk result (SameSession engine.old engine.new) }
-    ensures lasts { Lasts result engine.old engine.new }
+    ensures lasts { EngineLasts result engine.old engine.new }
 {
     if is_silent(&answer.reply, waiting.printed) {
         return Ok(());
@@ -109,7 +109,7 @@ pub fn try_line<St: Store>(
     requires verb { IsVerbOf (described engine.old.desc) waiting.now.verb }
     ensures tried { IfOk result (λ answered. AtSession engine.old (λ s. PerformsTry (step (described engine.old.desc) s waiting.now.program waiting.now.verb) waiting.now answered (view engine.new) (seen engine.old) (seen engine.new))) }
     ensures part { AtSession engine.old (λ s. PerformsPrefix (IsCutShort result) (seen engine.old) (seen engine.new) (tries waiting.now (step (described engine.old.desc) s waiting.now.program waiting.now.verb))) }
-    ensures lasts { Lasts result engine.old engine.new }
+    ensures lasts { EngineLasts result engine.old engine.new }
 {
     let answer = engine.call(alloc, &waiting.program, &waiting.verb)?;
     say_tried(alloc, engine, waiting, &answer)?;

@@ -17,8 +17,8 @@ use Rattle.dms_history.proofs.Listed.{points_front, numbers_append}
 use Rattle.dms_running.specs.Telling.{Telling, IsTelling}
 use Rattle.dms_running.specs.Standing.{MayRun}
 use Rattle.dms_running.specs.Points.{points_told, points_of, LeavesPointsPrefix}
-use Rattle.dms_running.specs.Sealing.{Seals, Appended, IsSealed, Settled}
-use Rattle.dms_running.specs.Running.{State, entries_now, next_now, points_now, durable_now, here_now, content_now, IsPlain, count_live, IsRunning, IsRead, LeavesPoints}
+use Rattle.dms_running.specs.Sealing.{SealsSome, Appended, AreSealed, Settled}
+use Rattle.dms_running.specs.Running.{State, entries_now, next_now, points_now, durable_now, here_now, content_now, IsPlainEntry, count_live, IsRunning, IsAnOutcome, LeavesPoints}
 use Rattle.dms_running.proofs.MayRun.{sound, points_are, may_image, content_image, live_image, may_quiet, content_quiet, live_quiet, content_at, new_place_at, other_dumps}
 use Rattle.dms_running.proofs.Plain.{plain_push, push_all, take_whole}
 use Rattle.dms_running.proofs.Stopped.{more_points, blocks_same, joined, whole_read, old_read, front_left, seals_leaves, append_runs, seal_runs}
@@ -39,7 +39,7 @@ unfolding live_numbers
 quiet_numbers live n new =
     ap (λ (l : List ℕ). length l) (numbers_append [] live (quiet n ∷ []) ∙ ap (λ (l : List ℕ). numbers_from [] live ++ l) new) ∙ length-append (numbers_from [] live) (n ∷ [])
 
-module _ (t : Telling) (telling : IsTelling t) (a : State) (r : IsRunning t a) (read : IsRead a) where
+module _ (t : Telling) (telling : IsTelling t) (a : State) (r : IsRunning t a) (read : IsAnOutcome a) where
   abbrev pub base : Content
   base = r.base
 
@@ -57,7 +57,7 @@ module _ (t : Telling) (telling : IsTelling t) (a : State) (r : IsRunning t a) (
 
   -- ---- one more entry waits
 
-  module _ (e : Entry) (one : IsPlain e) (each : (d : Dumps) (st : Stored) → MayRun t.first all d base st → MayRun t.first (all ++ e ∷ []) d base st)
+  module _ (e : Entry) (one : IsPlainEntry e) (each : (d : Dumps) (st : Stored) → MayRun t.first all d base st → MayRun t.first (all ++ e ∷ []) d base st)
       (counts : next_of (all ++ e ∷ []) + count_live all ≤ next_of all + count_live (all ++ e ∷ [])) where
     behind : all ++ e ∷ [] ≡ t.entries a.files ++ (a.waiting ++ e ∷ [])
     behind = append_assoc (t.entries a.files) a.waiting (e ∷ [])
@@ -71,12 +71,12 @@ module _ (t : Telling) (telling : IsTelling t) (a : State) (r : IsRunning t a) (
     count k = push_all (λ l. next_of (t.entries a.files ++ (a.waiting ++ e ∷ [])) + count_live (t.entries a.files ++ l) ≤ next_of (t.entries a.files ++ l) + count_live (t.entries a.files ++ (a.waiting ++ e ∷ []))) a.waiting e
         (λ j. omega (arith, r.counted j, counts, ap (λ (l : List Entry). next_of l) behind, ap (λ (l : List Entry). count_live l) behind)) (omega arith) k
 
-    pub push_leaves : (later : Clock Left) → Steps (Seals t (a.waiting ++ e ∷ [])) a.clock later → LeavesPoints t (points_told (t.dumps a.files) (all ++ e ∷ []) (stored_of a.files)) (next_of (all ++ e ∷ [])) a later
+    pub push_leaves : (later : Clock Left) → Steps (SealsSome t (a.waiting ++ e ∷ [])) a.clock later → LeavesPoints t (points_told (t.dumps a.files) (all ++ e ∷ []) (stored_of a.files)) (next_of (all ++ e ∷ [])) a later
     push_leaves later steps = subst (λ (l : List Entry). LeavesPoints t (points_told (t.dumps a.files) l (stored_of a.files)) (next_of l) a later) (sym behind)
         (seals_leaves t telling a (a.waiting ++ e ∷ []) base r.settled pushed (plain_push a.waiting e r.plain one) count read later steps)
 
     module _ (b : State) (more : Appended t (a.waiting ++ e ∷ []) a.files b.files b.waiting) where
-      pub push_runs : Steps (Seals t (a.waiting ++ e ∷ [])) a.clock b.clock → Settled t b.files b.clock → IsRunning t b
+      pub push_runs : Steps (SealsSome t (a.waiting ++ e ∷ [])) a.clock b.clock → Settled t b.files b.clock → IsRunning t b
       push_runs steps settles = append_runs t telling a (a.waiting ++ e ∷ []) base r.settled pushed (plain_push a.waiting e r.plain one) count read b steps settles more
 
       pub push_entries : entries_now t b ≡ all ++ e ∷ []
@@ -121,12 +121,12 @@ module _ (t : Telling) (telling : IsTelling t) (a : State) (r : IsRunning t a) (
         each_image_at : (d : Dumps) → MayRun t.first (all ++ the_image ∷ []) d base (stored_of a.files)
         each_image_at d = each_image d (stored_of a.files) (other_dumps t.first all (t.dumps a.files) base (stored_of a.files) now_runs d)
 
-    pub log_leaves : (later : Clock Left) → Steps (Seals t (a.waiting ++ the_image ∷ [])) a.clock later → LeavesPoints t (points_now t a) (next_now t a) a later
+    pub log_leaves : (later : Clock Left) → Steps (SealsSome t (a.waiting ++ the_image ∷ [])) a.clock later → LeavesPoints t (points_now t a) (next_now t a) a later
     log_leaves later steps = subst (λ (l : List LivePoint). LeavesPoints t l (next_now t a) a later) (points_image (t.dumps a.files))
         (subst (λ n. LeavesPoints t (points_told (t.dumps a.files) (all ++ the_image ∷ []) (stored_of a.files)) n a later) next_image (push_leaves the_image tt each_image counts_image later steps))
 
     module _ (b : State) (more : Appended t (a.waiting ++ the_image ∷ []) a.files b.files b.waiting) where
-      pub log_runs : Steps (Seals t (a.waiting ++ the_image ∷ [])) a.clock b.clock → Settled t b.files b.clock → IsRunning t b
+      pub log_runs : Steps (SealsSome t (a.waiting ++ the_image ∷ [])) a.clock b.clock → Settled t b.files b.clock → IsRunning t b
       log_runs steps settles = push_runs the_image tt each_image counts_image b more steps settles
 
       pub log_next : next_now t b ≡ next_now t a
@@ -178,12 +178,12 @@ module _ (t : Telling) (telling : IsTelling t) (a : State) (r : IsRunning t a) (
         ∙ ap (λ (l : List ℕ). live_points (live_of all) st ++ map (point_at (live_of all ++ quiet n ∷ []) st) l) new_place
         ∙ ap (λ (l : List LivePoint). l ++ here_now t a ∷ []) (sym (points_are t.first all (t.dumps a.files) base st now_runs))
 
-    pub quiet_leaves : (later : Clock Left) → Steps (Seals t (a.waiting ++ the_quiet ∷ [])) a.clock later → LeavesPoints t (points_now t a ++ here_now t a ∷ []) (next_now t a + 1) a later
+    pub quiet_leaves : (later : Clock Left) → Steps (SealsSome t (a.waiting ++ the_quiet ∷ [])) a.clock later → LeavesPoints t (points_now t a ++ here_now t a ∷ []) (next_now t a + 1) a later
     quiet_leaves later steps = subst (λ (l : List LivePoint). LeavesPoints t l (next_now t a + 1) a later) (points_quiet (t.dumps a.files))
         (subst (λ n. LeavesPoints t (points_told (t.dumps a.files) (all ++ the_quiet ∷ []) (stored_of a.files)) n a later) next_quiet (push_leaves the_quiet tt each_quiet counts_quiet later steps))
 
     module _ (b : State) (more : Appended t (a.waiting ++ the_quiet ∷ []) a.files b.files b.waiting) where
-      pub quiet_runs : Steps (Seals t (a.waiting ++ the_quiet ∷ [])) a.clock b.clock → Settled t b.files b.clock → IsRunning t b
+      pub quiet_runs : Steps (SealsSome t (a.waiting ++ the_quiet ∷ [])) a.clock b.clock → Settled t b.files b.clock → IsRunning t b
       quiet_runs steps settles = push_runs the_quiet tt each_quiet counts_quiet b more steps settles
 
       pub quiet_next : next_now t b ≡ next_now t a + 1
@@ -199,11 +199,11 @@ module _ (t : Telling) (telling : IsTelling t) (a : State) (r : IsRunning t a) (
 
   -- ---- what waits is sealed
 
-  pub sync_leaves : (later : Clock Left) → Steps (Seals t a.waiting) a.clock later → LeavesPoints t (points_now t a) (next_now t a) a later
+  pub sync_leaves : (later : Clock Left) → Steps (SealsSome t a.waiting) a.clock later → LeavesPoints t (points_now t a) (next_now t a) a later
   sync_leaves later steps = seals_leaves t telling a a.waiting base r.settled r.each r.plain r.counted read later steps
 
-  module _ (b : State) (sealed : IsSealed t a.waiting a.files b.files) (none : b.waiting ≡ []) where
-    pub sync_runs : Steps (Seals t a.waiting) a.clock b.clock → Settled t b.files b.clock → IsRunning t b
+  module _ (b : State) (sealed : AreSealed t a.waiting a.files b.files) (none : b.waiting ≡ []) where
+    pub sync_runs : Steps (SealsSome t a.waiting) a.clock b.clock → Settled t b.files b.clock → IsRunning t b
     sync_runs steps settles = seal_runs t telling a a.waiting base r.settled r.each r.plain r.counted read b steps settles sealed none
 
     pub sync_entries : entries_now t b ≡ entries_now t a
@@ -234,13 +234,13 @@ module _ (t : Telling) (telling : IsTelling t) (a : State) (r : IsRunning t a) (
         omega (arith, sync_durable, ap (λ (l : List LivePoint). length l) more.1, length-append (points_of t a.files) more.0)
 
 -- not fewer points than are durable
-pub points_enough : (t : Telling) (telling : IsTelling t) (a : State) → IsRunning t a → IsRead a → durable_now t a ≤ length (points_now t a)
+pub points_enough : (t : Telling) (telling : IsTelling t) (a : State) → IsRunning t a → IsAnOutcome a → durable_now t a ≤ length (points_now t a)
 points_enough t telling a r read =
     let now = old_read t telling a a.waiting r.base r.settled r.each r.plain r.counted read in
     let more = more_points t.first (t.entries a.files) a.waiting (t.dumps a.files) (t.dumps a.files) r.base (stored_of a.files) (stored_of a.files) r.plain now (now_runs t telling a r read) in
     omega (arith, ap (λ (l : List LivePoint). length l) more.1, length-append (points_of t a.files) more.0)
 
 -- a stop now leaves a prefix of the points
-pub now_leaves : (t : Telling) (telling : IsTelling t) (a : State) → IsRunning t a → IsRead a → (x : Left) → Now a.clock x → LeavesPointsPrefix t (points_now t a) (durable_now t a) (next_now t a) x
+pub now_leaves : (t : Telling) (telling : IsTelling t) (a : State) → IsRunning t a → IsAnOutcome a → (x : Left) → Now a.clock x → LeavesPointsPrefix t (points_now t a) (durable_now t a) (next_now t a) x
 now_leaves t telling a r read x now =
     front_left t telling a a.waiting r.base r.settled r.each r.plain r.counted read 0 x (r.settled x now ∙ sym (append_none (t.entries a.files))) (r.each 0 x now)

@@ -28,8 +28,8 @@ use Rattle.dms_history.proofs.ListSteps.{lists_begin, last_keeps_all}
 use Rattle.dms_running.specs.Telling.{Telling, IsTelling}
 use Rattle.dms_running.specs.Standing.{Stands, MayRun}
 use Rattle.dms_running.specs.Points.{points_told, points_of, next_in, LeavesPointsPrefix}
-use Rattle.dms_running.specs.Sealing.{Seals, Appended, IsSealed, Settled}
-use Rattle.dms_running.specs.Running.{State, entries_now, next_now, points_now, durable_now, IsRunning, IsRead, LeavesPoints}
+use Rattle.dms_running.specs.Sealing.{SealsSome, Appended, AreSealed, Settled}
+use Rattle.dms_running.specs.Running.{State, entries_now, next_now, points_now, durable_now, IsRunning, IsAnOutcome, LeavesPoints}
 use Rattle.dms_running.specs.Begun.{ByAudit, IsBegun, IsLast, restore_to, outcome_now, content_at_point}
 use Rattle.dms_running.proofs.MayRun.{counted, sound, points_are}
 use Rattle.dms_running.proofs.Plain.{push_all, take_whole}
@@ -107,10 +107,10 @@ rest_nothing : (n : ℕ) (es : List Entry) → drop n es ≡ [] → take n es �
 rest_nothing n es none = sym (append_none (take n es)) ∙ ap (λ (l : List Entry). take n es ++ l) (sym none) ∙ take-append-drop n es
 
 -- where nothing waits any more, all of the entries are sealed
-pub all_sealed : (t : Telling) (es waiting : List Entry) (old new : Files) → Appended t es old new waiting → waiting ≡ [] → IsSealed t es old new
+pub all_sealed : (t : Telling) (es waiting : List Entry) (old new : Files) → Appended t es old new waiting → waiting ≡ [] → AreSealed t es old new
 all_sealed t es waiting old new a none = record { sealed = a.sealed ∙ ap (λ (l : List Entry). t.entries old ++ l) (rest_nothing a.some es (sym a.rest ∙ none)); above = a.above }
 
-module _ (t : Telling) (telling : IsTelling t) (a : State) (r : IsRunning t a) (read : IsRead a) (m : ℕ) (kind : Kind) (by_audit : ByAudit (how_of kind)) (at : IsLast t a m) where
+module _ (t : Telling) (telling : IsTelling t) (a : State) (r : IsRunning t a) (read : IsAnOutcome a) (m : ℕ) (kind : Kind) (by_audit : ByAudit (how_of kind)) (at : IsLast t a m) where
   abbrev pub base : Content
   base = r.base
 
@@ -123,7 +123,7 @@ module _ (t : Telling) (telling : IsTelling t) (a : State) (r : IsRunning t a) (
   behind : all ++ the_begin ∷ [] ≡ t.entries a.files ++ (a.waiting ++ the_begin ∷ [])
   behind = append_assoc (t.entries a.files) a.waiting (the_begin ∷ [])
 
-  module _ (y x : Left) (now : Now a.clock y) (s : Seals t (a.waiting ++ the_begin ∷ []) y x) where
+  module _ (y x : Left) (now : Now a.clock y) (s : SealsSome t (a.waiting ++ the_begin ∷ []) y x) where
     run_at : (k : ℕ) → MayRun t.first (t.entries a.files ++ take k a.waiting) (t.dumps x.files) base (stored_of x.files)
     run_at k = record {
       stands = carried t telling y.files x.files (t.entries a.files ++ take k a.waiting) base s.above (r.each k y now).stands;
@@ -166,10 +166,10 @@ module _ (t : Telling) (telling : IsTelling t) (a : State) (r : IsRunning t a) (
         (λ k is. front_left t telling a a.waiting base r.settled r.each r.plain r.counted read k x is (run_at k))
         (λ is. front_all (is ∙ sym behind)) s.some (s.sealed ∙ ap (λ (l : List Entry). l ++ take s.some (a.waiting ++ the_begin ∷ [])) (r.settled y now))
 
-  pub begin_goes : (later : Clock Left) → Steps (Seals t (a.waiting ++ the_begin ∷ [])) a.clock later → LeavesPoints t (points_now t a) (next_now t a) a later
+  pub begin_goes : (later : Clock Left) → Steps (SealsSome t (a.waiting ++ the_begin ∷ [])) a.clock later → LeavesPoints t (points_now t a) (next_now t a) a later
   begin_goes later steps = runs_weaken steps.runs (λ x after. begin_front after.0 x after.1 after.2)
 
-  module _ (b : State) (sealed : IsSealed t (a.waiting ++ the_begin ∷ []) a.files b.files) where
+  module _ (b : State) (sealed : AreSealed t (a.waiting ++ the_begin ∷ []) a.files b.files) where
     pub entries_are : t.entries b.files ≡ all ++ the_begin ∷ []
     entries_are = sealed.sealed ∙ sym behind
 
@@ -182,7 +182,7 @@ module _ (t : Telling) (telling : IsTelling t) (a : State) (r : IsRunning t a) (
     run_now : MayRun t.first all (t.dumps a.files) base (stored_of a.files)
     run_now = now_runs t telling a r read
 
-    pub begun : b.waiting ≡ [] → Steps (Seals t (a.waiting ++ the_begin ∷ [])) a.clock b.clock → Settled t b.files b.clock → IsBegun t (restore_to t a m (how_of kind)) b
+    pub begun : b.waiting ≡ [] → Steps (SealsSome t (a.waiting ++ the_begin ∷ [])) a.clock b.clock → Settled t b.files b.clock → IsBegun t (restore_to t a m (how_of kind)) b
     begun none steps settles = record {
       base = base;
       nothing = none;

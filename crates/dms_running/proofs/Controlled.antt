@@ -32,8 +32,8 @@ use Rattle.dms_history.proofs.ListSteps.{lists_control}
 use Rattle.dms_running.specs.Telling.{Telling, IsTelling}
 use Rattle.dms_running.specs.Standing.{Stands, MayRun}
 use Rattle.dms_running.specs.Points.{points_told, next_in}
-use Rattle.dms_running.specs.Sealing.{Seals, Appended, Settled}
-use Rattle.dms_running.specs.Running.{State, entries_now, content_now, points_now, IsRunning, IsRead, AllWritten}
+use Rattle.dms_running.specs.Sealing.{SealsSome, Appended, Settled}
+use Rattle.dms_running.specs.Running.{State, entries_now, content_now, points_now, IsRunning, IsAnOutcome, AllWritten}
 use Rattle.dms_running.specs.Begun.{LeavesAll, IsLast, IsSchemaControl}
 use Rattle.dms_running.proofs.MayRun.{idle, images_both}
 use Rattle.dms_running.proofs.Stopped.{blocks_same}
@@ -165,7 +165,7 @@ module _ (first : Bool) (es : List Entry) (d : Dumps) (base : Content) (st : Sto
 
 -- ---- a control point of a database that runs
 
-module _ (t : Telling) (telling : IsTelling t) (a : State) (r : IsRunning t a) (read : IsRead a) (nothing : a.waiting ≡ []) (only : Only a.files a.clock) (written : AllWritten t a)
+module _ (t : Telling) (telling : IsTelling t) (a : State) (r : IsRunning t a) (read : IsAnOutcome a) (nothing : a.waiting ≡ []) (only : Only a.files a.clock) (written : AllWritten t a)
     (n : ℕ) (at : IsLast t a n) (counts : List FileCount) (count : (f : ℕ) → counts_in counts f ≡ length (content_now t a f)) (es : List Entry) (c : IsSchemaControl t a n counts es) where
   abbrev pub base : Content
   base = r.base

@@ -24,8 +24,8 @@ use Rattle.dms_history.proofs.Listed.{points_stay}
 use Rattle.dms_running.specs.Telling.{Telling, IsTelling}
 use Rattle.dms_running.specs.Standing.{MayRun}
 use Rattle.dms_running.specs.Points.{points_told, LeavesPointsPrefix}
-use Rattle.dms_running.specs.Sealing.{IsSealed}
-use Rattle.dms_running.specs.Running.{State, entries_now, next_now, points_now, durable_now, content_now, count_live, IsRunning, IsRead, LeavesPoints, IsLogged, IsChanged, AllPlain}
+use Rattle.dms_running.specs.Sealing.{AreSealed}
+use Rattle.dms_running.specs.Running.{State, entries_now, next_now, points_now, durable_now, content_now, count_live, IsRunning, IsAnOutcome, LeavesPoints, IsLogged, IsChanged, AllPlain}
 use Rattle.dms_running.proofs.MayRun.{sound, has_one, points_are, content_sized, may_write, other_dumps}
 use Rattle.dms_running.proofs.Plain.{plain_grows, plain_take}
 use Rattle.dms_running.proofs.Stopped.{front_left, old_read, count_told}
@@ -43,7 +43,7 @@ after_more xs (e ∷ more) off =
 pub after_from : (es : List Event) → has is_control es ≡ true → after_last is_control (from_control es) ≡ after_last is_control es
 after_from es found = sym (after_behind is_control (opening es) (from_control es) (from_has es found)) ∙ ap (λ (l : List Event). after_last is_control l) (parts es)
 
-module _ (t : Telling) (telling : IsTelling t) (a : State) (r : IsRunning t a) (read : IsRead a) (f b : ℕ) (structure : 30000 < f) (logged : IsLogged t a.files f b) where
+module _ (t : Telling) (telling : IsTelling t) (a : State) (r : IsRunning t a) (read : IsAnOutcome a) (f b : ℕ) (structure : 30000 < f) (logged : IsLogged t a.files f b) where
   abbrev pub base : Content
   base = r.base
 
@@ -121,7 +121,7 @@ module _ (t : Telling) (telling : IsTelling t) (a : State) (r : IsRunning t a) (
             (subst (λ (l : List Entry). next_of (entries_now t a) + count_live l ≤ next_of l + count_live (entries_now t a)) (sym (each_later k)) (r.counted k));
       }
 
-      module _ (reads : IsRead c) where
+      module _ (reads : IsAnOutcome c) where
         later_may : MayRun t.first (entries_now t a) (t.dumps c.files) base (stored_of c.files)
         unfolding early_runs
         later_may = subst (λ (l : List Entry). MayRun t.first l (t.dumps c.files) base (stored_of c.files)) later_all (now_runs t telling c early_runs reads)
@@ -146,7 +146,7 @@ module _ (t : Telling) (telling : IsTelling t) (a : State) (r : IsRunning t a) (
             ∙ sym (count_told t.first (t.entries a.files) (t.dumps a.files) r.base (stored_of a.files) one)
 
 -- what was changed before the entries were sealed
-pub changed_sealed : (t : Telling) (a b : State) (f k : ℕ) → IsSealed t a.waiting a.files b.files → IsChanged t a f k → IsLogged t b.files f k
+pub changed_sealed : (t : Telling) (a b : State) (f k : ℕ) → AreSealed t a.waiting a.files b.files → IsChanged t a f k → IsLogged t b.files f k
 changed_sealed t a b f k sealed changed none = changed (ap (λ (l : List Entry). last_after f k (after_last is_control (live_of l))) (sym sealed.sealed) ∙ none)
 
 -- where nothing waits a change is sealed

@@ -21,8 +21,8 @@ use Rattle.dms_history.proofs.Keeping.{kept_ends}
 use Rattle.dms_running.specs.Telling.{Telling, IsTelling}
 use Rattle.dms_running.specs.Standing.{Stands, MayRun}
 use Rattle.dms_running.specs.Points.{points_told, points_of, next_in}
-use Rattle.dms_running.specs.Sealing.{Seals, Appended, Settled}
-use Rattle.dms_running.specs.Running.{State, entries_now, content_now, points_now, IsRunning, IsRead}
+use Rattle.dms_running.specs.Sealing.{SealsSome, Appended, Settled}
+use Rattle.dms_running.specs.Running.{State, entries_now, content_now, points_now, IsRunning, IsAnOutcome}
 use Rattle.dms_running.specs.Begun.{IsBegun, LeavesAll, IsRestored, outcome_now, IsSchemaControl}
 use Rattle.dms_running.proofs.Stopped.{blocks_same}
 use Rattle.dms_running.proofs.Appending.{content_of}
@@ -50,7 +50,7 @@ module _ (first : Bool) (es : List Entry) (d : Dumps) (base : Content) (st : Sto
   end_content = ap (λ (l : List Entry). content_told l base) (sym (behind first es d base st p.point next one rest counts)) ∙ telling_it.tells
       ∙ ap (λ (h : History). replay (from_control h.live) base) (same_history first es d base st p.point next one rest counts)
 
-module _ (t : Telling) (telling : IsTelling t) (p : Pending) (a : State) (r : IsBegun t p a) (read : IsRead a) (only : Only a.files a.clock) (restored : IsRestored t p a)
+module _ (t : Telling) (telling : IsTelling t) (p : Pending) (a : State) (r : IsBegun t p a) (read : IsAnOutcome a) (only : Only a.files a.clock) (restored : IsRestored t p a)
     (counts : List FileCount) (count : (f : ℕ) → counts_in counts f ≡ count_at p.entries p.point f) (es : List Entry) (c : IsSchemaControl t a p.point counts es) where
   abbrev pub base : Content
   base = r.base

@@ -18,7 +18,7 @@ use Rattle.dms_history.proofs.Runs.{after_push}
 use Rattle.dms_history.proofs.Sealed.{image_sealed, one_more_event}
 use Rattle.dms_running.specs.Telling.{Telling}
 use Rattle.dms_running.specs.Running.{State, entries_now, content_now, IsChanged, AllWritten}
-use Rattle.dms_running.specs.Frames.{Frame, Frames, with_frame, HoldsOne, Holds}
+use Rattle.dms_running.specs.Frames.{Frame, Frames, with_frame, HoldsOne, FramesHold}
 
 true_not_false : true ≡ false → ⊥
 true_not_false e = absurd cc
@@ -46,7 +46,7 @@ same_place f b g c = elim (cases_eq f g) [
 ]
 
 -- one block gets another frame, the others keep theirs
-pub holds_with : (t : Telling) (s : State) (frames : Frames) (f b : ℕ) (o : Option Frame) → HoldsOne t s f b o → ((g c : ℕ) → (f ≡ g → b ≡ c → ⊥) → HoldsOne t s g c (frames g c)) → Holds t s (with_frame frames f b o)
+pub holds_with : (t : Telling) (s : State) (frames : Frames) (f b : ℕ) (o : Option Frame) → HoldsOne t s f b o → ((g c : ℕ) → (f ≡ g → b ≡ c → ⊥) → HoldsOne t s g c (frames g c)) → FramesHold t s (with_frame frames f b o)
 holds_with t s frames f b o one others g c = elim (same_place f b g c) [
   | inl same ↦ subst (λ j. HoldsOne t s j c (with_frame frames f b o j c)) same.0
       (subst (λ j. HoldsOne t s f j (with_frame frames f b o f j)) same.1 (subst (HoldsOne t s f b) (sym (frame_here frames f b o)) one))
@@ -54,7 +54,7 @@ holds_with t s frames f b o one others g c = elim (same_place f b g c) [
 ]
 
 -- no block is held, and each stands in its file as the content has it
-pub holds_none : (t : Telling) (s : State) → AllWritten t s → Holds t s (λ f b. None)
+pub holds_none : (t : Telling) (s : State) → AllWritten t s → FramesHold t s (λ f b. None)
 holds_none t s written f b = record {
   held = λ x is. absurd (none_not_some x is);
   stands = λ low clean. written f b low;
@@ -63,8 +63,8 @@ holds_none t s written f b = record {
 
 -- ---- a block is read into a frame, or one that isn't to be written is given up
 
-module _ (t : Telling) (s : State) (frames : Frames) (h : Holds t s frames) (f b : ℕ) where
-  pub holds_read : frames f b ≡ None → b < length (content_now t s f) → Holds t s (with_frame frames f b (Some (record { block = stored_of s.files f b; dirty = false })))
+module _ (t : Telling) (s : State) (frames : Frames) (h : FramesHold t s frames) (f b : ℕ) where
+  pub holds_read : frames f b ≡ None → b < length (content_now t s f) → FramesHold t s (with_frame frames f b (Some (record { block = stored_of s.files f b; dirty = false })))
   holds_read none low =
       let x : Frame = record { block = stored_of s.files f b; dirty = false } in
       let at : stored_of s.files f b ≡ block_in (content_now t s) f b = (h f b).stands low (λ y is. absurd (none_not_some y (sym none ∙ is))) in
@@ -74,7 +74,7 @@ module _ (t : Telling) (s : State) (frames : Frames) (h : Holds t s frames) (f b
         changed = λ y is dirty. let own : x ≡ y = some_is x y is in absurd (true_not_false (sym dirty ∙ ap (λ (z : Frame). z.dirty) (sym own)));
       }) (λ g c off. h g c)
 
-  pub holds_given_up : ((x : Frame) → frames f b ≡ Some x → x.dirty ≡ false) → Holds t s (with_frame frames f b None)
+  pub holds_given_up : ((x : Frame) → frames f b ≡ Some x → x.dirty ≡ false) → FramesHold t s (with_frame frames f b None)
   holds_given_up clean = holds_with t s frames f b None (record {
     held = λ y is. absurd (none_not_some y is);
     stands = λ low off. (h f b).stands low clean;
@@ -83,7 +83,7 @@ module _ (t : Telling) (s : State) (frames : Frames) (h : Holds t s frames) (f b
 
 -- ---- the state is another one with the same content and blocks, and changes stay changes
 
-pub holds_same : (t : Telling) (a b : State) (frames : Frames) → Holds t a frames → content_now t b ≡ content_now t a → stored_of b.files ≡ stored_of a.files → ((f k : ℕ) → IsChanged t a f k → IsChanged t b f k) → Holds t b frames
+pub holds_same : (t : Telling) (a b : State) (frames : Frames) → FramesHold t a frames → content_now t b ≡ content_now t a → stored_of b.files ≡ stored_of a.files → ((f k : ℕ) → IsChanged t a f k → IsChanged t b f k) → FramesHold t b frames
 holds_same t a b frames h content blocks changes f k = record {
   held = λ x is. let r = (h f k).held x is in (subst (λ (c : Content). k < length (c f)) (sym content) r.0, r.1 ∙ ap (λ (c : Content). block_in c f k) (sym content));
   stands = λ low clean. ap (λ (st : Stored). st f k) blocks ∙ (h f k).stands (subst (λ (c : Content). k < length (c f)) content low) clean ∙ ap (λ (c : Content). block_in c f k) (sym content);
@@ -92,7 +92,7 @@ holds_same t a b frames h content blocks changes f k = record {
 
 -- ---- a block is changed
 
-module _ (t : Telling) (a later : State) (frames : Frames) (h : Holds t a frames) (f b : ℕ) (before : Option Block) (after : Block)
+module _ (t : Telling) (a later : State) (frames : Frames) (h : FramesHold t a frames) (f b : ℕ) (before : Option Block) (after : Block)
     (tells : TellsBefore b before (content_now t a f)) (grown : content_now t later ≡ with_block (content_now t a) f b after)
     (entries : entries_now t later ≡ entries_now t a ++ image f b before after ∷ []) (blocks : stored_of later.files ≡ stored_of a.files) where
   le : b ≤ length (content_now t a f)
@@ -110,7 +110,7 @@ module _ (t : Telling) (a later : State) (frames : Frames) (h : Holds t a frames
       (sym (last_append (after_last is_control (live_of (entries_now t a))) (change f b before after ∷ []) g k) ∙ ap (λ (l : List Event). last_after g k l) (sym behind) ∙ none) in
       (if_none (is_at g k f b) after r.0, r.1)
 
-  pub holds_changed : Holds t later (with_frame frames f b (Some (record { block = after; dirty = true })))
+  pub holds_changed : FramesHold t later (with_frame frames f b (Some (record { block = after; dirty = true })))
   holds_changed =
       let x : Frame = record { block = after; dirty = true } in
       let was = content_now t a in
@@ -136,7 +136,7 @@ module _ (t : Telling) (a later : State) (frames : Frames) (h : Holds t a frames
 
 -- ---- a block is written, and its frame isn't to be written any more, or is given up
 
-module _ (t : Telling) (a later : State) (frames : Frames) (h : Holds t a frames) (f b : ℕ) (x : Frame) (is : frames f b ≡ Some x) (structure : 30000 < f) (sized : AllSized (content_now t a))
+module _ (t : Telling) (a later : State) (frames : Frames) (h : FramesHold t a frames) (f b : ℕ) (x : Frame) (is : frames f b ≡ Some x) (structure : 30000 < f) (sized : AllSized (content_now t a))
     (written : later.files ≡ with_file a.files f (overlaid (1024 * b) x.block (a.files f))) (same : content_now t later ≡ content_now t a) (entries : entries_now t later ≡ entries_now t a) where
   len : length x.block ≡ 1024
   len = let r = (h f b).held x is in ap length r.1 ∙ sized f b r.0
@@ -166,7 +166,7 @@ module _ (t : Telling) (a later : State) (frames : Frames) (h : Holds t a frames
   at_content : stored_of later.files f b ≡ block_in (content_now t later) f b
   at_content = now_there ∙ ((h f b).held x is).1 ∙ ap (λ (k : Content). block_in k f b) (sym same)
 
-  pub holds_written : Holds t later (with_frame frames f b (Some (record { block = x.block; dirty = false })))
+  pub holds_written : FramesHold t later (with_frame frames f b (Some (record { block = x.block; dirty = false })))
   holds_written =
       let z : Frame = record { block = x.block; dirty = false } in
       holds_with t later frames f b (Some z) (record {
@@ -176,7 +176,7 @@ module _ (t : Telling) (a later : State) (frames : Frames) (h : Holds t a frames
         changed = λ y at dirty. let own : z ≡ y = some_is z y at in absurd (true_not_false (sym dirty ∙ ap (λ (w : Frame). w.dirty) (sym own)));
       }) others
 
-  pub holds_evicted : Holds t later (with_frame frames f b None)
+  pub holds_evicted : FramesHold t later (with_frame frames f b None)
   holds_evicted = holds_with t later frames f b None (record {
     held = λ y at. absurd (none_not_some y at);
     stands = λ low clean. at_content;
@@ -184,5 +184,5 @@ module _ (t : Telling) (a later : State) (frames : Frames) (h : Holds t a frames
   }) others
 
 -- where no frame is to be written, all blocks are
-pub all_written : (t : Telling) (s : State) (frames : Frames) → Holds t s frames → ((f b : ℕ) (x : Frame) → frames f b ≡ Some x → x.dirty ≡ false) → AllWritten t s
+pub all_written : (t : Telling) (s : State) (frames : Frames) → FramesHold t s frames → ((f b : ℕ) (x : Frame) → frames f b ≡ Some x → x.dirty ≡ false) → AllWritten t s
 all_written t s frames h clean f b low = (h f b).stands low (clean f b)

@@ -17,8 +17,8 @@ use Rattle.dms_history.proofs.Listed.{points_stay}
 use Rattle.dms_running.specs.Telling.{Telling, IsTelling}
 use Rattle.dms_running.specs.Standing.{MayRun}
 use Rattle.dms_running.specs.Points.{points_told}
-use Rattle.dms_running.specs.Sealing.{Seals, Settled}
-use Rattle.dms_running.specs.Running.{State, entries_now, next_now, points_now, durable_now, content_now, count_live, AllPlain, IsRunning, IsRead, IsChanged}
+use Rattle.dms_running.specs.Sealing.{SealsSome, Settled}
+use Rattle.dms_running.specs.Running.{State, entries_now, next_now, points_now, durable_now, content_now, count_live, AllPlain, IsRunning, IsAnOutcome, IsChanged}
 use Rattle.dms_running.proofs.MayRun.{sound, has_one, points_are}
 use Rattle.dms_running.proofs.Plain.{take_nothing, take_whole}
 use Rattle.dms_running.proofs.Stopped.{blocks_same}
@@ -26,7 +26,7 @@ use Rattle.dms_running.proofs.Appending.{content_of, now_runs, content_is}
 use Rattle.dms_running.proofs.Early.{after_from}
 
 -- Another state with the same entries over the same base has the same points, next number and content.
-module _ (t : Telling) (telling : IsTelling t) (a : State) (r : IsRunning t a) (read : IsRead a) (b : State) (same : entries_now t b ≡ entries_now t a)
+module _ (t : Telling) (telling : IsTelling t) (a : State) (r : IsRunning t a) (read : IsAnOutcome a) (b : State) (same : entries_now t b ≡ entries_now t a)
     (may : MayRun t.first (entries_now t a) (t.dumps b.files) r.base (stored_of b.files)) where
   pub same_points : points_now t b ≡ points_now t a
   same_points =
@@ -43,7 +43,7 @@ module _ (t : Telling) (telling : IsTelling t) (a : State) (r : IsRunning t a) (
   pub same_content : content_now t b ≡ content_now t a
   same_content = content_of t b (entries_now t a) (stored_of b.files) (t.dumps b.files) r.base same refl may ∙ sym (content_is t telling a r read)
 
-module _ (t : Telling) (telling : IsTelling t) (a : State) (r : IsRunning t a) (read : IsRead a) (es : List Entry) (b : State) (steps : Steps (Seals t es) a.clock b.clock) (settles : Settled t b.files b.clock)
+module _ (t : Telling) (telling : IsTelling t) (a : State) (r : IsRunning t a) (read : IsAnOutcome a) (es : List Entry) (b : State) (steps : Steps (SealsSome t es) a.clock b.clock) (settles : Settled t b.files b.clock)
     (sealed : t.entries b.files ≡ t.entries a.files ++ a.waiting) (nothing : b.waiting ≡ []) where
   pub full_entries : entries_now t b ≡ entries_now t a
   full_entries = ap (λ (l : List Entry). t.entries b.files ++ l) nothing ∙ append_none (t.entries b.files) ∙ sealed
@@ -69,7 +69,7 @@ module _ (t : Telling) (telling : IsTelling t) (a : State) (r : IsRunning t a) (
     counted = λ k. omega (arith, ap (λ (l : List Entry). next_of l) (full_entries ∙ at_each k), ap (λ (l : List Entry). count_live l) (full_entries ∙ at_each k));
   }
 
-  module _ (reads : IsRead b) where
+  module _ (reads : IsAnOutcome b) where
     full_may : MayRun t.first (entries_now t a) (t.dumps b.files) r.base (stored_of b.files)
     full_may = subst (λ l. MayRun t.first (entries_now t a) (t.dumps l) r.base (stored_of l)) reads.2 (each_full reads.0 reads.1)
 
@@ -87,7 +87,7 @@ module _ (t : Telling) (telling : IsTelling t) (a : State) (r : IsRunning t a) (
 -- ---- the newest Image of a block
 
 -- a block with a change since the last Control is in the content what that change made it
-pub newest_is : (t : Telling) (telling : IsTelling t) (a : State) (r : IsRunning t a) (read : IsRead a) (f b : ℕ) (x : Block) → last_after f b (after_last is_control (live_of (entries_now t a))) ≡ Some x
+pub newest_is : (t : Telling) (telling : IsTelling t) (a : State) (r : IsRunning t a) (read : IsAnOutcome a) (f b : ℕ) (x : Block) → last_after f b (after_last is_control (live_of (entries_now t a))) ≡ Some x
     → block_in (content_now t a) f b ≡ x
 newest_is t telling a r read f b x is =
     let all = entries_now t a in
@@ -100,7 +100,7 @@ newest_is t telling a r read f b x is =
     ap (λ (c : Content). block_in c f b) (content_is t telling a r read) ∙ last_stands from r.base f b x s.chain whole
 
 -- where nothing waits, a block that was changed since the last Control has its newest Image sealed, and that has the bytes of the content
-pub newest_sealed : (t : Telling) (telling : IsTelling t) (a : State) (r : IsRunning t a) (read : IsRead a) (f b : ℕ) (x : Block) → a.waiting ≡ [] → IsChanged t a f b → block_in (content_now t a) f b ≡ x
+pub newest_sealed : (t : Telling) (telling : IsTelling t) (a : State) (r : IsRunning t a) (read : IsAnOutcome a) (f b : ℕ) (x : Block) → a.waiting ≡ [] → IsChanged t a f b → block_in (content_now t a) f b ≡ x
     → last_after f b (after_last is_control (live_of (t.entries a.files))) ≡ Some x
 newest_sealed t telling a r read f b x nothing changed is =
     let all : entries_now t a ≡ t.entries a.files = ap (λ (l : List Entry). t.entries a.files ++ l) nothing ∙ append_none (t.entries a.files) in

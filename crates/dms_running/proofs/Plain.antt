@@ -10,7 +10,7 @@ use Rattle.dms_history.specs.EntryEvents.{events, live_of}
 use Rattle.dms_history.proofs.Base.{has_append}
 use Rattle.dms_history.proofs.Order.{append_none}
 use Rattle.dms_history.proofs.Sealed.{image_sealed, quiet_sealed, one_more_event}
-use Rattle.dms_running.specs.Running.{IsPlain, AllPlain}
+use Rattle.dms_running.specs.Running.{IsPlainEntry, AllPlain}
 
 -- the live events only grow, and no Control is among what is new
 pub record Grows (xs ys : List Entry) : Type 0 where
@@ -18,7 +18,7 @@ pub record Grows (xs ys : List Entry) : Type 0 where
   pub live : live_of (xs ++ ys) ≡ live_of xs ++ more
   pub no_control : has is_control more ≡ false
 
-one_grows : (xs : List Entry) (e : Entry) → IsPlain e → Grows xs (e ∷ [])
+one_grows : (xs : List Entry) (e : Entry) → IsPlainEntry e → Grows xs (e ∷ [])
 one_grows xs (schema_part part parts bytes) plain = absurd plain
 one_grows xs (image f b before after) plain = record {
   more = change f b before after ∷ [];
@@ -54,7 +54,7 @@ plain_take zero es plain = tt
 plain_take (suc k) [] plain = tt
 plain_take (suc k) (e ∷ es) plain = (plain.0, plain_take k es plain.1)
 
-pub plain_push : (es : List Entry) (e : Entry) → AllPlain es → IsPlain e → AllPlain (es ++ e ∷ [])
+pub plain_push : (es : List Entry) (e : Entry) → AllPlain es → IsPlainEntry e → AllPlain (es ++ e ∷ [])
 plain_push [] e all one = (one, tt)
 plain_push (x ∷ es) e all one = (all.0, plain_push es e all.1 one)
 

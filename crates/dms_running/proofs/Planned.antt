@@ -14,7 +14,7 @@ use Rattle.dms_history.proofs.Order.{append_none}
 use Rattle.dms_running.specs.Telling.{Telling, IsTelling}
 use Rattle.dms_running.specs.Standing.{Stands, MayRun, IsWhole}
 use Rattle.dms_running.specs.Points.{points_told, points_of, next_in, LeavesPointsPrefix}
-use Rattle.dms_running.specs.Sealing.{Seals, Appended, IsSealed, Settled}
+use Rattle.dms_running.specs.Sealing.{SealsSome, Appended, AreSealed, Settled}
 use Rattle.dms_running.specs.Running.{State, entries_now, count_live, AllPlain, IsRunning}
 use Rattle.dms_running.specs.Begun.{LeavesAll}
 use Rattle.dms_running.specs.Plans.{Planned, Lays, KeepsAll}
@@ -91,17 +91,17 @@ module _ (t : Telling) (es : List Entry) (start : Files) (old : Clock Left) (s :
       ∙ ap (λ (j : List Entry). t.entries start ++ j) (sym (take-append-add sealed_part (s.waiting ++ more) k) ∙ ap (λ (j : List Entry). take (length sealed_part + k) j) (sym (halves more)))
 
   -- what a stop leaves while these and some more are sealed
-  reached : (more : List Entry) (y x : Left) → Now s.clock y → Seals t (s.waiting ++ more) y x → Planned t (es ++ more) start x
+  reached : (more : List Entry) (y x : Left) → Now s.clock y → SealsSome t (s.waiting ++ more) y x → Planned t (es ++ more) start x
   reached more y x now seals = record {
     some = length sealed_part + seals.some;
     sealed = seals.sealed ∙ ap (λ (j : List Entry). j ++ take seals.some (s.waiting ++ more)) (l.settled y now ∙ l.appended.sealed) ∙ sealed_more more seals.some;
     above = λ g up. seals.above g up ∙ (l.now y now).above g up;
   }
 
-  pub lays_since : (more : List Entry) (later : Clock Left) → Steps (Seals t (s.waiting ++ more)) s.clock later → Runs old later (Planned t (es ++ more) start)
+  pub lays_since : (more : List Entry) (later : Clock Left) → Steps (SealsSome t (s.waiting ++ more)) s.clock later → Runs old later (Planned t (es ++ more) start)
   lays_since more later steps = runs_on (runs_weaken l.since (λ x p. planned_more t es more start x p)) (runs_weaken steps.runs (λ x after. reached more after.0 x after.1 after.2)) (λ x p. p)
 
-  pub lays_more : (more : List Entry) (b : State) → Steps (Seals t (s.waiting ++ more)) s.clock b.clock → Settled t b.files b.clock → Appended t (s.waiting ++ more) s.files b.files b.waiting → Lays t (es ++ more) start old b
+  pub lays_more : (more : List Entry) (b : State) → Steps (SealsSome t (s.waiting ++ more)) s.clock b.clock → Settled t b.files b.clock → Appended t (s.waiting ++ more) s.files b.files b.waiting → Lays t (es ++ more) start old b
   lays_more more b steps settles a = record {
     appended = record {
       some = length sealed_part + a.some;
@@ -115,11 +115,11 @@ module _ (t : Telling) (es : List Entry) (start : Files) (old : Clock Left) (s :
   }
 
   -- what waits is sealed
-  pub lays_sealing : (later : Clock Left) → Steps (Seals t s.waiting) s.clock later → Runs old later (Planned t es start)
+  pub lays_sealing : (later : Clock Left) → Steps (SealsSome t s.waiting) s.clock later → Runs old later (Planned t es start)
   lays_sealing later steps = subst (λ (j : List Entry). Runs old later (Planned t j start)) (append_none es)
-      (lays_since [] later (subst (λ (j : List Entry). Steps (Seals t j) s.clock later) (sym (append_none s.waiting)) steps))
+      (lays_since [] later (subst (λ (j : List Entry). Steps (SealsSome t j) s.clock later) (sym (append_none s.waiting)) steps))
 
-  pub lays_sealed : (later : Files) → IsSealed t s.waiting s.files later → (t.entries later ≡ t.entries start ++ es) × ((g : ℕ) → 20000 < g → later g ≡ start g)
+  pub lays_sealed : (later : Files) → AreSealed t s.waiting s.files later → (t.entries later ≡ t.entries start ++ es) × ((g : ℕ) → 20000 < g → later g ≡ start g)
   lays_sealed later sealed = (sealed.sealed ∙ joined t es s.waiting start s.files l.appended, λ g up. sealed.above g up ∙ l.appended.above g up)
 
 module _ (t : Telling) (telling : IsTelling t) (es : List Entry) (a : State) (base : Content) (keeps : KeepsAll t es a.files base) (only : Only a.files a.clock) where

@@ -25,7 +25,7 @@ use Rattle.dms_history.proofs.Sizing.{sized_replay}
 use Rattle.dms_running.specs.Telling.{Telling, IsTelling}
 use Rattle.dms_running.specs.Standing.{Stands}
 use Rattle.dms_running.specs.Points.{points_told, points_of, next_in, LeavesPointsPrefix}
-use Rattle.dms_running.specs.Running.{State, IsRead}
+use Rattle.dms_running.specs.Running.{State, IsAnOutcome}
 use Rattle.dms_running.specs.Restoring.{IsKept, Rewritten, Rewrites, RestoredTo}
 use Rattle.dms_running.specs.Begun.{ByAudit, IsBegun, LeavesAll, IsRestored, outcome_now}
 use Rattle.dms_running.proofs.Planned.{all_left}
@@ -83,7 +83,7 @@ module _ (first : Bool) (es : List Entry) (base : Content) (d : Dumps) (p : Pend
     images_sized = s.images_sized;
   }
 
-module _ (t : Telling) (telling : IsTelling t) (p : Pending) (a : State) (r : IsBegun t p a) (read : IsRead a) where
+module _ (t : Telling) (telling : IsTelling t) (p : Pending) (a : State) (r : IsBegun t p a) (read : IsAnOutcome a) where
   abbrev pub es : List Entry
   es = t.entries a.files
 

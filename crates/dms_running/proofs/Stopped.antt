@@ -17,8 +17,8 @@ use Rattle.dms_history.proofs.Listed.{points_front}
 use Rattle.dms_running.specs.Telling.{Telling, IsTelling}
 use Rattle.dms_running.specs.Standing.{Stands, MayRun}
 use Rattle.dms_running.specs.Points.{points_told, points_of, LeavesPointsPrefix}
-use Rattle.dms_running.specs.Sealing.{Seals, Appended, IsSealed, Settled}
-use Rattle.dms_running.specs.Running.{State, entries_now, AllPlain, count_live, IsRunning, IsRead, LeavesPoints}
+use Rattle.dms_running.specs.Sealing.{SealsSome, Appended, AreSealed, Settled}
+use Rattle.dms_running.specs.Running.{State, entries_now, AllPlain, count_live, IsRunning, IsAnOutcome, LeavesPoints}
 use Rattle.dms_running.proofs.MayRun.{sound, points_are}
 use Rattle.dms_running.proofs.Plain.{plain_grows, plain_drop, plain_take, take_nothing, take_whole, split_behind}
 
@@ -52,7 +52,7 @@ joined t es waiting old new a = (λ i. a.sealed i ++ a.rest i) ∙ split_behind 
 
 module _ (t : Telling) (telling : IsTelling t) (a : State) (es : List Entry) (base : Content) (settled : Settled t a.files a.clock)
     (each : (k : ℕ) (x : Left) → Now a.clock x → MayRun t.first (t.entries a.files ++ take k es) (t.dumps x.files) base (stored_of x.files)) (plain : AllPlain es)
-    (counted : (k : ℕ) → next_of (t.entries a.files ++ es) + count_live (t.entries a.files ++ take k es) ≤ next_of (t.entries a.files ++ take k es) + count_live (t.entries a.files ++ es)) (read : IsRead a) where
+    (counted : (k : ℕ) → next_of (t.entries a.files ++ es) + count_live (t.entries a.files ++ take k es) ≤ next_of (t.entries a.files ++ take k es) + count_live (t.entries a.files ++ es)) (read : IsAnOutcome a) where
   abbrev pub old : List Entry
   old = t.entries a.files
 
@@ -92,18 +92,18 @@ module _ (t : Telling) (telling : IsTelling t) (a : State) (es : List Entry) (ba
       }
 
   -- what stands after so many of the entries were sealed
-  pub sealed_each : (y x : Left) (s : Seals t es y x) → Now a.clock y → (k : ℕ) → MayRun t.first (old ++ take k es) (t.dumps x.files) base (stored_of x.files)
+  pub sealed_each : (y x : Left) (s : SealsSome t es y x) → Now a.clock y → (k : ℕ) → MayRun t.first (old ++ take k es) (t.dumps x.files) base (stored_of x.files)
   sealed_each y x s now k =
       subst (λ (d : Dumps). MayRun t.first (old ++ take k es) d base (stored_of x.files)) (sym (telling.dumps_between x.files y.files (λ g above below. s.above g above)))
       (subst (λ (st : Stored). MayRun t.first (old ++ take k es) (t.dumps y.files) base st) (sym (blocks_same x.files y.files s.above)) (each k y now))
 
-  pub sealed_is : (y x : Left) (s : Seals t es y x) → Now a.clock y → t.entries x.files ≡ old ++ take s.some es
+  pub sealed_is : (y x : Left) (s : SealsSome t es y x) → Now a.clock y → t.entries x.files ≡ old ++ take s.some es
   sealed_is y x s now = s.sealed ∙ ap (λ (l : List Entry). l ++ take s.some es) (settled y now)
 
-  pub seals_leaves : (later : Clock Left) → Steps (Seals t es) a.clock later → LeavesPoints t (points_told (t.dumps a.files) (old ++ es) (stored_of a.files)) (next_of (old ++ es)) a later
+  pub seals_leaves : (later : Clock Left) → Steps (SealsSome t es) a.clock later → LeavesPoints t (points_told (t.dumps a.files) (old ++ es) (stored_of a.files)) (next_of (old ++ es)) a later
   seals_leaves later steps = runs_weaken steps.runs (λ x after. let s = after.2 in front_left s.some x (sealed_is after.0 x s after.1) (sealed_each after.0 x s after.1 s.some))
 
-  pub append_runs : (b : State) → Steps (Seals t es) a.clock b.clock → Settled t b.files b.clock → Appended t es a.files b.files b.waiting → IsRunning t b
+  pub append_runs : (b : State) → Steps (SealsSome t es) a.clock b.clock → Settled t b.files b.clock → Appended t es a.files b.files b.waiting → IsRunning t b
   append_runs b steps settles more =
       let joins : (k : ℕ) → old ++ take (more.some + k) es ≡ t.entries b.files ++ take k b.waiting = λ k.
       ap (λ (l : List Entry). old ++ l) (take-add more.some k es) ∙ sym (append_assoc old (take more.some es) (take k (drop more.some es))) ∙ (λ i. sym more.sealed i ++ take k (sym more.rest i)) in
@@ -119,7 +119,7 @@ module _ (t : Telling) (telling : IsTelling t) (a : State) (es : List Entry) (ba
             (subst (λ (l : List Entry). next_of (old ++ es) + count_live l ≤ next_of l + count_live (old ++ es)) (joins k) (counted (more.some + k)));
       }
 
-  pub seal_runs : (b : State) → Steps (Seals t es) a.clock b.clock → Settled t b.files b.clock → IsSealed t es a.files b.files → b.waiting ≡ [] → IsRunning t b
+  pub seal_runs : (b : State) → Steps (SealsSome t es) a.clock b.clock → Settled t b.files b.clock → AreSealed t es a.files b.files → b.waiting ≡ [] → IsRunning t b
   seal_runs b steps settles all none =
       let joins : (k : ℕ) → old ++ take (length es) es ≡ t.entries b.files ++ take k b.waiting = λ k.
       ap (λ (l : List Entry). old ++ l) (take_whole es) ∙ sym all.sealed ∙ sym (append_none (t.entries b.files)) ∙ ap (λ (l : List Entry). t.entries b.files ++ l) (sym (take_nothing k b.waiting none)) in

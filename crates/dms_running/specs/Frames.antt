@@ -27,5 +27,5 @@ pub record HoldsOne (t : Telling) (s : State) (f b : ℕ) (o : Option Frame) : T
   pub changed : (x : Frame) → o ≡ Some x → x.dirty ≡ true → IsChanged t s f b
 
 -- the frames go with the files and the content
-abbrev pub Holds : Telling → State → Frames → Type 0
-Holds t s frames = (f b : ℕ) → HoldsOne t s f b (frames f b)
+abbrev pub FramesHold : Telling → State → Frames → Type 0
+FramesHold t s frames = (f b : ℕ) → HoldsOne t s f b (frames f b)

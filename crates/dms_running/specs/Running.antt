@@ -45,17 +45,17 @@ abbrev pub content_now : Telling → State → Content
 content_now t s = (here_now t s).blocks
 
 -- an entry that waits between two control points
-abbrev pub IsPlain : Entry → Type 0
-IsPlain (schema_part part parts bytes) = ⊥
-IsPlain (image f b before after) = Unit {0}
-IsPlain (byte_range f b place bytes) = ⊥
-IsPlain (quiet_point n) = Unit {0}
-IsPlain (control_point n next counts) = ⊥
-IsPlain (begin_restore n kind) = ⊥
+abbrev pub IsPlainEntry : Entry → Type 0
+IsPlainEntry (schema_part part parts bytes) = ⊥
+IsPlainEntry (image f b before after) = Unit {0}
+IsPlainEntry (byte_range f b place bytes) = ⊥
+IsPlainEntry (quiet_point n) = Unit {0}
+IsPlainEntry (control_point n next counts) = ⊥
+IsPlainEntry (begin_restore n kind) = ⊥
 
 abbrev pub AllPlain : List Entry → Type 0
 AllPlain [] = Unit {0}
-AllPlain (e ∷ es) = IsPlain e × AllPlain es
+AllPlain (e ∷ es) = IsPlainEntry e × AllPlain es
 
 -- how many points are live
 abbrev pub count_live : List Entry → ℕ
@@ -72,8 +72,8 @@ pub record IsRunning (t : Telling) (s : State) : Type 0 where
   pub counted : (k : ℕ) → next_now t s + count_live (t.entries s.files ++ take k s.waiting) ≤ next_of (t.entries s.files ++ take k s.waiting) + count_live (entries_now t s)
 
 -- what is read is one of the things that a stop leaves
-abbrev pub IsRead : State → Type 0
-IsRead s = (x : Left) × Now s.clock x × (x.files ≡ s.files)
+abbrev pub IsAnOutcome : State → Type 0
+IsAnOutcome s = (x : Left) × Now s.clock x × (x.files ≡ s.files)
 
 -- A stop from then on, up to a later clock, left the first so many of these points, at least those that each stop left then, or what
 -- it could leave then.

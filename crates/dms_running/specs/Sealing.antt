@@ -7,7 +7,7 @@ use Rattle.dms_running.specs.Telling.{Telling}
 
 -- What a stop within sealing leaves: the first so many of these entries behind the old ones. Dumps and structure files stand as they
 -- did, and nothing is printed.
-pub record Seals (t : Telling) (entries : List Entry) (old new : Left) : Type 0 where
+pub record SealsSome (t : Telling) (entries : List Entry) (old new : Left) : Type 0 where
   pub some : ℕ
   pub sealed : t.entries new.files ≡ t.entries old.files ++ take some entries
   pub above : (g : ℕ) → 20000 < g → new.files g ≡ old.files g
@@ -21,7 +21,7 @@ pub record Appended (t : Telling) (entries : List Entry) (old new : Files) (wait
   pub above : (g : ℕ) → 20000 < g → new g ≡ old g
 
 -- All of these entries were sealed. Dumps and structure files stand as they did.
-pub record IsSealed (t : Telling) (entries : List Entry) (old new : Files) : Type 0 where
+pub record AreSealed (t : Telling) (entries : List Entry) (old new : Files) : Type 0 where
   pub sealed : t.entries new ≡ t.entries old ++ entries
   pub above : (g : ℕ) → 20000 < g → new g ≡ old g
 

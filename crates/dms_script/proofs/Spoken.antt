@@ -31,16 +31,17 @@ use Rattle.dms_model.specs.declared.verb.Path.TheVariants.{At}
 use Rattle.dms_desc.specs.Kinds.{is_link, over}
 use Rattle.dms_desc.specs.Lookups.{structure_of, structure_named as first_named, items_of, after_item, item_named, group_named}
 use Rattle.dms_model.specs.Spoken.{IsPlainLiteral}
+use Rattle.dms_model.specs.Verbs.{IsItemOf}
 use Rattle.dms_script.specs.declared.line.Line.{Line}
 use Rattle.dms_script.specs.declared.line.Line.TheVariants.{Empty, Verb as Spoken, Bad}
 use Rattle.dms_script.specs.declared.look.Wanted.{Wanted}
 use Rattle.dms_script.specs.declared.look.Wanted.TheVariants.{DataSet, Path as AnyPath, Restart}
-use Rattle.dms_script.specs.declared.look.Run.{Run}
+use Rattle.dms_script.specs.declared.look.ItemRange.{ItemRange}
 use Rattle.dms_script.specs.Cursors.{word_at, equal_at, name_at, name_in, literal_at, literal_in, text_literal, if_kind, structure_at, target_at, key_item_at, run_at}
 use Rattle.dms_script.specs.Lines.{line_of, sound_line, sound_len, bad_by, line_from, spoken_at, program_at, whole_verb_at, colon_at}
 use Rattle.dms_script.specs.Looks.{is_wanted, if_wanted, structure_named, has_kind, counted, if_settable, target_named, key_item_of, key_item, kind_named, run_of, run_named, whole_run, upward, numbers}
 use Rattle.dms_script.specs.Reads.{Read, or_bad, ◌>>=◌}
-use Rattle.dms_script.specs.Spoken.{HasOrder, is_such, MaySetTo, TakeKey, TakesAt, IsWay, IsItemOf, HasRestart, NamesWhatIsThere, SpeaksWell, LinesSpeakWell}
+use Rattle.dms_script.specs.Spoken.{HasOrder, is_such, MaySetTo, TakeKey, TakesAt, IsWay, HasRestart, NamesWhatIsThere, SpeaksWell, LinesSpeakWell}
 use Rattle.dms_script.specs.Verbs.{close_line_at, word_then, open_at, close_at, first_at, last_at, member_at, path_at, find_at, create_at, store_at, list_of, list_at, setting_at, put_at, shown_at, is_over, all_shown_at, get_at, mode_at, begin_at, sync_at, finish_at, abort_at, transaction_at, area_at, verb_at}
 
 both : (a b : Bool) → (a && b) ≡ true → (a ≡ true) × (b ≡ true)
@@ -353,11 +354,11 @@ module _ (desc : Described) (order : HasOrder desc) where
   upward_there items n zero low high = tt
   upward_there items n (suc k) low high = ((low, omega (arith, high)), upward_there items (n + 1) k (omega (arith, low)) (omega (arith, high)))
 
-  record IsRunOf (items : List Item) (r : Run) : Type 0 where
+  record IsRunOf (items : List Item) (r : ItemRange) : Type 0 where
     low : 1 ≤ r.first
     high : r.end ≤ length items + 1
 
-  numbers_there : (items : List Item) (r : Run) → IsRunOf items r → AllByRecursion (IsItemOf items) (numbers r)
+  numbers_there : (items : List Item) (r : ItemRange) → IsRunOf items r → AllByRecursion (IsItemOf items) (numbers r)
   numbers_there items r h = by (nat_lt r.first r.end) refl
     where
       by : (b : Bool) → nat_lt r.first r.end ≡ b → AllByRecursion (IsItemOf items) (upward r.first (r.end - r.first))

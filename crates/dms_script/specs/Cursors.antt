@@ -16,7 +16,7 @@ use Rattle.dms_desc.specs.declared.lookups.NamedItem.{NamedItem}
 use Rattle.dms_desc.specs.Shape.{Shape, Described}
 use Rattle.dms_model.specs.declared.verb.Setting.{Setting}
 use Rattle.dms_script.specs.declared.look.Wanted.{Wanted}
-use Rattle.dms_script.specs.declared.look.Run.{Run}
+use Rattle.dms_script.specs.declared.look.ItemRange.{ItemRange}
 use Rattle.dms_script.specs.Looks.{structure_named, target_named, kind_named, run_named, has_kind}
 use Rattle.dms_script.specs.Reads.{Read, Pass, or_bad, ◌>>=◌}
 
@@ -85,7 +85,7 @@ key_item_at item ts = do
   or_bad (kind_named name.0 item) (place_at ts) name.1
 
 -- the name of an item or a group
-unfoldable pub run_at : Shape → List Lexeme → Read Run
+unfoldable pub run_at : Shape → List Lexeme → Read ItemRange
 run_at s ts = do
   name ← name_at ts
   or_bad (run_named name.0 s) (place_at ts) name.1

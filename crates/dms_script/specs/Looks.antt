@@ -17,7 +17,7 @@ use Rattle.dms_desc.specs.Lookups.{structure_of, structure_named as first_named,
 use Rattle.dms_model.specs.declared.verb.Setting.{Setting}
 use Rattle.dms_script.specs.declared.look.Wanted.{Wanted}
 use Rattle.dms_script.specs.declared.look.Wanted.TheVariants.{DataSet, Path, Restart}
-use Rattle.dms_script.specs.declared.look.Run.{Run}
+use Rattle.dms_script.specs.declared.look.ItemRange.{ItemRange}
 
 -- Structures
 
@@ -76,17 +76,17 @@ kind_named name (Some i) = if bytes_eq i.name name && not (is_link i.kind) then 
 -- What GET shows
 
 -- an item alone, which is no link; a group's items
-abbrev pub run_of : Option NamedItem → Option Group → Option Run
+abbrev pub run_of : Option NamedItem → Option Group → Option ItemRange
 run_of (Some t) g = if is_link t.kind then None else Some (record { first = t.number; end = t.number + 1 })
 run_of None None = None
 run_of None (Some g) = Some (record { first = g.first; end = min (g.first + g.count) 61 })
 
 -- the items that a name stands for in GET
-unfoldable pub run_named : List ℕ → Shape → Option Run
+unfoldable pub run_named : List ℕ → Shape → Option ItemRange
 run_named name s = run_of (item_named name 1 (counted s.items)) (group_named name s.groups)
 
 -- all items and links of a data set, in text order
-abbrev pub whole_run : Shape → Run
+abbrev pub whole_run : Shape → ItemRange
 whole_run s = record { first = 1; end = length (counted s.items) + 1 }
 
 abbrev pub upward : ℕ → ℕ → List ℕ
@@ -94,5 +94,5 @@ upward n zero = []
 upward n (suc k) = n ∷ upward (n + 1) k
 
 -- the numbers of these items, in order
-abbrev pub numbers : Run → List ℕ
+abbrev pub numbers : ItemRange → List ℕ
 numbers r = upward r.first (r.end - r.first)

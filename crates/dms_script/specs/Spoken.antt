@@ -15,6 +15,7 @@ use Rattle.dms_model.specs.declared.verb.Path.TheVariants.{First, Last, At}
 use Rattle.dms_desc.specs.Kinds.{is_link, over}
 use Rattle.dms_desc.specs.Lookups.{structure_of, items_of}
 use Rattle.dms_model.specs.Spoken.{IsPlainLiteral}
+use Rattle.dms_model.specs.Verbs.{IsItemOf}
 use Rattle.dms_script.specs.declared.line.Line.{Line}
 use Rattle.dms_script.specs.declared.line.Line.TheVariants.{Empty, Verb as Spoken, Bad}
 use Rattle.dms_script.specs.declared.look.Wanted.{Wanted}
@@ -53,10 +54,6 @@ abbrev pub IsWay : Described → Path → Type 0
 IsWay desc (First x) = is_such AnyPath (structure_of desc x) ≡ true
 IsWay desc (Last x) = is_such AnyPath (structure_of desc x) ≡ true
 IsWay desc (At x literals) = (is_such AnyPath (structure_of desc x) ≡ true) × TakesAt desc (structure_of desc x) literals
-
--- the number of an item that is there
-abbrev pub IsItemOf : List Item → ℕ → Type 0
-IsItemOf items n = (1 ≤ n) × (n ≤ length items)
 
 -- there is a restart data set
 pub record HasRestart (desc : Described) : Type 0 where

@@ -6,7 +6,9 @@ ghost use Rattle.dms_script.specs.Reads.{Takes, TakesAs, Passes};
 ghost use Rattle.dms_script.specs.Cursors.{word_at, sign_at, equal_at, end_at, name_in, name_at, text_literal, literal_in, if_kind, literal_at, structure_at, target_at, key_item_at, run_at};
 
 use crate::fault::Fault;
-use crate::look::{Run, Wanted, has_kind, kind_named, run_named, structure_named, target_named};
+use crate::look::{
+    ItemRange, Wanted, has_kind, kind_named, run_named, structure_named, target_named,
+};
 use dms_base::{ItemKind, Literal, Memory, Name, Text};
 use dms_desc::{Description, Item, NamedItem, Structure};
 use dms_model::Setting;
@@ -194,7 +196,7 @@ pub fn read_key_item(cursor: &mut Cursor<'_>, item: Option<&Item>) -> Result<Ite
 
 /// The name of an item or a group.
 #[tactic(auto, unfolding(crate::specs::Cursors::run_at))]
-pub fn read_run(cursor: &mut Cursor<'_>, s: &Structure) -> Result<Run, Fault>
+pub fn read_run(cursor: &mut Cursor<'_>, s: &Structure) -> Result<ItemRange, Fault>
     ensures { Takes result cursor.new (run_at (shape_of s.now) cursor.old) }
 {
     let place = cursor.place();

@@ -23,7 +23,7 @@ pub enum Wanted {
 
 /// The items from `first` on up to the one before `end`.
 #[derive(Clone, Copy, Debug, PartialEq, Eq)]
-pub struct Run {
+pub struct ItemRange {
     pub first: u8,
     pub end: u8,
 }
@@ -146,7 +146,7 @@ pub fn kind_named(name: &Name, item: Option<&Item>) -> Option<ItemKind>
     }
 }
 
-fn run_of(target: Option<NamedItem>, group: Option<Group>) -> Option<Run>
+fn run_of(target: Option<NamedItem>, group: Option<Group>) -> Option<ItemRange>
     requires { IfSome target (λ t. t.number ≤ 60) }
     ensures { result ≡ run_of target group }
 {
@@ -155,13 +155,13 @@ fn run_of(target: Option<NamedItem>, group: Option<Group>) -> Option<Run>
             if is_link(&target.kind) {
                 return None;
             }
-            Some(Run {
+            Some(ItemRange {
                 first: target.number,
                 end: target.number + 1,
             })
         }
         (None, None) => None,
-        (None, Some(group)) => Some(Run {
+        (None, Some(group)) => Some(ItemRange {
             first: group.first,
             end: group_end(&group),
         }),
@@ -179,7 +179,7 @@ fn group_end(group: &Group) -> u8
 
 /// The items that a name stands for in GET.
 #[tactic(auto, unfolding(crate::specs::Looks::run_named))]
-pub fn run_named(name: &Name, s: &Structure) -> Option<Run>
+pub fn run_named(name: &Name, s: &Structure) -> Option<ItemRange>
     ensures { result ≡ run_named name.now (shape_of s.now) }
 {
     let target = item_named(counted(s.items.as_slice()), name);
@@ -187,17 +187,17 @@ pub fn run_named(name: &Name, s: &Structure) -> Option<Run>
 }
 
 /// All items and links of a data set, in text order.
-pub fn whole_run(s: &Structure) -> Run
+pub fn whole_run(s: &Structure) -> ItemRange
     ensures { result ≡ whole_run (shape_of s.now) }
 {
-    Run {
+    ItemRange {
         first: 1,
         end: counted(s.items.as_slice()).len() as u8 + 1,
     }
 }
 
 /// Adds the numbers of these items.
-pub fn push_numbers(done: &mut ItemNumbers, run: Run) -> Result<(), Memory>
+pub fn push_numbers(done: &mut ItemNumbers, run: ItemRange) -> Result<(), Memory>
     ensures { OnOk result (done.new ≡ done.old ++ numbers run) }
 {
     for number in run.first..run.end {

@@ -14,7 +14,7 @@ use Rattle.dms_desc.specs.Kinds.{takes, over}
 use Rattle.dms_model.specs.Stores.{has_equal, is_closed, clash, judged, put_number, put_unless}
 use Rattle.dms_sets.specs.Listing.{member_opt}
 use Rattle.dms_sets.specs.Sets.{entry_of, entries_of, kinds_over}
-use Rattle.dms_sets.specs.Owners.{AllFit}
+use Rattle.dms_sets.specs.Owners.{EntriesFit}
 use Rattle.dms_sets.specs.Clashes.{key_front, look, new_taken, old_taken}
 use Rattle.dms_sets.specs.Entries.{IsSetKey}
 use Rattle.dms_ordlist.specs.Lists.{without_in}
@@ -37,7 +37,7 @@ clash_seen desc (s ∷ ss) db set number rec = if is_closed s set rec.values && 
 
 -- the records that a set has, and a new one, fit
 pub record AreJudged (desc : Described) (db : Db) (rec : Record) (s : Shape) : Type 0 where
-  pub all : AllFit (kinds_over desc s) s (entries db.records)
+  pub all : EntriesFit (kinds_over desc s) s (entries db.records)
   pub key : IsSetKey (kinds_over desc s) s.parts (key_of s.parts rec.values)
 
 abbrev pub IsFoundNumber : Option ℕ → Type 0

@@ -25,8 +25,8 @@ use Rattle.dms_model.specs.Members.{belongs, spot_of, spots_of, is_before, membe
 use Rattle.dms_model.specs.MemberLaws.{spot_total, key_total}
 use Rattle.dms_sets.specs.Prefixes.{front_cmp, reaches, front_append, front_whole, front_longer, reaches_is, is_below, in_order, still_past, past_front}
 use Rattle.dms_sets.specs.Sets.{listed_in, entries_of, kinds_over}
-use Rattle.dms_sets.specs.Owners.{is_of, of_owner, spot_bytes, spot_order, EntryFits, AllFit, all_sorted, owned_entries}
-use Rattle.dms_key.specs.KeyBytes.{key_bytes, key_width, KeyFits}
+use Rattle.dms_sets.specs.Owners.{is_of, of_owner, spot_bytes, spot_order, EntryFits, EntriesFit, all_sorted, owned_entries}
+use Rattle.dms_key.specs.KeyBytes.{key_bytes, key_width, KeyHasKinds}
 use Rattle.dms_key.specs.KeyOrder.{equal_itself, prefix_order, key_length, split_key}
 use Rattle.dms_sets.specs.Entries.{entry_bytes, IsSetKey, fits_short, fits_take}
 use Rattle.std.proofs.lemmas.List.{length-take-le, take-append-drop}
@@ -45,7 +45,7 @@ abbrev pub BoundKeyFits : List ItemKind → List KeyPart → Bound → Type 0
 BoundKeyFits kinds ps Start = Unit {0}
 BoundKeyFits kinds ps End = Unit {0}
 BoundKeyFits kinds ps (At key n) = IsSetKey kinds ps key × (n < 2 ^ 32)
-BoundKeyFits kinds ps (From key) = KeyFits kinds ps key
+BoundKeyFits kinds ps (From key) = KeyHasKinds kinds ps key
 
 -- lists
 
@@ -112,13 +112,13 @@ passes_owner kinds ps owner (From key) q h = shorter (to_be_bytes w32 owner) (ke
 
 -- keys by their first values
 
-front_widths : (kinds : List ItemKind) (ps : List KeyPart) (key whole : List Value) → KeyFits kinds ps key → KeyFits kinds ps (take (length key) whole) → length key ≡ length (take (length key) whole)
+front_widths : (kinds : List ItemKind) (ps : List KeyPart) (key whole : List Value) → KeyHasKinds kinds ps key → KeyHasKinds kinds ps (take (length key) whole) → length key ≡ length (take (length key) whole)
     → length (key_bytes kinds ps key) ≡ length (key_bytes kinds ps (take (length key) whole))
 front_widths kinds ps key whole f g e =
     key_length kinds ps key f ∙ ap (λ n. key_width kinds (take n ps)) e ∙ sym (key_length kinds ps (take (length key) whole) g)
 
 -- the order of a prefix of first key values to a member's entry
-pub front_order : (kinds : List ItemKind) (ps : List KeyPart) (owner : ℕ) (key : List Value) (x : Spot) → KeyFits kinds ps key → IsSetKey kinds ps x.key
+pub front_order : (kinds : List ItemKind) (ps : List KeyPart) (owner : ℕ) (key : List Value) (x : Spot) → KeyHasKinds kinds ps key → IsSetKey kinds ps x.key
     → front_cmp (to_be_bytes w32 owner ++ (key_bytes kinds ps key ++ [])) (spot_bytes kinds ps owner x) ≡ ordering_reverse (key_cmp (take (length key) ps) (take (length key) x.key) key)
 front_order kinds ps owner key x f g =
     let o = to_be_bytes w32 owner in
@@ -177,12 +177,12 @@ spot_fits_by : (b : Bool) (kinds : List ItemKind) (s : Shape) (e : Place × Reco
 spot_fits_by true kinds s e xs at f rest = (record { key = f.key (at refl); small = f.small }, rest)
 spot_fits_by false kinds s e xs at f rest = rest
 
-spots_fit : (kinds : List ItemKind) (s : Shape) (manual : List SubsetEntry) (owner : ℕ) (es : List (Place × Record)) → AllFit kinds s es → AllByRecursion (SpotKeyFits kinds s.parts) (spots_of s manual owner es)
+spots_fit : (kinds : List ItemKind) (s : Shape) (manual : List SubsetEntry) (owner : ℕ) (es : List (Place × Record)) → EntriesFit kinds s es → AllByRecursion (SpotKeyFits kinds s.parts) (spots_of s manual owner es)
 spots_fit kinds s manual owner [] all = tt
 spots_fit kinds s manual owner (e ∷ es) all =
     spot_fits_by (belongs s manual owner e) kinds s e (spots_of s manual owner es) (λ h. (both_of (over s == e.0.0) _ h).0) all.0 (spots_fit kinds s manual owner es all.1)
 
-pub members_fit : (desc : Described) (db : Db) (s : Shape) (owner : ℕ) → AllFit (kinds_over desc s) s (entries db.records) → AllByRecursion (SpotKeyFits (kinds_over desc s) s.parts) (members s db owner)
+pub members_fit : (desc : Described) (db : Db) (s : Shape) (owner : ℕ) → EntriesFit (kinds_over desc s) s (entries db.records) → AllByRecursion (SpotKeyFits (kinds_over desc s) s.parts) (members s db owner)
 members_fit desc db s owner all =
     all_sorted (is_before s.parts) (SpotKeyFits (kinds_over desc s) s.parts) (spots_of s db.entries owner (entries db.records)) (spots_fit (kinds_over desc s) s db.entries owner (entries db.records) all)
 
@@ -191,7 +191,7 @@ all_to P Q [] f all = tt
 all_to P Q (x ∷ xs) f all = (f x all.0, all_to P Q xs f all.1)
 
 -- The first member behind a bound is the first entry behind it, where that is the owner's.
-pub first_member_is : (desc : Described) (db : Db) (s : Shape) (owner : ℕ) (bound : Bound) → owner < 2 ^ 32 → (s.kind == 5) ≡ false → AllFit (kinds_over desc s) s (entries db.records) → BoundKeyFits (kinds_over desc s) s.parts bound
+pub first_member_is : (desc : Described) (db : Db) (s : Shape) (owner : ℕ) (bound : Bound) → owner < 2 ^ 32 → (s.kind == 5) ≡ false → EntriesFit (kinds_over desc s) s (entries db.records) → BoundKeyFits (kinds_over desc s) s.parts bound
     → option_map (spot_bytes (kinds_over desc s) s.parts owner) (first_of (Some s) db owner bound) ≡ that_passes (is_of owner) (first (passes (kinds_over desc s) s.parts owner bound) (entries_of desc db s))
 first_member_is desc db s owner bound small auto all fits =
     let kinds = kinds_over desc s in

@@ -26,14 +26,14 @@ use Rattle.dms_model.specs.Stores.{has_equal, is_other}
 use Rattle.dms_sets.specs.Listing.{listing, member_opt, AllPlaces, left, places_total, places_same}
 use Rattle.dms_sets.specs.Prefixes.{starts, reaches, front_append, first_starts, any_first}
 use Rattle.dms_sets.specs.Sets.{entry_of, listed_in, number_in, entry_number, own_entry, place_in_entry, IsSmall, keys_with_opt, keys_without_opt}
-use Rattle.dms_sets.specs.Owners.{EntryFits, AllFit, belongs_is}
+use Rattle.dms_sets.specs.Owners.{EntryFits, EntriesFit, belongs_is}
 use Rattle.dms_key.specs.KeyBytes.{key_bytes}
 use Rattle.dms_key.specs.KeyOrder.{four_cmp}
 use Rattle.dms_sets.specs.Entries.{entry_bytes, IsSetKey, whole_order, whole_width}
 use Rattle.dms_ordlist.specs.Lists.{ByteSet, any_with, bytes_cmp, empty_keys, entries_removed, keys_rise, with_in, without_in}
 use Rattle.dms_sets.specs.Tests.{and_true, then_nothing, tied}
 
--- the front that the entries of an owner with a key have
+-- the prefix that the entries of an owner with a key have
 abbrev pub key_front : List ItemKind → List KeyPart → ℕ → List Value → List ℕ
 key_front kinds ps owner key = to_be_bytes w32 owner ++ (key_bytes kinds ps key ++ [])
 
@@ -54,7 +54,7 @@ eq_of_then Greater o = refl
 eq_then : (a b : ℕ) (o : Ordering) → is_eq (ordering_then (nat_cmp a b) o) ≡ ((a == b) && is_eq o)
 eq_then a b o = eq_of_then (nat_cmp a b) o ∙ ap (λ t. t && is_eq o) (not_eq a b (nat_cmp a b) refl)
 
--- an entry has a key's front where its owner and its key are these
+-- an entry has a key's prefix where its owner and its key are these
 pub front_is : (kinds : List ItemKind) (ps : List KeyPart) (owner o : ℕ) (key other : List Value) (n : ℕ) → owner < 2 ^ 32 → o < 2 ^ 32 → IsSetKey kinds ps key → IsSetKey kinds ps other
     → starts (key_front kinds ps owner key) (entry_bytes kinds ps o other n) ≡ ((owner == o) && is_eq (key_cmp ps key other))
 front_is kinds ps owner o key other n p q f g =
@@ -111,7 +111,7 @@ module _ (kinds : List ItemKind) (s : Shape) (manual : List SubsetEntry) (rec : 
   has_step false t number e ys r at f rest = rest
 
   -- another record with an equal key stands where an entry of another record has its owner and key
-  pub has_listed : (number : Option ℕ) (es : List (Place × Record)) → AllFit kinds s es → has_equal s manual number rec es ≡ list_any (is_taken number) (keys (listing (entry_of kinds s) es))
+  pub has_listed : (number : Option ℕ) (es : List (Place × Record)) → EntriesFit kinds s es → has_equal s manual number rec es ≡ list_any (is_taken number) (keys (listing (entry_of kinds s) es))
   has_listed number [] all = sym (ap (list_any (is_taken number)) empty_keys)
   has_listed number (e ∷ es) all =
       let ys = keys (listing (entry_of kinds s) es) in
@@ -121,7 +121,7 @@ module _ (kinds : List ItemKind) (s : Shape) (manual : List SubsetEntry) (rec : 
       ∙ sym (ap (list_any (is_taken number)) (keys_with_opt (entry_of kinds s e.0 e.1) (listing (entry_of kinds s) es)))
 
   -- for a new record: the first entry with its owner and key
-  pub new_taken : (m : Records) → AllFit kinds s (entries m) → has_equal s manual None rec (entries m) ≡ is_some (look the_front (keys (listed_in kinds s m)))
+  pub new_taken : (m : Records) → EntriesFit kinds s (entries m) → has_equal s manual None rec (entries m) ≡ is_some (look the_front (keys (listed_in kinds s m)))
   new_taken m all =
       has_listed None (entries m) all
       ∙ any_alike (λ q. starts the_front q && true) (starts the_front) (keys (listed_in kinds s m)) (λ q. and_true (starts the_front q))
@@ -168,23 +168,23 @@ module _ (kinds : List ItemKind) (s : Shape) (manual : List SubsetEntry) (rec : 
   other_left n [] = refl
   other_left n (e ∷ es) = other_step (eq_by_cmp place_cmp (over s, n) e.0) n e es refl (other_left n es)
 
-  fit_where : (p : Place → Bool) (es : List (Place × Record)) → AllFit kinds s es → AllFit kinds s (where_key place_cmp p es)
+  fit_where : (p : Place → Bool) (es : List (Place × Record)) → EntriesFit kinds s es → EntriesFit kinds s (where_key place_cmp p es)
   fit_where p [] all = tt
   fit_where p (e ∷ es) all =
       let rest = fit_where p es all.1 in
-      elim (p e.0) as (λ b. AllFit kinds s (cond b (e ∷ where_key place_cmp p es) (where_key place_cmp p es))) [ true ↦ (all.0, rest) | false ↦ rest ]
+      elim (p e.0) as (λ b. EntriesFit kinds s (cond b (e ∷ where_key place_cmp p es) (where_key place_cmp p es))) [ true ↦ (all.0, rest) | false ↦ rest ]
 
-  small_of : (es : List (Place × Record)) → AllFit kinds s es → AllPlaces IsSmall es
+  small_of : (es : List (Place × Record)) → EntriesFit kinds s es → AllPlaces IsSmall es
   small_of [] all = tt
   small_of (e ∷ es) all = (all.0.small, small_of es all.1)
 
   -- For a record that replaces another: the first entry with its owner and key, in the list without the entry of the one that it replaces.
-  pub old_taken : (m : Records) (n : ℕ) → n < 2 ^ 32 → AllFit kinds s (entries m)
+  pub old_taken : (m : Records) (n : ℕ) → n < 2 ^ 32 → EntriesFit kinds s (entries m)
       → has_equal s manual (Some n) rec (entries m) ≡ is_some (look the_front (without_in (member_opt (entry_of kinds s) (over s, n) (get m (over s, n))) (keys (listed_in kinds s m))))
   old_taken m n small all =
       let k : Place = (over s, n) in
       let gone = entries_removed places_total places_same k m in
-      let fits' : AllFit kinds s (entries (remove m k)) = subst (AllFit kinds s) (sym gone) (fit_where (apart k) (entries m) all) in
+      let fits' : EntriesFit kinds s (entries (remove m k)) = subst (EntriesFit kinds s) (sym gone) (fit_where (apart k) (entries m) all) in
       other_left n (entries m)
       ∙ ap (has_equal s manual None rec) (sym gone)
       ∙ new_taken (remove m k) fits'

@@ -13,7 +13,7 @@ use Rattle.dms_model.specs.Db.{Db}
 use Rattle.dms_model.specs.Members.{members}
 use Rattle.dms_sets.specs.Prefixes.{front_cmp, front_whole}
 use Rattle.dms_sets.specs.Sets.{listed_in, entries_of, kinds_over}
-use Rattle.dms_sets.specs.Owners.{is_of, of_owner, spot_bytes, AllFit, owned_entries}
+use Rattle.dms_sets.specs.Owners.{is_of, of_owner, spot_bytes, EntriesFit, owned_entries}
 use Rattle.dms_sets.specs.Padded.{IsSetEntry, entries_shaped}
 use Rattle.dms_key.specs.KeyBytes.{key_width}
 use Rattle.dms_key.specs.KeyOrder.{equal_itself}
@@ -112,7 +112,7 @@ rising_same xs ys rise rise' same =
     ∙ firsts_again ys
 
 -- a rising list of entries that has for each owner the bytes of the members for that owner is the set's
-pub entries_determined : (desc : Described) (db : Db) (s : Shape) (xs : List (List ℕ)) → (s.kind == 5) ≡ false → AllFit (kinds_over desc s) s (entries db.records)
+pub entries_determined : (desc : Described) (db : Db) (s : Shape) (xs : List (List ℕ)) → (s.kind == 5) ≡ false → EntriesFit (kinds_over desc s) s (entries db.records)
     → AreInByteOrder xs → AllByRecursion (IsSetEntry (key_width (kinds_over desc s) s.parts)) xs
     → ((owner : ℕ) → owner < 2 ^ 32 → of_owner owner xs ≡ map (spot_bytes (kinds_over desc s) s.parts owner) (members s db owner))
     → xs ≡ entries_of desc db s

@@ -6,7 +6,7 @@ use Rattle.dms_base.specs.declared.kind.ItemKind.{ItemKind}
 use Rattle.dms_desc.specs.declared.structure.Item.{Item}
 use Rattle.dms_desc.specs.declared.structure.KeyPart.{KeyPart}
 use Rattle.dms_desc.specs.Keys.{key_cmp}
-use Rattle.dms_key.specs.KeyBytes.{bytes_cmp, key_bytes, key_width, KeyFits}
+use Rattle.dms_key.specs.KeyBytes.{bytes_cmp, key_bytes, key_width, KeyHasKinds}
 use Rattle.dms_key.specs.KeyOrder.{key_order, whole_length}
 
 -- the kinds of a data set's items
@@ -19,7 +19,7 @@ entry_bytes kinds parts owner key number = to_be_bytes w32 owner ++ (key_bytes k
 
 -- a key with a value for each part, each fitting its item
 pub record IsSetKey (kinds : List ItemKind) (ps : List KeyPart) (key : List Value) : Type 0 where
-  pub fits : KeyFits kinds ps key
+  pub fits : KeyHasKinds kinds ps key
   pub whole : length key ≡ length ps
 
 -- the order of such keys is that of their bytes, which are of one length
@@ -31,12 +31,12 @@ whole_width kinds ps a f = whole_length kinds ps a f.fits f.whole
 
 -- the first values of a key
 
-pub fits_short : (kinds : List ItemKind) (ps : List KeyPart) (a : List Value) → KeyFits kinds ps a → length a ≤ length ps
+pub fits_short : (kinds : List ItemKind) (ps : List KeyPart) (a : List Value) → KeyHasKinds kinds ps a → length a ≤ length ps
 fits_short kinds ps [] f = omega arith
 fits_short kinds [] (v ∷ a) f = absurd f
 fits_short kinds (p ∷ ps) (v ∷ a) f = omega (arith, fits_short kinds ps a f.1)
 
-pub fits_take : (m : ℕ) (kinds : List ItemKind) (ps : List KeyPart) (a : List Value) → KeyFits kinds ps a → KeyFits kinds ps (take m a)
+pub fits_take : (m : ℕ) (kinds : List ItemKind) (ps : List KeyPart) (a : List Value) → KeyHasKinds kinds ps a → KeyHasKinds kinds ps (take m a)
 fits_take zero kinds ps a f = tt
 fits_take (suc m) kinds ps [] f = tt
 fits_take (suc m) kinds [] (v ∷ a) f = absurd f

@@ -20,7 +20,7 @@ use Rattle.dms_sets.specs.Changes.{HasRoom}
 use Rattle.dms_sets.specs.Entries.{entry_bytes}
 use Rattle.dms_sets.specs.Listing.{listing, with_opt}
 use Rattle.dms_sets.specs.Sets.{entries_of, entry_of, kinds_over}
-use Rattle.dms_sets.specs.Spots.{IsFound, all_found}
+use Rattle.dms_sets.specs.Spots.{StandsAmong, all_found}
 use Rattle.dms_sets.specs.Tests.{both_of, first_true, second_true}
 
 -- a record of the data set has a number behind the first of these and up to the last
@@ -78,7 +78,7 @@ own_set : (b t : Bool) (s : Shape) (p : Place) (x : List ℕ) (q : List ℕ) →
 own_set true t s p x q same h = grind (arith, nat_tests, same)
 own_set false t s p x q same h = absurd (cc h)
 
-found_within : (db : Db) (set most : ℕ) (es : List (Place × Record)) → ((n : ℕ) (rec : Record) → get db.records (set, n) ≡ Some rec → (1 ≤ n) × (n ≤ most)) → AllByRecursion (IsFound (entries db.records)) es → AllWithin set 0 most es
+found_within : (db : Db) (set most : ℕ) (es : List (Place × Record)) → ((n : ℕ) (rec : Record) → get db.records (set, n) ≡ Some rec → (1 ≤ n) × (n ≤ most)) → AllByRecursion (StandsAmong (entries db.records)) es → AllWithin set 0 most es
 found_within db set most [] numbers found = tt
 found_within db set most (e ∷ es) numbers found =
     ((λ of. let at : get db.records (set, e.0.1) ≡ Some e.1 = ap (λ n. get db.records (n, e.0.1)) (sym of) ∙ get-entries db.records e.0 ∙ found.0 in let h = numbers e.0.1 e.1 at in (omega (arith, h.0), h.1)), found_within db set most es numbers found.1)

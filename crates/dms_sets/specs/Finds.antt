@@ -13,7 +13,7 @@ use Rattle.dms_sets.specs.Sets.{entries_of, kinds_over}
 use Rattle.dms_sets.specs.Owners.{is_of}
 use Rattle.dms_sets.specs.Bounds.{BoundKeyFits}
 use Rattle.dms_sets.specs.Padded.{from_bytes, to_bytes, BoundSmall, entries_shaped, first_is, last_is}
-use Rattle.dms_sets.specs.Spots.{and_then, spot_at, RecordsFit, all_fit, first_member_at, last_member_at}
+use Rattle.dms_sets.specs.Spots.{and_then, spot_at, RecordsHaveSpots, all_fit, first_member_at, last_member_at}
 use Rattle.dms_sets.specs.Puts.{IsNamed}
 use Rattle.dms_ordlist.specs.Lists.{first_from, last_to}
 
@@ -23,7 +23,7 @@ spot_by s db owner q = and_then (that_passes (is_of owner) q) (spot_at s db)
 
 -- The first member behind a bound is that of the first entry not below the bound's bytes.
 pub first_member_by : (desc : Described) (db : Db) (path : ℕ) (s : Shape) (owner : ℕ) (bound : Bound) → structure_of desc path ≡ Some s → owner + 1 < 2 ^ 32 → (s.kind == 5) ≡ false
-    → IsNamed desc s → RecordsFit desc db → BoundKeyFits (kinds_over desc s) s.parts bound → BoundSmall (kinds_over desc s) s.parts bound
+    → IsNamed desc s → RecordsHaveSpots desc db → BoundKeyFits (kinds_over desc s) s.parts bound → BoundSmall (kinds_over desc s) s.parts bound
     → first_member desc db path owner bound ≡ spot_by s db owner (first_from (from_bytes (kinds_over desc s) s.parts owner bound) (entries_of desc db s))
 first_member_by desc db path s owner bound has own auto named records fits small =
     let all = all_fit desc db s named.items records in
@@ -32,7 +32,7 @@ first_member_by desc db path s owner bound has own auto named records fits small
 
 -- The last member before a bound is that of the last entry below the bound's bytes.
 pub last_member_by : (desc : Described) (db : Db) (path : ℕ) (s : Shape) (owner : ℕ) (bound : Bound) → structure_of desc path ≡ Some s → owner + 1 < 2 ^ 32 → (s.kind == 5) ≡ false
-    → IsNamed desc s → RecordsFit desc db → BoundKeyFits (kinds_over desc s) s.parts bound
+    → IsNamed desc s → RecordsHaveSpots desc db → BoundKeyFits (kinds_over desc s) s.parts bound
     → last_member desc db path owner bound ≡ spot_by s db owner (last_to (to_bytes (kinds_over desc s) s.parts owner bound) (entries_of desc db s))
 last_member_by desc db path s owner bound has own auto named records fits =
     let all = all_fit desc db s named.items records in

@@ -41,7 +41,7 @@ pub record Calm {B : Type 0} {g : Ghosts B} (p : ℕ → Bool) (n : ℕ) (a b : 
   pub others : (m : ℕ) → p m ≡ false → FileStays m a b
 
 -- Calls of which the last one failed: the blocks below were only read, and the fault is theirs, or was found in a list.
-pub record Fails {B : Type 0} {g : Ghosts B} (e : BlockFault) (n : ℕ) (a b : Overlay B g) : Type 0 where
+pub record EndsInFault {B : Type 0} {g : Ghosts B} (e : BlockFault) (n : ℕ) (a b : Overlay B g) : Type 0 where
   pub reads : ℕ
   pub looks : (under a).sound → Looks {T = Unit {0}} reads (Err e) (under a) (under b)
   pub causes : (under a).sound → HasCausesOr {T = Unit {0}} (λ f k. Unit {0}) (Err e) (under a) (under b)

@@ -17,7 +17,7 @@ use Rattle.dms_ordlist.specs.ListIn.{list_in}
 use Rattle.dms_ordlist.specs.Seen.{IfList, NoList}
 use Rattle.dms_ordlist.specs.SeenLaws.{causes_err, counts_still}
 use Rattle.dms_sets.specs.Changes.{IfListed, OnlyList, OnlyRoomy}
-use Rattle.dms_sets.specs.Keeping.{Calm, Fails, FileStays, FromBelow, Usable, file_of, list_told, listed}
+use Rattle.dms_sets.specs.Keeping.{Calm, EndsInFault, FileStays, FromBelow, Usable, file_of, list_told, listed}
 
 -- ---- a list that is told
 
@@ -26,12 +26,12 @@ both_parts true true width bs xs h = (refl, refl, h)
 both_parts true false width bs xs h = absurd (cc h)
 both_parts false u width bs xs h = absurd (cc h)
 
-pub record IsTold (told : Bool) (width : ℕ) (bs xs : List (List ℕ)) : Type 0 where
+pub record IsToldList (told : Bool) (width : ℕ) (bs xs : List (List ℕ)) : Type 0 where
   pub told_is : told ≡ true
   pub few : length bs ≤ 1048576
   pub list : list_in width bs ≡ Some xs
 
-pub told_is : (told : Bool) (width : ℕ) (bs xs : List (List ℕ)) → list_told told width bs ≡ Some xs → IsTold told width bs xs
+pub told_is : (told : Bool) (width : ℕ) (bs xs : List (List ℕ)) → list_told told width bs ≡ Some xs → IsToldList told width bs xs
 told_is told width bs xs h =
     let parts = both_parts told (nat_le (length bs) 1048576) width bs xs h in
     record { told_is = parts.0; few = grind (arith, nat_tests, parts.1); list = parts.2 }
@@ -78,7 +78,7 @@ module _ {B : Type 0} {g : Ghosts B} where
     others = λ m off. (refl, λ told. refl);
   }
 
-  pub fails_memory : ((x : B) → g.same_blocks x x) → (n : ℕ) (a : Overlay B g) → Fails Memory n a a
+  pub fails_memory : ((x : B) → g.same_blocks x x) → (n : ℕ) (a : Overlay B g) → EndsInFault Memory n a a
   fails_memory again n a = record {
     reads = 0;
     looks = λ sound. looks_none {T = Unit {0}} 0 (Err Memory) (under a) tt sound;
@@ -101,7 +101,7 @@ module _ {B : Type 0} {g : Ghosts B} where
     others = λ k off. let first = one.others k off in let then = two.others k off in (then.0 ∙ first.0, λ told. then.1 (one.told ∙ told) ∙ first.1 told);
   }
 
-  pub fails_then : ((x y z : B) → g.same_blocks x y → g.same_blocks y z → g.same_blocks x z) → (e : BlockFault) (p : ℕ → Bool) (m n : ℕ) (a b c : Overlay B g) → Calm p m a b → Fails e n b c → Fails e (m + n) a c
+  pub fails_then : ((x y z : B) → g.same_blocks x y → g.same_blocks y z → g.same_blocks x z) → (e : BlockFault) (p : ℕ → Bool) (m n : ℕ) (a b c : Overlay B g) → Calm p m a b → EndsInFault e n b c → EndsInFault e (m + n) a c
   fails_then onward e p m n a b c one two = record {
     reads = one.reads + two.reads;
     looks = λ sound. let first = one.looks sound in looks_on {U = Unit {0}} (Err e) first (two.looks first.stays.sound);
@@ -143,7 +143,7 @@ module _ {B : Type 0} {g : Ghosts B} where
   }
   calm_write s k f P (Err e) a b is writes causes others counts = tt
 
-  pub fails_write : {T : Type 0} (k : ℕ) (P : ℕ → ℕ → Type 0) (r : Result T BlockFault) (a b : Overlay B g) → WritesOverlay k 3 r a b → HasCausesOr P r (under a) (under b) → IfErr r (λ e. Fails e 1 a b)
+  pub fails_write : {T : Type 0} (k : ℕ) (P : ℕ → ℕ → Type 0) (r : Result T BlockFault) (a b : Overlay B g) → WritesOverlay k 3 r a b → HasCausesOr P r (under a) (under b) → IfErr r (λ e. EndsInFault e 1 a b)
   fails_write k P (Ok x) a b writes causes = tt
   fails_write {T = T} k P (Err e) a b writes causes = record {
     reads = k;
@@ -172,7 +172,7 @@ module _ {B : Type 0} {g : Ghosts B} where
 
   -- the list that a call leaves
   module _ (fn : List (List ℕ) → List (List ℕ)) (s w f : ℕ) (a b : Overlay B g) (is : f ≡ file_of s) (before : BlocksAgree (under a)) (after : (under b).sound → BlocksAgree (under b)) where
-    list_after : IfList a f w (λ xs. list_in w (seen b f) ≡ Some (fn xs)) → (told : (under b).told ≡ (under a).told) (xs : List (List ℕ)) → IsTold (under a).told w (seen a (file_of s)) xs → length (seen b (file_of s)) ≤ 1048576 → listed b s w ≡ Some (fn xs)
+    list_after : IfList a f w (λ xs. list_in w (seen b f) ≡ Some (fn xs)) → (told : (under b).told ≡ (under a).told) (xs : List (List ℕ)) → IsToldList (under a).told w (seen a (file_of s)) xs → length (seen b (file_of s)) ≤ 1048576 → listed b s w ≡ Some (fn xs)
     list_after list told xs t few =
         told_list (under b).told w (seen b (file_of s)) (fn xs) (told ∙ t.told_is) few
         (ap (λ k. list_in w (seen b k)) (sym is) ∙ list t.told_is xs (ap (λ k. list_in w (seen a k)) is ∙ t.list))
@@ -236,7 +236,7 @@ module _ {B : Type 0} {g : Ghosts B} where
 
   -- ---- a file that is too long for a list
 
-  pub fails_long : ((x : B) → g.same_blocks x x) → (f n : ℕ) (a : Overlay B g) → Fails (Damaged f n) 1 a a
+  pub fails_long : ((x : B) → g.same_blocks x x) → (f n : ℕ) (a : Overlay B g) → EndsInFault (Damaged f n) 1 a a
   fails_long again f n a = record {
     reads = 0;
     looks = λ sound. looks_none {T = Unit {0}} 0 (Err (Damaged f n)) (under a) tt sound;

@@ -18,7 +18,7 @@ use Rattle.dms_desc.specs.Lookups.{structure_of, items_of}
 use Rattle.dms_desc.specs.Kinds.{is_link}
 use Rattle.dms_model.specs.Stores.{kept_value, linked_from, linked, values_of, old_of, stored, put_answer, put_after, put_number, put_unless}
 use Rattle.dms_desc.specs.Plain.{FitsKind}
-use Rattle.dms_sets.specs.Spots.{ValuesFit, RecordHasSpot, RecordsFit, put_fits}
+use Rattle.dms_sets.specs.Spots.{ValuesFit, RecordHasSpot, RecordsHaveSpots, put_fits}
 use Rattle.std.specs.List.{AllByRecursion}
 use Rattle.dms_sets.specs.Answers.{IsFoundNumber, clash_seen, answer_is}
 use Rattle.dms_sets.specs.Puts.{IsNamed, MayCome, all_judged}
@@ -46,12 +46,12 @@ null_fits (Link to counted) = refl
 null_kind : (k : ItemKind) (v : Value) → FitsKind k v → FitsKind k Null
 null_kind k v f = record { kind = f.kind; fits = null_fits k; plain = tt }
 
-old_values : (desc : Described) (db : Db) (place : Place) (o : Option Record) (rec : Record) → get db.records place ≡ o → RecordsFit desc db → ValuesFit (items_of (structure_of desc place.0)) rec.values → ValuesFit (items_of (structure_of desc place.0)) (values_of o)
+old_values : (desc : Described) (db : Db) (place : Place) (o : Option Record) (rec : Record) → get db.records place ≡ o → RecordsHaveSpots desc db → ValuesFit (items_of (structure_of desc place.0)) rec.values → ValuesFit (items_of (structure_of desc place.0)) (values_of o)
 old_values desc db place None rec is fits new k item at = null_kind item.kind (or_null (slice_get rec.values k)) (new k item at)
 old_values desc db place (Some r) rec is fits new k item at = (fits place r is).values k item at
 
 -- what is stored for a record that may come fits
-pub stored_fits : (desc : Described) (db : Db) (set n : ℕ) (rec : Record) → RecordsFit desc db → MayCome desc set rec → n < 2 ^ 32 → RecordHasSpot desc (set, n) (linked (items_of (structure_of desc set)) (get db.records (set, n)) rec)
+pub stored_fits : (desc : Described) (db : Db) (set n : ℕ) (rec : Record) → RecordsHaveSpots desc db → MayCome desc set rec → n < 2 ^ 32 → RecordHasSpot desc (set, n) (linked (items_of (structure_of desc set)) (get db.records (set, n)) rec)
 stored_fits desc db set n rec fits may small =
     let items = items_of (structure_of desc set) in
     let old = get db.records (set, n) in
@@ -64,12 +64,12 @@ stored_fits desc db set n rec fits may small =
     }
 
 -- the values of the record that is replaced fit, and where none is replaced null does
-olds_fit : (desc : Described) (db : Db) (set : ℕ) (number : Option ℕ) (rec : Record) → RecordsFit desc db → MayCome desc set rec → ValuesFit (items_of (structure_of desc set)) (values_of (old_of db set number))
+olds_fit : (desc : Described) (db : Db) (set : ℕ) (number : Option ℕ) (rec : Record) → RecordsHaveSpots desc db → MayCome desc set rec → ValuesFit (items_of (structure_of desc set)) (values_of (old_of db set number))
 olds_fit desc db set None rec fits may k item at = null_kind item.kind (or_null (slice_get rec.values k)) (may.values k item at)
 olds_fit desc db set (Some n) rec fits may k item at = old_values desc db (set, n) (get db.records (set, n)) rec refl fits may.values k item at
 
 -- what is stored for a record that may come may come itself
-pub stored_comes : (desc : Described) (db : Db) (set : ℕ) (number : Option ℕ) (rec : Record) → RecordsFit desc db → MayCome desc set rec → MayCome desc set (stored desc db set number rec)
+pub stored_comes : (desc : Described) (db : Db) (set : ℕ) (number : Option ℕ) (rec : Record) → RecordsHaveSpots desc db → MayCome desc set rec → MayCome desc set (stored desc db set number rec)
 stored_comes desc db set number rec fits may =
     let items = items_of (structure_of desc set) in
     let olds = values_of (old_of db set number) in
@@ -82,7 +82,7 @@ stored_comes desc db set number rec fits may =
 
 -- Storing a record answers a duplicate exactly for the first set without DUPLICATES in whose entries, without that of the record that it replaces,
 -- the first that reaches the owner and key of what would be stored has them.
-pub put_answers : (desc : Described) (db : Db) (set : ℕ) (number : Option ℕ) (rec : Record) → AllByRecursion (IsNamed desc) desc.structures → RecordsFit desc db → MayCome desc set rec → IsFoundNumber number
+pub put_answers : (desc : Described) (db : Db) (set : ℕ) (number : Option ℕ) (rec : Record) → AllByRecursion (IsNamed desc) desc.structures → RecordsHaveSpots desc db → MayCome desc set rec → IsFoundNumber number
     → put_answer desc db set number rec ≡ put_unless (clash_seen desc desc.structures db set number (stored desc db set number rec)) (put_number desc db set number)
 unfolding put_answer
 put_answers desc db set number rec named fits may small =
@@ -96,7 +96,7 @@ IsStoredSmall (Duplicate s) = Unit {0}
 IsStoredSmall Full = Unit {0}
 
 -- All records fit after a put.
-pub fits_after : (answer : Put) (desc : Described) (db : Db) (set : ℕ) (rec : Record) → IsStoredSmall answer → RecordsFit desc db → MayCome desc set rec → RecordsFit desc (put_after answer desc db set rec)
+pub fits_after : (answer : Put) (desc : Described) (db : Db) (set : ℕ) (rec : Record) → IsStoredSmall answer → RecordsHaveSpots desc db → MayCome desc set rec → RecordsHaveSpots desc (put_after answer desc db set rec)
 fits_after (Stored n) desc db set rec small fits may = put_fits desc db (set, n) (linked (items_of (structure_of desc set)) (get db.records (set, n)) rec) fits (stored_fits desc db set n rec fits may small)
 fits_after (Duplicate s) desc db set rec small fits may = fits
 fits_after Full desc db set rec small fits may = fits

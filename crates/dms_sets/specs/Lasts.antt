@@ -23,7 +23,7 @@ use Rattle.dms_model.specs.Members.{members, is_before_bound, last_of}
 use Rattle.dms_key.specs.ByteOrder.{equal_is, greater_is}
 use Rattle.dms_sets.specs.Prefixes.{front_cmp, front_whole, reaches_is}
 use Rattle.dms_sets.specs.Sets.{listed_in, entries_of, kinds_over}
-use Rattle.dms_sets.specs.Owners.{is_of, of_owner, spot_bytes, AllFit, owned_entries}
+use Rattle.dms_sets.specs.Owners.{is_of, of_owner, spot_bytes, EntriesFit, owned_entries}
 use Rattle.dms_sets.specs.Bounds.{BoundKeyFits, SpotKeyFits, at_order, front_order, members_fit, all_to}
 use Rattle.dms_key.specs.KeyBytes.{key_bytes}
 use Rattle.dms_key.specs.KeyOrder.{equal_itself}
@@ -177,7 +177,7 @@ precedes_is kinds ps owner (From key) x f g =
     before_front (key_cmp (take (length key) ps) (take (length key) x.key) key) ∙ sym (ap is_gt (front_order kinds ps owner key x f g.key))
 
 -- The last member before a bound is the last entry before it, where that is the owner's.
-pub last_member_is : (desc : Described) (db : Db) (s : Shape) (owner : ℕ) (bound : Bound) → owner < 2 ^ 32 → (s.kind == 5) ≡ false → AllFit (kinds_over desc s) s (entries db.records) → BoundKeyFits (kinds_over desc s) s.parts bound
+pub last_member_is : (desc : Described) (db : Db) (s : Shape) (owner : ℕ) (bound : Bound) → owner < 2 ^ 32 → (s.kind == 5) ≡ false → EntriesFit (kinds_over desc s) s (entries db.records) → BoundKeyFits (kinds_over desc s) s.parts bound
     → option_map (spot_bytes (kinds_over desc s) s.parts owner) (last_of (Some s) db owner bound) ≡ that_passes (is_of owner) (last (precedes (kinds_over desc s) s.parts owner bound) (entries_of desc db s))
 last_member_is desc db s owner bound small auto all fits =
     let kinds = kinds_over desc s in

@@ -47,9 +47,9 @@ pub record EntryFits (kinds : List ItemKind) (s : Shape) (e : Place × Record) :
   pub owner : e.1.owner < 2 ^ 32
   pub key : (over s == e.0.0) ≡ true → IsSetKey kinds s.parts (key_of s.parts e.1.values)
 
-abbrev pub AllFit : List ItemKind → Shape → List (Place × Record) → Type 0
-AllFit kinds s [] = Unit {0}
-AllFit kinds s (e ∷ es) = EntryFits kinds s e × AllFit kinds s es
+abbrev pub EntriesFit : List ItemKind → Shape → List (Place × Record) → Type 0
+EntriesFit kinds s [] = Unit {0}
+EntriesFit kinds s (e ∷ es) = EntryFits kinds s e × EntriesFit kinds s es
 
 -- lists
 
@@ -180,13 +180,13 @@ module _ (kinds : List ItemKind) (s : Shape) (manual : List SubsetEntry) (owner 
   alike_by true e d xs is f g at less rest = (alike_at e d f g at (both_of (over s == d.0.0) _ is).0 less, rest)
   alike_by false e d xs is f g at less rest = rest
 
-  all_alike : (e : Place × Record) (es : List (Place × Record)) → EntryFits kinds s e → AllFit kinds s es → (over s == e.0.0) ≡ true → T (below_all place_cmp e.0 es)
+  all_alike : (e : Place × Record) (es : List (Place × Record)) → EntryFits kinds s e → EntriesFit kinds s es → (over s == e.0.0) ≡ true → T (below_all place_cmp e.0 es)
       → AllByRecursion (IsAlike s.parts B (spot_of s.parts e)) (spots_of s manual owner es)
   all_alike e [] f all at below = tt
   all_alike e (d ∷ es) f all at below =
       alike_by (belongs s manual owner d) e d (spots_of s manual owner es) refl f all.0 at (first_true _ _ below) (all_alike e es f all.1 at (second_true _ _ below))
 
-  turn : (a t w : Bool) (e : Place × Record) (es : List (Place × Record)) (ys : List (List ℕ)) → (over s == e.0.0) ≡ a → (owner == e.1.owner) ≡ w → EntryFits kinds s e → AllFit kinds s es → T (below_all place_cmp e.0 es) → AreInByteOrder ys
+  turn : (a t w : Bool) (e : Place × Record) (es : List (Place × Record)) (ys : List (List ℕ)) → (over s == e.0.0) ≡ a → (owner == e.1.owner) ≡ w → EntryFits kinds s e → EntriesFit kinds s es → T (below_all place_cmp e.0 es) → AreInByteOrder ys
       → of_owner owner ys ≡ map B (sorted (is_before s.parts) (spots_of s manual owner es))
       → of_owner owner (with_in (cond (a && t) (Some (entry_bytes kinds s.parts e.1.owner (key_of s.parts e.1.values) e.0.1)) None) ys)
       ≡ map B (sorted (is_before s.parts) (cond (a && (w && t)) (spot_of s.parts e ∷ spots_of s manual owner es) (spots_of s manual owner es)))
@@ -211,7 +211,7 @@ module _ (kinds : List ItemKind) (s : Shape) (manual : List SubsetEntry) (owner 
   no_keys : of_owner owner (keys (empty {X = Unit {0}} {R = bytes_cmp})) ≡ []
   no_keys = ap (of_owner owner) empty_keys
 
-  pub owned_at : (es : List (Place × Record)) → (s.kind == 5) ≡ false → T (is_sorted place_cmp es) → AllFit kinds s es
+  pub owned_at : (es : List (Place × Record)) → (s.kind == 5) ≡ false → T (is_sorted place_cmp es) → EntriesFit kinds s es
       → of_owner owner (keys (listing (entry_of kinds s) es)) ≡ map B (sorted (is_before s.parts) (spots_of s manual owner es))
   owned_at [] auto order all = no_keys
   owned_at (e ∷ es) auto order all =
@@ -221,6 +221,6 @@ module _ (kinds : List ItemKind) (s : Shape) (manual : List SubsetEntry) (owner 
       ∙ ap (λ b. map B (sorted (is_before s.parts) (cond b (spot_of s.parts e ∷ spots_of s manual owner es) (spots_of s manual owner es)))) (sym (belongs_is s manual owner e auto))
 
 -- The entries of an owner in a set are the bytes of the members for that owner.
-pub owned_entries : (desc : Described) (db : Db) (s : Shape) (owner : ℕ) → owner < 2 ^ 32 → (s.kind == 5) ≡ false → AllFit (kinds_over desc s) s (entries db.records)
+pub owned_entries : (desc : Described) (db : Db) (s : Shape) (owner : ℕ) → owner < 2 ^ 32 → (s.kind == 5) ≡ false → EntriesFit (kinds_over desc s) s (entries db.records)
     → of_owner owner (entries_of desc db s) ≡ map (spot_bytes (kinds_over desc s) s.parts owner) (members s db owner)
 owned_entries desc db s owner small auto all = owned_at (kinds_over desc s) s db.entries owner small (entries db.records) auto (entries_sorted db.records) all

@@ -26,10 +26,10 @@ use Rattle.dms_sets.specs.Clashes.{look}
 use Rattle.dms_key.specs.ByteOrder.{append_cmp, high_first_length, less_is, equal_is}
 use Rattle.dms_sets.specs.Prefixes.{front_cmp, starts, reaches, front_whole, gt_then}
 use Rattle.dms_sets.specs.Sets.{entry_of, entries_of, kinds_over, keys_with_opt}
-use Rattle.dms_sets.specs.Owners.{EntryFits, AllFit}
+use Rattle.dms_sets.specs.Owners.{EntryFits, EntriesFit}
 use Rattle.dms_sets.specs.Bounds.{passes, BoundKeyFits}
 use Rattle.dms_sets.specs.Lasts.{precedes}
-use Rattle.dms_key.specs.KeyBytes.{key_bytes, key_width, KeyFits}
+use Rattle.dms_key.specs.KeyBytes.{key_bytes, key_width, KeyHasKinds}
 use Rattle.dms_key.specs.KeyOrder.{four_cmp, key_most}
 use Rattle.dms_sets.specs.Entries.{entry_bytes, IsSetKey, whole_width}
 use Rattle.dms_ordlist.specs.Lists as list
@@ -72,7 +72,7 @@ shaped_at true true kinds s e ys at f all =
 shaped_at true false kinds s e ys at f all = all
 shaped_at false t kinds s e ys at f all = all
 
-shaped_in : (kinds : List ItemKind) (s : Shape) (es : List (Place × Record)) → AllFit kinds s es → AllByRecursion (IsSetEntry (key_width kinds s.parts)) (keys (listing (entry_of kinds s) es))
+shaped_in : (kinds : List ItemKind) (s : Shape) (es : List (Place × Record)) → EntriesFit kinds s es → AllByRecursion (IsSetEntry (key_width kinds s.parts)) (keys (listing (entry_of kinds s) es))
 shaped_in kinds s [] all = subst (AllByRecursion (IsSetEntry (key_width kinds s.parts))) (sym empty_keys) tt
 shaped_in kinds s (e ∷ es) all =
     let ys = keys (listing (entry_of kinds s) es) in
@@ -80,7 +80,7 @@ shaped_in kinds s (e ∷ es) all =
     (shaped_at (over s == e.0.0) (takes s e.1.values) kinds s e ys refl all.0 (shaped_in kinds s es all.1))
 
 -- all entries of a set have one form and one width
-pub entries_shaped : (desc : Described) (db : Db) (s : Shape) → AllFit (kinds_over desc s) s (entries db.records) → AllByRecursion (IsSetEntry (key_width (kinds_over desc s) s.parts)) (entries_of desc db s)
+pub entries_shaped : (desc : Described) (db : Db) (s : Shape) → EntriesFit (kinds_over desc s) s (entries db.records) → AllByRecursion (IsSetEntry (key_width (kinds_over desc s) s.parts)) (entries_of desc db s)
 entries_shaped desc db s all = shaped_in (kinds_over desc s) s (entries db.records) all
 
 -- bounds of that width
@@ -150,7 +150,7 @@ entry_order kinds ps owner key n q f small own e =
     ∙ (λ i. ordering_then (four_cmp owner e.owner own e.small_owner i) (append_cmp (key_bytes kinds ps key) e.key (to_be_bytes w32 n) (to_be_bytes w32 e.number) (whole_width kinds ps key f ∙ sym e.long) i))
     ∙ ap (λ o. ordering_then (nat_cmp owner e.owner) (ordering_then (bytes_cmp (key_bytes kinds ps key) e.key) o)) (four_cmp n e.number small e.small)
 
-front_short : (kinds : List ItemKind) (ps : List KeyPart) (owner : ℕ) (key : List Value) → KeyFits kinds ps key → length (front_of kinds ps owner key) ≤ entry_width kinds ps
+front_short : (kinds : List ItemKind) (ps : List KeyPart) (owner : ℕ) (key : List Value) → KeyHasKinds kinds ps key → length (front_of kinds ps owner key) ≤ entry_width kinds ps
 front_short kinds ps owner key f =
     let inner : length (key_bytes kinds ps key ++ []) ≡ length (key_bytes kinds ps key) + 0 = length-append (key_bytes kinds ps key) [] in
     let whole : length (front_of kinds ps owner key) ≡ 4 + length (key_bytes kinds ps key ++ []) = length-append (to_be_bytes w32 owner) (key_bytes kinds ps key ++ []) in

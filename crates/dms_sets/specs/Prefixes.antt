@@ -1,4 +1,4 @@
--- Byte strings by their front.
+-- Byte strings by their prefix.
 use Rattle.std.proofs.Common.{◌≡◌, ℕ, ◌<◌, List, [], ◌∷◌, ◌++◌, Bool, true, false, cond, Some, refl, sym, ap, ◌∙◌, length, arith}
 use Rattle.std.specs.Prelude.{◌||◌, not, is_some}
 use Rattle.std.specs.List.{list_any}
@@ -11,17 +11,17 @@ use Rattle.dms_desc.specs.Sorted.{first, NoneLess, InOrder, that_passes, first_n
 use Rattle.dms_key.specs.ByteOrder.{less_is, equal_is}
 use Rattle.dms_ordlist.specs.Lists.{AreAllAbove, AreInByteOrder, bytes_cmp, bytes_same}
 
--- a prefix against the front of a string
+-- a prefix against the beginning of a string
 abbrev pub front_cmp : List ℕ → List ℕ → Ordering
 front_cmp [] q = Equal
 front_cmp (a ∷ p) [] = Greater
 front_cmp (a ∷ p) (b ∷ q) = ordering_then (nat_cmp a b) (front_cmp p q)
 
--- a string begins with this front
+-- a string begins with this prefix
 abbrev pub starts : List ℕ → List ℕ → Bool
 starts p q = is_eq (front_cmp p q)
 
--- a string isn't below this front
+-- a string isn't below this prefix
 abbrev pub reaches : List ℕ → List ℕ → Bool
 reaches p q = not (is_gt (front_cmp p q))
 

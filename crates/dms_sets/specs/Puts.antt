@@ -14,9 +14,9 @@ use Rattle.dms_desc.specs.Lookups.{structure_of, items_of}
 use Rattle.dms_model.specs.Stores.{put_after, is_closed}
 use Rattle.dms_sets.specs.Listing.{AllPlaces}
 use Rattle.dms_sets.specs.Sets.{entry_of, entries_of, items_over, kinds_over, IsSmall}
-use Rattle.dms_sets.specs.Owners.{AllFit}
+use Rattle.dms_sets.specs.Owners.{EntriesFit}
 use Rattle.dms_sets.specs.Answers.{AreJudged, closed_is, old_entry}
-use Rattle.dms_sets.specs.Spots.{ValuesFit, NameItems, RecordsFit, all_fit, key_fits}
+use Rattle.dms_sets.specs.Spots.{ValuesFit, NameItems, RecordsHaveSpots, all_fit, key_fits}
 use Rattle.dms_sets.specs.Stored.{NamesNoLinks, entries_stored}
 use Rattle.dms_ordlist.specs.Lists.{with_in, without_in}
 
@@ -30,7 +30,7 @@ pub record MayCome (desc : Described) (set : ℕ) (rec : Record) : Type 0 where
   pub owner : rec.owner < 2 ^ 32
   pub values : ValuesFit (items_of (structure_of desc set)) rec.values
 
-judged : (desc : Described) (db : Db) (set : ℕ) (rec : Record) (s : Shape) → IsNamed desc s → RecordsFit desc db → MayCome desc set rec → is_closed s set rec.values ≡ true → AreJudged desc db rec s
+judged : (desc : Described) (db : Db) (set : ℕ) (rec : Record) (s : Shape) → IsNamed desc s → RecordsHaveSpots desc db → MayCome desc set rec → is_closed s set rec.values ≡ true → AreJudged desc db rec s
 judged desc db set rec s named fits may closed =
     let able = closed_is s set (not s.duplicates) (takes s rec.values) closed in
     record {
@@ -38,16 +38,16 @@ judged desc db set rec s named fits may closed =
       key = key_fits (items_over desc s) s.parts rec.values (subst (λ n. ValuesFit (items_of (structure_of desc n)) rec.values) (sym able.over) may.values) named.items;
     }
 
-pub all_judged : (desc : Described) (db : Db) (set : ℕ) (rec : Record) (ss : List Shape) → AllByRecursion (IsNamed desc) ss → RecordsFit desc db → MayCome desc set rec → AllByRecursion (λ s. is_closed s set rec.values ≡ true → AreJudged desc db rec s) ss
+pub all_judged : (desc : Described) (db : Db) (set : ℕ) (rec : Record) (ss : List Shape) → AllByRecursion (IsNamed desc) ss → RecordsHaveSpots desc db → MayCome desc set rec → AllByRecursion (λ s. is_closed s set rec.values ≡ true → AreJudged desc db rec s) ss
 all_judged desc db set rec [] named fits may = tt
 all_judged desc db set rec (s ∷ ss) named fits may = ((λ h. judged desc db set rec s named.0 fits may h), all_judged desc db set rec ss named.1 fits may)
 
-pub all_small : (kinds : List ItemKind) (s : Shape) (es : List (Place × Record)) → AllFit kinds s es → AllPlaces IsSmall es
+pub all_small : (kinds : List ItemKind) (s : Shape) (es : List (Place × Record)) → EntriesFit kinds s es → AllPlaces IsSmall es
 all_small kinds s [] all = tt
 all_small kinds s (e ∷ es) all = (all.0.small, all_small kinds s es all.1)
 
 -- And it leaves in each set over the data set the old entries without that of the record that it replaces, and with its own.
-pub put_leaves : (desc : Described) (db : Db) (s : Shape) (set n : ℕ) (rec : Record) → IsNamed desc s → RecordsFit desc db → n < 2 ^ 32 → over s ≡ set
+pub put_leaves : (desc : Described) (db : Db) (s : Shape) (set n : ℕ) (rec : Record) → IsNamed desc s → RecordsHaveSpots desc db → n < 2 ^ 32 → over s ≡ set
     → entries_of desc (put_after (Stored n) desc db set rec) s
     ≡ with_in (entry_of (kinds_over desc s) s (set, n) rec) (without_in (old_entry (kinds_over desc s) s db.records set (Some n)) (entries_of desc db s))
 put_leaves desc db s set n rec named fits small at =

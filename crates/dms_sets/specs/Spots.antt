@@ -28,10 +28,10 @@ use Rattle.dms_model.specs.Members.{belongs, spot_of, spots_of, is_before, membe
 use Rattle.dms_sets.specs.Listing.{places_total, places_same}
 use Rattle.dms_base.specs.declared.kind.ItemKind.{ItemKind}
 use Rattle.dms_desc.specs.Plain.{FitsKind}
-use Rattle.dms_key.specs.KeyBytes.{FitsPart, KeyFits}
+use Rattle.dms_key.specs.KeyBytes.{FitsPart, KeyHasKinds}
 use Rattle.dms_sets.specs.Entries.{kinds_of, IsSetKey}
 use Rattle.dms_sets.specs.Sets.{place_in_entry, number_in, entry_number, entries_of, items_over, kinds_over}
-use Rattle.dms_sets.specs.Owners.{is_of, spot_bytes, EntryFits, AllFit, all_sorted}
+use Rattle.dms_sets.specs.Owners.{is_of, spot_bytes, EntryFits, EntriesFit, all_sorted}
 use Rattle.dms_sets.specs.Bounds.{passes, BoundKeyFits, first_member_is}
 use Rattle.dms_sets.specs.Lasts.{precedes, last_member_is}
 use Rattle.dms_sets.specs.Tests.{both_of, first_true, second_true, tied}
@@ -51,16 +51,16 @@ above_not Less h = refl
 above_not Equal h = absurd h
 above_not Greater h = absurd h
 
-abbrev pub IsFound : List (Place × Record) → Place × Record → Type 0
-IsFound es e = find place_cmp e.0 es ≡ Some e.1
+abbrev pub StandsAmong : List (Place × Record) → Place × Record → Type 0
+StandsAmong es e = find place_cmp e.0 es ≡ Some e.1
 
-found_later : (e : Place × Record) (es fs : List (Place × Record)) → T (below_all place_cmp e.0 fs) → AllByRecursion (IsFound es) fs → AllByRecursion (IsFound (e ∷ es)) fs
+found_later : (e : Place × Record) (es fs : List (Place × Record)) → T (below_all place_cmp e.0 fs) → AllByRecursion (StandsAmong es) fs → AllByRecursion (StandsAmong (e ∷ es)) fs
 found_later e es [] below all = tt
 found_later e es (d ∷ fs) below all =
     let off : eq_by_cmp place_cmp d.0 e.0 ≡ false = ap is_eq (places_total.antisymm d.0 e.0) ∙ above_not (place_cmp e.0 d.0) (first_true _ _ below) in
     (ap (λ b. cond b (Some e.1) (find place_cmp d.0 es)) off ∙ all.0, found_later e es fs (second_true _ _ below) all.1)
 
-pub all_found : (es : List (Place × Record)) → T (is_sorted place_cmp es) → AllByRecursion (IsFound es) es
+pub all_found : (es : List (Place × Record)) → T (is_sorted place_cmp es) → AllByRecursion (StandsAmong es) es
 all_found [] order = tt
 all_found (e ∷ es) order = (
   ap (λ b. cond b (Some e.1) (find place_cmp e.0 es)) ((eq_by_cmp_equiv places_total).refl e.0),
@@ -71,7 +71,7 @@ module _ (s : Shape) (db : Db) (kinds : List ItemKind) (owner : ℕ) where
   abbrev IsBack : Spot → Type 0
   IsBack x = spot_at s db (spot_bytes kinds s.parts owner x) ≡ Some x
 
-  back_at : (e : Place × Record) → (over s == e.0.0) ≡ true → EntryFits kinds s e → IsFound (entries db.records) e → IsBack (spot_of s.parts e)
+  back_at : (e : Place × Record) → (over s == e.0.0) ≡ true → EntryFits kinds s e → StandsAmong (entries db.records) e → IsBack (spot_of s.parts e)
   back_at e at f found =
       let number : number_in (spot_bytes kinds s.parts owner (spot_of s.parts e)) ≡ e.0.1 = entry_number kinds s.parts owner (key_of s.parts e.1.values) e.0.1 f.small in
       let set : over s ≡ e.0.0 = grind (arith, nat_tests, at) in
@@ -83,13 +83,13 @@ module _ (s : Shape) (db : Db) (kinds : List ItemKind) (owner : ℕ) where
   back_by true e xs here rest = (here refl, rest)
   back_by false e xs here rest = rest
 
-  all_back : (manual : List SubsetEntry) (es : List (Place × Record)) → AllFit kinds s es → AllByRecursion (IsFound (entries db.records)) es → AllByRecursion IsBack (spots_of s manual owner es)
+  all_back : (manual : List SubsetEntry) (es : List (Place × Record)) → EntriesFit kinds s es → AllByRecursion (StandsAmong (entries db.records)) es → AllByRecursion IsBack (spots_of s manual owner es)
   all_back manual [] fits found = tt
   all_back manual (e ∷ es) fits found =
       back_by (belongs s manual owner e) e (spots_of s manual owner es) (λ h. back_at e (both_of (over s == e.0.0) _ h).0 fits.0 found.0) (all_back manual es fits.1 found.1)
 
   -- each member is that of its entry
-  pub members_back : AllFit kinds s (entries db.records) → AllByRecursion IsBack (members s db owner)
+  pub members_back : EntriesFit kinds s (entries db.records) → AllByRecursion IsBack (members s db owner)
   members_back fits =
       all_sorted (is_before s.parts) IsBack (spots_of s db.entries owner (entries db.records)) (all_back db.entries (entries db.records) fits (all_found (entries db.records) (entries_sorted db.records)))
 
@@ -111,7 +111,7 @@ module _ (s : Shape) (db : Db) (kinds : List ItemKind) (owner : ℕ) where
 
 -- The first member behind a bound is that of the first entry behind it, where that is the owner's.
 pub first_member_at : (desc : Described) (db : Db) (path : ℕ) (s : Shape) (owner : ℕ) (bound : Bound) → structure_of desc path ≡ Some s → owner < 2 ^ 32 → (s.kind == 5) ≡ false
-    → AllFit (kinds_over desc s) s (entries db.records) → BoundKeyFits (kinds_over desc s) s.parts bound
+    → EntriesFit (kinds_over desc s) s (entries db.records) → BoundKeyFits (kinds_over desc s) s.parts bound
     → first_member desc db path owner bound ≡ and_then (that_passes (is_of owner) (first (passes (kinds_over desc s) s.parts owner bound) (entries_of desc db s))) (spot_at s db)
 unfolding first_member
 first_member_at desc db path s owner bound has small auto all fits =
@@ -121,7 +121,7 @@ first_member_at desc db path s owner bound has small auto all fits =
 
 -- The last member before a bound is that of the last entry before it, where that is the owner's.
 pub last_member_at : (desc : Described) (db : Db) (path : ℕ) (s : Shape) (owner : ℕ) (bound : Bound) → structure_of desc path ≡ Some s → owner < 2 ^ 32 → (s.kind == 5) ≡ false
-    → AllFit (kinds_over desc s) s (entries db.records) → BoundKeyFits (kinds_over desc s) s.parts bound
+    → EntriesFit (kinds_over desc s) s (entries db.records) → BoundKeyFits (kinds_over desc s) s.parts bound
     → last_member desc db path owner bound ≡ and_then (that_passes (is_of owner) (last (precedes (kinds_over desc s) s.parts owner bound) (entries_of desc db s))) (spot_at s db)
 unfolding last_member
 last_member_at desc db path s owner bound has small auto all fits =
@@ -146,7 +146,7 @@ got [] i item h = absurd (cc)
 got (x ∷ xs) zero item h = let same : x ≡ item = some_item x item h in ap (λ (y : Item). Some y.kind) same
 got (x ∷ xs) (suc i) item h = got xs i item h
 
-values_fit : (items : List Item) (ps : List KeyPart) (values : List Value) → ValuesFit items values → NameItems items ps → KeyFits (kinds_of items) ps (key_of ps values)
+values_fit : (items : List Item) (ps : List KeyPart) (values : List Value) → ValuesFit items values → NameItems items ps → KeyHasKinds (kinds_of items) ps (key_of ps values)
 values_fit items [] values fit named = tt
 values_fit items (p ∷ ps) values fit named =
     let item = named.0.0 in
@@ -166,8 +166,8 @@ pub record RecordHasSpot (desc : Described) (place : Place) (rec : Record) : Typ
   pub owner : rec.owner < 2 ^ 32
   pub values : ValuesFit (items_of (structure_of desc place.0)) rec.values
 
-abbrev pub RecordsFit : Described → Db → Type 0
-RecordsFit desc db = (place : Place) (rec : Record) → get db.records place ≡ Some rec → RecordHasSpot desc place rec
+abbrev pub RecordsHaveSpots : Described → Db → Type 0
+RecordsHaveSpots desc db = (place : Place) (rec : Record) → get db.records place ≡ Some rec → RecordHasSpot desc place rec
 
 entry_fits : (desc : Described) (s : Shape) (e : Place × Record) → NameItems (items_over desc s) s.parts → RecordHasSpot desc e.0 e.1 → EntryFits (kinds_over desc s) s e
 entry_fits desc s e named f =
@@ -179,21 +179,21 @@ entry_fits desc s e named f =
           key_fits (items_over desc s) s.parts e.1.values (subst (λ n. ValuesFit (items_of (structure_of desc n)) e.1.values) set f.values) named;
     }
 
-all_fit_in : (desc : Described) (db : Db) (s : Shape) (es : List (Place × Record)) → NameItems (items_over desc s) s.parts → RecordsFit desc db → AllByRecursion (IsFound (entries db.records)) es → AllFit (kinds_over desc s) s es
+all_fit_in : (desc : Described) (db : Db) (s : Shape) (es : List (Place × Record)) → NameItems (items_over desc s) s.parts → RecordsHaveSpots desc db → AllByRecursion (StandsAmong (entries db.records)) es → EntriesFit (kinds_over desc s) s es
 all_fit_in desc db s [] named fits found = tt
 all_fit_in desc db s (e ∷ es) named fits found =
     (entry_fits desc s e named (fits e.0 e.1 (get-entries db.records e.0 ∙ found.0)), all_fit_in desc db s es named fits found.1)
 
 -- where all records fit, all their entries do
-pub all_fit : (desc : Described) (db : Db) (s : Shape) → NameItems (items_over desc s) s.parts → RecordsFit desc db → AllFit (kinds_over desc s) s (entries db.records)
+pub all_fit : (desc : Described) (db : Db) (s : Shape) → NameItems (items_over desc s) s.parts → RecordsHaveSpots desc db → EntriesFit (kinds_over desc s) s (entries db.records)
 all_fit desc db s named fits = all_fit_in desc db s (entries db.records) named fits (all_found (entries db.records) (entries_sorted db.records))
 
-fit_at : (b : Bool) (desc : Described) (db : Db) (k q : Place) (v r : Record) → eq_by_cmp place_cmp q k ≡ b → RecordsFit desc db → RecordHasSpot desc k v → cond b (Some v) (get db.records q) ≡ Some r → RecordHasSpot desc q r
+fit_at : (b : Bool) (desc : Described) (db : Db) (k q : Place) (v r : Record) → eq_by_cmp place_cmp q k ≡ b → RecordsHaveSpots desc db → RecordHasSpot desc k v → cond b (Some v) (get db.records q) ≡ Some r → RecordHasSpot desc q r
 fit_at true desc db k q v r e fits new at =
     let same : v ≡ r = cc in
     subst (λ (p : Place). RecordHasSpot desc p r) (sym (places_same q k (tied (place_cmp q k) e))) (subst (RecordHasSpot desc k) same new)
 fit_at false desc db k q v r e fits new at = fits q r at
 
 -- and they do after one that fits was put
-pub put_fits : (desc : Described) (db : Db) (k : Place) (v : Record) → RecordsFit desc db → RecordHasSpot desc k v → RecordsFit desc (record db { records = insert db.records k v })
+pub put_fits : (desc : Described) (db : Db) (k : Place) (v : Record) → RecordsHaveSpots desc db → RecordHasSpot desc k v → RecordsHaveSpots desc (record db { records = insert db.records k v })
 put_fits desc db k v fits new q r at = fit_at (eq_by_cmp place_cmp q k) desc db k q v r refl fits new (sym (get-insert places_total db.records k v q) ∙ at)

@@ -14,7 +14,7 @@ use Rattle.dms_sets.specs.Entries.{kinds_of}
 use Rattle.dms_desc.specs.Lookups.{structure_of, items_of}
 use Rattle.dms_sets.specs.Puts.{MayCome}
 use Rattle.dms_sets.specs.Sets.{entries_of, items_over, kinds_over}
-use Rattle.dms_sets.specs.Spots.{RecordsFit, NameItems}
+use Rattle.dms_sets.specs.Spots.{RecordsHaveSpots, NameItems}
 
 -- the records with one more, or without one
 abbrev pub db_with : Db → ℕ → ℕ → Option Record → Db
@@ -48,7 +48,7 @@ pub record ChangeStands (desc : Described) (db : Db) (set number : ℕ) (old new
   pub named : OfStructures desc (λ s. is_kept s ≡ true → NameItems (items_over desc s) s.parts)
   pub old_is : get db.records (set, number) ≡ old
   pub small : number < 2 ^ 32
-  pub records : RecordsFit desc db
+  pub records : RecordsHaveSpots desc db
   pub may : OptMayCome desc set new
   pub room : OfStructures desc (λ s. is_over s set ≡ true → HasRoom (without_in (entry_opt (kinds_over desc s) s number old) (entries_of desc db s)))
 

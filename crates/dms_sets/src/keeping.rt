@@ -1,5 +1,5 @@
 ghost use Rattle.std.specs.Prelude.{◌≡◌};
-ghost use Rattle.dms_sets.specs.Keeping.{Calm, Fails, FromBelow, Usable, file_of, listed};
+ghost use Rattle.dms_sets.specs.Keeping.{Calm, EndsInFault, FromBelow, Usable, file_of, listed};
 ghost use Rattle.dms_sets.specs.KeepingLaws as laws;
 
 use crate::Lists;
@@ -23,7 +23,7 @@ impl<B: Blocks> Lists for Overlay<B> {
 
     ghost calm = { λ p n a b. Calm p n a b };
 
-    ghost fails = { λ e n a b. Fails e n a b };
+    ghost fails = { λ e n a b. EndsInFault e n a b };
 
     ghost below = { λ e a b. FromBelow e a b };
 

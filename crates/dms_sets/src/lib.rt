@@ -10,7 +10,7 @@ mod one;
 mod sets;
 
 pub use answer::SetAnswer;
-pub use entry::{entry as record_entry, key_of, kinds_of};
+pub use entry::{entry as record_entry, kinds_of};
 pub use laws::{
     duplicate_by_one_look, members_by_bounds, one_put_changes, one_put_is_a_change,
     sets_are_their_members,

@@ -6,7 +6,7 @@ ghost use Rattle.dms_sets.specs.Changes.{ChangesSet, Enters, IfListed, ListChang
 ghost use Rattle.dms_sets.specs.Prefixes.{starts};
 
 use crate::Lists;
-use crate::entry::{entry, front, takes};
+use crate::entry::{entry, front};
 use dms_base::{Bytes, ItemKind, Memory};
 use dms_block::BlockFault;
 use dms_desc::{Record, Structure};
@@ -116,7 +116,7 @@ fn refuses<L: Lists>(
     ensures fails { IfErr result (λ e. L.fails e 1 lists.old lists.new) }
     ensures below { IfErr result (λ e. IfListed (kept (L.listed lists.old) kinds.now (shape_of s.now)) (λ xs. L.below e lists.old lists.new)) }
 {
-    if s.duplicates || !takes(s, rec.values.as_slice()) {
+    if s.duplicates || !s.takes(rec.values.as_slice()) {
         return Ok(false);
     }
     is_taken(lists, alloc, s, kinds, rec)

@@ -7,10 +7,10 @@ use Rattle.std.proofs.lemmas.Bool.Decides.{nat_tests}
 use Rattle.dms_moments.specs.Moments.{Steps}
 use Rattle.dms_site.specs.Files.{Files, Left, with_file, overlaid, InFile, Torn, Cut, OnDisk, PrintsPartOf, Only}
 use Rattle.dms_site.specs.Laws.{torn_overlaid, torn_refl, in_file_with, in_file_same}
-use Rattle.dms_sitemem.specs.declared.event.Event.{Event}
-use Rattle.dms_sitemem.specs.declared.event.Event.TheVariants.{Looked, Wrote, Shortened, Synced, Said, Replaced, Recalled}
+use Rattle.dms_sitemem.specs.declared.event.SiteEvent.{SiteEvent}
+use Rattle.dms_sitemem.specs.declared.event.SiteEvent.TheVariants.{Looked, Wrote, Shortened, Synced, Said, Replaced, Recalled}
 use Rattle.dms_sitemem.specs.Events.{files_after, said_after, is_call, calls_in}
-use Rattle.dms_sitemem.specs.Replay.{State, MayLeave, after, state_of, clock_of}
+use Rattle.dms_sitemem.specs.Replay.{Replayed, MayLeave, after, state_of, clock_of}
 use Rattle.dms_sitemem.specs.Honest.{state_push, pushed, still, write_leads, say_leads, synced_only}
 
 pub kept_file : (old new : Files) (f : ℕ) (next bytes : List ℕ) → ((g : ℕ) → new g ≡ (if g == f then next else old g)) → next ≡ bytes → new ≡ with_file old f bytes
@@ -21,27 +21,27 @@ pub kept_same : (old new : Files) → ((g : ℕ) → new g ≡ old g) → new �
 kept_same old new each = λ i g. each g i
 
 -- after one more event
-abbrev pub More : List Event → Event → List Event → Type 0
+abbrev pub More : List SiteEvent → SiteEvent → List SiteEvent → Type 0
 More events event all = all ≡ events ++ event ∷ []
 
-pub more_state : (events all : List Event) (event : Event) → More events event all → state_of all ≡ after event (state_of events)
+pub more_state : (events all : List SiteEvent) (event : SiteEvent) → More events event all → state_of all ≡ after event (state_of events)
 more_state events all event more = ap state_of more ∙ state_push events event
 
-pub more_files : (events all : List Event) (event : Event) (old new : Files) → More events event all → old ≡ (state_of events).files → new ≡ files_after event old → new ≡ (state_of all).files
+pub more_files : (events all : List SiteEvent) (event : SiteEvent) (old new : Files) → More events event all → old ≡ (state_of events).files → new ≡ files_after event old → new ≡ (state_of all).files
 more_files events all event old new more was now =
-    now ∙ ap (λ (l : Files). files_after event l) was ∙ sym (ap (λ (s : State). s.files) (more_state events all event more))
+    now ∙ ap (λ (l : Files). files_after event l) was ∙ sym (ap (λ (s : Replayed). s.files) (more_state events all event more))
 
-pub more_said : (events all : List Event) (event : Event) (old new : List ℕ) → More events event all → old ≡ (state_of events).said → new ≡ said_after event old → new ≡ (state_of all).said
+pub more_said : (events all : List SiteEvent) (event : SiteEvent) (old new : List ℕ) → More events event all → old ≡ (state_of events).said → new ≡ said_after event old → new ≡ (state_of all).said
 more_said events all event old new more was now =
-    now ∙ ap (λ (l : List ℕ). said_after event l) was ∙ sym (ap (λ (s : State). s.said) (more_state events all event more))
+    now ∙ ap (λ (l : List ℕ). said_after event l) was ∙ sym (ap (λ (s : Replayed). s.said) (more_state events all event more))
 
-pub same_files : (events all : List Event) (old new : Files) → all ≡ events → old ≡ (state_of events).files → new ≡ old → new ≡ (state_of all).files
-same_files events all old new is was now = now ∙ was ∙ sym (ap (λ (l : List Event). (state_of l).files) is)
+pub same_files : (events all : List SiteEvent) (old new : Files) → all ≡ events → old ≡ (state_of events).files → new ≡ old → new ≡ (state_of all).files
+same_files events all old new is was now = now ∙ was ∙ sym (ap (λ (l : List SiteEvent). (state_of l).files) is)
 
-pub same_said : (events all : List Event) (old new : List ℕ) → all ≡ events → old ≡ (state_of events).said → new ≡ old → new ≡ (state_of all).said
-same_said events all old new is was now = now ∙ was ∙ sym (ap (λ (l : List Event). (state_of l).said) is)
+pub same_said : (events all : List SiteEvent) (old new : List ℕ) → all ≡ events → old ≡ (state_of events).said → new ≡ old → new ≡ (state_of all).said
+same_said events all old new is was now = now ∙ was ∙ sym (ap (λ (l : List SiteEvent). (state_of l).said) is)
 
-pub calls_push : (events : List Event) (event : Event) → calls_in (events ++ event ∷ []) ≡ calls_in events + (if is_call event then 1 else 0)
+pub calls_push : (events : List SiteEvent) (event : SiteEvent) → calls_in (events ++ event ∷ []) ≡ calls_in events + (if is_call event then 1 else 0)
 unfolding calls_in
 calls_push [] event = omega arith
 calls_push (e ∷ events) event = ap (λ (n : ℕ). (if is_call e then 1 else 0) + n) (calls_push events event) ∙ omega arith
@@ -50,15 +50,15 @@ pub at_most_one : (b : Bool) → (if b then 1 else 0) ≤ 1
 at_most_one true = omega arith
 at_most_one false = omega arith
 
-pub calls_few : (events : List Event) → calls_in events ≤ length events
+pub calls_few : (events : List SiteEvent) → calls_in events ≤ length events
 unfolding calls_in
 calls_few [] = omega arith
 calls_few (e ∷ events) = omega (arith, calls_few events, at_most_one (is_call e))
 
-pub more_steps : (events all : List Event) (event : Event) (step : Left → Left → Type 0) → More events event all → ((x : Left) → MayLeave (after event (state_of events)) x → (y : Left) × MayLeave (state_of events) y × step y x) → Steps step (clock_of events) (clock_of all)
+pub more_steps : (events all : List SiteEvent) (event : SiteEvent) (step : Left → Left → Type 0) → More events event all → ((x : Left) → MayLeave (after event (state_of events)) x → (y : Left) × MayLeave (state_of events) y × step y x) → Steps step (clock_of events) (clock_of all)
 more_steps events all event step more leads = subst (λ l. Steps step (clock_of events) (clock_of l)) (sym more) (pushed events event step leads)
 
-pub same_steps : (events all : List Event) (step : Left → Left → Type 0) → all ≡ events → ((x : Left) → step x x) → Steps step (clock_of events) (clock_of all)
+pub same_steps : (events all : List SiteEvent) (step : Left → Left → Type 0) → all ≡ events → ((x : Left) → step x x) → Steps step (clock_of events) (clock_of all)
 same_steps events all step is refls = subst (λ l. Steps step (clock_of events) (clock_of l)) (sym is) (still events step refls)
 
 pub disk_same : (f : ℕ) (step : List ℕ → List ℕ → Type 0) → ((l : List ℕ) → step l l) → (x : Left) → OnDisk f step x x
@@ -68,7 +68,7 @@ pub prints_none : (bytes : List ℕ) (x : Left) → PrintsPartOf bytes x x
 prints_none bytes x = record { files = refl; some = 0; said = sym (append-nil x.said) }
 
 -- one more write
-module _ (events all : List Event) (f at : ℕ) (v : Vec ℕ Global) (ok : Bool) (bytes : List ℕ) (is : v.items ≡ bytes) (more : More events (Wrote f at v ok) all) where
+module _ (events all : List SiteEvent) (f at : ℕ) (v : Vec ℕ Global) (ok : Bool) (bytes : List ℕ) (is : v.items ≡ bytes) (more : More events (Wrote f at v ok) all) where
   pub write_steps : Steps (OnDisk f (Torn at (length bytes))) (clock_of events) (clock_of all)
   write_steps = subst (λ (l : List ℕ). Steps (OnDisk f (Torn at (length l))) (clock_of events) (clock_of all)) is (more_steps events all _ _ more (write_leads (state_of events) f at v ok))
 
@@ -102,11 +102,11 @@ say_some false v bytes old new same is = (0, is ∙ sym (append-nil old))
 pub say_none : (bytes old new : List ℕ) → new ≡ old → (k : ℕ) × (new ≡ old ++ take k bytes)
 say_none bytes old new is = (0, is ∙ sym (append-nil old))
 
-pub say_steps : (events all : List Event) (v : Vec ℕ Global) (ok : Bool) (bytes : List ℕ) → v.items ≡ bytes → More events (Said v ok) all → Steps (PrintsPartOf bytes) (clock_of events) (clock_of all)
+pub say_steps : (events all : List SiteEvent) (v : Vec ℕ Global) (ok : Bool) (bytes : List ℕ) → v.items ≡ bytes → More events (Said v ok) all → Steps (PrintsPartOf bytes) (clock_of events) (clock_of all)
 say_steps events all v ok bytes is more = subst (λ (l : List ℕ). Steps (PrintsPartOf l) (clock_of events) (clock_of all)) is (more_steps events all _ _ more (say_leads (state_of events) v ok))
 
-pub sync_only : (events all : List Event) (ok : Bool) (old : Files) → More events (Synced ok) all → old ≡ (state_of events).files → IsTrue ok → Only old (clock_of all)
-sync_only events all true old more was yes' x now = subst (λ (l : List Event). Only (state_of events).files (clock_of l)) (sym more) (synced_only events) x now ∙ sym was
+pub sync_only : (events all : List SiteEvent) (ok : Bool) (old : Files) → More events (Synced ok) all → old ≡ (state_of events).files → IsTrue ok → Only old (clock_of all)
+sync_only events all true old more was yes' x now = subst (λ (l : List SiteEvent). Only (state_of events).files (clock_of l)) (sym more) (synced_only events) x now ∙ sym was
 sync_only events all false old more was yes' x now = absurd (false≢true yes')
 
 pub same_file : (files : Files) (f : ℕ) → files ≡ with_file files f (files f)

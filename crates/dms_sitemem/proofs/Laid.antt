@@ -16,7 +16,7 @@ behind end file = elim (cases_lt (length file) end) [
   | inr long ↦ ap (λ (l : List ℕ). drop end l) (zeros (end - length file) file (omega (arith, long)))
 ]
 
--- the front is the same with fewer zeros
+-- the prefix is the same with fewer zeros
 front : (at end : ℕ) (file : List ℕ) → at ≤ end → take at (padded file end) ≡ take at (padded file at)
 unfolding padded
 front at end file le = elim (cases_lt (length file) at) [

@@ -6,39 +6,39 @@ use Rattle.std.proofs.lemmas.Bool.{cases_lt}
 use Rattle.dms_moments.specs.Moments.{Clock, Now, Runs, After, Steps}
 use Rattle.dms_site.specs.Files.{Files, Left, with_file, overlaid, InFile, Torn, Cut, OnDisk, PrintsPartOf, Same, Only}
 use Rattle.dms_site.specs.Laws.{torn_overlaid, torn_refl, in_file_with, in_file_same}
-use Rattle.dms_sitemem.specs.declared.event.Event.{Event}
-use Rattle.dms_sitemem.specs.declared.event.Event.TheVariants.{Looked, Wrote, Shortened, Synced, Said, Replaced, Recalled}
+use Rattle.dms_sitemem.specs.declared.event.SiteEvent.{SiteEvent}
+use Rattle.dms_sitemem.specs.declared.event.SiteEvent.TheVariants.{Looked, Wrote, Shortened, Synced, Said, Replaced, Recalled}
 use Rattle.dms_sitemem.specs.declared.pick.Fill.{Fill}
 use Rattle.dms_sitemem.specs.declared.pick.Fill.TheVariants.{Old, New, Sevens, Drawn}
-use Rattle.dms_sitemem.specs.Replay.{EventMayMake, Reaches, State, empty, MayLeave, after, run, state_of, LeftSince, clock_of}
+use Rattle.dms_sitemem.specs.Replay.{EventMayMake, Reaches, Replayed, empty, MayLeave, after, run, state_of, LeftSince, clock_of}
 use Rattle.dms_sitemem.specs.Picks.{drawn, start_of, count_of, marked, Struck, struck, fill_of, cuts_of, picked}
 
-run_push : (events : List Event) (event : Event) (s : State) → run (events ++ event ∷ []) s ≡ after event (run events s)
+run_push : (events : List SiteEvent) (event : SiteEvent) (s : Replayed) → run (events ++ event ∷ []) s ≡ after event (run events s)
 run_push [] event s = refl
 run_push (e ∷ events) event s = run_push events event (after e s)
 
-pub state_push : (events : List Event) (event : Event) → state_of (events ++ event ∷ []) ≡ after event (state_of events)
+pub state_push : (events : List SiteEvent) (event : SiteEvent) → state_of (events ++ event ∷ []) ≡ after event (state_of events)
 unfolding state_of
 state_push events event = run_push events event empty
 
-pub now_leaves : (events : List Event) (x : Left) → MayLeave (state_of events) x → Now (clock_of events) x
+pub now_leaves : (events : List SiteEvent) (x : Left) → MayLeave (state_of events) x → Now (clock_of events) x
 unfolding clock_of
-now_leaves events x may = (length events, omega arith, omega arith, subst (λ (l : List Event). MayLeave (state_of l) x) (sym (take_all (length events) events (omega arith))) may)
+now_leaves events x may = (length events, omega arith, omega arith, subst (λ (l : List SiteEvent). MayLeave (state_of l) x) (sym (take_all (length events) events (omega arith))) may)
 
-pub left_now : (events : List Event) (x : Left) → Now (clock_of events) x → MayLeave (state_of events) x
+pub left_now : (events : List SiteEvent) (x : Left) → Now (clock_of events) x → MayLeave (state_of events) x
 unfolding clock_of
-left_now events x left = subst (λ (l : List Event). MayLeave (state_of l) x) (take_all left.0 events left.1) left.3
+left_now events x left = subst (λ (l : List SiteEvent). MayLeave (state_of l) x) (take_all left.0 events left.1) left.3
 
-pub counts_since : (events : List Event) (t : ℕ) (x : Left) → t ≤ (clock_of events).now → Now (clock_of events) x → (clock_of events).left t x
+pub counts_since : (events : List SiteEvent) (t : ℕ) (x : Left) → t ≤ (clock_of events).now → Now (clock_of events) x → (clock_of events).left t x
 unfolding clock_of
 counts_since events t x le left = (left.0, omega (arith, le, left.1), left.2, left.3)
 
 -- One more event does a step, where what it may leave is an earlier outcome after that step.
-pub pushed : (events : List Event) (event : Event) (step : Left → Left → Type 0) → ((x : Left) → MayLeave (after event (state_of events)) x → (y : Left) × MayLeave (state_of events) y × step y x) → Steps step (clock_of events) (clock_of (events ++ event ∷ []))
+pub pushed : (events : List SiteEvent) (event : SiteEvent) (step : Left → Left → Type 0) → ((x : Left) → MayLeave (after event (state_of events)) x → (y : Left) × MayLeave (state_of events) y × step y x) → Steps step (clock_of events) (clock_of (events ++ event ∷ []))
 unfolding clock_of
 pushed events event step leads = record { follows = λ x now. one x (left_now all x now); runs = record { later = later; only = only; keeps = keeps } }
   where
-    all : List Event
+    all : List SiteEvent
     all = events ++ event ∷ []
 
     one : (x : Left) → MayLeave (state_of all) x → After (clock_of events) step x
@@ -54,22 +54,22 @@ pushed events event step leads = record { follows = λ x now. one x (left_now al
 
     only : (t : ℕ) (x : Left) → t ≤ (clock_of events).now → (clock_of all).left t x → (clock_of events).left t x ⊎ After (clock_of events) step x
     only t x le left = elim (cases_lt (length events) left.0) [
-      | inl past ↦ inr (one x (subst (λ (l : List Event). MayLeave (state_of l) x) (take_all left.0 all (omega (arith, long, past))) left.3))
-      | inr before ↦ inl (left.0, left.1, before, subst (λ (l : List Event). MayLeave (state_of l) x) (take-append-le left.0 events (event ∷ []) before) left.3)
+      | inl past ↦ inr (one x (subst (λ (l : List SiteEvent). MayLeave (state_of l) x) (take_all left.0 all (omega (arith, long, past))) left.3))
+      | inr before ↦ inl (left.0, left.1, before, subst (λ (l : List SiteEvent). MayLeave (state_of l) x) (take-append-le left.0 events (event ∷ []) before) left.3)
     ]
 
     keeps : (t : ℕ) (x : Left) → t ≤ (clock_of events).now → (clock_of events).left t x → (clock_of all).left t x
-    keeps t x le left = (left.0, left.1, omega (arith, long, left.2), subst (λ (l : List Event). MayLeave (state_of l) x) (sym (take-append-le left.0 events (event ∷ []) left.2)) left.3)
+    keeps t x le left = (left.0, left.1, omega (arith, long, left.2), subst (λ (l : List SiteEvent). MayLeave (state_of l) x) (sym (take-append-le left.0 events (event ∷ []) left.2)) left.3)
 
 -- no event
-pub still : (events : List Event) (step : Left → Left → Type 0) → ((x : Left) → step x x) → Steps step (clock_of events) (clock_of events)
+pub still : (events : List SiteEvent) (step : Left → Left → Type 0) → ((x : Left) → step x x) → Steps step (clock_of events) (clock_of events)
 still events step refls = record {
   follows = λ x now. (x, now, refls x);
   runs = record { later = omega arith; only = λ t x le left. inl left; keeps = λ t x le left. left };
 }
 
 -- the events, one by one
-module _ (s : State) where
+module _ (s : Replayed) where
   as_read : Left
   as_read = record { files = s.files; said = s.said }
 
@@ -149,15 +149,15 @@ module _ (s : State) where
   )
 
 -- after a sync that succeeded
-pub synced_only : (events : List Event) → Only (state_of events).files (clock_of (events ++ Synced true ∷ []))
+pub synced_only : (events : List SiteEvent) → Only (state_of events).files (clock_of (events ++ Synced true ∷ []))
 synced_only events x now = elim (subst (λ s. MayLeave s x) (state_push events (Synced true)) (left_now (events ++ Synced true ∷ []) x now)).0 [ inl is ↦ is | inr is ↦ is ]
 
-pub stays : (events : List Event) (files : Files) → files ≡ (state_of events).files → (x : Left) × Now (clock_of events) x × (x.files ≡ files)
+pub stays : (events : List SiteEvent) (files : Files) → files ≡ (state_of events).files → (x : Left) × Now (clock_of events) x × (x.files ≡ files)
 stays events files same =
     let s = state_of events in
     (record { files = s.files; said = s.said }, now_leaves events (record { files = s.files; said = s.said }) (inl refl, refl), sym same)
 
-pub said_now : (events : List Event) (said : List ℕ) → said ≡ (state_of events).said → (x : Left) → Now (clock_of events) x → x.said ≡ said
+pub said_now : (events : List SiteEvent) (said : List ℕ) → said ≡ (state_of events).said → (x : Left) → Now (clock_of events) x → x.said ≡ said
 said_now events said same x now = (left_now events x now).1 ∙ sym same
 
 -- A pick leaves what a stop may leave.
@@ -183,7 +183,7 @@ marked_torn New seed at bytes file = torn_overlaid at bytes file
 marked_torn Sevens seed at bytes file = torn_gap at bytes _ file (length-replicate (count_of at bytes file) 7)
 marked_torn Drawn seed at bytes file = torn_gap at bytes _ file (length-drawn (count_of at bytes file) seed)
 
-strikes : (fill : Fill) (cuts : Bool) (event : Event) (s : Struck) → EventMayMake event s.files (struck fill cuts event s).files
+strikes : (fill : Fill) (cuts : Bool) (event : SiteEvent) (s : Struck) → EventMayMake event s.files (struck fill cuts event s).files
 strikes fill cuts (Looked ok) s = refl
 strikes fill cuts (Wrote f at bytes ok) s = in_file_with f _ s.files _ (marked_torn fill s.seed at bytes.items (s.files f))
 strikes fill true (Shortened f len ok) s = in_file_with f _ s.files _ (inr refl)
@@ -193,7 +193,7 @@ strikes fill cuts (Said bytes ok) s = refl
 strikes fill cuts (Replaced f bytes) s = refl
 strikes fill cuts (Recalled bytes) s = refl
 
-pub picks_reach : (pick : ℕ) (stable : Files) (pending : List Event) → Reaches stable pending (picked pick stable pending).files
+pub picks_reach : (pick : ℕ) (stable : Files) (pending : List SiteEvent) → Reaches stable pending (picked pick stable pending).files
 unfolding picked
 picks_reach pick stable [] = refl
 picks_reach pick stable (event ∷ earlier) = ((picked pick stable earlier).files, picks_reach pick stable earlier, strikes (fill_of pick) (cuts_of pick) event (picked pick stable earlier))

@@ -1,11 +1,11 @@
 -- The files that a stop leaves by a pick: what stands where something was written since the last sync, and whether cuts have happened.
 use Rattle.std.specs.Prelude.{ℕ, zero, suc, ◌+◌, ◌-◌, ◌*◌, ◌/◌, ◌%◌, ◌^◌, ◌==◌, min, if◌then◌else◌, Bool, List, [], ◌∷◌, length, take, replicate}
 use Rattle.dms_site.specs.Files.{Files, with_file, overlaid}
-use Rattle.dms_sitemem.specs.declared.event.Event.{Event}
-use Rattle.dms_sitemem.specs.declared.event.Event.TheVariants.{Looked, Wrote, Shortened, Synced, Said, Replaced, Recalled}
+use Rattle.dms_sitemem.specs.declared.event.SiteEvent.{SiteEvent}
+use Rattle.dms_sitemem.specs.declared.event.SiteEvent.TheVariants.{Looked, Wrote, Shortened, Synced, Said, Replaced, Recalled}
 use Rattle.dms_sitemem.specs.declared.pick.Fill.{Fill}
 use Rattle.dms_sitemem.specs.declared.pick.Fill.TheVariants.{Old, New, Sevens, Drawn}
-use Rattle.dms_sitemem.specs.Replay.{State, state_of}
+use Rattle.dms_sitemem.specs.Replay.{Replayed, state_of}
 
 -- what a draw makes of the seed
 unfoldable pub next_seed : ℕ → ℕ
@@ -48,7 +48,7 @@ pub record Struck : Type 0 where
   pub seed : ℕ
 
 -- one more event before the stop
-abbrev pub struck : Fill → Bool → Event → Struck → Struck
+abbrev pub struck : Fill → Bool → SiteEvent → Struck → Struck
 struck fill cuts (Wrote f at bytes ok) s = record {
   files = with_file s.files f (marked fill s.seed at bytes.items (s.files f));
   seed = seed_behind fill (count_of at bytes.items (s.files f)) s.seed;
@@ -69,10 +69,10 @@ abbrev pub cuts_of : ℕ → Bool
 cuts_of pick = pick % 2 == 1
 
 -- From the files at the last sync through the events since, of which the newest comes first. The pick is the seed of the draws.
-unfoldable pub picked : ℕ → Files → List Event → Struck
+unfoldable pub picked : ℕ → Files → List SiteEvent → Struck
 picked pick stable [] = record { files = stable; seed = pick }
 picked pick stable (event ∷ earlier) = struck (fill_of pick) (cuts_of pick) event (picked pick stable earlier)
 
 -- the files that a stop leaves by a pick after these events
-abbrev pub picked_after : ℕ → List Event → Struck
+abbrev pub picked_after : ℕ → List SiteEvent → Struck
 picked_after pick events = picked pick (state_of events).stable (state_of events).pending

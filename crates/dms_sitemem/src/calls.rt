@@ -6,7 +6,7 @@ ghost use Rattle.dms_sitemem.specs.Slots.{files_of};
 ghost use Rattle.dms_sitemem.specs.Plans.{is_named};
 ghost use Rattle.dms_sitemem.specs.Replay.{clock_of};
 
-use crate::event::Event;
+use crate::event::SiteEvent;
 use crate::journal::Journal;
 use std::alloc::AllocError;
 
@@ -30,7 +30,7 @@ impl Journal {
         ensures plan { self.new.plan ≡ self.old.plan }
     {
         let done = self.succeeds();
-        self.keep(Event::Looked(done))?;
+        self.keep(SiteEvent::Looked(done))?;
         Ok(done)
     }
 
@@ -48,7 +48,7 @@ impl Journal {
     {
         let done = self.succeeds();
         let kept = bytes.to_vec(self.image.alloc)?;
-        self.keep(Event::Wrote(file, at, kept, done))?;
+        self.keep(SiteEvent::Wrote(file, at, kept, done))?;
         Ok(done)
     }
 
@@ -65,7 +65,7 @@ impl Journal {
         ensures plan { self.new.plan ≡ self.old.plan }
     {
         let done = self.succeeds();
-        self.keep(Event::Shortened(file, len, done))?;
+        self.keep(SiteEvent::Shortened(file, len, done))?;
         Ok(done)
     }
 
@@ -82,7 +82,7 @@ impl Journal {
         ensures plan { self.new.plan ≡ self.old.plan }
     {
         let done = self.succeeds();
-        self.keep(Event::Synced(done))?;
+        self.keep(SiteEvent::Synced(done))?;
         Ok(done)
     }
 
@@ -100,7 +100,7 @@ impl Journal {
     {
         let done = self.succeeds();
         let kept = bytes.to_vec(self.image.alloc)?;
-        self.keep(Event::Said(kept, done))?;
+        self.keep(SiteEvent::Said(kept, done))?;
         Ok(done)
     }
 
@@ -115,7 +115,7 @@ impl Journal {
         ensures plan { self.new.plan ≡ self.old.plan }
     {
         let kept = bytes.to_vec(self.image.alloc)?;
-        self.keep(Event::Replaced(file, kept))
+        self.keep(SiteEvent::Replaced(file, kept))
     }
 
     /// Puts text before what is printed. It is no call.
@@ -125,6 +125,6 @@ impl Journal {
         ensures made { self.new.made ≡ self.old.made }
         ensures plan { self.new.plan ≡ self.old.plan }
     {
-        self.keep(Event::Recalled(bytes))
+        self.keep(SiteEvent::Recalled(bytes))
     }
 }

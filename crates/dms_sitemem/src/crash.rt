@@ -4,19 +4,19 @@ ghost use Rattle.std.specs.BTreeMap.{get, btree_map_len};
 ghost use Rattle.dms_site.specs.Files.{with_file};
 ghost use Rattle.dms_sitemem.specs.Slots.{files_of};
 ghost use Rattle.dms_sitemem.specs.Events.{said_after, is_sync, through};
-ghost use Rattle.dms_sitemem.specs.Replay.{State, state_of};
+ghost use Rattle.dms_sitemem.specs.Replay.{Replayed, state_of};
 ghost use Rattle.dms_sitemem.specs.Picks.{marked, seed_behind, count_of, Struck, struck, fill_of, cuts_of, picked_after};
 
-use crate::event::Event;
+use crate::event::SiteEvent;
 use crate::image::Image;
 use crate::journal::Journal;
 use crate::pick::{Fill, all_of, draw, fill_of};
-use crate::plan::Plan;
+use crate::plan::FailurePlan;
 use std::alloc::{AllocError, Global};
 use std::collections::BTreeMap;
 
 /// The place behind the call of that number, counted from 1.
-pub fn end_of(events: &[Event], call: u64) -> usize
+pub fn end_of(events: &[SiteEvent], call: u64) -> usize
     ensures bound { result ≤ length events.now }
     ensures through { take result events.now ≡ through call events.now }
 {
@@ -31,11 +31,11 @@ pub fn end_of(events: &[Event], call: u64) -> usize
 }
 
 /// The place behind the last sync that succeeded.
-pub fn last_sync(events: &[Event]) -> usize
+pub fn last_sync(events: &[SiteEvent]) -> usize
     ensures bound { result ≤ length events.now }
     ensures none_pending { (state_of (take result events.now)).pending ≡ [] }
     ensures stable { (state_of (take result events.now)).stable ≡ (state_of (take result events.now)).files }
-    ensures none_behind { (i : ℕ) (e : Event) → result ≤ i → slice_get events.now i ≡ Some e → is_sync e ≡ false }
+    ensures none_behind { (i : ℕ) (e : SiteEvent) → result ≤ i → slice_get events.now i ≡ Some e → is_sync e ≡ false }
 {
     let mut synced = 0;
     for place in 0..events.len() {
@@ -47,7 +47,7 @@ pub fn last_sync(events: &[Event]) -> usize
 }
 
 /// What a read gives after these events, and the text.
-pub fn replay(alloc: Global, events: &[Event]) -> Result<Image, AllocError>
+pub fn replay(alloc: Global, events: &[SiteEvent]) -> Result<Image, AllocError>
     ensures files { IfOk result (λ image. files_of image.files ≡ (state_of events.now).files) }
     ensures said { IfOk result (λ image. image.said.items ≡ (state_of events.now).said) }
 {
@@ -93,7 +93,7 @@ pub fn strike_write(
 /// What a stop makes of an event.
 fn strike(
     image: &mut Image,
-    event: &Event,
+    event: &SiteEvent,
     fill: Fill,
     cuts: bool,
     seed: &mut u64,
@@ -103,8 +103,8 @@ fn strike(
     ensures said { OnOk result (image.new.said.items ≡ said_after event.now image.old.said.items) }
 {
     match event {
-        Event::Wrote(file, at, bytes, _) => strike_write(image, *file, *at, bytes, fill, seed),
-        Event::Shortened(file, len, _) => {
+        SiteEvent::Wrote(file, at, bytes, _) => strike_write(image, *file, *at, bytes, fill, seed),
+        SiteEvent::Shortened(file, len, _) => {
             if cuts {
                 image.cut(*file, *len);
             }
@@ -117,7 +117,7 @@ fn strike(
 /// What a stop makes of the events behind the last sync that succeeded.
 pub fn strike_all(
     image: &mut Image,
-    events: &[Event],
+    events: &[SiteEvent],
     from: usize,
     pick: u64,
 ) -> Result<(), AllocError>
@@ -126,7 +126,7 @@ pub fn strike_all(
     requires said { image.old.said.items ≡ (state_of (take from events.now)).said }
     requires none_pending { (state_of (take from events.now)).pending ≡ [] }
     requires stable { (state_of (take from events.now)).stable ≡ (state_of (take from events.now)).files }
-    requires none_behind { (i : ℕ) (e : Event) → from ≤ i → slice_get events.now i ≡ Some e → is_sync e ≡ false }
+    requires none_behind { (i : ℕ) (e : SiteEvent) → from ≤ i → slice_get events.now i ≡ Some e → is_sync e ≡ false }
     ensures files { OnOk result (files_of image.new.files ≡ (picked_after pick events.now).files) }
     ensures said { OnOk result (image.new.said.items ≡ (state_of events.now).said) }
 {
@@ -172,7 +172,7 @@ pub fn journal_of(alloc: Global, image: Image) -> Result<Journal, AllocError>
     ensures fails { IfOk result (λ j. j.plan.fails.items ≡ []) }
     ensures stop { IfOk result (λ j. j.plan.stop ≡ None) }
 {
-    let plan = Plan {
+    let plan = FailurePlan {
         fails: Vec::new(alloc),
         stop: None,
     };

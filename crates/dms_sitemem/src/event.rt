@@ -3,7 +3,7 @@ ghost use Rattle.dms_sitemem.specs.Events.{is_call, is_sync};
 
 /// What was done to a site. A flag says whether the call succeeded.
 #[derive(Drop)]
-pub enum Event {
+pub enum SiteEvent {
     /// A length, the last present file or bytes were asked for.
     Looked(bool),
     /// Bytes were written to a file from a position on.
@@ -20,13 +20,13 @@ pub enum Event {
     Recalled(Vec<u8>),
 }
 
-impl Event {
+impl SiteEvent {
     /// 1 for one of the seven calls, else 0.
     pub fn calls(&self) -> u64
         ensures { result ≡ (if is_call self.now then 1 else 0) }
     {
         match self {
-            Event::Replaced(_, _) | Event::Recalled(_) => 0,
+            SiteEvent::Replaced(_, _) | SiteEvent::Recalled(_) => 0,
             _ => 1,
         }
     }
@@ -36,7 +36,7 @@ impl Event {
         ensures { result ≡ is_sync self.now }
     {
         match self {
-            Event::Synced(done) => *done,
+            SiteEvent::Synced(done) => *done,
             _ => false,
         }
     }

@@ -5,7 +5,7 @@ ghost use Rattle.dms_site.specs.Files.{with_file, range, padded, overlaid, IsLas
 ghost use Rattle.dms_sitemem.specs.Slots.{files_of};
 ghost use Rattle.dms_sitemem.specs.Events.{files_after, said_after};
 
-use crate::event::Event;
+use crate::event::SiteEvent;
 use std::alloc::{AllocError, Global};
 use std::collections::BTreeMap;
 
@@ -159,21 +159,21 @@ impl Image {
     }
 
     /// Does what an event does. A call that failed changes nothing that is read.
-    pub(crate) fn apply(&mut self, event: &Event) -> Result<(), AllocError>
+    pub(crate) fn apply(&mut self, event: &SiteEvent) -> Result<(), AllocError>
         ensures files { OnOk result (files_of self.new.files ≡ files_after event.now (files_of self.old.files)) }
         ensures said { OnOk result (self.new.said.items ≡ said_after event.now self.old.said.items) }
         ensures same { OnErr result (files_of self.new.files ≡ files_of self.old.files) }
         ensures unsaid { OnErr result (self.new.said.items ≡ self.old.said.items) }
     {
         match event {
-            Event::Wrote(file, at, bytes, true) => self.write(*file, *at, bytes),
-            Event::Shortened(file, len, true) => {
+            SiteEvent::Wrote(file, at, bytes, true) => self.write(*file, *at, bytes),
+            SiteEvent::Shortened(file, len, true) => {
                 self.cut(*file, *len);
                 Ok(())
             }
-            Event::Said(bytes, true) => self.say(bytes),
-            Event::Replaced(file, bytes) => self.set(*file, bytes),
-            Event::Recalled(bytes) => self.say(bytes),
+            SiteEvent::Said(bytes, true) => self.say(bytes),
+            SiteEvent::Replaced(file, bytes) => self.set(*file, bytes),
+            SiteEvent::Recalled(bytes) => self.say(bytes),
             _ => Ok(()),
         }
     }

@@ -3,9 +3,9 @@ ghost use Rattle.dms_sitemem.specs.Slots.{files_of};
 ghost use Rattle.dms_sitemem.specs.Events.{files_after, said_after, is_call, calls_in};
 ghost use Rattle.dms_sitemem.specs.Replay.{state_of};
 
-use crate::event::Event;
+use crate::event::SiteEvent;
 use crate::image::Image;
-use crate::plan::Plan;
+use crate::plan::FailurePlan;
 use std::alloc::{AllocError, Global};
 
 /// All that was done to a site, and what it made of files and text. A want of memory changes nothing.
@@ -13,9 +13,9 @@ use std::alloc::{AllocError, Global};
 /// Each call is kept with its success, and answers it.
 #[derive(Drop)]
 pub struct Journal {
-    pub plan: Plan,
+    pub plan: FailurePlan,
     pub image: Image,
-    pub events: Vec<Event>,
+    pub events: Vec<SiteEvent>,
     /// So many of the events are calls.
     pub made: u64,
     ghost files_same: { files_of image.files ≡ (state_of events.items).files },
@@ -26,7 +26,7 @@ pub struct Journal {
 impl Journal {
     /// Nothing was done.
     #[tactic(auto, unfolding(crate::specs::Replay::state_of, crate::specs::Events::calls_in))]
-    pub fn new(alloc: Global, plan: Plan) -> Journal
+    pub fn new(alloc: Global, plan: FailurePlan) -> Journal
         ensures plan { result.plan ≡ plan }
         ensures events { result.events.items ≡ [] }
         ensures files { (f : ℕ) → files_of result.image.files f ≡ [] }
@@ -42,7 +42,7 @@ impl Journal {
     }
 
     /// Keeps an event and does it.
-    pub fn keep(&mut self, event: Event) -> Result<(), AllocError>
+    pub fn keep(&mut self, event: SiteEvent) -> Result<(), AllocError>
         ensures kept { OnOk result (self.new.events.items ≡ self.old.events.items ++ event ∷ []) }
         ensures files { OnOk result (files_of self.new.image.files ≡ files_after event (files_of self.old.image.files)) }
         ensures said { OnOk result (self.new.image.said.items ≡ said_after event self.old.image.said.items) }

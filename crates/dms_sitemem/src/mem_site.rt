@@ -7,11 +7,11 @@ ghost use Rattle.dms_sitemem.specs.Slots.{files_of};
 ghost use Rattle.dms_sitemem.specs.Plans.{EndsByPlan};
 ghost use Rattle.dms_sitemem.specs.Events.{through};
 ghost use Rattle.dms_sitemem.specs.Picks.{Struck, picked_after};
-ghost use Rattle.dms_sitemem.specs.Replay.{State, MayLeave, state_of, clock_of};
+ghost use Rattle.dms_sitemem.specs.Replay.{Replayed, MayLeave, state_of, clock_of};
 
 use crate::crash::{end_of, journal_of, last_sync, replay, strike_all};
 use crate::journal::Journal;
-use crate::plan::Plan;
+use crate::plan::FailurePlan;
 use crate::tally::Tally;
 use dms_base::Memory;
 use dms_site::{Failed, Site};
@@ -38,7 +38,7 @@ impl MemSite {
         ensures given { IfOk result (λ s. s.tally.given ≡ 0) }
     {
         Ok(MemSite {
-            journal: Journal::new(alloc, Plan { fails, stop }),
+            journal: Journal::new(alloc, FailurePlan { fails, stop }),
             tally: Tally::new(),
         })
     }

@@ -11,7 +11,7 @@ use Rattle.dms_base.specs.declared.value.Value.{Value}
 use Rattle.dms_desc.specs.declared.bound.Bound.{Bound}
 use Rattle.dms_desc.specs.declared.bound.Bound.TheVariants.{Start, End, At, From}
 use Rattle.dms_desc.specs.declared.structure.KeyPart.{KeyPart}
-use Rattle.dms_key.specs.KeyBytes.{KeyFits, key_bytes}
+use Rattle.dms_key.specs.KeyBytes.{KeyHasKinds, key_bytes}
 use Rattle.dms_key.specs.KeyOrder.{key_most}
 use Rattle.dms_ordlist.specs.ListIn.{list_in}
 use Rattle.dms_ordlist.specs.Lists.{first, first_from, has_entry, is_same, last, last_to, or_else, padded}
@@ -33,7 +33,7 @@ module _ (kinds : List ItemKind) (ps : List KeyPart) (owner : ℕ) where
   owner_long : (n : ℕ) → length (padded (entry_width kinds ps) (to_be_bytes w32 n)) ≡ entry_width kinds ps
   owner_long n = padded_long (entry_width kinds ps) (to_be_bytes w32 n) (omega arith)
 
-  key_long : (key : List Value) → KeyFits kinds ps key → length (padded (entry_width kinds ps) (to_be_bytes w32 owner ++ (key_bytes kinds ps key ++ []))) ≡ entry_width kinds ps
+  key_long : (key : List Value) → KeyHasKinds kinds ps key → length (padded (entry_width kinds ps) (to_be_bytes w32 owner ++ (key_bytes kinds ps key ++ []))) ≡ entry_width kinds ps
   key_long key f =
       let whole = length-append (to_be_bytes w32 owner) (key_bytes kinds ps key ++ []) in
       let inner = length-append (key_bytes kinds ps key) [] in

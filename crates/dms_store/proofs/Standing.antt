@@ -30,7 +30,7 @@ use Rattle.dms_sets.specs.Owners.{is_of, is_of_entry}
 use Rattle.dms_sets.specs.Sets.{IsSmall, entries_of, entry_number, entry_of, kinds_over, listed_in, number_in, own_entry, place_in_entry}
 use Rattle.dms_sets.specs.Spots.{and_then, spot_at}
 use Rattle.dms_sets.specs.Tests.{both_of, tied}
-use Rattle.dms_store.specs.Listed.{StandsFor, is_entry}
+use Rattle.dms_store.specs.Listed.{IsEntryOfRecord, is_entry}
 use Rattle.dms_store.specs.Finding.{served_at}
 use Rattle.dms_store.specs.Serving.{IsServed}
 use Rattle.dms_store.specs.Spelled.{is_kept}
@@ -55,18 +55,18 @@ some_yes true = refl
 some_yes false = refl
 
 module _ (desc : Described) (s : Shape) (db : Db) (q : List ℕ) where
-  stands_at : (o : Option (List ℕ)) (r : Record) → get db.records (place_in_entry s q) ≡ Some r → entry_of (kinds_over desc s) s (place_in_entry s q) r ≡ o → is_some (test_of q o) ≡ true → StandsFor desc s db q
+  stands_at : (o : Option (List ℕ)) (r : Record) → get db.records (place_in_entry s q) ≡ Some r → entry_of (kinds_over desc s) s (place_in_entry s q) r ≡ o → is_some (test_of q o) ≡ true → IsEntryOfRecord desc s db q
   stands_at None r at is h = absurd (cc)
   stands_at (Some x) r at is h =
       let same : eq_by_cmp bytes_cmp q x ≡ true = sym (some_yes (eq_by_cmp bytes_cmp q x)) ∙ h in
       (r, at, is ∙ ap (λ (y : List ℕ). Some y) (sym (bytes_same q x (tied (bytes_cmp q x) same))))
 
-  stands_opt : (o : Option Record) → get db.records (place_in_entry s q) ≡ o → is_some (test_of q (member_opt (entry_of (kinds_over desc s) s) (place_in_entry s q) o)) ≡ true → StandsFor desc s db q
+  stands_opt : (o : Option Record) → get db.records (place_in_entry s q) ≡ o → is_some (test_of q (member_opt (entry_of (kinds_over desc s) s) (place_in_entry s q) o)) ≡ true → IsEntryOfRecord desc s db q
   stands_opt None at h = absurd (cc)
   stands_opt (Some r) at h = stands_at (entry_of (kinds_over desc s) s (place_in_entry s q) r) r at refl h
 
   -- each of them stands for a record
-  pub stands_for : AllPlaces IsSmall (entries db.records) → has_entry q (entries_of desc db s) ≡ true → StandsFor desc s db q
+  pub stands_for : AllPlaces IsSmall (entries db.records) → has_entry q (entries_of desc db s) ≡ true → IsEntryOfRecord desc s db q
   stands_for small has =
       stands_opt (get db.records (place_in_entry s q)) refl
       (ap is_some (sym (listed (entry_of (kinds_over desc s) s) (place_in_entry s) IsSmall (own_entry (kinds_over desc s) s) db.records small q))
@@ -147,17 +147,17 @@ pub told_of : {A : Type 0} (o : Option Db) (d : Db) (f : Db → A) (x : A) → o
 told_of o d f x is h = subst (λ (p : Option Db). TellsOf p f x) is h
 
 module _ (desc : Described) (s : Shape) (kept : is_kept s ≡ true) (q : List ℕ) (n : ℕ) (same : 4 ≤ length q → n ≡ number_in q) (d : Db) where
-  found_there : (stands : StandsFor desc s d q) → get d.records (s.set, n) ≡ Some stands.0
+  found_there : (stands : IsEntryOfRecord desc s d q) → get d.records (s.set, n) ≡ Some stands.0
   found_there stands =
       let number : n ≡ number_in q = same (entry_long (kinds_over desc s) s (number_in q) stands.0 q (in_set (kinds_over desc s) s (number_in q) stands.0 q stands.2)) in
       (λ i. get d.records (sym (over_set s kept) i, number i)) ∙ stands.1
 
   -- where none stands the entry stands for no record
-  pub missing : None ≡ get d.records (s.set, n) → StandsFor desc s d q → ⊥
+  pub missing : None ≡ get d.records (s.set, n) → IsEntryOfRecord desc s d q → ⊥
   missing none stands = let there = found_there stands in absurd (cc (none, there))
 
   -- and where another one does
-  pub strange : (ks : List ItemKind) (rec : Record) → ks ≡ kinds_over desc s → Some rec ≡ get d.records (s.set, n) → is_entry (entry_in ks s n rec) q ≡ false → StandsFor desc s d q → ⊥
+  pub strange : (ks : List ItemKind) (rec : Record) → ks ≡ kinds_over desc s → Some rec ≡ get d.records (s.set, n) → is_entry (entry_in ks s n rec) q ≡ false → IsEntryOfRecord desc s d q → ⊥
   strange ks rec is at off stands =
       let number : n ≡ number_in q = same (entry_long (kinds_over desc s) s (number_in q) stands.0 q (in_set (kinds_over desc s) s (number_in q) stands.0 q stands.2)) in
       let one : rec ≡ stands.0 = some_record rec stands.0 (at ∙ found_there stands) in

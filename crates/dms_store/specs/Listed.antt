@@ -32,14 +32,14 @@ is_entry None bytes = false
 is_entry (Some own) bytes = bytes_eq own bytes
 
 -- an entry of a set stands for a record of the database
-abbrev pub StandsFor : Described → Shape → Db → List ℕ → Type 0
-StandsFor desc s d q = (r : Record) × (get d.records (place_in_entry s q) ≡ Some r) × (entry_of (kinds_over desc s) s (place_in_entry s q) r ≡ Some q)
+abbrev pub IsEntryOfRecord : Described → Shape → Db → List ℕ → Type 0
+IsEntryOfRecord desc s d q = (r : Record) × (get d.records (place_in_entry s q) ≡ Some r) × (entry_of (kinds_over desc s) s (place_in_entry s q) r ≡ Some q)
 
 module _ {B : Type 0} {g : Ghosts B} where
   -- a block of the data set isn't one of slots, or an entry of the set stands for no record: then the first block of the set's file is named
   abbrev pub BadEntry : Described → Shape → List ℕ → Overlay B g → ℕ → ℕ → Type 0
   BadEntry desc s q o f b = BadSlot desc s.set o f b
-      ⊎ ((f ≡ file_of s.number) × (b ≡ 0) × ((d : Db) → db_of desc (under o).told (under o).content ≡ Some d → StandsFor desc s d q → ⊥))
+      ⊎ ((f ≡ file_of s.number) × (b ≡ 0) × ((d : Db) → db_of desc (under o).told (under o).content ≡ Some d → IsEntryOfRecord desc s d q → ⊥))
 
   -- how many blocks a look at the members of a structure reads at most
   abbrev pub most_reads : Described → ℕ → Overlay B g → ℕ

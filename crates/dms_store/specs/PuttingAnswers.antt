@@ -22,7 +22,7 @@ use Rattle.dms_sets.specs.Changes.{HasRoom, entry_opt}
 use Rattle.dms_sets.specs.Few.{entries_few, few_room}
 use Rattle.dms_sets.specs.Puts.{MayCome}
 use Rattle.dms_sets.specs.Sets.{entries_of, items_over, kinds_over}
-use Rattle.dms_sets.specs.Spots.{NameItems, RecordsFit, ValuesFit, key_fits}
+use Rattle.dms_sets.specs.Spots.{NameItems, RecordsHaveSpots, ValuesFit, key_fits}
 use Rattle.dms_sets.specs.Spots as spots
 use Rattle.dms_sets.specs.Tests.{both_of}
 use Rattle.dms_sets.specs.Told.{ChangeStands, HaveOwnNumbers, OfStructures, answer_of}
@@ -93,7 +93,7 @@ closed_kept s set values h =
     let three = both_of (is_kept s && (s.set == set)) (not s.duplicates) four.0 in
     (both_of (is_kept s) (s.set == set) three.0).0
 
-one_judged : (desc : Described) (db : Db) (set : ℕ) (made : Record) (s : Shape) → IsServedSet desc s → RecordsFit desc db → MayCome desc set made → is_closed s set made.values ≡ true → AreJudged desc db made s
+one_judged : (desc : Described) (db : Db) (set : ℕ) (made : Record) (s : Shape) → IsServedSet desc s → RecordsHaveSpots desc db → MayCome desc set made → is_closed s set made.values ≡ true → AreJudged desc db made s
 one_judged desc db set made s served fits may closed =
     let able = closed_is s set (not s.duplicates) (takes s made.values) closed in
     record {
@@ -101,7 +101,7 @@ one_judged desc db set made s served fits may closed =
       key = key_fits (items_over desc s) s.parts made.values (subst (λ n. ValuesFit (items_of (structure_of desc n)) made.values) (sym able.over) may.values) served.named.items;
     }
 
-all_judged : (desc : Described) (db : Db) (set : ℕ) (made : Record) (ss : List Shape) → AllByRecursion (λ s. is_kept s ≡ true → IsServedSet desc s) ss → RecordsFit desc db → MayCome desc set made → AllByRecursion (λ s. is_closed s set made.values ≡ true → AreJudged desc db made s) ss
+all_judged : (desc : Described) (db : Db) (set : ℕ) (made : Record) (ss : List Shape) → AllByRecursion (λ s. is_kept s ≡ true → IsServedSet desc s) ss → RecordsHaveSpots desc db → MayCome desc set made → AllByRecursion (λ s. is_closed s set made.values ≡ true → AreJudged desc db made s) ss
 all_judged desc db set made [] sets fits may = tt
 all_judged desc db set made (s ∷ ss) sets fits may = ((λ h. one_judged desc db set made s (sets.0 (closed_kept s set made.values h)) fits may h), all_judged desc db set made ss sets.1 fits may)
 

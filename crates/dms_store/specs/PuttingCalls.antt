@@ -12,10 +12,10 @@ use Rattle.dms_block.specs.Held.{Alters, HasCauses, HasCausesOr, Stays}
 use Rattle.dms_block.specs.HeldLaws.{alters_as, alters_more, alters_on, causes_or, causes_or_on, looks_alters, looks_as, looks_err, looks_none, looks_on}
 use Rattle.dms_block.specs.View.{ReadsOverlay, WritesOverlay, under, written}
 use Rattle.dms_ordlist.specs.SeenLaws.{causes_err}
-use Rattle.dms_sets.specs.Keeping.{Calm, Fails}
+use Rattle.dms_sets.specs.Keeping.{Calm, EndsInFault}
 
 -- A call reads what stands below, and writes at most m blocks over it.
-pub record Enters {B : Type 0} {g : Ghosts B} {T : Type 0} (m : ℕ) (result : Result T BlockFault) (a b : Overlay B g) : Type 0 where
+pub record WritesAtMost {B : Type 0} {g : Ghosts B} {T : Type 0} (m : ℕ) (result : Result T BlockFault) (a b : Overlay B g) : Type 0 where
   pub reads : ℕ
   pub writes : WritesOverlay reads m result a b
   pub causes : HasCausesOr (λ f k. ⊤) result (under a) (under b)
@@ -29,7 +29,7 @@ pub record HandsDown {B : Type 0} {g : Ghosts B} {T : Type 0} (m : ℕ) (result 
 
 module _ {B : Type 0} {g : Ghosts B} where
   -- nothing was called yet
-  pub enters_none : {T : Type 0} (m : ℕ) (r : Result T BlockFault) (a : Overlay B g) → ((b : B) → g.same_blocks b b) → NotFull r → HasCausesOr (λ f k. ⊤) r (under a) (under a) → (under a).sound → Enters m r a a
+  pub enters_none : {T : Type 0} (m : ℕ) (r : Result T BlockFault) (a : Overlay B g) → ((b : B) → g.same_blocks b b) → NotFull r → HasCausesOr (λ f k. ⊤) r (under a) (under a) → (under a).sound → WritesAtMost m r a a
   enters_none m r a again room causes sound = record {
     reads = 0;
     writes = record { looks = looks_none 0 r (under a) room sound; more = omega arith; same = again a.below };
@@ -37,7 +37,7 @@ module _ {B : Type 0} {g : Ghosts B} where
   }
 
   -- a read that failed
-  pub enters_read : {T U : Type 0} {n : ℕ} (m : ℕ) (P : ℕ → ℕ → Type 0) (e : BlockFault) (a b : Overlay B g) → ReadsOverlay {T = T} n (Err e) a b → HasCausesOr {T = T} P (Err e) (under a) (under b) → Enters {T = U} m (Err e) a b
+  pub enters_read : {T U : Type 0} {n : ℕ} (m : ℕ) (P : ℕ → ℕ → Type 0) (e : BlockFault) (a b : Overlay B g) → ReadsOverlay {T = T} n (Err e) a b → HasCausesOr {T = T} P (Err e) (under a) (under b) → WritesAtMost {T = U} m (Err e) a b
   enters_read {T = T} {U = U} {n = n} m P e a b reads causes = record {
     reads = n;
     writes = record { looks = looks_err e reads.looks; more = omega (arith, ap length reads.written_still); same = reads.same };
@@ -45,7 +45,7 @@ module _ {B : Type 0} {g : Ghosts B} where
   }
 
   -- a call after a read
-  pub enters_on : {T U : Type 0} {n : ℕ} {x : T} (m : ℕ) (r : Result U BlockFault) (a b c : Overlay B g) → ((x y z : B) → g.same_blocks x y → g.same_blocks y z → g.same_blocks x z) → ReadsOverlay n (Ok x) a b → (under b).faults ≡ (under a).faults → Enters m r b c → Enters m r a c
+  pub enters_on : {T U : Type 0} {n : ℕ} {x : T} (m : ℕ) (r : Result U BlockFault) (a b c : Overlay B g) → ((x y z : B) → g.same_blocks x y → g.same_blocks y z → g.same_blocks x z) → ReadsOverlay n (Ok x) a b → (under b).faults ≡ (under a).faults → WritesAtMost m r b c → WritesAtMost m r a c
   enters_on {n = n} m r a b c onward reads same next = record {
     reads = n + next.reads;
     writes = record { looks = looks_on r reads.looks next.writes.looks; more = omega (arith, ap length reads.written_still, next.writes.more); same = onward a.below b.below c.below reads.same next.writes.same };
@@ -53,14 +53,14 @@ module _ {B : Type 0} {g : Ghosts B} where
   }
 
   -- a change of the sets, and what comes after it
-  pub enters_calm : {T : Type 0} (p : ℕ → Bool) (n m : ℕ) (x : T) (a b : Overlay B g) → (under a).sound → 3 * n ≤ m → Calm p n a b → Enters m (Ok x) a b
+  pub enters_calm : {T : Type 0} (p : ℕ → Bool) (n m : ℕ) (x : T) (a b : Overlay B g) → (under a).sound → 3 * n ≤ m → Calm p n a b → WritesAtMost m (Ok x) a b
   enters_calm p n m x a b sound le calm = record {
     reads = calm.reads;
     writes = record { looks = looks_as (Ok x) tt (calm.looks sound); more = omega (arith, calm.more, le); same = calm.same };
     causes = calm.faults;
   }
 
-  pub enters_fails : {T : Type 0} (n m : ℕ) (e : BlockFault) (a b : Overlay B g) → (under a).sound → 3 * n ≤ m → Fails e n a b → Enters {T = T} m (Err e) a b
+  pub enters_fails : {T : Type 0} (n m : ℕ) (e : BlockFault) (a b : Overlay B g) → (under a).sound → 3 * n ≤ m → EndsInFault e n a b → WritesAtMost {T = T} m (Err e) a b
   enters_fails {T = T} n m e a b sound le fails = record {
     reads = fails.reads;
     writes = record { looks = looks_err e (fails.looks sound); more = omega (arith, fails.more, le); same = fails.same };
@@ -68,7 +68,7 @@ module _ {B : Type 0} {g : Ghosts B} where
   }
 
   pub enters_write : {U : Type 0} {k : ℕ} (p : ℕ → Bool) (n m w : ℕ) (P : ℕ → ℕ → Type 0) (r : Result U BlockFault) (a b c : Overlay B g) → ((x y z : B) → g.same_blocks x y → g.same_blocks y z → g.same_blocks x z) → (under a).sound → 3 * n + w ≤ m
-      → Calm p n a b → WritesOverlay k w r b c → HasCausesOr P r (under b) (under c) → Enters m r a c
+      → Calm p n a b → WritesOverlay k w r b c → HasCausesOr P r (under b) (under c) → WritesAtMost m r a c
   enters_write {k = k} p n m w P r a b c onward sound le calm writes causes =
       let first = calm.looks sound in
       record {
@@ -78,11 +78,11 @@ module _ {B : Type 0} {g : Ghosts B} where
       }
 
   -- another answer
-  pub enters_as : {T U : Type 0} {x : T} (m : ℕ) (y : U) (a b : Overlay B g) → Enters m (Ok x) a b → Enters m (Ok y) a b
+  pub enters_as : {T U : Type 0} {x : T} (m : ℕ) (y : U) (a b : Overlay B g) → WritesAtMost m (Ok x) a b → WritesAtMost m (Ok y) a b
   enters_as m y a b h = record { reads = h.reads; writes = record { looks = looks_as (Ok y) tt h.writes.looks; more = h.writes.more; same = h.writes.same }; causes = h.causes }
 
   -- the same fault, handed on
-  pub enters_err : {T U : Type 0} (m : ℕ) (e : BlockFault) (a b : Overlay B g) → Enters {T = T} m (Err e) a b → Enters {T = U} m (Err e) a b
+  pub enters_err : {T U : Type 0} (m : ℕ) (e : BlockFault) (a b : Overlay B g) → WritesAtMost {T = T} m (Err e) a b → WritesAtMost {T = U} m (Err e) a b
   enters_err {T = T} {U = U} m e a b h = record {
     reads = h.reads;
     writes = record { looks = looks_err e h.writes.looks; more = h.writes.more; same = h.writes.same };
@@ -90,7 +90,7 @@ module _ {B : Type 0} {g : Ghosts B} where
   }
 
   -- the blocks below are handed what was written
-  pub hands_down : {T U : Type 0} {x : T} (m n : ℕ) (r : Result U BlockFault) (a b c : Overlay B g) → ((x y z : B) → g.same_blocks x y → g.same_blocks y z → g.same_blocks x z) → Enters m (Ok x) a b → written a ≡ [] → n ≡ length (written b)
+  pub hands_down : {T U : Type 0} {x : T} (m n : ℕ) (r : Result U BlockFault) (a b c : Overlay B g) → ((x y z : B) → g.same_blocks x y → g.same_blocks y z → g.same_blocks x z) → WritesAtMost m (Ok x) a b → written a ≡ [] → n ≡ length (written b)
       → Alters n n r (under b) (under c) → HasCauses r (under b) (under c) → (IsErrOf r Say → ⊥) → g.same_blocks b.below c.below → HandsDown m r a c
   hands_down m n r a b c onward enters none long alters causes silent same = record {
     reads = enters.reads + n;
@@ -100,7 +100,7 @@ module _ {B : Type 0} {g : Ghosts B} where
   }
 
   -- or what was written is dropped
-  pub drops : {T : Type 0} (m : ℕ) (r : Result T BlockFault) (a b c : Overlay B g) → Enters m r a b → c.below ≡ b.below → HandsDown m r a c
+  pub drops : {T : Type 0} (m : ℕ) (r : Result T BlockFault) (a b c : Overlay B g) → WritesAtMost m r a b → c.below ≡ b.below → HandsDown m r a c
   drops m r a b c enters same = record {
     reads = enters.reads;
     alters = subst (λ (x : B). Alters enters.reads m r (under a) (g.held x)) (sym same) (looks_alters m r enters.writes.looks);
@@ -112,14 +112,14 @@ module _ {B : Type 0} {g : Ghosts B} where
   drops_causes P r a b c causes same = subst (λ (x : B). HasCausesOr P r (under a) (g.held x)) (sym same) causes
 
   -- the causes of a call that hands down, after one that wrote over the blocks
-  pub hands_causes : {T U : Type 0} {x : T} (m : ℕ) (r : Result U BlockFault) (a b c : Overlay B g) → Enters m (Ok x) a b → HasCauses r (under b) (under c) → (IsErrOf r Say → ⊥) → HasCausesOr (λ f k. ⊥) r (under a) (under c)
+  pub hands_causes : {T U : Type 0} {x : T} (m : ℕ) (r : Result U BlockFault) (a b c : Overlay B g) → WritesAtMost m (Ok x) a b → HasCauses r (under b) (under c) → (IsErrOf r Say → ⊥) → HasCausesOr (λ f k. ⊥) r (under a) (under c)
   hands_causes m r a b c enters causes silent = causes_or_on (λ f k. ⊥) (λ f k. ⊥) r (under a) (under b) (under c) (λ f k h. h) enters.causes enters.writes.looks.passes.lasts enters.writes.looks.same (causes_or (λ f k. ⊥) r (under b) (under c) causes silent)
 
   -- what stands below is as it was
-  pub drops_content : {T : Type 0} {x : T} (m : ℕ) (a b c : Overlay B g) → Enters m (Ok x) a b → c.below ≡ b.below → IsTrue (under a).told → (under c).content ≡ (under a).content
+  pub drops_content : {T : Type 0} {x : T} (m : ℕ) (a b c : Overlay B g) → WritesAtMost m (Ok x) a b → c.below ≡ b.below → IsTrue (under a).told → (under c).content ≡ (under a).content
   drops_content m a b c enters same told = ap (λ (x : B). (g.held x).content) same ∙ enters.writes.looks.same.content told
 
-  pub enters_told : {T : Type 0} {x : T} (m : ℕ) (a b : Overlay B g) → Enters m (Ok x) a b → IsTrue (under a).told → IsTrue (under b).told
+  pub enters_told : {T : Type 0} {x : T} (m : ℕ) (a b : Overlay B g) → WritesAtMost m (Ok x) a b → IsTrue (under a).told → IsTrue (under b).told
   enters_told m a b enters told = enters.writes.looks.passes.lasts.told ∙ told
 
 unbroken_err : (T U P : Type 0) (e : BlockFault) → Unbroken {T = T} (Err e) P → Unbroken {T = U} (Err e) P

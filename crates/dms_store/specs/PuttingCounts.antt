@@ -21,7 +21,7 @@ use Rattle.dms_model.specs.Db.{Place, Records, place_cmp}
 use Rattle.dms_model.specs.Stores.{kept_value, linked_from}
 use Rattle.dms_model.specs.Valid.{link_stands}
 use Rattle.dms_sets.specs.Listing.{places_same, places_total}
-use Rattle.dms_sets.specs.Spots.{IsFound, all_found}
+use Rattle.dms_sets.specs.Spots.{StandsAmong, all_found}
 use Rattle.dms_sets.specs.Tests.{first_true, second_true}
 use Rattle.dms_store.specs.Spelled.{is_counted_to, links_stand, links_to}
 
@@ -67,7 +67,7 @@ module _ (f : Place × Record → ℕ) (k : Place) (v : Record) where
       ∙ put_sum (entries m) (entries_sorted m)
 
 -- a sum of nothing
-sum_all : (f : Place × Record → ℕ) (es fs : List (Place × Record)) → AllByRecursion (IsFound es) fs → ((p : Place) (r : Record) → find place_cmp p es ≡ Some r → f (p, r) ≡ 0) → sum_by f fs ≡ 0
+sum_all : (f : Place × Record → ℕ) (es fs : List (Place × Record)) → AllByRecursion (StandsAmong es) fs → ((p : Place) (r : Record) → find place_cmp p es ≡ Some r → f (p, r) ≡ 0) → sum_by f fs ≡ 0
 sum_all f es [] found none = refl
 sum_all f es (e ∷ fs) found none =
     let here : f e ≡ 0 = none e.0 e.1 found.0 in

@@ -18,7 +18,7 @@ use Rattle.dms_desc.specs.Lookups.{items_of, structure_of}
 use Rattle.dms_desc.specs.Shape.{Shape, Described}
 use Rattle.dms_desc.specs.declared.record.Record.{Record}
 use Rattle.dms_desc.specs.declared.structure.KeyPart.{KeyPart}
-use Rattle.dms_key.specs.KeyBytes.{FitsPart, KeyFits, kind_of}
+use Rattle.dms_key.specs.KeyBytes.{FitsPart, KeyHasKinds, kind_of}
 use Rattle.dms_layout.specs.Slots.{SlotFits, all_fit, may_own, slot_bytes}
 use Rattle.dms_layout.specs.declared.slot.Slot.{Slot}
 use Rattle.dms_model.specs.declared.put.Put.{Put}
@@ -62,7 +62,7 @@ IsJudged desc db set number made (Refused s) = clash_seen desc desc.structures d
 IsJudged desc db set number made Full = clash_seen desc desc.structures db set (Some number) made ≡ None
 
 -- A database was told, and this slot stands under the number.
-pub record IsFound {B : Type 0} {g : Ghosts B} (desc : Described) (db : Db) (s : Shape) (number : ℕ) (o : Option Slot) (a : Overlay B g) : Type 0 where
+pub record FindsSlot {B : Type 0} {g : Ghosts B} (desc : Described) (db : Db) (s : Shape) (number : ℕ) (o : Option Slot) (a : Overlay B g) : Type 0 where
   pub told : IsTrue (under a).told
   pub spelt : spelled desc (under a).content ≡ Some db
   pub was : slot_at s (seen a (file_of s.number)) number ≡ slot_opt o
@@ -83,7 +83,7 @@ part_fits : (k : Option ItemKind) (v : Value) → FitsPart k v → PartFits k v
 part_fits None v f = f
 part_fits (Some k) v f = f.fits
 
-parts_fit : (kinds : List ItemKind) (ps : List KeyPart) (values : List Value) → KeyFits kinds ps (key_of ps values) → PartsFit kinds ps values
+parts_fit : (kinds : List ItemKind) (ps : List KeyPart) (values : List Value) → KeyHasKinds kinds ps (key_of ps values) → PartsFit kinds ps values
 parts_fit kinds [] values f = tt
 parts_fit kinds (p ∷ ps) values f = (part_fits (kind_of kinds p) _ f.0, parts_fit kinds ps values f.1)
 

@@ -14,7 +14,7 @@ use Rattle.dms_layout.specs.declared.slot.SlotRead.TheVariants.{Free, Used, Bad}
 use Rattle.dms_model.specs.Db.{Place, Records, fresh, gap_from, place_cmp, records_of, rows_of}
 use Rattle.dms_model.specs.Fresh.{AreAbove, NoneIs, fresh_below, fresh_free, fresh_from_one, rows_rise}
 use Rattle.dms_model.specs.Stores.{is_full}
-use Rattle.dms_sets.specs.Spots.{IsFound, all_found}
+use Rattle.dms_sets.specs.Spots.{StandsAmong, all_found}
 use Rattle.dms_slots.specs.SlotBlocks.{before_free, or_free, slot_at, slots_of}
 use Rattle.dms_store.specs.Rows.{rec_opt}
 
@@ -123,7 +123,7 @@ up_turn : (t : Bool) (set most : ℕ) (e : Place × Record) (es : List (Place ×
 up_turn true set most e es h here rest = (here (grind (arith, nat_tests, h)), rest)
 up_turn false set most e es h here rest = rest
 
-rows_up : (set most : ℕ) (es fs : List (Place × Record)) → AllByRecursion (IsFound es) fs → ((p : Place) (r : Record) → find place_cmp p es ≡ Some r → p.0 ≡ set → p.1 ≤ most) → AllUpTo most (rows_of set fs)
+rows_up : (set most : ℕ) (es fs : List (Place × Record)) → AllByRecursion (StandsAmong es) fs → ((p : Place) (r : Record) → find place_cmp p es ≡ Some r → p.0 ≡ set → p.1 ≤ most) → AllUpTo most (rows_of set fs)
 rows_up set most es [] found h = tt
 rows_up set most es (e ∷ fs) found h = up_turn (eqb set e.0.0) set most e fs refl (λ own. h e.0 e.1 found.0 (sym own)) (rows_up set most es fs found.1 h)
 

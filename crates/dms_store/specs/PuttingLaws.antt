@@ -26,7 +26,7 @@ use Rattle.dms_slots.specs.SlotBlocks.{block_of, file_of, per_block, slot_at, sl
 use Rattle.dms_store.specs.Finding.{number_at, served_at}
 use Rattle.dms_store.specs.PuttingAfter.{after_get, counted_none, counted_still, more, owned_none, owned_still, owner_more, slot_after, slot_links, with_record}
 use Rattle.dms_store.specs.PuttingCounts.{stand_linked}
-use Rattle.dms_store.specs.PuttingSlots.{AllFit, FileStands, FilesStand, ListsSpell, SlotStands, SpellsFiles, spelled_again, spelled_files, structure_here}
+use Rattle.dms_store.specs.PuttingSlots.{SlotsFit, FileStands, FilesStand, ListsSpell, SlotStands, SpellsFiles, spelled_again, spelled_files, structure_here}
 use Rattle.dms_store.specs.PuttingSteps.{SlotChanged, step}
 use Rattle.dms_store.specs.Rows.{AreNumbered, rec_in, rec_opt}
 use Rattle.dms_store.specs.Serving.{IsServed}
@@ -42,10 +42,10 @@ pub record ListsPut (desc : Described) (db : Db) (set : ℕ) (c d : Content) : T
 -- ---- structures that are over no data set
 
 -- one of these structures is a set or automatic subset, and has this number
-abbrev IsThere : List Shape → ℕ → ℕ → Type 0
-IsThere ss k m = (i : ℕ) × (t : Shape) × (slice_get ss i ≡ Some t) × (is_kept t ≡ true) × (m ≡ k + i)
+abbrev IsKeptList : List Shape → ℕ → ℕ → Type 0
+IsKeptList ss k m = (i : ℕ) × (t : Shape) × (slice_get ss i ≡ Some t) × (is_kept t ≡ true) × (m ≡ k + i)
 
-there_turn : (b : Bool) (s : Shape) (ss : List Shape) (k set m : ℕ) → s.number ≡ k → (is_over s set && (m == s.number)) ≡ b → (b || has_number ss set m) ≡ true → (has_number ss set m ≡ true → IsThere ss (k + 1) m) → IsThere (s ∷ ss) k m
+there_turn : (b : Bool) (s : Shape) (ss : List Shape) (k set m : ℕ) → s.number ≡ k → (is_over s set && (m == s.number)) ≡ b → (b || has_number ss set m) ≡ true → (has_number ss set m ≡ true → IsKeptList ss (k + 1) m) → IsKeptList (s ∷ ss) k m
 there_turn true s ss k set m number is h rest =
     let both = both_of (is_over s set) (m == s.number) is in
     let kept = both_of (is_kept s) (s.set == set) both.0 in
@@ -53,7 +53,7 @@ there_turn true s ss k set m number is h rest =
     (0, s, refl, kept.0, omega (arith, same, number))
 there_turn false s ss k set m number is h rest = let r = rest h in (suc r.0, r.1, r.2, r.3, omega (arith, r.4))
 
-over_there : (ss : List Shape) (k set m : ℕ) → AreNumbered k ss → has_number ss set m ≡ true → IsThere ss k m
+over_there : (ss : List Shape) (k set m : ℕ) → AreNumbered k ss → has_number ss set m ≡ true → IsKeptList ss k m
 over_there [] k set m numbered h = absurd (cc)
 over_there (s ∷ ss) k set m numbered h = there_turn (is_over s set && (m == s.number)) s ss k set m numbered.0 refl h (λ g. over_there ss (k + 1) set m numbered.1 g)
 
@@ -273,7 +273,7 @@ module _ (desc : Described) (served : IsServed desc) (db : Db) (c e d : Content)
         by false true is g = omega (arith, ap (λ f. length (d f)) same_file, ap length (file_off n t at is), (lists.kept n t at g).1)
         by false false is g = of_old (ap length (file_off n t at is ∙ file_still desc after set c e n t served lists at g))
 
-    fit_after : ((n : ℕ) → list_all is_whole (c (file_of n)) ≡ true → list_all is_whole (d (file_of n)) ≡ true) → AllFit desc d
+    fit_after : ((n : ℕ) → list_all is_whole (c (file_of n)) ≡ true → list_all is_whole (d (file_of n)) ≡ true) → SlotsFit desc d
     fit_after whole n low high = record {
       few = by (structure_of desc n) refl;
       whole = whole n (files.fit n low high).whole;

@@ -36,7 +36,7 @@ use Rattle.dms_store.specs.Finding.{record_fits_opt, seen_below, served_at}
 use Rattle.dms_store.specs.Lifted.{IsUsable, db_of}
 use Rattle.dms_store.specs.PuttingAfter.{slot_after, slot_links}
 use Rattle.dms_store.specs.PuttingAnswers.{change_stands, fit_all, none_refused, one_refused}
-use Rattle.dms_store.specs.PuttingEnters.{IsEntered, IsFound, IsJudged, IsPlaced, are, blocks_good, entered, refused, set_off, stands}
+use Rattle.dms_store.specs.PuttingEnters.{IsEntered, FindsSlot, IsJudged, IsPlaced, are, blocks_good, entered, refused, set_off, stands}
 use Rattle.dms_store.specs.PuttingLaws.{IsFree, MayStand}
 use Rattle.dms_store.specs.PuttingNumbers.{none_above}
 use Rattle.dms_store.specs.PuttingOver.{AreWhole, are_listed}
@@ -121,7 +121,7 @@ number_fits desc set number s at low most = ap (λ o. is_number o number) at ∙
     in_range : (n p : ℕ) → 1 ≤ n → n ≤ p → (nat_le 1 n && nat_le n p) ≡ true
     in_range n p low most = grind (arith, nat_tests)
 
-pub placed : {B : Type 0} {g : Ghosts B} (desc : Described) (db : Db) (s : Shape) (number : ℕ) (o : Option Slot) (rec : Record) (old : Option Record) (slot : Slot) (a : Overlay B g) → IsFound desc db s number o a → structure_of desc s.number ≡ Some s → IfSome o (SlotFits s) → RecordFits desc s.number rec
+pub placed : {B : Type 0} {g : Ghosts B} (desc : Described) (db : Db) (s : Shape) (number : ℕ) (o : Option Slot) (rec : Record) (old : Option Record) (slot : Slot) (a : Overlay B g) → FindsSlot desc db s number o a → structure_of desc s.number ≡ Some s → IfSome o (SlotFits s) → RecordFits desc s.number rec
     → rec_opt (slot_opt o) ≡ old → slot ≡ slot_after s.items o rec → IsPlaced desc db s number o rec old slot a
 placed desc db s number o rec old slot a found at slots fits old_is slot_is = record { told = found.told; spelt = found.spelt; was = found.was; slots = slots; long = long_of desc s.number s rec at fits; old_is = old_is; slot_is = slot_is }
 
@@ -166,7 +166,7 @@ module _ {B : Type 0} {g : Ghosts B} (desc : Described) (a b : Overlay B g) (usa
   pub spelt_on : spelled desc (under b).content ≡ Some db
   spelt_on = ap (spelled desc) (reads.looks.same.content told) ∙ spelt
 
-  pub found_on : (s : Shape) (number : ℕ) (o : Option Slot) → slot_at s ((under a).content (file_of s.number)) number ≡ slot_opt o → IsFound desc db s number o b
+  pub found_on : (s : Shape) (number : ℕ) (o : Option Slot) → slot_at s ((under a).content (file_of s.number)) number ≡ slot_opt o → FindsSlot desc db s number o b
   found_on s number o was = record {
     told = told_on;
     spelt = spelt_on;

@@ -63,8 +63,8 @@ pub record OneFits (desc : Described) (c : Content) (n : ℕ) : Type 0 where
   pub whole : list_all is_whole (c (file_of n)) ≡ true
   pub none : structure_of desc n ≡ None → has_none (c (file_of n)) ≡ true
 
-abbrev pub AllFit : Described → Content → Type 0
-AllFit desc c = (n : ℕ) → 1 ≤ n → n ≤ 200 → OneFits desc c n
+abbrev pub SlotsFit : Described → Content → Type 0
+SlotsFit desc c = (n : ℕ) → 1 ≤ n → n ≤ 200 → OneFits desc c n
 
 -- ---- places
 
@@ -191,7 +191,7 @@ both_files : (desc : Described) (c : Content) → is_spelled desc c ≡ true →
 unfolding is_spelled
 both_files desc c h = both_of (files_spell desc (db_in desc c) c desc.structures) (files_fit desc c 200 1) h
 
-all_fit : (desc : Described) (c : Content) → is_spelled desc c ≡ true → AllFit desc c
+all_fit : (desc : Described) (c : Content) → is_spelled desc c ≡ true → SlotsFit desc c
 all_fit desc c spelt n low most = subst (OneFits desc c) (let e : 1 + (n - 1) ≡ n = omega (arith, low) in e) (fits_in desc c 200 1 (n - 1) (both_files desc c spelt).1 (omega (arith, low, most)))
 
 no_manual : (desc : Described) (c : Content) → (db_in desc c).entries ≡ []
@@ -202,7 +202,7 @@ no_manual desc c = refl
 pub record SpellsFiles (desc : Described) (db : Db) (c : Content) : Type 0 where
   pub slots : FilesStand desc db (owned_in desc db) c
   pub lists : ListsSpell desc db c
-  pub fit : AllFit desc c
+  pub fit : SlotsFit desc c
   pub entries : db.entries ≡ []
 
 pub spelled_files : (desc : Described) (c : Content) (db : Db) → IsServed desc → spelled desc c ≡ Some db → SpellsFiles desc db c
@@ -271,7 +271,7 @@ module _ (desc : Described) (db : Db) (own : ℕ → ℕ → ℕ) (c : Content) 
       let e : (db_in desc c).entries ≡ db.entries = no_manual desc c ∙ sym none in
       λ i. record { records = r i; entries = e i }
 
-  fits_again : (k n : ℕ) → 1 ≤ n → n + k ≤ 201 → AllFit desc c → files_fit desc c k n ≡ true
+  fits_again : (k n : ℕ) → 1 ≤ n → n + k ≤ 201 → SlotsFit desc c → files_fit desc c k n ≡ true
   fits_again zero n low most fit = refl
   fits_again (suc k) n low most fit =
       let one = fit n low (omega (arith, most)) in
@@ -285,7 +285,7 @@ module _ (desc : Described) (db : Db) (own : ℕ → ℕ → ℕ) (c : Content) 
       there (Some s) is none = ap (λ x. is_some x || has_none (c (file_of n))) is
 
 -- Files that stand so spell the database.
-pub spelled_again : (desc : Described) (db : Db) (own : ℕ → ℕ → ℕ) (c : Content) → IsServed desc → FilesStand desc db own c → ((set n : ℕ) → 1 ≤ set → own set n ≡ owned_in desc db set n) → db.entries ≡ [] → ListsSpell desc db c → AllFit desc c
+pub spelled_again : (desc : Described) (db : Db) (own : ℕ → ℕ → ℕ) (c : Content) → IsServed desc → FilesStand desc db own c → ((set n : ℕ) → 1 ≤ set → own set n ≡ owned_in desc db set n) → db.entries ≡ [] → ListsSpell desc db c → SlotsFit desc c
     → spelled desc c ≡ Some db
 unfolding is_spelled
 spelled_again desc db own c served slots owned none lists fit =

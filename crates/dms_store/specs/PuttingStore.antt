@@ -32,7 +32,7 @@ use Rattle.dms_store.specs.Spelled.{spelled}
 use Rattle.dms_store.specs.Undamaged.{not_set, undamaged_or}
 
 -- A call that may change so many blocks: what is durable stays durable, without memory nothing has changed, and a fault has its cause.
-pub record Changed {T : Type 0} (blocks : ℕ) (result : Result T BlockFault) (old new : store.Seen) : Type 0 where
+pub record ChangesAtMost {T : Type 0} (blocks : ℕ) (result : Result T BlockFault) (old new : store.Seen) : Type 0 where
   pub memory : IsErrOf result Memory → new.db ≡ old.db
   pub keeps : Unbroken result (store.KeepsPoints old new)
   pub silent : store.IsSilent old new
@@ -76,7 +76,7 @@ few_structures desc ss set are is = omega (arith, some_structure desc set is, ap
 
 module _ {B : Type 0} {g : Ghosts B} (desc : Described) (found found' : ℕ) (o o' : Overlay B g) where
   pub changed : {T : Type 0} (m k : ℕ) (r : Result T BlockFault) → m ≤ k → found < 2 ^ 64 → found' ≡ noted_by r found → IsUsable desc o → BlocksAgree (under o) → written o' ≡ [] → HandsDown m r o o'
-      → ((db : Db) → IsTrue (under o).told → spelled desc (under o).content ≡ Some db → HasCausesOr (λ f b. ⊥) r (under o) (under o')) → Changed k r (store_seen desc found o) (store_seen desc found' o')
+      → ((db : Db) → IsTrue (under o).told → spelled desc (under o).content ≡ Some db → HasCausesOr (λ f b. ⊥) r (under o) (under o')) → ChangesAtMost k r (store_seen desc found o) (store_seen desc found' o')
   changed m k r le small noted usable agrees none hands below =
       let lasts = hands.alters.passes.lasts in
       let uses = hands.alters.uses in

@@ -39,15 +39,15 @@ spots_from owner n [] = []
 spots_from owner n (r ∷ rs) = with_spot (owned_spot owner n r) (spots_from owner (n + 1) rs)
 
 -- a data set: its records are its own, without a key
-record IsSet (s : Shape) : Type 0 where
+record IsDataSetShape (s : Shape) : Type 0 where
   low : 1 ≤ s.kind
   most : s.kind ≤ 2
   keyless : s.parts ≡ []
 
-of_set : (s : Shape) → is_data_set (Some s) ≡ true → s.parts ≡ [] → IsSet s
+of_set : (s : Shape) → is_data_set (Some s) ≡ true → s.parts ≡ [] → IsDataSetShape s
 of_set s h keyless = record { low = grind (arith, nat_tests); most = grind (arith, nat_tests); keyless = keyless }
 
-own_belongs : (s : Shape) (owner n : ℕ) (rec : Record) → IsSet s → belongs s [] owner ((s.number, n), rec) ≡ (owner == rec.owner)
+own_belongs : (s : Shape) (owner n : ℕ) (rec : Record) → IsDataSetShape s → belongs s [] owner ((s.number, n), rec) ≡ (owner == rec.owner)
 own_belongs s owner n rec is =
     let a : nat_lt s.kind 3 ≡ true = grind (arith, nat_tests, is.most) in
     let b : (s.kind == 5) ≡ false = grind (arith, nat_tests, is.most) in
@@ -59,13 +59,13 @@ own_belongs s owner n rec is =
     and_true true = refl
     and_true false = refl
 
-other_belongs : (s : Shape) (owner set n : ℕ) (rec : Record) → IsSet s → s.number ≢ set → belongs s [] owner ((set, n), rec) ≡ false
+other_belongs : (s : Shape) (owner set n : ℕ) (rec : Record) → IsDataSetShape s → s.number ≢ set → belongs s [] owner ((set, n), rec) ≡ false
 other_belongs s owner set n rec is apart =
     let a : nat_lt s.kind 3 ≡ true = grind (arith, nat_tests, is.most) in
     let e : (s.number == set) ≡ false = grind (arith, nat_tests, apart) in
     rw a (rw e refl)
 
-module _ (s : Shape) (is : IsSet s) (owner : ℕ) where
+module _ (s : Shape) (is : IsDataSetShape s) (owner : ℕ) where
   spots_are : (n : ℕ) (rs : List SlotRead) (more : List (Place × Record)) → spots_of s [] owner more ≡ [] → spots_of s [] owner (rows_from s.number n rs ++ more) ≡ spots_from owner n rs
   spots_are n [] more none = none
   spots_are n (Free ∷ rs) more none = spots_are (n + 1) rs more none
@@ -313,7 +313,7 @@ unfolding db_in
 no_entries desc s c owner = refl
 
 module _ (desc : Described) (path : ℕ) (s : Shape) (at : IsSetPath desc path s) (c : Content) (owner : ℕ) where
-  own : IsSet s
+  own : IsDataSetShape s
   own = of_set s at.set at.keyless
 
   members_are : members s (db_in desc c) owner ≡ spots_from owner 1 (slots_of s (file_in c s))

@@ -103,7 +103,7 @@ part_fits items p v None at kinds fit plain = absurd (cc)
 part_fits items p v (Some item) at kinds fit plain =
     subst (λ (k : Option ItemKind). bytes.FitsPart k v) (sym (kind_there items (p.item - 1) item at)) (record { kind = kind_at items (p.item - 1) item kinds at; fits = fit; plain = plain })
 
-keys_fit : (items : List Item) (ps : List KeyPart) (key : List Value) → AreKinds items → key_fits ps items key ≡ true → ArePlain key → bytes.KeyFits (kinds_of items) ps key
+keys_fit : (items : List Item) (ps : List KeyPart) (key : List Value) → AreKinds items → key_fits ps items key ≡ true → ArePlain key → bytes.KeyHasKinds (kinds_of items) ps key
 keys_fit items ps [] kinds fit plain = tt
 keys_fit items [] (v ∷ vs) kinds fit plain = absurd (cc)
 keys_fit items (p ∷ ps) (v ∷ vs) kinds fit plain =

@@ -31,7 +31,7 @@ use Rattle.dms_ordlist.specs.Lists.{empty_keys}
 use Rattle.dms_sets.specs.Listing.{places_total, places_same, listing}
 use Rattle.dms_sets.specs.Padded.{entry_width}
 use Rattle.dms_sets.specs.Sets.{entries_of, kinds_over, entry_of}
-use Rattle.dms_sets.specs.Spots.{some_item, ValuesFit, RecordHasSpot, RecordsFit}
+use Rattle.dms_sets.specs.Spots.{some_item, ValuesFit, RecordHasSpot, RecordsHaveSpots}
 use Rattle.dms_slots.specs.SlotBlocks.{file_of, slots_of, slots_in, slots_by, cut, is_block, per_block}
 use Rattle.dms_store.specs.Spelled.{rows_from, file_in, rows_in, db_in, counted_in, owned_in, links_stand, slot_stands, slots_stand, is_list_of, has_none, is_kept, file_spells, files_spell, is_whole, files_fit, is_spelled, some_if, spelled}
 use Rattle.dms_sets.specs.Tests.{both_of, tied}
@@ -305,7 +305,7 @@ record_fits desc db place rec r =
     }
 
 -- the records of a database that is spelled fit
-pub spelled_fits : (desc : Described) (c : Content) (db : Db) → IsFormed desc → spelled desc c ≡ Some db → RecordsFit desc db
+pub spelled_fits : (desc : Described) (c : Content) (db : Db) → IsFormed desc → spelled desc c ≡ Some db → RecordsHaveSpots desc db
 spelled_fits desc c db formed h place rec at = record_fits desc db place rec (spelled_stands desc c db formed h place rec at)
 
 -- all data sets are disjoint

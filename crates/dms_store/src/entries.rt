@@ -17,8 +17,8 @@ use crate::getting::get;
 use dms_base::{Bytes, ItemKind, Memory};
 use dms_block::{BlockFault, Blocks, Overlay};
 use dms_desc::{Description, Record, Structure};
-use dms_model::Spot;
-use dms_sets::{key_of, record_entry};
+use dms_model::{Spot, key_of};
+use dms_sets::record_entry;
 use dms_slots::file_of;
 use std::alloc::Global;
 

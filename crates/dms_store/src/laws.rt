@@ -6,7 +6,7 @@ ghost use Rattle.dms_desc.specs.Shape.{Described};
 ghost use Rattle.dms_desc_bytes.specs.WellFormed.{IsWellFormed};
 ghost use Rattle.dms_laws.specs.Sound.{IsFlat};
 ghost use Rattle.dms_model.specs.Db.{Db, Place, empty_db};
-ghost use Rattle.dms_sets.specs.Spots.{RecordsFit};
+ghost use Rattle.dms_sets.specs.Spots.{RecordsHaveSpots};
 ghost use Rattle.dms_store.specs.Serving.{IsServed};
 ghost use Rattle.dms_store.specs.Spelled.{spelled};
 ghost use Rattle.dms_store.specs.SpelledLaws.{IsFormed, AreDisjoint, RecordStands};
@@ -23,7 +23,7 @@ pub fn spelled_law()
     ensures one { (desc : Described) (c : Content) (a b : Db) → spelled desc c ≡ Some a → spelled desc c ≡ Some b → a ≡ b }
     ensures records { (desc : Described) (c : Content) (db : Db) → IsFormed desc → spelled desc c ≡ Some db
         → (place : Place) (rec : Record) → get db.records place ≡ Some rec → RecordStands desc db place rec }
-    ensures fits { (desc : Described) (c : Content) (db : Db) → IsFormed desc → spelled desc c ≡ Some db → RecordsFit desc db }
+    ensures fits { (desc : Described) (c : Content) (db : Db) → IsFormed desc → spelled desc c ≡ Some db → RecordsHaveSpots desc db }
     ensures flat { (desc : Described) (c : Content) (db : Db) → IsFormed desc → AreDisjoint desc → spelled desc c ≡ Some db → IsFlat desc db }
 {}
 

@@ -17,8 +17,8 @@ ghost use Rattle.dms_slots.specs.SlotBlocks.{block_of, file_of, slot_at, slot_op
 ghost use Rattle.dms_store.specs.Lifted.{IsUsable};
 ghost use Rattle.dms_store.specs.Putting.{Answers, AnswersOver};
 ghost use Rattle.dms_store.specs.PuttingAfter.{slot_after, with_record};
-ghost use Rattle.dms_store.specs.PuttingCalls.{Enters, HandsDown};
-ghost use Rattle.dms_store.specs.PuttingEnters.{IsEntered, IsFound, IsJudged, IsPlaced};
+ghost use Rattle.dms_store.specs.PuttingCalls.{WritesAtMost, HandsDown};
+ghost use Rattle.dms_store.specs.PuttingEnters.{IsEntered, FindsSlot, IsJudged, IsPlaced};
 ghost use Rattle.dms_store.specs.PuttingLaws.{IsFree, ListsPut, MayStand};
 ghost use Rattle.dms_store.specs.PuttingOver.{AreWhole};
 ghost use Rattle.dms_store.specs.PuttingSteps.{SlotChanged};
@@ -80,7 +80,7 @@ fn write_at<B: Blocks>(
     requires old { IfSome (option_copied old) (RecordFits (described desc.now) s.now.number) }
     requires new { RecordFits (described desc.now) s.now.number slot.now.rec }
     ensures fits { IfOk result (PutFits (described desc.now) s.now.number) }
-    ensures enters { Enters (9 * length desc.now.structures + 1) result over.old over.new }
+    ensures enters { WritesAtMost (9 * length desc.now.structures + 1) result over.old over.new }
     ensures below { (db : Db) (o : Option Slot) (rec : Record) → IsPlaced (described desc.now) db (shape_of s.now) number o rec (option_copied old.entry) slot.now over.old
         → HasCausesOr (λ f b. ⊥) result (under over.old) (under over.new) }
     ensures entered { IfOk result (λ p. (db : Db) (o : Option Slot) (rec : Record) → IsPlaced (described desc.now) db (shape_of s.now) number o rec (option_copied old.entry) slot.now over.old
@@ -118,10 +118,10 @@ fn store_at<B: Blocks>(
     requires old { IfSome (option_copied old) (SlotFits (shape_of s.now)) }
     requires new { RecordFits (described desc.now) s.now.number rec.now }
     ensures fits { IfOk result (PutFits (described desc.now) s.now.number) }
-    ensures enters { Enters (9 * length desc.now.structures + 1) result over.old over.new }
-    ensures below { (db : Db) → IsFound (described desc.now) db (shape_of s.now) number (option_copied old.entry) over.old
+    ensures enters { WritesAtMost (9 * length desc.now.structures + 1) result over.old over.new }
+    ensures below { (db : Db) → FindsSlot (described desc.now) db (shape_of s.now) number (option_copied old.entry) over.old
         → HasCausesOr (λ f b. ⊥) result (under over.old) (under over.new) }
-    ensures entered { IfOk result (λ p. (db : Db) → IsFound (described desc.now) db (shape_of s.now) number (option_copied old.entry) over.old
+    ensures entered { IfOk result (λ p. (db : Db) → FindsSlot (described desc.now) db (shape_of s.now) number (option_copied old.entry) over.old
         → IsFree (shape_of s.now) rec.now → IsEntered (described desc.now) db s.now.number number (linked s.now.items (rec_opt (slot_opt (option_copied old.entry))) rec.now) (seen over.new) p) }
 {
     let slot = slot_after(alloc, s, old, rec)?;
@@ -146,7 +146,7 @@ fn judge<B: Blocks>(
     requires above { number ≡ s.now.population + 1 }
     requires new { RecordFits (described desc.now) s.now.number rec.now }
     ensures fits { IfOk result (PutFits (described desc.now) s.now.number) }
-    ensures enters { Enters (9 * length desc.now.structures + 1) result over.old over.new }
+    ensures enters { WritesAtMost (9 * length desc.now.structures + 1) result over.old over.new }
     ensures below { (db : Db) → IsTrue (under over.old).told → spelled (described desc.now) (under over.old).content ≡ Some db
         → HasCausesOr (λ f b. ⊥) result (under over.old) (under over.new) }
     ensures judged { IfOk result (λ p. (db : Db) → IsTrue (under over.old).told → spelled (described desc.now) (under over.old).content ≡ Some db
@@ -173,7 +173,7 @@ fn put_new<B: Blocks>(
     requires set { is_data_set (Some (shape_of s.now)) ≡ true }
     requires new { RecordFits (described desc.now) s.now.number rec.now }
     ensures fits { IfOk result (PutFits (described desc.now) s.now.number) }
-    ensures enters { Enters (9 * length desc.now.structures + 1) result over.old over.new }
+    ensures enters { WritesAtMost (9 * length desc.now.structures + 1) result over.old over.new }
     ensures below { (db : Db) → IsTrue (under over.old).told → spelled (described desc.now) (under over.old).content ≡ Some db
         → HasCausesOr (λ f b. ⊥) result (under over.old) (under over.new) }
     ensures answers { IfOk result (λ p. IsTrue (under over.old).told
@@ -202,7 +202,7 @@ fn put_old<B: Blocks>(
     requires most { number ≤ s.now.population }
     requires new { RecordFits (described desc.now) s.now.number rec.now }
     ensures fits { IfOk result (PutFits (described desc.now) s.now.number) }
-    ensures enters { Enters (9 * length desc.now.structures + 1) result over.old over.new }
+    ensures enters { WritesAtMost (9 * length desc.now.structures + 1) result over.old over.new }
     ensures below { (db : Db) → IsTrue (under over.old).told → spelled (described desc.now) (under over.old).content ≡ Some db
         → HasCausesOr (λ f b. ⊥) result (under over.old) (under over.new) }
     ensures answers { IfOk result (λ p. IsTrue (under over.old).told
@@ -230,7 +230,7 @@ fn put_in<B: Blocks>(
     requires number { IfSome number (λ n. (1 ≤ n) × (n ≤ s.now.population)) }
     requires new { RecordFits (described desc.now) s.now.number rec.now }
     ensures fits { IfOk result (PutFits (described desc.now) s.now.number) }
-    ensures enters { Enters (9 * length desc.now.structures + 1) result over.old over.new }
+    ensures enters { WritesAtMost (9 * length desc.now.structures + 1) result over.old over.new }
     ensures below { (db : Db) → IsTrue (under over.old).told → spelled (described desc.now) (under over.old).content ≡ Some db
         → HasCausesOr (λ f b. ⊥) result (under over.old) (under over.new) }
     ensures answers { IfOk result (λ p. IsTrue (under over.old).told
@@ -256,7 +256,7 @@ fn put_over<B: Blocks>(
     requires number { IfSome number (IsNumber (described desc.now) set) }
     requires fits { RecordFits (described desc.now) set rec.now }
     ensures fits { IfOk result (PutFits (described desc.now) set) }
-    ensures enters { Enters (9 * length desc.now.structures + 1) result over.old over.new }
+    ensures enters { WritesAtMost (9 * length desc.now.structures + 1) result over.old over.new }
     ensures below { (db : Db) → IsTrue (under over.old).told → spelled (described desc.now) (under over.old).content ≡ Some db
         → HasCausesOr (λ f b. ⊥) result (under over.old) (under over.new) }
     ensures answers { IfOk result (λ p. IsTrue (under over.old).told

@@ -11,7 +11,7 @@ ghost use Rattle.dms_model.specs.Seen.{GoesBack, HasCauses, IfTold, IsMute, IsSi
 ghost use Rattle.dms_store.specs.Lifted.{IsUsable, Serves};
 ghost use Rattle.dms_model.specs.Stores.{Tells};
 ghost use Rattle.dms_store.specs.Looked.{Looked};
-ghost use Rattle.dms_store.specs.PuttingStore.{Changed, Stores};
+ghost use Rattle.dms_store.specs.PuttingStore.{ChangesAtMost, Stores};
 ghost use Rattle.dms_store.specs.Storing.{seen_by};
 ghost use Rattle.std.specs.FinMap.{get};
 
@@ -202,7 +202,7 @@ impl<B: Blocks> BlockStore<B> {
         ensures desc { self.new.desc ≡ self.old.desc }
         ensures fits { IfOk result (PutFits (described self.old.desc) set) }
         ensures put { IfOk result (Stores (described self.old.desc) (seen_by self.old).db (seen_by self.new).db set number rec.now) }
-        ensures changed { Changed (64 * length (described self.old.desc).structures) result (seen_by self.old) (seen_by self.new) }
+        ensures changed { ChangesAtMost (64 * length (described self.old.desc).structures) result (seen_by self.old) (seen_by self.new) }
         ensures same { B.same_blocks self.old.over.below self.new.over.below }
     {
         let stored = putting::put(&mut self.over, alloc, &self.desc, set, number, rec);

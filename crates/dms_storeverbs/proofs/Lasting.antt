@@ -7,7 +7,7 @@ use Rattle.dms_block.specs.declared.block_fault.BlockFault.{BlockFault}
 use Rattle.dms_model.specs.declared.store.Store.{Ghosts}
 use Rattle.dms_model.specs.Seen.{Seen, HasCauses}
 use Rattle.dms_storeverbs.specs.declared.engine.Engine.{Engine}
-use Rattle.dms_storeverbs.specs.View.{seen, Lasts, Lasted}
+use Rattle.dms_storeverbs.specs.View.{seen, EngineLasts, Lasted}
 
 pub causes_on : {T U : Type 0} {x : U} (r : Result T BlockFault) (a b c : Seen) → HasCauses (Ok x) a b → HasCauses r b c → HasCauses r a c
 causes_on r a b c p q = record {
@@ -26,7 +26,7 @@ module _ {St : Type 0} {g : Ghosts St} where
 
   -- one call more, which may have failed
   pub lasts_then : {T : Type 0} {r : Result T BlockFault} {a b c : Engine St g} → ((x y z : St) → g.same_store x y → g.same_store y z → g.same_store x z)
-      → Lasted a b → Lasts r b c → Lasts r a c
+      → Lasted a b → EngineLasts r b c → EngineLasts r a c
   lasts_then {r = r} {a = a} {b = b} {c = c} then_ p q = record {
     sound = q.sound;
     description = q.description ∙ p.description;
@@ -36,7 +36,7 @@ module _ {St : Type 0} {g : Ghosts St} where
 
   -- one that answered
   pub lasts_on : {T : Type 0} {x : T} {a b c : Engine St g} → ((x y z : St) → g.same_store x y → g.same_store y z → g.same_store x z)
-      → Lasted a b → Lasts (Ok x) b c → Lasted a c
+      → Lasted a b → EngineLasts (Ok x) b c → Lasted a c
   lasts_on {a = a} {b = b} {c = c} then_ p q = record {
     sound = q.sound;
     description = q.description ∙ p.description;

@@ -15,8 +15,8 @@ use Rattle.dms_desc.specs.Lookups.{items_of, structure_of, name_of}
 use Rattle.dms_model.specs.Stores.{put_answer, put_after}
 use Rattle.dms_model.specs.Session.{StoreResult, Refused, Keeps, keep, missing_from, verified, with_work, with_lock, Filled, Misfit, Values'}
 use Rattle.dms_base.specs.declared.value.Value.{Value}
-use Rattle.dms_storeverbs.specs.declared.storing.Judged.{Judged}
-use Rattle.dms_storeverbs.specs.declared.storing.Judged.TheVariants.{Refused as Not, Ready}
+use Rattle.dms_storeverbs.specs.declared.storing.JudgedRecord.{JudgedRecord}
+use Rattle.dms_storeverbs.specs.declared.storing.JudgedRecord.TheVariants.{Refused as Not, Ready}
 
 -- the program after its record of these values was stored under a number
 abbrev pub with_stored : Program → ℕ → ℕ → List Value → Program
@@ -29,7 +29,7 @@ put_record (Duplicate d) desc p db set rec = Refused Duplicates (name_of (struct
 put_record Full desc p db set rec = Refused LimitError (name_of (structure_of desc set))
 
 -- a program's area was refused, or the rest is what the store answers to this record, under this number
-abbrev pub MatchesJudging : Judged → Described → Program → Db → ℕ → Type 0
+abbrev pub MatchesJudging : JudgedRecord → Described → Program → Db → ℕ → Type 0
 MatchesJudging (Not r) desc p db set = keep desc p db set ≡ Refused r.category r.name
 MatchesJudging (Ready number rec) desc p db set = keep desc p db set ≡ put_record (put_answer desc db set number rec) desc p db set rec
 
@@ -43,7 +43,7 @@ pub record IsReady (desc : Described) (p : Program) (set : ℕ) (number : Option
   pub required : missing_from 0 (items_of (structure_of desc set)) made.values ≡ None
   pub verified : verified (structure_of desc set) made.values ≡ true
 
-abbrev pub AreReady : Judged → Described → Program → ℕ → Type 0
+abbrev pub AreReady : JudgedRecord → Described → Program → ℕ → Type 0
 AreReady (Not r) desc p set = ⊤
 AreReady (Ready number rec) desc p set = IsReady desc p set number rec
 

@@ -62,7 +62,7 @@ pub record PointsGrow (old : List Point) (quiets : List Quiet) (new : List Point
 
 -- what stands in a stop: the first so many of the points and the quiet points behind them, at least those that are durable, and
 -- the next number behind those, fallen by no more than the points that are missing. The files are whole
-pub record LeavesPoints (whole : Files → Type 0) (durable : ℕ) (points : List Point) (next : ℕ) (quiets : List Quiet) (stop : Stop) : Type 0 where
+pub record LeavesQuiets (whole : Files → Type 0) (durable : ℕ) (points : List Point) (next : ℕ) (quiets : List Quiet) (stop : Stop) : Type 0 where
   pub made : List Quiet
   pub rest : List Quiet
   pub all : List Point
@@ -93,7 +93,7 @@ pub record PerformsCall (o : Outcome) (old new : Seen) (now : View) (result : Re
   pub answers : IfOk result (λ answer. MatchesOutcome o answer now)
   pub made : old.tells → IfOk result (λ answer. MakesPoints answer old.durable old.points o.quiets new.durable new.points)
   pub undamaged : Undamaged result
-  pub leaves : old.tells → Runs old.clock new.clock (λ stop. LeavesPoints old.whole old.durable old.points old.next o.quiets stop × TextIs old.said stop)
+  pub leaves : old.tells → Runs old.clock new.clock (λ stop. LeavesQuiets old.whole old.durable old.points old.next o.quiets stop × TextIs old.said stop)
 
 -- a call does what f gives of the session that stands before it, where this holds of the session
 abbrev pub DoesWhere : (Session → Type 0) → {St : Type 0} {g : Ghosts St} → Engine St g → Engine St g → Result Answer BlockFault → (Session → Outcome) → Type 0
@@ -103,7 +103,7 @@ abbrev pub Does : {St : Type 0} {g : Ghosts St} → Engine St g → Engine St g 
 Does old new result f = DoesWhere MayStep old new result f
 
 -- whatever a call does, it stays the same engine, usable without a fault, and a fault has a cause
-pub record Lasts {St : Type 0} {g : Ghosts St} {T : Type 0} (result : Result T BlockFault) (old new : Engine St g) : Type 0 where
+pub record EngineLasts {St : Type 0} {g : Ghosts St} {T : Type 0} (result : Result T BlockFault) (old new : Engine St g) : Type 0 where
   pub sound : OnOk result (seen new).sound
   pub description : new.desc ≡ old.desc
   pub same : g.same_store old.store new.store
@@ -111,4 +111,4 @@ pub record Lasts {St : Type 0} {g : Ghosts St} {T : Type 0} (result : Result T B
 
 -- the same, after calls that answered
 abbrev pub Lasted : {St : Type 0} {g : Ghosts St} → Engine St g → Engine St g → Type 0
-Lasted old new = Lasts {T = Unit {0}} (Ok tt) old new
+Lasted old new = EngineLasts {T = Unit {0}} (Ok tt) old new

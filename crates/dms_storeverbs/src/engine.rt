@@ -35,7 +35,7 @@ pub struct Engine<St: Store> {
 }
 
 impl<St: Store> Engine<St> {
-    ghost use Rattle.dms_storeverbs.specs.View.{Lasts, SameSession, StandsFor, seen, view};
+    ghost use Rattle.dms_storeverbs.specs.View.{EngineLasts, SameSession, StandsFor, seen, view};
 
     /// An engine without programs over a store, under a description that a schema can have. After `Memory` the store is as it was.
     pub fn new(alloc: Global, desc: &Description, store: St) -> Result<Engine<St>, (Memory, St)>
@@ -70,7 +70,7 @@ impl<St: Store> Engine<St> {
         ensures stays { someone_works self.old.programs.items ≡ false → (seen self.new).effort ≡ (seen self.old).effort }
         ensures silent { IsSilent (seen self.old) (seen self.new) }
         ensures mute_fault { IsErrOf result BlockFault.Say → ⊥ }
-        ensures lasts { Lasts result self.old self.new }
+        ensures lasts { EngineLasts result self.old self.new }
     {
         if !programs::someone_works(self.programs.as_slice()) {
             return Ok(());
@@ -92,7 +92,7 @@ impl<St: Store> Engine<St> {
         ensures pending { self.new.pending ≡ self.old.pending }
         ensures since { self.new.since ≡ self.old.since }
         ensures fault { IsOkUnless result BlockFault.Say }
-        ensures lasts { Lasts result self.old self.new }
+        ensures lasts { EngineLasts result self.old self.new }
     {
         self.store.say(bytes)
     }

@@ -16,16 +16,16 @@ use std::alloc::Global;
 
 /// What is to be stored of a program's area.
 #[derive(Debug, Drop)]
-pub enum Judged {
+pub enum JudgedRecord {
     Refused(Refusal),
     /// This record, for the one with this number or else as a new one.
     Ready(Option<u64>, Record),
 }
 
-fn refused(category: Category, name: Name) -> Judged
-    ensures { result ≡ Judged.Refused (record { category = category; name = name }) }
+fn refused(category: Category, name: Name) -> JudgedRecord
+    ensures { result ≡ JudgedRecord.Refused (record { category = category; name = name }) }
 {
-    Judged::Refused(Refusal { category, name })
+    JudgedRecord::Refused(Refusal { category, name })
 }
 
 /// Judges a program's area of a data set before it is stored. Refused in this order: no area; that of a
@@ -36,7 +36,7 @@ pub fn judge_record(
     desc: &Description,
     program: &Program,
     set: u16,
-) -> Result<Judged, Memory>
+) -> Result<JudgedRecord, Memory>
     requires outer { IsOuter (structure_of (described desc.now) set) }
     requires fit { WorksFit (described desc.now) program.now }
     ensures judged { IfOk result (λ j. (db : Db) → MatchesJudging j (described desc.now) program.now db set) }
@@ -57,5 +57,5 @@ pub fn judge_record(
     }
     let rec = record_of(alloc, area)?;
     let number = area_number(area, current);
-    Ok(Judged::Ready(number, rec))
+    Ok(JudgedRecord::Ready(number, rec))
 }

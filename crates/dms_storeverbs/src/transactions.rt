@@ -10,11 +10,11 @@ ghost use Rattle.dms_block.specs.Faults.{Undamaged};
 ghost use Rattle.dms_model.specs.Db.{Db};
 ghost use Rattle.dms_storeverbs.specs.Costs.{Costs, limit_if};
 ghost use Rattle.dms_storeverbs.specs.Keeping.{KeptIs, kept_if};
-ghost use Rattle.dms_storeverbs.specs.View.{Does, DoesWhere, Lasts, Room, StandsFor, seen, view};
+ghost use Rattle.dms_storeverbs.specs.View.{Does, DoesWhere, EngineLasts, Room, StandsFor, seen, view};
 
 use crate::refusal::{Refusal, done, refused};
 use crate::schema::restart_of;
-use crate::storing::{Judged, judge_record};
+use crate::storing::{JudgedRecord, judge_record};
 use crate::{Engine, areas, programs};
 use dms_base::{Bytes, Category};
 use dms_block::BlockFault;
@@ -35,11 +35,11 @@ impl<St: Store> Engine<St> {
         ensures undamaged { (d : Db) → (seen self.old).db ≡ Some d → Undamaged result }
         ensures spends { Spends (limit_if true (seen self.old).desc) (seen self.old).effort (seen self.new).effort }
         ensures mute_fault { IsErrOf result BlockFault.Say → ⊥ }
-        ensures lasts { Lasts result self.old self.new }
+        ensures lasts { EngineLasts result self.old self.new }
     {
         let (number, rec) = match judge_record(alloc, &self.desc, &self.programs[i], set)? {
-            Judged::Refused(refusal) => return Ok(Some(refusal)),
-            Judged::Ready(number, rec) => (number, rec),
+            JudgedRecord::Refused(refusal) => return Ok(Some(refusal)),
+            JudgedRecord::Ready(number, rec) => (number, rec),
         };
         match self.store.put(alloc, set, number, &rec)? {
             Put::Stored(number) => {
@@ -76,7 +76,7 @@ impl<St: Store> Engine<St> {
         ensures spends { Spends (limit_if audit (seen self.old).desc) (seen self.old).effort (seen self.new).effort }
         ensures no_memory { audit ≡ false → IsErrOf result BlockFault.Memory → ⊥ }
         ensures mute_fault { IsErrOf result BlockFault.Say → ⊥ }
-        ensures lasts { Lasts result self.old self.new }
+        ensures lasts { EngineLasts result self.old self.new }
     {
         if !audit {
             return Ok(None);
@@ -95,7 +95,7 @@ impl<St: Store> Engine<St> {
         ensures costs { Costs (limit_if false (seen self.old).desc) false result (seen self.old).effort (seen self.new).effort }
         ensures no_memory { IsErrOf result BlockFault.Memory → ⊥ }
         ensures mute_fault { IsErrOf result BlockFault.Say → ⊥ }
-        ensures lasts { Lasts result self.old self.new }
+        ensures lasts { EngineLasts result self.old self.new }
     {
         if programs::someone_works(self.programs.as_slice()) {
             return Ok(done(alloc));
@@ -124,7 +124,7 @@ impl<St: Store> Engine<St> {
         ensures mute { IsMute (seen self.old) (seen self.new) }
         ensures costs { Costs (limit_if true (seen self.old).desc) false result (seen self.old).effort (seen self.new).effort }
         ensures mute_fault { IsErrOf result BlockFault.Say → ⊥ }
-        ensures lasts { Lasts result self.old self.new }
+        ensures lasts { EngineLasts result self.old self.new }
     {
         if !self.programs[i].in_transaction {
             return Ok(refused(Category::AuditError, self.programs[i].name));
@@ -151,7 +151,7 @@ impl<St: Store> Engine<St> {
         ensures mute { IsMute (seen self.old) (seen self.new) }
         ensures costs { Costs (limit_if audit (seen self.old).desc) false result (seen self.old).effort (seen self.new).effort }
         ensures mute_fault { IsErrOf result BlockFault.Say → ⊥ }
-        ensures lasts { Lasts result self.old self.new }
+        ensures lasts { EngineLasts result self.old self.new }
     {
         if self.programs[i].in_transaction {
             return Ok(refused(Category::AuditError, self.programs[i].name));
@@ -191,7 +191,7 @@ impl<St: Store> Engine<St> {
         ensures costs { Costs (limit_if audit (seen self.old).desc) false result (seen self.old).effort (seen self.new).effort }
         ensures no_memory { audit ≡ false → IsErrOf result BlockFault.Memory → ⊥ }
         ensures mute_fault { IsErrOf result BlockFault.Say → ⊥ }
-        ensures lasts { Lasts result self.old self.new }
+        ensures lasts { EngineLasts result self.old self.new }
     {
         if !self.programs[i].in_transaction {
             return Ok(refused(Category::AuditError, self.programs[i].name));
@@ -214,7 +214,7 @@ impl<St: Store> Engine<St> {
         ensures mute { IsMute (seen self.old) (seen self.new) }
         ensures costs { Costs (limit_if false (seen self.old).desc) true result (seen self.old).effort (seen self.new).effort }
         ensures mute_fault { IsErrOf result BlockFault.Say → ⊥ }
-        ensures lasts { Lasts result self.old self.new }
+        ensures lasts { EngineLasts result self.old self.new }
     {
         let name = self.programs[i].name;
         if !self.programs[i].in_transaction {

@@ -10,7 +10,7 @@ ghost use Rattle.dms_model.specs.Session.{Session, find_step, found_by, path_of,
 ghost use Rattle.dms_model.specs.Verbs.{IsPathOf, IsVerbOf};
 ghost use Rattle.dms_block.specs.Faults.{Undamaged};
 ghost use Rattle.dms_storeverbs.specs.Costs.{Costs, block_limit, takes_none};
-ghost use Rattle.dms_storeverbs.specs.View.{Does, Lasts, SameSession, StandsFor, seen, view};
+ghost use Rattle.dms_storeverbs.specs.View.{Does, EngineLasts, SameSession, StandsFor, seen, view};
 
 use crate::keys::{agreeing, key_values};
 use crate::refusal::{done, refused};
@@ -39,7 +39,7 @@ impl<St: Store> Engine<St> {
         ensures undamaged { (d : Db) → (seen self.old).db ≡ Some d → Undamaged result }
         ensures effort { (seen self.new).effort ≡ (seen self.old).effort }
         ensures mute_fault { IsErrOf result BlockFault.Say → ⊥ }
-        ensures lasts { Lasts result self.old self.new }
+        ensures lasts { EngineLasts result self.old self.new }
     {
         let items = self.desc.items_of(self.desc.set_of(x));
         let Some(values) = key_values(alloc, self.desc.parts_of(x), items, literals)? else {
@@ -65,7 +65,7 @@ impl<St: Store> Engine<St> {
         ensures undamaged { (d : Db) → (seen self.old).db ≡ Some d → Undamaged result }
         ensures effort { (seen self.new).effort ≡ (seen self.old).effort }
         ensures mute_fault { IsErrOf result BlockFault.Say → ⊥ }
-        ensures lasts { Lasts result self.old self.new }
+        ensures lasts { EngineLasts result self.old self.new }
     {
         match path {
             Path::First(x) => self.store.first_from(alloc, *x, 0, &Bound::Start),
@@ -84,7 +84,7 @@ impl<St: Store> Engine<St> {
         ensures mute { IsMute (seen self.old) (seen self.new) }
         ensures costs { Costs 0 false result (seen self.old).effort (seen self.new).effort }
         ensures mute_fault { IsErrOf result BlockFault.Say → ⊥ }
-        ensures lasts { Lasts result self.old self.new }
+        ensures lasts { EngineLasts result self.old self.new }
     {
         let x = apart::path_of(path);
         let name = self.desc.name_of(x);
@@ -107,7 +107,7 @@ impl<St: Store> Engine<St> {
         ensures costs { Costs (block_limit (seen self.old).desc verb.now) (asks_back_out verb.now) result (seen self.old).effort (seen self.new).effort }
         ensures no_memory { takes_none verb.now ≡ true → IsErrOf result BlockFault.Memory → ⊥ }
         ensures mute_fault { IsErrOf result BlockFault.Say → ⊥ }
-        ensures lasts { Lasts result self.old self.new }
+        ensures lasts { EngineLasts result self.old self.new }
     {
         match verb {
             Verb::OpenUpdate | Verb::OpenInquiry => {
@@ -149,7 +149,7 @@ impl<St: Store> Engine<St> {
         ensures costs { Costs (block_limit (seen self.old).desc verb.now) (asks_back_out verb.now) result (seen self.old).effort (seen self.new).effort }
         ensures no_memory { takes_none verb.now ≡ true → IsErrOf result BlockFault.Memory → ⊥ }
         ensures mute_fault { IsErrOf result BlockFault.Say → ⊥ }
-        ensures lasts { Lasts result self.old self.new }
+        ensures lasts { EngineLasts result self.old self.new }
     {
         let i = programs::place_of(self.programs.as_slice(), program);
         if i >= self.programs.len() {

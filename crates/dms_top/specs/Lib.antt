@@ -3,7 +3,7 @@ pub mod Auditing
 pub mod Compiling
 pub mod Dumped
 pub mod Initializing
-pub mod Judged
+pub mod JudgedSchema
 pub mod Judging
 pub mod Premises
 pub mod Schema

@@ -12,7 +12,7 @@ ghost use Rattle.dms_top.specs.Premises.{OfInput, OfSchema, OfNoSchema};
 ghost use Rattle.dms_audfile.specs.Counting.{CountedAt};
 ghost use Rattle.dms_top.specs.Words.{IsOfCompile, IsPast, IsUntouched};
 
-use crate::judge::{Judged, judge};
+use crate::judge::{JudgedSchema, judge};
 use crate::schema::TextFault;
 use crate::status::{SchemaFault, Status};
 use crate::whole::whole_text;
@@ -137,8 +137,8 @@ pub fn compile_input<S: Site, I: Source>(alloc: Global, site: &mut S, input: &mu
         }
     };
     match judge(alloc, text.as_slice()) {
-        Judged::Memory => Status::Memory,
-        Judged::Refused(fault) => Status::SchemaRefused(fault),
-        Judged::Description(desc) => create(alloc, site, &desc),
+        JudgedSchema::Memory => Status::Memory,
+        JudgedSchema::Refused(fault) => Status::SchemaRefused(fault),
+        JudgedSchema::Description(desc) => create(alloc, site, &desc),
     }
 }

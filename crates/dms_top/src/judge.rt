@@ -1,7 +1,7 @@
 ghost use Rattle.std.specs.Prelude.{◌≡◌, Ok, Err};
 ghost use Rattle.dasdl_compile.specs.Compile.{compiled};
 ghost use Rattle.dms_top.specs.Judging.{compiled_as, judged};
-ghost use Rattle.dms_top.specs.Judged.{AnswersJudging};
+ghost use Rattle.dms_top.specs.JudgedSchema.{AnswersJudging};
 
 use crate::status::SchemaFault;
 use dasdl_compile::{CompileFault, compile};
@@ -12,30 +12,30 @@ use std::alloc::Global;
 
 /// What a text of the schema language is.
 #[derive(Drop)]
-pub enum Judged {
+pub enum JudgedSchema {
     Description(Description),
     Refused(SchemaFault),
     Memory,
 }
 
-fn compiled(alloc: Global, schema: &Schema) -> Judged
+fn compiled(alloc: Global, schema: &Schema) -> JudgedSchema
     ensures { AnswersJudging result (compiled_as (compiled schema.now.parameters schema.now.declarations)) }
 {
     match compile(alloc, schema) {
-        Ok(desc) => Judged::Description(desc),
-        Err(CompileFault::Memory) => Judged::Memory,
-        Err(fault) => Judged::Refused(SchemaFault::Compile(fault)),
+        Ok(desc) => JudgedSchema::Description(desc),
+        Err(CompileFault::Memory) => JudgedSchema::Memory,
+        Err(fault) => JudgedSchema::Refused(SchemaFault::Compile(fault)),
     }
 }
 
 /// The description that a text spells, or its first fault.
 #[tactic(auto, unfolding(crate::specs::Judging::judged))]
-pub fn judge(alloc: Global, text: &[u8]) -> Judged
+pub fn judge(alloc: Global, text: &[u8]) -> JudgedSchema
     ensures { AnswersJudging result (judged text.now) }
 {
     match parse(alloc, text) {
         Ok(schema) => compiled(alloc, &schema),
-        Err(ParseFault::Memory) => Judged::Memory,
-        Err(fault) => Judged::Refused(SchemaFault::Parse(fault)),
+        Err(ParseFault::Memory) => JudgedSchema::Memory,
+        Err(fault) => JudgedSchema::Refused(SchemaFault::Parse(fault)),
     }
 }

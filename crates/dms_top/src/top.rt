@@ -25,7 +25,7 @@ ghost use Rattle.dms_top.specs.Words.{IsTry, IsCompile, IsPrintAudit, IsCommand,
 use crate::audit_run::{is_print_audit, print_trail};
 use crate::compile_run::compile_input;
 use crate::initialize_run::initialize_database;
-use crate::judge::{Judged, judge};
+use crate::judge::{JudgedSchema, judge};
 use crate::laws::what_is_made_stands;
 use crate::schema::{TextFault, schema_text};
 use crate::status::{NeedFault, SchemaFault, Status};
@@ -85,9 +85,9 @@ fn try_input<S: Site, I: Source>(alloc: Global, site: &mut S, input: &mut I) -> 
         }
     };
     match judge(alloc, text.as_slice()) {
-        Judged::Memory => Status::Memory,
-        Judged::Refused(fault) => Status::SchemaRefused(fault),
-        Judged::Description(desc) => try_lines(alloc, &desc, site, &mut feed, input),
+        JudgedSchema::Memory => Status::Memory,
+        JudgedSchema::Refused(fault) => Status::SchemaRefused(fault),
+        JudgedSchema::Description(desc) => try_lines(alloc, &desc, site, &mut feed, input),
     }
 }
 

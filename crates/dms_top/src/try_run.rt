@@ -38,7 +38,7 @@ fn status_of(fault: RunFault) -> Status
     ensures say { (result ≡ Status.SayFault → fault ≡ RunFault.Block BlockFault.Say) × (fault ≡ RunFault.Block BlockFault.Say → result ≡ Status.SayFault) }
     ensures lines { result ≡ Status.Limit LimitKind.Lines → fault ≡ RunFault.Lines }
     ensures bytes { result ≡ Status.Limit LimitKind.Bytes → fault ≡ RunFault.Bytes }
-    ensures held { result ≡ Status.Limit LimitKind.Waiting → fault ≡ RunFault.Waiting }
+    ensures waiting { result ≡ Status.Limit LimitKind.Waiting → fault ≡ RunFault.Waiting }
     ensures spoken { ComesUnsaid result → ⊥ }
 {
     match fault {
@@ -66,7 +66,7 @@ fn status_after(ran: Result<(), RunFault>) -> Status
     ensures memory { result ≡ Status.Memory → CutRun ran → ⊥ }
     ensures lines { result ≡ Status.Limit LimitKind.Lines → IsErrOf ran RunFault.Lines }
     ensures bytes { result ≡ Status.Limit LimitKind.Bytes → IsErrOf ran RunFault.Bytes }
-    ensures held { result ≡ Status.Limit LimitKind.Waiting → IsErrOf ran RunFault.Waiting }
+    ensures waiting { result ≡ Status.Limit LimitKind.Waiting → IsErrOf ran RunFault.Waiting }
     ensures spoken { ComesUnsaid result → ⊥ }
 {
     match ran {

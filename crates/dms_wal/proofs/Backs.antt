@@ -7,11 +7,11 @@ use Rattle.dms_history.specs.Events.{Content, Stored, block_in}
 use Rattle.dms_history.specs.Sizes.{AllSized}
 use Rattle.dms_running.specs.Telling.{Telling}
 use Rattle.dms_running.specs.Running.{content_now}
-use Rattle.dms_running.specs.Frames.{Frames, Holds, HoldsOne, with_frame}
+use Rattle.dms_running.specs.Frames.{Frames, FramesHold, HoldsOne, with_frame}
 use Rattle.dms_running.proofs.Appending.{now_runs, content_is}
 use Rattle.dms_running.proofs.MayRun.{content_sized}
 use Rattle.dms_running.proofs.Framed.{holds_with}
-use Rattle.dms_restore.specs.Logging.{View, telling, state, content, entries, LogRuns, LogsNothing, LogsWrite}
+use Rattle.dms_restore.specs.Logging.{LogView, telling, state, content, entries, LogRuns, LogsNothing, LogsWrite}
 use Rattle.dms_restore.proofs.Logs as lemmas
 use Rattle.dms_restore.proofs.Logs.{Reads}
 use Rattle.dms_wal.specs.Writing.{WritesBack}
@@ -21,7 +21,7 @@ none_not_some : {A : Type 0} (x : A) → None ≡ Some x → ⊥
 none_not_some x e = absurd cc
 
 -- what waited was sealed, and then the block was written
-pub writes_back : (a m b : View) (f k : ℕ) (bytes : List ℕ) → 30000 < f → length bytes ≡ 1024 → LogsNothing a m → LogsWrite m b → b.files ≡ with_file m.files f (overlaid (1024 * k) bytes (m.files f)) → WritesBack a b f k bytes
+pub writes_back : (a m b : LogView) (f k : ℕ) (bytes : List ℕ) → 30000 < f → length bytes ≡ 1024 → LogsNothing a m → LogsWrite m b → b.files ≡ with_file m.files f (overlaid (1024 * k) bytes (m.files f)) → WritesBack a b f k bytes
 writes_back a m b f k bytes structure sized first then written =
     let torn : InFile f (Torn (1024 * k) 1024) m.files b.files = subst (λ (l : Files). InFile f (Torn (1024 * k) 1024) m.files l) (sym written)
     (in_file_with f (Torn (1024 * k) 1024) m.files (overlaid (1024 * k) bytes (m.files f)) (subst (λ n. Torn (1024 * k) n (m.files f) (overlaid (1024 * k) bytes (m.files f))) sized (torn_overlaid (1024 * k) bytes (m.files f)))) in
@@ -37,13 +37,13 @@ writes_back a m b f k bytes structure sized first then written =
       content_same = then.content_same ∙ first.content_same;
     }
 
-pub all_sized : (a : View) → LogRuns a → Reads a → AllSized (content a)
+pub all_sized : (a : LogView) → LogRuns a → Reads a → AllSized (content a)
 all_sized a r read =
     let t = lemmas.tells a r read in
     subst AllSized (sym (content_is (telling a) t (state a) r.runs read))
     (content_sized (telling a).first (entries a) ((telling a).dumps a.files) r.runs.base (stored_of a.files) (now_runs (telling a) t (state a) r.runs read))
 
-module _ (a b : View) (same : telling b ≡ telling a) (frames : Frames) (h : Holds (telling a) (state a) frames) (f k : ℕ) (bytes : List ℕ) (w : WritesBack a b f k bytes)
+module _ (a b : LogView) (same : telling b ≡ telling a) (frames : Frames) (h : FramesHold (telling a) (state a) frames) (f k : ℕ) (bytes : List ℕ) (w : WritesBack a b f k bytes)
     (is : frames f k ≡ Some (record { block = bytes; dirty = true })) (sized : AllSized (content a)) where
   abbrev t : Telling
   t = telling a
@@ -62,8 +62,8 @@ module _ (a b : View) (same : telling b ≡ telling a) (frames : Frames) (h : Ho
   }
 
   -- its frame is given up
-  pub holds_back : Holds (telling b) (state b) (with_frame frames f k None)
-  holds_back = subst (λ (u : Telling). Holds u (state b) (with_frame frames f k None)) (sym same) (holds_with t (state b) frames f k None (record {
+  pub holds_back : FramesHold (telling b) (state b) (with_frame frames f k None)
+  holds_back = subst (λ (u : Telling). FramesHold u (state b) (with_frame frames f k None)) (sym same) (holds_with t (state b) frames f k None (record {
     held = λ y at. absurd (none_not_some y at);
     stands = λ low clean. w.here ∙ ((h f k).held (record { block = bytes; dirty = true }) is).1 ∙ ap (λ (l : Content). block_in l f k) (sym contents);
     changed = λ y at dirty. absurd (none_not_some y at);

@@ -18,14 +18,14 @@ use Rattle.dms_history.specs.Events.{Content}
 use Rattle.dms_history.proofs.Picks.{some_is}
 use Rattle.dms_pool.specs.declared.pool.Pool.{Pool}
 use Rattle.dms_pool.specs.declared.frame.Frame as pools
-use Rattle.dms_pool.specs.Calls.{PutsFrame, SamePool, Looked}
+use Rattle.dms_pool.specs.Calls.{PutsFrame, SamePool, FrameUsed}
 use Rattle.dms_pool.specs.Held.{frame_of, framed}
-use Rattle.dms_running.specs.Frames.{Holds, with_frame}
+use Rattle.dms_running.specs.Frames.{FramesHold, with_frame}
 use Rattle.dms_running.proofs.Framed.{holds_read}
 use Rattle.dms_running.proofs.Looking.{look_leaves}
 use Rattle.dms_restore.specs.declared.log.Log.{Log}
 use Rattle.dms_restore.specs.Logging as logs
-use Rattle.dms_restore.specs.Logging.{telling, state, points, content, IsSilent}
+use Rattle.dms_restore.specs.Logging.{telling, state, points, content, PrintsNothing}
 use Rattle.dms_restore.proofs.Writing.{filled_whole}
 use Rattle.dms_wal.specs.declared.running.Running.{Running}
 use Rattle.dms_wal.specs.Lifting.{count_of, owns_of}
@@ -62,7 +62,7 @@ no_frame : (o : Option pools.Frame) → None ≡ option_map (λ f. f.block) o �
 no_frame (Some x) is = absurd cc
 no_frame None is = refl
 
-pub asked_none : (id : BlockId) (old new : Pool) → Looked id old new → None ≡ option_map (λ f. f.block) (frame_of id old) → frame_of id new ≡ None
+pub asked_none : (id : BlockId) (old new : Pool) → FrameUsed id old new → None ≡ option_map (λ f. f.block) (frame_of id old) → frame_of id new ≡ None
 asked_none id old new looked is = looked.holds id ∙ no_frame (frame_of id old) is
 
 module _ {S : Type 0} (g : Ghosts S) (r : Running S) (u : IsUsable g r) where
@@ -79,10 +79,10 @@ module _ {S : Type 0} (g : Ghosts S) (r : Running S) (u : IsUsable g r) where
       goes = λ t. goes_still r.pool r.next r.counts.items (view_of g r.log) (g.files s) (g.clock s) (files t) (steps_weaken steps (λ x y now is. ap (λ (l : Left). l.files) is)) (u.goes t);
     }
 
-    pub looked_silent : Steps IsSilent (g.clock r.log.site) (g.clock s)
+    pub looked_silent : Steps PrintsNothing (g.clock r.log.site) (g.clock s)
     looked_silent = steps_weaken steps (λ x y now is. ap (λ (l : Left). l.said) is)
 
-    pub looked_leaves : ((m : ℕ) (x : Left) → m ≤ (g.clock r.log.site).now → Now (g.clock r.log.site) x → (g.clock r.log.site).left m x) → logs.Leaves (view_of g r.log) (view_of g looked) (points (view_of g r.log)) (logs.next (view_of g r.log))
+    pub looked_leaves : ((m : ℕ) (x : Left) → m ≤ (g.clock r.log.site).now → Now (g.clock r.log.site) x → (g.clock r.log.site).left m x) → logs.LogLeaves (view_of g r.log) (view_of g looked) (points (view_of g r.log)) (logs.next (view_of g r.log))
     looked_leaves counts = look_leaves (telling (view_of g r.log)) (state (view_of g r.log)) (g.clock s) (points (view_of g r.log)) (logs.next (view_of g r.log)) counts steps
 
   module _ (id : BlockId) (there : id.block < count_of r.counts.items id.file) (absent : frame_of id r.pool ≡ None) (t : IsTrue g.tells) where
@@ -114,7 +114,7 @@ module _ {S : Type 0} (g : Ghosts S) (r : Running S) (u : IsUsable g r) where
       goes = λ t. let k = u.goes t in record {
         runs = k.runs;
         holds = holds_like (telling (view_of g r.log)) (state (view_of g r.log)) (with_frame (frames_of r.pool) id.file id.block (Some (record { block = block.0; dirty = false }))) (frames_of p) (frames_put id (framed block false) r.pool p put)
-            (subst (λ (bytes : List ℕ). Holds (telling (view_of g r.log)) (state (view_of g r.log)) (with_frame (frames_of r.pool) id.file id.block (Some (record { block = bytes; dirty = false })))) (stands id there absent t ∙ sym (is_block t))
+            (subst (λ (bytes : List ℕ). FramesHold (telling (view_of g r.log)) (state (view_of g r.log)) (with_frame (frames_of r.pool) id.file id.block (Some (record { block = bytes; dirty = false })))) (stands id there absent t ∙ sym (is_block t))
             (holds_read (telling (view_of g r.log)) (state (view_of g r.log)) (frames_of r.pool) k.holds id.file id.block (ap (λ (o : Option pools.Frame). option_map frame_seen o) absent) (low_content id there absent t)));
         numbered = k.numbered;
         counted = k.counted;
@@ -127,7 +127,7 @@ module _ {S : Type 0} (g : Ghosts S) (r : Running S) (u : IsUsable g r) where
     usable_held (Err e) ok err = usable_same g r u p err
 
   -- a block was asked for
-  pub usable_asked : (id : BlockId) (p : Pool) → Looked id r.pool p → IsUsable g (record r { pool = p })
+  pub usable_asked : (id : BlockId) (p : Pool) → FrameUsed id r.pool p → IsUsable g (record r { pool = p })
   usable_asked id p looked = record {
     unbroken = u.unbroken;
     table = u.table;
@@ -151,5 +151,5 @@ module _ {S : Type 0} (g : Ghosts S) (r : Running S) (u : IsUsable g r) where
       ap (λ (b : Block). b.0) (sym x.2) ∙ (((u.goes t).holds id.file id.block).held (frame_seen x.0) (ap (λ (o : Option pools.Frame). option_map frame_seen o) x.1)).1
 
   -- a held block was asked for, and counted
-  pub usable_read : (id : BlockId) (p : Pool) (n : ℕ) → Looked id r.pool p → IsUsable g (record r { pool = p; reads = n })
+  pub usable_read : (id : BlockId) (p : Pool) (n : ℕ) → FrameUsed id r.pool p → IsUsable g (record r { pool = p; reads = n })
   usable_read id p n looked = let k = usable_asked id p looked in record { unbroken = k.unbroken; table = k.table; counted = k.counted; goes = λ t. let j = k.goes t in record { runs = j.runs; holds = j.holds; numbered = j.numbered; counted = j.counted } }

@@ -15,7 +15,7 @@ use Rattle.dms_history.specs.Replay.{TellsBefore, with_block}
 use Rattle.dms_history.proofs.Picks.{place_cases, tells_le}
 use Rattle.dms_pool.specs.declared.frame.Frame as pools
 use Rattle.dms_pool.specs.declared.pool.Pool.{Pool}
-use Rattle.dms_pool.specs.Calls.{Looked, PutsFrame}
+use Rattle.dms_pool.specs.Calls.{FrameUsed, PutsFrame}
 use Rattle.dms_pool.specs.Entries.{is_key}
 use Rattle.dms_pool.specs.Held.{frame_of, framed}
 use Rattle.std.specs.Map.{lookup}
@@ -23,11 +23,11 @@ use Rattle.lru.specs.LruCache.{LruCache}
 use Rattle.dms_pool.specs.declared.frame.FrameKey.{FrameKey}
 use Rattle.dms_running.specs.Telling.{Telling}
 use Rattle.dms_running.specs.Running.{content_now, entries_now}
-use Rattle.dms_running.specs.Frames.{Frame, Frames, Holds, with_frame}
+use Rattle.dms_running.specs.Frames.{Frame, Frames, FramesHold, with_frame}
 use Rattle.dms_running.proofs.Framed.{frame_here, holds_changed}
 use Rattle.dms_restore.specs.declared.log.Log.{Log}
 use Rattle.dms_restore.specs.Logging as logs
-use Rattle.dms_restore.specs.Logging.{View, telling, state, points, content, LogRuns, LogsImage}
+use Rattle.dms_restore.specs.Logging.{LogView, telling, state, points, content, LogRuns, LogsImage}
 use Rattle.dms_restore.proofs.Logs.{Reads}
 use Rattle.dms_wal.specs.declared.running.Running.{Running}
 use Rattle.dms_wal.specs.Lifting.{count_of, owns_of}
@@ -45,7 +45,7 @@ use Rattle.dms_block.specs.declared.block_fault.BlockFault.TheVariants as fault
 use Rattle.dms_block.specs.Faults.{Unbroken}
 use Rattle.dms_block.specs.Held.{Alters, Stays}
 use Rattle.dms_block.specs.HeldLaws.{used_none}
-use Rattle.dms_restore.specs.Logging.{IsSilent}
+use Rattle.dms_restore.specs.Logging.{PrintsNothing}
 use Rattle.dms_wal.specs.Database.{held, uses_of}
 use Rattle.dms_wal.proofs.Causes.{no_memory}
 use Rattle.dms_wal.proofs.Lifts.{surer}
@@ -66,14 +66,14 @@ count_changed l m c f k block counted owned low le is g =
     ap (λ (h : ℕ → ℕ). h g) is ∙ grown_is (x ∷ []) (owns_of l) (count_of l) c counted (owned, low, le, tt) g ∙ ap (λ (d : Content). length (d g)) (with_same c f k block.0)
 
 -- the database runs, and the block is as if held
-pub imaged : (a b : View) (pool : Pool) (f k : ℕ) (before : Option (List ℕ)) (after : List ℕ) → telling b ≡ telling a → LogRuns b → Holds (telling a) (state a) (frames_of pool) → TellsBefore k before (content a f) → LogsImage a b f k before after → IsImaged b pool f k after
+pub imaged : (a b : LogView) (pool : Pool) (f k : ℕ) (before : Option (List ℕ)) (after : List ℕ) → telling b ≡ telling a → LogRuns b → FramesHold (telling a) (state a) (frames_of pool) → TellsBefore k before (content a f) → LogsImage a b f k before after → IsImaged b pool f k after
 imaged a b pool f k before after same runs h tells s = record {
   runs = runs;
-  holds = subst (λ (t : Telling). Holds t (state b) (with_frame (frames_of pool) f k (Some (record { block = after; dirty = true })))) (sym same)
+  holds = subst (λ (t : Telling). FramesHold t (state b) (with_frame (frames_of pool) f k (Some (record { block = after; dirty = true })))) (sym same)
       (holds_changed (telling a) (state a) (state b) (frames_of pool) h f k before after tells (ap (λ (t : Telling). content_now t (state b)) (sym same) ∙ s.content_is) (ap (λ (t : Telling). entries_now t (state b)) (sym same) ∙ s.entries_are) s.blocks_same);
 }
 
-module _ (id : BlockId) (block : Block) (a : View) (first second : Pool) (im : IsImaged a first id.file id.block block.0) (looked : Looked id first second) where
+module _ (id : BlockId) (block : Block) (a : LogView) (first second : Pool) (im : IsImaged a first id.file id.block block.0) (looked : FrameUsed id first second) where
   abbrev dirty : Option Frame
   dirty = Some (record { block = block.0; dirty = true })
 
@@ -91,11 +91,11 @@ module _ (id : BlockId) (block : Block) (a : View) (first second : Pool) (im : I
     content_same = refl;
   }
 
-  pub image_changed : logs.Changed a id.file id.block
+  pub image_changed : logs.IsChangedBlock a id.file id.block
   image_changed = (im.holds id.file id.block).changed (record { block = block.0; dirty = true }) (frame_here (frames_of first) id.file id.block dirty) refl
 
   -- it isn't held, and is written
-  pub keeps_back : (third : Pool) → third.frames ≡ second.frames → frame_of id second ≡ None → (b : View) → telling b ≡ telling a → Reads a → LogRuns b → WritesBack a b id.file id.block block.0 → KeepsLog a b third
+  pub keeps_back : (third : Pool) → third.frames ≡ second.frames → frame_of id second ≡ None → (b : LogView) → telling b ≡ telling a → Reads a → LogRuns b → WritesBack a b id.file id.block block.0 → KeepsLog a b third
   keeps_back third same none b kind read runs w = record {
     runs = runs;
     holds = holds_like (telling b) (state b) (with_frame full id.file id.block None) (frames_of third) each
@@ -148,7 +148,7 @@ counted_more pool l m f k h raises id x is = omega (arith, h id x is, raised_mor
 
 module _ {S : Type 0} (g : Ghosts S) (stay : (s : S) → IsTrue g.tells → (x : Left) × Now (g.clock s) x × (x.files ≡ g.files s)) (now_said : (s : S) (x : Left) → IsTrue g.tells_said → Now (g.clock s) x → x.said ≡ g.said s)
     (counts_now : (s : S) (t : ℕ) (x : Left) → t ≤ (g.clock s).now → Now (g.clock s) x → (g.clock s).left t x) (r : Running S) (u : IsUsable g r) (l : Log S) (kind : telling (view_of g l) ≡ telling (view_of g r.log)) (said : g.said l.site ≡ g.said r.log.site)
-    (leaves : IsTrue g.tells → logs.Leaves (view_of g r.log) (view_of g l) (points (view_of g r.log)) (logs.next (view_of g r.log))) (silent : IsTrue g.tells → Steps IsSilent (g.clock r.log.site) (g.clock l.site)) where
+    (leaves : IsTrue g.tells → logs.LogLeaves (view_of g r.log) (view_of g l) (points (view_of g r.log)) (logs.next (view_of g r.log))) (silent : IsTrue g.tells → Steps PrintsNothing (g.clock r.log.site) (g.clock l.site)) where
   -- it was made
   pub alters_made : (p : Pool) (cs : Vec ℕ) → length cs.items ≡ length r.counts.items → IsUsable g (record r { log = l; pool = p; counts = cs }) → (IsTrue g.tells → points (view_of g l) ≡ points (view_of g r.log))
       → Alters 0 0 (Ok (tt {0})) (held g r) (held g (record r { log = l; pool = p; counts = cs }))
@@ -176,8 +176,8 @@ module _ {S : Type 0} (g : Ghosts S) (stay : (s : S) → IsTrue g.tells → (x :
 -- what is left by an Image and then by a write
 pub then_left : {S : Type 0} (g : Ghosts S) (stay : (s : S) → IsTrue g.tells → (x : Left) × Now (g.clock s) x × (x.files ≡ g.files s)) (counts_now : (s : S) (t : ℕ) (x : Left) → t ≤ (g.clock s).now → Now (g.clock s) x → (g.clock s).left t x)
     → (r : Running S) → IsUsable g r → (one two : Log S) (f k : ℕ) (before : Option (List ℕ)) (after : List ℕ) → telling (view_of g one) ≡ telling (view_of g r.log) → (IsTrue g.tells → LogsImage (view_of g r.log) (view_of g one) f k before after)
-    → (IsTrue g.tells → logs.Leaves (view_of g r.log) (view_of g one) (points (view_of g r.log)) (logs.next (view_of g r.log))) → (IsTrue g.tells → logs.Leaves (view_of g one) (view_of g two) (points (view_of g one)) (logs.next (view_of g one)))
-    → IsTrue g.tells → logs.Leaves (view_of g r.log) (view_of g two) (points (view_of g r.log)) (logs.next (view_of g r.log))
+    → (IsTrue g.tells → logs.LogLeaves (view_of g r.log) (view_of g one) (points (view_of g r.log)) (logs.next (view_of g r.log))) → (IsTrue g.tells → logs.LogLeaves (view_of g one) (view_of g two) (points (view_of g one)) (logs.next (view_of g one)))
+    → IsTrue g.tells → logs.LogLeaves (view_of g r.log) (view_of g two) (points (view_of g r.log)) (logs.next (view_of g r.log))
 then_left g stay counts_now r u one two f k before after kind logged first second t =
     then_leave (view_of g r.log) (view_of g one) (view_of g two) kind (first t) (second t) (logged t).points_same
     (surer (view_of g r.log) (view_of g one) kind (u.goes t).runs (stay r.log.site t) (stay one.site t) (counts_now one.site) (points (view_of g r.log)) (logs.next (view_of g r.log)) (first t)) (logged t).next_same

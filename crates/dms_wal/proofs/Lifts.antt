@@ -15,7 +15,7 @@ use Rattle.dms_running.specs.Standing.{IsWhole}
 use Rattle.dms_running.specs.Points.{LeavesPointsPrefix, points_of}
 use Rattle.dms_running.proofs.Appending.{now_leaves, points_enough}
 use Rattle.dms_restore.specs.Logging as logs
-use Rattle.dms_restore.specs.Logging.{View, telling, state, points, durable, here, content, LogRuns, IsSilent}
+use Rattle.dms_restore.specs.Logging.{LogView, telling, state, points, durable, here, content, LogRuns, PrintsNothing}
 use Rattle.dms_restore.proofs.Logs as lemmas
 use Rattle.dms_restore.proofs.Logs.{Reads}
 use Rattle.dms_wal.specs.Lifting.{point_under, stop_of, lifted, last_blocks, count_of, held_of}
@@ -56,7 +56,7 @@ module _ (schema : List ℕ) where
   TellsText said clock = (y : Left) → Now clock y → (s : List ℕ) → said ≡ Some s → y.said ≡ s
 
   -- what stops leave of a log while nothing is printed
-  pub leaves_lifted : (a b : View) → telling b ≡ telling a → (ps : List LivePoint) (next : ℕ) (said : Option (List ℕ)) → TellsText said a.clock → logs.Leaves a b ps next → Steps IsSilent a.clock b.clock
+  pub leaves_lifted : (a b : LogView) → telling b ≡ telling a → (ps : List LivePoint) (next : ℕ) (said : Option (List ℕ)) → TellsText said a.clock → logs.LogLeaves a b ps next → Steps PrintsNothing a.clock b.clock
       → Runs (lifted (telling a) schema a.clock) (lifted (telling b) schema b.clock) (λ stop. Prefix (IsWhole (telling a)) (durable a) (map (point_under schema) ps) next stop × TextIs said stop)
   leaves_lifted a b same ps next said text leaves silent =
       subst (λ (t : Telling). Runs (lifted (telling a) schema a.clock) (lifted t schema b.clock) (λ stop. Prefix (IsWhole (telling a)) (durable a) (map (point_under schema) ps) next stop × TextIs said stop)) (sym same)
@@ -64,11 +64,11 @@ module _ (schema : List ℕ) where
       (λ x p. (front_lifted (telling a) ps (durable a) next x p.0, λ s is. p.1.2 ∙ text p.1.0 p.1.1 s is))))
 
 -- no fewer points are durable after a call than before it
-module _ (a b : View) (same : telling b ≡ telling a) (r : LogRuns a) (read : Reads a) (then_ : Reads b) (counts : (t : ℕ) (x : Left) → t ≤ b.clock.now → Now b.clock x → b.clock.left t x) where
+module _ (a b : LogView) (same : telling b ≡ telling a) (r : LogRuns a) (read : Reads a) (then_ : Reads b) (counts : (t : ℕ) (x : Left) → t ≤ b.clock.now → Now b.clock x → b.clock.left t x) where
   enough_of : (ps : List LivePoint) (next : ℕ) (x : Left) → LeavesPointsPrefix (telling a) ps (durable a) next x → durable a ≤ length (points_of (telling a) x.files)
   enough_of ps next x p = omega (arith, p.enough, p.within, ap (λ (l : List LivePoint). length l) p.is, length-take p.count ps)
 
-  pub surer : (ps : List LivePoint) (next : ℕ) → logs.Leaves a b ps next → durable a ≤ durable b
+  pub surer : (ps : List LivePoint) (next : ℕ) → logs.LogLeaves a b ps next → durable a ≤ durable b
   surer ps next leaves =
       let x = then_.0 in
       let low : durable a ≤ length (points_of (telling a) x.files) =
@@ -85,7 +85,7 @@ last_push none (q ∷ ps) p = last_push q.blocks ps p
 pub last_here : (none : Content) (ps : List LivePoint) (p : LivePoint) → last_blocks none (ps ++ p ∷ []) ≡ p.blocks
 last_here = last_push
 
-module _ (tells : Bool) (sound sound' : Type 0) (a b : View) (schema : List ℕ) (next next' : ℕ) (counts counts' : List ℕ) (said said' : Option (List ℕ)) (faults faults' : Faults) (uses uses' : Uses) where
+module _ (tells : Bool) (sound sound' : Type 0) (a b : LogView) (schema : List ℕ) (next next' : ℕ) (counts counts' : List ℕ) (said said' : Option (List ℕ)) (faults faults' : Faults) (uses uses' : Uses) where
   abbrev old : Held
   old = held_of tells sound a schema next counts said faults uses
 
@@ -103,12 +103,12 @@ module _ (tells : Bool) (sound sound' : Type 0) (a b : View) (schema : List ℕ)
   }
 
   pub passes_by : telling b ≡ telling a → length counts' ≡ length counts → next' ≡ next → said' ≡ said → (IsTrue tells → next ≡ logs.next a) → TellsText schema said a.clock
-      → (IsTrue tells → logs.Leaves a b (points a) (logs.next a)) → (IsTrue tells → Steps IsSilent a.clock b.clock) → MakesNoPoint old new
+      → (IsTrue tells → logs.LogLeaves a b (points a) (logs.next a)) → (IsTrue tells → Steps PrintsNothing a.clock b.clock) → MakesNoPoint old new
   passes_by same many nexts saids numbered text leaves silent = record {
     lasts = lasts_by same many;
     next = nexts;
     said = saids;
-    leaves = λ t room. leaves_lifted schema a b same (points a) next said text (subst (λ n. logs.Leaves a b (points a) n) (sym (numbered t)) (leaves t)) (silent t);
+    leaves = λ t room. leaves_lifted schema a b same (points a) next said text (subst (λ n. logs.LogLeaves a b (points a) n) (sym (numbered t)) (leaves t)) (silent t);
   }
 
   pub stays_by : sound' → (IsTrue tells → (points b ≡ points a) × (durable a ≤ durable b)) → Stays old new
@@ -119,7 +119,7 @@ module _ (tells : Bool) (sound sound' : Type 0) (a b : View) (schema : List ℕ)
   }
 
 -- what is told hangs together
-pub agrees_by : (tells : Bool) (sound : Type 0) (v : View) (schema : List ℕ) (next : ℕ) (counts : List ℕ) (said : Option (List ℕ)) (faults : Faults) (uses : Uses)
+pub agrees_by : (tells : Bool) (sound : Type 0) (v : LogView) (schema : List ℕ) (next : ℕ) (counts : List ℕ) (said : Option (List ℕ)) (faults : Faults) (uses : Uses)
     → (IsTrue tells → LogRuns v) → (IsTrue tells → Reads v) → (IsTrue tells → next ≡ logs.next v) → (IsTrue tells → (f : ℕ) → count_of counts f ≡ length (content v f)) → TellsText schema said v.clock
     → BlocksAgree (held_of tells sound v schema next counts said faults uses)
 agrees_by tells sound v schema next counts said faults uses runs read numbered counted text = record {

@@ -11,7 +11,7 @@ use Rattle.dms_running.specs.Points.{LeavesPointsPrefix, points_of, next_in}
 use Rattle.dms_running.specs.Standing.{IsWhole}
 use Rattle.dms_running.proofs.Appending.{now_leaves}
 use Rattle.dms_restore.specs.Logging as logs
-use Rattle.dms_restore.specs.Logging.{View, view, telling, state, points, durable, here, content, LogRuns, IsSilent, LogsQuiet, LogsNothing}
+use Rattle.dms_restore.specs.Logging.{LogView, view, telling, state, points, durable, here, content, LogRuns, PrintsNothing, LogsQuiet, LogsNothing}
 use Rattle.dms_restore.proofs.Logs as lemmas
 use Rattle.dms_restore.proofs.Logs.{Reads}
 use Rattle.dms_wal.specs.Lifting.{point_under, stop_of, lifted, last_blocks, held_of}
@@ -27,7 +27,7 @@ quiet_none a sound none = record {
   points = λ t room. absurd (none room);
 }
 
-module _ (tells : Bool) (sound sound' : Type 0) (a b : View) (schema : List ℕ) (next : ℕ) (counts : List ℕ) (said said' : Option (List ℕ)) (faults faults' : Faults) (uses uses' : Uses) where
+module _ (tells : Bool) (sound sound' : Type 0) (a b : LogView) (schema : List ℕ) (next : ℕ) (counts : List ℕ) (said said' : Option (List ℕ)) (faults faults' : Faults) (uses uses' : Uses) where
   abbrev before : Held
   before = held_of tells sound a schema next counts said faults uses
 
@@ -40,11 +40,11 @@ module _ (tells : Bool) (sound sound' : Type 0) (a b : View) (schema : List ℕ)
     points = λ t room. (ap (map (point_under schema)) (quiets t).points_are ∙ map-append (point_under schema) (points a) (here a ∷ []), surer t);
   }
 
-  pub quiet_leaves : (next' : ℕ) (counts' : List ℕ) → telling b ≡ telling a → (IsTrue tells → next ≡ logs.next a) → TellsText schema said a.clock → (IsTrue tells → logs.Leaves a b (points a ++ here a ∷ []) (logs.next a + 1)) → (IsTrue tells → Steps IsSilent a.clock b.clock)
+  pub quiet_leaves : (next' : ℕ) (counts' : List ℕ) → telling b ≡ telling a → (IsTrue tells → next ≡ logs.next a) → TellsText schema said a.clock → (IsTrue tells → logs.LogLeaves a b (points a ++ here a ∷ []) (logs.next a + 1)) → (IsTrue tells → Steps PrintsNothing a.clock b.clock)
       → IfTold before (Leaves before (held_of tells sound' b schema next' counts' said' faults' uses') (before.points ++ before.here ∷ []) (next + 1))
   quiet_leaves next' counts' same numbered text leaves silent t room =
       subst (λ (ps : List BlockPoint). Leaves before (held_of tells sound' b schema next' counts' said' faults' uses') ps (next + 1)) (map-append (point_under schema) (points a) (here a ∷ []))
-      (leaves_lifted schema a b same (points a ++ here a ∷ []) (next + 1) said text (subst (λ n. logs.Leaves a b (points a ++ here a ∷ []) (n + 1)) (sym (numbered t)) (leaves t)) (silent t))
+      (leaves_lifted schema a b same (points a ++ here a ∷ []) (next + 1) said text (subst (λ n. logs.LogLeaves a b (points a ++ here a ∷ []) (n + 1)) (sym (numbered t)) (leaves t)) (silent t))
 
   pub sync_made : sound' → (IsTrue tells → LogsNothing a b) → (IsTrue tells → durable b ≡ length (points a)) → MadeDurable before (held_of tells sound' b schema next counts said' faults' uses')
   sync_made usable nothing all = record {
@@ -56,7 +56,7 @@ module _ (tells : Bool) (sound sound' : Type 0) (a b : View) (schema : List ℕ)
   }
 
 -- the text grows, and the files stay
-module _ (a : View) (r : LogRuns a) (read : Reads a) (schema : List ℕ) (next : ℕ) (numbered : next ≡ logs.next a) (said : Option (List ℕ)) (text : TellsText schema said a.clock) (later : Clock Left) (bytes : List ℕ) (steps : Steps (PrintsPartOf bytes) a.clock later) where
+module _ (a : LogView) (r : LogRuns a) (read : Reads a) (schema : List ℕ) (next : ℕ) (numbered : next ≡ logs.next a) (said : Option (List ℕ)) (text : TellsText schema said a.clock) (later : Clock Left) (bytes : List ℕ) (steps : Steps (PrintsPartOf bytes) a.clock later) where
   said_one : (x y : Left) → Now a.clock y → PrintsPartOf bytes y x → Prefix (IsWhole (telling a)) (durable a) (map (point_under schema) (points a)) next (stop_of (telling a) schema x) × TextGrows said bytes (stop_of (telling a) schema x)
   said_one x y now p = (
     front_lifted schema (telling a) (points a) (durable a) next x (

@@ -8,11 +8,11 @@ use Rattle.dms_pool.specs.declared.frame.Frame as pools
 use Rattle.dms_pool.specs.declared.pool.Pool.{Pool}
 use Rattle.dms_pool.specs.Entries.{is_id}
 use Rattle.dms_pool.specs.Held.{frame_of}
-use Rattle.dms_pool.specs.Calls.{GivesUp, IsEmpty, Looked, PutsFrame}
+use Rattle.dms_pool.specs.Calls.{GivesUp, IsEmpty, FrameUsed, PutsFrame}
 use Rattle.dms_history.proofs.Picks.{place_cases}
 use Rattle.dms_running.specs.Telling.{Telling}
 use Rattle.dms_running.specs.Running.{State}
-use Rattle.dms_running.specs.Frames.{Frames, Holds, HoldsOne, with_frame}
+use Rattle.dms_running.specs.Frames.{Frames, FramesHold, HoldsOne, with_frame}
 use Rattle.dms_wal.specs.Lifting.{count_of}
 use Rattle.dms_wal.specs.Database.{frame_seen, frames_of, HoldsCounted}
 
@@ -24,7 +24,7 @@ map_if true o p = refl
 map_if false o p = refl
 
 -- frames that are the same at each block
-pub holds_like : (t : Telling) (s : State) (frames other : Frames) → ((g c : ℕ) → other g c ≡ frames g c) → Holds t s frames → Holds t s other
+pub holds_like : (t : Telling) (s : State) (frames other : Frames) → ((g c : ℕ) → other g c ≡ frames g c) → FramesHold t s frames → FramesHold t s other
 holds_like t s frames other same h g c = subst (HoldsOne t s g c) (sym (same g c)) (h g c)
 
 module _ (id : BlockId) (x : pools.Frame) (old new : Pool) where
@@ -57,7 +57,7 @@ module _ (id : BlockId) (x : pools.Frame) (old new : Pool) where
     | inr apart ↦ p.holds other ∙ ap (λ k. cond k None (frame_of other old)) apart.1 ∙ none
   ]
 
-module _ (id : BlockId) (old new : Pool) (l : Looked id old new) where
+module _ (id : BlockId) (old new : Pool) (l : FrameUsed id old new) where
   pub frames_looked : (g c : ℕ) → frames_of new g c ≡ frames_of old g c
   frames_looked g c = ap (λ (o : Option pools.Frame). option_map frame_seen o) (l.holds (record { file = g; block = c }))
 

@@ -33,7 +33,7 @@ use Rattle.dms_running.proofs.Early.{both_leave}
 use Rattle.dms_running.proofs.Framed.{holds_given_up}
 use Rattle.dms_restore.specs.declared.log.Log.{Log}
 use Rattle.dms_restore.specs.Logging as logs
-use Rattle.dms_restore.specs.Logging.{View, telling, state, points, durable, content, waits, LogRuns, LogsNothing, IsNewestSealed, IsSilent}
+use Rattle.dms_restore.specs.Logging.{LogView, telling, state, points, durable, content, waits, LogRuns, LogsNothing, IsNewestSealed, PrintsNothing}
 use Rattle.dms_restore.proofs.Logs.{Reads}
 use Rattle.dms_wal.specs.declared.running.Running.{Running}
 use Rattle.dms_wal.specs.Lifting.{count_of}
@@ -44,12 +44,12 @@ use Rattle.dms_wal.proofs.Backs.{all_sized, holds_back}
 use Rattle.dms_wal.proofs.Stepped.{in_table}
 
 -- one call of a log after another
-pub then_leave : (a m b : View) → telling m ≡ telling a → logs.Leaves a m (points a) (logs.next a) → logs.Leaves m b (points m) (logs.next m) → points m ≡ points a → durable a ≤ durable m → logs.next m ≡ logs.next a → logs.Leaves a b (points a) (logs.next a)
+pub then_leave : (a m b : LogView) → telling m ≡ telling a → logs.LogLeaves a m (points a) (logs.next a) → logs.LogLeaves m b (points m) (logs.next m) → points m ≡ points a → durable a ≤ durable m → logs.next m ≡ logs.next a → logs.LogLeaves a b (points a) (logs.next a)
 then_leave a m b same first second points_same surer next_same =
     both_leave (telling a) (points a) (points m) (logs.next a) (logs.next m) (state a) (state m) b.clock first (subst (λ (t : Telling). LeavesPoints t (points m) (logs.next m) (state m) b.clock) same second)
     points_same (omega (arith, surer, ap (λ (t : Telling). durable_now t (state m)) same)) (omega (arith, next_same))
 
-pub then_silent : {a b c : Clock Left} → Steps IsSilent a b → Steps IsSilent b c → Steps IsSilent a c
+pub then_silent : {a b c : Clock Left} → Steps PrintsNothing a b → Steps PrintsNothing b c → Steps PrintsNothing a c
 then_silent one two = steps_on one two (λ x y z was now p q. q ∙ p) (λ x y was p. p)
 
 pub then_err : {T U E F : Type 0} (e : E) (f : F) (a m n : ℕ) → m ≡ a → HasCause {T = T} {E = E} m n (Err e) → HasCause {T = U} {E = F} a n (Err f)
@@ -59,7 +59,7 @@ pub then_ok : {T U E F : Type 0} (x : T) (y : U) (a m n : ℕ) → m ≡ a → H
 then_ok {U = U} {F = F} x y a m n same c = subst (λ k. HasCause {T = U} {E = F} k n (Ok y)) same (record { later = c.later; failed = tt; once = tt; clean = c.clean })
 
 -- once what waits is sealed, the newest Image of a changed block is
-pub newest : (a m : View) → LogRuns m → Reads m → waits m.end ≡ [] → LogsNothing a m → (f k : ℕ) (bytes : List ℕ) → logs.Changed a f k → block_in (content a) f k ≡ bytes → IsNewestSealed m f k bytes
+pub newest : (a m : LogView) → LogRuns m → Reads m → waits m.end ≡ [] → LogsNothing a m → (f k : ℕ) (bytes : List ℕ) → logs.IsChangedBlock a f k → block_in (content a) f k ≡ bytes → IsNewestSealed m f k bytes
 newest a m runs read nothing s f k bytes changed is =
     changed_newest m runs read nothing f k bytes (λ none. changed (ap (λ (l : List Entry). last_after f k (after_last is_control (live_of l))) (sym s.entries_same) ∙ none)) (ap (λ (c : Content). block_in c f k) s.content_same ∙ is)
 
@@ -106,7 +106,7 @@ module _ {S : Type 0} (g : Ghosts S) (r : Running S) (u : IsUsable g r) (p : Poo
       };
     }
 
-    pub changed : x.dirty ≡ true → IsTrue g.tells → logs.Changed (view_of g r.log) id.file id.block
+    pub changed : x.dirty ≡ true → IsTrue g.tells → logs.IsChangedBlock (view_of g r.log) id.file id.block
     changed dirty t = ((u.goes t).holds id.file id.block).changed (frame_seen x) frame_at dirty
 
     pub held_block : IsTrue g.tells → block_in (content (view_of g r.log)) id.file id.block ≡ x.block.0

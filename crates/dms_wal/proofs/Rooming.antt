@@ -17,7 +17,7 @@ use Rattle.dms_pool.specs.Calls.{GivesUp}
 use Rattle.dms_pool.specs.Held.{framed}
 use Rattle.dms_restore.specs.declared.log.Log.{Log}
 use Rattle.dms_restore.specs.Logging as logs
-use Rattle.dms_restore.specs.Logging.{telling, points, LogRuns, IsSilent}
+use Rattle.dms_restore.specs.Logging.{telling, points, LogRuns, PrintsNothing}
 use Rattle.dms_wal.specs.declared.running.Running.{Running}
 use Rattle.dms_wal.specs.Database.{held, view_of, uses_of, IsUsable}
 use Rattle.dms_wal.specs.Writing.{WritesBack}
@@ -29,7 +29,7 @@ module _ {S : Type 0} (g : Ghosts S) (stay : (s : S) → IsTrue g.tells → (x :
     (counts_now : (s : S) (t : ℕ) (x : Left) → t ≤ (g.clock s).now → Now (g.clock s) x → (g.clock s).left t x) (r : Running S) (u : IsUsable g r) where
   -- the least recently used block was written and given up
   module _ (p : Pool) (id : BlockId) (block : Block) (up : GivesUp id (framed block true) r.pool p) (l : Log S) (kind : telling (view_of g l) ≡ telling (view_of g r.log)) (said : g.said l.site ≡ g.said r.log.site)
-      (leaves : IsTrue g.tells → logs.Leaves (view_of g r.log) (view_of g l) (points (view_of g r.log)) (logs.next (view_of g r.log))) (silent : IsTrue g.tells → Steps IsSilent (g.clock r.log.site) (g.clock l.site)) where
+      (leaves : IsTrue g.tells → logs.LogLeaves (view_of g r.log) (view_of g l) (points (view_of g r.log)) (logs.next (view_of g r.log))) (silent : IsTrue g.tells → Steps PrintsNothing (g.clock r.log.site) (g.clock l.site)) where
     pub room_made : {T : Type 0} (x : T) → (IsTrue g.tells → LogRuns (view_of g l)) → (IsTrue g.tells → WritesBack (view_of g r.log) (view_of g l) id.file id.block block.0) → Looks 0 (Ok x) (held g r) (held g (record r { log = l; pool = p }))
     room_made x runs back = record {
       not_full = tt;
@@ -42,7 +42,7 @@ module _ {S : Type 0} (g : Ghosts S) (stay : (s : S) → IsTrue g.tells → (x :
 
   -- a call of the disk failed meanwhile
   pub disk_failed : {T : Type 0} (e : BlockFault) → e ≡ Disk → (p : Pool) (l : Log S) → telling (view_of g l) ≡ telling (view_of g r.log) → g.said l.site ≡ g.said r.log.site
-      → (IsTrue g.tells → logs.Leaves (view_of g r.log) (view_of g l) (points (view_of g r.log)) (logs.next (view_of g r.log))) → (IsTrue g.tells → Steps IsSilent (g.clock r.log.site) (g.clock l.site))
+      → (IsTrue g.tells → logs.LogLeaves (view_of g r.log) (view_of g l) (points (view_of g r.log)) (logs.next (view_of g r.log))) → (IsTrue g.tells → Steps PrintsNothing (g.clock r.log.site) (g.clock l.site))
       → Looks {T = T} 0 (Err e) (held g r) (held g (record r { log = l; pool = p; broken = true }))
   disk_failed {T = T} e is p l kind said leaves silent = subst (λ (f : BlockFault). Looks {T = T} 0 (Err f) (held g r) (held g (record r { log = l; pool = p; broken = true }))) (sym is) (record {
     not_full = tt;

@@ -14,12 +14,12 @@ use Rattle.dms_pool.specs.declared.pool.Pool.{Pool}
 use Rattle.dms_running.specs.Telling.{Telling}
 use Rattle.dms_running.specs.Standing.{MayRun}
 use Rattle.dms_running.specs.Running.{entries_now, content_now, IsChanged}
-use Rattle.dms_running.specs.Frames.{Frames, Holds}
+use Rattle.dms_running.specs.Frames.{Frames, FramesHold}
 use Rattle.dms_running.proofs.Appending.{now_runs}
 use Rattle.dms_running.proofs.Framed.{holds_same, holds_none}
 use Rattle.dms_running.proofs.MayRun.{live_quiet}
 use Rattle.dms_restore.specs.Logging as logs
-use Rattle.dms_restore.specs.Logging.{View, view, telling, state, content, entries, LogRuns, LogsNothing, LogsQuiet}
+use Rattle.dms_restore.specs.Logging.{LogView, view, telling, state, content, entries, LogRuns, LogsNothing, LogsQuiet}
 use Rattle.dms_restore.proofs.Logs as lemmas
 use Rattle.dms_restore.proofs.Logs.{Reads}
 use Rattle.dms_wal.specs.Database.{GoesWith, frames_of}
@@ -32,7 +32,7 @@ abbrev pub KeepsFiles : Left → Left → Type 0
 KeepsFiles old new = new.files ≡ old.files
 
 -- the log runs on
-pub runs_still : (a : View) (files : Files) (later : Clock Left) → files ≡ a.files → LogRuns a → Steps KeepsFiles a.clock later → LogRuns (view a.end a.first files later)
+pub runs_still : (a : LogView) (files : Files) (later : Clock Left) → files ≡ a.files → LogRuns a → Steps KeepsFiles a.clock later → LogRuns (view a.end a.first files later)
 runs_still a files later same r steps = subst (λ (f : Files). LogRuns (view a.end a.first f later)) (sym same) (record {
   ends = record {
     low = r.ends.low;
@@ -52,17 +52,17 @@ runs_still a files later same r steps = subst (λ (f : Files). LogRuns (view a.e
 })
 
 -- the frames go on with other files that tell the same
-pub holds_on : (a b : View) (frames : Frames) → telling b ≡ telling a → content b ≡ content a → stored_of b.files ≡ stored_of a.files → ((f k : ℕ) → IsChanged (telling a) (state a) f k → IsChanged (telling a) (state b) f k)
-    → Holds (telling a) (state a) frames → Holds (telling b) (state b) frames
+pub holds_on : (a b : LogView) (frames : Frames) → telling b ≡ telling a → content b ≡ content a → stored_of b.files ≡ stored_of a.files → ((f k : ℕ) → IsChanged (telling a) (state a) f k → IsChanged (telling a) (state b) f k)
+    → FramesHold (telling a) (state a) frames → FramesHold (telling b) (state b) frames
 holds_on a b frames same contents blocks changes h =
-    subst (λ (t : Telling). Holds t (state b) frames) (sym same) (holds_same (telling a) (state a) (state b) frames h (ap (λ (t : Telling). content_now t (state b)) (sym same) ∙ contents) blocks changes)
+    subst (λ (t : Telling). FramesHold t (state b) frames) (sym same) (holds_same (telling a) (state a) (state b) frames h (ap (λ (t : Telling). content_now t (state b)) (sym same) ∙ contents) blocks changes)
 
-pub changed_same : (a b : View) → telling b ≡ telling a → entries b ≡ entries a → (f k : ℕ) → IsChanged (telling a) (state a) f k → IsChanged (telling a) (state b) f k
+pub changed_same : (a b : LogView) → telling b ≡ telling a → entries b ≡ entries a → (f k : ℕ) → IsChanged (telling a) (state a) f k → IsChanged (telling a) (state b) f k
 changed_same a b same all f k changed none =
     changed (ap (λ (l : List Entry). last_after f k (after_last is_control (live_of l))) (sym (ap (λ (t : Telling). entries_now t (state b)) (sym same) ∙ all)) ∙ none)
 
 module _ (pool : Pool) (next : ℕ) (counts : List ℕ) where
-  pub goes_still : (a : View) (files : Files) (later : Clock Left) → files ≡ a.files → Steps KeepsFiles a.clock later → GoesWith a pool next counts → GoesWith (view a.end a.first files later) pool next counts
+  pub goes_still : (a : LogView) (files : Files) (later : Clock Left) → files ≡ a.files → Steps KeepsFiles a.clock later → GoesWith a pool next counts → GoesWith (view a.end a.first files later) pool next counts
   goes_still a files later same steps g = subst (λ (f : Files). GoesWith (view a.end a.first f later) pool next counts) (sym same) (record {
     runs = runs_still a a.files later refl g.runs steps;
     holds = holds_on a (view a.end a.first a.files later) (frames_of pool) refl refl refl (λ f k changed. changed) g.holds;
@@ -71,7 +71,7 @@ module _ (pool : Pool) (next : ℕ) (counts : List ℕ) where
   })
 
   -- what waits was sealed
-  pub goes_sealed : (a b : View) → telling b ≡ telling a → LogRuns b → LogsNothing a b → GoesWith a pool next counts → GoesWith b pool next counts
+  pub goes_sealed : (a b : LogView) → telling b ≡ telling a → LogRuns b → LogsNothing a b → GoesWith a pool next counts → GoesWith b pool next counts
   goes_sealed a b same runs s g = record {
     runs = runs;
     holds = holds_on a b (frames_of pool) same s.content_same s.blocks_same (changed_same a b same s.entries_same) g.holds;
@@ -80,7 +80,7 @@ module _ (pool : Pool) (next : ℕ) (counts : List ℕ) where
   }
 
   -- a quiet point was made
-  module _ (a b : View) (same : telling b ≡ telling a) (g : GoesWith a pool next counts) (read : Reads a) (s : LogsQuiet a b) (room : next + 1 < 2 ^ 64) where
+  module _ (a b : LogView) (same : telling b ≡ telling a) (g : GoesWith a pool next counts) (read : Reads a) (s : LogsQuiet a b) (room : next + 1 < 2 ^ 64) where
     may : MayRun (telling a).first (entries a) ((telling a).dumps a.files) g.runs.runs.base (stored_of a.files)
     may = now_runs (telling a) (lemmas.tells a g.runs read) (state a) g.runs.runs read
 
@@ -102,7 +102,7 @@ module _ (pool : Pool) (next : ℕ) (counts : List ℕ) where
     }
 
   -- no block is in memory, and all stand
-  pub goes_first : (a : View) (n : ℕ) → IsEmpty n pool → StartsFrom a next counts → GoesWith a pool next counts
+  pub goes_first : (a : LogView) (n : ℕ) → IsEmpty n pool → StartsFrom a next counts → GoesWith a pool next counts
   goes_first a n empty s = record {
     runs = s.runs;
     holds = holds_like (telling a) (state a) (λ f b. None) (frames_of pool) (frames_empty n pool empty) (holds_none (telling a) (state a) s.written);

@@ -7,7 +7,7 @@ use Rattle.dms_site.specs.Files.{Files, Left, PrintsPartOf}
 use Rattle.dms_block.specs.Held.{BlocksAgree, IfTold, Leaves, LeavesText, MadeDurable, MadeQuiet, MakesNoPoint, Stays}
 use Rattle.dms_restore.specs.declared.log.Log.{Log}
 use Rattle.dms_restore.specs.Logging as logs
-use Rattle.dms_restore.specs.Logging.{telling_of, telling, view, points, durable, here, LogRuns, IsSilent, LogsNothing, LogsQuiet}
+use Rattle.dms_restore.specs.Logging.{telling_of, telling, view, points, durable, here, LogRuns, PrintsNothing, LogsNothing, LogsQuiet}
 use Rattle.dms_wal.specs.declared.running.Running.{Running}
 use Rattle.dms_wal.specs.Database.{held, view_of, said_of, faults_of, uses_of, IsUsable}
 use Rattle.dms_wal.proofs.Lifts.{agrees_by, passes_by, stays_by, surer}
@@ -42,14 +42,14 @@ module _ {S : Type 0} (g : Ghosts S) (stay : (s : S) → IsTrue g.tells → (x :
         sync_made g.tells (IsUsable g r) (IsUsable g r') (view_of g r.log) (view_of g l) r.schema.items r.next r.counts.items (said_of g r.log) (said_of g l) (faults_of g r) (faults_of g r') (uses_of g r) (uses_of g r')
         (usable_sealed n runs nothing) nothing all
 
-    pub sync_passes : (b : Bool) (n : ℕ) → g.said l.site ≡ g.said r.log.site → (IsTrue g.tells → logs.Leaves (view_of g r.log) (view_of g l) (points (view_of g r.log)) (logs.next (view_of g r.log)))
-        → (IsTrue g.tells → Steps IsSilent (g.clock r.log.site) (g.clock l.site)) → MakesNoPoint (held g r) (held g (record r { log = l; broken = b; syncs = n }))
+    pub sync_passes : (b : Bool) (n : ℕ) → g.said l.site ≡ g.said r.log.site → (IsTrue g.tells → logs.LogLeaves (view_of g r.log) (view_of g l) (points (view_of g r.log)) (logs.next (view_of g r.log)))
+        → (IsTrue g.tells → Steps PrintsNothing (g.clock r.log.site) (g.clock l.site)) → MakesNoPoint (held g r) (held g (record r { log = l; broken = b; syncs = n }))
     sync_passes b n said leaves silent =
         let r' : Running S = record r { log = l; broken = b; syncs = n } in
         passes_by g.tells (IsUsable g r) (IsUsable g r') (view_of g r.log) (view_of g l) r.schema.items r.next r.next r.counts.items r.counts.items (said_of g r.log) (said_of g l) (faults_of g r) (faults_of g r') (uses_of g r) (uses_of g r')
         kind refl refl (ap (λ (s : List ℕ). cond g.tells_said (Some s) None) said) (λ t. (u.goes t).numbered) (text g now_said r.schema.items r.log) leaves silent
 
-    module _ (leaves : IsTrue g.tells → logs.Leaves (view_of g r.log) (view_of g l) (points (view_of g r.log) ++ here (view_of g r.log) ∷ []) (logs.next (view_of g r.log) + 1)) where
+    module _ (leaves : IsTrue g.tells → logs.LogLeaves (view_of g r.log) (view_of g l) (points (view_of g r.log) ++ here (view_of g r.log) ∷ []) (logs.next (view_of g r.log) + 1)) where
       pub quiet_done : (next : ℕ) → next ≡ r.next + 1 → next < 2 ^ 64 → (IsTrue g.tells → LogRuns (view_of g l)) → (IsTrue g.tells → LogsQuiet (view_of g r.log) (view_of g l)) → MadeQuiet (held g r) (held g (record r { log = l; next = next }))
       quiet_done next is room runs quiets = subst (λ n. MadeQuiet (held g r) (held g (record r { log = l; next = n }))) (sym is) (
           let r' : Running S = record r { log = l; next = r.next + 1 } in
@@ -62,7 +62,7 @@ module _ {S : Type 0} (g : Ghosts S) (stay : (s : S) → IsTrue g.tells → (x :
           }) quiets
           (λ t. surer (view_of g r.log) (view_of g l) kind (u.goes t).runs (stay r.log.site t) (stay l.site t) (counts_now l.site) (points (view_of g r.log) ++ here (view_of g r.log) ∷ []) (logs.next (view_of g r.log) + 1) (leaves t)))
 
-      pub quiet_left : (b : Bool) (full next : ℕ) → (IsTrue g.tells → Steps IsSilent (g.clock r.log.site) (g.clock l.site))
+      pub quiet_left : (b : Bool) (full next : ℕ) → (IsTrue g.tells → Steps PrintsNothing (g.clock r.log.site) (g.clock l.site))
           → IfTold (held g r) (Leaves (held g r) (held g (record r { log = l; broken = b; full = full; next = next })) ((held g r).points ++ (held g r).here ∷ []) (r.next + 1))
       quiet_left b full next silent =
           let r' : Running S = record r { log = l; broken = b; full = full; next = next } in

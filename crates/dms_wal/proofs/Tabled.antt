@@ -4,7 +4,7 @@ use Rattle.std.proofs.lemmas.Bool.{cases_lt, cases_eq}
 use Rattle.std.proofs.lemmas.Bool.Decides.{nat_tests}
 use Rattle.std.proofs.lemmas.List.{get_or-set_same, get_or-set_other}
 use Rattle.dms_block.specs.Content.{limit, raised}
-use Rattle.dms_wal.specs.Lifting.{count_of, owns_of, IsTable}
+use Rattle.dms_wal.specs.Lifting.{count_of, owns_of, AreCounts}
 
 pub count_at : (l : List ℕ) (f : ℕ) → 30000 < f → count_of l f ≡ get_or l (f - 30001) 0
 count_at l f structure = grind (arith, nat_tests, structure)
@@ -57,7 +57,7 @@ raised_cases c f b g low small = elim (cases_eq g f) [
 ]
 
 -- the table stays one
-pub raised_table : (l m : List ℕ) (f b : ℕ) → IsTable l → b < limit → count_of m ≡ raised (count_of l) f b → length m ≡ length l → IsTable m
+pub raised_table : (l m : List ℕ) (f b : ℕ) → AreCounts l → b < limit → count_of m ≡ raised (count_of l) f b → length m ≡ length l → AreCounts m
 raised_table l m f b t low is many = record {
   few = omega (arith, many, t.few);
   small = λ g. omega (arith, ap (λ (c : ℕ → ℕ). c g) is, raised_cases (count_of l) f b g low (t.small g));

@@ -8,12 +8,12 @@ use Rattle.dms_block.specs.Held.{Held, Uses}
 use Rattle.dms_pool.specs.declared.frame.Frame as pools
 use Rattle.dms_pool.specs.declared.pool.Pool.{Pool}
 use Rattle.dms_pool.specs.Held.{frame_of}
-use Rattle.dms_running.specs.Frames.{Frame, Frames, Holds}
+use Rattle.dms_running.specs.Frames.{Frame, Frames, FramesHold}
 use Rattle.dms_restore.specs.declared.log.Log.{Log}
 use Rattle.dms_restore.specs.Logging as logs
-use Rattle.dms_restore.specs.Logging.{View, view, telling, state, LogRuns, content}
+use Rattle.dms_restore.specs.Logging.{LogView, view, telling, state, LogRuns, content}
 use Rattle.dms_wal.specs.declared.running.Running.{Running}
-use Rattle.dms_wal.specs.Lifting.{IsTable, count_of, held_of}
+use Rattle.dms_wal.specs.Lifting.{AreCounts, count_of, held_of}
 
 -- a frame of the pool, as its bytes and whether they are to be written
 abbrev pub frame_seen : pools.Frame → Frame
@@ -25,9 +25,9 @@ frames_of pool f b = option_map frame_seen (frame_of (record { file = f; block =
 
 -- What is kept in memory goes with the log: the database runs, the frames go with its files and content, and the next number and the
 -- counts are those of the log.
-pub record GoesWith (v : View) (pool : Pool) (next : ℕ) (counts : List ℕ) : Type 0 where
+pub record GoesWith (v : LogView) (pool : Pool) (next : ℕ) (counts : List ℕ) : Type 0 where
   pub runs : LogRuns v
-  pub holds : Holds (telling v) (state v) (frames_of pool)
+  pub holds : FramesHold (telling v) (state v) (frames_of pool)
   pub numbered : next ≡ logs.next v
   pub counted : (f : ℕ) → count_of counts f ≡ length (content v f)
 
@@ -37,7 +37,7 @@ HoldsCounted pool counts = (id : BlockId) (x : pools.Frame) → frame_of id pool
 
 module _ {S : Type 0} (g : Ghosts S) where
   -- a log over what its site tells
-  abbrev pub view_of : Log S → View
+  abbrev pub view_of : Log S → LogView
   view_of log = view log.end log.first (g.files log.site) (g.clock log.site)
 
   -- the text so far, where the site tells it
@@ -47,7 +47,7 @@ module _ {S : Type 0} (g : Ghosts S) where
   -- No call failed, what is kept in memory is in bounds, and where the site tells its files it goes with the log.
   pub record IsUsable (r : Running S) : Type 0 where
     pub unbroken : r.broken ≡ false
-    pub table : IsTable r.counts.items
+    pub table : AreCounts r.counts.items
     pub counted : HoldsCounted r.pool r.counts.items
     pub goes : IsTrue g.tells → GoesWith (view_of r.log) r.pool r.next r.counts.items
 

@@ -10,7 +10,7 @@ use Rattle.dms_history.specs.Points.{LivePoint}
 use Rattle.dms_running.specs.Telling.{Telling}
 use Rattle.dms_running.specs.Standing.{IsWhole}
 use Rattle.dms_running.specs.Points.{points_of, next_in}
-use Rattle.dms_restore.specs.Logging.{View, telling, points, durable, here, content}
+use Rattle.dms_restore.specs.Logging.{LogView, telling, points, durable, here, content}
 
 -- a point that stands under these bytes of a description
 abbrev pub point_under : List ℕ → LivePoint → BlockPoint
@@ -37,12 +37,12 @@ abbrev pub owns_of : List ℕ → ℕ → Bool
 owns_of counts f = nat_lt 30000 f && nat_le f (30000 + length counts)
 
 -- A table of at most 200 files, none of more blocks than may be.
-pub record IsTable (counts : List ℕ) : Type 0 where
+pub record AreCounts (counts : List ℕ) : Type 0 where
   pub few : length counts ≤ 200
   pub small : (f : ℕ) → count_of counts f ≤ limit
 
 -- What a running database tells of its blocks: all of its log, where the site tells its files, and the table of counts in any case.
-abbrev pub held_of : Bool → Type 0 → View → List ℕ → ℕ → List ℕ → Option (List ℕ) → Faults → Uses → Held
+abbrev pub held_of : Bool → Type 0 → LogView → List ℕ → ℕ → List ℕ → Option (List ℕ) → Faults → Uses → Held
 held_of tells sound v schema next counts said faults uses = record {
   told = tells;
   tells = IsTrue tells;

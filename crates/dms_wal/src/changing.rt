@@ -6,7 +6,7 @@ ghost use Rattle.dms_base.specs.Causes.{HasCause};
 ghost use Rattle.dms_moments.specs.Moments.{Steps};
 ghost use Rattle.dms_block.specs.Content.{changed, grown, limit, raised, FitsIn};
 ghost use Rattle.dms_block.specs.Held.{Alters, HasCauses, Looks};
-ghost use Rattle.dms_restore.specs.Logging.{telling, points, next, IsSilent, Leaves};
+ghost use Rattle.dms_restore.specs.Logging.{telling, points, next, PrintsNothing, LogLeaves};
 ghost use Rattle.dms_wal.specs.Lifting.{count_of, owns_of};
 ghost use Rattle.dms_wal.specs.Database.{held, view_of, HoldsCounted};
 ghost use Rattle.dms_wal.specs.Faults.{StandsFull};
@@ -56,8 +56,8 @@ fn keep<S: Site>(
     requires imaged { IsTrue S.tells → IsImaged (view_of S.Site log.old) pool.old id.file id.block block.now.0 }
     ensures kept { OnOk result (IsTrue S.tells → KeepsLog (view_of S.Site log.old) (view_of S.Site log.new) pool.new) }
     ensures counted { (counts : _) → HoldsCounted pool.old counts → id.block < count_of counts id.file → HoldsCounted pool.new counts }
-    ensures moments { IsTrue S.tells → let a = view_of S.Site log.old in Leaves a (view_of S.Site log.new) (points a) (next a) }
-    ensures silent { IsTrue S.tells → Steps IsSilent (S.clock log.old.site) (S.clock log.new.site) }
+    ensures moments { IsTrue S.tells → let a = view_of S.Site log.old in LogLeaves a (view_of S.Site log.new) (points a) (next a) }
+    ensures silent { IsTrue S.tells → Steps PrintsNothing (S.clock log.old.site) (S.clock log.new.site) }
     ensures kind { telling (view_of S.Site log.new) ≡ telling (view_of S.Site log.old) }
     ensures only { IfErr result (λ e. e ≡ BlockFault.Disk) }
     ensures said { S.said log.new.site ≡ S.said log.old.site }

@@ -6,7 +6,7 @@ ghost use Rattle.dms_moments.specs.Moments.{Steps};
 ghost use Rattle.dms_block.specs.Content.{block_in, limit};
 ghost use Rattle.dms_block.specs.Held.{HasCauses, Looks};
 ghost use Rattle.dms_pool.specs.Held.{frame_of};
-ghost use Rattle.dms_restore.specs.Logging.{telling, points, next, content, Changed, IsSilent, Leaves, LogRuns};
+ghost use Rattle.dms_restore.specs.Logging.{telling, points, next, content, IsChangedBlock, PrintsNothing, LogLeaves, LogRuns};
 ghost use Rattle.dms_wal.specs.Database.{held, view_of};
 ghost use Rattle.dms_wal.specs.Writing.{WritesBack};
 
@@ -24,12 +24,12 @@ pub(crate) fn write_back<S: Site>(
     requires runs { IsTrue S.tells → LogRuns (view_of S.Site log.old) }
     requires structure { 30000 < id.file }
     requires place { id.block < limit }
-    requires changed { IsTrue S.tells → Changed (view_of S.Site log.old) id.file id.block }
+    requires changed { IsTrue S.tells → IsChangedBlock (view_of S.Site log.old) id.file id.block }
     requires block { IsTrue S.tells → block_in (content (view_of S.Site log.old)) id.file id.block ≡ block.now.0 }
     ensures runs { OnOk result (IsTrue S.tells → LogRuns (view_of S.Site log.new)) }
     ensures back { OnOk result (IsTrue S.tells → WritesBack (view_of S.Site log.old) (view_of S.Site log.new) id.file id.block block.now.0) }
-    ensures moments { IsTrue S.tells → let a = view_of S.Site log.old in Leaves a (view_of S.Site log.new) (points a) (next a) }
-    ensures silent { IsTrue S.tells → Steps IsSilent (S.clock log.old.site) (S.clock log.new.site) }
+    ensures moments { IsTrue S.tells → let a = view_of S.Site log.old in LogLeaves a (view_of S.Site log.new) (points a) (next a) }
+    ensures silent { IsTrue S.tells → Steps PrintsNothing (S.clock log.old.site) (S.clock log.new.site) }
     ensures kind { telling (view_of S.Site log.new) ≡ telling (view_of S.Site log.old) }
     ensures only { IfErr result (λ e. e ≡ BlockFault.Disk) }
     ensures said { S.said log.new.site ≡ S.said log.old.site }

@@ -2,7 +2,7 @@
 
 ghost use Rattle.std.specs.Prelude.{◌≡◌, ◌<◌, IfErr, IfOk, IsTrue};
 ghost use Rattle.dms_block.specs.Held.{BlocksAgree};
-ghost use Rattle.dms_wal.specs.Lifting.{IsTable};
+ghost use Rattle.dms_wal.specs.Lifting.{AreCounts};
 ghost use Rattle.dms_wal.specs.Database.{IsUsable, held, view_of};
 ghost use Rattle.dms_wal.specs.Starting.{StartsFrom};
 
@@ -46,7 +46,7 @@ impl<S: Site> Running<S> {
         frames: u32,
     ) -> Result<Running<S>, (Memory, Log<S>)>
         requires frames { 0 < frames }
-        requires table { IsTable counts.items }
+        requires table { AreCounts counts.items }
         ensures usable { IfOk result (λ r. (IsTrue S.tells → StartsFrom (view_of S.Site log) next counts.items) → IsUsable S.Site r) }
         ensures log { IfOk result (λ r. r.log ≡ log) }
         ensures log_back { IfErr result (λ e. e.1 ≡ log) }

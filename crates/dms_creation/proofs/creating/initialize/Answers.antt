@@ -3,7 +3,7 @@ use Rattle.dms_site.specs.Files.{Files}
 use Rattle.dms_desc.specs.Shape.{described}
 use Rattle.dms_creation.specs.declared.fault.CreationFault.TheVariants.{NoDescription}
 use Rattle.dms_creation.specs.Creation.{IsMade}
-use Rattle.dms_creation.specs.Plans.{Planned, HasShutDatabaseGate}
+use Rattle.dms_creation.specs.Plans.{IsPlanOf, HasShutDatabaseGate}
 use Rattle.dms_creation.proofs.Making.{blocks_range, few_kept, sealed_long, planned_by, initializes_after}
 use Rattle.dms_creation.proofs.creating.initialize.Goals as goal
 
@@ -22,7 +22,7 @@ pub returns-in-Ok-make-clause-moments : goal.returns-in-Ok-make-clause-moments
 returns-in-Ok-make-clause-moments g c tells d sealed =
     let files = g.S.Site.files c.args.site.now in
     let same = c.in-Ok.ensures.files tells in
-    let planned : Planned c.in-Ok-make_plan.made d = planned_by _ c.in-Ok-make_plan.made c.in-Ok.desc d sealed (c.in-Ok.ensures.sealed tells) c.in-Ok-make_plan.ensures.bytes c.in-Ok-make_plan.ensures.kind.0 c.in-Ok-make_plan.ensures.counts in
+    let planned : IsPlanOf c.in-Ok-make_plan.made d = planned_by _ c.in-Ok-make_plan.made c.in-Ok.desc d sealed (c.in-Ok.ensures.sealed tells) c.in-Ok-make_plan.ensures.bytes c.in-Ok-make_plan.ensures.kind.0 c.in-Ok-make_plan.ensures.counts in
     let room : HasShutDatabaseGate (files 1) = record { long = sealed_long _ d sealed; shut = c.in-Ok.ensures.shut tells } in
     initializes_after _ c.args.tag d files _ _ _ _ c.in-Ok-make_plan.ensures.kind.1 same c.description_without_database.ensures.moments (λ there. c.make.ensures.moments tells d planned there) room
 
@@ -30,13 +30,13 @@ pub returns-clause-moments : goal.returns-clause-moments
 returns-clause-moments g c tells d sealed =
     let files = g.S.Site.files c.args.site.now in
     let same = c.in-Ok.ensures.files tells in
-    let planned : Planned c.in-Ok-make_plan.made d = planned_by _ c.in-Ok-make_plan.made c.in-Ok.desc d sealed (c.in-Ok.ensures.sealed tells) c.in-Ok-make_plan.ensures.bytes c.in-Ok-make_plan.ensures.kind.0 c.in-Ok-make_plan.ensures.counts in
+    let planned : IsPlanOf c.in-Ok-make_plan.made d = planned_by _ c.in-Ok-make_plan.made c.in-Ok.desc d sealed (c.in-Ok.ensures.sealed tells) c.in-Ok-make_plan.ensures.bytes c.in-Ok-make_plan.ensures.kind.0 c.in-Ok-make_plan.ensures.counts in
     let room : HasShutDatabaseGate (files 1) = record { long = sealed_long _ d sealed; shut = c.in-Ok.ensures.shut tells } in
     initializes_after _ c.args.tag d files _ _ _ _ c.in-Ok-make_plan.ensures.kind.1 same c.description_without_database.ensures.moments (λ there. c.make.ensures.moments tells d planned there) room
 
 pub returns-in-Ok-make-clause-made : goal.returns-in-Ok-make-clause-made
 returns-in-Ok-make-clause-made g c tells d sealed =
     let same = c.in-Ok.ensures.files tells in
-    let planned : Planned c.in-Ok-make_plan.made d = planned_by _ c.in-Ok-make_plan.made c.in-Ok.desc d sealed (c.in-Ok.ensures.sealed tells) c.in-Ok-make_plan.ensures.bytes c.in-Ok-make_plan.ensures.kind.0 c.in-Ok-make_plan.ensures.counts in
+    let planned : IsPlanOf c.in-Ok-make_plan.made d = planned_by _ c.in-Ok-make_plan.made c.in-Ok.desc d sealed (c.in-Ok.ensures.sealed tells) c.in-Ok-make_plan.ensures.bytes c.in-Ok-make_plan.ensures.kind.0 c.in-Ok-make_plan.ensures.counts in
     let after = g.S.Site.files c.make.new.site in
     subst (λ (l : Files). IsMade c.args.tag d l after) same (subst (λ (t : ℕ). IsMade t d (g.S.Site.files c.description_without_database.new.site) after) c.in-Ok-make_plan.ensures.kind.1 (c.in-Ok-make.ensures.made tells d planned))

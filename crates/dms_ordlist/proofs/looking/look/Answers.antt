@@ -4,8 +4,8 @@ use Rattle.dms_block.specs.HeldLaws.{told_after}
 use Rattle.dms_block.specs.View.{seen, under}
 use Rattle.dms_block.specs.ViewLaws.{counts_seen}
 use Rattle.dms_ordlist.specs.declared.place.Look.{Look}
-use Rattle.dms_ordlist.specs.declared.place.Place.{Place}
-use Rattle.dms_ordlist.specs.declared.spelling.Head.{Head}
+use Rattle.dms_ordlist.specs.declared.place.ListPlace.{ListPlace}
+use Rattle.dms_ordlist.specs.declared.spelling.ListHead.{ListHead}
 use Rattle.dms_ordlist.specs.Linked.{BlockChain}
 use Rattle.dms_ordlist.specs.ListBlocks.{head_in, leaf_in}
 use Rattle.dms_ordlist.specs.Looks.{look_empty, look_none, look_place, no_chain, no_head}
@@ -24,7 +24,7 @@ pub returns-in-Err-clause-causes : goal.returns-in-Err-clause-causes
 returns-in-Err-clause-causes g c =
     let o = c.args.over.now in
     let w = length c.args.bytes.now in
-    causes_err Head Look (NotAt head_in o c.args.file 0) (NoList o c.args.file w) c.in-Err.fault (under o) (under c.read_head.new.over)
+    causes_err ListHead Look (NotAt head_in o c.args.file 0) (NoList o c.args.file w) c.in-Err.fault (under o) (under c.read_head.new.over)
     (λ f k h. (
       h.0,
       h.1,
@@ -70,4 +70,4 @@ returns-in-Err-reach-clause-causes g c =
           (λ ls chain head le. h.2 (told_after reads.looks.passes.lasts told) ls (subst (λ (l : List (List ℕ)). BlockChain (leaf_in w) (slice_get l) ls 0) (sym still) chain) head (omega (arith, le, n, counts))),
     ))
     c.in-Ok.ensures.causes reads
-    (causes_err Place Look (NoChain w b file c.in-Ok.head.first) (NoChain w b file c.in-Ok.head.first) c.in-Err-reach.fault (under b) (under c.reach.new.over) (λ f k h. h) c.in-Err-reach.ensures.causes)
+    (causes_err ListPlace Look (NoChain w b file c.in-Ok.head.first) (NoChain w b file c.in-Ok.head.first) c.in-Err-reach.fault (under b) (under c.reach.new.over) (λ f k h. h) c.in-Err-reach.ensures.causes)

@@ -3,7 +3,7 @@ use Rattle.std.specs.declared.result.Result.TheVariants.{Ok, Err}
 use Rattle.dms_block.specs.HeldLaws.{told_after}
 use Rattle.dms_block.specs.View.{under}
 use Rattle.dms_block.specs.ViewLaws.{reads_as, reads_on}
-use Rattle.dms_ordlist.specs.declared.place.Place.{Place}
+use Rattle.dms_ordlist.specs.declared.place.ListPlace.{ListPlace}
 use Rattle.dms_ordlist.specs.declared.spelling.LeafBlock.{LeafBlock}
 use Rattle.dms_ordlist.specs.Leads.{lead}
 use Rattle.dms_ordlist.specs.Linked.{said_by}
@@ -22,7 +22,7 @@ returns-in-Err-clause-causes g c =
     let file = c.args.file in
     let at = c.loop-turn.at in
     let w = c.args.width in
-    causes_since {U = Place} (NotAt (leaf_in w) b file at) (NoChain w a file c.args.first) (Err c.in-Err.fault) a b d
+    causes_since {U = ListPlace} (NotAt (leaf_in w) b file at) (NoChain w a file c.args.first) (Err c.in-Err.fault) a b d
     (λ f n h.
     let was = not_at_since (leaf_in w) a b file at before.reads f n h in (
       was.0,
@@ -31,7 +31,7 @@ returns-in-Err-clause-causes g c =
           walked_there c.args.bytes.now ls w (look a file) chain c.loop-turn.before c.loop-turn._turn at (before.walked told ls chain head) (λ e. absurd (omega (arith, e, before.some))) (was.2 told),
     ))
     before.faults before.reads
-    (causes_err LeafBlock Place (NotAt (leaf_in w) b file at) (NotAt (leaf_in w) b file at) c.in-Err.fault (under b) (under d) (λ f n h. h) c.in-Err.ensures.causes)
+    (causes_err LeafBlock ListPlace (NotAt (leaf_in w) b file at) (NotAt (leaf_in w) b file at) c.in-Err.fault (under b) (under d) (λ f n h. h) c.in-Err.ensures.causes)
 
 pub returns-then-leaf-eq0-clause-place : goal.returns-then-leaf-eq0-clause-place
 returns-then-leaf-eq0-clause-place g c told ls chain head =

@@ -1,13 +1,13 @@
 use Rattle.std.proofs.Common.{◌≡◌, IsTrue, ℕ, take}
 use Rattle.dms_history.specs.Schemas.{schema_entries}
 use Rattle.dms_history.specs.Plain.{blocks_seen}
-use Rattle.dms_restore.specs.Laying.{Starts, LaysEnd}
+use Rattle.dms_restore.specs.Laying.{IsAtStart, LaysEnd}
 use Rattle.dms_restore.proofs.laying.lay_parts.Given as goal
 
 abbrev pub invariant-loop-number : goal.invariant-loop-number
 invariant-loop-number g l = record {
   kind : (l.end.total ≡ l.fn.end.total) × (l.end.tag ≡ l.fn.end.tag) × (l.end.limit ≡ l.fn.end.limit);
-  laid : (first : ℕ) → IsTrue g.S.Site.tells → Starts l.fn.end first (g.S.Site.files l.fn.site) (g.S.Site.clock l.fn.site)
+  laid : (first : ℕ) → IsTrue g.S.Site.tells → IsAtStart l.fn.end first (g.S.Site.files l.fn.site) (g.S.Site.clock l.fn.site)
       → LaysEnd l.fn.end.total l.end first (take l.number (schema_entries (blocks_seen l.parts))) (g.S.Site.files l.fn.site) (g.S.Site.clock l.fn.site) (g.S.Site.files l.site) (g.S.Site.clock l.site);
   said : g.S.Site.said l.site ≡ g.S.Site.said l.fn.site;
   same : g.S.Site.same_site l.fn.site l.site;

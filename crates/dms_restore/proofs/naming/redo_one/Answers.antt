@@ -4,7 +4,7 @@ use Rattle.dms_history.specs.Events.{Block}
 use Rattle.dms_history.specs.Images.{last_after}
 use Rattle.dms_restore.specs.declared.live.LiveEntry.{LiveEntry}
 use Rattle.dms_restore.specs.LiveEntries.{event_at}
-use Rattle.dms_restore.specs.Named.{named, IsSpotOf}
+use Rattle.dms_restore.specs.Named.{named, IsImageSpot}
 use Rattle.dms_restore.proofs.Results.{one_ok}
 use Rattle.dms_restore.proofs.Spots.{IsNoImage, redo_more, last_other}
 use Rattle.dms_restore.proofs.naming.redo_one.Goals as goal
@@ -23,7 +23,7 @@ returns-in-Controlled-clause-names c files f b es is = is ∙ ap (option_map (λ
 pub returns-in-Changed-clause-from : goal.returns-in-Changed-clause-from
 returns-in-Changed-clause-from c = one_ok c.note_after.result c.note_after.ensures.from (λ from f b s is. elim (from f b s is) [
   | inl old ↦ inl old
-  | inr this ↦ inr (subst (λ (e : LiveEntry). IsSpotOf e f b s) (sym c.in-Changed.is) this)
+  | inr this ↦ inr (subst (λ (e : LiveEntry). IsImageSpot e f b s) (sym c.in-Changed.is) this)
 ])
 
 pub returns-in-Quiet-clause-from : goal.returns-in-Quiet-clause-from

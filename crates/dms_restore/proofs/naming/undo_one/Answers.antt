@@ -2,7 +2,7 @@ use Rattle.std.proofs.Common.{inl, inr, ◌≡◌, [], ◌∷◌, ◌++◌, sym,
 use Rattle.dms_history.specs.Images.{or_else, first_before}
 use Rattle.dms_restore.specs.declared.live.LiveEntry.{LiveEntry}
 use Rattle.dms_restore.specs.LiveEntries.{event_at}
-use Rattle.dms_restore.specs.Named.{named, IsSpotOf}
+use Rattle.dms_restore.specs.Named.{named, IsImageSpot}
 use Rattle.dms_restore.proofs.Results.{one_ok}
 use Rattle.dms_restore.proofs.Spots.{IsNoImage, undo_more, first_other}
 use Rattle.dms_restore.proofs.naming.undo_one.Goals as goal
@@ -21,7 +21,7 @@ returns-in-Controlled-clause-names c files f b start es is = is ∙ ap (or_else 
 pub returns-in-Changed-clause-from : goal.returns-in-Changed-clause-from
 returns-in-Changed-clause-from c = one_ok c.note_before.result c.note_before.ensures.from (λ from f b s is. elim (from f b s is) [
   | inl old ↦ inl old
-  | inr this ↦ inr (subst (λ (e : LiveEntry). IsSpotOf e f b s) (sym c.in-Changed.is) this)
+  | inr this ↦ inr (subst (λ (e : LiveEntry). IsImageSpot e f b s) (sym c.in-Changed.is) this)
 ])
 
 pub returns-in-Quiet-clause-from : goal.returns-in-Quiet-clause-from

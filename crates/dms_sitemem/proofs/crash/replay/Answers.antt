@@ -2,7 +2,7 @@ use Rattle.std.proofs.Common.{◌∙◌, ap, sym, ℕ, List, ◌≡◌, length, 
 use Rattle.std.proofs.lemmas.Option.{slice_get_read}
 use Rattle.dms_site.specs.Files.{Files}
 use Rattle.dms_sitemem.specs.Events.{files_after, said_after}
-use Rattle.dms_sitemem.specs.Replay.{State, state_of}
+use Rattle.dms_sitemem.specs.Replay.{Replayed, state_of}
 use Rattle.dms_sitemem.proofs.Crashes.{state_take}
 use Rattle.dms_sitemem.proofs.crash.replay.Goals as goal
 
@@ -18,6 +18,6 @@ loop-place-preserved c =
     let was = c.loop-place.invariant in
     let step = state_take c.args.events.now c.loop-place.place event read in
     record {
-      files = c.in_ok-apply.ensures.files ∙ ap (λ (l : Files). files_after event l) was.files ∙ ap (λ (s : State). s.files) (sym step);
-      said = c.in_ok-apply.ensures.said ∙ ap (λ (l : List ℕ). said_after event l) was.said ∙ ap (λ (s : State). s.said) (sym step);
+      files = c.in_ok-apply.ensures.files ∙ ap (λ (l : Files). files_after event l) was.files ∙ ap (λ (s : Replayed). s.files) (sym step);
+      said = c.in_ok-apply.ensures.said ∙ ap (λ (l : List ℕ). said_after event l) was.said ∙ ap (λ (s : Replayed). s.said) (sym step);
     }

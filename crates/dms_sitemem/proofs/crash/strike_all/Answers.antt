@@ -1,7 +1,7 @@
 use Rattle.std.proofs.Common.{ℕ, ◌≤◌, ◌≡◌, ◌∙◌, ap, sym, arith, List, take, length, refl, Some, slice_get}
 use Rattle.std.proofs.lemmas.Option.{slice_get_read}
 use Rattle.dms_sitemem.specs.Events.{said_after}
-use Rattle.dms_sitemem.specs.Replay.{State, state_of}
+use Rattle.dms_sitemem.specs.Replay.{Replayed, state_of}
 use Rattle.dms_sitemem.specs.Picks.{Struck}
 use Rattle.dms_sitemem.proofs.Crashes.{state_take, picked_start, struck_next}
 use Rattle.dms_sitemem.proofs.crash.strike_all.Goals as goal
@@ -30,5 +30,5 @@ loop-place-preserved c =
       from = omega (arith, was.from);
       files = c.in_ok-strike.ensures.files ∙ ap (λ (s : Struck). s.files) next;
       seed = c.in_ok-strike.ensures.seed ∙ ap (λ (s : Struck). s.seed) next;
-      said = c.in_ok-strike.ensures.said ∙ ap (λ (l : List ℕ). said_after event l) was.said ∙ ap (λ (s : State). s.said) (sym (state_take events p event read));
+      said = c.in_ok-strike.ensures.said ∙ ap (λ (l : List ℕ). said_after event l) was.said ∙ ap (λ (s : Replayed). s.said) (sym (state_take events p event read));
     }

@@ -7,7 +7,7 @@ use Rattle.dms_site.specs.Files.{Files, InFile, Cut, Same, padded}
 use Rattle.dms_site.specs.Laws.{in_file_same}
 use Rattle.dms_calls.specs.World.{World}
 use Rattle.dms_calls.specs.Seen.{seen, seen_clock}
-use Rattle.dms_folder.specs.declared.opened.Opened.{Opened}
+use Rattle.dms_folder.specs.declared.opened.OpenedFile.{OpenedFile}
 use Rattle.dms_calls.specs.Names.{name_of}
 use Rattle.dms_folder.specs.NameLaws.{name_inj}
 use Rattle.dms_folder.specs.Kept.{touched}
@@ -40,7 +40,7 @@ returns-then-branch-len-clause-cut g c = λ t.
     let r = c.index.result.now in
     let is_at : slice_get first place ≡ Some r = slice_get_read first (length first) place r refl (slice_get_within first place at.0 at.1) c.index.ensures in
     let same : r ≡ at.0 = same_Some r at.0 (sym is_at ∙ at.1) in
-    let number : r.number ≡ f = ap (λ (o : Opened g.row.C-Handle.Denot). o.number) same ∙ at.2 in
+    let number : r.number ≡ f = ap (λ (o : OpenedFile g.row.C-Handle.Denot). o.number) same ∙ at.2 in
     let v = g.C.Calls.world c.args.self.now.calls in
     let i = g.C.Calls.file r.file in
     let leads : IsTrue g.C.Calls.tells → v.names (name_of f) ≡ Some i = λ t. ap (λ (n : ℕ). v.names (name_of n)) (sym number) ∙ (c.requires.kept t).named place r is_at in
@@ -58,7 +58,7 @@ returns-clause-kept g c = λ t.
     let r = c.index.result.now in
     let is_at : slice_get first place ≡ Some r = slice_get_read first (length first) place r refl (slice_get_within first place at.0 at.1) c.index.ensures in
     let same : r ≡ at.0 = same_Some r at.0 (sym is_at ∙ at.1) in
-    let number : r.number ≡ f = ap (λ (o : Opened g.row.C-Handle.Denot). o.number) same ∙ at.2 in
+    let number : r.number ≡ f = ap (λ (o : OpenedFile g.row.C-Handle.Denot). o.number) same ∙ at.2 in
     let v = g.C.Calls.world c.args.self.now.calls in
     let i = g.C.Calls.file r.file in
     let leads : IsTrue g.C.Calls.tells → v.names (name_of f) ≡ Some i = λ t. ap (λ (n : ℕ). v.names (name_of n)) (sym number) ∙ (c.requires.kept t).named place r is_at in
@@ -69,18 +69,18 @@ returns-clause-kept g c = λ t.
     let here : slice_get opened place ≡ Some (touched at.0) = c.touch.ensures.marked at.0 at.1 in
     let there : slice_get opened place ≡ Some r' = slice_get_read opened (length opened) place r' refl (slice_get_within opened place (touched at.0) here) c.index-2.ensures in
     let same' : r' ≡ touched at.0 = same_Some r' (touched at.0) (sym there ∙ here) in
-    let number' : r'.number ≡ f = ap (λ (o : Opened g.row.C-Handle.Denot). o.number) same' ∙ at.2 in
+    let number' : r'.number ≡ f = ap (λ (o : OpenedFile g.row.C-Handle.Denot). o.number) same' ∙ at.2 in
     let calls = c.touch.new.self.calls in
     let w = g.C.Calls.world calls in
     let still : w ≡ v = ap (λ k. g.C.Calls.world k) c.touch.ensures.calls ∙ c.in_ok-size.ensures.world in
     let i' = g.C.Calls.file r'.file in
-    let one_file : i ≡ i' = ap (λ (o : Opened g.row.C-Handle.Denot). g.C.Calls.file o.file) same ∙ sym (ap (λ (o : Opened g.row.C-Handle.Denot). g.C.Calls.file o.file) same') in
+    let one_file : i ≡ i' = ap (λ (o : OpenedFile g.row.C-Handle.Denot). g.C.Calls.file o.file) same ∙ sym (ap (λ (o : OpenedFile g.row.C-Handle.Denot). g.C.Calls.file o.file) same') in
     let leads' : IsTrue g.C.Calls.tells → w.names (name_of f) ≡ Some i' = λ t. ap (λ (n : ℕ). w.names (name_of n)) (sym number') ∙ (c.touch.ensures.kept t).named place r' there in
     let own : (y : World) → Now (g.C.Calls.clock calls) y → (h : ℕ) → h < 2 ^ 32 → y.names (name_of h) ≡ Some i' → h ≡ f = λ y now h low is. name_inj h f low small (g.met.C.Calls.one_name calls y (name_of h) (name_of f) i' now is (leads' (g.met.C.Calls.told calls y now))) in
     let long : IsTrue g.C.Calls.tells → c.args.len ≤ length (w.bytes i') = λ t. omega (arith, c.if-branch-len.false, c.in_ok-size.ensures.size t, ap (λ (w : World). length (w.bytes i')) still, ap (λ (k : ℕ). length (v.bytes k)) one_file) in
     let w' = g.C.Calls.world c.ftruncate.new.self in
     let seeing = own w (g.met.C.Calls.may_stay calls t) in
-    kept_written (c.touch.ensures.kept t) place f i' r' there number' (ap (λ (o : Opened g.row.C-Handle.Denot). o.touched) same') (leads' t) seeing (c.ftruncate.ensures.cut long) (c.ftruncate.ensures.cut_moments long)
+    kept_written (c.touch.ensures.kept t) place f i' r' there number' (ap (λ (o : OpenedFile g.row.C-Handle.Denot). o.touched) same') (leads' t) seeing (c.ftruncate.ensures.cut long) (c.ftruncate.ensures.cut_moments long)
 
 pub returns-clause-torn : goal.returns-clause-torn
 returns-clause-torn g c = λ t.
@@ -91,7 +91,7 @@ returns-clause-torn g c = λ t.
     let r = c.index.result.now in
     let is_at : slice_get first place ≡ Some r = slice_get_read first (length first) place r refl (slice_get_within first place at.0 at.1) c.index.ensures in
     let same : r ≡ at.0 = same_Some r at.0 (sym is_at ∙ at.1) in
-    let number : r.number ≡ f = ap (λ (o : Opened g.row.C-Handle.Denot). o.number) same ∙ at.2 in
+    let number : r.number ≡ f = ap (λ (o : OpenedFile g.row.C-Handle.Denot). o.number) same ∙ at.2 in
     let v = g.C.Calls.world c.args.self.now.calls in
     let i = g.C.Calls.file r.file in
     let leads : IsTrue g.C.Calls.tells → v.names (name_of f) ≡ Some i = λ t. ap (λ (n : ℕ). v.names (name_of n)) (sym number) ∙ (c.requires.kept t).named place r is_at in
@@ -102,12 +102,12 @@ returns-clause-torn g c = λ t.
     let here : slice_get opened place ≡ Some (touched at.0) = c.touch.ensures.marked at.0 at.1 in
     let there : slice_get opened place ≡ Some r' = slice_get_read opened (length opened) place r' refl (slice_get_within opened place (touched at.0) here) c.index-2.ensures in
     let same' : r' ≡ touched at.0 = same_Some r' (touched at.0) (sym there ∙ here) in
-    let number' : r'.number ≡ f = ap (λ (o : Opened g.row.C-Handle.Denot). o.number) same' ∙ at.2 in
+    let number' : r'.number ≡ f = ap (λ (o : OpenedFile g.row.C-Handle.Denot). o.number) same' ∙ at.2 in
     let calls = c.touch.new.self.calls in
     let w = g.C.Calls.world calls in
     let still : w ≡ v = ap (λ k. g.C.Calls.world k) c.touch.ensures.calls ∙ c.in_ok-size.ensures.world in
     let i' = g.C.Calls.file r'.file in
-    let one_file : i ≡ i' = ap (λ (o : Opened g.row.C-Handle.Denot). g.C.Calls.file o.file) same ∙ sym (ap (λ (o : Opened g.row.C-Handle.Denot). g.C.Calls.file o.file) same') in
+    let one_file : i ≡ i' = ap (λ (o : OpenedFile g.row.C-Handle.Denot). g.C.Calls.file o.file) same ∙ sym (ap (λ (o : OpenedFile g.row.C-Handle.Denot). g.C.Calls.file o.file) same') in
     let leads' : IsTrue g.C.Calls.tells → w.names (name_of f) ≡ Some i' = λ t. ap (λ (n : ℕ). w.names (name_of n)) (sym number') ∙ (c.touch.ensures.kept t).named place r' there in
     let own : (y : World) → Now (g.C.Calls.clock calls) y → (h : ℕ) → h < 2 ^ 32 → y.names (name_of h) ≡ Some i' → h ≡ f = λ y now h low is. name_inj h f low small (g.met.C.Calls.one_name calls y (name_of h) (name_of f) i' now is (leads' (g.met.C.Calls.told calls y now))) in
     let long : IsTrue g.C.Calls.tells → c.args.len ≤ length (w.bytes i') = λ t. omega (arith, c.if-branch-len.false, c.in_ok-size.ensures.size t, ap (λ (w : World). length (w.bytes i')) still, ap (λ (k : ℕ). length (v.bytes k)) one_file) in
@@ -127,7 +127,7 @@ returns-clause-moments g c =
     let r = c.index.result.now in
     let is_at : slice_get first place ≡ Some r = slice_get_read first (length first) place r refl (slice_get_within first place at.0 at.1) c.index.ensures in
     let same : r ≡ at.0 = same_Some r at.0 (sym is_at ∙ at.1) in
-    let number : r.number ≡ f = ap (λ (o : Opened g.row.C-Handle.Denot). o.number) same ∙ at.2 in
+    let number : r.number ≡ f = ap (λ (o : OpenedFile g.row.C-Handle.Denot). o.number) same ∙ at.2 in
     let v = g.C.Calls.world c.args.self.now.calls in
     let i = g.C.Calls.file r.file in
     let leads : IsTrue g.C.Calls.tells → v.names (name_of f) ≡ Some i = λ t. ap (λ (n : ℕ). v.names (name_of n)) (sym number) ∙ (c.requires.kept t).named place r is_at in
@@ -138,12 +138,12 @@ returns-clause-moments g c =
     let here : slice_get opened place ≡ Some (touched at.0) = c.touch.ensures.marked at.0 at.1 in
     let there : slice_get opened place ≡ Some r' = slice_get_read opened (length opened) place r' refl (slice_get_within opened place (touched at.0) here) c.index-2.ensures in
     let same' : r' ≡ touched at.0 = same_Some r' (touched at.0) (sym there ∙ here) in
-    let number' : r'.number ≡ f = ap (λ (o : Opened g.row.C-Handle.Denot). o.number) same' ∙ at.2 in
+    let number' : r'.number ≡ f = ap (λ (o : OpenedFile g.row.C-Handle.Denot). o.number) same' ∙ at.2 in
     let calls = c.touch.new.self.calls in
     let w = g.C.Calls.world calls in
     let still : w ≡ v = ap (λ k. g.C.Calls.world k) c.touch.ensures.calls ∙ c.in_ok-size.ensures.world in
     let i' = g.C.Calls.file r'.file in
-    let one_file : i ≡ i' = ap (λ (o : Opened g.row.C-Handle.Denot). g.C.Calls.file o.file) same ∙ sym (ap (λ (o : Opened g.row.C-Handle.Denot). g.C.Calls.file o.file) same') in
+    let one_file : i ≡ i' = ap (λ (o : OpenedFile g.row.C-Handle.Denot). g.C.Calls.file o.file) same ∙ sym (ap (λ (o : OpenedFile g.row.C-Handle.Denot). g.C.Calls.file o.file) same') in
     let leads' : IsTrue g.C.Calls.tells → w.names (name_of f) ≡ Some i' = λ t. ap (λ (n : ℕ). w.names (name_of n)) (sym number') ∙ (c.touch.ensures.kept t).named place r' there in
     let own : (y : World) → Now (g.C.Calls.clock calls) y → (h : ℕ) → h < 2 ^ 32 → y.names (name_of h) ≡ Some i' → h ≡ f = λ y now h low is. name_inj h f low small (g.met.C.Calls.one_name calls y (name_of h) (name_of f) i' now is (leads' (g.met.C.Calls.told calls y now))) in
     let long : IsTrue g.C.Calls.tells → c.args.len ≤ length (w.bytes i') = λ t. omega (arith, c.if-branch-len.false, c.in_ok-size.ensures.size t, ap (λ (w : World). length (w.bytes i')) still, ap (λ (k : ℕ). length (v.bytes k)) one_file) in
@@ -161,7 +161,7 @@ returns-clause-cut g c = on_ok_weaker c.ftruncate.result (λ is t.
     let r = c.index.result.now in
     let is_at : slice_get first place ≡ Some r = slice_get_read first (length first) place r refl (slice_get_within first place at.0 at.1) c.index.ensures in
     let same : r ≡ at.0 = same_Some r at.0 (sym is_at ∙ at.1) in
-    let number : r.number ≡ f = ap (λ (o : Opened g.row.C-Handle.Denot). o.number) same ∙ at.2 in
+    let number : r.number ≡ f = ap (λ (o : OpenedFile g.row.C-Handle.Denot). o.number) same ∙ at.2 in
     let v = g.C.Calls.world c.args.self.now.calls in
     let i = g.C.Calls.file r.file in
     let leads : IsTrue g.C.Calls.tells → v.names (name_of f) ≡ Some i = λ t. ap (λ (n : ℕ). v.names (name_of n)) (sym number) ∙ (c.requires.kept t).named place r is_at in
@@ -172,12 +172,12 @@ returns-clause-cut g c = on_ok_weaker c.ftruncate.result (λ is t.
     let here : slice_get opened place ≡ Some (touched at.0) = c.touch.ensures.marked at.0 at.1 in
     let there : slice_get opened place ≡ Some r' = slice_get_read opened (length opened) place r' refl (slice_get_within opened place (touched at.0) here) c.index-2.ensures in
     let same' : r' ≡ touched at.0 = same_Some r' (touched at.0) (sym there ∙ here) in
-    let number' : r'.number ≡ f = ap (λ (o : Opened g.row.C-Handle.Denot). o.number) same' ∙ at.2 in
+    let number' : r'.number ≡ f = ap (λ (o : OpenedFile g.row.C-Handle.Denot). o.number) same' ∙ at.2 in
     let calls = c.touch.new.self.calls in
     let w = g.C.Calls.world calls in
     let still : w ≡ v = ap (λ k. g.C.Calls.world k) c.touch.ensures.calls ∙ c.in_ok-size.ensures.world in
     let i' = g.C.Calls.file r'.file in
-    let one_file : i ≡ i' = ap (λ (o : Opened g.row.C-Handle.Denot). g.C.Calls.file o.file) same ∙ sym (ap (λ (o : Opened g.row.C-Handle.Denot). g.C.Calls.file o.file) same') in
+    let one_file : i ≡ i' = ap (λ (o : OpenedFile g.row.C-Handle.Denot). g.C.Calls.file o.file) same ∙ sym (ap (λ (o : OpenedFile g.row.C-Handle.Denot). g.C.Calls.file o.file) same') in
     let leads' : IsTrue g.C.Calls.tells → w.names (name_of f) ≡ Some i' = λ t. ap (λ (n : ℕ). w.names (name_of n)) (sym number') ∙ (c.touch.ensures.kept t).named place r' there in
     let own : (y : World) → Now (g.C.Calls.clock calls) y → (h : ℕ) → h < 2 ^ 32 → y.names (name_of h) ≡ Some i' → h ≡ f = λ y now h low is. name_inj h f low small (g.met.C.Calls.one_name calls y (name_of h) (name_of f) i' now is (leads' (g.met.C.Calls.told calls y now))) in
     let long : IsTrue g.C.Calls.tells → c.args.len ≤ length (w.bytes i') = λ t. omega (arith, c.if-branch-len.false, c.in_ok-size.ensures.size t, ap (λ (w : World). length (w.bytes i')) still, ap (λ (k : ℕ). length (v.bytes k)) one_file) in

@@ -7,7 +7,7 @@ use Rattle.dms_site.specs.Files.{Files, InFile, Torn, Same, overlaid}
 use Rattle.dms_site.specs.Laws.{torn_refl, in_file_same}
 use Rattle.dms_calls.specs.World.{World}
 use Rattle.dms_calls.specs.Seen.{bytes_of, seen, seen_clock, seen_at}
-use Rattle.dms_folder.specs.declared.opened.Opened.{Opened}
+use Rattle.dms_folder.specs.declared.opened.OpenedFile.{OpenedFile}
 use Rattle.dms_calls.specs.Names.{name_of}
 use Rattle.dms_folder.specs.NameLaws.{name_inj}
 use Rattle.dms_folder.specs.Kept.{touched}
@@ -41,7 +41,7 @@ returns-clause-kept g c = λ t.
     let r = c.index.result.now in
     let there : slice_get opened place ≡ Some r = slice_get_read opened (length opened) place r refl (slice_get_within opened place (touched at.0) here) c.index.ensures in
     let same : r ≡ touched at.0 = same_Some r (touched at.0) (sym there ∙ here) in
-    let number : r.number ≡ f = ap (λ (o : Opened g.row.C-Handle.Denot). o.number) same ∙ at.2 in
+    let number : r.number ≡ f = ap (λ (o : OpenedFile g.row.C-Handle.Denot). o.number) same ∙ at.2 in
     let calls = c.touch.new.self.calls in
     let w = g.C.Calls.world calls in
     let i = g.C.Calls.file r.file in
@@ -49,7 +49,7 @@ returns-clause-kept g c = λ t.
     let small = c.ranges.file.fits in
     let own : (v : World) → Now (g.C.Calls.clock calls) v → (h : ℕ) → h < 2 ^ 32 → v.names (name_of h) ≡ Some i → h ≡ f = λ v now h low is. name_inj h f low small (g.met.C.Calls.one_name calls v (name_of h) (name_of f) i now is leads) in
     let seeing = own w (g.met.C.Calls.may_stay calls t) in
-    kept_written (c.touch.ensures.kept t) place f i r there number (ap (λ (o : Opened g.row.C-Handle.Denot). o.touched) same) leads seeing c.write_all.ensures.torn c.write_all.ensures.moments
+    kept_written (c.touch.ensures.kept t) place f i r there number (ap (λ (o : OpenedFile g.row.C-Handle.Denot). o.touched) same) leads seeing c.write_all.ensures.torn c.write_all.ensures.moments
 
 pub returns-clause-torn : goal.returns-clause-torn
 returns-clause-torn g c = λ t.
@@ -61,7 +61,7 @@ returns-clause-torn g c = λ t.
     let r = c.index.result.now in
     let there : slice_get opened place ≡ Some r = slice_get_read opened (length opened) place r refl (slice_get_within opened place (touched at.0) here) c.index.ensures in
     let same : r ≡ touched at.0 = same_Some r (touched at.0) (sym there ∙ here) in
-    let number : r.number ≡ f = ap (λ (o : Opened g.row.C-Handle.Denot). o.number) same ∙ at.2 in
+    let number : r.number ≡ f = ap (λ (o : OpenedFile g.row.C-Handle.Denot). o.number) same ∙ at.2 in
     let calls = c.touch.new.self.calls in
     let w = g.C.Calls.world calls in
     let i = g.C.Calls.file r.file in
@@ -86,7 +86,7 @@ returns-clause-written g c = on_ok_weaker c.write_all.result (λ is t.
     let r = c.index.result.now in
     let there : slice_get opened place ≡ Some r = slice_get_read opened (length opened) place r refl (slice_get_within opened place (touched at.0) here) c.index.ensures in
     let same : r ≡ touched at.0 = same_Some r (touched at.0) (sym there ∙ here) in
-    let number : r.number ≡ f = ap (λ (o : Opened g.row.C-Handle.Denot). o.number) same ∙ at.2 in
+    let number : r.number ≡ f = ap (λ (o : OpenedFile g.row.C-Handle.Denot). o.number) same ∙ at.2 in
     let calls = c.touch.new.self.calls in
     let w = g.C.Calls.world calls in
     let i = g.C.Calls.file r.file in
@@ -113,7 +113,7 @@ returns-clause-moments g c =
     let r = c.index.result.now in
     let there : slice_get opened place ≡ Some r = slice_get_read opened (length opened) place r refl (slice_get_within opened place (touched at.0) here) c.index.ensures in
     let same : r ≡ touched at.0 = same_Some r (touched at.0) (sym there ∙ here) in
-    let number : r.number ≡ f = ap (λ (o : Opened g.row.C-Handle.Denot). o.number) same ∙ at.2 in
+    let number : r.number ≡ f = ap (λ (o : OpenedFile g.row.C-Handle.Denot). o.number) same ∙ at.2 in
     let calls = c.touch.new.self.calls in
     let w = g.C.Calls.world calls in
     let i = g.C.Calls.file r.file in

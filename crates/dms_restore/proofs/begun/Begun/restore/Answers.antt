@@ -2,7 +2,7 @@ use Rattle.std.proofs.Common.{refl, sym, subst}
 use Rattle.dms_restore.proofs.Results.{is_fault, counted_fault, counted_call}
 use Rattle.dms_site.specs.Files.{Files, Only}
 use Rattle.dms_running.specs.Restoring.{IsKept, Rewritten}
-use Rattle.dms_restore.specs.Table.{AllStand}
+use Rattle.dms_restore.specs.Table.{AllStandAsTold}
 use Rattle.dms_restore.proofs.Beginnings.{then_looks, table_leave, table_begun, table_restored, table_keeps}
 use Rattle.dms_restore.proofs.begun.Begun.restore.Goals as goal
 
@@ -23,7 +23,7 @@ returns-in-Ok-clause-restored g c p tells begun is =
     table_restored p _ begun (g.met.S.Site.may_stay c.args.self.log.site tells) c.args.table.now is _ _
     (then_looks (IsKept p.entries p.point) _ _ _ (c.write_all.ensures.moments p.entries p.point tells is.each) c.sync.ensures.moments)
     (subst (λ (l : Files). Rewritten (IsKept p.entries p.point) (g.S.Site.files c.args.self.log.site) l) (sym (c.sync.ensures.files tells)) (c.write_all.ensures.written p.entries p.point tells is.each))
-    (subst (λ (l : Files). AllStand p.entries p.point l c.args.table.now) (sym (c.sync.ensures.files tells)) (c.in_default.ensures.done p.entries p.point tells is.each))
+    (subst (λ (l : Files). AllStandAsTold p.entries p.point l c.args.table.now) (sym (c.sync.ensures.files tells)) (c.in_default.ensures.done p.entries p.point tells is.each))
     (subst (λ (l : Files). Only l (g.S.Site.clock c.sync.new.self)) (sym (c.sync.ensures.files tells)) (c.in-Ok.ensures.durable tells))
 
 pub returns-in-Ok-clause-moments : goal.returns-in-Ok-clause-moments

@@ -3,7 +3,7 @@ use Rattle.std.specs.Prelude.{IfOk}
 use Rattle.dms_desc.specs.Shape.{described}
 use Rattle.dms_model.specs.Fitting.{PutFits}
 use Rattle.dms_store.specs.Lifted.{store_seen}
-use Rattle.dms_store.specs.PuttingStore.{Changed, Stores, changed, few_structures, stores}
+use Rattle.dms_store.specs.PuttingStore.{ChangesAtMost, Stores, changed, few_structures, stores}
 use Rattle.dms_store.proofs.store.BlockStore.put.Goals as goal
 
 pub returns-clause-fits : goal.returns-clause-fits
@@ -21,6 +21,6 @@ returns-clause-changed g c =
     let desc = described c.args.self.now.desc in
     let o = c.args.self.now.over in
     let n = length c.args.self.now.desc.structures in
-    subst (λ r. Changed (64 * length desc.structures) r (store_seen desc c.args.self.now.found o) (store_seen desc c.note.new.found c.put-stored.new.over)) (sym c.note.ensures.same)
+    subst (λ r. ChangesAtMost (64 * length desc.structures) r (store_seen desc c.args.self.now.found o) (store_seen desc c.note.new.found c.put-stored.new.over)) (sym c.note.ensures.same)
     (changed desc c.args.self.now.found c.note.new.found o c.put-stored.new.over (9 * n + 1) (64 * length desc.structures) c.put-stored.result (few_structures desc c.args.self.now.desc.structures c.args.set refl c.requires.set) c.note.ensures.small c.note.ensures.noted c.requires.sound
     (g.met.B.Blocks.agrees o.below c.requires.sound.sound) c.put-stored.ensures.written c.put-stored.ensures.hands_down c.put-stored.ensures.below)

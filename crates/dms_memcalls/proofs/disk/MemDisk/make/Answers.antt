@@ -4,7 +4,7 @@ use Rattle.dms_site.specs.Laws.{with_file_other}
 use Rattle.dms_memcalls.specs.Folders.{Alike}
 use Rattle.dms_memcalls.specs.Views.{view}
 use Rattle.dms_memcalls.proofs.Grown.{any_err}
-use Rattle.dms_memcalls.proofs.disk.Disk.make.Goals as goal
+use Rattle.dms_memcalls.proofs.disk.MemDisk.make.Goals as goal
 
 pub returns-in_err-set-clause-same : goal.returns-in_err-set-clause-same
 returns-in_err-set-clause-same c =

@@ -1,6 +1,6 @@
 use Rattle.dms_memcalls.specs.NameLaws.{leads_none, leads_here, leads_on}
 use Rattle.std.proofs.Common.{sym}
-use Rattle.dms_memcalls.proofs.disk.Disk.find.Goals as goal
+use Rattle.dms_memcalls.proofs.disk.MemDisk.find.Goals as goal
 
 pub loop-file-init : goal.loop-file-init
 loop-file-init c = leads_none _ _
