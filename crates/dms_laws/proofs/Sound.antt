@@ -28,11 +28,11 @@ use Rattle.dms_model.specs.declared.spot.Spot.{Spot}
 use Rattle.dms_model.specs.Db.{Db, Place, fresh, records_of, rows_of, empty_db, place_cmp}
 use Rattle.dms_model.specs.Points.{Quiet}
 use Rattle.dms_desc.specs.Lookups.{name_of, structure_of, items_of, set_of}
-use Rattle.dms_model.specs.Stores.{put_answer, put_unless, is_full, clash, put_after, linked, is_other, old_of, stored, values_of}
+use Rattle.dms_model.specs.Stores.{put_answer, put_unless, is_full, clash, put_after, linked, is_other, old_of, stored, values_of, kept_owner}
 use Rattle.dms_model.specs.Session.{Session, Outcome, StoreResult, Refused, Keeps, Filled, Misfit, Values', refuse, done, settle, keep, store_step, after_store, begin_step, after_begin, begin_unless, awaited, end_step, after_end, abort_step, find_step, after_find, found_by, create_step, put_step, put_area, after_put, filled, get_step, get_area, close_step, open_as, open_step, verb_step, step_at, step, with_program, with_work, with_values, work_of, no_work, or_none, restart_of, someone_works, is_inquiry, opens, changes, path_of, new_program, place_of, carried, entered, left, without, idle, backed_out, found_program, stored_program, let_go, is_lock, area_kept, kept_unless, put_kept, missing_from, verified, area_values, area_number, area_owner, record_of, is_free, one_more}
 use Rattle.dms_laws.specs.Exclusive.{AreSafe, IsExclusive, locks_it}
 use Rattle.dms_model.specs.Spoken.{IsOuter, IsPlainLiteral}
-use Rattle.dms_model.specs.Valid.{OfItems, IsValid, is_data_set, is_set, link_stands}
+use Rattle.dms_model.specs.Valid.{OfItems, IsValid, is_data_set, is_set, link_stands, owner_stands}
 use Rattle.dms_laws.specs.Made.{IsWellMade, items_under, compares_no_link, has_no_link}
 use Rattle.dms_laws.specs.Runs.{after}
 use Rattle.dms_laws.specs.Sound.{AllNameOuter, IsSound, NamesOuter, IsFlat, StaysSound}
@@ -172,6 +172,17 @@ module _ (desc : Described) (made : IsWellMade desc) (s : Session) (i : ℕ) (p 
       let under : items_under desc shape ≡ shape.items = ap (λ (b : Bool). cond b (items_of (structure_of desc shape.set)) shape.items) (is_no_set shape data_set) in
       meets_agree shape.items shape.cond (put_record set n a shape).values (area_values a) (linked_agree shape.items (olds set n) (area_values a)) (ap (λ (is : List Item). compares_no_link is shape.cond) (sym under) ∙ made.conditions set shape here)
 
+  -- what is stored in a data set of the outer level has no owner
+  no_owner : (set n : ℕ) (shape : Shape) → structure_of desc set ≡ Some shape → IsOuter (Some shape) → (owner : ℕ) → owner ≡ 0 → kept_owner (get s.db.records (set, n)) owner ≡ 0
+  no_owner set n shape here outer owner none = by (get s.db.records (set, n)) refl
+    where
+      alone : (to m : ℕ) → to ≡ 0 → owner_stands s.db.records to m ≡ true → m ≡ 0
+      alone to m e h = let is : (m == 0) ≡ true = sym (ap (λ (k : ℕ). owner_stands s.db.records k m) e) ∙ h in grind (arith, nat_tests, is)
+
+      by : (o : Option Record) → get s.db.records (set, n) ≡ o → kept_owner o owner ≡ 0
+      by None at = none
+      by (Some r) at = alone shape.owner r.owner outer.disjoint (sane.valid.owners (set, n) r shape at here)
+
   -- what may stand at a place, where the tests of storing were met
   may_stand : (set n : ℕ) (a : Area) (shape : Shape) (number : Option ℕ) → structure_of desc set ≡ Some shape → IsOuter (Some shape) → area_owner a ≡ 0 → AreFitting shape.items (area_values a)
       → missing_from 0 (items_of (structure_of desc set)) (area_values a) ≡ None → verified (structure_of desc set) (area_values a) ≡ true
@@ -188,7 +199,7 @@ module _ (desc : Described) (made : IsWellMade desc) (s : Session) (i : ℕ) (p 
       record {
         here = here;
         outer = outer;
-        owner = owner;
+        owner = no_owner set n shape here outer (area_owner a) owner;
         values = linked_fits shape.items (olds set n) (area_values a) values fit_before plain_before;
         links = of_linked (λ item v. link_stands s.db.records item.kind v ≡ true) shape.items (olds set n) (area_values a) values.lengths
             (λ j item at off. other_stands s.db.records item.kind _ off) (λ j item at on. links_before j item at);

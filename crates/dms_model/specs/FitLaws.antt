@@ -33,7 +33,7 @@ use Rattle.dms_model.specs.Fresh.{fresh_below, fresh_from_one}
 use Rattle.dms_model.specs.Places.{place_is, places_total}
 use Rattle.dms_model.specs.Session.{fitted, setting_value, filled, Filled, Misfit, Values', item_name}
 use Rattle.dms_model.specs.Spoken.{IsPlainLiteral}
-use Rattle.dms_model.specs.Stores.{clash, is_full, is_link_item, judged, kept_value, linked, linked_from, old_of, put_after, put_answer, put_number, put_unless, stored, values_of}
+use Rattle.dms_model.specs.Stores.{clash, is_full, is_link_item, judged, kept_owner, kept_value, linked, linked_from, old_of, put_after, put_answer, put_number, put_unless, stored, values_of}
 use Rattle.dms_model.specs.Valid.{OfItems, value_at}
 
 -- a list with one value set
@@ -256,11 +256,19 @@ olds_fit : (desc : Described) (db : Db) (set : ℕ) (number : Option ℕ) → Re
 olds_fit desc db set None fit = ((λ k item here. null_fits item.kind), tt)
 olds_fit desc db set (Some n) fit = olds_at desc db.records (set, n) (get db.records (set, n)) fit refl
 
--- what is stored for a record that fits, links as they stood, fits
+owner_at : (desc : Described) (records : Records) (place : Place) (owner : ℕ) (o : Option Record) → RecordsFit desc records → get records place ≡ o → owner < 2 ^ 32 → kept_owner o owner < 2 ^ 32
+owner_at desc records place owner None fit at low = low
+owner_at desc records place owner (Some r) fit at low = (fit place r at).held.owner
+
+owner_fits : (desc : Described) (db : Db) (set : ℕ) (number : Option ℕ) (owner : ℕ) → RecordsFit desc db.records → owner < 2 ^ 32 → kept_owner (old_of db set number) owner < 2 ^ 32
+owner_fits desc db set None owner fit low = low
+owner_fits desc db set (Some n) owner fit low = owner_at desc db.records (set, n) owner (get db.records (set, n)) fit refl low
+
+-- what is stored for a record that fits, owner and links as they stood, fits
 pub stored_fits : (desc : Described) (db : Db) (set : ℕ) (number : Option ℕ) (rec : Record) → RecordsFit desc db.records → RecordFits desc set rec → RecordFits desc set (stored desc db set number rec)
 stored_fits desc db set number rec fit own =
     let olds = olds_fit desc db set number fit in
-    record { owner = own.owner; values = linked_fits (items_of (structure_of desc set)) (values_of (old_of db set number)) rec.values own.values olds.0 olds.1 }
+    record { owner = owner_fits desc db set number rec.owner fit own.owner; values = linked_fits (items_of (structure_of desc set)) (values_of (old_of db set number)) rec.values own.values olds.0 olds.1 }
 
 insert_at : (desc : Described) (m : Records) (place q : Place) (rec r : Record) (b : Bool) → eq_by_cmp place_cmp q place ≡ b → RecordsFit desc m → PlaceFits desc place rec → cond b (Some rec) (get m q) ≡ Some r → PlaceFits desc q r
 insert_at desc m place q rec r true e fit own is =

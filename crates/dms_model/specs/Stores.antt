@@ -45,9 +45,15 @@ abbrev pub values_of : Option Record → List Value
 values_of None = []
 values_of (Some r) = r.values
 
--- what is stored for a record: its values, and the links of the one that it replaces, null where it replaces none
+-- the owner that is stored: that of the record which is replaced, and else the new one's
+abbrev pub kept_owner : Option Record → ℕ → ℕ
+kept_owner None owner = owner
+kept_owner (Some r) owner = r.owner
+
+-- what is stored for a record: its values, with the owner and the links of the one that it replaces. Where it replaces none
+-- the owner is its own, and links are null
 abbrev pub linked : List Item → Option Record → Record → Record
-linked items old rec = record { owner = rec.owner; values = linked_from 0 items (values_of old) rec.values }
+linked items old rec = record { owner = kept_owner old rec.owner; values = linked_from 0 items (values_of old) rec.values }
 
 -- the record that stands under the number that is named
 abbrev pub old_of : Db → ℕ → Option ℕ → Option Record

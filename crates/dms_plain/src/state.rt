@@ -4,7 +4,7 @@ ghost use Rattle.std.specs.FinMap.{insert, get};
 ghost use Rattle.dms_desc.specs.Shape.{shape_of, described};
 ghost use Rattle.dms_desc.specs.Lookups.{structure_of, items_of};
 ghost use Rattle.dms_model.specs.Members.{first_member, last_member};
-ghost use Rattle.dms_model.specs.Stores.{is_full, judged, linked, old_of, put_after, put_answer, values_of};
+ghost use Rattle.dms_model.specs.Stores.{is_full, judged, kept_owner, linked, old_of, put_after, put_answer, values_of};
 ghost use Rattle.dms_plain.specs.Rows.{entries_of, records_in, db_of, IsInOrder, restore, undone};
 ghost use Rattle.dms_plain.specs.Clashes.{put_in};
 ghost use Rattle.dms_plain.specs.Scans.{spot_at, soonest, latest};
@@ -61,6 +61,16 @@ fn values_of(old: &Option<Record>) -> &[Value]
     }
 }
 
+/// The owner that is stored: that of the record which is replaced, and else the new one's.
+fn kept_owner(old: &Option<Record>, owner: u64) -> u64
+    ensures { result ≡ kept_owner old.now owner }
+{
+    match old {
+        None => owner,
+        Some(rec) => rec.owner,
+    }
+}
+
 /// What is stored for a record.
 fn linked_record(
     alloc: Global,
@@ -73,7 +83,7 @@ fn linked_record(
 {
     let items = desc.items_of(set);
     Ok(Record {
-        owner: rec.owner,
+        owner: kept_owner(old, rec.owner),
         values: linked(alloc, items, values_of(old), rec.values.as_slice())?,
     })
 }

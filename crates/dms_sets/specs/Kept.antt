@@ -16,7 +16,7 @@ use Rattle.dms_model.specs.declared.put.Put.TheVariants.{Stored, Duplicate, Full
 use Rattle.dms_model.specs.Db.{Db, Place}
 use Rattle.dms_desc.specs.Lookups.{structure_of, items_of}
 use Rattle.dms_desc.specs.Kinds.{is_link}
-use Rattle.dms_model.specs.Stores.{kept_value, linked_from, linked, values_of, old_of, stored, put_answer, put_after, put_number, put_unless}
+use Rattle.dms_model.specs.Stores.{kept_value, linked_from, linked, values_of, old_of, stored, put_answer, put_after, put_number, put_unless, kept_owner}
 use Rattle.dms_desc.specs.Plain.{FitsKind}
 use Rattle.dms_sets.specs.Spots.{ValuesFit, RecordHasSpot, RecordsHaveSpots, put_fits}
 use Rattle.std.specs.List.{AllByRecursion}
@@ -50,6 +50,14 @@ old_values : (desc : Described) (db : Db) (place : Place) (o : Option Record) (r
 old_values desc db place None rec is fits new k item at = null_kind item.kind (or_null (slice_get rec.values k)) (new k item at)
 old_values desc db place (Some r) rec is fits new k item at = (fits place r is).values k item at
 
+owner_kept : (desc : Described) (db : Db) (place : Place) (owner : ℕ) (o : Option Record) → get db.records place ≡ o → RecordsHaveSpots desc db → owner < 2 ^ 32 → kept_owner o owner < 2 ^ 32
+owner_kept desc db place owner None is fits low = low
+owner_kept desc db place owner (Some r) is fits low = (fits place r is).owner
+
+owner_fits : (desc : Described) (db : Db) (set : ℕ) (number : Option ℕ) (owner : ℕ) → RecordsHaveSpots desc db → owner < 2 ^ 32 → kept_owner (old_of db set number) owner < 2 ^ 32
+owner_fits desc db set None owner fits low = low
+owner_fits desc db set (Some n) owner fits low = owner_kept desc db (set, n) owner (get db.records (set, n)) refl fits low
+
 -- what is stored for a record that may come fits
 pub stored_fits : (desc : Described) (db : Db) (set n : ℕ) (rec : Record) → RecordsHaveSpots desc db → MayCome desc set rec → n < 2 ^ 32 → RecordHasSpot desc (set, n) (linked (items_of (structure_of desc set)) (get db.records (set, n)) rec)
 stored_fits desc db set n rec fits may small =
@@ -57,7 +65,7 @@ stored_fits desc db set n rec fits may small =
     let old = get db.records (set, n) in
     record {
       small = small;
-      owner = may.owner;
+      owner = owner_kept desc db (set, n) rec.owner old refl fits may.owner;
       values = λ k item at.
           linked_has (FitsKind item.kind) 0 items (values_of old) rec.values k item (ap (slice_get items) (omega arith) ∙ at) (may.values k item at)
           (subst (λ m. FitsKind item.kind (or_null (slice_get (values_of old) m))) (omega arith) (old_values desc db (set, n) old rec refl fits may.values k item at));
@@ -74,7 +82,7 @@ stored_comes desc db set number rec fits may =
     let items = items_of (structure_of desc set) in
     let olds = values_of (old_of db set number) in
     record {
-      owner = may.owner;
+      owner = owner_fits desc db set number rec.owner fits may.owner;
       values = λ k item at.
           linked_has (FitsKind item.kind) 0 items olds rec.values k item (ap (slice_get items) (omega arith) ∙ at) (may.values k item at)
           (subst (λ m. FitsKind item.kind (or_null (slice_get olds m))) (omega arith) (olds_fit desc db set number rec fits may k item at));

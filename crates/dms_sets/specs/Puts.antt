@@ -17,7 +17,7 @@ use Rattle.dms_sets.specs.Sets.{entry_of, entries_of, items_over, kinds_over, Is
 use Rattle.dms_sets.specs.Owners.{EntriesFit}
 use Rattle.dms_sets.specs.Answers.{AreJudged, closed_is, old_entry}
 use Rattle.dms_sets.specs.Spots.{ValuesFit, NameItems, RecordsHaveSpots, all_fit, key_fits}
-use Rattle.dms_sets.specs.Stored.{NamesNoLinks, entries_stored}
+use Rattle.dms_sets.specs.Stored.{NamesNoLinks, entries_stored, put_entry}
 use Rattle.dms_ordlist.specs.Lists.{with_in, without_in}
 
 -- each part of a key names an item that is no link, and so does each comparison of WHERE
@@ -46,9 +46,10 @@ pub all_small : (kinds : List ItemKind) (s : Shape) (es : List (Place × Record)
 all_small kinds s [] all = tt
 all_small kinds s (e ∷ es) all = (all.0.small, all_small kinds s es all.1)
 
--- And it leaves in each set over the data set the old entries without that of the record that it replaces, and with its own.
+-- And it leaves in each set over the data set the old entries without that of the record that it replaces, and with its own, for
+-- the owner that is stored.
 pub put_leaves : (desc : Described) (db : Db) (s : Shape) (set n : ℕ) (rec : Record) → IsNamed desc s → RecordsHaveSpots desc db → n < 2 ^ 32 → over s ≡ set
     → entries_of desc (put_after (Stored n) desc db set rec) s
-    ≡ with_in (entry_of (kinds_over desc s) s (set, n) rec) (without_in (old_entry (kinds_over desc s) s db.records set (Some n)) (entries_of desc db s))
+    ≡ with_in (put_entry desc db s set n rec) (without_in (old_entry (kinds_over desc s) s db.records set (Some n)) (entries_of desc db s))
 put_leaves desc db s set n rec named fits small at =
     entries_stored desc db s set n rec (all_small (kinds_over desc s) s (entries db.records) (all_fit desc db s named.items fits)) small at named.links

@@ -16,7 +16,7 @@ use Rattle.dms_model.specs.Db.{Db, Place}
 use Rattle.dms_desc.specs.Keys.{key_of}
 use Rattle.dms_desc.specs.Kinds.{takes, over, is_link}
 use Rattle.dms_desc.specs.Lookups.{structure_of, items_of}
-use Rattle.dms_model.specs.Stores.{kept_value, linked_from, linked, values_of, put_after}
+use Rattle.dms_model.specs.Stores.{kept_value, linked_from, linked, values_of, put_after, kept_owner}
 use Rattle.dms_sets.specs.Listing.{member_opt, AllPlaces}
 use Rattle.dms_sets.specs.Sets.{entry_of, entries_of, items_over, kinds_over, IsSmall, entries_put}
 use Rattle.dms_sets.specs.Entries.{entry_bytes}
@@ -64,17 +64,25 @@ pub record NamesNoLinks (items : List Item) (s : Shape) : Type 0 where
   pub parts : AllByRecursion (λ p. NamesNoLink items p.item) s.parts
   pub cond : TestsNoLink items s.cond
 
--- the entry of a record is that of what is stored for it
-pub entry_kept : (kinds : List ItemKind) (items : List Item) (s : Shape) (k : Place) (old : Option Record) (rec : Record) → NamesNoLinks items s → entry_of kinds s k (linked items old rec) ≡ entry_of kinds s k rec
+-- the record, with the owner of the one that it replaces
+abbrev pub owned_as : Option Record → Record → Record
+owned_as old rec = record { owner = kept_owner old rec.owner; values = rec.values }
+
+-- the entry in a set of what is stored for a record under a number
+abbrev pub put_entry : Described → Db → Shape → ℕ → ℕ → Record → Option (List ℕ)
+put_entry desc db s set n rec = entry_of (kinds_over desc s) s (set, n) (owned_as (get db.records (set, n)) rec)
+
+-- the entry of a record, with the owner of the one that it replaces, is that of what is stored for it
+pub entry_kept : (kinds : List ItemKind) (items : List Item) (s : Shape) (k : Place) (old : Option Record) (rec : Record) → NamesNoLinks items s → entry_of kinds s k (linked items old rec) ≡ entry_of kinds s k (owned_as old rec)
 entry_kept kinds items s k old rec none =
     let key = key_kept items (values_of old) rec.values s.parts none.parts in
     let test : takes s (linked items old rec).values ≡ takes s rec.values = ap (λ b. cond (s.kind == 4) b true) (meets_kept items (values_of old) rec.values s.cond none.cond) in
-    λ i. cond ((over s == k.0) && test i) (Some (entry_bytes kinds s.parts rec.owner (key i) k.1)) None
+    λ i. cond ((over s == k.0) && test i) (Some (entry_bytes kinds s.parts (kept_owner old rec.owner) (key i) k.1)) None
 
 -- What storing a record leaves of a set over its data set: the old entries without that of the record that it replaces, and with its own.
 pub entries_stored : (desc : Described) (db : Db) (s : Shape) (set n : ℕ) (rec : Record) → AllPlaces IsSmall (entries db.records) → n < 2 ^ 32 → over s ≡ set → NamesNoLinks (items_over desc s) s
     → entries_of desc (put_after (Stored n) desc db set rec) s
-    ≡ with_in (entry_of (kinds_over desc s) s (set, n) rec) (without_in (member_opt (entry_of (kinds_over desc s) s) (set, n) (get db.records (set, n))) (entries_of desc db s))
+    ≡ with_in (put_entry desc db s set n rec) (without_in (member_opt (entry_of (kinds_over desc s) s) (set, n) (get db.records (set, n))) (entries_of desc db s))
 entries_stored desc db s set n rec all small at none =
     entries_put desc db s set n rec all small
     ∙ ap (λ o. with_in o (without_in (member_opt (entry_of (kinds_over desc s) s) (set, n) (get db.records (set, n))) (entries_of desc db s)))

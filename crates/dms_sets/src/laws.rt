@@ -15,7 +15,7 @@ ghost use Rattle.dms_model.specs.Members.{members, first_member, last_member};
 ghost use Rattle.dms_model.specs.Stores.{put_answer, put_after, put_number, put_unless, stored};
 ghost use Rattle.dms_ordlist.specs.Lists.{AreInByteOrder, with_in, without_in, first_from, last_to};
 ghost use Rattle.dms_sets.specs.Told.{db_with};
-ghost use Rattle.dms_sets.specs.Sets.{entries_of, entry_of, kinds_over};
+ghost use Rattle.dms_sets.specs.Sets.{entries_of, kinds_over};
 ghost use Rattle.dms_sets.specs.Owners.{of_owner, spot_bytes};
 ghost use Rattle.dms_sets.specs.Answers.{clash_seen, old_entry, IsFoundNumber};
 ghost use Rattle.dms_sets.specs.Bounds.{BoundKeyFits};
@@ -23,6 +23,7 @@ ghost use Rattle.dms_sets.specs.Padded.{IsSetEntry, BoundSmall, from_bytes, to_b
 ghost use Rattle.dms_sets.specs.Spots.{RecordsHaveSpots};
 ghost use Rattle.dms_sets.specs.Puts.{IsNamed, MayCome};
 ghost use Rattle.dms_sets.specs.Kept.{IsStoredSmall};
+ghost use Rattle.dms_sets.specs.Stored.{put_entry};
 ghost use Rattle.dms_sets.specs.Finds.{spot_by};
 
 /// A law: the entries of a set rise, each is an owner, a key and a record, and those of an owner are the bytes of the
@@ -40,11 +41,11 @@ pub fn sets_are_their_members()
 {}
 
 /// A law: one put leaves in each set of the data set the old entries without that of the record that it replaces and
-/// with its own, each where it belongs there. All records fit after it.
+/// with its own, for the owner that is stored, each where it belongs there. All records fit after it.
 pub fn one_put_changes()
     ensures entries { (desc : Described) (db : Db) (s : Shape) (set n : ℕ) (rec : Record) → IsNamed desc s → RecordsHaveSpots desc db → n < 2 ^ 32 → over s ≡ set
         → entries_of desc (put_after (Stored n) desc db set rec) s
-        ≡ with_in (entry_of (kinds_over desc s) s (set, n) rec) (without_in (old_entry (kinds_over desc s) s db.records set (Some n)) (entries_of desc db s)) }
+        ≡ with_in (put_entry desc db s set n rec) (without_in (old_entry (kinds_over desc s) s db.records set (Some n)) (entries_of desc db s)) }
     ensures fits { (answer : Put) (desc : Described) (db : Db) (set : ℕ) (rec : Record) → IsStoredSmall answer → RecordsHaveSpots desc db → MayCome desc set rec
         → RecordsHaveSpots desc (put_after answer desc db set rec) }
 {}
@@ -61,7 +62,7 @@ pub fn duplicate_by_one_look()
         → clash_seen desc desc.structures db set None rec ≡ clash_seen desc desc.structures db set (Some n) rec }
 {}
 
-/// A law: storing a record is one change of the stored record, which has the links of the one that it replaces.
+/// A law: storing a record is one change of the stored record, which has the owner and the links of the one that it replaces.
 pub fn one_put_is_a_change()
     ensures { (desc : Described) (db : Db) (set n : ℕ) (rec : Record)
         → put_after (Stored n) desc db set rec ≡ db_with db set n (Some (stored desc db set (Some n) rec)) }

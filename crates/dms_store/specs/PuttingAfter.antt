@@ -28,9 +28,9 @@ use Rattle.dms_store.specs.Spelled.{counted_in, is_counted_to, is_number, links_
 abbrev pub with_record : Db → ℕ → ℕ → Record → Db
 with_record db set number rec = record db { records = insert db.records (set, number) rec }
 
--- these values, but the links of those, and the owner
-abbrev pub linked_over : List Item → List Value → Record → Record
-linked_over items olds rec = record { owner = rec.owner; values = linked_from 0 items olds rec.values }
+-- these values, but the links of those, and this owner
+abbrev pub linked_over : List Item → ℕ → List Value → Record → Record
+linked_over items owner olds rec = record { owner = owner; values = linked_from 0 items olds rec.values }
 
 -- The slot of what is stored for a record: it keeps the counts of the record that it replaces, and a new one has none.
 abbrev pub slot_after : List Item → Option Slot → Record → Slot

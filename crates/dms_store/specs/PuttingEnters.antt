@@ -3,6 +3,7 @@ use Rattle.std.proofs.Common.{◌≡◌, ◌∙◌, ◌^◌, ◌<◌, ◌≤◌,
 use Rattle.std.specs.Prelude.{◌&&◌, ◌||◌, ◌==◌, not}
 use Rattle.std.specs.List.{list_all}
 use Rattle.std.specs.declared.option.Option.{Option}
+use Rattle.std.proofs.lemmas.Bool.Decides.{nat_tests}
 use Rattle.dms_base.specs.declared.kind.ItemKind.{ItemKind}
 use Rattle.dms_base.specs.declared.value.Value.{Value}
 use Rattle.dms_block.specs.declared.blocks.Blocks.{Ghosts}
@@ -25,7 +26,7 @@ use Rattle.dms_model.specs.declared.put.Put.{Put}
 use Rattle.dms_model.specs.declared.put.Put.TheVariants.{Stored, Duplicate as Refused, Full}
 use Rattle.dms_model.specs.Db.{Db}
 use Rattle.dms_model.specs.Fitting.{AreFitting, RecordFits}
-use Rattle.dms_model.specs.Stores.{linked}
+use Rattle.dms_model.specs.Stores.{linked, kept_owner}
 use Rattle.dms_model.specs.Valid.{is_data_set}
 use Rattle.dms_sets.specs.Answers.{clash_seen, closed_is}
 use Rattle.dms_sets.specs.Changes.{HasEntry, PartFits, PartsFit, has_number, is_over}
@@ -165,6 +166,14 @@ module _ {B : Type 0} {g : Ghosts B} (desc : Described) (served : IsServed desc)
   pub blocks_good : list_all (is_block s) (seen a (file_of s.number)) ≡ true
   blocks_good = (files.slots.each set s may.at may.is_set).blocks
 
+  -- in a disjoint data set what is stored has no owner
+  made_free : IsFree s rec → (x : Option Slot) → IfSome x (SlotFits s) → kept_owner (rec_opt (slot_opt x)) rec.owner ≡ 0
+  made_free free None f = free.unowned
+  made_free free (Some slot) f = alone s.owner slot.rec.owner free.disjoint f.disjoint
+    where
+      alone : (a n : ℕ) → a ≡ 0 → (not (a == 0) || (n == 0)) ≡ true → n ≡ 0
+      alone a n none h = let is : (n == 0) ≡ true = sym (ap (λ k. not (k == 0) || (n == 0)) none) ∙ h in grind (arith, nat_tests, is)
+
   small : number < 2 ^ 32
   small = omega (arith, may.most, (served_at desc set s served may.at).population)
 
@@ -186,7 +195,7 @@ module _ {B : Type 0} {g : Ghosts B} (desc : Described) (served : IsServed desc)
         let counts = counts_small s o rec slots in
         let long : seen_counts a (file_of s.number) ≡ length (seen a (file_of s.number)) = counts_seen a agrees told (file_of s.number) in
         slot_written desc set number s (slot_after s.items o rec) (seen b) served may.at
-        (slot_fits desc set s (slot_after s.items o rec) made may.at (slot_links s.items o rec) fits free.unowned counts.0 counts.1) may.low (omega (arith, next, long, ap length same_file))
+        (slot_fits desc set s (slot_after s.items o rec) made may.at (slot_links s.items o rec) fits (made_free free o slots) counts.0 counts.1) may.low (omega (arith, next, long, ap length same_file))
         (ap (list_all (is_block s)) same_file ∙ (files.slots.each set s may.at may.is_set).blocks)
 
     -- the record stands under its number

@@ -15,7 +15,7 @@ use Rattle.dms_desc.specs.declared.record.Record.{Record}
 use Rattle.dms_desc.specs.declared.structure.Item.{Item}
 use Rattle.dms_layout.specs.declared.slot.Slot.{Slot}
 use Rattle.dms_model.specs.Db.{Db, Place, place_cmp}
-use Rattle.dms_model.specs.Stores.{linked, linked_from, values_of}
+use Rattle.dms_model.specs.Stores.{linked, linked_from, values_of, kept_owner}
 use Rattle.dms_model.specs.Valid.{is_data_set, owner_of, owner_stands}
 use Rattle.dms_ordlist.specs.ListIn.{list_in}
 use Rattle.dms_sets.specs.Changes.{has_number, is_over}
@@ -190,13 +190,18 @@ module _ (desc : Described) (served : IsServed desc) (db : Db) (c e d : Content)
       low_set (suc k) h = omega arith
   made_owned (Some slot) is there = ((files.slots.each set s may.at may.is_set).slots number slot may.low is).owned
 
+  -- the owner that is stored stands
+  made_owner : (x : Option Slot) → slot_at s (file_in c s) number ≡ slot_opt x → owner_stands db.records s.owner rec.owner ≡ true → owner_stands db.records s.owner (kept_owner (rec_opt (slot_opt x)) rec.owner) ≡ true
+  made_owner None is own = own
+  made_owner (Some slot) is own = ((files.slots.each set s may.at may.is_set).slots number slot may.low is).owner
+
   slot_rec : (slot_after s.items o rec).rec ≡ made
   slot_rec = slot_links s.items o rec
 
   new_stands : IsFree s rec → SlotStands desc after (owned_in desc db) s number (slot_after s.items o rec)
   new_stands free = record {
     most = may.most;
-    owner = ap (λ (r : Record). owner_stands after.records s.owner r.owner) slot_rec ∙ ap (λ n. owner_stands after.records n rec.owner) free.disjoint ∙ unowned rec.owner free.unowned;
+    owner = ap (λ (r : Record). owner_stands after.records s.owner r.owner) slot_rec ∙ owner_more db set number made s.owner made.owner (made_owner o was (ap (λ n. owner_stands db.records n rec.owner) free.disjoint ∙ unowned rec.owner free.unowned));
     links = ap (λ (r : Record). links_stand after.records s.items r.values) slot_rec ∙ links_still db.records after.records s.items made.values (more db set number made) (made_links o refl was);
     counted = made_counted o was old_is ∙ sym (counted_same s.number number);
     owned = made_owned o was old_is;

@@ -1,5 +1,5 @@
 -- The same, in the words of the calls that store a record.
-use Rattle.std.proofs.Common.{◌≡◌, ◌∙◌, ◌+◌, ◌≤◌, ℕ, [], Bool, true, IfSome, IsTrue, Some, None, sym, ap, subst, length, arith}
+use Rattle.std.proofs.Common.{◌≡◌, ◌∙◌, ◌+◌, ◌≤◌, ◌<◌, ◌^◌, ℕ, [], Bool, true, IfSome, IsTrue, Some, None, sym, ap, subst, length, arith}
 use Rattle.std.specs.FinMap.{get}
 use Rattle.std.specs.List.{list_all}
 use Rattle.std.specs.Prelude.{◌&&◌, nat_le}
@@ -21,7 +21,7 @@ use Rattle.dms_model.specs.declared.put.Put.TheVariants.{Stored, Duplicate as Re
 use Rattle.dms_model.specs.Db.{Db}
 use Rattle.dms_model.specs.Fitting.{AreFitting, IsNumber, RecordFits, is_number}
 use Rattle.dms_model.specs.FitLaws.{linked_fits, null_fits}
-use Rattle.dms_model.specs.Stores.{linked}
+use Rattle.dms_model.specs.Stores.{linked, kept_owner}
 use Rattle.dms_model.specs.Valid.{is_data_set}
 use Rattle.dms_sets.specs.Answers.{clash_seen}
 use Rattle.dms_sets.specs.Changes.{has_number}
@@ -49,10 +49,14 @@ use Rattle.dms_store.specs.Undamaged.{no_bad_slot}
 -- what is stored for a record that fits, links as they stood, fits
 pub made_fits : (desc : Described) (set : ℕ) (s : Shape) (o : Option Slot) (rec : Record) → structure_of desc set ≡ Some s → IfSome o (SlotFits s) → RecordFits desc set rec → RecordFits desc set (linked s.items (rec_opt (slot_opt o)) rec)
 made_fits desc set s o rec at old fits = record {
-  owner = fits.owner;
+  owner = low o old;
   values = subst (λ (q : Option Shape). AreFitting (items_of q) (linked s.items (rec_opt (slot_opt o)) rec).values) (sym at) (by o old (subst (λ (q : Option Shape). AreFitting (items_of q) rec.values) at fits.values));
 }
   where
+    low : (x : Option Slot) → IfSome x (SlotFits s) → kept_owner (rec_opt (slot_opt x)) rec.owner < 2 ^ 32
+    low None f = fits.owner
+    low (Some slot) f = f.owner
+
     olds : (x : Record) → RecordFits desc set x → AreFitting s.items x.values
     olds x f = subst (λ (q : Option Shape). AreFitting (items_of q) x.values) at f.values
 

@@ -8,12 +8,18 @@ use dms_layout::Slot;
 use dms_model::linked;
 use std::alloc::Global;
 
-// A record's owner and values, but the links as they stood.
-fn linked_over(alloc: Global, s: &Structure, olds: &[Value], rec: &Record) -> Result<Record, Memory>
-    ensures { IfOk result (λ r. r ≡ linked_over s.now.items olds.now rec.now) }
+// A record's values, with this owner and the links as they stood.
+fn linked_over(
+    alloc: Global,
+    s: &Structure,
+    owner: u64,
+    olds: &[Value],
+    rec: &Record,
+) -> Result<Record, Memory>
+    ensures { IfOk result (λ r. r ≡ linked_over s.now.items owner olds.now rec.now) }
 {
     Ok(Record {
-        owner: rec.owner,
+        owner,
         values: linked(alloc, s.items.as_slice(), olds, rec.values.as_slice())?,
     })
 }
@@ -29,12 +35,12 @@ pub fn slot_after(
 {
     match old {
         None => Ok(Slot {
-            rec: linked_over(alloc, s, &[], rec)?,
+            rec: linked_over(alloc, s, rec.owner, &[], rec)?,
             counted: 0,
             owned: 0,
         }),
         Some(old) => Ok(Slot {
-            rec: linked_over(alloc, s, old.rec.values.as_slice(), rec)?,
+            rec: linked_over(alloc, s, old.rec.owner, old.rec.values.as_slice(), rec)?,
             counted: old.counted,
             owned: old.owned,
         }),
