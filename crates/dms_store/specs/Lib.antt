@@ -21,8 +21,12 @@ pub mod StoreLaws
 pub mod PuttingCounts
 pub mod PuttingSlots
 pub mod PuttingSteps
+pub mod PuttingMoved
 pub mod PuttingAfter
+pub mod PuttingMany
 pub mod PuttingLaws
+pub mod PuttingOwners
+pub mod Owning
 pub mod PuttingFresh
 pub mod Putting
 pub mod PuttingAnswers

@@ -13,9 +13,9 @@ use Rattle.dms_model.specs.Stores.{put_after, put_answer}
 use Rattle.dms_model.specs.Valid.{owner_of, owner_stands}
 use Rattle.dms_store.specs.Spelled.{spelled}
 
--- This record may be stored in a data set that is disjoint: it has no owner, and where a number is named its record is there.
+-- This record may be stored: its owner's record is there, or it has no owner where its data set is disjoint; and where a number is
+-- named its record is there.
 pub record MayStore (desc : Described) (db : Db) (set : ℕ) (number : Option ℕ) (rec : Record) : Type 0 where
-  pub disjoint : owner_of (structure_of desc set) ≡ 0
   pub owner_stands : owner_stands db.records (owner_of (structure_of desc set)) rec.owner ≡ true
   pub named : IfSome number (λ n. is_some (get db.records (set, n)) ≡ true)
 

@@ -21,6 +21,7 @@ use Rattle.dms_sets.specs.Listing.{places_total}
 use Rattle.dms_sets.specs.Tests.{both_of}
 use Rattle.dms_slots.specs.SlotBlocks.{slot_opt}
 use Rattle.dms_store.specs.PuttingCounts.{insert_sum, links_linked, links_none, of_opt, sum_none}
+use Rattle.dms_store.specs.PuttingMoved.{owed}
 use Rattle.dms_store.specs.Rows.{rec_opt}
 use Rattle.dms_store.specs.Spelled.{counted_in, is_counted_to, is_number, links_stand, links_to, owned_in}
 
@@ -96,6 +97,18 @@ owned_still desc db set number made disjoint t m low =
     let now = none made in
     let same : sum_by f (entries (insert db.records (set, number) made)) ≡ sum_by f (entries db.records) = omega (arith, sum, was, now) in
     ap (λ n. n + count_by (λ (e : SubsetEntry). (owner_of (structure_of desc e.subset) == t) && (e.owner == m)) db.entries) same
+
+shift : (a b c d n : ℕ) → a + b ≡ c + d → (a + n) + b ≡ (c + n) + d
+shift a b c d n h = omega (arith, h)
+
+-- Each record owns what it owned, without the record that is replaced and with the one that is stored.
+pub owned_moved : (desc : Described) (db : Db) (set number : ℕ) (made : Record) (t m : ℕ)
+    → owned_in desc (with_record db set number made) t m + of_opt (λ r. owed (owner_of (structure_of desc set)) r.owner t m) (get db.records (set, number)) ≡ owned_in desc db t m + owed (owner_of (structure_of desc set)) made.owner t m
+unfolding owned_in
+owned_moved desc db set number made t m =
+    let f : Place × Record → ℕ = λ e. cond ((owner_of (structure_of desc e.0.0) == t) && (e.1.owner == m)) 1 0 in
+    shift (sum_by f (entries (insert db.records (set, number) made))) (of_opt (λ r. f ((set, number), r)) (get db.records (set, number))) (sum_by f (entries db.records)) (f ((set, number), made))
+    (count_by (λ (e : SubsetEntry). (owner_of (structure_of desc e.subset) == t) && (e.owner == m)) db.entries) (insert_sum f (set, number) made db.records)
 
 -- ---- a record that isn't there
 

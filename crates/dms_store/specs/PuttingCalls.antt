@@ -9,7 +9,7 @@ use Rattle.dms_block.specs.declared.blocks.Blocks.{Ghosts}
 use Rattle.dms_block.specs.declared.overlay.Overlay.{Overlay}
 use Rattle.dms_block.specs.Faults.{NotFull, Unbroken}
 use Rattle.dms_block.specs.Held.{Alters, HasCauses, HasCausesOr, Stays}
-use Rattle.dms_block.specs.HeldLaws.{alters_as, alters_more, alters_on, causes_or, causes_or_on, looks_alters, looks_as, looks_err, looks_none, looks_on}
+use Rattle.dms_block.specs.HeldLaws.{alters_as, alters_more, alters_on, causes_or, causes_or_on, lasts_none, looks_alters, looks_as, looks_err, looks_none, looks_on, same_none}
 use Rattle.dms_block.specs.View.{ReadsOverlay, WritesOverlay, under, written}
 use Rattle.dms_ordlist.specs.SeenLaws.{causes_err}
 use Rattle.dms_sets.specs.Keeping.{Calm, EndsInFault}
@@ -76,6 +76,30 @@ module _ {B : Type 0} {g : Ghosts B} where
         writes = record { looks = looks_on r first writes.looks; more = omega (arith, calm.more, writes.more, le); same = onward a.below b.below c.below calm.same writes.same };
         causes = causes_or_on P (λ f k. ⊤) r (under a) (under b) (under c) (λ f k h. tt) calm.faults first.passes.lasts first.same causes;
       }
+
+  -- a read after which nothing is written
+  pub enters_reads : {T U : Type 0} {n : ℕ} {x : T} (m : ℕ) (y : U) (a b : Overlay B g) → ReadsOverlay n (Ok x) a b → (under b).faults ≡ (under a).faults → WritesAtMost m (Ok y) a b
+  enters_reads {n = n} m y a b reads same = record { reads = n; writes = record { looks = looks_as (Ok y) tt reads.looks; more = omega (arith, ap length reads.written_still); same = reads.same }; causes = same }
+
+  -- a write over the blocks
+  pub enters_put : {U : Type 0} {k : ℕ} (m : ℕ) (P : ℕ → ℕ → Type 0) (r : Result U BlockFault) (a b : Overlay B g) → WritesOverlay k m r a b → HasCausesOr P r (under a) (under b) → WritesAtMost m r a b
+  enters_put {k = k} m P r a b writes causes = record { reads = k; writes = writes; causes = causes_or_on P (λ f k. ⊤) r (under a) (under a) (under b) (λ f k h. tt) refl (lasts_none (under a)) (same_none (under a)) causes }
+
+  -- a call after one that wrote over them
+  pub enters_then : {T U : Type 0} {x : T} (m n k : ℕ) (r : Result U BlockFault) (a b c : Overlay B g) → ((x y z : B) → g.same_blocks x y → g.same_blocks y z → g.same_blocks x z) → m + n ≤ k → WritesAtMost m (Ok x) a b → WritesAtMost n r b c → WritesAtMost k r a c
+  enters_then m n k r a b c onward le p q = record {
+    reads = p.reads + q.reads;
+    writes = record { looks = looks_on r p.writes.looks q.writes.looks; more = omega (arith, p.writes.more, q.writes.more, le); same = onward a.below b.below c.below p.writes.same q.writes.same };
+    causes = causes_or_on (λ f k. ⊤) (λ f k. ⊤) r (under a) (under b) (under c) (λ f k h. h) p.causes p.writes.looks.passes.lasts p.writes.looks.same q.causes;
+  }
+
+  -- more were allowed
+  pub enters_more : {T : Type 0} (m k : ℕ) (r : Result T BlockFault) (a b : Overlay B g) → m ≤ k → WritesAtMost m r a b → WritesAtMost k r a b
+  enters_more m k r a b le p = record { reads = p.reads; writes = record { looks = p.writes.looks; more = omega (arith, p.writes.more, le); same = p.writes.same }; causes = p.causes }
+
+  -- the causes of a call after it
+  pub causes_then : {T U : Type 0} {x : T} (m : ℕ) (r : Result U BlockFault) (a b c : Overlay B g) → WritesAtMost m (Ok x) a b → HasCausesOr (λ f k. ⊥) r (under b) (under c) → HasCausesOr (λ f k. ⊥) r (under a) (under c)
+  causes_then m r a b c p causes = causes_or_on (λ f k. ⊥) (λ f k. ⊥) r (under a) (under b) (under c) (λ f k h. h) p.causes p.writes.looks.passes.lasts p.writes.looks.same causes
 
   -- another answer
   pub enters_as : {T U : Type 0} {x : T} (m : ℕ) (y : U) (a b : Overlay B g) → WritesAtMost m (Ok x) a b → WritesAtMost m (Ok y) a b

@@ -1,8 +1,9 @@
 -- What a change of the sets and a written slot make of the database that is seen.
-use Rattle.std.proofs.Common.{◌≡◌, ◌∙◌, ◌^◌, ◌<◌, ◌≤◌, ℕ, suc, List, [], ◌∷◌, Bool, true, false, IfSome, IsTrue, IsSome, Some, None, refl, sym, ap, subst, length, slice_get, arith}
-use Rattle.std.specs.Prelude.{◌&&◌, ◌||◌, ◌==◌, not}
+use Rattle.std.proofs.Common.{◌≡◌, ◌≢◌, ◌∙◌, ◌^◌, ◌<◌, ◌≤◌, ℕ, suc, List, [], ◌∷◌, Bool, true, false, cond, IfSome, IsTrue, IsSome, Some, None, refl, sym, ap, subst, length, slice_get, arith}
+use Rattle.std.specs.Prelude.{◌&&◌, ◌||◌, ◌==◌, ⊤, is_some, not}
 use Rattle.std.specs.List.{list_all}
 use Rattle.std.specs.declared.option.Option.{Option}
+use Rattle.std.specs.FinMap.{get}
 use Rattle.std.proofs.lemmas.Bool.Decides.{nat_tests}
 use Rattle.dms_base.specs.declared.kind.ItemKind.{ItemKind}
 use Rattle.dms_base.specs.declared.value.Value.{Value}
@@ -24,10 +25,10 @@ use Rattle.dms_layout.specs.Slots.{SlotFits, all_fit, may_own, slot_bytes}
 use Rattle.dms_layout.specs.declared.slot.Slot.{Slot}
 use Rattle.dms_model.specs.declared.put.Put.{Put}
 use Rattle.dms_model.specs.declared.put.Put.TheVariants.{Stored, Duplicate as Refused, Full}
-use Rattle.dms_model.specs.Db.{Db}
+use Rattle.dms_model.specs.Db.{Db, Records}
 use Rattle.dms_model.specs.Fitting.{AreFitting, RecordFits}
 use Rattle.dms_model.specs.Stores.{linked, kept_owner}
-use Rattle.dms_model.specs.Valid.{is_data_set}
+use Rattle.dms_model.specs.Valid.{is_data_set, owner_stands}
 use Rattle.dms_sets.specs.Answers.{clash_seen, closed_is}
 use Rattle.dms_sets.specs.Changes.{HasEntry, PartFits, PartsFit, has_number, is_over}
 use Rattle.dms_sets.specs.Keeping.{Calm, Usable, listed}
@@ -39,22 +40,39 @@ use Rattle.dms_sets.specs.declared.answer.SetAnswer.TheVariants.{Done, Duplicate
 use Rattle.dms_slots.specs.SlotBlocks.{block_of, file_of, is_block, slot_at, slot_opt, slot_put}
 use Rattle.dms_store.specs.Finding.{number_at, seen_below, served_at}
 use Rattle.dms_store.specs.Lifted.{IsUsable}
+use Rattle.dms_store.specs.Owning.{AreSlots, slots_changed}
 use Rattle.dms_store.specs.PuttingAfter.{slot_after, slot_links, with_record}
 use Rattle.dms_store.specs.PuttingAnswers.{change_stands, comes, fit_all, none_refused, one_refused}
-use Rattle.dms_store.specs.PuttingLaws.{IsFree, ListsPut, MayStand, no_kept, not_over, old_is, put_spells}
+use Rattle.dms_store.specs.PuttingLaws.{MayStand, no_kept, not_over, old_is, record_step}
 use Rattle.dms_store.specs.PuttingOver.{AreWhole, are_listed, changed_whole, lists_put}
-use Rattle.dms_store.specs.PuttingSlots.{SpellsFiles, spelled_files, structure_here}
+use Rattle.dms_store.specs.PuttingSlots.{SpellsFiles, StandsFiles, spelled_files, structure_here}
 use Rattle.dms_store.specs.PuttingSteps.{SlotChanged, slot_written}
 use Rattle.dms_store.specs.Rows.{rec_opt}
 use Rattle.dms_store.specs.Serving.{IsServed}
 use Rattle.dms_store.specs.SetPaths.{set_at}
-use Rattle.dms_store.specs.Spelled.{is_kept, is_whole, spelled}
+use Rattle.dms_store.specs.Spelled.{is_kept, is_whole, owned_in, spelled}
 
 -- What is left where a database was told: the record stands under its number, or a set refuses it.
 abbrev pub IsEntered : Described → Db → ℕ → ℕ → Record → Content → Put → Type 0
 IsEntered desc db set number made d (Stored n) = (n ≡ number) × (clash_seen desc desc.structures db set (Some number) made ≡ None) × (spelled desc d ≡ Some (with_record db set number made))
 IsEntered desc db set number made d (Refused s) = clash_seen desc desc.structures db set (Some number) made ≡ Some s
 IsEntered desc db set number made d Full = ⊥
+
+-- The same before its owner counts the record: the files have the record, and each slot still counts what it counted.
+abbrev pub IsUncounted : Described → Db → ℕ → ℕ → Record → Content → Put → Type 0
+IsUncounted desc db set number made d (Stored n) = (n ≡ number) × (clash_seen desc desc.structures db set (Some number) made ≡ None) × StandsFiles desc (with_record db set number made) (owned_in desc db) d
+IsUncounted desc db set number made d (Refused s) = clash_seen desc desc.structures db set (Some number) made ≡ Some s
+IsUncounted desc db set number made d Full = ⊥
+
+-- where a record is stored
+abbrev pub IfStored : Put → Type 0 → Type 0
+IfStored (Stored n) P = P
+IfStored (Refused s) P = ⊤
+IfStored Full P = ⊤
+
+-- the owner of a record stands, or it has none where its data set is disjoint
+pub record OwnerStands (db : Db) (s : Shape) (rec : Record) : Type 0 where
+  pub stands : owner_stands db.records s.owner rec.owner ≡ true
 
 -- what is answered where no number is free
 abbrev pub IsJudged : Described → Db → ℕ → ℕ → Record → Put → Type 0
@@ -122,16 +140,23 @@ file_owned desc a n s usable at = (owned_if desc a n s usable at).1
 
 -- ---- the database that is seen
 
-or_true : (b : Bool) → (b || true) ≡ true
-or_true true = refl
-or_true false = refl
+-- the owner that a record of a data set may have
+stands_may : (records : Records) (s : Shape) (owner : ℕ) → owner_stands records s.owner owner ≡ true → may_own s owner ≡ true
+stands_may records s owner h = by (s.owner == 0) h
+  where
+    by : (b : Bool) → cond b (owner == 0) (is_some (get records (s.owner, owner))) ≡ true → (not b || (owner == 0)) ≡ true
+    by true e = e
+    by false e = refl
 
-slot_fits : (desc : Described) (set : ℕ) (s : Shape) (x : Slot) (made : Record) → structure_of desc set ≡ Some s → x.rec ≡ made → RecordFits desc set made → made.owner ≡ 0 → x.counted < 2 ^ 32 → x.owned < 2 ^ 32 → SlotFits s x
-slot_fits desc set s x made at same fits unowned counted owned =
+pub owned_may : (s : Shape) (owner : ℕ) → s.owner ≢ 0 → may_own s owner ≡ true
+owned_may s owner apart = let off : (s.owner == 0) ≡ false = grind (arith, nat_tests, apart) in ap (λ b. not b || (owner == 0)) off
+
+slot_fits : (desc : Described) (set : ℕ) (s : Shape) (x : Slot) (made : Record) → structure_of desc set ≡ Some s → x.rec ≡ made → RecordFits desc set made → may_own s made.owner ≡ true → x.counted < 2 ^ 32 → x.owned < 2 ^ 32 → SlotFits s x
+slot_fits desc set s x made at same fits own counted owned =
     let f : AreFitting s.items made.values = subst (λ (q : Option Shape). AreFitting (items_of q) made.values) at fits.values in
     record {
       owner = subst (λ (r : Record). r.owner < 2 ^ 32) (sym same) fits.owner;
-      disjoint = ap (λ (r : Record). may_own s r.owner) same ∙ ap (may_own s) unowned ∙ or_true (not (s.owner == 0));
+      disjoint = ap (λ (r : Record). may_own s r.owner) same ∙ own;
       counted = counted;
       owned = owned;
       values = ap (λ (r : Record). all_fit s.items r.values) same ∙ fit_all s.items made.values f.lengths f.fit;
@@ -166,13 +191,10 @@ module _ {B : Type 0} {g : Ghosts B} (desc : Described) (served : IsServed desc)
   pub blocks_good : list_all (is_block s) (seen a (file_of s.number)) ≡ true
   blocks_good = (files.slots.each set s may.at may.is_set).blocks
 
-  -- in a disjoint data set what is stored has no owner
-  made_free : IsFree s rec → (x : Option Slot) → IfSome x (SlotFits s) → kept_owner (rec_opt (slot_opt x)) rec.owner ≡ 0
-  made_free free None f = free.unowned
-  made_free free (Some slot) f = alone s.owner slot.rec.owner free.disjoint f.disjoint
-    where
-      alone : (a n : ℕ) → a ≡ 0 → (not (a == 0) || (n == 0)) ≡ true → n ≡ 0
-      alone a n none h = let is : (n == 0) ≡ true = sym (ap (λ k. not (k == 0) || (n == 0)) none) ∙ h in grind (arith, nat_tests, is)
+  -- what is stored may have its owner
+  made_may : may_own s rec.owner ≡ true → (x : Option Slot) → IfSome x (SlotFits s) → may_own s (kept_owner (rec_opt (slot_opt x)) rec.owner) ≡ true
+  made_may own None f = own
+  made_may own (Some slot) f = f.disjoint
 
   small : number < 2 ^ 32
   small = omega (arith, may.most, (served_at desc set s served may.at).population)
@@ -183,31 +205,40 @@ module _ {B : Type 0} {g : Ghosts B} (desc : Described) (served : IsServed desc)
   pub stands : (old : Option Record) → rec_opt (slot_opt o) ≡ old → ChangeStands desc db set number old (Some made)
   stands old is = change_stands desc (seen a) db set number s old made served spelt_seen may.at small (old_is desc served db (seen a) (seen a) (seen a) set number s o rec spelt_seen may was ∙ is) fits
 
-  module _ (free : IsFree s rec) (b z : Overlay B g) (n : ℕ) (calm : Calm (has_number desc.structures set) n a b) (kept : KeepsSets desc db set number (Some made) (listed b) Done) (slots : IfSome o (SlotFits s)) (next : block_of s.items number ≤ seen_counts a (file_of s.number)) where
-    lists : ListsPut desc (with_record db set number made) set (seen a) (seen b)
-    lists = lists_put desc served (with_record db set number made) set n a b told calm (kept.lists refl)
-
+  module _ (b z : Overlay B g) (n : ℕ) (calm : Calm (has_number desc.structures set) n a b) (slots : IfSome o (SlotFits s)) (next : block_of s.items number ≤ seen_counts a (file_of s.number)) where
     same_file : seen b (file_of s.number) ≡ seen a (file_of s.number)
     same_file = (calm.others s.number (set_off desc set set s served may.at may.is_set)).1 told
 
-    change : SlotChanged s number (slot_after s.items o rec) (seen b) (slot_put s number (slot_bytes s.items (slot_after s.items o rec)) (seen b))
-    change =
+    change : may_own s rec.owner ≡ true → SlotChanged s number (slot_after s.items o rec) (seen b) (slot_put s number (slot_bytes s.items (slot_after s.items o rec)) (seen b))
+    change own =
         let counts = counts_small s o rec slots in
         let long : seen_counts a (file_of s.number) ≡ length (seen a (file_of s.number)) = counts_seen a agrees told (file_of s.number) in
         slot_written desc set number s (slot_after s.items o rec) (seen b) served may.at
-        (slot_fits desc set s (slot_after s.items o rec) made may.at (slot_links s.items o rec) fits (made_free free o slots) counts.0 counts.1) may.low (omega (arith, next, long, ap length same_file))
+        (slot_fits desc set s (slot_after s.items o rec) made may.at (slot_links s.items o rec) fits (made_may own o slots) counts.0 counts.1) may.low (omega (arith, next, long, ap length same_file))
         (ap (list_all (is_block s)) same_file ∙ (files.slots.each set s may.at may.is_set).blocks)
 
+    -- the files of data sets are still blocks of slots
+    slots_calm : AreSlots desc (seen b)
+    slots_calm = record { each = λ k t there is_set. ap (list_all (is_block t)) ((calm.others t.number (set_off desc set k t served there is_set)).1 told) ∙ (files.slots.each k t there is_set).blocks }
+
+    pub slots_after : s.owner ≢ 0 → seen z ≡ slot_put s number (slot_bytes s.items (slot_after s.items o rec)) (seen b) → AreSlots desc (seen z)
+    slots_after apart is =
+        let here : structure_of desc s.number ≡ Some s = ap (structure_of desc) (number_at desc set s served may.at) ∙ may.at in
+        subst (AreSlots desc) (sym is)
+        (slots_changed desc s number (slot_after s.items o rec) (seen b) (slot_put s number (slot_bytes s.items (slot_after s.items o rec)) (seen b)) served here (change (owned_may s rec.owner apart)) slots_calm)
+
     -- the record stands under its number
-    pub entered : seen z ≡ slot_put s number (slot_bytes s.items (slot_after s.items o rec)) (seen b) → AreWhole (written z) → (under z).content ≡ (under a).content → IsEntered desc db set number made (seen z) (Stored number)
-    entered is whole still = (
+    pub uncounted : OwnerStands db s rec → KeepsSets desc db set number (Some made) (listed b) Done → seen z ≡ slot_put s number (slot_bytes s.items (slot_after s.items o rec)) (seen b) → AreWhole (written z) → (under z).content ≡ (under a).content
+        → IsUncounted desc db set number made (seen z) (Stored number)
+    uncounted owner kept is whole still = (
       refl,
       none_refused (clash_seen desc desc.structures db set (Some number) made) kept.answer_is,
-      put_spells desc served db (seen a) (seen b) (seen z) set number s o rec spelt_seen may was free lists
-          (subst (λ (c : Content). SlotChanged s number (slot_after s.items o rec) (seen b) c) (sym is) change)
+      record_step desc served db (seen a) (seen b) (seen z) set number s o rec spelt_seen may was owner.stands
+          (lists_put desc served (with_record db set number made) set n a b told calm (kept.lists refl))
+          (subst (λ (c : Content). SlotChanged s number (slot_after s.items o rec) (seen b) c) (sym is) (change (stands_may db.records s rec.owner owner.stands)))
           (λ m all. changed_whole (written z) (under z).content (file_of m) whole (ap (λ (c : Content). list_all is_whole (c (file_of m))) (still ∙ sym below) ∙ all)),
     )
 
   -- or a set refuses it
-  pub refused : (b : Overlay B g) (k : ℕ) → KeepsSets desc db set number (Some made) (listed b) (Duplicate k) → IsEntered desc db set number made (seen b) (Refused k)
+  pub refused : (b : Overlay B g) (k : ℕ) → KeepsSets desc db set number (Some made) (listed b) (Duplicate k) → IsUncounted desc db set number made (seen b) (Refused k)
   refused b k kept = one_refused (clash_seen desc desc.structures db set (Some number) made) k kept.answer_is

@@ -1,7 +1,6 @@
 -- What is left after a record was stored is what storing it answers and leaves.
-use Rattle.std.proofs.Common.{◌≡◌, ◌∙◌, ◌+◌, ◌^◌, ◌<◌, ◌≤◌, ℕ, true, false, Some, None, refl, sym, ap, subst, arith}
-use Rattle.std.specs.Prelude.{◌==◌, is_some}
-use Rattle.std.proofs.lemmas.Bool.Decides.{nat_tests}
+use Rattle.std.proofs.Common.{◌≡◌, ◌∙◌, ◌+◌, ◌^◌, ◌<◌, ◌≤◌, ℕ, true, false, Some, None, refl, sym, ap, subst}
+use Rattle.std.specs.Prelude.{is_some}
 use Rattle.std.specs.declared.option.Option.{Option}
 use Rattle.std.specs.FinMap.{get}
 use Rattle.dms_block.specs.Content.{Content}
@@ -23,8 +22,7 @@ use Rattle.dms_sets.specs.ToldLaws.{clash_new}
 use Rattle.dms_store.specs.Putting.{IsSeenAfter, MayStore}
 use Rattle.dms_store.specs.PuttingAfter.{with_record}
 use Rattle.dms_store.specs.PuttingAnswers.{answers}
-use Rattle.dms_store.specs.PuttingEnters.{IsEntered, IsJudged}
-use Rattle.dms_store.specs.PuttingLaws.{IsFree}
+use Rattle.dms_store.specs.PuttingEnters.{IsEntered, IsJudged, OwnerStands}
 use Rattle.dms_store.specs.PuttingNumbers.{free_new, none_above, number_new, number_none, record_is}
 use Rattle.dms_store.specs.PuttingPlaced.{made_fits}
 use Rattle.dms_store.specs.Rows.{rec_opt}
@@ -59,12 +57,9 @@ module _ (desc : Described) (served : IsServed desc) (db : Db) (c d : Content) (
 
 -- ---- in the words of slots
 
--- a record that may be stored has no owner, since its data set is disjoint
-pub free_of : (desc : Described) (db : Db) (set : ℕ) (s : Shape) (name : Option ℕ) (rec : Record) → structure_of desc set ≡ Some s → MayStore desc db set name rec → IsFree s rec
-free_of desc db set s name rec at may = record { disjoint = sym (ap owner_of at) ∙ may.disjoint; unowned = alone rec.owner (ap (λ n. owner_stands db.records n rec.owner) (sym may.disjoint) ∙ may.owner_stands) }
-  where
-    alone : (n : ℕ) → (n == 0) ≡ true → n ≡ 0
-    alone n h = grind (arith, nat_tests, h)
+-- the owner of a record that may be stored stands
+pub owner_of_put : (desc : Described) (db : Db) (set : ℕ) (s : Shape) (name : Option ℕ) (rec : Record) → structure_of desc set ≡ Some s → MayStore desc db set name rec → OwnerStands db s rec
+owner_of_put desc db set s name rec at may = record { stands = ap (λ (o : Option Shape). owner_stands db.records (owner_of o) rec.owner) (sym at) ∙ may.owner_stands }
 
 module _ (desc : Described) (served : IsServed desc) (db : Db) (c d : Content) (set : ℕ) (s : Shape) (rec : Record) (spelt : spelled desc c ≡ Some db) (at : structure_of desc set ≡ Some s) (is_set : is_data_set (Some s) ≡ true) (fits : RecordFits desc set rec) where
   new_made : stored desc db set None rec ≡ linked s.items None rec

@@ -26,7 +26,7 @@ use Rattle.dms_slots.specs.SlotBlocks.{block_of, file_of, per_block, slot_at, sl
 use Rattle.dms_store.specs.Finding.{number_at, served_at}
 use Rattle.dms_store.specs.PuttingAfter.{after_get, counted_none, counted_still, more, owned_none, owned_still, owner_more, slot_after, slot_links, with_record}
 use Rattle.dms_store.specs.PuttingCounts.{stand_linked}
-use Rattle.dms_store.specs.PuttingSlots.{SlotsFit, FileStands, FilesStand, ListsSpell, SlotStands, SpellsFiles, spelled_again, spelled_files, structure_here}
+use Rattle.dms_store.specs.PuttingSlots.{SlotsFit, FileStands, FilesStand, ListsSpell, SlotStands, SpellsFiles, StandsFiles, spell_by, spelled_files, structure_here}
 use Rattle.dms_store.specs.PuttingSteps.{SlotChanged, step}
 use Rattle.dms_store.specs.Rows.{AreNumbered, rec_in, rec_opt}
 use Rattle.dms_store.specs.Serving.{IsServed}
@@ -198,17 +198,14 @@ module _ (desc : Described) (served : IsServed desc) (db : Db) (c e d : Content)
   slot_rec : (slot_after s.items o rec).rec ≡ made
   slot_rec = slot_links s.items o rec
 
-  new_stands : IsFree s rec → SlotStands desc after (owned_in desc db) s number (slot_after s.items o rec)
-  new_stands free = record {
+  new_stands : owner_stands db.records s.owner rec.owner ≡ true → SlotStands desc after (owned_in desc db) s number (slot_after s.items o rec)
+  new_stands held = record {
     most = may.most;
-    owner = ap (λ (r : Record). owner_stands after.records s.owner r.owner) slot_rec ∙ owner_more db set number made s.owner made.owner (made_owner o was (ap (λ n. owner_stands db.records n rec.owner) free.disjoint ∙ unowned rec.owner free.unowned));
+    owner = ap (λ (r : Record). owner_stands after.records s.owner r.owner) slot_rec ∙ owner_more db set number made s.owner made.owner (made_owner o was held);
     links = ap (λ (r : Record). links_stand after.records s.items r.values) slot_rec ∙ links_still db.records after.records s.items made.values (more db set number made) (made_links o refl was);
     counted = made_counted o was old_is ∙ sym (counted_same s.number number);
     owned = made_owned o was old_is;
   }
-    where
-      unowned : (n : ℕ) → n ≡ 0 → (n == 0) ≡ true
-      unowned n h = grind (arith, nat_tests, h)
 
   others_stand : (t : Shape) (n : ℕ) (x : Slot) → 1 ≤ t.number → (t.number ≡ set → n ≡ number → ⊥) → SlotStands desc db (owned_in desc db) t n x → SlotStands desc after (owned_in desc db) t n x
   others_stand t n x low apart h = record {
@@ -219,11 +216,11 @@ module _ (desc : Described) (served : IsServed desc) (db : Db) (c e d : Content)
     owned = h.owned;
   }
 
-  module _ (free : IsFree s rec) (lists : ListsPut desc after set c e) (change : SlotChanged s number (slot_after s.items o rec) e d) where
+  module _ (held : owner_stands db.records s.owner rec.owner ≡ true) (lists : ListsPut desc after set c e) (change : SlotChanged s number (slot_after s.items o rec) e d) where
     slots_after : FilesStand desc after (owned_in desc db) d
     slots_after =
         step desc served db after (owned_in desc db) (owned_in desc db) e d set number s (slot_after s.items o rec) may.at may.is_set may.low change
-        (λ p. after_get db set number made p ∙ ap (λ (r : Record). cond (eq_by_cmp place_cmp p (set, number)) (Some r) (get db.records p)) (sym slot_rec)) others_stand (new_stands free)
+        (λ p. after_get db set number made p ∙ ap (λ (r : Record). cond (eq_by_cmp place_cmp p (set, number)) (Some r) (get db.records p)) (sym slot_rec)) others_stand (new_stands held)
         (stand_still desc served db (owned_in desc db) c e (λ n t at is_set. file_still desc after set c e n t served lists at (no_kept t is_set)) files.slots)
 
     file_off : (n : ℕ) (t : Shape) → structure_of desc n ≡ Some t → is_data_set (Some t) ≡ false → file_in d t ≡ file_in e t
@@ -289,7 +286,17 @@ module _ (desc : Described) (served : IsServed desc) (db : Db) (c e d : Content)
         by None at = omega (arith, ap length (gone_still n at), (files.fit n low high).few)
         by (Some t) at = few_after n t low high at
 
-    -- The content spells the database with the record.
-    pub put_spells : ((n : ℕ) → list_all is_whole (c (file_of n)) ≡ true → list_all is_whole (d (file_of n)) ≡ true) → spelled desc d ≡ Some after
-    put_spells whole =
-        spelled_again desc after (owned_in desc db) d served slots_after (λ t m low. sym (owned_same free t m low)) files.entries lists_after (fit_after whole)
+    -- The files have the records with that one, and count what each record owned before it.
+    pub record_step : ((n : ℕ) → list_all is_whole (c (file_of n)) ≡ true → list_all is_whole (d (file_of n)) ≡ true) → StandsFiles desc after (owned_in desc db) d
+    record_step whole = record { slots = slots_after; lists = lists_after; fit = fit_after whole; entries = files.entries }
+
+  -- a record of a disjoint data set has no owner
+  free_held : IsFree s rec → owner_stands db.records s.owner rec.owner ≡ true
+  free_held free = ap (λ n. owner_stands db.records n rec.owner) free.disjoint ∙ unowned rec.owner free.unowned
+    where
+      unowned : (n : ℕ) → n ≡ 0 → (n == 0) ≡ true
+      unowned n h = grind (arith, nat_tests, h)
+
+  -- Where the data set is disjoint the content spells the database with the record.
+  pub put_spells : IsFree s rec → ListsPut desc after set c e → SlotChanged s number (slot_after s.items o rec) e d → ((n : ℕ) → list_all is_whole (c (file_of n)) ≡ true → list_all is_whole (d (file_of n)) ≡ true) → spelled desc d ≡ Some after
+  put_spells free lists change whole = spell_by desc after (owned_in desc db) d served (record_step (free_held free) lists change whole) (λ t m low. sym (owned_same free t m low))

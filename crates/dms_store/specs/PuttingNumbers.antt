@@ -1,6 +1,6 @@
 -- The number under which a record is stored, by the slots of its data set.
 use Rattle.std.proofs.Common.{◌≡◌, ◌≢◌, ◌∙◌, ◌+◌, ◌-◌, ◌≤◌, ℕ, Bool, true, false, cond, Some, None, refl, sym, ap, length, slice_get, arith}
-use Rattle.std.specs.Prelude.{is_some, nat_le, not}
+use Rattle.std.specs.Prelude.{nat_le, not}
 use Rattle.std.specs.declared.option.Option.{Option}
 use Rattle.std.specs.FinMap.{get}
 use Rattle.dms_block.specs.Content.{Content}

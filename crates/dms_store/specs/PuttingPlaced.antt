@@ -1,5 +1,5 @@
 -- The same, in the words of the calls that store a record.
-use Rattle.std.proofs.Common.{◌≡◌, ◌∙◌, ◌+◌, ◌≤◌, ◌<◌, ◌^◌, ℕ, [], Bool, true, IfSome, IsTrue, Some, None, sym, ap, subst, length, arith}
+use Rattle.std.proofs.Common.{◌≡◌, ◌≢◌, ◌∙◌, ◌+◌, ◌^◌, ◌<◌, ◌≤◌, ℕ, [], refl, Bool, true, IfSome, IsTrue, Some, None, sym, ap, subst, length, arith}
 use Rattle.std.specs.FinMap.{get}
 use Rattle.std.specs.List.{list_all}
 use Rattle.std.specs.Prelude.{◌&&◌, nat_le}
@@ -17,6 +17,7 @@ use Rattle.dms_desc.specs.Shape.{Shape, Described}
 use Rattle.dms_desc.specs.declared.record.Record.{Record}
 use Rattle.dms_layout.specs.Slots.{SlotFits, all_fit, slot_bytes}
 use Rattle.dms_layout.specs.declared.slot.Slot.{Slot}
+use Rattle.dms_model.specs.declared.put.Put.{Put}
 use Rattle.dms_model.specs.declared.put.Put.TheVariants.{Stored, Duplicate as Refused, Full}
 use Rattle.dms_model.specs.Db.{Db}
 use Rattle.dms_model.specs.Fitting.{AreFitting, IsNumber, RecordFits, is_number}
@@ -34,16 +35,19 @@ use Rattle.dms_slots.specs.Seen.{BadAt, BadIn}
 use Rattle.dms_store.specs.Files.{all_of}
 use Rattle.dms_store.specs.Finding.{record_fits_opt, seen_below, served_at}
 use Rattle.dms_store.specs.Lifted.{IsUsable, db_of}
-use Rattle.dms_store.specs.PuttingAfter.{slot_after, slot_links}
+use Rattle.dms_store.specs.Owning.{AreSlots}
+use Rattle.dms_store.specs.PuttingAfter.{slot_after, slot_links, with_record}
 use Rattle.dms_store.specs.PuttingAnswers.{change_stands, fit_all, none_refused, one_refused}
-use Rattle.dms_store.specs.PuttingEnters.{IsEntered, FindsSlot, IsJudged, IsPlaced, are, blocks_good, entered, refused, set_off, stands}
-use Rattle.dms_store.specs.PuttingLaws.{IsFree, MayStand}
+use Rattle.dms_store.specs.PuttingEnters.{FindsSlot, IsEntered, IsJudged, IsPlaced, IsUncounted, OwnerStands, are, blocks_good, refused, set_off, slots_after, stands, uncounted}
+use Rattle.dms_store.specs.PuttingLaws.{MayStand}
 use Rattle.dms_store.specs.PuttingNumbers.{none_above}
 use Rattle.dms_store.specs.PuttingOver.{AreWhole, are_listed}
-use Rattle.dms_store.specs.PuttingSlots.{spelled_files}
+use Rattle.dms_store.specs.PuttingMoved.{owners_after}
+use Rattle.dms_store.specs.PuttingOwners.{MayCount, may_count, owner_opt, spell}
+use Rattle.dms_store.specs.PuttingSlots.{StandsFiles, spelled_files}
 use Rattle.dms_store.specs.Rows.{rec_opt}
 use Rattle.dms_store.specs.Serving.{IsServed}
-use Rattle.dms_store.specs.Spelled.{spelled}
+use Rattle.dms_store.specs.Spelled.{owned_in, spelled}
 use Rattle.dms_store.specs.Undamaged.{no_bad_slot}
 
 -- what is stored for a record that fits, links as they stood, fits
@@ -97,19 +101,72 @@ module _ {B : Type 0} {g : Ghosts B} (desc : Described) (a : Overlay B g) (usabl
       let good = ap (list_all (is_block s)) same ∙ blocks_good desc usable.serves.served s s.number number o rec db a p.told agrees usable.none p.spelt may p.was made_fit in
       absurd (cc (all_of (is_block s) (seen b (file_of s.number)) i good here.0, here.1))
 
-  pub entered_at : IsFree s rec → (b z : Overlay B g) (n : ℕ) → Calm (has_number desc.structures s.number) n a b → KeepsSets desc db s.number number (Some slot.rec) (listed b) Done → block_of s.items number ≤ seen_counts a (file_of s.number)
-      → seen z ≡ slot_put s number (slot_bytes s.items slot) (seen b) → AreWhole (written z) → (under z).content ≡ (under a).content → IsEntered desc db s.number number slot.rec (seen z) (Stored number)
-  entered_at free b z n calm kept next is whole still =
-      subst (λ (r : Record). IsEntered desc db s.number number r (seen z) (Stored number)) (sym made_is)
-      (entered desc usable.serves.served s s.number number o rec db a p.told agrees usable.none p.spelt may p.was made_fit free b z n calm
-      (subst (λ (r : Record). KeepsSets desc db s.number number (Some r) (listed b) Done) made_is kept) p.slots next
-      (is ∙ ap (λ (x : Slot). slot_put s number (slot_bytes s.items x) (seen b)) p.slot_is) whole still)
+  -- the files with the record, before its owner counts it
+  module _ (b z : Overlay B g) (n : ℕ) (calm : Calm (has_number desc.structures s.number) n a b) (next : block_of s.items number ≤ seen_counts a (file_of s.number)) (is : seen z ≡ slot_put s number (slot_bytes s.items slot) (seen b)) where
+    put_is : seen z ≡ slot_put s number (slot_bytes s.items (slot_after s.items o rec)) (seen b)
+    put_is = is ∙ ap (λ (x : Slot). slot_put s number (slot_bytes s.items x) (seen b)) p.slot_is
 
-  pub refused_at : (b : Overlay B g) (k : ℕ) → KeepsSets desc db s.number number (Some slot.rec) (listed b) (Duplicate k) → IsEntered desc db s.number number slot.rec (seen b) (Refused k)
+    pub slots_at : s.owner ≢ 0 → AreSlots desc (seen z)
+    slots_at apart = slots_after desc usable.serves.served s s.number number o rec db a p.told agrees usable.none p.spelt may p.was made_fit b z n calm p.slots next apart put_is
+
+    pub uncounted_at : OwnerStands db s rec → KeepsSets desc db s.number number (Some slot.rec) (listed b) Done → AreWhole (written z) → (under z).content ≡ (under a).content → IsUncounted desc db s.number number slot.rec (seen z) (Stored number)
+    uncounted_at owner kept whole still =
+        subst (λ (r : Record). IsUncounted desc db s.number number r (seen z) (Stored number)) (sym made_is)
+        (uncounted desc usable.serves.served s s.number number o rec db a p.told agrees usable.none p.spelt may p.was made_fit b z n calm p.slots next owner
+        (subst (λ (r : Record). KeepsSets desc db s.number number (Some r) (listed b) Done) made_is kept) put_is whole still)
+
+  pub refused_at : (b : Overlay B g) (k : ℕ) → KeepsSets desc db s.number number (Some slot.rec) (listed b) (Duplicate k) → IsUncounted desc db s.number number slot.rec (seen b) (Refused k)
   refused_at b k kept =
-      subst (λ (r : Record). IsEntered desc db s.number number r (seen b) (Refused k)) (sym made_is)
+      subst (λ (r : Record). IsUncounted desc db s.number number r (seen b) (Refused k)) (sym made_is)
       (refused desc usable.serves.served s s.number number o rec db a p.told agrees usable.none p.spelt may p.was made_fit b k
       (subst (λ (r : Record). KeepsSets desc db s.number number (Some r) (listed b) (Duplicate k)) made_is kept))
+
+  -- ---- the owner's count
+
+  spelt_seen : spelled desc (seen a) ≡ Some db
+  spelt_seen = ap (spelled desc) (seen_below a usable.none) ∙ p.spelt
+
+  abbrev after : Db
+  after = with_record db s.number number slot.rec
+
+  after_is : after ≡ with_record db s.number number (linked s.items (rec_opt (slot_opt o)) rec)
+  after_is = ap (with_record db s.number number) made_is
+
+  -- what is counted so spells the database with the record
+  pub spelled_at : OwnerStands db s rec → (d : Content) → StandsFiles desc after (owners_after (owned_in desc db) s.owner (owner_opt o) rec.owner) d → spelled desc d ≡ Some after
+  spelled_at owner d files =
+      spell desc usable.serves.served db (seen a) s.number number s o rec spelt_seen may p.was owner.stands d
+      (subst (λ (x : Db). StandsFiles desc x (owners_after (owned_in desc db) s.owner (owner_opt o) rec.owner) d) after_is files)
+      ∙ ap (λ (x : Db). Some x) (sym after_is)
+
+  -- where a record is replaced nothing is to be counted
+  pub entered_old : (x : Slot) → o ≡ Some x → OwnerStands db s rec → (d : Content) (q : Put) → IsUncounted desc db s.number number slot.rec d q → IsEntered desc db s.number number slot.rec d q
+  entered_old x is owner d (Stored n) h = (h.0, h.1, spelled_at owner d (subst (λ (y : Option Slot). StandsFiles desc after (owners_after (owned_in desc db) s.owner (owner_opt y) rec.owner) d) (sym is) h.2))
+  entered_old x is owner d (Refused k) h = h
+  entered_old x is owner d Full h = h
+
+  module _ (new : old ≡ None) (owner : OwnerStands db s rec) where
+    none_there : o ≡ None
+    none_there = by o (p.old_is ∙ new)
+      where
+        by : (x : Option Slot) → rec_opt (slot_opt x) ≡ None → x ≡ None
+        by None h = refl
+        by (Some x) h = absurd (cc)
+
+    own_owner : slot.rec.owner ≡ rec.owner
+    own_owner = ap (λ (r : Record). r.owner) made_is ∙ ap (λ x. kept_owner x rec.owner) (p.old_is ∙ new)
+
+    -- the owner of a new record may count it
+    pub may_count_at : MayCount after (owned_in desc db) s.owner slot.rec.owner
+    may_count_at =
+        subst (λ m. MayCount after (owned_in desc db) s.owner m) (sym own_owner)
+        (subst (λ (x : Db). MayCount x (owned_in desc db) s.owner rec.owner) (sym after_is) (may_count desc usable.serves.served db (seen a) s.number number s o rec spelt_seen may p.was owner.stands))
+
+    pub counted_at : (d : Content) → StandsFiles desc after (owners_after (owned_in desc db) s.owner None slot.rec.owner) d → spelled desc d ≡ Some after
+    counted_at d files =
+        spelled_at owner d
+        (subst (λ m. StandsFiles desc after (owners_after (owned_in desc db) s.owner (owner_opt o) m) d) own_owner
+        (subst (λ (x : Option Slot). StandsFiles desc after (owners_after (owned_in desc db) s.owner (owner_opt x) slot.rec.owner) d) (sym none_there) files))
 
 -- ---- what the calls ask
 

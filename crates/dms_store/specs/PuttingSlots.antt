@@ -66,6 +66,13 @@ pub record OneFits (desc : Described) (c : Content) (n : ℕ) : Type 0 where
 abbrev pub SlotsFit : Described → Content → Type 0
 SlotsFit desc c = (n : ℕ) → 1 ≤ n → n ≤ 200 → OneFits desc c n
 
+-- The files of a content have the records of a database, where these are the counts of what each record owns.
+pub record StandsFiles (desc : Described) (db : Db) (own : ℕ → ℕ → ℕ) (c : Content) : Type 0 where
+  pub slots : FilesStand desc db own c
+  pub lists : ListsSpell desc db c
+  pub fit : SlotsFit desc c
+  pub entries : db.entries ≡ []
+
 -- ---- places
 
 pub same_at : (s n : ℕ) → eq_by_cmp place_cmp (s, n) (s, n) ≡ true
@@ -296,3 +303,7 @@ spelled_again desc db own c served slots owned none lists fit =
     let fits = fits_again desc db own c served 200 1 (omega arith) (omega arith) fit in
     let test : is_spelled desc c ≡ true = ap (λ d. files_spell desc d c desc.structures && files_fit desc c 200 1) is ∙ (λ i. files i && fits i) in
     λ i. some_if (test i) (is i)
+
+-- So do files that have its records, where they count what each record owns.
+pub spell_by : (desc : Described) (db : Db) (own : ℕ → ℕ → ℕ) (c : Content) → IsServed desc → StandsFiles desc db own c → ((set n : ℕ) → 1 ≤ set → own set n ≡ owned_in desc db set n) → spelled desc c ≡ Some db
+spell_by desc db own c served files owned = spelled_again desc db own c served files.slots owned files.entries files.lists files.fit

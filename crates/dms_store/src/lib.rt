@@ -9,6 +9,7 @@ mod laws;
 mod linking;
 mod listed;
 mod note;
+mod owning;
 mod paths;
 mod putting;
 mod scanning;

@@ -18,7 +18,8 @@ ghost use Rattle.dms_store.specs.Lifted.{IsUsable};
 ghost use Rattle.dms_store.specs.Putting.{Answers, AnswersOver};
 ghost use Rattle.dms_store.specs.PuttingAfter.{slot_after, with_record};
 ghost use Rattle.dms_store.specs.PuttingCalls.{WritesAtMost, HandsDown};
-ghost use Rattle.dms_store.specs.PuttingEnters.{IsEntered, FindsSlot, IsJudged, IsPlaced};
+ghost use Rattle.dms_store.specs.Owning.{AreSlots, IfOwned};
+ghost use Rattle.dms_store.specs.PuttingEnters.{FindsSlot, IfStored, IsEntered, IsJudged, IsPlaced, IsUncounted, OwnerStands};
 ghost use Rattle.dms_store.specs.PuttingLaws.{IsFree, ListsPut, MayStand};
 ghost use Rattle.dms_store.specs.PuttingOver.{AreWhole};
 ghost use Rattle.dms_store.specs.PuttingSteps.{SlotChanged};
@@ -27,6 +28,7 @@ ghost use Rattle.dms_store.specs.Serving.{IsServed};
 ghost use Rattle.dms_store.specs.Spelled.{file_in, is_whole, spelled};
 
 use crate::linking::slot_after;
+use crate::owning::count_owner;
 use dms_block::{Block, BlockFault, Blocks, Change, Overlay};
 use dms_desc::{Description, Record, Structure};
 use dms_layout::Slot;
@@ -83,8 +85,10 @@ fn write_at<B: Blocks>(
     ensures enters { WritesAtMost (9 * length desc.now.structures + 1) result over.old over.new }
     ensures below { (db : Db) (o : Option Slot) (rec : Record) → IsPlaced (described desc.now) db (shape_of s.now) number o rec (option_copied old.entry) slot.now over.old
         → HasCausesOr (λ f b. ⊥) result (under over.old) (under over.new) }
+    ensures slots { IfOk result (λ p. (db : Db) (o : Option Slot) (rec : Record) → IsPlaced (described desc.now) db (shape_of s.now) number o rec (option_copied old.entry) slot.now over.old
+        → IfOwned s.now.owner (IfStored p (AreSlots (described desc.now) (seen over.new)))) }
     ensures entered { IfOk result (λ p. (db : Db) (o : Option Slot) (rec : Record) → IsPlaced (described desc.now) db (shape_of s.now) number o rec (option_copied old.entry) slot.now over.old
-        → IsFree (shape_of s.now) rec → IsEntered (described desc.now) db s.now.number number slot.now.rec (seen over.new) p) }
+        → OwnerStands db (shape_of s.now) rec → IsUncounted (described desc.now) db s.now.number number slot.now.rec (seen over.new) p) }
 {
     match change(over, alloc, desc, s.number, number, old, Some(&slot.rec)) {
         Err(e) => Err(e),
@@ -95,6 +99,41 @@ fn write_at<B: Blocks>(
                 see_whole(over.changes.as_slice());
                 Ok(Put::Stored(number))
             }
+        },
+    }
+}
+
+// The same of a new record, which its owner counts from now on.
+fn write_new<B: Blocks>(
+    over: &mut Overlay<B>,
+    alloc: Global,
+    desc: &Description,
+    s: &Structure,
+    number: u64,
+    slot: &Slot,
+) -> Result<Put, BlockFault>
+    requires usable { IsUsable (described desc.now) over.old }
+    requires at { structure_of (described desc.now) s.now.number ≡ Some (shape_of s.now) }
+    requires set { is_data_set (Some (shape_of s.now)) ≡ true }
+    requires low { 1 ≤ number }
+    requires most { number ≤ s.now.population }
+    requires next { block_of s.now.items number ≤ count_of (shape_of s.now) over.old }
+    requires new { RecordFits (described desc.now) s.now.number slot.now.rec }
+    ensures fits { IfOk result (PutFits (described desc.now) s.now.number) }
+    ensures enters { WritesAtMost (9 * length desc.now.structures + 2) result over.old over.new }
+    ensures below { (db : Db) (o : Option Slot) (rec : Record) → IsPlaced (described desc.now) db (shape_of s.now) number o rec None slot.now over.old
+        → HasCausesOr (λ f b. ⊥) result (under over.old) (under over.new) }
+    ensures entered { IfOk result (λ p. (db : Db) (o : Option Slot) (rec : Record) → IsPlaced (described desc.now) db (shape_of s.now) number o rec None slot.now over.old
+        → OwnerStands db (shape_of s.now) rec → IsEntered (described desc.now) db s.now.number number slot.now.rec (seen over.new) p) }
+{
+    match write_at(over, alloc, desc, s, number, None, slot) {
+        Err(e) => Err(e),
+        Ok(Put::Duplicate(set)) => Ok(Put::Duplicate(set)),
+        Ok(Put::Full) => Ok(Put::Full),
+        Ok(Put::Stored(stored)) => match count_owner(over, alloc, desc, s.owner, slot.rec.owner) {
+            Err(e) => Err(e),
+            Ok(false) => Ok(Put::Full),
+            Ok(true) => Ok(Put::Stored(stored)),
         },
     }
 }
@@ -118,15 +157,16 @@ fn store_at<B: Blocks>(
     requires old { IfSome (option_copied old) (SlotFits (shape_of s.now)) }
     requires new { RecordFits (described desc.now) s.now.number rec.now }
     ensures fits { IfOk result (PutFits (described desc.now) s.now.number) }
-    ensures enters { WritesAtMost (9 * length desc.now.structures + 1) result over.old over.new }
+    ensures enters { WritesAtMost (9 * length desc.now.structures + 2) result over.old over.new }
     ensures below { (db : Db) → FindsSlot (described desc.now) db (shape_of s.now) number (option_copied old.entry) over.old
         → HasCausesOr (λ f b. ⊥) result (under over.old) (under over.new) }
     ensures entered { IfOk result (λ p. (db : Db) → FindsSlot (described desc.now) db (shape_of s.now) number (option_copied old.entry) over.old
-        → IsFree (shape_of s.now) rec.now → IsEntered (described desc.now) db s.now.number number (linked s.now.items (rec_opt (slot_opt (option_copied old.entry))) rec.now) (seen over.new) p) }
+        → OwnerStands db (shape_of s.now) rec.now
+        → IsEntered (described desc.now) db s.now.number number (linked s.now.items (rec_opt (slot_opt (option_copied old.entry))) rec.now) (seen over.new) p) }
 {
     let slot = slot_after(alloc, s, old, rec)?;
     match old {
-        None => write_at(over, alloc, desc, s, number, None, &slot),
+        None => write_new(over, alloc, desc, s, number, &slot),
         Some(old) => write_at(over, alloc, desc, s, number, Some(&old.rec), &slot),
     }
 }
@@ -146,7 +186,7 @@ fn judge<B: Blocks>(
     requires above { number ≡ s.now.population + 1 }
     requires new { RecordFits (described desc.now) s.now.number rec.now }
     ensures fits { IfOk result (PutFits (described desc.now) s.now.number) }
-    ensures enters { WritesAtMost (9 * length desc.now.structures + 1) result over.old over.new }
+    ensures enters { WritesAtMost (9 * length desc.now.structures + 2) result over.old over.new }
     ensures below { (db : Db) → IsTrue (under over.old).told → spelled (described desc.now) (under over.old).content ≡ Some db
         → HasCausesOr (λ f b. ⊥) result (under over.old) (under over.new) }
     ensures judged { IfOk result (λ p. (db : Db) → IsTrue (under over.old).told → spelled (described desc.now) (under over.old).content ≡ Some db
@@ -173,7 +213,7 @@ fn put_new<B: Blocks>(
     requires set { is_data_set (Some (shape_of s.now)) ≡ true }
     requires new { RecordFits (described desc.now) s.now.number rec.now }
     ensures fits { IfOk result (PutFits (described desc.now) s.now.number) }
-    ensures enters { WritesAtMost (9 * length desc.now.structures + 1) result over.old over.new }
+    ensures enters { WritesAtMost (9 * length desc.now.structures + 2) result over.old over.new }
     ensures below { (db : Db) → IsTrue (under over.old).told → spelled (described desc.now) (under over.old).content ≡ Some db
         → HasCausesOr (λ f b. ⊥) result (under over.old) (under over.new) }
     ensures answers { IfOk result (λ p. IsTrue (under over.old).told
@@ -202,7 +242,7 @@ fn put_old<B: Blocks>(
     requires most { number ≤ s.now.population }
     requires new { RecordFits (described desc.now) s.now.number rec.now }
     ensures fits { IfOk result (PutFits (described desc.now) s.now.number) }
-    ensures enters { WritesAtMost (9 * length desc.now.structures + 1) result over.old over.new }
+    ensures enters { WritesAtMost (9 * length desc.now.structures + 2) result over.old over.new }
     ensures below { (db : Db) → IsTrue (under over.old).told → spelled (described desc.now) (under over.old).content ≡ Some db
         → HasCausesOr (λ f b. ⊥) result (under over.old) (under over.new) }
     ensures answers { IfOk result (λ p. IsTrue (under over.old).told
@@ -230,7 +270,7 @@ fn put_in<B: Blocks>(
     requires number { IfSome number (λ n. (1 ≤ n) × (n ≤ s.now.population)) }
     requires new { RecordFits (described desc.now) s.now.number rec.now }
     ensures fits { IfOk result (PutFits (described desc.now) s.now.number) }
-    ensures enters { WritesAtMost (9 * length desc.now.structures + 1) result over.old over.new }
+    ensures enters { WritesAtMost (9 * length desc.now.structures + 2) result over.old over.new }
     ensures below { (db : Db) → IsTrue (under over.old).told → spelled (described desc.now) (under over.old).content ≡ Some db
         → HasCausesOr (λ f b. ⊥) result (under over.old) (under over.new) }
     ensures answers { IfOk result (λ p. IsTrue (under over.old).told
@@ -256,7 +296,7 @@ fn put_over<B: Blocks>(
     requires number { IfSome number (IsNumber (described desc.now) set) }
     requires fits { RecordFits (described desc.now) set rec.now }
     ensures fits { IfOk result (PutFits (described desc.now) set) }
-    ensures enters { WritesAtMost (9 * length desc.now.structures + 1) result over.old over.new }
+    ensures enters { WritesAtMost (9 * length desc.now.structures + 2) result over.old over.new }
     ensures below { (db : Db) → IsTrue (under over.old).told → spelled (described desc.now) (under over.old).content ≡ Some db
         → HasCausesOr (λ f b. ⊥) result (under over.old) (under over.new) }
     ensures answers { IfOk result (λ p. IsTrue (under over.old).told
@@ -268,8 +308,9 @@ fn put_over<B: Blocks>(
     }
 }
 
-/// Stores a new record of a data set under the least free number, with null links, or replaces all items but the links
-/// of the record with this number. What is written reaches the blocks in one call, and only where the record is stored.
+/// Stores a new record of a data set under the least free number, with null links, which its owner counts from then on;
+/// or replaces all items but the links of the record with this number, which keeps its owner. What is written reaches the
+/// blocks in one call, and only where the record is stored.
 pub fn put<B: Blocks>(
     over: &mut Overlay<B>,
     alloc: Global,
@@ -284,7 +325,7 @@ pub fn put<B: Blocks>(
     requires fits { RecordFits (described desc.now) set rec.now }
     ensures fits { IfOk result (PutFits (described desc.now) set) }
     ensures written { written over.new ≡ [] }
-    ensures hands_down { HandsDown (9 * length desc.now.structures + 1) result over.old over.new }
+    ensures hands_down { HandsDown (9 * length desc.now.structures + 2) result over.old over.new }
     ensures below { (db : Db) → IsTrue (under over.old).told → spelled (described desc.now) (under over.old).content ≡ Some db
         → HasCausesOr (λ f b. ⊥) result (under over.old) (under over.new) }
     ensures answers { IfOk result (λ p. IsTrue (under over.old).told

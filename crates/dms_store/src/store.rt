@@ -186,8 +186,9 @@ impl<B: Blocks> BlockStore<B> {
         note(&mut self.found, self.over.below.say(bytes))
     }
 
-    /// Stores a new record of a data set under the least free number, with null links, or replaces all items but the
-    /// links of the record with this number. It is the database's where the data set is disjoint.
+    /// Stores a new record of a data set under the least free number, with null links, which its owner counts from then
+    /// on; or replaces all items but the links of the record with this number, which keeps its owner. It does so where
+    /// that record and the record's owner stand.
     pub fn put(
         &mut self,
         alloc: Global,

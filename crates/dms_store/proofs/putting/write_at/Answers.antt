@@ -13,7 +13,7 @@ use Rattle.dms_store.specs.Finding.{served_at}
 use Rattle.dms_store.specs.PuttingCalls.{enters_as, enters_err, enters_write}
 use Rattle.dms_store.specs.PuttingEnters.{lists_usable, may_enter, set_off}
 use Rattle.dms_store.specs.PuttingOver.{AreWhole}
-use Rattle.dms_store.specs.PuttingPlaced.{entered_at, few_numbers, listed_at, not_bad, number_fits, refused_at, stands_at, values_all}
+use Rattle.dms_store.specs.PuttingPlaced.{few_numbers, listed_at, not_bad, number_fits, refused_at, slots_at, stands_at, uncounted_at, values_all}
 use Rattle.dms_store.proofs.putting.write_at.Goals as goal
 
 pub change-requires-clause-usable : goal.change-requires-clause-usable
@@ -54,7 +54,7 @@ returns-in-Err-clause-below g c db o rec p =
     c.requires.usable.sound
 
 pub returns-in-Ok-Duplicate-clause-entered : goal.returns-in-Ok-Duplicate-clause-entered
-returns-in-Ok-Duplicate-clause-entered g c db o rec p free =
+returns-in-Ok-Duplicate-clause-entered g c db o rec p owner =
     let desc = described c.args.desc.now in
     let s = shape_of c.args.s.now in
     let agrees = g.met.B.Blocks.agrees c.args.over.now.below c.requires.usable.sound in
@@ -92,8 +92,19 @@ returns-in-Ok-clause-enters g c =
     (enters_write (has_number desc.structures s.number) n (9 * length c.args.desc.now.structures + 1) 1 (BadAt s (block_of s.items c.args.number) c.change.new.lists) (Ok tt) c.args.over.now c.change.new.lists c.write_slot.new.b
     g.met.B.Blocks.same_then c.requires.usable.sound (omega arith) c.in-Ok-Done.ensures.calm c.in-Ok.ensures.writes c.in-Ok.ensures.causes)
 
+pub returns-in-Ok-clause-slots : goal.returns-in-Ok-clause-slots
+returns-in-Ok-clause-slots g c db o rec p apart =
+    let desc = described c.args.desc.now in
+    let s = shape_of c.args.s.now in
+    let agrees = g.met.B.Blocks.agrees c.args.over.now.below c.requires.usable.sound in
+    let n = 3 * length c.args.desc.now.structures in
+    let calm = c.in-Ok-Done.ensures.calm in
+    let told : IsTrue (under c.change.new.lists).told = calm.told ∙ p.told in
+    slots_at desc c.args.over.now c.requires.usable agrees s c.args.number c.requires.at c.requires.set c.requires.low c.requires.most c.args.slot.now c.requires.new (option_copied c.args.old) db o rec p c.change.new.lists c.write_slot.new.b n calm
+    c.requires.next (c.in-Ok.ensures.seen told) apart
+
 pub returns-in-Ok-clause-entered : goal.returns-in-Ok-clause-entered
-returns-in-Ok-clause-entered g c db o rec p free =
+returns-in-Ok-clause-entered g c db o rec p owner =
     let desc = described c.args.desc.now in
     let s = shape_of c.args.s.now in
     let agrees = g.met.B.Blocks.agrees c.args.over.now.below c.requires.usable.sound in
@@ -101,11 +112,12 @@ returns-in-Ok-clause-entered g c db o rec p free =
     let calm = c.in-Ok-Done.ensures.calm in
     let first = calm.looks c.requires.usable.sound in
     let told : IsTrue (under c.change.new.lists).told = calm.told ∙ p.told in
-    entered_at desc c.args.over.now c.requires.usable agrees s c.args.number c.requires.at c.requires.set c.requires.low c.requires.most c.args.slot.now c.requires.new (option_copied c.args.old) db o rec p free c.change.new.lists c.write_slot.new.b n calm
+    uncounted_at desc c.args.over.now c.requires.usable agrees s c.args.number c.requires.at c.requires.set c.requires.low c.requires.most c.args.slot.now c.requires.new (option_copied c.args.old) db o rec p c.change.new.lists c.write_slot.new.b n calm
+    c.requires.next (c.in-Ok.ensures.seen told) owner
     (subst (λ x. KeepsSets desc db s.number c.args.number (Some c.args.slot.now.rec) (listed c.change.new.lists) x) c.in-Ok-Done.field-0-is (c.in-Ok-Done.ensures.kept db
     (stands_at desc c.args.over.now c.requires.usable agrees s c.args.number c.requires.at c.requires.set c.requires.low c.requires.most c.args.slot.now c.requires.new (option_copied c.args.old) db o rec p)
     (listed_at desc c.args.over.now c.requires.usable agrees s c.args.number c.requires.at c.requires.set c.requires.low c.requires.most c.args.slot.now c.requires.new (option_copied c.args.old) db o rec p)))
-    c.requires.next (c.in-Ok.ensures.seen told) (subst AreWhole c.as_slice.ensures c.see_whole.ensures) (c.in-Ok.ensures.writes.looks.same.content told ∙ first.same.content p.told)
+    (subst AreWhole c.as_slice.ensures c.see_whole.ensures) (c.in-Ok.ensures.writes.looks.same.content told ∙ first.same.content p.told)
 
 pub returns-in-Ok-clause-fits : goal.returns-in-Ok-clause-fits
 returns-in-Ok-clause-fits g c = number_fits (described c.args.desc.now) c.args.s.now.number c.args.number (shape_of c.args.s.now) c.requires.at c.requires.low c.requires.most

@@ -14,7 +14,7 @@ returns-clause-put g c =
     let desc = described c.args.self.now.desc in
     let o = c.args.self.now.over in
     subst (λ r. IfOk r (Stores desc (store_seen desc c.args.self.now.found o).db (store_seen desc c.note.new.found c.put-stored.new.over).db c.args.set c.args.number c.args.rec.now)) (sym c.note.ensures.same)
-    (stores desc c.args.self.now.found c.note.new.found o c.put-stored.new.over (9 * length c.args.self.now.desc.structures + 1) c.args.set c.args.number c.args.rec.now c.put-stored.result c.put-stored.ensures.hands_down c.put-stored.ensures.answers)
+    (stores desc c.args.self.now.found c.note.new.found o c.put-stored.new.over (9 * length c.args.self.now.desc.structures + 2) c.args.set c.args.number c.args.rec.now c.put-stored.result c.put-stored.ensures.hands_down c.put-stored.ensures.answers)
 
 pub returns-clause-changed : goal.returns-clause-changed
 returns-clause-changed g c =
@@ -22,5 +22,5 @@ returns-clause-changed g c =
     let o = c.args.self.now.over in
     let n = length c.args.self.now.desc.structures in
     subst (λ r. ChangesAtMost (64 * length desc.structures) r (store_seen desc c.args.self.now.found o) (store_seen desc c.note.new.found c.put-stored.new.over)) (sym c.note.ensures.same)
-    (changed desc c.args.self.now.found c.note.new.found o c.put-stored.new.over (9 * n + 1) (64 * length desc.structures) c.put-stored.result (few_structures desc c.args.self.now.desc.structures c.args.set refl c.requires.set) c.note.ensures.small c.note.ensures.noted c.requires.sound
+    (changed desc c.args.self.now.found c.note.new.found o c.put-stored.new.over (9 * n + 2) (64 * length desc.structures) c.put-stored.result (few_structures desc c.args.self.now.desc.structures c.args.set refl c.requires.set) c.note.ensures.small c.note.ensures.noted c.requires.sound
     (g.met.B.Blocks.agrees o.below c.requires.sound.sound) c.put-stored.ensures.written c.put-stored.ensures.hands_down c.put-stored.ensures.below)
