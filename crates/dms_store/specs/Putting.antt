@@ -1,5 +1,5 @@
 -- What a store on blocks answers where a record is to be stored.
-use Rattle.std.specs.Prelude.{◌≡◌, ℕ, true, IfSome, Some, ⊤, is_some}
+use Rattle.std.specs.Prelude.{◌≡◌, ℕ, true, IfSome, Some, None, ⊤, is_some}
 use Rattle.std.specs.declared.option.Option.{Option}
 use Rattle.std.specs.FinMap.{get}
 use Rattle.dms_block.specs.Content.{Content}
@@ -13,10 +13,10 @@ use Rattle.dms_model.specs.Stores.{put_after, put_answer}
 use Rattle.dms_model.specs.Valid.{owner_of, owner_stands}
 use Rattle.dms_store.specs.Spelled.{spelled}
 
--- This record may be stored: its owner's record is there, or it has no owner where its data set is disjoint; and where a number is
--- named its record is there.
+-- This record may be stored: where it is a new one its owner's record is there, or it has no owner where its data set is disjoint; and
+-- where a number is named its record is there. That one keeps its owner.
 pub record MayStore (desc : Described) (db : Db) (set : ℕ) (number : Option ℕ) (rec : Record) : Type 0 where
-  pub owner_stands : owner_stands db.records (owner_of (structure_of desc set)) rec.owner ≡ true
+  pub owner_stands : number ≡ None → owner_stands db.records (owner_of (structure_of desc set)) rec.owner ≡ true
   pub named : IfSome number (λ n. is_some (get db.records (set, n)) ≡ true)
 
 -- what is seen after an answer: the database with the record, where it is stored

@@ -70,9 +70,9 @@ IfStored (Stored n) P = P
 IfStored (Refused s) P = ⊤
 IfStored Full P = ⊤
 
--- the owner of a record stands, or it has none where its data set is disjoint
-pub record OwnerStands (db : Db) (s : Shape) (rec : Record) : Type 0 where
-  pub stands : owner_stands db.records s.owner rec.owner ≡ true
+-- the owner of a record stands where it is a new one, or it has none where its data set is disjoint
+pub record OwnerStands (db : Db) (s : Shape) (o : Option Slot) (rec : Record) : Type 0 where
+  pub stands : o ≡ None → owner_stands db.records s.owner rec.owner ≡ true
 
 -- what is answered where no number is free
 abbrev pub IsJudged : Described → Db → ℕ → ℕ → Record → Put → Type 0
@@ -192,9 +192,9 @@ module _ {B : Type 0} {g : Ghosts B} (desc : Described) (served : IsServed desc)
   blocks_good = (files.slots.each set s may.at may.is_set).blocks
 
   -- what is stored may have its owner
-  made_may : may_own s rec.owner ≡ true → (x : Option Slot) → IfSome x (SlotFits s) → may_own s (kept_owner (rec_opt (slot_opt x)) rec.owner) ≡ true
-  made_may own None f = own
-  made_may own (Some slot) f = f.disjoint
+  made_may : (x : Option Slot) → (x ≡ None → may_own s rec.owner ≡ true) → IfSome x (SlotFits s) → may_own s (kept_owner (rec_opt (slot_opt x)) rec.owner) ≡ true
+  made_may None own f = own refl
+  made_may (Some slot) own f = f.disjoint
 
   small : number < 2 ^ 32
   small = omega (arith, may.most, (served_at desc set s served may.at).population)
@@ -209,12 +209,12 @@ module _ {B : Type 0} {g : Ghosts B} (desc : Described) (served : IsServed desc)
     same_file : seen b (file_of s.number) ≡ seen a (file_of s.number)
     same_file = (calm.others s.number (set_off desc set set s served may.at may.is_set)).1 told
 
-    change : may_own s rec.owner ≡ true → SlotChanged s number (slot_after s.items o rec) (seen b) (slot_put s number (slot_bytes s.items (slot_after s.items o rec)) (seen b))
+    change : (o ≡ None → may_own s rec.owner ≡ true) → SlotChanged s number (slot_after s.items o rec) (seen b) (slot_put s number (slot_bytes s.items (slot_after s.items o rec)) (seen b))
     change own =
         let counts = counts_small s o rec slots in
         let long : seen_counts a (file_of s.number) ≡ length (seen a (file_of s.number)) = counts_seen a agrees told (file_of s.number) in
         slot_written desc set number s (slot_after s.items o rec) (seen b) served may.at
-        (slot_fits desc set s (slot_after s.items o rec) made may.at (slot_links s.items o rec) fits (made_may own o slots) counts.0 counts.1) may.low (omega (arith, next, long, ap length same_file))
+        (slot_fits desc set s (slot_after s.items o rec) made may.at (slot_links s.items o rec) fits (made_may o own slots) counts.0 counts.1) may.low (omega (arith, next, long, ap length same_file))
         (ap (list_all (is_block s)) same_file ∙ (files.slots.each set s may.at may.is_set).blocks)
 
     -- the files of data sets are still blocks of slots
@@ -225,17 +225,17 @@ module _ {B : Type 0} {g : Ghosts B} (desc : Described) (served : IsServed desc)
     slots_after apart is =
         let here : structure_of desc s.number ≡ Some s = ap (structure_of desc) (number_at desc set s served may.at) ∙ may.at in
         subst (AreSlots desc) (sym is)
-        (slots_changed desc s number (slot_after s.items o rec) (seen b) (slot_put s number (slot_bytes s.items (slot_after s.items o rec)) (seen b)) served here (change (owned_may s rec.owner apart)) slots_calm)
+        (slots_changed desc s number (slot_after s.items o rec) (seen b) (slot_put s number (slot_bytes s.items (slot_after s.items o rec)) (seen b)) served here (change (λ none. owned_may s rec.owner apart)) slots_calm)
 
     -- the record stands under its number
-    pub uncounted : OwnerStands db s rec → KeepsSets desc db set number (Some made) (listed b) Done → seen z ≡ slot_put s number (slot_bytes s.items (slot_after s.items o rec)) (seen b) → AreWhole (written z) → (under z).content ≡ (under a).content
+    pub uncounted : OwnerStands db s o rec → KeepsSets desc db set number (Some made) (listed b) Done → seen z ≡ slot_put s number (slot_bytes s.items (slot_after s.items o rec)) (seen b) → AreWhole (written z) → (under z).content ≡ (under a).content
         → IsUncounted desc db set number made (seen z) (Stored number)
     uncounted owner kept is whole still = (
       refl,
       none_refused (clash_seen desc desc.structures db set (Some number) made) kept.answer_is,
       record_step desc served db (seen a) (seen b) (seen z) set number s o rec spelt_seen may was owner.stands
           (lists_put desc served (with_record db set number made) set n a b told calm (kept.lists refl))
-          (subst (λ (c : Content). SlotChanged s number (slot_after s.items o rec) (seen b) c) (sym is) (change (stands_may db.records s rec.owner owner.stands)))
+          (subst (λ (c : Content). SlotChanged s number (slot_after s.items o rec) (seen b) c) (sym is) (change (λ none. stands_may db.records s rec.owner (owner.stands none))))
           (λ m all. changed_whole (written z) (under z).content (file_of m) whole (ap (λ (c : Content). list_all is_whole (c (file_of m))) (still ∙ sym below) ∙ all)),
     )
 

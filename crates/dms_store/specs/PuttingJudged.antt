@@ -57,9 +57,13 @@ module _ (desc : Described) (served : IsServed desc) (db : Db) (c d : Content) (
 
 -- ---- in the words of slots
 
--- the owner of a record that may be stored stands
-pub owner_of_put : (desc : Described) (db : Db) (set : ℕ) (s : Shape) (name : Option ℕ) (rec : Record) → structure_of desc set ≡ Some s → MayStore desc db set name rec → OwnerStands db s rec
-owner_of_put desc db set s name rec at may = record { stands = ap (λ (o : Option Shape). owner_stands db.records (owner_of o) rec.owner) (sym at) ∙ may.owner_stands }
+-- the owner of a new record that may be stored stands
+pub owner_new : (desc : Described) (db : Db) (set : ℕ) (s : Shape) (rec : Record) → structure_of desc set ≡ Some s → MayStore desc db set None rec → OwnerStands db s None rec
+owner_new desc db set s rec at may = record { stands = λ none. ap (λ (o : Option Shape). owner_stands db.records (owner_of o) rec.owner) (sym at) ∙ may.owner_stands refl }
+
+-- and nothing is asked of that of a record that replaces one
+pub owner_old : (db : Db) (s : Shape) (slot : Slot) (rec : Record) → OwnerStands db s (Some slot) rec
+owner_old db s slot rec = record { stands = λ none. absurd (cc none) }
 
 module _ (desc : Described) (served : IsServed desc) (db : Db) (c d : Content) (set : ℕ) (s : Shape) (rec : Record) (spelt : spelled desc c ≡ Some db) (at : structure_of desc set ≡ Some s) (is_set : is_data_set (Some s) ≡ true) (fits : RecordFits desc set rec) where
   new_made : stored desc db set None rec ≡ linked s.items None rec

@@ -190,15 +190,15 @@ module _ (desc : Described) (served : IsServed desc) (db : Db) (c e d : Content)
       low_set (suc k) h = omega arith
   made_owned (Some slot) is there = ((files.slots.each set s may.at may.is_set).slots number slot may.low is).owned
 
-  -- the owner that is stored stands
-  made_owner : (x : Option Slot) → slot_at s (file_in c s) number ≡ slot_opt x → owner_stands db.records s.owner rec.owner ≡ true → owner_stands db.records s.owner (kept_owner (rec_opt (slot_opt x)) rec.owner) ≡ true
-  made_owner None is own = own
+  -- the owner that is stored stands: that of a new record, and that which stood
+  made_owner : (x : Option Slot) → slot_at s (file_in c s) number ≡ slot_opt x → (x ≡ None → owner_stands db.records s.owner rec.owner ≡ true) → owner_stands db.records s.owner (kept_owner (rec_opt (slot_opt x)) rec.owner) ≡ true
+  made_owner None is own = own refl
   made_owner (Some slot) is own = ((files.slots.each set s may.at may.is_set).slots number slot may.low is).owner
 
   slot_rec : (slot_after s.items o rec).rec ≡ made
   slot_rec = slot_links s.items o rec
 
-  new_stands : owner_stands db.records s.owner rec.owner ≡ true → SlotStands desc after (owned_in desc db) s number (slot_after s.items o rec)
+  new_stands : (o ≡ None → owner_stands db.records s.owner rec.owner ≡ true) → SlotStands desc after (owned_in desc db) s number (slot_after s.items o rec)
   new_stands held = record {
     most = may.most;
     owner = ap (λ (r : Record). owner_stands after.records s.owner r.owner) slot_rec ∙ owner_more db set number made s.owner made.owner (made_owner o was held);
@@ -216,7 +216,7 @@ module _ (desc : Described) (served : IsServed desc) (db : Db) (c e d : Content)
     owned = h.owned;
   }
 
-  module _ (held : owner_stands db.records s.owner rec.owner ≡ true) (lists : ListsPut desc after set c e) (change : SlotChanged s number (slot_after s.items o rec) e d) where
+  module _ (held : o ≡ None → owner_stands db.records s.owner rec.owner ≡ true) (lists : ListsPut desc after set c e) (change : SlotChanged s number (slot_after s.items o rec) e d) where
     slots_after : FilesStand desc after (owned_in desc db) d
     slots_after =
         step desc served db after (owned_in desc db) (owned_in desc db) e d set number s (slot_after s.items o rec) may.at may.is_set may.low change
@@ -299,4 +299,4 @@ module _ (desc : Described) (served : IsServed desc) (db : Db) (c e d : Content)
 
   -- Where the data set is disjoint the content spells the database with the record.
   pub put_spells : IsFree s rec → ListsPut desc after set c e → SlotChanged s number (slot_after s.items o rec) e d → ((n : ℕ) → list_all is_whole (c (file_of n)) ≡ true → list_all is_whole (d (file_of n)) ≡ true) → spelled desc d ≡ Some after
-  put_spells free lists change whole = spell_by desc after (owned_in desc db) d served (record_step (free_held free) lists change whole) (λ t m low. sym (owned_same free t m low))
+  put_spells free lists change whole = spell_by desc after (owned_in desc db) d served (record_step (λ none. free_held free) lists change whole) (λ t m low. sym (owned_same free t m low))

@@ -207,7 +207,7 @@ module _ (desc : Described) (db : Db) (own : ℕ → ℕ → ℕ) (c : Content) 
 -- ---- the database with the record
 
 module _ (desc : Described) (served : IsServed desc) (db : Db) (c : Content) (set number : ℕ) (s : Shape) (o : Option Slot) (rec : Record) (spelt : spelled desc c ≡ Some db) (may : MayStand desc set number s rec)
-    (was : slot_at s (file_in c s) number ≡ slot_opt o) (held : owner_stands db.records s.owner rec.owner ≡ true) where
+    (was : slot_at s (file_in c s) number ≡ slot_opt o) where
   abbrev made : Record
   made = linked s.items (rec_opt (slot_opt o)) rec
 
@@ -233,8 +233,8 @@ module _ (desc : Described) (served : IsServed desc) (db : Db) (c : Content) (se
       omega (arith, owned_moved desc db set number made t m, before, now)
 
   -- The owner may count a new record.
-  pub may_count : MayCount after (owned_in desc db) s.owner rec.owner
-  may_count = record { stands = owner_more db set number made s.owner rec.owner held; room = omega (arith, owned_few desc served c db spelt s.owner rec.owner) }
+  pub may_count : owner_stands db.records s.owner rec.owner ≡ true → MayCount after (owned_in desc db) s.owner rec.owner
+  may_count held = record { stands = owner_more db set number made s.owner rec.owner held; room = omega (arith, owned_few desc served c db spelt s.owner rec.owner) }
 
   -- Once it does, the content spells the database with the record.
   pub spell : (d : Content) → StandsFiles desc after (owners_after (owned_in desc db) s.owner (owner_opt o) rec.owner) d → spelled desc d ≡ Some after

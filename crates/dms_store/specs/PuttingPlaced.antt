@@ -109,7 +109,7 @@ module _ {B : Type 0} {g : Ghosts B} (desc : Described) (a : Overlay B g) (usabl
     pub slots_at : s.owner ≢ 0 → AreSlots desc (seen z)
     slots_at apart = slots_after desc usable.serves.served s s.number number o rec db a p.told agrees usable.none p.spelt may p.was made_fit b z n calm p.slots next apart put_is
 
-    pub uncounted_at : OwnerStands db s rec → KeepsSets desc db s.number number (Some slot.rec) (listed b) Done → AreWhole (written z) → (under z).content ≡ (under a).content → IsUncounted desc db s.number number slot.rec (seen z) (Stored number)
+    pub uncounted_at : OwnerStands db s o rec → KeepsSets desc db s.number number (Some slot.rec) (listed b) Done → AreWhole (written z) → (under z).content ≡ (under a).content → IsUncounted desc db s.number number slot.rec (seen z) (Stored number)
     uncounted_at owner kept whole still =
         subst (λ (r : Record). IsUncounted desc db s.number number r (seen z) (Stored number)) (sym made_is)
         (uncounted desc usable.serves.served s s.number number o rec db a p.told agrees usable.none p.spelt may p.was made_fit b z n calm p.slots next owner
@@ -133,19 +133,19 @@ module _ {B : Type 0} {g : Ghosts B} (desc : Described) (a : Overlay B g) (usabl
   after_is = ap (with_record db s.number number) made_is
 
   -- what is counted so spells the database with the record
-  pub spelled_at : OwnerStands db s rec → (d : Content) → StandsFiles desc after (owners_after (owned_in desc db) s.owner (owner_opt o) rec.owner) d → spelled desc d ≡ Some after
-  spelled_at owner d files =
-      spell desc usable.serves.served db (seen a) s.number number s o rec spelt_seen may p.was owner.stands d
+  pub spelled_at : (d : Content) → StandsFiles desc after (owners_after (owned_in desc db) s.owner (owner_opt o) rec.owner) d → spelled desc d ≡ Some after
+  spelled_at d files =
+      spell desc usable.serves.served db (seen a) s.number number s o rec spelt_seen may p.was d
       (subst (λ (x : Db). StandsFiles desc x (owners_after (owned_in desc db) s.owner (owner_opt o) rec.owner) d) after_is files)
       ∙ ap (λ (x : Db). Some x) (sym after_is)
 
   -- where a record is replaced nothing is to be counted
-  pub entered_old : (x : Slot) → o ≡ Some x → OwnerStands db s rec → (d : Content) (q : Put) → IsUncounted desc db s.number number slot.rec d q → IsEntered desc db s.number number slot.rec d q
-  entered_old x is owner d (Stored n) h = (h.0, h.1, spelled_at owner d (subst (λ (y : Option Slot). StandsFiles desc after (owners_after (owned_in desc db) s.owner (owner_opt y) rec.owner) d) (sym is) h.2))
-  entered_old x is owner d (Refused k) h = h
-  entered_old x is owner d Full h = h
+  pub entered_old : (x : Slot) → o ≡ Some x → (d : Content) (q : Put) → IsUncounted desc db s.number number slot.rec d q → IsEntered desc db s.number number slot.rec d q
+  entered_old x is d (Stored n) h = (h.0, h.1, spelled_at d (subst (λ (y : Option Slot). StandsFiles desc after (owners_after (owned_in desc db) s.owner (owner_opt y) rec.owner) d) (sym is) h.2))
+  entered_old x is d (Refused k) h = h
+  entered_old x is d Full h = h
 
-  module _ (new : old ≡ None) (owner : OwnerStands db s rec) where
+  module _ (new : old ≡ None) (owner : OwnerStands db s o rec) where
     none_there : o ≡ None
     none_there = by o (p.old_is ∙ new)
       where
@@ -160,11 +160,11 @@ module _ {B : Type 0} {g : Ghosts B} (desc : Described) (a : Overlay B g) (usabl
     pub may_count_at : MayCount after (owned_in desc db) s.owner slot.rec.owner
     may_count_at =
         subst (λ m. MayCount after (owned_in desc db) s.owner m) (sym own_owner)
-        (subst (λ (x : Db). MayCount x (owned_in desc db) s.owner rec.owner) (sym after_is) (may_count desc usable.serves.served db (seen a) s.number number s o rec spelt_seen may p.was owner.stands))
+        (subst (λ (x : Db). MayCount x (owned_in desc db) s.owner rec.owner) (sym after_is) (may_count desc usable.serves.served db (seen a) s.number number s o rec spelt_seen may p.was (owner.stands none_there)))
 
     pub counted_at : (d : Content) → StandsFiles desc after (owners_after (owned_in desc db) s.owner None slot.rec.owner) d → spelled desc d ≡ Some after
     counted_at d files =
-        spelled_at owner d
+        spelled_at d
         (subst (λ m. StandsFiles desc after (owners_after (owned_in desc db) s.owner (owner_opt o) m) d) own_owner
         (subst (λ (x : Option Slot). StandsFiles desc after (owners_after (owned_in desc db) s.owner (owner_opt x) slot.rec.owner) d) (sym none_there) files))
 

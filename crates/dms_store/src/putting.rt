@@ -88,7 +88,7 @@ fn write_at<B: Blocks>(
     ensures slots { IfOk result (λ p. (db : Db) (o : Option Slot) (rec : Record) → IsPlaced (described desc.now) db (shape_of s.now) number o rec (option_copied old.entry) slot.now over.old
         → IfOwned s.now.owner (IfStored p (AreSlots (described desc.now) (seen over.new)))) }
     ensures entered { IfOk result (λ p. (db : Db) (o : Option Slot) (rec : Record) → IsPlaced (described desc.now) db (shape_of s.now) number o rec (option_copied old.entry) slot.now over.old
-        → OwnerStands db (shape_of s.now) rec → IsUncounted (described desc.now) db s.now.number number slot.now.rec (seen over.new) p) }
+        → OwnerStands db (shape_of s.now) o rec → IsUncounted (described desc.now) db s.now.number number slot.now.rec (seen over.new) p) }
 {
     match change(over, alloc, desc, s.number, number, old, Some(&slot.rec)) {
         Err(e) => Err(e),
@@ -124,7 +124,7 @@ fn write_new<B: Blocks>(
     ensures below { (db : Db) (o : Option Slot) (rec : Record) → IsPlaced (described desc.now) db (shape_of s.now) number o rec None slot.now over.old
         → HasCausesOr (λ f b. ⊥) result (under over.old) (under over.new) }
     ensures entered { IfOk result (λ p. (db : Db) (o : Option Slot) (rec : Record) → IsPlaced (described desc.now) db (shape_of s.now) number o rec None slot.now over.old
-        → OwnerStands db (shape_of s.now) rec → IsEntered (described desc.now) db s.now.number number slot.now.rec (seen over.new) p) }
+        → OwnerStands db (shape_of s.now) o rec → IsEntered (described desc.now) db s.now.number number slot.now.rec (seen over.new) p) }
 {
     match write_at(over, alloc, desc, s, number, None, slot) {
         Err(e) => Err(e),
@@ -161,7 +161,7 @@ fn store_at<B: Blocks>(
     ensures below { (db : Db) → FindsSlot (described desc.now) db (shape_of s.now) number (option_copied old.entry) over.old
         → HasCausesOr (λ f b. ⊥) result (under over.old) (under over.new) }
     ensures entered { IfOk result (λ p. (db : Db) → FindsSlot (described desc.now) db (shape_of s.now) number (option_copied old.entry) over.old
-        → OwnerStands db (shape_of s.now) rec.now
+        → OwnerStands db (shape_of s.now) (option_copied old.entry) rec.now
         → IsEntered (described desc.now) db s.now.number number (linked s.now.items (rec_opt (slot_opt (option_copied old.entry))) rec.now) (seen over.new) p) }
 {
     let slot = slot_after(alloc, s, old, rec)?;

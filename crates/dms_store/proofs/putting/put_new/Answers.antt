@@ -11,7 +11,7 @@ use Rattle.dms_slots.specs.Seen.{BadIn, count_of}
 use Rattle.dms_slots.specs.SlotBlocks.{block_of, file_of, least_free}
 use Rattle.dms_store.specs.Finding.{seen_below}
 use Rattle.dms_store.specs.PuttingCalls.{enters_on}
-use Rattle.dms_store.specs.PuttingJudged.{owner_of_put, new_answers, none_answers}
+use Rattle.dms_store.specs.PuttingJudged.{owner_new, new_answers, none_answers}
 use Rattle.dms_store.specs.PuttingNumbers.{free_new}
 use Rattle.dms_store.specs.PuttingPlaced.{found_on, none_bad, spelt_on, told_on}
 use Rattle.dms_store.proofs.putting.put_new.Goals as goal
@@ -67,4 +67,4 @@ returns-in-Ok-Some-clause-answers g c =
     let found = found_on desc a b c.requires.usable db told spelt reads s n None (free_new desc c.requires.usable.serves.served db (under a).content s.number s spelt c.requires.at c.requires.set n least) in
     let place = subst (λ (o : Option ℕ). IfSome o (λ k. (1 ≤ k) × (k ≤ s.population) × (block_of s.items k ≤ count_of s a))) c.in-Ok-Some.field-0-is c.in-Ok-Some.ensures.place in
     new_answers desc c.requires.usable.serves.served db (under a).content (seen c.store_at.new.over) s.number s c.args.rec.now spelt c.requires.at c.requires.set c.requires.new n p place.0 least
-    (h db found (owner_of_put desc db s.number s None c.args.rec.now c.requires.at may))) c.store_at.ensures.entered
+    (h db found (owner_new desc db s.number s c.args.rec.now c.requires.at may))) c.store_at.ensures.entered

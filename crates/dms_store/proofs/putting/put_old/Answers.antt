@@ -12,7 +12,7 @@ use Rattle.dms_slots.specs.Seen.{BadAt}
 use Rattle.dms_slots.specs.SlotBlocks.{block_of, file_of, slot_at, slot_opt}
 use Rattle.dms_store.specs.Finding.{seen_below}
 use Rattle.dms_store.specs.PuttingCalls.{enters_on}
-use Rattle.dms_store.specs.PuttingJudged.{owner_of_put, gone_answers, old_answers}
+use Rattle.dms_store.specs.PuttingJudged.{gone_answers, old_answers, owner_old}
 use Rattle.dms_store.specs.PuttingPlaced.{few_numbers, found_on, none_bad}
 use Rattle.dms_store.proofs.putting.put_old.Goals as goal
 
@@ -59,4 +59,4 @@ returns-in-Ok-Some-clause-answers g c =
     let small : c.args.number < 2 ^ 32 = omega (arith, few) in
     let found = found_on desc a b c.requires.usable db told spelt reads s c.args.number (Some c.in-Ok-Some.old) was in
     old_answers desc c.requires.usable.serves.served db (under a).content (seen c.store_at.new.over) s.number s c.args.rec.now spelt c.requires.at c.requires.set c.requires.new c.args.number c.in-Ok-Some.old p c.requires.low small was fits
-    (h db found (owner_of_put desc db s.number s (Some c.args.number) c.args.rec.now c.requires.at may))) c.store_at.ensures.entered
+    (h db found (owner_old db s c.in-Ok-Some.old c.args.rec.now))) c.store_at.ensures.entered

@@ -76,4 +76,4 @@ returns-clause-entered g c =
     (ap (λ (x : Option (Bor Slot)). rec_opt (slot_opt (option_copied x))) c.in-Some.is) c.in_ok-slot.ensures in
     subst (λ (r : Record). IsEntered desc db s.number c.args.number r (seen c.write_at.new.over) p) rec_is
     (entered_old desc a c.requires.usable agrees s c.args.number c.requires.at c.requires.set c.requires.low c.requires.most c.in_ok-slot.slot fits (Some c.in-Some.old.now.rec) db o c.args.rec.now place
-    c.in-Some.old.now (ap (λ (x : Option (Bor Slot)). option_copied x) c.in-Some.is) owner (seen c.write_at.new.over) p (h db o c.args.rec.now place owner))) c.write_at.ensures.entered
+    c.in-Some.old.now (ap (λ (x : Option (Bor Slot)). option_copied x) c.in-Some.is) (seen c.write_at.new.over) p (h db o c.args.rec.now place owner))) c.write_at.ensures.entered
