@@ -283,15 +283,15 @@ put_taken made cs r0 r l0 l put =
 -- points
 
 -- the points are as they were where the content before each change after them is
-points_still : (files files' : BlockLists) (log log' : List BlockUndo) (n : ℕ) → ((k : ℕ) → k ≤ n → content_of (undone (after k log') files') ≡ content_of (undone (after k log) files)) → points_to files' log' n ≡ points_to files log n
-points_still files files' log log' zero same = refl
-points_still files files' log log' (suc n) same =
-    ap (λ ps. ps ++ (record { number = suc n; blocks = content_of (undone (after (suc n) log') files'); schema = [] } ∷ [])) (points_still files files' log log' n (λ k le. same k (omega (arith, le))))
-    ∙ ap (λ (c : Content). points_to files log n ++ (record { number = suc n; blocks = c; schema = [] } ∷ [])) (same (suc n) (omega arith))
+points_still : (schema : List ℕ) (files files' : BlockLists) (log log' : List BlockUndo) (n : ℕ) → ((k : ℕ) → k ≤ n → content_of (undone (after k log') files') ≡ content_of (undone (after k log) files)) → points_to schema files' log' n ≡ points_to schema files log n
+points_still schema files files' log log' zero same = refl
+points_still schema files files' log log' (suc n) same =
+    ap (λ ps. ps ++ (record { number = suc n; blocks = content_of (undone (after (suc n) log') files'); schema = schema } ∷ [])) (points_still schema files files' log log' n (λ k le. same k (omega (arith, le))))
+    ∙ ap (λ (c : Content). points_to schema files log n ++ (record { number = suc n; blocks = c; schema = schema } ∷ [])) (same (suc n) (omega arith))
 
-pub points-length : (files : BlockLists) (log : List BlockUndo) (n : ℕ) → length (points_to files log n) ≡ n
-points-length files log zero = refl
-points-length files log (suc n) = omega (arith, length-append (points_to files log n) (record { number = suc n; blocks = content_of (undone (after (suc n) log) files); schema = [] } ∷ []), points-length files log n)
+pub points-length : (schema : List ℕ) (files : BlockLists) (log : List BlockUndo) (n : ℕ) → length (points_to schema files log n) ≡ n
+points-length schema files log zero = refl
+points-length schema files log (suc n) = omega (arith, length-append (points_to schema files log n) (record { number = suc n; blocks = content_of (undone (after (suc n) log) files); schema = schema } ∷ []), points-length schema files log n)
 
 -- after changes that the log takes back
 more_still : (made k : ℕ) (files files' : BlockLists) (log more : List BlockUndo) → AreSince made more → undone more files' ≡ files → k ≤ made → undone (after k (log ++ more)) files' ≡ undone (after k log) files
@@ -299,8 +299,8 @@ more_still made k files files' log more since back le =
     ap (λ l. undone l files') (filter-append (λ u. nat_lt k u.point) log more ∙ ap (λ l. filter (λ u. nat_lt k u.point) log ++ l) (after_since made k more le since))
     ∙ undone-append (after k log) more files' ∙ ap (λ f. undone (after k log) f) back
 
-pub put_points : (made n : ℕ) (changes : List Change) (files files' : BlockLists) (log log' : List BlockUndo) → PutAll made changes files log files' log' → n ≤ made → points_to files' log' n ≡ points_to files log n
-put_points made n changes files files' log log' put le = points_still files files' log log' n (λ k low.
+pub put_points : (schema : List ℕ) (made n : ℕ) (changes : List Change) (files files' : BlockLists) (log log' : List BlockUndo) → PutAll made changes files log files' log' → n ≤ made → points_to schema files' log' n ≡ points_to schema files log n
+put_points schema made n changes files files' log log' put le = points_still schema files files' log log' n (λ k low.
     ap content_of (ap (λ l. undone (after k l) files') put.logged ∙ more_still made k files files' log put.more put.since put.back (omega (arith, le, low))))
 
 pub put_mark : (made : ℕ) (changes : List Change) (files files' : BlockLists) (log log' : List BlockUndo) → PutAll made changes files log files' log' → content_of (undone (after made log') files') ≡ content_of (undone (after made log) files)
@@ -311,8 +311,8 @@ out_still : (made mark k : ℕ) (files : BlockLists) (log : List BlockUndo) → 
 out_still made mark k files log since le =
     sym (more_still made k (undone (drop mark log) files) files (take mark log) (drop mark log) since refl le) ∙ ap (λ l. undone (after k l) files) (take_drop mark log)
 
-pub out_points : (made mark : ℕ) (files : BlockLists) (log : List BlockUndo) → AreSince made (drop mark log) → points_to (undone (drop mark log) files) (take mark log) made ≡ points_to files log made
-out_points made mark files log since = points_still files (undone (drop mark log) files) log (take mark log) made (λ k low. ap content_of (out_still made mark k files log since low))
+pub out_points : (schema : List ℕ) (made mark : ℕ) (files : BlockLists) (log : List BlockUndo) → AreSince made (drop mark log) → points_to schema (undone (drop mark log) files) (take mark log) made ≡ points_to schema files log made
+out_points schema made mark files log since = points_still schema files (undone (drop mark log) files) log (take mark log) made (λ k low. ap content_of (out_still made mark k files log since low))
 
 pub out_mark : (made mark : ℕ) (files : BlockLists) (log : List BlockUndo) → AreSince made (drop mark log) → content_of (undone (after made (take mark log)) (undone (drop mark log) files)) ≡ content_of (undone (after made log) files)
 out_mark made mark files log since = ap content_of (out_still made mark made files log since (omega arith))
@@ -329,11 +329,11 @@ all_before made mark log before since = subst (λ l. AreBefore (made + 1) l) (ta
 pub quiet_mark : (made mark : ℕ) (files : BlockLists) (log : List BlockUndo) → AreBefore made (take mark log) → AreSince made (drop mark log) → content_of (undone (after (made + 1) log) files) ≡ content_of files
 quiet_mark made mark files log before since = ap (λ l. content_of (undone l files)) (after_before (made + 1) log (all_before made mark log before since))
 
-pub quiet_points : (made mark : ℕ) (files : BlockLists) (log : List BlockUndo) → AreBefore made (take mark log) → AreSince made (drop mark log)
-    → points_to files log (made + 1) ≡ points_to files log made ++ (record { number = made + 1; blocks = content_of files; schema = [] } ∷ [])
-quiet_points made mark files log before since =
-    subst (λ n. points_to files log n ≡ points_to files log made ++ (record { number = n; blocks = content_of files; schema = [] } ∷ [])) (one_more made)
-    (ap (λ (c : Content). points_to files log made ++ (record { number = suc made; blocks = c; schema = [] } ∷ [])) (ap (λ n. content_of (undone (after n log) files)) (one_more made) ∙ quiet_mark made mark files log before since))
+pub quiet_points : (schema : List ℕ) (made mark : ℕ) (files : BlockLists) (log : List BlockUndo) → AreBefore made (take mark log) → AreSince made (drop mark log)
+    → points_to schema files log (made + 1) ≡ points_to schema files log made ++ (record { number = made + 1; blocks = content_of files; schema = schema } ∷ [])
+quiet_points schema made mark files log before since =
+    subst (λ n. points_to schema files log n ≡ points_to schema files log made ++ (record { number = n; blocks = content_of files; schema = schema } ∷ [])) (one_more made)
+    (ap (λ (c : Content). points_to schema files log made ++ (record { number = suc made; blocks = c; schema = schema } ∷ [])) (ap (λ n. content_of (undone (after n log) files)) (one_more made) ∙ quiet_mark made mark files log before since))
 
 -- moments
 
@@ -361,14 +361,14 @@ made_or_left ps here t d x low le left = elim (cases_le left.count (length ps)) 
       inr (record { count = left.count; enough = omega (arith, over, le); within = left.within; is = left.is; not_fallen = omega (arith, left.next, left.within, long, over); whole_files = tt }, λ s e. absurd (cc e))
 ]
 
-pub runs_quiet : (made mark : ℕ) (files : BlockLists) (log : List BlockUndo) (d : ℕ) → d ≤ made → AreBefore made (take mark log) → AreSince made (drop mark log)
-    → Runs (clock_of (points_to files log made) d) (clock_of (points_to files log (made + 1)) d)
-    (λ stop. Prefix (λ f. Unit {0}) d (points_to files log made ++ (record { number = made + 1; blocks = content_of files; schema = [] } ∷ [])) (made + 1 + 1) stop × TextIs None stop)
-runs_quiet made mark files log d le before since =
-    let ps = points_to files log made in
-    let here : BlockPoint = record { number = made + 1; blocks = content_of files; schema = [] } in
-    let is : points_to files log (made + 1) ≡ ps ++ here ∷ [] = quiet_points made mark files log before since in
-    let long : length ps ≡ made = points-length files log made in
+pub runs_quiet : (schema : List ℕ) (made mark : ℕ) (files : BlockLists) (log : List BlockUndo) (d : ℕ) → d ≤ made → AreBefore made (take mark log) → AreSince made (drop mark log)
+    → Runs (clock_of (points_to schema files log made) d) (clock_of (points_to schema files log (made + 1)) d)
+    (λ stop. Prefix (λ f. Unit {0}) d (points_to schema files log made ++ (record { number = made + 1; blocks = content_of files; schema = schema } ∷ [])) (made + 1 + 1) stop × TextIs None stop)
+runs_quiet schema made mark files log d le before since =
+    let ps = points_to schema files log made in
+    let here : BlockPoint = record { number = made + 1; blocks = content_of files; schema = schema } in
+    let is : points_to schema files log (made + 1) ≡ ps ++ here ∷ [] = quiet_points schema made mark files log before since in
+    let long : length ps ≡ made = points-length schema files log made in
     let longer : length (ps ++ here ∷ []) ≡ made + 1 = omega (arith, length-append ps (here ∷ []), long) in
     record {
       later = omega arith;
@@ -377,13 +377,13 @@ runs_quiet made mark files log d le before since =
     }
 
 -- what a stop now leaves
-pub stops : (files : BlockLists) (log : List BlockUndo) (made d : ℕ) (x : BlockStop) → LeavesBlocks (points_to files log made) d x → Prefix (λ f. Unit {0}) d (points_to files log made) (made + 1) x × TextIs None x
-stops files log made d x left =
-    (record { count = left.count; enough = left.enough; within = left.within; is = left.is; not_fallen = omega (arith, left.next, points-length files log made); whole_files = tt }, λ s e. absurd (cc e))
+pub stops : (schema : List ℕ) (files : BlockLists) (log : List BlockUndo) (made d : ℕ) (x : BlockStop) → LeavesBlocks (points_to schema files log made) d x → Prefix (λ f. Unit {0}) d (points_to schema files log made) (made + 1) x × TextIs None x
+stops schema files log made d x left =
+    (record { count = left.count; enough = left.enough; within = left.within; is = left.is; not_fallen = omega (arith, left.next, points-length schema files log made); whole_files = tt }, λ s e. absurd (cc e))
 
 -- a stop now that leaves the durable points alone
-stop_at : BlockLists → List BlockUndo → ℕ → ℕ → BlockStop
-stop_at files log made d = record { files = λ f. []; points = take d (points_to files log made); next = d + 1; said = [] }
+stop_at : List ℕ → BlockLists → List BlockUndo → ℕ → ℕ → BlockStop
+stop_at schema files log made d = record { files = λ f. []; points = take d (points_to schema files log made); next = d + 1; said = [] }
 
 -- files without blocks
 
@@ -408,36 +408,36 @@ empty_content files f empty = elim (cases_le f 30000) [
 
 -- what calls leave of what is told
 
-pub agrees : (files : BlockLists) (log : List BlockUndo) (made d : ℕ) (uses : Uses) → d ≤ made → BlocksAgree (held_of files log made d uses)
+pub agrees : (schema : List ℕ) (files : BlockLists) (log : List BlockUndo) (made d : ℕ) (uses : Uses) → d ≤ made → BlocksAgree (held_of schema files log made d uses)
 unfolding stop_at
-agrees files log made d uses le = record {
+agrees schema files log made d uses le = record {
   counted = λ t f. refl;
-  may_stop = λ t. (stop_at files log made d, record { count = d; enough = omega arith; within = omega (arith, le, points-length files log made); is = refl; next = refl });
-  stop = λ t room x now. stops files log made d x now;
+  may_stop = λ t. (stop_at schema files log made d, record { count = d; enough = omega arith; within = omega (arith, le, points-length schema files log made); is = refl; next = refl });
+  stop = λ t room x now. stops schema files log made d x now;
   here = λ t room. (refl, λ told. refl);
-  durable = λ t room. omega (arith, le, points-length files log made);
+  durable = λ t room. omega (arith, le, points-length schema files log made);
 }
 
-pub passes : (files files' : BlockLists) (log log' : List BlockUndo) (made d d' : ℕ) (uses uses' : Uses) → length files' ≡ length files → points_to files' log' made ≡ points_to files log made → d ≤ d' → MakesNoPoint (held_of files log made d uses) (held_of files' log' made d' uses')
-passes files files' log log' made d d' uses uses' many points le = record {
+pub passes : (schema : List ℕ) (files files' : BlockLists) (log log' : List BlockUndo) (made d d' : ℕ) (uses uses' : Uses) → length files' ≡ length files → points_to schema files' log' made ≡ points_to schema files log made → d ≤ d' → MakesNoPoint (held_of schema files log made d uses) (held_of schema files' log' made d' uses')
+passes schema files files' log log' made d d' uses uses' many points le = record {
   lasts = record { told = refl; tells = λ t. t; owns = λ i f. nat_lt 30000 f && nat_le f (30000 + many i); schema = refl; whole = λ fs w. w; whole_on = λ fs w. w };
   next = refl;
   said = refl;
-  leaves = λ t room. runs_quietly (points_to files log made) (points_to files' log' made) d d' _ points le;
+  leaves = λ t room. runs_quietly (points_to schema files log made) (points_to schema files' log' made) d d' _ points le;
 }
 
-pub stays : (files files' : BlockLists) (log log' : List BlockUndo) (made d d' : ℕ) (uses uses' : Uses) → content_of (undone (after made log') files') ≡ content_of (undone (after made log) files) → points_to files' log' made ≡ points_to files log made → d ≤ d' → Stays (held_of files log made d uses) (held_of files' log' made d' uses')
-stays files files' log log' made d d' uses uses' mark points le = record { sound = tt; mark = λ t. mark; points = λ t room. (points, le) }
+pub stays : (schema : List ℕ) (files files' : BlockLists) (log log' : List BlockUndo) (made d d' : ℕ) (uses uses' : Uses) → content_of (undone (after made log') files') ≡ content_of (undone (after made log) files) → points_to schema files' log' made ≡ points_to schema files log made → d ≤ d' → Stays (held_of schema files log made d uses) (held_of schema files' log' made d' uses')
+stays schema files files' log log' made d d' uses uses' mark points le = record { sound = tt; mark = λ t. mark; points = λ t room. (points, le) }
 
 undone_length : (us : List BlockUndo) (files : BlockLists) → length (undone us files) ≡ length files
 undone_length [] files = refl
 undone_length (u ∷ us) files = set_length (undone us files) (place u.id.file) _ ∙ undone_length us files
 
-pub out_passes : (files : BlockLists) (log : List BlockUndo) (made mark d : ℕ) (uses uses' : Uses) → AreSince made (drop mark log) → MakesNoPoint (held_of files log made d uses) (held_of (undone (drop mark log) files) (take mark log) made d uses')
-out_passes files log made mark d uses uses' since = passes files (undone (drop mark log) files) log (take mark log) made d d uses uses' (undone_length (drop mark log) files) (out_points made mark files log since) (omega arith)
+pub out_passes : (schema : List ℕ) (files : BlockLists) (log : List BlockUndo) (made mark d : ℕ) (uses uses' : Uses) → AreSince made (drop mark log) → MakesNoPoint (held_of schema files log made d uses) (held_of schema (undone (drop mark log) files) (take mark log) made d uses')
+out_passes schema files log made mark d uses uses' since = passes schema files (undone (drop mark log) files) log (take mark log) made d d uses uses' (undone_length (drop mark log) files) (out_points schema made mark files log since) (omega arith)
 
-pub out_stays : (files : BlockLists) (log : List BlockUndo) (made mark d : ℕ) (uses uses' : Uses) → AreSince made (drop mark log) → Stays (held_of files log made d uses) (held_of (undone (drop mark log) files) (take mark log) made d uses')
-out_stays files log made mark d uses uses' since = stays files (undone (drop mark log) files) log (take mark log) made d d uses uses' (out_mark made mark files log since) (out_points made mark files log since) (omega arith)
+pub out_stays : (schema : List ℕ) (files : BlockLists) (log : List BlockUndo) (made mark d : ℕ) (uses uses' : Uses) → AreSince made (drop mark log) → Stays (held_of schema files log made d uses) (held_of schema (undone (drop mark log) files) (take mark log) made d uses')
+out_stays schema files log made mark d uses uses' since = stays schema files (undone (drop mark log) files) log (take mark log) made d d uses uses' (out_mark made mark files log since) (out_points schema made mark files log since) (omega arith)
 
 -- no file grows when changes are taken back
 back_length : (b : ℕ) (old : Option Block) (l : List Block) → length l ≤ limit → length (taken_back b old l) ≤ limit

@@ -43,10 +43,10 @@ undone (u ∷ us) files = undo u (undone us files)
 abbrev pub after : ℕ → List BlockUndo → List BlockUndo
 after n log = filter (λ u. nat_lt n u.point) log
 
--- the quiet points 1 to n
-abbrev pub points_to : BlockLists → List BlockUndo → ℕ → List BlockPoint
-points_to files log zero = []
-points_to files log (suc n) = points_to files log n ++ (record { number = suc n; blocks = content_of (undone (after (suc n) log) files); schema = [] } ∷ [])
+-- the quiet points 1 to n, under these bytes of a description
+abbrev pub points_to : List ℕ → BlockLists → List BlockUndo → ℕ → List BlockPoint
+points_to schema files log zero = []
+points_to schema files log (suc n) = points_to schema files log n ++ (record { number = suc n; blocks = content_of (undone (after (suc n) log) files); schema = schema } ∷ [])
 
 -- What a stop since the moment t leaves: the first so many points, not fewer than t, and the next number behind them. The number
 -- of a moment is that of the points that were durable then.
@@ -60,9 +60,9 @@ pub record LeavesBlocks (points : List BlockPoint) (t : ℕ) (stop : BlockStop) 
 abbrev pub clock_of : List BlockPoint → ℕ → Clock BlockStop
 clock_of points durable = record { now = durable; left = LeavesBlocks points }
 
--- all that the blocks stand for
-abbrev pub held_of : BlockLists → List BlockUndo → ℕ → ℕ → Uses → Held
-held_of files log made durable uses = record {
+-- all that the blocks stand for, where points are made under these bytes of a description
+abbrev pub held_of : List ℕ → BlockLists → List BlockUndo → ℕ → ℕ → Uses → Held
+held_of schema files log made durable uses = record {
   told = true;
   tells = ⊤;
   sound = ⊤;
@@ -73,10 +73,10 @@ held_of files log made durable uses = record {
   mark = content_of (undone (after made log) files);
   next = made + 1;
   said = None;
-  points = points_to files log made;
+  points = points_to schema files log made;
   durable = durable;
-  here = record { number = made + 1; blocks = content_of files; schema = [] };
-  clock = clock_of (points_to files log made) durable;
+  here = record { number = made + 1; blocks = content_of files; schema = schema };
+  clock = clock_of (points_to schema files log made) durable;
   faults = record { disk = 0; say = 0; full = 0; damaged = 0 };
   uses = uses;
 }

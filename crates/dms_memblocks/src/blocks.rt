@@ -13,7 +13,7 @@ impl Blocks for MemBlocks {
 
     ghost same_blocks = { λ a b. Unit {0} };
 
-    ghost agrees = { λ b sound. agrees (rows b.files.items) b.log.items b.made b.durable _ b.durable_low };
+    ghost agrees = { λ b sound. agrees b.schema (rows b.files.items) b.log.items b.made b.durable _ b.durable_low };
 
     ghost same_again = { λ b. tt };
 

@@ -6,7 +6,7 @@ ghost use Rattle.dms_memblocks.specs.UndoLaws.{AreBefore-prop, AreSince-prop, Ar
 
 use crate::BlockUndo;
 use crate::undo::place_of;
-use dms_base::Memory;
+use dms_base::{Bytes, Memory};
 use dms_block::Block;
 use std::alloc::Global;
 
@@ -27,6 +27,8 @@ pub struct MemBlocks {
     pub spent: u64,
     pub syncs: u64,
     pub outs: u64,
+    /// The bytes of the description that points are made under.
+    pub schema: Bytes,
     /// What was printed, as far as memory allowed. No clause speaks of it.
     pub text: Vec<u8>,
     pub ghost room: { made + 1 < 2 ^ 64 },
@@ -51,10 +53,19 @@ fn empty_files(alloc: Global, files: u32) -> Result<Vec<Vec<Block>>, Memory>
 impl MemBlocks {
     ghost use Rattle.dms_memblocks.specs.View.{held, IsNew};
 
-    /// The files 30,001 to 30,000 + `files`, all empty.
+    /// The files 30,001 to 30,000 + `files`, all empty. Points are made under no bytes of a description.
     pub fn new(alloc: Global, files: u32) -> Result<MemBlocks, Memory>
         requires { files ≤ 200 }
         ensures { IfOk result (λ b. IsNew files (held b)) }
+    {
+        MemBlocks::under(alloc, files, Bytes::new(alloc))
+    }
+
+    /// The files 30,001 to 30,000 + `files`, all empty. Points are made under these bytes of a description.
+    pub fn under(alloc: Global, files: u32, schema: Bytes) -> Result<MemBlocks, Memory>
+        requires { files ≤ 200 }
+        ensures new { IfOk result (λ b. IsNew files (held b)) }
+        ensures schema { IfOk result (λ b. (held b).here.schema ≡ schema) }
     {
         let files = empty_files(alloc, files)?;
         Ok(MemBlocks {
@@ -67,6 +78,7 @@ impl MemBlocks {
             spent: 0,
             syncs: 0,
             outs: 0,
+            schema,
             text: Vec::new(alloc),
         })
     }

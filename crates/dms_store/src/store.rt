@@ -78,7 +78,8 @@ impl<B: Blocks> BlockStore<B> {
     }
 
     /// The first member of a structure, for an owner (0 where it is disjoint), behind a bound. It is the database's where
-    /// the bound's key fits the structure's. A manual subset has no member yet.
+    /// the owner is below 2^32 - 1 and the bound's key fits the structure's, with a member's number below 2^32 - 1. A
+    /// manual subset has no member yet.
     pub fn first_from(
         &mut self,
         alloc: Global,
@@ -100,7 +101,8 @@ impl<B: Blocks> BlockStore<B> {
     }
 
     /// The last member of a structure, for an owner (0 where it is disjoint), before a bound. It is the database's where
-    /// the bound's key fits the structure's. A manual subset has no member yet.
+    /// the owner is below 2^32 - 1 and the bound's key fits the structure's, with a member's number below 2^32 - 1. A
+    /// manual subset has no member yet.
     pub fn last_to(
         &mut self,
         alloc: Global,

@@ -32,12 +32,12 @@ pub returns-clause-alters : goal.returns-clause-alters
 returns-clause-alters c =
     let b = c.args.self.now in
     let put = c.in_default.ensures.ok in
-    let points = put_points b.made b.made _ (rows b.files.items) (rows c.put_all.new.files.items) b.log.items c.put_all.new.log.items put (omega arith) in
+    let points = put_points b.schema b.made b.made _ (rows b.files.items) (rows c.put_all.new.files.items) b.log.items c.put_all.new.log.items put (omega arith) in
     let mark = put_mark b.made _ (rows b.files.items) (rows c.put_all.new.files.items) b.log.items c.put_all.new.log.items put in
     let count : length c.as_slice.result.now ≡ length c.args.changes.now.items.items = ap (λ (l : List Change). length l) c.as_slice.ensures in
     record {
-      passes = passes (rows b.files.items) (rows c.put_all.new.files.items) b.log.items c.put_all.new.log.items b.made b.durable b.durable _ _ put.many points (omega arith);
-      stays = stays (rows b.files.items) (rows c.put_all.new.files.items) b.log.items c.put_all.new.log.items b.made b.durable b.durable _ _ mark points (omega arith);
+      passes = passes b.schema (rows b.files.items) (rows c.put_all.new.files.items) b.log.items c.put_all.new.log.items b.made b.durable b.durable _ _ put.many points (omega arith);
+      stays = stays b.schema (rows b.files.items) (rows c.put_all.new.files.items) b.log.items c.put_all.new.log.items b.made b.durable b.durable _ _ mark points (omega arith);
       memory = λ e. absurd (cc e);
       uses = record { not_fewer = omega arith; reads = omega arith; not_less = omega (arith, c.saturating_add-self.ensures, count); spent = omega (arith, c.saturating_add-self.ensures, count); syncs = refl; outs = refl };
     }

@@ -34,14 +34,14 @@ pub returns-clause-stays : goal.returns-clause-stays
 returns-clause-stays c =
     let b = c.args.self.now in
     let uses : Uses = record { reads = b.reads; spent = b.spent; syncs = b.syncs; outs = c.saturating_add-self.result } in
-    subst (λ fs. Stays (held b) (held_of fs c.take_back_to.new.log.items b.made b.durable uses)) (sym c.take_back_to.ensures.files)
-    (subst (λ l. Stays (held b) (held_of (undone (drop b.mark b.log.items) (rows b.files.items)) l b.made b.durable uses)) (sym c.take_back_to.ensures.log)
-    (out_stays (rows b.files.items) b.log.items b.made b.mark b.durable _ uses b.since))
+    subst (λ fs. Stays (held b) (held_of b.schema fs c.take_back_to.new.log.items b.made b.durable uses)) (sym c.take_back_to.ensures.files)
+    (subst (λ l. Stays (held b) (held_of b.schema (undone (drop b.mark b.log.items) (rows b.files.items)) l b.made b.durable uses)) (sym c.take_back_to.ensures.log)
+    (out_stays b.schema (rows b.files.items) b.log.items b.made b.mark b.durable _ uses b.since))
 
 pub returns-clause-passes : goal.returns-clause-passes
 returns-clause-passes c =
     let b = c.args.self.now in
     let uses : Uses = record { reads = b.reads; spent = b.spent; syncs = b.syncs; outs = c.saturating_add-self.result } in
-    subst (λ fs. MakesNoPoint (held b) (held_of fs c.take_back_to.new.log.items b.made b.durable uses)) (sym c.take_back_to.ensures.files)
-    (subst (λ l. MakesNoPoint (held b) (held_of (undone (drop b.mark b.log.items) (rows b.files.items)) l b.made b.durable uses)) (sym c.take_back_to.ensures.log)
-    (out_passes (rows b.files.items) b.log.items b.made b.mark b.durable _ uses b.since))
+    subst (λ fs. MakesNoPoint (held b) (held_of b.schema fs c.take_back_to.new.log.items b.made b.durable uses)) (sym c.take_back_to.ensures.files)
+    (subst (λ l. MakesNoPoint (held b) (held_of b.schema (undone (drop b.mark b.log.items) (rows b.files.items)) l b.made b.durable uses)) (sym c.take_back_to.ensures.log)
+    (out_passes b.schema (rows b.files.items) b.log.items b.made b.mark b.durable _ uses b.since))

@@ -24,11 +24,11 @@ returns-then-number-lt18446744073709551615-clause-made c =
       next = λ room. refl;
       same = λ room. record { counts = refl; content = λ t. refl };
       mark = λ room t. quiet_mark b.made b.mark (rows b.files.items) b.log.items b.before b.since;
-      points = λ t room. (quiet_points b.made b.mark (rows b.files.items) b.log.items b.before b.since, omega arith);
+      points = λ t room. (quiet_points b.schema b.made b.mark (rows b.files.items) b.log.items b.before b.since, omega arith);
     }
 
 pub returns-then-number-lt18446744073709551615-clause-leaves :
     goal.returns-then-number-lt18446744073709551615-clause-leaves
 returns-then-number-lt18446744073709551615-clause-leaves c = λ t room.
     let b = c.args.self.now in
-    runs_quiet b.made b.mark (rows b.files.items) b.log.items b.durable b.durable_low b.before b.since
+    runs_quiet b.schema b.made b.mark (rows b.files.items) b.log.items b.durable b.durable_low b.before b.since

@@ -9,5 +9,5 @@ returns-clause-made c = record {
   same = record { counts = refl; content = λ t. refl };
   mark = λ t. refl;
   points = λ t room. refl;
-  durable = λ t room. sym (points-length (rows c.args.self.now.files.items) c.args.self.now.log.items c.args.self.now.made);
+  durable = λ t room. sym (points-length c.args.self.now.schema (rows c.args.self.now.files.items) c.args.self.now.log.items c.args.self.now.made);
 }
