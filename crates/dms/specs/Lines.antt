@@ -7,7 +7,7 @@ use Rattle.dasdl_phrases.specs.declared.fault.ParseFault.TheVariants.{BadCharact
 use Rattle.dms.specs.declared.texts.Ending.{Ending}
 use Rattle.dms.specs.declared.texts.Ending.TheVariants.{Command, InUse}
 use Rattle.dms_top.specs.declared.status.LimitKind.{LimitKind}
-use Rattle.dms_top.specs.declared.status.LimitKind.TheVariants.{Lines, Bytes, Waiting}
+use Rattle.dms_top.specs.declared.status.LimitKind.TheVariants.{Lines, Bytes, Held}
 use Rattle.dms_top.specs.declared.status.SchemaFault.{SchemaFault}
 use Rattle.dms_top.specs.declared.status.SchemaFault.TheVariants.{Parse, Compile}
 use Rattle.dms_top.specs.declared.status.Status.{Status}
@@ -47,7 +47,7 @@ schema_words (Compile fault) = compile_words fault
 abbrev pub limit_words : LimitKind → List ℕ
 limit_words Lines = codes "too many lines"
 limit_words Bytes = codes "too many bytes"
-limit_words Waiting = codes "too many held lines"
+limit_words Held = codes "too many held lines"
 
 -- what is needed and isn't found
 abbrev pub need_words : NeedFault → List ℕ

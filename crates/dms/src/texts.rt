@@ -141,7 +141,7 @@ impl fmt::Display for Ending {
             Ending::Command(Status::Limit(LimitKind::Bytes)) => {
                 f.write_str("dms: too many bytes\n")
             }
-            Ending::Command(Status::Limit(LimitKind::Waiting)) => {
+            Ending::Command(Status::Limit(LimitKind::Held)) => {
                 f.write_str("dms: too many held lines\n")
             }
             Ending::Command(Status::Damaged(file, block)) => {

@@ -9,7 +9,7 @@ use Rattle.dms_model.specs.Points.{Files}
 use Rattle.dms_storeverbs.specs.declared.engine.Engine.{Engine}
 use Rattle.dms_storeverbs.specs.View.{seen}
 use Rattle.dms_runner.specs.declared.run.RunFault.{RunFault}
-use Rattle.dms_runner.specs.declared.run.RunFault.TheVariants.{Block, Input, Lines, Bytes, Waiting, Memory}
+use Rattle.dms_runner.specs.declared.run.RunFault.TheVariants.{Block, Input, Lines, Bytes, Held, Memory}
 
 -- a fault of the store was counted once, and no other was; where the run stopped for another reason none was
 abbrev pub HasBlame : RunFault → Faults → Faults → Type 0
@@ -17,7 +17,7 @@ HasBlame (Block f) a b = Raised f a b
 HasBlame Input a b = b ≡ a
 HasBlame Lines a b = b ≡ a
 HasBlame Bytes a b = b ≡ a
-HasBlame Waiting a b = b ≡ a
+HasBlame Held a b = b ≡ a
 HasBlame Memory a b = b ≡ a
 
 abbrev pub IsBlamedOn : {T : Type 0} → Result T RunFault → Faults → Faults → Type 0

@@ -47,7 +47,7 @@ pub enum RunFault {
     /// The script has more bytes than it may have.
     Bytes,
     /// A line would be held that is one too many.
-    Waiting,
+    Held,
     Memory,
 }
 
@@ -86,7 +86,7 @@ fn end_run<St: Store>(
     ensures ran { OnOk result ((seen engine.old).next + 1 < 2 ^ 64 → Performs (seen engine.old) (seen engine.new) (end_events waiting.now)) }
     ensures part { (seen engine.old).next + 1 < 2 ^ 64 → PerformsPrefix (CutRun result) (seen engine.old) (seen engine.new) (end_events waiting.now) }
     ensures ended { OnOk result ((s : Session) → StandsFor (view engine.old) s → StandsFor (view engine.new) (ended s)) }
-    ensures limits { (IsErrOf result RunFault.Lines → ⊥) × (IsErrOf result RunFault.Bytes → ⊥) × (IsErrOf result RunFault.Waiting → ⊥) }
+    ensures limits { (IsErrOf result RunFault.Lines → ⊥) × (IsErrOf result RunFault.Bytes → ⊥) × (IsErrOf result RunFault.Held → ⊥) }
     ensures lasts { LastsRun result engine.old engine.new }
     ensures input { IsErrOf result RunFault.Input → ⊥ }
 {
@@ -118,7 +118,7 @@ fn one_line<St: Store, I: Source>(
     ensures none { IfOk result (λ more. more ≡ false → (engine.new ≡ engine.old) × (waiting.new ≡ waiting.old) × ((all : List ℕ) → Remains feed.old (I.left source.old) all → (all ≡ []) × Remains feed.new (I.left source.new) [])) }
     ensures part { (g : RunState) (all : List ℕ) → StandsFor (view engine.old) g.session → g.waiting ≡ waiting.old.items → g.line ≡ line → MayTakeLine g → Remains feed.old (I.left source.old) all → PerformsPrefix (CutRun result) (seen engine.old) (seen engine.new) (lines_run (described engine.old.desc) g (raw_lines all)).events }
     ensures bytes { IsErrOf result RunFault.Bytes → ((seen engine.new).said ≡ (seen engine.old).said) × ((all : List ℕ) → Remains feed.old (I.left source.old) all → room.old < length (first_line all)) }
-    ensures full_list { IsErrOf result RunFault.Waiting → (g : RunState) (all : List ℕ) → StandsFor (view engine.old) g.session → g.waiting ≡ waiting.old.items → g.line ≡ line → MayTakeLine g → Remains feed.old (I.left source.old) all → Prints (seen engine.old).said (seen engine.new).said [] × (all ≢ []) × ((line_step (described engine.old.desc) g (first_line all)).full ≡ true) × (length (first_line all) ≤ room.old) }
+    ensures full_list { IsErrOf result RunFault.Held → (g : RunState) (all : List ℕ) → StandsFor (view engine.old) g.session → g.waiting ≡ waiting.old.items → g.line ≡ line → MayTakeLine g → Remains feed.old (I.left source.old) all → Prints (seen engine.old).said (seen engine.new).said [] × (all ≢ []) × ((line_step (described engine.old.desc) g (first_line all)).full ≡ true) × (length (first_line all) ≤ room.old) }
     ensures no_lines { IsErrOf result RunFault.Lines → ⊥ }
     ensures failed { IsErrOf result RunFault.Input → ((seen engine.new).said ≡ (seen engine.old).said) × ((all : List ℕ) → Remains feed.old (I.left source.old) all → CutLine room.old (I.left source.new) all) }
     ensures rest { OnOk result ((all : List ℕ) → Remains feed.old (I.left source.old) all → (rest : List ℕ) × Remains feed.new (I.left source.new) rest) }
@@ -140,7 +140,7 @@ fn one_line<St: Store, I: Source>(
             *room = room.saturating_sub(raw.length);
             match take_line(alloc, engine, waiting, line + 1, raw.kept.as_slice()) {
                 Ok(true) => Ok(true),
-                Ok(false) => Err(RunFault::Waiting),
+                Ok(false) => Err(RunFault::Held),
                 Err(fault) => Err(RunFault::Block(fault)),
             }
         }
@@ -152,7 +152,7 @@ fn after_last<I: Source>(alloc: Global, feed: &mut Feed, source: &mut I) -> Resu
     ensures end { OnOk result ((all : List ℕ) → Remains feed.old (I.left source.old) all → (all ≡ []) × Remains feed.new (I.left source.new) []) }
     ensures lines { IsErrOf result RunFault.Lines → (all : List ℕ) → Remains feed.old (I.left source.old) all → all ≢ [] }
     ensures failed { IsErrOf result RunFault.Input → (all : List ℕ) → Remains feed.old (I.left source.old) all → CutLine 0 (I.left source.new) all }
-    ensures limits { (IsErrOf result RunFault.Bytes → ⊥) × (IsErrOf result RunFault.Waiting → ⊥) }
+    ensures limits { (IsErrOf result RunFault.Bytes → ⊥) × (IsErrOf result RunFault.Held → ⊥) }
     ensures same_source { I.same_source source.old source.new }
     ensures taken { I.faults source.old ≤ I.faults source.new }
     ensures input { IsErrOf result RunFault.Input → Rose (I.faults source.old) (I.faults source.new) }
@@ -186,7 +186,7 @@ pub fn run_lines<St: Store, I: Source>(
     ensures ended { OnOk result (AtStart engine.old feed.old (I.left source.old) (λ db first all. StandsFor (view engine.new) (ended (script_run (described engine.old.desc) db first (raw_lines all)).going.session))) }
     ensures lines { IsErrOf result RunFault.Lines → AtStart engine.old feed.old (I.left source.old) (λ db first all. PassesLines (described engine.old.desc) db first (raw_lines all) (seen engine.old).said (seen engine.new).said) }
     ensures bytes { IsErrOf result RunFault.Bytes → AtStart engine.old feed.old (I.left source.old) (λ db first all. PassesBytes (described engine.old.desc) db first (raw_lines all) (seen engine.old).said (seen engine.new).said) }
-    ensures full_list { IsErrOf result RunFault.Waiting → AtStart engine.old feed.old (I.left source.old) (λ db first all. PassesWaiting (described engine.old.desc) db first (raw_lines all) (seen engine.old).said (seen engine.new).said) }
+    ensures full_list { IsErrOf result RunFault.Held → AtStart engine.old feed.old (I.left source.old) (λ db first all. PassesWaiting (described engine.old.desc) db first (raw_lines all) (seen engine.old).said (seen engine.new).said) }
     ensures failed { IsErrOf result RunFault.Input → AtStart engine.old feed.old (I.left source.old) (λ db first all. CutInput (described engine.old.desc) db first all (I.left source.new) (seen engine.old).said (seen engine.new).said) }
     ensures lasts { LastsRun result engine.old engine.new }
     ensures end { OnOk result ((all : List ℕ) → Remains feed.old (I.left source.old) all → Remains feed.new (I.left source.new) []) }

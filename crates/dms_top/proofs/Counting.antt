@@ -7,7 +7,7 @@ use Rattle.dms_block.specs.Counts.{Faults}
 use Rattle.dms_block.specs.declared.block_fault.BlockFault.{BlockFault}
 use Rattle.dms_block.specs.declared.block_fault.BlockFault.TheVariants.{Disk, Memory as NoMemory, Full, Damaged, Say}
 use Rattle.dms_runner.specs.declared.run.RunFault.{RunFault}
-use Rattle.dms_runner.specs.declared.run.RunFault.TheVariants.{Block, Input, Lines, Bytes, Waiting, Memory}
+use Rattle.dms_runner.specs.declared.run.RunFault.TheVariants.{Block, Input, Lines, Bytes, Held, Memory}
 use Rattle.dms_runner.specs.Blaming.{IsBlamedOn}
 use Rattle.dms_audfile.specs.Counting.{CountedAt}
 
@@ -25,7 +25,7 @@ say_counted P (Err (Block Say)) a b of to caused = record { later = caused.0.lat
 say_counted P (Err Input) a b of to caused = unsaid P a b (ap (λ (f : Faults). f.say) caused) (λ is. cc (of is))
 say_counted P (Err Lines) a b of to caused = unsaid P a b (ap (λ (f : Faults). f.say) caused) (λ is. cc (of is))
 say_counted P (Err Bytes) a b of to caused = unsaid P a b (ap (λ (f : Faults). f.say) caused) (λ is. cc (of is))
-say_counted P (Err Waiting) a b of to caused = unsaid P a b (ap (λ (f : Faults). f.say) caused) (λ is. cc (of is))
+say_counted P (Err Held) a b of to caused = unsaid P a b (ap (λ (f : Faults). f.say) caused) (λ is. cc (of is))
 say_counted P (Err Memory) a b of to caused = unsaid P a b (ap (λ (f : Faults). f.say) caused) (λ is. cc (of is))
 
 -- a count that is known by what stands at both ends

@@ -13,7 +13,7 @@ use Rattle.dms_runner.specs.Events.{RunEvent, text_of}
 use Rattle.dms_runner.specs.Running.{bytes_of, text_of_lines, PassesLines, PassesBytes, PassesWaiting}
 use Rattle.dms_top.specs.declared.status.SchemaFault.{SchemaFault}
 use Rattle.dms_top.specs.declared.status.LimitKind.{LimitKind}
-use Rattle.dms_top.specs.declared.status.LimitKind.TheVariants.{Lines, Bytes, Waiting}
+use Rattle.dms_top.specs.declared.status.LimitKind.TheVariants.{Lines, Bytes, Held}
 use Rattle.dms_top.specs.Judging.{judged}
 use Rattle.dms_top.specs.Schema.{schema_text, script_part}
 
@@ -67,7 +67,7 @@ lines_events d all = script_events d empty_db 1 (raw_lines all)
 abbrev pub PassesLimit : LimitKind → Described → List (List ℕ) → Option (List ℕ) → Option (List ℕ) → Type 0
 PassesLimit Lines d lines before after = PassesLines d empty_db 1 lines before after
 PassesLimit Bytes d lines before after = PassesBytes d empty_db 1 lines before after
-PassesLimit Waiting d lines before after = PassesWaiting d empty_db 1 lines before after
+PassesLimit Held d lines before after = PassesWaiting d empty_db 1 lines before after
 
 -- taking from the input failed: so many whole lines of it were taken, and what those among them answer that are lines of
 -- the script, which keep the limits with that part, was printed, where the text is told; a part of the next line was taken too, without its line feed, and the rest of the input is left

@@ -18,7 +18,7 @@ pub enum LimitKind {
     /// The script has more than 2,147,483,648 bytes.
     Bytes,
     /// A line would be the 10,001st that is held.
-    Waiting,
+    Held,
 }
 
 /// What a command needs and doesn't find. Audit files are named by their numbers from 1.

@@ -37,7 +37,7 @@ fn status_of(fault: RunFault) -> Status
     ensures say { (result ≡ Status.SayFault → fault ≡ RunFault.Block BlockFault.Say) × (fault ≡ RunFault.Block BlockFault.Say → result ≡ Status.SayFault) }
     ensures lines { result ≡ Status.Limit LimitKind.Lines → fault ≡ RunFault.Lines }
     ensures bytes { result ≡ Status.Limit LimitKind.Bytes → fault ≡ RunFault.Bytes }
-    ensures waiting { result ≡ Status.Limit LimitKind.Waiting → fault ≡ RunFault.Waiting }
+    ensures waiting { result ≡ Status.Limit LimitKind.Held → fault ≡ RunFault.Held }
     ensures spoken { ComesUnsaid result → ⊥ }
 {
     match fault {
@@ -46,7 +46,7 @@ fn status_of(fault: RunFault) -> Status
         RunFault::Input => Status::InputFault,
         RunFault::Lines => Status::Limit(LimitKind::Lines),
         RunFault::Bytes => Status::Limit(LimitKind::Bytes),
-        RunFault::Waiting => Status::Limit(LimitKind::Waiting),
+        RunFault::Held => Status::Limit(LimitKind::Held),
         RunFault::Memory => Status::Memory,
     }
 }
@@ -65,7 +65,7 @@ fn status_after(ran: Result<(), RunFault>) -> Status
     ensures memory { result ≡ Status.Memory → CutRun ran → ⊥ }
     ensures lines { result ≡ Status.Limit LimitKind.Lines → IsErrOf ran RunFault.Lines }
     ensures bytes { result ≡ Status.Limit LimitKind.Bytes → IsErrOf ran RunFault.Bytes }
-    ensures waiting { result ≡ Status.Limit LimitKind.Waiting → IsErrOf ran RunFault.Waiting }
+    ensures waiting { result ≡ Status.Limit LimitKind.Held → IsErrOf ran RunFault.Held }
     ensures spoken { ComesUnsaid result → ⊥ }
 {
     match ran {

@@ -11,7 +11,7 @@ use Rattle.dms_plain.specs.Told.{told}
 use Rattle.dms_feed.specs.Feeds.{Remains}
 use Rattle.dms_top.specs.declared.status.Status.TheVariants.{Limit}
 use Rattle.dms_top.specs.declared.status.LimitKind.{LimitKind}
-use Rattle.dms_top.specs.declared.status.LimitKind.TheVariants.{Lines, Bytes, Waiting}
+use Rattle.dms_top.specs.declared.status.LimitKind.TheVariants.{Lines, Bytes, Held}
 use Rattle.dms_top.proofs.try_run.try_lines.Given.{Over}
 use Rattle.dms_top.proofs.try_run.try_lines.Goals as goal
 
@@ -47,7 +47,7 @@ returns-in-Ok-new-clause-limit g c = λ k is all remains.
         → PassesLimit k (described c.in-Ok-new.engine.desc) (raw_lines all) (told g.S.Site.tells_said (g.S.Site.said c.in-Ok-new.engine.store.site.now)) (told g.S.Site.tells_said (g.S.Site.said c.run_lines-ran.new.engine.store.site.now))
     passes g c Lines is all remains = c.run_lines-ran.ensures.lines (c.status_after.ensures.lines is) empty_db 1 all (stands_at _ _ 1 c.in-Ok.ensures.starts.next_is (c.in-Ok-new.ensures.stands empty_db c.in-Ok.ensures.starts.db_is)) (omega arith) remains
     passes g c Bytes is all remains = c.run_lines-ran.ensures.bytes (c.status_after.ensures.bytes is) empty_db 1 all (stands_at _ _ 1 c.in-Ok.ensures.starts.next_is (c.in-Ok-new.ensures.stands empty_db c.in-Ok.ensures.starts.db_is)) (omega arith) remains
-    passes g c Waiting is all remains = c.run_lines-ran.ensures.full_list (c.status_after.ensures.waiting is) empty_db 1 all (stands_at _ _ 1 c.in-Ok.ensures.starts.next_is (c.in-Ok-new.ensures.stands empty_db c.in-Ok.ensures.starts.db_is)) (omega arith) remains
+    passes g c Held is all remains = c.run_lines-ran.ensures.full_list (c.status_after.ensures.waiting is) empty_db 1 all (stands_at _ _ 1 c.in-Ok.ensures.starts.next_is (c.in-Ok-new.ensures.stands empty_db c.in-Ok.ensures.starts.db_is)) (omega arith) remains
 
 pub returns-in-Ok-new-clause-input : goal.returns-in-Ok-new-clause-input
 returns-in-Ok-new-clause-input g c = record {
