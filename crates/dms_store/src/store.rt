@@ -190,7 +190,7 @@ impl<B: Blocks> BlockStore<B> {
 
     /// Stores a new record of a data set under the least free number, with null links, which its owner counts from then
     /// on; or replaces all items but the links of the record with this number, which keeps its owner. It does so where
-    /// that record and the record's owner stand.
+    /// that record stands, and the owner of a new one.
     pub fn put(
         &mut self,
         alloc: Global,
