@@ -88,7 +88,7 @@ impl<S: Site> Running<S> {
                 next,
                 point,
                 every,
-                    broken: false,
+                broken: false,
                 reads: 0,
                 spent: 0,
                 syncs: 0,
