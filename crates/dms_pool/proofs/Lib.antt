@@ -4,3 +4,4 @@ pub mod Leaving
 pub mod Same
 pub mod Sound
 pub mod Washed
+pub mod Fewer

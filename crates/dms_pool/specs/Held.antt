@@ -1,5 +1,5 @@
 -- What a pool holds of each block, and the order in which blocks were used.
-use Rattle.std.specs.Prelude.{ℕ, ◌∷◌, ◌++◌, [], Bool, false, List, filter, not, reverse}
+use Rattle.std.specs.Prelude.{ℕ, ◌∷◌, ◌++◌, [], Bool, false, List, filter, length, not, reverse}
 use Rattle.std.specs.declared.option.Option.{Option}
 use Rattle.std.specs.Option.{option_map_or}
 use Rattle.std.specs.Map.{lookup}
@@ -28,6 +28,10 @@ used id ids = filter (λ x. not (is_id id x)) ids ++ id ∷ []
 -- the block is held, and is to be written
 abbrev pub is_dirty : BlockId → Pool → Bool
 is_dirty id pool = option_map_or (λ f. f.dirty) (frame_of id pool) false
+
+-- how many of the blocks that are held are to be written
+abbrev pub to_write : Pool → ℕ
+to_write pool = length (filter (λ id. is_dirty id pool) (order pool))
 
 abbrev pub framed : Block → Bool → Frame
 framed block dirty = record { block = block; dirty = dirty }

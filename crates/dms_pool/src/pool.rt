@@ -46,6 +46,13 @@ impl Pool {
         found
     }
 
+    /// The block, where it is held. That doesn't count as a use.
+    pub fn peek(&self, id: BlockId) -> Option<Block>
+        ensures { result ≡ option_map (λ f. f.block) (frame_of id self.now) }
+    {
+        self.frames.peek(&FrameKey::of(id)).map(|frame| frame.block)
+    }
+
     /// Holds a block, in place of what was held of it. It is then the most recently used. Fails only for a block that
     /// wasn't held, and then changes nothing.
     pub fn put(&mut self, id: BlockId, block: &Block, dirty: bool) -> Result<(), Memory>

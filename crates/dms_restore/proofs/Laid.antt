@@ -1,26 +1,24 @@
 -- Entries appended one after another since a start.
-use Rattle.std.proofs.Common.{ℕ, zero, suc, ◌+◌, ◌≤◌, ◌<◌, ◌≡◌, List, [], ◌∷◌, ◌++◌, length, take, drop, get_or, refl, sym, ◌∙◌, ap, subst, arith}
-use Rattle.std.specs.Borrow.{Bor}
-use Rattle.std.proofs.lemmas.List.{take_more, take_all, take-append-drop}
+use Rattle.std.proofs.Common.{ℕ, zero, suc, ◌+◌, ◌*◌, ◌≤◌, ◌<◌, ◌≡◌, List, [], ◌∷◌, ◌++◌, length, take, drop, get_or, refl, sym, ◌∙◌, ap, subst, arith}
+use Rattle.std.proofs.lemmas.List.{take_more, take_all, take-append-drop, drop-drop}
 use Rattle.dms_moments.specs.Moments.{Clock, Runs, Steps}
-use Rattle.dms_moments.specs.MomentLaws.{runs_weaken}
+use Rattle.dms_moments.specs.MomentLaws.{runs_none, runs_weaken, steps_weaken, steps_on}
 use Rattle.dms_site.specs.Files.{Files, Left, Only}
 use Rattle.dms_history.specs.Entries.{Entry, schema_part}
 use Rattle.dms_history.specs.Schemas.{parts_of_schema, schema_entries}
-use Rattle.dms_history.specs.Plain.{blocks_seen}
-use Rattle.dms_audrec.specs.Spelling.{spelling, IsEntry}
 use Rattle.dms_audfile.specs.declared.audit_end.AuditEnd.{AuditEnd}
 use Rattle.dms_audfile.specs.BlockLaws.{AreNoBegins}
 use Rattle.dms_audfile.specs.TrailEntries.{trail_entries}
 use Rattle.dms_audfile.specs.Ends as ends
 use Rattle.dms_audfile.specs.Ends.{EndsAt, Appends}
+use Rattle.dms_restore.specs.Bodies.{bodies_of, part_count, bodies}
 use Rattle.dms_running.specs.Telling.{Telling}
 use Rattle.dms_running.specs.Sealing.{SealsSome, AreSealed, Settled}
 use Rattle.dms_running.specs.Running.{State}
 use Rattle.dms_running.specs.Plans.{Planned}
 use Rattle.dms_running.proofs.Planned.{planned_more, lays_none, lays_since, lays_more, lays_sealing, lays_sealed}
-use Rattle.dms_restore.specs.Logging.{telling_of, waits}
-use Rattle.dms_restore.specs.Laying.{AreSchemaParts, IsAtStart, LaysEnd, SealsSince}
+use Rattle.dms_restore.specs.Logging.{telling_of, waits, PrintsNothing}
+use Rattle.dms_restore.specs.Laying.{IsAtStart, LaysEnd, SealsSince}
 use Rattle.dms_restore.proofs.Trails.{waits_is, ends_waiting, seals_as, appended_as, sealed_as, settled_as}
 
 pub lay_none : (end : AuditEnd) (first : ℕ) (files : Files) (clock : Clock Left) → IsAtStart end first files clock → LaysEnd end.total end first [] files clock files clock
@@ -40,6 +38,10 @@ module _ (total : ℕ) (old new : AuditEnd) (first : ℕ) (done : List Entry) (s
     entry_steps : Steps (SealsSome (telling_of total first) (waits old ++ e ∷ [])) clock later
     entry_steps = subst (λ n. Steps (SealsSome (telling_of n first) (waits old ++ e ∷ [])) clock later) same
         (seals_as old.total old.tag first (waits old ++ e ∷ []) clock later (steps first (waits old) l.plain l.ends))
+
+    -- nothing is printed meanwhile
+    pub lay_silent : Steps PrintsNothing clock later
+    lay_silent = steps_weaken entry_steps (λ x y now s. s.said)
 
     -- what a stop leaves while one entry more is appended
     pub lay_since : Runs began later (Planned (telling_of total first) (done ++ e ∷ []) start)
@@ -62,6 +64,9 @@ module _ (total : ℕ) (old new : AuditEnd) (first : ℕ) (done : List Entry) (s
 
   -- what waits is sealed
   module _ (later : Clock Left) (steps : (first : ℕ) (waiting : List Entry) → EndsAt old first waiting files clock → Steps (ends.Seals old.total old.tag first waiting) clock later) where
+    pub lay_sealing_silent : Steps PrintsNothing clock later
+    lay_sealing_silent = steps_weaken (steps first (waits old) l.ends) (λ x y now s. s.said)
+
     pub lay_sealing : Runs began later (Planned (telling_of total first) done start)
     lay_sealing = lays_sealing (telling_of total first) done start began then_ l.lays later
         (subst (λ n. Steps (SealsSome (telling_of n first) (waits old)) clock later) same (seals_as old.total old.tag first (waits old) clock later (steps first (waits old) l.ends)))
@@ -75,17 +80,18 @@ module _ (total : ℕ) (old new : AuditEnd) (first : ℕ) (done : List Entry) (s
         let r = lays_sealed (telling_of total first) done start began then_ l.lays now all in
         record { sealed = r.0; above = r.1; starts = record { ends = ends_ first (waits old) l.ends; only = only } }
 
+-- one silent call after another
+pub both_silent : {a b c : Clock Left} → Steps PrintsNothing a b → Steps PrintsNothing b c → Steps PrintsNothing a c
+both_silent one two = steps_on one two (λ x y z was now p q. q ∙ p) (λ x y was p. p)
+
+pub none_silent : (a : Clock Left) → Steps PrintsNothing a a
+none_silent a = record { follows = λ x now. (x, now, refl); runs = runs_none a _ }
+
 -- fewer than are planned
 pub lay_more : (t : Telling) (done rest : List Entry) (start : Files) (a b : Clock Left) → Runs a b (Planned t done start) → Runs a b (Planned t (done ++ rest) start)
 lay_more t done rest start a b runs = runs_weaken runs (λ x p. planned_more t done rest start x p)
 
 -- ---- parts
-
-pub parts_at : (all k : ℕ) (bs : List (List ℕ)) (i : ℕ) → AreSchemaParts all k bs → i < length bs → IsEntry (schema_part (k + i) all (get_or bs i [])) × (length (spelling (schema_part (k + i) all (get_or bs i []))) ≤ 4094)
-parts_at all k [] i parts low = absurd (omega (arith, low))
-parts_at all k (b ∷ bs) zero parts low = let e : k + 0 ≡ k = omega arith in subst (λ j. IsEntry (schema_part j all b) × (length (spelling (schema_part j all b)) ≤ 4094)) (sym e) parts.0
-parts_at all k (b ∷ bs) (suc i) parts low =
-    let e : k + 1 + i ≡ k + suc i = omega arith in subst (λ j. IsEntry (schema_part j all (get_or bs i [])) × (length (spelling (schema_part j all (get_or bs i []))) ≤ 4094)) e (parts_at all (k + 1) bs i parts.1 (omega (arith, low)))
 
 parts_length : (k all : ℕ) (bs : List (List ℕ)) → length (parts_of_schema k all bs) ≡ length bs
 parts_length k all [] = refl
@@ -105,32 +111,45 @@ part_more bs i low =
 pub parts_all : (bs : List (List ℕ)) (i : ℕ) → length bs ≤ i → take i (schema_entries bs) ≡ schema_entries bs
 parts_all bs i le = take_all i (schema_entries bs) (omega (arith, le, parts_length 1 (length bs) bs))
 
-pub seen_length : (parts : List (Bor (List ℕ))) → length (blocks_seen parts) ≡ length parts
-seen_length [] = refl
-seen_length (p ∷ ps) = ap suc (seen_length ps)
+-- ---- the bodies of a description
 
-pub seen_at : (parts : List (Bor (List ℕ))) (i : ℕ) (d : Bor (List ℕ)) → i < length parts → get_or (blocks_seen parts) i [] ≡ (get_or parts i d).now
-seen_at [] i d low = absurd (omega (arith, low))
-seen_at (p ∷ ps) zero d low = refl
-seen_at (p ∷ ps) (suc i) d low = seen_at ps i d (omega (arith, low))
+pub bodies_many : (bytes : List ℕ) → length (bodies bytes) ≡ part_count (length bytes)
+unfolding bodies
+bodies_many bytes = many (part_count (length bytes)) bytes
+  where
+    many : (n : ℕ) (bytes : List ℕ) → length (bodies_of n bytes) ≡ n
+    many zero bytes = refl
+    many (suc n) bytes = ap suc (many n (drop 4000 bytes))
+
+body_of : (n : ℕ) (bytes : List ℕ) (i : ℕ) → i < n → get_or (bodies_of n bytes) i [] ≡ take 4000 (drop (4000 * i) bytes)
+body_of zero bytes i low = absurd (omega (arith, low))
+body_of (suc n) bytes zero low = refl
+body_of (suc n) bytes (suc i) low =
+    let at : 4000 + 4000 * i ≡ 4000 * suc i = omega arith in
+    body_of n (drop 4000 bytes) i (omega (arith, low)) ∙ ap (λ (l : List ℕ). take 4000 l) (drop-drop (4000 * i) 4000 bytes ∙ ap (λ k. drop k bytes) at)
+
+pub body_at : (bytes : List ℕ) (i : ℕ) → i < part_count (length bytes) → get_or (bodies bytes) i [] ≡ take 4000 (drop (4000 * i) bytes)
+unfolding bodies
+body_at bytes i low = body_of (part_count (length bytes)) bytes i low
+
+-- a description that isn't empty has a first part
+pub some_bodies : (bytes : List ℕ) → 0 < length bytes → (one : List ℕ) × (rest : List (List ℕ)) × (bodies bytes ≡ one ∷ rest)
+some_bodies bytes some = split (bodies bytes) (omega (arith, some, bodies_many bytes))
+  where
+    split : (l : List (List ℕ)) → 0 < length l → (one : List ℕ) × (rest : List (List ℕ)) × (l ≡ one ∷ rest)
+    split [] none = absurd (omega (arith, none))
+    split (x ∷ l) none = (x, l, refl)
+
+-- one part of a description more
+pub part_next : (bytes part : List ℕ) (i count : ℕ) → count ≡ part_count (length bytes) → i < count → part ≡ take 4000 (drop (4000 * i) bytes)
+    → take (i + 1) (schema_entries (bodies bytes)) ≡ take i (schema_entries (bodies bytes)) ++ schema_part (i + 1) count part ∷ []
+part_next bytes part i count many low is =
+    let e : 1 + i ≡ i + 1 = omega arith in
+    let all = bodies_many bytes ∙ sym many in
+    part_more (bodies bytes) i (omega (arith, low, all))
+    ∙ (λ k. take i (schema_entries (bodies bytes)) ++ schema_part (e k) (all k) ((body_at bytes i (omega (arith, low, many)) ∙ sym is) k) ∷ [])
 
 -- a part after fewer of them: the whole Schema is planned
 pub some_parts : (t : Telling) (bs : List (List ℕ)) (i : ℕ) (start : Files) (a b : Clock Left) → Runs a b (Planned t (take i (schema_entries bs)) start) → Runs a b (Planned t (schema_entries bs) start)
 some_parts t bs i start a b runs =
     subst (λ (l : List Entry). Runs a b (Planned t l start)) (take-append-drop i (schema_entries bs)) (lay_more t (take i (schema_entries bs)) (drop i (schema_entries bs)) start a b runs)
-
--- a part of the program
-pub part_entry : (parts : List (Bor (List ℕ))) (i : ℕ) (d : Bor (List ℕ)) → AreSchemaParts (length parts) 1 (blocks_seen parts) → i < length parts
-    → IsEntry (schema_part (i + 1) (length parts) (get_or parts i d).now) × (length (spelling (schema_part (i + 1) (length parts) (get_or parts i d).now)) ≤ 4094)
-part_entry parts i d fits low =
-    let e : 1 + i ≡ i + 1 = omega arith in
-    subst (λ (b : List ℕ). IsEntry (schema_part (i + 1) (length parts) b) × (length (spelling (schema_part (i + 1) (length parts) b)) ≤ 4094)) (seen_at parts i d low)
-    (subst (λ j. IsEntry (schema_part j (length parts) (get_or (blocks_seen parts) i [])) × (length (spelling (schema_part j (length parts) (get_or (blocks_seen parts) i []))) ≤ 4094)) e
-    (parts_at (length parts) 1 (blocks_seen parts) i fits (omega (arith, low, seen_length parts))))
-
-pub part_next : (parts : List (Bor (List ℕ))) (i : ℕ) (d : Bor (List ℕ)) → i < length parts
-    → take (i + 1) (schema_entries (blocks_seen parts)) ≡ take i (schema_entries (blocks_seen parts)) ++ schema_part (i + 1) (length parts) (get_or parts i d).now ∷ []
-part_next parts i d low =
-    let e : 1 + i ≡ i + 1 = omega arith in
-    part_more (blocks_seen parts) i (omega (arith, low, seen_length parts))
-    ∙ (λ k. take i (schema_entries (blocks_seen parts)) ++ schema_part (e k) (seen_length parts k) (seen_at parts i d low k) ∷ [])

@@ -3,6 +3,7 @@ pub mod Logs
 pub mod Results
 pub mod Tables
 pub mod Laid
+pub mod CountBytes
 pub mod Beginnings
 pub mod Endings
 pub mod Opens

@@ -1,28 +1,21 @@
 -- A whole Schema and a Control, appended one after another and sealed.
-use Rattle.std.specs.Prelude.{ℕ, ◌+◌, ◌/◌, ◌<◌, ◌≤◌, ◌≡◌, List, [], ◌∷◌, ◌++◌, length}
-use Rattle.std.specs.Borrow.{Bor}
+use Rattle.std.specs.Prelude.{ℕ, ◌/◌, ◌<◌, ◌≡◌, List, [], ◌∷◌, ◌++◌, length}
 use Rattle.dms_moments.specs.Moments.{Clock}
 use Rattle.dms_site.specs.Files.{Files, Left, Only}
-use Rattle.dms_history.specs.Entries.{Entry, schema_part, control_point}
+use Rattle.dms_history.specs.Entries.{Entry, control_point}
 use Rattle.dms_history.specs.Schemas.{schema_entries}
-use Rattle.dms_history.specs.Plain.{blocks_seen}
-use Rattle.dms_audrec.specs.Spelling.{spelling, IsEntry}
 use Rattle.dms_audrec.specs.Reading.{counts_at}
 use Rattle.dms_audfile.specs.declared.audit_end.AuditEnd.{AuditEnd}
 use Rattle.dms_audfile.specs.BlockLaws.{AreNoBegins}
 use Rattle.dms_audfile.specs.TrailEntries.{trail_entries}
 use Rattle.dms_audfile.specs.Ends.{EndsAt}
+use Rattle.dms_restore.specs.Bodies.{bodies}
 use Rattle.dms_running.specs.Plans.{Lays}
 use Rattle.dms_restore.specs.Logging.{telling_of, waits}
 
--- parts from number k on, of so many, are in the grammar, and each fits a block
-abbrev pub AreSchemaParts : ℕ → ℕ → List (List ℕ) → Type 0
-AreSchemaParts all k [] = Unit {0}
-AreSchemaParts all k (bytes ∷ rest) = (IsEntry (schema_part k all bytes) × (length (spelling (schema_part k all bytes)) ≤ 4094)) × AreSchemaParts all (k + 1) rest
-
--- the whole Schema in these parts, and directly behind it a Control with these counts
-abbrev pub schema_control : List (Bor (List ℕ)) → ℕ → ℕ → List ℕ → List Entry
-schema_control parts point next counts = schema_entries (blocks_seen parts) ++ control_point point next (counts_at (length counts / 8) counts) ∷ []
+-- the whole Schema of a description, and directly behind it a Control with these counts
+abbrev pub schema_control : List ℕ → ℕ → ℕ → List ℕ → List Entry
+schema_control description point next counts = schema_entries (bodies description) ++ control_point point next (counts_at (length counts / 8) counts) ∷ []
 
 -- The trail ends where it is said to, no entry waits, and a stop now leaves what is read.
 pub record IsAtStart (end : AuditEnd) (first : ℕ) (files : Files) (clock : Clock Left) : Type 0 where

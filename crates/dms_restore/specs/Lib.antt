@@ -1,6 +1,8 @@
 pub mod Logging
 pub mod Table
+pub mod Bodies
 pub mod Laying
+pub mod Counts
 pub mod Begins
 pub mod Endings
 pub mod Scanned

@@ -1,16 +1,16 @@
 //! The Schema and Control that end a restore, or make a control point.
 
-ghost use Rattle.std.specs.Prelude.{◌≡◌, ◌⊎◌, ◌/◌, ◌<◌, ◌≤◌, ◌^◌, ℕ, length, OnOk, IfOk, IfErr, IsErrOf, IsTrue};
+ghost use Rattle.std.specs.Prelude.{◌≡◌, ◌⊎◌, ◌+◌, ◌/◌, ◌<◌, ◌≤◌, ℕ, length, OnOk, IfOk, IfErr, IsErrOf, IsTrue};
+ghost use Rattle.dms_moments.specs.Moments.{Runs, Steps};
 ghost use Rattle.dms_history.specs.History.{Pending};
 ghost use Rattle.dms_history.specs.Entries.{control_point};
-ghost use Rattle.dms_history.specs.Plain.{blocks_seen};
-ghost use Rattle.dms_audrec.specs.Spelling.{spelling, IsEntry};
+ghost use Rattle.dms_audrec.specs.Spelling.{IsEntry};
 ghost use Rattle.dms_audrec.specs.Reading.{counts_at};
 ghost use Rattle.dms_audfile.specs.Counting.{CountedAt};
-ghost use Rattle.dms_restore.specs.Logging.{view, LogRuns};
+ghost use Rattle.dms_restore.specs.Logging.{view, LogRuns, PrintsNothing};
 ghost use Rattle.dms_restore.specs.Begins.{LeavesEach};
-ghost use Rattle.dms_restore.specs.Laying.{AreSchemaParts};
-ghost use Rattle.dms_restore.specs.Endings.{EndsBy, EndedAt, ControlBy, ControlledAt};
+ghost use Rattle.dms_restore.specs.Laying.{schema_control};
+ghost use Rattle.dms_restore.specs.Endings.{EndsBy, EndedAt, ControlBy, ControlledAt, KeepsBlocks};
 
 use crate::laying::seal_control;
 use crate::{Log, Restored};
@@ -21,28 +21,32 @@ impl<S: Site> Restored<S> {
     /// Seals the parts of the description and the Control that end the restore. `counts` are the bytes of its counts.
     pub fn finish(
         self,
-        parts: &[&[u8]],
+        description: &[u8],
         point: u64,
         next: u64,
         counts: &[u8],
     ) -> Result<Log<S>, (AudFault, Log<S>)>
-        requires some { 0 < length parts.now }
-        requires few { length parts.now < 2 ^ 16 }
-        requires parts { AreSchemaParts (length parts.now) 1 (blocks_seen parts.now) }
+        requires some { 0 < length description.now }
+        requires few { length description.now ≤ 65535 }
         requires control { IsEntry (control_point point next (counts_at (length counts.now / 8) counts.now)) }
-        requires size { length (spelling (control_point point next (counts_at (length counts.now / 8) counts.now))) ≤ 4094 }
+        requires size { length counts.now ≤ 1600 }
         ensures ended { IfOk result (λ l. (p : Pending) → IsTrue S.tells → EndsBy p (view self.log.end self.log.first (S.files self.log.site) (S.clock self.log.site)) point next counts.now
-            → EndedAt p (view self.log.end self.log.first (S.files self.log.site) (S.clock self.log.site)) (view l.end l.first (S.files l.site) (S.clock l.site))) }
+            → EndedAt p (view self.log.end self.log.first (S.files self.log.site) (S.clock self.log.site)) (view l.end l.first (S.files l.site) (S.clock l.site)) (schema_control description.now point next counts.now)) }
         ensures moments { IfOk result (λ l. (p : Pending) → IsTrue S.tells → EndsBy p (view self.log.end self.log.first (S.files self.log.site) (S.clock self.log.site)) point next counts.now
             → LeavesEach (view self.log.end self.log.first (S.files self.log.site) (S.clock self.log.site)) (view l.end l.first (S.files l.site) (S.clock l.site))) }
         ensures stopped { IfErr result (λ e. (p : Pending) → IsTrue S.tells → EndsBy p (view self.log.end self.log.first (S.files self.log.site) (S.clock self.log.site)) point next counts.now
             → LeavesEach (view self.log.end self.log.first (S.files self.log.site) (S.clock self.log.site)) (view e.1.end e.1.first (S.files e.1.site) (S.clock e.1.site))) }
+        ensures blocks { IfOk result (λ l. (p : Pending) → IsTrue S.tells → EndsBy p (view self.log.end self.log.first (S.files self.log.site) (S.clock self.log.site)) point next counts.now → Runs (S.clock self.log.site) (S.clock l.site) (KeepsBlocks (S.files self.log.site))) }
+        ensures blocks_then { IfErr result (λ e. (p : Pending) → IsTrue S.tells → EndsBy p (view self.log.end self.log.first (S.files self.log.site) (S.clock self.log.site)) point next counts.now → Runs (S.clock self.log.site) (S.clock e.1.site) (KeepsBlocks (S.files self.log.site))) }
+        ensures silent { IfOk result (λ l. (p : Pending) → IsTrue S.tells → EndsBy p (view self.log.end self.log.first (S.files self.log.site) (S.clock self.log.site)) point next counts.now → Steps PrintsNothing (S.clock self.log.site) (S.clock l.site)) }
+        ensures silent_then { IfErr result (λ e. (p : Pending) → IsTrue S.tells → EndsBy p (view self.log.end self.log.first (S.files self.log.site) (S.clock self.log.site)) point next counts.now → Steps PrintsNothing (S.clock self.log.site) (S.clock e.1.site)) }
         ensures same { IfOk result (λ l. S.same_site self.log.site l.site) }
         ensures same_then { IfErr result (λ e. S.same_site self.log.site e.1.site) }
         ensures said { IfOk result (λ l. S.said l.site ≡ S.said self.log.site) }
         ensures said_then { IfErr result (λ e. S.said e.1.site ≡ S.said self.log.site) }
         ensures clean { IfOk result (λ l. S.disk_faults l.site ≡ S.disk_faults self.log.site) }
         ensures only { IfErr result (λ e. (e.0 ≡ AudFault.Disk) ⊎ (e.0 ≡ AudFault.Full self.log.end.limit)) }
+        ensures full { IfErr result (λ e. e.0 ≡ AudFault.Full self.log.end.limit → (e.1.end.used ≡ 0) × (10000 + self.log.end.limit < e.1.end.file)) }
         ensures disk { IfErr result (λ e. CountedAt (e.0 ≡ AudFault.Disk) (S.disk_faults self.log.site) (S.disk_faults e.1.site)) }
         ensures say_faults { IfOk result (λ l. S.say_faults l.site ≡ S.say_faults self.log.site) }
         ensures say_faults_then { IfErr result (λ e. S.say_faults e.1.site ≡ S.say_faults self.log.site) }
@@ -54,7 +58,7 @@ impl<S: Site> Restored<S> {
             mut end,
             first,
         } = log;
-        match seal_control(&mut end, &mut site, parts, point, next, counts) {
+        match seal_control(&mut end, &mut site, description, point, next, counts) {
             Ok(()) => Ok(Log { site, end, first }),
             Err(fault) => Err((fault, Log { site, end, first })),
         }
@@ -65,27 +69,36 @@ impl<S: Site> Log<S> {
     /// Seals the parts of the description and a Control of the last point, where all blocks are written and stable.
     pub fn control(
         &mut self,
-        parts: &[&[u8]],
+        description: &[u8],
         point: u64,
         next: u64,
         counts: &[u8],
     ) -> Result<(), AudFault>
-        requires some { 0 < length parts.now }
-        requires few { length parts.now < 2 ^ 16 }
-        requires parts { AreSchemaParts (length parts.now) 1 (blocks_seen parts.now) }
+        requires some { 0 < length description.now }
+        requires few { length description.now ≤ 65535 }
         requires control { IsEntry (control_point point next (counts_at (length counts.now / 8) counts.now)) }
-        requires size { length (spelling (control_point point next (counts_at (length counts.now / 8) counts.now))) ≤ 4094 }
+        requires size { length counts.now ≤ 1600 }
         requires runs { IsTrue S.tells → LogRuns (view self.old.end self.old.first (S.files self.old.site) (S.clock self.old.site)) }
         requires by { IsTrue S.tells → ControlBy (view self.old.end self.old.first (S.files self.old.site) (S.clock self.old.site)) point next counts.now }
-        ensures controlled { OnOk result (IsTrue S.tells → ControlledAt (view self.old.end self.old.first (S.files self.old.site) (S.clock self.old.site)) (view self.new.end self.new.first (S.files self.new.site) (S.clock self.new.site))) }
+        ensures controlled { OnOk result (IsTrue S.tells → ControlledAt (view self.old.end self.old.first (S.files self.old.site) (S.clock self.old.site)) (view self.new.end self.new.first (S.files self.new.site) (S.clock self.new.site)) (schema_control description.now point next counts.now)) }
         ensures moments { IsTrue S.tells → LeavesEach (view self.old.end self.old.first (S.files self.old.site) (S.clock self.old.site)) (view self.new.end self.new.first (S.files self.new.site) (S.clock self.new.site)) }
+        ensures blocks { IsTrue S.tells → Runs (S.clock self.old.site) (S.clock self.new.site) (KeepsBlocks (S.files self.old.site)) }
+        ensures silent { IsTrue S.tells → Steps PrintsNothing (S.clock self.old.site) (S.clock self.new.site) }
         ensures kind { (self.new.end.total ≡ self.old.end.total) × (self.new.end.tag ≡ self.old.end.tag) × (self.new.end.limit ≡ self.old.end.limit) × (self.new.first ≡ self.old.first) }
         ensures only { IfErr result (λ e. (e ≡ AudFault.Disk) ⊎ (e ≡ AudFault.Full self.old.end.limit)) }
+        ensures full { IsErrOf result (AudFault.Full self.old.end.limit) → (self.new.end.used ≡ 0) × (10000 + self.old.end.limit < self.new.end.file) }
         ensures said { S.said self.new.site ≡ S.said self.old.site }
         ensures same_site { S.same_site self.old.site self.new.site }
         ensures disk { CountedAt (IsErrOf result AudFault.Disk) (S.disk_faults self.old.site) (S.disk_faults self.new.site) }
         ensures say_faults { S.say_faults self.new.site ≡ S.say_faults self.old.site }
     {
-        seal_control(&mut self.end, &mut self.site, parts, point, next, counts)
+        seal_control(
+            &mut self.end,
+            &mut self.site,
+            description,
+            point,
+            next,
+            counts,
+        )
     }
 }

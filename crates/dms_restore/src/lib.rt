@@ -3,6 +3,7 @@
 #![tactic(auto)]
 
 mod begun;
+mod counting;
 mod ending;
 mod laying;
 mod live;
@@ -22,6 +23,7 @@ mod tracing;
 mod trail_scan;
 
 pub use begun::{Begun, Restored};
+pub use counting::count_bytes;
 pub use live::{ControlAt, HowAt, ImageAt, LiveEntry, PendingAt, Spot};
 pub use log::Log;
 pub use placing::place;

@@ -1,11 +1,12 @@
-use Rattle.std.proofs.Common.{◌+◌, ◌≤◌, ◌∙◌, List, length, refl, sym, subst, arith}
+use Rattle.std.proofs.Common.{◌+◌, ◌/◌, ◌≤◌, ◌≡◌, ◌∙◌, ℕ, List, length, refl, sym, subst, arith}
 use Rattle.dms_history.specs.Entries.{Entry}
-use Rattle.dms_history.specs.Plain.{blocks_seen}
 use Rattle.dms_moments.specs.Moments.{Runs}
+use Rattle.dms_restore.specs.Bodies.{bodies}
 use Rattle.dms_running.specs.Plans.{Planned}
 use Rattle.dms_restore.specs.Logging.{telling_of}
 use Rattle.dms_restore.specs.Laying.{LaysEnd}
-use Rattle.dms_restore.proofs.Laid.{lay_none, lay_since, lay_one, part_entry, part_next, parts_all, seen_length, some_parts}
+use Rattle.dms_restore.proofs.Laid.{bodies_many, both_silent, none_silent, lay_none, lay_since, lay_silent, lay_one, part_next, parts_all, some_parts}
+use Rattle.dms_restore.proofs.Sizes.{part_size}
 use Rattle.dms_restore.proofs.Results.{is_fault}
 use Rattle.dms_restore.proofs.laying.lay_parts.Goals as goal
 
@@ -13,6 +14,7 @@ pub loop-number-init : goal.loop-number-init
 loop-number-init g c = record {
   kind = (refl, refl, refl);
   laid = λ first tells s. lay_none _ first _ _ s;
+  silent = λ first tells s. none_silent _;
   said = refl;
   same = g.met.S.Site.same_again _;
   disk = refl;
@@ -21,23 +23,25 @@ loop-number-init g c = record {
 
 pub returns-clause-laid : goal.returns-clause-laid
 returns-clause-laid g c first tells s =
-    let bs = blocks_seen c.args.parts.now in
-    let le : length bs ≤ c.loop-number.number = omega (arith, seen_length c.args.parts.now, c.loop-number-test.false) in
+    let bs = bodies c.args.description.now in
+    let le : length bs ≤ c.loop-number.number = omega (arith, bodies_many c.args.description.now, c.loop-number-test.false) in
     subst (λ (l : List Entry). LaysEnd c.args.end.now.total c.loop-number.end first l (g.S.Site.files c.args.site.now) (g.S.Site.clock c.args.site.now) (g.S.Site.files c.loop-number.site) (g.S.Site.clock c.loop-number.site))
     (parts_all bs c.loop-number.number le) (c.loop-number.invariant.laid first tells s)
 
-pub append-requires-clause-entry : goal.append-requires-clause-entry
-append-requires-clause-entry g c = (part_entry c.args.parts.now c.loop-number.number _ c.requires.parts c.loop-number-test.true).0
-
 pub append-requires-clause-size : goal.append-requires-clause-size
-append-requires-clause-size g c = (part_entry c.args.parts.now c.loop-number.number _ c.requires.parts c.loop-number-test.true).1
+append-requires-clause-size g c = part_size (c.loop-number.number + 1) ((length c.args.description.now + 3999) / 4000) c.part_of-part.result.now c.part_of-part.ensures.short
 
 pub returns-in_err-append-clause-moments : goal.returns-in_err-append-clause-moments
 returns-in_err-append-clause-moments g c first tells s =
-    some_parts _ (blocks_seen c.args.parts.now) (c.loop-number.number + 1) _ _ _
+    some_parts _ (bodies c.args.description.now) (c.loop-number.number + 1) _ _ _
     (subst (λ (l : List Entry). Runs (g.S.Site.clock c.args.site.now) (g.S.Site.clock c.append.new.site) (Planned (telling_of c.args.end.now.total first) l (g.S.Site.files c.args.site.now)))
-    (sym (part_next c.args.parts.now c.loop-number.number _ c.loop-number-test.true))
+    (sym (part_next c.args.description.now c.part_of-part.result.now c.loop-number.number ((length c.args.description.now + 3999) / 4000) refl c.loop-number-test.true c.part_of-part.ensures.part))
     (lay_since _ _ c.append.new.self first _ _ _ _ _ (c.loop-number.invariant.laid first tells s) c.loop-number.invariant.kind.0 _ _ (λ first waiting plain ends. c.append.ensures.moments first waiting tells plain ends)))
+
+pub returns-in_err-append-clause-silent : goal.returns-in_err-append-clause-silent
+returns-in_err-append-clause-silent g c first tells s =
+    both_silent (c.loop-number.invariant.silent first tells s)
+    (lay_silent _ _ c.append.new.self first _ _ _ _ _ (c.loop-number.invariant.laid first tells s) c.loop-number.invariant.kind.0 _ _ (λ first waiting plain ends. c.append.ensures.moments first waiting tells plain ends))
 
 pub loop-number-preserved : goal.loop-number-preserved
 loop-number-preserved g c =
@@ -46,9 +50,11 @@ loop-number-preserved g c =
       kind = (c.append.ensures.kind.0 ∙ inv.kind.0, c.append.ensures.kind.1 ∙ inv.kind.1, c.append.ensures.kind.2 ∙ inv.kind.2);
       laid = λ first tells s.
           subst (λ (l : List Entry). LaysEnd c.args.end.now.total c.append.new.self first l (g.S.Site.files c.args.site.now) (g.S.Site.clock c.args.site.now) (g.S.Site.files c.append.new.site) (g.S.Site.clock c.append.new.site))
-          (sym (part_next c.args.parts.now c.loop-number.number _ c.loop-number-test.true))
+          (sym (part_next c.args.description.now c.part_of-part.result.now c.loop-number.number ((length c.args.description.now + 3999) / 4000) refl c.loop-number-test.true c.part_of-part.ensures.part))
           (lay_one _ _ c.append.new.self first _ _ _ _ _ (inv.laid first tells s) inv.kind.0 _ _ (λ first waiting plain ends. c.append.ensures.moments first waiting tells plain ends) _ c.append.ensures.kind.0
           (c.in_ok-append.ensures.behind tells) (λ first waiting plain ends. c.in_ok-append.ensures.appends first waiting tells plain ends));
+      silent = λ first tells s. both_silent (inv.silent first tells s)
+          (lay_silent _ _ c.append.new.self first _ _ _ _ _ (inv.laid first tells s) inv.kind.0 _ _ (λ first waiting plain ends. c.append.ensures.moments first waiting tells plain ends));
       said = c.append.ensures.said ∙ inv.said;
       same = g.met.S.Site.same_then _ _ _ inv.same c.append.ensures.same_site;
       disk = c.in_ok-append.ensures.disk.clean (λ e. subst (λ r. is_fault r) (sym e) tt) ∙ inv.disk;
@@ -56,4 +62,4 @@ loop-number-preserved g c =
     }
 
 pub returns-clause-moments : goal.returns-clause-moments
-returns-clause-moments g c first tells s = some_parts _ (blocks_seen c.args.parts.now) c.loop-number.number _ _ _ (c.loop-number.invariant.laid first tells s).lays.since
+returns-clause-moments g c first tells s = some_parts _ (bodies c.args.description.now) c.loop-number.number _ _ _ (c.loop-number.invariant.laid first tells s).lays.since

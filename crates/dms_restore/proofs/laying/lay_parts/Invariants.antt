@@ -1,6 +1,8 @@
 use Rattle.std.proofs.Common.{◌≡◌, IsTrue, ℕ, take}
+use Rattle.dms_moments.specs.Moments.{Steps}
 use Rattle.dms_history.specs.Schemas.{schema_entries}
-use Rattle.dms_history.specs.Plain.{blocks_seen}
+use Rattle.dms_restore.specs.Bodies.{bodies}
+use Rattle.dms_restore.specs.Logging.{PrintsNothing}
 use Rattle.dms_restore.specs.Laying.{IsAtStart, LaysEnd}
 use Rattle.dms_restore.proofs.laying.lay_parts.Given as goal
 
@@ -8,7 +10,8 @@ abbrev pub invariant-loop-number : goal.invariant-loop-number
 invariant-loop-number g l = record {
   kind : (l.end.total ≡ l.fn.end.total) × (l.end.tag ≡ l.fn.end.tag) × (l.end.limit ≡ l.fn.end.limit);
   laid : (first : ℕ) → IsTrue g.S.Site.tells → IsAtStart l.fn.end first (g.S.Site.files l.fn.site) (g.S.Site.clock l.fn.site)
-      → LaysEnd l.fn.end.total l.end first (take l.number (schema_entries (blocks_seen l.parts))) (g.S.Site.files l.fn.site) (g.S.Site.clock l.fn.site) (g.S.Site.files l.site) (g.S.Site.clock l.site);
+      → LaysEnd l.fn.end.total l.end first (take l.number (schema_entries (bodies l.description))) (g.S.Site.files l.fn.site) (g.S.Site.clock l.fn.site) (g.S.Site.files l.site) (g.S.Site.clock l.site);
+  silent : (first : ℕ) → IsTrue g.S.Site.tells → IsAtStart l.fn.end first (g.S.Site.files l.fn.site) (g.S.Site.clock l.fn.site) → Steps PrintsNothing (g.S.Site.clock l.fn.site) (g.S.Site.clock l.site);
   said : g.S.Site.said l.site ≡ g.S.Site.said l.fn.site;
   same : g.S.Site.same_site l.fn.site l.site;
   disk : g.S.Site.disk_faults l.site ≡ g.S.Site.disk_faults l.fn.site;

@@ -1,16 +1,22 @@
 use Rattle.std.proofs.Common.{refl}
 use Rattle.dms_restore.proofs.Results.{one_ok}
-use Rattle.dms_restore.proofs.Endings.{control_starts, control_leave, controlled}
+use Rattle.dms_restore.proofs.Endings.{control_starts, control_leave, controlled, plan_blocks}
 use Rattle.dms_restore.proofs.log.Log.control.Goals as goal
 
 pub returns-clause-moments : goal.returns-clause-moments
 returns-clause-moments g c tells =
     let read = g.met.S.Site.may_stay c.args.self.now.site tells in
-    control_leave _ (c.requires.runs tells) read c.args.parts.now c.requires.some c.args.point c.args.next c.args.counts.now (c.requires.by tells) _
-    (c.seal_control.ensures.moments c.args.self.now.first tells (control_starts _ (c.requires.runs tells) read c.args.parts.now c.requires.some c.args.point c.args.next c.args.counts.now (c.requires.by tells)))
+    control_leave _ (c.requires.runs tells) read c.args.description.now c.requires.some c.args.point c.args.next c.args.counts.now (c.requires.by tells) _
+    (c.seal_control.ensures.moments c.args.self.now.first tells (control_starts _ (c.requires.runs tells) read c.args.description.now c.requires.some c.args.point c.args.next c.args.counts.now (c.requires.by tells)))
 
 pub returns-clause-controlled : goal.returns-clause-controlled
 returns-clause-controlled g c = one_ok c.seal_control.result c.seal_control.ensures.sealed (λ sealed tells.
     let read = g.met.S.Site.may_stay c.args.self.now.site tells in
-    controlled _ (c.requires.runs tells) read c.args.parts.now c.requires.some c.args.point c.args.next c.args.counts.now (c.requires.by tells) _ c.seal_control.ensures.kind.0 refl
-    (sealed c.args.self.now.first tells (control_starts _ (c.requires.runs tells) read c.args.parts.now c.requires.some c.args.point c.args.next c.args.counts.now (c.requires.by tells))))
+    controlled _ (c.requires.runs tells) read c.args.description.now c.requires.some c.args.point c.args.next c.args.counts.now (c.requires.by tells) _ c.seal_control.ensures.kind.0 refl
+    (sealed c.args.self.now.first tells (control_starts _ (c.requires.runs tells) read c.args.description.now c.requires.some c.args.point c.args.next c.args.counts.now (c.requires.by tells))))
+
+pub returns-clause-blocks : goal.returns-clause-blocks
+returns-clause-blocks g c tells = plan_blocks _ _ _ _ _ (c.seal_control.ensures.moments c.args.self.now.first tells (control_starts _ (c.requires.runs tells) (g.met.S.Site.may_stay c.args.self.now.site tells) c.args.description.now c.requires.some c.args.point c.args.next c.args.counts.now (c.requires.by tells)))
+
+pub returns-clause-silent : goal.returns-clause-silent
+returns-clause-silent g c tells = c.seal_control.ensures.silent c.args.self.now.first tells (control_starts _ (c.requires.runs tells) (g.met.S.Site.may_stay c.args.self.now.site tells) c.args.description.now c.requires.some c.args.point c.args.next c.args.counts.now (c.requires.by tells))
