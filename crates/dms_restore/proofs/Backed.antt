@@ -1,5 +1,5 @@
 -- Going back to the last point of a log.
-use Rattle.std.proofs.Common.{ℕ, ◌+◌, ◌≤◌, ◌≡◌, ◌⊎◌, inl, inr, List, length, take, refl, sym, ◌∙◌, ap, subst, arith}
+use Rattle.std.proofs.Common.{ℕ, ◌+◌, ◌≤◌, ◌<◌, ◌≡◌, ◌⊎◌, inl, inr, List, [], ◌∷◌, ◌++◌, append_assoc, length, take, refl, sym, ◌∙◌, ap, subst, arith}
 use Rattle.std.specs.Prelude.{IfErr, IsErrOf}
 use Rattle.std.specs.declared.result.Result.{Result}
 use Rattle.std.specs.declared.result.Result.TheVariants.{Ok, Err}
@@ -10,26 +10,33 @@ use Rattle.dms_history.specs.Events.{back_out}
 use Rattle.dms_history.specs.History.{Pending}
 use Rattle.dms_history.specs.Here.{outcome}
 use Rattle.dms_history.specs.Pick.{count_at, pick, blocks_at}
+use Rattle.dms_history.specs.Entries.{Entry}
 use Rattle.dms_history.specs.EntryEvents.{live_of}
 use Rattle.dms_history.specs.Points.{LivePoint}
 use Rattle.dms_history.proofs.Base.{content_length}
+use Rattle.dms_audfile.specs.BlockLaws.{AreNoBegins}
 use Rattle.dms_audfile.specs.Counting.{CountedAt}
+use Rattle.dms_audfile.specs.declared.audit_end.AuditEnd.{AuditEnd}
+use Rattle.dms_audfile.specs.Ends as ends
+use Rattle.dms_audfile.specs.Ends.{EndsAt, Appends}
 use Rattle.dms_audfile.specs.declared.fault.AudFault.{AudFault}
 use Rattle.dms_audfile.specs.declared.fault.AudFault.TheVariants.{Disk, Full}
+use Rattle.dms_running.specs.Running.{entries_now}
 use Rattle.dms_running.specs.Telling.{Telling}
 use Rattle.dms_running.specs.Standing.{IsWhole}
 use Rattle.dms_running.specs.Points.{points_of, next_in, LeavesPointsPrefix}
 use Rattle.dms_running.specs.Restoring.{IsKept, Rewritten, Rewrites}
 use Rattle.dms_running.specs.Begun.{content_at_point}
 use Rattle.dms_running.proofs.Appending.{points_enough}
-use Rattle.dms_running.proofs.Restored.{restore_leaves}
+use Rattle.dms_running.proofs.Restored.{restore_leaves, same_entries}
+use Rattle.dms_running.proofs.Stopped.{joined}
 use Rattle.dms_running.proofs.Rewriting.{rewritten_same}
 use Rattle.dms_restore.specs.declared.told.Told.{Told}
 use Rattle.dms_restore.specs.Table.{IsTable}
 use Rattle.dms_restore.specs.Logging.{waits, LogView, view, telling, state, LogRuns, points, next, entries, PrintsNothing, LogLeaves}
 use Rattle.dms_restore.specs.Begins.{begun_to, BegunAt, BeginsRestore, LeavesEach}
 use Rattle.dms_restore.specs.Endings.{EndsBy}
-use Rattle.dms_restore.specs.BackOuts.{StandsAll, GoesBackBy, IsBackFault}
+use Rattle.dms_restore.specs.BackOuts.{StandsAll, GoesBackBy, IsBackFault, IsDiskOrMemory}
 use Rattle.dms_restore.proofs.Beginnings.{table_begun}
 use Rattle.dms_restore.proofs.Trails.{is_telling, first_low}
 use Rattle.dms_restore.proofs.Logs as logs
@@ -98,6 +105,33 @@ module _ (a b c : LogView) (m number : ℕ) (counts : List ℕ) (by : GoesBackBy
     count = λ f. by.count f ∙ counts_there a m f;
   }
 
+-- ---- entries
+
+-- an entry stands behind those that there were
+pub begin_logs : (a : LogView) (r : LogRuns a) (read : Reads a) (b : LogView) (kind : b.end.total ≡ a.end.total) (start : b.first ≡ a.first) (e : Entry)
+    (steps : (first : ℕ) (waiting : List Entry) → AreNoBegins waiting → EndsAt a.end first waiting a.files a.clock → Steps (ends.Seals a.end.total a.end.tag first (waiting ++ e ∷ [])) a.clock b.clock)
+    (appends : (first : ℕ) (waiting : List Entry) → AreNoBegins waiting → EndsAt a.end first waiting a.files a.clock → Appends b.end first (waiting ++ e ∷ []) a.files b.files b.clock)
+    (behind : (g : ℕ) → b.end.file < g → b.files g ≡ a.files g) → entries b ≡ entries a ++ e ∷ []
+begin_logs a r read b kind start e steps appends behind =
+    ap (λ (t : Telling). entries_now t (state b)) (sym (logs.same_telling a r read b kind start))
+    ∙ joined (telling a) (waits a.end ++ e ∷ []) (waits b.end) a.files b.files (logs.appended a r read b kind start e steps appends behind)
+    ∙ sym (append_assoc ((telling a).entries a.files) (waits a.end) (e ∷ []))
+
+-- blocks alone were written
+pub told_entries : (p : Pending) (a : LogView) (r : BegunAt p a) → Reads a → (files : Files) (clock : Clock Left) → Rewritten (IsKept p.entries p.point) a.files files → entries (view a.end a.first files clock) ≡ entries a
+told_entries p a r read files clock written =
+    ap (λ (l : List Entry). l ++ waits a.end)
+    (same_entries (telling a) (is_telling a.end.total a.first (first_low a.end a.first (waits a.end) a.files a.clock r.ends)) p (state a) r.begun read (record { waiting = waits a.end; files = files; clock = clock }) written)
+
+-- Full of the same limit comes of the same
+pub back_full : {T : Type 0} (r : Result T AudFault) (limit old : ℕ) (end : AuditEnd) → limit ≡ old → (IsErrOf r (Full limit) → (end.used ≡ 0) × (10000 + limit < end.file)) → IsErrOf r (Full old) → (end.used ≡ 0) × (10000 + old < end.file)
+back_full {T = T} r limit old end same = subst (λ n. IsErrOf r (Full n) → (end.used ≡ 0) × (10000 + n < end.file)) same
+
+-- Disk and Memory aren't Full
+pub never_full : {T : Type 0} (fault : AudFault) (limit : ℕ) → IsDiskOrMemory fault → IsErrOf {T = T} (Err fault) (Full limit) → ⊥
+never_full fault limit (inl disk) is = cc
+never_full fault limit (inr memory) is = cc
+
 -- ---- a call that only looks, over a restore that is begun
 
 module _ (p : Pending) (a : LogView) (r : BegunAt p a) (read : Reads a) (files : Files) (clock : Clock Left) (same : files ≡ a.files) (steps : Steps Same a.clock clock) where
@@ -126,6 +160,7 @@ module _ (p : Pending) (a : LogView) (r : BegunAt p a) (read : Reads a) (files :
 
   pub look_stands : (c : LogView) → StandsAll p looked c → StandsAll p a c
   look_stands c s = record {
+    entries_same = s.entries_same ∙ ap (λ (l : Files). (telling a).entries l ++ waits a.end) same;
     begun = s.begun;
     restored = s.restored;
     keeps = record {

@@ -1,5 +1,5 @@
 -- A log that went back to its last point.
-use Rattle.std.proofs.Common.{ℕ, ◌<◌, ◌≡◌, List, length, sym, ◌∙◌, ap, arith}
+use Rattle.std.proofs.Common.{ℕ, ◌<◌, ◌≡◌, List, [], ◌∷◌, ◌++◌, append_assoc, length, sym, ◌∙◌, ap, arith}
 use Rattle.dms_site.specs.Files.{stored_of}
 use Rattle.dms_history.specs.Events.{Content, Stored, back_out, block_in}
 use Rattle.dms_history.specs.EntryEvents.{history_of}
@@ -9,7 +9,7 @@ use Rattle.dms_history.specs.Points.{LivePoint}
 use Rattle.dms_history.proofs.Stops.{here_is, outcome_length}
 use Rattle.dms_running.specs.Running.{AllWritten}
 use Rattle.dms_running.specs.Begun.{outcome_now}
-use Rattle.dms_restore.specs.Logging.{LogView, telling, state, content}
+use Rattle.dms_restore.specs.Logging.{LogView, telling, state, entries, content}
 use Rattle.dms_restore.specs.Begins.{begun_to, BeginsRestore}
 use Rattle.dms_restore.specs.Endings.{EndsBy, EndedAt}
 use Rattle.dms_restore.specs.BackOuts.{StandsAll, GoesBackBy, WentBackTo}
@@ -26,8 +26,10 @@ ended_written a d m c es stands e end f k low =
     ∙ ap (λ (s : Stored). s f k) (here_is dumps (history_of ((telling c).entries c.files)) p (stored_of c.files) stands.begun.begun.pending)
     ∙ ap (λ (l : Content). block_in l f k) (sym end.content_is)
 
-pub went_back : (a b c d : LogView) (m number : ℕ) (counts : List ℕ) (es : List Entry) → GoesBackBy a m number counts → BeginsRestore a b m back_out → StandsAll (begun_to a m back_out) b c → EndedAt (begun_to a m back_out) c d es → WentBackTo m a d
-went_back a b c d m number counts es by begins stands end = record {
+pub went_back : (a b c d : LogView) (m number : ℕ) (counts : List ℕ) (e : Entry) (es : List Entry) → GoesBackBy a m number counts → entries b ≡ entries a ++ e ∷ [] → BeginsRestore a b m back_out → StandsAll (begun_to a m back_out) b c → EndedAt (begun_to a m back_out) c d es
+    → WentBackTo m a d (e ∷ es)
+went_back a b c d m number counts e es by logged begins stands end = record {
+  entries_are = end.entries_are ∙ ap (λ (l : List Entry). l ++ es) (stands.entries_same ∙ logged) ∙ append_assoc (entries a) (e ∷ []) es;
   runs = end.runs;
   content_is = end.content_is ∙ stands.keeps.outcome_same ∙ begins.leaves;
   points_same = end.points_same ∙ back_points a b c m number counts by begins stands;

@@ -1,19 +1,19 @@
 //! Going back to the last point, over a log that is lent.
 
-ghost use Rattle.std.specs.Prelude.{◌≡◌, ◌⊎◌, ◌/◌, ◌<◌, ◌≤◌, length, OnOk, IfErr, IsErrOf, IsTrue};
+ghost use Rattle.std.specs.Prelude.{◌≡◌, ◌⊎◌, ◌+◌, ◌/◌, ◌<◌, ◌≤◌, ◌++◌, [], ◌∷◌, length, OnOk, IfErr, IsErrOf, IsTrue};
 ghost use Rattle.dms_moments.specs.Moments.{Steps};
 ghost use Rattle.dms_history.specs.Events.{back_out};
 ghost use Rattle.dms_history.specs.History.{Pending};
-ghost use Rattle.dms_history.specs.Entries.{control_point};
+ghost use Rattle.dms_history.specs.Entries.{begin_restore, by_back_out, control_point};
 ghost use Rattle.dms_audrec.specs.Spelling.{IsEntry};
 ghost use Rattle.dms_audrec.specs.Reading.{counts_at};
 ghost use Rattle.dms_audfile.specs.Counting.{CountedAt};
 ghost use Rattle.dms_restore.specs.Logging as logs;
-ghost use Rattle.dms_restore.specs.Logging.{points, PrintsNothing, LogLeaves, LogRuns};
+ghost use Rattle.dms_restore.specs.Logging.{entries, points, PrintsNothing, LogLeaves, LogRuns};
 ghost use Rattle.dms_restore.specs.Begins.{LastIs, begun_to, BegunAt, BeginsRestore, LeavesEach};
 ghost use Rattle.dms_restore.specs.Laying.{schema_control};
 ghost use Rattle.dms_restore.specs.Endings.{EndsBy, EndedAt};
-ghost use Rattle.dms_restore.specs.BackOuts.{seen, StandsAll, GoesBackBy, WentBackTo, IsDiskOrMemory, IsBackFault};
+ghost use Rattle.dms_restore.specs.BackOuts.{back_entries, seen, StandsAll, GoesBackBy, WentBackTo, IsDiskOrMemory, IsBackFault};
 ghost use Rattle.dms_restore.specs.Table.{AreBlocks, IsTable};
 
 use crate::laying::seal_control;
@@ -34,10 +34,12 @@ impl<S: Site> Log<S> {
         requires last { IsTrue S.tells → LastIs (seen S.Site self.old) point }
         ensures begun { OnOk result (IsTrue S.tells → BegunAt (begun_to (seen S.Site self.old) point back_out) (seen S.Site self.new)) }
         ensures keeps { OnOk result (IsTrue S.tells → BeginsRestore (seen S.Site self.old) (seen S.Site self.new) point back_out) }
+        ensures logs { OnOk result (IsTrue S.tells → entries (seen S.Site self.new) ≡ entries (seen S.Site self.old) ++ begin_restore point by_back_out ∷ []) }
         ensures moments { IsTrue S.tells → let a = seen S.Site self.old in LogLeaves a (seen S.Site self.new) (points a) (logs.next a) }
         ensures silent { IsTrue S.tells → Steps PrintsNothing (S.clock self.old.site) (S.clock self.new.site) }
         ensures kind { (self.new.end.total ≡ self.old.end.total) × (self.new.end.tag ≡ self.old.end.tag) × (self.new.end.limit ≡ self.old.end.limit) × (self.new.first ≡ self.old.first) }
         ensures only { IfErr result (λ e. (e ≡ AudFault.Disk) ⊎ (e ≡ AudFault.Full self.old.end.limit)) }
+        ensures full { IsErrOf result (AudFault.Full self.old.end.limit) → (self.new.end.used ≡ 0) × (10000 + self.old.end.limit < self.new.end.file) }
         ensures said { S.said self.new.site ≡ S.said self.old.site }
         ensures same_site { S.same_site self.old.site self.new.site }
         ensures disk { CountedAt (IsErrOf result AudFault.Disk) (S.disk_faults self.old.site) (S.disk_faults self.new.site) }
@@ -116,6 +118,7 @@ impl<S: Site> Log<S> {
         ensures silent { (p : Pending) → IsTrue S.tells → EndsBy p (seen S.Site self.old) point next counts.now → Steps PrintsNothing (S.clock self.old.site) (S.clock self.new.site) }
         ensures kind { (self.new.end.total ≡ self.old.end.total) × (self.new.end.tag ≡ self.old.end.tag) × (self.new.end.limit ≡ self.old.end.limit) × (self.new.first ≡ self.old.first) }
         ensures only { IfErr result (λ e. (e ≡ AudFault.Disk) ⊎ (e ≡ AudFault.Full self.old.end.limit)) }
+        ensures full { IsErrOf result (AudFault.Full self.old.end.limit) → (self.new.end.used ≡ 0) × (10000 + self.old.end.limit < self.new.end.file) }
         ensures said { S.said self.new.site ≡ S.said self.old.site }
         ensures same_site { S.same_site self.old.site self.new.site }
         ensures disk { CountedAt (IsErrOf result AudFault.Disk) (S.disk_faults self.old.site) (S.disk_faults self.new.site) }
@@ -150,11 +153,12 @@ impl<S: Site> Log<S> {
         requires size { length counts.now ≤ 1600 }
         requires runs { IsTrue S.tells → LogRuns (seen S.Site self.old) }
         requires by { IsTrue S.tells → GoesBackBy (seen S.Site self.old) point next counts.now }
-        ensures back { OnOk result (IsTrue S.tells → WentBackTo point (seen S.Site self.old) (seen S.Site self.new)) }
+        ensures back { OnOk result (IsTrue S.tells → WentBackTo point (seen S.Site self.old) (seen S.Site self.new) (back_entries point description.now next counts.now)) }
         ensures moments { IsTrue S.tells → let a = seen S.Site self.old in LogLeaves a (seen S.Site self.new) (points a) (logs.next a) }
         ensures silent { IsTrue S.tells → Steps PrintsNothing (S.clock self.old.site) (S.clock self.new.site) }
         ensures kind { (self.new.end.total ≡ self.old.end.total) × (self.new.end.tag ≡ self.old.end.tag) × (self.new.end.limit ≡ self.old.end.limit) × (self.new.first ≡ self.old.first) }
         ensures only { IfErr result (IsBackFault self.old.end.limit) }
+        ensures full { IsErrOf result (AudFault.Full self.old.end.limit) → (self.new.end.used ≡ 0) × (10000 + self.old.end.limit < self.new.end.file) }
         ensures said { S.said self.new.site ≡ S.said self.old.site }
         ensures same_site { S.same_site self.old.site self.new.site }
         ensures disk { CountedAt (IsErrOf result AudFault.Disk) (S.disk_faults self.old.site) (S.disk_faults self.new.site) }

@@ -3,7 +3,7 @@ use Rattle.dms_audfile.specs.declared.audit_end.AuditEnd.{AuditEnd}
 use Rattle.dms_restore.specs.Logging.{telling_of, telling}
 use Rattle.dms_restore.specs.BackOuts.{seen}
 use Rattle.dms_restore.proofs.Results.{one_ok, is_fault}
-use Rattle.dms_restore.proofs.Backed.{silent_on, then_each, back_points, back_next, back_ends, counted_on, back_fault}
+use Rattle.dms_restore.proofs.Backed.{silent_on, then_each, back_points, back_next, back_ends, counted_on, back_fault, back_full, never_full}
 use Rattle.dms_restore.proofs.Returned.{went_back}
 use Rattle.dms_restore.proofs.log.Log.back_out.Goals as goal
 
@@ -61,10 +61,16 @@ returns-clause-back g c = one_ok c.end_back.result c.end_back.ensures.ended (λ 
     let by = c.requires.by tells in
     let keeps = c.in-Ok.ensures.keeps tells in
     let stands = c.in-Ok-restore_back.ensures.stands _ tells (c.in-Ok.ensures.begun tells) in
-    went_back a b d (seen g.S.Site c.end_back.new.self) c.args.point c.args.next c.args.counts.now _ by keeps stands (ended _ tells (back_ends a b d c.args.point c.args.next c.args.counts.now by keeps stands)))
+    went_back a b d (seen g.S.Site c.end_back.new.self) c.args.point c.args.next c.args.counts.now _ _ by (c.in-Ok.ensures.logs tells) keeps stands (ended _ tells (back_ends a b d c.args.point c.args.next c.args.counts.now by keeps stands)))
 
 pub returns-clause-only : goal.returns-clause-only
 returns-clause-only g c = back_fault c.end_back.result _ _ (ap (λ (e : AuditEnd). e.limit) c.restore_back.ensures.kind.0 ∙ c.begin_back.ensures.kind.2) c.end_back.ensures.only
+
+pub returns-in-Err-restore_back-clause-full : goal.returns-in-Err-restore_back-clause-full
+returns-in-Err-restore_back-clause-full g c full = absurd (never_full c.in-Err-restore_back.fault _ c.in-Err-restore_back.ensures.only full)
+
+pub returns-clause-full : goal.returns-clause-full
+returns-clause-full g c = back_full c.end_back.result _ _ c.end_back.new.self.end (ap (λ (e : AuditEnd). e.limit) c.restore_back.ensures.kind.0 ∙ c.begin_back.ensures.kind.2) c.end_back.ensures.full
 
 pub returns-clause-disk : goal.returns-clause-disk
 returns-clause-disk g c =

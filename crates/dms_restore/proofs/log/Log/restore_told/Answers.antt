@@ -3,7 +3,7 @@ use Rattle.dms_site.specs.Files.{Files, Only}
 use Rattle.dms_running.specs.Restoring.{IsKept, Rewritten}
 use Rattle.dms_restore.specs.Table.{AllStandAsTold}
 use Rattle.dms_restore.proofs.Results.{is_fault}
-use Rattle.dms_restore.proofs.Backed.{rewrites_silent, counted_as, counted_on}
+use Rattle.dms_restore.proofs.Backed.{rewrites_silent, counted_as, told_entries}
 use Rattle.dms_restore.proofs.Beginnings.{then_looks, table_leave, table_begun, table_restored, table_keeps}
 use Rattle.dms_restore.proofs.log.Log.restore_told.Goals as goal
 
@@ -23,6 +23,7 @@ returns-in-Ok-sync-clause-stands g c p tells begun is =
     let steps = then_looks (IsKept p.entries p.point) _ _ _ (c.write_all.ensures.moments p.entries p.point tells is.each) c.sync.ensures.moments in
     let written = subst (λ (l : Files). Rewritten (IsKept p.entries p.point) (g.S.Site.files c.args.self.now.site) l) (sym (c.sync.ensures.files tells)) (c.write_all.ensures.written p.entries p.point tells is.each) in
     record {
+      entries_same = told_entries p _ begun read _ (g.S.Site.clock c.sync.new.self) written;
       begun = table_begun p _ begun read c.args.table.now is _ _ steps written;
       restored = table_restored p _ begun read c.args.table.now is _ _ steps written
           (subst (λ (l : Files). AllStandAsTold p.entries p.point l c.args.table.now) (sym (c.sync.ensures.files tells)) (c.in-Ok.ensures.done p.entries p.point tells is.each))
