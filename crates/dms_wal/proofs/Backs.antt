@@ -1,5 +1,5 @@
 -- A block that was written, and the frames.
-use Rattle.std.proofs.Common.{ℕ, ◌*◌, ◌+◌, ◌<◌, ◌≤◌, ◌≡◌, true, List, length, Some, None, sym, ◌∙◌, ap, subst}
+use Rattle.std.proofs.Common.{ℕ, ◌*◌, ◌+◌, ◌<◌, ◌≤◌, ◌≡◌, true, false, List, length, Some, None, sym, ◌∙◌, ap, subst}
 use Rattle.dms_site.specs.Files.{Files, with_file, overlaid, InFile, Torn, stored_of}
 use Rattle.dms_site.specs.Laws.{torn_overlaid, in_file_with}
 use Rattle.dms_site.specs.StoredLaws.{stored_whole, stored_apart, stored_written}
@@ -7,7 +7,8 @@ use Rattle.dms_history.specs.Events.{Content, Stored, block_in}
 use Rattle.dms_history.specs.Sizes.{AllSized}
 use Rattle.dms_running.specs.Telling.{Telling}
 use Rattle.dms_running.specs.Running.{content_now}
-use Rattle.dms_running.specs.Frames.{Frames, FramesHold, HoldsOne, with_frame}
+use Rattle.dms_history.proofs.Picks.{some_is}
+use Rattle.dms_running.specs.Frames.{Frame, Frames, FramesHold, HoldsOne, with_frame}
 use Rattle.dms_running.proofs.Appending.{now_runs, content_is}
 use Rattle.dms_running.proofs.MayRun.{content_sized}
 use Rattle.dms_running.proofs.Framed.{holds_with}
@@ -16,6 +17,9 @@ use Rattle.dms_restore.proofs.Logs as lemmas
 use Rattle.dms_restore.proofs.Logs.{Reads}
 use Rattle.dms_wal.specs.Writing.{WritesBack}
 use Rattle.dms_wal.proofs.Stills.{changed_same}
+
+true_not_false : true ≡ false → ⊥
+true_not_false e = absurd cc
 
 none_not_some : {A : Type 0} (x : A) → None ≡ Some x → ⊥
 none_not_some x e = absurd cc
@@ -68,3 +72,15 @@ module _ (a b : LogView) (same : telling b ≡ telling a) (frames : Frames) (h :
     stands = λ low clean. w.here ∙ ((h f k).held (record { block = bytes; dirty = true }) is).1 ∙ ap (λ (l : Content). block_in l f k) (sym contents);
     changed = λ y at dirty. absurd (none_not_some y at);
   }) others)
+
+  -- its frame isn't to be written any more
+  pub holds_washed : FramesHold (telling b) (state b) (with_frame frames f k (Some (record { block = bytes; dirty = false })))
+  holds_washed =
+      let z : Frame = record { block = bytes; dirty = false } in
+      let was = (h f k).held (record { block = bytes; dirty = true }) is in
+      let at : bytes ≡ block_in (content_now t (state b)) f k = was.1 ∙ ap (λ (l : Content). block_in l f k) (sym contents) in
+      subst (λ (u : Telling). FramesHold u (state b) (with_frame frames f k (Some z))) (sym same) (holds_with t (state b) frames f k (Some z) (record {
+        held = λ y own. let one : z ≡ y = some_is z y own in (subst (λ (l : Content). k < length (l f)) (sym contents) was.0, ap (λ (w : Frame). w.block) (sym one) ∙ at);
+        stands = λ low clean. w.here ∙ at;
+        changed = λ y own dirty. let one : z ≡ y = some_is z y own in absurd (true_not_false (sym dirty ∙ ap (λ (w : Frame). w.dirty) (sym one)));
+      }) others)

@@ -102,3 +102,8 @@ not_full T U block.Say n room is = cc
 
 pub disk_not_full : {T : Type 0} (e : BlockFault) (n : ℕ) → e ≡ block.Disk → IsErrOf {T = T} (Err e) (block.Full n) → ⊥
 disk_not_full e n at is = cc
+
+-- so is a fault of an entry's append
+pub seen_only : (f : AudFault) (e : BlockFault) (limit old new : ℕ) → (f ≡ Disk) ⊎ (f ≡ Full limit) → IsSeenAs f e old new → (e ≡ block.Disk) ⊎ (e ≡ block.Full limit)
+seen_only f e limit old new (inl at) seen = inl (subst (λ x. IsSeenAs x e old new) at seen).0
+seen_only f e limit old new (inr at) seen = inr (subst (λ x. IsSeenAs x e old new) at seen).0

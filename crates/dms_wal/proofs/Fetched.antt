@@ -9,7 +9,7 @@ use Rattle.dms_base.specs.declared.Memory.{Memory}
 use Rattle.dms_moments.specs.Moments.{Now, Steps}
 use Rattle.dms_moments.specs.MomentLaws.{steps_weaken}
 use Rattle.dms_site.specs.declared.site.Site.{Ghosts}
-use Rattle.dms_site.specs.Files.{Left, Same, range, stored_of}
+use Rattle.dms_site.specs.Files.{Files, Left, Same, range, stored_of}
 use Rattle.dms_site.specs.StoredLaws.{stored_at}
 use Rattle.dms_block.specs.declared.block.Block.{Block}
 use Rattle.dms_block.specs.declared.block.BlockId.{BlockId}
@@ -25,10 +25,11 @@ use Rattle.dms_running.proofs.Framed.{holds_read}
 use Rattle.dms_running.proofs.Looking.{look_leaves}
 use Rattle.dms_restore.specs.declared.log.Log.{Log}
 use Rattle.dms_restore.specs.Logging as logs
-use Rattle.dms_restore.specs.Logging.{telling, state, points, content, PrintsNothing}
+use Rattle.dms_restore.specs.Logging.{view, telling, state, points, content, PrintsNothing}
 use Rattle.dms_restore.proofs.Writing.{filled_whole}
 use Rattle.dms_wal.specs.declared.running.Running.{Running}
 use Rattle.dms_wal.specs.Lifting.{count_of, owns_of}
+use Rattle.dms_wal.specs.Marks.{IsMarkOf}
 use Rattle.dms_wal.specs.Database.{view_of, frame_seen, frames_of, IsUsable}
 use Rattle.dms_wal.proofs.Pooled.{holds_like, frames_put, counted_put, frames_looked, counted_looked}
 use Rattle.dms_wal.proofs.Stills.{goes_still}
@@ -74,7 +75,10 @@ module _ {S : Type 0} (g : Ghosts S) (r : Running S) (u : IsUsable g r) where
     pub usable_looked : IsUsable g (record r { log = looked })
     usable_looked = record {
       unbroken = u.unbroken;
+      described = u.described;
       table = u.table;
+      marked = u.marked;
+      pointed = λ t. subst (λ (f : Files). IsMarkOf (points (view r.log.end r.log.first f (g.clock s))) r.point r.marks.items) (sym (files t)) (u.pointed t);
       counted = u.counted;
       goes = λ t. goes_still r.pool r.next r.counts.items (view_of g r.log) (g.files s) (g.clock s) (files t) (steps_weaken steps (λ x y now is. ap (λ (l : Left). l.files) is)) (u.goes t);
     }
@@ -109,7 +113,10 @@ module _ {S : Type 0} (g : Ghosts S) (r : Running S) (u : IsUsable g r) where
     usable_put : PutsFrame id (framed block false) r.pool p → IsUsable g (record r { pool = p })
     usable_put put = record {
       unbroken = u.unbroken;
+      described = u.described;
       table = u.table;
+      marked = u.marked;
+      pointed = u.pointed;
       counted = counted_put id (framed block false) r.pool p r.counts.items put u.counted there;
       goes = λ t. let k = u.goes t in record {
         runs = k.runs;
@@ -130,7 +137,10 @@ module _ {S : Type 0} (g : Ghosts S) (r : Running S) (u : IsUsable g r) where
   pub usable_asked : (id : BlockId) (p : Pool) → FrameUsed id r.pool p → IsUsable g (record r { pool = p })
   usable_asked id p looked = record {
     unbroken = u.unbroken;
+    described = u.described;
     table = u.table;
+    marked = u.marked;
+    pointed = u.pointed;
     counted = counted_looked id r.pool p looked r.counts.items u.counted;
     goes = λ t. let k = u.goes t in record {
       runs = k.runs;
@@ -142,7 +152,7 @@ module _ {S : Type 0} (g : Ghosts S) (r : Running S) (u : IsUsable g r) where
 
   -- and a read was counted
   pub usable_counted : (n : ℕ) → IsUsable g (record r { reads = n })
-  usable_counted n = record { unbroken = u.unbroken; table = u.table; counted = u.counted; goes = λ t. let k = u.goes t in record { runs = k.runs; holds = k.holds; numbered = k.numbered; counted = k.counted } }
+  usable_counted n = record { unbroken = u.unbroken; described = u.described; table = u.table; marked = u.marked; pointed = u.pointed; counted = u.counted; goes = λ t. let k = u.goes t in record { runs = k.runs; holds = k.holds; numbered = k.numbered; counted = k.counted } }
 
   -- the block that is held is that of the content
   pub asked_block : (id : BlockId) (block : Block) → Some block ≡ option_map (λ f. f.block) (frame_of id r.pool) → IsTrue g.tells → block.0 ≡ block_in (content (view_of g r.log)) id.file id.block
@@ -152,4 +162,4 @@ module _ {S : Type 0} (g : Ghosts S) (r : Running S) (u : IsUsable g r) where
 
   -- a held block was asked for, and counted
   pub usable_read : (id : BlockId) (p : Pool) (n : ℕ) → FrameUsed id r.pool p → IsUsable g (record r { pool = p; reads = n })
-  usable_read id p n looked = let k = usable_asked id p looked in record { unbroken = k.unbroken; table = k.table; counted = k.counted; goes = λ t. let j = k.goes t in record { runs = j.runs; holds = j.holds; numbered = j.numbered; counted = j.counted } }
+  usable_read id p n looked = let k = usable_asked id p looked in record { unbroken = k.unbroken; described = k.described; table = k.table; marked = k.marked; pointed = k.pointed; counted = k.counted; goes = λ t. let j = k.goes t in record { runs = j.runs; holds = j.holds; numbered = j.numbered; counted = j.counted } }

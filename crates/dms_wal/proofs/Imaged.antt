@@ -30,7 +30,9 @@ use Rattle.dms_restore.specs.Logging as logs
 use Rattle.dms_restore.specs.Logging.{LogView, telling, state, points, content, LogRuns, LogsImage}
 use Rattle.dms_restore.proofs.Logs.{Reads}
 use Rattle.dms_wal.specs.declared.running.Running.{Running}
+use Rattle.dms_history.specs.Points.{LivePoint}
 use Rattle.dms_wal.specs.Lifting.{count_of, owns_of}
+use Rattle.dms_wal.specs.Marks.{IsMarkOf}
 use Rattle.dms_wal.specs.Database.{view_of, frame_seen, frames_of, HoldsCounted, IsUsable}
 use Rattle.dms_wal.specs.Changing.{IsImaged, KeepsLog}
 use Rattle.dms_wal.specs.Writing.{WritesBack}
@@ -126,6 +128,9 @@ module _ {S : Type 0} (g : Ghosts S) (r : Running S) (u : IsUsable g r) (id : Bl
   pub usable_changed : IsUsable g (record r { log = two; pool = pool; counts = cs })
   usable_changed = record {
     unbroken = u.unbroken;
+    described = u.described;
+    marked = record { table = u.marked.table; as_many = u.marked.as_many ∙ sym many };
+    pointed = λ t. subst (λ (ps : List LivePoint). IsMarkOf ps r.point r.marks.items) (sym ((kept t).points_same ∙ (logged t).points_same)) (u.pointed t);
     table = raised_table r.counts.items cs.items id.file id.block u.table low raises many;
     counted = counted;
     goes = λ t. let k = u.goes t in record {
@@ -184,4 +189,4 @@ then_left g stay counts_now r u one two f k before after kind logged first secon
 
 -- what a database was used for doesn't touch what it needs
 pub usable_spent : {S : Type 0} (g : Ghosts S) (r : Running S) (n : ℕ) → IsUsable g r → IsUsable g (record r { spent = n })
-usable_spent g r n u = record { unbroken = u.unbroken; table = u.table; counted = u.counted; goes = u.goes }
+usable_spent g r n u = record { unbroken = u.unbroken; described = u.described; table = u.table; marked = u.marked; pointed = u.pointed; counted = u.counted; goes = u.goes }

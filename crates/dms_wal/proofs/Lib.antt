@@ -7,8 +7,13 @@ pub mod Pointed
 pub mod Stepped
 pub mod Roomed
 pub mod Fetched
+pub mod Pointing
 pub mod Synced
 pub mod Rooming
 pub mod Tabled
 pub mod Imaged
 pub mod Made
+pub mod Settling
+pub mod Controlling
+pub mod Reaching
+pub mod Keeping

@@ -1,18 +1,19 @@
 -- The frames of a pool after its calls.
 use Rattle.std.proofs.Common.{ℕ, ◌<◌, ◌≡◌, Bool, true, false, cond, inl, inr, List, Option, Some, None, refl, sym, ◌∙◌, ap, subst, arith}
 use Rattle.std.specs.Prelude.{option_map, is_some, IsSome}
+use Rattle.std.specs.Option.{option_map_or}
 use Rattle.std.proofs.lemmas.Bool.{false≢true}
 use Rattle.dms_block.specs.declared.block.Block.{Block}
 use Rattle.dms_block.specs.declared.block.BlockId.{BlockId}
 use Rattle.dms_pool.specs.declared.frame.Frame as pools
 use Rattle.dms_pool.specs.declared.pool.Pool.{Pool}
 use Rattle.dms_pool.specs.Entries.{is_id}
-use Rattle.dms_pool.specs.Held.{frame_of}
-use Rattle.dms_pool.specs.Calls.{GivesUp, IsEmpty, FrameUsed, PutsFrame}
-use Rattle.dms_history.proofs.Picks.{place_cases}
+use Rattle.dms_pool.specs.Held.{frame_of, framed, is_dirty, washed}
+use Rattle.dms_pool.specs.Calls.{Cleans, GivesUp, IsEmpty, FrameUsed, PutsFrame}
+use Rattle.dms_history.proofs.Picks.{place_cases, some_is}
 use Rattle.dms_running.specs.Telling.{Telling}
 use Rattle.dms_running.specs.Running.{State}
-use Rattle.dms_running.specs.Frames.{Frames, FramesHold, HoldsOne, with_frame}
+use Rattle.dms_running.specs.Frames.{Frame, Frames, FramesHold, HoldsOne, with_frame}
 use Rattle.dms_wal.specs.Lifting.{count_of}
 use Rattle.dms_wal.specs.Database.{frame_seen, frames_of, HoldsCounted}
 
@@ -79,3 +80,48 @@ not_got (Some x) got b value is off = absurd (false≢true (sym off ∙ is ∙ a
 pub failed_lacks : (o : Option pools.Frame) → (IsSome o → false ≡ true) → o ≡ None
 failed_lacks None fails = refl
 failed_lacks (Some x) fails = absurd (false≢true (fails refl))
+
+-- ---- a block was written, and isn't to be written any more
+
+-- a held block that is to be written
+pub dirty_frame : (o : Option pools.Frame) (b : Block) → Some b ≡ option_map (λ f. f.block) o → option_map_or (λ f. f.dirty) o false ≡ true → o ≡ Some (framed b true)
+dirty_frame None b is dirty = absurd cc
+dirty_frame (Some x) b is dirty = let same : b ≡ x.block = some_is b x.block is in λ i. Some (framed (sym same i) (dirty i))
+
+-- a block that is to be written is held
+pub dirty_held : (o : Option pools.Frame) → None ≡ option_map (λ f. f.block) o → option_map_or (λ f. f.dirty) o false ≡ true → ⊥
+dirty_held None is dirty = false≢true dirty
+dirty_held (Some x) is dirty = absurd cc
+
+some_under : (t : Bool) (o : Option pools.Frame) (y : pools.Frame) → cond t (option_map washed o) o ≡ Some y → (x : pools.Frame) × (o ≡ Some x)
+some_under true None y is = absurd (none_not_some y is)
+some_under false None y is = absurd (none_not_some y is)
+some_under t (Some x) y is = (x, refl)
+
+module _ (id : BlockId) (old new : Pool) (c : Cleans id old new) where
+  pub frames_cleaned : (block : Block) → frame_of id old ≡ Some (framed block true) → (g k : ℕ) → frames_of new g k ≡ with_frame (frames_of old) id.file id.block (Some (record { block = block.0; dirty = false })) g k
+  frames_cleaned block is g k =
+      let at : BlockId = record { file = g; block = k } in
+      let own : Frame = record { block = block.0; dirty = false } in
+      ap (λ (o : Option pools.Frame). option_map frame_seen o) (c.holds at) ∙ map_if (is_id at id) (option_map washed (frame_of at old)) (frame_of at old)
+      ∙ elim (place_cases id.file id.block g k) [
+        | inl place ↦
+            ap (λ t. cond t (option_map frame_seen (option_map washed (frame_of at old))) (frames_of old g k)) place.2
+            ∙ (λ i. option_map frame_seen (option_map washed (frame_of (record { file = place.0 i; block = place.1 i }) old)))
+            ∙ ap (λ (o : Option pools.Frame). option_map frame_seen (option_map washed o)) is
+            ∙ sym (ap (λ t. cond t (Some own) (frames_of old g k)) place.2)
+        | inr apart ↦
+            ap (λ t. cond t (option_map frame_seen (option_map washed (frame_of at old))) (frames_of old g k)) apart.1
+            ∙ sym (ap (λ t. cond t (Some own) (frames_of old g k)) apart.1)
+      ]
+
+  pub counted_cleaned : (counts : List ℕ) → HoldsCounted old counts → HoldsCounted new counts
+  counted_cleaned counts h other y is = let s = some_under (is_id other id) (frame_of other old) y (sym (c.holds other) ∙ is) in h other s.0 s.1
+
+-- no block that is held is to be written
+pub clean_frames : (pool : Pool) → ((id : BlockId) → is_dirty id pool ≡ false) → (f k : ℕ) (x : Frame) → frames_of pool f k ≡ Some x → x.dirty ≡ false
+clean_frames pool clean f k x is = seen (frame_of (record { file = f; block = k }) pool) x is (clean (record { file = f; block = k }))
+  where
+    seen : (o : Option pools.Frame) (x : Frame) → option_map frame_seen o ≡ Some x → option_map_or (λ f. f.dirty) o false ≡ false → x.dirty ≡ false
+    seen None x is off = absurd (none_not_some x is)
+    seen (Some y) x is off = ap (λ (z : Frame). z.dirty) (sym (some_is (frame_seen y) x is)) ∙ off

@@ -36,7 +36,9 @@ use Rattle.dms_restore.specs.Logging as logs
 use Rattle.dms_restore.specs.Logging.{LogView, telling, state, points, durable, content, waits, LogRuns, LogsNothing, IsNewestSealed, PrintsNothing}
 use Rattle.dms_restore.proofs.Logs.{Reads}
 use Rattle.dms_wal.specs.declared.running.Running.{Running}
+use Rattle.dms_history.specs.Points.{LivePoint}
 use Rattle.dms_wal.specs.Lifting.{count_of}
+use Rattle.dms_wal.specs.Marks.{IsMarkOf}
 use Rattle.dms_wal.specs.Database.{view_of, frame_seen, frames_of, IsUsable}
 use Rattle.dms_wal.specs.Writing.{WritesBack}
 use Rattle.dms_wal.proofs.Pooled.{holds_like, frames_up, counted_up}
@@ -68,7 +70,10 @@ module _ {S : Type 0} (g : Ghosts S) (r : Running S) (u : IsUsable g r) (p : Poo
   pub usable_same : SamePool r.pool p → IsUsable g (record r { pool = p })
   usable_same same = record {
     unbroken = u.unbroken;
+    described = u.described;
     table = u.table;
+    marked = u.marked;
+    pointed = u.pointed;
     counted = λ id x is. u.counted id x (is_old id x is);
     goes = λ t. let k = u.goes t in record { runs = k.runs; holds = holds_like (telling (view_of g r.log)) (state (view_of g r.log)) (frames_of r.pool) (frames_of p) frames k.holds; numbered = k.numbered; counted = k.counted };
   }
@@ -95,7 +100,10 @@ module _ {S : Type 0} (g : Ghosts S) (r : Running S) (u : IsUsable g r) (p : Poo
     pub usable_clean : x.dirty ≡ false → IsUsable g (record r { pool = p })
     usable_clean clean = record {
       unbroken = u.unbroken;
+      described = u.described;
       table = u.table;
+      marked = u.marked;
+      pointed = u.pointed;
       counted = counted_up id x r.pool p r.counts.items up u.counted;
       goes = λ t. let k = u.goes t in record {
         runs = k.runs;
@@ -116,7 +124,10 @@ module _ {S : Type 0} (g : Ghosts S) (r : Running S) (u : IsUsable g r) (p : Poo
       → (IsTrue g.tells → WritesBack (view_of g r.log) (view_of g l) id.file id.block block.0) → IsUsable g (record r { log = l; pool = p })
   usable_back id block up l kind runs read back = record {
     unbroken = u.unbroken;
+    described = u.described;
     table = u.table;
+    marked = u.marked;
+    pointed = λ t. subst (λ (ps : List LivePoint). IsMarkOf ps r.point r.marks.items) (sym (back t).points_same) (u.pointed t);
     counted = counted_up id (framed block true) r.pool p r.counts.items up u.counted;
     goes = λ t. let k = u.goes t in let w = back t in record {
       runs = runs t;

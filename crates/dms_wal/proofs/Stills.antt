@@ -23,6 +23,7 @@ use Rattle.dms_restore.specs.Logging.{LogView, view, telling, state, content, en
 use Rattle.dms_restore.proofs.Logs as lemmas
 use Rattle.dms_restore.proofs.Logs.{Reads}
 use Rattle.dms_wal.specs.Database.{GoesWith, frames_of}
+use Rattle.dms_wal.specs.declared.running.Start.{Start}
 use Rattle.dms_wal.specs.Starting.{StartsFrom}
 use Rattle.dms_wal.proofs.Pooled.{holds_like, frames_empty}
 use Rattle.dms_pool.specs.Calls.{IsEmpty}
@@ -101,11 +102,11 @@ module _ (pool : Pool) (next : ℕ) (counts : List ℕ) where
       counted = λ f. g.counted f ∙ ap (λ (c : Content). length (c f)) (sym s.content_same);
     }
 
-  -- no block is in memory, and all stand
-  pub goes_first : (a : LogView) (n : ℕ) → IsEmpty n pool → StartsFrom a next counts → GoesWith a pool next counts
-  goes_first a n empty s = record {
-    runs = s.runs;
-    holds = holds_like (telling a) (state a) (λ f b. None) (frames_of pool) (frames_empty n pool empty) (holds_none (telling a) (state a) s.written);
-    numbered = s.numbered;
-    counted = s.counted;
-  }
+-- no block is in memory, and all stand
+pub goes_first : (pool : Pool) (a : LogView) (n : ℕ) (s : Start) → IsEmpty n pool → StartsFrom a s → GoesWith a pool s.next s.counts.items
+goes_first pool a n start empty s = record {
+  runs = s.runs;
+  holds = holds_like (telling a) (state a) (λ f b. None) (frames_of pool) (frames_empty n pool empty) (holds_none (telling a) (state a) s.written);
+  numbered = s.numbered;
+  counted = s.counted;
+}

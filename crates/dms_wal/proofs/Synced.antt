@@ -2,6 +2,8 @@
 use Rattle.std.proofs.Common.{ℕ, ◌+◌, ◌^◌, ◌<◌, ◌≤◌, ◌≡◌, ◌++◌, Bool, cond, IsTrue, List, [], ◌∷◌, length, Some, None, refl, sym, ap, subst, arith}
 use Rattle.dms_moments.specs.Moments.{Now, Steps}
 use Rattle.dms_moments.specs.MomentLaws.{steps_weaken}
+use Rattle.std.specs.Global.{Vec}
+use Rattle.dms_history.specs.Points.{LivePoint}
 use Rattle.dms_site.specs.declared.site.Site.{Ghosts}
 use Rattle.dms_site.specs.Files.{Files, Left, PrintsPartOf}
 use Rattle.dms_block.specs.Held.{BlocksAgree, IfTold, Leaves, LeavesText, MadeDurable, MadeQuiet, MakesNoPoint, Stays}
@@ -9,11 +11,14 @@ use Rattle.dms_restore.specs.declared.log.Log.{Log}
 use Rattle.dms_restore.specs.Logging as logs
 use Rattle.dms_restore.specs.Logging.{telling_of, telling, view, points, durable, here, LogRuns, PrintsNothing, LogsNothing, LogsQuiet}
 use Rattle.dms_wal.specs.declared.running.Running.{Running}
+use Rattle.dms_wal.specs.Lifting.{AreCounts}
+use Rattle.dms_wal.specs.Marks.{IsMarkOf}
 use Rattle.dms_wal.specs.Database.{held, view_of, said_of, faults_of, uses_of, IsUsable}
 use Rattle.dms_wal.proofs.Lifts.{agrees_by, passes_by, stays_by, surer}
 use Rattle.dms_wal.proofs.Stills.{goes_still, goes_sealed, goes_quiet}
 use Rattle.dms_wal.proofs.Pointed.{quiet_made, quiet_leaves, sync_made, say_leaves}
 use Rattle.dms_wal.proofs.Stepped.{text}
+use Rattle.dms_wal.proofs.Pointing.{quiet_mark}
 
 -- the end of a trail that stays of its kind tells the same
 pub kind_is : {n n' f f' : ℕ} → n' ≡ n → f' ≡ f → telling_of n' f' ≡ telling_of n f
@@ -30,7 +35,10 @@ module _ {S : Type 0} (g : Ghosts S) (stay : (s : S) → IsTrue g.tells → (x :
     pub usable_sealed : (n : ℕ) → (IsTrue g.tells → LogRuns (view_of g l)) → (IsTrue g.tells → LogsNothing (view_of g r.log) (view_of g l)) → IsUsable g (record r { log = l; syncs = n })
     usable_sealed n runs nothing = record {
       unbroken = u.unbroken;
+      described = u.described;
       table = u.table;
+      marked = u.marked;
+      pointed = λ t. subst (λ (ps : List LivePoint). IsMarkOf ps r.point r.marks.items) (sym (nothing t).points_same) (u.pointed t);
       counted = u.counted;
       goes = λ t. goes_sealed r.pool r.next r.counts.items (view_of g r.log) (view_of g l) kind (runs t) (nothing t) (u.goes t);
     }
@@ -50,22 +58,26 @@ module _ {S : Type 0} (g : Ghosts S) (stay : (s : S) → IsTrue g.tells → (x :
         kind refl refl (ap (λ (s : List ℕ). cond g.tells_said (Some s) None) said) (λ t. (u.goes t).numbered) (text g now_said r.schema.items r.log) leaves silent
 
     module _ (leaves : IsTrue g.tells → logs.LogLeaves (view_of g r.log) (view_of g l) (points (view_of g r.log) ++ here (view_of g r.log) ∷ []) (logs.next (view_of g r.log) + 1)) where
-      pub quiet_done : (next : ℕ) → next ≡ r.next + 1 → next < 2 ^ 64 → (IsTrue g.tells → LogRuns (view_of g l)) → (IsTrue g.tells → LogsQuiet (view_of g r.log) (view_of g l)) → MadeQuiet (held g r) (held g (record r { log = l; next = next }))
-      quiet_done next is room runs quiets = subst (λ n. MadeQuiet (held g r) (held g (record r { log = l; next = n }))) (sym is) (
-          let r' : Running S = record r { log = l; next = r.next + 1 } in
+      pub quiet_done : (next : ℕ) → next ≡ r.next + 1 → next < 2 ^ 64 → (ms : Vec ℕ) → ms.items ≡ r.counts.items → (IsTrue g.tells → LogRuns (view_of g l)) → (IsTrue g.tells → LogsQuiet (view_of g r.log) (view_of g l))
+          → MadeQuiet (held g r) (held g (record r { log = l; next = next; point = r.next; marks = ms }))
+      quiet_done next is room ms copied runs quiets = subst (λ n. MadeQuiet (held g r) (held g (record r { log = l; next = n; point = r.next; marks = ms }))) (sym is) (
+          let r' : Running S = record r { log = l; next = r.next + 1; point = r.next; marks = ms } in
           quiet_made g.tells (IsUsable g r) (IsUsable g r') (view_of g r.log) (view_of g l) r.schema.items r.next r.counts.items (said_of g r.log) (said_of g l) (faults_of g r) (faults_of g r') (uses_of g r) (uses_of g r')
           (record {
             unbroken = u.unbroken;
+            described = u.described;
             table = u.table;
+            marked = record { table = subst AreCounts (sym copied) u.table; as_many = ap (λ (c : List ℕ). length c) copied };
+            pointed = λ t. quiet_mark (view_of g r.log) (view_of g l) r.next r.counts.items ms.items (quiets t) (u.goes t).numbered (u.goes t).counted copied;
             counted = u.counted;
             goes = λ t. goes_quiet r.pool r.next r.counts.items (view_of g r.log) (view_of g l) kind (u.goes t) (stay r.log.site t) (quiets t) (omega (arith, is, room)) (runs t);
           }) quiets
           (λ t. surer (view_of g r.log) (view_of g l) kind (u.goes t).runs (stay r.log.site t) (stay l.site t) (counts_now l.site) (points (view_of g r.log) ++ here (view_of g r.log) ∷ []) (logs.next (view_of g r.log) + 1) (leaves t)))
 
       pub quiet_left : (b : Bool) (full next : ℕ) → (IsTrue g.tells → Steps PrintsNothing (g.clock r.log.site) (g.clock l.site))
-          → IfTold (held g r) (Leaves (held g r) (held g (record r { log = l; broken = b; full = full; next = next })) ((held g r).points ++ (held g r).here ∷ []) (r.next + 1))
-      quiet_left b full next silent =
-          let r' : Running S = record r { log = l; broken = b; full = full; next = next } in
+          → (point : ℕ) (ms : Vec ℕ) → IfTold (held g r) (Leaves (held g r) (held g (record r { log = l; broken = b; full = full; next = next; point = point; marks = ms })) ((held g r).points ++ (held g r).here ∷ []) (r.next + 1))
+      quiet_left b full next silent point ms =
+          let r' : Running S = record r { log = l; broken = b; full = full; next = next; point = point; marks = ms } in
           quiet_leaves g.tells (IsUsable g r) (IsUsable g r') (view_of g r.log) (view_of g l) r.schema.items r.next r.counts.items (said_of g r.log) (said_of g l) (faults_of g r) (faults_of g r') (uses_of g r) (uses_of g r')
           next r.counts.items kind (λ t. (u.goes t).numbered) (text g now_said r.schema.items r.log) leaves silent
 
@@ -76,7 +88,10 @@ module _ {S : Type 0} (g : Ghosts S) (stay : (s : S) → IsTrue g.tells → (x :
     pub usable_said : IsUsable g (record r { log = printed })
     usable_said = record {
       unbroken = u.unbroken;
+      described = u.described;
       table = u.table;
+      marked = u.marked;
+      pointed = λ t. subst (λ (f : Files). IsMarkOf (points (view r.log.end r.log.first f (g.clock s))) r.point r.marks.items) (sym (files t)) (u.pointed t);
       counted = u.counted;
       goes = λ t. goes_still r.pool r.next r.counts.items (view_of g r.log) (g.files s) (g.clock s) (files t) (steps_weaken steps (λ x y now p. p.files)) (u.goes t);
     }

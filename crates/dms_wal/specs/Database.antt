@@ -11,9 +11,10 @@ use Rattle.dms_pool.specs.Held.{frame_of}
 use Rattle.dms_running.specs.Frames.{Frame, Frames, FramesHold}
 use Rattle.dms_restore.specs.declared.log.Log.{Log}
 use Rattle.dms_restore.specs.Logging as logs
-use Rattle.dms_restore.specs.Logging.{LogView, view, telling, state, LogRuns, content}
+use Rattle.dms_restore.specs.Logging.{LogView, view, telling, state, LogRuns, points, content}
 use Rattle.dms_wal.specs.declared.running.Running.{Running}
 use Rattle.dms_wal.specs.Lifting.{AreCounts, count_of, held_of}
+use Rattle.dms_wal.specs.Marks.{AreMarks, IsDescription, IsMarkOf}
 
 -- a frame of the pool, as its bytes and whether they are to be written
 abbrev pub frame_seen : pools.Frame → Frame
@@ -44,12 +45,16 @@ module _ {S : Type 0} (g : Ghosts S) where
   abbrev pub said_of : Log S → Option (List ℕ)
   said_of log = if g.tells_said then Some (g.said log.site) else None
 
-  -- No call failed, what is kept in memory is in bounds, and where the site tells its files it goes with the log.
+  -- No call failed, what is kept in memory is in bounds, and where the site tells its files it goes with the log, and the mark is that of
+  -- its last point.
   pub record IsUsable (r : Running S) : Type 0 where
     pub unbroken : r.broken ≡ false
+    pub described : IsDescription r.schema.items
     pub table : AreCounts r.counts.items
+    pub marked : AreMarks r.marks.items r.counts.items
     pub counted : HoldsCounted r.pool r.counts.items
     pub goes : IsTrue g.tells → GoesWith (view_of r.log) r.pool r.next r.counts.items
+    pub pointed : IsTrue g.tells → IsMarkOf (points (view_of r.log)) r.point r.marks.items
 
   -- how often its calls failed
   abbrev pub faults_of : Running S → Faults

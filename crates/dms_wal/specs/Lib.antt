@@ -1,6 +1,9 @@
 pub mod Lifting
+pub mod Marks
 pub mod Database
 pub mod Starting
 pub mod Faults
 pub mod Writing
 pub mod Changing
+pub mod Controls
+pub mod Closing

@@ -8,6 +8,7 @@ ghost use Rattle.dms_block.specs.Content.{changed, grown, limit, raised, FitsIn}
 ghost use Rattle.dms_block.specs.Held.{Alters, HasCauses, Looks};
 ghost use Rattle.dms_restore.specs.Logging.{telling, points, next, PrintsNothing, LogLeaves};
 ghost use Rattle.dms_wal.specs.Lifting.{count_of, owns_of};
+ghost use Rattle.dms_wal.specs.Controls.{KeepsPace};
 ghost use Rattle.dms_wal.specs.Database.{held, view_of, HoldsCounted};
 ghost use Rattle.dms_wal.specs.Faults.{StandsFull};
 ghost use Rattle.dms_wal.specs.Changing.{DamagedOnly, HasChange, IsImaged, KeepsLog, TellsOld};
@@ -59,6 +60,7 @@ fn keep<S: Site>(
     ensures moments { IsTrue S.tells → let a = view_of S.Site log.old in LogLeaves a (view_of S.Site log.new) (points a) (next a) }
     ensures silent { IsTrue S.tells → Steps PrintsNothing (S.clock log.old.site) (S.clock log.new.site) }
     ensures kind { telling (view_of S.Site log.new) ≡ telling (view_of S.Site log.old) }
+    ensures limit { log.new.end.limit ≡ log.old.end.limit }
     ensures only { IfErr result (λ e. e ≡ BlockFault.Disk) }
     ensures said { S.said log.new.site ≡ S.said log.old.site }
     ensures same_site { S.same_site log.old.site log.new.site }
@@ -92,6 +94,7 @@ impl<S: Site> Running<S> {
         ensures full { (n : _) → IsErrOf result (BlockFault.Full n) → StandsFull self.new.log.end n }
         ensures causes { HasCauses result (held S.Site self.old) (held S.Site self.new) }
         ensures silent { IsErrOf result BlockFault.Say → ⊥ }
+        ensures pace { KeepsPace self.old self.new }
         ensures broken { IfErr result (λ e. self.new.broken ≡ true) }
         ensures same { S.same_site self.old.log.site self.new.log.site }
     {
@@ -121,6 +124,7 @@ impl<S: Site> Running<S> {
         ensures memory { IsErrOf result BlockFault.Memory → ⊥ }
         ensures damaged { DamagedOnly change.now.id result }
         ensures silent { IsErrOf result BlockFault.Say → ⊥ }
+        ensures pace { KeepsPace self.old self.new }
         ensures broken { IfErr result (λ e. self.new.broken ≡ true) }
         ensures same { S.same_site self.old.log.site self.new.log.site }
     {
@@ -140,6 +144,7 @@ impl<S: Site> Running<S> {
         ensures memory { IsErrOf result BlockFault.Memory → ⊥ }
         ensures damaged { DamagedOnly id result }
         ensures silent { IsErrOf result BlockFault.Say → ⊥ }
+        ensures pace { KeepsPace self.old self.new }
         ensures broken { IfErr result (λ e. self.new.broken ≡ true) }
         ensures same { S.same_site self.old.log.site self.new.log.site }
     {
@@ -174,6 +179,7 @@ impl<S: Site> Running<S> {
         ensures memory { IsErrOf result BlockFault.Memory → ⊥ }
         ensures damaged { DamagedOnly change.now.id result }
         ensures silent { IsErrOf result BlockFault.Say → ⊥ }
+        ensures pace { KeepsPace self.old self.new }
         ensures broken { IfErr result (λ e. self.new.broken ≡ true) }
         ensures same { S.same_site self.old.log.site self.new.log.site }
     {

@@ -2,10 +2,12 @@
 #![tactic(auto)]
 
 mod changing;
+mod closing;
+mod control;
 mod faults;
 mod points;
 mod reading;
 mod room;
 mod running;
 
-pub use running::Running;
+pub use running::{Running, Start};

@@ -1,9 +1,10 @@
 //! Quiet points, syncs and printing.
 
-ghost use Rattle.std.specs.Prelude.{◌≡◌, ◌≤◌, ◌<◌, ◌+◌, ◌^◌, ◌++◌, [], ◌∷◌, IfErr, IfOk, IsErrOf, IsOkUnless, IsTrue, OnOk, false, true};
+ghost use Rattle.std.specs.Prelude.{◌≡◌, ◌⊎◌, ◌≤◌, ◌<◌, ◌+◌, ◌^◌, ◌++◌, [], ◌∷◌, IfErr, IfOk, IsErrOf, IsOkUnless, IsTrue, OnOk, false, length, true};
 ghost use Rattle.dms_block.specs.Held.{HasCauses, HasNextNumber, IfTold, Lasts, Leaves, LeavesText, MadeDurable, MadeQuiet, MakesNoPoint, SameBlocks, Stays, Synced};
 ghost use Rattle.dms_block.specs.Texts.{Prints, PrintsPrefix};
-ghost use Rattle.dms_restore.specs.Logging.{SealsWaiting};
+ghost use Rattle.dms_restore.specs.Logging.{LogsNothing, SealsWaiting};
+ghost use Rattle.dms_wal.specs.Controls.{is_due, is_due_at, KeepsFields, KeepsPace, MakesControl};
 ghost use Rattle.dms_wal.specs.Database.{held, view_of};
 ghost use Rattle.dms_wal.specs.Faults.{lacks_room, StandsFull};
 
@@ -11,6 +12,21 @@ use crate::Running;
 use crate::faults::append_fault;
 use dms_block::BlockFault;
 use dms_site::Site;
+
+/// Copies a table of counts over another one of as many files.
+fn copy_counts(from: &[u32], to: &mut Vec<u32>)
+    requires { length to.old.items ≡ length from.now }
+    ensures { to.new.items ≡ from.now }
+{
+    to.copy_from_slice(from);
+}
+
+/// Whether a control point follows the sync of this number, counted from the opening.
+fn follows(every: u32, sync: u64) -> bool
+    ensures { result ≡ is_due_at every sync }
+{
+    every != 0 && sync % u64::from(every) == 0
+}
 
 impl<S: Site> Running<S> {
     /// Makes a quiet point, and answers its number. Takes no memory. Where the next number is 2^64 - 1 it stays so.
@@ -33,6 +49,7 @@ impl<S: Site> Running<S> {
         ensures kept { (n : _) → IsErrOf result (BlockFault.Full n) → IsTrue S.tells → SealsWaiting (view_of S.Site self.old.log) (view_of S.Site self.new.log) }
         ensures causes { HasCauses result (held S.Site self.old) (held S.Site self.new) }
         ensures silent { IsErrOf result BlockFault.Say → ⊥ }
+        ensures pace { KeepsPace self.old self.new }
         ensures broken { IfErr result (λ e. self.new.broken ≡ true) }
         ensures same { S.same_site self.old.log.site self.new.log.site }
     {
@@ -43,6 +60,8 @@ impl<S: Site> Running<S> {
         match self.log.quiet(number) {
             Ok(()) => {
                 self.next = number + 1;
+                self.point = number;
+                copy_counts(&self.counts, &mut self.marks);
                 Ok(number)
             }
             Err(fault) => {
@@ -52,16 +71,49 @@ impl<S: Site> Running<S> {
         }
     }
 
-    /// Seals all that waits: all quiet points so far are durable. Takes no memory. Answers Disk alone.
+    /// Makes all quiet points so far durable. Takes no memory. Each `every`-th sync, counted from the opening, is followed by a
+    /// control point.
+    ///
+    /// Answers Disk, and Full where a control point follows for which the audit has no room.
     pub fn sync(&mut self) -> Result<(), BlockFault>
         requires { (held S.Site self.old).sound }
         ensures made { OnOk result (MadeDurable (held S.Site self.old) (held S.Site self.new)) }
         ensures passes { MakesNoPoint (held S.Site self.old) (held S.Site self.new) }
         ensures uses { Synced result (held S.Site self.old).uses (held S.Site self.new).uses }
+        ensures control { OnOk result (is_due self.old.every self.old.syncs ≡ true → IsTrue S.tells
+            → MakesControl (view_of S.Site self.old.log) (view_of S.Site self.new.log) self.old.schema.items self.old.point self.old.next self.old.counts.items) }
+        ensures seals { OnOk result (is_due self.old.every self.old.syncs ≡ false → IsTrue S.tells → LogsNothing (view_of S.Site self.old.log) (view_of S.Site self.new.log)) }
+        ensures pace { KeepsPace self.old self.new }
+        ensures memory { IsErrOf result BlockFault.Memory → ⊥ }
+        ensures only { IfErr result (λ e. (e ≡ BlockFault.Disk) ⊎ ((is_due self.old.every self.old.syncs ≡ true) × (e ≡ BlockFault.Full self.old.log.end.limit))) }
+        ensures full { (n : _) → IsErrOf result (BlockFault.Full n) → StandsFull self.new.log.end n }
+        ensures causes { HasCauses result (held S.Site self.old) (held S.Site self.new) }
+        ensures silent { IsErrOf result BlockFault.Say → ⊥ }
+        ensures broken { IfErr result (λ e. self.new.broken ≡ true) }
+        ensures same { S.same_site self.old.log.site self.new.log.site }
+    {
+        match self.seal() {
+            Ok(()) => {}
+            Err(fault) => return Err(fault),
+        }
+        if !follows(self.every, self.syncs) {
+            return Ok(());
+        }
+        self.control()
+    }
+
+    /// Seals all that waits: all quiet points so far are durable. Answers Disk alone.
+    fn seal(&mut self) -> Result<(), BlockFault>
+        requires { (held S.Site self.old).sound }
+        ensures made { OnOk result (MadeDurable (held S.Site self.old) (held S.Site self.new)) }
+        ensures passes { MakesNoPoint (held S.Site self.old) (held S.Site self.new) }
+        ensures uses { Synced result (held S.Site self.old).uses (held S.Site self.new).uses }
+        ensures seals { OnOk result (IsTrue S.tells → LogsNothing (view_of S.Site self.old.log) (view_of S.Site self.new.log)) }
         ensures memory { IsErrOf result BlockFault.Memory → ⊥ }
         ensures only { IfErr result (λ e. e ≡ BlockFault.Disk) }
         ensures causes { HasCauses result (held S.Site self.old) (held S.Site self.new) }
         ensures silent { IsErrOf result BlockFault.Say → ⊥ }
+        ensures kept { KeepsFields self.old self.new }
         ensures broken { IfErr result (λ e. self.new.broken ≡ true) }
         ensures same { S.same_site self.old.log.site self.new.log.site }
     {
@@ -89,6 +141,7 @@ impl<S: Site> Running<S> {
         ensures lasts { Lasts (held S.Site self.old) (held S.Site self.new) }
         ensures uses { (held S.Site self.new).uses ≡ (held S.Site self.old).uses }
         ensures fault { IsOkUnless result BlockFault.Say }
+        ensures pace { KeepsPace self.old self.new }
         ensures causes { HasCauses result (held S.Site self.old) (held S.Site self.new) }
         ensures broken { IfErr result (λ e. self.new.broken ≡ true) }
         ensures same { S.same_site self.old.log.site self.new.log.site }

@@ -5,6 +5,7 @@ ghost use Rattle.dms_block.specs.Content.{block_in};
 ghost use Rattle.dms_block.specs.Held.{HasCauses, Looks, one_more};
 ghost use Rattle.dms_pool.specs.Held.{frame_of};
 ghost use Rattle.dms_wal.specs.Changing.{DamagedOnly};
+ghost use Rattle.dms_wal.specs.Controls.{KeepsPace};
 ghost use Rattle.dms_wal.specs.Database.{held};
 
 use crate::Running;
@@ -22,6 +23,7 @@ impl<S: Site> Running<S> {
         ensures causes { HasCauses result (held S.Site self.old) (held S.Site self.new) }
         ensures memory { IsErrOf result BlockFault.Memory → ⊥ }
         ensures silent { IsErrOf result BlockFault.Say → ⊥ }
+        ensures pace { KeepsPace self.old self.new }
         ensures broken { IfErr result (λ e. self.new.broken ≡ true) }
         ensures same { S.same_site self.old.log.site self.new.log.site }
     {
@@ -42,6 +44,7 @@ impl<S: Site> Running<S> {
         ensures causes { HasCauses result (held S.Site self.old) (held S.Site self.new) }
         ensures memory { IsErrOf result BlockFault.Memory → ⊥ }
         ensures silent { IsErrOf result BlockFault.Say → ⊥ }
+        ensures pace { KeepsPace self.old self.new }
         ensures broken { IfErr result (λ e. self.new.broken ≡ true) }
         ensures same { S.same_site self.old.log.site self.new.log.site }
     {
@@ -70,6 +73,7 @@ impl<S: Site> Running<S> {
         ensures memory { IsErrOf result BlockFault.Memory → ⊥ }
         ensures damaged { DamagedOnly id result }
         ensures silent { IsErrOf result BlockFault.Say → ⊥ }
+        ensures pace { KeepsPace self.old self.new }
         ensures broken { IfErr result (λ e. self.new.broken ≡ true) }
         ensures same { S.same_site self.old.log.site self.new.log.site }
     {
@@ -97,6 +101,7 @@ impl<S: Site> Running<S> {
         requires block { IsTrue (held S.Site self.old).told → block.now.0 ≡ block_in (held S.Site self.old).content id.file id.block }
         ensures looks { Looks {T = Unit {0}} 0 (Ok tt) (held S.Site self.old) (held S.Site self.new) }
         ensures faults { (held S.Site self.new).faults ≡ (held S.Site self.old).faults }
+        ensures pace { KeepsPace self.old self.new }
         ensures log { self.new.log ≡ self.old.log }
     {
         if self.pool.room() {

@@ -4,7 +4,7 @@ ghost use Rattle.std.specs.Prelude.{◌≡◌, ◌<◌, IfErr, IfOk, IsTrue};
 ghost use Rattle.dms_block.specs.Held.{BlocksAgree};
 ghost use Rattle.dms_wal.specs.Lifting.{AreCounts};
 ghost use Rattle.dms_wal.specs.Database.{IsUsable, held, view_of};
-ghost use Rattle.dms_wal.specs.Starting.{StartsFrom};
+ghost use Rattle.dms_wal.specs.Starting.{IsInBounds, StartsFrom};
 
 use dms_base::Memory;
 use dms_pool::Pool;
@@ -12,16 +12,37 @@ use dms_restore::Log;
 use dms_site::Site;
 use std::alloc::Global;
 
+/// What is known of a database before it runs.
+#[derive(Drop)]
+pub struct Start {
+    /// How many blocks each structure file has, from file 30,001 on, and how many it has at the last point.
+    pub counts: Vec<u32>,
+    pub marks: Vec<u32>,
+    /// The bytes of its description, 1 to 65,535.
+    pub schema: Vec<u8>,
+    /// The number of the next quiet point, and of the last point.
+    pub next: u64,
+    pub point: u64,
+    /// Each so many syncs a control point follows.
+    pub every: u32,
+}
+
 /// A database that runs: the log of its changes, and at most so many of its blocks in memory.
 pub struct Running<S: Site> {
     pub log: Log<S>,
     pub pool: Pool,
     /// How many blocks each structure file has, from file 30,001 on.
     pub counts: Vec<u32>,
+    /// How many blocks each of them has at the last point.
+    pub marks: Vec<u32>,
     /// The bytes of the description under which points are made.
     pub schema: Vec<u8>,
     /// The number of the next quiet point.
     pub next: u64,
+    /// The number of the last point.
+    pub point: u64,
+    /// Each so many syncs a control point follows.
+    pub every: u32,
     /// Whether a call failed that leaves it unusable.
     pub broken: bool,
     pub reads: u64,
@@ -35,29 +56,38 @@ pub struct Running<S: Site> {
 }
 
 impl<S: Site> Running<S> {
-    /// A database that runs on from its log, with no block in memory: at most `frames` are held. `counts` are those of
-    /// the files 30,001 and on, `next` is the number of the next quiet point. Answers Memory alone.
+    /// A database that runs on from its log, with no block in memory: at most `frames` are held. Answers Memory alone.
     pub fn new(
         alloc: Global,
         log: Log<S>,
-        counts: Vec<u32>,
-        schema: Vec<u8>,
-        next: u64,
+        start: Start,
         frames: u32,
     ) -> Result<Running<S>, (Memory, Log<S>)>
         requires frames { 0 < frames }
-        requires table { AreCounts counts.items }
-        ensures usable { IfOk result (λ r. (IsTrue S.tells → StartsFrom (view_of S.Site log) next counts.items) → IsUsable S.Site r) }
+        requires table { AreCounts start.counts.items }
+        ensures usable { IfOk result (λ r. IsInBounds start → (IsTrue S.tells → StartsFrom (view_of S.Site log) start) → IsUsable S.Site r) }
+        ensures every { IfOk result (λ r. (r.every ≡ start.every) × (r.syncs ≡ 0)) }
         ensures log { IfOk result (λ r. r.log ≡ log) }
         ensures log_back { IfErr result (λ e. e.1 ≡ log) }
     {
+        let Start {
+            counts,
+            marks,
+            schema,
+            next,
+            point,
+            every,
+        } = start;
         match Pool::new(alloc, frames) {
             Ok(pool) => Ok(Running {
                 log,
                 pool,
                 counts,
+                marks,
                 schema,
                 next,
+                point,
+                every,
                 broken: false,
                 reads: 0,
                 spent: 0,
@@ -78,8 +108,11 @@ impl<S: Site> Running<S> {
             log,
             pool: _pool,
             counts: _counts,
+            marks: _marks,
             schema: _schema,
             next: _,
+            point: _,
+            every: _,
             broken: _,
             reads: _,
             spent: _,

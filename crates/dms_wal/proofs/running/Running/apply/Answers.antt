@@ -5,11 +5,12 @@ use Rattle.dms_block.specs.Held.{Held}
 use Rattle.dms_block.specs.HeldLaws.{alters_as}
 use Rattle.dms_wal.specs.Database.{held}
 use Rattle.dms_wal.proofs.Imaged.{usable_spent}
+use Rattle.dms_wal.proofs.Keeping.{pace_none, pace_on}
 use Rattle.dms_wal.proofs.Made.{made_all, made_causes, made_failed, made_more, made_none, made_whole, next_apart, next_fits}
 use Rattle.dms_wal.proofs.running.Running.apply.Goals as goal
 
 pub loop-change-init : goal.loop-change-init
-loop-change-init g c = record { made = made_none (held g.S.Site c.args.self.now) c.requires.sound; same = g.met.S.Site.same_again c.args.self.now.log.site }
+loop-change-init g c = record { pace = pace_none c.args.self.now; made = made_none (held g.S.Site c.args.self.now) c.requires.sound; same = g.met.S.Site.same_again c.args.self.now.log.site }
 
 pub change-requires-clause-sound : goal.change-requires-clause-sound
 change-requires-clause-sound g c = c.loop-change.invariant.made.stays.sound
@@ -32,6 +33,7 @@ loop-change-preserved g c =
     record {
       made = made_more c.args.changes.now.items.items c.as_slice-items.result.now c.loop-change.change-index no_change_of c.as_slice-items.ensures c.loop-change-test.true (held g.S.Site c.args.self.now) (held g.S.Site c.loop-change.self) (held g.S.Site c.change.new.self) was.made
           c.in-Ok.ensures.counts c.in-Ok.ensures.content (alters_as tt c.in-Ok.ensures.alters) c.in-Ok.ensures.causes;
+      pace = pace_on was.pace c.change.ensures.pace;
       same = g.met.S.Site.same_then c.args.self.now.log.site c.loop-change.self.log.site c.change.new.self.log.site was.same c.change.ensures.same;
     }
 
@@ -77,3 +79,6 @@ returns-clause-causes g c = c.loop-change.invariant.made.faults
 
 pub returns-clause-same : goal.returns-clause-same
 returns-clause-same g c = c.loop-change.invariant.same
+
+pub returns-in-Err-clause-pace : goal.returns-in-Err-clause-pace
+returns-in-Err-clause-pace g c = pace_on c.loop-change.invariant.pace c.change.ensures.pace

@@ -1,5 +1,6 @@
 use Rattle.std.proofs.Common.{take}
 use Rattle.dms_block.specs.Held.{Held}
+use Rattle.dms_wal.specs.Controls.{KeepsPace}
 use Rattle.dms_wal.specs.Database.{held}
 use Rattle.dms_wal.proofs.Made.{MadeChanges}
 use Rattle.dms_wal.proofs.running.Running.apply.Given as goal
@@ -10,5 +11,6 @@ invariant-loop-change g l =
     let b : Held = held g.S.Site l.self in
     record {
       made : MadeChanges (take l.change-index l.changes.items.items) a b;
+      pace : KeepsPace l.fn.self l.self;
       same : g.S.Site.same_site l.fn.self.log.site l.self.log.site;
     }

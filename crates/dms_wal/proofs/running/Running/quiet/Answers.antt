@@ -1,4 +1,4 @@
-use Rattle.std.proofs.Common.{refl, false, arith}
+use Rattle.std.proofs.Common.{◌∙◌, refl, false, arith}
 use Rattle.dms_wal.proofs.Synced.{kind_is, quiet_done, quiet_left}
 use Rattle.std.specs.declared.result.Result.TheVariants.{Err}
 use Rattle.dms_wal.proofs.Causes.{full_left, full_seen}
@@ -7,17 +7,17 @@ use Rattle.dms_wal.proofs.running.Running.quiet.Goals as goal
 pub returns-in-Ok-clause-made : goal.returns-in-Ok-clause-made
 returns-in-Ok-clause-made g c =
     let m = g.met.S.Site in
-    quiet_done g.S.Site m.may_stay m.now_said m.counts_now c.args.self.now c.requires c.quiet.new.self (kind_is c.quiet.ensures.kind.0 c.quiet.ensures.kind.3) c.quiet.ensures.moments _ refl (omega (arith)) c.in-Ok.ensures.runs c.in-Ok.ensures.logs
+    quiet_done g.S.Site m.may_stay m.now_said m.counts_now c.args.self.now c.requires c.quiet.new.self (kind_is c.quiet.ensures.kind.0 c.quiet.ensures.kind.3) c.quiet.ensures.moments _ refl (omega (arith)) _ (c.copy_counts.ensures ∙ c.deref.ensures.value) c.in-Ok.ensures.runs c.in-Ok.ensures.logs
 
 pub returns-in-Ok-clause-leaves : goal.returns-in-Ok-clause-leaves
 returns-in-Ok-clause-leaves g c =
     let m = g.met.S.Site in
-    quiet_left g.S.Site m.may_stay m.now_said m.counts_now c.args.self.now c.requires c.quiet.new.self (kind_is c.quiet.ensures.kind.0 c.quiet.ensures.kind.3) c.quiet.ensures.moments false 0 0 c.quiet.ensures.silent
+    quiet_left g.S.Site m.may_stay m.now_said m.counts_now c.args.self.now c.requires c.quiet.new.self (kind_is c.quiet.ensures.kind.0 c.quiet.ensures.kind.3) c.quiet.ensures.moments false 0 0 c.quiet.ensures.silent 0 c.args.self.now.marks
 
 pub returns-in-Err-clause-leaves : goal.returns-in-Err-clause-leaves
 returns-in-Err-clause-leaves g c =
     let m = g.met.S.Site in
-    quiet_left g.S.Site m.may_stay m.now_said m.counts_now c.args.self.now c.requires c.quiet.new.self (kind_is c.quiet.ensures.kind.0 c.quiet.ensures.kind.3) c.quiet.ensures.moments false 0 0 c.quiet.ensures.silent
+    quiet_left g.S.Site m.may_stay m.now_said m.counts_now c.args.self.now c.requires c.quiet.new.self (kind_is c.quiet.ensures.kind.0 c.quiet.ensures.kind.3) c.quiet.ensures.moments false 0 0 c.quiet.ensures.silent 0 c.args.self.now.marks
 
 pub returns-in-Err-clause-full : goal.returns-in-Err-clause-full
 returns-in-Err-clause-full g c n is = full_left c.in-Err.fault c.append_fault.result _ _ n c.args.self.now.log.end c.quiet.new.self.end c.in-Err.ensures.only c.append_fault.ensures c.quiet.ensures.kind.2 c.in-Err.ensures.full is

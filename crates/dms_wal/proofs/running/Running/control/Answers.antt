@@ -1,0 +1,31 @@
+use Rattle.std.proofs.Common.{sym, subst, ◌∙◌}
+use Rattle.dms_block.specs.HeldLaws.{causes_on, passes_on}
+use Rattle.dms_block.specs.Held.{Used, Uses}
+use Rattle.dms_restore.proofs.Results.{one_ok}
+use Rattle.dms_wal.specs.Database.{held}
+use Rattle.dms_wal.proofs.Controlling.{durable_on, makes_on}
+use Rattle.dms_wal.proofs.Keeping.{keeps_on}
+use Rattle.dms_wal.proofs.running.Running.control.Goals as goal
+
+pub returns-clause-made : goal.returns-clause-made
+returns-clause-made g c = let l = c.in-Ok.ensures.looks in one_ok c.seal_control.result c.seal_control.ensures.made (λ d. durable_on l.passes l.stays l.same d)
+
+pub returns-clause-passes : goal.returns-clause-passes
+returns-clause-passes g c = let l = c.in-Ok.ensures.looks in passes_on l.passes l.stays c.seal_control.ensures.passes
+
+pub returns-clause-uses : goal.returns-clause-uses
+returns-clause-uses g c = subst (λ (u : Uses). Used 0 0 (held g.S.Site c.args.self.now).uses u) (sym c.seal_control.ensures.uses) c.in-Ok.ensures.looks.uses
+
+pub returns-clause-kept : goal.returns-clause-kept
+returns-clause-kept g c = keeps_on c.settle.ensures.kept c.seal_control.ensures.kept
+
+pub returns-clause-control : goal.returns-clause-control
+returns-clause-control g c = one_ok c.seal_control.result c.seal_control.ensures.control (λ made t.
+    let k = c.settle.ensures.kept in
+    makes_on _ _ _ _ _ _ _ _ _ _ _ (λ i. (k.schema i).items) k.point k.next (λ i. (k.counts i).items) (c.in-Ok.ensures.tells t) (made t))
+
+pub returns-clause-causes : goal.returns-clause-causes
+returns-clause-causes g c = let l = c.in-Ok.ensures.looks in causes_on c.seal_control.result (held g.S.Site c.args.self.now) (held g.S.Site c.settle.new.self) (held g.S.Site c.seal_control.new.self) c.in-Ok.ensures.causes l.passes.lasts l.same c.seal_control.ensures.causes
+
+pub returns-clause-kind : goal.returns-clause-kind
+returns-clause-kind g c = c.seal_control.ensures.kind ∙ c.settle.ensures.kind

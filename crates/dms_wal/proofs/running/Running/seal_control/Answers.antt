@@ -1,0 +1,51 @@
+use Rattle.std.proofs.Common.{ℕ, List, ◌∙◌, ap, refl, subst, take, arith}
+use Rattle.dms_audrec.specs.Spelling.{pair_bytes, count_file, count_blocks}
+use Rattle.dms_restore.specs.Counts.{file_counts}
+use Rattle.dms_restore.specs.Laying.{schema_control}
+use Rattle.dms_restore.specs.Endings.{ControlledAt}
+use Rattle.dms_restore.proofs.CountBytes.{counts_entry, counts_few}
+use Rattle.dms_wal.proofs.Causes.{full_left, seen_only}
+use Rattle.dms_wal.proofs.Controlling.{control_by, control_leaves, control_made, count_table, makes_control}
+use Rattle.dms_wal.specs.Database.{view_of}
+use Rattle.dms_wal.proofs.Stepped.{passes_step}
+use Rattle.dms_wal.proofs.Synced.{kind_is}
+use Rattle.dms_wal.proofs.running.Running.seal_control.Goals as goal
+
+pub control-requires-clause-control : goal.control-requires-clause-control
+control-requires-clause-control g c = counts_entry c.args.self.now.counts.items (count_table _ c.requires.sound.table) _ (c.count_bytes-used.ensures.bytes ∙ ap (λ (l : List ℕ). pair_bytes count_file count_blocks (file_counts 30001 l)) c.deref.ensures.value) c.args.self.now.point c.args.self.now.next (omega arith) (omega arith)
+
+pub control-requires-clause-size : goal.control-requires-clause-size
+control-requires-clause-size g c = counts_few c.args.self.now.counts.items (count_table _ c.requires.sound.table) _ (c.count_bytes-used.ensures.bytes ∙ ap (λ (l : List ℕ). pair_bytes count_file count_blocks (file_counts 30001 l)) c.deref.ensures.value)
+
+pub control-requires-clause-by : goal.control-requires-clause-by
+control-requires-clause-by g c tells =
+    let u = c.requires.sound in
+    control_by _ c.args.self.now.pool c.args.self.now.next c.args.self.now.point c.args.self.now.counts.items c.args.self.now.marks.items u.table (u.goes tells) (g.met.S.Site.may_stay c.args.self.now.log.site tells) (u.pointed tells) (c.requires.settled tells) _ (c.count_bytes-used.ensures.bytes ∙ ap (λ (l : List ℕ). pair_bytes count_file count_blocks (file_counts 30001 l)) c.deref.ensures.value)
+
+pub returns-in-Ok-clause-made : goal.returns-in-Ok-clause-made
+returns-in-Ok-clause-made g c = control_made g.S.Site c.args.self.now c.requires.sound c.requires.clean c.requires.settled c.control.new.self (kind_is c.control.ensures.kind.0 c.control.ensures.kind.3) _ (c.count_bytes-used.ensures.bytes ∙ ap (λ (l : List ℕ). pair_bytes count_file count_blocks (file_counts 30001 l)) c.deref.ensures.value) (λ t. subst (λ (d : List ℕ). ControlledAt (view_of g.S.Site c.args.self.now.log) (view_of g.S.Site c.control.new.self) (schema_control d c.args.self.now.point c.args.self.now.next (take c.count_bytes-used.result c.count_bytes-used.new.into))) c.deref-2.ensures.value (c.in-Ok.ensures.controlled t))
+
+pub returns-in-Ok-clause-control : goal.returns-in-Ok-clause-control
+returns-in-Ok-clause-control g c = makes_control g.S.Site c.args.self.now c.requires.sound c.requires.clean c.requires.settled c.control.new.self (kind_is c.control.ensures.kind.0 c.control.ensures.kind.3) _ (c.count_bytes-used.ensures.bytes ∙ ap (λ (l : List ℕ). pair_bytes count_file count_blocks (file_counts 30001 l)) c.deref.ensures.value) (λ t. subst (λ (d : List ℕ). ControlledAt (view_of g.S.Site c.args.self.now.log) (view_of g.S.Site c.control.new.self) (schema_control d c.args.self.now.point c.args.self.now.next (take c.count_bytes-used.result c.count_bytes-used.new.into))) c.deref-2.ensures.value (c.in-Ok.ensures.controlled t))
+
+pub returns-in-Ok-clause-passes : goal.returns-in-Ok-clause-passes
+returns-in-Ok-clause-passes g c =
+    let r = c.args.self.now in
+    passes_step g.S.Site g.met.S.Site.now_said r c.requires.sound c.control.new.self r.pool r.broken r.full r.counts (kind_is c.control.ensures.kind.0 c.control.ensures.kind.3) refl c.control.ensures.said (λ t. control_leaves (view_of g.S.Site r.log) (view_of g.S.Site c.control.new.self) (c.requires.settled t) (c.control.ensures.moments t)) c.control.ensures.silent
+
+pub returns-in-Err-clause-passes : goal.returns-in-Err-clause-passes
+returns-in-Err-clause-passes g c =
+    let r = c.args.self.now in
+    passes_step g.S.Site g.met.S.Site.now_said r c.requires.sound c.control.new.self r.pool _ _ r.counts (kind_is c.control.ensures.kind.0 c.control.ensures.kind.3) refl c.control.ensures.said (λ t. control_leaves (view_of g.S.Site r.log) (view_of g.S.Site c.control.new.self) (c.requires.settled t) (c.control.ensures.moments t)) c.control.ensures.silent
+
+pub returns-in-Err-clause-only : goal.returns-in-Err-clause-only
+returns-in-Err-clause-only g c = seen_only c.in-Err.fault c.append_fault.result _ _ _ c.in-Err.ensures.only c.append_fault.ensures
+
+pub returns-in-Err-clause-full : goal.returns-in-Err-clause-full
+returns-in-Err-clause-full g c n is = full_left c.in-Err.fault c.append_fault.result _ _ n c.args.self.now.log.end c.control.new.self.end c.in-Err.ensures.only c.append_fault.ensures c.control.ensures.kind.2 c.in-Err.ensures.full is
+
+pub returns-in-Ok-clause-kind : goal.returns-in-Ok-clause-kind
+returns-in-Ok-clause-kind g c = kind_is c.control.ensures.kind.0 c.control.ensures.kind.3
+
+pub returns-in-Err-clause-kind : goal.returns-in-Err-clause-kind
+returns-in-Err-clause-kind g c = kind_is c.control.ensures.kind.0 c.control.ensures.kind.3

@@ -1,0 +1,37 @@
+use Rattle.std.proofs.Common.{◌∙◌}
+use Rattle.std.specs.declared.result.Result.TheVariants.{Err}
+use Rattle.dms_block.specs.HeldLaws.{causes_on, looks_on, looks_err}
+use Rattle.dms_wal.specs.Database.{held}
+use Rattle.dms_wal.proofs.Keeping.{keeps_on, tells_on, tells_sealed}
+use Rattle.dms_wal.proofs.Rooming.{disk_failed}
+use Rattle.dms_wal.proofs.Settling.{looks_stable, settles}
+use Rattle.dms_wal.proofs.running.Running.settle.Goals as goal
+
+pub returns-in-Ok-make_stable-clause-looks : goal.returns-in-Ok-make_stable-clause-looks
+returns-in-Ok-make_stable-clause-looks g c =
+    let m = g.met.S.Site in
+    let r = c.write_changed.new.self in
+    looks_on _ c.in-Ok.ensures.looks (looks_stable g.S.Site m.may_stay m.now_said m.counts_now r c.in-Ok.ensures.looks.stays.sound c.make_stable.new.log c.make_stable.ensures.kind c.make_stable.ensures.said c.make_stable.ensures.moments c.make_stable.ensures.silent
+    c.in-Ok-make_stable.ensures.nothing c.in-Ok-make_stable.ensures.runs _)
+
+pub returns-in-Ok-make_stable-clause-settled : goal.returns-in-Ok-make_stable-clause-settled
+returns-in-Ok-make_stable-clause-settled g c =
+    let m = g.met.S.Site in
+    let r = c.write_changed.new.self in
+    settles g.S.Site m.may_stay m.now_said m.counts_now r c.in-Ok.ensures.looks.stays.sound c.make_stable.new.log c.make_stable.ensures.kind c.make_stable.ensures.said c.make_stable.ensures.moments c.make_stable.ensures.silent
+    c.in-Ok-make_stable.ensures.nothing c.in-Ok-make_stable.ensures.runs c.in-Ok.ensures.clean c.in-Ok-make_stable.ensures.waits c.in-Ok-make_stable.ensures.stable
+
+pub returns-in-Ok-make_stable-clause-tells : goal.returns-in-Ok-make_stable-clause-tells
+returns-in-Ok-make_stable-clause-tells g c tells = tells_on (c.in-Ok.ensures.tells tells) (tells_sealed (c.in-Ok-make_stable.ensures.nothing tells))
+
+pub returns-in-Err-make_stable-clause-looks : goal.returns-in-Err-make_stable-clause-looks
+returns-in-Err-make_stable-clause-looks g c =
+    let m = g.met.S.Site in
+    let r = c.write_changed.new.self in
+    looks_on _ c.in-Ok.ensures.looks (disk_failed g.S.Site m.may_stay m.now_said m.counts_now r c.in-Ok.ensures.looks.stays.sound c.in-Err-make_stable.fault c.in-Err-make_stable.ensures.only r.pool c.make_stable.new.log c.make_stable.ensures.kind c.make_stable.ensures.said c.make_stable.ensures.moments c.make_stable.ensures.silent)
+
+pub returns-in-Ok-make_stable-clause-kind : goal.returns-in-Ok-make_stable-clause-kind
+returns-in-Ok-make_stable-clause-kind g c = c.make_stable.ensures.kind ∙ c.write_changed.ensures.kind
+
+pub returns-in-Err-make_stable-clause-kind : goal.returns-in-Err-make_stable-clause-kind
+returns-in-Err-make_stable-clause-kind g c = c.make_stable.ensures.kind ∙ c.write_changed.ensures.kind
