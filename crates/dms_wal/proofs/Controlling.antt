@@ -1,16 +1,15 @@
 -- A control point is sealed.
-use Rattle.std.proofs.Common.{ℕ, ◌+◌, ◌/◌, ◌*◌, ◌^◌, ◌<◌, ◌≤◌, ◌≡◌, true, false, IsTrue, List, [], ◌∷◌, ◌++◌, length, map, Some, refl, sym, ◌∙◌, ap, subst, arith}
+use Rattle.std.proofs.Common.{ℕ, ◌<◌, ◌≡◌, true, false, IsTrue, List, [], ◌∷◌, ◌++◌, length, map, Some, refl, sym, ◌∙◌, ap, subst, arith}
 use Rattle.std.proofs.lemmas.List.{length-map}
-use Rattle.dms_moments.specs.Moments.{Now, Steps}
 use Rattle.dms_site.specs.declared.site.Site.{Ghosts}
-use Rattle.dms_site.specs.Files.{Left, stored_of}
+use Rattle.dms_site.specs.Files.{stored_of}
 use Rattle.dms_block.specs.declared.block.BlockId.{BlockId}
 use Rattle.dms_block.specs.Held.{BlocksAgree, Held, MadeDurable, MakesNoPoint, SameBlocks, Stays}
 use Rattle.dms_block.specs.HeldLaws.{same_on, told_after}
 use Rattle.dms_history.specs.Events.{Content, Stored, block_in}
 use Rattle.dms_history.specs.Points.{LivePoint}
 use Rattle.dms_history.specs.declared.event.FileCount.{FileCount}
-use Rattle.dms_history.specs.Entries.{Entry, control_point}
+use Rattle.dms_history.specs.Entries.{control_point}
 use Rattle.dms_history.specs.Schemas.{schema_entries}
 use Rattle.dms_audrec.specs.Spelling.{pair_bytes, count_file, count_blocks}
 use Rattle.dms_restore.specs.Bodies.{bodies}
@@ -29,7 +28,7 @@ use Rattle.dms_restore.specs.Logging.{LogView, telling, state, entries, points, 
 use Rattle.dms_restore.proofs.Logs.{Reads}
 use Rattle.dms_restore.proofs.Endings.{all_next}
 use Rattle.dms_restore.proofs.Callers.{each_leave}
-use Rattle.dms_restore.proofs.CountBytes.{IsCountTable, counts_read, counts_told, counts_few, counts_entry}
+use Rattle.dms_restore.proofs.CountBytes.{IsCountTable, counts_read, counts_told}
 use Rattle.dms_wal.specs.declared.running.Running.{Running}
 use Rattle.dms_wal.specs.Controls.{IsSettled, MakesControl, TellsSame}
 use Rattle.dms_wal.specs.Lifting.{AreCounts, last_blocks, point_under}

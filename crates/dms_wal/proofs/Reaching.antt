@@ -1,8 +1,8 @@
 -- A database whose audit may go on up to another file, and how it is closed.
-use Rattle.std.proofs.Common.{ℕ, ◌≤◌, ◌<◌, ◌≡◌, ◌⊎◌, inl, inr, IsTrue, map, List, [], ◌∷◌, ◌++◌, length, None, refl, sym, ◌∙◌, ap, subst, drop, take}
+use Rattle.std.proofs.Common.{ℕ, ◌≤◌, ◌<◌, ◌≡◌, ◌⊎◌, inl, inr, IsTrue, map, List, [], ◌∷◌, ◌++◌, length, sym, ◌∙◌, ap, subst, drop, take}
 use Rattle.dms_moments.specs.Moments.{Clock, Now}
 use Rattle.dms_site.specs.declared.site.Site.{Ghosts}
-use Rattle.dms_site.specs.Files.{Files, Left, Only, stored_of}
+use Rattle.dms_site.specs.Files.{Files, Left}
 use Rattle.dms_block.specs.declared.block_fault.BlockFault.{BlockFault}
 use Rattle.dms_block.specs.declared.block_fault.BlockFault.TheVariants as fault
 use Rattle.dms_block.specs.Counts.{Faults}
@@ -28,7 +28,6 @@ use Rattle.dms_running.specs.Running.{State, IsRunning, entries_now, content_now
 use Rattle.dms_running.specs.Frames.{FramesHold}
 use Rattle.dms_running.specs.Points.{points_of, next_in}
 use Rattle.dms_running.proofs.Appending.{now_runs}
-use Rattle.dms_restore.specs.declared.log.Log.{Log}
 use Rattle.dms_restore.specs.Logging as logs
 use Rattle.dms_restore.specs.Logging.{waits, LogView, view, telling, state, entries, points, content, LogRuns}
 use Rattle.dms_restore.proofs.Logs as lemmas
@@ -37,7 +36,7 @@ use Rattle.dms_restore.proofs.Endings.{all_points, all_next}
 use Rattle.dms_pool.specs.declared.pool.Pool.{Pool}
 use Rattle.dms_wal.specs.declared.running.Running.{Running}
 use Rattle.dms_wal.specs.Closing.{IsClosed, LeavesUntil}
-use Rattle.dms_wal.specs.Controls.{IsSettled, MakesControl}
+use Rattle.dms_wal.specs.Controls.{MakesControl}
 use Rattle.dms_wal.specs.Database.{held, view_of, GoesWith, IsUsable, frames_of}
 use Rattle.dms_wal.specs.Lifting.{last_blocks, lifted, point_under}
 use Rattle.dms_wal.specs.Marks.{IsMarkOf}

@@ -1,5 +1,5 @@
 -- Each changed block is written, and all is made stable.
-use Rattle.std.proofs.Common.{ℕ, ◌≤◌, ◌≡◌, true, false, IsTrue, List, [], length, Option, Some, refl, sym, ◌∙◌, ap, subst, arith}
+use Rattle.std.proofs.Common.{ℕ, ◌≤◌, ◌≡◌, true, false, IsTrue, List, [], length, Option, Some, refl, sym, ◌∙◌, ap, subst}
 use Rattle.std.specs.Prelude.{option_map}
 use Rattle.std.specs.declared.result.Result.TheVariants.{Ok}
 use Rattle.dms_moments.specs.Moments.{Clock, Now, Steps}
@@ -16,7 +16,7 @@ use Rattle.dms_pool.specs.declared.frame.Frame as pools
 use Rattle.dms_pool.specs.declared.pool.Pool.{Pool}
 use Rattle.dms_pool.specs.Calls.{Cleans}
 use Rattle.dms_pool.specs.Held.{frame_of, framed, is_dirty}
-use Rattle.dms_running.specs.Frames.{Frame, with_frame}
+use Rattle.dms_running.specs.Frames.{with_frame}
 use Rattle.dms_running.proofs.Framed.{all_written}
 use Rattle.dms_running.proofs.Looking.{look_leaves}
 use Rattle.dms_restore.specs.declared.log.Log.{Log}
@@ -30,8 +30,8 @@ use Rattle.dms_wal.specs.Database.{held, view_of, frame_seen, frames_of, uses_of
 use Rattle.dms_wal.specs.Writing.{WritesBack}
 use Rattle.dms_wal.proofs.Pooled.{holds_like, frames_cleaned, counted_cleaned, clean_frames}
 use Rattle.dms_wal.proofs.Backs.{all_sized, holds_washed}
-use Rattle.dms_wal.proofs.Stills.{KeepsFiles, runs_still, goes_sealed}
-use Rattle.dms_wal.proofs.Roomed.{then_leave, then_silent}
+use Rattle.dms_wal.proofs.Stills.{runs_still, goes_sealed}
+use Rattle.dms_wal.proofs.Roomed.{then_leave}
 use Rattle.dms_wal.proofs.Stepped.{passes_step, stays_step}
 
 -- ---- a block was written, and stays in the pool

@@ -1,8 +1,6 @@
 use Rattle.std.proofs.Common.{◌∙◌}
-use Rattle.std.specs.declared.result.Result.TheVariants.{Err}
-use Rattle.dms_block.specs.HeldLaws.{causes_on, looks_on, looks_err}
-use Rattle.dms_wal.specs.Database.{held}
-use Rattle.dms_wal.proofs.Keeping.{keeps_on, tells_on, tells_sealed}
+use Rattle.dms_block.specs.HeldLaws.{looks_on}
+use Rattle.dms_wal.proofs.Keeping.{tells_on, tells_sealed}
 use Rattle.dms_wal.proofs.Rooming.{disk_failed}
 use Rattle.dms_wal.proofs.Settling.{looks_stable, settles}
 use Rattle.dms_wal.proofs.running.Running.settle.Goals as goal

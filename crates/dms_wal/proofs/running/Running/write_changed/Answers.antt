@@ -1,6 +1,6 @@
 use Rattle.std.proofs.Common.{◌∙◌, refl}
 use Rattle.std.specs.declared.result.Result.TheVariants.{Ok}
-use Rattle.dms_block.specs.HeldLaws.{causes_on, looks_none, looks_on}
+use Rattle.dms_block.specs.HeldLaws.{looks_none, looks_on}
 use Rattle.dms_wal.specs.Database.{held}
 use Rattle.dms_wal.proofs.Keeping.{keeps_none, keeps_on, tells_none, tells_on}
 use Rattle.dms_wal.proofs.running.Running.write_changed.Goals as goal

@@ -1,4 +1,4 @@
-use Rattle.std.proofs.Common.{◌∙◌, sym, ap, arith}
+use Rattle.std.proofs.Common.{◌∙◌, sym}
 use Rattle.dms_pool.proofs.Fewer.{cleans_fewer}
 use Rattle.dms_wal.proofs.Keeping.{tells_back}
 use Rattle.dms_wal.proofs.Pooled.{dirty_frame, dirty_held}
