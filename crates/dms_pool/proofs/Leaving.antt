@@ -1,5 +1,5 @@
 -- What each call leaves, from what the cache's call leaves.
-use Rattle.std.proofs.Common.{◌≡◌, ◌-◌, ◌∷◌, true, Some, None, sym, ap, ◌∙◌, length, take, refl}
+use Rattle.std.proofs.Common.{◌≡◌, ◌-◌, [], ◌∷◌, true, Some, None, sym, ap, ◌∙◌, length, take, refl}
 use Rattle.std.specs.Prelude.{◌||◌, nat_lt, is_some, reverse}
 use Rattle.std.specs.Map.{lookup, set_value}
 use Rattle.std.proofs.lemmas.List.{length-map, length-reverse}
@@ -9,7 +9,7 @@ use Rattle.dms_pool.specs.declared.frame.Frame.{Frame}
 use Rattle.dms_pool.specs.declared.frame.FrameKey.{FrameKey}
 use Rattle.dms_pool.specs.declared.pool.Pool.{Pool}
 use Rattle.dms_pool.specs.Entries.{Entries, id_of, ids_of, is_key, key_of, same_key}
-use Rattle.dms_pool.specs.Calls.{Cleans, GivesUp, HasFrameFor, FrameUsed, PutsFrame}
+use Rattle.dms_pool.specs.Calls.{IsEmpty, Cleans, GivesUp, HasFrameFor, FrameUsed, PutsFrame}
 use Rattle.dms_pool.specs.Held.{washed}
 use Rattle.dms_pool.proofs.Lasts.{IsLast, is_last}
 use Rattle.dms_pool.proofs.Same.{after, after_lookup, after_order, front, front_lookup, front_order, promoted_same, put_same}
@@ -42,6 +42,10 @@ puts id v old new room is =
       uses = ap (λ (l : Entries). reverse (ids_of l)) all ∙ front_order id v es old.sound.0;
       bound = ap (λ c. c.cap) is;
     }
+
+-- all are given up
+pub emptied : (old new : Pool) → new.frames ≡ lru_cache [] old.frames.cap → IsEmpty old.frames.cap new
+emptied old new is = record { holds = λ x. ap (λ c. lookup (is_key x) c.entries) is; uses = ap (λ c. reverse (ids_of c.entries)) is; bound = ap (λ c. c.cap) is }
 
 pub gives_up : (key : FrameKey) (f : Frame) (old new : Pool) → Some (key, f) ≡ last_entry old.frames.entries → new.frames ≡ lru_cache (take (length old.frames.entries - 1) old.frames.entries) old.frames.cap
     → GivesUp (id_of key) f old new

@@ -147,3 +147,7 @@ pub sound_set : (id : BlockId) (w : Frame) (c new : LruCache FrameKey Frame) →
 sound_set id w c new sound is =
     let again : IsSoundPool (lru_cache (set_value (is_key id) c.entries w) c.cap) = (subst (IsDistinct same_key) (sym (set_keys id c.entries w)) sound.0, rw (set_length id c.entries w) sound.1, sound.2) in
     subst IsSoundPool (sym is) again
+
+pub sound_empty : (old new : LruCache FrameKey Frame) → IsSoundPool old → new ≡ lru_cache [] old.cap → IsSoundPool new
+unfolding IsDistinct
+sound_empty old new sound is = subst IsSoundPool (sym is) (tt, omega arith, sound.2)

@@ -78,6 +78,13 @@ impl Pool {
         Some((key.id(), frame.block, frame.dirty))
     }
 
+    /// Gives up all blocks, also those that are still to be written.
+    pub fn clear(&mut self)
+        ensures { IsEmpty (most self.old) self.new }
+    {
+        self.frames.clear();
+    }
+
     /// Of the blocks that are to be written, the most recently used.
     pub fn dirty(&self) -> Option<BlockId>
         ensures which { result ≡ find (λ id. is_dirty id self.now) (reverse (order self.now)) }

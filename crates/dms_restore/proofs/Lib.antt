@@ -19,3 +19,5 @@ pub mod ReadOn
 pub mod PendingTables
 pub mod SpotParts
 pub mod Numbered
+pub mod Backed
+pub mod Returned

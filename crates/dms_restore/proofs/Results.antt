@@ -55,3 +55,7 @@ one_if_ok (Err e) one f = tt
 pub two_if_ok : {T E : Type 0} {P Q R : T → Type 0} (r : Result T E) → IfOk r P → IfOk r Q → ((v : T) → P v → Q v → R v) → IfOk r R
 two_if_ok (Ok x) one two f = f x one two
 two_if_ok (Err e) one two f = tt
+
+pub three_if_ok : {T E : Type 0} {P Q R U : T → Type 0} (r : Result T E) → IfOk r P → IfOk r Q → IfOk r R → ((v : T) → P v → Q v → R v → U v) → IfOk r U
+three_if_ok (Ok x) one two three f = f x one two three
+three_if_ok (Err e) one two three f = tt

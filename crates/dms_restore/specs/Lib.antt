@@ -9,3 +9,4 @@ pub mod Scanned
 pub mod LiveEntries
 pub mod Named
 pub mod Tracing
+pub mod BackOuts

@@ -2,6 +2,7 @@
 //! are sealed, or as the audit tells them.
 #![tactic(auto)]
 
+mod backing;
 mod begun;
 mod counting;
 mod ending;
@@ -14,6 +15,7 @@ mod opening;
 mod pending;
 mod placing;
 mod reading;
+mod rereading;
 mod restoring;
 mod resuming;
 mod scanning;

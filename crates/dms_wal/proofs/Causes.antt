@@ -23,10 +23,10 @@ rose_once e before now c = record { later = c.later; rose = c.failed; once = c.o
 pub raised_disk : (a b : Faults) → RoseOnce a.disk b.disk → b.say ≡ a.say → b.full ≡ a.full → b.damaged ≡ a.damaged → Raised block.Disk a b
 raised_disk a b rose say full damaged = (rose, λ i. record { disk = b.disk; say = say i; full = full i; damaged = damaged i })
 
-raised_full : (n : ℕ) (a b : Faults) → RoseOnce a.full b.full → b.disk ≡ a.disk → b.say ≡ a.say → b.damaged ≡ a.damaged → Raised (block.Full n) a b
+pub raised_full : (n : ℕ) (a b : Faults) → RoseOnce a.full b.full → b.disk ≡ a.disk → b.say ≡ a.say → b.damaged ≡ a.damaged → Raised (block.Full n) a b
 raised_full n a b rose disk say damaged = (rose, λ i. record { disk = disk i; say = say i; full = b.full; damaged = damaged i })
 
-by_disk : {T : Type 0} (f : AudFault) (e : BlockFault) (a b : Held) → f ≡ Disk → (e ≡ block.Disk) × (b.faults.full ≡ a.faults.full) → CountedAt (IsErrOf {T = T} (Err f) Disk) a.faults.disk b.faults.disk → b.faults.say ≡ a.faults.say → b.faults.damaged ≡ a.faults.damaged → Caused e a b
+pub by_disk : {T : Type 0} (f : AudFault) (e : BlockFault) (a b : Held) → f ≡ Disk → (e ≡ block.Disk) × (b.faults.full ≡ a.faults.full) → CountedAt (IsErrOf {T = T} (Err f) Disk) a.faults.disk b.faults.disk → b.faults.say ≡ a.faults.say → b.faults.damaged ≡ a.faults.damaged → Caused e a b
 by_disk f e a b is seen c say damaged = subst (λ (x : BlockFault). Caused x a b) (sym seen.0)
     (raised_disk a.faults b.faults (record { later = c.later; rose = c.failed (λ i. Err (is i)); once = c.once }) say seen.1 damaged)
 

@@ -17,3 +17,6 @@ pub mod Settling
 pub mod Controlling
 pub mod Reaching
 pub mod Keeping
+pub mod Limits
+pub mod BackFaults
+pub mod BackedOut

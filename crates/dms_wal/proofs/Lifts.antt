@@ -18,6 +18,7 @@ use Rattle.dms_restore.specs.Logging as logs
 use Rattle.dms_restore.specs.Logging.{LogView, telling, state, points, durable, here, content, LogRuns, PrintsNothing}
 use Rattle.dms_restore.proofs.Logs as lemmas
 use Rattle.dms_restore.proofs.Logs.{Reads}
+use Rattle.dms_wal.specs.AgreeLaws.{TellsText, front_lifted}
 use Rattle.dms_wal.specs.Lifting.{point_under, stop_of, lifted, last_blocks, count_of, held_of}
 
 -- two things that are said of the same time
@@ -29,21 +30,6 @@ both_run one two = record {
 }
 
 module _ (schema : List ℕ) where
-  map_take : (n : ℕ) (ps : List LivePoint) → map (point_under schema) (take n ps) ≡ take n (map (point_under schema) ps)
-  map_take zero ps = refl
-  map_take (suc n) [] = refl
-  map_take (suc n) (p ∷ ps) = ap (λ (l : List BlockPoint). point_under schema p ∷ l) (map_take n ps)
-
-  pub front_lifted : (t : Telling) (ps : List LivePoint) (low next : ℕ) (x : Left) → LeavesPointsPrefix t ps low next x → Prefix (IsWhole t) low (map (point_under schema) ps) next (stop_of t schema x)
-  front_lifted t ps low next x p = record {
-    count = p.count;
-    enough = p.enough;
-    within = omega (arith, p.within, length-map ps (point_under schema));
-    is = ap (map (point_under schema)) p.is ∙ map_take p.count ps;
-    not_fallen = omega (arith, p.not_fallen, length-map ps (point_under schema), length-map (points_of t x.files) (point_under schema));
-    whole_files = p.whole;
-  }
-
   -- no two outcomes of a site are seen as one: what stops leave of the blocks is what they leave of the site
   stop_one : (t : Telling) (x other : Left) → stop_of t schema other ≡ stop_of t schema x → other ≡ x
   stop_one t x other e = λ i. record { files = (e i).files; said = (e i).said }
@@ -51,17 +37,13 @@ module _ (schema : List ℕ) where
   pub lowered : (t : Telling) (a b : Clock Left) {Q : BlockStop → Type 0} → Runs (lifted t schema a) (lifted t schema b) Q → Runs a b (λ x. Q (stop_of t schema x))
   lowered t a b run = runs_below_as (stop_of t schema) (stop_one t) run
 
-  -- a stop now leaves this text, where it is told
-  abbrev pub TellsText : Option (List ℕ) → Clock Left → Type 0
-  TellsText said clock = (y : Left) → Now clock y → (s : List ℕ) → said ≡ Some s → y.said ≡ s
-
   -- what stops leave of a log while nothing is printed
-  pub leaves_lifted : (a b : LogView) → telling b ≡ telling a → (ps : List LivePoint) (next : ℕ) (said : Option (List ℕ)) → TellsText said a.clock → logs.LogLeaves a b ps next → Steps PrintsNothing a.clock b.clock
+  pub leaves_lifted : (a b : LogView) → telling b ≡ telling a → (ps : List LivePoint) (next : ℕ) (said : Option (List ℕ)) → TellsText schema said a.clock → logs.LogLeaves a b ps next → Steps PrintsNothing a.clock b.clock
       → Runs (lifted (telling a) schema a.clock) (lifted (telling b) schema b.clock) (λ stop. Prefix (IsWhole (telling a)) (durable a) (map (point_under schema) ps) next stop × TextIs said stop)
   leaves_lifted a b same ps next said text leaves silent =
       subst (λ (t : Telling). Runs (lifted (telling a) schema a.clock) (lifted t schema b.clock) (λ stop. Prefix (IsWhole (telling a)) (durable a) (map (point_under schema) ps) next stop × TextIs said stop)) (sym same)
       (runs_seen_as (stop_of (telling a) schema) (runs_weaken (both_run leaves silent.runs)
-      (λ x p. (front_lifted (telling a) ps (durable a) next x p.0, λ s is. p.1.2 ∙ text p.1.0 p.1.1 s is))))
+      (λ x p. (front_lifted schema (telling a) ps (durable a) next x p.0, λ s is. p.1.2 ∙ text p.1.0 p.1.1 s is))))
 
 -- no fewer points are durable after a call than before it
 module _ (a b : LogView) (same : telling b ≡ telling a) (r : LogRuns a) (read : Reads a) (then_ : Reads b) (counts : (t : ℕ) (x : Left) → t ≤ b.clock.now → Now b.clock x → b.clock.left t x) where
@@ -117,20 +99,3 @@ module _ (tells : Bool) (sound sound' : Type 0) (a b : LogView) (schema : List �
     mark = λ t. ap (last_blocks (λ f. [])) (same t).0;
     points = λ t room. (ap (map (point_under schema)) (same t).0, (same t).1);
   }
-
--- what is told hangs together
-pub agrees_by : (tells : Bool) (sound : Type 0) (v : LogView) (schema : List ℕ) (next : ℕ) (counts : List ℕ) (said : Option (List ℕ)) (faults : Faults) (uses : Uses)
-    → (IsTrue tells → LogRuns v) → (IsTrue tells → Reads v) → (IsTrue tells → next ≡ logs.next v) → (IsTrue tells → (f : ℕ) → count_of counts f ≡ length (content v f)) → TellsText schema said v.clock
-    → BlocksAgree (held_of tells sound v schema next counts said faults uses)
-agrees_by tells sound v schema next counts said faults uses runs read numbered counted text = record {
-  counted = counted;
-  may_stop = λ t. (stop_of (telling v) schema (read t).0, ((read t).0, (read t).1, refl));
-  stop = λ t room. now_seen_as (stop_of (telling v) schema) v.clock (λ stop. Prefix (IsWhole (telling v)) (durable v) (map (point_under schema) (points v)) next stop × TextIs said stop)
-      (λ x now. (
-        front_lifted schema (telling v) (points v) (durable v) next x
-            (subst (λ n. LeavesPointsPrefix (telling v) (points v) (durable v) n x) (sym (numbered t)) (now_leaves (telling v) (lemmas.tells v (runs t) (read t)) (state v) (runs t).runs (read t) x now)),
-        text x now,
-      ));
-  here = λ t room. (sym (numbered t), λ told. refl);
-  durable = λ t room. omega (arith, points_enough (telling v) (lemmas.tells v (runs t) (read t)) (state v) (runs t).runs (read t), length-map (points v) (point_under schema));
-}

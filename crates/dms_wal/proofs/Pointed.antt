@@ -15,7 +15,8 @@ use Rattle.dms_restore.specs.Logging.{LogView, view, telling, state, points, dur
 use Rattle.dms_restore.proofs.Logs as lemmas
 use Rattle.dms_restore.proofs.Logs.{Reads}
 use Rattle.dms_wal.specs.Lifting.{point_under, stop_of, lifted, last_blocks, held_of}
-use Rattle.dms_wal.proofs.Lifts.{TellsText, front_lifted, leaves_lifted, last_here}
+use Rattle.dms_wal.specs.AgreeLaws.{TellsText, front_lifted}
+use Rattle.dms_wal.proofs.Lifts.{leaves_lifted, last_here}
 
 -- there is no further number
 pub quiet_none : (a : Held) → a.sound → (HasNextNumber a → ⊥) → MadeQuiet a a

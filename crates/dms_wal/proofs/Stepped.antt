@@ -21,14 +21,8 @@ use Rattle.dms_restore.specs.Logging.{LogView, telling, points, durable, content
 use Rattle.dms_wal.specs.declared.running.Running.{Running}
 use Rattle.dms_wal.specs.Lifting.{count_of}
 use Rattle.dms_wal.specs.Database.{held, view_of, said_of, faults_of, uses_of, IsUsable}
-use Rattle.dms_wal.proofs.Lifts.{TellsText, passes_by, stays_by, surer}
-
-none_not_some : {A : Type 0} (x : A) → None ≡ Some x → ⊥
-none_not_some x e = absurd cc
-
-text_at : (b : Bool) (said : List ℕ) (y : Left) → (IsTrue b → y.said ≡ said) → (s : List ℕ) → cond b (Some said) None ≡ Some s → y.said ≡ s
-text_at true said y is s same = is refl ∙ some_is said s same
-text_at false said y is s same = absurd (none_not_some s same)
+use Rattle.dms_wal.specs.AgreeLaws.{text}
+use Rattle.dms_wal.proofs.Lifts.{passes_by, stays_by, surer}
 
 -- a file with a block is one of the table
 pub in_table : (counts : List ℕ) (f b : ℕ) → b < count_of counts f → 30000 < f
@@ -55,9 +49,6 @@ looks_sound r n a sound uses room usable used = record {
 }
 
 module _ {S : Type 0} (g : Ghosts S) (now_said : (s : S) (x : Left) → IsTrue g.tells_said → Now (g.clock s) x → x.said ≡ g.said s) where
-  pub text : (schema : List ℕ) (log : Log S) → TellsText schema (said_of g log) (g.clock log.site)
-  text schema log y now s is = text_at g.tells_said (g.said log.site) y (λ t. now_said log.site y t now) s is
-
   module _ (r : Running S) (u : IsUsable g r) (l : Log S) (p : Pool) (b : Bool) (full : ℕ) (cs : Vec ℕ) (kind : telling (view_of g l) ≡ telling (view_of g r.log)) where
     abbrev pub after : Running S
     after = record r { log = l; pool = p; broken = b; full = full; counts = cs }
@@ -65,7 +56,7 @@ module _ {S : Type 0} (g : Ghosts S) (now_said : (s : S) (x : Left) → IsTrue g
     pub passes_step : length cs.items ≡ length r.counts.items → g.said l.site ≡ g.said r.log.site → (IsTrue g.tells → logs.LogLeaves (view_of g r.log) (view_of g l) (points (view_of g r.log)) (logs.next (view_of g r.log)))
         → (IsTrue g.tells → Steps PrintsNothing (g.clock r.log.site) (g.clock l.site)) → MakesNoPoint (held g r) (held g after)
     passes_step many said leaves silent = passes_by g.tells (IsUsable g r) (IsUsable g after) (view_of g r.log) (view_of g l) r.schema.items r.next r.next r.counts.items cs.items (said_of g r.log) (said_of g l)
-        (faults_of g r) (faults_of g after) (uses_of g r) (uses_of g after) kind many refl (ap (λ (s : List ℕ). cond g.tells_said (Some s) None) said) (λ t. (u.goes t).numbered) (text r.schema.items r.log) leaves silent
+        (faults_of g r) (faults_of g after) (uses_of g r) (uses_of g after) kind many refl (ap (λ (s : List ℕ). cond g.tells_said (Some s) None) said) (λ t. (u.goes t).numbered) (text g now_said r.schema.items r.log) leaves silent
 
     module _ (stay : (s : S) → IsTrue g.tells → (x : Left) × Now (g.clock s) x × (x.files ≡ g.files s)) (counts_now : (s : S) (t : ℕ) (x : Left) → t ≤ (g.clock s).now → Now (g.clock s) x → (g.clock s).left t x) where
       pub surer_step : (IsTrue g.tells) → (ps : List LivePoint) (next : ℕ) → logs.LogLeaves (view_of g r.log) (view_of g l) ps next → durable (view_of g r.log) ≤ durable (view_of g l)

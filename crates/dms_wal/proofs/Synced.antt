@@ -14,10 +14,10 @@ use Rattle.dms_wal.specs.declared.running.Running.{Running}
 use Rattle.dms_wal.specs.Lifting.{AreCounts}
 use Rattle.dms_wal.specs.Marks.{IsMarkOf}
 use Rattle.dms_wal.specs.Database.{held, view_of, said_of, faults_of, uses_of, IsUsable}
-use Rattle.dms_wal.proofs.Lifts.{agrees_by, passes_by, stays_by, surer}
+use Rattle.dms_wal.proofs.Lifts.{passes_by, stays_by, surer}
 use Rattle.dms_wal.proofs.Stills.{goes_still, goes_sealed, goes_quiet}
 use Rattle.dms_wal.proofs.Pointed.{quiet_made, quiet_leaves, sync_made, say_leaves}
-use Rattle.dms_wal.proofs.Stepped.{text}
+use Rattle.dms_wal.specs.AgreeLaws.{text}
 use Rattle.dms_wal.proofs.Pointing.{quiet_mark}
 
 -- the end of a trail that stays of its kind tells the same
@@ -26,11 +26,6 @@ kind_is total first = λ i. telling_of (total i) (first i)
 
 module _ {S : Type 0} (g : Ghosts S) (stay : (s : S) → IsTrue g.tells → (x : Left) × Now (g.clock s) x × (x.files ≡ g.files s)) (now_said : (s : S) (x : Left) → IsTrue g.tells_said → Now (g.clock s) x → x.said ≡ g.said s)
     (counts_now : (s : S) (t : ℕ) (x : Left) → t ≤ (g.clock s).now → Now (g.clock s) x → (g.clock s).left t x) (r : Running S) (u : IsUsable g r) where
-  -- what a usable database tells hangs together
-  pub agrees : BlocksAgree (held g r)
-  agrees = agrees_by g.tells (IsUsable g r) (view_of g r.log) r.schema.items r.next r.counts.items (said_of g r.log) (faults_of g r) (uses_of g r) (λ t. (u.goes t).runs) (λ t. stay r.log.site t) (λ t. (u.goes t).numbered) (λ t. (u.goes t).counted)
-      (text g now_said r.schema.items r.log)
-
   module _ (l : Log S) (kind : telling (view_of g l) ≡ telling (view_of g r.log)) where
     pub usable_sealed : (n : ℕ) → (IsTrue g.tells → LogRuns (view_of g l)) → (IsTrue g.tells → LogsNothing (view_of g r.log) (view_of g l)) → IsUsable g (record r { log = l; syncs = n })
     usable_sealed n runs nothing = record {

@@ -7,3 +7,5 @@ pub mod Writing
 pub mod Changing
 pub mod Controls
 pub mod Closing
+pub mod BackOuts
+pub mod AgreeLaws

@@ -11,8 +11,8 @@ use crate::Running;
 use dms_block::BlockFault;
 use dms_site::Site;
 
-/// The last audit file that a control point which closes may go on to.
-const LAST_AUDIT_FILE: u32 = 9999;
+/// The last audit file that may be written by a back-out and by the control point that closes.
+pub(crate) const LAST_AUDIT_FILE: u32 = 9999;
 
 impl<S: Site> Running<S> {
     /// Closes the database by a control point, and gives the site. The audit may go on up to file 9,999. Takes no memory.

@@ -14,7 +14,7 @@ use dms_block::BlockFault;
 use dms_site::Site;
 
 /// Copies a table of counts over another one of as many files.
-fn copy_counts(from: &[u32], to: &mut Vec<u32>)
+pub(crate) fn copy_counts(from: &[u32], to: &mut Vec<u32>)
     requires { length to.old.items ≡ length from.now }
     ensures { to.new.items ≡ from.now }
 {

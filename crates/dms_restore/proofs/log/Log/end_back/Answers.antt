@@ -1,0 +1,20 @@
+use Rattle.std.proofs.Common.{refl}
+use Rattle.dms_restore.proofs.Results.{one_ok}
+use Rattle.dms_restore.proofs.Endings.{end_starts, end_leave, ended}
+use Rattle.dms_restore.proofs.log.Log.end_back.Goals as goal
+
+pub returns-clause-ended : goal.returns-clause-ended
+returns-clause-ended g c = one_ok c.seal_control.result c.seal_control.ensures.sealed (λ sealed p tells by.
+    let read = g.met.S.Site.may_stay c.args.self.now.site tells in
+    ended p _ read c.args.description.now c.requires.some c.args.point c.args.next c.args.counts.now by _ c.seal_control.ensures.kind.0 refl
+    (sealed c.args.self.now.first tells (end_starts p _ read c.args.description.now c.requires.some c.args.point c.args.next c.args.counts.now by)))
+
+pub returns-clause-moments : goal.returns-clause-moments
+returns-clause-moments g c p tells by =
+    let read = g.met.S.Site.may_stay c.args.self.now.site tells in
+    end_leave p _ read c.args.description.now c.requires.some c.args.point c.args.next c.args.counts.now by _
+    (c.seal_control.ensures.moments c.args.self.now.first tells (end_starts p _ read c.args.description.now c.requires.some c.args.point c.args.next c.args.counts.now by))
+
+pub returns-clause-silent : goal.returns-clause-silent
+returns-clause-silent g c p tells by =
+    c.seal_control.ensures.silent c.args.self.now.first tells (end_starts p _ (g.met.S.Site.may_stay c.args.self.now.site tells) c.args.description.now c.requires.some c.args.point c.args.next c.args.counts.now by)

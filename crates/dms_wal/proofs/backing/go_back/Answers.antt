@@ -1,0 +1,37 @@
+use Rattle.std.proofs.Common.{refl}
+use Rattle.dms_restore.proofs.CountBytes.{counts_entry, counts_few}
+use Rattle.dms_restore.proofs.Results.{one_ok}
+use Rattle.dms_restore.specs.Logging.{telling_of}
+use Rattle.dms_wal.specs.Database.{view_of}
+use Rattle.dms_wal.proofs.Controlling.{count_table}
+use Rattle.dms_wal.proofs.BackedOut.{back_by, back_counts}
+use Rattle.dms_wal.proofs.Limits.{by_with, went_from, went_to, leaves_with}
+use Rattle.dms_wal.proofs.Reaching.{EndsAlike, runs_alike}
+use Rattle.dms_wal.proofs.backing.go_back.Goals as goal
+
+pub back_out-done-requires-clause-runs : goal.back_out-done-requires-clause-runs
+back_out-done-requires-clause-runs g c tells = runs_alike c.args.log.now.end _ (record { file = refl; total = refl; tag = refl; count = refl; used = refl; block = refl }) c.args.log.now.first _ _ (c.requires.runs tells)
+
+pub back_out-done-requires-clause-by : goal.back_out-done-requires-clause-by
+back_out-done-requires-clause-by g c tells =
+    by_with c.args.log.now.end _ (record { file = refl; total = refl; tag = refl; count = refl; used = refl; block = refl }) c.args.log.now.first _ _ c.args.point c.args.next _
+    (back_by (view_of g.S.Site c.args.log.now) (c.requires.runs tells) (g.met.S.Site.may_stay c.args.log.now.site tells) c.args.point c.args.next c.args.marks.now _ (c.requires.numbered tells) (c.requires.pointed tells) c.requires.table c.count_bytes-used.ensures.bytes)
+
+pub back_out-done-requires-clause-control : goal.back_out-done-requires-clause-control
+back_out-done-requires-clause-control g c = counts_entry c.args.marks.now (count_table _ c.requires.table) _ c.count_bytes-used.ensures.bytes c.args.point c.args.next c.ranges.point.fits c.ranges.next.fits
+
+pub back_out-done-requires-clause-size : goal.back_out-done-requires-clause-size
+back_out-done-requires-clause-size g c = counts_few c.args.marks.now (count_table _ c.requires.table) _ c.count_bytes-used.ensures.bytes
+
+pub returns-clause-back : goal.returns-clause-back
+returns-clause-back g c = one_ok c.back_out-done.result c.back_out-done.ensures.back (λ back tells.
+    back_counts _ _ c.args.point c.args.next c.args.schema.now c.args.marks.now _ c.requires.table c.count_bytes-used.ensures.bytes
+    (went_to c.back_out-done.new.self.end _ (record { file = refl; total = refl; tag = refl; count = refl; used = refl; block = refl }) c.back_out-done.new.self.first _ _ (view_of g.S.Site c.args.log.now) c.args.point _
+    (went_from c.args.log.now.end _ (record { file = refl; total = refl; tag = refl; count = refl; used = refl; block = refl }) c.args.log.now.first _ _ (view_of g.S.Site c.back_out-done.new.self) c.args.point _ (back tells))))
+
+pub returns-clause-moments : goal.returns-clause-moments
+returns-clause-moments g c tells =
+    leaves_with c.args.log.now.end _ (record { file = refl; total = refl; tag = refl; count = refl; used = refl; block = refl }) c.args.log.now.first _ _ _ (c.back_out-done.ensures.moments tells)
+
+pub returns-clause-kind : goal.returns-clause-kind
+returns-clause-kind g c = λ i. telling_of (c.back_out-done.ensures.kind.0 i) (c.back_out-done.ensures.kind.3 i)

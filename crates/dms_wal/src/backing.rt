@@ -1,0 +1,113 @@
+//! Going back to the last quiet point.
+
+ghost use Rattle.std.specs.Prelude.{◌≡◌, ◌⊎◌, ◌<◌, IfErr, IsErrOf, IsTrue, OnOk, true};
+ghost use Rattle.dms_moments.specs.Moments.{Steps};
+ghost use Rattle.dms_block.specs.Held.{HasCauses, MakesNoPoint, Stays, WentBack};
+ghost use Rattle.dms_audfile.specs.Counting.{CountedAt};
+ghost use Rattle.dms_restore.specs.BackOuts.{IsBackFault, WentBackTo};
+ghost use Rattle.dms_restore.specs.Logging as logs;
+ghost use Rattle.dms_restore.specs.Logging.{telling, points, LogLeaves, LogRuns, PrintsNothing};
+ghost use Rattle.dms_wal.specs.BackOuts.{entries_back};
+ghost use Rattle.dms_wal.specs.Controls.{KeepsPace};
+ghost use Rattle.dms_wal.specs.Lifting.{AreCounts};
+ghost use Rattle.dms_wal.specs.Marks.{IsDescription, IsMarkOf};
+ghost use Rattle.dms_wal.specs.Database.{held, view_of};
+ghost use Rattle.dms_wal.specs.Faults.{IsSeenInBack};
+
+use crate::Running;
+use crate::closing::LAST_AUDIT_FILE;
+use crate::faults::append_fault;
+use crate::points::copy_counts;
+use dms_audfile::AudFault;
+use dms_block::BlockFault;
+use dms_restore::{Log, count_bytes};
+use dms_site::Site;
+use std::alloc::Global;
+
+/// What a fault of a back-out is to a caller of blocks. Full is counted.
+fn back_fault(fault: AudFault, full: &mut u64) -> BlockFault
+    ensures { IsSeenInBack fault result full.old full.new }
+{
+    match fault {
+        AudFault::Memory => BlockFault::Memory,
+        other => append_fault(other, full),
+    }
+}
+
+/// Takes a log back to its last point, which has these counts. It may go on up to audit file 9,999.
+fn go_back<S: Site>(
+    log: &mut Log<S>,
+    alloc: Global,
+    point: u64,
+    schema: &[u8],
+    next: u64,
+    marks: &[u32],
+) -> Result<(), AudFault>
+    requires described { IsDescription schema.now }
+    requires table { AreCounts marks.now }
+    requires runs { IsTrue S.tells → LogRuns (view_of S.Site log.old) }
+    requires numbered { IsTrue S.tells → next ≡ logs.next (view_of S.Site log.old) }
+    requires pointed { IsTrue S.tells → IsMarkOf (points (view_of S.Site log.old)) point marks.now }
+    ensures back { OnOk result (IsTrue S.tells → WentBackTo point (view_of S.Site log.old) (view_of S.Site log.new) (entries_back point schema.now next marks.now)) }
+    ensures moments { IsTrue S.tells → let a = view_of S.Site log.old in LogLeaves a (view_of S.Site log.new) (points a) (logs.next a) }
+    ensures silent { IsTrue S.tells → Steps PrintsNothing (S.clock log.old.site) (S.clock log.new.site) }
+    ensures kind { telling (view_of S.Site log.new) ≡ telling (view_of S.Site log.old) }
+    ensures limit { log.new.end.limit ≡ log.old.end.limit }
+    ensures only { IfErr result (IsBackFault 9999) }
+    ensures full { IsErrOf result (AudFault.Full 9999) → (log.new.end.used ≡ 0) × (19999 < log.new.end.file) }
+    ensures said { S.said log.new.site ≡ S.said log.old.site }
+    ensures same_site { S.same_site log.old.site log.new.site }
+    ensures disk { CountedAt (IsErrOf result AudFault.Disk) (S.disk_faults log.old.site) (S.disk_faults log.new.site) }
+    ensures say_faults { S.say_faults log.new.site ≡ S.say_faults log.old.site }
+{
+    let mut room = [0u8; 1600];
+    let used = count_bytes(marks, &mut room);
+    let limit = log.end.limit;
+    log.end.limit = LAST_AUDIT_FILE;
+    let done = log.back_out(alloc, point, schema, next, &room[..used]);
+    log.end.limit = limit;
+    done
+}
+
+impl<S: Site> Running<S> {
+    /// Goes back to the last point: what waits is sealed, then one Begin alone, and then one Schema with its Control.
+    ///
+    /// Reads the whole audit once, and then holds no block in memory. Answers Disk, Memory, and Full(9999) where all audit files are
+    /// full. After each of them the next opening goes on with what was begun.
+    pub fn back_out(&mut self, alloc: Global) -> Result<(), BlockFault>
+        requires { (held S.Site self.old).sound }
+        ensures content { OnOk result (IsTrue (held S.Site self.old).told → (held S.Site self.new).content ≡ (held S.Site self.old).mark) }
+        ensures stays { OnOk result (Stays (held S.Site self.old) (held S.Site self.new)) }
+        ensures passes { MakesNoPoint (held S.Site self.old) (held S.Site self.new) }
+        ensures uses { WentBack result (held S.Site self.old).uses (held S.Site self.new).uses }
+        ensures back { OnOk result (IsTrue S.tells → WentBackTo self.old.point (view_of S.Site self.old.log) (view_of S.Site self.new.log) (entries_back self.old.point self.old.schema.items self.old.next self.old.marks.items)) }
+        ensures counts { OnOk result (self.new.counts.items ≡ self.old.marks.items) }
+        ensures kept { (self.new.schema ≡ self.old.schema) × (self.new.next ≡ self.old.next) × (self.new.point ≡ self.old.point) × (self.new.marks ≡ self.old.marks) }
+        ensures pace { KeepsPace self.old self.new }
+        ensures only { IfErr result (λ e. (e ≡ BlockFault.Disk) ⊎ ((e ≡ BlockFault.Memory) ⊎ (e ≡ BlockFault.Full 9999))) }
+        ensures full { IsErrOf result (BlockFault.Full 9999) → (self.new.log.end.used ≡ 0) × (19999 < self.new.log.end.file) }
+        ensures causes { HasCauses result (held S.Site self.old) (held S.Site self.new) }
+        ensures silent { IsErrOf result BlockFault.Say → ⊥ }
+        ensures broken { IfErr result (λ e. self.new.broken ≡ true) }
+        ensures same { S.same_site self.old.log.site self.new.log.site }
+    {
+        match go_back(
+            &mut self.log,
+            alloc,
+            self.point,
+            &self.schema,
+            self.next,
+            &self.marks,
+        ) {
+            Ok(()) => {}
+            Err(fault) => {
+                self.broken = true;
+                return Err(back_fault(fault, &mut self.full));
+            }
+        }
+        self.pool.clear();
+        copy_counts(&self.marks, &mut self.counts);
+        self.outs = self.outs.saturating_add(1);
+        Ok(())
+    }
+}
