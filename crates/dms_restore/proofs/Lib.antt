@@ -19,3 +19,8 @@ pub mod ReadOn
 pub mod PendingTables
 pub mod SpotParts
 pub mod Numbered
+pub mod Judges
+pub mod Spanned
+pub mod Describes
+pub mod Refused
+pub mod Chosen

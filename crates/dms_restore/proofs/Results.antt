@@ -1,5 +1,5 @@
 -- Facts of a call by its answer.
-use Rattle.std.specs.Prelude.{ℕ, ◌+◌, ◌≤◌, ◌≡◌, OnOk, IfOk, IsErrOf}
+use Rattle.std.specs.Prelude.{ℕ, ◌+◌, ◌≤◌, ◌≡◌, OnOk, IfOk, IfErr, IsErrOf}
 use Rattle.std.proofs.Common.{subst}
 use Rattle.std.specs.declared.result.Result.{Result}
 use Rattle.std.specs.declared.result.Result.TheVariants.{Ok, Err}
@@ -55,3 +55,7 @@ one_if_ok (Err e) one f = tt
 pub two_if_ok : {T E : Type 0} {P Q R : T → Type 0} (r : Result T E) → IfOk r P → IfOk r Q → ((v : T) → P v → Q v → R v) → IfOk r R
 two_if_ok (Ok x) one two f = f x one two
 two_if_ok (Err e) one two f = tt
+
+pub one_if_err : {T E : Type 0} {P R : E → Type 0} (r : Result T E) → IfErr r P → ((e : E) → P e → R e) → IfErr r R
+one_if_err (Ok x) one f = tt
+one_if_err (Err e) one f = f e one

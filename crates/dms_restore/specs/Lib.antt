@@ -8,4 +8,9 @@ pub mod Endings
 pub mod Scanned
 pub mod LiveEntries
 pub mod Named
+pub mod Judged
+pub mod SchemaSpans
+pub mod Refusals
+pub mod Choices
+pub mod Traces
 pub mod Tracing

@@ -3,9 +3,12 @@
 #![tactic(auto)]
 
 mod begun;
+mod choosing;
 mod counting;
 mod ending;
 mod laying;
+mod describing;
+mod judging;
 mod live;
 mod log;
 mod naming;
@@ -14,15 +17,21 @@ mod opening;
 mod pending;
 mod placing;
 mod reading;
+mod refusing;
 mod restoring;
 mod resuming;
 mod scanning;
+mod schemas;
 mod table;
 mod told;
+mod trace;
 mod tracing;
 mod trail_scan;
 
 pub use begun::{Begun, Restored};
+pub use choosing::{Choice, OpenFault};
+pub use describing::read_schema;
+pub use judging::{PointFault, is_live, judge_point};
 pub use counting::count_bytes;
 pub use live::{ControlAt, HowAt, ImageAt, LiveEntry, PendingAt, Spot};
 pub use log::Log;
@@ -30,6 +39,8 @@ pub use placing::place;
 pub use reading::read_trail;
 pub use resuming::Resumed;
 pub use scanning::{Found, Scanned};
+pub use schemas::{SchemaHistory, SchemaSpan};
 pub use table::table_of;
 pub use told::Told;
+pub use trace::TrailTrace;
 pub use tracing::TrailHistory;
