@@ -1,23 +1,22 @@
 -- What an opening does that isn't refused.
-use Rattle.std.proofs.Common.{ℕ, ◌≡◌, ◌⊎◌, inl, inr, Bool, true, false, List, Option, Some, None, refl, sym, ◌∙◌, ap, subst}
+use Rattle.std.proofs.Common.{ℕ, ◌≡◌, inl, inr, true, false, List, Option, Some, None, refl, sym, ◌∙◌, ap, subst}
 use Rattle.dms_site.specs.Files.{Files}
-use Rattle.dms_history.specs.Events.{Event, How, halt_load, back_out, roll_back, rebuild, reconstruct}
+use Rattle.dms_history.specs.Events.{How, halt_load, back_out, roll_back, rebuild, reconstruct}
 use Rattle.dms_history.specs.Places.{IsLive}
-use Rattle.dms_history.specs.History.{Pending, History, last_point}
+use Rattle.dms_history.specs.History.{History, last_point}
 use Rattle.dms_history.specs.Judge.{PointRefusal, judge_point}
 use Rattle.dms_history.specs.Entries.{Entry}
-use Rattle.dms_history.specs.EntryEvents.{history_of, live_of, next_of}
+use Rattle.dms_history.specs.EntryEvents.{history_of, next_of}
 use Rattle.dms_history.proofs.Judging.{each_judged}
 use Rattle.dms_running.specs.Begun.{ByAudit}
 use Rattle.dms_restore.specs.declared.choosing.OpenFault.{OpenFault}
 use Rattle.dms_restore.specs.declared.choosing.OpenFault.TheVariants.{ByDump}
-use Rattle.dms_restore.specs.declared.choosing.Choice.{Choice}
 use Rattle.dms_restore.specs.declared.judging.PointFault.{PointFault}
 use Rattle.dms_restore.specs.declared.live.PendingAt.{PendingAt}
 use Rattle.dms_restore.specs.declared.tracing.TrailHistory.{TrailHistory}
 use Rattle.dms_restore.specs.Judged.{refusal_of}
-use Rattle.dms_restore.specs.Refusals.{RefusedPoint, at_point, judge_pending, judge_last, or_then, judge_opening, refusal_at, IsOpening, dump_by, dump_in}
-use Rattle.dms_restore.specs.Choices.{IsOfPoint, PointIsRefused, RefusedByPoint, RefusesOpening, Chooses}
+use Rattle.dms_restore.specs.Refusals.{RefusedPoint, at_point, judge_pending, judge_last, or_then, judge_opening, refusal_at, dump_by, dump_in}
+use Rattle.dms_restore.specs.Choices.{PointIsRefused, RefusesOpening, Chooses}
 use Rattle.dms_restore.specs.Tracing.{MatchesHow, IsTraced}
 use Rattle.dms_restore.proofs.Refused.{none_pending, some_pending}
 

@@ -1,5 +1,5 @@
 -- The bytes of a Schema are read from the places of its parts.
-use Rattle.std.proofs.Common.{ℕ, zero, suc, ◌+◌, ◌-◌, ◌<◌, ◌≤◌, min, ◌≡◌, ◌⊎◌, inl, inr, Bool, true, false, List, [], ◌∷◌, ◌++◌, map, length, take, drop, get_or, Option, Some, None, IsTrue, refl, sym, ◌∙◌, ap, subst, arith, append_assoc, append-nil}
+use Rattle.std.proofs.Common.{ℕ, zero, suc, ◌+◌, ◌-◌, ◌<◌, ◌≤◌, min, ◌≡◌, ◌⊎◌, inl, inr, Bool, true, false, List, [], ◌∷◌, ◌++◌, map, length, take, drop, get_or, Some, None, refl, sym, ◌∙◌, ap, arith, append_assoc}
 use Rattle.std.proofs.lemmas.Bool.{cases_lt}
 use Rattle.std.proofs.lemmas.List.{take_all}
 use Rattle.dms_site.specs.Files.{Files}
@@ -13,7 +13,7 @@ use Rattle.dms_audfile.specs.Scanning.{Placed, place_in, entry_in}
 use Rattle.dms_audfile.specs.AuditTrail.{entry_there, AreThere}
 use Rattle.dms_audfile.specs.declared.place.Place.{Place}
 use Rattle.dms_audfile.specs.declared.fault.AudFault.{AudFault}
-use Rattle.dms_audfile.specs.declared.fault.AudFault.TheVariants.{Disk, Damaged, Memory}
+use Rattle.dms_audfile.specs.declared.fault.AudFault.TheVariants.{Disk, Memory}
 use Rattle.dms_restore.specs.declared.live.LiveEntry.{LiveEntry}
 use Rattle.dms_restore.specs.declared.schemas.SchemaSpan.{SchemaSpan}
 use Rattle.dms_restore.specs.declared.trace.TrailTrace.{TrailTrace}

@@ -1,13 +1,13 @@
 -- The refusals of a point, by what is live.
 use Rattle.std.specs.Prelude.{◌&&◌, nat_le}
-use Rattle.std.proofs.Common.{ℕ, ◌+◌, ◌≤◌, ◌<◌, ◌≡◌, ◌==◌, inl, inr, Bool, true, false, cond, List, [], ◌∷◌, Option, Some, None, refl, sym, ◌∙◌, ap, subst, arith}
+use Rattle.std.proofs.Common.{ℕ, ◌≤◌, ◌<◌, ◌≡◌, inl, inr, Bool, true, false, List, [], ◌∷◌, Some, None, refl, sym, ◌∙◌, subst, arith}
 use Rattle.std.proofs.lemmas.Bool.{cases_lt}
 use Rattle.std.proofs.lemmas.Bool.Decides.{nat_tests}
 use Rattle.dms_history.specs.Events.{Event, change, quiet, control, begin}
 use Rattle.dms_history.specs.Lists.{has, until_first}
 use Rattle.dms_history.specs.Places.{is_point, is_described, IsLive}
-use Rattle.dms_history.specs.Judge.{no_such_point, audit_missing, voided, is_live, judge_point, EachJudged}
-use Rattle.dms_history.proofs.AtPoints.{bool_cases, true_or, or_true_right}
+use Rattle.dms_history.specs.Judge.{no_such_point, audit_missing, voided, is_live, judge_point}
+use Rattle.dms_history.proofs.AtPoints.{true_or, or_true_right}
 use Rattle.dms_history.proofs.HalfDone.{or_at}
 use Rattle.dms_history.proofs.Order.{eq_of}
 use Rattle.dms_history.proofs.Judging.{each_judged}
@@ -83,7 +83,10 @@ judged_void live next n low off on =
     ]
 
 pub judged_missing : (live : List Event) (next n : ℕ) → n < next → has (is_low live n) live ≡ false → judge_point live next n ≡ Some audit_missing
-judged_missing live next n low none = (each_judged live next n).missing.1 (low, λ m at. elim (cases_lt n m) [
-  | inl above ↦ above
-  | inr le ↦ absurd (true_not_false (sym (found_low live n m live at le at.found) ∙ none))
-])
+judged_missing live next n low none = (each_judged live next n).missing.1 (
+  low,
+  λ m at. elim (cases_lt n m) [
+    | inl above ↦ above
+    | inr le ↦ absurd (true_not_false (sym (found_low live n m live at le at.found) ∙ none))
+  ],
+)

@@ -1,9 +1,9 @@
 -- The refusal of an opening by its points.
-use Rattle.std.proofs.Common.{ℕ, ◌≤◌, min, ◌≡◌, List, [], ◌∷◌, ◌++◌, length, take, Option, Some, None, refl, sym, ◌∙◌, ap, subst, arith}
+use Rattle.std.proofs.Common.{ℕ, min, ◌≡◌, List, ◌++◌, length, take, Option, Some, None, refl, sym, ◌∙◌, ap, subst, arith}
 use Rattle.dms_site.specs.Files.{Files}
 use Rattle.dms_history.specs.Events.{Event}
 use Rattle.dms_history.specs.History.{Pending, last_point}
-use Rattle.dms_history.specs.Judge.{PointRefusal, judge_point}
+use Rattle.dms_history.specs.Judge.{judge_point}
 use Rattle.dms_history.specs.Entries.{Entry}
 use Rattle.dms_history.specs.EntryEvents.{history_of, live_of, next_of}
 use Rattle.dms_restore.specs.declared.judging.PointFault.{PointFault}

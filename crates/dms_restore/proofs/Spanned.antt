@@ -1,5 +1,5 @@
 -- One more entry of a trail whose Schemas are kept in memory.
-use Rattle.std.specs.Prelude.{if◌then◌else◌, ◌==◌, ◌||◌, ◌&&◌, nat_lt}
+use Rattle.std.specs.Prelude.{if◌then◌else◌, ◌==◌, ◌||◌, ◌&&◌}
 use Rattle.std.proofs.lemmas.Bool.{cases_lt, cases_eq}
 use Rattle.std.proofs.lemmas.List.{take_all}
 use Rattle.dms_history.proofs.Order.{eq_of, append_none}
@@ -10,16 +10,16 @@ use Rattle.std.proofs.lemmas.Bool.Decides.{nat_tests}
 use Rattle.dms_history.specs.Events.{Block, Event, change, quiet, control, begin}
 use Rattle.dms_history.specs.Lists.{has, until_first}
 use Rattle.dms_history.specs.Places.{is_point}
-use Rattle.dms_history.specs.Ranges.{Logged, event, all_changes, told_events}
+use Rattle.dms_history.specs.Ranges.{Logged, all_changes, told_events}
 use Rattle.dms_history.specs.History.{History, history}
 use Rattle.dms_history.specs.declared.event.FileCount.{FileCount}
 use Rattle.dms_history.specs.Entries.{counts_in, how_of, Entry, Kind, schema_part, image, byte_range, quiet_point, control_point, begin_restore}
 use Rattle.dms_history.specs.Schemas.{Parts, no_parts, after_entry, parts_from, is_whole}
-use Rattle.dms_history.specs.EntryEvents.{logged_from, logged, is_place, live_after, live_entries_from, live_entries, live_of}
+use Rattle.dms_history.specs.EntryEvents.{logged, is_place, live_after, live_entries_from, live_entries, live_of}
 use Rattle.dms_history.specs.SchemaAt.{SchemaRead, no_schema, after_schema, last_schema, schema_of, schema_at}
 use Rattle.dms_history.specs.LawsOfSchemas.{is_begun}
-use Rattle.dms_history.proofs.AtPoints.{bool_cases, true_or, or_true_right, or_no}
-use Rattle.dms_history.proofs.HalfDone.{or_at, until_until, has_front}
+use Rattle.dms_history.proofs.AtPoints.{bool_cases}
+use Rattle.dms_history.proofs.HalfDone.{until_until, has_front}
 use Rattle.dms_history.proofs.Stops.{until_append}
 use Rattle.dms_history.proofs.Turns.{live_of_ranges, changes_until, changes_push, until_at}
 use Rattle.dms_history.proofs.Schemas.{cut_logged, live_of_entries, logged_append}
@@ -380,20 +380,18 @@ module _ (entries : List Entry) (part parts : ℕ) (bytes : List ℕ) (old new :
       elim (cases_eq part 1) [
         | inl one ↦
             let is = goes.first one in
-            let on : (part == 1) ≡ true = test part 1 one in
-            (
+            let on : (part == 1) ≡ true = test part 1 one in (
               ap (λ b. cond b bytes (r.bytes ++ bytes)) on
-              ∙ sym (ap (λ k. part_bytes (drop k (entries ++ e ∷ []))) is.1 ∙ ap part_bytes (drop_push (length entries) entries e (omega arith) ∙ ap (λ (l : List Entry). l ++ e ∷ []) (drop_end (length entries) entries refl)) ∙ append_none bytes),
+                  ∙ sym (ap (λ k. part_bytes (drop k (entries ++ e ∷ []))) is.1 ∙ ap part_bytes (drop_push (length entries) entries e (omega arith) ∙ ap (λ (l : List Entry). l ++ e ∷ []) (drop_end (length entries) entries refl)) ∙ append_none bytes),
               omega (arith, is.0, is.1, length-append entries (e ∷ [])),
             )
         | inr other ↦
             let is = goes.follows other some in
             let off : (part == 1) ≡ false = no_test part 1 other in
             let was = t.reading is.2 in
-            let low : old.begun ≤ length entries = omega (arith, was.1) in
-            (
+            let low : old.begun ≤ length entries = omega (arith, was.1) in (
               ap (λ b. cond b bytes (r.bytes ++ bytes)) off ∙ ap (λ (l : List ℕ). l ++ bytes) was.0
-              ∙ sym (ap (λ k. part_bytes (drop k (entries ++ e ∷ []))) is.1 ∙ ap part_bytes (drop_push old.begun entries e low) ∙ bytes_push (drop old.begun entries) part parts bytes),
+                  ∙ sym (ap (λ k. part_bytes (drop k (entries ++ e ∷ []))) is.1 ∙ ap part_bytes (drop_push old.begun entries e low) ∙ bytes_push (drop old.begun entries) part parts bytes),
               omega (arith, is.0, is.1, was.1, length-append entries (e ∷ [])),
             )
       ]

@@ -1,8 +1,7 @@
 -- What an opening does, and why it is refused.
-use Rattle.std.specs.Prelude.{ℕ, ◌-◌, ◌≡◌, ◌⊎◌, Option, Some, None}
+use Rattle.std.specs.Prelude.{ℕ, ◌-◌, ◌≡◌, ◌⊎◌, Some, None}
 use Rattle.dms_history.specs.History.{Pending, History}
 use Rattle.dms_history.specs.Judge.{no_such_point, audit_missing, voided}
-use Rattle.dms_audfile.specs.declared.fault.AudFault.{AudFault}
 use Rattle.dms_audfile.specs.declared.fault.AudFault.TheVariants as aud
 use Rattle.dms_restore.specs.declared.judging.PointFault.{PointFault}
 use Rattle.dms_restore.specs.declared.choosing.OpenFault.{OpenFault}

@@ -90,11 +90,7 @@ fn read_part<S: Site>(
 }
 
 /// Reads the parts of a Schema that stand at these places.
-fn read_parts<S: Site>(
-    alloc: Global,
-    site: &mut S,
-    parts: &[Place],
-) -> Result<Vec<u8>, AudFault>
+fn read_parts<S: Site>(alloc: Global, site: &mut S, parts: &[Place]) -> Result<Vec<u8>, AudFault>
     ensures bytes { IfOk result (λ v. IsTrue S.tells → (placed : List Placed) → parts.now ≡ map place_in placed → AreThere (S.files site.old) placed → v.items ≡ part_bytes (map entry_in placed)) }
     ensures only { IfErr result (λ e. (e ≡ AudFault.Disk) ⊎ ((e ≡ AudFault.Memory) ⊎ IsNoEntryOf S.tells (S.files site.old) parts.now e)) }
     ensures reads { OnlyReads S.tells (S.files site.old) (S.files site.new) (S.said site.old) (S.said site.new) (S.clock site.old) (S.clock site.new) (S.disk_faults site.old) (S.disk_faults site.new) (S.say_faults site.old) (S.say_faults site.new) }

@@ -5,10 +5,10 @@
 mod begun;
 mod choosing;
 mod counting;
-mod ending;
-mod laying;
 mod describing;
+mod ending;
 mod judging;
+mod laying;
 mod live;
 mod log;
 mod naming;
@@ -30,9 +30,9 @@ mod trail_scan;
 
 pub use begun::{Begun, Restored};
 pub use choosing::{Choice, OpenFault};
+pub use counting::count_bytes;
 pub use describing::read_schema;
 pub use judging::{PointFault, is_live, judge_point};
-pub use counting::count_bytes;
 pub use live::{ControlAt, HowAt, ImageAt, LiveEntry, PendingAt, Spot};
 pub use log::Log;
 pub use placing::place;

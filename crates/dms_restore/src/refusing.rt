@@ -8,7 +8,6 @@ ghost use Rattle.dms_history.specs.Entries as meaning;
 ghost use Rattle.dms_history.specs.EntryEvents.{history_of, live_of, next_of};
 ghost use Rattle.dms_restore.specs.Judged.{refusal_seen};
 ghost use Rattle.dms_restore.specs.Refusals.{at_point, judge_last, judge_opening, refusal_at};
-
 ghost use Rattle.dms_restore.specs.Tracing.{IsPendingAt, IsTraced};
 
 use crate::judging::judge_point;

@@ -1,4 +1,4 @@
-use Rattle.std.proofs.Common.{◌≡◌, inr, ◌∷◌, [], ◌++◌, Some, refl, sym, ◌∙◌, ap, List, ℕ}
+use Rattle.std.proofs.Common.{◌≡◌, inr, ◌∷◌, [], ◌++◌, Some, refl, sym, ◌∙◌, ap}
 use Rattle.std.specs.Prelude.{option_map}
 use Rattle.dms_history.specs.Entries.{Entry}
 use Rattle.dms_history.proofs.Picks.{some_is}

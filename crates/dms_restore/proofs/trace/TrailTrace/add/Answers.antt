@@ -1,4 +1,4 @@
-use Rattle.std.proofs.Common.{◌≡◌, List, [], ◌∷◌, ◌++◌, length, ap, arith}
+use Rattle.std.proofs.Common.{◌≡◌, [], ◌∷◌, ◌++◌, length, ap, arith}
 use Rattle.dms_history.specs.EntryEvents.{live_of}
 use Rattle.dms_audrec.specs.Seen.{entry_seen}
 use Rattle.dms_restore.proofs.Results.{one_ok}

@@ -1,4 +1,4 @@
-use Rattle.std.proofs.Common.{◌-◌, None, get_or, List, Option, length, sym, ◌∙◌, ap, arith}
+use Rattle.std.proofs.Common.{◌-◌, None, get_or, List, Option, length, ◌∙◌, ap, arith}
 use Rattle.dms_restore.specs.declared.schemas.SchemaSpan.{SchemaSpan}
 use Rattle.dms_restore.specs.SchemaSpans.{span_bytes}
 use Rattle.dms_restore.proofs.Describes.{schema_there, no_place_there}
