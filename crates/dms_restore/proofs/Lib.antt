@@ -24,3 +24,7 @@ pub mod Spanned
 pub mod Describes
 pub mod Refused
 pub mod Chosen
+pub mod Counted
+pub mod Started
+pub mod GoneOn
+pub mod Prepared

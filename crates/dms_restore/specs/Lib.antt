@@ -12,5 +12,7 @@ pub mod Judged
 pub mod SchemaSpans
 pub mod Refusals
 pub mod Choices
+pub mod PointCounts
+pub mod Starts
 pub mod Traces
 pub mod Tracing

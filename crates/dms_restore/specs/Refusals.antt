@@ -1,17 +1,12 @@
 -- Why a database can't be opened at its points.
 use Rattle.std.specs.Prelude.{ℕ, ◌≡◌, Bool, true, false, List, Option, Some, None}
-use Rattle.dms_site.specs.Files.{Files}
 use Rattle.dms_history.specs.Events.{Event, How, halt_load, back_out, roll_back, rebuild, reconstruct}
 use Rattle.dms_history.specs.Places.{IsLive}
 use Rattle.dms_history.specs.History.{Pending, History, last_point}
 use Rattle.dms_history.specs.Judge.{PointRefusal, audit_missing, judge_point}
 use Rattle.dms_restore.specs.declared.judging.PointFault.{PointFault}
 use Rattle.dms_running.specs.Begun.{ByAudit}
-use Rattle.dms_restore.specs.declared.live.PendingAt.{PendingAt}
-use Rattle.dms_restore.specs.declared.tracing.TrailHistory.{TrailHistory}
 use Rattle.dms_restore.specs.Judged.{refusal_of}
-use Rattle.dms_restore.specs.LiveEntries.{AllHaveWholeBlocks}
-use Rattle.dms_restore.specs.Tracing.{IsPendingAt}
 
 -- a point and why it can't be had
 pub record RefusedPoint : Type 0 where
@@ -52,14 +47,6 @@ pub record IsOpening (h : History) (begins : Bool) (point : ℕ) (p : Pending) :
   pub point_is : p.point ≡ point
   pub new : begins ≡ true → (h.pending ≡ None) × (last_point h ≡ Some point) × IsLive h.live point × (p ≡ record { entries = h.live; point = point; how = halt_load })
   pub goes_on : begins ≡ false → (h.pending ≡ Some p) × ByAudit p.how
-
--- the pending restore as it is kept in memory
-pub record HoldsPending (files : Files) (h : TrailHistory) (p : Pending) : Type 0 where
-  pub q : PendingAt
-  pub is : h.pending ≡ Some q
-  pub at : IsPendingAt files h.live.items h.removed.items q p
-  pub live_whole : AllHaveWholeBlocks files h.live.items
-  pub removed_whole : AllHaveWholeBlocks files h.removed.items
 
 -- the number of the dump by which a restore goes
 abbrev pub dump_by : How → Option ℕ
