@@ -267,3 +267,20 @@ small_none old none f = omega (arith, none_counted old none f)
 
 pub small_all : (new items : List ℕ) → items ≡ new → AllAtMost new → AllAtMost items
 small_all new items copied small f = subst (λ (l : List ℕ). count_of l f ≤ 2097152) (sym copied) (small f)
+
+-- so it is among all of which they are the first ones, in a list that was lent
+pub none_in_front : (tells : Bool) (files : Files) (k : ℕ) (live lent : List LiveEntry) (fault : AudFault) → lent ≡ live → (fault ≡ Disk) ⊎ ((fault ≡ Memory) ⊎ IsNoCountAmong tells files (take k lent) fault)
+    → (fault ≡ Disk) ⊎ ((fault ≡ Memory) ⊎ IsNoCountAmong tells files live fault)
+none_in_front tells files k live lent fault same is = elim is [
+  | inl disk ↦ inl disk
+  | inr rest ↦ elim rest [
+    | inl memory ↦ inr (inl memory)
+    | inr none ↦ inr (inr (record {
+      entry = none.entry;
+      before = none.before;
+      after = none.after ++ drop k live;
+      among = sym (take-append-drop k live) ∙ ap (λ (l : List LiveEntry). l ++ drop k live) (ap (λ (l : List LiveEntry). take k l) (sym same) ∙ none.among) ∙ append_assoc none.before (none.entry ∷ none.after) (drop k live);
+      is = none.is;
+    }))
+  ]
+]

@@ -1,5 +1,5 @@
 -- A restore goes on to its Control.
-use Rattle.std.proofs.Common.{ℕ, ◌<◌, ◌≡◌, List, length, sym, ◌∙◌, ap, subst, arith}
+use Rattle.std.proofs.Common.{ℕ, ◌<◌, ◌≡◌, List, ◌++◌, length, sym, ◌∙◌, ap, subst, arith}
 use Rattle.dms_moments.specs.Moments.{Clock, Runs}
 use Rattle.dms_moments.specs.MomentLaws.{runs_on}
 use Rattle.dms_site.specs.Files.{Left, stored_of}
@@ -10,6 +10,7 @@ use Rattle.dms_history.specs.Here.{outcome, here_by}
 use Rattle.dms_history.specs.Points.{LivePoint}
 use Rattle.dms_history.specs.Entries.{Entry}
 use Rattle.dms_history.proofs.Base.{content_length}
+use Rattle.dms_history.proofs.Order.{append_none}
 use Rattle.dms_running.specs.Telling.{Telling}
 use Rattle.dms_running.specs.Points.{points_of, next_in, LeavesPointsPrefix}
 use Rattle.dms_running.specs.Begun.{LeavesAll, outcome_now}
@@ -39,9 +40,10 @@ module _ (p : Pending) (a b : LogView) (table : List Told) (point next : ℕ) (c
   pub ends_by : EndsBy p b point next counts
   ends_by = record { begun = begun; restored = restored; point_is = m.point_is; next_is = m.next_is ∙ sym keeps.next_same; count = m.count }
 
-  pub opened : (c : LogView) (es : List Entry) → EndedAt p b c es → OpenedAt p a c
-  opened c es e = record {
+  pub opened : (telling b).entries b.files ≡ (telling a).entries a.files → (c : LogView) (es : List Entry) → EndedAt p b c es → OpenedAt p a c es
+  opened entries_same c es e = record {
     runs = e.runs;
+    entries_are = e.entries_are ∙ ap (λ (l : List Entry). l ++ es) (ap (λ (l : List Entry). (telling b).entries b.files ++ l) begun.begun.nothing ∙ append_none ((telling b).entries b.files) ∙ entries_same);
     nothing = e.nothing;
     content_is = e.content_is ∙ keeps.outcome_same;
     points_same = e.points_same ∙ keeps.points_same;

@@ -1,5 +1,5 @@
 -- The start of an opening.
-use Rattle.std.specs.Prelude.{ℕ, ◌/◌, ◌≡◌, Bool, List, [], length, Some}
+use Rattle.std.specs.Prelude.{ℕ, ◌/◌, ◌≡◌, Bool, List, [], ◌++◌, length, Some}
 use Rattle.dms_site.specs.Files.{Files, Only}
 use Rattle.dms_history.specs.History.{Pending}
 use Rattle.dms_history.specs.EntryEvents.{history_of}
@@ -12,7 +12,7 @@ use Rattle.dms_history.specs.Entries.{Entry, counts_in}
 use Rattle.dms_audrec.specs.Reading.{counts_at}
 use Rattle.dms_running.specs.Running.{AllWritten}
 use Rattle.dms_restore.specs.Logging as logs
-use Rattle.dms_restore.specs.Logging.{LogView, telling, state, waits, LogRuns, points, durable, content}
+use Rattle.dms_restore.specs.Logging.{LogView, telling, state, waits, LogRuns, entries, points, durable, content}
 use Rattle.dms_restore.specs.Begins.{BegunAt}
 use Rattle.dms_restore.specs.declared.told.Told.{Told}
 use Rattle.dms_restore.specs.declared.tracing.TrailHistory.{TrailHistory}
@@ -41,10 +41,11 @@ pub record MayEnd (p : Pending) (v : LogView) (table : List Told) (point next : 
   pub next_is : next ≡ next_in (telling v) v.files
   pub count : (f : ℕ) → counts_in (counts_at (length counts / 8) counts) f ≡ count_at p.entries p.point f
 
--- The database runs with the content that the restore was to leave, and with all points, which are durable. Nothing waits, each block of
--- the content stands in its file, and a stop now leaves what is read.
-pub record OpenedAt (p : Pending) (a b : LogView) : Type 0 where
+-- These entries were sealed. The database runs with the content that the restore was to leave, and with all points, which are durable.
+-- Nothing waits, each block of the content stands in its file, and a stop now leaves what is read.
+pub record OpenedAt (p : Pending) (a b : LogView) (es : List Entry) : Type 0 where
   pub runs : LogRuns b
+  pub entries_are : entries b ≡ trail_entries a.end.total a.first a.files ++ es
   pub nothing : waits b.end ≡ []
   pub content_is : content b ≡ outcome_now (telling a) p (state a)
   pub points_same : points b ≡ points_of (telling a) a.files

@@ -1,12 +1,13 @@
 //! A restore by the audit, from its Begin to its Control. Each state owns the log and hands it back with each fault.
 
-ghost use Rattle.std.specs.Prelude.{◌≡◌, ◌⊎◌, ◌+◌, ◌<◌, ◌^◌, ℕ, true, false, length, IfOk, IfErr, IsTrue};
+ghost use Rattle.std.specs.Prelude.{◌≡◌, ◌⊎◌, ◌+◌, ◌<◌, ◌^◌, ℕ, true, false, length, IfOk, IfErr, IsTrue, ◌++◌, [], ◌∷◌};
 ghost use Rattle.dms_history.specs.History.{Pending};
 ghost use Rattle.dms_history.specs.Entries.{how_of, begin_restore};
 ghost use Rattle.dms_audrec.specs.Spelling.{spelling};
 ghost use Rattle.dms_audrec.specs.Seen.{how_seen};
 ghost use Rattle.dms_audfile.specs.Counting.{CountedAt};
 ghost use Rattle.dms_audfile.specs.Ends.{Grown, is_past};
+ghost use Rattle.dms_audfile.specs.TrailEntries.{trail_entries};
 ghost use Rattle.dms_running.specs.Begun.{ByAudit};
 ghost use Rattle.dms_restore.specs.Logging.{view, LogRuns, points, next, SealsWaiting, LogLeaves};
 ghost use Rattle.dms_restore.specs.Laying.{IsAtStart};
@@ -41,6 +42,7 @@ impl<S: Site> Log<S> {
             → LogLeaves a (view b.log.end b.log.first (S.files b.log.site) (S.clock b.log.site)) (points a) (next a)) }
         ensures stopped { IfErr result (λ e. IsTrue S.tells → let a = view self.end self.first (S.files self.site) (S.clock self.site) in LogRuns a → LastIs a point
             → LogLeaves a (view e.1.end e.1.first (S.files e.1.site) (S.clock e.1.site)) (points a) (next a)) }
+        ensures sealed { IfOk result (λ b. IsTrue S.tells → IsAtStart self.end self.first (S.files self.site) (S.clock self.site) → trail_entries self.end.total self.first (S.files b.log.site) ≡ trail_entries self.end.total self.first (S.files self.site) ++ begin_restore point (how_seen how.entry) ∷ []) }
         ensures grown { IfOk result (λ b. IsTrue S.tells → IsAtStart self.end self.first (S.files self.site) (S.clock self.site) → Grown self.end.total self.first (S.files self.site) (S.files b.log.site)) }
         ensures same { IfOk result (λ b. S.same_site self.site b.log.site) }
         ensures same_then { IfErr result (λ e. S.same_site self.site e.1.site) }
@@ -80,6 +82,8 @@ impl<S: Site> Begun<S> {
             → RestoredAt p (view r.log.end r.log.first (S.files r.log.site) (S.clock r.log.site))) }
         ensures keeps { IfOk result (λ r. (p : Pending) → IsTrue S.tells → BegunAt p (view self.log.end self.log.first (S.files self.log.site) (S.clock self.log.site)) → IsTable p.entries p.point (S.files self.log.site) table.now
             → Restores p (view self.log.end self.log.first (S.files self.log.site) (S.clock self.log.site)) (view r.log.end r.log.first (S.files r.log.site) (S.clock r.log.site))) }
+        ensures entries { IfOk result (λ r. (p : Pending) → IsTrue S.tells → BegunAt p (view self.log.end self.log.first (S.files self.log.site) (S.clock self.log.site)) → IsTable p.entries p.point (S.files self.log.site) table.now
+            → trail_entries self.log.end.total self.log.first (S.files r.log.site) ≡ trail_entries self.log.end.total self.log.first (S.files self.log.site)) }
         ensures moments { IfOk result (λ r. (p : Pending) → IsTrue S.tells → BegunAt p (view self.log.end self.log.first (S.files self.log.site) (S.clock self.log.site)) → IsTable p.entries p.point (S.files self.log.site) table.now
             → LeavesEach (view self.log.end self.log.first (S.files self.log.site) (S.clock self.log.site)) (view r.log.end r.log.first (S.files r.log.site) (S.clock r.log.site))) }
         ensures stopped { IfErr result (λ e. (p : Pending) → IsTrue S.tells → BegunAt p (view self.log.end self.log.first (S.files self.log.site) (S.clock self.log.site)) → IsTable p.entries p.point (S.files self.log.site) table.now

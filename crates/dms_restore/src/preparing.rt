@@ -9,7 +9,7 @@ ghost use Rattle.dms_history.specs.EntryEvents.{history_of};
 ghost use Rattle.dms_audfile.specs.Counting.{CountedAt};
 ghost use Rattle.dms_audfile.specs.Reads.{OnlyReads};
 ghost use Rattle.dms_restore.specs.Counts.{count_of};
-ghost use Rattle.dms_restore.specs.PointCounts.{AllAtMost};
+ghost use Rattle.dms_restore.specs.PointCounts.{AllAtMost, IsNoCountAmong};
 ghost use Rattle.dms_restore.specs.Refusals.{IsOpening};
 ghost use Rattle.dms_restore.specs.declared.live.PendingAt as at;
 ghost use Rattle.dms_restore.specs.Named.{HasNoBlock};
@@ -71,6 +71,7 @@ impl TrailHistory {
         ensures counts { IfOk result (λ v. IsTrue S.tells → (p : Pending) → TracesPending (S.files site.old) self.now p → (f : ℕ) → count_of v.items f ≡ count_at p.entries p.point f) }
         ensures size { IfOk result (λ v. length v.items ≡ 200) }
         ensures small { IfOk result (λ v. AllAtMost v.items) }
+        ensures only { IfErr result (λ e. (e ≡ AudFault.Disk) ⊎ ((e ≡ AudFault.Memory) ⊎ IsNoCountAmong S.tells (S.files site.old) self.now.live.items e)) }
         ensures reads { OnlyReads S.tells (S.files site.old) (S.files site.new) (S.said site.old) (S.said site.new) (S.clock site.old) (S.clock site.new) (S.disk_faults site.old) (S.disk_faults site.new) (S.say_faults site.old) (S.say_faults site.new) }
         ensures same_site { S.same_site site.old site.new }
         ensures disk { CountedAt (IsErrOf result AudFault.Disk) (S.disk_faults site.old) (S.disk_faults site.new) }

@@ -4,7 +4,7 @@ use Rattle.dms_audrec.specs.Seen.{how_seen}
 use Rattle.dms_restore.proofs.Sizes.{begin_size}
 use Rattle.dms_restore.proofs.Results.{counted_fault}
 use Rattle.dms_restore.proofs.Logs.{full_seals}
-use Rattle.dms_restore.proofs.Beginnings.{kind_is, begin_leave, begin_begun, begin_keeps}
+use Rattle.dms_restore.proofs.Beginnings.{kind_is, begin_leave, begin_begun, begin_keeps, begin_sealed}
 use Rattle.dms_restore.proofs.log.Log.begin.Goals as goal
 
 pub returns-in-Ok-clause-begun : goal.returns-in-Ok-clause-begun
@@ -47,3 +47,8 @@ returns-in-Err-clause-past g c full = c.in-Err.ensures.past (λ i. Err (full i))
 pub returns-in-Ok-clause-grown : goal.returns-in-Ok-clause-grown
 returns-in-Ok-clause-grown g c tells start = subst (λ k. Grown k c.args.self.first (g.S.Site.files c.args.self.site) (g.S.Site.files c.append.new.site)) c.append.ensures.kind.0
     (c.in-Ok.ensures.appends c.args.self.first [] tells tt start.ends).grown
+
+pub returns-in-Ok-clause-sealed : goal.returns-in-Ok-clause-sealed
+returns-in-Ok-clause-sealed g c tells start =
+    begin_sealed c.args.self.end.total c.args.self.first c.args.point (how_seen c.args.how) (g.S.Site.files c.args.self.site) (g.S.Site.files c.append.new.site) (g.S.Site.clock c.append.new.site) _ c.append.ensures.kind.0
+    (c.in-Ok.ensures.appends c.args.self.first [] tells tt start.ends)

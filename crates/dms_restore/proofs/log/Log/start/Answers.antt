@@ -1,3 +1,7 @@
+use Rattle.std.proofs.Common.{cond, [], ◌∷◌, ◌++◌, sym, ◌∙◌, ap}
+use Rattle.dms_history.specs.Entries.{begin_restore, by_halt_load}
+use Rattle.dms_history.proofs.Order.{append_none}
+use Rattle.dms_audfile.specs.TrailEntries.{trail_entries}
 use Rattle.dms_restore.specs.Logging.{LogView, view}
 use Rattle.dms_restore.proofs.Results.{one_if_ok, one_if_err}
 use Rattle.dms_restore.proofs.Started.{may_run, last_found, begun_new, keeps_new, leaves_new, begun_found, keeps_found, leaves_found, grown_none}
@@ -36,3 +40,18 @@ returns-else-begins-clause-moments g c p tells s = leaves_found (view c.args.sel
 
 pub returns-else-begins-clause-grown : goal.returns-else-begins-clause-grown
 returns-else-begins-clause-grown g c tells start = grown_none c.args.self.end.total c.args.self.first (g.S.Site.files c.args.self.site)
+
+pub returns-then-begins-clause-sealed : goal.returns-then-begins-clause-sealed
+returns-then-begins-clause-sealed g c = one_if_ok c.begin.result c.begin.ensures.sealed (λ b sealed tells start.
+    sealed tells start ∙ ap (λ t. trail_entries c.args.self.end.total c.args.self.first (g.S.Site.files c.args.self.site) ++ cond t (begin_restore c.args.point by_halt_load ∷ []) []) (sym c.if-begins.true))
+
+pub returns-else-begins-clause-sealed : goal.returns-else-begins-clause-sealed
+returns-else-begins-clause-sealed g c tells start =
+    let entries = trail_entries c.args.self.end.total c.args.self.first (g.S.Site.files c.args.self.site) in
+    sym (append_none entries) ∙ ap (λ t. entries ++ cond t (begin_restore c.args.point by_halt_load ∷ []) []) (sym c.if-begins.false)
+
+pub returns-then-begins-clause-begins : goal.returns-then-begins-clause-begins
+returns-then-begins-clause-begins g c = one_if_err c.begin.result c.begin.ensures.only (λ e only. c.if-begins.true)
+
+pub returns-then-begins-clause-past : goal.returns-then-begins-clause-past
+returns-then-begins-clause-past g c = c.begin.ensures.past
