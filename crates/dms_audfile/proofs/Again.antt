@@ -38,7 +38,7 @@ block_found f i (Some es) qs e =
     ap (map entry_in) (sym same) ∙ placed_entries f i es
 
 -- what comes behind a block
-abbrev rest_read : ℕ → ℕ → ℕ → List (List ℕ) → TrailRead
+abbrev pub rest_read : ℕ → ℕ → ℕ → List (List ℕ) → TrailRead
 rest_read total f i bs = cond (i == total) (read_trail total (f + 1) 1 bs) (read_trail total f (i + 1) bs)
 
 -- one of two parts is whole
@@ -57,11 +57,11 @@ entries_read total f i (b ∷ bs) ps e =
     ap (map entry_in) (sym w.are) ∙ map_on w.front w.back ∙ (λ j. block_found f i (block_entries b) w.front w.first j ++ more j)
 
 -- a block is in its grammar
-record IsRead (block : List ℕ) : Type 0 where
-  entries : List EntryInBlock
-  is : block_entries block ≡ Some entries
+pub record IsRead (block : List ℕ) : Type 0 where
+  pub entries : List EntryInBlock
+  pub is : block_entries block ≡ Some entries
 
-abbrev AreRead : List (List ℕ) → Type 0
+abbrev pub AreRead : List (List ℕ) → Type 0
 AreRead [] = Unit {0}
 AreRead (b ∷ bs) = IsRead b × AreRead bs
 
@@ -78,7 +78,7 @@ are_read total f i (b ∷ bs) ps e =
           (λ qs is. are_read total (f + 1) 1 bs qs is) (λ qs is. are_read total f (i + 1) bs qs is) w.then,
     )
 
-filled_are_read : (bs : List (List ℕ)) → AllHoldAnEntry bs → AreRead bs
+pub filled_are_read : (bs : List (List ℕ)) → AllHoldAnEntry bs → AreRead bs
 filled_are_read [] are = tt
 filled_are_read (b ∷ bs) are = (record { entries = are.0.entries; is = are.0.read }, filled_are_read bs are.1)
 
@@ -86,9 +86,9 @@ read_on : (bs cs : List (List ℕ)) → AreRead bs → AreRead cs → AreRead (b
 read_on [] cs one two = two
 read_on (b ∷ bs) cs one two = (one.0, read_on bs cs one.1 two)
 
-record IsWholeRead (r : TrailRead) : Type 0 where
-  placed : List Placed
-  is : r ≡ whole placed
+pub record IsWholeRead (r : TrailRead) : Type 0 where
+  pub placed : List Placed
+  pub is : r ≡ whole placed
 
 whole_then : (f i : ℕ) (block : List ℕ) (rest : TrailRead) → IsRead block → IsWholeRead rest → IsWholeRead (then_read (places_of f i (block_entries block)) rest)
 whole_then f i block rest b r = record {
@@ -100,7 +100,7 @@ whole_either : (t : Bool) (a b : TrailRead) → IsWholeRead a → IsWholeRead b 
 whole_either true a b one two = one
 whole_either false a b one two = two
 
-all_are_read : (total f i : ℕ) (bs : List (List ℕ)) → AreRead bs → IsWholeRead (read_trail total f i bs)
+pub all_are_read : (total f i : ℕ) (bs : List (List ℕ)) → AreRead bs → IsWholeRead (read_trail total f i bs)
 all_are_read total f i [] are = record { placed = []; is = refl }
 all_are_read total f i (b ∷ bs) are = whole_then f i b (rest_read total f i bs) are.0
     (whole_either (i == total) (read_trail total (f + 1) 1 bs) (read_trail total f (i + 1) bs) (all_are_read total (f + 1) 1 bs are.1) (all_are_read total f (i + 1) bs are.1))
@@ -129,7 +129,7 @@ ends_there files ps t total tag f n w =
       high = omega (arith, k.high, writes_once total tag t.first f n k.file k.count files w v);
     }
 
-trail_is_read : (files : Files) (ps : List Placed) (t : IsScanned files (found ps)) (total tag f n : ℕ) → IsWrittenUpTo total tag t.first f n files → read_trail total t.first 1 (trail_from 10000 total t.first files) ≡ whole ps
+pub trail_is_read : (files : Files) (ps : List Placed) (t : IsScanned files (found ps)) (total tag f n : ℕ) → IsWrittenUpTo total tag t.first f n files → read_trail total t.first 1 (trail_from 10000 total t.first files) ≡ whole ps
 trail_is_read files ps t total tag f n w =
     let e = ends_there files ps t total tag f n w in
     all_of_found t.first (read_trail total t.first 1 (trail_from 10000 total t.first files)) ps

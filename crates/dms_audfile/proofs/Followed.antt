@@ -24,7 +24,7 @@ then_none (broken f b) = refl
 then_none (whole ps) = ap whole (append-nil ps)
 
 -- the blocks of a file that isn't full
-part_read : (total f k i : ℕ) (file : List ℕ) → i + k ≤ total → read_trail total f i (blocks_from k i file) ≡ blocks_read k i f file
+pub part_read : (total f k i : ℕ) (file : List ℕ) → i + k ≤ total → read_trail total f i (blocks_from k i file) ≡ blocks_read k i f file
 part_read total f zero i file few = refl
 part_read total f (suc k) i file few =
     let off : (i == total) ≡ false = grind (arith, nat_tests) in
@@ -33,7 +33,7 @@ part_read total f (suc k) i file few =
     ∙ ap (then_read a) (part_read total f k (i + 1) file (omega arith))
 
 -- all blocks of a full file, and what follows
-full_read : (total f k i : ℕ) (file : List ℕ) (rest : List (List ℕ)) → 0 < k → i + k ≡ total + 1 → read_trail total f i (blocks_from k i file ++ rest) ≡ then_read (blocks_read k i f file) (read_trail total (f + 1) 1 rest)
+pub full_read : (total f k i : ℕ) (file : List ℕ) (rest : List (List ℕ)) → 0 < k → i + k ≡ total + 1 → read_trail total f i (blocks_from k i file ++ rest) ≡ then_read (blocks_read k i f file) (read_trail total (f + 1) 1 rest)
 full_read total f zero i file rest some all = absurd (omega arith)
 full_read total f (suc zero) i file rest some all =
     let on : (i == total) ≡ true = grind (arith, nat_tests) in
@@ -48,11 +48,11 @@ full_read total f (suc (suc k)) i file rest some all =
     ∙ ap (then_read a) (full_read total f (suc k) (i + 1) file rest (omega arith) (omega arith))
     ∙ sym (then_then a (blocks_read (suc k) (i + 1) f file) (read_trail total (f + 1) 1 rest))
 
-full_opened : (total : ℕ) (file : List ℕ) → is_full total file ≡ true → opened total file ≡ total
+pub full_opened : (total : ℕ) (file : List ℕ) → is_full total file ≡ true → opened total file ≡ total
 unfolding is_full
 full_opened total file is = grind (arith, nat_tests)
 
-part_opened : (total : ℕ) (file : List ℕ) → is_full total file ≡ false → opened total file < total
+pub part_opened : (total : ℕ) (file : List ℕ) → is_full total file ≡ false → opened total file < total
 unfolding is_full
 part_opened total file is = let w = opened_within total file in grind (arith, nat_tests)
 

@@ -90,7 +90,7 @@ some_whole : (f i : ℕ) (r : Option (List EntryInBlock)) (es : List EntryInBloc
 some_whole f i None es is = absurd cc
 some_whole f i (Some xs) es is = tt
 
-there_on : (files : Files) (ps qs : List Placed) → AreThere files ps → AreThere files qs → AreThere files (ps ++ qs)
+pub there_on : (files : Files) (ps qs : List Placed) → AreThere files ps → AreThere files qs → AreThere files (ps ++ qs)
 there_on files [] qs one two = two
 there_on files (p ∷ ps) qs one two = (one.0, there_on files ps qs one.1 two)
 
@@ -113,7 +113,7 @@ placed_there files f i (Some es) qs low some few is e =
     let same : map (place_of f i) es ≡ qs = cc e in
     subst (AreThere files) same (there_in files f i es low some few (block_whole f i (block_at i (files f)) (some_whole f i (block_entries (block_at i (files f))) es is)) (block_stands (block_at i (files f)) es is))
 
-blocks_there : (k i f : ℕ) (files : Files) (ps : List Placed) → 10001 ≤ f → 1 ≤ i → i + k ≤ 513 → blocks_read k i f (files f) ≡ whole ps → AreThere files ps
+pub blocks_there : (k i f : ℕ) (files : Files) (ps : List Placed) → 10001 ≤ f → 1 ≤ i → i + k ≤ 513 → blocks_read k i f (files f) ≡ whole ps → AreThere files ps
 blocks_there zero i f files ps low some few e =
     let is : [] ≡ ps = cc e in
     subst (AreThere files) is tt

@@ -1,5 +1,5 @@
 -- A restore by the audit over a log.
-use Rattle.std.proofs.Common.{ℕ, zero, suc, ◌<◌, ◌≡◌, true, false, List, [], ◌∷◌, ◌++◌, drop, refl, sym, ◌∙◌, ap, subst, arith}
+use Rattle.std.proofs.Common.{ℕ, zero, suc, ◌<◌, ◌≡◌, true, false, List, [], ◌∷◌, ◌++◌, take, drop, refl, sym, ◌∙◌, ap, subst, arith}
 use Rattle.dms_moments.specs.Moments.{Clock, Steps}
 use Rattle.dms_moments.specs.MomentLaws.{steps_on}
 use Rattle.dms_site.specs.Files.{Files, Left, Only, Same}
@@ -11,6 +11,8 @@ use Rattle.dms_audfile.specs.BlockLaws.{AreNoBegins}
 use Rattle.dms_audfile.proofs.Growing.{writes_same}
 use Rattle.dms_audfile.specs.Ends as ends
 use Rattle.dms_audfile.specs.Ends.{EndsAt, Appends}
+use Rattle.dms_audfile.specs.TrailEntries.{trail_entries}
+use Rattle.dms_audfile.specs.declared.audit_end.AuditEnd.{AuditEnd}
 use Rattle.dms_running.specs.Telling.{Telling, IsTelling}
 use Rattle.dms_running.specs.Points.{points_of, next_in}
 use Rattle.dms_running.specs.Sealing.{AreSealed}
@@ -52,6 +54,21 @@ none_waits (e ∷ w) m kind zero plain = absurd (not_plain w plain.2)
         true_not_false e = absurd cc
     not_plain (d ∷ w) plain = not_plain w plain.2
 none_waits (e ∷ w) m kind (suc k) plain = none_waits w m kind k plain
+
+-- where nothing waited the Begin alone is sealed
+begin_taken : (m : ℕ) (kind : Kind) (k : ℕ) → AreNoBegins (drop k (begin_restore m kind ∷ [])) → take k (begin_restore m kind ∷ []) ≡ begin_restore m kind ∷ []
+begin_taken m kind zero plain = absurd (true_not_false plain.1)
+  where
+    true_not_false : true ≡ false → ⊥
+    true_not_false e = absurd cc
+begin_taken m kind (suc zero) plain = refl
+begin_taken m kind (suc (suc k)) plain = refl
+
+pub begin_sealed : (total first m : ℕ) (kind : Kind) (old new : Files) (clock : Clock Left) (end : AuditEnd) → end.total ≡ total → Appends end first (begin_restore m kind ∷ []) old new clock
+    → trail_entries total first new ≡ trail_entries total first old ++ begin_restore m kind ∷ []
+begin_sealed total first m kind old new clock end same appends =
+    subst (λ k. trail_entries k first new ≡ trail_entries k first old ++ begin_restore m kind ∷ []) same
+    (appends.sealed ∙ ap (λ (l : List Entry). trail_entries end.total first old ++ l) (begin_taken m kind appends.some appends.plain))
 
 module _ (a : LogView) (r : LogRuns a) (read : Reads a) (m : ℕ) (kind : Kind) (by_audit : ByAudit (how_of kind)) (at : LastIs a m) where
   abbrev pub the_begin : Entry
@@ -131,3 +148,7 @@ module _ (p : Pending) (a : LogView) (r : BegunAt p a) (read : Reads a) (table :
       next_same = restored_next (telling a) tells_it p (state a) r.begun read (state then_) written;
       outcome_same = restored_outcome (telling a) tells_it p (state a) r.begun read (state then_) written;
     }
+
+    -- the entries are the same
+    pub table_entries : trail_entries a.end.total a.first files ≡ trail_entries a.end.total a.first a.files
+    table_entries = tells_it.entries_low files a.files written.others

@@ -21,3 +21,12 @@ pub mod SpotParts
 pub mod Numbered
 pub mod Backed
 pub mod Returned
+pub mod Judges
+pub mod Spanned
+pub mod Describes
+pub mod Refused
+pub mod Chosen
+pub mod Counted
+pub mod Started
+pub mod GoneOn
+pub mod Prepared

@@ -12,48 +12,52 @@ use Rattle.dms_audfile.specs.declared.place.Place.{Place}
 use Rattle.dms_audfile.specs.declared.fault.AudFault.{AudFault}
 use Rattle.dms_audfile.specs.declared.fault.AudFault.TheVariants.{Disk, Damaged, Memory}
 use Rattle.dms_history.proofs.Picks.{some_is}
-use Rattle.dms_restore.specs.declared.tracing.TrailHistory.{TrailHistory}
+use Rattle.dms_restore.specs.declared.trace.TrailTrace.{TrailTrace}
 use Rattle.dms_restore.specs.Scanned.{HasNoEntry, IsNoEntryOf}
-use Rattle.dms_restore.specs.Tracing.{IsTraced}
+use Rattle.dms_restore.specs.Traces.{IsTraceOf}
 
 abbrev pub no_place : Placed
 no_place = record { place = record { file = 0; block = 0; offset = 0 }; entry = quiet_point 0 }
 
-get_place : (ps : List Placed) (i : ℕ) (d : Place) → i < length ps → get_or (map place_in ps) i d ≡ (get_or ps i no_place).place
+pub get_place : (ps : List Placed) (i : ℕ) (d : Place) → i < length ps → get_or (map place_in ps) i d ≡ (get_or ps i no_place).place
 get_place [] i d low = absurd (omega (arith, low))
 get_place (p ∷ ps) zero d low = refl
 get_place (p ∷ ps) (suc i) d low = get_place ps i d (omega (arith, low))
 
-there_at : (files : Files) (ps : List Placed) (i : ℕ) → i < length ps → AreThere files ps → IsThere files (get_or ps i no_place)
+pub there_at : (files : Files) (ps : List Placed) (i : ℕ) → i < length ps → AreThere files ps → IsThere files (get_or ps i no_place)
 there_at files [] i low all = absurd (omega (arith, low))
 there_at files (p ∷ ps) zero low all = all.0
 there_at files (p ∷ ps) (suc i) low all = there_at files ps i (omega (arith, low)) all.1
 
-map_length : (ps : List Placed) → length (map place_in ps) ≡ length ps
+pub map_length : (ps : List Placed) → length (map place_in ps) ≡ length ps
 map_length [] = refl
 map_length (p ∷ ps) = ap suc (map_length ps)
 
-entries_more : (ps : List Placed) (i : ℕ) → i < length ps → map entry_in (take (i + 1) ps) ≡ map entry_in (take i ps) ++ (get_or ps i no_place).entry ∷ []
+pub entries_more : (ps : List Placed) (i : ℕ) → i < length ps → map entry_in (take (i + 1) ps) ≡ map entry_in (take i ps) ++ (get_or ps i no_place).entry ∷ []
 entries_more ps i low = ap (map entry_in) (take_more ps i no_place low) ∙ map-append entry_in (take i ps) (get_or ps i no_place ∷ [])
 
-pub read_next : (files other : Files) (places : List Place) (i : ℕ) (d : Place) (old new : TrailHistory) → i < length places → other ≡ files
-    → ((entries : List Entry) (e : Entry) → entry_there other (get_or places i d) ≡ Some e → IsTraced other entries old → IsTraced other (entries ++ e ∷ []) new)
-    → (ps : List Placed) → places ≡ map place_in ps → AreThere files ps → IsTraced files (map entry_in (take i ps)) old → IsTraced files (map entry_in (take (i + 1) ps)) new
-read_next files other places i d old new low same step ps are there t =
+front_length : (ps : List Placed) (i : ℕ) → i < length ps → length (map entry_in (take i ps)) ≡ i
+front_length [] i low = absurd (omega (arith, low))
+front_length (p ∷ ps) zero low = refl
+front_length (p ∷ ps) (suc i) low = ap suc (front_length ps i (omega (arith, low)))
+
+pub read_next : (old_files other : Files) (places : List Place) (i : ℕ) (d : Place) (old new : TrailTrace) → i < length places → other ≡ old_files
+    → ((entries : List Entry) (e : Entry) → entry_there other (get_or places i d) ≡ Some e → length entries ≡ i → (files : Files) → entry_there files (get_or places i d) ≡ Some e → IsTraceOf files entries old → IsTraceOf files (entries ++ e ∷ []) new)
+    → (ps : List Placed) → places ≡ map place_in ps → AreThere old_files ps → (files : Files) → AreThere files ps → IsTraceOf files (map entry_in (take i ps)) old → IsTraceOf files (map entry_in (take (i + 1) ps)) new
+read_next old_files other places i d old new low same step ps are there files also t =
     let under : i < length ps = omega (arith, low, ap length are, map_length ps) in
     let p = get_or ps i no_place in
     let at : get_or places i d ≡ p.place = ap (λ (l : List Place). get_or l i d) are ∙ get_place ps i d under in
-    let here : entry_there other (get_or places i d) ≡ Some p.entry = (λ j. entry_there (same j) (at j)) ∙ (there_at files ps i under there).there in
-    subst (λ (l : List Entry). IsTraced files l new) (sym (entries_more ps i under))
-    (subst (λ (f : Files). IsTraced f (map entry_in (take i ps) ++ p.entry ∷ []) new) same
-    (step (map entry_in (take i ps)) p.entry here (subst (λ (f : Files). IsTraced f (map entry_in (take i ps)) old) (sym same) t)))
+    let here : entry_there other (get_or places i d) ≡ Some p.entry = (λ j. entry_there (same j) (at j)) ∙ (there_at old_files ps i under there).there in
+    let over : entry_there files (get_or places i d) ≡ Some p.entry = ap (entry_there files) at ∙ (there_at files ps i under also).there in
+    subst (λ (l : List Entry). IsTraceOf files l new) (sym (entries_more ps i under)) (step (map entry_in (take i ps)) p.entry here (front_length ps i under) files over t)
 
-pub read_all : (files : Files) (places : List Place) (i : ℕ) (h : TrailHistory) (ps : List Placed) → length places < i + 1 → places ≡ map place_in ps → IsTraced files (map entry_in (take i ps)) h → IsTraced files (map entry_in ps) h
-read_all files places i h ps le are t = subst (λ (l : List Placed). IsTraced files (map entry_in l) h) (take_all i ps (omega (arith, le, ap length are, map_length ps))) t
+pub read_all : (files : Files) (places : List Place) (i : ℕ) (h : TrailTrace) (ps : List Placed) → length places < i + 1 → places ≡ map place_in ps → IsTraceOf files (map entry_in (take i ps)) h → IsTraceOf files (map entry_in ps) h
+read_all files places i h ps le are t = subst (λ (l : List Placed). IsTraceOf files (map entry_in l) h) (take_all i ps (omega (arith, le, ap length are, map_length ps))) t
 
 -- the entry that was read is the one that stands there
-pub read_is : (files : Files) (entries : List Entry) (e seen : Entry) (old new : TrailHistory) → Some seen ≡ Some e → (IsTraced files entries old → IsTraced files (entries ++ seen ∷ []) new) → IsTraced files entries old → IsTraced files (entries ++ e ∷ []) new
-read_is files entries e seen old new is step t = subst (λ (x : Entry). IsTraced files (entries ++ x ∷ []) new) (some_is seen e is) (step t)
+pub read_is : (files : Files) (entries : List Entry) (e seen : Entry) (old new : TrailTrace) → Some seen ≡ Some e → (IsTraceOf files entries old → IsTraceOf files (entries ++ seen ∷ []) new) → IsTraceOf files entries old → IsTraceOf files (entries ++ e ∷ []) new
+read_is files entries e seen old new is step t = subst (λ (x : Entry). IsTraceOf files (entries ++ x ∷ []) new) (some_is seen e is) (step t)
 
 -- ---- no entry stands at a place
 

@@ -1,5 +1,5 @@
 -- Facts of a call by its answer.
-use Rattle.std.specs.Prelude.{ℕ, ◌+◌, ◌≤◌, ◌≡◌, OnOk, IfOk, IsErrOf}
+use Rattle.std.specs.Prelude.{ℕ, ◌+◌, ◌≤◌, ◌≡◌, OnOk, IfOk, IfErr, IsErrOf}
 use Rattle.std.proofs.Common.{subst}
 use Rattle.std.specs.declared.result.Result.{Result}
 use Rattle.std.specs.declared.result.Result.TheVariants.{Ok, Err}
@@ -59,3 +59,7 @@ two_if_ok (Err e) one two f = tt
 pub three_if_ok : {T E : Type 0} {P Q R U : T → Type 0} (r : Result T E) → IfOk r P → IfOk r Q → IfOk r R → ((v : T) → P v → Q v → R v → U v) → IfOk r U
 three_if_ok (Ok x) one two three f = f x one two three
 three_if_ok (Err e) one two three f = tt
+
+pub one_if_err : {T E : Type 0} {P R : E → Type 0} (r : Result T E) → IfErr r P → ((e : E) → P e → R e) → IfErr r R
+one_if_err (Ok x) one f = tt
+one_if_err (Err e) one f = f e one

@@ -3,7 +3,8 @@ use Rattle.std.proofs.Common.{ℕ, ◌≡◌, ◌⊎◌, inl, inr, Bool, List, [
 use Rattle.dms_site.specs.Files.{Files}
 use Rattle.dms_history.specs.Entries.{Entry}
 use Rattle.dms_audfile.specs.AuditTrail.{IsFound, EntriesAreThere, entry_there, AreThere}
-use Rattle.dms_audfile.specs.ScanLaws.{FoundAreEntries}
+use Rattle.dms_audfile.specs.Ends.{Grown}
+use Rattle.dms_audfile.specs.ScanLaws.{FoundAreEntries, PlacesStay}
 use Rattle.dms_audfile.specs.Sealing.{IsWrittenUpTo}
 use Rattle.dms_audfile.specs.TrailEntries.{trail_entries}
 use Rattle.dms_audfile.specs.declared.place.Place.{Place}
@@ -11,9 +12,9 @@ use Rattle.dms_audfile.specs.declared.fault.AudFault.{AudFault}
 use Rattle.dms_audfile.specs.declared.fault.AudFault.TheVariants.{Disk, Memory}
 use Rattle.dms_audfile.specs.Scanning.{Placed, place_in, entry_in}
 use Rattle.dms_audfile.specs.Reads.{Refuses}
-use Rattle.dms_restore.specs.declared.tracing.TrailHistory.{TrailHistory}
+use Rattle.dms_restore.specs.declared.trace.TrailTrace.{TrailTrace}
 use Rattle.dms_restore.specs.Scanned.{AreEntryPlaces, HasNoEntry, IsNoEntryOf}
-use Rattle.dms_restore.specs.Tracing.{IsTraced}
+use Rattle.dms_restore.specs.Traces.{IsTraceOf, TracesAll}
 
 pub scan_places : EntriesAreThere → FoundAreEntries → (old files : Files) (all total tag first file count : ℕ) (places : List Place) → files ≡ old → all ≡ total → IsFound files first places → IsWrittenUpTo total tag first file count files → AreEntryPlaces all first old places
 scan_places stand are old files all total tag first file count places same kind found writes =
@@ -26,11 +27,21 @@ scan_places stand are old files all total tag first file count places same kind 
     }
 
 -- the entries at the places that were found are those of the trail
-pub scan_traced : (old files : Files) (total first : ℕ) (places lent : List Place) (h : TrailHistory) → lent ≡ places → files ≡ old → AreEntryPlaces total first old places
-    → ((ps : List Placed) → lent ≡ map place_in ps → AreThere files ps → IsTraced files (map entry_in ps) h) → IsTraced old (trail_entries total first old) h
-scan_traced old files total first places lent h same still a read =
-    subst (λ l. IsTraced old l h) a.entries_are
-    (subst (λ (f : Files). IsTraced f (map entry_in a.placed) h) still (read a.placed (same ∙ a.places_are) (subst (λ (f : Files). AreThere f a.placed) (sym still) a.there)))
+pub scan_traced : (old files : Files) (total first : ℕ) (places lent : List Place) (t : TrailTrace) → lent ≡ places → files ≡ old → AreEntryPlaces total first old places
+    → ((ps : List Placed) → lent ≡ map place_in ps → AreThere files ps → TracesAll ps t) → IsTraceOf old (trail_entries total first old) t
+scan_traced old files total first places lent t same still a read =
+    subst (λ l. IsTraceOf old l t) a.entries_are (read a.placed (same ∙ a.places_are) (subst (λ (f : Files). AreThere f a.placed) (sym still) a.there) old a.there)
+
+-- and so they are however the trail grows
+pub scan_stays : EntriesAreThere → FoundAreEntries → PlacesStay → (old files : Files) (total tag first file count : ℕ) (places lent : List Place) (t : TrailTrace) → lent ≡ places → files ≡ old
+    → IsFound old first places → IsWrittenUpTo total tag first file count old → ((ps : List Placed) → lent ≡ map place_in ps → AreThere files ps → TracesAll ps t)
+    → (new : Files) → Grown total first old new → IsTraceOf new (trail_entries total first old) t
+scan_stays stand are stay old files total tag first file count places lent t same still found writes read new grown =
+    let own : IsWrittenUpTo total tag found.trail.first file count old = subst (λ k. IsWrittenUpTo total tag k file count old) (sym found.first_is) writes in
+    let there : AreThere old found.entries = stand old found.entries found.trail in
+    let also : AreThere new found.entries = stay old new found.entries found.trail total tag file count own (subst (λ k. Grown total k old new) (sym found.first_is) grown) in
+    let entries : map entry_in found.entries ≡ trail_entries total first old = are old found.entries found.trail total tag file count own ∙ ap (λ k. trail_entries total k old) found.first_is in
+    subst (λ l. IsTraceOf new l t) entries (read found.entries (same ∙ found.places_are) (subst (λ (f : Files). AreThere f found.entries) (sym still) there) new also)
 
 -- the disk and memory refuse nothing
 pub plain_refusal : (files : Files) (e : AudFault) → (e ≡ Disk) ⊎ (e ≡ Memory) → Refuses files e
@@ -66,5 +77,11 @@ scan_refused tells old files total first places lent e t same still a is = elim 
 ]
 
 -- the same, by the files and the size that the end of the trail has
-pub traced_as : (old files : Files) (all total first : ℕ) (h : TrailHistory) → files ≡ old → all ≡ total → IsTraced files (trail_entries total first files) h → IsTraced old (trail_entries all first old) h
-traced_as old files all total first h same kind t = subst (λ (f : Files). IsTraced f (trail_entries all first f) h) same (subst (λ k. IsTraced files (trail_entries k first files) h) (sym kind) t)
+pub traced_as : (old files : Files) (all total first : ℕ) (t : TrailTrace) → files ≡ old → all ≡ total → IsTraceOf files (trail_entries total first files) t → IsTraceOf old (trail_entries all first old) t
+traced_as old files all total first t same kind is = subst (λ (f : Files). IsTraceOf f (trail_entries all first f) t) same (subst (λ k. IsTraceOf files (trail_entries k first files) t) (sym kind) is)
+
+pub stays_as : (old files : Files) (all total first : ℕ) (t : TrailTrace) → files ≡ old → all ≡ total → ((new : Files) → Grown total first files new → IsTraceOf new (trail_entries total first files) t)
+    → (new : Files) → Grown all first old new → IsTraceOf new (trail_entries all first old) t
+stays_as old files all total first t same kind stays =
+    subst (λ (f : Files). (new : Files) → Grown all first f new → IsTraceOf new (trail_entries all first f) t) same
+    (subst (λ k. (new : Files) → Grown k first files new → IsTraceOf new (trail_entries k first files) t) (sym kind) stays)

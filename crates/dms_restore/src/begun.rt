@@ -1,14 +1,16 @@
 //! A restore by the audit, from its Begin to its Control. Each state owns the log and hands it back with each fault.
 
-ghost use Rattle.std.specs.Prelude.{◌≡◌, ◌⊎◌, ◌+◌, ◌<◌, ◌^◌, ℕ, true, false, length, IfOk, IfErr, IsTrue};
+ghost use Rattle.std.specs.Prelude.{◌≡◌, ◌⊎◌, ◌+◌, ◌<◌, ◌^◌, ℕ, true, false, length, IfOk, IfErr, IsTrue, ◌++◌, [], ◌∷◌};
 ghost use Rattle.dms_history.specs.History.{Pending};
 ghost use Rattle.dms_history.specs.Entries.{how_of, begin_restore};
 ghost use Rattle.dms_audrec.specs.Spelling.{spelling};
 ghost use Rattle.dms_audrec.specs.Seen.{how_seen};
 ghost use Rattle.dms_audfile.specs.Counting.{CountedAt};
-ghost use Rattle.dms_audfile.specs.Ends.{is_past};
+ghost use Rattle.dms_audfile.specs.Ends.{Grown, is_past};
+ghost use Rattle.dms_audfile.specs.TrailEntries.{trail_entries};
 ghost use Rattle.dms_running.specs.Begun.{ByAudit};
 ghost use Rattle.dms_restore.specs.Logging.{view, LogRuns, points, next, SealsWaiting, LogLeaves};
+ghost use Rattle.dms_restore.specs.Laying.{IsAtStart};
 ghost use Rattle.dms_restore.specs.Begins.{LastIs, begun_to, BegunAt, BeginsRestore, RestoredAt, Restores, LeavesEach};
 ghost use Rattle.dms_restore.specs.Table.{AreBlocks, IsTable};
 
@@ -29,15 +31,19 @@ pub struct Restored<S: Site> {
 }
 
 impl<S: Site> Log<S> {
-    /// Begins a restore by the audit to the last point. What waits is sealed with the Begin.
+    /// Begins a restore by the audit to the last point. What waits is sealed first.
     pub fn begin(self, point: u64, how: How<'_>) -> Result<Begun<S>, (AudFault, Log<S>)>
-        requires runs { IsTrue S.tells → LogRuns (view self.end self.first (S.files self.site) (S.clock self.site)) }
         requires by_audit { ByAudit (how_of (how_seen how)) }
-        requires last { IsTrue S.tells → LastIs (view self.end self.first (S.files self.site) (S.clock self.site)) point }
-        ensures begun { IfOk result (λ b. IsTrue S.tells → BegunAt (begun_to (view self.end self.first (S.files self.site) (S.clock self.site)) point (how_of (how_seen how.entry))) (view b.log.end b.log.first (S.files b.log.site) (S.clock b.log.site))) }
-        ensures keeps { IfOk result (λ b. IsTrue S.tells → BeginsRestore (view self.end self.first (S.files self.site) (S.clock self.site)) (view b.log.end b.log.first (S.files b.log.site) (S.clock b.log.site)) point (how_of (how_seen how.entry))) }
-        ensures moments { IfOk result (λ b. IsTrue S.tells → let a = view self.end self.first (S.files self.site) (S.clock self.site) in LogLeaves a (view b.log.end b.log.first (S.files b.log.site) (S.clock b.log.site)) (points a) (next a)) }
-        ensures stopped { IfErr result (λ e. IsTrue S.tells → let a = view self.end self.first (S.files self.site) (S.clock self.site) in LogLeaves a (view e.1.end e.1.first (S.files e.1.site) (S.clock e.1.site)) (points a) (next a)) }
+        ensures begun { IfOk result (λ b. IsTrue S.tells → let a = view self.end self.first (S.files self.site) (S.clock self.site) in LogRuns a → LastIs a point
+            → BegunAt (begun_to a point (how_of (how_seen how.entry))) (view b.log.end b.log.first (S.files b.log.site) (S.clock b.log.site))) }
+        ensures keeps { IfOk result (λ b. IsTrue S.tells → let a = view self.end self.first (S.files self.site) (S.clock self.site) in LogRuns a → LastIs a point
+            → BeginsRestore a (view b.log.end b.log.first (S.files b.log.site) (S.clock b.log.site)) point (how_of (how_seen how.entry))) }
+        ensures moments { IfOk result (λ b. IsTrue S.tells → let a = view self.end self.first (S.files self.site) (S.clock self.site) in LogRuns a → LastIs a point
+            → LogLeaves a (view b.log.end b.log.first (S.files b.log.site) (S.clock b.log.site)) (points a) (next a)) }
+        ensures stopped { IfErr result (λ e. IsTrue S.tells → let a = view self.end self.first (S.files self.site) (S.clock self.site) in LogRuns a → LastIs a point
+            → LogLeaves a (view e.1.end e.1.first (S.files e.1.site) (S.clock e.1.site)) (points a) (next a)) }
+        ensures sealed { IfOk result (λ b. IsTrue S.tells → IsAtStart self.end self.first (S.files self.site) (S.clock self.site) → trail_entries self.end.total self.first (S.files b.log.site) ≡ trail_entries self.end.total self.first (S.files self.site) ++ begin_restore point (how_seen how.entry) ∷ []) }
+        ensures grown { IfOk result (λ b. IsTrue S.tells → IsAtStart self.end self.first (S.files self.site) (S.clock self.site) → Grown self.end.total self.first (S.files self.site) (S.files b.log.site)) }
         ensures same { IfOk result (λ b. S.same_site self.site b.log.site) }
         ensures same_then { IfErr result (λ e. S.same_site self.site e.1.site) }
         ensures said { IfOk result (λ b. S.said b.log.site ≡ S.said self.site) }
@@ -46,7 +52,7 @@ impl<S: Site> Log<S> {
         ensures only { IfErr result (λ e. (e.0 ≡ AudFault.Disk) ⊎ (e.0 ≡ AudFault.Full self.end.limit)) }
         ensures past { IfErr result (λ e. e.0 ≡ AudFault.Full self.end.limit → is_past self.end (length (spelling (begin_restore point (how_seen how.entry)))) true ≡ true) }
         ensures within { IfOk result (λ b. is_past self.end (length (spelling (begin_restore point (how_seen how.entry)))) true ≡ false) }
-        ensures kept { IfErr result (λ e. e.0 ≡ AudFault.Full self.end.limit → IsTrue S.tells → SealsWaiting (view self.end self.first (S.files self.site) (S.clock self.site)) (view e.1.end e.1.first (S.files e.1.site) (S.clock e.1.site))) }
+        ensures kept { IfErr result (λ e. e.0 ≡ AudFault.Full self.end.limit → IsTrue S.tells → LogRuns (view self.end self.first (S.files self.site) (S.clock self.site)) → SealsWaiting (view self.end self.first (S.files self.site) (S.clock self.site)) (view e.1.end e.1.first (S.files e.1.site) (S.clock e.1.site))) }
         ensures disk { IfErr result (λ e. CountedAt (e.0 ≡ AudFault.Disk) (S.disk_faults self.site) (S.disk_faults e.1.site)) }
         ensures say_faults { IfOk result (λ b. S.say_faults b.log.site ≡ S.say_faults self.site) }
         ensures say_faults_then { IfErr result (λ e. S.say_faults e.1.site ≡ S.say_faults self.site) }
@@ -76,6 +82,8 @@ impl<S: Site> Begun<S> {
             → RestoredAt p (view r.log.end r.log.first (S.files r.log.site) (S.clock r.log.site))) }
         ensures keeps { IfOk result (λ r. (p : Pending) → IsTrue S.tells → BegunAt p (view self.log.end self.log.first (S.files self.log.site) (S.clock self.log.site)) → IsTable p.entries p.point (S.files self.log.site) table.now
             → Restores p (view self.log.end self.log.first (S.files self.log.site) (S.clock self.log.site)) (view r.log.end r.log.first (S.files r.log.site) (S.clock r.log.site))) }
+        ensures entries { IfOk result (λ r. (p : Pending) → IsTrue S.tells → BegunAt p (view self.log.end self.log.first (S.files self.log.site) (S.clock self.log.site)) → IsTable p.entries p.point (S.files self.log.site) table.now
+            → trail_entries self.log.end.total self.log.first (S.files r.log.site) ≡ trail_entries self.log.end.total self.log.first (S.files self.log.site)) }
         ensures moments { IfOk result (λ r. (p : Pending) → IsTrue S.tells → BegunAt p (view self.log.end self.log.first (S.files self.log.site) (S.clock self.log.site)) → IsTable p.entries p.point (S.files self.log.site) table.now
             → LeavesEach (view self.log.end self.log.first (S.files self.log.site) (S.clock self.log.site)) (view r.log.end r.log.first (S.files r.log.site) (S.clock r.log.site))) }
         ensures stopped { IfErr result (λ e. (p : Pending) → IsTrue S.tells → BegunAt p (view self.log.end self.log.first (S.files self.log.site) (S.clock self.log.site)) → IsTable p.entries p.point (S.files self.log.site) table.now

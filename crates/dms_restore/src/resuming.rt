@@ -37,17 +37,17 @@ impl<S: Site> Scanned<S> {
             → IsWhole (telling_of self.log.end.total self.log.first) (S.files self.log.site) → (history_of (trail_entries self.log.end.total self.log.first (S.files self.log.site))).pending ≡ Some p → ByAudit p.how
             → BegunAt p (view r.begun.log.end r.begun.log.first (S.files r.begun.log.site) (S.clock r.begun.log.site))) }
         ensures blocks { IfOk result (λ r. AreBlocks r.table.items) }
-        ensures table { IfOk result (λ r. (files : Files) (entries : List meaning.Entry) (p : Pending) → IsTraced files entries self.history → (history_of entries).pending ≡ Some p
+        ensures table { IfOk result (λ r. (files : Files) (entries : List meaning.Entry) (p : Pending) → IsTraced files entries self.trace.history → (history_of entries).pending ≡ Some p
             → IsTable p.entries p.point files r.table.items) }
         ensures scanned { IfErr result (λ e. e.1 ≡ self) }
-        ensures only { IfErr result (λ e. (e.0 ≡ AudFault.Memory) ⊎ HasNoBlock self.history.live.items self.history.removed.items e.0) }
+        ensures only { IfErr result (λ e. (e.0 ≡ AudFault.Memory) ⊎ HasNoBlock self.trace.history.live.items self.trace.history.removed.items e.0) }
     {
-        match self.history.pending_table(alloc) {
+        match self.trace.history.pending_table(alloc) {
             Ok(table) => {
                 let Scanned {
                     log,
                     places: _places,
-                    history: _history,
+                    trace: _trace,
                 } = self;
                 Ok(Resumed {
                     begun: log.resume(),

@@ -2,17 +2,18 @@
 
 ghost use Rattle.std.specs.Prelude.{◌≡◌, ◌≤◌, IfOk, IfErr, IsTrue};
 ghost use Rattle.dms_moments.specs.Moments.{Steps};
-ghost use Rattle.dms_site.specs.Files.{Same};
+ghost use Rattle.dms_site.specs.Files.{Files, Same};
 ghost use Rattle.dms_audfile.specs.Counting.{CountedAt};
 ghost use Rattle.dms_audfile.specs.Reads.{Refuses};
 ghost use Rattle.dms_audfile.specs.AuditTrail.{IsFound};
+ghost use Rattle.dms_audfile.specs.Ends.{Grown};
 ghost use Rattle.dms_audfile.specs.TrailEntries.{trail_entries};
 ghost use Rattle.dms_restore.specs.Laying.{IsAtStart};
 ghost use Rattle.dms_restore.specs.Scanned.{AreEntryPlaces};
-ghost use Rattle.dms_restore.specs.Tracing.{IsTraced};
+ghost use Rattle.dms_restore.specs.Traces.{IsTraceOf};
 
 use crate::trail_scan::{TrailScan, scan_trail};
-use crate::{Log, TrailHistory};
+use crate::{Log, TrailTrace};
 use dms_audfile::laws::{entries_stand_at_their_places, what_is_found_are_the_entries};
 use dms_audfile::{AudFault, AuditEnd, Place};
 use dms_site::Site;
@@ -30,11 +31,12 @@ pub struct Scanned<S: Site> {
     /// Where the entries of its trail begin, in order.
     pub places: Vec<Place>,
     /// What its entries tell.
-    pub history: TrailHistory,
+    pub trace: TrailTrace,
 }
 
 impl<S: Site> Found<S> {
-    /// Syncs, scans the audit trail, and reads its entries. What is appended may go on up to audit file `limit`, from 1 to 9,999.
+    /// Syncs, scans the audit trail, and reads its entries. What they tell stays so while the trail grows. What is appended may go on
+    /// up to audit file `limit`, from 1 to 9,999.
     ///
     /// Nothing changes. Answers the first refusal of the trail, Disk where a call of the site failed, and Memory.
     pub fn scan(self, alloc: Global, limit: u32) -> Result<Scanned<S>, (AudFault, Found<S>)>
@@ -42,7 +44,8 @@ impl<S: Site> Found<S> {
         ensures starts { IfOk result (λ s. IsTrue S.tells → IsAtStart s.log.end s.log.first (S.files s.log.site) (S.clock s.log.site)) }
         ensures found { IfOk result (λ s. IsTrue S.tells → IsFound (S.files self.site) s.log.first s.places.items) }
         ensures places { IfOk result (λ s. IsTrue S.tells → AreEntryPlaces s.log.end.total s.log.first (S.files self.site) s.places.items) }
-        ensures traced { IfOk result (λ s. IsTrue S.tells → IsTraced (S.files self.site) (trail_entries s.log.end.total s.log.first (S.files self.site)) s.history) }
+        ensures traced { IfOk result (λ s. IsTrue S.tells → IsTraceOf (S.files self.site) (trail_entries s.log.end.total s.log.first (S.files self.site)) s.trace) }
+        ensures stays { IfOk result (λ s. IsTrue S.tells → (new : Files) → Grown s.log.end.total s.log.first (S.files self.site) new → IsTraceOf new (trail_entries s.log.end.total s.log.first (S.files self.site)) s.trace) }
         ensures limit { IfOk result (λ s. s.log.end.limit ≡ limit) }
         ensures refused { IfErr result (λ e. IsTrue S.tells → Refuses (S.files self.site) e.0) }
         ensures files { IfOk result (λ s. IsTrue S.tells → S.files s.log.site ≡ S.files self.site) }
@@ -69,7 +72,7 @@ impl<S: Site> Found<S> {
             Ok(read) => read,
             Err(fault) => return Err((fault, Found { site })),
         };
-        let TrailScan { scan, history } = read;
+        let TrailScan { scan, trace } = read;
         match AuditEnd::new(alloc, &scan.reach, limit) {
             Ok(end) => Ok(Scanned {
                 log: Log {
@@ -78,7 +81,7 @@ impl<S: Site> Found<S> {
                     first: scan.first,
                 },
                 places: scan.places,
-                history,
+                trace,
             }),
             Err(_) => Err((AudFault::Memory, Found { site })),
         }

@@ -1,4 +1,4 @@
-use Rattle.std.proofs.Common.{◌+◌, ◌/◌, ◌≤◌, ◌≡◌, ◌∙◌, ℕ, List, length, refl, sym, subst, arith}
+use Rattle.std.proofs.Common.{◌+◌, ◌/◌, ◌≤◌, ◌∙◌, List, length, refl, sym, subst, arith}
 use Rattle.dms_history.specs.Entries.{Entry}
 use Rattle.dms_moments.specs.Moments.{Runs}
 use Rattle.dms_restore.specs.Bodies.{bodies}

@@ -3,7 +3,7 @@ use Rattle.dms_restore.proofs.Results.{is_fault, counted_fault, counted_call}
 use Rattle.dms_site.specs.Files.{Files, Only}
 use Rattle.dms_running.specs.Restoring.{IsKept, Rewritten}
 use Rattle.dms_restore.specs.Table.{AllStandAsTold}
-use Rattle.dms_restore.proofs.Beginnings.{then_looks, table_leave, table_begun, table_restored, table_keeps}
+use Rattle.dms_restore.proofs.Beginnings.{then_looks, table_leave, table_begun, table_restored, table_keeps, table_entries}
 use Rattle.dms_restore.proofs.begun.Begun.restore.Goals as goal
 
 pub returns-in-Ok-clause-begun : goal.returns-in-Ok-clause-begun
@@ -15,6 +15,12 @@ returns-in-Ok-clause-begun g c p tells begun is =
 pub returns-in-Ok-clause-keeps : goal.returns-in-Ok-clause-keeps
 returns-in-Ok-clause-keeps g c p tells begun is =
     table_keeps p _ begun (g.met.S.Site.may_stay c.args.self.log.site tells) c.args.table.now is _ _
+    (then_looks (IsKept p.entries p.point) _ _ _ (c.write_all.ensures.moments p.entries p.point tells is.each) c.sync.ensures.moments)
+    (subst (λ (l : Files). Rewritten (IsKept p.entries p.point) (g.S.Site.files c.args.self.log.site) l) (sym (c.sync.ensures.files tells)) (c.write_all.ensures.written p.entries p.point tells is.each))
+
+pub returns-in-Ok-clause-entries : goal.returns-in-Ok-clause-entries
+returns-in-Ok-clause-entries g c p tells begun is =
+    table_entries p _ begun (g.met.S.Site.may_stay c.args.self.log.site tells) c.args.table.now is _ _
     (then_looks (IsKept p.entries p.point) _ _ _ (c.write_all.ensures.moments p.entries p.point tells is.each) c.sync.ensures.moments)
     (subst (λ (l : Files). Rewritten (IsKept p.entries p.point) (g.S.Site.files c.args.self.log.site) l) (sym (c.sync.ensures.files tells)) (c.write_all.ensures.written p.entries p.point tells is.each))
 

@@ -1,29 +1,30 @@
-use Rattle.std.proofs.Common.{Err, refl}
+use Rattle.std.proofs.Common.{Err, [], refl, subst}
+use Rattle.dms_audfile.specs.Ends.{Grown}
 use Rattle.dms_audrec.specs.Seen.{how_seen}
 use Rattle.dms_restore.proofs.Sizes.{begin_size}
 use Rattle.dms_restore.proofs.Results.{counted_fault}
 use Rattle.dms_restore.proofs.Logs.{full_seals}
-use Rattle.dms_restore.proofs.Beginnings.{kind_is, begin_leave, begin_begun, begin_keeps}
+use Rattle.dms_restore.proofs.Beginnings.{kind_is, begin_leave, begin_begun, begin_keeps, begin_sealed}
 use Rattle.dms_restore.proofs.log.Log.begin.Goals as goal
 
 pub returns-in-Ok-clause-begun : goal.returns-in-Ok-clause-begun
-returns-in-Ok-clause-begun g c tells =
-    begin_begun _ (c.requires.runs tells) (g.met.S.Site.may_stay c.args.self.site tells) c.args.point (how_seen c.args.how) c.requires.by_audit (c.requires.last tells) _ c.append.ensures.kind.0 refl
+returns-in-Ok-clause-begun g c tells runs last =
+    begin_begun _ runs (g.met.S.Site.may_stay c.args.self.site tells) c.args.point (how_seen c.args.how) c.requires.by_audit last _ c.append.ensures.kind.0 refl
     (λ first waiting plain ends. c.append.ensures.moments first waiting tells plain ends) (λ first waiting plain ends. c.in-Ok.ensures.appends first waiting tells plain ends) (c.in-Ok.ensures.behind tells)
 
 pub returns-in-Ok-clause-keeps : goal.returns-in-Ok-clause-keeps
-returns-in-Ok-clause-keeps g c tells =
-    begin_keeps _ (c.requires.runs tells) (g.met.S.Site.may_stay c.args.self.site tells) c.args.point (how_seen c.args.how) c.requires.by_audit (c.requires.last tells) _ c.append.ensures.kind.0 refl
+returns-in-Ok-clause-keeps g c tells runs last =
+    begin_keeps _ runs (g.met.S.Site.may_stay c.args.self.site tells) c.args.point (how_seen c.args.how) c.requires.by_audit last _ c.append.ensures.kind.0 refl
     (λ first waiting plain ends. c.append.ensures.moments first waiting tells plain ends) (λ first waiting plain ends. c.in-Ok.ensures.appends first waiting tells plain ends) (c.in-Ok.ensures.behind tells)
 
 pub returns-in-Ok-clause-moments : goal.returns-in-Ok-clause-moments
-returns-in-Ok-clause-moments g c tells =
-    begin_leave _ (c.requires.runs tells) (g.met.S.Site.may_stay c.args.self.site tells) c.args.point (how_seen c.args.how) c.requires.by_audit (c.requires.last tells) _
+returns-in-Ok-clause-moments g c tells runs last =
+    begin_leave _ runs (g.met.S.Site.may_stay c.args.self.site tells) c.args.point (how_seen c.args.how) c.requires.by_audit last _
     (λ first waiting plain ends. c.append.ensures.moments first waiting tells plain ends)
 
 pub returns-in-Err-clause-stopped : goal.returns-in-Err-clause-stopped
-returns-in-Err-clause-stopped g c tells =
-    begin_leave _ (c.requires.runs tells) (g.met.S.Site.may_stay c.args.self.site tells) c.args.point (how_seen c.args.how) c.requires.by_audit (c.requires.last tells) _
+returns-in-Err-clause-stopped g c tells runs last =
+    begin_leave _ runs (g.met.S.Site.may_stay c.args.self.site tells) c.args.point (how_seen c.args.how) c.requires.by_audit last _
     (λ first waiting plain ends. c.append.ensures.moments first waiting tells plain ends)
 
 pub append-requires-clause-size : goal.append-requires-clause-size
@@ -36,9 +37,18 @@ pub returns-in-Err-clause-disk : goal.returns-in-Err-clause-disk
 returns-in-Err-clause-disk g c = counted_fault _ _ _ _ c.in-Err.ensures.disk
 
 pub returns-in-Err-clause-kept : goal.returns-in-Err-clause-kept
-returns-in-Err-clause-kept g c full tells =
-    full_seals _ (c.requires.runs tells) (g.met.S.Site.may_stay c.args.self.site tells) _ c.append.ensures.kind.0 refl _
+returns-in-Err-clause-kept g c full tells runs =
+    full_seals _ runs (g.met.S.Site.may_stay c.args.self.site tells) _ c.append.ensures.kind.0 refl _
     (λ first waiting plain ends. c.append.ensures.moments first waiting tells plain ends) (λ first waiting ends. c.in-Err.ensures.kept (λ i. Err (full i)) first waiting tells ends) (g.met.S.Site.may_stay c.append.new.site tells)
 
 pub returns-in-Err-clause-past : goal.returns-in-Err-clause-past
 returns-in-Err-clause-past g c full = c.in-Err.ensures.past (λ i. Err (full i))
+
+pub returns-in-Ok-clause-grown : goal.returns-in-Ok-clause-grown
+returns-in-Ok-clause-grown g c tells start = subst (λ k. Grown k c.args.self.first (g.S.Site.files c.args.self.site) (g.S.Site.files c.append.new.site)) c.append.ensures.kind.0
+    (c.in-Ok.ensures.appends c.args.self.first [] tells tt start.ends).grown
+
+pub returns-in-Ok-clause-sealed : goal.returns-in-Ok-clause-sealed
+returns-in-Ok-clause-sealed g c tells start =
+    begin_sealed c.args.self.end.total c.args.self.first c.args.point (how_seen c.args.how) (g.S.Site.files c.args.self.site) (g.S.Site.files c.append.new.site) (g.S.Site.clock c.append.new.site) _ c.append.ensures.kind.0
+    (c.in-Ok.ensures.appends c.args.self.first [] tells tt start.ends)

@@ -1,4 +1,4 @@
-use Rattle.dms_restore.proofs.Scans.{scan_places, traced_as}
+use Rattle.dms_restore.proofs.Scans.{scan_places, traced_as, stays_as}
 use Rattle.dms_restore.proofs.scanning.Found.scan.Goals as goal
 
 pub returns-in-Ok-new-clause-places : goal.returns-in-Ok-new-clause-places
@@ -7,3 +7,6 @@ returns-in-Ok-new-clause-places g c tells =
 
 pub returns-in-Ok-new-clause-traced : goal.returns-in-Ok-new-clause-traced
 returns-in-Ok-new-clause-traced g c tells = traced_as _ _ _ _ _ _ (c.sync.ensures.files tells) c.in-Ok-new.ensures.kind.0 (c.in-Ok-scan_trail.ensures.traced tells)
+
+pub returns-in-Ok-new-clause-stays : goal.returns-in-Ok-new-clause-stays
+returns-in-Ok-new-clause-stays g c tells = stays_as _ _ _ _ _ _ (c.sync.ensures.files tells) c.in-Ok-new.ensures.kind.0 (c.in-Ok-scan_trail.ensures.stays tells)

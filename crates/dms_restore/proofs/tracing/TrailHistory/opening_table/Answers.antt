@@ -1,0 +1,7 @@
+use Rattle.dms_restore.proofs.Results.{one_if_ok}
+use Rattle.dms_restore.proofs.tracing.TrailHistory.opening_table.Goals as goal
+
+pub returns-clause-table : goal.returns-clause-table
+returns-clause-table c = one_if_ok c.pending_table.result c.pending_table.ensures.table (λ v table files entries p t o.
+    let k = c.in-Ok.ensures files entries p t o in
+    table files k.entries p k.traced k.pending)

@@ -1,0 +1,56 @@
+//! The start of an opening: a restore by halt/load is begun, or the pending one goes on.
+
+ghost use Rattle.std.specs.Prelude.{◌≡◌, ◌⊎◌, ◌++◌, [], ◌∷◌, true, if◌then◌else◌, length, IfOk, IfErr, IsTrue};
+ghost use Rattle.dms_history.specs.History.{Pending};
+ghost use Rattle.dms_audfile.specs.Counting.{CountedAt};
+ghost use Rattle.dms_history.specs.Entries.{begin_restore, by_halt_load};
+ghost use Rattle.dms_audrec.specs.Spelling.{spelling};
+ghost use Rattle.dms_audfile.specs.Ends.{Grown, is_past};
+ghost use Rattle.dms_audfile.specs.TrailEntries.{trail_entries};
+ghost use Rattle.dms_restore.specs.Logging.{view};
+ghost use Rattle.dms_restore.specs.Laying.{IsAtStart};
+ghost use Rattle.dms_restore.specs.Begins.{BegunAt, LeavesEach};
+ghost use Rattle.dms_restore.specs.Starts.{MayOpen, BegunFrom};
+
+use crate::{Begun, Log};
+use dms_audfile::AudFault;
+use dms_audrec::How;
+use dms_site::Site;
+
+impl<S: Site> Log<S> {
+    /// Begins a restore by halt/load to the last point of a trail that was scanned, or goes on with the restore that is pending.
+    ///
+    /// Going on makes no call of the site. Answers Disk where a call of the site failed, and else Full where the audit has no room for
+    /// the Begin.
+    pub fn start(self, begins: bool, point: u64) -> Result<Begun<S>, (AudFault, Log<S>)>
+        ensures begun { IfOk result (λ b. (p : Pending) → IsTrue S.tells → MayOpen (view self.end self.first (S.files self.site) (S.clock self.site)) begins point p
+            → BegunAt p (view b.log.end b.log.first (S.files b.log.site) (S.clock b.log.site))) }
+        ensures keeps { IfOk result (λ b. (p : Pending) → IsTrue S.tells → MayOpen (view self.end self.first (S.files self.site) (S.clock self.site)) begins point p
+            → BegunFrom p (view self.end self.first (S.files self.site) (S.clock self.site)) (view b.log.end b.log.first (S.files b.log.site) (S.clock b.log.site))) }
+        ensures sealed { IfOk result (λ b. IsTrue S.tells → IsAtStart self.end self.first (S.files self.site) (S.clock self.site)
+            → trail_entries self.end.total self.first (S.files b.log.site) ≡ trail_entries self.end.total self.first (S.files self.site) ++ (if begins then begin_restore point by_halt_load ∷ [] else [])) }
+        ensures grown { IfOk result (λ b. IsTrue S.tells → IsAtStart self.end self.first (S.files self.site) (S.clock self.site) → Grown self.end.total self.first (S.files self.site) (S.files b.log.site)) }
+        ensures moments { IfOk result (λ b. (p : Pending) → IsTrue S.tells → MayOpen (view self.end self.first (S.files self.site) (S.clock self.site)) begins point p
+            → LeavesEach (view self.end self.first (S.files self.site) (S.clock self.site)) (view b.log.end b.log.first (S.files b.log.site) (S.clock b.log.site))) }
+        ensures stopped { IfErr result (λ e. (p : Pending) → IsTrue S.tells → MayOpen (view self.end self.first (S.files self.site) (S.clock self.site)) begins point p
+            → LeavesEach (view self.end self.first (S.files self.site) (S.clock self.site)) (view e.1.end e.1.first (S.files e.1.site) (S.clock e.1.site))) }
+        ensures same { IfOk result (λ b. S.same_site self.site b.log.site) }
+        ensures same_then { IfErr result (λ e. S.same_site self.site e.1.site) }
+        ensures said { IfOk result (λ b. S.said b.log.site ≡ S.said self.site) }
+        ensures said_then { IfErr result (λ e. S.said e.1.site ≡ S.said self.site) }
+        ensures clean { IfOk result (λ b. S.disk_faults b.log.site ≡ S.disk_faults self.site) }
+        ensures only { IfErr result (λ e. (e.0 ≡ AudFault.Disk) ⊎ (e.0 ≡ AudFault.Full self.end.limit)) }
+        ensures begins { IfErr result (λ e. begins ≡ true) }
+        ensures past { IfErr result (λ e. e.0 ≡ AudFault.Full self.end.limit → is_past self.end (length (spelling (begin_restore point by_halt_load))) true ≡ true) }
+        ensures disk { IfErr result (λ e. CountedAt (e.0 ≡ AudFault.Disk) (S.disk_faults self.site) (S.disk_faults e.1.site)) }
+        ensures say_faults { IfOk result (λ b. S.say_faults b.log.site ≡ S.say_faults self.site) }
+        ensures say_faults_then { IfErr result (λ e. S.say_faults e.1.site ≡ S.say_faults self.site) }
+        ensures kind { IfOk result (λ b. (b.log.end.total ≡ self.end.total) × (b.log.end.tag ≡ self.end.tag) × (b.log.end.limit ≡ self.end.limit) × (b.log.first ≡ self.first)) }
+    {
+        if begins {
+            self.begin(point, How::HaltLoad)
+        } else {
+            Ok(Begun { log: self })
+        }
+    }
+}
