@@ -35,14 +35,14 @@ fn table_in(alloc: Global, read: &TrailScan, total: u32, first: u32) -> Result<V
     ensures blocks { IfOk result (λ v. AreBlocks v.items) }
     ensures total { IfOk result (λ v. read.now.scan.reach.total ≡ total) }
     ensures first { IfOk result (λ v. read.now.scan.first ≡ first) }
-    ensures table { IfOk result (λ v. (files : Files) (entries : List meaning.Entry) (p : Pending) → IsTraced files entries read.now.history → (history_of entries).pending ≡ Some p
+    ensures table { IfOk result (λ v. (files : Files) (entries : List meaning.Entry) (p : Pending) → IsTraced files entries read.now.trace.history → (history_of entries).pending ≡ Some p
         → IsTable p.entries p.point files v.items) }
     ensures only { IfErr result (λ e. e ≡ AudFault.Memory) }
 {
     if read.scan.first != first || read.scan.reach.total != total {
         return Err(AudFault::Memory);
     }
-    match read.history.pending_table(alloc) {
+    match read.trace.history.pending_table(alloc) {
         Ok(table) => Ok(table),
         Err(_) => Err(AudFault::Memory),
     }
