@@ -3,7 +3,7 @@ use Rattle.std.proofs.Common.{ℕ, ◌≡◌, ◌⊎◌, inl, inr, sym, subst}
 use Rattle.std.specs.Prelude.{IsErrOf}
 use Rattle.std.specs.declared.result.Result.TheVariants.{Err}
 use Rattle.dms_audfile.specs.declared.fault.AudFault.{AudFault}
-use Rattle.dms_audfile.specs.declared.fault.AudFault.TheVariants.{Disk, Full, Memory}
+use Rattle.dms_audfile.specs.declared.fault.AudFault.TheVariants.{Disk, Full}
 use Rattle.dms_audfile.specs.Counting.{CountedAt}
 use Rattle.dms_block.specs.declared.block_fault.BlockFault.{BlockFault}
 use Rattle.dms_block.specs.declared.block_fault.BlockFault.TheVariants as block

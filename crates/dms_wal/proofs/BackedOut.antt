@@ -1,10 +1,9 @@
 -- A running database went back to its last point.
-use Rattle.std.proofs.Common.{ℕ, ◌+◌, ◌≤◌, ◌≡◌, Bool, cond, IsTrue, List, [], ◌∷◌, ◌++◌, length, Option, Some, None, refl, sym, ◌∙◌, ap, subst, arith}
+use Rattle.std.proofs.Common.{ℕ, ◌≡◌, Bool, cond, IsTrue, List, [], ◌∷◌, ◌++◌, length, Some, None, refl, sym, ◌∙◌, ap, subst, arith}
 use Rattle.std.specs.Global.{Vec}
 use Rattle.dms_moments.specs.Moments.{Now, Steps}
 use Rattle.dms_site.specs.declared.site.Site.{Ghosts}
 use Rattle.dms_site.specs.Files.{Left}
-use Rattle.dms_block.specs.declared.block.BlockId.{BlockId}
 use Rattle.dms_block.specs.Held.{MakesNoPoint, Stays}
 use Rattle.dms_history.specs.Events.{Content}
 use Rattle.dms_history.specs.Entries.{Entry, begin_restore, by_back_out, control_point}
@@ -12,7 +11,6 @@ use Rattle.dms_history.specs.Schemas.{schema_entries}
 use Rattle.dms_history.specs.declared.event.FileCount.{FileCount}
 use Rattle.dms_history.specs.Points.{LivePoint}
 use Rattle.dms_pool.specs.declared.pool.Pool.{Pool}
-use Rattle.dms_pool.specs.declared.frame.Frame as pools
 use Rattle.dms_pool.specs.Calls.{IsEmpty}
 use Rattle.dms_audrec.specs.Spelling.{pair_bytes, count_file, count_blocks}
 use Rattle.dms_restore.specs.Counts.{file_counts}

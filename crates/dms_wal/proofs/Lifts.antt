@@ -1,25 +1,24 @@
 -- What calls of a log leave of it, as blocks see it.
-use Rattle.std.proofs.Common.{ℕ, zero, suc, ◌+◌, ◌≤◌, ◌≡◌, inl, inr, ⊎_elim, Bool, IsTrue, List, [], ◌∷◌, ◌++◌, length, length-take, take, map, Option, Some, refl, sym, ◌∙◌, ap, subst, arith}
+use Rattle.std.proofs.Common.{ℕ, ◌+◌, ◌≤◌, ◌≡◌, inl, inr, ⊎_elim, Bool, IsTrue, List, [], ◌∷◌, ◌++◌, length, length-take, map, Option, refl, sym, ◌∙◌, ap, subst, arith}
 use Rattle.std.specs.Prelude.{◌&&◌, nat_lt, nat_le}
-use Rattle.std.proofs.lemmas.List.{length-map}
 use Rattle.dms_moments.specs.Moments.{Clock, Now, Runs, Steps}
 use Rattle.dms_moments.specs.MomentLaws.{runs_weaken}
-use Rattle.dms_moments.specs.SeenLaws.{runs_seen_as, now_seen_as, runs_below_as}
+use Rattle.dms_moments.specs.SeenLaws.{runs_seen_as, runs_below_as}
 use Rattle.dms_site.specs.Files.{Left}
 use Rattle.dms_block.specs.Content.{Content}
 use Rattle.dms_block.specs.Counts.{Faults}
-use Rattle.dms_block.specs.Held.{Held, BlockPoint, BlockStop, Uses, Prefix, TextIs, Lasts, MakesNoPoint, Stays, BlocksAgree}
+use Rattle.dms_block.specs.Held.{Held, BlockStop, Uses, Prefix, TextIs, Lasts, MakesNoPoint, Stays}
 use Rattle.dms_history.specs.Points.{LivePoint}
 use Rattle.dms_running.specs.Telling.{Telling}
 use Rattle.dms_running.specs.Standing.{IsWhole}
 use Rattle.dms_running.specs.Points.{LeavesPointsPrefix, points_of}
-use Rattle.dms_running.proofs.Appending.{now_leaves, points_enough}
+use Rattle.dms_running.proofs.Appending.{now_leaves}
 use Rattle.dms_restore.specs.Logging as logs
 use Rattle.dms_restore.specs.Logging.{LogView, telling, state, points, durable, here, content, LogRuns, PrintsNothing}
 use Rattle.dms_restore.proofs.Logs as lemmas
 use Rattle.dms_restore.proofs.Logs.{Reads}
 use Rattle.dms_wal.specs.AgreeLaws.{TellsText, front_lifted}
-use Rattle.dms_wal.specs.Lifting.{point_under, stop_of, lifted, last_blocks, count_of, held_of}
+use Rattle.dms_wal.specs.Lifting.{point_under, stop_of, lifted, last_blocks, held_of}
 
 -- two things that are said of the same time
 pub both_run : {X : Type 0} {a b : Clock X} {P Q : X → Type 0} → Runs a b P → Runs a b Q → Runs a b (λ x. P x × Q x)

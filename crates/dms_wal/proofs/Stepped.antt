@@ -1,5 +1,5 @@
 -- A step of a running database: another log, another pool, perhaps other counts.
-use Rattle.std.proofs.Common.{ℕ, ◌≤◌, ◌<◌, ◌≡◌, inl, inr, Bool, true, false, cond, IsTrue, List, length, Some, None, refl, ◌∙◌, ap, arith}
+use Rattle.std.proofs.Common.{ℕ, ◌≤◌, ◌<◌, ◌≡◌, inl, inr, Bool, cond, IsTrue, List, length, Some, None, refl, ap, arith}
 use Rattle.std.specs.Global.{Vec}
 use Rattle.std.specs.declared.result.Result.{Result}
 use Rattle.std.proofs.lemmas.Bool.{cases_lt}
@@ -13,7 +13,6 @@ use Rattle.dms_block.specs.Faults.{NotFull}
 use Rattle.dms_block.specs.Held.{Held, Looks, MakesNoPoint, Stays, Used, Uses}
 use Rattle.dms_block.specs.HeldLaws.{unbroken_is}
 use Rattle.dms_history.specs.Points.{LivePoint}
-use Rattle.dms_history.proofs.Picks.{some_is}
 use Rattle.dms_pool.specs.declared.pool.Pool.{Pool}
 use Rattle.dms_restore.specs.declared.log.Log.{Log}
 use Rattle.dms_restore.specs.Logging as logs

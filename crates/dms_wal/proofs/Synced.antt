@@ -6,7 +6,7 @@ use Rattle.std.specs.Global.{Vec}
 use Rattle.dms_history.specs.Points.{LivePoint}
 use Rattle.dms_site.specs.declared.site.Site.{Ghosts}
 use Rattle.dms_site.specs.Files.{Files, Left, PrintsPartOf}
-use Rattle.dms_block.specs.Held.{BlocksAgree, IfTold, Leaves, LeavesText, MadeDurable, MadeQuiet, MakesNoPoint, Stays}
+use Rattle.dms_block.specs.Held.{IfTold, Leaves, LeavesText, MadeDurable, MadeQuiet, MakesNoPoint, Stays}
 use Rattle.dms_restore.specs.declared.log.Log.{Log}
 use Rattle.dms_restore.specs.Logging as logs
 use Rattle.dms_restore.specs.Logging.{telling_of, telling, view, points, durable, here, LogRuns, PrintsNothing, LogsNothing, LogsQuiet}

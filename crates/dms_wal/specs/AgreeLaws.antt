@@ -1,13 +1,12 @@
 -- Law: what a usable database tells hangs together.
-use Rattle.std.specs.Prelude.{option_map}
-use Rattle.std.proofs.Common.{ℕ, zero, suc, ◌+◌, ◌≤◌, ◌≡◌, Bool, true, false, cond, IsTrue, List, [], ◌∷◌, length, take, map, Option, Some, None, refl, sym, ◌∙◌, ap, subst, arith}
+use Rattle.std.proofs.Common.{ℕ, zero, suc, ◌≡◌, Bool, true, false, cond, IsTrue, List, [], ◌∷◌, length, take, map, Option, Some, None, refl, sym, ◌∙◌, ap, subst, arith}
 use Rattle.std.proofs.lemmas.List.{length-map}
 use Rattle.dms_moments.specs.Moments.{Clock, Now}
 use Rattle.dms_moments.specs.SeenLaws.{now_seen_as}
 use Rattle.dms_site.specs.declared.site.Site.{Ghosts}
 use Rattle.dms_site.specs.Files.{Left}
 use Rattle.dms_block.specs.Counts.{Faults}
-use Rattle.dms_block.specs.Held.{BlockPoint, BlockStop, Uses, Prefix, TextIs, BlocksAgree}
+use Rattle.dms_block.specs.Held.{BlockPoint, Uses, Prefix, TextIs, BlocksAgree}
 use Rattle.dms_history.specs.Points.{LivePoint}
 use Rattle.dms_history.proofs.Picks.{some_is}
 use Rattle.dms_running.specs.Telling.{Telling}

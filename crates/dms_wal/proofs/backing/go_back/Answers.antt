@@ -6,7 +6,7 @@ use Rattle.dms_wal.specs.Database.{view_of}
 use Rattle.dms_wal.proofs.Controlling.{count_table}
 use Rattle.dms_wal.proofs.BackedOut.{back_by, back_counts}
 use Rattle.dms_wal.proofs.Limits.{by_with, went_from, went_to, leaves_with}
-use Rattle.dms_wal.proofs.Reaching.{EndsAlike, runs_alike}
+use Rattle.dms_wal.proofs.Reaching.{runs_alike}
 use Rattle.dms_wal.proofs.backing.go_back.Goals as goal
 
 pub back_out-done-requires-clause-runs : goal.back_out-done-requires-clause-runs
