@@ -1,0 +1,5 @@
+pub mod Leaving
+pub mod Words
+pub mod Lowering
+pub mod Standing
+pub mod Running

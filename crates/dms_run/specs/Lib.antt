@@ -1,0 +1,5 @@
+pub mod States
+pub mod Stops
+pub mod Laws
+pub mod Files
+pub mod Starting

@@ -1,0 +1,69 @@
+-- Where a run of a script begins, and what it does, by the engine before and after it.
+use Rattle.std.specs.Prelude.{ℕ, ◌≡◌, ◌<◌, ◌+◌, ◌^◌, List, length}
+use Rattle.std.specs.declared.option.Option.{Option}
+use Rattle.dms_block.specs.Texts.{Prints, PrintsPrefix}
+use Rattle.dms_desc.specs.Shape.{described}
+use Rattle.dms_feed.specs.Feeds.{Remains}
+use Rattle.dms_feed.specs.Lines.{raw_lines}
+use Rattle.dms_model.specs.declared.store.Store.{Ghosts}
+use Rattle.dms_model.specs.Db.{Db}
+use Rattle.dms_model.specs.Session.{fresh_session, ended}
+use Rattle.dms_moments.specs.Moments.{Runs}
+use Rattle.dms_runner.specs.Answers.{answers_text, last_quiet, script_events, script_run}
+use Rattle.dms_runner.specs.Events.{RunEvent, quiets_of, SaidWhole}
+use Rattle.dms_runner.specs.Running.{CutInput, PassesBytes, PassesLines, PassesWaiting}
+use Rattle.dms_storeverbs.specs.declared.engine.Engine.{Engine}
+use Rattle.dms_storeverbs.specs.View.{StandsFor, seen, view}
+use Rattle.dms_run.specs.States.{EndsWith}
+use Rattle.dms_run.specs.Stops.{last_quiet_number, RunLeaves}
+
+module _ {St : Type 0} {g : Ghosts St} where
+  -- A run begins with this engine: its store tells its points, which end with this database at point n and are all durable; no program
+  -- is open, the next number is `first`, and there is room for the numbers of a script.
+  pub record BeginsWith (e : Engine St g) (n : ℕ) (db : Db) (first : ℕ) : Type 0 where
+    pub stands : StandsFor (view e) (fresh_session db first)
+    pub room : first + 1000003 < 2 ^ 64
+    pub tells : (seen e).tells
+    pub state : EndsWith (seen e).points n db
+    pub durable : (seen e).durable ≡ length (seen e).points
+
+  -- It holds of the point and the database that a run begins with, and of the events of its script.
+  abbrev pub OfScript : Engine St g → List ℕ → Option (List ℕ) → (ℕ → Db → ℕ → List RunEvent → Type 0) → Type 0
+  OfScript e feed left P = (n : ℕ) (db : Db) (first : ℕ) (all : List ℕ) → BeginsWith e n db first → Remains feed left all
+      → P n db first (script_events (described e.desc) db first (raw_lines all))
+
+  -- a stop on the way left what a run leaves
+  abbrev pub StopsLeave : Engine St g → Engine St g → ℕ → Db → ℕ → List RunEvent → Type 0
+  StopsLeave old new n db first events = Runs (seen old).clock (seen new).clock (RunLeaves (seen old).whole (seen old).said (seen old).points n db first events)
+
+  -- the points end with the last quiet point, or with that of entry
+  abbrev pub ReachesEnd : Engine St g → ℕ → Db → ℕ → List RunEvent → Type 0
+  ReachesEnd new n db first events = EndsWith (seen new).points (last_quiet_number n (quiets_of events)) (last_quiet db (quiets_of events))
+
+  -- the answers were printed, or a prefix of them
+  abbrev pub SaysAll : Engine St g → Engine St g → Db → ℕ → List ℕ → Type 0
+  SaysAll old new db first all = Prints (seen old).said (seen new).said (answers_text (described old.desc) db first (raw_lines all))
+
+  abbrev pub SaysPrefix : Engine St g → Engine St g → Db → ℕ → List ℕ → Type 0
+  SaysPrefix old new db first all = PrintsPrefix (seen old).said (seen new).said (answers_text (described old.desc) db first (raw_lines all))
+
+  -- whole answers were printed, and no part of one
+  abbrev pub SaysWholeAnswers : Engine St g → Engine St g → Db → ℕ → List ℕ → Type 0
+  SaysWholeAnswers old new db first all = SaidWhole (seen old).said (seen new).said (script_events (described old.desc) db first (raw_lines all))
+
+  -- the engine stands for the session at the end of the script
+  abbrev pub StandsAtEnd : Engine St g → Engine St g → Db → ℕ → List ℕ → Type 0
+  StandsAtEnd old new db first all = StandsFor (view new) (ended (script_run (described old.desc) db first (raw_lines all)).going.session)
+
+  -- the script passes a limit, or its input fails, and what the whole lines before that place answer was printed
+  abbrev pub StopsAtLines : Engine St g → Engine St g → Db → ℕ → List ℕ → Type 0
+  StopsAtLines old new db first all = PassesLines (described old.desc) db first (raw_lines all) (seen old).said (seen new).said
+
+  abbrev pub StopsAtBytes : Engine St g → Engine St g → Db → ℕ → List ℕ → Type 0
+  StopsAtBytes old new db first all = PassesBytes (described old.desc) db first (raw_lines all) (seen old).said (seen new).said
+
+  abbrev pub StopsAtWaiting : Engine St g → Engine St g → Db → ℕ → List ℕ → Type 0
+  StopsAtWaiting old new db first all = PassesWaiting (described old.desc) db first (raw_lines all) (seen old).said (seen new).said
+
+  abbrev pub StopsAtInput : Option (List ℕ) → Engine St g → Engine St g → Db → ℕ → List ℕ → Type 0
+  StopsAtInput left old new db first all = CutInput (described old.desc) db first all left (seen old).said (seen new).said

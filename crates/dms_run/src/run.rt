@@ -1,0 +1,44 @@
+ghost use Rattle.std.specs.Prelude.{◌≡◌, ◌≤◌, ◌+◌, [], ℕ, List, OnOk, IsErrOf};
+ghost use Rattle.dms_base.specs.Causes.{Rose};
+ghost use Rattle.dms_feed.specs.Feeds.{Remains};
+ghost use Rattle.dms_runner.specs.Blaming.{CutRun, LastsRun};
+ghost use Rattle.dms_runner.specs.Starting.{AtStart};
+ghost use Rattle.dms_storeverbs.specs.View.{seen};
+ghost use Rattle.dms_run.specs.Starting.{OfScript, ReachesEnd, SaysAll, SaysPrefix, SaysWholeAnswers, StandsAtEnd, StopsAtBytes, StopsAtInput, StopsAtLines, StopsAtWaiting, StopsLeave};
+
+use dms_feed::Feed;
+use dms_model::Store;
+use dms_runner::{RunFault, run_lines};
+use dms_site::Source;
+use dms_storeverbs::Engine;
+use std::alloc::Global;
+
+/// Runs a script over the database of a store, and prints what its lines answer. The engine has no open program, and all points of its
+/// store are durable. Where the run stops before the script's end nothing is said of the store but what stops leave.
+pub fn run_script<St: Store, I: Source>(
+    alloc: Global,
+    engine: &mut Engine<St>,
+    feed: &mut Feed,
+    source: &mut I,
+) -> Result<(), RunFault>
+    requires sound { (seen engine.old).sound }
+    ensures every_moment { OfScript engine.old feed.old (I.left source.old) (StopsLeave engine.old engine.new) }
+    ensures at_ok { OnOk result (OfScript engine.old feed.old (I.left source.old) (ReachesEnd engine.new)) }
+    ensures prints { OnOk result (AtStart engine.old feed.old (I.left source.old) (SaysAll engine.old engine.new)) }
+    ensures part { AtStart engine.old feed.old (I.left source.old) (SaysPrefix engine.old engine.new) }
+    ensures whole_answers { (CutRun result → ⊥) → AtStart engine.old feed.old (I.left source.old) (SaysWholeAnswers engine.old engine.new) }
+    ensures ended { OnOk result (AtStart engine.old feed.old (I.left source.old) (StandsAtEnd engine.old engine.new)) }
+    ensures lines { IsErrOf result RunFault.Lines → AtStart engine.old feed.old (I.left source.old) (StopsAtLines engine.old engine.new) }
+    ensures bytes { IsErrOf result RunFault.Bytes → AtStart engine.old feed.old (I.left source.old) (StopsAtBytes engine.old engine.new) }
+    ensures full_list { IsErrOf result RunFault.Held → AtStart engine.old feed.old (I.left source.old) (StopsAtWaiting engine.old engine.new) }
+    ensures failed { IsErrOf result RunFault.Input → AtStart engine.old feed.old (I.left source.old) (StopsAtInput (I.left source.new) engine.old engine.new) }
+    ensures end { OnOk result ((all : List ℕ) → Remains feed.old (I.left source.old) all → Remains feed.new (I.left source.new) []) }
+    ensures lasts { LastsRun result engine.old engine.new }
+    ensures same_source { I.same_source source.old source.new }
+    ensures input { IsErrOf result RunFault.Input → Rose (I.faults source.old) (I.faults source.new) }
+    ensures once { I.faults source.new ≤ I.faults source.old + 1 }
+    ensures taken { I.faults source.old ≤ I.faults source.new }
+    ensures clean { (IsErrOf result RunFault.Input → ⊥) → I.faults source.new ≡ I.faults source.old }
+{
+    run_lines(alloc, engine, feed, source)
+}
