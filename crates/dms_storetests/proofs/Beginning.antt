@@ -1,6 +1,6 @@
 -- New blocks in memory serve a store.
-use Rattle.std.proofs.Common.{◌≡◌, ◌∙◌, ◌+◌, ◌≤◌, ℕ, zero, suc, List, [], ◌∷◌, Bool, true, false, IsTrue, Some, None, nat_lt, nat_le, refl, sym, ap, length, slice_get, arith}
-use Rattle.std.specs.Prelude.{◌&&◌, IsSome}
+use Rattle.std.proofs.Common.{◌≡◌, ◌∙◌, ◌+◌, ◌-◌, ◌≤◌, ℕ, zero, suc, List, [], ◌∷◌, Bool, true, false, IsTrue, Some, None, nat_lt, nat_le, refl, sym, ap, subst, cond, length, slice_get, arith}
+use Rattle.std.specs.Prelude.{◌&&◌, ◌==◌, IsSome}
 use Rattle.std.proofs.lemmas.Bool.Decides.{nat_tests}
 use Rattle.dms_block.specs.Content.{Content}
 use Rattle.dms_block.specs.Held.{Held}
@@ -19,14 +19,18 @@ both true false h = absurd (cc)
 both false b h = absurd (cc)
 
 some_low : (ss : List Shape) (k : ℕ) → IsSome (slice_get ss k) → k + 1 ≤ length ss
-some_low [] k some = absurd some
+some_low [] k some = absurd (cc)
 some_low (s ∷ ss) zero some = omega arith
 some_low (s ∷ ss) (suc k) some = omega (arith, some_low ss k some)
 
 -- a structure has a number from 1 to as many as there are
 some_at : (ss : List Shape) (n : ℕ) → IsSome (structure_at ss n) → (1 ≤ n) × (n ≤ length ss)
-some_at ss zero some = absurd some
-some_at ss (suc k) some = (omega arith, omega (arith, some_low ss k some))
+some_at ss zero some = absurd (cc)
+some_at ss (suc k) some =
+    let t : (suc k == 0) ≡ false = grind (arith, nat_tests) in
+    let e : suc k - 1 ≡ k = omega arith in
+    let is : structure_at ss (suc k) ≡ slice_get ss k = ap (λ b. cond b None (slice_get ss (suc k - 1))) t ∙ ap (slice_get ss) e in
+    (omega arith, omega (arith, some_low ss k (subst IsSome is some)))
 
 owned : (n : ℕ) → 1 ≤ n → n ≤ 200 → (nat_lt 30000 (30000 + n) && nat_le (30000 + n) 30200) ≡ true
 owned n low most =
