@@ -40,7 +40,7 @@ pub may_put : (desc : Described) (s : Session) (q p : Program) (set i : ℕ) (nu
 may_put desc s q p set i number rec same at held outer ready =
     let safe : AreSafe s.db s.mark q = subst (AreSafe s.db s.mark) same (all_at (AreSafe s.db s.mark) s.programs i p at held.safe) in
     record {
-      owner = owner_so s.db.records (owner_of (structure_of desc set)) rec.owner outer.disjoint ready.unowned;
+      owner = λ new. owner_so s.db.records (owner_of (structure_of desc set)) rec.owner outer.disjoint ready.unowned;
       replaced = replaced_so s.db q set number safe.stand ready.locked;
       required = ready.required;
       verified = ready.verified;
