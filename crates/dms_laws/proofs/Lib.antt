@@ -8,3 +8,4 @@ mod Points
 pub mod Sound
 mod Stored
 pub mod Values
+pub mod Waits

@@ -31,7 +31,7 @@ use Rattle.dms_model.specs.Db.{Db, Place, fresh, records_of, rows_of, empty_db, 
 use Rattle.dms_model.specs.Points.{Quiet}
 use Rattle.dms_desc.specs.Lookups.{name_of, structure_of, items_of, set_of}
 use Rattle.dms_model.specs.Stores.{put_answer, put_unless, is_full, clash, put_after, linked, is_other, old_of, stored, values_of, kept_owner}
-use Rattle.dms_model.specs.Session.{Session, Outcome, StoreResult, Refused, Keeps, Filled, Misfit, Values', refuse, done, settle, keep, store_step, after_store, begin_step, after_begin, begun, current_of, holds, end_step, after_end, abort_step, find_step, find_for, after_find, found_by, create_step, create_for, created, owner_for, put_step, put_area, after_put, filled, get_step, get_area, close_step, open_as, open_in, open_step, verb_step, step_at, step, with_program, with_work, with_values, work_of, no_work, or_none, restart_of, someone_works, is_inquiry, opens, changes, path_of, new_program, place_of, carried, entered, left, without, idle, backed_out, found_program, stored_program, let_go, is_lock, missing_from, verified, area_values, area_number, area_owner, record_of, is_free, one_more}
+use Rattle.dms_model.specs.Session.{Session, Outcome, StoreResult, Refused, Keeps, Filled, Misfit, Values', refuse, done, settle, keep, store_step, after_store, begin_step, after_begin, begun, current_of, holds, end_step, after_end, abort_step, find_step, find_for, after_find, found_by, create_step, create_for, created, owner_for, put_step, put_area, after_put, filled, get_step, get_area, close_step, open_as, open_in, open_step, verb_step, step_at, carried_out, step, with_program, with_work, with_values, work_of, no_work, or_none, restart_of, someone_works, is_inquiry, opens, changes, path_of, new_program, place_of, carried, entered, left, without, idle, backed_out, found_program, stored_program, let_go, is_lock, missing_from, verified, area_values, area_number, area_owner, record_of, is_free, one_more}
 use Rattle.dms_laws.specs.Exclusive.{AreSafe, IsExclusive, locks_it}
 use Rattle.dms_model.specs.Spoken.{IsOuter, IsPlainLiteral}
 use Rattle.dms_model.specs.Valid.{OfItems, IsValid, is_data_set, is_set, link_stands, owner_stands}
@@ -433,7 +433,7 @@ step_at_leaves desc made (Some p) i s name v outer at ex sane =
     (leaves_if desc (is_inquiry p.mode && changes v) (refuse s _ name) _ sane (verb_leaves desc made i p s v outer at ex sane)))
 
 step_leaves : (desc : Described) → IsWellMade desc → (s : Session) (name : List ℕ) (v : Verb) → NamesOuter desc v → IsExclusive s → Sane desc s.db s.mark s.programs → Leaves desc (step desc s name v)
-unfolding step
+unfolding step carried_out
 step_leaves desc made s name v outer ex sane = step_at_leaves desc made (slice_get s.programs (place_of name s.programs)) (place_of name s.programs) s name v outer refl ex sane
 
 -- the database of no record
