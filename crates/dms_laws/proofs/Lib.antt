@@ -1,3 +1,4 @@
+mod Answered
 mod Counts
 pub mod Formed
 mod Founds
@@ -8,4 +9,3 @@ mod Points
 pub mod Sound
 mod Stored
 pub mod Values
-pub mod Waits

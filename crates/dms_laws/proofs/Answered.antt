@@ -10,11 +10,11 @@ use Rattle.dms_model.specs.declared.reply.Reply.TheVariants.{Done, Exception, Wa
 use Rattle.dms_model.specs.declared.verb.Verb.{Verb}
 use Rattle.dms_model.specs.Session.{Session, is_of_other, step, waits_after}
 use Rattle.dms_model.proofs.Rises.{step_waits}
-use Rattle.dms_laws.specs.Waits.{WaitsAsTold, named_by, waited_for}
+use Rattle.dms_laws.specs.Waiting.{WaitsAsTold, named_by, waited_for}
 
 is_false : (b : Bool) → (b ≡ true → ⊥) → b ≡ false
-is_false true no = absurd (no refl)
-is_false false no = refl
+is_false true f = absurd (f refl)
+is_false false f = refl
 
 -- two names that differ
 unlike : (x y : List ℕ) → x ≢ y → bytes_eq x y ≡ false
@@ -36,8 +36,8 @@ module _ (name : List ℕ) where
   -- another program's wait stands
   other_skip : (other : List ℕ) (w : Wait) (ws us : List Wait) (b : Bool) → (bytes_eq w.program name ≡ true → bytes_eq w.program other ≡ false) → bytes_eq w.program name ≡ b → waited_for ws other ≡ waited_for us other
       → waited_for (cond (not b) (w ∷ ws) ws) other ≡ waited_for (w ∷ us) other
-  other_skip other w ws us true no e h = rw (no e) h
-  other_skip other w ws us false no e h = ap (λ (x : List (List ℕ)). cond (bytes_eq w.program other) w.who x) h
+  other_skip other w ws us true f e h = rw (f e) h
+  other_skip other w ws us false f e h = ap (λ (x : List (List ℕ)). cond (bytes_eq w.program other) w.who x) h
 
   named_apart : (other : List ℕ) → other ≢ name → (x : List ℕ) → bytes_eq x name ≡ true → bytes_eq x other ≡ false
   named_apart other apart x e = unlike x other (λ same. apart (sym same ∙ (bytes_eq-Decides x name).0 e))
@@ -48,8 +48,8 @@ module _ (name : List ℕ) where
 
   -- a wait of another program that is put behind
   behind : (other : List ℕ) (x : Wait) → bytes_eq x.program other ≡ false → (ws : List Wait) → waited_for (ws ++ x ∷ []) other ≡ waited_for ws other
-  behind other x no [] = rw no refl
-  behind other x no (w ∷ ws) = ap (λ (y : List (List ℕ)). cond (bytes_eq w.program other) w.who y) (behind other x no ws)
+  behind other x f [] = rw f refl
+  behind other x f (w ∷ ws) = ap (λ (y : List (List ℕ)). cond (bytes_eq w.program other) w.who y) (behind other x f ws)
 
   nothing_behind : (ws : List Wait) → ws ++ [] ≡ ws
   nothing_behind [] = refl
