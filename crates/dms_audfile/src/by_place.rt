@@ -7,11 +7,11 @@ ghost use Rattle.dms_audfile.specs.AuditTrail.{entry_from, entry_there};
 ghost use Rattle.dms_audfile.specs.Blocks.{used_in};
 ghost use Rattle.dms_audfile.specs.Counting.{CountedAt};
 ghost use Rattle.dms_audfile.specs.EntryReading.{bytes_held, IsCurrent, HoldsBlock};
-ghost use Rattle.dms_audfile.specs.Reads.{OnlyReads};
+ghost use Rattle.dms_audfile.specs.Reads.{ReadsAlone};
 
 use crate::blocks::used_in;
 use crate::scanning::load;
-use crate::{AudFault, EntryReader, Place};
+use crate::{AudFault, EntryPlace, EntryReader};
 use dms_audrec::{Entry, decode};
 use dms_base::Memory;
 use dms_site::Site;
@@ -66,11 +66,11 @@ impl EntryReader {
     /// Reads the block of a place, where it isn't in the buffer already.
     ///
     /// Answers Disk where a call of the site failed, and Damaged where no audit file has a block of that number.
-    pub fn load<S: Site>(&mut self, site: &mut S, place: &Place) -> Result<(), AudFault>
+    pub fn load<S: Site>(&mut self, site: &mut S, place: &EntryPlace) -> Result<(), AudFault>
         ensures holds { OnOk result (IsTrue S.tells → IsCurrent self.old (S.files site.old) → HoldsBlock self.new place.now (S.files site.old)) }
         ensures current { IsTrue S.tells → IsCurrent self.old (S.files site.old) → IsCurrent self.new (S.files site.old) }
         ensures only { IfErr result (λ e. (e ≡ AudFault.Disk) ⊎ ((e ≡ AudFault.Damaged place.now.file place.now.block) × (512 < place.now.block))) }
-        ensures reads { OnlyReads S.tells (S.files site.old) (S.files site.new) (S.said site.old) (S.said site.new) (S.clock site.old) (S.clock site.new) (S.disk_faults site.old) (S.disk_faults site.new) (S.say_faults site.old) (S.say_faults site.new) }
+        ensures reads { ReadsAlone S.Site site.old site.new }
         ensures same_site { S.same_site site.old site.new }
         ensures disk { CountedAt (IsErrOf result AudFault.Disk) (S.disk_faults site.old) (S.disk_faults site.new) }
     {
@@ -94,7 +94,7 @@ impl EntryReader {
     }
 
     /// The entry at a place whose block is in the buffer; None where no entry is there.
-    pub fn entry(&self, place: &Place) -> Option<Entry<'_>>
+    pub fn entry(&self, place: &EntryPlace) -> Option<Entry<'_>>
         ensures held { option_map entry_seen result ≡ entry_from place.now.offset (bytes_held self.now) }
         ensures there { (files : Files) → HoldsBlock self.now place.now files → option_map entry_seen result ≡ entry_there files place.now }
     {
