@@ -16,7 +16,7 @@ use Rattle.std.proofs.lemmas.Bool.{false≢true}
 use Rattle.dms_block.specs.declared.block_fault.BlockFault.{BlockFault}
 use Rattle.dms_block.specs.Faults.{Undamaged}
 use Rattle.dms_model.specs.Points.{Files, Point, Quiet, Stop, LeavesPrefix, TextIs, told, known, Leaves, Stays}
-use Rattle.dms_model.specs.Session.{Session, Outcome, answered, settle, someone_works, waits_after}
+use Rattle.dms_model.specs.Session.{Session, Outcome, answered, settle, someone_works}
 use Rattle.dms_storeverbs.specs.Apart.{Alone}
 use Rattle.dms_storeverbs.specs.View.{View, StandsFor, MatchesOutcome, PerformsCall, Room, view_of, LeavesQuiets, MakesPoints}
 
@@ -133,30 +133,6 @@ then_did {o} {old = old} {result = result} whole silent points s next room tells
   leaves = λ t. then_settles o.quiets whole (silent.leaves t (omega (arith, next, room))) (points t (omega (arith, next, room))) silent.next silent.said (did.leaves (tells t));
 }
 
--- one whose program is answered: its wait is what the answer makes of it
-pub answered_did : {o : Outcome} {old new : Seen} {db mark : Option Db} {next since : ℕ} {programs : List Program} {pending : Bool} {before after : List Wait} {answer : Answer} (name : List ℕ) → after ≡ waits_after name answer.reply before
-    → PerformsCall o old new (view_of db mark next programs pending since before) (Ok answer) → PerformsCall (answered name o) old new (view_of db mark next programs pending since after) (Ok answer)
-answered_did name is did =
-    let m = did.answers in
-    record {
-      answers = record {
-        reply = m.reply;
-        sync = m.sync;
-        session = record {
-          db = m.session.db;
-          mark = m.session.mark;
-          next = m.session.next;
-          programs = m.session.programs;
-          pending = m.session.pending;
-          since = m.session.since;
-          waits = is ∙ (λ j. waits_after name (m.reply j) (m.session.waits j));
-        };
-      };
-      made = did.made;
-      undamaged = did.undamaged;
-      leaves = did.leaves;
-    }
-
--- and one that failed before the end of it
+-- a call whose program wasn't answered in the end
 pub unanswered_did : {o : Outcome} {old new : Seen} {then now : View} {before result : Result Answer BlockFault} (name : List ℕ) → IsErr result → Undamaged result → PerformsCall o old new then before → PerformsCall (answered name o) old new now result
 unanswered_did {result = result} name err undamaged did = record { answers = if_err result _ err; made = λ t. if_err result _ err; undamaged = undamaged; leaves = did.leaves }

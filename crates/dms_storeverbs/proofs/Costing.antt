@@ -87,7 +87,3 @@ plain_costs {a = a} {x = x} none p = record {
   few_syncs = few_same p.syncs;
   few_outs = few_same p.outs;
 }
-
--- one that failed behind its answer
-pub unanswered_costs : {n : ℕ} {a b : Effort} {backs : Bool} {x : Answer} {r : Result Answer BlockFault} → IsErr r → Costs n backs (Ok x) a b → Costs n backs r a b
-unanswered_costs {r = r} err p = record { least = p.least; spent = p.spent; syncs = if_err r _ err; outs = if_err r _ err; few_syncs = p.few_syncs; few_outs = p.few_outs }

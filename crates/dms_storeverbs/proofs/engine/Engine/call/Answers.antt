@@ -1,8 +1,7 @@
 use Rattle.std.proofs.Common.{rules}
 use Rattle.dms_block.specs.Faults.{Undamaged}
 use Rattle.dms_model.specs.Session.{step}
-use Rattle.dms_storeverbs.proofs.Calls.{answered_did, unanswered_did}
-use Rattle.dms_storeverbs.proofs.Costing.{unanswered_costs}
+use Rattle.dms_storeverbs.proofs.Calls.{unanswered_did}
 use Rattle.dms_storeverbs.proofs.engine.Engine.call.Goals as goal
 
 pub returns-in_err-answer-clause-step : goal.returns-in_err-answer-clause-step
