@@ -105,12 +105,19 @@ pub fn is_due(pending: bool, sync: bool, syncpoint: u16, since: u64) -> bool
     pending || sync || u64::from(syncpoint) <= since
 }
 
+/// No verb of the program was carried out since the quiet point that was made now.
+fn make_idle(program: &mut Program)
+    ensures { program.new ≡ idle program.old }
+{
+    program.active = false;
+}
+
 /// No verb was carried out since the quiet point that was made now.
 pub fn clear_active(programs: &mut [Program])
     ensures { programs.new ≡ map idle programs.old }
 {
     for program in programs.iter_mut() {
-        program.active = false;
+        make_idle(program);
     }
 }
 
