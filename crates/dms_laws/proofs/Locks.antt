@@ -1,5 +1,5 @@
 -- No step makes two programs lock one record, or changes what another program locks.
-use Rattle.std.proofs.Common.{◌≡◌, ◌+◌, ℕ, zero, suc, List, [], ◌∷◌, ◌++◌, Bool, true, false, cond, Some, None, refl, sym, ap, ◌∙◌, subst, not, ◌&&◌, ◌||◌, nat_le, length, map, arith}
+use Rattle.std.proofs.Common.{◌≡◌, ◌+◌, ℕ, zero, suc, List, [], ◌∷◌, ◌++◌, Bool, true, false, cond, Some, None, refl, sym, ap, ◌∙◌, subst, ◌&&◌, ◌||◌, nat_le, length, map, arith}
 use Rattle.std.specs.Prelude.{◌≢◌, slice_get, slice_set, is_some, filter, ◌==◌}
 use Rattle.std.specs.List.{list_any, AllByRecursion}
 use Rattle.std.specs.declared.option.Option.{Option}
@@ -9,10 +9,7 @@ use Rattle.dms_desc.specs.Shape.{Described}
 use Rattle.dms_desc.specs.declared.record.Record.{Record}
 use Rattle.dms_base.specs.declared.category.Category.{Category}
 use Rattle.dms_base.specs.declared.category.Category.TheVariants.{LimitError, NoRecord, AuditError, DataError, NotLocked, Abort as AbortDue}
-use Rattle.dms_model.specs.Programs.{Program}
-use Rattle.dms_model.specs.Programs.{Lock}
-use Rattle.dms_model.specs.Programs.{Area}
-use Rattle.dms_model.specs.Programs.{New, Old}
+use Rattle.dms_model.specs.Programs.{Program, Lock, Area, New, Old}
 use Rattle.dms_model.specs.declared.program.Mode.{Mode}
 use Rattle.dms_model.specs.declared.verb.Verb.{Verb}
 use Rattle.dms_model.specs.declared.verb.Verb.TheVariants.{OpenUpdate, OpenInquiry, Close, Find, Create, Put as PutItems, Get, Store, Begin, End, Abort}
@@ -22,7 +19,7 @@ use Rattle.dms_base.specs.declared.value.Value.{Value}
 use Rattle.dms_model.specs.declared.reply.Reply.{Reply}
 use Rattle.dms_model.specs.declared.reply.Reply.TheVariants.{Done, Exception}
 use Rattle.dms_model.specs.StoreLaws.{IsStorable, begun_any, keep_any, new_stored, old_stored}
-use Rattle.dms_model.specs.declared.put.Put.TheVariants.{Stored, Full}
+use Rattle.dms_model.specs.declared.put.Put.TheVariants.{Stored}
 use Rattle.dms_model.specs.declared.spot.Spot.{Spot}
 use Rattle.dms_model.specs.Db.{Db, Place, fresh, records_of}
 use Rattle.dms_desc.specs.Lookups.{name_of, structure_of, items_of, set_of}

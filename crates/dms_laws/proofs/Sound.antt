@@ -1,5 +1,5 @@
 -- Each step leaves a sound session sound.
-use Rattle.std.proofs.Common.{◌≡◌, ◌≤◌, ◌<◌, ◌+◌, ◌-◌, ℕ, zero, suc, List, [], ◌∷◌, ◌++◌, Bool, true, false, cond, eqb, Some, None, refl, sym, ap, ◌∙◌, subst, not, ◌&&◌, ◌||◌, nat_le, length, map, replicate, arith}
+use Rattle.std.proofs.Common.{◌≡◌, ◌≤◌, ◌<◌, ◌+◌, ℕ, List, [], ◌∷◌, ◌++◌, Bool, true, false, cond, eqb, Some, None, refl, sym, ap, ◌∙◌, subst, not, ◌&&◌, ◌||◌, nat_le, length, map, arith}
 use Rattle.std.specs.Prelude.{nat_lt, ◌≢◌, ◌==◌, slice_get, slice_set, is_some}
 use Rattle.dms_base.specs.Fits.{fits}
 use Rattle.std.specs.List.{list_any, AllByRecursion}
@@ -8,16 +8,13 @@ use Rattle.std.specs.FinMap.{get, insert, get-empty, entries, len-entries, len-e
 use Rattle.std.proofs.lemmas.Bool.Decides.{nat_tests}
 use Rattle.dms_base.specs.declared.value.Value.{Value}
 use Rattle.dms_base.specs.declared.value.Value.TheVariants.{Null}
-use Rattle.dms_base.specs.declared.category.Category.TheVariants.{LimitError, NoRecord, AuditError, DataError, NotLocked, Abort as AbortDue}
+use Rattle.dms_base.specs.declared.category.Category.TheVariants.{LimitError, AuditError, Abort as AbortDue}
 use Rattle.dms_desc.specs.declared.structure.Item.{Item}
 use Rattle.dms_desc.specs.declared.record.Record.{Record}
 use Rattle.dms_desc.specs.Shape.{Shape, Described}
 use Rattle.dms_desc.specs.Conds.{meets, is_null}
 use Rattle.dms_desc.specs.Plain.{ArePlain}
-use Rattle.dms_model.specs.Programs.{Program}
-use Rattle.dms_model.specs.Programs.{Work}
-use Rattle.dms_model.specs.Programs.{Area}
-use Rattle.dms_model.specs.Programs.{New, Old}
+use Rattle.dms_model.specs.Programs.{Program, Work, Area, New, Old}
 use Rattle.dms_model.specs.declared.program.Mode.{Mode}
 use Rattle.dms_model.specs.Traits.{traits}
 use Rattle.dms_model.specs.declared.verb.Verb.{Verb}
@@ -25,7 +22,7 @@ use Rattle.dms_model.specs.declared.verb.Verb.TheVariants.{OpenUpdate, OpenInqui
 use Rattle.dms_model.specs.declared.verb.Path.{Path}
 use Rattle.dms_model.specs.declared.verb.Setting.{Setting}
 use Rattle.dms_model.specs.declared.reply.Reply.TheVariants.{Exception}
-use Rattle.dms_model.specs.declared.put.Put.TheVariants.{Stored, Full}
+use Rattle.dms_model.specs.declared.put.Put.TheVariants.{Stored}
 use Rattle.dms_model.specs.declared.spot.Spot.{Spot}
 use Rattle.dms_model.specs.Db.{Db, Place, fresh, records_of, rows_of, empty_db, place_cmp}
 use Rattle.dms_model.specs.Points.{Quiet}
@@ -35,7 +32,7 @@ use Rattle.dms_model.specs.Session.{Session, Outcome, StoreResult, Refused, Keep
 use Rattle.dms_laws.specs.Exclusive.{AreSafe, IsExclusive, locks_it}
 use Rattle.dms_model.specs.Spoken.{IsOuter, IsPlainLiteral}
 use Rattle.dms_model.specs.Valid.{OfItems, IsValid, is_data_set, is_set, link_stands, owner_stands}
-use Rattle.dms_laws.specs.Made.{IsWellMade, items_under, compares_no_link, has_no_link}
+use Rattle.dms_laws.specs.Made.{IsWellMade, items_under, compares_no_link}
 use Rattle.dms_laws.specs.Runs.{after}
 use Rattle.dms_laws.specs.Sound.{AllNameOuter, IsSound, NamesOuter, IsFlat, StaysSound}
 use Rattle.dms_laws.proofs.Counts.{count_insert, count_replace}

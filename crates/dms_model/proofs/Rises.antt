@@ -1,13 +1,12 @@
 -- A step makes at most one quiet point, and one that waits leaves the session as it was but for the waits.
-use Rattle.std.proofs.Common.{◌≡◌, ◌≤◌, ◌+◌, ℕ, List, [], ◌∷◌, Bool, true, false, cond, Some, None, refl, ap, arith, not, ◌&&◌, ◌++◌, nat_le, length}
+use Rattle.std.proofs.Common.{◌≡◌, ◌≤◌, ◌+◌, ℕ, List, [], ◌∷◌, Bool, true, false, cond, Some, None, refl, ap, arith, ◌++◌, nat_le, length}
 use Rattle.std.specs.declared.option.Option.{Option}
 use Rattle.dms_desc.specs.Shape.{Described}
 use Rattle.dms_base.specs.declared.category.Category.{Category}
 use Rattle.dms_base.specs.declared.category.Category.TheVariants.{LimitError, NoRecord, AuditError}
 use Rattle.std.specs.Prelude.{is_some, slice_get}
 use Rattle.dms_desc.specs.Lookups.{name_of, structure_of}
-use Rattle.dms_model.specs.Programs.{Program}
-use Rattle.dms_model.specs.Programs.{Area}
+use Rattle.dms_model.specs.Programs.{Program, Area}
 use Rattle.dms_model.specs.declared.program.Mode.{Mode}
 use Rattle.dms_model.specs.declared.verb.Verb.{Verb}
 use Rattle.dms_model.specs.declared.verb.Verb.TheVariants.{OpenUpdate, OpenInquiry, Close, Find, Create, Put as PutItems, Get, Store, Begin, End, Abort}
@@ -15,7 +14,7 @@ use Rattle.dms_model.specs.declared.verb.Path.{Path}
 use Rattle.dms_model.specs.declared.verb.Setting.{Setting}
 use Rattle.dms_model.specs.declared.reply.Reply.{Reply}
 use Rattle.dms_model.specs.declared.spot.Spot.{Spot}
-use Rattle.dms_model.specs.Session.{Session, Outcome, StoreResult, Refused, Keeps, Filled, Misfit, Values', refuse, replies, done, shows, settle, keep, store_step, after_store, begin_step, after_begin, begun, end_step, after_end, abort_step, find_step, find_for, after_find, create_step, create_for, put_step, put_area, after_put, get_step, get_area, close_step, open_as, open_in, open_step, verb_step, step_at, answered, carried_out, waits_after, step, work_of, restart_of, someone_works, opens, new_program, place_of}
+use Rattle.dms_model.specs.Session.{Session, Outcome, StoreResult, Refused, Keeps, Filled, Misfit, Values', refuse, replies, done, shows, settle, keep, store_step, after_store, begin_step, after_begin, begun, end_step, after_end, abort_step, find_step, find_for, after_find, create_step, create_for, put_step, put_area, after_put, get_step, get_area, close_step, open_as, open_in, open_step, verb_step, step_at, answered, carried_out, waits_after, step, restart_of, someone_works, opens, new_program, place_of}
 use Rattle.dms_model.specs.Session.{is_waits}
 use Rattle.dms_model.specs.Traits.{traits}
 

@@ -5,10 +5,7 @@ use Rattle.std.specs.declared.option.Option.{Option}
 use Rattle.dms_desc.specs.declared.structure.Item.{Item}
 use Rattle.dms_desc.specs.Lookups.{structure_of}
 use Rattle.dms_desc.specs.Shape.{Shape, Described}
-use Rattle.dms_model.specs.Programs.{Program}
-use Rattle.dms_model.specs.Programs.{Area}
-use Rattle.dms_model.specs.Programs.{New, Old}
-use Rattle.dms_model.specs.Programs.{Work}
+use Rattle.dms_model.specs.Programs.{Program, Area, New, Old, Work}
 use Rattle.dms_model.specs.Fitting.{AreFitting, is_number}
 use Rattle.dms_model.specs.Session.{work_of}
 use Rattle.dms_model.specs.Spoken.{IsOuter}

@@ -1,5 +1,5 @@
 -- What a store takes and answers: structures of their kinds, numbers of records, values that fit, bounds of keys.
-use Rattle.std.specs.Prelude.{◌≡◌, ◌≤◌, ◌<◌, ◌+◌, ◌-◌, ◌^◌, ℕ, List, [], ◌∷◌, Bool, true, false, ◌&&◌, nat_le, Some, None, IsTrue, IfSome, ⊤, is_some, length, slice_get}
+use Rattle.std.specs.Prelude.{◌≡◌, ◌<◌, ◌+◌, ◌-◌, ◌^◌, ℕ, List, [], ◌∷◌, Bool, true, false, ◌&&◌, nat_le, Some, None, IsTrue, IfSome, ⊤, is_some, length, slice_get}
 use Rattle.std.specs.declared.option.Option.{Option}
 use Rattle.std.specs.FinMap.{get}
 use Rattle.dms_base.specs.declared.value.Value.{Value}

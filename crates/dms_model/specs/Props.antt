@@ -1,7 +1,7 @@
 -- That records, and what programs have at hand, fit is a fact, of which there is one proof at most.
 use Rattle.std.proofs.Common.{◌≡◌, List, [], ◌∷◌, ℕ, Some, None}
 use Rattle.std.proofs.Props.{props}
-use Rattle.std.specs.Prelude.{IfSome, IsTrue}
+use Rattle.std.specs.Prelude.{IfSome}
 use Rattle.std.specs.List.{AllByRecursion-prop}
 use Rattle.std.specs.Coded.{×_prop, Unit-prop}
 use Rattle.std.specs.declared.option.Option.{Option}
@@ -12,10 +12,7 @@ use Rattle.dms_desc.specs.declared.structure.Item.{Item}
 use Rattle.dms_desc.specs.Plain.{ArePlain, IsPlain}
 use Rattle.dms_desc.specs.Shape.{Shape, Described}
 use Rattle.dms_desc_bytes.specs.WellFormed.{IsWellFormed}
-use Rattle.dms_model.specs.Programs.{Area}
-use Rattle.dms_model.specs.Programs.{New, Old}
-use Rattle.dms_model.specs.Programs.{Program}
-use Rattle.dms_model.specs.Programs.{Work}
+use Rattle.dms_model.specs.Programs.{Area, New, Old, Program, Work}
 use Rattle.dms_model.specs.Areas.{AreaFits, ProgramsFit, WorkFits, WorksFit}
 use Rattle.dms_model.specs.Fitting.{AreFitting}
 use Rattle.dms_model.specs.Spoken.{IsOuter}

@@ -15,14 +15,9 @@ use Rattle.dms_desc.specs.declared.record.Record.{Record}
 use Rattle.dms_desc.specs.declared.bound.Bound.TheVariants.{Start, End as Behind}
 use Rattle.dms_desc.specs.Shape.{Shape, Described}
 use Rattle.dms_desc.specs.Conds.{meets, item_of, or_null, is_null}
-use Rattle.dms_model.specs.Programs.{Program}
+use Rattle.dms_model.specs.Programs.{Program, Area, New, Old, Work, Lock, Wait}
 use Rattle.dms_model.specs.declared.program.Mode.{Mode}
 use Rattle.dms_model.specs.declared.program.Mode.TheVariants.{Update, Inquiry}
-use Rattle.dms_model.specs.Programs.{Area}
-use Rattle.dms_model.specs.Programs.{New, Old}
-use Rattle.dms_model.specs.Programs.{Work}
-use Rattle.dms_model.specs.Programs.{Lock}
-use Rattle.dms_model.specs.Programs.{Wait}
 use Rattle.dms_model.specs.declared.verb.Verb.{Verb}
 use Rattle.dms_model.specs.declared.verb.Verb.TheVariants.{OpenUpdate, OpenInquiry, Close, Find, Create, Put as PutItems, Get, Store, Begin, End, Abort}
 use Rattle.dms_model.specs.declared.verb.Path.{Path}

@@ -1,5 +1,5 @@
 -- What the programs of an engine have at hand fits, after one of them changed.
-use Rattle.std.proofs.Common.{◌≡◌, ◌<◌, ◌∙◌, ℕ, zero, suc, List, [], ◌∷◌, ◌++◌, Some, None, sym, ap, subst, length, map, get_or, arith}
+use Rattle.std.proofs.Common.{◌≡◌, ◌<◌, ◌∙◌, ℕ, zero, suc, List, [], ◌∷◌, ◌++◌, Some, None, sym, subst, length, map, get_or, arith}
 use Rattle.std.specs.Prelude.{slice_set, OnErr, OnOk}
 use Rattle.std.specs.declared.result.Result.{Result}
 use Rattle.std.specs.declared.result.Result.TheVariants.{Ok, Err}
@@ -10,10 +10,8 @@ use Rattle.dms_desc.specs.declared.record.Record.{Record}
 use Rattle.dms_desc.specs.declared.structure.Item.{Item}
 use Rattle.dms_desc.specs.Lookups.{items_of, set_of, structure_of}
 use Rattle.dms_desc.specs.Shape.{Described}
-use Rattle.dms_model.specs.Programs.{Area}
-use Rattle.dms_model.specs.Programs.{New}
+use Rattle.dms_model.specs.Programs.{Area, New, Program}
 use Rattle.dms_model.specs.declared.program.Mode.{Mode}
-use Rattle.dms_model.specs.Programs.{Program}
 use Rattle.dms_model.specs.declared.spot.Spot.{Spot}
 use Rattle.dms_model.specs.declared.verb.Setting.{Setting}
 use Rattle.dms_model.specs.Areas.{InitialsFit, ProgramsFit, WorkFits, WorksFit}

@@ -1,23 +1,21 @@
 -- The quiet rule, verb by verb.
 use Rattle.std.proofs.Common.{◌≡◌, ◌+◌, ℕ, zero, suc, List, [], ◌∷◌, ◌++◌, Bool, true, false, cond, Some, None, refl, sym, ap, ◌∙◌, subst, not, ◌&&◌, ◌||◌, nat_le, length, map}
-use Rattle.std.specs.Prelude.{slice_get, slice_set, is_some}
+use Rattle.std.specs.Prelude.{slice_get, slice_set}
 use Rattle.std.specs.declared.option.Option.{Option}
 use Rattle.dms_desc.specs.Shape.{Described}
 use Rattle.dms_base.specs.declared.category.Category.{Category}
 use Rattle.dms_base.specs.declared.category.Category.TheVariants.{LimitError, NoRecord, AuditError, DataError, NotLocked, Abort as AbortDue}
-use Rattle.dms_model.specs.Programs.{Program}
-use Rattle.dms_model.specs.Programs.{Area}
+use Rattle.dms_model.specs.Programs.{Program, Area}
 use Rattle.dms_model.specs.declared.program.Mode.{Mode}
 use Rattle.dms_model.specs.declared.verb.Verb.{Verb}
 use Rattle.dms_model.specs.declared.verb.Verb.TheVariants.{OpenUpdate, OpenInquiry, Close, Find, Create, Put as PutItems, Get, Store, Begin, End, Abort}
 use Rattle.dms_model.specs.declared.reply.Reply.TheVariants.{Exception}
-use Rattle.dms_model.specs.declared.put.Put.{Put}
-use Rattle.dms_model.specs.declared.put.Put.TheVariants.{Stored, Duplicate, Full}
+use Rattle.dms_model.specs.declared.put.Put.TheVariants.{Stored}
 use Rattle.dms_model.specs.declared.spot.Spot.{Spot}
 use Rattle.dms_model.specs.declared.verb.Path.{Path}
 use Rattle.dms_model.specs.declared.verb.Setting.{Setting}
 use Rattle.dms_model.specs.Db.{Db}
-use Rattle.dms_desc.specs.Lookups.{name_of, structure_of, items_of, set_of}
+use Rattle.dms_desc.specs.Lookups.{structure_of, items_of, set_of}
 use Rattle.dms_model.specs.Stores.{put_after}
 use Rattle.dms_model.specs.StoreLaws.{keep_any}
 use Rattle.dms_model.specs.declared.reply.Reply.{Reply}

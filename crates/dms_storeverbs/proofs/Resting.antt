@@ -1,11 +1,10 @@
 -- Outside transaction state the database is that of the last quiet point: step by step.
-use Rattle.std.proofs.Common.{◌≡◌, ℕ, List, [], ◌∷◌, Bool, true, false, cond, Some, None, refl, sym, ◌∙◌, not, ◌&&◌, ◌||◌, nat_le, length}
-use Rattle.std.specs.Prelude.{slice_get, slice_set, is_some}
+use Rattle.std.proofs.Common.{◌≡◌, ℕ, List, [], Bool, true, false, cond, Some, None, refl, sym, ◌∙◌, ◌&&◌, ◌||◌, nat_le, length}
+use Rattle.std.specs.Prelude.{slice_get, slice_set}
 use Rattle.std.specs.declared.option.Option.{Option}
 use Rattle.dms_desc.specs.Shape.{Described}
 use Rattle.dms_base.specs.declared.category.Category.TheVariants.{LimitError, AuditError}
-use Rattle.dms_model.specs.Programs.{Program}
-use Rattle.dms_model.specs.Programs.{Area}
+use Rattle.dms_model.specs.Programs.{Program, Area}
 use Rattle.dms_model.specs.declared.verb.Verb.{Verb}
 use Rattle.dms_model.specs.declared.verb.Verb.TheVariants.{OpenUpdate, OpenInquiry, Close, Find, Create, Put as PutItems, Get, Store, Begin, End, Abort}
 use Rattle.dms_model.specs.declared.spot.Spot.{Spot}
@@ -16,7 +15,7 @@ use Rattle.dms_model.specs.Session.{Session, Outcome, StoreResult, Refused, Keep
 use Rattle.dms_model.specs.declared.program.Mode.{Mode}
 use Rattle.dms_model.specs.Traits.{traits}
 use Rattle.dms_storeverbs.specs.Laws.{Rests, RestRule}
-use Rattle.dms_storeverbs.proofs.Quiet.{Steady, set_enters, SameWork, keep_same, find_steady, get_steady, close_steady, steady_at, let_go_works, create_for_steady, open_steady, due_outcome, set_works}
+use Rattle.dms_storeverbs.proofs.Quiet.{Steady, set_enters, SameWork, keep_same, find_steady, get_steady, close_steady, steady_at, create_for_steady, open_steady, due_outcome, set_works}
 
 -- what an outcome makes of it
 abbrev Resting : Session → Outcome → Type 0

@@ -5,8 +5,7 @@ use Rattle.std.specs.declared.option.Option.{Option}
 use Rattle.std.proofs.lemmas.Option.{slice_get_past}
 use Rattle.dms_base.specs.declared.category.Category.TheVariants.{NoRecord, NotFound, AuditError}
 use Rattle.dms_desc.specs.Shape.{Described}
-use Rattle.dms_model.specs.Programs.{Program}
-use Rattle.dms_model.specs.Programs.{Area}
+use Rattle.dms_model.specs.Programs.{Program, Area}
 use Rattle.dms_model.specs.declared.put.Put.{Put}
 use Rattle.dms_model.specs.declared.reply.Reply.{Reply}
 use Rattle.dms_model.specs.declared.reply.Reply.TheVariants.{Exception, Waits}

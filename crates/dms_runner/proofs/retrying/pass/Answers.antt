@@ -1,5 +1,5 @@
 use Rattle.dms_storeverbs.proofs.Lasting.{lasts_none, lasts_on}
-use Rattle.std.proofs.Common.{◌∙◌, refl, sym, ap, subst, arith, IsTrue}
+use Rattle.std.proofs.Common.{◌∙◌, refl, sym, ap, subst, arith}
 use Rattle.dms_desc.specs.declared.description.Description.{Description}
 use Rattle.dms_desc.specs.Shape.{described}
 use Rattle.dms_runner.specs.Events.{IsCutShort, PerformsPrefix}

@@ -1,9 +1,8 @@
 use Rattle.std.proofs.Common.{◌≡◌, ◌∙◌, ℕ, List, Some, None, true, false, ap, sym}
 use Rattle.std.specs.Option.{option_copied}
 use Rattle.std.specs.declared.option.Option.{Option}
-use Rattle.dms_base.specs.declared.category.Category.TheVariants.{DataError, NoRecord, NotLocked}
 use Rattle.dms_base.specs.declared.value.Value.{Value}
-use Rattle.dms_desc.specs.Lookups.{items_of, name_of, structure_of}
+use Rattle.dms_desc.specs.Lookups.{items_of, structure_of}
 use Rattle.dms_desc.specs.Shape.{described}
 use Rattle.dms_desc.specs.declared.record.Record.{Record}
 use Rattle.dms_model.specs.declared.reply.Reply.TheVariants.{Exception}
