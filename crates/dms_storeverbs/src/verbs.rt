@@ -123,9 +123,9 @@ impl<St: Store> Engine<St> {
         match verb {
             Verb::OpenUpdate | Verb::OpenInquiry => {
                 Ok(refused(
-                Category::OpenError,
-                programs::program_name(&self.programs[i]),
-            ))
+                    Category::OpenError,
+                    programs::program_name(&self.programs[i]),
+                ))
             }
             Verb::Close => Ok(apart::close(alloc, &mut self.programs, i)?),
             Verb::Find(path) => self.find(alloc, i, path),
