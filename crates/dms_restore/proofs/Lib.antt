@@ -30,3 +30,4 @@ pub mod Counted
 pub mod Started
 pub mod GoneOn
 pub mod Prepared
+pub mod Sealed
