@@ -90,8 +90,8 @@ module _ (t : Telling) (telling : IsTelling t) (p : Pending) (a : State) (r : Is
     now_is : entries_now t b ≡ old ++ es
     now_is = ap (λ (l : List Entry). t.entries b.files ++ l) empty ∙ append_none (t.entries b.files) ∙ entries
 
-    pub end_runs : Only b.files b.clock → IsRunning t b
-    end_runs alone = still_runs t b base alone empty later_may
+    pub end_runs : t.found b.files → Only b.files b.clock → IsRunning t b
+    end_runs found alone = still_runs t b base found alone empty later_may
 
     -- the content is what the restore was to leave
     pub end_same : content_now t b ≡ outcome_now t p a
