@@ -215,7 +215,7 @@ module _ (t : Telling) (telling : IsTelling t) (a : State) (r : IsRunning t a) (
       (whole_may t.first (t.entries a.files) (t.dumps a.files) base (stored_of a.files) n (next_in t a.files) c.first c.rest counts m.stands kept placed (omega arith))
 
   pub control_leaves : (later : Clock Left) → Runs a.clock later (Planned t es a.files) → LeavesAll t a later
-  control_leaves later runs = plan_leaves t telling es a base keeps only later runs
+  control_leaves later runs = plan_leaves t telling es a base keeps (subst t.found read.2 (r.found read.0 read.1)) only later runs
 
   module _ (b : State) (entries : t.entries b.files ≡ t.entries a.files ++ es) (above : (g : ℕ) → 20000 < g → b.files g ≡ a.files g) (empty : b.waiting ≡ []) where
     later_may : MayRun t.first (t.entries b.files) (t.dumps b.files) base (stored_of b.files)

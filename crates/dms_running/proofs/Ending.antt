@@ -79,7 +79,7 @@ module _ (t : Telling) (telling : IsTelling t) (p : Pending) (a : State) (r : Is
       (whole_may t.first old (t.dumps a.files) base (stored_of a.files) p.point (next_in t a.files) c.first c.rest counts s kept placed (omega arith))
 
   pub end_leaves : (later : Clock Left) → Runs a.clock later (Planned t es a.files) → LeavesAll t a later
-  end_leaves later runs = plan_leaves t telling es a base keeps only later runs
+  end_leaves later runs = plan_leaves t telling es a base keeps (subst t.found read.2 (r.found read.0 read.1)) only later runs
 
   module _ (b : State) (entries : t.entries b.files ≡ old ++ es) (above : (g : ℕ) → 20000 < g → b.files g ≡ a.files g) (empty : b.waiting ≡ []) where
     later_may : MayRun t.first (t.entries b.files) (t.dumps b.files) base (stored_of b.files)

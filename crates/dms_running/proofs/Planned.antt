@@ -70,12 +70,12 @@ planned_more t es rest start x p = record {
   above = p.above;
 }
 
-pub lays_none : (t : Telling) (a : State) → t.found a.files → Only a.files a.clock → a.waiting ≡ [] → Lays t [] a.files a.clock a
-lays_none t a found only nothing = record {
+pub lays_none : (t : Telling) (a : State) → Only a.files a.clock → a.waiting ≡ [] → Lays t [] a.files a.clock a
+lays_none t a only nothing = record {
   appended = record { some = 0; sealed = sym (append_none (t.entries a.files)); rest = nothing; above = λ g up. refl };
   settled = λ x now. ap t.entries (only x now);
   since = runs_none a.clock (Planned t [] a.files);
-  now = λ x now. record { some = 0; sealed = ap t.entries (only x now) ∙ sym (append_none (t.entries a.files)); found = subst t.found (sym (only x now)) found; above = λ g up. ap (λ (l : Files). l g) (only x now) };
+  now = λ x now. record { some = 0; sealed = ap t.entries (only x now) ∙ sym (append_none (t.entries a.files)); found = λ f. subst t.found (sym (only x now)) f; above = λ g up. ap (λ (l : Files). l g) (only x now) };
 }
 
 module _ (t : Telling) (es : List Entry) (start : Files) (old : Clock Left) (s : State) (l : Lays t es start old s) where
@@ -96,7 +96,7 @@ module _ (t : Telling) (es : List Entry) (start : Files) (old : Clock Left) (s :
   reached more y x now seals = record {
     some = length sealed_part + seals.some;
     sealed = seals.sealed ∙ ap (λ (j : List Entry). j ++ take seals.some (s.waiting ++ more)) (l.settled y now ∙ l.appended.sealed) ∙ sealed_more more seals.some;
-    found = seals.found (l.now y now).found;
+    found = λ f. seals.found ((l.now y now).found f);
     above = λ g up. seals.above g up ∙ (l.now y now).above g up;
   }
 
@@ -122,19 +122,19 @@ module _ (t : Telling) (es : List Entry) (start : Files) (old : Clock Left) (s :
       (lays_since [] later (subst (λ (j : List Entry). Steps (SealsSome t j) s.clock later) (sym (append_none s.waiting)) steps))
 
   -- scanning finds the entries of what a stop leaves then
-  pub lays_found : (later : Clock Left) → Steps (SealsSome t s.waiting) s.clock later → (x : Left) → Now later x → t.found x.files
-  lays_found later steps x now = let after = steps.follows x now in after.2.found (l.now after.0 after.1).found
+  pub lays_found : (later : Clock Left) → Steps (SealsSome t s.waiting) s.clock later → (x : Left) → Now later x → t.found start → t.found x.files
+  lays_found later steps x now f = let after = steps.follows x now in after.2.found ((l.now after.0 after.1).found f)
 
   pub lays_sealed : (later : Files) → AreSealed t s.waiting s.files later → (t.entries later ≡ t.entries start ++ es) × ((g : ℕ) → 20000 < g → later g ≡ start g)
   lays_sealed later sealed = (sealed.sealed ∙ joined t es s.waiting start s.files l.appended, λ g up. sealed.above g up ∙ l.appended.above g up)
 
-module _ (t : Telling) (telling : IsTelling t) (es : List Entry) (a : State) (base : Content) (keeps : KeepsAll t es a.files base) (only : Only a.files a.clock) where
+module _ (t : Telling) (telling : IsTelling t) (es : List Entry) (a : State) (base : Content) (keeps : KeepsAll t es a.files base) (finds : t.found a.files) (only : Only a.files a.clock) where
   planned_front : (x : Left) → Planned t es a.files x → LeavesPointsPrefix t (points_of t a.files) (length (points_of t a.files)) (next_in t a.files) x
   planned_front x p =
       all_left t (points_of t a.files) (next_in t a.files) x
       ((λ i. points_told (telling.dumps_between x.files a.files (λ g up below. p.above g up) i) (p.sealed i) (blocks_same x.files a.files p.above i)) ∙ keeps.points p.some)
       (subst (λ (l : List Entry). next_in t a.files ≤ next_of l) (sym p.sealed) (keeps.next p.some))
-      (record { found = p.found; base = base; stands = carried t telling a.files x.files (t.entries x.files) base p.above (subst (λ (l : List Entry). Stands t.first l (t.dumps a.files) base (stored_of a.files)) (sym p.sealed) (keeps.stands p.some)) })
+      (record { found = p.found finds; base = base; stands = carried t telling a.files x.files (t.entries x.files) base p.above (subst (λ (l : List Entry). Stands t.first l (t.dumps a.files) base (stored_of a.files)) (sym p.sealed) (keeps.stands p.some)) })
 
   -- a stop while they are appended and sealed leaves all points
   pub plan_leaves : (later : Clock Left) → Runs a.clock later (Planned t es a.files) → LeavesAll t a later
