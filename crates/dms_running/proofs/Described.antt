@@ -54,7 +54,7 @@ pub record EndsThere (n : ℕ) (es : List Entry) : Type 0 where
   pub at : is_place n last ≡ true
   pub is : until_first (is_place n) es ≡ before ++ last ∷ []
 
-ends_there : (n : ℕ) (es : List Entry) → has (is_place n) es ≡ true → EndsThere n es
+pub ends_there : (n : ℕ) (es : List Entry) → has (is_place n) es ≡ true → EndsThere n es
 ends_there n [] found = absurd (true_not_false (sym found))
 ends_there n (e ∷ es) found = elim (bool_cases (is_place n e)) [
   | inl on ↦ record { before = []; last = e; at = on; is = ap (λ k. cond k (e ∷ []) (cond (has (is_place n) es) (e ∷ until_first (is_place n) es) [])) on }
