@@ -1,7 +1,7 @@
 use Rattle.std.proofs.Common.{sym, ◌∙◌, refl, subst, arith}
 use Rattle.dms_site.specs.Files.{Files}
 use Rattle.dms_audfile.proofs.Reading.{reads_on}
-use Rattle.dms_audfile.specs.declared.place.Place.{Place}
+use Rattle.dms_audfile.specs.declared.place.EntryPlace.{EntryPlace}
 use Rattle.dms_audfile.specs.EntryReading.{IsCurrent}
 use Rattle.dms_restore.proofs.Results.{is_fault}
 use Rattle.dms_restore.proofs.ReadOn.{reads_none, read_next, read_all, no_entry_at, current_fault}
@@ -19,7 +19,7 @@ loop-at-init g c = record {
 pub loop-at-preserved : goal.loop-at-preserved
 loop-at-preserved g c =
     let inv = c.loop-at.invariant in
-    let d : Place = record { file = 0; block = 0; offset = 0 } in
+    let d : EntryPlace = record { file = 0; block = 0; offset = 0 } in
     record {
       current = λ tells. subst (λ (l : Files). IsCurrent c.read_one.new.reader l) (inv.reads.files_stay tells) (c.read_one.ensures.current tells (subst (λ (l : Files). IsCurrent c.loop-at.reader l) (sym (inv.reads.files_stay tells)) (inv.current tells)));
       traced = λ tells ps are there files also. read_next _ _ c.args.places.now c.loop-at.at d c.loop-at.trace c.read_one.new.trace c.loop-at-test.true (inv.reads.files_stay tells)
@@ -35,6 +35,6 @@ returns-clause-traced g c tells ps are there files also = read_all files c.args.
 pub returns-in-Err-read_one-clause-only : goal.returns-in-Err-read_one-clause-only
 returns-in-Err-read_one-clause-only g c =
     let inv = c.loop-at.invariant in
-    let d : Place = record { file = 0; block = 0; offset = 0 } in
+    let d : EntryPlace = record { file = 0; block = 0; offset = 0 } in
     no_entry_at g.S.Site.tells (g.S.Site.files c.args.site.now) (g.S.Site.files c.loop-at.site) c.args.places.now c.loop-at.at d _ c.loop-at-test.true (λ t. inv.reads.files_stay t)
     (current_fault g.S.Site.tells _ _ _ _ (λ t. subst (λ (l : Files). IsCurrent c.loop-at.reader l) (sym (inv.reads.files_stay t)) (inv.current t)) c.in-Err-read_one.ensures.only)
