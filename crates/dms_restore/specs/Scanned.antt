@@ -1,5 +1,5 @@
 -- An audit trail that was scanned.
-use Rattle.std.specs.Prelude.{ℕ, ◌<◌, ◌≡◌, ◌⊎◌, Bool, List, ◌∷◌, ◌++◌, map, None, IsTrue}
+use Rattle.std.specs.Prelude.{ℕ, ◌<◌, ◌≤◌, ◌≡◌, ◌⊎◌, Bool, List, [], ◌∷◌, ◌++◌, map, None, IsTrue}
 use Rattle.dms_site.specs.Files.{Files}
 use Rattle.dms_audfile.specs.Scanning.{Placed, place_in, entry_in}
 use Rattle.dms_audfile.specs.AuditTrail.{entry_there, AreThere}
@@ -15,6 +15,14 @@ pub record AreEntryPlaces (total first : ℕ) (files : Files) (places : List Pla
   pub places_are : places ≡ map place_in placed
   pub entries_are : map entry_in placed ≡ trail_entries total first files
   pub there : AreThere files placed
+
+-- a place in a block of an audit file
+abbrev pub IsInAudit : Place → Type 0
+IsInAudit p = (p.file ≤ 20000) × (p.block ≤ 512)
+
+abbrev pub AreInAudit : List Place → Type 0
+AreInAudit [] = Unit {0}
+AreInAudit (p ∷ ps) = IsInAudit p × AreInAudit ps
 
 -- no audit file has a block of that number, or no entry stands there
 abbrev pub HasNoEntry : Files → Place → Type 0
