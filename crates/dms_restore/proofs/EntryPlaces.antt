@@ -15,7 +15,7 @@ use Rattle.dms_audrec.specs.PairLaws.{counts_many}
 use Rattle.dms_audfile.specs.Gates.{block_at}
 use Rattle.dms_audfile.specs.Blocks.{used_in}
 use Rattle.dms_audfile.specs.AuditTrail.{entry_from, entry_there}
-use Rattle.dms_audfile.specs.declared.place.Place.{Place}
+use Rattle.dms_audfile.specs.declared.place.EntryPlace.{EntryPlace}
 use Rattle.dms_restore.specs.declared.live.ImageAt.{ImageAt}
 use Rattle.dms_restore.specs.declared.live.ControlAt.{ControlAt}
 use Rattle.dms_restore.specs.declared.live.LiveEntry.TheVariants.{Controlled}
@@ -279,7 +279,7 @@ tested false o x is = absurd (none_not_some x is)
 abbrev used_from : List ℕ → ℕ → List ℕ
 used_from block off = drop off (take (2 + used_in block) block)
 
-read_there : (files : Files) (p : Place) (e : Entry) → entry_there files p ≡ Some e
+read_there : (files : Files) (p : EntryPlace) (e : Entry) → entry_there files p ≡ Some e
     → (x : Entry × List ℕ) × (entry_at (used_from (block_at p.block (files p.file)) p.offset) ≡ Some x) × (x.0 ≡ e)
 unfolding entry_there entry_from
 read_there files p e is = mapped _ e (tested _ _ e is)
@@ -290,13 +290,13 @@ behind_kind [] x e = absurd (none_not_some x e)
 behind_kind (kind ∷ rest) x e = kind_read kind rest x e
 
 -- Where the blocks of an Image stand.
-pub record ImageThere (files : Files) (p : Place) (f b : ℕ) (before : Option Block) (after : Block) : Type 0 where
+pub record ImageThere (files : Files) (p : EntryPlace) (f b : ℕ) (before : Option Block) (after : Block) : Type 0 where
   pub bounds : (30001 ≤ f) × (f ≤ 30200) × (b < 2097152)
   pub new : before ≡ None → (range (4096 * p.block + p.offset + 10) 1024 (files p.file) ≡ after) × (length after ≡ 1024)
   pub old : (y : Block) → before ≡ Some y
       → (range (4096 * p.block + p.offset + 10) 1024 (files p.file) ≡ y) × (length y ≡ 1024) × (range (4096 * p.block + p.offset + 1034) 1024 (files p.file) ≡ after) × (length after ≡ 1024)
 
-pub image_there : (files : Files) (p : Place) (f b : ℕ) (before : Option Block) (after : Block) → entry_there files p ≡ Some (image f b before after) → ImageThere files p f b before after
+pub image_there : (files : Files) (p : EntryPlace) (f b : ℕ) (before : Option Block) (after : Block) → entry_there files p ≡ Some (image f b before after) → ImageThere files p f b before after
 image_there files p f b before after is =
     let (x, at, same) = read_there files p (image f b before after) is in
     let bytes = used_from (block_at p.block (files p.file)) p.offset in
@@ -317,7 +317,7 @@ image_there files p f b before after is =
     }
 
 -- Where the counts of a Control stand.
-pub record ControlThere (files : Files) (p : Place) (counts : List FileCount) : Type 0 where
+pub record ControlThere (files : Files) (p : EntryPlace) (counts : List FileCount) : Type 0 where
   pub is : counts_at (length counts) (range (4096 * p.block + p.offset + 19) (8 * length counts) (files p.file)) ≡ counts
   pub long : length (range (4096 * p.block + p.offset + 19) (8 * length counts) (files p.file)) ≡ 8 * length counts
   pub short : 8 * length counts ≤ 4096
@@ -332,7 +332,7 @@ part_short n k off m b file =
     let all = block_at b file in
     omega (arith, length-take n (drop k (drop off (take m all))), length-drop k (drop off (take m all)), length-drop off (take m all), length-take m all, block_short b file)
 
-pub control_there : (files : Files) (p : Place) (n next : ℕ) (counts : List FileCount) → entry_there files p ≡ Some (control_point n next counts) → ControlThere files p counts
+pub control_there : (files : Files) (p : EntryPlace) (n next : ℕ) (counts : List FileCount) → entry_there files p ≡ Some (control_point n next counts) → ControlThere files p counts
 control_there files p n next counts is =
     let (x, at, same) = read_there files p (control_point n next counts) is in
     let bytes = used_from (block_at p.block (files p.file)) p.offset in
@@ -353,7 +353,7 @@ control_there files p n next counts is =
 
 -- ---- as they are kept in memory
 
-pub new_stands : (files : Files) (p : Place) (i : ImageAt) (f b start : ℕ) (after : Block) → IsInAudit p → start < 2 ^ 33 → start ≡ 4096 * p.block + p.offset → entry_there files p ≡ Some (image f b None after)
+pub new_stands : (files : Files) (p : EntryPlace) (i : ImageAt) (f b start : ℕ) (after : Block) → IsInAudit p → start < 2 ^ 33 → start ≡ 4096 * p.block + p.offset → entry_there files p ≡ Some (image f b None after)
     → i ≡ record { file = f; block = b; is_new = true; audit = p.file; at = start + 10 } → StandsAsImage files i f b None after
 new_stands files p i f b start after audit low begins there is =
     let image = image_there files p f b None after there in
@@ -365,7 +365,7 @@ new_stands files p i f b start after audit low begins there is =
       whole = (ap length here ∙ at.1, λ old. absurd (true_not_false old), image.bounds.0, image.bounds.1, image.bounds.2, audit.0, omega (arith, low));
     })
 
-pub old_stands : (files : Files) (p : Place) (i : ImageAt) (f b start : ℕ) (before after : Block) → IsInAudit p → start < 2 ^ 33 → start ≡ 4096 * p.block + p.offset → entry_there files p ≡ Some (image f b (Some before) after)
+pub old_stands : (files : Files) (p : EntryPlace) (i : ImageAt) (f b start : ℕ) (before after : Block) → IsInAudit p → start < 2 ^ 33 → start ≡ 4096 * p.block + p.offset → entry_there files p ≡ Some (image f b (Some before) after)
     → i ≡ record { file = f; block = b; is_new = false; audit = p.file; at = start + 1034 } → StandsAsImage files i f b (Some before) after
 old_stands files p i f b start before after audit low begins there is =
     let image = image_there files p f b (Some before) after there in
@@ -379,7 +379,7 @@ old_stands files p i f b start before after audit low begins there is =
       whole = (ap length last ∙ at.3, λ old. ap length first ∙ at.1, image.bounds.0, image.bounds.1, image.bounds.2, audit.0, omega (arith, low));
     })
 
-pub control_stands : (files : Files) (p : Place) (c : ControlAt) (point next many start : ℕ) (list : List ℕ) (described : Bool) → IsInAudit p → start < 2 ^ 33 → start ≡ 4096 * p.block + p.offset → entry_there files p ≡ Some (control_point point next (counts_at many list))
+pub control_stands : (files : Files) (p : EntryPlace) (c : ControlAt) (point next many start : ℕ) (list : List ℕ) (described : Bool) → IsInAudit p → start < 2 ^ 33 → start ≡ 4096 * p.block + p.offset → entry_there files p ≡ Some (control_point point next (counts_at many list))
     → c ≡ record { point = point; next = next; described = described; audit = p.file; at = start + 19; size = many * 8 } → StandsAsControl files c point next (counts_at many list) described
 control_stands files p c point next many start list described audit low begins there is =
     let cs = counts_at many list in

@@ -7,7 +7,7 @@ use Rattle.dms_audfile.specs.Blocks.{EntryInBlock, block_entries}
 use Rattle.dms_audfile.specs.Scanning.{Placed, TrailRead, broken, whole, place_in, place_of, places_of, blocks_read, file_read, files_read, found}
 use Rattle.dms_audfile.specs.Gates.{block_at}
 use Rattle.dms_audfile.specs.AuditTrail.{IsFound, IsScanned, EntriesAreThere, AreThere}
-use Rattle.dms_audfile.specs.declared.place.Place.{Place}
+use Rattle.dms_audfile.specs.declared.place.EntryPlace.{EntryPlace}
 use Rattle.dms_audfile.proofs.There.{both_whole}
 use Rattle.dms_audfile.proofs.Kept.{was_read}
 use Rattle.dms_restore.specs.Scanned.{AreInAudit}
@@ -59,7 +59,7 @@ both : (files : Files) (ps : List Placed) → AreThere files ps → NotBehind ps
 both files [] there low = tt
 both files (p ∷ ps) there low = ((low.0, there.0.block.1), both files ps there.1 low.1)
 
-pub found_in_audit : EntriesAreThere → (files : Files) (first : ℕ) (places : List Place) → IsFound files first places → AreInAudit places
+pub found_in_audit : EntriesAreThere → (files : Files) (first : ℕ) (places : List EntryPlace) → IsFound files first places → AreInAudit places
 found_in_audit stand files first places found =
     let t = found.trail in
     let r = was_read t.first t.last files found.entries t.is in

@@ -7,7 +7,7 @@ use Rattle.dms_audfile.specs.Ends.{Grown}
 use Rattle.dms_audfile.specs.ScanLaws.{FoundAreEntries, PlacesStay}
 use Rattle.dms_audfile.specs.Sealing.{IsWrittenUpTo}
 use Rattle.dms_audfile.specs.TrailEntries.{trail_entries}
-use Rattle.dms_audfile.specs.declared.place.Place.{Place}
+use Rattle.dms_audfile.specs.declared.place.EntryPlace.{EntryPlace}
 use Rattle.dms_audfile.specs.declared.fault.AudFault.{AudFault}
 use Rattle.dms_audfile.specs.declared.fault.AudFault.TheVariants.{Disk, Memory}
 use Rattle.dms_audfile.specs.Scanning.{Placed, place_in, entry_in}
@@ -17,7 +17,7 @@ use Rattle.dms_restore.specs.Scanned.{AreInAudit, AreEntryPlaces, HasNoEntry, Is
 use Rattle.dms_restore.specs.Traces.{IsTraceOf, TracesAll}
 use Rattle.dms_restore.proofs.InAudit.{found_in_audit}
 
-pub scan_places : EntriesAreThere → FoundAreEntries → (old files : Files) (all total tag first file count : ℕ) (places : List Place) → files ≡ old → all ≡ total → IsFound files first places → IsWrittenUpTo total tag first file count files → AreEntryPlaces all first old places
+pub scan_places : EntriesAreThere → FoundAreEntries → (old files : Files) (all total tag first file count : ℕ) (places : List EntryPlace) → files ≡ old → all ≡ total → IsFound files first places → IsWrittenUpTo total tag first file count files → AreEntryPlaces all first old places
 scan_places stand are old files all total tag first file count places same kind found writes =
     let entries : map entry_in found.entries ≡ trail_entries total found.trail.first files = are files found.entries found.trail total tag file count (subst (λ k. IsWrittenUpTo total tag k file count files) (sym found.first_is) writes) in
     record {
@@ -28,13 +28,13 @@ scan_places stand are old files all total tag first file count places same kind 
     }
 
 -- the entries at the places that were found are those of the trail
-pub scan_traced : (old files : Files) (total first : ℕ) (places lent : List Place) (t : TrailTrace) → lent ≡ places → files ≡ old → AreEntryPlaces total first old places → AreInAudit places
+pub scan_traced : (old files : Files) (total first : ℕ) (places lent : List EntryPlace) (t : TrailTrace) → lent ≡ places → files ≡ old → AreEntryPlaces total first old places → AreInAudit places
     → (AreInAudit lent → (ps : List Placed) → lent ≡ map place_in ps → AreThere files ps → TracesAll ps t) → IsTraceOf old (trail_entries total first old) t
 scan_traced old files total first places lent t same still a audit read =
     subst (λ l. IsTraceOf old l t) a.entries_are (read (subst AreInAudit (sym same) audit) a.placed (same ∙ a.places_are) (subst (λ (f : Files). AreThere f a.placed) (sym still) a.there) old a.there)
 
 -- and so they are however the trail grows
-pub scan_stays : EntriesAreThere → FoundAreEntries → PlacesStay → (old files : Files) (total tag first file count : ℕ) (places lent : List Place) (t : TrailTrace) → lent ≡ places → files ≡ old
+pub scan_stays : EntriesAreThere → FoundAreEntries → PlacesStay → (old files : Files) (total tag first file count : ℕ) (places lent : List EntryPlace) (t : TrailTrace) → lent ≡ places → files ≡ old
     → IsFound old first places → IsWrittenUpTo total tag first file count old → (AreInAudit lent → (ps : List Placed) → lent ≡ map place_in ps → AreThere files ps → TracesAll ps t)
     → (new : Files) → Grown total first old new → IsTraceOf new (trail_entries total first old) t
 scan_stays stand are stay old files total tag first file count places lent t same still found writes read new grown =
@@ -55,18 +55,18 @@ none_not_some : (x : Entry) → None ≡ Some x → ⊥
 none_not_some x e = absurd cc
 
 -- where an entry stands at each place, none is missing
-none_missing : (files : Files) (ps : List Placed) (before after : List Place) (p : Place) → AreThere files ps → map place_in ps ≡ before ++ p ∷ after → HasNoEntry files p → ⊥
+none_missing : (files : Files) (ps : List Placed) (before after : List EntryPlace) (p : EntryPlace) → AreThere files ps → map place_in ps ≡ before ++ p ∷ after → HasNoEntry files p → ⊥
 none_missing files [] [] after p there is none = absurd cc
 none_missing files [] (q ∷ before) after p there is none = absurd cc
 none_missing files (x ∷ ps) [] after p there is none =
     let same : x.place ≡ p = cc is in
     elim none [
-      | inl high ↦ omega (arith, high, there.0.block.1, ap (λ (q : Place). q.block) same)
+      | inl high ↦ omega (arith, high, there.0.block.1, ap (λ (q : EntryPlace). q.block) same)
       | inr gone ↦ none_not_some x.entry (sym gone ∙ ap (entry_there files) (sym same) ∙ there.0.there)
     ]
 none_missing files (x ∷ ps) (q ∷ before) after p there is none = none_missing files ps before after p there.1 (cc is) none
 
-pub scan_refused : (tells : Bool) (old files : Files) (total first : ℕ) (places lent : List Place) (e : AudFault) → IsTrue tells → lent ≡ places → files ≡ old → AreEntryPlaces total first old places
+pub scan_refused : (tells : Bool) (old files : Files) (total first : ℕ) (places lent : List EntryPlace) (e : AudFault) → IsTrue tells → lent ≡ places → files ≡ old → AreEntryPlaces total first old places
     → (e ≡ Disk) ⊎ ((e ≡ Memory) ⊎ IsNoEntryOf tells files lent e) → Refuses old e
 scan_refused tells old files total first places lent e t same still a is = elim is [
   | inl disk ↦ plain_refusal old e (inl disk)

@@ -5,7 +5,7 @@ use Rattle.dms_audfile.specs.declared.fault.AudFault.{AudFault}
 use Rattle.dms_audfile.specs.declared.fault.AudFault.TheVariants.{Disk, Memory}
 use Rattle.dms_restore.specs.declared.live.LiveEntry.{LiveEntry}
 use Rattle.dms_restore.specs.declared.live.LiveEntry.TheVariants.{Changed, Quiet, Controlled}
-use Rattle.dms_restore.specs.declared.live.Spot.{Spot}
+use Rattle.dms_restore.specs.declared.live.AuditSpot.{AuditSpot}
 use Rattle.dms_restore.specs.LiveEntries.{StandsWhole, AllStandWhole}
 use Rattle.dms_restore.specs.Named.{IsImageSpot, IsSpotAmong, HasNoBlock}
 use Rattle.dms_restore.specs.PointCounts.{IsNoCount, IsNoCountAmong}
@@ -13,7 +13,7 @@ use Rattle.dms_restore.specs.Table.{IsBlock}
 
 -- ---- each Image is of a block
 
-one_block : (files : Files) (e : LiveEntry) (f b : ℕ) (s : Spot) → StandsWhole files e → IsImageSpot e f b s → IsBlock (record { file = f; block = b; audit = s.audit; at = s.at })
+one_block : (files : Files) (e : LiveEntry) (f b : ℕ) (s : AuditSpot) → StandsWhole files e → IsImageSpot e f b s → IsBlock (record { file = f; block = b; audit = s.audit; at = s.at })
 one_block files (Changed i) f b s w is = (omega (arith, w.2, is.0), omega (arith, w.4, is.1), omega (arith, w.5, is.2), elim is.3 [
   | inl after ↦ omega (arith, w.6, after)
   | inr before ↦ omega (arith, w.6, before)
@@ -21,7 +21,7 @@ one_block files (Changed i) f b s w is = (omega (arith, w.2, is.0), omega (arith
 one_block files (Quiet n) f b s w is = absurd is
 one_block files (Controlled c) f b s w is = absurd is
 
-among_block : (files : Files) (es : List LiveEntry) (f b : ℕ) (s : Spot) → AllStandWhole files es → IsSpotAmong es f b s → IsBlock (record { file = f; block = b; audit = s.audit; at = s.at })
+among_block : (files : Files) (es : List LiveEntry) (f b : ℕ) (s : AuditSpot) → AllStandWhole files es → IsSpotAmong es f b s → IsBlock (record { file = f; block = b; audit = s.audit; at = s.at })
 among_block files [] f b s all is = absurd is
 among_block files (e ∷ es) f b s all is = elim is [
   | inl one ↦ one_block files e f b s all.0 one
