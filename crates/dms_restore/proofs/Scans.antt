@@ -13,8 +13,9 @@ use Rattle.dms_audfile.specs.declared.fault.AudFault.TheVariants.{Disk, Memory}
 use Rattle.dms_audfile.specs.Scanning.{Placed, place_in, entry_in}
 use Rattle.dms_audfile.specs.Reads.{Refuses}
 use Rattle.dms_restore.specs.declared.trace.TrailTrace.{TrailTrace}
-use Rattle.dms_restore.specs.Scanned.{AreEntryPlaces, HasNoEntry, IsNoEntryOf}
+use Rattle.dms_restore.specs.Scanned.{AreInAudit, AreEntryPlaces, HasNoEntry, IsNoEntryOf}
 use Rattle.dms_restore.specs.Traces.{IsTraceOf, TracesAll}
+use Rattle.dms_restore.proofs.InAudit.{found_in_audit}
 
 pub scan_places : EntriesAreThere → FoundAreEntries → (old files : Files) (all total tag first file count : ℕ) (places : List EntryPlace) → files ≡ old → all ≡ total → IsFound files first places → IsWrittenUpTo total tag first file count files → AreEntryPlaces all first old places
 scan_places stand are old files all total tag first file count places same kind found writes =
@@ -27,21 +28,21 @@ scan_places stand are old files all total tag first file count places same kind 
     }
 
 -- the entries at the places that were found are those of the trail
-pub scan_traced : (old files : Files) (total first : ℕ) (places lent : List EntryPlace) (t : TrailTrace) → lent ≡ places → files ≡ old → AreEntryPlaces total first old places
-    → ((ps : List Placed) → lent ≡ map place_in ps → AreThere files ps → TracesAll ps t) → IsTraceOf old (trail_entries total first old) t
-scan_traced old files total first places lent t same still a read =
-    subst (λ l. IsTraceOf old l t) a.entries_are (read a.placed (same ∙ a.places_are) (subst (λ (f : Files). AreThere f a.placed) (sym still) a.there) old a.there)
+pub scan_traced : (old files : Files) (total first : ℕ) (places lent : List EntryPlace) (t : TrailTrace) → lent ≡ places → files ≡ old → AreEntryPlaces total first old places → AreInAudit places
+    → (AreInAudit lent → (ps : List Placed) → lent ≡ map place_in ps → AreThere files ps → TracesAll ps t) → IsTraceOf old (trail_entries total first old) t
+scan_traced old files total first places lent t same still a audit read =
+    subst (λ l. IsTraceOf old l t) a.entries_are (read (subst AreInAudit (sym same) audit) a.placed (same ∙ a.places_are) (subst (λ (f : Files). AreThere f a.placed) (sym still) a.there) old a.there)
 
 -- and so they are however the trail grows
 pub scan_stays : EntriesAreThere → FoundAreEntries → PlacesStay → (old files : Files) (total tag first file count : ℕ) (places lent : List EntryPlace) (t : TrailTrace) → lent ≡ places → files ≡ old
-    → IsFound old first places → IsWrittenUpTo total tag first file count old → ((ps : List Placed) → lent ≡ map place_in ps → AreThere files ps → TracesAll ps t)
+    → IsFound old first places → IsWrittenUpTo total tag first file count old → (AreInAudit lent → (ps : List Placed) → lent ≡ map place_in ps → AreThere files ps → TracesAll ps t)
     → (new : Files) → Grown total first old new → IsTraceOf new (trail_entries total first old) t
 scan_stays stand are stay old files total tag first file count places lent t same still found writes read new grown =
     let own : IsWrittenUpTo total tag found.trail.first file count old = subst (λ k. IsWrittenUpTo total tag k file count old) (sym found.first_is) writes in
     let there : AreThere old found.entries = stand old found.entries found.trail in
     let also : AreThere new found.entries = stay old new found.entries found.trail total tag file count own (subst (λ k. Grown total k old new) (sym found.first_is) grown) in
     let entries : map entry_in found.entries ≡ trail_entries total first old = are old found.entries found.trail total tag file count own ∙ ap (λ k. trail_entries total k old) found.first_is in
-    subst (λ l. IsTraceOf new l t) entries (read found.entries (same ∙ found.places_are) (subst (λ (f : Files). AreThere f found.entries) (sym still) there) new also)
+    subst (λ l. IsTraceOf new l t) entries (read (subst AreInAudit (sym same) (found_in_audit stand old first places found)) found.entries (same ∙ found.places_are) (subst (λ (f : Files). AreThere f found.entries) (sym still) there) new also)
 
 -- the disk and memory refuse nothing
 pub plain_refusal : (files : Files) (e : AudFault) → (e ≡ Disk) ⊎ (e ≡ Memory) → Refuses files e
