@@ -28,7 +28,7 @@ use Rattle.dms_running.proofs.Appending.{sync_leaves}
 use Rattle.dms_running.proofs.Looking.{look_runs}
 use Rattle.dms_restore.specs.declared.live.LiveEntry.{LiveEntry}
 use Rattle.dms_restore.specs.declared.told.Told.{Told}
-use Rattle.dms_restore.specs.LiveEntries.{events_at, AllHaveWholeBlocks}
+use Rattle.dms_restore.specs.LiveEntries.{events_at, AllStandWhole}
 use Rattle.dms_restore.specs.Table.{IsTable}
 use Rattle.dms_restore.specs.Tracing.{IsTraced}
 use Rattle.dms_restore.specs.declared.tracing.TrailHistory.{TrailHistory}
@@ -45,13 +45,13 @@ use Rattle.dms_restore.proofs.Traced.{whole_take, whole_drop}
 
 -- from all live entries, which are cut at the place of the point
 pub table_cut : (files : Files) (live : List LiveEntry) (m k : ℕ) (v : List Told) → until_first (is_point m) (events_at files live) ≡ events_at files (take k live) → after_first (is_point m) (events_at files live) ≡ events_at files (drop k live)
-    → Tables files (take k live) (drop k live) v → AllHaveWholeBlocks files live → IsTable (events_at files live) m files v
+    → Tables files (take k live) (drop k live) v → AllStandWhole files live → IsTable (events_at files live) m files v
 table_cut files live m k v front behind table whole = table (events_at files live) m front behind (whole_take files k live whole) (whole_drop files k live whole)
 
 -- of entries that were traced
-pub table_traced : (files : Files) (es : List Entry) (h : TrailHistory) (live : List LiveEntry) (m : ℕ) (v : List Told) → live ≡ h.live.items → (AllHaveWholeBlocks files live → IsTable (events_at files live) m files v) → IsTraced files es h → IsTable (live_of es) m files v
+pub table_traced : (files : Files) (es : List Entry) (h : TrailHistory) (live : List LiveEntry) (m : ℕ) (v : List Told) → live ≡ h.live.items → (AllStandWhole files live → IsTable (events_at files live) m files v) → IsTraced files es h → IsTable (live_of es) m files v
 table_traced files es h live m v lent table t =
-    subst (λ (l : List Event). IsTable l m files v) (ap (events_at files) lent ∙ sym t.live_is) (table (subst (AllHaveWholeBlocks files) (sym lent) t.live_whole))
+    subst (λ (l : List Event). IsTable l m files v) (ap (events_at files) lent ∙ sym t.live_is) (table (subst (AllStandWhole files) (sym lent) t.live_whole))
 
 -- it serves behind entries of which none waits
 pub serves_on : (v : LogView) (files : Files) (m : ℕ) (table : List Told) → v.files ≡ files → waits v.end ≡ [] → ((new : Files) → Grown v.end.total v.first files new → IsTable (live_of (trail_entries v.end.total v.first files)) m new table) → ServesBehind v m table

@@ -9,7 +9,7 @@ ghost use Rattle.dms_audfile.specs.Ends.{Grown};
 ghost use Rattle.dms_audfile.specs.Reads.{OnlyReads};
 ghost use Rattle.dms_audfile.specs.TrailEntries.{trail_entries};
 ghost use Rattle.dms_restore.specs.BackOuts.{IsDiskOrMemory};
-ghost use Rattle.dms_restore.specs.LiveEntries.{events_at, AllHaveWholeBlocks};
+ghost use Rattle.dms_restore.specs.LiveEntries.{events_at, AllStandWhole};
 ghost use Rattle.dms_restore.specs.Table.{AreBlocks, IsTable};
 ghost use Rattle.dms_restore.specs.Tracing.{IsTraced};
 
@@ -37,7 +37,7 @@ pub(crate) fn disk_or_memory(fault: AudFault) -> AudFault
 /// an Image isn't of a block of a structure file.
 fn table_of_point(alloc: Global, live: &[LiveEntry], point: u64) -> Result<Vec<Told>, AudFault>
     ensures blocks { IfOk result (λ v. AreBlocks v.items) }
-    ensures table { IfOk result (λ v. (files : Files) → AllHaveWholeBlocks files live.now → IsTable (events_at files live.now) point files v.items) }
+    ensures table { IfOk result (λ v. (files : Files) → AllStandWhole files live.now → IsTable (events_at files live.now) point files v.items) }
     ensures only { IfErr result (λ e. e ≡ AudFault.Memory) }
 {
     let up_to = match place(live, point) {

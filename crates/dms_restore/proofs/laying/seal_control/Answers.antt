@@ -23,7 +23,7 @@ returns-clause-sealed g c = four_ok c.seal.result c.seal.ensures.sealed c.seal.e
     let one = lay_one _ _ c.append.new.self first _ _ _ _ _ (c.in_ok-lay_parts.ensures.laid first tells s) c.lay_parts.ensures.kind.0 _ _ (λ first waiting plain ends. c.append.ensures.moments first waiting tells plain ends) _ c.append.ensures.kind.0
     (c.in_ok-append.ensures.behind tells) (λ first waiting plain ends. c.in_ok-append.ensures.appends first waiting tells plain ends) in
     lay_sealed _ _ c.seal.new.self first _ _ _ _ _ one (c.append.ensures.kind.0 ∙ c.lay_parts.ensures.kind.0) _ (λ first waiting at. c.seal.ensures.moments first waiting tells at) _
-    (durable (c.in_ok-append.ensures.waits refl) tells) (behind tells) (λ first waiting at. sealed first waiting tells at) (λ first waiting at. ends first waiting tells at))
+    (g.met.S.Site.may_stay c.seal.new.site tells) (durable (c.in_ok-append.ensures.waits refl) tells) (behind tells) (λ first waiting at. sealed first waiting tells at) (λ first waiting at. ends first waiting tells at))
 
 pub append-requires-clause-size : goal.append-requires-clause-size
 append-requires-clause-size g c = control_size c.args.point c.args.next c.args.counts.now c.requires.size
