@@ -1,3 +1,4 @@
+use Rattle.dms_wal.proofs.Lifts.{told_same}
 use Rattle.std.proofs.Common.{◌∙◌, true, false, length, refl, ap}
 use Rattle.dms_wal.proofs.BackFaults.{caused_back, back_silent, back_only, back_full, back_memory}
 use Rattle.dms_wal.proofs.BackedOut.{passes_back, stays_back, marked_content}
@@ -7,7 +8,7 @@ pub returns-in-Err-clause-passes : goal.returns-in-Err-clause-passes
 returns-in-Err-clause-passes g c =
     let m = g.met.S.Site in
     let r = c.args.self.now in
-    passes_back g.S.Site m.may_stay m.now_said r c.requires c.go_back.new.log r.pool true r.changed _ r.outs r.counts c.go_back.ensures.kind refl c.go_back.ensures.said c.go_back.ensures.moments c.go_back.ensures.silent
+    passes_back g.S.Site m.may_stay m.now_said r c.requires c.go_back.new.log r.pool true r.changed _ r.outs r.counts (told_same c.go_back.ensures.kind) refl c.go_back.ensures.said c.go_back.ensures.moments c.go_back.ensures.silent
 
 pub returns-in-Err-clause-causes : goal.returns-in-Err-clause-causes
 returns-in-Err-clause-causes g c = caused_back c.in-Err.fault c.back_fault.result 9999 _ _ c.in-Err.ensures.only c.back_fault.ensures c.in-Err.ensures.disk c.go_back.ensures.say_faults refl
@@ -25,7 +26,7 @@ pub returns-clause-passes : goal.returns-clause-passes
 returns-clause-passes g c =
     let m = g.met.S.Site in
     let r = c.args.self.now in
-    passes_back g.S.Site m.may_stay m.now_said r c.requires c.go_back.new.log _ r.broken false r.full _ _ c.go_back.ensures.kind (ap length (c.copy_counts.ensures ∙ c.deref-3.ensures.value) ∙ c.requires.marked.as_many) c.go_back.ensures.said c.go_back.ensures.moments c.go_back.ensures.silent
+    passes_back g.S.Site m.may_stay m.now_said r c.requires c.go_back.new.log _ r.broken false r.full _ _ (told_same c.go_back.ensures.kind) (ap length (c.copy_counts.ensures ∙ c.deref-3.ensures.value) ∙ c.requires.marked.as_many) c.go_back.ensures.said c.go_back.ensures.moments c.go_back.ensures.silent
 
 pub returns-clause-stays : goal.returns-clause-stays
 returns-clause-stays g c =
