@@ -37,6 +37,7 @@ use Rattle.dms_wal.specs.Database.{held, view_of, frames_of, GoesWith, IsUsable}
 use Rattle.dms_wal.proofs.Pooled.{clean_frames}
 use Rattle.dms_wal.proofs.Pointing.{last_is}
 use Rattle.dms_wal.proofs.Marked.{mark_on}
+use Rattle.dms_wal.proofs.Under.{under_control}
 
 true_not_false : true ≡ false → ⊥
 true_not_false e = absurd cc
@@ -87,6 +88,7 @@ module _ {S : Type 0} (g : Ghosts S) (r : Running S) (u : IsUsable g r) (clean :
   pub usable_controlled : IsUsable g (record r { log = l })
   usable_controlled = record {
     unbroken = u.unbroken;
+    under = λ t. under_control (view_of g r.log) (view_of g l) r.schema.items r.point r.next (file_counts 30001 r.counts.items) u.described.0 (makes_control t).entries_are;
     described = u.described;
     table = u.table;
     marked = u.marked;

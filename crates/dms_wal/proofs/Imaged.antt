@@ -56,6 +56,7 @@ use Rattle.dms_wal.proofs.Stepped.{passes_step, surer_step}
 use Rattle.dms_wal.proofs.Marked.{true_not_false}
 use Rattle.dms_wal.specs.AgreeLaws.{text}
 use Rattle.dms_wal.proofs.Tabled.{raised_table, raised_more}
+use Rattle.dms_wal.proofs.Under.{under_on, under_image}
 
 -- one word for a changed content, above and below
 pub with_same : (c : Content) (f k : ℕ) (bytes : List ℕ) → blocks.with_block c f k bytes ≡ with_block c f k bytes
@@ -132,6 +133,7 @@ module _ {S : Type 0} (g : Ghosts S) (r : Running S) (u : IsUsable g r) (id : Bl
   pub usable_changed : IsUsable g (record r { log = two; pool = pool; counts = cs; changed = true })
   usable_changed = record {
     unbroken = u.unbroken;
+    under = λ t. under_on (view_of g one) (view_of g two) r.schema.items (kept t).entries_same (under_image (view_of g r.log) (view_of g one) r.schema.items id.file id.block before block.0 (logged t).entries_are (u.under t));
     described = u.described;
     marked = record { table = u.marked.table; as_many = u.marked.as_many ∙ sym many };
     pointed = λ t. subst (λ (ps : List DescribedPoint). IsMarkOf ps r.point r.marks.items) (sym ((kept t).points_same ∙ (logged t).points_same)) (u.pointed t);
@@ -198,4 +200,4 @@ then_left g stay counts_now r u one two f k before after kind logged first secon
 
 -- what a database was used for doesn't touch what it needs
 pub usable_spent : {S : Type 0} (g : Ghosts S) (r : Running S) (n : ℕ) → IsUsable g r → IsUsable g (record r { spent = n })
-usable_spent g r n u = record { unbroken = u.unbroken; described = u.described; table = u.table; marked = u.marked; pointed = u.pointed; unchanged = u.unchanged; counted = u.counted; goes = u.goes }
+usable_spent g r n u = record { unbroken = u.unbroken; under = u.under; described = u.described; table = u.table; marked = u.marked; pointed = u.pointed; unchanged = u.unchanged; counted = u.counted; goes = u.goes }

@@ -40,6 +40,7 @@ use Rattle.dms_wal.specs.Database.{held, view_of, GoesWith, IsUsable, frames_of}
 use Rattle.dms_wal.specs.Lifting.{last_blocks, lifted, point_under}
 use Rattle.dms_wal.specs.Marks.{IsMarkOf}
 use Rattle.dms_wal.proofs.Marked.{mark_on}
+use Rattle.dms_wal.proofs.Under.{under_on}
 
 -- the same end of a trail, which may go on up to another file
 pub record EndsAlike (a b : AuditEnd) : Type 0 where
@@ -113,6 +114,7 @@ module _ {S : Type 0} (g : Ghosts S) (r : Running S) (e : AuditEnd) (alike : End
   pub usable_alike : IsUsable g r → IsUsable g reaching
   usable_alike u = record {
     unbroken = u.unbroken;
+    under = λ t. under_on (view_of g r.log) (view e r.log.first (g.files r.log.site) (g.clock r.log.site)) r.schema.items (entries_alike r.log.end e alike r.log.first (g.files r.log.site) (g.clock r.log.site)) (u.under t);
     described = u.described;
     table = u.table;
     marked = u.marked;

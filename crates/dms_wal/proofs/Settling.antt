@@ -34,6 +34,7 @@ use Rattle.dms_wal.proofs.Stills.{runs_still, goes_sealed}
 use Rattle.dms_wal.proofs.Roomed.{then_leave}
 use Rattle.dms_wal.proofs.Stepped.{passes_step, stays_step}
 use Rattle.dms_wal.proofs.Marked.{mark_on}
+use Rattle.dms_wal.proofs.Under.{under_on}
 
 -- ---- a block was written, and stays in the pool
 
@@ -42,6 +43,7 @@ module _ {S : Type 0} (g : Ghosts S) (r : Running S) (u : IsUsable g r) where
       → (IsTrue g.tells → WritesBack (view_of g r.log) (view_of g l) id.file id.block block.0) → IsUsable g (record r { log = l; pool = p })
   usable_washed p id block was c l kind runs read back = record {
     unbroken = u.unbroken;
+    under = λ t. under_on (view_of g r.log) (view_of g l) r.schema.items (back t).entries_same (u.under t);
     described = u.described;
     table = u.table;
     marked = u.marked;
@@ -109,6 +111,7 @@ module _ {S : Type 0} (g : Ghosts S) (stay : (s : S) → IsTrue g.tells → (x :
     pub usable_stable : IsUsable g (record r { log = l })
     usable_stable = record {
       unbroken = u.unbroken;
+      under = λ t. under_on (view_of g r.log) (view_of g l) r.schema.items (nothing t).entries_same (u.under t);
       described = u.described;
       table = u.table;
       marked = u.marked;

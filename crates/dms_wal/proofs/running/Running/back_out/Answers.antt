@@ -31,12 +31,12 @@ returns-clause-passes g c =
 pub returns-clause-stays : goal.returns-clause-stays
 returns-clause-stays g c =
     let m = g.met.S.Site in
-    stays_back g.S.Site m.may_stay m.now_said c.args.self.now c.requires c.go_back.new.log _ _ c.clear.ensures _ _ (c.copy_counts.ensures ∙ c.deref-3.ensures.value) _ c.in-Ok.ensures.back
+    stays_back g.S.Site m.may_stay m.now_said c.args.self.now c.requires c.go_back.new.log _ _ c.clear.ensures _ _ (c.copy_counts.ensures ∙ c.deref-3.ensures.value) c.in-Ok.ensures.back
 
 pub returns-clause-content : goal.returns-clause-content
 returns-clause-content g c =
     let m = g.met.S.Site in
-    marked_content g.S.Site m.may_stay m.now_said c.args.self.now c.requires c.go_back.new.log _ _ c.clear.ensures 0 c.copy_counts.new.to (c.copy_counts.ensures ∙ c.deref-3.ensures.value) _ c.in-Ok.ensures.back
+    marked_content g.S.Site m.may_stay m.now_said c.args.self.now c.requires c.go_back.new.log _ _ c.clear.ensures 0 c.copy_counts.new.to (c.copy_counts.ensures ∙ c.deref-3.ensures.value) c.in-Ok.ensures.back
 
 pub returns-in-Err-clause-pace : goal.returns-in-Err-clause-pace
 returns-in-Err-clause-pace g c = record { every = refl; limit = c.go_back.ensures.limit; total = c.go_back.ensures.trail.0; first = c.go_back.ensures.trail.1; schema = refl }
