@@ -20,3 +20,6 @@ returns-in-Ok-sync-clause-silent g c tells = then_silent (c.sync.ensures.silent 
 
 pub returns-in-Err-sync-clause-silent : goal.returns-in-Err-sync-clause-silent
 returns-in-Err-sync-clause-silent g c tells = then_silent (c.sync.ensures.silent tells) (look_silent c.sync-2.ensures.moments)
+
+pub returns-in-Ok-sync-clause-stable : goal.returns-in-Ok-sync-clause-stable
+returns-in-Ok-sync-clause-stable g c tells = c.in-Ok-sync.ensures.durable tells
