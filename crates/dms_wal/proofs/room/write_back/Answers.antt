@@ -1,8 +1,8 @@
 use Rattle.std.proofs.Common.{arith}
 use Rattle.dms_wal.proofs.Backs.{writes_back}
-use Rattle.dms_wal.specs.Database.{view_of}
 use Rattle.dms_wal.proofs.Roomed.{newest, then_leave, then_silent}
 use Rattle.dms_wal.proofs.Synced.{kind_is}
+use Rattle.dms_wal.specs.Database.{view_of}
 use Rattle.dms_wal.proofs.room.write_back.Goals as goal
 
 pub returns-in-Ok-write-clause-back : goal.returns-in-Ok-write-clause-back
@@ -21,12 +21,10 @@ write-requires-clause-sealed g c tells =
 
 pub returns-in-Ok-write-clause-moments : goal.returns-in-Ok-write-clause-moments
 returns-in-Ok-write-clause-moments g c tells =
-    let same = c.in-Ok.ensures.same tells in
-    then_leave (view_of g.S.Site c.args.log.now) (view_of g.S.Site c.sync.new.self) (view_of g.S.Site c.write.new.self) (kind_is c.sync.ensures.kind.0 c.sync.ensures.kind.3) (c.sync.ensures.moments tells) (c.write.ensures.moments tells)
-    same.points_same same.durable_kept same.next_same
+    let s = c.in-Ok.ensures.same tells in
+    then_leave (view_of g.S.Site c.args.log.now) (view_of g.S.Site c.sync.new.self) (view_of g.S.Site c.write.new.self) (kind_is c.sync.ensures.kind.0 c.sync.ensures.kind.3) (c.sync.ensures.moments tells) (c.write.ensures.moments tells) s.points_same s.durable_kept s.next_same
 
 pub returns-in-Err-write-clause-moments : goal.returns-in-Err-write-clause-moments
 returns-in-Err-write-clause-moments g c tells =
-    let same = c.in-Ok.ensures.same tells in
-    then_leave (view_of g.S.Site c.args.log.now) (view_of g.S.Site c.sync.new.self) (view_of g.S.Site c.write.new.self) (kind_is c.sync.ensures.kind.0 c.sync.ensures.kind.3) (c.sync.ensures.moments tells) (c.write.ensures.moments tells)
-    same.points_same same.durable_kept same.next_same
+    let s = c.in-Ok.ensures.same tells in
+    then_leave (view_of g.S.Site c.args.log.now) (view_of g.S.Site c.sync.new.self) (view_of g.S.Site c.write.new.self) (kind_is c.sync.ensures.kind.0 c.sync.ensures.kind.3) (c.sync.ensures.moments tells) (c.write.ensures.moments tells) s.points_same s.durable_kept s.next_same
