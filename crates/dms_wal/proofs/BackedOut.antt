@@ -20,7 +20,7 @@ use Rattle.dms_running.proofs.Appending.{points_enough}
 use Rattle.dms_running.proofs.Framed.{holds_none}
 use Rattle.dms_restore.specs.declared.log.Log.{Log}
 use Rattle.dms_restore.specs.Logging as logs
-use Rattle.dms_restore.specs.Logging.{LogView, telling, state, points, durable, content, entries, LogRuns, PrintsNothing, LogLeaves}
+use Rattle.dms_restore.specs.Logging.{LogView, telling, state, points, durable, content, LogRuns, PrintsNothing, LogLeaves}
 use Rattle.dms_restore.specs.BackOuts.{WentBackTo, GoesBackBy, back_entries}
 use Rattle.dms_restore.proofs.Logs as lemmas
 use Rattle.dms_restore.proofs.Logs.{Reads}
@@ -51,18 +51,17 @@ module _ {S : Type 0} (g : Ghosts S) (stay : (s : S) → IsTrue g.tells → (x :
       passes_by g.tells (IsUsable g r) (IsUsable g r') (view_of g r.log) (view_of g l) r.schema.items r.next r.next r.counts.items cs.items (said_of g r.log) (said_of g l) (faults_of g r) (faults_of g r') (uses_of g r) (uses_of g r')
       kind many refl (ap (λ (s : List ℕ). cond g.tells_said (Some s) None) said) (λ t. (u.goes t).numbered) (text g now_said r.log) leaves silent
 
-  module _ (n : ℕ) (p : Pool) (empty : IsEmpty n p) (outs : ℕ) (cs : Vec ℕ) (copied : cs.items ≡ r.marks.items) (es : List Entry) (are : es ≡ entries_back r.point r.schema.items r.next r.marks.items)
-      (went : IsTrue g.tells → WentBackTo r.point (view_of g r.log) (view_of g l) es) where
+  module _ (n : ℕ) (p : Pool) (empty : IsEmpty n p) (outs : ℕ) (cs : Vec ℕ) (copied : cs.items ≡ r.marks.items) (went : IsTrue g.tells → WentBackTo r.point (view_of g r.log) (view_of g l) (entries_back r.point r.schema.items r.next r.marks.items)) where
     abbrev pub back : Running S
     back = record r { log = l; pool = p; counts = cs; changed = false; outs = outs }
 
     pub marked_content : IsTrue g.tells → content (view_of g l) ≡ last_blocks (λ f. []) (points (view_of g r.log))
-    marked_content t = content_mark (view_of g r.log) (view_of g l) r.point r.marks.items (u.goes t).runs (stay r.log.site t) (u.pointed t) es (went t)
+    marked_content t = content_mark (view_of g r.log) (view_of g l) r.point r.marks.items (u.goes t).runs (stay r.log.site t) (u.pointed t) (entries_back r.point r.schema.items r.next r.marks.items) (went t)
 
     pub usable_back : IsUsable g back
     usable_back = record {
       unbroken = u.unbroken;
-      under = λ t. under_back (view_of g r.log) (view_of g l) r.schema.items r.point r.next r.marks.items u.described.0 ((went t).entries_are ∙ ap (λ (l : List Entry). entries (view_of g r.log) ++ l) are);
+      under = λ t. under_back (view_of g r.log) (view_of g l) r.schema.items r.point r.next r.marks.items u.described.0 (went t).entries_are;
       described = u.described;
       table = subst AreCounts (sym copied) u.marked.table;
       marked = record { table = u.marked.table; as_many = ap length (sym copied) };
