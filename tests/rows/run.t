@@ -43,10 +43,15 @@ A transaction begins only behind a syncpoint that is pending.
   8 B DONE
   SYNCPOINT 1
   7 C DONE
+
+C's transaction is open at the end. It is taken back, by a restore to the last point, and nothing is printed for that.
+
+  $ "$DMS" print audit | grep -c 'BEGIN 1 BACKOUT'
+  1
   $ "$DMS" print audit | tail -n 1 | cut -d' ' -f3-
   CONTROL 1 NEXT 2
 
-One program backs out, and the other one learns of it once. The record is gone, in the next run too. The back-out is a restore to the last point.
+One program backs out, and the other one learns of it once. The record is gone, in the next run too.
 
   $ "$DMS" run <<'END'
   > A: OPEN UPDATE
@@ -73,7 +78,7 @@ One program backs out, and the other one learns of it once. The record is gone, 
   10 B EXCEPTION NOTFOUND D
   11 A EXCEPTION AUDITERROR A
   $ "$DMS" print audit | grep -c 'BEGIN 1 BACKOUT'
-  1
+  2
   $ "$DMS" print audit | tail -n 1 | cut -d' ' -f3-
   CONTROL 1 NEXT 2
   $ "$DMS" run <<'END'

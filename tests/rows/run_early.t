@@ -41,7 +41,7 @@ The opening may be stopped as well, and the one behind it. Here a run is stopped
 
   $ killed db 100
   $ cd t
-  $ for time in 0.002 0.004 0.008; do timeout --foreground -s KILL $time "$DMS" run < /dev/null; done
+  $ for time in 0.002 0.004 0.008; do timeout --foreground -s KILL $time "$DMS" run < /dev/null || true; done
   $ "$DMS" run < ../look
   1 A DONE
   2 A EXCEPTION NOTFOUND D
