@@ -127,6 +127,35 @@ A transaction that ends without a syncpoint is there too where the script came t
   4 A DONE
   5 A DONE X=5
 
+What one program ended beside a transaction of another one that is open goes with it: there was no quiet point.
+
+  $ "$DMS" run <<'END'
+  > A: OPEN UPDATE
+  > B: OPEN UPDATE
+  > A: BEGIN-TRANSACTION NO-AUDIT RDS
+  > B: BEGIN-TRANSACTION NO-AUDIT RDS
+  > B: CREATE D
+  > B: PUT D X = 7
+  > B: STORE D
+  > B: END-TRANSACTION NO-AUDIT RDS
+  > B: FIND LAST D
+  > B: GET D
+  > END
+  1 A DONE
+  2 B DONE
+  3 A DONE
+  4 B DONE
+  5 B DONE
+  6 B DONE
+  7 B DONE
+  8 B DONE
+  9 B DONE
+  10 B DONE X=7
+  $ printf 'A: OPEN INQUIRY\nA: FIND LAST D\nA: GET D\n' | "$DMS" run
+  1 A DONE
+  2 A DONE
+  3 A DONE X=5
+
 A line that is still held at the end is said to be unanswered, and nothing of it is done.
 
   $ "$DMS" run <<'END'
