@@ -1,4 +1,5 @@
 pub mod Lifts
+pub mod Under
 pub mod Pooled
 pub mod Stills
 pub mod Causes
@@ -17,6 +18,9 @@ pub mod Settling
 pub mod Controlling
 pub mod Reaching
 pub mod Keeping
+pub mod Marked
+pub mod Logged
+pub mod Closed
 pub mod Limits
 pub mod BackFaults
 pub mod BackedOut

@@ -1,5 +1,9 @@
-use Rattle.std.proofs.Common.{◌∙◌, true, length, refl, ap}
-use Rattle.dms_wal.proofs.BackFaults.{caused_back, back_silent, back_only, back_full}
+use Rattle.dms_wal.proofs.Lifts.{told_same}
+use Rattle.std.proofs.Common.{ℕ, ◌∙◌, true, false, List, subst, length, refl, ap}
+use Rattle.dms_restore.specs.BackOuts.{WentBackTo}
+use Rattle.dms_wal.specs.BackOuts.{entries_back}
+use Rattle.dms_wal.specs.Database.{view_of}
+use Rattle.dms_wal.proofs.BackFaults.{caused_back, back_silent, back_only, back_full, back_memory}
 use Rattle.dms_wal.proofs.BackedOut.{passes_back, stays_back, marked_content}
 use Rattle.dms_wal.proofs.running.Running.back_out.Goals as goal
 
@@ -7,7 +11,7 @@ pub returns-in-Err-clause-passes : goal.returns-in-Err-clause-passes
 returns-in-Err-clause-passes g c =
     let m = g.met.S.Site in
     let r = c.args.self.now in
-    passes_back g.S.Site m.may_stay m.now_said r c.requires c.go_back.new.log r.pool true _ r.outs r.counts c.go_back.ensures.kind refl c.go_back.ensures.said c.go_back.ensures.moments c.go_back.ensures.silent
+    passes_back g.S.Site m.may_stay m.now_said r c.requires c.go_back.new.log r.pool true r.changed _ r.outs r.counts (told_same c.go_back.ensures.kind) refl c.go_back.ensures.said c.go_back.ensures.moments c.go_back.ensures.silent
 
 pub returns-in-Err-clause-causes : goal.returns-in-Err-clause-causes
 returns-in-Err-clause-causes g c = caused_back c.in-Err.fault c.back_fault.result 9999 _ _ c.in-Err.ensures.only c.back_fault.ensures c.in-Err.ensures.disk c.go_back.ensures.say_faults refl
@@ -25,20 +29,35 @@ pub returns-clause-passes : goal.returns-clause-passes
 returns-clause-passes g c =
     let m = g.met.S.Site in
     let r = c.args.self.now in
-    passes_back g.S.Site m.may_stay m.now_said r c.requires c.go_back.new.log _ r.broken r.full _ _ c.go_back.ensures.kind (ap length (c.copy_counts.ensures ∙ c.deref-3.ensures.value) ∙ c.requires.marked.as_many) c.go_back.ensures.said c.go_back.ensures.moments c.go_back.ensures.silent
+    passes_back g.S.Site m.may_stay m.now_said r c.requires c.go_back.new.log _ r.broken false r.full _ _ (told_same c.go_back.ensures.kind) (ap length (c.copy_counts.ensures ∙ c.deref-3.ensures.value) ∙ c.requires.marked.as_many) c.go_back.ensures.said c.go_back.ensures.moments c.go_back.ensures.silent
 
 pub returns-clause-stays : goal.returns-clause-stays
 returns-clause-stays g c =
     let m = g.met.S.Site in
-    stays_back g.S.Site m.may_stay m.now_said c.args.self.now c.requires c.go_back.new.log _ _ c.clear.ensures _ _ (c.copy_counts.ensures ∙ c.deref-3.ensures.value) _ c.in-Ok.ensures.back
+    stays_back g.S.Site m.may_stay m.now_said c.args.self.now c.requires c.go_back.new.log _ _ c.clear.ensures _ _ (c.copy_counts.ensures ∙ c.deref-3.ensures.value)
+    (λ t. let r = c.args.self.now in
+    subst (λ (l : List ℕ). WentBackTo r.point (view_of g.S.Site r.log) (view_of g.S.Site c.go_back.new.log) (entries_back r.point l r.next r.marks.items)) c.deref.ensures.value
+    (subst (λ (l : List ℕ). WentBackTo r.point (view_of g.S.Site r.log) (view_of g.S.Site c.go_back.new.log) (entries_back r.point c.deref.result.now r.next l)) c.deref-2.ensures.value (c.in-Ok.ensures.back t)))
 
 pub returns-clause-content : goal.returns-clause-content
 returns-clause-content g c =
     let m = g.met.S.Site in
-    marked_content g.S.Site m.may_stay m.now_said c.args.self.now c.requires c.go_back.new.log _ _ c.clear.ensures 0 c.copy_counts.new.to (c.copy_counts.ensures ∙ c.deref-3.ensures.value) _ c.in-Ok.ensures.back
+    marked_content g.S.Site m.may_stay m.now_said c.args.self.now c.requires c.go_back.new.log _ _ c.clear.ensures 0 c.copy_counts.new.to (c.copy_counts.ensures ∙ c.deref-3.ensures.value)
+    (λ t. let r = c.args.self.now in
+    subst (λ (l : List ℕ). WentBackTo r.point (view_of g.S.Site r.log) (view_of g.S.Site c.go_back.new.log) (entries_back r.point l r.next r.marks.items)) c.deref.ensures.value
+    (subst (λ (l : List ℕ). WentBackTo r.point (view_of g.S.Site r.log) (view_of g.S.Site c.go_back.new.log) (entries_back r.point c.deref.result.now r.next l)) c.deref-2.ensures.value (c.in-Ok.ensures.back t)))
 
 pub returns-in-Err-clause-pace : goal.returns-in-Err-clause-pace
-returns-in-Err-clause-pace g c = record { every = refl; limit = c.go_back.ensures.limit }
+returns-in-Err-clause-pace g c = record { every = refl; limit = c.go_back.ensures.limit; total = c.go_back.ensures.trail.0; first = c.go_back.ensures.trail.1; schema = refl }
 
 pub returns-clause-pace : goal.returns-clause-pace
-returns-clause-pace g c = record { every = refl; limit = c.go_back.ensures.limit }
+returns-clause-pace g c = record { every = refl; limit = c.go_back.ensures.limit; total = c.go_back.ensures.trail.0; first = c.go_back.ensures.trail.1; schema = refl }
+
+pub returns-in-Err-clause-memory : goal.returns-in-Err-clause-memory
+returns-in-Err-clause-memory g c is = c.in-Err.ensures.memory (back_memory c.in-Err.fault c.back_fault.result 9999 _ _ c.in-Err.ensures.only c.back_fault.ensures is)
+
+pub returns-in-Err-clause-idle : goal.returns-in-Err-clause-idle
+returns-in-Err-clause-idle g c is = c.in-Err.ensures.idle (back_memory c.in-Err.fault c.back_fault.result 9999 _ _ c.in-Err.ensures.only c.back_fault.ensures is)
+
+pub returns-in-Err-clause-ends : goal.returns-in-Err-clause-ends
+returns-in-Err-clause-ends g c is = c.in-Err.ensures.ends (back_full c.in-Err.fault c.back_fault.result 9999 _ _ c.in-Err.ensures.only c.back_fault.ensures is)

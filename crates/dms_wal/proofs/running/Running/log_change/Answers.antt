@@ -1,3 +1,4 @@
+use Rattle.dms_wal.proofs.Lifts.{told_same}
 use Rattle.std.proofs.Common.{ℕ, IsTrue, List, Option, refl, sym, ◌∙◌, subst}
 use Rattle.std.specs.Option.{option_copied}
 use Rattle.std.proofs.Common.{inl}
@@ -9,6 +10,7 @@ use Rattle.dms_wal.proofs.Synced.{kind_is}
 use Rattle.dms_wal.proofs.Imaged.{alters_made, alters_failed, counted_more, imaged, usable_changed, with_same, then_left}
 use Rattle.dms_wal.proofs.Roomed.{then_silent}
 use Rattle.dms_wal.proofs.Tabled.{raised_there}
+use Rattle.dms_wal.proofs.Logged.{logs_one}
 use Rattle.dms_wal.proofs.running.Running.log_change.Goals as goal
 
 pub returns-in-Err-clause-alters : goal.returns-in-Err-clause-alters
@@ -33,7 +35,7 @@ returns-in-Ok-keep-clause-alters g c =
     let kind = kind_is c.image.ensures.kind.0 c.image.ensures.kind.3 in
     let id = c.args.change.now.id in
     let told = λ (t : IsTrue g.S.Site.tells). subst (λ (o : Option (List ℕ)). TellsBefore id.block o (content (view_of g.S.Site r.log) id.file)) (sym c.bytes_of.ensures.bytes) (c.requires.before t) in
-    alters_made g.S.Site m.may_stay m.now_said m.counts_now r u c.keep.new.log (c.keep.ensures.kind ∙ kind) (c.keep.ensures.said ∙ c.image.ensures.said)
+    alters_made g.S.Site m.may_stay m.now_said m.counts_now r u c.keep.new.log (told_same c.keep.ensures.kind ∙ kind) (c.keep.ensures.said ∙ c.image.ensures.said)
     (then_left g.S.Site m.may_stay m.counts_now r u c.image.new.self c.keep.new.log id.file id.block (option_copied c.bytes_of.result) c.args.change.now.block.0 kind c.in-Ok.ensures.logs c.image.ensures.moments c.keep.ensures.moments)
     (λ t. then_silent (c.image.ensures.silent t) (c.keep.ensures.silent t)) c.keep.new.pool _ c.raise.ensures.files
     (usable_changed g.S.Site r u id c.args.change.now.block (option_copied c.bytes_of.result) c.requires.owned c.requires.low told c.image.new.self c.keep.new.log c.keep.new.pool _ c.in-Ok.ensures.logs c.in-Ok-keep.ensures.kept c.raise.ensures.raised c.raise.ensures.files
@@ -47,7 +49,7 @@ returns-in-Err-keep-clause-alters g c =
     let u = c.requires.sound in
     let kind = kind_is c.image.ensures.kind.0 c.image.ensures.kind.3 in
     let id = c.args.change.now.id in
-    alters_failed g.S.Site m.may_stay m.now_said m.counts_now r u c.keep.new.log (c.keep.ensures.kind ∙ kind) (c.keep.ensures.said ∙ c.image.ensures.said)
+    alters_failed g.S.Site m.may_stay m.now_said m.counts_now r u c.keep.new.log (told_same c.keep.ensures.kind ∙ kind) (c.keep.ensures.said ∙ c.image.ensures.said)
     (then_left g.S.Site m.may_stay m.counts_now r u c.image.new.self c.keep.new.log id.file id.block (option_copied c.bytes_of.result) c.args.change.now.block.0 kind c.in-Ok.ensures.logs c.image.ensures.moments c.keep.ensures.moments)
     (λ t. then_silent (c.image.ensures.silent t) (c.keep.ensures.silent t)) c.in-Err-keep.fault (inl c.in-Err-keep.ensures.only) c.keep.new.pool _ _ c.raise.ensures.files
 
@@ -56,3 +58,9 @@ returns-in-Err-clause-full g c n is = full_left c.in-Err.fault c.append_fault.re
 
 pub returns-in-Err-keep-clause-full : goal.returns-in-Err-keep-clause-full
 returns-in-Err-keep-clause-full g c n is = absurd (disk_not_full c.in-Err-keep.fault n c.in-Err-keep.ensures.only is)
+
+pub returns-in-Ok-keep-clause-logs : goal.returns-in-Ok-keep-clause-logs
+returns-in-Ok-keep-clause-logs g c t =
+    logs_one (view_of g.S.Site c.args.self.now.log) (view_of g.S.Site c.keep.new.log) c.args.change.now (option_copied c.bytes_of.result)
+    (subst (λ (o : Option (List ℕ)). TellsBefore c.args.change.now.id.block o (content (view_of g.S.Site c.args.self.now.log) c.args.change.now.id.file)) (sym c.bytes_of.ensures.bytes) (c.requires.before t))
+    ((c.in-Ok-keep.ensures.kept t).entries_same ∙ (c.in-Ok.ensures.logs t).entries_are)
