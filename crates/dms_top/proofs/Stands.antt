@@ -34,7 +34,7 @@ use Rattle.dms_audrec.specs.Bodies.{bodies_of, part_count, bodies}
 use Rattle.dms_creation.specs.FirstEntries.{zero_counts, first_control, first_entries}
 use Rattle.dms_creation.specs.Creation.{IsMade, Initializes}
 use Rattle.dms_creation.specs.FoundAgain.{MadeIsFound}
-use Rattle.dms_top.specs.Dumped.{dumps_of}
+use Rattle.dms_restore.specs.Dumped.{dumps_of}
 use Rattle.dms_top.specs.State.{StandsNew, BecomesNew, MadeStands}
 
 -- ---- the counts of a new database
