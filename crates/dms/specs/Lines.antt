@@ -6,14 +6,14 @@ use Rattle.dasdl_phrases.specs.declared.fault.ParseFault.{ParseFault}
 use Rattle.dasdl_phrases.specs.declared.fault.ParseFault.TheVariants.{BadCharacter, Expected, NumberRange, TooMany, Memory as NoSpace}
 use Rattle.dms.specs.declared.texts.Ending.{Ending}
 use Rattle.dms.specs.declared.texts.Ending.TheVariants.{Command, InUse}
-use Rattle.dms_top.specs.declared.status.LimitKind.{LimitKind}
-use Rattle.dms_top.specs.declared.status.LimitKind.TheVariants.{Lines, Bytes, Held}
-use Rattle.dms_top.specs.declared.status.SchemaFault.{SchemaFault}
-use Rattle.dms_top.specs.declared.status.SchemaFault.TheVariants.{Parse, Compile}
-use Rattle.dms_top.specs.declared.status.Status.{Status}
-use Rattle.dms_top.specs.declared.status.Status.TheVariants.{Ok, BadWords, SchemaRefused, NoDatabase, Needed, DiskFault, InputFault, Memory, Limit, Damaged, SayFault, Exists}
-use Rattle.dms_top.specs.declared.status.NeedFault.{NeedFault}
-use Rattle.dms_top.specs.declared.status.NeedFault.TheVariants.{NoDescription, AuditMissing, AuditUnsealed, AuditForeign}
+use Rattle.dms_status.specs.declared.status.LimitKind.{LimitKind}
+use Rattle.dms_status.specs.declared.status.LimitKind.TheVariants.{Lines, Bytes, Held}
+use Rattle.dms_status.specs.declared.status.SchemaFault.{SchemaFault}
+use Rattle.dms_status.specs.declared.status.SchemaFault.TheVariants.{Parse, Compile}
+use Rattle.dms_status.specs.declared.status.Status.{Status}
+use Rattle.dms_status.specs.declared.status.Status.TheVariants.{Ok, BadWords, SchemaRefused, NoDatabase, Needed, DiskFault, InputFault, Memory, Limit, Damaged, SayFault, Exists}
+use Rattle.dms_status.specs.declared.status.NeedFault.{NeedFault}
+use Rattle.dms_status.specs.declared.status.NeedFault.TheVariants.{NoDescription, AuditMissing, AuditUnsealed, AuditForeign}
 
 -- words, the number at their place, and words behind it
 abbrev pub counted : List ℕ → ℕ → List ℕ → List ℕ

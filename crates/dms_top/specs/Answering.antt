@@ -11,9 +11,9 @@ use Rattle.dms_model.specs.Db.{empty_db}
 use Rattle.dms_runner.specs.Answers.{script_run, script_events, answers_text}
 use Rattle.dms_runner.specs.Events.{RunEvent, text_of}
 use Rattle.dms_runner.specs.Running.{bytes_of, text_of_lines, PassesLines, PassesBytes, PassesWaiting}
-use Rattle.dms_top.specs.declared.status.SchemaFault.{SchemaFault}
-use Rattle.dms_top.specs.declared.status.LimitKind.{LimitKind}
-use Rattle.dms_top.specs.declared.status.LimitKind.TheVariants.{Lines, Bytes, Held}
+use Rattle.dms_status.specs.declared.status.SchemaFault.{SchemaFault}
+use Rattle.dms_status.specs.declared.status.LimitKind.{LimitKind}
+use Rattle.dms_status.specs.declared.status.LimitKind.TheVariants.{Lines, Bytes, Held}
 use Rattle.dms_top.specs.Judging.{judged}
 use Rattle.dms_top.specs.Schema.{schema_text, script_part}
 

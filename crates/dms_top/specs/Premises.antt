@@ -9,7 +9,7 @@ use Rattle.dms_desc.specs.Shape.{Described}
 use Rattle.dms_descfile.specs.DescriptionFile.{IsSealed}
 use Rattle.dms_feed.specs.Feeds.{Remains}
 use Rattle.dms_site.specs.Files.{Files}
-use Rattle.dms_top.specs.declared.status.SchemaFault.{SchemaFault}
+use Rattle.dms_status.specs.declared.status.SchemaFault.{SchemaFault}
 use Rattle.dms_top.specs.Judging.{judged}
 use Rattle.dms_top.specs.Schema.{schema_text}
 use Rattle.dms_top.specs.Words.{IsTry, IsCompile, IsPrintAudit, initialize_tag}

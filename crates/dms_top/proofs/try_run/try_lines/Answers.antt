@@ -9,9 +9,9 @@ use Rattle.dms_top.proofs.Counting.{say_counted, counted_moved}
 use Rattle.dms_top.proofs.Cutting.{cut_moved}
 use Rattle.dms_plain.specs.Told.{told}
 use Rattle.dms_feed.specs.Feeds.{Remains}
-use Rattle.dms_top.specs.declared.status.Status.TheVariants.{Limit}
-use Rattle.dms_top.specs.declared.status.LimitKind.{LimitKind}
-use Rattle.dms_top.specs.declared.status.LimitKind.TheVariants.{Lines, Bytes, Held}
+use Rattle.dms_status.specs.declared.status.Status.TheVariants.{Limit}
+use Rattle.dms_status.specs.declared.status.LimitKind.{LimitKind}
+use Rattle.dms_status.specs.declared.status.LimitKind.TheVariants.{Lines, Bytes, Held}
 use Rattle.dms_top.proofs.try_run.try_lines.Given.{Over}
 use Rattle.dms_top.proofs.try_run.try_lines.Goals as goal
 
