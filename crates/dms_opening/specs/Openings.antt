@@ -1,0 +1,128 @@
+-- The opening of a database: what it does to its files, what a stop within it leaves, and why it is refused.
+use Rattle.std.specs.Prelude.{ℕ, ◌≤◌, ◌≡◌, ◌⊎◌, List, [], ◌∷◌, ◌++◌, if◌then◌else◌, length, map, None, Some}
+use Rattle.std.specs.declared.option.Option.{Option}
+use Rattle.dms_moments.specs.Moments.{Clock, Runs}
+use Rattle.dms_site.specs.declared.site.Site.{Ghosts}
+use Rattle.dms_site.specs.Files.{Files, Left, Only}
+use Rattle.dms_block.specs.Held.{Held, Uses}
+use Rattle.dms_history.specs.History.{Pending}
+use Rattle.dms_history.specs.Pick.{count_at}
+use Rattle.dms_history.specs.Entries.{Entry, begin_restore, by_halt_load, control_point}
+use Rattle.dms_history.specs.EntryEvents.{history_of, next_of}
+use Rattle.dms_history.specs.Schemas.{schema_entries}
+use Rattle.dms_history.specs.SchemaAt.{schema_at}
+use Rattle.dms_audfile.specs.AuditTrail.{IsFound}
+use Rattle.dms_audfile.specs.Reads.{Refuses}
+use Rattle.dms_audfile.specs.Sealing.{IsWrittenUpTo}
+use Rattle.dms_audfile.specs.TrailEntries.{trail_entries}
+use Rattle.dms_audfile.specs.declared.fault.AudFault.{AudFault}
+use Rattle.dms_audfile.specs.declared.fault.AudFault.TheVariants as aud
+use Rattle.dms_audfile.specs.declared.place.Place.{Place}
+use Rattle.dms_running.specs.Telling.{Telling}
+use Rattle.dms_running.specs.Standing.{IsWhole}
+use Rattle.dms_running.specs.Points.{points_of, next_in}
+use Rattle.dms_running.specs.Running.{AllWritten}
+use Rattle.dms_restore.specs.declared.choosing.OpenFault.{OpenFault}
+use Rattle.dms_restore.specs.declared.choosing.OpenFault.TheVariants.{Audit}
+use Rattle.dms_restore.specs.declared.choosing.Choice.{Choice}
+use Rattle.dms_restore.specs.Bodies.{bodies}
+use Rattle.dms_restore.specs.Choices.{Chooses}
+use Rattle.dms_restore.specs.Counts.{count_of, file_counts}
+use Rattle.dms_restore.specs.Logging as logs
+use Rattle.dms_restore.specs.Logging.{LogView, telling_of, telling, state, waits, LogRuns, entries, points, durable, content}
+use Rattle.dms_restore.specs.Refusals.{dump_in}
+use Rattle.dms_wal.specs.Lifting.{last_blocks, lifted, point_under}
+use Rattle.dms_wal.specs.Marks.{IsMarkOf}
+use Rattle.dms_opening.specs.Plans.{RefusesPlan}
+
+-- Scanning refuses nothing in these files: their trail begins with file `first`, and each of its files has so many blocks.
+pub record HasTrail (total first : ℕ) (files : Files) : Type 0 where
+  pub places : List Place
+  pub found : IsFound files first places
+  pub tag : ℕ
+  pub file : ℕ
+  pub count : ℕ
+  pub writes : IsWrittenUpTo total tag first file count files
+
+-- Neither the trail nor a point of it is refused. The opening begins a restore by halt/load to the last point, or goes on with the one that
+-- is pending, and these are the restore's point, the next number, the description at the point, and how many blocks each file has there.
+pub record OpensAt (total first : ℕ) (files : Files) (point next : ℕ) (schema counts : List ℕ) : Type 0 where
+  pub trail : HasTrail total first files
+  pub no_dump : dump_in (history_of (trail_entries total first files)).pending ≡ None
+  pub choice : Choice
+  pub chooses : Chooses (history_of (trail_entries total first files)) (next_of (trail_entries total first files)) choice
+  pub point_is : choice.point ≡ point
+  pub next_is : next_of (trail_entries total first files) ≡ next
+  pub schema_is : schema_at (trail_entries total first files) point ≡ Some schema
+  pub counts_are : (f : ℕ) → count_of counts f ≡ count_at chooses.restore.entries chooses.restore.point f
+
+-- ---- what it leaves
+
+-- the Begin of an opening, where no restore is pending
+abbrev pub begin_where_none : Option Pending → ℕ → List Entry
+begin_where_none None point = begin_restore point by_halt_load ∷ []
+begin_where_none (Some p) point = []
+
+-- what an opening seals: its Begin, and then the whole Schema and a Control with the counts
+abbrev pub opening_entries : Option Pending → ℕ → ℕ → List ℕ → List ℕ → List Entry
+opening_entries pending point next schema counts = begin_where_none pending point ++ (schema_entries (bodies schema) ++ control_point point next (file_counts 30001 counts) ∷ [])
+
+-- The database that these files held runs. Exactly those entries were sealed behind its own, and nothing waits. Its points and its next number
+-- are the same, and all points are durable. The content is that of the last point, each block of it stands in its file, and a stop now leaves
+-- what is read.
+pub record RunsFrom (files : Files) (point next : ℕ) (schema counts : List ℕ) (v : LogView) : Type 0 where
+  pub runs : LogRuns v
+  pub nothing : waits v.end ≡ []
+  pub entries_are : entries v ≡ trail_entries v.end.total v.first files ++ opening_entries (history_of (trail_entries v.end.total v.first files)).pending point next schema counts
+  pub points_same : points v ≡ points_of (telling v) files
+  pub all_durable : durable v ≡ length (points v)
+  pub next_is : logs.next v ≡ next
+  pub last : IsMarkOf (points v) point counts
+  pub content_is : content v ≡ last_blocks (λ f. []) (points v)
+  pub written : AllWritten (telling v) (state v)
+  pub only : Only v.files v.clock
+
+-- A stop leaves files that hold a database with all points of these files and with no lower next number, and no text but this one, where it
+-- is told.
+pub record Reopens (t : Telling) (files : Files) (said : Option (List ℕ)) (x : Left) : Type 0 where
+  pub whole : IsWhole t x.files
+  pub points_same : points_of t x.files ≡ points_of t files
+  pub not_fallen : next_in t files ≤ next_in t x.files
+  pub text : (s : List ℕ) → said ≡ Some s → x.said ≡ s
+
+module _ {S : Type 0} (g : Ghosts S) where
+  -- the text so far, where the site tells it
+  abbrev pub text_of : S → Option (List ℕ)
+  text_of site = if g.tells_said then Some (g.said site) else None
+
+  -- Where the files of then held a database, each stop since then left what it could leave then, or all their points.
+  abbrev pub ReopensSince : S → S → Type 0
+  ReopensSince a b = (total first : ℕ) → HasTrail total first (g.files a) → IsWhole (telling_of total first) (g.files a) → Runs (g.clock a) (g.clock b) (Reopens (telling_of total first) (g.files a) (text_of a))
+
+-- Blocks tell exactly the points of files, all of them durable and under this description, the content of the last one, and the next number.
+-- What a stop leaves is what it leaves of the site, and they weren't used yet.
+pub record TellsOpened (t : Telling) (files : Files) (schema : List ℕ) (next : ℕ) (clock : Clock Left) (h : Held) : Type 0 where
+  pub points_are : h.points ≡ map (point_under schema) (points_of t files)
+  pub all_durable : h.durable ≡ length h.points
+  pub content_is : h.content ≡ h.mark
+  pub next_is : h.next ≡ next
+  pub clock_is : h.clock ≡ lifted t schema clock
+  pub unused : h.uses ≡ record { reads = 0; spent = 0; syncs = 0; outs = 0 }
+
+-- ---- why it is refused
+
+-- A trail was found, and so it is refused.
+pub record RefusesTrail (files : Files) (fault : OpenFault) : Type 0 where
+  pub total : ℕ
+  pub first : ℕ
+  pub trail : HasTrail total first files
+  pub why : RefusesPlan total first files fault
+
+-- The first refusal of the trail, or of its points and description; a failure of the disk, want of memory and an audit without room say nothing
+-- of the files.
+abbrev pub RefusesFiles : Files → OpenFault → Type 0
+RefusesFiles files fault = ((e : AudFault) × (fault ≡ Audit e) × Refuses files e) ⊎ (RefusesTrail files fault ⊎ (fault ≡ Audit (aud.Full 9999)))
+
+-- A call of the site failed, or the audit had no room: the opening may have begun to write.
+abbrev pub MayHaveWritten : OpenFault → Type 0
+MayHaveWritten fault = (fault ≡ Audit aud.Disk) ⊎ (fault ≡ Audit (aud.Full 9999))

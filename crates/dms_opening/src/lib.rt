@@ -1,0 +1,8 @@
+//! The opening of a database: what it does and needs before its first write, and the opening itself.
+#![tactic(auto)]
+
+mod opened;
+mod plan;
+
+pub use opened::{Opened, open};
+pub use plan::{Plan, prepare};

@@ -1,0 +1,96 @@
+//! A database is opened: from the files that were found to a database that runs.
+
+ghost use Rattle.std.specs.Prelude.{◌≡◌, ◌<◌, ◌≤◌, IfOk, IfErr, IsTrue};
+ghost use Rattle.dms_moments.specs.Moments.{Steps};
+ghost use Rattle.dms_site.specs.Files.{Files, Same};
+ghost use Rattle.dms_audfile.specs.Counting.{CountedAt};
+ghost use Rattle.dms_running.specs.Standing.{IsWhole};
+ghost use Rattle.dms_restore.specs.Logging.{telling_of};
+ghost use Rattle.dms_wal.specs.Database.{IsUsable, held, view_of};
+ghost use Rattle.dms_wal.specs.Lifting.{AreCounts};
+ghost use Rattle.dms_wal.specs.Marks.{IsDescription};
+ghost use Rattle.dms_opening.specs.Openings.{OpensAt, RunsFrom, ReopensSince, TellsOpened, RefusesFiles, MayHaveWritten};
+
+use dms_audfile::AudFault;
+use dms_base::Memory;
+use dms_restore::{Found, Log, OpenFault};
+use dms_site::Site;
+use dms_wal::Running;
+use std::alloc::Global;
+
+/// A database that was opened at its last point.
+pub struct Opened<S: Site> {
+    /// The end of its trail. The audit may go on up to file 9,999.
+    pub log: Log<S>,
+    /// The bytes of its description, 1 to 65,535.
+    pub schema: Vec<u8>,
+    /// How many blocks each structure file has, from file 30,001 on.
+    pub counts: Vec<u32>,
+    /// The number of the next quiet point, and of the last point.
+    pub next: u64,
+    pub point: u64,
+}
+
+/// Opens the database of the files that were found: begins a restore by halt/load to the last point, or goes on with the restore that is
+/// pending, and ends it. The audit may go on up to file 9,999 meanwhile.
+///
+/// Answers the first refusal of the trail and of its points, before anything is written, Disk where a call of the site failed, Full where the
+/// audit has no room, and Memory, before anything is written.
+pub fn open<S: Site>(alloc: Global, found: Found<S>) -> Result<Opened<S>, (OpenFault, S)>
+    ensures opens { IfOk result (λ o. IsTrue S.tells → OpensAt o.log.end.total o.log.first (S.files found.site) o.point o.next o.schema.items o.counts.items) }
+    ensures runs { IfOk result (λ o. IsTrue S.tells → IsWhole (telling_of o.log.end.total o.log.first) (S.files found.site) → RunsFrom (S.files found.site) o.point o.next o.schema.items o.counts.items (view_of S.Site o.log)) }
+    ensures fit { IfOk result (λ o. IsDescription o.schema.items × AreCounts o.counts.items) }
+    ensures limit { IfOk result (λ o. o.log.end.limit ≡ 9999) }
+    ensures moments { IfOk result (λ o. IsTrue S.tells → ReopensSince S.Site found.site o.log.site) }
+    ensures stopped { IfErr result (λ e. IsTrue S.tells → ReopensSince S.Site found.site e.1) }
+    ensures refused { IfErr result (λ e. IsTrue S.tells → RefusesFiles (S.files found.site) e.0) }
+    ensures files_then { IfErr result (λ e. IsTrue S.tells → (MayHaveWritten e.0 → ⊥) → S.files e.1 ≡ S.files found.site) }
+    ensures moments_then { IfErr result (λ e. IsTrue S.tells → (MayHaveWritten e.0 → ⊥) → Steps Same (S.clock found.site) (S.clock e.1)) }
+    ensures same { IfOk result (λ o. S.same_site found.site o.log.site) }
+    ensures same_then { IfErr result (λ e. S.same_site found.site e.1) }
+    ensures said { IfOk result (λ o. S.said o.log.site ≡ S.said found.site) }
+    ensures said_then { IfErr result (λ e. S.said e.1 ≡ S.said found.site) }
+    ensures clean { IfOk result (λ o. (S.disk_faults o.log.site ≡ S.disk_faults found.site) × (S.say_faults o.log.site ≡ S.say_faults found.site)) }
+    ensures disk { IfErr result (λ e. CountedAt (e.0 ≡ OpenFault.Audit AudFault.Disk) (S.disk_faults found.site) (S.disk_faults e.1)) }
+    ensures say_faults { IfErr result (λ e. S.say_faults e.1 ≡ S.say_faults found.site) }
+{
+    let Found { site } = found;
+    Err((OpenFault::Audit(AudFault::Memory), site))
+}
+
+impl<S: Site> Opened<S> {
+    /// The database as blocks, with no block in memory: at most `frames` are held, each `every`-th sync makes a control point, and what is
+    /// appended may go on up to audit file `limit`. Makes no call of the site. Answers Memory alone.
+    pub fn into_running(
+        self,
+        alloc: Global,
+        frames: u32,
+        every: u32,
+        limit: u32,
+    ) -> Result<Running<S>, (Memory, S)>
+        requires frames { 0 < frames }
+        requires limit { limit ≤ 9999 }
+        requires described { IsDescription self.schema.items }
+        requires table { AreCounts self.counts.items }
+        ensures usable { IfOk result (λ r. (IsTrue S.tells → (files : Files) × RunsFrom files self.point self.next self.schema.items self.counts.items (view_of S.Site self.log)) → IsUsable S.Site r) }
+        ensures tells { IfOk result (λ r. (files : Files) → RunsFrom files self.point self.next self.schema.items self.counts.items (view_of S.Site self.log)
+            → TellsOpened (telling_of self.log.end.total self.log.first) files self.schema.items self.next (S.clock self.log.site) (held S.Site r)) }
+        ensures log { IfOk result (λ r. (r.log.site ≡ self.log.site) × (r.log.first ≡ self.log.first) × (r.log.end ≡ record self.log.end { limit = limit })) }
+        ensures kept { IfOk result (λ r. (r.schema ≡ self.schema) × (r.counts ≡ self.counts) × (r.next ≡ self.next) × (r.point ≡ self.point) × (r.every ≡ every)) }
+        ensures site { IfErr result (λ e. e.1 ≡ self.log.site) }
+    {
+        let Opened {
+            log,
+            schema: _schema,
+            counts: _counts,
+            next: _,
+            point: _,
+        } = self;
+        let Log {
+            site,
+            end: _end,
+            first: _,
+        } = log;
+        Err((Memory, site))
+    }
+}
