@@ -78,32 +78,3 @@ impl<S: Site, K: Knows> Site for Veiled<S, K> {
     }
 }
 
-/// test
-pub fn inner<S: Site, K: Knows>(site: S) -> S
-    requires { IsTrue K.known → S.said site ≡ S.said site }
-    ensures { IsTrue S.tells → IsTrue K.known → S.files result ≡ S.files site }
-{
-    let mut veiled: Veiled<S, K> = Veiled { site, by: PhantomData };
-    let _r = veiled.sync();
-    let Veiled { site, by: _by } = veiled;
-    site
-}
-
-/// test
-pub fn outer<S: Site>(site: S) -> S
-    ghost state: { Bool }
-    requires { IsTrue state → S.said site ≡ S.said site }
-    ensures { IsTrue S.tells → IsTrue state → S.files result ≡ S.files site }
-{
-    inner::<S, Brand>(site)
-}
-
-/// lent
-pub fn outer_lent<S: Site>(site: &mut S) -> u8
-    ghost state: { Bool }
-    requires { IsTrue state → S.said site.old ≡ S.said site.old }
-    ensures { IsTrue S.tells → IsTrue state → S.files site.new ≡ S.files site.old }
-{
-    let _site = outer(site);
-    1
-}

@@ -16,6 +16,10 @@ IsCompile words = words ≡ codes "compile" ∷ []
 abbrev pub IsPrintAudit : List (List ℕ) → Type 0
 IsPrintAudit words = words ≡ codes "print" ∷ codes "audit" ∷ []
 
+-- the word `run`
+abbrev pub IsRun : List (List ℕ) → Type 0
+IsRun words = words ≡ codes "run" ∷ []
+
 -- plain digits alone
 abbrev pub are_digits : List ℕ → Bool
 are_digits [] = true
@@ -48,7 +52,7 @@ IsInitialize words = IsSome (initialize_tag words)
 
 -- the forms that are built
 abbrev pub IsCommand : List (List ℕ) → Type 0
-IsCommand words = IsTry words ⊎ (IsCompile words ⊎ (IsPrintAudit words ⊎ IsInitialize words))
+IsCommand words = IsTry words ⊎ (IsCompile words ⊎ (IsPrintAudit words ⊎ (IsRun words ⊎ IsInitialize words)))
 
 -- the statuses that come only where the schema was taken
 abbrev pub IsPast : Status → Type 0

@@ -20,7 +20,7 @@ ghost use Rattle.dms_top.specs.Answering.{Printed, PrintedPrefix, PrintedWhole, 
 ghost use Rattle.dms_status.specs.declared.status.LimitKind.{LimitKind as Kind};
 ghost use Rattle.dms_top.specs.Premises.{OnTry, OnCompile, OnInitialize, OnPrintAudit, OnReading, OfInput, OfSchema, OfSealed, OfNoSchema, OfScript, OfNoScript};
 ghost use Rattle.dms_audfile.specs.Counting.{CountedAt};
-ghost use Rattle.dms_top.specs.Words.{IsTry, IsCompile, IsPrintAudit, IsCommand, IsOfTry, IsOfCompile, IsPast, ComesUnsaid, IsUntouched};
+ghost use Rattle.dms_top.specs.Words.{IsTry, IsCompile, IsPrintAudit, IsRun, IsCommand, IsOfTry, IsOfCompile, IsPast, ComesUnsaid, IsUntouched};
 
 use crate::audit_run::{is_print_audit, print_trail};
 use crate::compile_run::compile_input;
@@ -33,6 +33,7 @@ use crate::tags::initialize_tag;
 use crate::try_run::try_lines;
 use dasdl_phrases::ParseFault;
 use dms_feed::Feed;
+use dms_runtop::run_command;
 use dms_site::{Site, Source};
 use std::alloc::Global;
 
@@ -46,6 +47,13 @@ fn is_compile(words: &[String]) -> bool
     ensures { IsTrue result ↔ IsCompile (map string_bytes words.now) }
 {
     words.len() == 1 && words[0].as_str() == "compile"
+}
+
+/// Whether the words are `run`.
+pub fn is_run(words: &[String]) -> bool
+    ensures { IsTrue result ↔ IsRun (map string_bytes words.now) }
+{
+    words.len() == 1 && words[0].as_str() == "run"
 }
 
 /// `try`: reads the text of a schema, a line SCRIPT and the lines of a script, and prints what the lines answer over a
@@ -244,6 +252,9 @@ pub fn dms<S: Site, I: Source>(
     }
     if is_print_audit(words) {
         return print_trail(alloc, site);
+    }
+    if is_run(words) {
+        return run_command(alloc, site, input);
     }
     match initialize_tag(words) {
         Some(tag) => {
