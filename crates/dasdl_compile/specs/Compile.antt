@@ -11,7 +11,7 @@ use Rattle.dasdl_parse.specs.declared.declarations.DataSetDecl.{DataSetDecl}
 use Rattle.dasdl_compile.specs.declared.fault.CompileFault.TheVariants.{Twice, NoRestart, Embedding, DescriptionLong}
 use Rattle.dasdl_compile.specs.declared.draft.Draft.{Draft}
 use Rattle.dasdl_compile.specs.declared.work.Plain.TheVariants.{Noted}
-use Rattle.dasdl_compile.specs.declared.work.Work.{Work}
+use Rattle.dasdl_compile.specs.declared.work.Compilation.{Compilation}
 use Rattle.dasdl_compile.specs.Answers.{Judged, ◌>>=◌, Fails, steps}
 use Rattle.dasdl_compile.specs.Finding.{drafted, next_structure, is_structure, has_restart, kind_of}
 use Rattle.dasdl_compile.specs.Members.{member_at, open_after}
@@ -20,27 +20,27 @@ use Rattle.dasdl_compile.specs.Sets.{set_at}
 use Rattle.dasdl_compile.specs.Widths.{description_width}
 
 -- a restart data set stands in no other, and no data set stands in it
-unfoldable pub is_misplaced : DataSetDecl → Work → Bool
+unfoldable pub is_misplaced : DataSetDecl → Compilation → Bool
 is_misplaced s w = (s.restart && not (w.within == 0)) || kind_of w.within w.made == 2
 
 -- a data set: its name is new, its place, and no second restart data set
-unfoldable pub data_set_at : DataSetDecl → Work → Judged Work
+unfoldable pub data_set_at : DataSetDecl → Compilation → Judged Compilation
 data_set_at s w =
     if is_structure s.name w.made then Err (Twice s.name)
     else (if is_misplaced s w then Err (Embedding s.name)
     else (if s.restart && has_restart w.made then Err (Twice s.name)
     else Ok (record { made = w.made ++ drafted (next_structure w.made) (data_set_kind s.restart) s.name w.within ∷ []; within = next_structure w.made })))
 
-abbrev pub inside_in : List Draft → Declaration → Work → Option Draft → Judged Work
+abbrev pub inside_in : List Draft → Declaration → Compilation → Option Draft → Judged Compilation
 inside_in outline decl w None = Ok w
 inside_in outline decl w (Some d) = member_at outline decl d >>= λ t. Ok (record { made = set w.made (w.within - 1) t; within = open_after decl d.owner w.within })
 
 -- in the data set that is open; in a text of the grammar one is open wherever a member stands
-unfoldable pub inside_at : List Draft → Declaration → Work → Judged Work
+unfoldable pub inside_at : List Draft → Declaration → Compilation → Judged Compilation
 inside_at outline decl w = inside_in outline decl w (slice_get w.made (w.within - 1))
 
 -- a declaration, under all that is declared
-unfoldable pub declared_at : List Draft → Work → Declaration → Judged Work
+unfoldable pub declared_at : List Draft → Compilation → Declaration → Judged Compilation
 declared_at outline w (DataSet s) = data_set_at s w
 declared_at outline w (SetOf s) = set_at outline s w
 declared_at outline w (Item i) = inside_at outline (Item i) w
@@ -48,7 +48,7 @@ declared_at outline w (Group g) = inside_at outline (Group g) w
 declared_at outline w (Link l) = inside_at outline (Link l) w
 declared_at outline w (End e) = inside_at outline (End e) w
 
-abbrev pub nothing_yet : Work
+abbrev pub nothing_yet : Compilation
 nothing_yet = record { made = []; within = 0 }
 
 -- a structure of the description

@@ -11,7 +11,7 @@ use Rattle.dasdl_parse.specs.declared.declarations.SetDecl.{SetDecl}
 use Rattle.dasdl_parse.specs.declared.declarations.ItemDecl.{ItemDecl}
 use Rattle.dasdl_compile.specs.declared.draft.Draft.{Draft}
 use Rattle.dasdl_compile.specs.declared.work.Plain.{Plain}
-use Rattle.dasdl_compile.specs.declared.work.Work.{Work}
+use Rattle.dasdl_compile.specs.declared.work.Compilation.{Compilation}
 use Rattle.dasdl_compile.specs.Answers.{Judged, ◌>>=◌, steps}
 use Rattle.dasdl_compile.specs.Finding.{drafted, next_structure}
 use Rattle.dasdl_compile.specs.Members.{with_item, with_group, open_after}
@@ -33,24 +33,24 @@ outlined_member plain (End e) d = Ok d
 outlined_member plain (DataSet s) d = Ok d
 outlined_member plain (SetOf s) d = Ok d
 
-abbrev pub outlined_in : Plain → Declaration → Work → Option Draft → Judged Work
+abbrev pub outlined_in : Plain → Declaration → Compilation → Option Draft → Judged Compilation
 outlined_in plain decl w None = Ok w
 outlined_in plain decl w (Some d) = outlined_member plain decl d >>= λ t. Ok (record { made = set w.made (w.within - 1) t; within = open_after decl d.owner w.within })
 
 -- in the data set that is open; in a text of the grammar one is open wherever a member stands
-unfoldable pub outlined_inside : Plain → Declaration → Work → Judged Work
+unfoldable pub outlined_inside : Plain → Declaration → Compilation → Judged Compilation
 outlined_inside plain decl w = outlined_in plain decl w (slice_get w.made (w.within - 1))
 
 -- a data set is noted, and is open
-unfoldable pub outlined_data_set : DataSetDecl → Work → Judged Work
+unfoldable pub outlined_data_set : DataSetDecl → Compilation → Judged Compilation
 outlined_data_set s w = Ok (record { made = w.made ++ drafted (next_structure w.made) (data_set_kind s.restart) s.name w.within ∷ []; within = next_structure w.made })
 
 -- a set or subset is noted as a structure, for the count
-unfoldable pub outlined_set : SetDecl → Work → Judged Work
+unfoldable pub outlined_set : SetDecl → Compilation → Judged Compilation
 outlined_set s w = Ok (record { made = w.made ++ drafted (next_structure w.made) 3 s.name w.within ∷ []; within = w.within })
 
 -- a declaration is noted
-unfoldable pub outlined_one : Plain → Work → Declaration → Judged Work
+unfoldable pub outlined_one : Plain → Compilation → Declaration → Judged Compilation
 outlined_one plain w (DataSet s) = outlined_data_set s w
 outlined_one plain w (SetOf s) = outlined_set s w
 outlined_one plain w (Item i) = outlined_inside plain (Item i) w

@@ -10,8 +10,8 @@ use Rattle.dasdl_parse.specs.declared.declarations.SetDecl.{SetDecl}
 use Rattle.dasdl_phrases.specs.declared.key_parts.KeyDecl.{KeyDecl}
 use Rattle.dasdl_compile.specs.declared.fault.CompileFault.TheVariants.{Twice, Unknown, KeyItem, CondKind, Embedding}
 use Rattle.dasdl_compile.specs.declared.draft.Draft.{Draft}
-use Rattle.dasdl_compile.specs.declared.work.Work.{Work}
-use Rattle.dasdl_compile.specs.declared.sets.SetOptions.{SetOptions}
+use Rattle.dasdl_compile.specs.declared.work.Compilation.{Compilation}
+use Rattle.dasdl_compile.specs.declared.sets.WhereAndKey.{WhereAndKey}
 use Rattle.dasdl_compile.specs.Answers.{Judged, ◌>>=◌}
 use Rattle.dasdl_compile.specs.Finding.{next_structure, is_structure, kind_of, data_set_named}
 use Rattle.dasdl_compile.specs.Conditions.{condition}
@@ -44,14 +44,14 @@ key_is_first (Some c) None = false
 key_is_first (Some c) (Some k) = nat_lt k.place c.place
 
 -- KEY and WHERE in text order
-unfoldable pub options_at : Draft → SetDecl → Judged SetOptions
+unfoldable pub options_at : Draft → SetDecl → Judged WhereAndKey
 options_at d s =
     if key_is_first s.cond s.key then (key_of d s >>= λ ps. where_of d s >>= λ c. Ok (record { cond = c; parts = ps }))
     else (where_of d s >>= λ c. key_of d s >>= λ ps. Ok (record { cond = c; parts = ps }))
 
 -- a set or subset stands where its data set stands; a manual subset of a data set that stands in no other may stand
 -- in any data set but the restart data set
-unfoldable pub is_misplaced : Work → SetDecl → Draft → Bool
+unfoldable pub is_misplaced : Compilation → SetDecl → Draft → Bool
 is_misplaced w s d = not (d.owner == w.within || (set_kind s == 5 && d.owner == 0 && not (kind_of w.within w.made == 2)))
 
 -- a set and an automatic subset have a key
@@ -71,17 +71,17 @@ abbrev pub has_duplicates : SetDecl → List KeyPart → Bool
 has_duplicates s ps = s.duplicates || no_parts ps
 
 -- a set or subset as it stands in the description
-abbrev pub set_draft : Work → SetDecl → Draft → SetOptions → Draft
+abbrev pub set_draft : Compilation → SetDecl → Draft → WhereAndKey → Draft
 set_draft w s d o = record { number = next_structure w.made; kind = set_kind s; name = s.name; owner = w.within; population = population_of s; items = []; groups = []; cond = o.cond; set = d.number; form = s.form; duplicates = has_duplicates s o.parts; parts = o.parts }
 
 -- its place, then KEY and WHERE in text order, then whether it has a key
-unfoldable pub set_over : SetDecl → Draft → Work → Judged Work
+unfoldable pub set_over : SetDecl → Draft → Compilation → Judged Compilation
 set_over s d w = if is_misplaced w s d then Err (Embedding s.name) else (options_at d s >>= λ o. if lacks_key s then Err (KeyItem s.name) else Ok (record { made = w.made ++ set_draft w s d o ∷ []; within = w.within }))
 
-abbrev pub set_in : SetDecl → Work → Option Draft → Judged Work
+abbrev pub set_in : SetDecl → Compilation → Option Draft → Judged Compilation
 set_in s w None = Err (Unknown s.of)
 set_in s w (Some d) = set_over s d w
 
 -- a set or subset: its name is new, its data set is known, then the rest
-unfoldable pub set_at : List Draft → SetDecl → Work → Judged Work
+unfoldable pub set_at : List Draft → SetDecl → Compilation → Judged Compilation
 set_at outline s w = if is_structure s.name w.made then Err (Twice s.name) else set_in s w (data_set_named s.of outline)

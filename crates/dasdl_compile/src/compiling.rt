@@ -11,9 +11,9 @@ use crate::find::{has_restart, kind_of, next_structure};
 use crate::members::open_after;
 use crate::outline::data_set_kind;
 use crate::sets::set_at;
-use crate::steps::{Steps, all_steps};
+use crate::steps::{Stepwise, all_steps};
 use crate::widths::description_width;
-use crate::work::{Plain, Work};
+use crate::work::{Compilation, Plain};
 use dasdl_parse::{DataSetDecl, Declaration, Parameters, Schema};
 use dms_base::Memory;
 use dms_desc::{Description, Structure, Structures};
@@ -24,7 +24,7 @@ const DESCRIPTION_BYTES: u32 = 65_535;
 
 /// Whether a data set can't stand here.
 #[tactic(auto, unfolding(crate::specs::Compile::is_misplaced))]
-fn is_misplaced(work: &Work, data_set: &DataSetDecl) -> bool
+fn is_misplaced(work: &Compilation, data_set: &DataSetDecl) -> bool
     ensures { result ≡ is_misplaced data_set.now work.now }
 {
     (data_set.restart && work.within != 0) || kind_of(work.made.as_slice(), work.within) == 2
@@ -32,7 +32,11 @@ fn is_misplaced(work: &Work, data_set: &DataSetDecl) -> bool
 
 /// A data set begins.
 #[tactic(auto, unfolding(crate::specs::Compile::data_set_at))]
-fn data_set_at(work: &mut Work, alloc: Global, data_set: &DataSetDecl) -> Result<(), CompileFault>
+fn data_set_at(
+    work: &mut Compilation,
+    alloc: Global,
+    data_set: &DataSetDecl,
+) -> Result<(), CompileFault>
     ensures { Makes result work.new (data_set_at data_set.now work.old) }
 {
     if work.made.is_structure(&data_set.name) {
@@ -54,7 +58,7 @@ fn data_set_at(work: &mut Work, alloc: Global, data_set: &DataSetDecl) -> Result
 /// What stands in the data set that is open.
 #[tactic(auto, using(std::proofs::lemmas::Option::gets), unfolding(crate::specs::Compile::inside_at))]
 fn inside_at(
-    work: &mut Work,
+    work: &mut Compilation,
     alloc: Global,
     outline: &Drafts,
     declaration: &Declaration,
@@ -71,7 +75,7 @@ fn inside_at(
     Ok(())
 }
 
-impl Steps<Drafts, Declaration> for Work {
+impl Stepwise<Drafts, Declaration> for Compilation {
     ghost step_at = { declared_at };
 
     ghost fixed = { untitled };
@@ -162,12 +166,12 @@ pub fn compile(alloc: Global, schema: &Schema) -> Result<Description, CompileFau
     ensures { Describes result (compiled schema.now.parameters schema.now.declarations) }
 {
     let declarations = schema.declarations.as_slice();
-    let mut outline = Work {
+    let mut outline = Compilation {
         made: Drafts::new(alloc),
         within: 0,
     };
     all_steps(&mut outline, alloc, &Plain::Noted, declarations)?;
-    let mut work = Work {
+    let mut work = Compilation {
         made: Drafts::new(alloc),
         within: 0,
     };

@@ -9,11 +9,11 @@ use std::marker::Model;
 
 /// A condition, seen as a tree.
 #[derive(Drop)]
-pub struct Condition {
+pub struct ConditionTree {
     kept: Cond,
 }
 
-impl Model for Condition {
+impl Model for ConditionTree {
     ghost use Rattle.dms_desc.specs.Shape.{Tree};
     ghost use Rattle.dms_desc.specs.TreeCodes.{tree_code};
 
@@ -26,47 +26,47 @@ impl Model for Condition {
     ghost view = { λ c. tree_of c.kept };
 }
 
-impl Condition {
+impl ConditionTree {
     /// The condition that each record meets.
-    pub fn nothing() -> Condition
+    pub fn nothing() -> ConditionTree
         ensures { result ≡ Empty }
     {
-        Condition {
+        ConditionTree {
             kept: Cond::Nothing,
         }
     }
 
     /// An item, counted from 1, compared with a value.
-    pub fn test(item: u8, op: Op, value: Value) -> Condition
+    pub fn test(item: u8, op: Op, value: Value) -> ConditionTree
         ensures { result ≡ Test item op value }
     {
-        Condition {
+        ConditionTree {
             kept: Cond::Compare(item, op, value),
         }
     }
 
     /// Both of two, or Memory where memory ran out.
-    pub fn and(self, alloc: Global, other: Condition) -> Result<Condition, Memory>
+    pub fn and(self, alloc: Global, other: ConditionTree) -> Result<ConditionTree, Memory>
         ensures { IfOk result (λ c. c ≡ Both self other) }
     {
         let kept = Cond::And(Box::new(alloc, self.kept)?, Box::new(alloc, other.kept)?);
-        Ok(Condition { kept })
+        Ok(ConditionTree { kept })
     }
 
     /// One of two, or Memory where memory ran out.
-    pub fn or(self, alloc: Global, other: Condition) -> Result<Condition, Memory>
+    pub fn or(self, alloc: Global, other: ConditionTree) -> Result<ConditionTree, Memory>
         ensures { IfOk result (λ c. c ≡ Either self other) }
     {
         let kept = Cond::Or(Box::new(alloc, self.kept)?, Box::new(alloc, other.kept)?);
-        Ok(Condition { kept })
+        Ok(ConditionTree { kept })
     }
 
     /// Not this one, or Memory where memory ran out.
-    pub fn negated(self, alloc: Global) -> Result<Condition, Memory>
+    pub fn negated(self, alloc: Global) -> Result<ConditionTree, Memory>
         ensures { IfOk result (λ c. c ≡ Contrary self) }
     {
         let kept = Cond::Not(Box::new(alloc, self.kept)?);
-        Ok(Condition { kept })
+        Ok(ConditionTree { kept })
     }
 
     /// The condition itself.

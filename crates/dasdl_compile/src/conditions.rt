@@ -3,7 +3,7 @@ ghost use Rattle.dasdl_phrases.specs.Trees.{tree_of};
 ghost use Rattle.dasdl_compile.specs.Answers.{Gives};
 ghost use Rattle.dasdl_compile.specs.Conditions.{literal_of, compared, condition, verified};
 
-use crate::condition::Condition;
+use crate::condition::ConditionTree;
 use crate::fault::CompileFault;
 use crate::kinds::value_in;
 use dasdl_phrases::{CondDecl, CondTree};
@@ -35,14 +35,14 @@ fn compared(
     name: &Name,
     op: Op,
     literal: &Literal,
-) -> Result<Condition, CompileFault>
+) -> Result<ConditionTree, CompileFault>
     ensures { Gives result (compared items.now name.now op literal.now) }
 {
     match item_named(items, name) {
         None => Err(CompileFault::Unknown(*name)),
         Some(found) => {
             let value = literal_of(alloc, name, &found.kind, literal)?;
-            Ok(Condition::test(found.number, op, value))
+            Ok(ConditionTree::test(found.number, op, value))
         }
     }
 }
@@ -50,7 +50,11 @@ fn compared(
 /// A condition on the records with these items, or its first fault in text order: Unknown with a name that no item
 /// has, or CondKind with that of the item that a literal isn't for.
 #[tactic(auto, unfolding(crate::specs::Conditions::condition))]
-pub fn condition(alloc: Global, items: &[Item], tree: &CondTree) -> Result<Condition, CompileFault>
+pub fn condition(
+    alloc: Global,
+    items: &[Item],
+    tree: &CondTree,
+) -> Result<ConditionTree, CompileFault>
     ensures { Gives result (condition items.now (tree_of tree.now)) }
 {
     match tree {
@@ -78,11 +82,11 @@ pub fn verified(
     alloc: Global,
     items: &[Item],
     verify: &Option<CondDecl>,
-) -> Result<Condition, CompileFault>
+) -> Result<ConditionTree, CompileFault>
     ensures { Gives result (verified items.now verify.now) }
 {
     match verify {
-        None => Ok(Condition::nothing()),
+        None => Ok(ConditionTree::nothing()),
         Some(decl) => condition(alloc, items, decl.tree()),
     }
 }

@@ -1,7 +1,7 @@
 ghost use Rattle.std.specs.Prelude.{◌≡◌, []};
 ghost use Rattle.dasdl_compile.specs.Finding.{drafted, is_data_set_draft, is_restart_draft, is_automatic_draft};
 
-use crate::condition::Condition;
+use crate::condition::ConditionTree;
 use dms_base::Name;
 use dms_desc::{Groups, Items, KeyParts};
 use std::alloc::Global;
@@ -21,7 +21,7 @@ pub struct Draft {
     pub items: Items,
     pub groups: Groups,
     /// VERIFY of a data set, WHERE of an automatic subset.
-    pub cond: Condition,
+    pub cond: ConditionTree,
     /// The number of the data set whose records a set or subset refers to; 0 for a data set.
     pub set: u16,
     /// 1 for index sequential, 2 for an ordered list; 0 for a data set.
@@ -44,7 +44,7 @@ impl Draft {
             population: 0,
             items: Items::new(alloc),
             groups: Groups::new(alloc),
-            cond: Condition::nothing(),
+            cond: ConditionTree::nothing(),
             set: 0,
             form: 0,
             duplicates: false,

@@ -5,7 +5,7 @@ ghost use Rattle.dasdl_compile.specs.Tables.{untitled};
 
 use crate::draft::Draft;
 use crate::fault::CompileFault;
-use crate::steps::{Steps, all_steps};
+use crate::steps::{Stepwise, all_steps};
 use dasdl_phrases::PartDecl;
 use dms_base::Name;
 use dms_desc::{Item, KeyPart, KeyParts, after_item, group_named, item_named, item_width};
@@ -55,7 +55,7 @@ fn run_items(run: Run, items: &[Item]) -> &[Item]
     &rest[..usize::from(run.count).min(rest.len())]
 }
 
-impl Steps<Run, Item> for KeySoFar {
+impl Stepwise<Run, Item> for KeySoFar {
     ghost step_at = { key_item_at };
 
     ghost fixed = { untitled };
@@ -113,7 +113,7 @@ fn run_of(draft: &Draft, part: &PartDecl) -> Result<Run, CompileFault>
     }
 }
 
-impl Steps<Draft, PartDecl> for KeySoFar {
+impl Stepwise<Draft, PartDecl> for KeySoFar {
     ghost step_at = { part_at };
 
     ghost fixed = { untitled };

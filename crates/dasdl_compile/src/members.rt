@@ -8,7 +8,7 @@ use crate::draft::Draft;
 use crate::drafts::Drafts;
 use crate::fault::CompileFault;
 use crate::find::{is_taken, next_item};
-use crate::steps::{Steps, all_steps};
+use crate::steps::{Stepwise, all_steps};
 use dasdl_parse::{DataSetEnd, Declaration, GroupDecl, ItemDecl, LinkDecl};
 use dms_base::{ItemKind, Value};
 use dms_desc::{Group, Item, record_width};
@@ -38,7 +38,7 @@ fn initial_of(alloc: Global, item: &ItemDecl) -> Result<Value, CompileFault>
     }
 }
 
-impl Steps<Drafts, ItemDecl> for Draft {
+impl Stepwise<Drafts, ItemDecl> for Draft {
     ghost step_at = { item_at };
 
     ghost fixed = { title };

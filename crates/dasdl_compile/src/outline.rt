@@ -7,8 +7,8 @@ use crate::draft::Draft;
 use crate::fault::CompileFault;
 use crate::find::{next_item, next_structure};
 use crate::members::{count_of, open_after};
-use crate::steps::{Steps, all_steps};
-use crate::work::{Plain, Work};
+use crate::steps::{Stepwise, all_steps};
+use crate::work::{Compilation, Plain};
 use dasdl_parse::{DataSetDecl, Declaration, ItemDecl, SetDecl};
 use dms_base::{ItemKind, Value};
 use dms_desc::{Group, Item};
@@ -21,7 +21,7 @@ pub fn data_set_kind(restart: bool) -> u8
     if restart { 2 } else { 1 }
 }
 
-impl Steps<Plain, ItemDecl> for Draft {
+impl Stepwise<Plain, ItemDecl> for Draft {
     ghost step_at = { outlined_item };
 
     ghost fixed = { title };
@@ -84,7 +84,7 @@ pub fn outlined_member(
 /// What the open data set has is noted.
 #[tactic(auto, using(std::proofs::lemmas::Option::gets), unfolding(crate::specs::Outlines::outlined_inside))]
 fn outlined_inside(
-    work: &mut Work,
+    work: &mut Compilation,
     alloc: Global,
     plain: &Plain,
     declaration: &Declaration,
@@ -104,7 +104,7 @@ fn outlined_inside(
 /// A data set is noted, and is open.
 #[tactic(auto, unfolding(crate::specs::Outlines::outlined_data_set))]
 fn outlined_data_set(
-    work: &mut Work,
+    work: &mut Compilation,
     alloc: Global,
     data_set: &DataSetDecl,
 ) -> Result<(), CompileFault>
@@ -119,7 +119,7 @@ fn outlined_data_set(
 
 /// A set or subset is noted.
 #[tactic(auto, unfolding(crate::specs::Outlines::outlined_set))]
-fn outlined_set(work: &mut Work, alloc: Global, set: &SetDecl) -> Result<(), CompileFault>
+fn outlined_set(work: &mut Compilation, alloc: Global, set: &SetDecl) -> Result<(), CompileFault>
     ensures { Makes result work.new (outlined_set set.now work.old) }
 {
     let number = next_structure(work.made.as_slice());
@@ -128,7 +128,7 @@ fn outlined_set(work: &mut Work, alloc: Global, set: &SetDecl) -> Result<(), Com
     Ok(())
 }
 
-impl Steps<Plain, Declaration> for Work {
+impl Stepwise<Plain, Declaration> for Compilation {
     ghost step_at = { outlined_one };
 
     ghost fixed = { untitled };

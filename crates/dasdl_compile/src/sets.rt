@@ -2,14 +2,14 @@ ghost use Rattle.std.specs.Prelude.{◌≡◌};
 ghost use Rattle.dasdl_compile.specs.Answers.{Gives, Makes};
 ghost use Rattle.dasdl_compile.specs.Sets.{set_kind, where_of, key_of, key_is_first, options_at, is_misplaced, lacks_key, no_parts, population_of, has_duplicates, set_draft, set_over, set_at};
 
-use crate::condition::Condition;
+use crate::condition::ConditionTree;
 use crate::conditions::condition;
 use crate::draft::Draft;
 use crate::drafts::Drafts;
 use crate::fault::CompileFault;
 use crate::find::{kind_of, next_structure};
 use crate::keys::key_at;
-use crate::work::Work;
+use crate::work::Compilation;
 use dasdl_parse::SetDecl;
 use dasdl_phrases::{CondDecl, KeyDecl};
 use dms_desc::{Groups, Items, KeyPart, KeyParts};
@@ -17,8 +17,8 @@ use std::alloc::Global;
 
 /// What a set's options say: WHERE and KEY.
 #[derive(Drop)]
-pub struct SetOptions {
-    pub cond: Condition,
+pub struct WhereAndKey {
+    pub cond: ConditionTree,
     pub parts: KeyParts,
 }
 
@@ -37,11 +37,11 @@ fn set_kind(set: &SetDecl) -> u8
 
 /// The condition of WHERE.
 #[tactic(auto, unfolding(crate::specs::Sets::where_of))]
-fn where_of(alloc: Global, data_set: &Draft, set: &SetDecl) -> Result<Condition, CompileFault>
+fn where_of(alloc: Global, data_set: &Draft, set: &SetDecl) -> Result<ConditionTree, CompileFault>
     ensures { Gives result (where_of data_set.now set.now) }
 {
     match &set.cond {
-        None => Ok(Condition::nothing()),
+        None => Ok(ConditionTree::nothing()),
         Some(decl) => {
             let cond = condition(alloc, data_set.items.as_slice(), decl.tree())?;
             if set.subset {
@@ -77,22 +77,22 @@ fn key_is_first(cond: &Option<CondDecl>, key: &Option<KeyDecl>) -> bool
 
 /// KEY and WHERE in text order.
 #[tactic(auto, unfolding(crate::specs::Sets::options_at))]
-fn options_at(alloc: Global, data_set: &Draft, set: &SetDecl) -> Result<SetOptions, CompileFault>
+fn options_at(alloc: Global, data_set: &Draft, set: &SetDecl) -> Result<WhereAndKey, CompileFault>
     ensures { Gives result (options_at data_set.now set.now) }
 {
     if key_is_first(&set.cond, &set.key) {
         let parts = key_of(alloc, data_set, set)?;
         let cond = where_of(alloc, data_set, set)?;
-        return Ok(SetOptions { cond, parts });
+        return Ok(WhereAndKey { cond, parts });
     }
     let cond = where_of(alloc, data_set, set)?;
     let parts = key_of(alloc, data_set, set)?;
-    Ok(SetOptions { cond, parts })
+    Ok(WhereAndKey { cond, parts })
 }
 
 /// Whether a set or subset of this data set can't stand here.
 #[tactic(auto, unfolding(crate::specs::Sets::is_misplaced))]
-fn is_misplaced(work: &Work, set: &SetDecl, data_set: &Draft) -> bool
+fn is_misplaced(work: &Compilation, set: &SetDecl, data_set: &Draft) -> bool
     ensures { result ≡ is_misplaced work.now set.now data_set.now }
 {
     let in_restart = kind_of(work.made.as_slice(), work.within) == 2;
@@ -134,10 +134,10 @@ fn has_duplicates(set: &SetDecl, parts: &[KeyPart]) -> bool
 /// A set or subset of a data set.
 fn set_draft(
     alloc: Global,
-    work: &Work,
+    work: &Compilation,
     set: &SetDecl,
     data_set: &Draft,
-    options: SetOptions,
+    options: WhereAndKey,
 ) -> Draft
     ensures { result ≡ set_draft work.now set.now data_set.now options }
 {
@@ -164,7 +164,7 @@ fn set_draft(
 /// A set or subset of a data set: its place, KEY and WHERE in text order, and whether it has a key.
 #[tactic(auto, unfolding(crate::specs::Sets::set_over))]
 fn set_over(
-    work: &mut Work,
+    work: &mut Compilation,
     alloc: Global,
     set: &SetDecl,
     data_set: &Draft,
@@ -187,7 +187,7 @@ fn set_over(
 /// those of the rest.
 #[tactic(auto, unfolding(crate::specs::Sets::set_at))]
 pub fn set_at(
-    work: &mut Work,
+    work: &mut Compilation,
     alloc: Global,
     outline: &Drafts,
     set: &SetDecl,

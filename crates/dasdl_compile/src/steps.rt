@@ -5,7 +5,7 @@ use crate::fault::CompileFault;
 use std::alloc::Global;
 
 /// What is made from one thing after another, under what is known beside them.
-pub trait Steps<C, T>: Drop {
+pub trait Stepwise<C, T>: Drop {
     /// What one of them makes of it.
     ghost step_at: { C → Self → T → Judged Self };
 
@@ -20,7 +20,7 @@ pub trait Steps<C, T>: Drop {
 
 /// Takes one after another, up to the first fault.
 #[tactic(auto, unfolding(crate::specs::Answers::steps))]
-pub fn all_steps<C, T, S: Steps<C, T>>(
+pub fn all_steps<C, T, S: Stepwise<C, T>>(
     state: &mut S,
     alloc: Global,
     known: &C,

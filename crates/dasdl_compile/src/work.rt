@@ -2,7 +2,7 @@ use crate::drafts::Drafts;
 
 /// The structures that were declared so far, and the number of the data set that is open, 0 for none.
 #[derive(Drop)]
-pub struct Work {
+pub struct Compilation {
     pub made: Drafts,
     pub within: u16,
 }

@@ -10,7 +10,7 @@ use Rattle.dasdl_phrases.specs.declared.fault.ParseFault.{ParseFault}
 use Rattle.dms_tokens.specs.declared.token.Token.{Token}
 use Rattle.dms_tokens.specs.declared.token.Token.TheVariants.{Word, Number, Sign, Compare}
 use Rattle.dms_tokens.specs.declared.token.Lexeme.{Lexeme}
-use Rattle.dasdl_parse.specs.declared.parameters.Pairs.{Pairs}
+use Rattle.dasdl_parse.specs.declared.parameters.ParameterPairs.{ParameterPairs}
 use Rattle.dasdl_parse.specs.declared.parameters.AuditPairs.{AuditPairs}
 use Rattle.dasdl_phrases.specs.Reads.{◌>>=◌, Read}
 use Rattle.dms_tokens.specs.Cursors.{starts, is_word, is_the_sign}
@@ -101,27 +101,27 @@ four us x y z w h =
     let b = three a.b y z w a.back in
     record { k = a.l; e = b.k; l = b.e; u = b.l; all = a.all ∙ ap (λ (vs : List Lexeme). a.l ∷ vs) b.all; first = a.token; second = b.first; third = b.second; fourth = b.third }
 
-pair_sound : (s t : Pairs) (ts rest : List Lexeme) → pair_at s ts ≡ Ok (t, rest) → Reads (IsPair s) ts t rest
+pair_sound : (s t : ParameterPairs) (ts rest : List Lexeme) → pair_at s ts ≡ Ok (t, rest) → Reads (IsPair s) ts t rest
 unfolding pair_at
 pair_sound s t ts rest h =
-    both_pick {A = Pairs × List Lexeme} (starts (is_word (codes "SYNCPOINT")) ts) (is_none s.syncpoint) _ _ (t, rest)
+    both_pick {A = ParameterPairs × List Lexeme} (starts (is_word (codes "SYNCPOINT")) ts) (is_none s.syncpoint) _ _ (t, rest)
     (λ n e.
     let a = bind_ok (measure_at (codes "SYNCPOINT") 1 10000 (codes "TRANSACTIONS") ts) _ _ e in
     let m = measure_sound (codes "SYNCPOINT") (codes "TRANSACTIONS") 1 10000 ts a.0.0 a.0.1 a.1 in
     let o : IsPair s (record { syncpoint = Some a.0.0; controlpoint = s.controlpoint; buffers = s.buffers }) (measure (codes "SYNCPOINT") a.0.0 (codes "TRANSACTIONS")) = subst (λ (x : Option ℕ). IsPair (record { syncpoint = x; controlpoint = s.controlpoint; buffers = s.buffers }) (record { syncpoint = Some a.0.0; controlpoint = s.controlpoint; buffers = s.buffers }) (measure (codes "SYNCPOINT") a.0.0 (codes "TRANSACTIONS"))) (sym (none_is s.syncpoint n)) (says_syncpoint s.controlpoint s.buffers a.0.0 m.least m.most) in
-    subst (λ (x : Pairs × List Lexeme). Reads (IsPair s) ts x.0 x.1) (ok_same (record { syncpoint = Some a.0.0; controlpoint = s.controlpoint; buffers = s.buffers }, a.0.1) (t, rest) a.2) (record { used = m.used; is = rw m.is o; all = m.all }))
-    (both_pick {A = Pairs × List Lexeme} (starts (is_word (codes "CONTROLPOINT")) ts) (is_none s.controlpoint) _ _ (t, rest)
+    subst (λ (x : ParameterPairs × List Lexeme). Reads (IsPair s) ts x.0 x.1) (ok_same (record { syncpoint = Some a.0.0; controlpoint = s.controlpoint; buffers = s.buffers }, a.0.1) (t, rest) a.2) (record { used = m.used; is = rw m.is o; all = m.all }))
+    (both_pick {A = ParameterPairs × List Lexeme} (starts (is_word (codes "CONTROLPOINT")) ts) (is_none s.controlpoint) _ _ (t, rest)
     (λ n e.
     let a = bind_ok (measure_at (codes "CONTROLPOINT") 1 10000 (codes "SYNCPOINTS") ts) _ _ e in
     let m = measure_sound (codes "CONTROLPOINT") (codes "SYNCPOINTS") 1 10000 ts a.0.0 a.0.1 a.1 in
     let o : IsPair s (record { syncpoint = s.syncpoint; controlpoint = Some a.0.0; buffers = s.buffers }) (measure (codes "CONTROLPOINT") a.0.0 (codes "SYNCPOINTS")) = subst (λ (x : Option ℕ). IsPair (record { syncpoint = s.syncpoint; controlpoint = x; buffers = s.buffers }) (record { syncpoint = s.syncpoint; controlpoint = Some a.0.0; buffers = s.buffers }) (measure (codes "CONTROLPOINT") a.0.0 (codes "SYNCPOINTS"))) (sym (none_is s.controlpoint n)) (says_controlpoint s.syncpoint s.buffers a.0.0 m.least m.most) in
-    subst (λ (x : Pairs × List Lexeme). Reads (IsPair s) ts x.0 x.1) (ok_same (record { syncpoint = s.syncpoint; controlpoint = Some a.0.0; buffers = s.buffers }, a.0.1) (t, rest) a.2) (record { used = m.used; is = rw m.is o; all = m.all }))
-    (both_pick {A = Pairs × List Lexeme} (starts (is_word (codes "BUFFERS")) ts) (is_none s.buffers) _ _ (t, rest)
+    subst (λ (x : ParameterPairs × List Lexeme). Reads (IsPair s) ts x.0 x.1) (ok_same (record { syncpoint = s.syncpoint; controlpoint = Some a.0.0; buffers = s.buffers }, a.0.1) (t, rest) a.2) (record { used = m.used; is = rw m.is o; all = m.all }))
+    (both_pick {A = ParameterPairs × List Lexeme} (starts (is_word (codes "BUFFERS")) ts) (is_none s.buffers) _ _ (t, rest)
     (λ n e.
     let a = bind_ok (measure_at (codes "BUFFERS") 8 4096 (codes "BLOCKS") ts) _ _ e in
     let m = measure_sound (codes "BUFFERS") (codes "BLOCKS") 8 4096 ts a.0.0 a.0.1 a.1 in
     let o : IsPair s (record { syncpoint = s.syncpoint; controlpoint = s.controlpoint; buffers = Some a.0.0 }) (measure (codes "BUFFERS") a.0.0 (codes "BLOCKS")) = subst (λ (x : Option ℕ). IsPair (record { syncpoint = s.syncpoint; controlpoint = s.controlpoint; buffers = x }) (record { syncpoint = s.syncpoint; controlpoint = s.controlpoint; buffers = Some a.0.0 }) (measure (codes "BUFFERS") a.0.0 (codes "BLOCKS"))) (sym (none_is s.buffers n)) (says_buffers s.syncpoint s.controlpoint a.0.0 m.least m.most) in
-    subst (λ (x : Pairs × List Lexeme). Reads (IsPair s) ts x.0 x.1) (ok_same (record { syncpoint = s.syncpoint; controlpoint = s.controlpoint; buffers = Some a.0.0 }, a.0.1) (t, rest) a.2) (record { used = m.used; is = rw m.is o; all = m.all }))
+    subst (λ (x : ParameterPairs × List Lexeme). Reads (IsPair s) ts x.0 x.1) (ok_same (record { syncpoint = s.syncpoint; controlpoint = s.controlpoint; buffers = Some a.0.0 }, a.0.1) (t, rest) a.2) (record { used = m.used; is = rw m.is o; all = m.all }))
     (λ e. absurd (cc)))) h
 
 sync_step : (c b : Option ℕ) (n : ℕ) (ts rest : List Lexeme) → starts (is_word (codes "SYNCPOINT")) ts ≡ true → measure_at (codes "SYNCPOINT") 1 10000 (codes "TRANSACTIONS") ts ≡ Ok (n, rest) → pair_at (record { syncpoint = None; controlpoint = c; buffers = b }) ts ≡ Ok (record { syncpoint = Some n; controlpoint = c; buffers = b }, rest)
@@ -139,7 +139,7 @@ buffers_step s c n ts rest p q r h = rw (p, q, r, h) refl
 begins : (w v : List ℕ) (b : Bool) (k : Lexeme) (ts : List Lexeme) → k.token ≡ Word v → is_word w (Word v) ≡ b → starts (is_word w) (k ∷ ts) ≡ b
 begins w v b k ts e h = rw e h
 
-pair_complete : (s t : Pairs) (xs : List Token) → IsPair s t xs → (us rest : List Lexeme) → map token_of us ≡ xs → pair_at s (us ++ rest) ≡ Ok (t, rest)
+pair_complete : (s t : ParameterPairs) (xs : List Token) → IsPair s t xs → (us rest : List Lexeme) → map token_of us ≡ xs → pair_at s (us ++ rest) ≡ Ok (t, rest)
 pair_complete _ _ _ (says_syncpoint c b n low high) us rest e =
     let f = four us _ _ _ _ e in
     rw f.all (sync_step c b n (f.k ∷ (f.e ∷ (f.l ∷ (f.u ∷ rest)))) rest (begins (codes "SYNCPOINT") (codes "SYNCPOINT") true f.k (f.e ∷ (f.l ∷ (f.u ∷ rest))) f.first refl) (measure_step (codes "SYNCPOINT") (codes "TRANSACTIONS") 1 10000 n f.k f.e f.l f.u rest refl refl f.first f.second f.third f.fourth low high))
@@ -217,7 +217,7 @@ module _ {S : Type 0} (nothing : S) (pair : S → S → List Token → Type 0) (
       let same : us ++ rest ≡ k.a ++ (m.l ∷ (m.b ++ rest)) = ap (λ (vs : List Lexeme). vs ++ rest) k.all ∙ append_assoc k.a k.b rest ∙ ap (λ (vs : List Lexeme). k.a ++ (vs ++ rest)) m.all in
       record { start = before.start; mid = before.mid; first = rw same before.first; others = joins until_close next before.start s t before.mid (m.l ∷ (m.b ++ rest)) rest before.others last }
 
-next_is : (s : Pairs) (ts : List Lexeme) → next_pair_at s ts ≡ (sign_at 44 ts >>= λ t1. pair_at s t1)
+next_is : (s : ParameterPairs) (ts : List Lexeme) → next_pair_at s ts ≡ (sign_at 44 ts >>= λ t1. pair_at s t1)
 unfolding next_pair_at
 next_is s ts = refl
 
@@ -228,7 +228,7 @@ next_audit_is s ts = refl
 closing : (r : List Lexeme) (y z : Lexeme) (rest : List Lexeme) → r ++ (y ∷ (z ∷ rest)) ≡ (r ++ (y ∷ (z ∷ []))) ++ rest
 closing r y z rest = sym (append_assoc r (y ∷ (z ∷ [])) rest)
 
-pub parameters_sound : (ts : List Lexeme) (said : Pairs) (rest : List Lexeme) → parameters_at ts ≡ Ok (said, rest) → Reads AreParameters ts said rest
+pub parameters_sound : (ts : List Lexeme) (said : ParameterPairs) (rest : List Lexeme) → parameters_at ts ≡ Ok (said, rest) → Reads AreParameters ts said rest
 unfolding parameters_at
 parameters_sound ts said rest h =
     let a = bind_ok (word_at (codes "PARAMETERS") ts) _ _ h in
@@ -244,14 +244,14 @@ parameters_sound ts said rest h =
     let z = sign_spelled 59 e.0 f.0 f.1 in
     let toks : map token_of (k.first ∷ (o.first ∷ (r.used ++ (y.first ∷ (z.first ∷ []))))) ≡ Word (codes "PARAMETERS") ∷ (Sign 40 ∷ (map token_of r.used ++ (Sign 41 ∷ (Sign 59 ∷ [])))) = rw (k.token, o.token, map-append token_of r.used (y.first ∷ (z.first ∷ [])), y.token, z.token) refl in
     let all : ts ≡ (k.first ∷ (o.first ∷ (r.used ++ (y.first ∷ (z.first ∷ []))))) ++ f.0 = k.all ∙ ap (λ (xs : List Lexeme). k.first ∷ xs) (o.all ∙ ap (λ (xs : List Lexeme). o.first ∷ xs) (r.all ∙ ap (λ (xs : List Lexeme). r.used ++ xs) (y.all ∙ ap (λ (xs : List Lexeme). y.first ∷ xs) z.all) ∙ closing r.used y.first z.first f.0)) in
-    subst (λ (x : Pairs × List Lexeme). Reads AreParameters ts x.0 x.1) (ok_same (d.0.0, f.0) (said, rest) f.2)
+    subst (λ (x : ParameterPairs × List Lexeme). Reads AreParameters ts x.0 x.1) (ok_same (d.0.0, f.0) (said, rest) f.2)
     (record { used = k.first ∷ (o.first ∷ (r.used ++ (y.first ∷ (z.first ∷ [])))); is = rw toks (parameters d.0.0 (map token_of r.used) r.is); all = all })
 
-parameters_step : (k o y z : Lexeme) (ts mid rest : List Lexeme) (start said : Pairs) → k.token ≡ Word (codes "PARAMETERS") → o.token ≡ Sign 40 → pair_at no_pairs ts ≡ Ok (start, mid) → turns_at until_close next_pair_at start mid ≡ Ok (said, y ∷ (z ∷ rest)) → y.token ≡ Sign 41 → z.token ≡ Sign 59 → parameters_at (k ∷ (o ∷ ts)) ≡ Ok (said, rest)
+parameters_step : (k o y z : Lexeme) (ts mid rest : List Lexeme) (start said : ParameterPairs) → k.token ≡ Word (codes "PARAMETERS") → o.token ≡ Sign 40 → pair_at no_pairs ts ≡ Ok (start, mid) → turns_at until_close next_pair_at start mid ≡ Ok (said, y ∷ (z ∷ rest)) → y.token ≡ Sign 41 → z.token ≡ Sign 59 → parameters_at (k ∷ (o ∷ ts)) ≡ Ok (said, rest)
 unfolding parameters_at
 parameters_step k o y z ts mid rest start said a b f h c d = rw (word_reads (codes "PARAMETERS") k (o ∷ ts) refl a, sign_reads 40 o ts refl b, f, h, sign_reads 41 y (z ∷ rest) refl c, sign_reads 59 z rest refl d) refl
 
-parameters_read : (said : Pairs) (ws : List Token) → AreParameters said ws → (us rest : List Lexeme) → map token_of us ≡ ws → parameters_at (us ++ rest) ≡ Ok (said, rest)
+parameters_read : (said : ParameterPairs) (ws : List Token) → AreParameters said ws → (us rest : List Lexeme) → map token_of us ≡ ws → parameters_at (us ++ rest) ≡ Ok (said, rest)
 parameters_read _ _ (parameters said xs d) us rest e =
     let k = heads us (Word (codes "PARAMETERS")) (Sign 40 ∷ (xs ++ (Sign 41 ∷ (Sign 59 ∷ [])))) e in
     let o = heads k.b (Sign 40) (xs ++ (Sign 41 ∷ (Sign 59 ∷ []))) k.back in
@@ -259,13 +259,13 @@ parameters_read _ _ (parameters said xs d) us rest e =
     let y = heads s.b (Sign 41) (Sign 59 ∷ []) s.back in
     let z = heads y.b (Sign 59) [] y.back in
     let r = list_runs no_pairs IsPair pair_at next_pair_at next_is pair_sound pair_complete said xs d s.a (y.l ∷ (z.l ∷ rest)) s.front in
-    let ended : until_close {S = Pairs} said (y.l ∷ (z.l ∷ rest)) ≡ true = rw y.token refl in
+    let ended : until_close {S = ParameterPairs} said (y.l ∷ (z.l ∷ rest)) ≡ true = rw y.token refl in
     let all = turns_at-runs until_close next_pair_at r.start said r.mid (y.l ∷ (z.l ∷ rest)) r.others ended in
     let tail : s.b ≡ y.l ∷ (z.l ∷ []) = y.all ∙ ap (λ (vs : List Lexeme). y.l ∷ vs) (z.all ∙ ap (λ (vs : List Lexeme). z.l ∷ vs) (none_left z.b z.back)) in
     let same : us ++ rest ≡ k.l ∷ (o.l ∷ (s.a ++ (y.l ∷ (z.l ∷ rest)))) = ap (λ (vs : List Lexeme). vs ++ rest) (k.all ∙ ap (λ (vs : List Lexeme). k.l ∷ vs) (o.all ∙ ap (λ (vs : List Lexeme). o.l ∷ vs) (s.all ∙ ap (λ (vs : List Lexeme). s.a ++ vs) tail))) ∙ ap (λ (vs : List Lexeme). k.l ∷ (o.l ∷ vs)) (sym (closing s.a y.l z.l rest)) in
     rw same (parameters_step k.l o.l y.l z.l (s.a ++ (y.l ∷ (z.l ∷ rest))) r.mid rest r.start said k.token o.token r.first all y.token z.token)
 
-pub parameters_complete : (us rest : List Lexeme) (said : Pairs) → AreParameters said (map token_of us) → parameters_at (us ++ rest) ≡ Ok (said, rest)
+pub parameters_complete : (us rest : List Lexeme) (said : ParameterPairs) → AreParameters said (map token_of us) → parameters_at (us ++ rest) ≡ Ok (said, rest)
 parameters_complete us rest said d = parameters_read said (map token_of us) d us rest refl
 
 trail_tokens : (k m o y z : Lexeme) (r : List Lexeme) → k.token ≡ Word (codes "AUDIT") → m.token ≡ Word (codes "TRAIL") → o.token ≡ Sign 40 → y.token ≡ Sign 41 → z.token ≡ Sign 59 → map token_of (k ∷ (m ∷ (o ∷ (r ++ (y ∷ (z ∷ [])))))) ≡ Word (codes "AUDIT") ∷ (Word (codes "TRAIL") ∷ (Sign 40 ∷ (map token_of r ++ (Sign 41 ∷ (Sign 59 ∷ [])))))

@@ -17,7 +17,7 @@ use Rattle.dms_tokens.specs.declared.token.Token.TheVariants.{Word, Sign, End}
 use Rattle.dms_tokens.specs.declared.token.Lexeme.{Lexeme}
 use Rattle.dasdl_parse.specs.declared.schema.Parameters.{Parameters}
 use Rattle.dasdl_parse.specs.declared.schema.Schema.{Schema}
-use Rattle.dasdl_parse.specs.declared.parameters.Pairs.{Pairs}
+use Rattle.dasdl_parse.specs.declared.parameters.ParameterPairs.{ParameterPairs}
 use Rattle.dasdl_parse.specs.declared.parameters.AuditPairs.{AuditPairs}
 use Rattle.dasdl_parse.specs.declared.declarations.Declaration.{Declaration}
 use Rattle.dasdl_parse.specs.declared.declarations.Declaration.TheVariants.{DataSet, Item, Group, Link, SetOf, End as EndOf}
@@ -330,7 +330,7 @@ runs _ _ _ _ _ (a_further depth n m ds es us vs d f) = λ s rest k e room.
 abbrev pub outer : Parameters → Bool → Bool → List Declaration → Progress
 outer p b a ds = record { parameters = p; has_parameters = b; has_audit = a; structures = structures_in ds; counted = counted_in ds; within = Outside; fresh = false; declarations = ds }
 
-parameters_turn_is : (p : Parameters) (a : Bool) (ds : List Declaration) (ts rest : List Lexeme) (said : Pairs) → starts (is_word (codes "PARAMETERS")) ts ≡ true → parameters_at ts ≡ Ok (said, rest) → schema_turn_at (outer p false a ds) ts ≡ Ok (outer (with_pairs p said) true a ds, rest)
+parameters_turn_is : (p : Parameters) (a : Bool) (ds : List Declaration) (ts rest : List Lexeme) (said : ParameterPairs) → starts (is_word (codes "PARAMETERS")) ts ≡ true → parameters_at ts ≡ Ok (said, rest) → schema_turn_at (outer p false a ds) ts ≡ Ok (outer (with_pairs p said) true a ds, rest)
 unfolding schema_turn_at parameters_turn_at
 parameters_turn_is p a ds ts rest said f h = rw (f, h) refl
 
@@ -338,7 +338,7 @@ audit_turn_is : (p : Parameters) (b : Bool) (ds : List Declaration) (ts rest : L
 unfolding schema_turn_at audit_turn_at
 audit_turn_is p b ds ts rest said f g h = rw (f, g, h) refl
 
-parameters_run : (p : Parameters) (a : Bool) (ds : List Declaration) (said : Pairs) (xs : List Token) → AreParameters said xs → (vs rest : List Lexeme) → map token_of vs ≡ xs → SchemaRuns (outer p false a ds) (vs ++ rest) (outer (with_pairs p said) true a ds) rest
+parameters_run : (p : Parameters) (a : Bool) (ds : List Declaration) (said : ParameterPairs) (xs : List Token) → AreParameters said xs → (vs rest : List Lexeme) → map token_of vs ≡ xs → SchemaRuns (outer p false a ds) (vs ++ rest) (outer (with_pairs p said) true a ds) rest
 parameters_run p a ds _ _ (parameters said xs d) vs rest e =
     let k = heads vs (Word (codes "PARAMETERS")) _ e in
     let f : starts (is_word (codes "PARAMETERS")) (vs ++ rest) ≡ true = rw (k.all, k.token) refl in

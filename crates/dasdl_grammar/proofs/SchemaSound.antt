@@ -18,7 +18,7 @@ use Rattle.dms_tokens.specs.declared.token.Token.TheVariants.{Word, Sign, End}
 use Rattle.dms_tokens.specs.declared.token.Lexeme.{Lexeme}
 use Rattle.dasdl_parse.specs.declared.schema.Parameters.{Parameters}
 use Rattle.dasdl_parse.specs.declared.schema.Schema.{Schema}
-use Rattle.dasdl_parse.specs.declared.parameters.Pairs.{Pairs}
+use Rattle.dasdl_parse.specs.declared.parameters.ParameterPairs.{ParameterPairs}
 use Rattle.dasdl_parse.specs.declared.parameters.AuditPairs.{AuditPairs}
 use Rattle.dasdl_parse.specs.declared.declarations.Declaration.{Declaration}
 use Rattle.dasdl_parse.specs.declared.declarations.Declaration.TheVariants.{DataSet, Item, Group, Link, SetOf, End as EndOf}

@@ -4,7 +4,7 @@ use Rattle.std.specs.declared.option.Option.{Option}
 use Rattle.dms_base.specs.declared.op.Op.TheVariants.{Equal}
 use Rattle.dms_tokens.specs.declared.token.Token.{Token}
 use Rattle.dms_tokens.specs.declared.token.Token.TheVariants.{Word, Number, Sign, Compare}
-use Rattle.dasdl_parse.specs.declared.parameters.Pairs.{Pairs}
+use Rattle.dasdl_parse.specs.declared.parameters.ParameterPairs.{ParameterPairs}
 use Rattle.dasdl_parse.specs.declared.parameters.AuditPairs.{AuditPairs}
 use Rattle.dasdl_parse.specs.Parameters.{no_pairs, no_audit_pairs}
 
@@ -22,7 +22,7 @@ abbrev pub setting : List ℕ → ℕ → List Token
 setting word n = Word word ∷ (Compare Equal ∷ (Number n ∷ []))
 
 -- a pair that hasn't been said
-pub data IsPair : Pairs → Pairs → List Token → Type 0 where
+pub data IsPair : ParameterPairs → ParameterPairs → List Token → Type 0 where
   says_syncpoint : (c b : Option ℕ) (n : ℕ) → 1 ≤ n → n ≤ 10000 → IsPair (record { syncpoint = None; controlpoint = c; buffers = b }) (record { syncpoint = Some n; controlpoint = c; buffers = b }) (measure (codes "SYNCPOINT") n (codes "TRANSACTIONS"))
   says_controlpoint : (s b : Option ℕ) (n : ℕ) → 1 ≤ n → n ≤ 10000 → IsPair (record { syncpoint = s; controlpoint = None; buffers = b }) (record { syncpoint = s; controlpoint = Some n; buffers = b }) (measure (codes "CONTROLPOINT") n (codes "SYNCPOINTS"))
   says_buffers : (s c : Option ℕ) (n : ℕ) → 8 ≤ n → n ≤ 4096 → IsPair (record { syncpoint = s; controlpoint = c; buffers = None }) (record { syncpoint = s; controlpoint = c; buffers = Some n }) (measure (codes "BUFFERS") n (codes "BLOCKS"))
@@ -32,8 +32,8 @@ pub data IsAuditPair : AuditPairs → AuditPairs → List Token → Type 0 where
   says_files : (b : Option ℕ) (n : ℕ) → 2 ≤ n → n ≤ 9999 → IsAuditPair (record { blocks = b; files = None }) (record { blocks = b; files = Some n }) (setting (codes "FILES") n)
 
 -- PARAMETERS ( pair { , pair } ) ;
-pub data AreParameters : Pairs → List Token → Type 0 where
-  parameters : (said : Pairs) (xs : List Token) → ArePairs no_pairs IsPair said xs → AreParameters said (Word (codes "PARAMETERS") ∷ (Sign 40 ∷ (xs ++ (Sign 41 ∷ (Sign 59 ∷ [])))))
+pub data AreParameters : ParameterPairs → List Token → Type 0 where
+  parameters : (said : ParameterPairs) (xs : List Token) → ArePairs no_pairs IsPair said xs → AreParameters said (Word (codes "PARAMETERS") ∷ (Sign 40 ∷ (xs ++ (Sign 41 ∷ (Sign 59 ∷ [])))))
 
 -- AUDIT TRAIL ( pair { , pair } ) ;
 pub data IsTrail : AuditPairs → List Token → Type 0 where

@@ -6,7 +6,7 @@ use Rattle.dms_tokens.specs.declared.token.Lexeme.{Lexeme}
 use Rattle.dasdl_parse.specs.declared.schema.Parameters.{Parameters}
 use Rattle.dasdl_parse.specs.declared.schema.Schema.{Schema}
 use Rattle.dms_tokens.specs.Cursors.{starts, is_end}
-use Rattle.dasdl_parse.specs.declared.parameters.Pairs.{Pairs}
+use Rattle.dasdl_parse.specs.declared.parameters.ParameterPairs.{ParameterPairs}
 use Rattle.dasdl_parse.specs.declared.parameters.AuditPairs.{AuditPairs}
 use Rattle.dasdl_parse.specs.declared.declarations.Declaration.{Declaration}
 use Rattle.dasdl_parse.specs.declared.declarations.Declaration.TheVariants.{DataSet, Item, Group, Link, SetOf, End as EndOf}
@@ -70,7 +70,7 @@ pub data Members : Many → ℕ → ℕ → List Declaration → List Lexeme →
 -- { parameters | audit | dataset | setdecl }, with PARAMETERS and AUDIT TRAIL once at most
 pub data Declares : Parameters → Bool → Bool → List Declaration → List Lexeme → Type 0 where
   no_declaration : Declares default_parameters false false [] []
-  then_parameters : (p : Parameters) (a : Bool) (ds : List Declaration) (us : List Lexeme) (said : Pairs) (vs : List Lexeme) → Declares p false a ds us → AreParameters said (map token_of vs) → Declares (with_pairs p said) true a ds (us ++ vs)
+  then_parameters : (p : Parameters) (a : Bool) (ds : List Declaration) (us : List Lexeme) (said : ParameterPairs) (vs : List Lexeme) → Declares p false a ds us → AreParameters said (map token_of vs) → Declares (with_pairs p said) true a ds (us ++ vs)
   then_audit : (p : Parameters) (b : Bool) (ds : List Declaration) (us : List Lexeme) (said : AuditPairs) (vs : List Lexeme) → Declares p b false ds us → IsTrail said (map token_of vs) → Declares (with_audit_pairs p said) b true ds (us ++ vs)
   then_structure : (p : Parameters) (b a : Bool) (ds : List Declaration) (us : List Lexeme) (es : List Declaration) (vs : List Lexeme) → Declares p b a ds us → Members Single 0 0 es vs → Declares p b a (ds ++ es) (us ++ vs)
 

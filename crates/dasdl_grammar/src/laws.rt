@@ -14,7 +14,7 @@ ghost use Rattle.dasdl_parse.specs.declared.items.GroupItems.{GroupItems};
 ghost use Rattle.dasdl_parse.specs.declared.declarations.SetDecl.{SetDecl};
 ghost use Rattle.dasdl_parse.specs.declared.declarations.DataSetDecl.{DataSetDecl};
 ghost use Rattle.dasdl_parse.specs.declared.declarations.DataSetEnd.{DataSetEnd};
-ghost use Rattle.dasdl_parse.specs.declared.parameters.Pairs.{Pairs};
+ghost use Rattle.dasdl_parse.specs.declared.parameters.ParameterPairs.{ParameterPairs};
 ghost use Rattle.dasdl_parse.specs.declared.parameters.AuditPairs.{AuditPairs};
 ghost use Rattle.std.specs.Prelude.{◌≡◌, ◌≤◌, ◌<◌, ◌+◌, ◌++◌, ℕ, List, map, length, true, false, codes};
 ghost use Rattle.std.specs.declared.result.Result.TheVariants.{Ok};
@@ -68,8 +68,8 @@ pub fn end_law()
 
 /// PARAMETERS is read exactly where it has pairs in any order, each once at most, with its number in its range.
 pub fn parameters_law()
-    ensures sound { (ts rest : List Lexeme) (said : Pairs) → parameters_at ts ≡ Ok (said, rest) → Reads AreParameters ts said rest }
-    ensures complete { (us rest : List Lexeme) (said : Pairs) → AreParameters said (map token_of us) → parameters_at (us ++ rest) ≡ Ok (said, rest) }
+    ensures sound { (ts rest : List Lexeme) (said : ParameterPairs) → parameters_at ts ≡ Ok (said, rest) → Reads AreParameters ts said rest }
+    ensures complete { (us rest : List Lexeme) (said : ParameterPairs) → AreParameters said (map token_of us) → parameters_at (us ++ rest) ≡ Ok (said, rest) }
 {}
 
 /// AUDIT TRAIL is read exactly where it has pairs in any order, each once at most, with its number in its range.

@@ -7,7 +7,7 @@ use Rattle.dasdl_parse.specs.declared.schema.Parameters.{Parameters}
 use Rattle.dasdl_parse.specs.declared.declarations.Declaration.{Declaration}
 use Rattle.dasdl_compile.specs.declared.draft.Draft.{Draft}
 use Rattle.dasdl_compile.specs.declared.work.Plain.TheVariants.{Noted}
-use Rattle.dasdl_compile.specs.declared.work.Work.{Work}
+use Rattle.dasdl_compile.specs.declared.work.Compilation.{Compilation}
 use Rattle.dasdl_compile.specs.Answers.{steps}
 use Rattle.dasdl_compile.specs.Compile.{compiled, declared_at, finished, description_of, nothing_yet}
 use Rattle.dasdl_compile.specs.Finding.{has_restart}
@@ -34,8 +34,8 @@ finished_made p ds d h =
 
 -- what was noted, and what was declared under that
 pub record Compiled (p : Parameters) (decls : List Declaration) (d : Described) : Type 0 where
-  pub outline : Work
-  pub work : Work
+  pub outline : Compilation
+  pub work : Compilation
   pub outlined : steps outlined_one Noted nothing_yet decls ≡ Ok outline
   pub declared : steps declared_at outline.made nothing_yet decls ≡ Ok work
   pub made : Made p work.made d
@@ -43,6 +43,6 @@ pub record Compiled (p : Parameters) (decls : List Declaration) (d : Described) 
 pub compiled_by : (p : Parameters) (decls : List Declaration) (d : Described) → compiled p decls ≡ Ok d → Compiled p decls d
 unfolding compiled
 compiled_by p decls d h =
-    let a = bind_ok {A = Work} {B = Described} (steps outlined_one Noted nothing_yet decls) _ d h in
-    let b = bind_ok {A = Work} {B = Described} (steps declared_at a.0.made nothing_yet decls) _ d a.2 in
+    let a = bind_ok {A = Compilation} {B = Described} (steps outlined_one Noted nothing_yet decls) _ d h in
+    let b = bind_ok {A = Compilation} {B = Described} (steps declared_at a.0.made nothing_yet decls) _ d a.2 in
     record { outline = a.0; work = b.0; outlined = a.1; declared = b.1; made = finished_made p b.0.made d b.2 }

@@ -23,7 +23,7 @@ use Rattle.dasdl_grammar.specs.SchemaSpelling.{Members, Many, Declares, one_if, 
 use Rattle.dasdl_grammar.specs.SchemaSpelling.Members.{a_set, a_data_set, an_item, a_link, a_group, a_first, a_further}
 use Rattle.dasdl_grammar.specs.SchemaSpelling.Declares.{no_declaration, then_parameters, then_audit, then_structure}
 use Rattle.dasdl_compile.specs.declared.draft.Draft.{Draft}
-use Rattle.dasdl_compile.specs.declared.work.Work.{Work}
+use Rattle.dasdl_compile.specs.declared.work.Compilation.{Compilation}
 use Rattle.dasdl_compile.specs.Answers.{steps}
 use Rattle.dasdl_compile.specs.Compile.{declared_at, nothing_yet, shape_in}
 use Rattle.dasdl_compile.specs.Conditions.{verified}
@@ -152,32 +152,32 @@ total_set (x ∷ xs) zero d t n at e =
 total_set (x ∷ xs) (suc k) d t n at e = let r = total_set xs k d t n at e in omega (arith, r)
 
 -- nothing counts outside of all data sets
-abbrev Counts : Work → Work → ℕ → Type 0
+abbrev Counts : Compilation → Compilation → ℕ → Type 0
 Counts w v n = total links v.made ≤ total links w.made + n
 
-inside_counts : (o : List Draft) (decl : Declaration) (w v : Work) → IsPlain decl → Inside o decl w v → Counts w v (counted_of decl)
-inside_counts o decl w v p (untouched none e) = let s = ap (λ (x : Work). total links x.made) e in omega (arith, s)
+inside_counts : (o : List Draft) (decl : Declaration) (w v : Compilation) → IsPlain decl → Inside o decl w v → Counts w v (counted_of decl)
+inside_counts o decl w v p (untouched none e) = let s = ap (λ (x : Compilation). total links x.made) e in omega (arith, s)
 inside_counts o decl w v p (changed d t at h e) =
-    let s = ap (λ (x : Work). total links x.made) e in
+    let s = ap (λ (x : Compilation). total links x.made) e in
     let r = total_set w.made (w.within - 1) d t (counted_of decl) at (member_counts o decl d t p h) in
     omega (arith, s, r)
 
-turn_counts : (o : List Draft) (w v : Work) (decl : Declaration) → IsPlain decl → Turn o w v decl → Counts w v (counted_of decl)
+turn_counts : (o : List Draft) (w v : Compilation) (decl : Declaration) → IsPlain decl → Turn o w v decl → Counts w v (counted_of decl)
 turn_counts o w v _ p (inside decl none i) = inside_counts o decl w v p i
 turn_counts o w v _ p (data_set s new placed once e) =
-    let a = ap (λ (x : Work). total links x.made) e in
+    let a = ap (λ (x : Compilation). total links x.made) e in
     let b = total_push links w.made (drafted (next_structure w.made) (data_set_kind s.restart) s.name w.within) in
     omega (arith, a, b)
 turn_counts o w v _ p (set_added s d q new of placed read key e) =
-    let a = ap (λ (x : Work). total links x.made) e in
+    let a = ap (λ (x : Compilation). total links x.made) e in
     let b = total_push links w.made (set_draft w s d q) in
     omega (arith, a, b)
 
-steps_count : (o : List Draft) (ds : List Declaration) (w v : Work) → AllByRecursion IsPlain ds → steps declared_at o w ds ≡ Ok v → Counts w v (counted_in ds)
+steps_count : (o : List Draft) (ds : List Declaration) (w v : Compilation) → AllByRecursion IsPlain ds → steps declared_at o w ds ≡ Ok v → Counts w v (counted_in ds)
 unfolding steps
-steps_count o [] w v p h = let e = ap (λ (x : Work). total links x.made) (ok_same w v h) in omega (arith, e)
+steps_count o [] w v p h = let e = ap (λ (x : Compilation). total links x.made) (ok_same w v h) in omega (arith, e)
 steps_count o (d ∷ ds) w v p h =
-    let a = bind_ok {A = Work} {B = Work} (declared_at o w d) _ v h in
+    let a = bind_ok {A = Compilation} {B = Compilation} (declared_at o w d) _ v h in
     let x = turn_counts o w a.0 d p.0 (turn_of o w a.0 d a.1) in
     let y = steps_count o ds a.0 v p.1 a.2 in
     omega (arith, x, y)
@@ -186,7 +186,7 @@ shapes_count : (ds : List Draft) → total counted_shape (map shape_in ds) ≡ t
 shapes_count [] = refl
 shapes_count (d ∷ ds) = ap (λ (n : ℕ). links d + n) (shapes_count ds)
 
-pub few_counted : (p : Parameters) (b a : Bool) (ds : List Declaration) (us : List Lexeme) → Declares p b a ds us → (o : List Draft) (w : Work) → counted_in ds ≤ 4000 → steps declared_at o nothing_yet ds ≡ Ok w → total counted_shape (map shape_in w.made) ≤ 4000
+pub few_counted : (p : Parameters) (b a : Bool) (ds : List Declaration) (us : List Lexeme) → Declares p b a ds us → (o : List Draft) (w : Compilation) → counted_in ds ≤ 4000 → steps declared_at o nothing_yet ds ≡ Ok w → total counted_shape (map shape_in w.made) ≤ 4000
 few_counted p b a ds us d o w few h =
     let x = steps_count o ds nothing_yet w (all_plain p b a ds us d) h in
     let y = shapes_count w.made in

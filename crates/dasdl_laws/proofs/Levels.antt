@@ -24,7 +24,7 @@ use Rattle.dasdl_grammar.specs.SchemaSpelling.Declares.{no_declaration, then_par
 use Rattle.dasdl_grammar.specs.SchemaSpelling.Members.{a_set, a_data_set, an_item, a_link, a_group, a_first, a_further}
 use Rattle.dasdl_grammar.proofs.SchemaComplete.{structures-append}
 use Rattle.dasdl_compile.specs.declared.draft.Draft.{Draft}
-use Rattle.dasdl_compile.specs.declared.work.Work.{Work}
+use Rattle.dasdl_compile.specs.declared.work.Compilation.{Compilation}
 use Rattle.dasdl_compile.specs.Answers.{steps}
 use Rattle.dasdl_compile.specs.Compile.{declared_at, nothing_yet, shape_in}
 use Rattle.dasdl_compile.specs.Finding.{drafted, next_structure}
@@ -81,63 +81,63 @@ low_push os d h k = push (Low (os ++ d ∷ [])) os d (low_more os (d ∷ []) os 
 -- ---- what declarations add
 
 -- all of them stand in at most two others
-abbrev pub AllLow : Work → Type 0
+abbrev pub AllLow : Compilation → Type 0
 AllLow w = AllByRecursion (Low (map outer w.made)) (map outer w.made)
 
 -- structures were added, none too deep
-record Nests (w v : Work) : Type 0 where
+record Nests (w v : Compilation) : Type 0 where
   new : List Draft
   made : map outer v.made ≡ map outer w.made ++ new
   within : v.within ≡ w.within
   low : AllLow v
 
-adds_nothing : (w v : Work) → AllLow w → map outer v.made ≡ map outer w.made → v.within ≡ w.within → Nests w v
+adds_nothing : (w v : Compilation) → AllLow w → map outer v.made ≡ map outer w.made → v.within ≡ w.within → Nests w v
 adds_nothing w v h e within =
     record { new = []; made = e ∙ sym (append-nil (map outer w.made)); within = within; low = subst (λ (os : List Draft). AllByRecursion (Low os) os) (sym e) h }
 
-stays_open : (o : List Draft) (decl : Declaration) (w v : Work) → ((a b : ℕ) → open_after decl a b ≡ b) → Inside o decl w v → v.within ≡ w.within
-stays_open o decl w v same (untouched none e) = ap (λ (x : Work). x.within) e
-stays_open o decl w v same (changed d t at g e) = ap (λ (x : Work). x.within) e ∙ same d.owner w.within
+stays_open : (o : List Draft) (decl : Declaration) (w v : Compilation) → ((a b : ℕ) → open_after decl a b ≡ b) → Inside o decl w v → v.within ≡ w.within
+stays_open o decl w v same (untouched none e) = ap (λ (x : Compilation). x.within) e
+stays_open o decl w v same (changed d t at g e) = ap (λ (x : Compilation). x.within) e ∙ same d.owner w.within
 
-inside_by : (o : List Draft) (w v : Work) (decl : Declaration) → structures_of decl ≡ 0 → Turn o w v decl → Inside o decl w v
+inside_by : (o : List Draft) (w v : Compilation) (decl : Declaration) → structures_of decl ≡ 0 → Turn o w v decl → Inside o decl w v
 inside_by o w v _ none (inside decl nothing i) = i
 inside_by o w v _ none (data_set h new placed once e) = absurd (omega (arith, none))
 inside_by o w v _ none (set_added t d p new of placed read key e) = absurd (omega (arith, none))
 
-member_nests : (o : List Draft) (decl : Declaration) (w v : Work) → structures_of decl ≡ 0 → ((a b : ℕ) → open_after decl a b ≡ b) → AllLow w → steps declared_at o w (decl ∷ []) ≡ Ok v → Nests w v
+member_nests : (o : List Draft) (decl : Declaration) (w v : Compilation) → structures_of decl ≡ 0 → ((a b : ℕ) → open_after decl a b ≡ b) → AllLow w → steps declared_at o w (decl ∷ []) ≡ Ok v → Nests w v
 member_nests o decl w v none same h k =
     let i = inside_by o w v decl none (turn_of o w v decl (one_step declared_at o w decl v k)) in
     adds_nothing w v h (inside_kept o decl w v i) (stays_open o decl w v same i)
 
-set_nests_by : (o : List Draft) (w v : Work) (decl : Declaration) (s : SetDecl) → decl ≡ SetOf s → AllLow w → Upto 2 (map outer w.made) w.within → Turn o w v decl → Nests w v
+set_nests_by : (o : List Draft) (w v : Compilation) (decl : Declaration) (s : SetDecl) → decl ≡ SetOf s → AllLow w → Upto 2 (map outer w.made) w.within → Turn o w v decl → Nests w v
 set_nests_by o w v _ s same h at (inside decl none i) = let one : structures_of (SetOf s) ≡ 0 = subst (λ (x : Declaration). structures_of x ≡ 0) same none in absurd (omega (arith, one))
 set_nests_by o w v _ s same h at (data_set t new placed once e) = absurd (cc)
 set_nests_by o w v _ s same h at (set_added r d p new of placed read key e) =
     let t = set_draft w r d p in
-    let made : map outer v.made ≡ map outer w.made ++ outer t ∷ [] = ap (λ (x : Work). map outer x.made) e ∙ map-append outer w.made (t ∷ []) in
-    record { new = outer t ∷ []; made = made; within = ap (λ (x : Work). x.within) e; low = subst (λ (os : List Draft). AllByRecursion (Low os) os) (sym made) (low_push (map outer w.made) (outer t) h at) }
+    let made : map outer v.made ≡ map outer w.made ++ outer t ∷ [] = ap (λ (x : Compilation). map outer x.made) e ∙ map-append outer w.made (t ∷ []) in
+    record { new = outer t ∷ []; made = made; within = ap (λ (x : Compilation). x.within) e; low = subst (λ (os : List Draft). AllByRecursion (Low os) os) (sym made) (low_push (map outer w.made) (outer t) h at) }
 
-set_nests : (o : List Draft) (w v : Work) (s : SetDecl) → AllLow w → Upto 2 (map outer w.made) w.within → steps declared_at o w (SetOf s ∷ []) ≡ Ok v → Nests w v
+set_nests : (o : List Draft) (w v : Compilation) (s : SetDecl) → AllLow w → Upto 2 (map outer w.made) w.within → steps declared_at o w (SetOf s ∷ []) ≡ Ok v → Nests w v
 set_nests o w v s h at k = set_nests_by o w v (SetOf s) s refl h at (turn_of o w v (SetOf s) (one_step declared_at o w (SetOf s) v k))
 
 -- ---- data sets
 
 -- the end of a data set opens the one around it
-closes : (o : List Draft) (w v : Work) (end : DataSetEnd) (d : Draft) → slice_get (map outer w.made) (w.within - 1) ≡ Some d → Inside o (End end) w v → v.within ≡ d.owner
+closes : (o : List Draft) (w v : Compilation) (end : DataSetEnd) (d : Draft) → slice_get (map outer w.made) (w.within - 1) ≡ Some d → Inside o (End end) w v → v.within ≡ d.owner
 closes o w v end d there (untouched none e) =
     let empty : slice_get (map outer w.made) (w.within - 1) ≡ None = slice_get-map outer w.made (w.within - 1) ∙ ap (option_map outer) none in
     absurd (cc)
 closes o w v end d there (changed c t at g e) =
     let found : Some (outer c) ≡ Some d = sym (slice_get-map outer w.made (w.within - 1) ∙ ap (option_map outer) at) ∙ there in
     let one : outer c ≡ d = cc in
-    ap (λ (x : Work). x.within) e ∙ ap (λ (x : Draft). x.owner) one
+    ap (λ (x : Compilation). x.within) e ∙ ap (λ (x : Draft). x.owner) one
 
 -- members of a data set, so many levels deep
 abbrev Nest : List Draft → List Declaration → ℕ → Type 0
-Nest o ds depth = (w v : Work) → length w.made + structures_in ds ≤ 200 → AllLow w → Upto depth (map outer w.made) w.within → steps declared_at o w ds ≡ Ok v → Nests w v
+Nest o ds depth = (w v : Compilation) → length w.made + structures_in ds ≤ 200 → AllLow w → Upto depth (map outer w.made) w.within → steps declared_at o w ds ≡ Ok v → Nests w v
 
 -- what a data set adds, itself included
-around : (os new : List Draft) (d : Draft) (w a b v : Work) → map outer w.made ≡ os → map outer a.made ≡ os ++ d ∷ [] → d.owner ≡ w.within → a.within ≡ length os + 1 → Nests a b → map outer v.made ≡ map outer b.made → ((x : Draft) → slice_get (map outer b.made) (b.within - 1) ≡ Some x → v.within ≡ x.owner) → Nests w v
+around : (os new : List Draft) (d : Draft) (w a b v : Compilation) → map outer w.made ≡ os → map outer a.made ≡ os ++ d ∷ [] → d.owner ≡ w.within → a.within ≡ length os + 1 → Nests a b → map outer v.made ≡ map outer b.made → ((x : Draft) → slice_get (map outer b.made) (b.within - 1) ≡ Some x → v.within ≡ x.owner) → Nests w v
 around os new d w a b v before opened owner number h same last =
     let made : map outer b.made ≡ os ++ d ∷ h.new = h.made ∙ ap (λ (l : List Draft). l ++ h.new) opened ∙ append_assoc os (d ∷ []) h.new in
     let n = h.within in
@@ -145,17 +145,17 @@ around os new d w a b v before opened owner number h same last =
     let there : slice_get (map outer b.made) (b.within - 1) ≡ Some d = ap (λ (l : List Draft). slice_get l (b.within - 1)) (h.made ∙ ap (λ (l : List Draft). l ++ h.new) opened) ∙ got_more (os ++ d ∷ []) h.new (b.within - 1) d (ap (λ (k : ℕ). slice_get (os ++ d ∷ []) k) at ∙ got_last os d) in
     record { new = d ∷ h.new; made = same ∙ made ∙ ap (λ (l : List Draft). l ++ d ∷ h.new) (sym before); within = last d there ∙ owner; low = subst (λ (l : List Draft). AllByRecursion (Low l) l) (sym same) h.low }
 
-data_set_nests : (o : List Draft) (w v : Work) (head : DataSetDecl) (ds : List Declaration) (end : DataSetEnd) (depth : ℕ) → depth < 3 → length w.made + (1 + structures_in ds) ≤ 200 → AllLow w → Upto depth (map outer w.made) w.within → Nest o ds (suc depth) → steps declared_at o w (DataSet head ∷ (ds ++ (End end ∷ []))) ≡ Ok v → Nests w v
+data_set_nests : (o : List Draft) (w v : Compilation) (head : DataSetDecl) (ds : List Declaration) (end : DataSetEnd) (depth : ℕ) → depth < 3 → length w.made + (1 + structures_in ds) ≤ 200 → AllLow w → Upto depth (map outer w.made) w.within → Nest o ds (suc depth) → steps declared_at o w (DataSet head ∷ (ds ++ (End end ∷ []))) ≡ Ok v → Nests w v
 unfolding steps
 data_set_nests o w v head ds end depth low room h at inner k =
-    let a = bind_ok {A = Work} {B = Work} (declared_at o w (DataSet head)) _ v k in
+    let a = bind_ok {A = Compilation} {B = Compilation} (declared_at o w (DataSet head)) _ v k in
     let e = opened_by o w a.0 (DataSet head) head refl (turn_of o w a.0 (DataSet head) a.1) in
     let b = steps_split declared_at o a.0 ds (End end ∷ []) v a.2 in
     let d = drafted (next_structure w.made) (data_set_kind head.restart) head.name w.within in
     let os = map outer w.made in
     let size : length os ≡ length w.made = length-map w.made outer in
-    let opened : map outer a.0.made ≡ os ++ d ∷ [] = ap (λ (x : Work). map outer x.made) e ∙ map-append outer w.made (d ∷ []) in
-    let number : a.0.within ≡ length os + 1 = ap (λ (x : Work). x.within) e ∙ omega (arith, room, size) in
+    let opened : map outer a.0.made ≡ os ++ d ∷ [] = ap (λ (x : Compilation). map outer x.made) e ∙ map-append outer w.made (d ∷ []) in
+    let number : a.0.within ≡ length os + 1 = ap (λ (x : Compilation). x.within) e ∙ omega (arith, room, size) in
     let count : length a.0.made ≡ length w.made + 1 = sym (length-map a.0.made outer) ∙ ap length opened ∙ length-append os (d ∷ []) ∙ ap (λ (n : ℕ). n + 1) size in
     let all : AllLow a.0 = subst (λ (l : List Draft). AllByRecursion (Low l) l) (sym opened) (low_push os d h (upto_two depth os w.within low at)) in
     let place : a.0.within - 1 ≡ length os = omega (arith, number) in
@@ -167,11 +167,11 @@ data_set_nests o w v head ds end depth low room h at inner k =
 
 -- ---- what stands in a data set, and at the outside
 
-further : (w u v : Work) → Nests w u → Nests u v → Nests w v
+further : (w u v : Compilation) → Nests w u → Nests u v → Nests w v
 further w u v a b =
     record { new = a.new ++ b.new; made = b.made ∙ ap (λ (l : List Draft). l ++ b.new) a.made ∙ append_assoc (map outer w.made) a.new b.new; within = b.within ∙ a.within; low = b.low }
 
-deep_after : (depth : ℕ) (w u : Work) → Nests w u → Upto depth (map outer w.made) w.within → Upto depth (map outer u.made) u.within
+deep_after : (depth : ℕ) (w u : Compilation) → Nests w u → Upto depth (map outer w.made) w.within → Upto depth (map outer u.made) u.within
 deep_after depth w u a h =
     subst (λ (n : ℕ). Upto depth (map outer u.made) n) (sym a.within)
     (subst (λ (l : List Draft). Upto depth l w.within) (sym a.made) (upto_more depth (map outer w.made) a.new w.within h))
@@ -192,9 +192,9 @@ nest _ _ _ _ _ (a_further depth n m ds es us vs x y) o w v few h at k =
     let count = counts o w ds b.0 b.1 in
     further w b.0 v a (nest _ depth m es vs y o b.0 v (omega (arith, few, sum, count)) a.low (deep_after depth w b.0 a at) b.2)
 
-pub declared_low : (p : Parameters) (b a : Bool) (ds : List Declaration) (us : List Lexeme) → Declares p b a ds us → (o : List Draft) (v : Work) → structures_in ds ≤ 200 → steps declared_at o nothing_yet ds ≡ Ok v → AllLow v × (v.within ≡ 0)
+pub declared_low : (p : Parameters) (b a : Bool) (ds : List Declaration) (us : List Lexeme) → Declares p b a ds us → (o : List Draft) (v : Compilation) → structures_in ds ≤ 200 → steps declared_at o nothing_yet ds ≡ Ok v → AllLow v × (v.within ≡ 0)
 unfolding steps
-declared_low _ _ _ _ _ no_declaration o v few k = subst (λ (x : Work). AllLow x × (x.within ≡ 0)) (ok_same nothing_yet v k) (tt, refl)
+declared_low _ _ _ _ _ no_declaration o v few k = subst (λ (x : Compilation). AllLow x × (x.within ≡ 0)) (ok_same nothing_yet v k) (tt, refl)
 declared_low _ _ _ _ _ (then_parameters p a ds us said vs d q) o v few k = declared_low p false a ds us d o v few k
 declared_low _ _ _ _ _ (then_audit p b ds us said vs d q) o v few k = declared_low p b false ds us d o v few k
 declared_low _ _ _ _ _ (then_structure p b a ds us es vs d m) o v few k =
@@ -230,5 +230,5 @@ all_shallow : (made ds : List Draft) → AllByRecursion (Low (map outer made)) (
 all_shallow made [] h = refl
 all_shallow made (d ∷ ds) h = and_from _ _ (shallow made d h.0) (all_shallow made ds h.1)
 
-pub are_shallow : (p : Parameters) (b a : Bool) (ds : List Declaration) (us : List Lexeme) → Declares p b a ds us → (o : List Draft) (w : Work) → structures_in ds ≤ 200 → steps declared_at o nothing_yet ds ≡ Ok w → list_all (is_shallow (map shape_in w.made)) (map shape_in w.made) ≡ true
+pub are_shallow : (p : Parameters) (b a : Bool) (ds : List Declaration) (us : List Lexeme) → Declares p b a ds us → (o : List Draft) (w : Compilation) → structures_in ds ≤ 200 → steps declared_at o nothing_yet ds ≡ Ok w → list_all (is_shallow (map shape_in w.made)) (map shape_in w.made) ≡ true
 are_shallow p b a ds us d o w few k = all_shallow w.made w.made (declared_low p b a ds us d o w few k).0

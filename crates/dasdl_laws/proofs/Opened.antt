@@ -14,7 +14,7 @@ use Rattle.dms_desc_bytes.specs.WellFormed.{is_open_behind}
 use Rattle.dasdl_parse.specs.declared.declarations.Declaration.{Declaration}
 use Rattle.dasdl_grammar.specs.SchemaSpelling.{structures_of}
 use Rattle.dasdl_compile.specs.declared.draft.Draft.{Draft}
-use Rattle.dasdl_compile.specs.declared.work.Work.{Work}
+use Rattle.dasdl_compile.specs.declared.work.Compilation.{Compilation}
 use Rattle.dasdl_compile.specs.Compile.{shape_in}
 use Rattle.dasdl_compile.specs.Finding.{drafted, next_structure}
 use Rattle.dasdl_compile.specs.Members.{open_after}
@@ -66,11 +66,11 @@ opened_more os more (d ∷ ds) h = (around_more os more (d.number - 1) d.owner h
 opened_push : (os : List Draft) (d : Draft) → AllByRecursion (Opened os) os → Opened os d → AllByRecursion (Opened (os ++ d ∷ [])) (os ++ d ∷ [])
 opened_push os d h k = push (Opened (os ++ d ∷ [])) os d (opened_more os (d ∷ []) os h) (around_more os (d ∷ []) (d.number - 1) d.owner k)
 
-pub record Opening (w : Work) : Type 0 where
+pub record Opening (w : Compilation) : Type 0 where
   pub all : AllByRecursion (Opened (map outer w.made)) (map outer w.made)
   pub last : Around (map outer w.made) (length w.made) w.within
 
-opens_as : (os : List Draft) (v : Work) (n m : ℕ) → map outer v.made ≡ os → length os ≡ n → v.within ≡ m → AllByRecursion (Opened os) os → Around os n m → Opening v
+opens_as : (os : List Draft) (v : Compilation) (n m : ℕ) → map outer v.made ≡ os → length os ≡ n → v.within ≡ m → AllByRecursion (Opened os) os → Around os n m → Opening v
 opens_as os v n m made size within h a =
     let count : n ≡ length v.made = sym size ∙ ap length (sym made) ∙ length-map v.made outer in
     record {
@@ -78,15 +78,15 @@ opens_as os v n m made size within h a =
       last = subst (λ (l : List Draft). Around l (length v.made) v.within) (sym made) (subst (λ (k : ℕ). Around os k v.within) count (subst (Around os n) (sym within) a));
     }
 
-inside_opens : (o : List Draft) (decl : Declaration) (w v : Work) → Inside o decl w v → Standing (map outer w.made) w.within → Numbers 1 (map outer w.made) → Opening w → Opening v
+inside_opens : (o : List Draft) (decl : Declaration) (w v : Compilation) → Inside o decl w v → Standing (map outer w.made) w.within → Numbers 1 (map outer w.made) → Opening w → Opening v
 inside_opens o decl w v (untouched none e) s numbers h = subst Opening (sym e) h
 inside_opens o decl w v (changed d t at g e) s numbers h =
     let there : slice_get (map outer w.made) (w.within - 1) ≡ Some (outer d) = slice_get-map outer w.made (w.within - 1) ∙ ap (option_map outer) at in
     let out : Around (map outer w.made) (length w.made) d.owner = further_out (map outer w.made) (length w.made) w.within (outer d) there numbers s.all h.last in
-    opens_as (map outer w.made) v (length w.made) (open_after decl d.owner w.within) (inside_kept o decl w v (changed d t at g e)) (length-map w.made outer) (ap (λ (x : Work). x.within) e) h.all (open_ref (Around (map outer w.made) (length w.made)) decl d.owner w.within out h.last)
+    opens_as (map outer w.made) v (length w.made) (open_after decl d.owner w.within) (inside_kept o decl w v (changed d t at g e)) (length-map w.made outer) (ap (λ (x : Compilation). x.within) e) h.all (open_ref (Around (map outer w.made) (length w.made)) decl d.owner w.within out h.last)
 
 -- one more structure, and what is open behind it
-one_more : (w v : Work) (d : Draft) (m : ℕ) → length w.made + 1 ≤ 200 → Opening w → d.number ≡ length w.made + 1 → d.owner ≡ w.within → map outer v.made ≡ map outer w.made ++ d ∷ [] → v.within ≡ m → (m ≡ length w.made + 1) ⊎ (m ≡ w.within) → Opening v
+one_more : (w v : Compilation) (d : Draft) (m : ℕ) → length w.made + 1 ≤ 200 → Opening w → d.number ≡ length w.made + 1 → d.owner ≡ w.within → map outer v.made ≡ map outer w.made ++ d ∷ [] → v.within ≡ m → (m ≡ length w.made + 1) ⊎ (m ≡ w.within) → Opening v
 one_more w v d m few h number owner made within which =
     let os = map outer w.made in
     let size : length os ≡ length w.made = length-map w.made outer in
@@ -102,16 +102,16 @@ one_more w v d m few h number owner made within which =
     ] in
     opens_as (os ++ d ∷ []) v (length w.made + 1) m made count within (opened_push os d h.all one) last
 
-pub turn_opens : (o : List Draft) (w v : Work) (decl : Declaration) → length w.made + structures_of decl ≤ 200 → Turn o w v decl → Standing (map outer w.made) w.within → Numbers 1 (map outer w.made) → Opening w → Opening v
+pub turn_opens : (o : List Draft) (w v : Compilation) (decl : Declaration) → length w.made + structures_of decl ≤ 200 → Turn o w v decl → Standing (map outer w.made) w.within → Numbers 1 (map outer w.made) → Opening w → Opening v
 turn_opens o w v _ few (inside decl none i) s numbers h = inside_opens o decl w v i s numbers h
 turn_opens o w v _ few (data_set t new placed once e) s numbers h =
     let d = drafted (next_structure w.made) (data_set_kind t.restart) t.name w.within in
     let n : next_structure w.made ≡ length w.made + 1 = omega (arith, few) in
-    one_more w v d (next_structure w.made) (omega (arith, few)) h n refl (ap (λ (x : Work). map outer x.made) e ∙ map-append outer w.made (d ∷ [])) (ap (λ (x : Work). x.within) e) (inl n)
+    one_more w v d (next_structure w.made) (omega (arith, few)) h n refl (ap (λ (x : Compilation). map outer x.made) e ∙ map-append outer w.made (d ∷ [])) (ap (λ (x : Compilation). x.within) e) (inl n)
 turn_opens o w v _ few (a_set t d p new of placed read key e) s numbers h =
     let x = set_draft w t d p in
     let n : next_structure w.made ≡ length w.made + 1 = omega (arith, few) in
-    one_more w v (outer x) w.within (omega (arith, few)) h n refl (ap (λ (y : Work). map outer y.made) e ∙ map-append outer w.made (x ∷ [])) (ap (λ (y : Work). y.within) e) (inr refl)
+    one_more w v (outer x) w.within (omega (arith, few)) h n refl (ap (λ (y : Compilation). map outer y.made) e ∙ map-append outer w.made (x ∷ [])) (ap (λ (y : Compilation). y.within) e) (inr refl)
 
 -- ---- what a description has
 

@@ -13,7 +13,7 @@ use Rattle.dasdl_parse.specs.declared.declarations.Declaration.{Declaration}
 use Rattle.dasdl_parse.specs.declared.declarations.SetDecl.{SetDecl}
 use Rattle.dasdl_grammar.specs.SchemaSpelling.{structures_of, structures_in}
 use Rattle.dasdl_compile.specs.declared.draft.Draft.{Draft}
-use Rattle.dasdl_compile.specs.declared.work.Work.{Work}
+use Rattle.dasdl_compile.specs.declared.work.Compilation.{Compilation}
 use Rattle.dasdl_compile.specs.Answers.{steps}
 use Rattle.dasdl_compile.specs.Compile.{declared_at, nothing_yet, shape_in}
 use Rattle.dasdl_compile.specs.Finding.{next_structure, is_structure, has_restart}
@@ -151,37 +151,37 @@ by_words false b = refl
 set_is_none : (s : SetDecl) → (set_kind s == 2) ≡ false
 set_is_none s = by_words s.subset (is_some s.cond)
 
-pub turned : (o : List Draft) (w v : Work) (decl : Declaration) → Turn o w v decl → Ordered (map outer w.made) → Ordered (map outer v.made)
+pub turned : (o : List Draft) (w v : Compilation) (decl : Declaration) → Turn o w v decl → Ordered (map outer w.made) → Ordered (map outer v.made)
 turned o w v _ (inside decl none i) h = subst Ordered (sym (inside_kept o decl w v i)) h
 turned o w v _ (data_set s new placed once e) h =
-    subst (λ (x : Work). Ordered (map outer x.made)) (sym e)
+    subst (λ (x : Compilation). Ordered (map outer x.made)) (sym e)
     (added_to w.made (drafted (next_structure w.made) (data_set_kind s.restart) s.name w.within) h new (data_set_once s.restart (has_restart w.made) once) refl)
 turned o w v _ (a_set s d p new of placed read key e) h =
-    subst (λ (x : Work). Ordered (map outer x.made)) (sym e)
+    subst (λ (x : Compilation). Ordered (map outer x.made)) (sym e)
     (added_to w.made (set_draft w s d p) h new (inl (set_is_none s)) refl)
 
-ordered : (o : List Draft) (decls : List Declaration) (w : Work) → steps declared_at o nothing_yet decls ≡ Ok w → Ordered (map outer w.made)
+ordered : (o : List Draft) (decls : List Declaration) (w : Compilation) → steps declared_at o nothing_yet decls ≡ Ok w → Ordered (map outer w.made)
 ordered o decls w h =
-    steps_keep (λ (x : Work). Ordered (map outer x.made)) declared_at o (λ s t d p e. turned o s t d (turn_of o s t d e) p) nothing_yet decls w (record { names = refl; restarts = refl; numbers = tt }) h
+    steps_keep (λ (x : Compilation). Ordered (map outer x.made)) declared_at o (λ s t d p e. turned o s t d (turn_of o s t d e) p) nothing_yet decls w (record { names = refl; restarts = refl; numbers = tt }) h
 
 -- ---- how many there are
 
-pub grown : (o : List Draft) (w v : Work) (decl : Declaration) → Turn o w v decl → length v.made ≡ length w.made + structures_of decl
+pub grown : (o : List Draft) (w v : Compilation) (decl : Declaration) → Turn o w v decl → length v.made ≡ length w.made + structures_of decl
 grown o w v _ (inside decl none i) =
     let e = ap length (inside_kept o decl w v i) in
     omega (arith, e, none, length-map v.made outer, length-map w.made outer)
 grown o w v _ (data_set s new placed once e) =
-    ap (λ (x : Work). length x.made) e ∙ length-append w.made (drafted (next_structure w.made) (data_set_kind s.restart) s.name w.within ∷ [])
+    ap (λ (x : Compilation). length x.made) e ∙ length-append w.made (drafted (next_structure w.made) (data_set_kind s.restart) s.name w.within ∷ [])
 grown o w v _ (a_set s d p new of placed read key e) =
-    ap (λ (x : Work). length x.made) e ∙ length-append w.made (set_draft w s d p ∷ [])
+    ap (λ (x : Compilation). length x.made) e ∙ length-append w.made (set_draft w s d p ∷ [])
 
-pub counts : (o : List Draft) (w : Work) (decls : List Declaration) (v : Work) → steps declared_at o w decls ≡ Ok v → length v.made ≡ length w.made + structures_in decls
+pub counts : (o : List Draft) (w : Compilation) (decls : List Declaration) (v : Compilation) → steps declared_at o w decls ≡ Ok v → length v.made ≡ length w.made + structures_in decls
 unfolding steps
 counts o w [] v h =
-    let e = ap (λ (x : Work). length x.made) (ok_same w v h) in
+    let e = ap (λ (x : Compilation). length x.made) (ok_same w v h) in
     omega (arith, e)
 counts o w (d ∷ ds) v h =
-    let a = bind_ok {A = Work} {B = Work} (declared_at o w d) _ v h in
+    let a = bind_ok {A = Compilation} {B = Compilation} (declared_at o w d) _ v h in
     omega (arith, grown o w a.0 d (turn_of o w a.0 d a.1), counts o a.0 ds v a.2)
 
 -- ---- what a description has
@@ -217,7 +217,7 @@ pub record WellOrdered (ss : List Shape) : Type 0 where
   pub restart : list_any is_restart ss ≡ true
   pub restarts : apart not_both_restart ss ≡ true
 
-pub well_ordered : (o : List Draft) (decls : List Declaration) (w : Work) → steps declared_at o nothing_yet decls ≡ Ok w → structures_in decls ≤ 200 → has_restart w.made ≡ true → WellOrdered (map shape_in w.made)
+pub well_ordered : (o : List Draft) (decls : List Declaration) (w : Compilation) → steps declared_at o nothing_yet decls ≡ Ok w → structures_in decls ≤ 200 → has_restart w.made ≡ true → WellOrdered (map shape_in w.made)
 well_ordered o decls w h few some =
     let k = ordered o decls w h in
     let n = counts o nothing_yet decls w h in
@@ -247,15 +247,15 @@ set_has_kind true true = refl
 set_has_kind true false = refl
 set_has_kind false b = refl
 
-kinds_turned : (o : List Draft) (w v : Work) (decl : Declaration) → Turn o w v decl → AllByRecursion HasKind (map outer w.made) → AllByRecursion HasKind (map outer v.made)
+kinds_turned : (o : List Draft) (w v : Compilation) (decl : Declaration) → Turn o w v decl → AllByRecursion HasKind (map outer w.made) → AllByRecursion HasKind (map outer v.made)
 kinds_turned o w v _ (inside decl none i) h = subst (AllByRecursion HasKind) (sym (inside_kept o decl w v i)) h
 kinds_turned o w v _ (data_set s new placed once e) h =
     let d = drafted (next_structure w.made) (data_set_kind s.restart) s.name w.within in
-    subst (λ (x : Work). AllByRecursion HasKind (map outer x.made)) (sym e)
+    subst (λ (x : Compilation). AllByRecursion HasKind (map outer x.made)) (sym e)
     (subst (AllByRecursion HasKind) (sym (map-append outer w.made (d ∷ []))) (kinds_push (map outer w.made) (outer d) h (data_set_has_kind s.restart)))
 kinds_turned o w v _ (a_set s d p new of placed read key e) h =
     let t = set_draft w s d p in
-    subst (λ (x : Work). AllByRecursion HasKind (map outer x.made)) (sym e)
+    subst (λ (x : Compilation). AllByRecursion HasKind (map outer x.made)) (sym e)
     (subst (AllByRecursion HasKind) (sym (map-append outer w.made (t ∷ []))) (kinds_push (map outer w.made) (outer t) h (set_has_kind s.subset (is_some s.cond))))
 
 kinds_least : (ds : List Draft) → AllByRecursion HasKind (map outer ds) → HaveKinds ds
@@ -269,7 +269,7 @@ kinds_all : (ds : List Draft) → AllByRecursion HasKind (map outer ds) → list
 kinds_all [] h = refl
 kinds_all (d ∷ ds) h = and_from _ _ h.0 (kinds_all ds h.1)
 
-pub have_kinds : (o : List Draft) (decls : List Declaration) (w : Work) → steps declared_at o nothing_yet decls ≡ Ok w → HaveKinds w.made × (list_all has_kind (map shape_in w.made) ≡ true)
+pub have_kinds : (o : List Draft) (decls : List Declaration) (w : Compilation) → steps declared_at o nothing_yet decls ≡ Ok w → HaveKinds w.made × (list_all has_kind (map shape_in w.made) ≡ true)
 have_kinds o decls w h =
-    let k = steps_keep (λ (x : Work). AllByRecursion HasKind (map outer x.made)) declared_at o (λ s t d p e. kinds_turned o s t d (turn_of o s t d e) p) nothing_yet decls w tt h in
+    let k = steps_keep (λ (x : Compilation). AllByRecursion HasKind (map outer x.made)) declared_at o (λ s t d p e. kinds_turned o s t d (turn_of o s t d e) p) nothing_yet decls w tt h in
     (kinds_least w.made k, kinds_all w.made k)

@@ -22,8 +22,8 @@ use Rattle.dasdl_parse.specs.declared.declarations.LinkDecl.{LinkDecl}
 use Rattle.dasdl_parse.specs.declared.declarations.SetDecl.{SetDecl}
 use Rattle.dasdl_grammar.specs.SchemaSpelling.{structures_of}
 use Rattle.dasdl_compile.specs.declared.draft.Draft.{Draft}
-use Rattle.dasdl_compile.specs.declared.sets.SetOptions.{SetOptions}
-use Rattle.dasdl_compile.specs.declared.work.Work.{Work}
+use Rattle.dasdl_compile.specs.declared.sets.WhereAndKey.{WhereAndKey}
+use Rattle.dasdl_compile.specs.declared.work.Compilation.{Compilation}
 use Rattle.dasdl_compile.specs.declared.work.Plain.{Plain}
 use Rattle.dasdl_compile.specs.Answers.{steps}
 use Rattle.dasdl_compile.specs.Compile.{inside_in, inside_at, declared_at}
@@ -113,7 +113,7 @@ member_alike plain o (SetOf s) a b x y e h k = ap seen (sym (ok_same a x h)) ∙
 
 -- ---- works
 
-pub record Alike (x w : Work) : Type 0 where
+pub record Alike (x w : Compilation) : Type 0 where
   pub within : x.within ≡ w.within
   pub made : map seen x.made ≡ map seen w.made
 
@@ -126,32 +126,32 @@ push_alike xs ys a b e f = map-append seen xs (a ∷ []) ∙ ap (λ (l : List Dr
 set_alike : (xs ys : List Draft) (j k : ℕ) (a b : Draft) → map seen xs ≡ map seen ys → j ≡ k → seen a ≡ seen b → map seen (set xs j a) ≡ map seen (set ys k b)
 set_alike xs ys j k a b e i f = map-set seen xs j a ∙ ap (λ (l : List Draft). set l j (seen a)) e ∙ ap (λ (n : ℕ). set (map seen ys) n (seen a)) i ∙ ap (λ (d : Draft). set (map seen ys) k d) f ∙ sym (map-set seen ys k b)
 
-inside_alike : (plain : Plain) (o : List Draft) (decl : Declaration) (x w y v : Work) (r q : Option Draft) → option_map seen r ≡ option_map seen q → Alike x w → outlined_in plain decl x r ≡ Ok y → inside_in o decl w q ≡ Ok v → Alike y v
+inside_alike : (plain : Plain) (o : List Draft) (decl : Declaration) (x w y v : Compilation) (r q : Option Draft) → option_map seen r ≡ option_map seen q → Alike x w → outlined_in plain decl x r ≡ Ok y → inside_in o decl w q ≡ Ok v → Alike y v
 inside_alike plain o decl x w y v None None e a h k =
     let s : x ≡ y = ok_same x y h in
     let t : w ≡ v = ok_same w v k in
-    subst (λ (u : Work). Alike y u) t (subst (λ (u : Work). Alike u w) s a)
+    subst (λ (u : Compilation). Alike y u) t (subst (λ (u : Compilation). Alike u w) s a)
 inside_alike plain o decl x w y v None (Some b) e a h k = absurd (cc)
 inside_alike plain o decl x w y v (Some c) None e a h k = absurd (cc)
 inside_alike plain o decl x w y v (Some c) (Some b) e a h k =
     let same : seen c ≡ seen b = cc in
-    let s = bind_ok {A = Draft} {B = Work} (outlined_member plain decl c) _ y h in
-    let t = bind_ok {A = Draft} {B = Work} (member_at o decl b) _ v k in
+    let s = bind_ok {A = Draft} {B = Compilation} (outlined_member plain decl c) _ y h in
+    let t = bind_ok {A = Draft} {B = Compilation} (member_at o decl b) _ v k in
     let m = member_alike plain o decl c b s.0 t.0 same s.1 t.1 in
     let owners : c.owner ≡ b.owner = ap (λ (d : Draft). d.owner) same in
     let places : x.within - 1 ≡ w.within - 1 = ap (λ (n : ℕ). n - 1) a.within in
     let p = ok_same _ y s.2 in
     let q = ok_same _ v t.2 in
     record {
-      within = ap (λ (u : Work). u.within) (sym p) ∙ ap (λ (n : ℕ). open_after decl n x.within) owners ∙ ap (λ (n : ℕ). open_after decl b.owner n) a.within ∙ ap (λ (u : Work). u.within) q;
-      made = ap (λ (u : Work). map seen u.made) (sym p) ∙ set_alike x.made w.made (x.within - 1) (w.within - 1) s.0 t.0 a.made places m ∙ ap (λ (u : Work). map seen u.made) q;
+      within = ap (λ (u : Compilation). u.within) (sym p) ∙ ap (λ (n : ℕ). open_after decl n x.within) owners ∙ ap (λ (n : ℕ). open_after decl b.owner n) a.within ∙ ap (λ (u : Compilation). u.within) q;
+      made = ap (λ (u : Compilation). map seen u.made) (sym p) ∙ set_alike x.made w.made (x.within - 1) (w.within - 1) s.0 t.0 a.made places m ∙ ap (λ (u : Compilation). map seen u.made) q;
     }
 
-got_alike : (x w : Work) → Alike x w → option_map seen (slice_get x.made (x.within - 1)) ≡ option_map seen (slice_get w.made (w.within - 1))
+got_alike : (x w : Compilation) → Alike x w → option_map seen (slice_get x.made (x.within - 1)) ≡ option_map seen (slice_get w.made (w.within - 1))
 got_alike x w a =
     sym (slice_get-map seen x.made (x.within - 1)) ∙ ap (λ (l : List Draft). slice_get l (x.within - 1)) a.made ∙ ap (λ (n : ℕ). slice_get (map seen w.made) (n - 1)) a.within ∙ slice_get-map seen w.made (w.within - 1)
 
-members_alike : (plain : Plain) (o : List Draft) (decl : Declaration) (x w y v : Work) → Alike x w → outlined_inside plain decl x ≡ Ok y → inside_at o decl w ≡ Ok v → Alike y v
+members_alike : (plain : Plain) (o : List Draft) (decl : Declaration) (x w y v : Compilation) → Alike x w → outlined_inside plain decl x ≡ Ok y → inside_at o decl w ≡ Ok v → Alike y v
 unfolding outlined_inside inside_at
 members_alike plain o decl x w y v a h k = inside_alike plain o decl x w y v (slice_get x.made (x.within - 1)) (slice_get w.made (w.within - 1)) (got_alike x w a) a h k
 
@@ -166,10 +166,10 @@ by_words true true = refl
 by_words true false = refl
 by_words false b = refl
 
-set_seen : (w : Work) (s : SetDecl) (d : Draft) (p : SetOptions) → seen (drafted (next_structure w.made) 3 s.name w.within) ≡ seen (set_draft w s d p)
+set_seen : (w : Compilation) (s : SetDecl) (d : Draft) (p : WhereAndKey) → seen (drafted (next_structure w.made) 3 s.name w.within) ≡ seen (set_draft w s d p)
 set_seen w s d p = ap (λ (k : ℕ). record { number = next_structure w.made; kind = k; name = s.name; owner = w.within; population = 0; items = []; groups = []; cond = Empty; set = 0; form = 0; duplicates = false; parts = [] }) (by_words s.subset (is_some s.cond))
 
-set_alike_by : (o : List Draft) (w v : Work) (decl : Declaration) (s : SetDecl) → decl ≡ SetOf s → Turn o w v decl → (x y : Work) → Alike x w → outlined_set s x ≡ Ok y → Alike y v
+set_alike_by : (o : List Draft) (w v : Compilation) (decl : Declaration) (s : SetDecl) → decl ≡ SetOf s → Turn o w v decl → (x y : Compilation) → Alike x w → outlined_set s x ≡ Ok y → Alike y v
 unfolding outlined_set
 set_alike_by o w v _ s same (inside decl none i) x y a h = let one : structures_of (SetOf s) ≡ 0 = subst (λ (z : Declaration). structures_of z ≡ 0) same none in absurd (omega (arith, one))
 set_alike_by o w v _ s same (data_set t new placed once e) x y a h = absurd (cc)
@@ -178,26 +178,26 @@ set_alike_by o w v _ s same (set_added t d p new of placed read key e) x y a h =
     let g = ok_same _ y h in
     let name : t.name ≡ s.name = ap (λ (z : SetDecl). z.name) one in
     record {
-      within = ap (λ (u : Work). u.within) (sym g) ∙ a.within ∙ ap (λ (u : Work). u.within) (sym e);
-      made = ap (λ (u : Work). map seen u.made) (sym g)
+      within = ap (λ (u : Compilation). u.within) (sym g) ∙ a.within ∙ ap (λ (u : Compilation). u.within) (sym e);
+      made = ap (λ (u : Compilation). map seen u.made) (sym g)
           ∙ push_alike x.made w.made (drafted (next_structure x.made) 3 s.name x.within) (set_draft w t d p) a.made (drafted_alike (next_structure x.made) (next_structure w.made) 3 s.name x.within w.within (next_alike x.made w.made a.made) a.within ∙ ap (λ (n : List ℕ). seen (drafted (next_structure w.made) 3 n w.within)) (sym name) ∙ set_seen w t d p)
-          ∙ ap (λ (u : Work). map seen u.made) (sym e);
+          ∙ ap (λ (u : Compilation). map seen u.made) (sym e);
     }
 
-data_set_alike : (o : List Draft) (s : DataSetDecl) (x w y v : Work) → Alike x w → outlined_data_set s x ≡ Ok y → Turn o w v (DataSet s) → Alike y v
+data_set_alike : (o : List Draft) (s : DataSetDecl) (x w y v : Compilation) → Alike x w → outlined_data_set s x ≡ Ok y → Turn o w v (DataSet s) → Alike y v
 unfolding outlined_data_set
 data_set_alike o s x w y v a h t =
     let e = opened_by o w v (DataSet s) s refl t in
     let g = ok_same _ y h in
     let n = next_alike x.made w.made a.made in
     record {
-      within = ap (λ (u : Work). u.within) (sym g) ∙ n ∙ ap (λ (u : Work). u.within) (sym e);
-      made = ap (λ (u : Work). map seen u.made) (sym g)
+      within = ap (λ (u : Compilation). u.within) (sym g) ∙ n ∙ ap (λ (u : Compilation). u.within) (sym e);
+      made = ap (λ (u : Compilation). map seen u.made) (sym g)
           ∙ push_alike x.made w.made (drafted (next_structure x.made) (data_set_kind s.restart) s.name x.within) (drafted (next_structure w.made) (data_set_kind s.restart) s.name w.within) a.made (drafted_alike (next_structure x.made) (next_structure w.made) (data_set_kind s.restart) s.name x.within w.within n a.within)
-          ∙ ap (λ (u : Work). map seen u.made) (sym e);
+          ∙ ap (λ (u : Compilation). map seen u.made) (sym e);
     }
 
-one_alike : (plain : Plain) (o : List Draft) (decl : Declaration) (x w y v : Work) → Alike x w → outlined_one plain x decl ≡ Ok y → declared_at o w decl ≡ Ok v → Alike y v
+one_alike : (plain : Plain) (o : List Draft) (decl : Declaration) (x w y v : Compilation) → Alike x w → outlined_one plain x decl ≡ Ok y → declared_at o w decl ≡ Ok v → Alike y v
 unfolding outlined_one declared_at
 one_alike plain o (DataSet s) x w y v a h k = data_set_alike o s x w y v a h (turn_of o w v (DataSet s) k)
 one_alike plain o (SetOf s) x w y v a h k = set_alike_by o w v (SetOf s) s refl (turn_of o w v (SetOf s) k) x y a h
@@ -207,13 +207,13 @@ one_alike plain o (Link l) x w y v a h k = members_alike plain o (Link l) x w y 
 one_alike plain o (End e) x w y v a h k = members_alike plain o (End e) x w y v a h k
 
 -- what is noted of declarations is seen as what is made of them
-pub all_alike : (plain : Plain) (o : List Draft) (ds : List Declaration) (x w y v : Work) → Alike x w → steps outlined_one plain x ds ≡ Ok y → steps declared_at o w ds ≡ Ok v → Alike y v
+pub all_alike : (plain : Plain) (o : List Draft) (ds : List Declaration) (x w y v : Compilation) → Alike x w → steps outlined_one plain x ds ≡ Ok y → steps declared_at o w ds ≡ Ok v → Alike y v
 unfolding steps
 all_alike plain o [] x w y v a h k =
     let s : x ≡ y = ok_same x y h in
     let t : w ≡ v = ok_same w v k in
-    subst (λ (u : Work). Alike y u) t (subst (λ (u : Work). Alike u w) s a)
+    subst (λ (u : Compilation). Alike y u) t (subst (λ (u : Compilation). Alike u w) s a)
 all_alike plain o (d ∷ ds) x w y v a h k =
-    let s = bind_ok {A = Work} {B = Work} (outlined_one plain x d) _ y h in
-    let t = bind_ok {A = Work} {B = Work} (declared_at o w d) _ v k in
+    let s = bind_ok {A = Compilation} {B = Compilation} (outlined_one plain x d) _ y h in
+    let t = bind_ok {A = Compilation} {B = Compilation} (declared_at o w d) _ v k in
     all_alike plain o ds s.0 t.0 y v (one_alike plain o d x w s.0 t.0 a s.1 t.1) s.2 t.2

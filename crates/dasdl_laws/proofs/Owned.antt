@@ -19,8 +19,8 @@ use Rattle.dasdl_parse.specs.declared.declarations.DataSetDecl.{DataSetDecl}
 use Rattle.dasdl_parse.specs.declared.declarations.SetDecl.{SetDecl}
 use Rattle.dasdl_grammar.specs.SchemaSpelling.{structures_of, structures_in}
 use Rattle.dasdl_compile.specs.declared.draft.Draft.{Draft}
-use Rattle.dasdl_compile.specs.declared.sets.SetOptions.{SetOptions}
-use Rattle.dasdl_compile.specs.declared.work.Work.{Work}
+use Rattle.dasdl_compile.specs.declared.sets.WhereAndKey.{WhereAndKey}
+use Rattle.dasdl_compile.specs.declared.work.Compilation.{Compilation}
 use Rattle.dasdl_compile.specs.Answers.{steps}
 use Rattle.dasdl_compile.specs.Compile.{is_misplaced as is_data_set_misplaced, declared_at, nothing_yet, shape_in}
 use Rattle.dasdl_compile.specs.Finding.{drafted, next_structure, data_set_named, kind_of as kind_made}
@@ -103,7 +103,7 @@ place_push o os d h k = push (Place o (os ++ d ∷ [])) os d (places_more o os (
 
 -- ---- what declarations add
 
-record Owning (o : List Draft) (w : Work) : Type 0 where
+record Owning (o : List Draft) (w : Compilation) : Type 0 where
   standing : Standing (map outer w.made) w.within
   ordered : Ordered (map outer w.made)
   places : AllByRecursion (Place o (map outer w.made)) (map outer w.made)
@@ -117,7 +117,7 @@ is_one : (k : ℕ) → is_data_set k ≡ true → (k == 2) ≡ false → k ≡ 1
 is_one k h e = eqb-true k 1 (by_first (k == 1) (k == 2) h e)
 
 -- what is open is none, or no restart data set
-in_open : (o : List Draft) (w : Work) → Owning o w → length w.made ≤ 200 → (r : Ref (map outer w.made) w.within) → (kind_made w.within w.made == 2) ≡ false → In (map outer w.made) w.within
+in_open : (o : List Draft) (w : Compilation) → Owning o w → length w.made ≤ 200 → (r : Ref (map outer w.made) w.within) → (kind_made w.within w.made == 2) ≡ false → In (map outer w.made) w.within
 in_open o w h few (inl e) other = inl e
 in_open o w h few (inr r) other =
     let size : length (map outer w.made) ≡ length w.made = length-map w.made outer in
@@ -131,7 +131,7 @@ neither : (a b : Bool) → (a || b) ≡ false → b ≡ false
 neither true b h = absurd (cc)
 neither false b h = h
 
-data_set_in : (o : List Draft) (s : DataSetDecl) (w : Work) → Owning o w → length w.made ≤ 200 → is_data_set_misplaced s w ≡ false → In (map outer w.made) w.within
+data_set_in : (o : List Draft) (s : DataSetDecl) (w : Compilation) → Owning o w → length w.made ≤ 200 → is_data_set_misplaced s w ≡ false → In (map outer w.made) w.within
 unfolding is_data_set_misplaced
 data_set_in o s w h few placed = in_open o w h few h.standing.around (neither _ _ placed)
 
@@ -139,30 +139,30 @@ not_so : (b : Bool) → not b ≡ true → b ≡ false
 not_so true h = absurd (cc)
 not_so false h = refl
 
-set_by : (q : Bool) (o : List Draft) (w : Work) (s : SetDecl) (d : Draft) (p : SetOptions) → Owning o w → length w.made ≤ 200 → data_set_named s.of o ≡ Some d → (d.owner == w.within) ≡ q → (q || (set_kind s == 5 && d.owner == 0 && not (kind_made w.within w.made == 2))) ≡ true → Place o (map outer w.made) (outer (set_draft w s d p))
+set_by : (q : Bool) (o : List Draft) (w : Compilation) (s : SetDecl) (d : Draft) (p : WhereAndKey) → Owning o w → length w.made ≤ 200 → data_set_named s.of o ≡ Some d → (d.owner == w.within) ≡ q → (q || (set_kind s == 5 && d.owner == 0 && not (kind_made w.within w.made == 2))) ≡ true → Place o (map outer w.made) (outer (set_draft w s d p))
 set_by true o w s d p h few found e k = inr (record { of = d; name = s.of; found = found; owner = eqb-true d.owner w.within e; kind = by_words s.subset (is_some s.cond) })
 set_by false o w s d p h few found e k = inl (in_open o w h few h.standing.around (not_so _ (and_parts (set_kind s == 5 && d.owner == 0) _ k).1))
 
-set_in : (o : List Draft) (w : Work) (s : SetDecl) (d : Draft) (p : SetOptions) → Owning o w → length w.made ≤ 200 → data_set_named s.of o ≡ Some d → is_misplaced w s d ≡ false → Place o (map outer w.made) (outer (set_draft w s d p))
+set_in : (o : List Draft) (w : Compilation) (s : SetDecl) (d : Draft) (p : WhereAndKey) → Owning o w → length w.made ≤ 200 → data_set_named s.of o ≡ Some d → is_misplaced w s d ≡ false → Place o (map outer w.made) (outer (set_draft w s d p))
 unfolding is_misplaced
 set_in o w s d p h few found placed = set_by (d.owner == w.within) o w s d p h few found refl (not-false _ placed)
 
-places_turned : (o : List Draft) (w v : Work) (decl : Declaration) → length w.made + structures_of decl ≤ 200 → Turn o w v decl → Owning o w → AllByRecursion (Place o (map outer v.made)) (map outer v.made)
+places_turned : (o : List Draft) (w v : Compilation) (decl : Declaration) → length w.made + structures_of decl ≤ 200 → Turn o w v decl → Owning o w → AllByRecursion (Place o (map outer v.made)) (map outer v.made)
 places_turned o w v _ few (inside decl none i) h = subst (λ (os : List Draft). AllByRecursion (Place o os) os) (sym (inside_kept o decl w v i)) h.places
 places_turned o w v _ few (data_set s new placed once e) h =
     let d = drafted (next_structure w.made) (data_set_kind s.restart) s.name w.within in
-    let made : map outer v.made ≡ map outer w.made ++ d ∷ [] = ap (λ (x : Work). map outer x.made) e ∙ map-append outer w.made (d ∷ []) in
+    let made : map outer v.made ≡ map outer w.made ++ d ∷ [] = ap (λ (x : Compilation). map outer x.made) e ∙ map-append outer w.made (d ∷ []) in
     subst (λ (os : List Draft). AllByRecursion (Place o os) os) (sym made) (place_push o (map outer w.made) d h.places (inl (data_set_in o s w h (omega (arith, few)) placed)))
 places_turned o w v _ few (a_set s d p new of placed read key e) h =
     let t = set_draft w s d p in
-    let made : map outer v.made ≡ map outer w.made ++ outer t ∷ [] = ap (λ (x : Work). map outer x.made) e ∙ map-append outer w.made (t ∷ []) in
+    let made : map outer v.made ≡ map outer w.made ++ outer t ∷ [] = ap (λ (x : Compilation). map outer x.made) e ∙ map-append outer w.made (t ∷ []) in
     subst (λ (os : List Draft). AllByRecursion (Place o os) os) (sym made) (place_push o (map outer w.made) (outer t) h.places (set_in o w s d p h (omega (arith, few)) of placed))
 
-steps_own : (o : List Draft) (ds : List Declaration) (w v : Work) → length w.made + structures_in ds ≤ 200 → Owning o w → steps declared_at o w ds ≡ Ok v → Owning o v
+steps_own : (o : List Draft) (ds : List Declaration) (w v : Compilation) → length w.made + structures_in ds ≤ 200 → Owning o w → steps declared_at o w ds ≡ Ok v → Owning o v
 unfolding steps
 steps_own o [] w v few h k = subst (Owning o) (ok_same w v k) h
 steps_own o (d ∷ ds) w v few h k =
-    let a = bind_ok {A = Work} {B = Work} (declared_at o w d) _ v k in
+    let a = bind_ok {A = Compilation} {B = Compilation} (declared_at o w d) _ v k in
     let t = turn_of o w a.0 d a.1 in
     let size = grown o w a.0 d t in
     let room : length w.made + structures_of d ≤ 200 = omega (arith, few) in
@@ -206,7 +206,7 @@ owned_well noted made [] w low all opened h = refl
 owned_well noted made (d ∷ ds) w low all opened h =
     and_from _ _ (both_hold (d.owner == 0) (is_open_behind (map shape_in made) (d.number - 1) d.owner) (kind_of (map shape_in made) d.owner == 1) (opens made (d.number - 1) d.owner low opened.0) (in_one made d.owner (place_in noted made d w all h.0))) (owned_well noted made ds w low all opened.1 h.1)
 
-pub all_owned_well : (o : List Draft) (ds : List Declaration) (w : Work) → structures_in ds ≤ 200 → steps declared_at o nothing_yet ds ≡ Ok w → Whole o w.made → AllLow w → list_all (is_owned_well (map shape_in w.made)) (map shape_in w.made) ≡ true
+pub all_owned_well : (o : List Draft) (ds : List Declaration) (w : Compilation) → structures_in ds ≤ 200 → steps declared_at o nothing_yet ds ≡ Ok w → Whole o w.made → AllLow w → list_all (is_owned_well (map shape_in w.made)) (map shape_in w.made) ≡ true
 all_owned_well o ds w few k whole low =
     let h = steps_own o ds nothing_yet w (omega (arith, few)) (record { standing = record { all = tt; around = inl refl }; ordered = record { names = refl; restarts = refl; numbers = tt }; places = tt; opening = record { all = tt; last = here 0 } }) k in
     owned_well o w.made w.made whole low h.places h.opening.all h.places

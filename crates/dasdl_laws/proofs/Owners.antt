@@ -16,7 +16,7 @@ use Rattle.dasdl_parse.specs.declared.declarations.Declaration.{Declaration}
 use Rattle.dasdl_parse.specs.declared.declarations.Declaration.TheVariants.{DataSet, Item, Group, Link, SetOf, End}
 use Rattle.dasdl_grammar.specs.SchemaSpelling.{structures_of, structures_in}
 use Rattle.dasdl_compile.specs.declared.draft.Draft.{Draft}
-use Rattle.dasdl_compile.specs.declared.work.Work.{Work}
+use Rattle.dasdl_compile.specs.declared.work.Compilation.{Compilation}
 use Rattle.dasdl_compile.specs.Answers.{steps}
 use Rattle.dasdl_compile.specs.Compile.{declared_at, nothing_yet, shape_in}
 use Rattle.dasdl_compile.specs.Finding.{drafted, next_structure}
@@ -88,18 +88,18 @@ open_ref P (Link l) a b h k = k
 open_ref P (DataSet s) a b h k = k
 open_ref P (SetOf s) a b h k = k
 
-inside_stands : (o : List Draft) (decl : Declaration) (w v : Work) → Inside o decl w v → Standing (map outer w.made) w.within → Standing (map outer v.made) v.within
-inside_stands o decl w v (untouched none e) h = subst (λ (x : Work). Standing (map outer x.made) x.within) (sym e) h
+inside_stands : (o : List Draft) (decl : Declaration) (w v : Compilation) → Inside o decl w v → Standing (map outer w.made) w.within → Standing (map outer v.made) v.within
+inside_stands o decl w v (untouched none e) h = subst (λ (x : Compilation). Standing (map outer x.made) x.within) (sym e) h
 inside_stands o decl w v (changed d t at g e) h =
     let there : slice_get (map outer w.made) (w.within - 1) ≡ Some (outer d) = slice_get-map outer w.made (w.within - 1) ∙ ap (option_map outer) at in
     let owner = (final_at (Stand (map outer w.made)) (map outer w.made) (w.within - 1) (outer d) h.all there).0 in
-    let within : v.within ≡ open_after decl d.owner w.within = ap (λ (x : Work). x.within) e in
+    let within : v.within ≡ open_after decl d.owner w.within = ap (λ (x : Compilation). x.within) e in
     let kept = inside_kept o decl w v (changed d t at g e) in
     subst (λ (os : List Draft). Standing os v.within) (sym kept)
     (subst (λ (n : ℕ). Standing (map outer w.made) n) (sym within)
     (record { all = h.all; around = open_ref (Ref (map outer w.made)) decl d.owner w.within owner h.around }))
 
-pub turn_stands : (o : List Draft) (w v : Work) (decl : Declaration) → length w.made + structures_of decl ≤ 200 → Turn o w v decl → Standing (map outer w.made) w.within → Standing (map outer v.made) v.within
+pub turn_stands : (o : List Draft) (w v : Compilation) (decl : Declaration) → length w.made + structures_of decl ≤ 200 → Turn o w v decl → Standing (map outer w.made) w.within → Standing (map outer v.made) v.within
 turn_stands o w v _ few (inside decl none i) h = inside_stands o decl w v i h
 turn_stands o w v _ few (data_set s new placed once e) h =
     let d = drafted (next_structure w.made) (data_set_kind s.restart) s.name w.within in
@@ -110,7 +110,7 @@ turn_stands o w v _ few (data_set s new placed once e) h =
     let last : slice_get (os ++ d ∷ []) (next_structure w.made - 1) ≡ Some d = ap (λ (k : ℕ). slice_get (os ++ d ∷ []) k) at ∙ got_last os d in
     let made : map outer (w.made ++ d ∷ []) ≡ os ++ d ∷ [] = map-append outer w.made (d ∷ []) in
     let here : Standing (os ++ d ∷ []) (next_structure w.made) = record { all = one_more os w.within d h refl n; around = inr (record { to = d; at = last; from = omega (arith, n); kind = kind_is s.restart }) } in
-    subst (λ (x : Work). Standing (map outer x.made) x.within) (sym e) (subst (λ (l : List Draft). Standing l (next_structure w.made)) (sym made) here)
+    subst (λ (x : Compilation). Standing (map outer x.made) x.within) (sym e) (subst (λ (l : List Draft). Standing l (next_structure w.made)) (sym made) here)
 turn_stands o w v _ few (a_set s d p new of placed read key e) h =
     let t = set_draft w s d p in
     let os = map outer w.made in
@@ -118,13 +118,13 @@ turn_stands o w v _ few (a_set s d p new of placed read key e) h =
     let n : next_structure w.made ≡ length os + 1 = omega (arith, few, size) in
     let made : map outer (w.made ++ t ∷ []) ≡ os ++ outer t ∷ [] = map-append outer w.made (t ∷ []) in
     let here : Standing (os ++ outer t ∷ []) w.within = record { all = one_more os w.within (outer t) h refl n; around = ref_more os (outer t ∷ []) w.within h.around } in
-    subst (λ (x : Work). Standing (map outer x.made) x.within) (sym e) (subst (λ (l : List Draft). Standing l w.within) (sym made) here)
+    subst (λ (x : Compilation). Standing (map outer x.made) x.within) (sym e) (subst (λ (l : List Draft). Standing l w.within) (sym made) here)
 
-steps_stand : (o : List Draft) (ds : List Declaration) (w v : Work) → length w.made + structures_in ds ≤ 200 → Standing (map outer w.made) w.within → steps declared_at o w ds ≡ Ok v → Standing (map outer v.made) v.within
+steps_stand : (o : List Draft) (ds : List Declaration) (w v : Compilation) → length w.made + structures_in ds ≤ 200 → Standing (map outer w.made) w.within → steps declared_at o w ds ≡ Ok v → Standing (map outer v.made) v.within
 unfolding steps
-steps_stand o [] w v few h k = subst (λ (x : Work). Standing (map outer x.made) x.within) (ok_same w v k) h
+steps_stand o [] w v few h k = subst (λ (x : Compilation). Standing (map outer x.made) x.within) (ok_same w v k) h
 steps_stand o (d ∷ ds) w v few h k =
-    let a = bind_ok {A = Work} {B = Work} (declared_at o w d) _ v k in
+    let a = bind_ok {A = Compilation} {B = Compilation} (declared_at o w d) _ v k in
     let t = turn_of o w a.0 d a.1 in
     let size = grown o w a.0 d t in
     steps_stand o ds a.0 v (omega (arith, few, size)) (turn_stands o w a.0 d (omega (arith, few)) t h) a.2
@@ -145,6 +145,6 @@ all_earlier : (made ds : List Draft) → AllByRecursion (Stand (map outer made))
 all_earlier made [] h = refl
 all_earlier made (d ∷ ds) h = and_from _ _ (earlier made d h.0.0 h.0.1) (all_earlier made ds h.1)
 
-pub stand_earlier : (o : List Draft) (ds : List Declaration) (w : Work) → structures_in ds ≤ 200 → steps declared_at o nothing_yet ds ≡ Ok w → list_all (is_within_earlier (map shape_in w.made)) (map shape_in w.made) ≡ true
+pub stand_earlier : (o : List Draft) (ds : List Declaration) (w : Compilation) → structures_in ds ≤ 200 → steps declared_at o nothing_yet ds ≡ Ok w → list_all (is_within_earlier (map shape_in w.made)) (map shape_in w.made) ≡ true
 stand_earlier o ds w few h =
     all_earlier w.made w.made (steps_stand o ds nothing_yet w (omega (arith, few)) (record { all = tt; around = inl refl }) h).all

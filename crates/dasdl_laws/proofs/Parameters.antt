@@ -13,7 +13,7 @@ use Rattle.dasdl_parse.specs.Sets.{or_else}
 use Rattle.dasdl_parse.specs.Parameters.{no_pairs, no_audit_pairs}
 use Rattle.dasdl_parse.specs.declared.schema.Schema.{Schema}
 use Rattle.dasdl_parse.specs.declared.schema.Parameters.{Parameters}
-use Rattle.dasdl_parse.specs.declared.parameters.Pairs.{Pairs}
+use Rattle.dasdl_parse.specs.declared.parameters.ParameterPairs.{ParameterPairs}
 use Rattle.dasdl_parse.specs.declared.parameters.AuditPairs.{AuditPairs}
 use Rattle.dms_tokens.specs.declared.token.Token.{Token}
 use Rattle.dms_tokens.specs.declared.token.Lexeme.{Lexeme}
@@ -36,7 +36,7 @@ abbrev IsSaid : ℕ → ℕ → Option ℕ → Type 0
 IsSaid low high None = Unit {0}
 IsSaid low high (Some n) = (low ≤ n) × (n ≤ high)
 
-record Paired (p : Pairs) : Type 0 where
+record Paired (p : ParameterPairs) : Type 0 where
   sync : IsSaid 1 10000 p.syncpoint
   control : IsSaid 1 10000 p.controlpoint
   buffers : IsSaid 8 4096 p.buffers
@@ -45,12 +45,12 @@ record AuditPaired (p : AuditPairs) : Type 0 where
   blocks : IsSaid 8 512 p.blocks
   files : IsSaid 2 9999 p.files
 
-one_pair : (s t : Pairs) (xs : List Token) → IsPair s t xs → Paired s → Paired t
+one_pair : (s t : ParameterPairs) (xs : List Token) → IsPair s t xs → Paired s → Paired t
 one_pair _ _ _ (says_syncpoint c b n low high) h = record { sync = (low, high); control = h.control; buffers = h.buffers }
 one_pair _ _ _ (says_controlpoint s b n low high) h = record { sync = h.sync; control = (low, high); buffers = h.buffers }
 one_pair _ _ _ (says_buffers s c n low high) h = record { sync = h.sync; control = h.control; buffers = (low, high) }
 
-all_pairs : (t : Pairs) (xs : List Token) → ArePairs no_pairs IsPair t xs → Paired t
+all_pairs : (t : ParameterPairs) (xs : List Token) → ArePairs no_pairs IsPair t xs → Paired t
 all_pairs _ _ (first_pair t xs p) = one_pair no_pairs t xs p (record { sync = tt; control = tt; buffers = tt })
 all_pairs _ _ (next_pair s t xs ys l p) = one_pair s t ys p (all_pairs s xs l)
 
@@ -62,7 +62,7 @@ all_audit_pairs : (t : AuditPairs) (xs : List Token) → ArePairs no_audit_pairs
 all_audit_pairs _ _ (first_pair t xs p) = one_audit_pair no_audit_pairs t xs p (record { blocks = tt; files = tt })
 all_audit_pairs _ _ (next_pair s t xs ys l p) = one_audit_pair s t ys p (all_audit_pairs s xs l)
 
-said_pairs : (said : Pairs) (xs : List Token) → AreParameters said xs → Paired said
+said_pairs : (said : ParameterPairs) (xs : List Token) → AreParameters said xs → Paired said
 said_pairs _ _ (parameters said xs l) = all_pairs said xs l
 
 said_audit_pairs : (said : AuditPairs) (xs : List Token) → IsTrail said xs → AuditPaired said

@@ -92,8 +92,8 @@ one_group n m gs g h named first count some =
     }
 
 -- no item of a group is a link
-abbrev pub Plain : List Member → ItemGroup → Type 0
-Plain is g = list_all is_no_link (items_in_group is g) ≡ true
+abbrev pub HasNoLinks : List Member → ItemGroup → Type 0
+HasNoLinks is g = list_all is_no_link (items_in_group is g) ≡ true
 
 same_items : (is more : List Member) (g : ItemGroup) → Within (length is) g → items_in_group (is ++ more) g ≡ items_in_group is g
 same_items is more g h =
@@ -102,17 +102,17 @@ same_items is more g h =
     ap (λ (l : List Member). take g.count l) (drop-append-le (g.first - 1) is more (omega (arith, from, to)))
     ∙ take-append-le g.count (drop (g.first - 1) is) more (omega (arith, from, to, length-drop (g.first - 1) is))
 
-plain_more : (is more : List Member) (gs : List ItemGroup) → AllByRecursion (Within (length is)) gs → AllByRecursion (Plain is) gs → AllByRecursion (Plain (is ++ more)) gs
+plain_more : (is more : List Member) (gs : List ItemGroup) → AllByRecursion (Within (length is)) gs → AllByRecursion (HasNoLinks is) gs → AllByRecursion (HasNoLinks (is ++ more)) gs
 plain_more is more [] h p = tt
 plain_more is more (g ∷ gs) h p = (ap (list_all is_no_link) (same_items is more g h.0) ∙ p.0, plain_more is more gs h.1 p.1)
 
-plain_new : (is new : List Member) (g : ItemGroup) → g.first ≡ length is + 1 → g.count ≡ length new → list_all is_no_link new ≡ true → Plain (is ++ new) g
+plain_new : (is new : List Member) (g : ItemGroup) → g.first ≡ length is + 1 → g.count ≡ length new → list_all is_no_link new ≡ true → HasNoLinks (is ++ new) g
 plain_new is new g first count p =
     ap (λ (l : List Member). list_all is_no_link (take g.count l)) (drop_at is new (g.first - 1) (omega (arith, first)))
     ∙ ap (list_all is_no_link) (take_all g.count new (omega (arith, count)))
     ∙ p
 
-pub groups_sound : (is : List Member) (gs : List ItemGroup) → AllByRecursion (Within (length is)) gs → AllByRecursion (Plain is) gs → list_all (is_group_sound is) gs ≡ true
+pub groups_sound : (is : List Member) (gs : List ItemGroup) → AllByRecursion (Within (length is)) gs → AllByRecursion (HasNoLinks is) gs → list_all (is_group_sound is) gs ≡ true
 unfolding is_group_sound
 groups_sound is [] h p = refl
 groups_sound is (g ∷ gs) h p = and_from _ _ (and_from _ _ (and_from _ _ (and_from _ _ (and_from _ _ h.0.0 (le-leb 1 g.first h.0.1)) (le-leb 1 g.count h.0.2)) (le-leb _ _ h.0.3)) p.0) (groups_sound is gs h.1 p.1)
@@ -122,15 +122,15 @@ groups_sound is (g ∷ gs) h p = and_from _ _ (and_from _ _ (and_from _ _ (and_f
 pub record Sofar (o : List Draft) (d : Draft) : Type 0 where
   pub base : Base o d
   pub grouped : Grouped (length d.items) d.groups
-  pub plain : AllByRecursion (Plain d.items) d.groups
+  pub plain : AllByRecursion (HasNoLinks d.items) d.groups
 
 pub sofar_adds : (o : List Draft) (d t : Draft) → Adds o d t → Sofar o d → Sofar o t
 sofar_adds o d t a h =
     let g = grown o d t a in
     let n = g.0 in
-    record { base = base_adds o d t a h.base; grouped = subst (Grouped (length t.items)) (sym g.1) (more_items (length d.items) (length t.items) d.groups (omega (arith, n)) h.grouped); plain = subst (λ (x : Draft). AllByRecursion (Plain x.items) x.groups) a.is (plain_more d.items (a.one ∷ []) d.groups h.grouped.within h.plain) }
+    record { base = base_adds o d t a h.base; grouped = subst (Grouped (length t.items)) (sym g.1) (more_items (length d.items) (length t.items) d.groups (omega (arith, n)) h.grouped); plain = subst (λ (x : Draft). AllByRecursion (HasNoLinks x.items) x.groups) a.is (plain_more d.items (a.one ∷ []) d.groups h.grouped.within h.plain) }
 
-record Run (o : List Draft) (d t : Draft) (n : ℕ) : Type 0 where
+record ItemsAdded (o : List Draft) (d t : Draft) (n : ℕ) : Type 0 where
   base : Base o t
   new : List Member
   made : t.items ≡ d.items ++ new
@@ -138,7 +138,7 @@ record Run (o : List Draft) (d t : Draft) (n : ℕ) : Type 0 where
   plain : list_all is_no_link new ≡ true
   groups : t.groups ≡ d.groups
 
-items_run : (o : List Draft) (d t : Draft) (is : List ItemDecl) → AllByRecursion IsWritten is → Base o d → steps item_at o d is ≡ Ok t → Run o d t (length is)
+items_run : (o : List Draft) (d t : Draft) (is : List ItemDecl) → AllByRecursion IsWritten is → Base o d → steps item_at o d is ≡ Ok t → ItemsAdded o d t (length is)
 unfolding steps
 items_run o d t [] w b h =
     let e = ok_same d t h in
@@ -164,8 +164,8 @@ group_adds o d t g named w some room h e =
     let k = one_group (length d.items) (length g.items) d.groups new h.grouped named (omega (arith, room)) (omega (arith, room)) some in
     let size = r.size in
     let n : length t.items ≡ length d.items + length g.items = ap length r.made ∙ omega (arith, size, length-append d.items r.new) in
-    let plain : AllByRecursion (Plain (d.items ++ r.new)) (d.groups ++ new ∷ []) = group_push (Plain (d.items ++ r.new)) d.groups new (plain_more d.items r.new d.groups h.grouped.within h.plain) (plain_new d.items r.new new (omega (arith, room)) (omega (arith, room, size)) r.plain) in
-    (record { base = r.base; grouped = subst (λ (m : ℕ). Grouped m t.groups) (sym n) (subst (Grouped (length d.items + length g.items)) (sym r.groups) k); plain = subst (λ (l : List Member). AllByRecursion (Plain l) t.groups) (sym r.made) (subst (AllByRecursion (Plain (d.items ++ r.new))) (sym r.groups) plain) }, n)
+    let plain : AllByRecursion (HasNoLinks (d.items ++ r.new)) (d.groups ++ new ∷ []) = group_push (HasNoLinks (d.items ++ r.new)) d.groups new (plain_more d.items r.new d.groups h.grouped.within h.plain) (plain_new d.items r.new new (omega (arith, room)) (omega (arith, room, size)) r.plain) in
+    (record { base = r.base; grouped = subst (λ (m : ℕ). Grouped m t.groups) (sym n) (subst (Grouped (length d.items + length g.items)) (sym r.groups) k); plain = subst (λ (l : List Member). AllByRecursion (HasNoLinks l) t.groups) (sym r.made) (subst (AllByRecursion (HasNoLinks (d.items ++ r.new))) (sym r.groups) plain) }, n)
 
 -- ---- its end
 

@@ -19,8 +19,8 @@ use Rattle.dasdl_parse.specs.declared.declarations.SetDecl.{SetDecl}
 use Rattle.dasdl_phrases.specs.declared.key_parts.KeyDecl.{KeyDecl}
 use Rattle.dasdl_compile.specs.declared.fault.CompileFault.{CompileFault}
 use Rattle.dasdl_compile.specs.declared.draft.Draft.{Draft}
-use Rattle.dasdl_compile.specs.declared.sets.SetOptions.{SetOptions}
-use Rattle.dasdl_compile.specs.declared.work.Work.{Work}
+use Rattle.dasdl_compile.specs.declared.sets.WhereAndKey.{WhereAndKey}
+use Rattle.dasdl_compile.specs.declared.work.Compilation.{Compilation}
 use Rattle.dasdl_compile.specs.Answers.{Judged, ◌>>=◌}
 use Rattle.dasdl_compile.specs.Compile.{shape_in}
 use Rattle.dasdl_compile.specs.Conditions.{condition}
@@ -46,21 +46,21 @@ use Rattle.dasdl_laws.proofs.Written.{IsPlainCondition}
 
 -- ---- KEY and WHERE
 
-read_by : (b : Bool) (d : Draft) (s : SetDecl) (p : SetOptions)
+read_by : (b : Bool) (d : Draft) (s : SetDecl) (p : WhereAndKey)
     → cond b (key_of d s >>= λ ps. where_of d s >>= λ c. Ok (record { cond = c; parts = ps })) (where_of d s >>= λ c. key_of d s >>= λ ps. Ok (record { cond = c; parts = ps })) ≡ Ok p
     → (key_of d s ≡ Ok p.parts) × (where_of d s ≡ Ok p.cond)
 read_by true d s p h =
-    let a = bind_ok {A = List KeyPart} {B = SetOptions} (key_of d s) _ p h in
-    let b = bind_ok {A = Tree} {B = SetOptions} (where_of d s) _ p a.2 in
-    let e = ok_same {A = SetOptions} (record { cond = b.0; parts = a.0 }) p b.2 in
-    (a.1 ∙ ap (λ (x : SetOptions). Ok x.parts) e, b.1 ∙ ap (λ (x : SetOptions). Ok x.cond) e)
+    let a = bind_ok {A = List KeyPart} {B = WhereAndKey} (key_of d s) _ p h in
+    let b = bind_ok {A = Tree} {B = WhereAndKey} (where_of d s) _ p a.2 in
+    let e = ok_same {A = WhereAndKey} (record { cond = b.0; parts = a.0 }) p b.2 in
+    (a.1 ∙ ap (λ (x : WhereAndKey). Ok x.parts) e, b.1 ∙ ap (λ (x : WhereAndKey). Ok x.cond) e)
 read_by false d s p h =
-    let b = bind_ok {A = Tree} {B = SetOptions} (where_of d s) _ p h in
-    let a = bind_ok {A = List KeyPart} {B = SetOptions} (key_of d s) _ p b.2 in
-    let e = ok_same {A = SetOptions} (record { cond = b.0; parts = a.0 }) p a.2 in
-    (a.1 ∙ ap (λ (x : SetOptions). Ok x.parts) e, b.1 ∙ ap (λ (x : SetOptions). Ok x.cond) e)
+    let b = bind_ok {A = Tree} {B = WhereAndKey} (where_of d s) _ p h in
+    let a = bind_ok {A = List KeyPart} {B = WhereAndKey} (key_of d s) _ p b.2 in
+    let e = ok_same {A = WhereAndKey} (record { cond = b.0; parts = a.0 }) p a.2 in
+    (a.1 ∙ ap (λ (x : WhereAndKey). Ok x.parts) e, b.1 ∙ ap (λ (x : WhereAndKey). Ok x.cond) e)
 
-options_read : (d : Draft) (s : SetDecl) (p : SetOptions) → options_at d s ≡ Ok p → (key_of d s ≡ Ok p.parts) × (where_of d s ≡ Ok p.cond)
+options_read : (d : Draft) (s : SetDecl) (p : WhereAndKey) → options_at d s ≡ Ok p → (key_of d s ≡ Ok p.parts) × (where_of d s ≡ Ok p.cond)
 unfolding options_at
 options_read d s p h = read_by (key_is_first s.cond s.key) d s p h
 
@@ -115,7 +115,7 @@ place_by : (q : Bool) (i j : ℕ) (b c : Bool) → (j == i) ≡ q → (q || (b &
 place_by true i j b c e h = or_left (i == j) _ (eq-eqb i j (sym (eqb-true j i e)))
 place_by false i j b c e h = or_right (i == j) _ (and_parts (b && j == 0) c h).0
 
-placed_well : (w : Work) (s : SetDecl) (d : Draft) → is_misplaced w s d ≡ false → ((w.within == d.owner) || (set_kind s == 5 && d.owner == 0)) ≡ true
+placed_well : (w : Compilation) (s : SetDecl) (d : Draft) → is_misplaced w s d ≡ false → ((w.within == d.owner) || (set_kind s == 5 && d.owner == 0)) ≡ true
 unfolding is_misplaced
 placed_well w s d h = place_by (d.owner == w.within) w.within d.owner (set_kind s == 5) (not (kind_made w.within w.made == 2)) refl (not-false _ h)
 
@@ -134,7 +134,7 @@ groups_within : (o : List Draft) (d : Draft) → Final o d → AllByRecursion (W
 groups_within o d (a_data_set_made h) = h.ended.sofar.grouped.within
 groups_within o d (a_set_made h) = subst (λ (x : Draft). AllByRecursion (Within (length x.items)) x.groups) h.is tt
 
-set_shape : (made : List Draft) (w : Work) (s : SetDecl) (of : Draft) (p : SetOptions) (f : FoundAs made of) → length f.is.items ≤ 60 → AllByRecursion (Within (length f.is.items)) f.is.groups → is_misplaced w s of ≡ false → options_at of s ≡ Ok p → lacks_key s ≡ false → IsPlainCondition s.cond → IsSomeKey s.key → is_set_together (map shape_in made) (shape_in (set_draft w s of p)) ≡ true
+set_shape : (made : List Draft) (w : Compilation) (s : SetDecl) (of : Draft) (p : WhereAndKey) (f : FoundAs made of) → length f.is.items ≤ 60 → AllByRecursion (Within (length f.is.items)) f.is.groups → is_misplaced w s of ≡ false → options_at of s ≡ Ok p → lacks_key s ≡ false → IsPlainCondition s.cond → IsSomeKey s.key → is_set_together (map shape_in made) (shape_in (set_draft w s of p)) ≡ true
 unfolding is_set_together kind_of owner_of items_at is_set_placed
 set_shape made w s of p f few groups placed read lacks plain some =
     let items : map seen_item of.items ≡ map seen_item f.is.items = ap (λ (x : Draft). x.items) f.alike in

@@ -23,8 +23,8 @@ use Rattle.dasdl_grammar.specs.SchemaSpelling.Declares.{no_declaration, then_par
 use Rattle.dasdl_grammar.specs.SchemaSpelling.Members.{a_set, a_data_set, an_item, a_link, a_group, a_first, a_further}
 use Rattle.dasdl_grammar.proofs.SchemaComplete.{structures-append}
 use Rattle.dasdl_compile.specs.declared.draft.Draft.{Draft}
-use Rattle.dasdl_compile.specs.declared.sets.SetOptions.{SetOptions}
-use Rattle.dasdl_compile.specs.declared.work.Work.{Work}
+use Rattle.dasdl_compile.specs.declared.sets.WhereAndKey.{WhereAndKey}
+use Rattle.dasdl_compile.specs.declared.work.Compilation.{Compilation}
 use Rattle.dasdl_compile.specs.Answers.{steps}
 use Rattle.dasdl_compile.specs.Compile.{declared_at, nothing_yet}
 use Rattle.dasdl_compile.specs.Finding.{drafted, next_structure, data_set_named}
@@ -58,10 +58,10 @@ pub record DataSetMade (o : List Draft) (d : Draft) : Type 0 where
   pub ended : Ended o d
 
 pub record SetMade (o : List Draft) (d : Draft) : Type 0 where
-  pub work : Work
+  pub work : Compilation
   pub decl : SetDecl
   pub of : Draft
-  pub options : SetOptions
+  pub options : WhereAndKey
   pub found : data_set_named decl.of o ≡ Some of
   pub placed : is_misplaced work decl of ≡ false
   pub read : options_at of decl ≡ Ok options
@@ -74,7 +74,7 @@ pub data Final (o : List Draft) (d : Draft) : Type 0 where
   a_set_made : SetMade o d → Final o d
 
 -- structures were added, and no more was done
-pub record Adding (o : List Draft) (w v : Work) : Type 0 where
+pub record Adding (o : List Draft) (w v : Compilation) : Type 0 where
   pub new : List Draft
   pub made : v.made ≡ w.made ++ new
   pub within : v.within ≡ w.within
@@ -83,7 +83,7 @@ pub record Adding (o : List Draft) (w v : Work) : Type 0 where
   pub closed : AllByRecursion (HasIn new) new
 
 -- the open data set has more items, and structures were added
-pub record Grows (o : List Draft) (pre : List Draft) (d : Draft) (post : List Draft) (w v : Work) (n : ℕ) : Type 0 where
+pub record Grows (o : List Draft) (pre : List Draft) (d : Draft) (post : List Draft) (w v : Compilation) (n : ℕ) : Type 0 where
   pub now : Draft
   pub new : List Draft
   pub made : v.made ≡ pre ++ now ∷ (post ++ new)
@@ -103,7 +103,7 @@ no_data_set true true = refl
 no_data_set true false = refl
 no_data_set false b = refl
 
-adding_grows : (o pre : List Draft) (d : Draft) (post : List Draft) (w v : Work) → w.made ≡ pre ++ d ∷ post → Sofar o d → Adding o w v → Grows o pre d post w v 0
+adding_grows : (o pre : List Draft) (d : Draft) (post : List Draft) (w v : Compilation) → w.made ≡ pre ++ d ∷ post → Sofar o d → Adding o w v → Grows o pre d post w v 0
 adding_grows o pre d post w v e h a =
     record { now = d; new = a.new; made = a.made ∙ ap (λ (x : List Draft). x ++ a.new) e ∙ append_assoc pre (d ∷ post) a.new; within = a.within; outside = refl; sofar = h; items = omega arith; final = a.final; member = inr a.some; closed = a.closed }
 
@@ -113,19 +113,19 @@ behind : {A : Type 0} (pre : List A) (i : A) (is : List A) → slice_get (pre ++
 behind [] i is = refl
 behind (x ∷ xs) i is = behind xs i is
 
-at_open : (pre : List Draft) (d : Draft) (post : List Draft) (w : Work) → w.made ≡ pre ++ d ∷ post → w.within ≡ length pre + 1 → slice_get w.made (w.within - 1) ≡ Some d
+at_open : (pre : List Draft) (d : Draft) (post : List Draft) (w : Compilation) → w.made ≡ pre ++ d ∷ post → w.within ≡ length pre + 1 → slice_get w.made (w.within - 1) ≡ Some d
 at_open pre d post w e at =
     let k : w.within - 1 ≡ length pre = omega (arith, at) in
     ap (λ (x : List Draft). slice_get x (w.within - 1)) e ∙ ap (λ (n : ℕ). slice_get (pre ++ d ∷ post) n) k ∙ behind pre d post
 
 -- what a member makes of it
-record Makes (o : List Draft) (decl : Declaration) (pre : List Draft) (d : Draft) (post : List Draft) (w v : Work) : Type 0 where
+record Makes (o : List Draft) (decl : Declaration) (pre : List Draft) (d : Draft) (post : List Draft) (w v : Compilation) : Type 0 where
   now : Draft
   is : member_at o decl d ≡ Ok now
   made : v.made ≡ pre ++ now ∷ post
   within : v.within ≡ open_after decl d.owner w.within
 
-makes : (o : List Draft) (decl : Declaration) (pre : List Draft) (d : Draft) (post : List Draft) (w v : Work) → w.made ≡ pre ++ d ∷ post → w.within ≡ length pre + 1 → Inside o decl w v → Makes o decl pre d post w v
+makes : (o : List Draft) (decl : Declaration) (pre : List Draft) (d : Draft) (post : List Draft) (w v : Compilation) → w.made ≡ pre ++ d ∷ post → w.within ≡ length pre + 1 → Inside o decl w v → Makes o decl pre d post w v
 makes o decl pre d post w v e at (untouched none same) = let is = at_open pre d post w e at in absurd (cc)
 makes o decl pre d post w v e at (changed d0 t found h same) =
     let is = at_open pre d post w e at in
@@ -134,11 +134,11 @@ makes o decl pre d post w v e at (changed d0 t found h same) =
     record {
       now = t;
       is = subst (λ (x : Draft). member_at o decl x ≡ Ok t) one h;
-      made = ap (λ (x : Work). x.made) same ∙ ap (λ (x : List Draft). set x (w.within - 1) t) e ∙ set_at pre d post t (w.within - 1) k;
-      within = ap (λ (x : Work). x.within) same ∙ ap (λ (x : Draft). open_after decl x.owner w.within) one;
+      made = ap (λ (x : Compilation). x.made) same ∙ ap (λ (x : List Draft). set x (w.within - 1) t) e ∙ set_at pre d post t (w.within - 1) k;
+      within = ap (λ (x : Compilation). x.within) same ∙ ap (λ (x : Draft). open_after decl x.owner w.within) one;
     }
 
-inside_of : (o : List Draft) (w v : Work) (decl : Declaration) → Turn o w v decl → structures_of decl ≡ 0 → Inside o decl w v
+inside_of : (o : List Draft) (w v : Compilation) (decl : Declaration) → Turn o w v decl → structures_of decl ≡ 0 → Inside o decl w v
 inside_of o w v _ (inside decl none i) h = i
 inside_of o w v _ (data_set s new placed once e) h = absurd (omega (arith, h))
 inside_of o w v _ (set_added s d p new of placed read key e) h = absurd (omega (arith, h))
@@ -146,21 +146,21 @@ inside_of o w v _ (set_added s d p new of placed read key e) h = absurd (omega (
 nothing_after : (pre : List Draft) (t : Draft) (post made : List Draft) → made ≡ pre ++ t ∷ post → made ≡ pre ++ t ∷ (post ++ [])
 nothing_after pre t post made e = e ∙ ap (λ (x : List Draft). pre ++ t ∷ x) (sym (append-nil post))
 
-item_grows : (o pre : List Draft) (d : Draft) (post : List Draft) (w v : Work) (i : ItemDecl) → IsWritten i → w.made ≡ pre ++ d ∷ post → w.within ≡ length pre + 1 → Sofar o d → steps declared_at o w (Item i ∷ []) ≡ Ok v → Grows o pre d post w v 1
+item_grows : (o pre : List Draft) (d : Draft) (post : List Draft) (w v : Compilation) (i : ItemDecl) → IsWritten i → w.made ≡ pre ++ d ∷ post → w.within ≡ length pre + 1 → Sofar o d → steps declared_at o w (Item i ∷ []) ≡ Ok v → Grows o pre d post w v 1
 unfolding member_at
 item_grows o pre d post w v i z e at h k =
     let m = makes o (Item i) pre d post w v e at (inside_of o w v (Item i) (turn_of o w v (Item i) (one_step declared_at o w (Item i) v k)) refl) in
     let a = item_adds o d m.now i z m.is in
     record { now = m.now; new = []; made = nothing_after pre m.now post v.made m.made; within = m.within; outside = member_kept o (Item i) d m.now m.is; sofar = sofar_adds o d m.now a h; items = (grown o d m.now a).0; final = tt; member = inl (some_items (length d.items) 1 (length m.now.items) (grown o d m.now a).0 (omega arith)); closed = tt }
 
-link_grows : (o pre : List Draft) (d : Draft) (post : List Draft) (w v : Work) (l : LinkDecl) → is_name l.name ≡ true → w.made ≡ pre ++ d ∷ post → w.within ≡ length pre + 1 → Sofar o d → steps declared_at o w (Link l ∷ []) ≡ Ok v → Grows o pre d post w v 1
+link_grows : (o pre : List Draft) (d : Draft) (post : List Draft) (w v : Compilation) (l : LinkDecl) → is_name l.name ≡ true → w.made ≡ pre ++ d ∷ post → w.within ≡ length pre + 1 → Sofar o d → steps declared_at o w (Link l ∷ []) ≡ Ok v → Grows o pre d post w v 1
 unfolding member_at
 link_grows o pre d post w v l z e at h k =
     let m = makes o (Link l) pre d post w v e at (inside_of o w v (Link l) (turn_of o w v (Link l) (one_step declared_at o w (Link l) v k)) refl) in
     let a = link_adds o d m.now l z m.is in
     record { now = m.now; new = []; made = nothing_after pre m.now post v.made m.made; within = m.within; outside = member_kept o (Link l) d m.now m.is; sofar = sofar_adds o d m.now a h; items = (grown o d m.now a).0; final = tt; member = inl (some_items (length d.items) 1 (length m.now.items) (grown o d m.now a).0 (omega arith)); closed = tt }
 
-group_grows : (o pre : List Draft) (d : Draft) (post : List Draft) (w v : Work) (g : GroupDecl) → is_name g.name ≡ true → AllByRecursion IsWritten g.items × (1 ≤ length g.items) → length d.items + length g.items ≤ 60 → w.made ≡ pre ++ d ∷ post → w.within ≡ length pre + 1 → Sofar o d → steps declared_at o w (Group g ∷ []) ≡ Ok v → Grows o pre d post w v (length g.items)
+group_grows : (o pre : List Draft) (d : Draft) (post : List Draft) (w v : Compilation) (g : GroupDecl) → is_name g.name ≡ true → AllByRecursion IsWritten g.items × (1 ≤ length g.items) → length d.items + length g.items ≤ 60 → w.made ≡ pre ++ d ∷ post → w.within ≡ length pre + 1 → Sofar o d → steps declared_at o w (Group g ∷ []) ≡ Ok v → Grows o pre d post w v (length g.items)
 unfolding member_at
 group_grows o pre d post w v g named z room e at h k =
     let m = makes o (Group g) pre d post w v e at (inside_of o w v (Group g) (turn_of o w v (Group g) (one_step declared_at o w (Group g) v k)) refl) in
@@ -169,19 +169,19 @@ group_grows o pre d post w v g named z room e at h k =
 
 -- ---- sets
 
-set_adding_by : (o : List Draft) (w v : Work) (decl : Declaration) (s : SetDecl) → IsWrittenSet s → decl ≡ SetOf s → Turn o w v decl → Adding o w v
+set_adding_by : (o : List Draft) (w v : Compilation) (decl : Declaration) (s : SetDecl) → IsWrittenSet s → decl ≡ SetOf s → Turn o w v decl → Adding o w v
 set_adding_by o w v _ s z same (inside decl none i) = let one : structures_of (SetOf s) ≡ 0 = subst (λ (x : Declaration). structures_of x ≡ 0) same none in absurd (omega (arith, one))
 set_adding_by o w v _ s z same (data_set h new placed once e) = absurd (cc)
 set_adding_by o w v _ s z same (set_added t d p new of placed read key e) =
     let one : s ≡ t = cc in
-    record { new = set_draft w t d p ∷ []; made = ap (λ (x : Work). x.made) e; within = ap (λ (x : Work). x.within) e; final = (a_set_made (record { work = w; decl = t; of = d; options = p; found = of; placed = placed; read = read; key = key; written = subst IsWrittenSet one z; is = refl }), tt); some = or_left (w.within == w.within) false (eq-eqb w.within w.within refl); closed = (inl (no_data_set t.subset (is_some t.cond)), tt) }
+    record { new = set_draft w t d p ∷ []; made = ap (λ (x : Compilation). x.made) e; within = ap (λ (x : Compilation). x.within) e; final = (a_set_made (record { work = w; decl = t; of = d; options = p; found = of; placed = placed; read = read; key = key; written = subst IsWrittenSet one z; is = refl }), tt); some = or_left (w.within == w.within) false (eq-eqb w.within w.within refl); closed = (inl (no_data_set t.subset (is_some t.cond)), tt) }
 
-set_adding : (o : List Draft) (w v : Work) (s : SetDecl) → IsWrittenSet s → steps declared_at o w (SetOf s ∷ []) ≡ Ok v → Adding o w v
+set_adding : (o : List Draft) (w v : Compilation) (s : SetDecl) → IsWrittenSet s → steps declared_at o w (SetOf s ∷ []) ≡ Ok v → Adding o w v
 set_adding o w v s z k = set_adding_by o w v (SetOf s) s z refl (turn_of o w v (SetOf s) (one_step declared_at o w (SetOf s) v k))
 
 -- ---- data sets
 
-pub opened_by : (o : List Draft) (w v : Work) (decl : Declaration) (s : DataSetDecl) → decl ≡ DataSet s → Turn o w v decl → v ≡ record { made = w.made ++ drafted (next_structure w.made) (data_set_kind s.restart) s.name w.within ∷ []; within = next_structure w.made }
+pub opened_by : (o : List Draft) (w v : Compilation) (decl : Declaration) (s : DataSetDecl) → decl ≡ DataSet s → Turn o w v decl → v ≡ record { made = w.made ++ drafted (next_structure w.made) (data_set_kind s.restart) s.name w.within ∷ []; within = next_structure w.made }
 opened_by o w v _ s same (inside decl none i) = let one : structures_of (DataSet s) ≡ 0 = subst (λ (x : Declaration). structures_of x ≡ 0) same none in absurd (omega (arith, one))
 opened_by o w v _ s same (data_set h new placed once e) =
     let one : h ≡ s = cc in
@@ -190,7 +190,7 @@ opened_by o w v _ s same (set_added t d p new of placed read key e) = absurd (cc
 
 -- what the members of a data set do, wherever it stands
 abbrev Grow : List Draft → List Declaration → ℕ → Type 0
-Grow o ds n = (pre : List Draft) (d : Draft) (post : List Draft) (w v : Work) → w.made ≡ pre ++ d ∷ post → w.within ≡ length pre + 1 → Sofar o d → length d.items + n ≤ 60 → length w.made + structures_in ds ≤ 200 → steps declared_at o w ds ≡ Ok v → Grows o pre d post w v n
+Grow o ds n = (pre : List Draft) (d : Draft) (post : List Draft) (w v : Compilation) → w.made ≡ pre ++ d ∷ post → w.within ≡ length pre + 1 → Sofar o d → length d.items + n ≤ 60 → length w.made + structures_in ds ≤ 200 → steps declared_at o w ds ≡ Ok v → Grows o pre d post w v n
 
 no_members : (o : List Draft) (number kind : ℕ) (name : List ℕ) (owner : ℕ) → Sofar o (drafted number kind name owner)
 unfolding members_differ
@@ -200,7 +200,7 @@ first_in : (d : Draft) (new : List Draft) (within n : ℕ) → length d.items �
 first_in d new within n e same (inl h) = inl (omega (arith, e, h))
 first_in d new within n e same (inr h) = inr (any_right (owned d.number) (d ∷ []) new (subst (λ (k : ℕ). list_any (owned k) new ≡ true) same h))
 
-ends : (o : List Draft) (head : DataSetDecl) (end : DataSetEnd) (n : ℕ) (w u v x : Work) → is_name head.name ≡ true → n ≤ 60 → IsPlainCondition end.verify × (is_within 1 1000000 end.population ≡ true) → x.within ≡ length w.made + 1 → x.within ≡ next_structure w.made
+ends : (o : List Draft) (head : DataSetDecl) (end : DataSetEnd) (n : ℕ) (w u v x : Compilation) → is_name head.name ≡ true → n ≤ 60 → IsPlainCondition end.verify × (is_within 1 1000000 end.population ≡ true) → x.within ≡ length w.made + 1 → x.within ≡ next_structure w.made
     → Grows o w.made (drafted (next_structure w.made) (data_set_kind head.restart) head.name w.within) [] x u n → declared_at o u (End end) ≡ Ok v → Adding o w v
 unfolding member_at
 ends o head end n w u v x named few z at number g k =
@@ -219,18 +219,18 @@ ends o head end n w u v x named few z at number g k =
       closed = (inr (first_in m.now g.new x.within (length g.now.items) kept same g.member), all_in g.new (m.now ∷ g.new) g.new (λ n e. any_right (owned n) (m.now ∷ []) g.new e) g.closed);
     }
 
-data_set_adding : (o : List Draft) (w v : Work) (head : DataSetDecl) (ds : List Declaration) (end : DataSetEnd) (n : ℕ) → is_name head.name ≡ true → n ≤ 60 → IsPlainCondition end.verify × (is_within 1 1000000 end.population ≡ true) → length w.made + (1 + structures_in ds) ≤ 200 → Grow o ds n → steps declared_at o w (DataSet head ∷ (ds ++ (End end ∷ []))) ≡ Ok v → Adding o w v
+data_set_adding : (o : List Draft) (w v : Compilation) (head : DataSetDecl) (ds : List Declaration) (end : DataSetEnd) (n : ℕ) → is_name head.name ≡ true → n ≤ 60 → IsPlainCondition end.verify × (is_within 1 1000000 end.population ≡ true) → length w.made + (1 + structures_in ds) ≤ 200 → Grow o ds n → steps declared_at o w (DataSet head ∷ (ds ++ (End end ∷ []))) ≡ Ok v → Adding o w v
 unfolding steps
 data_set_adding o w v head ds end n named few z room inner k =
-    let a = bind_ok {A = Work} {B = Work} (declared_at o w (DataSet head)) _ v k in
+    let a = bind_ok {A = Compilation} {B = Compilation} (declared_at o w (DataSet head)) _ v k in
     let e = opened_by o w a.0 (DataSet head) head refl (turn_of o w a.0 (DataSet head) a.1) in
     let b = steps_split declared_at o a.0 ds (End end ∷ []) v a.2 in
     let d = drafted (next_structure w.made) (data_set_kind head.restart) head.name w.within in
-    let made : a.0.made ≡ w.made ++ d ∷ [] = ap (λ (x : Work). x.made) e in
-    let within : a.0.within ≡ length w.made + 1 = ap (λ (x : Work). x.within) e ∙ omega (arith, room) in
+    let made : a.0.made ≡ w.made ++ d ∷ [] = ap (λ (x : Compilation). x.made) e in
+    let within : a.0.within ≡ length w.made + 1 = ap (λ (x : Compilation). x.within) e ∙ omega (arith, room) in
     let size : length a.0.made ≡ length w.made + 1 = ap length made ∙ length-append w.made (d ∷ []) in
     let g = inner w.made d [] a.0 b.0 made within (no_members o (next_structure w.made) (data_set_kind head.restart) head.name w.within) (omega (arith, few)) (omega (arith, size, room)) b.1 in
-    ends o head end n w b.0 v a.0 named few z within (ap (λ (x : Work). x.within) e) g (one_step declared_at o b.0 (End end) v b.2)
+    ends o head end n w b.0 v a.0 named few z within (ap (λ (x : Compilation). x.within) e) g (one_step declared_at o b.0 (End end) v b.2)
 
 -- ---- what stands in a data set, and at the outside
 
@@ -245,7 +245,7 @@ further_in : (a m b within : ℕ) (xs ys : List Draft) → b ≡ a + m → (1 �
 further_in a m b within xs ys e (inl h) = inl (omega (arith, e, h))
 further_in a m b within xs ys e (inr h) = inr (any_left (owned within) xs ys h)
 
-further : (o pre : List Draft) (d : Draft) (post : List Draft) (w u v : Work) (n m : ℕ) (a : Grows o pre d post w u n) → Grows o pre a.now (post ++ a.new) u v m → Grows o pre d post w v (n + m)
+further : (o pre : List Draft) (d : Draft) (post : List Draft) (w u v : Compilation) (n m : ℕ) (a : Grows o pre d post w u n) → Grows o pre a.now (post ++ a.new) u v m → Grows o pre d post w v (n + m)
 further o pre d post w u v n m a b =
     let x = a.items in
     let y = b.items in
@@ -280,7 +280,7 @@ grow _ _ _ _ _ (a_further depth n m ds es us vs x y) o pre d post w v is at h ro
     further o pre d post w b.0 v n m a (grow _ depth m es vs y o pre a.now (post ++ a.new) b.0 v a.made (a.within ∙ at) a.sofar (omega (arith, room, size)) (omega (arith, few, sum, count)) b.2)
 
 -- what stands at the outside
-outside_adding : (k : Many) (depth n : ℕ) (ds : List Declaration) (us : List Lexeme) → Members k depth n ds us → k ≡ Single → depth ≡ 0 → (o : List Draft) (w v : Work) → length w.made + structures_in ds ≤ 200 → steps declared_at o w ds ≡ Ok v → Adding o w v
+outside_adding : (k : Many) (depth n : ℕ) (ds : List Declaration) (us : List Lexeme) → Members k depth n ds us → k ≡ Single → depth ≡ 0 → (o : List Draft) (w v : Compilation) → length w.made + structures_in ds ≤ 200 → steps declared_at o w ds ≡ Ok v → Adding o w v
 outside_adding _ _ _ _ _ (a_set depth l name s vs deep e named z) one none o w v few k = set_adding o w v s (set_written l.place name s vs named z) k
 outside_adding _ _ _ _ _ (a_data_set depth l name head hs n ds us end es deep e named z members low y) one none o w v few k =
     let size : structures_in (DataSet head ∷ (ds ++ (End end ∷ []))) ≡ 1 + structures_in ds = more_structures head ds end in
@@ -292,9 +292,9 @@ outside_adding _ _ _ _ _ (a_first depth n ds us m) one none o w v few k = absurd
 outside_adding _ _ _ _ _ (a_further depth n m ds es us vs x y) one none o w v few k = absurd (cc)
 
 -- each structure of a text is sound by itself, and each data set has a member
-pub all_final : (p : Parameters) (b a : Bool) (ds : List Declaration) (us : List Lexeme) → Declares p b a ds us → (o : List Draft) (v : Work) → structures_in ds ≤ 200 → steps declared_at o nothing_yet ds ≡ Ok v → AllByRecursion (Final o) v.made × AllByRecursion (HasIn v.made) v.made
+pub all_final : (p : Parameters) (b a : Bool) (ds : List Declaration) (us : List Lexeme) → Declares p b a ds us → (o : List Draft) (v : Compilation) → structures_in ds ≤ 200 → steps declared_at o nothing_yet ds ≡ Ok v → AllByRecursion (Final o) v.made × AllByRecursion (HasIn v.made) v.made
 unfolding steps
-all_final _ _ _ _ _ no_declaration o v few k = subst (λ (x : Work). AllByRecursion (Final o) x.made × AllByRecursion (HasIn x.made) x.made) (ok_same nothing_yet v k) (tt, tt)
+all_final _ _ _ _ _ no_declaration o v few k = subst (λ (x : Compilation). AllByRecursion (Final o) x.made × AllByRecursion (HasIn x.made) x.made) (ok_same nothing_yet v k) (tt, tt)
 all_final _ _ _ _ _ (then_parameters p a ds us said vs d q) o v few k = all_final p false a ds us d o v few k
 all_final _ _ _ _ _ (then_audit p b ds us said vs d q) o v few k = all_final p b false ds us d o v few k
 all_final _ _ _ _ _ (then_structure p b a ds us es vs d m) o v few k =

@@ -14,8 +14,8 @@ use Rattle.dasdl_parse.specs.declared.declarations.LinkDecl.{LinkDecl}
 use Rattle.dasdl_parse.specs.declared.declarations.SetDecl.{SetDecl}
 use Rattle.dasdl_grammar.specs.SchemaSpelling.{structures_of}
 use Rattle.dasdl_compile.specs.declared.draft.Draft.{Draft}
-use Rattle.dasdl_compile.specs.declared.sets.SetOptions.{SetOptions}
-use Rattle.dasdl_compile.specs.declared.work.Work.{Work}
+use Rattle.dasdl_compile.specs.declared.sets.WhereAndKey.{WhereAndKey}
+use Rattle.dasdl_compile.specs.declared.work.Compilation.{Compilation}
 use Rattle.dasdl_compile.specs.Compile.{is_misplaced as is_data_set_misplaced, data_set_at, inside_in, inside_at, declared_at}
 use Rattle.dasdl_compile.specs.Conditions.{verified}
 use Rattle.dasdl_compile.specs.Finding.{drafted, next_structure, is_structure, has_restart, data_set_named, is_taken}
@@ -65,27 +65,27 @@ member_kept o (DataSet s) d t h = ap outer (sym (ok_same d t h))
 member_kept o (SetOf s) d t h = ap outer (sym (ok_same d t h))
 
 -- what a member does in the data set that is open
-pub data Inside (o : List Draft) (decl : Declaration) (w v : Work) : Type 0 where
+pub data Inside (o : List Draft) (decl : Declaration) (w v : Compilation) : Type 0 where
   untouched : slice_get w.made (w.within - 1) ≡ None → v ≡ w → Inside o decl w v
   changed : (d t : Draft) → slice_get w.made (w.within - 1) ≡ Some d → member_at o decl d ≡ Ok t → v ≡ record { made = set w.made (w.within - 1) t; within = open_after decl d.owner w.within } → Inside o decl w v
 
-inside_by : (o : List Draft) (decl : Declaration) (w v : Work) (r : Option Draft) → slice_get w.made (w.within - 1) ≡ r → inside_in o decl w r ≡ Ok v → Inside o decl w v
+inside_by : (o : List Draft) (decl : Declaration) (w v : Compilation) (r : Option Draft) → slice_get w.made (w.within - 1) ≡ r → inside_in o decl w r ≡ Ok v → Inside o decl w v
 inside_by o decl w v None e h = untouched e (sym (ok_same w v h))
 inside_by o decl w v (Some d) e h =
     let a = bind_ok (member_at o decl d) _ _ h in
     changed d a.0 e a.1 (sym (ok_same _ v a.2))
 
 -- a declaration adds a structure, or says something of the data set that is open
-pub data Turn (o : List Draft) (w v : Work) : Declaration → Type 0 where
+pub data Turn (o : List Draft) (w v : Compilation) : Declaration → Type 0 where
   inside : (decl : Declaration) → structures_of decl ≡ 0 → Inside o decl w v → Turn o w v decl
   data_set : (s : DataSetDecl) → is_structure s.name w.made ≡ false → is_data_set_misplaced s w ≡ false → s.restart && has_restart w.made ≡ false → v ≡ record { made = w.made ++ drafted (next_structure w.made) (data_set_kind s.restart) s.name w.within ∷ []; within = next_structure w.made } → Turn o w v (DataSet s)
-  a_set : (s : SetDecl) (d : Draft) (p : SetOptions) → is_structure s.name w.made ≡ false → data_set_named s.of o ≡ Some d → is_misplaced w s d ≡ false → options_at d s ≡ Ok p → lacks_key s ≡ false → v ≡ record { made = w.made ++ set_draft w s d p ∷ []; within = w.within } → Turn o w v (SetOf s)
+  a_set : (s : SetDecl) (d : Draft) (p : WhereAndKey) → is_structure s.name w.made ≡ false → data_set_named s.of o ≡ Some d → is_misplaced w s d ≡ false → options_at d s ≡ Ok p → lacks_key s ≡ false → v ≡ record { made = w.made ++ set_draft w s d p ∷ []; within = w.within } → Turn o w v (SetOf s)
 
-inside_turn : (o : List Draft) (decl : Declaration) (w v : Work) → structures_of decl ≡ 0 → inside_at o decl w ≡ Ok v → Turn o w v decl
+inside_turn : (o : List Draft) (decl : Declaration) (w v : Compilation) → structures_of decl ≡ 0 → inside_at o decl w ≡ Ok v → Turn o w v decl
 unfolding inside_at
 inside_turn o decl w v none h = inside decl none (inside_by o decl w v _ refl h)
 
-data_set_turn : (o : List Draft) (s : DataSetDecl) (w v : Work) → data_set_at s w ≡ Ok v → Turn o w v (DataSet s)
+data_set_turn : (o : List Draft) (s : DataSetDecl) (w v : Compilation) → data_set_at s w ≡ Ok v → Turn o w v (DataSet s)
 unfolding data_set_at
 data_set_turn o s w v h =
     let a = skip_ok (is_structure s.name w.made) _ _ _ h in
@@ -93,7 +93,7 @@ data_set_turn o s w v h =
     let c = skip_ok (s.restart && has_restart w.made) _ _ _ b.1 in
     data_set s a.0 b.0 c.0 (sym (ok_same _ v c.1))
 
-set_over_turn : (o : List Draft) (s : SetDecl) (d : Draft) (w v : Work) → is_structure s.name w.made ≡ false → data_set_named s.of o ≡ Some d → set_over s d w ≡ Ok v → Turn o w v (SetOf s)
+set_over_turn : (o : List Draft) (s : SetDecl) (d : Draft) (w v : Compilation) → is_structure s.name w.made ≡ false → data_set_named s.of o ≡ Some d → set_over s d w ≡ Ok v → Turn o w v (SetOf s)
 unfolding set_over
 set_over_turn o s d w v new e h =
     let b = skip_ok (is_misplaced w s d) _ _ _ h in
@@ -101,17 +101,17 @@ set_over_turn o s d w v new e h =
     let k = skip_ok (lacks_key s) _ _ _ c.2 in
     a_set s d c.0 new e b.0 c.1 k.0 (sym (ok_same _ v k.1))
 
-set_in_turn : (o : List Draft) (s : SetDecl) (w v : Work) (r : Option Draft) → is_structure s.name w.made ≡ false → data_set_named s.of o ≡ r → set_in s w r ≡ Ok v → Turn o w v (SetOf s)
+set_in_turn : (o : List Draft) (s : SetDecl) (w v : Compilation) (r : Option Draft) → is_structure s.name w.made ≡ false → data_set_named s.of o ≡ r → set_in s w r ≡ Ok v → Turn o w v (SetOf s)
 set_in_turn o s w v None new e h = absurd (cc)
 set_in_turn o s w v (Some d) new e h = set_over_turn o s d w v new e h
 
-set_turn : (o : List Draft) (s : SetDecl) (w v : Work) → set_at o s w ≡ Ok v → Turn o w v (SetOf s)
+set_turn : (o : List Draft) (s : SetDecl) (w v : Compilation) → set_at o s w ≡ Ok v → Turn o w v (SetOf s)
 unfolding set_at
 set_turn o s w v h =
     let a = skip_ok (is_structure s.name w.made) _ _ _ h in
     set_in_turn o s w v _ a.0 refl a.1
 
-pub turn_of : (o : List Draft) (w v : Work) (decl : Declaration) → declared_at o w decl ≡ Ok v → Turn o w v decl
+pub turn_of : (o : List Draft) (w v : Compilation) (decl : Declaration) → declared_at o w decl ≡ Ok v → Turn o w v decl
 unfolding declared_at
 turn_of o w v (DataSet s) h = data_set_turn o s w v h
 turn_of o w v (SetOf s) h = set_turn o s w v h
@@ -128,7 +128,7 @@ set_same {A} {B} f (z ∷ zs) zero x y h e =
 set_same {A} {B} f (z ∷ zs) (suc k) x y h e = ap (λ (bs : List B). f z ∷ bs) (set_same f zs k x y h e)
 
 -- a member leaves what is outside of data sets
-pub inside_kept : (o : List Draft) (decl : Declaration) (w v : Work) → Inside o decl w v → map outer v.made ≡ map outer w.made
-inside_kept o decl w v (untouched none e) = ap (λ (x : Work). map outer x.made) e
+pub inside_kept : (o : List Draft) (decl : Declaration) (w v : Compilation) → Inside o decl w v → map outer v.made ≡ map outer w.made
+inside_kept o decl w v (untouched none e) = ap (λ (x : Compilation). map outer x.made) e
 inside_kept o decl w v (changed d t at h e) =
-    ap (λ (x : Work). map outer x.made) e ∙ set_same outer w.made (w.within - 1) d t at (member_kept o decl d t h)
+    ap (λ (x : Compilation). map outer x.made) e ∙ set_same outer w.made (w.within - 1) d t at (member_kept o decl d t h)

@@ -8,7 +8,7 @@ use Rattle.dms_tokens.specs.declared.token.Lexeme.{Lexeme}
 use Rattle.dasdl_phrases.specs.Reads.{Read, ◌>>=◌}
 use Rattle.dasdl_parse.specs.declared.schema.Parameters.{Parameters}
 use Rattle.dasdl_parse.specs.declared.schema.Schema.{Schema}
-use Rattle.dasdl_parse.specs.declared.parameters.Pairs.{Pairs}
+use Rattle.dasdl_parse.specs.declared.parameters.ParameterPairs.{ParameterPairs}
 use Rattle.dasdl_parse.specs.declared.parameters.AuditPairs.{AuditPairs}
 use Rattle.dasdl_parse.specs.declared.declarations.Declaration.{Declaration}
 use Rattle.dasdl_parse.specs.declared.declarations.Declaration.TheVariants.{DataSet, Item, Group, Link, SetOf, End as EndOf}
@@ -81,7 +81,7 @@ declared s within structures counted fresh d = record {
   declarations = s.declarations ++ d ∷ [];
 }
 
-abbrev pub with_pairs : Parameters → Pairs → Parameters
+abbrev pub with_pairs : Parameters → ParameterPairs → Parameters
 with_pairs p said = record { syncpoint = or_else 100 said.syncpoint; controlpoint = or_else 10 said.controlpoint; buffers = or_else 256 said.buffers; blocks = p.blocks; files = p.files }
 
 abbrev pub with_audit_pairs : Parameters → AuditPairs → Parameters

@@ -5,10 +5,10 @@ use Rattle.dms_tokens.specs.declared.token.Lexeme.{Lexeme}
 use Rattle.dasdl_phrases.specs.Reads.{Read, ◌>>=◌}
 use Rattle.dms_tokens.specs.Cursors.{starts, is_word}
 use Rattle.dasdl_phrases.specs.Cursors.{fault_at, word_at, sign_at, equal_at, number_at, turns_at, until_close}
-use Rattle.dasdl_parse.specs.declared.parameters.Pairs.{Pairs}
+use Rattle.dasdl_parse.specs.declared.parameters.ParameterPairs.{ParameterPairs}
 use Rattle.dasdl_parse.specs.declared.parameters.AuditPairs.{AuditPairs}
 
-abbrev pub no_pairs : Pairs
+abbrev pub no_pairs : ParameterPairs
 no_pairs = record { syncpoint = None; controlpoint = None; buffers = None }
 
 abbrev pub no_audit_pairs : AuditPairs
@@ -29,7 +29,7 @@ measure_at word low high unit ts = do
   Ok (n.0, t1)
 
 -- a pair whose word hasn't been said
-unfoldable pub pair_at : Pairs → List Lexeme → Read Pairs
+unfoldable pub pair_at : ParameterPairs → List Lexeme → Read ParameterPairs
 pair_at p ts =
     if starts (is_word (codes "SYNCPOINT")) ts && is_none p.syncpoint then (do
       n ← measure_at (codes "SYNCPOINT") 1 10000 (codes "TRANSACTIONS") ts
@@ -43,13 +43,13 @@ pair_at p ts =
     else Err (fault_at ts)))
 
 -- , pair
-unfoldable pub next_pair_at : Pairs → List Lexeme → Read Pairs
+unfoldable pub next_pair_at : ParameterPairs → List Lexeme → Read ParameterPairs
 next_pair_at p ts = do
   t1 ← sign_at 44 ts
   pair_at p t1
 
 -- PARAMETERS ( pair { , pair } ) ;
-unfoldable pub parameters_at : List Lexeme → Read Pairs
+unfoldable pub parameters_at : List Lexeme → Read ParameterPairs
 parameters_at ts = do
   t1 ← word_at (codes "PARAMETERS") ts
   t2 ← sign_at 40 t1

@@ -7,7 +7,7 @@ use crate::data_sets::{data_set, data_set_end};
 use crate::declarations::{Declaration, GroupDecl};
 use crate::items::{ITEMS, group, item, link};
 use crate::lists::Declarations;
-use crate::parameters::{AuditPairs, Pairs, audit, parameters};
+use crate::parameters::{AuditPairs, ParameterPairs, audit, parameters};
 use crate::schema::{Parameters, Schema};
 use crate::sets::set;
 use crate::within::Open;
@@ -57,7 +57,7 @@ fn declared(
     Ok(state)
 }
 
-fn with_pairs(parameters: Parameters, said: Pairs) -> Parameters
+fn with_pairs(parameters: Parameters, said: ParameterPairs) -> Parameters
     ensures { result ≡ with_pairs parameters said }
 {
     Parameters {

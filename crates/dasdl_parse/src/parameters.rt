@@ -10,7 +10,7 @@ use dms_tokens::Cursor;
 
 /// What PARAMETERS has said so far.
 #[derive(Clone, Copy)]
-pub struct Pairs {
+pub struct ParameterPairs {
     pub syncpoint: Option<u16>,
     pub controlpoint: Option<u16>,
     pub buffers: Option<u16>,
@@ -51,26 +51,26 @@ fn measure(
 }
 
 #[tactic(auto, unfolding(crate::specs::Parameters::pair_at))]
-fn pair(pairs: Pairs, cursor: &mut Cursor<'_>) -> Result<Pairs, ParseFault>
+fn pair(pairs: ParameterPairs, cursor: &mut Cursor<'_>) -> Result<ParameterPairs, ParseFault>
     ensures { Takes result cursor.new (pair_at pairs cursor.old) }
 {
     if cursor.starts_word(b"SYNCPOINT") && pairs.syncpoint.is_none() {
         let number = measure(cursor, b"SYNCPOINT", 1, 10_000, b"TRANSACTIONS")?;
-        return Ok(Pairs {
+        return Ok(ParameterPairs {
             syncpoint: Some(number),
             ..pairs
         });
     }
     if cursor.starts_word(b"CONTROLPOINT") && pairs.controlpoint.is_none() {
         let number = measure(cursor, b"CONTROLPOINT", 1, 10_000, b"SYNCPOINTS")?;
-        return Ok(Pairs {
+        return Ok(ParameterPairs {
             controlpoint: Some(number),
             ..pairs
         });
     }
     if cursor.starts_word(b"BUFFERS") && pairs.buffers.is_none() {
         let number = measure(cursor, b"BUFFERS", 8, 4_096, b"BLOCKS")?;
-        return Ok(Pairs {
+        return Ok(ParameterPairs {
             buffers: Some(number),
             ..pairs
         });
@@ -78,7 +78,7 @@ fn pair(pairs: Pairs, cursor: &mut Cursor<'_>) -> Result<Pairs, ParseFault>
     Err(fault(cursor))
 }
 
-impl Turns for Pairs {
+impl Turns for ParameterPairs {
     ghost done_at = { until_close };
 
     ghost turn_at = { next_pair_at };
@@ -88,7 +88,7 @@ impl Turns for Pairs {
     }
 
     #[tactic(auto, unfolding(crate::specs::Parameters::next_pair_at))]
-    fn turn(self, cursor: &mut Cursor<'_>) -> Result<Pairs, ParseFault> {
+    fn turn(self, cursor: &mut Cursor<'_>) -> Result<ParameterPairs, ParseFault> {
         expect_sign(cursor, b',')?;
         pair(self, cursor)
     }
@@ -96,12 +96,12 @@ impl Turns for Pairs {
 
 /// `PARAMETERS ( pair {, pair} ) ;`.
 #[tactic(auto, unfolding(crate::specs::Parameters::parameters_at))]
-pub fn parameters(cursor: &mut Cursor<'_>) -> Result<Pairs, ParseFault>
+pub fn parameters(cursor: &mut Cursor<'_>) -> Result<ParameterPairs, ParseFault>
     ensures { Takes result cursor.new (parameters_at cursor.old) }
 {
     expect_word(cursor, b"PARAMETERS")?;
     expect_sign(cursor, b'(')?;
-    let nothing = Pairs {
+    let nothing = ParameterPairs {
         syncpoint: None,
         controlpoint: None,
         buffers: None,

@@ -16,7 +16,7 @@ use Rattle.dms_audfile.proofs.Several.{trail_grows}
 
 -- ---- what is kept while the trail doesn't grow
 
-pub record Kept (total tag first f n : ℕ) (old new : Files) : Type 0 where
+pub record TrailKept (total tag first f n : ℕ) (old new : Files) : Type 0 where
   pub writes : IsWrittenUpTo total tag first f n new
   pub trail : (m : ℕ) → f < first + m → trail_from m total first new ≡ trail_from m total first old
   pub others : (g : ℕ) → g ≢ f → g ≢ f + 1 → new g ≡ old g
@@ -42,7 +42,7 @@ not_true : {A : Type 0} (b : Bool) → b ≡ false → b ≡ true → A
 not_true b off on = absurd (false≢true (sym off ∙ on))
 
 -- within the write of the content, or behind it
-pub content_kept : (total tag first f n : ℕ) (y x : Files) → IsWrittenUpTo total tag first f n y → InFile f (Torn (4096 * (n + 1)) 4096) y x → Kept total tag first f n y x
+pub content_kept : (total tag first f n : ℕ) (y x : Files) → IsWrittenUpTo total tag first f n y → InFile f (Torn (4096 * (n + 1)) 4096) y x → TrailKept total tag first f n y x
 content_kept total tag first f n y x w step =
     let s = content_stands total n (y f) (x f) w.stands step.here in
     let none : is_full total (x f) ≡ true → (r : ℕ) → trail_from r total (f + 1) x ≡ [] = λ is. not_true _ (stands_full total n (x f) s w.not_full) is in
@@ -69,7 +69,7 @@ content_kept total tag first f n y x w step =
     }
 
 -- within the making of the next file, or behind it
-pub next_kept : (total tag first f n : ℕ) (z y x : Files) → Kept total tag first f n z y → InFile (f + 1) Anyhow y x → Kept total tag first f n z x
+pub next_kept : (total tag first f n : ℕ) (z y x : Files) → TrailKept total tag first f n z y → InFile (f + 1) Anyhow y x → TrailKept total tag first f n z x
 next_kept total tag first f n z y x k step =
     let same : (g : ℕ) → g ≤ f → x g ≡ y g = λ g high. step.others g (omega arith) in
     let w = writes_same total tag first f n y x k.writes (λ g low high. same g high) in
@@ -82,8 +82,8 @@ next_kept total tag first f n z y x k step =
       others = λ g one two. step.others g two ∙ k.others g one two;
     }
 
-pub kept_same : (total tag first f n : ℕ) (z y x : Files) → Kept total tag first f n z y → x ≡ y → Kept total tag first f n z x
-kept_same total tag first f n z y x k same = subst (λ (l : Files). Kept total tag first f n z l) (sym same) k
+pub kept_same : (total tag first f n : ℕ) (z y x : Files) → TrailKept total tag first f n z y → x ≡ y → TrailKept total tag first f n z x
+kept_same total tag first f n z y x k same = subst (λ (l : Files). TrailKept total tag first f n z l) (sym same) k
 
 -- behind a file whose gates are all closed there is nothing
 pub none_behind : (total f : ℕ) (x : Files) → 0 < total → IsSealedUpTo total 0 (x f) → (r : ℕ) → trail_from r total f x ≡ []
@@ -93,7 +93,7 @@ none_behind total f x some s (suc r) =
 
 -- ---- the gate
 
-module _ (total tag first f n : ℕ) (content : List ℕ) (z y : Files) (k : Kept total tag first f n z y) (long : 4096 * (n + 2) ≤ length (y f)) (block : block_at (n + 1) (y f) ≡ content)
+module _ (total tag first f n : ℕ) (content : List ℕ) (z y : Files) (k : TrailKept total tag first f n z y) (long : 4096 * (n + 2) ≤ length (y f)) (block : block_at (n + 1) (y f) ≡ content)
     (next : n + 1 ≡ total → IsSealedUpTo total 0 (y (f + 1))) (head : n + 1 ≡ total → header_fits (f + 1 - 10000) total (y (f + 1)) ≡ true) (mark : n + 1 ≡ total → tag_said (y (f + 1)) ≡ tag) (x : Files) (step : InFile f (Torn (511 + (n + 1)) 1) y x) where
   none_next : (m : ℕ) → m ≤ n + 1 → IsSealedUpTo total m (x f) → is_full total (x f) ≡ true → (r : ℕ) → trail_from r total (f + 1) x ≡ []
   none_next m few s is = elim (cases_eq (n + 1) total) [
@@ -218,7 +218,7 @@ module _ (total tag first f n : ℕ) (content : List ℕ) (z y : Files) (k : Kep
 
 -- ---- outcomes
 
-pub kept_grows : (total tag first f n : ℕ) (blocks : List (List ℕ)) (z x : Left) → Kept total tag first f n z.files x.files → x.said ≡ z.said → GrowsLeft total tag first f blocks z x
+pub kept_grows : (total tag first f n : ℕ) (blocks : List (List ℕ)) (z x : Left) → TrailKept total tag first f n z.files x.files → x.said ≡ z.said → GrowsLeft total tag first f blocks z x
 kept_grows total tag first f n blocks z x k said = record {
   files = record { some = 0; within = omega arith; trail = λ m far. k.trail m far ∙ sym (append-nil (trail_from m total first z.files)); others = k.others; file = f; count = n; writes = k.writes; low = omega arith; high = omega arith };
   said = said;
@@ -238,7 +238,7 @@ module _ (n : ℕ) (content old new : List ℕ) (size : length content ≡ 4096)
 -- ---- for the code
 
 pub record KeptLeft (total tag first f n : ℕ) (old new : Left) : Type 0 where
-  pub files : Kept total tag first f n old.files new.files
+  pub files : TrailKept total tag first f n old.files new.files
   pub said : new.said ≡ old.said
 
 pub content_step : (total tag first f n : ℕ) (content : List ℕ) (old : Files) → IsWrittenUpTo total tag first f n old → length content ≡ 4096 → (z x : Left) → ((g : ℕ) → first ≤ g → g ≤ f → z.files g ≡ old g)
@@ -296,7 +296,7 @@ gate_step total tag first f n content z y x k r step = record {
 -- all three are done
 module _ (total tag first f n : ℕ) (content : List ℕ) (old one two three : Files) (w : IsWrittenUpTo total tag first f n old) (size : length content ≡ 4096) (r : Ready total tag f n content two)
     (wrote : one ≡ with_file old f (overlaid (4096 * (n + 1)) content (old f))) (others : InFile (f + 1) Anyhow one two) (gated : three ≡ with_file two f (overlaid (511 + (n + 1)) (1 ∷ []) (two f))) where
-  kept : Kept total tag first f n old two
+  kept : TrailKept total tag first f n old two
   kept = next_kept total tag first f n old one two
       (content_kept total tag first f n old one w (record {
         here = content_torn n content (old f) (one f) size (ap (λ (l : Files). l f) wrote ∙ with_file_here old f (overlaid (4096 * (n + 1)) content (old f)));

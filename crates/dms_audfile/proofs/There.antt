@@ -14,7 +14,7 @@ use Rattle.dms_audfile.specs.Blocks.{EntryInBlock, block_entries, entries_from, 
 use Rattle.dms_audfile.specs.Trail.{Span}
 use Rattle.dms_audfile.specs.Scanning.{Placed, TrailRead, broken, whole, then_read, place_of, places_of, blocks_read, file_read, files_read, ScanOutcome, no_database, unsealed, missing, damaged, foreign, found, scanned}
 use Rattle.dms_audfile.specs.AuditTrail.{IsNoDatabase, IsScanned, TrailIs, IsOneTrail, entry_from, entry_there, AreThere, EntriesAreThere}
-use Rattle.dms_audfile.specs.declared.place.Place.{Place}
+use Rattle.dms_audfile.specs.declared.place.EntryPlace.{EntryPlace}
 use Rattle.dms_audfile.proofs.HeaderLaws.{opened_within}
 use Rattle.dms_audfile.proofs.Kept.{was_read, IsWhole, block_whole}
 use Rattle.dms_audfile.proofs.Leaving.{left_behind}
@@ -77,7 +77,7 @@ none_behind offset all far = by_list (drop offset all) (omega (arith, far, lengt
     by_list (b ∷ bs) none = absurd (omega arith)
 
 -- a block that is held
-pub there_held : (files : Files) (p : Place) (bytes : List ℕ) → bytes ≡ block_at p.block (files p.file) → entry_from p.offset bytes ≡ entry_there files p
+pub there_held : (files : Files) (p : EntryPlace) (bytes : List ℕ) → bytes ≡ block_at p.block (files p.file) → entry_from p.offset bytes ≡ entry_there files p
 unfolding entry_there
 there_held files p bytes same = ap (entry_from p.offset) same
 

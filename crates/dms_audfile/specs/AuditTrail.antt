@@ -8,7 +8,7 @@ use Rattle.dms_audfile.specs.Blocks.{used_in}
 use Rattle.dms_audfile.specs.Trail.{Span}
 use Rattle.dms_audfile.specs.Database.{HasDatabase}
 use Rattle.dms_audfile.specs.Scanning.{Placed, place_in, ScanOutcome, no_database, unsealed, missing, damaged, foreign, found, scanned}
-use Rattle.dms_audfile.specs.declared.place.Place.{Place}
+use Rattle.dms_audfile.specs.declared.place.EntryPlace.{EntryPlace}
 
 -- File 1 isn't a sealed description with the gate of the database open, or no audit file is present.
 abbrev pub IsNoDatabase : Files → Type 0
@@ -37,7 +37,7 @@ abbrev pub IsOneTrail : Type 0
 IsOneTrail = (files : Files) (a b : ScanOutcome) → TrailIs files a → TrailIs files b → a ≡ b
 
 -- the trail's first file and the places of all its entries, in order
-pub record IsFound (files : Files) (first : ℕ) (places : List Place) : Type 0 where
+pub record IsFound (files : Files) (first : ℕ) (places : List EntryPlace) : Type 0 where
   pub entries : List Placed
   pub places_are : places ≡ map place_in entries
   pub trail : IsScanned files (found entries)
@@ -50,7 +50,7 @@ unfoldable pub entry_from : ℕ → List ℕ → Option Entry
 entry_from offset block = if length block == 4096 then option_map (λ x. x.0) (entry_at (drop offset (take (2 + used_in block) block))) else None
 
 -- the entry at a place
-unfoldable pub entry_there : Files → Place → Option Entry
+unfoldable pub entry_there : Files → EntryPlace → Option Entry
 entry_there files p = entry_from p.offset (block_at p.block (files p.file))
 
 -- an entry stands at its place, in a block of an audit file

@@ -3,13 +3,13 @@ use Rattle.std.specs.Prelude.{ℕ, ◌||◌, Bool, false, List, [], ◌∷◌, �
 use Rattle.dms_history.specs.Schemas.{Parts, no_parts, after_entry}
 use Rattle.dms_audfile.specs.WholeSchema.{closes_schema}
 use Rattle.dms_audfile.specs.Scanning.{Placed, TrailRead, broken, whole}
-use Rattle.dms_audfile.specs.declared.place.Place.{Place}
+use Rattle.dms_audfile.specs.declared.place.EntryPlace.{EntryPlace}
 use Rattle.dms_audfile.specs.declared.parts.SchemaParts.{SchemaParts}
 use Rattle.dms_audfile.specs.declared.gathered.Gathered.{Gathered}
 
 -- where the entries begin, how much of a Schema they end with, and whether a whole one with its Control stands among them
 pub record Known : Type 0 where
-  pub places : List Place
+  pub places : List EntryPlace
   pub parts : Parts
   pub described : Bool
 

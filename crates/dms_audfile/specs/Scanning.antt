@@ -7,14 +7,14 @@ use Rattle.dms_audfile.specs.Header.{header_fits, says_blocks, blocks_said, tag_
 use Rattle.dms_audfile.specs.Blocks.{EntryInBlock, block_entries}
 use Rattle.dms_audfile.specs.Trail.{first_open}
 use Rattle.dms_audfile.specs.WholeSchema.{holds_schema}
-use Rattle.dms_audfile.specs.declared.place.Place.{Place}
+use Rattle.dms_audfile.specs.declared.place.EntryPlace.{EntryPlace}
 
 -- an entry, and where it begins
 pub record Placed : Type 0 where
-  pub place : Place
+  pub place : EntryPlace
   pub entry : Entry
 
-abbrev pub place_in : Placed → Place
+abbrev pub place_in : Placed → EntryPlace
 place_in p = p.place
 
 abbrev pub entry_in : Placed → Entry

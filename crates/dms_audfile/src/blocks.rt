@@ -5,7 +5,7 @@ ghost use Rattle.dms_audfile.specs.Scanning.{places_of};
 ghost use Rattle.dms_audfile.specs.Gathering.{seen};
 ghost use Rattle.dms_audfile.specs.Reads.{ReadInto};
 
-use crate::Place;
+use crate::EntryPlace;
 use crate::gathered::Gathered;
 use crate::header::all_zero;
 use dms_audrec::{Entry, decode};
@@ -40,7 +40,7 @@ fn read_entries(bytes: &[u8], file: u32, block: u32, known: &mut Gathered) -> Re
         if !stands_there(&entry, at, after) {
             return Ok(false);
         }
-        let place = Place {
+        let place = EntryPlace {
             file,
             block,
             offset: at,

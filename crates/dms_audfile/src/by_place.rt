@@ -11,7 +11,7 @@ ghost use Rattle.dms_audfile.specs.Reads.{OnlyReads};
 
 use crate::blocks::used_in;
 use crate::scanning::load;
-use crate::{AudFault, EntryReader, Place};
+use crate::{AudFault, EntryPlace, EntryReader};
 use dms_audrec::{Entry, decode};
 use dms_base::Memory;
 use dms_site::Site;
@@ -66,7 +66,7 @@ impl EntryReader {
     /// Reads the block of a place, where it isn't in the buffer already.
     ///
     /// Answers Disk where a call of the site failed, and Damaged where no audit file has a block of that number.
-    pub fn load<S: Site>(&mut self, site: &mut S, place: &Place) -> Result<(), AudFault>
+    pub fn load<S: Site>(&mut self, site: &mut S, place: &EntryPlace) -> Result<(), AudFault>
         ensures holds { OnOk result (IsTrue S.tells → IsCurrent self.old (S.files site.old) → HoldsBlock self.new place.now (S.files site.old)) }
         ensures current { IsTrue S.tells → IsCurrent self.old (S.files site.old) → IsCurrent self.new (S.files site.old) }
         ensures only { IfErr result (λ e. (e ≡ AudFault.Disk) ⊎ ((e ≡ AudFault.Damaged place.now.file place.now.block) × (512 < place.now.block))) }
@@ -94,7 +94,7 @@ impl EntryReader {
     }
 
     /// The entry at a place whose block is in the buffer; None where no entry is there.
-    pub fn entry(&self, place: &Place) -> Option<Entry<'_>>
+    pub fn entry(&self, place: &EntryPlace) -> Option<Entry<'_>>
         ensures held { option_map entry_seen result ≡ entry_from place.now.offset (bytes_held self.now) }
         ensures there { (files : Files) → HoldsBlock self.now place.now files → option_map entry_seen result ≡ entry_there files place.now }
     {

@@ -7,7 +7,7 @@ ghost use Rattle.dms_audrec.specs.Seen.{entry_seen};
 ghost use Rattle.dms_audfile.specs.WholeSchema.{closes_schema};
 ghost use Rattle.dms_audfile.specs.Gathering.{seen, parts_seen, one_more, nothing_seen};
 
-use crate::Place;
+use crate::EntryPlace;
 use crate::gathered::Gathered;
 use crate::parts::SchemaParts;
 use dms_audrec::Entry;
@@ -76,7 +76,7 @@ impl Gathered {
     }
 
     /// Adds the entry at a place.
-    pub fn add(&mut self, place: Place, entry: &Entry<'_>) -> Result<(), Memory>
+    pub fn add(&mut self, place: EntryPlace, entry: &Entry<'_>) -> Result<(), Memory>
         ensures { OnOk result (seen self.new ≡ one_more (seen self.old) (record { place = place; entry = entry_seen entry.now })) }
     {
         self.places.push(place)?;

@@ -11,7 +11,7 @@ use Rattle.dms_history.specs.Entries.{Entry}
 use Rattle.dms_site.specs.Files.{Files, Left, Same, PrintsPartOf}
 use Rattle.dms_audfile.specs.AuditTrail.{entry_there, IsThere, AreThere, IsFound, EntriesAreThere}
 use Rattle.dms_audfile.specs.Scanning.{Placed, place_in}
-use Rattle.dms_audfile.specs.declared.place.Place.{Place}
+use Rattle.dms_audfile.specs.declared.place.EntryPlace.{EntryPlace}
 use Rattle.dms_audprint.specs.AuditText.{placed_line, audit_text, HasTrail, PrintsAudit, PrintsPart}
 use Rattle.dms_audfile.specs.declared.fault.AudFault.TheVariants.{NoDatabase, Disk, Full, Missing, Unsealed, Damaged, Foreign, Memory}
 use Rattle.dms_audprint.specs.Printing.{line_of, line_at, lines_at, HoldsEntry, AllHoldEntries, PrintsSome, IsLate, RefusesAudit}
@@ -19,7 +19,7 @@ use Rattle.dms_audprint.specs.declared.fault.PrintFault.{PrintFault}
 use Rattle.dms_audprint.specs.declared.fault.PrintFault.TheVariants.{Audit, Say}
 
 -- one place more
-pub lines_more : (files : Files) (ps : List Place) (k : ℕ) (d : Place) → k < length ps → lines_at files (take (k + 1) ps) ≡ lines_at files (take k ps) ++ line_at files (get_or ps k d)
+pub lines_more : (files : Files) (ps : List EntryPlace) (k : ℕ) (d : EntryPlace) → k < length ps → lines_at files (take (k + 1) ps) ≡ lines_at files (take k ps) ++ line_at files (get_or ps k d)
 lines_more files [] k d low = absurd (omega (arith, low))
 lines_more files (q ∷ qs) zero d low = append-nil (line_at files q)
 lines_more files (q ∷ qs) (suc k) d low =
@@ -28,7 +28,7 @@ lines_more files (q ∷ qs) (suc k) d low =
     ∙ ap (λ (l : List ℕ). line_at files q ++ l) (lines_more files qs k d (omega (arith, low))) ∙ sym (append_assoc (line_at files q) (lines_at files (take k qs)) (line_at files (get_or qs k d)))
 
 -- the lines of the first so many places are a prefix of all
-lines_front : (files : Files) (ps : List Place) (k : ℕ) → take (length (lines_at files (take k ps))) (lines_at files ps) ≡ lines_at files (take k ps)
+lines_front : (files : Files) (ps : List EntryPlace) (k : ℕ) → take (length (lines_at files (take k ps))) (lines_at files ps) ≡ lines_at files (take k ps)
 lines_front files [] zero = refl
 lines_front files [] (suc k) = refl
 lines_front files (q ∷ qs) zero = refl
@@ -37,7 +37,7 @@ lines_front files (q ∷ qs) (suc k) =
     ∙ take-append-add (line_at files q) (lines_at files qs) (length (lines_at files (take k qs)))
     ∙ ap (λ (l : List ℕ). line_at files q ++ l) (lines_front files qs k)
 
-pub lines_all : (files : Files) (ps : List Place) (k : ℕ) → length ps ≤ k → lines_at files (take k ps) ≡ lines_at files ps
+pub lines_all : (files : Files) (ps : List EntryPlace) (k : ℕ) → length ps ≤ k → lines_at files (take k ps) ≡ lines_at files ps
 lines_all files ps k past = ap (lines_at files) (take_all k ps past)
 
 -- a prefix of the lines
@@ -61,7 +61,7 @@ front_front all n j = record { some = min_of j n; is = taken j n all }
     taken (suc j) (suc n) (x ∷ xs) = ap (λ (l : List ℕ). x ∷ l) (taken j n xs)
 
 -- the lines of the places so far, and a part of the next one
-part_of : (files : Files) (ps : List Place) (k j : ℕ) (d : Place) → k < length ps → TextPrefix (lines_at files ps) (lines_at files (take k ps) ++ take j (line_at files (get_or ps k d)))
+part_of : (files : Files) (ps : List EntryPlace) (k j : ℕ) (d : EntryPlace) → k < length ps → TextPrefix (lines_at files ps) (lines_at files (take k ps) ++ take j (line_at files (get_or ps k d)))
 part_of files ps k j d low =
     let line = line_at files (get_or ps k d) in
     let so_far = lines_at files (take k ps) in
@@ -74,29 +74,29 @@ part_of files ps k j d low =
     }
 
 -- the text behind a part of one more line
-pub part_then : (files other : Files) (ps : List Place) (k j : ℕ) (d : Place) (start said new : List ℕ) → k < length ps → other ≡ files
+pub part_then : (files other : Files) (ps : List EntryPlace) (k j : ℕ) (d : EntryPlace) (start said new : List ℕ) → k < length ps → other ≡ files
     → said ≡ start ++ lines_at files (take k ps) → new ≡ said ++ take j (line_at other (get_or ps k d)) → (n : ℕ) × (new ≡ start ++ take n (lines_at files ps))
 part_then files other ps k j d start said new low same so_far more =
     let f = part_of files ps k j d low in
     (f.some, more ∙ (λ i. so_far i ++ take j (line_at (same i) (get_or ps k d))) ∙ append_assoc start (lines_at files (take k ps)) (take j (line_at files (get_or ps k d))) ∙ ap (λ (l : List ℕ). start ++ l) f.is)
 
 -- the text behind one more line
-pub line_then : (files other : Files) (ps : List Place) (k : ℕ) (d : Place) (start said new : List ℕ) → k < length ps → other ≡ files
+pub line_then : (files other : Files) (ps : List EntryPlace) (k : ℕ) (d : EntryPlace) (start said new : List ℕ) → k < length ps → other ≡ files
     → said ≡ start ++ lines_at files (take k ps) → new ≡ said ++ line_at other (get_or ps k d) → new ≡ start ++ lines_at files (take (k + 1) ps)
 line_then files other ps k d start said new low same so_far more =
     more ∙ (λ i. so_far i ++ line_at (same i) (get_or ps k d)) ∙ append_assoc start (lines_at files (take k ps)) (line_at files (get_or ps k d)) ∙ ap (λ (l : List ℕ). start ++ l) (sym (lines_more files ps k d low))
 
 -- the text so far is a prefix of all
-pub part_now : (files : Files) (ps : List Place) (k : ℕ) (start said : List ℕ) → said ≡ start ++ lines_at files (take k ps) → (n : ℕ) × (said ≡ start ++ take n (lines_at files ps))
+pub part_now : (files : Files) (ps : List EntryPlace) (k : ℕ) (start said : List ℕ) → said ≡ start ++ lines_at files (take k ps) → (n : ℕ) × (said ≡ start ++ take n (lines_at files ps))
 part_now files ps k start said so_far = (length (lines_at files (take k ps)), so_far ∙ ap (λ (l : List ℕ). start ++ l) (sym (lines_front files ps k)))
 
 -- one of them
-stands_at : (files : Files) (ps : List Place) (k : ℕ) (d : Place) → AllHoldEntries files ps → k < length ps → HoldsEntry files (get_or ps k d)
+stands_at : (files : Files) (ps : List EntryPlace) (k : ℕ) (d : EntryPlace) → AllHoldEntries files ps → k < length ps → HoldsEntry files (get_or ps k d)
 stands_at files [] k d all low = absurd (omega (arith, low))
 stands_at files (q ∷ qs) zero d all low = all.0
 stands_at files (q ∷ qs) (suc k) d all low = stands_at files qs k d all.1 (omega (arith, low))
 
-pub stands_then : (files other : Files) (ps : List Place) (k : ℕ) (d : Place) → AllHoldEntries files ps → k < length ps → other ≡ files → HoldsEntry other (get_or ps k d)
+pub stands_then : (files other : Files) (ps : List EntryPlace) (k : ℕ) (d : EntryPlace) → AllHoldEntries files ps → k < length ps → other ≡ files → HoldsEntry other (get_or ps k d)
 stands_then files other ps k d all low same = subst (λ (l : Files). HoldsEntry l (get_or ps k d)) (sym same) (stands_at files ps k d all low)
 
 -- entries that are there stand at their places, and their lines are theirs
@@ -110,19 +110,19 @@ lines_there files (e ∷ es) all =
     ap (λ (o : Option Entry). line_of e.place o ++ lines_at files (map place_in es)) all.0.there ∙ ap (λ (l : List ℕ). placed_line e ++ l) (lines_there files es all.1)
 
 -- the places that were found
-pub all_stand : (files other : Files) (es : List Placed) (ps : List Place) → AreThere files es → ps ≡ map place_in es → other ≡ files → AllHoldEntries other ps
+pub all_stand : (files other : Files) (es : List Placed) (ps : List EntryPlace) → AreThere files es → ps ≡ map place_in es → other ≡ files → AllHoldEntries other ps
 all_stand files other es ps there are same =
     let one : AllHoldEntries files ps = subst (AllHoldEntries files) (sym are) (stands_all files es there) in
     subst (λ (l : Files). AllHoldEntries l ps) (sym same) one
 
-found_lines : (files other : Files) (es : List Placed) (ps : List Place) → AreThere files es → ps ≡ map place_in es → other ≡ files → lines_at other ps ≡ audit_text es
+found_lines : (files other : Files) (es : List Placed) (ps : List EntryPlace) → AreThere files es → ps ≡ map place_in es → other ≡ files → lines_at other ps ≡ audit_text es
 found_lines files other es ps there are same = (λ i. lines_at (same i) (are i)) ∙ lines_there files es there
 
-pub found_whole : (files other : Files) (es : List Placed) (ps : List Place) (start said new : List ℕ) → AreThere files es → ps ≡ map place_in es → other ≡ files → said ≡ start
+pub found_whole : (files other : Files) (es : List Placed) (ps : List EntryPlace) (start said new : List ℕ) → AreThere files es → ps ≡ map place_in es → other ≡ files → said ≡ start
     → new ≡ said ++ lines_at other ps → new ≡ start ++ audit_text es
 found_whole files other es ps start said new there are same stays more = more ∙ (λ i. stays i ++ found_lines files other es ps there are same i)
 
-pub found_front : (files other : Files) (es : List Placed) (ps : List Place) (k : ℕ) (start said new : List ℕ) → AreThere files es → ps ≡ map place_in es → other ≡ files → said ≡ start
+pub found_front : (files other : Files) (es : List Placed) (ps : List EntryPlace) (k : ℕ) (start said new : List ℕ) → AreThere files es → ps ≡ map place_in es → other ≡ files → said ≡ start
     → new ≡ said ++ take k (lines_at other ps) → new ≡ start ++ take k (audit_text es)
 found_front files other es ps k start said new there are same stays more = more ∙ (λ i. stays i ++ take k (found_lines files other es ps there are same i))
 
@@ -151,7 +151,7 @@ if_err (Ok x) A p more = tt
 if_err (Err e) A p more = λ a. more e (p a)
 
 -- so the entries that were found were printed
-module _ {T : Type 0} (tells tells_said : Bool) (files other : Files) (first : ℕ) (ps : List Place) (start said new : List ℕ) (r : Result T PrintFault)
+module _ {T : Type 0} (tells tells_said : Bool) (files other : Files) (first : ℕ) (ps : List EntryPlace) (start said new : List ℕ) (r : Result T PrintFault)
     (law : EntriesAreThere) (found_is : IsTrue tells → IsFound files first ps) (same : IsTrue tells → other ≡ files) (stays : said ≡ start) where
   there : (t : IsTrue tells) → AreThere files (found_is t).entries
   there t = law files (found_is t).entries (found_is t).trail

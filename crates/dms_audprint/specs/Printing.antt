@@ -6,30 +6,30 @@ use Rattle.dms_audfile.specs.AuditTrail.{entry_there}
 use Rattle.dms_audfile.specs.Reads.{Refuses}
 use Rattle.dms_audfile.specs.declared.fault.AudFault.{AudFault}
 use Rattle.dms_audfile.specs.declared.fault.AudFault.TheVariants.{NoDatabase, Disk, Full, Missing, Unsealed, Damaged, Foreign, Memory}
-use Rattle.dms_audfile.specs.declared.place.Place.{Place}
+use Rattle.dms_audfile.specs.declared.place.EntryPlace.{EntryPlace}
 use Rattle.dms_audprint.specs.Lines.{entry_line}
 use Rattle.dms_audprint.specs.declared.fault.PrintFault.{PrintFault}
 use Rattle.dms_audprint.specs.declared.fault.PrintFault.TheVariants.{Audit, Say}
 
 -- the line of what stands at a place, nothing where no entry does
-abbrev pub line_of : Place → Option Entry → List ℕ
+abbrev pub line_of : EntryPlace → Option Entry → List ℕ
 line_of p None = []
 line_of p (Some e) = entry_line (p.file - 10000) p.block e
 
-abbrev pub line_at : Files → Place → List ℕ
+abbrev pub line_at : Files → EntryPlace → List ℕ
 line_at files p = line_of p (entry_there files p)
 
-abbrev pub lines_at : Files → List Place → List ℕ
+abbrev pub lines_at : Files → List EntryPlace → List ℕ
 lines_at files [] = []
 lines_at files (p ∷ ps) = line_at files p ++ lines_at files ps
 
 -- an entry stands at a place, in a block of an audit file
-pub record HoldsEntry (files : Files) (p : Place) : Type 0 where
+pub record HoldsEntry (files : Files) (p : EntryPlace) : Type 0 where
   pub entry : Entry
   pub there : entry_there files p ≡ Some entry
   pub within : p.block ≤ 512
 
-abbrev pub AllHoldEntries : Files → List Place → Type 0
+abbrev pub AllHoldEntries : Files → List EntryPlace → Type 0
 AllHoldEntries files [] = Unit {0}
 AllHoldEntries files (p ∷ ps) = HoldsEntry files p × AllHoldEntries files ps
 

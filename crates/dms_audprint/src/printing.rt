@@ -11,13 +11,13 @@ ghost use Rattle.dms_audprint.specs.Printing.{line_at, lines_at, HoldsEntry, All
 use crate::PrintFault;
 use crate::line::{EntryLine, line_text};
 use dms_audfile::laws::entries_stand_at_their_places;
-use dms_audfile::{AudFault, AuditStart, EntryReader, Place};
+use dms_audfile::{AudFault, AuditStart, EntryPlace, EntryReader};
 use dms_base::Bytes;
 use dms_site::Site;
 use std::alloc::Global;
 
 /// The line of the entry at a place whose block the reader holds. Damaged where no entry is there.
-fn line_there(alloc: Global, reader: &EntryReader, place: &Place) -> Result<Bytes, AudFault>
+fn line_there(alloc: Global, reader: &EntryReader, place: &EntryPlace) -> Result<Bytes, AudFault>
     ensures line { IfOk result (λ text. (files : Files) → HoldsBlock reader.now place.now files → text ≡ line_at files place.now) }
     ensures there { (files : Files) → HoldsBlock reader.now place.now files → HoldsEntry files place.now → IfErr result IsOfOutside }
     ensures no_disk { IfErr result (λ e. e ≡ AudFault.Disk → ⊥) }
@@ -43,7 +43,7 @@ fn print_entry<S: Site>(
     alloc: Global,
     site: &mut S,
     reader: &mut EntryReader,
-    place: &Place,
+    place: &EntryPlace,
 ) -> Result<(), PrintFault>
     ensures current { IsTrue S.tells → IsCurrent reader.old (S.files site.old) → IsCurrent reader.new (S.files site.old) }
     ensures printed { OnOk result (IsTrue S.tells → IsTrue S.tells_said → IsCurrent reader.old (S.files site.old) → S.said site.new ≡ S.said site.old ++ line_at (S.files site.old) place.now) }
@@ -70,7 +70,11 @@ fn print_entry<S: Site>(
 }
 
 /// Prints the lines of the entries at these places.
-fn print_places<S: Site>(alloc: Global, site: &mut S, places: &[Place]) -> Result<(), PrintFault>
+fn print_places<S: Site>(
+    alloc: Global,
+    site: &mut S,
+    places: &[EntryPlace],
+) -> Result<(), PrintFault>
     ensures printed { OnOk result (IsTrue S.tells → IsTrue S.tells_said → S.said site.new ≡ S.said site.old ++ lines_at (S.files site.old) places.now) }
     ensures part { IsTrue S.tells → IsTrue S.tells_said → (k : ℕ) × (S.said site.new ≡ S.said site.old ++ take k (lines_at (S.files site.old) places.now)) }
     ensures there { IsTrue S.tells → AllHoldEntries (S.files site.old) places.now → IfErr result IsLate }

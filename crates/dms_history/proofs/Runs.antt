@@ -5,7 +5,7 @@ use Rattle.dms_history.specs.Replay.{TellsBefore, Chain, replay, with_block}
 use Rattle.dms_history.specs.Images.{is_at, last_after}
 use Rattle.dms_history.specs.Lists.{has, after_last}
 use Rattle.dms_history.specs.Places.{is_control}
-use Rattle.dms_history.specs.LawsOfRunning.{Changes, Quiets, WritesEarly, Controls}
+use Rattle.dms_history.specs.LawsOfRunning.{ChangesBlock, Quiets, WritesEarly, Controls}
 use Rattle.dms_history.proofs.Picks.{or_none, last_append, tells_le, write_other, write_old, place_cases}
 use Rattle.dms_history.proofs.AtPoints.{bool_cases, replay_append}
 use Rattle.dms_history.proofs.HalfDone.{chain_control}
@@ -53,7 +53,7 @@ if_none : (b : Bool) (x : Block) → cond b (Some x) None ≡ None → b ≡ fal
 if_none true x e = absurd cc
 if_none false x e = refl
 
-pub changes : Changes
+pub changes : ChangesBlock
 changes entries base stored f b before after sound tells =
     let e = change f b before after in
     let now = replay entries base in

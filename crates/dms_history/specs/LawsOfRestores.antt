@@ -11,7 +11,7 @@ use Rattle.dms_history.specs.Points.{HasPoint}
 use Rattle.dms_history.specs.Restores.{DumpServes, Ready, takes_stored, Steady}
 
 -- Its Begin is sealed: the database is steady, the restore is to leave the content of its point, and each point that stays live keeps its content.
-pub record Begun (how : How) (dumps : Dumps) (h : History) (base : Content) (counted stored : Stored) (m : ℕ) : Type 0 where
+pub record RestoreBegun (how : How) (dumps : Dumps) (h : History) (base : Content) (counted stored : Stored) (m : ℕ) : Type 0 where
   pub steady : Steady dumps (after_event h (begin m how)) base stored
   pub leaves : outcome how dumps h.live m stored ≡ blocks_at h.live counted m
   pub points : (n : ℕ) → IsLive (until_first (is_point m) h.live) n
@@ -20,7 +20,7 @@ pub record Begun (how : How) (dumps : Dumps) (h : History) (base : Content) (cou
 -- With a rebuild or a reconstruct this may come over a pending restore, and the blocks that they don't look at may hold anything.
 abbrev pub RestoreBegins : Type 0
 RestoreBegins = (how : How) (dumps : Dumps) (h : History) (base : Content) (counted stored : Stored) (m : ℕ) → Ready how dumps h.live base counted stored m
-    → Begun how dumps h base counted stored m
+    → RestoreBegun how dumps h base counted stored m
 
 -- With the blocks as they are written the database is steady, and what counts as each block is what counted.
 pub record WritesKeep (dumps : Dumps) (h : History) (base : Content) (stored written : Stored) : Type 0 where

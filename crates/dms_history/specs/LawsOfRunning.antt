@@ -13,8 +13,8 @@ use Rattle.dms_history.specs.Restores.{Steady}
 use Rattle.dms_history.specs.Points.{HasPoint}
 
 -- One more change is sealed, which tells what stood before it.
-abbrev pub Changes : Type 0
-Changes = (entries : List Event) (base : Content) (stored : Stored) (f b : ℕ) (before : Option Block) (after : Block) → Sound entries base stored
+abbrev pub ChangesBlock : Type 0
+ChangesBlock = (entries : List Event) (base : Content) (stored : Stored) (f b : ℕ) (before : Option Block) (after : Block) → Sound entries base stored
     → TellsBefore b before (replay entries base f) → Sound (entries ++ change f b before after ∷ []) base stored
 
 -- One more quiet point is sealed.

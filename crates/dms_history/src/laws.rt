@@ -2,7 +2,7 @@
 
 ghost use Rattle.dms_history.specs.LawsOfPoints.{ChoiceGivesContent, EachPoint, EachLivePoint, OpeningNeverCounts};
 ghost use Rattle.dms_history.specs.LawsOfBase.{AgreesHasBase, AgreesLeadsToBase, BaseAgrees, AgreesIsSteady, SteadyAgrees, OpeningStays, PrefixGoes};
-ghost use Rattle.dms_history.specs.LawsOfRunning.{Changes, Quiets, WritesEarly, Controls, RunsSteady, SealsRun, PointsGoOn, QuietIsLive, ControlStands};
+ghost use Rattle.dms_history.specs.LawsOfRunning.{ChangesBlock, Quiets, WritesEarly, Controls, RunsSteady, SealsRun, PointsGoOn, QuietIsLive, ControlStands};
 ghost use Rattle.dms_history.specs.Sizes.{SizedReplay, SizedBase};
 ghost use Rattle.dms_history.specs.Told.{EachTold, EachFromFile};
 ghost use Rattle.dms_history.specs.LawsOfPointLists.{PointsListed, OneList, PointsPrefix, PointsStay, ListsChange, ListsQuiet, ListsControl, ListsBegin, LastKeepsAll};
@@ -41,7 +41,7 @@ pub fn stays_steady()
 
 /// A database that runs keeps steady over a change, a quiet point, an early write and a control point.
 pub fn running_keeps()
-    ensures changes { Changes }
+    ensures changes { ChangesBlock }
     ensures quiets { Quiets }
     ensures writes_early { WritesEarly }
     ensures controls { Controls }

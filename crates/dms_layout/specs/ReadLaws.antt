@@ -23,7 +23,8 @@ use Rattle.dms_fields.specs.Laid.{bytes_again}
 use Rattle.dms_key.specs.ByteOrder.{byte_small}
 use Rattle.dms_layout.specs.declared.slot.Slot.{Slot}
 use Rattle.dms_layout.specs.declared.slot.SlotRead.TheVariants.{Free, Used, Bad}
-use Rattle.dms_layout.specs.Slots.{record_bytes, slot_width, slot_bytes, all_fit, may_own, SlotFits, AreKinds, or_zero, text_or_null, value_in, values_at, slot_in, is_zero, is_free, is_spelled, slot_by, slot_of}
+use Rattle.dms_layout.specs.Slots.{record_bytes, slot_width, slot_bytes, may_own, SlotFits, AreKinds, or_zero, text_or_null, value_in, values_at, slot_in, is_zero, is_free, is_spelled, slot_by, slot_of}
+use Rattle.dms_desc.specs.Fitting.{values_fit}
 use Rattle.dms_layout.specs.SlotLaws.{slot_again}
 
 -- ---- texts that are read are plain
@@ -78,13 +79,13 @@ used_by false false x slot h = absurd (cc)
 record Spelled (s : Shape) (bytes : List ℕ) (slot : Slot) : Type 0 where
   same : bytes ≡ slot_bytes s.items slot
   disjoint : may_own s slot.rec.owner ≡ true
-  values : all_fit s.items slot.rec.values ≡ true
+  values : values_fit s.items slot.rec.values ≡ true
 
 spelled_is : (s : Shape) (bytes : List ℕ) (slot : Slot) → is_spelled s bytes slot ≡ true → Spelled s bytes slot
 unfolding is_spelled
 spelled_is s bytes slot h =
-    let outer = and_parts (bytes_eq bytes (slot_bytes s.items slot)) (may_own s slot.rec.owner && all_fit s.items slot.rec.values) h in
-    let inner = and_parts (may_own s slot.rec.owner) (all_fit s.items slot.rec.values) outer.1 in
+    let outer = and_parts (bytes_eq bytes (slot_bytes s.items slot)) (may_own s slot.rec.owner && values_fit s.items slot.rec.values) h in
+    let inner = and_parts (may_own s slot.rec.owner) (values_fit s.items slot.rec.values) outer.1 in
     record { same = (bytes_eq-Decides bytes (slot_bytes s.items slot)).0 outer.0; disjoint = inner.0; values = inner.1 }
 
 read_fits : (s : Shape) (bytes : List ℕ) (slot : Slot) → slot_in s.items bytes ≡ slot → Spelled s bytes slot → SlotFits s slot

@@ -26,7 +26,8 @@ use Rattle.dms_key.specs.KeyOrder.{field_length, fits_length, number_small, bits
 use Rattle.dms_layout.specs.declared.slot.Slot.{Slot}
 use Rattle.dms_layout.specs.declared.slot.SlotRead.TheVariants.{Used}
 use Rattle.dms_desc.specs.Widths.{item_width, record_width}
-use Rattle.dms_layout.specs.Slots.{record_bytes, slot_width, slot_bytes, all_fit, SlotFits, AreKinds, or_zero, text_or_null, unshifted, value_at, values_at, slot_in, is_free, is_spelled, slot_by, slot_of}
+use Rattle.dms_layout.specs.Slots.{record_bytes, slot_width, slot_bytes, SlotFits, AreKinds, or_zero, text_or_null, unshifted, value_at, values_at, slot_in, is_free, is_spelled, slot_by, slot_of}
+use Rattle.dms_desc.specs.Fitting.{values_fit}
 
 -- ---- texts
 
@@ -94,12 +95,12 @@ AllFit [] (v ∷ vs) = ⊥
 AllFit (i ∷ is) [] = ⊥
 AllFit (i ∷ is) (v ∷ vs) = FitsKind i.kind v × AllFit is vs
 
-pub each_fits : (is : List Item) (vs : List Value) → AreKinds is → IsTrue (all_fit is vs) → ArePlain vs → AllFit is vs
+pub each_fits : (is : List Item) (vs : List Value) → AreKinds is → IsTrue (values_fit is vs) → ArePlain vs → AllFit is vs
 each_fits [] [] k f p = tt
 each_fits [] (v ∷ vs) k f p = absurd (cc (f))
 each_fits (i ∷ is) [] k f p = absurd (cc (f))
 each_fits (i ∷ is) (v ∷ vs) k f p =
-    let both = and_parts (fits i.kind v) (all_fit is vs) f in
+    let both = and_parts (fits i.kind v) (values_fit is vs) f in
     (record { kind = k.0; fits = both.0; plain = p.0 }, each_fits is vs k.1 both.1 p.1)
 
 pub record_length : (is : List Item) (vs : List Value) → AllFit is vs → length (record_bytes is vs) ≡ record_width is
@@ -161,16 +162,16 @@ slot_length s slot kinds f =
     let e = record_length s.items slot.rec.values (each_fits s.items slot.rec.values kinds f.values f.plain) in
     omega (arith, e)
 
-record_long : (is : List Item) (vs : List Value) → all_fit is vs ≡ true → length (record_bytes is vs) ≡ record_width is
+record_long : (is : List Item) (vs : List Value) → values_fit is vs ≡ true → length (record_bytes is vs) ≡ record_width is
 record_long [] [] f = refl
 record_long [] (v ∷ vs) f = absurd (cc (f))
 record_long (i ∷ is) [] f = absurd (cc (f))
 record_long (i ∷ is) (v ∷ vs) f =
-    let both = and_parts (fits i.kind v) (all_fit is vs) f in
+    let both = and_parts (fits i.kind v) (values_fit is vs) f in
     length-append (field_bytes i.kind v) (record_bytes is vs) ∙ (λ j. fits_length i.kind v both.0 j + record_long is vs both.1 j)
 
 -- a slot whose values fit is as long as a slot
-pub slot_long : (items : List Item) (slot : Slot) → all_fit items slot.rec.values ≡ true → length (slot_bytes items slot) ≡ slot_width items
+pub slot_long : (items : List Item) (slot : Slot) → values_fit items slot.rec.values ≡ true → length (slot_bytes items slot) ≡ slot_width items
 slot_long items slot f =
     let e = record_long items slot.rec.values f in
     omega (arith, e)

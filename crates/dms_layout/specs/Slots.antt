@@ -9,9 +9,10 @@ use Rattle.dms_base.specs.declared.value.Value.{Value}
 use Rattle.dms_base.specs.declared.value.Value.TheVariants.{Null, Text, Number, Bool as Truth, Bits, Link as Reference}
 use Rattle.dms_base.specs.declared.kind.ItemKind.{ItemKind}
 use Rattle.dms_base.specs.declared.kind.ItemKind.TheVariants.{Alpha, Number as Decimal, Bool as OneBit, Field, Link}
-use Rattle.dms_base.specs.Fits.{fits, IsKind}
+use Rattle.dms_base.specs.Fits.{IsKind}
 use Rattle.dms_base.specs.Text.{text_of}
 use Rattle.dms_desc.specs.declared.structure.Item.{Item}
+use Rattle.dms_desc.specs.Fitting.{values_fit}
 use Rattle.dms_desc.specs.Plain.{ArePlain}
 use Rattle.dms_desc.specs.Shape.{Shape}
 use Rattle.dms_desc.specs.Widths.{item_width, record_width}
@@ -39,13 +40,6 @@ slot_bytes items slot = 1 ∷ to_be_bytes w32 slot.rec.owner ++ (to_be_bytes w32
 
 -- ---- what fits
 
--- there are as many values as items, and each fits its item
-abbrev pub all_fit : List Item → List Value → Bool
-all_fit [] [] = true
-all_fit [] (v ∷ vs) = false
-all_fit (i ∷ is) [] = false
-all_fit (i ∷ is) (v ∷ vs) = fits i.kind v && all_fit is vs
-
 -- a record of a data set that stands in no other has no owner
 abbrev pub may_own : Shape → ℕ → Bool
 may_own s owner = not (s.owner == 0) || owner == 0
@@ -56,7 +50,7 @@ pub record SlotFits (s : Shape) (slot : Slot) : Type 0 where
   pub disjoint : IsTrue (may_own s slot.rec.owner)
   pub counted : slot.counted < 2 ^ 32
   pub owned : slot.owned < 2 ^ 32
-  pub values : IsTrue (all_fit s.items slot.rec.values)
+  pub values : IsTrue (values_fit s.items slot.rec.values)
   pub plain : ArePlain slot.rec.values
 
 -- the kinds of items are those that a schema can declare
@@ -110,7 +104,7 @@ is_free items bytes = list_all is_zero bytes && length bytes == slot_width items
 
 -- these bytes are the spelling of this slot, and it fits
 unfoldable pub is_spelled : Shape → List ℕ → Slot → Bool
-is_spelled s bytes slot = bytes_eq bytes (slot_bytes s.items slot) && (may_own s slot.rec.owner && all_fit s.items slot.rec.values)
+is_spelled s bytes slot = bytes_eq bytes (slot_bytes s.items slot) && (may_own s slot.rec.owner && values_fit s.items slot.rec.values)
 
 abbrev pub slot_by : Bool → Bool → Slot → SlotRead
 slot_by true spelled slot = Free

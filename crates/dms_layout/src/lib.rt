@@ -9,6 +9,6 @@ mod tests;
 mod writing;
 
 pub use laws::{reading_law, spelling_law};
-pub use reading::{all_fit, from_slot};
+pub use reading::from_slot;
 pub use slot::{Slot, SlotRead};
 pub use writing::{slot_width, to_slot};

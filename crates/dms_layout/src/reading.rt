@@ -1,13 +1,13 @@
 ghost use Rattle.std.specs.Prelude.{◌≡◌, ◌==◌, IfOk, length, drop};
 ghost use Rattle.std.specs.List.{list_all};
 ghost use Rattle.dms_desc.specs.Shape.{shape_of};
-ghost use Rattle.dms_layout.specs.Slots.{unshifted, text_or_null, value_in, value_at, values_at, slot_in, is_zero, is_free, all_fit, may_own, is_spelled, slot_of, slot_width};
+ghost use Rattle.dms_layout.specs.Slots.{unshifted, text_or_null, value_in, value_at, values_at, slot_in, is_zero, is_free, may_own, is_spelled, slot_of, slot_width};
 ghost use Rattle.dms_base.specs.Text.{text_of};
 
 use crate::writing::to_slot;
 use crate::{Slot, SlotRead};
-use dms_base::{ItemKind, Memory, Text, Value, fits};
-use dms_desc::{Item, Record, Structure, Values, item_width};
+use dms_base::{ItemKind, Memory, Text, Value};
+use dms_desc::{Item, Record, Structure, Values, item_width, values_fit};
 use dms_fields::{take_u32, take_u64};
 use std::alloc::Global;
 
@@ -93,25 +93,6 @@ fn slot_in(alloc: Global, items: &[Item], bytes: &[u8]) -> Result<Slot, Memory>
     })
 }
 
-/// Whether there are as many values as items, and each fits its item.
-pub fn all_fit(items: &[Item], values: &[Value]) -> bool
-    ensures { result ≡ all_fit items.now values.now }
-{
-    let mut rest = values;
-    for item in items {
-        match rest {
-            [] => return false,
-            [value, more @ ..] => {
-                if !fits(&item.kind, value) {
-                    return false;
-                }
-                rest = more;
-            }
-        }
-    }
-    rest.is_empty()
-}
-
 fn are_zeros(bytes: &[u8]) -> bool
     ensures { result ≡ list_all is_zero bytes.now }
 {
@@ -157,7 +138,7 @@ fn is_spelled(alloc: Global, desc: &Structure, bytes: &[u8], slot: &Slot) -> Res
     Ok(
         bytes == spelled.as_slice()
             && may_own(desc, slot.rec.owner)
-            && all_fit(desc.items.as_slice(), slot.rec.values.as_slice()),
+            && values_fit(desc.items.as_slice(), slot.rec.values.as_slice()),
     )
 }
 

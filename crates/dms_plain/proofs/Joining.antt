@@ -8,7 +8,7 @@ use Rattle.dms_desc.specs.declared.bound.Bound.{Bound}
 use Rattle.dms_model.specs.Db.{Place}
 use Rattle.dms_desc.specs.Lookups.{structure_of}
 use Rattle.dms_model.specs.Members.{spot_of, spots_of, belongs, is_before, is_after_bound, is_before_bound, first_of, last_of, first_member, last_member}
-use Rattle.dms_plain.specs.declared.rows.Row.{Row}
+use Rattle.dms_plain.specs.declared.rows.RecordRow.{RecordRow}
 use Rattle.dms_plain.specs.Rows.{entries_of, records_in, db_of, IsInOrder}
 use Rattle.dms_plain.specs.Scans.{lesser, least, greater, greatest, sooner, later, soonest, latest}
 use Rattle.dms_plain.proofs.Maps.{db_entries}
@@ -40,22 +40,22 @@ latest_is s owner upto (e ∷ es) =
     ]
 
 -- the soonest row is the first member after the bound
-pub soonest_first : (s : Shape) (owner : ℕ) (from : Bound) (rows : List Row) → IsInOrder rows → soonest s owner from (entries_of rows) ≡ first_of (Some s) (db_of (records_in rows)) owner from
+pub soonest_first : (s : Shape) (owner : ℕ) (from : Bound) (rows : List RecordRow) → IsInOrder rows → soonest s owner from (entries_of rows) ≡ first_of (Some s) (db_of (records_in rows)) owner from
 soonest_first s owner from rows order =
     ap (soonest s owner from) (sym (db_entries rows order))
     ∙ soonest_is s owner from (entries (records_in rows))
     ∙ sym (first-sorted (is_before s.parts) (before_through s.parts) (before_one_way s.parts) (is_after_bound s.parts from) (spots_of s [] owner (entries (records_in rows))))
 
-pub latest_last : (s : Shape) (owner : ℕ) (upto : Bound) (rows : List Row) → IsInOrder rows → latest s owner upto (entries_of rows) ≡ last_of (Some s) (db_of (records_in rows)) owner upto
+pub latest_last : (s : Shape) (owner : ℕ) (upto : Bound) (rows : List RecordRow) → IsInOrder rows → latest s owner upto (entries_of rows) ≡ last_of (Some s) (db_of (records_in rows)) owner upto
 latest_last s owner upto rows order =
     ap (latest s owner upto) (sym (db_entries rows order))
     ∙ latest_is s owner upto (entries (records_in rows))
     ∙ sym (last-sorted (is_before s.parts) (before_through s.parts) (before_one_way s.parts) (is_before_bound s.parts upto) (spots_of s [] owner (entries (records_in rows))))
 
-pub first_at : (desc : Described) (rows : List Row) (path owner : ℕ) (from : Bound) (o : Option Shape) → structure_of desc path ≡ o → first_of o (db_of (records_in rows)) owner from ≡ first_member desc (db_of (records_in rows)) path owner from
+pub first_at : (desc : Described) (rows : List RecordRow) (path owner : ℕ) (from : Bound) (o : Option Shape) → structure_of desc path ≡ o → first_of o (db_of (records_in rows)) owner from ≡ first_member desc (db_of (records_in rows)) path owner from
 unfolding first_member
 first_at desc rows path owner from o is = ap (λ (x : Option Shape). first_of x (db_of (records_in rows)) owner from) (sym is)
 
-pub last_at : (desc : Described) (rows : List Row) (path owner : ℕ) (upto : Bound) (o : Option Shape) → structure_of desc path ≡ o → last_of o (db_of (records_in rows)) owner upto ≡ last_member desc (db_of (records_in rows)) path owner upto
+pub last_at : (desc : Described) (rows : List RecordRow) (path owner : ℕ) (upto : Bound) (o : Option Shape) → structure_of desc path ≡ o → last_of o (db_of (records_in rows)) owner upto ≡ last_member desc (db_of (records_in rows)) path owner upto
 unfolding last_member
 last_at desc rows path owner upto o is = ap (λ (x : Option Shape). last_of x (db_of (records_in rows)) owner upto) (sym is)

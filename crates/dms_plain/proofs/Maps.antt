@@ -10,35 +10,35 @@ use Rattle.std.proofs.lemmas.Cmp.{alike_right, eq_by_cmp_equiv}
 use Rattle.dms_desc.specs.declared.record.Record.{Record}
 use Rattle.dms_model.specs.Db.{Records, Place, place_cmp}
 use Rattle.dms_model.specs.Places.{places_same, places_total, tied}
-use Rattle.dms_plain.specs.declared.rows.Row.{Row}
+use Rattle.dms_plain.specs.declared.rows.RecordRow.{RecordRow}
 use Rattle.dms_plain.specs.declared.rows.Undo.{Undo}
 use Rattle.dms_plain.specs.Rows.{entries_of, records_in, IsInOrder, restore, undone}
 
 -- the entries of the database of rows in order are theirs
-pub db_entries : (rows : List Row) → IsInOrder rows → entries (records_in rows) ≡ entries_of rows
+pub db_entries : (rows : List RecordRow) → IsInOrder rows → entries (records_in rows) ≡ entries_of rows
 db_entries rows order = entries-from_sorted place_cmp (entries_of rows) order
 
-pub db_get : (rows : List Row) (k : Place) → IsInOrder rows → get (records_in rows) k ≡ find place_cmp k (entries_of rows)
+pub db_get : (rows : List RecordRow) (k : Place) → IsInOrder rows → get (records_in rows) k ≡ find place_cmp k (entries_of rows)
 db_get rows k order = get-entries (records_in rows) k ∙ ap (find place_cmp k) (db_entries rows order)
 
-entries_added : (rows new : List Row) (k : Place) (v : Record) → IsInOrder rows → entries_of new ≡ put place_cmp k v (entries_of rows) → entries (insert (records_in rows) k v) ≡ entries_of new
+entries_added : (rows new : List RecordRow) (k : Place) (v : Record) → IsInOrder rows → entries_of new ≡ put place_cmp k v (entries_of rows) → entries (insert (records_in rows) k v) ≡ entries_of new
 entries_added rows new k v order is =
     entries-insert places_total (records_in rows) k v ∙ ap (λ (es : List (Place × Record)). put place_cmp k v es) (db_entries rows order) ∙ sym is
 
 -- rows with one more in its place are in order
-pub in_order_added : (rows new : List Row) (k : Place) (v : Record) → IsInOrder rows → entries_of new ≡ put place_cmp k v (entries_of rows) → IsInOrder new
+pub in_order_added : (rows new : List RecordRow) (k : Place) (v : Record) → IsInOrder rows → entries_of new ≡ put place_cmp k v (entries_of rows) → IsInOrder new
 in_order_added rows new k v order is =
     subst (λ (es : List (Place × Record)). T (is_sorted place_cmp es)) (entries_added rows new k v order is) (entries_sorted (insert (records_in rows) k v))
 
 -- and they are the database with one more
-pub db_added : (rows new : List Row) (k : Place) (v : Record) → IsInOrder rows → entries_of new ≡ put place_cmp k v (entries_of rows) → records_in new ≡ insert (records_in rows) k v
+pub db_added : (rows new : List RecordRow) (k : Place) (v : Record) → IsInOrder rows → entries_of new ≡ put place_cmp k v (entries_of rows) → records_in new ≡ insert (records_in rows) k v
 db_added rows new k v order is =
     same_entries_map _ _ (db_entries new (in_order_added rows new k v order is) ∙ sym (entries_added rows new k v order is))
 
 abbrev stays : Place → Place → Bool
 stays k x = not (eq_by_cmp place_cmp k x)
 
-pub in_order_left : (rows new : List Row) (k : Place) → IsInOrder rows → entries_of new ≡ filter (λ e. not (eq_by_cmp place_cmp k e.0)) (entries_of rows) → IsInOrder new
+pub in_order_left : (rows new : List RecordRow) (k : Place) → IsInOrder rows → entries_of new ≡ filter (λ e. not (eq_by_cmp place_cmp k e.0)) (entries_of rows) → IsInOrder new
 in_order_left rows new k order is =
     subst (λ (es : List (Place × Record)). T (is_sorted place_cmp es)) (sym is) (is_sorted-where_key place_cmp (stays k) (entries_of rows) order)
 
@@ -46,7 +46,7 @@ swapped : (b : Bool) (x : Option Record) → cond (not b) x None ≡ cond b None
 swapped true x = refl
 swapped false x = refl
 
-pub db_left : (rows new : List Row) (k : Place) → IsInOrder rows → entries_of new ≡ filter (λ e. not (eq_by_cmp place_cmp k e.0)) (entries_of rows) → records_in new ≡ remove (records_in rows) k
+pub db_left : (rows new : List RecordRow) (k : Place) → IsInOrder rows → entries_of new ≡ filter (λ e. not (eq_by_cmp place_cmp k e.0)) (entries_of rows) → records_in new ≡ remove (records_in rows) k
 db_left rows new k order is =
     same_map places_total places_same _ _ (λ q.
     db_get new q (in_order_left rows new k order is)

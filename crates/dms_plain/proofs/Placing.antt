@@ -5,7 +5,7 @@ use Rattle.std.specs.List.{filter, drop-map}
 use Rattle.std.specs.declared.cmp.Ordering.TheVariants.{Less, Equal, Greater}
 use Rattle.std.proofs.lemmas.List.{drop_more, take_more, drop_all, map-append, take-map, map-set}
 use Rattle.dms_desc.specs.declared.record.Record.{Record}
-use Rattle.dms_plain.specs.declared.rows.Row.{Row}
+use Rattle.dms_plain.specs.declared.rows.RecordRow.{RecordRow}
 use Rattle.dms_plain.specs.Rows.{entry_of, entries_of}
 use Rattle.dms_model.specs.Db.{Place, place_cmp}
 
@@ -18,17 +18,17 @@ put_equal k v e es h = rw h refl
 put_greater : (k : Place) (v : Record) (e : Place × Record) (es : List (Place × Record)) → place_cmp k e.0 ≡ Greater → put place_cmp k v (e ∷ es) ≡ e ∷ put place_cmp k v es
 put_greater k v e es h = rw h refl
 
-get_row : (rows : List Row) (i : ℕ) (x : Row) → get_or (entries_of rows) i (entry_of x) ≡ entry_of (get_or rows i x)
+get_row : (rows : List RecordRow) (i : ℕ) (x : RecordRow) → get_or (entries_of rows) i (entry_of x) ≡ entry_of (get_or rows i x)
 get_row [] i x = refl
 get_row (r ∷ rs) zero x = refl
 get_row (r ∷ rs) (suc i) x = get_row rs i x
 
-pub length_rows : (rows : List Row) → length (entries_of rows) ≡ length rows
+pub length_rows : (rows : List RecordRow) → length (entries_of rows) ≡ length rows
 length_rows [] = refl
 length_rows (r ∷ rs) = ap suc (length_rows rs)
 
 -- the entry of this turn
-pub at_row : (rows : List Row) (i : ℕ) (x : Row) → i < length rows → x ≡ get_or rows i x → drop i (entries_of rows) ≡ entry_of x ∷ drop (i + 1) (entries_of rows)
+pub at_row : (rows : List RecordRow) (i : ℕ) (x : RecordRow) → i < length rows → x ≡ get_or rows i x → drop i (entries_of rows) ≡ entry_of x ∷ drop (i + 1) (entries_of rows)
 at_row rows i x lt is =
     drop_more (entries_of rows) i (entry_of x) (omega (arith, length_rows rows))
     ∙ ap (λ (e : Place × Record). e ∷ drop (i + 1) (entries_of rows)) (get_row rows i x ∙ ap entry_of (sym is))
@@ -50,14 +50,14 @@ pub record IsPast (k : Place) (i : ℕ) (es : List (Place × Record)) : Type 0 w
 pub IsPast-start : (k : Place) (es : List (Place × Record)) → IsPast k 0 es
 IsPast-start k es = record { split = λ v. refl }
 
-pub IsPast-here : (k : Place) (i : ℕ) (rows : List Row) (x : Row) → IsPast k i (entries_of rows) → i < length rows → x ≡ get_or rows i x → place_cmp k (x.set, x.number) ≡ Less
+pub IsPast-here : (k : Place) (i : ℕ) (rows : List RecordRow) (x : RecordRow) → IsPast k i (entries_of rows) → i < length rows → x ≡ get_or rows i x → place_cmp k (x.set, x.number) ≡ Less
     → (v : Record) → put place_cmp k v (entries_of rows) ≡ insert (entries_of rows) i (k, v)
 IsPast-here k i rows x past lt is less v =
     let at = at_row rows i x lt is in
     past.split v ∙ ap (λ (es : List (Place × Record)). take i (entries_of rows) ++ es)
     (ap (put place_cmp k v) at ∙ put_less k v (entry_of x) (drop (i + 1) (entries_of rows)) less ∙ ap (λ (es : List (Place × Record)). (k, v) ∷ es) (sym at))
 
-pub IsPast-at : (k : Place) (i : ℕ) (rows : List Row) (x : Row) → IsPast k i (entries_of rows) → i < length rows → x ≡ get_or rows i x → place_cmp k (x.set, x.number) ≡ Equal
+pub IsPast-at : (k : Place) (i : ℕ) (rows : List RecordRow) (x : RecordRow) → IsPast k i (entries_of rows) → i < length rows → x ≡ get_or rows i x → place_cmp k (x.set, x.number) ≡ Equal
     → (v : Record) (d : Place × Record) → put place_cmp k v (entries_of rows) ≡ slice_set (entries_of rows) i ((slice_index_or (entries_of rows) i d).0, v)
 IsPast-at k i rows x past lt is tie v d =
     let at = at_row rows i x lt is in
@@ -68,7 +68,7 @@ IsPast-at k i rows x past lt is tie v d =
     ∙ ap (λ (n : ℕ). take i (entries_of rows) ++ ((slice_index_or (entries_of rows) i d).0, v) ∷ drop n (entries_of rows)) (add-one i)
     ∙ set_splits (entries_of rows) i d v (omega (arith, length_rows rows))
 
-pub IsPast-more : (k : Place) (i : ℕ) (rows : List Row) (x : Row) → IsPast k i (entries_of rows) → i < length rows → x ≡ get_or rows i x → place_cmp k (x.set, x.number) ≡ Greater → IsPast k (i + 1) (entries_of rows)
+pub IsPast-more : (k : Place) (i : ℕ) (rows : List RecordRow) (x : RecordRow) → IsPast k i (entries_of rows) → i < length rows → x ≡ get_or rows i x → place_cmp k (x.set, x.number) ≡ Greater → IsPast k (i + 1) (entries_of rows)
 IsPast-more k i rows x past lt is more =
     let at = at_row rows i x lt is in
     let e = take_more (entries_of rows) i (entry_of x) (omega (arith, length_rows rows)) ∙ ap (λ (y : Place × Record). take i (entries_of rows) ++ y ∷ []) (get_row rows i x ∙ ap entry_of (sym is)) in
@@ -79,21 +79,21 @@ IsPast-more k i rows x past lt is more =
           ∙ ap (λ (es : List (Place × Record)). es ++ put place_cmp k v (drop (i + 1) (entries_of rows))) (sym e);
     }
 
-pub IsPast-end : (k : Place) (i : ℕ) (rows : List Row) → IsPast k i (entries_of rows) → i ≡ length rows → (v : Record) → put place_cmp k v (entries_of rows) ≡ insert (entries_of rows) i (k, v)
+pub IsPast-end : (k : Place) (i : ℕ) (rows : List RecordRow) → IsPast k i (entries_of rows) → i ≡ length rows → (v : Record) → put place_cmp k v (entries_of rows) ≡ insert (entries_of rows) i (k, v)
 IsPast-end k i rows past is v =
     let none : drop i (entries_of rows) ≡ [] = drop_all i (entries_of rows) (omega (arith, length_rows rows)) in
     past.split v ∙ ap (λ (es : List (Place × Record)). take i (entries_of rows) ++ put place_cmp k v es) none
     ∙ ap (λ (es : List (Place × Record)). take i (entries_of rows) ++ (k, v) ∷ es) (sym none)
 
 -- the entries of rows with one more
-pub entries_of-insert : (rows : List Row) (i : ℕ) (x : Row) → entries_of (insert rows i x) ≡ insert (entries_of rows) i (entry_of x)
+pub entries_of-insert : (rows : List RecordRow) (i : ℕ) (x : RecordRow) → entries_of (insert rows i x) ≡ insert (entries_of rows) i (entry_of x)
 entries_of-insert rows i x =
     map-append entry_of (take i rows) (x ∷ drop i rows)
     ∙ ap (λ (es : List (Place × Record)). es ++ entry_of x ∷ entries_of (drop i rows)) (sym (take-map entry_of i rows))
     ∙ ap (λ (es : List (Place × Record)). take i (entries_of rows) ++ entry_of x ∷ es) (sym (drop-map entry_of i rows))
 
 -- the entries of the rows that pass a test of their places
-pub entries_of-filter : (test : Place → Bool) (rows : List Row) → entries_of (filter (λ r. test (r.set, r.number)) rows) ≡ filter (λ e. test e.0) (entries_of rows)
+pub entries_of-filter : (test : Place → Bool) (rows : List RecordRow) → entries_of (filter (λ r. test (r.set, r.number)) rows) ≡ filter (λ e. test e.0) (entries_of rows)
 entries_of-filter test [] = refl
 entries_of-filter test (r ∷ rs) =
     elim (test (r.set, r.number)) as (λ b. entries_of (cond b (r ∷ filter (λ x. test (x.set, x.number)) rs) (filter (λ x. test (x.set, x.number)) rs)) ≡ cond b (entry_of r ∷ filter (λ e. test e.0) (entries_of rs)) (filter (λ e. test e.0) (entries_of rs))) [
@@ -101,11 +101,11 @@ entries_of-filter test (r ∷ rs) =
       | false ↦ entries_of-filter test rs
     ]
 
-pub replaced : (items items' : List Row) (i : ℕ) (r : Row) (k : Place) (v : Record) → items' ≡ items → r ≡ get_or items i r
+pub replaced : (items items' : List RecordRow) (i : ℕ) (r : RecordRow) (k : Place) (v : Record) → items' ≡ items → r ≡ get_or items i r
     → ((x : Record) (d : Place × Record) → put place_cmp k x (entries_of items') ≡ slice_set (entries_of items') i ((slice_index_or (entries_of items') i d).0, x))
     → entries_of (slice_set items i (record { set = r.set; number = r.number; rec = v })) ≡ put place_cmp k v (entries_of items)
 replaced items items' i r k v same at told =
-    let told' = subst (λ (rs : List Row). put place_cmp k v (entries_of rs) ≡ slice_set (entries_of rs) i ((slice_index_or (entries_of rs) i (entry_of r)).0, v)) same (told v (entry_of r)) in
+    let told' = subst (λ (rs : List RecordRow). put place_cmp k v (entries_of rs) ≡ slice_set (entries_of rs) i ((slice_index_or (entries_of rs) i (entry_of r)).0, v)) same (told v (entry_of r)) in
     map-set entry_of items i (record { set = r.set; number = r.number; rec = v })
     ∙ ap (λ (e : Place × Record). slice_set (entries_of items) i (e.0, v)) (sym (get_row items i r ∙ ap entry_of (sym at)))
     ∙ sym told'

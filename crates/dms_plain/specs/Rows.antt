@@ -6,24 +6,24 @@ use Rattle.dms_desc.specs.declared.record.Record.{Record}
 use Rattle.dms_desc.specs.Shape.{Described}
 use Rattle.dms_model.specs.Fitting.{RecordsFit}
 use Rattle.dms_model.specs.Db.{Db, Place, Records, place_cmp}
-use Rattle.dms_plain.specs.declared.rows.Row.{Row}
+use Rattle.dms_plain.specs.declared.rows.RecordRow.{RecordRow}
 use Rattle.dms_plain.specs.declared.rows.Undo.{Undo}
 use Rattle.dms_plain.specs.declared.rows.Where.{Where}
 use Rattle.dms_plain.specs.declared.rows.Where.TheVariants.{At as AtRow, Before as BeforeRow}
 
-abbrev pub entry_of : Row → Place × Record
+abbrev pub entry_of : RecordRow → Place × Record
 entry_of r = ((r.set, r.number), r.rec)
 
 -- the entries that rows stand for
-abbrev pub entries_of : List Row → List (Place × Record)
+abbrev pub entries_of : List RecordRow → List (Place × Record)
 entries_of rows = map entry_of rows
 
 -- the rows stand in the order of their places, each place once
-abbrev pub IsInOrder : List Row → Type 0
+abbrev pub IsInOrder : List RecordRow → Type 0
 IsInOrder rows = T (is_sorted place_cmp (entries_of rows))
 
 -- the records of rows in order
-abbrev pub records_in : List Row → Records
+abbrev pub records_in : List RecordRow → Records
 records_in rows = from_sorted (entries_of rows)
 
 -- records in which a place is as it was
@@ -46,6 +46,6 @@ IsWhere k es (AtRow i) = (i < length es) × ((v : Record) (d : Place × Record) 
 IsWhere k es (BeforeRow i) = (i ≤ length es) × ((v : Record) → put place_cmp k v es ≡ insert_at es i (k, v))
 
 -- the records fit their data sets, and so do those before what was done
-pub record RowsFit (desc : Described) (rows : List Row) (undo : List Undo) : Type 0 where
+pub record RowsFit (desc : Described) (rows : List RecordRow) (undo : List Undo) : Type 0 where
   pub records : RecordsFit desc (records_in rows)
   pub mark : RecordsFit desc (undone undo (records_in rows))

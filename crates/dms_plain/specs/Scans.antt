@@ -8,7 +8,7 @@ use Rattle.dms_desc.specs.Shape.{Shape}
 use Rattle.dms_model.specs.declared.spot.Spot.{Spot}
 use Rattle.dms_model.specs.Db.{Place}
 use Rattle.dms_model.specs.Members.{spot_of, belongs, is_before, is_after_bound, is_before_bound}
-use Rattle.dms_plain.specs.declared.rows.Row.{Row}
+use Rattle.dms_plain.specs.declared.rows.RecordRow.{RecordRow}
 use Rattle.dms_plain.specs.Rows.{entry_of}
 
 module _ {A : Type 0} (less : A → A → Bool) where
@@ -32,7 +32,7 @@ module _ {A : Type 0} (less : A → A → Bool) where
   greatest p (x ∷ xs) = if p x then greater x (greatest p xs) else greatest p xs
 
 -- the spot of the row that is the best so far
-abbrev pub spot_at : Shape → Option Row → Option Spot
+abbrev pub spot_at : Shape → Option RecordRow → Option Spot
 spot_at s best = option_map (λ r. spot_of s.parts (entry_of r)) best
 
 -- what one row makes of the best so far

@@ -5,7 +5,7 @@ ghost use Rattle.dms_plain.specs.Rows.{entries_of};
 ghost use Rattle.dms_plain.specs.Clashes.{clash_in};
 
 use crate::keys::order_of_keys;
-use crate::rows::Row;
+use crate::rows::RecordRow;
 use crate::scan::belongs;
 use dms_base::Value;
 use dms_desc::{Record, Structure};
@@ -20,7 +20,7 @@ fn is_other(number: Option<u64>, m: u64) -> bool
 }
 
 /// Whether another record of the owner stands in the structure with an equal key.
-fn has_equal(s: &Structure, number: Option<u64>, rec: &Record, rows: &[Row]) -> bool
+fn has_equal(s: &Structure, number: Option<u64>, rec: &Record, rows: &[RecordRow]) -> bool
     ensures { result ≡ has_equal (shape_of s.now) [] number rec.now (entries_of rows.now) }
 {
     for row in rows {
@@ -49,7 +49,7 @@ fn is_closed(s: &Structure, set: u16, values: &[Value]) -> bool
 /// The first structure that refuses a record.
 pub fn clash(
     structures: &[Structure],
-    rows: &[Row],
+    rows: &[RecordRow],
     set: u16,
     number: Option<u64>,
     rec: &Record,

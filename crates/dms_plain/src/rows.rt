@@ -6,7 +6,7 @@ ghost use Rattle.std.specs.Ordering.{eq_by_cmp};
 ghost use Rattle.dms_model.specs.Db.{place_cmp, rows_of, gap_from};
 ghost use Rattle.dms_desc.specs.declared.record.Record.{Record};
 ghost use Rattle.dms_plain.specs.Rows.{entry_of, entries_of, IsWhere};
-ghost use Rattle.dms_plain.specs.declared.rows.Row.{Row};
+ghost use Rattle.dms_plain.specs.declared.rows.RecordRow.{RecordRow};
 
 use dms_base::Memory;
 use dms_desc::Record;
@@ -15,7 +15,7 @@ use std::cmp::Ordering;
 
 /// A record in its place.
 #[derive(Drop)]
-pub struct Row {
+pub struct RecordRow {
     pub set: u16,
     pub number: u64,
     pub rec: Record,
@@ -30,7 +30,7 @@ pub struct Undo {
 }
 
 /// How many records a data set has.
-pub fn count(rows: &[Row], set: u16) -> usize
+pub fn count(rows: &[RecordRow], set: u16) -> usize
     ensures { result ≡ length (rows_of set (entries_of rows.now)) }
 {
     let mut n = 0usize;
@@ -43,7 +43,7 @@ pub fn count(rows: &[Row], set: u16) -> usize
 }
 
 /// The least number from 1 that no record of the data set has.
-pub fn fresh(rows: &[Row], set: u16) -> u64
+pub fn fresh(rows: &[RecordRow], set: u16) -> u64
     ensures { result ≡ gap_from 1 (rows_of set (entries_of rows.now)) }
 {
     let mut n = 1u64;
@@ -60,14 +60,14 @@ pub fn fresh(rows: &[Row], set: u16) -> u64
 }
 
 /// A place and that of a row.
-fn place_order(set: u16, number: u64, row: &Row) -> Ordering
+fn place_order(set: u16, number: u64, row: &RecordRow) -> Ordering
     ensures { result ≡ place_cmp (set, number) (row.now.set, row.now.number) }
 {
     set.cmp(&row.set).then(number.cmp(&row.number))
 }
 
 /// The record at a place.
-pub fn look(rows: &[Row], set: u16, number: u64) -> Option<&Record>
+pub fn look(rows: &[RecordRow], set: u16, number: u64) -> Option<&Record>
     ensures { option_copied result ≡ find place_cmp (set, number) (entries_of rows.now) }
 {
     for row in rows {
@@ -79,7 +79,12 @@ pub fn look(rows: &[Row], set: u16, number: u64) -> Option<&Record>
 }
 
 /// A copy of the record at a place.
-pub fn get(alloc: Global, rows: &[Row], set: u16, number: u64) -> Result<Option<Record>, Memory>
+pub fn get(
+    alloc: Global,
+    rows: &[RecordRow],
+    set: u16,
+    number: u64,
+) -> Result<Option<Record>, Memory>
     ensures { IfOk result (λ r. r ≡ find place_cmp (set, number) (entries_of rows.now)) }
 {
     match look(rows, set, number) {
@@ -95,7 +100,7 @@ enum Where {
     Before(usize),
 }
 
-fn where_is(rows: &[Row], set: u16, number: u64) -> Where
+fn where_is(rows: &[RecordRow], set: u16, number: u64) -> Where
     ensures { IsWhere (set, number) (entries_of rows.now) result }
 {
     for (i, row) in rows.iter().enumerate() {
@@ -109,7 +114,7 @@ fn where_is(rows: &[Row], set: u16, number: u64) -> Where
 }
 
 /// Puts a row in its place, over the one that is there.
-pub fn place_row(rows: &mut Vec<Row>, row: Row) -> Result<(), Memory>
+pub fn place_row(rows: &mut Vec<RecordRow>, row: RecordRow) -> Result<(), Memory>
     ensures ok { OnOk result (entries_of rows.new.items ≡ put place_cmp (row.set, row.number) row.rec (entries_of rows.old.items)) }
     ensures err { OnErr result (rows.new.items ≡ rows.old.items) }
 {
@@ -126,7 +131,7 @@ pub fn place_row(rows: &mut Vec<Row>, row: Row) -> Result<(), Memory>
 }
 
 /// Takes away the row of a place, if there is one.
-pub fn remove_row(rows: &mut Vec<Row>, set: u16, number: u64)
+pub fn remove_row(rows: &mut Vec<RecordRow>, set: u16, number: u64)
     ensures { entries_of rows.new.items ≡ filter (λ e. not (eq_by_cmp place_cmp (set, number) e.0)) (entries_of rows.old.items) }
 {
     rows.retain(

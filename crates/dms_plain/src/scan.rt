@@ -6,12 +6,12 @@ ghost use Rattle.dms_plain.specs.Rows.{entry_of, entries_of};
 ghost use Rattle.dms_plain.specs.Scans.{spot_at, sooner, later, soonest, latest};
 
 use crate::keys::{order_of_keys, order_to_key};
-use crate::rows::Row;
+use crate::rows::RecordRow;
 use dms_desc::{Bound, KeyPart, Structure};
 use std::cmp::Ordering;
 
 /// Whether a row is a member of a structure for an owner. A manual subset has none.
-pub fn belongs(s: &Structure, owner: u64, row: &Row) -> bool
+pub fn belongs(s: &Structure, owner: u64, row: &RecordRow) -> bool
     ensures { result ≡ belongs (shape_of s.now) [] owner (entry_of row.now) }
 {
     s.over() == row.set
@@ -21,7 +21,7 @@ pub fn belongs(s: &Structure, owner: u64, row: &Row) -> bool
 }
 
 /// Whether a row stands before another.
-fn is_before(parts: &[KeyPart], a: &Row, b: &Row) -> bool
+fn is_before(parts: &[KeyPart], a: &RecordRow, b: &RecordRow) -> bool
     ensures { result ≡ is_before parts.now (spot_of parts.now (entry_of a.now)) (spot_of parts.now (entry_of b.now)) }
 {
     order_of_keys(parts, a.rec.values.as_slice(), b.rec.values.as_slice())
@@ -41,7 +41,7 @@ fn front_of(parts: &[KeyPart], n: usize) -> &[KeyPart]
 }
 
 /// Where a row stands to a bound.
-fn bound_order(parts: &[KeyPart], bound: &Bound, row: &Row) -> Ordering
+fn bound_order(parts: &[KeyPart], bound: &Bound, row: &RecordRow) -> Ordering
     ensures { result ≡ bound_cmp parts.now bound.now (spot_of parts.now (entry_of row.now)) }
 {
     match bound {
@@ -63,9 +63,9 @@ fn sooner<'a>(
     s: &Structure,
     owner: u64,
     from: &Bound,
-    row: &'a Row,
-    best: Option<&'a Row>,
-) -> Option<&'a Row>
+    row: &'a RecordRow,
+    best: Option<&'a RecordRow>,
+) -> Option<&'a RecordRow>
     ensures { spot_at (shape_of s.now) (option_copied result) ≡ sooner (shape_of s.now) owner from.now (entry_of row.now) (spot_at (shape_of s.now) (option_copied best.entry)) }
 {
     if !belongs(s, owner, row) {
@@ -91,9 +91,9 @@ fn later<'a>(
     s: &Structure,
     owner: u64,
     upto: &Bound,
-    row: &'a Row,
-    best: Option<&'a Row>,
-) -> Option<&'a Row>
+    row: &'a RecordRow,
+    best: Option<&'a RecordRow>,
+) -> Option<&'a RecordRow>
     ensures { spot_at (shape_of s.now) (option_copied result) ≡ later (shape_of s.now) owner upto.now (entry_of row.now) (spot_at (shape_of s.now) (option_copied best.entry)) }
 {
     if !belongs(s, owner, row) {
@@ -114,10 +114,15 @@ fn later<'a>(
 }
 
 /// The first member after a bound.
-pub fn first<'a>(rows: &'a [Row], s: &Structure, owner: u64, from: &Bound) -> Option<&'a Row>
+pub fn first<'a>(
+    rows: &'a [RecordRow],
+    s: &Structure,
+    owner: u64,
+    from: &Bound,
+) -> Option<&'a RecordRow>
     ensures { spot_at (shape_of s.now) (option_copied result) ≡ soonest (shape_of s.now) owner from.now (entries_of rows.now) }
 {
-    let mut best: Option<&Row> = None;
+    let mut best: Option<&RecordRow> = None;
     for k in 0..rows.len() {
         let row = &rows[rows.len() - 1 - k];
         best = sooner(s, owner, from, row, best);
@@ -126,10 +131,15 @@ pub fn first<'a>(rows: &'a [Row], s: &Structure, owner: u64, from: &Bound) -> Op
 }
 
 /// The last member before a bound.
-pub fn last<'a>(rows: &'a [Row], s: &Structure, owner: u64, upto: &Bound) -> Option<&'a Row>
+pub fn last<'a>(
+    rows: &'a [RecordRow],
+    s: &Structure,
+    owner: u64,
+    upto: &Bound,
+) -> Option<&'a RecordRow>
     ensures { spot_at (shape_of s.now) (option_copied result) ≡ latest (shape_of s.now) owner upto.now (entries_of rows.now) }
 {
-    let mut best: Option<&Row> = None;
+    let mut best: Option<&RecordRow> = None;
     for k in 0..rows.len() {
         let row = &rows[rows.len() - 1 - k];
         best = later(s, owner, upto, row, best);

@@ -10,7 +10,7 @@ ghost use Rattle.dms_plain.specs.Clashes.{put_in};
 ghost use Rattle.dms_plain.specs.Scans.{spot_at, soonest, latest};
 
 use crate::clash::clash;
-use crate::rows::{self, Row, Undo};
+use crate::rows::{self, RecordRow, Undo};
 use crate::scan;
 use dms_base::{Memory, Value};
 use dms_desc::{Bound, Description, Record, Structure};
@@ -18,7 +18,12 @@ use dms_model::{Put, Spot, key_of, linked};
 use std::alloc::Global;
 
 /// The record at a place of the database.
-pub fn get(alloc: Global, rows: &[Row], set: u16, number: u64) -> Result<Option<Record>, Memory>
+pub fn get(
+    alloc: Global,
+    rows: &[RecordRow],
+    set: u16,
+    number: u64,
+) -> Result<Option<Record>, Memory>
     requires { IsInOrder rows.now }
     ensures { IfOk result (λ r. r ≡ get (records_in rows.now) (set, number)) }
 {
@@ -35,7 +40,13 @@ fn is_full(s: Option<&Structure>, count: usize) -> bool
 }
 
 /// What is answered where this record would be stored.
-fn put_in(desc: &Description, rows: &[Row], set: u16, number: Option<u64>, made: &Record) -> Put
+fn put_in(
+    desc: &Description,
+    rows: &[RecordRow],
+    set: u16,
+    number: Option<u64>,
+    made: &Record,
+) -> Put
     ensures { result ≡ put_in (described desc.now) (entries_of rows.now) set number made.now }
 {
     if let Some(s) = clash(desc.structures.as_slice(), rows, set, number, made) {
@@ -90,9 +101,9 @@ fn linked_record(
 
 /// Stores a row, and keeps what stood there.
 pub fn store_row(
-    rows: &mut Vec<Row>,
+    rows: &mut Vec<RecordRow>,
     undo: &mut Vec<Undo>,
-    row: Row,
+    row: RecordRow,
     old: Option<Record>,
 ) -> Result<(), Memory>
     requires in_order { IsInOrder rows.old.items }
@@ -120,7 +131,7 @@ pub fn store_row(
 /// The record that stands under the number that is named.
 fn old_of(
     alloc: Global,
-    rows: &[Row],
+    rows: &[RecordRow],
     set: u16,
     number: Option<u64>,
 ) -> Result<Option<Record>, Memory>
@@ -137,7 +148,7 @@ fn old_of(
 pub fn put(
     alloc: Global,
     desc: &Description,
-    rows: &mut Vec<Row>,
+    rows: &mut Vec<RecordRow>,
     undo: &mut Vec<Undo>,
     set: u16,
     number: Option<u64>,
@@ -155,7 +166,7 @@ pub fn put(
     let made = linked_record(alloc, desc, set, &old, rec)?;
     match put_in(desc, rows.as_slice(), set, number, &made) {
         Put::Stored(found) => {
-            let row = Row {
+            let row = RecordRow {
                 set,
                 number: found,
                 rec: made,
@@ -169,7 +180,7 @@ pub fn put(
 }
 
 /// Takes one change back.
-fn restore_row(rows: &mut Vec<Row>, undo: Undo) -> Result<(), Memory>
+fn restore_row(rows: &mut Vec<RecordRow>, undo: Undo) -> Result<(), Memory>
     requires { IsInOrder rows.old.items }
     ensures in_order { IsInOrder rows.new.items }
     ensures db { OnOk result (records_in rows.new.items ≡ restore (undo.set, undo.number) undo.old (records_in rows.old.items)) }
@@ -181,14 +192,14 @@ fn restore_row(rows: &mut Vec<Row>, undo: Undo) -> Result<(), Memory>
             Ok(())
         }
         Some(rec) => {
-            rows::place_row(rows, Row { set, number, rec })?;
+            rows::place_row(rows, RecordRow { set, number, rec })?;
             Ok(())
         }
     }
 }
 
 /// Takes all changes back, the newest first.
-pub fn take_back(rows: &mut Vec<Row>, undo: &mut Vec<Undo>) -> Result<(), Memory>
+pub fn take_back(rows: &mut Vec<RecordRow>, undo: &mut Vec<Undo>) -> Result<(), Memory>
     requires { IsInOrder rows.old.items }
     ensures in_order { IsInOrder rows.new.items }
     ensures db { OnOk result (records_in rows.new.items ≡ undone undo.old.items (records_in rows.old.items)) }
@@ -204,7 +215,7 @@ pub fn take_back(rows: &mut Vec<Row>, undo: &mut Vec<Undo>) -> Result<(), Memory
 }
 
 /// The spot of a row that was found.
-fn spot_of(alloc: Global, s: &Structure, best: Option<&Row>) -> Result<Option<Spot>, Memory>
+fn spot_of(alloc: Global, s: &Structure, best: Option<&RecordRow>) -> Result<Option<Spot>, Memory>
     ensures { IfOk result (λ r. r ≡ spot_at (shape_of s.now) (option_copied best.entry)) }
 {
     match best {
@@ -220,7 +231,7 @@ fn spot_of(alloc: Global, s: &Structure, best: Option<&Row>) -> Result<Option<Sp
 fn soonest(
     alloc: Global,
     s: &Structure,
-    rows: &[Row],
+    rows: &[RecordRow],
     owner: u64,
     from: &Bound,
 ) -> Result<Option<Spot>, Memory>
@@ -232,7 +243,7 @@ fn soonest(
 fn latest(
     alloc: Global,
     s: &Structure,
-    rows: &[Row],
+    rows: &[RecordRow],
     owner: u64,
     upto: &Bound,
 ) -> Result<Option<Spot>, Memory>
@@ -245,7 +256,7 @@ fn latest(
 pub fn first_member(
     alloc: Global,
     desc: &Description,
-    rows: &[Row],
+    rows: &[RecordRow],
     path: u16,
     owner: u64,
     from: &Bound,
@@ -263,7 +274,7 @@ pub fn first_member(
 pub fn last_member(
     alloc: Global,
     desc: &Description,
-    rows: &[Row],
+    rows: &[RecordRow],
     path: u16,
     owner: u64,
     upto: &Bound,

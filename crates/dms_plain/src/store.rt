@@ -9,7 +9,7 @@ ghost use Rattle.dms_plain.specs.Rows.{RowsFit, db_of, records_in, undone, IsInO
 ghost use Rattle.dms_plain.specs.Speaking.{OnlySpeaks, only_none, only_on};
 ghost use Rattle.dms_plain.specs.Told.{told, point_of, no_clock};
 
-use crate::rows::{Row, Undo};
+use crate::rows::{RecordRow, Undo};
 use crate::state;
 use dms_base::Memory;
 use dms_block::BlockFault;
@@ -24,7 +24,7 @@ use std::mem;
 #[derive(Drop)]
 pub struct PlainStore<S> {
     desc: Description,
-    rows: Vec<Row>,
+    rows: Vec<RecordRow>,
     undo: Vec<Undo>,
     next: u64,
     /// How often quiet points were made durable, and how often it went back to the last one. A count stands still at its

@@ -5,7 +5,7 @@ use Rattle.std.specs.declared.option.Option.{Option}
 use Rattle.std.specs.List.{AllByRecursion, IsDistinct, list_any}
 use Rattle.std.specs.Map.{keys_of, lookup}
 use Rattle.dms_block.specs.declared.block.BlockId.{BlockId}
-use Rattle.dms_pool.specs.declared.frame.Frame.{Frame}
+use Rattle.dms_pool.specs.declared.frame.BufferFrame.{BufferFrame}
 use Rattle.dms_pool.specs.declared.frame.FrameKey.{FrameKey}
 use Rattle.dms_pool.specs.declared.pool.Pool.{Pool}
 use Rattle.dms_pool.specs.Entries.{Entries, id_of, ids_of, is_id, is_key, same_key}
@@ -55,7 +55,7 @@ any_reverse : (p : BlockId → Bool) (xs : List BlockId) → list_any p (reverse
 any_reverse p [] = refl
 any_reverse p (x ∷ xs) = ap (list_any p) (reverse_front x xs) ∙ any_push p (reverse xs) x ∙ ap (λ b. p x || b) (any_reverse p xs)
 
-some_turn : (t : Bool) (f : Frame) (o : Option Frame) (b : Bool) → is_some o ≡ b → is_some (cond t (Some f) o) ≡ (t || b)
+some_turn : (t : Bool) (f : BufferFrame) (o : Option BufferFrame) (b : Bool) → is_some o ≡ b → is_some (cond t (Some f) o) ≡ (t || b)
 some_turn true f o b is = refl
 some_turn false f o b is = is
 

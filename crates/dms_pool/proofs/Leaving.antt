@@ -5,7 +5,7 @@ use Rattle.std.specs.Map.{lookup, set_value}
 use Rattle.std.proofs.lemmas.List.{length-map, length-reverse}
 use Rattle.lru.specs.LruCache.{last_entry, lru_cache, promoted, put_entries}
 use Rattle.dms_block.specs.declared.block.BlockId.{BlockId}
-use Rattle.dms_pool.specs.declared.frame.Frame.{Frame}
+use Rattle.dms_pool.specs.declared.frame.BufferFrame.{BufferFrame}
 use Rattle.dms_pool.specs.declared.frame.FrameKey.{FrameKey}
 use Rattle.dms_pool.specs.declared.pool.Pool.{Pool}
 use Rattle.dms_pool.specs.Entries.{Entries, id_of, ids_of, is_key, key_of, same_key}
@@ -32,7 +32,7 @@ order_length es = length-reverse (ids_of es) ∙ length-map es (λ e. id_of e.0)
 pub has_room : (id : BlockId) (pool : Pool) → HasFrameFor id pool → (nat_lt (length pool.frames.entries) pool.frames.cap || is_some (lookup (is_key id) pool.frames.entries)) ≡ true
 has_room id pool room = ap (λ n. nat_lt n pool.frames.cap || is_some (lookup (is_key id) pool.frames.entries)) (sym (order_length pool.frames.entries)) ∙ room
 
-pub puts : (id : BlockId) (v : Frame) (old new : Pool) → HasFrameFor id old
+pub puts : (id : BlockId) (v : BufferFrame) (old new : Pool) → HasFrameFor id old
     → new.frames ≡ lru_cache (put_entries same_key old.frames (key_of id) v) old.frames.cap → PutsFrame id v old new
 puts id v old new room is =
     let es = old.frames.entries in
@@ -47,7 +47,7 @@ puts id v old new room is =
 pub emptied : (old new : Pool) → new.frames ≡ lru_cache [] old.frames.cap → IsEmpty old.frames.cap new
 emptied old new is = record { holds = λ x. ap (λ c. lookup (is_key x) c.entries) is; uses = ap (λ c. reverse (ids_of c.entries)) is; bound = ap (λ c. c.cap) is }
 
-pub gives_up : (key : FrameKey) (f : Frame) (old new : Pool) → Some (key, f) ≡ last_entry old.frames.entries → new.frames ≡ lru_cache (take (length old.frames.entries - 1) old.frames.entries) old.frames.cap
+pub gives_up : (key : FrameKey) (f : BufferFrame) (old new : Pool) → Some (key, f) ≡ last_entry old.frames.entries → new.frames ≡ lru_cache (take (length old.frames.entries - 1) old.frames.entries) old.frames.cap
     → GivesUp (id_of key) f old new
 gives_up key f old new last is =
     let es = old.frames.entries in
@@ -60,7 +60,7 @@ gives_up key f old new last is =
       bound = ap (λ c. c.cap) is;
     }
 
-pub cleans : (id : BlockId) (f : Frame) (old new : Pool) → lookup (is_key id) old.frames.entries ≡ Some f → new.frames ≡ lru_cache (set_value (is_key id) old.frames.entries (washed f)) old.frames.cap → Cleans id old new
+pub cleans : (id : BlockId) (f : BufferFrame) (old new : Pool) → lookup (is_key id) old.frames.entries ≡ Some f → new.frames ≡ lru_cache (set_value (is_key id) old.frames.entries (washed f)) old.frames.cap → Cleans id old new
 cleans id f old new found is =
     let es = old.frames.entries in
     let all : new.frames.entries ≡ set_value (is_key id) es (washed f) = ap (λ c. c.entries) is in

@@ -1,7 +1,7 @@
 -- What the calls on a pool leave.
 use Rattle.std.specs.Prelude.{ℕ, ◌≡◌, ◌∷◌, ◌||◌, [], Some, None, if◌then◌else◌, is_some, length, nat_lt, option_map, true}
 use Rattle.dms_block.specs.declared.block.BlockId.{BlockId}
-use Rattle.dms_pool.specs.declared.frame.Frame.{Frame}
+use Rattle.dms_pool.specs.declared.frame.BufferFrame.{BufferFrame}
 use Rattle.dms_pool.specs.declared.pool.Pool.{Pool}
 use Rattle.dms_pool.specs.Entries.{is_id}
 use Rattle.dms_pool.specs.Held.{frame_of, most, order, used, washed}
@@ -27,13 +27,13 @@ pub record FrameUsed (id : BlockId) (old new : Pool) : Type 0 where
   pub bound : most new ≡ most old
 
 -- this block has this frame now, and was used
-pub record PutsFrame (id : BlockId) (f : Frame) (old new : Pool) : Type 0 where
+pub record PutsFrame (id : BlockId) (f : BufferFrame) (old new : Pool) : Type 0 where
   pub holds : (x : BlockId) → frame_of x new ≡ (if is_id x id then Some f else frame_of x old)
   pub uses : order new ≡ used id (order old)
   pub bound : most new ≡ most old
 
 -- the least recently used block, which had this frame, is given up
-pub record GivesUp (id : BlockId) (f : Frame) (old new : Pool) : Type 0 where
+pub record GivesUp (id : BlockId) (f : BufferFrame) (old new : Pool) : Type 0 where
   pub was : frame_of id old ≡ Some f
   pub holds : (x : BlockId) → frame_of x new ≡ (if is_id x id then None else frame_of x old)
   pub uses : order old ≡ id ∷ order new

@@ -3,12 +3,12 @@ use Rattle.std.specs.Prelude.{◌<◌, ◌≤◌, ◌==◌, ◌&&◌, Bool, List
 use Rattle.std.specs.List.{IsDistinct}
 use Rattle.std.specs.Map.{keys_of}
 use Rattle.dms_block.specs.declared.block.BlockId.{BlockId}
-use Rattle.dms_pool.specs.declared.frame.Frame.{Frame}
+use Rattle.dms_pool.specs.declared.frame.BufferFrame.{BufferFrame}
 use Rattle.dms_pool.specs.declared.frame.FrameKey.{FrameKey}
 use Rattle.lru.specs.LruCache.{LruCache}
 
 abbrev pub Entries : Type 0
-Entries = List (FrameKey × Frame)
+Entries = List (FrameKey × BufferFrame)
 
 abbrev pub key_of : BlockId → FrameKey
 key_of id = record { file = id.file; block = id.block }
@@ -29,5 +29,5 @@ abbrev pub ids_of : Entries → List BlockId
 ids_of = map (λ e. id_of e.0)
 
 -- no block is held twice, and no more than so many are held
-abbrev pub IsSoundPool : LruCache FrameKey Frame → Type 0
+abbrev pub IsSoundPool : LruCache FrameKey BufferFrame → Type 0
 IsSoundPool frames = IsDistinct same_key (keys_of frames.entries) × (length frames.entries ≤ frames.cap) × (0 < frames.cap)

@@ -5,12 +5,12 @@ use Rattle.std.specs.Option.{option_map_or}
 use Rattle.std.specs.Map.{lookup}
 use Rattle.dms_block.specs.declared.block.Block.{Block}
 use Rattle.dms_block.specs.declared.block.BlockId.{BlockId}
-use Rattle.dms_pool.specs.declared.frame.Frame.{Frame}
+use Rattle.dms_pool.specs.declared.frame.BufferFrame.{BufferFrame}
 use Rattle.dms_pool.specs.declared.pool.Pool.{Pool}
 use Rattle.dms_pool.specs.Entries.{ids_of, is_id, is_key}
 
 -- the frame of a block, where it is held
-abbrev pub frame_of : BlockId → Pool → Option Frame
+abbrev pub frame_of : BlockId → Pool → Option BufferFrame
 frame_of id pool = lookup (is_key id) pool.frames.entries
 
 -- the blocks that are held, from the least recently used on
@@ -33,9 +33,9 @@ is_dirty id pool = option_map_or (λ f. f.dirty) (frame_of id pool) false
 abbrev pub to_write : Pool → ℕ
 to_write pool = length (filter (λ id. is_dirty id pool) (order pool))
 
-abbrev pub framed : Block → Bool → Frame
+abbrev pub framed : Block → Bool → BufferFrame
 framed block dirty = record { block = block; dirty = dirty }
 
 -- a frame that was written
-abbrev pub washed : Frame → Frame
+abbrev pub washed : BufferFrame → BufferFrame
 washed f = framed f.block false

@@ -2,7 +2,7 @@ use dms_block::{Block, BlockId};
 
 /// A block in memory, and whether it is still to be written.
 #[derive(Clone, Copy, Debug, PartialEq, Eq)]
-pub struct Frame {
+pub struct BufferFrame {
     pub block: Block,
     pub dirty: bool,
 }

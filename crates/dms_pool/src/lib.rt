@@ -6,5 +6,5 @@ mod pool;
 #[cfg(test)]
 mod tests;
 
-pub use frame::{Frame, FrameKey};
+pub use frame::{BufferFrame, FrameKey};
 pub use pool::Pool;

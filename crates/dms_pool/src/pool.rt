@@ -2,7 +2,7 @@ ghost use Rattle.std.specs.List.{IsDistinct-prop};
 ghost use Rattle.std.proofs.Props.{props};
 ghost use Rattle.dms_pool.specs.Entries.{IsSoundPool};
 
-use crate::{Frame, FrameKey};
+use crate::{BufferFrame, FrameKey};
 use dms_base::Memory;
 use dms_block::{Block, BlockId};
 use lru::LruCache;
@@ -12,7 +12,7 @@ use std::num::NonZeroUsize;
 /// At most so many blocks in memory. None is held twice.
 #[derive(Drop)]
 pub struct Pool {
-    pub frames: LruCache<FrameKey, Frame>,
+    pub frames: LruCache<FrameKey, BufferFrame>,
     pub ghost sound: { IsSoundPool frames } by { Prim.hlevel (props, IsDistinct-prop) },
 }
 
@@ -61,7 +61,7 @@ impl Pool {
         ensures err { OnErr result (SamePool self.old self.new) }
         ensures again { IsSome (frame_of id self.old) → IsOk result }
     {
-        let frame = Frame {
+        let frame = BufferFrame {
             block: *block,
             dirty,
         };

@@ -11,7 +11,7 @@ use Rattle.dms_history.specs.EntryEvents.{live_of}
 use Rattle.dms_history.specs.SchemaAt.{schema_at}
 use Rattle.dms_audfile.specs.Scanning.{Placed, place_in, entry_in}
 use Rattle.dms_audfile.specs.AuditTrail.{entry_there, AreThere}
-use Rattle.dms_audfile.specs.declared.place.Place.{Place}
+use Rattle.dms_audfile.specs.declared.place.EntryPlace.{EntryPlace}
 use Rattle.dms_audfile.specs.declared.fault.AudFault.{AudFault}
 use Rattle.dms_audfile.specs.declared.fault.AudFault.TheVariants.{Disk, Memory}
 use Rattle.dms_restore.specs.declared.live.LiveEntry.{LiveEntry}
@@ -71,17 +71,17 @@ bytes_on (quiet_point n ∷ xs) ys = bytes_on xs ys
 bytes_on (control_point n next counts ∷ xs) ys = bytes_on xs ys
 bytes_on (begin_restore n kind ∷ xs) ys = bytes_on xs ys
 
-pub parts_next : (files other : Files) (places : List Place) (i : ℕ) (d : Place) (old new : List ℕ) → i < length places → other ≡ files
+pub parts_next : (files other : Files) (places : List EntryPlace) (i : ℕ) (d : EntryPlace) (old new : List ℕ) → i < length places → other ≡ files
     → ((e : Entry) → entry_there other (get_or places i d) ≡ Some e → new ≡ old ++ part_bytes (e ∷ []))
     → (ps : List Placed) → places ≡ map place_in ps → AreThere files ps → old ≡ part_bytes (map entry_in (take i ps)) → new ≡ part_bytes (map entry_in (take (i + 1) ps))
 parts_next files other places i d old new low same step ps are there so_far =
     let under : i < length ps = omega (arith, low, ap length are, map_length ps) in
     let p = get_or ps i no_place in
-    let at : get_or places i d ≡ p.place = ap (λ (l : List Place). get_or l i d) are ∙ get_place ps i d under in
+    let at : get_or places i d ≡ p.place = ap (λ (l : List EntryPlace). get_or l i d) are ∙ get_place ps i d under in
     let here : entry_there other (get_or places i d) ≡ Some p.entry = (λ j. entry_there (same j) (at j)) ∙ (there_at files ps i under there).there in
     step p.entry here ∙ ap (λ (l : List ℕ). l ++ part_bytes (p.entry ∷ [])) so_far ∙ sym (bytes_on (map entry_in (take i ps)) (p.entry ∷ [])) ∙ ap part_bytes (sym (entries_more ps i under))
 
-pub parts_all : (places : List Place) (i : ℕ) (bytes : List ℕ) (ps : List Placed) → length places < i + 1 → places ≡ map place_in ps → bytes ≡ part_bytes (map entry_in (take i ps)) → bytes ≡ part_bytes (map entry_in ps)
+pub parts_all : (places : List EntryPlace) (i : ℕ) (bytes : List ℕ) (ps : List Placed) → length places < i + 1 → places ≡ map place_in ps → bytes ≡ part_bytes (map entry_in (take i ps)) → bytes ≡ part_bytes (map entry_in ps)
 parts_all places i bytes ps le are is = is ∙ ap (λ (l : List Placed). part_bytes (map entry_in l)) (take_all i ps (omega (arith, le, ap length are, map_length ps)))
 
 -- ---- some of the places
@@ -92,7 +92,7 @@ drop_past zero (x ∷ xs) le = absurd (omega (arith, le))
 drop_past (suc n) [] le = refl
 drop_past (suc n) (x ∷ xs) le = drop_past n xs (omega (arith, le))
 
-pub drop_least : (n m : ℕ) (xs : List Place) → m ≡ min n (length xs) → drop m xs ≡ drop n xs
+pub drop_least : (n m : ℕ) (xs : List EntryPlace) → m ≡ min n (length xs) → drop m xs ≡ drop n xs
 drop_least n m xs is = elim (cases_le n (length xs)) [
   | inl le ↦ ap (λ k. drop k xs) (least is le)
   | inr more ↦ ap (λ k. drop k xs) (most is more) ∙ drop_past (length xs) xs (omega arith) ∙ sym (drop_past n xs (omega (arith, more)))
@@ -107,7 +107,7 @@ drop_least n m xs is = elim (cases_le n (length xs)) [
     most : {l : ℕ} → m ≡ min n l → l < n → m ≡ l
     most is more = omega (arith, is, more)
 
-pub take_least : (n m : ℕ) (xs : List Place) → m ≡ min n (length xs) → take m xs ≡ take n xs
+pub take_least : (n m : ℕ) (xs : List EntryPlace) → m ≡ min n (length xs) → take m xs ≡ take n xs
 take_least n m xs is = elim (cases_lt (length xs) n) [
   | inr le ↦ ap (λ k. take k xs) (least n m (length xs) is le)
   | inl more ↦ ap (λ k. take k xs) (most n m (length xs) is more) ∙ take_all (length xs) xs (omega arith) ∙ sym (take_all n xs (omega (arith, more)))
@@ -137,21 +137,21 @@ there_drop files (suc n) [] all = tt
 there_drop files (suc n) (p ∷ ps) all = there_drop files n ps all.1
 
 -- the bytes of the parts are those of the Schema
-pub span_read : (files : Files) (span : SchemaSpan) (places part_places : List Place) (bytes : List ℕ) → part_places ≡ take span.parts (drop span.first places)
+pub span_read : (files : Files) (span : SchemaSpan) (places part_places : List EntryPlace) (bytes : List ℕ) → part_places ≡ take span.parts (drop span.first places)
     → ((ps : List Placed) → part_places ≡ map place_in ps → AreThere files ps → bytes ≡ part_bytes (map entry_in ps))
     → (ps : List Placed) → places ≡ map place_in ps → AreThere files ps → span_bytes (map entry_in ps) (Some span) ≡ Some bytes
 span_read files span places part_places bytes cut read ps are there =
     let own = take span.parts (drop span.first ps) in
-    let is : part_places ≡ map place_in own = cut ∙ ap (λ (l : List Place). take span.parts (drop span.first l)) are ∙ cut_map place_in span.parts span.first ps in
+    let is : part_places ≡ map place_in own = cut ∙ ap (λ (l : List EntryPlace). take span.parts (drop span.first l)) are ∙ cut_map place_in span.parts span.first ps in
     ap (λ (l : List Entry). Some (part_bytes l)) (cut_map entry_in span.parts span.first ps) ∙ ap (λ (l : List ℕ). Some l) (sym (read own is (there_take files span.parts (drop span.first ps) (there_drop files span.first ps there))))
 
 -- no entry stands at one of some of the places
-take_drop : (n : ℕ) (xs : List Place) → take n xs ++ drop n xs ≡ xs
+take_drop : (n : ℕ) (xs : List EntryPlace) → take n xs ++ drop n xs ≡ xs
 take_drop zero xs = refl
 take_drop (suc n) [] = refl
-take_drop (suc n) (x ∷ xs) = ap (λ (l : List Place). x ∷ l) (take_drop n xs)
+take_drop (suc n) (x ∷ xs) = ap (λ (l : List EntryPlace). x ∷ l) (take_drop n xs)
 
-pub none_within : (tells : Bool) (files : Files) (n k : ℕ) (places part_places : List Place) (e : AudFault) → part_places ≡ take n (drop k places)
+pub none_within : (tells : Bool) (files : Files) (n k : ℕ) (places part_places : List EntryPlace) (e : AudFault) → part_places ≡ take n (drop k places)
     → (e ≡ Disk) ⊎ ((e ≡ Memory) ⊎ IsNoEntryOf tells files part_places e) → (e ≡ Disk) ⊎ ((e ≡ Memory) ⊎ IsNoEntryOf tells files places e)
 none_within tells files n k places part_places e cut is = elim is [
   | inl disk ↦ inl disk
@@ -161,7 +161,7 @@ none_within tells files n k places part_places e cut is = elim is [
       place = none.place;
       before = take k places ++ none.before;
       after = none.after ++ drop n (drop k places);
-      among = sym (take_drop k places) ∙ ap (λ (l : List Place). take k places ++ l) (sym (take_drop n (drop k places)) ∙ ap (λ (l : List Place). l ++ drop n (drop k places)) (sym cut ∙ none.among)
+      among = sym (take_drop k places) ∙ ap (λ (l : List EntryPlace). take k places ++ l) (sym (take_drop n (drop k places)) ∙ ap (λ (l : List EntryPlace). l ++ drop n (drop k places)) (sym cut ∙ none.among)
           ∙ append_assoc none.before (none.place ∷ none.after) (drop n (drop k places))) ∙ sym (append_assoc (take k places) none.before (none.place ∷ (none.after ++ drop n (drop k places))));
       is = none.is;
       none = none.none;

@@ -15,7 +15,7 @@ use Rattle.dms_audrec.specs.PairLaws.{counts_many}
 use Rattle.dms_audfile.specs.Gates.{block_at}
 use Rattle.dms_audfile.specs.Blocks.{used_in}
 use Rattle.dms_audfile.specs.AuditTrail.{entry_from, entry_there}
-use Rattle.dms_audfile.specs.declared.place.Place.{Place}
+use Rattle.dms_audfile.specs.declared.place.EntryPlace.{EntryPlace}
 use Rattle.dms_restore.specs.declared.live.ImageAt.{ImageAt}
 use Rattle.dms_restore.specs.declared.live.ControlAt.{ControlAt}
 use Rattle.dms_restore.specs.declared.live.LiveEntry.TheVariants.{Controlled}
@@ -253,7 +253,7 @@ tested false o x is = absurd (none_not_some x is)
 abbrev used_from : List ℕ → ℕ → List ℕ
 used_from block off = drop off (take (2 + used_in block) block)
 
-read_there : (files : Files) (p : Place) (e : Entry) → entry_there files p ≡ Some e
+read_there : (files : Files) (p : EntryPlace) (e : Entry) → entry_there files p ≡ Some e
     → (x : Entry × List ℕ) × (entry_at (used_from (block_at p.block (files p.file)) p.offset) ≡ Some x) × (x.0 ≡ e)
 unfolding entry_there entry_from
 read_there files p e is = mapped _ e (tested _ _ e is)
@@ -264,12 +264,12 @@ behind_kind [] x e = absurd (none_not_some x e)
 behind_kind (kind ∷ rest) x e = kind_read kind rest x e
 
 -- Where the blocks of an Image stand.
-pub record ImageThere (files : Files) (p : Place) (before : Option Block) (after : Block) : Type 0 where
+pub record ImageThere (files : Files) (p : EntryPlace) (before : Option Block) (after : Block) : Type 0 where
   pub new : before ≡ None → (range (4096 * p.block + p.offset + 10) 1024 (files p.file) ≡ after) × (length after ≡ 1024)
   pub old : (y : Block) → before ≡ Some y
       → (range (4096 * p.block + p.offset + 10) 1024 (files p.file) ≡ y) × (length y ≡ 1024) × (range (4096 * p.block + p.offset + 1034) 1024 (files p.file) ≡ after) × (length after ≡ 1024)
 
-pub image_there : (files : Files) (p : Place) (f b : ℕ) (before : Option Block) (after : Block) → entry_there files p ≡ Some (image f b before after) → ImageThere files p before after
+pub image_there : (files : Files) (p : EntryPlace) (f b : ℕ) (before : Option Block) (after : Block) → entry_there files p ≡ Some (image f b before after) → ImageThere files p before after
 image_there files p f b before after is =
     let (x, at, same) = read_there files p (image f b before after) is in
     let bytes = used_from (block_at p.block (files p.file)) p.offset in
@@ -289,7 +289,7 @@ image_there files p f b before after is =
     }
 
 -- Where the counts of a Control stand.
-pub control_there : (files : Files) (p : Place) (n next : ℕ) (counts : List FileCount) → entry_there files p ≡ Some (control_point n next counts)
+pub control_there : (files : Files) (p : EntryPlace) (n next : ℕ) (counts : List FileCount) → entry_there files p ≡ Some (control_point n next counts)
     → counts_at (length counts) (range (4096 * p.block + p.offset + 19) (8 * length counts) (files p.file)) ≡ counts
 control_there files p n next counts is =
     let (x, at, same) = read_there files p (control_point n next counts) is in
@@ -304,7 +304,7 @@ control_there files p n next counts is =
 
 -- ---- as they are kept in memory
 
-pub new_stands : (files : Files) (p : Place) (i : ImageAt) (f b : ℕ) (after : Block) → entry_there files p ≡ Some (image f b None after) → i ≡ record { file = f; block = b; is_new = true; audit = p.file; at = 4096 * p.block + p.offset + 10 }
+pub new_stands : (files : Files) (p : EntryPlace) (i : ImageAt) (f b : ℕ) (after : Block) → entry_there files p ≡ Some (image f b None after) → i ≡ record { file = f; block = b; is_new = true; audit = p.file; at = 4096 * p.block + p.offset + 10 }
     → StandsAsImage files i f b None after
 new_stands files p i f b after there is =
     let at = (image_there files p f b None after there).new refl in
@@ -313,7 +313,7 @@ new_stands files p i f b after there is =
       whole = (ap length at.0 ∙ at.1, λ old. absurd (true_not_false old));
     })
 
-pub old_stands : (files : Files) (p : Place) (i : ImageAt) (f b : ℕ) (before after : Block) → entry_there files p ≡ Some (image f b (Some before) after)
+pub old_stands : (files : Files) (p : EntryPlace) (i : ImageAt) (f b : ℕ) (before after : Block) → entry_there files p ≡ Some (image f b (Some before) after)
     → i ≡ record { file = f; block = b; is_new = false; audit = p.file; at = 4096 * p.block + p.offset + 1034 } → StandsAsImage files i f b (Some before) after
 old_stands files p i f b before after there is =
     let at = (image_there files p f b (Some before) after there).old before refl in
@@ -324,7 +324,7 @@ old_stands files p i f b before after there is =
       whole = (ap length at.2 ∙ at.3, λ old. ap length first ∙ at.1);
     })
 
-pub control_stands : (files : Files) (p : Place) (c : ControlAt) (point next many : ℕ) (list : List ℕ) (described : Bool) → entry_there files p ≡ Some (control_point point next (counts_at many list))
+pub control_stands : (files : Files) (p : EntryPlace) (c : ControlAt) (point next many : ℕ) (list : List ℕ) (described : Bool) → entry_there files p ≡ Some (control_point point next (counts_at many list))
     → c ≡ record { point = point; next = next; described = described; audit = p.file; at = 4096 * p.block + p.offset + 19; size = many * 8 } → event_at files (Controlled c) ≡ control point next (counts_in (counts_at many list)) described
 control_stands files p c point next many list described there is =
     let cs = counts_at many list in

@@ -8,7 +8,7 @@ use Rattle.dms_audfile.specs.Reads.{OnlyReads}
 use Rattle.dms_history.specs.Entries.{Entry, quiet_point}
 use Rattle.dms_audfile.specs.Scanning.{Placed, place_in, entry_in}
 use Rattle.dms_audfile.specs.AuditTrail.{entry_there, IsThere, AreThere}
-use Rattle.dms_audfile.specs.declared.place.Place.{Place}
+use Rattle.dms_audfile.specs.declared.place.EntryPlace.{EntryPlace}
 use Rattle.dms_audfile.specs.declared.fault.AudFault.{AudFault}
 use Rattle.dms_audfile.specs.declared.fault.AudFault.TheVariants.{Disk, Damaged, Memory}
 use Rattle.dms_history.proofs.Picks.{some_is}
@@ -19,7 +19,7 @@ use Rattle.dms_restore.specs.Traces.{IsTraceOf}
 abbrev pub no_place : Placed
 no_place = record { place = record { file = 0; block = 0; offset = 0 }; entry = quiet_point 0 }
 
-pub get_place : (ps : List Placed) (i : ℕ) (d : Place) → i < length ps → get_or (map place_in ps) i d ≡ (get_or ps i no_place).place
+pub get_place : (ps : List Placed) (i : ℕ) (d : EntryPlace) → i < length ps → get_or (map place_in ps) i d ≡ (get_or ps i no_place).place
 get_place [] i d low = absurd (omega (arith, low))
 get_place (p ∷ ps) zero d low = refl
 get_place (p ∷ ps) (suc i) d low = get_place ps i d (omega (arith, low))
@@ -41,18 +41,18 @@ front_length [] i low = absurd (omega (arith, low))
 front_length (p ∷ ps) zero low = refl
 front_length (p ∷ ps) (suc i) low = ap suc (front_length ps i (omega (arith, low)))
 
-pub read_next : (old_files other : Files) (places : List Place) (i : ℕ) (d : Place) (old new : TrailTrace) → i < length places → other ≡ old_files
+pub read_next : (old_files other : Files) (places : List EntryPlace) (i : ℕ) (d : EntryPlace) (old new : TrailTrace) → i < length places → other ≡ old_files
     → ((entries : List Entry) (e : Entry) → entry_there other (get_or places i d) ≡ Some e → length entries ≡ i → (files : Files) → entry_there files (get_or places i d) ≡ Some e → IsTraceOf files entries old → IsTraceOf files (entries ++ e ∷ []) new)
     → (ps : List Placed) → places ≡ map place_in ps → AreThere old_files ps → (files : Files) → AreThere files ps → IsTraceOf files (map entry_in (take i ps)) old → IsTraceOf files (map entry_in (take (i + 1) ps)) new
 read_next old_files other places i d old new low same step ps are there files also t =
     let under : i < length ps = omega (arith, low, ap length are, map_length ps) in
     let p = get_or ps i no_place in
-    let at : get_or places i d ≡ p.place = ap (λ (l : List Place). get_or l i d) are ∙ get_place ps i d under in
+    let at : get_or places i d ≡ p.place = ap (λ (l : List EntryPlace). get_or l i d) are ∙ get_place ps i d under in
     let here : entry_there other (get_or places i d) ≡ Some p.entry = (λ j. entry_there (same j) (at j)) ∙ (there_at old_files ps i under there).there in
     let over : entry_there files (get_or places i d) ≡ Some p.entry = ap (entry_there files) at ∙ (there_at files ps i under also).there in
     subst (λ (l : List Entry). IsTraceOf files l new) (sym (entries_more ps i under)) (step (map entry_in (take i ps)) p.entry here (front_length ps i under) files over t)
 
-pub read_all : (files : Files) (places : List Place) (i : ℕ) (h : TrailTrace) (ps : List Placed) → length places < i + 1 → places ≡ map place_in ps → IsTraceOf files (map entry_in (take i ps)) h → IsTraceOf files (map entry_in ps) h
+pub read_all : (files : Files) (places : List EntryPlace) (i : ℕ) (h : TrailTrace) (ps : List Placed) → length places < i + 1 → places ≡ map place_in ps → IsTraceOf files (map entry_in (take i ps)) h → IsTraceOf files (map entry_in ps) h
 read_all files places i h ps le are t = subst (λ (l : List Placed). IsTraceOf files (map entry_in l) h) (take_all i ps (omega (arith, le, ap length are, map_length ps))) t
 
 -- the entry that was read is the one that stands there
@@ -61,12 +61,12 @@ read_is files entries e seen old new is step t = subst (λ (x : Entry). IsTraceO
 
 -- ---- no entry stands at a place
 
-split_at : (places : List Place) (i : ℕ) (d : Place) → i < length places → places ≡ take i places ++ get_or places i d ∷ drop (suc i) places
+split_at : (places : List EntryPlace) (i : ℕ) (d : EntryPlace) → i < length places → places ≡ take i places ++ get_or places i d ∷ drop (suc i) places
 split_at [] i d low = absurd (omega (arith, low))
 split_at (p ∷ ps) zero d low = refl
-split_at (p ∷ ps) (suc i) d low = ap (λ (l : List Place). p ∷ l) (split_at ps i d (omega (arith, low)))
+split_at (p ∷ ps) (suc i) d low = ap (λ (l : List EntryPlace). p ∷ l) (split_at ps i d (omega (arith, low)))
 
-pub no_entry_at : (tells : Bool) (files other : Files) (places : List Place) (i : ℕ) (d : Place) (e : AudFault) → i < length places → (IsTrue tells → other ≡ files)
+pub no_entry_at : (tells : Bool) (files other : Files) (places : List EntryPlace) (i : ℕ) (d : EntryPlace) (e : AudFault) → i < length places → (IsTrue tells → other ≡ files)
     → (e ≡ Disk) ⊎ ((e ≡ Memory) ⊎ ((e ≡ Damaged (get_or places i d).file (get_or places i d).block) × (IsTrue tells → HasNoEntry other (get_or places i d))))
     → (e ≡ Disk) ⊎ ((e ≡ Memory) ⊎ IsNoEntryOf tells files places e)
 no_entry_at tells files other places i d e low same is = elim is [
@@ -85,7 +85,7 @@ no_entry_at tells files other places i d e low same is = elim is [
 ]
 
 -- why a block wasn't loaded
-pub load_only : (tells : Bool) (held : Type 0) (files : Files) (p : Place) (e : AudFault) → (e ≡ Disk) ⊎ ((e ≡ Damaged p.file p.block) × (512 < p.block))
+pub load_only : (tells : Bool) (held : Type 0) (files : Files) (p : EntryPlace) (e : AudFault) → (e ≡ Disk) ⊎ ((e ≡ Damaged p.file p.block) × (512 < p.block))
     → (e ≡ Disk) ⊎ ((e ≡ Memory) ⊎ ((e ≡ Damaged p.file p.block) × (IsTrue tells → held → HasNoEntry files p)))
 load_only tells held files p e is = elim is [
   | inl disk ↦ inl disk
@@ -93,7 +93,7 @@ load_only tells held files p e is = elim is [
 ]
 
 -- the reader held a block of these files
-pub current_fault : (tells : Bool) (held : Type 0) (files : Files) (p : Place) (e : AudFault) → (IsTrue tells → held)
+pub current_fault : (tells : Bool) (held : Type 0) (files : Files) (p : EntryPlace) (e : AudFault) → (IsTrue tells → held)
     → (e ≡ Disk) ⊎ ((e ≡ Memory) ⊎ ((e ≡ Damaged p.file p.block) × (IsTrue tells → held → HasNoEntry files p))) → (e ≡ Disk) ⊎ ((e ≡ Memory) ⊎ ((e ≡ Damaged p.file p.block) × (IsTrue tells → HasNoEntry files p)))
 current_fault tells held files p e has is = elim is [
   | inl disk ↦ inl disk

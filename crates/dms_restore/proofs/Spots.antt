@@ -15,7 +15,7 @@ use Rattle.dms_history.proofs.Cuts.{Rest}
 use Rattle.dms_history.proofs.Runs.{has_push}
 use Rattle.dms_history.proofs.Picks.{place_cases, last_append}
 use Rattle.dms_running.proofs.OneMore.{last_more, first_append}
-use Rattle.dms_restore.specs.declared.live.Spot.{Spot}
+use Rattle.dms_restore.specs.declared.live.AuditSpot.{AuditSpot}
 use Rattle.dms_restore.specs.declared.live.ImageAt.{ImageAt}
 use Rattle.dms_restore.specs.declared.live.LiveEntry.{LiveEntry}
 use Rattle.dms_restore.specs.declared.live.LiveEntry.TheVariants.{Changed, Quiet, Controlled}
@@ -38,7 +38,7 @@ pub picked : {X : Type 0} (f b g k : ℕ) (now w was : Option X) → now ≡ con
 picked f b g k now w was is = is ∙ ap (λ t. cond t w was) (block_same g k f b)
 
 -- what stands there, where one block got another place
-pub named_set : (files : Files) (f b g k : ℕ) (now was : Option (Option Spot)) (s : Option Spot) → now ≡ cond (is_eq (block_cmp (g, k) (f, b))) (Some s) was
+pub named_set : (files : Files) (f b g k : ℕ) (now was : Option (Option AuditSpot)) (s : Option AuditSpot) → now ≡ cond (is_eq (block_cmp (g, k) (f, b))) (Some s) was
     → option_map (bytes_of files) now ≡ cond (is_at f b g k) (Some (bytes_of files s)) (option_map (bytes_of files) was)
 named_set files f b g k now was s is = ap (option_map (bytes_of files)) (picked f b g k now (Some s) was is) ∙ inside (is_at f b g k)
   where
@@ -47,7 +47,7 @@ named_set files f b g k now was s is = ap (option_map (bytes_of files)) (picked 
     inside false = refl
 
 -- a block that wasn't named gets its place
-pub named_new : (files : Files) (f b g k : ℕ) (now was : Option (Option Spot)) (s : Option Spot) (o : Option Block) → bytes_of files s ≡ o → now ≡ cond (is_eq (block_cmp (g, k) (f, b))) (Some s) was → (is_at f b g k ≡ true → was ≡ None)
+pub named_new : (files : Files) (f b g k : ℕ) (now was : Option (Option AuditSpot)) (s : Option AuditSpot) (o : Option Block) → bytes_of files s ≡ o → now ≡ cond (is_eq (block_cmp (g, k) (f, b))) (Some s) was → (is_at f b g k ≡ true → was ≡ None)
     → option_map (bytes_of files) now ≡ or_else (option_map (bytes_of files) was) (cond (is_at f b g k) (Some o) None)
 named_new files f b g k now was s o same is new = named_set files f b g k now was s is ∙ ap (λ (x : Option Block). cond (is_at f b g k) (Some x) (option_map (bytes_of files) was)) same ∙ chosen (is_at f b g k) refl
   where
@@ -97,7 +97,7 @@ new_there spots f b g k off on = key_is spots f b g k on ∙ none_off (spot_of s
 pub named_stays : (files : Files) (spots : Spots) (f b g k : ℕ) (o : Option Block) → is_some (spot_of spots g k) ≡ true → named files spots f b ≡ or_else (named files spots f b) (cond (is_at f b g k) (Some o) None)
 named_stays files spots f b g k o on = chosen (is_at f b g k) refl
   where
-    kept : (w : Option (Option Spot)) (z : Option (Option Block)) → is_some w ≡ true → option_map (bytes_of files) w ≡ or_else (option_map (bytes_of files) w) z
+    kept : (w : Option (Option AuditSpot)) (z : Option (Option Block)) → is_some w ≡ true → option_map (bytes_of files) w ≡ or_else (option_map (bytes_of files) w) z
     kept None z there = absurd cc
     kept (Some x) z there = refl
 
@@ -152,7 +152,7 @@ pub events_all : (files : Files) (es : List LiveEntry) (i : ℕ) → length es �
 events_all files es i le = ap (events_at files) (take_all i es le)
 
 -- the block that is taken out
-pub gone_of : (result : Option ((ℕ × ℕ) × Option Spot)) (old new : Spots) → IfSome result (λ p. Updates block_cmp old new p.0 None)
+pub gone_of : (result : Option ((ℕ × ℕ) × Option AuditSpot)) (old new : Spots) → IfSome result (λ p. Updates block_cmp old new p.0 None)
     → IfSome result (λ p. (f b : ℕ) → spot_of new f b ≡ cond (is_at f b p.0.0 p.0.1) None (spot_of old f b))
 gone_of None old new updates = tt
 gone_of (Some p) old new updates = λ f b. picked f b p.0.0 p.0.1 (spot_of new f b) None (spot_of old f b) (updates.0 (f, b))

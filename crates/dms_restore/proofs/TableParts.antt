@@ -11,7 +11,7 @@ use Rattle.dms_history.proofs.Picks.{place_cases, some_is, last_append}
 use Rattle.dms_history.proofs.AtPoints.{split_last}
 use Rattle.dms_restore.specs.declared.live.LiveEntry.{LiveEntry}
 use Rattle.dms_restore.specs.declared.live.LiveEntry.TheVariants.{Changed, Quiet, Controlled}
-use Rattle.dms_restore.specs.declared.live.Spot.{Spot}
+use Rattle.dms_restore.specs.declared.live.AuditSpot.{AuditSpot}
 use Rattle.dms_restore.specs.declared.told.Told.{Told}
 use Rattle.dms_restore.specs.LiveEntries.{events_at, before_in, after_in, AllHaveWholeBlocks}
 use Rattle.dms_restore.specs.Named.{Spots, spot_of, bytes_of, named, AllFromSpots}
@@ -46,8 +46,8 @@ among_end f b (s ∷ ts) t file block = inr (among_end f b ts t file block)
 
 -- The table has the blocks with a place that were taken out so far, and the others are left.
 pub record ListsSoFar (spots left : Spots) (table : List Told) : Type 0 where
-  pub sub : (f b : ℕ) (o : Option Spot) → spot_of left f b ≡ Some o → spot_of spots f b ≡ Some o
-  pub all : (f b : ℕ) (s : Spot) → spot_of spots f b ≡ Some (Some s) → (spot_of left f b ≡ Some (Some s)) ⊎ IsAmong f b table
+  pub sub : (f b : ℕ) (o : Option AuditSpot) → spot_of left f b ≡ Some o → spot_of spots f b ≡ Some o
+  pub all : (f b : ℕ) (s : AuditSpot) → spot_of spots f b ≡ Some (Some s) → (spot_of left f b ≡ Some (Some s)) ⊎ IsAmong f b table
   pub each : AllFromSpots spots table
   pub blocks : AreBlocks table
 
@@ -58,13 +58,13 @@ taken : {A : Type 0} (t : Bool) (x : Option A) (y : A) → cond t None x ≡ Som
 taken true x y is = absurd (none_not_some y is)
 taken false x y is = is
 
-module _ (spots left later : Spots) (table : List Told) (g k : ℕ) (o : Option Spot) (so : ListsSoFar spots left table) (found : spot_of left g k ≡ Some o)
+module _ (spots left later : Spots) (table : List Told) (g k : ℕ) (o : Option AuditSpot) (so : ListsSoFar spots left table) (found : spot_of left g k ≡ Some o)
     (gone : (f b : ℕ) → spot_of later f b ≡ cond (is_at f b g k) None (spot_of left f b)) where
-  still : (f b : ℕ) (p : Option Spot) → spot_of later f b ≡ Some p → spot_of spots f b ≡ Some p
+  still : (f b : ℕ) (p : Option AuditSpot) → spot_of later f b ≡ Some p → spot_of spots f b ≡ Some p
   still f b p is = so.sub f b p (taken (is_at f b g k) (spot_of left f b) p (sym (gone f b) ∙ is))
 
   -- what is left, or it was this one
-  other : (f b : ℕ) (s : Spot) → spot_of left f b ≡ Some (Some s) → (spot_of later f b ≡ Some (Some s)) ⊎ ((g ≡ f) × (k ≡ b) × (o ≡ Some s))
+  other : (f b : ℕ) (s : AuditSpot) → spot_of left f b ≡ Some (Some s) → (spot_of later f b ≡ Some (Some s)) ⊎ ((g ≡ f) × (k ≡ b) × (o ≡ Some s))
   other f b s is = elim (place_cases f b g k) [
     | inl at ↦
         let same : Some o ≡ Some (Some s) = sym found ∙ (λ i. spot_of left (at.0 i) (at.1 i)) ∙ is in
@@ -83,7 +83,7 @@ module _ (spots left later : Spots) (table : List Told) (g k : ℕ) (o : Option 
     blocks = so.blocks;
   }
 
-  pub lists_more : (s : Spot) (new : List Told) → o ≡ Some s → AreBlocks new → new ≡ table ++ record { file = g; block = k; audit = s.audit; at = s.at } ∷ [] → ListsSoFar spots later new
+  pub lists_more : (s : AuditSpot) (new : List Told) → o ≡ Some s → AreBlocks new → new ≡ table ++ record { file = g; block = k; audit = s.audit; at = s.at } ∷ [] → ListsSoFar spots later new
   lists_more s new here blocks is =
       let t : Told = record { file = g; block = k; audit = s.audit; at = s.at } in
       record {
@@ -95,11 +95,11 @@ module _ (spots left later : Spots) (table : List Told) (g k : ℕ) (o : Option 
           ]
           | inr among ↦ inr (subst (λ (l : List Told). IsAmong f b l) (sym is) (among_push f b table t among))
         ];
-        each = subst (AllFromSpots spots) (sym is) (from_push spots table t so.each (so.sub g k o found ∙ ap (λ (p : Option Spot). Some p) here));
+        each = subst (AllFromSpots spots) (sym is) (from_push spots table t so.each (so.sub g k o found ∙ ap (λ (p : Option AuditSpot). Some p) here));
         blocks = blocks;
       }
 
-pub lists_all : (spots left : Spots) (table : List Told) → ListsSoFar spots left table → ((f b : ℕ) → spot_of left f b ≡ None) → (f b : ℕ) (s : Spot) → spot_of spots f b ≡ Some (Some s) → IsAmong f b table
+pub lists_all : (spots left : Spots) (table : List Told) → ListsSoFar spots left table → ((f b : ℕ) → spot_of left f b ≡ None) → (f b : ℕ) (s : AuditSpot) → spot_of spots f b ≡ Some (Some s) → IsAmong f b table
 lists_all spots left table so empty f b s is = elim (so.all f b s is) [
   | inl there ↦ absurd (none_not_some (Some s) (sym (empty f b) ∙ there))
   | inr among ↦ among
@@ -149,7 +149,7 @@ told_whole (Some y) first x is = inl is
 told_whole None None x is = absurd (none_not_some x is)
 told_whole None (Some before) x is = inr (ap (λ (p : Option Block). Some p) is)
 
-has_spot : (files : Files) (o : Option (Option Spot)) (x : Block) → undone_to (option_map (bytes_of files) o) ≡ Some x → (s : Spot) × (o ≡ Some (Some s))
+has_spot : (files : Files) (o : Option (Option AuditSpot)) (x : Block) → undone_to (option_map (bytes_of files) o) ≡ Some x → (s : AuditSpot) × (o ≡ Some (Some s))
 has_spot files None x is = absurd (none_not_some x is)
 has_spot files (Some None) x is = absurd (none_not_some x is)
 has_spot files (Some (Some s)) x is = (s, refl)
@@ -183,7 +183,7 @@ module _ (files : Files) (spots : Spots) (front behind : List LiveEntry) (live :
       let told : told_block live m t.file t.block ≡ Some (bytes_at files t) = told_named t.file t.block ∙ ap (λ o. undone_to (option_map (bytes_of files) o)) from.0 in
       ((told, sized t.file t.block (bytes_at files t) told), each ts from.1)
 
-  pub table_is : (ts : List Told) → AllFromSpots spots ts → ((f b : ℕ) (s : Spot) → spot_of spots f b ≡ Some (Some s) → IsAmong f b ts) → IsTable live m files ts
+  pub table_is : (ts : List Told) → AllFromSpots spots ts → ((f b : ℕ) (s : AuditSpot) → spot_of spots f b ≡ Some (Some s) → IsAmong f b ts) → IsTable live m files ts
   table_is ts from all = record {
     each = each ts from;
     all = λ f b x is. let s = has_spot files (spot_of spots f b) x (sym (told_named f b) ∙ is) in all f b s.0 s.1;

@@ -9,7 +9,7 @@ use Rattle.dms_audfile.specs.declared.fault.AudFault.{AudFault}
 use Rattle.dms_audfile.specs.declared.fault.AudFault.TheVariants.{Damaged}
 use Rattle.dms_restore.specs.declared.live.LiveEntry.{LiveEntry}
 use Rattle.dms_restore.specs.declared.live.LiveEntry.TheVariants.{Changed, Quiet, Controlled}
-use Rattle.dms_restore.specs.declared.live.Spot.{Spot}
+use Rattle.dms_restore.specs.declared.live.AuditSpot.{AuditSpot}
 use Rattle.dms_restore.specs.declared.told.Told.{Told}
 use Rattle.dms_restore.specs.Table.{IsBlock}
 
@@ -18,13 +18,13 @@ abbrev pub block_cmp : ℕ × ℕ → ℕ × ℕ → Ordering
 block_cmp x y = ordering_then (nat_cmp x.0 y.0) (nat_cmp x.1 y.1)
 
 abbrev pub Spots : Type 0
-Spots = BTreeMap (ℕ × ℕ) (Option Spot)
+Spots = BTreeMap (ℕ × ℕ) (Option AuditSpot)
 
 -- where block b of file f stands, where it is named
-abbrev pub spot_of : Spots → ℕ → ℕ → Option (Option Spot)
+abbrev pub spot_of : Spots → ℕ → ℕ → Option (Option AuditSpot)
 spot_of spots f b = get block_cmp spots (f, b)
 
-abbrev pub bytes_of : Files → Option Spot → Option Block
+abbrev pub bytes_of : Files → Option AuditSpot → Option Block
 bytes_of files None = None
 bytes_of files (Some s) = Some (range s.at 1024 (files s.audit))
 
@@ -38,25 +38,25 @@ AllFromSpots spots [] = Unit {0}
 AllFromSpots spots (t ∷ ts) = (spot_of spots t.file t.block ≡ Some (Some (record { audit = t.audit; at = t.at }))) × AllFromSpots spots ts
 
 -- the entry is an Image of the block, and the block after or before the change stands there
-abbrev pub IsImageSpot : LiveEntry → ℕ → ℕ → Spot → Type 0
+abbrev pub IsImageSpot : LiveEntry → ℕ → ℕ → AuditSpot → Type 0
 IsImageSpot (Changed i) f b s = (i.file ≡ f) × (i.block ≡ b) × (s.audit ≡ i.audit) × ((s.at ≡ i.at) ⊎ (s.at ≡ i.at - 1024))
 IsImageSpot (Quiet n) f b s = ⊥
 IsImageSpot (Controlled c) f b s = ⊥
 
 -- so is one of them
-abbrev pub IsSpotAmong : List LiveEntry → ℕ → ℕ → Spot → Type 0
+abbrev pub IsSpotAmong : List LiveEntry → ℕ → ℕ → AuditSpot → Type 0
 IsSpotAmong [] f b s = ⊥
 IsSpotAmong (e ∷ es) f b s = IsImageSpot e f b s ⊎ IsSpotAmong es f b s
 
 -- the block isn't one of a structure file, or its bytes can't stand there
-abbrev pub IsNoBlock : ℕ → ℕ → Spot → Type 0
+abbrev pub IsNoBlock : ℕ → ℕ → AuditSpot → Type 0
 IsNoBlock f b s = IsBlock (record { file = f; block = b; audit = s.audit; at = s.at }) → ⊥
 
 -- One of the entries is an Image that isn't of a block of a structure file, and the fault names its audit file.
 pub record HasNoBlock (front behind : List LiveEntry) (fault : AudFault) : Type 0 where
   pub file : ℕ
   pub block : ℕ
-  pub spot : Spot
+  pub spot : AuditSpot
   pub among : IsSpotAmong front file block spot ⊎ IsSpotAmong behind file block spot
   pub is : fault ≡ Damaged spot.audit 0
   pub none : IsNoBlock file block spot

@@ -19,7 +19,7 @@ ghost use Rattle.dms_restore.specs.Traces.{IsTraceOf};
 
 use crate::placing::place;
 use crate::{SchemaSpan, TrailTrace};
-use dms_audfile::{AudFault, EntryReader, Place};
+use dms_audfile::{AudFault, EntryPlace, EntryReader};
 use dms_audrec::Entry;
 use dms_site::Site;
 use std::alloc::{AllocError, Global};
@@ -64,7 +64,7 @@ fn add_bytes(bytes: &mut Vec<u8>, entry: &Entry<'_>) -> Result<(), AllocError>
 fn read_part<S: Site>(
     site: &mut S,
     reader: &mut EntryReader,
-    place: &Place,
+    place: &EntryPlace,
     bytes: &mut Vec<u8>,
 ) -> Result<(), AudFault>
     ensures current { IsTrue S.tells → IsCurrent reader.old (S.files site.old) → IsCurrent reader.new (S.files site.old) }
@@ -90,7 +90,11 @@ fn read_part<S: Site>(
 }
 
 /// Reads the parts of a Schema that stand at these places.
-fn read_parts<S: Site>(alloc: Global, site: &mut S, parts: &[Place]) -> Result<Vec<u8>, AudFault>
+fn read_parts<S: Site>(
+    alloc: Global,
+    site: &mut S,
+    parts: &[EntryPlace],
+) -> Result<Vec<u8>, AudFault>
     ensures bytes { IfOk result (λ v. IsTrue S.tells → (placed : List Placed) → parts.now ≡ map place_in placed → AreThere (S.files site.old) placed → v.items ≡ part_bytes (map entry_in placed)) }
     ensures only { IfErr result (λ e. (e ≡ AudFault.Disk) ⊎ ((e ≡ AudFault.Memory) ⊎ IsNoEntryOf S.tells (S.files site.old) parts.now e)) }
     ensures reads { OnlyReads S.tells (S.files site.old) (S.files site.new) (S.said site.old) (S.said site.new) (S.clock site.old) (S.clock site.new) (S.disk_faults site.old) (S.disk_faults site.new) (S.say_faults site.old) (S.say_faults site.new) }
@@ -112,7 +116,7 @@ fn read_parts<S: Site>(alloc: Global, site: &mut S, parts: &[Place]) -> Result<V
 }
 
 /// The places of the parts of a Schema.
-fn parts_of<'a>(places: &'a [Place], span: &SchemaSpan) -> &'a [Place]
+fn parts_of<'a>(places: &'a [EntryPlace], span: &SchemaSpan) -> &'a [EntryPlace]
     ensures { result.now ≡ take span.now.parts (drop span.now.first places.now) }
 {
     let from = span.first.min(places.len());
@@ -128,7 +132,7 @@ fn parts_of<'a>(places: &'a [Place], span: &SchemaSpan) -> &'a [Place]
 pub fn read_schema<S: Site>(
     alloc: Global,
     site: &mut S,
-    places: &[Place],
+    places: &[EntryPlace],
     span: &SchemaSpan,
 ) -> Result<Vec<u8>, AudFault>
     ensures bytes { IfOk result (λ v. IsTrue S.tells → (placed : List Placed) → places.now ≡ map place_in placed → AreThere (S.files site.old) placed → span_bytes (map entry_in placed) (Some span.now) ≡ Some v.items) }

@@ -39,7 +39,7 @@ pub use choosing::{Choice, OpenFault};
 pub use counting::count_bytes;
 pub use describing::read_schema;
 pub use judging::{PointFault, is_live, judge_point};
-pub use live::{ControlAt, HowAt, ImageAt, LiveEntry, PendingAt, Spot};
+pub use live::{AuditSpot, ControlAt, HowAt, ImageAt, LiveEntry, PendingAt};
 pub use log::Log;
 pub use placing::place;
 pub use point_counts::counts_after;

@@ -12,7 +12,7 @@ ghost use Rattle.dms_restore.specs.Scanned.{HasNoEntry, IsNoEntryOf};
 ghost use Rattle.dms_restore.specs.Traces.{IsTraceOf, TracesAll};
 
 use crate::TrailTrace;
-use dms_audfile::{AudFault, EntryReader, Place};
+use dms_audfile::{AudFault, EntryPlace, EntryReader};
 use dms_site::Site;
 use std::alloc::Global;
 
@@ -21,7 +21,7 @@ fn read_one<S: Site>(
     alloc: Global,
     site: &mut S,
     reader: &mut EntryReader,
-    place: &Place,
+    place: &EntryPlace,
     at: usize,
     trace: &mut TrailTrace,
 ) -> Result<(), AudFault>
@@ -55,7 +55,7 @@ fn read_one<S: Site>(
 pub fn read_trail<S: Site>(
     alloc: Global,
     site: &mut S,
-    places: &[Place],
+    places: &[EntryPlace],
 ) -> Result<TrailTrace, AudFault>
     ensures traced { IfOk result (λ h. IsTrue S.tells → (placed : List Placed) → places.now ≡ map place_in placed → AreThere (S.files site.old) placed → TracesAll placed h) }
     ensures only { IfErr result (λ e. (e ≡ AudFault.Disk) ⊎ ((e ≡ AudFault.Memory) ⊎ IsNoEntryOf S.tells (S.files site.old) places.now e)) }

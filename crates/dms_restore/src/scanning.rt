@@ -15,7 +15,7 @@ ghost use Rattle.dms_restore.specs.Traces.{IsTraceOf};
 use crate::trail_scan::{TrailScan, scan_trail};
 use crate::{Log, TrailTrace};
 use dms_audfile::laws::{entries_stand_at_their_places, what_is_found_are_the_entries};
-use dms_audfile::{AudFault, AuditEnd, Place};
+use dms_audfile::{AudFault, AuditEnd, EntryPlace};
 use dms_site::Site;
 use std::alloc::Global;
 
@@ -29,7 +29,7 @@ pub struct Scanned<S: Site> {
     /// The end of its trail.
     pub log: Log<S>,
     /// Where the entries of its trail begin, in order.
-    pub places: Vec<Place>,
+    pub places: Vec<EntryPlace>,
     /// What its entries tell.
     pub trace: TrailTrace,
 }

@@ -6,14 +6,14 @@ ghost use Rattle.dms_history.specs.Events.{Event};
 ghost use Rattle.dms_history.specs.Lists.{until_first, after_first, after_last};
 ghost use Rattle.dms_history.specs.Places.{is_control, is_point};
 ghost use Rattle.dms_history.specs.Images.{or_else, last_after, first_before};
-ghost use Rattle.dms_restore.specs.declared.live.Spot as spot;
+ghost use Rattle.dms_restore.specs.declared.live.AuditSpot as spot;
 ghost use Rattle.dms_restore.specs.LiveEntries.{events_at, AllHaveWholeBlocks};
 ghost use Rattle.dms_restore.specs.Named.{spot_of, named, AllFromSpots, IsSpotAmong, IsNoBlock, HasNoBlock};
 ghost use Rattle.dms_restore.specs.Table.{IsBlock, AreBlocks, IsAmong, IsTable};
 
 use crate::naming::{note_redo, note_undo, take_first};
 use crate::placing::after_control;
-use crate::{LiveEntry, Spot, Told};
+use crate::{AuditSpot, LiveEntry, Told};
 use dms_audfile::AudFault;
 use std::alloc::{AllocError, Global};
 use std::collections::BTreeMap;
@@ -26,7 +26,7 @@ fn is_block(told: &Told) -> bool
 }
 
 /// Adds a block to a table. Damaged where it is no block of a structure file, or its bytes can't stand where it says.
-fn add_told(table: &mut Vec<Told>, file: u32, block: u32, spot: Spot) -> Result<(), AudFault>
+fn add_told(table: &mut Vec<Told>, file: u32, block: u32, spot: AuditSpot) -> Result<(), AudFault>
     requires blocks { AreBlocks table.old.items }
     ensures blocks { OnOk result (AreBlocks table.new.items) }
     ensures added { OnOk result (table.new.items ≡ table.old.items ++ record { file = file; block = block; audit = spot.audit; at = spot.at } ∷ []) }
@@ -51,12 +51,12 @@ fn add_told(table: &mut Vec<Told>, file: u32, block: u32, spot: Spot) -> Result<
 /// The blocks that have a place, as a table.
 fn list_told(
     alloc: Global,
-    spots: BTreeMap<(u32, u32), Option<Spot>>,
+    spots: BTreeMap<(u32, u32), Option<AuditSpot>>,
 ) -> Result<Vec<Told>, AudFault>
     ensures blocks { IfOk result (λ v. AreBlocks v.items) }
     ensures each { IfOk result (λ v. AllFromSpots spots v.items) }
-    ensures only { IfErr result (λ e. (e ≡ AudFault.Memory) ⊎ ((f : ℕ) × (b : ℕ) × (s : spot.Spot) × (spot_of spots f b ≡ Some (Some s)) × (e ≡ AudFault.Damaged s.audit 0) × IsNoBlock f b s)) }
-    ensures all { IfOk result (λ v. (f b : ℕ) (s : spot.Spot) → spot_of spots f b ≡ Some (Some s) → IsAmong f b v.items) }
+    ensures only { IfErr result (λ e. (e ≡ AudFault.Memory) ⊎ ((f : ℕ) × (b : ℕ) × (s : spot.AuditSpot) × (spot_of spots f b ≡ Some (Some s)) × (e ≡ AudFault.Damaged s.audit 0) × IsNoBlock f b s)) }
+    ensures all { IfOk result (λ v. (f b : ℕ) (s : spot.AuditSpot) → spot_of spots f b ≡ Some (Some s) → IsAmong f b v.items) }
 {
     let mut table = Vec::new(alloc);
     let mut left = spots;
@@ -77,8 +77,8 @@ fn spots_of(
     alloc: Global,
     front: &[LiveEntry],
     behind: &[LiveEntry],
-) -> Result<BTreeMap<(u32, u32), Option<Spot>>, AllocError>
-    ensures from { IfOk result (λ m. (f b : ℕ) (s : spot.Spot) → spot_of m f b ≡ Some (Some s) → IsSpotAmong front.now f b s ⊎ IsSpotAmong behind.now f b s) }
+) -> Result<BTreeMap<(u32, u32), Option<AuditSpot>>, AllocError>
+    ensures from { IfOk result (λ m. (f b : ℕ) (s : spot.AuditSpot) → spot_of m f b ≡ Some (Some s) → IsSpotAmong front.now f b s ⊎ IsSpotAmong behind.now f b s) }
     ensures names { IfOk result (λ m. (files : Files) (f b : ℕ) → named files m f b ≡ or_else (option_map (λ x. Some x) (last_after f b (after_last is_control (events_at files front.now)))) (first_before f b (events_at files behind.now))) }
 {
     let mut spots = BTreeMap::new(alloc);

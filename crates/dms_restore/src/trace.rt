@@ -10,7 +10,7 @@ ghost use Rattle.dms_restore.specs.SchemaSpans.{IsSchemaTraced};
 ghost use Rattle.dms_restore.specs.Traces.{IsTraceOf, TracesAll};
 
 use crate::{SchemaHistory, TrailHistory};
-use dms_audfile::Place;
+use dms_audfile::EntryPlace;
 use dms_audrec::Entry;
 use std::alloc::{AllocError, Global};
 
@@ -39,7 +39,7 @@ impl TrailTrace {
         &mut self,
         alloc: Global,
         entry: &Entry<'_>,
-        place: &Place,
+        place: &EntryPlace,
         at: usize,
     ) -> Result<(), AllocError>
         ensures { OnOk result ((files : Files) (entries : List meaning.Entry) → entry_there files place.now ≡ Some (entry_seen entry.now) → length entries ≡ at → IsTraceOf files entries self.old

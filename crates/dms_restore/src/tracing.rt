@@ -20,7 +20,7 @@ ghost use Rattle.dms_restore.specs.Tracing.{MatchesHow, StandsAsImage, IsTraced}
 
 use crate::placing::place;
 use crate::{ControlAt, HowAt, ImageAt, LiveEntry, PendingAt};
-use dms_audfile::Place;
+use dms_audfile::EntryPlace;
 use dms_audrec::{Entry, How};
 use std::alloc::{AllocError, Global};
 
@@ -41,7 +41,7 @@ pub struct TrailHistory {
 }
 
 /// The position of an entry in its audit file.
-fn start_of(place: &Place) -> u64
+fn start_of(place: &EntryPlace) -> u64
     ensures is { result ≡ 4096 * place.now.block + place.now.offset }
     ensures small { result < 2 ^ 45 }
 {
@@ -49,7 +49,7 @@ fn start_of(place: &Place) -> u64
 }
 
 /// The Image of a new block at a place.
-fn new_image(place: &Place, file: u32, block: u32) -> ImageAt
+fn new_image(place: &EntryPlace, file: u32, block: u32) -> ImageAt
     ensures { (files : Files) (after : Block) → entry_there files place.now ≡ Some (image file block None after) → StandsAsImage files result file block None after }
 {
     ImageAt {
@@ -62,7 +62,7 @@ fn new_image(place: &Place, file: u32, block: u32) -> ImageAt
 }
 
 /// The Image of a block that isn't new, at a place.
-fn old_image(place: &Place, file: u32, block: u32) -> ImageAt
+fn old_image(place: &EntryPlace, file: u32, block: u32) -> ImageAt
     ensures { (files : Files) (before after : Block) → entry_there files place.now ≡ Some (image file block (Some before) after) → StandsAsImage files result file block (Some before) after }
 {
     ImageAt {
@@ -75,7 +75,7 @@ fn old_image(place: &Place, file: u32, block: u32) -> ImageAt
 }
 
 /// The Image of a block at a place.
-fn image_at(place: &Place, file: u32, block: u32, before: Option<&[u8]>) -> ImageAt
+fn image_at(place: &EntryPlace, file: u32, block: u32, before: Option<&[u8]>) -> ImageAt
     ensures { (files : Files) (after : Block) → entry_there files place.now ≡ Some (image file block (option_copied before.entry) after) → StandsAsImage files result file block (option_copied before.entry) after }
 {
     match before {
@@ -85,7 +85,13 @@ fn image_at(place: &Place, file: u32, block: u32, before: Option<&[u8]>) -> Imag
 }
 
 /// A Control at a place.
-fn control_at(place: &Place, point: u64, next: u64, counts: &[u8], described: bool) -> ControlAt
+fn control_at(
+    place: &EntryPlace,
+    point: u64,
+    next: u64,
+    counts: &[u8],
+    described: bool,
+) -> ControlAt
     ensures stands { (files : Files) → entry_there files place.now ≡ Some (control_point point next (counts_at (length counts.now / 8) counts.now))
         → event_at files (Controlled result) ≡ control point next (counts_in (counts_at (length counts.now / 8) counts.now)) described }
     ensures is { (result.point ≡ point) × (result.next ≡ next) }
@@ -102,7 +108,7 @@ fn control_at(place: &Place, point: u64, next: u64, counts: &[u8], described: bo
 
 /// The live entries up to the place of a point.
 #[derive(Clone, Copy)]
-struct Kept {
+struct KeptFront {
     /// How many they are.
     end: usize,
     /// Whether the point has a place.
@@ -110,17 +116,17 @@ struct Kept {
 }
 
 /// The live entries that a Begin to a point keeps.
-fn kept_by(live: &[LiveEntry], point: u64) -> Kept
+fn kept_by(live: &[LiveEntry], point: u64) -> KeptFront
     ensures within { result.end ≤ length live.now }
     ensures front { (files : Files) → until_first (is_point point) (events_at files live.now) ≡ events_at files (take result.end live.now) }
     ensures behind { (files : Files) → after_first (is_point point) (events_at files live.now) ≡ (if result.has_place then events_at files (drop result.end live.now) else []) }
 {
     match place(live, point) {
-        Some(end) => Kept {
+        Some(end) => KeptFront {
             end,
             has_place: true,
         },
-        None => Kept {
+        None => KeptFront {
             end: 0,
             has_place: false,
         },
@@ -247,7 +253,7 @@ impl TrailHistory {
         &mut self,
         alloc: Global,
         entry: &Entry<'_>,
-        place: &Place,
+        place: &EntryPlace,
     ) -> Result<(), AllocError>
         ensures { OnOk result ((files : Files) (entries : List meaning.Entry) → entry_there files place.now ≡ Some (entry_seen entry.now) → IsTraced files entries self.old
             → IsTraced files (entries ++ entry_seen entry.now ∷ []) self.new) }

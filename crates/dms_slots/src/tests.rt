@@ -1,8 +1,8 @@
 use crate::{file_of, free_slot, per_block, read_slot, take_least, write_slot};
 use dms_base::{ItemKind, Name, Value};
 use dms_block::{BlockId, Blocks, Overlay};
-use dms_desc::{Cond, Groups, Item, Items, KeyParts, Record, Structure, Values};
-use dms_layout::{Slot, all_fit, slot_width};
+use dms_desc::{Cond, Groups, Item, Items, KeyParts, Record, Structure, Values, values_fit};
+use dms_layout::{Slot, slot_width};
 use dms_memblocks::MemBlocks;
 use std::alloc::Global;
 use std::process::Abort;
@@ -65,7 +65,7 @@ fn put(
     match slot {
         None => free_slot(b, alloc, s, number).is_ok(),
         Some(slot) => {
-            if !all_fit(items, slot.rec.values.as_slice()) {
+            if !values_fit(items, slot.rec.values.as_slice()) {
                 return false;
             }
             write_slot(b, alloc, s, number, slot).is_ok()

@@ -1,7 +1,8 @@
 ghost use Rattle.std.specs.Prelude.{◌≡◌, ◌+◌, ◌*◌, ◌<◌, ◌≤◌, true, IfOk, OnOk, OnErr, IsTrue, length, replicate};
 ghost use Rattle.dms_desc.specs.Shape.{shape_of};
 ghost use Rattle.dms_fields.specs.Fields.{laid};
-ghost use Rattle.dms_layout.specs.Slots.{all_fit, slot_bytes, slot_width};
+ghost use Rattle.dms_layout.specs.Slots.{slot_bytes, slot_width};
+ghost use Rattle.dms_desc.specs.Fitting.{values_fit};
 ghost use Rattle.dms_block.specs.Content.{raised, with_block};
 ghost use Rattle.dms_block.specs.Held.{HasCausesOr};
 ghost use Rattle.dms_block.specs.View.{ReadsOverlay, WritesOverlay, seen, seen_counts, under, written};
@@ -107,7 +108,7 @@ pub fn write_slot<B: Blocks>(
     requires number { 1 ≤ number }
     requires most { number ≤ 1000000 }
     requires next { block_of s.now.items number ≤ count_of (shape_of s.now) b.old }
-    requires values { IsTrue (all_fit s.now.items slot.now.rec.values) }
+    requires values { IsTrue (values_fit s.now.items slot.now.rec.values) }
     ensures seen { OnOk result (IsTrue (under b.old).told → seen b.new ≡ with_slot (shape_of s.now) number (slot_bytes s.now.items slot.now) b.old) }
     ensures counts { OnOk result (seen_counts b.new ≡ raised (seen_counts b.old) (file_of s.now.number) (block_of s.now.items number)) }
     ensures writes { WritesOverlay 1 1 result b.old b.new }

@@ -22,7 +22,8 @@ use Rattle.dms_desc.specs.declared.structure.Item.{Item}
 use Rattle.dms_desc.specs.Lookups.{items_of, structure_of}
 use Rattle.dms_desc.specs.Shape.{Shape, Described}
 use Rattle.dms_layout.specs.declared.slot.Slot.{Slot}
-use Rattle.dms_layout.specs.Slots.{SlotFits, all_fit}
+use Rattle.dms_layout.specs.Slots.{SlotFits}
+use Rattle.dms_desc.specs.Fitting.{values_fit}
 use Rattle.dms_model.specs.Fitting.{AreFitting, IsNumber, RecordFits, population_of}
 use Rattle.dms_model.specs.Valid.{OfItems, is_data_set}
 use Rattle.dms_sets.specs.Tests.{both_of}
@@ -114,20 +115,20 @@ got desc c set number s o served at set_is low is =
 
 -- ---- what is answered fits
 
-fit_in : (items : List Item) (values : List Value) → all_fit items values ≡ true → OfItems items values (λ item v. fits item.kind v ≡ true)
+fit_in : (items : List Item) (values : List Value) → values_fit items values ≡ true → OfItems items values (λ item v. fits item.kind v ≡ true)
 fit_in [] values h k item at = absurd (cc)
 fit_in (i ∷ is) [] h k item at = absurd (cc)
-fit_in (i ∷ is) (v ∷ vs) h zero item at = subst (λ (x : Item). fits x.kind v ≡ true) (some_one i item at) (both_of (fits i.kind v) (all_fit is vs) h).0
+fit_in (i ∷ is) (v ∷ vs) h zero item at = subst (λ (x : Item). fits x.kind v ≡ true) (some_one i item at) (both_of (fits i.kind v) (values_fit is vs) h).0
   where
     some_one : (x y : Item) → ◌≡◌ {A = Option Item} (Some x) (Some y) → x ≡ y
     some_one x y h = cc
-fit_in (i ∷ is) (v ∷ vs) h (suc k) item at = fit_in is vs (both_of (fits i.kind v) (all_fit is vs) h).1 k item at
+fit_in (i ∷ is) (v ∷ vs) h (suc k) item at = fit_in is vs (both_of (fits i.kind v) (values_fit is vs) h).1 k item at
 
-fit_long : (items : List Item) (values : List Value) → all_fit items values ≡ true → length values ≡ length items
+fit_long : (items : List Item) (values : List Value) → values_fit items values ≡ true → length values ≡ length items
 fit_long [] [] h = refl
 fit_long [] (v ∷ vs) h = absurd (cc)
 fit_long (i ∷ is) [] h = absurd (cc)
-fit_long (i ∷ is) (v ∷ vs) h = ap suc (fit_long is vs (both_of (fits i.kind v) (all_fit is vs) h).1)
+fit_long (i ∷ is) (v ∷ vs) h = ap suc (fit_long is vs (both_of (fits i.kind v) (values_fit is vs) h).1)
 
 -- the record of a slot that fits is one that its data set may hold
 pub slot_record : (desc : Described) (set : ℕ) (s : Shape) (slot : Slot) → structure_of desc set ≡ Some s → SlotFits s slot → RecordFits desc set slot.rec

@@ -12,7 +12,8 @@ use Rattle.dms_desc.specs.Lookups.{items_of, structure_of}
 use Rattle.dms_desc.specs.Shape.{Shape, Described}
 use Rattle.dms_desc.specs.declared.record.Record.{Record}
 use Rattle.dms_desc.specs.declared.structure.Item.{Item}
-use Rattle.dms_layout.specs.Slots.{AreKinds, all_fit}
+use Rattle.dms_layout.specs.Slots.{AreKinds}
+use Rattle.dms_desc.specs.Fitting.{values_fit}
 use Rattle.dms_model.specs.Db.{Db}
 use Rattle.dms_model.specs.Fitting.{AreFitting, RecordFits}
 use Rattle.dms_model.specs.Stores.{is_closed, put_answer, put_number, put_unless, stored}
@@ -37,7 +38,7 @@ use Rattle.dms_store.specs.SpelledLaws.{spelled_fits, spelled_stands, value_fits
 
 -- ---- what is stored fits
 
-pub fit_all : (items : List Item) (values : List Value) → length values ≡ length items → OfItems items values (λ item v. fits item.kind v ≡ true) → all_fit items values ≡ true
+pub fit_all : (items : List Item) (values : List Value) → length values ≡ length items → OfItems items values (λ item v. fits item.kind v ≡ true) → values_fit items values ≡ true
 fit_all [] [] long h = refl
 fit_all [] (v ∷ vs) long h = absurd (omega (arith, long))
 fit_all (i ∷ is) [] long h = absurd (omega (arith, long))

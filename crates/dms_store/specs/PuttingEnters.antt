@@ -21,7 +21,8 @@ use Rattle.dms_desc.specs.Shape.{Shape, Described}
 use Rattle.dms_desc.specs.declared.record.Record.{Record}
 use Rattle.dms_desc.specs.declared.structure.KeyPart.{KeyPart}
 use Rattle.dms_key.specs.KeyBytes.{FitsPart, KeyHasKinds, kind_of}
-use Rattle.dms_layout.specs.Slots.{SlotFits, all_fit, may_own, slot_bytes}
+use Rattle.dms_layout.specs.Slots.{SlotFits, may_own, slot_bytes}
+use Rattle.dms_desc.specs.Fitting.{values_fit}
 use Rattle.dms_layout.specs.declared.slot.Slot.{Slot}
 use Rattle.dms_model.specs.declared.put.Put.{Put}
 use Rattle.dms_model.specs.declared.put.Put.TheVariants.{Stored, Duplicate as Refused, Full}
@@ -159,7 +160,7 @@ slot_fits desc set s x made at same fits own counted owned =
       disjoint = ap (λ (r : Record). may_own s r.owner) same ∙ own;
       counted = counted;
       owned = owned;
-      values = ap (λ (r : Record). all_fit s.items r.values) same ∙ fit_all s.items made.values f.lengths f.fit;
+      values = ap (λ (r : Record). values_fit s.items r.values) same ∙ fit_all s.items made.values f.lengths f.fit;
       plain = subst (λ (r : Record). ArePlain r.values) (sym same) f.plain;
     }
 

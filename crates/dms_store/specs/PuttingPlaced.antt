@@ -15,7 +15,8 @@ use Rattle.dms_block.specs.ViewLaws.{seen_still}
 use Rattle.dms_desc.specs.Lookups.{items_of, structure_of}
 use Rattle.dms_desc.specs.Shape.{Shape, Described}
 use Rattle.dms_desc.specs.declared.record.Record.{Record}
-use Rattle.dms_layout.specs.Slots.{SlotFits, all_fit, slot_bytes}
+use Rattle.dms_layout.specs.Slots.{SlotFits, slot_bytes}
+use Rattle.dms_desc.specs.Fitting.{values_fit}
 use Rattle.dms_layout.specs.declared.slot.Slot.{Slot}
 use Rattle.dms_model.specs.declared.put.Put.{Put}
 use Rattle.dms_model.specs.declared.put.Put.TheVariants.{Stored, Duplicate as Refused, Full}
@@ -69,7 +70,7 @@ made_fits desc set s o rec at old fits = record {
     by (Some slot) f g = let h = olds slot.rec (record_fits_opt desc set s (Some slot) at f) in linked_fits s.items slot.rec.values rec.values g h.fit h.plain
 
 -- as the codec of slots asks it
-pub values_all : (desc : Described) (set : ℕ) (s : Shape) (rec : Record) → structure_of desc set ≡ Some s → RecordFits desc set rec → IsTrue (all_fit s.items rec.values)
+pub values_all : (desc : Described) (set : ℕ) (s : Shape) (rec : Record) → structure_of desc set ≡ Some s → RecordFits desc set rec → IsTrue (values_fit s.items rec.values)
 values_all desc set s rec at fits = let f : AreFitting s.items rec.values = subst (λ (q : Option Shape). AreFitting (items_of q) rec.values) at fits.values in fit_all s.items rec.values f.lengths f.fit
 
 pub few_numbers : (desc : Described) (set number : ℕ) (s : Shape) → IsServed desc → structure_of desc set ≡ Some s → number ≤ s.population → number ≤ 1000000

@@ -21,7 +21,8 @@ use Rattle.dms_layout.specs.declared.slot.Slot.{Slot}
 use Rattle.dms_layout.specs.declared.slot.SlotRead.{SlotRead}
 use Rattle.dms_layout.specs.declared.slot.SlotRead.TheVariants.{Free, Used, Bad}
 use Rattle.dms_layout.specs.ReadLaws.{used_fits}
-use Rattle.dms_layout.specs.Slots.{SlotFits, AreKinds, all_fit, slot_width}
+use Rattle.dms_layout.specs.Slots.{SlotFits, AreKinds, slot_width}
+use Rattle.dms_desc.specs.Fitting.{values_fit}
 use Rattle.dms_laws.specs.Sound.{IsFlat}
 use Rattle.dms_model.specs.Valid.{is_data_set, link_stands, owner_stands, refers}
 use Rattle.dms_model.specs.Db.{Db, Place, Records, place_cmp, empty_db}
@@ -286,14 +287,14 @@ spelled_stands desc c db formed h =
 
 -- ---- what they hold
 
-pub value_fits : (items : List Item) (values : List Value) (k : ℕ) (item : Item) → AreKinds items → all_fit items values ≡ true → ArePlain values → slice_get items k ≡ Some item → FitsKind item.kind (or_null (slice_get values k))
+pub value_fits : (items : List Item) (values : List Value) (k : ℕ) (item : Item) → AreKinds items → values_fit items values ≡ true → ArePlain values → slice_get items k ≡ Some item → FitsKind item.kind (or_null (slice_get values k))
 value_fits [] values k item kinds fit plain at = absurd (cc)
 value_fits (i ∷ is) [] k item kinds fit plain at = absurd (cc)
 value_fits (i ∷ is) (v ∷ vs) zero item kinds fit plain at =
-    let both = both_of (fits i.kind v) (all_fit is vs) fit in
+    let both = both_of (fits i.kind v) (values_fit is vs) fit in
     let same : i ≡ item = some_item i item at in
     subst (λ (j : Item). FitsKind j.kind v) same (record { kind = kinds.0; fits = both.0; plain = plain.0 })
-value_fits (i ∷ is) (v ∷ vs) (suc k) item kinds fit plain at = value_fits is vs k item kinds.1 (both_of (fits i.kind v) (all_fit is vs) fit).1 plain.1 at
+value_fits (i ∷ is) (v ∷ vs) (suc k) item kinds fit plain at = value_fits is vs k item kinds.1 (both_of (fits i.kind v) (values_fit is vs) fit).1 plain.1 at
 
 record_fits : (desc : Described) (db : Db) (place : Place) (rec : Record) → RecordStands desc db place rec → RecordHasSpot desc place rec
 record_fits desc db place rec r =

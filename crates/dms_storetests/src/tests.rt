@@ -19,21 +19,21 @@ D-TOP SUBSET OF D WHERE (Y > 90) KEY IS Y;
 
 /// What is asked under a schema, and what is answered.
 #[derive(Clone, Copy)]
-struct Row {
+struct ScriptCase {
     shows: &'static str,
     schema: &'static [u8],
     script: &'static [u8],
     answers: &'static [u8],
 }
 
-const ROWS: [Row; 7] = [
-    Row {
+const ROWS: [ScriptCase; 7] = [
+    ScriptCase {
         shows: "an empty script",
         schema: TWO,
         script: b"",
         answers: b"",
     },
-    Row {
+    ScriptCase {
         shows: "a find by a key",
         schema: WITH_SET,
         script: b"A: OPEN UPDATE
@@ -55,7 +55,7 @@ A: GET D
 8 A DONE X=5
 ",
     },
-    Row {
+    ScriptCase {
         shows: "a transaction waits for a syncpoint",
         schema: TWO,
         script: b"A: OPEN UPDATE
@@ -79,7 +79,7 @@ SYNCPOINT 1
 7 C DONE
 ",
     },
-    Row {
+    ScriptCase {
         shows: "a back-out",
         schema: TWO,
         script: b"A: OPEN UPDATE
@@ -107,7 +107,7 @@ A: ABORT-TRANSACTION RDS
 11 A EXCEPTION AUDITERROR A
 ",
     },
-    Row {
+    ScriptCase {
         shows: "refusals",
         schema: RULED,
         script: b"A: GET D
@@ -219,7 +219,7 @@ A: GET D
 53 A EXCEPTION OPENERROR A
 ",
     },
-    Row {
+    ScriptCase {
         shows: "a record stored again",
         schema: RULED,
         script: b"A: OPEN UPDATE
@@ -253,7 +253,7 @@ A: FIND LAST D-SET
 14 A EXCEPTION NOTFOUND D-SET
 ",
     },
-    Row {
+    ScriptCase {
         shows: "a restart record, and a subset without duplicates",
         schema: RULED,
         script: b"A: OPEN UPDATE

@@ -17,7 +17,7 @@ use Rattle.dms_block.specs.Content.{block_in}
 use Rattle.dms_history.specs.Events.{Content}
 use Rattle.dms_history.proofs.Picks.{some_is}
 use Rattle.dms_pool.specs.declared.pool.Pool.{Pool}
-use Rattle.dms_pool.specs.declared.frame.Frame as pools
+use Rattle.dms_pool.specs.declared.frame.BufferFrame as pools
 use Rattle.dms_pool.specs.Calls.{PutsFrame, SamePool, FrameUsed}
 use Rattle.dms_pool.specs.Held.{frame_of, framed}
 use Rattle.dms_running.specs.Frames.{FramesHold, with_frame}
@@ -55,11 +55,11 @@ owned_by l f b low =
     ]
 
 -- a frame whose block was answered, and none
-some_frame : (o : Option pools.Frame) (b : Block) → Some b ≡ option_map (λ f. f.block) o → (x : pools.Frame) × (o ≡ Some x) × (x.block ≡ b)
+some_frame : (o : Option pools.BufferFrame) (b : Block) → Some b ≡ option_map (λ f. f.block) o → (x : pools.BufferFrame) × (o ≡ Some x) × (x.block ≡ b)
 some_frame (Some x) b is = (x, refl, sym (some_is b x.block is))
 some_frame None b is = absurd cc
 
-no_frame : (o : Option pools.Frame) → None ≡ option_map (λ f. f.block) o → o ≡ None
+no_frame : (o : Option pools.BufferFrame) → None ≡ option_map (λ f. f.block) o → o ≡ None
 no_frame (Some x) is = absurd cc
 no_frame None is = refl
 
@@ -98,7 +98,7 @@ module _ {S : Type 0} (g : Ghosts S) (r : Running S) (u : IsUsable g r) where
 
     -- its file has it as the content has it
     pub stands : stored_of (g.files r.log.site) id.file id.block ≡ block_in c id.file id.block
-    stands = ((u.goes t).holds id.file id.block).stands low_content (λ y is. absurd (none_not_some y (sym (ap (λ (o : Option pools.Frame). option_map frame_seen o) absent) ∙ is)))
+    stands = ((u.goes t).holds id.file id.block).stands low_content (λ y is. absurd (none_not_some y (sym (ap (λ (o : Option pools.BufferFrame). option_map frame_seen o) absent) ∙ is)))
 
     pub in_file : range (1024 * id.block) 1024 (g.files r.log.site id.file) ≡ block_in c id.file id.block
     in_file = sym (stored_at (g.files r.log.site) id.file id.block (in_table r.counts.items id.file id.block there)) ∙ stands
@@ -122,7 +122,7 @@ module _ {S : Type 0} (g : Ghosts S) (r : Running S) (u : IsUsable g r) where
         runs = k.runs;
         holds = holds_like (telling (view_of g r.log)) (state (view_of g r.log)) (with_frame (frames_of r.pool) id.file id.block (Some (record { block = block.0; dirty = false }))) (frames_of p) (frames_put id (framed block false) r.pool p put)
             (subst (λ (bytes : List ℕ). FramesHold (telling (view_of g r.log)) (state (view_of g r.log)) (with_frame (frames_of r.pool) id.file id.block (Some (record { block = bytes; dirty = false })))) (stands id there absent t ∙ sym (is_block t))
-            (holds_read (telling (view_of g r.log)) (state (view_of g r.log)) (frames_of r.pool) k.holds id.file id.block (ap (λ (o : Option pools.Frame). option_map frame_seen o) absent) (low_content id there absent t)));
+            (holds_read (telling (view_of g r.log)) (state (view_of g r.log)) (frames_of r.pool) k.holds id.file id.block (ap (λ (o : Option pools.BufferFrame). option_map frame_seen o) absent) (low_content id there absent t)));
         numbered = k.numbered;
         counted = k.counted;
       };
@@ -158,7 +158,7 @@ module _ {S : Type 0} (g : Ghosts S) (r : Running S) (u : IsUsable g r) where
   pub asked_block : (id : BlockId) (block : Block) → Some block ≡ option_map (λ f. f.block) (frame_of id r.pool) → IsTrue g.tells → block.0 ≡ block_in (content (view_of g r.log)) id.file id.block
   asked_block id block is t =
       let x = some_frame (frame_of id r.pool) block is in
-      ap (λ (b : Block). b.0) (sym x.2) ∙ (((u.goes t).holds id.file id.block).held (frame_seen x.0) (ap (λ (o : Option pools.Frame). option_map frame_seen o) x.1)).1
+      ap (λ (b : Block). b.0) (sym x.2) ∙ (((u.goes t).holds id.file id.block).held (frame_seen x.0) (ap (λ (o : Option pools.BufferFrame). option_map frame_seen o) x.1)).1
 
   -- a held block was asked for, and counted
   pub usable_read : (id : BlockId) (p : Pool) (n : ℕ) → FrameUsed id r.pool p → IsUsable g (record r { pool = p; reads = n })

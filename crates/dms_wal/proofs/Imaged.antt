@@ -13,7 +13,7 @@ use Rattle.dms_history.specs.Events.{Content}
 use Rattle.dms_history.specs.Images.{is_at}
 use Rattle.dms_history.specs.Replay.{TellsBefore, with_block}
 use Rattle.dms_history.proofs.Picks.{place_cases, tells_le}
-use Rattle.dms_pool.specs.declared.frame.Frame as pools
+use Rattle.dms_pool.specs.declared.frame.BufferFrame as pools
 use Rattle.dms_pool.specs.declared.pool.Pool.{Pool}
 use Rattle.dms_pool.specs.Calls.{FrameUsed, PutsFrame}
 use Rattle.dms_pool.specs.Entries.{is_key}
@@ -108,11 +108,11 @@ module _ (id : BlockId) (block : Block) (a : LogView) (first second : Pool) (im 
   }
     where
       third_second : (g c : ℕ) → frames_of third g c ≡ frames_of second g c
-      third_second g c = ap (λ (l : LruCache FrameKey pools.Frame). option_map frame_seen (lookup (is_key (record { file = g; block = c })) l.entries)) same
+      third_second g c = ap (λ (l : LruCache FrameKey pools.BufferFrame). option_map frame_seen (lookup (is_key (record { file = g; block = c })) l.entries)) same
 
       each : (g c : ℕ) → frames_of third g c ≡ with_frame full id.file id.block None g c
       each g c = elim (place_cases id.file id.block g c) [
-        | inl place ↦ third_second g c ∙ (λ i. option_map frame_seen (frame_of (record { file = place.0 i; block = place.1 i }) second)) ∙ ap (λ (o : Option pools.Frame). option_map frame_seen o) none
+        | inl place ↦ third_second g c ∙ (λ i. option_map frame_seen (frame_of (record { file = place.0 i; block = place.1 i }) second)) ∙ ap (λ (o : Option pools.BufferFrame). option_map frame_seen o) none
             ∙ sym (ap (λ k. cond k None (full g c)) place.2)
         | inr apart ↦ third_second g c ∙ frames_looked id first second looked g c ∙ sym (ap (λ k. cond k None (full g c)) apart.1 ∙ ap (λ k. cond k dirty (frames_of first g c)) apart.1)
       ]

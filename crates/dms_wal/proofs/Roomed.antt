@@ -18,7 +18,7 @@ use Rattle.dms_history.specs.Entries.{Entry}
 use Rattle.dms_history.specs.EntryEvents.{live_of}
 use Rattle.dms_restore.proofs.Callers.{changed_newest}
 use Rattle.dms_history.proofs.Picks.{some_is}
-use Rattle.dms_pool.specs.declared.frame.Frame as pools
+use Rattle.dms_pool.specs.declared.frame.BufferFrame as pools
 use Rattle.dms_pool.specs.declared.frame.FrameKey.{FrameKey}
 use Rattle.dms_pool.specs.declared.pool.Pool.{Pool}
 use Rattle.dms_pool.specs.Calls.{GivesUp, SamePool}
@@ -78,13 +78,13 @@ module _ {S : Type 0} (g : Ghosts S) (r : Running S) (u : IsUsable g r) (p : Poo
     goes = λ t. let k = u.goes t in record { runs = k.runs; holds = holds_like (telling (view_of g r.log)) (state (view_of g r.log)) (frames_of r.pool) (frames_of p) frames k.holds; numbered = k.numbered; counted = k.counted };
   }
     where
-      is_old : (id : BlockId) (x : pools.Frame) → frame_of id p ≡ Some x → frame_of id r.pool ≡ Some x
-      is_old id x is = ap (λ (f : LruCache FrameKey pools.Frame). lookup (is_key id) f.entries) (sym same) ∙ is
+      is_old : (id : BlockId) (x : pools.BufferFrame) → frame_of id p ≡ Some x → frame_of id r.pool ≡ Some x
+      is_old id x is = ap (λ (f : LruCache FrameKey pools.BufferFrame). lookup (is_key id) f.entries) (sym same) ∙ is
 
       frames : (f k : ℕ) → frames_of p f k ≡ frames_of r.pool f k
-      frames f k = ap (λ (l : LruCache FrameKey pools.Frame). option_map frame_seen (lookup (is_key (record { file = f; block = k })) l.entries)) same
+      frames f k = ap (λ (l : LruCache FrameKey pools.BufferFrame). option_map frame_seen (lookup (is_key (record { file = f; block = k })) l.entries)) same
 
-  module _ (id : BlockId) (x : pools.Frame) (up : GivesUp id x r.pool p) where
+  module _ (id : BlockId) (x : pools.BufferFrame) (up : GivesUp id x r.pool p) where
     pub low : id.block < count_of r.counts.items id.file
     low = u.counted id x up.was
 
@@ -95,7 +95,7 @@ module _ {S : Type 0} (g : Ghosts S) (r : Running S) (u : IsUsable g r) (p : Poo
     place = omega (arith, low, u.table.small id.file)
 
     frame_at : frames_of r.pool id.file id.block ≡ Some (frame_seen x)
-    frame_at = ap (λ (o : Option pools.Frame). option_map frame_seen o) up.was
+    frame_at = ap (λ (o : Option pools.BufferFrame). option_map frame_seen o) up.was
 
     pub usable_clean : x.dirty ≡ false → IsUsable g (record r { pool = p })
     usable_clean clean = record {
@@ -132,7 +132,7 @@ module _ {S : Type 0} (g : Ghosts S) (r : Running S) (u : IsUsable g r) (p : Poo
     goes = λ t. let k = u.goes t in let w = back t in record {
       runs = runs t;
       holds = holds_like (telling (view_of g l)) (state (view_of g l)) (with_frame (frames_of r.pool) id.file id.block None) (frames_of p) (frames_up id (framed block true) r.pool p up)
-          (holds_back (view_of g r.log) (view_of g l) kind (frames_of r.pool) k.holds id.file id.block block.0 w (ap (λ (o : Option pools.Frame). option_map frame_seen o) up.was) (all_sized (view_of g r.log) k.runs (read t)));
+          (holds_back (view_of g r.log) (view_of g l) kind (frames_of r.pool) k.holds id.file id.block block.0 w (ap (λ (o : Option pools.BufferFrame). option_map frame_seen o) up.was) (all_sized (view_of g r.log) k.runs (read t)));
       numbered = k.numbered ∙ sym w.next_same;
       counted = λ f. k.counted f ∙ ap (λ (c : Content). length (c f)) (sym w.content_same);
     };

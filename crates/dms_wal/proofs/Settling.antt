@@ -12,7 +12,7 @@ use Rattle.dms_block.specs.Held.{Looks}
 use Rattle.dms_block.specs.HeldLaws.{used_none}
 use Rattle.dms_history.specs.Events.{Content, block_in}
 use Rattle.dms_history.specs.Points.{LivePoint}
-use Rattle.dms_pool.specs.declared.frame.Frame as pools
+use Rattle.dms_pool.specs.declared.frame.BufferFrame as pools
 use Rattle.dms_pool.specs.declared.pool.Pool.{Pool}
 use Rattle.dms_pool.specs.Calls.{Cleans}
 use Rattle.dms_pool.specs.Held.{frame_of, framed, is_dirty}
@@ -49,17 +49,17 @@ module _ {S : Type 0} (g : Ghosts S) (r : Running S) (u : IsUsable g r) where
     goes = λ t. let k = u.goes t in let w = back t in record {
       runs = runs t;
       holds = holds_like (telling (view_of g l)) (state (view_of g l)) (with_frame (frames_of r.pool) id.file id.block (Some (record { block = block.0; dirty = false }))) (frames_of p) (frames_cleaned id r.pool p c block was)
-          (holds_washed (view_of g r.log) (view_of g l) kind (frames_of r.pool) k.holds id.file id.block block.0 w (ap (λ (o : Option pools.Frame). option_map frame_seen o) was) (all_sized (view_of g r.log) k.runs (read t)));
+          (holds_washed (view_of g r.log) (view_of g l) kind (frames_of r.pool) k.holds id.file id.block block.0 w (ap (λ (o : Option pools.BufferFrame). option_map frame_seen o) was) (all_sized (view_of g r.log) k.runs (read t)));
       numbered = k.numbered ∙ sym w.next_same;
       counted = λ f. k.counted f ∙ ap (λ (c : Content). length (c f)) (sym w.content_same);
     };
   }
 
   pub changed_block : (id : BlockId) (block : Block) → frame_of id r.pool ≡ Some (framed block true) → IsTrue g.tells → logs.IsChangedBlock (view_of g r.log) id.file id.block
-  changed_block id block was t = ((u.goes t).holds id.file id.block).changed (frame_seen (framed block true)) (ap (λ (o : Option pools.Frame). option_map frame_seen o) was) refl
+  changed_block id block was t = ((u.goes t).holds id.file id.block).changed (frame_seen (framed block true)) (ap (λ (o : Option pools.BufferFrame). option_map frame_seen o) was) refl
 
   pub block_of : (id : BlockId) (block : Block) → frame_of id r.pool ≡ Some (framed block true) → IsTrue g.tells → block_in (content (view_of g r.log)) id.file id.block ≡ block.0
-  block_of id block was t = sym ((((u.goes t).holds id.file id.block).held (frame_seen (framed block true)) (ap (λ (o : Option pools.Frame). option_map frame_seen o) was)).1)
+  block_of id block was t = sym ((((u.goes t).holds id.file id.block).held (frame_seen (framed block true)) (ap (λ (o : Option pools.BufferFrame). option_map frame_seen o) was)).1)
 
 -- ---- what waits is sealed, and then the site is synced
 

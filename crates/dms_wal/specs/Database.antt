@@ -5,7 +5,7 @@ use Rattle.dms_site.specs.declared.site.Site.{Ghosts}
 use Rattle.dms_block.specs.declared.block.BlockId.{BlockId}
 use Rattle.dms_block.specs.Counts.{Faults}
 use Rattle.dms_block.specs.Held.{Held, Uses}
-use Rattle.dms_pool.specs.declared.frame.Frame as pools
+use Rattle.dms_pool.specs.declared.frame.BufferFrame as pools
 use Rattle.dms_pool.specs.declared.pool.Pool.{Pool}
 use Rattle.dms_pool.specs.Held.{frame_of}
 use Rattle.dms_running.specs.Frames.{Frame, Frames, FramesHold}
@@ -17,7 +17,7 @@ use Rattle.dms_wal.specs.Lifting.{AreCounts, count_of, held_of}
 use Rattle.dms_wal.specs.Marks.{AreMarks, IsDescription, IsMarkOf}
 
 -- a frame of the pool, as its bytes and whether they are to be written
-abbrev pub frame_seen : pools.Frame → Frame
+abbrev pub frame_seen : pools.BufferFrame → Frame
 frame_seen x = record { block = x.block.0; dirty = x.dirty }
 
 -- the frames of a pool, by file and block
@@ -34,7 +34,7 @@ pub record GoesWith (v : LogView) (pool : Pool) (next : ℕ) (counts : List ℕ)
 
 -- each block that is held is one of the table
 abbrev pub HoldsCounted : Pool → List ℕ → Type 0
-HoldsCounted pool counts = (id : BlockId) (x : pools.Frame) → frame_of id pool ≡ Some x → id.block < count_of counts id.file
+HoldsCounted pool counts = (id : BlockId) (x : pools.BufferFrame) → frame_of id pool ≡ Some x → id.block < count_of counts id.file
 
 module _ {S : Type 0} (g : Ghosts S) where
   -- a log over what its site tells

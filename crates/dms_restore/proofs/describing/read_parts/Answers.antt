@@ -1,7 +1,7 @@
 use Rattle.std.proofs.Common.{sym, ◌∙◌, refl, subst, arith}
 use Rattle.dms_site.specs.Files.{Files}
 use Rattle.dms_audfile.proofs.Reading.{reads_on}
-use Rattle.dms_audfile.specs.declared.place.Place.{Place}
+use Rattle.dms_audfile.specs.declared.place.EntryPlace.{EntryPlace}
 use Rattle.dms_audfile.specs.EntryReading.{IsCurrent}
 use Rattle.dms_restore.proofs.Results.{is_fault}
 use Rattle.dms_restore.proofs.ReadOn.{reads_none, no_entry_at, current_fault}
@@ -20,7 +20,7 @@ loop-place-init g c = record {
 pub loop-place-preserved : goal.loop-place-preserved
 loop-place-preserved g c =
     let inv = c.loop-place.invariant in
-    let d : Place = record { file = 0; block = 0; offset = 0 } in
+    let d : EntryPlace = record { file = 0; block = 0; offset = 0 } in
     record {
       current = λ tells. subst (λ (l : Files). IsCurrent c.read_part.new.reader l) (inv.reads.files_stay tells) (c.read_part.ensures.current tells (subst (λ (l : Files). IsCurrent c.loop-place.reader l) (sym (inv.reads.files_stay tells)) (inv.current tells)));
       read = λ tells ps are there. parts_next _ _ c.args.parts.now c.loop-place.place-index d c.loop-place.bytes.items c.read_part.new.bytes.items c.loop-place-test.true (inv.reads.files_stay tells)
@@ -36,6 +36,6 @@ returns-clause-bytes g c tells ps are there = parts_all c.args.parts.now c.loop-
 pub returns-in-Err-read_part-clause-only : goal.returns-in-Err-read_part-clause-only
 returns-in-Err-read_part-clause-only g c =
     let inv = c.loop-place.invariant in
-    let d : Place = record { file = 0; block = 0; offset = 0 } in
+    let d : EntryPlace = record { file = 0; block = 0; offset = 0 } in
     no_entry_at g.S.Site.tells (g.S.Site.files c.args.site.now) (g.S.Site.files c.loop-place.site) c.args.parts.now c.loop-place.place-index d _ c.loop-place-test.true (λ t. inv.reads.files_stay t)
     (current_fault g.S.Site.tells _ _ _ _ (λ t. subst (λ (l : Files). IsCurrent c.loop-place.reader l) (sym (inv.reads.files_stay t)) (inv.current t)) c.in-Err-read_part.ensures.only)

@@ -1,6 +1,6 @@
 use Rattle.std.proofs.Common.{◌∙◌, ap, refl, rules, List, subst, sym, Some}
 use Rattle.dms_model.specs.Db.{Records}
-use Rattle.dms_plain.specs.declared.rows.Row.{Row}
+use Rattle.dms_plain.specs.declared.rows.RecordRow.{RecordRow}
 use Rattle.dms_plain.specs.Rows.{IsInOrder, records_in, db_of, undone}
 use Rattle.dms_desc.specs.Shape.{described}
 use Rattle.dms_plain.proofs.Fits.{nothing_fits}
@@ -11,7 +11,7 @@ pub returns-in-Ok-clause-starts : goal.returns-in-Ok-clause-starts
 returns-in-Ok-clause-starts g c = record {
   sound = tt;
   desc_is = search rules;
-  db_is = ap (λ (rows : List Row). Some (db_of (records_in rows))) c.new.ensures.items ∙ ap (λ (records : Records). Some (db_of records)) no_rows;
+  db_is = ap (λ (rows : List RecordRow). Some (db_of (records_in rows))) c.new.ensures.items ∙ ap (λ (records : Records). Some (db_of records)) no_rows;
   mark = (λ i. Some (db_of (undone (c.new-in-Ok.ensures.items i) (records_in (c.new.ensures.items i))))) ∙ ap (λ (records : Records). Some (db_of records)) no_rows;
   next_is = refl;
   points = refl;

@@ -6,12 +6,12 @@ use Rattle.dms_model.specs.declared.spot.Spot.{Spot}
 use Rattle.dms_model.specs.Fitting.{SpotFits}
 use Rattle.dms_model.specs.Founds.{first_fits}
 use Rattle.dms_model.specs.Members.{first_member}
-use Rattle.dms_plain.specs.declared.rows.Row.{Row}
+use Rattle.dms_plain.specs.declared.rows.RecordRow.{RecordRow}
 use Rattle.dms_plain.specs.Rows.{db_of, records_in}
 use Rattle.dms_plain.proofs.store.PlainStoreStore.first_from.Goals as goal
 
 pub returns-clause-fits : goal.returns-clause-fits
 returns-clause-fits g c =
     let d = described c.args.self.now.desc in
-    let is = c.in_ok-first_member.ensures ∙ ap (λ (rows : List Row). first_member d (db_of (records_in rows)) c.args.path c.args.owner c.args.from.now) c.as_slice.ensures.value in
+    let is = c.in_ok-first_member.ensures ∙ ap (λ (rows : List RecordRow). first_member d (db_of (records_in rows)) c.args.path c.args.owner c.args.from.now) c.as_slice.ensures.value in
     subst (λ (o : Option Spot). IfSome o (SpotFits d c.args.path)) (sym is) (first_fits d (db_of (records_in c.args.self.now.rows.items)) c.args.path c.args.owner c.args.self.now.fit.records c.args.from.now)
