@@ -294,6 +294,7 @@ said_range file on = (grind (arith, nat_tests), grind (arith, nat_tests))
 pub record WasRead (first last : ℕ) (files : Files) (ps : List Placed) : Type 0 where
   pub total : ℕ
   pub end : ℕ
+  pub inside : end ≤ last
   pub few : total ≤ 512
   pub read : files_read (end + 1 - first) total first files ≡ whole ps
   pub described : holds_schema (map entry_in ps) ≡ true
@@ -317,7 +318,7 @@ was_read first last files ps is =
     let at = scanned_at first last files ps is in
     let e = first_open (last + 1 - first) (blocks_said (files first)) first files in
     let w = ends_well (blocks_said (files first)) first last e files ps at.1 in
-    record { total = blocks_said (files first); end = e; few = (said_range (files first) at.0).1; read = w.read; described = w.described }
+    record { total = blocks_said (files first); end = e; inside = w.inside; few = (said_range (files first) at.0).1; read = w.read; described = w.described }
 
 pub found_is_kept : FoundIsWritersTrail
 found_is_kept first last files ps order is =

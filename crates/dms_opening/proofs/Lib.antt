@@ -1,0 +1,4 @@
+pub mod LastPoint
+pub mod OneTrail
+pub mod Carries
+pub mod Looks

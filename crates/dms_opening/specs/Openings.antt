@@ -17,7 +17,7 @@ use Rattle.dms_audfile.specs.Sealing.{IsWrittenUpTo}
 use Rattle.dms_audfile.specs.TrailEntries.{trail_entries}
 use Rattle.dms_audfile.specs.declared.fault.AudFault.{AudFault}
 use Rattle.dms_audfile.specs.declared.fault.AudFault.TheVariants as aud
-use Rattle.dms_audfile.specs.declared.place.Place.{Place}
+use Rattle.dms_audfile.specs.declared.place.EntryPlace.{EntryPlace}
 use Rattle.dms_running.specs.Telling.{Telling}
 use Rattle.dms_running.specs.Standing.{IsWhole}
 use Rattle.dms_running.specs.Points.{points_of, next_in}
@@ -37,7 +37,7 @@ use Rattle.dms_opening.specs.Plans.{RefusesPlan}
 
 -- Scanning refuses nothing in these files: their trail begins with file `first`, and each of its files has so many blocks.
 pub record HasTrail (total first : ℕ) (files : Files) : Type 0 where
-  pub places : List Place
+  pub places : List EntryPlace
   pub found : IsFound files first places
   pub tag : ℕ
   pub file : ℕ

@@ -8,7 +8,7 @@ use Rattle.dms_audfile.specs.AuditTrail.{IsFound}
 use Rattle.dms_audfile.specs.Ends.{Grown}
 use Rattle.dms_audfile.specs.TrailEntries.{trail_entries}
 use Rattle.dms_audfile.specs.declared.fault.AudFault.TheVariants as aud
-use Rattle.dms_audfile.specs.declared.place.Place.{Place}
+use Rattle.dms_audfile.specs.declared.place.EntryPlace.{EntryPlace}
 use Rattle.dms_restore.specs.declared.choosing.OpenFault.{OpenFault}
 use Rattle.dms_restore.specs.declared.choosing.OpenFault.TheVariants.{Audit}
 use Rattle.dms_restore.specs.declared.choosing.Choice.{Choice}
@@ -23,7 +23,7 @@ use Rattle.dms_restore.specs.Traces.{IsTraceOf}
 use Rattle.dms_opening.specs.declared.plan.Plan.{Plan}
 
 -- The trail that begins with file `first` was scanned: these are the places of its entries, and this is what they tell, however it grows.
-pub record IsTrailRead (total first : ℕ) (files : Files) (places : List Place) (t : TrailTrace) : Type 0 where
+pub record IsTrailRead (total first : ℕ) (files : Files) (places : List EntryPlace) (t : TrailTrace) : Type 0 where
   pub found : IsFound files first places
   pub placed : AreEntryPlaces total first files places
   pub stays : (new : Files) → Grown total first files new → IsTraceOf new (trail_entries total first files) t

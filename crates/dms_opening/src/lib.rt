@@ -1,6 +1,8 @@
 //! The opening of a database: what it does and needs before its first write, and the opening itself.
 #![tactic(auto)]
 
+mod carrying;
+mod looking;
 mod opened;
 mod plan;
 

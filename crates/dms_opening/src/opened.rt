@@ -11,11 +11,13 @@ ghost use Rattle.dms_wal.specs.Lifting.{AreCounts};
 ghost use Rattle.dms_wal.specs.Marks.{IsDescription};
 ghost use Rattle.dms_opening.specs.Openings.{OpensAt, RunsFrom, ReopensSince, TellsOpened, RefusesFiles, MayHaveWritten};
 
+use crate::carrying::{carry_out, site_of};
+use crate::looking::look;
 use dms_audfile::AudFault;
 use dms_base::Memory;
 use dms_restore::{Found, Log, OpenFault};
 use dms_site::Site;
-use dms_wal::Running;
+use dms_wal::{Running, Start};
 use std::alloc::Global;
 
 /// A database that was opened at its last point.
@@ -54,8 +56,10 @@ pub fn open<S: Site>(alloc: Global, found: Found<S>) -> Result<Opened<S>, (OpenF
     ensures disk { IfErr result (λ e. CountedAt (e.0 ≡ OpenFault.Audit AudFault.Disk) (S.disk_faults found.site) (S.disk_faults e.1)) }
     ensures say_faults { IfErr result (λ e. S.say_faults e.1 ≡ S.say_faults found.site) }
 {
-    let Found { site } = found;
-    Err((OpenFault::Audit(AudFault::Memory), site))
+    match look(alloc, found) {
+        Ok(planned) => carry_out(planned),
+        Err(refused) => Err(refused),
+    }
 }
 
 impl<S: Site> Opened<S> {
@@ -80,17 +84,28 @@ impl<S: Site> Opened<S> {
         ensures site { IfErr result (λ e. e.1 ≡ self.log.site) }
     {
         let Opened {
-            log,
-            schema: _schema,
-            counts: _counts,
-            next: _,
-            point: _,
+            mut log,
+            schema,
+            counts,
+            next,
+            point,
         } = self;
-        let Log {
-            site,
-            end: _end,
-            first: _,
-        } = log;
-        Err((Memory, site))
+        log.end.limit = limit;
+        let marks = match counts.to_vec(alloc) {
+            Ok(marks) => marks,
+            Err(_) => return Err((Memory, site_of(log))),
+        };
+        let start = Start {
+            counts,
+            marks,
+            schema,
+            next,
+            point,
+            every,
+        };
+        match Running::new(alloc, log, start, frames) {
+            Ok(running) => Ok(running),
+            Err((memory, log)) => Err((memory, site_of(log))),
+        }
     }
 }

@@ -5,7 +5,7 @@ ghost use Rattle.dms_audfile.specs.Counting.{CountedAt};
 ghost use Rattle.dms_audfile.specs.Reads.{OnlyReads};
 ghost use Rattle.dms_opening.specs.Plans.{IsTrailRead, Plans, IsFit, RefusesPlan};
 
-use dms_audfile::{AudFault, Place};
+use dms_audfile::{AudFault, EntryPlace};
 use dms_restore::{Choice, OpenFault, Told, TrailTrace};
 use dms_site::Site;
 use std::alloc::Global;
@@ -32,7 +32,7 @@ pub fn prepare<S: Site>(
     alloc: Global,
     site: &mut S,
     first: u32,
-    places: &[Place],
+    places: &[EntryPlace],
     trace: TrailTrace,
 ) -> Result<Plan, OpenFault>
     requires { 10001 ≤ first }

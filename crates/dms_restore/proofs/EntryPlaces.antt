@@ -1,7 +1,7 @@
 -- Where the parts of an entry stand in its audit file.
-use Rattle.std.specs.Prelude.{◌==◌, nat_lt, option_map}
+use Rattle.std.specs.Prelude.{◌==◌, ◌&&◌, nat_le, nat_lt, option_map}
 use Rattle.std.specs.Int.{Width, w16, w32, w64, byte_len, from_be_bytes}
-use Rattle.std.proofs.Common.{ℕ, zero, suc, ◌+◌, ◌-◌, ◌*◌, ◌/◌, ◌≤◌, ◌≡◌, ◌⊎◌, inl, inr, Bool, true, false, cond, List, [], ◌∷◌, length, take, drop, Option, Some, None, refl, sym, ◌∙◌, ap, subst, arith}
+use Rattle.std.proofs.Common.{ℕ, zero, suc, ◌+◌, ◌-◌, ◌*◌, ◌/◌, ◌^◌, ◌<◌, ◌≤◌, ◌≡◌, length-drop, ◌⊎◌, inl, inr, Bool, true, false, cond, List, [], ◌∷◌, length, take, drop, Option, Some, None, refl, sym, ◌∙◌, ap, subst, arith}
 use Rattle.std.proofs.lemmas.Bool.Decides.{nat_tests}
 use Rattle.std.proofs.lemmas.List.{length-take, drop-drop}
 use Rattle.dms_site.specs.Files.{Files, range}
@@ -20,7 +20,9 @@ use Rattle.dms_restore.specs.declared.live.ImageAt.{ImageAt}
 use Rattle.dms_restore.specs.declared.live.ControlAt.{ControlAt}
 use Rattle.dms_restore.specs.declared.live.LiveEntry.TheVariants.{Controlled}
 use Rattle.dms_restore.specs.LiveEntries.{event_at}
-use Rattle.dms_restore.specs.Tracing.{StandsAsImage}
+use Rattle.dms_audrec.specs.Spelling.{counts_rise}
+use Rattle.dms_restore.specs.Scanned.{IsInAudit}
+use Rattle.dms_restore.specs.Tracing.{StandsAsImage, StandsAsControl}
 
 true_not_false : true ≡ false → ⊥
 true_not_false e = absurd cc
@@ -156,6 +158,28 @@ pub record ImageParts (bytes : List ℕ) (before : Option Block) (after : Block)
 some_is : {A : Type 0} (x y : A) → Some x ≡ Some y → x ≡ y
 some_is x y is = cc
 
+-- the block of an Image is one of a structure file
+abbrev OfStructureFile : Entry → Type 0
+OfStructureFile (schema_part part parts bytes) = Unit {0}
+OfStructureFile (image f b before after) = (30001 ≤ f) × (f ≤ 30200) × (b < 2097152)
+OfStructureFile (byte_range f b place bytes) = Unit {0}
+OfStructureFile (quiet_point n) = Unit {0}
+OfStructureFile (control_point n next counts) = Unit {0}
+OfStructureFile (begin_restore n kind) = Unit {0}
+
+image_test : (file block : ℕ) → nat_le 30001 file && nat_le file 30200 && nat_lt block 2097152 ≡ true → (30001 ≤ file) × (file ≤ 30200) × (block < 2097152)
+image_test file block e = (grind (arith, nat_tests), grind (arith, nat_tests), grind (arith, nat_tests))
+
+image_bounds : (bytes : List ℕ) (x : Entry × List ℕ) → image_at bytes ≡ Some x → OfStructureFile x.0
+unfolding image_at
+image_bounds bytes x e =
+    let (file, e1, r1) = bind_some (number_first w32 bytes) _ x e in
+    let (block, e2, r2) = bind_some (number_first w32 file.1) _ x r1 in
+    let (before, e3, r3) = bind_some (before_at block.1) _ x r2 in
+    let (after, e4, r4) = bind_some (bytes_first 1024 before.1) _ x r3 in
+    let is = go_some _ (image file.0 block.0 before.0 after.0, after.1) x r4 in
+    subst (λ (y : Entry × List ℕ). OfStructureFile y.0) is.1 (image_test file.0 block.0 is.0)
+
 image_parts : (bytes : List ℕ) (x : Entry × List ℕ) → image_at bytes ≡ Some x → ImageParts bytes (before_of x.0) (after_of x.0)
 unfolding image_at
 image_parts bytes x e =
@@ -187,6 +211,7 @@ pub record ControlParts (bytes : List ℕ) (counts : List FileCount) : Type 0 wh
   pub list_is : list ≡ take (8 * many) (drop 18 bytes)
   pub long : length list ≡ 8 * many
   pub counts_are : counts ≡ counts_at many list
+  pub rise : counts_rise 30001 (counts_at many list) ≡ true
 
 control_parts : (bytes : List ℕ) (x : Entry × List ℕ) → control_at bytes ≡ Some x → ControlParts bytes (counts_of x.0) × (number_of x.0 ≡ 4)
 unfolding control_at
@@ -195,12 +220,13 @@ control_parts bytes x e =
     let (next, e2, r2) = bind_some (number_first w64 n.1) _ x r1 in
     let (files, e3, r3) = bind_some (number_first w16 next.1) _ x r2 in
     let (list, e4, r4) = bind_some (bytes_first (8 * files.0) files.1) _ x r3 in
-    let is = (go_some _ (control_point n.0 next.0 (counts_at files.0 list.0), list.1) x r4).1 in
+    let test = go_some _ (control_point n.0 next.0 (counts_at files.0 list.0), list.1) x r4 in
+    let is = test.1 in
     let one : next.1 ≡ drop 16 bytes = number_rest w64 n.1 next e2 ∙ ap (drop 8) (number_rest w64 bytes n e1) ∙ drop-drop 8 8 bytes in
     let behind : files.1 ≡ drop 18 bytes = number_rest w16 next.1 files e3 ∙ ap (drop 2) one ∙ drop-drop 2 16 bytes in
     let list_is = bytes_parts (8 * files.0) files.1 list e4 in
     subst (λ (y : Entry × List ℕ). ControlParts bytes (counts_of y.0) × (number_of y.0 ≡ 4)) is
-    (record { list = list.0; many = files.0; list_is = list_is.0 ∙ ap (take (8 * files.0)) behind; long = list_is.2; counts_are = refl }, refl)
+    (record { list = list.0; many = files.0; list_is = list_is.0 ∙ ap (take (8 * files.0)) behind; long = list_is.2; counts_are = refl; rise = test.0 }, refl)
 
 image_number : (bytes : List ℕ) (x : Entry × List ℕ) → image_at bytes ≡ Some x → number_of x.0 ≡ 2
 unfolding image_at
@@ -264,12 +290,13 @@ behind_kind [] x e = absurd (none_not_some x e)
 behind_kind (kind ∷ rest) x e = kind_read kind rest x e
 
 -- Where the blocks of an Image stand.
-pub record ImageThere (files : Files) (p : EntryPlace) (before : Option Block) (after : Block) : Type 0 where
+pub record ImageThere (files : Files) (p : EntryPlace) (f b : ℕ) (before : Option Block) (after : Block) : Type 0 where
+  pub bounds : (30001 ≤ f) × (f ≤ 30200) × (b < 2097152)
   pub new : before ≡ None → (range (4096 * p.block + p.offset + 10) 1024 (files p.file) ≡ after) × (length after ≡ 1024)
   pub old : (y : Block) → before ≡ Some y
       → (range (4096 * p.block + p.offset + 10) 1024 (files p.file) ≡ y) × (length y ≡ 1024) × (range (4096 * p.block + p.offset + 1034) 1024 (files p.file) ≡ after) × (length after ≡ 1024)
 
-pub image_there : (files : Files) (p : EntryPlace) (f b : ℕ) (before : Option Block) (after : Block) → entry_there files p ≡ Some (image f b before after) → ImageThere files p before after
+pub image_there : (files : Files) (p : EntryPlace) (f b : ℕ) (before : Option Block) (after : Block) → entry_there files p ≡ Some (image f b before after) → ImageThere files p f b before after
 image_there files p f b before after is =
     let (x, at, same) = read_there files p (image f b before after) is in
     let bytes = used_from (block_at p.block (files p.file)) p.offset in
@@ -279,6 +306,7 @@ image_there files p f b before after is =
     let shift : drop 9 (drop 1 bytes) ≡ drop 10 bytes = drop-drop 9 1 bytes in
     let far : drop 1033 (drop 1 bytes) ≡ drop 1034 bytes = drop-drop 1033 1 bytes in
     record {
+      bounds = subst OfStructureFile same (image_bounds (drop 1 bytes) x read);
       new = λ none. let r = parts.new none in (part_there 1024 10 p.offset m p.block (files p.file) after (r.0 ∙ ap (take 1024) shift) r.1, r.1);
       old = λ y some. let r = parts.old y some in (
         part_there 1024 10 p.offset m p.block (files p.file) y (r.0 ∙ ap (take 1024) shift) r.1,
@@ -289,8 +317,22 @@ image_there files p f b before after is =
     }
 
 -- Where the counts of a Control stand.
-pub control_there : (files : Files) (p : EntryPlace) (n next : ℕ) (counts : List FileCount) → entry_there files p ≡ Some (control_point n next counts)
-    → counts_at (length counts) (range (4096 * p.block + p.offset + 19) (8 * length counts) (files p.file)) ≡ counts
+pub record ControlThere (files : Files) (p : EntryPlace) (counts : List FileCount) : Type 0 where
+  pub is : counts_at (length counts) (range (4096 * p.block + p.offset + 19) (8 * length counts) (files p.file)) ≡ counts
+  pub long : length (range (4096 * p.block + p.offset + 19) (8 * length counts) (files p.file)) ≡ 8 * length counts
+  pub short : 8 * length counts ≤ 4096
+  pub rise : counts_rise 30001 counts ≡ true
+
+block_short : (b : ℕ) (file : List ℕ) → length (block_at b file) ≤ 4096
+unfolding range
+block_short b file = omega (arith, length-take 4096 (drop (4096 * b) file))
+
+part_short : (n k off m b : ℕ) (file : List ℕ) → length (take n (drop k (drop off (take m (block_at b file))))) ≤ 4096
+part_short n k off m b file =
+    let all = block_at b file in
+    omega (arith, length-take n (drop k (drop off (take m all))), length-drop k (drop off (take m all)), length-drop off (take m all), length-take m all, block_short b file)
+
+pub control_there : (files : Files) (p : EntryPlace) (n next : ℕ) (counts : List FileCount) → entry_there files p ≡ Some (control_point n next counts) → ControlThere files p counts
 control_there files p n next counts is =
     let (x, at, same) = read_there files p (control_point n next counts) is in
     let bytes = used_from (block_at p.block (files p.file)) p.offset in
@@ -298,44 +340,60 @@ control_there files p n next counts is =
     let read = (behind_kind bytes x at).is_control (ap number_of same) in
     let parts : ControlParts (drop 1 bytes) counts = subst (λ (e : Entry). ControlParts (drop 1 bytes) (counts_of e)) same (control_parts (drop 1 bytes) x read).0 in
     let many : length counts ≡ parts.many = ap length parts.counts_are ∙ counts_many parts.many parts.list in
+    let list_is : parts.list ≡ take (8 * parts.many) (drop 19 bytes) = parts.list_is ∙ ap (take (8 * parts.many)) (drop-drop 18 1 bytes) in
     let there : range (4096 * p.block + p.offset + 19) (8 * parts.many) (files p.file) ≡ parts.list =
-    part_there (8 * parts.many) 19 p.offset m p.block (files p.file) parts.list (parts.list_is ∙ ap (take (8 * parts.many)) (drop-drop 18 1 bytes)) parts.long in
-    (λ i. counts_at (many i) (range (4096 * p.block + p.offset + 19) (8 * many i) (files p.file))) ∙ ap (counts_at parts.many) there ∙ sym parts.counts_are
+    part_there (8 * parts.many) 19 p.offset m p.block (files p.file) parts.list list_is parts.long in
+    let size = ap (λ k. range (4096 * p.block + p.offset + 19) (8 * k) (files p.file)) many in
+    record {
+      is = (λ i. counts_at (many i) (range (4096 * p.block + p.offset + 19) (8 * many i) (files p.file))) ∙ ap (counts_at parts.many) there ∙ sym parts.counts_are;
+      long = ap length size ∙ ap length there ∙ parts.long ∙ ap (λ k. 8 * k) (sym many);
+      short = omega (arith, many, parts.long, ap length list_is, part_short (8 * parts.many) 19 p.offset m p.block (files p.file));
+      rise = ap (counts_rise 30001) parts.counts_are ∙ parts.rise;
+    }
 
 -- ---- as they are kept in memory
 
-pub new_stands : (files : Files) (p : EntryPlace) (i : ImageAt) (f b : ℕ) (after : Block) → entry_there files p ≡ Some (image f b None after) → i ≡ record { file = f; block = b; is_new = true; audit = p.file; at = 4096 * p.block + p.offset + 10 }
-    → StandsAsImage files i f b None after
-new_stands files p i f b after there is =
-    let at = (image_there files p f b None after there).new refl in
+pub new_stands : (files : Files) (p : EntryPlace) (i : ImageAt) (f b start : ℕ) (after : Block) → IsInAudit p → start < 2 ^ 33 → start ≡ 4096 * p.block + p.offset → entry_there files p ≡ Some (image f b None after)
+    → i ≡ record { file = f; block = b; is_new = true; audit = p.file; at = start + 10 } → StandsAsImage files i f b None after
+new_stands files p i f b start after audit low begins there is =
+    let image = image_there files p f b None after there in
+    let at = image.new refl in
+    let same : start + 10 ≡ 4096 * p.block + p.offset + 10 = omega (arith, begins) in
+    let here : range (start + 10) 1024 (files p.file) ≡ after = ap (λ k. range k 1024 (files p.file)) same ∙ at.0 in
     subst (λ (j : ImageAt). StandsAsImage files j f b None after) (sym is) (record {
-      event_is = ap (λ (x : Block). change f b None x) at.0;
-      whole = (ap length at.0 ∙ at.1, λ old. absurd (true_not_false old));
+      event_is = ap (λ (x : Block). change f b None x) here;
+      whole = (ap length here ∙ at.1, λ old. absurd (true_not_false old), image.bounds.0, image.bounds.1, image.bounds.2, audit.0, omega (arith, low));
     })
 
-pub old_stands : (files : Files) (p : EntryPlace) (i : ImageAt) (f b : ℕ) (before after : Block) → entry_there files p ≡ Some (image f b (Some before) after)
-    → i ≡ record { file = f; block = b; is_new = false; audit = p.file; at = 4096 * p.block + p.offset + 1034 } → StandsAsImage files i f b (Some before) after
-old_stands files p i f b before after there is =
-    let at = (image_there files p f b (Some before) after there).old before refl in
-    let less : 4096 * p.block + p.offset + 1034 - 1024 ≡ 4096 * p.block + p.offset + 10 = omega arith in
-    let first : range (4096 * p.block + p.offset + 1034 - 1024) 1024 (files p.file) ≡ before = ap (λ k. range k 1024 (files p.file)) less ∙ at.0 in
+pub old_stands : (files : Files) (p : EntryPlace) (i : ImageAt) (f b start : ℕ) (before after : Block) → IsInAudit p → start < 2 ^ 33 → start ≡ 4096 * p.block + p.offset → entry_there files p ≡ Some (image f b (Some before) after)
+    → i ≡ record { file = f; block = b; is_new = false; audit = p.file; at = start + 1034 } → StandsAsImage files i f b (Some before) after
+old_stands files p i f b start before after audit low begins there is =
+    let image = image_there files p f b (Some before) after there in
+    let at = image.old before refl in
+    let less : start + 1034 - 1024 ≡ 4096 * p.block + p.offset + 10 = omega (arith, begins) in
+    let same : start + 1034 ≡ 4096 * p.block + p.offset + 1034 = omega (arith, begins) in
+    let first : range (start + 1034 - 1024) 1024 (files p.file) ≡ before = ap (λ k. range k 1024 (files p.file)) less ∙ at.0 in
+    let last : range (start + 1034) 1024 (files p.file) ≡ after = ap (λ k. range k 1024 (files p.file)) same ∙ at.2 in
     subst (λ (j : ImageAt). StandsAsImage files j f b (Some before) after) (sym is) (record {
-      event_is = λ k. change f b (Some (first k)) (at.2 k);
-      whole = (ap length at.2 ∙ at.3, λ old. ap length first ∙ at.1);
+      event_is = λ k. change f b (Some (first k)) (last k);
+      whole = (ap length last ∙ at.3, λ old. ap length first ∙ at.1, image.bounds.0, image.bounds.1, image.bounds.2, audit.0, omega (arith, low));
     })
 
-pub control_stands : (files : Files) (p : EntryPlace) (c : ControlAt) (point next many : ℕ) (list : List ℕ) (described : Bool) → entry_there files p ≡ Some (control_point point next (counts_at many list))
-    → c ≡ record { point = point; next = next; described = described; audit = p.file; at = 4096 * p.block + p.offset + 19; size = many * 8 } → event_at files (Controlled c) ≡ control point next (counts_in (counts_at many list)) described
-control_stands files p c point next many list described there is =
+pub control_stands : (files : Files) (p : EntryPlace) (c : ControlAt) (point next many start : ℕ) (list : List ℕ) (described : Bool) → IsInAudit p → start < 2 ^ 33 → start ≡ 4096 * p.block + p.offset → entry_there files p ≡ Some (control_point point next (counts_at many list))
+    → c ≡ record { point = point; next = next; described = described; audit = p.file; at = start + 19; size = many * 8 } → StandsAsControl files c point next (counts_at many list) described
+control_stands files p c point next many start list described audit low begins there is =
     let cs = counts_at many list in
     let count : length cs ≡ many = counts_many many list in
-    let there : counts_at (length cs) (range (4096 * p.block + p.offset + 19) (8 * length cs) (files p.file)) ≡ cs = control_there files p point next cs there in
-    let size : many * 8 ≡ 8 * many = omega arith in
-    let whole : many * 8 / 8 ≡ many = div_back many in
-    let read : counts_at (many * 8 / 8) (range (4096 * p.block + p.offset + 19) (many * 8) (files p.file)) ≡ cs =
-    (λ i. counts_at (whole i) (range (4096 * p.block + p.offset + 19) (size i) (files p.file)))
-    ∙ (λ i. counts_at (sym count i) (range (4096 * p.block + p.offset + 19) (8 * sym count i) (files p.file))) ∙ there in
-    subst (λ (d : ControlAt). event_at files (Controlled d) ≡ control point next (counts_in cs) described) (sym is) (ap (λ (l : List FileCount). control point next (counts_in l) described) read)
+    let t : ControlThere files p cs = control_there files p point next cs there in
+    let size : many * 8 ≡ 8 * length cs = omega (arith, count) in
+    let whole : many * 8 / 8 ≡ length cs = div_back many ∙ sym count in
+    let at : start + 19 ≡ 4096 * p.block + p.offset + 19 = omega (arith, begins) in
+    let bytes : range (start + 19) (many * 8) (files p.file) ≡ range (4096 * p.block + p.offset + 19) (8 * length cs) (files p.file) = (λ i. range (at i) (size i) (files p.file)) in
+    let read : counts_at (many * 8 / 8) (range (start + 19) (many * 8) (files p.file)) ≡ cs = (λ i. counts_at (whole i) (bytes i)) ∙ t.is in
+    subst (λ (d : ControlAt). StandsAsControl files d point next cs described) (sym is) (record {
+      event_is = ap (λ (l : List FileCount). control point next (counts_in l) described) read;
+      whole = (omega (arith, size, t.short), omega (arith, low), ap length bytes ∙ t.long ∙ sym size, ap (counts_rise 30001) read ∙ t.rise);
+    })
   where
     div_back : (n : ℕ) → n * 8 / 8 ≡ n
     div_back n = omega arith

@@ -30,3 +30,5 @@ pub mod Counted
 pub mod Started
 pub mod GoneOn
 pub mod Prepared
+pub mod InAudit
+pub mod Standing

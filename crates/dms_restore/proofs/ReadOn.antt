@@ -13,7 +13,7 @@ use Rattle.dms_audfile.specs.declared.fault.AudFault.{AudFault}
 use Rattle.dms_audfile.specs.declared.fault.AudFault.TheVariants.{Disk, Damaged, Memory}
 use Rattle.dms_history.proofs.Picks.{some_is}
 use Rattle.dms_restore.specs.declared.trace.TrailTrace.{TrailTrace}
-use Rattle.dms_restore.specs.Scanned.{HasNoEntry, IsNoEntryOf}
+use Rattle.dms_restore.specs.Scanned.{IsInAudit, AreInAudit, HasNoEntry, IsNoEntryOf}
 use Rattle.dms_restore.specs.Traces.{IsTraceOf}
 
 abbrev pub no_place : Placed
@@ -41,16 +41,21 @@ front_length [] i low = absurd (omega (arith, low))
 front_length (p ∷ ps) zero low = refl
 front_length (p ∷ ps) (suc i) low = ap suc (front_length ps i (omega (arith, low)))
 
-pub read_next : (old_files other : Files) (places : List EntryPlace) (i : ℕ) (d : EntryPlace) (old new : TrailTrace) → i < length places → other ≡ old_files
-    → ((entries : List Entry) (e : Entry) → entry_there other (get_or places i d) ≡ Some e → length entries ≡ i → (files : Files) → entry_there files (get_or places i d) ≡ Some e → IsTraceOf files entries old → IsTraceOf files (entries ++ e ∷ []) new)
+pub audit_at : (places : List EntryPlace) (i : ℕ) (d : EntryPlace) → i < length places → AreInAudit places → IsInAudit (get_or places i d)
+audit_at [] i d low all = absurd (omega (arith, low))
+audit_at (p ∷ ps) zero d low all = all.0
+audit_at (p ∷ ps) (suc i) d low all = audit_at ps i d (omega (arith, low)) all.1
+
+pub read_next : (old_files other : Files) (places : List EntryPlace) (i : ℕ) (d : EntryPlace) (old new : TrailTrace) → i < length places → AreInAudit places → other ≡ old_files
+    → ((entries : List Entry) (e : Entry) → entry_there other (get_or places i d) ≡ Some e → length entries ≡ i → (files : Files) → IsInAudit (get_or places i d) → entry_there files (get_or places i d) ≡ Some e → IsTraceOf files entries old → IsTraceOf files (entries ++ e ∷ []) new)
     → (ps : List Placed) → places ≡ map place_in ps → AreThere old_files ps → (files : Files) → AreThere files ps → IsTraceOf files (map entry_in (take i ps)) old → IsTraceOf files (map entry_in (take (i + 1) ps)) new
-read_next old_files other places i d old new low same step ps are there files also t =
+read_next old_files other places i d old new low audit same step ps are there files also t =
     let under : i < length ps = omega (arith, low, ap length are, map_length ps) in
     let p = get_or ps i no_place in
     let at : get_or places i d ≡ p.place = ap (λ (l : List EntryPlace). get_or l i d) are ∙ get_place ps i d under in
     let here : entry_there other (get_or places i d) ≡ Some p.entry = (λ j. entry_there (same j) (at j)) ∙ (there_at old_files ps i under there).there in
     let over : entry_there files (get_or places i d) ≡ Some p.entry = ap (entry_there files) at ∙ (there_at files ps i under also).there in
-    subst (λ (l : List Entry). IsTraceOf files l new) (sym (entries_more ps i under)) (step (map entry_in (take i ps)) p.entry here (front_length ps i under) files over t)
+    subst (λ (l : List Entry). IsTraceOf files l new) (sym (entries_more ps i under)) (step (map entry_in (take i ps)) p.entry here (front_length ps i under) files (audit_at places i d low audit) over t)
 
 pub read_all : (files : Files) (places : List EntryPlace) (i : ℕ) (h : TrailTrace) (ps : List Placed) → length places < i + 1 → places ≡ map place_in ps → IsTraceOf files (map entry_in (take i ps)) h → IsTraceOf files (map entry_in ps) h
 read_all files places i h ps le are t = subst (λ (l : List Placed). IsTraceOf files (map entry_in l) h) (take_all i ps (omega (arith, le, ap length are, map_length ps))) t

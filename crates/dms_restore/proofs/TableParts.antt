@@ -13,7 +13,7 @@ use Rattle.dms_restore.specs.declared.live.LiveEntry.{LiveEntry}
 use Rattle.dms_restore.specs.declared.live.LiveEntry.TheVariants.{Changed, Quiet, Controlled}
 use Rattle.dms_restore.specs.declared.live.AuditSpot.{AuditSpot}
 use Rattle.dms_restore.specs.declared.told.Told.{Told}
-use Rattle.dms_restore.specs.LiveEntries.{events_at, before_in, after_in, AllHaveWholeBlocks}
+use Rattle.dms_restore.specs.LiveEntries.{events_at, before_in, after_in, AllStandWhole}
 use Rattle.dms_restore.specs.Named.{Spots, spot_of, bytes_of, named, AllFromSpots}
 use Rattle.dms_restore.specs.Table.{bytes_at, IsBlock, AreBlocks, EachIsTold, IsAmong, IsTable}
 
@@ -112,7 +112,7 @@ some_or (Some z) t x y is = inl is
 some_or None true x y is = inr (some_is x y is)
 some_or None false x y is = absurd (none_not_some y is)
 
-whole_last : (files : Files) (f b : ℕ) (es : List LiveEntry) (x : Block) → AllHaveWholeBlocks files es → last_after f b (events_at files es) ≡ Some x → length x ≡ 1024
+whole_last : (files : Files) (f b : ℕ) (es : List LiveEntry) (x : Block) → AllStandWhole files es → last_after f b (events_at files es) ≡ Some x → length x ≡ 1024
 whole_last files f b [] x all is = absurd (none_not_some x is)
 whole_last files f b (Changed i ∷ es) x all is = elim (some_or (last_after f b (events_at files es)) (is_at f b i.file i.block) (after_in files i) x is) [
   | inl later ↦ whole_last files f b es x all.1 later
@@ -129,7 +129,7 @@ before_whole : (new : Bool) (x y : Block) → cond new None (Some x) ≡ Some y 
 before_whole true x y is whole = absurd (none_not_some y is)
 before_whole false x y is whole = ap length (sym (some_is x y is)) ∙ whole refl
 
-whole_first : (files : Files) (f b : ℕ) (es : List LiveEntry) (x : Block) → AllHaveWholeBlocks files es → first_before f b (events_at files es) ≡ Some (Some x) → length x ≡ 1024
+whole_first : (files : Files) (f b : ℕ) (es : List LiveEntry) (x : Block) → AllStandWhole files es → first_before f b (events_at files es) ≡ Some (Some x) → length x ≡ 1024
 whole_first files f b [] x all is = absurd (none_not_some (Some x) is)
 whole_first files f b (Changed i ∷ es) x all is = elim (some_cond (is_at f b i.file i.block) (before_in files i) (first_before f b (events_at files es)) x is) [
   | inl here ↦ before_whole i.is_new _ x here all.0.1
@@ -155,7 +155,7 @@ has_spot files (Some None) x is = absurd (none_not_some x is)
 has_spot files (Some (Some s)) x is = (s, refl)
 
 module _ (files : Files) (spots : Spots) (front behind : List LiveEntry) (live : List Event) (m : ℕ) (until : until_first (is_point m) live ≡ events_at files front)
-    (after : after_first (is_point m) live ≡ events_at files behind) (front_whole : AllHaveWholeBlocks files front) (behind_whole : AllHaveWholeBlocks files behind)
+    (after : after_first (is_point m) live ≡ events_at files behind) (front_whole : AllStandWhole files front) (behind_whole : AllStandWhole files behind)
     (names : (f b : ℕ) → named files spots f b ≡ or_else (option_map (λ x. Some x) (last_after f b (after_last is_control (events_at files front)))) (first_before f b (events_at files behind))) where
   abbrev late : List Event
   late = after_last is_control (events_at files front)

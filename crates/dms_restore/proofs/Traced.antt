@@ -21,8 +21,8 @@ use Rattle.dms_restore.specs.declared.live.LiveEntry.{LiveEntry}
 use Rattle.dms_restore.specs.declared.live.LiveEntry.TheVariants.{Changed, Quiet, Controlled}
 use Rattle.dms_restore.specs.declared.live.PendingAt.{PendingAt}
 use Rattle.dms_restore.specs.declared.tracing.TrailHistory.{TrailHistory}
-use Rattle.dms_restore.specs.LiveEntries.{event_at, events_at, before_in, after_in, HasWholeBlocks, AllHaveWholeBlocks}
-use Rattle.dms_restore.specs.Tracing.{MatchesHow, StandsAsImage, IsPendingAt, MatchesPending, IsTraced}
+use Rattle.dms_restore.specs.LiveEntries.{event_at, events_at, before_in, after_in, StandsWhole, AllStandWhole}
+use Rattle.dms_restore.specs.Tracing.{MatchesHow, StandsAsImage, StandsAsControl, IsPendingAt, MatchesPending, IsTraced}
 
 -- ---- lists
 
@@ -36,16 +36,16 @@ take_twice zero xs = refl
 take_twice (suc k) [] = refl
 take_twice (suc k) (x ∷ xs) = ap (λ (l : List LiveEntry). x ∷ l) (take_twice k xs)
 
-whole_push : (files : Files) (xs : List LiveEntry) (x : LiveEntry) → AllHaveWholeBlocks files xs → HasWholeBlocks files x → AllHaveWholeBlocks files (xs ++ x ∷ [])
+whole_push : (files : Files) (xs : List LiveEntry) (x : LiveEntry) → AllStandWhole files xs → StandsWhole files x → AllStandWhole files (xs ++ x ∷ [])
 whole_push files [] x all one = (one, tt)
 whole_push files (y ∷ xs) x all one = (all.0, whole_push files xs x all.1 one)
 
-pub whole_take : (files : Files) (k : ℕ) (xs : List LiveEntry) → AllHaveWholeBlocks files xs → AllHaveWholeBlocks files (take k xs)
+pub whole_take : (files : Files) (k : ℕ) (xs : List LiveEntry) → AllStandWhole files xs → AllStandWhole files (take k xs)
 whole_take files zero xs all = tt
 whole_take files (suc k) [] all = tt
 whole_take files (suc k) (x ∷ xs) all = (all.0, whole_take files k xs all.1)
 
-whole_drop : (files : Files) (k : ℕ) (xs : List LiveEntry) → AllHaveWholeBlocks files xs → AllHaveWholeBlocks files (drop k xs)
+whole_drop : (files : Files) (k : ℕ) (xs : List LiveEntry) → AllStandWhole files xs → AllStandWhole files (drop k xs)
 whole_drop files zero xs all = all
 whole_drop files (suc k) [] all = tt
 whole_drop files (suc k) (x ∷ xs) all = whole_drop files k xs all.1
@@ -92,7 +92,7 @@ pub record Pushes (old new : TrailHistory) (l : LiveEntry) : Type 0 where
   pub all : new.all ≡ 0
 
 module _ (files : Files) (entries : List Entry) (e : Entry) (l : LiveEntry) (old new : TrailHistory) (t : IsTraced files entries old) (pushes : Pushes old new l)
-    (says : said_by (parts_from no_parts entries) e ≡ event (event_at files l) ∷ []) (ends : after_entry (parts_from no_parts entries) e ≡ no_parts) (whole : HasWholeBlocks files l) (next : next_number (events entries ++ event_at files l ∷ []) ≡ new.next) where
+    (says : said_by (parts_from no_parts entries) e ≡ event (event_at files l) ∷ []) (ends : after_entry (parts_from no_parts entries) e ≡ no_parts) (whole : StandsWhole files l) (next : next_number (events entries ++ event_at files l ∷ []) ≡ new.next) where
   hist : history_of (entries ++ e ∷ []) ≡ after_event (history_of entries) (event_at files l)
   hist = history_entry entries e (event_at files l) says
 
@@ -102,11 +102,11 @@ module _ (files : Files) (entries : List Entry) (e : Entry) (l : LiveEntry) (old
   parts : parts_from no_parts (entries ++ e ∷ []) ≡ record { read = new.read; all = new.all }
   parts = parts_more entries e ∙ ends ∙ (λ i. record { read = sym pushes.read i; all = sym pushes.all i })
 
-  live_whole : AllHaveWholeBlocks files new.live.items
-  live_whole = subst (AllHaveWholeBlocks files) (sym pushes.live) (whole_push files old.live.items l t.live_whole whole)
+  live_whole : AllStandWhole files new.live.items
+  live_whole = subst (AllStandWhole files) (sym pushes.live) (whole_push files old.live.items l t.live_whole whole)
 
-  removed_whole : AllHaveWholeBlocks files new.removed.items
-  removed_whole = subst (AllHaveWholeBlocks files) (sym pushes.removed) t.removed_whole
+  removed_whole : AllStandWhole files new.removed.items
+  removed_whole = subst (AllStandWhole files) (sym pushes.removed) t.removed_whole
 
   pub traced_plain : IsNoControl l → new.pending ≡ old.pending → IsTraced files (entries ++ e ∷ []) new
   traced_plain plain pending =
@@ -150,19 +150,24 @@ pub traced_quiet : (files : Files) (entries : List Entry) (n : ℕ) (old new : T
 traced_quiet files entries n old new pushes pending next t =
     traced_plain files entries (quiet_point n) (Quiet n) old new t pushes refl refl tt (next_quiet (events entries) n ∙ ap (λ k. max k (min (2 ^ 64 - 1) (n + 1))) t.next_is ∙ sym next) tt pending
 
-pub traced_control : (files : Files) (entries : List Entry) (c : ControlAt) (counts : List FileCount) (old new : TrailHistory) → event_at files (Controlled c) ≡ control c.point c.next (counts_in counts) (is_whole (record { read = old.read; all = old.all }))
+pub traced_control : (files : Files) (entries : List Entry) (c : ControlAt) (counts : List FileCount) (old new : TrailHistory) → StandsAsControl files c c.point c.next counts (is_whole (record { read = old.read; all = old.all }))
     → Pushes old new (Controlled c) → new.pending ≡ None → new.next ≡ c.next → c.next < 2 ^ 64 → IsTraced files entries old → IsTraced files (entries ++ control_point c.point c.next counts ∷ []) new
-traced_control files entries c counts old new is pushes none next low t =
+traced_control files entries c counts old new stands pushes none next low t =
+    let is = stands.event_is in
     let v : Event = event_at files (Controlled c) in
     let said : event (control c.point c.next (counts_in counts) (is_whole (parts_from no_parts entries))) ∷ [] ≡ event v ∷ [] =
     ap (λ (p : Parts). event (control c.point c.next (counts_in counts) (is_whole p)) ∷ []) t.parts_are ∙ ap (λ (w : Event). event w ∷ []) (sym is) in
     let more : next_number (events entries ++ v ∷ []) ≡ min (2 ^ 64 - 1) c.next =
     ap (λ (w : Event). next_number (events entries ++ w ∷ [])) is ∙ (next_steps (events entries)).control c.point c.next (counts_in counts) (is_whole (record { read = old.read; all = old.all })) in
-    traced_ended files entries (control_point c.point c.next counts) (Controlled c) old new t pushes said refl tt (more ∙ least c.next low ∙ sym next)
+    traced_ended files entries (control_point c.point c.next counts) (Controlled c) old new t pushes said refl stands.whole (more ∙ least c.next low ∙ sym next)
     c.point c.next (counts_in counts) (is_whole (record { read = old.read; all = old.all })) is none
   where
     least : (k : ℕ) → k < 2 ^ 64 → min (2 ^ 64 - 1) k ≡ k
     least k low = omega (arith, low)
+
+-- a Control as it is kept
+pub stands_as : (files : Files) (c : ControlAt) (point next : ℕ) (counts : List FileCount) (said is : Bool) → c.point ≡ point → c.next ≡ next → said ≡ is → StandsAsControl files c point next counts said → StandsAsControl files c c.point c.next counts is
+stands_as files c point next counts said is one two three s = record { event_is = s.event_is ∙ (λ i. control (sym one i) (sym two i) (counts_in counts) (three i)); whole = s.whole }
 
 -- ---- a part of a Schema
 
@@ -179,8 +184,8 @@ traced_part files entries part parts bytes old new live removed pending next rea
           (subst (λ (p : Option Pending). MatchesPending files old.live.items old.removed.items old.pending p) (ap (λ (h : History). h.pending) (sym hist)) t.pending_matches)));
       parts_are = parts_more entries (schema_part part parts bytes) ∙ ap (λ (p : Parts). after_entry p (schema_part part parts bytes)) t.parts_are ∙ read;
       next_is = next_schema entries part parts bytes ∙ t.next_is ∙ sym next;
-      live_whole = subst (λ k. AllHaveWholeBlocks files k.items) (sym live) t.live_whole;
-      removed_whole = subst (λ k. AllHaveWholeBlocks files k.items) (sym removed) t.removed_whole;
+      live_whole = subst (λ k. AllStandWhole files k.items) (sym live) t.live_whole;
+      removed_whole = subst (λ k. AllStandWhole files k.items) (sym removed) t.removed_whole;
     }
 
 -- ---- a Begin
@@ -213,8 +218,8 @@ traced_begin files entries m kind q old new how point pending within live remove
           (subst (λ (o : Option Pending). MatchesPending files (take q.kept old_live) (drop q.kept old_live) (Some q) o) (ap (λ (h : History). h.pending) (sym hist)) is)));
       parts_are = parts_more entries (begin_restore m kind) ∙ (λ i. record { read = sym read i; all = sym all i });
       next_is = next_entry entries (begin_restore m kind) (begin m (how_of kind)) refl ∙ (next_steps (events entries)).begin m (how_of kind) ∙ t.next_is ∙ sym next;
-      live_whole = subst (AllHaveWholeBlocks files) (sym live) (whole_take files q.kept old_live t.live_whole);
-      removed_whole = subst (AllHaveWholeBlocks files) (sym removed) (whole_drop files q.kept old_live t.live_whole);
+      live_whole = subst (AllStandWhole files) (sym live) (whole_take files q.kept old_live t.live_whole);
+      removed_whole = subst (AllStandWhole files) (sym removed) (whole_drop files q.kept old_live t.live_whole);
     }
 
 -- ---- parts of a Schema
@@ -241,8 +246,8 @@ traced_none files h live removed pending read all next = record {
   pending_matches = subst (λ (q : Option PendingAt). MatchesPending files h.live.items h.removed.items q None) (sym pending) tt;
   parts_are = λ i. record { read = sym read i; all = sym all i };
   next_is = sym next;
-  live_whole = subst (AllHaveWholeBlocks files) (sym live) tt;
-  removed_whole = subst (AllHaveWholeBlocks files) (sym removed) tt;
+  live_whole = subst (AllStandWhole files) (sym live) tt;
+  removed_whole = subst (AllStandWhole files) (sym removed) tt;
 }
 
 -- the same, of a list that was lent

@@ -1,9 +1,10 @@
 -- Live entries as they are kept in memory, and what they tell of files.
-use Rattle.std.specs.Prelude.{◌-◌, ◌/◌, ◌≡◌, if◌then◌else◌, false, List, [], ◌∷◌, map, length, Option, Some, None}
+use Rattle.std.specs.Prelude.{◌+◌, ◌-◌, ◌/◌, ◌^◌, ◌<◌, ◌≤◌, ◌≡◌, if◌then◌else◌, true, false, List, [], ◌∷◌, map, length, Option, Some, None}
 use Rattle.dms_site.specs.Files.{Files, range}
 use Rattle.dms_history.specs.Events.{Block, Event, change, quiet, control}
 use Rattle.dms_history.specs.Entries.{counts_in}
 use Rattle.dms_audrec.specs.Reading.{counts_at}
+use Rattle.dms_audrec.specs.Spelling.{counts_rise}
 use Rattle.dms_restore.specs.declared.live.ImageAt.{ImageAt}
 use Rattle.dms_restore.specs.declared.live.LiveEntry.{LiveEntry}
 use Rattle.dms_restore.specs.declared.live.LiveEntry.TheVariants.{Changed, Quiet, Controlled}
@@ -24,12 +25,17 @@ event_at files (Controlled c) = control c.point c.next (counts_in (counts_at (c.
 abbrev pub events_at : Files → List LiveEntry → List Event
 events_at files es = map (event_at files) es
 
--- the blocks of an Image are whole
-abbrev pub HasWholeBlocks : Files → LiveEntry → Type 0
-HasWholeBlocks files (Changed i) = (length (after_in files i) ≡ 1024) × (i.is_new ≡ false → length (range (i.at - 1024) 1024 (files i.audit)) ≡ 1024)
-HasWholeBlocks files (Quiet n) = Unit {0}
-HasWholeBlocks files (Controlled c) = Unit {0}
+-- What the entry says stands whole in an audit file, and it is in the grammar: an Image of a block of a structure file, or a Control with counts
+-- of structure files.
+abbrev pub StandsWhole : Files → LiveEntry → Type 0
+StandsWhole files (Changed i) =
+    (length (after_in files i) ≡ 1024) × (i.is_new ≡ false → length (range (i.at - 1024) 1024 (files i.audit)) ≡ 1024)
+    × (30001 ≤ i.file) × (i.file ≤ 30200) × (i.block < 2097152) × (i.audit ≤ 20000) × (i.at + 1024 < 2 ^ 40)
+StandsWhole files (Quiet n) = Unit {0}
+StandsWhole files (Controlled c) =
+    (c.size ≤ 4096) × (c.at ≤ 549755813888) × (length (range c.at c.size (files c.audit)) ≡ c.size)
+    × (counts_rise 30001 (counts_at (c.size / 8) (range c.at c.size (files c.audit))) ≡ true)
 
-abbrev pub AllHaveWholeBlocks : Files → List LiveEntry → Type 0
-AllHaveWholeBlocks files [] = Unit {0}
-AllHaveWholeBlocks files (e ∷ es) = HasWholeBlocks files e × AllHaveWholeBlocks files es
+abbrev pub AllStandWhole : Files → List LiveEntry → Type 0
+AllStandWhole files [] = Unit {0}
+AllStandWhole files (e ∷ es) = StandsWhole files e × AllStandWhole files es

@@ -1,21 +1,23 @@
 -- The live entries of a trail and its pending restore, as they are kept in memory.
 use Rattle.std.specs.Prelude.{ℕ, ◌≤◌, ◌≡◌, ◌⊎◌, if◌then◌else◌, Bool, List, [], ◌++◌, length, take, Option, Some, None}
 use Rattle.dms_site.specs.Files.{Files}
-use Rattle.dms_history.specs.Events.{Block, How, halt_load, back_out, roll_back, rebuild, reconstruct, change}
+use Rattle.dms_history.specs.Events.{Block, How, halt_load, back_out, roll_back, rebuild, reconstruct, change, control}
 use Rattle.dms_history.specs.Lists.{until_first, after_first}
 use Rattle.dms_history.specs.Places.{is_point}
 use Rattle.dms_history.specs.History.{Pending}
-use Rattle.dms_history.specs.Entries.{Entry}
+use Rattle.dms_history.specs.Entries.{Entry, counts_in}
+use Rattle.dms_history.specs.declared.event.FileCount.{FileCount}
 use Rattle.dms_history.specs.Schemas.{no_parts, parts_from}
 use Rattle.dms_history.specs.EntryEvents.{history_of, live_of, next_of}
 use Rattle.dms_restore.specs.declared.live.ImageAt.{ImageAt}
+use Rattle.dms_restore.specs.declared.live.ControlAt.{ControlAt}
 use Rattle.dms_restore.specs.declared.live.LiveEntry.{LiveEntry}
-use Rattle.dms_restore.specs.declared.live.LiveEntry.TheVariants.{Changed}
+use Rattle.dms_restore.specs.declared.live.LiveEntry.TheVariants.{Changed, Controlled}
 use Rattle.dms_restore.specs.declared.live.HowAt.{HowAt}
 use Rattle.dms_restore.specs.declared.live.HowAt.TheVariants.{HaltLoad, BackOut, Rollback, ByDump}
 use Rattle.dms_restore.specs.declared.live.PendingAt.{PendingAt}
 use Rattle.dms_restore.specs.declared.tracing.TrailHistory.{TrailHistory}
-use Rattle.dms_restore.specs.LiveEntries.{event_at, events_at, HasWholeBlocks, AllHaveWholeBlocks}
+use Rattle.dms_restore.specs.LiveEntries.{event_at, events_at, StandsWhole, AllStandWhole}
 
 -- it is this restore; of one by a dump its number is known
 abbrev pub MatchesHow : HowAt → How → Type 0
@@ -24,10 +26,15 @@ MatchesHow BackOut how = how ≡ back_out
 MatchesHow Rollback how = how ≡ roll_back
 MatchesHow (ByDump d) how = (how ≡ rebuild d) ⊎ ((named : ℕ → ℕ → Bool) × (how ≡ reconstruct d named))
 
--- an Image stands there, with whole blocks
+-- an Image stands there whole
 pub record StandsAsImage (files : Files) (i : ImageAt) (f b : ℕ) (before : Option Block) (after : Block) : Type 0 where
   pub event_is : event_at files (Changed i) ≡ change f b before after
-  pub whole : HasWholeBlocks files (Changed i)
+  pub whole : StandsWhole files (Changed i)
+
+-- so does a Control
+pub record StandsAsControl (files : Files) (c : ControlAt) (point next : ℕ) (counts : List FileCount) (described : Bool) : Type 0 where
+  pub event_is : event_at files (Controlled c) ≡ control point next (counts_in counts) described
+  pub whole : StandsWhole files (Controlled c)
 
 -- The restore is this one, with the live entries before its Begin; the place of its point is where it says, and what stands behind it
 -- was removed.
@@ -45,11 +52,12 @@ MatchesPending files live removed None (Some p) = ⊥
 MatchesPending files live removed (Some q) None = ⊥
 MatchesPending files live removed (Some q) (Some p) = IsPendingAt files live removed q p
 
--- It has the live entries and the pending restore of these entries, the parts of a Schema that they end with, and the next number.
+-- It has the live entries and the pending restore of these entries, the parts of a Schema that they end with, and the next number. What the
+-- entries say stands whole in the audit.
 pub record IsTraced (files : Files) (entries : List Entry) (h : TrailHistory) : Type 0 where
   pub live_is : live_of entries ≡ events_at files h.live.items
   pub pending_matches : MatchesPending files h.live.items h.removed.items h.pending (history_of entries).pending
   pub parts_are : parts_from no_parts entries ≡ record { read = h.read; all = h.all }
   pub next_is : next_of entries ≡ h.next
-  pub live_whole : AllHaveWholeBlocks files h.live.items
-  pub removed_whole : AllHaveWholeBlocks files h.removed.items
+  pub live_whole : AllStandWhole files h.live.items
+  pub removed_whole : AllStandWhole files h.removed.items

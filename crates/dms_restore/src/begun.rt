@@ -1,6 +1,7 @@
 //! A restore by the audit, from its Begin to its Control. Each state owns the log and hands it back with each fault.
 
 ghost use Rattle.std.specs.Prelude.{◌≡◌, ◌⊎◌, ◌+◌, ◌<◌, ◌^◌, ℕ, true, false, length, IfOk, IfErr, IsTrue, ◌++◌, [], ◌∷◌};
+ghost use Rattle.dms_moments.specs.Moments.{Steps};
 ghost use Rattle.dms_history.specs.History.{Pending};
 ghost use Rattle.dms_history.specs.Entries.{how_of, begin_restore};
 ghost use Rattle.dms_audrec.specs.Spelling.{spelling};
@@ -9,7 +10,7 @@ ghost use Rattle.dms_audfile.specs.Counting.{CountedAt};
 ghost use Rattle.dms_audfile.specs.Ends.{Grown, is_past};
 ghost use Rattle.dms_audfile.specs.TrailEntries.{trail_entries};
 ghost use Rattle.dms_running.specs.Begun.{ByAudit};
-ghost use Rattle.dms_restore.specs.Logging.{view, LogRuns, points, next, SealsWaiting, LogLeaves};
+ghost use Rattle.dms_restore.specs.Logging.{view, LogRuns, points, next, PrintsNothing, SealsWaiting, LogLeaves};
 ghost use Rattle.dms_restore.specs.Laying.{IsAtStart};
 ghost use Rattle.dms_restore.specs.Begins.{LastIs, begun_to, BegunAt, BeginsRestore, RestoredAt, Restores, LeavesEach};
 ghost use Rattle.dms_restore.specs.Table.{AreBlocks, IsTable};
@@ -44,6 +45,8 @@ impl<S: Site> Log<S> {
             → LogLeaves a (view e.1.end e.1.first (S.files e.1.site) (S.clock e.1.site)) (points a) (next a)) }
         ensures sealed { IfOk result (λ b. IsTrue S.tells → IsAtStart self.end self.first (S.files self.site) (S.clock self.site) → trail_entries self.end.total self.first (S.files b.log.site) ≡ trail_entries self.end.total self.first (S.files self.site) ++ begin_restore point (how_seen how.entry) ∷ []) }
         ensures grown { IfOk result (λ b. IsTrue S.tells → IsAtStart self.end self.first (S.files self.site) (S.clock self.site) → Grown self.end.total self.first (S.files self.site) (S.files b.log.site)) }
+        ensures silent { IfOk result (λ b. IsTrue S.tells → IsAtStart self.end self.first (S.files self.site) (S.clock self.site) → Steps PrintsNothing (S.clock self.site) (S.clock b.log.site)) }
+        ensures silent_then { IfErr result (λ e. IsTrue S.tells → IsAtStart self.end self.first (S.files self.site) (S.clock self.site) → Steps PrintsNothing (S.clock self.site) (S.clock e.1.site)) }
         ensures same { IfOk result (λ b. S.same_site self.site b.log.site) }
         ensures same_then { IfErr result (λ e. S.same_site self.site e.1.site) }
         ensures said { IfOk result (λ b. S.said b.log.site ≡ S.said self.site) }
@@ -88,6 +91,8 @@ impl<S: Site> Begun<S> {
             → LeavesEach (view self.log.end self.log.first (S.files self.log.site) (S.clock self.log.site)) (view r.log.end r.log.first (S.files r.log.site) (S.clock r.log.site))) }
         ensures stopped { IfErr result (λ e. (p : Pending) → IsTrue S.tells → BegunAt p (view self.log.end self.log.first (S.files self.log.site) (S.clock self.log.site)) → IsTable p.entries p.point (S.files self.log.site) table.now
             → LeavesEach (view self.log.end self.log.first (S.files self.log.site) (S.clock self.log.site)) (view e.1.end e.1.first (S.files e.1.site) (S.clock e.1.site))) }
+        ensures silent { IfOk result (λ r. (p : Pending) → IsTrue S.tells → IsTable p.entries p.point (S.files self.log.site) table.now → Steps PrintsNothing (S.clock self.log.site) (S.clock r.log.site)) }
+        ensures silent_then { IfErr result (λ e. (p : Pending) → IsTrue S.tells → IsTable p.entries p.point (S.files self.log.site) table.now → Steps PrintsNothing (S.clock self.log.site) (S.clock e.1.site)) }
         ensures same { IfOk result (λ r. S.same_site self.log.site r.log.site) }
         ensures same_then { IfErr result (λ e. S.same_site self.log.site e.1.site) }
         ensures said { IfOk result (λ r. S.said r.log.site ≡ S.said self.log.site) }

@@ -1,12 +1,13 @@
 //! A restore that is begun goes on to its Control.
 
 ghost use Rattle.std.specs.Prelude.{◌≡◌, ◌⊎◌, ◌+◌, ◌/◌, ◌<◌, ◌≤◌, length, IfOk, IfErr, IsTrue};
+ghost use Rattle.dms_moments.specs.Moments.{Steps};
 ghost use Rattle.dms_history.specs.History.{Pending};
 ghost use Rattle.dms_history.specs.Entries.{control_point};
 ghost use Rattle.dms_audrec.specs.Spelling.{IsEntry};
 ghost use Rattle.dms_audrec.specs.Reading.{counts_at};
 ghost use Rattle.dms_audfile.specs.Counting.{CountedAt};
-ghost use Rattle.dms_restore.specs.Logging.{view};
+ghost use Rattle.dms_restore.specs.Logging.{view, PrintsNothing};
 ghost use Rattle.dms_restore.specs.Laying.{schema_control};
 ghost use Rattle.dms_restore.specs.Begins.{LeavesEach};
 ghost use Rattle.dms_restore.specs.Starts.{MayEnd, OpenedAt};
@@ -37,6 +38,8 @@ impl<S: Site> Begun<S> {
             → LeavesEach (view self.log.end self.log.first (S.files self.log.site) (S.clock self.log.site)) (view l.end l.first (S.files l.site) (S.clock l.site))) }
         ensures stopped { IfErr result (λ e. (p : Pending) → IsTrue S.tells → MayEnd p (view self.log.end self.log.first (S.files self.log.site) (S.clock self.log.site)) table.now point next counts.now
             → LeavesEach (view self.log.end self.log.first (S.files self.log.site) (S.clock self.log.site)) (view e.1.end e.1.first (S.files e.1.site) (S.clock e.1.site))) }
+        ensures silent { IfOk result (λ l. (p : Pending) → IsTrue S.tells → MayEnd p (view self.log.end self.log.first (S.files self.log.site) (S.clock self.log.site)) table.now point next counts.now → Steps PrintsNothing (S.clock self.log.site) (S.clock l.site)) }
+        ensures silent_then { IfErr result (λ e. (p : Pending) → IsTrue S.tells → MayEnd p (view self.log.end self.log.first (S.files self.log.site) (S.clock self.log.site)) table.now point next counts.now → Steps PrintsNothing (S.clock self.log.site) (S.clock e.1.site)) }
         ensures same { IfOk result (λ l. S.same_site self.log.site l.site) }
         ensures same_then { IfErr result (λ e. S.same_site self.log.site e.1.site) }
         ensures said { IfOk result (λ l. S.said l.site ≡ S.said self.log.site) }

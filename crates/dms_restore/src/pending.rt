@@ -5,7 +5,7 @@ ghost use Rattle.dms_site.specs.Files.{Files};
 ghost use Rattle.dms_history.specs.History.{Pending};
 ghost use Rattle.dms_history.specs.Entries as meaning;
 ghost use Rattle.dms_history.specs.EntryEvents.{history_of};
-ghost use Rattle.dms_restore.specs.LiveEntries.{AllHaveWholeBlocks};
+ghost use Rattle.dms_restore.specs.LiveEntries.{AllStandWhole};
 ghost use Rattle.dms_restore.specs.Named.{HasNoBlock};
 ghost use Rattle.dms_restore.specs.Table.{AreBlocks, IsTable};
 ghost use Rattle.dms_restore.specs.Tracing.{IsPendingAt, IsTraced};
@@ -23,7 +23,7 @@ fn table_at(
     at: PendingAt,
 ) -> Result<Vec<Told>, AudFault>
     ensures blocks { IfOk result (λ v. AreBlocks v.items) }
-    ensures table { IfOk result (λ v. (files : Files) (p : Pending) → IsPendingAt files live.now removed.now at p → AllHaveWholeBlocks files live.now → AllHaveWholeBlocks files removed.now
+    ensures table { IfOk result (λ v. (files : Files) (p : Pending) → IsPendingAt files live.now removed.now at p → AllStandWhole files live.now → AllStandWhole files removed.now
         → IsTable p.entries p.point files v.items) }
     ensures only { IfErr result (λ e. (e ≡ AudFault.Memory) ⊎ HasNoBlock live.now removed.now e) }
 {
@@ -38,12 +38,14 @@ fn table_at(
 impl TrailHistory {
     /// What the audit tells of each block at the point of the pending restore, and of no other; nothing where none is pending.
     ///
-    /// Reads no file. Answers Memory, and Damaged where an Image isn't of a block of a structure file.
+    /// Reads no file. Answers Memory, and Damaged where an Image isn't of a block of a structure file, which is so of no trail that was
+    /// scanned.
     pub fn pending_table(&self, alloc: Global) -> Result<Vec<Told>, AudFault>
         ensures blocks { IfOk result (λ v. AreBlocks v.items) }
         ensures table { IfOk result (λ v. (files : Files) (entries : List meaning.Entry) (p : Pending) → IsTraced files entries self.now → (history_of entries).pending ≡ Some p
             → IsTable p.entries p.point files v.items) }
         ensures only { IfErr result (λ e. (e ≡ AudFault.Memory) ⊎ HasNoBlock self.now.live.items self.now.removed.items e) }
+        ensures memory { IfErr result (λ e. (files : Files) (entries : List meaning.Entry) → IsTraced files entries self.now → e ≡ AudFault.Memory) }
     {
         match self.pending {
             None => Ok(Vec::new(alloc)),

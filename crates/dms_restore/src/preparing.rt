@@ -48,7 +48,7 @@ impl TrailHistory {
 
     /// The table of the restore that an opening begins or goes on with. The Begin of one that it begins is added to what is kept.
     ///
-    /// Answers Memory, and Damaged where an Image isn't of a block of a structure file.
+    /// Answers Memory, and Damaged where an Image isn't of a block of a structure file, which is so of no trail that was scanned.
     pub fn opening_table(&mut self, alloc: Global, choice: &Choice) -> Result<Vec<Told>, AudFault>
         ensures blocks { IfOk result (λ v. AreBlocks v.items) }
         ensures table { IfOk result (λ v. (files : Files) (entries : List meaning.Entry) (p : Pending) → IsTraced files entries self.old → IsOpening (history_of entries) choice.now.begins choice.now.point p
@@ -56,6 +56,7 @@ impl TrailHistory {
         ensures traces { OnOk result ((files : Files) (entries : List meaning.Entry) (p : Pending) → IsTraced files entries self.old → IsOpening (history_of entries) choice.now.begins choice.now.point p
             → TracesPending files self.new p) }
         ensures only { IfErr result (λ e. (e ≡ AudFault.Memory) ⊎ HasNoBlock self.new.live.items self.new.removed.items e) }
+        ensures memory { IfErr result (λ e. (files : Files) (entries : List meaning.Entry) (p : Pending) → IsTraced files entries self.old → IsOpening (history_of entries) choice.now.begins choice.now.point p → e ≡ AudFault.Memory) }
     {
         match self.begin_where(alloc, choice) {
             Ok(()) => {}
@@ -66,12 +67,13 @@ impl TrailHistory {
 
     /// How many blocks each of the files 30,001 to 30,200 has at the point of the pending restore, in a table of 200 files.
     ///
-    /// Nothing changes. Faults as those of `counts_after`.
+    /// Nothing changes. Faults as those of `counts_after`; Damaged is answered of no trail that was scanned.
     pub fn pending_counts<S: Site>(&self, alloc: Global, site: &mut S) -> Result<Vec<u32>, AudFault>
         ensures counts { IfOk result (λ v. IsTrue S.tells → (p : Pending) → TracesPending (S.files site.old) self.now p → (f : ℕ) → count_of v.items f ≡ count_at p.entries p.point f) }
         ensures size { IfOk result (λ v. length v.items ≡ 200) }
         ensures small { IfOk result (λ v. AllAtMost v.items) }
         ensures only { IfErr result (λ e. (e ≡ AudFault.Disk) ⊎ ((e ≡ AudFault.Memory) ⊎ IsNoCountAmong S.tells (S.files site.old) self.now.live.items e)) }
+        ensures scanned { IfErr result (λ e. IsTrue S.tells → (p : Pending) → TracesPending (S.files site.old) self.now p → (e ≡ AudFault.Disk) ⊎ (e ≡ AudFault.Memory)) }
         ensures reads { OnlyReads S.tells (S.files site.old) (S.files site.new) (S.said site.old) (S.said site.new) (S.clock site.old) (S.clock site.new) (S.disk_faults site.old) (S.disk_faults site.new) (S.say_faults site.old) (S.say_faults site.new) }
         ensures same_site { S.same_site site.old site.new }
         ensures disk { CountedAt (IsErrOf result AudFault.Disk) (S.disk_faults site.old) (S.disk_faults site.new) }

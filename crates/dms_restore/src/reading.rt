@@ -8,7 +8,7 @@ ghost use Rattle.dms_audfile.specs.Reads.{OnlyReads};
 ghost use Rattle.dms_audfile.specs.Scanning.{Placed, place_in};
 ghost use Rattle.dms_audfile.specs.AuditTrail.{AreThere, entry_there};
 ghost use Rattle.dms_audfile.specs.EntryReading.{IsCurrent};
-ghost use Rattle.dms_restore.specs.Scanned.{HasNoEntry, IsNoEntryOf};
+ghost use Rattle.dms_restore.specs.Scanned.{IsInAudit, AreInAudit, HasNoEntry, IsNoEntryOf};
 ghost use Rattle.dms_restore.specs.Traces.{IsTraceOf, TracesAll};
 
 use crate::TrailTrace;
@@ -27,7 +27,7 @@ fn read_one<S: Site>(
 ) -> Result<(), AudFault>
     ensures current { IsTrue S.tells → IsCurrent reader.old (S.files site.old) → IsCurrent reader.new (S.files site.old) }
     ensures added { OnOk result (IsTrue S.tells → IsCurrent reader.old (S.files site.old) → (entries : List meaning.Entry) (e : meaning.Entry) → entry_there (S.files site.old) place.now ≡ Some e → length entries ≡ at
-        → (files : Files) → entry_there files place.now ≡ Some e → IsTraceOf files entries trace.old → IsTraceOf files (entries ++ e ∷ []) trace.new) }
+        → (files : Files) → IsInAudit place.now → entry_there files place.now ≡ Some e → IsTraceOf files entries trace.old → IsTraceOf files (entries ++ e ∷ []) trace.new) }
     ensures only { IfErr result (λ e. (e ≡ AudFault.Disk) ⊎ ((e ≡ AudFault.Memory) ⊎ ((e ≡ AudFault.Damaged place.now.file place.now.block)
         × (IsTrue S.tells → IsCurrent reader.old (S.files site.old) → HasNoEntry (S.files site.old) place.now)))) }
     ensures reads { OnlyReads S.tells (S.files site.old) (S.files site.new) (S.said site.old) (S.said site.new) (S.clock site.old) (S.clock site.new) (S.disk_faults site.old) (S.disk_faults site.new) (S.say_faults site.old) (S.say_faults site.new) }
@@ -57,7 +57,7 @@ pub fn read_trail<S: Site>(
     site: &mut S,
     places: &[EntryPlace],
 ) -> Result<TrailTrace, AudFault>
-    ensures traced { IfOk result (λ h. IsTrue S.tells → (placed : List Placed) → places.now ≡ map place_in placed → AreThere (S.files site.old) placed → TracesAll placed h) }
+    ensures traced { IfOk result (λ h. IsTrue S.tells → AreInAudit places.now → (placed : List Placed) → places.now ≡ map place_in placed → AreThere (S.files site.old) placed → TracesAll placed h) }
     ensures only { IfErr result (λ e. (e ≡ AudFault.Disk) ⊎ ((e ≡ AudFault.Memory) ⊎ IsNoEntryOf S.tells (S.files site.old) places.now e)) }
     ensures reads { OnlyReads S.tells (S.files site.old) (S.files site.new) (S.said site.old) (S.said site.new) (S.clock site.old) (S.clock site.new) (S.disk_faults site.old) (S.disk_faults site.new) (S.say_faults site.old) (S.say_faults site.new) }
     ensures same_site { S.same_site site.old site.new }

@@ -42,6 +42,7 @@ impl<S: Site> Found<S> {
     pub fn scan(self, alloc: Global, limit: u32) -> Result<Scanned<S>, (AudFault, Found<S>)>
         requires { limit ≤ 9999 }
         ensures starts { IfOk result (λ s. IsTrue S.tells → IsAtStart s.log.end s.log.first (S.files s.log.site) (S.clock s.log.site)) }
+        ensures low { IfOk result (λ s. 10001 ≤ s.log.first) }
         ensures found { IfOk result (λ s. IsTrue S.tells → IsFound (S.files self.site) s.log.first s.places.items) }
         ensures places { IfOk result (λ s. IsTrue S.tells → AreEntryPlaces s.log.end.total s.log.first (S.files self.site) s.places.items) }
         ensures traced { IfOk result (λ s. IsTrue S.tells → IsTraceOf (S.files self.site) (trail_entries s.log.end.total s.log.first (S.files self.site)) s.trace) }

@@ -1,13 +1,14 @@
 //! The start of an opening: a restore by halt/load is begun, or the pending one goes on.
 
 ghost use Rattle.std.specs.Prelude.{◌≡◌, ◌⊎◌, ◌++◌, [], ◌∷◌, true, if◌then◌else◌, length, IfOk, IfErr, IsTrue};
+ghost use Rattle.dms_moments.specs.Moments.{Steps};
 ghost use Rattle.dms_history.specs.History.{Pending};
 ghost use Rattle.dms_audfile.specs.Counting.{CountedAt};
 ghost use Rattle.dms_history.specs.Entries.{begin_restore, by_halt_load};
 ghost use Rattle.dms_audrec.specs.Spelling.{spelling};
 ghost use Rattle.dms_audfile.specs.Ends.{Grown, is_past};
 ghost use Rattle.dms_audfile.specs.TrailEntries.{trail_entries};
-ghost use Rattle.dms_restore.specs.Logging.{view};
+ghost use Rattle.dms_restore.specs.Logging.{view, PrintsNothing};
 ghost use Rattle.dms_restore.specs.Laying.{IsAtStart};
 ghost use Rattle.dms_restore.specs.Begins.{BegunAt, LeavesEach};
 ghost use Rattle.dms_restore.specs.Starts.{MayOpen, BegunFrom};
@@ -34,6 +35,8 @@ impl<S: Site> Log<S> {
             → LeavesEach (view self.end self.first (S.files self.site) (S.clock self.site)) (view b.log.end b.log.first (S.files b.log.site) (S.clock b.log.site))) }
         ensures stopped { IfErr result (λ e. (p : Pending) → IsTrue S.tells → MayOpen (view self.end self.first (S.files self.site) (S.clock self.site)) begins point p
             → LeavesEach (view self.end self.first (S.files self.site) (S.clock self.site)) (view e.1.end e.1.first (S.files e.1.site) (S.clock e.1.site))) }
+        ensures silent { IfOk result (λ b. IsTrue S.tells → IsAtStart self.end self.first (S.files self.site) (S.clock self.site) → Steps PrintsNothing (S.clock self.site) (S.clock b.log.site)) }
+        ensures silent_then { IfErr result (λ e. IsTrue S.tells → IsAtStart self.end self.first (S.files self.site) (S.clock self.site) → Steps PrintsNothing (S.clock self.site) (S.clock e.1.site)) }
         ensures same { IfOk result (λ b. S.same_site self.site b.log.site) }
         ensures same_then { IfErr result (λ e. S.same_site self.site e.1.site) }
         ensures said { IfOk result (λ b. S.said b.log.site ≡ S.said self.site) }

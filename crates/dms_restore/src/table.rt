@@ -7,13 +7,13 @@ ghost use Rattle.dms_history.specs.Lists.{until_first, after_first, after_last};
 ghost use Rattle.dms_history.specs.Places.{is_control, is_point};
 ghost use Rattle.dms_history.specs.Images.{or_else, last_after, first_before};
 ghost use Rattle.dms_restore.specs.declared.live.AuditSpot as spot;
-ghost use Rattle.dms_restore.specs.LiveEntries.{events_at, AllHaveWholeBlocks};
+ghost use Rattle.dms_restore.specs.LiveEntries.{events_at, AllStandWhole};
 ghost use Rattle.dms_restore.specs.Named.{spot_of, named, AllFromSpots, IsSpotAmong, IsNoBlock, HasNoBlock};
 ghost use Rattle.dms_restore.specs.Table.{IsBlock, AreBlocks, IsAmong, IsTable};
 
 use crate::naming::{note_redo, note_undo, take_first};
 use crate::placing::after_control;
-use crate::{AuditSpot, LiveEntry, Told};
+use crate::{LiveEntry, AuditSpot, Told};
 use dms_audfile::AudFault;
 use std::alloc::{AllocError, Global};
 use std::collections::BTreeMap;
@@ -98,7 +98,7 @@ pub fn table_of(
 ) -> Result<Vec<Told>, AudFault>
     ensures blocks { IfOk result (λ v. AreBlocks v.items) }
     ensures table { IfOk result (λ v. (files : Files) (live : List Event) (m : ℕ) → until_first (is_point m) live ≡ events_at files front.now → after_first (is_point m) live ≡ events_at files behind.now
-        → AllHaveWholeBlocks files front.now → AllHaveWholeBlocks files behind.now → IsTable live m files v.items) }
+        → AllStandWhole files front.now → AllStandWhole files behind.now → IsTable live m files v.items) }
     ensures only { IfErr result (λ e. (e ≡ AudFault.Memory) ⊎ HasNoBlock front.now behind.now e) }
 {
     match spots_of(alloc, front, behind) {

@@ -5,6 +5,7 @@ ghost use Rattle.dms_site.specs.Files.{Files};
 ghost use Rattle.dms_history.specs.Entries as meaning;
 ghost use Rattle.dms_audrec.specs.Seen.{entry_seen};
 ghost use Rattle.dms_audfile.specs.AuditTrail.{entry_there};
+ghost use Rattle.dms_restore.specs.Scanned.{IsInAudit};
 ghost use Rattle.dms_restore.specs.Tracing.{IsTraced};
 ghost use Rattle.dms_restore.specs.SchemaSpans.{IsSchemaTraced};
 ghost use Rattle.dms_restore.specs.Traces.{IsTraceOf, TracesAll};
@@ -42,7 +43,7 @@ impl TrailTrace {
         place: &EntryPlace,
         at: usize,
     ) -> Result<(), AllocError>
-        ensures { OnOk result ((files : Files) (entries : List meaning.Entry) → entry_there files place.now ≡ Some (entry_seen entry.now) → length entries ≡ at → IsTraceOf files entries self.old
+        ensures { OnOk result ((files : Files) (entries : List meaning.Entry) → IsInAudit place.now → entry_there files place.now ≡ Some (entry_seen entry.now) → length entries ≡ at → IsTraceOf files entries self.old
             → IsTraceOf files (entries ++ entry_seen entry.now ∷ []) self.new) }
     {
         self.history.add(alloc, entry, place)?;

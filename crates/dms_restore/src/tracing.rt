@@ -16,7 +16,8 @@ ghost use Rattle.dms_audrec.specs.Seen.{entry_seen, how_seen};
 ghost use Rattle.dms_audfile.specs.AuditTrail.{entry_there};
 ghost use Rattle.dms_restore.specs.declared.live.LiveEntry.TheVariants.{Controlled};
 ghost use Rattle.dms_restore.specs.LiveEntries.{event_at, events_at};
-ghost use Rattle.dms_restore.specs.Tracing.{MatchesHow, StandsAsImage, IsTraced};
+ghost use Rattle.dms_restore.specs.Scanned.{IsInAudit};
+ghost use Rattle.dms_restore.specs.Tracing.{MatchesHow, StandsAsImage, StandsAsControl, IsTraced};
 
 use crate::placing::place;
 use crate::{ControlAt, HowAt, ImageAt, LiveEntry, PendingAt};
@@ -44,13 +45,14 @@ pub struct TrailHistory {
 fn start_of(place: &EntryPlace) -> u64
     ensures is { result ≡ 4096 * place.now.block + place.now.offset }
     ensures small { result < 2 ^ 45 }
+    ensures low { IsInAudit place.now → result < 2 ^ 33 }
 {
     4096 * u64::from(place.block) + u64::from(place.offset)
 }
 
 /// The Image of a new block at a place.
 fn new_image(place: &EntryPlace, file: u32, block: u32) -> ImageAt
-    ensures { (files : Files) (after : Block) → entry_there files place.now ≡ Some (image file block None after) → StandsAsImage files result file block None after }
+    ensures { (files : Files) (after : Block) → IsInAudit place.now → entry_there files place.now ≡ Some (image file block None after) → StandsAsImage files result file block None after }
 {
     ImageAt {
         file,
@@ -63,7 +65,7 @@ fn new_image(place: &EntryPlace, file: u32, block: u32) -> ImageAt
 
 /// The Image of a block that isn't new, at a place.
 fn old_image(place: &EntryPlace, file: u32, block: u32) -> ImageAt
-    ensures { (files : Files) (before after : Block) → entry_there files place.now ≡ Some (image file block (Some before) after) → StandsAsImage files result file block (Some before) after }
+    ensures { (files : Files) (before after : Block) → IsInAudit place.now → entry_there files place.now ≡ Some (image file block (Some before) after) → StandsAsImage files result file block (Some before) after }
 {
     ImageAt {
         file,
@@ -76,7 +78,7 @@ fn old_image(place: &EntryPlace, file: u32, block: u32) -> ImageAt
 
 /// The Image of a block at a place.
 fn image_at(place: &EntryPlace, file: u32, block: u32, before: Option<&[u8]>) -> ImageAt
-    ensures { (files : Files) (after : Block) → entry_there files place.now ≡ Some (image file block (option_copied before.entry) after) → StandsAsImage files result file block (option_copied before.entry) after }
+    ensures { (files : Files) (after : Block) → IsInAudit place.now → entry_there files place.now ≡ Some (image file block (option_copied before.entry) after) → StandsAsImage files result file block (option_copied before.entry) after }
 {
     match before {
         None => new_image(place, file, block),
@@ -85,15 +87,9 @@ fn image_at(place: &EntryPlace, file: u32, block: u32, before: Option<&[u8]>) ->
 }
 
 /// A Control at a place.
-fn control_at(
-    place: &EntryPlace,
-    point: u64,
-    next: u64,
-    counts: &[u8],
-    described: bool,
-) -> ControlAt
-    ensures stands { (files : Files) → entry_there files place.now ≡ Some (control_point point next (counts_at (length counts.now / 8) counts.now))
-        → event_at files (Controlled result) ≡ control point next (counts_in (counts_at (length counts.now / 8) counts.now)) described }
+fn control_at(place: &EntryPlace, point: u64, next: u64, counts: &[u8], described: bool) -> ControlAt
+    ensures stands { (files : Files) → IsInAudit place.now → entry_there files place.now ≡ Some (control_point point next (counts_at (length counts.now / 8) counts.now))
+        → StandsAsControl files result point next (counts_at (length counts.now / 8) counts.now) described }
     ensures is { (result.point ≡ point) × (result.next ≡ next) }
 {
     ControlAt {
@@ -204,7 +200,7 @@ impl TrailHistory {
     fn add_control(&mut self, control: ControlAt) -> Result<(), AllocError>
         requires { control.next < 2 ^ 64 }
         ensures { OnOk result ((files : Files) (entries : List meaning.Entry) (counts : List FileCount)
-            → event_at files (Controlled control) ≡ events.control control.point control.next (counts_in counts) (is_whole (record { read = self.old.read; all = self.old.all }))
+            → StandsAsControl files control control.point control.next counts (is_whole (record { read = self.old.read; all = self.old.all }))
             → IsTraced files entries self.old → IsTraced files (entries ++ control_point control.point control.next counts ∷ []) self.new) }
     {
         self.push(LiveEntry::Controlled(control))?;
@@ -255,7 +251,7 @@ impl TrailHistory {
         entry: &Entry<'_>,
         place: &EntryPlace,
     ) -> Result<(), AllocError>
-        ensures { OnOk result ((files : Files) (entries : List meaning.Entry) → entry_there files place.now ≡ Some (entry_seen entry.now) → IsTraced files entries self.old
+        ensures { OnOk result ((files : Files) (entries : List meaning.Entry) → IsInAudit place.now → entry_there files place.now ≡ Some (entry_seen entry.now) → IsTraced files entries self.old
             → IsTraced files (entries ++ entry_seen entry.now ∷ []) self.new) }
     {
         match *entry {

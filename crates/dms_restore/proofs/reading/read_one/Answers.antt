@@ -6,12 +6,12 @@ use Rattle.dms_restore.proofs.ReadOn.{read_is, load_only}
 use Rattle.dms_restore.proofs.reading.read_one.Goals as goal
 
 pub returns-in-Ok-add-clause-added : goal.returns-in-Ok-add-clause-added
-returns-in-Ok-add-clause-added g c tells current entries e there size files over t =
+returns-in-Ok-add-clause-added g c tells current entries e there size files audit over t =
     let site_files = g.S.Site.files c.args.site.now in
     let seen : entry_there site_files c.args.place.now ≡ Some (entry_seen c.in-Some.entry) =
     sym (c.entry.ensures.there site_files (c.in-Ok.ensures.holds tells current)) ∙ ap (option_map entry_seen) c.in-Some.is in
     let same : Some (entry_seen c.in-Some.entry) ≡ Some e = sym seen ∙ there in
-    read_is files entries e (entry_seen c.in-Some.entry) c.args.trace.now c.add.new.self same (λ s. c.in-Ok-add.ensures files entries (over ∙ sym same) size s) t
+    read_is files entries e (entry_seen c.in-Some.entry) c.args.trace.now c.add.new.self same (λ s. c.in-Ok-add.ensures files entries audit (over ∙ sym same) size s) t
 
 pub returns-in-Err-clause-only : goal.returns-in-Err-clause-only
 returns-in-Err-clause-only g c = load_only g.S.Site.tells _ _ c.args.place.now _ c.in-Err.ensures.only

@@ -4,6 +4,7 @@ use Rattle.dms_audfile.specs.declared.fault.AudFault.{AudFault}
 use Rattle.dms_audfile.specs.declared.fault.AudFault.TheVariants.{Disk, Full}
 use Rattle.dms_restore.specs.Logging.{LogView, view, telling_of}
 use Rattle.dms_restore.proofs.Results.{one_if_ok, one_if_err}
+use Rattle.dms_restore.proofs.Backed.{silent_on}
 use Rattle.dms_restore.proofs.GoneOn.{each_on, ends_by, opened}
 use Rattle.dms_restore.proofs.begun.Begun.go_on.Goals as goal
 
@@ -52,3 +53,22 @@ returns-in-Err-clause-full g c p tells table is = absurd (not_both (c.in-Err.ens
   where
     not_both : {k : ℕ} {e : AudFault} → e ≡ Disk → e ≡ Full k → ⊥
     not_both one two = absurd cc
+
+pub returns-in-Ok-clause-silent : goal.returns-in-Ok-clause-silent
+returns-in-Ok-clause-silent g c = one_if_ok c.finish.result c.finish.ensures.silent (λ l still p tells m.
+    let a : LogView = view c.args.self.log.end c.args.self.log.first (g.S.Site.files c.args.self.log.site) (g.S.Site.clock c.args.self.log.site) in
+    let log = c.in-Ok.restored.log in
+    let b : LogView = view log.end log.first (g.S.Site.files log.site) (g.S.Site.clock log.site) in
+    let r = c.in-Ok.ensures in
+    silent_on _ _ _ (r.silent p tells m.table_is) (still p tells (ends_by p a b c.args.table.now c.args.point c.args.next c.args.counts.now m (r.begun p tells m.begun m.table_is) (r.restored p tells m.begun m.table_is) (r.keeps p tells m.begun m.table_is))))
+
+pub returns-in-Ok-clause-silent_then : goal.returns-in-Ok-clause-silent_then
+returns-in-Ok-clause-silent_then g c = one_if_err c.finish.result c.finish.ensures.silent_then (λ e still p tells m.
+    let a : LogView = view c.args.self.log.end c.args.self.log.first (g.S.Site.files c.args.self.log.site) (g.S.Site.clock c.args.self.log.site) in
+    let log = c.in-Ok.restored.log in
+    let b : LogView = view log.end log.first (g.S.Site.files log.site) (g.S.Site.clock log.site) in
+    let r = c.in-Ok.ensures in
+    silent_on _ _ _ (r.silent p tells m.table_is) (still p tells (ends_by p a b c.args.table.now c.args.point c.args.next c.args.counts.now m (r.begun p tells m.begun m.table_is) (r.restored p tells m.begun m.table_is) (r.keeps p tells m.begun m.table_is))))
+
+pub returns-in-Err-clause-silent_then : goal.returns-in-Err-clause-silent_then
+returns-in-Err-clause-silent_then g c p tells m = c.in-Err.ensures.silent_then p tells m.table_is

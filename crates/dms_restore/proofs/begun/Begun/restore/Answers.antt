@@ -3,6 +3,7 @@ use Rattle.dms_restore.proofs.Results.{is_fault, counted_fault, counted_call}
 use Rattle.dms_site.specs.Files.{Files, Only}
 use Rattle.dms_running.specs.Restoring.{IsKept, Rewritten}
 use Rattle.dms_restore.specs.Table.{AllStandAsTold}
+use Rattle.dms_restore.proofs.Backed.{rewrites_silent}
 use Rattle.dms_restore.proofs.Beginnings.{then_looks, table_leave, table_begun, table_restored, table_keeps, table_entries}
 use Rattle.dms_restore.proofs.begun.Begun.restore.Goals as goal
 
@@ -55,3 +56,12 @@ returns-in-Err-clause-only g c p tells is = c.in-Err.ensures.only p.entries p.po
 pub returns-in-Err-sync-clause-disk : goal.returns-in-Err-sync-clause-disk
 returns-in-Err-sync-clause-disk g c =
     counted_call _ _ _ _ _ _ (c.in_default.ensures.disk.clean (λ e. subst (λ r. is_fault r) (sym e) tt)) refl c.in-Err-sync.ensures.faults
+
+pub returns-in-Ok-clause-silent : goal.returns-in-Ok-clause-silent
+returns-in-Ok-clause-silent g c p tells is = rewrites_silent _ _ _ (then_looks (IsKept p.entries p.point) _ _ _ (c.write_all.ensures.moments p.entries p.point tells is.each) c.sync.ensures.moments)
+
+pub returns-in-Err-clause-silent_then : goal.returns-in-Err-clause-silent_then
+returns-in-Err-clause-silent_then g c p tells is = rewrites_silent _ _ _ (c.write_all.ensures.moments p.entries p.point tells is.each)
+
+pub returns-in-Err-sync-clause-silent_then : goal.returns-in-Err-sync-clause-silent_then
+returns-in-Err-sync-clause-silent_then g c p tells is = rewrites_silent _ _ _ (then_looks (IsKept p.entries p.point) _ _ _ (c.write_all.ensures.moments p.entries p.point tells is.each) c.sync.ensures.moments)

@@ -1,4 +1,5 @@
 use Rattle.std.proofs.Common.{Err, [], refl, subst}
+use Rattle.dms_moments.specs.MomentLaws.{steps_weaken}
 use Rattle.dms_audfile.specs.Ends.{Grown}
 use Rattle.dms_audrec.specs.Seen.{how_seen}
 use Rattle.dms_restore.proofs.Sizes.{begin_size}
@@ -52,3 +53,9 @@ pub returns-in-Ok-clause-sealed : goal.returns-in-Ok-clause-sealed
 returns-in-Ok-clause-sealed g c tells start =
     begin_sealed c.args.self.end.total c.args.self.first c.args.point (how_seen c.args.how) (g.S.Site.files c.args.self.site) (g.S.Site.files c.append.new.site) (g.S.Site.clock c.append.new.site) _ c.append.ensures.kind.0
     (c.in-Ok.ensures.appends c.args.self.first [] tells tt start.ends)
+
+pub returns-in-Ok-clause-silent : goal.returns-in-Ok-clause-silent
+returns-in-Ok-clause-silent g c tells start = steps_weaken (c.append.ensures.moments c.args.self.first [] tells tt start.ends) (λ x y now s. s.said)
+
+pub returns-in-Err-clause-silent_then : goal.returns-in-Err-clause-silent_then
+returns-in-Err-clause-silent_then g c tells start = steps_weaken (c.append.ensures.moments c.args.self.first [] tells tt start.ends) (λ x y now s. s.said)

@@ -2,6 +2,7 @@ use Rattle.std.proofs.Common.{cond, [], ◌∷◌, ◌++◌, sym, ◌∙◌, ap}
 use Rattle.dms_history.specs.Entries.{begin_restore, by_halt_load}
 use Rattle.dms_history.proofs.Order.{append_none}
 use Rattle.dms_audfile.specs.TrailEntries.{trail_entries}
+use Rattle.dms_restore.proofs.Laid.{none_silent}
 use Rattle.dms_restore.specs.Logging.{LogView, view}
 use Rattle.dms_restore.proofs.Results.{one_if_ok, one_if_err}
 use Rattle.dms_restore.proofs.Started.{may_run, last_found, begun_new, keeps_new, leaves_new, begun_found, keeps_found, leaves_found, grown_none}
@@ -55,3 +56,6 @@ returns-then-begins-clause-begins g c = one_if_err c.begin.result c.begin.ensure
 
 pub returns-then-begins-clause-past : goal.returns-then-begins-clause-past
 returns-then-begins-clause-past g c = c.begin.ensures.past
+
+pub returns-else-begins-clause-silent : goal.returns-else-begins-clause-silent
+returns-else-begins-clause-silent g c tells start = none_silent _

@@ -1,4 +1,5 @@
-use Rattle.dms_restore.proofs.Results.{one_if_ok}
+use Rattle.dms_restore.proofs.Results.{one_if_ok, one_if_err}
+use Rattle.dms_restore.proofs.Standing.{memory_alone}
 use Rattle.dms_restore.proofs.PendingTables.{table_lent}
 use Rattle.dms_restore.proofs.SpotParts.{lent_fault}
 use Rattle.dms_restore.proofs.tracing.TrailHistory.pending_table.Goals as goal
@@ -9,3 +10,10 @@ returns-in-Some-clause-table c = one_if_ok c.table_at.result c.table_at.ensures.
 
 pub returns-in-Some-clause-only : goal.returns-in-Some-clause-only
 returns-in-Some-clause-only c = lent_fault c.table_at.result c.args.self.now.live.items c.args.self.now.removed.items _ _ c.deref.ensures.value c.deref-in-Some.ensures.value c.table_at.ensures.only
+
+pub returns-in-Some-clause-memory : goal.returns-in-Some-clause-memory
+returns-in-Some-clause-memory c =
+    let live = c.args.self.now.live.items in
+    let removed = c.args.self.now.removed.items in
+    one_if_err c.table_at.result (lent_fault c.table_at.result live removed _ _ c.deref.ensures.value c.deref-in-Some.ensures.value c.table_at.ensures.only)
+    (λ e only files entries t. memory_alone files live removed e t.live_whole t.removed_whole only)

@@ -1,0 +1,153 @@
+-- A plan that is carried out.
+use Rattle.std.proofs.Common.{ℕ, ◌+◌, ◌*◌, ◌/◌, ◌≤◌, ◌<◌, ◌≡◌, inl, inr, Bool, true, false, cond, IsTrue, List, [], ◌∷◌, ◌++◌, append_assoc, length, take, Option, Some, None, refl, sym, ◌∙◌, ap, subst, arith}
+use Rattle.std.proofs.lemmas.List.{take_all}
+use Rattle.dms_moments.specs.Moments.{After, Clock, Now, Runs, Steps}
+use Rattle.dms_site.specs.declared.site.Site.{Ghosts}
+use Rattle.dms_site.specs.Files.{Files, Left, stored_of}
+use Rattle.dms_history.specs.Events.{Content}
+use Rattle.dms_history.specs.History.{Pending, History}
+use Rattle.dms_history.specs.Entries.{Entry, begin_restore, by_halt_load, control_point}
+use Rattle.dms_history.specs.EntryEvents.{history_of}
+use Rattle.dms_history.specs.Points.{LivePoint}
+use Rattle.dms_history.specs.Schemas.{schema_entries}
+use Rattle.dms_history.specs.declared.event.FileCount.{FileCount}
+use Rattle.dms_history.proofs.Picks.{some_is}
+use Rattle.dms_history.proofs.Stops.{outcome_length}
+use Rattle.dms_audrec.specs.Spelling.{pair_bytes, count_file, count_blocks}
+use Rattle.dms_audrec.specs.Reading.{counts_at}
+use Rattle.dms_audfile.specs.Ends.{Grown}
+use Rattle.dms_audfile.specs.TrailEntries.{trail_entries}
+use Rattle.dms_running.specs.Telling.{Telling}
+use Rattle.dms_running.specs.Standing.{IsWhole}
+use Rattle.dms_running.specs.Points.{points_of, next_in, LeavesPointsPrefix}
+use Rattle.dms_running.specs.Begun.{LeavesAll, outcome_now}
+use Rattle.dms_restore.specs.Bodies.{bodies}
+use Rattle.dms_restore.specs.Counts.{count_of, file_counts}
+use Rattle.dms_restore.specs.Laying.{schema_control}
+use Rattle.dms_restore.specs.Logging as logs
+use Rattle.dms_restore.specs.Logging.{LogView, telling_of, telling, state, entries, points, durable, content, PrintsNothing}
+use Rattle.dms_restore.specs.Refusals.{IsOpening}
+use Rattle.dms_restore.specs.Starts.{MayOpen, MayEnd, BegunFrom, OpenedAt}
+use Rattle.dms_restore.proofs.CountBytes.{IsCountTable, counts_read, counts_told}
+use Rattle.dms_wal.specs.Lifting.{last_blocks}
+use Rattle.dms_wal.specs.Marks.{last_number, IsMarkOf}
+use Rattle.dms_opening.specs.declared.plan.Plan.{Plan}
+use Rattle.dms_opening.specs.Plans.{Plans}
+use Rattle.dms_opening.specs.Openings.{begin_where_none, opening_entries, RunsFrom, Reopens, text_of}
+use Rattle.dms_opening.specs.Carrying.{IsReady, IsPlanned, BeginsPlan, BeginsWhole}
+use Rattle.dms_opening.proofs.LastPoint.{last_is, left_is}
+
+none_not_some : {A : Type 0} (x : A) → None ≡ Some x → ⊥
+none_not_some x e = absurd cc
+
+-- the Begin of an opening is there where it begins a restore
+pub begin_is : (h : History) (begins : Bool) (point : ℕ) (p : Pending) → IsOpening h begins point p → cond begins (begin_restore point by_halt_load ∷ []) [] ≡ begin_where_none h.pending point
+begin_is h true point p o = ap (λ (r : Option Pending). begin_where_none r point) (sym (o.new refl).0)
+begin_is h false point p o = ap (λ (r : Option Pending). begin_where_none r point) (sym (o.goes_on refl).0)
+
+pub count_table : (plan : Plan) → IsReady plan → IsCountTable plan.counts.items
+count_table plan ready = record { few = ready.counts.few; small = ready.counts.small }
+
+-- what an opening may do
+pub may_open : (v : LogView) (plan : Plan) (s : IsPlanned v plan) → IsWhole (telling v) v.files → MayOpen v plan.choice.begins plan.choice.point s.plans.chooses.restore
+may_open v plan s whole = record { start = s.start; whole = whole; opening = s.plans.chooses.is }
+
+module _ (a b : LogView) (plan : Plan) (w : BeginsWhole a plan b) (ready : IsReady plan) (bytes : List ℕ) (is : bytes ≡ pair_bytes count_file count_blocks (file_counts 30001 plan.counts.items)) where
+  plans : Plans a.end.total a.first a.files plan
+  plans = w.begins.planned.plans
+
+  abbrev restore : Pending
+  restore = w.begins.planned.plans.chooses.restore
+
+  same : telling b ≡ telling a
+  same = λ i. telling_of (w.begins.total_same i) (w.begins.first_same i)
+
+  pub may_end : MayEnd restore b plan.table.items plan.choice.point plan.next bytes
+  may_end = record {
+    begun = w.begun;
+    table_is = plans.table_is b.files w.begins.grown;
+    point_is = sym plans.chooses.is.point_is;
+    next_is = sym plans.next_is ∙ sym w.keeps.next_same;
+    count = λ f. counts_told plan.counts.items (count_table plan ready) bytes is f ∙ plans.counts_are f;
+  }
+
+  -- the database runs
+  module _ (c : LogView) (kind : telling c ≡ telling a) (o : OpenedAt restore b c (schema_control plan.schema.items plan.choice.point plan.next bytes)) where
+    points_are : points c ≡ points_of (telling a) a.files
+    points_are = o.points_same ∙ w.keeps.points_same
+
+    content_left : content c ≡ outcome_now (telling a) restore (state a)
+    content_left = o.content_is ∙ w.keeps.outcome_same
+
+    marked : last_blocks (λ f. []) (points c) ≡ outcome_now (telling a) restore (state a)
+    marked = ap (λ (ps : List LivePoint). last_blocks (λ f. []) ps) points_are ∙ left_is (telling a) a.files w.whole plan.choice.begins plan.choice.point restore plans.chooses.is
+
+    counted : (f : ℕ) → count_of plan.counts.items f ≡ length (last_blocks (λ g. []) (points c) f)
+    counted f =
+        plans.counts_are f ∙ sym (outcome_length restore.how ((telling a).dumps a.files) restore.entries restore.point f (stored_of a.files))
+        ∙ ap (λ (x : Content). length (x f)) (sym marked)
+
+    abbrev found : List Entry
+    found = trail_entries a.end.total a.first a.files
+
+    abbrev ends : List FileCount → List Entry
+    ends counts = schema_entries (bodies plan.schema.items) ++ control_point plan.choice.point plan.next counts ∷ []
+
+    sealed : entries c ≡ found ++ opening_entries (history_of found).pending plan.choice.point plan.next plan.schema.items plan.counts.items
+    sealed =
+        o.entries_are
+        ∙ (λ i. trail_entries (w.begins.total_same i) (w.begins.first_same i) b.files ++ ends (counts_read plan.counts.items (count_table plan ready) bytes is i))
+        ∙ ap (λ (l : List Entry). l ++ ends (file_counts 30001 plan.counts.items)) w.begins.sealed
+        ∙ append_assoc found (begin_where_none (history_of found).pending plan.choice.point) (ends (file_counts 30001 plan.counts.items))
+
+    pub runs_from : RunsFrom a.files plan.choice.point plan.next plan.schema.items plan.counts.items c
+    runs_from = record {
+      runs = o.runs;
+      nothing = o.nothing;
+      entries_are = sealed ∙ ap (λ (t : Telling). t.entries a.files ++ opening_entries (history_of (t.entries a.files)).pending plan.choice.point plan.next plan.schema.items plan.counts.items) (sym kind);
+      points_same = points_are ∙ ap (λ (t : Telling). points_of t a.files) (sym kind);
+      all_durable = o.all_durable ∙ ap (λ (ps : List LivePoint). length ps) (sym o.points_same);
+      next_is = o.next_same ∙ w.keeps.next_same ∙ plans.next_is;
+      last = record {
+        number = ap (λ (ps : List LivePoint). last_number ps) points_are ∙ last_is (telling a) a.files w.whole plan.choice.begins plan.choice.point restore plans.chooses.is;
+        counted = counted;
+      };
+      content_is = content_left ∙ sym marked;
+      written = o.written;
+      only = o.only;
+    }
+
+-- ---- at every moment
+
+-- all points of files that hold a database
+left_all : (t : Telling) (files : Files) (said : Option (List ℕ)) (x : Left) → LeavesPointsPrefix t (points_of t files) (length (points_of t files)) (next_in t files) x → ((s : List ℕ) → said ≡ Some s → x.said ≡ s) → Reopens t files said x
+left_all t files said x l text =
+    let all : l.count ≡ length (points_of t files) = omega (arith, l.enough, l.within) in
+    record {
+      whole = l.whole;
+      points_same = l.is ∙ ap (λ n. take n (points_of t files)) all ∙ take_all (length (points_of t files)) (points_of t files) (omega arith);
+      not_fallen = omega (arith, l.not_fallen, all);
+      text = text;
+    }
+
+runs_both : {a b : Clock Left} {P Q R : Left → Type 0} → Runs a b P → Runs a b Q → ((x : Left) → P x → Q x → R x) → Runs a b R
+runs_both {a} {b} {P} {Q} {R} one two both = record {
+  later = one.later;
+  only = λ t x le left. elim (one.only t x le left) [
+    | inl was ↦ inl was
+    | inr p ↦ elim (two.only t x le left) [ inl was ↦ inl was | inr q ↦ inr (both x p q) ]
+  ];
+  keeps = one.keeps;
+}
+
+-- the text that is told is the one that was printed
+said_is : (b : Bool) (said s : List ℕ) → cond b (Some said) None ≡ Some s → IsTrue b × (said ≡ s)
+said_is true said s is = (refl, some_is said s is)
+said_is false said s is = absurd (none_not_some s is)
+
+module _ {S : Type 0} (g : Ghosts S) (now_said : (s : S) (x : Left) → IsTrue g.tells_said → Now (g.clock s) x → x.said ≡ g.said s) (t : Telling) (site : S) (later : Clock Left) where
+  text_left : (x : Left) → After (g.clock site) PrintsNothing x → (s : List ℕ) → text_of g site ≡ Some s → x.said ≡ s
+  text_left x after s is = let told = said_is g.tells_said (g.said site) s is in after.2 ∙ now_said site after.0 told.0 after.1 ∙ told.1
+
+  pub reopens_all : (waiting : List Entry) → LeavesAll t (record { waiting = waiting; files = g.files site; clock = g.clock site }) later → Steps PrintsNothing (g.clock site) later → Runs (g.clock site) later (Reopens t (g.files site) (text_of g site))
+  reopens_all waiting leaves silent = runs_both leaves silent.runs (λ x l after. left_all t (g.files site) (text_of g site) x l (text_left x after))

@@ -1,0 +1,41 @@
+-- A trail that was scanned, and the plan of its opening.
+use Rattle.std.proofs.Common.{ℕ, ◌≡◌, inl, inr, List, sym, ◌∙◌, subst}
+use Rattle.dms_moments.specs.Moments.{Clock, Steps}
+use Rattle.dms_moments.specs.MomentLaws.{steps_on}
+use Rattle.dms_site.specs.Files.{Files, Left, Same}
+use Rattle.dms_audfile.specs.AuditTrail.{IsFound}
+use Rattle.dms_audfile.specs.Ends.{Grown}
+use Rattle.dms_audfile.specs.TrailEntries.{trail_entries}
+use Rattle.dms_audfile.specs.declared.audit_end.AuditEnd.{AuditEnd}
+use Rattle.dms_audfile.specs.declared.place.EntryPlace.{EntryPlace}
+use Rattle.dms_restore.specs.declared.choosing.OpenFault.{OpenFault}
+use Rattle.dms_restore.specs.declared.trace.TrailTrace.{TrailTrace}
+use Rattle.dms_restore.specs.Laying.{IsAtStart}
+use Rattle.dms_restore.specs.Scanned.{AreEntryPlaces}
+use Rattle.dms_restore.specs.Traces.{IsTraceOf}
+use Rattle.dms_opening.specs.declared.plan.Plan.{Plan}
+use Rattle.dms_opening.specs.Openings.{HasTrail, RefusesFiles}
+use Rattle.dms_opening.specs.Plans.{IsTrailRead, Plans, RefusesPlan}
+use Rattle.dms_opening.proofs.OneTrail.{trail_of}
+
+-- one call that changes nothing after another
+pub same_on : (a b c : Clock Left) → Steps Same a b → Steps Same b c → Steps Same a c
+same_on a b c one two = steps_on one two (λ x y z nx ny r s. s ∙ r) (λ x y nx r. r)
+
+pub read_at : (total first : ℕ) (files now : Files) (ps : List EntryPlace) (trace : TrailTrace) → now ≡ files → IsFound files first ps → AreEntryPlaces total first files ps
+    → ((new : Files) → Grown total first files new → IsTraceOf new (trail_entries total first files) trace) → IsTrailRead total first now ps trace
+read_at total first files now ps trace same found placed stays = subst (λ (f : Files). IsTrailRead total first f ps trace) (sym same) (record { found = found; placed = placed; stays = stays })
+
+pub plans_as : (end last : AuditEnd) (first then : ℕ) (a b : Files) (plan : Plan) → last ≡ end → then ≡ first → a ≡ b → Plans end.total first a plan → Plans last.total then b plan
+plans_as end last first then a b plan one two three p =
+    subst (λ (e : AuditEnd). Plans e.total then b plan) (sym one) (subst (λ n. Plans end.total n b plan) (sym two) (subst (λ (f : Files). Plans end.total first f plan) three p))
+
+pub trail_as : (end last : AuditEnd) (first then : ℕ) (files : Files) → last ≡ end → then ≡ first → HasTrail end.total first files → HasTrail last.total then files
+trail_as end last first then files one two h = subst (λ (e : AuditEnd). HasTrail e.total then files) (sym one) (subst (λ n. HasTrail end.total n files) (sym two) h)
+
+pub start_as : (end last : AuditEnd) (first then : ℕ) (files : Files) (clock : Clock Left) → last ≡ end → then ≡ first → IsAtStart end first files clock → IsAtStart last then files clock
+start_as end last first then files clock one two s = subst (λ (e : AuditEnd). IsAtStart e then files clock) (sym one) (subst (λ n. IsAtStart end n files clock) (sym two) s)
+
+-- a trail was found, and its plan is refused
+pub refused_as : (total first : ℕ) (files now : Files) (fault : OpenFault) → now ≡ files → HasTrail total first files → RefusesPlan total first now fault → RefusesFiles files fault
+refused_as total first files now fault same trail why = inr (inl (record { total = total; first = first; trail = trail; why = subst (λ (f : Files). RefusesPlan total first f fault) same why }))

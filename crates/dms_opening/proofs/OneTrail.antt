@@ -1,0 +1,79 @@
+-- Files have one trail at most, and what a call leaves of it that changes nothing.
+use Rattle.std.proofs.Common.{ℕ, ◌+◌, ◌-◌, ◌≤◌, ◌<◌, ◌≡◌, inl, inr, List, [], length, sym, ◌∙◌, ap, subst, arith}
+use Rattle.std.proofs.lemmas.Bool.{cases_lt}
+use Rattle.dms_moments.specs.Moments.{Clock, Now, Runs, Steps}
+use Rattle.dms_site.specs.Files.{Files, Left, Same, Only}
+use Rattle.dms_history.specs.Entries.{Entry}
+use Rattle.dms_audfile.specs.Header.{blocks_said}
+use Rattle.dms_audfile.specs.Trail.{Span}
+use Rattle.dms_audfile.specs.AuditTrail.{IsFound}
+use Rattle.dms_audfile.specs.Ends.{EndsAt}
+use Rattle.dms_audfile.specs.declared.audit_end.AuditEnd.{AuditEnd}
+use Rattle.dms_audfile.specs.declared.place.EntryPlace.{EntryPlace}
+use Rattle.dms_audfile.proofs.Followed.{fits_says}
+use Rattle.dms_restore.specs.Laying.{IsAtStart}
+use Rattle.dms_opening.specs.Openings.{HasTrail}
+
+not_both : (bytes : List ℕ) → bytes ≡ [] → 0 < length bytes → ⊥
+not_both bytes none some = omega (arith, ap length none, some)
+
+last_le : (files : Files) (f l g m : ℕ) → Span files f l → Span files g m → m ≤ l
+last_le files f l g m one two = elim (cases_lt l m) [
+  | inl less ↦ absurd (not_both (files m) (one.absent m less two.high) (two.present m two.order (omega arith)))
+  | inr not ↦ not
+]
+
+first_le : (files : Files) (f l g m : ℕ) → Span files f l → Span files g m → g ≤ f
+first_le files f l g m one two = elim (cases_lt f g) [
+  | inl less ↦ (let p : ℕ = g - 1 in
+      absurd (not_both (files p) (two.before p (omega (arith, less, one.low)) (omega (arith, less))) (one.present p (omega (arith, less)) (omega (arith, less, two.order, last_le files f l g m one two)))))
+  | inr not ↦ not
+]
+
+found_first : (files : Files) (f g : ℕ) (ps qs : List EntryPlace) → IsFound files f ps → IsFound files g qs → f ≡ g
+found_first files f g ps qs one two =
+    let s = one.trail in
+    let t = two.trail in
+    omega (arith, one.first_is, two.first_is, first_le files s.first s.last t.first t.last s.span t.span, first_le files t.first t.last s.first s.last t.span s.span)
+
+-- its first file and the number of blocks a file
+pub one_first : (t f u g : ℕ) (files : Files) → HasTrail t f files → HasTrail u g files → f ≡ g
+one_first t f u g files one two = found_first files f g one.places two.places one.found two.found
+
+pub one_total : (t f u g : ℕ) (files : Files) → HasTrail t f files → HasTrail u g files → t ≡ u
+one_total t f u g files one two =
+    let same = one_first t f u g files one two in
+    let a = fits_says (f - 10000) t (files f) (one.writes.fits f (omega arith) one.writes.order) in
+    let b = fits_says (g - 10000) u (files g) (two.writes.fits g (omega arith) two.writes.order) in
+    a.1 ∙ ap (λ n. blocks_said (files n)) same ∙ sym b.1
+
+-- ---- a call that changes nothing
+
+-- what a stop leaves is what it could leave
+pub unchanged : (a b : Clock Left) (P : Left → Type 0) → ((t : ℕ) (x : Left) → t ≤ a.now → Now a x → a.left t x) → Steps Same a b → Runs a b P
+unchanged a b P counts steps = record {
+  later = steps.runs.later;
+  only = λ t x le left. elim (steps.runs.only t x le left) [
+    | inl was ↦ inl was
+    | inr after ↦ inl (subst (λ (y : Left). a.left t y) (sym after.2) (counts t after.0 le after.1))
+  ];
+  keeps = steps.runs.keeps;
+}
+
+-- a trail that was scanned is at its start still
+pub start_on : (end : AuditEnd) (first : ℕ) (old new : Files) (a b : Clock Left) → new ≡ old → Steps Same a b → IsAtStart end first old a → IsAtStart end first new b
+start_on end first old new a b same steps s =
+    let ends : EndsAt end first [] old b = record {
+      low = s.ends.low;
+      writes = s.ends.writes;
+      settled = λ g from upto x now. let y = steps.follows x now in ap (λ (z : Left). z.files g) y.2 ∙ s.ends.settled g from upto y.0 y.1;
+      bytes = s.ends.bytes;
+      kind = s.ends.kind;
+    } in
+    let only : Only old b = λ x now. let y = steps.follows x now in ap (λ (z : Left). z.files) y.2 ∙ s.only y.0 y.1 in
+    subst (λ (f : Files). IsAtStart end first f b) (sym same) (record { ends = ends; only = only })
+
+pub trail_of : (end : AuditEnd) (first : ℕ) (files now : Files) (clock : Clock Left) (ps : List EntryPlace) → now ≡ files → IsFound files first ps → IsAtStart end first now clock → HasTrail end.total first files
+trail_of end first files now clock ps same found s =
+    let e = subst (λ (f : Files). EndsAt end first [] f clock) same s.ends in
+    record { places = ps; found = found; tag = end.tag; file = end.file; count = end.count; writes = e.writes }

@@ -1,0 +1,90 @@
+//! A database is looked at: its trail is scanned, and its opening is planned.
+
+ghost use Rattle.std.specs.Prelude.{◌≡◌, ◌≤◌, IfOk, IfErr, IsTrue};
+ghost use Rattle.dms_moments.specs.Moments.{Steps};
+ghost use Rattle.dms_site.specs.Files.{Same};
+ghost use Rattle.dms_audfile.specs.Counting.{CountedAt};
+ghost use Rattle.dms_restore.specs.Laying.{IsAtStart};
+ghost use Rattle.dms_opening.specs.Openings.{HasTrail, RefusesFiles};
+ghost use Rattle.dms_opening.specs.Plans.{IsTrailRead, Plans, RefusesPlan};
+ghost use Rattle.dms_opening.specs.Carrying.{IsReady};
+
+use crate::{Plan, prepare};
+use dms_audfile::AudFault;
+use dms_restore::{Found, Log, OpenFault, Scanned};
+use dms_site::Site;
+use std::alloc::Global;
+
+/// A database that was looked at, and what its opening does.
+pub(crate) struct Planned<S: Site> {
+    pub(crate) log: Log<S>,
+    pub(crate) plan: Plan,
+}
+
+/// Plans the opening of a trail that was scanned. Nothing changes.
+pub(crate) fn plan_scanned<S: Site>(
+    alloc: Global,
+    scanned: Scanned<S>,
+) -> Result<Planned<S>, (OpenFault, S)>
+    requires low { 10001 ≤ scanned.log.first }
+    ensures plans { IfOk result (λ p. IsTrue S.tells → IsTrailRead scanned.log.end.total scanned.log.first (S.files scanned.log.site) scanned.places.items scanned.trace → Plans scanned.log.end.total scanned.log.first (S.files scanned.log.site) p.plan) }
+    ensures ready { IfOk result (λ p. IsReady p.plan) }
+    ensures refused { IfErr result (λ e. IsTrue S.tells → IsTrailRead scanned.log.end.total scanned.log.first (S.files scanned.log.site) scanned.places.items scanned.trace → RefusesPlan scanned.log.end.total scanned.log.first (S.files scanned.log.site) e.0) }
+    ensures kind { IfOk result (λ p. (p.log.end ≡ scanned.log.end) × (p.log.first ≡ scanned.log.first)) }
+    ensures files { IfOk result (λ p. IsTrue S.tells → S.files p.log.site ≡ S.files scanned.log.site) }
+    ensures files_then { IfErr result (λ e. IsTrue S.tells → S.files e.1 ≡ S.files scanned.log.site) }
+    ensures moments { IfOk result (λ p. Steps Same (S.clock scanned.log.site) (S.clock p.log.site)) }
+    ensures moments_then { IfErr result (λ e. Steps Same (S.clock scanned.log.site) (S.clock e.1)) }
+    ensures same { IfOk result (λ p. S.same_site scanned.log.site p.log.site) }
+    ensures same_then { IfErr result (λ e. S.same_site scanned.log.site e.1) }
+    ensures said { IfOk result (λ p. S.said p.log.site ≡ S.said scanned.log.site) }
+    ensures said_then { IfErr result (λ e. S.said e.1 ≡ S.said scanned.log.site) }
+    ensures clean { IfOk result (λ p. S.disk_faults p.log.site ≡ S.disk_faults scanned.log.site) }
+    ensures disk { IfErr result (λ e. CountedAt (e.0 ≡ OpenFault.Audit AudFault.Disk) (S.disk_faults scanned.log.site) (S.disk_faults e.1)) }
+    ensures say_faults { IfOk result (λ p. S.say_faults p.log.site ≡ S.say_faults scanned.log.site) }
+    ensures say_faults_then { IfErr result (λ e. S.say_faults e.1 ≡ S.say_faults scanned.log.site) }
+{
+    let Scanned { log, places, trace } = scanned;
+    let Log {
+        mut site,
+        end,
+        first,
+    } = log;
+    match prepare(alloc, &mut site, first, &places, trace) {
+        Ok(plan) => Ok(Planned {
+            log: Log { site, end, first },
+            plan,
+        }),
+        Err(fault) => Err((fault, site)),
+    }
+}
+
+/// Scans the trail of the files that were found, and plans their opening. Nothing changes.
+pub(crate) fn look<S: Site>(alloc: Global, found: Found<S>) -> Result<Planned<S>, (OpenFault, S)>
+    ensures starts { IfOk result (λ p. IsTrue S.tells → IsAtStart p.log.end p.log.first (S.files p.log.site) (S.clock p.log.site)) }
+    ensures trail { IfOk result (λ p. IsTrue S.tells → HasTrail p.log.end.total p.log.first (S.files found.site)) }
+    ensures plans { IfOk result (λ p. IsTrue S.tells → Plans p.log.end.total p.log.first (S.files found.site) p.plan) }
+    ensures ready { IfOk result (λ p. IsReady p.plan) }
+    ensures limit { IfOk result (λ p. p.log.end.limit ≡ 9999) }
+    ensures refused { IfErr result (λ e. IsTrue S.tells → RefusesFiles (S.files found.site) e.0) }
+    ensures files { IfOk result (λ p. IsTrue S.tells → S.files p.log.site ≡ S.files found.site) }
+    ensures files_then { IfErr result (λ e. IsTrue S.tells → S.files e.1 ≡ S.files found.site) }
+    ensures moments { IfOk result (λ p. Steps Same (S.clock found.site) (S.clock p.log.site)) }
+    ensures moments_then { IfErr result (λ e. Steps Same (S.clock found.site) (S.clock e.1)) }
+    ensures same { IfOk result (λ p. S.same_site found.site p.log.site) }
+    ensures same_then { IfErr result (λ e. S.same_site found.site e.1) }
+    ensures said { IfOk result (λ p. S.said p.log.site ≡ S.said found.site) }
+    ensures said_then { IfErr result (λ e. S.said e.1 ≡ S.said found.site) }
+    ensures clean { IfOk result (λ p. S.disk_faults p.log.site ≡ S.disk_faults found.site) }
+    ensures disk { IfErr result (λ e. CountedAt (e.0 ≡ OpenFault.Audit AudFault.Disk) (S.disk_faults found.site) (S.disk_faults e.1)) }
+    ensures say_faults { IfOk result (λ p. S.say_faults p.log.site ≡ S.say_faults found.site) }
+    ensures say_faults_then { IfErr result (λ e. S.say_faults e.1 ≡ S.say_faults found.site) }
+{
+    match found.scan(alloc, LAST_AUDIT_FILE) {
+        Ok(scanned) => plan_scanned(alloc, scanned),
+        Err((fault, found)) => Err((OpenFault::Audit(fault), found.site)),
+    }
+}
+
+/// The last audit file that may be written while a database is opened.
+const LAST_AUDIT_FILE: u32 = 9999;
