@@ -3,3 +3,4 @@ pub mod Stops
 pub mod Laws
 pub mod Files
 pub mod Starting
+pub mod Ending

@@ -4,6 +4,7 @@ ghost use Rattle.dms_feed.specs.Feeds.{Remains};
 ghost use Rattle.dms_runner.specs.Blaming.{CutRun, LastsRun};
 ghost use Rattle.dms_runner.specs.Starting.{AtStart};
 ghost use Rattle.dms_storeverbs.specs.View.{seen};
+ghost use Rattle.dms_run.specs.Ending.{EndsLeave};
 ghost use Rattle.dms_run.specs.Starting.{OfScript, ReachesEnd, SaysAll, SaysPrefix, SaysWholeAnswers, StandsAtEnd, StopsAtBytes, StopsAtInput, StopsAtLines, StopsAtWaiting, StopsLeave};
 
 use dms_feed::Feed;
@@ -24,6 +25,7 @@ pub fn run_script<St: Store, I: Source>(
     requires sound { (seen engine.old).sound }
     ensures every_moment { OfScript engine.old feed.old (I.left source.old) (StopsLeave engine.old engine.new) }
     ensures at_ok { OnOk result (OfScript engine.old feed.old (I.left source.old) (ReachesEnd engine.new)) }
+    ensures closes { OnOk result (OfScript engine.old feed.old (I.left source.old) (EndsLeave engine.old engine.new)) }
     ensures prints { OnOk result (AtStart engine.old feed.old (I.left source.old) (SaysAll engine.old engine.new)) }
     ensures part { AtStart engine.old feed.old (I.left source.old) (SaysPrefix engine.old engine.new) }
     ensures whole_answers { (CutRun result → ⊥) → AtStart engine.old feed.old (I.left source.old) (SaysWholeAnswers engine.old engine.new) }
