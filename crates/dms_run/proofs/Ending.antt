@@ -13,6 +13,7 @@ use Rattle.dms_model.specs.Points.{Point, Quiet, Stop, LeavesPrefix, TextIs}
 use Rattle.dms_model.specs.Seen.{Seen}
 use Rattle.dms_runner.specs.Answers.{script_run, script_events, unanswered_events, end_events}
 use Rattle.dms_runner.specs.Events.{RunEvent, goes_back, text_of, quiets_of, durable_after, CrashesWithin, Performs}
+use Rattle.dms_runner.specs.Running.{AnswersWhole}
 use Rattle.dms_runner.specs.Starting.{AtStart}
 use Rattle.dms_runner.proofs.Happening.{text_on, quiets_on, durable_on}
 use Rattle.dms_storeverbs.specs.declared.engine.Engine.{Engine}
@@ -20,7 +21,7 @@ use Rattle.dms_storeverbs.specs.View.{PointsGrow, seen}
 use Rattle.dms_run.specs.Starting.{OfScript}
 use Rattle.dms_run.specs.States.{EndsWith}
 use Rattle.dms_run.specs.Stops.{RunLeaves}
-use Rattle.dms_run.specs.Ending.{EndsLeave}
+use Rattle.dms_run.specs.Ending.{EndsLeave, KeepsLimits}
 use Rattle.dms_run.proofs.Leaving.{stop_leaves}
 
 -- a script's last event: the database goes back where a program is in transaction state
@@ -84,3 +85,7 @@ module _ {St : Type 0} {g : Ghosts St} {T E : Type 0} (old new : Engine St g) (f
   pub closes_run : (r : Result T E) → OnOk r (AtStart old feed left (λ db first all. Performs (seen old) (seen new) (script_events (described old.desc) db first (raw_lines all)))) → OnOk r (OfScript old feed left (EndsLeave old new))
   closes_run (Ok x) ran = λ n db first all begins remains. stop_of_run n db first (raw_lines all) begins.state begins.tells begins.durable begins.stands.next (ran db first all begins.stands begins.room remains)
   closes_run (Err e) ran = tt
+
+  pub keeps_limits : (r : Result T E) → OnOk r (AtStart old feed left (λ db first all. AnswersWhole (described old.desc) db first (raw_lines all) (seen old).said (seen new).said)) → OnOk r (AtStart old feed left (λ db first all. KeepsLimits (described old.desc) db first (raw_lines all)))
+  keeps_limits (Ok x) answers = λ db first all stands room remains. let a = answers db first all stands room remains in record { few = a.few; short = a.short; room = a.room }
+  keeps_limits (Err e) answers = tt
