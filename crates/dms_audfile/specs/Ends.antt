@@ -1,12 +1,12 @@
 -- Where an audit trail ends, and what a stop leaves while entries are appended to it and sealed.
 use Rattle.std.specs.Prelude.{ℕ, ◌+◌, ◌<◌, ◌≤◌, ◌≡◌, ◌==◌, ◌&&◌, ◌||◌, ◌⊎◌, nat_lt, if◌then◌else◌, Bool, List, [], ◌∷◌, ◌++◌, length, take, drop, Some}
 use Rattle.dms_moments.specs.Moments.{Clock}
-use Rattle.dms_site.specs.Files.{Files, Left, OnlyIn}
+use Rattle.dms_site.specs.Files.{Files, Left}
 use Rattle.dms_history.specs.Entries.{Entry}
 use Rattle.dms_audfile.specs.Blocks.{EntryInBlock, block_entries}
 use Rattle.dms_audfile.specs.Trail.{trail_from}
 use Rattle.dms_audfile.specs.BlockLaws.{spellings, AreNoBegins, IsAlone}
-use Rattle.dms_audfile.specs.Sealing.{IsWrittenUpTo}
+use Rattle.dms_audfile.specs.Sealing.{IsWrittenUpTo, AreSettled}
 use Rattle.dms_audfile.specs.TrailEntries.{trail_entries}
 use Rattle.dms_audfile.specs.declared.audit_end.AuditEnd.{AuditEnd}
 
@@ -18,7 +18,7 @@ unsealed end = take end.used (drop 2 end.block.items)
 pub record EndsAt (end : AuditEnd) (first : ℕ) (waiting : List Entry) (files : Files) (clock : Clock Left) : Type 0 where
   pub low : 10001 ≤ first
   pub writes : IsWrittenUpTo end.total end.tag first end.file end.count files
-  pub settled : (g : ℕ) → first ≤ g → g ≤ end.file → OnlyIn g files clock
+  pub settled : AreSettled first end.file files clock
   pub bytes : unsealed end ≡ spellings waiting
   pub kind : AreNoBegins waiting ⊎ IsAlone waiting
 

@@ -1,6 +1,7 @@
 -- What a writer knows of the trail, and what a stop leaves while a block is sealed.
 use Rattle.std.specs.Prelude.{ℕ, ◌+◌, ◌-◌, ◌*◌, ◌<◌, ◌≤◌, ◌≡◌, ◌≢◌, true, List, ◌++◌, length, take}
-use Rattle.dms_site.specs.Files.{Files, Left}
+use Rattle.dms_moments.specs.Moments.{Clock}
+use Rattle.dms_site.specs.Files.{Files, Left, OnlyIn}
 use Rattle.dms_audfile.specs.Gates.{gate, sealed, is_full}
 use Rattle.dms_audfile.specs.Header.{header_fits, tag_said}
 use Rattle.dms_audfile.specs.Trail.{trail_from}
@@ -50,6 +51,10 @@ pub record Grows (total tag first f : ℕ) (blocks : List (List ℕ)) (old new :
 pub record GrowsLeft (total tag first f : ℕ) (blocks : List (List ℕ)) (old new : Left) : Type 0 where
   pub files : Grows total tag first f blocks old.files new.files
   pub said : new.said ≡ old.said
+
+-- nothing of these audit files is pending
+abbrev pub AreSettled : ℕ → ℕ → Files → Clock Left → Type 0
+AreSettled first last files clock = (g : ℕ) → first ≤ g → g ≤ last → OnlyIn g files clock
 
 -- whatever becomes of a file
 abbrev pub Anyhow : List ℕ → List ℕ → Type 0

@@ -7,7 +7,7 @@ ghost use Rattle.dms_audfile.specs.AuditTrail.{entry_from, entry_there};
 ghost use Rattle.dms_audfile.specs.Blocks.{used_in};
 ghost use Rattle.dms_audfile.specs.Counting.{CountedAt};
 ghost use Rattle.dms_audfile.specs.EntryReading.{bytes_held, IsCurrent, HoldsBlock};
-ghost use Rattle.dms_audfile.specs.Reads.{OnlyReads};
+ghost use Rattle.dms_audfile.specs.Reads.{ReadsAlone};
 
 use crate::blocks::used_in;
 use crate::scanning::load;
@@ -70,7 +70,7 @@ impl EntryReader {
         ensures holds { OnOk result (IsTrue S.tells → IsCurrent self.old (S.files site.old) → HoldsBlock self.new place.now (S.files site.old)) }
         ensures current { IsTrue S.tells → IsCurrent self.old (S.files site.old) → IsCurrent self.new (S.files site.old) }
         ensures only { IfErr result (λ e. (e ≡ AudFault.Disk) ⊎ ((e ≡ AudFault.Damaged place.now.file place.now.block) × (512 < place.now.block))) }
-        ensures reads { OnlyReads S.tells (S.files site.old) (S.files site.new) (S.said site.old) (S.said site.new) (S.clock site.old) (S.clock site.new) (S.disk_faults site.old) (S.disk_faults site.new) (S.say_faults site.old) (S.say_faults site.new) }
+        ensures reads { ReadsAlone S.Site site.old site.new }
         ensures same_site { S.same_site site.old site.new }
         ensures disk { CountedAt (IsErrOf result AudFault.Disk) (S.disk_faults site.old) (S.disk_faults site.new) }
     {

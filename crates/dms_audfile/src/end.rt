@@ -3,11 +3,11 @@
 ghost use Rattle.std.specs.Prelude.{◌≡◌, ◌≢◌, ◌+◌, ◌-◌, ◌*◌, ◌<◌, ◌≤◌, ◌++◌, [], ◌∷◌, ℕ, List, length, take, drop, vec_len, OnOk, IsTrue};
 ghost use Rattle.dms_base.specs.Causes.{HasCause};
 ghost use Rattle.dms_moments.specs.Moments.{Steps};
-ghost use Rattle.dms_site.specs.Files.{Only, OnlyIn};
+ghost use Rattle.dms_site.specs.Files.{Only};
 ghost use Rattle.dms_audrec.specs.Spelling.{spelling, IsEntry};
 ghost use Rattle.dms_audrec.specs.Seen.{entry_seen};
 ghost use Rattle.dms_audfile.specs.Trail.{trail_from};
-ghost use Rattle.dms_audfile.specs.Sealing.{IsWrittenUpTo, GrowsLeft};
+ghost use Rattle.dms_audfile.specs.Sealing.{IsWrittenUpTo, GrowsLeft, AreSettled};
 ghost use Rattle.dms_audfile.specs.Unsealed.{block_with};
 ghost use Rattle.dms_audfile.specs.Ends.{unsealed, file_behind};
 
@@ -37,7 +37,7 @@ impl AuditEnd {
     pub(crate) fn seal_block<S: Site>(&mut self, site: &mut S) -> Result<(), Failed>
         requires allowed { self.old.file < 20000 }
         ensures moments { (first : ℕ) → IsTrue S.tells → IsWrittenUpTo self.old.total self.old.tag first self.old.file self.old.count (S.files site.old)
-            → ((g : ℕ) → first ≤ g → g ≤ self.old.file → OnlyIn g (S.files site.old) (S.clock site.old))
+            → AreSettled first self.old.file (S.files site.old) (S.clock site.old)
             → Steps (GrowsLeft self.old.total self.old.tag first self.old.file (block_with (unsealed self.old) ∷ [])) (S.clock site.old) (S.clock site.new) }
         ensures sealed { OnOk result ((first n : ℕ) → IsTrue S.tells → IsWrittenUpTo self.old.total self.old.tag first self.old.file self.old.count (S.files site.old)
             → self.old.file < first + n → trail_from n self.old.total first (S.files site.new) ≡ trail_from n self.old.total first (S.files site.old) ++ block_with (unsealed self.old) ∷ []) }

@@ -6,7 +6,7 @@ ghost use Rattle.dms_audfile.specs.Gates.{block_at, opened, is_full};
 ghost use Rattle.dms_audfile.specs.Header.{header_fits, tag_said};
 ghost use Rattle.dms_audfile.specs.Trail.{first_open};
 ghost use Rattle.dms_audfile.specs.Scanning.{blocks_read, file_read, files_read, first_foreign, no_schema, trail_read, scanned};
-ghost use Rattle.dms_audfile.specs.Reads.{OnlyReads, ReadFound, NotScanned, Scans, SaysCount};
+ghost use Rattle.dms_audfile.specs.Reads.{ReadsAlone, ReadFound, NotScanned, Scans, SaysCount};
 ghost use Rattle.dms_audfile.specs.Sealing.{IsWrittenUpTo};
 
 use crate::blocks::read_block;
@@ -27,7 +27,7 @@ pub(crate) fn load<S: Site>(
     requires low { number ≤ 512 }
     ensures count { IfOk result (λ n. n ≤ 4096) }
     ensures bytes { IfOk result (λ n. IsTrue S.tells → take n into.new ≡ block_at number (S.files site.old file)) }
-    ensures reads { OnlyReads S.tells (S.files site.old) (S.files site.new) (S.said site.old) (S.said site.new) (S.clock site.old) (S.clock site.new) (S.disk_faults site.old) (S.disk_faults site.new) (S.say_faults site.old) (S.say_faults site.new) }
+    ensures reads { ReadsAlone S.Site site.old site.new }
     ensures only { IfErr result (λ e. e ≡ AudFault.Disk) }
     ensures same_site { S.same_site site.old site.new }
     ensures disk { CountedAt (IsErrOf result AudFault.Disk) (S.disk_faults site.old) (S.disk_faults site.new) }
@@ -49,7 +49,7 @@ fn opened_in<S: Site>(
     requires few { total ≤ 512 }
     ensures opened { IfOk result (λ n. IsTrue S.tells → n ≡ opened total (S.files site.old file)) }
     ensures bound { IfOk result (λ n. n ≤ total) }
-    ensures reads { OnlyReads S.tells (S.files site.old) (S.files site.new) (S.said site.old) (S.said site.new) (S.clock site.old) (S.clock site.new) (S.disk_faults site.old) (S.disk_faults site.new) (S.say_faults site.old) (S.say_faults site.new) }
+    ensures reads { ReadsAlone S.Site site.old site.new }
     ensures only { IfErr result (λ e. e ≡ AudFault.Disk) }
     ensures same_site { S.same_site site.old site.new }
     ensures disk { CountedAt (IsErrOf result AudFault.Disk) (S.disk_faults site.old) (S.disk_faults site.new) }
@@ -73,7 +73,7 @@ fn first_open<S: Site>(
     ensures found { IfOk result (λ e. IsTrue S.tells → e.0 ≡ first_open (last + 1 - first) total first (S.files site.old)) }
     ensures count { IfOk result (λ e. IsTrue S.tells → e.0 ≤ last → e.1 ≡ opened total (S.files site.old e.0)) }
     ensures bound { IfOk result (λ e. (first ≤ e.0) × (e.0 ≤ last + 1) × (e.0 ≤ last → e.1 < total)) }
-    ensures reads { OnlyReads S.tells (S.files site.old) (S.files site.new) (S.said site.old) (S.said site.new) (S.clock site.old) (S.clock site.new) (S.disk_faults site.old) (S.disk_faults site.new) (S.say_faults site.old) (S.say_faults site.new) }
+    ensures reads { ReadsAlone S.Site site.old site.new }
     ensures only { IfErr result (λ e. e ≡ AudFault.Disk) }
     ensures same_site { S.same_site site.old site.new }
     ensures disk { CountedAt (IsErrOf result AudFault.Disk) (S.disk_faults site.old) (S.disk_faults site.new) }
@@ -98,7 +98,7 @@ fn read_blocks<S: Site>(
     requires size { length buffer.old ≡ 4096 }
     requires few { count ≤ 512 }
     ensures read { IsTrue S.tells → ReadFound (seen known.old) (blocks_read count 1 file (S.files site.old file)) (seen known.new) result }
-    ensures reads { OnlyReads S.tells (S.files site.old) (S.files site.new) (S.said site.old) (S.said site.new) (S.clock site.old) (S.clock site.new) (S.disk_faults site.old) (S.disk_faults site.new) (S.say_faults site.old) (S.say_faults site.new) }
+    ensures reads { ReadsAlone S.Site site.old site.new }
     ensures same_site { S.same_site site.old site.new }
     ensures disk { CountedAt (IsErrOf result AudFault.Disk) (S.disk_faults site.old) (S.disk_faults site.new) }
 {
@@ -128,7 +128,7 @@ fn read_file<S: Site>(
     requires few { total ≤ 512 }
     requires low { 10001 ≤ file }
     ensures read { IsTrue S.tells → ReadFound (seen known.old) (file_read total file (S.files site.old file)) (seen known.new) result }
-    ensures reads { OnlyReads S.tells (S.files site.old) (S.files site.new) (S.said site.old) (S.said site.new) (S.clock site.old) (S.clock site.new) (S.disk_faults site.old) (S.disk_faults site.new) (S.say_faults site.old) (S.say_faults site.new) }
+    ensures reads { ReadsAlone S.Site site.old site.new }
     ensures same_site { S.same_site site.old site.new }
     ensures disk { CountedAt (IsErrOf result AudFault.Disk) (S.disk_faults site.old) (S.disk_faults site.new) }
 {
@@ -157,7 +157,7 @@ fn read_files<S: Site>(
     requires low { 10001 ≤ first }
     requires order { first ≤ end }
     ensures read { IsTrue S.tells → ReadFound (seen known.old) (files_read (end - first) total first (S.files site.old)) (seen known.new) result }
-    ensures reads { OnlyReads S.tells (S.files site.old) (S.files site.new) (S.said site.old) (S.said site.new) (S.clock site.old) (S.clock site.new) (S.disk_faults site.old) (S.disk_faults site.new) (S.say_faults site.old) (S.say_faults site.new) }
+    ensures reads { ReadsAlone S.Site site.old site.new }
     ensures same_site { S.same_site site.old site.new }
     ensures disk { CountedAt (IsErrOf result AudFault.Disk) (S.disk_faults site.old) (S.disk_faults site.new) }
 {
@@ -175,7 +175,7 @@ fn blocks_in<S: Site>(site: &mut S, file: u32, buffer: &mut [u8]) -> Result<Opti
     requires size { length buffer.old ≡ 4096 }
     ensures said { IfOk result (λ n. IsTrue S.tells → SaysCount (S.files site.old file) n) }
     ensures few { IfOk result (λ n. IfSome n (λ k. k ≤ 512)) }
-    ensures reads { OnlyReads S.tells (S.files site.old) (S.files site.new) (S.said site.old) (S.said site.new) (S.clock site.old) (S.clock site.new) (S.disk_faults site.old) (S.disk_faults site.new) (S.say_faults site.old) (S.say_faults site.new) }
+    ensures reads { ReadsAlone S.Site site.old site.new }
     ensures only { IfErr result (λ e. e ≡ AudFault.Disk) }
     ensures same_site { S.same_site site.old site.new }
     ensures disk { CountedAt (IsErrOf result AudFault.Disk) (S.disk_faults site.old) (S.disk_faults site.new) }
@@ -188,7 +188,7 @@ fn blocks_in<S: Site>(site: &mut S, file: u32, buffer: &mut [u8]) -> Result<Opti
 fn tag_in<S: Site>(site: &mut S, file: u32, buffer: &mut [u8]) -> Result<u64, AudFault>
     requires size { length buffer.old ≡ 4096 }
     ensures said { IfOk result (λ tag. IsTrue S.tells → tag ≡ tag_said (S.files site.old file)) }
-    ensures reads { OnlyReads S.tells (S.files site.old) (S.files site.new) (S.said site.old) (S.said site.new) (S.clock site.old) (S.clock site.new) (S.disk_faults site.old) (S.disk_faults site.new) (S.say_faults site.old) (S.say_faults site.new) }
+    ensures reads { ReadsAlone S.Site site.old site.new }
     ensures only { IfErr result (λ e. e ≡ AudFault.Disk) }
     ensures same_site { S.same_site site.old site.new }
     ensures disk { CountedAt (IsErrOf result AudFault.Disk) (S.disk_faults site.old) (S.disk_faults site.new) }
@@ -209,7 +209,7 @@ fn first_foreign<S: Site>(
     requires order { first ≤ end }
     ensures found { IfOk result (λ e. IsTrue S.tells → e ≡ first_foreign (end - first) tag first (S.files site.old)) }
     ensures bound { IfOk result (λ e. (first ≤ e) × (e ≤ end)) }
-    ensures reads { OnlyReads S.tells (S.files site.old) (S.files site.new) (S.said site.old) (S.said site.new) (S.clock site.old) (S.clock site.new) (S.disk_faults site.old) (S.disk_faults site.new) (S.say_faults site.old) (S.say_faults site.new) }
+    ensures reads { ReadsAlone S.Site site.old site.new }
     ensures only { IfErr result (λ e. e ≡ AudFault.Disk) }
     ensures same_site { S.same_site site.old site.new }
     ensures disk { CountedAt (IsErrOf result AudFault.Disk) (S.disk_faults site.old) (S.disk_faults site.new) }
@@ -254,7 +254,7 @@ fn read_trail<S: Site>(
     requires none { seen known.old ≡ nothing_seen }
     ensures tag { IfOk result (λ tag. IsTrue S.tells → tag ≡ tag_said (S.files site.old first)) }
     ensures read { IsTrue S.tells → Scans (trail_read first end total (S.files site.old)) (seen known.new) result }
-    ensures reads { OnlyReads S.tells (S.files site.old) (S.files site.new) (S.said site.old) (S.said site.new) (S.clock site.old) (S.clock site.new) (S.disk_faults site.old) (S.disk_faults site.new) (S.say_faults site.old) (S.say_faults site.new) }
+    ensures reads { ReadsAlone S.Site site.old site.new }
     ensures same_site { S.same_site site.old site.new }
     ensures disk { CountedAt (IsErrOf result AudFault.Disk) (S.disk_faults site.old) (S.disk_faults site.new) }
 {
@@ -296,7 +296,7 @@ pub(crate) fn scan_span<S: Site>(
     ensures writes { IfOk result (λ r. IsTrue S.tells → IsWrittenUpTo r.total r.tag first r.file r.count (S.files site.old)) }
     ensures bounds { IfOk result (λ r. (first ≤ r.file) × (r.file ≤ last)) }
     ensures scanned { IsTrue S.tells → Scans (scanned first last (S.files site.old)) (seen known.new) result }
-    ensures reads { OnlyReads S.tells (S.files site.old) (S.files site.new) (S.said site.old) (S.said site.new) (S.clock site.old) (S.clock site.new) (S.disk_faults site.old) (S.disk_faults site.new) (S.say_faults site.old) (S.say_faults site.new) }
+    ensures reads { ReadsAlone S.Site site.old site.new }
     ensures same_site { S.same_site site.old site.new }
     ensures disk { CountedAt (IsErrOf result AudFault.Disk) (S.disk_faults site.old) (S.disk_faults site.new) }
 {

@@ -1,10 +1,10 @@
 ghost use Rattle.std.specs.Prelude.{◌≡◌, ◌≢◌, ◌⊎◌, ◌+◌, ◌-◌, ◌*◌, ◌^◌, ◌<◌, ◌≤◌, ◌++◌, [], ◌∷◌, ℕ, List, length, map, OnOk, IsTrue};
 ghost use Rattle.dms_base.specs.Causes.{HasCause};
 ghost use Rattle.dms_moments.specs.Moments.{Steps};
-ghost use Rattle.dms_site.specs.Files.{Only, OnlyIn, OnDisk, Torn, overlaid, with_file};
+ghost use Rattle.dms_site.specs.Files.{Only, OnDisk, Torn, overlaid, with_file};
 ghost use Rattle.dms_audfile.specs.Header.{new_header, tag_said};
 ghost use Rattle.dms_audfile.specs.Trail.{trail_from};
-ghost use Rattle.dms_audfile.specs.Sealing.{IsWrittenUpTo, GrowsLeft, Anyhow};
+ghost use Rattle.dms_audfile.specs.Sealing.{IsWrittenUpTo, GrowsLeft, AreSettled, Anyhow};
 
 use dms_site::{Failed, Site, write_synced};
 
@@ -80,7 +80,7 @@ pub fn seal_block<S: Site>(
     requires few { total ≤ 512 }
     requires head { head.now ≡ new_header (file - 9999) total (tag_said head.now) }
     // A stop at any moment leaves the trail from before, with the new block or without; no other file changes.
-    ensures moments { (first : ℕ) → IsTrue S.tells → IsWrittenUpTo total (tag_said head.now) first file count (S.files site.old) → ((g : ℕ) → first ≤ g → g ≤ file → OnlyIn g (S.files site.old) (S.clock site.old))
+    ensures moments { (first : ℕ) → IsTrue S.tells → IsWrittenUpTo total (tag_said head.now) first file count (S.files site.old) → AreSettled first file (S.files site.old) (S.clock site.old)
         → Steps (GrowsLeft total (tag_said head.now) first file (content.now ∷ [])) (S.clock site.old) (S.clock site.new) }
     ensures sealed { OnOk result ((first n : ℕ) → IsTrue S.tells → IsWrittenUpTo total (tag_said head.now) first file count (S.files site.old) → file < first + n
         → trail_from n total first (S.files site.new) ≡ trail_from n total first (S.files site.old) ++ content.now ∷ []) }

@@ -1,3 +1,4 @@
+pub mod Bodies
 pub mod EntryLaws
 pub mod PairLaws
 pub mod Reading

@@ -8,5 +8,6 @@ mod reading;
 mod writing;
 
 pub use entry::{Entry, How};
+pub use pairs::pair_at;
 pub use reading::decode;
 pub use writing::{encode, length};

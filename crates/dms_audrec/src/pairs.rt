@@ -5,8 +5,8 @@ ghost use Rattle.std.specs.Int.{w32, from_be_bytes};
 ghost use Rattle.dms_audrec.specs.Reading.{counts_at, rows_at};
 ghost use Rattle.dms_audrec.specs.Spelling.{counts_rise, rows_rise};
 
-// The two numbers that the bytes begin with, and what follows.
-fn pair_at(bytes: &[u8]) -> (u32, u32, &[u8])
+/// The two numbers of four bytes, big-endian, that the bytes begin with, and what follows.
+pub fn pair_at(bytes: &[u8]) -> (u32, u32, &[u8])
     requires { 8 ≤ length bytes.now }
     ensures one { result.0 ≡ from_be_bytes w32 (take 4 bytes.now) }
     ensures two { result.1 ≡ from_be_bytes w32 (take 4 (drop 4 bytes.now)) }
