@@ -27,8 +27,10 @@ use Rattle.dms_restore.specs.Laying.{schema_control}
 use Rattle.dms_restore.specs.Logging as logs
 use Rattle.dms_restore.specs.Logging.{LogView, telling_of, telling, state, entries, points, durable, content, PrintsNothing}
 use Rattle.dms_restore.specs.Refusals.{IsOpening}
+use Rattle.dms_restore.specs.Begins.{BegunAt}
 use Rattle.dms_restore.specs.Starts.{MayOpen, MayEnd, BegunFrom, OpenedAt}
 use Rattle.dms_restore.proofs.CountBytes.{IsCountTable, counts_read, counts_told}
+use Rattle.dms_restore.proofs.GoneOn.{each_on}
 use Rattle.dms_wal.specs.Lifting.{last_blocks}
 use Rattle.dms_wal.specs.Marks.{last_number, IsMarkOf}
 use Rattle.dms_opening.specs.declared.plan.Plan.{Plan}
@@ -51,6 +53,25 @@ count_table plan ready = record { few = ready.counts.few; small = ready.counts.s
 -- what an opening may do
 pub may_open : (v : LogView) (plan : Plan) (s : IsPlanned v plan) → IsWhole (telling v) v.files → MayOpen v plan.choice.begins plan.choice.point s.plans.chooses.restore
 may_open v plan s whole = record { start = s.start; whole = whole; opening = s.plans.chooses.is }
+
+-- the Begin of a plan is sealed
+module _ (a b : LogView) (plan : Plan) (s : IsPlanned a plan) (total : b.end.total ≡ a.end.total) (first : b.first ≡ a.first) (grown : Grown a.end.total a.first a.files b.files)
+    (sealed : trail_entries a.end.total a.first b.files ≡ trail_entries a.end.total a.first a.files ++ cond plan.choice.begins (begin_restore plan.choice.point by_halt_load ∷ []) []) where
+  pub begins_plan : BeginsPlan a plan b
+  begins_plan = record {
+    planned = s;
+    total_same = total;
+    first_same = first;
+    grown = grown;
+    sealed = sealed ∙ ap (λ (l : List Entry). trail_entries a.end.total a.first a.files ++ l) (begin_is (history_of (trail_entries a.end.total a.first a.files)) plan.choice.begins plan.choice.point s.plans.chooses.restore s.plans.chooses.is);
+  }
+
+  pub begins_whole : IsWhole (telling a) a.files → BegunAt s.plans.chooses.restore b → BegunFrom s.plans.chooses.restore a b → BeginsWhole a plan b
+  begins_whole whole begun keeps = record { begins = begins_plan; whole = whole; begun = begun; keeps = keeps }
+
+-- what was left up to the Begin, and then up to the end
+pub leaves_on : (a b : LogView) (plan : Plan) (later : Clock Left) → BeginsWhole a plan b → LeavesAll (telling a) (state a) b.clock → LeavesAll (telling b) (state b) later → LeavesAll (telling a) (state a) later
+leaves_on a b plan later w first then = each_on a b later (λ i. telling_of (w.begins.total_same i) (w.begins.first_same i)) w.keeps.points_same w.keeps.next_same first then
 
 module _ (a b : LogView) (plan : Plan) (w : BeginsWhole a plan b) (ready : IsReady plan) (bytes : List ℕ) (is : bytes ≡ pair_bytes count_file count_blocks (file_counts 30001 plan.counts.items)) where
   plans : Plans a.end.total a.first a.files plan

@@ -1,5 +1,6 @@
 -- A trail that was scanned, and the plan of its opening.
-use Rattle.std.proofs.Common.{ℕ, ◌≡◌, inl, inr, List, sym, ◌∙◌, subst}
+use Rattle.std.proofs.Common.{ℕ, ◌≤◌, ◌≡◌, inl, inr, List, length, sym, ◌∙◌, subst, arith}
+use Rattle.std.specs.Global.{Vec}
 use Rattle.dms_moments.specs.Moments.{Clock, Steps}
 use Rattle.dms_moments.specs.MomentLaws.{steps_on}
 use Rattle.dms_site.specs.Files.{Files, Left, Same}
@@ -10,12 +11,17 @@ use Rattle.dms_audfile.specs.declared.audit_end.AuditEnd.{AuditEnd}
 use Rattle.dms_audfile.specs.declared.place.EntryPlace.{EntryPlace}
 use Rattle.dms_restore.specs.declared.choosing.OpenFault.{OpenFault}
 use Rattle.dms_restore.specs.declared.trace.TrailTrace.{TrailTrace}
+use Rattle.dms_restore.specs.Counts.{count_of}
 use Rattle.dms_restore.specs.Laying.{IsAtStart}
 use Rattle.dms_restore.specs.Scanned.{AreEntryPlaces}
+use Rattle.dms_restore.specs.Table.{AreBlocks}
+use Rattle.dms_restore.specs.declared.told.Told.{Told}
+use Rattle.dms_wal.specs.Marks.{IsDescription}
+use Rattle.dms_opening.specs.Carrying.{IsReady}
 use Rattle.dms_restore.specs.Traces.{IsTraceOf}
 use Rattle.dms_opening.specs.declared.plan.Plan.{Plan}
 use Rattle.dms_opening.specs.Openings.{HasTrail, RefusesFiles}
-use Rattle.dms_opening.specs.Plans.{IsTrailRead, Plans, RefusesPlan}
+use Rattle.dms_opening.specs.Plans.{IsTrailRead, IsFit, Plans, RefusesPlan}
 use Rattle.dms_opening.proofs.OneTrail.{trail_of}
 
 -- one call that changes nothing after another
@@ -39,3 +45,22 @@ start_as end last first then files clock one two s = subst (λ (e : AuditEnd). I
 -- a trail was found, and its plan is refused
 pub refused_as : (total first : ℕ) (files now : Files) (fault : OpenFault) → now ≡ files → HasTrail total first files → RefusesPlan total first now fault → RefusesFiles files fault
 refused_as total first files now fault same trail why = inr (inl (record { total = total; first = first; trail = trail; why = subst (λ (f : Files). RefusesPlan total first f fault) same why }))
+
+-- its counts were cut
+module _ (total first : ℕ) (files : Files) (a b : Plan) (choice : b.choice ≡ a.choice) (next : b.next ≡ a.next) (table : b.table ≡ a.table) (schema : b.schema ≡ a.schema) (same : (f : ℕ) → count_of b.counts.items f ≡ count_of a.counts.items f) where
+  pub cut_plans : Plans total first files a → Plans total first files b
+  cut_plans p = subst (λ (q : Plan). Plans total first files q) (λ i. record { choice = sym choice i; next = sym next i; table = sym table i; counts = b.counts; schema = sym schema i }) (record {
+    no_dump = p.no_dump;
+    chooses = p.chooses;
+    table_is = p.table_is;
+    counts_are = λ f. same f ∙ p.counts_are f;
+    schema_is = p.schema_is;
+    next_is = p.next_is;
+  })
+
+  pub ready_of : IsFit a → length b.counts.items ≤ length a.counts.items → IsReady b
+  ready_of fit fewer = record {
+    blocks = subst (λ (v : Vec Told). AreBlocks v.items) (sym table) fit.blocks;
+    counts = record { few = omega (arith, fewer, fit.size); small = λ f. omega (arith, same f, fit.small f) };
+    described = subst (λ (v : Vec ℕ). IsDescription v.items) (sym schema) (omega (arith, fit.some), fit.few);
+  }

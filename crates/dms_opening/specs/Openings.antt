@@ -1,10 +1,13 @@
 -- The opening of a database: what it does to its files, what a stop within it leaves, and why it is refused.
-use Rattle.std.specs.Prelude.{ℕ, ◌≤◌, ◌≡◌, ◌⊎◌, List, [], ◌∷◌, ◌++◌, if◌then◌else◌, length, map, None, Some}
+use Rattle.std.specs.Prelude.{ℕ, ◌-◌, ◌<◌, ◌≤◌, ◌≡◌, ◌⊎◌, List, [], ◌∷◌, ◌++◌, if◌then◌else◌, slice_index_or, length, map, None, Some}
 use Rattle.std.specs.declared.option.Option.{Option}
+use Rattle.dms_desc.specs.Shape.{Described}
+use Rattle.dms_desc_bytes.specs.Spelling.{spelling}
+use Rattle.dms_desc_bytes.specs.WellFormed.{IsWellFormed}
 use Rattle.dms_moments.specs.Moments.{Clock, Runs}
 use Rattle.dms_site.specs.declared.site.Site.{Ghosts}
 use Rattle.dms_site.specs.Files.{Files, Left, Only}
-use Rattle.dms_block.specs.Held.{Held, Uses}
+use Rattle.dms_block.specs.Held.{Held}
 use Rattle.dms_history.specs.History.{Pending}
 use Rattle.dms_history.specs.Pick.{count_at}
 use Rattle.dms_history.specs.Entries.{Entry, begin_restore, by_halt_load, control_point}
@@ -44,6 +47,11 @@ pub record HasTrail (total first : ℕ) (files : Files) : Type 0 where
   pub count : ℕ
   pub writes : IsWrittenUpTo total tag first file count files
 
+-- Where these bytes are those of a description, there is a count for each of its structures, and no count of 0 stands behind these.
+pub record NamesStructures (schema counts : List ℕ) : Type 0 where
+  pub each : (d : Described) → IsWellFormed d → spelling d ≡ schema → length d.structures ≤ length counts
+  pub none_behind : (d : Described) → IsWellFormed d → spelling d ≡ schema → length d.structures < length counts → 0 < slice_index_or counts (length counts - 1) 0
+
 -- Neither the trail nor a point of it is refused. The opening begins a restore by halt/load to the last point, or goes on with the one that
 -- is pending, and these are the restore's point, the next number, the description at the point, and how many blocks each file has there.
 pub record OpensAt (total first : ℕ) (files : Files) (point next : ℕ) (schema counts : List ℕ) : Type 0 where
@@ -55,6 +63,7 @@ pub record OpensAt (total first : ℕ) (files : Files) (point next : ℕ) (schem
   pub next_is : next_of (trail_entries total first files) ≡ next
   pub schema_is : schema_at (trail_entries total first files) point ≡ Some schema
   pub counts_are : (f : ℕ) → count_of counts f ≡ count_at chooses.restore.entries chooses.restore.point f
+  pub named : NamesStructures schema counts
 
 -- ---- what it leaves
 
@@ -100,14 +109,14 @@ module _ {S : Type 0} (g : Ghosts S) where
   ReopensSince a b = (total first : ℕ) → HasTrail total first (g.files a) → IsWhole (telling_of total first) (g.files a) → Runs (g.clock a) (g.clock b) (Reopens (telling_of total first) (g.files a) (text_of a))
 
 -- Blocks tell exactly the points of files, all of them durable and under this description, the content of the last one, and the next number.
--- What a stop leaves is what it leaves of the site, and they weren't used yet.
+-- What a stop leaves is what it leaves of the site, and they weren't synced yet.
 pub record TellsOpened (t : Telling) (files : Files) (schema : List ℕ) (next : ℕ) (clock : Clock Left) (h : Held) : Type 0 where
   pub points_are : h.points ≡ map (point_under schema) (points_of t files)
   pub all_durable : h.durable ≡ length h.points
   pub content_is : h.content ≡ h.mark
   pub next_is : h.next ≡ next
   pub clock_is : h.clock ≡ lifted t schema clock
-  pub unused : h.uses ≡ record { reads = 0; spent = 0; syncs = 0; outs = 0 }
+  pub no_sync : h.uses.syncs ≡ 0
 
 -- ---- why it is refused
 

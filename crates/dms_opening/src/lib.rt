@@ -2,6 +2,7 @@
 #![tactic(auto)]
 
 mod carrying;
+mod cutting;
 mod looking;
 mod opened;
 mod plan;

@@ -5,7 +5,7 @@ ghost use Rattle.dms_moments.specs.Moments.{Steps};
 ghost use Rattle.dms_site.specs.Files.{Same};
 ghost use Rattle.dms_audfile.specs.Counting.{CountedAt};
 ghost use Rattle.dms_restore.specs.Laying.{IsAtStart};
-ghost use Rattle.dms_opening.specs.Openings.{HasTrail, RefusesFiles};
+ghost use Rattle.dms_opening.specs.Openings.{HasTrail, NamesStructures, RefusesFiles};
 ghost use Rattle.dms_opening.specs.Plans.{IsTrailRead, Plans, RefusesPlan};
 ghost use Rattle.dms_opening.specs.Carrying.{IsReady};
 
@@ -29,6 +29,7 @@ pub(crate) fn plan_scanned<S: Site>(
     requires low { 10001 ≤ scanned.log.first }
     ensures plans { IfOk result (λ p. IsTrue S.tells → IsTrailRead scanned.log.end.total scanned.log.first (S.files scanned.log.site) scanned.places.items scanned.trace → Plans scanned.log.end.total scanned.log.first (S.files scanned.log.site) p.plan) }
     ensures ready { IfOk result (λ p. IsReady p.plan) }
+    ensures named { IfOk result (λ p. NamesStructures p.plan.schema.items p.plan.counts.items) }
     ensures refused { IfErr result (λ e. IsTrue S.tells → IsTrailRead scanned.log.end.total scanned.log.first (S.files scanned.log.site) scanned.places.items scanned.trace → RefusesPlan scanned.log.end.total scanned.log.first (S.files scanned.log.site) e.0) }
     ensures kind { IfOk result (λ p. (p.log.end ≡ scanned.log.end) × (p.log.first ≡ scanned.log.first)) }
     ensures files { IfOk result (λ p. IsTrue S.tells → S.files p.log.site ≡ S.files scanned.log.site) }
@@ -50,13 +51,18 @@ pub(crate) fn plan_scanned<S: Site>(
         end,
         first,
     } = log;
-    match prepare(alloc, &mut site, first, &places, trace) {
-        Ok(plan) => Ok(Planned {
-            log: Log { site, end, first },
-            plan,
-        }),
-        Err(fault) => Err((fault, site)),
+    let mut plan = match prepare(alloc, &mut site, first, &places, trace) {
+        Ok(plan) => plan,
+        Err(fault) => return Err((fault, site)),
+    };
+    match plan.cut_counts(alloc) {
+        Ok(()) => {}
+        Err(_) => return Err((OpenFault::Audit(AudFault::Memory), site)),
     }
+    Ok(Planned {
+        log: Log { site, end, first },
+        plan,
+    })
 }
 
 /// Scans the trail of the files that were found, and plans their opening. Nothing changes.
@@ -65,6 +71,7 @@ pub(crate) fn look<S: Site>(alloc: Global, found: Found<S>) -> Result<Planned<S>
     ensures trail { IfOk result (λ p. IsTrue S.tells → HasTrail p.log.end.total p.log.first (S.files found.site)) }
     ensures plans { IfOk result (λ p. IsTrue S.tells → Plans p.log.end.total p.log.first (S.files found.site) p.plan) }
     ensures ready { IfOk result (λ p. IsReady p.plan) }
+    ensures named { IfOk result (λ p. NamesStructures p.plan.schema.items p.plan.counts.items) }
     ensures limit { IfOk result (λ p. p.log.end.limit ≡ 9999) }
     ensures refused { IfErr result (λ e. IsTrue S.tells → RefusesFiles (S.files found.site) e.0) }
     ensures files { IfOk result (λ p. IsTrue S.tells → S.files p.log.site ≡ S.files found.site) }

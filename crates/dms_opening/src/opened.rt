@@ -63,7 +63,7 @@ pub fn open<S: Site>(alloc: Global, found: Found<S>) -> Result<Opened<S>, (OpenF
 }
 
 impl<S: Site> Opened<S> {
-    /// The database as blocks, with no block in memory: at most `frames` are held, each `every`-th sync makes a control point, and what is
+    /// Blocks over the database, with no block in memory: at most `frames` are held, each `every`-th sync makes a control point, and what is
     /// appended may go on up to audit file `limit`. Makes no call of the site. Answers Memory alone.
     pub fn into_running(
         self,
@@ -84,13 +84,12 @@ impl<S: Site> Opened<S> {
         ensures site { IfErr result (λ e. e.1 ≡ self.log.site) }
     {
         let Opened {
-            mut log,
+            log,
             schema,
             counts,
             next,
             point,
         } = self;
-        log.end.limit = limit;
         let marks = match counts.to_vec(alloc) {
             Ok(marks) => marks,
             Err(_) => return Err((Memory, site_of(log))),
@@ -104,7 +103,10 @@ impl<S: Site> Opened<S> {
             every,
         };
         match Running::new(alloc, log, start, frames) {
-            Ok(running) => Ok(running),
+            Ok(mut running) => {
+                running.log.end.limit = limit;
+                Ok(running)
+            }
             Err((memory, log)) => Err((memory, site_of(log))),
         }
     }

@@ -1,0 +1,32 @@
+use Rattle.std.proofs.Common.{inl, refl, ◌∙◌}
+use Rattle.dms_restore.proofs.Results.{one_if_ok, two_if_ok, three_if_ok, one_if_err}
+use Rattle.dms_opening.proofs.Looks.{same_on, read_at, plans_as, trail_as, start_as, refused_as}
+use Rattle.dms_opening.proofs.OneTrail.{start_on, trail_of}
+use Rattle.dms_opening.proofs.looking.look.Goals as goal
+
+pub returns-in-Ok-clause-starts : goal.returns-in-Ok-clause-starts
+returns-in-Ok-clause-starts g c = three_if_ok c.plan_scanned.result c.plan_scanned.ensures.kind c.plan_scanned.ensures.files c.plan_scanned.ensures.moments (λ p kind files moments tells.
+    start_as _ _ _ _ _ _ kind.0 kind.1 (start_on _ _ _ _ _ _ (files tells) moments (c.in-Ok.ensures.starts tells)))
+
+pub returns-in-Ok-clause-trail : goal.returns-in-Ok-clause-trail
+returns-in-Ok-clause-trail g c = one_if_ok c.plan_scanned.result c.plan_scanned.ensures.kind (λ p kind tells.
+    trail_as _ _ _ _ _ kind.0 kind.1 (trail_of _ _ _ _ _ _ (c.in-Ok.ensures.files tells) (c.in-Ok.ensures.found tells) (c.in-Ok.ensures.starts tells)))
+
+pub returns-in-Ok-clause-plans : goal.returns-in-Ok-clause-plans
+returns-in-Ok-clause-plans g c = two_if_ok c.plan_scanned.result c.plan_scanned.ensures.kind c.plan_scanned.ensures.plans (λ p kind plans tells.
+    let s = c.in-Ok.ensures in
+    plans_as _ _ _ _ _ _ _ kind.0 kind.1 (s.files tells) (plans tells (read_at _ _ _ _ _ _ (s.files tells) (s.found tells) (s.places tells) (s.stays tells))))
+
+pub returns-in-Ok-clause-refused : goal.returns-in-Ok-clause-refused
+returns-in-Ok-clause-refused g c = one_if_err c.plan_scanned.result c.plan_scanned.ensures.refused (λ e why tells.
+    let s = c.in-Ok.ensures in
+    refused_as _ _ _ _ _ (s.files tells) (trail_of _ _ _ _ _ _ (s.files tells) (s.found tells) (s.starts tells)) (why tells (read_at _ _ _ _ _ _ (s.files tells) (s.found tells) (s.places tells) (s.stays tells))))
+
+pub returns-in-Ok-clause-moments : goal.returns-in-Ok-clause-moments
+returns-in-Ok-clause-moments g c = one_if_ok c.plan_scanned.result c.plan_scanned.ensures.moments (λ p steps. same_on _ _ _ c.in-Ok.ensures.moments steps)
+
+pub returns-in-Ok-clause-moments_then : goal.returns-in-Ok-clause-moments_then
+returns-in-Ok-clause-moments_then g c = one_if_err c.plan_scanned.result c.plan_scanned.ensures.moments_then (λ e steps. same_on _ _ _ c.in-Ok.ensures.moments steps)
+
+pub returns-in-Err-clause-refused : goal.returns-in-Err-clause-refused
+returns-in-Err-clause-refused g c tells = inl (_, refl, c.in-Err.ensures.refused tells)
