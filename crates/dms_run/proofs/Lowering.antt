@@ -86,7 +86,7 @@ seen_told desc (p ∷ ps) =
     ∙ ap (λ (l : List (ℕ × Option Db)). told_live desc p ∷ l) (seen_told desc ps)
 
 -- what a run leaves of the store is what it leaves of the files
-leaves_files : (t : Telling) (desc : Described) (entry : Option (List ℕ)) (ps : List LivePoint) (n : ℕ) (db : Db) (next : ℕ) (events : List RunEvent) (x : Left)
+pub leaves_files : (t : Telling) (desc : Described) (entry : Option (List ℕ)) (ps : List LivePoint) (n : ℕ) (db : Db) (next : ℕ) (events : List RunEvent) (x : Left)
     → RunLeaves (IsWhole t) entry (points_seen desc ps) n db next events (stop_seen t desc x) → RunLeavesFiles t desc entry ps n db next events x
 leaves_files t desc entry ps n db next events x r =
     let now = points_of t x.files in
@@ -108,7 +108,7 @@ leaves_files t desc entry ps n db next events x r =
       whole = r.files;
     }
 
-count_seen : (desc : Described) (ps : List LivePoint) → length (points_seen desc ps) ≡ length ps
+pub count_seen : (desc : Described) (ps : List LivePoint) → length (points_seen desc ps) ≡ length ps
 count_seen desc ps = length-map (map (point_under (spelling desc)) ps) (point_of desc) ∙ length-map ps (point_under (spelling desc))
 
 pub files : FilesLaw

@@ -12,7 +12,9 @@ use Rattle.dms_running.specs.Telling.{Telling}
 use Rattle.dms_running.specs.Points.{points_of}
 use Rattle.dms_restore.specs.Logging.{telling, points, durable, content}
 use Rattle.dms_wal.specs.declared.running.Running.{Running}
-use Rattle.dms_wal.specs.Database.{view_of}
+use Rattle.dms_wal.specs.Closing.{LeavesUntil}
+use Rattle.dms_wal.specs.Database.{held, view_of}
+use Rattle.dms_wal.specs.Lifting.{lifted}
 use Rattle.dms_store.specs.Spelled.{spelled}
 use Rattle.dms_runner.specs.Answers.{answers_text, last_quiet, script_events}
 use Rattle.dms_runner.specs.Events.{RunEvent, SaidWhole, quiets_of}
@@ -61,6 +63,13 @@ module _ {S : Type 0} (g : Ghosts S) where
   abbrev pub LeavesRun : Running S → Described → S → ℕ → Db → List ℕ → Type 0
   LeavesRun r desc site n db all =
       Runs (g.clock r.log.site) (g.clock site) (RunLeavesFiles (telling (view_of g r.log)) desc (text_of g r.log.site) (points (view_of g r.log)) n db r.next (events_at r desc db all))
+
+  -- The database was closed: at status 0 the files hold all its points, and a stop leaves no other files. Until then each stop left the first so many
+  -- of its points, at least the durable ones, and no other text.
+  pub record ClosesOver (r : Running S) (status : Status) (site : S) : Type 0 where
+    pub leaves : LeavesUntil (held g r) (lifted (telling (view_of g r.log)) r.schema.items (g.clock site))
+    pub points_are : status ≡ Ok → IsTrue g.tells → points_of (telling (view_of g r.log)) (g.files site) ≡ points (view_of g r.log)
+    pub only : status ≡ Ok → IsTrue g.tells → Only (g.files site) (g.clock site)
 
   -- A run of the script over this database ended with this status and this site, and so much of the input was left.
   pub record RunsOver (r : Running S) (desc : Described) (left left' : Option (List ℕ)) (status : Status) (site : S) : Type 0 where
