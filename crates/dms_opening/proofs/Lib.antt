@@ -4,3 +4,4 @@ pub mod Carries
 pub mod Looks
 pub mod Opens
 pub mod Runs
+pub mod Callers

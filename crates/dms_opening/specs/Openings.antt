@@ -47,10 +47,12 @@ pub record HasTrail (total first : ℕ) (files : Files) : Type 0 where
   pub count : ℕ
   pub writes : IsWrittenUpTo total tag first file count files
 
--- Where these bytes are those of a description, there is a count for each of its structures, and no count of 0 stands behind these.
+-- Where these bytes are those of a description, there is a count for each of its structures, and no count of 0 stands behind these; else
+-- there are all 200.
 pub record NamesStructures (schema counts : List ℕ) : Type 0 where
   pub each : (d : Described) → IsWellFormed d → spelling d ≡ schema → length d.structures ≤ length counts
   pub none_behind : (d : Described) → IsWellFormed d → spelling d ≡ schema → length d.structures < length counts → 0 < slice_index_or counts (length counts - 1) 0
+  pub all_left : ((d : Described) → IsWellFormed d → spelling d ≡ schema → ⊥) → length counts ≡ 200
 
 -- Neither the trail nor a point of it is refused. The opening begins a restore by halt/load to the last point, or goes on with the one that
 -- is pending, and these are the restore's point, the next number, the description at the point, and how many blocks each file has there.

@@ -89,7 +89,10 @@ pub(crate) fn look<S: Site>(alloc: Global, found: Found<S>) -> Result<Planned<S>
 {
     match found.scan(alloc, LAST_AUDIT_FILE) {
         Ok(scanned) => plan_scanned(alloc, scanned),
-        Err((fault, found)) => Err((OpenFault::Audit(fault), found.site)),
+        Err((fault, found)) => {
+            let Found { site } = found;
+            Err((OpenFault::Audit(fault), site))
+        }
     }
 }
 

@@ -12,7 +12,6 @@ use Rattle.dms_history.specs.Here.{outcome}
 use Rattle.dms_history.specs.Pick.{count_at, pick, blocks_at}
 use Rattle.dms_history.specs.Entries.{Entry}
 use Rattle.dms_history.specs.EntryEvents.{live_of}
-use Rattle.dms_history.specs.Points.{LivePoint}
 use Rattle.dms_history.proofs.Base.{content_length}
 use Rattle.dms_audfile.specs.BlockLaws.{AreNoBegins}
 use Rattle.dms_audfile.specs.Counting.{CountedAt}
@@ -24,7 +23,7 @@ use Rattle.dms_audfile.specs.declared.fault.AudFault.TheVariants.{Disk, Full}
 use Rattle.dms_running.specs.Running.{entries_now}
 use Rattle.dms_running.specs.Telling.{Telling}
 use Rattle.dms_running.specs.Standing.{IsWhole}
-use Rattle.dms_running.specs.Points.{points_of, next_in, LeavesPointsPrefix}
+use Rattle.dms_running.specs.Points.{DescribedPoint, points_of, next_in, LeavesPointsPrefix}
 use Rattle.dms_running.specs.Restoring.{IsKept, Rewritten, Rewrites}
 use Rattle.dms_running.specs.Begun.{content_at_point}
 use Rattle.dms_running.proofs.Appending.{points_enough}
@@ -76,10 +75,10 @@ pub then_each : (a b c : LogView) → LogRuns a → Reads a → telling b ≡ te
     → LogLeaves a b (points a) (next a) → LeavesEach b c → LogLeaves a c (points a) (next a)
 then_each a b c r read same points_are next_is first run = runs_on first run (λ x p. record {
   count = p.count;
-  enough = omega (arith, points_enough (telling a) (logs.tells a r read) (state a) r.runs read, p.enough, ap (λ (l : List LivePoint). length l) points_are);
-  within = omega (arith, p.within, ap (λ (l : List LivePoint). length l) points_are);
-  is = ap (λ (t : Telling). points_of t x.files) (sym same) ∙ p.is ∙ ap (λ (l : List LivePoint). take p.count l) points_are;
-  not_fallen = omega (arith, p.not_fallen, next_is, ap (λ (t : Telling). next_in t x.files) same, ap (λ (l : List LivePoint). length l) points_are);
+  enough = omega (arith, points_enough (telling a) (logs.tells a r read) (state a) r.runs read, p.enough, ap (λ (l : List DescribedPoint). length l) points_are);
+  within = omega (arith, p.within, ap (λ (l : List DescribedPoint). length l) points_are);
+  is = ap (λ (t : Telling). points_of t x.files) (sym same) ∙ p.is ∙ ap (λ (l : List DescribedPoint). take p.count l) points_are;
+  not_fallen = omega (arith, p.not_fallen, next_is, ap (λ (t : Telling). next_in t x.files) same, ap (λ (l : List DescribedPoint). length l) points_are);
   whole = subst (λ (t : Telling). IsWhole t x.files) same p.whole;
 })
 

@@ -5,8 +5,7 @@ use Rattle.dms_history.specs.Entries.{Entry}
 use Rattle.dms_history.specs.EntryEvents.{events}
 use Rattle.dms_history.specs.Images.{last_after}
 use Rattle.dms_history.specs.Ranges.{told_events}
-use Rattle.dms_history.specs.Points.{LivePoint}
-use Rattle.dms_running.specs.Points.{points_of}
+use Rattle.dms_running.specs.Points.{DescribedPoint, points_of}
 use Rattle.dms_running.proofs.NoRoom.{newest_sealed}
 use Rattle.dms_restore.specs.Logging.{waits, LogView, telling, state, LogRuns, points, next, content, IsChangedBlock, IsNewestSealed, LogLeaves}
 use Rattle.dms_restore.specs.Begins.{LeavesEach}
@@ -27,5 +26,5 @@ changed_newest v r read nothing f k bytes changed is = record {
 -- Where nothing waits, a call that leaves all points that the files hold leaves all points.
 pub each_leave : (a b : LogView) → waits a.end ≡ [] → LeavesEach a b → LogLeaves a b (points a) (next a)
 each_leave a b nothing each =
-    subst (λ (ps : List LivePoint). LogLeaves a b ps (next a)) (sym (all_points (telling a) (state a) nothing))
+    subst (λ (ps : List DescribedPoint). LogLeaves a b ps (next a)) (sym (all_points (telling a) (state a) nothing))
     (subst (λ n. LogLeaves a b (points_of (telling a) a.files) n) (sym (all_next (telling a) (state a) nothing)) each)

@@ -5,7 +5,6 @@ use Rattle.dms_moments.specs.MomentLaws.{runs_weaken}
 use Rattle.dms_site.specs.Files.{Files, Left, Only, stored_of}
 use Rattle.dms_history.specs.Events.{Event}
 use Rattle.dms_history.specs.History.{Pending, next_number}
-use Rattle.dms_history.specs.Points.{LivePoint}
 use Rattle.dms_history.specs.declared.event.FileCount.{FileCount}
 use Rattle.dms_history.specs.Entries.{Entry, control_point, counts_in}
 use Rattle.dms_history.specs.EntryEvents.{events, next_of}
@@ -15,7 +14,7 @@ use Rattle.dms_history.proofs.Sealed.{control_sealed}
 use Rattle.dms_audrec.specs.Reading.{counts_at}
 use Rattle.dms_audfile.specs.Ends.{EndsAt}
 use Rattle.dms_running.specs.Telling.{Telling, IsTelling}
-use Rattle.dms_running.specs.Points.{points_told, points_of, next_in}
+use Rattle.dms_running.specs.Points.{DescribedPoint, points_told, points_of, next_in}
 use Rattle.dms_running.specs.Plans.{Planned}
 use Rattle.dms_running.specs.Running.{State, IsRunning, entries_now, content_now, points_now, next_now}
 use Rattle.dms_running.specs.Begun.{LeavesAll, IsSchemaControl}
@@ -93,7 +92,7 @@ module _ (a b : LogView) (kind : b.end.total ≡ a.end.total) (start : b.first �
     by_next = ap (λ (t : Telling). next_now t (state b)) (sym same_telling) ∙ all_next (telling a) (state b) empty ∙ ap (λ (l : List Entry). next_of l) s.sealed ∙ next_is
 
     pub by_durable : durable b ≡ length (points_of (telling a) a.files)
-    by_durable = ap (λ (l : List LivePoint). length l) (sym (all_points (telling b) (state b) empty) ∙ same_points)
+    by_durable = ap (λ (l : List DescribedPoint). length l) (sym (all_points (telling b) (state b) empty) ∙ same_points)
 
 module _ (p : Pending) (a : LogView) (read : Reads a) (description : List ℕ) (some : 0 < length description) (point next_ : ℕ) (counts : List ℕ) (e : EndsBy p a point next_ counts) where
   tells : IsTelling (telling a)
@@ -119,7 +118,7 @@ module _ (p : Pending) (a : LogView) (read : Reads a) (description : List ℕ) (
       ∙ end_points (telling a) tells p (state a) e.begun.begun read e.restored.only e.restored.restored (counts_at (length counts / 8) counts) e.count list planned (state b) s.sealed s.above nothing in
       let none = e.begun.begun.nothing in
       let up = plan_next (telling a) (state a) p.point (counts_at (length counts / 8) counts) list planned in record {
-        runs = by_runs a b kind start list s (end_runs (telling a) tells p (state a) e.begun.begun read e.restored.only e.restored.restored (counts_at (length counts / 8) counts) e.count list planned (state b) s.sealed s.above nothing s.starts.only);
+        runs = by_runs a b kind start list s (end_runs (telling a) tells p (state a) e.begun.begun read e.restored.only e.restored.restored (counts_at (length counts / 8) counts) e.count list planned (state b) s.sealed s.above nothing (s.found (subst (telling a).found read.2 (e.begun.begun.found read.0 read.1))) s.starts.only);
         entries_are = by_entries a b kind start list s none up all;
         nothing = nothing;
         content_is = ap (λ (t : Telling). content_now t (state b)) (sym same) ∙ end_same (telling a) tells p (state a) e.begun.begun read e.restored.only e.restored.restored (counts_at (length counts / 8) counts) e.count list planned (state b) s.sealed s.above nothing;
@@ -154,12 +153,12 @@ module _ (a : LogView) (r : LogRuns a) (read : Reads a) (description : List ℕ)
       ∙ control_points (telling a) tells_running (state a) r.runs read c.nothing c.only c.written point c.last (counts_at (length counts / 8) counts) c.count controls controls_are (state b) s.sealed s.above nothing in
       let then : points a ≡ points_of (telling a) a.files = all_points (telling a) (state a) c.nothing in
       let up = plan_next (telling a) (state a) point (counts_at (length counts / 8) counts) controls controls_are in record {
-        runs = by_runs a b kind start controls s (control_runs (telling a) tells_running (state a) r.runs read c.nothing c.only c.written point c.last (counts_at (length counts / 8) counts) c.count controls controls_are (state b) s.sealed s.above nothing s.starts.only);
+        runs = by_runs a b kind start controls s (control_runs (telling a) tells_running (state a) r.runs read c.nothing c.only c.written point c.last (counts_at (length counts / 8) counts) c.count controls controls_are (state b) s.sealed s.above nothing (s.found (subst (telling a).found read.2 (r.runs.found read.0 read.1))) s.starts.only);
         entries_are = by_entries a b kind start controls s c.nothing up (all ∙ then);
         nothing = nothing;
         content_same = ap (λ (t : Telling). content_now t (state b)) (sym same) ∙ control_same (telling a) tells_running (state a) r.runs read c.nothing c.only c.written point c.last (counts_at (length counts / 8) counts) c.count controls controls_are (state b) s.sealed s.above nothing;
         points_same = all;
-        all_durable = by_durable a b kind start controls s c.nothing up (all ∙ then) ∙ ap (λ (l : List LivePoint). length l) (sym then);
+        all_durable = by_durable a b kind start controls s c.nothing up (all ∙ then) ∙ ap (λ (l : List DescribedPoint). length l) (sym then);
         next_same = by_next a b kind start controls s c.nothing up (all ∙ then) ∙ sym (all_next (telling a) (state a) c.nothing);
         blocks_same = blocks_same b.files a.files s.above;
         only = s.starts.only;

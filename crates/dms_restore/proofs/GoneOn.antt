@@ -7,12 +7,11 @@ use Rattle.dms_history.specs.Events.{Content, block_in}
 use Rattle.dms_history.specs.History.{Pending}
 use Rattle.dms_history.specs.Pick.{count_at}
 use Rattle.dms_history.specs.Here.{outcome, here_by}
-use Rattle.dms_history.specs.Points.{LivePoint}
 use Rattle.dms_history.specs.Entries.{Entry}
 use Rattle.dms_history.proofs.Base.{content_length}
 use Rattle.dms_history.proofs.Order.{append_none}
 use Rattle.dms_running.specs.Telling.{Telling}
-use Rattle.dms_running.specs.Points.{points_of, next_in, LeavesPointsPrefix}
+use Rattle.dms_running.specs.Points.{DescribedPoint, points_of, next_in, LeavesPointsPrefix}
 use Rattle.dms_running.specs.Begun.{LeavesAll, outcome_now}
 use Rattle.dms_restore.specs.Logging.{LogView, telling, state}
 use Rattle.dms_restore.specs.Begins.{BegunAt, RestoredAt, Restores, LeavesEach}
@@ -25,7 +24,7 @@ pub each_as : (a b : LogView) (later : Clock Left) → telling b ≡ telling a �
     → Runs b.clock later (LeavesPointsPrefix (telling a) (points_of (telling a) a.files) (length (points_of (telling a) a.files)) (next_in (telling a) a.files))
 each_as a b later same points next leaves =
     subst (λ n. Runs b.clock later (LeavesPointsPrefix (telling a) (points_of (telling a) a.files) (length (points_of (telling a) a.files)) n)) next
-    (subst (λ (l : List LivePoint). Runs b.clock later (LeavesPointsPrefix (telling a) l (length l) (next_in (telling b) b.files))) points
+    (subst (λ (l : List DescribedPoint). Runs b.clock later (LeavesPointsPrefix (telling a) l (length l) (next_in (telling b) b.files))) points
     (subst (λ (t : Telling). Runs b.clock later (LeavesPointsPrefix t (points_of (telling b) b.files) (length (points_of (telling b) b.files)) (next_in (telling b) b.files))) same leaves))
 
 pub each_on : (a b : LogView) (later : Clock Left) → telling b ≡ telling a → points_of (telling b) b.files ≡ points_of (telling a) a.files → next_in (telling b) b.files ≡ next_in (telling a) a.files → LeavesEach a b

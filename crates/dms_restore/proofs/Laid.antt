@@ -1,7 +1,7 @@
 -- Entries appended one after another since a start.
 use Rattle.std.proofs.Common.{ℕ, zero, suc, ◌+◌, ◌*◌, ◌≤◌, ◌<◌, ◌≡◌, List, [], ◌∷◌, ◌++◌, length, take, drop, get_or, refl, sym, ◌∙◌, ap, subst, arith}
 use Rattle.std.proofs.lemmas.List.{take_more, take_all, take-append-drop, drop-drop}
-use Rattle.dms_moments.specs.Moments.{Clock, Runs, Steps}
+use Rattle.dms_moments.specs.Moments.{Clock, Now, Runs, Steps}
 use Rattle.dms_moments.specs.MomentLaws.{runs_none, runs_weaken, steps_weaken, steps_on}
 use Rattle.dms_site.specs.Files.{Files, Left, Only}
 use Rattle.dms_history.specs.Entries.{Entry, schema_part}
@@ -16,7 +16,8 @@ use Rattle.dms_running.specs.Telling.{Telling}
 use Rattle.dms_running.specs.Sealing.{SealsSome, AreSealed, Settled}
 use Rattle.dms_running.specs.Running.{State}
 use Rattle.dms_running.specs.Plans.{Planned}
-use Rattle.dms_running.proofs.Planned.{planned_more, lays_none, lays_since, lays_more, lays_sealing, lays_sealed}
+use Rattle.dms_running.proofs.Planned.{planned_more, lays_none, lays_since, lays_more, lays_sealing, lays_sealed, lays_found}
+use Rattle.dms_restore.specs.Finding.{IsFoundFrom}
 use Rattle.dms_restore.specs.Logging.{telling_of, waits, PrintsNothing}
 use Rattle.dms_restore.specs.Laying.{IsAtStart, LaysEnd, SealsSince}
 use Rattle.dms_restore.proofs.Trails.{waits_is, ends_waiting, seals_as, appended_as, sealed_as, settled_as}
@@ -37,7 +38,7 @@ module _ (total : ℕ) (old new : AuditEnd) (first : ℕ) (done : List Entry) (s
   module _ (e : Entry) (later : Clock Left) (steps : (first : ℕ) (waiting : List Entry) → AreNoBegins waiting → EndsAt old first waiting files clock → Steps (ends.Seals old.total old.tag first (waiting ++ e ∷ [])) clock later) where
     entry_steps : Steps (SealsSome (telling_of total first) (waits old ++ e ∷ [])) clock later
     entry_steps = subst (λ n. Steps (SealsSome (telling_of n first) (waits old ++ e ∷ [])) clock later) same
-        (seals_as old.total old.tag first (waits old ++ e ∷ []) clock later (steps first (waits old) l.plain l.ends))
+        (seals_as old first (waits old) files clock l.ends (waits old ++ e ∷ []) later (steps first (waits old) l.plain l.ends))
 
     -- nothing is printed meanwhile
     pub lay_silent : Steps PrintsNothing clock later
@@ -67,18 +68,21 @@ module _ (total : ℕ) (old new : AuditEnd) (first : ℕ) (done : List Entry) (s
     pub lay_sealing_silent : Steps PrintsNothing clock later
     lay_sealing_silent = steps_weaken (steps first (waits old) l.ends) (λ x y now s. s.said)
 
+    sealing_steps : Steps (SealsSome (telling_of total first) (waits old)) clock later
+    sealing_steps = subst (λ n. Steps (SealsSome (telling_of n first) (waits old)) clock later) same (seals_as old first (waits old) files clock l.ends (waits old) later (steps first (waits old) l.ends))
+
     pub lay_sealing : Runs began later (Planned (telling_of total first) done start)
     lay_sealing = lays_sealing (telling_of total first) done start began then_ l.lays later
-        (subst (λ n. Steps (SealsSome (telling_of n first) (waits old)) clock later) same (seals_as old.total old.tag first (waits old) clock later (steps first (waits old) l.ends)))
+        sealing_steps
 
-    pub lay_sealed : (now : Files) → Only now later → ((g : ℕ) → new.file < g → now g ≡ files g)
+    pub lay_sealed : (now : Files) → (x : Left) × Now later x × (x.files ≡ now) → Only now later → ((g : ℕ) → new.file < g → now g ≡ files g)
         → ((first : ℕ) (waiting : List Entry) → EndsAt old first waiting files clock → trail_entries old.total first now ≡ trail_entries old.total first files ++ waiting)
         → ((first : ℕ) (waiting : List Entry) → EndsAt old first waiting files clock → EndsAt new first [] now later)
         → SealsSince total new first done start now later
-    lay_sealed now only behind sealed ends_ =
+    lay_sealed now read only behind sealed ends_ =
         let all : AreSealed (telling_of total first) (waits old) files now = subst (λ n. AreSealed (telling_of n first) (waits old) files now) same (sealed_as old.total new first (waits old) files now behind (sealed first (waits old) l.ends)) in
         let r = lays_sealed (telling_of total first) done start began then_ l.lays now all in
-        record { sealed = r.0; above = r.1; starts = record { ends = ends_ first (waits old) l.ends; only = only } }
+        record { sealed = r.0; found = λ f. subst (IsFoundFrom total first) read.2 (lays_found (telling_of total first) done start began then_ l.lays later sealing_steps read.0 read.1 f); above = r.1; starts = record { ends = ends_ first (waits old) l.ends; only = only } }
 
 -- one silent call after another
 pub both_silent : {a b c : Clock Left} → Steps PrintsNothing a b → Steps PrintsNothing b c → Steps PrintsNothing a c

@@ -32,3 +32,4 @@ pub mod GoneOn
 pub mod Prepared
 pub mod InAudit
 pub mod Standing
+pub mod Sealed

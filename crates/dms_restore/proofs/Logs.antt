@@ -38,7 +38,7 @@ module _ (a : LogView) (r : LogRuns a) (read : Reads a) where
   -- the moments of an entry more
   pub entry_steps : (e : Entry) (later : Clock Left) → ((first : ℕ) (waiting : List Entry) → AreNoBegins waiting → EndsAt a.end first waiting a.files a.clock → Steps (ends.Seals a.end.total a.end.tag first (waiting ++ e ∷ [])) a.clock later)
       → Steps (SealsSome (telling a) (waits a.end ++ e ∷ [])) a.clock later
-  entry_steps e later steps = seals_as a.end.total a.end.tag a.first (waits a.end ++ e ∷ []) a.clock later (steps a.first (waits a.end) plain r.ends)
+  entry_steps e later steps = seals_as a.end a.first (waits a.end) a.files a.clock r.ends (waits a.end ++ e ∷ []) later (steps a.first (waits a.end) plain r.ends)
 
   -- nothing is printed meanwhile
   pub entry_silent : (e : Entry) (later : Clock Left) → ((first : ℕ) (waiting : List Entry) → AreNoBegins waiting → EndsAt a.end first waiting a.files a.clock → Steps (ends.Seals a.end.total a.end.tag first (waiting ++ e ∷ [])) a.clock later)
@@ -89,7 +89,7 @@ module _ (a : LogView) (r : LogRuns a) (read : Reads a) where
       sync_goes = record {
         ends = sealed_ends;
         runs = subst (λ (t : Telling). IsRunning t (state b)) same_telling
-            (sync_runs (telling a) tells (state a) r.runs read (state b) is_sealed nothing_waits (seals_as a.end.total a.end.tag a.first (waits a.end) a.clock b.clock (steps a.first (waits a.end) r.ends))
+            (sync_runs (telling a) tells (state a) r.runs read (state b) is_sealed nothing_waits (seals_as a.end a.first (waits a.end) a.files a.clock r.ends (waits a.end) b.clock (steps a.first (waits a.end) r.ends))
             (subst (λ (t : Telling). Settled t b.files b.clock) (sym same_telling) (settled_as b.end b.first (waits b.end) b.files b.clock sealed_ends)));
       }
 
@@ -109,7 +109,7 @@ module _ (a : LogView) (r : LogRuns a) (read : Reads a) where
   -- what a stop leaves while what waits is sealed
   pub sync_leave : (later : Clock Left) → ((first : ℕ) (waiting : List Entry) → EndsAt a.end first waiting a.files a.clock → Steps (ends.Seals a.end.total a.end.tag first waiting) a.clock later)
       → LeavesPoints (telling a) (points a) (next a) (state a) later
-  sync_leave later steps = sync_leaves (telling a) tells (state a) r.runs read later (seals_as a.end.total a.end.tag a.first (waits a.end) a.clock later (steps a.first (waits a.end) r.ends))
+  sync_leave later steps = sync_leaves (telling a) tells (state a) r.runs read later (seals_as a.end a.first (waits a.end) a.files a.clock r.ends (waits a.end) later (steps a.first (waits a.end) r.ends))
 
   -- ---- the audit has no room for one more entry
 

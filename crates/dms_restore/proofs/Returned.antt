@@ -5,8 +5,8 @@ use Rattle.dms_history.specs.Events.{Content, Stored, back_out, block_in}
 use Rattle.dms_history.specs.EntryEvents.{history_of}
 use Rattle.dms_history.specs.Entries.{Entry}
 use Rattle.dms_history.specs.Pick.{count_at}
-use Rattle.dms_history.specs.Points.{LivePoint}
 use Rattle.dms_history.proofs.Stops.{here_is, outcome_length}
+use Rattle.dms_running.specs.Points.{DescribedPoint}
 use Rattle.dms_running.specs.Running.{AllWritten}
 use Rattle.dms_running.specs.Begun.{outcome_now}
 use Rattle.dms_restore.specs.Logging.{LogView, telling, state, entries, content}
@@ -34,6 +34,6 @@ went_back a b c d m number counts e es by logged begins stands end = record {
   content_is = end.content_is ∙ stands.keeps.outcome_same ∙ begins.leaves;
   points_same = end.points_same ∙ back_points a b c m number counts by begins stands;
   next_same = end.next_same ∙ back_next a b c m number counts by begins stands;
-  all_durable = end.all_durable ∙ ap (λ (l : List LivePoint). length l) (back_points a b c m number counts by begins stands);
+  all_durable = end.all_durable ∙ ap (λ (l : List DescribedPoint). length l) (back_points a b c m number counts by begins stands);
   written = ended_written a b m c es stands d end;
 }

@@ -4,6 +4,7 @@ use Rattle.std.proofs.lemmas.Bool.{cases_lt, cases_eq}
 use Rattle.std.proofs.lemmas.List.{take_all}
 use Rattle.dms_history.proofs.Order.{eq_of, append_none}
 use Rattle.dms_history.proofs.Runs.{has_push}
+use Rattle.dms_running.proofs.Described.{ends_there, place_is_point}
 use Rattle.dms_running.proofs.OneMore.{history_entry, history_schema}
 use Rattle.std.proofs.Common.{append_assoc, ◌-◌, ℕ, zero, suc, ◌+◌, ◌≤◌, ◌<◌, ◌≡◌, inl, inr, Bool, true, false, cond, List, [], ◌∷◌, ◌++◌, length, take, drop, get_or, Option, Some, None, refl, sym, ◌∙◌, ap, subst, arith, length-append, length-drop}
 use Rattle.std.proofs.lemmas.Bool.Decides.{nat_tests}
@@ -34,71 +35,6 @@ use Rattle.dms_restore.specs.SchemaSpans.{part_bytes, span_bytes, last_span, rea
 
 true_not_false : true ≡ false → ⊥
 true_not_false e = absurd cc
-
--- ---- places and points
-
--- the live events up to a point are those of the live entries up to its place
-events_front : (entries : List Entry) (n : ℕ) → all_changes (logged (until_first (is_place n) (live_entries entries))) ≡ until_first (is_point n) (live_of entries)
-events_front entries n =
-    ap all_changes (cut_logged n (live_entries entries) no_parts) ∙ changes_until n (logged (live_entries entries))
-    ∙ ap (λ (l : List Logged). until_first (is_point n) (all_changes l)) (live_of_entries entries) ∙ ap (λ (l : List Event). until_first (is_point n) l) (sym (live_of_ranges (logged entries)))
-
-none_front : (p : Event → Bool) (es : List Event) → until_first p es ≡ [] → has p es ≡ false
-none_front p [] none = refl
-none_front p (e ∷ es) none = elim (bool_cases (p e)) [
-  | inl on ↦ absurd (not_nothing e [] (sym (ap (λ k. cond k (e ∷ []) (cond (has p es) (e ∷ until_first p es) [])) on) ∙ none))
-  | inr off ↦ elim (bool_cases (has p es)) [
-    | inl more ↦ absurd (not_nothing e (until_first p es) (sym (λ i. cond (off i) (e ∷ []) (cond (more i) (e ∷ until_first p es) [])) ∙ none))
-    | inr rest ↦ λ i. off i || rest i
-  ]
-]
-  where
-    not_nothing : (x : Event) (xs : List Event) → x ∷ xs ≡ [] → ⊥
-    not_nothing x xs e = absurd cc
-
--- a cut at a place ends with it
-pub record EndsThere (n : ℕ) (es : List Entry) : Type 0 where
-  pub before : List Entry
-  pub last : Entry
-  pub at : is_place n last ≡ true
-  pub is : until_first (is_place n) es ≡ before ++ last ∷ []
-
-ends_there : (n : ℕ) (es : List Entry) → has (is_place n) es ≡ true → EndsThere n es
-ends_there n [] found = absurd (true_not_false (sym found))
-ends_there n (e ∷ es) found = elim (bool_cases (is_place n e)) [
-  | inl on ↦ record { before = []; last = e; at = on; is = ap (λ k. cond k (e ∷ []) (cond (has (is_place n) es) (e ∷ until_first (is_place n) es) [])) on }
-  | inr off ↦
-      let more : has (is_place n) es ≡ true = ap (λ k. k || has (is_place n) es) (sym off) ∙ found in
-      let r = ends_there n es more in
-      record { before = e ∷ r.before; last = r.last; at = r.at; is = (λ i. cond (off i) (e ∷ []) (cond (more i) (e ∷ until_first (is_place n) es) [])) ∙ ap (λ (l : List Entry). e ∷ l) r.is }
-]
-
--- a place says one event
-one_event : (n : ℕ) (es : List Entry) (e : Entry) → is_place n e ≡ true → (x : Event) × (all_changes (logged (es ++ e ∷ [])) ≡ all_changes (logged es) ++ x ∷ [])
-one_event n es (schema_part part parts bytes) on = absurd (true_not_false (sym on))
-one_event n es (image f b before after) on = absurd (true_not_false (sym on))
-one_event n es (byte_range f b place bytes) on = absurd (true_not_false (sym on))
-one_event n es (quiet_point m) on = (_, ap all_changes (logged_append es (quiet_point m ∷ []) no_parts) ∙ changes_push (logged es) _)
-one_event n es (control_point m next counts) on = (_, ap all_changes (logged_append es (control_point m next counts ∷ []) no_parts) ∙ changes_push (logged es) _)
-one_event n es (begin_restore m kind) on = absurd (true_not_false (sym on))
-
-something : (xs : List Event) (x : Event) → xs ++ x ∷ [] ≡ [] → ⊥
-something [] x e = absurd cc
-something (y ∷ xs) x e = absurd cc
-
--- a point has its place among the live entries exactly where it has one among the live events
-pub place_is_point : (entries : List Entry) (n : ℕ) → has (is_place n) (live_entries entries) ≡ has (is_point n) (live_of entries)
-unfolding all_changes
-place_is_point entries n = elim (bool_cases (has (is_place n) (live_entries entries))) [
-  | inl on ↦ elim (bool_cases (has (is_point n) (live_of entries))) [
-    | inl found ↦ on ∙ sym found
-    | inr none ↦
-        let r = ends_there n (live_entries entries) on in
-        let x = one_event n r.before r.last r.at in
-        absurd (something (all_changes (logged r.before)) x.0 (sym x.1 ∙ ap (λ (l : List Entry). all_changes (logged l)) (sym r.is) ∙ events_front entries n ∙ until_none (is_point n) (live_of entries) none))
-  ]
-  | inr off ↦ off ∙ sym (none_front (is_point n) (live_of entries) (sym (events_front entries n) ∙ ap (λ (l : List Entry). all_changes (logged l)) (until_none (is_place n) (live_entries entries) off)))
-]
 
 -- ---- spans
 

@@ -8,14 +8,13 @@ use Rattle.dms_history.specs.Places.{IsLive}
 use Rattle.dms_history.specs.History.{Pending, last_point}
 use Rattle.dms_history.specs.Pick.{blocks_at}
 use Rattle.dms_history.specs.Here.{restore_pick, outcome}
-use Rattle.dms_history.specs.Points.{LivePoint}
 use Rattle.dms_history.specs.Entries.{Entry}
 use Rattle.dms_history.specs.EntryEvents.{history_of, live_of, next_of}
 use Rattle.dms_history.proofs.Order.{append_none}
 use Rattle.dms_audfile.specs.Ends.{Grown}
 use Rattle.dms_audfile.specs.TrailEntries.{trail_entries}
 use Rattle.dms_audfile.specs.Trail.{trail_from}
-use Rattle.dms_running.specs.Points.{points_told, points_of, next_in}
+use Rattle.dms_running.specs.Points.{DescribedPoint, points_told, points_of, next_in}
 use Rattle.dms_running.specs.Running.{entries_now, LeavesPoints}
 use Rattle.dms_running.specs.Begun.{outcome_now}
 use Rattle.dms_restore.specs.Logging.{waits, LogView, telling, state, LogRuns, points, next}
@@ -68,7 +67,7 @@ module _ (v : LogView) (begins : Bool) (point : ℕ) (p : Pending) (s : MayOpen 
     }
 
   pub leaves_new : (later : Clock Left) → LeavesPoints (telling v) (points v) (next v) (state v) later → LeavesPoints (telling v) (points_of (telling v) v.files) (next_in (telling v) v.files) (state v) later
-  leaves_new later leaves = subst (λ n. LeavesPoints (telling v) (points_of (telling v) v.files) n (state v) later) next_found (subst (λ (l : List LivePoint). LeavesPoints (telling v) l (next v) (state v) later) points_found leaves)
+  leaves_new later leaves = subst (λ n. LeavesPoints (telling v) (points_of (telling v) v.files) n (state v) later) next_found (subst (λ (l : List DescribedPoint). LeavesPoints (telling v) l (next v) (state v) later) points_found leaves)
 
   pub begun_found : begins ≡ false → BegunAt p v
   begun_found old = opens_begun v s.start s.whole p (s.opening.goes_on old).0 (s.opening.goes_on old).1

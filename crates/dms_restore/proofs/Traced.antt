@@ -45,7 +45,7 @@ whole_take files zero xs all = tt
 whole_take files (suc k) [] all = tt
 whole_take files (suc k) (x ∷ xs) all = (all.0, whole_take files k xs all.1)
 
-whole_drop : (files : Files) (k : ℕ) (xs : List LiveEntry) → AllStandWhole files xs → AllStandWhole files (drop k xs)
+pub whole_drop : (files : Files) (k : ℕ) (xs : List LiveEntry) → AllStandWhole files xs → AllStandWhole files (drop k xs)
 whole_drop files zero xs all = all
 whole_drop files (suc k) [] all = tt
 whole_drop files (suc k) (x ∷ xs) all = whole_drop files k xs all.1

@@ -1,8 +1,10 @@
 -- A trail as entries of a database.
-use Rattle.std.proofs.Common.{ℕ, zero, suc, ◌+◌, ◌*◌, ◌≤◌, ◌<◌, ◌≡◌, ◌⊎◌, inl, inr, false, cond, List, [], ◌∷◌, ◌++◌, map, length, take, drop, Option, Some, None, refl, sym, ◌∙◌, ap, subst, arith}
+use Rattle.std.proofs.Common.{ℕ, zero, suc, ◌+◌, ◌*◌, ◌≤◌, ◌<◌, ◌≡◌, ◌⊎◌, inl, inr, Bool, true, false, cond, List, [], ◌∷◌, ◌++◌, map, length, take, drop, Option, Some, None, refl, sym, ◌∙◌, ap, subst, arith}
 use Rattle.std.specs.Option.{option_copied}
 use Rattle.std.specs.Borrow.{Bor}
+use Rattle.std.specs.Prelude.{◌&&◌, nat_lt, nat_le}
 use Rattle.std.proofs.lemmas.List.{length-take}
+use Rattle.std.proofs.lemmas.Bool.Decides.{nat_tests}
 use Rattle.dms_moments.specs.Moments.{Clock, Steps}
 use Rattle.dms_moments.specs.MomentLaws.{steps_weaken}
 use Rattle.dms_site.specs.Files.{Files, Left, InFile, Torn, OnDisk}
@@ -19,12 +21,21 @@ use Rattle.dms_audfile.specs.Trail.{trail_from}
 use Rattle.dms_audfile.specs.TrailEntries.{entry_of, entries_of, entries_in, trail_entries}
 use Rattle.dms_audfile.specs.Ends as ends
 use Rattle.dms_audfile.specs.Ends.{unsealed, EndsAt, Appends}
+use Rattle.dms_audfile.specs.Sealing.{IsWrittenUpTo}
+use Rattle.dms_audfile.specs.Scanning.{entry_in}
+use Rattle.dms_audfile.specs.TrailLaws.{read_trail, all_of}
+use Rattle.dms_audfile.specs.Database.{HasDatabase}
+use Rattle.dms_audfile.proofs.Again.{scans_again}
 use Rattle.dms_audfile.proofs.BlockRead.{block_is_read}
+use Rattle.dms_audfile.proofs.Followed.{scans_trail}
 use Rattle.dms_audfile.proofs.Growing.{writes_same}
 use Rattle.dms_audfile.proofs.Ended.{entries_settled}
+use Rattle.dms_audfile.proofs.Kept.{found_is_kept}
 use Rattle.dms_running.specs.Telling.{IsTelling}
 use Rattle.dms_running.specs.Sealing.{SealsSome, Appended, AreSealed, Settled}
 use Rattle.dms_running.specs.Running.{AllPlain}
+use Rattle.dms_restore.specs.Dumped.{no_dump, dump_of, dumps_of}
+use Rattle.dms_restore.specs.Finding.{IsFoundFrom}
 use Rattle.dms_restore.specs.Logging.{telling_of, waits}
 
 -- the trail depends on as many files as it may have
@@ -38,8 +49,67 @@ trail_entries_low : (total first : ℕ) → first ≤ 20000 → (x y : Files) �
 unfolding trail_entries
 trail_entries_low total first low x y same = ap entries_in (trail_low 10000 total first x y (λ g from upto. same g (omega (arith, upto, low))))
 
+-- ---- dumps
+
+dump_same : (x y : Files) (d : ℕ) (b : Bool) → (b ≡ true → x (20000 + d) ≡ y (20000 + d)) → cond b (dump_of (x (20000 + d))) no_dump ≡ cond b (dump_of (y (20000 + d))) no_dump
+dump_same x y d true same = ap dump_of (same refl)
+dump_same x y d false same = refl
+
+dump_numbers : (d : ℕ) → nat_lt 0 d && nat_le d 10000 ≡ true → (0 < d) × (d ≤ 10000)
+dump_numbers d on = (grind (arith, nat_tests), grind (arith, nat_tests))
+
+dumps_same : (x y : Files) → ((g : ℕ) → 20000 < g → g ≤ 30000 → x g ≡ y g) → dumps_of x ≡ dumps_of y
+dumps_same x y same =
+    λ i. λ d. dump_same x y d (nat_lt 0 d && nat_le d 10000) (λ on. let n = dump_numbers d on in same (20000 + d) (omega (arith, n.0)) (omega (arith, n.1))) i
+
+-- ---- scanning
+
+-- structure files don't count
+found_stays : (total first : ℕ) (x y : Files) → ((g : ℕ) → g ≤ 30000 → x g ≡ y g) → IsFoundFrom total first y → IsFoundFrom total first x
+found_stays total first x y same f =
+    let t = f.finds.trail in
+    let k = found_is_kept t.first t.last y f.finds.placed t.span.order t.is in
+    let below : (g : ℕ) → t.first ≤ g → g ≤ k.file → x g ≡ y g = λ g from upto. same g (omega (arith, upto, k.low, t.span.high)) in
+    let one = scans_trail k.total k.tag t.first k.file k.count t.last 10000 x (writes_same k.total k.tag t.first k.file k.count y x k.writes below) k.low k.high (omega (arith, k.low, t.span.low, t.span.high)) in
+    let two = scans_trail k.total k.tag t.first k.file k.count t.last 10000 y k.writes k.low k.high (omega (arith, k.low, t.span.low, t.span.high)) in
+    let trail : trail_from 10000 k.total t.first x ≡ trail_from 10000 k.total t.first y = trail_low 10000 k.total t.first x y (λ g from upto. same g (omega (arith, upto, t.span.order, t.span.high))) in
+    record {
+      finds = record {
+        placed = f.finds.placed;
+        trail = record {
+          database = subst (λ (l : List ℕ). HasDatabase l) (sym (same 1 (omega arith))) t.database;
+          first = t.first;
+          last = t.last;
+          span = record {
+            low = t.span.low;
+            order = t.span.order;
+            high = t.span.high;
+            absent = λ g above upto. same g (omega (arith, upto)) ∙ t.span.absent g above upto;
+            present = λ g from upto. subst (λ (l : List ℕ). 0 < length l) (sym (same g (omega (arith, upto, t.span.high)))) (t.span.present g from upto);
+            before = λ g low next. same g (omega (arith, next, t.span.order, t.span.high)) ∙ t.span.before g low next;
+          };
+          is = one ∙ ap (λ (l : List (List ℕ)). all_of t.first (read_trail k.total t.first 1 l)) trail ∙ sym two ∙ t.is;
+        };
+        are = f.finds.are ∙ sym (trail_entries_low total first (omega (arith, f.first_is, t.span.order, t.span.high)) x y same);
+      };
+      first_is = f.first_is;
+    }
+
+-- what is sealed behind a trail is found too
+pub found_sealed : (total tag first g n : ℕ) (w : List Entry) (y x : Left) → IsWrittenUpTo total tag first g n y.files → ends.Seals total tag first w y x → IsFoundFrom total first y.files → IsFoundFrom total first x.files
+found_sealed total tag first g n w y x writes seals f =
+    let t = f.finds.trail in
+    let from = f.first_is in
+    let s : ends.Seals total tag t.first w y x = subst (λ k. ends.Seals total tag k w y x) (sym from) seals in
+    let r = scans_again total tag g n w y x f.finds.placed t (subst (λ k. IsWrittenUpTo total tag k g n y.files) (sym from) writes) s in
+    let old : map entry_in f.finds.placed ≡ trail_entries total t.first y.files = f.finds.are ∙ ap (λ k. trail_entries total k y.files) (sym from) in
+    subst (λ k. IsFoundFrom total k x.files) from (record {
+      finds = record { placed = r.0.placed; trail = r.0.trail; are = r.0.are ∙ ap (λ (l : List Entry). l ++ take s.some w) old ∙ sym s.entries };
+      first_is = r.1;
+    })
+
 pub is_telling : (total first : ℕ) → first ≤ 20000 → IsTelling (telling_of total first)
-is_telling total first low = record { entries_low = trail_entries_low total first low; dumps_between = λ x y same. refl }
+is_telling total first low = record { entries_low = trail_entries_low total first low; dumps_between = dumps_same; found_low = found_stays total first }
 
 pub first_low : (end : AuditEnd) (first : ℕ) (w : List Entry) (files : Files) (clock : Clock Left) → EndsAt end first w files clock → first ≤ 20000
 first_low end first w files clock e = omega (arith, e.writes.order, end.high)
@@ -77,8 +147,15 @@ plain_waits w plain kind = elim kind [
 
 -- ---- the moments and answers of the audit
 
-pub seals_as : (total tag first : ℕ) (w : List Entry) (old new : Clock Left) → Steps (ends.Seals total tag first w) old new → Steps (SealsSome (telling_of total first) w) old new
-seals_as total tag first w old new steps = steps_weaken steps (λ y x now s. record { some = s.some; sealed = s.entries; above = s.above; said = s.said })
+pub seals_as : (end : AuditEnd) (first : ℕ) (waiting : List Entry) (files : Files) (old : Clock Left) → EndsAt end first waiting files old → (w : List Entry) (new : Clock Left) → Steps (ends.Seals end.total end.tag first w) old new
+    → Steps (SealsSome (telling_of end.total first) w) old new
+seals_as end first waiting files old e w new steps = steps_weaken steps (λ y x now s. record {
+    some = s.some;
+    sealed = s.entries;
+    found = found_sealed end.total end.tag first end.file end.count w y x (writes_same end.total end.tag first end.file end.count files y.files e.writes (λ g from upto. e.settled g from upto y now)) s;
+    above = s.above;
+    said = s.said;
+})
 
 pub appended_as : (total : ℕ) (new : AuditEnd) (first : ℕ) (es : List Entry) (old later : Files) (clock : Clock Left) → new.total ≡ total → ((g : ℕ) → new.file < g → later g ≡ old g) → Appends new first es old later clock
     → Appended (telling_of total first) es old later (waits new)

@@ -1,17 +1,23 @@
 -- A log that goes back to its last point.
-use Rattle.std.specs.Prelude.{ℕ, ◌/◌, ◌≡◌, ◌⊎◌, List, ◌∷◌, ◌++◌, length}
+use Rattle.std.specs.Prelude.{ℕ, ◌/◌, ◌≡◌, ◌⊎◌, List, [], ◌∷◌, ◌++◌, length}
+use Rattle.dms_moments.specs.Moments.{Steps}
 use Rattle.dms_site.specs.declared.site.Site.{Ghosts}
+use Rattle.dms_site.specs.Files.{Files, Same}
 use Rattle.dms_history.specs.History.{Pending}
 use Rattle.dms_history.specs.Entries.{Entry, begin_restore, by_back_out, counts_in}
+use Rattle.dms_history.specs.EntryEvents.{live_of}
 use Rattle.dms_audrec.specs.Reading.{counts_at}
+use Rattle.dms_audfile.specs.Ends.{Grown, Seals}
 use Rattle.dms_audfile.specs.declared.fault.AudFault.{AudFault}
 use Rattle.dms_audfile.specs.declared.fault.AudFault.TheVariants.{Disk, Full, Memory}
 use Rattle.dms_running.specs.Running.{AllWritten}
 use Rattle.dms_running.specs.Begun.{content_at_point}
 use Rattle.dms_restore.specs.declared.log.Log.{Log}
-use Rattle.dms_restore.specs.Logging.{LogView, view, telling, state, LogRuns, entries, points, durable, next, content}
+use Rattle.dms_restore.specs.Logging.{LogView, view, telling, state, waits, LogRuns, entries, points, durable, next, content, LogsNothing}
 use Rattle.dms_restore.specs.Laying.{schema_control}
 use Rattle.dms_restore.specs.Begins.{LastIs, BegunAt, RestoredAt, Restores}
+use Rattle.dms_restore.specs.declared.told.Told.{Told}
+use Rattle.dms_restore.specs.Table.{IsTable}
 
 -- a log over what its site tells
 abbrev pub seen : {S : Type 0} → Ghosts S → Log S → LogView
@@ -29,6 +35,24 @@ pub record GoesBackBy (v : LogView) (m number : ℕ) (counts : List ℕ) : Type 
   pub last : LastIs v m
   pub next_is : number ≡ next v
   pub count : (f : ℕ) → counts_in (counts_at (length counts / 8) counts) f ≡ length (content_at_point (telling v) (state v) m f)
+
+-- What waited was sealed, and no more was done: nothing waits, entries, points, next number, content and structure files are the same, and
+-- all points are durable. At each moment a stop left what it could leave before, with the first of the entries that waited sealed besides.
+pub record SealedAlone (a b : LogView) : Type 0 where
+  pub runs : LogRuns b
+  pub same : LogsNothing a b
+  pub nothing : waits b.end ≡ []
+  pub all_durable : durable b ≡ length (points a)
+  pub steps : Steps (Seals a.end.total a.end.tag a.first (waits a.end)) a.clock b.clock
+
+-- The files are the same, and a stop left only what it could leave before.
+pub record FilesStay (a b : LogView) : Type 0 where
+  pub files_same : b.files ≡ a.files
+  pub steps : Steps Same a.clock b.clock
+
+-- Whatever is sealed behind these entries, the table is the one of their last point m.
+abbrev pub ServesBehind : LogView → ℕ → List Told → Type 0
+ServesBehind v m table = (new : Files) → Grown v.end.total v.first v.files new → IsTable (live_of (entries v)) m new table
 
 -- what a back-out seals: a Begin, and then the whole Schema and its Control
 abbrev pub back_entries : ℕ → List ℕ → ℕ → List ℕ → List Entry

@@ -11,6 +11,7 @@ use Rattle.dms_audfile.specs.TrailEntries.{trail_entries}
 use Rattle.dms_audfile.specs.Ends.{EndsAt}
 use Rattle.dms_restore.specs.Bodies.{bodies}
 use Rattle.dms_running.specs.Plans.{Lays}
+use Rattle.dms_restore.specs.Finding.{IsFoundFrom}
 use Rattle.dms_restore.specs.Logging.{telling_of, waits}
 
 -- the whole Schema of a description, and directly behind it a Control with these counts
@@ -28,8 +29,9 @@ pub record LaysEnd (total : ℕ) (end : AuditEnd) (first : ℕ) (done : List Ent
   pub plain : AreNoBegins (waits end)
   pub lays : Lays (telling_of total first) done start began (record { waiting = waits end; files = files; clock = clock })
 
--- These entries were sealed since a start, and it is one again.
+-- These entries were sealed since a start, scanning finds them where it found those of the start, and it is one again.
 pub record SealsSince (total : ℕ) (end : AuditEnd) (first : ℕ) (entries : List Entry) (start files : Files) (clock : Clock Left) : Type 0 where
   pub sealed : trail_entries total first files ≡ trail_entries total first start ++ entries
+  pub found : IsFoundFrom total first start → IsFoundFrom total first files
   pub above : (g : ℕ) → 20000 < g → files g ≡ start g
   pub starts : IsAtStart end first files clock

@@ -1,3 +1,5 @@
+pub mod Dumped
+pub mod Finding
 pub mod Logging
 pub mod Table
 pub mod Bodies

@@ -7,8 +7,6 @@ use Rattle.dms_history.specs.Replay.{with_block}
 use Rattle.dms_history.specs.Lists.{after_last}
 use Rattle.dms_history.specs.Places.{is_control}
 use Rattle.dms_history.specs.Images.{last_after}
-use Rattle.dms_history.specs.Pick.{Dumps}
-use Rattle.dms_history.specs.Points.{LivePoint}
 use Rattle.dms_history.specs.Entries.{Entry, image, quiet_point}
 use Rattle.dms_history.specs.EntryEvents.{events, live_of}
 use Rattle.dms_audfile.specs.declared.audit_end.AuditEnd.{AuditEnd}
@@ -17,15 +15,14 @@ use Rattle.dms_audfile.specs.Unsealed.{block_with}
 use Rattle.dms_audfile.specs.TrailEntries.{entries_of, trail_entries}
 use Rattle.dms_audfile.specs.Ends.{unsealed, EndsAt}
 use Rattle.dms_running.specs.Telling.{Telling}
+use Rattle.dms_running.specs.Points.{DescribedPoint}
 use Rattle.dms_running.specs.Running.{State, entries_now, next_now, points_now, durable_now, here_now, content_now, IsRunning, IsChanged, LeavesPoints}
-
--- No dump is read yet: while no restore by a dump is pending, none counts.
-abbrev pub dumps_in : Files → Dumps
-dumps_in files d = record { point = 0; blocks = λ f. [] }
+use Rattle.dms_restore.specs.Dumped.{dumps_of}
+use Rattle.dms_restore.specs.Finding.{IsFoundFrom}
 
 -- what files tell of which the trail begins with file `first` and has so many blocks a file
 abbrev pub telling_of : ℕ → ℕ → Telling
-telling_of total first = record { first = first == 10001; entries = trail_entries total first; dumps = dumps_in }
+telling_of total first = record { first = first == 10001; entries = trail_entries total first; dumps = dumps_of; found = IsFoundFrom total first }
 
 -- the entries that wait: those of the block that is sealed next
 unfoldable pub waits : AuditEnd → List Entry
@@ -44,6 +41,14 @@ view end first files clock = record { end = end; first = first; files = files; c
 abbrev pub telling : LogView → Telling
 telling v = telling_of v.end.total v.first
 
+-- which trail it is: how many blocks its files have, and its first file
+pub record Trail : Type 0 where
+  pub total : ℕ
+  pub first : ℕ
+
+abbrev pub trail_of : LogView → Trail
+trail_of v = record { total = v.end.total; first = v.first }
+
 abbrev pub state : LogView → State
 state v = record { waiting = waits v.end; files = v.files; clock = v.clock }
 
@@ -57,13 +62,13 @@ pub record LogRuns (v : LogView) : Type 0 where
   pub runs : IsRunning (telling v) (state v)
 
 -- the points so far, how many of them each stop leaves, the one that a quiet point would make, the next number, the content
-abbrev pub points : LogView → List LivePoint
+abbrev pub points : LogView → List DescribedPoint
 points v = points_now (telling v) (state v)
 
 abbrev pub durable : LogView → ℕ
 durable v = durable_now (telling v) (state v)
 
-abbrev pub here : LogView → LivePoint
+abbrev pub here : LogView → DescribedPoint
 here v = here_now (telling v) (state v)
 
 abbrev pub next : LogView → ℕ
@@ -83,7 +88,7 @@ abbrev pub IsChangedBlock : LogView → ℕ → ℕ → Type 0
 IsChangedBlock v f b = IsChanged (telling v) (state v) f b
 
 -- A stop from then to now left the first so many of these points, at least those that were durable then, or what it could leave then.
-abbrev pub LogLeaves : LogView → LogView → List LivePoint → ℕ → Type 0
+abbrev pub LogLeaves : LogView → LogView → List DescribedPoint → ℕ → Type 0
 LogLeaves a b points next = LeavesPoints (telling a) points next (state a) b.clock
 
 -- nothing is printed

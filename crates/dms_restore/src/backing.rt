@@ -1,6 +1,6 @@
 //! Going back to the last point, over a log that is lent.
 
-ghost use Rattle.std.specs.Prelude.{◌≡◌, ◌⊎◌, ◌+◌, ◌/◌, ◌<◌, ◌≤◌, ◌++◌, [], ◌∷◌, length, OnOk, IfErr, IsErrOf, IsTrue};
+ghost use Rattle.std.specs.Prelude.{◌≡◌, ◌⊎◌, ◌+◌, ◌/◌, ◌<◌, ◌≤◌, ◌++◌, [], ◌∷◌, length, OnOk, IfOk, IfErr, IsErrOf, IsTrue};
 ghost use Rattle.dms_moments.specs.Moments.{Steps};
 ghost use Rattle.dms_history.specs.Events.{back_out};
 ghost use Rattle.dms_history.specs.History.{Pending};
@@ -8,16 +8,17 @@ ghost use Rattle.dms_history.specs.Entries.{begin_restore, by_back_out, control_
 ghost use Rattle.dms_audrec.specs.Spelling.{IsEntry};
 ghost use Rattle.dms_audrec.specs.Reading.{counts_at};
 ghost use Rattle.dms_audfile.specs.Counting.{CountedAt};
+ghost use Rattle.dms_audfile.specs.Ends.{Grown};
 ghost use Rattle.dms_restore.specs.Logging as logs;
-ghost use Rattle.dms_restore.specs.Logging.{entries, points, PrintsNothing, LogLeaves, LogRuns};
+ghost use Rattle.dms_restore.specs.Logging.{Ends, entries, waits, points, PrintsNothing, LogLeaves, LogRuns};
 ghost use Rattle.dms_restore.specs.Begins.{LastIs, begun_to, BegunAt, BeginsRestore, LeavesEach};
 ghost use Rattle.dms_restore.specs.Laying.{schema_control};
 ghost use Rattle.dms_restore.specs.Endings.{EndsBy, EndedAt};
-ghost use Rattle.dms_restore.specs.BackOuts.{back_entries, seen, StandsAll, GoesBackBy, WentBackTo, IsDiskOrMemory, IsBackFault};
+ghost use Rattle.dms_restore.specs.BackOuts.{back_entries, seen, StandsAll, GoesBackBy, WentBackTo, SealedAlone, FilesStay, ServesBehind, IsDiskOrMemory, IsBackFault};
 ghost use Rattle.dms_restore.specs.Table.{AreBlocks, IsTable};
 
 use crate::laying::seal_control;
-use crate::rereading::{disk_or_memory, pending_told};
+use crate::rereading::{disk_or_memory, point_told};
 use crate::restoring::write_all;
 use crate::{Log, Told};
 use dms_audfile::AudFault;
@@ -35,11 +36,13 @@ impl<S: Site> Log<S> {
         ensures begun { OnOk result (IsTrue S.tells → BegunAt (begun_to (seen S.Site self.old) point back_out) (seen S.Site self.new)) }
         ensures keeps { OnOk result (IsTrue S.tells → BeginsRestore (seen S.Site self.old) (seen S.Site self.new) point back_out) }
         ensures logs { OnOk result (IsTrue S.tells → entries (seen S.Site self.new) ≡ entries (seen S.Site self.old) ++ begin_restore point by_back_out ∷ []) }
+        ensures grown { OnOk result (IsTrue S.tells → waits self.old.end ≡ [] → Grown self.old.end.total self.old.first (S.files self.old.site) (S.files self.new.site)) }
         ensures moments { IsTrue S.tells → let a = seen S.Site self.old in LogLeaves a (seen S.Site self.new) (points a) (logs.next a) }
         ensures silent { IsTrue S.tells → Steps PrintsNothing (S.clock self.old.site) (S.clock self.new.site) }
         ensures kind { (self.new.end.total ≡ self.old.end.total) × (self.new.end.tag ≡ self.old.end.tag) × (self.new.end.limit ≡ self.old.end.limit) × (self.new.first ≡ self.old.first) }
         ensures only { IfErr result (λ e. (e ≡ AudFault.Disk) ⊎ (e ≡ AudFault.Full self.old.end.limit)) }
         ensures full { IsErrOf result (AudFault.Full self.old.end.limit) → (self.new.end.used ≡ 0) × (10000 + self.old.end.limit < self.new.end.file) }
+        ensures ends { IsErrOf result (AudFault.Full self.old.end.limit) → IsTrue S.tells → Ends (seen S.Site self.new) }
         ensures said { S.said self.new.site ≡ S.said self.old.site }
         ensures same_site { S.same_site self.old.site self.new.site }
         ensures disk { CountedAt (IsErrOf result AudFault.Disk) (S.disk_faults self.old.site) (S.disk_faults self.new.site) }
@@ -62,6 +65,7 @@ impl<S: Site> Log<S> {
             → Steps PrintsNothing (S.clock self.old.site) (S.clock self.new.site) }
         ensures kind { (self.new.end ≡ self.old.end) × (self.new.first ≡ self.old.first) }
         ensures only { IfErr result IsDiskOrMemory }
+        ensures memory { IsErrOf result AudFault.Memory → (p : Pending) → IsTrue S.tells → IsTable p.entries p.point (S.files self.old.site) table.now → ⊥ }
         ensures said { S.said self.new.site ≡ S.said self.old.site }
         ensures same_site { S.same_site self.old.site self.new.site }
         ensures disk { CountedAt (IsErrOf result AudFault.Disk) (S.disk_faults self.old.site) (S.disk_faults self.new.site) }
@@ -75,27 +79,6 @@ impl<S: Site> Log<S> {
             Ok(()) => Ok(()),
             Err(_) => Err(AudFault::Disk),
         }
-    }
-
-    /// Writes each block as the audit tells it at the point of the pending restore, and syncs.
-    ///
-    /// Reads the whole trail first. Answers Disk where a call of the site failed, and Memory.
-    fn restore_back(&mut self, alloc: Global) -> Result<(), AudFault>
-        ensures stands { OnOk result ((p : Pending) → IsTrue S.tells → BegunAt p (seen S.Site self.old) → StandsAll p (seen S.Site self.old) (seen S.Site self.new)) }
-        ensures moments { (p : Pending) → IsTrue S.tells → BegunAt p (seen S.Site self.old) → LeavesEach (seen S.Site self.old) (seen S.Site self.new) }
-        ensures silent { (p : Pending) → IsTrue S.tells → BegunAt p (seen S.Site self.old) → Steps PrintsNothing (S.clock self.old.site) (S.clock self.new.site) }
-        ensures kind { (self.new.end ≡ self.old.end) × (self.new.first ≡ self.old.first) }
-        ensures only { IfErr result IsDiskOrMemory }
-        ensures said { S.said self.new.site ≡ S.said self.old.site }
-        ensures same_site { S.same_site self.old.site self.new.site }
-        ensures disk { CountedAt (IsErrOf result AudFault.Disk) (S.disk_faults self.old.site) (S.disk_faults self.new.site) }
-        ensures say_faults { S.say_faults self.new.site ≡ S.say_faults self.old.site }
-    {
-        let table = match pending_told(alloc, &mut self.site, self.end.total, self.first) {
-            Ok(table) => table,
-            Err(fault) => return Err(fault),
-        };
-        self.restore_told(&table)
     }
 
     /// Seals the parts of the description and the Control that end the back-out. `counts` are the bytes of its counts.
@@ -119,6 +102,7 @@ impl<S: Site> Log<S> {
         ensures kind { (self.new.end.total ≡ self.old.end.total) × (self.new.end.tag ≡ self.old.end.tag) × (self.new.end.limit ≡ self.old.end.limit) × (self.new.first ≡ self.old.first) }
         ensures only { IfErr result (λ e. (e ≡ AudFault.Disk) ⊎ (e ≡ AudFault.Full self.old.end.limit)) }
         ensures full { IsErrOf result (AudFault.Full self.old.end.limit) → (self.new.end.used ≡ 0) × (10000 + self.old.end.limit < self.new.end.file) }
+        ensures ends { IsErrOf result (AudFault.Full self.old.end.limit) → (p : Pending) → IsTrue S.tells → EndsBy p (seen S.Site self.old) point next counts.now → Ends (seen S.Site self.new) }
         ensures said { S.said self.new.site ≡ S.said self.old.site }
         ensures same_site { S.same_site self.old.site self.new.site }
         ensures disk { CountedAt (IsErrOf result AudFault.Disk) (S.disk_faults self.old.site) (S.disk_faults self.new.site) }
@@ -134,11 +118,80 @@ impl<S: Site> Log<S> {
         )
     }
 
-    /// Goes back to the last point: seals what waits and then a Begin, writes each block as the audit tells it at that point, and seals
-    /// the parts of the description and a Control with these counts.
+    /// Seals what waits, and then makes the table of a point from the whole trail. Nothing else is written.
     ///
-    /// Reads the whole trail once, behind its Begin. Answers Disk where a call of the site failed, Full where the audit has no room, and
-    /// Memory. After each of them a restore may be pending, and the log is only taken apart.
+    /// Answers Disk where a call of the site failed, and Memory.
+    fn table_back(&mut self, alloc: Global, point: u64) -> Result<Vec<Told>, AudFault>
+        requires runs { IsTrue S.tells → LogRuns (seen S.Site self.old) }
+        ensures blocks { IfOk result (λ v. AreBlocks v.items) }
+        ensures serves { IfOk result (λ v. IsTrue S.tells → ServesBehind (seen S.Site self.new) point v.items) }
+        ensures sealed { (IsErrOf result AudFault.Disk → ⊥) → IsTrue S.tells → SealedAlone (seen S.Site self.old) (seen S.Site self.new) }
+        ensures idle { self.old.end.used ≡ 0 → IsTrue S.tells → FilesStay (seen S.Site self.old) (seen S.Site self.new) }
+        ensures moments { IsTrue S.tells → let a = seen S.Site self.old in LogLeaves a (seen S.Site self.new) (points a) (logs.next a) }
+        ensures silent { IsTrue S.tells → Steps PrintsNothing (S.clock self.old.site) (S.clock self.new.site) }
+        ensures kind { (self.new.end.total ≡ self.old.end.total) × (self.new.end.tag ≡ self.old.end.tag) × (self.new.end.limit ≡ self.old.end.limit) × (self.new.first ≡ self.old.first) }
+        ensures only { IfErr result IsDiskOrMemory }
+        ensures said { S.said self.new.site ≡ S.said self.old.site }
+        ensures same_site { S.same_site self.old.site self.new.site }
+        ensures disk { CountedAt (IsErrOf result AudFault.Disk) (S.disk_faults self.old.site) (S.disk_faults self.new.site) }
+        ensures say_faults { S.say_faults self.new.site ≡ S.say_faults self.old.site }
+    {
+        match self.sync() {
+            Ok(()) => {}
+            Err(fault) => return Err(fault),
+        }
+        point_told(alloc, &mut self.site, self.end.total, self.first, point)
+    }
+
+    /// Goes back to the last point by its table, where nothing waits: seals a Begin, writes the blocks of the table, and seals the parts
+    /// of the description and a Control with these counts. Takes no memory.
+    fn go_back_by(
+        &mut self,
+        table: &[Told],
+        point: u64,
+        description: &[u8],
+        next: u64,
+        counts: &[u8],
+    ) -> Result<(), AudFault>
+        requires blocks { AreBlocks table.now }
+        requires some { 0 < length description.now }
+        requires few { length description.now ≤ 65535 }
+        requires control { IsEntry (control_point point next (counts_at (length counts.now / 8) counts.now)) }
+        requires size { length counts.now ≤ 1600 }
+        requires runs { IsTrue S.tells → LogRuns (seen S.Site self.old) }
+        requires nothing { IsTrue S.tells → waits self.old.end ≡ [] }
+        requires by { IsTrue S.tells → GoesBackBy (seen S.Site self.old) point next counts.now }
+        requires serves { IsTrue S.tells → ServesBehind (seen S.Site self.old) point table.now }
+        ensures back { OnOk result (IsTrue S.tells → WentBackTo point (seen S.Site self.old) (seen S.Site self.new) (back_entries point description.now next counts.now)) }
+        ensures moments { IsTrue S.tells → let a = seen S.Site self.old in LogLeaves a (seen S.Site self.new) (points a) (logs.next a) }
+        ensures silent { IsTrue S.tells → Steps PrintsNothing (S.clock self.old.site) (S.clock self.new.site) }
+        ensures kind { (self.new.end.total ≡ self.old.end.total) × (self.new.end.tag ≡ self.old.end.tag) × (self.new.end.limit ≡ self.old.end.limit) × (self.new.first ≡ self.old.first) }
+        ensures only { IfErr result (IsBackFault self.old.end.limit) }
+        ensures memory { IsErrOf result AudFault.Memory → IsTrue S.tells → ⊥ }
+        ensures full { IsErrOf result (AudFault.Full self.old.end.limit) → (self.new.end.used ≡ 0) × (10000 + self.old.end.limit < self.new.end.file) }
+        ensures ends { IsErrOf result (AudFault.Full self.old.end.limit) → IsTrue S.tells → Ends (seen S.Site self.new) }
+        ensures said { S.said self.new.site ≡ S.said self.old.site }
+        ensures same_site { S.same_site self.old.site self.new.site }
+        ensures disk { CountedAt (IsErrOf result AudFault.Disk) (S.disk_faults self.old.site) (S.disk_faults self.new.site) }
+        ensures say_faults { S.say_faults self.new.site ≡ S.say_faults self.old.site }
+    {
+        match self.begin_back(point) {
+            Ok(()) => {}
+            Err(fault) => return Err(fault),
+        }
+        match self.restore_told(table) {
+            Ok(()) => {}
+            Err(fault) => return Err(fault),
+        }
+        self.end_back(description, point, next, counts)
+    }
+
+    /// Goes back to the last point: seals what waits, and takes all memory that it needs; then it seals a Begin, writes each block as the
+    /// audit tells it at that point, and seals the parts of the description and a Control with these counts.
+    ///
+    /// Reads the whole trail once, before its Begin. Answers Disk where a call of the site failed, Full where the audit has no room, and
+    /// Memory. After Disk and Full a restore may be pending, and the log is only taken apart. At Memory what waited is sealed, and
+    /// nothing else was written.
     pub fn back_out(
         &mut self,
         alloc: Global,
@@ -158,20 +211,19 @@ impl<S: Site> Log<S> {
         ensures silent { IsTrue S.tells → Steps PrintsNothing (S.clock self.old.site) (S.clock self.new.site) }
         ensures kind { (self.new.end.total ≡ self.old.end.total) × (self.new.end.tag ≡ self.old.end.tag) × (self.new.end.limit ≡ self.old.end.limit) × (self.new.first ≡ self.old.first) }
         ensures only { IfErr result (IsBackFault self.old.end.limit) }
+        ensures memory { IsErrOf result AudFault.Memory → IsTrue S.tells → SealedAlone (seen S.Site self.old) (seen S.Site self.new) }
+        ensures idle { IsErrOf result AudFault.Memory → self.old.end.used ≡ 0 → IsTrue S.tells → FilesStay (seen S.Site self.old) (seen S.Site self.new) }
         ensures full { IsErrOf result (AudFault.Full self.old.end.limit) → (self.new.end.used ≡ 0) × (10000 + self.old.end.limit < self.new.end.file) }
+        ensures ends { IsErrOf result (AudFault.Full self.old.end.limit) → IsTrue S.tells → Ends (seen S.Site self.new) }
         ensures said { S.said self.new.site ≡ S.said self.old.site }
         ensures same_site { S.same_site self.old.site self.new.site }
         ensures disk { CountedAt (IsErrOf result AudFault.Disk) (S.disk_faults self.old.site) (S.disk_faults self.new.site) }
         ensures say_faults { S.say_faults self.new.site ≡ S.say_faults self.old.site }
     {
-        match self.begin_back(point) {
-            Ok(()) => {}
+        let table = match self.table_back(alloc, point) {
+            Ok(table) => table,
             Err(fault) => return Err(fault),
-        }
-        match self.restore_back(alloc) {
-            Ok(()) => {}
-            Err(fault) => return Err(fault),
-        }
-        self.end_back(description, point, next, counts)
+        };
+        self.go_back_by(&table, point, description, next, counts)
     }
 }

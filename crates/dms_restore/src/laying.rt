@@ -1,12 +1,13 @@
 //! A whole Schema and a Control, appended and sealed.
 
-ghost use Rattle.std.specs.Prelude.{◌≡◌, ◌⊎◌, ◌+◌, ◌*◌, ◌/◌, ◌<◌, ◌≤◌, ℕ, length, take, drop, OnOk, IfErr, IsErrOf, IsTrue};
+ghost use Rattle.std.specs.Prelude.{◌≡◌, ◌⊎◌, ◌+◌, ◌*◌, ◌/◌, ◌<◌, ◌≤◌, ℕ, [], length, take, drop, OnOk, IfErr, IsErrOf, IsTrue};
 ghost use Rattle.dms_moments.specs.Moments.{Runs, Steps};
 ghost use Rattle.dms_history.specs.Entries.{control_point};
 ghost use Rattle.dms_history.specs.Schemas.{schema_entries};
 ghost use Rattle.dms_audrec.specs.Spelling.{IsEntry};
 ghost use Rattle.dms_audrec.specs.Reading.{counts_at};
 ghost use Rattle.dms_audfile.specs.Counting.{CountedAt};
+ghost use Rattle.dms_audfile.specs.Ends.{EndsAt};
 ghost use Rattle.dms_restore.specs.Bodies.{part_count, bodies};
 ghost use Rattle.dms_running.specs.Plans.{Planned};
 ghost use Rattle.dms_restore.specs.Logging.{telling_of, PrintsNothing};
@@ -44,6 +45,8 @@ fn lay_parts<S: Site>(end: &mut AuditEnd, site: &mut S, description: &[u8]) -> R
     ensures kind { (end.new.total ≡ end.old.total) × (end.new.tag ≡ end.old.tag) × (end.new.limit ≡ end.old.limit) }
     ensures only { IfErr result (λ e. (e ≡ AudFault.Disk) ⊎ (e ≡ AudFault.Full end.old.limit)) }
     ensures full { IsErrOf result (AudFault.Full end.old.limit) → (end.new.used ≡ 0) × (10000 + end.old.limit < end.new.file) }
+    ensures ends { IsErrOf result (AudFault.Full end.old.limit) → (first : ℕ) → IsTrue S.tells → IsAtStart end.old first (S.files site.old) (S.clock site.old)
+        → EndsAt end.new first [] (S.files site.new) (S.clock site.new) }
     ensures said { S.said site.new ≡ S.said site.old }
     ensures same_site { S.same_site site.old site.new }
     ensures disk { CountedAt (IsErrOf result AudFault.Disk) (S.disk_faults site.old) (S.disk_faults site.new) }
@@ -79,6 +82,8 @@ pub(crate) fn seal_control<S: Site>(
     ensures kind { (end.new.total ≡ end.old.total) × (end.new.tag ≡ end.old.tag) × (end.new.limit ≡ end.old.limit) }
     ensures only { IfErr result (λ e. (e ≡ AudFault.Disk) ⊎ (e ≡ AudFault.Full end.old.limit)) }
     ensures full { IsErrOf result (AudFault.Full end.old.limit) → (end.new.used ≡ 0) × (10000 + end.old.limit < end.new.file) }
+    ensures ends { IsErrOf result (AudFault.Full end.old.limit) → (first : ℕ) → IsTrue S.tells → IsAtStart end.old first (S.files site.old) (S.clock site.old)
+        → EndsAt end.new first [] (S.files site.new) (S.clock site.new) }
     ensures said { S.said site.new ≡ S.said site.old }
     ensures same_site { S.same_site site.old site.new }
     ensures disk { CountedAt (IsErrOf result AudFault.Disk) (S.disk_faults site.old) (S.disk_faults site.new) }

@@ -9,7 +9,7 @@ ghost use Rattle.dms_history.specs.Replay.{TellsBefore};
 ghost use Rattle.dms_history.specs.Entries.{image, quiet_point};
 ghost use Rattle.dms_audrec.specs.Spelling.{spelling};
 ghost use Rattle.dms_audfile.specs.Counting.{CountedAt};
-ghost use Rattle.dms_audfile.specs.Ends.{is_past};
+ghost use Rattle.dms_audfile.specs.Ends.{Seals, is_past};
 ghost use Rattle.dms_restore.specs.Logging.{waits, view, LogRuns, points, durable, here, next, content, PrintsNothing, IsNewestSealed, SealsWaiting, LogLeaves, LogsImage, LogsQuiet, LogsNothing, LogsWrite};
 
 use dms_audfile::{AudFault, AuditEnd};
@@ -90,6 +90,8 @@ impl<S: Site> Log<S> {
         ensures same { OnOk result (IsTrue S.tells → LogsNothing (view self.old.end self.old.first (S.files self.old.site) (S.clock self.old.site)) (view self.new.end self.new.first (S.files self.new.site) (S.clock self.new.site))) }
         ensures durable { OnOk result (IsTrue S.tells → durable (view self.new.end self.new.first (S.files self.new.site) (S.clock self.new.site)) ≡ length (points (view self.old.end self.old.first (S.files self.old.site) (S.clock self.old.site)))) }
         ensures waits { OnOk result (IsTrue S.tells → waits self.new.end ≡ []) }
+        ensures steps { IsTrue S.tells → Steps (Seals self.old.end.total self.old.end.tag self.old.first (waits self.old.end)) (S.clock self.old.site) (S.clock self.new.site) }
+        ensures idle { self.old.end.used ≡ 0 → (self.new.end ≡ self.old.end) × (self.new.site ≡ self.old.site) }
         ensures moments { IsTrue S.tells → let a = view self.old.end self.old.first (S.files self.old.site) (S.clock self.old.site) in LogLeaves a (view self.new.end self.new.first (S.files self.new.site) (S.clock self.new.site)) (points a) (next a) }
         ensures silent { IsTrue S.tells → Steps PrintsNothing (S.clock self.old.site) (S.clock self.new.site) }
         ensures kind { (self.new.end.total ≡ self.old.end.total) × (self.new.end.tag ≡ self.old.end.tag) × (self.new.end.limit ≡ self.old.end.limit) × (self.new.first ≡ self.old.first) }

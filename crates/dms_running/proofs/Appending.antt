@@ -1,5 +1,6 @@
 -- An Image or a quiet point is appended, and what waits is sealed.
-use Rattle.std.proofs.Common.{ℕ, ◌-◌, ◌+◌, ◌^◌, ◌≤◌, ◌<◌, ◌≡◌, List, [], ◌∷◌, ◌++◌, map, length, take, sym, ◌∙◌, ap, subst, arith, append_assoc, length-append, Option}
+use Rattle.std.proofs.Common.{ℕ, ◌-◌, ◌+◌, ◌^◌, ◌≤◌, ◌<◌, ◌≡◌, List, [], ◌∷◌, ◌++◌, map, length, take, refl, sym, ◌∙◌, ap, subst, arith, append_assoc, length-append, Option}
+use Rattle.std.proofs.lemmas.List.{map-append}
 use Rattle.dms_moments.specs.Moments.{Clock, Now, Steps}
 use Rattle.dms_site.specs.Files.{Left, stored_of}
 use Rattle.dms_history.specs.Events.{Block, Content, Stored, Event, change, quiet}
@@ -16,10 +17,11 @@ use Rattle.dms_history.proofs.Sealed.{image_sealed, quiet_sealed}
 use Rattle.dms_history.proofs.Listed.{points_front, numbers_append}
 use Rattle.dms_running.specs.Telling.{Telling, IsTelling}
 use Rattle.dms_running.specs.Standing.{MayRun}
-use Rattle.dms_running.specs.Points.{points_told, points_of, LeavesPointsPrefix}
+use Rattle.dms_running.specs.Points.{DescribedPoint, described_in, points_told, points_of, LeavesPointsPrefix}
 use Rattle.dms_running.specs.Sealing.{SealsSome, Appended, AreSealed, Settled}
 use Rattle.dms_running.specs.Running.{State, entries_now, next_now, points_now, durable_now, here_now, content_now, IsPlainEntry, count_live, IsRunning, IsAnOutcome, LeavesPoints}
-use Rattle.dms_running.proofs.MayRun.{sound, points_are, may_image, content_image, live_image, may_quiet, content_quiet, live_quiet, content_at, new_place_at, other_dumps}
+use Rattle.dms_running.proofs.MayRun.{sound, points_are, may_image, content_image, live_image, may_quiet, content_quiet, live_quiet, content_at, new_place_at, new_number, points_placed, other_dumps}
+use Rattle.dms_running.proofs.Described.{described_on, described_new}
 use Rattle.dms_running.proofs.Plain.{plain_push, push_all, take_whole}
 use Rattle.dms_running.proofs.Stopped.{more_points, blocks_same, joined, whole_read, old_read, front_left, seals_leaves, append_runs, seal_runs}
 
@@ -47,7 +49,7 @@ module _ (t : Telling) (telling : IsTelling t) (a : State) (r : IsRunning t a) (
   all = entries_now t a
 
   pub now_runs : MayRun t.first all (t.dumps a.files) base (stored_of a.files)
-  now_runs = whole_read t telling a a.waiting base r.settled r.each r.plain r.counted read
+  now_runs = whole_read t telling a a.waiting base r.settled r.found r.each r.plain r.counted read
 
   each_now : (x : Left) → Now a.clock x → MayRun t.first all (t.dumps x.files) base (stored_of x.files)
   each_now x now = subst (λ (l : List Entry). MayRun t.first (t.entries a.files ++ l) (t.dumps x.files) base (stored_of x.files)) (take_whole a.waiting) (r.each (length a.waiting) x now)
@@ -73,11 +75,11 @@ module _ (t : Telling) (telling : IsTelling t) (a : State) (r : IsRunning t a) (
 
     pub push_leaves : (later : Clock Left) → Steps (SealsSome t (a.waiting ++ e ∷ [])) a.clock later → LeavesPoints t (points_told (t.dumps a.files) (all ++ e ∷ []) (stored_of a.files)) (next_of (all ++ e ∷ [])) a later
     push_leaves later steps = subst (λ (l : List Entry). LeavesPoints t (points_told (t.dumps a.files) l (stored_of a.files)) (next_of l) a later) (sym behind)
-        (seals_leaves t telling a (a.waiting ++ e ∷ []) base r.settled pushed (plain_push a.waiting e r.plain one) count read later steps)
+        (seals_leaves t telling a (a.waiting ++ e ∷ []) base r.settled r.found pushed (plain_push a.waiting e r.plain one) count read later steps)
 
     module _ (b : State) (more : Appended t (a.waiting ++ e ∷ []) a.files b.files b.waiting) where
       pub push_runs : Steps (SealsSome t (a.waiting ++ e ∷ [])) a.clock b.clock → Settled t b.files b.clock → IsRunning t b
-      push_runs steps settles = append_runs t telling a (a.waiting ++ e ∷ []) base r.settled pushed (plain_push a.waiting e r.plain one) count read b steps settles more
+      push_runs steps settles = append_runs t telling a (a.waiting ++ e ∷ []) base r.settled r.found pushed (plain_push a.waiting e r.plain one) count read b steps settles more
 
       pub push_entries : entries_now t b ≡ all ++ e ∷ []
       push_entries = joined t (a.waiting ++ e ∷ []) b.waiting a.files b.files more ∙ sym behind
@@ -114,15 +116,17 @@ module _ (t : Telling) (telling : IsTelling t) (a : State) (r : IsRunning t a) (
         let st = stored_of a.files in
         let m : MayRun t.first (all ++ the_image ∷ []) d base st = each_image_at d in
         points_are t.first (all ++ the_image ∷ []) d base st m
-        ∙ ap (λ (l : List Event). live_points l st) image_live
+        ∙ ap (λ (l : List LivePoint). map (described_in (all ++ the_image ∷ [])) l) (ap (λ (l : List Event). live_points l st) image_live
         ∙ points_front (live_of all) (change f k before after ∷ []) base st st (sound t.first all (t.dumps a.files) base st now_runs) (subst (λ (l : List Event). Sound (from_control l) base st) image_live (sound t.first (all ++ the_image ∷ []) d base st m))
-        ∙ append_none (live_points (live_of all) st) ∙ sym (points_are t.first all (t.dumps a.files) base st now_runs)
+        ∙ append_none (live_points (live_of all) st))
+        ∙ described_on all (the_image ∷ []) (refl, tt) (live_points (live_of all) st) (points_placed t.first all (t.dumps a.files) base st now_runs)
+        ∙ sym (points_are t.first all (t.dumps a.files) base st now_runs)
       where
         each_image_at : (d : Dumps) → MayRun t.first (all ++ the_image ∷ []) d base (stored_of a.files)
         each_image_at d = each_image d (stored_of a.files) (other_dumps t.first all (t.dumps a.files) base (stored_of a.files) now_runs d)
 
     pub log_leaves : (later : Clock Left) → Steps (SealsSome t (a.waiting ++ the_image ∷ [])) a.clock later → LeavesPoints t (points_now t a) (next_now t a) a later
-    log_leaves later steps = subst (λ (l : List LivePoint). LeavesPoints t l (next_now t a) a later) (points_image (t.dumps a.files))
+    log_leaves later steps = subst (λ (l : List DescribedPoint). LeavesPoints t l (next_now t a) a later) (points_image (t.dumps a.files))
         (subst (λ n. LeavesPoints t (points_told (t.dumps a.files) (all ++ the_image ∷ []) (stored_of a.files)) n a later) next_image (push_leaves the_image tt each_image counts_image later steps))
 
     module _ (b : State) (more : Appended t (a.waiting ++ the_image ∷ []) a.files b.files b.waiting) where
@@ -172,14 +176,19 @@ module _ (t : Telling) (telling : IsTelling t) (a : State) (r : IsRunning t a) (
         let st = stored_of a.files in
         let n = next_now t a in
         let m : MayRun t.first (all ++ the_quiet ∷ []) d base st = each_quiet d st (other_dumps t.first all (t.dumps a.files) base (stored_of a.files) now_runs d) in
+        let old = live_points (live_of all) st in
+        let new = point_at (live_of all ++ quiet n ∷ []) st n in
         points_are t.first (all ++ the_quiet ∷ []) d base st m
-        ∙ ap (λ (l : List Event). live_points l st) quiet_live
+        ∙ ap (λ (l : List LivePoint). map (described_in (all ++ the_quiet ∷ [])) l) (ap (λ (l : List Event). live_points l st) quiet_live
         ∙ points_front (live_of all) (quiet n ∷ []) base st st (sound t.first all (t.dumps a.files) base st now_runs) (subst (λ (l : List Event). Sound (from_control l) base st) quiet_live (sound t.first (all ++ the_quiet ∷ []) d base st m))
-        ∙ ap (λ (l : List ℕ). live_points (live_of all) st ++ map (point_at (live_of all ++ quiet n ∷ []) st) l) new_place
-        ∙ ap (λ (l : List LivePoint). l ++ here_now t a ∷ []) (sym (points_are t.first all (t.dumps a.files) base st now_runs))
+        ∙ ap (λ (l : List ℕ). old ++ map (point_at (live_of all ++ quiet n ∷ []) st) l) new_place)
+        ∙ map-append (described_in (all ++ the_quiet ∷ [])) old (new ∷ [])
+        ∙ ap (λ (l : List DescribedPoint). l ++ described_in (all ++ the_quiet ∷ []) new ∷ [])
+        (described_on all (the_quiet ∷ []) (refl, tt) old (points_placed t.first all (t.dumps a.files) base st now_runs) ∙ sym (points_are t.first all (t.dumps a.files) base st now_runs))
+        ∙ ap (λ (p : DescribedPoint). points_now t a ++ p ∷ []) (described_new all new (new_number t.first all (t.dumps a.files) base st now_runs n (omega arith)))
 
     pub quiet_leaves : (later : Clock Left) → Steps (SealsSome t (a.waiting ++ the_quiet ∷ [])) a.clock later → LeavesPoints t (points_now t a ++ here_now t a ∷ []) (next_now t a + 1) a later
-    quiet_leaves later steps = subst (λ (l : List LivePoint). LeavesPoints t l (next_now t a + 1) a later) (points_quiet (t.dumps a.files))
+    quiet_leaves later steps = subst (λ (l : List DescribedPoint). LeavesPoints t l (next_now t a + 1) a later) (points_quiet (t.dumps a.files))
         (subst (λ n. LeavesPoints t (points_told (t.dumps a.files) (all ++ the_quiet ∷ []) (stored_of a.files)) n a later) next_quiet (push_leaves the_quiet tt each_quiet counts_quiet later steps))
 
     module _ (b : State) (more : Appended t (a.waiting ++ the_quiet ∷ []) a.files b.files b.waiting) where
@@ -200,11 +209,11 @@ module _ (t : Telling) (telling : IsTelling t) (a : State) (r : IsRunning t a) (
   -- ---- what waits is sealed
 
   pub sync_leaves : (later : Clock Left) → Steps (SealsSome t a.waiting) a.clock later → LeavesPoints t (points_now t a) (next_now t a) a later
-  sync_leaves later steps = seals_leaves t telling a a.waiting base r.settled r.each r.plain r.counted read later steps
+  sync_leaves later steps = seals_leaves t telling a a.waiting base r.settled r.found r.each r.plain r.counted read later steps
 
   module _ (b : State) (sealed : AreSealed t a.waiting a.files b.files) (none : b.waiting ≡ []) where
     pub sync_runs : Steps (SealsSome t a.waiting) a.clock b.clock → Settled t b.files b.clock → IsRunning t b
-    sync_runs steps settles = seal_runs t telling a a.waiting base r.settled r.each r.plain r.counted read b steps settles sealed none
+    sync_runs steps settles = seal_runs t telling a a.waiting base r.settled r.found r.each r.plain r.counted read b steps settles sealed none
 
     pub sync_entries : entries_now t b ≡ entries_now t a
     sync_entries = ap (λ (l : List Entry). t.entries b.files ++ l) none ∙ append_none (t.entries b.files) ∙ sealed.sealed
@@ -229,18 +238,18 @@ module _ (t : Telling) (telling : IsTelling t) (a : State) (r : IsRunning t a) (
 
     pub sync_surer : durable_now t a ≤ durable_now t b
     sync_surer =
-        let now = old_read t telling a a.waiting base r.settled r.each r.plain r.counted read in
+        let now = old_read t telling a a.waiting base r.settled r.found r.each r.plain r.counted read in
         let more = more_points t.first (t.entries a.files) a.waiting (t.dumps a.files) (t.dumps a.files) base (stored_of a.files) (stored_of a.files) r.plain now now_runs in
-        omega (arith, sync_durable, ap (λ (l : List LivePoint). length l) more.1, length-append (points_of t a.files) more.0)
+        omega (arith, sync_durable, ap (λ (l : List DescribedPoint). length l) more.1, length-append (points_of t a.files) more.0)
 
 -- not fewer points than are durable
 pub points_enough : (t : Telling) (telling : IsTelling t) (a : State) → IsRunning t a → IsAnOutcome a → durable_now t a ≤ length (points_now t a)
 points_enough t telling a r read =
-    let now = old_read t telling a a.waiting r.base r.settled r.each r.plain r.counted read in
+    let now = old_read t telling a a.waiting r.base r.settled r.found r.each r.plain r.counted read in
     let more = more_points t.first (t.entries a.files) a.waiting (t.dumps a.files) (t.dumps a.files) r.base (stored_of a.files) (stored_of a.files) r.plain now (now_runs t telling a r read) in
-    omega (arith, ap (λ (l : List LivePoint). length l) more.1, length-append (points_of t a.files) more.0)
+    omega (arith, ap (λ (l : List DescribedPoint). length l) more.1, length-append (points_of t a.files) more.0)
 
 -- a stop now leaves a prefix of the points
 pub now_leaves : (t : Telling) (telling : IsTelling t) (a : State) → IsRunning t a → IsAnOutcome a → (x : Left) → Now a.clock x → LeavesPointsPrefix t (points_now t a) (durable_now t a) (next_now t a) x
 now_leaves t telling a r read x now =
-    front_left t telling a a.waiting r.base r.settled r.each r.plain r.counted read 0 x (r.settled x now ∙ sym (append_none (t.entries a.files))) (r.each 0 x now)
+    front_left t telling a a.waiting r.base r.settled r.found r.each r.plain r.counted read 0 x (r.found x now) (r.settled x now ∙ sym (append_none (t.entries a.files))) (r.each 0 x now)

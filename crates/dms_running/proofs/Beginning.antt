@@ -1,5 +1,5 @@
 -- A Begin of a restore by the audit to the last point is sealed.
-use Rattle.std.proofs.Common.{ℕ, ◌≡◌, Bool, true, List, [], ◌∷◌, ◌++◌, length, take, drop, Some, sym, ◌∙◌, ap, subst, arith, append_assoc}
+use Rattle.std.proofs.Common.{ℕ, ◌≡◌, Bool, true, List, [], ◌∷◌, ◌++◌, map, length, take, drop, Some, sym, ◌∙◌, ap, subst, arith, append_assoc}
 use Rattle.std.proofs.lemmas.List.{take-append-drop}
 use Rattle.dms_moments.specs.Moments.{Clock, Now, Steps}
 use Rattle.dms_moments.specs.MomentLaws.{runs_weaken}
@@ -12,7 +12,7 @@ use Rattle.dms_history.specs.Base.{from_control}
 use Rattle.dms_history.specs.Pick.{Dumps, blocks_at}
 use Rattle.dms_history.specs.Here.{here, outcome}
 use Rattle.dms_history.specs.Restores.{HasDump, Ready}
-use Rattle.dms_history.specs.Points.{ListsPoints, up_to}
+use Rattle.dms_history.specs.Points.{LivePoint, live_points, ListsPoints, up_to}
 use Rattle.dms_history.specs.Entries.{Kind, Entry, begin_restore, how_of}
 use Rattle.dms_history.specs.EntryEvents.{events, history_of, live_of, next_of}
 use Rattle.dms_history.specs.Sizes.{ImagesSized}
@@ -27,10 +27,11 @@ use Rattle.dms_history.proofs.Listed.{points_listed, one_list, points_stay}
 use Rattle.dms_history.proofs.ListSteps.{lists_begin, last_keeps_all}
 use Rattle.dms_running.specs.Telling.{Telling, IsTelling}
 use Rattle.dms_running.specs.Standing.{Stands, MayRun}
-use Rattle.dms_running.specs.Points.{points_told, points_of, next_in, LeavesPointsPrefix}
+use Rattle.dms_running.specs.Points.{described_in, points_told, points_of, next_in, LeavesPointsPrefix}
 use Rattle.dms_running.specs.Sealing.{SealsSome, Appended, AreSealed, Settled}
 use Rattle.dms_running.specs.Running.{State, entries_now, next_now, points_now, durable_now, IsRunning, IsAnOutcome, LeavesPoints}
 use Rattle.dms_running.specs.Begun.{ByAudit, IsBegun, IsLast, restore_to, outcome_now, content_at_point}
+use Rattle.dms_running.proofs.Described.{all_placed, described_begun}
 use Rattle.dms_running.proofs.MayRun.{counted, sound, points_are}
 use Rattle.dms_running.proofs.Plain.{push_all, take_whole}
 use Rattle.dms_running.proofs.Stopped.{front_left, blocks_same}
@@ -90,14 +91,16 @@ module _ (first : Bool) (es : List Entry) (d : Dumps) (base : Content) (st : Sto
   pub begin_points : last_point (history_of es) ≡ Some m → points_told d with_begin st ≡ points_told d es st
   begin_points last =
       let h = history_of es in
-      let old = points_told d es st in
+      let old = live_points h.live (here d h st) in
       let listed : ListsPoints h.live (here d h st) old = points_listed h.live (next_of es) (here d h st) run.stands.kept.numbered in
       let after = after_event h (begin m (how_of kind)) in
       let cut : ListsPoints after.live (here d after st) (up_to m old) = lists_begin (how_of kind) d h (next_of es) base (here d h st) st old m run.stands.kept.numbered ready listed in
       let all : up_to m old ≡ old = last_keeps_all h (next_of es) (here d h st) old m run.stands.kept.numbered last listed in
       let g = history_of with_begin in
       let more : ListsPoints g.live (here d g st) old = subst (λ (k : History). ListsPoints k.live (here d k st) old) (sym begin_is) (subst (ListsPoints after.live (here d after st)) all cut) in
-      one_list g.live (here d g st) (points_told d with_begin st) old (points_listed g.live (next_of with_begin) (here d g st) begin_stands.kept.numbered) more
+      let same : live_points g.live (here d g st) ≡ old =
+      one_list g.live (here d g st) (live_points g.live (here d g st)) old (points_listed g.live (next_of with_begin) (here d g st) begin_stands.kept.numbered) more in
+      ap (map (described_in with_begin)) same ∙ described_begun es m kind old (all_placed with_begin (here d g st) old more.lives)
 
   -- the restore is to leave the content at its point
   pub begin_leaves : outcome (how_of kind) d (live_of es) m st ≡ blocks_at (live_of es) st m
@@ -141,7 +144,8 @@ module _ (t : Telling) (telling : IsTelling t) (a : State) (r : IsRunning t a) (
         let one = now_runs t telling a r read in
         begin_points t.first all (t.dumps x.files) base (stored_of x.files) run_all m kind by_audit at.lives at.last
         ∙ points_are t.first all (t.dumps x.files) base (stored_of x.files) run_all
-        ∙ points_stay (live_of all) base (stored_of a.files) (stored_of x.files) (sound t.first all (t.dumps a.files) base (stored_of a.files) one) (sound t.first all (t.dumps x.files) base (stored_of x.files) run_all)
+        ∙ ap (λ (l : List LivePoint). map (described_in all) l)
+        (points_stay (live_of all) base (stored_of a.files) (stored_of x.files) (sound t.first all (t.dumps a.files) base (stored_of a.files) one) (sound t.first all (t.dumps x.files) base (stored_of x.files) run_all))
         ∙ sym (points_are t.first all (t.dumps a.files) base (stored_of a.files) one)
 
     next_all : next_of (all ++ the_begin ∷ []) ≡ next_now t a
@@ -151,7 +155,7 @@ module _ (t : Telling) (telling : IsTelling t) (a : State) (r : IsRunning t a) (
     front_all is =
         let left = all_left t (points_now t a) (next_now t a) x (ap (λ (l : List Entry). points_told (t.dumps x.files) l (stored_of x.files)) is ∙ points_all)
         (omega (arith, ap (λ (l : List Entry). next_of l) is, next_all))
-        (record { base = base; stands = subst (λ (l : List Entry). Stands t.first l (t.dumps x.files) base (stored_of x.files)) (sym is) at_begin }) in
+        (record { found = s.found (r.found y now); base = base; stands = subst (λ (l : List Entry). Stands t.first l (t.dumps x.files) base (stored_of x.files)) (sym is) at_begin }) in
         record {
           count = left.count;
           enough = omega (arith, left.enough, points_enough t telling a r read);
@@ -163,7 +167,7 @@ module _ (t : Telling) (telling : IsTelling t) (a : State) (r : IsRunning t a) (
 
     pub begin_front : LeavesPointsPrefix t (points_now t a) (durable_now t a) (next_now t a) x
     begin_front = push_all (λ l. t.entries x.files ≡ t.entries a.files ++ l → LeavesPointsPrefix t (points_now t a) (durable_now t a) (next_now t a) x) a.waiting the_begin
-        (λ k is. front_left t telling a a.waiting base r.settled r.each r.plain r.counted read k x is (run_at k))
+        (λ k is. front_left t telling a a.waiting base r.settled r.found r.each r.plain r.counted read k x (s.found (r.found y now)) is (run_at k))
         (λ is. front_all (is ∙ sym behind)) s.some (s.sealed ∙ ap (λ (l : List Entry). l ++ take s.some (a.waiting ++ the_begin ∷ [])) (r.settled y now))
 
   pub begin_goes : (later : Clock Left) → Steps (SealsSome t (a.waiting ++ the_begin ∷ [])) a.clock later → LeavesPoints t (points_now t a) (next_now t a) a later
@@ -187,6 +191,7 @@ module _ (t : Telling) (telling : IsTelling t) (a : State) (r : IsRunning t a) (
       base = base;
       nothing = none;
       settled = settles;
+      found = λ x now. let after = steps.follows x now in after.2.found (r.found after.0 after.1);
       pending = ap (λ (l : List Entry). (history_of l).pending) entries_are ∙ ap (λ (h : History). h.pending) (begin_is t.first all (t.dumps a.files) base (stored_of a.files) run_now m kind by_audit at.lives);
       by_audit = by_audit;
       each = λ x now. let after = steps.follows x now in

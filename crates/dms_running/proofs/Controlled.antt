@@ -1,5 +1,5 @@
 -- A whole Schema and its Control, in part or whole, at the end of a restore or of a database that runs.
-use Rattle.std.proofs.Common.{ℕ, ◌+◌, ◌≤◌, ◌<◌, ◌≡◌, inl, inr, Bool, true, List, [], ◌∷◌, ◌++◌, length, take, Some, sym, ◌∙◌, ap, subst, arith, append_assoc}
+use Rattle.std.proofs.Common.{ℕ, ◌+◌, ◌≤◌, ◌<◌, ◌≡◌, inl, inr, Bool, true, List, [], ◌∷◌, ◌++◌, map, length, take, Some, refl, sym, ◌∙◌, ap, subst, arith, append_assoc}
 use Rattle.dms_moments.specs.Moments.{Clock, Runs}
 use Rattle.dms_site.specs.Files.{Files, Left, Only, stored_of}
 use Rattle.dms_history.specs.Events.{Content, Stored, Event, control, block_in}
@@ -31,10 +31,11 @@ use Rattle.dms_history.proofs.Listed.{points_listed, one_list}
 use Rattle.dms_history.proofs.ListSteps.{lists_control}
 use Rattle.dms_running.specs.Telling.{Telling, IsTelling}
 use Rattle.dms_running.specs.Standing.{Stands, MayRun}
-use Rattle.dms_running.specs.Points.{points_told, next_in}
+use Rattle.dms_running.specs.Points.{described_in, points_told, next_in}
 use Rattle.dms_running.specs.Sealing.{SealsSome, Appended, Settled}
 use Rattle.dms_running.specs.Running.{State, entries_now, content_now, points_now, IsRunning, IsAnOutcome, AllWritten}
 use Rattle.dms_running.specs.Begun.{LeavesAll, IsLast, IsSchemaControl}
+use Rattle.dms_running.proofs.Described.{parts_on, both_on, all_placed, described_on}
 use Rattle.dms_running.proofs.MayRun.{idle, images_both}
 use Rattle.dms_running.proofs.Stopped.{blocks_same}
 use Rattle.dms_running.proofs.Appending.{content_of, now_runs, content_is}
@@ -106,12 +107,16 @@ module _ (first : Bool) (es : List Entry) (d : Dumps) (base : Content) (st : Sto
     whole_points =
         let counted = here d (history_of es) st in
         let later = here d (history_of (es ++ plan)) st in
-        let before : ListsPoints (live_of es) counted (points_told d es st) = points_listed (live_of es) (next_of es) counted s.kept.numbered in
-        let after : ListsPoints (live_of es ++ last ∷ []) later (points_told d es st) =
-        lists_control (live_of es) (next_of es) base counted later (points_told d es st) n next (counts_in counts) true s.kept.numbered placed s.kept.steady.sound
+        let old = live_points (live_of es) counted in
+        let before : ListsPoints (live_of es) counted old = points_listed (live_of es) (next_of es) counted s.kept.numbered in
+        let after : ListsPoints (live_of es ++ last ∷ []) later old =
+        lists_control (live_of es) (next_of es) base counted later old n next (counts_in counts) true s.kept.numbered placed s.kept.steady.sound
         (subst (λ (l : List Event). Sound (from_control l) base later) live_is kept.steady.sound) before in
-        one_list (live_of (es ++ plan)) later (points_told d (es ++ plan) st) (points_told d es st) (points_listed (live_of (es ++ plan)) (next_of (es ++ plan)) later kept.numbered)
-        (subst (λ (l : List Event). ListsPoints l later (points_told d es st)) (sym live_is) after)
+        let same : live_points (live_of (es ++ plan)) later ≡ old =
+        one_list (live_of (es ++ plan)) later (live_points (live_of (es ++ plan)) later) old (points_listed (live_of (es ++ plan)) (next_of (es ++ plan)) later kept.numbered)
+        (subst (λ (l : List Event). ListsPoints l later old) (sym live_is) after) in
+        ap (map (described_in (es ++ plan))) same
+        ∙ described_on es plan (both_on schema (control_point n next counts ∷ []) (parts_on schema schema_parts) (refl, tt)) old (all_placed es counted old before.lives)
 
     pub whole_next : next_of es ≤ next_of (es ++ plan)
     whole_next = subst (λ (l : List Event). next_of es ≤ next_number l) (sym (control_sealed es one rest n next counts)) (next_stays (events es) last carried)
@@ -133,7 +138,11 @@ module _ (first : Bool) (es : List Entry) (d : Dumps) (base : Content) (st : Sto
 
       pub part_points : points_told d (es ++ take k plan) st ≡ points_told d es st
       part_points = elim (schema_in_parts k one rest (control_point n next counts)) [
-        | inl parts ↦ ap (λ (h : History). live_points h.live (here d h st)) (part_history parts)
+        | inl parts ↦
+            let counted = here d (history_of es) st in
+            let old = live_points (live_of es) counted in
+            ap (λ (h : History). map (described_in (es ++ take k plan)) (live_points h.live (here d h st))) (part_history parts)
+            ∙ described_on es (take k plan) (parts_on (take k plan) parts) old (all_placed es counted old (points_listed (live_of es) (next_of es) counted s.kept.numbered).lives)
         | inr all ↦ ap (λ (l : List Entry). points_told d (es ++ l) st) all ∙ whole_points
       ]
 
@@ -206,7 +215,7 @@ module _ (t : Telling) (telling : IsTelling t) (a : State) (r : IsRunning t a) (
       (whole_may t.first (t.entries a.files) (t.dumps a.files) base (stored_of a.files) n (next_in t a.files) c.first c.rest counts m.stands kept placed (omega arith))
 
   pub control_leaves : (later : Clock Left) → Runs a.clock later (Planned t es a.files) → LeavesAll t a later
-  control_leaves later runs = plan_leaves t telling es a base keeps only later runs
+  control_leaves later runs = plan_leaves t telling es a base keeps (subst t.found read.2 (r.found read.0 read.1)) only later runs
 
   module _ (b : State) (entries : t.entries b.files ≡ t.entries a.files ++ es) (above : (g : ℕ) → 20000 < g → b.files g ≡ a.files g) (empty : b.waiting ≡ []) where
     later_may : MayRun t.first (t.entries b.files) (t.dumps b.files) base (stored_of b.files)
@@ -217,8 +226,8 @@ module _ (t : Telling) (telling : IsTelling t) (a : State) (r : IsRunning t a) (
     now_is : entries_now t b ≡ t.entries a.files ++ es
     now_is = ap (λ (l : List Entry). t.entries b.files ++ l) empty ∙ append_none (t.entries b.files) ∙ entries
 
-    pub control_runs : Only b.files b.clock → IsRunning t b
-    control_runs alone = still_runs t b base alone empty later_may
+    pub control_runs : t.found b.files → Only b.files b.clock → IsRunning t b
+    control_runs found alone = still_runs t b base found alone empty later_may
 
     pub control_same : content_now t b ≡ content_now t a
     control_same =

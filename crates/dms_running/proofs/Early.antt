@@ -1,5 +1,5 @@
 -- A structure block is written early, torn or whole.
-use Rattle.std.proofs.Common.{ℕ, ◌+◌, ◌*◌, ◌≤◌, ◌<◌, ◌≡◌, inl, inr, true, false, List, [], ◌∷◌, ◌++◌, length, take, None, refl, sym, ◌∙◌, ap, subst, arith, append_assoc}
+use Rattle.std.proofs.Common.{ℕ, ◌+◌, ◌*◌, ◌≤◌, ◌<◌, ◌≡◌, inl, inr, true, false, List, [], ◌∷◌, ◌++◌, map, length, take, None, refl, sym, ◌∙◌, ap, subst, arith, append_assoc}
 use Rattle.dms_moments.specs.Moments.{Clock, Now, Steps}
 use Rattle.dms_moments.specs.MomentLaws.{runs_weaken, runs_on}
 use Rattle.dms_site.specs.Files.{Left, InFile, Torn, OnDisk, stored_of}
@@ -23,7 +23,7 @@ use Rattle.dms_history.proofs.Runs.{after_push}
 use Rattle.dms_history.proofs.Listed.{points_stay}
 use Rattle.dms_running.specs.Telling.{Telling, IsTelling}
 use Rattle.dms_running.specs.Standing.{MayRun}
-use Rattle.dms_running.specs.Points.{points_told, LeavesPointsPrefix}
+use Rattle.dms_running.specs.Points.{DescribedPoint, described_in, points_told, LeavesPointsPrefix}
 use Rattle.dms_running.specs.Sealing.{AreSealed}
 use Rattle.dms_running.specs.Running.{State, entries_now, next_now, points_now, durable_now, content_now, count_live, IsRunning, IsAnOutcome, LeavesPoints, IsLogged, IsChanged, AllPlain}
 use Rattle.dms_running.proofs.MayRun.{sound, has_one, points_are, content_sized, may_write, other_dumps}
@@ -88,13 +88,16 @@ module _ (t : Telling) (telling : IsTelling t) (a : State) (r : IsRunning t a) (
     pub early_entries : t.entries x.files ≡ t.entries a.files
     early_entries = telling.entries_low x.files y.files low_same ∙ r.settled y now
 
+    pub early_found : t.found x.files
+    early_found = telling.found_low x.files y.files low_same (r.found y now)
+
     pub early_may : (k : ℕ) → MayRun t.first (entries k) (t.dumps x.files) base (stored_of x.files)
     early_may k = other_dumps t.first (entries k) (t.dumps y.files) base (stored_of x.files)
         (may_write t.first (entries k) (t.dumps y.files) base (stored_of y.files) (r.each k y now) (stored_of x.files) (others k)) (t.dumps x.files)
 
   pub early_leaves : (later : Clock Left) → Steps (OnDisk f (Torn (1024 * b) 1024)) a.clock later → LeavesPoints t (points_now t a) (next_now t a) a later
   early_leaves later steps = runs_weaken steps.runs (λ x after.
-      front_left t telling a a.waiting base r.settled r.each r.plain r.counted read 0 x (early_entries after.0 x after.1 after.2 ∙ sym (append_none (t.entries a.files))) (early_may after.0 x after.1 after.2 0))
+      front_left t telling a a.waiting base r.settled r.found r.each r.plain r.counted read 0 x (early_found after.0 x after.1 after.2) (early_entries after.0 x after.1 after.2 ∙ sym (append_none (t.entries a.files))) (early_may after.0 x after.1 after.2 0))
 
   module _ (c : State) (waits : c.waiting ≡ a.waiting) (step : InFile f (Torn (1024 * b) 1024) a.files c.files) where
     pub later_entries : t.entries c.files ≡ t.entries a.files
@@ -114,6 +117,7 @@ module _ (t : Telling) (telling : IsTelling t) (a : State) (r : IsRunning t a) (
       early_runs = record {
         base = base;
         settled = λ x now. let after = steps.follows x now in early_entries after.0 x after.1 after.2 ∙ sym later_entries;
+        found = λ x now. let after = steps.follows x now in early_found after.0 x after.1 after.2;
         each = λ k x now. let after = steps.follows x now in
             subst (λ (l : List Entry). MayRun t.first l (t.dumps x.files) base (stored_of x.files)) (sym (each_later k)) (early_may after.0 x after.1 after.2 k);
         plain = subst AllPlain (sym waits) r.plain;
@@ -132,7 +136,8 @@ module _ (t : Telling) (telling : IsTelling t) (a : State) (r : IsRunning t a) (
             let all = entries_now t a in
             ap (λ (l : List Entry). points_told (t.dumps c.files) l (stored_of c.files)) later_all
             ∙ points_are t.first all (t.dumps c.files) base (stored_of c.files) later_may
-            ∙ points_stay (live_of all) base (stored_of a.files) (stored_of c.files) (sound t.first all (t.dumps a.files) base (stored_of a.files) one) (sound t.first all (t.dumps c.files) base (stored_of c.files) later_may)
+            ∙ ap (λ (l : List LivePoint). map (described_in all) l)
+            (points_stay (live_of all) base (stored_of a.files) (stored_of c.files) (sound t.first all (t.dumps a.files) base (stored_of a.files) one) (sound t.first all (t.dumps c.files) base (stored_of c.files) later_may))
             ∙ sym (points_are t.first all (t.dumps a.files) base (stored_of a.files) one)
 
         pub early_content : content_now t c ≡ content_now t a
@@ -140,8 +145,8 @@ module _ (t : Telling) (telling : IsTelling t) (a : State) (r : IsRunning t a) (
 
         pub early_durable : durable_now t c ≡ durable_now t a
         early_durable =
-            let one = old_read t telling a a.waiting r.base r.settled r.each r.plain r.counted read in
-            let two = old_read t telling c c.waiting early_runs.base early_runs.settled early_runs.each early_runs.plain early_runs.counted reads in
+            let one = old_read t telling a a.waiting r.base r.settled r.found r.each r.plain r.counted read in
+            let two = old_read t telling c c.waiting early_runs.base early_runs.settled early_runs.found early_runs.each early_runs.plain early_runs.counted reads in
             count_told t.first (t.entries c.files) (t.dumps c.files) early_runs.base (stored_of c.files) two ∙ ap (λ (l : List Entry). count_live l) later_entries
             ∙ sym (count_told t.first (t.entries a.files) (t.dumps a.files) r.base (stored_of a.files) one)
 
@@ -155,18 +160,18 @@ changed_logged t a f k nothing changed none =
     changed (ap (λ (l : List Entry). last_after f k (after_last is_control (live_of l))) (ap (λ (l : List Entry). t.entries a.files ++ l) nothing ∙ append_none (t.entries a.files)) ∙ none)
 
 -- a prefix of points of which more are durable, with a next number that is no lower
-pub leaves_less : (t : Telling) (points later : List LivePoint) (durable more next up : ℕ) (x : Left) → later ≡ points → durable ≤ more → next ≤ up → LeavesPointsPrefix t later more up x → LeavesPointsPrefix t points durable next x
+pub leaves_less : (t : Telling) (points later : List DescribedPoint) (durable more next up : ℕ) (x : Left) → later ≡ points → durable ≤ more → next ≤ up → LeavesPointsPrefix t later more up x → LeavesPointsPrefix t points durable next x
 leaves_less t points later durable more next up x same le rise front = record {
   count = front.count;
   enough = omega (arith, le, front.enough);
-  within = omega (arith, front.within, ap (λ (l : List LivePoint). length l) same);
-  is = front.is ∙ ap (λ (l : List LivePoint). take front.count l) same;
-  not_fallen = omega (arith, rise, front.not_fallen, ap (λ (l : List LivePoint). length l) same);
+  within = omega (arith, front.within, ap (λ (l : List DescribedPoint). length l) same);
+  is = front.is ∙ ap (λ (l : List DescribedPoint). take front.count l) same;
+  not_fallen = omega (arith, rise, front.not_fallen, ap (λ (l : List DescribedPoint). length l) same);
   whole = front.whole;
 }
 
 -- one call after another that leave the same points
-pub both_leave : (t : Telling) (points later : List LivePoint) (next up : ℕ) (a b : State) (end : Clock Left) → LeavesPoints t points next a b.clock → LeavesPoints t later up b end
+pub both_leave : (t : Telling) (points later : List DescribedPoint) (next up : ℕ) (a b : State) (end : Clock Left) → LeavesPoints t points next a b.clock → LeavesPoints t later up b end
     → later ≡ points → durable_now t a ≤ durable_now t b → next ≤ up → LeavesPoints t points next a end
 both_leave t points later next up a b end first second same durable rise =
     runs_on first second (λ x l. leaves_less t points later (durable_now t a) (durable_now t b) next up x same durable rise l)

@@ -79,7 +79,7 @@ module _ (t : Telling) (telling : IsTelling t) (p : Pending) (a : State) (r : Is
       (whole_may t.first old (t.dumps a.files) base (stored_of a.files) p.point (next_in t a.files) c.first c.rest counts s kept placed (omega arith))
 
   pub end_leaves : (later : Clock Left) → Runs a.clock later (Planned t es a.files) → LeavesAll t a later
-  end_leaves later runs = plan_leaves t telling es a base keeps only later runs
+  end_leaves later runs = plan_leaves t telling es a base keeps (subst t.found read.2 (r.found read.0 read.1)) only later runs
 
   module _ (b : State) (entries : t.entries b.files ≡ old ++ es) (above : (g : ℕ) → 20000 < g → b.files g ≡ a.files g) (empty : b.waiting ≡ []) where
     later_may : MayRun t.first (t.entries b.files) (t.dumps b.files) base (stored_of b.files)
@@ -90,8 +90,8 @@ module _ (t : Telling) (telling : IsTelling t) (p : Pending) (a : State) (r : Is
     now_is : entries_now t b ≡ old ++ es
     now_is = ap (λ (l : List Entry). t.entries b.files ++ l) empty ∙ append_none (t.entries b.files) ∙ entries
 
-    pub end_runs : Only b.files b.clock → IsRunning t b
-    end_runs alone = still_runs t b base alone empty later_may
+    pub end_runs : t.found b.files → Only b.files b.clock → IsRunning t b
+    end_runs found alone = still_runs t b base found alone empty later_may
 
     -- the content is what the restore was to leave
     pub end_same : content_now t b ≡ outcome_now t p a

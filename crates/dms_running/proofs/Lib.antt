@@ -1,3 +1,4 @@
+pub mod Described
 pub mod MayRun
 pub mod Plain
 pub mod Stopped

@@ -1,5 +1,5 @@
 -- A database that may run, with one entry more or other blocks.
-use Rattle.std.proofs.Common.{ℕ, ◌-◌, ◌^◌, ◌≤◌, ◌<◌, ◌≡◌, Bool, true, false, cond, List, [], ◌∷◌, ◌++◌, length, Option, Some, None, refl, sym, ◌∙◌, ap, subst, arith}
+use Rattle.std.proofs.Common.{ℕ, ◌-◌, ◌^◌, ◌≤◌, ◌<◌, ◌≡◌, Bool, true, false, cond, List, [], ◌∷◌, ◌++◌, map, length, Option, Some, None, refl, sym, ◌∙◌, ap, subst, arith}
 use Rattle.std.specs.Prelude.{◌&&◌, not}
 use Rattle.dms_history.specs.Events.{Block, Content, Stored, Event, change, quiet, control, begin}
 use Rattle.dms_history.specs.Replay.{TellsBefore, with_block}
@@ -25,9 +25,11 @@ use Rattle.dms_history.proofs.LastPending.{no_dump_counts}
 use Rattle.dms_history.proofs.Running.{above_all, quiet_is_live}
 use Rattle.dms_history.proofs.Sealed.{image_sealed, quiet_sealed, one_more_event}
 use Rattle.dms_history.proofs.Sizing.{sized_replay}
+use Rattle.dms_history.proofs.Listed.{points_listed}
 use Rattle.dms_history.proofs.Keeping.{kept_image, kept_quiet, kept_writes}
 use Rattle.dms_running.specs.Standing.{Stands, MayRun}
-use Rattle.dms_running.specs.Points.{points_told}
+use Rattle.dms_running.specs.Points.{described_in, points_told}
+use Rattle.dms_running.proofs.Described.{AllPlaced, all_placed}
 
 pub images_both : (xs ys : List Event) → ImagesSized xs → ImagesSized ys → ImagesSized (xs ++ ys)
 images_both [] ys one two = two
@@ -57,8 +59,12 @@ module _ (first : Bool) (es : List Entry) (dumps : Dumps) (base : Content) (stor
   pub content_sized : AllSized (content_told es base)
   content_sized = sized_replay (from_control (live_of es)) base sound.chain m.stands.base_sized m.stands.images_sized
 
-  pub points_are : points_told dumps es stored ≡ live_points (live_of es) stored
-  points_are = ap (λ (s : Stored). live_points (live_of es) s) counted
+  pub points_are : points_told dumps es stored ≡ map (described_in es) (live_points (live_of es) stored)
+  points_are = ap (λ (s : Stored). map (described_in es) (live_points (live_of es) s)) counted
+
+  -- each of them has its place
+  pub points_placed : AllPlaced es (live_points (live_of es) stored)
+  points_placed = all_placed es stored (live_points (live_of es) stored) (points_listed (live_of es) (next_of es) stored m.stands.kept.numbered).lives
 
   module _ (e : Entry) (ev : Event) (is : events (es ++ e ∷ []) ≡ events es ++ ev ∷ []) where
     pub one_step : history_of (es ++ e ∷ []) ≡ after_event (history_of es) ev
@@ -134,9 +140,12 @@ module _ (first : Bool) (es : List Entry) (dumps : Dumps) (base : Content) (stor
   pub content_at : blocks_at (live_of es ++ quiet (next_of es) ∷ []) stored (next_of es) ≡ content_told es base
   content_at = (quiet_is_live (live_of es) (next_of es) base stored (next_of es) m.stands.kept.numbered (omega arith) m.stands.described sound).same
 
+  pub new_number : (n : ℕ) → next_of es ≤ n → has (is_point n) (live_of es) ≡ false
+  new_number n free = above_all (live_of es) (next_of es) n m.stands.kept.numbered free
+
   pub new_place_at : (n : ℕ) → next_of es ≤ n → numbers_from (live_of es) (quiet n ∷ []) ≡ n ∷ []
   new_place_at n free =
-      let off : has (is_point n) (live_of es) ≡ false = above_all (live_of es) (next_of es) n m.stands.kept.numbered free in
+      let off : has (is_point n) (live_of es) ≡ false = new_number n free in
       let told : has is_described (live_of es ++ quiet n ∷ []) ≡ true = has_append is_described (live_of es) (quiet n ∷ []) ∙ true_or (has is_described (live_of es)) (has is_described (quiet n ∷ [])) m.stands.described in
       λ i. cond (not (off i) && told i) (n ∷ []) [] ++ []
 

@@ -1,5 +1,5 @@
 -- The audit has no room for one more entry: what waits was sealed. And a block whose newest Image is sealed.
-use Rattle.std.proofs.Common.{ℕ, ◌+◌, ◌≤◌, ◌<◌, ◌≡◌, inl, inr, List, [], ◌∷◌, ◌++◌, length, take, Some, None, refl, sym, ◌∙◌, ap, subst, arith}
+use Rattle.std.proofs.Common.{ℕ, ◌+◌, ◌≤◌, ◌<◌, ◌≡◌, inl, inr, List, [], ◌∷◌, ◌++◌, map, length, take, Some, None, refl, sym, ◌∙◌, ap, subst, arith}
 use Rattle.dms_moments.specs.Moments.{Now, Steps}
 use Rattle.dms_site.specs.Files.{Left, stored_of}
 use Rattle.dms_history.specs.Events.{Block, Content, Stored, Event, block_in}
@@ -8,6 +8,7 @@ use Rattle.dms_history.specs.Places.{is_control}
 use Rattle.dms_history.specs.Images.{or_else, last_after}
 use Rattle.dms_history.specs.Base.{opening, from_control}
 use Rattle.dms_history.specs.Pick.{Dumps}
+use Rattle.dms_history.specs.Points.{LivePoint}
 use Rattle.dms_history.specs.Entries.{Entry}
 use Rattle.dms_history.specs.EntryEvents.{live_of, next_of}
 use Rattle.dms_history.proofs.Picks.{option_cases, some_is, last_stands, last_append}
@@ -16,7 +17,7 @@ use Rattle.dms_history.proofs.Order.{append_none}
 use Rattle.dms_history.proofs.Listed.{points_stay}
 use Rattle.dms_running.specs.Telling.{Telling, IsTelling}
 use Rattle.dms_running.specs.Standing.{MayRun}
-use Rattle.dms_running.specs.Points.{points_told}
+use Rattle.dms_running.specs.Points.{described_in, points_told}
 use Rattle.dms_running.specs.Sealing.{SealsSome, Settled}
 use Rattle.dms_running.specs.Running.{State, entries_now, next_now, points_now, durable_now, content_now, count_live, AllPlain, IsRunning, IsAnOutcome, IsChanged}
 use Rattle.dms_running.proofs.MayRun.{sound, has_one, points_are}
@@ -34,7 +35,8 @@ module _ (t : Telling) (telling : IsTelling t) (a : State) (r : IsRunning t a) (
       let all = entries_now t a in
       ap (λ (l : List Entry). points_told (t.dumps b.files) l (stored_of b.files)) same
       ∙ points_are t.first all (t.dumps b.files) r.base (stored_of b.files) may
-      ∙ points_stay (live_of all) r.base (stored_of a.files) (stored_of b.files) (sound t.first all (t.dumps a.files) r.base (stored_of a.files) one) (sound t.first all (t.dumps b.files) r.base (stored_of b.files) may)
+      ∙ ap (λ (l : List LivePoint). map (described_in all) l)
+      (points_stay (live_of all) r.base (stored_of a.files) (stored_of b.files) (sound t.first all (t.dumps a.files) r.base (stored_of a.files) one) (sound t.first all (t.dumps b.files) r.base (stored_of b.files) may))
       ∙ sym (points_are t.first all (t.dumps a.files) r.base (stored_of a.files) one)
 
   pub same_next : next_now t b ≡ next_now t a
@@ -64,6 +66,7 @@ module _ (t : Telling) (telling : IsTelling t) (a : State) (r : IsRunning t a) (
   full_runs = record {
     base = r.base;
     settled = settles;
+    found = λ x now. let after = steps.follows x now in after.2.found (r.found after.0 after.1);
     each = λ k x now. subst (λ (l : List Entry). MayRun t.first l (t.dumps x.files) r.base (stored_of x.files)) (at_each k) (each_full x now);
     plain = subst AllPlain (sym nothing) tt;
     counted = λ k. omega (arith, ap (λ (l : List Entry). next_of l) (full_entries ∙ at_each k), ap (λ (l : List Entry). count_live l) (full_entries ∙ at_each k));

@@ -7,13 +7,12 @@ use Rattle.dms_moments.specs.MomentLaws.{runs_none, runs_on, runs_weaken}
 use Rattle.dms_site.specs.Files.{Files, Left, Only, stored_of}
 use Rattle.dms_history.specs.Events.{Content, Stored}
 use Rattle.dms_history.specs.Pick.{Dumps}
-use Rattle.dms_history.specs.Points.{LivePoint}
 use Rattle.dms_history.specs.Entries.{Entry}
 use Rattle.dms_history.specs.EntryEvents.{next_of}
 use Rattle.dms_history.proofs.Order.{append_none}
 use Rattle.dms_running.specs.Telling.{Telling, IsTelling}
 use Rattle.dms_running.specs.Standing.{Stands, MayRun, IsWhole}
-use Rattle.dms_running.specs.Points.{points_told, points_of, next_in, LeavesPointsPrefix}
+use Rattle.dms_running.specs.Points.{DescribedPoint, points_told, points_of, next_in, LeavesPointsPrefix}
 use Rattle.dms_running.specs.Sealing.{SealsSome, Appended, AreSealed, Settled}
 use Rattle.dms_running.specs.Running.{State, entries_now, count_live, AllPlain, IsRunning}
 use Rattle.dms_running.specs.Begun.{LeavesAll}
@@ -22,7 +21,7 @@ use Rattle.dms_running.proofs.Plain.{take_nothing}
 use Rattle.dms_running.proofs.Stopped.{blocks_same, joined}
 
 -- a stop leaves all of these points
-pub all_left : (t : Telling) (points : List LivePoint) (next : ℕ) (x : Left) → points_of t x.files ≡ points → next ≤ next_in t x.files → IsWhole t x.files → LeavesPointsPrefix t points (length points) next x
+pub all_left : (t : Telling) (points : List DescribedPoint) (next : ℕ) (x : Left) → points_of t x.files ≡ points → next ≤ next_in t x.files → IsWhole t x.files → LeavesPointsPrefix t points (length points) next x
 all_left t points next x is up whole = record {
   count = length points;
   enough = omega arith;
@@ -39,13 +38,14 @@ carried t telling x y es base same s =
     (subst (λ (st : Stored). Stands t.first es (t.dumps x) base st) (sym (blocks_same y x same)) s)
 
 -- where a stop leaves what is read alone and nothing waits, a database that may run is running
-pub still_runs : (t : Telling) (b : State) (base : Content) → Only b.files b.clock → b.waiting ≡ [] → MayRun t.first (t.entries b.files) (t.dumps b.files) base (stored_of b.files) → IsRunning t b
-still_runs t b base only none m =
+pub still_runs : (t : Telling) (b : State) (base : Content) → t.found b.files → Only b.files b.clock → b.waiting ≡ [] → MayRun t.first (t.entries b.files) (t.dumps b.files) base (stored_of b.files) → IsRunning t b
+still_runs t b base found only none m =
     let is : (k : ℕ) → t.entries b.files ++ take k b.waiting ≡ t.entries b.files = λ k. ap (λ (l : List Entry). t.entries b.files ++ l) (take_nothing k b.waiting none) ∙ append_none (t.entries b.files) in
     let now_is : entries_now t b ≡ t.entries b.files = ap (λ (l : List Entry). t.entries b.files ++ l) none ∙ append_none (t.entries b.files) in
     record {
       base = base;
       settled = λ x now. ap t.entries (only x now);
+      found = λ x now. subst t.found (sym (only x now)) found;
       each = λ k x now. subst (λ (l : List Entry). MayRun t.first l (t.dumps x.files) base (stored_of x.files)) (sym (is k)) (subst (λ (l : Files). MayRun t.first (t.entries b.files) (t.dumps l) base (stored_of l)) (sym (only x now)) m);
       plain = subst AllPlain (sym none) tt;
       counted = λ k. omega (arith, ap (λ (l : List Entry). next_of l) (is k), ap (λ (l : List Entry). count_live l) (is k), ap (λ (l : List Entry). next_of l) now_is, ap (λ (l : List Entry). count_live l) now_is);
@@ -66,6 +66,7 @@ pub planned_more : (t : Telling) (es rest : List Entry) (start : Files) (x : Lef
 planned_more t es rest start x p = record {
   some = min p.some (length es);
   sealed = p.sealed ∙ ap (λ (l : List Entry). t.entries start ++ l) (take_front p.some es rest);
+  found = p.found;
   above = p.above;
 }
 
@@ -74,7 +75,7 @@ lays_none t a only nothing = record {
   appended = record { some = 0; sealed = sym (append_none (t.entries a.files)); rest = nothing; above = λ g up. refl };
   settled = λ x now. ap t.entries (only x now);
   since = runs_none a.clock (Planned t [] a.files);
-  now = λ x now. record { some = 0; sealed = ap t.entries (only x now) ∙ sym (append_none (t.entries a.files)); above = λ g up. ap (λ (l : Files). l g) (only x now) };
+  now = λ x now. record { some = 0; sealed = ap t.entries (only x now) ∙ sym (append_none (t.entries a.files)); found = λ f. subst t.found (sym (only x now)) f; above = λ g up. ap (λ (l : Files). l g) (only x now) };
 }
 
 module _ (t : Telling) (es : List Entry) (start : Files) (old : Clock Left) (s : State) (l : Lays t es start old s) where
@@ -95,6 +96,7 @@ module _ (t : Telling) (es : List Entry) (start : Files) (old : Clock Left) (s :
   reached more y x now seals = record {
     some = length sealed_part + seals.some;
     sealed = seals.sealed ∙ ap (λ (j : List Entry). j ++ take seals.some (s.waiting ++ more)) (l.settled y now ∙ l.appended.sealed) ∙ sealed_more more seals.some;
+    found = λ f. seals.found ((l.now y now).found f);
     above = λ g up. seals.above g up ∙ (l.now y now).above g up;
   }
 
@@ -119,16 +121,20 @@ module _ (t : Telling) (es : List Entry) (start : Files) (old : Clock Left) (s :
   lays_sealing later steps = subst (λ (j : List Entry). Runs old later (Planned t j start)) (append_none es)
       (lays_since [] later (subst (λ (j : List Entry). Steps (SealsSome t j) s.clock later) (sym (append_none s.waiting)) steps))
 
+  -- scanning finds the entries of what a stop leaves then
+  pub lays_found : (later : Clock Left) → Steps (SealsSome t s.waiting) s.clock later → (x : Left) → Now later x → t.found start → t.found x.files
+  lays_found later steps x now f = let after = steps.follows x now in after.2.found ((l.now after.0 after.1).found f)
+
   pub lays_sealed : (later : Files) → AreSealed t s.waiting s.files later → (t.entries later ≡ t.entries start ++ es) × ((g : ℕ) → 20000 < g → later g ≡ start g)
   lays_sealed later sealed = (sealed.sealed ∙ joined t es s.waiting start s.files l.appended, λ g up. sealed.above g up ∙ l.appended.above g up)
 
-module _ (t : Telling) (telling : IsTelling t) (es : List Entry) (a : State) (base : Content) (keeps : KeepsAll t es a.files base) (only : Only a.files a.clock) where
+module _ (t : Telling) (telling : IsTelling t) (es : List Entry) (a : State) (base : Content) (keeps : KeepsAll t es a.files base) (finds : t.found a.files) (only : Only a.files a.clock) where
   planned_front : (x : Left) → Planned t es a.files x → LeavesPointsPrefix t (points_of t a.files) (length (points_of t a.files)) (next_in t a.files) x
   planned_front x p =
       all_left t (points_of t a.files) (next_in t a.files) x
       ((λ i. points_told (telling.dumps_between x.files a.files (λ g up below. p.above g up) i) (p.sealed i) (blocks_same x.files a.files p.above i)) ∙ keeps.points p.some)
       (subst (λ (l : List Entry). next_in t a.files ≤ next_of l) (sym p.sealed) (keeps.next p.some))
-      (record { base = base; stands = carried t telling a.files x.files (t.entries x.files) base p.above (subst (λ (l : List Entry). Stands t.first l (t.dumps a.files) base (stored_of a.files)) (sym p.sealed) (keeps.stands p.some)) })
+      (record { found = p.found finds; base = base; stands = carried t telling a.files x.files (t.entries x.files) base p.above (subst (λ (l : List Entry). Stands t.first l (t.dumps a.files) base (stored_of a.files)) (sym p.sealed) (keeps.stands p.some)) })
 
   -- a stop while they are appended and sealed leaves all points
   pub plan_leaves : (later : Clock Left) → Runs a.clock later (Planned t es a.files) → LeavesAll t a later

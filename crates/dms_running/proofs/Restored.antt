@@ -1,5 +1,5 @@
 -- A pending restore by the audit writes.
-use Rattle.std.proofs.Common.{ℕ, ◌<◌, ◌≡◌, Bool, List, [], length, Some, refl, sym, ◌∙◌, ap, subst, arith, inl, inr}
+use Rattle.std.proofs.Common.{ℕ, ◌<◌, ◌≡◌, Bool, List, [], map, length, Some, refl, sym, ◌∙◌, ap, subst, arith, inl, inr}
 use Rattle.dms_moments.specs.Moments.{Clock, Now, Steps}
 use Rattle.dms_moments.specs.MomentLaws.{runs_weaken}
 use Rattle.dms_site.specs.Files.{Files, Left, stored_of}
@@ -24,7 +24,7 @@ use Rattle.dms_history.proofs.Keeping.{kept_restores}
 use Rattle.dms_history.proofs.Sizing.{sized_replay}
 use Rattle.dms_running.specs.Telling.{Telling, IsTelling}
 use Rattle.dms_running.specs.Standing.{Stands}
-use Rattle.dms_running.specs.Points.{points_told, points_of, next_in, LeavesPointsPrefix}
+use Rattle.dms_running.specs.Points.{described_in, points_told, points_of, next_in, LeavesPointsPrefix}
 use Rattle.dms_running.specs.Running.{State, IsAnOutcome}
 use Rattle.dms_running.specs.Restoring.{IsKept, Rewritten, Rewrites, RestoredTo}
 use Rattle.dms_running.specs.Begun.{ByAudit, IsBegun, LeavesAll, IsRestored, outcome_now}
@@ -71,7 +71,7 @@ module _ (first : Bool) (es : List Entry) (base : Content) (d : Dumps) (p : Pend
       sym (ap length block) ∙ stands_sized first es d base st s f b low
 
   pub points_fixed : (one two : Stored) → Stands first es d base one → Stands first es d base two → points_told d es one ≡ points_told d es two
-  points_fixed one two a b = ap (λ (s : Stored). live_points (live_of es) s) (here_fixed d (history_of es) base one two p is a.kept.steady b.kept.steady)
+  points_fixed one two a b = ap (λ (s : Stored). map (described_in es) (live_points (live_of es) s)) (here_fixed d (history_of es) base one two p is a.kept.steady b.kept.steady)
 
   pub rewritten_stands : (x y : Files) → Rewritten (IsKept p.entries p.point) x y → Stands first es d base (stored_of x) → Stands first es d base (stored_of y)
   rewritten_stands x y step s = record {
@@ -123,6 +123,9 @@ module _ (t : Telling) (telling : IsTelling t) (p : Pending) (a : State) (r : Is
     pub rewrites_entries : t.entries x.files ≡ es
     rewrites_entries = telling.entries_low x.files y.files step.files.others ∙ r.settled y now
 
+    pub rewrites_found : t.found x.files
+    rewrites_found = telling.found_low x.files y.files step.files.others (r.found y now)
+
     pub rewrites_stands : Stands t.first es (t.dumps x.files) r.base (stored_of x.files)
     rewrites_stands = other_dumps (t.dumps y.files) (t.dumps x.files) (stored_of x.files) (rewritten_stands t.first es r.base (t.dumps y.files) p r.pending r.by_audit y.files x.files step.files (r.each y now))
 
@@ -132,12 +135,12 @@ module _ (t : Telling) (telling : IsTelling t) (p : Pending) (a : State) (r : Is
         ∙ points_fixed t.first es r.base (t.dumps x.files) p r.pending r.by_audit (stored_of x.files) (stored_of a.files) rewrites_stands (other_dumps (t.dumps a.files) (t.dumps x.files) (stored_of a.files) read_stands)
         ∙ others)
         (omega (arith, ap (λ (l : List Entry). next_of l) rewrites_entries))
-        (record { base = r.base; stands = subst (λ (l : List Entry). Stands t.first l (t.dumps x.files) r.base (stored_of x.files)) (sym rewrites_entries) rewrites_stands })
+        (record { found = rewrites_found; base = r.base; stands = subst (λ (l : List Entry). Stands t.first l (t.dumps x.files) r.base (stored_of x.files)) (sym rewrites_entries) rewrites_stands })
       where
         others : points_told (t.dumps x.files) es (stored_of a.files) ≡ points_told (t.dumps a.files) es (stored_of a.files)
         others =
             let one = other_dumps (t.dumps a.files) (t.dumps x.files) (stored_of a.files) read_stands in
-            ap (λ (s : Stored). live_points (live_of es) s)
+            ap (λ (s : Stored). map (described_in es) (live_points (live_of es) s))
             (here_is (t.dumps x.files) (history_of es) p (stored_of a.files) r.pending
             ∙ ap (λ (c : Content). block_in c) (one.kept.steady.restored p r.pending ∙ sym (read_stands.kept.steady.restored p r.pending))
             ∙ sym (here_is (t.dumps a.files) (history_of es) p (stored_of a.files) r.pending))
@@ -160,6 +163,7 @@ module _ (t : Telling) (telling : IsTelling t) (p : Pending) (a : State) (r : Is
       base = r.base;
       nothing = none;
       settled = λ x now. let after = steps.follows x now in rewrites_entries after.0 x after.1 after.2 ∙ sym same_entries;
+      found = λ x now. let after = steps.follows x now in rewrites_found after.0 x after.1 after.2;
       pending = ap (λ (l : List Entry). (history_of l).pending) same_entries ∙ r.pending;
       by_audit = r.by_audit;
       each = λ x now. let after = steps.follows x now in

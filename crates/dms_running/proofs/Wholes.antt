@@ -1,30 +1,50 @@
 -- Files that hold a database, and agreement.
-use Rattle.dms_site.specs.Files.{stored_of}
+use Rattle.std.proofs.Common.{◌≡◌, true, Some}
+use Rattle.dms_site.specs.Files.{Files, stored_of}
+use Rattle.dms_history.specs.Events.{Content}
+use Rattle.dms_history.specs.Lists.{has}
+use Rattle.dms_history.specs.Places.{is_described, IsLive}
+use Rattle.dms_history.specs.History.{Pending}
+use Rattle.dms_history.specs.Kept.{content_told, Kept}
+use Rattle.dms_history.specs.Sizes.{AllSized, ImagesSized}
 use Rattle.dms_history.specs.Base.{from_control}
-use Rattle.dms_history.specs.EntryEvents.{live_of}
+use Rattle.dms_history.specs.EntryEvents.{history_of, live_of, Agrees}
 use Rattle.dms_history.proofs.Keeping.{kept_agrees, agrees_kept}
 use Rattle.dms_history.proofs.Given.{described_control}
 use Rattle.dms_history.proofs.Sizing.{sized_base}
-use Rattle.dms_running.specs.Laws.{WholeAgrees, AgreesWhole, RunsImage, RunsQuiet, RunsWrites, BeginKeepsAll}
+use Rattle.dms_running.specs.Telling.{Telling}
+use Rattle.dms_running.specs.Standing.{IsWhole}
+use Rattle.dms_running.specs.Laws.{StandsAgrees, AgreesStands, RunsImage, RunsQuiet, RunsWrites, BeginKeepsAll}
 use Rattle.dms_running.proofs.MayRun.{may_image, content_image, may_quiet, content_quiet, may_write}
 use Rattle.dms_running.proofs.Beginning.{begin_stands, begin_points, begin_next}
 
-pub whole_agrees : WholeAgrees
-whole_agrees t files w = kept_agrees t.first (t.entries files) (t.dumps files) w.base (stored_of files) w.stands.kept
+pub stands_agrees : StandsAgrees
+stands_agrees first es dumps base stored s = kept_agrees first es dumps base stored s.kept
 
-pub agrees_whole : AgreesWhole
-agrees_whole t files agrees described lives images sized =
-    let es = t.entries files in
-    let over = agrees_kept t.first es (t.dumps files) (stored_of files) agrees (described_control (live_of es) described) lives in
-    record {
-      base = over.base;
-      stands = record {
+-- so do files that hold a database
+pub whole_agrees : (t : Telling) (files : Files) → IsWhole t files → Agrees t.first (t.entries files) (t.dumps files) (stored_of files)
+whole_agrees t files w = stands_agrees t.first (t.entries files) (t.dumps files) w.base (stored_of files) w.stands
+
+pub agrees_stands : AgreesStands
+agrees_stands first es dumps stored agrees described lives images sized =
+    let over = agrees_kept first es dumps stored agrees (described_control (live_of es) described) lives in
+    (
+      over.base,
+      record {
         kept = over.kept;
         described = described;
         base_sized = sized_base (from_control (live_of es)) over.base over.kept.steady.sound.chain (sized over.base over.kept) images;
         images_sized = images;
-      };
-    }
+      },
+    )
+
+-- files in which scanning finds the entries hold a database where these agree so
+pub agrees_whole : (t : Telling) (files : Files) → t.found files → Agrees t.first (t.entries files) (t.dumps files) (stored_of files) → has is_described (live_of (t.entries files)) ≡ true
+    → ((p : Pending) → (history_of (t.entries files)).pending ≡ Some p → IsLive (live_of (t.entries files)) p.point) → ImagesSized (from_control (live_of (t.entries files)))
+    → ((base : Content) → Kept t.first (t.entries files) (t.dumps files) base (stored_of files) → AllSized (content_told (t.entries files) base)) → IsWhole t files
+agrees_whole t files found agrees described lives images sized =
+    let over = agrees_stands t.first (t.entries files) (t.dumps files) (stored_of files) agrees described lives images sized in
+    record { found = found; base = over.0; stands = over.1 }
 
 pub runs_image : RunsImage
 runs_image first es dumps base stored f b before after m tells sized = (may_image first es dumps base stored m f b before after tells sized, content_image first es dumps base stored m f b before after tells sized)

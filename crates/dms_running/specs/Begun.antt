@@ -25,12 +25,13 @@ ByAudit roll_back = Unit {0}
 ByAudit (rebuild d) = ⊥
 ByAudit (reconstruct d named) = ⊥
 
--- No entry waits, and in each image that a stop leaves the Begin of this restore by the audit is sealed and pending, and the database
--- stands over one base.
+-- No entry waits, and in each image that a stop leaves the Begin of this restore by the audit is sealed and pending, scanning finds the
+-- entries, and the database stands over one base.
 pub record IsBegun (t : Telling) (p : Pending) (s : State) : Type 0 where
   pub base : Content
   pub nothing : s.waiting ≡ []
   pub settled : Settled t s.files s.clock
+  pub found : (x : Left) → Now s.clock x → t.found x.files
   pub pending : (history_of (t.entries s.files)).pending ≡ Some p
   pub by_audit : ByAudit p.how
   pub each : (x : Left) → Now s.clock x → Stands t.first (t.entries s.files) (t.dumps x.files) base (stored_of x.files)

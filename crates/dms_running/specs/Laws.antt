@@ -1,6 +1,5 @@
 -- Laws: what stands agrees, and what a database that may run becomes by one entry more or by other blocks.
 use Rattle.std.specs.Prelude.{ℕ, ◌-◌, ◌^◌, ◌<◌, ◌≤◌, ◌≡◌, Bool, true, List, [], ◌∷◌, ◌++◌, length, Option, Some, None}
-use Rattle.dms_site.specs.Files.{Files, stored_of}
 use Rattle.dms_history.specs.Events.{Block, Content, Stored}
 use Rattle.dms_history.specs.Replay.{TellsBefore, with_block}
 use Rattle.dms_history.specs.Lists.{has, after_last}
@@ -13,23 +12,20 @@ use Rattle.dms_history.specs.Entries.{Kind, Entry, image, quiet_point, begin_res
 use Rattle.dms_history.specs.EntryEvents.{history_of, live_of, next_of, Agrees}
 use Rattle.dms_history.specs.Kept.{content_told, Kept}
 use Rattle.dms_history.specs.Sizes.{AllSized, ImagesSized}
-use Rattle.dms_running.specs.Telling.{Telling}
-use Rattle.dms_running.specs.Standing.{Stands, MayRun, IsWhole}
+use Rattle.dms_running.specs.Standing.{Stands, MayRun}
 use Rattle.dms_running.specs.Points.{points_told}
 use Rattle.dms_running.specs.Begun.{ByAudit}
 
--- In files that hold a database the entries agree with the dumps and blocks.
-abbrev pub WholeAgrees : Type 0
-WholeAgrees = (t : Telling) (files : Files) → IsWhole t files → Agrees t.first (t.entries files) (t.dumps files) (stored_of files)
+-- What stands agrees: entries with the dumps and blocks.
+abbrev pub StandsAgrees : Type 0
+StandsAgrees = (first : Bool) (es : List Entry) (dumps : Dumps) (base : Content) (stored : Stored) → Stands first es dumps base stored → Agrees first es dumps stored
 
--- Files whose entries agree with the dumps and blocks hold a database, where a Control directly behind a whole Schema is live, the point
--- of a restore that may be pending is live, each image has 1,024 bytes, and so has each block of the content, whatever base it is told over.
-abbrev pub AgreesWhole : Type 0
-AgreesWhole = (t : Telling) (files : Files) → Agrees t.first (t.entries files) (t.dumps files) (stored_of files) → has is_described (live_of (t.entries files)) ≡ true
-    → ((p : Pending) → (history_of (t.entries files)).pending ≡ Some p → IsLive (live_of (t.entries files)) p.point)
-    → ImagesSized (from_control (live_of (t.entries files)))
-    → ((base : Content) → Kept t.first (t.entries files) (t.dumps files) base (stored_of files) → AllSized (content_told (t.entries files) base))
-    → IsWhole t files
+-- Entries that agree with the dumps and blocks stand, where a Control directly behind a whole Schema is live, the point of a restore that may
+-- be pending is live, each image has 1,024 bytes, and so has each block of the content, whatever base it is told over.
+abbrev pub AgreesStands : Type 0
+AgreesStands = (first : Bool) (es : List Entry) (dumps : Dumps) (stored : Stored) → Agrees first es dumps stored → has is_described (live_of es) ≡ true
+    → ((p : Pending) → (history_of es).pending ≡ Some p → IsLive (live_of es) p.point) → ImagesSized (from_control (live_of es))
+    → ((base : Content) → Kept first es dumps base stored → AllSized (content_told es base)) → (base : Content) × Stands first es dumps base stored
 
 -- An Image that tells what stood before it: it may still run, and the content has the block.
 abbrev pub RunsImage : Type 0

@@ -11,10 +11,11 @@ use Rattle.dms_running.specs.Points.{points_told, points_of, next_in}
 use Rattle.dms_running.specs.Sealing.{Appended, Settled}
 use Rattle.dms_running.specs.Running.{State}
 
--- the first so many of the planned entries are sealed
+-- the first so many of the planned entries are sealed, and scanning finds them where it found those of the start
 pub record Planned (t : Telling) (es : List Entry) (start : Files) (x : Left) : Type 0 where
   pub some : ℕ
   pub sealed : t.entries x.files ≡ t.entries start ++ take some es
+  pub found : t.found start → t.found x.files
   pub above : (g : ℕ) → 20000 < g → x.files g ≡ start g
 
 -- So many entries were appended one after another since a moment at which nothing waited or was pending: the first of them are sealed,

@@ -25,7 +25,8 @@ pub record MayRun (first : Bool) (entries : List Entry) (dumps : Dumps) (base : 
   pub stands : Stands first entries dumps base stored
   pub none : (history_of entries).pending ≡ None
 
--- Files hold a database, be a restore pending or not.
+-- Files hold a database, be a restore pending or not: scanning finds its entries, and all stands.
 pub record IsWhole (t : Telling) (files : Files) : Type 0 where
+  pub found : t.found files
   pub base : Content
   pub stands : Stands t.first (t.entries files) (t.dumps files) base (stored_of files)

@@ -1,11 +1,11 @@
 //! Laws of the definitions. Each stands on a function with an empty body, so that the check proves it.
 
-ghost use Rattle.dms_running.specs.Laws.{WholeAgrees, AgreesWhole, RunsImage, RunsQuiet, RunsWrites, BeginKeepsAll};
+ghost use Rattle.dms_running.specs.Laws.{StandsAgrees, AgreesStands, RunsImage, RunsQuiet, RunsWrites, BeginKeepsAll};
 
-/// Files hold a database where its entries agree with its dumps and blocks, and its blocks are whole.
-pub fn whole_is_agreement()
-    ensures agrees { WholeAgrees }
-    ensures whole { AgreesWhole }
+/// What stands agrees with its dumps and blocks, and what agrees stands where its blocks are whole.
+pub fn standing_is_agreement()
+    ensures agrees { StandsAgrees }
+    ensures stands { AgreesStands }
 {}
 
 /// A database that may run still may with an Image, a quiet point or blocks that are written early, and a Begin to its last point keeps all its points.

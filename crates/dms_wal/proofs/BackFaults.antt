@@ -3,7 +3,7 @@ use Rattle.std.proofs.Common.{ℕ, ◌≡◌, ◌⊎◌, inl, inr, sym, subst}
 use Rattle.std.specs.Prelude.{IsErrOf}
 use Rattle.std.specs.declared.result.Result.TheVariants.{Err}
 use Rattle.dms_audfile.specs.declared.fault.AudFault.{AudFault}
-use Rattle.dms_audfile.specs.declared.fault.AudFault.TheVariants.{Disk, Full}
+use Rattle.dms_audfile.specs.declared.fault.AudFault.TheVariants.{Disk, Full, Memory}
 use Rattle.dms_audfile.specs.Counting.{CountedAt}
 use Rattle.dms_block.specs.declared.block_fault.BlockFault.{BlockFault}
 use Rattle.dms_block.specs.declared.block_fault.BlockFault.TheVariants as block
@@ -58,4 +58,16 @@ back_full {T = T} f e limit old new (inr (inl disk)) seen is = let s = subst (λ
 back_full {T = T} f e limit old new (inr (inr memory)) seen is = let s = subst (λ x. IsSeenInBack x e old new) memory seen in absurd (off s.0 is)
   where
     off : e ≡ block.Memory → IsErrOf {T = T} (Err e) (block.Full limit) → ⊥
+    off at is = cc
+
+-- Memory is answered where it was wanted
+pub back_memory : {T U : Type 0} (f : AudFault) (e : BlockFault) (limit old new : ℕ) → IsBackFault limit f → IsSeenInBack f e old new → IsErrOf {T = T} (Err e) block.Memory → IsErrOf {T = U} (Err f) Memory
+back_memory f e limit old new (inr (inr memory)) seen is = λ i. Err (memory i)
+back_memory {T = T} f e limit old new (inl full) seen is = let s = subst (λ x. IsSeenInBack x e old new) full seen in absurd (off s.0 is)
+  where
+    off : e ≡ block.Full limit → IsErrOf {T = T} (Err e) block.Memory → ⊥
+    off at is = cc
+back_memory {T = T} f e limit old new (inr (inl disk)) seen is = let s = subst (λ x. IsSeenInBack x e old new) disk seen in absurd (off s.0 is)
+  where
+    off : e ≡ block.Disk → IsErrOf {T = T} (Err e) block.Memory → ⊥
     off at is = cc

@@ -1,5 +1,5 @@
 -- A running database went back to its last point.
-use Rattle.std.proofs.Common.{ℕ, ◌≡◌, Bool, cond, IsTrue, List, [], ◌∷◌, ◌++◌, length, Some, None, refl, sym, ◌∙◌, ap, subst, arith}
+use Rattle.std.proofs.Common.{ℕ, ◌≡◌, Bool, false, cond, IsTrue, List, [], ◌∷◌, ◌++◌, length, Some, None, refl, sym, ◌∙◌, ap, subst, arith}
 use Rattle.std.specs.Global.{Vec}
 use Rattle.dms_moments.specs.Moments.{Now, Steps}
 use Rattle.dms_site.specs.declared.site.Site.{Ghosts}
@@ -42,17 +42,17 @@ content_mark a b m marks runs read mark es w = w.content_is ∙ mark_is a runs r
 module _ {S : Type 0} (g : Ghosts S) (stay : (s : S) → IsTrue g.tells → (x : Left) × Now (g.clock s) x × (x.files ≡ g.files s)) (now_said : (s : S) (x : Left) → IsTrue g.tells_said → Now (g.clock s) x → x.said ≡ g.said s)
     (r : Running S) (u : IsUsable g r) (l : Log S) where
   -- whatever it answers, no point is made
-  pub passes_back : (p : Pool) (b : Bool) (full outs : ℕ) (cs : Vec ℕ) → telling (view_of g l) ≡ telling (view_of g r.log) → length cs.items ≡ length r.counts.items → g.said l.site ≡ g.said r.log.site
+  pub passes_back : (p : Pool) (b c : Bool) (full outs : ℕ) (cs : Vec ℕ) → telling (view_of g l) ≡ telling (view_of g r.log) → length cs.items ≡ length r.counts.items → g.said l.site ≡ g.said r.log.site
       → (IsTrue g.tells → LogLeaves (view_of g r.log) (view_of g l) (points (view_of g r.log)) (logs.next (view_of g r.log))) → (IsTrue g.tells → Steps PrintsNothing (g.clock r.log.site) (g.clock l.site))
-      → MakesNoPoint (held g r) (held g (record r { log = l; pool = p; broken = b; full = full; counts = cs; outs = outs }))
-  passes_back p b full outs cs kind many said leaves silent =
-      let r' : Running S = record r { log = l; pool = p; broken = b; full = full; counts = cs; outs = outs } in
+      → MakesNoPoint (held g r) (held g (record r { log = l; pool = p; broken = b; changed = c; full = full; counts = cs; outs = outs }))
+  passes_back p b c full outs cs kind many said leaves silent =
+      let r' : Running S = record r { log = l; pool = p; broken = b; changed = c; full = full; counts = cs; outs = outs } in
       passes_by g.tells (IsUsable g r) (IsUsable g r') (view_of g r.log) (view_of g l) r.schema.items r.next r.next r.counts.items cs.items (said_of g r.log) (said_of g l) (faults_of g r) (faults_of g r') (uses_of g r) (uses_of g r')
       kind many refl (ap (λ (s : List ℕ). cond g.tells_said (Some s) None) said) (λ t. (u.goes t).numbered) (text g now_said r.schema.items r.log) leaves silent
 
   module _ (n : ℕ) (p : Pool) (empty : IsEmpty n p) (outs : ℕ) (cs : Vec ℕ) (copied : cs.items ≡ r.marks.items) (es : List Entry) (went : IsTrue g.tells → WentBackTo r.point (view_of g r.log) (view_of g l) es) where
     abbrev pub back : Running S
-    back = record r { log = l; pool = p; counts = cs; outs = outs }
+    back = record r { log = l; pool = p; counts = cs; changed = false; outs = outs }
 
     pub marked_content : IsTrue g.tells → content (view_of g l) ≡ last_blocks (λ f. []) (points (view_of g r.log))
     marked_content t = content_mark (view_of g r.log) (view_of g l) r.point r.marks.items (u.goes t).runs (stay r.log.site t) (u.pointed t) es (went t)
@@ -71,6 +71,7 @@ module _ {S : Type 0} (g : Ghosts S) (stay : (s : S) → IsTrue g.tells → (x :
         counted = λ f. ap (λ (c : List ℕ). count_of c f) copied ∙ (u.pointed t).counted f ∙ ap (λ (c : Content). length (c f)) (sym (marked_content t));
       };
       pointed = λ t. subst (λ (ps : List LivePoint). IsMarkOf ps r.point r.marks.items) (sym (went t).points_same) (u.pointed t);
+      unchanged = λ no t. record { content_is = marked_content t ∙ sym (ap (last_blocks (λ f. [])) (went t).points_same); counts_are = copied };
     }
 
     pub stays_back : Stays (held g r) (held g back)

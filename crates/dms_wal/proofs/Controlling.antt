@@ -36,6 +36,7 @@ use Rattle.dms_wal.specs.Marks.{IsMarkOf}
 use Rattle.dms_wal.specs.Database.{held, view_of, frames_of, GoesWith, IsUsable}
 use Rattle.dms_wal.proofs.Pooled.{clean_frames}
 use Rattle.dms_wal.proofs.Pointing.{last_is}
+use Rattle.dms_wal.proofs.Marked.{mark_on}
 
 true_not_false : true ≡ false → ⊥
 true_not_false e = absurd cc
@@ -90,6 +91,7 @@ module _ {S : Type 0} (g : Ghosts S) (r : Running S) (u : IsUsable g r) (clean :
     table = u.table;
     marked = u.marked;
     pointed = λ t. subst (λ (ps : List LivePoint). IsMarkOf ps r.point r.marks.items) (sym (controlled t).points_same) (u.pointed t);
+    unchanged = λ no t. mark_on (view_of g r.log) (view_of g l) r.counts.items r.marks.items (controlled t).content_same (controlled t).points_same (u.unchanged no t);
     counted = u.counted;
     goes = λ t. let k = u.goes t in let c = controlled t in record {
       runs = c.runs;

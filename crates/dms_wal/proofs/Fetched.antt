@@ -36,6 +36,7 @@ use Rattle.dms_wal.proofs.Stills.{goes_still}
 use Rattle.dms_wal.proofs.Stepped.{in_table}
 use Rattle.dms_wal.proofs.Tabled.{count_at}
 use Rattle.dms_wal.proofs.Roomed.{usable_same}
+use Rattle.dms_wal.proofs.Marked.{mark_still}
 
 none_not_some : {A : Type 0} (x : A) → None ≡ Some x → ⊥
 none_not_some x e = absurd cc
@@ -79,6 +80,7 @@ module _ {S : Type 0} (g : Ghosts S) (r : Running S) (u : IsUsable g r) where
       table = u.table;
       marked = u.marked;
       pointed = λ t. subst (λ (f : Files). IsMarkOf (points (view r.log.end r.log.first f (g.clock s))) r.point r.marks.items) (sym (files t)) (u.pointed t);
+      unchanged = λ no t. mark_still r.log.end r.log.first (g.files r.log.site) (g.files s) (g.clock r.log.site) (g.clock s) r.counts.items r.marks.items (files t) (u.unchanged no t);
       counted = u.counted;
       goes = λ t. goes_still r.pool r.next r.counts.items (view_of g r.log) (g.files s) (g.clock s) (files t) (steps_weaken steps (λ x y now is. ap (λ (l : Left). l.files) is)) (u.goes t);
     }
@@ -117,6 +119,7 @@ module _ {S : Type 0} (g : Ghosts S) (r : Running S) (u : IsUsable g r) where
       table = u.table;
       marked = u.marked;
       pointed = u.pointed;
+      unchanged = u.unchanged;
       counted = counted_put id (framed block false) r.pool p r.counts.items put u.counted there;
       goes = λ t. let k = u.goes t in record {
         runs = k.runs;
@@ -141,6 +144,7 @@ module _ {S : Type 0} (g : Ghosts S) (r : Running S) (u : IsUsable g r) where
     table = u.table;
     marked = u.marked;
     pointed = u.pointed;
+    unchanged = u.unchanged;
     counted = counted_looked id r.pool p looked r.counts.items u.counted;
     goes = λ t. let k = u.goes t in record {
       runs = k.runs;
@@ -152,7 +156,7 @@ module _ {S : Type 0} (g : Ghosts S) (r : Running S) (u : IsUsable g r) where
 
   -- and a read was counted
   pub usable_counted : (n : ℕ) → IsUsable g (record r { reads = n })
-  usable_counted n = record { unbroken = u.unbroken; described = u.described; table = u.table; marked = u.marked; pointed = u.pointed; counted = u.counted; goes = λ t. let k = u.goes t in record { runs = k.runs; holds = k.holds; numbered = k.numbered; counted = k.counted } }
+  usable_counted n = record { unbroken = u.unbroken; described = u.described; table = u.table; marked = u.marked; pointed = u.pointed; unchanged = u.unchanged; counted = u.counted; goes = λ t. let k = u.goes t in record { runs = k.runs; holds = k.holds; numbered = k.numbered; counted = k.counted } }
 
   -- the block that is held is that of the content
   pub asked_block : (id : BlockId) (block : Block) → Some block ≡ option_map (λ f. f.block) (frame_of id r.pool) → IsTrue g.tells → block.0 ≡ block_in (content (view_of g r.log)) id.file id.block
@@ -162,4 +166,4 @@ module _ {S : Type 0} (g : Ghosts S) (r : Running S) (u : IsUsable g r) where
 
   -- a held block was asked for, and counted
   pub usable_read : (id : BlockId) (p : Pool) (n : ℕ) → FrameUsed id r.pool p → IsUsable g (record r { pool = p; reads = n })
-  usable_read id p n looked = let k = usable_asked id p looked in record { unbroken = k.unbroken; described = k.described; table = k.table; marked = k.marked; pointed = k.pointed; counted = k.counted; goes = λ t. let j = k.goes t in record { runs = j.runs; holds = j.holds; numbered = j.numbered; counted = j.counted } }
+  usable_read id p n looked = let k = usable_asked id p looked in record { unbroken = k.unbroken; described = k.described; table = k.table; marked = k.marked; pointed = k.pointed; unchanged = k.unchanged; counted = k.counted; goes = λ t. let j = k.goes t in record { runs = j.runs; holds = j.holds; numbered = j.numbered; counted = j.counted } }

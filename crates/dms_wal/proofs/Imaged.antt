@@ -48,11 +48,13 @@ use Rattle.dms_block.specs.Faults.{Unbroken}
 use Rattle.dms_block.specs.Held.{Alters, Stays}
 use Rattle.dms_block.specs.HeldLaws.{used_none}
 use Rattle.dms_restore.specs.Logging.{PrintsNothing}
-use Rattle.dms_wal.specs.Database.{held, uses_of}
+use Rattle.dms_wal.specs.Database.{held, faults_of, said_of, uses_of}
 use Rattle.dms_wal.proofs.Causes.{no_memory}
-use Rattle.dms_wal.proofs.Lifts.{surer}
+use Rattle.dms_wal.proofs.Lifts.{passes_by, stays_by, surer}
 use Rattle.dms_wal.proofs.Roomed.{then_leave}
-use Rattle.dms_wal.proofs.Stepped.{passes_step, stays_step}
+use Rattle.dms_wal.proofs.Stepped.{passes_step, surer_step}
+use Rattle.dms_wal.proofs.Marked.{true_not_false}
+use Rattle.dms_wal.specs.AgreeLaws.{text}
 use Rattle.dms_wal.proofs.Tabled.{raised_table, raised_more}
 
 -- one word for a changed content, above and below
@@ -91,6 +93,7 @@ module _ (id : BlockId) (block : Block) (a : LogView) (first second : Pool) (im 
     points_same = refl;
     next_same = refl;
     content_same = refl;
+    entries_same = refl;
   }
 
   pub image_changed : logs.IsChangedBlock a id.file id.block
@@ -105,6 +108,7 @@ module _ (id : BlockId) (block : Block) (a : LogView) (first second : Pool) (im 
     points_same = w.points_same;
     next_same = w.next_same;
     content_same = w.content_same;
+    entries_same = w.entries_same;
   }
     where
       third_second : (g c : ℕ) → frames_of third g c ≡ frames_of second g c
@@ -125,12 +129,13 @@ module _ {S : Type 0} (g : Ghosts S) (r : Running S) (u : IsUsable g r) (id : Bl
   pub content_changed : IsTrue g.tells → content (view_of g two) ≡ with_block (content (view_of g r.log)) id.file id.block block.0
   content_changed t = (kept t).content_same ∙ (logged t).content_is
 
-  pub usable_changed : IsUsable g (record r { log = two; pool = pool; counts = cs })
+  pub usable_changed : IsUsable g (record r { log = two; pool = pool; counts = cs; changed = true })
   usable_changed = record {
     unbroken = u.unbroken;
     described = u.described;
     marked = record { table = u.marked.table; as_many = u.marked.as_many ∙ sym many };
     pointed = λ t. subst (λ (ps : List LivePoint). IsMarkOf ps r.point r.marks.items) (sym ((kept t).points_same ∙ (logged t).points_same)) (u.pointed t);
+    unchanged = λ no t. absurd (true_not_false no);
     table = raised_table r.counts.items cs.items id.file id.block u.table low raises many;
     counted = counted;
     goes = λ t. let k = u.goes t in record {
@@ -155,14 +160,18 @@ module _ {S : Type 0} (g : Ghosts S) (stay : (s : S) → IsTrue g.tells → (x :
     (counts_now : (s : S) (t : ℕ) (x : Left) → t ≤ (g.clock s).now → Now (g.clock s) x → (g.clock s).left t x) (r : Running S) (u : IsUsable g r) (l : Log S) (kind : telling (view_of g l) ≡ telling (view_of g r.log)) (said : g.said l.site ≡ g.said r.log.site)
     (leaves : IsTrue g.tells → logs.LogLeaves (view_of g r.log) (view_of g l) (points (view_of g r.log)) (logs.next (view_of g r.log))) (silent : IsTrue g.tells → Steps PrintsNothing (g.clock r.log.site) (g.clock l.site)) where
   -- it was made
-  pub alters_made : (p : Pool) (cs : Vec ℕ) → length cs.items ≡ length r.counts.items → IsUsable g (record r { log = l; pool = p; counts = cs }) → (IsTrue g.tells → points (view_of g l) ≡ points (view_of g r.log))
-      → Alters 0 0 (Ok (tt {0})) (held g r) (held g (record r { log = l; pool = p; counts = cs }))
-  alters_made p cs many usable same = record {
-    passes = passes_step g now_said r u l p r.broken r.full cs kind many said leaves silent;
-    stays = stays_step g now_said r u l p r.broken r.full cs kind stay counts_now usable same leaves;
-    memory = λ e. absurd (cc e);
-    uses = used_none 0 0 (uses_of g r);
-  }
+  pub alters_made : (p : Pool) (cs : Vec ℕ) → length cs.items ≡ length r.counts.items → IsUsable g (record r { log = l; pool = p; counts = cs; changed = true }) → (IsTrue g.tells → points (view_of g l) ≡ points (view_of g r.log))
+      → Alters 0 0 (Ok (tt {0})) (held g r) (held g (record r { log = l; pool = p; counts = cs; changed = true }))
+  alters_made p cs many usable same =
+      let r' : Running S = record r { log = l; pool = p; counts = cs; changed = true } in
+      record {
+        passes = passes_by g.tells (IsUsable g r) (IsUsable g r') (view_of g r.log) (view_of g l) r.schema.items r.next r.next r.counts.items cs.items (said_of g r.log) (said_of g l) (faults_of g r) (faults_of g r') (uses_of g r) (uses_of g r')
+            kind many refl (ap (λ (s : List ℕ). cond g.tells_said (Some s) None) said) (λ t. (u.goes t).numbered) (text g now_said r.schema.items r.log) leaves silent;
+        stays = stays_by g.tells (IsUsable g r) (IsUsable g r') (view_of g r.log) (view_of g l) r.schema.items r.next r.next r.counts.items cs.items (said_of g r.log) (said_of g l) (faults_of g r) (faults_of g r') (uses_of g r) (uses_of g r')
+            usable (λ t. (same t, surer_step g now_said r u l p r.broken r.full cs kind stay counts_now t (points (view_of g r.log)) (logs.next (view_of g r.log)) (leaves t)));
+        memory = λ e. absurd (cc e);
+        uses = used_none 0 0 (uses_of g r);
+      }
 
   -- a call failed meanwhile, and not by memory
   pub alters_failed : (e : BlockFault) → (e ≡ fault.Disk) ⊎ ((n : ℕ) × (e ≡ fault.Full n)) → (p : Pool) (fulls : ℕ) (cs : Vec ℕ) → length cs.items ≡ length r.counts.items
@@ -189,4 +198,4 @@ then_left g stay counts_now r u one two f k before after kind logged first secon
 
 -- what a database was used for doesn't touch what it needs
 pub usable_spent : {S : Type 0} (g : Ghosts S) (r : Running S) (n : ℕ) → IsUsable g r → IsUsable g (record r { spent = n })
-usable_spent g r n u = record { unbroken = u.unbroken; described = u.described; table = u.table; marked = u.marked; pointed = u.pointed; counted = u.counted; goes = u.goes }
+usable_spent g r n u = record { unbroken = u.unbroken; described = u.described; table = u.table; marked = u.marked; pointed = u.pointed; unchanged = u.unchanged; counted = u.counted; goes = u.goes }

@@ -1,24 +1,19 @@
 -- What calls of a running database keep, one after another.
 use Rattle.std.proofs.Common.{ℕ, List, refl, ◌∙◌}
 use Rattle.dms_wal.specs.declared.running.Running.{Running}
-use Rattle.dms_wal.specs.Controls.{KeepsFields, KeepsPace, TellsSame}
+use Rattle.dms_wal.specs.Controls.{KeepsFields, TellsSame}
+use Rattle.dms_wal.specs.PaceLaws.{pace_none, pace_on}
 use Rattle.dms_wal.specs.Writing.{WritesBack}
 use Rattle.dms_restore.specs.Logging.{LogView, LogsNothing}
 
-pub pace_none : {S : Type 0} (a : Running S) → KeepsPace a a
-pace_none a = record { every = refl; limit = refl }
-
-pub pace_on : {S : Type 0} {a b c : Running S} → KeepsPace a b → KeepsPace b c → KeepsPace a c
-pace_on p q = record { every = q.every ∙ p.every; limit = q.limit ∙ p.limit }
-
 pub keeps_none : {S : Type 0} (a : Running S) → KeepsFields a a
-keeps_none a = record { counts = refl; marks = refl; schema = refl; next = refl; point = refl; pace = record { every = refl; limit = refl } }
+keeps_none a = record { counts = refl; marks = refl; changed = refl; next = refl; point = refl; pace = pace_none a }
 
 pub keeps_on : {S : Type 0} {a b c : Running S} → KeepsFields a b → KeepsFields b c → KeepsFields a c
 keeps_on p q = record {
   counts = q.counts ∙ p.counts;
   marks = q.marks ∙ p.marks;
-  schema = q.schema ∙ p.schema;
+  changed = q.changed ∙ p.changed;
   next = q.next ∙ p.next;
   point = q.point ∙ p.point;
   pace = pace_on p.pace q.pace;

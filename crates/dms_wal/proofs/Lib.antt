@@ -17,6 +17,9 @@ pub mod Settling
 pub mod Controlling
 pub mod Reaching
 pub mod Keeping
+pub mod Marked
+pub mod Logged
+pub mod Closed
 pub mod Limits
 pub mod BackFaults
 pub mod BackedOut

@@ -35,11 +35,12 @@ use Rattle.dms_restore.proofs.Logs.{Reads}
 use Rattle.dms_restore.proofs.Endings.{all_points, all_next}
 use Rattle.dms_pool.specs.declared.pool.Pool.{Pool}
 use Rattle.dms_wal.specs.declared.running.Running.{Running}
-use Rattle.dms_wal.specs.Closing.{IsClosed, LeavesUntil}
+use Rattle.dms_wal.specs.Closing.{entries_control, FilesStand, LeavesUntil}
 use Rattle.dms_wal.specs.Controls.{MakesControl}
 use Rattle.dms_wal.specs.Database.{held, view_of, GoesWith, IsUsable, frames_of}
 use Rattle.dms_wal.specs.Lifting.{last_blocks, lifted, point_under}
 use Rattle.dms_wal.specs.Marks.{IsMarkOf}
+use Rattle.dms_wal.proofs.Marked.{mark_on}
 
 -- the same end of a trail, which may go on up to another file
 pub record EndsAlike (a b : AuditEnd) : Type 0 where
@@ -60,7 +61,7 @@ module _ (a b : AuditEnd) (r : EndsAlike a b) (first : ℕ) (files : Files) (clo
   unsealed_same : unsealed b ≡ unsealed a
   unsealed_same = λ i. take (r.used i) (drop 2 (r.block i))
 
-  waits_same : waits b ≡ waits a
+  pub waits_same : waits b ≡ waits a
   unfolding waits
   waits_same = ap (λ (l : List ℕ). entries_of (block_entries (block_with l))) unsealed_same
 
@@ -70,7 +71,7 @@ module _ (a b : AuditEnd) (r : EndsAlike a b) (first : ℕ) (files : Files) (clo
   pub telling_alike : telling new ≡ telling old
   telling_alike = λ i. logs.telling_of (r.total i) first
 
-  ends_alike : EndsAt a first (waits a) files clock → EndsAt b first (waits b) files clock
+  pub ends_alike : EndsAt a first (waits a) files clock → EndsAt b first (waits b) files clock
   ends_alike e = subst (λ (l : List Entry). EndsAt b first l files clock) (sym waits_same) (record {
     low = e.low;
     writes = subst (λ n. IsWrittenUpTo n b.tag first b.file b.count files) (sym r.total) (subst (λ n. IsWrittenUpTo a.total n first b.file b.count files) (sym r.tag)
@@ -119,6 +120,9 @@ module _ {S : Type 0} (g : Ghosts S) (r : Running S) (e : AuditEnd) (alike : End
     counted = u.counted;
     goes = λ t. goes_alike r.log.end e alike r.log.first (g.files r.log.site) (g.clock r.log.site) r.pool r.next r.counts.items (u.goes t);
     pointed = λ t. subst (λ (ps : List LivePoint). IsMarkOf ps r.point r.marks.items) (sym (points_alike r.log.end e alike r.log.first (g.files r.log.site) (g.clock r.log.site))) (u.pointed t);
+    unchanged = λ no t.
+        let first = r.log.first in let files = g.files r.log.site in let clock = g.clock r.log.site in
+        mark_on (view_of g r.log) (view e first files clock) r.counts.items r.marks.items (content_alike r.log.end e alike first files clock) (points_alike r.log.end e alike first files clock) (u.unchanged no t);
   }
 
 -- the same, as blocks see it
@@ -155,7 +159,7 @@ closes_counted n e a b (inr is) c =
 
 -- all stands, and nothing waits: so the files hold it
 pub closes : (a v : LogView) (schema : List ℕ) (point next : ℕ) (counts : List ℕ) → telling v ≡ telling a → points v ≡ points a → logs.next v ≡ logs.next a → content v ≡ content a → LogRuns v → Reads v → MakesControl a v schema point next counts
-    → IsClosed a schema point next counts v.files v.clock
+    → FilesStand a (entries_control point schema next counts) (content a) v.files v.clock
 closes a v schema point next counts same ps nexts contents runs read m =
     let s = m.settled in
     let all : entries v ≡ (telling v).entries v.files = ap (λ (l : List Entry). (telling v).entries v.files ++ l) s.nothing ∙ append_none ((telling v).entries v.files) in
@@ -170,7 +174,7 @@ closes a v schema point next counts same ps nexts contents runs read m =
 
 -- and so it does where the audit may go on up to another file
 pub closes_alike : (a b v : LogView) (schema : List ℕ) (point next : ℕ) (counts : List ℕ) → telling b ≡ telling a → entries b ≡ entries a → points b ≡ points a → logs.next b ≡ logs.next a → content b ≡ content a
-    → IsClosed b schema point next counts v.files v.clock → IsClosed a schema point next counts v.files v.clock
+    → FilesStand b (entries_control point schema next counts) (content b) v.files v.clock → FilesStand a (entries_control point schema next counts) (content a) v.files v.clock
 closes_alike a b v schema point next counts same es ps nexts contents c = record {
   entries_are = ap (λ (t : Telling). t.entries v.files) (sym same) ∙ c.entries_are ∙ ap (λ (l : List Entry). l ++ (schema_entries (bodies schema) ++ control_point point next (file_counts 30001 counts) ∷ [])) es;
   points_are = ap (λ (t : Telling). points_of t v.files) (sym same) ∙ c.points_are ∙ ps;
@@ -191,8 +195,8 @@ module _ {S : Type 0} (g : Ghosts S) (stay : (s : S) → IsTrue g.tells → (x :
 
   -- what the closed site holds
   pub closes_all : (t : IsTrue g.tells) → IsUsable g last → MakesControl (view_of g (reaching g r e alike).log) (view_of g last.log) r.schema.items r.point r.next r.counts.items
-      → IsClosed (view_of g r.log) r.schema.items r.point r.next r.counts.items (g.files s) (g.clock s)
-  closes_all t u m = subst (λ (x : S). IsClosed (view_of g r.log) r.schema.items r.point r.next r.counts.items (g.files x) (g.clock x)) (sym site)
+      → FilesStand (view_of g r.log) (entries_control r.point r.schema.items r.next r.counts.items) (content (view_of g r.log)) (g.files s) (g.clock s)
+  closes_all t u m = subst (λ (x : S). FilesStand (view_of g r.log) (entries_control r.point r.schema.items r.next r.counts.items) (content (view_of g r.log)) (g.files x) (g.clock x)) (sym site)
       (let first = r.log.first in let files = g.files r.log.site in let clock = g.clock r.log.site in let end = r.log.end in
       closes_alike (view_of g r.log) (view_of g (reaching g r e alike).log) (view_of g last.log) r.schema.items r.point r.next r.counts.items (telling_alike end e alike first files clock)
       (entries_alike end e alike first files clock) (points_alike end e alike first files clock) (next_alike end e alike first files clock) (content_alike end e alike first files clock)

@@ -44,6 +44,7 @@ use Rattle.dms_wal.specs.Writing.{WritesBack}
 use Rattle.dms_wal.proofs.Pooled.{holds_like, frames_up, counted_up}
 use Rattle.dms_wal.proofs.Backs.{all_sized, holds_back}
 use Rattle.dms_wal.proofs.Stepped.{in_table}
+use Rattle.dms_wal.proofs.Marked.{mark_on}
 
 -- one call of a log after another
 pub then_leave : (a m b : LogView) → telling m ≡ telling a → logs.LogLeaves a m (points a) (logs.next a) → logs.LogLeaves m b (points m) (logs.next m) → points m ≡ points a → durable a ≤ durable m → logs.next m ≡ logs.next a → logs.LogLeaves a b (points a) (logs.next a)
@@ -74,6 +75,7 @@ module _ {S : Type 0} (g : Ghosts S) (r : Running S) (u : IsUsable g r) (p : Poo
     table = u.table;
     marked = u.marked;
     pointed = u.pointed;
+    unchanged = u.unchanged;
     counted = λ id x is. u.counted id x (is_old id x is);
     goes = λ t. let k = u.goes t in record { runs = k.runs; holds = holds_like (telling (view_of g r.log)) (state (view_of g r.log)) (frames_of r.pool) (frames_of p) frames k.holds; numbered = k.numbered; counted = k.counted };
   }
@@ -104,6 +106,7 @@ module _ {S : Type 0} (g : Ghosts S) (r : Running S) (u : IsUsable g r) (p : Poo
       table = u.table;
       marked = u.marked;
       pointed = u.pointed;
+      unchanged = u.unchanged;
       counted = counted_up id x r.pool p r.counts.items up u.counted;
       goes = λ t. let k = u.goes t in record {
         runs = k.runs;
@@ -128,6 +131,7 @@ module _ {S : Type 0} (g : Ghosts S) (r : Running S) (u : IsUsable g r) (p : Poo
     table = u.table;
     marked = u.marked;
     pointed = λ t. subst (λ (ps : List LivePoint). IsMarkOf ps r.point r.marks.items) (sym (back t).points_same) (u.pointed t);
+    unchanged = λ no t. mark_on (view_of g r.log) (view_of g l) r.counts.items r.marks.items (back t).content_same (back t).points_same (u.unchanged no t);
     counted = counted_up id (framed block true) r.pool p r.counts.items up u.counted;
     goes = λ t. let k = u.goes t in let w = back t in record {
       runs = runs t;

@@ -33,6 +33,7 @@ use Rattle.dms_wal.proofs.Backs.{all_sized, holds_washed}
 use Rattle.dms_wal.proofs.Stills.{runs_still, goes_sealed}
 use Rattle.dms_wal.proofs.Roomed.{then_leave}
 use Rattle.dms_wal.proofs.Stepped.{passes_step, stays_step}
+use Rattle.dms_wal.proofs.Marked.{mark_on}
 
 -- ---- a block was written, and stays in the pool
 
@@ -45,6 +46,7 @@ module _ {S : Type 0} (g : Ghosts S) (r : Running S) (u : IsUsable g r) where
     table = u.table;
     marked = u.marked;
     pointed = λ t. subst (λ (ps : List LivePoint). IsMarkOf ps r.point r.marks.items) (sym (back t).points_same) (u.pointed t);
+    unchanged = λ no t. mark_on (view_of g r.log) (view_of g l) r.counts.items r.marks.items (back t).content_same (back t).points_same (u.unchanged no t);
     counted = counted_cleaned id r.pool p c r.counts.items u.counted;
     goes = λ t. let k = u.goes t in let w = back t in record {
       runs = runs t;
@@ -111,6 +113,7 @@ module _ {S : Type 0} (g : Ghosts S) (stay : (s : S) → IsTrue g.tells → (x :
       table = u.table;
       marked = u.marked;
       pointed = λ t. subst (λ (ps : List LivePoint). IsMarkOf ps r.point r.marks.items) (sym (nothing t).points_same) (u.pointed t);
+      unchanged = λ no t. mark_on (view_of g r.log) (view_of g l) r.counts.items r.marks.items (nothing t).content_same (nothing t).points_same (u.unchanged no t);
       counted = u.counted;
       goes = λ t. goes_sealed r.pool r.next r.counts.items (view_of g r.log) (view_of g l) kind (runs t) (nothing t) (u.goes t);
     }

@@ -19,6 +19,7 @@ use Rattle.dms_wal.proofs.Stills.{goes_still, goes_sealed, goes_quiet}
 use Rattle.dms_wal.proofs.Pointed.{quiet_made, quiet_leaves, sync_made, say_leaves}
 use Rattle.dms_wal.specs.AgreeLaws.{text}
 use Rattle.dms_wal.proofs.Pointing.{quiet_mark}
+use Rattle.dms_wal.proofs.Marked.{mark_quiet, mark_still, mark_on}
 
 -- the end of a trail that stays of its kind tells the same
 pub kind_is : {n n' f f' : ℕ} → n' ≡ n → f' ≡ f → telling_of n' f' ≡ telling_of n f
@@ -34,6 +35,7 @@ module _ {S : Type 0} (g : Ghosts S) (stay : (s : S) → IsTrue g.tells → (x :
       table = u.table;
       marked = u.marked;
       pointed = λ t. subst (λ (ps : List LivePoint). IsMarkOf ps r.point r.marks.items) (sym (nothing t).points_same) (u.pointed t);
+      unchanged = λ no t. mark_on (view_of g r.log) (view_of g l) r.counts.items r.marks.items (nothing t).content_same (nothing t).points_same (u.unchanged no t);
       counted = u.counted;
       goes = λ t. goes_sealed r.pool r.next r.counts.items (view_of g r.log) (view_of g l) kind (runs t) (nothing t) (u.goes t);
     }
@@ -54,9 +56,9 @@ module _ {S : Type 0} (g : Ghosts S) (stay : (s : S) → IsTrue g.tells → (x :
 
     module _ (leaves : IsTrue g.tells → logs.LogLeaves (view_of g r.log) (view_of g l) (points (view_of g r.log) ++ here (view_of g r.log) ∷ []) (logs.next (view_of g r.log) + 1)) where
       pub quiet_done : (next : ℕ) → next ≡ r.next + 1 → next < 2 ^ 64 → (ms : Vec ℕ) → ms.items ≡ r.counts.items → (IsTrue g.tells → LogRuns (view_of g l)) → (IsTrue g.tells → LogsQuiet (view_of g r.log) (view_of g l))
-          → MadeQuiet (held g r) (held g (record r { log = l; next = next; point = r.next; marks = ms }))
-      quiet_done next is room ms copied runs quiets = subst (λ n. MadeQuiet (held g r) (held g (record r { log = l; next = n; point = r.next; marks = ms }))) (sym is) (
-          let r' : Running S = record r { log = l; next = r.next + 1; point = r.next; marks = ms } in
+          → MadeQuiet (held g r) (held g (record r { log = l; next = next; point = r.next; marks = ms; changed = false }))
+      quiet_done next is room ms copied runs quiets = subst (λ n. MadeQuiet (held g r) (held g (record r { log = l; next = n; point = r.next; marks = ms; changed = false }))) (sym is) (
+          let r' : Running S = record r { log = l; next = r.next + 1; point = r.next; marks = ms; changed = false } in
           quiet_made g.tells (IsUsable g r) (IsUsable g r') (view_of g r.log) (view_of g l) r.schema.items r.next r.counts.items (said_of g r.log) (said_of g l) (faults_of g r) (faults_of g r') (uses_of g r) (uses_of g r')
           (record {
             unbroken = u.unbroken;
@@ -64,6 +66,7 @@ module _ {S : Type 0} (g : Ghosts S) (stay : (s : S) → IsTrue g.tells → (x :
             table = u.table;
             marked = record { table = subst AreCounts (sym copied) u.table; as_many = ap (λ (c : List ℕ). length c) copied };
             pointed = λ t. quiet_mark (view_of g r.log) (view_of g l) r.next r.counts.items ms.items (quiets t) (u.goes t).numbered (u.goes t).counted copied;
+            unchanged = λ no t. mark_quiet (view_of g r.log) (view_of g l) r.counts.items ms.items (quiets t) copied;
             counted = u.counted;
             goes = λ t. goes_quiet r.pool r.next r.counts.items (view_of g r.log) (view_of g l) kind (u.goes t) (stay r.log.site t) (quiets t) (omega (arith, is, room)) (runs t);
           }) quiets
@@ -87,6 +90,7 @@ module _ {S : Type 0} (g : Ghosts S) (stay : (s : S) → IsTrue g.tells → (x :
       table = u.table;
       marked = u.marked;
       pointed = λ t. subst (λ (f : Files). IsMarkOf (points (view r.log.end r.log.first f (g.clock s))) r.point r.marks.items) (sym (files t)) (u.pointed t);
+      unchanged = λ no t. mark_still r.log.end r.log.first (g.files r.log.site) (g.files s) (g.clock r.log.site) (g.clock s) r.counts.items r.marks.items (files t) (u.unchanged no t);
       counted = u.counted;
       goes = λ t. goes_still r.pool r.next r.counts.items (view_of g r.log) (g.files s) (g.clock s) (files t) (steps_weaken steps (λ x y now p. p.files)) (u.goes t);
     }

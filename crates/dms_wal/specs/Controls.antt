@@ -42,16 +42,20 @@ is_due_at every n = not (every == 0) && (n % every == 0)
 abbrev pub is_due : ℕ → ℕ → Bool
 is_due every syncs = is_due_at every (one_more syncs)
 
--- A control point follows each so many syncs as before, and the last audit file that may be written is the same.
+-- A control point follows each so many syncs as before, the last audit file that may be written is the same, the trail begins with the same
+-- file and has as many blocks a file, and the description is the same.
 pub record KeepsPace {S : Type 0} (a b : Running S) : Type 0 where
   pub every : b.every ≡ a.every
   pub limit : b.log.end.limit ≡ a.log.end.limit
+  pub total : b.log.end.total ≡ a.log.end.total
+  pub first : b.log.first ≡ a.log.first
+  pub schema : b.schema ≡ a.schema
 
 -- All that a running database keeps beside its log, its pool and what it was used for is the same.
 pub record KeepsFields {S : Type 0} (a b : Running S) : Type 0 where
   pub counts : b.counts ≡ a.counts
   pub marks : b.marks ≡ a.marks
-  pub schema : b.schema ≡ a.schema
+  pub changed : b.changed ≡ a.changed
   pub next : b.next ≡ a.next
   pub point : b.point ≡ a.point
   pub pace : KeepsPace a b

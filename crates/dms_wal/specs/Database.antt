@@ -14,7 +14,7 @@ use Rattle.dms_restore.specs.Logging as logs
 use Rattle.dms_restore.specs.Logging.{LogView, view, telling, state, LogRuns, points, content}
 use Rattle.dms_wal.specs.declared.running.Running.{Running}
 use Rattle.dms_wal.specs.Lifting.{AreCounts, count_of, held_of}
-use Rattle.dms_wal.specs.Marks.{AreMarks, IsDescription, IsMarkOf}
+use Rattle.dms_wal.specs.Marks.{AreMarks, IsAtMark, IsDescription, IsMarkOf}
 
 -- a frame of the pool, as its bytes and whether they are to be written
 abbrev pub frame_seen : pools.BufferFrame → Frame
@@ -46,7 +46,7 @@ module _ {S : Type 0} (g : Ghosts S) where
   said_of log = if g.tells_said then Some (g.said log.site) else None
 
   -- No call failed, what is kept in memory is in bounds, and where the site tells its files it goes with the log, and the mark is that of
-  -- its last point.
+  -- its last point. While nothing is changed since that point, the content is the one there.
   pub record IsUsable (r : Running S) : Type 0 where
     pub unbroken : r.broken ≡ false
     pub described : IsDescription r.schema.items
@@ -55,6 +55,7 @@ module _ {S : Type 0} (g : Ghosts S) where
     pub counted : HoldsCounted r.pool r.counts.items
     pub goes : IsTrue g.tells → GoesWith (view_of r.log) r.pool r.next r.counts.items
     pub pointed : IsTrue g.tells → IsMarkOf (points (view_of r.log)) r.point r.marks.items
+    pub unchanged : r.changed ≡ false → IsTrue g.tells → IsAtMark (view_of r.log) r.counts.items r.marks.items
 
   -- how often its calls failed
   abbrev pub faults_of : Running S → Faults

@@ -9,3 +9,4 @@ pub mod Controls
 pub mod Closing
 pub mod BackOuts
 pub mod AgreeLaws
+pub mod PaceLaws

@@ -1,6 +1,8 @@
 -- What a running database keeps in memory of its last point, and of its description.
 use Rattle.std.specs.Prelude.{ℕ, ◌<◌, ◌≤◌, ◌≡◌, List, [], ◌∷◌, length, Option, Some, None}
+use Rattle.dms_block.specs.Content.{Content}
 use Rattle.dms_history.specs.Points.{LivePoint}
+use Rattle.dms_restore.specs.Logging.{LogView, points, content}
 use Rattle.dms_wal.specs.Lifting.{AreCounts, count_of, last_blocks}
 
 -- the number of the last of these points, and this one where there is none
@@ -21,6 +23,15 @@ pub record IsMarkOf (ps : List LivePoint) (point : ℕ) (marks : List ℕ) : Typ
 pub record AreMarks (marks counts : List ℕ) : Type 0 where
   pub table : AreCounts marks
   pub as_many : length marks ≡ length counts
+
+-- the blocks at the last point
+abbrev pub mark_of : LogView → Content
+mark_of v = last_blocks (λ f. []) (points v)
+
+-- Blocks and counts are those at the last point.
+pub record IsAtMark (v : LogView) (counts marks : List ℕ) : Type 0 where
+  pub content_is : content v ≡ mark_of v
+  pub counts_are : counts ≡ marks
 
 -- the bytes of a description fit a Schema
 abbrev pub IsDescription : List ℕ → Type 0

@@ -1,12 +1,12 @@
 //! Going back to the last quiet point.
 
-ghost use Rattle.std.specs.Prelude.{◌≡◌, ◌⊎◌, ◌<◌, IfErr, IsErrOf, IsTrue, OnOk, true};
+ghost use Rattle.std.specs.Prelude.{◌≡◌, ◌⊎◌, ◌<◌, IfErr, IsErrOf, IsTrue, OnOk, false, true};
 ghost use Rattle.dms_moments.specs.Moments.{Steps};
 ghost use Rattle.dms_block.specs.Held.{HasCauses, MakesNoPoint, Stays, WentBack};
 ghost use Rattle.dms_audfile.specs.Counting.{CountedAt};
-ghost use Rattle.dms_restore.specs.BackOuts.{IsBackFault, WentBackTo};
+ghost use Rattle.dms_restore.specs.BackOuts.{FilesStay, IsBackFault, SealedAlone, WentBackTo};
 ghost use Rattle.dms_restore.specs.Logging as logs;
-ghost use Rattle.dms_restore.specs.Logging.{telling, points, LogLeaves, LogRuns, PrintsNothing};
+ghost use Rattle.dms_restore.specs.Logging.{Ends, telling, points, LogLeaves, LogRuns, PrintsNothing};
 ghost use Rattle.dms_wal.specs.BackOuts.{entries_back};
 ghost use Rattle.dms_wal.specs.Controls.{KeepsPace};
 ghost use Rattle.dms_wal.specs.Lifting.{AreCounts};
@@ -52,8 +52,12 @@ fn go_back<S: Site>(
     ensures moments { IsTrue S.tells → let a = view_of S.Site log.old in LogLeaves a (view_of S.Site log.new) (points a) (logs.next a) }
     ensures silent { IsTrue S.tells → Steps PrintsNothing (S.clock log.old.site) (S.clock log.new.site) }
     ensures kind { telling (view_of S.Site log.new) ≡ telling (view_of S.Site log.old) }
+    ensures trail { (log.new.end.total ≡ log.old.end.total) × (log.new.first ≡ log.old.first) }
     ensures limit { log.new.end.limit ≡ log.old.end.limit }
     ensures only { IfErr result (IsBackFault 9999) }
+    ensures memory { IsErrOf result AudFault.Memory → IsTrue S.tells → SealedAlone (view_of S.Site log.old) (view_of S.Site log.new) }
+    ensures idle { IsErrOf result AudFault.Memory → log.old.end.used ≡ 0 → IsTrue S.tells → FilesStay (view_of S.Site log.old) (view_of S.Site log.new) }
+    ensures ends { IsErrOf result (AudFault.Full 9999) → IsTrue S.tells → Ends (view_of S.Site log.new) }
     ensures full { IsErrOf result (AudFault.Full 9999) → (log.new.end.used ≡ 0) × (19999 < log.new.end.file) }
     ensures said { S.said log.new.site ≡ S.said log.old.site }
     ensures same_site { S.same_site log.old.site log.new.site }
@@ -72,8 +76,9 @@ fn go_back<S: Site>(
 impl<S: Site> Running<S> {
     /// Goes back to the last point: what waits is sealed, then one Begin alone, and then one Schema with its Control.
     ///
-    /// Reads the whole audit once, and then holds no block in memory. Answers Disk, Memory, and Full(9999) where all audit files are
-    /// full. After each of them the next opening goes on with what was begun.
+    /// Reads the whole audit once, before its Begin, and then holds no block in memory. Answers Disk, Memory, and Full(9999) where all
+    /// audit files are full. At Memory what waited is sealed, and nothing else was written; after the others the next opening goes on with
+    /// what was begun.
     pub fn back_out(&mut self, alloc: Global) -> Result<(), BlockFault>
         requires { (held S.Site self.old).sound }
         ensures content { OnOk result (IsTrue (held S.Site self.old).told → (held S.Site self.new).content ≡ (held S.Site self.old).mark) }
@@ -86,6 +91,10 @@ impl<S: Site> Running<S> {
         ensures pace { KeepsPace self.old self.new }
         ensures only { IfErr result (λ e. (e ≡ BlockFault.Disk) ⊎ ((e ≡ BlockFault.Memory) ⊎ (e ≡ BlockFault.Full 9999))) }
         ensures full { IsErrOf result (BlockFault.Full 9999) → (self.new.log.end.used ≡ 0) × (19999 < self.new.log.end.file) }
+        ensures memory { IsErrOf result BlockFault.Memory → IsTrue S.tells → SealedAlone (view_of S.Site self.old.log) (view_of S.Site self.new.log) }
+        ensures idle { IsErrOf result BlockFault.Memory → self.old.log.end.used ≡ 0 → IsTrue S.tells → FilesStay (view_of S.Site self.old.log) (view_of S.Site self.new.log) }
+        ensures ends { IsErrOf result (BlockFault.Full 9999) → IsTrue S.tells → Ends (view_of S.Site self.new.log) }
+        ensures unchanged { OnOk result (self.new.changed ≡ false) }
         ensures causes { HasCauses result (held S.Site self.old) (held S.Site self.new) }
         ensures silent { IsErrOf result BlockFault.Say → ⊥ }
         ensures broken { IfErr result (λ e. self.new.broken ≡ true) }
@@ -107,6 +116,7 @@ impl<S: Site> Running<S> {
         }
         self.pool.clear();
         copy_counts(&self.marks, &mut self.counts);
+        self.changed = false;
         self.outs = self.outs.saturating_add(1);
         Ok(())
     }

@@ -1,17 +1,17 @@
 //! Changes: each is logged by one Image before the pool has it.
 
-ghost use Rattle.std.specs.Prelude.{◌≡◌, ◌≤◌, ◌<◌, ◌+◌, ◌-◌, ◌^◌, IfErr, IfOk, IfSome, IsErrOf, IsTrue, OnOk, length, min, option_map, true};
+ghost use Rattle.std.specs.Prelude.{◌≡◌, ◌≤◌, ◌<◌, ◌+◌, ◌-◌, ◌^◌, [], ◌∷◌, IfErr, IfOk, IfSome, IsErrOf, IsTrue, OnOk, length, min, option_map, true};
 ghost use Rattle.std.specs.Option.{option_copied};
 ghost use Rattle.dms_base.specs.Causes.{HasCause};
 ghost use Rattle.dms_moments.specs.Moments.{Steps};
 ghost use Rattle.dms_block.specs.Content.{changed, grown, limit, raised, FitsIn};
 ghost use Rattle.dms_block.specs.Held.{Alters, HasCauses, Looks};
-ghost use Rattle.dms_restore.specs.Logging.{telling, points, next, PrintsNothing, LogLeaves};
+ghost use Rattle.dms_restore.specs.Logging.{entries, telling, points, next, PrintsNothing, LogLeaves};
 ghost use Rattle.dms_wal.specs.Lifting.{count_of, owns_of};
 ghost use Rattle.dms_wal.specs.Controls.{KeepsPace};
 ghost use Rattle.dms_wal.specs.Database.{held, view_of, HoldsCounted};
 ghost use Rattle.dms_wal.specs.Faults.{StandsFull};
-ghost use Rattle.dms_wal.specs.Changing.{DamagedOnly, HasChange, IsImaged, KeepsLog, TellsOld};
+ghost use Rattle.dms_wal.specs.Changing.{DamagedOnly, HasChange, IsImaged, KeepsLog, LogsChanges, TellsOld};
 
 use crate::Running;
 use crate::faults::append_fault;
@@ -61,6 +61,7 @@ fn keep<S: Site>(
     ensures silent { IsTrue S.tells → Steps PrintsNothing (S.clock log.old.site) (S.clock log.new.site) }
     ensures kind { telling (view_of S.Site log.new) ≡ telling (view_of S.Site log.old) }
     ensures limit { log.new.end.limit ≡ log.old.end.limit }
+    ensures trail { (log.new.end.total ≡ log.old.end.total) × (log.new.first ≡ log.old.first) }
     ensures only { IfErr result (λ e. e ≡ BlockFault.Disk) }
     ensures said { S.said log.new.site ≡ S.said log.old.site }
     ensures same_site { S.same_site log.old.site log.new.site }
@@ -81,13 +82,13 @@ impl<S: Site> Running<S> {
     /// Makes all changes. Each is of a file that the object owns and of a block below 2,097,152, and each new block
     /// stands at its file's count, further new ones rising from there.
     ///
-    /// Each changed block gets one Image; that nothing else is logged no clause says. Answers Disk, Damaged, and Full where the
-    /// audit has no room.
+    /// Each change is logged by one Image, and nothing else is logged. Answers Disk, Damaged, and Full where the audit has no room.
     pub fn apply(&mut self, changes: &Changes) -> Result<(), BlockFault>
         requires sound { (held S.Site self.old).sound }
         requires fits { FitsIn changes.now.items.items (held S.Site self.old).owns (held S.Site self.old).counts }
         ensures counts { OnOk result ((held S.Site self.new).counts ≡ grown changes.now.items.items (held S.Site self.old).counts) }
         ensures content { OnOk result (IsTrue (held S.Site self.old).told → (held S.Site self.new).content ≡ changed changes.now.items.items (held S.Site self.old).content) }
+        ensures logs { OnOk result (IsTrue S.tells → LogsChanges (view_of S.Site self.old.log) (view_of S.Site self.new.log) changes.now.items.items) }
         ensures alters { Alters 0 (length changes.now.items.items) result (held S.Site self.old) (held S.Site self.new) }
         ensures spent { OnOk result ((held S.Site self.new).uses.spent ≡ min ((held S.Site self.old).uses.spent + length changes.now.items.items) (2 ^ 64 - 1)) }
         ensures memory { IsErrOf result BlockFault.Memory → ⊥ }
@@ -118,6 +119,7 @@ impl<S: Site> Running<S> {
         requires place { change.now.id.block ≤ (held S.Site self.old).counts change.now.id.file }
         ensures counts { OnOk result ((held S.Site self.new).counts ≡ raised (held S.Site self.old).counts change.now.id.file change.now.id.block) }
         ensures content { OnOk result (HasChange (held S.Site self.old) (held S.Site self.new) change.now) }
+        ensures logs { OnOk result (IsTrue S.tells → LogsChanges (view_of S.Site self.old.log) (view_of S.Site self.new.log) (change.now ∷ [])) }
         ensures alters { Alters 0 0 result (held S.Site self.old) (held S.Site self.new) }
         ensures full { (n : _) → IsErrOf result (BlockFault.Full n) → StandsFull self.new.log.end n }
         ensures causes { HasCauses result (held S.Site self.old) (held S.Site self.new) }
@@ -139,6 +141,7 @@ impl<S: Site> Running<S> {
         requires sound { (held S.Site self.old).sound }
         requires place { id.block ≤ (held S.Site self.old).counts id.file }
         ensures before { IfOk result (λ o. TellsOld (held S.Site self.old) id o) }
+        ensures logs { OnOk result (IsTrue S.tells → entries (view_of S.Site self.new.log) ≡ entries (view_of S.Site self.old.log)) }
         ensures looks { Looks 0 result (held S.Site self.old) (held S.Site self.new) }
         ensures causes { HasCauses result (held S.Site self.old) (held S.Site self.new) }
         ensures memory { IsErrOf result BlockFault.Memory → ⊥ }
@@ -173,6 +176,7 @@ impl<S: Site> Running<S> {
         requires before { TellsOld (held S.Site self.old) change.now.id before.now }
         ensures counts { OnOk result ((held S.Site self.new).counts ≡ raised (held S.Site self.old).counts change.now.id.file change.now.id.block) }
         ensures content { OnOk result (HasChange (held S.Site self.old) (held S.Site self.new) change.now) }
+        ensures logs { OnOk result (IsTrue S.tells → LogsChanges (view_of S.Site self.old.log) (view_of S.Site self.new.log) (change.now ∷ [])) }
         ensures alters { Alters 0 0 result (held S.Site self.old) (held S.Site self.new) }
         ensures full { (n : _) → IsErrOf result (BlockFault.Full n) → StandsFull self.new.log.end n }
         ensures causes { HasCauses result (held S.Site self.old) (held S.Site self.new) }
@@ -196,7 +200,10 @@ impl<S: Site> Running<S> {
         }
         raise(&mut self.counts, id);
         match keep(&mut self.log, &mut self.pool, id, &change.block) {
-            Ok(()) => Ok(()),
+            Ok(()) => {
+                self.changed = true;
+                Ok(())
+            }
             Err(fault) => {
                 self.broken = true;
                 Err(fault)

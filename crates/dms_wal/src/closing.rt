@@ -1,29 +1,57 @@
 //! The control point that closes a database.
 
-ghost use Rattle.std.specs.Prelude.{◌≡◌, ◌⊎◌, IfErr, IfOk, IsTrue};
+ghost use Rattle.std.specs.Prelude.{◌≡◌, ◌⊎◌, IfErr, IfOk, IsTrue, false, true};
 ghost use Rattle.dms_audfile.specs.Counting.{CountedAt};
-ghost use Rattle.dms_restore.specs.Logging.{telling};
-ghost use Rattle.dms_wal.specs.Closing.{IsClosed, LeavesUntil};
+ghost use Rattle.dms_restore.specs.Logging.{content, telling};
+ghost use Rattle.dms_wal.specs.Closing.{entries_control, FilesStand, IsClosed, IsFullTrail, LeavesUntil};
 ghost use Rattle.dms_wal.specs.Database.{held, view_of};
 ghost use Rattle.dms_wal.specs.Lifting.{lifted};
 
 use crate::Running;
 use dms_block::BlockFault;
 use dms_site::Site;
+use std::alloc::Global;
 
 /// The last audit file that may be written by a back-out and by the control point that closes.
 pub(crate) const LAST_AUDIT_FILE: u32 = 9999;
 
 impl<S: Site> Running<S> {
-    /// Closes the database by a control point, and gives the site. The audit may go on up to file 9,999. Takes no memory.
+    /// Closes the database, and gives the site: what was changed since the last point is gone back from, and then a control point is made.
+    /// The audit may go on up to file 9,999.
     ///
-    /// What was changed since the last point isn't gone back from: the next opening does that.
-    pub fn close(mut self) -> Result<S, (BlockFault, S)>
+    /// Answers Disk, Full(9999) where all audit files are full, and Memory where it goes back. After each of them the next opening goes on
+    /// with what was begun.
+    pub fn close(mut self, alloc: Global) -> Result<S, (BlockFault, S)>
         requires { (held S.Site self).sound }
-        ensures closed { IfOk result (λ s. IsTrue S.tells → IsClosed (view_of S.Site self.log) self.schema.items self.point self.next self.counts.items (S.files s) (S.clock s)) }
+        ensures closed { IfOk result (λ s. IsTrue S.tells → IsClosed (view_of S.Site self.log) self.changed self.point self.schema.items self.next self.marks.items (S.files s) (S.clock s)) }
+        ensures leaves { IfOk result (λ s. LeavesUntil (held S.Site self) (lifted (telling (view_of S.Site self.log)) self.schema.items (S.clock s))) }
+        ensures stopped { IfErr result (λ e. LeavesUntil (held S.Site self) (lifted (telling (view_of S.Site self.log)) self.schema.items (S.clock e.1))) }
+        ensures only { IfErr result (λ e. (e.0 ≡ BlockFault.Disk) ⊎ ((e.0 ≡ BlockFault.Full 9999) ⊎ ((self.changed ≡ true) × (e.0 ≡ BlockFault.Memory)))) }
+        ensures full { IfErr result (λ e. e.0 ≡ BlockFault.Full 9999 → IsTrue S.tells → IsFullTrail (view_of S.Site self.log) (S.files e.1)) }
+        ensures clean { IfOk result (λ s. (S.disk_faults s ≡ S.disk_faults self.log.site) × (S.say_faults s ≡ S.say_faults self.log.site)) }
+        ensures disk { IfErr result (λ e. CountedAt (e.0 ≡ BlockFault.Disk) (S.disk_faults self.log.site) (S.disk_faults e.1)) }
+        ensures say_faults { IfErr result (λ e. S.say_faults e.1 ≡ S.say_faults self.log.site) }
+        ensures same { IfOk result (λ s. S.same_site self.log.site s) }
+        ensures same_then { IfErr result (λ e. S.same_site self.log.site e.1) }
+    {
+        if !self.changed {
+            return self.close_by_control();
+        }
+        match self.back_out(alloc) {
+            Ok(()) => self.close_by_control(),
+            Err(fault) => Err((fault, self.into_site())),
+        }
+    }
+
+    /// Closes the database by a control point with its content of now, and gives the site. Takes no memory.
+    fn close_by_control(mut self) -> Result<S, (BlockFault, S)>
+        requires { (held S.Site self).sound }
+        ensures closed { IfOk result (λ s. IsTrue S.tells → let v = view_of S.Site self.log in
+            FilesStand v (entries_control self.point self.schema.items self.next self.counts.items) (content v) (S.files s) (S.clock s)) }
         ensures leaves { IfOk result (λ s. LeavesUntil (held S.Site self) (lifted (telling (view_of S.Site self.log)) self.schema.items (S.clock s))) }
         ensures stopped { IfErr result (λ e. LeavesUntil (held S.Site self) (lifted (telling (view_of S.Site self.log)) self.schema.items (S.clock e.1))) }
         ensures only { IfErr result (λ e. (e.0 ≡ BlockFault.Disk) ⊎ (e.0 ≡ BlockFault.Full 9999)) }
+        ensures full { IfErr result (λ e. e.0 ≡ BlockFault.Full 9999 → IsTrue S.tells → IsFullTrail (view_of S.Site self.log) (S.files e.1)) }
         ensures clean { IfOk result (λ s. (S.disk_faults s ≡ S.disk_faults self.log.site) × (S.say_faults s ≡ S.say_faults self.log.site)) }
         ensures disk { IfErr result (λ e. CountedAt (e.0 ≡ BlockFault.Disk) (S.disk_faults self.log.site) (S.disk_faults e.1)) }
         ensures say_faults { IfErr result (λ e. S.say_faults e.1 ≡ S.say_faults self.log.site) }

@@ -6,7 +6,7 @@ ghost use Rattle.dms_moments.specs.Moments.{Steps};
 ghost use Rattle.dms_site.specs.Files.{Only};
 ghost use Rattle.dms_block.specs.Held.{HasCauses, Looks, MadeDurable, MakesNoPoint, Used};
 ghost use Rattle.dms_pool.specs.Held.{is_dirty, to_write};
-ghost use Rattle.dms_restore.specs.Logging.{telling, waits, points, next, LogLeaves, LogRuns, LogsNothing, PrintsNothing};
+ghost use Rattle.dms_restore.specs.Logging.{Ends, telling, waits, points, next, LogLeaves, LogRuns, LogsNothing, PrintsNothing};
 ghost use Rattle.dms_wal.specs.Controls.{IsSettled, KeepsFields, MakesControl, TellsSame};
 ghost use Rattle.dms_wal.specs.Database.{held, view_of};
 ghost use Rattle.dms_wal.specs.Faults.{StandsFull};
@@ -29,6 +29,7 @@ fn make_stable<S: Site>(log: &mut Log<S>) -> Result<(), BlockFault>
     ensures silent { IsTrue S.tells → Steps PrintsNothing (S.clock log.old.site) (S.clock log.new.site) }
     ensures kind { telling (view_of S.Site log.new) ≡ telling (view_of S.Site log.old) }
     ensures limit { log.new.end.limit ≡ log.old.end.limit }
+    ensures trail { (log.new.end.total ≡ log.old.end.total) × (log.new.first ≡ log.old.first) }
     ensures only { IfErr result (λ e. e ≡ BlockFault.Disk) }
     ensures said { S.said log.new.site ≡ S.said log.old.site }
     ensures same_site { S.same_site log.old.site log.new.site }
@@ -139,6 +140,7 @@ impl<S: Site> Running<S> {
         ensures memory { IsErrOf result BlockFault.Memory → ⊥ }
         ensures only { IfErr result (λ e. (e ≡ BlockFault.Disk) ⊎ (e ≡ BlockFault.Full self.old.log.end.limit)) }
         ensures full { (n : _) → IsErrOf result (BlockFault.Full n) → StandsFull self.new.log.end n }
+        ensures ends { (n : _) → IsErrOf result (BlockFault.Full n) → IsTrue S.tells → Ends (view_of S.Site self.new.log) }
         ensures causes { HasCauses result (held S.Site self.old) (held S.Site self.new) }
         ensures silent { IsErrOf result BlockFault.Say → ⊥ }
         ensures broken { IfErr result (λ e. self.new.broken ≡ true) }
@@ -175,6 +177,7 @@ impl<S: Site> Running<S> {
         ensures memory { IsErrOf result BlockFault.Memory → ⊥ }
         ensures only { IfErr result (λ e. (e ≡ BlockFault.Disk) ⊎ (e ≡ BlockFault.Full self.old.log.end.limit)) }
         ensures full { (n : _) → IsErrOf result (BlockFault.Full n) → StandsFull self.new.log.end n }
+        ensures ends { (n : _) → IsErrOf result (BlockFault.Full n) → IsTrue S.tells → Ends (view_of S.Site self.new.log) }
         ensures causes { HasCauses result (held S.Site self.old) (held S.Site self.new) }
         ensures silent { IsErrOf result BlockFault.Say → ⊥ }
         ensures broken { IfErr result (λ e. self.new.broken ≡ true) }

@@ -62,6 +62,7 @@ impl<S: Site> Running<S> {
                 self.next = number + 1;
                 self.point = number;
                 copy_counts(&self.counts, &mut self.marks);
+                self.changed = false;
                 Ok(number)
             }
             Err(fault) => {

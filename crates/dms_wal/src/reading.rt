@@ -4,9 +4,10 @@ ghost use Rattle.std.specs.Prelude.{◌≡◌, ◌<◌, IfErr, IfOk, IsErrOf, Is
 ghost use Rattle.dms_block.specs.Content.{block_in};
 ghost use Rattle.dms_block.specs.Held.{HasCauses, Looks, one_more};
 ghost use Rattle.dms_pool.specs.Held.{frame_of};
+ghost use Rattle.dms_restore.specs.Logging.{entries};
 ghost use Rattle.dms_wal.specs.Changing.{DamagedOnly};
 ghost use Rattle.dms_wal.specs.Controls.{KeepsPace};
-ghost use Rattle.dms_wal.specs.Database.{held};
+ghost use Rattle.dms_wal.specs.Database.{held, view_of};
 
 use crate::Running;
 use dms_block::{Block, BlockFault, BlockId};
@@ -70,6 +71,7 @@ impl<S: Site> Running<S> {
         ensures looks { Looks 0 result (held S.Site self.old) (held S.Site self.new) }
         ensures causes { HasCauses result (held S.Site self.old) (held S.Site self.new) }
         ensures pool { self.new.pool ≡ self.old.pool }
+        ensures logs { IsTrue S.tells → entries (view_of S.Site self.new.log) ≡ entries (view_of S.Site self.old.log) }
         ensures memory { IsErrOf result BlockFault.Memory → ⊥ }
         ensures damaged { DamagedOnly id result }
         ensures silent { IsErrOf result BlockFault.Say → ⊥ }

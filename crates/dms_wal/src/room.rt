@@ -6,7 +6,7 @@ ghost use Rattle.dms_moments.specs.Moments.{Steps};
 ghost use Rattle.dms_block.specs.Content.{block_in, limit};
 ghost use Rattle.dms_block.specs.Held.{HasCauses, Looks};
 ghost use Rattle.dms_pool.specs.Held.{frame_of};
-ghost use Rattle.dms_restore.specs.Logging.{telling, points, next, content, IsChangedBlock, PrintsNothing, LogLeaves, LogRuns};
+ghost use Rattle.dms_restore.specs.Logging.{entries, telling, points, next, content, IsChangedBlock, PrintsNothing, LogLeaves, LogRuns};
 ghost use Rattle.dms_wal.specs.Controls.{KeepsPace};
 ghost use Rattle.dms_wal.specs.Database.{held, view_of};
 ghost use Rattle.dms_wal.specs.Writing.{WritesBack};
@@ -33,6 +33,7 @@ pub(crate) fn write_back<S: Site>(
     ensures silent { IsTrue S.tells → Steps PrintsNothing (S.clock log.old.site) (S.clock log.new.site) }
     ensures kind { telling (view_of S.Site log.new) ≡ telling (view_of S.Site log.old) }
     ensures limit { log.new.end.limit ≡ log.old.end.limit }
+    ensures trail { (log.new.end.total ≡ log.old.end.total) × (log.new.first ≡ log.old.first) }
     ensures only { IfErr result (λ e. e ≡ BlockFault.Disk) }
     ensures said { S.said log.new.site ≡ S.said log.old.site }
     ensures same_site { S.same_site log.old.site log.new.site }
@@ -57,6 +58,7 @@ impl<S: Site> Running<S> {
         ensures looks { Looks 0 result (held S.Site self.old) (held S.Site self.new) }
         ensures causes { HasCauses result (held S.Site self.old) (held S.Site self.new) }
         ensures only { IfErr result (λ e. e ≡ BlockFault.Disk) }
+        ensures logs { OnOk result (IsTrue S.tells → entries (view_of S.Site self.new.log) ≡ entries (view_of S.Site self.old.log)) }
         ensures fewer { (id : _) → frame_of id self.old.pool ≡ None → frame_of id self.new.pool ≡ None }
         ensures pace { KeepsPace self.old self.new }
         ensures broken { IfErr result (λ e. self.new.broken ≡ true) }

@@ -25,6 +25,8 @@ pub struct Start {
     pub point: u64,
     /// Each so many syncs a control point follows.
     pub every: u32,
+    /// Whether its blocks may be others than at the last point.
+    pub changed: bool,
 }
 
 /// A database that runs: the log of its changes, and at most so many of its blocks in memory.
@@ -43,6 +45,8 @@ pub struct Running<S: Site> {
     pub point: u64,
     /// Each so many syncs a control point follows.
     pub every: u32,
+    /// Whether something was changed since the last point.
+    pub changed: bool,
     /// Whether a call failed that leaves it unusable.
     pub broken: bool,
     pub reads: u64,
@@ -66,7 +70,7 @@ impl<S: Site> Running<S> {
         requires frames { 0 < frames }
         requires table { AreCounts start.counts.items }
         ensures usable { IfOk result (λ r. IsInBounds start → (IsTrue S.tells → StartsFrom (view_of S.Site log) start) → IsUsable S.Site r) }
-        ensures every { IfOk result (λ r. (r.every ≡ start.every) × (r.syncs ≡ 0)) }
+        ensures every { IfOk result (λ r. (r.every ≡ start.every) × (r.changed ≡ start.changed) × (r.syncs ≡ 0)) }
         ensures kept { IfOk result (λ r. (r.schema ≡ start.schema) × (r.counts ≡ start.counts) × (r.marks ≡ start.marks) × (r.next ≡ start.next) × (r.point ≡ start.point)) }
         ensures log { IfOk result (λ r. r.log ≡ log) }
         ensures log_back { IfErr result (λ e. e.1 ≡ log) }
@@ -78,6 +82,7 @@ impl<S: Site> Running<S> {
             next,
             point,
             every,
+            changed,
         } = start;
         match Pool::new(alloc, frames) {
             Ok(pool) => Ok(Running {
@@ -89,6 +94,7 @@ impl<S: Site> Running<S> {
                 next,
                 point,
                 every,
+                changed,
                 broken: false,
                 reads: 0,
                 spent: 0,
@@ -114,6 +120,7 @@ impl<S: Site> Running<S> {
             next: _,
             point: _,
             every: _,
+            changed: _,
             broken: _,
             reads: _,
             spent: _,

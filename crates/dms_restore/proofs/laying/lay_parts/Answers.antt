@@ -7,6 +7,7 @@ use Rattle.dms_restore.specs.Logging.{telling_of}
 use Rattle.dms_restore.specs.Laying.{LaysEnd}
 use Rattle.dms_restore.proofs.Laid.{bodies_many, both_silent, none_silent, lay_none, lay_since, lay_silent, lay_one, part_next, parts_all, some_parts}
 use Rattle.dms_restore.proofs.Sizes.{part_size}
+use Rattle.dms_restore.proofs.Sealed.{full_limit}
 use Rattle.dms_restore.proofs.Results.{is_fault}
 use Rattle.dms_restore.proofs.laying.lay_parts.Goals as goal
 
@@ -63,3 +64,7 @@ loop-number-preserved g c =
 
 pub returns-clause-moments : goal.returns-clause-moments
 returns-clause-moments g c first tells s = some_parts _ (bodies c.args.description.now) c.loop-number.number _ _ _ (c.loop-number.invariant.laid first tells s).lays.since
+
+pub returns-in_err-append-clause-ends : goal.returns-in_err-append-clause-ends
+returns-in_err-append-clause-ends g c full first tells s =
+    (c.append.ensures.kept (full_limit _ _ _ c.loop-number.invariant.kind.2 full) first _ tells (c.loop-number.invariant.laid first tells s).ends).ends

@@ -1,4 +1,5 @@
 use Rattle.std.proofs.Common.{◌∙◌, refl}
+use Rattle.dms_restore.proofs.Sealed.{full_limit}
 use Rattle.dms_restore.proofs.Results.{four_ok}
 use Rattle.dms_restore.proofs.Laid.{both_silent, lay_since, lay_silent, lay_one, lay_more, lay_sealing, lay_sealing_silent, lay_sealed}
 use Rattle.dms_restore.proofs.Sizes.{control_size}
@@ -22,7 +23,7 @@ returns-clause-sealed g c = four_ok c.seal.result c.seal.ensures.sealed c.seal.e
     let one = lay_one _ _ c.append.new.self first _ _ _ _ _ (c.in_ok-lay_parts.ensures.laid first tells s) c.lay_parts.ensures.kind.0 _ _ (λ first waiting plain ends. c.append.ensures.moments first waiting tells plain ends) _ c.append.ensures.kind.0
     (c.in_ok-append.ensures.behind tells) (λ first waiting plain ends. c.in_ok-append.ensures.appends first waiting tells plain ends) in
     lay_sealed _ _ c.seal.new.self first _ _ _ _ _ one (c.append.ensures.kind.0 ∙ c.lay_parts.ensures.kind.0) _ (λ first waiting at. c.seal.ensures.moments first waiting tells at) _
-    (durable (c.in_ok-append.ensures.waits refl) tells) (behind tells) (λ first waiting at. sealed first waiting tells at) (λ first waiting at. ends first waiting tells at))
+    (g.met.S.Site.may_stay c.seal.new.site tells) (durable (c.in_ok-append.ensures.waits refl) tells) (behind tells) (λ first waiting at. sealed first waiting tells at) (λ first waiting at. ends first waiting tells at))
 
 pub append-requires-clause-size : goal.append-requires-clause-size
 append-requires-clause-size g c = control_size c.args.point c.args.next c.args.counts.now c.requires.size
@@ -39,3 +40,7 @@ returns-clause-silent g c first tells s =
     both_silent (both_silent (c.lay_parts.ensures.silent first tells s)
     (lay_silent _ _ c.append.new.self first _ _ _ _ _ (c.in_ok-lay_parts.ensures.laid first tells s) c.lay_parts.ensures.kind.0 _ _ (λ first waiting plain ends. c.append.ensures.moments first waiting tells plain ends)))
     (lay_sealing_silent _ _ c.seal.new.self first _ _ _ _ _ one (c.append.ensures.kind.0 ∙ c.lay_parts.ensures.kind.0) _ (λ first waiting ends. c.seal.ensures.moments first waiting tells ends))
+
+pub returns-in_err-append-clause-ends : goal.returns-in_err-append-clause-ends
+returns-in_err-append-clause-ends g c full first tells s =
+    (c.append.ensures.kept (full_limit _ _ _ c.lay_parts.ensures.kind.2 full) first _ tells (c.in_ok-lay_parts.ensures.laid first tells s).ends).ends

@@ -5,8 +5,8 @@ use Rattle.dms_restore.specs.Logging.{telling_of}
 use Rattle.dms_wal.specs.Database.{view_of}
 use Rattle.dms_wal.proofs.Controlling.{count_table}
 use Rattle.dms_wal.proofs.BackedOut.{back_by, back_counts}
-use Rattle.dms_wal.proofs.Limits.{by_with, went_from, went_to, leaves_with}
-use Rattle.dms_wal.proofs.Reaching.{runs_alike}
+use Rattle.dms_wal.proofs.Limits.{by_with, sealed_from, sealed_to, went_from, went_to, leaves_with}
+use Rattle.dms_wal.proofs.Reaching.{ends_alike, runs_alike}
 use Rattle.dms_wal.proofs.backing.go_back.Goals as goal
 
 pub back_out-done-requires-clause-runs : goal.back_out-done-requires-clause-runs
@@ -35,3 +35,14 @@ returns-clause-moments g c tells =
 
 pub returns-clause-kind : goal.returns-clause-kind
 returns-clause-kind g c = λ i. telling_of (c.back_out-done.ensures.kind.0 i) (c.back_out-done.ensures.kind.3 i)
+
+pub returns-clause-memory : goal.returns-clause-memory
+returns-clause-memory g c memory tells =
+    sealed_to c.back_out-done.new.self.end _ (record { file = refl; total = refl; tag = refl; count = refl; used = refl; block = refl }) c.back_out-done.new.self.first _ _ (view_of g.S.Site c.args.log.now)
+    (sealed_from c.args.log.now.end _ (record { file = refl; total = refl; tag = refl; count = refl; used = refl; block = refl }) c.args.log.now.first _ _ (view_of g.S.Site c.back_out-done.new.self) (c.back_out-done.ensures.memory memory tells))
+
+pub returns-clause-idle : goal.returns-clause-idle
+returns-clause-idle g c memory none tells = let stay = c.back_out-done.ensures.idle memory none tells in record { files_same = stay.files_same; steps = stay.steps }
+
+pub returns-clause-ends : goal.returns-clause-ends
+returns-clause-ends g c full tells = ends_alike c.back_out-done.new.self.end _ (record { file = refl; total = refl; tag = refl; count = refl; used = refl; block = refl }) c.back_out-done.new.self.first _ _ (c.back_out-done.ensures.ends full tells)

@@ -1,77 +1,62 @@
-use Rattle.std.proofs.Common.{◌≡◌, ◌∙◌, inl, inr, sym, ap, subst}
-use Rattle.dms_audfile.specs.declared.audit_end.AuditEnd.{AuditEnd}
-use Rattle.dms_restore.specs.Logging.{telling_of, telling}
-use Rattle.dms_restore.specs.BackOuts.{seen}
+use Rattle.std.proofs.Common.{◌∙◌, inr, sym, ap, subst}
+use Rattle.dms_restore.specs.Logging.{telling_of}
+use Rattle.dms_restore.specs.BackOuts.{seen, ServesBehind}
+use Rattle.dms_restore.specs.Table.{AreBlocks}
 use Rattle.dms_restore.proofs.Results.{one_ok, is_fault}
-use Rattle.dms_restore.proofs.Backed.{silent_on, then_each, back_points, back_next, back_ends, counted_on, back_fault, back_full, never_full}
-use Rattle.dms_restore.proofs.Returned.{went_back}
+use Rattle.dms_restore.proofs.Backed.{silent_on, counted_on, back_full, never_full}
+use Rattle.dms_restore.proofs.Sealed.{goes_back_then, went_back_then, leaves_then, not_disk, ok_not_disk, full_of, back_limit}
 use Rattle.dms_restore.proofs.log.Log.back_out.Goals as goal
 
 pub returns-in-Err-clause-only : goal.returns-in-Err-clause-only
-returns-in-Err-clause-only g c = elim c.in-Err.ensures.only [ inl disk ↦ inr (inl disk) | inr full ↦ inl full ]
+returns-in-Err-clause-only g c = inr c.in-Err.ensures.only
 
-pub returns-in-Err-restore_back-clause-only : goal.returns-in-Err-restore_back-clause-only
-returns-in-Err-restore_back-clause-only g c = inr c.in-Err-restore_back.ensures.only
+pub returns-in-Err-clause-memory : goal.returns-in-Err-clause-memory
+returns-in-Err-clause-memory g c memory tells = c.in-Err.ensures.sealed (λ disk. not_disk c.in-Err.fault memory disk) tells
 
-pub returns-in-Err-restore_back-clause-moments : goal.returns-in-Err-restore_back-clause-moments
-returns-in-Err-restore_back-clause-moments g c tells =
-    let a = seen g.S.Site c.args.self.now in
-    let b = seen g.S.Site c.begin_back.new.self in
-    let keeps = c.in-Ok.ensures.keeps tells in
-    let same : telling b ≡ telling a = λ i. telling_of (c.begin_back.ensures.kind.0 i) (c.begin_back.ensures.kind.3 i) in
-    then_each a b (seen g.S.Site c.restore_back.new.self) (c.requires.runs tells) (g.met.S.Site.may_stay c.args.self.now.site tells) same keeps.points_same keeps.next_same
-    (c.begin_back.ensures.moments tells) (c.restore_back.ensures.moments _ tells (c.in-Ok.ensures.begun tells))
+pub returns-in-Err-clause-full : goal.returns-in-Err-clause-full
+returns-in-Err-clause-full g c full = absurd (never_full c.in-Err.fault _ c.in-Err.ensures.only full)
 
-pub returns-in-Err-restore_back-clause-silent : goal.returns-in-Err-restore_back-clause-silent
-returns-in-Err-restore_back-clause-silent g c tells = silent_on _ _ _ (c.begin_back.ensures.silent tells) (c.restore_back.ensures.silent _ tells (c.in-Ok.ensures.begun tells))
+pub returns-in-Err-clause-ends : goal.returns-in-Err-clause-ends
+returns-in-Err-clause-ends g c full = absurd (never_full c.in-Err.fault _ c.in-Err.ensures.only full)
 
-pub returns-in-Err-restore_back-clause-disk : goal.returns-in-Err-restore_back-clause-disk
-returns-in-Err-restore_back-clause-disk g c = counted_on _ _ _ _ (c.in-Ok.ensures.disk.clean (λ e. subst (λ r. is_fault r) (sym e) tt)) c.in-Err-restore_back.ensures.disk
+pub go_back_by-requires-clause-runs : goal.go_back_by-requires-clause-runs
+go_back_by-requires-clause-runs g c tells = (c.in-Ok.ensures.sealed (ok_not_disk _) tells).runs
+
+pub go_back_by-requires-clause-nothing : goal.go_back_by-requires-clause-nothing
+go_back_by-requires-clause-nothing g c tells = (c.in-Ok.ensures.sealed (ok_not_disk _) tells).nothing
+
+pub go_back_by-requires-clause-by : goal.go_back_by-requires-clause-by
+go_back_by-requires-clause-by g c tells = goes_back_then (seen g.S.Site c.args.self.now) (seen g.S.Site c.table_back.new.self) (c.in-Ok.ensures.sealed (ok_not_disk _) tells) c.args.point c.args.next c.args.counts.now (c.requires.by tells)
+
+pub go_back_by-requires-clause-serves : goal.go_back_by-requires-clause-serves
+go_back_by-requires-clause-serves g c tells = subst (ServesBehind (seen g.S.Site c.table_back.new.self) c.args.point) (sym c.deref.ensures.value) (c.in-Ok.ensures.serves tells)
+
+pub returns-clause-back : goal.returns-clause-back
+returns-clause-back g c = one_ok c.go_back_by.result c.go_back_by.ensures.back (λ back tells.
+    went_back_then (seen g.S.Site c.args.self.now) (seen g.S.Site c.table_back.new.self) (c.in-Ok.ensures.sealed (ok_not_disk _) tells) c.args.point _ _ (back tells))
 
 pub returns-clause-moments : goal.returns-clause-moments
 returns-clause-moments g c tells =
-    let a = seen g.S.Site c.args.self.now in
-    let b = seen g.S.Site c.begin_back.new.self in
-    let d = seen g.S.Site c.restore_back.new.self in
-    let runs = c.requires.runs tells in
-    let read = g.met.S.Site.may_stay c.args.self.now.site tells in
-    let by = c.requires.by tells in
-    let keeps = c.in-Ok.ensures.keeps tells in
-    let stands = c.in-Ok-restore_back.ensures.stands _ tells (c.in-Ok.ensures.begun tells) in
-    let one : telling b ≡ telling a = λ i. telling_of (c.begin_back.ensures.kind.0 i) (c.begin_back.ensures.kind.3 i) in
-    let two : telling d ≡ telling b = λ i. telling_of ((c.restore_back.ensures.kind.0 i).total) (c.restore_back.ensures.kind.1 i) in
-    then_each a d (seen g.S.Site c.end_back.new.self) runs read (two ∙ one) (back_points a b d c.args.point c.args.next c.args.counts.now by keeps stands) (back_next a b d c.args.point c.args.next c.args.counts.now by keeps stands)
-    (then_each a b d runs read one keeps.points_same keeps.next_same (c.begin_back.ensures.moments tells) (c.restore_back.ensures.moments _ tells (c.in-Ok.ensures.begun tells)))
-    (c.end_back.ensures.moments _ tells (back_ends a b d c.args.point c.args.next c.args.counts.now by keeps stands))
+    leaves_then (seen g.S.Site c.args.self.now) (seen g.S.Site c.table_back.new.self) (c.in-Ok.ensures.sealed (ok_not_disk _) tells) (λ i. telling_of (c.table_back.ensures.kind.0 i) (c.table_back.ensures.kind.3 i))
+    (seen g.S.Site c.go_back_by.new.self) (c.table_back.ensures.moments tells) (c.go_back_by.ensures.moments tells)
 
 pub returns-clause-silent : goal.returns-clause-silent
-returns-clause-silent g c tells =
-    let a = seen g.S.Site c.args.self.now in
-    let b = seen g.S.Site c.begin_back.new.self in
-    let d = seen g.S.Site c.restore_back.new.self in
-    let begun = c.in-Ok.ensures.begun tells in
-    silent_on _ _ _ (silent_on _ _ _ (c.begin_back.ensures.silent tells) (c.restore_back.ensures.silent _ tells begun))
-    (c.end_back.ensures.silent _ tells (back_ends a b d c.args.point c.args.next c.args.counts.now (c.requires.by tells) (c.in-Ok.ensures.keeps tells) (c.in-Ok-restore_back.ensures.stands _ tells begun)))
-
-pub returns-clause-back : goal.returns-clause-back
-returns-clause-back g c = one_ok c.end_back.result c.end_back.ensures.ended (λ ended tells.
-    let a = seen g.S.Site c.args.self.now in
-    let b = seen g.S.Site c.begin_back.new.self in
-    let d = seen g.S.Site c.restore_back.new.self in
-    let by = c.requires.by tells in
-    let keeps = c.in-Ok.ensures.keeps tells in
-    let stands = c.in-Ok-restore_back.ensures.stands _ tells (c.in-Ok.ensures.begun tells) in
-    went_back a b d (seen g.S.Site c.end_back.new.self) c.args.point c.args.next c.args.counts.now _ _ by (c.in-Ok.ensures.logs tells) keeps stands (ended _ tells (back_ends a b d c.args.point c.args.next c.args.counts.now by keeps stands)))
+returns-clause-silent g c tells = silent_on _ _ _ (c.table_back.ensures.silent tells) (c.go_back_by.ensures.silent tells)
 
 pub returns-clause-only : goal.returns-clause-only
-returns-clause-only g c = back_fault c.end_back.result _ _ (ap (λ (e : AuditEnd). e.limit) c.restore_back.ensures.kind.0 ∙ c.begin_back.ensures.kind.2) c.end_back.ensures.only
+returns-clause-only g c = back_limit c.go_back_by.result _ _ c.table_back.ensures.kind.2 c.go_back_by.ensures.only
 
-pub returns-in-Err-restore_back-clause-full : goal.returns-in-Err-restore_back-clause-full
-returns-in-Err-restore_back-clause-full g c full = absurd (never_full c.in-Err-restore_back.fault _ c.in-Err-restore_back.ensures.only full)
+pub returns-clause-memory : goal.returns-clause-memory
+returns-clause-memory g c memory tells = absurd (c.go_back_by.ensures.memory memory tells)
+
+pub returns-clause-idle : goal.returns-clause-idle
+returns-clause-idle g c memory none tells = absurd (c.go_back_by.ensures.memory memory tells)
 
 pub returns-clause-full : goal.returns-clause-full
-returns-clause-full g c = back_full c.end_back.result _ _ c.end_back.new.self.end (ap (λ (e : AuditEnd). e.limit) c.restore_back.ensures.kind.0 ∙ c.begin_back.ensures.kind.2) c.end_back.ensures.full
+returns-clause-full g c = back_full c.go_back_by.result _ _ c.go_back_by.new.self.end c.table_back.ensures.kind.2 c.go_back_by.ensures.full
+
+pub returns-clause-ends : goal.returns-clause-ends
+returns-clause-ends g c full tells = c.go_back_by.ensures.ends (full_of c.go_back_by.result _ _ c.table_back.ensures.kind.2 full) tells
 
 pub returns-clause-disk : goal.returns-clause-disk
-returns-clause-disk g c =
-    counted_on _ _ _ _ (c.in-Ok-restore_back.ensures.disk.clean (λ e. subst (λ r. is_fault r) (sym e) tt) ∙ c.in-Ok.ensures.disk.clean (λ e. subst (λ r. is_fault r) (sym e) tt)) c.end_back.ensures.disk
+returns-clause-disk g c = counted_on _ _ _ _ (c.in-Ok.ensures.disk.clean (λ e. subst (λ r. is_fault r) (sym e) tt)) c.go_back_by.ensures.disk

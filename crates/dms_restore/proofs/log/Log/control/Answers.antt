@@ -1,5 +1,6 @@
 use Rattle.std.proofs.Common.{refl}
 use Rattle.dms_restore.proofs.Results.{one_ok}
+use Rattle.dms_restore.proofs.Sealed.{ends_of}
 use Rattle.dms_restore.proofs.Endings.{control_starts, control_leave, controlled, plan_blocks}
 use Rattle.dms_restore.proofs.log.Log.control.Goals as goal
 
@@ -20,3 +21,7 @@ returns-clause-blocks g c tells = plan_blocks _ _ _ _ _ (c.seal_control.ensures.
 
 pub returns-clause-silent : goal.returns-clause-silent
 returns-clause-silent g c tells = c.seal_control.ensures.silent c.args.self.now.first tells (control_starts _ (c.requires.runs tells) (g.met.S.Site.may_stay c.args.self.now.site tells) c.args.description.now c.requires.some c.args.point c.args.next c.args.counts.now (c.requires.by tells))
+
+pub returns-clause-ends : goal.returns-clause-ends
+returns-clause-ends g c full tells =
+    ends_of c.seal_control.new.end c.args.self.now.first _ _ (c.seal_control.ensures.ends full c.args.self.now.first tells (control_starts _ (c.requires.runs tells) (g.met.S.Site.may_stay c.args.self.now.site tells) c.args.description.now c.requires.some c.args.point c.args.next c.args.counts.now (c.requires.by tells)))

@@ -1,5 +1,6 @@
 use Rattle.std.proofs.Common.{refl}
 use Rattle.dms_restore.proofs.Results.{one_ok}
+use Rattle.dms_restore.proofs.Sealed.{ends_of}
 use Rattle.dms_restore.proofs.Endings.{end_starts, end_leave, ended}
 use Rattle.dms_restore.proofs.log.Log.end_back.Goals as goal
 
@@ -18,3 +19,8 @@ returns-clause-moments g c p tells by =
 pub returns-clause-silent : goal.returns-clause-silent
 returns-clause-silent g c p tells by =
     c.seal_control.ensures.silent c.args.self.now.first tells (end_starts p _ (g.met.S.Site.may_stay c.args.self.now.site tells) c.args.description.now c.requires.some c.args.point c.args.next c.args.counts.now by)
+
+pub returns-clause-ends : goal.returns-clause-ends
+returns-clause-ends g c full p tells by =
+    let read = g.met.S.Site.may_stay c.args.self.now.site tells in
+    ends_of c.seal_control.new.end c.args.self.now.first _ _ (c.seal_control.ensures.ends full c.args.self.now.first tells (end_starts p _ read c.args.description.now c.requires.some c.args.point c.args.next c.args.counts.now by))

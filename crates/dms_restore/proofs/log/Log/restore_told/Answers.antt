@@ -2,6 +2,7 @@ use Rattle.std.proofs.Common.{refl, sym, subst}
 use Rattle.dms_site.specs.Files.{Files, Only}
 use Rattle.dms_running.specs.Restoring.{IsKept, Rewritten}
 use Rattle.dms_restore.specs.Table.{AllStandAsTold}
+use Rattle.dms_restore.proofs.Sealed.{disk_not_memory}
 use Rattle.dms_restore.proofs.Results.{is_fault}
 use Rattle.dms_restore.proofs.Backed.{rewrites_silent, counted_as, told_entries}
 use Rattle.dms_restore.proofs.Beginnings.{then_looks, table_leave, table_begun, table_restored, table_keeps}
@@ -48,3 +49,6 @@ returns-in-Err-sync-clause-moments g c p tells begun is =
 pub returns-in-Err-sync-clause-silent : goal.returns-in-Err-sync-clause-silent
 returns-in-Err-sync-clause-silent g c p tells begun is =
     rewrites_silent _ _ _ (then_looks (IsKept p.entries p.point) _ _ _ (c.write_all.ensures.moments p.entries p.point tells is.each) c.sync.ensures.moments)
+
+pub returns-in-Err-clause-memory : goal.returns-in-Err-clause-memory
+returns-in-Err-clause-memory g c memory p tells is = disk_not_memory _ (c.disk_or_memory.ensures.same (c.in-Err.ensures.only p.entries p.point tells is.each)) memory

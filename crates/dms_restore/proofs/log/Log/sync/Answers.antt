@@ -28,3 +28,6 @@ returns-clause-waits g c = three_ok c.seal.result c.seal.ensures.sealed c.seal.e
 
 pub returns-clause-silent : goal.returns-clause-silent
 returns-clause-silent g c tells = sync_silent _ (c.requires.runs tells) (g.met.S.Site.may_stay c.args.self.now.site tells) _ (λ first waiting ends. c.seal.ensures.moments first waiting tells ends)
+
+pub returns-clause-steps : goal.returns-clause-steps
+returns-clause-steps g c tells = c.seal.ensures.moments c.args.self.now.first _ tells (c.requires.runs tells).ends

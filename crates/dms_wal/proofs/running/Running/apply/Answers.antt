@@ -3,14 +3,15 @@ use Rattle.dms_block.specs.declared.change.Change.{Change}
 use Rattle.dms_block.specs.Changing.{fits_take, no_change_of}
 use Rattle.dms_block.specs.Held.{Held}
 use Rattle.dms_block.specs.HeldLaws.{alters_as}
-use Rattle.dms_wal.specs.Database.{held}
+use Rattle.dms_wal.specs.Database.{held, view_of}
 use Rattle.dms_wal.proofs.Imaged.{usable_spent}
-use Rattle.dms_wal.proofs.Keeping.{pace_none, pace_on}
+use Rattle.dms_wal.specs.PaceLaws.{pace_none, pace_on}
+use Rattle.dms_wal.proofs.Logged.{logs_none, logs_more, logs_whole}
 use Rattle.dms_wal.proofs.Made.{made_all, made_causes, made_failed, made_more, made_none, made_whole, next_apart, next_fits}
 use Rattle.dms_wal.proofs.running.Running.apply.Goals as goal
 
 pub loop-change-init : goal.loop-change-init
-loop-change-init g c = record { pace = pace_none c.args.self.now; made = made_none (held g.S.Site c.args.self.now) c.requires.sound; same = g.met.S.Site.same_again c.args.self.now.log.site }
+loop-change-init g c = record { logs = λ t. logs_none (view_of g.S.Site c.args.self.now.log); pace = pace_none c.args.self.now; made = made_none (held g.S.Site c.args.self.now) c.requires.sound; same = g.met.S.Site.same_again c.args.self.now.log.site }
 
 pub change-requires-clause-sound : goal.change-requires-clause-sound
 change-requires-clause-sound g c = c.loop-change.invariant.made.stays.sound
@@ -33,6 +34,8 @@ loop-change-preserved g c =
     record {
       made = made_more c.args.changes.now.items.items c.as_slice-items.result.now c.loop-change.change-index no_change_of c.as_slice-items.ensures c.loop-change-test.true (held g.S.Site c.args.self.now) (held g.S.Site c.loop-change.self) (held g.S.Site c.change.new.self) was.made
           c.in-Ok.ensures.counts c.in-Ok.ensures.content (alters_as tt c.in-Ok.ensures.alters) c.in-Ok.ensures.causes;
+      logs = λ t. logs_more c.args.changes.now.items.items c.as_slice-items.result.now c.loop-change.change-index no_change_of c.as_slice-items.ensures c.loop-change-test.true (view_of g.S.Site c.args.self.now.log) (view_of g.S.Site c.loop-change.self.log) (view_of g.S.Site c.change.new.self.log)
+          (was.logs t) (was.made.content t) (c.in-Ok.ensures.logs t);
       pace = pace_on was.pace c.change.ensures.pace;
       same = g.met.S.Site.same_then c.args.self.now.log.site c.loop-change.self.log.site c.change.new.self.log.site was.same c.change.ensures.same;
     }
@@ -82,3 +85,7 @@ returns-clause-same g c = c.loop-change.invariant.same
 
 pub returns-in-Err-clause-pace : goal.returns-in-Err-clause-pace
 returns-in-Err-clause-pace g c = pace_on c.loop-change.invariant.pace c.change.ensures.pace
+
+pub returns-clause-logs : goal.returns-clause-logs
+returns-clause-logs g c t =
+    logs_whole c.args.changes.now.items.items c.as_slice-items.result.now c.loop-change.change-index c.as_slice-items.ensures c.loop-change-test.false (view_of g.S.Site c.args.self.now.log) (view_of g.S.Site c.loop-change.self.log) (c.loop-change.invariant.logs t)

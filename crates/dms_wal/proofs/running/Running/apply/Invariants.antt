@@ -1,7 +1,8 @@
-use Rattle.std.proofs.Common.{take}
+use Rattle.std.proofs.Common.{IsTrue, take}
 use Rattle.dms_block.specs.Held.{Held}
+use Rattle.dms_wal.specs.Changing.{LogsChanges}
 use Rattle.dms_wal.specs.Controls.{KeepsPace}
-use Rattle.dms_wal.specs.Database.{held}
+use Rattle.dms_wal.specs.Database.{held, view_of}
 use Rattle.dms_wal.proofs.Made.{MadeChanges}
 use Rattle.dms_wal.proofs.running.Running.apply.Given as goal
 
@@ -11,6 +12,7 @@ invariant-loop-change g l =
     let b : Held = held g.S.Site l.self in
     record {
       made : MadeChanges (take l.change-index l.changes.items.items) a b;
+      logs : IsTrue g.S.Site.tells → LogsChanges (view_of g.S.Site l.fn.self.log) (view_of g.S.Site l.self.log) (take l.change-index l.changes.items.items);
       pace : KeepsPace l.fn.self l.self;
       same : g.S.Site.same_site l.fn.self.log.site l.self.log.site;
     }

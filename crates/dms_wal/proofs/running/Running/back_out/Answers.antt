@@ -1,5 +1,5 @@
-use Rattle.std.proofs.Common.{◌∙◌, true, length, refl, ap}
-use Rattle.dms_wal.proofs.BackFaults.{caused_back, back_silent, back_only, back_full}
+use Rattle.std.proofs.Common.{◌∙◌, true, false, length, refl, ap}
+use Rattle.dms_wal.proofs.BackFaults.{caused_back, back_silent, back_only, back_full, back_memory}
 use Rattle.dms_wal.proofs.BackedOut.{passes_back, stays_back, marked_content}
 use Rattle.dms_wal.proofs.running.Running.back_out.Goals as goal
 
@@ -7,7 +7,7 @@ pub returns-in-Err-clause-passes : goal.returns-in-Err-clause-passes
 returns-in-Err-clause-passes g c =
     let m = g.met.S.Site in
     let r = c.args.self.now in
-    passes_back g.S.Site m.may_stay m.now_said r c.requires c.go_back.new.log r.pool true _ r.outs r.counts c.go_back.ensures.kind refl c.go_back.ensures.said c.go_back.ensures.moments c.go_back.ensures.silent
+    passes_back g.S.Site m.may_stay m.now_said r c.requires c.go_back.new.log r.pool true r.changed _ r.outs r.counts c.go_back.ensures.kind refl c.go_back.ensures.said c.go_back.ensures.moments c.go_back.ensures.silent
 
 pub returns-in-Err-clause-causes : goal.returns-in-Err-clause-causes
 returns-in-Err-clause-causes g c = caused_back c.in-Err.fault c.back_fault.result 9999 _ _ c.in-Err.ensures.only c.back_fault.ensures c.in-Err.ensures.disk c.go_back.ensures.say_faults refl
@@ -25,7 +25,7 @@ pub returns-clause-passes : goal.returns-clause-passes
 returns-clause-passes g c =
     let m = g.met.S.Site in
     let r = c.args.self.now in
-    passes_back g.S.Site m.may_stay m.now_said r c.requires c.go_back.new.log _ r.broken r.full _ _ c.go_back.ensures.kind (ap length (c.copy_counts.ensures ∙ c.deref-3.ensures.value) ∙ c.requires.marked.as_many) c.go_back.ensures.said c.go_back.ensures.moments c.go_back.ensures.silent
+    passes_back g.S.Site m.may_stay m.now_said r c.requires c.go_back.new.log _ r.broken false r.full _ _ c.go_back.ensures.kind (ap length (c.copy_counts.ensures ∙ c.deref-3.ensures.value) ∙ c.requires.marked.as_many) c.go_back.ensures.said c.go_back.ensures.moments c.go_back.ensures.silent
 
 pub returns-clause-stays : goal.returns-clause-stays
 returns-clause-stays g c =
@@ -38,7 +38,16 @@ returns-clause-content g c =
     marked_content g.S.Site m.may_stay m.now_said c.args.self.now c.requires c.go_back.new.log _ _ c.clear.ensures 0 c.copy_counts.new.to (c.copy_counts.ensures ∙ c.deref-3.ensures.value) _ c.in-Ok.ensures.back
 
 pub returns-in-Err-clause-pace : goal.returns-in-Err-clause-pace
-returns-in-Err-clause-pace g c = record { every = refl; limit = c.go_back.ensures.limit }
+returns-in-Err-clause-pace g c = record { every = refl; limit = c.go_back.ensures.limit; total = c.go_back.ensures.trail.0; first = c.go_back.ensures.trail.1; schema = refl }
 
 pub returns-clause-pace : goal.returns-clause-pace
-returns-clause-pace g c = record { every = refl; limit = c.go_back.ensures.limit }
+returns-clause-pace g c = record { every = refl; limit = c.go_back.ensures.limit; total = c.go_back.ensures.trail.0; first = c.go_back.ensures.trail.1; schema = refl }
+
+pub returns-in-Err-clause-memory : goal.returns-in-Err-clause-memory
+returns-in-Err-clause-memory g c is = c.in-Err.ensures.memory (back_memory c.in-Err.fault c.back_fault.result 9999 _ _ c.in-Err.ensures.only c.back_fault.ensures is)
+
+pub returns-in-Err-clause-idle : goal.returns-in-Err-clause-idle
+returns-in-Err-clause-idle g c is = c.in-Err.ensures.idle (back_memory c.in-Err.fault c.back_fault.result 9999 _ _ c.in-Err.ensures.only c.back_fault.ensures is)
+
+pub returns-in-Err-clause-ends : goal.returns-in-Err-clause-ends
+returns-in-Err-clause-ends g c is = c.in-Err.ensures.ends (back_full c.in-Err.fault c.back_fault.result 9999 _ _ c.in-Err.ensures.only c.back_fault.ensures is)

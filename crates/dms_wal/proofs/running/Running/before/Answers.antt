@@ -4,6 +4,7 @@ use Rattle.dms_block.specs.HeldLaws.{causes_on, looks_as, looks_err, looks_on, u
 use Rattle.dms_wal.specs.Database.{held}
 use Rattle.dms_wal.proofs.Fetched.{usable_asked}
 use Rattle.dms_wal.proofs.Stepped.{looks_sound}
+use Rattle.std.proofs.Common.{◌∙◌}
 use Rattle.dms_wal.proofs.running.Running.before.Goals as goal
 
 pub returns-in-Ok-fetch-clause-looks : goal.returns-in-Ok-fetch-clause-looks
@@ -21,3 +22,6 @@ returns-in-Err-fetch-clause-causes g c =
 
 pub returns-in-Err-fetch-clause-memory : goal.returns-in-Err-fetch-clause-memory
 returns-in-Err-fetch-clause-memory g c e = c.in-Err-fetch.ensures.memory (cc e)
+
+pub returns-in-Ok-fetch-clause-logs : goal.returns-in-Ok-fetch-clause-logs
+returns-in-Ok-fetch-clause-logs g c t = c.fetch.ensures.logs t ∙ c.in-Ok.ensures.logs t

@@ -3,6 +3,9 @@ use Rattle.dms_block.specs.declared.block.Block.{Block}
 use Rattle.dms_block.specs.HeldLaws.{alters_on, causes_on}
 use Rattle.dms_wal.specs.Database.{held}
 use Rattle.dms_wal.proofs.Causes.{not_full}
+use Rattle.dms_restore.proofs.Results.{one_ok}
+use Rattle.dms_wal.proofs.Logged.{logs_from}
+use Rattle.dms_wal.specs.Database.{view_of}
 use Rattle.dms_wal.proofs.running.Running.change.Goals as goal
 
 pub log_change-requires-clause-owned : goal.log_change-requires-clause-owned
@@ -16,3 +19,7 @@ returns-in-Ok-clause-causes g c = causes_on c.log_change.result (held g.S.Site c
 
 pub returns-in-Err-clause-full : goal.returns-in-Err-clause-full
 returns-in-Err-clause-full g c n is = absurd (not_full (Option Block) (Unit {0}) c.in-Err.fault n c.in-Err.ensures.looks.not_full is)
+
+pub returns-in-Ok-clause-logs : goal.returns-in-Ok-clause-logs
+returns-in-Ok-clause-logs g c = one_ok c.log_change.result c.log_change.ensures.logs (λ logs t.
+    logs_from (view_of g.S.Site c.args.self.now.log) (view_of g.S.Site c.before-2.new.self.log) (view_of g.S.Site c.log_change.new.self.log) _ (c.in-Ok.ensures.logs t) (c.in-Ok.ensures.looks.same.content t) (logs t))

@@ -22,7 +22,7 @@ returns-clause-kept g c = keeps_on c.settle.ensures.kept c.seal_control.ensures.
 pub returns-clause-control : goal.returns-clause-control
 returns-clause-control g c = one_ok c.seal_control.result c.seal_control.ensures.control (λ made t.
     let k = c.settle.ensures.kept in
-    makes_on _ _ _ _ _ _ _ _ _ _ _ (λ i. (k.schema i).items) k.point k.next (λ i. (k.counts i).items) (c.in-Ok.ensures.tells t) (made t))
+    makes_on _ _ _ _ _ _ _ _ _ _ _ (λ i. (k.pace.schema i).items) k.point k.next (λ i. (k.counts i).items) (c.in-Ok.ensures.tells t) (made t))
 
 pub returns-clause-causes : goal.returns-clause-causes
 returns-clause-causes g c = let l = c.in-Ok.ensures.looks in causes_on c.seal_control.result (held g.S.Site c.args.self.now) (held g.S.Site c.settle.new.self) (held g.S.Site c.seal_control.new.self) c.in-Ok.ensures.causes l.passes.lasts l.same c.seal_control.ensures.causes

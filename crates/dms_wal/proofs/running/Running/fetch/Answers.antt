@@ -2,6 +2,7 @@ use Rattle.std.proofs.Common.{ℕ, replicate, arith}
 use Rattle.std.proofs.lemmas.List.{length-replicate}
 use Rattle.dms_wal.proofs.Fetched.{fetched, not_whole, owned_by}
 use Rattle.dms_wal.proofs.Rooming.{looks_looked}
+use Rattle.dms_wal.proofs.Logged.{entries_still}
 use Rattle.dms_wal.proofs.running.Running.fetch.Goals as goal
 
 pub returns-in-Ok-eq1024-clause-block : goal.returns-in-Ok-eq1024-clause-block
@@ -25,3 +26,12 @@ returns-in-Ok-clause-causes g c = (
     λ told. not_whole g.S.Site c.args.self.now c.requires.sound c.args.id c.requires.there c.requires.absent told c.in-Ok.field-0 _ (replicate 1024 0) c.read.new.into (omega (arith, c.from-at.ensures)) (length-replicate {A = ℕ} 1024 0) (λ e. absurd (omega (arith, e, c.in-Ok.field-0-test))) (c.in-Ok.ensures.bytes told),
   ),
 )
+
+pub returns-in-Ok-eq1024-clause-logs : goal.returns-in-Ok-eq1024-clause-logs
+returns-in-Ok-eq1024-clause-logs g c t = entries_still c.args.self.now.log.end c.args.self.now.log.first _ _ _ _ (c.read.ensures.files t)
+
+pub returns-in-Ok-clause-logs : goal.returns-in-Ok-clause-logs
+returns-in-Ok-clause-logs g c t = entries_still c.args.self.now.log.end c.args.self.now.log.first _ _ _ _ (c.read.ensures.files t)
+
+pub returns-in-Err-clause-logs : goal.returns-in-Err-clause-logs
+returns-in-Err-clause-logs g c t = entries_still c.args.self.now.log.end c.args.self.now.log.first _ _ _ _ (c.read.ensures.files t)

@@ -9,6 +9,7 @@ use Rattle.dms_wal.proofs.Synced.{kind_is}
 use Rattle.dms_wal.proofs.Imaged.{alters_made, alters_failed, counted_more, imaged, usable_changed, with_same, then_left}
 use Rattle.dms_wal.proofs.Roomed.{then_silent}
 use Rattle.dms_wal.proofs.Tabled.{raised_there}
+use Rattle.dms_wal.proofs.Logged.{logs_one}
 use Rattle.dms_wal.proofs.running.Running.log_change.Goals as goal
 
 pub returns-in-Err-clause-alters : goal.returns-in-Err-clause-alters
@@ -56,3 +57,9 @@ returns-in-Err-clause-full g c n is = full_left c.in-Err.fault c.append_fault.re
 
 pub returns-in-Err-keep-clause-full : goal.returns-in-Err-keep-clause-full
 returns-in-Err-keep-clause-full g c n is = absurd (disk_not_full c.in-Err-keep.fault n c.in-Err-keep.ensures.only is)
+
+pub returns-in-Ok-keep-clause-logs : goal.returns-in-Ok-keep-clause-logs
+returns-in-Ok-keep-clause-logs g c t =
+    logs_one (view_of g.S.Site c.args.self.now.log) (view_of g.S.Site c.keep.new.log) c.args.change.now (option_copied c.bytes_of.result)
+    (subst (λ (o : Option (List ℕ)). TellsBefore c.args.change.now.id.block o (content (view_of g.S.Site c.args.self.now.log) c.args.change.now.id.file)) (sym c.bytes_of.ensures.bytes) (c.requires.before t))
+    ((c.in-Ok-keep.ensures.kept t).entries_same ∙ (c.in-Ok.ensures.logs t).entries_are)

@@ -28,3 +28,6 @@ returns-in-Some-default-default-false-clause-looks g c =
 
 pub write_back-requires-clause-block : goal.write_back-requires-clause-block
 write_back-requires-clause-block g c tells = held_block g.S.Site c.args.self.now c.requires c.evict.new.self _ _ c.in-Some-default-default-true.ensures.gives tells
+
+pub returns-in-Ok-clause-logs : goal.returns-in-Ok-clause-logs
+returns-in-Ok-clause-logs g c t = (c.in-Ok.ensures.back t).entries_same

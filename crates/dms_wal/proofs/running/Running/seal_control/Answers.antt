@@ -1,10 +1,11 @@
 use Rattle.std.proofs.Common.{ℕ, List, ◌∙◌, ap, refl, subst, take, arith}
+use Rattle.std.specs.declared.result.Result.TheVariants.{Err}
 use Rattle.dms_audrec.specs.Spelling.{pair_bytes, count_file, count_blocks}
 use Rattle.dms_restore.specs.Counts.{file_counts}
 use Rattle.dms_restore.specs.Laying.{schema_control}
 use Rattle.dms_restore.specs.Endings.{ControlledAt}
 use Rattle.dms_restore.proofs.CountBytes.{counts_entry, counts_few}
-use Rattle.dms_wal.proofs.Causes.{full_left, seen_only}
+use Rattle.dms_wal.proofs.Causes.{full_left, full_seen, seen_only}
 use Rattle.dms_wal.proofs.Controlling.{control_by, control_leaves, control_made, count_table, makes_control}
 use Rattle.dms_wal.specs.Database.{view_of}
 use Rattle.dms_wal.proofs.Stepped.{passes_step}
@@ -49,3 +50,7 @@ returns-in-Ok-clause-kind g c = kind_is c.control.ensures.kind.0 c.control.ensur
 
 pub returns-in-Err-clause-kind : goal.returns-in-Err-clause-kind
 returns-in-Err-clause-kind g c = kind_is c.control.ensures.kind.0 c.control.ensures.kind.3
+
+pub returns-in-Err-clause-ends : goal.returns-in-Err-clause-ends
+returns-in-Err-clause-ends g c n is tells =
+    let seen = full_seen c.in-Err.fault c.append_fault.result _ _ _ n c.in-Err.ensures.only c.append_fault.ensures is in c.in-Err.ensures.ends (λ i. Err (seen.1 i)) tells

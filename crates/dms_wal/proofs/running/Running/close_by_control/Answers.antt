@@ -1,6 +1,10 @@
-use Rattle.std.proofs.Common.{refl}
+use Rattle.std.proofs.Common.{refl, sym, subst}
+use Rattle.std.specs.declared.result.Result.TheVariants.{Err}
+use Rattle.dms_wal.proofs.Closed.{full_trail}
+use Rattle.dms_wal.specs.Closing.{IsFullTrail}
+use Rattle.dms_wal.specs.Database.{view_of}
 use Rattle.dms_wal.proofs.Reaching.{closes_all, closes_leaves, usable_alike}
-use Rattle.dms_wal.proofs.running.Running.close.Goals as goal
+use Rattle.dms_wal.proofs.running.Running.close_by_control.Goals as goal
 
 pub control-requires : goal.control-requires
 control-requires g c = usable_alike g.S.Site c.args.self _ (record { file = refl; total = refl; tag = refl; count = refl; used = refl; block = refl }) c.requires
@@ -13,9 +17,15 @@ returns-in-Ok-clause-closed g c tells =
 pub returns-in-Ok-clause-leaves : goal.returns-in-Ok-clause-leaves
 returns-in-Ok-clause-leaves g c =
     closes_leaves g.S.Site g.met.S.Site.may_stay c.args.self _ (record { file = refl; total = refl; tag = refl; count = refl; used = refl; block = refl }) c.control.new.self c.control.ensures.kind c.into_site.result c.into_site.ensures
-    c.control.ensures.kept.schema c.control.ensures.passes
+    c.control.ensures.kept.pace.schema c.control.ensures.passes
 
 pub returns-in-Err-clause-stopped : goal.returns-in-Err-clause-stopped
 returns-in-Err-clause-stopped g c =
     closes_leaves g.S.Site g.met.S.Site.may_stay c.args.self _ (record { file = refl; total = refl; tag = refl; count = refl; used = refl; block = refl }) c.control.new.self c.control.ensures.kind c.into_site-in-Err.result c.into_site-in-Err.ensures
-    c.control.ensures.kept.schema c.control.ensures.passes
+    c.control.ensures.kept.pace.schema c.control.ensures.passes
+
+pub returns-in-Err-clause-full : goal.returns-in-Err-clause-full
+returns-in-Err-clause-full g c is tells =
+    let v = view_of g.S.Site c.args.self.log in
+    subst (λ (x : _). IsFullTrail v (g.S.Site.files x)) (sym c.into_site-in-Err.ensures)
+    (full_trail v (view_of g.S.Site c.control.new.self.log) c.control.ensures.kept.pace.total c.control.ensures.kept.pace.first (c.in-Err.ensures.full 9999 (λ i. Err (is i))).2 (c.in-Err.ensures.ends 9999 (λ i. Err (is i)) tells))
