@@ -63,17 +63,19 @@ module _ {S : Type 0} (g : Ghosts S) where
       → ScriptRuns (telling (view_of g o.log)) st.desc (points (view_of g o.log)) n db o.next all (seen_site g o.log.site) (seen_site g site) left' status
 
   -- a run of the script over the database that the files of a site stand for
-  abbrev pub RunsCommand : Option DatabaseState → S → Option (List ℕ) → Option (List ℕ) → Status → S → Type 0
-  RunsCommand state old left left' status new =
+  abbrev pub RunsCommand : Option DatabaseState → S → S → Option (List ℕ) → Option (List ℕ) → Status → Type 0
+  RunsCommand state old new left left' status =
       IsTrue g.tells → (s : DatabaseState) → state ≡ Some s → (h : HoldsState (g.files old) s) → HasRoom (g.files old) s h → (all : List ℕ) → left ≡ Some all
       → ScriptRuns (telling_of h.total h.first) s.desc (points_of (telling_of h.total h.first) (g.files old)) s.point s.db (next_in (telling_of h.total h.first) (g.files old)) all (seen_site g old) (seen_site g new) left' status
 
-  -- The opening was refused with this fault: it is the first refusal of the files, no file has changed, and a stop leaves what it could leave before.
-  pub record RefusesOpen (old new : S) (fault : OpenFault) : Type 0 where
+  -- The opening was refused: with this fault, which is the first refusal of the files. No file has changed, and a stop leaves what it could leave
+  -- before.
+  pub record IsRefused (old new : S) (status : Status) : Type 0 where
+    pub fault : OpenFault
+    pub is : status ≡ open_status fault
     pub why : RefusesFiles (g.files old) fault
-    pub files : (MayHaveWritten fault → ⊥) → g.files new ≡ g.files old
-    pub moments : (MayHaveWritten fault → ⊥) → Steps Same (g.clock old) (g.clock new)
+    pub files : g.files new ≡ g.files old
+    pub moments : Steps Same (g.clock old) (g.clock new)
 
-  -- so it is where the status is one of those with which openings alone are refused
   abbrev pub RefusesRun : S → S → Status → Type 0
-  RefusesRun old new status = IsTrue g.tells → (fault : OpenFault) × (status ≡ open_status fault) × RefusesOpen old new fault
+  RefusesRun old new status = IsTrue g.tells → IsRefused old new status

@@ -5,12 +5,11 @@ use Rattle.dms_moments.specs.Moments.{Clock, Runs}
 use Rattle.dms_block.specs.Texts.{Prints, PrintsPrefix}
 use Rattle.dms_desc.specs.Shape.{Described}
 use Rattle.dms_feed.specs.Lines.{raw_lines}
-use Rattle.dms_history.specs.Points.{LivePoint}
 use Rattle.dms_model.specs.Db.{Db}
 use Rattle.dms_site.specs.declared.site.Site.{Ghosts}
 use Rattle.dms_site.specs.Files.{Files, Left, Only}
 use Rattle.dms_running.specs.Telling.{Telling}
-use Rattle.dms_running.specs.Points.{points_of}
+use Rattle.dms_running.specs.Points.{DescribedPoint, points_of}
 use Rattle.dms_restore.specs.Logging.{telling, points, durable, content}
 use Rattle.dms_wal.specs.declared.running.Running.{Running}
 use Rattle.dms_wal.specs.Closing.{LeavesUntil}
@@ -52,7 +51,7 @@ PassesScript Held desc db first lines before after = PassesWaiting desc db first
 
 -- A run of the script that an input has, over a database that at point n is db, whose next number is this one. These were the points before the run,
 -- so the site was seen before it and behind it, so much of the input was left, and so the run ended.
-pub record ScriptRuns (t : Telling) (desc : Described) (ps : List LivePoint) (n : ℕ) (db : Db) (next : ℕ) (all : List ℕ) (a b : SiteSeen) (left' : Option (List ℕ)) (status : Status) : Type 0 where
+pub record ScriptRuns (t : Telling) (desc : Described) (ps : List DescribedPoint) (n : ℕ) (db : Db) (next : ℕ) (all : List ℕ) (a b : SiteSeen) (left' : Option (List ℕ)) (status : Status) : Type 0 where
   -- a stop at each moment left what a run leaves: the database of one quiet point, none before those that syncpoints made durable before what
   -- was printed last, and each point as it was
   pub every_moment : Runs a.clock b.clock (RunLeavesFiles t desc a.said ps n db next (script_events desc db next (raw_lines all)))

@@ -68,3 +68,18 @@ IsOfRun (Damaged f b) = ⊤
 IsOfRun SayFault = ⊤
 IsOfRun DiskFault = ⊤
 IsOfRun Exists = ⊥
+
+-- the statuses with which an opening alone is refused
+abbrev pub IsRefusal : Status → Type 0
+IsRefusal Ok = ⊥
+IsRefusal BadWords = ⊥
+IsRefusal (SchemaRefused f) = ⊥
+IsRefusal NoDatabase = ⊤
+IsRefusal (Needed n) = ⊤
+IsRefusal InputFault = ⊥
+IsRefusal Memory = ⊥
+IsRefusal (Limit k) = ⊥
+IsRefusal (Damaged f b) = ⊥
+IsRefusal SayFault = ⊥
+IsRefusal DiskFault = ⊥
+IsRefusal Exists = ⊥
