@@ -59,8 +59,8 @@ module _ {S : Type 0} (g : Ghosts S) where
   -- a run of the script over a database that was opened
   abbrev pub RunsOpened : Opened S → Bool → Option (List ℕ) → Option (List ℕ) → Status → S → Type 0
   RunsOpened o known left left' status site =
-      IsTrue g.tells → IsTrue known → (st : StandsOpened o) (n : ℕ) (db : Db) (all : List ℕ) → LivesEndWith st.desc (points (view_of g o.log)) n db → o.next + 1000003 < 2 ^ 64 → left ≡ Some all
-      → ScriptRuns (telling (view_of g o.log)) st.desc (points (view_of g o.log)) n db o.next all (seen_site g o.log.site) (seen_site g site) left' status
+      IsTrue g.tells → IsTrue known → (st : StandsOpened o) (n : ℕ) (db : Db) (all : List ℕ) → LivesEndWith st.desc (points_of (telling (view_of g o.log)) st.files) n db → o.next + 1000003 < 2 ^ 64 → left ≡ Some all
+      → ScriptRuns (telling (view_of g o.log)) st.desc (points_of (telling (view_of g o.log)) st.files) n db o.next all (seen_site g o.log.site) (seen_site g site) left' status
 
   -- a run of the script over the database that the files of a site stand for
   abbrev pub RunsCommand : Option DatabaseState → S → S → Option (List ℕ) → Option (List ℕ) → Status → Type 0

@@ -1,5 +1,5 @@
 -- A run of a script over a database that was opened.
-use Rattle.std.specs.Prelude.{ℕ, ◌≡◌, ◌+◌, ◌<◌, ◌^◌, List, length, Some, None, IsTrue, ⊤, if◌then◌else◌}
+use Rattle.std.specs.Prelude.{ℕ, ◌≡◌, ◌+◌, ◌<◌, ◌^◌, List, length, map, Some, None, IsTrue, ⊤, if◌then◌else◌}
 use Rattle.std.specs.declared.option.Option.{Option}
 use Rattle.dms_moments.specs.Moments.{Clock, Runs}
 use Rattle.dms_block.specs.Texts.{Prints, PrintsPrefix}
@@ -10,17 +10,18 @@ use Rattle.dms_site.specs.declared.site.Site.{Ghosts}
 use Rattle.dms_site.specs.Files.{Files, Left, Only}
 use Rattle.dms_running.specs.Telling.{Telling}
 use Rattle.dms_running.specs.Points.{DescribedPoint, points_of}
-use Rattle.dms_restore.specs.Logging.{telling, points, durable, content}
+use Rattle.dms_restore.specs.Logging.{telling_of, telling, points}
 use Rattle.dms_wal.specs.declared.running.Running.{Running}
 use Rattle.dms_wal.specs.Closing.{LeavesUntil}
 use Rattle.dms_wal.specs.Database.{held, view_of}
 use Rattle.dms_wal.specs.Lifting.{lifted}
+use Rattle.dms_store.specs.Lifted.{point_of}
 use Rattle.dms_store.specs.Spelled.{spelled}
 use Rattle.dms_runner.specs.Answers.{answers_text, last_quiet, script_events}
 use Rattle.dms_runner.specs.Events.{RunEvent, SaidWhole, quiets_of}
 use Rattle.dms_runner.specs.Running.{CutInput, PassesBytes, PassesLines, PassesWaiting}
 use Rattle.dms_run.specs.Ending.{KeepsLimits}
-use Rattle.dms_run.specs.Files.{RunLeavesFiles}
+use Rattle.dms_run.specs.Files.{points_seen, RunLeavesFiles}
 use Rattle.dms_run.specs.States.{LivesEndWith}
 use Rattle.dms_run.specs.Stops.{last_quiet_number}
 use Rattle.dms_status.specs.declared.status.LimitKind.{LimitKind}
@@ -73,20 +74,23 @@ pub record ScriptRuns (t : Telling) (desc : Described) (ps : List DescribedPoint
   pub undamaged : (f k : ℕ) → status ≡ Damaged f k → ⊥
 
 module _ {S : Type 0} (g : Ghosts S) where
-  -- A run of a script begins with this database: its site tells its files, its points end with database db at point n and are all durable, its
-  -- blocks spell that database, and there is room for the numbers of a script.
-  pub record BeginsAt (r : Running S) (desc : Described) (n : ℕ) (db : Db) : Type 0 where
+  -- A run of a script begins with this database: its site tells its files, its points are these, which end with database db at point n and are all
+  -- durable, its blocks spell that database, and there is room for the numbers of a script.
+  pub record BeginsAt (r : Running S) (total first : ℕ) (ps : List DescribedPoint) (desc : Described) (n : ℕ) (db : Db) : Type 0 where
     pub tells : IsTrue g.tells
-    pub state : LivesEndWith desc (points (view_of g r.log)) n db
-    pub spells : spelled desc (content (view_of g r.log)) ≡ Some db
-    pub durable : durable (view_of g r.log) ≡ length (points (view_of g r.log))
+    pub total_is : r.log.end.total ≡ total
+    pub first_is : r.log.first ≡ first
+    pub points_are : map (point_of desc) (held g r).points ≡ points_seen desc ps
+    pub state : LivesEndWith desc ps n db
+    pub spells : spelled desc (held g r).content ≡ Some db
+    pub durable : (held g r).durable ≡ length (held g r).points
     pub room : r.next + 1000003 < 2 ^ 64
 
   -- a run of the script over this database, which ended with this status and this site
   abbrev pub RunsOver : Running S → Described → Option (List ℕ) → Option (List ℕ) → Status → S → Type 0
   RunsOver r desc left left' status site =
-      (n : ℕ) (db : Db) (all : List ℕ) → BeginsAt r desc n db → left ≡ Some all
-      → ScriptRuns (telling (view_of g r.log)) desc (points (view_of g r.log)) n db r.next all (seen_site g r.log.site) (seen_site g site) left' status
+      (total first : ℕ) (ps : List DescribedPoint) (n : ℕ) (db : Db) (all : List ℕ) → BeginsAt r total first ps desc n db → left ≡ Some all
+      → ScriptRuns (telling_of total first) desc ps n db r.next all (seen_site g r.log.site) (seen_site g site) left' status
 
   -- The database was closed: at status 0 the files hold all its points, and a stop leaves no other files. Until then each stop left the first so many
   -- of its points, at least the durable ones, and no other text.

@@ -8,11 +8,11 @@ use Rattle.dms_status.specs.declared.status.Status.{Status}
 use Rattle.dms_status.specs.declared.status.Status.TheVariants.{Ok, BadWords, SchemaRefused, NoDatabase, Needed, InputFault, Memory, Limit, Damaged, SayFault, DiskFault, Exists}
 
 -- a limit of the audit
-abbrev pub IsOfAudit : LimitKind → Type 0
-IsOfAudit (AuditFile f) = ⊤
-IsOfAudit Lines = ⊥
-IsOfAudit Bytes = ⊥
-IsOfAudit Held = ⊥
+abbrev pub IsOfAuditLimit : LimitKind → Type 0
+IsOfAuditLimit (AuditFile f) = ⊤
+IsOfAuditLimit Lines = ⊥
+IsOfAuditLimit Bytes = ⊥
+IsOfAuditLimit Held = ⊥
 
 -- what a fault of a closing ends with
 abbrev pub IsOfClosing : Status → Type 0
@@ -23,7 +23,7 @@ IsOfClosing NoDatabase = ⊥
 IsOfClosing (Needed n) = ⊥
 IsOfClosing InputFault = ⊥
 IsOfClosing Memory = ⊤
-IsOfClosing (Limit k) = IsOfAudit k
+IsOfClosing (Limit k) = IsOfAuditLimit k
 IsOfClosing (Damaged f b) = ⊥
 IsOfClosing SayFault = ⊥
 IsOfClosing DiskFault = ⊤

@@ -1,6 +1,8 @@
 -- The words of the command line, and how far a command came.
 use Rattle.std.specs.Prelude.{◌≡◌, ◌⊎◌, ℕ, ◌+◌, ◌-◌, ◌*◌, ◌^◌, Bool, true, ◌&&◌, nat_le, nat_lt, if◌then◌else◌, List, [], ◌∷◌, Option, Some, None, IsSome, codes, ⊤}
 use Rattle.std.specs.Str.{bytes_eq}
+use Rattle.dms_status.specs.declared.status.LimitKind.{LimitKind}
+use Rattle.dms_status.specs.declared.status.LimitKind.TheVariants.{AuditFile, Lines, Bytes, Held}
 use Rattle.dms_status.specs.declared.status.Status.{Status}
 use Rattle.dms_status.specs.declared.status.Status.TheVariants.{Ok, BadWords, SchemaRefused, NoDatabase, Needed, InputFault, Memory, Limit, Damaged, SayFault, DiskFault, Exists}
 
@@ -99,6 +101,13 @@ IsUntouched SayFault = ⊥
 IsUntouched DiskFault = ⊥
 IsUntouched Exists = ⊥
 
+-- a limit of the script
+abbrev pub IsOfLines : LimitKind → Type 0
+IsOfLines (AuditFile f) = ⊥
+IsOfLines Lines = ⊤
+IsOfLines Bytes = ⊤
+IsOfLines Held = ⊤
+
 -- the statuses of `try`
 abbrev pub IsOfTry : Status → Type 0
 IsOfTry Ok = ⊤
@@ -109,7 +118,7 @@ IsOfTry (Needed n) = ⊥
 IsOfTry (Damaged f b) = ⊥
 IsOfTry InputFault = ⊤
 IsOfTry Memory = ⊤
-IsOfTry (Limit l) = ⊤
+IsOfTry (Limit l) = IsOfLines l
 IsOfTry SayFault = ⊤
 IsOfTry DiskFault = ⊥
 IsOfTry Exists = ⊥
