@@ -239,7 +239,11 @@ scans_again total tag f n waiting old new ps t w s =
     scans_trail total tag first s.file s.count l.last 10000 new.files s.writes l.low l.high (omega (arith, l.low, l.span.low, l.span.high))
     ∙ ap (all_of first) all.is ∙ ap (λ b. cond b (found all.placed) (no_schema first)) holds in
     let database : HasDatabase (new.files 1) = subst (λ (bytes : List ℕ). HasDatabase bytes) (sym (s.below 1 (omega (arith, t.span.low)))) t.database in
-    (record { placed = all.placed; trail = record { database = database; first = first; last = l.last; span = l.span; is = is }; are = entries }, refl)
+    record {
+      placed = all.placed;
+      trail = record { database = database; first = first; last = l.last; span = l.span; is = is };
+      are = entries;
+    }
 
 -- ---- a trail as a writer keeps it
 

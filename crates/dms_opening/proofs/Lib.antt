@@ -1,3 +1,5 @@
+pub mod Faults
+pub mod Planned
 pub mod LastPoint
 pub mod OneTrail
 pub mod Carries

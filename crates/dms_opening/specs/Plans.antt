@@ -2,6 +2,7 @@
 use Rattle.std.specs.Prelude.{ℕ, ◌<◌, ◌≤◌, ◌≡◌, ◌⊎◌, List, length, Some, None}
 use Rattle.dms_site.specs.Files.{Files}
 use Rattle.dms_history.specs.Pick.{count_at}
+use Rattle.dms_history.specs.Entries.{Entry}
 use Rattle.dms_history.specs.EntryEvents.{history_of, next_of}
 use Rattle.dms_history.specs.SchemaAt.{schema_at}
 use Rattle.dms_audfile.specs.AuditTrail.{IsFound}
@@ -40,20 +41,32 @@ pub record Plans (total first : ℕ) (files : Files) (plan : Plan) : Type 0 wher
 
 -- The table is of blocks of structure files, the counts are those of 200 files, none with more blocks than may be, and the description has
 -- from 1 to 65,535 bytes.
-pub record IsFit (plan : Plan) : Type 0 where
+pub record FitsOpening (plan : Plan) : Type 0 where
   pub blocks : AreBlocks plan.table.items
   pub size : length plan.counts.items ≡ 200
   pub small : AllAtMost plan.counts.items
   pub some : 1 ≤ length plan.schema.items
   pub few : length plan.schema.items ≤ 65535
 
--- Nothing is refused by points, but the Schema at the point of the restore has no byte, or more than a description can have.
+-- no byte, or more than a description can have
+abbrev pub CannotDescribe : List ℕ → Type 0
+CannotDescribe bytes = (length bytes ≡ 0) ⊎ (65535 < length bytes)
+
+-- so is the Schema at a point
+pub record HasNoDescriptionAt (entries : List Entry) (point : ℕ) : Type 0 where
+  pub bytes : List ℕ
+  pub schema_is : schema_at entries point ≡ Some bytes
+  pub none : CannotDescribe bytes
+
+-- Nothing is refused by points, but there is no description at the point of the restore.
 pub record HasNoDescription (total first : ℕ) (files : Files) : Type 0 where
   pub choice : Choice
   pub chooses : Chooses (history_of (trail_entries total first files)) (next_of (trail_entries total first files)) choice
-  pub bytes : List ℕ
-  pub schema_is : schema_at (trail_entries total first files) choice.point ≡ Some bytes
-  pub size : (length bytes ≡ 0) ⊎ (65535 < length bytes)
+  pub at : HasNoDescriptionAt (trail_entries total first files) choice.point
+
+-- a call of the site failed, or memory was refused
+abbrev pub IsPlainFault : OpenFault → Type 0
+IsPlainFault fault = (fault ≡ Audit aud.Disk) ⊎ (fault ≡ Audit aud.Memory)
 
 -- A call of the site failed, memory was refused, a restore by a dump is pending, a point can't be had, or there is no description.
 abbrev pub RefusesPlan : ℕ → ℕ → Files → OpenFault → Type 0

@@ -1,12 +1,26 @@
 //! What an opening does, and what it needs, before its first write.
 
-ghost use Rattle.std.specs.Prelude.{◌≡◌, ◌≤◌, ℕ, IfOk, IfErr, IsErrOf, IsTrue};
+ghost use Rattle.std.specs.Prelude.{◌≡◌, ◌≤◌, ◌⊎◌, ℕ, List, Some, length, IfOk, IfErr, IsErrOf, IsTrue};
+ghost use Rattle.dms_site.specs.Files.{Files};
+ghost use Rattle.dms_history.specs.Entries as meaning;
+ghost use Rattle.dms_history.specs.EntryEvents.{history_of, live_of};
+ghost use Rattle.dms_history.specs.History.{Pending};
+ghost use Rattle.dms_history.specs.Pick.{count_at};
+ghost use Rattle.dms_history.specs.Places.{IsLive};
+ghost use Rattle.dms_history.specs.SchemaAt.{schema_at};
 ghost use Rattle.dms_audfile.specs.Counting.{CountedAt};
 ghost use Rattle.dms_audfile.specs.Reads.{OnlyReads};
-ghost use Rattle.dms_opening.specs.Plans.{IsTrailRead, Plans, IsFit, RefusesPlan};
+ghost use Rattle.dms_audfile.specs.TrailEntries.{trail_entries};
+ghost use Rattle.dms_restore.specs.Counts.{count_of};
+ghost use Rattle.dms_restore.specs.PointCounts.{AllAtMost};
+ghost use Rattle.dms_restore.specs.Refusals.{IsOpening};
+ghost use Rattle.dms_restore.specs.Table.{AreBlocks, IsTable};
+ghost use Rattle.dms_restore.specs.Tracing.{IsTraced};
+ghost use Rattle.dms_opening.specs.Plans.{IsTrailRead, CannotDescribe, HasNoDescriptionAt, IsPlainFault, Plans, FitsOpening, RefusesPlan};
 
 use dms_audfile::{AudFault, EntryPlace};
-use dms_restore::{Choice, OpenFault, Told, TrailTrace};
+use dms_history::laws::points_have_schemas;
+use dms_restore::{Choice, OpenFault, Told, TrailHistory, TrailTrace, read_schema};
 use dms_site::Site;
 use std::alloc::Global;
 
@@ -24,6 +38,86 @@ pub struct Plan {
     pub schema: Vec<u8>,
 }
 
+/// The bytes of a Schema as a description of a trail that begins with file `first`. Damaged where they are none, or more than 65,535.
+fn fitting(first: u32, bytes: Vec<u8>) -> Result<Vec<u8>, OpenFault>
+    ensures same { IfOk result (λ v. v.items ≡ bytes.items) }
+    ensures some { IfOk result (λ v. 1 ≤ length v.items) }
+    ensures few { IfOk result (λ v. length v.items ≤ 65535) }
+    ensures damaged { IfErr result (λ e. (e ≡ OpenFault.Audit (AudFault.Damaged first 0)) × CannotDescribe bytes.items) }
+{
+    if bytes.is_empty() || bytes.len() > 65_535 {
+        Err(OpenFault::Audit(AudFault::Damaged(first, 0)))
+    } else {
+        Ok(bytes)
+    }
+}
+
+/// Reads the description at a point.
+///
+/// Nothing changes. Answers Disk where a call of the site failed, Memory, and Damaged of file `first` where the Schema there can't be a
+/// description's.
+fn read_description<S: Site>(
+    alloc: Global,
+    site: &mut S,
+    first: u32,
+    places: &[EntryPlace],
+    trace: &TrailTrace,
+    point: u64,
+) -> Result<Vec<u8>, OpenFault>
+    ensures bytes { IfOk result (λ v. IsTrue S.tells → (total : ℕ) → IsTrailRead total first (S.files site.old) places.now trace.now → IsLive (live_of (trail_entries total first (S.files site.old))) point
+        → schema_at (trail_entries total first (S.files site.old)) point ≡ Some v.items) }
+    ensures some { IfOk result (λ v. 1 ≤ length v.items) }
+    ensures few { IfOk result (λ v. length v.items ≤ 65535) }
+    ensures only { IfErr result (λ e. IsTrue S.tells → (total : ℕ) → IsTrailRead total first (S.files site.old) places.now trace.now → IsLive (live_of (trail_entries total first (S.files site.old))) point
+        → IsPlainFault e ⊎ ((e ≡ OpenFault.Audit (AudFault.Damaged first 0)) × HasNoDescriptionAt (trail_entries total first (S.files site.old)) point)) }
+    ensures reads { OnlyReads S.tells (S.files site.old) (S.files site.new) (S.said site.old) (S.said site.new) (S.clock site.old) (S.clock site.new) (S.disk_faults site.old) (S.disk_faults site.new) (S.say_faults site.old) (S.say_faults site.new) }
+    ensures same_site { S.same_site site.old site.new }
+    ensures disk { CountedAt (IsErrOf result (OpenFault.Audit AudFault.Disk)) (S.disk_faults site.old) (S.disk_faults site.new) }
+{
+    points_have_schemas();
+    let span = match trace.schema(point) {
+        Some(span) => span,
+        None => return Err(OpenFault::Audit(AudFault::Damaged(first, 0))),
+    };
+    match read_schema(alloc, site, places, &span) {
+        Ok(bytes) => fitting(first, bytes),
+        Err(fault) => Err(OpenFault::Audit(fault)),
+    }
+}
+
+/// What an opening's restore writes, and how many blocks each of the files 30,001 to 30,200 has at its point.
+///
+/// Nothing changes. Answers Disk where a call of the site failed, and Memory, of a trail that was scanned.
+fn prepare_restore<S: Site>(
+    alloc: Global,
+    site: &mut S,
+    choice: &Choice,
+    history: TrailHistory,
+) -> Result<(Vec<Told>, Vec<u32>), OpenFault>
+    ensures blocks { IfOk result (λ x. AreBlocks x.0.items) }
+    ensures table { IfOk result (λ x. (files : Files) (entries : List meaning.Entry) (p : Pending) → IsTraced files entries history → IsOpening (history_of entries) choice.now.begins choice.now.point p
+        → IsTable p.entries p.point files x.0.items) }
+    ensures counts { IfOk result (λ x. IsTrue S.tells → (entries : List meaning.Entry) (p : Pending) → IsTraced (S.files site.old) entries history → IsOpening (history_of entries) choice.now.begins choice.now.point p
+        → (f : ℕ) → count_of x.1.items f ≡ count_at p.entries p.point f) }
+    ensures size { IfOk result (λ x. length x.1.items ≡ 200) }
+    ensures small { IfOk result (λ x. AllAtMost x.1.items) }
+    ensures only { IfErr result (λ e. IsTrue S.tells → (entries : List meaning.Entry) (p : Pending) → IsTraced (S.files site.old) entries history → IsOpening (history_of entries) choice.now.begins choice.now.point p
+        → IsPlainFault e) }
+    ensures reads { OnlyReads S.tells (S.files site.old) (S.files site.new) (S.said site.old) (S.said site.new) (S.clock site.old) (S.clock site.new) (S.disk_faults site.old) (S.disk_faults site.new) (S.say_faults site.old) (S.say_faults site.new) }
+    ensures same_site { S.same_site site.old site.new }
+    ensures disk { CountedAt (IsErrOf result (OpenFault.Audit AudFault.Disk)) (S.disk_faults site.old) (S.disk_faults site.new) }
+{
+    let mut history = history;
+    let table = match history.opening_table(alloc, choice) {
+        Ok(table) => table,
+        Err(fault) => return Err(OpenFault::Audit(fault)),
+    };
+    match history.pending_counts(alloc, site) {
+        Ok(counts) => Ok((table, counts)),
+        Err(fault) => Err(OpenFault::Audit(fault)),
+    }
+}
+
 /// What an opening does, and what it needs, of a trail that begins with file `first` and was scanned.
 ///
 /// Nothing changes. Answers the first refusal by the pending restore and the last point, Damaged of file `first` where the Schema at the
@@ -37,11 +131,29 @@ pub fn prepare<S: Site>(
 ) -> Result<Plan, OpenFault>
     requires { 10001 ≤ first }
     ensures plans { IfOk result (λ plan. IsTrue S.tells → (total : ℕ) → IsTrailRead total first (S.files site.old) places.now trace → Plans total first (S.files site.old) plan) }
-    ensures fit { IfOk result IsFit }
+    ensures fit { IfOk result FitsOpening }
     ensures refused { IfErr result (λ e. IsTrue S.tells → (total : ℕ) → IsTrailRead total first (S.files site.old) places.now trace → RefusesPlan total first (S.files site.old) e) }
     ensures reads { OnlyReads S.tells (S.files site.old) (S.files site.new) (S.said site.old) (S.said site.new) (S.clock site.old) (S.clock site.new) (S.disk_faults site.old) (S.disk_faults site.new) (S.say_faults site.old) (S.say_faults site.new) }
     ensures same_site { S.same_site site.old site.new }
     ensures disk { CountedAt (IsErrOf result (OpenFault.Audit AudFault.Disk)) (S.disk_faults site.old) (S.disk_faults site.new) }
 {
-    Err(OpenFault::Audit(AudFault::Memory))
+    let choice = match trace.history.choose(alloc, first) {
+        Ok(choice) => choice,
+        Err(fault) => return Err(fault),
+    };
+    let schema = match read_description(alloc, site, first, places, &trace, choice.point) {
+        Ok(schema) => schema,
+        Err(fault) => return Err(fault),
+    };
+    let next = trace.history.next;
+    match prepare_restore(alloc, site, &choice, trace.history) {
+        Ok((table, counts)) => Ok(Plan {
+            choice,
+            next,
+            table,
+            counts,
+            schema,
+        }),
+        Err(fault) => Err(fault),
+    }
 }

@@ -28,11 +28,11 @@ by_audit (rebuild d) none = absurd cc
 by_audit (reconstruct d named) none = absurd cc
 
 -- no refusal of two
-or_none : (a b : Option RefusedPoint) → or_then a b ≡ None → (a ≡ None) × (b ≡ None)
+pub or_none : (a b : Option RefusedPoint) → or_then a b ≡ None → (a ≡ None) × (b ≡ None)
 or_none None b none = (refl, none)
 or_none (Some r) b none = absurd cc
 
-at_none : (n : ℕ) (o : Option PointRefusal) → at_point n o ≡ None → o ≡ None
+pub at_none : (n : ℕ) (o : Option PointRefusal) → at_point n o ≡ None → o ≡ None
 at_none n None none = refl
 at_none n (Some r) none = absurd cc
 

@@ -60,8 +60,8 @@ both files [] there low = tt
 both files (p ∷ ps) there low = ((low.0, there.0.block.1), both files ps there.1 low.1)
 
 pub found_in_audit : EntriesAreThere → (files : Files) (first : ℕ) (places : List EntryPlace) → IsFound files first places → AreInAudit places
-found_in_audit stand files first places found =
-    let t = found.trail in
-    let r = was_read t.first t.last files found.entries t.is in
+found_in_audit stand files first places is =
+    let t = is.trail in
+    let r = was_read t.first t.last files is.entries t.is in
     let high : t.first + (r.end + 1 - t.first) ≤ 20001 = omega (arith, r.inside, t.span.high, t.span.order) in
-    subst AreInAudit (sym found.places_are) (both files found.entries (stand files found.entries t) (in_files (r.end + 1 - t.first) r.total t.first files found.entries high r.read))
+    subst AreInAudit (sym is.places_are) (both files is.entries (stand files is.entries t) (in_files (r.end + 1 - t.first) r.total t.first files is.entries high r.read))

@@ -35,12 +35,12 @@ pub traces_old : (files : Files) (entries : List Entry) (begins : Bool) (point :
 traces_old files entries begins point h p old o t = record { entries = entries; traced = t; pending = pending_old entries begins point p old o }
 
 -- the pending restore as it is kept
-record HoldsPending (files : Files) (h : TrailHistory) (p : Pending) : Type 0 where
-  q : PendingAt
-  is : h.pending ≡ Some q
-  at : IsPendingAt files h.live.items h.removed.items q p
+pub record HoldsPending (files : Files) (h : TrailHistory) (p : Pending) : Type 0 where
+  pub q : PendingAt
+  pub is : h.pending ≡ Some q
+  pub at : IsPendingAt files h.live.items h.removed.items q p
 
-holds : (files : Files) (entries : List Entry) (h : TrailHistory) (p : Pending) → IsTraced files entries h → (history_of entries).pending ≡ Some p → HoldsPending files h p
+pub holds : (files : Files) (entries : List Entry) (h : TrailHistory) (p : Pending) → IsTraced files entries h → (history_of entries).pending ≡ Some p → HoldsPending files h p
 holds files entries h p t is = go h.pending refl (subst (λ (o : Option Pending). MatchesPending files h.live.items h.removed.items h.pending o) is t.pending_matches)
   where
     go : (o : Option PendingAt) → h.pending ≡ o → MatchesPending files h.live.items h.removed.items o (Some p) → HoldsPending files h p

@@ -14,10 +14,15 @@ use Rattle.dms_restore.specs.Table.{IsBlock}
 -- ---- each Image is of a block
 
 one_block : (files : Files) (e : LiveEntry) (f b : ℕ) (s : AuditSpot) → StandsWhole files e → IsImageSpot e f b s → IsBlock (record { file = f; block = b; audit = s.audit; at = s.at })
-one_block files (Changed i) f b s w is = (omega (arith, w.2, is.0), omega (arith, w.4, is.1), omega (arith, w.5, is.2), elim is.3 [
-  | inl after ↦ omega (arith, w.6, after)
-  | inr before ↦ omega (arith, w.6, before)
-])
+one_block files (Changed i) f b s w is = (
+  omega (arith, w.2, is.0),
+  omega (arith, w.4, is.1),
+  omega (arith, w.5, is.2),
+  elim is.3 [
+    | inl after ↦ omega (arith, w.6, after)
+    | inr before ↦ omega (arith, w.6, before)
+  ],
+)
 one_block files (Quiet n) f b s w is = absurd is
 one_block files (Controlled c) f b s w is = absurd is
 

@@ -1,9 +1,10 @@
 -- A trail as entries of a database.
-use Rattle.std.proofs.Common.{ℕ, zero, suc, ◌+◌, ◌*◌, ◌≤◌, ◌<◌, ◌≡◌, ◌⊎◌, inl, inr, Bool, true, false, cond, List, [], ◌∷◌, ◌++◌, map, length, take, drop, Option, Some, None, refl, sym, ◌∙◌, ap, subst, arith}
+use Rattle.std.proofs.Common.{ℕ, zero, suc, ◌+◌, ◌-◌, ◌*◌, ◌≤◌, ◌<◌, ◌≡◌, ◌⊎◌, inl, inr, Bool, true, false, cond, List, [], ◌∷◌, ◌++◌, map, length, take, drop, Option, Some, None, refl, sym, ◌∙◌, ap, subst, arith}
 use Rattle.std.specs.Option.{option_copied}
 use Rattle.std.specs.Borrow.{Bor}
 use Rattle.std.specs.Prelude.{◌&&◌, nat_lt, nat_le}
 use Rattle.std.proofs.lemmas.List.{length-take}
+use Rattle.std.proofs.lemmas.Bool.{cases_lt}
 use Rattle.std.proofs.lemmas.Bool.Decides.{nat_tests}
 use Rattle.dms_moments.specs.Moments.{Clock, Steps}
 use Rattle.dms_moments.specs.MomentLaws.{steps_weaken}
@@ -22,15 +23,17 @@ use Rattle.dms_audfile.specs.TrailEntries.{entry_of, entries_of, entries_in, tra
 use Rattle.dms_audfile.specs.Ends as ends
 use Rattle.dms_audfile.specs.Ends.{unsealed, EndsAt, Appends}
 use Rattle.dms_audfile.specs.Sealing.{IsWrittenUpTo}
-use Rattle.dms_audfile.specs.Scanning.{entry_in}
+use Rattle.dms_audfile.specs.Scanning as scan
+use Rattle.dms_audfile.specs.Scanning.{Placed, entry_in}
+use Rattle.dms_audfile.specs.AuditTrail.{IsScanned}
 use Rattle.dms_audfile.specs.TrailLaws.{read_trail, all_of}
 use Rattle.dms_audfile.specs.Database.{HasDatabase}
 use Rattle.dms_audfile.proofs.Again.{scans_again}
 use Rattle.dms_audfile.proofs.BlockRead.{block_is_read}
-use Rattle.dms_audfile.proofs.Followed.{scans_trail}
+use Rattle.dms_audfile.proofs.Followed.{fits_says, scans_trail}
 use Rattle.dms_audfile.proofs.Growing.{writes_same}
-use Rattle.dms_audfile.proofs.Ended.{entries_settled}
-use Rattle.dms_audfile.proofs.Kept.{found_is_kept}
+use Rattle.dms_audfile.proofs.Ended.{entries_settled, writes_once}
+use Rattle.dms_audfile.proofs.Kept.{long_head, found_is_kept}
 use Rattle.dms_running.specs.Telling.{IsTelling}
 use Rattle.dms_running.specs.Sealing.{SealsSome, Appended, AreSealed, Settled}
 use Rattle.dms_running.specs.Running.{AllPlain}
@@ -95,6 +98,51 @@ found_stays total first x y same f =
       first_is = f.first_is;
     }
 
+-- a trail that is found ends by the file behind that in which a writer is
+ends_by : (total tag first g n : ℕ) (files : Files) (ps : List Placed) (t : IsScanned files (scan.found ps)) → t.first ≡ first → IsWrittenUpTo total tag first g n files → t.last ≤ g + 1
+ends_by total tag first g n files ps t from writes =
+    let w : IsWrittenUpTo total tag t.first g n files = subst (λ k. IsWrittenUpTo total tag k g n files) (sym from) writes in
+    let k = found_is_kept t.first t.last files ps t.span.order t.is in
+    let one = fits_says (t.first - 10000) total (files t.first) (w.fits t.first (omega arith) w.order) in
+    let two = fits_says (t.first - 10000) k.total (files t.first) (k.writes.fits t.first (omega arith) k.writes.order) in
+    let same_tag : k.tag ≡ tag = sym (k.writes.tags t.first (omega arith) k.writes.order) ∙ w.tags t.first (omega arith) w.order in
+    let v : IsWrittenUpTo total tag t.first k.file k.count files =
+    subst (λ a. IsWrittenUpTo a tag t.first k.file k.count files) (two.1 ∙ sym one.1) (subst (λ a. IsWrittenUpTo k.total a t.first k.file k.count files) same_tag k.writes) in
+    omega (arith, k.high, writes_once total tag t.first g n k.file k.count files w v)
+
+-- what was sealed is found from the same first file on
+first_stays : (total tag first g n : ℕ) (w : List Entry) (y x : Left) (ps qs : List Placed) (t : IsScanned y.files (scan.found ps)) (r : IsScanned x.files (scan.found qs)) → t.first ≡ first → IsWrittenUpTo total tag first g n y.files
+    → ends.Seals total tag first w y x → r.first ≡ first
+first_stays total tag first g n w y x ps qs t r from writes s = elim (cases_lt r.first first) [
+  | inl lower ↦ absurd (some_bytes (x.files (first - 1)) (r.span.present (first - 1) (omega (arith, lower)) (omega (arith, low))) (front lower))
+  | inr not_lower ↦ elim (cases_lt first r.first) [
+    | inl higher ↦ elim (cases_lt s.file (r.first - 1)) [
+      | inl behind ↦ absurd (some_bytes (x.files r.first) (r.span.present r.first (omega arith) r.span.order) (s.behind r.first (omega (arith, behind)) ∙ t.span.absent r.first (omega (arith, behind, ends)) (omega (arith, r.span.order, r.span.high))))
+      | inr within ↦ absurd (some_bytes (x.files (r.first - 1)) (long (r.first - 1) (omega (arith, higher)) (omega (arith, within))) (r.span.before (r.first - 1) (omega (arith, higher, from, t.span.low)) (omega (arith, higher))))
+    ]
+    | inr same ↦ omega (arith, not_lower, same)
+  ]
+]
+  where
+    some_bytes : (bytes : List ℕ) → 0 < length bytes → bytes ≡ [] → ⊥
+    some_bytes bytes some none = omega (arith, some, ap length none)
+
+    long : (j : ℕ) → first ≤ j → j ≤ s.file → 0 < length (x.files j)
+    long j up to = omega (arith, long_head (j - 10000) total (x.files j) (s.writes.fits j up to))
+
+    ends : t.last ≤ s.file + 1
+    ends = omega (arith, ends_by total tag first g n y.files ps t from writes, s.later g n writes)
+
+    -- the file in which the writer is now is present
+    low : first ≤ r.last
+    low = elim (cases_lt r.last s.file) [
+      | inl beyond ↦ absurd (some_bytes (x.files s.file) (long s.file s.writes.order (omega arith)) (r.span.absent s.file beyond s.high))
+      | inr reached ↦ omega (arith, reached, s.writes.order)
+    ]
+
+    front : r.first < first → x.files (first - 1) ≡ []
+    front lower = s.below (first - 1) (omega (arith, lower)) ∙ t.span.before (first - 1) (omega (arith, r.span.low, lower)) (omega (arith, from, lower))
+
 -- what is sealed behind a trail is found too
 pub found_sealed : (total tag first g n : ℕ) (w : List Entry) (y x : Left) → IsWrittenUpTo total tag first g n y.files → ends.Seals total tag first w y x → IsFoundFrom total first y.files → IsFoundFrom total first x.files
 found_sealed total tag first g n w y x writes seals f =
@@ -104,8 +152,8 @@ found_sealed total tag first g n w y x writes seals f =
     let r = scans_again total tag g n w y x f.finds.placed t (subst (λ k. IsWrittenUpTo total tag k g n y.files) (sym from) writes) s in
     let old : map entry_in f.finds.placed ≡ trail_entries total t.first y.files = f.finds.are ∙ ap (λ k. trail_entries total k y.files) (sym from) in
     subst (λ k. IsFoundFrom total k x.files) from (record {
-      finds = record { placed = r.0.placed; trail = r.0.trail; are = r.0.are ∙ ap (λ (l : List Entry). l ++ take s.some w) old ∙ sym s.entries };
-      first_is = r.1;
+      finds = record { placed = r.placed; trail = r.trail; are = r.are ∙ ap (λ (l : List Entry). l ++ take s.some w) old ∙ sym s.entries };
+      first_is = first_stays total tag first g n w y x f.finds.placed r.placed t r.trail from writes seals ∙ sym from;
     })
 
 pub is_telling : (total first : ℕ) → first ≤ 20000 → IsTelling (telling_of total first)

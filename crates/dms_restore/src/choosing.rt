@@ -104,6 +104,7 @@ impl TrailHistory {
         requires { 10001 ≤ first }
         ensures chosen { IfOk result (λ c. (files : Files) (entries : List meaning.Entry) → IsTraced files entries self.now → Chooses (history_of entries) (next_of entries) c) }
         ensures refused { IfErr result (λ e. (files : Files) (entries : List meaning.Entry) → IsTraced files entries self.now → RefusesOpening first (history_of entries) (next_of entries) e) }
+        ensures no_call { IfErr result (λ e. e ≡ OpenFault.Audit AudFault.Disk → ⊥) }
     {
         if let Some(dump) = self.pending_dump() {
             return Err(OpenFault::ByDump(dump));

@@ -13,7 +13,7 @@ ghost use Rattle.dms_restore.specs.Table.{IsBlock, AreBlocks, IsAmong, IsTable};
 
 use crate::naming::{note_redo, note_undo, take_first};
 use crate::placing::after_control;
-use crate::{LiveEntry, AuditSpot, Told};
+use crate::{AuditSpot, LiveEntry, Told};
 use dms_audfile::AudFault;
 use std::alloc::{AllocError, Global};
 use std::collections::BTreeMap;

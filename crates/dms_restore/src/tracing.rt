@@ -87,7 +87,13 @@ fn image_at(place: &EntryPlace, file: u32, block: u32, before: Option<&[u8]>) ->
 }
 
 /// A Control at a place.
-fn control_at(place: &EntryPlace, point: u64, next: u64, counts: &[u8], described: bool) -> ControlAt
+fn control_at(
+    place: &EntryPlace,
+    point: u64,
+    next: u64,
+    counts: &[u8],
+    described: bool,
+) -> ControlAt
     ensures stands { (files : Files) → IsInAudit place.now → entry_there files place.now ≡ Some (control_point point next (counts_at (length counts.now / 8) counts.now))
         → StandsAsControl files result point next (counts_at (length counts.now / 8) counts.now) described }
     ensures is { (result.point ≡ point) × (result.next ≡ next) }
