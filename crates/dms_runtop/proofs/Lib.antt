@@ -1,2 +1,3 @@
+pub mod Endings
 pub mod Ran
 pub mod Formed

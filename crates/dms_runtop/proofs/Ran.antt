@@ -1,5 +1,5 @@
 -- What a run over a store on a running database is of the files below.
-use Rattle.std.proofs.Common.{ℕ, ◌≡◌, ◌≤◌, ◌<◌, ◌+◌, ◌^◌, ◌∙◌, Bool, true, false, IsTrue, List, [], ◌∷◌, ◌++◌, map, length, take, Option, Some, None, refl, sym, ap, subst, arith}
+use Rattle.std.proofs.Common.{inl, inr, ◌⊎◌, ℕ, ◌≡◌, ◌≤◌, ◌<◌, ◌+◌, ◌^◌, ◌∙◌, Bool, true, false, IsTrue, List, [], ◌∷◌, ◌++◌, map, length, take, Option, Some, None, refl, sym, ap, subst, arith}
 use Rattle.std.proofs.lemmas.List.{length-map, append-nil}
 use Rattle.dms_block.specs.Held.{Held}
 use Rattle.dms_block.specs.Texts.{Prints, PrintsPrefix}
@@ -8,7 +8,15 @@ use Rattle.dms_model.specs.Db.{Db}
 use Rattle.dms_model.specs.Points.{Point, Stop, LeavesPrefix, TextIs}
 use Rattle.dms_moments.specs.Moments.{Clock, Runs}
 use Rattle.dms_moments.specs.MomentLaws.{runs_weaken}
-use Rattle.dms_runner.specs.Events.{RunEvent, SaidWhole, text_of}
+use Rattle.dms_block.specs.declared.block_fault.BlockFault.TheVariants as block
+use Rattle.dms_block.specs.declared.block_fault.BlockFault.TheVariants.{Say}
+use Rattle.dms_feed.specs.Lines.{raw_lines}
+use Rattle.dms_runner.specs.Answers.{answers_text, last_quiet, script_events}
+use Rattle.dms_runner.specs.Events.{RunEvent, SaidWhole, quiets_of, text_of}
+use Rattle.dms_runner.specs.Running.{CutInput, PassesBytes, PassesLines, PassesWaiting}
+use Rattle.dms_runner.specs.declared.run.RunFault.{RunFault}
+use Rattle.dms_runner.specs.declared.run.RunFault.TheVariants as run
+use Rattle.dms_runner.specs.declared.run.RunFault.TheVariants.{Block}
 use Rattle.dms_running.specs.Telling.{Telling}
 use Rattle.dms_running.specs.Standing.{IsWhole}
 use Rattle.dms_running.specs.Points.{DescribedPoint, points_of}
@@ -24,7 +32,16 @@ use Rattle.dms_wal.specs.Database.{held, view_of, said_of}
 use Rattle.dms_wal.specs.Lifting as wal
 use Rattle.dms_wal.proofs.Lifts as walks
 use Rattle.dms_run.specs.States.{EndsWith, LivesEndWith}
-use Rattle.dms_run.specs.Stops.{RunLeaves}
+use Rattle.dms_run.specs.Ending.{KeepsLimits}
+use Rattle.dms_run.specs.Stops.{RunLeaves, last_quiet_number}
+use Rattle.dms_status.specs.declared.status.LimitKind.{LimitKind}
+use Rattle.dms_status.specs.declared.status.LimitKind.TheVariants.{AuditFile, Lines, Bytes, Held}
+use Rattle.dms_status.specs.declared.status.Status.{Status}
+use Rattle.dms_status.specs.declared.status.Status.TheVariants.{Ok, Limit, InputFault, Damaged, Memory}
+use Rattle.dms_runtop.specs.Faults.{run_status}
+use Rattle.dms_runtop.specs.Over.{FilesEndWith, PassesScript, ScriptRuns, SiteSeen}
+use Rattle.dms_runtop.specs.Statuses.{IsOfAuditLimit, IsOfClosing}
+use Rattle.dms_runtop.proofs.Endings.{run_not_ok, run_input, run_damaged, run_lines_is, run_bytes_is, run_held_is, ok_not_limit, closing_input, closing_damaged}
 use Rattle.dms_run.specs.Files.{points_seen, stop_seen, RunLeavesFiles}
 use Rattle.dms_run.proofs.Lowering.{files_left, leaves_files}
 
@@ -44,3 +61,88 @@ prints_nothing said text = λ t is. (0, is ∙ ap (λ (s : List ℕ). Some s) (s
 
 pub said_nothing : (said : Option (List ℕ)) (events : List RunEvent) → SaidWhole said said events
 said_nothing said events = (0, λ t is. is ∙ ap (λ (s : List ℕ). Some s) (sym (append-nil t)))
+
+-- ---- a run, by how it ended
+
+module _ (t : Telling) (d : Described) (ps : List DescribedPoint) (n : ℕ) (db : Db) (next : ℕ) (all : List ℕ) (a b : SiteSeen) (left' : Option (List ℕ)) where
+  abbrev events : List RunEvent
+  events = script_events d db next (raw_lines all)
+
+  -- nothing was done, for want of memory
+  pub ran_nothing : Runs a.clock b.clock (RunLeavesFiles t d a.said ps n db next events) → b.said ≡ a.said → ScriptRuns t d ps n db next all a b left' Memory
+  ran_nothing moments same = record {
+    every_moment = moments;
+    at_ok = λ is. absurd (not_ok is);
+    prints = λ is. absurd (not_ok is);
+    part = subst (λ (s : Option (List ℕ)). PrintsPrefix a.said s (answers_text d db next (raw_lines all))) (sym same) (prints_nothing a.said (answers_text d db next (raw_lines all)));
+    whole_answers = λ unsaid. subst (λ (s : Option (List ℕ)). SaidWhole a.said s events) (sym same) (said_nothing a.said events);
+    within = λ is. absurd (not_ok is);
+    limit = λ k is. absurd (not_limit k is);
+    input_cut = λ is. absurd (not_input is);
+    undamaged = λ f k is. not_damaged f k is;
+  }
+    where
+      not_ok : Memory ≡ Ok → ⊥
+      not_ok is = absurd cc
+
+      not_limit : (k : LimitKind) → Memory ≡ Limit k → ⊥
+      not_limit k is = absurd cc
+
+      not_input : Memory ≡ InputFault → ⊥
+      not_input is = absurd cc
+
+      not_damaged : (f k : ℕ) → Memory ≡ Damaged f k → ⊥
+      not_damaged f k is = absurd cc
+
+  -- the script stopped before its end
+  pub ran_failed : (fault : RunFault) → Runs a.clock b.clock (RunLeavesFiles t d a.said ps n db next events)
+      → PrintsPrefix a.said b.said (answers_text d db next (raw_lines all)) → ((fault ≡ Block Say → ⊥) → SaidWhole a.said b.said events)
+      → (fault ≡ run.Lines → PassesLines d db next (raw_lines all) a.said b.said) → (fault ≡ run.Bytes → PassesBytes d db next (raw_lines all) a.said b.said)
+      → (fault ≡ run.Held → PassesWaiting d db next (raw_lines all) a.said b.said) → (fault ≡ run.Input → CutInput d db next all left' a.said b.said)
+      → ((f k : ℕ) → fault ≡ Block (block.Damaged f k) → ⊥) → ScriptRuns t d ps n db next all a b left' (run_status fault)
+  ran_failed fault moments part whole lines bytes held cut damaged = record {
+    every_moment = moments;
+    at_ok = λ is. absurd (run_not_ok fault is);
+    prints = λ is. absurd (run_not_ok fault is);
+    part = part;
+    whole_answers = λ unsaid. whole (λ is. unsaid (ap run_status is));
+    within = λ is. absurd (run_not_ok fault is);
+    limit = λ k is. passes fault k is lines bytes held;
+    input_cut = λ is. cut (run_input fault is);
+    undamaged = λ f k is. damaged f k (run_damaged fault f k is);
+  }
+    where
+      passes : (fault : RunFault) (k : LimitKind) → run_status fault ≡ Limit k → (fault ≡ run.Lines → PassesLines d db next (raw_lines all) a.said b.said)
+          → (fault ≡ run.Bytes → PassesBytes d db next (raw_lines all) a.said b.said) → (fault ≡ run.Held → PassesWaiting d db next (raw_lines all) a.said b.said)
+          → PassesScript k d db next (raw_lines all) a.said b.said
+      passes fault (AuditFile f) is lines bytes held = tt
+      passes fault Lines is lines bytes held = lines (run_lines_is fault is)
+      passes fault Bytes is lines bytes held = bytes (run_bytes_is fault is)
+      passes fault Held is lines bytes held = held (run_held_is fault is)
+
+  -- the script was carried out, and the database closed, or not closed
+  pub ran_closed : (status : Status) → (status ≡ Ok) ⊎ IsOfClosing status → Runs a.clock b.clock (RunLeavesFiles t d a.said ps n db next events)
+      → (status ≡ Ok → FilesEndWith t d (last_quiet_number n (quiets_of events)) (last_quiet db (quiets_of events)) b)
+      → Prints a.said b.said (answers_text d db next (raw_lines all)) → PrintsPrefix a.said b.said (answers_text d db next (raw_lines all)) → SaidWhole a.said b.said events
+      → KeepsLimits d db next (raw_lines all) → ScriptRuns t d ps n db next all a b left' status
+  ran_closed status of moments ends prints part whole limits = record {
+    every_moment = moments;
+    at_ok = ends;
+    prints = λ is. prints;
+    part = part;
+    whole_answers = λ unsaid. whole;
+    within = λ is. limits;
+    limit = λ k is. closing_limit status of k is;
+    input_cut = λ is. absurd (closing_input status of is);
+    undamaged = λ f k is. closing_damaged status of f k is;
+  }
+    where
+      of_audit : (k : LimitKind) → IsOfAuditLimit k → PassesScript k d db next (raw_lines all) a.said b.said
+      of_audit (AuditFile f) is = tt
+      of_audit Lines is = absurd is
+      of_audit Bytes is = absurd is
+      of_audit Held is = absurd is
+
+      closing_limit : (s : Status) → (s ≡ Ok) ⊎ IsOfClosing s → (k : LimitKind) → s ≡ Limit k → PassesScript k d db next (raw_lines all) a.said b.said
+      closing_limit s (inl ok) k is = absurd (ok_not_limit k (sym ok ∙ is))
+      closing_limit s (inr of) k is = of_audit k (subst IsOfClosing is of)

@@ -1,4 +1,5 @@
 -- The status that each fault ends with.
+use Rattle.std.specs.Prelude.{ℕ, nat_lt, if◌then◌else◌}
 use Rattle.dms_audfile.specs.declared.fault.AudFault.TheVariants as aud
 use Rattle.dms_block.specs.declared.block_fault.BlockFault.{BlockFault}
 use Rattle.dms_block.specs.declared.block_fault.BlockFault.TheVariants as block
@@ -11,12 +12,16 @@ use Rattle.dms_status.specs.declared.status.NeedFault.TheVariants as need
 use Rattle.dms_status.specs.declared.status.Status.{Status}
 use Rattle.dms_status.specs.declared.status.Status.TheVariants.{NoDatabase, Needed, DiskFault, InputFault, Memory, Limit, Damaged, SayFault}
 
+-- of a damaged block that a script finds: of a structure file, and of no other
+abbrev pub damaged_status : ℕ → ℕ → Status
+damaged_status f b = if nat_lt 30000 f then Damaged f b else Memory
+
 -- of a fault of blocks
 abbrev pub block_status : BlockFault → Status
 block_status block.Disk = DiskFault
 block_status block.Memory = Memory
 block_status (block.Full f) = Limit (limit.AuditFile f)
-block_status (block.Damaged f b) = Damaged f b
+block_status (block.Damaged f b) = damaged_status f b
 block_status block.Say = SayFault
 
 -- of a fault of a run

@@ -1,5 +1,5 @@
 -- The statuses of a run, by where they come from.
-use Rattle.std.specs.Prelude.{⊤}
+use Rattle.std.specs.Prelude.{ℕ, ◌<◌, ◌≤◌, ⊤}
 use Rattle.dms_status.specs.declared.status.NeedFault.{NeedFault}
 use Rattle.dms_status.specs.declared.status.NeedFault.TheVariants.{NoDescription, AuditMissing, AuditUnsealed, AuditForeign, NoSuchPoint, Voided, DumpPending}
 use Rattle.dms_status.specs.declared.status.LimitKind.{LimitKind}
@@ -39,7 +39,7 @@ IsOfScript (Needed n) = ⊥
 IsOfScript InputFault = ⊤
 IsOfScript Memory = ⊤
 IsOfScript (Limit k) = ⊤
-IsOfScript (Damaged f b) = ⊤
+IsOfScript (Damaged f b) = 30000 < f
 IsOfScript SayFault = ⊤
 IsOfScript DiskFault = ⊤
 IsOfScript Exists = ⊥
@@ -69,7 +69,7 @@ IsOfRun SayFault = ⊤
 IsOfRun DiskFault = ⊤
 IsOfRun Exists = ⊥
 
--- the statuses with which an opening alone is refused
+-- the statuses with which an opening alone is refused: no database, a need, or a damaged block that is none of a structure file
 abbrev pub IsRefusal : Status → Type 0
 IsRefusal Ok = ⊥
 IsRefusal BadWords = ⊥
@@ -79,7 +79,7 @@ IsRefusal (Needed n) = ⊤
 IsRefusal InputFault = ⊥
 IsRefusal Memory = ⊥
 IsRefusal (Limit k) = ⊥
-IsRefusal (Damaged f b) = ⊥
+IsRefusal (Damaged f b) = f ≤ 30000
 IsRefusal SayFault = ⊥
 IsRefusal DiskFault = ⊥
 IsRefusal Exists = ⊥

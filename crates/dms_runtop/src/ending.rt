@@ -1,13 +1,28 @@
 //! The status that each fault ends with.
 
 ghost use Rattle.std.specs.Prelude.{◌≡◌};
-ghost use Rattle.dms_runtop.specs.Faults.{block_status, run_status, open_status};
+ghost use Rattle.dms_runtop.specs.Faults.{block_status, damaged_status, run_status, open_status};
 
 use dms_audfile::AudFault;
 use dms_block::BlockFault;
 use dms_restore::OpenFault;
 use dms_runner::RunFault;
 use dms_status::{LimitKind, NeedFault, Status};
+
+/// The last number of a file that is no structure file.
+const LAST_OTHER_FILE: u32 = 30_000;
+
+/// The status that a damaged block ends with. Only blocks of structure files are found damaged while a script runs; where another file were
+/// named, that counts as want of memory.
+fn status_of_damage(file: u32, block: u32) -> Status
+    ensures { result ≡ damaged_status file block }
+{
+    if file > LAST_OTHER_FILE {
+        Status::Damaged(file, block)
+    } else {
+        Status::Memory
+    }
+}
 
 /// The status that a fault of blocks ends with.
 pub fn status_of_block(fault: BlockFault) -> Status
@@ -17,7 +32,7 @@ pub fn status_of_block(fault: BlockFault) -> Status
         BlockFault::Disk => Status::DiskFault,
         BlockFault::Memory => Status::Memory,
         BlockFault::Full(file) => Status::Limit(LimitKind::AuditFile(file)),
-        BlockFault::Damaged(file, block) => Status::Damaged(file, block),
+        BlockFault::Damaged(file, block) => status_of_damage(file, block),
         BlockFault::Say => Status::SayFault,
     }
 }
