@@ -7,13 +7,13 @@ use Rattle.dms_block.specs.Content.{Content}
 use Rattle.dms_block.specs.Held.{BlockPoint}
 use Rattle.dms_desc.specs.Shape.{Described}
 use Rattle.dms_desc_bytes.specs.Spelling.{spelling}
-use Rattle.dms_history.specs.Points.{LivePoint}
+use Rattle.dms_running.specs.Points.{DescribedPoint}
 use Rattle.dms_model.specs.Db.{Db}
 use Rattle.dms_model.specs.Points.{Point, Quiet, told, known}
 use Rattle.dms_runner.specs.Answers.{last_quiet}
 use Rattle.dms_store.specs.Lifted.{point_of, db_of}
 use Rattle.dms_store.specs.Spelled.{spelled}
-use Rattle.dms_wal.specs.Lifting.{point_under}
+use Rattle.dms_wal.specs.Lifting.{block_point}
 use Rattle.dms_run.specs.States.{EndsWith, BlocksEndWith, LivesEndWith}
 use Rattle.dms_run.specs.Stops.{last_quiet_number, IsOneOf}
 use Rattle.dms_run.specs.Laws.{AllowsLaw, OneStateLaw, BlocksLaw, LivesLaw}
@@ -73,14 +73,31 @@ same_bytes a b e = (bytes_eq-Decides a b).0 e
 pub as_bytes : (a b : List ℕ) → a ≡ b → bytes_eq a b ≡ true
 as_bytes a b e = (bytes_eq-Decides a b).1 e
 
--- a mapped list ends with what its last one is mapped to
-record Last {A B : Type 0} (f : A → B) (xs : List A) (y : B) : Type 0 where
-  front : List A
-  last : A
-  are : xs ≡ front ++ last ∷ []
-  is : f last ≡ y
+-- where a mapped list has something, the list has what is mapped to it
+pub record Split {A B : Type 0} (f : A → B) (xs : List A) (y : B) : Type 0 where
+  pub front : List A
+  pub point : A
+  pub after : List A
+  pub are : xs ≡ front ++ point ∷ after
+  pub is : f point ≡ y
 
-last_of : {A B : Type 0} (f : A → B) (xs : List A) (before : List B) (y : B) → map f xs ≡ before ++ y ∷ [] → Last f xs y
+pub split_of : {A B : Type 0} (f : A → B) (xs : List A) (before after : List B) (y : B) → map f xs ≡ before ++ y ∷ after → Split f xs y
+split_of f [] [] after y e = absurd (cc)
+split_of f [] (b ∷ bs) after y e = absurd (cc)
+split_of f (x ∷ xs) [] after y e = record { front = []; point = x; after = xs; are = refl; is = cc }
+split_of f (x ∷ xs) (b ∷ bs) after y e =
+    let tails : map f xs ≡ bs ++ y ∷ after = cc in
+    let r = split_of f xs bs after y tails in
+    record { front = x ∷ r.front; point = r.point; after = r.after; are = ap (λ (l : List _). x ∷ l) r.are; is = r.is }
+
+-- a mapped list ends with what its last one is mapped to
+pub record Last {A B : Type 0} (f : A → B) (xs : List A) (y : B) : Type 0 where
+  pub front : List A
+  pub last : A
+  pub are : xs ≡ front ++ last ∷ []
+  pub is : f last ≡ y
+
+pub last_of : {A B : Type 0} (f : A → B) (xs : List A) (before : List B) (y : B) → map f xs ≡ before ++ y ∷ [] → Last f xs y
 last_of f [] [] y e = absurd (cc)
 last_of f [] (b ∷ bs) y e = absurd (cc)
 last_of f (x ∷ []) [] y e = record { front = []; last = x; are = refl; is = cc }
@@ -119,24 +136,25 @@ blocks = record { seen = blocks_seen; are = blocks_are }
 
 -- ---- live points
 
-pub lives_seen : (desc : Described) (points : List LivePoint) (n : ℕ) (db : Db) → LivesEndWith desc points n db → BlocksEndWith desc (map (point_under (spelling desc)) points) n db
+pub lives_seen : (desc : Described) (points : List DescribedPoint) (n : ℕ) (db : Db) → LivesEndWith desc points n db → BlocksEndWith desc (map block_point points) n db
 lives_seen desc points n db s = record {
-  before = map (point_under (spelling desc)) s.before;
-  point = point_under (spelling desc) s.point;
-  are = ap (map (point_under (spelling desc))) s.are ∙ map-append (point_under (spelling desc)) s.before (s.point ∷ []);
+  before = map block_point s.before;
+  point = block_point s.point;
+  are = ap (map block_point) s.are ∙ map-append block_point s.before (s.point ∷ []);
   number = s.number;
-  schema = refl;
+  schema = s.schema;
   spells = s.spells;
 }
 
-pub lives_are : (desc : Described) (points : List LivePoint) (n : ℕ) (db : Db) → BlocksEndWith desc (map (point_under (spelling desc)) points) n db → LivesEndWith desc points n db
+pub lives_are : (desc : Described) (points : List DescribedPoint) (n : ℕ) (db : Db) → BlocksEndWith desc (map block_point points) n db → LivesEndWith desc points n db
 lives_are desc points n db s =
-    let l = last_of (point_under (spelling desc)) points s.before s.point s.are in
+    let l = last_of block_point points s.before s.point s.are in
     record {
       before = l.front;
       point = l.last;
       are = l.are;
       number = ap (λ (p : BlockPoint). p.number) l.is ∙ s.number;
+      schema = ap (λ (p : BlockPoint). p.schema) l.is ∙ s.schema;
       spells = ap (λ (p : BlockPoint). spelled desc p.blocks) l.is ∙ s.spells;
     }
 

@@ -4,10 +4,12 @@ use Rattle.std.specs.declared.option.Option.{Option}
 use Rattle.dms_block.specs.Held.{BlockPoint}
 use Rattle.dms_desc.specs.Shape.{Described}
 use Rattle.dms_desc_bytes.specs.Spelling.{spelling}
-use Rattle.dms_history.specs.Points.{LivePoint}
 use Rattle.dms_model.specs.Db.{Db}
 use Rattle.dms_model.specs.Points.{Point, Quiet, told, known}
+use Rattle.dms_running.specs.Points.{DescribedPoint}
+use Rattle.dms_store.specs.Lifted.{point_of}
 use Rattle.dms_store.specs.Spelled.{spelled}
+use Rattle.dms_wal.specs.Lifting.{block_point}
 
 -- One of these points has the number and the database of this quiet point.
 pub record HasState (points : List Point) (q : Quiet) : Type 0 where
@@ -33,23 +35,25 @@ pub record BlocksEndWith (desc : Described) (points : List BlockPoint) (n : ℕ)
   pub schema : point.schema ≡ spelling desc
   pub spells : spelled desc point.blocks ≡ Some db
 
--- The last of these live points has this number, and its blocks spell this database.
-pub record LivesEndWith (desc : Described) (points : List LivePoint) (n : ℕ) (db : Db) : Type 0 where
-  pub before : List LivePoint
-  pub point : LivePoint
+-- The last of these live points has this number, the Schema there is that of the description, and its blocks spell this database.
+pub record LivesEndWith (desc : Described) (points : List DescribedPoint) (n : ℕ) (db : Db) : Type 0 where
+  pub before : List DescribedPoint
+  pub point : DescribedPoint
   pub are : points ≡ before ++ point ∷ []
   pub number : point.number ≡ n
+  pub schema : point.schema ≡ spelling desc
   pub spells : spelled desc point.blocks ≡ Some db
 
--- what is told of a live point: its number, and the database that its blocks spell, where they spell one
-abbrev pub told_live : Described → LivePoint → ℕ × Option Db
-told_live desc p = (p.number, spelled desc p.blocks)
+-- what is told of a live point: its number, and the database that its blocks spell, where they spell one under the Schema there
+abbrev pub told_live : Described → DescribedPoint → ℕ × Option Db
+told_live desc p = told (point_of desc (block_point p))
 
--- One of these live points has the number of this quiet point, and its blocks spell the database.
-pub record HasLive (desc : Described) (points : List LivePoint) (q : Quiet) : Type 0 where
-  pub before : List LivePoint
-  pub point : LivePoint
-  pub after : List LivePoint
+-- One of these live points has the number of this quiet point, the Schema there is that of the description, and its blocks spell the database.
+pub record HasLive (desc : Described) (points : List DescribedPoint) (q : Quiet) : Type 0 where
+  pub before : List DescribedPoint
+  pub point : DescribedPoint
+  pub after : List DescribedPoint
   pub are : points ≡ before ++ point ∷ after
   pub number : point.number ≡ q.0
+  pub schema : point.schema ≡ spelling desc
   pub spells : spelled desc point.blocks ≡ Some q.1

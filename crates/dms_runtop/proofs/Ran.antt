@@ -54,6 +54,40 @@ db_told desc false c db told is = absurd (cc)
 pub all_durable : (desc : Described) (h : Held) → h.durable ≡ length h.points → h.durable ≡ length (map (point_of desc) h.points)
 all_durable desc h is = is ∙ sym (length-map h.points (point_of desc))
 
+-- ---- what stops leave
+
+module _ {S : Type 0} (g : Ghosts S) (d : Described) (t : Telling) (r r' : Running S) (kind : telling (view_of g r.log) ≡ t) (kind' : telling (view_of g r'.log) ≡ t) (ps : List DescribedPoint) (points_are : map (point_of d) (held g r).points ≡ points_seen d ps)
+    (n : ℕ) (db : Db) (next : ℕ) (events : List RunEvent) where
+  abbrev entry : Option (List ℕ)
+  entry = said_of g r.log
+
+  -- a stop within the script
+  pub moments_below : Runs (lifted d (held g r).clock) (lifted d (held g r').clock) (RunLeaves (held g r).whole entry (map (point_of d) (held g r).points) n db next events)
+      → Runs (g.clock r.log.site) (g.clock r'.log.site) (RunLeavesFiles t d entry ps n db next events)
+  moments_below run =
+      subst (λ (k : Telling). Runs (g.clock r.log.site) (g.clock r'.log.site) (RunLeavesFiles k d entry ps n db next events)) kind
+      (files_left g d r r' (kind' ∙ sym kind) entry ps n db next events
+      (subst (λ (p : List Point). Runs (lifted d (held g r).clock) (lifted d (held g r').clock) (RunLeaves (held g r).whole entry p n db next events)) points_are run))
+
+  -- a stop within the closing control point
+  pub closing_below : (site : S) → ((stop : Stop) → LeavesPrefix (held g r').whole (held g r').durable (map (point_of d) (held g r').points) (held g r').next stop → TextIs (held g r').said stop
+      → RunLeaves (held g r).whole entry (map (point_of d) (held g r).points) n db next events stop)
+      → IsTrue g.tells → r'.next + 1 < 2 ^ 64 → LeavesUntil (held g r') (wal.lifted (telling (view_of g r'.log)) (g.clock site))
+      → Runs (g.clock r'.log.site) (g.clock site) (RunLeavesFiles t d entry ps n db next events)
+  closing_below site ends tells room leaves =
+      let k = telling (view_of g r'.log) in
+      let a = held g r' in
+      let b : Held = record a { clock = wal.lifted k (g.clock site) } in
+      let seen : List Point = map (point_of d) (held g r).points in
+      let up = stores.leaves_lifted d a b a.points a.next (leaves tells room) in
+      let ran : Runs (lifted d a.clock) (lifted d b.clock) (RunLeaves (held g r).whole entry seen n db next events) = runs_weaken up (λ stop p. ends stop p.0 p.1) in
+      let blocks = stores.lowered d a b ran in
+      let below = walks.lowered k (g.clock r'.log.site) (g.clock site) blocks in
+      runs_weaken below (λ x l. leaves_files t d entry ps n db next events x
+      (subst (λ (w : Telling). RunLeaves (IsWhole w) entry (points_seen d ps) n db next events (stop_seen t d x)) kind
+      (subst (λ (p : List Point). RunLeaves (held g r).whole entry p n db next events (stop_seen t d x)) points_are
+      (subst (λ (w : Telling). RunLeaves (held g r).whole entry seen n db next events (store_stop d (wal.stop_of w x))) kind' l))))
+
 -- ---- what is printed
 
 pub prints_nothing : (said : Option (List ℕ)) (text : List ℕ) → PrintsPrefix said said text
