@@ -9,7 +9,7 @@ use Rattle.dms_history.specs.Events.{Content}
 use Rattle.dms_history.specs.Entries.{Entry, begin_restore, by_back_out, control_point}
 use Rattle.dms_history.specs.Schemas.{schema_entries}
 use Rattle.dms_history.specs.declared.event.FileCount.{FileCount}
-use Rattle.dms_history.specs.Points.{LivePoint}
+use Rattle.dms_running.specs.Points.{DescribedPoint}
 use Rattle.dms_pool.specs.declared.pool.Pool.{Pool}
 use Rattle.dms_pool.specs.Calls.{IsEmpty}
 use Rattle.dms_audrec.specs.Spelling.{pair_bytes, count_file, count_blocks}
@@ -34,6 +34,7 @@ use Rattle.dms_wal.proofs.Lifts.{passes_by, stays_by}
 use Rattle.dms_wal.proofs.Pointing.{last_is, mark_is}
 use Rattle.dms_wal.proofs.Pooled.{holds_like, frames_empty, counted_empty}
 use Rattle.dms_wal.specs.AgreeLaws.{text}
+use Rattle.dms_wal.proofs.Under.{under_back}
 
 -- the content is that of the mark
 pub content_mark : (a b : LogView) (m : ℕ) (marks : List ℕ) → LogRuns a → Reads a → IsMarkOf (points a) m marks → (es : List Entry) → WentBackTo m a b es → content b ≡ last_blocks (λ f. []) (points a)
@@ -48,18 +49,19 @@ module _ {S : Type 0} (g : Ghosts S) (stay : (s : S) → IsTrue g.tells → (x :
   passes_back p b c full outs cs kind many said leaves silent =
       let r' : Running S = record r { log = l; pool = p; broken = b; changed = c; full = full; counts = cs; outs = outs } in
       passes_by g.tells (IsUsable g r) (IsUsable g r') (view_of g r.log) (view_of g l) r.schema.items r.next r.next r.counts.items cs.items (said_of g r.log) (said_of g l) (faults_of g r) (faults_of g r') (uses_of g r) (uses_of g r')
-      kind many refl (ap (λ (s : List ℕ). cond g.tells_said (Some s) None) said) (λ t. (u.goes t).numbered) (text g now_said r.schema.items r.log) leaves silent
+      kind many refl (ap (λ (s : List ℕ). cond g.tells_said (Some s) None) said) (λ t. (u.goes t).numbered) (text g now_said r.log) leaves silent
 
-  module _ (n : ℕ) (p : Pool) (empty : IsEmpty n p) (outs : ℕ) (cs : Vec ℕ) (copied : cs.items ≡ r.marks.items) (es : List Entry) (went : IsTrue g.tells → WentBackTo r.point (view_of g r.log) (view_of g l) es) where
+  module _ (n : ℕ) (p : Pool) (empty : IsEmpty n p) (outs : ℕ) (cs : Vec ℕ) (copied : cs.items ≡ r.marks.items) (went : IsTrue g.tells → WentBackTo r.point (view_of g r.log) (view_of g l) (entries_back r.point r.schema.items r.next r.marks.items)) where
     abbrev pub back : Running S
     back = record r { log = l; pool = p; counts = cs; changed = false; outs = outs }
 
     pub marked_content : IsTrue g.tells → content (view_of g l) ≡ last_blocks (λ f. []) (points (view_of g r.log))
-    marked_content t = content_mark (view_of g r.log) (view_of g l) r.point r.marks.items (u.goes t).runs (stay r.log.site t) (u.pointed t) es (went t)
+    marked_content t = content_mark (view_of g r.log) (view_of g l) r.point r.marks.items (u.goes t).runs (stay r.log.site t) (u.pointed t) (entries_back r.point r.schema.items r.next r.marks.items) (went t)
 
     pub usable_back : IsUsable g back
     usable_back = record {
       unbroken = u.unbroken;
+      under = λ t. under_back (view_of g r.log) (view_of g l) r.schema.items r.point r.next r.marks.items u.described.0 (went t).entries_are;
       described = u.described;
       table = subst AreCounts (sym copied) u.marked.table;
       marked = record { table = u.marked.table; as_many = ap length (sym copied) };
@@ -70,7 +72,7 @@ module _ {S : Type 0} (g : Ghosts S) (stay : (s : S) → IsTrue g.tells → (x :
         numbered = (u.goes t).numbered ∙ sym w.next_same;
         counted = λ f. ap (λ (c : List ℕ). count_of c f) copied ∙ (u.pointed t).counted f ∙ ap (λ (c : Content). length (c f)) (sym (marked_content t));
       };
-      pointed = λ t. subst (λ (ps : List LivePoint). IsMarkOf ps r.point r.marks.items) (sym (went t).points_same) (u.pointed t);
+      pointed = λ t. subst (λ (ps : List DescribedPoint). IsMarkOf ps r.point r.marks.items) (sym (went t).points_same) (u.pointed t);
       unchanged = λ no t. record { content_is = marked_content t ∙ sym (ap (last_blocks (λ f. [])) (went t).points_same); counts_are = copied };
     }
 

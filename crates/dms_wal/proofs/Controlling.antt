@@ -7,11 +7,11 @@ use Rattle.dms_block.specs.declared.block.BlockId.{BlockId}
 use Rattle.dms_block.specs.Held.{BlocksAgree, Held, MadeDurable, MakesNoPoint, SameBlocks, Stays}
 use Rattle.dms_block.specs.HeldLaws.{same_on, told_after}
 use Rattle.dms_history.specs.Events.{Content, Stored, block_in}
-use Rattle.dms_history.specs.Points.{LivePoint}
 use Rattle.dms_history.specs.declared.event.FileCount.{FileCount}
 use Rattle.dms_history.specs.Entries.{control_point}
 use Rattle.dms_history.specs.Schemas.{schema_entries}
 use Rattle.dms_audrec.specs.Spelling.{pair_bytes, count_file, count_blocks}
+use Rattle.dms_running.specs.Points.{DescribedPoint}
 use Rattle.dms_restore.specs.Bodies.{bodies}
 use Rattle.dms_pool.specs.declared.pool.Pool.{Pool}
 use Rattle.dms_pool.specs.Held.{is_dirty}
@@ -31,12 +31,13 @@ use Rattle.dms_restore.proofs.Callers.{each_leave}
 use Rattle.dms_restore.proofs.CountBytes.{IsCountTable, counts_read, counts_told}
 use Rattle.dms_wal.specs.declared.running.Running.{Running}
 use Rattle.dms_wal.specs.Controls.{IsSettled, MakesControl, TellsSame}
-use Rattle.dms_wal.specs.Lifting.{AreCounts, last_blocks, point_under}
+use Rattle.dms_wal.specs.Lifting.{AreCounts, last_blocks, block_point}
 use Rattle.dms_wal.specs.Marks.{IsMarkOf}
 use Rattle.dms_wal.specs.Database.{held, view_of, frames_of, GoesWith, IsUsable}
 use Rattle.dms_wal.proofs.Pooled.{clean_frames}
 use Rattle.dms_wal.proofs.Pointing.{last_is}
 use Rattle.dms_wal.proofs.Marked.{mark_on}
+use Rattle.dms_wal.proofs.Under.{under_control}
 
 true_not_false : true ≡ false → ⊥
 true_not_false e = absurd cc
@@ -87,10 +88,11 @@ module _ {S : Type 0} (g : Ghosts S) (r : Running S) (u : IsUsable g r) (clean :
   pub usable_controlled : IsUsable g (record r { log = l })
   usable_controlled = record {
     unbroken = u.unbroken;
+    under = λ t. under_control (view_of g r.log) (view_of g l) r.schema.items r.point r.next (file_counts 30001 r.counts.items) u.described.0 (makes_control t).entries_are;
     described = u.described;
     table = u.table;
     marked = u.marked;
-    pointed = λ t. subst (λ (ps : List LivePoint). IsMarkOf ps r.point r.marks.items) (sym (controlled t).points_same) (u.pointed t);
+    pointed = λ t. subst (λ (ps : List DescribedPoint). IsMarkOf ps r.point r.marks.items) (sym (controlled t).points_same) (u.pointed t);
     unchanged = λ no t. mark_on (view_of g r.log) (view_of g l) r.counts.items r.marks.items (controlled t).content_same (controlled t).points_same (u.unchanged no t);
     counted = u.counted;
     goes = λ t. let k = u.goes t in let c = controlled t in record {
@@ -106,8 +108,8 @@ module _ {S : Type 0} (g : Ghosts S) (r : Running S) (u : IsUsable g r) (clean :
     sound = usable_controlled;
     same = record { counts = refl; content = λ t. (controlled t).content_same };
     mark = λ t. ap (last_blocks (λ f. [])) (controlled t).points_same;
-    points = λ t room. ap (map (point_under r.schema.items)) (controlled t).points_same;
-    durable = λ t room. (controlled t).all_durable ∙ sym (length-map (points (view_of g r.log)) (point_under r.schema.items));
+    points = λ t room. ap (map block_point) (controlled t).points_same;
+    durable = λ t room. (controlled t).all_durable ∙ sym (length-map (points (view_of g r.log)) block_point);
   }
 
 -- what stops leave of it

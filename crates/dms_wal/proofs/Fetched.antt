@@ -37,6 +37,7 @@ use Rattle.dms_wal.proofs.Stepped.{in_table}
 use Rattle.dms_wal.proofs.Tabled.{count_at}
 use Rattle.dms_wal.proofs.Roomed.{usable_same}
 use Rattle.dms_wal.proofs.Marked.{mark_still}
+use Rattle.dms_wal.proofs.Under.{under_still}
 
 none_not_some : {A : Type 0} (x : A) → None ≡ Some x → ⊥
 none_not_some x e = absurd cc
@@ -76,6 +77,7 @@ module _ {S : Type 0} (g : Ghosts S) (r : Running S) (u : IsUsable g r) where
     pub usable_looked : IsUsable g (record r { log = looked })
     usable_looked = record {
       unbroken = u.unbroken;
+      under = λ t. under_still r.log.end r.log.first (g.files r.log.site) (g.files s) (g.clock r.log.site) (g.clock s) r.schema.items (files t) (u.under t);
       described = u.described;
       table = u.table;
       marked = u.marked;
@@ -115,6 +117,7 @@ module _ {S : Type 0} (g : Ghosts S) (r : Running S) (u : IsUsable g r) where
     usable_put : PutsFrame id (framed block false) r.pool p → IsUsable g (record r { pool = p })
     usable_put put = record {
       unbroken = u.unbroken;
+      under = u.under;
       described = u.described;
       table = u.table;
       marked = u.marked;
@@ -140,6 +143,7 @@ module _ {S : Type 0} (g : Ghosts S) (r : Running S) (u : IsUsable g r) where
   pub usable_asked : (id : BlockId) (p : Pool) → FrameUsed id r.pool p → IsUsable g (record r { pool = p })
   usable_asked id p looked = record {
     unbroken = u.unbroken;
+    under = u.under;
     described = u.described;
     table = u.table;
     marked = u.marked;
@@ -156,7 +160,7 @@ module _ {S : Type 0} (g : Ghosts S) (r : Running S) (u : IsUsable g r) where
 
   -- and a read was counted
   pub usable_counted : (n : ℕ) → IsUsable g (record r { reads = n })
-  usable_counted n = record { unbroken = u.unbroken; described = u.described; table = u.table; marked = u.marked; pointed = u.pointed; unchanged = u.unchanged; counted = u.counted; goes = λ t. let k = u.goes t in record { runs = k.runs; holds = k.holds; numbered = k.numbered; counted = k.counted } }
+  usable_counted n = record { unbroken = u.unbroken; under = u.under; described = u.described; table = u.table; marked = u.marked; pointed = u.pointed; unchanged = u.unchanged; counted = u.counted; goes = λ t. let k = u.goes t in record { runs = k.runs; holds = k.holds; numbered = k.numbered; counted = k.counted } }
 
   -- the block that is held is that of the content
   pub asked_block : (id : BlockId) (block : Block) → Some block ≡ option_map (λ f. f.block) (frame_of id r.pool) → IsTrue g.tells → block.0 ≡ block_in (content (view_of g r.log)) id.file id.block
@@ -166,4 +170,4 @@ module _ {S : Type 0} (g : Ghosts S) (r : Running S) (u : IsUsable g r) where
 
   -- a held block was asked for, and counted
   pub usable_read : (id : BlockId) (p : Pool) (n : ℕ) → FrameUsed id r.pool p → IsUsable g (record r { pool = p; reads = n })
-  usable_read id p n looked = let k = usable_asked id p looked in record { unbroken = k.unbroken; described = k.described; table = k.table; marked = k.marked; pointed = k.pointed; unchanged = k.unchanged; counted = k.counted; goes = λ t. let j = k.goes t in record { runs = j.runs; holds = j.holds; numbered = j.numbered; counted = j.counted } }
+  usable_read id p n looked = let k = usable_asked id p looked in record { unbroken = k.unbroken; under = k.under; described = k.described; table = k.table; marked = k.marked; pointed = k.pointed; unchanged = k.unchanged; counted = k.counted; goes = λ t. let j = k.goes t in record { runs = j.runs; holds = j.holds; numbered = j.numbered; counted = j.counted } }

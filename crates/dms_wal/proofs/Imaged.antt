@@ -13,6 +13,7 @@ use Rattle.dms_history.specs.Events.{Content}
 use Rattle.dms_history.specs.Images.{is_at}
 use Rattle.dms_history.specs.Replay.{TellsBefore, with_block}
 use Rattle.dms_history.proofs.Picks.{place_cases, tells_le}
+use Rattle.dms_running.specs.Points.{DescribedPoint}
 use Rattle.dms_pool.specs.declared.frame.BufferFrame as pools
 use Rattle.dms_pool.specs.declared.pool.Pool.{Pool}
 use Rattle.dms_pool.specs.Calls.{FrameUsed, PutsFrame}
@@ -30,7 +31,6 @@ use Rattle.dms_restore.specs.Logging as logs
 use Rattle.dms_restore.specs.Logging.{LogView, telling, state, points, content, LogRuns, LogsImage}
 use Rattle.dms_restore.proofs.Logs.{Reads}
 use Rattle.dms_wal.specs.declared.running.Running.{Running}
-use Rattle.dms_history.specs.Points.{LivePoint}
 use Rattle.dms_wal.specs.Lifting.{count_of, owns_of}
 use Rattle.dms_wal.specs.Marks.{IsMarkOf}
 use Rattle.dms_wal.specs.Database.{view_of, frame_seen, frames_of, HoldsCounted, IsUsable}
@@ -56,6 +56,7 @@ use Rattle.dms_wal.proofs.Stepped.{passes_step, surer_step}
 use Rattle.dms_wal.proofs.Marked.{true_not_false}
 use Rattle.dms_wal.specs.AgreeLaws.{text}
 use Rattle.dms_wal.proofs.Tabled.{raised_table, raised_more}
+use Rattle.dms_wal.proofs.Under.{under_on, under_image}
 
 -- one word for a changed content, above and below
 pub with_same : (c : Content) (f k : ℕ) (bytes : List ℕ) → blocks.with_block c f k bytes ≡ with_block c f k bytes
@@ -132,9 +133,10 @@ module _ {S : Type 0} (g : Ghosts S) (r : Running S) (u : IsUsable g r) (id : Bl
   pub usable_changed : IsUsable g (record r { log = two; pool = pool; counts = cs; changed = true })
   usable_changed = record {
     unbroken = u.unbroken;
+    under = λ t. under_on (view_of g one) (view_of g two) r.schema.items (kept t).entries_same (under_image (view_of g r.log) (view_of g one) r.schema.items id.file id.block before block.0 (logged t).entries_are (u.under t));
     described = u.described;
     marked = record { table = u.marked.table; as_many = u.marked.as_many ∙ sym many };
-    pointed = λ t. subst (λ (ps : List LivePoint). IsMarkOf ps r.point r.marks.items) (sym ((kept t).points_same ∙ (logged t).points_same)) (u.pointed t);
+    pointed = λ t. subst (λ (ps : List DescribedPoint). IsMarkOf ps r.point r.marks.items) (sym ((kept t).points_same ∙ (logged t).points_same)) (u.pointed t);
     unchanged = λ no t. absurd (true_not_false no);
     table = raised_table r.counts.items cs.items id.file id.block u.table low raises many;
     counted = counted;
@@ -166,7 +168,7 @@ module _ {S : Type 0} (g : Ghosts S) (stay : (s : S) → IsTrue g.tells → (x :
       let r' : Running S = record r { log = l; pool = p; counts = cs; changed = true } in
       record {
         passes = passes_by g.tells (IsUsable g r) (IsUsable g r') (view_of g r.log) (view_of g l) r.schema.items r.next r.next r.counts.items cs.items (said_of g r.log) (said_of g l) (faults_of g r) (faults_of g r') (uses_of g r) (uses_of g r')
-            kind many refl (ap (λ (s : List ℕ). cond g.tells_said (Some s) None) said) (λ t. (u.goes t).numbered) (text g now_said r.schema.items r.log) leaves silent;
+            kind many refl (ap (λ (s : List ℕ). cond g.tells_said (Some s) None) said) (λ t. (u.goes t).numbered) (text g now_said r.log) leaves silent;
         stays = stays_by g.tells (IsUsable g r) (IsUsable g r') (view_of g r.log) (view_of g l) r.schema.items r.next r.next r.counts.items cs.items (said_of g r.log) (said_of g l) (faults_of g r) (faults_of g r') (uses_of g r) (uses_of g r')
             usable (λ t. (same t, surer_step g now_said r u l p r.broken r.full cs kind stay counts_now t (points (view_of g r.log)) (logs.next (view_of g r.log)) (leaves t)));
         memory = λ e. absurd (cc e);
@@ -198,4 +200,4 @@ then_left g stay counts_now r u one two f k before after kind logged first secon
 
 -- what a database was used for doesn't touch what it needs
 pub usable_spent : {S : Type 0} (g : Ghosts S) (r : Running S) (n : ℕ) → IsUsable g r → IsUsable g (record r { spent = n })
-usable_spent g r n u = record { unbroken = u.unbroken; described = u.described; table = u.table; marked = u.marked; pointed = u.pointed; unchanged = u.unchanged; counted = u.counted; goes = u.goes }
+usable_spent g r n u = record { unbroken = u.unbroken; under = u.under; described = u.described; table = u.table; marked = u.marked; pointed = u.pointed; unchanged = u.unchanged; counted = u.counted; goes = u.goes }

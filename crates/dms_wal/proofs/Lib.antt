@@ -1,4 +1,5 @@
 pub mod Lifts
+pub mod Under
 pub mod Pooled
 pub mod Stills
 pub mod Causes

@@ -1,12 +1,12 @@
 -- The last point of a running database.
-use Rattle.std.proofs.Common.{ℕ, ◌≤◌, ◌≡◌, ◌⊎◌, inl, inr, Bool, true, false, List, [], ◌∷◌, ◌++◌, length, Option, Some, None, refl, sym, ◌∙◌, ap, subst, arith}
+use Rattle.std.proofs.Common.{ℕ, ◌≤◌, ◌≡◌, ◌⊎◌, inl, inr, Bool, true, false, List, [], ◌∷◌, ◌++◌, map, length, Option, Some, None, refl, sym, ◌∙◌, ap, subst, arith}
 use Rattle.std.specs.Prelude.{◌==◌, ◌||◌}
 use Rattle.std.proofs.lemmas.Bool.Decides.{nat_tests}
 use Rattle.dms_site.specs.Files.{stored_of}
 use Rattle.dms_history.specs.Events.{Content, Stored, Event}
 use Rattle.dms_history.specs.Lists.{has}
 use Rattle.dms_history.specs.Places.{IsLive}
-use Rattle.dms_history.specs.Points.{LivePoint, HasPoint, numbers_of, AllAbove, Rises, AllLive, ListsPoints}
+use Rattle.dms_history.specs.Points.{LivePoint, live_points, HasPoint, numbers_of, AllAbove, Rises, AllLive, ListsPoints}
 use Rattle.dms_history.specs.Pick.{Dumps, blocks_at}
 use Rattle.dms_history.specs.Here as counts
 use Rattle.dms_history.specs.Entries.{Entry}
@@ -15,6 +15,7 @@ use Rattle.dms_history.proofs.Order.{last_lives}
 use Rattle.dms_history.proofs.Listed.{points_listed}
 use Rattle.dms_history.proofs.Picks.{some_is}
 use Rattle.dms_running.specs.Standing.{MayRun}
+use Rattle.dms_running.specs.Points.{DescribedPoint, described_in}
 use Rattle.dms_running.specs.Begun.{content_at_point}
 use Rattle.dms_running.proofs.MayRun.{counted}
 use Rattle.dms_running.proofs.Appending.{now_runs}
@@ -42,13 +43,13 @@ pub record IsTop (live : List Event) (counted : Stored) (ps : List LivePoint) (n
   pub has_it : HasPoint live counted n blocks
   pub top : (m : ℕ) → has (λ j. j == m) (numbers_of ps) ≡ true → m ≤ n
 
-module _ (live : List Event) (counted_ : Stored) where
+module _ (live : List Event) (counted_ : Stored) (es : List Entry) where
   first_below : (n : ℕ) (p q : LivePoint) (ps : List LivePoint) → AllAbove p.number (numbers_of (q ∷ ps)) → q.number ≤ n → p.number ≤ n
   first_below n p q ps above le = omega (arith, above.0, le)
 
   -- the first of them is below the top
-  top_of : (none : Content) (p : LivePoint) (ps : List LivePoint) (n : ℕ) → Rises (numbers_of (p ∷ ps)) → AllLive live counted_ (p ∷ ps) → number_from (Some p.number) ps ≡ Some n
-      → IsTop live counted_ (p ∷ ps) n (last_blocks p.blocks ps) × (p.number ≤ n)
+  top_of : (none : Content) (p : LivePoint) (ps : List LivePoint) (n : ℕ) → Rises (numbers_of (p ∷ ps)) → AllLive live counted_ (p ∷ ps) → number_from (Some p.number) (map (described_in es) ps) ≡ Some n
+      → IsTop live counted_ (p ∷ ps) n (last_blocks p.blocks (map (described_in es) ps)) × (p.number ≤ n)
   top_of none p [] n rises lives is =
       let same : p.number ≡ n = some_is p.number n is in (
         record {
@@ -67,7 +68,7 @@ module _ (live : List Event) (counted_ : Stored) where
         le,
       )
 
-  pub top_is : (none : Content) (ps : List LivePoint) (n : ℕ) → Rises (numbers_of ps) → AllLive live counted_ ps → last_number ps ≡ Some n → IsTop live counted_ ps n (last_blocks none ps)
+  pub top_is : (none : Content) (ps : List LivePoint) (n : ℕ) → Rises (numbers_of ps) → AllLive live counted_ ps → last_number (map (described_in es) ps) ≡ Some n → IsTop live counted_ ps n (last_blocks none (map (described_in es) ps))
   top_is none [] n rises lives is = absurd (none_not_some n is)
   top_is none (p ∷ ps) n rises lives is = (top_of none p ps n rises lives is).0
 
@@ -81,11 +82,15 @@ module _ (v : LogView) (r : LogRuns v) (read : Reads v) (n : ℕ) (is : last_num
   may : MayRun (telling v).first es dumps r.runs.base (stored_of v.files)
   may = now_runs (telling v) (lemmas.tells v r read) (state v) r.runs read
 
-  listed : ListsPoints (live_of es) (counts.here dumps (history_of es) (stored_of v.files)) (points v)
+  -- the points without their Schemas
+  abbrev pub bare : List LivePoint
+  bare = live_points (live_of es) (counts.here dumps (history_of es) (stored_of v.files))
+
+  listed : ListsPoints (live_of es) (counts.here dumps (history_of es) (stored_of v.files)) bare
   listed = points_listed (live_of es) (next_of es) (counts.here dumps (history_of es) (stored_of v.files)) may.stands.kept.numbered
 
-  top : IsTop (live_of es) (counts.here dumps (history_of es) (stored_of v.files)) (points v) n (last_blocks (λ f. []) (points v))
-  top = top_is (live_of es) (counts.here dumps (history_of es) (stored_of v.files)) (λ f. []) (points v) n listed.rises listed.lives is
+  top : IsTop (live_of es) (counts.here dumps (history_of es) (stored_of v.files)) bare n (last_blocks (λ f. []) (points v))
+  top = top_is (live_of es) (counts.here dumps (history_of es) (stored_of v.files)) es (λ f. []) bare n listed.rises listed.lives is
 
   -- it is the last point
   pub last_is : LastIs v n
@@ -99,14 +104,14 @@ module _ (v : LogView) (r : LogRuns v) (read : Reads v) (n : ℕ) (is : last_num
   pub mark_is : content_at_point (telling v) (state v) n ≡ last_blocks (λ f. []) (points v)
   mark_is = ap (λ (s : Stored). blocks_at (live_of es) s n) (sym (counted (telling v).first es dumps r.runs.base (stored_of v.files) may)) ∙ top.has_it.same
 
-number_push : (before : Option ℕ) (ps : List LivePoint) (p : LivePoint) → number_from before (ps ++ p ∷ []) ≡ Some p.number
+number_push : (before : Option ℕ) (ps : List DescribedPoint) (p : DescribedPoint) → number_from before (ps ++ p ∷ []) ≡ Some p.number
 number_push before [] p = refl
 number_push before (q ∷ ps) p = number_push (Some q.number) ps p
 
 -- a quiet point is the last one, with the counts of now
 pub quiet_mark : (a b : LogView) (next : ℕ) (counts marks : List ℕ) → LogsQuiet a b → next ≡ logs.next a → ((f : ℕ) → count_of counts f ≡ length (content a f)) → marks ≡ counts → IsMarkOf (points b) next marks
 quiet_mark a b next counts marks q numbered counted copied = record {
-  number = ap (λ (ps : List LivePoint). last_number ps) q.points_are ∙ number_push None (points a) (here a) ∙ ap (λ n. Some n) (sym numbered);
+  number = ap (λ (ps : List DescribedPoint). last_number ps) q.points_are ∙ number_push None (points a) (here a) ∙ ap (λ n. Some n) (sym numbered);
   counted = λ f. ap (λ (c : List ℕ). count_of c f) copied ∙ counted f
-      ∙ ap (λ (c : Content). length (c f)) (sym (ap (λ (ps : List LivePoint). last_blocks (λ g. []) ps) q.points_are ∙ last_here (λ g. []) (points a) (here a)));
+      ∙ ap (λ (c : Content). length (c f)) (sym (ap (λ (ps : List DescribedPoint). last_blocks (λ g. []) ps) q.points_are ∙ last_here (λ g. []) (points a) (here a)));
 }

@@ -15,7 +15,6 @@ use Rattle.dms_history.specs.Entries.{Entry, control_point}
 use Rattle.dms_history.specs.Schemas.{schema_entries}
 use Rattle.dms_restore.specs.Bodies.{bodies}
 use Rattle.dms_restore.specs.Counts.{file_counts}
-use Rattle.dms_history.specs.Points.{LivePoint}
 use Rattle.dms_history.proofs.Order.{append_none}
 use Rattle.dms_audfile.specs.declared.audit_end.AuditEnd.{AuditEnd}
 use Rattle.dms_audfile.specs.Blocks.{block_entries}
@@ -26,7 +25,7 @@ use Rattle.dms_audfile.specs.Ends.{unsealed, EndsAt}
 use Rattle.dms_running.specs.Telling.{Telling}
 use Rattle.dms_running.specs.Running.{State, IsRunning, entries_now, content_now, points_now, next_now, durable_now, here_now}
 use Rattle.dms_running.specs.Frames.{FramesHold}
-use Rattle.dms_running.specs.Points.{points_of, next_in}
+use Rattle.dms_running.specs.Points.{DescribedPoint, points_of, next_in}
 use Rattle.dms_running.proofs.Appending.{now_runs}
 use Rattle.dms_restore.specs.Logging as logs
 use Rattle.dms_restore.specs.Logging.{waits, LogView, view, telling, state, entries, points, content, LogRuns}
@@ -41,6 +40,7 @@ use Rattle.dms_wal.specs.Database.{held, view_of, GoesWith, IsUsable, frames_of}
 use Rattle.dms_wal.specs.Lifting.{last_blocks, lifted, point_under}
 use Rattle.dms_wal.specs.Marks.{IsMarkOf}
 use Rattle.dms_wal.proofs.Marked.{mark_on}
+use Rattle.dms_wal.proofs.Under.{under_on}
 
 -- the same end of a trail, which may go on up to another file
 pub record EndsAlike (a b : AuditEnd) : Type 0 where
@@ -114,12 +114,13 @@ module _ {S : Type 0} (g : Ghosts S) (r : Running S) (e : AuditEnd) (alike : End
   pub usable_alike : IsUsable g r → IsUsable g reaching
   usable_alike u = record {
     unbroken = u.unbroken;
+    under = λ t. under_on (view_of g r.log) (view e r.log.first (g.files r.log.site) (g.clock r.log.site)) r.schema.items (entries_alike r.log.end e alike r.log.first (g.files r.log.site) (g.clock r.log.site)) (u.under t);
     described = u.described;
     table = u.table;
     marked = u.marked;
     counted = u.counted;
     goes = λ t. goes_alike r.log.end e alike r.log.first (g.files r.log.site) (g.clock r.log.site) r.pool r.next r.counts.items (u.goes t);
-    pointed = λ t. subst (λ (ps : List LivePoint). IsMarkOf ps r.point r.marks.items) (sym (points_alike r.log.end e alike r.log.first (g.files r.log.site) (g.clock r.log.site))) (u.pointed t);
+    pointed = λ t. subst (λ (ps : List DescribedPoint). IsMarkOf ps r.point r.marks.items) (sym (points_alike r.log.end e alike r.log.first (g.files r.log.site) (g.clock r.log.site))) (u.pointed t);
     unchanged = λ no t.
         let first = r.log.first in let files = g.files r.log.site in let clock = g.clock r.log.site in
         mark_on (view_of g r.log) (view e first files clock) r.counts.items r.marks.items (content_alike r.log.end e alike first files clock) (points_alike r.log.end e alike first files clock) (u.unchanged no t);
@@ -139,10 +140,10 @@ held_alike g r e alike =
       whole = IsWhole (sym t i);
       content = content_now (sym t i) (sym s i);
       mark = last_blocks (λ f. []) (points_now (sym t i) (sym s i));
-      points = map (point_under schema) (points_now (sym t i) (sym s i));
+      points = map block_point (points_now (sym t i) (sym s i));
       durable = durable_now (sym t i) (sym s i);
       here = point_under schema (here_now (sym t i) (sym s i));
-      clock = lifted (sym t i) schema clock;
+      clock = lifted (sym t i) clock;
     }
 
 -- a fault of the disk, or that the audit is full
@@ -187,11 +188,11 @@ closes_alike a b v schema point next counts same es ps nexts contents c = record
 module _ {S : Type 0} (g : Ghosts S) (stay : (s : S) → IsTrue g.tells → (x : Left) × Now (g.clock s) x × (x.files ≡ g.files s)) (r : Running S) (e : AuditEnd) (alike : EndsAlike r.log.end e) (last : Running S)
     (kind : telling (view_of g last.log) ≡ telling (view_of g (reaching g r e alike).log)) (s : S) (site : s ≡ last.log.site) where
   -- what a stop left up to the closed site
-  pub closes_leaves : last.schema ≡ r.schema → MakesNoPoint (held g (reaching g r e alike)) (held g last) → LeavesUntil (held g r) (lifted (telling (view_of g r.log)) r.schema.items (g.clock s))
+  pub closes_leaves : last.schema ≡ r.schema → MakesNoPoint (held g (reaching g r e alike)) (held g last) → LeavesUntil (held g r) (lifted (telling (view_of g r.log)) (g.clock s))
   closes_leaves schema passes =
       let l : LeavesUntil (held g r) (held g last).clock = subst (λ (h : Held). LeavesUntil h (held g last).clock) (sym (held_alike g r e alike)) passes.leaves in
       let all : telling (view_of g last.log) ≡ telling (view_of g r.log) = kind ∙ telling_alike r.log.end e alike r.log.first (g.files r.log.site) (g.clock r.log.site) in
-      subst (λ (k : Clock BlockStop). LeavesUntil (held g r) k) (λ i. lifted (all i) (schema i).items (g.clock (sym site i))) l
+      subst (λ (k : Clock BlockStop). LeavesUntil (held g r) k) (λ i. lifted (all i) (g.clock (sym site i))) l
 
   -- what the closed site holds
   pub closes_all : (t : IsTrue g.tells) → IsUsable g last → MakesControl (view_of g (reaching g r e alike).log) (view_of g last.log) r.schema.items r.point r.next r.counts.items

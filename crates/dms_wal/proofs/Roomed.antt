@@ -16,6 +16,7 @@ use Rattle.dms_history.specs.Places.{is_control}
 use Rattle.dms_history.specs.Images.{last_after}
 use Rattle.dms_history.specs.Entries.{Entry}
 use Rattle.dms_history.specs.EntryEvents.{live_of}
+use Rattle.dms_running.specs.Points.{DescribedPoint}
 use Rattle.dms_restore.proofs.Callers.{changed_newest}
 use Rattle.dms_history.proofs.Picks.{some_is}
 use Rattle.dms_pool.specs.declared.frame.BufferFrame as pools
@@ -36,7 +37,6 @@ use Rattle.dms_restore.specs.Logging as logs
 use Rattle.dms_restore.specs.Logging.{LogView, telling, state, points, durable, content, waits, LogRuns, LogsNothing, IsNewestSealed, PrintsNothing}
 use Rattle.dms_restore.proofs.Logs.{Reads}
 use Rattle.dms_wal.specs.declared.running.Running.{Running}
-use Rattle.dms_history.specs.Points.{LivePoint}
 use Rattle.dms_wal.specs.Lifting.{count_of}
 use Rattle.dms_wal.specs.Marks.{IsMarkOf}
 use Rattle.dms_wal.specs.Database.{view_of, frame_seen, frames_of, IsUsable}
@@ -45,6 +45,7 @@ use Rattle.dms_wal.proofs.Pooled.{holds_like, frames_up, counted_up}
 use Rattle.dms_wal.proofs.Backs.{all_sized, holds_back}
 use Rattle.dms_wal.proofs.Stepped.{in_table}
 use Rattle.dms_wal.proofs.Marked.{mark_on}
+use Rattle.dms_wal.proofs.Under.{under_on}
 
 -- one call of a log after another
 pub then_leave : (a m b : LogView) → telling m ≡ telling a → logs.LogLeaves a m (points a) (logs.next a) → logs.LogLeaves m b (points m) (logs.next m) → points m ≡ points a → durable a ≤ durable m → logs.next m ≡ logs.next a → logs.LogLeaves a b (points a) (logs.next a)
@@ -71,6 +72,7 @@ module _ {S : Type 0} (g : Ghosts S) (r : Running S) (u : IsUsable g r) (p : Poo
   pub usable_same : SamePool r.pool p → IsUsable g (record r { pool = p })
   usable_same same = record {
     unbroken = u.unbroken;
+    under = u.under;
     described = u.described;
     table = u.table;
     marked = u.marked;
@@ -102,6 +104,7 @@ module _ {S : Type 0} (g : Ghosts S) (r : Running S) (u : IsUsable g r) (p : Poo
     pub usable_clean : x.dirty ≡ false → IsUsable g (record r { pool = p })
     usable_clean clean = record {
       unbroken = u.unbroken;
+      under = u.under;
       described = u.described;
       table = u.table;
       marked = u.marked;
@@ -127,10 +130,11 @@ module _ {S : Type 0} (g : Ghosts S) (r : Running S) (u : IsUsable g r) (p : Poo
       → (IsTrue g.tells → WritesBack (view_of g r.log) (view_of g l) id.file id.block block.0) → IsUsable g (record r { log = l; pool = p })
   usable_back id block up l kind runs read back = record {
     unbroken = u.unbroken;
+    under = λ t. under_on (view_of g r.log) (view_of g l) r.schema.items (back t).entries_same (u.under t);
     described = u.described;
     table = u.table;
     marked = u.marked;
-    pointed = λ t. subst (λ (ps : List LivePoint). IsMarkOf ps r.point r.marks.items) (sym (back t).points_same) (u.pointed t);
+    pointed = λ t. subst (λ (ps : List DescribedPoint). IsMarkOf ps r.point r.marks.items) (sym (back t).points_same) (u.pointed t);
     unchanged = λ no t. mark_on (view_of g r.log) (view_of g l) r.counts.items r.marks.items (back t).content_same (back t).points_same (u.unchanged no t);
     counted = counted_up id (framed block true) r.pool p r.counts.items up u.counted;
     goes = λ t. let k = u.goes t in let w = back t in record {

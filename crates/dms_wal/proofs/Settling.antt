@@ -11,7 +11,7 @@ use Rattle.dms_block.specs.declared.block.BlockId.{BlockId}
 use Rattle.dms_block.specs.Held.{Looks}
 use Rattle.dms_block.specs.HeldLaws.{used_none}
 use Rattle.dms_history.specs.Events.{Content, block_in}
-use Rattle.dms_history.specs.Points.{LivePoint}
+use Rattle.dms_running.specs.Points.{DescribedPoint}
 use Rattle.dms_pool.specs.declared.frame.BufferFrame as pools
 use Rattle.dms_pool.specs.declared.pool.Pool.{Pool}
 use Rattle.dms_pool.specs.Calls.{Cleans}
@@ -34,6 +34,7 @@ use Rattle.dms_wal.proofs.Stills.{runs_still, goes_sealed}
 use Rattle.dms_wal.proofs.Roomed.{then_leave}
 use Rattle.dms_wal.proofs.Stepped.{passes_step, stays_step}
 use Rattle.dms_wal.proofs.Marked.{mark_on}
+use Rattle.dms_wal.proofs.Under.{under_on}
 
 -- ---- a block was written, and stays in the pool
 
@@ -42,10 +43,11 @@ module _ {S : Type 0} (g : Ghosts S) (r : Running S) (u : IsUsable g r) where
       → (IsTrue g.tells → WritesBack (view_of g r.log) (view_of g l) id.file id.block block.0) → IsUsable g (record r { log = l; pool = p })
   usable_washed p id block was c l kind runs read back = record {
     unbroken = u.unbroken;
+    under = λ t. under_on (view_of g r.log) (view_of g l) r.schema.items (back t).entries_same (u.under t);
     described = u.described;
     table = u.table;
     marked = u.marked;
-    pointed = λ t. subst (λ (ps : List LivePoint). IsMarkOf ps r.point r.marks.items) (sym (back t).points_same) (u.pointed t);
+    pointed = λ t. subst (λ (ps : List DescribedPoint). IsMarkOf ps r.point r.marks.items) (sym (back t).points_same) (u.pointed t);
     unchanged = λ no t. mark_on (view_of g r.log) (view_of g l) r.counts.items r.marks.items (back t).content_same (back t).points_same (u.unchanged no t);
     counted = counted_cleaned id r.pool p c r.counts.items u.counted;
     goes = λ t. let k = u.goes t in let w = back t in record {
@@ -109,10 +111,11 @@ module _ {S : Type 0} (g : Ghosts S) (stay : (s : S) → IsTrue g.tells → (x :
     pub usable_stable : IsUsable g (record r { log = l })
     usable_stable = record {
       unbroken = u.unbroken;
+      under = λ t. under_on (view_of g r.log) (view_of g l) r.schema.items (nothing t).entries_same (u.under t);
       described = u.described;
       table = u.table;
       marked = u.marked;
-      pointed = λ t. subst (λ (ps : List LivePoint). IsMarkOf ps r.point r.marks.items) (sym (nothing t).points_same) (u.pointed t);
+      pointed = λ t. subst (λ (ps : List DescribedPoint). IsMarkOf ps r.point r.marks.items) (sym (nothing t).points_same) (u.pointed t);
       unchanged = λ no t. mark_on (view_of g r.log) (view_of g l) r.counts.items r.marks.items (nothing t).content_same (nothing t).points_same (u.unchanged no t);
       counted = u.counted;
       goes = λ t. goes_sealed r.pool r.next r.counts.items (view_of g r.log) (view_of g l) kind (runs t) (nothing t) (u.goes t);

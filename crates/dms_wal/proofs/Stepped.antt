@@ -12,7 +12,7 @@ use Rattle.dms_block.specs.declared.block_fault.BlockFault.{BlockFault}
 use Rattle.dms_block.specs.Faults.{NotFull}
 use Rattle.dms_block.specs.Held.{Held, Looks, MakesNoPoint, Stays, Used, Uses}
 use Rattle.dms_block.specs.HeldLaws.{unbroken_is}
-use Rattle.dms_history.specs.Points.{LivePoint}
+use Rattle.dms_running.specs.Points.{DescribedPoint}
 use Rattle.dms_pool.specs.declared.pool.Pool.{Pool}
 use Rattle.dms_restore.specs.declared.log.Log.{Log}
 use Rattle.dms_restore.specs.Logging as logs
@@ -55,10 +55,10 @@ module _ {S : Type 0} (g : Ghosts S) (now_said : (s : S) (x : Left) → IsTrue g
     pub passes_step : length cs.items ≡ length r.counts.items → g.said l.site ≡ g.said r.log.site → (IsTrue g.tells → logs.LogLeaves (view_of g r.log) (view_of g l) (points (view_of g r.log)) (logs.next (view_of g r.log)))
         → (IsTrue g.tells → Steps PrintsNothing (g.clock r.log.site) (g.clock l.site)) → MakesNoPoint (held g r) (held g after)
     passes_step many said leaves silent = passes_by g.tells (IsUsable g r) (IsUsable g after) (view_of g r.log) (view_of g l) r.schema.items r.next r.next r.counts.items cs.items (said_of g r.log) (said_of g l)
-        (faults_of g r) (faults_of g after) (uses_of g r) (uses_of g after) kind many refl (ap (λ (s : List ℕ). cond g.tells_said (Some s) None) said) (λ t. (u.goes t).numbered) (text g now_said r.schema.items r.log) leaves silent
+        (faults_of g r) (faults_of g after) (uses_of g r) (uses_of g after) kind many refl (ap (λ (s : List ℕ). cond g.tells_said (Some s) None) said) (λ t. (u.goes t).numbered) (text g now_said r.log) leaves silent
 
     module _ (stay : (s : S) → IsTrue g.tells → (x : Left) × Now (g.clock s) x × (x.files ≡ g.files s)) (counts_now : (s : S) (t : ℕ) (x : Left) → t ≤ (g.clock s).now → Now (g.clock s) x → (g.clock s).left t x) where
-      pub surer_step : (IsTrue g.tells) → (ps : List LivePoint) (next : ℕ) → logs.LogLeaves (view_of g r.log) (view_of g l) ps next → durable (view_of g r.log) ≤ durable (view_of g l)
+      pub surer_step : (IsTrue g.tells) → (ps : List DescribedPoint) (next : ℕ) → logs.LogLeaves (view_of g r.log) (view_of g l) ps next → durable (view_of g r.log) ≤ durable (view_of g l)
       surer_step t ps next leaves = surer (view_of g r.log) (view_of g l) kind (u.goes t).runs (stay r.log.site t) (stay l.site t) (counts_now l.site) ps next leaves
 
       pub stays_step : IsUsable g after → (IsTrue g.tells → points (view_of g l) ≡ points (view_of g r.log)) → (IsTrue g.tells → logs.LogLeaves (view_of g r.log) (view_of g l) (points (view_of g r.log)) (logs.next (view_of g r.log))) → Stays (held g r) (held g after)

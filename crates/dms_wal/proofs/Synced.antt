@@ -3,10 +3,10 @@ use Rattle.std.proofs.Common.{ℕ, ◌+◌, ◌^◌, ◌<◌, ◌≤◌, ◌≡�
 use Rattle.dms_moments.specs.Moments.{Now, Steps}
 use Rattle.dms_moments.specs.MomentLaws.{steps_weaken}
 use Rattle.std.specs.Global.{Vec}
-use Rattle.dms_history.specs.Points.{LivePoint}
 use Rattle.dms_site.specs.declared.site.Site.{Ghosts}
 use Rattle.dms_site.specs.Files.{Files, Left, PrintsPartOf}
 use Rattle.dms_block.specs.Held.{IfTold, Leaves, LeavesText, MadeDurable, MadeQuiet, MakesNoPoint, Stays}
+use Rattle.dms_running.specs.Points.{DescribedPoint}
 use Rattle.dms_restore.specs.declared.log.Log.{Log}
 use Rattle.dms_restore.specs.Logging as logs
 use Rattle.dms_restore.specs.Logging.{telling_of, telling, view, points, durable, here, LogRuns, PrintsNothing, LogsNothing, LogsQuiet}
@@ -20,6 +20,7 @@ use Rattle.dms_wal.proofs.Pointed.{quiet_made, quiet_leaves, sync_made, say_leav
 use Rattle.dms_wal.specs.AgreeLaws.{text}
 use Rattle.dms_wal.proofs.Pointing.{quiet_mark}
 use Rattle.dms_wal.proofs.Marked.{mark_quiet, mark_still, mark_on}
+use Rattle.dms_wal.proofs.Under.{under_on, under_quiet, under_still}
 
 -- the end of a trail that stays of its kind tells the same
 pub kind_is : {n n' f f' : ℕ} → n' ≡ n → f' ≡ f → telling_of n' f' ≡ telling_of n f
@@ -31,10 +32,11 @@ module _ {S : Type 0} (g : Ghosts S) (stay : (s : S) → IsTrue g.tells → (x :
     pub usable_sealed : (n : ℕ) → (IsTrue g.tells → LogRuns (view_of g l)) → (IsTrue g.tells → LogsNothing (view_of g r.log) (view_of g l)) → IsUsable g (record r { log = l; syncs = n })
     usable_sealed n runs nothing = record {
       unbroken = u.unbroken;
+      under = λ t. under_on (view_of g r.log) (view_of g l) r.schema.items (nothing t).entries_same (u.under t);
       described = u.described;
       table = u.table;
       marked = u.marked;
-      pointed = λ t. subst (λ (ps : List LivePoint). IsMarkOf ps r.point r.marks.items) (sym (nothing t).points_same) (u.pointed t);
+      pointed = λ t. subst (λ (ps : List DescribedPoint). IsMarkOf ps r.point r.marks.items) (sym (nothing t).points_same) (u.pointed t);
       unchanged = λ no t. mark_on (view_of g r.log) (view_of g l) r.counts.items r.marks.items (nothing t).content_same (nothing t).points_same (u.unchanged no t);
       counted = u.counted;
       goes = λ t. goes_sealed r.pool r.next r.counts.items (view_of g r.log) (view_of g l) kind (runs t) (nothing t) (u.goes t);
@@ -52,7 +54,7 @@ module _ {S : Type 0} (g : Ghosts S) (stay : (s : S) → IsTrue g.tells → (x :
     sync_passes b n said leaves silent =
         let r' : Running S = record r { log = l; broken = b; syncs = n } in
         passes_by g.tells (IsUsable g r) (IsUsable g r') (view_of g r.log) (view_of g l) r.schema.items r.next r.next r.counts.items r.counts.items (said_of g r.log) (said_of g l) (faults_of g r) (faults_of g r') (uses_of g r) (uses_of g r')
-        kind refl refl (ap (λ (s : List ℕ). cond g.tells_said (Some s) None) said) (λ t. (u.goes t).numbered) (text g now_said r.schema.items r.log) leaves silent
+        kind refl refl (ap (λ (s : List ℕ). cond g.tells_said (Some s) None) said) (λ t. (u.goes t).numbered) (text g now_said r.log) leaves silent
 
     module _ (leaves : IsTrue g.tells → logs.LogLeaves (view_of g r.log) (view_of g l) (points (view_of g r.log) ++ here (view_of g r.log) ∷ []) (logs.next (view_of g r.log) + 1)) where
       pub quiet_done : (next : ℕ) → next ≡ r.next + 1 → next < 2 ^ 64 → (ms : Vec ℕ) → ms.items ≡ r.counts.items → (IsTrue g.tells → LogRuns (view_of g l)) → (IsTrue g.tells → LogsQuiet (view_of g r.log) (view_of g l))
@@ -62,6 +64,7 @@ module _ {S : Type 0} (g : Ghosts S) (stay : (s : S) → IsTrue g.tells → (x :
           quiet_made g.tells (IsUsable g r) (IsUsable g r') (view_of g r.log) (view_of g l) r.schema.items r.next r.counts.items (said_of g r.log) (said_of g l) (faults_of g r) (faults_of g r') (uses_of g r) (uses_of g r')
           (record {
             unbroken = u.unbroken;
+            under = λ t. under_quiet (view_of g r.log) (view_of g l) r.schema.items (logs.next (view_of g r.log)) (quiets t).entries_are (u.under t);
             described = u.described;
             table = u.table;
             marked = record { table = subst AreCounts (sym copied) u.table; as_many = ap (λ (c : List ℕ). length c) copied };
@@ -69,7 +72,7 @@ module _ {S : Type 0} (g : Ghosts S) (stay : (s : S) → IsTrue g.tells → (x :
             unchanged = λ no t. mark_quiet (view_of g r.log) (view_of g l) r.counts.items ms.items (quiets t) copied;
             counted = u.counted;
             goes = λ t. goes_quiet r.pool r.next r.counts.items (view_of g r.log) (view_of g l) kind (u.goes t) (stay r.log.site t) (quiets t) (omega (arith, is, room)) (runs t);
-          }) quiets
+          }) u.under quiets
           (λ t. surer (view_of g r.log) (view_of g l) kind (u.goes t).runs (stay r.log.site t) (stay l.site t) (counts_now l.site) (points (view_of g r.log) ++ here (view_of g r.log) ∷ []) (logs.next (view_of g r.log) + 1) (leaves t)))
 
       pub quiet_left : (b : Bool) (full next : ℕ) → (IsTrue g.tells → Steps PrintsNothing (g.clock r.log.site) (g.clock l.site))
@@ -77,7 +80,7 @@ module _ {S : Type 0} (g : Ghosts S) (stay : (s : S) → IsTrue g.tells → (x :
       quiet_left b full next silent point ms =
           let r' : Running S = record r { log = l; broken = b; full = full; next = next; point = point; marks = ms } in
           quiet_leaves g.tells (IsUsable g r) (IsUsable g r') (view_of g r.log) (view_of g l) r.schema.items r.next r.counts.items (said_of g r.log) (said_of g l) (faults_of g r) (faults_of g r') (uses_of g r) (uses_of g r')
-          next r.counts.items kind (λ t. (u.goes t).numbered) (text g now_said r.schema.items r.log) leaves silent
+          next r.counts.items kind u.under (λ t. (u.goes t).numbered) (text g now_said r.log) leaves silent
 
   module _ (s : S) (files : IsTrue g.tells → g.files s ≡ g.files r.log.site) (bytes : List ℕ) (steps : Steps (PrintsPartOf bytes) (g.clock r.log.site) (g.clock s)) where
     abbrev printed : Log S
@@ -86,6 +89,7 @@ module _ {S : Type 0} (g : Ghosts S) (stay : (s : S) → IsTrue g.tells → (x :
     pub usable_said : IsUsable g (record r { log = printed })
     usable_said = record {
       unbroken = u.unbroken;
+      under = λ t. under_still r.log.end r.log.first (g.files r.log.site) (g.files s) (g.clock r.log.site) (g.clock s) r.schema.items (files t) (u.under t);
       described = u.described;
       table = u.table;
       marked = u.marked;
@@ -105,4 +109,4 @@ module _ {S : Type 0} (g : Ghosts S) (stay : (s : S) → IsTrue g.tells → (x :
         ))
 
     pub say_left : (b : Bool) → IfTold (held g r) (LeavesText (held g r) (held g (record r { log = printed; broken = b })) bytes)
-    say_left b t room = say_leaves (view_of g r.log) (u.goes t).runs (stay r.log.site t) r.schema.items r.next (u.goes t).numbered (said_of g r.log) (text g now_said r.schema.items r.log) (g.clock s) bytes steps
+    say_left b t room = say_leaves (view_of g r.log) (u.goes t).runs (stay r.log.site t) r.schema.items r.next (u.goes t).numbered (said_of g r.log) (text g now_said r.log) (g.clock s) bytes steps

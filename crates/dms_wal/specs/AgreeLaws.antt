@@ -7,11 +7,10 @@ use Rattle.dms_site.specs.declared.site.Site.{Ghosts}
 use Rattle.dms_site.specs.Files.{Left}
 use Rattle.dms_block.specs.Counts.{Faults}
 use Rattle.dms_block.specs.Held.{BlockPoint, Uses, Prefix, TextIs, BlocksAgree}
-use Rattle.dms_history.specs.Points.{LivePoint}
 use Rattle.dms_history.proofs.Picks.{some_is}
 use Rattle.dms_running.specs.Telling.{Telling}
 use Rattle.dms_running.specs.Standing.{IsWhole}
-use Rattle.dms_running.specs.Points.{LeavesPointsPrefix, points_of}
+use Rattle.dms_running.specs.Points.{DescribedPoint, LeavesPointsPrefix, points_of}
 use Rattle.dms_running.proofs.Appending.{now_leaves, points_enough}
 use Rattle.dms_restore.specs.declared.log.Log.{Log}
 use Rattle.dms_restore.specs.Logging as logs
@@ -19,44 +18,43 @@ use Rattle.dms_restore.specs.Logging.{LogView, telling, state, points, durable, 
 use Rattle.dms_restore.proofs.Logs as lemmas
 use Rattle.dms_restore.proofs.Logs.{Reads}
 use Rattle.dms_wal.specs.declared.running.Running.{Running}
-use Rattle.dms_wal.specs.Lifting.{point_under, stop_of, count_of, held_of}
+use Rattle.dms_wal.specs.Lifting.{block_point, stop_of, count_of, held_of}
 use Rattle.dms_wal.specs.Database.{held, view_of, said_of, faults_of, uses_of, IsUsable}
 
-module _ (schema : List ℕ) where
-  map_take : (n : ℕ) (ps : List LivePoint) → map (point_under schema) (take n ps) ≡ take n (map (point_under schema) ps)
-  map_take zero ps = refl
-  map_take (suc n) [] = refl
-  map_take (suc n) (p ∷ ps) = ap (λ (l : List BlockPoint). point_under schema p ∷ l) (map_take n ps)
+map_take : (n : ℕ) (ps : List DescribedPoint) → map block_point (take n ps) ≡ take n (map block_point ps)
+map_take zero ps = refl
+map_take (suc n) [] = refl
+map_take (suc n) (p ∷ ps) = ap (λ (l : List BlockPoint). block_point p ∷ l) (map_take n ps)
 
-  pub front_lifted : (t : Telling) (ps : List LivePoint) (low next : ℕ) (x : Left) → LeavesPointsPrefix t ps low next x → Prefix (IsWhole t) low (map (point_under schema) ps) next (stop_of t schema x)
-  front_lifted t ps low next x p = record {
-    count = p.count;
-    enough = p.enough;
-    within = omega (arith, p.within, length-map ps (point_under schema));
-    is = ap (map (point_under schema)) p.is ∙ map_take p.count ps;
-    not_fallen = omega (arith, p.not_fallen, length-map ps (point_under schema), length-map (points_of t x.files) (point_under schema));
-    whole_files = p.whole;
-  }
+pub front_lifted : (t : Telling) (ps : List DescribedPoint) (low next : ℕ) (x : Left) → LeavesPointsPrefix t ps low next x → Prefix (IsWhole t) low (map block_point ps) next (stop_of t x)
+front_lifted t ps low next x p = record {
+  count = p.count;
+  enough = p.enough;
+  within = omega (arith, p.within, length-map ps block_point);
+  is = ap (map block_point) p.is ∙ map_take p.count ps;
+  not_fallen = omega (arith, p.not_fallen, length-map ps block_point, length-map (points_of t x.files) block_point);
+  whole_files = p.whole;
+}
 
-  -- a stop now leaves this text, where it is told
-  abbrev pub TellsText : Option (List ℕ) → Clock Left → Type 0
-  TellsText said clock = (y : Left) → Now clock y → (s : List ℕ) → said ≡ Some s → y.said ≡ s
+-- a stop now leaves this text, where it is told
+abbrev pub TellsText : Option (List ℕ) → Clock Left → Type 0
+TellsText said clock = (y : Left) → Now clock y → (s : List ℕ) → said ≡ Some s → y.said ≡ s
 
 -- what is told hangs together
 pub agrees_by : (tells : Bool) (sound : Type 0) (v : LogView) (schema : List ℕ) (next : ℕ) (counts : List ℕ) (said : Option (List ℕ)) (faults : Faults) (uses : Uses)
-    → (IsTrue tells → LogRuns v) → (IsTrue tells → Reads v) → (IsTrue tells → next ≡ logs.next v) → (IsTrue tells → (f : ℕ) → count_of counts f ≡ length (content v f)) → TellsText schema said v.clock
+    → (IsTrue tells → LogRuns v) → (IsTrue tells → Reads v) → (IsTrue tells → next ≡ logs.next v) → (IsTrue tells → (f : ℕ) → count_of counts f ≡ length (content v f)) → TellsText said v.clock
     → BlocksAgree (held_of tells sound v schema next counts said faults uses)
 agrees_by tells sound v schema next counts said faults uses runs read numbered counted text = record {
   counted = counted;
-  may_stop = λ t. (stop_of (telling v) schema (read t).0, ((read t).0, (read t).1, refl));
-  stop = λ t room. now_seen_as (stop_of (telling v) schema) v.clock (λ stop. Prefix (IsWhole (telling v)) (durable v) (map (point_under schema) (points v)) next stop × TextIs said stop)
+  may_stop = λ t. (stop_of (telling v) (read t).0, ((read t).0, (read t).1, refl));
+  stop = λ t room. now_seen_as (stop_of (telling v)) v.clock (λ stop. Prefix (IsWhole (telling v)) (durable v) (map block_point (points v)) next stop × TextIs said stop)
       (λ x now. (
-        front_lifted schema (telling v) (points v) (durable v) next x
+        front_lifted (telling v) (points v) (durable v) next x
             (subst (λ n. LeavesPointsPrefix (telling v) (points v) (durable v) n x) (sym (numbered t)) (now_leaves (telling v) (lemmas.tells v (runs t) (read t)) (state v) (runs t).runs (read t) x now)),
         text x now,
       ));
   here = λ t room. (sym (numbered t), λ told. refl);
-  durable = λ t room. omega (arith, points_enough (telling v) (lemmas.tells v (runs t) (read t)) (state v) (runs t).runs (read t), length-map (points v) (point_under schema));
+  durable = λ t room. omega (arith, points_enough (telling v) (lemmas.tells v (runs t) (read t)) (state v) (runs t).runs (read t), length-map (points v) block_point);
 }
 
 none_not_some : {A : Type 0} (x : A) → None ≡ Some x → ⊥
@@ -67,11 +65,11 @@ text_at true said y is s same = is refl ∙ some_is said s same
 text_at false said y is s same = absurd (none_not_some s same)
 
 module _ {S : Type 0} (g : Ghosts S) (now_said : (s : S) (x : Left) → IsTrue g.tells_said → Now (g.clock s) x → x.said ≡ g.said s) where
-  pub text : (schema : List ℕ) (log : Log S) → TellsText schema (said_of g log) (g.clock log.site)
-  text schema log y now s is = text_at g.tells_said (g.said log.site) y (λ t. now_said log.site y t now) s is
+  pub text : (log : Log S) → TellsText (said_of g log) (g.clock log.site)
+  text log y now s is = text_at g.tells_said (g.said log.site) y (λ t. now_said log.site y t now) s is
 
 module _ {S : Type 0} {g : Ghosts S} (stay : (s : S) → IsTrue g.tells → (x : Left) × Now (g.clock s) x × (x.files ≡ g.files s)) (now_said : (s : S) (x : Left) → IsTrue g.tells_said → Now (g.clock s) x → x.said ≡ g.said s) (r : Running S) (u : IsUsable g r) where
   -- what a usable database tells hangs together
   pub agrees : BlocksAgree (held g r)
   agrees = agrees_by g.tells (IsUsable g r) (view_of g r.log) r.schema.items r.next r.counts.items (said_of g r.log) (faults_of g r) (uses_of g r) (λ t. (u.goes t).runs) (λ t. stay r.log.site t) (λ t. (u.goes t).numbered) (λ t. (u.goes t).counted)
-      (text g now_said r.schema.items r.log)
+      (text g now_said r.log)

@@ -14,7 +14,7 @@ use Rattle.dms_restore.specs.Logging as logs
 use Rattle.dms_restore.specs.Logging.{LogView, view, telling, state, LogRuns, points, content}
 use Rattle.dms_wal.specs.declared.running.Running.{Running}
 use Rattle.dms_wal.specs.Lifting.{AreCounts, count_of, held_of}
-use Rattle.dms_wal.specs.Marks.{AreMarks, IsAtMark, IsDescription, IsMarkOf}
+use Rattle.dms_wal.specs.Marks.{AreMarks, IsAtMark, IsDescription, IsMarkOf, StandsUnder}
 
 -- a frame of the pool, as its bytes and whether they are to be written
 abbrev pub frame_seen : pools.BufferFrame → Frame
@@ -46,13 +46,14 @@ module _ {S : Type 0} (g : Ghosts S) where
   said_of log = if g.tells_said then Some (g.said log.site) else None
 
   -- No call failed, what is kept in memory is in bounds, and where the site tells its files it goes with the log, and the mark is that of
-  -- its last point. While nothing is changed since that point, the content is the one there.
+  -- its last point; the last live Schema is that of the description. While nothing is changed since that point, the content is the one there.
   pub record IsUsable (r : Running S) : Type 0 where
     pub unbroken : r.broken ≡ false
     pub described : IsDescription r.schema.items
     pub table : AreCounts r.counts.items
     pub marked : AreMarks r.marks.items r.counts.items
     pub counted : HoldsCounted r.pool r.counts.items
+    pub under : IsTrue g.tells → StandsUnder (view_of r.log) r.schema.items
     pub goes : IsTrue g.tells → GoesWith (view_of r.log) r.pool r.next r.counts.items
     pub pointed : IsTrue g.tells → IsMarkOf (points (view_of r.log)) r.point r.marks.items
     pub unchanged : r.changed ≡ false → IsTrue g.tells → IsAtMark (view_of r.log) r.counts.items r.marks.items

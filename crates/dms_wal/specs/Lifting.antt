@@ -6,25 +6,28 @@ use Rattle.dms_site.specs.Files.{Left}
 use Rattle.dms_block.specs.Content.{Content, limit}
 use Rattle.dms_block.specs.Counts.{Faults}
 use Rattle.dms_block.specs.Held.{Held, BlockPoint, BlockStop, Uses}
-use Rattle.dms_history.specs.Points.{LivePoint}
 use Rattle.dms_running.specs.Telling.{Telling}
 use Rattle.dms_running.specs.Standing.{IsWhole}
-use Rattle.dms_running.specs.Points.{points_of, next_in}
+use Rattle.dms_running.specs.Points.{DescribedPoint, points_of, next_in}
 use Rattle.dms_restore.specs.Logging.{LogView, telling, points, durable, here, content}
 
--- a point that stands under these bytes of a description
-abbrev pub point_under : List ℕ → LivePoint → BlockPoint
+-- a live point as blocks see it
+abbrev pub block_point : DescribedPoint → BlockPoint
+block_point p = record { number = p.number; blocks = p.blocks; schema = p.schema }
+
+-- a point that is to stand under these bytes of a description
+abbrev pub point_under : List ℕ → DescribedPoint → BlockPoint
 point_under schema p = record { number = p.number; blocks = p.blocks; schema = schema }
 
 -- what a stop leaves of a site, as blocks see it
-abbrev pub stop_of : Telling → List ℕ → Left → BlockStop
-stop_of t schema x = record { files = x.files; points = map (point_under schema) (points_of t x.files); next = next_in t x.files; said = x.said }
+abbrev pub stop_of : Telling → Left → BlockStop
+stop_of t x = record { files = x.files; points = map block_point (points_of t x.files); next = next_in t x.files; said = x.said }
 
-abbrev pub lifted : Telling → List ℕ → Clock Left → Clock BlockStop
-lifted t schema clock = seen_as (stop_of t schema) clock
+abbrev pub lifted : Telling → Clock Left → Clock BlockStop
+lifted t clock = seen_as (stop_of t) clock
 
 -- the blocks at the last of these points, and these blocks where there is none
-abbrev pub last_blocks : Content → List LivePoint → Content
+abbrev pub last_blocks : Content → List DescribedPoint → Content
 last_blocks none [] = none
 last_blocks none (p ∷ ps) = last_blocks p.blocks ps
 
@@ -54,10 +57,10 @@ held_of tells sound v schema next counts said faults uses = record {
   mark = last_blocks (λ f. []) (points v);
   next = next;
   said = said;
-  points = map (point_under schema) (points v);
+  points = map block_point (points v);
   durable = durable v;
   here = point_under schema (here v);
-  clock = lifted (telling v) schema v.clock;
+  clock = lifted (telling v) v.clock;
   faults = faults;
   uses = uses;
 }

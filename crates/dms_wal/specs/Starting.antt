@@ -5,9 +5,10 @@ use Rattle.dms_restore.specs.Logging as logs
 use Rattle.dms_restore.specs.Logging.{LogView, telling, state, LogRuns, points, content}
 use Rattle.dms_wal.specs.declared.running.Start.{Start}
 use Rattle.dms_wal.specs.Lifting.{count_of}
-use Rattle.dms_wal.specs.Marks.{AreMarks, IsAtMark, IsDescription, IsMarkOf}
+use Rattle.dms_wal.specs.Marks.{AreMarks, IsAtMark, IsDescription, IsMarkOf, StandsUnder}
 
--- The database runs, all its blocks stand in their files, and the next number, the last point and the counts, now and there, are these.
+-- The database runs, all its blocks stand in their files, and the next number, the last point, the counts, now and there, and the last live
+-- Schema are these.
 -- Where nothing is said to be changed since that point, the content is the one there.
 pub record StartsFrom (v : LogView) (s : Start) : Type 0 where
   pub runs : LogRuns v
@@ -15,6 +16,7 @@ pub record StartsFrom (v : LogView) (s : Start) : Type 0 where
   pub numbered : s.next ≡ logs.next v
   pub counted : (f : ℕ) → count_of s.counts.items f ≡ length (content v f)
   pub pointed : IsMarkOf (points v) s.point s.marks.items
+  pub under : StandsUnder v s.schema.items
   pub unchanged : s.changed ≡ false → IsAtMark v s.counts.items s.marks.items
 
 -- What is given is in bounds.

@@ -6,7 +6,7 @@ ghost use Rattle.dms_block.specs.Held.{HasCauses, MakesNoPoint, Stays, WentBack}
 ghost use Rattle.dms_audfile.specs.Counting.{CountedAt};
 ghost use Rattle.dms_restore.specs.BackOuts.{FilesStay, IsBackFault, SealedAlone, WentBackTo};
 ghost use Rattle.dms_restore.specs.Logging as logs;
-ghost use Rattle.dms_restore.specs.Logging.{Ends, telling, points, LogLeaves, LogRuns, PrintsNothing};
+ghost use Rattle.dms_restore.specs.Logging.{Ends, points, LogLeaves, LogRuns, PrintsNothing, trail_of};
 ghost use Rattle.dms_wal.specs.BackOuts.{entries_back};
 ghost use Rattle.dms_wal.specs.Controls.{KeepsPace};
 ghost use Rattle.dms_wal.specs.Lifting.{AreCounts};
@@ -51,7 +51,7 @@ fn go_back<S: Site>(
     ensures back { OnOk result (IsTrue S.tells → WentBackTo point (view_of S.Site log.old) (view_of S.Site log.new) (entries_back point schema.now next marks.now)) }
     ensures moments { IsTrue S.tells → let a = view_of S.Site log.old in LogLeaves a (view_of S.Site log.new) (points a) (logs.next a) }
     ensures silent { IsTrue S.tells → Steps PrintsNothing (S.clock log.old.site) (S.clock log.new.site) }
-    ensures kind { telling (view_of S.Site log.new) ≡ telling (view_of S.Site log.old) }
+    ensures kind { trail_of (view_of S.Site log.new) ≡ trail_of (view_of S.Site log.old) }
     ensures trail { (log.new.end.total ≡ log.old.end.total) × (log.new.first ≡ log.old.first) }
     ensures limit { log.new.end.limit ≡ log.old.end.limit }
     ensures only { IfErr result (IsBackFault 9999) }

@@ -6,7 +6,7 @@ ghost use Rattle.dms_base.specs.Causes.{HasCause};
 ghost use Rattle.dms_moments.specs.Moments.{Steps};
 ghost use Rattle.dms_block.specs.Content.{changed, grown, limit, raised, FitsIn};
 ghost use Rattle.dms_block.specs.Held.{Alters, HasCauses, Looks};
-ghost use Rattle.dms_restore.specs.Logging.{entries, telling, points, next, PrintsNothing, LogLeaves};
+ghost use Rattle.dms_restore.specs.Logging.{entries, points, next, PrintsNothing, LogLeaves, trail_of};
 ghost use Rattle.dms_wal.specs.Lifting.{count_of, owns_of};
 ghost use Rattle.dms_wal.specs.Controls.{KeepsPace};
 ghost use Rattle.dms_wal.specs.Database.{held, view_of, HoldsCounted};
@@ -59,7 +59,7 @@ fn keep<S: Site>(
     ensures counted { (counts : _) → HoldsCounted pool.old counts → id.block < count_of counts id.file → HoldsCounted pool.new counts }
     ensures moments { IsTrue S.tells → let a = view_of S.Site log.old in LogLeaves a (view_of S.Site log.new) (points a) (next a) }
     ensures silent { IsTrue S.tells → Steps PrintsNothing (S.clock log.old.site) (S.clock log.new.site) }
-    ensures kind { telling (view_of S.Site log.new) ≡ telling (view_of S.Site log.old) }
+    ensures kind { trail_of (view_of S.Site log.new) ≡ trail_of (view_of S.Site log.old) }
     ensures limit { log.new.end.limit ≡ log.old.end.limit }
     ensures trail { (log.new.end.total ≡ log.old.end.total) × (log.new.first ≡ log.old.first) }
     ensures only { IfErr result (λ e. e ≡ BlockFault.Disk) }

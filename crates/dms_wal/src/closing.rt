@@ -24,8 +24,8 @@ impl<S: Site> Running<S> {
     pub fn close(mut self, alloc: Global) -> Result<S, (BlockFault, S)>
         requires { (held S.Site self).sound }
         ensures closed { IfOk result (λ s. IsTrue S.tells → IsClosed (view_of S.Site self.log) self.changed self.point self.schema.items self.next self.marks.items (S.files s) (S.clock s)) }
-        ensures leaves { IfOk result (λ s. LeavesUntil (held S.Site self) (lifted (telling (view_of S.Site self.log)) self.schema.items (S.clock s))) }
-        ensures stopped { IfErr result (λ e. LeavesUntil (held S.Site self) (lifted (telling (view_of S.Site self.log)) self.schema.items (S.clock e.1))) }
+        ensures leaves { IfOk result (λ s. LeavesUntil (held S.Site self) (lifted (telling (view_of S.Site self.log)) (S.clock s))) }
+        ensures stopped { IfErr result (λ e. LeavesUntil (held S.Site self) (lifted (telling (view_of S.Site self.log)) (S.clock e.1))) }
         ensures only { IfErr result (λ e. (e.0 ≡ BlockFault.Disk) ⊎ ((e.0 ≡ BlockFault.Full 9999) ⊎ ((self.changed ≡ true) × (e.0 ≡ BlockFault.Memory)))) }
         ensures full { IfErr result (λ e. e.0 ≡ BlockFault.Full 9999 → IsTrue S.tells → IsFullTrail (view_of S.Site self.log) (S.files e.1)) }
         ensures clean { IfOk result (λ s. (S.disk_faults s ≡ S.disk_faults self.log.site) × (S.say_faults s ≡ S.say_faults self.log.site)) }
@@ -48,8 +48,8 @@ impl<S: Site> Running<S> {
         requires { (held S.Site self).sound }
         ensures closed { IfOk result (λ s. IsTrue S.tells → let v = view_of S.Site self.log in
             FilesStand v (entries_control self.point self.schema.items self.next self.counts.items) (content v) (S.files s) (S.clock s)) }
-        ensures leaves { IfOk result (λ s. LeavesUntil (held S.Site self) (lifted (telling (view_of S.Site self.log)) self.schema.items (S.clock s))) }
-        ensures stopped { IfErr result (λ e. LeavesUntil (held S.Site self) (lifted (telling (view_of S.Site self.log)) self.schema.items (S.clock e.1))) }
+        ensures leaves { IfOk result (λ s. LeavesUntil (held S.Site self) (lifted (telling (view_of S.Site self.log)) (S.clock s))) }
+        ensures stopped { IfErr result (λ e. LeavesUntil (held S.Site self) (lifted (telling (view_of S.Site self.log)) (S.clock e.1))) }
         ensures only { IfErr result (λ e. (e.0 ≡ BlockFault.Disk) ⊎ (e.0 ≡ BlockFault.Full 9999)) }
         ensures full { IfErr result (λ e. e.0 ≡ BlockFault.Full 9999 → IsTrue S.tells → IsFullTrail (view_of S.Site self.log) (S.files e.1)) }
         ensures clean { IfOk result (λ s. (S.disk_faults s ≡ S.disk_faults self.log.site) × (S.say_faults s ≡ S.say_faults self.log.site)) }

@@ -6,7 +6,7 @@ ghost use Rattle.dms_moments.specs.Moments.{Steps};
 ghost use Rattle.dms_site.specs.Files.{Only};
 ghost use Rattle.dms_block.specs.Held.{HasCauses, Looks, MadeDurable, MakesNoPoint, Used};
 ghost use Rattle.dms_pool.specs.Held.{is_dirty, to_write};
-ghost use Rattle.dms_restore.specs.Logging.{Ends, telling, waits, points, next, LogLeaves, LogRuns, LogsNothing, PrintsNothing};
+ghost use Rattle.dms_restore.specs.Logging.{Ends, waits, points, next, LogLeaves, LogRuns, LogsNothing, PrintsNothing, trail_of};
 ghost use Rattle.dms_wal.specs.Controls.{IsSettled, KeepsFields, MakesControl, TellsSame};
 ghost use Rattle.dms_wal.specs.Database.{held, view_of};
 ghost use Rattle.dms_wal.specs.Faults.{StandsFull};
@@ -27,7 +27,7 @@ fn make_stable<S: Site>(log: &mut Log<S>) -> Result<(), BlockFault>
     ensures stable { OnOk result (IsTrue S.tells → Only (S.files log.new.site) (S.clock log.new.site)) }
     ensures moments { IsTrue S.tells → let a = view_of S.Site log.old in LogLeaves a (view_of S.Site log.new) (points a) (next a) }
     ensures silent { IsTrue S.tells → Steps PrintsNothing (S.clock log.old.site) (S.clock log.new.site) }
-    ensures kind { telling (view_of S.Site log.new) ≡ telling (view_of S.Site log.old) }
+    ensures kind { trail_of (view_of S.Site log.new) ≡ trail_of (view_of S.Site log.old) }
     ensures limit { log.new.end.limit ≡ log.old.end.limit }
     ensures trail { (log.new.end.total ≡ log.old.end.total) × (log.new.first ≡ log.old.first) }
     ensures only { IfErr result (λ e. e ≡ BlockFault.Disk) }
@@ -53,7 +53,7 @@ impl<S: Site> Running<S> {
         requires dirty { is_dirty id self.old.pool ≡ true }
         ensures looks { Looks 0 result (held S.Site self.old) (held S.Site self.new) }
         ensures kept { KeepsFields self.old self.new }
-        ensures kind { telling (view_of S.Site self.new.log) ≡ telling (view_of S.Site self.old.log) }
+        ensures kind { trail_of (view_of S.Site self.new.log) ≡ trail_of (view_of S.Site self.old.log) }
         ensures tells { OnOk result (IsTrue S.tells → TellsSame (view_of S.Site self.old.log) (view_of S.Site self.new.log)) }
         ensures fewer { OnOk result (to_write self.new.pool < to_write self.old.pool) }
         ensures causes { HasCauses result (held S.Site self.old) (held S.Site self.new) }
@@ -81,7 +81,7 @@ impl<S: Site> Running<S> {
         requires { (held S.Site self.old).sound }
         ensures looks { Looks 0 result (held S.Site self.old) (held S.Site self.new) }
         ensures kept { KeepsFields self.old self.new }
-        ensures kind { telling (view_of S.Site self.new.log) ≡ telling (view_of S.Site self.old.log) }
+        ensures kind { trail_of (view_of S.Site self.new.log) ≡ trail_of (view_of S.Site self.old.log) }
         ensures tells { OnOk result (IsTrue S.tells → TellsSame (view_of S.Site self.old.log) (view_of S.Site self.new.log)) }
         ensures clean { OnOk result ((id : _) → is_dirty id self.new.pool ≡ false) }
         ensures causes { HasCauses result (held S.Site self.old) (held S.Site self.new) }
@@ -103,7 +103,7 @@ impl<S: Site> Running<S> {
         requires { (held S.Site self.old).sound }
         ensures looks { Looks 0 result (held S.Site self.old) (held S.Site self.new) }
         ensures kept { KeepsFields self.old self.new }
-        ensures kind { telling (view_of S.Site self.new.log) ≡ telling (view_of S.Site self.old.log) }
+        ensures kind { trail_of (view_of S.Site self.new.log) ≡ trail_of (view_of S.Site self.old.log) }
         ensures tells { OnOk result (IsTrue S.tells → TellsSame (view_of S.Site self.old.log) (view_of S.Site self.new.log)) }
         ensures clean { OnOk result ((id : _) → is_dirty id self.new.pool ≡ false) }
         ensures settled { OnOk result (IsTrue S.tells → IsSettled (view_of S.Site self.new.log)) }
@@ -134,7 +134,7 @@ impl<S: Site> Running<S> {
         ensures passes { MakesNoPoint (held S.Site self.old) (held S.Site self.new) }
         ensures uses { (held S.Site self.new).uses ≡ (held S.Site self.old).uses }
         ensures kept { KeepsFields self.old self.new }
-        ensures kind { telling (view_of S.Site self.new.log) ≡ telling (view_of S.Site self.old.log) }
+        ensures kind { trail_of (view_of S.Site self.new.log) ≡ trail_of (view_of S.Site self.old.log) }
         ensures control { OnOk result (IsTrue S.tells
             → MakesControl (view_of S.Site self.old.log) (view_of S.Site self.new.log) self.old.schema.items self.old.point self.old.next self.old.counts.items) }
         ensures memory { IsErrOf result BlockFault.Memory → ⊥ }
@@ -171,7 +171,7 @@ impl<S: Site> Running<S> {
         ensures passes { MakesNoPoint (held S.Site self.old) (held S.Site self.new) }
         ensures uses { Used 0 0 (held S.Site self.old).uses (held S.Site self.new).uses }
         ensures kept { KeepsFields self.old self.new }
-        ensures kind { telling (view_of S.Site self.new.log) ≡ telling (view_of S.Site self.old.log) }
+        ensures kind { trail_of (view_of S.Site self.new.log) ≡ trail_of (view_of S.Site self.old.log) }
         ensures control { OnOk result (IsTrue S.tells
             → MakesControl (view_of S.Site self.old.log) (view_of S.Site self.new.log) self.old.schema.items self.old.point self.old.next self.old.counts.items) }
         ensures memory { IsErrOf result BlockFault.Memory → ⊥ }

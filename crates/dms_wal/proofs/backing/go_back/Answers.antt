@@ -1,7 +1,6 @@
 use Rattle.std.proofs.Common.{refl}
 use Rattle.dms_restore.proofs.CountBytes.{counts_entry, counts_few}
 use Rattle.dms_restore.proofs.Results.{one_ok}
-use Rattle.dms_restore.specs.Logging.{telling_of}
 use Rattle.dms_wal.specs.Database.{view_of}
 use Rattle.dms_wal.proofs.Controlling.{count_table}
 use Rattle.dms_wal.proofs.BackedOut.{back_by, back_counts}
@@ -34,7 +33,7 @@ returns-clause-moments g c tells =
     leaves_with c.args.log.now.end _ (record { file = refl; total = refl; tag = refl; count = refl; used = refl; block = refl }) c.args.log.now.first _ _ _ (c.back_out-done.ensures.moments tells)
 
 pub returns-clause-kind : goal.returns-clause-kind
-returns-clause-kind g c = λ i. telling_of (c.back_out-done.ensures.kind.0 i) (c.back_out-done.ensures.kind.3 i)
+returns-clause-kind g c = λ i. record { total = c.back_out-done.ensures.kind.0 i; first = c.back_out-done.ensures.kind.3 i }
 
 pub returns-clause-memory : goal.returns-clause-memory
 returns-clause-memory g c memory tells =

@@ -1,3 +1,4 @@
+use Rattle.dms_wal.proofs.Lifts.{told_same}
 use Rattle.std.proofs.Common.{◌∙◌, true, false, length, refl, ap}
 use Rattle.dms_wal.proofs.BackFaults.{caused_back, back_silent, back_only, back_full, back_memory}
 use Rattle.dms_wal.proofs.BackedOut.{passes_back, stays_back, marked_content}
@@ -7,7 +8,7 @@ pub returns-in-Err-clause-passes : goal.returns-in-Err-clause-passes
 returns-in-Err-clause-passes g c =
     let m = g.met.S.Site in
     let r = c.args.self.now in
-    passes_back g.S.Site m.may_stay m.now_said r c.requires c.go_back.new.log r.pool true r.changed _ r.outs r.counts c.go_back.ensures.kind refl c.go_back.ensures.said c.go_back.ensures.moments c.go_back.ensures.silent
+    passes_back g.S.Site m.may_stay m.now_said r c.requires c.go_back.new.log r.pool true r.changed _ r.outs r.counts (told_same c.go_back.ensures.kind) refl c.go_back.ensures.said c.go_back.ensures.moments c.go_back.ensures.silent
 
 pub returns-in-Err-clause-causes : goal.returns-in-Err-clause-causes
 returns-in-Err-clause-causes g c = caused_back c.in-Err.fault c.back_fault.result 9999 _ _ c.in-Err.ensures.only c.back_fault.ensures c.in-Err.ensures.disk c.go_back.ensures.say_faults refl
@@ -25,17 +26,17 @@ pub returns-clause-passes : goal.returns-clause-passes
 returns-clause-passes g c =
     let m = g.met.S.Site in
     let r = c.args.self.now in
-    passes_back g.S.Site m.may_stay m.now_said r c.requires c.go_back.new.log _ r.broken false r.full _ _ c.go_back.ensures.kind (ap length (c.copy_counts.ensures ∙ c.deref-3.ensures.value) ∙ c.requires.marked.as_many) c.go_back.ensures.said c.go_back.ensures.moments c.go_back.ensures.silent
+    passes_back g.S.Site m.may_stay m.now_said r c.requires c.go_back.new.log _ r.broken false r.full _ _ (told_same c.go_back.ensures.kind) (ap length (c.copy_counts.ensures ∙ c.deref-3.ensures.value) ∙ c.requires.marked.as_many) c.go_back.ensures.said c.go_back.ensures.moments c.go_back.ensures.silent
 
 pub returns-clause-stays : goal.returns-clause-stays
 returns-clause-stays g c =
     let m = g.met.S.Site in
-    stays_back g.S.Site m.may_stay m.now_said c.args.self.now c.requires c.go_back.new.log _ _ c.clear.ensures _ _ (c.copy_counts.ensures ∙ c.deref-3.ensures.value) _ c.in-Ok.ensures.back
+    stays_back g.S.Site m.may_stay m.now_said c.args.self.now c.requires c.go_back.new.log _ _ c.clear.ensures _ _ (c.copy_counts.ensures ∙ c.deref-3.ensures.value) c.in-Ok.ensures.back
 
 pub returns-clause-content : goal.returns-clause-content
 returns-clause-content g c =
     let m = g.met.S.Site in
-    marked_content g.S.Site m.may_stay m.now_said c.args.self.now c.requires c.go_back.new.log _ _ c.clear.ensures 0 c.copy_counts.new.to (c.copy_counts.ensures ∙ c.deref-3.ensures.value) _ c.in-Ok.ensures.back
+    marked_content g.S.Site m.may_stay m.now_said c.args.self.now c.requires c.go_back.new.log _ _ c.clear.ensures 0 c.copy_counts.new.to (c.copy_counts.ensures ∙ c.deref-3.ensures.value) c.in-Ok.ensures.back
 
 pub returns-in-Err-clause-pace : goal.returns-in-Err-clause-pace
 returns-in-Err-clause-pace g c = record { every = refl; limit = c.go_back.ensures.limit; total = c.go_back.ensures.trail.0; first = c.go_back.ensures.trail.1; schema = refl }

@@ -1,3 +1,4 @@
+use Rattle.dms_wal.proofs.Lifts.{told_same}
 use Rattle.std.proofs.Common.{ℕ, IsTrue, List, Option, refl, sym, ◌∙◌, subst}
 use Rattle.std.specs.Option.{option_copied}
 use Rattle.std.proofs.Common.{inl}
@@ -34,7 +35,7 @@ returns-in-Ok-keep-clause-alters g c =
     let kind = kind_is c.image.ensures.kind.0 c.image.ensures.kind.3 in
     let id = c.args.change.now.id in
     let told = λ (t : IsTrue g.S.Site.tells). subst (λ (o : Option (List ℕ)). TellsBefore id.block o (content (view_of g.S.Site r.log) id.file)) (sym c.bytes_of.ensures.bytes) (c.requires.before t) in
-    alters_made g.S.Site m.may_stay m.now_said m.counts_now r u c.keep.new.log (c.keep.ensures.kind ∙ kind) (c.keep.ensures.said ∙ c.image.ensures.said)
+    alters_made g.S.Site m.may_stay m.now_said m.counts_now r u c.keep.new.log (told_same c.keep.ensures.kind ∙ kind) (c.keep.ensures.said ∙ c.image.ensures.said)
     (then_left g.S.Site m.may_stay m.counts_now r u c.image.new.self c.keep.new.log id.file id.block (option_copied c.bytes_of.result) c.args.change.now.block.0 kind c.in-Ok.ensures.logs c.image.ensures.moments c.keep.ensures.moments)
     (λ t. then_silent (c.image.ensures.silent t) (c.keep.ensures.silent t)) c.keep.new.pool _ c.raise.ensures.files
     (usable_changed g.S.Site r u id c.args.change.now.block (option_copied c.bytes_of.result) c.requires.owned c.requires.low told c.image.new.self c.keep.new.log c.keep.new.pool _ c.in-Ok.ensures.logs c.in-Ok-keep.ensures.kept c.raise.ensures.raised c.raise.ensures.files
@@ -48,7 +49,7 @@ returns-in-Err-keep-clause-alters g c =
     let u = c.requires.sound in
     let kind = kind_is c.image.ensures.kind.0 c.image.ensures.kind.3 in
     let id = c.args.change.now.id in
-    alters_failed g.S.Site m.may_stay m.now_said m.counts_now r u c.keep.new.log (c.keep.ensures.kind ∙ kind) (c.keep.ensures.said ∙ c.image.ensures.said)
+    alters_failed g.S.Site m.may_stay m.now_said m.counts_now r u c.keep.new.log (told_same c.keep.ensures.kind ∙ kind) (c.keep.ensures.said ∙ c.image.ensures.said)
     (then_left g.S.Site m.may_stay m.counts_now r u c.image.new.self c.keep.new.log id.file id.block (option_copied c.bytes_of.result) c.args.change.now.block.0 kind c.in-Ok.ensures.logs c.image.ensures.moments c.keep.ensures.moments)
     (λ t. then_silent (c.image.ensures.silent t) (c.keep.ensures.silent t)) c.in-Err-keep.fault (inl c.in-Err-keep.ensures.only) c.keep.new.pool _ _ c.raise.ensures.files
 

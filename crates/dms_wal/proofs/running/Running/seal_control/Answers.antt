@@ -46,10 +46,10 @@ pub returns-in-Err-clause-full : goal.returns-in-Err-clause-full
 returns-in-Err-clause-full g c n is = full_left c.in-Err.fault c.append_fault.result _ _ n c.args.self.now.log.end c.control.new.self.end c.in-Err.ensures.only c.append_fault.ensures c.control.ensures.kind.2 c.in-Err.ensures.full is
 
 pub returns-in-Ok-clause-kind : goal.returns-in-Ok-clause-kind
-returns-in-Ok-clause-kind g c = kind_is c.control.ensures.kind.0 c.control.ensures.kind.3
+returns-in-Ok-clause-kind g c = λ i. record { total = c.control.ensures.kind.0 i; first = c.control.ensures.kind.3 i }
 
 pub returns-in-Err-clause-kind : goal.returns-in-Err-clause-kind
-returns-in-Err-clause-kind g c = kind_is c.control.ensures.kind.0 c.control.ensures.kind.3
+returns-in-Err-clause-kind g c = λ i. record { total = c.control.ensures.kind.0 i; first = c.control.ensures.kind.3 i }
 
 pub returns-in-Err-clause-ends : goal.returns-in-Err-clause-ends
 returns-in-Err-clause-ends g c n is tells =

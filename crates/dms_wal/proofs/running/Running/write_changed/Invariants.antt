@@ -10,7 +10,7 @@ use Rattle.dms_wal.proofs.running.Running.write_changed.Given as goal
 abbrev pub invariant-loop-id : goal.invariant-loop-id
 invariant-loop-id g l = record {
   looks : Looks {T = Unit {0}} 0 (Ok tt) (held g.S.Site l.fn.self) (held g.S.Site l.self);
-  kind : telling (view_of g.S.Site l.self.log) ≡ telling (view_of g.S.Site l.fn.self.log);
+  kind : trail_of (view_of g.S.Site l.self.log) ≡ trail_of (view_of g.S.Site l.fn.self.log);
   kept : KeepsFields l.fn.self l.self;
   tells : IsTrue g.S.Site.tells → TellsSame (view_of g.S.Site l.fn.self.log) (view_of g.S.Site l.self.log);
   causes : faults_of g.S.Site l.self ≡ faults_of g.S.Site l.fn.self;

@@ -1,3 +1,4 @@
+use Rattle.dms_wal.proofs.Lifts.{told_same}
 use Rattle.std.proofs.Common.{◌∙◌, sym}
 use Rattle.dms_pool.proofs.Fewer.{cleans_fewer}
 use Rattle.dms_wal.proofs.Keeping.{tells_back}
@@ -15,7 +16,7 @@ write_back-requires-clause-changed g c tells = changed_block g.S.Site c.args.sel
 pub returns-in-Ok-clause-looks : goal.returns-in-Ok-clause-looks
 returns-in-Ok-clause-looks g c =
     let m = g.met.S.Site in
-    looks_washed g.S.Site m.may_stay m.now_said m.counts_now c.args.self.now c.requires.sound c.write_back.new.log c.write_back.ensures.kind c.write_back.ensures.said c.write_back.ensures.moments c.write_back.ensures.silent _ c.clean.new.self c.args.id c.in-Some.block
+    looks_washed g.S.Site m.may_stay m.now_said m.counts_now c.args.self.now c.requires.sound c.write_back.new.log (told_same c.write_back.ensures.kind) c.write_back.ensures.said c.write_back.ensures.moments c.write_back.ensures.silent _ c.clean.new.self c.args.id c.in-Some.block
     (dirty_frame _ c.in-Some.block (sym c.in-Some.is ∙ c.peek.ensures) c.requires.dirty) c.clean.ensures c.in-Ok.ensures.runs c.in-Ok.ensures.back
 
 pub returns-in-Ok-clause-fewer : goal.returns-in-Ok-clause-fewer
@@ -24,7 +25,7 @@ returns-in-Ok-clause-fewer g c = cleans_fewer c.args.id c.args.self.now.pool c.c
 pub returns-in-Err-clause-looks : goal.returns-in-Err-clause-looks
 returns-in-Err-clause-looks g c =
     let m = g.met.S.Site in
-    disk_failed g.S.Site m.may_stay m.now_said m.counts_now c.args.self.now c.requires.sound c.in-Err.fault c.in-Err.ensures.only c.args.self.now.pool c.write_back.new.log c.write_back.ensures.kind c.write_back.ensures.said c.write_back.ensures.moments c.write_back.ensures.silent
+    disk_failed g.S.Site m.may_stay m.now_said m.counts_now c.args.self.now c.requires.sound c.in-Err.fault c.in-Err.ensures.only c.args.self.now.pool c.write_back.new.log (told_same c.write_back.ensures.kind) c.write_back.ensures.said c.write_back.ensures.moments c.write_back.ensures.silent
 
 pub write_back-requires-clause-block : goal.write_back-requires-clause-block
 write_back-requires-clause-block g c tells = block_of g.S.Site c.args.self.now c.requires.sound c.args.id c.in-Some.block (dirty_frame _ c.in-Some.block (sym c.in-Some.is ∙ c.peek.ensures) c.requires.dirty) tells
