@@ -4,7 +4,7 @@ use Rattle.dms_site.specs.Files.{Files}
 use Rattle.dms_audfile.specs.Gates.{opened}
 use Rattle.dms_audfile.specs.Header.{header_fits}
 use Rattle.dms_audfile.specs.Blocks.{EntryInBlock, block_entries}
-use Rattle.dms_audfile.specs.Scanning.{Placed, TrailRead, broken, whole, place_in, place_of, places_of, blocks_read, file_read, files_read, found}
+use Rattle.dms_audfile.specs.Scanning.{Placed, TrailRead, broken, whole, place_in, place_of, places_of, blocks_read, file_read, files_read}
 use Rattle.dms_audfile.specs.Gates.{block_at}
 use Rattle.dms_audfile.specs.AuditTrail.{IsFound, IsScanned, EntriesAreThere, AreThere}
 use Rattle.dms_audfile.specs.declared.place.EntryPlace.{EntryPlace}

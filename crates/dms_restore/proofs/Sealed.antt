@@ -1,6 +1,6 @@
 -- A log of which what waited was sealed, and no more was done.
 use Rattle.std.proofs.Common.{ℕ, ◌≤◌, ◌≡◌, ◌⊎◌, inl, inr, [], List, ◌++◌, length, take, drop, refl, sym, ◌∙◌, ap, subst, arith}
-use Rattle.std.specs.Prelude.{IsErrOf, IfErr}
+use Rattle.std.specs.Prelude.{IsErrAnd, IsErrOf, IfErr}
 use Rattle.std.specs.declared.result.Result.{Result}
 use Rattle.std.specs.declared.result.Result.TheVariants.{Ok, Err}
 use Rattle.dms_moments.specs.Moments.{Clock, Steps}
@@ -13,7 +13,6 @@ use Rattle.dms_history.specs.History.{last_point}
 use Rattle.dms_history.specs.Pick.{blocks_at}
 use Rattle.dms_history.specs.Entries.{Entry}
 use Rattle.dms_history.specs.EntryEvents.{history_of, live_of}
-use Rattle.dms_history.specs.Points.{LivePoint}
 use Rattle.dms_history.proofs.Order.{append_none}
 use Rattle.dms_audfile.specs.BlockLaws.{AreNoBegins}
 use Rattle.dms_audfile.specs.Ends.{Appends, EndsAt, Grown, Seals}
@@ -22,7 +21,7 @@ use Rattle.dms_audfile.specs.TrailEntries.{trail_entries}
 use Rattle.dms_audfile.specs.declared.fault.AudFault.{AudFault}
 use Rattle.dms_audfile.specs.declared.fault.AudFault.TheVariants.{Disk, Full, Memory}
 use Rattle.dms_running.specs.Telling.{Telling}
-use Rattle.dms_running.specs.Points.{LeavesPointsPrefix}
+use Rattle.dms_running.specs.Points.{DescribedPoint, LeavesPointsPrefix}
 use Rattle.dms_running.specs.Begun.{content_at_point}
 use Rattle.dms_running.proofs.Appending.{sync_leaves}
 use Rattle.dms_running.proofs.Looking.{look_runs}
@@ -44,9 +43,10 @@ use Rattle.dms_restore.proofs.Traced.{whole_take, whole_drop}
 -- ---- the table of a point
 
 -- from all live entries, which are cut at the place of the point
-pub table_cut : (files : Files) (live : List LiveEntry) (m k : ℕ) (v : List Told) → until_first (is_point m) (events_at files live) ≡ events_at files (take k live) → after_first (is_point m) (events_at files live) ≡ events_at files (drop k live)
-    → Tables files (take k live) (drop k live) v → AllStandWhole files live → IsTable (events_at files live) m files v
-table_cut files live m k v front behind table whole = table (events_at files live) m front behind (whole_take files k live whole) (whole_drop files k live whole)
+pub table_cut : (files : Files) (live tail : List LiveEntry) (m k : ℕ) (v : List Told) → tail ≡ drop k live → until_first (is_point m) (events_at files live) ≡ events_at files (take k live) → after_first (is_point m) (events_at files live) ≡ events_at files (drop k live)
+    → Tables files (take k live) tail v → AllStandWhole files live → IsTable (events_at files live) m files v
+table_cut files live tail m k v is front behind table whole =
+    table (events_at files live) m front (behind ∙ ap (events_at files) (sym is)) (whole_take files k live whole) (subst (AllStandWhole files) (sym is) (whole_drop files k live whole))
 
 -- of entries that were traced
 pub table_traced : (files : Files) (es : List Entry) (h : TrailHistory) (live : List LiveEntry) (m : ℕ) (v : List Told) → live ≡ h.live.items → (AllStandWhole files live → IsTable (events_at files live) m files v) → IsTraced files es h → IsTable (live_of es) m files v
@@ -69,7 +69,7 @@ module _ (a m : LogView) (runs : LogRuns m) (same : LogsNothing a m) (nothing : 
     ends = record {
       low = runs.ends.low;
       writes = runs.ends.writes;
-      settled = λ g from to x now. let y = looks.follows x now in ap (λ (l : Left). l.files g) (sym y.2) ∙ runs.ends.settled g from to y.0 y.1;
+      settled = λ g from to x now. let y = looks.follows x now in ap (λ (l : Left). l.files g) y.2 ∙ runs.ends.settled g from to y.0 y.1;
       bytes = runs.ends.bytes;
       kind = runs.ends.kind;
     };
@@ -96,7 +96,7 @@ module _ (a m : LogView) (runs : LogRuns m) (same : LogsNothing a m) (nothing : 
   })
 
   pub looked_leaves : LogRuns a → Reads a → LogLeaves a (view m.end m.first files clock) (points a) (next a)
-  looked_leaves r read = sync_leaves (telling a) (logs.tells a r read) (state a) r.runs read clock (seals_as a.end.total a.end.tag a.first (waits a.end) a.clock clock seals_on)
+  looked_leaves r read = sync_leaves (telling a) (logs.tells a r read) (state a) r.runs read clock (seals_as a.end a.first (waits a.end) a.files a.clock r.ends (waits a.end) clock seals_on)
 
 -- the files stay where nothing waited
 pub stay_looked : (a b : LogView) (files : Files) (clock : Clock Left) → files ≡ a.files → clock ≡ a.clock → b.files ≡ files → Steps Same clock b.clock → FilesStay a b
@@ -128,7 +128,7 @@ module _ (a b : LogView) (s : SealedAlone a b) where
     content_is = w.content_is ∙ content_then m;
     points_same = w.points_same ∙ s.same.points_same;
     next_same = w.next_same ∙ s.same.next_same;
-    all_durable = w.all_durable ∙ ap (λ (l : List LivePoint). length l) s.same.points_same;
+    all_durable = w.all_durable ∙ ap (λ (l : List DescribedPoint). length l) s.same.points_same;
     written = w.written;
   }
 
@@ -136,7 +136,7 @@ module _ (a b : LogView) (s : SealedAlone a b) where
     left_then : (x : Left) → LeavesPointsPrefix (telling b) (points b) (durable b) (next b) x → LeavesPointsPrefix (telling a) (points a) (durable a) (next a) x
     left_then x p =
         let q = subst (λ (t : Telling). LeavesPointsPrefix t (points a) (durable b) (next a) x) kind
-            (subst (λ (ps : List LivePoint). LeavesPointsPrefix (telling b) ps (durable b) (next a) x) s.same.points_same
+            (subst (λ (ps : List DescribedPoint). LeavesPointsPrefix (telling b) ps (durable b) (next a) x) s.same.points_same
             (subst (λ n. LeavesPointsPrefix (telling b) (points b) (durable b) n x) s.same.next_same p)) in
         record { count = q.count; enough = omega (arith, q.enough, s.same.durable_kept); within = q.within; is = q.is; not_fallen = q.not_fallen; whole = q.whole }
 
@@ -186,8 +186,10 @@ pub begin_grown : (a : LogView) (end : AuditEnd) (files : Files) (clock : Clock 
 begin_grown a end files clock es kind runs nothing appends =
     subst (λ n. Grown n a.first a.files files) kind (appends a.first [] tt (subst (λ (l : List Entry). EndsAt a.end a.first l a.files a.clock) nothing runs.ends)).grown
 
-pub full_limit : {T U : Type 0} (fault : AudFault) (limit old : ℕ) → limit ≡ old → IsErrOf {T = T} (Err fault) (Full old) → IsErrOf {T = U} (Err fault) (Full limit)
-full_limit fault limit old same full = λ i. Err ((same_error fault (Full old) full ∙ ap (λ n. Full n) (sym same)) i)
+-- Full that was handed on, of the same limit
+pub full_limit : {T U : Type 0} (r : Result T AudFault) (fault : AudFault) (limit old : ℕ) → limit ≡ old → IsErrAnd r (λ e. e ≡ fault) → IsErrOf r (Full old) → IsErrOf {T = U} (Err fault) (Full limit)
+full_limit (Ok x) fault limit old same handed full = absurd handed
+full_limit (Err e) fault limit old same handed full = λ i. Err ((sym handed ∙ same_error e (Full old) full ∙ ap (λ n. Full n) (sym same)) i)
 
 pub disk_not_memory : {T : Type 0} (fault : AudFault) → fault ≡ Disk → IsErrOf {T = T} (Err fault) Memory → ⊥
 disk_not_memory fault disk memory = cc

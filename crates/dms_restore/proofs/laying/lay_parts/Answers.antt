@@ -67,4 +67,4 @@ returns-clause-moments g c first tells s = some_parts _ (bodies c.args.descripti
 
 pub returns-in_err-append-clause-ends : goal.returns-in_err-append-clause-ends
 returns-in_err-append-clause-ends g c full first tells s =
-    (c.append.ensures.kept (full_limit _ _ _ c.loop-number.invariant.kind.2 full) first _ tells (c.loop-number.invariant.laid first tells s).ends).ends
+    (c.in_err-append.ensures.kept (full_limit c.from_residual.result _ _ _ c.loop-number.invariant.kind.2 c.from_residual.ensures.1 full) first _ tells (c.loop-number.invariant.laid first tells s).ends).ends

@@ -43,4 +43,7 @@ returns-clause-silent g c first tells s =
 
 pub returns-in_err-append-clause-ends : goal.returns-in_err-append-clause-ends
 returns-in_err-append-clause-ends g c full first tells s =
-    (c.append.ensures.kept (full_limit _ _ _ c.lay_parts.ensures.kind.2 full) first _ tells (c.in_ok-lay_parts.ensures.laid first tells s).ends).ends
+    (c.in_err-append.ensures.kept (full_limit c.from_residual-in_err-append.result _ _ _ c.lay_parts.ensures.kind.2 c.from_residual-in_err-append.ensures.1 full) first _ tells (c.in_ok-lay_parts.ensures.laid first tells s).ends).ends
+
+pub returns-in_err-lay_parts-clause-ends : goal.returns-in_err-lay_parts-clause-ends
+returns-in_err-lay_parts-clause-ends g c full first tells s = c.in_err-lay_parts.ensures.ends (full_limit c.from_residual.result _ _ _ refl c.from_residual.ensures.1 full) first tells s

@@ -1,6 +1,9 @@
+use Rattle.std.specs.declared.result.Result.TheVariants.{Err}
 use Rattle.std.proofs.Common.{◌≡◌, ◌∙◌, inl, inr, sym, ap, subst}
 use Rattle.dms_audfile.specs.declared.audit_end.AuditEnd.{AuditEnd}
 use Rattle.dms_restore.specs.Logging.{telling_of, telling}
+use Rattle.dms_history.specs.Events.{back_out}
+use Rattle.dms_restore.specs.Begins.{begun_to}
 use Rattle.dms_restore.specs.BackOuts.{seen}
 use Rattle.dms_restore.proofs.Results.{one_ok, is_fault}
 use Rattle.dms_restore.proofs.Sealed.{same_error, never_memory, none_memory, full_of}
@@ -81,7 +84,7 @@ pub returns-in-Err-clause-memory : goal.returns-in-Err-clause-memory
 returns-in-Err-clause-memory g c memory tells = never_memory c.in-Err.fault _ c.in-Err.ensures.only memory
 
 pub returns-in-Err-restore_told-clause-memory : goal.returns-in-Err-restore_told-clause-memory
-returns-in-Err-restore_told-clause-memory g c memory tells = c.in-Err-restore_told.ensures.memory (λ i. Err (same_error _ _ memory i)) _ tells (c.requires.serves tells _ (c.in-Ok.ensures.grown tells (c.requires.nothing tells)))
+returns-in-Err-restore_told-clause-memory g c memory tells = c.in-Err-restore_told.ensures.memory (λ i. Err (same_error _ _ memory i)) (begun_to (seen g.S.Site c.args.self.now) c.args.point back_out) tells (c.requires.serves tells _ (c.in-Ok.ensures.grown tells (c.requires.nothing tells)))
 
 pub returns-clause-memory : goal.returns-clause-memory
 returns-clause-memory g c memory tells = none_memory c.end_back.result _ c.end_back.ensures.only memory

@@ -1,5 +1,6 @@
 use Rattle.std.proofs.Common.{refl, sym, ◌∙◌, ap}
 use Rattle.dms_moments.specs.MomentLaws.{steps_weaken}
+use Rattle.dms_restore.specs.Logging.{view}
 use Rattle.dms_restore.specs.BackOuts.{seen}
 use Rattle.dms_restore.proofs.Results.{one_if_ok}
 use Rattle.dms_restore.proofs.Backed.{counted_on}
@@ -7,7 +8,7 @@ use Rattle.dms_restore.proofs.Sealed.{serves_on, sealed_looked, looked_leaves, s
 use Rattle.dms_restore.proofs.log.Log.table_back.Goals as goal
 
 pub returns-in-Err-clause-sealed : goal.returns-in-Err-clause-sealed
-returns-in-Err-clause-sealed g c no tells = absurd (no (is_disk c.in-Err.fault c.in-Err.ensures.only))
+returns-in-Err-clause-sealed g c off tells = absurd (off (is_disk c.in-Err.fault c.in-Err.ensures.only))
 
 pub returns-in-Err-clause-idle : goal.returns-in-Err-clause-idle
 returns-in-Err-clause-idle g c none tells =
@@ -16,10 +17,10 @@ returns-in-Err-clause-idle g c none tells =
 
 pub returns-clause-serves : goal.returns-clause-serves
 returns-clause-serves g c = one_if_ok c.point_told.result c.point_told.ensures.table (λ v table tells.
-    serves_on _ (g.S.Site.files c.sync.new.self.site) c.args.point v.items (c.point_told.ensures.reads.files_stay tells) (c.in-Ok.ensures.waits tells) (table tells))
+    serves_on (view c.sync.new.self.end c.sync.new.self.first (g.S.Site.files c.point_told.new.site) (g.S.Site.clock c.point_told.new.site)) (g.S.Site.files c.sync.new.self.site) c.args.point v.items (c.point_told.ensures.reads.files_stay tells) (c.in-Ok.ensures.waits tells) (table tells))
 
 pub returns-clause-sealed : goal.returns-clause-sealed
-returns-clause-sealed g c no tells =
+returns-clause-sealed g c off tells =
     sealed_looked (seen g.S.Site c.args.self.now) (seen g.S.Site c.sync.new.self) (c.in-Ok.ensures.runs tells) (c.in-Ok.ensures.same tells) (c.in-Ok.ensures.waits tells) (c.in-Ok.ensures.durable tells) (c.sync.ensures.steps tells)
     _ _ (c.point_told.ensures.reads.files_stay tells) c.point_told.ensures.reads.moments
 
