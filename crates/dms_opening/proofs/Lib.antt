@@ -7,3 +7,4 @@ pub mod Looks
 pub mod Opens
 pub mod Runs
 pub mod Callers
+pub mod Complete
