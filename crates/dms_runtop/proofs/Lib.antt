@@ -1,3 +1,5 @@
 pub mod Endings
 pub mod Ran
 pub mod Formed
+pub mod Serving
+pub mod Opened
