@@ -68,7 +68,7 @@ module _ (b a : Seen) (es : List RunEvent) (stop : Stop) where
       }
 
 -- so it is of a run that ended well
-module _ {St : Type 0} {g : Ghosts St} {T E : Type 0} (old new : Engine St g) (feed : List ℕ) (left : Option (List ℕ)) where
+module _ {St : Type 0} {g : Ghosts St} (old new : Engine St g) where
   stop_of_run : (n : ℕ) (db : Db) (first : ℕ) (lines : List (List ℕ)) → EndsWith (seen old).points n db → (seen old).tells → (seen old).durable ≡ length (seen old).points → (seen old).next ≡ first
       → Performs (seen old) (seen new) (script_events (described old.desc) db first lines) → EndsLeave old new n db first (script_events (described old.desc) db first lines)
   stop_of_run n db first lines state tells durable next did stop front text =
@@ -82,8 +82,9 @@ module _ {St : Type 0} {g : Ghosts St} {T E : Type 0} (old new : Engine St g) (f
       (subst (λ (k : ℕ). CrashesWithin b.whole b.said b.points (length b.points) k (script_events d db first lines) stop) next
       (subst (λ (k : ℕ). CrashesWithin b.whole b.said b.points k b.next (script_events d db first lines) stop) durable within))
 
+module _ {St : Type 0} {g : Ghosts St} {T E : Type 0} (old new : Engine St g) (feed : List ℕ) (left : Option (List ℕ)) where
   pub closes_run : (r : Result T E) → OnOk r (AtStart old feed left (λ db first all. Performs (seen old) (seen new) (script_events (described old.desc) db first (raw_lines all)))) → OnOk r (OfScript old feed left (EndsLeave old new))
-  closes_run (Ok x) ran = λ n db first all begins remains. stop_of_run n db first (raw_lines all) begins.state begins.tells begins.durable begins.stands.next (ran db first all begins.stands begins.room remains)
+  closes_run (Ok x) ran = λ n db first all begins remains. stop_of_run old new n db first (raw_lines all) begins.state begins.tells begins.durable begins.stands.next (ran db first all begins.stands begins.room remains)
   closes_run (Err e) ran = tt
 
   pub keeps_limits : (r : Result T E) → OnOk r (AtStart old feed left (λ db first all. AnswersWhole (described old.desc) db first (raw_lines all) (seen old).said (seen new).said)) → OnOk r (AtStart old feed left (λ db first all. KeepsLimits (described old.desc) db first (raw_lines all)))

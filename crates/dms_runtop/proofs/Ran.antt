@@ -44,6 +44,8 @@ use Rattle.dms_runtop.specs.Statuses.{IsOfAuditLimit, IsOfClosing}
 use Rattle.dms_runtop.proofs.Endings.{run_not_ok, run_input, run_damaged, run_lines_is, run_bytes_is, run_held_is, ok_not_limit, closing_input, closing_damaged}
 use Rattle.dms_run.specs.Files.{points_seen, stop_seen, RunLeavesFiles}
 use Rattle.dms_run.proofs.Lowering.{files_left, leaves_files}
+use Rattle.dms_run.proofs.Words.{blocks_seen, blocks_are, lives_seen, lives_are}
+use Rattle.dms_wal.specs.Lifting.{block_point}
 
 -- ---- the database
 
@@ -53,6 +55,33 @@ db_told desc false c db told is = absurd (cc)
 
 pub all_durable : (desc : Described) (h : Held) → h.durable ≡ length h.points → h.durable ≡ length (map (point_of desc) h.points)
 all_durable desc h is = is ∙ sym (length-map h.points (point_of desc))
+
+-- ---- the same description
+
+pub db_under : (d e : Described) (b : Bool) (c : _) (db : Db) → e ≡ d → IsTrue b → spelled d c ≡ Some db → db_of e b c ≡ Some db
+db_under d e b c db same told is = db_told e b c db told (ap (λ (x : Described). spelled x c) same ∙ is)
+
+pub state_under : (d e : Described) (h : Held) (ps : List DescribedPoint) (n : ℕ) (db : Db) → e ≡ d → map (point_of d) h.points ≡ points_seen d ps → LivesEndWith d ps n db → EndsWith (map (point_of e) h.points) n db
+state_under d e h ps n db same are state =
+    subst (λ (x : Described). EndsWith (map (point_of x) h.points) n db) (sym same)
+    (subst (λ (p : List Point). EndsWith p n db) (sym are) (blocks_seen d (map block_point ps) n db (lives_seen d ps n db state)))
+
+pub moments_under : (d e e' : Described) (a b : Held) (whole : Files → Type 0) (entry : Option (List ℕ)) (n : ℕ) (db : Db) (next : ℕ) (events : List RunEvent) → e ≡ d → e' ≡ d
+    → Runs (lifted e a.clock) (lifted e' b.clock) (RunLeaves whole entry (map (point_of e) a.points) n db next events)
+    → Runs (lifted d a.clock) (lifted d b.clock) (RunLeaves whole entry (map (point_of d) a.points) n db next events)
+moments_under d e e' a b whole entry n db next events same same' run =
+    subst (λ (x : Described). Runs (lifted x a.clock) (lifted d b.clock) (RunLeaves whole entry (map (point_of x) a.points) n db next events)) same
+    (subst (λ (x : Described). Runs (lifted e a.clock) (lifted x b.clock) (RunLeaves whole entry (map (point_of e) a.points) n db next events)) same' run)
+
+pub ends_under : (d e e' : Described) (a b : Held) (whole : Files → Type 0) (entry : Option (List ℕ)) (n : ℕ) (db : Db) (next : ℕ) (events : List RunEvent) → e ≡ d → e' ≡ d
+    → ((stop : Stop) → LeavesPrefix b.whole b.durable (map (point_of e') b.points) b.next stop → TextIs b.said stop → RunLeaves whole entry (map (point_of e) a.points) n db next events stop)
+    → (stop : Stop) → LeavesPrefix b.whole b.durable (map (point_of d) b.points) b.next stop → TextIs b.said stop → RunLeaves whole entry (map (point_of d) a.points) n db next events stop
+ends_under d e e' a b whole entry n db next events same same' ends stop front text =
+    subst (λ (x : Described). RunLeaves whole entry (map (point_of x) a.points) n db next events stop) same
+    (ends stop (subst (λ (x : Described). LeavesPrefix b.whole b.durable (map (point_of x) b.points) b.next stop) (sym same') front) text)
+
+pub closed_under : (d e : Described) (ps : List DescribedPoint) (n : ℕ) (db : Db) → e ≡ d → EndsWith (map (point_of e) (map block_point ps)) n db → LivesEndWith d ps n db
+closed_under d e ps n db same ends = lives_are d ps n db (blocks_are d (map block_point ps) n db (subst (λ (x : Described). EndsWith (map (point_of x) (map block_point ps)) n db) same ends))
 
 -- ---- what stops leave
 
