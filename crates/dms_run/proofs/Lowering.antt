@@ -1,9 +1,9 @@
 -- What a stop leaves of a store on the blocks of a running database, and what that is of its files.
-use Rattle.std.proofs.Common.{ℕ, ◌≡◌, ◌∙◌, List, [], ◌∷◌, ◌++◌, map, length, refl, sym, subst, ap, Bool, Option}
+use Rattle.std.proofs.Common.{ℕ, ◌≡◌, ◌∙◌, List, [], ◌∷◌, ◌++◌, map, length, refl, sym, subst, ap, Bool, true, false, cond, Option, None}
 use Rattle.std.specs.List.{AllByRecursion}
 use Rattle.std.proofs.lemmas.List.{length-map}
 use Rattle.dms_desc.specs.Shape.{Described}
-use Rattle.dms_block.specs.Held.{BlockPoint}
+use Rattle.dms_desc_bytes.specs.Spelling.{spelling}
 use Rattle.dms_model.specs.Db.{Db}
 use Rattle.dms_model.specs.Points.{Point, Quiet, Stop, told}
 use Rattle.dms_moments.specs.Moments.{Runs}
@@ -16,15 +16,18 @@ use Rattle.dms_site.specs.declared.site.Site.{Ghosts}
 use Rattle.dms_site.specs.Files.{Left}
 use Rattle.dms_store.specs.Lifted.{point_of, lifted, stop_of as store_stop}
 use Rattle.dms_store.specs.LiftedLaws as stores
-use Rattle.dms_restore.specs.Logging.{telling}
+use Rattle.dms_store.specs.Spelled.{spelled}
+use Rattle.dms_block.specs.Content.{Content}
+use Rattle.std.specs.Str.{bytes_eq}
+use Rattle.dms_restore.specs.Logging.{telling_of, telling, trail_of}
 use Rattle.dms_wal.specs.declared.running.Running.{Running}
 use Rattle.dms_wal.specs.Database.{held, view_of}
 use Rattle.dms_wal.specs.Lifting as wal
 use Rattle.dms_wal.specs.Lifting.{block_point}
 use Rattle.dms_wal.proofs.Lifts as walks
-use Rattle.dms_run.specs.States.{HasState, HasLive, told_live}
+use Rattle.dms_run.specs.States.{LivesEndWith, HasState, HasLive, told_live}
 use Rattle.dms_run.specs.Stops.{RunLeaves}
-use Rattle.dms_run.specs.Files.{points_seen, stop_seen, RunLeavesFiles, FilesLaw}
+use Rattle.dms_run.specs.Files.{points_seen, stop_seen, RunLeavesFiles, FilesLaw, FilesLeft}
 use Rattle.dms_run.proofs.Leaving.{stop_leaves}
 use Rattle.dms_run.proofs.Words.{blocks_seen, blocks_are, lives_seen, lives_are, point_spells, split_of}
 
@@ -43,11 +46,27 @@ map_both : (xs ys : List Point) → map bare (xs ++ ys) ≡ map bare xs ++ map b
 map_both [] ys = refl
 map_both (x ∷ xs) ys = ap (λ (l : List DescribedPoint). bare x ∷ l) (map_both xs ys)
 
+-- a point that is seen somewhere stands there
+record Found (desc : Described) (ps : List DescribedPoint) (p : Point) : Type 0 where
+  front : List DescribedPoint
+  point : DescribedPoint
+  after : List DescribedPoint
+  are : ps ≡ front ++ point ∷ after
+  is : shown desc point ≡ p
+
+found : (desc : Described) (ps : List DescribedPoint) (before after : List Point) (p : Point) → points_seen desc ps ≡ before ++ p ∷ after → Found desc ps p
+found desc [] [] after p e = absurd (cc)
+found desc [] (b ∷ bs) after p e = absurd (cc)
+found desc (x ∷ xs) [] after p e = record { front = []; point = x; after = xs; are = refl; is = cc }
+found desc (x ∷ xs) (b ∷ bs) after p e =
+    let tails : points_seen desc xs ≡ bs ++ p ∷ after = cc in
+    let r = found desc xs bs after p tails in
+    record { front = x ∷ r.front; point = r.point; after = r.after; are = ap (λ (l : List DescribedPoint). x ∷ l) r.are; is = r.is }
+
 has_live : (desc : Described) (ps : List DescribedPoint) (q : Quiet) → HasState (points_seen desc ps) q → HasLive desc ps q
 has_live desc ps q s =
-    let b = split_of (point_of desc) (map block_point ps) s.before s.after s.point s.are in
-    let f = split_of block_point ps b.front b.after b.point b.are in
-    let h = point_spells desc (block_point f.point) q (ap (λ (p : BlockPoint). told (point_of desc p)) f.is ∙ ap told b.is ∙ s.is) in
+    let f = found desc ps s.before s.after s.point s.are in
+    let h = point_spells desc (block_point f.point) q (ap told f.is ∙ s.is) in
     record { before = f.front; point = f.point; after = f.after; are = f.are; number = h.0; schema = h.1.0; spells = h.1.1 }
 
 all_live : (desc : Described) (ps : List DescribedPoint) (made : List Quiet) → AllByRecursion (HasState (points_seen desc ps)) made → AllByRecursion (HasLive desc ps) made
@@ -62,9 +81,15 @@ same_behind : (xs ys zs : List Point) → xs ++ ys ≡ xs ++ zs → ys ≡ zs
 same_behind [] ys zs e = e
 same_behind (x ∷ xs) ys zs e = let tails : xs ++ ys ≡ xs ++ zs = cc in same_behind xs ys zs tails
 
+told_one : (desc : Described) (b : Bool) (c : Content) → db_of desc b c ≡ cond b (spelled desc c) None
+told_one desc true c = refl
+told_one desc false c = refl
+
 seen_told : (desc : Described) (ps : List DescribedPoint) → map told (points_seen desc ps) ≡ map (told_live desc) ps
 seen_told desc [] = refl
-seen_told desc (p ∷ ps) = ap (λ (l : List (ℕ × Option Db)). told_live desc p ∷ l) (seen_told desc ps)
+seen_told desc (p ∷ ps) =
+    ap (λ (o : Option Db). (p.number, o) ∷ map told (points_seen desc ps)) (told_one desc (bytes_eq p.schema (spelling desc)) p.blocks)
+    ∙ ap (λ (l : List (ℕ × Option Db)). told_live desc p ∷ l) (seen_told desc ps)
 
 -- what a run leaves of the store is what it leaves of the files
 pub leaves_files : (t : Telling) (desc : Described) (entry : Option (List ℕ)) (ps : List DescribedPoint) (n : ℕ) (db : Db) (next : ℕ) (events : List RunEvent) (x : Left)
@@ -89,28 +114,32 @@ leaves_files t desc entry ps n db next events x r =
       whole = r.files;
     }
 
-pub count_seen : (desc : Described) (ps : List DescribedPoint) → length (points_seen desc ps) ≡ length ps
+count_seen : (desc : Described) (ps : List DescribedPoint) → length (points_seen desc ps) ≡ length ps
 count_seen desc ps = length-map (map block_point ps) (point_of desc) ∙ length-map ps block_point
 
-pub files : FilesLaw
-files t desc entry points n db next events x ends s =
+leaves_law : (t : Telling) (desc : Described) (entry : Option (List ℕ)) (points : List DescribedPoint) (n : ℕ) (db : Db) (next : ℕ) (events : List RunEvent) (x : Left)
+    → LivesEndWith desc points n db → CrashesWithin (IsWhole t) entry (points_seen desc points) (length points) next events (stop_seen t desc x) → RunLeavesFiles t desc entry points n db next events x
+leaves_law t desc entry points n db next events x ends s =
     leaves_files t desc entry points n db next events x
     (stop_leaves (IsWhole t) entry (points_seen desc points) n db next events (stop_seen t desc x) (blocks_seen desc (map block_point points) n db (lives_seen desc points n db ends))
     (subst (λ (k : ℕ). CrashesWithin (IsWhole t) entry (points_seen desc points) k next events (stop_seen t desc x)) (sym (count_seen desc points)) s))
 
+pub files : FilesLaw
+files total first = leaves_law (telling_of total first)
+
 -- What stops leave of a store on a running database, over its site: no two outcomes are seen as one.
-module _ {S : Type 0} (g : Ghosts S) (desc : Described) (r r' : Running S) where
-  pub site_left : telling (view_of g r'.log) ≡ telling (view_of g r.log) → {Q : Stop → Type 0}
-      → Runs (lifted desc (held g r).clock) (lifted desc (held g r').clock) Q → Runs (g.clock r.log.site) (g.clock r'.log.site) (λ x. Q (stop_seen (telling (view_of g r.log)) desc x))
-  site_left same {Q} run =
+module _ {S : Type 0} (g : Ghosts S) (desc : Described) (r r' : Running S) (same : trail_of (view_of g r'.log) ≡ trail_of (view_of g r.log)) where
+  pub site_left : {Q : Stop → Type 0} → Runs (lifted desc (held g r).clock) (lifted desc (held g r').clock) Q → Runs (g.clock r.log.site) (g.clock r'.log.site) (λ x. Q (stop_seen (telling (view_of g r.log)) desc x))
+  site_left {Q} run =
       let below : Runs (held g r).clock (held g r').clock (λ y. Q (store_stop desc y)) = stores.lowered desc (held g r) (held g r') run in
       walks.lowered (telling (view_of g r.log)) (g.clock r.log.site) (g.clock r'.log.site)
-      (subst (λ (t : Telling). Runs (held g r).clock (wal.lifted t (g.clock r'.log.site)) (λ y. Q (store_stop desc y))) same below)
+      (subst (λ (t : Telling). Runs (held g r).clock (wal.lifted t (g.clock r'.log.site)) (λ y. Q (store_stop desc y))) (walks.told_same same) below)
 
   -- what a run leaves of the store, told of the site
-  pub files_left : telling (view_of g r'.log) ≡ telling (view_of g r.log)
-      → (entry : Option (List ℕ)) (ps : List DescribedPoint) (n : ℕ) (db : Db) (next : ℕ) (events : List RunEvent)
+  pub files_left : (entry : Option (List ℕ)) (ps : List DescribedPoint) (n : ℕ) (db : Db) (next : ℕ) (events : List RunEvent)
       → Runs (lifted desc (held g r).clock) (lifted desc (held g r').clock) (RunLeaves (IsWhole (telling (view_of g r.log))) entry (points_seen desc ps) n db next events)
       → Runs (g.clock r.log.site) (g.clock r'.log.site) (RunLeavesFiles (telling (view_of g r.log)) desc entry ps n db next events)
-  files_left same entry ps n db next events run =
-      runs_weaken (site_left same run) (λ x l. leaves_files (telling (view_of g r.log)) desc entry ps n db next events x l)
+  files_left entry ps n db next events run = runs_weaken (site_left run) (λ x l. leaves_files (telling (view_of g r.log)) desc entry ps n db next events x l)
+
+pub lowers : {S : Type 0} (g : Ghosts S) (a b : Running S) → FilesLeft g a b
+lowers g a b same desc entry points n db next events run = files_left g desc a b same entry points n db next events run

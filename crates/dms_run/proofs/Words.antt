@@ -7,10 +7,10 @@ use Rattle.dms_block.specs.Content.{Content}
 use Rattle.dms_block.specs.Held.{BlockPoint}
 use Rattle.dms_desc.specs.Shape.{Described}
 use Rattle.dms_desc_bytes.specs.Spelling.{spelling}
-use Rattle.dms_running.specs.Points.{DescribedPoint}
 use Rattle.dms_model.specs.Db.{Db}
 use Rattle.dms_model.specs.Points.{Point, Quiet, told, known}
 use Rattle.dms_runner.specs.Answers.{last_quiet}
+use Rattle.dms_running.specs.Points.{DescribedPoint}
 use Rattle.dms_store.specs.Lifted.{point_of, db_of}
 use Rattle.dms_store.specs.Spelled.{spelled}
 use Rattle.dms_wal.specs.Lifting.{block_point}
@@ -20,7 +20,7 @@ use Rattle.dms_run.specs.Laws.{AllowsLaw, OneStateLaw, BlocksLaw, LivesLaw}
 
 -- ---- the state of entry, or one of the quiet points
 
-last_one : (n : ℕ) (db : Db) (made rest : List Quiet) → ((last_quiet_number n made ≡ n) × (last_quiet db made ≡ db)) ⊎ IsOneOf (last_quiet_number n made, last_quiet db made) (made ++ rest)
+pub last_one : (n : ℕ) (db : Db) (made rest : List Quiet) → ((last_quiet_number n made ≡ n) × (last_quiet db made ≡ db)) ⊎ IsOneOf (last_quiet_number n made, last_quiet db made) (made ++ rest)
 last_one n db [] rest = inl (refl, refl)
 last_one n db (q ∷ qs) rest = ⊎_elim (λ e. inr (inl (pair q _ _ e.0 e.1))) (λ m. inr (inr m)) (last_one q.0 q.1 qs rest)
   where

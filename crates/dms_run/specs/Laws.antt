@@ -3,7 +3,6 @@ use Rattle.std.specs.Prelude.{ℕ, ◌≡◌, List, length, map}
 use Rattle.std.specs.declared.option.Option.{Option}
 use Rattle.dms_block.specs.Held.{BlockPoint}
 use Rattle.dms_desc.specs.Shape.{Described}
-use Rattle.dms_running.specs.Points.{DescribedPoint}
 use Rattle.dms_model.specs.Db.{Db}
 use Rattle.dms_model.specs.Points.{Point, Quiet, Stop}
 use Rattle.dms_runner.specs.Answers.{last_quiet}
@@ -11,6 +10,7 @@ use Rattle.dms_runner.specs.EventLaws.{any}
 use Rattle.dms_runner.specs.Events.{RunEvent, quiets_of, CrashesWithin}
 use Rattle.dms_storeverbs.specs.View.{PointsGrow}
 use Rattle.dms_store.specs.Lifted.{point_of}
+use Rattle.dms_running.specs.Points.{DescribedPoint}
 use Rattle.dms_wal.specs.Lifting.{block_point}
 use Rattle.dms_run.specs.States.{EndsWith, BlocksEndWith, LivesEndWith}
 use Rattle.dms_run.specs.Stops.{last_quiet_number, RunLeaves, RunAllows}

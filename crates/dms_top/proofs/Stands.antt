@@ -33,7 +33,7 @@ use Rattle.dms_audfile.specs.ScanLaws.{IsFoundWith}
 use Rattle.dms_creation.specs.FirstEntries.{bodies_of, part_count, bodies, zero_counts, first_control, first_entries}
 use Rattle.dms_creation.specs.Creation.{IsMade, Initializes}
 use Rattle.dms_creation.specs.FoundAgain.{MadeIsFound}
-use Rattle.dms_top.specs.Dumped.{dumps_of}
+use Rattle.dms_restore.specs.Dumped.{dumps_of}
 use Rattle.dms_top.specs.State.{StandsNew, BecomesNew, MadeStands}
 
 -- ---- the counts of a new database
