@@ -14,7 +14,7 @@ use Rattle.dms_running.specs.Standing.{IsWhole}
 use Rattle.dms_running.specs.Points.{DescribedPoint, points_of}
 use Rattle.dms_site.specs.declared.site.Site.{Ghosts}
 use Rattle.dms_site.specs.Files.{Left}
-use Rattle.dms_store.specs.Lifted.{point_of, lifted, stop_of as store_stop}
+use Rattle.dms_store.specs.Lifted.{point_of, db_of, lifted, stop_of as store_stop}
 use Rattle.dms_store.specs.LiftedLaws as stores
 use Rattle.dms_store.specs.Spelled.{spelled}
 use Rattle.dms_block.specs.Content.{Content}
@@ -29,7 +29,7 @@ use Rattle.dms_run.specs.States.{LivesEndWith, HasState, HasLive, told_live}
 use Rattle.dms_run.specs.Stops.{RunLeaves}
 use Rattle.dms_run.specs.Files.{points_seen, stop_seen, RunLeavesFiles, FilesLaw, FilesLeft}
 use Rattle.dms_run.proofs.Leaving.{stop_leaves}
-use Rattle.dms_run.proofs.Words.{blocks_seen, blocks_are, lives_seen, lives_are, point_spells, split_of}
+use Rattle.dms_run.proofs.Words.{as_bytes, blocks_seen, blocks_are, lives_seen, lives_are, point_spells}
 
 -- a live point as a store sees it, and back
 abbrev shown : Described → DescribedPoint → Point

@@ -53,16 +53,6 @@ greatest [] n m rises is = or_cases (n == m) false (λ e. omega (arith, same_num
 greatest (x ∷ xs) n m rises is =
     or_cases (x == m) (has (λ (k : ℕ). k == m) (xs ++ n ∷ [])) (λ e. omega (arith, same_number x m e, above_last x n xs rises.0)) (λ e. greatest xs n m rises.1 e) is
 
--- ---- the Schema at a point
-
-some_bytes : (o : Option (List ℕ)) (b : List ℕ) → schema_bytes o ≡ b → 0 < length b → o ≡ Some b
-some_bytes None b is some = absurd (omega (arith, some, ap (λ (l : List ℕ). length l) is))
-some_bytes (Some x) b is some = ap (λ (l : List ℕ). Some l) is
-
-spells_some : (desc : Described) → 0 < length (spelling desc)
-unfolding spelling
-spells_some desc = omega arith
-
 numbers_end : (xs : List LivePoint) (p : LivePoint) → numbers_of (xs ++ p ∷ []) ≡ numbers_of xs ++ p.number ∷ []
 numbers_end [] p = refl
 numbers_end (x ∷ xs) p = ap (λ (l : List ℕ). x.number ∷ l) (numbers_end xs p)

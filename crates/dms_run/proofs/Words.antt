@@ -73,31 +73,14 @@ same_bytes a b e = (bytes_eq-Decides a b).0 e
 pub as_bytes : (a b : List ℕ) → a ≡ b → bytes_eq a b ≡ true
 as_bytes a b e = (bytes_eq-Decides a b).1 e
 
--- where a mapped list has something, the list has what is mapped to it
-pub record Split {A B : Type 0} (f : A → B) (xs : List A) (y : B) : Type 0 where
-  pub front : List A
-  pub point : A
-  pub after : List A
-  pub are : xs ≡ front ++ point ∷ after
-  pub is : f point ≡ y
-
-pub split_of : {A B : Type 0} (f : A → B) (xs : List A) (before after : List B) (y : B) → map f xs ≡ before ++ y ∷ after → Split f xs y
-split_of f [] [] after y e = absurd (cc)
-split_of f [] (b ∷ bs) after y e = absurd (cc)
-split_of f (x ∷ xs) [] after y e = record { front = []; point = x; after = xs; are = refl; is = cc }
-split_of f (x ∷ xs) (b ∷ bs) after y e =
-    let tails : map f xs ≡ bs ++ y ∷ after = cc in
-    let r = split_of f xs bs after y tails in
-    record { front = x ∷ r.front; point = r.point; after = r.after; are = ap (λ (l : List _). x ∷ l) r.are; is = r.is }
-
 -- a mapped list ends with what its last one is mapped to
-pub record Last {A B : Type 0} (f : A → B) (xs : List A) (y : B) : Type 0 where
-  pub front : List A
-  pub last : A
-  pub are : xs ≡ front ++ last ∷ []
-  pub is : f last ≡ y
+record Last {A B : Type 0} (f : A → B) (xs : List A) (y : B) : Type 0 where
+  front : List A
+  last : A
+  are : xs ≡ front ++ last ∷ []
+  is : f last ≡ y
 
-pub last_of : {A B : Type 0} (f : A → B) (xs : List A) (before : List B) (y : B) → map f xs ≡ before ++ y ∷ [] → Last f xs y
+last_of : {A B : Type 0} (f : A → B) (xs : List A) (before : List B) (y : B) → map f xs ≡ before ++ y ∷ [] → Last f xs y
 last_of f [] [] y e = absurd (cc)
 last_of f [] (b ∷ bs) y e = absurd (cc)
 last_of f (x ∷ []) [] y e = record { front = []; last = x; are = refl; is = cc }

@@ -9,7 +9,6 @@ use Rattle.dms_model.specs.Db.{Db}
 use Rattle.dms_model.specs.Points.{Point, Quiet, told, known}
 use Rattle.dms_running.specs.Points.{DescribedPoint}
 use Rattle.dms_store.specs.Spelled.{spelled}
-use Rattle.dms_wal.specs.Lifting.{block_point}
 
 -- One of these points has the number and the database of this quiet point.
 pub record HasState (points : List Point) (q : Quiet) : Type 0 where
