@@ -22,7 +22,7 @@ use Rattle.dms_running.specs.Standing.{IsWhole}
 use Rattle.dms_running.specs.Points.{DescribedPoint, points_of}
 use Rattle.dms_site.specs.declared.site.Site.{Ghosts}
 use Rattle.dms_site.specs.Files.{Files, Left, Only}
-use Rattle.dms_restore.specs.Logging.{telling_of, telling, points}
+use Rattle.dms_restore.specs.Logging.{Trail, trail_of, telling_of, telling, points}
 use Rattle.dms_store.specs.Lifted.{db_of, point_of, lifted, stop_of as store_stop}
 use Rattle.dms_store.specs.LiftedLaws as stores
 use Rattle.dms_store.specs.Spelled.{spelled}
@@ -85,8 +85,11 @@ closed_under d e ps n db same ends = lives_are d ps n db (blocks_are d (map bloc
 
 -- ---- what stops leave
 
-module _ {S : Type 0} (g : Ghosts S) (d : Described) (t : Telling) (r r' : Running S) (kind : telling (view_of g r.log) ≡ t) (kind' : telling (view_of g r'.log) ≡ t) (ps : List DescribedPoint) (points_are : map (point_of d) (held g r).points ≡ points_seen d ps)
+module _ {S : Type 0} (g : Ghosts S) (d : Described) (trail : Trail) (r r' : Running S) (is : trail_of (view_of g r.log) ≡ trail) (same : trail_of (view_of g r'.log) ≡ trail_of (view_of g r.log)) (ps : List DescribedPoint) (points_are : map (point_of d) (held g r).points ≡ points_seen d ps)
     (n : ℕ) (db : Db) (next : ℕ) (events : List RunEvent) where
+  abbrev t : Telling
+  t = telling_of trail.total trail.first
+
   abbrev entry : Option (List ℕ)
   entry = said_of g r.log
 
@@ -94,8 +97,8 @@ module _ {S : Type 0} (g : Ghosts S) (d : Described) (t : Telling) (r r' : Runni
   pub moments_below : Runs (lifted d (held g r).clock) (lifted d (held g r').clock) (RunLeaves (held g r).whole entry (map (point_of d) (held g r).points) n db next events)
       → Runs (g.clock r.log.site) (g.clock r'.log.site) (RunLeavesFiles t d entry ps n db next events)
   moments_below run =
-      subst (λ (k : Telling). Runs (g.clock r.log.site) (g.clock r'.log.site) (RunLeavesFiles k d entry ps n db next events)) kind
-      (files_left g d r r' (kind' ∙ sym kind) entry ps n db next events
+      subst (λ (k : Telling). Runs (g.clock r.log.site) (g.clock r'.log.site) (RunLeavesFiles k d entry ps n db next events)) (walks.told_same is)
+      (files_left g d r r' same entry ps n db next events
       (subst (λ (p : List Point). Runs (lifted d (held g r).clock) (lifted d (held g r').clock) (RunLeaves (held g r).whole entry p n db next events)) points_are run))
 
   -- a stop within the closing control point
@@ -113,9 +116,9 @@ module _ {S : Type 0} (g : Ghosts S) (d : Described) (t : Telling) (r r' : Runni
       let blocks = stores.lowered d a b ran in
       let below = walks.lowered k (g.clock r'.log.site) (g.clock site) blocks in
       runs_weaken below (λ x l. leaves_files t d entry ps n db next events x
-      (subst (λ (w : Telling). RunLeaves (IsWhole w) entry (points_seen d ps) n db next events (stop_seen t d x)) kind
+      (subst (λ (w : Telling). RunLeaves (IsWhole w) entry (points_seen d ps) n db next events (stop_seen t d x)) (walks.told_same is)
       (subst (λ (p : List Point). RunLeaves (held g r).whole entry p n db next events (stop_seen t d x)) points_are
-      (subst (λ (w : Telling). RunLeaves (held g r).whole entry seen n db next events (store_stop d (wal.stop_of w x))) kind' l))))
+      (subst (λ (w : Telling). RunLeaves (held g r).whole entry seen n db next events (store_stop d (wal.stop_of w x))) (walks.told_same (same ∙ is)) l))))
 
 -- ---- what is printed
 
