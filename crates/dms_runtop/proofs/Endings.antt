@@ -9,9 +9,9 @@ use Rattle.dms_runner.specs.declared.run.RunFault.TheVariants as run
 use Rattle.dms_status.specs.declared.status.LimitKind.{LimitKind}
 use Rattle.dms_status.specs.declared.status.LimitKind.TheVariants as limit
 use Rattle.dms_status.specs.declared.status.Status.{Status}
-use Rattle.dms_status.specs.declared.status.Status.TheVariants.{Ok, Limit, InputFault, Damaged, Memory, SayFault, DiskFault}
+use Rattle.dms_status.specs.declared.status.Status.TheVariants.{Ok, BadWords, SchemaRefused, NoDatabase, Needed, InputFault, Memory, Limit, Damaged, SayFault, DiskFault, Exists}
 use Rattle.dms_runtop.specs.Faults.{block_status, damaged_status, run_status}
-use Rattle.dms_runtop.specs.Statuses.{IsOfClosing, IsOfScript}
+use Rattle.dms_runtop.specs.Statuses.{IsOfAuditLimit, IsOfClosing, IsOfScript}
 
 -- ---- a damaged block
 
@@ -149,3 +149,32 @@ closing_input s (inr of) is = subst IsOfClosing is of
 pub closing_damaged : (s : Status) → (s ≡ Ok) ⊎ IsOfClosing s → (f k : ℕ) → s ≡ Damaged f k → ⊥
 closing_damaged s (inl ok) f k is = ok_not_damaged f k (sym ok ∙ is)
 closing_damaged s (inr of) f k is = subst IsOfClosing is of
+
+-- ---- nothing was done
+
+-- what a command ends with that comes before the script's first line
+abbrev pub IsUndone : Status → Type 0
+IsUndone Ok = ⊥
+IsUndone BadWords = ⊥
+IsUndone (SchemaRefused f) = ⊥
+IsUndone NoDatabase = Unit {0}
+IsUndone (Needed n) = Unit {0}
+IsUndone InputFault = ⊥
+IsUndone Memory = Unit {0}
+IsUndone (Limit k) = IsOfAuditLimit k
+IsUndone (Damaged f b) = f ≤ 30000
+IsUndone SayFault = ⊥
+IsUndone DiskFault = Unit {0}
+IsUndone Exists = ⊥
+
+pub undone_ok : (s : Status) → IsUndone s → s ≡ Ok → ⊥
+undone_ok s undone is = subst IsUndone is undone
+
+pub undone_input : (s : Status) → IsUndone s → s ≡ InputFault → ⊥
+undone_input s undone is = subst IsUndone is undone
+
+pub undone_limit : (s : Status) → IsUndone s → (k : LimitKind) → s ≡ Limit k → IsOfAuditLimit k
+undone_limit s undone k is = subst IsUndone is undone
+
+pub undone_damaged : (s : Status) → IsUndone s → (f k : ℕ) → s ≡ Damaged f k → 30000 < f → ⊥
+undone_damaged s undone f k is high = let low : f ≤ 30000 = subst IsUndone is undone in absurd (omega (arith, low, high))

@@ -37,11 +37,11 @@ use Rattle.dms_run.specs.Stops.{RunLeaves, last_quiet_number}
 use Rattle.dms_status.specs.declared.status.LimitKind.{LimitKind}
 use Rattle.dms_status.specs.declared.status.LimitKind.TheVariants.{AuditFile, Lines, Bytes, Held}
 use Rattle.dms_status.specs.declared.status.Status.{Status}
-use Rattle.dms_status.specs.declared.status.Status.TheVariants.{Ok, Limit, InputFault, Damaged, Memory}
+use Rattle.dms_status.specs.declared.status.Status.TheVariants.{Ok, Limit, InputFault, Damaged}
 use Rattle.dms_runtop.specs.Faults.{run_status}
 use Rattle.dms_runtop.specs.Over.{FilesEndWith, PassesScript, ScriptRuns, SiteSeen}
 use Rattle.dms_runtop.specs.Statuses.{IsOfAuditLimit, IsOfClosing}
-use Rattle.dms_runtop.proofs.Endings.{run_not_ok, run_input, run_damaged, run_lines_is, run_bytes_is, run_held_is, ok_not_limit, closing_input, closing_damaged}
+use Rattle.dms_runtop.proofs.Endings.{run_not_ok, run_input, run_damaged, run_lines_is, run_bytes_is, run_held_is, ok_not_limit, closing_input, closing_damaged, IsUndone, undone_ok, undone_limit, undone_input, undone_damaged}
 use Rattle.dms_run.specs.Files.{points_seen, stop_seen, RunLeavesFiles}
 use Rattle.dms_run.proofs.Lowering.{files_left, leaves_files}
 use Rattle.dms_run.proofs.Words.{blocks_seen, blocks_are, lives_seen, lives_are}
@@ -134,31 +134,25 @@ module _ (t : Telling) (d : Described) (ps : List DescribedPoint) (n : ℕ) (db 
   abbrev events : List RunEvent
   events = script_events d db next (raw_lines all)
 
-  -- nothing was done, for want of memory
-  pub ran_nothing : Runs a.clock b.clock (RunLeavesFiles t d a.said ps n db next events) → b.said ≡ a.said → ScriptRuns t d ps n db next all a b left' Memory
-  ran_nothing moments same = record {
+  of_audit : (k : LimitKind) → IsOfAuditLimit k → PassesScript k d db next (raw_lines all) a.said b.said
+  of_audit (AuditFile f) is = tt
+  of_audit Lines is = absurd is
+  of_audit Bytes is = absurd is
+  of_audit Held is = absurd is
+
+  -- nothing was done: the status is none of a script
+  pub ran_nothing : (status : Status) → IsUndone status → Runs a.clock b.clock (RunLeavesFiles t d a.said ps n db next events) → b.said ≡ a.said → ScriptRuns t d ps n db next all a b left' status
+  ran_nothing status undone moments same = record {
     every_moment = moments;
-    at_ok = λ is. absurd (not_ok is);
-    prints = λ is. absurd (not_ok is);
+    at_ok = λ is. absurd (undone_ok status undone is);
+    prints = λ is. absurd (undone_ok status undone is);
     part = subst (λ (s : Option (List ℕ)). PrintsPrefix a.said s (answers_text d db next (raw_lines all))) (sym same) (prints_nothing a.said (answers_text d db next (raw_lines all)));
     whole_answers = λ unsaid. subst (λ (s : Option (List ℕ)). SaidWhole a.said s events) (sym same) (said_nothing a.said events);
-    within = λ is. absurd (not_ok is);
-    limit = λ k is. absurd (not_limit k is);
-    input_cut = λ is. absurd (not_input is);
-    undamaged = λ f k is. not_damaged f k is;
+    within = λ is. absurd (undone_ok status undone is);
+    limit = λ k is. of_audit k (undone_limit status undone k is);
+    input_cut = λ is. absurd (undone_input status undone is);
+    undamaged = λ f k is high. undone_damaged status undone f k is high;
   }
-    where
-      not_ok : Memory ≡ Ok → ⊥
-      not_ok is = absurd cc
-
-      not_limit : (k : LimitKind) → Memory ≡ Limit k → ⊥
-      not_limit k is = absurd cc
-
-      not_input : Memory ≡ InputFault → ⊥
-      not_input is = absurd cc
-
-      not_damaged : (f k : ℕ) → Memory ≡ Damaged f k → ⊥
-      not_damaged f k is = absurd cc
 
   -- the script stopped before its end
   pub ran_failed : (fault : RunFault) → Runs a.clock b.clock (RunLeavesFiles t d a.said ps n db next events)
@@ -175,7 +169,7 @@ module _ (t : Telling) (d : Described) (ps : List DescribedPoint) (n : ℕ) (db 
     within = λ is. absurd (run_not_ok fault is);
     limit = λ k is. passes fault k is lines bytes held;
     input_cut = λ is. cut (run_input fault is);
-    undamaged = λ f k is. damaged f k (run_damaged fault f k is);
+    undamaged = λ f k is high. damaged f k (run_damaged fault f k is);
   }
     where
       passes : (fault : RunFault) (k : LimitKind) → run_status fault ≡ Limit k → (fault ≡ run.Lines → PassesLines d db next (raw_lines all) a.said b.said)
@@ -200,15 +194,9 @@ module _ (t : Telling) (d : Described) (ps : List DescribedPoint) (n : ℕ) (db 
     within = λ is. limits;
     limit = λ k is. closing_limit status of k is;
     input_cut = λ is. absurd (closing_input status of is);
-    undamaged = λ f k is. closing_damaged status of f k is;
+    undamaged = λ f k is high. closing_damaged status of f k is;
   }
     where
-      of_audit : (k : LimitKind) → IsOfAuditLimit k → PassesScript k d db next (raw_lines all) a.said b.said
-      of_audit (AuditFile f) is = tt
-      of_audit Lines is = absurd is
-      of_audit Bytes is = absurd is
-      of_audit Held is = absurd is
-
       closing_limit : (s : Status) → (s ≡ Ok) ⊎ IsOfClosing s → (k : LimitKind) → s ≡ Limit k → PassesScript k d db next (raw_lines all) a.said b.said
       closing_limit s (inl ok) k is = absurd (ok_not_limit k (sym ok ∙ is))
       closing_limit s (inr of) k is = of_audit k (subst IsOfClosing is of)

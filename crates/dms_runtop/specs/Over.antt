@@ -70,8 +70,8 @@ pub record ScriptRuns (t : Telling) (desc : Described) (ps : List DescribedPoint
   pub limit : (k : LimitKind) → status ≡ Limit k → PassesScript k desc db next (raw_lines all) a.said b.said
   -- at status 6 what the whole lines that were taken answer was printed
   pub input_cut : status ≡ InputFault → CutInput desc db next all left' a.said b.said
-  -- no block is found damaged
-  pub undamaged : (f k : ℕ) → status ≡ Damaged f k → ⊥
+  -- no block of a structure file is found damaged
+  pub undamaged : (f k : ℕ) → status ≡ Damaged f k → 30000 < f → ⊥
 
 module _ {S : Type 0} (g : Ghosts S) where
   -- A run of a script begins with this database: its site tells its files, its points are these, which end with database db at point n and are all

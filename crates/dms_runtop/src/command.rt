@@ -6,7 +6,7 @@ ghost use Rattle.dms_desc.specs.Shape.{described};
 ghost use Rattle.dms_desc_bytes.specs.Spelling.{spelling};
 ghost use Rattle.dms_desc_bytes.specs.WellFormed.{IsWellFormed};
 ghost use Rattle.dms_opening.specs.Openings.{NamesStructures};
-ghost use Rattle.dms_runtop.specs.Command.{DatabaseState, HoldsTold, StandsOpened, RunsCommand, RunsOpened, RefusesRun};
+ghost use Rattle.dms_runtop.specs.Command.{DatabaseState, HoldsTold, NeverRefuses, StandsOpened, StandsThroughout, RunsCommand, RunsOpened, RefusesRun};
 ghost use Rattle.dms_runtop.specs.Describing.{IsUnderSchema};
 ghost use Rattle.dms_runtop.specs.Statuses.{IsOfRun, IsOfScript, IsRefusal};
 ghost use Rattle.dms_wal.specs.Lifting.{AreCounts};
@@ -22,6 +22,7 @@ use dms_desc_bytes::encode;
 use dms_descfile::FileFault;
 use dms_opening::{Opened, open};
 use dms_restore::{Found, Log};
+use dms_runlaws::stands_law;
 use dms_site::{Site, Source};
 use dms_status::Status;
 use std::alloc::Global;
@@ -180,6 +181,7 @@ fn run_opened<S: Site, I: Source, K: Knows>(
 fn run_found<S: Site, I: Source>(alloc: Global, site: S, source: &mut I) -> Ended<S>
     ghost state: { Option DatabaseState }
     requires told { IsTrue S.tells → HoldsTold state (S.files site) }
+    ensures complete { NeverRefuses S.Site state site result.status }
     ensures ran { RunsCommand S.Site state site result.site (I.left source.old) (I.left source.new) result.status }
     ensures refused { IsRefusal result.status → RefusesRun S.Site site result.site result.status }
     ensures end { result.status ≡ Status.Ok → (all : List ℕ) → I.left source.old ≡ Some all → I.left source.new ≡ Some [] }
@@ -205,6 +207,8 @@ fn run_found<S: Site, I: Source>(alloc: Global, site: S, source: &mut I) -> Ende
 pub fn run_command<S: Site, I: Source>(alloc: Global, site: &mut S, source: &mut I) -> Status
     ghost state: { Option DatabaseState }
     requires told { IsTrue S.tells → HoldsTold state (S.files site.old) }
+    ensures stands { StandsThroughout S.Site state site.old site.new (I.left source.old) }
+    ensures complete { NeverRefuses S.Site state site.old result }
     ensures ran { RunsCommand S.Site state site.old site.new (I.left source.old) (I.left source.new) result }
     ensures refused { IsRefusal result → RefusesRun S.Site site.old site.new result }
     ensures end { result ≡ Status.Ok → (all : List ℕ) → I.left source.old ≡ Some all → I.left source.new ≡ Some [] }
@@ -215,6 +219,7 @@ pub fn run_command<S: Site, I: Source>(alloc: Global, site: &mut S, source: &mut
     ensures same_site { S.same_site site.old site.new }
     ensures same_source { I.same_source source.old source.new }
 {
+    stands_law();
     let ended = run_found(alloc, site, source);
     let status = ended.status;
     let _site = ended.into_site();
