@@ -3,3 +3,4 @@ pub mod Ran
 pub mod Formed
 pub mod Serving
 pub mod Opened
+pub mod Since
