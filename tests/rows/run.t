@@ -44,11 +44,13 @@ A transaction begins only behind a syncpoint that is pending.
   SYNCPOINT 1
   7 C DONE
 
-C's transaction is open at the end. It is taken back, by a restore to the last point, and nothing is printed for that.
+C's transaction is open at the end. It is taken back, by a restore to the last point, before the closing control point, and nothing is printed for that.
 
-  $ "$DMS" print audit | grep -c 'BEGIN 1 BACKOUT'
-  1
-  $ "$DMS" print audit | tail -n 1 | cut -d' ' -f3-
+  $ "$DMS" print audit | tail -n 5 | cut -d' ' -f3-
+  BEGIN 1 BACKOUT
+  SCHEMA 1 OF 1 LENGTH 62
+  CONTROL 1 NEXT 2
+  SCHEMA 1 OF 1 LENGTH 62
   CONTROL 1 NEXT 2
 
 One program backs out, and the other one learns of it once. The record is gone, in the next run too.

@@ -79,8 +79,9 @@ the Begin. What was being written may hold any bytes; here they are the byte 7.
   2 A EXCEPTION NOTFOUND D
   CONTROL 0 NEXT 1
 
-With records of an earlier transaction: they are there as they were, although a block of theirs was changed and written since. A stop within the restore may have torn what it was writing, and
-the next opening writes it once more.
+With records of an earlier transaction: they are there as they were, although a block of theirs was changed and written since. The point in between changed
+nothing, so only the image of that change tells what the block was. A stop within the restore may have torn what it was writing, and the next opening writes it
+once more.
 
   $ rm -rf kept; cp -r db kept; cd kept
   $ "$DMS" run > ../out <<'END'
@@ -99,6 +100,8 @@ the next opening writes it once more.
   > END
   $ tail -n 1 ../out
   SYNCPOINT 1
+  $ printf 'A: OPEN UPDATE\nA: BEGIN-TRANSACTION NO-AUDIT RDS\nA: END-TRANSACTION NO-AUDIT RDS SYNC\n' | "$DMS" run | tail -n 1
+  SYNCPOINT 2
   $ cd ..
   $ printf 'A: OPEN INQUIRY\nA: FIND FIRST D\nA: GET D A\nA: FIND LAST D\nA: GET D A\n' > look
   $ killed kept 162
@@ -111,11 +114,11 @@ the next opening writes it once more.
   5 A DONE A="THREE"
   $ b=$(awk '$3 == "BEGIN" { n = $2 } END { print n }' audit)
   $ tail -n 1 audit | sed "s/^1 $((b + 2)) /1 b+2 /"
-  1 b+2 CONTROL 1 NEXT 2
+  1 b+2 CONTROL 2 NEXT 3
   $ torn_record() { head -c 512 /dev/zero | tr '\0' '\007' | dd of=u/F30002.DMS bs=1024 seek=1 conv=notrunc status=none; }
   $ next kept_stopped; gate $((b + 1)) 0; torn $((b + 1)); point
   5 A DONE A="THREE"
-  CONTROL 1 NEXT 2
+  CONTROL 2 NEXT 3
   $ next kept_stopped; gate $((b + 1)) 0; torn $((b + 1)); torn_record; point
   5 A DONE A="THREE"
-  CONTROL 1 NEXT 2
+  CONTROL 2 NEXT 3

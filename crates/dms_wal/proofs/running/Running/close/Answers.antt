@@ -1,5 +1,6 @@
-use Rattle.std.proofs.Common.{refl, sym, ◌∙◌, ap, subst}
+use Rattle.std.proofs.Common.{◌≡◌, refl, sym, ◌∙◌, ap, subst}
 use Rattle.std.specs.declared.result.Result.TheVariants.{Err}
+use Rattle.dms_block.specs.declared.block_fault.BlockFault.TheVariants.{Disk}
 use Rattle.dms_block.specs.Counts.{Faults}
 use Rattle.dms_audfile.specs.Counting.{CountedAt}
 use Rattle.dms_restore.proofs.Results.{one_if_ok, one_if_err}
@@ -11,14 +12,14 @@ use Rattle.dms_wal.specs.PaceLaws.{pace_kind}
 use Rattle.dms_wal.proofs.Closed.{backs_counted, backs_only, clock_as, closed_back, closed_same, control_only, counted_then, full_trail, leaves_until, said_told, trail_as}
 use Rattle.dms_wal.proofs.running.Running.close.Goals as goal
 
-pub returns-then-not-changed-clause-closed : goal.returns-then-not-changed-clause-closed
-returns-then-not-changed-clause-closed g c = one_if_ok c.close_by_control.result c.close_by_control.ensures.closed (λ s f tells.
-    closed_same (view_of g.S.Site c.args.self.log) c.args.self.changed c.args.self.point c.args.self.schema.items c.args.self.next c.args.self.counts.items c.args.self.marks.items _ _ c.if-not-changed.true (c.requires.unchanged c.if-not-changed.true tells) (f tells))
+pub returns-then-not-self-clause-closed : goal.returns-then-not-self-clause-closed
+returns-then-not-self-clause-closed g c = one_if_ok c.close_by_control.result c.close_by_control.ensures.closed (λ s f tells.
+    closed_same (view_of g.S.Site c.args.self.log) c.args.self.changed c.args.self.point c.args.self.schema.items c.args.self.next c.args.self.counts.items c.args.self.marks.items _ _ c.if-not-self.true (c.requires.unchanged c.if-not-self.true tells) (f tells))
 
 pub returns-in-Ok-clause-closed : goal.returns-in-Ok-clause-closed
 returns-in-Ok-clause-closed g c = one_if_ok c.close_by_control-in-Ok.result c.close_by_control-in-Ok.ensures.closed (λ s f tells.
     let k = c.back_out.ensures.kept in
-    closed_back (view_of g.S.Site c.args.self.log) (view_of g.S.Site c.back_out.new.self.log) c.args.self.changed c.args.self.point c.args.self.schema.items c.args.self.next c.args.self.marks.items _ _ _ c.if-not-changed.false (pace_kind c.back_out.ensures.pace) (c.in-Ok.ensures.content tells)
+    closed_back (view_of g.S.Site c.args.self.log) (view_of g.S.Site c.back_out.new.self.log) c.args.self.changed c.args.self.point c.args.self.schema.items c.args.self.next c.args.self.marks.items _ _ _ c.if-not-self.false (pace_kind c.back_out.ensures.pace) (c.in-Ok.ensures.content tells)
     (λ i. entries_control (k.2 i) (k.0 i).items (k.1 i) (c.in-Ok.ensures.counts i)) (c.in-Ok.ensures.back tells) (f tells))
 
 pub returns-in-Ok-clause-leaves : goal.returns-in-Ok-clause-leaves
@@ -37,8 +38,8 @@ returns-in-Ok-clause-full g c = one_if_err c.close_by_control-in-Ok.result c.clo
 pub returns-in-Ok-clause-only : goal.returns-in-Ok-clause-only
 returns-in-Ok-clause-only g c = one_if_err c.close_by_control-in-Ok.result c.close_by_control-in-Ok.ensures.only (λ e o. control_only 9999 c.args.self.changed e.0 o)
 
-pub returns-then-not-changed-clause-only : goal.returns-then-not-changed-clause-only
-returns-then-not-changed-clause-only g c = one_if_err c.close_by_control.result c.close_by_control.ensures.only (λ e o. control_only 9999 c.args.self.changed e.0 o)
+pub returns-then-not-self-clause-only : goal.returns-then-not-self-clause-only
+returns-then-not-self-clause-only g c = one_if_err c.close_by_control.result c.close_by_control.ensures.only (λ e o. control_only 9999 c.args.self.changed e.0 o)
 
 pub returns-in-Ok-clause-clean : goal.returns-in-Ok-clause-clean
 returns-in-Ok-clause-clean g c = one_if_ok c.close_by_control-in-Ok.result c.close_by_control-in-Ok.ensures.clean (λ s k.
@@ -68,7 +69,7 @@ returns-in-Err-clause-stopped g c =
     (clock_as _ _ (held g.S.Site c.args.self) _ (pace_kind c.back_out.ensures.pace) c.back_out.ensures.passes.leaves)
 
 pub returns-in-Err-clause-only : goal.returns-in-Err-clause-only
-returns-in-Err-clause-only g c = backs_only 9999 c.args.self.changed c.in-Err.fault c.if-not-changed.false c.in-Err.ensures.only
+returns-in-Err-clause-only g c = backs_only 9999 c.args.self.changed c.in-Err.fault c.if-not-self.false c.in-Err.ensures.only
 
 pub returns-in-Err-clause-full : goal.returns-in-Err-clause-full
 returns-in-Err-clause-full g c is tells =
@@ -79,7 +80,7 @@ returns-in-Err-clause-full g c is tells =
 
 pub returns-in-Err-clause-disk : goal.returns-in-Err-clause-disk
 returns-in-Err-clause-disk g c =
-    subst (λ (x : _). CountedAt _ (g.S.Site.disk_faults c.args.self.log.site) (g.S.Site.disk_faults x)) (sym c.into_site.ensures)
+    subst (λ (x : _). CountedAt (c.in-Err.fault ≡ Disk) (g.S.Site.disk_faults c.args.self.log.site) (g.S.Site.disk_faults x)) (sym c.into_site.ensures)
     (backs_counted 9999 c.in-Err.fault (held g.S.Site c.args.self) (held g.S.Site c.back_out.new.self) c.in-Err.ensures.only c.in-Err.ensures.causes).0
 
 pub returns-in-Err-clause-say_faults : goal.returns-in-Err-clause-say_faults
