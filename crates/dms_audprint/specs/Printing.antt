@@ -1,5 +1,5 @@
 -- Printing entries by their places.
-use Rattle.std.specs.Prelude.{ℕ, ◌-◌, ◌≤◌, ◌≡◌, List, [], ◌∷◌, ◌++◌, Option, Some, None}
+use Rattle.std.specs.Prelude.{ℕ, ◌-◌, ◌≤◌, ◌≡◌, List, [], ◌∷◌, ◌++◌, take, Option, Some, None}
 use Rattle.dms_history.specs.Entries.{Entry}
 use Rattle.dms_site.specs.Files.{Files, Left, PrintsPartOf}
 use Rattle.dms_audfile.specs.AuditTrail.{entry_there}
@@ -32,6 +32,10 @@ pub record HoldsEntry (files : Files) (p : EntryPlace) : Type 0 where
 abbrev pub AllHoldEntries : Files → List EntryPlace → Type 0
 AllHoldEntries files [] = Unit {0}
 AllHoldEntries files (p ∷ ps) = HoldsEntry files p × AllHoldEntries files ps
+
+-- the first bytes of these were printed
+abbrev pub PrintsFront : List ℕ → List ℕ → List ℕ → Type 0
+PrintsFront bytes old new = (k : ℕ) × (new ≡ old ++ take k bytes)
 
 -- some bytes were printed, and the files stay
 abbrev pub PrintsSome : Left → Left → Type 0

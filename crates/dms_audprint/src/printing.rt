@@ -1,12 +1,12 @@
 //! Printing the lines of the trail's entries.
 
-ghost use Rattle.std.specs.Prelude.{◌≡◌, ◌++◌, ℕ, take, IfOk, IfErr, OnOk, IsErrOf, IsTrue};
+ghost use Rattle.std.specs.Prelude.{◌≡◌, ◌++◌, IfOk, IfErr, OnOk, IsErrOf, IsTrue};
 ghost use Rattle.dms_moments.specs.Moments.{Steps};
 ghost use Rattle.dms_site.specs.Files.{Files};
 ghost use Rattle.dms_audfile.specs.Counting.{CountedAt};
 ghost use Rattle.dms_audfile.specs.EntryReading.{IsCurrent, HoldsBlock};
 ghost use Rattle.dms_audprint.specs.AuditText.{HasTrail, PrintsAudit, PrintsPart};
-ghost use Rattle.dms_audprint.specs.Printing.{line_at, lines_at, HoldsEntry, AllHoldEntries, PrintsSome, IsOfOutside, IsLate, RefusesAudit};
+ghost use Rattle.dms_audprint.specs.Printing.{line_at, lines_at, HoldsEntry, AllHoldEntries, PrintsFront, PrintsSome, IsOfOutside, IsLate, RefusesAudit};
 
 use crate::PrintFault;
 use crate::line::{EntryLine, line_text};
@@ -47,7 +47,7 @@ fn print_entry<S: Site>(
 ) -> Result<(), PrintFault>
     ensures current { IsTrue S.tells → IsCurrent reader.old (S.files site.old) → IsCurrent reader.new (S.files site.old) }
     ensures printed { OnOk result (IsTrue S.tells → IsTrue S.tells_said → IsCurrent reader.old (S.files site.old) → S.said site.new ≡ S.said site.old ++ line_at (S.files site.old) place.now) }
-    ensures part { IsTrue S.tells → IsTrue S.tells_said → IsCurrent reader.old (S.files site.old) → (k : ℕ) × (S.said site.new ≡ S.said site.old ++ take k (line_at (S.files site.old) place.now)) }
+    ensures part { IsTrue S.tells → IsTrue S.tells_said → IsCurrent reader.old (S.files site.old) → PrintsFront (line_at (S.files site.old) place.now) (S.said site.old) (S.said site.new) }
     ensures there { IsTrue S.tells → IsCurrent reader.old (S.files site.old) → HoldsEntry (S.files site.old) place.now → IfErr result IsLate }
     ensures files { IsTrue S.tells → S.files site.new ≡ S.files site.old }
     ensures moments { Steps PrintsSome (S.clock site.old) (S.clock site.new) }
@@ -76,7 +76,7 @@ fn print_places<S: Site>(
     places: &[EntryPlace],
 ) -> Result<(), PrintFault>
     ensures printed { OnOk result (IsTrue S.tells → IsTrue S.tells_said → S.said site.new ≡ S.said site.old ++ lines_at (S.files site.old) places.now) }
-    ensures part { IsTrue S.tells → IsTrue S.tells_said → (k : ℕ) × (S.said site.new ≡ S.said site.old ++ take k (lines_at (S.files site.old) places.now)) }
+    ensures part { IsTrue S.tells → IsTrue S.tells_said → PrintsFront (lines_at (S.files site.old) places.now) (S.said site.old) (S.said site.new) }
     ensures there { IsTrue S.tells → AllHoldEntries (S.files site.old) places.now → IfErr result IsLate }
     ensures files { IsTrue S.tells → S.files site.new ≡ S.files site.old }
     ensures moments { Steps PrintsSome (S.clock site.old) (S.clock site.new) }

@@ -12,7 +12,8 @@ use Rattle.dms_audfile.specs.Database.{HasDatabase}
 use Rattle.dms_audfile.specs.WholeSchema.{is_control, closes_schema, holds_schema_from, holds_schema}
 use Rattle.dms_audfile.specs.ScanLaws.{IsWritten}
 use Rattle.dms_audfile.proofs.Again.{written_is_found}
-use Rattle.dms_creation.specs.FirstEntries.{bodies_of, part_count, bodies, first_control, first_entries}
+use Rattle.dms_audrec.specs.Bodies.{bodies_of, part_count, bodies}
+use Rattle.dms_creation.specs.FirstEntries.{first_control, first_entries}
 use Rattle.dms_creation.specs.Creation.{gate_open}
 use Rattle.dms_creation.specs.FoundAgain.{MadeIsFound}
 

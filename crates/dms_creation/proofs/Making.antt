@@ -28,7 +28,8 @@ use Rattle.dms_audfile.proofs.Several.{trail_same}
 use Rattle.dms_audfile.proofs.Gates.{stands_full}
 use Rattle.dms_audfile.proofs.Growing.{writes_same}
 use Rattle.dms_creation.specs.Clearing.{KeepsApart, IsApart, ApartStay, AllButDescriptionStay}
-use Rattle.dms_creation.specs.FirstEntries.{bodies, zero_counts, first_entries}
+use Rattle.dms_audrec.specs.Bodies.{bodies}
+use Rattle.dms_creation.specs.FirstEntries.{zero_counts, first_entries}
 use Rattle.dms_creation.specs.Creation.{IsGate, IsFirstTrail, IsReadyToOpen, IsMade, IsShut, IsCreation, Initializes}
 use Rattle.dms_creation.specs.Plans.{IsPlanOf, HasShutDatabaseGate}
 use Rattle.dms_creation.proofs.Parts.{counts_read, counts_size}

@@ -11,7 +11,8 @@ use Rattle.dms_history.specs.declared.event.FileCount.{FileCount}
 use Rattle.dms_history.specs.Entries.{Entry, schema_part, control_point}
 use Rattle.dms_history.specs.Schemas.{parts_of_schema, schema_entries}
 use Rattle.dms_audrec.specs.Spelling.{spelling, pair_bytes, count_file, count_blocks, counts_rise, ArePairsSmall, IsControl}
-use Rattle.dms_creation.specs.FirstEntries.{bodies_of, part_count, bodies, zero_counts}
+use Rattle.dms_audrec.specs.Bodies.{bodies_of, part_count, bodies}
+use Rattle.dms_creation.specs.FirstEntries.{zero_counts}
 use Rattle.dms_creation.specs.Laid.{parts_upto}
 
 bodies_length : (n : ℕ) (bytes : List ℕ) → length (bodies_of n bytes) ≡ n

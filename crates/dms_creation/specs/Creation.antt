@@ -4,6 +4,7 @@ use Rattle.dms_history.specs.Entries.{Entry}
 use Rattle.dms_moments.specs.Moments.{Clock, Now, Runs}
 use Rattle.dms_desc.specs.Shape.{Described}
 use Rattle.dms_site.specs.Files.{Files, Left, overlaid}
+use Rattle.dms_site.specs.declared.site.Site.{Ghosts}
 use Rattle.dms_audfile.specs.Sealing.{IsWrittenUpTo}
 use Rattle.dms_audfile.specs.Trail.{trail_from}
 use Rattle.dms_audfile.specs.TrailEntries.{trail_entries}
@@ -65,3 +66,7 @@ IsCreation tag d old x = IsUnmade old x.files ⊎ IsMade tag d old x.files
 -- the new one.
 abbrev pub Initializes : ℕ → Described → Files → Clock Left → Clock Left → Type 0
 Initializes tag d files old new = Runs old new (λ x. Now old x ⊎ IsCreation tag d files x)
+
+-- so it is between two times of a site
+abbrev pub InitializesSite : {S : Type 0} → Ghosts S → ℕ → Described → S → S → Type 0
+InitializesSite g tag d a b = Initializes tag d (g.files a) (g.clock a) (g.clock b)

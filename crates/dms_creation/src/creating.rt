@@ -11,7 +11,7 @@ ghost use Rattle.dms_audrec.specs.Spelling.{pair_bytes, count_file, count_blocks
 ghost use Rattle.dms_audfile.specs.Counting.{CountedAt};
 ghost use Rattle.dms_creation.specs.Clearing.{KeepsApart};
 ghost use Rattle.dms_creation.specs.FirstEntries.{zero_counts};
-ghost use Rattle.dms_creation.specs.Creation.{IsReadyToOpen, IsMade, Initializes, IsGate};
+ghost use Rattle.dms_creation.specs.Creation.{IsReadyToOpen, IsMade, InitializesSite, IsGate};
 ghost use Rattle.dms_creation.specs.Plans.{IsPlanOf, HasShutDatabaseGate};
 
 use crate::CreationFault;
@@ -108,7 +108,7 @@ fn make<S: Site>(site: &mut S, made: &mut Plan) -> Result<(), Failed>
     requires none { made.old.end.count ≡ 0 }
     requires empty { made.old.end.used ≡ 0 }
     requires structures { (n : ℕ) × (n ≤ 200) × (made.old.counts ≡ pair_bytes count_file count_blocks (zero_counts n 1)) }
-    ensures moments { IsTrue S.tells → (d : Described) → IsPlanOf made.old d → HasShutDatabaseGate (S.files site.old 1) → Initializes made.old.end.tag d (S.files site.old) (S.clock site.old) (S.clock site.new) }
+    ensures moments { IsTrue S.tells → (d : Described) → IsPlanOf made.old d → HasShutDatabaseGate (S.files site.old 1) → InitializesSite S.Site made.old.end.tag d site.old site.new }
     ensures made { OnOk result (IsTrue S.tells → (d : Described) → IsPlanOf made.old d → IsMade made.old.end.tag d (S.files site.old) (S.files site.new)) }
     ensures durable { OnOk result (IsTrue S.tells → Only (S.files site.new) (S.clock site.new)) }
     ensures said { S.said site.new ≡ S.said site.old }
@@ -126,7 +126,7 @@ fn make<S: Site>(site: &mut S, made: &mut Plan) -> Result<(), Failed>
 /// All memory is taken before the first file is changed. After the first call of the site that fails no other is made.
 pub fn initialize<S: Site>(alloc: Global, site: &mut S, tag: u64) -> Result<(), CreationFault>
     // a stop leaves what a stop at entry could leave, or there no database, or exactly the new one
-    ensures moments { IsTrue S.tells → (d : Described) → IsSealed (S.files site.old 1) d → Initializes tag d (S.files site.old) (S.clock site.old) (S.clock site.new) }
+    ensures moments { IsTrue S.tells → (d : Described) → IsSealed (S.files site.old 1) d → InitializesSite S.Site tag d site.old site.new }
     // whatever the description file is, where nothing was begun nothing changed at any moment
     ensures stays { IfErr result (λ e. e ≢ CreationFault.Disk → Steps Same (S.clock site.old) (S.clock site.new)) }
     ensures before { IfErr result (λ e. e ≢ CreationFault.Disk → IsTrue S.tells → S.files site.new ≡ S.files site.old) }

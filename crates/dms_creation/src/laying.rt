@@ -11,7 +11,7 @@ ghost use Rattle.dms_audrec.specs.Spelling.{spelling, IsEntry, IsControl};
 ghost use Rattle.dms_audrec.specs.Seen.{entry_seen};
 ghost use Rattle.dms_audfile.specs.Blocks.{is_begin};
 ghost use Rattle.dms_creation.specs.Clearing.{KeepsApart, IsClear, ApartStay};
-ghost use Rattle.dms_creation.specs.FirstEntries.{part_count, bodies};
+ghost use Rattle.dms_audrec.specs.Bodies.{part_count, bodies};
 ghost use Rattle.dms_creation.specs.Laid.{Laid};
 ghost use Rattle.dms_creation.specs.Creation.{IsFirstTrail};
 

@@ -1,6 +1,6 @@
 -- How many records a data set has after one was stored.
-use Rattle.std.proofs.Common.{◌≡◌, ◌≤◌, ◌+◌, ℕ, suc, List, [], ◌∷◌, Bool, true, false, cond, eqb, Some, refl, sym, ap, ◌∙◌, subst, length, arith, ◌&&◌}
-use Rattle.std.specs.Prelude.{T, nat_lt, is_some, ◌==◌}
+use Rattle.std.proofs.Common.{◌≡◌, ◌≤◌, ◌+◌, ℕ, suc, List, [], ◌∷◌, Bool, true, false, cond, Some, refl, sym, ap, ◌∙◌, subst, length, arith, ◌&&◌}
+use Rattle.std.specs.Prelude.{T, is_some, ◌==◌}
 use Rattle.std.specs.declared.option.Option.{Option}
 use Rattle.std.specs.FinMap.{get, insert, entries, entries-insert, entries_sorted, get-entries, find, put, is_sorted}
 use Rattle.std.specs.FinMap.Entries.{length-put, by_order, below_all}

@@ -1,31 +1,23 @@
 -- A member that a path finds is a record of the database.
-use Rattle.std.proofs.Common.{sym, ◌≡◌, ℕ, List, [], ◌∷◌, Bool, true, false, cond, Some, None, refl, ap, ◌∙◌, ◌&&◌, arith}
+use Rattle.std.proofs.Common.{sym, ◌≡◌, ℕ, List, true, false, Some, None, ap, ◌∙◌, ◌&&◌}
 use Rattle.std.specs.Prelude.{IfSome}
 use Rattle.std.specs.List.{AllByRecursion}
 use Rattle.std.specs.declared.option.Option.{Option}
-use Rattle.std.specs.FinMap.{get, get-entries, find, entries, entries_sorted, is_sorted}
-use Rattle.std.specs.FinMap.Entries.{below_all}
-use Rattle.std.specs.declared.cmp.Ordering.{Ordering}
-use Rattle.std.specs.declared.cmp.Ordering.TheVariants.{Less, Equal, Greater}
-use Rattle.std.specs.Ordering.{is_eq, is_lt, ordering_reverse}
-use Rattle.std.proofs.lemmas.Bool.Decides.{nat_tests}
+use Rattle.std.specs.Ordering.{is_eq}
 use Rattle.dms_base.specs.declared.value.Value.{Value}
-use Rattle.dms_desc.specs.declared.record.Record.{Record}
 use Rattle.dms_desc.specs.declared.bound.Bound.{Bound}
 use Rattle.dms_desc.specs.declared.bound.Bound.TheVariants.{Start, End as Behind}
 use Rattle.dms_desc.specs.Shape.{Shape, Described}
 use Rattle.dms_model.specs.declared.spot.Spot.{Spot}
 use Rattle.dms_model.specs.declared.verb.Path.{Path}
 use Rattle.dms_model.specs.declared.verb.Path.TheVariants.{First, Last, At}
-use Rattle.dms_model.specs.Db.{Db, SubsetEntry, Records, Place, place_cmp}
-use Rattle.dms_desc.specs.Keys.{key_of, key_cmp}
+use Rattle.dms_model.specs.Db.{Db, Place}
+use Rattle.dms_desc.specs.Keys.{key_cmp}
 use Rattle.dms_desc.specs.Kinds.{over}
 use Rattle.dms_desc.specs.Lookups.{structure_of, items_of, over_of, parts_of, set_of}
-use Rattle.dms_desc.specs.Sorted.{place_in, sorted, first, last, or_else}
-use Rattle.dms_model.specs.Members.{belongs, spot_of, spots_of, members, is_before, first_of, last_of, at_of, first_member, last_member, at_member, is_after_bound, is_before_bound, agrees}
+use Rattle.dms_model.specs.Members.{members, first_of, last_of, at_of, first_member, last_member, at_member, is_after_bound, is_before_bound, agrees}
 use Rattle.dms_model.specs.Session.{found_by, at_values, key_values, path_of}
 use Rattle.dms_model.specs.Valid.{IsValid, HaveOwnKeys, is_set, equal_keys, share_owner}
-use Rattle.dms_model.specs.Places.{places_total, itself}
 use Rattle.dms_model.specs.Founds.{all_both, first_there, last_there, members_are, IsRecordOf, IsSpotOf}
 
 members_stand : (s : Shape) (db : Db) (owner : ℕ) → AllByRecursion (IsRecordOf db.records (over s)) (members s db owner)

@@ -1,3 +1,4 @@
+mod Answered
 mod Counts
 pub mod Formed
 mod Founds

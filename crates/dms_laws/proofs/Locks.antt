@@ -1,5 +1,5 @@
 -- No step makes two programs lock one record, or changes what another program locks.
-use Rattle.std.proofs.Common.{◌≡◌, ◌+◌, ℕ, zero, suc, List, [], ◌∷◌, ◌++◌, Bool, true, false, cond, Some, None, refl, sym, ap, ◌∙◌, subst, not, ◌&&◌, ◌||◌, nat_le, length, map, arith}
+use Rattle.std.proofs.Common.{◌≡◌, ◌+◌, ℕ, zero, suc, List, [], ◌∷◌, ◌++◌, Bool, true, false, cond, Some, None, refl, sym, ap, ◌∙◌, subst, ◌&&◌, ◌||◌, nat_le, length, map, arith}
 use Rattle.std.specs.Prelude.{◌≢◌, slice_get, slice_set, is_some, filter, ◌==◌}
 use Rattle.std.specs.List.{list_any, AllByRecursion}
 use Rattle.std.specs.declared.option.Option.{Option}
@@ -8,7 +8,7 @@ use Rattle.std.proofs.lemmas.Bool.Decides.{nat_tests}
 use Rattle.dms_desc.specs.Shape.{Described}
 use Rattle.dms_desc.specs.declared.record.Record.{Record}
 use Rattle.dms_base.specs.declared.category.Category.{Category}
-use Rattle.dms_base.specs.declared.category.Category.TheVariants.{LimitError, NoRecord, AuditError, DataError, NotLocked, Abort as AbortDue}
+use Rattle.dms_base.specs.declared.category.Category.TheVariants.{LimitError, AuditError, Abort as AbortDue}
 use Rattle.dms_model.specs.declared.program.Program.{Program}
 use Rattle.dms_model.specs.declared.program.Lock.{Lock}
 use Rattle.dms_model.specs.declared.program.Area.{Area}
@@ -22,12 +22,12 @@ use Rattle.dms_base.specs.declared.value.Value.{Value}
 use Rattle.dms_model.specs.declared.reply.Reply.{Reply}
 use Rattle.dms_model.specs.declared.reply.Reply.TheVariants.{Done, Exception}
 use Rattle.dms_model.specs.StoreLaws.{IsStorable, begun_any, keep_any, new_stored, old_stored}
-use Rattle.dms_model.specs.declared.put.Put.TheVariants.{Stored, Full}
+use Rattle.dms_model.specs.declared.put.Put.TheVariants.{Stored}
 use Rattle.dms_model.specs.declared.spot.Spot.{Spot}
-use Rattle.dms_model.specs.Db.{Db, Place, fresh, records_of}
-use Rattle.dms_desc.specs.Lookups.{name_of, structure_of, items_of, set_of}
-use Rattle.dms_model.specs.Stores.{put_answer, put_unless, put_number, is_full, clash, put_after, linked, stored}
-use Rattle.dms_model.specs.Session.{Session, Outcome, StoreResult, Refused, Keeps, Filled, Misfit, Values', refuse, done, shows, settle, keep, store_step, after_store, begin_step, after_begin, begun, current_of, holds, replies, end_step, after_end, abort_step, find_step, find_for, after_find, found_by, create_step, create_for, owner_for, put_step, put_area, after_put, filled, get_step, get_area, close_step, open_as, open_in, open_step, verb_step, step_at, step, with_program, with_work, with_lock, work_of, restart_of, someone_works, is_inquiry, opens, changes, path_of, new_program, place_of, carried, entered, left, without, idle, backed_out, found_program, stored_program, let_go, is_lock, is_elsewhere, area_values, area_number, record_of, is_free, one_more, with_values}
+use Rattle.dms_model.specs.Db.{Db, Place}
+use Rattle.dms_desc.specs.Lookups.{structure_of, items_of, set_of}
+use Rattle.dms_model.specs.Stores.{put_answer, put_after, linked}
+use Rattle.dms_model.specs.Session.{Session, Outcome, StoreResult, Refused, Keeps, Filled, Misfit, Values', refuse, done, shows, settle, keep, store_step, after_store, begin_step, after_begin, begun, current_of, holds, replies, end_step, after_end, abort_step, find_step, find_for, after_find, found_by, create_step, create_for, owner_for, put_step, put_area, after_put, filled, get_step, get_area, close_step, open_as, open_in, open_step, verb_step, step_at, answered, carried_out, step, with_program, with_work, with_lock, work_of, restart_of, someone_works, is_inquiry, opens, changes, path_of, new_program, place_of, carried, entered, left, without, idle, backed_out, found_program, stored_program, let_go, is_lock, is_elsewhere, area_values, record_of, one_more, with_values}
 use Rattle.dms_laws.specs.Exclusive.{ShareNoLock, AllShareNoLock, AreSafe, AreExclusive, IsExclusive, locks_it, is_locked_for, backs_out, is_done, LocksStayExclusive, LosesNoUpdate, LeavesLocks, BacksOut, locks_left}
 use Rattle.dms_model.specs.Traits.{traits}
 use Rattle.dms_laws.specs.Runs.{after}
@@ -468,9 +468,12 @@ step_at_fair desc (Some p) s name v at ex =
     (fair_if s name v p.owes_abort (record { session = with_program s (place_of name s.programs) (record p { owes_abort = false }); reply = Exception AbortDue name; sync = None; quiets = [] }) _ (due_fair s (place_of name s.programs) p name at ex own v)
     (fair_if s name v (is_inquiry p.mode && changes v) _ _ (fair_refuse s name v ex _ _) (verb_fair desc (place_of name s.programs) p s name v at ex own)))
 
+answered_fair : (s : Session) (name : List ℕ) (v : Verb) (o : Outcome) → Fair s name v o → Fair s name v (answered name o)
+answered_fair s name v o h = record { exclusive = h.exclusive; same = h.same; locks = h.locks }
+
 step_fair : (desc : Described) (s : Session) (name : List ℕ) (v : Verb) → IsExclusive s → Fair s name v (step desc s name v)
-unfolding step
-step_fair desc s name v ex = step_at_fair desc (slice_get s.programs (place_of name s.programs)) s name v refl ex
+unfolding step carried_out
+step_fair desc s name v ex = answered_fair s name v _ (step_at_fair desc (slice_get s.programs (place_of name s.programs)) s name v refl ex)
 
 -- the laws
 
@@ -506,8 +509,11 @@ step_at_back desc (Some p) i s name ex =
     (back_if s (is_inquiry p.mode && true) _ _ (λ h. absurd (cc))
     (back_if s p.in_transaction _ _ (λ h. back_is s p.name ex) (λ h. absurd (cc))))
 
+answered_back : (s : Session) (name : List ℕ) (o : Outcome) → BackIf s o → BackIf s (answered name o)
+answered_back s name o back h = let b = back h in record { db = b.db; mark = b.mark; names = b.names; locks = b.locks; unchanged = b.unchanged }
+
 pub backs_out_so : (desc : Described) (s : Session) (name : List ℕ) (verb : Verb) → IsExclusive s → backs_out verb (step desc s name verb) ≡ true → BacksOut s (step desc s name verb).session
-unfolding step
+unfolding step carried_out
 backs_out_so desc s name OpenUpdate ex h = absurd (cc)
 backs_out_so desc s name OpenInquiry ex h = absurd (cc)
 backs_out_so desc s name Close ex h = absurd (cc)
@@ -518,4 +524,6 @@ backs_out_so desc s name (Get set items) ex h = absurd (cc)
 backs_out_so desc s name (Store set) ex h = absurd (cc)
 backs_out_so desc s name (Begin audit) ex h = absurd (cc)
 backs_out_so desc s name (End audit sync) ex h = absurd (cc)
-backs_out_so desc s name Abort ex h = step_at_back desc (slice_get s.programs (place_of name s.programs)) (place_of name s.programs) s name ex h
+backs_out_so desc s name Abort ex h =
+    let i = place_of name s.programs in
+    answered_back s name (step_at desc (slice_get s.programs i) i s name Abort) (step_at_back desc (slice_get s.programs i) i s name ex) h

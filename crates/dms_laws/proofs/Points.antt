@@ -1,9 +1,9 @@
 -- A quiet point that a step makes has the database that the step leaves.
-use Rattle.std.proofs.Common.{◌≡◌, ℕ, List, [], ◌∷◌, Bool, true, false, cond, Some, None, refl, not, ◌&&◌, ◌||◌, ◌++◌, nat_le, length}
-use Rattle.std.specs.Prelude.{slice_get, slice_set, is_some}
+use Rattle.std.proofs.Common.{◌≡◌, ℕ, List, [], ◌∷◌, Bool, true, false, cond, Some, None, refl, ◌&&◌, ◌||◌, ◌++◌, nat_le, length}
+use Rattle.std.specs.Prelude.{slice_get, slice_set}
 use Rattle.std.specs.List.{AllByRecursion}
 use Rattle.std.specs.declared.option.Option.{Option}
-use Rattle.dms_base.specs.declared.category.Category.TheVariants.{LimitError, NoRecord, AuditError, Abort as AbortDue}
+use Rattle.dms_base.specs.declared.category.Category.TheVariants.{LimitError, AuditError, Abort as AbortDue}
 use Rattle.dms_desc.specs.Shape.{Described}
 use Rattle.dms_model.specs.declared.program.Program.{Program}
 use Rattle.dms_model.specs.declared.program.Area.{Area}
@@ -15,9 +15,9 @@ use Rattle.dms_model.specs.declared.verb.Path.{Path}
 use Rattle.dms_model.specs.declared.verb.Setting.{Setting}
 use Rattle.dms_model.specs.declared.reply.Reply.TheVariants.{Exception}
 use Rattle.dms_model.specs.declared.spot.Spot.{Spot}
-use Rattle.dms_desc.specs.Lookups.{name_of, structure_of, items_of}
+use Rattle.dms_desc.specs.Lookups.{structure_of, items_of}
 use Rattle.dms_model.specs.Points.{Quiet}
-use Rattle.dms_model.specs.Session.{Session, Outcome, StoreResult, Refused, Keeps, Filled, Misfit, Values', refuse, done, settle, keep, store_step, after_store, begin_step, after_begin, begun, end_step, after_end, abort_step, find_step, find_for, after_find, found_by, create_step, create_for, owner_for, put_step, put_area, after_put, filled, get_step, get_area, close_step, open_as, open_in, open_step, verb_step, step_at, step, with_program, work_of, restart_of, someone_works, is_inquiry, opens, changes, path_of, new_program, place_of, without, area_values, left, one_more}
+use Rattle.dms_model.specs.Session.{Session, Outcome, StoreResult, Refused, Keeps, Filled, Misfit, Values', refuse, done, settle, keep, store_step, after_store, begin_step, after_begin, begun, end_step, after_end, abort_step, find_step, find_for, after_find, found_by, create_step, create_for, owner_for, put_step, put_area, after_put, filled, get_step, get_area, close_step, open_as, open_in, open_step, verb_step, step_at, carried_out, step, with_program, work_of, restart_of, someone_works, is_inquiry, opens, changes, path_of, new_program, place_of, without, area_values, left, one_more}
 
 abbrev pub HasPoints : Outcome → Type 0
 HasPoints o = AllByRecursion (λ (q : Quiet). q.1 ≡ o.session.db) o.quiets
@@ -101,5 +101,5 @@ step_at_points desc (Some p) i s name v =
     (points_if (is_inquiry p.mode && changes v) (refuse s _ name) _ tt (verb_points desc i p s v)))
 
 pub step_points : (desc : Described) (s : Session) (name : List ℕ) (v : Verb) → HasPoints (step desc s name v)
-unfolding step
+unfolding step carried_out
 step_points desc s name v = step_at_points desc (slice_get s.programs (place_of name s.programs)) (place_of name s.programs) s name v

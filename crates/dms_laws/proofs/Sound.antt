@@ -1,5 +1,5 @@
 -- Each step leaves a sound session sound.
-use Rattle.std.proofs.Common.{◌≡◌, ◌≤◌, ◌<◌, ◌+◌, ◌-◌, ℕ, zero, suc, List, [], ◌∷◌, ◌++◌, Bool, true, false, cond, eqb, Some, None, refl, sym, ap, ◌∙◌, subst, not, ◌&&◌, ◌||◌, nat_le, length, map, replicate, arith}
+use Rattle.std.proofs.Common.{◌≡◌, ◌≤◌, ◌<◌, ◌+◌, ℕ, List, [], ◌∷◌, ◌++◌, Bool, true, false, cond, eqb, Some, None, refl, sym, ap, ◌∙◌, subst, not, ◌&&◌, ◌||◌, nat_le, length, map, arith}
 use Rattle.std.specs.Prelude.{nat_lt, ◌≢◌, ◌==◌, slice_get, slice_set, is_some}
 use Rattle.dms_base.specs.Fits.{fits}
 use Rattle.std.specs.List.{list_any, AllByRecursion}
@@ -8,7 +8,7 @@ use Rattle.std.specs.FinMap.{get, insert, get-empty, entries, len-entries, len-e
 use Rattle.std.proofs.lemmas.Bool.Decides.{nat_tests}
 use Rattle.dms_base.specs.declared.value.Value.{Value}
 use Rattle.dms_base.specs.declared.value.Value.TheVariants.{Null}
-use Rattle.dms_base.specs.declared.category.Category.TheVariants.{LimitError, NoRecord, AuditError, DataError, NotLocked, Abort as AbortDue}
+use Rattle.dms_base.specs.declared.category.Category.TheVariants.{LimitError, AuditError, Abort as AbortDue}
 use Rattle.dms_desc.specs.declared.structure.Item.{Item}
 use Rattle.dms_desc.specs.declared.record.Record.{Record}
 use Rattle.dms_desc.specs.Shape.{Shape, Described}
@@ -25,17 +25,17 @@ use Rattle.dms_model.specs.declared.verb.Verb.TheVariants.{OpenUpdate, OpenInqui
 use Rattle.dms_model.specs.declared.verb.Path.{Path}
 use Rattle.dms_model.specs.declared.verb.Setting.{Setting}
 use Rattle.dms_model.specs.declared.reply.Reply.TheVariants.{Exception}
-use Rattle.dms_model.specs.declared.put.Put.TheVariants.{Stored, Full}
+use Rattle.dms_model.specs.declared.put.Put.TheVariants.{Stored}
 use Rattle.dms_model.specs.declared.spot.Spot.{Spot}
 use Rattle.dms_model.specs.Db.{Db, Place, fresh, records_of, rows_of, empty_db, place_cmp}
 use Rattle.dms_model.specs.Points.{Quiet}
-use Rattle.dms_desc.specs.Lookups.{name_of, structure_of, items_of, set_of}
-use Rattle.dms_model.specs.Stores.{put_answer, put_unless, is_full, clash, put_after, linked, is_other, old_of, stored, values_of, kept_owner}
-use Rattle.dms_model.specs.Session.{Session, Outcome, StoreResult, Refused, Keeps, Filled, Misfit, Values', refuse, done, settle, keep, store_step, after_store, begin_step, after_begin, begun, current_of, holds, end_step, after_end, abort_step, find_step, find_for, after_find, found_by, create_step, create_for, created, owner_for, put_step, put_area, after_put, filled, get_step, get_area, close_step, open_as, open_in, open_step, verb_step, step_at, step, with_program, with_work, with_values, work_of, no_work, or_none, restart_of, someone_works, is_inquiry, opens, changes, path_of, new_program, place_of, carried, entered, left, without, idle, backed_out, found_program, stored_program, let_go, is_lock, missing_from, verified, area_values, area_number, area_owner, record_of, is_free, one_more}
+use Rattle.dms_desc.specs.Lookups.{structure_of, items_of, set_of}
+use Rattle.dms_model.specs.Stores.{put_answer, is_full, clash, put_after, linked, is_other, old_of, stored, values_of, kept_owner}
+use Rattle.dms_model.specs.Session.{Session, Outcome, StoreResult, Refused, Keeps, Filled, Misfit, Values', refuse, done, settle, keep, store_step, after_store, begin_step, after_begin, begun, current_of, holds, end_step, after_end, abort_step, find_step, find_for, after_find, found_by, create_step, create_for, created, owner_for, put_step, put_area, after_put, filled, get_step, get_area, close_step, open_as, open_in, open_step, verb_step, step_at, carried_out, step, with_program, with_work, with_values, work_of, restart_of, someone_works, is_inquiry, opens, changes, path_of, new_program, place_of, carried, entered, left, without, idle, backed_out, found_program, stored_program, let_go, is_lock, missing_from, verified, area_values, area_owner, record_of, one_more}
 use Rattle.dms_laws.specs.Exclusive.{AreSafe, IsExclusive, locks_it}
 use Rattle.dms_model.specs.Spoken.{IsOuter, IsPlainLiteral}
 use Rattle.dms_model.specs.Valid.{OfItems, IsValid, is_data_set, is_set, link_stands, owner_stands}
-use Rattle.dms_laws.specs.Made.{IsWellMade, items_under, compares_no_link, has_no_link}
+use Rattle.dms_laws.specs.Made.{IsWellMade, items_under, compares_no_link}
 use Rattle.dms_laws.specs.Runs.{after}
 use Rattle.dms_laws.specs.Sound.{AllNameOuter, IsSound, NamesOuter, IsFlat, StaysSound}
 use Rattle.dms_laws.proofs.Counts.{count_insert, count_replace}
@@ -433,7 +433,7 @@ step_at_leaves desc made (Some p) i s name v outer at ex sane =
     (leaves_if desc (is_inquiry p.mode && changes v) (refuse s _ name) _ sane (verb_leaves desc made i p s v outer at ex sane)))
 
 step_leaves : (desc : Described) → IsWellMade desc → (s : Session) (name : List ℕ) (v : Verb) → NamesOuter desc v → IsExclusive s → Sane desc s.db s.mark s.programs → Leaves desc (step desc s name v)
-unfolding step
+unfolding step carried_out
 step_leaves desc made s name v outer ex sane = step_at_leaves desc made (slice_get s.programs (place_of name s.programs)) (place_of name s.programs) s name v outer refl ex sane
 
 -- the database of no record

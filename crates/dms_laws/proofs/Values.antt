@@ -1,34 +1,22 @@
 -- Values of areas and of records: what fits, and what storing makes of them.
-use Rattle.std.proofs.Common.{◌≡◌, ◌<◌, ◌+◌, ◌-◌, ℕ, zero, suc, List, [], ◌∷◌, Bool, true, false, cond, eqb, Some, None, refl, sym, ap, ◌∙◌, subst, ◌&&◌, ◌||◌, not, length, map, arith}
-use Rattle.std.specs.Prelude.{◌≢◌, slice_get, slice_set, is_some, IsTrue, IfSome, option_map}
-use Rattle.std.specs.List.{AllByRecursion}
+use Rattle.std.proofs.Common.{◌≡◌, ◌+◌, ◌-◌, ℕ, zero, suc, List, [], ◌∷◌, Bool, true, false, cond, Some, None, refl, ap, ◌∙◌, ◌&&◌, ◌||◌, not, arith}
+use Rattle.std.specs.Prelude.{slice_get}
 use Rattle.std.specs.declared.option.Option.{Option}
 use Rattle.std.specs.FinMap.{insert}
-use Rattle.std.proofs.lemmas.Option.{slice_get-map, slice_get_within}
-use Rattle.std.proofs.lemmas.List.{length-set, length-map}
-use Rattle.std.proofs.lemmas.Bool.Decides.{nat_tests}
 use Rattle.dms_base.specs.declared.value.Value.{Value}
 use Rattle.dms_base.specs.declared.value.Value.TheVariants.{Null, Text, Number, Bool as Truth, Bits, Link as Reference}
 use Rattle.dms_base.specs.declared.kind.ItemKind.{ItemKind}
 use Rattle.dms_base.specs.declared.kind.ItemKind.TheVariants.{Alpha, Number as Decimal, Bool as OneBit, Field, Link}
-use Rattle.dms_base.specs.declared.kind.Literal.{Literal}
-use Rattle.dms_base.specs.declared.kind.Literal.TheVariants.{Null as NoValue, Text as Quoted, Number as Digits, Bool as Word}
-use Rattle.dms_base.specs.Fits.{fits, value_of, ranged, bits_of, scaled}
-use Rattle.dms_base.specs.Spelling.{value_for, is_kind, is_literal}
-use Rattle.dms_base.proofs.Spelled.{value_of_fits}
 use Rattle.dms_desc.specs.declared.structure.Item.{Item}
 use Rattle.dms_desc.specs.declared.structure.KeyPart.{KeyPart}
 use Rattle.dms_desc.specs.declared.record.Record.{Record}
 use Rattle.dms_desc.specs.Shape.{Tree, Empty, Test, Both, Either, Contrary}
 use Rattle.dms_desc.specs.Conds.{is_null, or_null, meets, compares}
-use Rattle.dms_desc.specs.Plain.{IsPlain, ArePlain}
-use Rattle.dms_model.specs.declared.verb.Setting.{Setting}
 use Rattle.dms_model.specs.Db.{Records, Place}
 use Rattle.dms_desc.specs.Keys.{key_of}
 use Rattle.dms_desc.specs.Kinds.{is_link}
-use Rattle.dms_model.specs.Stores.{kept_value, linked_from}
-use Rattle.dms_model.specs.Session.{missing_from, fitted, setting_value, filled, Filled, Misfit, Values', item_name}
-use Rattle.dms_model.specs.Spoken.{IsPlainLiteral}
+use Rattle.dms_model.specs.Stores.{linked_from}
+use Rattle.dms_model.specs.Session.{missing_from}
 use Rattle.dms_model.specs.Valid.{OfItems, value_at, refers, link_stands}
 use Rattle.dms_model.specs.Stores.{is_link_item}
 use Rattle.dms_laws.specs.Made.{compares_no_link, has_no_link}

@@ -3,6 +3,8 @@
 
 mod exclusive;
 mod valid;
+mod waits;
 
 pub use exclusive::{back_out_law, exclusive_law, holder_law, lock_law, update_law};
 pub use valid::{empty_law, member_law, run_law, valid_law};
+pub use waits::wait_law;

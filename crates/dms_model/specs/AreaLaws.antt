@@ -1,6 +1,6 @@
 -- What programs have at hand still fits behind what verbs do to it.
 use Rattle.std.proofs.Common.{◌≡◌, ◌≤◌, ◌-◌, ◌∙◌, ℕ, zero, suc, List, [], ◌∷◌, Bool, true, false, cond, eqb, Some, None, refl, sym, ap, subst, map, replicate, length, arith}
-use Rattle.std.specs.Prelude.{slice_get, slice_set, IsTrue, IfSome}
+use Rattle.std.specs.Prelude.{slice_get, slice_set, IsTrue}
 use Rattle.std.specs.List.{AllByRecursion, list_any}
 use Rattle.std.specs.declared.option.Option.{Option}
 use Rattle.std.proofs.lemmas.Bool.Decides.{nat_tests}
@@ -16,9 +16,9 @@ use Rattle.dms_model.specs.declared.program.Work.{Work}
 use Rattle.dms_model.specs.declared.spot.Spot.{Spot}
 use Rattle.dms_model.specs.declared.verb.Setting.{Setting}
 use Rattle.dms_model.specs.Areas.{OfWorks, AreaFits, WorkFits, WorksFit, InitialsFit}
-use Rattle.dms_model.specs.Fitting.{AreFitting, IsNumber, RecordFits, SpotFits, is_number}
+use Rattle.dms_model.specs.Fitting.{AreFitting, IsNumber, SpotFits, is_number}
 use Rattle.dms_model.specs.FitLaws.{filled_fits, FilledFits, get_set_other}
-use Rattle.dms_model.specs.Session.{area_values, backed_out, filled, Filled, Misfit, Values', found_program, is_lock, let_go, new_program, no_work, or_none, with_lock, with_values, with_work, work_of, created, owner_for, owner_in}
+use Rattle.dms_model.specs.Session.{area_values, backed_out, filled, Filled, Values', found_program, is_lock, let_go, new_program, no_work, or_none, with_lock, with_values, with_work, work_of, created, owner_for, owner_in}
 use Rattle.dms_model.specs.Spoken.{IsOuter, IsPlainLiteral}
 use Rattle.dms_model.specs.Valid.{owner_of}
 

@@ -1,6 +1,6 @@
 -- Values that fit: what a literal spells, what a PUT leaves, initial values, and what is stored.
-use Rattle.std.proofs.Common.{◌≡◌, ◌≤◌, ◌<◌, ◌+◌, ◌-◌, ◌^◌, ℕ, zero, suc, List, [], ◌∷◌, Bool, true, false, cond, eqb, Some, None, refl, sym, ap, ◌∙◌, subst, ◌&&◌, ◌||◌, not, length, map, arith}
-use Rattle.std.specs.Prelude.{◌≢◌, slice_get, slice_set, is_some, IsTrue, IfSome, option_map, nat_le, nat_lt}
+use Rattle.std.proofs.Common.{◌≡◌, ◌≤◌, ◌<◌, ◌+◌, ◌-◌, ◌^◌, ℕ, zero, suc, List, [], ◌∷◌, Bool, true, false, cond, eqb, Some, None, refl, sym, ap, ◌∙◌, subst, ◌&&◌, length, map, arith}
+use Rattle.std.specs.Prelude.{◌≢◌, slice_get, slice_set, is_some, IsTrue, IfSome, option_map, nat_le}
 use Rattle.std.specs.List.{AllByRecursion}
 use Rattle.std.specs.declared.option.Option.{Option}
 use Rattle.std.specs.FinMap.{get, insert, get-insert}
@@ -33,7 +33,7 @@ use Rattle.dms_model.specs.Fresh.{fresh_below, fresh_from_one}
 use Rattle.dms_model.specs.Places.{place_is, places_total}
 use Rattle.dms_model.specs.Session.{fitted, setting_value, filled, Filled, Misfit, Values', item_name}
 use Rattle.dms_model.specs.Spoken.{IsPlainLiteral}
-use Rattle.dms_model.specs.Stores.{clash, is_full, is_link_item, judged, kept_owner, kept_value, linked, linked_from, old_of, put_after, put_answer, put_number, put_unless, stored, values_of}
+use Rattle.dms_model.specs.Stores.{clash, is_full, is_link_item, kept_owner, kept_value, linked_from, old_of, put_after, put_answer, put_number, put_unless, stored, values_of}
 use Rattle.dms_model.specs.Valid.{OfItems, value_at}
 
 -- a list with one value set

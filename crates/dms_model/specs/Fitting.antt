@@ -1,5 +1,5 @@
 -- What a store takes and answers: structures of their kinds, numbers of records, values that fit, bounds of keys.
-use Rattle.std.specs.Prelude.{◌≡◌, ◌≤◌, ◌<◌, ◌+◌, ◌-◌, ◌^◌, ℕ, List, [], ◌∷◌, Bool, true, false, ◌&&◌, nat_le, Some, None, IsTrue, IfSome, ⊤, is_some, length, slice_get}
+use Rattle.std.specs.Prelude.{◌≡◌, ◌<◌, ◌+◌, ◌-◌, ◌^◌, ℕ, List, [], ◌∷◌, Bool, true, false, ◌&&◌, nat_le, Some, None, IsTrue, IfSome, ⊤, is_some, length, slice_get}
 use Rattle.std.specs.declared.option.Option.{Option}
 use Rattle.std.specs.FinMap.{get}
 use Rattle.dms_base.specs.declared.value.Value.{Value}
@@ -103,10 +103,11 @@ pub record MayStart (desc : Described) (path owner : ℕ) (bound : Bound) : Type
 abbrev pub HasRecord : Db → ℕ → ℕ → Type 0
 HasRecord db set n = IsTrue (is_some (get db.records (set, n)))
 
--- This record may be stored, under the number that is named or as a new one: its owner's record stands, and it has no owner where
--- its data set is disjoint; the record that it replaces stands; no REQUIRED item is null, and VERIFY is met
+-- This record may be stored, under the number that is named or as a new one. The owner's record of a new one stands, and it has no
+-- owner where its data set is disjoint; the record that it replaces stands, and keeps its owner. No REQUIRED item is null, and
+-- VERIFY is met
 pub record MayPut (desc : Described) (db : Db) (set : ℕ) (number : Option ℕ) (rec : Record) : Type 0 where
-  pub owner : IsTrue (owner_stands db.records (owner_of (structure_of desc set)) rec.owner)
+  pub owner : number ≡ None → IsTrue (owner_stands db.records (owner_of (structure_of desc set)) rec.owner)
   pub replaced : IfSome number (HasRecord db set)
   pub required : missing_from 0 (items_of (structure_of desc set)) rec.values ≡ None
   pub verified : verified (structure_of desc set) rec.values ≡ true

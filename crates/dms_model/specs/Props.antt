@@ -1,7 +1,7 @@
 -- That records, and what programs have at hand, fit is a fact, of which there is one proof at most.
 use Rattle.std.proofs.Common.{◌≡◌, List, [], ◌∷◌, ℕ, Some, None}
 use Rattle.std.proofs.Props.{props}
-use Rattle.std.specs.Prelude.{IfSome, IsTrue}
+use Rattle.std.specs.Prelude.{IfSome}
 use Rattle.std.specs.List.{AllByRecursion-prop}
 use Rattle.std.specs.Coded.{×_prop, Unit-prop}
 use Rattle.std.specs.declared.option.Option.{Option}

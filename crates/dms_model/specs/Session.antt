@@ -22,6 +22,7 @@ use Rattle.dms_model.specs.declared.program.Area.{Area}
 use Rattle.dms_model.specs.declared.program.Area.TheVariants.{New, Old}
 use Rattle.dms_model.specs.declared.program.Work.{Work}
 use Rattle.dms_model.specs.declared.program.Lock.{Lock}
+use Rattle.dms_model.specs.declared.program.Wait.{Wait}
 use Rattle.dms_model.specs.declared.verb.Verb.{Verb}
 use Rattle.dms_model.specs.declared.verb.Verb.TheVariants.{OpenUpdate, OpenInquiry, Close, Find, Create, Put as PutItems, Get, Store, Begin, End, Abort}
 use Rattle.dms_model.specs.declared.verb.Path.{Path}
@@ -41,8 +42,8 @@ use Rattle.dms_model.specs.Traits.{traits}
 use Rattle.dms_model.specs.Valid.{owner_of}
 
 -- what the verbs change: the database, that of the last quiet point or else of the beginning, the number of the next quiet
--- point, the open programs in the order of their opening (each with its locks), whether a syncpoint is pending, and the
--- transactions that ended since the last one
+-- point, the open programs in the order of their opening (each with its locks), whether a syncpoint is pending, the
+-- transactions that ended since the last one, and for which programs a program waits
 pub record Session : Type 0 where
   pub db : Db
   pub mark : Db
@@ -50,6 +51,7 @@ pub record Session : Type 0 where
   pub programs : List Program
   pub pending : Bool
   pub since : ℕ
+  pub waits : List Wait
 
 -- what a step gives: the session after it, the reply, the syncpoint that it took, and the quiet point that it made
 pub record Outcome : Type 0 where
@@ -534,9 +536,30 @@ step_at desc (Some p) i s name verb =
     else (if is_inquiry p.mode && changes verb then refuse s ReadOnly name
     else verb_step desc i p s verb))
 
--- one step of a program
+-- what a verb of a program answers and leaves, whoever waits
+unfoldable pub carried_out : Described → Session → List ℕ → Verb → Outcome
+carried_out desc s name verb = step_at desc (slice_get s.programs (place_of name s.programs)) (place_of name s.programs) s name verb
+
+-- Waits
+
+-- the wait is another program's
+abbrev pub is_of_other : List ℕ → Wait → Bool
+is_of_other name w = not (bytes_eq w.program name)
+
+-- The waits once a program is answered: those of the other programs are as they were. The reply Waits begins its wait, and every
+-- other reply ends it
+abbrev pub waits_after : List ℕ → Reply → List Wait → List Wait
+waits_after name (Done text) ws = filter (is_of_other name) ws
+waits_after name (Exception category item) ws = filter (is_of_other name) ws
+waits_after name (Waits who) ws = filter (is_of_other name) ws ++ record { program = name; who = who } ∷ []
+
+-- an outcome, once its program is answered
+abbrev pub answered : List ℕ → Outcome → Outcome
+answered name o = record o { session = record o.session { waits = waits_after name o.reply o.session.waits } }
+
+-- one step of a program: its verb is carried out, and it is answered
 unfoldable pub step : Described → Session → List ℕ → Verb → Outcome
-step desc s name verb = step_at desc (slice_get s.programs (place_of name s.programs)) (place_of name s.programs) s name verb
+step desc s name verb = answered name (carried_out desc s name verb)
 
 -- the silent back-out at the end, where a program is in transaction state
 abbrev pub ended : Session → Session
@@ -544,7 +567,7 @@ ended s = if someone_works s.programs then record s { db = s.mark } else s
 
 -- a session without programs over a database
 abbrev pub fresh_session : Db → ℕ → Session
-fresh_session db first = record { db = db; mark = db; next = first; programs = []; pending = false; since = 0 }
+fresh_session db first = record { db = db; mark = db; next = first; programs = []; pending = false; since = 0; waits = [] }
 
 -- a reply that says for whom a line waits
 abbrev pub is_waits : Reply → Bool

@@ -1,5 +1,5 @@
 -- What the verbs of a line may name and set.
-use Rattle.std.specs.Prelude.{◌≡◌, ℕ, true, Some}
+use Rattle.std.specs.Prelude.{◌≡◌, true}
 use Rattle.std.specs.declared.option.Option.{Option}
 use Rattle.dms_base.specs.declared.kind.Literal.{Literal}
 use Rattle.dms_base.specs.declared.kind.Literal.TheVariants.{Null, Text, Number, Bool as Word}

@@ -1,5 +1,5 @@
 -- What holds where nothing of a list of refusals does: of storing, and of BEGIN.
-use Rattle.std.proofs.Common.{◌≡◌, ℕ, List, [], ◌∷◌, Bool, true, false, cond, Some, None, refl, sym, ap, ◌∙◌, subst, not, length}
+use Rattle.std.proofs.Common.{◌≡◌, ℕ, List, [], ◌∷◌, Bool, true, false, cond, Some, None, refl, sym, not, length}
 use Rattle.std.specs.Prelude.{is_some}
 use Rattle.std.specs.List.{AllByRecursion}
 use Rattle.std.specs.declared.option.Option.{Option}
@@ -11,10 +11,9 @@ use Rattle.dms_model.specs.declared.program.Program.{Program}
 use Rattle.dms_model.specs.declared.put.Put.{Put}
 use Rattle.dms_model.specs.declared.put.Put.TheVariants.{Stored, Duplicate, Full}
 use Rattle.dms_model.specs.declared.reply.Reply.{Reply}
-use Rattle.dms_model.specs.declared.reply.Reply.TheVariants.{Waits}
 use Rattle.dms_model.specs.Db.{Db, fresh, records_of}
-use Rattle.dms_model.specs.Session.{StoreResult, Refused, Keeps, area_answer, area_of, area_refusals, area_values, awaited, begin_refusals, begun, begun_with, current_of, first_held, has_some, is_duplicate, is_free, is_full_answer, keep, kept_with, lacks_area, missing_from, number_of, or_no_area, put_of, record_of, restart_of, stored_program, storing, unless, verified, Session}
-use Rattle.dms_model.specs.Stores.{clash, is_full, put_after, put_answer, put_number, put_unless, stored}
+use Rattle.dms_model.specs.Session.{StoreResult, Refused, Keeps, area_answer, area_of, area_refusals, area_values, awaited, begin_refusals, begun, begun_with, current_of, first_held, is_free, keep, lacks_area, missing_from, or_no_area, put_of, record_of, restart_of, stored_program, storing, unless, verified, Session}
+use Rattle.dms_model.specs.Stores.{clash, is_full, put_after, put_answer, put_unless, stored}
 
 -- the answers of a list, and what follows where none of its conditions holds
 abbrev pub AllAnswers : (Reply → Type 0) → List (Bool × Reply) → Type 0

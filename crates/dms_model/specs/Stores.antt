@@ -1,5 +1,5 @@
 -- What storing a record answers, and what it leaves.
-use Rattle.std.specs.Prelude.{◌≡◌, ℕ, ◌+◌, List, [], ◌∷◌, Bool, true, false, not, ◌&&◌, ◌==◌, Some, None, ⊤, if◌then◌else◌, nat_le, nat_lt, length, IfOk, is_some, slice_get}
+use Rattle.std.specs.Prelude.{◌≡◌, ℕ, ◌+◌, List, [], ◌∷◌, Bool, true, false, not, ◌&&◌, ◌==◌, Some, None, ⊤, if◌then◌else◌, nat_le, nat_lt, length, IfOk, slice_get}
 use Rattle.std.specs.declared.option.Option.{Option}
 use Rattle.std.specs.declared.result.Result.{Result}
 use Rattle.std.specs.FinMap.{insert, get, entries}

@@ -17,13 +17,13 @@ pub record Traits : Type 0 where
   -- it may store a record
   pub stores : Bool
   -- it takes no memory
-  pub spares : Bool
+  pub takes_none : Bool
   -- the data set whose area it makes or changes, and by which settings: one of the outer level
   pub outer : Option ℕ
   pub settings : List Setting
 
 abbrev pub row : Option Mode → Bool → Bool → Bool → Bool → Option ℕ → List Setting → Traits
-row opens changes backs_out stores spares outer settings = record { opens = opens; changes = changes; backs_out = backs_out; stores = stores; spares = spares; outer = outer; settings = settings }
+row opens changes backs_out stores takes_none outer settings = record { opens = opens; changes = changes; backs_out = backs_out; stores = stores; takes_none = takes_none; outer = outer; settings = settings }
 
 -- the columns: opens, changes, backs out, stores, takes no memory, its outer data set, its settings
 abbrev pub traits : Verb → Traits

@@ -1,5 +1,5 @@
 use crate::{Locks, Works};
-use dms_base::Name;
+use dms_base::{Name, Names};
 use dms_desc::Values;
 
 /// For what a program opened the database.
@@ -31,6 +31,13 @@ pub struct Work {
 pub struct Lock {
     pub set: u16,
     pub number: u64,
+}
+
+/// A program whose line waits, and for which programs it does.
+#[derive(Debug, Drop)]
+pub struct Wait {
+    pub program: Name,
+    pub who: Names,
 }
 
 /// An open program.

@@ -88,8 +88,8 @@ pub trait Store {
         ensures causes { HasCauses result (seen self.old) (seen self.new) };
 
     /// Stores a new record of a data set under the least free number, with null links, or replaces all items but the
-    /// links of the record with this number, which keeps its owner. It does so where that record and the record's owner
-    /// stand, no REQUIRED item is null and VERIFY is met.
+    /// links of the record with this number, which keeps its owner. It does so where that record stands, or the owner of
+    /// a new one, no REQUIRED item is null and VERIFY is met.
     fn put(
         &mut self,
         alloc: Global,

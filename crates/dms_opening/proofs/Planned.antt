@@ -68,12 +68,12 @@ found_front p (x ∷ xs) ys found = go (p x) (has p xs) found (λ more. found_fr
 
 front_has : (p : Event → Bool) (xs : List Event) → has p xs ≡ true → has p (until_first p xs) ≡ true
 front_has p [] found = found
-front_has p (x ∷ xs) found = go (p x) (has p xs) refl refl found
+front_has p (x ∷ xs) found = go (p x) (has p xs) refl refl found (λ more. front_has p xs more)
   where
-    go : (a b : Bool) → p x ≡ a → has p xs ≡ b → a || b ≡ true → has p (cond a (x ∷ []) (cond b (x ∷ until_first p xs) [])) ≡ true
-    go true b one two found = ap (λ k. k || false) one
-    go false true one two found = λ i. one i || front_has p xs two i
-    go false false one two found = absurd (true_not_false (sym found))
+    go : (a b : Bool) → p x ≡ a → has p xs ≡ b → a || b ≡ true → (has p xs ≡ true → has p (until_first p xs) ≡ true) → has p (cond a (x ∷ []) (cond b (x ∷ until_first p xs) [])) ≡ true
+    go true b one two found more = ap (λ k. k || false) one
+    go false true one two found more = λ i. one i || more two i
+    go false false one two found more = absurd (true_not_false (sym found))
 
 -- a point that is live is so in what a cut at its place leaves, and whatever follows
 live_front : (xs ys rest : List Event) (n : ℕ) → IsLive xs n → ys ≡ until_first (is_point n) xs ++ rest → IsLive ys n

@@ -1,23 +1,34 @@
 -- What the points that files hold say of their entries.
-use Rattle.std.proofs.Common.{ℕ, ◌≡◌, ◌≤◌, ◌<◌, ◌==◌, ◌||◌, ◌∙◌, List, [], ◌∷◌, ◌++◌, Bool, true, false, refl, subst, ap, arith, Some}
+use Rattle.std.proofs.Common.{ℕ, ◌≡◌, ◌≤◌, ◌<◌, ◌==◌, ◌||◌, ◌∙◌, List, [], ◌∷◌, ◌++◌, map, Bool, true, false, refl, sym, subst, ap, arith, Some}
 use Rattle.std.proofs.lemmas.Bool.Decides.{nat_tests}
 use Rattle.dms_desc.specs.Shape.{Described}
+use Rattle.dms_desc_bytes.specs.Spelling.{spelling}
+use Rattle.dms_desc_bytes.specs.WellFormed.{IsWellFormed}
 use Rattle.dms_history.specs.Events.{Event, Stored}
-use Rattle.dms_history.specs.EntryEvents.{history_of, live_of, next_of}
+use Rattle.dms_history.specs.Entries.{Entry}
+use Rattle.dms_history.specs.EntryEvents.{history_of, live_of, next_of, Agrees}
+use Rattle.dms_history.specs.History.{last_point}
+use Rattle.dms_history.specs.Pick.{blocks_at}
+use Rattle.dms_history.specs.Places.{IsLive}
+use Rattle.dms_history.specs.SchemaAt.{schema_at}
 use Rattle.dms_history.specs.Here.{here}
 use Rattle.dms_history.specs.Lists.{has}
-use Rattle.dms_history.specs.Points.{LivePoint, HasPoint, AllLive, AllAbove, Rises, ListsPoints, numbers_of}
+use Rattle.dms_history.specs.Points.{LivePoint, live_points, HasPoint, AllLive, AllAbove, Rises, ListsPoints, numbers_of}
 use Rattle.dms_history.proofs.Listed.{points_listed}
 use Rattle.dms_history.proofs.Order.{last_lives}
 use Rattle.dms_model.specs.Db.{Db}
-use Rattle.dms_running.specs.Telling.{Telling}
 use Rattle.dms_running.specs.Standing.{IsWhole}
-use Rattle.dms_running.specs.Points.{points_of}
+use Rattle.dms_running.specs.Points.{DescribedPoint, described_in, points_of}
+use Rattle.dms_running.proofs.Described.{schema_there}
 use Rattle.dms_running.proofs.Wholes.{whole_agrees}
 use Rattle.dms_site.specs.Files.{Files, stored_of}
 use Rattle.dms_store.specs.Spelled.{spelled}
+use Rattle.dms_audfile.specs.TrailEntries.{trail_entries}
+use Rattle.dms_restore.specs.Dumped.{dumps_of}
+use Rattle.dms_restore.specs.Logging.{telling_of}
 use Rattle.dms_run.specs.States.{LivesEndWith}
-use Rattle.dms_run.specs.Files.{EntriesStandAt, EntriesStandFor, StandsLaw}
+use Rattle.dms_run.specs.State.{StateAt}
+use Rattle.dms_run.specs.Files.{StandsLaw}
 
 -- one of the live points
 one_of : (live : List Event) (counted : Stored) (front after : List LivePoint) (p : LivePoint) → AllLive live counted (front ++ p ∷ after) → HasPoint live counted p.number p.blocks
@@ -46,43 +57,95 @@ numbers_end : (xs : List LivePoint) (p : LivePoint) → numbers_of (xs ++ p ∷ 
 numbers_end [] p = refl
 numbers_end (x ∷ xs) p = ap (λ (l : List ℕ). x.number ∷ l) (numbers_end xs p)
 
+-- ---- points without their Schemas
+
+-- the live point that stands there under its Schema
+record Bare (es : List Entry) (ps : List LivePoint) (before : List DescribedPoint) (p : DescribedPoint) (behind : List DescribedPoint) : Type 0 where
+  front : List LivePoint
+  point : LivePoint
+  after : List LivePoint
+  are : ps ≡ front ++ point ∷ after
+  is : described_in es point ≡ p
+  rest : map (described_in es) after ≡ behind
+
+bare_of : (es : List Entry) (ps : List LivePoint) (before : List DescribedPoint) (p : DescribedPoint) (behind : List DescribedPoint) → map (described_in es) ps ≡ before ++ p ∷ behind → Bare es ps before p behind
+bare_of es [] [] p behind e = absurd (cc)
+bare_of es [] (b ∷ bs) p behind e = absurd (cc)
+bare_of es (x ∷ xs) [] p behind e = record { front = []; point = x; after = xs; are = refl; is = cc; rest = cc }
+bare_of es (x ∷ xs) (b ∷ bs) p behind e =
+    let tails : map (described_in es) xs ≡ bs ++ p ∷ behind = cc in
+    let r = bare_of es xs bs p behind tails in
+    record { front = x ∷ r.front; point = r.point; after = r.after; are = ap (λ (l : List LivePoint). x ∷ l) r.are; is = r.is; rest = r.rest }
+
+none_behind : (es : List Entry) (ps : List LivePoint) → map (described_in es) ps ≡ [] → ps ≡ []
+none_behind es [] e = refl
+none_behind es (p ∷ ps) e = absurd (cc)
+
 -- ----
 
-module _ (t : Telling) (files : Files) (desc : Described) (w : IsWhole t files) where
+module _ (total first : ℕ) (files : Files) (desc : Described) (well : IsWellFormed desc) (w : IsWhole (telling_of total first) files) where
+  abbrev entries : List Entry
+  entries = trail_entries total first files
+
   abbrev live : List Event
-  live = live_of (t.entries files)
+  live = live_of entries
 
   abbrev counted : Stored
-  counted = here (t.dumps files) (history_of (t.entries files)) (stored_of files)
+  counted = here (dumps_of files) (history_of entries) (stored_of files)
 
-  listed : ListsPoints live counted (points_of t files)
-  listed = points_listed live (next_of (t.entries files)) counted w.stands.kept.numbered
+  -- the points without their Schemas
+  abbrev bare_points : List LivePoint
+  bare_points = live_points live counted
 
-  has_point : (front after : List LivePoint) (p : LivePoint) → points_of t files ≡ front ++ p ∷ after → HasPoint live counted p.number p.blocks
-  has_point front after p are = one_of live counted front after p (subst (AllLive live counted) are listed.lives)
+  listed : ListsPoints live counted bare_points
+  listed = points_listed live (next_of entries) counted w.stands.kept.numbered
 
-  pub stands_at : (front after : List LivePoint) (p : LivePoint) (n : ℕ) (db : Db) → points_of t files ≡ front ++ p ∷ after → p.number ≡ n → spelled desc p.blocks ≡ Some db → EntriesStandAt t files n desc db
-  stands_at front after p n db are number spells =
-      let h = has_point front after p are in
-      subst (λ (k : ℕ). EntriesStandAt t files k desc db) number (record {
-        agrees = whole_agrees t files w;
-        lives = h.lives;
-        spells = ap (spelled desc) h.same ∙ spells;
-      })
+  agrees : Agrees (w.found.finds.trail.first == 10001) entries (dumps_of files) (stored_of files)
+  agrees = subst (λ (k : ℕ). Agrees (k == 10001) entries (dumps_of files) (stored_of files)) (sym w.found.first_is) (whole_agrees (telling_of total first) files w)
 
-  pub stands_last : (n : ℕ) (db : Db) → LivesEndWith desc (points_of t files) n db → EntriesStandFor t files n desc db
-  stands_last n db s =
-      let here_at = stands_at s.before [] s.point n db s.are s.number s.spells in
-      let l = (last_lives (history_of (t.entries files)) (next_of (t.entries files)) w.stands.kept.numbered).points n here_at.lives in
-      let numbers : numbers_of (points_of t files) ≡ numbers_of s.before ++ s.point.number ∷ [] = ap numbers_of s.are ∙ numbers_end s.before s.point in
-      let top : l.last ≤ s.point.number =
-      greatest (numbers_of s.before) s.point.number l.last (subst Rises numbers listed.rises)
-      (subst (λ (ns : List ℕ). has (λ (k : ℕ). k == l.last) ns ≡ true) numbers (listed.all l.last l.lives)) in
-      let same : l.last ≡ n = omega (arith, top, l.not_above, s.number) in
-      record { at_point = here_at; last = l.is ∙ ap (λ (k : ℕ). Some k) same }
+  -- what the entries tell at a point
+  abbrev TellsAt : ℕ → Db → Type 0
+  TellsAt n db = IsLive live n × (schema_at entries n ≡ Some (spelling desc)) × (spelled desc (blocks_at live counted n) ≡ Some db)
+
+  abbrev state_by : (n : ℕ) (db : Db) → TellsAt n db → StateAt files n desc db
+  state_by n db t = record { entries = entries; finds = w.found.finds; agrees = agrees; lives = t.0; described = t.1; well_formed = well; spells = t.2 }
+
+  module _ (front after : List DescribedPoint) (p : DescribedPoint) (n : ℕ) (db : Db) (are : points_of (telling_of total first) files ≡ front ++ p ∷ after) (number : p.number ≡ n) (schema : p.schema ≡ spelling desc)
+      (spells : spelled desc p.blocks ≡ Some db) where
+    abbrev bare_one : Bare entries bare_points front p after
+    bare_one = bare_of entries bare_points front p after are
+
+    has_point : HasPoint live counted bare_one.point.number bare_one.point.blocks
+    has_point = one_of live counted bare_one.front bare_one.after bare_one.point (subst (AllLive live counted) bare_one.are listed.lives)
+
+    same_number_there : bare_one.point.number ≡ n
+    same_number_there = ap (λ (q : DescribedPoint). q.number) bare_one.is ∙ number
+
+    tells_at : TellsAt n db
+    tells_at = subst (λ (k : ℕ). TellsAt k db) same_number_there (
+      has_point.lives,
+      schema_there entries bare_one.point.number has_point.lives ∙ ap (λ (l : List ℕ). Some l) (ap (λ (q : DescribedPoint). q.schema) bare_one.is ∙ schema),
+      ap (spelled desc) (has_point.same ∙ ap (λ (q : DescribedPoint). q.blocks) bare_one.is) ∙ spells,
+    )
+
+    -- the last of them is the last point
+    last_at : after ≡ [] → last_point (history_of entries) ≡ Some n
+    last_at none =
+        let l = (last_lives (history_of entries) (next_of entries) w.stands.kept.numbered).points bare_one.point.number has_point.lives in
+        let ends : bare_points ≡ bare_one.front ++ bare_one.point ∷ [] = bare_one.are ∙ ap (λ (r : List LivePoint). bare_one.front ++ bare_one.point ∷ r) (none_behind entries bare_one.after (bare_one.rest ∙ none)) in
+        let numbers : numbers_of bare_points ≡ numbers_of bare_one.front ++ bare_one.point.number ∷ [] = ap numbers_of ends ∙ numbers_end bare_one.front bare_one.point in
+        let top : l.last ≤ bare_one.point.number =
+        greatest (numbers_of bare_one.front) bare_one.point.number l.last (subst Rises numbers listed.rises)
+        (subst (λ (ns : List ℕ). has (λ (k : ℕ). k == l.last) ns ≡ true) numbers (listed.all l.last l.lives)) in
+        let same : l.last ≡ n = omega (arith, top, l.not_above, same_number_there) in
+        l.is ∙ ap (λ (k : ℕ). Some k) same
 
 pub stands : StandsLaw
 stands = record {
-  at = λ t files desc q w h. stands_at t files desc w h.before h.after h.point q.0 q.1 h.are h.number h.spells;
-  last = λ t files desc n db w s. stands_last t files desc w n db s;
+  at = λ total first files desc q well w h. state_by total first files desc well w q.0 q.1 (tells_at total first files desc well w h.before h.after h.point q.0 q.1 h.are h.number h.schema h.spells);
+  last = λ total first files desc n db well w s. record {
+    at_point = state_by total first files desc well w n db (tells_at total first files desc well w s.before [] s.point n db s.are s.number s.schema s.spells);
+    last = last_at total first files desc well w s.before [] s.point n db s.are s.number s.schema s.spells refl;
+  };
+  next = λ total first files w. record { entries = trail_entries total first files; finds = w.found.finds; is = refl };
 }

@@ -7,20 +7,20 @@ use Rattle.dms_block.specs.Content.{Content}
 use Rattle.dms_block.specs.Held.{BlockPoint}
 use Rattle.dms_desc.specs.Shape.{Described}
 use Rattle.dms_desc_bytes.specs.Spelling.{spelling}
-use Rattle.dms_history.specs.Points.{LivePoint}
 use Rattle.dms_model.specs.Db.{Db}
 use Rattle.dms_model.specs.Points.{Point, Quiet, told, known}
 use Rattle.dms_runner.specs.Answers.{last_quiet}
+use Rattle.dms_running.specs.Points.{DescribedPoint}
 use Rattle.dms_store.specs.Lifted.{point_of, db_of}
 use Rattle.dms_store.specs.Spelled.{spelled}
-use Rattle.dms_wal.specs.Lifting.{point_under}
+use Rattle.dms_wal.specs.Lifting.{block_point}
 use Rattle.dms_run.specs.States.{EndsWith, BlocksEndWith, LivesEndWith}
 use Rattle.dms_run.specs.Stops.{last_quiet_number, IsOneOf}
 use Rattle.dms_run.specs.Laws.{AllowsLaw, OneStateLaw, BlocksLaw, LivesLaw}
 
 -- ---- the state of entry, or one of the quiet points
 
-last_one : (n : ℕ) (db : Db) (made rest : List Quiet) → ((last_quiet_number n made ≡ n) × (last_quiet db made ≡ db)) ⊎ IsOneOf (last_quiet_number n made, last_quiet db made) (made ++ rest)
+pub last_one : (n : ℕ) (db : Db) (made rest : List Quiet) → ((last_quiet_number n made ≡ n) × (last_quiet db made ≡ db)) ⊎ IsOneOf (last_quiet_number n made, last_quiet db made) (made ++ rest)
 last_one n db [] rest = inl (refl, refl)
 last_one n db (q ∷ qs) rest = ⊎_elim (λ e. inr (inl (pair q _ _ e.0 e.1))) (λ m. inr (inr m)) (last_one q.0 q.1 qs rest)
   where
@@ -119,24 +119,25 @@ blocks = record { seen = blocks_seen; are = blocks_are }
 
 -- ---- live points
 
-pub lives_seen : (desc : Described) (points : List LivePoint) (n : ℕ) (db : Db) → LivesEndWith desc points n db → BlocksEndWith desc (map (point_under (spelling desc)) points) n db
+pub lives_seen : (desc : Described) (points : List DescribedPoint) (n : ℕ) (db : Db) → LivesEndWith desc points n db → BlocksEndWith desc (map block_point points) n db
 lives_seen desc points n db s = record {
-  before = map (point_under (spelling desc)) s.before;
-  point = point_under (spelling desc) s.point;
-  are = ap (map (point_under (spelling desc))) s.are ∙ map-append (point_under (spelling desc)) s.before (s.point ∷ []);
+  before = map block_point s.before;
+  point = block_point s.point;
+  are = ap (map block_point) s.are ∙ map-append block_point s.before (s.point ∷ []);
   number = s.number;
-  schema = refl;
+  schema = s.schema;
   spells = s.spells;
 }
 
-pub lives_are : (desc : Described) (points : List LivePoint) (n : ℕ) (db : Db) → BlocksEndWith desc (map (point_under (spelling desc)) points) n db → LivesEndWith desc points n db
+pub lives_are : (desc : Described) (points : List DescribedPoint) (n : ℕ) (db : Db) → BlocksEndWith desc (map block_point points) n db → LivesEndWith desc points n db
 lives_are desc points n db s =
-    let l = last_of (point_under (spelling desc)) points s.before s.point s.are in
+    let l = last_of block_point points s.before s.point s.are in
     record {
       before = l.front;
       point = l.last;
       are = l.are;
       number = ap (λ (p : BlockPoint). p.number) l.is ∙ s.number;
+      schema = ap (λ (p : BlockPoint). p.schema) l.is ∙ s.schema;
       spells = ap (λ (p : BlockPoint). spelled desc p.blocks) l.is ∙ s.spells;
     }
 

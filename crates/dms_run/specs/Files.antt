@@ -3,44 +3,43 @@ use Rattle.std.specs.Prelude.{ℕ, ◌≡◌, ◌≤◌, ◌+◌, List, ◌++◌
 use Rattle.std.specs.List.{AllByRecursion}
 use Rattle.std.specs.declared.option.Option.{Option}
 use Rattle.dms_desc.specs.Shape.{Described}
-use Rattle.dms_desc_bytes.specs.Spelling.{spelling}
-use Rattle.dms_history.specs.EntryEvents.{history_of, live_of, Agrees}
-use Rattle.dms_history.specs.Here.{here}
-use Rattle.dms_history.specs.History.{last_point}
-use Rattle.dms_history.specs.Pick.{blocks_at}
-use Rattle.dms_history.specs.Places.{IsLive}
-use Rattle.dms_history.specs.Points.{LivePoint}
+use Rattle.dms_desc_bytes.specs.WellFormed.{IsWellFormed}
 use Rattle.dms_model.specs.Db.{Db}
 use Rattle.dms_model.specs.Points.{Point, Quiet, Stop, known}
 use Rattle.dms_runner.specs.Answers.{last_quiet}
 use Rattle.dms_runner.specs.Events.{RunEvent, quiets_of, CrashesWithin}
 use Rattle.dms_running.specs.Telling.{Telling}
 use Rattle.dms_running.specs.Standing.{IsWhole}
-use Rattle.dms_running.specs.Points.{points_of, next_in}
-use Rattle.dms_site.specs.Files.{Files, Left, stored_of}
-use Rattle.dms_store.specs.Lifted.{point_of, stop_of}
-use Rattle.dms_store.specs.Spelled.{spelled}
+use Rattle.dms_running.specs.Points.{DescribedPoint, points_of, next_in}
+use Rattle.dms_moments.specs.Moments.{Runs}
+use Rattle.dms_site.specs.declared.site.Site.{Ghosts}
+use Rattle.dms_site.specs.Files.{Files, Left}
+use Rattle.dms_store.specs.Lifted.{point_of, stop_of, lifted}
 use Rattle.dms_wal.specs.Lifting as wal
-use Rattle.dms_wal.specs.Lifting.{point_under}
+use Rattle.dms_restore.specs.Logging.{telling_of, telling, trail_of}
+use Rattle.dms_wal.specs.declared.running.Running.{Running}
+use Rattle.dms_wal.specs.Database.{held, view_of}
+use Rattle.dms_wal.specs.Lifting.{block_point}
 use Rattle.dms_run.specs.States.{LivesEndWith, HasLive, told_live}
-use Rattle.dms_run.specs.Stops.{last_quiet_number, PrintedUpTo}
+use Rattle.dms_run.specs.State.{StateAt, StateOf, HasNext}
+use Rattle.dms_run.specs.Stops.{last_quiet_number, PrintedUpTo, RunLeaves}
 
 -- the points of a store on the blocks of a running database, and what a stop leaves of it
-abbrev pub points_seen : Described → List LivePoint → List Point
-points_seen desc points = map (point_of desc) (map (point_under (spelling desc)) points)
+abbrev pub points_seen : Described → List DescribedPoint → List Point
+points_seen desc points = map (point_of desc) (map block_point points)
 
 abbrev pub stop_seen : Telling → Described → Left → Stop
-stop_seen t desc x = stop_of desc (wal.stop_of t (spelling desc) x)
+stop_seen t desc x = stop_of desc (wal.stop_of t x)
 
 -- The files that a stop within a run leaves hold a database. Its live points are those of entry, as they were, and behind them exactly the
--- first so many of the quiet points of the run, and the blocks of each spell its own database. At least those of the syncpoints before what was
--- printed last are left, and the next number rose by one at least for each that is left.
-pub record RunLeavesFiles (t : Telling) (desc : Described) (entry : Option (List ℕ)) (points : List LivePoint) (n : ℕ) (db : Db) (next : ℕ) (events : List RunEvent) (x : Left) : Type 0 where
+-- first so many of the quiet points of the run, under the Schema of the description, and the blocks of each spell its own database. At least
+-- those of the syncpoints before what was printed last are left, and the next number rose by one at least for each that is left.
+pub record RunLeavesFiles (t : Telling) (desc : Described) (entry : Option (List ℕ)) (points : List DescribedPoint) (n : ℕ) (db : Db) (next : ℕ) (events : List RunEvent) (x : Left) : Type 0 where
   pub made : List Quiet
   pub rest : List Quiet
   pub front_of : made ++ rest ≡ quiets_of events
   pub state : LivesEndWith desc (points_of t x.files) (last_quiet_number n made) (last_quiet db made)
-  pub more : List LivePoint
+  pub more : List DescribedPoint
   pub kept : points_of t x.files ≡ points ++ more
   pub are : map (told_live desc) more ≡ map known made
   pub each : AllByRecursion (HasLive desc (points_of t x.files)) made
@@ -50,23 +49,21 @@ pub record RunLeavesFiles (t : Telling) (desc : Described) (entry : Option (List
 
 -- So it is where a stop lies within events over a store on the blocks of a running database.
 abbrev pub FilesLaw : Type 0
-FilesLaw = (t : Telling) (desc : Described) (entry : Option (List ℕ)) (points : List LivePoint) (n : ℕ) (db : Db) (next : ℕ) (events : List RunEvent) (x : Left)
-    → LivesEndWith desc points n db → CrashesWithin (IsWhole t) entry (points_seen desc points) (length points) next events (stop_seen t desc x)
-    → RunLeavesFiles t desc entry points n db next events x
+FilesLaw = (total first : ℕ) (desc : Described) (entry : Option (List ℕ)) (points : List DescribedPoint) (n : ℕ) (db : Db) (next : ℕ) (events : List RunEvent) (x : Left)
+    → LivesEndWith desc points n db → CrashesWithin (IsWhole (telling_of total first)) entry (points_seen desc points) (length points) next events (stop_seen (telling_of total first) desc x)
+    → RunLeavesFiles (telling_of total first) desc entry points n db next events x
 
--- At live point n the entries of these files tell this database: they agree with the dumps and the structure files, and the blocks that they
--- tell at n spell it.
-pub record EntriesStandAt (t : Telling) (files : Files) (n : ℕ) (desc : Described) (db : Db) : Type 0 where
-  pub agrees : Agrees t.first (t.entries files) (t.dumps files) (stored_of files)
-  pub lives : IsLive (live_of (t.entries files)) n
-  pub spells : spelled desc (blocks_at (live_of (t.entries files)) (here (t.dumps files) (history_of (t.entries files)) (stored_of files)) n) ≡ Some db
+module _ {S : Type 0} (g : Ghosts S) where
+  -- What stops leave of a store on the blocks of a running database they leave of the files of its site.
+  abbrev pub FilesLeft : Running S → Running S → Type 0
+  FilesLeft a b = trail_of (view_of g b.log) ≡ trail_of (view_of g a.log) → (desc : Described) (entry : Option (List ℕ)) (points : List DescribedPoint) (n : ℕ) (db : Db) (next : ℕ) (events : List RunEvent)
+      → Runs (lifted desc (held g a).clock) (lifted desc (held g b).clock) (RunLeaves (IsWhole (telling (view_of g a.log))) entry (points_seen desc points) n db next events)
+      → Runs (g.clock a.log.site) (g.clock b.log.site) (RunLeavesFiles (telling (view_of g a.log)) desc entry points n db next events)
 
--- So they do at their last point.
-pub record EntriesStandFor (t : Telling) (files : Files) (n : ℕ) (desc : Described) (db : Db) : Type 0 where
-  pub at_point : EntriesStandAt t files n desc db
-  pub last : last_point (history_of (t.entries files)) ≡ Some n
-
--- The points that files hold stand for what their entries tell.
+-- The points that files hold are states that they stand for: scanning finds their entries, and each point has its Schema.
 pub record StandsLaw : Type 0 where
-  pub at : (t : Telling) (files : Files) (desc : Described) (q : Quiet) → IsWhole t files → HasLive desc (points_of t files) q → EntriesStandAt t files q.0 desc q.1
-  pub last : (t : Telling) (files : Files) (desc : Described) (n : ℕ) (db : Db) → IsWhole t files → LivesEndWith desc (points_of t files) n db → EntriesStandFor t files n desc db
+  pub at : (total first : ℕ) (files : Files) (desc : Described) (q : Quiet) → IsWellFormed desc → IsWhole (telling_of total first) files
+      → HasLive desc (points_of (telling_of total first) files) q → StateAt files q.0 desc q.1
+  pub last : (total first : ℕ) (files : Files) (desc : Described) (n : ℕ) (db : Db) → IsWellFormed desc → IsWhole (telling_of total first) files
+      → LivesEndWith desc (points_of (telling_of total first) files) n db → StateOf files n desc db
+  pub next : (total first : ℕ) (files : Files) → IsWhole (telling_of total first) files → HasNext files (next_in (telling_of total first) files)

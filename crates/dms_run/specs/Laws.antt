@@ -3,8 +3,6 @@ use Rattle.std.specs.Prelude.{ℕ, ◌≡◌, List, length, map}
 use Rattle.std.specs.declared.option.Option.{Option}
 use Rattle.dms_block.specs.Held.{BlockPoint}
 use Rattle.dms_desc.specs.Shape.{Described}
-use Rattle.dms_desc_bytes.specs.Spelling.{spelling}
-use Rattle.dms_history.specs.Points.{LivePoint}
 use Rattle.dms_model.specs.Db.{Db}
 use Rattle.dms_model.specs.Points.{Point, Quiet, Stop}
 use Rattle.dms_runner.specs.Answers.{last_quiet}
@@ -12,7 +10,8 @@ use Rattle.dms_runner.specs.EventLaws.{any}
 use Rattle.dms_runner.specs.Events.{RunEvent, quiets_of, CrashesWithin}
 use Rattle.dms_storeverbs.specs.View.{PointsGrow}
 use Rattle.dms_store.specs.Lifted.{point_of}
-use Rattle.dms_wal.specs.Lifting.{point_under}
+use Rattle.dms_running.specs.Points.{DescribedPoint}
+use Rattle.dms_wal.specs.Lifting.{block_point}
 use Rattle.dms_run.specs.States.{EndsWith, BlocksEndWith, LivesEndWith}
 use Rattle.dms_run.specs.Stops.{last_quiet_number, RunLeaves, RunAllows}
 
@@ -42,5 +41,5 @@ pub record BlocksLaw : Type 0 where
 
 -- And so do the live points that the files of a running database hold.
 pub record LivesLaw : Type 0 where
-  pub seen : (desc : Described) (points : List LivePoint) (n : ℕ) (db : Db) → LivesEndWith desc points n db → BlocksEndWith desc (map (point_under (spelling desc)) points) n db
-  pub are : (desc : Described) (points : List LivePoint) (n : ℕ) (db : Db) → BlocksEndWith desc (map (point_under (spelling desc)) points) n db → LivesEndWith desc points n db
+  pub seen : (desc : Described) (points : List DescribedPoint) (n : ℕ) (db : Db) → LivesEndWith desc points n db → BlocksEndWith desc (map block_point points) n db
+  pub are : (desc : Described) (points : List DescribedPoint) (n : ℕ) (db : Db) → BlocksEndWith desc (map block_point points) n db → LivesEndWith desc points n db

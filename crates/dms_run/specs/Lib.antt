@@ -1,4 +1,5 @@
 pub mod States
+pub mod State
 pub mod Stops
 pub mod Laws
 pub mod Files

@@ -4,5 +4,5 @@
 mod laws;
 mod run;
 
-pub use laws::{files_law, run_law, state_law};
+pub use laws::{files_law, run_law, site_law, state_law};
 pub use run::run_script;

@@ -1,5 +1,5 @@
 -- Events, one behind another.
-use Rattle.std.specs.Prelude.{IsTrue, IsErrAnd, IsOkUnless, OnOk, ◌<◌, ◌^◌, nat_le}
+use Rattle.std.specs.Prelude.{IsErrAnd, IsOkUnless, OnOk, ◌<◌, ◌^◌, nat_le}
 use Rattle.std.specs.declared.result.Result.{Result}
 use Rattle.std.specs.declared.result.Result.TheVariants.{Ok, Err}
 use Rattle.dms_block.specs.declared.block_fault.BlockFault.{BlockFault}
@@ -7,24 +7,24 @@ use Rattle.dms_block.specs.declared.block_fault.BlockFault.TheVariants.{Disk, Me
 use Rattle.dms_block.specs.Counts.{Faults, CausedBy}
 use Rattle.dms_block.specs.Faults.{Undamaged}
 use Rattle.dms_model.specs.declared.program.Program.{Program}
+use Rattle.dms_model.specs.declared.program.Wait.{Wait}
 use Rattle.dms_model.specs.Seen.{Seen, IsMute, IsSilent, Keeps, SaysPart, StaysDurable}
 use Rattle.std.proofs.Common.{ℕ, ◌≡◌, ◌≤◌, ◌+◌, List, [], ◌∷◌, ◌++◌, length, take, map, Some, None, refl, sym, ◌∙◌, ap, subst, arith, append_assoc, length-append, Bool, true, false}
 use Rattle.std.specs.declared.option.Option.{Option}
 use Rattle.std.proofs.lemmas.List.{append-nil, map-append, length-map, take-append-le, take_all}
 use Rattle.std.proofs.Math.Seq.{take-append-add}
 use Rattle.std.proofs.lemmas.Bool.Decides.{nat_tests}
-use Rattle.dms_moments.specs.Moments.{Runs}
 use Rattle.dms_moments.specs.MomentLaws.{runs_none, runs_on, runs_weaken}
 use Rattle.dms_model.specs.declared.reply.Answer.{Answer}
 use Rattle.dms_model.specs.Db.{Db}
-use Rattle.dms_model.specs.Points.{Files, Point, Quiet, Stop, LeavesPrefix, TextIs, TextGrows, LeavesText, Leaves, Stays, told, known}
+use Rattle.dms_model.specs.Points.{Files, Point, Quiet, Stop, LeavesPrefix, TextIs, TextGrows, told, known}
 use Rattle.dms_block.specs.Texts.{Prints, PrintsPrefix}
 use Rattle.dms_desc.specs.Shape.{Described}
 use Rattle.dms_model.specs.declared.verb.Verb.{Verb}
 use Rattle.dms_model.specs.Session.{Session, Outcome, ended, step}
 use Rattle.dms_storeverbs.specs.Laws.{MakesWhereQuiet}
 use Rattle.dms_storeverbs.proofs.Quiet.{quiet_rule}
-use Rattle.dms_storeverbs.specs.View.{View, PerformsCall, PointsGrow, LeavesQuiets, MakesPoints, StandsFor, view_of}
+use Rattle.dms_storeverbs.specs.View.{View, PerformsCall, PointsGrow, LeavesQuiets, StandsFor, view_of}
 use Rattle.dms_storeverbs.proofs.Calls.{lower, stays}
 use Rattle.dms_runner.specs.Events.{IsTold, RunEvent, calls, says, goes_back, text_of, quiets_of, durable_by, durable_after, CrashesFrom, IsCutShort, SaidWhole, Performs, PerformsPrefix}
 use Rattle.dms_runner.proofs.Texts.{prints_none, prints_on, front_none, front_all, front_of_first, front_on}
@@ -261,7 +261,7 @@ covered_made : (sync : Option ℕ) (before all durable : ℕ) → before ≤ dur
 covered_made None before all durable later synced = later
 covered_made (Some n) before all durable later synced = omega (arith, synced n refl)
 
-pub ran_calls : (a b : Seen) {programs : List Program} {pending : Bool} {since : ℕ} (o : Outcome) (answer : Answer) → (a.tells → b.tells) → ((files : Files) → b.whole files → a.whole files) → b.faults ≡ a.faults → IsMute a b → a.next + length o.quiets ≤ b.next → PerformsCall o a b (view_of b.db b.mark b.next programs pending since) (Ok answer) → Performs a b (calls o ∷ [])
+pub ran_calls : (a b : Seen) {programs : List Program} {pending : Bool} {since : ℕ} {waits : List Wait} (o : Outcome) (answer : Answer) → (a.tells → b.tells) → ((files : Files) → b.whole files → a.whole files) → b.faults ≡ a.faults → IsMute a b → a.next + length o.quiets ≤ b.next → PerformsCall o a b (view_of b.db b.mark b.next programs pending since waits) (Ok answer) → Performs a b (calls o ∷ [])
 ran_calls a b o answer tells whole same mute next did = record {
   text = prints_none a.said b.said mute.said;
   tells = tells;
@@ -316,9 +316,9 @@ part_back a b undamaged silent room = record {
 }
 
 -- the end of a run leaves the databases told
-pub told_ended : {a b : Seen} {programs programs' : List Program} {pending pending' : Bool} {since since' : ℕ}
-    → ((s : Session) → StandsFor (view_of a.db a.mark a.next programs pending since) s → StandsFor (view_of b.db b.mark b.next programs' pending' since') (ended s)) → IsTold a → IsTold b
-told_ended {a} {programs = programs} {pending = pending} {since = since} f t =
-    let s : Session = record { db = t.db; mark = t.mark; next = a.next; programs = programs; pending = pending; since = since } in
-    let st = f s (record { db = t.db_is; mark = t.mark_is; next = refl; programs = refl; pending = refl; since = refl }) in
+pub told_ended : {a b : Seen} {programs programs' : List Program} {pending pending' : Bool} {since since' : ℕ} {waits waits' : List Wait}
+    → ((s : Session) → StandsFor (view_of a.db a.mark a.next programs pending since waits) s → StandsFor (view_of b.db b.mark b.next programs' pending' since' waits') (ended s)) → IsTold a → IsTold b
+told_ended {a} {programs = programs} {pending = pending} {since = since} {waits = waits} f t =
+    let s : Session = record { db = t.db; mark = t.mark; next = a.next; programs = programs; pending = pending; since = since; waits = waits } in
+    let st = f s (record { db = t.db_is; mark = t.mark_is; next = refl; programs = refl; pending = refl; since = refl; waits = refl }) in
     record { db = (ended s).db; mark = (ended s).mark; db_is = st.db; mark_is = st.mark }

@@ -7,7 +7,6 @@ use Rattle.dms_model.specs.declared.verb.Verb.{Verb}
 use Rattle.dms_model.specs.Db.{Db}
 use Rattle.dms_model.specs.Points.{Quiet}
 use Rattle.dms_model.specs.Session.{Session, Outcome, step, someone_works, ended, is_waits}
-use Rattle.dms_model.proofs.Rises.{step_small}
 use Rattle.dms_script.specs.declared.line.Line.{Line}
 use Rattle.dms_script.specs.declared.line.Line.TheVariants.{Empty, Verb as Spoken, Bad}
 use Rattle.dms_script.specs.Lines.{line_of}
@@ -64,21 +63,21 @@ retried_as : (s : Session) (w x : RetryEffect) → x ≡ w → Retried s w → R
 retried_as s w x e p = subst (λ (y : RetryEffect). Retried s y) (sym e) p
 
 reply_follows : (desc : Described) (s : Session) (front : List WaitingLine) (h : WaitingLine) (hs : List WaitingLine) (b : Bool) → has_line front h.program ≡ false → is_waits (step desc s h.program h.verb).reply ≡ b
-    → Retried s (retry desc s (front ++ said_to_wait h ∷ []) hs) → Retried s (retry desc s front (h ∷ hs))
+    → Retried (step desc s h.program h.verb).session (retry desc (step desc s h.program h.verb).session (front ++ said_to_wait h ∷ []) hs) → Retried s (retry desc s front (h ∷ hs))
 reply_follows desc s front h hs true other waits rest =
     let o = step desc s h.program h.verb in
-    retried_as s _ _ (retry_waits desc s front h hs other waits) (follows_on s s _ (tries h o) _ (subst (λ (t : Session). Follows s t (tries h o)) ((step_small desc s h.program h.verb).waits waits) (follows_try desc s h.program h.verb (tried_text h o))) rest)
+    retried_as s _ _ (retry_waits desc s front h hs other waits) (follows_on s o.session _ (tries h o) _ (follows_try desc s h.program h.verb (tried_text h o)) rest)
 reply_follows desc s front h hs false other waits rest =
     retried_as s _ _ (retry_answers desc s front h hs other waits) (follows_try desc s h.program h.verb (tried_text h (step desc s h.program h.verb)))
 
 line_follows : (desc : Described) (s : Session) (front : List WaitingLine) (h : WaitingLine) (hs : List WaitingLine) (b : Bool) → has_line front h.program ≡ b
-    → Retried s (retry desc s (front ++ h ∷ []) hs) → Retried s (retry desc s (front ++ said_to_wait h ∷ []) hs) → Retried s (retry desc s front (h ∷ hs))
+    → Retried s (retry desc s (front ++ h ∷ []) hs) → Retried (step desc s h.program h.verb).session (retry desc (step desc s h.program h.verb).session (front ++ said_to_wait h ∷ []) hs) → Retried s (retry desc s front (h ∷ hs))
 line_follows desc s front h hs true has rest waited = retried_as s _ _ (retry_skips desc s front h hs has) rest
 line_follows desc s front h hs false has rest waited = reply_follows desc s front h hs (is_waits (step desc s h.program h.verb).reply) has refl waited
 
 retry_follows : (desc : Described) (s : Session) (front hs : List WaitingLine) → Retried s (retry desc s front hs)
 retry_follows desc s front [] = retried_as s _ _ (retry_ends desc s front) (follows_none s)
-retry_follows desc s front (h ∷ hs) = line_follows desc s front h hs (has_line front h.program) refl (retry_follows desc s (front ++ h ∷ []) hs) (retry_follows desc s (front ++ said_to_wait h ∷ []) hs)
+retry_follows desc s front (h ∷ hs) = line_follows desc s front h hs (has_line front h.program) refl (retry_follows desc s (front ++ h ∷ []) hs) (retry_follows desc (step desc s h.program h.verb).session (front ++ said_to_wait h ∷ []) hs)
 
 again_follows : (n : ℕ) (desc : Described) (s : Session) (waiting : List WaitingLine) (b : Bool) → (retry desc s [] waiting).answered ≡ b
     → Retried (retry desc s [] waiting).session (retries n desc (retry desc s [] waiting).session (retry desc s [] waiting).waiting) → Retried s (retries (suc n) desc s waiting)

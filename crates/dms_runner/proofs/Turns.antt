@@ -22,14 +22,15 @@ abbrev Low : Session → ℕ → RetryEffect → Type 0
 Low s lines w = w.session.next + length w.waiting ≤ s.next + lines
 
 low_reply : (desc : Described) (s : Session) (front : List WaitingLine) (h : WaitingLine) (hs : List WaitingLine) (b : Bool) → has_line front h.program ≡ false → is_waits (step desc s h.program h.verb).reply ≡ b
-    → Low s (length (front ++ said_to_wait h ∷ []) + length hs) (retry desc s (front ++ said_to_wait h ∷ []) hs) → Low s (length front + suc (length hs)) (retry desc s front (h ∷ hs))
+    → Low (step desc s h.program h.verb).session (length (front ++ said_to_wait h ∷ []) + length hs) (retry desc (step desc s h.program h.verb).session (front ++ said_to_wait h ∷ []) hs) → Low s (length front + suc (length hs)) (retry desc s front (h ∷ hs))
 low_reply desc s front h hs true other waits rest =
-    subst (λ (w : RetryEffect). Low s (length front + suc (length hs)) w) (sym (retry_waits desc s front h hs other waits)) (omega (arith, length-append front (said_to_wait h ∷ []), rest))
+    let same = ap (λ (t : Session). t.next) ((step_small desc s h.program h.verb).waits waits) in
+    subst (λ (w : RetryEffect). Low s (length front + suc (length hs)) w) (sym (retry_waits desc s front h hs other waits)) (omega (arith, length-append front (said_to_wait h ∷ []), same, rest))
 low_reply desc s front h hs false other waits rest =
     subst (λ (w : RetryEffect). Low s (length front + suc (length hs)) w) (sym (retry_answers desc s front h hs other waits)) (omega (arith, length-append front hs, (step_small desc s h.program h.verb).high))
 
 low_line : (desc : Described) (s : Session) (front : List WaitingLine) (h : WaitingLine) (hs : List WaitingLine) (b : Bool) → has_line front h.program ≡ b
-    → Low s (length (front ++ h ∷ []) + length hs) (retry desc s (front ++ h ∷ []) hs) → Low s (length (front ++ said_to_wait h ∷ []) + length hs) (retry desc s (front ++ said_to_wait h ∷ []) hs)
+    → Low s (length (front ++ h ∷ []) + length hs) (retry desc s (front ++ h ∷ []) hs) → Low (step desc s h.program h.verb).session (length (front ++ said_to_wait h ∷ []) + length hs) (retry desc (step desc s h.program h.verb).session (front ++ said_to_wait h ∷ []) hs)
     → Low s (length front + suc (length hs)) (retry desc s front (h ∷ hs))
 low_line desc s front h hs true has rest waited =
     subst (λ (w : RetryEffect). Low s (length front + suc (length hs)) w) (sym (retry_skips desc s front h hs has)) (omega (arith, length-append front (h ∷ []), rest))
@@ -37,7 +38,7 @@ low_line desc s front h hs false has rest waited = low_reply desc s front h hs (
 
 retry_low : (desc : Described) (s : Session) (front hs : List WaitingLine) → Low s (length front + length hs) (retry desc s front hs)
 retry_low desc s front [] = subst (λ (w : RetryEffect). Low s (length front + 0) w) (sym (retry_ends desc s front)) (omega arith)
-retry_low desc s front (h ∷ hs) = low_line desc s front h hs (has_line front h.program) refl (retry_low desc s (front ++ h ∷ []) hs) (retry_low desc s (front ++ said_to_wait h ∷ []) hs)
+retry_low desc s front (h ∷ hs) = low_line desc s front h hs (has_line front h.program) refl (retry_low desc s (front ++ h ∷ []) hs) (retry_low desc (step desc s h.program h.verb).session (front ++ said_to_wait h ∷ []) hs)
 
 low_answer : (n : ℕ) (desc : Described) (s : Session) (waiting : List WaitingLine) (b : Bool) → (retry desc s [] waiting).answered ≡ b
     → Low (retry desc s [] waiting).session (length (retry desc s [] waiting).waiting) (retries n desc (retry desc s [] waiting).session (retry desc s [] waiting).waiting) → Low s (length waiting) (retries (suc n) desc s waiting)

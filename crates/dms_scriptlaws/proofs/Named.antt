@@ -1,11 +1,11 @@
 -- Each step of a session whose programs have names leaves such a session, and its reply holds no line feed.
-use Rattle.std.proofs.Common.{◌≡◌, ◌+◌, ◌-◌, ℕ, zero, suc, List, [], ◌∷◌, ◌++◌, Bool, true, false, cond, Some, None, refl, subst, not, ◌&&◌, ◌||◌, nat_le, length, map, codes}
+use Rattle.std.proofs.Common.{◌≡◌, ◌+◌, ◌-◌, ℕ, zero, suc, List, [], ◌∷◌, ◌++◌, Bool, true, false, cond, Some, None, refl, subst, ◌&&◌, ◌||◌, nat_le, length, map, codes}
 use Rattle.std.specs.Prelude.{slice_get, slice_set, is_some, IfSome}
 use Rattle.std.specs.List.{AllByRecursion}
 use Rattle.std.specs.declared.option.Option.{Option}
 use Rattle.dms_base.specs.declared.value.Value.{Value}
 use Rattle.dms_base.specs.declared.category.Category.{Category}
-use Rattle.dms_base.specs.declared.category.Category.TheVariants.{LimitError, NoRecord, AuditError, Abort as AbortDue}
+use Rattle.dms_base.specs.declared.category.Category.TheVariants.{LimitError, AuditError, Abort as AbortDue}
 use Rattle.dms_base.specs.Name.{IsName}
 use Rattle.dms_base.specs.Spelling.{text_for}
 use Rattle.dms_desc.specs.declared.structure.Item.{Item}
@@ -24,12 +24,10 @@ use Rattle.dms_model.specs.declared.reply.Reply.{Reply}
 use Rattle.dms_model.specs.declared.reply.Reply.TheVariants.{Exception}
 use Rattle.dms_model.specs.StoreLaws.{AllAnswers, begun_by, keep_by}
 use Rattle.dms_model.specs.declared.put.Put.{Put}
-use Rattle.dms_model.specs.declared.put.Put.TheVariants.{Stored, Duplicate, Full}
 use Rattle.dms_model.specs.declared.spot.Spot.{Spot}
 use Rattle.dms_model.specs.Db.{Db}
 use Rattle.dms_desc.specs.Lookups.{name_of, structure_of, items_of, set_of}
-use Rattle.dms_model.specs.Stores.{put_answer}
-use Rattle.dms_model.specs.Session.{Session, Outcome, StoreResult, Refused, Keeps, Filled, Misfit, Values', refuse, done, shows, settle, keep, store_step, after_store, begin_step, after_begin, begun, begin_refusals, area_answer, area_of, area_refusals, duplicate_of, or_no_area, or_unknown, replies, stored_program, awaited, workers, end_step, after_end, abort_step, find_step, find_for, after_find, found_by, create_step, create_for, owner_for, refuse_unowned, put_step, put_area, after_put, filled, item_name, setting_value, get_step, get_area, get_text, more_text, item_text, close_step, open_as, open_step, verb_step, step_at, step, with_program, with_work, work_of, restart_of, someone_works, is_inquiry, opens, changes, path_of, new_program, place_of, carried, left, without, idle, backed_out, found_program, let_go, with_lock, missing_from, area_values, area_number, record_of, is_free, one_more, open_in}
+use Rattle.dms_model.specs.Session.{Session, Outcome, StoreResult, Refused, Keeps, Filled, Misfit, Values', refuse, done, shows, settle, keep, store_step, after_store, begin_step, after_begin, begun, begin_refusals, area_answer, area_of, area_refusals, duplicate_of, or_no_area, or_unknown, replies, stored_program, awaited, workers, end_step, after_end, abort_step, find_step, find_for, after_find, found_by, create_step, create_for, owner_for, refuse_unowned, put_step, put_area, after_put, filled, item_name, setting_value, get_step, get_area, get_text, more_text, item_text, close_step, open_as, open_step, verb_step, step_at, answered, carried_out, step, with_program, with_work, work_of, restart_of, someone_works, is_inquiry, opens, changes, path_of, new_program, place_of, carried, left, without, idle, backed_out, found_program, let_go, with_lock, missing_from, area_values, one_more, open_in}
 use Rattle.dms_model.specs.Traits.{traits}
 use Rattle.dms_model.specs.Areas.{AreaFits, AreasFit}
 use Rattle.dms_model.specs.Valid.{owner_of}
@@ -323,7 +321,10 @@ step_at_named desc names (Some p) i s name v at named all fit =
     (record { reply = name_feed name named; names = with_named desc names s i p at all due (mine desc names s i p at all) })
     (leaves_if (is_inquiry p.mode && changes v) (refuse s _ name) _ (refused s _ name (name_feed name named) all) (verb_named desc names i p s v at all (all_at (AreasFit desc) s.programs i p at fit))))
 
+answered_named : (name : List ℕ) (o : Outcome) → LeavesNamed o → LeavesNamed (answered name o)
+answered_named name o h = record { reply = h.reply; names = h.names }
+
 -- one step
 pub step_named : (desc : Described) → HasNames desc → (s : Session) (name : List ℕ) (v : Verb) → IsName name → AreNamed s.programs → AllByRecursion (AreasFit desc) s.programs → LeavesNamed (step desc s name v)
-unfolding step
-step_named desc names s name v named all fit = step_at_named desc names (slice_get s.programs (place_of name s.programs)) (place_of name s.programs) s name v refl named all fit
+unfolding step carried_out
+step_named desc names s name v named all fit = answered_named name _ (step_at_named desc names (slice_get s.programs (place_of name s.programs)) (place_of name s.programs) s name v refl named all fit)

@@ -1,13 +1,12 @@
 -- The laws of scripts, from those of one step.
-use Rattle.std.proofs.Common.{ℕ, ◌≡◌, ◌≤◌, ◌-◌, ◌&&◌, ◌∙◌, List, [], ◌∷◌, Bool, true, false, refl, sym, ap, subst, arith, Some, None, nat_lt}
+use Rattle.std.proofs.Common.{ℕ, ◌≡◌, ◌-◌, List, [], ◌∷◌, subst, Some, None}
 use Rattle.std.specs.List.{AllByRecursion}
-use Rattle.std.specs.Prelude.{slice_get, ◌==◌}
+use Rattle.std.specs.Prelude.{slice_get}
 use Rattle.std.specs.declared.option.Option.{Option}
-use Rattle.std.proofs.lemmas.Bool.Decides.{nat_tests}
 use Rattle.dms_base.specs.declared.kind.Literal.{Literal}
 use Rattle.dms_base.specs.Name.{IsName}
 use Rattle.dms_desc.specs.declared.structure.Item.{Item}
-use Rattle.dms_desc.specs.Shape.{Shape, Described}
+use Rattle.dms_desc.specs.Shape.{Described}
 use Rattle.dms_model.specs.declared.verb.Setting.{Setting}
 use Rattle.dms_model.specs.declared.verb.Verb.{Verb}
 use Rattle.dms_model.specs.declared.verb.Verb.TheVariants.{OpenUpdate, OpenInquiry, Close, Find, Create, Put, Get, Store, Begin, End, Abort}
@@ -15,7 +14,7 @@ use Rattle.dms_model.specs.Db.{Db, empty_db}
 use Rattle.dms_desc.specs.Lookups.{structure_of, items_of}
 use Rattle.dms_model.specs.Points.{Quiet}
 use Rattle.dms_model.specs.Session.{Session, step}
-use Rattle.dms_model.specs.Spoken.{IsOuter, IsPlainLiteral}
+use Rattle.dms_model.specs.Spoken.{IsPlainLiteral}
 use Rattle.dms_model.specs.Valid.{IsValid}
 use Rattle.dms_laws.specs.Sound.{IsSound, NamesOuter}
 use Rattle.dms_laws.proofs.Sound.{stays_sound, empty_valid, empty_flat}

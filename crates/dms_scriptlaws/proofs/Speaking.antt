@@ -146,16 +146,16 @@ module _ (desc : Described) (K : Session → Type 0) (V : List ℕ → Verb → 
   retried_as s w x e f = subst (λ (y : RetryEffect). Retried s y) (sym e) f
 
   reply_tells : (s : Session) (front : List WaitingLine) (h : WaitingLine) (hs : List WaitingLine) (b : Bool) → has_line front h.program ≡ false → is_waits (step desc s h.program h.verb).reply ≡ b
-      → K s → V h.program h.verb → Spoke front → Spoke hs → Retried s (retry desc s (front ++ said_to_wait h ∷ []) hs) → Retried s (retry desc s front (h ∷ hs))
+      → K s → V h.program h.verb → Spoke front → Spoke hs → Retried (step desc s h.program h.verb).session (retry desc (step desc s h.program h.verb).session (front ++ said_to_wait h ∷ []) hs) → Retried s (retry desc s front (h ∷ hs))
   reply_tells s front h hs true other waits k v f g rest =
       let o = step desc s h.program h.verb in
       retried_as s _ _ (retry_waits desc s front h hs other waits)
-      (record { tells = tells_on s s _ (tries h o) _ (subst (λ (t : Session). Tells s t (tries h o)) ((step_small desc s h.program h.verb).waits waits) (tells_try s h k v)) rest.tells; waiting = rest.waiting })
+      (record { tells = tells_on s o.session _ (tries h o) _ (tells_try s h k v) rest.tells; waiting = rest.waiting })
   reply_tells s front h hs false other waits k v f g rest =
       retried_as s _ _ (retry_answers desc s front h hs other waits) (record { tells = tells_try s h k v; waiting = spoke_on front hs f g })
 
   line_tells : (s : Session) (front : List WaitingLine) (h : WaitingLine) (hs : List WaitingLine) (b : Bool) → has_line front h.program ≡ b → K s → V h.program h.verb → Spoke front → Spoke hs
-      → Retried s (retry desc s (front ++ h ∷ []) hs) → Retried s (retry desc s (front ++ said_to_wait h ∷ []) hs) → Retried s (retry desc s front (h ∷ hs))
+      → Retried s (retry desc s (front ++ h ∷ []) hs) → Retried (step desc s h.program h.verb).session (retry desc (step desc s h.program h.verb).session (front ++ said_to_wait h ∷ []) hs) → Retried s (retry desc s front (h ∷ hs))
   line_tells s front h hs true has k v f g rest waited = retried_as s _ _ (retry_skips desc s front h hs has) rest
   line_tells s front h hs false has k v f g rest waited = reply_tells s front h hs (is_waits (step desc s h.program h.verb).reply) has refl k v f g waited
 
@@ -163,7 +163,7 @@ module _ (desc : Described) (K : Session → Type 0) (V : List ℕ → Verb → 
   retry_tells s front [] k f g = retried_as s _ _ (retry_ends desc s front) (record { tells = tells_none s k; waiting = f })
   retry_tells s front (h ∷ hs) k f g =
       line_tells s front h hs (has_line front h.program) refl k g.0 f g.1 (retry_tells s (front ++ h ∷ []) hs k (spoke_on front (h ∷ []) f (g.0, tt)) g.1)
-      (retry_tells s (front ++ said_to_wait h ∷ []) hs k (spoke_on front (said_to_wait h ∷ []) f (g.0, tt)) g.1)
+      (retry_tells (step desc s h.program h.verb).session (front ++ said_to_wait h ∷ []) hs (p.keeps s h.program h.verb g.0 k) (spoke_on front (said_to_wait h ∷ []) f (g.0, tt)) g.1)
 
   again_tells : (n : ℕ) (s : Session) (waiting : List WaitingLine) (b : Bool) → (retry desc s [] waiting).answered ≡ b → Retried s (retry desc s [] waiting)
       → Retried (retry desc s [] waiting).session (retries n desc (retry desc s [] waiting).session (retry desc s [] waiting).waiting) → Retried s (retries (suc n) desc s waiting)
@@ -196,14 +196,14 @@ module _ (desc : Described) (K : Session → Type 0) (V : List ℕ → Verb → 
   plain_answer line name reply None plain none = subst TellsNone (sym (append-nil (reply_text line name reply))) plain
   plain_answer line name reply (Some n) plain none = absurd (none n refl)
 
-  silent_wait : (s : Session) (name : List ℕ) (verb : Verb) → (step desc s name verb).session ≡ s → (n : ℕ) → (step desc s name verb).sync ≡ Some n → ⊥
-  silent_wait s name verb same n is = absurd (omega (arith, step_numbers desc s name verb, ap (λ (t : Session). t.next) same, (own_at _ s (step desc s name verb) (quiet_rule desc s name verb) n is).1))
+  silent_wait : (s : Session) (name : List ℕ) (verb : Verb) → (step desc s name verb).session.next ≡ s.next → (n : ℕ) → (step desc s name verb).sync ≡ Some n → ⊥
+  silent_wait s name verb same n is = absurd (omega (arith, step_numbers desc s name verb, same, (own_at _ s (step desc s name verb) (quiet_rule desc s name verb) n is).1))
 
   tried_leads : (g : RunState) (name : List ℕ) (verb : Verb) (b : Bool) → is_waits (step desc g.session name verb).reply ≡ b → K g.session → V name verb → Spoke g.waiting
       → Leads g.session (first_try_effect desc g name verb (step desc g.session name verb))
   tried_leads g name verb true waits k v a =
       let o = step desc g.session name verb in
-      let same : o.session ≡ g.session = (step_small desc g.session name verb).waits waits in
+      let same : o.session.next ≡ g.session.next = ap (λ (t : Session). t.next) ((step_small desc g.session name verb).waits waits) in
       rw waits (waiting_leads g.session o.session g (first_line g.line name verb true) (calls o ∷ []) (says (answer_text g.line name o.reply o.sync) ∷ []) (nat_le 10000 (length g.waiting)) a v
       (tells_call g.session name verb k v)
       (tells_says o.session _ (p.keeps g.session name verb v k) (plain_answer g.line name o.reply o.sync (p.reply g.line g.session name verb v k) (silent_wait g.session name verb same))))

@@ -1,5 +1,4 @@
 ghost use Rattle.std.specs.Prelude.{◌≡◌, ℕ, List};
-ghost use Rattle.std.specs.declared.result.Result.TheVariants.{Ok};
 ghost use Rattle.dms_desc.specs.Shape.{Described};
 ghost use Rattle.dms_desc_bytes.specs.WellFormed.{IsWellFormed};
 ghost use Rattle.dms_model.specs.declared.verb.Verb.{Verb};
@@ -7,9 +6,7 @@ ghost use Rattle.dms_model.specs.Verbs.{IsVerbOf};
 ghost use Rattle.dms_script.specs.declared.line.Line.TheVariants.{Verb as Spoken};
 ghost use Rattle.dms_script.specs.Lines.{line_of};
 ghost use Rattle.dms_model.specs.Db.{Db, empty_db};
-ghost use Rattle.dasdl_parse.specs.Grammar.{schema_of};
-ghost use Rattle.dasdl_parse.specs.declared.schema.Schema.{Schema};
-ghost use Rattle.dasdl_compile.specs.Compile.{compiled};
+ghost use Rattle.dasdl_laws.specs.Given.{OfEachText};
 ghost use Rattle.dms_scriptlaws.specs.Truths.{IsRunnable, IsStart, StayValid, TellsTrue};
 
 /// Scripts run under each well-formed description: its verbs keep a database valid, its structures and items have names, and
@@ -32,6 +29,6 @@ pub fn quiets_law()
 
 /// Every script over the empty database of a compiled schema stays valid, and what it tells is true.
 pub fn scripts_stay_valid()
-    ensures valid { (text : List ℕ) (s : Schema) (d : Described) → schema_of text ≡ Ok s → compiled s.parameters s.declarations ≡ Ok d → (first : ℕ) (lines : List (List ℕ)) → StayValid d empty_db first lines }
-    ensures told { (text : List ℕ) (s : Schema) (d : Described) → schema_of text ≡ Ok s → compiled s.parameters s.declarations ≡ Ok d → (first : ℕ) (lines : List (List ℕ)) → TellsTrue d empty_db first lines }
+    ensures valid { OfEachText (λ d. (first : ℕ) (lines : List (List ℕ)) → StayValid d empty_db first lines) }
+    ensures told { OfEachText (λ d. (first : ℕ) (lines : List (List ℕ)) → TellsTrue d empty_db first lines) }
 {}

@@ -4,6 +4,7 @@ use Rattle.std.specs.declared.option.Option.{Option}
 use Rattle.dms_moments.specs.Moments.{Clock, Runs}
 use Rattle.dms_moments.specs.MomentLaws.{runs_on, runs_weaken, runs_none}
 use Rattle.dms_model.specs.declared.program.Program.{Program}
+use Rattle.dms_model.specs.declared.program.Wait.{Wait}
 use Rattle.dms_model.specs.declared.reply.Answer.{Answer}
 use Rattle.dms_model.specs.Db.{Db}
 use Rattle.dms_model.specs.Seen.{Seen, StoreAgrees, IsSilent, StaysDurable}
@@ -15,7 +16,7 @@ use Rattle.std.proofs.lemmas.Bool.{false≢true}
 use Rattle.dms_block.specs.declared.block_fault.BlockFault.{BlockFault}
 use Rattle.dms_block.specs.Faults.{Undamaged}
 use Rattle.dms_model.specs.Points.{Files, Point, Quiet, Stop, LeavesPrefix, TextIs, told, known, Leaves, Stays}
-use Rattle.dms_model.specs.Session.{Session, Outcome, settle, someone_works}
+use Rattle.dms_model.specs.Session.{Session, Outcome, answered, settle, someone_works}
 use Rattle.dms_storeverbs.specs.Apart.{Alone}
 use Rattle.dms_storeverbs.specs.View.{View, StandsFor, MatchesOutcome, PerformsCall, Room, view_of, LeavesQuiets, MakesPoints}
 
@@ -35,8 +36,8 @@ pub no_more : (answer : Answer) {durable durable' : ℕ} {points points' : List 
 no_more answer {points = points} none stays = record { grew = record { more = []; is = stays.0 ∙ sym (append-nil points); spells = refl }; later = stays.1; synced = λ n is. absurd (let no : ◌≡◌ {A = Option ℕ} None (Some n) = sym none ∙ is in cc) }
 
 -- a call that leaves its store alone
-module _ {db mark : Option Db} {next since : ℕ} {programs new : List Program} {pending : Bool} {o : Outcome} {s : Session} {answer : Answer} where
-  pub apart : Alone o s answer new → StandsFor (view_of db mark next programs pending since) s → MatchesOutcome o answer (view_of db mark next new pending since)
+module _ {db mark : Option Db} {next since : ℕ} {programs new : List Program} {pending : Bool} {waits : List Wait} {o : Outcome} {s : Session} {answer : Answer} where
+  pub apart : Alone o s answer new → StandsFor (view_of db mark next programs pending since waits) s → MatchesOutcome o answer (view_of db mark next new pending since waits)
   apart alone stands = record {
     reply = alone.reply;
     sync = alone.unsynced ∙ sym alone.sync;
@@ -47,6 +48,7 @@ module _ {db mark : Option Db} {next since : ℕ} {programs new : List Program} 
       programs = ap (λ (t : Session). t.programs) (sym alone.session);
       pending = stands.pending ∙ ap (λ (t : Session). t.pending) (sym alone.session);
       since = stands.since ∙ ap (λ (t : Session). t.since) (sym alone.session);
+      waits = stands.waits ∙ ap (λ (t : Session). t.waits) (sym alone.session);
     };
   }
 
@@ -119,7 +121,7 @@ pub unchanged : {o : Outcome} {old : Seen} {now : View} {answer : Answer} → o.
 unchanged {o} {old} quiets none is = record { answers = is; made = λ t. none_made quiets none (refl, omega arith); undamaged = tt; leaves = λ t. runs_none old.clock _ }
 
 -- one that changed programs alone
-pub apart_did : {o : Outcome} {s : Session} {old : Seen} {answer : Answer} {programs new : List Program} {pending : Bool} {since : ℕ} → Alone o s answer new → StandsFor (view_of old.db old.mark old.next programs pending since) s → PerformsCall o old old (view_of old.db old.mark old.next new pending since) (Ok answer)
+pub apart_did : {o : Outcome} {s : Session} {old : Seen} {answer : Answer} {programs new : List Program} {pending : Bool} {since : ℕ} {waits : List Wait} → Alone o s answer new → StandsFor (view_of old.db old.mark old.next programs pending since waits) s → PerformsCall o old old (view_of old.db old.mark old.next new pending since waits) (Ok answer)
 apart_did alone stands = unchanged alone.quiets alone.unsynced (apart alone stands)
 
 -- a call that first stores a record, and then does the rest
@@ -130,3 +132,7 @@ then_did {o} {old = old} {result = result} whole silent points s next room tells
   undamaged = did.undamaged;
   leaves = λ t. then_settles o.quiets whole (silent.leaves t (omega (arith, next, room))) (points t (omega (arith, next, room))) silent.next silent.said (did.leaves (tells t));
 }
+
+-- a call whose program wasn't answered in the end
+pub unanswered_did : {o : Outcome} {old new : Seen} {then now : View} {before result : Result Answer BlockFault} (name : List ℕ) → IsErr result → Undamaged result → PerformsCall o old new then before → PerformsCall (answered name o) old new now result
+unanswered_did {result = result} name err undamaged did = record { answers = if_err result _ err; made = λ t. if_err result _ err; undamaged = undamaged; leaves = did.leaves }

@@ -4,6 +4,7 @@ use Rattle.std.specs.Prelude.{slice_get, slice_set}
 use Rattle.std.specs.declared.option.Option.{Option}
 use Rattle.dms_desc.specs.Shape.{Described}
 use Rattle.dms_model.specs.declared.program.Program.{Program}
+use Rattle.dms_model.specs.declared.program.Wait.{Wait}
 use Rattle.dms_model.specs.declared.reply.Answer.{Answer}
 use Rattle.dms_model.specs.declared.reply.Reply.{Reply}
 use Rattle.dms_model.specs.declared.reply.Reply.TheVariants.{Done, Exception}
@@ -14,19 +15,19 @@ use Rattle.dms_storeverbs.specs.Keeping.{KeptIs, kept_if, reply_of}
 use Rattle.dms_storeverbs.specs.View.{View, StandsFor, MatchesOutcome, view_of}
 use Rattle.dms_storeverbs.proofs.Places.{set_twice, set_back, read_back}
 
-pub kept_as_it_was : (audit : Bool) (desc : Described) (p : Program) (s : Session) (i : ℕ) {db mark : Option Db} {next since : ℕ} {programs : List Program} {pending : Bool} → audit ≡ false → slice_get programs i ≡ Some p → StandsFor (view_of db mark next programs pending since) s → KeptIs (kept_if audit desc p s.db) i s None (view_of db mark next programs pending since)
+pub kept_as_it_was : (audit : Bool) (desc : Described) (p : Program) (s : Session) (i : ℕ) {db mark : Option Db} {next since : ℕ} {programs : List Program} {pending : Bool} {waits : List Wait} → audit ≡ false → slice_get programs i ≡ Some p → StandsFor (view_of db mark next programs pending since waits) s → KeptIs (kept_if audit desc p s.db) i s None (view_of db mark next programs pending since waits)
 kept_as_it_was audit desc p s i {programs = programs} not at stands =
     let there : slice_get s.programs i ≡ Some p = subst (λ (ps : List Program). slice_get ps i ≡ Some p) stands.programs at in
-    rw not (refl, record { db = stands.db; mark = stands.mark; next = stands.next; programs = stands.programs ∙ sym (set_back s.programs i p there); pending = stands.pending; since = stands.since })
+    rw not (refl, record { db = stands.db; mark = stands.mark; next = stands.next; programs = stands.programs ∙ sym (set_back s.programs i p there); pending = stands.pending; since = stands.since; waits = stands.waits })
 
 refused_is : (r : Refusal) (s : Session) (v : View) (answer : Answer) (reply : Reply) → reply_of (Some r) ≡ Some reply → StandsFor v s → answer.reply ≡ Exception r.category r.name → answer.sync ≡ None → MatchesOutcome (replies s reply) answer v
 refused_is r s v answer reply same stands said sync =
     let is : Exception r.category r.name ≡ reply = cc in
     record { reply = said ∙ is; sync = sync; session = stands }
 
-done_is : (f : Program → Program) (s : Session) (i : ℕ) (q x y : Program) (db' : Db) (answer : Answer) {db mark : Option Db} {next since : ℕ} {programs : List Program} {pending : Bool}
-    → i < length s.programs → StandsFor (view_of db mark next programs pending since) (record s { db = db'; programs = slice_set s.programs i q }) → x ≡ get_or programs i x → y ≡ f x → answer.reply ≡ Done [] → answer.sync ≡ None
-    → MatchesOutcome (done (record s { db = db'; programs = slice_set s.programs i (f q) })) answer (view_of db mark next (slice_set programs i y) pending since)
+done_is : (f : Program → Program) (s : Session) (i : ℕ) (q x y : Program) (db' : Db) (answer : Answer) {db mark : Option Db} {next since : ℕ} {programs : List Program} {pending : Bool} {waits : List Wait}
+    → i < length s.programs → StandsFor (view_of db mark next programs pending since waits) (record s { db = db'; programs = slice_set s.programs i q }) → x ≡ get_or programs i x → y ≡ f x → answer.reply ≡ Done [] → answer.sync ≡ None
+    → MatchesOutcome (done (record s { db = db'; programs = slice_set s.programs i (f q) })) answer (view_of db mark next (slice_set programs i y) pending since waits)
 done_is f s i q x y db' answer {programs = programs} low stands at changed reply sync =
     let is : x ≡ q = read_back s.programs programs i q x low stands.programs at in
     record {
@@ -39,6 +40,7 @@ done_is f s i q x y db' answer {programs = programs} low stands at changed reply
         programs = ap (λ (ps : List Program). slice_set ps i y) stands.programs ∙ set_twice s.programs i q y ∙ ap (λ (z : Program). slice_set s.programs i z) (changed ∙ ap f is);
         pending = stands.pending;
         since = stands.since;
+        waits = stands.waits;
       };
     }
 
@@ -66,25 +68,25 @@ pub begin_quiets : (k : StoreResult) (i : ℕ) (s : Session) → (after_begin k 
 begin_quiets (Refused reply') i s = refl
 begin_quiets (Keeps q db) i s = refl
 
-pub store_done : (k : StoreResult) (i : ℕ) (s : Session) (x y : Program) (answer : Answer) (db mark : Option Db) (next since : ℕ) (programs : List Program) (pending : Bool) → i < length s.programs
-    → KeptIs k i s None (view_of db mark next programs pending since) → x ≡ get_or programs i x → y ≡ carried x → answer.reply ≡ Done [] → answer.sync ≡ None
-    → MatchesOutcome (after_store k i s) answer (view_of db mark next (slice_set programs i y) pending since)
-store_done (Refused reply') i s x y answer db' mark next since programs pending low h at changed reply sync = absurd (let no = h.0 in cc)
-store_done (Keeps q db) i s x y answer db' mark next since programs pending low h at changed reply sync = done_is carried s i q x y db answer low h.1 at changed reply sync
+pub store_done : (k : StoreResult) (i : ℕ) (s : Session) (x y : Program) (answer : Answer) (db mark : Option Db) (next since : ℕ) (programs : List Program) (pending : Bool) (waits : List Wait) → i < length s.programs
+    → KeptIs k i s None (view_of db mark next programs pending since waits) → x ≡ get_or programs i x → y ≡ carried x → answer.reply ≡ Done [] → answer.sync ≡ None
+    → MatchesOutcome (after_store k i s) answer (view_of db mark next (slice_set programs i y) pending since waits)
+store_done (Refused reply') i s x y answer db' mark next since programs pending waits low h at changed reply sync = absurd (let no = h.0 in cc)
+store_done (Keeps q db) i s x y answer db' mark next since programs pending waits low h at changed reply sync = done_is carried s i q x y db answer low h.1 at changed reply sync
 
-pub begin_done : (k : StoreResult) (i : ℕ) (s : Session) (x y : Program) (answer : Answer) (db mark : Option Db) (next since : ℕ) (programs : List Program) (pending : Bool) → i < length s.programs
-    → KeptIs k i s None (view_of db mark next programs pending since) → x ≡ get_or programs i x → y ≡ entered x → answer.reply ≡ Done [] → answer.sync ≡ None
-    → MatchesOutcome (after_begin k i s) answer (view_of db mark next (slice_set programs i y) pending since)
-begin_done (Refused reply') i s x y answer db' mark next since programs pending low h at changed reply sync = absurd (let no = h.0 in cc)
-begin_done (Keeps q db) i s x y answer db' mark next since programs pending low h at changed reply sync = done_is entered s i q x y db answer low h.1 at changed reply sync
+pub begin_done : (k : StoreResult) (i : ℕ) (s : Session) (x y : Program) (answer : Answer) (db mark : Option Db) (next since : ℕ) (programs : List Program) (pending : Bool) (waits : List Wait) → i < length s.programs
+    → KeptIs k i s None (view_of db mark next programs pending since waits) → x ≡ get_or programs i x → y ≡ entered x → answer.reply ≡ Done [] → answer.sync ≡ None
+    → MatchesOutcome (after_begin k i s) answer (view_of db mark next (slice_set programs i y) pending since waits)
+begin_done (Refused reply') i s x y answer db' mark next since programs pending waits low h at changed reply sync = absurd (let no = h.0 in cc)
+begin_done (Keeps q db) i s x y answer db' mark next since programs pending waits low h at changed reply sync = done_is entered s i q x y db answer low h.1 at changed reply sync
 
 -- END goes on from what storing leaves: what is told of settling is told of the whole
-pub end_goes : (P : Outcome → Type 0) (k : StoreResult) (desc : Described) (i : ℕ) (s : Session) (sync : Bool) (x y : Program) (db mark : Option Db) (next since since' : ℕ) (programs : List Program) (pending pending' : Bool) → i < length s.programs
-    → KeptIs k i s None (view_of db mark next programs pending since) → x ≡ get_or programs i x → y ≡ left x
-    → ((t : Session) → t.pending ≡ (pending || sync || nat_le desc.syncpoint (one_more since)) → t.since ≡ one_more since → t.next ≡ s.next → (pending' ≡ t.pending → since' ≡ t.since → StandsFor (view_of db mark next (slice_set programs i y) pending' since') t) → P (settle t))
+pub end_goes : (P : Outcome → Type 0) (k : StoreResult) (desc : Described) (i : ℕ) (s : Session) (sync : Bool) (x y : Program) (db mark : Option Db) (next since since' : ℕ) (programs : List Program) (pending pending' : Bool) (waits : List Wait) → i < length s.programs
+    → KeptIs k i s None (view_of db mark next programs pending since waits) → x ≡ get_or programs i x → y ≡ left x
+    → ((t : Session) → t.pending ≡ (pending || sync || nat_le desc.syncpoint (one_more since)) → t.since ≡ one_more since → t.next ≡ s.next → (pending' ≡ t.pending → since' ≡ t.since → StandsFor (view_of db mark next (slice_set programs i y) pending' since' waits) t) → P (settle t))
     → P (after_end k desc i s sync)
-end_goes P (Refused reply') desc i s sync x y db' mark next since since' programs pending pending' low h at changed goes = absurd (let no = h.0 in cc)
-end_goes P (Keeps q db) desc i s sync x y db' mark next since since' programs pending pending' low h at changed goes =
+end_goes P (Refused reply') desc i s sync x y db' mark next since since' programs pending pending' waits low h at changed goes = absurd (let no = h.0 in cc)
+end_goes P (Keeps q db) desc i s sync x y db' mark next since since' programs pending pending' waits low h at changed goes =
     let stands = h.1 in
     let is : x ≡ q = read_back s.programs programs i q x low stands.programs at in
     goes (record s { db = db; programs = slice_set s.programs i (left q); pending = s.pending || sync || nat_le desc.syncpoint (one_more s.since); since = one_more s.since })
@@ -97,4 +99,5 @@ end_goes P (Keeps q db) desc i s sync x y db' mark next since since' programs pe
       programs = ap (λ (ps : List Program). slice_set ps i y) stands.programs ∙ set_twice s.programs i q y ∙ ap (λ (z : Program). slice_set s.programs i z) (changed ∙ ap left is);
       pending = pending_is;
       since = since_is;
+      waits = stands.waits;
     })

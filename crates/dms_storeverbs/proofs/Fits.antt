@@ -1,23 +1,14 @@
 -- What the tests before a call of the store show.
-use Rattle.std.proofs.Common.{◌≡◌, ◌<◌, ◌-◌, ◌+◌, ◌^◌, ℕ, zero, suc, List, [], ◌∷◌, Bool, true, false, Some, None, refl, sym, ap, ◌∙◌, subst, length, arith}
-use Rattle.std.specs.Prelude.{◌&&◌, IsTrue, is_some, slice_get}
+use Rattle.std.proofs.Common.{◌≡◌, ◌-◌, List, [], ◌∷◌, Bool, true, false, Some, None, refl, subst}
+use Rattle.std.specs.Prelude.{◌&&◌, IsTrue, slice_get}
 use Rattle.std.specs.declared.option.Option.{Option}
 use Rattle.dms_base.specs.declared.value.Value.{Value}
 use Rattle.dms_base.specs.declared.kind.Literal.{Literal}
-use Rattle.dms_base.specs.Fits.{fits}
 use Rattle.dms_desc.specs.declared.structure.Item.{Item}
 use Rattle.dms_desc.specs.declared.structure.KeyPart.{KeyPart}
-use Rattle.dms_desc.specs.declared.bound.Bound.TheVariants.{Start, End as Behind}
-use Rattle.dms_desc.specs.Shape.{Shape, Described}
-use Rattle.dms_desc.specs.Lookups.{structure_of, items_of, parts_of, set_of}
-use Rattle.dms_model.specs.declared.spot.Spot.{Spot}
-use Rattle.dms_model.specs.declared.verb.Path.{Path}
-use Rattle.dms_model.specs.declared.verb.Path.TheVariants.{First, Last, At}
-use Rattle.dms_model.specs.Db.{Db}
 use Rattle.dms_model.specs.Fitting.{fits_item, key_fits}
 use Rattle.dms_model.specs.FitLaws.{fitted_fits}
-use Rattle.dms_model.specs.Members.{first_of, last_of, at_of, first_member, last_member, at_member}
-use Rattle.dms_model.specs.Session.{at_values, fitted, found_by, key_values, onto, path_of}
+use Rattle.dms_model.specs.Session.{fitted, key_values, onto}
 
 and_true : (a b : Bool) → a ≡ true → IsTrue b → IsTrue (a && b)
 and_true true b h k = k

@@ -8,6 +8,7 @@ use Rattle.dms_base.specs.declared.category.Category.TheVariants.{Duplicates, Li
 use Rattle.dms_desc.specs.declared.record.Record.{Record}
 use Rattle.dms_desc.specs.Shape.{Described}
 use Rattle.dms_model.specs.declared.program.Program.{Program}
+use Rattle.dms_model.specs.declared.program.Wait.{Wait}
 use Rattle.dms_model.specs.declared.put.Put.{Put}
 use Rattle.dms_model.specs.declared.reply.Reply.TheVariants.{Exception}
 use Rattle.dms_model.specs.declared.put.Put.TheVariants.{Stored, Duplicate, Full}
@@ -40,14 +41,14 @@ pub may_put : (desc : Described) (s : Session) (q p : Program) (set i : ℕ) (nu
 may_put desc s q p set i number rec same at held outer ready =
     let safe : AreSafe s.db s.mark q = subst (AreSafe s.db s.mark) same (all_at (AreSafe s.db s.mark) s.programs i p at held.safe) in
     record {
-      owner = owner_so s.db.records (owner_of (structure_of desc set)) rec.owner outer.disjoint ready.unowned;
+      owner = λ new. owner_so s.db.records (owner_of (structure_of desc set)) rec.owner outer.disjoint ready.unowned;
       replaced = replaced_so s.db q set number safe.stand ready.locked;
       required = ready.required;
       verified = ready.verified;
     }
 
-module _ (desc desc' : Described) (told new mark : Option Db) (next since : ℕ) (programs : List Program) (pending : Bool) (p : Program) (s : Session) (i set : ℕ) (number : Option ℕ) (rec : Record) (k : StoreResult)
-    (desc_is : desc' ≡ desc) (told_is : told ≡ Some s.db) (mark_is : mark ≡ Some s.mark) (next_is : next ≡ s.next) (pending_is : pending ≡ s.pending) (since_is : since ≡ s.since)
+module _ (desc desc' : Described) (told new mark : Option Db) (next since : ℕ) (programs : List Program) (pending : Bool) (waits : List Wait) (p : Program) (s : Session) (i set : ℕ) (number : Option ℕ) (rec : Record) (k : StoreResult)
+    (desc_is : desc' ≡ desc) (told_is : told ≡ Some s.db) (mark_is : mark ≡ Some s.mark) (next_is : next ≡ s.next) (pending_is : pending ≡ s.pending) (since_is : since ≡ s.since) (waits_is : waits ≡ s.waits)
     (k_is : k ≡ put_record (put_answer desc s.db set number rec) desc p s.db set rec) (may : MayPut desc s.db set number rec) where
   puts_of : (a : Put) → Puts told new desc' set number rec a → (a ≡ put_answer desc' s.db set number rec) × (new ≡ Some (put_after (put_answer desc' s.db set number rec) desc' s.db set rec))
   puts_of a puts = subst (λ (t : Option Db). Puts t new desc' set number rec a) told_is puts (subst (λ (d : Described). MayPut d s.db set number rec) (sym desc_is) may)
@@ -61,18 +62,18 @@ module _ (desc desc' : Described) (told new mark : Option Db) (next since : ℕ)
   keeps : (a : Put) → Puts told new desc' set number rec a → k ≡ put_record a desc p s.db set rec
   keeps a puts = k_is ∙ ap (λ (x : Put). put_record x desc p s.db set rec) (answered a puts)
 
-  pub kept_stored : (n : ℕ) (q : Program) → Puts told new desc' set number rec (Stored n) → q ≡ with_stored p set n rec.values → programs ≡ slice_set s.programs i q → KeptIs k i s None (view_of new mark next programs pending since)
+  pub kept_stored : (n : ℕ) (q : Program) → Puts told new desc' set number rec (Stored n) → q ≡ with_stored p set n rec.values → programs ≡ slice_set s.programs i q → KeptIs k i s None (view_of new mark next programs pending since waits)
   kept_stored n q puts q_is programs_is =
-      subst (λ (x : StoreResult). KeptIs x i s None (view_of new mark next programs pending since)) (sym (keeps (Stored n) puts))
-      (refl, record { db = left_db (Stored n) puts; mark = mark_is; next = next_is; programs = programs_is ∙ ap (λ (x : Program). slice_set s.programs i x) q_is; pending = pending_is; since = since_is })
+      subst (λ (x : StoreResult). KeptIs x i s None (view_of new mark next programs pending since waits)) (sym (keeps (Stored n) puts))
+      (refl, record { db = left_db (Stored n) puts; mark = mark_is; next = next_is; programs = programs_is ∙ ap (λ (x : Program). slice_set s.programs i x) q_is; pending = pending_is; since = since_is; waits = waits_is })
 
-  kept_not : (a : Put) (c : Category) (name name' : List ℕ) → put_record a desc p s.db set rec ≡ Refused (Exception c name) → put_after a desc s.db set rec ≡ s.db → Puts told new desc' set number rec a → name' ≡ name → programs ≡ s.programs → KeptIs k i s (Some (record { category = c; name = name' })) (view_of new mark next programs pending since)
+  kept_not : (a : Put) (c : Category) (name name' : List ℕ) → put_record a desc p s.db set rec ≡ Refused (Exception c name) → put_after a desc s.db set rec ≡ s.db → Puts told new desc' set number rec a → name' ≡ name → programs ≡ s.programs → KeptIs k i s (Some (record { category = c; name = name' })) (view_of new mark next programs pending since waits)
   kept_not a c name name' not same puts name_is programs_is =
-      subst (λ (x : StoreResult). KeptIs x i s (Some (record { category = c; name = name' })) (view_of new mark next programs pending since)) (sym (keeps a puts ∙ not))
-      (ap (λ (x : List ℕ). Some (Exception c x)) name_is, record { db = left_db a puts ∙ ap (λ (d : Db). Some d) same; mark = mark_is; next = next_is; programs = programs_is; pending = pending_is; since = since_is })
+      subst (λ (x : StoreResult). KeptIs x i s (Some (record { category = c; name = name' })) (view_of new mark next programs pending since waits)) (sym (keeps a puts ∙ not))
+      (ap (λ (x : List ℕ). Some (Exception c x)) name_is, record { db = left_db a puts ∙ ap (λ (d : Db). Some d) same; mark = mark_is; next = next_is; programs = programs_is; pending = pending_is; since = since_is; waits = waits_is })
 
-  pub kept_duplicate : (d : ℕ) (name : List ℕ) → Puts told new desc' set number rec (Duplicate d) → name ≡ name_of (structure_of desc d) → programs ≡ s.programs → KeptIs k i s (Some (record { category = Duplicates; name = name })) (view_of new mark next programs pending since)
+  pub kept_duplicate : (d : ℕ) (name : List ℕ) → Puts told new desc' set number rec (Duplicate d) → name ≡ name_of (structure_of desc d) → programs ≡ s.programs → KeptIs k i s (Some (record { category = Duplicates; name = name })) (view_of new mark next programs pending since waits)
   kept_duplicate d name puts name_is programs_is = kept_not (Duplicate d) Duplicates (name_of (structure_of desc d)) name refl refl puts name_is programs_is
 
-  pub kept_full : (name : List ℕ) → Puts told new desc' set number rec Full → name ≡ name_of (structure_of desc set) → programs ≡ s.programs → KeptIs k i s (Some (record { category = LimitError; name = name })) (view_of new mark next programs pending since)
+  pub kept_full : (name : List ℕ) → Puts told new desc' set number rec Full → name ≡ name_of (structure_of desc set) → programs ≡ s.programs → KeptIs k i s (Some (record { category = LimitError; name = name })) (view_of new mark next programs pending since waits)
   kept_full name puts name_is programs_is = kept_not Full LimitError (name_of (structure_of desc set)) name refl refl puts name_is programs_is

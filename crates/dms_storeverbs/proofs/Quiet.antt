@@ -1,27 +1,26 @@
 -- The quiet rule, verb by verb.
 use Rattle.std.proofs.Common.{◌≡◌, ◌+◌, ℕ, zero, suc, List, [], ◌∷◌, ◌++◌, Bool, true, false, cond, Some, None, refl, sym, ap, ◌∙◌, subst, not, ◌&&◌, ◌||◌, nat_le, length, map}
-use Rattle.std.specs.Prelude.{slice_get, slice_set, is_some}
+use Rattle.std.specs.Prelude.{slice_get, slice_set}
 use Rattle.std.specs.declared.option.Option.{Option}
 use Rattle.dms_desc.specs.Shape.{Described}
 use Rattle.dms_base.specs.declared.category.Category.{Category}
-use Rattle.dms_base.specs.declared.category.Category.TheVariants.{LimitError, NoRecord, AuditError, DataError, NotLocked, Abort as AbortDue}
+use Rattle.dms_base.specs.declared.category.Category.TheVariants.{LimitError, AuditError, Abort as AbortDue}
 use Rattle.dms_model.specs.declared.program.Program.{Program}
 use Rattle.dms_model.specs.declared.program.Area.{Area}
 use Rattle.dms_model.specs.declared.program.Mode.{Mode}
 use Rattle.dms_model.specs.declared.verb.Verb.{Verb}
 use Rattle.dms_model.specs.declared.verb.Verb.TheVariants.{OpenUpdate, OpenInquiry, Close, Find, Create, Put as PutItems, Get, Store, Begin, End, Abort}
 use Rattle.dms_model.specs.declared.reply.Reply.TheVariants.{Exception}
-use Rattle.dms_model.specs.declared.put.Put.{Put}
-use Rattle.dms_model.specs.declared.put.Put.TheVariants.{Stored, Duplicate, Full}
+use Rattle.dms_model.specs.declared.put.Put.TheVariants.{Stored}
 use Rattle.dms_model.specs.declared.spot.Spot.{Spot}
 use Rattle.dms_model.specs.declared.verb.Path.{Path}
 use Rattle.dms_model.specs.declared.verb.Setting.{Setting}
 use Rattle.dms_model.specs.Db.{Db}
-use Rattle.dms_desc.specs.Lookups.{name_of, structure_of, items_of, set_of}
+use Rattle.dms_desc.specs.Lookups.{structure_of, items_of, set_of}
 use Rattle.dms_model.specs.Stores.{put_after}
 use Rattle.dms_model.specs.StoreLaws.{keep_any}
 use Rattle.dms_model.specs.declared.reply.Reply.{Reply}
-use Rattle.dms_model.specs.Session.{Session, Outcome, StoreResult, Refused, Keeps, Filled, Misfit, Values', refuse, done, shows, settle, keep, store_step, after_store, begin_step, after_begin, begun, replies, stored_program, end_step, after_end, abort_step, find_step, find_for, after_find, found_by, create_step, create_for, owner_for, put_step, put_area, after_put, filled, get_step, get_area, close_step, open_as, open_in, open_step, verb_step, step_at, step, with_program, work_of, restart_of, someone_works, is_inquiry, opens, changes, path_of, new_program, place_of, carried, entered, left, without, idle, found_program, let_go, area_values, area_number, record_of, is_free, one_more}
+use Rattle.dms_model.specs.Session.{Session, Outcome, StoreResult, Refused, Keeps, Filled, Misfit, Values', refuse, done, shows, settle, keep, store_step, after_store, begin_step, after_begin, begun, replies, stored_program, end_step, after_end, abort_step, find_step, find_for, after_find, found_by, create_step, create_for, owner_for, put_step, put_area, after_put, filled, get_step, get_area, close_step, open_as, open_in, open_step, verb_step, step_at, answered, carried_out, step, with_program, work_of, restart_of, someone_works, is_inquiry, opens, changes, path_of, new_program, place_of, carried, entered, left, without, idle, found_program, let_go, area_values, record_of, one_more}
 use Rattle.dms_model.specs.BackOut.{asks_back_out}
 use Rattle.dms_model.specs.Traits.{traits}
 use Rattle.dms_storeverbs.specs.Laws.{MakesNone, MakesWhereQuiet, falls_quiet, QuietRule}
@@ -232,6 +231,13 @@ step_at_rule desc (Some p) i s name v at =
     (makes_if v s p.owes_abort (due_outcome s i p name) _ (by_steady v s (due_outcome s i p name) (record { none = record { quiets = refl; next = refl; mark = refl; unsynced = refl }; works = λ w. set_works s.programs i p (record p { owes_abort = false }) at refl ∙ w }))
     (makes_if v s (is_inquiry p.mode && changes v) _ _ (by_steady v s _ (steady_refuse s _ _)) (verb_rule desc i p s v at)))
 
+answered_makes : (b : Bool) (s : Session) (name : List ℕ) (o : Outcome) → MakesWhereQuiet b s o → MakesWhereQuiet b s (answered name o)
+answered_makes true s name o h = record { quiets = h.quiets; next = h.next; mark = h.mark; idle = h.idle; taken = h.taken; synced = h.synced; own = h.own }
+answered_makes false s name o h = record { quiets = h.quiets; next = h.next; mark = h.mark; unsynced = h.unsynced }
+
 pub quiet_rule : QuietRule
-unfolding step
-quiet_rule desc s name v = step_at_rule desc (slice_get s.programs (place_of name s.programs)) (place_of name s.programs) s name v refl
+unfolding step carried_out
+quiet_rule desc s name v =
+    let i = place_of name s.programs in
+    let o = step_at desc (slice_get s.programs i) i s name v in
+    answered_makes (falls_quiet v s o.session) s name o (step_at_rule desc (slice_get s.programs (place_of name s.programs)) (place_of name s.programs) s name v refl)

@@ -1,6 +1,6 @@
 -- Outside transaction state the database is that of the last quiet point: step by step.
-use Rattle.std.proofs.Common.{◌≡◌, ℕ, List, [], ◌∷◌, Bool, true, false, cond, Some, None, refl, sym, ◌∙◌, not, ◌&&◌, ◌||◌, nat_le, length}
-use Rattle.std.specs.Prelude.{slice_get, slice_set, is_some}
+use Rattle.std.proofs.Common.{◌≡◌, ℕ, List, [], Bool, true, false, cond, Some, None, refl, sym, ◌∙◌, ◌&&◌, ◌||◌, nat_le, length}
+use Rattle.std.specs.Prelude.{slice_get, slice_set}
 use Rattle.std.specs.declared.option.Option.{Option}
 use Rattle.dms_desc.specs.Shape.{Described}
 use Rattle.dms_base.specs.declared.category.Category.TheVariants.{LimitError, AuditError}
@@ -12,11 +12,11 @@ use Rattle.dms_model.specs.declared.spot.Spot.{Spot}
 use Rattle.dms_model.specs.declared.verb.Path.{Path}
 use Rattle.dms_model.specs.declared.verb.Setting.{Setting}
 use Rattle.dms_desc.specs.Lookups.{structure_of, items_of}
-use Rattle.dms_model.specs.Session.{Session, Outcome, StoreResult, Refused, Keeps, Filled, Misfit, Values', refuse, done, settle, keep, store_step, after_store, begin_step, after_begin, begun, end_step, after_end, abort_step, find_step, find_for, after_find, found_by, create_step, create_for, owner_for, put_step, put_area, after_put, filled, get_step, get_area, close_step, open_in, open_step, verb_step, step_at, step, work_of, restart_of, someone_works, is_inquiry, opens, changes, path_of, place_of, carried, entered, left, without, one_more, area_values}
+use Rattle.dms_model.specs.Session.{Session, Outcome, StoreResult, Refused, Keeps, Filled, Misfit, Values', refuse, done, settle, keep, store_step, after_store, begin_step, after_begin, begun, end_step, after_end, abort_step, find_step, find_for, after_find, found_by, create_step, create_for, owner_for, put_step, put_area, after_put, filled, get_step, get_area, close_step, open_in, open_step, verb_step, step_at, carried_out, step, work_of, restart_of, someone_works, is_inquiry, opens, changes, path_of, place_of, carried, entered, left, without, one_more, area_values}
 use Rattle.dms_model.specs.declared.program.Mode.{Mode}
 use Rattle.dms_model.specs.Traits.{traits}
 use Rattle.dms_storeverbs.specs.Laws.{Rests, RestRule}
-use Rattle.dms_storeverbs.proofs.Quiet.{Steady, set_enters, SameWork, keep_same, find_steady, get_steady, close_steady, steady_at, let_go_works, create_for_steady, open_steady, due_outcome, set_works}
+use Rattle.dms_storeverbs.proofs.Quiet.{Steady, set_enters, SameWork, keep_same, find_steady, get_steady, close_steady, steady_at, create_for_steady, open_steady, due_outcome, set_works}
 
 -- what an outcome makes of it
 abbrev Resting : Session → Outcome → Type 0
@@ -124,5 +124,5 @@ step_at_rests desc (Some p) i s name v at =
     (resting_if s (is_inquiry p.mode && changes v) _ _ (λ r. r) (verb_rests desc i p s v at)))
 
 pub rest_rule : RestRule
-unfolding step
+unfolding step carried_out
 rest_rule desc s name v = step_at_rests desc (slice_get s.programs (place_of name s.programs)) (place_of name s.programs) s name v refl

@@ -15,7 +15,7 @@ use Rattle.dms_model.specs.declared.spot.Spot.{Spot}
 use Rattle.dms_model.specs.declared.verb.Verb.{Verb}
 use Rattle.dms_model.specs.declared.verb.Path.{Path}
 use Rattle.dms_desc.specs.Lookups.{structure_of, name_of, set_of}
-use Rattle.dms_model.specs.Session.{Session, Outcome, StoreResult, Refused, area_answer, area_of, area_refusals, begun, begun_with, first_held, has_some, or_no_area, storing, unless, refuse, done, keep, store_step, after_store, begin_step, after_begin, awaited, end_step, after_end, find_step, find_for, after_find, found_by, owner_for, refuse_unowned, found_program, with_program, carried, path_of, restart_of, work_of, step, step_at, open_step, place_of}
+use Rattle.dms_model.specs.Session.{Session, Outcome, StoreResult, Refused, area_answer, area_of, area_refusals, begun, begun_with, first_held, has_some, or_no_area, storing, unless, refuse, done, keep, store_step, after_store, begin_step, after_begin, awaited, end_step, after_end, find_step, find_for, after_find, found_by, owner_for, refuse_unowned, found_program, with_program, carried, path_of, restart_of, work_of, carried_out, step_at, open_step, place_of}
 use Rattle.dms_storeverbs.specs.Keeping.{kept_if}
 
 pub there_is : {A : Type 0} (xs : List A) (i : ℕ) → i < length xs → (x : A) × (slice_get xs i ≡ Some x)
@@ -90,14 +90,14 @@ pub find_some : (desc : Described) (i : ℕ) (p : Program) (s : Session) (path :
 unfolding find_step
 find_some desc i p s path owner r own some = ap (λ (o : Option ℕ). find_for o desc i p s path) own ∙ ap (λ (t : Option Spot). after_find t desc i p s (path_of path)) some
 
-pub step_opens : (desc : Described) (s : Session) (name : List ℕ) (v : Verb) (i : ℕ) → i ≡ place_of name s.programs → length s.programs ≤ i → step desc s name v ≡ open_step desc s name v
-unfolding step
-step_opens desc s name v i place past =
+pub carried_out_opens : (desc : Described) (s : Session) (name : List ℕ) (v : Verb) (i : ℕ) → i ≡ place_of name s.programs → length s.programs ≤ i → carried_out desc s name v ≡ open_step desc s name v
+unfolding carried_out
+carried_out_opens desc s name v i place past =
     let at : slice_get s.programs (place_of name s.programs) ≡ None = slice_get_past s.programs (place_of name s.programs) (omega (arith, place, past)) in
     ap (λ (o : Option Program). step_at desc o (place_of name s.programs) s name v) at
 
-pub step_is_at : (desc : Described) (s : Session) (name : List ℕ) (v : Verb) (i : ℕ) (p : Program) → i ≡ place_of name s.programs → slice_get s.programs i ≡ Some p → step desc s name v ≡ step_at desc (Some p) i s name v
-unfolding step
-step_is_at desc s name v i p place at =
+pub carried_out_at : (desc : Described) (s : Session) (name : List ℕ) (v : Verb) (i : ℕ) (p : Program) → i ≡ place_of name s.programs → slice_get s.programs i ≡ Some p → carried_out desc s name v ≡ step_at desc (Some p) i s name v
+unfolding carried_out
+carried_out_at desc s name v i p place at =
     let there : slice_get s.programs (place_of name s.programs) ≡ Some p = subst (λ (k : ℕ). slice_get s.programs k ≡ Some p) place at in
     ap (λ (o : Option Program). step_at desc o (place_of name s.programs) s name v) there ∙ ap (λ (k : ℕ). step_at desc (Some p) k s name v) (sym place)

@@ -1,5 +1,5 @@
 -- What a call of the engine costs its store.
-use Rattle.std.specs.Prelude.{ℕ, ◌≡◌, ◌≤◌, ◌+◌, ◌*◌, Bool, true, false, not, ◌&&◌, length, is_some, IfOk, if◌then◌else◌}
+use Rattle.std.specs.Prelude.{ℕ, ◌≡◌, ◌≤◌, ◌+◌, ◌*◌, Bool, true, false, ◌&&◌, length, is_some, IfOk, if◌then◌else◌}
 use Rattle.std.specs.declared.result.Result.{Result}
 use Rattle.dms_block.specs.declared.block_fault.BlockFault.{BlockFault}
 use Rattle.dms_desc.specs.Shape.{Described}
@@ -22,7 +22,7 @@ stores verb = (traits verb).stores
 
 -- END-TRANSACTION NO-AUDIT, with SYNC or without, takes no memory
 abbrev pub takes_none : Verb → Bool
-takes_none verb = (traits verb).spares
+takes_none verb = (traits verb).takes_none
 
 -- at most 64 blocks of each structure are changed for the one record that is stored, and none where none is
 abbrev pub limit_if : Bool → Described → ℕ

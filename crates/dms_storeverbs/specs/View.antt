@@ -8,6 +8,7 @@ use Rattle.dms_block.specs.Faults.{Undamaged}
 use Rattle.dms_moments.specs.Moments.{Runs}
 use Rattle.dms_laws.specs.Exclusive.{IsExclusive}
 use Rattle.dms_model.specs.declared.program.Program.{Program}
+use Rattle.dms_model.specs.declared.program.Wait.{Wait}
 use Rattle.dms_model.specs.declared.reply.Answer.{Answer}
 use Rattle.dms_model.specs.declared.store.Store.{Ghosts}
 use Rattle.dms_model.specs.Db.{Db}
@@ -17,7 +18,7 @@ use Rattle.dms_model.specs.Session.{Session, Outcome}
 use Rattle.dms_storeverbs.specs.declared.engine.Engine.{Engine}
 
 -- what an engine has: the database and that of the last quiet point, where its store tells them, the next number, the open
--- programs, whether a syncpoint is pending, and the transactions since the last one
+-- programs, whether a syncpoint is pending, the transactions since the last one, and the waits
 pub record View : Type 0 where
   pub db : Option Db
   pub mark : Option Db
@@ -25,9 +26,10 @@ pub record View : Type 0 where
   pub programs : List Program
   pub pending : Bool
   pub since : ℕ
+  pub waits : List Wait
 
-abbrev pub view_of : Option Db → Option Db → ℕ → List Program → Bool → ℕ → View
-view_of db mark next programs pending since = record { db = db; mark = mark; next = next; programs = programs; pending = pending; since = since }
+abbrev pub view_of : Option Db → Option Db → ℕ → List Program → Bool → ℕ → List Wait → View
+view_of db mark next programs pending since waits = record { db = db; mark = mark; next = next; programs = programs; pending = pending; since = since; waits = waits }
 
 -- a view stands for a session: its store tells the databases, and they are the session's
 pub record StandsFor (v : View) (s : Session) : Type 0 where
@@ -37,6 +39,7 @@ pub record StandsFor (v : View) (s : Session) : Type 0 where
   pub programs : v.programs ≡ s.programs
   pub pending : v.pending ≡ s.pending
   pub since : v.since ≡ s.since
+  pub waits : v.waits ≡ s.waits
 
 -- room for the number of one more quiet point, and for the one behind it
 abbrev pub Room : ℕ → Type 0
@@ -82,7 +85,7 @@ module _ {St : Type 0} {g : Ghosts St} where
   seen e = g.seen e.store
 
   abbrev pub view : Engine St g → View
-  view e = view_of (seen e).db (seen e).mark (seen e).next e.programs.items e.pending e.since
+  view e = view_of (seen e).db (seen e).mark (seen e).next e.programs.items e.pending e.since e.waits
 
 -- the same session stands
 abbrev pub SameSession : {St : Type 0} {g : Ghosts St} → Engine St g → Engine St g → Type 0

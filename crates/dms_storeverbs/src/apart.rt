@@ -5,7 +5,7 @@ ghost use Rattle.dms_model.specs.declared.program.Program.{Program};
 ghost use Rattle.dms_desc.specs.Lookups.{items_of, structure_of};
 ghost use Rattle.dms_model.specs.Areas.{InitialsFit, ProgramsFit};
 ghost use Rattle.dms_model.specs.BackOut.{asks_back_out};
-ghost use Rattle.dms_model.specs.Session.{path_of, open_as, open_step, close_step, create_step, put_step, get_step, is_inquiry};
+ghost use Rattle.dms_model.specs.Session.{path_of, open_as, open_step, close_step, create_step, put_step, get_step, is_inquiry, is_waits};
 ghost use Rattle.dms_model.specs.Traits.{traits};
 ghost use Rattle.dms_model.specs.Spoken.{IsOuter};
 ghost use Rattle.dms_model.specs.Verbs.{IsSettingOf};
@@ -65,6 +65,7 @@ pub fn open(
     requires fit { ProgramsFit (described desc.now) programs.old.items }
     ensures apart { Apart (λ s. open_step (described desc.now) s name.now verb.now) programs.old.items result programs.new.items }
     ensures no_memory { takes_none verb.now ≡ true → IsOk result }
+    ensures no_wait { takes_none verb.now ≡ true → IfOk result (λ a. is_waits a.reply ≡ false) }
     ensures no_back_out { asks_back_out verb.now ≡ true → IfOk result (λ a. is_done a.reply ≡ false) }
     ensures unsynced { IfOk result (λ a. a.sync ≡ None) }
     ensures fit { ProgramsFit (described desc.now) programs.new.items }
@@ -113,6 +114,7 @@ pub fn admit(programs: &mut Vec<Program>, i: usize, name: &Name, verb: &Verb) ->
     ensures fit { (desc : Described) → ProgramsFit desc programs.old.items → ProgramsFit desc programs.new.items }
     ensures count { length programs.new.items ≡ length programs.old.items }
     ensures refused { IfSome result (λ a. (a.sync ≡ None) × (is_done a.reply ≡ false)) }
+    ensures no_wait { IfSome result (λ a. is_waits a.reply ≡ false) }
     ensures admits { (desc : Described) (p : Program) → slice_get programs.old.items i ≡ Some p → Admits result desc p i name.now verb.now programs.old.items programs.new.items }
 {
     if opens(verb).is_some() {

@@ -14,7 +14,7 @@ use crate::programs;
 use dms_base::Memory;
 use dms_block::BlockFault;
 use dms_desc::Description;
-use dms_model::{Program, Store};
+use dms_model::{Program, Store, WaitList};
 use std::alloc::Global;
 
 /// The machine of verbs over a store: what programs ask of a database, one verb after another. What they have at hand fits
@@ -29,6 +29,8 @@ pub struct Engine<St: Store> {
     pub pending: bool,
     /// The transactions since the last syncpoint. The count stands still at its type's end.
     pub since: u64,
+    /// For which programs a program waits.
+    pub waits: WaitList,
     ghost under: { (St.seen store).desc ≡ described desc } by { described_set (St.seen store).desc (described desc) },
     ghost formed: { IsWellFormed (described desc) } by { IsWellFormed-prop (described desc) },
     ghost fit: { ProgramsFit (described desc) programs.items } by { ProgramsFit-prop (described desc) programs.items },
@@ -56,6 +58,7 @@ impl<St: Store> Engine<St> {
                 programs: Vec::new(alloc),
                 pending: false,
                 since: 0,
+                waits: WaitList::new(alloc),
             }),
         }
     }
@@ -91,6 +94,7 @@ impl<St: Store> Engine<St> {
         ensures programs { self.new.programs ≡ self.old.programs }
         ensures pending { self.new.pending ≡ self.old.pending }
         ensures since { self.new.since ≡ self.old.since }
+        ensures waits { self.new.waits ≡ self.old.waits }
         ensures fault { IsOkUnless result BlockFault.Say }
         ensures lasts { EngineLasts result self.old self.new }
     {
@@ -114,6 +118,7 @@ impl<St: Store> Engine<St> {
             programs: _programs,
             pending: _,
             since: _,
+            waits: _waits,
         } = self;
         store
     }

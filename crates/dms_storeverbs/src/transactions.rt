@@ -4,7 +4,7 @@ ghost use Rattle.dms_desc.specs.Shape.{described};
 ghost use Rattle.dms_laws.specs.Exclusive.{IsExclusive};
 ghost use Rattle.dms_model.specs.declared.program.Program.{Program};
 ghost use Rattle.dms_model.specs.Seen.{IsMute, IsSilent, Spends, StaysDurable};
-ghost use Rattle.dms_model.specs.Session.{Session, keep, restart_of, settle, store_step, begin_step, end_step, abort_step};
+ghost use Rattle.dms_model.specs.Session.{Session, keep, restart_of, settle, store_step, begin_step, end_step, abort_step, is_waits};
 ghost use Rattle.dms_model.specs.Spoken.{IsOuter};
 ghost use Rattle.dms_block.specs.Faults.{Undamaged};
 ghost use Rattle.dms_model.specs.Db.{Db};
@@ -94,6 +94,7 @@ impl<St: Store> Engine<St> {
         ensures mute { IsMute (seen self.old) (seen self.new) }
         ensures costs { Costs (limit_if false (seen self.old).desc) false result (seen self.old).effort (seen self.new).effort }
         ensures no_memory { IsErrOf result BlockFault.Memory → ⊥ }
+        ensures no_wait { IfOk result (λ a. is_waits a.reply ≡ false) }
         ensures mute_fault { IsErrOf result BlockFault.Say → ⊥ }
         ensures lasts { EngineLasts result self.old self.new }
     {
@@ -190,6 +191,7 @@ impl<St: Store> Engine<St> {
         ensures mute { IsMute (seen self.old) (seen self.new) }
         ensures costs { Costs (limit_if audit (seen self.old).desc) false result (seen self.old).effort (seen self.new).effort }
         ensures no_memory { audit ≡ false → IsErrOf result BlockFault.Memory → ⊥ }
+        ensures no_wait { IfOk result (λ a. is_waits a.reply ≡ false) }
         ensures mute_fault { IsErrOf result BlockFault.Say → ⊥ }
         ensures lasts { EngineLasts result self.old self.new }
     {

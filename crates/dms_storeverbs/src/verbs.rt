@@ -6,7 +6,7 @@ ghost use Rattle.dms_model.specs.BackOut.{asks_back_out};
 ghost use Rattle.dms_model.specs.Fitting.{IsStructure, SpotFits};
 ghost use Rattle.dms_model.specs.Seen.{IsMute, IsSilent, StaysDurable};
 ghost use Rattle.dms_desc.specs.Lookups.{parts_of, set_of, structure_of, items_of};
-ghost use Rattle.dms_model.specs.Session.{Session, find_step, found_by, path_of, verb_step, step, key_values, at_values};
+ghost use Rattle.dms_model.specs.Session.{Session, find_step, found_by, path_of, verb_step, carried_out, step, is_waits, key_values, at_values};
 ghost use Rattle.dms_model.specs.Verbs.{IsPathOf, IsVerbOf};
 ghost use Rattle.dms_block.specs.Faults.{Undamaged};
 ghost use Rattle.dms_storeverbs.specs.Costs.{Costs, block_limit, takes_none};
@@ -116,6 +116,7 @@ impl<St: Store> Engine<St> {
         ensures mute { IsMute (seen self.old) (seen self.new) }
         ensures costs { Costs (block_limit (seen self.old).desc verb.now) (asks_back_out verb.now) result (seen self.old).effort (seen self.new).effort }
         ensures no_memory { takes_none verb.now ≡ true → IsErrOf result BlockFault.Memory → ⊥ }
+        ensures no_wait { takes_none verb.now ≡ true → IfOk result (λ a. is_waits a.reply ≡ false) }
         ensures mute_fault { IsErrOf result BlockFault.Say → ⊥ }
         ensures lasts { EngineLasts result self.old self.new }
     {
@@ -149,15 +150,21 @@ impl<St: Store> Engine<St> {
         }
     }
 
-    /// One step of a program: what its verb, one that a line can spell, answers and leaves.
-    #[tactic(auto, using(std::proofs::lemmas::Option::gets), unfolding(dms_model::specs::Session::step))]
-    pub fn call(&mut self, alloc: Global, program: &Name, verb: &Verb) -> Result<Answer, BlockFault>
+    /// Carries out a verb of a program, one that a line can spell, whoever waits.
+    #[tactic(auto, using(std::proofs::lemmas::Option::gets), unfolding(dms_model::specs::Session::carried_out))]
+    fn carry_out(
+        &mut self,
+        alloc: Global,
+        program: &Name,
+        verb: &Verb,
+    ) -> Result<Answer, BlockFault>
         requires verb { IsVerbOf (described self.old.desc) verb.now }
         requires sound { (seen self.old).sound }
-        ensures step { Does self.old self.new result (λ s. step (described self.old.desc) s program.now verb.now) }
+        ensures step { Does self.old self.new result (λ s. carried_out (described self.old.desc) s program.now verb.now) }
         ensures mute { IsMute (seen self.old) (seen self.new) }
         ensures costs { Costs (block_limit (seen self.old).desc verb.now) (asks_back_out verb.now) result (seen self.old).effort (seen self.new).effort }
         ensures no_memory { takes_none verb.now ≡ true → IsErrOf result BlockFault.Memory → ⊥ }
+        ensures no_wait { takes_none verb.now ≡ true → IfOk result (λ a. is_waits a.reply ≡ false) }
         ensures mute_fault { IsErrOf result BlockFault.Say → ⊥ }
         ensures lasts { EngineLasts result self.old self.new }
     {
@@ -169,5 +176,22 @@ impl<St: Store> Engine<St> {
             return Ok(answer);
         }
         self.verb(alloc, i, verb)
+    }
+
+    /// One step of a program: its verb, one that a line can spell, is carried out, and its answer ends its wait or begins one.
+    #[tactic(auto, using(std::proofs::lemmas::Option::gets), unfolding(dms_model::specs::Session::step))]
+    pub fn call(&mut self, alloc: Global, program: &Name, verb: &Verb) -> Result<Answer, BlockFault>
+        requires verb { IsVerbOf (described self.old.desc) verb.now }
+        requires sound { (seen self.old).sound }
+        ensures step { Does self.old self.new result (λ s. step (described self.old.desc) s program.now verb.now) }
+        ensures mute { IsMute (seen self.old) (seen self.new) }
+        ensures costs { Costs (block_limit (seen self.old).desc verb.now) (asks_back_out verb.now) result (seen self.old).effort (seen self.new).effort }
+        ensures no_memory { takes_none verb.now ≡ true → IsErrOf result BlockFault.Memory → ⊥ }
+        ensures mute_fault { IsErrOf result BlockFault.Say → ⊥ }
+        ensures lasts { EngineLasts result self.old self.new }
+    {
+        let answer = self.carry_out(alloc, program, verb)?;
+        self.waits.answer(alloc, program, &answer.reply)?;
+        Ok(answer)
     }
 }

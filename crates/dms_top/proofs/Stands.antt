@@ -30,10 +30,11 @@ use Rattle.dms_history.specs.LawsOfKept.{FirstAgrees}
 use Rattle.dms_history.specs.LawsOfSchemas.{EachSchema, SchemaOfNew}
 use Rattle.dms_audfile.specs.Trail.{Span}
 use Rattle.dms_audfile.specs.ScanLaws.{IsFoundWith}
-use Rattle.dms_creation.specs.FirstEntries.{bodies_of, part_count, bodies, zero_counts, first_control, first_entries}
+use Rattle.dms_audrec.specs.Bodies.{bodies_of, part_count, bodies}
+use Rattle.dms_creation.specs.FirstEntries.{zero_counts, first_control, first_entries}
 use Rattle.dms_creation.specs.Creation.{IsMade, Initializes}
 use Rattle.dms_creation.specs.FoundAgain.{MadeIsFound}
-use Rattle.dms_top.specs.Dumped.{dumps_of}
+use Rattle.dms_restore.specs.Dumped.{dumps_of}
 use Rattle.dms_top.specs.State.{StandsNew, BecomesNew, MadeStands}
 
 -- ---- the counts of a new database

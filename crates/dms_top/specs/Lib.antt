@@ -1,7 +1,6 @@
 pub mod Answering
 pub mod Auditing
 pub mod Compiling
-pub mod Dumped
 pub mod Initializing
 pub mod JudgedSchema
 pub mod Judging

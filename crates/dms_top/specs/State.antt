@@ -1,53 +1,12 @@
--- The state that an image stands for.
-use Rattle.std.specs.Prelude.{ℕ, ◌≡◌, ◌⊎◌, ◌==◌, List, Some}
+-- The state that a new database stands for.
+use Rattle.std.specs.Prelude.{ℕ, ◌⊎◌}
 use Rattle.dms_desc.specs.Shape.{Described}
-use Rattle.dms_desc_bytes.specs.Spelling.{spelling}
-use Rattle.dms_desc_bytes.specs.WellFormed.{IsWellFormed}
 use Rattle.dms_moments.specs.Moments.{Clock, Now, Runs}
-use Rattle.dms_site.specs.Files.{Files, Left, stored_of}
-use Rattle.dms_model.specs.Db.{Db, empty_db}
-use Rattle.dms_store.specs.Spelled.{spelled}
-use Rattle.dms_history.specs.Entries.{Entry}
-use Rattle.dms_history.specs.EntryEvents.{history_of, live_of, next_of, Agrees}
-use Rattle.dms_history.specs.History.{last_point}
-use Rattle.dms_history.specs.Here.{here}
-use Rattle.dms_history.specs.Pick.{blocks_at}
-use Rattle.dms_history.specs.Places.{IsLive}
-use Rattle.dms_history.specs.SchemaAt.{schema_at}
-use Rattle.dms_audfile.specs.Header.{tag_said}
-use Rattle.dms_audfile.specs.ScanLaws.{IsFoundWith}
+use Rattle.dms_site.specs.Files.{Files, Left}
+use Rattle.dms_model.specs.Db.{empty_db}
 use Rattle.dms_descfile.specs.DescriptionFile.{IsSealed}
 use Rattle.dms_creation.specs.Creation.{IsMade, IsUnmade}
-use Rattle.dms_top.specs.Dumped.{dumps_of}
-
--- At their live point n the files stand for this database under this description: scanning refuses nothing, the entries agree with
--- the dumps and the structure files, the description is that of the last whole live Schema before the place of n, and it is
--- well-formed, and the blocks at n spell the database.
-pub record StateAt (files : Files) (n : ℕ) (desc : Described) (db : Db) : Type 0 where
-  pub entries : List Entry
-  pub finds : IsFoundWith entries files
-  pub agrees : Agrees (finds.trail.first == 10001) entries (dumps_of files) (stored_of files)
-  pub lives : IsLive (live_of entries) n
-  pub described : schema_at entries n ≡ Some (spelling desc)
-  pub well_formed : IsWellFormed desc
-  pub spells : spelled desc (blocks_at (live_of entries) (here (dumps_of files) (history_of entries) (stored_of files)) n) ≡ Some db
-
--- The files stand for the database at their last point.
-pub record StateOf (files : Files) (n : ℕ) (desc : Described) (db : Db) : Type 0 where
-  pub at_point : StateAt files n desc db
-  pub last : last_point (history_of at_point.entries) ≡ Some n
-
--- the number of the next quiet point
-pub record HasNext (files : Files) (next : ℕ) : Type 0 where
-  pub entries : List Entry
-  pub finds : IsFoundWith entries files
-  pub is : next_of entries ≡ next
-
--- the tag of the trail
-pub record HasTag (files : Files) (tag : ℕ) : Type 0 where
-  pub entries : List Entry
-  pub finds : IsFoundWith entries files
-  pub is : tag_said (files finds.trail.first) ≡ tag
+use Rattle.dms_run.specs.State.{StateOf, HasNext, HasTag}
 
 -- A new database: point 0 and the empty database of the description, next number 1, and the tag.
 pub record StandsNew (tag : ℕ) (desc : Described) (files : Files) : Type 0 where

@@ -1,5 +1,5 @@
 -- A database is closed as at its last point.
-use Rattle.std.proofs.Common.{ℕ, ◌≤◌, ◌<◌, ◌≡◌, ◌⊎◌, inl, inr, Bool, true, false, List, ◌++◌, append_assoc, length, refl, sym, ◌∙◌, ap, subst, arith}
+use Rattle.std.proofs.Common.{ℕ, cond, IsTrue, Some, None, ◌≤◌, ◌<◌, ◌≡◌, ◌⊎◌, inl, inr, Bool, true, false, List, ◌++◌, append_assoc, length, refl, sym, ◌∙◌, ap, subst, arith}
 use Rattle.dms_moments.specs.Moments.{Clock}
 use Rattle.dms_site.specs.Files.{Files, Left}
 use Rattle.dms_block.specs.declared.block_fault.BlockFault.{BlockFault}
@@ -11,6 +11,7 @@ use Rattle.dms_block.specs.HeldLaws.{passes_none, passes_on}
 use Rattle.dms_history.specs.Events.{block_in}
 use Rattle.dms_history.specs.EntryEvents.{history_of}
 use Rattle.dms_history.specs.Entries.{Entry}
+use Rattle.dms_history.proofs.Picks.{some_is}
 use Rattle.dms_audfile.specs.Counting.{CountedAt, not_counted}
 use Rattle.dms_audfile.specs.Gates.{is_full}
 use Rattle.dms_running.specs.Telling.{Telling}
@@ -20,7 +21,9 @@ use Rattle.dms_restore.specs.Logging.{LogView, telling, content, entries, Ends}
 use Rattle.dms_restore.specs.BackOuts.{WentBackTo}
 use Rattle.dms_wal.specs.BackOuts.{entries_back}
 use Rattle.dms_wal.specs.Closing.{entries_closing, entries_control, FilesStand, IsClosed, IsFullTrail, LeavesUntil}
+use Rattle.dms_wal.specs.Lifting.{lifted}
 use Rattle.dms_wal.specs.Marks.{IsAtMark, mark_of}
+use Rattle.dms_wal.proofs.Marked.{true_not_false}
 use Rattle.dms_wal.proofs.Reaching.{closes_counted}
 
 -- the end of the trail stands behind file 9,999
@@ -71,3 +74,22 @@ backs_counted n e a b (inr (inl memory)) c =
 
 pub backs_only : (n : ℕ) (changed : Bool) (e : BlockFault) → changed ≡ true → (e ≡ fault.Disk) ⊎ ((e ≡ fault.Memory) ⊎ (e ≡ fault.Full n)) → (e ≡ fault.Disk) ⊎ ((e ≡ fault.Full n) ⊎ ((changed ≡ true) × (e ≡ fault.Memory)))
 backs_only n changed e on only = elim only [ inl disk ↦ inl disk | inr (inl memory) ↦ inr (inr (on, memory)) | inr (inr full) ↦ inr (inl full) ]
+
+-- the text, where it is told
+pub said_told : (b : Bool) (x y : List ℕ) → cond b (Some x) None ≡ cond b (Some y) None → IsTrue b → x ≡ y
+said_told true x y same is = some_is x y same
+said_told false x y same is = absurd (true_not_false (sym is))
+
+-- what a stop left, first within a back-out and then within a control point: the clocks of both are those of one trail
+pub clock_as : (t u : Telling) (a : Held) (clock : Clock Left) → u ≡ t → LeavesUntil a (lifted u clock) → LeavesUntil a (lifted t clock)
+clock_as t u a clock same = subst (λ (k : Telling). LeavesUntil a (lifted k clock)) same
+
+-- a count of calls behind others that went well
+pub counted_then : (P : Type 0) (start before now : ℕ) → before ≡ start → CountedAt P before now → CountedAt P start now
+counted_then P start before now same = subst (λ n. CountedAt P n now) same
+
+pub trail_as : (v w : LogView) (files : Files) → w.end.total ≡ v.end.total → w.first ≡ v.first → IsFullTrail w files → IsFullTrail v files
+trail_as v w files total first full = λ g from upto. subst (λ n. is_full n (files g) ≡ true) total (full g (subst (λ k. k ≤ g) (sym first) from) upto)
+
+pub control_only : (n : ℕ) (changed : Bool) (e : BlockFault) → (e ≡ fault.Disk) ⊎ (e ≡ fault.Full n) → (e ≡ fault.Disk) ⊎ ((e ≡ fault.Full n) ⊎ ((changed ≡ true) × (e ≡ fault.Memory)))
+control_only n changed e only = elim only [ inl disk ↦ inl disk | inr full ↦ inr (inl full) ]

@@ -37,7 +37,7 @@ use Rattle.dms_wal.specs.declared.running.Running.{Running}
 use Rattle.dms_wal.specs.Closing.{entries_control, FilesStand, LeavesUntil}
 use Rattle.dms_wal.specs.Controls.{MakesControl}
 use Rattle.dms_wal.specs.Database.{held, view_of, GoesWith, IsUsable, frames_of}
-use Rattle.dms_wal.specs.Lifting.{last_blocks, lifted, point_under}
+use Rattle.dms_wal.specs.Lifting.{block_point, last_blocks, lifted, point_under}
 use Rattle.dms_wal.specs.Marks.{IsMarkOf}
 use Rattle.dms_wal.proofs.Marked.{mark_on}
 use Rattle.dms_wal.proofs.Under.{under_on}

@@ -45,6 +45,7 @@ runs_still a files later same r steps = subst (λ (f : Files). LogRuns (view a.e
   runs = record {
     base = r.runs.base;
     settled = λ x now. let y = steps.follows x now in ap (λ (k : Files). (telling a).entries k) y.2 ∙ r.runs.settled y.0 y.1;
+    found = λ x now. let y = steps.follows x now in subst (λ (k : Files). (telling a).found k) (sym y.2) (r.runs.found y.0 y.1);
     each = λ k x now. let y = steps.follows x now in
         subst (λ (f : Files). MayRun (telling a).first ((telling a).entries a.files ++ take k (state a).waiting) ((telling a).dumps f) r.runs.base (stored_of f)) (sym y.2) (r.runs.each k y.0 y.1);
     plain = r.runs.plain;

@@ -1,5 +1,5 @@
 -- Quiet points, syncs and printing of a running database.
-use Rattle.std.proofs.Common.{ℕ, ◌+◌, ◌^◌, ◌<◌, ◌≤◌, ◌≡◌, ◌++◌, Bool, cond, IsTrue, List, [], ◌∷◌, length, Some, None, refl, sym, ap, subst, arith}
+use Rattle.std.proofs.Common.{ℕ, ◌+◌, ◌^◌, ◌<◌, ◌≤◌, ◌≡◌, ◌++◌, Bool, false, cond, IsTrue, List, [], ◌∷◌, length, Some, None, refl, sym, ap, subst, arith}
 use Rattle.dms_moments.specs.Moments.{Now, Steps}
 use Rattle.dms_moments.specs.MomentLaws.{steps_weaken}
 use Rattle.std.specs.Global.{Vec}

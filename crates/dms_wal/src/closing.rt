@@ -31,6 +31,8 @@ impl<S: Site> Running<S> {
         ensures clean { IfOk result (λ s. (S.disk_faults s ≡ S.disk_faults self.log.site) × (S.say_faults s ≡ S.say_faults self.log.site)) }
         ensures disk { IfErr result (λ e. CountedAt (e.0 ≡ BlockFault.Disk) (S.disk_faults self.log.site) (S.disk_faults e.1)) }
         ensures say_faults { IfErr result (λ e. S.say_faults e.1 ≡ S.say_faults self.log.site) }
+        ensures said { IfOk result (λ s. IsTrue S.tells_said → S.said s ≡ S.said self.log.site) }
+        ensures said_then { IfErr result (λ e. IsTrue S.tells_said → S.said e.1 ≡ S.said self.log.site) }
         ensures same { IfOk result (λ s. S.same_site self.log.site s) }
         ensures same_then { IfErr result (λ e. S.same_site self.log.site e.1) }
     {
@@ -55,6 +57,8 @@ impl<S: Site> Running<S> {
         ensures clean { IfOk result (λ s. (S.disk_faults s ≡ S.disk_faults self.log.site) × (S.say_faults s ≡ S.say_faults self.log.site)) }
         ensures disk { IfErr result (λ e. CountedAt (e.0 ≡ BlockFault.Disk) (S.disk_faults self.log.site) (S.disk_faults e.1)) }
         ensures say_faults { IfErr result (λ e. S.say_faults e.1 ≡ S.say_faults self.log.site) }
+        ensures said { IfOk result (λ s. IsTrue S.tells_said → S.said s ≡ S.said self.log.site) }
+        ensures said_then { IfErr result (λ e. IsTrue S.tells_said → S.said e.1 ≡ S.said self.log.site) }
         ensures same { IfOk result (λ s. S.same_site self.log.site s) }
         ensures same_then { IfErr result (λ e. S.same_site self.log.site e.1) }
     {

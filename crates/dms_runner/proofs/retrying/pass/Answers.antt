@@ -1,5 +1,5 @@
 use Rattle.dms_storeverbs.proofs.Lasting.{lasts_none, lasts_on}
-use Rattle.std.proofs.Common.{◌∙◌, refl, sym, ap, subst, arith, IsTrue}
+use Rattle.std.proofs.Common.{◌∙◌, refl, sym, ap, subst, arith}
 use Rattle.dms_desc.specs.declared.description.Description.{Description}
 use Rattle.dms_desc.specs.Shape.{described}
 use Rattle.dms_runner.specs.Events.{IsCutShort, PerformsPrefix}
@@ -17,7 +17,7 @@ loop-i-init g c = record {
   lasts = lasts_none g.met.St.Store.same_again _ c.requires.sound;
   verbs = c.requires.verbs;
   long = refl;
-  passing = λ s stands may. passing_start _ s _ _ _ stands;
+  passing = λ s stands may. passing_start _ s _ _ _ stands may;
 }
 
 pub loop-i-preserved-then-is_passed : goal.loop-i-preserved-then-is_passed
@@ -38,21 +38,21 @@ returns-in_err-try_at-clause-part g c = λ s stands may.
     let h = line_at c.loop-i.waiting c.loop-i.i (omega (arith, c.loop-i-test.true, c.loop-i.invariant.long)) in
     let p = c.loop-i.invariant.passing s stands may in
     passing_part _ s _ _ _ _ _ _ _ h.0 h.1 (sym (c.is_passed.ensures h.0 h.1) ∙ c.if-is_passed.false)
-    (subst (λ (d : Description). PerformsPrefix (IsCutShort c.from_residual.result) (seen c.loop-i.engine) (seen c.try_at.new.engine) (tries h.0 (step (described d) s h.0.program h.0.verb))) c.loop-i.invariant.lasts.description (part_cut _ _ _ (cut_as _ _ c.from_residual.ensures.1) (c.in_err-try_at.ensures.part h.0 h.1 s p.stands may))) p
+    p (subst (λ (d : Description). PerformsPrefix (IsCutShort c.from_residual.result) (seen c.loop-i.engine) (seen c.try_at.new.engine) (tries h.0 (step (described d) p.at h.0.program h.0.verb))) c.loop-i.invariant.lasts.description (part_cut _ _ _ (cut_as _ _ c.from_residual.ensures.1) (c.in_err-try_at.ensures.part h.0 h.1 p.at p.stands p.may)))
 
 pub returns-then-branch-clause-passes : goal.returns-then-branch-clause-passes
 returns-then-branch-clause-passes g c = λ s stands may.
     let h = line_at c.loop-i.waiting c.loop-i.i (omega (arith, c.loop-i-test.true, c.loop-i.invariant.long)) in
     let p = c.loop-i.invariant.passing s stands may in
     passing_answered _ s _ _ _ _ _ _ _ _ h.0 _ h.1 (sym (c.is_passed.ensures h.0 h.1) ∙ c.if-is_passed.false) c.if-branch.true
-    (subst (λ (d : Description). PerformsTry (step (described d) s h.0.program h.0.verb) h.0 c.in_ok-try_at.field-0 (view c.try_at.new.engine) (seen c.loop-i.engine) (seen c.try_at.new.engine)) c.loop-i.invariant.lasts.description (c.in_ok-try_at.ensures.tried h.0 h.1 s p.stands may)) p
+    p (subst (λ (d : Description). PerformsTry (step (described d) p.at h.0.program h.0.verb) h.0 c.in_ok-try_at.field-0 (view c.try_at.new.engine) (seen c.loop-i.engine) (seen c.try_at.new.engine)) c.loop-i.invariant.lasts.description (c.in_ok-try_at.ensures.tried h.0 h.1 p.at p.stands p.may))
 
 pub returns-then-branch-clause-part : goal.returns-then-branch-clause-part
 returns-then-branch-clause-part g c = λ s stands may.
     let h = line_at c.loop-i.waiting c.loop-i.i (omega (arith, c.loop-i-test.true, c.loop-i.invariant.long)) in
     let p = c.loop-i.invariant.passing s stands may in
     passing_part _ s _ _ _ _ _ _ _ h.0 h.1 (sym (c.is_passed.ensures h.0 h.1) ∙ c.if-is_passed.false)
-    (subst (λ (d : Description). PerformsPrefix ⊥ (seen c.loop-i.engine) (seen c.try_at.new.engine) (tries h.0 (step (described d) s h.0.program h.0.verb))) c.loop-i.invariant.lasts.description (c.in_ok-try_at.ensures.part h.0 h.1 s p.stands may)) p
+    p (subst (λ (d : Description). PerformsPrefix ⊥ (seen c.loop-i.engine) (seen c.try_at.new.engine) (tries h.0 (step (described d) p.at h.0.program h.0.verb))) c.loop-i.invariant.lasts.description (c.in_ok-try_at.ensures.part h.0 h.1 p.at p.stands p.may))
 
 pub loop-i-preserved : goal.loop-i-preserved
 loop-i-preserved g c =
@@ -64,7 +64,7 @@ loop-i-preserved g c =
       passing = λ s stands may.
           let p = c.loop-i.invariant.passing s stands may in
           passing_wait _ s _ _ _ _ _ _ _ _ _ h.0 _ h.1 (sym (c.is_passed.ensures h.0 h.1) ∙ c.if-is_passed.false) (c.note_waiting.ensures.noted h.0 h.1) c.if-branch.false
-          (subst (λ (d : Description). PerformsTry (step (described d) s h.0.program h.0.verb) h.0 c.in_ok-try_at.field-0 (view c.try_at.new.engine) (seen c.loop-i.engine) (seen c.try_at.new.engine)) c.loop-i.invariant.lasts.description (c.in_ok-try_at.ensures.tried h.0 h.1 s p.stands may)) p;
+          p (subst (λ (d : Description). PerformsTry (step (described d) p.at h.0.program h.0.verb) h.0 c.in_ok-try_at.field-0 (view c.try_at.new.engine) (seen c.loop-i.engine) (seen c.try_at.new.engine)) c.loop-i.invariant.lasts.description (c.in_ok-try_at.ensures.tried h.0 h.1 p.at p.stands p.may));
     }
 
 pub returns-clause-passes : goal.returns-clause-passes

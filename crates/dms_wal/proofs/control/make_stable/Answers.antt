@@ -1,3 +1,5 @@
+use Rattle.std.proofs.Common.{sym, subst}
+use Rattle.dms_site.specs.Files.{Files, Only}
 use Rattle.dms_wal.proofs.Roomed.{then_silent}
 use Rattle.dms_wal.proofs.Settling.{look_silent, then_leaves, then_nothing, then_runs}
 use Rattle.dms_wal.proofs.Synced.{kind_is}
@@ -20,3 +22,6 @@ returns-in-Ok-sync-clause-silent g c tells = then_silent (c.sync.ensures.silent 
 
 pub returns-in-Err-sync-clause-silent : goal.returns-in-Err-sync-clause-silent
 returns-in-Err-sync-clause-silent g c tells = then_silent (c.sync.ensures.silent tells) (look_silent c.sync-2.ensures.moments)
+
+pub returns-in-Ok-sync-clause-stable : goal.returns-in-Ok-sync-clause-stable
+returns-in-Ok-sync-clause-stable g c tells = subst (λ (l : Files). Only l (g.S.Site.clock c.sync-2.new.self)) (sym (c.sync-2.ensures.files tells)) (c.in-Ok-sync.ensures.durable tells)

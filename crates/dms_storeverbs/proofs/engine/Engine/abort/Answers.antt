@@ -44,6 +44,7 @@ returns-clause-step g c = λ p at s stands may.
         programs = with_items_is c.args.self.now.programs c.back_out-2.new.programs (ap length c.back_out-2.ensures ∙ length-map c.as_mut_slice.result.now (backed_out c.index.result.now.name) ∙ c.as_mut_slice.ensures.len) ∙ mapped;
         pending = refl;
         since = refl;
+        waits = stands.waits;
       };
     }))
 

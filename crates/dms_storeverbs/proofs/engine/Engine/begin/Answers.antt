@@ -83,7 +83,7 @@ returns-clause-step g c = λ p at s stands may.
     let low : c.args.i < length s.programs = subst (λ (ps : List Program). c.args.i < length ps) stands.programs c.requires.place in
     let kept = rw c.in_default-2.is at (c.in_ok-refusal.ensures.kept p at s stands may.exclusive) in
     let said = c.done.ensures in
-    did_from goes (silently c.keep_restart.ensures.silent c.in_ok-refusal.ensures.points s stands.next may.room (begin_quiets k c.args.i s) said.sync (begin_done k c.args.i s c.index_mut.result.now c.enter.new.program c.done.result _ _ _ _ _ _ low kept c.index_mut.ensures.value c.enter.ensures said.reply said.sync))
+    did_from goes (silently c.keep_restart.ensures.silent c.in_ok-refusal.ensures.points s stands.next may.room (begin_quiets k c.args.i s) said.sync (begin_done k c.args.i s c.index_mut.result.now c.enter.new.program c.done.result _ _ _ _ _ _ _ low kept c.index_mut.ensures.value c.enter.ensures said.reply said.sync))
 
 pub returns-then-index-clause-costs : goal.returns-then-index-clause-costs
 returns-then-index-clause-costs g c = plain_costs c.refused.ensures.sync (spends_none _ _)

@@ -47,7 +47,7 @@ returns-clause-step g c = λ p at s stands may.
     let kept = rw c.in_default.is at (c.in_ok-refusal.ensures.kept p at s stands may.exclusive) in
     let descr = c.keep_restart.ensures.lasts.description in
     let due = c.is_due-self.ensures ∙ (λ j. c.keep_restart.new.self.pending || c.args.sync || nat_le (descr j).syncpoint (c.one_more-self.ensures j)) in
-    did_from goes (end_goes (λ (o : Outcome). PerformsCall o (seen c.args.self.now) (seen c.settle.new.self) (view c.settle.new.self) c.settle.result) (kept_if c.args.audit d p s.db) d c.args.i s c.args.sync c.index_mut.result.now c.leave.new.program _ _ _ _ c.one_more-self.result _ _ c.is_due-self.result low kept c.index_mut.ensures.value c.leave.ensures
+    did_from goes (end_goes (λ (o : Outcome). PerformsCall o (seen c.args.self.now) (seen c.settle.new.self) (view c.settle.new.self) c.settle.result) (kept_if c.args.audit d p s.db) d c.args.i s c.args.sync c.index_mut.result.now c.leave.new.program _ _ _ _ c.one_more-self.result _ _ c.is_due-self.result _ low kept c.index_mut.ensures.value c.leave.ensures
     (λ t pend sinc nxt st. then_did c.keep_restart.ensures.lasts.causes.whole c.keep_restart.ensures.silent c.in_ok-refusal.ensures.points s stands.next may.room c.keep_restart.ensures.lasts.causes.tells (c.settle.ensures.step t (st (due ∙ sym pend) (c.one_more-self.ensures ∙ sym sinc)) (omega (arith, nxt, may.room)))))
 
 pub returns-then-not-index-clause-costs : goal.returns-then-not-index-clause-costs

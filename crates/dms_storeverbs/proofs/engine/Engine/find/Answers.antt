@@ -67,7 +67,7 @@ returns-clause-step g c = λ p at s stands may.
     let x_is : c.index_mut.result.now ≡ p = c.index_mut.ensures.value ∙ ap (λ (ps : List Program). get_or ps c.args.i c.index_mut.result.now) c.found.ensures.programs ∙ get_or_from_slice_get c.args.self.now.programs.items c.args.i p c.index_mut.result.now at in
     let set_is : c.set_of-set.result ≡ set_of d (path_of c.args.path.now) = c.set_of-set.ensures ∙ ap (λ (x : ℕ). set_of d x) c.path_of-x.ensures in
     let y_is : c.find.new.program ≡ carried (found_program p (set_of d (path_of c.args.path.now)) c.in-Some-2.spot) = c.find.ensures ∙ (λ j. carried (found_program (x_is j) (set_is j) c.in-Some-2.spot)) in
-    did_from some (silently c.found.ensures.silent c.in_ok-spot.ensures.points s stands.next may.room refl c.done.ensures.sync (record { reply = c.done.ensures.reply; sync = c.done.ensures.sync; session = record { db = st.db; mark = st.mark; next = st.next; programs = (λ j. slice_set (st.programs j) c.args.i (y_is j)); pending = st.pending; since = st.since } }))
+    did_from some (silently c.found.ensures.silent c.in_ok-spot.ensures.points s stands.next may.room refl c.done.ensures.sync (record { reply = c.done.ensures.reply; sync = c.done.ensures.sync; session = record { db = st.db; mark = st.mark; next = st.next; programs = (λ j. slice_set (st.programs j) c.args.i (y_is j)); pending = st.pending; since = st.since; waits = st.waits } }))
 
 pub returns-in_err-spot-clause-costs : goal.returns-in_err-spot-clause-costs
 returns-in_err-spot-clause-costs g c = failed_costs false c.from_residual.ensures.0 (spends_same _ c.found.ensures.effort)

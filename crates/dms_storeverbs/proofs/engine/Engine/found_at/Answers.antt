@@ -1,4 +1,4 @@
-use Rattle.std.proofs.Common.{◌≡◌, ◌∙◌, ℕ, ap, sym, subst, Some, arith}
+use Rattle.std.proofs.Common.{◌≡◌, ◌∙◌, ℕ, ap, sym, subst, Some}
 use Rattle.dms_desc.specs.declared.bound.Bound.TheVariants.{From}
 use Rattle.dms_desc.specs.Plain.{ArePlain}
 use Rattle.dms_model.specs.Fitting.{KeyFits, MayStart}

@@ -48,7 +48,7 @@ returns-in_ok-stored-in-Stored-clause-kept g c = λ p at s stands held.
     let ready : IsReady d c.index.result.now c.args.set number rec = rw c.in-Ready.is at c.in_ok-refusal.ensures.ready in
     let may = may_put d s c.index.result.now p c.args.set c.args.i number rec (sym p_is) (subst (λ (ps : List Program). slice_get ps c.args.i ≡ Some p) stands.programs at) held c.requires.outer ready in
     let puts = rw c.in-Stored.is at c.in_ok-number.ensures.put in
-    kept_stored d _ _ _ _ _ _ _ _ p s c.args.i c.args.set number rec _ c.args.self.now.under stands.db (c.in_ok-number.ensures.keeps.mark ∙ stands.mark) (c.put.ensures.silent.next ∙ stands.next) stands.pending stands.since k_is may c.in-Stored.number c.stored.new.program puts
+    kept_stored d _ _ _ _ _ _ _ _ _ p s c.args.i c.args.set number rec _ c.args.self.now.under stands.db (c.in_ok-number.ensures.keeps.mark ∙ stands.mark) (c.put.ensures.silent.next ∙ stands.next) stands.pending stands.since stands.waits k_is may c.in-Stored.number c.stored.new.program puts
     (c.in_ok-stored-in-Stored.ensures.ok ∙ ap (λ (q : Program). with_stored q c.args.set c.in-Stored.number rec.values) m_is)
     (ap (λ (ps : List Program). slice_set ps c.args.i c.stored.new.program) stands.programs)
 
@@ -63,7 +63,7 @@ returns-in-Duplicate-clause-kept g c = λ p at s stands held.
     let ready : IsReady d c.index.result.now c.args.set number rec = rw c.in-Ready.is at c.in_ok-refusal.ensures.ready in
     let may = may_put d s c.index.result.now p c.args.set c.args.i number rec (sym p_is) (subst (λ (ps : List Program). slice_get ps c.args.i ≡ Some p) stands.programs at) held c.requires.outer ready in
     let puts = rw c.in-Duplicate.is at c.in_ok-number.ensures.put in
-    kept_duplicate d _ _ _ _ _ _ _ _ p s c.args.i c.args.set number rec _ c.args.self.now.under stands.db (c.in_ok-number.ensures.keeps.mark ∙ stands.mark) (c.put.ensures.silent.next ∙ stands.next) stands.pending stands.since k_is may c.in-Duplicate.other c.name_of.result puts c.name_of.ensures stands.programs
+    kept_duplicate d _ _ _ _ _ _ _ _ _ p s c.args.i c.args.set number rec _ c.args.self.now.under stands.db (c.in_ok-number.ensures.keeps.mark ∙ stands.mark) (c.put.ensures.silent.next ∙ stands.next) stands.pending stands.since stands.waits k_is may c.in-Duplicate.other c.name_of.result puts c.name_of.ensures stands.programs
 
 pub returns-in-Full-clause-kept : goal.returns-in-Full-clause-kept
 returns-in-Full-clause-kept g c = λ p at s stands held.
@@ -76,4 +76,4 @@ returns-in-Full-clause-kept g c = λ p at s stands held.
     let ready : IsReady d c.index.result.now c.args.set number rec = rw c.in-Ready.is at c.in_ok-refusal.ensures.ready in
     let may = may_put d s c.index.result.now p c.args.set c.args.i number rec (sym p_is) (subst (λ (ps : List Program). slice_get ps c.args.i ≡ Some p) stands.programs at) held c.requires.outer ready in
     let puts = rw c.in-Full.is at c.in_ok-number.ensures.put in
-    kept_full d _ _ _ _ _ _ _ _ p s c.args.i c.args.set number rec _ c.args.self.now.under stands.db (c.in_ok-number.ensures.keeps.mark ∙ stands.mark) (c.put.ensures.silent.next ∙ stands.next) stands.pending stands.since k_is may c.name_of-in-Full.result puts c.name_of-in-Full.ensures stands.programs
+    kept_full d _ _ _ _ _ _ _ _ _ p s c.args.i c.args.set number rec _ c.args.self.now.under stands.db (c.in_ok-number.ensures.keeps.mark ∙ stands.mark) (c.put.ensures.silent.next ∙ stands.next) stands.pending stands.since stands.waits k_is may c.name_of-in-Full.result puts c.name_of-in-Full.ensures stands.programs

@@ -41,7 +41,7 @@ returns-clause-step g c = λ p at s stands may.
     let low : c.args.i < length s.programs = subst (λ (ps : List Program). c.args.i < length ps) stands.programs c.requires.place in
     let kept = rw c.in_default.is at (c.in_ok-refusal.ensures.kept p at s stands may.exclusive) in
     let said = c.done.ensures in
-    did_from (store_goes _ c.args.i p s c.args.set works) (silently c.keep.ensures.silent c.in_ok-refusal.ensures.points s stands.next may.room (store_quiets k c.args.i s) said.sync (store_done k c.args.i s c.index_mut.result.now _ c.done.result _ _ _ _ _ _ low kept c.index_mut.ensures.value refl said.reply said.sync))
+    did_from (store_goes _ c.args.i p s c.args.set works) (silently c.keep.ensures.silent c.in_ok-refusal.ensures.points s stands.next may.room (store_quiets k c.args.i s) said.sync (store_done k c.args.i s c.index_mut.result.now _ c.done.result _ _ _ _ _ _ _ low kept c.index_mut.ensures.value refl said.reply said.sync))
 
 pub returns-then-not-index-clause-costs : goal.returns-then-not-index-clause-costs
 returns-then-not-index-clause-costs g c = plain_costs c.refused.ensures.sync (spends_none _ _)

@@ -1,5 +1,8 @@
 use Rattle.dms_wal.proofs.Lifts.{told_same}
-use Rattle.std.proofs.Common.{◌∙◌, true, false, length, refl, ap}
+use Rattle.std.proofs.Common.{ℕ, ◌∙◌, true, false, List, subst, length, refl, ap}
+use Rattle.dms_restore.specs.BackOuts.{WentBackTo}
+use Rattle.dms_wal.specs.BackOuts.{entries_back}
+use Rattle.dms_wal.specs.Database.{view_of}
 use Rattle.dms_wal.proofs.BackFaults.{caused_back, back_silent, back_only, back_full, back_memory}
 use Rattle.dms_wal.proofs.BackedOut.{passes_back, stays_back, marked_content}
 use Rattle.dms_wal.proofs.running.Running.back_out.Goals as goal
@@ -31,12 +34,18 @@ returns-clause-passes g c =
 pub returns-clause-stays : goal.returns-clause-stays
 returns-clause-stays g c =
     let m = g.met.S.Site in
-    stays_back g.S.Site m.may_stay m.now_said c.args.self.now c.requires c.go_back.new.log _ _ c.clear.ensures _ _ (c.copy_counts.ensures ∙ c.deref-3.ensures.value) c.in-Ok.ensures.back
+    stays_back g.S.Site m.may_stay m.now_said c.args.self.now c.requires c.go_back.new.log _ _ c.clear.ensures _ _ (c.copy_counts.ensures ∙ c.deref-3.ensures.value)
+    (λ t. let r = c.args.self.now in
+    subst (λ (l : List ℕ). WentBackTo r.point (view_of g.S.Site r.log) (view_of g.S.Site c.go_back.new.log) (entries_back r.point l r.next r.marks.items)) c.deref.ensures.value
+    (subst (λ (l : List ℕ). WentBackTo r.point (view_of g.S.Site r.log) (view_of g.S.Site c.go_back.new.log) (entries_back r.point c.deref.result.now r.next l)) c.deref-2.ensures.value (c.in-Ok.ensures.back t)))
 
 pub returns-clause-content : goal.returns-clause-content
 returns-clause-content g c =
     let m = g.met.S.Site in
-    marked_content g.S.Site m.may_stay m.now_said c.args.self.now c.requires c.go_back.new.log _ _ c.clear.ensures 0 c.copy_counts.new.to (c.copy_counts.ensures ∙ c.deref-3.ensures.value) c.in-Ok.ensures.back
+    marked_content g.S.Site m.may_stay m.now_said c.args.self.now c.requires c.go_back.new.log _ _ c.clear.ensures 0 c.copy_counts.new.to (c.copy_counts.ensures ∙ c.deref-3.ensures.value)
+    (λ t. let r = c.args.self.now in
+    subst (λ (l : List ℕ). WentBackTo r.point (view_of g.S.Site r.log) (view_of g.S.Site c.go_back.new.log) (entries_back r.point l r.next r.marks.items)) c.deref.ensures.value
+    (subst (λ (l : List ℕ). WentBackTo r.point (view_of g.S.Site r.log) (view_of g.S.Site c.go_back.new.log) (entries_back r.point c.deref.result.now r.next l)) c.deref-2.ensures.value (c.in-Ok.ensures.back t)))
 
 pub returns-in-Err-clause-pace : goal.returns-in-Err-clause-pace
 returns-in-Err-clause-pace g c = record { every = refl; limit = c.go_back.ensures.limit; total = c.go_back.ensures.trail.0; first = c.go_back.ensures.trail.1; schema = refl }

@@ -1,7 +1,7 @@
 use Rattle.dms_wal.proofs.Lifts.{told_same}
-use Rattle.std.proofs.Common.{refl, sym, subst}
+use Rattle.std.proofs.Common.{refl, sym, ◌∙◌, ap, subst}
 use Rattle.std.specs.declared.result.Result.TheVariants.{Err}
-use Rattle.dms_wal.proofs.Closed.{full_trail}
+use Rattle.dms_wal.proofs.Closed.{full_trail, said_told}
 use Rattle.dms_wal.specs.Closing.{IsFullTrail}
 use Rattle.dms_wal.specs.Database.{view_of}
 use Rattle.dms_wal.proofs.Reaching.{closes_all, closes_leaves, usable_alike}
@@ -30,3 +30,9 @@ returns-in-Err-clause-full g c is tells =
     let v = view_of g.S.Site c.args.self.log in
     subst (λ (x : _). IsFullTrail v (g.S.Site.files x)) (sym c.into_site-in-Err.ensures)
     (full_trail v (view_of g.S.Site c.control.new.self.log) c.control.ensures.kept.pace.total c.control.ensures.kept.pace.first (c.in-Err.ensures.full 9999 (λ i. Err (is i))).2 (c.in-Err.ensures.ends 9999 (λ i. Err (is i)) tells))
+
+pub returns-in-Ok-clause-said : goal.returns-in-Ok-clause-said
+returns-in-Ok-clause-said g c told = ap g.S.Site.said c.into_site.ensures ∙ said_told g.S.Site.tells_said _ _ c.control.ensures.passes.said told
+
+pub returns-in-Err-clause-said_then : goal.returns-in-Err-clause-said_then
+returns-in-Err-clause-said_then g c told = ap g.S.Site.said c.into_site-in-Err.ensures ∙ said_told g.S.Site.tells_said _ _ c.control.ensures.passes.said told

@@ -28,10 +28,10 @@ returns-in-Ok-clause-causes g c = (
 )
 
 pub returns-in-Ok-eq1024-clause-logs : goal.returns-in-Ok-eq1024-clause-logs
-returns-in-Ok-eq1024-clause-logs g c t = entries_still c.args.self.now.log.end c.args.self.now.log.first _ _ _ _ (c.read.ensures.files t)
+returns-in-Ok-eq1024-clause-logs g c t = entries_still c.args.self.now.log.end c.args.self.now.log.first _ _ (g.S.Site.clock c.args.self.now.log.site) (g.S.Site.clock c.read.new.self) (c.read.ensures.files t)
 
 pub returns-in-Ok-clause-logs : goal.returns-in-Ok-clause-logs
-returns-in-Ok-clause-logs g c t = entries_still c.args.self.now.log.end c.args.self.now.log.first _ _ _ _ (c.read.ensures.files t)
+returns-in-Ok-clause-logs g c t = entries_still c.args.self.now.log.end c.args.self.now.log.first _ _ (g.S.Site.clock c.args.self.now.log.site) (g.S.Site.clock c.read.new.self) (c.read.ensures.files t)
 
 pub returns-in-Err-clause-logs : goal.returns-in-Err-clause-logs
-returns-in-Err-clause-logs g c t = entries_still c.args.self.now.log.end c.args.self.now.log.first _ _ _ _ (c.read.ensures.files t)
+returns-in-Err-clause-logs g c t = entries_still c.args.self.now.log.end c.args.self.now.log.first _ _ (g.S.Site.clock c.args.self.now.log.site) (g.S.Site.clock c.read.new.self) (c.read.ensures.files t)

@@ -1,0 +1,2 @@
+pub mod NoLater
+pub mod Stands

@@ -1,0 +1,66 @@
+-- The files that a stop leaves are states.
+use Rattle.std.proofs.Common.{ℕ, ◌≡◌, ◌≤◌, ◌<◌, ◌+◌, ◌∙◌, ◌⊎◌, inl, inr, ⊎_elim, List, [], ◌∷◌, ◌++◌, length, refl, sym, subst, ap, arith, append_assoc}
+use Rattle.std.specs.List.{AllByRecursion}
+use Rattle.dms_desc.specs.Shape.{Described}
+use Rattle.dms_model.specs.Db.{Db}
+use Rattle.dms_model.specs.Points.{Quiet}
+use Rattle.dms_runner.specs.Answers.{last_quiet}
+use Rattle.dms_running.specs.Points.{DescribedPoint, points_of, next_in}
+use Rattle.dms_restore.specs.Logging.{telling_of}
+use Rattle.dms_scriptlaws.proofs.Formed.{runnable}
+use Rattle.dms_scriptlaws.proofs.Scripts.{tells_true, stay_valid}
+use Rattle.dms_run.specs.States.{HasLive}
+use Rattle.dms_run.specs.Stops.{last_quiet_number, IsOneOf}
+use Rattle.dms_run.proofs.Standing.{stands}
+use Rattle.dms_run.proofs.Words.{last_one}
+use Rattle.dms_runlaws.specs.RunStands.{StopsStand}
+use Rattle.dms_runlaws.proofs.NoLater.{RisesBy, rises_by, number_high, no_later}
+
+-- a point of entry is among all
+has_more : (d : Described) (points more : List DescribedPoint) (q : Quiet) → HasLive d points q → HasLive d (points ++ more) q
+has_more d points more q h = record {
+  before = h.before;
+  point = h.point;
+  after = h.after ++ more;
+  are = ap (λ (l : List DescribedPoint). l ++ more) h.are ∙ append_assoc h.before (h.point ∷ h.after) more;
+  number = h.number;
+  schema = h.schema;
+  spells = h.spells;
+}
+
+-- one of a list and another
+either_part : (q : Quiet) (xs ys : List Quiet) → IsOneOf q (xs ++ ys) → IsOneOf q xs ⊎ IsOneOf q ys
+either_part q [] ys one = inr one
+either_part q (x ∷ xs) ys (inl is) = inl (inl is)
+either_part q (x ∷ xs) ys (inr more) = ⊎_elim (λ here. inl (inr here)) (λ behind. inr behind) (either_part q xs ys more)
+
+-- each of them has it
+of_all : (P : Quiet → Type 0) (q : Quiet) (qs : List Quiet) → AllByRecursion P qs → IsOneOf q qs → P q
+of_all P q [] all one = absurd one
+of_all P q (x ∷ qs) all (inl is) = subst P (sym is) all.0
+of_all P q (x ∷ qs) all (inr more) = of_all P q qs all.1 more
+
+pub stand : StopsStand
+stand total first desc well db start entry points n next lines x low r =
+    let t = telling_of total first in
+    let scripts = runnable desc well in
+    let rises = rises_by next _ (stay_valid desc scripts db start next lines).numbers in
+    let point = last_quiet_number n r.made in
+    let now = last_quiet db r.made in
+    record {
+      point = point;
+      now = now;
+      state = stands.last total first x.files desc point now well r.whole r.state;
+      recovered = subst (λ (l : List Quiet). ((point ≡ n) × (now ≡ db)) ⊎ IsOneOf (point, now) l) r.front_of (last_one n db r.made r.rest);
+      no_earlier = λ text printed is said. no_later _ next (tells_true desc scripts db start next lines) rises n r.made r.rest text printed x.said r.front_of (r.text text is) said;
+      keeps = λ d q formed h. stands.at total first x.files d q formed r.whole (subst (λ (l : List DescribedPoint). HasLive d l q) (sym r.kept) (has_more d points r.more q h));
+      each = λ q one le. stands.at total first x.files desc q well r.whole (
+          elim (either_part q r.made r.rest (subst (λ (l : List Quiet). IsOneOf q l) (sym r.front_of) one)) [
+            | inl made ↦ of_all (HasLive desc (points_of t x.files)) q r.made r.each made
+            | inr behind ↦ absurd (omega (arith, le, number_high n next r.made r.rest q low (subst (RisesBy next) (sym r.front_of) rises) behind))
+          ]
+      );
+      next_left = next_in t x.files;
+      has_next = stands.next total first x.files r.whole;
+      not_fallen = omega (arith, r.next_is);
+    }

@@ -1,0 +1,13 @@
+ghost use Rattle.dms_runlaws.specs.RunStands.{StopsStand};
+ghost use Rattle.dms_runlaws.specs.Told.{ScriptsTellNoLater};
+
+/// A stop within the run of a script leaves no point below the one that the printed text tells.
+pub fn told_law()
+    ensures { ScriptsTellNoLater }
+{}
+
+/// The files that a stop within the run of a script leaves stand for the database of entry or of a quiet point, no earlier than the
+/// printed text tells, and each point up to it has its own state.
+pub fn stands_law()
+    ensures { StopsStand }
+{}

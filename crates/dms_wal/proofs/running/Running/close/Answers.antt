@@ -1,0 +1,91 @@
+use Rattle.std.proofs.Common.{◌≡◌, refl, sym, ◌∙◌, ap, subst}
+use Rattle.std.specs.declared.result.Result.TheVariants.{Err}
+use Rattle.dms_block.specs.declared.block_fault.BlockFault.TheVariants.{Disk}
+use Rattle.dms_block.specs.Counts.{Faults}
+use Rattle.dms_audfile.specs.Counting.{CountedAt}
+use Rattle.dms_restore.proofs.Results.{one_if_ok, one_if_err}
+use Rattle.dms_wal.specs.Closing.{IsFullTrail, LeavesUntil, entries_control}
+use Rattle.dms_wal.specs.Database.{held, view_of}
+use Rattle.dms_restore.specs.Logging.{telling}
+use Rattle.dms_wal.specs.Lifting.{lifted}
+use Rattle.dms_wal.specs.PaceLaws.{pace_kind}
+use Rattle.dms_wal.proofs.Closed.{backs_counted, backs_only, clock_as, closed_back, closed_same, control_only, counted_then, full_trail, leaves_until, said_told, trail_as}
+use Rattle.dms_wal.proofs.running.Running.close.Goals as goal
+
+pub returns-then-not-self-clause-closed : goal.returns-then-not-self-clause-closed
+returns-then-not-self-clause-closed g c = one_if_ok c.close_by_control.result c.close_by_control.ensures.closed (λ s f tells.
+    closed_same (view_of g.S.Site c.args.self.log) c.args.self.changed c.args.self.point c.args.self.schema.items c.args.self.next c.args.self.counts.items c.args.self.marks.items _ _ c.if-not-self.true (c.requires.unchanged c.if-not-self.true tells) (f tells))
+
+pub returns-in-Ok-clause-closed : goal.returns-in-Ok-clause-closed
+returns-in-Ok-clause-closed g c = one_if_ok c.close_by_control-in-Ok.result c.close_by_control-in-Ok.ensures.closed (λ s f tells.
+    let k = c.back_out.ensures.kept in
+    closed_back (view_of g.S.Site c.args.self.log) (view_of g.S.Site c.back_out.new.self.log) c.args.self.changed c.args.self.point c.args.self.schema.items c.args.self.next c.args.self.marks.items _ _ _ c.if-not-self.false (pace_kind c.back_out.ensures.pace) (c.in-Ok.ensures.content tells)
+    (λ i. entries_control (k.2 i) (k.0 i).items (k.1 i) (c.in-Ok.ensures.counts i)) (c.in-Ok.ensures.back tells) (f tells))
+
+pub returns-in-Ok-clause-leaves : goal.returns-in-Ok-clause-leaves
+returns-in-Ok-clause-leaves g c = one_if_ok c.close_by_control-in-Ok.result c.close_by_control-in-Ok.ensures.leaves (λ s l.
+    clock_as _ _ (held g.S.Site c.args.self) _ (pace_kind c.back_out.ensures.pace) (leaves_until (held g.S.Site c.args.self) (held g.S.Site c.back_out.new.self) _ c.back_out.ensures.passes c.in-Ok.ensures.stays l))
+
+pub returns-in-Ok-clause-stopped : goal.returns-in-Ok-clause-stopped
+returns-in-Ok-clause-stopped g c = one_if_err c.close_by_control-in-Ok.result c.close_by_control-in-Ok.ensures.stopped (λ e l.
+    clock_as _ _ (held g.S.Site c.args.self) _ (pace_kind c.back_out.ensures.pace) (leaves_until (held g.S.Site c.args.self) (held g.S.Site c.back_out.new.self) _ c.back_out.ensures.passes c.in-Ok.ensures.stays l))
+
+pub returns-in-Ok-clause-full : goal.returns-in-Ok-clause-full
+returns-in-Ok-clause-full g c = one_if_err c.close_by_control-in-Ok.result c.close_by_control-in-Ok.ensures.full (λ e f is tells.
+    let p = c.back_out.ensures.pace in
+    trail_as (view_of g.S.Site c.args.self.log) (view_of g.S.Site c.back_out.new.self.log) (g.S.Site.files e.1) p.total p.first (f is tells))
+
+pub returns-in-Ok-clause-only : goal.returns-in-Ok-clause-only
+returns-in-Ok-clause-only g c = one_if_err c.close_by_control-in-Ok.result c.close_by_control-in-Ok.ensures.only (λ e o. control_only 9999 c.args.self.changed e.0 o)
+
+pub returns-then-not-self-clause-only : goal.returns-then-not-self-clause-only
+returns-then-not-self-clause-only g c = one_if_err c.close_by_control.result c.close_by_control.ensures.only (λ e o. control_only 9999 c.args.self.changed e.0 o)
+
+pub returns-in-Ok-clause-clean : goal.returns-in-Ok-clause-clean
+returns-in-Ok-clause-clean g c = one_if_ok c.close_by_control-in-Ok.result c.close_by_control-in-Ok.ensures.clean (λ s k.
+    let same = c.in-Ok.ensures.causes in (k.0 ∙ ap (λ (f : Faults). f.disk) same, k.1 ∙ ap (λ (f : Faults). f.say) same))
+
+pub returns-in-Ok-clause-disk : goal.returns-in-Ok-clause-disk
+returns-in-Ok-clause-disk g c = one_if_err c.close_by_control-in-Ok.result c.close_by_control-in-Ok.ensures.disk (λ e d. counted_then _ _ _ _ (ap (λ (f : Faults). f.disk) c.in-Ok.ensures.causes) d)
+
+pub returns-in-Ok-clause-say_faults : goal.returns-in-Ok-clause-say_faults
+returns-in-Ok-clause-say_faults g c = one_if_err c.close_by_control-in-Ok.result c.close_by_control-in-Ok.ensures.say_faults (λ e s. s ∙ ap (λ (f : Faults). f.say) c.in-Ok.ensures.causes)
+
+pub returns-in-Ok-clause-said : goal.returns-in-Ok-clause-said
+returns-in-Ok-clause-said g c = one_if_ok c.close_by_control-in-Ok.result c.close_by_control-in-Ok.ensures.said (λ s same told. same told ∙ said_told g.S.Site.tells_said _ _ c.back_out.ensures.passes.said told)
+
+pub returns-in-Ok-clause-said_then : goal.returns-in-Ok-clause-said_then
+returns-in-Ok-clause-said_then g c = one_if_err c.close_by_control-in-Ok.result c.close_by_control-in-Ok.ensures.said_then (λ e same told. same told ∙ said_told g.S.Site.tells_said _ _ c.back_out.ensures.passes.said told)
+
+pub returns-in-Ok-clause-same : goal.returns-in-Ok-clause-same
+returns-in-Ok-clause-same g c = one_if_ok c.close_by_control-in-Ok.result c.close_by_control-in-Ok.ensures.same (λ s x. g.met.S.Site.same_then _ _ _ c.back_out.ensures.same x)
+
+pub returns-in-Ok-clause-same_then : goal.returns-in-Ok-clause-same_then
+returns-in-Ok-clause-same_then g c = one_if_err c.close_by_control-in-Ok.result c.close_by_control-in-Ok.ensures.same_then (λ e x. g.met.S.Site.same_then _ _ _ c.back_out.ensures.same x)
+
+pub returns-in-Err-clause-stopped : goal.returns-in-Err-clause-stopped
+returns-in-Err-clause-stopped g c =
+    subst (λ (x : _). LeavesUntil (held g.S.Site c.args.self) (lifted (telling (view_of g.S.Site c.args.self.log)) (g.S.Site.clock x))) (sym c.into_site.ensures)
+    (clock_as _ _ (held g.S.Site c.args.self) _ (pace_kind c.back_out.ensures.pace) c.back_out.ensures.passes.leaves)
+
+pub returns-in-Err-clause-only : goal.returns-in-Err-clause-only
+returns-in-Err-clause-only g c = backs_only 9999 c.args.self.changed c.in-Err.fault c.if-not-self.false c.in-Err.ensures.only
+
+pub returns-in-Err-clause-full : goal.returns-in-Err-clause-full
+returns-in-Err-clause-full g c is tells =
+    let p = c.back_out.ensures.pace in
+    let v = view_of g.S.Site c.args.self.log in
+    subst (λ (x : _). IsFullTrail v (g.S.Site.files x)) (sym c.into_site.ensures)
+    (full_trail v (view_of g.S.Site c.back_out.new.self.log) p.total p.first (c.in-Err.ensures.full (λ i. Err (is i))).1 (c.in-Err.ensures.ends (λ i. Err (is i)) tells))
+
+pub returns-in-Err-clause-disk : goal.returns-in-Err-clause-disk
+returns-in-Err-clause-disk g c =
+    subst (λ (x : _). CountedAt (c.in-Err.fault ≡ Disk) (g.S.Site.disk_faults c.args.self.log.site) (g.S.Site.disk_faults x)) (sym c.into_site.ensures)
+    (backs_counted 9999 c.in-Err.fault (held g.S.Site c.args.self) (held g.S.Site c.back_out.new.self) c.in-Err.ensures.only c.in-Err.ensures.causes).0
+
+pub returns-in-Err-clause-say_faults : goal.returns-in-Err-clause-say_faults
+returns-in-Err-clause-say_faults g c =
+    ap g.S.Site.say_faults c.into_site.ensures ∙ (backs_counted 9999 c.in-Err.fault (held g.S.Site c.args.self) (held g.S.Site c.back_out.new.self) c.in-Err.ensures.only c.in-Err.ensures.causes).1
+
+pub returns-in-Err-clause-said_then : goal.returns-in-Err-clause-said_then
+returns-in-Err-clause-said_then g c told = ap g.S.Site.said c.into_site.ensures ∙ said_told g.S.Site.tells_said _ _ c.back_out.ensures.passes.said told
