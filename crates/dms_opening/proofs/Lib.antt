@@ -1,5 +1,6 @@
 pub mod Faults
 pub mod Planned
+pub mod Completed
 pub mod LastPoint
 pub mod OneTrail
 pub mod Carries
