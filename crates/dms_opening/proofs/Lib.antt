@@ -8,3 +8,4 @@ pub mod Looks
 pub mod Opens
 pub mod Runs
 pub mod Callers
+pub mod Complete
