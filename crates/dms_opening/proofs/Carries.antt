@@ -1,6 +1,9 @@
 -- A plan that is carried out.
-use Rattle.std.proofs.Common.{ℕ, ◌+◌, ◌*◌, ◌/◌, ◌≤◌, ◌<◌, ◌≡◌, inl, inr, Bool, true, false, cond, IsTrue, List, [], ◌∷◌, ◌++◌, append_assoc, length, take, Option, Some, None, refl, sym, ◌∙◌, ap, subst, arith}
+use Rattle.std.proofs.Common.{ℕ, ◌+◌, ◌*◌, ◌/◌, ◌≤◌, ◌<◌, ◌≡◌, ◌⊎◌, inl, inr, Bool, true, false, cond, IsTrue, List, [], ◌∷◌, ◌++◌, append_assoc, length, take, Option, Some, None, refl, sym, ◌∙◌, ap, subst, arith}
 use Rattle.std.proofs.lemmas.List.{take_all}
+use Rattle.std.specs.Prelude.{IfErr}
+use Rattle.std.specs.declared.result.Result.{Result}
+use Rattle.std.specs.declared.result.Result.TheVariants.{Ok, Err}
 use Rattle.dms_moments.specs.Moments.{After, Clock, Now, Runs, Steps}
 use Rattle.dms_site.specs.declared.site.Site.{Ghosts}
 use Rattle.dms_site.specs.Files.{Files, Left, stored_of}
@@ -8,19 +11,22 @@ use Rattle.dms_history.specs.Events.{Content}
 use Rattle.dms_history.specs.History.{Pending, History}
 use Rattle.dms_history.specs.Entries.{Entry, begin_restore, by_halt_load, control_point}
 use Rattle.dms_history.specs.EntryEvents.{history_of}
-use Rattle.dms_history.specs.Points.{LivePoint}
 use Rattle.dms_history.specs.Schemas.{schema_entries}
 use Rattle.dms_history.specs.declared.event.FileCount.{FileCount}
+use Rattle.dms_history.proofs.Order.{append_none}
 use Rattle.dms_history.proofs.Picks.{some_is}
 use Rattle.dms_history.proofs.Stops.{outcome_length}
 use Rattle.dms_audrec.specs.Spelling.{pair_bytes, count_file, count_blocks}
 use Rattle.dms_audrec.specs.Reading.{counts_at}
 use Rattle.dms_audfile.specs.Ends.{Grown}
 use Rattle.dms_audfile.specs.TrailEntries.{trail_entries}
+use Rattle.dms_audfile.specs.declared.fault.AudFault.{AudFault}
+use Rattle.dms_audfile.specs.declared.fault.AudFault.TheVariants as aud
 use Rattle.dms_running.specs.Telling.{Telling}
 use Rattle.dms_running.specs.Standing.{IsWhole}
-use Rattle.dms_running.specs.Points.{points_of, next_in, LeavesPointsPrefix}
+use Rattle.dms_running.specs.Points.{DescribedPoint, points_of, next_in, LeavesPointsPrefix}
 use Rattle.dms_running.specs.Begun.{LeavesAll, outcome_now}
+use Rattle.dms_restore.specs.declared.choosing.OpenFault.TheVariants.{Audit}
 use Rattle.dms_restore.specs.Bodies.{bodies}
 use Rattle.dms_restore.specs.Counts.{count_of, file_counts}
 use Rattle.dms_restore.specs.Laying.{schema_control}
@@ -33,9 +39,10 @@ use Rattle.dms_restore.proofs.CountBytes.{IsCountTable, counts_read, counts_told
 use Rattle.dms_restore.proofs.GoneOn.{each_on}
 use Rattle.dms_wal.specs.Lifting.{last_blocks}
 use Rattle.dms_wal.specs.Marks.{last_number, IsMarkOf}
+use Rattle.dms_wal.proofs.Under.{under_control}
 use Rattle.dms_opening.specs.declared.plan.Plan.{Plan}
 use Rattle.dms_opening.specs.Plans.{Plans}
-use Rattle.dms_opening.specs.Openings.{begin_where_none, opening_entries, RunsFrom, Reopens, text_of}
+use Rattle.dms_opening.specs.Openings.{begin_where_none, opening_entries, RunsFrom, MayHaveWritten, Reopens, text_of}
 use Rattle.dms_opening.specs.Carrying.{IsReady, IsPlanned, BeginsPlan, BeginsWhole}
 use Rattle.dms_opening.proofs.LastPoint.{last_is, left_is}
 
@@ -101,7 +108,7 @@ module _ (a b : LogView) (plan : Plan) (w : BeginsWhole a plan b) (ready : IsRea
     content_left = o.content_is ∙ w.keeps.outcome_same
 
     marked : last_blocks (λ f. []) (points c) ≡ outcome_now (telling a) restore (state a)
-    marked = ap (λ (ps : List LivePoint). last_blocks (λ f. []) ps) points_are ∙ left_is (telling a) a.files w.whole plan.choice.begins plan.choice.point restore plans.chooses.is
+    marked = ap (λ (ps : List DescribedPoint). last_blocks (λ f. []) ps) points_are ∙ left_is (telling a) a.files w.whole plan.choice.begins plan.choice.point restore plans.chooses.is
 
     counted : (f : ℕ) → count_of plan.counts.items f ≡ length (last_blocks (λ g. []) (points c) f)
     counted f =
@@ -121,18 +128,22 @@ module _ (a b : LogView) (plan : Plan) (w : BeginsWhole a plan b) (ready : IsRea
         ∙ ap (λ (l : List Entry). l ++ ends (file_counts 30001 plan.counts.items)) w.begins.sealed
         ∙ append_assoc found (begin_where_none (history_of found).pending plan.choice.point) (ends (file_counts 30001 plan.counts.items))
 
+    behind : entries c ≡ entries b ++ ends (counts_at (length bytes / 8) bytes)
+    behind = o.entries_are ∙ ap (λ (l : List Entry). l ++ ends (counts_at (length bytes / 8) bytes)) (sym (ap (λ (l : List Entry). (telling b).entries b.files ++ l) w.begun.begun.nothing ∙ append_none ((telling b).entries b.files)))
+
     pub runs_from : RunsFrom a.files plan.choice.point plan.next plan.schema.items plan.counts.items c
     runs_from = record {
       runs = o.runs;
       nothing = o.nothing;
       entries_are = sealed ∙ ap (λ (t : Telling). t.entries a.files ++ opening_entries (history_of (t.entries a.files)).pending plan.choice.point plan.next plan.schema.items plan.counts.items) (sym kind);
       points_same = points_are ∙ ap (λ (t : Telling). points_of t a.files) (sym kind);
-      all_durable = o.all_durable ∙ ap (λ (ps : List LivePoint). length ps) (sym o.points_same);
+      all_durable = o.all_durable ∙ ap (λ (ps : List DescribedPoint). length ps) (sym o.points_same);
       next_is = o.next_same ∙ w.keeps.next_same ∙ plans.next_is;
       last = record {
-        number = ap (λ (ps : List LivePoint). last_number ps) points_are ∙ last_is (telling a) a.files w.whole plan.choice.begins plan.choice.point restore plans.chooses.is;
+        number = ap (λ (ps : List DescribedPoint). last_number ps) points_are ∙ last_is (telling a) a.files w.whole plan.choice.begins plan.choice.point restore plans.chooses.is;
         counted = counted;
       };
+      under = under_control b c plan.schema.items plan.choice.point plan.next (counts_at (length bytes / 8) bytes) ready.described.0 behind;
       content_is = content_left ∙ sym marked;
       written = o.written;
       only = o.only;
@@ -172,3 +183,14 @@ module _ {S : Type 0} (g : Ghosts S) (now_said : (s : S) (x : Left) → IsTrue g
 
   pub reopens_all : (waiting : List Entry) → LeavesAll t (record { waiting = waiting; files = g.files site; clock = g.clock site }) later → Steps PrintsNothing (g.clock site) later → Runs (g.clock site) later (Reopens t (g.files site) (text_of g site))
   reopens_all waiting leaves silent = runs_both leaves silent.runs (λ x l after. left_all t (g.files site) (text_of g site) x l (text_left x after))
+
+-- ---- by the answer of a call
+
+pub two_if_err : {T E : Type 0} {P Q R : E → Type 0} (r : Result T E) → IfErr r P → IfErr r Q → ((e : E) → P e → Q e → R e) → IfErr r R
+two_if_err (Ok x) one two f = tt
+two_if_err (Err e) one two f = f e one two
+
+-- a failed call, or no room up to file 9,999
+pub written_at : (limit : ℕ) (fault : AudFault) → limit ≡ 9999 → (fault ≡ aud.Disk) ⊎ (fault ≡ aud.Full limit) → MayHaveWritten (Audit fault)
+written_at limit fault is (inl disk) = inl (ap Audit disk)
+written_at limit fault is (inr full) = inr (ap Audit (full ∙ ap (λ n. aud.Full n) is))

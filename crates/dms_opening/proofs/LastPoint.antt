@@ -1,5 +1,5 @@
 -- What an opening is to leave is the content of the last point.
-use Rattle.std.proofs.Common.{ℕ, ◌≤◌, ◌≡◌, Bool, true, false, List, [], ◌∷◌, Option, Some, None, refl, sym, ◌∙◌, ap, subst, arith}
+use Rattle.std.proofs.Common.{ℕ, ◌≤◌, ◌≡◌, Bool, true, false, List, [], ◌∷◌, map, Option, Some, None, refl, sym, ◌∙◌, ap, subst, arith}
 use Rattle.std.specs.Prelude.{◌==◌}
 use Rattle.dms_site.specs.Files.{Files, stored_of}
 use Rattle.dms_history.specs.Events.{Content, Stored, Event, halt_load}
@@ -10,7 +10,7 @@ use Rattle.dms_history.specs.Pick.{Dumps, blocks_at}
 use Rattle.dms_history.specs.Base.{from_control}
 use Rattle.dms_history.specs.Replay.{replay}
 use Rattle.dms_history.specs.Here.{here, here_by, outcome, restore_pick}
-use Rattle.dms_history.specs.Points.{LivePoint, numbers_of, ListsPoints}
+use Rattle.dms_history.specs.Points.{LivePoint, live_points, numbers_of, ListsPoints}
 use Rattle.dms_history.specs.Restores.{Steady}
 use Rattle.dms_history.specs.LawsOfRestores.{PendingCut}
 use Rattle.dms_history.specs.Entries.{Entry}
@@ -24,7 +24,7 @@ use Rattle.dms_history.proofs.Order.{last_lives}
 use Rattle.dms_history.proofs.Picks.{some_is}
 use Rattle.dms_running.specs.Telling.{Telling}
 use Rattle.dms_running.specs.Standing.{IsWhole}
-use Rattle.dms_running.specs.Points.{points_of}
+use Rattle.dms_running.specs.Points.{DescribedPoint, described_in, points_of}
 use Rattle.dms_restore.specs.Refusals.{IsOpening}
 use Rattle.dms_wal.specs.Lifting.{last_blocks}
 use Rattle.dms_wal.specs.Marks.{number_from, last_number}
@@ -33,14 +33,14 @@ use Rattle.dms_wal.proofs.Pointing.{IsTop, top_is}
 true_not_false : true ≡ false → ⊥
 true_not_false e = absurd cc
 
-number_some : (before : Option ℕ) (q : LivePoint) (ps : List LivePoint) → (n : ℕ) × (number_from before (q ∷ ps) ≡ Some n)
+number_some : (before : Option ℕ) (q : DescribedPoint) (ps : List DescribedPoint) → (n : ℕ) × (number_from before (q ∷ ps) ≡ Some n)
 number_some before q [] = (q.number, refl)
 number_some before q (r ∷ ps) = number_some (Some q.number) r ps
 
 -- where there is a point there is a last one
-last_some : (ps : List LivePoint) (m : ℕ) → has (λ j. j == m) (numbers_of ps) ≡ true → (n : ℕ) × (last_number ps ≡ Some n)
-last_some [] m on = absurd (true_not_false (sym on))
-last_some (q ∷ ps) m on = number_some None q ps
+last_some : (es : List Entry) (ps : List LivePoint) (m : ℕ) → has (λ j. j == m) (numbers_of ps) ≡ true → (n : ℕ) × (last_number (map (described_in es) ps) ≡ Some n)
+last_some es [] m on = absurd (true_not_false (sym on))
+last_some es (q ∷ ps) m on = number_some None (described_in es q) (map (described_in es) ps)
 
 halt_left : (dumps : Dumps) (live : List Event) (m : ℕ) (stored : Stored) → blocks_at live stored m ≡ outcome halt_load dumps live m stored
 unfolding outcome restore_pick blocks_at
@@ -117,14 +117,18 @@ module _ (t : Telling) (files : Files) (w : IsWhole t files) (begins : Bool) (po
       by_case true is = goes_new is
       by_case false is = goes_old is
 
-  listed : ListsPoints (live_of es) counted (points_of t files)
+  -- the points without their Schemas
+  abbrev bare : List LivePoint
+  bare = live_points (live_of es) counted
+
+  listed : ListsPoints (live_of es) counted bare
   listed = points_listed (live_of es) (next_of es) counted w.stands.kept.numbered
 
   found : (n : ℕ) × (last_number (points_of t files) ≡ Some n)
-  found = last_some (points_of t files) point (listed.all point goes.lives)
+  found = last_some es bare point (listed.all point goes.lives)
 
-  top : IsTop (live_of es) counted (points_of t files) found.0 (last_blocks (λ f. []) (points_of t files))
-  top = top_is (live_of es) counted (λ f. []) (points_of t files) found.0 listed.rises listed.lives found.1
+  top : IsTop (live_of es) counted bare found.0 (last_blocks (λ f. []) (points_of t files))
+  top = top_is (live_of es) counted es (λ f. []) bare found.0 listed.rises listed.lives found.1
 
   same : found.0 ≡ point
   same =

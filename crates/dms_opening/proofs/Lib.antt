@@ -1,5 +1,6 @@
 pub mod Faults
 pub mod Planned
+pub mod Completed
 pub mod LastPoint
 pub mod OneTrail
 pub mod Carries
@@ -7,3 +8,4 @@ pub mod Looks
 pub mod Opens
 pub mod Runs
 pub mod Callers
+pub mod Complete

@@ -21,7 +21,7 @@ use Rattle.dms_opening.specs.Carrying.{IsReady}
 use Rattle.dms_restore.specs.Traces.{IsTraceOf}
 use Rattle.dms_opening.specs.declared.plan.Plan.{Plan}
 use Rattle.dms_opening.specs.Openings.{HasTrail, RefusesFiles}
-use Rattle.dms_opening.specs.Plans.{IsTrailRead, IsFit, Plans, RefusesPlan}
+use Rattle.dms_opening.specs.Plans.{IsTrailRead, FitsOpening, Plans, RefusesPlan}
 use Rattle.dms_opening.proofs.OneTrail.{trail_of}
 
 -- one call that changes nothing after another
@@ -58,7 +58,7 @@ module _ (total first : ℕ) (files : Files) (a b : Plan) (choice : b.choice ≡
     next_is = p.next_is;
   })
 
-  pub ready_of : IsFit a → length b.counts.items ≤ length a.counts.items → IsReady b
+  pub ready_of : FitsOpening a → length b.counts.items ≤ length a.counts.items → IsReady b
   ready_of fit fewer = record {
     blocks = subst (λ (v : Vec Told). AreBlocks v.items) (sym table) fit.blocks;
     counts = record { few = omega (arith, fewer, fit.size); small = λ f. omega (arith, same f, fit.small f) };

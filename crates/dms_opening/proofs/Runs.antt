@@ -1,52 +1,52 @@
 -- An opened database as blocks.
 use Rattle.std.proofs.Common.{ℕ, ◌≡◌, List, length, map, refl, sym, ◌∙◌, ap, subst}
 use Rattle.std.proofs.lemmas.List.{length-map}
-use Rattle.std.specs.Global.{Vec}
 use Rattle.dms_site.specs.declared.site.Site.{Ghosts}
 use Rattle.dms_site.specs.Files.{Files}
 use Rattle.dms_block.specs.Held.{Held}
 use Rattle.dms_audfile.specs.declared.audit_end.AuditEnd.{AuditEnd}
 use Rattle.dms_history.specs.Events.{Content}
-use Rattle.dms_history.specs.Points.{LivePoint}
+use Rattle.dms_running.specs.Points.{DescribedPoint}
 use Rattle.dms_restore.specs.declared.log.Log.{Log}
 use Rattle.dms_restore.specs.Logging.{LogView, telling, points}
 use Rattle.dms_wal.specs.declared.running.Running.{Running}
 use Rattle.dms_wal.specs.declared.running.Start.{Start}
 use Rattle.dms_wal.specs.Database.{held, view_of, IsUsable}
-use Rattle.dms_wal.specs.Lifting.{AreCounts, count_of, point_under}
+use Rattle.dms_wal.specs.Lifting.{AreCounts, block_point, count_of}
 use Rattle.dms_wal.specs.Marks.{IsDescription, IsMarkOf}
 use Rattle.dms_wal.specs.Starting.{IsInBounds, StartsFrom}
 use Rattle.dms_wal.proofs.Reaching.{EndsAlike, reaching, held_alike, usable_alike}
 use Rattle.dms_opening.specs.Openings.{RunsFrom, TellsOpened}
 
 -- a database runs from what an opening left
-pub starts_from : (files : Files) (point next : ℕ) (schema counts : List ℕ) (v : LogView) (s : Start) → RunsFrom files point next schema counts v → s.next ≡ next → s.point ≡ point → s.counts.items ≡ counts → s.marks.items ≡ counts → StartsFrom v s
-starts_from files point next schema counts v s r numbered pointed counted marked = record {
+pub starts_from : (files : Files) (point next : ℕ) (schema counts : List ℕ) (v : LogView) (s : Start) → RunsFrom files point next schema counts v → s.schema.items ≡ schema → s.next ≡ next → s.point ≡ point → s.counts.items ≡ counts → s.marks.items ≡ counts → StartsFrom v s
+starts_from files point next schema counts v s r described numbered pointed counted marked = record {
   runs = r.runs;
   written = r.written;
   numbered = numbered ∙ sym r.next_is;
   counted = λ f. ap (λ (c : List ℕ). count_of c f) counted ∙ r.last.counted f ∙ ap (λ (c : Content). length (c f)) (sym r.content_is);
   pointed = subst (λ (m : List ℕ). IsMarkOf (points v) s.point m) (sym marked) (subst (λ n. IsMarkOf (points v) n counts) (sym pointed) r.last);
+  under = r.under ∙ sym described;
+  unchanged = λ same. record { content_is = r.content_is; counts_are = counted ∙ sym marked };
 }
 
 pub in_bounds : (s : Start) → IsDescription s.schema.items → AreCounts s.counts.items → s.marks.items ≡ s.counts.items → IsInBounds s
 in_bounds s described table same = record { described = described; marked = record { table = subst AreCounts (sym same) table; as_many = ap length same } }
 
 module _ {S : Type 0} (g : Ghosts S) (r : Running S) (e : AuditEnd) (alike : EndsAlike r.log.end e) where
-  tells_here : (files : Files) (point : ℕ) (schema counts : List ℕ) → RunsFrom files point r.next schema counts (view_of g r.log) → r.syncs ≡ 0 → TellsOpened (telling (view_of g r.log)) files r.schema.items r.next (g.clock r.log.site) (held g (reaching g r e alike))
-  tells_here files point schema counts f none = subst (λ (h : Held). TellsOpened (telling (view_of g r.log)) files r.schema.items r.next (g.clock r.log.site) h) (held_alike g r e alike) (record {
-    points_are = ap (λ (ps : List LivePoint). map (point_under r.schema.items) ps) f.points_same;
-    all_durable = f.all_durable ∙ sym (length-map (points (view_of g r.log)) (point_under r.schema.items));
+  tells_here : (files : Files) (point : ℕ) (schema counts : List ℕ) → RunsFrom files point r.next schema counts (view_of g r.log) → r.syncs ≡ 0 → TellsOpened (telling (view_of g r.log)) files r.next (g.clock r.log.site) (held g (reaching g r e alike))
+  tells_here files point schema counts f none = subst (λ (h : Held). TellsOpened (telling (view_of g r.log)) files r.next (g.clock r.log.site) h) (held_alike g r e alike) (record {
+    points_are = ap (λ (ps : List DescribedPoint). map block_point ps) f.points_same;
+    all_durable = f.all_durable ∙ sym (length-map (points (view_of g r.log)) block_point);
     content_is = f.content_is;
     next_is = refl;
     clock_is = refl;
     no_sync = none;
   })
 
-  pub tells_at : (files : Files) (point next : ℕ) (schema : Vec ℕ) (counts said : List ℕ) (log : Log S) → r.log ≡ log → r.schema ≡ schema → r.next ≡ next → r.syncs ≡ 0 → RunsFrom files point next said counts (view_of g log)
-      → TellsOpened (telling (view_of g log)) files schema.items next (g.clock log.site) (held g (reaching g r e alike))
-  tells_at files point next schema counts said log one two three none f =
-      subst (λ (l : Log S). TellsOpened (telling (view_of g l)) files schema.items next (g.clock l.site) (held g (reaching g r e alike))) one
-      (subst (λ (v : Vec ℕ). TellsOpened (telling (view_of g r.log)) files v.items next (g.clock r.log.site) (held g (reaching g r e alike))) two
-      (subst (λ n. TellsOpened (telling (view_of g r.log)) files r.schema.items n (g.clock r.log.site) (held g (reaching g r e alike))) three
-      (tells_here files point said counts (subst (λ n. RunsFrom files point n said counts (view_of g r.log)) (sym three) (subst (λ (l : Log S). RunsFrom files point next said counts (view_of g l)) (sym one) f)) none)))
+  pub tells_at : (files : Files) (point next : ℕ) (counts said : List ℕ) (log : Log S) → r.log ≡ log → r.next ≡ next → r.syncs ≡ 0 → RunsFrom files point next said counts (view_of g log)
+      → TellsOpened (telling (view_of g log)) files next (g.clock log.site) (held g (reaching g r e alike))
+  tells_at files point next counts said log one three none f =
+      subst (λ (l : Log S). TellsOpened (telling (view_of g l)) files next (g.clock l.site) (held g (reaching g r e alike))) one
+      (subst (λ n. TellsOpened (telling (view_of g r.log)) files n (g.clock r.log.site) (held g (reaching g r e alike))) three
+      (tells_here files point said counts (subst (λ n. RunsFrom files point n said counts (view_of g r.log)) (sym three) (subst (λ (l : Log S). RunsFrom files point next said counts (view_of g l)) (sym one) f)) none))

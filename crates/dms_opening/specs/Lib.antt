@@ -1,3 +1,4 @@
 pub mod Plans
+pub mod Laws
 pub mod Openings
 pub mod Carrying

@@ -11,7 +11,8 @@ use Rattle.dms_block.specs.Held.{Held}
 use Rattle.dms_history.specs.History.{Pending}
 use Rattle.dms_history.specs.Pick.{count_at}
 use Rattle.dms_history.specs.Entries.{Entry, begin_restore, by_halt_load, control_point}
-use Rattle.dms_history.specs.EntryEvents.{history_of, next_of}
+use Rattle.dms_history.specs.Places.{IsLive}
+use Rattle.dms_history.specs.EntryEvents.{history_of, live_of, next_of}
 use Rattle.dms_history.specs.Schemas.{schema_entries}
 use Rattle.dms_history.specs.SchemaAt.{schema_at}
 use Rattle.dms_audfile.specs.AuditTrail.{IsFound}
@@ -34,9 +35,9 @@ use Rattle.dms_restore.specs.Counts.{count_of, file_counts}
 use Rattle.dms_restore.specs.Logging as logs
 use Rattle.dms_restore.specs.Logging.{LogView, telling_of, telling, state, waits, LogRuns, entries, points, durable, content}
 use Rattle.dms_restore.specs.Refusals.{dump_in}
-use Rattle.dms_wal.specs.Lifting.{last_blocks, lifted, point_under}
-use Rattle.dms_wal.specs.Marks.{IsMarkOf}
-use Rattle.dms_opening.specs.Plans.{RefusesPlan}
+use Rattle.dms_wal.specs.Lifting.{block_point, last_blocks, lifted}
+use Rattle.dms_wal.specs.Marks.{IsMarkOf, StandsUnder}
+use Rattle.dms_opening.specs.Plans.{HasNoDescription, RefusesPlan}
 
 -- Scanning refuses nothing in these files: their trail begins with file `first`, and each of its files has so many blocks.
 pub record HasTrail (total first : ℕ) (files : Files) : Type 0 where
@@ -80,7 +81,7 @@ opening_entries pending point next schema counts = begin_where_none pending poin
 
 -- The database that these files held runs. Exactly those entries were sealed behind its own, and nothing waits. Its points and its next number
 -- are the same, and all points are durable. The content is that of the last point, each block of it stands in its file, and a stop now leaves
--- what is read.
+-- what is read. The last live Schema is that of the description.
 pub record RunsFrom (files : Files) (point next : ℕ) (schema counts : List ℕ) (v : LogView) : Type 0 where
   pub runs : LogRuns v
   pub nothing : waits v.end ≡ []
@@ -89,6 +90,7 @@ pub record RunsFrom (files : Files) (point next : ℕ) (schema counts : List ℕ
   pub all_durable : durable v ≡ length (points v)
   pub next_is : logs.next v ≡ next
   pub last : IsMarkOf (points v) point counts
+  pub under : StandsUnder v schema
   pub content_is : content v ≡ last_blocks (λ f. []) (points v)
   pub written : AllWritten (telling v) (state v)
   pub only : Only v.files v.clock
@@ -110,14 +112,14 @@ module _ {S : Type 0} (g : Ghosts S) where
   abbrev pub ReopensSince : S → S → Type 0
   ReopensSince a b = (total first : ℕ) → HasTrail total first (g.files a) → IsWhole (telling_of total first) (g.files a) → Runs (g.clock a) (g.clock b) (Reopens (telling_of total first) (g.files a) (text_of a))
 
--- Blocks tell exactly the points of files, all of them durable and under this description, the content of the last one, and the next number.
+-- Blocks tell exactly the points of files, all of them durable, the content of the last one, and the next number.
 -- What a stop leaves is what it leaves of the site, and they weren't synced yet.
-pub record TellsOpened (t : Telling) (files : Files) (schema : List ℕ) (next : ℕ) (clock : Clock Left) (h : Held) : Type 0 where
-  pub points_are : h.points ≡ map (point_under schema) (points_of t files)
+pub record TellsOpened (t : Telling) (files : Files) (next : ℕ) (clock : Clock Left) (h : Held) : Type 0 where
+  pub points_are : h.points ≡ map block_point (points_of t files)
   pub all_durable : h.durable ≡ length h.points
   pub content_is : h.content ≡ h.mark
   pub next_is : h.next ≡ next
-  pub clock_is : h.clock ≡ lifted t schema clock
+  pub clock_is : h.clock ≡ lifted t clock
   pub no_sync : h.uses.syncs ≡ 0
 
 -- ---- why it is refused
@@ -137,3 +139,19 @@ RefusesFiles files fault = ((e : AudFault) × (fault ≡ Audit e) × Refuses fil
 -- A call of the site failed, or the audit had no room: the opening may have begun to write.
 abbrev pub MayHaveWritten : OpenFault → Type 0
 MayHaveWritten fault = (fault ≡ Audit aud.Disk) ⊎ (fault ≡ Audit (aud.Full 9999))
+
+-- These files hold a database that has a point, and no restore by a dump is pending.
+pub record IsOpenable (total first : ℕ) (files : Files) : Type 0 where
+  pub trail : HasTrail total first files
+  pub whole : IsWhole (telling_of total first) files
+  pub point : ℕ
+  pub lives : IsLive (live_of (trail_entries total first files)) point
+  pub no_dump : dump_in (history_of (trail_entries total first files)).pending ≡ None
+
+-- What has nothing to do with the files: a failed call, want of memory, an audit without room.
+abbrev pub IsNoRefusal : OpenFault → Type 0
+IsNoRefusal fault = (fault ≡ Audit aud.Disk) ⊎ ((fault ≡ Audit aud.Memory) ⊎ (fault ≡ Audit (aud.Full 9999)))
+
+-- the Schema at the point has no byte, or more than a description can have
+abbrev pub LacksDescription : ℕ → ℕ → Files → OpenFault → Type 0
+LacksDescription total first files fault = (fault ≡ Audit (aud.Damaged first 0)) × HasNoDescription total first files

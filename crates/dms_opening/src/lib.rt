@@ -3,6 +3,7 @@
 
 mod carrying;
 mod cutting;
+pub mod laws;
 mod looking;
 mod opened;
 mod plan;

@@ -1,0 +1,8 @@
+//! Laws of openings. Each stands on a function with an empty body, so that the check proves it.
+
+ghost use Rattle.dms_opening.specs.Laws.{WholeIsOpened};
+
+/// Files that hold a database are opened: nothing is refused of them but for a call that fails and for want of memory.
+pub fn whole_files_are_opened()
+    ensures { WholeIsOpened }
+{}
