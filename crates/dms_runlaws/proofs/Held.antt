@@ -35,6 +35,7 @@ use Rattle.dms_history.proofs.Listed.{points_listed}
 use Rattle.dms_history.proofs.Order.{last_lives}
 use Rattle.dms_history.proofs.Picks.{chain_split, some_is}
 use Rattle.dms_history.proofs.Sizing.{sized_base, sized_replay}
+use Rattle.dms_audfile.specs.Scanning.{place_in}
 use Rattle.dms_audfile.specs.TrailLaws.{IsWritersTrail}
 use Rattle.dms_audfile.specs.TrailEntries.{trail_entries}
 use Rattle.dms_audfile.proofs.Again.{found_are_entries}
@@ -212,10 +213,16 @@ pub held : StatesAreHeld
 held files n desc db s = record {
   total = total files n desc db s;
   first = first files n desc db s;
+  places = map place_in s.at_point.finds.placed;
+  finds = record { entries = s.at_point.finds.placed; places_are = refl; trail = s.at_point.finds.trail; first_is = refl };
   tag = (placed_trail files n desc db s).tag;
   file = (placed_trail files n desc db s).file;
   count = (placed_trail files n desc db s).count;
   writes = (placed_trail files n desc db s).writes;
   whole = whole files n desc db s;
-  last = ends files n desc db s;
+  state = ends files n desc db s;
+  last = last files n desc db s;
+  lives = lives files n desc db s;
+  described = described files n desc db s;
+  formed = s.at_point.well_formed;
 }
