@@ -7,6 +7,7 @@ The words of the command line.
   usage: dms try < FILE
          dms compile < FILE
          dms initialize [TAG]
+         dms run < FILE
          dms print audit
          dms --help
          dms --version
@@ -27,6 +28,12 @@ The words of the command line.
                files, dumps and structure files of an old database are cut to
                nothing.
   
+    run        the lines of a script
+               Opens the database in the current folder, as its last quiet point
+               was, also where a program was stopped within it. Prints what the
+               lines answer, and closes the database. What stands before a line
+               SYNCPOINT that was printed survives any stop.
+  
     print audit   nothing
                Prints a line for each entry that is sealed in the audit files of
                the current folder. Changes nothing.
@@ -38,12 +45,12 @@ The words of the command line.
      2  the schema is refused
      3  there is no database
      4  the description is missing, or an audit file is, or isn't sealed, or is
-        one of another database
+        one of another database, or the point of a restore can't be had
      5  a call on a file failed, or the folder is in use
      6  reading the input failed
      7  memory was refused
-     8  the script is too long, or holds too many lines
-     9  a block of an audit file is damaged
+     8  the script is too long, or holds too many lines, or the audit is full
+     9  a block of an audit file or of a structure file is damaged
     10  printing failed
     11  the description or the database is there already
   

@@ -6,14 +6,14 @@ use Rattle.dasdl_phrases.specs.declared.fault.ParseFault.{ParseFault}
 use Rattle.dasdl_phrases.specs.declared.fault.ParseFault.TheVariants.{BadCharacter, Expected, NumberRange, TooMany, Memory as NoSpace}
 use Rattle.dms.specs.declared.texts.Ending.{Ending}
 use Rattle.dms.specs.declared.texts.Ending.TheVariants.{Command, InUse}
-use Rattle.dms_top.specs.declared.status.LimitKind.{LimitKind}
-use Rattle.dms_top.specs.declared.status.LimitKind.TheVariants.{Lines, Bytes, Held}
-use Rattle.dms_top.specs.declared.status.SchemaFault.{SchemaFault}
-use Rattle.dms_top.specs.declared.status.SchemaFault.TheVariants.{Parse, Compile}
-use Rattle.dms_top.specs.declared.status.Status.{Status}
-use Rattle.dms_top.specs.declared.status.Status.TheVariants.{Ok, BadWords, SchemaRefused, NoDatabase, Needed, DiskFault, InputFault, Memory, Limit, Damaged, SayFault, Exists}
-use Rattle.dms_top.specs.declared.status.NeedFault.{NeedFault}
-use Rattle.dms_top.specs.declared.status.NeedFault.TheVariants.{NoDescription, AuditMissing, AuditUnsealed, AuditForeign}
+use Rattle.dms_status.specs.declared.status.LimitKind.{LimitKind}
+use Rattle.dms_status.specs.declared.status.LimitKind.TheVariants.{AuditFile, Lines, Bytes, Held}
+use Rattle.dms_status.specs.declared.status.SchemaFault.{SchemaFault}
+use Rattle.dms_status.specs.declared.status.SchemaFault.TheVariants.{Parse, Compile}
+use Rattle.dms_status.specs.declared.status.Status.{Status}
+use Rattle.dms_status.specs.declared.status.Status.TheVariants.{Ok, BadWords, SchemaRefused, NoDatabase, Needed, DiskFault, InputFault, Memory, Limit, Damaged, SayFault, Exists}
+use Rattle.dms_status.specs.declared.status.NeedFault.{NeedFault}
+use Rattle.dms_status.specs.declared.status.NeedFault.TheVariants.{NoDescription, AuditMissing, AuditUnsealed, AuditForeign, NoSuchPoint, Voided, DumpPending}
 
 -- words, the number at their place, and words behind it
 abbrev pub counted : List ℕ → ℕ → List ℕ → List ℕ
@@ -45,6 +45,7 @@ schema_words (Parse fault) = parse_words fault
 schema_words (Compile fault) = compile_words fault
 
 abbrev pub limit_words : LimitKind → List ℕ
+limit_words (AuditFile k) = counted (codes "audit file ") k (codes " full")
 limit_words Lines = codes "too many lines"
 limit_words Bytes = codes "too many bytes"
 limit_words Held = codes "too many held lines"
@@ -55,6 +56,9 @@ need_words NoDescription = codes "no description"
 need_words (AuditMissing k) = counted (codes "audit file ") k (codes " missing")
 need_words (AuditUnsealed k) = counted (codes "audit file ") k (codes " unsealed")
 need_words (AuditForeign k) = counted (codes "audit file ") k (codes " of another database")
+need_words (NoSuchPoint n) = counted (codes "no such point ") n []
+need_words (Voided n) = counted (codes "point ") n (codes " voided")
+need_words (DumpPending d) = counted (codes "restore by dump ") d (codes " pending")
 
 -- a line of the program, with its line feed
 abbrev pub line : List ℕ → List ℕ

@@ -3,6 +3,7 @@ pub const HELP: &str = "\
 usage: dms try < FILE
        dms compile < FILE
        dms initialize [TAG]
+       dms run < FILE
        dms print audit
        dms --help
        dms --version
@@ -23,6 +24,12 @@ Commands, each with what it reads from standard input:
              files, dumps and structure files of an old database are cut to
              nothing.
 
+  run        the lines of a script
+             Opens the database in the current folder, as its last quiet point
+             was, also where a program was stopped within it. Prints what the
+             lines answer, and closes the database. What stands before a line
+             SYNCPOINT that was printed survives any stop.
+
   print audit   nothing
              Prints a line for each entry that is sealed in the audit files of
              the current folder. Changes nothing.
@@ -34,12 +41,12 @@ Statuses. At one above 0 a line on standard error says why.
    2  the schema is refused
    3  there is no database
    4  the description is missing, or an audit file is, or isn't sealed, or is
-      one of another database
+      one of another database, or the point of a restore can't be had
    5  a call on a file failed, or the folder is in use
    6  reading the input failed
    7  memory was refused
-   8  the script is too long, or holds too many lines
-   9  a block of an audit file is damaged
+   8  the script is too long, or holds too many lines, or the audit is full
+   9  a block of an audit file or of a structure file is damaged
   10  printing failed
   11  the description or the database is there already
 

@@ -109,6 +109,9 @@ impl fmt::Display for NeedText {
             NeedFault::AuditForeign(number) => {
                 write!(f, "audit file {number} of another database")
             }
+            NeedFault::NoSuchPoint(point) => write!(f, "no such point {point}"),
+            NeedFault::Voided(point) => write!(f, "point {point} voided"),
+            NeedFault::DumpPending(dump) => write!(f, "restore by dump {dump} pending"),
         }
     }
 }
@@ -135,6 +138,9 @@ impl fmt::Display for Ending {
             Ending::Command(Status::DiskFault) => f.write_str("dms: disk fault\n"),
             Ending::Command(Status::InputFault) => f.write_str("dms: input fault\n"),
             Ending::Command(Status::Memory) => f.write_str("dms: no memory\n"),
+            Ending::Command(Status::Limit(LimitKind::AuditFile(number))) => {
+                writeln!(f, "dms: audit file {number} full")
+            }
             Ending::Command(Status::Limit(LimitKind::Lines)) => {
                 f.write_str("dms: too many lines\n")
             }

@@ -1,5 +1,5 @@
 ghost use Rattle.std.specs.Prelude.{◌≡◌, ◌↔◌, None, Some, map, string_bytes};
-ghost use Rattle.dms_top.specs.Words.{IsTry, IsCompile, IsPrintAudit, IsInitialize, IsCommand};
+ghost use Rattle.dms_top.specs.Words.{IsTry, IsCompile, IsPrintAudit, IsRun, IsInitialize, IsCommand};
 
 use dms_top::{Status, initialize_tag, is_print_audit};
 use std::alloc::Global;
@@ -20,6 +20,7 @@ pub enum Request {
     Initialize,
     /// `print audit`, which reads the files alone.
     PrintAudit,
+    Run,
 }
 
 /// The words behind the program's name. BadWords where one is long or no UTF-8, Memory where memory is refused.
@@ -50,6 +51,7 @@ pub fn request_of(words: &[String]) -> Option<Request>
     ensures try_word { result ≡ Some Request.Try ↔ IsTry (map string_bytes words.now) }
     ensures compile_word { result ≡ Some Request.Compile ↔ IsCompile (map string_bytes words.now) }
     ensures print_words { result ≡ Some Request.PrintAudit ↔ IsPrintAudit (map string_bytes words.now) }
+    ensures run_word { result ≡ Some Request.Run ↔ IsRun (map string_bytes words.now) }
     ensures initialize_words { result ≡ Some Request.Initialize ↔ IsInitialize (map string_bytes words.now) }
     ensures bad { result ≡ None → IsCommand (map string_bytes words.now) → ⊥ }
 {
@@ -67,6 +69,7 @@ pub fn request_of(words: &[String]) -> Option<Request>
         "--version" => Some(Request::Version),
         "try" => Some(Request::Try),
         "compile" => Some(Request::Compile),
+        "run" => Some(Request::Run),
         _ => None,
     }
 }

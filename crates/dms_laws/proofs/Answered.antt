@@ -4,7 +4,7 @@ use Rattle.std.specs.Prelude.{◌≢◌, filter}
 use Rattle.std.specs.Str.{bytes_eq}
 use Rattle.std.proofs.lemmas.Slice.Eq.{bytes_eq-Decides}
 use Rattle.dms_desc.specs.Shape.{Described}
-use Rattle.dms_model.specs.declared.program.Wait.{Wait}
+use Rattle.dms_model.specs.Programs.{Wait}
 use Rattle.dms_model.specs.declared.reply.Reply.{Reply}
 use Rattle.dms_model.specs.declared.reply.Reply.TheVariants.{Done, Exception, Waits}
 use Rattle.dms_model.specs.declared.verb.Verb.{Verb}

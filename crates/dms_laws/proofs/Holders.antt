@@ -1,13 +1,13 @@
 -- A record has one program that locks it.
-use Rattle.std.proofs.Common.{◌≡◌, ℕ, List, [], ◌∷◌, Bool, true, false, refl, sym, ◌∙◌, ◌&&◌, ◌||◌}
+use Rattle.std.proofs.Common.{◌≡◌, ℕ, List, [], ◌∷◌, Bool, true, false, cond, Some, refl, sym, ap, ◌∙◌, ◌&&◌, ◌||◌}
 use Rattle.std.specs.Prelude.{◌≢◌, is_some}
 use Rattle.std.specs.List.{list_any, AllByRecursion}
 use Rattle.std.specs.FinMap.{get}
 use Rattle.std.specs.Str.{bytes_eq}
 use Rattle.std.proofs.lemmas.Slice.Eq.{bytes_eq-Decides}
-use Rattle.dms_model.specs.declared.program.Program.{Program}
+use Rattle.dms_model.specs.Programs.{Program}
 use Rattle.dms_model.specs.Db.{Place}
-use Rattle.dms_model.specs.Session.{Session}
+use Rattle.dms_model.specs.Session.{Session, holder_among}
 use Rattle.dms_laws.specs.Exclusive.{ShareNoLock, AllShareNoLock, AreSafe, IsExclusive, HasOneHolder, is_locked_for, locks_it}
 use Rattle.dms_laws.proofs.Lists.{has, of_lock}
 
@@ -33,12 +33,25 @@ not_two : (who other : List ℕ) (place : Place) (ps : List Program) → who ≢
 not_two who other place [] unlike apart h k = absurd (cc)
 not_two who other place (x ∷ ps) unlike apart h k = two_at (has who place x) (has other place x) who other place x ps unlike apart.0 refl refl h k (not_two who other place ps unlike apart.1)
 
+-- it is the one that is found to hold it
+held_by : (who : List ℕ) (place : Place) (x : Program) (ps : List Program) (a b : Bool) → bytes_eq x.name who ≡ a → locks_it x place ≡ b → AllByRecursion (ShareNoLock x) ps → ((a && b) || list_any (has who place) ps) ≡ true
+    → (list_any (has who place) ps ≡ true → holder_among ps place.0 place.1 ≡ Some who) → cond b (Some x.name) (holder_among ps place.0 place.1) ≡ Some who
+held_by who place x ps true true e l apart h rest = ap (λ (n : List ℕ). Some n) ((bytes_eq-Decides x.name who).0 e)
+held_by who place x ps false true e l apart h rest = absurd (not_later who place x ps apart l h)
+held_by who place x ps true false e l apart h rest = rest h
+held_by who place x ps false false e l apart h rest = rest h
+
+holder_is : (who : List ℕ) (place : Place) (ps : List Program) → AllShareNoLock ps → list_any (has who place) ps ≡ true → holder_among ps place.0 place.1 ≡ Some who
+holder_is who place [] apart h = absurd (cc)
+holder_is who place (x ∷ ps) apart h = held_by who place x ps (bytes_eq x.name who) (locks_it x place) refl refl apart.0 h (holder_is who place ps apart.1)
+
 is_no : (b : Bool) → (b ≡ true → ⊥) → b ≡ false
 is_no true f = absurd (f refl)
 is_no false f = refl
 
 pub has_one_holder : (s : Session) (who : List ℕ) (place : Place) → IsExclusive s → is_locked_for s who place ≡ true → HasOneHolder s who place
 has_one_holder s who place ex held = record {
+  holder = holder_is who place s.programs ex.apart held;
   alone = λ other unlike. is_no (is_locked_for s other place) (not_two who other place s.programs unlike ex.apart held);
   stands = of_lock (AreSafe s.db s.mark) (is_some (get s.db.records place) ≡ true) who place (λ x safe is l. safe.stand place l) s.programs ex.safe held;
 }

@@ -8,11 +8,8 @@ use Rattle.std.proofs.lemmas.Bool.Decides.{nat_tests}
 use Rattle.dms_desc.specs.Shape.{Described}
 use Rattle.dms_desc.specs.declared.record.Record.{Record}
 use Rattle.dms_base.specs.declared.category.Category.{Category}
-use Rattle.dms_base.specs.declared.category.Category.TheVariants.{LimitError, AuditError, Abort as AbortDue}
-use Rattle.dms_model.specs.declared.program.Program.{Program}
-use Rattle.dms_model.specs.declared.program.Lock.{Lock}
-use Rattle.dms_model.specs.declared.program.Area.{Area}
-use Rattle.dms_model.specs.declared.program.Area.TheVariants.{New, Old}
+use Rattle.dms_base.specs.declared.category.Category.TheVariants.{LimitError, NoRecord, AuditError, DataError, NotLocked, Abort as AbortDue}
+use Rattle.dms_model.specs.Programs.{Program, Lock, Area, New, Old}
 use Rattle.dms_model.specs.declared.program.Mode.{Mode}
 use Rattle.dms_model.specs.declared.verb.Verb.{Verb}
 use Rattle.dms_model.specs.declared.verb.Verb.TheVariants.{OpenUpdate, OpenInquiry, Close, Find, Create, Put as PutItems, Get, Store, Begin, End, Abort}
@@ -24,10 +21,10 @@ use Rattle.dms_model.specs.declared.reply.Reply.TheVariants.{Done, Exception}
 use Rattle.dms_model.specs.StoreLaws.{IsStorable, begun_any, keep_any, new_stored, old_stored}
 use Rattle.dms_model.specs.declared.put.Put.TheVariants.{Stored}
 use Rattle.dms_model.specs.declared.spot.Spot.{Spot}
-use Rattle.dms_model.specs.Db.{Db, Place}
-use Rattle.dms_desc.specs.Lookups.{structure_of, items_of, set_of}
-use Rattle.dms_model.specs.Stores.{put_answer, put_after, linked}
-use Rattle.dms_model.specs.Session.{Session, Outcome, StoreResult, Refused, Keeps, Filled, Misfit, Values', refuse, done, shows, settle, keep, store_step, after_store, begin_step, after_begin, begun, current_of, holds, replies, end_step, after_end, abort_step, find_step, find_for, after_find, found_by, create_step, create_for, owner_for, put_step, put_area, after_put, filled, get_step, get_area, close_step, open_as, open_in, open_step, verb_step, step_at, answered, carried_out, step, with_program, with_work, with_lock, work_of, restart_of, someone_works, is_inquiry, opens, changes, path_of, new_program, place_of, carried, entered, left, without, idle, backed_out, found_program, stored_program, let_go, is_lock, is_elsewhere, area_values, record_of, one_more, with_values}
+use Rattle.dms_model.specs.Db.{Db, Place, fresh, records_of}
+use Rattle.dms_desc.specs.Lookups.{name_of, structure_of, items_of, set_of}
+use Rattle.dms_model.specs.Stores.{put_answer, put_unless, put_number, is_full, clash, put_after, linked, stored}
+use Rattle.dms_model.specs.Session.{Session, Outcome, StoreResult, Refused, Keeps, Filled, Misfit, Values', refuse, done, shows, settle, keep, store_step, after_store, begin_step, after_begin, begun, current_of, holds, replies, end_step, after_end, abort_step, find_step, find_for, after_find, found_by, create_step, create_for, owner_for, put_step, put_area, after_put, filled, get_step, get_area, close_step, open_as, open_in, open_step, verb_step, step_at, answered, carried_out, step, with_program, with_work, with_lock, restart_of, someone_works, is_inquiry, opens, changes, path_of, new_program, place_of, carried, entered, left, without, idle, backed_out, found_program, stored_program, let_go, is_lock, is_elsewhere, area_values, area_number, record_of, is_free, one_more, with_values, area_of}
 use Rattle.dms_laws.specs.Exclusive.{ShareNoLock, AllShareNoLock, AreSafe, AreExclusive, IsExclusive, locks_it, is_locked_for, backs_out, is_done, LocksStayExclusive, LosesNoUpdate, LeavesLocks, BacksOut, locks_left}
 use Rattle.dms_model.specs.Traits.{traits}
 use Rattle.dms_laws.specs.Runs.{after}
@@ -315,7 +312,7 @@ module _ (s : Session) (i : ℕ) (p : Program) (name : List ℕ) (at : slice_get
 
   after_put_fair : (verb : Verb) (f : Filled) (set : ℕ) (a : Area) → Fair s name verb (after_put f i p s set a)
   after_put_fair verb (Misfit item) set a = fair_refuse s name verb ex _ _
-  after_put_fair verb (Values' values) set a = fair_at verb (with_work p set (record { current = (work_of p set).current; area = Some (with_values a values) })) [] refl (λ place l. l)
+  after_put_fair verb (Values' values) set a = fair_at verb (with_work p set (record { current = current_of p set; area = Some (with_values a values) })) [] refl (λ place l. l)
 
   put_fair : (verb : Verb) (a : Option Area) (desc : Described) (set : ℕ) (settings : List Setting) → Fair s name verb (put_area a desc i p s set settings)
   put_fair verb None desc set settings = fair_refuse s name verb ex _ _
@@ -423,8 +420,8 @@ verb_fair desc i p s name OpenInquiry at ex own = fair_refuse s name OpenInquiry
 verb_fair desc i p s name Close at ex own = fair_if s name Close p.in_transaction _ _ (fair_refuse s name Close ex _ _) (close_fair s i p name at ex own Close)
 verb_fair desc i p s name (Find path) at ex own = find_for_fair s i p name at ex own (Find path) (owner_for desc p (path_of path)) desc path
 verb_fair desc i p s name (Create set) at ex own = create_for_fair s i p name at ex own (Create set) (owner_for desc p set) desc set
-verb_fair desc i p s name (PutItems set settings) at ex own = put_fair s i p name at ex own (PutItems set settings) (work_of p set).area desc set settings
-verb_fair desc i p s name (Get set items) at ex own = get_fair s i p name at ex own (Get set items) (work_of p set).area desc set items
+verb_fair desc i p s name (PutItems set settings) at ex own = put_fair s i p name at ex own (PutItems set settings) (area_of p set) desc set settings
+verb_fair desc i p s name (Get set items) at ex own = get_fair s i p name at ex own (Get set items) (area_of p set) desc set items
 verb_fair desc i p s name (Store set) at ex own =
     fair_if s name (Store set) p.in_transaction (after_store (keep desc p s.db set) i s) (refuse s AuditError p.name)
     (store_fair s i p name at ex own (Store set) (keep desc p s.db set) (keep_moves s i p name at ex own desc set)) (fair_refuse s name (Store set) ex AuditError p.name)

@@ -5,8 +5,7 @@ use Rattle.std.specs.List.{AllByRecursion}
 use Rattle.std.specs.declared.option.Option.{Option}
 use Rattle.dms_base.specs.declared.category.Category.TheVariants.{LimitError, AuditError, Abort as AbortDue}
 use Rattle.dms_desc.specs.Shape.{Described}
-use Rattle.dms_model.specs.declared.program.Program.{Program}
-use Rattle.dms_model.specs.declared.program.Area.{Area}
+use Rattle.dms_model.specs.Programs.{Program, Area}
 use Rattle.dms_model.specs.declared.program.Mode.{Mode}
 use Rattle.dms_model.specs.Traits.{traits}
 use Rattle.dms_model.specs.declared.verb.Verb.{Verb}
@@ -17,7 +16,7 @@ use Rattle.dms_model.specs.declared.reply.Reply.TheVariants.{Exception}
 use Rattle.dms_model.specs.declared.spot.Spot.{Spot}
 use Rattle.dms_desc.specs.Lookups.{structure_of, items_of}
 use Rattle.dms_model.specs.Points.{Quiet}
-use Rattle.dms_model.specs.Session.{Session, Outcome, StoreResult, Refused, Keeps, Filled, Misfit, Values', refuse, done, settle, keep, store_step, after_store, begin_step, after_begin, begun, end_step, after_end, abort_step, find_step, find_for, after_find, found_by, create_step, create_for, owner_for, put_step, put_area, after_put, filled, get_step, get_area, close_step, open_as, open_in, open_step, verb_step, step_at, carried_out, step, with_program, work_of, restart_of, someone_works, is_inquiry, opens, changes, path_of, new_program, place_of, without, area_values, left, one_more}
+use Rattle.dms_model.specs.Session.{Session, Outcome, StoreResult, Refused, Keeps, Filled, Misfit, Values', refuse, done, settle, keep, store_step, after_store, begin_step, after_begin, begun, end_step, after_end, abort_step, find_step, find_for, after_find, found_by, create_step, create_for, owner_for, put_step, put_area, after_put, filled, get_step, get_area, close_step, open_as, open_in, open_step, verb_step, step_at, carried_out, step, with_program, restart_of, someone_works, is_inquiry, opens, changes, path_of, new_program, place_of, without, area_values, left, one_more, area_of}
 
 abbrev pub HasPoints : Outcome → Type 0
 HasPoints o = AllByRecursion (λ (q : Quiet). q.1 ≡ o.session.db) o.quiets
@@ -73,8 +72,8 @@ verb_points desc i p s OpenInquiry = tt
 verb_points desc i p s Close = points_if p.in_transaction (refuse s AuditError p.name) (done (record s { programs = without i s.programs })) tt tt
 verb_points desc i p s (Find path) = find_for_points (owner_for desc p (path_of path)) desc i p s path
 verb_points desc i p s (Create set) = create_for_points (owner_for desc p set) desc i p s set
-verb_points desc i p s (PutItems set settings) = put_points (work_of p set).area desc i p s set settings
-verb_points desc i p s (Get set items) = get_points (work_of p set).area desc i p s set items
+verb_points desc i p s (PutItems set settings) = put_points (area_of p set) desc i p s set settings
+verb_points desc i p s (Get set items) = get_points (area_of p set) desc i p s set items
 verb_points desc i p s (Store set) = points_if p.in_transaction (after_store (keep desc p s.db set) i s) (refuse s AuditError p.name) (store_points (keep desc p s.db set) i s) tt
 verb_points desc i p s (Begin audit) = points_if p.in_transaction (refuse s AuditError p.name) (after_begin (begun desc p s audit) i s) tt (begun_points (begun desc p s audit) i s)
 verb_points desc i p s (End audit sync) =

@@ -14,10 +14,7 @@ use Rattle.dms_desc.specs.declared.record.Record.{Record}
 use Rattle.dms_desc.specs.Shape.{Shape, Described}
 use Rattle.dms_desc.specs.Conds.{meets, is_null}
 use Rattle.dms_desc.specs.Plain.{ArePlain}
-use Rattle.dms_model.specs.declared.program.Program.{Program}
-use Rattle.dms_model.specs.declared.program.Work.{Work}
-use Rattle.dms_model.specs.declared.program.Area.{Area}
-use Rattle.dms_model.specs.declared.program.Area.TheVariants.{New, Old}
+use Rattle.dms_model.specs.Programs.{Program, Work, Area, New, Old}
 use Rattle.dms_model.specs.declared.program.Mode.{Mode}
 use Rattle.dms_model.specs.Traits.{traits}
 use Rattle.dms_model.specs.declared.verb.Verb.{Verb}
@@ -29,9 +26,9 @@ use Rattle.dms_model.specs.declared.put.Put.TheVariants.{Stored}
 use Rattle.dms_model.specs.declared.spot.Spot.{Spot}
 use Rattle.dms_model.specs.Db.{Db, Place, fresh, records_of, rows_of, empty_db, place_cmp}
 use Rattle.dms_model.specs.Points.{Quiet}
-use Rattle.dms_desc.specs.Lookups.{structure_of, items_of, set_of}
-use Rattle.dms_model.specs.Stores.{put_answer, is_full, clash, put_after, linked, is_other, old_of, stored, values_of, kept_owner}
-use Rattle.dms_model.specs.Session.{Session, Outcome, StoreResult, Refused, Keeps, Filled, Misfit, Values', refuse, done, settle, keep, store_step, after_store, begin_step, after_begin, begun, current_of, holds, end_step, after_end, abort_step, find_step, find_for, after_find, found_by, create_step, create_for, created, owner_for, put_step, put_area, after_put, filled, get_step, get_area, close_step, open_as, open_in, open_step, verb_step, step_at, carried_out, step, with_program, with_work, with_values, work_of, restart_of, someone_works, is_inquiry, opens, changes, path_of, new_program, place_of, carried, entered, left, without, idle, backed_out, found_program, stored_program, let_go, is_lock, missing_from, verified, area_values, area_owner, record_of, one_more}
+use Rattle.dms_desc.specs.Lookups.{name_of, structure_of, items_of, set_of}
+use Rattle.dms_model.specs.Stores.{put_answer, put_unless, is_full, clash, put_after, linked, is_other, old_of, stored, values_of, kept_owner}
+use Rattle.dms_model.specs.Session.{Session, Outcome, StoreResult, Refused, Keeps, Filled, Misfit, Values', refuse, done, settle, keep, store_step, after_store, begin_step, after_begin, begun, current_of, holds, end_step, after_end, abort_step, find_step, find_for, after_find, found_by, create_step, create_for, created, owner_for, put_step, put_area, after_put, filled, get_step, get_area, close_step, open_as, open_in, open_step, verb_step, step_at, carried_out, step, with_program, with_work, with_values, no_work, or_none, restart_of, someone_works, is_inquiry, opens, changes, path_of, new_program, place_of, carried, entered, left, without, idle, backed_out, found_program, stored_program, let_go, is_lock, missing_from, verified, area_values, area_number, area_owner, record_of, is_free, one_more, area_of}
 use Rattle.dms_laws.specs.Exclusive.{AreSafe, IsExclusive, locks_it}
 use Rattle.dms_model.specs.Spoken.{IsOuter, IsPlainLiteral}
 use Rattle.dms_model.specs.Valid.{OfItems, IsValid, is_data_set, is_set, link_stands, owner_stands}
@@ -264,10 +261,10 @@ module _ (desc : Described) (made : IsWellMade desc) (s : Session) (i : ℕ) (p 
       by (Some old) e some None h = let kind = ap is_data_set (sym h) ∙ sane.valid.sets (set, n) old e in absurd (cc)
       by (Some old) e some (Some shape) h = with_old old shape e h
 
-  area_fits : (set : ℕ) (shape : Shape) (o : Option Area) → structure_of desc set ≡ Some shape → (work_of p set).area ≡ o → AreaFits shape o
+  area_fits : (set : ℕ) (shape : Shape) (o : Option Area) → structure_of desc set ≡ Some shape → area_of p set ≡ o → AreaFits shape o
   area_fits set shape o here is = subst (AreaFits shape) is (mine set shape here)
 
-  old_kept : (set : ℕ) (values : List Value) (c : Option ℕ) (n : ℕ) → (work_of p set).area ≡ Some (Old values) → holds p set c ≡ true → missing_from 0 (items_of (structure_of desc set)) values ≡ None
+  old_kept : (set : ℕ) (values : List Value) (c : Option ℕ) (n : ℕ) → area_of p set ≡ Some (Old values) → holds p set c ≡ true → missing_from 0 (items_of (structure_of desc set)) values ≡ None
       → verified (structure_of desc set) values ≡ true → put_answer desc s.db set c (record_of (Old values)) ≡ Stored n → Holds desc (stored_program p set n (Old values)) (put_after (Stored n) desc s.db set (record_of (Old values)))
   old_kept set values None n has free none met is = absurd (cc)
   old_kept set values (Some m) n has free none met is =
@@ -360,10 +357,10 @@ module _ (desc : Described) (made : IsWellMade desc) (s : Session) (i : ℕ) (p 
   after_put_leaves : (f : Filled) (set : ℕ) (a : Area) (shape : Shape) → structure_of desc set ≡ Some shape → AreaFits shape (Some a) → FilledFits shape.items f → Leaves desc (after_put f i p s set a)
   after_put_leaves (Misfit item) set a shape here old fits = sane
   after_put_leaves (Values' values) set a shape here old fits =
-      let w : Work = record { current = (work_of p set).current; area = Some (with_values a values) } in
+      let w : Work = record { current = current_of p set; area = Some (with_values a values) } in
       sane_at (carried (with_work p set w)) (areas_with desc p set shape w here (with_new shape a values old fits) mine)
 
-  put_leaves : (o : Option Area) (set : ℕ) (settings : List Setting) → IsOuter (structure_of desc set) → AllByRecursion (λ t. IsPlainLiteral t.literal) settings → (work_of p set).area ≡ o → Leaves desc (put_area o desc i p s set settings)
+  put_leaves : (o : Option Area) (set : ℕ) (settings : List Setting) → IsOuter (structure_of desc set) → AllByRecursion (λ t. IsPlainLiteral t.literal) settings → area_of p set ≡ o → Leaves desc (put_area o desc i p s set settings)
   put_leaves None set settings outer plain has = sane
   put_leaves (Some a) set settings outer plain has =
       let f = filled (items_of (structure_of desc set)) settings (area_values a) in
@@ -398,8 +395,8 @@ verb_leaves desc made i p s OpenInquiry outer at ex sane = sane
 verb_leaves desc made i p s Close outer at ex sane = leaves_if desc p.in_transaction (refuse s AuditError p.name) _ sane (close_leaves desc made s i p at ex sane)
 verb_leaves desc made i p s (Find path) outer at ex sane = find_for_leaves desc made s i p at ex sane (owner_for desc p (path_of path)) path
 verb_leaves desc made i p s (Create set) outer at ex sane = create_for_leaves desc made s i p at ex sane (owner_for desc p set) set refl outer.0
-verb_leaves desc made i p s (PutItems set settings) outer at ex sane = put_leaves desc made s i p at ex sane (work_of p set).area set settings outer.0 outer.1 refl
-verb_leaves desc made i p s (Get set items) outer at ex sane = get_leaves desc made s i p at ex sane (work_of p set).area set items
+verb_leaves desc made i p s (PutItems set settings) outer at ex sane = put_leaves desc made s i p at ex sane (area_of p set) set settings outer.0 outer.1 refl
+verb_leaves desc made i p s (Get set items) outer at ex sane = get_leaves desc made s i p at ex sane (area_of p set) set items
 verb_leaves desc made i p s (Store set) outer at ex sane =
     leaves_if desc p.in_transaction (after_store (keep desc p s.db set) i s) (refuse s AuditError p.name) (store_leaves desc made s i p at ex sane (keep desc p s.db set) (keep_sane desc made s i p at ex sane set)) sane
 verb_leaves desc made i p s (Begin audit) outer at ex sane =

@@ -4,15 +4,14 @@ use Rattle.std.specs.List.{list_any, AllByRecursion}
 use Rattle.std.specs.Str.{bytes_eq}
 use Rattle.std.specs.FinMap.{get}
 use Rattle.dms_desc.specs.Shape.{Described}
-use Rattle.dms_model.specs.declared.program.Program.{Program}
-use Rattle.dms_model.specs.declared.program.Lock.{Lock}
+use Rattle.dms_model.specs.Programs.{Program, Lock}
 use Rattle.dms_model.specs.declared.verb.Verb.{Verb}
 use Rattle.dms_model.specs.declared.reply.Reply.{Reply}
 use Rattle.dms_model.specs.declared.reply.Reply.TheVariants.{Done, Exception, Waits}
 use Rattle.dms_model.specs.BackOut.{asks_back_out}
 use Rattle.dms_model.specs.Db.{Db, Place}
 use Rattle.dms_laws.specs.Runs.{after}
-use Rattle.dms_model.specs.Session.{Session, Outcome, step, holds, fresh_session}
+use Rattle.dms_model.specs.Session.{Session, Outcome, step, holds, holder_of, fresh_session}
 
 -- the program holds the record at this place locked
 abbrev pub locks_it : Program → Place → Bool
@@ -63,6 +62,7 @@ pub record LocksStayExclusive : Type 0 where
 
 -- What a program holds locked no program of another name does, and it is a record of the database.
 pub record HasOneHolder (s : Session) (who : List ℕ) (place : Place) : Type 0 where
+  pub holder : holder_of s place.0 place.1 ≡ Some who
   pub alone : (other : List ℕ) → who ≢ other → is_locked_for s other place ≡ false
   pub stands : is_some (get s.db.records place) ≡ true
 

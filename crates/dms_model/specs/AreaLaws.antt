@@ -8,17 +8,14 @@ use Rattle.dms_base.specs.declared.value.Value.{Value}
 use Rattle.dms_desc.specs.declared.structure.Item.{Item}
 use Rattle.dms_desc.specs.Lookups.{structure_of, items_of, set_of}
 use Rattle.dms_desc.specs.Shape.{Shape, Described}
-use Rattle.dms_model.specs.declared.program.Program.{Program}
+use Rattle.dms_model.specs.Programs.{Program, Area, New, Old, Work}
 use Rattle.dms_model.specs.declared.program.Mode.{Mode}
-use Rattle.dms_model.specs.declared.program.Area.{Area}
-use Rattle.dms_model.specs.declared.program.Area.TheVariants.{New, Old}
-use Rattle.dms_model.specs.declared.program.Work.{Work}
 use Rattle.dms_model.specs.declared.spot.Spot.{Spot}
 use Rattle.dms_model.specs.declared.verb.Setting.{Setting}
 use Rattle.dms_model.specs.Areas.{OfWorks, AreaFits, WorkFits, WorksFit, InitialsFit}
 use Rattle.dms_model.specs.Fitting.{AreFitting, IsNumber, SpotFits, is_number}
 use Rattle.dms_model.specs.FitLaws.{filled_fits, FilledFits, get_set_other}
-use Rattle.dms_model.specs.Session.{area_values, backed_out, filled, Filled, Values', found_program, is_lock, let_go, new_program, no_work, or_none, with_lock, with_values, with_work, work_of, created, owner_for, owner_in}
+use Rattle.dms_model.specs.Session.{area_values, backed_out, filled, Filled, Misfit, Values', found_program, is_lock, let_go, new_program, no_work, or_none, with_lock, with_values, with_work, work_of, created, owner_for, owner_in, area_of, current_of}
 use Rattle.dms_model.specs.Spoken.{IsOuter, IsPlainLiteral}
 use Rattle.dms_model.specs.Valid.{owner_of}
 
@@ -148,8 +145,8 @@ filled_as items f values is h = subst (FilledFits items) is h
 
 -- an area has the values that a PUT leaves
 pub put_works : (desc : Described) (p : Program) (set : ℕ) (a : Area) (settings : List Setting) (values : List Value) → IsOuter (structure_of desc set) → AllByRecursion (λ t. IsPlainLiteral t.literal) settings
-    → (work_of p set).area ≡ Some a → filled (items_of (structure_of desc set)) settings (area_values a) ≡ Values' values → WorksFit desc p
-    → WorksFit desc (with_work p set (record { current = (work_of p set).current; area = Some (with_values a values) }))
+    → area_of p set ≡ Some a → filled (items_of (structure_of desc set)) settings (area_values a) ≡ Values' values → WorksFit desc p
+    → WorksFit desc (with_work p set (record { current = current_of p set; area = Some (with_values a values) }))
 put_works desc p set a settings values outer plain has made all =
     outer_shape desc set _ outer
     (λ shape here out.
@@ -157,4 +154,4 @@ put_works desc p set a settings values outer plain has made all =
     let old : AreaFits shape (Some a) = subst (AreaFits shape) has mine.area in
     let made' : filled shape.items settings (area_values a) ≡ Values' values = ap (λ (o : Option Shape). filled (items_of o) settings (area_values a)) (sym here) ∙ made in
     let fits = filled_as shape.items (filled shape.items settings (area_values a)) values made' (filled_fits shape.items settings (area_values a) plain (values_fit shape a old)) in
-    works_with desc WorkFits p set shape (record { current = (work_of p set).current; area = Some (with_values a values) }) here (record { area = with_new shape a values old fits; current = mine.current }) none_fits all)
+    works_with desc WorkFits p set shape (record { current = current_of p set; area = Some (with_values a values) }) here (record { area = with_new shape a values old fits; current = mine.current }) none_fits all)

@@ -5,10 +5,7 @@ use Rattle.std.specs.declared.option.Option.{Option}
 use Rattle.dms_desc.specs.declared.structure.Item.{Item}
 use Rattle.dms_desc.specs.Lookups.{structure_of}
 use Rattle.dms_desc.specs.Shape.{Shape, Described}
-use Rattle.dms_model.specs.declared.program.Program.{Program}
-use Rattle.dms_model.specs.declared.program.Area.{Area}
-use Rattle.dms_model.specs.declared.program.Area.TheVariants.{New, Old}
-use Rattle.dms_model.specs.declared.program.Work.{Work}
+use Rattle.dms_model.specs.Programs.{Program, Area, New, Old, Work}
 use Rattle.dms_model.specs.Fitting.{AreFitting, is_number}
 use Rattle.dms_model.specs.Session.{work_of}
 use Rattle.dms_model.specs.Spoken.{IsOuter}

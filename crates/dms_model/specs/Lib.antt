@@ -11,6 +11,7 @@ pub mod MemberLaws
 pub mod Members
 pub mod Places
 pub mod Points
+pub mod Programs
 pub mod Props
 pub mod Seen
 pub mod Session

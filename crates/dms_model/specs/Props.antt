@@ -12,10 +12,7 @@ use Rattle.dms_desc.specs.declared.structure.Item.{Item}
 use Rattle.dms_desc.specs.Plain.{ArePlain, IsPlain}
 use Rattle.dms_desc.specs.Shape.{Shape, Described}
 use Rattle.dms_desc_bytes.specs.WellFormed.{IsWellFormed}
-use Rattle.dms_model.specs.declared.program.Area.{Area}
-use Rattle.dms_model.specs.declared.program.Area.TheVariants.{New, Old}
-use Rattle.dms_model.specs.declared.program.Program.{Program}
-use Rattle.dms_model.specs.declared.program.Work.{Work}
+use Rattle.dms_model.specs.Programs.{Area, New, Old, Program, Work}
 use Rattle.dms_model.specs.Areas.{AreaFits, ProgramsFit, WorkFits, WorksFit}
 use Rattle.dms_model.specs.Fitting.{AreFitting}
 use Rattle.dms_model.specs.Spoken.{IsOuter}

@@ -15,14 +15,9 @@ use Rattle.dms_desc.specs.declared.record.Record.{Record}
 use Rattle.dms_desc.specs.declared.bound.Bound.TheVariants.{Start, End as Behind}
 use Rattle.dms_desc.specs.Shape.{Shape, Described}
 use Rattle.dms_desc.specs.Conds.{meets, item_of, or_null, is_null}
-use Rattle.dms_model.specs.declared.program.Program.{Program}
+use Rattle.dms_model.specs.Programs.{Program, Area, New, Old, Work, Lock, Wait}
 use Rattle.dms_model.specs.declared.program.Mode.{Mode}
 use Rattle.dms_model.specs.declared.program.Mode.TheVariants.{Update, Inquiry}
-use Rattle.dms_model.specs.declared.program.Area.{Area}
-use Rattle.dms_model.specs.declared.program.Area.TheVariants.{New, Old}
-use Rattle.dms_model.specs.declared.program.Work.{Work}
-use Rattle.dms_model.specs.declared.program.Lock.{Lock}
-use Rattle.dms_model.specs.declared.program.Wait.{Wait}
 use Rattle.dms_model.specs.declared.verb.Verb.{Verb}
 use Rattle.dms_model.specs.declared.verb.Verb.TheVariants.{OpenUpdate, OpenInquiry, Close, Find, Create, Put as PutItems, Get, Store, Begin, End, Abort}
 use Rattle.dms_model.specs.declared.verb.Path.{Path}
@@ -121,6 +116,14 @@ is_lock set number l = (l.set == set) && (l.number == number)
 abbrev pub holds : Program → ℕ → Option ℕ → Bool
 holds p set None = false
 holds p set (Some number) = list_any (is_lock set number) p.locks
+
+abbrev pub holder_among : List Program → ℕ → ℕ → Option (List ℕ)
+holder_among [] set number = None
+holder_among (p ∷ ps) set number = if holds p set (Some number) then Some p.name else holder_among ps set number
+
+-- the program that holds a record locked
+abbrev pub holder_of : Session → ℕ → ℕ → Option (List ℕ)
+holder_of s set number = holder_among s.programs set number
 
 -- the record is locked for the program
 abbrev pub with_lock : Program → ℕ → ℕ → Program
@@ -442,14 +445,14 @@ with_values (Old values) new = Old new
 
 abbrev pub after_put : Filled → ℕ → Program → Session → ℕ → Area → Outcome
 after_put (Misfit item) i p s set a = refuse s DataError item
-after_put (Values' values) i p s set a = done (with_program s i (carried (with_work p set (record { current = (work_of p set).current; area = Some (with_values a values) }))))
+after_put (Values' values) i p s set a = done (with_program s i (carried (with_work p set (record { current = current_of p set; area = Some (with_values a values) }))))
 
 abbrev pub put_area : Option Area → Described → ℕ → Program → Session → ℕ → List Setting → Outcome
 put_area None desc i p s set settings = refuse s NoRecord (name_of (structure_of desc set))
 put_area (Some a) desc i p s set settings = after_put (filled (items_of (structure_of desc set)) settings (area_values a)) i p s set a
 
 unfoldable pub put_step : Described → ℕ → Program → Session → ℕ → List Setting → Outcome
-put_step desc i p s set settings = put_area (work_of p set).area desc i p s set settings
+put_step desc i p s set settings = put_area (area_of p set) desc i p s set settings
 
 -- an item and its value as GET shows them
 abbrev pub item_text : Option Item → Value → List ℕ
@@ -470,7 +473,7 @@ get_area None desc i p s set numbers = refuse s NoRecord (name_of (structure_of 
 get_area (Some a) desc i p s set numbers = shows (with_program s i (carried p)) (get_text (items_of (structure_of desc set)) numbers (area_values a))
 
 unfoldable pub get_step : Described → ℕ → Program → Session → ℕ → List ℕ → Outcome
-get_step desc i p s set numbers = get_area (work_of p set).area desc i p s set numbers
+get_step desc i p s set numbers = get_area (area_of p set) desc i p s set numbers
 
 -- Opening and closing
 

@@ -6,8 +6,7 @@ use Rattle.std.specs.declared.option.Option.{Option}
 use Rattle.dms_desc.specs.declared.record.Record.{Record}
 use Rattle.dms_desc.specs.Lookups.{items_of, structure_of}
 use Rattle.dms_desc.specs.Shape.{Described}
-use Rattle.dms_model.specs.declared.program.Area.{Area}
-use Rattle.dms_model.specs.declared.program.Program.{Program}
+use Rattle.dms_model.specs.Programs.{Area, Program}
 use Rattle.dms_model.specs.declared.put.Put.{Put}
 use Rattle.dms_model.specs.declared.put.Put.TheVariants.{Stored, Duplicate, Full}
 use Rattle.dms_model.specs.declared.reply.Reply.{Reply}

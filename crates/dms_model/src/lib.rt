@@ -24,7 +24,7 @@ pub use keys::{item_at, key_of, part_order, value_at};
 pub use linking::linked;
 pub use literals::Literals;
 pub use locks::Locks;
-pub use program::{Area, Lock, Mode, Program, Wait, Work};
+pub use program::{Area, AreaKind, Lock, Mode, Program, Wait, Work};
 pub use put::Put;
 pub use reply::{Answer, Reply};
 pub use settings::Settings;

@@ -14,7 +14,7 @@ pub struct Locks {
 
 impl Model for Locks {
     ghost use Rattle.std.specs.Prelude.{List};
-    ghost use Rattle.dms_model.specs.declared.program.Lock.{Lock};
+    ghost use Rattle.dms_model.specs.Programs.{Lock};
 
     ghost Value = { List Lock };
 

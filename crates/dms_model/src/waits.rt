@@ -14,7 +14,7 @@ pub struct WaitList {
 
 impl Model for WaitList {
     ghost use Rattle.std.specs.Prelude.{List};
-    ghost use Rattle.dms_model.specs.declared.program.Wait.{Wait};
+    ghost use Rattle.dms_model.specs.Programs.{Wait};
 
     ghost Value = { List Wait };
 

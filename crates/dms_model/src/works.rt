@@ -1,5 +1,5 @@
 ghost use Rattle.std.specs.Prelude.{◌≡◌, ◌++◌, ◌∷◌, [], OnErr, OnOk, slice_set, map};
-ghost use Rattle.dms_model.specs.declared.program.Work.{Work};
+ghost use Rattle.dms_model.specs.Programs.{Work};
 ghost use Rattle.dms_model.specs.Session.{no_work};
 
 use crate::Work;
@@ -15,7 +15,7 @@ pub struct Works {
 
 impl Model for Works {
     ghost use Rattle.std.specs.Prelude.{List};
-    ghost use Rattle.dms_model.specs.declared.program.Work.{Work};
+    ghost use Rattle.dms_model.specs.Programs.{Work};
 
     ghost Value = { List Work };
 

@@ -18,8 +18,6 @@ use Rattle.dms_audfile.specs.AuditTrail.{entry_from, entry_there}
 use Rattle.dms_audfile.specs.declared.place.EntryPlace.{EntryPlace}
 use Rattle.dms_restore.specs.declared.live.ImageAt.{ImageAt}
 use Rattle.dms_restore.specs.declared.live.ControlAt.{ControlAt}
-use Rattle.dms_restore.specs.declared.live.LiveEntry.TheVariants.{Controlled}
-use Rattle.dms_restore.specs.LiveEntries.{event_at}
 use Rattle.dms_audrec.specs.Spelling.{counts_rise}
 use Rattle.dms_restore.specs.Scanned.{IsInAudit}
 use Rattle.dms_restore.specs.Tracing.{StandsAsImage, StandsAsControl}

@@ -1,12 +1,12 @@
 -- The entries of a trail stand in audit files.
-use Rattle.std.proofs.Common.{ℕ, zero, suc, ◌+◌, ◌-◌, ◌≤◌, ◌≡◌, Bool, true, false, cond, List, [], ◌∷◌, ◌++◌, map, Option, Some, None, ◌∙◌, sym, subst, arith}
+use Rattle.std.proofs.Common.{ℕ, zero, suc, ◌+◌, ◌-◌, ◌≤◌, ◌≡◌, Bool, true, false, cond, List, [], ◌∷◌, ◌++◌, map, Option, Some, None, sym, subst, arith}
 use Rattle.dms_site.specs.Files.{Files}
 use Rattle.dms_audfile.specs.Gates.{opened}
 use Rattle.dms_audfile.specs.Header.{header_fits}
 use Rattle.dms_audfile.specs.Blocks.{EntryInBlock, block_entries}
 use Rattle.dms_audfile.specs.Scanning.{Placed, TrailRead, broken, whole, place_in, place_of, places_of, blocks_read, file_read, files_read}
 use Rattle.dms_audfile.specs.Gates.{block_at}
-use Rattle.dms_audfile.specs.AuditTrail.{IsFound, IsScanned, EntriesAreThere, AreThere}
+use Rattle.dms_audfile.specs.AuditTrail.{IsFound, EntriesAreThere, AreThere}
 use Rattle.dms_audfile.specs.declared.place.EntryPlace.{EntryPlace}
 use Rattle.dms_audfile.proofs.There.{both_whole}
 use Rattle.dms_audfile.proofs.Kept.{was_read}

@@ -1,5 +1,5 @@
 -- A log that went back to its last point.
-use Rattle.std.proofs.Common.{ℕ, ◌<◌, ◌≡◌, List, [], ◌∷◌, ◌++◌, append_assoc, length, sym, ◌∙◌, ap, arith}
+use Rattle.std.proofs.Common.{ℕ, ◌≡◌, List, [], ◌∷◌, ◌++◌, append_assoc, length, sym, ◌∙◌, ap, arith}
 use Rattle.dms_site.specs.Files.{stored_of}
 use Rattle.dms_history.specs.Events.{Content, Stored, back_out, block_in}
 use Rattle.dms_history.specs.EntryEvents.{history_of}
@@ -9,9 +9,9 @@ use Rattle.dms_history.proofs.Stops.{here_is, outcome_length}
 use Rattle.dms_running.specs.Points.{DescribedPoint}
 use Rattle.dms_running.specs.Running.{AllWritten}
 use Rattle.dms_running.specs.Begun.{outcome_now}
-use Rattle.dms_restore.specs.Logging.{LogView, telling, state, entries, content}
+use Rattle.dms_restore.specs.Logging.{LogView, telling, state, entries}
 use Rattle.dms_restore.specs.Begins.{begun_to, BeginsRestore}
-use Rattle.dms_restore.specs.Endings.{EndsBy, EndedAt}
+use Rattle.dms_restore.specs.Endings.{EndedAt}
 use Rattle.dms_restore.specs.BackOuts.{StandsAll, GoesBackBy, WentBackTo}
 use Rattle.dms_restore.proofs.Backed.{back_points, back_next}
 

@@ -1,11 +1,11 @@
 -- A log of which what waited was sealed, and no more was done.
-use Rattle.std.proofs.Common.{ℕ, ◌≤◌, ◌≡◌, ◌⊎◌, inl, inr, [], List, ◌++◌, length, take, drop, refl, sym, ◌∙◌, ap, subst, arith}
+use Rattle.std.proofs.Common.{ℕ, ◌≡◌, ◌⊎◌, inl, inr, [], List, ◌++◌, length, take, drop, refl, sym, ◌∙◌, ap, subst, arith}
 use Rattle.std.specs.Prelude.{IsErrAnd, IsErrOf, IfErr}
 use Rattle.std.specs.declared.result.Result.{Result}
 use Rattle.std.specs.declared.result.Result.TheVariants.{Ok, Err}
 use Rattle.dms_moments.specs.Moments.{Clock, Steps}
 use Rattle.dms_moments.specs.MomentLaws.{runs_none, runs_on, steps_on}
-use Rattle.dms_site.specs.Files.{Files, Left, Same, stored_of}
+use Rattle.dms_site.specs.Files.{Files, Left, Same}
 use Rattle.dms_history.specs.Events.{Content, Event}
 use Rattle.dms_history.specs.Lists.{until_first, after_first}
 use Rattle.dms_history.specs.Places.{IsLive, is_point}
@@ -31,9 +31,8 @@ use Rattle.dms_restore.specs.LiveEntries.{events_at, AllStandWhole}
 use Rattle.dms_restore.specs.Table.{IsTable}
 use Rattle.dms_restore.specs.Tracing.{IsTraced}
 use Rattle.dms_restore.specs.declared.tracing.TrailHistory.{TrailHistory}
-use Rattle.dms_restore.specs.Logging.{LogView, view, telling, state, waits, Ends, LogRuns, points, durable, next, content, entries, LogsNothing, LogLeaves}
-use Rattle.dms_restore.specs.Begins.{LastIs}
-use Rattle.dms_restore.specs.BackOuts.{GoesBackBy, WentBackTo, SealedAlone, FilesStay, ServesBehind, IsBackFault, IsDiskOrMemory}
+use Rattle.dms_restore.specs.Logging.{LogView, view, telling, state, waits, Ends, LogRuns, points, durable, next, entries, LogsNothing, LogLeaves}
+use Rattle.dms_restore.specs.BackOuts.{GoesBackBy, WentBackTo, SealedAlone, FilesStay, ServesBehind, IsBackFault}
 use Rattle.dms_restore.proofs.Logs as logs
 use Rattle.dms_restore.proofs.Logs.{Reads}
 use Rattle.dms_restore.proofs.Trails.{ends_waiting, seals_as}
@@ -57,7 +56,7 @@ table_traced files es h live m v lent table t =
 pub serves_on : (v : LogView) (files : Files) (m : ℕ) (table : List Told) → v.files ≡ files → waits v.end ≡ [] → ((new : Files) → Grown v.end.total v.first files new → IsTable (live_of (trail_entries v.end.total v.first files)) m new table) → ServesBehind v m table
 serves_on v files m table same nothing is =
     let all : entries v ≡ trail_entries v.end.total v.first files =
-        ap (λ (l : List Entry). trail_entries v.end.total v.first v.files ++ l) nothing ∙ append_none (trail_entries v.end.total v.first v.files) ∙ ap (trail_entries v.end.total v.first) same in
+    ap (λ (l : List Entry). trail_entries v.end.total v.first v.files ++ l) nothing ∙ append_none (trail_entries v.end.total v.first v.files) ∙ ap (trail_entries v.end.total v.first) same in
     λ new grown. subst (λ (l : List Entry). IsTable (live_of l) m new table) (sym all) (is new (subst (λ (f : Files). Grown v.end.total v.first f new) same grown))
 
 -- ---- what waited was sealed, and then the trail was read
@@ -136,8 +135,8 @@ module _ (a b : LogView) (s : SealedAlone a b) where
     left_then : (x : Left) → LeavesPointsPrefix (telling b) (points b) (durable b) (next b) x → LeavesPointsPrefix (telling a) (points a) (durable a) (next a) x
     left_then x p =
         let q = subst (λ (t : Telling). LeavesPointsPrefix t (points a) (durable b) (next a) x) kind
-            (subst (λ (ps : List DescribedPoint). LeavesPointsPrefix (telling b) ps (durable b) (next a) x) s.same.points_same
-            (subst (λ n. LeavesPointsPrefix (telling b) (points b) (durable b) n x) s.same.next_same p)) in
+        (subst (λ (ps : List DescribedPoint). LeavesPointsPrefix (telling b) ps (durable b) (next a) x) s.same.points_same
+        (subst (λ n. LeavesPointsPrefix (telling b) (points b) (durable b) n x) s.same.next_same p)) in
         record { count = q.count; enough = omega (arith, q.enough, s.same.durable_kept); within = q.within; is = q.is; not_fallen = q.not_fallen; whole = q.whole }
 
     pub leaves_then : (c : LogView) → LogLeaves a b (points a) (next a) → LogLeaves b c (points b) (next b) → LogLeaves a c (points a) (next a)

@@ -11,19 +11,18 @@ use Rattle.std.proofs.lemmas.Bool.Decides.{nat_tests}
 use Rattle.dms_history.specs.Events.{Block, Event, change, quiet, control, begin}
 use Rattle.dms_history.specs.Lists.{has, until_first}
 use Rattle.dms_history.specs.Places.{is_point}
-use Rattle.dms_history.specs.Ranges.{Logged, all_changes, told_events}
+use Rattle.dms_history.specs.Ranges.{told_events}
 use Rattle.dms_history.specs.History.{History, history}
 use Rattle.dms_history.specs.declared.event.FileCount.{FileCount}
 use Rattle.dms_history.specs.Entries.{counts_in, how_of, Entry, Kind, schema_part, image, byte_range, quiet_point, control_point, begin_restore}
 use Rattle.dms_history.specs.Schemas.{Parts, no_parts, after_entry, parts_from, is_whole}
-use Rattle.dms_history.specs.EntryEvents.{logged, is_place, live_after, live_entries_from, live_entries, live_of}
+use Rattle.dms_history.specs.EntryEvents.{is_place, live_after, live_entries_from, live_entries, live_of}
 use Rattle.dms_history.specs.SchemaAt.{SchemaRead, no_schema, after_schema, last_schema, schema_of, schema_at}
 use Rattle.dms_history.specs.LawsOfSchemas.{is_begun}
 use Rattle.dms_history.proofs.AtPoints.{bool_cases}
 use Rattle.dms_history.proofs.HalfDone.{until_until, has_front}
 use Rattle.dms_history.proofs.Stops.{until_append}
-use Rattle.dms_history.proofs.Turns.{live_of_ranges, changes_until, changes_push, until_at}
-use Rattle.dms_history.proofs.Schemas.{cut_logged, live_of_entries, logged_append}
+use Rattle.dms_history.proofs.Turns.{until_at}
 use Rattle.dms_history.proofs.Cuts.{until_none}
 use Rattle.dms_history.proofs.SchemaReads.{schema_stays, schema_of_new}
 use Rattle.dms_site.specs.Files.{Files}

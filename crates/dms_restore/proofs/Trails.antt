@@ -198,11 +198,11 @@ plain_waits w plain kind = elim kind [
 pub seals_as : (end : AuditEnd) (first : ℕ) (waiting : List Entry) (files : Files) (old : Clock Left) → EndsAt end first waiting files old → (w : List Entry) (new : Clock Left) → Steps (ends.Seals end.total end.tag first w) old new
     → Steps (SealsSome (telling_of end.total first) w) old new
 seals_as end first waiting files old e w new steps = steps_weaken steps (λ y x now s. record {
-    some = s.some;
-    sealed = s.entries;
-    found = found_sealed end.total end.tag first end.file end.count w y x (writes_same end.total end.tag first end.file end.count files y.files e.writes (λ g from upto. e.settled g from upto y now)) s;
-    above = s.above;
-    said = s.said;
+  some = s.some;
+  sealed = s.entries;
+  found = found_sealed end.total end.tag first end.file end.count w y x (writes_same end.total end.tag first end.file end.count files y.files e.writes (λ g from upto. e.settled g from upto y now)) s;
+  above = s.above;
+  said = s.said;
 })
 
 pub appended_as : (total : ℕ) (new : AuditEnd) (first : ℕ) (es : List Entry) (old later : Files) (clock : Clock Left) → new.total ≡ total → ((g : ℕ) → new.file < g → later g ≡ old g) → Appends new first es old later clock

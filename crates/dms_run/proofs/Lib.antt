@@ -3,3 +3,4 @@ pub mod Words
 pub mod Lowering
 pub mod Standing
 pub mod Running
+pub mod Ending

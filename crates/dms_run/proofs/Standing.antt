@@ -104,7 +104,7 @@ module _ (total first : ℕ) (files : Files) (desc : Described) (well : IsWellFo
   agrees = subst (λ (k : ℕ). Agrees (k == 10001) entries (dumps_of files) (stored_of files)) (sym w.found.first_is) (whole_agrees (telling_of total first) files w)
 
   -- what the entries tell at a point
-  abbrev TellsAt : ℕ → Db → Type 0
+  abbrev pub TellsAt : ℕ → Db → Type 0
   TellsAt n db = IsLive live n × (schema_at entries n ≡ Some (spelling desc)) × (spelled desc (blocks_at live counted n) ≡ Some db)
 
   abbrev state_by : (n : ℕ) (db : Db) → TellsAt n db → StateAt files n desc db
@@ -121,7 +121,7 @@ module _ (total first : ℕ) (files : Files) (desc : Described) (well : IsWellFo
     same_number_there : bare_one.point.number ≡ n
     same_number_there = ap (λ (q : DescribedPoint). q.number) bare_one.is ∙ number
 
-    tells_at : TellsAt n db
+    pub tells_at : TellsAt n db
     tells_at = subst (λ (k : ℕ). TellsAt k db) same_number_there (
       has_point.lives,
       schema_there entries bare_one.point.number has_point.lives ∙ ap (λ (l : List ℕ). Some l) (ap (λ (q : DescribedPoint). q.schema) bare_one.is ∙ schema),

@@ -4,3 +4,4 @@ pub mod Stops
 pub mod Laws
 pub mod Files
 pub mod Starting
+pub mod Ending

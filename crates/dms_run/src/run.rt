@@ -1,9 +1,12 @@
 ghost use Rattle.std.specs.Prelude.{◌≡◌, ◌≤◌, ◌+◌, [], ℕ, List, OnOk, IsErrOf};
 ghost use Rattle.dms_base.specs.Causes.{Rose};
+ghost use Rattle.dms_desc.specs.Shape.{described};
 ghost use Rattle.dms_feed.specs.Feeds.{Remains};
+ghost use Rattle.dms_feed.specs.Lines.{raw_lines};
 ghost use Rattle.dms_runner.specs.Blaming.{CutRun, LastsRun};
 ghost use Rattle.dms_runner.specs.Starting.{AtStart};
 ghost use Rattle.dms_storeverbs.specs.View.{seen};
+ghost use Rattle.dms_run.specs.Ending.{EndsLeave, KeepsLimits, StaysUndamaged};
 ghost use Rattle.dms_run.specs.Starting.{OfScript, ReachesEnd, SaysAll, SaysPrefix, SaysWholeAnswers, StandsAtEnd, StopsAtBytes, StopsAtInput, StopsAtLines, StopsAtWaiting, StopsLeave};
 
 use dms_feed::Feed;
@@ -24,6 +27,9 @@ pub fn run_script<St: Store, I: Source>(
     requires sound { (seen engine.old).sound }
     ensures every_moment { OfScript engine.old feed.old (I.left source.old) (StopsLeave engine.old engine.new) }
     ensures at_ok { OnOk result (OfScript engine.old feed.old (I.left source.old) (ReachesEnd engine.new)) }
+    ensures closes { OnOk result (OfScript engine.old feed.old (I.left source.old) (EndsLeave engine.old engine.new)) }
+    ensures within { OnOk result (AtStart engine.old feed.old (I.left source.old) (λ db first all. KeepsLimits (described engine.old.desc) db first (raw_lines all))) }
+    ensures undamaged { AtStart engine.old feed.old (I.left source.old) (λ db first all. StaysUndamaged engine.old engine.new) }
     ensures prints { OnOk result (AtStart engine.old feed.old (I.left source.old) (SaysAll engine.old engine.new)) }
     ensures part { AtStart engine.old feed.old (I.left source.old) (SaysPrefix engine.old engine.new) }
     ensures whole_answers { (CutRun result → ⊥) → AtStart engine.old feed.old (I.left source.old) (SaysWholeAnswers engine.old engine.new) }

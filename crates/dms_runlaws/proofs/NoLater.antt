@@ -33,38 +33,38 @@ same_number a b on = grind (arith, nat_tests, on)
 
 abbrev pub RisesBy : ℕ → List Quiet → Type 0
 RisesBy first [] = Unit {0}
-RisesBy first (q ∷ qs) = (q.0 ≡ first) × RisesBy (suc first) qs
+RisesBy first (q ∷ qs) = (q.0 ≡ first) × RisesBy (first + 1) qs
 
 pub rises_by : (first : ℕ) (qs : List Quiet) → RiseFrom first qs → RisesBy first qs
 rises_by first [] rises = tt
 rises_by first (q ∷ qs) rises =
     let head : q.0 ≡ first = cc in
-    let tail : map (λ (p : Quiet). p.0) qs ≡ range_with_len (suc first) (length qs) = cc in
-    (head, rises_by (suc first) qs tail)
+    let tail : map (λ (p : Quiet). p.0) qs ≡ range_with_len (first + 1) (length qs) = cc in
+    (head, rises_by (first + 1) qs tail)
 
 -- the last number isn't below one before them
 last_low : (n first : ℕ) (made rest : List Quiet) → n ≤ first → RisesBy first (made ++ rest) → n ≤ last_quiet_number n made
 last_low n first [] rest low rises = omega arith
-last_low n first (q ∷ made) rest low rises = omega (arith, last_low q.0 (suc first) made rest (omega (arith, rises.0)) rises.1, rises.0, low)
+last_low n first (q ∷ made) rest low rises = omega (arith, last_low q.0 (first + 1) made rest (omega (arith, rises.0)) rises.1, rises.0, low)
 
 -- nor below one among them
 number_low : (n first m d : ℕ) (made rest : List Quiet) → RisesBy first (made ++ rest) → d ≤ length made → is_quiet_in (take d (made ++ rest)) m ≡ true → m ≤ last_quiet_number n made
 number_low n first m zero made rest rises few on = absurd (true_not_false (sym on))
 number_low n first m (suc d) [] rest rises few on = absurd (omega (arith, few))
 number_low n first m (suc d) (q ∷ made) rest rises few on = or_cases (q.0 == m) (is_quiet_in (take d (made ++ rest)) m)
-    (λ here. omega (arith, same_number q.0 m here, last_low q.0 (suc first) made rest (omega (arith, rises.0)) rises.1))
-    (λ more. number_low q.0 (suc first) m d made rest rises.1 (omega (arith, few)) more) on
+    (λ here. omega (arith, same_number q.0 m here, last_low q.0 (first + 1) made rest (omega (arith, rises.0)) rises.1))
+    (λ more. number_low q.0 (first + 1) m d made rest rises.1 (omega (arith, few)) more) on
 
 -- each of them is at or above the first number
 first_low : (first : ℕ) (qs : List Quiet) (q : Quiet) → RisesBy first qs → IsOneOf q qs → first ≤ q.0
 first_low first [] q rises one = absurd one
 first_low first (p ∷ qs) q rises (inl is) = omega (arith, ap (λ (r : Quiet). r.0) is, rises.0)
-first_low first (p ∷ qs) q rises (inr more) = omega (arith, first_low (suc first) qs q rises.1 more)
+first_low first (p ∷ qs) q rises (inr more) = omega (arith, first_low (first + 1) qs q rises.1 more)
 
 -- and one behind the first so many is above their last
 pub number_high : (n first : ℕ) (made rest : List Quiet) (q : Quiet) → n < first → RisesBy first (made ++ rest) → IsOneOf q rest → last_quiet_number n made < q.0
 number_high n first [] rest q low rises one = omega (arith, low, first_low first rest q rises one)
-number_high n first (p ∷ made) rest q low rises one = number_high p.0 (suc first) made rest q (omega (arith, rises.0)) rises.1 one
+number_high n first (p ∷ made) rest q low rises one = number_high p.0 (first + 1) made rest q (omega (arith, rises.0)) rises.1 one
 
 -- ---- what the text tells
 

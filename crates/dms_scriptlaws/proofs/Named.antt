@@ -12,9 +12,7 @@ use Rattle.dms_desc.specs.declared.structure.Item.{Item}
 use Rattle.dms_desc.specs.Conds.{is_null, or_null, item_of}
 use Rattle.dms_desc.specs.Plain.{IsPlain, ArePlain}
 use Rattle.dms_desc.specs.Shape.{Shape, Described}
-use Rattle.dms_model.specs.declared.program.Program.{Program}
-use Rattle.dms_model.specs.declared.program.Area.{Area}
-use Rattle.dms_model.specs.declared.program.Area.TheVariants.{New, Old}
+use Rattle.dms_model.specs.Programs.{Program, Area, New, Old}
 use Rattle.dms_model.specs.declared.program.Mode.{Mode}
 use Rattle.dms_model.specs.declared.verb.Verb.{Verb}
 use Rattle.dms_model.specs.declared.verb.Verb.TheVariants.{OpenUpdate, OpenInquiry, Close, Find, Create, Put as PutItems, Get, Store, Begin, End, Abort}
@@ -27,7 +25,8 @@ use Rattle.dms_model.specs.declared.put.Put.{Put}
 use Rattle.dms_model.specs.declared.spot.Spot.{Spot}
 use Rattle.dms_model.specs.Db.{Db}
 use Rattle.dms_desc.specs.Lookups.{name_of, structure_of, items_of, set_of}
-use Rattle.dms_model.specs.Session.{Session, Outcome, StoreResult, Refused, Keeps, Filled, Misfit, Values', refuse, done, shows, settle, keep, store_step, after_store, begin_step, after_begin, begun, begin_refusals, area_answer, area_of, area_refusals, duplicate_of, or_no_area, or_unknown, replies, stored_program, awaited, workers, end_step, after_end, abort_step, find_step, find_for, after_find, found_by, create_step, create_for, owner_for, refuse_unowned, put_step, put_area, after_put, filled, item_name, setting_value, get_step, get_area, get_text, more_text, item_text, close_step, open_as, open_step, verb_step, step_at, answered, carried_out, step, with_program, with_work, work_of, restart_of, someone_works, is_inquiry, opens, changes, path_of, new_program, place_of, carried, left, without, idle, backed_out, found_program, let_go, with_lock, missing_from, area_values, one_more, open_in}
+use Rattle.dms_model.specs.Stores.{put_answer}
+use Rattle.dms_model.specs.Session.{Session, Outcome, StoreResult, Refused, Keeps, Filled, Misfit, Values', refuse, done, shows, settle, keep, store_step, after_store, begin_step, after_begin, begun, begin_refusals, area_answer, area_of, area_refusals, duplicate_of, or_no_area, or_unknown, replies, stored_program, awaited, workers, end_step, after_end, abort_step, find_step, find_for, after_find, found_by, create_step, create_for, owner_for, refuse_unowned, put_step, put_area, after_put, filled, item_name, setting_value, get_step, get_area, get_text, more_text, item_text, close_step, open_as, open_step, verb_step, step_at, answered, carried_out, step, with_program, with_work, restart_of, someone_works, is_inquiry, opens, changes, path_of, new_program, place_of, carried, left, without, idle, backed_out, found_program, let_go, with_lock, missing_from, area_values, area_number, record_of, is_free, one_more, open_in}
 use Rattle.dms_model.specs.Traits.{traits}
 use Rattle.dms_model.specs.Areas.{AreaFits, AreasFit}
 use Rattle.dms_model.specs.Valid.{owner_of}
@@ -261,7 +260,7 @@ module _ (desc : Described) (names : HasNames desc) where
     none_shown [] values = tt
     none_shown (n ∷ ns) values = none_text ns values
 
-    get_named : (o : Option Area) (set : ℕ) (numbers : List ℕ) → AreasFit desc p → (work_of p set).area ≡ o → LeavesNamed (get_area o desc i p s set numbers)
+    get_named : (o : Option Area) (set : ℕ) (numbers : List ℕ) → AreasFit desc p → area_of p set ≡ o → LeavesNamed (get_area o desc i p s set numbers)
     get_named None set numbers fit is = refused s _ _ (shape_feed set) all
     get_named (Some a) set numbers fit is = shown _ _ (by (structure_of desc set) refl) (with_named (carried p) mine)
       where
@@ -285,8 +284,8 @@ module _ (desc : Described) (names : HasNames desc) where
   verb_named i p s Close at all fit = leaves_if p.in_transaction (refuse s AuditError p.name) (done (record s { programs = without i s.programs })) (refused s _ p.name (mine_feed s i p at all) all) (shown _ [] tt (all_without Named s.programs i all))
   verb_named i p s (Find path) at all fit = find_for_named s i p at all (owner_for desc p (path_of path)) path
   verb_named i p s (Create set) at all fit = create_for_named s i p at all (owner_for desc p set) set
-  verb_named i p s (PutItems set settings) at all fit = put_area_named s i p at all (work_of p set).area set settings
-  verb_named i p s (Get set items) at all fit = get_named s i p at all (work_of p set).area set items fit refl
+  verb_named i p s (PutItems set settings) at all fit = put_area_named s i p at all (area_of p set) set settings
+  verb_named i p s (Get set items) at all fit = get_named s i p at all (area_of p set) set items fit refl
   verb_named i p s (Store set) at all fit = leaves_if p.in_transaction (after_store (keep desc p s.db set) i s) (refuse s AuditError p.name) (store_named s i p at all (keep desc p s.db set) (keep_named s i p at all s.db set)) (refused s _ p.name (mine_feed s i p at all) all)
   verb_named i p s (Begin audit) at all fit =
       leaves_if p.in_transaction (refuse s AuditError p.name) (after_begin (begun desc p s audit) i s) (refused s _ p.name (mine_feed s i p at all) all)

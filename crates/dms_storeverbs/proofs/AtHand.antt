@@ -10,16 +10,14 @@ use Rattle.dms_desc.specs.declared.record.Record.{Record}
 use Rattle.dms_desc.specs.declared.structure.Item.{Item}
 use Rattle.dms_desc.specs.Lookups.{items_of, set_of, structure_of}
 use Rattle.dms_desc.specs.Shape.{Described}
-use Rattle.dms_model.specs.declared.program.Area.{Area}
-use Rattle.dms_model.specs.declared.program.Area.TheVariants.{New}
+use Rattle.dms_model.specs.Programs.{Area, New, Program}
 use Rattle.dms_model.specs.declared.program.Mode.{Mode}
-use Rattle.dms_model.specs.declared.program.Program.{Program}
 use Rattle.dms_model.specs.declared.spot.Spot.{Spot}
 use Rattle.dms_model.specs.declared.verb.Setting.{Setting}
 use Rattle.dms_model.specs.Areas.{InitialsFit, ProgramsFit, WorkFits, WorksFit}
 use Rattle.dms_model.specs.AreaLaws.{backed_works, created_works, found_works, new_works, no_owner, none_fits, put_works, stored_works}
 use Rattle.dms_model.specs.Fitting.{IsNumber, RecordFits, SpotFits}
-use Rattle.dms_model.specs.Session.{area_values, backed_out, carried, filled, found_program, idle, let_go, new_program, owner_for, Values', with_values, with_work, work_of}
+use Rattle.dms_model.specs.Session.{area_values, backed_out, carried, filled, found_program, idle, let_go, new_program, owner_for, Values', with_values, with_work, area_of, current_of}
 use Rattle.dms_model.specs.Spoken.{IsOuter, IsPlainLiteral}
 use Rattle.dms_model.specs.Verbs.{IsSettingOf}
 use Rattle.dms_laws.proofs.Lists.{all_mapped, all_pushed, all_set, all_without}
@@ -73,12 +71,12 @@ plain_texts items (t ∷ ts) h = (h.0.plain, plain_texts items ts h.1)
 
 -- PUT
 pub put_as : (desc : Described) (x y : Program) (set : ℕ) (a new : Area) (items : List Item) (settings : List Setting) (old values : List Value)
-    → y ≡ carried (with_work x set (record { current = (work_of x set).current; area = Some new })) → new ≡ with_values a values → filled items settings old ≡ Values' values → items ≡ items_of (structure_of desc set) → old ≡ area_values a
-    → (work_of x set).area ≡ Some a → IsOuter (structure_of desc set) → AllByRecursion (IsSettingOf (items_of (structure_of desc set))) settings → WorksFit desc x → WorksFit desc y
+    → y ≡ carried (with_work x set (record { current = current_of x set; area = Some new })) → new ≡ with_values a values → filled items settings old ≡ Values' values → items ≡ items_of (structure_of desc set) → old ≡ area_values a
+    → area_of x set ≡ Some a → IsOuter (structure_of desc set) → AllByRecursion (IsSettingOf (items_of (structure_of desc set))) settings → WorksFit desc x → WorksFit desc y
 put_as desc x y set a new items settings old values is new_is made items_is old_is has outer takes fit =
     let made' : filled (items_of (structure_of desc set)) settings (area_values a) ≡ Values' values = (λ j. filled (sym items_is j) settings (sym old_is j)) ∙ made in
     subst (WorksFit desc) (sym is)
-    (subst (λ (b : Area). WorksFit desc (with_work x set (record { current = (work_of x set).current; area = Some b }))) (sym new_is)
+    (subst (λ (b : Area). WorksFit desc (with_work x set (record { current = current_of x set; area = Some b }))) (sym new_is)
     (put_works desc x set a settings values outer (plain_texts (items_of (structure_of desc set)) settings takes) has made' fit))
 
 -- FIND

@@ -7,7 +7,7 @@ use Rattle.dms_base.specs.declared.value.Value.{Value}
 use Rattle.dms_desc.specs.declared.structure.KeyPart.{KeyPart}
 use Rattle.dms_desc.specs.declared.bound.Bound.TheVariants.{From}
 use Rattle.dms_desc.specs.Shape.{Shape, Described}
-use Rattle.dms_model.specs.declared.program.Program.{Program}
+use Rattle.dms_model.specs.Programs.{Program}
 use Rattle.dms_model.specs.declared.verb.Path.{Path}
 use Rattle.dms_model.specs.declared.verb.Path.TheVariants.{First, Last, At}
 use Rattle.dms_model.specs.declared.spot.Spot.{Spot}

@@ -7,8 +7,7 @@ use Rattle.dms_base.specs.declared.category.Category.{Category}
 use Rattle.dms_base.specs.declared.category.Category.TheVariants.{Duplicates, LimitError}
 use Rattle.dms_desc.specs.declared.record.Record.{Record}
 use Rattle.dms_desc.specs.Shape.{Described}
-use Rattle.dms_model.specs.declared.program.Program.{Program}
-use Rattle.dms_model.specs.declared.program.Wait.{Wait}
+use Rattle.dms_model.specs.Programs.{Program, Wait}
 use Rattle.dms_model.specs.declared.put.Put.{Put}
 use Rattle.dms_model.specs.declared.reply.Reply.TheVariants.{Exception}
 use Rattle.dms_model.specs.declared.put.Put.TheVariants.{Stored, Duplicate, Full}

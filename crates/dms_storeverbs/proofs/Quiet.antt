@@ -4,9 +4,8 @@ use Rattle.std.specs.Prelude.{slice_get, slice_set}
 use Rattle.std.specs.declared.option.Option.{Option}
 use Rattle.dms_desc.specs.Shape.{Described}
 use Rattle.dms_base.specs.declared.category.Category.{Category}
-use Rattle.dms_base.specs.declared.category.Category.TheVariants.{LimitError, AuditError, Abort as AbortDue}
-use Rattle.dms_model.specs.declared.program.Program.{Program}
-use Rattle.dms_model.specs.declared.program.Area.{Area}
+use Rattle.dms_base.specs.declared.category.Category.TheVariants.{LimitError, NoRecord, AuditError, DataError, NotLocked, Abort as AbortDue}
+use Rattle.dms_model.specs.Programs.{Program, Area}
 use Rattle.dms_model.specs.declared.program.Mode.{Mode}
 use Rattle.dms_model.specs.declared.verb.Verb.{Verb}
 use Rattle.dms_model.specs.declared.verb.Verb.TheVariants.{OpenUpdate, OpenInquiry, Close, Find, Create, Put as PutItems, Get, Store, Begin, End, Abort}
@@ -20,7 +19,7 @@ use Rattle.dms_desc.specs.Lookups.{structure_of, items_of, set_of}
 use Rattle.dms_model.specs.Stores.{put_after}
 use Rattle.dms_model.specs.StoreLaws.{keep_any}
 use Rattle.dms_model.specs.declared.reply.Reply.{Reply}
-use Rattle.dms_model.specs.Session.{Session, Outcome, StoreResult, Refused, Keeps, Filled, Misfit, Values', refuse, done, shows, settle, keep, store_step, after_store, begin_step, after_begin, begun, replies, stored_program, end_step, after_end, abort_step, find_step, find_for, after_find, found_by, create_step, create_for, owner_for, put_step, put_area, after_put, filled, get_step, get_area, close_step, open_as, open_in, open_step, verb_step, step_at, answered, carried_out, step, with_program, work_of, restart_of, someone_works, is_inquiry, opens, changes, path_of, new_program, place_of, carried, entered, left, without, idle, found_program, let_go, area_values, record_of, one_more}
+use Rattle.dms_model.specs.Session.{Session, Outcome, StoreResult, Refused, Keeps, Filled, Misfit, Values', refuse, done, shows, settle, keep, store_step, after_store, begin_step, after_begin, begun, replies, stored_program, end_step, after_end, abort_step, find_step, find_for, after_find, found_by, create_step, create_for, owner_for, put_step, put_area, after_put, filled, get_step, get_area, close_step, open_as, open_in, open_step, verb_step, step_at, answered, carried_out, step, with_program, restart_of, someone_works, is_inquiry, opens, changes, path_of, new_program, place_of, carried, entered, left, without, idle, found_program, let_go, area_values, area_number, record_of, is_free, one_more, area_of}
 use Rattle.dms_model.specs.BackOut.{asks_back_out}
 use Rattle.dms_model.specs.Traits.{traits}
 use Rattle.dms_storeverbs.specs.Laws.{MakesNone, MakesWhereQuiet, falls_quiet, QuietRule}
@@ -201,8 +200,8 @@ verb_rule desc i p s OpenInquiry at = by_steady OpenInquiry s _ (steady_refuse s
 verb_rule desc i p s Close at = by_steady Close s _ (close_steady s i p at p.in_transaction refl)
 verb_rule desc i p s (Find path) at = by_steady (Find path) s _ (find_for_steady s i p at (owner_for desc p (path_of path)) desc path)
 verb_rule desc i p s (Create set) at = by_steady (Create set) s _ (create_for_steady s i p at (owner_for desc p set) desc set)
-verb_rule desc i p s (PutItems set settings) at = by_steady (PutItems set settings) s _ (put_steady s i p at (work_of p set).area desc set settings)
-verb_rule desc i p s (Get set items) at = by_steady (Get set items) s _ (get_steady s i p at (work_of p set).area desc set items)
+verb_rule desc i p s (PutItems set settings) at = by_steady (PutItems set settings) s _ (put_steady s i p at (area_of p set) desc set settings)
+verb_rule desc i p s (Get set items) at = by_steady (Get set items) s _ (get_steady s i p at (area_of p set) desc set items)
 verb_rule desc i p s (Store set) at = by_steady (Store set) s _ (store_rule s i p at p.in_transaction desc set)
 verb_rule desc i p s (Begin audit) at = by_steady (Begin audit) s _ (steady_if s p.in_transaction (refuse s AuditError p.name) (after_begin (begun desc p s audit) i s) (steady_refuse s AuditError p.name) (after_begin_steady s i p at (begun desc p s audit)))
 verb_rule desc i p s (End audit sync) at = end_at desc s i p at p.in_transaction audit sync refl

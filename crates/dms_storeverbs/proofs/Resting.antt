@@ -4,15 +4,14 @@ use Rattle.std.specs.Prelude.{slice_get, slice_set}
 use Rattle.std.specs.declared.option.Option.{Option}
 use Rattle.dms_desc.specs.Shape.{Described}
 use Rattle.dms_base.specs.declared.category.Category.TheVariants.{LimitError, AuditError}
-use Rattle.dms_model.specs.declared.program.Program.{Program}
-use Rattle.dms_model.specs.declared.program.Area.{Area}
+use Rattle.dms_model.specs.Programs.{Program, Area}
 use Rattle.dms_model.specs.declared.verb.Verb.{Verb}
 use Rattle.dms_model.specs.declared.verb.Verb.TheVariants.{OpenUpdate, OpenInquiry, Close, Find, Create, Put as PutItems, Get, Store, Begin, End, Abort}
 use Rattle.dms_model.specs.declared.spot.Spot.{Spot}
 use Rattle.dms_model.specs.declared.verb.Path.{Path}
 use Rattle.dms_model.specs.declared.verb.Setting.{Setting}
 use Rattle.dms_desc.specs.Lookups.{structure_of, items_of}
-use Rattle.dms_model.specs.Session.{Session, Outcome, StoreResult, Refused, Keeps, Filled, Misfit, Values', refuse, done, settle, keep, store_step, after_store, begin_step, after_begin, begun, end_step, after_end, abort_step, find_step, find_for, after_find, found_by, create_step, create_for, owner_for, put_step, put_area, after_put, filled, get_step, get_area, close_step, open_in, open_step, verb_step, step_at, carried_out, step, work_of, restart_of, someone_works, is_inquiry, opens, changes, path_of, place_of, carried, entered, left, without, one_more, area_values}
+use Rattle.dms_model.specs.Session.{Session, Outcome, StoreResult, Refused, Keeps, Filled, Misfit, Values', refuse, done, settle, keep, store_step, after_store, begin_step, after_begin, begun, end_step, after_end, abort_step, find_step, find_for, after_find, found_by, create_step, create_for, owner_for, put_step, put_area, after_put, filled, get_step, get_area, close_step, open_in, open_step, verb_step, step_at, carried_out, step, restart_of, someone_works, is_inquiry, opens, changes, path_of, place_of, carried, entered, left, without, one_more, area_values, area_of}
 use Rattle.dms_model.specs.declared.program.Mode.{Mode}
 use Rattle.dms_model.specs.Traits.{traits}
 use Rattle.dms_storeverbs.specs.Laws.{Rests, RestRule}
@@ -97,8 +96,8 @@ verb_rests desc i p s OpenInquiry at = λ r. r
 verb_rests desc i p s Close at = close_rests s i p at p.in_transaction refl
 verb_rests desc i p s (Find path) at = find_for_rests s i p at (owner_for desc p (path_of path)) desc path
 verb_rests desc i p s (Create set) at = create_for_rests s i p at (owner_for desc p set) desc set
-verb_rests desc i p s (PutItems set settings) at = put_rests s i p at (work_of p set).area desc set settings
-verb_rests desc i p s (Get set items) at = get_rests s i p at (work_of p set).area desc set items
+verb_rests desc i p s (PutItems set settings) at = put_rests s i p at (area_of p set) desc set settings
+verb_rests desc i p s (Get set items) at = get_rests s i p at (area_of p set) desc set items
 verb_rests desc i p s (Store set) at = store_at s i p at p.in_transaction refl desc set
 verb_rests desc i p s (Begin audit) at = resting_if s p.in_transaction (refuse s AuditError p.name) (after_begin (begun desc p s audit) i s) (λ r. r) (begin_rests s i p at (begun desc p s audit))
 verb_rests desc i p s (End audit sync) at = resting_if s p.in_transaction _ _ (end_rests s i p at (cond audit (keep desc p s.db (restart_of desc)) (Keeps p s.db)) desc sync) (λ r. r)

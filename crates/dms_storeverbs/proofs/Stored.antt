@@ -8,15 +8,13 @@ use Rattle.dms_base.specs.declared.category.Category.TheVariants.{DataError, NoR
 use Rattle.dms_model.specs.declared.reply.Reply.{Reply}
 use Rattle.dms_model.specs.declared.reply.Reply.TheVariants.{Exception}
 use Rattle.dms_desc.specs.Shape.{Shape, Described}
-use Rattle.dms_model.specs.declared.program.Program.{Program}
-use Rattle.dms_model.specs.declared.program.Area.{Area}
-use Rattle.dms_model.specs.declared.program.Area.TheVariants.{New, Old}
+use Rattle.dms_model.specs.Programs.{Program, Area, New, Old}
 use Rattle.dms_model.specs.declared.put.Put.{Put}
 use Rattle.dms_model.specs.declared.put.Put.TheVariants.{Stored, Duplicate, Full}
 use Rattle.dms_model.specs.Db.{Db}
 use Rattle.dms_model.specs.Areas.{AreaFits, WorksFit}
 use Rattle.dms_model.specs.Fitting.{AreFitting, IsNumber, RecordFits, is_number}
-use Rattle.dms_model.specs.Session.{StoreResult, Refused, area_answer, area_number, area_values, current_of, is_free, keep, kept_with, missing_from, or_no_area, or_unknown, put_of, record_of, unless, verified, work_of}
+use Rattle.dms_model.specs.Session.{StoreResult, Refused, area_answer, area_number, area_values, current_of, is_free, keep, kept_with, missing_from, or_no_area, or_unknown, put_of, record_of, unless, verified, area_of}
 use Rattle.dms_model.specs.Spoken.{IsOuter}
 use Rattle.dms_laws.specs.Exclusive.{locks_it}
 use Rattle.dms_storeverbs.specs.Storing.{IsReady, put_record}
@@ -30,11 +28,11 @@ off : (b : Bool) (r : Reply) (o : Option Reply) (k : StoreResult) (x : StoreResu
 off b r o k x is next = rw is next
 
 module _ (desc : Described) (p : Program) (db : Db) (set : ℕ) where
-  pub keep_none : (work_of p set).area ≡ None → keep desc p db set ≡ Refused (Exception NoRecord (name_of (structure_of desc set)))
+  pub keep_none : area_of p set ≡ None → keep desc p db set ≡ Refused (Exception NoRecord (name_of (structure_of desc set)))
   unfolding keep
   keep_none none = ap (λ (o : Option Area). kept_with o (area_answer desc p db set) desc p db set) none
 
-  module _ (a : Area) (has : (work_of p set).area ≡ Some a) where
+  module _ (a : Area) (has : area_of p set ≡ Some a) where
     abbrev answer : Put
     answer = put_of desc db set a (current_of p set)
 
@@ -91,14 +89,14 @@ locked_of p set (Old values) None h = tt
 locked_of p set (Old values) (Some n) h = h
 
 -- an area that met the tests before it is stored
-pub ready : (desc : Described) (p : Program) (set : ℕ) (a : Area) (number : Option ℕ) (rec : Record) → IsOuter (structure_of desc set) → WorksFit desc p → (work_of p set).area ≡ Some a → is_free a p set (work_of p set).current ≡ true
-    → missing_from 0 (items_of (structure_of desc set)) (area_values a) ≡ None → verified (structure_of desc set) (area_values a) ≡ true → number ≡ area_number a (work_of p set).current → rec ≡ record_of a → IsReady desc p set number rec
+pub ready : (desc : Described) (p : Program) (set : ℕ) (a : Area) (number : Option ℕ) (rec : Record) → IsOuter (structure_of desc set) → WorksFit desc p → area_of p set ≡ Some a → is_free a p set (current_of p set) ≡ true
+    → missing_from 0 (items_of (structure_of desc set)) (area_values a) ≡ None → verified (structure_of desc set) (area_values a) ≡ true → number ≡ area_number a (current_of p set) → rec ≡ record_of a → IsReady desc p set number rec
 ready desc p set a number rec outer fit has free none met number_is rec_is =
     let mine : ((shape : Shape) → structure_of desc set ≡ Some shape → AreaFits shape (Some a)) = λ shape here. subst (AreaFits shape) has (fit set shape here).area in
-    let current = current_fits desc set (work_of p set).current (structure_of desc set) refl outer (λ shape here. (fit set shape here).current) in
-    let made : IsReady desc p set (area_number a (work_of p set).current) (record_of a) = record {
-      number_is = number_of desc set a (work_of p set).current current;
-      locked = locked_of p set a (work_of p set).current free;
+    let current = current_fits desc set (current_of p set) (structure_of desc set) refl outer (λ shape here. (fit set shape here).current) in
+    let made : IsReady desc p set (area_number a (current_of p set)) (record_of a) = record {
+      number_is = number_of desc set a (current_of p set) current;
+      locked = locked_of p set a (current_of p set) free;
       unowned = unowned_of desc set a (structure_of desc set) refl outer mine;
       fits = fits_of desc set a (structure_of desc set) refl outer mine;
       required = none;

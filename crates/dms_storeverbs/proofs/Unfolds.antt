@@ -5,8 +5,7 @@ use Rattle.std.specs.declared.option.Option.{Option}
 use Rattle.std.proofs.lemmas.Option.{slice_get_past}
 use Rattle.dms_base.specs.declared.category.Category.TheVariants.{NoRecord, NotFound, AuditError}
 use Rattle.dms_desc.specs.Shape.{Described}
-use Rattle.dms_model.specs.declared.program.Program.{Program}
-use Rattle.dms_model.specs.declared.program.Area.{Area}
+use Rattle.dms_model.specs.Programs.{Program, Area}
 use Rattle.dms_model.specs.declared.put.Put.{Put}
 use Rattle.dms_model.specs.declared.reply.Reply.{Reply}
 use Rattle.dms_model.specs.declared.reply.Reply.TheVariants.{Exception, Waits}
@@ -15,7 +14,7 @@ use Rattle.dms_model.specs.declared.spot.Spot.{Spot}
 use Rattle.dms_model.specs.declared.verb.Verb.{Verb}
 use Rattle.dms_model.specs.declared.verb.Path.{Path}
 use Rattle.dms_desc.specs.Lookups.{structure_of, name_of, set_of}
-use Rattle.dms_model.specs.Session.{Session, Outcome, StoreResult, Refused, area_answer, area_of, area_refusals, begun, begun_with, first_held, has_some, or_no_area, storing, unless, refuse, done, keep, store_step, after_store, begin_step, after_begin, awaited, end_step, after_end, find_step, find_for, after_find, found_by, owner_for, refuse_unowned, found_program, with_program, carried, path_of, restart_of, work_of, carried_out, step_at, open_step, place_of}
+use Rattle.dms_model.specs.Session.{Session, Outcome, StoreResult, Refused, area_answer, area_of, area_refusals, begun, begun_with, first_held, has_some, or_no_area, storing, unless, refuse, done, keep, store_step, after_store, begin_step, after_begin, awaited, end_step, after_end, find_step, find_for, after_find, found_by, owner_for, refuse_unowned, found_program, with_program, carried, path_of, restart_of, carried_out, step_at, open_step, place_of}
 use Rattle.dms_storeverbs.specs.Keeping.{kept_if}
 
 pub there_is : {A : Type 0} (xs : List A) (i : ℕ) → i < length xs → (x : A) × (slice_get xs i ≡ Some x)
@@ -45,7 +44,7 @@ begun_lacks : (audit : Bool) (who : List (List ℕ)) (o : Option Area) (answer :
 begun_lacks true who o answer desc p db set lacks = yes_held (not (is_some o)) (Exception NoRecord (name_of (structure_of desc set))) (first_held ((has_some who, Waits who) ∷ area_refusals (or_no_area o) answer desc p set)) (storing (or_no_area o) answer desc p db set) lacks
 begun_lacks false who o answer desc p db set lacks = absurd (cc)
 
-pub begin_lacks : (desc : Described) (i : ℕ) (p : Program) (s : Session) (audit : Bool) → p.in_transaction ≡ false → (audit && not (is_some (work_of p (restart_of desc)).area)) ≡ true → begin_step desc i p s audit ≡ refuse s NoRecord (name_of (structure_of desc (restart_of desc)))
+pub begin_lacks : (desc : Described) (i : ℕ) (p : Program) (s : Session) (audit : Bool) → p.in_transaction ≡ false → (audit && not (is_some (area_of p (restart_of desc)))) ≡ true → begin_step desc i p s audit ≡ refuse s NoRecord (name_of (structure_of desc (restart_of desc)))
 unfolding begun
 begin_lacks desc i p s audit idle lacks = begin_of desc i p s audit _ idle (begun_lacks audit (awaited s) (area_of p (restart_of desc)) (area_answer desc p s.db (restart_of desc)) desc p s.db (restart_of desc) lacks)
 
@@ -55,7 +54,7 @@ begun_waits audit [] o answer desc p db set has some = absurd (some refl)
 begun_waits true (q ∷ qs) o answer desc p db set has some = ap (λ (x : Option Reply). unless x (storing (or_no_area o) answer desc p db set)) (not_held (not (is_some o)) (Exception NoRecord (name_of (structure_of desc set))) (Some (Waits (q ∷ qs))) has)
 begun_waits false (q ∷ qs) o answer desc p db set has some = refl
 
-pub begin_waits : (desc : Described) (i : ℕ) (p : Program) (s : Session) (audit : Bool) → p.in_transaction ≡ false → (audit && not (is_some (work_of p (restart_of desc)).area)) ≡ false → (awaited s ≡ [] → ⊥) → begin_step desc i p s audit ≡ record { session = s; reply = Waits (awaited s); sync = None; quiets = [] }
+pub begin_waits : (desc : Described) (i : ℕ) (p : Program) (s : Session) (audit : Bool) → p.in_transaction ≡ false → (audit && not (is_some (area_of p (restart_of desc)))) ≡ false → (awaited s ≡ [] → ⊥) → begin_step desc i p s audit ≡ record { session = s; reply = Waits (awaited s); sync = None; quiets = [] }
 unfolding begun
 begin_waits desc i p s audit idle has some = begin_of desc i p s audit _ idle (begun_waits audit (awaited s) (area_of p (restart_of desc)) (area_answer desc p s.db (restart_of desc)) desc p s.db (restart_of desc) has some)
 

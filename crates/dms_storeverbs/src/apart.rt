@@ -1,7 +1,7 @@
 ghost use Rattle.std.specs.Prelude.{◌≡◌, ◌<◌, ℕ, Some, None, true, false, IfOk, IsOk, IfSome, length, slice_get};
 ghost use Rattle.std.specs.List.{AllByRecursion};
 ghost use Rattle.dms_desc.specs.Shape.{Described, described};
-ghost use Rattle.dms_model.specs.declared.program.Program.{Program};
+ghost use Rattle.dms_model.specs.Programs.{Program};
 ghost use Rattle.dms_desc.specs.Lookups.{items_of, structure_of};
 ghost use Rattle.dms_model.specs.Areas.{InitialsFit, ProgramsFit};
 ghost use Rattle.dms_model.specs.BackOut.{asks_back_out};
@@ -14,7 +14,7 @@ ghost use Rattle.dms_storeverbs.specs.Costs.{is_done, takes_none};
 
 use crate::areas;
 use crate::filling::{fill, get_text, initial_values, with_values};
-use crate::programs::new_program;
+use crate::programs::{mode, new_program, owes_abort, pay_abort, program_name, works};
 use crate::refusal::{done, refused};
 use crate::schema::owner_of;
 use dms_base::{Category, Memory, Name};
@@ -120,11 +120,11 @@ pub fn admit(programs: &mut Vec<Program>, i: usize, name: &Name, verb: &Verb) ->
     if opens(verb).is_some() {
         return Some(refused(Category::OpenError, *name));
     }
-    if programs[i].owes_abort {
-        programs[i].owes_abort = false;
+    if owes_abort(&programs[i]) {
+        pay_abort(&mut programs[i]);
         return Some(refused(Category::Abort, *name));
     }
-    if is_inquiry(programs[i].mode) && changes(verb) {
+    if is_inquiry(mode(&programs[i])) && changes(verb) {
         return Some(refused(Category::ReadOnly, *name));
     }
     None
@@ -138,8 +138,8 @@ pub fn close(alloc: Global, programs: &mut Vec<Program>, i: usize) -> Result<Ans
     ensures fit { (desc : Described) → ProgramsFit desc programs.old.items → ProgramsFit desc programs.new.items }
     ensures unsynced { IfOk result (λ a. a.sync ≡ None) }
 {
-    if programs[i].in_transaction {
-        return Ok(refused(Category::AuditError, programs[i].name));
+    if works(&programs[i]) {
+        return Ok(refused(Category::AuditError, program_name(&programs[i])));
     }
     let _closed = programs.remove(i);
     Ok(done(alloc))
@@ -221,7 +221,7 @@ pub fn get(
     };
     let values = areas::area_values(area);
     let text = get_text(alloc, desc.items_of(set), values, numbers.as_slice())?;
-    programs[i].active = true;
+    areas::carry(&mut programs[i]);
     Ok(Answer {
         reply: Reply::Done(text),
         sync: None,

@@ -3,15 +3,15 @@ ghost use Rattle.std.specs.List.{list_any};
 ghost use Rattle.std.specs.Option.{option_copied};
 ghost use Rattle.dms_desc.specs.Conds.{is_null, or_null};
 ghost use Rattle.dms_desc.specs.declared.structure.Item.{Item};
-ghost use Rattle.dms_model.specs.Session.{work_of, or_none, is_lock, holds, let_go, with_work, with_lock, found_program, area_values, area_owner, area_number, is_free, record_of, left, carried, entered, missing_from, owner_for};
+ghost use Rattle.dms_model.specs.Session.{work_of, or_none, is_lock, holds, let_go, with_work, with_lock, found_program, area_values, area_owner, area_number, is_free, record_of, left, carried, entered, missing_from, owner_for, area_of, current_of};
 ghost use Rattle.dms_desc.specs.Shape.{described};
-ghost use Rattle.dms_model.specs.declared.program.Area.{Area};
+ghost use Rattle.dms_model.specs.Programs.{Area, New, Old};
 ghost use Rattle.dms_storeverbs.specs.Storing.{with_stored};
 
 use crate::schema::owner_of;
 use dms_base::{Memory, Name, Value};
 use dms_desc::{Description, Item, Record, Values};
-use dms_model::{Area, Lock, Program, Spot, Work};
+use dms_model::{Area, AreaKind, Lock, Program, Spot, Work};
 use std::alloc::Global;
 
 /// The place of a data set among the works of a program.
@@ -30,7 +30,7 @@ fn work_at(program: &Program, set: u16) -> Option<&Work>
 
 /// A program's area of a data set.
 pub fn area_at(program: &Program, set: u16) -> Option<&Area>
-    ensures { option_copied result ≡ (work_of program.now set).area }
+    ensures { option_copied result ≡ area_of program.now set }
 {
     match work_at(program, set) {
         None => None,
@@ -40,14 +40,14 @@ pub fn area_at(program: &Program, set: u16) -> Option<&Area>
 
 /// Whether a program that is to store a data set's area has none.
 pub fn lacks(program: &Program, set: u16, audit: bool) -> bool
-    ensures { result ≡ (audit && not (is_some (work_of program.now set).area)) }
+    ensures { result ≡ (audit && not (is_some (area_of program.now set))) }
 {
     audit && area_at(program, set).is_none()
 }
 
 /// A program's current record of a data set.
 pub fn current_at(program: &Program, set: u16) -> Option<u64>
-    ensures { result ≡ (work_of program.now set).current }
+    ensures { result ≡ current_of program.now set }
 {
     match work_at(program, set) {
         None => None,
@@ -67,13 +67,31 @@ pub fn owner_for(desc: &Description, program: &Program, x: u16) -> Option<u64>
     current_at(program, to)
 }
 
+/// The area of a record that is to be stored, with the number of its owner's record.
+pub fn new_area(values: Values, owner: u64) -> Area
+    ensures { result ≡ New values owner }
+{
+    Area {
+        kind: AreaKind::New(values, owner),
+    }
+}
+
+/// An area that is a copy of the current record's values.
+pub fn old_area(values: Values) -> Area
+    ensures { result ≡ Old values }
+{
+    Area {
+        kind: AreaKind::Old(values),
+    }
+}
+
 /// The values of an area.
 pub fn area_values(area: &Area) -> &[Value]
     ensures { result.now ≡ area_values area.now }
 {
-    match area {
-        Area::New(values, _) => values.as_slice(),
-        Area::Old(values) => values.as_slice(),
+    match &area.kind {
+        AreaKind::New(values, _) => values.as_slice(),
+        AreaKind::Old(values) => values.as_slice(),
     }
 }
 
@@ -81,9 +99,9 @@ pub fn area_values(area: &Area) -> &[Value]
 pub fn area_number(area: &Area, current: Option<u64>) -> Option<u64>
     ensures { result ≡ area_number area.now current }
 {
-    match area {
-        Area::New(_, _) => None,
-        Area::Old(_) => current,
+    match &area.kind {
+        AreaKind::New(_, _) => None,
+        AreaKind::Old(_) => current,
     }
 }
 
@@ -91,9 +109,9 @@ pub fn area_number(area: &Area, current: Option<u64>) -> Option<u64>
 pub fn copied(alloc: Global, area: &Area) -> Result<Values, Memory>
     ensures { IfOk result (λ v. v ≡ area_values area.now) }
 {
-    match area {
-        Area::New(values, _) => values.copy(alloc),
-        Area::Old(values) => values.copy(alloc),
+    match &area.kind {
+        AreaKind::New(values, _) => values.copy(alloc),
+        AreaKind::Old(values) => values.copy(alloc),
     }
 }
 
@@ -101,9 +119,9 @@ pub fn copied(alloc: Global, area: &Area) -> Result<Values, Memory>
 fn area_owner(area: &Area) -> u64
     ensures { result ≡ area_owner area.now }
 {
-    match area {
-        Area::New(_, owner) => *owner,
-        Area::Old(_) => 0,
+    match &area.kind {
+        AreaKind::New(_, owner) => *owner,
+        AreaKind::Old(_) => 0,
     }
 }
 
@@ -140,9 +158,9 @@ fn holds(program: &Program, set: u16, number: Option<u64>) -> bool
 pub fn is_free(area: &Area, program: &Program, set: u16, current: Option<u64>) -> bool
     ensures { result ≡ is_free area.now program.now set current }
 {
-    match area {
-        Area::New(_, _) => true,
-        Area::Old(_) => holds(program, set, current),
+    match &area.kind {
+        AreaKind::New(_, _) => true,
+        AreaKind::Old(_) => holds(program, set, current),
     }
 }
 
@@ -182,7 +200,7 @@ pub fn find(program: &mut Program, set: u16, spot: Spot)
 {
     let work = Work {
         current: Some(spot.number),
-        area: Some(Area::Old(spot.rec.values)),
+        area: Some(old_area(spot.rec.values)),
     };
     program.works.set(place_of(set), work);
     let_go(program, set);
@@ -191,11 +209,11 @@ pub fn find(program: &mut Program, set: u16, spot: Spot)
 
 /// No record is current, and the area is a new one, of a record with this owner.
 pub fn create(program: &mut Program, set: u16, values: Values, owner: u64)
-    ensures { program.new ≡ carried (let_go (with_work program.old set (record { current = None; area = Some (Area.New values owner) })) set) }
+    ensures { program.new ≡ carried (let_go (with_work program.old set (record { current = None; area = Some (New values owner) })) set) }
 {
     let work = Work {
         current: None,
-        area: Some(Area::New(values, owner)),
+        area: Some(new_area(values, owner)),
     };
     program.works.set(place_of(set), work);
     let_go(program, set);
@@ -204,7 +222,7 @@ pub fn create(program: &mut Program, set: u16, values: Values, owner: u64)
 
 /// The area of a data set changes, and the current record stays.
 pub fn put(program: &mut Program, set: u16, area: Area)
-    ensures { program.new ≡ carried (with_work program.old set (record { current = (work_of program.old set).current; area = Some area })) }
+    ensures { program.new ≡ carried (with_work program.old set (record { current = current_of program.old set; area = Some area })) }
 {
     let work = Work {
         current: current_at(program, set),
@@ -234,10 +252,17 @@ pub fn stored(program: &mut Program, set: u16, number: u64, values: Values) -> R
     lock(program, set, number)?;
     let work = Work {
         current: Some(number),
-        area: Some(Area::Old(values)),
+        area: Some(old_area(values)),
     };
     program.works.set(place_of(set), work);
     Ok(())
+}
+
+/// A verb of the program was carried out.
+pub fn carry(program: &mut Program)
+    ensures { program.new ≡ carried program.old }
+{
+    program.active = true;
 }
 
 /// The program is in transaction state.

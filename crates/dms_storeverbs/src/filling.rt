@@ -3,14 +3,15 @@ ghost use Rattle.dms_base.specs.declared.value.Value.{Value};
 ghost use Rattle.dms_base.specs.Spelling.{text_for};
 ghost use Rattle.dms_desc.specs.declared.structure.Item.{Item};
 ghost use Rattle.dms_desc.specs.Conds.{item_of};
-ghost use Rattle.dms_model.specs.declared.program.Area.{Area};
+ghost use Rattle.dms_model.specs.Programs.{Area};
 ghost use Rattle.dms_model.specs.Session.{filled, item_name, item_text, more_text, get_text, with_values};
 ghost use Rattle.dms_storeverbs.specs.Storing.{FillsItems};
 
+use crate::areas::{new_area, old_area};
 use crate::keys::fitted;
 use dms_base::{Bytes, ItemKind, Memory, Name, Value, text_for};
 use dms_desc::{Item, Values};
-use dms_model::{Area, Setting};
+use dms_model::{Area, AreaKind, Setting};
 use std::alloc::Global;
 
 /// The initial values of items.
@@ -56,9 +57,9 @@ pub fn fill(
 pub fn with_values(area: &Area, values: Values) -> Area
     ensures { result ≡ with_values area.now values }
 {
-    match area {
-        Area::New(_, owner) => Area::New(values, *owner),
-        Area::Old(_) => Area::Old(values),
+    match &area.kind {
+        AreaKind::New(_, owner) => new_area(values, *owner),
+        AreaKind::Old(_) => old_area(values),
     }
 }
 

@@ -1,4 +1,4 @@
-ghost use Rattle.std.specs.Prelude.{◌≡◌, ◌≤◌, ◌<◌, length, map, replicate, List, ℕ, IfOk, [], if◌then◌else◌, ◌||◌, nat_le};
+ghost use Rattle.std.specs.Prelude.{◌≡◌, false, ◌≤◌, ◌<◌, length, map, replicate, List, ℕ, IfOk, [], if◌then◌else◌, ◌||◌, nat_le};
 ghost use Rattle.dms_desc.specs.Shape.{described};
 ghost use Rattle.dms_model.specs.Session.{place_of, someone_works, workers, idle, backed_out, no_work, new_program, one_more};
 ghost use Rattle.dms_storeverbs.specs.Keeping.{Awaits};
@@ -19,6 +19,41 @@ pub fn place_of(programs: &[Program], name: &Name) -> usize
         }
     }
     programs.len()
+}
+
+/// Whether a program is in transaction state.
+pub fn works(program: &Program) -> bool
+    ensures { result ≡ program.now.in_transaction }
+{
+    program.in_transaction
+}
+
+/// A program's name.
+pub fn program_name(program: &Program) -> Name
+    ensures { result ≡ program.now.name }
+{
+    program.name
+}
+
+/// For what a program opened the database.
+pub fn mode(program: &Program) -> Mode
+    ensures { result ≡ program.now.mode }
+{
+    program.mode
+}
+
+/// Whether a program's next verb is answered ABORT.
+pub fn owes_abort(program: &Program) -> bool
+    ensures { result ≡ program.now.owes_abort }
+{
+    program.owes_abort
+}
+
+/// A program's due ABORT was answered.
+pub fn pay_abort(program: &mut Program)
+    ensures { program.new ≡ record program.old { owes_abort = false } }
+{
+    program.owes_abort = false;
 }
 
 /// Whether a program is in transaction state.
@@ -70,12 +105,19 @@ pub fn is_due(pending: bool, sync: bool, syncpoint: u16, since: u64) -> bool
     pending || sync || u64::from(syncpoint) <= since
 }
 
+/// No verb of the program was carried out since the quiet point that was made now.
+fn make_idle(program: &mut Program)
+    ensures { program.new ≡ idle program.old }
+{
+    program.active = false;
+}
+
 /// No verb was carried out since the quiet point that was made now.
 pub fn clear_active(programs: &mut [Program])
     ensures { programs.new ≡ map idle programs.old }
 {
     for program in programs.iter_mut() {
-        program.active = false;
+        make_idle(program);
     }
 }
 

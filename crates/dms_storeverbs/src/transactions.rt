@@ -2,7 +2,7 @@ ghost use Rattle.std.specs.Prelude.{◌≡◌, ◌≤◌, ◌<◌, ◌+◌, ◌^
 ghost use Rattle.dms_desc.specs.Lookups.{structure_of};
 ghost use Rattle.dms_desc.specs.Shape.{described};
 ghost use Rattle.dms_laws.specs.Exclusive.{IsExclusive};
-ghost use Rattle.dms_model.specs.declared.program.Program.{Program};
+ghost use Rattle.dms_model.specs.Programs.{Program};
 ghost use Rattle.dms_model.specs.Seen.{IsMute, IsSilent, Spends, StaysDurable};
 ghost use Rattle.dms_model.specs.Session.{Session, keep, restart_of, settle, store_step, begin_step, end_step, abort_step, is_waits};
 ghost use Rattle.dms_model.specs.Spoken.{IsOuter};
@@ -127,13 +127,16 @@ impl<St: Store> Engine<St> {
         ensures mute_fault { IsErrOf result BlockFault.Say → ⊥ }
         ensures lasts { EngineLasts result self.old self.new }
     {
-        if !self.programs[i].in_transaction {
-            return Ok(refused(Category::AuditError, self.programs[i].name));
+        if !programs::works(&self.programs[i]) {
+            return Ok(refused(
+                Category::AuditError,
+                programs::program_name(&self.programs[i]),
+            ));
         }
         if let Some(refusal) = self.keep(alloc, i, set)? {
             return Ok(refused(refusal.category, refusal.name));
         }
-        self.programs[i].active = true;
+        areas::carry(&mut self.programs[i]);
         Ok(done(alloc))
     }
 
@@ -154,8 +157,11 @@ impl<St: Store> Engine<St> {
         ensures mute_fault { IsErrOf result BlockFault.Say → ⊥ }
         ensures lasts { EngineLasts result self.old self.new }
     {
-        if self.programs[i].in_transaction {
-            return Ok(refused(Category::AuditError, self.programs[i].name));
+        if programs::works(&self.programs[i]) {
+            return Ok(refused(
+                Category::AuditError,
+                programs::program_name(&self.programs[i]),
+            ));
         }
         let restart = restart_of(&self.desc);
         if areas::lacks(&self.programs[i], restart, audit) {
@@ -195,8 +201,11 @@ impl<St: Store> Engine<St> {
         ensures mute_fault { IsErrOf result BlockFault.Say → ⊥ }
         ensures lasts { EngineLasts result self.old self.new }
     {
-        if !self.programs[i].in_transaction {
-            return Ok(refused(Category::AuditError, self.programs[i].name));
+        if !programs::works(&self.programs[i]) {
+            return Ok(refused(
+                Category::AuditError,
+                programs::program_name(&self.programs[i]),
+            ));
         }
         if let Some(refusal) = self.keep_restart(alloc, i, audit)? {
             return Ok(refused(refusal.category, refusal.name));
@@ -218,8 +227,8 @@ impl<St: Store> Engine<St> {
         ensures mute_fault { IsErrOf result BlockFault.Say → ⊥ }
         ensures lasts { EngineLasts result self.old self.new }
     {
-        let name = self.programs[i].name;
-        if !self.programs[i].in_transaction {
+        let name = programs::program_name(&self.programs[i]);
+        if !programs::works(&self.programs[i]) {
             return Ok(refused(Category::AuditError, name));
         }
         self.store.back_out(alloc)?;

@@ -1,6 +1,6 @@
 ghost use Rattle.std.specs.Prelude.{◌≡◌, ◌≤◌, ◌<◌, ◌+◌, ◌^◌, ℕ, List, Bool, true, false, Some, None, IfOk, IfSome, OnOk, IsErrOf, IsTrue, slice_get, length, if◌then◌else◌, []};
 ghost use Rattle.dms_desc.specs.Shape.{described};
-ghost use Rattle.dms_model.specs.declared.program.Program.{Program};
+ghost use Rattle.dms_model.specs.Programs.{Program};
 ghost use Rattle.dms_model.specs.Db.{Db};
 ghost use Rattle.dms_model.specs.BackOut.{asks_back_out};
 ghost use Rattle.dms_model.specs.Fitting.{IsStructure, SpotFits};
@@ -122,7 +122,10 @@ impl<St: Store> Engine<St> {
     {
         match verb {
             Verb::OpenUpdate | Verb::OpenInquiry => {
-                Ok(refused(Category::OpenError, self.programs[i].name))
+                Ok(refused(
+                    Category::OpenError,
+                    programs::program_name(&self.programs[i]),
+                ))
             }
             Verb::Close => Ok(apart::close(alloc, &mut self.programs, i)?),
             Verb::Find(path) => self.find(alloc, i, path),

@@ -6,9 +6,9 @@ use Rattle.dasdl_phrases.specs.declared.fault.ParseFault.TheVariants.{TooMany}
 use Rattle.dasdl_parse.specs.Grammar.{schema_of}
 use Rattle.dms_desc.specs.Shape.{Described}
 use Rattle.dms_feed.specs.Feeds.{Remains}
-use Rattle.dms_top.specs.declared.status.Status.TheVariants.{SchemaRefused}
-use Rattle.dms_top.specs.declared.status.SchemaFault.{SchemaFault}
-use Rattle.dms_top.specs.declared.status.SchemaFault.TheVariants.{Parse}
+use Rattle.dms_status.specs.declared.status.Status.TheVariants.{SchemaRefused}
+use Rattle.dms_status.specs.declared.status.SchemaFault.{SchemaFault}
+use Rattle.dms_status.specs.declared.status.SchemaFault.TheVariants.{Parse}
 use Rattle.dms_top.specs.Judging.{judged}
 
 same_fault : (e f : SchemaFault) → SchemaRefused e ≡ SchemaRefused f → e ≡ f

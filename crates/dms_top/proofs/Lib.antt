@@ -10,3 +10,4 @@ pub mod Stands
 pub mod Taken
 pub mod Words
 pub mod WholeInput
+mod Running

@@ -11,8 +11,8 @@ use Rattle.dms_plain.specs.Told.{told}
 use Rattle.dms_runner.specs.Answers.{answers_text, script_events}
 use Rattle.dms_runner.specs.Events.{RunEvent, SaidWhole, text_of}
 use Rattle.dms_runner.specs.Running.{AnswersWhole}
-use Rattle.dms_top.specs.declared.status.SchemaFault.{SchemaFault}
-use Rattle.dms_top.specs.declared.status.LimitKind.{LimitKind}
+use Rattle.dms_status.specs.declared.status.SchemaFault.{SchemaFault}
+use Rattle.dms_status.specs.declared.status.LimitKind.{LimitKind}
 use Rattle.dms_top.specs.Answering.{Printed, PrintedPrefix, PrintedWhole, WithinLimits, PassesLimit, judged_events, judged_text}
 
 -- a text that is told

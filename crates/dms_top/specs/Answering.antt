@@ -11,9 +11,9 @@ use Rattle.dms_model.specs.Db.{empty_db}
 use Rattle.dms_runner.specs.Answers.{script_run, script_events, answers_text}
 use Rattle.dms_runner.specs.Events.{RunEvent, text_of}
 use Rattle.dms_runner.specs.Running.{bytes_of, text_of_lines, PassesLines, PassesBytes, PassesWaiting}
-use Rattle.dms_top.specs.declared.status.SchemaFault.{SchemaFault}
-use Rattle.dms_top.specs.declared.status.LimitKind.{LimitKind}
-use Rattle.dms_top.specs.declared.status.LimitKind.TheVariants.{Lines, Bytes, Held}
+use Rattle.dms_status.specs.declared.status.SchemaFault.{SchemaFault}
+use Rattle.dms_status.specs.declared.status.LimitKind.{LimitKind}
+use Rattle.dms_status.specs.declared.status.LimitKind.TheVariants.{AuditFile, Lines, Bytes, Held}
 use Rattle.dms_top.specs.Judging.{judged}
 use Rattle.dms_top.specs.Schema.{schema_text, script_part}
 
@@ -63,8 +63,9 @@ lines_text d all = answers_text d empty_db 1 (raw_lines all)
 abbrev pub lines_events : Described → List ℕ → List RunEvent
 lines_events d all = script_events d empty_db 1 (raw_lines all)
 
--- a script that passes a limit: what the lines before that place answer was printed, where the text is told
+-- a script that passes a limit: what the lines before that place answer was printed, where the text is told. No script passes one of the audit.
 abbrev pub PassesLimit : LimitKind → Described → List (List ℕ) → Option (List ℕ) → Option (List ℕ) → Type 0
+PassesLimit (AuditFile f) d lines before after = ⊥
 PassesLimit Lines d lines before after = PassesLines d empty_db 1 lines before after
 PassesLimit Bytes d lines before after = PassesBytes d empty_db 1 lines before after
 PassesLimit Held d lines before after = PassesWaiting d empty_db 1 lines before after

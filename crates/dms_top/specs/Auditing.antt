@@ -9,10 +9,10 @@ use Rattle.dms_audfile.specs.declared.fault.AudFault.TheVariants as fault
 use Rattle.dms_audprint.specs.AuditText.{HasTrail}
 use Rattle.dms_audprint.specs.declared.fault.PrintFault.{PrintFault}
 use Rattle.dms_audprint.specs.declared.fault.PrintFault.TheVariants.{Audit, Say}
-use Rattle.dms_top.specs.declared.status.NeedFault.{NeedFault}
-use Rattle.dms_top.specs.declared.status.NeedFault.TheVariants.{NoDescription, AuditMissing, AuditUnsealed, AuditForeign}
-use Rattle.dms_top.specs.declared.status.Status.{Status}
-use Rattle.dms_top.specs.declared.status.Status.TheVariants.{Ok, BadWords, SchemaRefused, NoDatabase, Needed, InputFault, Memory, Limit, Damaged, SayFault, DiskFault, Exists}
+use Rattle.dms_status.specs.declared.status.NeedFault.{NeedFault}
+use Rattle.dms_status.specs.declared.status.NeedFault.TheVariants.{NoDescription, AuditMissing, AuditUnsealed, AuditForeign, NoSuchPoint, Voided, DumpPending}
+use Rattle.dms_status.specs.declared.status.Status.{Status}
+use Rattle.dms_status.specs.declared.status.Status.TheVariants.{Ok, BadWords, SchemaRefused, NoDatabase, Needed, InputFault, Memory, Limit, Damaged, SayFault, DiskFault, Exists}
 
 -- the need of an audit file
 abbrev pub IsOfAudit : NeedFault → Type 0
@@ -20,6 +20,9 @@ IsOfAudit NoDescription = ⊥
 IsOfAudit (AuditMissing k) = ⊤
 IsOfAudit (AuditUnsealed k) = ⊤
 IsOfAudit (AuditForeign k) = ⊤
+IsOfAudit (NoSuchPoint n) = ⊥
+IsOfAudit (Voided n) = ⊥
+IsOfAudit (DumpPending d) = ⊥
 
 -- the statuses of `print audit`
 abbrev pub IsOfPrinting : Status → Type 0
@@ -42,6 +45,9 @@ NeedsAudit files NoDescription = ⊤
 NeedsAudit files (AuditMissing k) = TrailIs files (missing k)
 NeedsAudit files (AuditUnsealed k) = TrailIs files (unsealed k)
 NeedsAudit files (AuditForeign k) = TrailIs files (foreign k)
+NeedsAudit files (NoSuchPoint n) = ⊥
+NeedsAudit files (Voided n) = ⊥
+NeedsAudit files (DumpPending d) = ⊥
 
 -- At status 0 these files hold a trail. A status that refuses it is its first refusal by scanning; the others say nothing of it.
 abbrev pub JudgesTrail : Files → Status → Type 0

@@ -5,8 +5,8 @@ use Rattle.dms_desc.specs.Shape.{Described}
 use Rattle.dms_descfile.specs.Becoming.{IsCreated}
 use Rattle.dms_descfile.specs.DescriptionFile.{sealed_file}
 use Rattle.dms_site.specs.Files.{Files, Left, Same}
-use Rattle.dms_top.specs.declared.status.Status.{Status}
-use Rattle.dms_top.specs.declared.status.Status.TheVariants.{Ok, BadWords, SchemaRefused, NoDatabase, Needed, InputFault, Memory, Limit, Damaged, SayFault, DiskFault, Exists}
+use Rattle.dms_status.specs.declared.status.Status.{Status}
+use Rattle.dms_status.specs.declared.status.Status.TheVariants.{Ok, BadWords, SchemaRefused, NoDatabase, Needed, InputFault, Memory, Limit, Damaged, SayFault, DiskFault, Exists}
 
 -- the line that says how many structures a description has
 unfoldable pub compiled_text : ℕ → List ℕ

@@ -1,9 +1,9 @@
 -- The command `initialize`.
 use Rattle.std.specs.Prelude.{ℕ, List, [], ◌∷◌, ◌++◌, codes, ⊤}
-use Rattle.dms_top.specs.declared.status.NeedFault.{NeedFault}
-use Rattle.dms_top.specs.declared.status.NeedFault.TheVariants.{NoDescription, AuditMissing, AuditUnsealed, AuditForeign}
-use Rattle.dms_top.specs.declared.status.Status.{Status}
-use Rattle.dms_top.specs.declared.status.Status.TheVariants.{Ok, BadWords, SchemaRefused, NoDatabase, Needed, InputFault, Memory, Limit, Damaged, SayFault, DiskFault, Exists}
+use Rattle.dms_status.specs.declared.status.NeedFault.{NeedFault}
+use Rattle.dms_status.specs.declared.status.NeedFault.TheVariants.{NoDescription, AuditMissing, AuditUnsealed, AuditForeign, NoSuchPoint, Voided, DumpPending}
+use Rattle.dms_status.specs.declared.status.Status.{Status}
+use Rattle.dms_status.specs.declared.status.Status.TheVariants.{Ok, BadWords, SchemaRefused, NoDatabase, Needed, InputFault, Memory, Limit, Damaged, SayFault, DiskFault, Exists}
 
 -- what `initialize` prints
 unfoldable pub initialized_text : List ℕ
@@ -14,6 +14,9 @@ IsNoDescription NoDescription = ⊤
 IsNoDescription (AuditMissing k) = ⊥
 IsNoDescription (AuditUnsealed k) = ⊥
 IsNoDescription (AuditForeign k) = ⊥
+IsNoDescription (NoSuchPoint n) = ⊥
+IsNoDescription (Voided n) = ⊥
+IsNoDescription (DumpPending d) = ⊥
 
 -- the statuses of `initialize`
 abbrev pub IsOfCreation : Status → Type 0

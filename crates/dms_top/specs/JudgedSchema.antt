@@ -3,7 +3,7 @@ use Rattle.std.specs.Prelude.{◌≡◌, ⊤}
 use Rattle.std.specs.declared.result.Result.{Result}
 use Rattle.std.specs.declared.result.Result.TheVariants.{Ok, Err}
 use Rattle.dms_desc.specs.Shape.{Described, described}
-use Rattle.dms_top.specs.declared.status.SchemaFault.{SchemaFault}
+use Rattle.dms_status.specs.declared.status.SchemaFault.{SchemaFault}
 use Rattle.dms_top.specs.declared.judge.JudgedSchema.{JudgedSchema}
 use Rattle.dms_top.specs.declared.judge.JudgedSchema.TheVariants.{Description, Refused, Memory}
 

@@ -8,8 +8,8 @@ use Rattle.dasdl_parse.specs.Grammar.{schema_of}
 use Rattle.dasdl_compile.specs.declared.fault.CompileFault.{CompileFault}
 use Rattle.dasdl_compile.specs.Compile.{compiled}
 use Rattle.dms_desc.specs.Shape.{Described}
-use Rattle.dms_top.specs.declared.status.SchemaFault.{SchemaFault}
-use Rattle.dms_top.specs.declared.status.SchemaFault.TheVariants.{Parse, Compile}
+use Rattle.dms_status.specs.declared.status.SchemaFault.{SchemaFault}
+use Rattle.dms_status.specs.declared.status.SchemaFault.TheVariants.{Parse, Compile}
 
 abbrev pub compiled_as : Result Described CompileFault → Result Described SchemaFault
 compiled_as (Ok d) = Ok d

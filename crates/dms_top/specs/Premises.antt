@@ -9,10 +9,10 @@ use Rattle.dms_desc.specs.Shape.{Described}
 use Rattle.dms_descfile.specs.DescriptionFile.{IsSealed}
 use Rattle.dms_feed.specs.Feeds.{Remains}
 use Rattle.dms_site.specs.Files.{Files}
-use Rattle.dms_top.specs.declared.status.SchemaFault.{SchemaFault}
+use Rattle.dms_status.specs.declared.status.SchemaFault.{SchemaFault}
 use Rattle.dms_top.specs.Judging.{judged}
 use Rattle.dms_top.specs.Schema.{schema_text}
-use Rattle.dms_top.specs.Words.{IsTry, IsCompile, IsPrintAudit, initialize_tag}
+use Rattle.dms_top.specs.Words.{IsTry, IsCompile, IsPrintAudit, IsRun, initialize_tag}
 
 -- it holds where the words are those of `try`
 abbrev pub OnTry : List (String Global) → Type 0 → Type 0
@@ -26,13 +26,21 @@ OnCompile words P = IsCompile (map string_bytes words) → P
 abbrev pub OnPrintAudit : List (String Global) → Type 0 → Type 0
 OnPrintAudit words P = IsPrintAudit (map string_bytes words) → P
 
+-- it holds where the words are those of `run`
+abbrev pub OnRun : List (String Global) → Type 0 → Type 0
+OnRun words P = IsRun (map string_bytes words) → P
+
+-- it holds where the words are not those of `run`
+abbrev pub OnOthers : List (String Global) → Type 0 → Type 0
+OnOthers words P = (IsRun (map string_bytes words) → ⊥) → P
+
 -- it holds of the tag that the words say, where they are those of `initialize`
 abbrev pub OnInitialize : List (String Global) → (ℕ → Type 0) → Type 0
 OnInitialize words P = (tag : ℕ) → initialize_tag (map string_bytes words) ≡ Some tag → P tag
 
 -- it holds where the words are those of a command that reads its input
 abbrev pub OnReading : List (String Global) → Type 0 → Type 0
-OnReading words P = (IsTry (map string_bytes words) ⊎ IsCompile (map string_bytes words)) → P
+OnReading words P = (IsTry (map string_bytes words) ⊎ (IsCompile (map string_bytes words) ⊎ IsRun (map string_bytes words))) → P
 
 -- it holds of all the bytes of the input, where the input tells them
 abbrev pub OfInput : Option (List ℕ) → (List ℕ → Type 0) → Type 0

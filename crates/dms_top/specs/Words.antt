@@ -1,8 +1,10 @@
 -- The words of the command line, and how far a command came.
 use Rattle.std.specs.Prelude.{◌≡◌, ◌⊎◌, ℕ, ◌+◌, ◌-◌, ◌*◌, ◌^◌, Bool, true, ◌&&◌, nat_le, nat_lt, if◌then◌else◌, List, [], ◌∷◌, Option, Some, None, IsSome, codes, ⊤}
 use Rattle.std.specs.Str.{bytes_eq}
-use Rattle.dms_top.specs.declared.status.Status.{Status}
-use Rattle.dms_top.specs.declared.status.Status.TheVariants.{Ok, BadWords, SchemaRefused, NoDatabase, Needed, InputFault, Memory, Limit, Damaged, SayFault, DiskFault, Exists}
+use Rattle.dms_status.specs.declared.status.LimitKind.{LimitKind}
+use Rattle.dms_status.specs.declared.status.LimitKind.TheVariants.{AuditFile, Lines, Bytes, Held}
+use Rattle.dms_status.specs.declared.status.Status.{Status}
+use Rattle.dms_status.specs.declared.status.Status.TheVariants.{Ok, BadWords, SchemaRefused, NoDatabase, Needed, InputFault, Memory, Limit, Damaged, SayFault, DiskFault, Exists}
 
 -- the word `try`
 abbrev pub IsTry : List (List ℕ) → Type 0
@@ -15,6 +17,10 @@ IsCompile words = words ≡ codes "compile" ∷ []
 -- the words `print audit`
 abbrev pub IsPrintAudit : List (List ℕ) → Type 0
 IsPrintAudit words = words ≡ codes "print" ∷ codes "audit" ∷ []
+
+-- the word `run`
+abbrev pub IsRun : List (List ℕ) → Type 0
+IsRun words = words ≡ codes "run" ∷ []
 
 -- plain digits alone
 abbrev pub are_digits : List ℕ → Bool
@@ -48,7 +54,7 @@ IsInitialize words = IsSome (initialize_tag words)
 
 -- the forms that are built
 abbrev pub IsCommand : List (List ℕ) → Type 0
-IsCommand words = IsTry words ⊎ (IsCompile words ⊎ (IsPrintAudit words ⊎ IsInitialize words))
+IsCommand words = IsTry words ⊎ (IsCompile words ⊎ (IsPrintAudit words ⊎ (IsRun words ⊎ IsInitialize words)))
 
 -- the statuses that come only where the schema was taken
 abbrev pub IsPast : Status → Type 0
@@ -95,6 +101,13 @@ IsUntouched SayFault = ⊥
 IsUntouched DiskFault = ⊥
 IsUntouched Exists = ⊥
 
+-- a limit of the script
+abbrev pub IsOfLines : LimitKind → Type 0
+IsOfLines (AuditFile f) = ⊥
+IsOfLines Lines = ⊤
+IsOfLines Bytes = ⊤
+IsOfLines Held = ⊤
+
 -- the statuses of `try`
 abbrev pub IsOfTry : Status → Type 0
 IsOfTry Ok = ⊤
@@ -105,7 +118,7 @@ IsOfTry (Needed n) = ⊥
 IsOfTry (Damaged f b) = ⊥
 IsOfTry InputFault = ⊤
 IsOfTry Memory = ⊤
-IsOfTry (Limit l) = ⊤
+IsOfTry (Limit l) = IsOfLines l
 IsOfTry SayFault = ⊤
 IsOfTry DiskFault = ⊥
 IsOfTry Exists = ⊥

@@ -5,8 +5,8 @@ ghost use Rattle.dms_descfile.specs.DescriptionFile.{sealed_file, IsSealed, IsUn
 ghost use Rattle.dms_descfile.specs.Becoming.{Creates};
 ghost use Rattle.dms_moments.specs.Moments.{Steps};
 ghost use Rattle.dms_site.specs.Files.{Same, Only};
-ghost use Rattle.dms_top.specs.declared.status.LimitKind.{LimitKind as Kind};
-ghost use Rattle.dms_top.specs.declared.status.SchemaFault.{SchemaFault as Refusal};
+ghost use Rattle.dms_status.specs.declared.status.LimitKind.{LimitKind as Kind};
+ghost use Rattle.dms_status.specs.declared.status.SchemaFault.{SchemaFault as Refusal};
 ghost use Rattle.dms_top.specs.Compiling.{compiled_text, SaysLine, IsSpoken, IsBefore, IsOfFile, CreatesSome, SaysSealed, FilesAndTextStay};
 ghost use Rattle.dms_top.specs.Judging.{judged};
 ghost use Rattle.dms_top.specs.Premises.{OfInput, OfSchema, OfSealed, OfNoSchema};
@@ -15,7 +15,7 @@ ghost use Rattle.dms_top.specs.Words.{IsOfCompile, IsPast, IsUntouched};
 
 use crate::judge::{JudgedSchema, judge};
 use crate::schema::TextFault;
-use crate::status::{SchemaFault, Status};
+use dms_status::{SchemaFault, Status};
 use crate::whole::whole_text;
 use dasdl_phrases::ParseFault;
 use dms_base::{Bytes, Memory};

@@ -11,7 +11,7 @@ ghost use Rattle.dms_top.specs.Premises.{OfSealed};
 ghost use Rattle.dms_top.specs.Initializing.{initialized_text, IsOfCreation};
 ghost use Rattle.dms_audfile.specs.Counting.{CountedAt};
 
-use crate::status::{NeedFault, Status};
+use dms_status::{NeedFault, Status};
 use dms_creation::{CreationFault, initialize};
 use dms_site::Site;
 use std::alloc::Global;

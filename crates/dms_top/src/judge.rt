@@ -3,7 +3,7 @@ ghost use Rattle.dasdl_compile.specs.Compile.{compiled};
 ghost use Rattle.dms_top.specs.Judging.{compiled_as, judged};
 ghost use Rattle.dms_top.specs.JudgedSchema.{AnswersJudging};
 
-use crate::status::SchemaFault;
+use dms_status::SchemaFault;
 use dasdl_compile::{CompileFault, compile};
 use dasdl_parse::{Schema, parse};
 use dasdl_phrases::ParseFault;

@@ -7,7 +7,6 @@ mod initialize_run;
 mod judge;
 pub mod laws;
 mod schema;
-mod status;
 mod tags;
 #[cfg(test)]
 mod tests;
@@ -16,6 +15,6 @@ mod try_run;
 mod whole;
 
 pub use audit_run::is_print_audit;
-pub use status::{LimitKind, NeedFault, SchemaFault, Status};
+pub use dms_status::{LimitKind, NeedFault, SchemaFault, Status};
 pub use tags::initialize_tag;
-pub use top::dms;
+pub use top::{dms, is_run};

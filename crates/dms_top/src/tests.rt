@@ -1,6 +1,6 @@
 use crate::compile_run::compile_input;
 use crate::initialize_run::initialize_database;
-use crate::status::Status;
+use dms_status::Status;
 use dms_sitemem::{MemSite, MemSource};
 use std::alloc::Global;
 use std::test::Fail;

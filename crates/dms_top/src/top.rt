@@ -1,4 +1,4 @@
-ghost use Rattle.std.specs.Prelude.{◌≡◌, ◌≤◌, ◌≢◌, ◌↔◌, [], ℕ, List, Some, Ok, Err, map, length, string_bytes, slice_index, IsTrue, IsOk};
+ghost use Rattle.std.specs.Prelude.{◌≡◌, ◌≤◌, ◌≢◌, ◌↔◌, [], ℕ, List, Some, Ok, Err, Option, map, length, string_bytes, slice_index, IsTrue, IsOk};
 ghost use Rattle.dms_desc.specs.Shape.{Described};
 ghost use Rattle.dms_descfile.specs.Becoming.{Creates};
 ghost use Rattle.dms_descfile.specs.DescriptionFile.{sealed_file, IsSealed, IsUnsealed};
@@ -12,15 +12,17 @@ ghost use Rattle.dms_top.specs.Taking.{CutText};
 ghost use Rattle.dms_plain.specs.Speaking.{OnlySpeaks};
 ghost use Rattle.dms_plain.specs.Told.{told};
 ghost use Rattle.dms_top.specs.Compiling.{compiled_text, SaysLine, IsSpoken, IsBefore, CreatesSome, SaysSealed, FilesAndTextStay};
-ghost use Rattle.dms_top.specs.declared.status.SchemaFault.{SchemaFault as Refusal};
+ghost use Rattle.dms_status.specs.declared.status.SchemaFault.{SchemaFault as Refusal};
 ghost use Rattle.dms_top.specs.Judging.{judged};
 ghost use Rattle.dms_top.specs.Schema.{schema_text as text_of};
 ghost use Rattle.dms_top.specs.State.{StandsNew, BecomesNew};
 ghost use Rattle.dms_top.specs.Answering.{Printed, PrintedPrefix, PrintedWhole, WithinLimits, PassesLimit, CutTry, try_events, try_text, script_of};
-ghost use Rattle.dms_top.specs.declared.status.LimitKind.{LimitKind as Kind};
-ghost use Rattle.dms_top.specs.Premises.{OnTry, OnCompile, OnInitialize, OnPrintAudit, OnReading, OfInput, OfSchema, OfSealed, OfNoSchema, OfScript, OfNoScript};
+ghost use Rattle.dms_status.specs.declared.status.LimitKind.{LimitKind as Kind};
+ghost use Rattle.dms_top.specs.Premises.{OnTry, OnCompile, OnInitialize, OnPrintAudit, OnOthers, OnReading, OnRun, OfInput, OfSchema, OfSealed, OfNoSchema, OfScript, OfNoScript};
 ghost use Rattle.dms_audfile.specs.Counting.{CountedAt};
-ghost use Rattle.dms_top.specs.Words.{IsTry, IsCompile, IsPrintAudit, IsCommand, IsOfTry, IsOfCompile, IsPast, ComesUnsaid, IsUntouched};
+ghost use Rattle.dms_runtop.specs.Command.{DatabaseState, HoldsTold, RefusesRun, RunsCommand};
+ghost use Rattle.dms_runtop.specs.Statuses.{IsOfRun, IsRefusal};
+ghost use Rattle.dms_top.specs.Words.{IsTry, IsCompile, IsPrintAudit, IsRun, IsCommand, IsOfTry, IsOfCompile, IsPast, ComesUnsaid, IsUntouched};
 
 use crate::audit_run::{is_print_audit, print_trail};
 use crate::compile_run::compile_input;
@@ -28,11 +30,12 @@ use crate::initialize_run::initialize_database;
 use crate::judge::{JudgedSchema, judge};
 use crate::laws::what_is_made_stands;
 use crate::schema::{TextFault, schema_text};
-use crate::status::{NeedFault, SchemaFault, Status};
+use dms_status::{NeedFault, SchemaFault, Status};
 use crate::tags::initialize_tag;
 use crate::try_run::try_lines;
 use dasdl_phrases::ParseFault;
 use dms_feed::Feed;
+use dms_runtop::run_command;
 use dms_site::{Site, Source};
 use std::alloc::Global;
 
@@ -46,6 +49,13 @@ fn is_compile(words: &[String]) -> bool
     ensures { IsTrue result ↔ IsCompile (map string_bytes words.now) }
 {
     words.len() == 1 && words[0].as_str() == "compile"
+}
+
+/// Whether the words are `run`.
+pub fn is_run(words: &[String]) -> bool
+    ensures { IsTrue result ↔ IsRun (map string_bytes words.now) }
+{
+    words.len() == 1 && words[0].as_str() == "run"
 }
 
 /// `try`: reads the text of a schema, a line SCRIPT and the lines of a script, and prints what the lines answer over a
@@ -92,13 +102,16 @@ fn try_input<S: Site, I: Source>(alloc: Global, site: &mut S, input: &mut I) -> 
 }
 
 /// Does what the words say: `try` runs a script over a database in memory, `compile` makes the description file, `initialize`
-/// the empty database of that description, and `print audit` prints the entries of its audit.
+/// the empty database of that description, `run` runs a script over that database, and `print audit` prints the entries of its audit.
 pub fn dms<S: Site, I: Source>(
     alloc: Global,
     words: &[String],
     site: &mut S,
     input: &mut I,
 ) -> Status
+    ghost state: { Option DatabaseState }
+    // a caller may tell the state that the files stand for, and needn't
+    requires told { IsTrue S.tells → HoldsTold state (S.files site.old) }
     // ---- every command
     // status 1 comes exactly where the words are no command
     ensures words { result ≡ Status.BadWords ↔ (IsCommand (map string_bytes words.now) → ⊥) }
@@ -110,8 +123,8 @@ pub fn dms<S: Site, I: Source>(
     ensures disk { CountedAt (result ≡ Status.DiskFault) (S.disk_faults site.old) (S.disk_faults site.new) }
     // status 10 comes where printing failed, once, and else that count stays
     ensures say { CountedAt (result ≡ Status.SayFault) (S.say_faults site.old) (S.say_faults site.new) }
-    // at the statuses that come before a file is changed the files are as they were
-    ensures before { IsBefore result → IsTrue S.tells → S.files site.new ≡ S.files site.old }
+    // at the statuses that come before a file is changed the files are as they were; `run` says below what it does
+    ensures before { OnOthers words.now (IsBefore result → IsTrue S.tells → S.files site.new ≡ S.files site.old) }
     // the site is the one that was lent
     ensures same_site { S.same_site site.old site.new }
     // the input is the one that was lent
@@ -235,6 +248,14 @@ pub fn dms<S: Site, I: Source>(
     ensures audit_files { OnPrintAudit words.now (IsTrue S.tells → S.files site.new ≡ S.files site.old) }
     // a stop at each moment leaves what a stop at entry could leave, with more text or none
     ensures audit_only_speaks { OnPrintAudit words.now (OnlySpeaks (S.clock site.old) (S.clock site.new)) }
+    // ---- `run`
+    // only the statuses 0, 3, 4 of an opening, 5, 6, 7, 8, 9 and 10 come
+    ensures run_statuses { OnRun words.now (IsOfRun result) }
+    // the statuses 3 and 4 are the first refusal of the files: no file has changed, and a stop leaves what it could leave before
+    ensures run_refused { OnRun words.now (IsRefusal result → RefusesRun S.Site site.old site.new result) }
+    // of the state that is told: at every moment a stop leaves the database of one quiet point, at status 0 the last one's, and exactly the answers or a
+    // prefix of them were printed
+    ensures run { OnRun words.now (RunsCommand S.Site state site.old site.new (I.left input.old) (I.left input.new) result) }
 {
     if is_try(words) {
         return try_input(alloc, site, input);
@@ -244,6 +265,9 @@ pub fn dms<S: Site, I: Source>(
     }
     if is_print_audit(words) {
         return print_trail(alloc, site);
+    }
+    if is_run(words) {
+        return run_command(alloc, site, input);
     }
     match initialize_tag(words) {
         Some(tag) => {

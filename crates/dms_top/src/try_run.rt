@@ -9,13 +9,13 @@ ghost use Rattle.dms_plain.specs.Told.{told};
 ghost use Rattle.dms_runner.specs.Blaming.{CutRun};
 ghost use Rattle.dms_runner.specs.Running.{CutInput};
 ghost use Rattle.dms_top.specs.Answering.{Printed, PrintedPrefix, PrintedWhole, WithinLimits, PassesLimit, lines_text, lines_events};
-ghost use Rattle.dms_top.specs.declared.status.LimitKind.{LimitKind as Kind};
+ghost use Rattle.dms_status.specs.declared.status.LimitKind.{LimitKind as Kind};
 ghost use Rattle.dms_top.specs.Premises.{OfRest};
 ghost use Rattle.dms_audfile.specs.Counting.{CountedAt};
 ghost use Rattle.dms_top.specs.Words.{IsOfTry, ComesUnsaid};
-ghost use Rattle.dms_top.specs.declared.status.SchemaFault.{SchemaFault as Refusal};
+ghost use Rattle.dms_status.specs.declared.status.SchemaFault.{SchemaFault as Refusal};
 
-use crate::status::{LimitKind, Status};
+use dms_status::{LimitKind, Status};
 use dms_block::BlockFault;
 use dms_desc::Description;
 use dms_feed::Feed;

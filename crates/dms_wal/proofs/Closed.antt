@@ -7,7 +7,7 @@ use Rattle.dms_block.specs.declared.block_fault.BlockFault.TheVariants as fault
 use Rattle.dms_block.specs.Content.{Content}
 use Rattle.dms_block.specs.Counts.{Faults}
 use Rattle.dms_block.specs.Held.{BlockStop, Held, Caused, MakesNoPoint, Stays}
-use Rattle.dms_block.specs.HeldLaws.{passes_none, passes_on}
+use Rattle.dms_block.specs.HeldLaws.{passes_on}
 use Rattle.dms_history.specs.Events.{block_in}
 use Rattle.dms_history.specs.EntryEvents.{history_of}
 use Rattle.dms_history.specs.Entries.{Entry}
@@ -16,11 +16,10 @@ use Rattle.dms_audfile.specs.Counting.{CountedAt, not_counted}
 use Rattle.dms_audfile.specs.Gates.{is_full}
 use Rattle.dms_running.specs.Telling.{Telling}
 use Rattle.dms_running.specs.Points.{points_of, next_in}
-use Rattle.dms_restore.specs.Logging as logs
 use Rattle.dms_restore.specs.Logging.{LogView, telling, content, entries, Ends}
 use Rattle.dms_restore.specs.BackOuts.{WentBackTo}
 use Rattle.dms_wal.specs.BackOuts.{entries_back}
-use Rattle.dms_wal.specs.Closing.{entries_closing, entries_control, FilesStand, IsClosed, IsFullTrail, LeavesUntil}
+use Rattle.dms_wal.specs.Closing.{entries_control, FilesStand, IsClosed, IsFullTrail, LeavesUntil}
 use Rattle.dms_wal.specs.Lifting.{lifted}
 use Rattle.dms_wal.specs.Marks.{IsAtMark, mark_of}
 use Rattle.dms_wal.proofs.Marked.{true_not_false}

@@ -10,7 +10,7 @@ use Rattle.dms_history.specs.Entries.{Entry, image}
 use Rattle.dms_history.proofs.Order.{append_none}
 use Rattle.dms_audfile.specs.declared.audit_end.AuditEnd.{AuditEnd}
 use Rattle.dms_restore.specs.Logging.{LogView, view, content, entries}
-use Rattle.dms_wal.specs.Changing.{IsImageOf, AreImagesOf, LogsChanges}
+use Rattle.dms_wal.specs.Changing.{AreImagesOf, LogsChanges}
 
 pub logs_none : (a : LogView) → LogsChanges a a []
 logs_none a = record { images = []; are = tt; entries_are = sym (append_none (entries a)) }

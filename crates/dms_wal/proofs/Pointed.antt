@@ -14,7 +14,7 @@ use Rattle.dms_restore.specs.Logging as logs
 use Rattle.dms_restore.specs.Logging.{LogView, view, telling, state, points, durable, here, content, LogRuns, PrintsNothing, LogsQuiet, LogsNothing}
 use Rattle.dms_restore.proofs.Logs as lemmas
 use Rattle.dms_restore.proofs.Logs.{Reads}
-use Rattle.dms_wal.specs.Lifting.{block_point, point_under, stop_of, lifted, last_blocks, held_of}
+use Rattle.dms_wal.specs.Lifting.{block_point, stop_of, lifted, last_blocks, held_of}
 use Rattle.dms_wal.specs.Marks.{StandsUnder}
 use Rattle.dms_wal.specs.AgreeLaws.{TellsText, front_lifted}
 use Rattle.dms_wal.proofs.Lifts.{leaves_lifted, last_here}

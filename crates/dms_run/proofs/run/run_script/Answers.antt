@@ -1,3 +1,4 @@
+use Rattle.dms_run.proofs.Ending.{closes_run, keeps_limits}
 use Rattle.dms_run.proofs.Running.{moments_of, reaches, says_all}
 use Rattle.dms_run.proofs.run.run_script.Goals as goal
 
@@ -16,3 +17,12 @@ returns-clause-prints g c = says_all c.args.engine.now c.run_lines.new.engine c.
 
 pub returns-clause-whole_answers : goal.returns-clause-whole_answers
 returns-clause-whole_answers g c = λ uncut db first all stands room remains. (c.run_lines.ensures.part db first all stands room remains).said_whole uncut
+
+pub returns-clause-closes : goal.returns-clause-closes
+returns-clause-closes g c = closes_run c.args.engine.now c.run_lines.new.engine c.args.feed.now (g.I.Source.left c.args.source.now) c.run_lines.result c.run_lines.ensures.ran
+
+pub returns-clause-within : goal.returns-clause-within
+returns-clause-within g c = keeps_limits c.args.engine.now c.run_lines.new.engine c.args.feed.now (g.I.Source.left c.args.source.now) c.run_lines.result c.run_lines.ensures.answers
+
+pub returns-clause-undamaged : goal.returns-clause-undamaged
+returns-clause-undamaged g c = λ db first all stands room remains. (c.run_lines.ensures.part db first all stands room remains).undamaged

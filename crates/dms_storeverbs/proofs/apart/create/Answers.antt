@@ -2,8 +2,7 @@ use Rattle.std.proofs.Common.{◌≡◌, ◌∙◌, List, Some, None, refl, arit
 use Rattle.std.specs.Prelude.{slice_set}
 use Rattle.std.proofs.lemmas.Grind.{common_steps}
 use Rattle.std.proofs.lemmas.Option.{gets}
-use Rattle.dms_model.specs.declared.program.Program.{Program}
-use Rattle.dms_model.specs.declared.program.Area.TheVariants.{New}
+use Rattle.dms_model.specs.Programs.{Program, New}
 use Rattle.dms_model.specs.Session.{carried, create_step, created, let_go, owner_for, with_work}
 use Rattle.dms_desc.specs.declared.structure.Item.{Item}
 use Rattle.dms_desc.specs.Shape.{described}

@@ -1,5 +1,5 @@
 use Rattle.std.proofs.Common.{◌≡◌, ◌∙◌, sym, subst}
-use Rattle.dms_top.specs.declared.status.Status.{Status}
+use Rattle.dms_status.specs.declared.status.Status.{Status}
 use Rattle.dms_top.specs.Auditing.{IsOfPrinting, JudgesTrail}
 use Rattle.dms_top.specs.Words.{ComesUnsaid}
 use Rattle.dms_top.proofs.Auditing.{of_printing, printed, silent, refused, is_disk, of_disk, is_say, of_say, counted_as, only_some}

@@ -1,7 +1,8 @@
 use Rattle.std.proofs.Common.{subst, ℕ}
 use Rattle.dms_creation.specs.Creation.{IsMade, Initializes}
-use Rattle.dms_top.proofs.Digits.{tag_try, tag_compile, tag_print, same_tag}
+use Rattle.dms_top.proofs.Digits.{tag_try, tag_compile, tag_print, tag_run, same_tag}
 use Rattle.dms_top.proofs.Stands.{becomes_new}
+use Rattle.dms_top.proofs.Running.{never_untouched}
 use Rattle.dms_top.proofs.Words.{not_both}
 use Rattle.dms_top.proofs.top.dms.Goals as goal
 
@@ -157,3 +158,48 @@ returns-in-Some-clause-initialize_stands_at_every_moment g c tag is tells d seal
 
 pub returns-in-None-clause-initialize_stands : goal.returns-in-None-clause-initialize_stands
 returns-in-None-clause-initialize_stands g c tag is spoken = absurd spoken
+
+pub returns-then-is_run-clause-initialize_untaken : goal.returns-then-is_run-clause-initialize_untaken
+returns-then-is_run-clause-initialize_untaken g c = λ tag is. absurd (tag_run _ tag (c.is_run.ensures.0 c.if-is_run.true) is)
+
+pub returns-then-is_run-clause-initialize_statuses : goal.returns-then-is_run-clause-initialize_statuses
+returns-then-is_run-clause-initialize_statuses g c = λ tag is. absurd (tag_run _ tag (c.is_run.ensures.0 c.if-is_run.true) is)
+
+pub returns-then-is_run-clause-initialize_at_every_moment : goal.returns-then-is_run-clause-initialize_at_every_moment
+returns-then-is_run-clause-initialize_at_every_moment g c = λ tag is. absurd (tag_run _ tag (c.is_run.ensures.0 c.if-is_run.true) is)
+
+pub returns-then-is_run-clause-initialize_at_ok : goal.returns-then-is_run-clause-initialize_at_ok
+returns-then-is_run-clause-initialize_at_ok g c = λ tag is. absurd (tag_run _ tag (c.is_run.ensures.0 c.if-is_run.true) is)
+
+pub returns-then-is_run-clause-initialize_stable : goal.returns-then-is_run-clause-initialize_stable
+returns-then-is_run-clause-initialize_stable g c = λ tag is. absurd (tag_run _ tag (c.is_run.ensures.0 c.if-is_run.true) is)
+
+pub returns-then-is_run-clause-initialize_says : goal.returns-then-is_run-clause-initialize_says
+returns-then-is_run-clause-initialize_says g c = λ tag is. absurd (tag_run _ tag (c.is_run.ensures.0 c.if-is_run.true) is)
+
+pub returns-then-is_run-clause-initialize_described : goal.returns-then-is_run-clause-initialize_described
+returns-then-is_run-clause-initialize_described g c = λ tag is. absurd (tag_run _ tag (c.is_run.ensures.0 c.if-is_run.true) is)
+
+pub returns-then-is_run-clause-initialize_exists : goal.returns-then-is_run-clause-initialize_exists
+returns-then-is_run-clause-initialize_exists g c = λ tag is. absurd (tag_run _ tag (c.is_run.ensures.0 c.if-is_run.true) is)
+
+pub returns-then-is_run-clause-initialize_exists_described : goal.returns-then-is_run-clause-initialize_exists_described
+returns-then-is_run-clause-initialize_exists_described g c = λ tag is. absurd (tag_run _ tag (c.is_run.ensures.0 c.if-is_run.true) is)
+
+pub returns-then-is_run-clause-initialize_shut : goal.returns-then-is_run-clause-initialize_shut
+returns-then-is_run-clause-initialize_shut g c = λ tag is. absurd (tag_run _ tag (c.is_run.ensures.0 c.if-is_run.true) is)
+
+pub returns-then-is_run-clause-initialize_stays : goal.returns-then-is_run-clause-initialize_stays
+returns-then-is_run-clause-initialize_stays g c = λ tag is. absurd (tag_run _ tag (c.is_run.ensures.0 c.if-is_run.true) is)
+
+pub returns-then-is_run-clause-initialize_stands : goal.returns-then-is_run-clause-initialize_stands
+returns-then-is_run-clause-initialize_stands g c = λ tag is. absurd (tag_run _ tag (c.is_run.ensures.0 c.if-is_run.true) is)
+
+pub returns-then-is_run-clause-initialize_stands_at_every_moment : goal.returns-then-is_run-clause-initialize_stands_at_every_moment
+returns-then-is_run-clause-initialize_stands_at_every_moment g c = λ tag is. absurd (tag_run _ tag (c.is_run.ensures.0 c.if-is_run.true) is)
+
+pub returns-then-is_run-clause-limit : goal.returns-then-is_run-clause-limit
+returns-then-is_run-clause-limit g c = λ is. absurd (not_both c.is_try.result (c.is_try.ensures.1 is) c.if-is_try.false)
+
+pub returns-then-is_run-clause-untouched : goal.returns-then-is_run-clause-untouched
+returns-then-is_run-clause-untouched g c = λ is. absurd (never_untouched c.run_command.result c.run_command.ensures.statuses is)

@@ -1,4 +1,6 @@
-use Rattle.std.proofs.Common.{rules, ◌≡◌, ap, sym, refl, List, ℕ, arith}
+use Rattle.dms_status.specs.declared.status.Status.{Status}
+use Rattle.dms_top.specs.Words.{IsOfTry}
+use Rattle.std.proofs.Common.{rules, subst, ◌≡◌, ap, sym, refl, List, ℕ, arith}
 use Rattle.dms_desc.specs.Shape.{Described, described}
 use Rattle.dms_feed.specs.Lines.{raw_lines}
 use Rattle.dms_model.specs.Db.{empty_db}
@@ -9,9 +11,9 @@ use Rattle.dms_top.proofs.Counting.{say_counted, counted_moved}
 use Rattle.dms_top.proofs.Cutting.{cut_moved}
 use Rattle.dms_plain.specs.Told.{told}
 use Rattle.dms_feed.specs.Feeds.{Remains}
-use Rattle.dms_top.specs.declared.status.Status.TheVariants.{Limit}
-use Rattle.dms_top.specs.declared.status.LimitKind.{LimitKind}
-use Rattle.dms_top.specs.declared.status.LimitKind.TheVariants.{Lines, Bytes, Held}
+use Rattle.dms_status.specs.declared.status.Status.TheVariants.{Limit}
+use Rattle.dms_status.specs.declared.status.LimitKind.{LimitKind}
+use Rattle.dms_status.specs.declared.status.LimitKind.TheVariants.{AuditFile, Lines, Bytes, Held}
 use Rattle.dms_top.proofs.try_run.try_lines.Given.{Over}
 use Rattle.dms_top.proofs.try_run.try_lines.Goals as goal
 
@@ -45,6 +47,7 @@ returns-in-Ok-new-clause-limit g c = λ k is all remains.
   where
     passes : (g : Over) (c : goal.After-status_after g) (k : LimitKind) → c.status_after.result ≡ Limit k → (all : List ℕ) → Remains c.args.feed.now (g.I.Source.left c.args.source.now) all
         → PassesLimit k (described c.in-Ok-new.engine.desc) (raw_lines all) (told g.S.Site.tells_said (g.S.Site.said c.in-Ok-new.engine.store.site.now)) (told g.S.Site.tells_said (g.S.Site.said c.run_lines-ran.new.engine.store.site.now))
+    passes g c (AuditFile f) is all remains = absurd (subst (λ (s : Status). IsOfTry s) is c.status_after.ensures.statuses)
     passes g c Lines is all remains = c.run_lines-ran.ensures.lines (c.status_after.ensures.lines is) empty_db 1 all (stands_at _ _ 1 c.in-Ok.ensures.starts.next_is (c.in-Ok-new.ensures.stands empty_db c.in-Ok.ensures.starts.db_is)) (omega arith) remains
     passes g c Bytes is all remains = c.run_lines-ran.ensures.bytes (c.status_after.ensures.bytes is) empty_db 1 all (stands_at _ _ 1 c.in-Ok.ensures.starts.next_is (c.in-Ok-new.ensures.stands empty_db c.in-Ok.ensures.starts.db_is)) (omega arith) remains
     passes g c Held is all remains = c.run_lines-ran.ensures.full_list (c.status_after.ensures.waiting is) empty_db 1 all (stands_at _ _ 1 c.in-Ok.ensures.starts.next_is (c.in-Ok-new.ensures.stands empty_db c.in-Ok.ensures.starts.db_is)) (omega arith) remains

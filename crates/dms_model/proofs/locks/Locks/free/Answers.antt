@@ -1,7 +1,7 @@
 use Rattle.std.proofs.Common.{rules, List, ◌≡◌, subst}
 use Rattle.std.specs.Prelude.{filter}
 use Rattle.std.proofs.lemmas.Fn.{filter_same}
-use Rattle.dms_model.specs.declared.program.Lock.{Lock}
+use Rattle.dms_model.specs.Programs.{Lock}
 use Rattle.dms_model.specs.Session.{is_elsewhere}
 use Rattle.dms_model.proofs.locks.Locks.free.Goals as goal
 

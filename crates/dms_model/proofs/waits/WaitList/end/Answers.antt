@@ -1,7 +1,7 @@
 use Rattle.std.proofs.Common.{rules, List, ◌≡◌, subst}
 use Rattle.std.specs.Prelude.{filter}
 use Rattle.std.proofs.lemmas.Fn.{filter_same}
-use Rattle.dms_model.specs.declared.program.Wait.{Wait}
+use Rattle.dms_model.specs.Programs.{Wait}
 use Rattle.dms_model.specs.Session.{is_of_other}
 use Rattle.dms_model.proofs.waits.WaitList.end.Goals as goal
 

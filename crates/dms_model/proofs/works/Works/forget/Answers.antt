@@ -1,6 +1,6 @@
 use Rattle.std.proofs.Common.{arith}
 use Rattle.std.proofs.lemmas.List.Edits.{map_over_more}
-use Rattle.dms_model.specs.declared.program.Work.{Work}
+use Rattle.dms_model.specs.Programs.{Work}
 use Rattle.dms_model.specs.Session.{no_work}
 use Rattle.dms_model.proofs.works.Works.forget.Goals as goal
 

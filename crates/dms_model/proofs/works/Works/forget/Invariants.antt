@@ -1,5 +1,5 @@
 use Rattle.std.proofs.Common.{◌≡◌, ◌++◌, map, take, drop}
-use Rattle.dms_model.specs.declared.program.Work.{Work}
+use Rattle.dms_model.specs.Programs.{Work}
 use Rattle.dms_model.specs.Session.{no_work}
 use Rattle.dms_model.proofs.works.Works.forget.Given as goal
 

@@ -1,7 +1,6 @@
-use Rattle.std.proofs.Common.{◌∙◌, inr, sym, ap, subst}
+use Rattle.std.proofs.Common.{inr, sym, subst}
 use Rattle.dms_restore.specs.Logging.{telling_of}
 use Rattle.dms_restore.specs.BackOuts.{seen, ServesBehind}
-use Rattle.dms_restore.specs.Table.{AreBlocks}
 use Rattle.dms_restore.proofs.Results.{one_ok, is_fault}
 use Rattle.dms_restore.proofs.Backed.{silent_on, counted_on, back_full, never_full}
 use Rattle.dms_restore.proofs.Sealed.{goes_back_then, went_back_then, leaves_then, not_disk, ok_not_disk, full_of, back_limit}

@@ -1,9 +1,8 @@
-use Rattle.std.proofs.Common.{refl, sym, subst}
+use Rattle.std.proofs.Common.{sym, subst}
 use Rattle.dms_site.specs.Files.{Files, Only}
 use Rattle.dms_running.specs.Restoring.{IsKept, Rewritten}
 use Rattle.dms_restore.specs.Table.{AllStandAsTold}
 use Rattle.dms_restore.proofs.Sealed.{disk_not_memory}
-use Rattle.dms_restore.proofs.Results.{is_fault}
 use Rattle.dms_restore.proofs.Backed.{rewrites_silent, counted_as, told_entries}
 use Rattle.dms_restore.proofs.Beginnings.{then_looks, table_leave, table_begun, table_restored, table_keeps}
 use Rattle.dms_restore.proofs.log.Log.restore_told.Goals as goal

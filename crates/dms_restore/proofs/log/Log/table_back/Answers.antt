@@ -1,4 +1,4 @@
-use Rattle.std.proofs.Common.{refl, sym, ◌∙◌, ap}
+use Rattle.std.proofs.Common.{ap}
 use Rattle.dms_moments.specs.MomentLaws.{steps_weaken}
 use Rattle.dms_restore.specs.Logging.{view}
 use Rattle.dms_restore.specs.BackOuts.{seen}

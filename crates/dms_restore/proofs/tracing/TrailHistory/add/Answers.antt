@@ -1,6 +1,5 @@
 use Rattle.std.proofs.Common.{[], ◌∷◌, ◌++◌, length, ◌/◌, Some, sym, ◌∙◌, ap, subst}
 use Rattle.std.specs.Option.{option_copied}
-use Rattle.dms_history.specs.Events.{control}
 use Rattle.dms_history.specs.Entries as meaning
 use Rattle.dms_history.specs.Entries.{control_point, counts_in}
 use Rattle.dms_audrec.specs.declared.entry.Entry.{Entry}

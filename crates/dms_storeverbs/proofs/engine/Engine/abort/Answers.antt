@@ -3,7 +3,7 @@ use Rattle.std.proofs.lemmas.List.{with_items_is, length-map}
 use Rattle.std.proofs.lemmas.Grind.{common_steps}
 use Rattle.std.proofs.lemmas.Option.{gets}
 use Rattle.dms_model.specs.Session.{abort_step, backed_out}
-use Rattle.dms_model.specs.declared.program.Program.{Program}
+use Rattle.dms_model.specs.Programs.{Program}
 use Rattle.dms_storeverbs.proofs.Calls.{failed, silently, unchanged}
 use Rattle.dms_block.specs.Faults.{Undamaged}
 use Rattle.dms_storeverbs.proofs.Costing.{answered_costs, backed_costs, spends_none, unbacked_costs}
@@ -14,12 +14,12 @@ use Rattle.dms_storeverbs.proofs.engine.Engine.abort.Goals as goal
 
 pub invariant_of-self-2-clause-fit : goal.invariant_of-self-2-clause-fit
 invariant_of-self-2-clause-fit g c =
-    let back = with_items_is c.args.self.now.programs c.back_out-2.new.programs (ap length c.back_out-2.ensures ∙ length-map c.as_mut_slice.result.now (backed_out c.index.result.now.name) ∙ c.as_mut_slice.ensures.len) in
-    backed_fit (described c.args.self.now.desc) c.args.self.now.programs.items _ c.index.result.now.name (back ∙ c.back_out-2.ensures ∙ ap (λ (ps : List Program). map (backed_out c.index.result.now.name) ps) c.as_mut_slice.ensures.value) c.args.self.now.fit
+    let back = with_items_is c.args.self.now.programs c.back_out-2.new.programs (ap length c.back_out-2.ensures ∙ length-map c.as_mut_slice.result.now (backed_out c.program_name-name.result) ∙ c.as_mut_slice.ensures.len) in
+    backed_fit (described c.args.self.now.desc) c.args.self.now.programs.items _ c.program_name-name.result (back ∙ c.back_out-2.ensures ∙ ap (λ (ps : List Program). map (backed_out c.program_name-name.result) ps) c.as_mut_slice.ensures.value) c.args.self.now.fit
 
-pub returns-then-not-index-clause-step : goal.returns-then-not-index-clause-step
+pub returns-then-not-works-clause-step : goal.returns-then-not-works-clause-step
 unfolding abort_step
-returns-then-not-index-clause-step g c = λ p at s stands may.
+returns-then-not-works-clause-step g c = λ p at s stands may.
     let idle : p.in_transaction ≡ false = grind (arith, common_steps, gets) in
     rw idle (unchanged refl c.refused.ensures.sync (record { reply = grind (arith, common_steps, gets); sync = c.refused.ensures.sync; session = stands }))
 
@@ -31,7 +31,7 @@ unfolding abort_step
 returns-clause-step g c = λ p at s stands may.
     let works : p.in_transaction ≡ true = grind (arith, common_steps, gets) in
     let p_is : c.index.result.now ≡ p = grind (arith, common_steps, gets) in
-    let name_is = ap (λ (q : Program). q.name) p_is in
+    let name_is = c.program_name-name.ensures ∙ ap (λ (q : Program). q.name) p_is in
     let items_is = c.as_mut_slice.ensures.value ∙ stands.programs in
     let mapped : c.back_out-2.new.programs ≡ map (backed_out p.name) s.programs = c.back_out-2.ensures ∙ (λ j. map (backed_out (name_is j)) (items_is j)) in
     rw works (silently c.back_out.ensures.silent c.in_ok-back_out.ensures.keeps.points s stands.next may.room refl c.done.ensures.sync (record {
@@ -41,15 +41,15 @@ returns-clause-step g c = λ p at s stands may.
         db = c.in_ok-back_out.ensures.db ∙ stands.mark;
         mark = c.in_ok-back_out.ensures.keeps.mark ∙ stands.mark;
         next = c.back_out.ensures.silent.next ∙ stands.next;
-        programs = with_items_is c.args.self.now.programs c.back_out-2.new.programs (ap length c.back_out-2.ensures ∙ length-map c.as_mut_slice.result.now (backed_out c.index.result.now.name) ∙ c.as_mut_slice.ensures.len) ∙ mapped;
+        programs = with_items_is c.args.self.now.programs c.back_out-2.new.programs (ap length c.back_out-2.ensures ∙ length-map c.as_mut_slice.result.now (backed_out c.program_name-name.result) ∙ c.as_mut_slice.ensures.len) ∙ mapped;
         pending = refl;
         since = refl;
         waits = stands.waits;
       };
     }))
 
-pub returns-then-not-index-clause-costs : goal.returns-then-not-index-clause-costs
-returns-then-not-index-clause-costs g c = answered_costs true c.refused.ensures.sync (λ is. ap is_done c.refused.ensures.reply) (spends_none _ _)
+pub returns-then-not-works-clause-costs : goal.returns-then-not-works-clause-costs
+returns-then-not-works-clause-costs g c = answered_costs true c.refused.ensures.sync (λ is. ap is_done c.refused.ensures.reply) (spends_none _ _)
 
 pub returns-in_err-back_out-clause-costs : goal.returns-in_err-back_out-clause-costs
 returns-in_err-back_out-clause-costs g c = unbacked_costs c.from_residual.ensures.0 c.back_out.ensures.effort

@@ -3,12 +3,12 @@ use Rattle.std.specs.Prelude.{is_some}
 use Rattle.std.proofs.lemmas.Grind.{common_steps}
 use Rattle.std.proofs.lemmas.Option.{gets}
 use Rattle.dms_desc.specs.Shape.{described}
-use Rattle.dms_model.specs.declared.program.Program.{Program}
+use Rattle.dms_model.specs.Programs.{Program}
 use Rattle.dms_storeverbs.proofs.Calls.{did_from, failed, silently, unchanged}
 use Rattle.dms_base.specs.declared.category.Category.TheVariants.{NoRecord}
 use Rattle.dms_model.specs.declared.reply.Reply.TheVariants.{Exception, Waits}
 use Rattle.dms_desc.specs.Lookups.{name_of, structure_of}
-use Rattle.dms_model.specs.Session.{awaited, begin_step, work_of, restart_of, workers}
+use Rattle.dms_model.specs.Session.{awaited, begin_step, restart_of, workers, area_of}
 use Rattle.std.proofs.Common.{cond}
 use Rattle.dms_storeverbs.specs.Keeping.{kept_if}
 use Rattle.dms_storeverbs.proofs.Ends.{begin_refused, begin_done, begin_quiets}
@@ -24,9 +24,9 @@ invariant_of-self-clause-fit g c =
     let low : c.args.i < length c.keep_restart.new.self.programs.items = omega (arith, c.requires.place, c.in_ok-refusal.ensures.count) in
     one_changed (described c.keep_restart.new.self.desc) c.keep_restart.new.self.programs.items c.args.i c.index_mut.result.now c.enter.new.program low c.index_mut.ensures.value (λ x. subst (WorksFit (described c.keep_restart.new.self.desc)) (sym c.enter.ensures) x) c.keep_restart.new.self.fit
 
-pub returns-then-index-clause-step : goal.returns-then-index-clause-step
+pub returns-then-works-clause-step : goal.returns-then-works-clause-step
 unfolding begin_step
-returns-then-index-clause-step g c = λ p at s stands may.
+returns-then-works-clause-step g c = λ p at s stands may.
     let works : p.in_transaction ≡ true = grind (arith, common_steps, gets) in
     rw works (unchanged refl c.refused.ensures.sync (record { reply = grind (arith, common_steps, gets); sync = c.refused.ensures.sync; session = stands }))
 
@@ -36,7 +36,7 @@ returns-then-lacks-clause-step g c = λ p at s stands may.
     let idle : p.in_transaction ≡ false = grind (arith, common_steps, gets) in
     let p_is : c.index-2.result.now ≡ p = grind (arith, common_steps, gets) in
     let rest = c.restart_of-restart.ensures in
-    let lacks : (c.args.audit && not (is_some (work_of p (restart_of d)).area)) ≡ true = (λ j. c.args.audit && not (is_some (work_of (sym p_is j) (sym rest j)).area)) ∙ sym c.lacks.ensures ∙ c.if-lacks.true in
+    let lacks : (c.args.audit && not (is_some (area_of p (restart_of d)))) ≡ true = (λ j. c.args.audit && not (is_some (area_of (sym p_is j) (sym rest j)))) ∙ sym c.lacks.ensures ∙ c.if-lacks.true in
     let said = c.refused-then-lacks.ensures in
     did_from (begin_lacks d c.args.i p s c.args.audit idle lacks) (unchanged refl said.sync (record { reply = said.reply ∙ ap (λ (n : List ℕ). Exception NoRecord n) (c.name_of.ensures ∙ ap (λ (n : ℕ). name_of (structure_of d n)) rest); sync = said.sync; session = stands }))
 
@@ -46,7 +46,7 @@ returns-in-Some-clause-step g c = λ p at s stands may.
     let idle : p.in_transaction ≡ false = grind (arith, common_steps, gets) in
     let p_is : c.index-2.result.now ≡ p = grind (arith, common_steps, gets) in
     let rest = c.restart_of-restart.ensures in
-    let lacks : (c.args.audit && not (is_some (work_of p (restart_of d)).area)) ≡ false = (λ j. c.args.audit && not (is_some (work_of (sym p_is j) (sym rest j)).area)) ∙ sym c.lacks.ensures ∙ c.if-lacks.false in
+    let lacks : (c.args.audit && not (is_some (area_of p (restart_of d)))) ≡ false = (λ j. c.args.audit && not (is_some (area_of (sym p_is j) (sym rest j)))) ∙ sym c.lacks.ensures ∙ c.if-lacks.false in
     let who_is : cond c.args.self.now.pending (workers c.as_slice.result.now) [] ≡ awaited s = (λ j. cond (stands.pending j) (workers ((c.as_slice.ensures.value ∙ stands.programs) j)) []) in
     let a = rw c.in-Some.is at c.in_ok-awaited.ensures in
     did_from (begin_waits d c.args.i p s c.args.audit idle lacks (λ e. a.1 (who_is ∙ e))) (unchanged refl refl (record { reply = ap (λ (ns : List (List ℕ)). Waits ns) (a.0 ∙ who_is); sync = refl; session = stands }))
@@ -60,7 +60,7 @@ returns-in-Some-2-clause-step g c = λ p at s stands may.
     let idle : p.in_transaction ≡ false = grind (arith, common_steps, gets) in
     let p_is : c.index-2.result.now ≡ p = grind (arith, common_steps, gets) in
     let rest = c.restart_of-restart.ensures in
-    let lacks : (c.args.audit && not (is_some (work_of p (restart_of d)).area)) ≡ false = (λ j. c.args.audit && not (is_some (work_of (sym p_is j) (sym rest j)).area)) ∙ sym c.lacks.ensures ∙ c.if-lacks.false in
+    let lacks : (c.args.audit && not (is_some (area_of p (restart_of d)))) ≡ false = (λ j. c.args.audit && not (is_some (area_of (sym p_is j) (sym rest j)))) ∙ sym c.lacks.ensures ∙ c.if-lacks.false in
     let who_is : cond c.args.self.now.pending (workers c.as_slice.result.now) [] ≡ awaited s = (λ j. cond (stands.pending j) (workers ((c.as_slice.ensures.value ∙ stands.programs) j)) []) in
     let nobody = sym who_is ∙ (rw c.in_default.is at c.in_ok-awaited.ensures) in
     let goes = begin_goes d c.args.i p s c.args.audit idle nobody in
@@ -75,7 +75,7 @@ returns-clause-step g c = λ p at s stands may.
     let idle : p.in_transaction ≡ false = grind (arith, common_steps, gets) in
     let p_is : c.index-2.result.now ≡ p = grind (arith, common_steps, gets) in
     let rest = c.restart_of-restart.ensures in
-    let lacks : (c.args.audit && not (is_some (work_of p (restart_of d)).area)) ≡ false = (λ j. c.args.audit && not (is_some (work_of (sym p_is j) (sym rest j)).area)) ∙ sym c.lacks.ensures ∙ c.if-lacks.false in
+    let lacks : (c.args.audit && not (is_some (area_of p (restart_of d)))) ≡ false = (λ j. c.args.audit && not (is_some (area_of (sym p_is j) (sym rest j)))) ∙ sym c.lacks.ensures ∙ c.if-lacks.false in
     let who_is : cond c.args.self.now.pending (workers c.as_slice.result.now) [] ≡ awaited s = (λ j. cond (stands.pending j) (workers ((c.as_slice.ensures.value ∙ stands.programs) j)) []) in
     let nobody = sym who_is ∙ (rw c.in_default.is at c.in_ok-awaited.ensures) in
     let goes = begin_goes d c.args.i p s c.args.audit idle nobody in
@@ -85,8 +85,8 @@ returns-clause-step g c = λ p at s stands may.
     let said = c.done.ensures in
     did_from goes (silently c.keep_restart.ensures.silent c.in_ok-refusal.ensures.points s stands.next may.room (begin_quiets k c.args.i s) said.sync (begin_done k c.args.i s c.index_mut.result.now c.enter.new.program c.done.result _ _ _ _ _ _ _ low kept c.index_mut.ensures.value c.enter.ensures said.reply said.sync))
 
-pub returns-then-index-clause-costs : goal.returns-then-index-clause-costs
-returns-then-index-clause-costs g c = plain_costs c.refused.ensures.sync (spends_none _ _)
+pub returns-then-works-clause-costs : goal.returns-then-works-clause-costs
+returns-then-works-clause-costs g c = plain_costs c.refused.ensures.sync (spends_none _ _)
 
 pub returns-then-lacks-clause-costs : goal.returns-then-lacks-clause-costs
 returns-then-lacks-clause-costs g c = plain_costs c.refused-then-lacks.ensures.sync (spends_none _ _)

@@ -2,7 +2,7 @@ use Rattle.std.proofs.Common.{◌≡◌, ◌∙◌, ◌<◌, ◌≤◌, List, So
 use Rattle.std.specs.Prelude.{slice_get}
 use Rattle.std.proofs.lemmas.Grind.{common_steps}
 use Rattle.dms_desc.specs.Shape.{described}
-use Rattle.dms_model.specs.declared.program.Program.{Program}
+use Rattle.dms_model.specs.Programs.{Program}
 use Rattle.dms_storeverbs.proofs.Calls.{did_from, apart_did}
 use Rattle.dms_model.specs.Session.{place_of}
 use Rattle.dms_storeverbs.proofs.Unfolds.{carried_out_opens, carried_out_at, there_is}

@@ -2,7 +2,7 @@ use Rattle.std.proofs.Common.{◌≡◌, ◌∙◌, ◌<◌, List, true, false, 
 use Rattle.std.proofs.lemmas.Grind.{common_steps}
 use Rattle.std.proofs.lemmas.Option.{gets}
 use Rattle.dms_desc.specs.Shape.{described}
-use Rattle.dms_model.specs.declared.program.Program.{Program}
+use Rattle.dms_model.specs.Programs.{Program}
 use Rattle.dms_storeverbs.proofs.Calls.{did_from, failed, silently, unchanged, then_did}
 use Rattle.dms_model.specs.Session.{Outcome}
 use Rattle.dms_storeverbs.specs.View.{PerformsCall, seen, view}
@@ -20,8 +20,8 @@ invariant_of-self-clause-fit g c =
     let low : c.args.i < length c.keep_restart.new.self.programs.items = omega (arith, c.requires.place, c.in_ok-refusal.ensures.count) in
     one_changed (described c.keep_restart.new.self.desc) c.keep_restart.new.self.programs.items c.args.i c.index_mut.result.now c.leave.new.program low c.index_mut.ensures.value (λ x. subst (WorksFit (described c.keep_restart.new.self.desc)) (sym c.leave.ensures) x) c.keep_restart.new.self.fit
 
-pub returns-then-not-index-clause-step : goal.returns-then-not-index-clause-step
-returns-then-not-index-clause-step g c = λ p at s stands may.
+pub returns-then-not-works-clause-step : goal.returns-then-not-works-clause-step
+returns-then-not-works-clause-step g c = λ p at s stands may.
     let idle : p.in_transaction ≡ false = grind (arith, common_steps, gets) in
     did_from (end_outside (described c.args.self.now.desc) c.args.i p s c.args.audit c.args.sync idle) (unchanged refl c.refused.ensures.sync (record { reply = grind (arith, common_steps, gets); sync = c.refused.ensures.sync; session = stands }))
 
@@ -50,8 +50,8 @@ returns-clause-step g c = λ p at s stands may.
     did_from goes (end_goes (λ (o : Outcome). PerformsCall o (seen c.args.self.now) (seen c.settle.new.self) (view c.settle.new.self) c.settle.result) (kept_if c.args.audit d p s.db) d c.args.i s c.args.sync c.index_mut.result.now c.leave.new.program _ _ _ _ c.one_more-self.result _ _ c.is_due-self.result _ low kept c.index_mut.ensures.value c.leave.ensures
     (λ t pend sinc nxt st. then_did c.keep_restart.ensures.lasts.causes.whole c.keep_restart.ensures.silent c.in_ok-refusal.ensures.points s stands.next may.room c.keep_restart.ensures.lasts.causes.tells (c.settle.ensures.step t (st (due ∙ sym pend) (c.one_more-self.ensures ∙ sym sinc)) (omega (arith, nxt, may.room)))))
 
-pub returns-then-not-index-clause-costs : goal.returns-then-not-index-clause-costs
-returns-then-not-index-clause-costs g c = plain_costs c.refused.ensures.sync (spends_none _ _)
+pub returns-then-not-works-clause-costs : goal.returns-then-not-works-clause-costs
+returns-then-not-works-clause-costs g c = plain_costs c.refused.ensures.sync (spends_none _ _)
 
 pub returns-in_err-refusal-clause-costs : goal.returns-in_err-refusal-clause-costs
 returns-in_err-refusal-clause-costs g c = failed_costs false c.from_residual.ensures.0 c.keep_restart.ensures.spends

@@ -2,7 +2,7 @@ use Rattle.std.proofs.Common.{false, ◌≡◌, ◌∙◌, ℕ, List, Some, None
 use Rattle.std.specs.Prelude.{slice_set}
 use Rattle.std.proofs.lemmas.Option.{get_or_from_slice_get, gets}
 use Rattle.dms_desc.specs.Shape.{described}
-use Rattle.dms_model.specs.declared.program.Program.{Program}
+use Rattle.dms_model.specs.Programs.{Program}
 use Rattle.dms_storeverbs.proofs.Calls.{did_from, failed, silently, unchanged}
 use Rattle.dms_base.specs.declared.category.Category.TheVariants.{NotFound, NoRecord}
 use Rattle.dms_model.specs.declared.reply.Reply.TheVariants.{Exception}

@@ -3,7 +3,7 @@ use Rattle.std.specs.Prelude.{slice_get, slice_set}
 use Rattle.std.proofs.lemmas.Grind.{common_steps}
 use Rattle.std.proofs.lemmas.Option.{gets}
 use Rattle.dms_desc.specs.Shape.{described}
-use Rattle.dms_model.specs.declared.program.Program.{Program}
+use Rattle.dms_model.specs.Programs.{Program}
 use Rattle.dms_model.specs.Stores.{put_answer}
 use Rattle.dms_model.specs.Session.{keep, Refused}
 use Rattle.dms_storeverbs.specs.Storing.{IsReady, put_record, with_stored}

@@ -8,7 +8,7 @@ use Rattle.dms_storeverbs.proofs.Costing.{failed_costs, plain_costs, spends_none
 use Rattle.std.proofs.Common.{List, ap, length, map}
 use Rattle.std.proofs.lemmas.List.{with_items_is, length-map}
 use Rattle.dms_desc.specs.Shape.{described}
-use Rattle.dms_model.specs.declared.program.Program.{Program}
+use Rattle.dms_model.specs.Programs.{Program}
 use Rattle.dms_model.specs.Session.{idle}
 use Rattle.dms_storeverbs.proofs.AtHand.{idle_fit}
 use Rattle.dms_storeverbs.proofs.engine.Engine.settle.Goals as goal

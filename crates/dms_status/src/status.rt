@@ -10,9 +10,11 @@ pub enum SchemaFault {
     Compile(CompileFault),
 }
 
-/// A limit that an input passes.
+/// A limit that an input passes, or that its database has reached.
 #[derive(Clone, Copy, Debug, PartialEq, Eq)]
 pub enum LimitKind {
+    /// The audit may go on up to this file, numbered from 1, and has no room there.
+    AuditFile(u32),
     /// The script has more than 1,000,000 lines.
     Lines,
     /// The script has more than 2,147,483,648 bytes.
@@ -32,6 +34,12 @@ pub enum NeedFault {
     AuditUnsealed(u32),
     /// An audit file is one of another database.
     AuditForeign(u32),
+    /// The point of a restore isn't below the next number.
+    NoSuchPoint(u64),
+    /// The point of a restore was taken back.
+    Voided(u64),
+    /// A restore by that dump is pending.
+    DumpPending(u16),
 }
 
 /// How a command ends.

@@ -1,0 +1,92 @@
+-- A stop behind the last event of a run lies within it.
+use Rattle.std.proofs.Common.{ℕ, ◌≡◌, ◌≤◌, ◌+◌, ◌∙◌, List, [], ◌∷◌, ◌++◌, length, take, Some, refl, sym, ap, subst, arith}
+use Rattle.std.specs.Prelude.{OnOk}
+use Rattle.std.specs.declared.option.Option.{Option}
+use Rattle.std.specs.declared.result.Result.{Result}
+use Rattle.std.specs.declared.result.Result.TheVariants.{Ok, Err}
+use Rattle.std.proofs.lemmas.List.{append_assoc, append-nil}
+use Rattle.dms_desc.specs.Shape.{Described, described}
+use Rattle.dms_feed.specs.Lines.{raw_lines}
+use Rattle.dms_model.specs.Db.{Db}
+use Rattle.dms_model.specs.declared.store.Store.{Ghosts}
+use Rattle.dms_model.specs.Points.{Point, Quiet, Stop, LeavesPrefix, TextIs}
+use Rattle.dms_model.specs.Seen.{Seen}
+use Rattle.dms_runner.specs.Answers.{script_run, script_events, unanswered_events, end_events}
+use Rattle.dms_runner.specs.Events.{RunEvent, goes_back, text_of, quiets_of, durable_after, CrashesWithin, Performs}
+use Rattle.dms_runner.specs.Running.{AnswersWhole}
+use Rattle.dms_runner.specs.Starting.{AtStart}
+use Rattle.dms_runner.proofs.Happening.{text_on, quiets_on, durable_on}
+use Rattle.dms_storeverbs.specs.declared.engine.Engine.{Engine}
+use Rattle.dms_storeverbs.specs.View.{PointsGrow, seen}
+use Rattle.dms_run.specs.Starting.{OfScript}
+use Rattle.dms_run.specs.States.{EndsWith}
+use Rattle.dms_run.specs.Stops.{RunLeaves}
+use Rattle.dms_run.specs.Ending.{EndsLeave, KeepsLimits}
+use Rattle.dms_run.proofs.Leaving.{stop_leaves}
+
+-- a script's last event: the database goes back where a program is in transaction state
+abbrev before_last : Described → Db → ℕ → List (List ℕ) → List RunEvent
+before_last desc db first lines = (script_run desc db first lines).events ++ unanswered_events (script_run desc db first lines).going.waiting
+
+last_event : (desc : Described) (db : Db) (first : ℕ) (lines : List (List ℕ)) → before_last desc db first lines ++ goes_back ∷ [] ≡ script_events desc db first lines
+unfolding script_events
+last_event desc db first lines = append_assoc (script_run desc db first lines).events (unanswered_events (script_run desc db first lines).going.waiting) (goes_back ∷ [])
+
+module _ (b a : Seen) (es : List RunEvent) (stop : Stop) where
+  no_more : quiets_of (es ++ goes_back ∷ []) ≡ quiets_of es
+  no_more = quiets_on es (goes_back ∷ []) ∙ append-nil (quiets_of es)
+
+  no_text : text_of (es ++ goes_back ∷ []) ≡ text_of es
+  no_text = text_on es (goes_back ∷ []) ∙ append-nil (text_of es)
+
+  closes : b.tells → Performs b a (es ++ goes_back ∷ []) → LeavesPrefix a.whole a.durable a.points a.next stop → TextIs a.said stop
+      → CrashesWithin b.whole b.said b.points b.durable b.next (es ++ goes_back ∷ []) stop
+  closes tells did left text =
+      let grew : PointsGrow b.points (quiets_of es) a.points = subst (λ (q : List Quiet). PointsGrow b.points q a.points) no_more (did.grew tells) in
+      let durable : durable_after (length b.points) b.durable (es ++ goes_back ∷ []) ≡ durable_after (length b.points) b.durable es =
+      durable_on (length b.points) b.durable es (goes_back ∷ []) in
+      let low : durable_after (length b.points) b.durable es ≤ a.durable = subst (λ (n : ℕ). n ≤ a.durable) durable (did.durable tells) in
+      let next : b.next + length (quiets_of es) ≤ a.next = subst (λ (q : List Quiet). b.next + length q ≤ a.next) no_more did.next in
+      record {
+        before = es;
+        at = goes_back;
+        rest = [];
+        all = refl;
+        left = record {
+          made = quiets_of es;
+          rest = [];
+          all = a.points;
+          front_of = refl;
+          grew = grew;
+          front = record { count = left.count; enough = omega (arith, low, left.enough); within = left.within; is = left.is; not_fallen = omega (arith, next, left.not_fallen); files = did.whole stop.files left.files };
+        };
+        text = λ t is. (
+          0,
+          text (t ++ text_of (es ++ goes_back ∷ [])) (did.text t is)
+          ∙ ap (λ (s : List ℕ). t ++ s) no_text ∙ sym (append-nil (t ++ text_of es)),
+        );
+      }
+
+-- so it is of a run that ended well
+module _ {St : Type 0} {g : Ghosts St} (old new : Engine St g) where
+  stop_of_run : (n : ℕ) (db : Db) (first : ℕ) (lines : List (List ℕ)) → EndsWith (seen old).points n db → (seen old).tells → (seen old).durable ≡ length (seen old).points → (seen old).next ≡ first
+      → Performs (seen old) (seen new) (script_events (described old.desc) db first lines) → EndsLeave old new n db first (script_events (described old.desc) db first lines)
+  stop_of_run n db first lines state tells durable next did stop front text =
+      let d = described old.desc in
+      let b = seen old in
+      let es = before_last d db first lines in
+      let whole : Performs b (seen new) (es ++ goes_back ∷ []) = subst (λ (x : List RunEvent). Performs b (seen new) x) (sym (last_event d db first lines)) did in
+      let within : CrashesWithin b.whole b.said b.points b.durable b.next (script_events d db first lines) stop =
+      subst (λ (x : List RunEvent). CrashesWithin b.whole b.said b.points b.durable b.next x stop) (last_event d db first lines) (closes b (seen new) es stop tells whole front text) in
+      stop_leaves b.whole b.said b.points n db first (script_events d db first lines) stop state
+      (subst (λ (k : ℕ). CrashesWithin b.whole b.said b.points (length b.points) k (script_events d db first lines) stop) next
+      (subst (λ (k : ℕ). CrashesWithin b.whole b.said b.points k b.next (script_events d db first lines) stop) durable within))
+
+module _ {St : Type 0} {g : Ghosts St} {T E : Type 0} (old new : Engine St g) (feed : List ℕ) (left : Option (List ℕ)) where
+  pub closes_run : (r : Result T E) → OnOk r (AtStart old feed left (λ db first all. Performs (seen old) (seen new) (script_events (described old.desc) db first (raw_lines all)))) → OnOk r (OfScript old feed left (EndsLeave old new))
+  closes_run (Ok x) ran = λ n db first all begins remains. stop_of_run old new n db first (raw_lines all) begins.state begins.tells begins.durable begins.stands.next (ran db first all begins.stands begins.room remains)
+  closes_run (Err e) ran = tt
+
+  pub keeps_limits : (r : Result T E) → OnOk r (AtStart old feed left (λ db first all. AnswersWhole (described old.desc) db first (raw_lines all) (seen old).said (seen new).said)) → OnOk r (AtStart old feed left (λ db first all. KeepsLimits (described old.desc) db first (raw_lines all)))
+  keeps_limits (Ok x) answers = λ db first all stands room remains. let a = answers db first all stands room remains in record { few = a.few; short = a.short; room = a.room }
+  keeps_limits (Err e) answers = tt

@@ -1,0 +1,6 @@
+pub mod Endings
+pub mod Ran
+pub mod Formed
+pub mod Serving
+pub mod Opened
+pub mod Since

@@ -1,0 +1,202 @@
+-- What a run over a store on a running database is of the files below.
+use Rattle.std.proofs.Common.{inl, inr, ◌⊎◌, ℕ, ◌≡◌, ◌≤◌, ◌<◌, ◌+◌, ◌^◌, ◌∙◌, Bool, true, false, IsTrue, List, [], ◌∷◌, ◌++◌, map, length, take, Option, Some, None, refl, sym, ap, subst, arith}
+use Rattle.std.proofs.lemmas.List.{length-map, append-nil}
+use Rattle.dms_block.specs.Held.{Held}
+use Rattle.dms_block.specs.Texts.{Prints, PrintsPrefix}
+use Rattle.dms_desc.specs.Shape.{Described}
+use Rattle.dms_model.specs.Db.{Db}
+use Rattle.dms_model.specs.Points.{Point, Stop, LeavesPrefix, TextIs}
+use Rattle.dms_moments.specs.Moments.{Clock, Runs}
+use Rattle.dms_moments.specs.MomentLaws.{runs_weaken}
+use Rattle.dms_block.specs.declared.block_fault.BlockFault.TheVariants as block
+use Rattle.dms_block.specs.declared.block_fault.BlockFault.TheVariants.{Say}
+use Rattle.dms_feed.specs.Lines.{raw_lines}
+use Rattle.dms_runner.specs.Answers.{answers_text, last_quiet, script_events}
+use Rattle.dms_runner.specs.Events.{RunEvent, SaidWhole, quiets_of, text_of}
+use Rattle.dms_runner.specs.Running.{CutInput, PassesBytes, PassesLines, PassesWaiting}
+use Rattle.dms_runner.specs.declared.run.RunFault.{RunFault}
+use Rattle.dms_runner.specs.declared.run.RunFault.TheVariants as run
+use Rattle.dms_runner.specs.declared.run.RunFault.TheVariants.{Block}
+use Rattle.dms_running.specs.Telling.{Telling}
+use Rattle.dms_running.specs.Standing.{IsWhole}
+use Rattle.dms_running.specs.Points.{DescribedPoint, points_of}
+use Rattle.dms_site.specs.declared.site.Site.{Ghosts}
+use Rattle.dms_site.specs.Files.{Files, Left, Only}
+use Rattle.dms_restore.specs.Logging.{Trail, trail_of, telling_of, telling, points}
+use Rattle.dms_store.specs.Lifted.{db_of, point_of, lifted, stop_of as store_stop}
+use Rattle.dms_store.specs.LiftedLaws as stores
+use Rattle.dms_store.specs.Spelled.{spelled}
+use Rattle.dms_wal.specs.declared.running.Running.{Running}
+use Rattle.dms_wal.specs.Closing.{LeavesUntil}
+use Rattle.dms_wal.specs.Database.{held, view_of, said_of}
+use Rattle.dms_wal.specs.Lifting as wal
+use Rattle.dms_wal.proofs.Lifts as walks
+use Rattle.dms_run.specs.States.{EndsWith, LivesEndWith}
+use Rattle.dms_run.specs.Ending.{KeepsLimits}
+use Rattle.dms_run.specs.Stops.{RunLeaves, last_quiet_number}
+use Rattle.dms_status.specs.declared.status.LimitKind.{LimitKind}
+use Rattle.dms_status.specs.declared.status.LimitKind.TheVariants.{AuditFile, Lines, Bytes, Held}
+use Rattle.dms_status.specs.declared.status.Status.{Status}
+use Rattle.dms_status.specs.declared.status.Status.TheVariants.{Ok, Limit, InputFault, Damaged}
+use Rattle.dms_runtop.specs.Faults.{run_status}
+use Rattle.dms_runtop.specs.Over.{FilesEndWith, PassesScript, ScriptRuns, SiteSeen}
+use Rattle.dms_runtop.specs.Statuses.{IsOfAuditLimit, IsOfClosing}
+use Rattle.dms_runtop.proofs.Endings.{run_not_ok, run_input, run_damaged, run_lines_is, run_bytes_is, run_held_is, ok_not_limit, closing_input, closing_damaged, IsUndone, undone_ok, undone_limit, undone_input, undone_damaged}
+use Rattle.dms_run.specs.Files.{points_seen, stop_seen, RunLeavesFiles}
+use Rattle.dms_run.proofs.Lowering.{files_left, leaves_files}
+use Rattle.dms_run.proofs.Words.{blocks_seen, blocks_are, lives_seen, lives_are}
+use Rattle.dms_wal.specs.Lifting.{block_point}
+
+-- ---- the database
+
+pub db_told : (desc : Described) (b : Bool) (c : _) (db : Db) → IsTrue b → spelled desc c ≡ Some db → db_of desc b c ≡ Some db
+db_told desc true c db told is = is
+db_told desc false c db told is = absurd (cc)
+
+pub all_durable : (desc : Described) (h : Held) → h.durable ≡ length h.points → h.durable ≡ length (map (point_of desc) h.points)
+all_durable desc h is = is ∙ sym (length-map h.points (point_of desc))
+
+-- ---- the same description
+
+pub db_under : (d e : Described) (b : Bool) (c : _) (db : Db) → e ≡ d → IsTrue b → spelled d c ≡ Some db → db_of e b c ≡ Some db
+db_under d e b c db same told is = db_told e b c db told (ap (λ (x : Described). spelled x c) same ∙ is)
+
+pub state_under : (d e : Described) (h : Held) (ps : List DescribedPoint) (n : ℕ) (db : Db) → e ≡ d → map (point_of d) h.points ≡ points_seen d ps → LivesEndWith d ps n db → EndsWith (map (point_of e) h.points) n db
+state_under d e h ps n db same are state =
+    subst (λ (x : Described). EndsWith (map (point_of x) h.points) n db) (sym same)
+    (subst (λ (p : List Point). EndsWith p n db) (sym are) (blocks_seen d (map block_point ps) n db (lives_seen d ps n db state)))
+
+pub moments_under : (d e e' : Described) (a b : Held) (whole : Files → Type 0) (entry : Option (List ℕ)) (n : ℕ) (db : Db) (next : ℕ) (events : List RunEvent) → e ≡ d → e' ≡ d
+    → Runs (lifted e a.clock) (lifted e' b.clock) (RunLeaves whole entry (map (point_of e) a.points) n db next events)
+    → Runs (lifted d a.clock) (lifted d b.clock) (RunLeaves whole entry (map (point_of d) a.points) n db next events)
+moments_under d e e' a b whole entry n db next events same same' run =
+    subst (λ (x : Described). Runs (lifted x a.clock) (lifted d b.clock) (RunLeaves whole entry (map (point_of x) a.points) n db next events)) same
+    (subst (λ (x : Described). Runs (lifted e a.clock) (lifted x b.clock) (RunLeaves whole entry (map (point_of e) a.points) n db next events)) same' run)
+
+pub ends_under : (d e e' : Described) (a b : Held) (whole : Files → Type 0) (entry : Option (List ℕ)) (n : ℕ) (db : Db) (next : ℕ) (events : List RunEvent) → e ≡ d → e' ≡ d
+    → ((stop : Stop) → LeavesPrefix b.whole b.durable (map (point_of e') b.points) b.next stop → TextIs b.said stop → RunLeaves whole entry (map (point_of e) a.points) n db next events stop)
+    → (stop : Stop) → LeavesPrefix b.whole b.durable (map (point_of d) b.points) b.next stop → TextIs b.said stop → RunLeaves whole entry (map (point_of d) a.points) n db next events stop
+ends_under d e e' a b whole entry n db next events same same' ends stop front text =
+    subst (λ (x : Described). RunLeaves whole entry (map (point_of x) a.points) n db next events stop) same
+    (ends stop (subst (λ (x : Described). LeavesPrefix b.whole b.durable (map (point_of x) b.points) b.next stop) (sym same') front) text)
+
+pub closed_under : (d e : Described) (ps : List DescribedPoint) (n : ℕ) (db : Db) → e ≡ d → EndsWith (map (point_of e) (map block_point ps)) n db → LivesEndWith d ps n db
+closed_under d e ps n db same ends = lives_are d ps n db (blocks_are d (map block_point ps) n db (subst (λ (x : Described). EndsWith (map (point_of x) (map block_point ps)) n db) same ends))
+
+-- ---- what stops leave
+
+module _ {S : Type 0} (g : Ghosts S) (d : Described) (trail : Trail) (r r' : Running S) (is : trail_of (view_of g r.log) ≡ trail) (same : trail_of (view_of g r'.log) ≡ trail_of (view_of g r.log)) (ps : List DescribedPoint) (points_are : map (point_of d) (held g r).points ≡ points_seen d ps)
+    (n : ℕ) (db : Db) (next : ℕ) (events : List RunEvent) where
+  abbrev t : Telling
+  t = telling_of trail.total trail.first
+
+  abbrev entry : Option (List ℕ)
+  entry = said_of g r.log
+
+  -- a stop within the script
+  pub moments_below : Runs (lifted d (held g r).clock) (lifted d (held g r').clock) (RunLeaves (held g r).whole entry (map (point_of d) (held g r).points) n db next events)
+      → Runs (g.clock r.log.site) (g.clock r'.log.site) (RunLeavesFiles t d entry ps n db next events)
+  moments_below run =
+      subst (λ (k : Telling). Runs (g.clock r.log.site) (g.clock r'.log.site) (RunLeavesFiles k d entry ps n db next events)) (walks.told_same is)
+      (files_left g d r r' same entry ps n db next events
+      (subst (λ (p : List Point). Runs (lifted d (held g r).clock) (lifted d (held g r').clock) (RunLeaves (held g r).whole entry p n db next events)) points_are run))
+
+  -- a stop within the closing control point
+  pub closing_below : (site : S) → ((stop : Stop) → LeavesPrefix (held g r').whole (held g r').durable (map (point_of d) (held g r').points) (held g r').next stop → TextIs (held g r').said stop
+      → RunLeaves (held g r).whole entry (map (point_of d) (held g r).points) n db next events stop)
+      → IsTrue g.tells → r'.next + 1 < 2 ^ 64 → LeavesUntil (held g r') (wal.lifted (telling (view_of g r'.log)) (g.clock site))
+      → Runs (g.clock r'.log.site) (g.clock site) (RunLeavesFiles t d entry ps n db next events)
+  closing_below site ends tells room leaves =
+      let k = telling (view_of g r'.log) in
+      let a = held g r' in
+      let b : Held = record a { clock = wal.lifted k (g.clock site) } in
+      let seen : List Point = map (point_of d) (held g r).points in
+      let up = stores.leaves_lifted d a b a.points a.next (leaves tells room) in
+      let ran : Runs (lifted d a.clock) (lifted d b.clock) (RunLeaves (held g r).whole entry seen n db next events) = runs_weaken up (λ stop p. ends stop p.0 p.1) in
+      let blocks = stores.lowered d a b ran in
+      let below = walks.lowered k (g.clock r'.log.site) (g.clock site) blocks in
+      runs_weaken below (λ x l. leaves_files t d entry ps n db next events x
+      (subst (λ (w : Telling). RunLeaves (IsWhole w) entry (points_seen d ps) n db next events (stop_seen t d x)) (walks.told_same is)
+      (subst (λ (p : List Point). RunLeaves (held g r).whole entry p n db next events (stop_seen t d x)) points_are
+      (subst (λ (w : Telling). RunLeaves (held g r).whole entry seen n db next events (store_stop d (wal.stop_of w x))) (walks.told_same (same ∙ is)) l))))
+
+-- ---- what is printed
+
+pub prints_nothing : (said : Option (List ℕ)) (text : List ℕ) → PrintsPrefix said said text
+prints_nothing said text = λ t is. (0, is ∙ ap (λ (s : List ℕ). Some s) (sym (append-nil t)))
+
+pub said_nothing : (said : Option (List ℕ)) (events : List RunEvent) → SaidWhole said said events
+said_nothing said events = (0, λ t is. is ∙ ap (λ (s : List ℕ). Some s) (sym (append-nil t)))
+
+-- ---- a run, by how it ended
+
+module _ (t : Telling) (d : Described) (ps : List DescribedPoint) (n : ℕ) (db : Db) (next : ℕ) (all : List ℕ) (a b : SiteSeen) (left' : Option (List ℕ)) where
+  abbrev events : List RunEvent
+  events = script_events d db next (raw_lines all)
+
+  of_audit : (k : LimitKind) → IsOfAuditLimit k → PassesScript k d db next (raw_lines all) a.said b.said
+  of_audit (AuditFile f) is = tt
+  of_audit Lines is = absurd is
+  of_audit Bytes is = absurd is
+  of_audit Held is = absurd is
+
+  -- nothing was done: the status is none of a script
+  pub ran_nothing : (status : Status) → IsUndone status → Runs a.clock b.clock (RunLeavesFiles t d a.said ps n db next events) → b.said ≡ a.said → ScriptRuns t d ps n db next all a b left' status
+  ran_nothing status undone moments same = record {
+    every_moment = moments;
+    at_ok = λ is. absurd (undone_ok status undone is);
+    prints = λ is. absurd (undone_ok status undone is);
+    part = subst (λ (s : Option (List ℕ)). PrintsPrefix a.said s (answers_text d db next (raw_lines all))) (sym same) (prints_nothing a.said (answers_text d db next (raw_lines all)));
+    whole_answers = λ unsaid. subst (λ (s : Option (List ℕ)). SaidWhole a.said s events) (sym same) (said_nothing a.said events);
+    within = λ is. absurd (undone_ok status undone is);
+    limit = λ k is. of_audit k (undone_limit status undone k is);
+    input_cut = λ is. absurd (undone_input status undone is);
+    undamaged = λ f k is high. undone_damaged status undone f k is high;
+  }
+
+  -- the script stopped before its end
+  pub ran_failed : (fault : RunFault) → Runs a.clock b.clock (RunLeavesFiles t d a.said ps n db next events)
+      → PrintsPrefix a.said b.said (answers_text d db next (raw_lines all)) → ((fault ≡ Block Say → ⊥) → SaidWhole a.said b.said events)
+      → (fault ≡ run.Lines → PassesLines d db next (raw_lines all) a.said b.said) → (fault ≡ run.Bytes → PassesBytes d db next (raw_lines all) a.said b.said)
+      → (fault ≡ run.Held → PassesWaiting d db next (raw_lines all) a.said b.said) → (fault ≡ run.Input → CutInput d db next all left' a.said b.said)
+      → ((f k : ℕ) → fault ≡ Block (block.Damaged f k) → ⊥) → ScriptRuns t d ps n db next all a b left' (run_status fault)
+  ran_failed fault moments part whole lines bytes held cut damaged = record {
+    every_moment = moments;
+    at_ok = λ is. absurd (run_not_ok fault is);
+    prints = λ is. absurd (run_not_ok fault is);
+    part = part;
+    whole_answers = λ unsaid. whole (λ is. unsaid (ap run_status is));
+    within = λ is. absurd (run_not_ok fault is);
+    limit = λ k is. passes fault k is lines bytes held;
+    input_cut = λ is. cut (run_input fault is);
+    undamaged = λ f k is high. damaged f k (run_damaged fault f k is);
+  }
+    where
+      passes : (fault : RunFault) (k : LimitKind) → run_status fault ≡ Limit k → (fault ≡ run.Lines → PassesLines d db next (raw_lines all) a.said b.said)
+          → (fault ≡ run.Bytes → PassesBytes d db next (raw_lines all) a.said b.said) → (fault ≡ run.Held → PassesWaiting d db next (raw_lines all) a.said b.said)
+          → PassesScript k d db next (raw_lines all) a.said b.said
+      passes fault (AuditFile f) is lines bytes held = tt
+      passes fault Lines is lines bytes held = lines (run_lines_is fault is)
+      passes fault Bytes is lines bytes held = bytes (run_bytes_is fault is)
+      passes fault Held is lines bytes held = held (run_held_is fault is)
+
+  -- the script was carried out, and the database closed, or not closed
+  pub ran_closed : (status : Status) → (status ≡ Ok) ⊎ IsOfClosing status → Runs a.clock b.clock (RunLeavesFiles t d a.said ps n db next events)
+      → (status ≡ Ok → FilesEndWith t d (last_quiet_number n (quiets_of events)) (last_quiet db (quiets_of events)) b)
+      → Prints a.said b.said (answers_text d db next (raw_lines all)) → PrintsPrefix a.said b.said (answers_text d db next (raw_lines all)) → SaidWhole a.said b.said events
+      → KeepsLimits d db next (raw_lines all) → ScriptRuns t d ps n db next all a b left' status
+  ran_closed status of moments ends prints part whole limits = record {
+    every_moment = moments;
+    at_ok = ends;
+    prints = λ is. prints;
+    part = part;
+    whole_answers = λ unsaid. whole;
+    within = λ is. limits;
+    limit = λ k is. closing_limit status of k is;
+    input_cut = λ is. absurd (closing_input status of is);
+    undamaged = λ f k is high. closing_damaged status of f k is;
+  }
+    where
+      closing_limit : (s : Status) → (s ≡ Ok) ⊎ IsOfClosing s → (k : LimitKind) → s ≡ Limit k → PassesScript k d db next (raw_lines all) a.said b.said
+      closing_limit s (inl ok) k is = absurd (ok_not_limit k (sym ok ∙ is))
+      closing_limit s (inr of) k is = of_audit k (subst IsOfClosing is of)

@@ -1,0 +1,93 @@
+-- A run since the opening, and before it what the opening leaves.
+use Rattle.std.proofs.Common.{ℕ, zero, suc, ◌≡◌, ◌≤◌, ◌<◌, ◌+◌, ◌∙◌, ◌⊎◌, inl, inr, List, [], ◌∷◌, ◌++◌, length, Option, Some, None, refl, sym, ap, subst, arith}
+use Rattle.std.proofs.lemmas.List.{append-nil}
+use Rattle.dms_desc.specs.Shape.{Described}
+use Rattle.dms_feed.specs.Lines.{raw_lines}
+use Rattle.dms_model.specs.Db.{Db}
+use Rattle.dms_moments.specs.Moments.{Clock, Runs}
+use Rattle.dms_moments.specs.MomentLaws.{runs_on, runs_weaken}
+use Rattle.dms_runner.specs.Answers.{script_run, script_events, unanswered_events}
+use Rattle.dms_runner.specs.Events.{RunEvent, goes_back, quiets_of}
+use Rattle.dms_running.specs.Telling.{Telling}
+use Rattle.dms_running.specs.Points.{DescribedPoint, points_of, next_in}
+use Rattle.dms_site.specs.Files.{Files, Left}
+use Rattle.dms_opening.specs.Openings.{Reopens}
+use Rattle.dms_wal.specs.Marks.{last_number, number_from}
+use Rattle.dms_run.specs.Files.{RunLeavesFiles}
+use Rattle.dms_run.specs.States.{LivesEndWith}
+use Rattle.dms_run.specs.Stops.{PrintedUpTo}
+use Rattle.dms_status.specs.declared.status.Status.{Status}
+use Rattle.dms_runtop.specs.Over.{ScriptRuns, SiteSeen}
+
+-- ---- a script has an event
+
+record First (events : List RunEvent) : Type 0 where
+  one : RunEvent
+  rest : List RunEvent
+  are : one ∷ rest ≡ events
+
+first_of : (xs ys : List RunEvent) (y : RunEvent) → First (xs ++ (ys ++ y ∷ []))
+first_of [] [] y = record { one = y; rest = []; are = refl }
+first_of [] (z ∷ zs) y = record { one = z; rest = zs ++ y ∷ []; are = refl }
+first_of (x ∷ xs) ys y = record { one = x; rest = xs ++ (ys ++ y ∷ []); are = refl }
+
+first_event : (desc : Described) (db : Db) (next : ℕ) (lines : List (List ℕ)) → First (script_events desc db next lines)
+unfolding script_events
+first_event desc db next lines = first_of (script_run desc db next lines).events (unanswered_events (script_run desc db next lines).going.waiting) goes_back
+
+-- ---- the opening
+
+module _ (t : Telling) (files : Files) (said : Option (List ℕ)) (desc : Described) (n : ℕ) (db : Db) (state : LivesEndWith desc (points_of t files) n db) (lines : List (List ℕ)) where
+  -- a stop within the opening left the database of entry, and no text
+  pub reopens_leaves : (x : Left) → Reopens t files said x → RunLeavesFiles t desc said (points_of t files) n db (next_in t files) (script_events desc db (next_in t files) lines) x
+  reopens_leaves x r =
+      let f = first_event desc db (next_in t files) lines in
+      record {
+        made = [];
+        rest = quiets_of (script_events desc db (next_in t files) lines);
+        front_of = refl;
+        state = subst (λ (ps : List DescribedPoint). LivesEndWith desc ps n db) (sym r.points_same) state;
+        more = [];
+        kept = r.points_same ∙ sym (append-nil (points_of t files));
+        are = refl;
+        each = tt;
+        next_is = omega (arith, r.not_fallen);
+        text = λ b is. record { before = []; at = f.one; rest = f.rest; all = f.are; printed = 0; said_is = r.text b is ∙ sym (append-nil b); enough = omega arith };
+        whole = r.whole;
+      }
+
+-- ---- a run since the opening
+
+module _ (t : Telling) (d : Described) (ps : List DescribedPoint) (n : ℕ) (db : Db) (next : ℕ) (all : List ℕ) (a0 a b : SiteSeen) (left' : Option (List ℕ)) (status : Status) where
+  same_said : a.said ≡ a0.said → ScriptRuns t d ps n db next all a b left' status → ScriptRuns t d ps n db next all (record { files = a.files; clock = a.clock; said = a0.said }) b left' status
+  same_said same ran = subst (λ (s : Option (List ℕ)). ScriptRuns t d ps n db next all (record { files = a.files; clock = a.clock; said = s }) b left' status) same ran
+
+  pub runs_since : a.said ≡ a0.said → Runs a0.clock a.clock (RunLeavesFiles t d a0.said ps n db next (script_events d db next (raw_lines all)))
+      → ScriptRuns t d ps n db next all a b left' status → ScriptRuns t d ps n db next all a0 b left' status
+  runs_since same before ran =
+      let r = same_said same ran in
+      record {
+        every_moment = runs_on before r.every_moment (λ x l. l);
+        at_ok = r.at_ok;
+        prints = r.prints;
+        part = r.part;
+        whole_answers = r.whole_answers;
+        within = r.within;
+        limit = r.limit;
+        input_cut = r.input_cut;
+        undamaged = r.undamaged;
+      }
+
+-- ---- the last point
+
+number_end : (before : Option ℕ) (ps : List DescribedPoint) (p : DescribedPoint) → number_from before (ps ++ p ∷ []) ≡ Some p.number
+number_end before [] p = refl
+number_end before (q ∷ qs) p = number_end (Some q.number) qs p
+
+some_same : (a b : ℕ) → ◌≡◌ {A = Option ℕ} (Some a) (Some b) → a ≡ b
+some_same a b e = cc
+
+-- the number of the last point
+pub last_is : (desc : Described) (ps : List DescribedPoint) (n m : ℕ) (db : Db) → LivesEndWith desc ps n db → last_number ps ≡ Some m → m ≡ n
+last_is desc ps n m db state is =
+    some_same m n (sym is ∙ ap last_number state.are ∙ number_end None state.before state.point ∙ ap (λ (k : ℕ). Some k) state.number)

@@ -1,0 +1,48 @@
+-- The status that each fault ends with.
+use Rattle.std.specs.Prelude.{ℕ, nat_lt, if◌then◌else◌}
+use Rattle.dms_audfile.specs.declared.fault.AudFault.TheVariants as aud
+use Rattle.dms_block.specs.declared.block_fault.BlockFault.{BlockFault}
+use Rattle.dms_block.specs.declared.block_fault.BlockFault.TheVariants as block
+use Rattle.dms_restore.specs.declared.choosing.OpenFault.{OpenFault}
+use Rattle.dms_restore.specs.declared.choosing.OpenFault.TheVariants.{Audit, NoSuchPoint, Voided, ByDump}
+use Rattle.dms_runner.specs.declared.run.RunFault.{RunFault}
+use Rattle.dms_runner.specs.declared.run.RunFault.TheVariants as run
+use Rattle.dms_status.specs.declared.status.LimitKind.TheVariants as limit
+use Rattle.dms_status.specs.declared.status.NeedFault.TheVariants as need
+use Rattle.dms_status.specs.declared.status.Status.{Status}
+use Rattle.dms_status.specs.declared.status.Status.TheVariants.{NoDatabase, Needed, DiskFault, InputFault, Memory, Limit, Damaged, SayFault}
+
+-- of a damaged block that a script finds: of a structure file, and of no other
+abbrev pub damaged_status : ℕ → ℕ → Status
+damaged_status f b = if nat_lt 30000 f then Damaged f b else Memory
+
+-- of a fault of blocks
+abbrev pub block_status : BlockFault → Status
+block_status block.Disk = DiskFault
+block_status block.Memory = Memory
+block_status (block.Full f) = Limit (limit.AuditFile f)
+block_status (block.Damaged f b) = damaged_status f b
+block_status block.Say = SayFault
+
+-- of a fault of a run
+abbrev pub run_status : RunFault → Status
+run_status (run.Block fault) = block_status fault
+run_status run.Input = InputFault
+run_status run.Lines = Limit limit.Lines
+run_status run.Bytes = Limit limit.Bytes
+run_status run.Held = Limit limit.Held
+run_status run.Memory = Memory
+
+-- of a fault of an opening
+abbrev pub open_status : OpenFault → Status
+open_status (Audit aud.NoDatabase) = NoDatabase
+open_status (Audit aud.Disk) = DiskFault
+open_status (Audit (aud.Full k)) = Limit (limit.AuditFile k)
+open_status (Audit (aud.Missing k)) = Needed (need.AuditMissing k)
+open_status (Audit (aud.Unsealed k)) = Needed (need.AuditUnsealed k)
+open_status (Audit (aud.Foreign k)) = Needed (need.AuditForeign k)
+open_status (Audit (aud.Damaged f b)) = Damaged f b
+open_status (Audit aud.Memory) = Memory
+open_status (NoSuchPoint n) = Needed (need.NoSuchPoint n)
+open_status (Voided n) = Needed (need.Voided n)
+open_status (ByDump d) = Needed (need.DumpPending d)

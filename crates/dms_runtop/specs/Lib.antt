@@ -1,0 +1,6 @@
+pub mod Both
+pub mod Faults
+pub mod Statuses
+pub mod Over
+pub mod Describing
+pub mod Command

@@ -1,0 +1,100 @@
+-- A run of a script over a database that was opened.
+use Rattle.std.specs.Prelude.{ℕ, ◌≡◌, ◌+◌, ◌<◌, ◌^◌, List, length, map, Some, None, IsTrue, ⊤, if◌then◌else◌}
+use Rattle.std.specs.declared.option.Option.{Option}
+use Rattle.dms_moments.specs.Moments.{Clock, Runs}
+use Rattle.dms_block.specs.Texts.{Prints, PrintsPrefix}
+use Rattle.dms_desc.specs.Shape.{Described}
+use Rattle.dms_feed.specs.Lines.{raw_lines}
+use Rattle.dms_model.specs.Db.{Db}
+use Rattle.dms_site.specs.declared.site.Site.{Ghosts}
+use Rattle.dms_site.specs.Files.{Files, Left, Only}
+use Rattle.dms_running.specs.Telling.{Telling}
+use Rattle.dms_running.specs.Points.{DescribedPoint, points_of}
+use Rattle.dms_restore.specs.Logging.{telling_of, telling, points}
+use Rattle.dms_wal.specs.declared.running.Running.{Running}
+use Rattle.dms_wal.specs.Closing.{LeavesUntil}
+use Rattle.dms_wal.specs.Database.{held, view_of}
+use Rattle.dms_wal.specs.Lifting.{lifted}
+use Rattle.dms_store.specs.Lifted.{point_of}
+use Rattle.dms_store.specs.Spelled.{spelled}
+use Rattle.dms_runner.specs.Answers.{answers_text, last_quiet, script_events}
+use Rattle.dms_runner.specs.Events.{RunEvent, SaidWhole, quiets_of}
+use Rattle.dms_runner.specs.Running.{CutInput, PassesBytes, PassesLines, PassesWaiting}
+use Rattle.dms_run.specs.Ending.{KeepsLimits}
+use Rattle.dms_run.specs.Files.{points_seen, RunLeavesFiles}
+use Rattle.dms_run.specs.States.{LivesEndWith}
+use Rattle.dms_run.specs.Stops.{last_quiet_number}
+use Rattle.dms_status.specs.declared.status.LimitKind.{LimitKind}
+use Rattle.dms_status.specs.declared.status.LimitKind.TheVariants.{AuditFile, Lines, Bytes, Held}
+use Rattle.dms_status.specs.declared.status.Status.{Status}
+use Rattle.dms_status.specs.declared.status.Status.TheVariants.{Ok, Limit, InputFault, Damaged, SayFault}
+
+-- what a read of a site gives, what a stop leaves of it, and the text so far, where it is told
+pub record SiteSeen : Type 1 where
+  pub files : Files
+  pub clock : Clock Left
+  pub said : Option (List ℕ)
+
+abbrev pub seen_site : {S : Type 0} → Ghosts S → S → SiteSeen
+seen_site g site = record { files = g.files site; clock = g.clock site; said = if g.tells_said then Some (g.said site) else None }
+
+-- The last point that files hold has this number, and its blocks spell this database. A stop leaves no other files.
+pub record FilesEndWith (t : Telling) (desc : Described) (n : ℕ) (db : Db) (s : SiteSeen) : Type 0 where
+  pub state : LivesEndWith desc (points_of t s.files) n db
+  pub only : Only s.files s.clock
+
+-- The script passes this limit: what the whole lines before that place answer was printed. Of the audit's limit the script says nothing.
+abbrev pub PassesScript : LimitKind → Described → Db → ℕ → List (List ℕ) → Option (List ℕ) → Option (List ℕ) → Type 0
+PassesScript (AuditFile f) desc db first lines before after = ⊤
+PassesScript Lines desc db first lines before after = PassesLines desc db first lines before after
+PassesScript Bytes desc db first lines before after = PassesBytes desc db first lines before after
+PassesScript Held desc db first lines before after = PassesWaiting desc db first lines before after
+
+-- A run of the script that an input has, over a database that at point n is db, whose next number is this one. These were the points before the run,
+-- so the site was seen before it and behind it, so much of the input was left, and so the run ended.
+pub record ScriptRuns (t : Telling) (desc : Described) (ps : List DescribedPoint) (n : ℕ) (db : Db) (next : ℕ) (all : List ℕ) (a b : SiteSeen) (left' : Option (List ℕ)) (status : Status) : Type 0 where
+  -- a stop at each moment left what a run leaves: the database of one quiet point, none before those that syncpoints made durable before what
+  -- was printed last, and each point as it was
+  pub every_moment : Runs a.clock b.clock (RunLeavesFiles t desc a.said ps n db next (script_events desc db next (raw_lines all)))
+  -- at status 0 the files end with the last quiet point, or with the point of entry
+  pub at_ok : status ≡ Ok → FilesEndWith t desc (last_quiet_number n (quiets_of (script_events desc db next (raw_lines all)))) (last_quiet db (quiets_of (script_events desc db next (raw_lines all)))) b
+  -- at status 0 exactly the answers were printed
+  pub prints : status ≡ Ok → Prints a.said b.said (answers_text desc db next (raw_lines all))
+  -- at each status a prefix of them
+  pub part : PrintsPrefix a.said b.said (answers_text desc db next (raw_lines all))
+  -- unless printing failed, that was the text of whole answers
+  pub whole_answers : (status ≡ SayFault → ⊥) → SaidWhole a.said b.said (script_events desc db next (raw_lines all))
+  -- at status 0 the script keeps the limits
+  pub within : status ≡ Ok → KeepsLimits desc db next (raw_lines all)
+  -- at status 8 by the script it passes that limit, and none before
+  pub limit : (k : LimitKind) → status ≡ Limit k → PassesScript k desc db next (raw_lines all) a.said b.said
+  -- at status 6 what the whole lines that were taken answer was printed
+  pub input_cut : status ≡ InputFault → CutInput desc db next all left' a.said b.said
+  -- no block of a structure file is found damaged
+  pub undamaged : (f k : ℕ) → status ≡ Damaged f k → 30000 < f → ⊥
+
+module _ {S : Type 0} (g : Ghosts S) where
+  -- A run of a script begins with this database: its site tells its files, its points are these, which end with database db at point n and are all
+  -- durable, its blocks spell that database, and there is room for the numbers of a script.
+  pub record BeginsAt (r : Running S) (total first : ℕ) (ps : List DescribedPoint) (desc : Described) (n : ℕ) (db : Db) : Type 0 where
+    pub tells : IsTrue g.tells
+    pub total_is : r.log.end.total ≡ total
+    pub first_is : r.log.first ≡ first
+    pub points_are : map (point_of desc) (held g r).points ≡ points_seen desc ps
+    pub state : LivesEndWith desc ps n db
+    pub spells : spelled desc (held g r).content ≡ Some db
+    pub durable : (held g r).durable ≡ length (held g r).points
+    pub room : r.next + 1000003 < 2 ^ 64
+
+  -- a run of the script over this database, which ended with this status and this site
+  abbrev pub RunsOver : Running S → Described → Option (List ℕ) → Option (List ℕ) → Status → S → Type 0
+  RunsOver r desc left left' status site =
+      (total first : ℕ) (ps : List DescribedPoint) (n : ℕ) (db : Db) (all : List ℕ) → BeginsAt r total first ps desc n db → left ≡ Some all
+      → ScriptRuns (telling_of total first) desc ps n db r.next all (seen_site g r.log.site) (seen_site g site) left' status
+
+  -- The database was closed: at status 0 the files hold all its points, and a stop leaves no other files. Until then each stop left the first so many
+  -- of its points, at least the durable ones, and no other text.
+  pub record ClosesOver (r : Running S) (status : Status) (site : S) : Type 0 where
+    pub leaves : LeavesUntil (held g r) (lifted (telling (view_of g r.log)) r.schema.items (g.clock site))
+    pub points_are : status ≡ Ok → IsTrue g.tells → points_of (telling (view_of g r.log)) (g.files site) ≡ points (view_of g r.log)
+    pub only : status ≡ Ok → IsTrue g.tells → Only (g.files site) (g.clock site)

@@ -1,0 +1,227 @@
+//! The command `run`.
+
+ghost use Rattle.std.specs.Prelude.{◌≡◌, ◌⊎◌, [], ℕ, List, Option, Some, IfSome, IsTrue};
+ghost use Rattle.dms_audfile.specs.Counting.{CountedAt};
+ghost use Rattle.dms_desc.specs.Shape.{described};
+ghost use Rattle.dms_desc_bytes.specs.Spelling.{spelling};
+ghost use Rattle.dms_desc_bytes.specs.WellFormed.{IsWellFormed};
+ghost use Rattle.dms_opening.specs.Openings.{NamesStructures};
+ghost use Rattle.dms_runtop.specs.Command.{DatabaseState, HoldsTold, NeverRefuses, StandsOpened, StandsThroughout, RunsCommand, RunsOpened, RefusesRun};
+ghost use Rattle.dms_runtop.specs.Describing.{IsUnderSchema};
+ghost use Rattle.dms_runtop.specs.Statuses.{IsOfRun, IsOfScript, IsRefusal};
+ghost use Rattle.dms_wal.specs.Lifting.{AreCounts};
+ghost use Rattle.dms_wal.specs.Marks.{IsDescription};
+
+use crate::describing::describe;
+use crate::ended::Ended;
+use crate::ending::status_of_open;
+use crate::over::run_over;
+use crate::veil::{Knows, Veiled};
+use dms_desc::Description;
+use dms_desc_bytes::encode;
+use dms_descfile::FileFault;
+use dms_opening::{Opened, open};
+use dms_restore::{Found, Log};
+use dms_runlaws::stands_law;
+use dms_site::{Site, Source};
+use dms_status::Status;
+use std::alloc::Global;
+use std::marker::{Brand, PhantomData};
+
+/// The status that a fault of the description ends with.
+fn status_of_description(fault: FileFault) -> Status
+    ensures disk { (result ≡ Status.DiskFault → fault ≡ FileFault.Disk) × (fault ≡ FileFault.Disk → result ≡ Status.DiskFault) }
+    ensures memory { fault ≡ FileFault.Memory → result ≡ Status.Memory }
+{
+    match fault {
+        FileFault::Disk => Status::DiskFault,
+        FileFault::Memory => Status::Memory,
+    }
+}
+
+/// The site of a database that was opened.
+fn site_of<S: Site>(opened: Opened<S>) -> S
+    ensures { result ≡ opened.log.site }
+{
+    let Opened {
+        log,
+        schema: _schema,
+        counts: _counts,
+        next: _,
+        point: _,
+    } = opened;
+    let Log {
+        site,
+        end: _end,
+        first: _,
+    } = log;
+    site
+}
+
+/// The bytes of a description, where memory isn't refused.
+fn bytes_of(alloc: Global, desc: &Description) -> Option<Vec<u8>>
+    ensures { IfSome result (λ bytes. bytes.items ≡ spelling (described desc.now)) }
+{
+    let Ok(spelled) = encode(alloc, desc) else {
+        return None;
+    };
+    match Vec::from_slice(alloc, spelled.as_slice()) {
+        Ok(bytes) => Some(bytes),
+        Err(_) => None,
+    }
+}
+
+/// The same database under these bytes of its description, its site told only where it is known what its files stand for.
+fn veil<S: Site, K: Knows>(opened: Opened<S>, schema: Vec<u8>) -> Opened<Veiled<S, K>>
+    ensures site { result.log.site.site ≡ opened.log.site }
+    ensures log { (result.log.end ≡ opened.log.end) × (result.log.first ≡ opened.log.first) }
+    ensures schema { result.schema ≡ schema }
+    ensures kept { (result.counts ≡ opened.counts) × (result.next ≡ opened.next) × (result.point ≡ opened.point) }
+{
+    let Opened {
+        log,
+        schema: _schema,
+        counts,
+        next,
+        point,
+    } = opened;
+    let Log { site, end, first } = log;
+    let site = Veiled {
+        site,
+        by: PhantomData,
+    };
+    Opened {
+        log: Log { site, end, first },
+        schema,
+        counts,
+        next,
+        point,
+    }
+}
+
+/// The same end without the veil.
+fn unveil<S: Site, K: Knows>(ended: Ended<Veiled<S, K>>) -> Ended<S>
+    ensures { (result.status ≡ ended.status) × (result.site ≡ ended.site.site) }
+{
+    let status = ended.status;
+    let Veiled { site, by: _by } = ended.into_site();
+    Ended { status, site }
+}
+
+/// Runs the script over a database that was opened, under this description, and closes it.
+fn run_described<S: Site, I: Source, K: Knows>(
+    alloc: Global,
+    opened: Opened<S>,
+    desc: &Description,
+    source: &mut I,
+) -> Ended<S>
+    requires formed { IsWellFormed (described desc.now) }
+    requires under { IsUnderSchema opened.schema.items (described desc.now) }
+    requires table { AreCounts opened.counts.items }
+    requires named { NamesStructures opened.schema.items opened.counts.items }
+    requires known { IsTrue S.tells → IsTrue K.known → StandsOpened S.Site opened }
+    ensures ran { RunsOpened S.Site opened K.known (I.left source.old) (I.left source.new) result.status result.site }
+    ensures end { result.status ≡ Status.Ok → (all : List ℕ) → I.left source.old ≡ Some all → I.left source.new ≡ Some [] }
+    ensures statuses { (result.status ≡ Status.Ok) ⊎ IsOfScript result.status }
+    ensures disk { CountedAt (result.status ≡ Status.DiskFault) (S.disk_faults opened.log.site) (S.disk_faults result.site) }
+    ensures say { CountedAt (result.status ≡ Status.SayFault) (S.say_faults opened.log.site) (S.say_faults result.site) }
+    ensures input { CountedAt (result.status ≡ Status.InputFault) (I.faults source.old) (I.faults source.new) }
+    ensures same { S.same_site opened.log.site result.site }
+    ensures same_source { I.same_source source.old source.new }
+{
+    let Some(schema) = bytes_of(alloc, desc) else {
+        return Ended {
+            status: Status::Memory,
+            site: site_of(opened),
+        };
+    };
+    let veiled: Opened<Veiled<S, K>> = veil(opened, schema);
+    match veiled.into_running(
+        alloc,
+        u32::from(desc.buffers),
+        u32::from(desc.controlpoint),
+        u32::from(desc.files),
+    ) {
+        Ok(running) => unveil(run_over(alloc, desc, running, source)),
+        Err((_fault, site)) => unveil(Ended {
+            status: Status::Memory,
+            site,
+        }),
+    }
+}
+
+/// Runs the script over a database that was opened, under the description at its last point, and closes it.
+fn run_opened<S: Site, I: Source, K: Knows>(
+    alloc: Global,
+    mut opened: Opened<S>,
+    source: &mut I,
+) -> Ended<S>
+    requires table { AreCounts opened.counts.items }
+    requires named { NamesStructures opened.schema.items opened.counts.items }
+    requires known { IsTrue S.tells → IsTrue K.known → StandsOpened S.Site opened }
+    ensures ran { RunsOpened S.Site opened K.known (I.left source.old) (I.left source.new) result.status result.site }
+    ensures end { result.status ≡ Status.Ok → (all : List ℕ) → I.left source.old ≡ Some all → I.left source.new ≡ Some [] }
+    ensures statuses { (result.status ≡ Status.Ok) ⊎ IsOfScript result.status }
+    ensures disk { CountedAt (result.status ≡ Status.DiskFault) (S.disk_faults opened.log.site) (S.disk_faults result.site) }
+    ensures say { CountedAt (result.status ≡ Status.SayFault) (S.say_faults opened.log.site) (S.say_faults result.site) }
+    ensures input { CountedAt (result.status ≡ Status.InputFault) (I.faults source.old) (I.faults source.new) }
+    ensures same { S.same_site opened.log.site result.site }
+    ensures same_source { I.same_source source.old source.new }
+{
+    match describe(alloc, &mut opened.log.site, opened.schema.as_slice()) {
+        Ok(desc) => run_described::<S, I, K>(alloc, opened, &desc, source),
+        Err(fault) => Ended {
+            status: status_of_description(fault),
+            site: site_of(opened),
+        },
+    }
+}
+
+/// `run` over a site by value.
+fn run_found<S: Site, I: Source>(alloc: Global, site: S, source: &mut I) -> Ended<S>
+    ghost state: { Option DatabaseState }
+    requires told { IsTrue S.tells → HoldsTold state (S.files site) }
+    ensures complete { NeverRefuses S.Site state site result.status }
+    ensures ran { RunsCommand S.Site state site result.site (I.left source.old) (I.left source.new) result.status }
+    ensures refused { IsRefusal result.status → RefusesRun S.Site site result.site result.status }
+    ensures end { result.status ≡ Status.Ok → (all : List ℕ) → I.left source.old ≡ Some all → I.left source.new ≡ Some [] }
+    ensures statuses { IsOfRun result.status }
+    ensures disk { CountedAt (result.status ≡ Status.DiskFault) (S.disk_faults site) (S.disk_faults result.site) }
+    ensures say { CountedAt (result.status ≡ Status.SayFault) (S.say_faults site) (S.say_faults result.site) }
+    ensures input { CountedAt (result.status ≡ Status.InputFault) (I.faults source.old) (I.faults source.new) }
+    ensures same { S.same_site site result.site }
+    ensures same_source { I.same_source source.old source.new }
+{
+    match open(alloc, Found { site }) {
+        Ok(opened) => run_opened::<S, I, Brand>(alloc, opened, source),
+        Err((fault, site)) => Ended {
+            status: status_of_open(fault),
+            site,
+        },
+    }
+}
+
+/// `run`: opens the database by halt/load, runs the lines of the script and closes it.
+///
+/// What is said of points, moments and text is said of each state that the files stand for at entry: a caller may tell it, and needn't.
+pub fn run_command<S: Site, I: Source>(alloc: Global, site: &mut S, source: &mut I) -> Status
+    ghost state: { Option DatabaseState }
+    requires told { IsTrue S.tells → HoldsTold state (S.files site.old) }
+    ensures stands { StandsThroughout S.Site state site.old site.new (I.left source.old) }
+    ensures complete { NeverRefuses S.Site state site.old result }
+    ensures ran { RunsCommand S.Site state site.old site.new (I.left source.old) (I.left source.new) result }
+    ensures refused { IsRefusal result → RefusesRun S.Site site.old site.new result }
+    ensures end { result ≡ Status.Ok → (all : List ℕ) → I.left source.old ≡ Some all → I.left source.new ≡ Some [] }
+    ensures statuses { IsOfRun result }
+    ensures disk { CountedAt (result ≡ Status.DiskFault) (S.disk_faults site.old) (S.disk_faults site.new) }
+    ensures say { CountedAt (result ≡ Status.SayFault) (S.say_faults site.old) (S.say_faults site.new) }
+    ensures input { CountedAt (result ≡ Status.InputFault) (I.faults source.old) (I.faults source.new) }
+    ensures same_site { S.same_site site.old site.new }
+    ensures same_source { I.same_source source.old source.new }
+{
+    stands_law();
+    let ended = run_found(alloc, site, source);
+    let status = ended.status;
+    let _site = ended.into_site();
+    status
+}

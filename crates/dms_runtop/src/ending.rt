@@ -1,0 +1,73 @@
+//! The status that each fault ends with.
+
+ghost use Rattle.std.specs.Prelude.{◌≡◌};
+ghost use Rattle.dms_runtop.specs.Faults.{block_status, damaged_status, run_status, open_status};
+
+use dms_audfile::AudFault;
+use dms_block::BlockFault;
+use dms_restore::OpenFault;
+use dms_runner::RunFault;
+use dms_status::{LimitKind, NeedFault, Status};
+
+/// The last number of a file that is no structure file.
+const LAST_OTHER_FILE: u32 = 30_000;
+
+/// The status that a damaged block ends with. Only blocks of structure files are found damaged while a script runs; where another file were
+/// named, that counts as want of memory.
+fn status_of_damage(file: u32, block: u32) -> Status
+    ensures { result ≡ damaged_status file block }
+{
+    if file > LAST_OTHER_FILE {
+        Status::Damaged(file, block)
+    } else {
+        Status::Memory
+    }
+}
+
+/// The status that a fault of blocks ends with.
+pub fn status_of_block(fault: BlockFault) -> Status
+    ensures { result ≡ block_status fault }
+{
+    match fault {
+        BlockFault::Disk => Status::DiskFault,
+        BlockFault::Memory => Status::Memory,
+        BlockFault::Full(file) => Status::Limit(LimitKind::AuditFile(file)),
+        BlockFault::Damaged(file, block) => status_of_damage(file, block),
+        BlockFault::Say => Status::SayFault,
+    }
+}
+
+/// The status that a fault of a run ends with.
+pub fn status_of_run(fault: RunFault) -> Status
+    ensures { result ≡ run_status fault }
+{
+    match fault {
+        RunFault::Block(fault) => status_of_block(fault),
+        RunFault::Input => Status::InputFault,
+        RunFault::Lines => Status::Limit(LimitKind::Lines),
+        RunFault::Bytes => Status::Limit(LimitKind::Bytes),
+        RunFault::Held => Status::Limit(LimitKind::Held),
+        RunFault::Memory => Status::Memory,
+    }
+}
+
+/// The status that a fault of an opening ends with.
+pub fn status_of_open(fault: OpenFault) -> Status
+    ensures { result ≡ open_status fault }
+{
+    match fault {
+        OpenFault::Audit(AudFault::NoDatabase) => Status::NoDatabase,
+        OpenFault::Audit(AudFault::Disk) => Status::DiskFault,
+        OpenFault::Audit(AudFault::Full(file)) => Status::Limit(LimitKind::AuditFile(file)),
+        OpenFault::Audit(AudFault::Missing(file)) => Status::Needed(NeedFault::AuditMissing(file)),
+        OpenFault::Audit(AudFault::Unsealed(file)) => {
+            Status::Needed(NeedFault::AuditUnsealed(file))
+        }
+        OpenFault::Audit(AudFault::Foreign(file)) => Status::Needed(NeedFault::AuditForeign(file)),
+        OpenFault::Audit(AudFault::Damaged(file, block)) => Status::Damaged(file, block),
+        OpenFault::Audit(AudFault::Memory) => Status::Memory,
+        OpenFault::NoSuchPoint(point) => Status::Needed(NeedFault::NoSuchPoint(point)),
+        OpenFault::Voided(point) => Status::Needed(NeedFault::Voided(point)),
+        OpenFault::ByDump(dump) => Status::Needed(NeedFault::DumpPending(dump)),
+    }
+}

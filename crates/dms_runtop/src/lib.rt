@@ -1,0 +1,16 @@
+//! The command `run`: a script over the database on disk.
+#![tactic(auto)]
+
+mod command;
+mod describing;
+mod ended;
+mod ending;
+mod over;
+mod veil;
+
+pub use command::run_command;
+pub use describing::describe;
+pub use ended::Ended;
+pub use ending::{status_of_block, status_of_open, status_of_run};
+pub use over::run_over;
+pub use veil::{Knows, Veiled};

@@ -1,0 +1,6 @@
+//! How a command ends.
+#![tactic(auto)]
+
+mod status;
+
+pub use status::{LimitKind, NeedFault, SchemaFault, Status};
