@@ -59,7 +59,7 @@ stand total first desc well db start entry points n next lines x low r =
             | inl made ↦ of_all (HasLive desc (points_of t x.files)) q r.made r.each made
             | inr behind ↦ absurd (omega (arith, le, number_high n next r.made r.rest q low (subst (RisesBy next) (sym r.front_of) rises) behind))
           ]
-      );
+          );
       next_left = next_in t x.files;
       has_next = stands.next total first x.files r.whole;
       not_fallen = omega (arith, r.next_is);
