@@ -8,7 +8,7 @@ use Rattle.std.proofs.lemmas.Bool.Decides.{nat_tests}
 use Rattle.dms_desc.specs.Shape.{Described}
 use Rattle.dms_desc.specs.declared.record.Record.{Record}
 use Rattle.dms_base.specs.declared.category.Category.{Category}
-use Rattle.dms_base.specs.declared.category.Category.TheVariants.{LimitError, NoRecord, AuditError, DataError, NotLocked, Abort as AbortDue}
+use Rattle.dms_base.specs.declared.category.Category.TheVariants.{LimitError, AuditError, Abort as AbortDue}
 use Rattle.dms_model.specs.Programs.{Program, Lock, Area, New, Old}
 use Rattle.dms_model.specs.declared.program.Mode.{Mode}
 use Rattle.dms_model.specs.declared.verb.Verb.{Verb}
@@ -21,10 +21,10 @@ use Rattle.dms_model.specs.declared.reply.Reply.TheVariants.{Done, Exception}
 use Rattle.dms_model.specs.StoreLaws.{IsStorable, begun_any, keep_any, new_stored, old_stored}
 use Rattle.dms_model.specs.declared.put.Put.TheVariants.{Stored}
 use Rattle.dms_model.specs.declared.spot.Spot.{Spot}
-use Rattle.dms_model.specs.Db.{Db, Place, fresh, records_of}
-use Rattle.dms_desc.specs.Lookups.{name_of, structure_of, items_of, set_of}
-use Rattle.dms_model.specs.Stores.{put_answer, put_unless, put_number, is_full, clash, put_after, linked, stored}
-use Rattle.dms_model.specs.Session.{Session, Outcome, StoreResult, Refused, Keeps, Filled, Misfit, Values', refuse, done, shows, settle, keep, store_step, after_store, begin_step, after_begin, begun, current_of, holds, replies, end_step, after_end, abort_step, find_step, find_for, after_find, found_by, create_step, create_for, owner_for, put_step, put_area, after_put, filled, get_step, get_area, close_step, open_as, open_in, open_step, verb_step, step_at, answered, carried_out, step, with_program, with_work, with_lock, restart_of, someone_works, is_inquiry, opens, changes, path_of, new_program, place_of, carried, entered, left, without, idle, backed_out, found_program, stored_program, let_go, is_lock, is_elsewhere, area_values, area_number, record_of, is_free, one_more, with_values, area_of}
+use Rattle.dms_model.specs.Db.{Db, Place}
+use Rattle.dms_desc.specs.Lookups.{structure_of, items_of, set_of}
+use Rattle.dms_model.specs.Stores.{put_answer, put_after, linked}
+use Rattle.dms_model.specs.Session.{Session, Outcome, StoreResult, Refused, Keeps, Filled, Misfit, Values', refuse, done, shows, settle, keep, store_step, after_store, begin_step, after_begin, begun, current_of, holds, replies, end_step, after_end, abort_step, find_step, find_for, after_find, found_by, create_step, create_for, owner_for, put_step, put_area, after_put, filled, get_step, get_area, close_step, open_as, open_in, open_step, verb_step, step_at, answered, carried_out, step, with_program, with_work, with_lock, restart_of, someone_works, is_inquiry, opens, changes, path_of, new_program, place_of, carried, entered, left, without, idle, backed_out, found_program, stored_program, let_go, is_lock, is_elsewhere, area_values, record_of, one_more, with_values, area_of}
 use Rattle.dms_laws.specs.Exclusive.{ShareNoLock, AllShareNoLock, AreSafe, AreExclusive, IsExclusive, locks_it, is_locked_for, backs_out, is_done, LocksStayExclusive, LosesNoUpdate, LeavesLocks, BacksOut, locks_left}
 use Rattle.dms_model.specs.Traits.{traits}
 use Rattle.dms_laws.specs.Runs.{after}

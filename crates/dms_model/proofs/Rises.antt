@@ -3,9 +3,8 @@ use Rattle.std.proofs.Common.{◌≡◌, ◌≤◌, ◌+◌, ℕ, List, [], ◌�
 use Rattle.std.specs.declared.option.Option.{Option}
 use Rattle.dms_desc.specs.Shape.{Described}
 use Rattle.dms_base.specs.declared.category.Category.{Category}
-use Rattle.dms_base.specs.declared.category.Category.TheVariants.{LimitError, NoRecord, AuditError}
-use Rattle.std.specs.Prelude.{is_some, slice_get}
-use Rattle.dms_desc.specs.Lookups.{name_of, structure_of}
+use Rattle.dms_base.specs.declared.category.Category.TheVariants.{LimitError, AuditError}
+use Rattle.std.specs.Prelude.{slice_get}
 use Rattle.dms_model.specs.Programs.{Program, Area}
 use Rattle.dms_model.specs.declared.program.Mode.{Mode}
 use Rattle.dms_model.specs.declared.verb.Verb.{Verb}

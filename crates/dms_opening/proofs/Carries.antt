@@ -1,5 +1,5 @@
 -- A plan that is carried out.
-use Rattle.std.proofs.Common.{ℕ, ◌+◌, ◌*◌, ◌/◌, ◌≤◌, ◌<◌, ◌≡◌, ◌⊎◌, inl, inr, Bool, true, false, cond, IsTrue, List, [], ◌∷◌, ◌++◌, append_assoc, length, take, Option, Some, None, refl, sym, ◌∙◌, ap, subst, arith}
+use Rattle.std.proofs.Common.{ℕ, ◌/◌, ◌≡◌, ◌⊎◌, inl, inr, Bool, true, false, cond, IsTrue, List, [], ◌∷◌, ◌++◌, append_assoc, length, take, Option, Some, None, refl, sym, ◌∙◌, ap, subst, arith}
 use Rattle.std.proofs.lemmas.List.{take_all}
 use Rattle.std.specs.Prelude.{IfErr}
 use Rattle.std.specs.declared.result.Result.{Result}
@@ -30,24 +30,40 @@ use Rattle.dms_restore.specs.declared.choosing.OpenFault.TheVariants.{Audit}
 use Rattle.dms_restore.specs.Bodies.{bodies}
 use Rattle.dms_restore.specs.Counts.{count_of, file_counts}
 use Rattle.dms_restore.specs.Laying.{schema_control}
-use Rattle.dms_restore.specs.Logging as logs
-use Rattle.dms_restore.specs.Logging.{LogView, telling_of, telling, state, entries, points, durable, content, PrintsNothing}
+use Rattle.dms_restore.specs.Logging.{LogView, telling_of, telling, state, entries, points, content, PrintsNothing}
+use Rattle.dms_restore.specs.Table.{IsTable}
+use Rattle.dms_restore.specs.declared.told.Told.{Told}
 use Rattle.dms_restore.specs.Refusals.{IsOpening}
 use Rattle.dms_restore.specs.Begins.{BegunAt}
 use Rattle.dms_restore.specs.Starts.{MayOpen, MayEnd, BegunFrom, OpenedAt}
 use Rattle.dms_restore.proofs.CountBytes.{IsCountTable, counts_read, counts_told}
 use Rattle.dms_restore.proofs.GoneOn.{each_on}
 use Rattle.dms_wal.specs.Lifting.{last_blocks}
-use Rattle.dms_wal.specs.Marks.{last_number, IsMarkOf}
+use Rattle.dms_wal.specs.Marks.{last_number}
 use Rattle.dms_wal.proofs.Under.{under_control}
 use Rattle.dms_opening.specs.declared.plan.Plan.{Plan}
 use Rattle.dms_opening.specs.Plans.{Plans}
 use Rattle.dms_opening.specs.Openings.{begin_where_none, opening_entries, RunsFrom, MayHaveWritten, Reopens, text_of}
-use Rattle.dms_opening.specs.Carrying.{IsReady, IsPlanned, BeginsPlan, BeginsWhole}
+use Rattle.dms_opening.specs.Carrying.{IsReady, IsPlanned}
 use Rattle.dms_opening.proofs.LastPoint.{last_is, left_is}
 
 none_not_some : {A : Type 0} (x : A) → None ≡ Some x → ⊥
 none_not_some x e = absurd cc
+
+-- By the plan of a trail that was scanned the restore is begun, or goes on: its Begin alone stands behind the entries that there were.
+pub record BeginsPlan (a : LogView) (plan : Plan) (b : LogView) : Type 0 where
+  pub planned : IsPlanned a plan
+  pub total_same : b.end.total ≡ a.end.total
+  pub first_same : b.first ≡ a.first
+  pub grown : Grown a.end.total a.first a.files b.files
+  pub sealed : trail_entries a.end.total a.first b.files ≡ trail_entries a.end.total a.first a.files ++ begin_where_none (history_of (trail_entries a.end.total a.first a.files)).pending plan.choice.point
+
+-- So it is where the files hold a database: the restore is to leave what it was to leave, and points and next number are the same.
+pub record BeginsWhole (a : LogView) (plan : Plan) (b : LogView) : Type 0 where
+  pub begins : BeginsPlan a plan b
+  pub whole : IsWhole (telling a) a.files
+  pub begun : BegunAt begins.planned.plans.chooses.restore b
+  pub keeps : BegunFrom begins.planned.plans.chooses.restore a b
 
 -- the Begin of an opening is there where it begins a restore
 pub begin_is : (h : History) (begins : Bool) (point : ℕ) (p : Pending) → IsOpening h begins point p → cond begins (begin_restore point by_halt_load ∷ []) [] ≡ begin_where_none h.pending point
@@ -57,6 +73,10 @@ begin_is h false point p o = ap (λ (r : Option Pending). begin_where_none r poi
 pub count_table : (plan : Plan) → IsReady plan → IsCountTable plan.counts.items
 count_table plan ready = record { few = ready.counts.few; small = ready.counts.small }
 
+-- the bytes of the counts, by another name of their list
+pub bytes_are : (counts said bytes : List ℕ) → said ≡ counts → bytes ≡ pair_bytes count_file count_blocks (file_counts 30001 said) → bytes ≡ pair_bytes count_file count_blocks (file_counts 30001 counts)
+bytes_are counts said bytes same is = is ∙ ap (λ (l : List ℕ). pair_bytes count_file count_blocks (file_counts 30001 l)) same
+
 -- what an opening may do
 pub may_open : (v : LogView) (plan : Plan) (s : IsPlanned v plan) → IsWhole (telling v) v.files → MayOpen v plan.choice.begins plan.choice.point s.plans.chooses.restore
 may_open v plan s whole = record { start = s.start; whole = whole; opening = s.plans.chooses.is }
@@ -64,7 +84,7 @@ may_open v plan s whole = record { start = s.start; whole = whole; opening = s.p
 -- the Begin of a plan is sealed
 module _ (a b : LogView) (plan : Plan) (s : IsPlanned a plan) (total : b.end.total ≡ a.end.total) (first : b.first ≡ a.first) (grown : Grown a.end.total a.first a.files b.files)
     (sealed : trail_entries a.end.total a.first b.files ≡ trail_entries a.end.total a.first a.files ++ cond plan.choice.begins (begin_restore plan.choice.point by_halt_load ∷ []) []) where
-  pub begins_plan : BeginsPlan a plan b
+  abbrev pub begins_plan : BeginsPlan a plan b
   begins_plan = record {
     planned = s;
     total_same = total;
@@ -81,7 +101,7 @@ pub leaves_on : (a b : LogView) (plan : Plan) (later : Clock Left) → BeginsWho
 leaves_on a b plan later w first then = each_on a b later (λ i. telling_of (w.begins.total_same i) (w.begins.first_same i)) w.keeps.points_same w.keeps.next_same first then
 
 module _ (a b : LogView) (plan : Plan) (w : BeginsWhole a plan b) (ready : IsReady plan) (bytes : List ℕ) (is : bytes ≡ pair_bytes count_file count_blocks (file_counts 30001 plan.counts.items)) where
-  plans : Plans a.end.total a.first a.files plan
+  abbrev plans : Plans a.end.total a.first a.files plan
   plans = w.begins.planned.plans
 
   abbrev restore : Pending
@@ -90,17 +110,20 @@ module _ (a b : LogView) (plan : Plan) (w : BeginsWhole a plan b) (ready : IsRea
   same : telling b ≡ telling a
   same = λ i. telling_of (w.begins.total_same i) (w.begins.first_same i)
 
-  pub may_end : MayEnd restore b plan.table.items plan.choice.point plan.next bytes
-  may_end = record {
+  pub may_end : (table : List Told) → table ≡ plan.table.items → MayEnd restore b table plan.choice.point plan.next bytes
+  may_end table listed = record {
     begun = w.begun;
-    table_is = plans.table_is b.files w.begins.grown;
+    table_is = subst (λ (l : List Told). IsTable restore.entries restore.point b.files l) (sym listed) (plans.table_is b.files w.begins.grown);
     point_is = sym plans.chooses.is.point_is;
     next_is = sym plans.next_is ∙ sym w.keeps.next_same;
     count = λ f. counts_told plan.counts.items (count_table plan ready) bytes is f ∙ plans.counts_are f;
   }
 
   -- the database runs
-  module _ (c : LogView) (kind : telling c ≡ telling a) (o : OpenedAt restore b c (schema_control plan.schema.items plan.choice.point plan.next bytes)) where
+  module _ (c : LogView) (kind : telling c ≡ telling a) (schema : List ℕ) (described : schema ≡ plan.schema.items) (opened : OpenedAt restore b c (schema_control schema plan.choice.point plan.next bytes)) where
+    abbrev o : OpenedAt restore b c (schema_control plan.schema.items plan.choice.point plan.next bytes)
+    o = subst (λ (l : List ℕ). OpenedAt restore b c (schema_control l plan.choice.point plan.next bytes)) described opened
+
     points_are : points c ≡ points_of (telling a) a.files
     points_are = o.points_same ∙ w.keeps.points_same
 

@@ -9,3 +9,4 @@ pub mod Opens
 pub mod Runs
 pub mod Callers
 pub mod Complete
+pub mod Trims

@@ -4,15 +4,14 @@ use Rattle.std.specs.declared.option.Option.{Option}
 use Rattle.dms_desc.specs.Shape.{Described}
 use Rattle.dms_desc_bytes.specs.Spelling.{spelling}
 use Rattle.dms_desc_bytes.specs.WellFormed.{IsWellFormed}
-use Rattle.dms_moments.specs.Moments.{Clock, Runs}
+use Rattle.dms_moments.specs.Moments.{Runs}
 use Rattle.dms_site.specs.declared.site.Site.{Ghosts}
 use Rattle.dms_site.specs.Files.{Files, Left, Only}
 use Rattle.dms_block.specs.Held.{Held}
 use Rattle.dms_history.specs.History.{Pending}
 use Rattle.dms_history.specs.Pick.{count_at}
 use Rattle.dms_history.specs.Entries.{Entry, begin_restore, by_halt_load, control_point}
-use Rattle.dms_history.specs.Places.{IsLive}
-use Rattle.dms_history.specs.EntryEvents.{history_of, live_of, next_of}
+use Rattle.dms_history.specs.EntryEvents.{history_of, next_of}
 use Rattle.dms_history.specs.Schemas.{schema_entries}
 use Rattle.dms_history.specs.SchemaAt.{schema_at}
 use Rattle.dms_audfile.specs.AuditTrail.{IsFound}
@@ -35,9 +34,10 @@ use Rattle.dms_restore.specs.Counts.{count_of, file_counts}
 use Rattle.dms_restore.specs.Logging as logs
 use Rattle.dms_restore.specs.Logging.{LogView, telling_of, telling, state, waits, LogRuns, entries, points, durable, content}
 use Rattle.dms_restore.specs.Refusals.{dump_in}
-use Rattle.dms_wal.specs.Lifting.{block_point, last_blocks, lifted}
+use Rattle.dms_wal.specs.Lifting.{block_point, last_blocks}
 use Rattle.dms_wal.specs.Marks.{IsMarkOf, StandsUnder}
-use Rattle.dms_opening.specs.Plans.{HasNoDescription, RefusesPlan}
+use Rattle.dms_opening.specs.Plans.{IsPlainFault, RefusesPlan}
+use Rattle.dms_opening.specs.Laws.{LastIsDescribed}
 
 -- Scanning refuses nothing in these files: their trail begins with file `first`, and each of its files has so many blocks.
 pub record HasTrail (total first : ℕ) (files : Files) : Type 0 where
@@ -113,13 +113,12 @@ module _ {S : Type 0} (g : Ghosts S) where
   ReopensSince a b = (total first : ℕ) → HasTrail total first (g.files a) → IsWhole (telling_of total first) (g.files a) → Runs (g.clock a) (g.clock b) (Reopens (telling_of total first) (g.files a) (text_of a))
 
 -- Blocks tell exactly the points of files, all of them durable, the content of the last one, and the next number.
--- What a stop leaves is what it leaves of the site, and they weren't synced yet.
-pub record TellsOpened (t : Telling) (files : Files) (next : ℕ) (clock : Clock Left) (h : Held) : Type 0 where
+-- They weren't synced yet.
+pub record TellsOpened (t : Telling) (files : Files) (next : ℕ) (h : Held) : Type 0 where
   pub points_are : h.points ≡ map block_point (points_of t files)
   pub all_durable : h.durable ≡ length h.points
   pub content_is : h.content ≡ h.mark
   pub next_is : h.next ≡ next
-  pub clock_is : h.clock ≡ lifted t clock
   pub no_sync : h.uses.syncs ≡ 0
 
 -- ---- why it is refused
@@ -140,18 +139,13 @@ RefusesFiles files fault = ((e : AudFault) × (fault ≡ Audit e) × Refuses fil
 abbrev pub MayHaveWritten : OpenFault → Type 0
 MayHaveWritten fault = (fault ≡ Audit aud.Disk) ⊎ (fault ≡ Audit (aud.Full 9999))
 
--- These files hold a database that has a point, and no restore by a dump is pending.
+-- These files hold a database, whose last point is live and described, and no restore by a dump is pending.
 pub record IsOpenable (total first : ℕ) (files : Files) : Type 0 where
   pub trail : HasTrail total first files
   pub whole : IsWhole (telling_of total first) files
-  pub point : ℕ
-  pub lives : IsLive (live_of (trail_entries total first files)) point
+  pub described : LastIsDescribed (trail_entries total first files)
   pub no_dump : dump_in (history_of (trail_entries total first files)).pending ≡ None
 
 -- What has nothing to do with the files: a failed call, want of memory, an audit without room.
 abbrev pub IsNoRefusal : OpenFault → Type 0
-IsNoRefusal fault = (fault ≡ Audit aud.Disk) ⊎ ((fault ≡ Audit aud.Memory) ⊎ (fault ≡ Audit (aud.Full 9999)))
-
--- the Schema at the point has no byte, or more than a description can have
-abbrev pub LacksDescription : ℕ → ℕ → Files → OpenFault → Type 0
-LacksDescription total first files fault = (fault ≡ Audit (aud.Damaged first 0)) × HasNoDescription total first files
+IsNoRefusal fault = IsPlainFault fault ⊎ (fault ≡ Audit (aud.Full 9999))

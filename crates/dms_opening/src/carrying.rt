@@ -1,19 +1,18 @@
 //! A plan is carried out: the restore is begun, its blocks are written, and it is ended.
 
 ghost use Rattle.std.specs.Prelude.{◌≡◌, ◌≤◌, IfOk, IfErr, IsTrue};
-ghost use Rattle.dms_moments.specs.Moments.{Runs, Steps};
+ghost use Rattle.dms_moments.specs.Moments.{Runs};
 ghost use Rattle.dms_audfile.specs.Counting.{CountedAt};
-ghost use Rattle.dms_running.specs.Begun.{LeavesAll};
 ghost use Rattle.dms_running.specs.Standing.{IsWhole};
-ghost use Rattle.dms_restore.specs.Logging.{LogView, PrintsNothing, telling, state};
+ghost use Rattle.dms_restore.specs.Logging.{telling};
 ghost use Rattle.dms_wal.specs.Database.{view_of};
-ghost use Rattle.dms_opening.specs.Carrying.{IsReady, IsPlanned, BeginsPlan, BeginsWhole};
+ghost use Rattle.dms_opening.specs.Carrying.{IsReady, IsPlanned};
 ghost use Rattle.dms_opening.specs.Openings.{RunsFrom, Reopens, text_of, MayHaveWritten};
 
 use crate::looking::Planned;
 use crate::{Opened, Plan};
 use dms_audfile::AudFault;
-use dms_restore::{Begun, Log, OpenFault, count_bytes};
+use dms_restore::{Log, OpenFault, count_bytes};
 use dms_site::Site;
 
 /// The site of a log. Makes no call of it.
@@ -28,49 +27,7 @@ pub(crate) fn site_of<S: Site>(log: Log<S>) -> S
     site
 }
 
-/// Writes the blocks of a plan whose restore is begun, and ends the restore.
-pub(crate) fn end_plan<S: Site>(begun: Begun<S>, plan: Plan) -> Result<Opened<S>, (OpenFault, S)>
-    requires ready { IsReady plan }
-    requires limit { begun.log.end.limit ≡ 9999 }
-    ensures runs { IfOk result (λ o. (a : LogView) → IsTrue S.tells → BeginsWhole a plan (view_of S.Site begun.log) → RunsFrom a.files plan.choice.point plan.next plan.schema.items plan.counts.items (view_of S.Site o.log)) }
-    ensures moments { IfOk result (λ o. (a : LogView) → IsTrue S.tells → BeginsWhole a plan (view_of S.Site begun.log) → LeavesAll (telling (view_of S.Site begun.log)) (state (view_of S.Site begun.log)) (S.clock o.log.site)) }
-    ensures stopped { IfErr result (λ e. (a : LogView) → IsTrue S.tells → BeginsWhole a plan (view_of S.Site begun.log) → LeavesAll (telling (view_of S.Site begun.log)) (state (view_of S.Site begun.log)) (S.clock e.1)) }
-    ensures silent { IfOk result (λ o. (a : LogView) → IsTrue S.tells → BeginsWhole a plan (view_of S.Site begun.log) → Steps PrintsNothing (S.clock begun.log.site) (S.clock o.log.site)) }
-    ensures silent_then { IfErr result (λ e. (a : LogView) → IsTrue S.tells → BeginsWhole a plan (view_of S.Site begun.log) → Steps PrintsNothing (S.clock begun.log.site) (S.clock e.1)) }
-    ensures only { IfErr result (λ e. (a : LogView) → IsTrue S.tells → BeginsPlan a plan (view_of S.Site begun.log) → MayHaveWritten e.0) }
-    ensures plan { IfOk result (λ o. (o.point ≡ plan.choice.point) × (o.next ≡ plan.next) × (o.schema ≡ plan.schema) × (o.counts ≡ plan.counts)) }
-    ensures kind { IfOk result (λ o. (o.log.end.total ≡ begun.log.end.total) × (o.log.end.limit ≡ begun.log.end.limit) × (o.log.first ≡ begun.log.first)) }
-    ensures same { IfOk result (λ o. S.same_site begun.log.site o.log.site) }
-    ensures same_then { IfErr result (λ e. S.same_site begun.log.site e.1) }
-    ensures said { IfOk result (λ o. S.said o.log.site ≡ S.said begun.log.site) }
-    ensures said_then { IfErr result (λ e. S.said e.1 ≡ S.said begun.log.site) }
-    ensures clean { IfOk result (λ o. S.disk_faults o.log.site ≡ S.disk_faults begun.log.site) }
-    ensures disk { IfErr result (λ e. CountedAt (e.0 ≡ OpenFault.Audit AudFault.Disk) (S.disk_faults begun.log.site) (S.disk_faults e.1)) }
-    ensures say_faults { IfOk result (λ o. S.say_faults o.log.site ≡ S.say_faults begun.log.site) }
-    ensures say_faults_then { IfErr result (λ e. S.say_faults e.1 ≡ S.say_faults begun.log.site) }
-{
-    let Plan {
-        choice,
-        next,
-        table,
-        counts,
-        schema,
-    } = plan;
-    let mut bytes = [0u8; 1600];
-    let used = count_bytes(&counts, &mut bytes);
-    match begun.go_on(&table, &schema, choice.point, next, &bytes[..used]) {
-        Ok(log) => Ok(Opened {
-            log,
-            schema,
-            counts,
-            next,
-            point: choice.point,
-        }),
-        Err((fault, log)) => Err((OpenFault::Audit(fault), site_of(log))),
-    }
-}
-
-/// Begins the restore of a plan, or goes on with the pending one, and ends it.
+/// Begins the restore of a plan, or goes on with the pending one, writes its blocks, and ends it.
 pub(crate) fn carry_out<S: Site>(planned: Planned<S>) -> Result<Opened<S>, (OpenFault, S)>
     requires ready { IsReady planned.plan }
     requires limit { planned.log.end.limit ≡ 9999 }
@@ -93,8 +50,27 @@ pub(crate) fn carry_out<S: Site>(planned: Planned<S>) -> Result<Opened<S>, (Open
     ensures say_faults_then { IfErr result (λ e. S.say_faults e.1 ≡ S.say_faults planned.log.site) }
 {
     let Planned { log, plan } = planned;
-    match log.start(plan.choice.begins, plan.choice.point) {
-        Ok(begun) => end_plan(begun, plan),
+    let Plan {
+        choice,
+        next,
+        table,
+        counts,
+        schema,
+    } = plan;
+    let begun = match log.start(choice.begins, choice.point) {
+        Ok(begun) => begun,
+        Err((fault, log)) => return Err((OpenFault::Audit(fault), site_of(log))),
+    };
+    let mut bytes = [0u8; 1600];
+    let used = count_bytes(&counts, &mut bytes);
+    match begun.go_on(&table, &schema, choice.point, next, &bytes[..used]) {
+        Ok(log) => Ok(Opened {
+            log,
+            schema,
+            counts,
+            next,
+            point: choice.point,
+        }),
         Err((fault, log)) => Err((OpenFault::Audit(fault), site_of(log))),
     }
 }

@@ -1,6 +1,6 @@
 //! A database is opened: from the files that were found to a database that runs.
 
-ghost use Rattle.std.specs.Prelude.{◌≡◌, ◌⊎◌, ℕ, ◌<◌, ◌≤◌, IfOk, IfErr, IsTrue};
+ghost use Rattle.std.specs.Prelude.{◌≡◌, ℕ, false, ◌<◌, ◌≤◌, IfOk, IfErr, IsTrue};
 ghost use Rattle.dms_moments.specs.Moments.{Steps};
 ghost use Rattle.dms_site.specs.Files.{Files, Same};
 ghost use Rattle.dms_audfile.specs.Counting.{CountedAt};
@@ -9,7 +9,7 @@ ghost use Rattle.dms_restore.specs.Logging.{telling_of};
 ghost use Rattle.dms_wal.specs.Database.{IsUsable, held, view_of};
 ghost use Rattle.dms_wal.specs.Lifting.{AreCounts};
 ghost use Rattle.dms_wal.specs.Marks.{IsDescription};
-ghost use Rattle.dms_opening.specs.Openings.{NamesStructures, OpensAt, RunsFrom, ReopensSince, TellsOpened, RefusesFiles, MayHaveWritten, IsOpenable, IsNoRefusal, LacksDescription};
+ghost use Rattle.dms_opening.specs.Openings.{NamesStructures, OpensAt, RunsFrom, ReopensSince, TellsOpened, RefusesFiles, MayHaveWritten, IsOpenable, IsNoRefusal};
 
 use crate::carrying::{carry_out, site_of};
 use crate::looking::look;
@@ -47,7 +47,7 @@ pub fn open<S: Site>(alloc: Global, found: Found<S>) -> Result<Opened<S>, (OpenF
     ensures moments { IfOk result (λ o. IsTrue S.tells → ReopensSince S.Site found.site o.log.site) }
     ensures stopped { IfErr result (λ e. IsTrue S.tells → ReopensSince S.Site found.site e.1) }
     ensures refused { IfErr result (λ e. IsTrue S.tells → RefusesFiles (S.files found.site) e.0) }
-    ensures complete { IfErr result (λ e. IsTrue S.tells → (total first : ℕ) → IsOpenable total first (S.files found.site) → IsNoRefusal e.0 ⊎ LacksDescription total first (S.files found.site) e.0) }
+    ensures complete { IfErr result (λ e. IsTrue S.tells → (total first : ℕ) → IsOpenable total first (S.files found.site) → IsNoRefusal e.0) }
     ensures files_then { IfErr result (λ e. IsTrue S.tells → (MayHaveWritten e.0 → ⊥) → S.files e.1 ≡ S.files found.site) }
     ensures moments_then { IfErr result (λ e. IsTrue S.tells → (MayHaveWritten e.0 → ⊥) → Steps Same (S.clock found.site) (S.clock e.1)) }
     ensures same { IfOk result (λ o. S.same_site found.site o.log.site) }
@@ -80,8 +80,8 @@ impl<S: Site> Opened<S> {
         requires table { AreCounts self.counts.items }
         ensures usable { IfOk result (λ r. (IsTrue S.tells → (files : Files) × RunsFrom files self.point self.next self.schema.items self.counts.items (view_of S.Site self.log)) → IsUsable S.Site r) }
         ensures tells { IfOk result (λ r. (files : Files) → RunsFrom files self.point self.next self.schema.items self.counts.items (view_of S.Site self.log)
-            → TellsOpened (telling_of self.log.end.total self.log.first) files self.next (S.clock self.log.site) (held S.Site r)) }
-        ensures log { IfOk result (λ r. (r.log.site ≡ self.log.site) × (r.log.first ≡ self.log.first) × (r.log.end ≡ record self.log.end { limit = limit })) }
+            → TellsOpened (telling_of self.log.end.total self.log.first) files self.next (held S.Site r)) }
+        ensures log { IfOk result (λ r. (r.log.site ≡ self.log.site) × (r.log.first ≡ self.log.first) × (r.log.end.total ≡ self.log.end.total) × (r.log.end.limit ≡ limit)) }
         ensures kept { IfOk result (λ r. (r.schema ≡ self.schema) × (r.counts ≡ self.counts) × (r.next ≡ self.next) × (r.point ≡ self.point) × (r.every ≡ every) × (r.changed ≡ false) × (r.syncs ≡ 0)) }
         ensures site { IfErr result (λ e. e.1 ≡ self.log.site) }
     {

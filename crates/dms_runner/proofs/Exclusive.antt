@@ -1,5 +1,5 @@
 -- Whatever a run does, no two programs lock one record, and what is locked stands.
-use Rattle.std.proofs.Common.{◌≡◌, ℕ, zero, suc, List, [], ◌∷◌, ◌++◌, Bool, true, false, cond, nat_le, length, arith}
+use Rattle.std.proofs.Common.{ℕ, zero, suc, List, [], ◌∷◌, ◌++◌, Bool, true, false, cond, nat_le, length, arith}
 use Rattle.dms_desc.specs.Shape.{Described}
 use Rattle.dms_feed.specs.Lines.{line_text}
 use Rattle.dms_model.specs.declared.verb.Verb.{Verb}
@@ -11,7 +11,7 @@ use Rattle.dms_script.specs.declared.line.Line.{Line}
 use Rattle.dms_script.specs.declared.line.Line.TheVariants.{Empty, Verb as Spoken, Bad}
 use Rattle.dms_script.specs.Lines.{line_of}
 use Rattle.dms_runner.specs.declared.waiting.WaitingLine.{WaitingLine}
-use Rattle.dms_runner.specs.Answers.{RunState, LineEffect, MayTakeLine, first_line, line_effect, line_step, nothing_done, one_line_more, put_to_wait}
+use Rattle.dms_runner.specs.Answers.{RunState, LineEffect, MayTakeLine, first_line, line_effect, line_step, one_line_more, put_to_wait}
 use Rattle.dms_runner.specs.Events.{RunEvent}
 use Rattle.dms_runner.specs.Waiting.{has_line, said_to_wait, RetryEffect, retries, retry, retry_after_answer}
 

@@ -5,23 +5,23 @@ use Rattle.std.specs.List.{AllByRecursion}
 use Rattle.std.specs.declared.option.Option.{Option}
 use Rattle.std.proofs.lemmas.Bool.Decides.{nat_tests}
 use Rattle.dms_base.specs.declared.kind.ItemKind.{ItemKind}
-use Rattle.dms_base.specs.declared.kind.ItemKind.TheVariants.{Alpha, Number as Decimal, Bool as OneBit, Field, Link}
+use Rattle.dms_base.specs.declared.kind.ItemKind.TheVariants.{Alpha, Number as Decimal, Bool as OneBit, Field}
 use Rattle.dms_base.specs.declared.kind.Literal.{Literal}
 use Rattle.dms_base.specs.declared.kind.Literal.TheVariants.{Null, Text, Number as Digits, Bool as Truth}
 use Rattle.dms_desc.specs.declared.structure.Item.{Item}
 use Rattle.dms_desc.specs.declared.structure.KeyPart.{KeyPart}
 use Rattle.dms_desc.specs.Kinds.{is_link, is_restart, over}
-use Rattle.dms_desc.specs.Lookups.{structure_of, items_of, parts_of, over_of, set_of}
+use Rattle.dms_desc.specs.Lookups.{structure_of, items_of, parts_of, over_of}
 use Rattle.dms_desc.specs.Shape.{Shape, Described}
-use Rattle.dms_desc_bytes.specs.WellFormed.{IsWellFormed, is_placed}
+use Rattle.dms_desc_bytes.specs.WellFormed.{IsWellFormed}
 use Rattle.dms_model.specs.declared.verb.Setting.{Setting}
 use Rattle.dms_model.specs.declared.verb.Path.{Path}
 use Rattle.dms_model.specs.declared.verb.Path.TheVariants.{First, Last, At}
 use Rattle.dms_model.specs.declared.verb.Verb.{Verb}
 use Rattle.dms_model.specs.declared.verb.Verb.TheVariants.{OpenUpdate, OpenInquiry, Close, Find, Create, Put, Get, Store, Begin, End, Abort}
 use Rattle.dms_model.specs.Session.{restart_in, restart_of}
-use Rattle.dms_model.specs.Spoken.{IsOuter, IsPlainLiteral}
-use Rattle.dms_model.specs.Verbs.{has_kind, is_outer_path, IsKeyOf, IsPathOf, IsSettingOf, IsVerbOf, TakesLiteral, takes_literal}
+use Rattle.dms_model.specs.Spoken.{IsOuter}
+use Rattle.dms_model.specs.Verbs.{has_kind, is_outer_path, IsKeyOf, IsPathOf, IsSettingOf, IsVerbOf, TakesLiteral}
 use Rattle.dms_laws.proofs.Formed.{groups_at, in_number, of_number, placed_at}
 use Rattle.dms_script.specs.declared.line.Line.{Line}
 use Rattle.dms_script.specs.declared.line.Line.TheVariants.{Verb as Spoken}

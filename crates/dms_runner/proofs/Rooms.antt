@@ -1,7 +1,7 @@
 -- The next number at the end of a script.
 use Rattle.std.proofs.Common.{ℕ, ◌≡◌, ◌≤◌, ◌+◌, List, [], ◌∷◌, Bool, true, false, cond, length, refl, arith, suc}
 use Rattle.dms_desc.specs.Shape.{Described}
-use Rattle.dms_model.specs.Session.{Session, ended, someone_works}
+use Rattle.dms_model.specs.Session.{Session, someone_works}
 use Rattle.dms_runner.specs.Answers.{RunState, LineEffect, line_step, lines_run, lines_before, first_state, script_run}
 use Rattle.dms_runner.specs.EventLaws.{NextLaw}
 use Rattle.dms_runner.proofs.Lining.{line_low}

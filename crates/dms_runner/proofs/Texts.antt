@@ -1,5 +1,4 @@
 -- Seen text that grows, one text behind another.
-use Rattle.dms_model.specs.Seen.{Seen}
 use Rattle.std.proofs.Common.{◌≡◌, ◌+◌, ◌≤◌, ℕ, List, [], ◌++◌, Some, refl, sym, ap, ◌∙◌, arith, append_assoc, length, take, Bool, true, false, nat_le}
 use Rattle.std.proofs.Math.Seq.{take-append-add}
 use Rattle.std.proofs.lemmas.Bool.Decides.{nat_tests}

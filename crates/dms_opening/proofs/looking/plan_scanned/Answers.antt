@@ -1,5 +1,12 @@
-use Rattle.dms_opening.proofs.Looks.{cut_plans, ready_of}
+use Rattle.std.proofs.Common.{List, sym, subst}
+use Rattle.dms_audfile.specs.declared.place.EntryPlace.{EntryPlace}
+use Rattle.dms_opening.specs.Plans.{IsTrailRead}
+use Rattle.dms_opening.proofs.Looks.{cut_plans}
 use Rattle.dms_opening.proofs.looking.plan_scanned.Goals as goal
 
-pub returns-in-Ok-cut_counts-clause-plans : goal.returns-in-Ok-cut_counts-clause-plans
-returns-in-Ok-cut_counts-clause-plans g c tells read = cut_plans _ _ _ _ _ c.cut_counts.ensures.kept.0 c.cut_counts.ensures.kept.1 c.cut_counts.ensures.kept.2 c.cut_counts.ensures.kept.3 c.in-Ok-cut_counts.ensures.same (c.in-Ok.ensures.plans tells _ read)
+pub returns-clause-plans : goal.returns-clause-plans
+returns-clause-plans g c tells read =
+    let s = c.args.scanned in
+    let kept = c.cut_counts.ensures.kept in
+    cut_plans _ _ _ _ _ kept.0 kept.1 kept.2 kept.3 c.in-Ok-cut_counts.ensures.same
+    (c.in-Ok.ensures.plans tells _ (subst (λ (l : List EntryPlace). IsTrailRead s.log.end.total s.log.first (g.S.Site.files s.log.site) l s.trace) (sym c.deref.ensures.value) read))

@@ -1,4 +1,3 @@
-use Rattle.std.proofs.Common.{◌∙◌}
 use Rattle.dms_restore.proofs.Results.{one_if_ok, two_if_ok, three_if_ok, one_if_err}
 use Rattle.dms_opening.proofs.Opens.{may_refuse, opens_at, runs_at, is_planned, whole_at, since, since_none, counted_on}
 use Rattle.dms_opening.proofs.Complete.{refuses_none}
@@ -6,37 +5,37 @@ use Rattle.dms_opening.proofs.opened.open.Goals as goal
 
 pub returns-in-Ok-clause-opens : goal.returns-in-Ok-clause-opens
 returns-in-Ok-clause-opens g c = two_if_ok c.carry_out.result c.carry_out.ensures.kind c.carry_out.ensures.plan (λ o kind plan tells.
-    opens_at _ _ o kind.0 kind.2 plan.0 plan.1 plan.2 plan.3 (c.in-Ok.ensures.trail tells) (c.in-Ok.ensures.plans tells) c.in-Ok.ensures.named)
+    opens_at _ c.in-Ok.planned o kind.0 kind.2 plan.0 plan.1 plan.2 plan.3 (c.in-Ok.ensures.trail tells) (c.in-Ok.ensures.plans tells) c.in-Ok.ensures.named)
 
 pub returns-in-Ok-clause-runs : goal.returns-in-Ok-clause-runs
 returns-in-Ok-clause-runs g c = three_if_ok c.carry_out.result c.carry_out.ensures.kind c.carry_out.ensures.plan c.carry_out.ensures.runs (λ o kind plan runs tells whole.
     let l = c.in-Ok.ensures in
-    runs_at _ _ o kind.0 kind.2 plan.0 plan.1 plan.2 plan.3 _ _ (l.files tells) (runs tells (is_planned g.S.Site c.args.found.site _ (l.files tells) (l.starts tells) (l.plans tells)) (whole_at g.S.Site c.args.found.site _ (l.files tells) _ _ kind.0 kind.2 whole)))
+    runs_at _ c.in-Ok.planned o kind.0 kind.2 plan.0 plan.1 plan.2 plan.3 _ _ (l.files tells) (runs tells (is_planned g.S.Site c.args.found.site c.in-Ok.planned (l.files tells) (l.starts tells) (l.plans tells)) (whole_at g.S.Site c.args.found.site c.in-Ok.planned (l.files tells) _ _ kind.0 kind.2 whole)))
 
 pub returns-in-Ok-clause-moments : goal.returns-in-Ok-clause-moments
 returns-in-Ok-clause-moments g c = one_if_ok c.carry_out.result c.carry_out.ensures.moments (λ o run tells.
     let l = c.in-Ok.ensures in
-    since g.S.Site c.args.found.site _ (l.files tells) g.met.S.Site.counts_now l.moments l.said (l.trail tells) o.log.site (run tells (is_planned g.S.Site c.args.found.site _ (l.files tells) (l.starts tells) (l.plans tells))))
+    since g.S.Site c.args.found.site c.in-Ok.planned (l.files tells) g.met.S.Site.counts_now l.moments l.said (l.trail tells) o.log.site (run tells (is_planned g.S.Site c.args.found.site c.in-Ok.planned (l.files tells) (l.starts tells) (l.plans tells))))
 
 pub returns-in-Ok-clause-stopped : goal.returns-in-Ok-clause-stopped
 returns-in-Ok-clause-stopped g c = one_if_err c.carry_out.result c.carry_out.ensures.stopped (λ e run tells.
     let l = c.in-Ok.ensures in
-    since g.S.Site c.args.found.site _ (l.files tells) g.met.S.Site.counts_now l.moments l.said (l.trail tells) e.1 (run tells (is_planned g.S.Site c.args.found.site _ (l.files tells) (l.starts tells) (l.plans tells))))
+    since g.S.Site c.args.found.site c.in-Ok.planned (l.files tells) g.met.S.Site.counts_now l.moments l.said (l.trail tells) e.1 (run tells (is_planned g.S.Site c.args.found.site c.in-Ok.planned (l.files tells) (l.starts tells) (l.plans tells))))
 
 pub returns-in-Ok-clause-refused : goal.returns-in-Ok-clause-refused
 returns-in-Ok-clause-refused g c = one_if_err c.carry_out.result c.carry_out.ensures.only (λ e only tells.
     let l = c.in-Ok.ensures in
-    may_refuse _ e.0 (only tells (is_planned g.S.Site c.args.found.site _ (l.files tells) (l.starts tells) (l.plans tells))))
+    may_refuse _ e.0 (only tells (is_planned g.S.Site c.args.found.site c.in-Ok.planned (l.files tells) (l.starts tells) (l.plans tells))))
 
 pub returns-in-Ok-clause-files_then : goal.returns-in-Ok-clause-files_then
 returns-in-Ok-clause-files_then g c = one_if_err c.carry_out.result c.carry_out.ensures.only (λ e only tells other.
     let l = c.in-Ok.ensures in
-    absurd (other (only tells (is_planned g.S.Site c.args.found.site _ (l.files tells) (l.starts tells) (l.plans tells)))))
+    absurd (other (only tells (is_planned g.S.Site c.args.found.site c.in-Ok.planned (l.files tells) (l.starts tells) (l.plans tells)))))
 
 pub returns-in-Ok-clause-moments_then : goal.returns-in-Ok-clause-moments_then
 returns-in-Ok-clause-moments_then g c = one_if_err c.carry_out.result c.carry_out.ensures.only (λ e only tells other.
     let l = c.in-Ok.ensures in
-    absurd (other (only tells (is_planned g.S.Site c.args.found.site _ (l.files tells) (l.starts tells) (l.plans tells)))))
+    absurd (other (only tells (is_planned g.S.Site c.args.found.site c.in-Ok.planned (l.files tells) (l.starts tells) (l.plans tells)))))
 
 pub returns-in-Ok-clause-disk : goal.returns-in-Ok-clause-disk
 returns-in-Ok-clause-disk g c = one_if_err c.carry_out.result c.carry_out.ensures.disk (λ e counted. counted_on _ _ _ _ c.in-Ok.ensures.clean counted)
@@ -47,7 +46,7 @@ returns-in-Err-clause-stopped g c tells = since_none g.S.Site g.met.S.Site.count
 pub returns-in-Ok-clause-complete : goal.returns-in-Ok-clause-complete
 returns-in-Ok-clause-complete g c = one_if_err c.carry_out.result c.carry_out.ensures.only (λ e only tells total first o.
     let l = c.in-Ok.ensures in
-    refuses_none total first _ e.0 o (may_refuse _ e.0 (only tells (is_planned g.S.Site c.args.found.site _ (l.files tells) (l.starts tells) (l.plans tells)))))
+    refuses_none total first _ e.0 o (may_refuse _ e.0 (only tells (is_planned g.S.Site c.args.found.site c.in-Ok.planned (l.files tells) (l.starts tells) (l.plans tells)))))
 
 pub returns-in-Err-clause-complete : goal.returns-in-Err-clause-complete
 returns-in-Err-clause-complete g c tells total first o = refuses_none total first _ _ o (c.in-Err.ensures.refused tells)

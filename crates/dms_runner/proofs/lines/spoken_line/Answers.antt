@@ -1,4 +1,4 @@
-use Rattle.std.proofs.Common.{◌≡◌, ◌∙◌, [], ◌∷◌, ◌++◌, ℕ, List, true, false, sym, ap, subst, arith, length, IsTrue}
+use Rattle.std.proofs.Common.{◌≡◌, ◌∙◌, [], ◌∷◌, ◌++◌, ℕ, List, true, false, sym, ap, subst, arith, length}
 use Rattle.dms_desc.specs.Shape.{described}
 use Rattle.dms_runner.specs.Events.{IsCutShort, PerformsPrefix}
 use Rattle.dms_storeverbs.specs.View.{seen, view, StandsFor}

@@ -1,5 +1,5 @@
 use Rattle.dms_storeverbs.proofs.Lasting.{lasts_none, lasts_on}
-use Rattle.std.proofs.Common.{◌<◌, ◌∙◌, List, refl, sym, ap, subst, arith, length, IsTrue}
+use Rattle.std.proofs.Common.{◌<◌, ◌∙◌, List, sym, ap, subst, arith, length}
 use Rattle.dms_desc.specs.Shape.{described}
 use Rattle.dms_storeverbs.specs.View.{seen, view}
 use Rattle.std.specs.List.{remove}

@@ -1,5 +1,5 @@
 use Rattle.dms_storeverbs.specs.View.{seen}
-use Rattle.std.proofs.Common.{◌≡◌, ◌∙◌, subst, IsTrue}
+use Rattle.std.proofs.Common.{◌≡◌, ◌∙◌, subst}
 use Rattle.std.proofs.lemmas.Option.{get_or_from_slice_get}
 use Rattle.dms_desc.specs.Shape.{described}
 use Rattle.dms_runner.specs.Events.{IsCutShort, PerformsPrefix}

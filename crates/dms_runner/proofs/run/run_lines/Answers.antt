@@ -1,6 +1,6 @@
 use Rattle.dms_runner.proofs.Blames.{run_on_lasts, run_then_lasts, no_fault}
-use Rattle.dms_storeverbs.proofs.Lasting.{lasts_none, lasts_on}
-use Rattle.std.proofs.Common.{◌+◌, ◌<◌, ◌^◌, ◌∙◌, ap, refl, sym, subst, Vec, Global, List, IsTrue, arith}
+use Rattle.dms_storeverbs.proofs.Lasting.{lasts_none}
+use Rattle.std.proofs.Common.{◌+◌, ◌<◌, ◌^◌, ◌∙◌, ap, refl, sym, subst, Vec, Global, List, arith}
 use Rattle.dms_desc.specs.declared.description.Description.{Description}
 use Rattle.dms_desc.specs.Shape.{described}
 use Rattle.dms_feed.specs.Lines.{raw_lines}

@@ -1,4 +1,4 @@
-use Rattle.std.proofs.Common.{◌≡◌, ◌≤◌, ◌<◌, ◌+◌, ◌^◌, ℕ, List, IsTrue}
+use Rattle.std.proofs.Common.{◌≡◌, ◌≤◌, ◌<◌, ◌+◌, ◌^◌, ℕ, List}
 use Rattle.dms_desc.specs.Shape.{described}
 use Rattle.dms_model.specs.Session.{fresh_session}
 use Rattle.dms_storeverbs.specs.View.{Lasted, seen, view, StandsFor}

@@ -6,7 +6,6 @@ use Rattle.dms_runner.specs.Events.{text_of}
 use Rattle.dms_runner.proofs.Texts.{prints_none, prints_on, front_all, front_on, front_of_first}
 use Rattle.dms_runner.proofs.Unanswered.{text_more, text_rest, text_split}
 use Rattle.std.proofs.Common.{◌≡◌, ◌∙◌, ◌+◌, ◌<◌, ◌^◌, refl, sym, ap, arith}
-use Rattle.dms_desc.specs.Shape.{described}
 use Rattle.dms_runner.proofs.Happening.{undamaged_by, ran_none, ran_says, ran_on, ran_as, part_says, part_all, part_on, part_of_first, part_as, cut_as}
 use Rattle.dms_runner.proofs.Unanswered.{unanswered_all, unanswered_split, unanswered_more, unanswered_rest, line_text}
 use Rattle.dms_runner.proofs.run.say_waiting.Goals as goal

@@ -4,9 +4,7 @@ use Rattle.std.specs.declared.option.Option.{Option}
 use Rattle.dms_base.specs.declared.value.Value.{Value}
 use Rattle.dms_desc.specs.Lookups.{items_of, structure_of}
 use Rattle.dms_desc.specs.Shape.{described}
-use Rattle.dms_desc.specs.declared.record.Record.{Record}
-use Rattle.dms_model.specs.declared.reply.Reply.TheVariants.{Exception}
-use Rattle.dms_model.specs.Session.{Refused, area_number, area_values, current_of, is_free, missing_from, record_of, verified, area_of}
+use Rattle.dms_model.specs.Session.{area_number, area_values, current_of, is_free, missing_from, record_of, verified, area_of}
 use Rattle.dms_model.specs.Stores.{put_answer}
 use Rattle.dms_storeverbs.specs.Storing.{put_record}
 use Rattle.dms_storeverbs.proofs.Stored.{keep_missing, keep_none, keep_ready, keep_unlocked, keep_unverified, ready}
