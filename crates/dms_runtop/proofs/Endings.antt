@@ -16,7 +16,7 @@ use Rattle.dms_runtop.specs.Statuses.{IsOfAuditLimit, IsOfClosing, IsOfScript}
 -- ---- a damaged block
 
 -- by cases of the test
-damage_is : (b : Bool) (f k : ℕ) (P : Status → Type 0) → P (Damaged f k) → P Memory → P (cond b (Damaged f k) Memory)
+pub damage_is : (b : Bool) (f k : ℕ) (P : Status → Type 0) → P (Damaged f k) → P Memory → P (cond b (Damaged f k) Memory)
 damage_is true f k P one two = one
 damage_is false f k P one two = two
 

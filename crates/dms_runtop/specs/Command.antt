@@ -22,6 +22,7 @@ use Rattle.dms_restore.specs.Logging.{telling_of, telling, points}
 use Rattle.dms_wal.specs.Database.{view_of}
 use Rattle.dms_run.specs.States.{LivesEndWith}
 use Rattle.dms_opening.specs.declared.opened.Opened.{Opened}
+use Rattle.dms_opening.specs.Laws.{LastIsDescribed}
 use Rattle.dms_opening.specs.Openings.{HasTrail, RunsFrom, RefusesFiles}
 use Rattle.dms_status.specs.declared.status.NeedFault.{NeedFault}
 use Rattle.dms_status.specs.declared.status.Status.{Status}
@@ -43,6 +44,7 @@ pub record HoldsState (files : Files) (s : DatabaseState) : Type 0 where
   pub first : ℕ
   pub trail : HasTrail total first files
   pub whole : IsWhole (telling_of total first) files
+  pub described : LastIsDescribed (trail_entries total first files)
   pub no_dump : dump_in (history_of (trail_entries total first files)).pending ≡ None
   pub state : LivesEndWith s.desc (points_of (telling_of total first) files) s.point s.db
   pub formed : IsWellFormed s.desc

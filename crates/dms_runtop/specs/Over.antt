@@ -95,6 +95,6 @@ module _ {S : Type 0} (g : Ghosts S) where
   -- The database was closed: at status 0 the files hold all its points, and a stop leaves no other files. Until then each stop left the first so many
   -- of its points, at least the durable ones, and no other text.
   pub record ClosesOver (r : Running S) (status : Status) (site : S) : Type 0 where
-    pub leaves : LeavesUntil (held g r) (lifted (telling (view_of g r.log)) r.schema.items (g.clock site))
+    pub leaves : LeavesUntil (held g r) (lifted (telling (view_of g r.log)) (g.clock site))
     pub points_are : status ≡ Ok → IsTrue g.tells → points_of (telling (view_of g r.log)) (g.files site) ≡ points (view_of g r.log)
     pub only : status ≡ Ok → IsTrue g.tells → Only (g.files site) (g.clock site)

@@ -71,34 +71,6 @@ fn bytes_of(alloc: Global, desc: &Description) -> Option<Vec<u8>>
     }
 }
 
-/// The same database under these bytes of its description, its site told only where it is known what its files stand for.
-fn veil<S: Site, K: Knows>(opened: Opened<S>, schema: Vec<u8>) -> Opened<Veiled<S, K>>
-    ensures site { result.log.site.site ≡ opened.log.site }
-    ensures log { (result.log.end ≡ opened.log.end) × (result.log.first ≡ opened.log.first) }
-    ensures schema { result.schema ≡ schema }
-    ensures kept { (result.counts ≡ opened.counts) × (result.next ≡ opened.next) × (result.point ≡ opened.point) }
-{
-    let Opened {
-        log,
-        schema: _schema,
-        counts,
-        next,
-        point,
-    } = opened;
-    let Log { site, end, first } = log;
-    let site = Veiled {
-        site,
-        by: PhantomData,
-    };
-    Opened {
-        log: Log { site, end, first },
-        schema,
-        counts,
-        next,
-        point,
-    }
-}
-
 /// The same end without the veil.
 fn unveil<S: Site, K: Knows>(ended: Ended<Veiled<S, K>>) -> Ended<S>
     ensures { (result.status ≡ ended.status) × (result.site ≡ ended.site.site) }
@@ -135,7 +107,25 @@ fn run_described<S: Site, I: Source, K: Knows>(
             site: site_of(opened),
         };
     };
-    let veiled: Opened<Veiled<S, K>> = veil(opened, schema);
+    let Opened {
+        log,
+        schema: _schema,
+        counts,
+        next,
+        point,
+    } = opened;
+    let Log { site, end, first } = log;
+    let site: Veiled<S, K> = Veiled {
+        site,
+        by: PhantomData,
+    };
+    let veiled = Opened {
+        log: Log { site, end, first },
+        schema,
+        counts,
+        next,
+        point,
+    };
     match veiled.into_running(
         alloc,
         u32::from(desc.buffers),
@@ -153,7 +143,7 @@ fn run_described<S: Site, I: Source, K: Knows>(
 /// Runs the script over a database that was opened, under the description at its last point, and closes it.
 fn run_opened<S: Site, I: Source, K: Knows>(
     alloc: Global,
-    mut opened: Opened<S>,
+    opened: Opened<S>,
     source: &mut I,
 ) -> Ended<S>
     requires table { AreCounts opened.counts.items }
@@ -168,11 +158,32 @@ fn run_opened<S: Site, I: Source, K: Knows>(
     ensures same { S.same_site opened.log.site result.site }
     ensures same_source { I.same_source source.old source.new }
 {
-    match describe(alloc, &mut opened.log.site, opened.schema.as_slice()) {
-        Ok(desc) => run_described::<S, I, K>(alloc, opened, &desc, source),
+    let Opened {
+        log,
+        schema,
+        counts,
+        next,
+        point,
+    } = opened;
+    let Log {
+        mut site,
+        end,
+        first,
+    } = log;
+    match describe(alloc, &mut site, schema.as_slice()) {
+        Ok(desc) => {
+            let opened = Opened {
+                log: Log { site, end, first },
+                schema,
+                counts,
+                next,
+                point,
+            };
+            run_described::<S, I, K>(alloc, opened, &desc, source)
+        }
         Err(fault) => Ended {
             status: status_of_description(fault),
-            site: site_of(opened),
+            site,
         },
     }
 }

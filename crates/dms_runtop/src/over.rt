@@ -38,7 +38,7 @@ fn running_under<S: Site>(engine: Engine<BlockStore<Running<S>>>) -> Running<S>
 fn close_over<S: Site>(alloc: Global, running: Running<S>) -> Ended<S>
     requires { (held S.Site running).sound }
     ensures closes { ClosesOver S.Site running result.status result.site }
-    ensures said { S.said result.site ≡ S.said running.log.site }
+    ensures said { IsTrue S.tells_said → S.said result.site ≡ S.said running.log.site }
     ensures statuses { (result.status ≡ Status.Ok) ⊎ IsOfClosing result.status }
     ensures disk { CountedAt (result.status ≡ Status.DiskFault) (S.disk_faults running.log.site) (S.disk_faults result.site) }
     ensures say_faults { S.say_faults result.site ≡ S.say_faults running.log.site }
