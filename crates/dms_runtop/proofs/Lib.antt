@@ -5,3 +5,4 @@ pub mod Formed
 pub mod Serving
 pub mod Opened
 pub mod Since
+pub mod Engine
