@@ -8,9 +8,10 @@ use Rattle.dms_desc.specs.Shape.{Described}
 use Rattle.dms_feed.specs.Lines.{raw_lines}
 use Rattle.dms_model.specs.Db.{Db}
 use Rattle.dms_model.specs.Points.{Stop, LeavesPrefix, TextIs}
-use Rattle.dms_model.specs.Session.{ended}
+use Rattle.dms_model.specs.Seen.{Seen}
+use Rattle.dms_model.specs.Session.{ended, fresh_session}
 use Rattle.dms_moments.specs.Moments.{Runs}
-use Rattle.dms_moments.specs.MomentLaws.{runs_on}
+use Rattle.dms_moments.specs.MomentLaws.{runs_none, runs_on}
 use Rattle.dms_runner.specs.Answers.{answers_text, last_quiet, script_events, script_run}
 use Rattle.dms_runner.specs.Blaming.{HasBlame}
 use Rattle.dms_runner.specs.Events.{RunEvent, SaidWhole, quiets_of}
@@ -24,6 +25,7 @@ use Rattle.dms_running.specs.Points.{DescribedPoint, points_of}
 use Rattle.dms_site.specs.declared.site.Site.{Ghosts}
 use Rattle.dms_restore.specs.Logging.{Trail, trail_of, telling_of, telling, points}
 use Rattle.dms_store.specs.Lifted.{point_of, lifted}
+use Rattle.dms_storeverbs.specs.View.{StandsFor, View}
 use Rattle.dms_wal.specs.Controls.{KeepsPace}
 use Rattle.dms_wal.specs.declared.running.Running.{Running}
 use Rattle.dms_wal.specs.Database.{held, view_of, said_of}
@@ -33,11 +35,11 @@ use Rattle.dms_run.specs.Files.{RunLeavesFiles}
 use Rattle.dms_run.specs.States.{EndsWith, LivesEndWith}
 use Rattle.dms_run.specs.Stops.{RunLeaves, last_quiet_number}
 use Rattle.dms_status.specs.declared.status.Status.{Status}
-use Rattle.dms_status.specs.declared.status.Status.TheVariants.{Ok}
+use Rattle.dms_status.specs.declared.status.Status.TheVariants.{Ok, Memory}
 use Rattle.dms_runtop.specs.Faults.{run_status}
-use Rattle.dms_runtop.specs.Over.{BeginsAt, ClosesOver, FilesEndWith, ScriptRuns, SiteSeen, seen_site}
+use Rattle.dms_runtop.specs.Over.{BeginsAt, ClosesOver, FilesEndWith, RunsOver, ScriptRuns, seen_site}
 use Rattle.dms_runtop.specs.Statuses.{IsOfClosing}
-use Rattle.dms_runtop.proofs.Ran.{moments_under, ends_under, closed_under, moments_below, closing_below, ran_failed, ran_closed}
+use Rattle.dms_runtop.proofs.Ran.{moments_under, ends_under, closed_under, moments_below, closing_below, ran_nothing, ran_failed, ran_closed}
 
 -- ---- a damaged block
 
@@ -138,3 +140,16 @@ module _ {S : Type 0} (g : Ghosts S) (d e e' : Described) (r r' : Running S) (sa
       (subst (λ (s : Option (List ℕ)). PrintsPrefix entry s (answers_text d db r.next (raw_lines all))) (sym text) part)
       (subst (λ (s : Option (List ℕ)). SaidWhole entry s events) (sym text) whole)
       limits
+
+-- ---- before the script
+
+-- an engine over this store begins as one over that
+pub fresh_over : {St : Type 0} (seen : St → Seen) (v : View) (a b : St) → a ≡ b → ((x : Db) → (seen b).db ≡ Some x → StandsFor v (fresh_session x (seen b).next)) → (x : Db) → (seen a).db ≡ Some x → StandsFor v (fresh_session x (seen a).next)
+fresh_over {St} seen v a b same stands x is = subst (λ (s : St). StandsFor v (fresh_session x (seen s).next)) (sym same) (stands x (subst (λ (s : St). (seen s).db ≡ Some x) same is))
+
+-- memory was refused before the first line, and the site was given back
+pub refused_over : {S : Type 0} (g : Ghosts S) (d : Described) (r : Running S) (site : S) (left left' : Option (List ℕ)) → site ≡ r.log.site → RunsOver g r d left left' Memory site
+refused_over {S} g d r site left left' same total first ps n db all b is =
+    subst (λ (x : S). ScriptRuns (telling_of total first) d ps n db r.next all (seen_site g r.log.site) (seen_site g x) left' Memory) (sym same)
+    (ran_nothing (telling_of total first) d ps n db r.next all (seen_site g r.log.site) (seen_site g r.log.site) left' Memory tt
+    (runs_none (g.clock r.log.site) (RunLeavesFiles (telling_of total first) d (said_of g r.log) ps n db r.next (script_events d db r.next (raw_lines all)))) refl)

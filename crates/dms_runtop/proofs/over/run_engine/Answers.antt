@@ -9,6 +9,7 @@ use Rattle.dms_runtop.specs.Faults.{run_status}
 use Rattle.dms_runtop.specs.Statuses.{IsOfScript}
 use Rattle.dms_runtop.proofs.Counted.{counts_disk, counts_say, left_nothing, held_nothing, on_upto, on_status, no_error, an_error, error_is}
 use Rattle.dms_runtop.proofs.Endings.{closing_say, closing_input, run_of_script, run_input}
+use Rattle.dms_run.specs.Starting.{BeginsWith}
 use Rattle.dms_runtop.specs.Over.{ClosesOver}
 use Rattle.dms_runtop.proofs.Ran.{db_under, state_under, all_durable}
 use Rattle.dms_runtop.proofs.Engine.{no_damage, failed_over, closed_over}
@@ -23,7 +24,7 @@ returns-in-Ok-clause-ran g c = λ total first ps n db all b left.
     let r' = e'.store.over.below in
     let fed = held_nothing _ _ all c.new-feed.ensures left in
     let stands = c.requires.fresh db (db_under (described e.desc) (described e.store.desc) g.S.Site.tells (held g.S.Site r).content db e.under b.tells b.spells) in
-    let starts = record {
+    let starts : BeginsWith e n db r.next = record {
       stands = stands;
       room = b.room;
       tells = b.tells;
@@ -51,7 +52,7 @@ returns-in-Err-clause-ran g c = λ total first ps n db all b left.
     let r' = e'.store.over.below in
     let fed = held_nothing _ _ all c.new-feed.ensures left in
     let stands = c.requires.fresh db (db_under (described e.desc) (described e.store.desc) g.S.Site.tells (held g.S.Site r).content db e.under b.tells b.spells) in
-    let starts = record {
+    let starts : BeginsWith e n db r.next = record {
       stands = stands;
       room = b.room;
       tells = b.tells;
