@@ -1,5 +1,5 @@
 -- A run of an engine over a running database, as a run of a script over its files.
-use Rattle.std.proofs.Common.{inl, inr, ◌⊎◌, ℕ, ◌≡◌, ◌≤◌, ◌<◌, ◌+◌, ◌-◌, ◌^◌, ◌∙◌, Bool, true, false, cond, IsTrue, List, [], ◌∷◌, map, length, min, Option, Some, None, refl, sym, ap, subst, arith}
+use Rattle.std.proofs.Common.{◌⊎◌, ℕ, ◌≡◌, ◌≤◌, ◌<◌, ◌+◌, ◌^◌, ◌∙◌, Bool, true, false, cond, IsTrue, List, [], ◌∷◌, map, length, Option, Some, None, refl, sym, ap, subst, arith}
 use Rattle.dms_base.specs.Causes.{Rose}
 use Rattle.dms_block.specs.Counts.{Faults}
 use Rattle.dms_block.specs.declared.block_fault.BlockFault.TheVariants as block
@@ -116,10 +116,10 @@ module _ {S : Type 0} (g : Ghosts S) (d e e' : Described) (r r' : Running S) (sa
       → (fault ≡ run.Lines → PassesLines d db r.next (raw_lines all) entry (said_of g r'.log)) → (fault ≡ run.Bytes → PassesBytes d db r.next (raw_lines all) entry (said_of g r'.log))
       → (fault ≡ run.Held → PassesWaiting d db r.next (raw_lines all) entry (said_of g r'.log)) → (fault ≡ run.Input → CutInput d db r.next all left' entry (said_of g r'.log))
       → ((f k : ℕ) → fault ≡ Block (block.Damaged f k) → ⊥) → ScriptRuns t d ps n db r.next all (seen_site g r.log.site) (seen_site g site) left' status
-  failed_over left' fault status site status_is site_is leaves part whole lines bytes held cut damaged =
+  failed_over left' fault status site status_is site_is leaves part whole lines bytes waits cut damaged =
       subst (λ (x : Status). ScriptRuns t d ps n db r.next all (seen_site g r.log.site) (seen_site g site) left' x) (sym status_is)
       (subst (λ (x : S). ScriptRuns t d ps n db r.next all (seen_site g r.log.site) (seen_site g x) left' (run_status fault)) (sym site_is)
-      (ran_failed t d ps n db r.next all (seen_site g r.log.site) (seen_site g r'.log.site) left' fault (moments_of leaves) part whole lines bytes held cut damaged))
+      (ran_failed t d ps n db r.next all (seen_site g r.log.site) (seen_site g r'.log.site) left' fault (moments_of leaves) part whole lines bytes waits cut damaged))
 
   -- the script was carried out, and then the database closed
   pub closed_over : (left' : Option (List ℕ)) (status : Status) (site : S) → (status ≡ Ok) ⊎ IsOfClosing status → ClosesOver g r' status site → (IsTrue g.tells_said → g.said site ≡ g.said r'.log.site)
