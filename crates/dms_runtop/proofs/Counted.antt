@@ -69,6 +69,9 @@ left_nothing held (Some rest) e =
 pub held_nothing : (held : List ℕ) (left : Option (List ℕ)) (all : List ℕ) → held ≡ [] → left ≡ Some all → prepend_known held left ≡ Some all
 held_nothing held left all none is = ap (λ (h : List ℕ). prepend_known h left) none ∙ ap (prepend_known []) is
 
+pub on_from : (P : Type 0) (a b c : ℕ) → b ≡ a → CountedAt P b c → CountedAt P a c
+on_from P a b c same counted = subst (λ (x : ℕ). CountedAt P x c) same counted
+
 pub on_upto : (P : Type 0) (a b c : ℕ) → c ≡ b → CountedAt P a b → CountedAt P a c
 on_upto P a b c same counted = subst (λ (x : ℕ). CountedAt P a x) (sym same) counted
 

@@ -1,14 +1,14 @@
-use Rattle.std.proofs.Common.{◌≡◌, ◌∙◌, ℕ, List, IsTrue, inr, refl, sym, ap, subst}
+use Rattle.std.proofs.Common.{◌≡◌, ◌∙◌, IsTrue, inr, sym, ap, subst}
 use Rattle.dms_audfile.specs.Counting.{not_counted}
 use Rattle.dms_block.specs.Counts.{Faults}
-use Rattle.dms_desc.specs.Shape.{described}
 use Rattle.dms_status.specs.declared.status.Status.TheVariants.{DiskFault, InputFault, SayFault}
-use Rattle.dms_runner.specs.declared.run.RunFault.TheVariants.{Input}
+use Rattle.dms_runner.specs.declared.run.RunFault.TheVariants.{Bytes, Held, Input, Lines}
 use Rattle.dms_wal.specs.declared.running.Running.{Running}
 use Rattle.dms_runtop.specs.Faults.{run_status}
 use Rattle.dms_runtop.specs.Statuses.{IsOfScript}
 use Rattle.dms_runtop.proofs.Counted.{counts_disk, counts_say, left_nothing, held_nothing, on_upto, on_status, no_error, an_error, error_is}
 use Rattle.dms_runtop.proofs.Endings.{closing_say, closing_input, run_of_script, run_input}
+use Rattle.dms_desc.specs.Shape.{described}
 use Rattle.dms_run.specs.Starting.{BeginsWith}
 use Rattle.dms_runtop.specs.Over.{ClosesOver}
 use Rattle.dms_runtop.proofs.Ran.{db_under, state_under, all_durable}
@@ -65,10 +65,10 @@ returns-in-Err-clause-ran g c = λ total first ps n db all b left.
     (c.in-Err.ensures.every_moment n db r.next all starts fed)
     (c.in-Err.ensures.part db r.next all stands b.room fed)
     (λ unsaid. c.in-Err.ensures.whole_answers unsaid db r.next all stands b.room fed)
-    (λ is. c.in-Err.ensures.lines is db r.next all stands b.room fed)
-    (λ is. c.in-Err.ensures.bytes is db r.next all stands b.room fed)
-    (λ is. c.in-Err.ensures.full_list is db r.next all stands b.room fed)
-    (λ is. c.in-Err.ensures.failed is db r.next all stands b.room fed)
+    (λ is. c.in-Err.ensures.lines (an_error c.in-Err.fault Lines is) db r.next all stands b.room fed)
+    (λ is. c.in-Err.ensures.bytes (an_error c.in-Err.fault Bytes is) db r.next all stands b.room fed)
+    (λ is. c.in-Err.ensures.full_list (an_error c.in-Err.fault Held is) db r.next all stands b.room fed)
+    (λ is. c.in-Err.ensures.failed (an_error c.in-Err.fault Input is) db r.next all stands b.room fed)
     (no_damage c.in-Err.fault _ _ c.requires.found (c.in-Err.ensures.undamaged db r.next all stands b.room fed (record { db = db; mark = db; db_is = stands.db; mark_is = stands.mark })) c.in-Err.ensures.lasts.cause)
 
 pub returns-in-Ok-clause-end : goal.returns-in-Ok-clause-end
