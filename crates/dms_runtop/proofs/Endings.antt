@@ -178,3 +178,10 @@ undone_limit s undone k is = subst IsUndone is undone
 
 pub undone_damaged : (s : Status) → IsUndone s → (f k : ℕ) → s ≡ Damaged f k → 30000 < f → ⊥
 undone_damaged s undone f k is high = let low : f ≤ 30000 = subst IsUndone is undone in absurd (omega (arith, low, high))
+
+ok_not_say : Ok ≡ SayFault → ⊥
+ok_not_say e = absurd cc
+
+pub closing_say : (s : Status) → (s ≡ Ok) ⊎ IsOfClosing s → s ≡ SayFault → ⊥
+closing_say s (inl ok) is = ok_not_say (sym ok ∙ is)
+closing_say s (inr of) is = subst IsOfClosing is of

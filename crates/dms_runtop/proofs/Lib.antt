@@ -5,3 +5,7 @@ pub mod Formed
 pub mod Serving
 pub mod Opened
 pub mod Since
+pub mod Looked
+pub mod Unveiled
+pub mod Entered
+pub mod Refused
