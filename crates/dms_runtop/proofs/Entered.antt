@@ -24,8 +24,9 @@ use Rattle.dms_opening.specs.declared.opened.Opened.{Opened}
 use Rattle.dms_opening.specs.Openings.{HasTrail, IsNoRefusal, IsOpenable, OpensAt, ReopensSince, RunsFrom}
 use Rattle.dms_opening.proofs.Callers.{trail_is_one}
 use Rattle.dms_run.specs.States.{LivesEndWith}
+use Rattle.dms_runlaws.specs.RunStands.{StopsStand}
 use Rattle.dms_status.specs.declared.status.Status.{Status}
-use Rattle.dms_runtop.specs.Command.{DatabaseState, HasRoom, HoldsState, HoldsTold, RunsCommand, RunsOpened, StandsOpened}
+use Rattle.dms_runtop.specs.Command.{DatabaseState, HasRoom, HoldsState, HoldsTold, RunsCommand, RunsOpened, StandsOpened, StandsThroughout}
 use Rattle.dms_runtop.specs.Faults.{open_status}
 use Rattle.dms_runtop.specs.Over.{ScriptRuns, seen_site}
 use Rattle.dms_runtop.proofs.Endings.{IsUndone}
@@ -43,12 +44,12 @@ one_comes f [] [] y is = absurd cc
 one_comes f [] (b ∷ before) y is = absurd cc
 one_comes f (x ∷ xs) [] y is = record { from = x; is = head_same _ _ _ _ is }
   where
-    head_same : (a b : B) (as bs : List B) → a ∷ as ≡ b ∷ bs → b ≡ a
-    head_same a b as bs e = cc
+    head_same : (a b : B) (xs ys : List B) → a ∷ xs ≡ b ∷ ys → b ≡ a
+    head_same a b xs ys e = cc
 one_comes f (x ∷ xs) (b ∷ before) y is = one_comes f xs before y (tail_same _ _ _ _ is)
   where
-    tail_same : (a b : B) (as bs : List B) → a ∷ as ≡ b ∷ bs → as ≡ bs
-    tail_same a b as bs e = cc
+    tail_same : (a b : B) (xs ys : List B) → a ∷ xs ≡ b ∷ ys → xs ≡ ys
+    tail_same a b xs ys e = cc
 
 -- the Schema at the last point is that of its description
 described_at : (total first : ℕ) (files : Files) (desc : Described) (n : ℕ) (db : Db) (bytes : List ℕ) → LivesEndWith desc (points_of (telling_of total first) files) n db → schema_at (trail_entries total first files) n ≡ Some bytes → spelling desc ≡ bytes
@@ -63,7 +64,7 @@ described_at total first files desc n db bytes state is =
 
 module _ {S : Type 0} (g : Ghosts S) (old : S) (s : DatabaseState) where
   -- files that stand for a state, opened
-  stands_opened : (o : Opened S) → OpensAt o.log.end.total o.log.first (g.files old) o.point o.next o.schema.items o.counts.items
+  abbrev stands_opened : (o : Opened S) → OpensAt o.log.end.total o.log.first (g.files old) o.point o.next o.schema.items o.counts.items
       → RunsFrom (g.files old) o.point o.next o.schema.items o.counts.items (view_of g o.log) → (h : HoldsState (g.files old) s) → LivesEndWith s.desc (points_of (telling (view_of g o.log)) (g.files old)) s.point s.db → StandsOpened g o
   stands_opened o opens runs h state =
       let number : o.point ≡ s.point = last_is s.desc (points_of (telling (view_of g o.log)) (g.files old)) s.point o.point s.db state (subst (λ (ps : List DescribedPoint). last_number ps ≡ Some o.point) runs.points_same runs.last.number) in
@@ -169,3 +170,10 @@ module _ {S : Type 0} (g : Ghosts S) (old : S) (state : Option DatabaseState) wh
   runs_refused fault new none since said left left' status status_is tells s is h room all held =
       subst (λ (x : Status). ScriptRuns (telling_of h.total h.first) s.desc (points_of (telling_of h.total h.first) (g.files old)) s.point s.db (next_in (telling_of h.total h.first) (g.files old)) all (seen_site g old) (seen_site g new) left' x) (sym status_is)
       (runs_unopened g old s fault new (none tells) (since tells) said left' h all)
+
+  -- each stop leaves a state
+  pub stands_throughout : StopsStand → (left left' : Option (List ℕ)) (status : Status) (new : S) → RunsCommand g state old new left left' status → StandsThroughout g state old new left
+  stands_throughout law left left' status new ran tells s is h room start low all held =
+      let t : Telling = telling_of h.total h.first in
+      runs_weaken (ran tells s is h room all held).every_moment
+      (λ x l. law h.total h.first s.desc h.formed s.db start (seen_site g old).said (points_of t (g.files old)) s.point (next_in t (g.files old)) (raw_lines all) x low l)

@@ -39,7 +39,7 @@ looked_from files point next schema counts v now later same steps r = subst (λ 
 })
 
 module _ {S : Type 0} (g : Ghosts S) where
-  pub stands_looked : (o : Opened S) (site : S) → g.files site ≡ g.files o.log.site → Steps Same (g.clock o.log.site) (g.clock site) → StandsOpened g o → StandsOpened g (record o { log = record o.log { site = site } })
+  abbrev pub stands_looked : (o : Opened S) (site : S) → g.files site ≡ g.files o.log.site → Steps Same (g.clock o.log.site) (g.clock site) → StandsOpened g o → StandsOpened g (record o { log = record o.log { site = site } })
   stands_looked o site same steps st = record {
     files = st.files;
     runs = looked_from st.files o.point o.next o.schema.items o.counts.items (view_of g o.log) (g.files site) (g.clock site) same steps st.runs;
