@@ -6,3 +6,7 @@ pub mod Serving
 pub mod Opened
 pub mod Since
 pub mod Engine
+pub mod Looked
+pub mod Unveiled
+pub mod Entered
+pub mod Refused

@@ -23,12 +23,11 @@ use Rattle.dms_wal.specs.Database.{view_of}
 use Rattle.dms_run.specs.States.{LivesEndWith}
 use Rattle.dms_opening.specs.declared.opened.Opened.{Opened}
 use Rattle.dms_opening.specs.Laws.{LastIsDescribed}
-use Rattle.dms_opening.specs.Openings.{HasTrail, RunsFrom, RefusesFiles}
-use Rattle.dms_status.specs.declared.status.NeedFault.{NeedFault}
+use Rattle.dms_opening.specs.Openings.{HasTrail, IsOpenable, RunsFrom, RefusesFiles}
 use Rattle.dms_status.specs.declared.status.Status.{Status}
-use Rattle.dms_status.specs.declared.status.Status.TheVariants.{NoDatabase, Needed}
 use Rattle.dms_runtop.specs.Faults.{open_status}
 use Rattle.dms_runtop.specs.Over.{ScriptRuns, seen_site}
+use Rattle.dms_runtop.specs.Statuses.{IsRefusal}
 
 -- A state: the number of the last point, the description, and the database there.
 pub record DatabaseState : Type 0 where
@@ -86,9 +85,9 @@ module _ {S : Type 0} (g : Ghosts S) where
       → Runs (g.clock old) (g.clock new) (RunStands s.desc (seen_site g old).said (points_of (telling_of h.total h.first) (g.files old)) s.point s.db (next_in (telling_of h.total h.first) (g.files old))
       (answers_quiets s.desc s.db (next_in (telling_of h.total h.first) (g.files old)) (raw_lines all)))
 
-  -- a database that files stand for is refused by nothing
-  abbrev pub NeverRefuses : Option DatabaseState → S → Status → Type 0
-  NeverRefuses state old status = IsTrue g.tells → (s : DatabaseState) → state ≡ Some s → HoldsState (g.files old) s → (status ≡ NoDatabase → ⊥) × ((n : NeedFault) → status ≡ Needed n → ⊥)
+  -- files that hold a database, whose last point is live and described, and over which no restore by a dump is pending, are refused by nothing
+  abbrev pub NeverRefuses : S → Status → Type 0
+  NeverRefuses old status = IsTrue g.tells → (total first : ℕ) → IsOpenable total first (g.files old) → IsRefusal status → ⊥
 
   -- The opening was refused: with this fault, which is the first refusal of the files. No file has changed, and a stop leaves what it could leave
   -- before.

@@ -18,13 +18,14 @@ use crate::ending::status_of_open;
 use crate::over::run_over;
 use crate::veil::{Knows, Veiled};
 use dms_desc::Description;
-use dms_desc_bytes::encode;
+use dms_desc_bytes::{encode, spelling_law};
 use dms_descfile::FileFault;
 use dms_opening::{Opened, open};
 use dms_restore::{Found, Log};
 use dms_runlaws::stands_law;
 use dms_site::{Site, Source};
 use dms_status::Status;
+use dms_store::served_law;
 use std::alloc::Global;
 use std::marker::{Brand, PhantomData};
 
@@ -101,6 +102,8 @@ fn run_described<S: Site, I: Source, K: Knows>(
     ensures same { S.same_site opened.log.site result.site }
     ensures same_source { I.same_source source.old source.new }
 {
+    served_law();
+    spelling_law();
     let Some(schema) = bytes_of(alloc, desc) else {
         return Ended {
             status: Status::Memory,
@@ -192,7 +195,7 @@ fn run_opened<S: Site, I: Source, K: Knows>(
 fn run_found<S: Site, I: Source>(alloc: Global, site: S, source: &mut I) -> Ended<S>
     ghost state: { Option DatabaseState }
     requires told { IsTrue S.tells → HoldsTold state (S.files site) }
-    ensures complete { NeverRefuses S.Site state site result.status }
+    ensures complete { NeverRefuses S.Site site result.status }
     ensures ran { RunsCommand S.Site state site result.site (I.left source.old) (I.left source.new) result.status }
     ensures refused { IsRefusal result.status → RefusesRun S.Site site result.site result.status }
     ensures end { result.status ≡ Status.Ok → (all : List ℕ) → I.left source.old ≡ Some all → I.left source.new ≡ Some [] }
@@ -219,7 +222,7 @@ pub fn run_command<S: Site, I: Source>(alloc: Global, site: &mut S, source: &mut
     ghost state: { Option DatabaseState }
     requires told { IsTrue S.tells → HoldsTold state (S.files site.old) }
     ensures stands { StandsThroughout S.Site state site.old site.new (I.left source.old) }
-    ensures complete { NeverRefuses S.Site state site.old result }
+    ensures complete { NeverRefuses S.Site site.old result }
     ensures ran { RunsCommand S.Site state site.old site.new (I.left source.old) (I.left source.new) result }
     ensures refused { IsRefusal result → RefusesRun S.Site site.old site.new result }
     ensures end { result ≡ Status.Ok → (all : List ℕ) → I.left source.old ≡ Some all → I.left source.new ≡ Some [] }

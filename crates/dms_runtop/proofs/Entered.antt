@@ -1,0 +1,179 @@
+-- A run of the files that stand for a state, from the opening on.
+use Rattle.std.proofs.Common.{ℕ, ◌≡◌, ◌+◌, ◌<◌, ◌^◌, ◌∙◌, ◌⊎◌, inl, inr, Bool, IsTrue, List, [], ◌∷◌, ◌++◌, map, Option, Some, None, cond, refl, sym, ap, subst}
+use Rattle.std.specs.Prelude.{is_some}
+use Rattle.dms_desc.specs.Shape.{Described}
+use Rattle.dms_desc_bytes.specs.Spelling.{spelling}
+use Rattle.dms_feed.specs.Lines.{raw_lines}
+use Rattle.dms_model.specs.Db.{Db}
+use Rattle.dms_moments.specs.MomentLaws.{runs_weaken}
+use Rattle.dms_history.specs.EntryEvents.{live_of, history_of}
+use Rattle.dms_history.specs.Here.{here}
+use Rattle.dms_history.specs.Points.{LivePoint, live_points}
+use Rattle.dms_history.specs.SchemaAt.{schema_at}
+use Rattle.dms_audfile.specs.TrailEntries.{trail_entries}
+use Rattle.dms_running.specs.Telling.{Telling}
+use Rattle.dms_running.specs.Standing.{IsWhole}
+use Rattle.dms_running.specs.Points.{DescribedPoint, described_in, points_of, next_in, schema_bytes}
+use Rattle.dms_site.specs.declared.site.Site.{Ghosts}
+use Rattle.dms_site.specs.Files.{Files, Left, stored_of}
+use Rattle.dms_restore.specs.declared.choosing.OpenFault.{OpenFault}
+use Rattle.dms_restore.specs.Logging.{telling_of, telling, points}
+use Rattle.dms_wal.specs.Database.{view_of}
+use Rattle.dms_wal.specs.Marks.{last_number}
+use Rattle.dms_opening.specs.declared.opened.Opened.{Opened}
+use Rattle.dms_opening.specs.Openings.{HasTrail, IsNoRefusal, IsOpenable, OpensAt, ReopensSince, RunsFrom}
+use Rattle.dms_opening.proofs.Callers.{trail_is_one}
+use Rattle.dms_run.specs.States.{LivesEndWith}
+use Rattle.dms_runlaws.specs.RunStands.{StopsStand}
+use Rattle.dms_status.specs.declared.status.Status.{Status}
+use Rattle.dms_runtop.specs.Command.{DatabaseState, HasRoom, HoldsState, HoldsTold, RunsCommand, RunsOpened, StandsOpened, StandsThroughout}
+use Rattle.dms_runtop.specs.Faults.{open_status}
+use Rattle.dms_runtop.specs.Over.{ScriptRuns, seen_site}
+use Rattle.dms_runtop.proofs.Endings.{IsUndone}
+use Rattle.dms_runtop.proofs.Ran.{ran_nothing}
+use Rattle.dms_runtop.proofs.Since.{last_is, reopens_leaves, runs_since}
+
+-- ---- the description of the last point
+
+record Comes {A B : Type 0} (f : A → B) (y : B) : Type 0 where
+  from : A
+  is : y ≡ f from
+
+one_comes : {A B : Type 0} (f : A → B) (xs : List A) (before : List B) (y : B) → map f xs ≡ before ++ y ∷ [] → Comes f y
+one_comes f [] [] y is = absurd cc
+one_comes f [] (b ∷ before) y is = absurd cc
+one_comes f (x ∷ xs) [] y is = record { from = x; is = head_same _ _ _ _ is }
+  where
+    head_same : (a b : B) (xs ys : List B) → a ∷ xs ≡ b ∷ ys → b ≡ a
+    head_same a b xs ys e = cc
+one_comes f (x ∷ xs) (b ∷ before) y is = one_comes f xs before y (tail_same _ _ _ _ is)
+  where
+    tail_same : (a b : B) (xs ys : List B) → a ∷ xs ≡ b ∷ ys → xs ≡ ys
+    tail_same a b xs ys e = cc
+
+-- the Schema at the last point is that of its description
+described_at : (total first : ℕ) (files : Files) (desc : Described) (n : ℕ) (db : Db) (bytes : List ℕ) → LivesEndWith desc (points_of (telling_of total first) files) n db → schema_at (trail_entries total first files) n ≡ Some bytes → spelling desc ≡ bytes
+described_at total first files desc n db bytes state is =
+    let t = telling_of total first in
+    let e = trail_entries total first files in
+    let p = one_comes (described_in e) (live_points (live_of e) (here (t.dumps files) (history_of e) (stored_of files))) state.before state.point state.are in
+    let told : state.point.schema ≡ schema_bytes (schema_at e state.point.number) = ap (λ (q : DescribedPoint). q.schema) p.is ∙ ap (λ (q : DescribedPoint). schema_bytes (schema_at e q.number)) (sym p.is) in
+    sym state.schema ∙ told ∙ ap (λ (m : ℕ). schema_bytes (schema_at e m)) state.number ∙ ap schema_bytes is
+
+-- ---- it was opened
+
+module _ {S : Type 0} (g : Ghosts S) (old : S) (s : DatabaseState) where
+  -- files that stand for a state, opened
+  abbrev stands_opened : (o : Opened S) → OpensAt o.log.end.total o.log.first (g.files old) o.point o.next o.schema.items o.counts.items
+      → RunsFrom (g.files old) o.point o.next o.schema.items o.counts.items (view_of g o.log) → (h : HoldsState (g.files old) s) → LivesEndWith s.desc (points_of (telling (view_of g o.log)) (g.files old)) s.point s.db → StandsOpened g o
+  stands_opened o opens runs h state =
+      let number : o.point ≡ s.point = last_is s.desc (points_of (telling (view_of g o.log)) (g.files old)) s.point o.point s.db state (subst (λ (ps : List DescribedPoint). last_number ps ≡ Some o.point) runs.points_same runs.last.number) in
+      record {
+        files = g.files old;
+        runs = runs;
+        desc = s.desc;
+        formed = h.formed;
+        spelled = described_at o.log.end.total o.log.first (g.files old) s.desc s.point s.db o.schema.items state
+            (subst (λ m. schema_at (trail_entries o.log.end.total o.log.first (g.files old)) m ≡ Some o.schema.items) number opens.schema_is);
+      }
+
+  -- the trail of the opening is that of the state
+  module _ (P : ℕ → ℕ → Type 0) (o : Opened S) (opens : OpensAt o.log.end.total o.log.first (g.files old) o.point o.next o.schema.items o.counts.items) (h : HoldsState (g.files old) s) where
+    here_now : P h.total h.first → P o.log.end.total o.log.first
+    here_now p =
+        let one = trail_is_one h.total h.first o.log.end.total o.log.first (g.files old) h.trail opens.trail in
+        subst (λ k. P o.log.end.total k) one.1 (subst (λ k. P k h.first) one.0 p)
+
+    back_there : P o.log.end.total o.log.first → P h.total h.first
+    back_there p =
+        let one = trail_is_one h.total h.first o.log.end.total o.log.first (g.files old) h.trail opens.trail in
+        subst (λ k. P h.total k) (sym one.1) (subst (λ k. P k o.log.first) (sym one.0) p)
+
+  state_here : (o : Opened S) → OpensAt o.log.end.total o.log.first (g.files old) o.point o.next o.schema.items o.counts.items → HoldsState (g.files old) s → LivesEndWith s.desc (points_of (telling (view_of g o.log)) (g.files old)) s.point s.db
+  state_here o opens h = here_now (λ a b. LivesEndWith s.desc (points_of (telling_of a b) (g.files old)) s.point s.db) o opens h h.state
+
+  whole_here : (o : Opened S) → OpensAt o.log.end.total o.log.first (g.files old) o.point o.next o.schema.items o.counts.items → HoldsState (g.files old) s → IsWhole (telling_of o.log.end.total o.log.first) (g.files old)
+  whole_here o opens h = here_now (λ a b. IsWhole (telling_of a b) (g.files old)) o opens h h.whole
+
+  -- what `run_opened` needs
+  pub opened_stands : (o : Opened S) → OpensAt o.log.end.total o.log.first (g.files old) o.point o.next o.schema.items o.counts.items
+      → (IsWhole (telling_of o.log.end.total o.log.first) (g.files old) → RunsFrom (g.files old) o.point o.next o.schema.items o.counts.items (view_of g o.log)) → HoldsState (g.files old) s → StandsOpened g o
+  opened_stands o opens runs h = stands_opened o opens (runs (whole_here o opens h)) h (state_here o opens h)
+
+  -- the run, from the opening on
+  pub runs_entered : (o : Opened S) → OpensAt o.log.end.total o.log.first (g.files old) o.point o.next o.schema.items o.counts.items
+      → (IsWhole (telling_of o.log.end.total o.log.first) (g.files old) → RunsFrom (g.files old) o.point o.next o.schema.items o.counts.items (view_of g o.log)) → ReopensSince g old o.log.site → g.said o.log.site ≡ g.said old
+      → (known : Bool) (left left' : Option (List ℕ)) (status : Status) (new : S) → RunsOpened g o known left left' status new → IsTrue g.tells → IsTrue known
+      → (h : HoldsState (g.files old) s) → HasRoom (g.files old) s h → (all : List ℕ) → left ≡ Some all
+      → ScriptRuns (telling_of h.total h.first) s.desc (points_of (telling_of h.total h.first) (g.files old)) s.point s.db (next_in (telling_of h.total h.first) (g.files old)) all (seen_site g old) (seen_site g new) left' status
+  runs_entered o opens runs since said known left left' status new ran told knows h room all is =
+      let files : Files = g.files old in
+      let t : Telling = telling_of o.log.end.total o.log.first in
+      let ps : List DescribedPoint = points_of t files in
+      let whole = whole_here o opens h in
+      let state = state_here o opens h in
+      let st = stands_opened o opens (runs whole) h state in
+      let space : next_in t files + 1000003 < 2 ^ 64 = here_now (λ a b. next_in (telling_of a b) files + 1000003 < 2 ^ 64) o opens h room in
+      let script : ScriptRuns t s.desc ps s.point s.db o.next all (seen_site g o.log.site) (seen_site g new) left' status =
+          ran told knows st s.point s.db all state (subst (λ m. m + 1000003 < 2 ^ 64) opens.next_is space) is in
+      let from_next : ScriptRuns t s.desc ps s.point s.db (next_in t files) all (seen_site g o.log.site) (seen_site g new) left' status =
+          subst (λ m. ScriptRuns t s.desc ps s.point s.db m all (seen_site g o.log.site) (seen_site g new) left' status) (sym opens.next_is) script in
+      let before = runs_weaken (since o.log.end.total o.log.first opens.trail whole) (reopens_leaves t files (seen_site g old).said s.desc s.point s.db state (raw_lines all)) in
+      back_there (λ a b. ScriptRuns (telling_of a b) s.desc (points_of (telling_of a b) files) s.point s.db (next_in (telling_of a b) files) all (seen_site g old) (seen_site g new) left' status) o opens h
+      (runs_since t s.desc ps s.point s.db (next_in t files) all (seen_site g old) (seen_site g o.log.site) (seen_site g new) left' status
+      (ap (λ (l : List ℕ). cond g.tells_said (Some l) None) said) before from_next)
+
+  -- ---- it wasn't opened
+
+  pub openable : (h : HoldsState (g.files old) s) → IsOpenable h.total h.first (g.files old)
+  openable h = record { trail = h.trail; whole = h.whole; described = h.described; no_dump = h.no_dump }
+
+  undone_open : (fault : OpenFault) → IsNoRefusal fault → IsUndone (open_status fault)
+  undone_open fault (inl (inl is)) = subst (λ (f : OpenFault). IsUndone (open_status f)) (sym is) tt
+  undone_open fault (inl (inr is)) = subst (λ (f : OpenFault). IsUndone (open_status f)) (sym is) tt
+  undone_open fault (inr is) = subst (λ (f : OpenFault). IsUndone (open_status f)) (sym is) tt
+
+  pub runs_unopened : (fault : OpenFault) (new : S) → ((total first : ℕ) → IsOpenable total first (g.files old) → IsNoRefusal fault) → ReopensSince g old new → g.said new ≡ g.said old → (left' : Option (List ℕ))
+      → (h : HoldsState (g.files old) s) (all : List ℕ)
+      → ScriptRuns (telling_of h.total h.first) s.desc (points_of (telling_of h.total h.first) (g.files old)) s.point s.db (next_in (telling_of h.total h.first) (g.files old)) all (seen_site g old) (seen_site g new) left' (open_status fault)
+  runs_unopened fault new none since said left' h all =
+      let files : Files = g.files old in
+      let t : Telling = telling_of h.total h.first in
+      ran_nothing t s.desc (points_of t files) s.point s.db (next_in t files) all (seen_site g old) (seen_site g new) left' (open_status fault)
+      (undone_open fault (none h.total h.first (openable h)))
+      (runs_weaken (since h.total h.first h.trail h.whole) (reopens_leaves t files (seen_site g old).said s.desc s.point s.db h.state (raw_lines all)))
+      (ap (λ (l : List ℕ). cond g.tells_said (Some l) None) said)
+
+-- ---- the command, where a state is told
+
+some_told : (state : Option DatabaseState) (s : DatabaseState) → state ≡ Some s → IsTrue (is_some state)
+some_told state s is = subst (λ (o : Option DatabaseState). IsTrue (is_some o)) (sym is) refl
+
+module _ {S : Type 0} (g : Ghosts S) (old : S) (state : Option DatabaseState) where
+  -- what is told is known
+  pub opened_known : (o : Opened S) → OpensAt o.log.end.total o.log.first (g.files old) o.point o.next o.schema.items o.counts.items
+      → (IsWhole (telling_of o.log.end.total o.log.first) (g.files old) → RunsFrom (g.files old) o.point o.next o.schema.items o.counts.items (view_of g o.log)) → IsTrue (is_some state) → HoldsTold state (g.files old) → StandsOpened g o
+  opened_known o opens runs = by_state state
+    where
+      by_state : (told : Option DatabaseState) → IsTrue (is_some told) → HoldsTold told (g.files old) → StandsOpened g o
+      by_state None knows holds = absurd (cc)
+      by_state (Some s) knows holds = opened_stands g old s o opens runs (holds s refl)
+
+  pub runs_found : (o : Opened S) → (IsTrue g.tells → OpensAt o.log.end.total o.log.first (g.files old) o.point o.next o.schema.items o.counts.items)
+      → (IsTrue g.tells → IsWhole (telling_of o.log.end.total o.log.first) (g.files old) → RunsFrom (g.files old) o.point o.next o.schema.items o.counts.items (view_of g o.log)) → (IsTrue g.tells → ReopensSince g old o.log.site) → g.said o.log.site ≡ g.said old
+      → (left left' : Option (List ℕ)) (status : Status) (new : S) → RunsOpened g o (is_some state) left left' status new → RunsCommand g state old new left left' status
+  runs_found o opens runs since said left left' status new ran tells s is h room all held =
+      runs_entered g old s o (opens tells) (runs tells) (since tells) said (is_some state) left left' status new ran tells (some_told state s is) h room all held
+
+  pub runs_refused : (fault : OpenFault) (new : S) → (IsTrue g.tells → (total first : ℕ) → IsOpenable total first (g.files old) → IsNoRefusal fault) → (IsTrue g.tells → ReopensSince g old new) → g.said new ≡ g.said old
+      → (left left' : Option (List ℕ)) (status : Status) → status ≡ open_status fault → RunsCommand g state old new left left' status
+  runs_refused fault new none since said left left' status status_is tells s is h room all held =
+      subst (λ (x : Status). ScriptRuns (telling_of h.total h.first) s.desc (points_of (telling_of h.total h.first) (g.files old)) s.point s.db (next_in (telling_of h.total h.first) (g.files old)) all (seen_site g old) (seen_site g new) left' x) (sym status_is)
+      (runs_unopened g old s fault new (none tells) (since tells) said left' h all)
+
+  -- each stop leaves a state
+  pub stands_throughout : StopsStand → (left left' : Option (List ℕ)) (status : Status) (new : S) → RunsCommand g state old new left left' status → StandsThroughout g state old new left
+  stands_throughout law left left' status new ran tells s is h room start low all held =
+      let t : Telling = telling_of h.total h.first in
+      runs_weaken (ran tells s is h room all held).every_moment
+      (λ x l. law h.total h.first s.desc h.formed s.db start (seen_site g old).said (points_of t (g.files old)) s.point (next_in t (g.files old)) (raw_lines all) x low l)

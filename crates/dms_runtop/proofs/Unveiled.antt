@@ -1,0 +1,76 @@
+-- A run over a site whose files are told only where it is known what they stand for.
+use Rattle.std.proofs.Common.{ℕ, ◌≡◌, ◌+◌, ◌<◌, ◌^◌, ◌∙◌, Bool, IsTrue, List, map, Option, refl, sym, ap, subst}
+use Rattle.dms_block.specs.Held.{BlockPoint}
+use Rattle.dms_desc.specs.Shape.{Described}
+use Rattle.dms_desc_bytes.specs.Spelling.{spelling}
+use Rattle.dms_desc_bytes.specs.WellFormed.{IsWellFormed}
+use Rattle.dms_model.specs.Db.{Db}
+use Rattle.dms_running.specs.Points.{DescribedPoint, points_of}
+use Rattle.dms_running.specs.Telling.{Telling}
+use Rattle.dms_site.specs.declared.site.Site.{Ghosts}
+use Rattle.dms_site.specs.Files.{Files}
+use Rattle.dms_restore.specs.Logging.{telling_of, telling, points}
+use Rattle.dms_store.specs.Lifted.{point_of}
+use Rattle.dms_wal.specs.declared.running.Running.{Running}
+use Rattle.dms_wal.specs.Database.{held, view_of}
+use Rattle.dms_opening.specs.declared.opened.Opened.{Opened}
+use Rattle.dms_opening.specs.Openings.{RunsFrom, TellsOpened}
+use Rattle.dms_status.specs.declared.status.Status.{Status}
+use Rattle.dms_run.specs.States.{LivesEndWith}
+use Rattle.dms_runtop.specs.Command.{RunsOpened, StandsOpened}
+use Rattle.dms_runtop.specs.Describing.{IsUnderSchema}
+use Rattle.dms_runtop.specs.Over.{BeginsAt, RunsOver, ScriptRuns, SiteSeen, seen_site}
+use Rattle.dms_runtop.proofs.Opened.{same_description, spells_last}
+
+-- it runs under the bytes of the description that is used
+under_bytes : {S : Type 0} (g : Ghosts S) (one : (d e : Described) → IsWellFormed d → IsWellFormed e → spelling d ≡ spelling e → d ≡ e) (o : Opened S) (desc : Described) → IsWellFormed desc → IsUnderSchema o.schema.items desc
+    → (bytes : List ℕ) → bytes ≡ spelling desc → (st : StandsOpened g o) → RunsFrom st.files o.point o.next bytes o.counts.items (view_of g o.log)
+under_bytes g one o desc formed under bytes bytes_are st =
+    let same : desc ≡ st.desc = same_description one o.schema.items desc st.desc formed under st.formed st.spelled in
+    subst (λ (b : List ℕ). RunsFrom st.files o.point o.next b o.counts.items (view_of g o.log)) (sym st.spelled ∙ ap spelling (sym same) ∙ sym bytes_are) st.runs
+
+module _ {S V : Type 0} (g : Ghosts S) (gv : Ghosts V) (of : V → S) (known : Bool) (tells : IsTrue g.tells → IsTrue known → IsTrue gv.tells) (seen : (v : V) → seen_site gv v ≡ seen_site g (of v))
+    (one : (d e : Described) → IsWellFormed d → IsWellFormed e → spelling d ≡ spelling e → d ≡ e) (o : Opened S) (desc : Described) (formed : IsWellFormed desc) (under : IsUnderSchema o.schema.items desc)
+    (bytes : List ℕ) (bytes_are : bytes ≡ spelling desc)
+    (r : Running V) (site_is : of r.log.site ≡ o.log.site) (total_is : r.log.end.total ≡ o.log.end.total) (first_is : r.log.first ≡ o.log.first) (next_is : r.next ≡ o.next)
+    (opened : (files : Files) → RunsFrom files o.point o.next bytes o.counts.items (view_of g o.log) → TellsOpened (telling_of o.log.end.total o.log.first) files o.next (held gv r)) where
+
+  abbrev t : Telling
+  t = telling_of o.log.end.total o.log.first
+
+  opened_under : (st : StandsOpened g o) → TellsOpened t st.files o.next (held gv r)
+  opened_under st = opened st.files (under_bytes g one o desc formed under bytes bytes_are st)
+
+  begins_opened : IsTrue g.tells → IsTrue known → (st : StandsOpened g o) (n : ℕ) (db : Db) → LivesEndWith st.desc (points_of t st.files) n db → o.next + 1000003 < 2 ^ 64 → BeginsAt gv r o.log.end.total o.log.first (points_of t st.files) st.desc n db
+  begins_opened told knows st n db state room =
+      let to = opened_under st in
+      record {
+        tells = tells told knows;
+        total_is = total_is;
+        first_is = first_is;
+        points_are = ap (map (point_of st.desc)) to.points_are;
+        state = state;
+        spells = spells_last st.desc (points (view_of gv r.log)) (points_of t st.files) (held gv r).content n db state to.points_are to.content_is;
+        durable = to.all_durable;
+        room = subst (λ (m : ℕ). m + 1000003 < 2 ^ 64) (sym next_is) room;
+      }
+
+  pub runs_unveiled : (v : V) (left left' : Option (List ℕ)) (status : Status) → RunsOver gv r desc left left' status v → RunsOpened g o known left left' status (of v)
+  runs_unveiled v left left' status ran told knows st n db all state room is =
+      let same : desc ≡ st.desc = same_description one o.schema.items desc st.desc formed under st.formed st.spelled in
+      let over : RunsOver gv r st.desc left left' status v = subst (λ (d : Described). RunsOver gv r d left left' status v) same ran in
+      let ps : List DescribedPoint = points_of t st.files in
+      let script : ScriptRuns t st.desc ps n db r.next all (seen_site gv r.log.site) (seen_site gv v) left' status = over o.log.end.total o.log.first ps n db all (begins_opened told knows st n db state room) is in
+      subst (λ (m : ℕ). ScriptRuns t st.desc ps n db m all (seen_site g o.log.site) (seen_site g (of v)) left' status) next_is
+      (subst (λ (x : SiteSeen). ScriptRuns t st.desc ps n db r.next all x (seen_site g (of v)) left' status) (seen r.log.site ∙ ap (seen_site g) site_is)
+      (subst (λ (x : SiteSeen). ScriptRuns t st.desc ps n db r.next all (seen_site gv r.log.site) x left' status) (seen v) script))
+
+-- the files under which it runs
+pub files_under : {S : Type 0} (g : Ghosts S) (one : (d e : Described) → IsWellFormed d → IsWellFormed e → spelling d ≡ spelling e → d ≡ e) (o : Opened S) (desc : Described) → IsWellFormed desc → IsUnderSchema o.schema.items desc
+    → (bytes : List ℕ) → bytes ≡ spelling desc → StandsOpened g o → (files : Files) × RunsFrom files o.point o.next bytes o.counts.items (view_of g o.log)
+files_under g one o desc formed under bytes bytes_are st = (st.files, under_bytes g one o desc formed under bytes bytes_are st)
+
+-- the same end of a run
+pub same_end : {S : Type 0} (g : Ghosts S) (o : Opened S) (known : Bool) (left left' : Option (List ℕ)) (s t : Status) (a b : S) → s ≡ t → a ≡ b → RunsOpened g o known left left' t b → RunsOpened g o known left left' s a
+same_end g o known left left' s t a b one two ran =
+    subst (λ x. RunsOpened g o known left left' s x) (sym two) (subst (λ (x : Status). RunsOpened g o known left left' x b) (sym one) ran)

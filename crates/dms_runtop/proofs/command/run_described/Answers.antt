@@ -1,0 +1,57 @@
+use Rattle.std.proofs.Common.{◌≡◌, ◌≤◌, ◌∙◌, ℕ, List, length, refl, sym, ap, subst}
+use Rattle.std.specs.Global.{Vec}
+use Rattle.dms_desc.specs.Shape.{described}
+use Rattle.dms_moments.specs.MomentLaws.{runs_none}
+use Rattle.dms_moments.specs.Moments.{Runs}
+use Rattle.dms_site.specs.Files.{Left}
+use Rattle.dms_wal.specs.Marks.{IsDescription}
+use Rattle.dms_runtop.specs.Both.{first_of, second_of, both_of}
+use Rattle.dms_runtop.proofs.Formed.{bytes_fit, files_of, frames_of}
+use Rattle.dms_runtop.proofs.Looked.{runs_left}
+use Rattle.dms_runtop.proofs.Serving.{counts_each, serves_by}
+use Rattle.dms_runtop.proofs.Unveiled.{files_under, runs_unveiled, same_end}
+use Rattle.dms_runtop.proofs.command.run_described.Goals as goal
+
+pub into_running-requires-clause-frames : goal.into_running-requires-clause-frames
+into_running-requires-clause-frames g c = frames_of (described c.args.desc.now) c.requires.formed
+
+pub into_running-requires-clause-limit : goal.into_running-requires-clause-limit
+into_running-requires-clause-limit g c = files_of (described c.args.desc.now) c.requires.formed
+
+pub into_running-requires-clause-described : goal.into_running-requires-clause-described
+into_running-requires-clause-described g c = subst IsDescription (sym c.in-Some.ensures) (bytes_fit (described c.args.desc.now) c.requires.formed)
+
+pub run_over-requires-clause-sound : goal.run_over-requires-clause-sound
+run_over-requires-clause-sound g c =
+    c.in-Ok.ensures.usable (λ tells. files_under g.S.Site c.spelling_law.ensures c.args.opened (described c.args.desc.now) c.requires.formed c.requires.under _ c.in-Some.ensures
+    (c.requires.known (first_of g.S.Site.tells g.K.Knows.known tells) (second_of g.S.Site.tells g.K.Knows.known tells)))
+
+pub run_over-requires-clause-serves : goal.run_over-requires-clause-serves
+run_over-requires-clause-serves g c =
+    let sound = run_over-requires-clause-sound g c in
+    let served = c.served_law.ensures (described c.args.desc.now) c.requires.formed in
+    let each : length (described c.args.desc.now).structures ≤ length c.args.opened.counts.items = counts_each c.args.opened.schema.items c.args.opened.counts.items (described c.args.desc.now) c.requires.named c.requires.formed served c.requires.under in
+    let kept = c.in-Ok.ensures.kept in
+    serves_by (described c.args.desc.now) _ c.in-Ok.running.counts.items served refl sound.table.few
+    (subst (λ (v : Vec ℕ). length (described c.args.desc.now).structures ≤ length v.items) (sym kept.1) each)
+    (ap (λ (v : Vec ℕ). v.items) kept.0 ∙ c.in-Some.ensures)
+
+pub run_over-requires-clause-mark : goal.run_over-requires-clause-mark
+run_over-requires-clause-mark g c = λ tells.
+    let st = files_under g.S.Site c.spelling_law.ensures c.args.opened (described c.args.desc.now) c.requires.formed c.requires.under _ c.in-Some.ensures
+        (c.requires.known (first_of g.S.Site.tells g.K.Knows.known tells) (second_of g.S.Site.tells g.K.Knows.known tells)) in
+    sym (c.in-Ok.ensures.tells st.0 st.1).content_is
+
+pub returns-in-Ok-clause-ran : goal.returns-in-Ok-clause-ran
+returns-in-Ok-clause-ran g c =
+    same_end g.S.Site c.args.opened g.K.Knows.known _ _ _ _ _ _ c.unveil.ensures.0 c.unveil.ensures.1
+    (runs_unveiled g.S.Site _ (λ v. v.site) g.K.Knows.known (both_of g.S.Site.tells g.K.Knows.known) (λ v. refl) c.spelling_law.ensures c.args.opened (described c.args.desc.now) c.requires.formed c.requires.under
+    _ c.in-Some.ensures c.in-Ok.running (ap (λ v. v.site) c.in-Ok.ensures.log.0) c.in-Ok.ensures.log.2 c.in-Ok.ensures.log.1 c.in-Ok.ensures.kept.2 c.in-Ok.ensures.tells c.run_over.result.site _ _ c.run_over.result.status c.run_over.ensures.ran)
+
+pub returns-in-Err-clause-ran : goal.returns-in-Err-clause-ran
+returns-in-Err-clause-ran g c =
+    same_end g.S.Site c.args.opened g.K.Knows.known _ _ _ _ _ _ c.unveil-in-Err.ensures.0 c.unveil-in-Err.ensures.1
+    (runs_left g.S.Site c.args.opened _ g.K.Knows.known _ _ (ap (λ v. v.site) c.in-Err.ensures))
+
+pub returns-clause-ran : goal.returns-clause-ran
+returns-clause-ran g c = runs_left g.S.Site c.args.opened c.site_of.result g.K.Knows.known _ _ c.site_of.ensures
