@@ -9,3 +9,4 @@ pub mod Looked
 pub mod Unveiled
 pub mod Entered
 pub mod Refused
+pub mod Engine

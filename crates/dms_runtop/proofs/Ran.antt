@@ -35,7 +35,8 @@ use Rattle.dms_run.specs.States.{EndsWith, LivesEndWith}
 use Rattle.dms_run.specs.Ending.{KeepsLimits}
 use Rattle.dms_run.specs.Stops.{RunLeaves, last_quiet_number}
 use Rattle.dms_status.specs.declared.status.LimitKind.{LimitKind}
-use Rattle.dms_status.specs.declared.status.LimitKind.TheVariants.{AuditFile, Lines, Bytes, Held}
+use Rattle.dms_status.specs.declared.status.LimitKind.TheVariants as limits
+use Rattle.dms_status.specs.declared.status.LimitKind.TheVariants.{AuditFile, Lines, Bytes}
 use Rattle.dms_status.specs.declared.status.Status.{Status}
 use Rattle.dms_status.specs.declared.status.Status.TheVariants.{Ok, Limit, InputFault, Damaged}
 use Rattle.dms_runtop.specs.Faults.{run_status}
@@ -138,7 +139,7 @@ module _ (t : Telling) (d : Described) (ps : List DescribedPoint) (n : ℕ) (db 
   of_audit (AuditFile f) is = tt
   of_audit Lines is = absurd is
   of_audit Bytes is = absurd is
-  of_audit Held is = absurd is
+  of_audit limits.Held is = absurd is
 
   -- nothing was done: the status is none of a script
   pub ran_nothing : (status : Status) → IsUndone status → Runs a.clock b.clock (RunLeavesFiles t d a.said ps n db next events) → b.said ≡ a.said → ScriptRuns t d ps n db next all a b left' status
@@ -160,14 +161,14 @@ module _ (t : Telling) (d : Described) (ps : List DescribedPoint) (n : ℕ) (db 
       → (fault ≡ run.Lines → PassesLines d db next (raw_lines all) a.said b.said) → (fault ≡ run.Bytes → PassesBytes d db next (raw_lines all) a.said b.said)
       → (fault ≡ run.Held → PassesWaiting d db next (raw_lines all) a.said b.said) → (fault ≡ run.Input → CutInput d db next all left' a.said b.said)
       → ((f k : ℕ) → fault ≡ Block (block.Damaged f k) → ⊥) → ScriptRuns t d ps n db next all a b left' (run_status fault)
-  ran_failed fault moments part whole lines bytes held cut damaged = record {
+  ran_failed fault moments part whole lines bytes waits cut damaged = record {
     every_moment = moments;
     at_ok = λ is. absurd (run_not_ok fault is);
     prints = λ is. absurd (run_not_ok fault is);
     part = part;
     whole_answers = λ unsaid. whole (λ is. unsaid (ap run_status is));
     within = λ is. absurd (run_not_ok fault is);
-    limit = λ k is. passes fault k is lines bytes held;
+    limit = λ k is. passes fault k is lines bytes waits;
     input_cut = λ is. cut (run_input fault is);
     undamaged = λ f k is high. damaged f k (run_damaged fault f k is);
   }
@@ -175,10 +176,10 @@ module _ (t : Telling) (d : Described) (ps : List DescribedPoint) (n : ℕ) (db 
       passes : (fault : RunFault) (k : LimitKind) → run_status fault ≡ Limit k → (fault ≡ run.Lines → PassesLines d db next (raw_lines all) a.said b.said)
           → (fault ≡ run.Bytes → PassesBytes d db next (raw_lines all) a.said b.said) → (fault ≡ run.Held → PassesWaiting d db next (raw_lines all) a.said b.said)
           → PassesScript k d db next (raw_lines all) a.said b.said
-      passes fault (AuditFile f) is lines bytes held = tt
-      passes fault Lines is lines bytes held = lines (run_lines_is fault is)
-      passes fault Bytes is lines bytes held = bytes (run_bytes_is fault is)
-      passes fault Held is lines bytes held = held (run_held_is fault is)
+      passes fault (AuditFile f) is lines bytes waits = tt
+      passes fault Lines is lines bytes waits = lines (run_lines_is fault is)
+      passes fault Bytes is lines bytes waits = bytes (run_bytes_is fault is)
+      passes fault limits.Held is lines bytes waits = waits (run_held_is fault is)
 
   -- the script was carried out, and the database closed, or not closed
   pub ran_closed : (status : Status) → (status ≡ Ok) ⊎ IsOfClosing status → Runs a.clock b.clock (RunLeavesFiles t d a.said ps n db next events)

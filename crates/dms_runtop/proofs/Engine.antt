@@ -1,0 +1,155 @@
+-- A run of an engine over a running database, as a run of a script over its files.
+use Rattle.std.proofs.Common.{◌⊎◌, ℕ, ◌≡◌, ◌≤◌, ◌<◌, ◌+◌, ◌^◌, ◌∙◌, Bool, true, false, cond, IsTrue, List, [], ◌∷◌, map, length, Option, Some, None, refl, sym, ap, subst, arith}
+use Rattle.dms_base.specs.Causes.{Rose}
+use Rattle.dms_block.specs.Counts.{Faults}
+use Rattle.dms_block.specs.declared.block_fault.BlockFault.TheVariants as block
+use Rattle.dms_block.specs.Texts.{Prints, PrintsPrefix}
+use Rattle.dms_desc.specs.Shape.{Described}
+use Rattle.dms_feed.specs.Lines.{raw_lines}
+use Rattle.dms_model.specs.Db.{Db}
+use Rattle.dms_model.specs.Points.{Stop, LeavesPrefix, TextIs}
+use Rattle.dms_model.specs.Seen.{Seen}
+use Rattle.dms_model.specs.Session.{ended, fresh_session}
+use Rattle.dms_moments.specs.Moments.{Runs}
+use Rattle.dms_moments.specs.MomentLaws.{runs_none, runs_on}
+use Rattle.dms_runner.specs.Answers.{answers_text, last_quiet, script_events, script_run}
+use Rattle.dms_runner.specs.Blaming.{HasBlame}
+use Rattle.dms_runner.specs.Events.{RunEvent, SaidWhole, quiets_of}
+use Rattle.dms_runner.specs.Running.{CutInput, PassesBytes, PassesLines, PassesWaiting}
+use Rattle.dms_runner.specs.declared.run.RunFault.{RunFault}
+use Rattle.dms_runner.specs.declared.run.RunFault.TheVariants as run
+use Rattle.dms_runner.specs.declared.run.RunFault.TheVariants.{Block}
+use Rattle.dms_runner.proofs.Rooms.{next_law}
+use Rattle.dms_running.specs.Telling.{Telling}
+use Rattle.dms_running.specs.Points.{DescribedPoint, points_of}
+use Rattle.dms_site.specs.declared.site.Site.{Ghosts}
+use Rattle.dms_restore.specs.Logging.{Trail, trail_of, telling_of, telling, points}
+use Rattle.dms_store.specs.Lifted.{point_of, lifted}
+use Rattle.dms_storeverbs.specs.View.{StandsFor, View}
+use Rattle.dms_wal.specs.Controls.{KeepsPace}
+use Rattle.dms_wal.specs.declared.running.Running.{Running}
+use Rattle.dms_wal.specs.Database.{held, view_of, said_of}
+use Rattle.dms_wal.proofs.Lifts.{told_same}
+use Rattle.dms_run.specs.Ending.{KeepsLimits}
+use Rattle.dms_run.specs.Files.{RunLeavesFiles}
+use Rattle.dms_run.specs.States.{EndsWith, LivesEndWith}
+use Rattle.dms_run.specs.Stops.{RunLeaves, last_quiet_number}
+use Rattle.dms_status.specs.declared.status.Status.{Status}
+use Rattle.dms_status.specs.declared.status.Status.TheVariants.{Ok, Memory}
+use Rattle.dms_runtop.specs.Faults.{run_status}
+use Rattle.dms_runtop.specs.Over.{BeginsAt, ClosesOver, FilesEndWith, RunsOver, ScriptRuns, seen_site}
+use Rattle.dms_runtop.specs.Statuses.{IsOfClosing}
+use Rattle.dms_runtop.proofs.Ran.{moments_under, ends_under, closed_under, moments_below, closing_below, ran_nothing, ran_failed, ran_closed}
+
+-- ---- a damaged block
+
+none_rose : Rose 0 0 → ⊥
+none_rose rose = omega (arith, rose)
+
+-- where no block was found damaged, that is no fault
+pub no_damage : (fault : RunFault) (a b : Faults) → a.damaged ≡ 0 → b.damaged ≡ a.damaged → HasBlame fault a b → (f k : ℕ) → fault ≡ Block (block.Damaged f k) → ⊥
+no_damage fault a b zero same blame f k is =
+    let h : HasBlame (Block (block.Damaged f k)) a b = subst (λ (x : RunFault). HasBlame x a b) is blame in
+    let low : Rose 0 b.damaged = subst (λ (x : ℕ). Rose x b.damaged) zero h.0.rose in
+    none_rose (subst (λ (x : ℕ). Rose 0 x) (same ∙ zero) low)
+
+-- ---- the text
+
+pub told_text : (b : Bool) (x y : List ℕ) → (IsTrue b → x ≡ y) → ◌≡◌ {A = Option (List ℕ)} (cond b (Some x) None) (cond b (Some y) None)
+told_text true x y same = ap (λ (l : List ℕ). Some l) (same refl)
+told_text false x y same = refl
+
+-- ---- the next number
+
+-- there is room for one more number at the end of a script
+pub room_after : (d : Described) (db : Db) (next now : ℕ) (lines : List (List ℕ)) → next + 1000003 < 2 ^ 64 → KeepsLimits d db next lines → now ≡ (ended (script_run d db next lines).going.session).next → now + 1 < 2 ^ 64
+room_after d db next now lines room keeps is = omega (arith, room, keeps.few, is, next_law d db next lines)
+
+-- ---- a run
+
+module _ {S : Type 0} (g : Ghosts S) (d e e' : Described) (r r' : Running S) (same : e ≡ d) (same' : e' ≡ d) (pace : KeepsPace r r') (total first : ℕ) (ps : List DescribedPoint) (n : ℕ) (db : Db) (all : List ℕ) (b : BeginsAt g r total first ps d n db) where
+  abbrev t : Telling
+  t = telling_of total first
+
+  abbrev trail : Trail
+  trail = record { total = total; first = first }
+
+  abbrev events : List RunEvent
+  events = script_events d db r.next (raw_lines all)
+
+  abbrev entry : Option (List ℕ)
+  entry = said_of g r.log
+
+  begins_trail : trail_of (view_of g r.log) ≡ trail
+  begins_trail = λ i. record { total = b.total_is i; first = b.first_is i }
+
+  keeps_trail : trail_of (view_of g r'.log) ≡ trail_of (view_of g r.log)
+  keeps_trail = λ i. record { total = pace.total i; first = pace.first i }
+
+  moments_of : Runs (lifted e (held g r).clock) (lifted e' (held g r').clock) (RunLeaves (held g r).whole entry (map (point_of e) (held g r).points) n db r.next events)
+      → Runs (g.clock r.log.site) (g.clock r'.log.site) (RunLeavesFiles t d entry ps n db r.next events)
+  moments_of leaves =
+      moments_below g d trail r r' begins_trail keeps_trail ps b.points_are n db r.next events
+      (moments_under d e e' (held g r) (held g r') (held g r).whole entry n db r.next events same same' leaves)
+
+  closing_of : (site : S) (status : Status) → ClosesOver g r' status site
+      → ((stop : Stop) → LeavesPrefix (held g r').whole (held g r').durable (map (point_of e') (held g r').points) (held g r').next stop → TextIs (held g r').said stop
+      → RunLeaves (held g r).whole entry (map (point_of e) (held g r).points) n db r.next events stop)
+      → r'.next + 1 < 2 ^ 64 → Runs (g.clock r'.log.site) (g.clock site) (RunLeavesFiles t d entry ps n db r.next events)
+  closing_of site status closes ends room =
+      closing_below g d trail r r' begins_trail keeps_trail ps b.points_are n db r.next events site
+      (ends_under d e e' (held g r) (held g r') (held g r).whole entry n db r.next events same same' ends) b.tells room closes.leaves
+
+  files_end : (site : S) (status : Status) → ClosesOver g r' status site → (m : ℕ) (x : Db) → EndsWith (map (point_of e') (held g r').points) m x → status ≡ Ok → FilesEndWith t d m x (seen_site g site)
+  files_end site status closes m x ends ok =
+      let told : telling (view_of g r'.log) ≡ t = told_same (keeps_trail ∙ begins_trail) in
+      let are : points_of t (g.files site) ≡ points (view_of g r'.log) = ap (λ (k : Telling). points_of k (g.files site)) (sym told) ∙ closes.points_are ok b.tells in
+      record {
+        state = subst (λ (l : List DescribedPoint). LivesEndWith d l m x) (sym are) (closed_under d e' (points (view_of g r'.log)) m x same' ends);
+        only = closes.only ok b.tells;
+      }
+
+  -- the script stopped before its end, and the site was given back
+  pub failed_over : (left' : Option (List ℕ)) (fault : RunFault) (status : Status) (site : S) → status ≡ run_status fault → site ≡ r'.log.site
+      → Runs (lifted e (held g r).clock) (lifted e' (held g r').clock) (RunLeaves (held g r).whole entry (map (point_of e) (held g r).points) n db r.next events)
+      → PrintsPrefix entry (said_of g r'.log) (answers_text d db r.next (raw_lines all)) → ((fault ≡ Block block.Say → ⊥) → SaidWhole entry (said_of g r'.log) events)
+      → (fault ≡ run.Lines → PassesLines d db r.next (raw_lines all) entry (said_of g r'.log)) → (fault ≡ run.Bytes → PassesBytes d db r.next (raw_lines all) entry (said_of g r'.log))
+      → (fault ≡ run.Held → PassesWaiting d db r.next (raw_lines all) entry (said_of g r'.log)) → (fault ≡ run.Input → CutInput d db r.next all left' entry (said_of g r'.log))
+      → ((f k : ℕ) → fault ≡ Block (block.Damaged f k) → ⊥) → ScriptRuns t d ps n db r.next all (seen_site g r.log.site) (seen_site g site) left' status
+  failed_over left' fault status site status_is site_is leaves part whole lines bytes waits cut damaged =
+      subst (λ (x : Status). ScriptRuns t d ps n db r.next all (seen_site g r.log.site) (seen_site g site) left' x) (sym status_is)
+      (subst (λ (x : S). ScriptRuns t d ps n db r.next all (seen_site g r.log.site) (seen_site g x) left' (run_status fault)) (sym site_is)
+      (ran_failed t d ps n db r.next all (seen_site g r.log.site) (seen_site g r'.log.site) left' fault (moments_of leaves) part whole lines bytes waits cut damaged))
+
+  -- the script was carried out, and then the database closed
+  pub closed_over : (left' : Option (List ℕ)) (status : Status) (site : S) → (status ≡ Ok) ⊎ IsOfClosing status → ClosesOver g r' status site → (IsTrue g.tells_said → g.said site ≡ g.said r'.log.site)
+      → Runs (lifted e (held g r).clock) (lifted e' (held g r').clock) (RunLeaves (held g r).whole entry (map (point_of e) (held g r).points) n db r.next events)
+      → ((stop : Stop) → LeavesPrefix (held g r').whole (held g r').durable (map (point_of e') (held g r').points) (held g r').next stop → TextIs (held g r').said stop
+      → RunLeaves (held g r).whole entry (map (point_of e) (held g r).points) n db r.next events stop)
+      → EndsWith (map (point_of e') (held g r').points) (last_quiet_number n (quiets_of events)) (last_quiet db (quiets_of events))
+      → Prints entry (said_of g r'.log) (answers_text d db r.next (raw_lines all)) → PrintsPrefix entry (said_of g r'.log) (answers_text d db r.next (raw_lines all)) → SaidWhole entry (said_of g r'.log) events
+      → KeepsLimits d db r.next (raw_lines all) → r'.next ≡ (ended (script_run d db r.next (raw_lines all)).going.session).next
+      → ScriptRuns t d ps n db r.next all (seen_site g r.log.site) (seen_site g site) left' status
+  closed_over left' status site of closes said leaves behind ends prints part whole limits next_is =
+      let text : (seen_site g site).said ≡ said_of g r'.log = told_text g.tells_said (g.said site) (g.said r'.log.site) said in
+      let room : r'.next + 1 < 2 ^ 64 = room_after d db r.next r'.next (raw_lines all) b.room limits next_is in
+      ran_closed t d ps n db r.next all (seen_site g r.log.site) (seen_site g site) left' status of
+      (runs_on (moments_of leaves) (closing_of site status closes behind room) (λ x l. l))
+      (files_end site status closes (last_quiet_number n (quiets_of events)) (last_quiet db (quiets_of events)) ends)
+      (subst (λ (s : Option (List ℕ)). Prints entry s (answers_text d db r.next (raw_lines all))) (sym text) prints)
+      (subst (λ (s : Option (List ℕ)). PrintsPrefix entry s (answers_text d db r.next (raw_lines all))) (sym text) part)
+      (subst (λ (s : Option (List ℕ)). SaidWhole entry s events) (sym text) whole)
+      limits
+
+-- ---- before the script
+
+-- an engine over this store begins as one over that
+pub fresh_over : {St : Type 0} (seen : St → Seen) (v : View) (a b : St) → a ≡ b → ((x : Db) → (seen b).db ≡ Some x → StandsFor v (fresh_session x (seen b).next)) → (x : Db) → (seen a).db ≡ Some x → StandsFor v (fresh_session x (seen a).next)
+fresh_over {St} seen v a b same stands x is = subst (λ (s : St). StandsFor v (fresh_session x (seen s).next)) (sym same) (stands x (subst (λ (s : St). (seen s).db ≡ Some x) same is))
+
+-- memory was refused before the first line, and the site was given back
+pub refused_over : {S : Type 0} (g : Ghosts S) (d : Described) (r : Running S) (site : S) (left left' : Option (List ℕ)) → site ≡ r.log.site → RunsOver g r d left left' Memory site
+refused_over {S} g d r site left left' same total first ps n db all b is =
+    subst (λ (x : S). ScriptRuns (telling_of total first) d ps n db r.next all (seen_site g r.log.site) (seen_site g x) left' Memory) (sym same)
+    (ran_nothing (telling_of total first) d ps n db r.next all (seen_site g r.log.site) (seen_site g r.log.site) left' Memory tt
+    (runs_none (g.clock r.log.site) (RunLeavesFiles (telling_of total first) d (said_of g r.log) ps n db r.next (script_events d db r.next (raw_lines all)))) refl)

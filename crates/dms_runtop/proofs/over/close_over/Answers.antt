@@ -1,0 +1,18 @@
+use Rattle.std.proofs.Common.{◌≡◌, ◌∙◌, sym}
+use Rattle.dms_runner.specs.declared.run.RunFault.TheVariants.{Block}
+use Rattle.dms_runtop.proofs.Endings.{run_not_ok}
+use Rattle.dms_runtop.proofs.over.close_over.Goals as goal
+
+pub returns-in-Ok-clause-closes : goal.returns-in-Ok-clause-closes
+returns-in-Ok-clause-closes g c = record {
+  leaves = c.in-Ok.ensures.leaves;
+  points_are = λ ok tells. (c.in-Ok.ensures.closed tells).points_are;
+  only = λ ok tells. (c.in-Ok.ensures.closed tells).only;
+}
+
+pub returns-in-Err-clause-closes : goal.returns-in-Err-clause-closes
+returns-in-Err-clause-closes g c = record {
+  leaves = c.in-Err.ensures.stopped;
+  points_are = λ ok tells. absurd (run_not_ok (Block c.in-Err.fault) (sym c.status_of_block.ensures ∙ ok));
+  only = λ ok tells. absurd (run_not_ok (Block c.in-Err.fault) (sym c.status_of_block.ensures ∙ ok));
+}
