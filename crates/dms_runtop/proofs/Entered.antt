@@ -42,11 +42,11 @@ record Comes {A B : Type 0} (f : A → B) (y : B) : Type 0 where
 one_comes : {A B : Type 0} (f : A → B) (xs : List A) (before : List B) (y : B) → map f xs ≡ before ++ y ∷ [] → Comes f y
 one_comes f [] [] y is = absurd cc
 one_comes f [] (b ∷ before) y is = absurd cc
-one_comes f (x ∷ xs) [] y is = record { from = x; is = head_same _ _ _ _ is }
+one_comes {B = B} f (x ∷ xs) [] y is = record { from = x; is = head_same _ _ _ _ is }
   where
     head_same : (a b : B) (xs ys : List B) → a ∷ xs ≡ b ∷ ys → b ≡ a
     head_same a b xs ys e = cc
-one_comes f (x ∷ xs) (b ∷ before) y is = one_comes f xs before y (tail_same _ _ _ _ is)
+one_comes {B = B} f (x ∷ xs) (b ∷ before) y is = one_comes f xs before y (tail_same _ _ _ _ is)
   where
     tail_same : (a b : B) (xs ys : List B) → a ∷ xs ≡ b ∷ ys → xs ≡ ys
     tail_same a b xs ys e = cc

@@ -23,7 +23,7 @@ use Rattle.dms_runtop.proofs.Ran.{ran_nothing}
 use Rattle.dms_runtop.proofs.Since.{runs_since}
 
 -- it runs on
-looked_from : (files : Files) (point next : ℕ) (schema counts : List ℕ) (v : LogView) (now : Files) (later : Clock Left) → now ≡ v.files → Steps Same v.clock later → RunsFrom files point next schema counts v → RunsFrom files point next schema counts (view v.end v.first now later)
+pub looked_from : (files : Files) (point next : ℕ) (schema counts : List ℕ) (v : LogView) (now : Files) (later : Clock Left) → now ≡ v.files → Steps Same v.clock later → RunsFrom files point next schema counts v → RunsFrom files point next schema counts (view v.end v.first now later)
 looked_from files point next schema counts v now later same steps r = subst (λ (f : Files). RunsFrom files point next schema counts (view v.end v.first f later)) (sym same) (record {
   runs = runs_still v v.files later refl r.runs (steps_weaken steps (λ x y was is. ap (λ (l : Left). l.files) is));
   nothing = r.nothing;

@@ -1,9 +1,6 @@
-use Rattle.std.proofs.Common.{◌≡◌, ◌≤◌, ◌∙◌, ℕ, List, length, refl, sym, ap, subst}
+use Rattle.std.proofs.Common.{◌≡◌, ◌≤◌, ◌<◌, ◌∙◌, ℕ, List, length, refl, sym, ap, subst}
 use Rattle.std.specs.Global.{Vec}
 use Rattle.dms_desc.specs.Shape.{described}
-use Rattle.dms_moments.specs.MomentLaws.{runs_none}
-use Rattle.dms_moments.specs.Moments.{Runs}
-use Rattle.dms_site.specs.Files.{Left}
 use Rattle.dms_wal.specs.Marks.{IsDescription}
 use Rattle.dms_runtop.specs.Both.{first_of, second_of, both_of}
 use Rattle.dms_runtop.proofs.Formed.{bytes_fit, files_of, frames_of}
@@ -13,10 +10,14 @@ use Rattle.dms_runtop.proofs.Unveiled.{files_under, runs_unveiled, same_end}
 use Rattle.dms_runtop.proofs.command.run_described.Goals as goal
 
 pub into_running-requires-clause-frames : goal.into_running-requires-clause-frames
-into_running-requires-clause-frames g c = frames_of (described c.args.desc.now) c.requires.formed
+into_running-requires-clause-frames g c =
+    let low : 0 < c.args.desc.now.buffers = frames_of (described c.args.desc.now) c.requires.formed in
+    subst (λ (n : ℕ). 0 < n) (sym c.from.ensures) low
 
 pub into_running-requires-clause-limit : goal.into_running-requires-clause-limit
-into_running-requires-clause-limit g c = files_of (described c.args.desc.now) c.requires.formed
+into_running-requires-clause-limit g c =
+    let most : c.args.desc.now.files ≤ 9999 = files_of (described c.args.desc.now) c.requires.formed in
+    subst (λ (n : ℕ). n ≤ 9999) (sym c.from-3.ensures) most
 
 pub into_running-requires-clause-described : goal.into_running-requires-clause-described
 into_running-requires-clause-described g c = subst IsDescription (sym c.in-Some.ensures) (bytes_fit (described c.args.desc.now) c.requires.formed)
@@ -48,10 +49,10 @@ returns-in-Ok-clause-ran g c =
     (runs_unveiled g.S.Site _ (λ v. v.site) g.K.Knows.known (both_of g.S.Site.tells g.K.Knows.known) (λ v. refl) c.spelling_law.ensures c.args.opened (described c.args.desc.now) c.requires.formed c.requires.under
     _ c.in-Some.ensures c.in-Ok.running (ap (λ v. v.site) c.in-Ok.ensures.log.0) c.in-Ok.ensures.log.2 c.in-Ok.ensures.log.1 c.in-Ok.ensures.kept.2 c.in-Ok.ensures.tells c.run_over.result.site _ _ c.run_over.result.status c.run_over.ensures.ran)
 
-pub returns-in-Err-clause-ran : goal.returns-in-Err-clause-ran
-returns-in-Err-clause-ran g c =
-    same_end g.S.Site c.args.opened g.K.Knows.known _ _ _ _ _ _ c.unveil-in-Err.ensures.0 c.unveil-in-Err.ensures.1
-    (runs_left g.S.Site c.args.opened _ g.K.Knows.known _ _ (ap (λ v. v.site) c.in-Err.ensures))
-
 pub returns-clause-ran : goal.returns-clause-ran
-returns-clause-ran g c = runs_left g.S.Site c.args.opened c.site_of.result g.K.Knows.known _ _ c.site_of.ensures
+returns-clause-ran g c =
+    same_end g.S.Site c.args.opened g.K.Knows.known _ _ _ _ _ _ c.unveil-in-Err.ensures.0 c.unveil-in-Err.ensures.1
+    (runs_left g.S.Site c.args.opened _ g.K.Knows.known _ _ (ap (λ v. v.site) c.in-Err.ensures.site))
+
+pub returns-in_default-clause-ran : goal.returns-in_default-clause-ran
+returns-in_default-clause-ran g c = runs_left g.S.Site c.args.opened c.site_of.result g.K.Knows.known _ _ c.site_of.ensures

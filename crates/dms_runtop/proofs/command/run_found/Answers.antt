@@ -58,7 +58,7 @@ returns-in-Err-clause-input g c = not_counted _ _ _ (λ is. open_input c.in-Err.
 
 pub run_opened-requires-clause-known : goal.run_opened-requires-clause-known
 run_opened-requires-clause-known g c = λ tells knows.
-    opened_known g.S.Site c.args.site g.state c.in-Ok.opened (c.in-Ok.ensures.opens tells) (c.in-Ok.ensures.runs tells) knows (c.requires.told tells)
+    opened_known g.S.Site c.args.site g.state c.in-Ok.opened (c.in-Ok.ensures.opens tells) (c.in-Ok.ensures.runs tells) knows (c.requires.1.1 tells)
 
 pub returns-in-Ok-clause-ran : goal.returns-in-Ok-clause-ran
 returns-in-Ok-clause-ran g c =
