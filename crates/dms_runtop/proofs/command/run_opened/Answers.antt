@@ -3,6 +3,12 @@ use Rattle.dms_moments.specs.SeenLaws.{runs_looking}
 use Rattle.dms_runtop.proofs.Looked.{runs_looked, runs_undone, stands_looked, undone_description}
 use Rattle.dms_runtop.proofs.command.run_opened.Goals as goal
 
+pub run_described-requires-clause-known : goal.run_described-requires-clause-known
+run_described-requires-clause-known g c = λ tells knows. stands_looked g.S.Site c.args.opened c.describe.new.site (c.describe.ensures.files tells) c.describe.ensures.moments (c.requires.known tells knows)
+
+pub returns-in-Ok-clause-same : goal.returns-in-Ok-clause-same
+returns-in-Ok-clause-same g c = g.met.S.Site.same_then c.args.opened.log.site c.describe.new.site c.run_described.result.site c.describe.ensures.same_site c.run_described.ensures.same
+
 pub returns-in-Ok-clause-ran : goal.returns-in-Ok-clause-ran
 returns-in-Ok-clause-ran g c =
     runs_looked g.S.Site g.met.S.Site.counts_now c.args.opened c.describe.new.site c.run_described.result.site g.K.Knows.known (g.I.Source.left c.args.source.now) (g.I.Source.left c.run_described.new.source) c.run_described.result.status
