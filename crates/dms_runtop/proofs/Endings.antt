@@ -16,7 +16,7 @@ use Rattle.dms_runtop.specs.Statuses.{IsOfAuditLimit, IsOfClosing, IsOfScript}
 -- ---- a damaged block
 
 -- by cases of the test
-damage_is : (b : Bool) (f k : ℕ) (P : Status → Type 0) → P (Damaged f k) → P Memory → P (cond b (Damaged f k) Memory)
+pub damage_is : (b : Bool) (f k : ℕ) (P : Status → Type 0) → P (Damaged f k) → P Memory → P (cond b (Damaged f k) Memory)
 damage_is true f k P one two = one
 damage_is false f k P one two = two
 
@@ -178,3 +178,10 @@ undone_limit s undone k is = subst IsUndone is undone
 
 pub undone_damaged : (s : Status) → IsUndone s → (f k : ℕ) → s ≡ Damaged f k → 30000 < f → ⊥
 undone_damaged s undone f k is high = let low : f ≤ 30000 = subst IsUndone is undone in absurd (omega (arith, low, high))
+
+ok_not_say : Ok ≡ SayFault → ⊥
+ok_not_say e = absurd cc
+
+pub closing_say : (s : Status) → (s ≡ Ok) ⊎ IsOfClosing s → s ≡ SayFault → ⊥
+closing_say s (inl ok) is = ok_not_say (sym ok ∙ is)
+closing_say s (inr of) is = subst IsOfClosing is of

@@ -31,3 +31,6 @@ some_bytes d = omega arith
 -- its bytes fit a Schema
 pub bytes_fit : (d : Described) → IsWellFormed d → IsDescription (spelling d)
 bytes_fit d w = (some_bytes d, le_of (length (spelling d)) 65535 w.short)
+
+pub not_told : IsTrue false → ⊥
+not_told is = absurd cc

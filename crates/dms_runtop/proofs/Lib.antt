@@ -1,6 +1,5 @@
 pub mod Endings
-pub mod Ran
+pub mod Counted
 pub mod Formed
 pub mod Serving
-pub mod Opened
-pub mod Since
+pub mod Refused

@@ -1,92 +1,18 @@
--- The command `run`: the state that its files stand for at entry, and why it is refused.
-use Rattle.std.specs.Prelude.{ℕ, ◌≡◌, ◌⊎◌, ◌+◌, ◌<◌, ◌^◌, List, Some, None, IsTrue, IsSome, Bool, is_some}
-use Rattle.std.specs.declared.option.Option.{Option}
-use Rattle.dms_moments.specs.Moments.{Runs, Steps}
-use Rattle.dms_feed.specs.Lines.{raw_lines}
-use Rattle.dms_runner.specs.Answers.{answers_quiets}
-use Rattle.dms_runlaws.specs.RunStands.{RunStands}
-use Rattle.dms_scriptlaws.specs.Truths.{IsStart}
-use Rattle.dms_desc.specs.Shape.{Described}
-use Rattle.dms_desc_bytes.specs.Spelling.{spelling}
-use Rattle.dms_desc_bytes.specs.WellFormed.{IsWellFormed}
-use Rattle.dms_history.specs.EntryEvents.{history_of}
-use Rattle.dms_model.specs.Db.{Db}
+-- The command `run`: why it is refused.
+use Rattle.std.specs.Prelude.{ℕ, ◌≡◌, ◌≤◌, IsTrue}
+use Rattle.dms_moments.specs.Moments.{Steps}
 use Rattle.dms_site.specs.declared.site.Site.{Ghosts}
-use Rattle.dms_site.specs.Files.{Files, Left, Same}
-use Rattle.dms_audfile.specs.TrailEntries.{trail_entries}
-use Rattle.dms_running.specs.Standing.{IsWhole}
-use Rattle.dms_running.specs.Points.{points_of, next_in}
+use Rattle.dms_site.specs.Files.{Same}
+use Rattle.dms_opening.specs.Openings.{RefusesFiles, IsOpenable}
 use Rattle.dms_restore.specs.declared.choosing.OpenFault.{OpenFault}
-use Rattle.dms_restore.specs.Refusals.{dump_in}
-use Rattle.dms_restore.specs.Logging.{telling_of, telling, points}
-use Rattle.dms_wal.specs.Database.{view_of}
-use Rattle.dms_run.specs.States.{LivesEndWith}
-use Rattle.dms_opening.specs.declared.opened.Opened.{Opened}
-use Rattle.dms_opening.specs.Openings.{HasTrail, RunsFrom, RefusesFiles}
-use Rattle.dms_status.specs.declared.status.NeedFault.{NeedFault}
 use Rattle.dms_status.specs.declared.status.Status.{Status}
-use Rattle.dms_status.specs.declared.status.Status.TheVariants.{NoDatabase, Needed}
 use Rattle.dms_runtop.specs.Faults.{open_status}
-use Rattle.dms_runtop.specs.Over.{ScriptRuns, seen_site}
-
--- A state: the number of the last point, the description, and the database there.
-pub record DatabaseState : Type 0 where
-  pub point : ℕ
-  pub desc : Described
-  pub db : Db
-
--- Files stand for this state: scanning refuses nothing, the entries agree with the dumps and blocks, and their last live point has that number. The last
--- whole live Schema before its place is that of the description, which is well-formed, and the blocks at the point spell the database. No restore by a
--- dump is pending.
-pub record HoldsState (files : Files) (s : DatabaseState) : Type 0 where
-  pub total : ℕ
-  pub first : ℕ
-  pub trail : HasTrail total first files
-  pub whole : IsWhole (telling_of total first) files
-  pub no_dump : dump_in (history_of (trail_entries total first files)).pending ≡ None
-  pub state : LivesEndWith s.desc (points_of (telling_of total first) files) s.point s.db
-  pub formed : IsWellFormed s.desc
-
--- where a state is told, files stand for it
-abbrev pub HoldsTold : Option DatabaseState → Files → Type 0
-HoldsTold state files = (s : DatabaseState) → state ≡ Some s → HoldsState files s
-
--- there is room for the numbers of a script
-abbrev pub HasRoom : (files : Files) (s : DatabaseState) → HoldsState files s → Type 0
-HasRoom files s h = next_in (telling_of h.total h.first) files + 1000003 < 2 ^ 64
+use Rattle.dms_runtop.specs.Statuses.{IsRefusal}
 
 module _ {S : Type 0} (g : Ghosts S) where
-  -- The database that was opened stands, under the description whose bytes were found.
-  pub record StandsOpened (o : Opened S) : Type 0 where
-    pub files : Files
-    pub runs : RunsFrom files o.point o.next o.schema.items o.counts.items (view_of g o.log)
-    pub desc : Described
-    pub formed : IsWellFormed desc
-    pub spelled : spelling desc ≡ o.schema.items
-
-  -- a run of the script over a database that was opened
-  abbrev pub RunsOpened : Opened S → Bool → Option (List ℕ) → Option (List ℕ) → Status → S → Type 0
-  RunsOpened o known left left' status site =
-      IsTrue g.tells → IsTrue known → (st : StandsOpened o) (n : ℕ) (db : Db) (all : List ℕ) → LivesEndWith st.desc (points_of (telling (view_of g o.log)) st.files) n db → o.next + 1000003 < 2 ^ 64 → left ≡ Some all
-      → ScriptRuns (telling (view_of g o.log)) st.desc (points_of (telling (view_of g o.log)) st.files) n db o.next all (seen_site g o.log.site) (seen_site g site) left' status
-
-  -- a run of the script over the database that the files of a site stand for
-  abbrev pub RunsCommand : Option DatabaseState → S → S → Option (List ℕ) → Option (List ℕ) → Status → Type 0
-  RunsCommand state old new left left' status =
-      IsTrue g.tells → (s : DatabaseState) → state ≡ Some s → (h : HoldsState (g.files old) s) → HasRoom (g.files old) s h → (all : List ℕ) → left ≡ Some all
-      → ScriptRuns (telling_of h.total h.first) s.desc (points_of (telling_of h.total h.first) (g.files old)) s.point s.db (next_in (telling_of h.total h.first) (g.files old)) all (seen_site g old) (seen_site g new) left' status
-
-  -- at every moment a stop leaves files that stand for the database of entry or of one quiet point, no earlier than the printed text tells, and each
-  -- point up to it has its own state
-  abbrev pub StandsThroughout : Option DatabaseState → S → S → Option (List ℕ) → Type 0
-  StandsThroughout state old new left =
-      IsTrue g.tells → (s : DatabaseState) → state ≡ Some s → (h : HoldsState (g.files old) s) → HasRoom (g.files old) s h → IsStart s.desc s.db → s.point < next_in (telling_of h.total h.first) (g.files old) → (all : List ℕ) → left ≡ Some all
-      → Runs (g.clock old) (g.clock new) (RunStands s.desc (seen_site g old).said (points_of (telling_of h.total h.first) (g.files old)) s.point s.db (next_in (telling_of h.total h.first) (g.files old))
-      (answers_quiets s.desc s.db (next_in (telling_of h.total h.first) (g.files old)) (raw_lines all)))
-
-  -- a database that files stand for is refused by nothing
-  abbrev pub NeverRefuses : Option DatabaseState → S → Status → Type 0
-  NeverRefuses state old status = IsTrue g.tells → (s : DatabaseState) → state ≡ Some s → HoldsState (g.files old) s → (status ≡ NoDatabase → ⊥) × ((n : NeedFault) → status ≡ Needed n → ⊥)
+  -- files that hold a database, whose last point is live and described, and over which no restore by a dump is pending, are refused by nothing
+  abbrev pub NeverRefuses : S → Status → Type 0
+  NeverRefuses old status = IsTrue g.tells → (total first : ℕ) → IsOpenable total first (g.files old) → IsRefusal status → ⊥
 
   -- The opening was refused: with this fault, which is the first refusal of the files. No file has changed, and a stop leaves what it could leave
   -- before.

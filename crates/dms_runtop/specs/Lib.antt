@@ -1,6 +1,5 @@
 pub mod Both
 pub mod Faults
 pub mod Statuses
-pub mod Over
 pub mod Describing
 pub mod Command

@@ -1,12 +1,12 @@
 //! The command `run`.
 
-ghost use Rattle.std.specs.Prelude.{◌≡◌, ◌⊎◌, [], ℕ, List, Option, Some, IfSome, IsTrue};
+ghost use Rattle.std.specs.Prelude.{◌≡◌, ◌⊎◌, [], ℕ, List, Some, IfSome};
 ghost use Rattle.dms_audfile.specs.Counting.{CountedAt};
 ghost use Rattle.dms_desc.specs.Shape.{described};
 ghost use Rattle.dms_desc_bytes.specs.Spelling.{spelling};
 ghost use Rattle.dms_desc_bytes.specs.WellFormed.{IsWellFormed};
 ghost use Rattle.dms_opening.specs.Openings.{NamesStructures};
-ghost use Rattle.dms_runtop.specs.Command.{DatabaseState, HoldsTold, NeverRefuses, StandsOpened, StandsThroughout, RunsCommand, RunsOpened, RefusesRun};
+ghost use Rattle.dms_runtop.specs.Command.{NeverRefuses, RefusesRun};
 ghost use Rattle.dms_runtop.specs.Describing.{IsUnderSchema};
 ghost use Rattle.dms_runtop.specs.Statuses.{IsOfRun, IsOfScript, IsRefusal};
 ghost use Rattle.dms_wal.specs.Lifting.{AreCounts};
@@ -16,17 +16,17 @@ use crate::describing::describe;
 use crate::ended::Ended;
 use crate::ending::status_of_open;
 use crate::over::run_over;
-use crate::veil::{Knows, Veiled};
+use crate::veil::{Unknown, Veiled};
 use dms_desc::Description;
 use dms_desc_bytes::encode;
 use dms_descfile::FileFault;
 use dms_opening::{Opened, open};
 use dms_restore::{Found, Log};
-use dms_runlaws::stands_law;
 use dms_site::{Site, Source};
 use dms_status::Status;
+use dms_store::served_law;
 use std::alloc::Global;
-use std::marker::{Brand, PhantomData};
+use std::marker::PhantomData;
 
 /// The status that a fault of the description ends with.
 fn status_of_description(fault: FileFault) -> Status
@@ -71,36 +71,8 @@ fn bytes_of(alloc: Global, desc: &Description) -> Option<Vec<u8>>
     }
 }
 
-/// The same database under these bytes of its description, its site told only where it is known what its files stand for.
-fn veil<S: Site, K: Knows>(opened: Opened<S>, schema: Vec<u8>) -> Opened<Veiled<S, K>>
-    ensures site { result.log.site.site ≡ opened.log.site }
-    ensures log { (result.log.end ≡ opened.log.end) × (result.log.first ≡ opened.log.first) }
-    ensures schema { result.schema ≡ schema }
-    ensures kept { (result.counts ≡ opened.counts) × (result.next ≡ opened.next) × (result.point ≡ opened.point) }
-{
-    let Opened {
-        log,
-        schema: _schema,
-        counts,
-        next,
-        point,
-    } = opened;
-    let Log { site, end, first } = log;
-    let site = Veiled {
-        site,
-        by: PhantomData,
-    };
-    Opened {
-        log: Log { site, end, first },
-        schema,
-        counts,
-        next,
-        point,
-    }
-}
-
 /// The same end without the veil.
-fn unveil<S: Site, K: Knows>(ended: Ended<Veiled<S, K>>) -> Ended<S>
+fn unveil<S: Site>(ended: Ended<Veiled<S, Unknown>>) -> Ended<S>
     ensures { (result.status ≡ ended.status) × (result.site ≡ ended.site.site) }
 {
     let status = ended.status;
@@ -109,7 +81,7 @@ fn unveil<S: Site, K: Knows>(ended: Ended<Veiled<S, K>>) -> Ended<S>
 }
 
 /// Runs the script over a database that was opened, under this description, and closes it.
-fn run_described<S: Site, I: Source, K: Knows>(
+fn run_described<S: Site, I: Source>(
     alloc: Global,
     opened: Opened<S>,
     desc: &Description,
@@ -119,8 +91,6 @@ fn run_described<S: Site, I: Source, K: Knows>(
     requires under { IsUnderSchema opened.schema.items (described desc.now) }
     requires table { AreCounts opened.counts.items }
     requires named { NamesStructures opened.schema.items opened.counts.items }
-    requires known { IsTrue S.tells → IsTrue K.known → StandsOpened S.Site opened }
-    ensures ran { RunsOpened S.Site opened K.known (I.left source.old) (I.left source.new) result.status result.site }
     ensures end { result.status ≡ Status.Ok → (all : List ℕ) → I.left source.old ≡ Some all → I.left source.new ≡ Some [] }
     ensures statuses { (result.status ≡ Status.Ok) ⊎ IsOfScript result.status }
     ensures disk { CountedAt (result.status ≡ Status.DiskFault) (S.disk_faults opened.log.site) (S.disk_faults result.site) }
@@ -129,13 +99,32 @@ fn run_described<S: Site, I: Source, K: Knows>(
     ensures same { S.same_site opened.log.site result.site }
     ensures same_source { I.same_source source.old source.new }
 {
+    served_law();
     let Some(schema) = bytes_of(alloc, desc) else {
         return Ended {
             status: Status::Memory,
             site: site_of(opened),
         };
     };
-    let veiled: Opened<Veiled<S, K>> = veil(opened, schema);
+    let Opened {
+        log,
+        schema: _schema,
+        counts,
+        next,
+        point,
+    } = opened;
+    let Log { site, end, first } = log;
+    let site: Veiled<S, Unknown> = Veiled {
+        site,
+        by: PhantomData,
+    };
+    let veiled = Opened {
+        log: Log { site, end, first },
+        schema,
+        counts,
+        next,
+        point,
+    };
     match veiled.into_running(
         alloc,
         u32::from(desc.buffers),
@@ -151,15 +140,9 @@ fn run_described<S: Site, I: Source, K: Knows>(
 }
 
 /// Runs the script over a database that was opened, under the description at its last point, and closes it.
-fn run_opened<S: Site, I: Source, K: Knows>(
-    alloc: Global,
-    mut opened: Opened<S>,
-    source: &mut I,
-) -> Ended<S>
+fn run_opened<S: Site, I: Source>(alloc: Global, opened: Opened<S>, source: &mut I) -> Ended<S>
     requires table { AreCounts opened.counts.items }
     requires named { NamesStructures opened.schema.items opened.counts.items }
-    requires known { IsTrue S.tells → IsTrue K.known → StandsOpened S.Site opened }
-    ensures ran { RunsOpened S.Site opened K.known (I.left source.old) (I.left source.new) result.status result.site }
     ensures end { result.status ≡ Status.Ok → (all : List ℕ) → I.left source.old ≡ Some all → I.left source.new ≡ Some [] }
     ensures statuses { (result.status ≡ Status.Ok) ⊎ IsOfScript result.status }
     ensures disk { CountedAt (result.status ≡ Status.DiskFault) (S.disk_faults opened.log.site) (S.disk_faults result.site) }
@@ -168,21 +151,39 @@ fn run_opened<S: Site, I: Source, K: Knows>(
     ensures same { S.same_site opened.log.site result.site }
     ensures same_source { I.same_source source.old source.new }
 {
-    match describe(alloc, &mut opened.log.site, opened.schema.as_slice()) {
-        Ok(desc) => run_described::<S, I, K>(alloc, opened, &desc, source),
+    let Opened {
+        log,
+        schema,
+        counts,
+        next,
+        point,
+    } = opened;
+    let Log {
+        mut site,
+        end,
+        first,
+    } = log;
+    match describe(alloc, &mut site, schema.as_slice()) {
+        Ok(desc) => {
+            let opened = Opened {
+                log: Log { site, end, first },
+                schema,
+                counts,
+                next,
+                point,
+            };
+            run_described(alloc, opened, &desc, source)
+        }
         Err(fault) => Ended {
             status: status_of_description(fault),
-            site: site_of(opened),
+            site,
         },
     }
 }
 
 /// `run` over a site by value.
 fn run_found<S: Site, I: Source>(alloc: Global, site: S, source: &mut I) -> Ended<S>
-    ghost state: { Option DatabaseState }
-    requires told { IsTrue S.tells → HoldsTold state (S.files site) }
-    ensures complete { NeverRefuses S.Site state site result.status }
-    ensures ran { RunsCommand S.Site state site result.site (I.left source.old) (I.left source.new) result.status }
+    ensures complete { NeverRefuses S.Site site result.status }
     ensures refused { IsRefusal result.status → RefusesRun S.Site site result.site result.status }
     ensures end { result.status ≡ Status.Ok → (all : List ℕ) → I.left source.old ≡ Some all → I.left source.new ≡ Some [] }
     ensures statuses { IsOfRun result.status }
@@ -193,7 +194,7 @@ fn run_found<S: Site, I: Source>(alloc: Global, site: S, source: &mut I) -> Ende
     ensures same_source { I.same_source source.old source.new }
 {
     match open(alloc, Found { site }) {
-        Ok(opened) => run_opened::<S, I, Brand>(alloc, opened, source),
+        Ok(opened) => run_opened(alloc, opened, source),
         Err((fault, site)) => Ended {
             status: status_of_open(fault),
             site,
@@ -202,14 +203,8 @@ fn run_found<S: Site, I: Source>(alloc: Global, site: S, source: &mut I) -> Ende
 }
 
 /// `run`: opens the database by halt/load, runs the lines of the script and closes it.
-///
-/// What is said of points, moments and text is said of each state that the files stand for at entry: a caller may tell it, and needn't.
 pub fn run_command<S: Site, I: Source>(alloc: Global, site: &mut S, source: &mut I) -> Status
-    ghost state: { Option DatabaseState }
-    requires told { IsTrue S.tells → HoldsTold state (S.files site.old) }
-    ensures stands { StandsThroughout S.Site state site.old site.new (I.left source.old) }
-    ensures complete { NeverRefuses S.Site state site.old result }
-    ensures ran { RunsCommand S.Site state site.old site.new (I.left source.old) (I.left source.new) result }
+    ensures complete { NeverRefuses S.Site site.old result }
     ensures refused { IsRefusal result → RefusesRun S.Site site.old site.new result }
     ensures end { result ≡ Status.Ok → (all : List ℕ) → I.left source.old ≡ Some all → I.left source.new ≡ Some [] }
     ensures statuses { IsOfRun result }
@@ -219,7 +214,6 @@ pub fn run_command<S: Site, I: Source>(alloc: Global, site: &mut S, source: &mut
     ensures same_site { S.same_site site.old site.new }
     ensures same_source { I.same_source source.old source.new }
 {
-    stands_law();
     let ended = run_found(alloc, site, source);
     let status = ended.status;
     let _site = ended.into_site();

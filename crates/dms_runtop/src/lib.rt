@@ -13,4 +13,4 @@ pub use describing::describe;
 pub use ended::Ended;
 pub use ending::{status_of_block, status_of_open, status_of_run};
 pub use over::run_over;
-pub use veil::{Knows, Veiled};
+pub use veil::{Knows, Unknown, Veiled};

@@ -1,19 +1,13 @@
 //! A script over a database that was opened.
 
-ghost use Rattle.std.specs.Prelude.{◌≡◌, ◌≤◌, ◌⊎◌, [], ℕ, List, Some, IsTrue};
+ghost use Rattle.std.specs.Prelude.{◌≡◌, ◌⊎◌, [], ℕ, List, Some, IsTrue};
 ghost use Rattle.dms_audfile.specs.Counting.{CountedAt};
 ghost use Rattle.dms_desc.specs.Shape.{described};
 ghost use Rattle.dms_desc_bytes.specs.WellFormed.{IsWellFormed};
-ghost use Rattle.dms_model.specs.Db.{Db};
-ghost use Rattle.dms_model.specs.Session.{fresh_session};
-ghost use Rattle.dms_restore.specs.Logging.{telling, points};
-ghost use Rattle.dms_runtop.specs.Over.{RunsOver, ClosesOver};
 ghost use Rattle.dms_runtop.specs.Statuses.{IsOfClosing, IsOfScript};
 ghost use Rattle.dms_store.specs.Lifted.{Serves};
-ghost use Rattle.dms_storeverbs.specs.View.{StandsFor, seen, view};
-ghost use Rattle.dms_wal.specs.Closing.{LeavesUntil};
-ghost use Rattle.dms_wal.specs.Database.{held, view_of};
-ghost use Rattle.dms_wal.specs.Lifting.{lifted};
+ghost use Rattle.dms_storeverbs.specs.View.{seen};
+ghost use Rattle.dms_wal.specs.Database.{held};
 
 use crate::ended::Ended;
 use crate::ending::{status_of_block, status_of_run};
@@ -37,8 +31,6 @@ fn running_under<S: Site>(engine: Engine<BlockStore<Running<S>>>) -> Running<S>
 /// Closes a database, and gives the site.
 fn close_over<S: Site>(alloc: Global, running: Running<S>) -> Ended<S>
     requires { (held S.Site running).sound }
-    ensures closes { ClosesOver S.Site running result.status result.site }
-    ensures said { S.said result.site ≡ S.said running.log.site }
     ensures statuses { (result.status ≡ Status.Ok) ⊎ IsOfClosing result.status }
     ensures disk { CountedAt (result.status ≡ Status.DiskFault) (S.disk_faults running.log.site) (S.disk_faults result.site) }
     ensures say_faults { S.say_faults result.site ≡ S.say_faults running.log.site }
@@ -63,9 +55,6 @@ fn run_engine<S: Site, I: Source>(
     source: &mut I,
 ) -> Ended<S>
     requires sound { (seen engine).sound }
-    requires fresh { (db : Db) → (seen engine).db ≡ Some db → StandsFor (view engine) (fresh_session db (seen engine).next) }
-    requires found { engine.store.found ≡ 0 }
-    ensures ran { RunsOver S.Site engine.store.over.below (described engine.desc) (I.left source.old) (I.left source.new) result.status result.site }
     ensures end { result.status ≡ Status.Ok → (all : List ℕ) → I.left source.old ≡ Some all → I.left source.new ≡ Some [] }
     ensures statuses { (result.status ≡ Status.Ok) ⊎ IsOfScript result.status }
     ensures disk { CountedAt (result.status ≡ Status.DiskFault) (S.disk_faults engine.store.over.below.log.site) (S.disk_faults result.site) }
@@ -102,7 +91,6 @@ pub fn run_over<S: Site, I: Source>(
     requires serves { Serves (described desc.now) (held S.Site running) }
     requires formed { IsWellFormed (described desc.now) }
     requires mark { IsTrue S.tells → (held S.Site running).mark ≡ (held S.Site running).content }
-    ensures ran { RunsOver S.Site running (described desc.now) (I.left source.old) (I.left source.new) result.status result.site }
     ensures end { result.status ≡ Status.Ok → (all : List ℕ) → I.left source.old ≡ Some all → I.left source.new ≡ Some [] }
     ensures statuses { (result.status ≡ Status.Ok) ⊎ IsOfScript result.status }
     ensures disk { CountedAt (result.status ≡ Status.DiskFault) (S.disk_faults running.log.site) (S.disk_faults result.site) }

@@ -1,18 +1,21 @@
 //! A site whose files are told only where its user knows what they stand for.
 
-ghost use Rattle.std.specs.Prelude.{◌≡◌, ◌&&◌, Bool, IsTrue, true, refl};
+ghost use Rattle.std.specs.Prelude.{◌≡◌, ◌&&◌, Bool, IsTrue, false, refl};
 ghost use Rattle.dms_runtop.specs.Both.{first_of, both_of};
 
 use dms_site::{Failed, Site};
-use std::marker::{Brand, PhantomData};
+use std::marker::PhantomData;
 
 /// Whether what the files stand for is known.
 pub trait Knows {
     ghost known: { Bool };
 }
 
-impl Knows for Brand {
-    ghost known = { true };
+/// It isn't known.
+pub struct Unknown;
+
+impl Knows for Unknown {
+    ghost known = { false };
 }
 
 /// A site whose files are told only where it is known what they stand for. Each call is that of the site.
@@ -77,4 +80,3 @@ impl<S: Site, K: Knows> Site for Veiled<S, K> {
         self.site.say(bytes)
     }
 }
-

@@ -1,0 +1,132 @@
+-- What an opening's refusal leaves.
+use Rattle.std.proofs.Common.{ℕ, ◌≡◌, ◌≤◌, ◌<◌, ◌⊎◌, ◌∙◌, inl, inr, refl, sym, ap, subst, arith}
+use Rattle.dms_audfile.specs.Counting.{CountedAt}
+use Rattle.dms_audfile.specs.declared.fault.AudFault.TheVariants as aud
+use Rattle.dms_restore.specs.declared.choosing.OpenFault.{OpenFault}
+use Rattle.dms_restore.specs.declared.choosing.OpenFault.TheVariants.{Audit, NoSuchPoint, Voided, ByDump}
+use Rattle.dms_opening.specs.Openings.{MayHaveWritten, IsNoRefusal}
+use Rattle.dms_status.specs.declared.status.Status.{Status}
+use Rattle.dms_status.specs.declared.status.Status.TheVariants.{Ok, BadWords, SchemaRefused, NoDatabase, Needed, InputFault, Memory, Limit, Damaged, SayFault, DiskFault, Exists}
+use Rattle.dms_runtop.specs.Faults.{open_status}
+use Rattle.dms_runtop.specs.Statuses.{IsRefusal, IsOfScript, IsOfRun}
+
+-- a refusal is none of what may have written
+pub not_written : (fault : OpenFault) → IsRefusal (open_status fault) → MayHaveWritten fault → ⊥
+not_written fault is (inl disk) = subst (λ (f : OpenFault). IsRefusal (open_status f)) disk is
+not_written fault is (inr full) = subst (λ (f : OpenFault). IsRefusal (open_status f)) full is
+
+-- what says nothing of the files is no refusal
+pub no_refusal : (fault : OpenFault) → IsNoRefusal fault → IsRefusal (open_status fault) → ⊥
+no_refusal fault (inl (inl disk)) is = subst (λ (f : OpenFault). IsRefusal (open_status f)) disk is
+no_refusal fault (inl (inr memory)) is = subst (λ (f : OpenFault). IsRefusal (open_status f)) memory is
+no_refusal fault (inr full) is = subst (λ (f : OpenFault). IsRefusal (open_status f)) full is
+
+-- ---- the statuses
+
+script_refuses : (s : Status) → IsOfScript s → IsRefusal s → ⊥
+script_refuses Ok of is = of
+script_refuses BadWords of is = of
+script_refuses (SchemaRefused f) of is = of
+script_refuses NoDatabase of is = of
+script_refuses (Needed n) of is = of
+script_refuses InputFault of is = is
+script_refuses Memory of is = is
+script_refuses (Limit k) of is = is
+script_refuses (Damaged f b) of is = absurd (omega (arith, of, is))
+script_refuses SayFault of is = is
+script_refuses DiskFault of is = is
+script_refuses Exists of is = of
+
+-- what a script ends with is no refusal
+pub script_no_refusal : (s : Status) → (s ≡ Ok) ⊎ IsOfScript s → IsRefusal s → ⊥
+script_no_refusal s (inl ok) is = subst IsRefusal ok is
+script_no_refusal s (inr of) is = script_refuses s of is
+
+script_of_run : (s : Status) → IsOfScript s → IsOfRun s
+script_of_run Ok of = tt
+script_of_run BadWords of = of
+script_of_run (SchemaRefused f) of = of
+script_of_run NoDatabase of = tt
+script_of_run (Needed n) of = absurd of
+script_of_run InputFault of = tt
+script_of_run Memory of = tt
+script_of_run (Limit k) of = tt
+script_of_run (Damaged f b) of = tt
+script_of_run SayFault of = tt
+script_of_run DiskFault of = tt
+script_of_run Exists of = of
+
+ok_of_run : IsOfRun Ok
+ok_of_run = tt
+
+pub of_run : (s : Status) → (s ≡ Ok) ⊎ IsOfScript s → IsOfRun s
+of_run s (inl ok) = subst IsOfRun (sym ok) ok_of_run
+of_run s (inr of) = script_of_run s of
+
+pub open_of_run : (fault : OpenFault) → IsOfRun (open_status fault)
+open_of_run (Audit aud.NoDatabase) = tt
+open_of_run (Audit aud.Disk) = tt
+open_of_run (Audit (aud.Full k)) = tt
+open_of_run (Audit (aud.Missing k)) = tt
+open_of_run (Audit (aud.Unsealed k)) = tt
+open_of_run (Audit (aud.Foreign k)) = tt
+open_of_run (Audit (aud.Damaged f b)) = tt
+open_of_run (Audit aud.Memory) = tt
+open_of_run (NoSuchPoint n) = tt
+open_of_run (Voided n) = tt
+open_of_run (ByDump d) = tt
+
+pub open_disk : (fault : OpenFault) → open_status fault ≡ DiskFault → fault ≡ Audit aud.Disk
+open_disk (Audit aud.NoDatabase) e = absurd cc
+open_disk (Audit aud.Disk) e = refl
+open_disk (Audit (aud.Full k)) e = absurd cc
+open_disk (Audit (aud.Missing k)) e = absurd cc
+open_disk (Audit (aud.Unsealed k)) e = absurd cc
+open_disk (Audit (aud.Foreign k)) e = absurd cc
+open_disk (Audit (aud.Damaged f b)) e = absurd cc
+open_disk (Audit aud.Memory) e = absurd cc
+open_disk (NoSuchPoint n) e = absurd cc
+open_disk (Voided n) e = absurd cc
+open_disk (ByDump d) e = absurd cc
+
+pub counts_open : (fault : OpenFault) (a b : ℕ) → CountedAt (fault ≡ Audit aud.Disk) a b → CountedAt (open_status fault ≡ DiskFault) a b
+counts_open fault a b c = record { later = c.later; failed = λ is. c.failed (open_disk fault is); once = c.once; clean = λ none. c.clean (λ is. none (ap open_status is)) }
+
+pub open_say : (fault : OpenFault) → open_status fault ≡ SayFault → ⊥
+open_say (Audit aud.NoDatabase) e = absurd cc
+open_say (Audit aud.Disk) e = absurd cc
+open_say (Audit (aud.Full k)) e = absurd cc
+open_say (Audit (aud.Missing k)) e = absurd cc
+open_say (Audit (aud.Unsealed k)) e = absurd cc
+open_say (Audit (aud.Foreign k)) e = absurd cc
+open_say (Audit (aud.Damaged f b)) e = absurd cc
+open_say (Audit aud.Memory) e = absurd cc
+open_say (NoSuchPoint n) e = absurd cc
+open_say (Voided n) e = absurd cc
+open_say (ByDump d) e = absurd cc
+
+pub open_input : (fault : OpenFault) → open_status fault ≡ InputFault → ⊥
+open_input (Audit aud.NoDatabase) e = absurd cc
+open_input (Audit aud.Disk) e = absurd cc
+open_input (Audit (aud.Full k)) e = absurd cc
+open_input (Audit (aud.Missing k)) e = absurd cc
+open_input (Audit (aud.Unsealed k)) e = absurd cc
+open_input (Audit (aud.Foreign k)) e = absurd cc
+open_input (Audit (aud.Damaged f b)) e = absurd cc
+open_input (Audit aud.Memory) e = absurd cc
+open_input (NoSuchPoint n) e = absurd cc
+open_input (Voided n) e = absurd cc
+open_input (ByDump d) e = absurd cc
+
+pub open_ok : (fault : OpenFault) → open_status fault ≡ Ok → ⊥
+open_ok (Audit aud.NoDatabase) e = absurd cc
+open_ok (Audit aud.Disk) e = absurd cc
+open_ok (Audit (aud.Full k)) e = absurd cc
+open_ok (Audit (aud.Missing k)) e = absurd cc
+open_ok (Audit (aud.Unsealed k)) e = absurd cc
+open_ok (Audit (aud.Foreign k)) e = absurd cc
+open_ok (Audit (aud.Damaged f b)) e = absurd cc
+open_ok (Audit aud.Memory) e = absurd cc
+open_ok (NoSuchPoint n) e = absurd cc
+open_ok (Voided n) e = absurd cc
+open_ok (ByDump d) e = absurd cc

@@ -1,0 +1,56 @@
+use Rattle.std.proofs.Common.{◌≡◌, ◌∙◌, refl, sym, subst}
+use Rattle.dms_audfile.specs.Counting.{not_counted}
+use Rattle.dms_status.specs.declared.status.Status.TheVariants.{DiskFault, SayFault}
+use Rattle.dms_runtop.specs.Faults.{open_status}
+use Rattle.dms_runtop.specs.Statuses.{IsOfRun, IsRefusal}
+use Rattle.dms_runtop.proofs.Counted.{on_from, on_status}
+use Rattle.dms_runtop.proofs.Refused.{not_written, no_refusal, script_no_refusal, of_run, open_of_run, counts_open, open_say, open_input, open_ok}
+use Rattle.dms_runtop.proofs.command.run_found.Goals as goal
+
+pub returns-in-Ok-clause-complete : goal.returns-in-Ok-clause-complete
+returns-in-Ok-clause-complete g c = λ tells total first openable refusal. script_no_refusal c.run_opened.result.status c.run_opened.ensures.statuses refusal
+
+pub returns-in-Ok-clause-refused : goal.returns-in-Ok-clause-refused
+returns-in-Ok-clause-refused g c = λ refusal. absurd (script_no_refusal c.run_opened.result.status c.run_opened.ensures.statuses refusal)
+
+pub returns-in-Ok-clause-statuses : goal.returns-in-Ok-clause-statuses
+returns-in-Ok-clause-statuses g c = of_run c.run_opened.result.status c.run_opened.ensures.statuses
+
+pub returns-in-Ok-clause-disk : goal.returns-in-Ok-clause-disk
+returns-in-Ok-clause-disk g c = on_from _ _ _ _ c.in-Ok.ensures.clean.0 c.run_opened.ensures.disk
+
+pub returns-in-Ok-clause-say : goal.returns-in-Ok-clause-say
+returns-in-Ok-clause-say g c = on_from _ _ _ _ c.in-Ok.ensures.clean.1 c.run_opened.ensures.say
+
+pub returns-in-Ok-clause-same : goal.returns-in-Ok-clause-same
+returns-in-Ok-clause-same g c = g.met.S.Site.same_then _ _ _ c.in-Ok.ensures.same c.run_opened.ensures.same
+
+pub returns-in-Err-clause-complete : goal.returns-in-Err-clause-complete
+returns-in-Err-clause-complete g c = λ tells total first openable refusal.
+    no_refusal c.in-Err.fault (c.in-Err.ensures.complete tells total first openable) (subst IsRefusal c.status_of_open.ensures refusal)
+
+pub returns-in-Err-clause-refused : goal.returns-in-Err-clause-refused
+returns-in-Err-clause-refused g c = λ refusal tells.
+    let is : IsRefusal (open_status c.in-Err.fault) = subst IsRefusal c.status_of_open.ensures refusal in
+    record {
+      fault = c.in-Err.fault;
+      is = c.status_of_open.ensures;
+      why = c.in-Err.ensures.refused tells;
+      files = c.in-Err.ensures.files_then tells (not_written c.in-Err.fault is);
+      moments = c.in-Err.ensures.moments_then tells (not_written c.in-Err.fault is);
+    }
+
+pub returns-in-Err-clause-statuses : goal.returns-in-Err-clause-statuses
+returns-in-Err-clause-statuses g c = subst IsOfRun (sym c.status_of_open.ensures) (open_of_run c.in-Err.fault)
+
+pub returns-in-Err-clause-end : goal.returns-in-Err-clause-end
+returns-in-Err-clause-end g c = λ ok. absurd (open_ok c.in-Err.fault (sym c.status_of_open.ensures ∙ ok))
+
+pub returns-in-Err-clause-disk : goal.returns-in-Err-clause-disk
+returns-in-Err-clause-disk g c = on_status _ _ DiskFault _ _ c.status_of_open.ensures (counts_open c.in-Err.fault _ _ c.in-Err.ensures.disk)
+
+pub returns-in-Err-clause-say : goal.returns-in-Err-clause-say
+returns-in-Err-clause-say g c = not_counted _ _ _ (λ is. open_say c.in-Err.fault (sym c.status_of_open.ensures ∙ is)) c.in-Err.ensures.say_faults
+
+pub returns-in-Err-clause-input : goal.returns-in-Err-clause-input
+returns-in-Err-clause-input g c = not_counted _ _ _ (λ is. open_input c.in-Err.fault (sym c.status_of_open.ensures ∙ is)) refl
