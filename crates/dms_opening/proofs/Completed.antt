@@ -1,14 +1,14 @@
 -- Files that hold a database are opened.
-use Rattle.std.proofs.Common.{ℕ, ◌<◌, ◌≤◌, ◌≡◌, ◌⊎◌, inl, inr, Bool, true, false, List, Option, Some, None, length, refl, sym, ◌∙◌, ap, subst, arith}
+use Rattle.std.proofs.Common.{ℕ, ◌<◌, ◌≡◌, inl, inr, Bool, true, false, List, Option, Some, None, length, refl, sym, ◌∙◌, ap, subst, arith}
 use Rattle.std.proofs.lemmas.Bool.{cases_lt}
-use Rattle.dms_site.specs.Files.{Files, stored_of}
+use Rattle.dms_site.specs.Files.{Files}
 use Rattle.dms_history.specs.Events.{Event}
 use Rattle.dms_history.specs.Lists.{has, until_first}
 use Rattle.dms_history.specs.Places.{is_point, is_described, IsLive}
 use Rattle.dms_history.specs.History.{Pending, History, last_point}
 use Rattle.dms_history.specs.Judge.{judge_point}
 use Rattle.dms_history.specs.Entries.{Entry}
-use Rattle.dms_history.specs.EntryEvents.{events, history_of, live_of, next_of}
+use Rattle.dms_history.specs.EntryEvents.{events, history_of, next_of}
 use Rattle.dms_history.specs.Agrees.{Numbered}
 use Rattle.dms_history.specs.LawsOfRestores.{PendingCut}
 use Rattle.dms_history.specs.SchemaAt.{schema_at}
@@ -20,11 +20,10 @@ use Rattle.dms_history.proofs.Running.{above_all}
 use Rattle.dms_audfile.specs.TrailEntries.{trail_entries}
 use Rattle.dms_running.specs.Standing.{IsWhole}
 use Rattle.dms_restore.specs.declared.choosing.Choice.{Choice}
-use Rattle.dms_restore.specs.declared.choosing.OpenFault.{OpenFault}
 use Rattle.dms_restore.specs.Choices.{Chooses}
 use Rattle.dms_restore.specs.Logging.{telling_of}
-use Rattle.dms_restore.specs.Refusals.{RefusedPoint, at_point, judge_pending, judge_last, or_then, judge_opening, dump_in}
-use Rattle.dms_opening.specs.Plans.{IsPlainFault, HasNoDescription, RefusesPlan}
+use Rattle.dms_restore.specs.Refusals.{at_point, judge_pending, judge_last, or_then, judge_opening}
+use Rattle.dms_opening.specs.Plans.{HasNoDescription}
 use Rattle.dms_opening.specs.Laws.{LastIsDescribed, WholeIsOpened}
 
 true_not_false : true ≡ false → ⊥

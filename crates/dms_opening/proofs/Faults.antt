@@ -1,12 +1,10 @@
 -- How often calls of the site failed, by the fault of an opening.
-use Rattle.std.proofs.Common.{ℕ, ◌≡◌, ◌⊎◌, inl, inr, sym, ◌∙◌, subst}
-use Rattle.std.specs.Prelude.{IsErrOf, IfErr}
-use Rattle.std.specs.declared.result.Result.{Result}
-use Rattle.std.specs.declared.result.Result.TheVariants.{Ok, Err}
-use Rattle.dms_audfile.specs.Counting.{CountedAt, not_counted}
+use Rattle.std.proofs.Common.{ℕ, ◌≡◌, ◌⊎◌, inl, inr}
+use Rattle.std.specs.Prelude.{IsErrOf}
+use Rattle.std.specs.declared.result.Result.TheVariants.{Err}
+use Rattle.dms_audfile.specs.Counting.{CountedAt}
 use Rattle.dms_audfile.specs.declared.fault.AudFault.{AudFault}
 use Rattle.dms_audfile.specs.declared.fault.AudFault.TheVariants.{Disk, Memory}
-use Rattle.dms_restore.specs.declared.choosing.OpenFault.{OpenFault}
 use Rattle.dms_restore.specs.declared.choosing.OpenFault.TheVariants.{Audit}
 use Rattle.dms_opening.specs.Plans.{IsPlainFault}
 

@@ -4,7 +4,7 @@ use Rattle.std.specs.Prelude.{◌==◌}
 use Rattle.dms_site.specs.Files.{Files, stored_of}
 use Rattle.dms_history.specs.Events.{Content, Stored, Event, halt_load}
 use Rattle.dms_history.specs.Lists.{has, until_first}
-use Rattle.dms_history.specs.Places.{is_control, is_point, IsLive}
+use Rattle.dms_history.specs.Places.{is_point, IsLive}
 use Rattle.dms_history.specs.History.{Pending, last_point}
 use Rattle.dms_history.specs.Pick.{Dumps, blocks_at}
 use Rattle.dms_history.specs.Base.{from_control}

@@ -22,7 +22,6 @@ use Rattle.dms_restore.specs.Traces.{IsTraceOf}
 use Rattle.dms_opening.specs.declared.plan.Plan.{Plan}
 use Rattle.dms_opening.specs.Openings.{HasTrail, RefusesFiles}
 use Rattle.dms_opening.specs.Plans.{IsTrailRead, FitsOpening, Plans, RefusesPlan}
-use Rattle.dms_opening.proofs.OneTrail.{trail_of}
 
 -- one call that changes nothing after another
 pub same_on : (a b c : Clock Left) → Steps Same a b → Steps Same b c → Steps Same a c

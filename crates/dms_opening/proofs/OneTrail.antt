@@ -1,9 +1,8 @@
 -- Files have one trail at most, and what a call leaves of it that changes nothing.
-use Rattle.std.proofs.Common.{ℕ, ◌+◌, ◌-◌, ◌≤◌, ◌<◌, ◌≡◌, inl, inr, List, [], length, sym, ◌∙◌, ap, subst, arith}
+use Rattle.std.proofs.Common.{ℕ, ◌-◌, ◌≤◌, ◌<◌, ◌≡◌, inl, inr, List, [], length, sym, ◌∙◌, ap, subst, arith}
 use Rattle.std.proofs.lemmas.Bool.{cases_lt}
 use Rattle.dms_moments.specs.Moments.{Clock, Now, Runs, Steps}
 use Rattle.dms_site.specs.Files.{Files, Left, Same, Only}
-use Rattle.dms_history.specs.Entries.{Entry}
 use Rattle.dms_audfile.specs.Header.{blocks_said}
 use Rattle.dms_audfile.specs.Trail.{Span}
 use Rattle.dms_audfile.specs.AuditTrail.{IsFound}

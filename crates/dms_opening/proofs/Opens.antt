@@ -1,8 +1,8 @@
 -- What was looked at, and what was carried out of it, as an opening.
-use Rattle.std.proofs.Common.{ℕ, ◌≤◌, ◌≡◌, inl, inr, IsTrue, List, cond, Some, None, refl, sym, ap, subst}
+use Rattle.std.proofs.Common.{ℕ, ◌≤◌, ◌≡◌, inl, inr, List, cond, Some, None, refl, sym, ap, subst}
 use Rattle.std.specs.Global.{Vec}
 use Rattle.std.specs.declared.option.Option.{Option}
-use Rattle.dms_moments.specs.Moments.{Clock, Now, Runs, Steps}
+use Rattle.dms_moments.specs.Moments.{Now, Runs, Steps}
 use Rattle.dms_moments.specs.MomentLaws.{runs_on}
 use Rattle.dms_site.specs.declared.site.Site.{Ghosts}
 use Rattle.dms_site.specs.Files.{Files, Left, Same}
@@ -10,14 +10,12 @@ use Rattle.dms_audfile.specs.Counting.{CountedAt}
 use Rattle.dms_audfile.specs.declared.fault.AudFault.TheVariants as aud
 use Rattle.dms_running.specs.Telling.{Telling}
 use Rattle.dms_running.specs.Standing.{IsWhole}
-use Rattle.dms_restore.specs.declared.log.Log.{Log}
 use Rattle.dms_restore.specs.declared.choosing.OpenFault.{OpenFault}
 use Rattle.dms_restore.specs.Laying.{IsAtStart}
 use Rattle.dms_restore.specs.Logging.{LogView, telling_of, telling}
 use Rattle.dms_wal.specs.Database.{view_of}
 use Rattle.dms_opening.specs.declared.looking.Planned.{Planned}
 use Rattle.dms_opening.specs.declared.opened.Opened.{Opened}
-use Rattle.dms_opening.specs.declared.plan.Plan.{Plan}
 use Rattle.dms_opening.specs.Carrying.{IsPlanned}
 use Rattle.dms_opening.specs.Openings.{HasTrail, NamesStructures, OpensAt, RunsFrom, Reopens, ReopensSince, text_of, RefusesFiles, MayHaveWritten}
 use Rattle.dms_opening.specs.Plans.{Plans}

@@ -43,7 +43,7 @@ use Rattle.dms_restore.proofs.Chosen.{or_none, at_none}
 use Rattle.dms_restore.proofs.Prepared.{HoldsPending, holds}
 use Rattle.dms_restore.proofs.Scans.{none_missing}
 use Rattle.dms_opening.specs.declared.plan.Plan.{Plan}
-use Rattle.dms_opening.specs.Plans.{IsTrailRead, Plans, CannotDescribe, HasNoDescriptionAt, IsPlainFault, RefusesPlan}
+use Rattle.dms_opening.specs.Plans.{IsTrailRead, Plans, HasNoDescriptionAt, IsPlainFault, RefusesPlan}
 use Rattle.dms_opening.proofs.Faults.{plain_audit}
 
 true_not_false : true ≡ false → ⊥

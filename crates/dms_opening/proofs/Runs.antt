@@ -11,11 +11,11 @@ use Rattle.dms_restore.specs.declared.log.Log.{Log}
 use Rattle.dms_restore.specs.Logging.{LogView, telling, points}
 use Rattle.dms_wal.specs.declared.running.Running.{Running}
 use Rattle.dms_wal.specs.declared.running.Start.{Start}
-use Rattle.dms_wal.specs.Database.{held, view_of, IsUsable}
+use Rattle.dms_wal.specs.Database.{held, view_of}
 use Rattle.dms_wal.specs.Lifting.{AreCounts, block_point, count_of}
 use Rattle.dms_wal.specs.Marks.{IsDescription, IsMarkOf}
 use Rattle.dms_wal.specs.Starting.{IsInBounds, StartsFrom}
-use Rattle.dms_wal.proofs.Reaching.{EndsAlike, reaching, held_alike, usable_alike}
+use Rattle.dms_wal.proofs.Reaching.{EndsAlike, reaching, held_alike}
 use Rattle.dms_opening.specs.Openings.{RunsFrom, TellsOpened}
 
 -- a database runs from what an opening left

@@ -1,5 +1,5 @@
 -- Counts that are cut to the structures of a description.
-use Rattle.std.proofs.Common.{ℕ, max, min, ◌-◌, ◌<◌, ◌≤◌, ◌≡◌, List, IsTrue, length, take, get_or, sym, ◌∙◌, ap, subst, arith, length-take}
+use Rattle.std.proofs.Common.{ℕ, max, ◌-◌, ◌<◌, ◌≤◌, ◌≡◌, List, IsTrue, length, take, get_or, sym, ◌∙◌, ap, subst, arith, length-take}
 use Rattle.std.proofs.lemmas.List.{get_or-take}
 use Rattle.std.proofs.lemmas.Bool.Decides.{nat_tests}
 use Rattle.dms_desc.specs.Shape.{Described}

@@ -63,7 +63,7 @@ module _ (b a : Seen) (es : List RunEvent) (stop : Stop) where
         text = λ t is. (
           0,
           text (t ++ text_of (es ++ goes_back ∷ [])) (did.text t is)
-          ∙ ap (λ (s : List ℕ). t ++ s) no_text ∙ sym (append-nil (t ++ text_of es)),
+              ∙ ap (λ (s : List ℕ). t ++ s) no_text ∙ sym (append-nil (t ++ text_of es)),
         );
       }
 

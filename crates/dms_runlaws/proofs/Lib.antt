@@ -1,2 +1,4 @@
 pub mod NoLater
 pub mod Stands
+pub mod Fine
+pub mod Held

@@ -1,6 +1,6 @@
 -- The numbers of quiet points rise, so none that is told is above the last one.
-use Rattle.std.proofs.Common.{ℕ, zero, suc, ◌≡◌, ◌≤◌, ◌<◌, ◌+◌, ◌==◌, ◌||◌, ◌∙◌, ◌⊎◌, inl, inr, Bool, true, false, List, [], ◌∷◌, ◌++◌, map, take, length, refl, sym, subst, ap, arith}
-use Rattle.std.specs.List.{list_any, range_with_len}
+use Rattle.std.proofs.Common.{ℕ, zero, suc, ◌≡◌, ◌≤◌, ◌<◌, ◌+◌, ◌==◌, ◌||◌, ◌∙◌, inl, inr, Bool, true, false, List, [], ◌∷◌, ◌++◌, map, take, length, refl, sym, subst, ap, arith}
+use Rattle.std.specs.List.{range_with_len}
 use Rattle.std.proofs.lemmas.Bool.Decides.{nat_tests}
 use Rattle.dms_model.specs.Points.{Quiet}
 use Rattle.dms_runner.specs.Events.{RunEvent, text_of, quiets_of, durable_after}
@@ -8,7 +8,7 @@ use Rattle.dms_runner.proofs.Happening.{quiets_on}
 use Rattle.dms_scriptlaws.specs.Told.{told}
 use Rattle.dms_scriptlaws.specs.Truths.{is_quiet_in, IsTruthful, RiseFrom}
 use Rattle.dms_scriptlaws.proofs.Scripts.{tells_true, stay_valid}
-use Rattle.dms_run.specs.Stops.{PrintedUpTo, last_quiet_number, IsOneOf}
+use Rattle.dms_run.specs.Stops.{last_quiet_number, IsOneOf}
 use Rattle.dms_runlaws.specs.Told.{TellsNoLater, ScriptsTellNoLater}
 
 true_not_false : true ≡ false → ⊥

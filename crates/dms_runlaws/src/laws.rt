@@ -1,3 +1,4 @@
+ghost use Rattle.dms_runlaws.specs.Held.{StatesAreHeld};
 ghost use Rattle.dms_runlaws.specs.RunStands.{StopsStand};
 ghost use Rattle.dms_runlaws.specs.Told.{ScriptsTellNoLater};
 
@@ -10,4 +11,9 @@ pub fn told_law()
 /// printed text tells, and each point up to it has its own state.
 pub fn stands_law()
     ensures { StopsStand }
+{}
+
+/// Files that stand for a state hold a database, whose last live point has that state.
+pub fn held_law()
+    ensures { StatesAreHeld }
 {}

@@ -3,4 +3,4 @@
 
 mod laws;
 
-pub use laws::{stands_law, told_law};
+pub use laws::{held_law, stands_law, told_law};

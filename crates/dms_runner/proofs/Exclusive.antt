@@ -1,5 +1,5 @@
 -- Whatever a run does, no two programs lock one record, and what is locked stands.
-use Rattle.std.proofs.Common.{◌≡◌, ℕ, zero, suc, List, [], ◌∷◌, ◌++◌, Bool, true, false, cond, nat_le, length, arith}
+use Rattle.std.proofs.Common.{ℕ, zero, suc, List, [], ◌∷◌, ◌++◌, Bool, true, false, cond, nat_le, length, arith}
 use Rattle.dms_desc.specs.Shape.{Described}
 use Rattle.dms_feed.specs.Lines.{line_text}
 use Rattle.dms_model.specs.declared.verb.Verb.{Verb}

@@ -1,5 +1,5 @@
 -- What a run leaves of its engine.
-use Rattle.std.specs.Prelude.{ℕ, ◌≡◌, ◌≤◌, OnOk}
+use Rattle.std.specs.Prelude.{◌≡◌, ◌≤◌, OnOk}
 use Rattle.std.specs.declared.result.Result.{Result}
 use Rattle.std.specs.declared.result.Result.TheVariants.{Ok, Err}
 use Rattle.dms_block.specs.declared.block_fault.BlockFault.TheVariants.{Say}

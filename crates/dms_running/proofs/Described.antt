@@ -27,7 +27,6 @@ true_not_false e = absurd cc
 
 -- ---- places and points
 
-
 -- the live events up to a point are those of the live entries up to its place
 events_front : (entries : List Entry) (n : ℕ) → all_changes (logged (until_first (is_place n) (live_entries entries))) ≡ until_first (is_point n) (live_of entries)
 events_front entries n =

@@ -27,8 +27,7 @@ whole_agrees t files w = stands_agrees t.first (t.entries files) (t.dumps files)
 
 pub agrees_stands : AgreesStands
 agrees_stands first es dumps stored agrees described lives images sized =
-    let over = agrees_kept first es dumps stored agrees (described_control (live_of es) described) lives in
-    (
+    let over = agrees_kept first es dumps stored agrees (described_control (live_of es) described) lives in (
       over.base,
       record {
         kept = over.kept;

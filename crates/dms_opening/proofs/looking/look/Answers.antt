@@ -1,4 +1,4 @@
-use Rattle.std.proofs.Common.{inl, refl, ◌∙◌}
+use Rattle.std.proofs.Common.{inl, refl}
 use Rattle.dms_restore.proofs.Results.{one_if_ok, two_if_ok, three_if_ok, one_if_err}
 use Rattle.dms_opening.proofs.Looks.{same_on, read_at, plans_as, trail_as, start_as, refused_as}
 use Rattle.dms_opening.proofs.OneTrail.{start_on, trail_of}

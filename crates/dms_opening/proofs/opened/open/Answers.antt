@@ -1,4 +1,3 @@
-use Rattle.std.proofs.Common.{◌∙◌}
 use Rattle.dms_restore.proofs.Results.{one_if_ok, two_if_ok, three_if_ok, one_if_err}
 use Rattle.dms_opening.proofs.Opens.{may_refuse, opens_at, runs_at, is_planned, whole_at, since, since_none, counted_on}
 use Rattle.dms_opening.proofs.Complete.{refuses_none}

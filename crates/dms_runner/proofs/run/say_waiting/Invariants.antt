@@ -1,5 +1,5 @@
 use Rattle.dms_block.specs.Texts.{Prints}
-use Rattle.std.proofs.Common.{◌≡◌, ◌≤◌, ◌<◌, ◌+◌, ◌^◌, take}
+use Rattle.std.proofs.Common.{◌≡◌, ◌<◌, ◌+◌, ◌^◌, take}
 use Rattle.dms_runner.specs.Events.{text_of, Performs}
 use Rattle.dms_model.specs.Session.{Session}
 use Rattle.dms_storeverbs.specs.View.{Lasted, seen, view, StandsFor}

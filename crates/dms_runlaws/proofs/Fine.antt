@@ -1,0 +1,245 @@
+-- What the grammar says of entries that scanning finds, and of the events that they are.
+use Rattle.std.specs.Prelude.{◌==◌, ◌&&◌, nat_le, option_map}
+use Rattle.std.specs.Int.{w16, w32, w64}
+use Rattle.std.proofs.Common.{ℕ, ◌+◌, ◌*◌, ◌≤◌, ◌≡◌, ◌≢◌, ◌⊎◌, inl, inr, Bool, true, false, cond, max, List, [], ◌∷◌, ◌++◌, map, Option, Some, None, refl, sym, ◌∙◌, ap, arith}
+use Rattle.std.specs.Prelude.{nat_eq}
+use Rattle.std.proofs.lemmas.Bool.{cases_eq}
+use Rattle.std.proofs.lemmas.Bool.Decides.{nat_tests}
+use Rattle.dms_site.specs.Files.{Files}
+use Rattle.dms_fields.specs.Prefix.{byte_first, number_first, bytes_first}
+use Rattle.dms_fields.specs.PrefixLaws.{bind_some, go_some}
+use Rattle.dms_history.specs.Events.{Block, Event, change, quiet, control, begin}
+use Rattle.dms_history.specs.Lists.{has, until_first}
+use Rattle.dms_history.specs.Places.{is_point}
+use Rattle.dms_history.specs.History.{History, history, history_from, after_event}
+use Rattle.dms_history.specs.Pick.{reached_count}
+use Rattle.dms_history.specs.Ranges.{told_events, events_from}
+use Rattle.dms_history.specs.declared.event.FileCount.{FileCount}
+use Rattle.dms_history.specs.Entries.{Entry, schema_part, image, byte_range, quiet_point, control_point, begin_restore, counts_in, how_of}
+use Rattle.dms_history.specs.Schemas.{Parts, no_parts, after_entry, is_whole}
+use Rattle.dms_history.specs.EntryEvents.{logged_from, live_of}
+use Rattle.dms_history.specs.Sizes.{IsSizedChange, ImagesSized}
+use Rattle.dms_audrec.specs.Reading.{schema_at, before_at, image_at, quiet_at, control_at, begin_at, entry_at, counts_at}
+use Rattle.dms_audrec.specs.Spelling.{counts_rise}
+use Rattle.dms_audfile.specs.Scanning.{Placed, entry_in}
+use Rattle.dms_audfile.specs.AuditTrail.{entry_from, entry_there, AreThere}
+use Rattle.dms_audfile.specs.declared.place.EntryPlace.{EntryPlace}
+use Rattle.dms_restore.proofs.EntryPlaces.{ImageThere, image_there, control_there}
+
+true_not_false : true ≡ false → ⊥
+true_not_false e = absurd cc
+
+none_not_some : {A : Type 0} (x : A) → None ≡ Some x → ⊥
+none_not_some x e = absurd cc
+
+-- ---- no Range is read
+
+abbrev is_range : Entry → Bool
+is_range (schema_part part parts bytes) = false
+is_range (image f b before after) = false
+is_range (byte_range f b place bytes) = true
+is_range (quiet_point n) = false
+is_range (control_point n next counts) = false
+is_range (begin_restore n kind) = false
+
+schema_read : (bytes : List ℕ) (x : Entry × List ℕ) → schema_at bytes ≡ Some x → is_range x.0 ≡ false
+unfolding schema_at
+schema_read bytes x e =
+    let (part, e1, r1) = bind_some (number_first w16 bytes) _ x e in
+    let (parts, e2, r2) = bind_some (number_first w16 part.1) _ x r1 in
+    let (len, e3, r3) = bind_some (number_first w16 parts.1) _ x r2 in
+    let (text, e4, r4) = bind_some (bytes_first len.0 len.1) _ x r3 in
+    ap (λ (y : Entry × List ℕ). is_range y.0) (sym (go_some _ (schema_part part.0 parts.0 text.0, text.1) x r4).1)
+
+image_read : (bytes : List ℕ) (x : Entry × List ℕ) → image_at bytes ≡ Some x → is_range x.0 ≡ false
+unfolding image_at
+image_read bytes x e =
+    let (file, e1, r1) = bind_some (number_first w32 bytes) _ x e in
+    let (block, e2, r2) = bind_some (number_first w32 file.1) _ x r1 in
+    let (before, e3, r3) = bind_some (before_at block.1) _ x r2 in
+    let (after, e4, r4) = bind_some (bytes_first 1024 before.1) _ x r3 in
+    ap (λ (y : Entry × List ℕ). is_range y.0) (sym (go_some _ (image file.0 block.0 before.0 after.0, after.1) x r4).1)
+
+quiet_read : (bytes : List ℕ) (x : Entry × List ℕ) → quiet_at bytes ≡ Some x → is_range x.0 ≡ false
+unfolding quiet_at
+quiet_read bytes x e =
+    let n = bind_some (number_first w64 bytes) (λ n. Some (quiet_point n.0, n.1)) x e in
+    let is : (quiet_point n.0.0, n.0.1) ≡ x = cc (n.2) in
+    ap (λ (y : Entry × List ℕ). is_range y.0) (sym is)
+
+control_read : (bytes : List ℕ) (x : Entry × List ℕ) → control_at bytes ≡ Some x → is_range x.0 ≡ false
+unfolding control_at
+control_read bytes x e =
+    let (n, e1, r1) = bind_some (number_first w64 bytes) _ x e in
+    let (next, e2, r2) = bind_some (number_first w64 n.1) _ x r1 in
+    let (files, e3, r3) = bind_some (number_first w16 next.1) _ x r2 in
+    let (list, e4, r4) = bind_some (bytes_first (8 * files.0) files.1) _ x r3 in
+    ap (λ (y : Entry × List ℕ). is_range y.0) (sym (go_some _ (control_point n.0 next.0 (counts_at files.0 list.0), list.1) x r4).1)
+
+begin_read : (bytes : List ℕ) (x : Entry × List ℕ) → begin_at bytes ≡ Some x → is_range x.0 ≡ false
+unfolding begin_at
+begin_read bytes x e =
+    let (n, e1, r1) = bind_some (number_first w64 bytes) _ x e in
+    let (how, e2, r2) = bind_some (byte_first n.1) _ x r1 in
+    let (dump, e3, r3) = bind_some (number_first w16 how.1) _ x r2 in
+    let (rows, e4, r4) = bind_some (number_first w16 dump.1) _ x r3 in
+    let (list, e5, r5) = bind_some (bytes_first (8 * rows.0) rows.1) _ x r4 in
+    ap (λ (y : Entry × List ℕ). is_range y.0) (sym (go_some _ _ x r5).1)
+
+by_test : {A : Type 0} (b : Bool) (p q o : Option A) → cond b p q ≡ o → (p ≡ o) ⊎ (q ≡ o)
+by_test true p q o is = inl is
+by_test false p q o is = inr is
+
+entry_read : (bytes : List ℕ) (x : Entry × List ℕ) → entry_at bytes ≡ Some x → is_range x.0 ≡ false
+unfolding entry_at
+entry_read [] x e = absurd (none_not_some x e)
+entry_read (kind ∷ rest) x e = elim (by_test (kind == 1) (schema_at rest) _ (Some x) e) [
+  | inl one ↦ schema_read rest x one
+  | inr r1 ↦ elim (by_test (kind == 2) (image_at rest) _ (Some x) r1) [
+    | inl two ↦ image_read rest x two
+    | inr r2 ↦ elim (by_test (kind == 3) (quiet_at rest) _ (Some x) r2) [
+      | inl three ↦ quiet_read rest x three
+      | inr r3 ↦ elim (by_test (kind == 4) (control_at rest) _ (Some x) r3) [
+        | inl four ↦ control_read rest x four
+        | inr r4 ↦ elim (by_test (kind == 5) (begin_at rest) None (Some x) r4) [
+          | inl five ↦ begin_read rest x five
+          | inr none ↦ absurd (none_not_some x none)
+        ]
+      ]
+    ]
+  ]
+]
+
+mapped : (o : Option (Entry × List ℕ)) (e : Entry) → ((x : Entry × List ℕ) → o ≡ Some x → is_range x.0 ≡ false) → option_map (λ (y : Entry × List ℕ). y.0) o ≡ Some e → is_range e ≡ false
+mapped None e each is = absurd (none_not_some e is)
+mapped (Some x) e each is = let same : x.0 ≡ e = cc is in ap is_range (sym same) ∙ each x refl
+
+tested : (b : Bool) (o : Option (Entry × List ℕ)) (e : Entry) → ((x : Entry × List ℕ) → o ≡ Some x → is_range x.0 ≡ false) → cond b (option_map (λ (y : Entry × List ℕ). y.0) o) None ≡ Some e → is_range e ≡ false
+tested true o e each is = mapped o e each is
+tested false o e each is = absurd (none_not_some e is)
+
+no_range : (files : Files) (p : EntryPlace) (e : Entry) → entry_there files p ≡ Some e → is_range e ≡ false
+unfolding entry_there entry_from
+no_range files p e is = tested _ _ e (λ x at. entry_read _ x at) is
+
+-- ---- each entry that is found
+
+-- an Image has whole blocks of a structure file, and the counts of a Control are those of structure files
+abbrev pub IsFine : Entry → Type 0
+IsFine (schema_part part parts bytes) = Unit {0}
+IsFine (image f b before after) = (30001 ≤ f) × (f ≤ 30200) × IsSizedChange before after
+IsFine (byte_range f b place bytes) = ⊥
+IsFine (quiet_point n) = Unit {0}
+IsFine (control_point n next counts) = counts_rise 30001 counts ≡ true
+IsFine (begin_restore n kind) = Unit {0}
+
+abbrev pub AllFine : List Entry → Type 0
+AllFine [] = Unit {0}
+AllFine (e ∷ es) = IsFine e × AllFine es
+
+sized_there : (files : Files) (p : EntryPlace) (f b : ℕ) (before : Option Block) (after : Block) → ImageThere files p f b before after → IsSizedChange before after
+sized_there files p f b None after t = record { was = tt; becomes = (t.new refl).1 }
+sized_there files p f b (Some old) after t = record { was = (t.old old refl).1; becomes = (t.old old refl).3 }
+
+fine_there : (files : Files) (p : EntryPlace) (e : Entry) → entry_there files p ≡ Some e → IsFine e
+fine_there files p (schema_part part parts bytes) is = tt
+fine_there files p (image f b before after) is = let t = image_there files p f b before after is in (t.bounds.0, t.bounds.1, sized_there files p f b before after t)
+fine_there files p (byte_range f b place bytes) is = absurd (true_not_false (no_range files p (byte_range f b place bytes) is))
+fine_there files p (quiet_point n) is = tt
+fine_there files p (control_point n next counts) is = (control_there files p n next counts is).rise
+fine_there files p (begin_restore n kind) is = tt
+
+pub all_fine : (files : Files) (ps : List Placed) → AreThere files ps → AllFine (map entry_in ps)
+all_fine files [] are = tt
+all_fine files (p ∷ ps) are = (fine_there files p.place p.entry are.0.there, all_fine files ps are.1)
+
+-- ---- events
+
+-- a file that is none of a structure
+abbrev pub IsOutside : ℕ → Type 0
+IsOutside f = 30001 ≤ f → f ≤ 30200 → ⊥
+
+abbrev pub IsFineEvent : Event → Type 0
+IsFineEvent (change f b before after) = (30001 ≤ f) × (f ≤ 30200) × IsSizedChange before after
+IsFineEvent (quiet n) = Unit {0}
+IsFineEvent (control n next counts described) = (f : ℕ) → IsOutside f → counts f ≡ 0
+IsFineEvent (begin n how) = Unit {0}
+
+abbrev pub FineEvents : List Event → Type 0
+FineEvents [] = Unit {0}
+FineEvents (e ∷ es) = IsFineEvent e × FineEvents es
+
+fine_push : (es : List Event) (e : Event) → FineEvents es → IsFineEvent e → FineEvents (es ++ e ∷ [])
+fine_push [] e all one = (one, tt)
+fine_push (x ∷ es) e all one = (all.0, fine_push es e all.1 one)
+
+pub fine_behind : (xs ys : List Event) → FineEvents (xs ++ ys) → FineEvents ys
+fine_behind [] ys all = all
+fine_behind (x ∷ xs) ys all = fine_behind xs ys all.1
+
+pub fine_until : (p : Event → Bool) (es : List Event) → FineEvents es → FineEvents (until_first p es)
+fine_until p [] all = tt
+fine_until p (e ∷ es) all = go (p e) (has p es) (fine_until p es all.1)
+  where
+    go : (b c : Bool) → FineEvents (until_first p es) → FineEvents (cond b (e ∷ []) (cond c (e ∷ until_first p es) []))
+    go true c rest = (all.0, tt)
+    go false true rest = (all.0, rest)
+    go false false rest = tt
+
+le_of : (a b : ℕ) → nat_le a b ≡ true → a ≤ b
+le_of a b e = grind (arith, nat_tests, e)
+
+three_of : (a b c d : Bool) → a && (b && (c && d)) ≡ true → (a ≡ true) × (b ≡ true) × (d ≡ true)
+three_of true true true d e = (refl, refl, e)
+three_of true true false d e = absurd (true_not_false (sym e))
+three_of true false c d e = absurd (true_not_false (sym e))
+three_of false b c d e = absurd (true_not_false (sym e))
+
+other_test : (m n : ℕ) → m ≢ n → nat_eq m n ≡ false
+other_test m n other = grind (arith, nat_tests)
+
+counts_outside : (low : ℕ) (cs : List FileCount) (f : ℕ) → 30001 ≤ low → counts_rise low cs ≡ true → IsOutside f → counts_in cs f ≡ 0
+counts_outside low [] f from rise out = refl
+counts_outside low (c ∷ cs) f from rise out =
+    let r = three_of (nat_le low c.file) (nat_le c.file 30200) (nat_le c.blocks 2097152) (counts_rise (c.file + 1) cs) rise in
+    let low_file : low ≤ c.file = le_of low c.file r.0 in
+    let high_file : c.file ≤ 30200 = le_of c.file 30200 r.1 in
+    elim (cases_eq c.file f) [
+      | inl same ↦ absurd (out (omega (arith, same, from, low_file)) (omega (arith, same, high_file)))
+      | inr other ↦ ap (λ k. cond k c.blocks (counts_in cs f)) (other_test c.file f other) ∙ counts_outside (c.file + 1) cs f (omega (arith, from, low_file)) r.2 out
+    ]
+
+live_fine : (xs : List Entry) (p : Parts) (h : History) → AllFine xs → FineEvents h.live → FineEvents (history_from h (events_from h (logged_from p xs))).live
+live_fine [] p h all fine = fine
+live_fine (schema_part part parts bytes ∷ xs) p h all fine = live_fine xs (after_entry p (schema_part part parts bytes)) h all.1 fine
+live_fine (image f b before after ∷ xs) p h all fine = live_fine xs no_parts (after_event h (change f b before after)) all.1 (fine_push h.live (change f b before after) fine all.0)
+live_fine (byte_range f b place bytes ∷ xs) p h all fine = absurd all.0
+live_fine (quiet_point n ∷ xs) p h all fine = live_fine xs no_parts (after_event h (quiet n)) all.1 (fine_push h.live (quiet n) fine tt)
+live_fine (control_point n next counts ∷ xs) p h all fine =
+    let e = control n next (counts_in counts) (is_whole p) in
+    live_fine xs no_parts (after_event h e) all.1 (fine_push h.live e fine (λ f out. counts_outside 30001 counts f (omega arith) all.0 out))
+live_fine (begin_restore n kind ∷ xs) p h all fine = live_fine xs no_parts (after_event h (begin n (how_of kind))) all.1 (fine_until (is_point n) h.live fine)
+
+-- the live events of such entries
+pub live_is_fine : (es : List Entry) → AllFine es → FineEvents (live_of es)
+unfolding told_events history
+live_is_fine es all = live_fine es no_parts (record { live = []; pending = None }) all tt
+
+pub fine_images : (es : List Event) → FineEvents es → ImagesSized es
+fine_images [] fine = tt
+fine_images (change f b before after ∷ es) fine = (fine.0.2, fine_images es fine.1)
+fine_images (quiet n ∷ es) fine = fine_images es fine.1
+fine_images (control n next counts described ∷ es) fine = fine_images es fine.1
+fine_images (begin n how ∷ es) fine = fine_images es fine.1
+
+-- other files than those of structures have no blocks
+pub none_reached : (f : ℕ) → IsOutside f → (k : ℕ) (es : List Event) → FineEvents es → k ≡ 0 → reached_count f k es ≡ 0
+none_reached f out k [] fine is = is
+none_reached f out k (change g b None after ∷ es) fine is = none_reached f out (cond (nat_eq g f) (max k (b + 1)) k) es fine.1 (elim (cases_eq g f) [
+  | inl same ↦ absurd (out (omega (arith, same, fine.0.0)) (omega (arith, same, fine.0.1)))
+  | inr other ↦ ap (λ t. cond t (max k (b + 1)) k) (other_test g f other) ∙ is
+])
+none_reached f out k (change g b (Some old) after ∷ es) fine is = none_reached f out k es fine.1 is
+none_reached f out k (quiet n ∷ es) fine is = none_reached f out k es fine.1 is
+none_reached f out k (control n next counts described ∷ es) fine is = none_reached f out (counts f) es fine.1 (fine.0 f out)
+none_reached f out k (begin n how ∷ es) fine is = none_reached f out k es fine.1 is
