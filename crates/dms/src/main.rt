@@ -60,10 +60,7 @@ fn run(rt: &HostRuntime, held: &io::Result<HeldStreams>) -> Ending {
     match request_of(words.as_slice()) {
         None => Ending::Command(Status::BadWords),
         Some(Request::Compile | Request::Initialize | Request::PrintAudit | Request::Run)
-            if held.is_err() =>
-        {
-            Ending::Command(Status::DiskFault)
-        }
+            if held.is_err() => { Ending::Command(Status::DiskFault) }
         Some(Request::Compile | Request::Initialize | Request::PrintAudit | Request::Run) => {
             call_locked(rt, words.as_slice())
         }

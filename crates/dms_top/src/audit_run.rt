@@ -7,10 +7,10 @@ ghost use Rattle.dms_top.specs.Auditing.{IsOfPrinting, JudgesTrail, audit_status
 ghost use Rattle.dms_audfile.specs.Counting.{CountedAt};
 ghost use Rattle.dms_top.specs.Words.{IsPrintAudit, ComesUnsaid};
 
-use dms_status::{NeedFault, Status};
 use dms_audfile::AudFault;
 use dms_audprint::{PrintFault, print_audit};
 use dms_site::Site;
+use dms_status::{NeedFault, Status};
 use std::alloc::Global;
 
 /// Whether the words are `print audit`.

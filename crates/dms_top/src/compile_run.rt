@@ -15,13 +15,13 @@ ghost use Rattle.dms_top.specs.Words.{IsOfCompile, IsPast, IsUntouched};
 
 use crate::judge::{JudgedSchema, judge};
 use crate::schema::TextFault;
-use dms_status::{SchemaFault, Status};
 use crate::whole::whole_text;
 use dasdl_phrases::ParseFault;
 use dms_base::{Bytes, Memory};
 use dms_desc::Description;
 use dms_descfile::{FileFault, read_description, seal_description};
 use dms_site::{Site, Source};
+use dms_status::{SchemaFault, Status};
 use std::alloc::Global;
 
 /// What `compile` says of so many structures.

@@ -11,9 +11,9 @@ ghost use Rattle.dms_top.specs.Premises.{OfSealed};
 ghost use Rattle.dms_top.specs.Initializing.{initialized_text, IsOfCreation};
 ghost use Rattle.dms_audfile.specs.Counting.{CountedAt};
 
-use dms_status::{NeedFault, Status};
 use dms_creation::{CreationFault, initialize};
 use dms_site::Site;
+use dms_status::{NeedFault, Status};
 use std::alloc::Global;
 
 /// `initialize`: makes the empty database of the description in the description file, with that tag, and says so.

@@ -3,11 +3,11 @@ ghost use Rattle.dasdl_compile.specs.Compile.{compiled};
 ghost use Rattle.dms_top.specs.Judging.{compiled_as, judged};
 ghost use Rattle.dms_top.specs.JudgedSchema.{AnswersJudging};
 
-use dms_status::SchemaFault;
 use dasdl_compile::{CompileFault, compile};
 use dasdl_parse::{Schema, parse};
 use dasdl_phrases::ParseFault;
 use dms_desc::Description;
+use dms_status::SchemaFault;
 use std::alloc::Global;
 
 /// What a text of the schema language is.

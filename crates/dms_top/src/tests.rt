@@ -1,7 +1,7 @@
 use crate::compile_run::compile_input;
 use crate::initialize_run::initialize_database;
-use dms_status::Status;
 use dms_sitemem::{MemSite, MemSource};
+use dms_status::Status;
 use std::alloc::Global;
 use std::test::Fail;
 

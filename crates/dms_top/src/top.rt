@@ -20,7 +20,7 @@ ghost use Rattle.dms_top.specs.Answering.{Printed, PrintedPrefix, PrintedWhole, 
 ghost use Rattle.dms_status.specs.declared.status.LimitKind.{LimitKind as Kind};
 ghost use Rattle.dms_top.specs.Premises.{OnTry, OnCompile, OnInitialize, OnPrintAudit, OnOthers, OnReading, OnRun, OfInput, OfSchema, OfSealed, OfNoSchema, OfScript, OfNoScript};
 ghost use Rattle.dms_audfile.specs.Counting.{CountedAt};
-ghost use Rattle.dms_runtop.specs.Command.{DatabaseState, HoldsTold, RefusesRun, RunsCommand};
+ghost use Rattle.dms_runtop.specs.Command.{DatabaseState, HoldsTold, NeverRefuses, RefusesRun, RunsCommand, StandsThroughout};
 ghost use Rattle.dms_runtop.specs.Statuses.{IsOfRun, IsRefusal};
 ghost use Rattle.dms_top.specs.Words.{IsTry, IsCompile, IsPrintAudit, IsRun, IsCommand, IsOfTry, IsOfCompile, IsPast, ComesUnsaid, IsUntouched};
 
@@ -30,13 +30,13 @@ use crate::initialize_run::initialize_database;
 use crate::judge::{JudgedSchema, judge};
 use crate::laws::what_is_made_stands;
 use crate::schema::{TextFault, schema_text};
-use dms_status::{NeedFault, SchemaFault, Status};
 use crate::tags::initialize_tag;
 use crate::try_run::try_lines;
 use dasdl_phrases::ParseFault;
 use dms_feed::Feed;
 use dms_runtop::run_command;
 use dms_site::{Site, Source};
+use dms_status::{NeedFault, SchemaFault, Status};
 use std::alloc::Global;
 
 fn is_try(words: &[String]) -> bool
@@ -251,11 +251,16 @@ pub fn dms<S: Site, I: Source>(
     // ---- `run`
     // only the statuses 0, 3, 4 of an opening, 5, 6, 7, 8, 9 and 10 come
     ensures run_statuses { OnRun words.now (IsOfRun result) }
-    // the statuses 3 and 4 are the first refusal of the files: no file has changed, and a stop leaves what it could leave before
+    // the statuses 3, 4, and 9 of a file that is no structure file, are the first refusal of the files: no file has changed, and a stop leaves what it
+    // could leave before
     ensures run_refused { OnRun words.now (IsRefusal result → RefusesRun S.Site site.old site.new result) }
+    // neither comes where the files hold a database, whose last point is live and described, and over which no restore by a dump is pending
+    ensures run_complete { OnRun words.now (NeverRefuses S.Site site.old result) }
     // of the state that is told: at every moment a stop leaves the database of one quiet point, at status 0 the last one's, and exactly the answers or a
     // prefix of them were printed
     ensures run { OnRun words.now (RunsCommand S.Site state site.old site.new (I.left input.old) (I.left input.new) result) }
+    // where the database is valid too, each stop leaves files that stand for the database of entry or of one quiet point, no earlier than the printed text tells
+    ensures run_stands { OnRun words.now (StandsThroughout S.Site state site.old site.new (I.left input.old)) }
 {
     if is_try(words) {
         return try_input(alloc, site, input);

@@ -15,13 +15,13 @@ ghost use Rattle.dms_audfile.specs.Counting.{CountedAt};
 ghost use Rattle.dms_top.specs.Words.{IsOfTry, ComesUnsaid};
 ghost use Rattle.dms_status.specs.declared.status.SchemaFault.{SchemaFault as Refusal};
 
-use dms_status::{LimitKind, Status};
 use dms_block::BlockFault;
 use dms_desc::Description;
 use dms_feed::Feed;
 use dms_plain::PlainStore;
 use dms_runner::{RunFault, run_lines};
 use dms_site::{Site, Source};
+use dms_status::{LimitKind, Status};
 use dms_storeverbs::Engine;
 use std::alloc::Global;
 
