@@ -19,10 +19,3 @@ returns-in-Err-clause-ran g c =
     runs_undone g.S.Site c.args.opened c.describe.new.site g.K.Knows.known (g.I.Source.left c.args.source.now) (g.I.Source.left c.args.source.now) c.status_of_description.result
     (undone_description c.in-Err.fault c.status_of_description.result c.status_of_description.ensures.disk.1 c.status_of_description.ensures.memory)
     (λ P. runs_looking (g.met.S.Site.counts_now c.args.opened.log.site) c.describe.ensures.moments) c.describe.ensures.said
-
-pub run_described-requires-clause-known : goal.run_described-requires-clause-known
-run_described-requires-clause-known g c = λ tells knows.
-    stands_looked g.S.Site c.args.opened c.describe.new.site (c.describe.ensures.files tells) c.describe.ensures.moments (c.requires.known tells knows)
-
-pub returns-in-Ok-clause-same : goal.returns-in-Ok-clause-same
-returns-in-Ok-clause-same g c = g.met.S.Site.same_then _ _ _ c.describe.ensures.same_site c.run_described.ensures.same
