@@ -77,4 +77,3 @@ impl<S: Site, K: Knows> Site for Veiled<S, K> {
         self.site.say(bytes)
     }
 }
-
