@@ -115,9 +115,9 @@ module _ {S : Type 0} (g : Ghosts S) (old : S) (s : DatabaseState) where
       let st = stands_opened o opens (runs whole) h state in
       let space : next_in t files + 1000003 < 2 ^ 64 = here_now (λ a b. next_in (telling_of a b) files + 1000003 < 2 ^ 64) o opens h room in
       let script : ScriptRuns t s.desc ps s.point s.db o.next all (seen_site g o.log.site) (seen_site g new) left' status =
-          ran told knows st s.point s.db all state (subst (λ m. m + 1000003 < 2 ^ 64) opens.next_is space) is in
+      ran told knows st s.point s.db all state (subst (λ m. m + 1000003 < 2 ^ 64) opens.next_is space) is in
       let from_next : ScriptRuns t s.desc ps s.point s.db (next_in t files) all (seen_site g o.log.site) (seen_site g new) left' status =
-          subst (λ m. ScriptRuns t s.desc ps s.point s.db m all (seen_site g o.log.site) (seen_site g new) left' status) (sym opens.next_is) script in
+      subst (λ m. ScriptRuns t s.desc ps s.point s.db m all (seen_site g o.log.site) (seen_site g new) left' status) (sym opens.next_is) script in
       let before = runs_weaken (since o.log.end.total o.log.first opens.trail whole) (reopens_leaves t files (seen_site g old).said s.desc s.point s.db state (raw_lines all)) in
       back_there (λ a b. ScriptRuns (telling_of a b) s.desc (points_of (telling_of a b) files) s.point s.db (next_in (telling_of a b) files) all (seen_site g old) (seen_site g new) left' status) o opens h
       (runs_since t s.desc ps s.point s.db (next_in t files) all (seen_site g old) (seen_site g o.log.site) (seen_site g new) left' status

@@ -34,7 +34,6 @@ module _ {S V : Type 0} (g : Ghosts S) (gv : Ghosts V) (of : V → S) (known : B
     (bytes : List ℕ) (bytes_are : bytes ≡ spelling desc)
     (r : Running V) (site_is : of r.log.site ≡ o.log.site) (total_is : r.log.end.total ≡ o.log.end.total) (first_is : r.log.first ≡ o.log.first) (next_is : r.next ≡ o.next)
     (opened : (files : Files) → RunsFrom files o.point o.next bytes o.counts.items (view_of g o.log) → TellsOpened (telling_of o.log.end.total o.log.first) files o.next (held gv r)) where
-
   abbrev t : Telling
   t = telling_of o.log.end.total o.log.first
 

@@ -1,4 +1,4 @@
-ghost use Rattle.std.specs.Prelude.{◌≡◌, ◌≤◌, ◌≢◌, ◌↔◌, [], ℕ, List, Some, Ok, Err, map, length, string_bytes, slice_index, IsTrue, IsOk};
+ghost use Rattle.std.specs.Prelude.{◌≡◌, ◌≤◌, ◌≢◌, ◌↔◌, [], ℕ, List, Some, Ok, Err, Option, map, length, string_bytes, slice_index, IsTrue, IsOk};
 ghost use Rattle.dms_desc.specs.Shape.{Described};
 ghost use Rattle.dms_descfile.specs.Becoming.{Creates};
 ghost use Rattle.dms_descfile.specs.DescriptionFile.{sealed_file, IsSealed, IsUnsealed};
@@ -20,7 +20,7 @@ ghost use Rattle.dms_top.specs.Answering.{Printed, PrintedPrefix, PrintedWhole, 
 ghost use Rattle.dms_status.specs.declared.status.LimitKind.{LimitKind as Kind};
 ghost use Rattle.dms_top.specs.Premises.{OnTry, OnCompile, OnInitialize, OnPrintAudit, OnOthers, OnReading, OnRun, OfInput, OfSchema, OfSealed, OfNoSchema, OfScript, OfNoScript};
 ghost use Rattle.dms_audfile.specs.Counting.{CountedAt};
-ghost use Rattle.dms_runtop.specs.Command.{NeverRefuses, RefusesRun};
+ghost use Rattle.dms_runtop.specs.Command.{DatabaseState, HoldsTold, NeverRefuses, RefusesRun, RunsCommand, StandsThroughout};
 ghost use Rattle.dms_runtop.specs.Statuses.{IsOfRun, IsRefusal};
 ghost use Rattle.dms_top.specs.Words.{IsTry, IsCompile, IsPrintAudit, IsRun, IsCommand, IsOfTry, IsOfCompile, IsPast, ComesUnsaid, IsUntouched};
 
@@ -109,6 +109,9 @@ pub fn dms<S: Site, I: Source>(
     site: &mut S,
     input: &mut I,
 ) -> Status
+    ghost state: { Option DatabaseState }
+    // a caller may tell the state that the files stand for, and needn't
+    requires told { IsTrue S.tells → HoldsTold state (S.files site.old) }
     // ---- every command
     // status 1 comes exactly where the words are no command
     ensures words { result ≡ Status.BadWords ↔ (IsCommand (map string_bytes words.now) → ⊥) }
@@ -253,6 +256,11 @@ pub fn dms<S: Site, I: Source>(
     ensures run_refused { OnRun words.now (IsRefusal result → RefusesRun S.Site site.old site.new result) }
     // neither comes where the files hold a database, whose last point is live and described, and over which no restore by a dump is pending
     ensures run_complete { OnRun words.now (NeverRefuses S.Site site.old result) }
+    // of the state that is told: at every moment a stop leaves the database of one quiet point, at status 0 the last one's, and exactly the answers or a
+    // prefix of them were printed
+    ensures run { OnRun words.now (RunsCommand S.Site state site.old site.new (I.left input.old) (I.left input.new) result) }
+    // where the database is valid too, each stop leaves files that stand for the database of entry or of one quiet point, no earlier than the printed text tells
+    ensures run_stands { OnRun words.now (StandsThroughout S.Site state site.old site.new (I.left input.old)) }
 {
     if is_try(words) {
         return try_input(alloc, site, input);

@@ -1,14 +1,12 @@
-use Rattle.std.proofs.Common.{rules, ◌≡◌, MutBor, sym, subst}
+use Rattle.std.proofs.Common.{rules, MutBor, sym, subst}
 use Rattle.dms_runtop.specs.Command.{RunsCommand}
 use Rattle.dms_runtop.proofs.Entered.{stands_throughout}
 use Rattle.dms_runtop.proofs.command.run_command.Goals as goal
 
 pub returns-clause-ran : goal.returns-clause-ran
 returns-clause-ran g c =
-    let same : c.into_site-site.result.now ≡ c.site-1.given.0 = search rules in
-    subst (λ (x : g.row.S.Denot). RunsCommand g.S.Site g.state c.args.site.now x (g.I.Source.left c.args.source.now) (g.I.Source.left c.run_found-ended.new.source) c.run_found-ended.result.status) same
+    subst (λ (x : g.row.S.Denot). RunsCommand g.S.Site g.state c.args.site.now x (g.I.Source.left c.args.source.now) (g.I.Source.left c.run_found-ended.new.source) c.run_found-ended.result.status) (search rules)
     (subst (λ (x : MutBor g.row.S.Denot). RunsCommand g.S.Site g.state c.args.site.now x.now (g.I.Source.left c.args.source.now) (g.I.Source.left c.run_found-ended.new.source) c.run_found-ended.result.status) (sym c.into_site-site.ensures) c.run_found-ended.ensures.ran)
 
 pub returns-clause-stands : goal.returns-clause-stands
-returns-clause-stands g c =
-    stands_throughout g.S.Site c.args.site.now g.state c.stands_law.ensures (g.I.Source.left c.args.source.now) (g.I.Source.left c.run_found-ended.new.source) c.run_found-ended.result.status _ (returns-clause-ran g c)
+returns-clause-stands g c = stands_throughout g.S.Site c.args.site.now g.state c.stands_law.ensures (g.I.Source.left c.args.source.now) (g.I.Source.left c.run_found-ended.new.source) c.run_found-ended.result.status _ (returns-clause-ran g c)

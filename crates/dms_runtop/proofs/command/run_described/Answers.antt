@@ -40,7 +40,7 @@ run_over-requires-clause-serves g c =
 pub run_over-requires-clause-mark : goal.run_over-requires-clause-mark
 run_over-requires-clause-mark g c = λ tells.
     let st = files_under g.S.Site c.spelling_law.ensures c.args.opened (described c.args.desc.now) c.requires.formed c.requires.under _ c.in-Some.ensures
-        (c.requires.known (first_of g.S.Site.tells g.K.Knows.known tells) (second_of g.S.Site.tells g.K.Knows.known tells)) in
+    (c.requires.known (first_of g.S.Site.tells g.K.Knows.known tells) (second_of g.S.Site.tells g.K.Knows.known tells)) in
     sym (c.in-Ok.ensures.tells st.0 st.1).content_is
 
 pub returns-in-Ok-clause-ran : goal.returns-in-Ok-clause-ran

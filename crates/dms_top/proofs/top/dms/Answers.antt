@@ -203,3 +203,9 @@ returns-then-is_run-clause-limit g c = λ is. absurd (not_both c.is_try.result (
 
 pub returns-then-is_run-clause-untouched : goal.returns-then-is_run-clause-untouched
 returns-then-is_run-clause-untouched g c = λ is. absurd (never_untouched c.run_command.result c.run_command.ensures.statuses is)
+
+pub returns-then-is_run-clause-run : goal.returns-then-is_run-clause-run
+returns-then-is_run-clause-run g c = λ is. c.run_command.ensures.ran
+
+pub returns-then-is_run-clause-run_stands : goal.returns-then-is_run-clause-run_stands
+returns-then-is_run-clause-run_stands g c = λ is. c.run_command.ensures.stands
