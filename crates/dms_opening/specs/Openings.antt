@@ -1,5 +1,5 @@
 -- The opening of a database: what it does to its files, what a stop within it leaves, and why it is refused.
-use Rattle.std.specs.Prelude.{ℕ, ◌-◌, ◌<◌, ◌≤◌, ◌≡◌, ◌⊎◌, List, [], ◌∷◌, ◌++◌, if◌then◌else◌, slice_index_or, length, map, None, Some}
+use Rattle.std.specs.Prelude.{ℕ, ◌-◌, ◌<◌, ◌≤◌, ◌≡◌, ◌⊎◌, true, List, [], ◌∷◌, ◌++◌, if◌then◌else◌, slice_index_or, length, map, None, Some}
 use Rattle.std.specs.declared.option.Option.{Option}
 use Rattle.dms_desc.specs.Shape.{Described}
 use Rattle.dms_desc_bytes.specs.Spelling.{spelling}
@@ -15,6 +15,7 @@ use Rattle.dms_history.specs.EntryEvents.{history_of, next_of}
 use Rattle.dms_history.specs.Schemas.{schema_entries}
 use Rattle.dms_history.specs.SchemaAt.{schema_at}
 use Rattle.dms_audfile.specs.AuditTrail.{IsFound}
+use Rattle.dms_audfile.specs.Gates.{is_full}
 use Rattle.dms_audfile.specs.Reads.{Refuses}
 use Rattle.dms_audfile.specs.Sealing.{IsWrittenUpTo}
 use Rattle.dms_audfile.specs.TrailEntries.{trail_entries}
@@ -130,14 +131,25 @@ pub record RefusesTrail (files : Files) (fault : OpenFault) : Type 0 where
   pub trail : HasTrail total first files
   pub why : RefusesPlan total first files fault
 
+-- the audit has no room up to file 9,999
+abbrev pub IsFullFault : OpenFault → Type 0
+IsFullFault fault = fault ≡ Audit (aud.Full 9999)
+
 -- The first refusal of the trail, or of its points and description; a failure of the disk, want of memory and an audit without room say nothing
 -- of the files.
 abbrev pub RefusesFiles : Files → OpenFault → Type 0
-RefusesFiles files fault = ((e : AudFault) × (fault ≡ Audit e) × Refuses files e) ⊎ (RefusesTrail files fault ⊎ (fault ≡ Audit (aud.Full 9999)))
+RefusesFiles files fault = ((e : AudFault) × (fault ≡ Audit e) × Refuses files e) ⊎ (RefusesTrail files fault ⊎ IsFullFault fault)
+
+-- Why the audit has no room: each file of the trail of these files, up to file 9,999, is full now.
+pub record IsFullIn (files now : Files) : Type 0 where
+  pub total : ℕ
+  pub first : ℕ
+  pub trail : HasTrail total first files
+  pub full : (g : ℕ) → first ≤ g → g ≤ 19999 → is_full total (now g) ≡ true
 
 -- A call of the site failed, or the audit had no room: the opening may have begun to write.
 abbrev pub MayHaveWritten : OpenFault → Type 0
-MayHaveWritten fault = (fault ≡ Audit aud.Disk) ⊎ (fault ≡ Audit (aud.Full 9999))
+MayHaveWritten fault = (fault ≡ Audit aud.Disk) ⊎ IsFullFault fault
 
 -- These files hold a database, whose last point is live and described, and no restore by a dump is pending.
 pub record IsOpenable (total first : ℕ) (files : Files) : Type 0 where
@@ -148,4 +160,4 @@ pub record IsOpenable (total first : ℕ) (files : Files) : Type 0 where
 
 -- What has nothing to do with the files: a failed call, want of memory, an audit without room.
 abbrev pub IsNoRefusal : OpenFault → Type 0
-IsNoRefusal fault = IsPlainFault fault ⊎ (fault ≡ Audit (aud.Full 9999))
+IsNoRefusal fault = IsPlainFault fault ⊎ IsFullFault fault

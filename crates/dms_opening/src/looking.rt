@@ -5,7 +5,7 @@ ghost use Rattle.dms_moments.specs.Moments.{Steps};
 ghost use Rattle.dms_site.specs.Files.{Same};
 ghost use Rattle.dms_audfile.specs.Counting.{CountedAt};
 ghost use Rattle.dms_restore.specs.Laying.{IsAtStart};
-ghost use Rattle.dms_opening.specs.Openings.{HasTrail, NamesStructures, RefusesFiles};
+ghost use Rattle.dms_opening.specs.Openings.{HasTrail, NamesStructures, RefusesFiles, IsFullFault};
 ghost use Rattle.dms_opening.specs.Plans.{IsTrailRead, Plans, RefusesPlan};
 ghost use Rattle.dms_opening.specs.Carrying.{IsReady};
 
@@ -74,6 +74,7 @@ pub(crate) fn look<S: Site>(alloc: Global, found: Found<S>) -> Result<Planned<S>
     ensures named { IfOk result (λ p. NamesStructures p.plan.schema.items p.plan.counts.items) }
     ensures limit { IfOk result (λ p. p.log.end.limit ≡ 9999) }
     ensures refused { IfErr result (λ e. IsTrue S.tells → RefusesFiles (S.files found.site) e.0) }
+    ensures room { IfErr result (λ e. IsTrue S.tells → IsFullFault e.0 → ⊥) }
     ensures files { IfOk result (λ p. IsTrue S.tells → S.files p.log.site ≡ S.files found.site) }
     ensures files_then { IfErr result (λ e. IsTrue S.tells → S.files e.1 ≡ S.files found.site) }
     ensures moments { IfOk result (λ p. Steps Same (S.clock found.site) (S.clock p.log.site)) }

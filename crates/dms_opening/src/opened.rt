@@ -9,7 +9,7 @@ ghost use Rattle.dms_restore.specs.Logging.{telling_of};
 ghost use Rattle.dms_wal.specs.Database.{IsUsable, held, view_of};
 ghost use Rattle.dms_wal.specs.Lifting.{AreCounts};
 ghost use Rattle.dms_wal.specs.Marks.{IsDescription};
-ghost use Rattle.dms_opening.specs.Openings.{NamesStructures, OpensAt, RunsFrom, ReopensSince, TellsOpened, RefusesFiles, MayHaveWritten, IsOpenable, IsNoRefusal};
+ghost use Rattle.dms_opening.specs.Openings.{NamesStructures, OpensAt, RunsFrom, ReopensSince, TellsOpened, RefusesFiles, IsFullFault, IsFullIn, MayHaveWritten, IsOpenable, IsNoRefusal};
 
 use crate::carrying::{carry_out, site_of};
 use crate::looking::look;
@@ -47,6 +47,7 @@ pub fn open<S: Site>(alloc: Global, found: Found<S>) -> Result<Opened<S>, (OpenF
     ensures moments { IfOk result (λ o. IsTrue S.tells → ReopensSince S.Site found.site o.log.site) }
     ensures stopped { IfErr result (λ e. IsTrue S.tells → ReopensSince S.Site found.site e.1) }
     ensures refused { IfErr result (λ e. IsTrue S.tells → RefusesFiles (S.files found.site) e.0) }
+    ensures full { IfErr result (λ e. IsTrue S.tells → IsFullFault e.0 → IsFullIn (S.files found.site) (S.files e.1)) }
     ensures complete { IfErr result (λ e. IsTrue S.tells → (total first : ℕ) → IsOpenable total first (S.files found.site) → IsNoRefusal e.0) }
     ensures files_then { IfErr result (λ e. IsTrue S.tells → (MayHaveWritten e.0 → ⊥) → S.files e.1 ≡ S.files found.site) }
     ensures moments_then { IfErr result (λ e. IsTrue S.tells → (MayHaveWritten e.0 → ⊥) → Steps Same (S.clock found.site) (S.clock e.1)) }
