@@ -28,7 +28,8 @@ use Rattle.dms_model.specs.declared.put.Put.{Put}
 use Rattle.dms_model.specs.declared.put.Put.TheVariants.{Stored, Duplicate, Full}
 use Rattle.dms_model.specs.declared.verb.Setting.{Setting}
 use Rattle.dms_model.specs.Db.{Db, Place, Records, fresh, place_cmp, records_of}
-use Rattle.dms_model.specs.Fitting.{AreFitting, IsNumber, is_number, PlaceFits, PutFits, RecordFits, RecordsFit, values_fit}
+use Rattle.dms_model.specs.Fitting.{AreFitting, IsNumber, is_number, PlaceFits, PutFits, RecordFits, RecordsFit}
+use Rattle.dms_desc.specs.Fitting.{values_fit}
 use Rattle.dms_model.specs.Fresh.{fresh_below, fresh_from_one}
 use Rattle.dms_model.specs.Places.{place_is, places_total}
 use Rattle.dms_model.specs.Session.{fitted, setting_value, filled, Filled, Misfit, Values', item_name}

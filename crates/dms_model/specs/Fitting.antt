@@ -49,13 +49,6 @@ pub record AreFitting (items : List Item) (values : List Value) : Type 0 where
   pub fit : OfItems items values (λ item v. fits item.kind v ≡ true)
   pub plain : ArePlain values
 
--- as many values as items, and each fits its item
-abbrev pub values_fit : List Item → List Value → Bool
-values_fit [] [] = true
-values_fit [] (v ∷ vs) = false
-values_fit (i ∷ is) [] = false
-values_fit (i ∷ is) (v ∷ vs) = fits i.kind v && values_fit is vs
-
 -- a record that a data set may hold, whatever its condition and its REQUIRED items
 pub record RecordFits (desc : Described) (set : ℕ) (rec : Record) : Type 0 where
   pub owner : rec.owner < 2 ^ 32

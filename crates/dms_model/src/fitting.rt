@@ -2,11 +2,11 @@ ghost use Rattle.std.specs.Prelude.{◌≡◌, true, IfSome, is_some};
 ghost use Rattle.dms_desc.specs.Lookups.{items_of, structure_of};
 ghost use Rattle.dms_desc.specs.Plain.{ArePlain, IsPlain};
 ghost use Rattle.dms_desc.specs.Shape.{described};
-ghost use Rattle.dms_model.specs.Fitting.{AreFitting, IsNumber, RecordFits, is_number, population_of, values_fit};
+ghost use Rattle.dms_model.specs.Fitting.{AreFitting, IsNumber, RecordFits, is_number, population_of};
 ghost use Rattle.dms_model.specs.Valid.{is_data_set};
 
-use dms_base::{Value, fits};
-use dms_desc::{Description, Item, Record};
+use dms_base::Value;
+use dms_desc::{Description, Item, Record, values_fit};
 
 /// Whether there is a structure with this number.
 pub fn has_structure(desc: &Description, number: u16) -> bool
@@ -75,25 +75,6 @@ pub fn see_all_plain(values: &[Value])
     for value in values {
         see_plain(value);
     }
-}
-
-/// Whether there are as many values as items, and each fits its item.
-fn values_fit(items: &[Item], values: &[Value]) -> bool
-    ensures { result ≡ values_fit items.now values.now }
-{
-    let mut rest = values;
-    for item in items {
-        match rest {
-            [] => return false,
-            [value, more @ ..] => {
-                if !fits(&item.kind, value) {
-                    return false;
-                }
-                rest = more;
-            }
-        }
-    }
-    rest.is_empty()
 }
 
 /// Whether values are those of a record with these items.
