@@ -43,6 +43,6 @@ scans files ps aud.Memory t r = inl (inr refl)
 pub refuses_none : (total first : ℕ) (files : Files) (fault : OpenFault) → IsOpenable total first files → RefusesFiles files fault → IsNoRefusal fault
 refuses_none total first files fault o (inl (e, is, r)) = subst IsNoRefusal (sym is) (scans files o.trail.found.entries e o.trail.found.trail r)
 refuses_none total first files fault o (inr (inl r)) =
-    inl (whole_is_opened total first files fault o.whole o.described o.no_dump
+    inl (whole_is_opened total first files fault o.whole o.described
     (subst (λ n. RefusesPlan n first files fault) (one_total r.total r.first total first files r.trail o.trail) (subst (λ n. RefusesPlan r.total n files fault) (one_first r.total r.first total first files r.trail o.trail) r.why)))
 refuses_none total first files fault o (inr (inr full)) = inr full

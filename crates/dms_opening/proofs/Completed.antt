@@ -98,13 +98,13 @@ module _ (total first : ℕ) (files : Files) (whole : IsWhole (telling_of total 
       ]
 
 pub whole_is_opened : WholeIsOpened
-whole_is_opened total first files fault whole last dump refuses = elim refuses [
+whole_is_opened total first files fault whole last refuses = elim refuses [
   | inl disk ↦ inl disk
   | inr rest ↦ elim rest [
     | inl points ↦ elim points [
       | inl memory ↦ inr memory
       | inr more ↦ elim more [
-        | inl by_dump ↦ absurd (none_not_some by_dump.0 (sym dump ∙ by_dump.1))
+        | inl by_dump ↦ absurd (none_not_some by_dump.0 (sym whole.no_dump ∙ by_dump.1))
         | inr refused ↦ absurd (none_not_some refused.refused (sym (judged total first files whole last) ∙ refused.is))
       ]
     ]

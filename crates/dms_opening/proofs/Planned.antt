@@ -3,7 +3,7 @@ use Rattle.std.specs.Prelude.{◌||◌}
 use Rattle.std.proofs.Common.{ℕ, ◌≡◌, ◌⊎◌, inl, inr, Bool, true, false, cond, IsTrue, List, [], ◌∷◌, ◌++◌, map, take, drop, Option, Some, None, refl, sym, ◌∙◌, ap, subst, append-nil}
 use Rattle.std.proofs.lemmas.List.{map-append, take-append-drop}
 use Rattle.dms_site.specs.Files.{Files}
-use Rattle.dms_history.specs.Events.{Event, How, halt_load, back_out, roll_back, rebuild, reconstruct}
+use Rattle.dms_history.specs.Events.{Event}
 use Rattle.dms_history.specs.Lists.{has, until_first}
 use Rattle.dms_history.specs.Places.{is_point, is_described, IsLive}
 use Rattle.dms_history.specs.History.{Pending, History, last_point}
@@ -22,7 +22,8 @@ use Rattle.dms_audfile.specs.TrailEntries.{trail_entries}
 use Rattle.dms_audfile.specs.declared.place.EntryPlace.{EntryPlace}
 use Rattle.dms_audfile.specs.declared.fault.AudFault.{AudFault}
 use Rattle.dms_audfile.specs.declared.fault.AudFault.TheVariants.{Disk, Damaged, Memory}
-use Rattle.dms_running.specs.Begun.{ByAudit}
+use Rattle.dms_running.specs.FromDumps.{dump_in}
+use Rattle.dms_running.proofs.FromDumps.{audit_no_dump}
 use Rattle.dms_restore.specs.declared.choosing.Choice.{Choice}
 use Rattle.dms_restore.specs.declared.choosing.OpenFault.{OpenFault}
 use Rattle.dms_restore.specs.declared.choosing.OpenFault.TheVariants.{Audit}
@@ -33,7 +34,7 @@ use Rattle.dms_restore.specs.declared.tracing.TrailHistory.{TrailHistory}
 use Rattle.dms_restore.specs.Choices.{RefusesOpening, Chooses}
 use Rattle.dms_restore.specs.Counts.{count_of}
 use Rattle.dms_restore.specs.LiveEntries.{events_at}
-use Rattle.dms_restore.specs.Refusals.{judge_pending, judge_last, dump_by, dump_in, IsOpening}
+use Rattle.dms_restore.specs.Refusals.{judge_pending, judge_last, IsOpening}
 use Rattle.dms_restore.specs.Scanned.{IsNoEntryOf}
 use Rattle.dms_restore.specs.SchemaSpans.{span_bytes}
 use Rattle.dms_restore.specs.Table.{IsTable}
@@ -106,19 +107,12 @@ chosen_lives files entries h next c t chooses = by_kind c.begins refl
         let is : live_of entries ≡ until_first (is_point p.point) p.entries ++ events_at files (drop kept live) = t.live_is ∙ parts ∙ ap (λ (l : List Event). l ++ events_at files (drop kept live)) (sym front) in
         subst (λ n. IsLive (live_of entries) n) chooses.is.point_is (live_front p.entries (live_of entries) (events_at files (drop kept live)) p.point lives is)
 
-by_audit : (how : How) → ByAudit how → dump_by how ≡ None
-by_audit halt_load is = refl
-by_audit back_out is = refl
-by_audit roll_back is = refl
-by_audit (rebuild d) is = absurd is
-by_audit (reconstruct d named) is = absurd is
-
 no_dump_in : (h : History) (next : ℕ) (c : Choice) → Chooses h next c → dump_in h.pending ≡ None
 no_dump_in h next c chooses = by_kind c.begins refl
   where
     by_kind : (b : Bool) → c.begins ≡ b → dump_in h.pending ≡ None
     by_kind true on = ap dump_in (chooses.is.new on).0
-    by_kind false off = let o = chooses.is.goes_on off in ap dump_in o.0 ∙ by_audit chooses.restore.how o.1
+    by_kind false off = let o = chooses.is.goes_on off in ap dump_in o.0 ∙ audit_no_dump chooses.restore.how o.1
 
 -- ---- the description at it
 

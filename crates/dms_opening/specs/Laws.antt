@@ -1,5 +1,5 @@
 -- Laws of openings.
-use Rattle.std.specs.Prelude.{ℕ, ◌≤◌, ◌≡◌, List, length, Some, None}
+use Rattle.std.specs.Prelude.{ℕ, ◌≤◌, ◌≡◌, List, length, Some}
 use Rattle.dms_site.specs.Files.{Files}
 use Rattle.dms_history.specs.Places.{IsLive}
 use Rattle.dms_history.specs.History.{last_point}
@@ -10,7 +10,6 @@ use Rattle.dms_audfile.specs.TrailEntries.{trail_entries}
 use Rattle.dms_running.specs.Standing.{IsWhole}
 use Rattle.dms_restore.specs.declared.choosing.OpenFault.{OpenFault}
 use Rattle.dms_restore.specs.Logging.{telling_of}
-use Rattle.dms_restore.specs.Refusals.{dump_in}
 use Rattle.dms_opening.specs.Plans.{IsPlainFault, RefusesPlan}
 
 -- The last point is live, and the Schema there has from 1 to 65,535 bytes.
@@ -23,8 +22,7 @@ pub record LastIsDescribed (entries : List Entry) : Type 0 where
   pub some : 1 ≤ length bytes
   pub few : length bytes ≤ 65535
 
--- Nothing but a call of the site or want of memory keeps an opening from files that hold a database, whose last point is live and described,
--- and over which no restore by a dump is pending.
+-- Nothing but a call of the site or want of memory keeps an opening from files that hold a database, whose last point is live and described.
 abbrev pub WholeIsOpened : Type 0
 WholeIsOpened = (total first : ℕ) (files : Files) (fault : OpenFault) → IsWhole (telling_of total first) files → LastIsDescribed (trail_entries total first files)
-    → dump_in (history_of (trail_entries total first files)).pending ≡ None → RefusesPlan total first files fault → IsPlainFault fault
+    → RefusesPlan total first files fault → IsPlainFault fault

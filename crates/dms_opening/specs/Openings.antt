@@ -22,6 +22,7 @@ use Rattle.dms_audfile.specs.TrailEntries.{trail_entries}
 use Rattle.dms_audfile.specs.declared.fault.AudFault.{AudFault}
 use Rattle.dms_audfile.specs.declared.fault.AudFault.TheVariants as aud
 use Rattle.dms_audfile.specs.declared.place.EntryPlace.{EntryPlace}
+use Rattle.dms_running.specs.FromDumps.{NoDumpPending}
 use Rattle.dms_running.specs.Telling.{Telling}
 use Rattle.dms_running.specs.Standing.{IsWhole}
 use Rattle.dms_running.specs.Points.{points_of, next_in}
@@ -34,7 +35,6 @@ use Rattle.dms_restore.specs.Choices.{Chooses}
 use Rattle.dms_restore.specs.Counts.{count_of, file_counts}
 use Rattle.dms_restore.specs.Logging as logs
 use Rattle.dms_restore.specs.Logging.{LogView, telling_of, telling, state, waits, LogRuns, entries, points, durable, content}
-use Rattle.dms_restore.specs.Refusals.{dump_in}
 use Rattle.dms_wal.specs.Lifting.{block_point, last_blocks}
 use Rattle.dms_wal.specs.Marks.{IsMarkOf, StandsUnder}
 use Rattle.dms_opening.specs.Plans.{IsPlainFault, RefusesPlan}
@@ -60,7 +60,7 @@ pub record NamesStructures (schema counts : List ℕ) : Type 0 where
 -- is pending, and these are the restore's point, the next number, the description at the point, and how many blocks each file has there.
 pub record OpensAt (total first : ℕ) (files : Files) (point next : ℕ) (schema counts : List ℕ) : Type 0 where
   pub trail : HasTrail total first files
-  pub no_dump : dump_in (history_of (trail_entries total first files)).pending ≡ None
+  pub no_dump : NoDumpPending (trail_entries total first files)
   pub choice : Choice
   pub chooses : Chooses (history_of (trail_entries total first files)) (next_of (trail_entries total first files)) choice
   pub point_is : choice.point ≡ point
@@ -151,12 +151,11 @@ pub record IsFullIn (files now : Files) : Type 0 where
 abbrev pub MayHaveWritten : OpenFault → Type 0
 MayHaveWritten fault = (fault ≡ Audit aud.Disk) ⊎ IsFullFault fault
 
--- These files hold a database, whose last point is live and described, and no restore by a dump is pending.
+-- These files hold a database, whose last point is live and described.
 pub record IsOpenable (total first : ℕ) (files : Files) : Type 0 where
   pub trail : HasTrail total first files
   pub whole : IsWhole (telling_of total first) files
   pub described : LastIsDescribed (trail_entries total first files)
-  pub no_dump : dump_in (history_of (trail_entries total first files)).pending ≡ None
 
 -- What has nothing to do with the files: a failed call, want of memory, an audit without room.
 abbrev pub IsNoRefusal : OpenFault → Type 0

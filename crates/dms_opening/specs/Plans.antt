@@ -10,6 +10,7 @@ use Rattle.dms_audfile.specs.Ends.{Grown}
 use Rattle.dms_audfile.specs.TrailEntries.{trail_entries}
 use Rattle.dms_audfile.specs.declared.fault.AudFault.TheVariants as aud
 use Rattle.dms_audfile.specs.declared.place.EntryPlace.{EntryPlace}
+use Rattle.dms_running.specs.FromDumps.{NoDumpPending}
 use Rattle.dms_restore.specs.declared.choosing.OpenFault.{OpenFault}
 use Rattle.dms_restore.specs.declared.choosing.OpenFault.TheVariants.{Audit}
 use Rattle.dms_restore.specs.declared.choosing.Choice.{Choice}
@@ -17,7 +18,6 @@ use Rattle.dms_restore.specs.declared.trace.TrailTrace.{TrailTrace}
 use Rattle.dms_restore.specs.Choices.{RefusesOpening, Chooses}
 use Rattle.dms_restore.specs.Counts.{count_of}
 use Rattle.dms_restore.specs.PointCounts.{AllAtMost}
-use Rattle.dms_restore.specs.Refusals.{dump_in}
 use Rattle.dms_restore.specs.Scanned.{AreEntryPlaces}
 use Rattle.dms_restore.specs.Table.{AreBlocks, IsTable}
 use Rattle.dms_restore.specs.Traces.{IsTraceOf}
@@ -32,7 +32,7 @@ pub record IsTrailRead (total first : ℕ) (files : Files) (places : List EntryP
 -- Nothing is refused, and this is what the opening does. For the restore that it begins or goes on with, the table is what the audit tells
 -- at the point, however the trail grows. The counts, the description and the next number are those there.
 pub record Plans (total first : ℕ) (files : Files) (plan : Plan) : Type 0 where
-  pub no_dump : dump_in (history_of (trail_entries total first files)).pending ≡ None
+  pub no_dump : NoDumpPending (trail_entries total first files)
   pub chooses : Chooses (history_of (trail_entries total first files)) (next_of (trail_entries total first files)) plan.choice
   pub table_is : (new : Files) → Grown total first files new → IsTable chooses.restore.entries chooses.restore.point new plan.table.items
   pub counts_are : (f : ℕ) → count_of plan.counts.items f ≡ count_at chooses.restore.entries chooses.restore.point f

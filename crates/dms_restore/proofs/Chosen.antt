@@ -9,13 +9,14 @@ use Rattle.dms_history.specs.Entries.{Entry}
 use Rattle.dms_history.specs.EntryEvents.{history_of, next_of}
 use Rattle.dms_history.proofs.Judging.{each_judged}
 use Rattle.dms_running.specs.Begun.{ByAudit}
+use Rattle.dms_running.specs.FromDumps.{dump_by, dump_in}
 use Rattle.dms_restore.specs.declared.choosing.OpenFault.{OpenFault}
 use Rattle.dms_restore.specs.declared.choosing.OpenFault.TheVariants.{ByDump}
 use Rattle.dms_restore.specs.declared.judging.PointFault.{PointFault}
 use Rattle.dms_restore.specs.declared.live.PendingAt.{PendingAt}
 use Rattle.dms_restore.specs.declared.tracing.TrailHistory.{TrailHistory}
 use Rattle.dms_restore.specs.Judged.{refusal_of}
-use Rattle.dms_restore.specs.Refusals.{RefusedPoint, at_point, judge_pending, judge_last, or_then, judge_opening, refusal_at, dump_by, dump_in}
+use Rattle.dms_restore.specs.Refusals.{RefusedPoint, at_point, judge_pending, judge_last, or_then, judge_opening, refusal_at}
 use Rattle.dms_restore.specs.Choices.{PointIsRefused, RefusesOpening, Chooses}
 use Rattle.dms_restore.specs.Tracing.{MatchesHow, IsTraced}
 use Rattle.dms_restore.proofs.Refused.{none_pending, some_pending}

@@ -3,12 +3,13 @@ use Rattle.std.specs.Prelude.{ℕ, ◌-◌, ◌≡◌, ◌⊎◌, Some, None}
 use Rattle.dms_history.specs.History.{Pending, History}
 use Rattle.dms_history.specs.Judge.{no_such_point, audit_missing, voided}
 use Rattle.dms_audfile.specs.declared.fault.AudFault.TheVariants as aud
+use Rattle.dms_running.specs.FromDumps.{dump_in}
 use Rattle.dms_restore.specs.declared.judging.PointFault.{PointFault}
 use Rattle.dms_restore.specs.declared.choosing.OpenFault.{OpenFault}
 use Rattle.dms_restore.specs.declared.choosing.OpenFault.TheVariants.{Audit, NoSuchPoint, Voided, ByDump}
 use Rattle.dms_restore.specs.declared.choosing.Choice.{Choice}
 use Rattle.dms_restore.specs.Judged.{refusal_of}
-use Rattle.dms_restore.specs.Refusals.{RefusedPoint, judge_opening, IsOpening, dump_in}
+use Rattle.dms_restore.specs.Refusals.{RefusedPoint, judge_opening, IsOpening}
 
 -- the fault that names this point and why it can't be had; the audit file before the trail's first is missing
 abbrev pub IsOfPoint : ℕ → RefusedPoint → OpenFault → Type 0

@@ -1,6 +1,6 @@
 -- Why a database can't be opened at its points.
 use Rattle.std.specs.Prelude.{ℕ, ◌≡◌, Bool, true, false, List, Option, Some, None}
-use Rattle.dms_history.specs.Events.{Event, How, halt_load, back_out, roll_back, rebuild, reconstruct}
+use Rattle.dms_history.specs.Events.{Event, halt_load}
 use Rattle.dms_history.specs.Places.{IsLive}
 use Rattle.dms_history.specs.History.{Pending, History, last_point}
 use Rattle.dms_history.specs.Judge.{PointRefusal, audit_missing, judge_point}
@@ -47,15 +47,3 @@ pub record IsOpening (h : History) (begins : Bool) (point : ℕ) (p : Pending) :
   pub point_is : p.point ≡ point
   pub new : begins ≡ true → (h.pending ≡ None) × (last_point h ≡ Some point) × IsLive h.live point × (p ≡ record { entries = h.live; point = point; how = halt_load })
   pub goes_on : begins ≡ false → (h.pending ≡ Some p) × ByAudit p.how
-
--- the number of the dump by which a restore goes
-abbrev pub dump_by : How → Option ℕ
-dump_by halt_load = None
-dump_by back_out = None
-dump_by roll_back = None
-dump_by (rebuild d) = Some d
-dump_by (reconstruct d named) = Some d
-
-abbrev pub dump_in : Option Pending → Option ℕ
-dump_in None = None
-dump_in (Some p) = dump_by p.how

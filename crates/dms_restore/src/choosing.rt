@@ -6,7 +6,8 @@ ghost use Rattle.dms_history.specs.Events.{How};
 ghost use Rattle.dms_history.specs.History.{History};
 ghost use Rattle.dms_history.specs.Entries as meaning;
 ghost use Rattle.dms_history.specs.EntryEvents.{history_of, next_of};
-ghost use Rattle.dms_restore.specs.Refusals.{dump_by, dump_in, judge_opening};
+ghost use Rattle.dms_running.specs.FromDumps.{dump_by, dump_in};
+ghost use Rattle.dms_restore.specs.Refusals.{judge_opening};
 ghost use Rattle.dms_restore.specs.Choices.{PointIsRefused, RefusesOpening, Chooses};
 ghost use Rattle.dms_restore.specs.Tracing.{MatchesHow, IsTraced};
 

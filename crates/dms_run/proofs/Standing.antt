@@ -108,7 +108,7 @@ module _ (total first : ℕ) (files : Files) (desc : Described) (well : IsWellFo
   TellsAt n db = IsLive live n × (schema_at entries n ≡ Some (spelling desc)) × (spelled desc (blocks_at live counted n) ≡ Some db)
 
   abbrev state_by : (n : ℕ) (db : Db) → TellsAt n db → StateAt files n desc db
-  state_by n db t = record { entries = entries; finds = w.found.finds; agrees = agrees; lives = t.0; described = t.1; well_formed = well; spells = t.2 }
+  state_by n db t = record { entries = entries; finds = w.found.finds; agrees = agrees; no_dump = w.no_dump; lives = t.0; described = t.1; well_formed = well; spells = t.2 }
 
   module _ (front after : List DescribedPoint) (p : DescribedPoint) (n : ℕ) (db : Db) (are : points_of (telling_of total first) files ≡ front ++ p ∷ after) (number : p.number ≡ n) (schema : p.schema ≡ spelling desc)
       (spells : spelled desc p.blocks ≡ Some db) where

@@ -39,6 +39,7 @@ use Rattle.dms_audfile.specs.TrailEntries.{trail_entries}
 use Rattle.dms_audfile.proofs.Again.{found_are_entries}
 use Rattle.dms_audfile.proofs.Kept.{found_is_kept}
 use Rattle.dms_audfile.proofs.There.{entries_are_there}
+use Rattle.dms_running.specs.FromDumps.{NoDumpPending}
 use Rattle.dms_running.specs.Standing.{IsWhole}
 use Rattle.dms_running.specs.Points.{schema_bytes, described_in, points_of}
 use Rattle.dms_running.proofs.Wholes.{agrees_whole}
@@ -178,7 +179,7 @@ module _ (files : Files) (n : ℕ) (desc : Described) (db : Db) (s : StateOf fil
 
   whole : IsWhole (telling_of total first) files
   whole = agrees_whole (telling_of total first) files found agrees (has_front (is_point n) is_described live lives.described)
-      (λ p is. (pending_cuts (events all) p (alone_events all agrees.alone) is).lives n lives) images sized
+      (λ p is. (pending_cuts (events all) p (alone_events all agrees.alone) is).lives n lives) images sized (subst NoDumpPending same s.at_point.no_dump)
 
   abbrev bare : List LivePoint
   bare = live_points live counted

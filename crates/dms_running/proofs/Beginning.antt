@@ -25,6 +25,7 @@ use Rattle.dms_history.proofs.Sealed.{begin_sealed, one_more_event}
 use Rattle.dms_history.proofs.Keeping.{kept_begin}
 use Rattle.dms_history.proofs.Listed.{points_listed, one_list, points_stay}
 use Rattle.dms_history.proofs.ListSteps.{lists_begin, last_keeps_all}
+use Rattle.dms_running.specs.FromDumps.{dump_in, NoDumpPending}
 use Rattle.dms_running.specs.Telling.{Telling, IsTelling}
 use Rattle.dms_running.specs.Standing.{Stands, MayRun}
 use Rattle.dms_running.specs.Points.{described_in, points_told, points_of, next_in, LeavesPointsPrefix}
@@ -32,6 +33,7 @@ use Rattle.dms_running.specs.Sealing.{SealsSome, Appended, AreSealed, Settled}
 use Rattle.dms_running.specs.Running.{State, entries_now, next_now, points_now, durable_now, IsRunning, IsAnOutcome, LeavesPoints}
 use Rattle.dms_running.specs.Begun.{ByAudit, IsBegun, IsLast, restore_to, outcome_now, content_at_point}
 use Rattle.dms_running.proofs.Described.{all_placed, described_begun}
+use Rattle.dms_running.proofs.FromDumps.{audit_no_dump}
 use Rattle.dms_running.proofs.MayRun.{counted, sound, points_are}
 use Rattle.dms_running.proofs.Plain.{push_all, take_whole}
 use Rattle.dms_running.proofs.Stopped.{front_left, blocks_same}
@@ -66,6 +68,9 @@ module _ (first : Bool) (es : List Entry) (d : Dumps) (base : Content) (st : Sto
 
   pub begin_is : history_of with_begin ≡ after_event (history_of es) (begin m (how_of kind))
   begin_is = ap history (begin_sealed es m kind) ∙ one_more_event (events es) (begin m (how_of kind))
+
+  pub begin_no_dump : NoDumpPending with_begin
+  begin_no_dump = ap (λ (h : History). dump_in h.pending) begin_is ∙ audit_no_dump (how_of kind) by_audit
 
   live_is : live_of with_begin ≡ until_first (is_point m) (live_of es)
   live_is = ap (λ (h : History). h.live) begin_is
@@ -155,7 +160,7 @@ module _ (t : Telling) (telling : IsTelling t) (a : State) (r : IsRunning t a) (
     front_all is =
         let left = all_left t (points_now t a) (next_now t a) x (ap (λ (l : List Entry). points_told (t.dumps x.files) l (stored_of x.files)) is ∙ points_all)
         (omega (arith, ap (λ (l : List Entry). next_of l) is, next_all))
-        (record { found = s.found (r.found y now); base = base; stands = subst (λ (l : List Entry). Stands t.first l (t.dumps x.files) base (stored_of x.files)) (sym is) at_begin }) in
+        (record { found = s.found (r.found y now); base = base; stands = subst (λ (l : List Entry). Stands t.first l (t.dumps x.files) base (stored_of x.files)) (sym is) at_begin; no_dump = ap (λ (l : List Entry). dump_in (history_of l).pending) is ∙ begin_no_dump t.first all (t.dumps x.files) base (stored_of x.files) run_all m kind by_audit at.lives }) in
         record {
           count = left.count;
           enough = omega (arith, left.enough, points_enough t telling a r read);

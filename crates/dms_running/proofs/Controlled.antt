@@ -29,6 +29,7 @@ use Rattle.dms_history.proofs.SchemaParts.{parts_say_nothing, schema_in_parts}
 use Rattle.dms_history.proofs.Keeping.{kept_schema, kept_control, kept_in_parts}
 use Rattle.dms_history.proofs.Listed.{points_listed, one_list}
 use Rattle.dms_history.proofs.ListSteps.{lists_control}
+use Rattle.dms_running.specs.FromDumps.{dump_in, NoDumpPending}
 use Rattle.dms_running.specs.Telling.{Telling, IsTelling}
 use Rattle.dms_running.specs.Standing.{Stands, MayRun}
 use Rattle.dms_running.specs.Points.{described_in, points_told, next_in}
@@ -146,6 +147,12 @@ module _ (first : Bool) (es : List Entry) (d : Dumps) (base : Content) (st : Sto
         | inr all ↦ ap (λ (l : List Entry). points_told d (es ++ l) st) all ∙ whole_points
       ]
 
+      pub part_no_dump : NoDumpPending es → NoDumpPending (es ++ take k plan)
+      part_no_dump none = elim (schema_in_parts k one rest (control_point n next counts)) [
+        | inl parts ↦ ap (λ (h : History). dump_in h.pending) (part_history parts) ∙ none
+        | inr all ↦ ap (λ (l : List Entry). dump_in (history_of (es ++ l)).pending) all ∙ ap (λ (h : History). dump_in h.pending) whole_is
+      ]
+
       pub part_next : next_of es ≤ next_of (es ++ take k plan)
       part_next = elim (schema_in_parts k one rest (control_point n next counts)) [
         | inl parts ↦ subst (λ (l : List Event). next_of es ≤ next_number l) (sym (parts_say_nothing es (take k plan) parts).1) (omega arith)
@@ -208,6 +215,7 @@ module _ (t : Telling) (telling : IsTelling t) (a : State) (r : IsRunning t a) (
     points = part_points t.first (t.entries a.files) (t.dumps a.files) base (stored_of a.files) n (next_in t a.files) c.first c.rest counts m.stands kept placed (omega arith);
     next = part_next t.first (t.entries a.files) (t.dumps a.files) base (stored_of a.files) n (next_in t a.files) c.first c.rest counts m.stands kept placed (omega arith);
     stands = part_stands t.first (t.entries a.files) (t.dumps a.files) base (stored_of a.files) n (next_in t a.files) c.first c.rest counts m.stands kept placed (omega arith);
+    no_dump = λ k. part_no_dump t.first (t.entries a.files) (t.dumps a.files) base (stored_of a.files) n (next_in t a.files) c.first c.rest counts m.stands kept placed (omega arith) k (ap dump_in m.none);
   })
 
   whole : MayRun t.first (t.entries a.files ++ es) (t.dumps a.files) base (stored_of a.files)

@@ -24,9 +24,10 @@ use Rattle.dms_running.specs.Points.{points_told, points_of, next_in}
 use Rattle.dms_running.specs.Sealing.{SealsSome, Appended, Settled}
 use Rattle.dms_running.specs.Running.{State, entries_now, content_now, points_now, IsRunning, IsAnOutcome}
 use Rattle.dms_running.specs.Begun.{IsBegun, LeavesAll, IsRestored, outcome_now, IsSchemaControl}
+use Rattle.dms_running.proofs.FromDumps.{begun_no_dump}
 use Rattle.dms_running.proofs.Stopped.{blocks_same}
 use Rattle.dms_running.proofs.Appending.{content_of}
-use Rattle.dms_running.proofs.Controlled.{schema_parts, same_history, same_next, behind, kept_parts, whole_may, whole_points, part_points, part_next, part_stands}
+use Rattle.dms_running.proofs.Controlled.{schema_parts, same_history, same_next, behind, kept_parts, whole_may, whole_points, part_points, part_next, part_no_dump, part_stands}
 use Rattle.dms_running.specs.Plans.{KeepsAll, Planned}
 use Rattle.dms_running.proofs.Planned.{still_runs, plan_leaves}
 use Rattle.dms_running.proofs.Restored.{read_stands}
@@ -72,6 +73,7 @@ module _ (t : Telling) (telling : IsTelling t) (p : Pending) (a : State) (r : Is
     points = part_points t.first old (t.dumps a.files) base (stored_of a.files) p.point (next_in t a.files) c.first c.rest counts s kept placed (omega arith);
     next = part_next t.first old (t.dumps a.files) base (stored_of a.files) p.point (next_in t a.files) c.first c.rest counts s kept placed (omega arith);
     stands = part_stands t.first old (t.dumps a.files) base (stored_of a.files) p.point (next_in t a.files) c.first c.rest counts s kept placed (omega arith);
+    no_dump = λ k. part_no_dump t.first old (t.dumps a.files) base (stored_of a.files) p.point (next_in t a.files) c.first c.rest counts s kept placed (omega arith) k (begun_no_dump old p r.pending r.by_audit);
   })
 
   whole : MayRun t.first (old ++ es) (t.dumps a.files) base (stored_of a.files)

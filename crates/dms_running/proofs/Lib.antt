@@ -1,4 +1,5 @@
 pub mod Described
+pub mod FromDumps
 pub mod MayRun
 pub mod Plain
 pub mod Stopped

@@ -8,8 +8,9 @@ use Rattle.dms_site.specs.Files.{Files, Left, Only, stored_of}
 use Rattle.dms_history.specs.Events.{Content, Stored}
 use Rattle.dms_history.specs.Pick.{Dumps}
 use Rattle.dms_history.specs.Entries.{Entry}
-use Rattle.dms_history.specs.EntryEvents.{next_of}
+use Rattle.dms_history.specs.EntryEvents.{history_of, next_of}
 use Rattle.dms_history.proofs.Order.{append_none}
+use Rattle.dms_running.specs.FromDumps.{dump_in}
 use Rattle.dms_running.specs.Telling.{Telling, IsTelling}
 use Rattle.dms_running.specs.Standing.{Stands, MayRun, IsWhole}
 use Rattle.dms_running.specs.Points.{DescribedPoint, points_told, points_of, next_in, LeavesPointsPrefix}
@@ -134,7 +135,7 @@ module _ (t : Telling) (telling : IsTelling t) (es : List Entry) (a : State) (ba
       all_left t (points_of t a.files) (next_in t a.files) x
       ((λ i. points_told (telling.dumps_between x.files a.files (λ g up below. p.above g up) i) (p.sealed i) (blocks_same x.files a.files p.above i)) ∙ keeps.points p.some)
       (subst (λ (l : List Entry). next_in t a.files ≤ next_of l) (sym p.sealed) (keeps.next p.some))
-      (record { found = p.found finds; base = base; stands = carried t telling a.files x.files (t.entries x.files) base p.above (subst (λ (l : List Entry). Stands t.first l (t.dumps a.files) base (stored_of a.files)) (sym p.sealed) (keeps.stands p.some)) })
+      (record { found = p.found finds; base = base; stands = carried t telling a.files x.files (t.entries x.files) base p.above (subst (λ (l : List Entry). Stands t.first l (t.dumps a.files) base (stored_of a.files)) (sym p.sealed) (keeps.stands p.some)); no_dump = ap (λ (l : List Entry). dump_in (history_of l).pending) p.sealed ∙ keeps.no_dump p.some })
 
   -- a stop while they are appended and sealed leaves all points
   pub plan_leaves : (later : Clock Left) → Runs a.clock later (Planned t es a.files) → LeavesAll t a later

@@ -22,12 +22,14 @@ use Rattle.dms_history.proofs.ToldBlocks.{tells_blocks}
 use Rattle.dms_history.proofs.LastPending.{here_fixed}
 use Rattle.dms_history.proofs.Keeping.{kept_restores}
 use Rattle.dms_history.proofs.Sizing.{sized_replay}
+use Rattle.dms_running.specs.FromDumps.{dump_in}
 use Rattle.dms_running.specs.Telling.{Telling, IsTelling}
 use Rattle.dms_running.specs.Standing.{Stands}
 use Rattle.dms_running.specs.Points.{described_in, points_told, points_of, next_in, LeavesPointsPrefix}
 use Rattle.dms_running.specs.Running.{State, IsAnOutcome}
 use Rattle.dms_running.specs.Restoring.{IsKept, Rewritten, Rewrites, RestoredTo}
 use Rattle.dms_running.specs.Begun.{ByAudit, IsBegun, LeavesAll, IsRestored, outcome_now}
+use Rattle.dms_running.proofs.FromDumps.{begun_no_dump}
 use Rattle.dms_running.proofs.Planned.{all_left}
 
 takes_unlogged : (how : How) (live : List Event) (m f b : ℕ) → ByAudit how → takes_stored how live m f b ≡ is_unlogged live m f b
@@ -135,7 +137,7 @@ module _ (t : Telling) (telling : IsTelling t) (p : Pending) (a : State) (r : Is
         ∙ points_fixed t.first es r.base (t.dumps x.files) p r.pending r.by_audit (stored_of x.files) (stored_of a.files) rewrites_stands (other_dumps (t.dumps a.files) (t.dumps x.files) (stored_of a.files) read_stands)
         ∙ others)
         (omega (arith, ap (λ (l : List Entry). next_of l) rewrites_entries))
-        (record { found = rewrites_found; base = r.base; stands = subst (λ (l : List Entry). Stands t.first l (t.dumps x.files) r.base (stored_of x.files)) (sym rewrites_entries) rewrites_stands })
+        (record { found = rewrites_found; base = r.base; stands = subst (λ (l : List Entry). Stands t.first l (t.dumps x.files) r.base (stored_of x.files)) (sym rewrites_entries) rewrites_stands; no_dump = ap (λ (l : List Entry). dump_in (history_of l).pending) rewrites_entries ∙ begun_no_dump es p r.pending r.by_audit })
       where
         others : points_told (t.dumps x.files) es (stored_of a.files) ≡ points_told (t.dumps a.files) es (stored_of a.files)
         others =

@@ -11,9 +11,10 @@ use Rattle.dms_history.specs.Base.{from_control, Sound}
 use Rattle.dms_history.specs.Pick.{Dumps}
 use Rattle.dms_history.specs.Points.{LivePoint, numbers_from, live_numbers, point_at, live_points}
 use Rattle.dms_history.specs.Entries.{Entry}
-use Rattle.dms_history.specs.EntryEvents.{live_of, next_of}
+use Rattle.dms_history.specs.EntryEvents.{history_of, live_of, next_of}
 use Rattle.dms_history.proofs.Order.{append_none}
 use Rattle.dms_history.proofs.Listed.{points_front}
+use Rattle.dms_running.specs.FromDumps.{dump_in}
 use Rattle.dms_running.specs.Telling.{Telling, IsTelling}
 use Rattle.dms_running.specs.Standing.{Stands, MayRun}
 use Rattle.dms_running.specs.Points.{DescribedPoint, described_in, points_told, points_of, LeavesPointsPrefix}
@@ -93,7 +94,7 @@ module _ (t : Telling) (telling : IsTelling t) (a : State) (es : List Entry) (ba
           count_told t.first (old ++ take k es) (t.dumps x.files) base (stored_of x.files) here,
           count_told t.first (old ++ es) (t.dumps a.files) base (stored_of a.files) whole_read,
         );
-        whole = record { found = found; base = base; stands = subst (λ (l : List Entry). Stands t.first l (t.dumps x.files) base (stored_of x.files)) (sym is) here.stands };
+        whole = record { found = found; base = base; stands = subst (λ (l : List Entry). Stands t.first l (t.dumps x.files) base (stored_of x.files)) (sym is) here.stands; no_dump = ap (λ (l : List Entry). dump_in (history_of l).pending) is ∙ ap dump_in here.none };
       }
 
   -- what stands after so many of the entries were sealed

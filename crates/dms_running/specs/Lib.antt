@@ -1,4 +1,5 @@
 pub mod Telling
+pub mod FromDumps
 pub mod Standing
 pub mod Points
 pub mod Sealing

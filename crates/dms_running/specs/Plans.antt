@@ -5,6 +5,7 @@ use Rattle.dms_site.specs.Files.{Files, Left, stored_of}
 use Rattle.dms_history.specs.Events.{Content}
 use Rattle.dms_history.specs.Entries.{Entry}
 use Rattle.dms_history.specs.EntryEvents.{next_of}
+use Rattle.dms_running.specs.FromDumps.{NoDumpPending}
 use Rattle.dms_running.specs.Telling.{Telling}
 use Rattle.dms_running.specs.Standing.{Stands}
 use Rattle.dms_running.specs.Points.{points_told, points_of, next_in}
@@ -26,8 +27,10 @@ pub record Lays (t : Telling) (es : List Entry) (start : Files) (old : Clock Lef
   pub since : Runs old s.clock (Planned t es start)
   pub now : (x : Left) → Now s.clock x → Planned t es start x
 
--- What holds of each prefix of a plan: it has the points of the start, a next number that is no lower, and stands.
+-- What holds of each prefix of a plan: it has the points of the start, a next number that is no lower, and stands, and no restore by a dump is
+-- pending.
 pub record KeepsAll (t : Telling) (es : List Entry) (start : Files) (base : Content) : Type 0 where
   pub points : (k : ℕ) → points_told (t.dumps start) (t.entries start ++ take k es) (stored_of start) ≡ points_of t start
   pub next : (k : ℕ) → next_in t start ≤ next_of (t.entries start ++ take k es)
   pub stands : (k : ℕ) → Stands t.first (t.entries start ++ take k es) (t.dumps start) base (stored_of start)
+  pub no_dump : (k : ℕ) → NoDumpPending (t.entries start ++ take k es)

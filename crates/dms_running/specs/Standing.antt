@@ -10,6 +10,7 @@ use Rattle.dms_history.specs.Entries.{Entry}
 use Rattle.dms_history.specs.EntryEvents.{history_of, live_of}
 use Rattle.dms_history.specs.Kept.{Kept}
 use Rattle.dms_history.specs.Sizes.{AllSized, ImagesSized}
+use Rattle.dms_running.specs.FromDumps.{NoDumpPending}
 use Rattle.dms_running.specs.Telling.{Telling}
 
 -- All that a database keeps between two calls is kept over a base, a Control directly behind a whole Schema is live, and each block
@@ -25,8 +26,9 @@ pub record MayRun (first : Bool) (entries : List Entry) (dumps : Dumps) (base : 
   pub stands : Stands first entries dumps base stored
   pub none : (history_of entries).pending ≡ None
 
--- Files hold a database, be a restore pending or not: scanning finds its entries, and all stands.
+-- Files hold a database, be a restore by the audit pending or not: scanning finds its entries, all stands, and no restore by a dump is pending.
 pub record IsWhole (t : Telling) (files : Files) : Type 0 where
   pub found : t.found files
   pub base : Content
   pub stands : Stands t.first (t.entries files) (t.dumps files) base (stored_of files)
+  pub no_dump : NoDumpPending (t.entries files)

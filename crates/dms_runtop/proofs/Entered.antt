@@ -126,7 +126,7 @@ module _ {S : Type 0} (g : Ghosts S) (old : S) (s : DatabaseState) where
   -- ---- it wasn't opened
 
   pub openable : (h : HoldsState (g.files old) s) → IsOpenable h.total h.first (g.files old)
-  openable h = record { trail = h.trail; whole = h.whole; described = h.described; no_dump = h.no_dump }
+  openable h = record { trail = h.trail; whole = h.whole; described = h.described }
 
   undone_open : (fault : OpenFault) → IsNoRefusal fault → IsUndone (open_status fault)
   undone_open fault (inl (inl is)) = subst (λ (f : OpenFault). IsUndone (open_status f)) (sym is) tt

@@ -9,7 +9,6 @@ use Rattle.dms_scriptlaws.specs.Truths.{IsStart}
 use Rattle.dms_desc.specs.Shape.{Described}
 use Rattle.dms_desc_bytes.specs.Spelling.{spelling}
 use Rattle.dms_desc_bytes.specs.WellFormed.{IsWellFormed}
-use Rattle.dms_history.specs.EntryEvents.{history_of}
 use Rattle.dms_model.specs.Db.{Db}
 use Rattle.dms_site.specs.declared.site.Site.{Ghosts}
 use Rattle.dms_site.specs.Files.{Files, Left, Same}
@@ -17,7 +16,6 @@ use Rattle.dms_audfile.specs.TrailEntries.{trail_entries}
 use Rattle.dms_running.specs.Standing.{IsWhole}
 use Rattle.dms_running.specs.Points.{points_of, next_in}
 use Rattle.dms_restore.specs.declared.choosing.OpenFault.{OpenFault}
-use Rattle.dms_restore.specs.Refusals.{dump_in}
 use Rattle.dms_restore.specs.Logging.{telling_of, telling, points}
 use Rattle.dms_wal.specs.Database.{view_of}
 use Rattle.dms_run.specs.States.{LivesEndWith}
@@ -36,15 +34,13 @@ pub record DatabaseState : Type 0 where
   pub db : Db
 
 -- Files stand for this state: scanning refuses nothing, the entries agree with the dumps and blocks, and their last live point has that number. The last
--- whole live Schema before its place is that of the description, which is well-formed, and the blocks at the point spell the database. No restore by a
--- dump is pending.
+-- whole live Schema before its place is that of the description, which is well-formed, and the blocks at the point spell the database.
 pub record HoldsState (files : Files) (s : DatabaseState) : Type 0 where
   pub total : ℕ
   pub first : ℕ
   pub trail : HasTrail total first files
   pub whole : IsWhole (telling_of total first) files
   pub described : LastIsDescribed (trail_entries total first files)
-  pub no_dump : dump_in (history_of (trail_entries total first files)).pending ≡ None
   pub state : LivesEndWith s.desc (points_of (telling_of total first) files) s.point s.db
   pub formed : IsWellFormed s.desc
 
@@ -85,7 +81,7 @@ module _ {S : Type 0} (g : Ghosts S) where
       → Runs (g.clock old) (g.clock new) (RunStands s.desc (seen_site g old).said (points_of (telling_of h.total h.first) (g.files old)) s.point s.db (next_in (telling_of h.total h.first) (g.files old))
       (answers_quiets s.desc s.db (next_in (telling_of h.total h.first) (g.files old)) (raw_lines all)))
 
-  -- files that hold a database, whose last point is live and described, and over which no restore by a dump is pending, are refused by nothing
+  -- files that hold a database, whose last point is live and described, are refused by nothing
   abbrev pub NeverRefuses : S → Status → Type 0
   NeverRefuses old status = IsTrue g.tells → (total first : ℕ) → IsOpenable total first (g.files old) → IsRefusal status → ⊥
 

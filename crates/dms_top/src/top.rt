@@ -254,7 +254,7 @@ pub fn dms<S: Site, I: Source>(
     // the statuses 3, 4, and 9 of a file that is no structure file, are the first refusal of the files: no file has changed, and a stop leaves what it
     // could leave before
     ensures run_refused { OnRun words.now (IsRefusal result → RefusesRun S.Site site.old site.new result) }
-    // neither comes where the files hold a database, whose last point is live and described, and over which no restore by a dump is pending
+    // neither comes where the files hold a database, whose last point is live and described
     ensures run_complete { OnRun words.now (NeverRefuses S.Site site.old result) }
     // of the state that is told: at every moment a stop leaves the database of one quiet point, at status 0 the last one's, and exactly the answers or a
     // prefix of them were printed
