@@ -26,18 +26,18 @@ use Rattle.dms_running.specs.Telling.{Telling}
 use Rattle.dms_running.specs.Standing.{IsWhole}
 use Rattle.dms_running.specs.Points.{DescribedPoint, points_of, next_in, LeavesPointsPrefix}
 use Rattle.dms_running.specs.Begun.{LeavesAll, outcome_now}
-use Rattle.dms_restore.specs.declared.choosing.OpenFault.TheVariants.{Audit}
+use Rattle.dms_opening.specs.declared.choosing.OpenFault.TheVariants.{Audit}
 use Rattle.dms_restore.specs.Bodies.{bodies}
 use Rattle.dms_restore.specs.Counts.{count_of, file_counts}
 use Rattle.dms_restore.specs.Laying.{schema_control}
 use Rattle.dms_restore.specs.Logging.{LogView, telling_of, telling, state, entries, points, content, PrintsNothing}
 use Rattle.dms_restore.specs.Table.{IsTable}
 use Rattle.dms_restore.specs.declared.told.Told.{Told}
-use Rattle.dms_restore.specs.Refusals.{IsOpening}
+use Rattle.dms_opening.specs.Refusals.{IsOpening}
 use Rattle.dms_restore.specs.Begins.{BegunAt}
-use Rattle.dms_restore.specs.Starts.{MayOpen, MayEnd, BegunFrom, OpenedAt}
+use Rattle.dms_opening.specs.Starts.{MayOpen, MayEnd, BegunFrom, OpenedAt}
 use Rattle.dms_restore.proofs.CountBytes.{IsCountTable, counts_read, counts_told}
-use Rattle.dms_restore.proofs.GoneOn.{each_on}
+use Rattle.dms_opening.proofs.GoneOn.{each_on}
 use Rattle.dms_wal.specs.Lifting.{last_blocks}
 use Rattle.dms_wal.specs.Marks.{last_number}
 use Rattle.dms_wal.proofs.Under.{under_control}

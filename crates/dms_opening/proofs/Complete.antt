@@ -7,8 +7,8 @@ use Rattle.dms_audfile.specs.Reads.{Refuses}
 use Rattle.dms_audfile.specs.declared.fault.AudFault.{AudFault}
 use Rattle.dms_audfile.specs.declared.fault.AudFault.TheVariants as aud
 use Rattle.dms_audfile.proofs.There.{is_one_trail}
-use Rattle.dms_restore.specs.declared.choosing.OpenFault.{OpenFault}
-use Rattle.dms_restore.specs.declared.choosing.OpenFault.TheVariants.{Audit}
+use Rattle.dms_opening.specs.declared.choosing.OpenFault.{OpenFault}
+use Rattle.dms_opening.specs.declared.choosing.OpenFault.TheVariants.{Audit}
 use Rattle.dms_opening.specs.Openings.{RefusesFiles, IsOpenable, IsNoRefusal}
 use Rattle.dms_opening.specs.Plans.{RefusesPlan}
 use Rattle.dms_opening.proofs.Completed.{whole_is_opened}

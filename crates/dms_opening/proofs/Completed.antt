@@ -19,10 +19,10 @@ use Rattle.dms_history.proofs.LastPending.{pending_cuts}
 use Rattle.dms_history.proofs.Running.{above_all}
 use Rattle.dms_audfile.specs.TrailEntries.{trail_entries}
 use Rattle.dms_running.specs.Standing.{IsWhole}
-use Rattle.dms_restore.specs.declared.choosing.Choice.{Choice}
-use Rattle.dms_restore.specs.Choices.{Chooses}
+use Rattle.dms_opening.specs.declared.choosing.Choice.{Choice}
+use Rattle.dms_opening.specs.Choices.{Chooses}
 use Rattle.dms_restore.specs.Logging.{telling_of}
-use Rattle.dms_restore.specs.Refusals.{at_point, judge_pending, judge_last, or_then, judge_opening}
+use Rattle.dms_opening.specs.Refusals.{at_point, judge_pending, judge_last, or_then, judge_opening}
 use Rattle.dms_opening.specs.Plans.{HasNoDescription}
 use Rattle.dms_opening.specs.Laws.{LastIsDescribed, WholeIsOpened}
 

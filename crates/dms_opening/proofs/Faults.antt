@@ -5,7 +5,7 @@ use Rattle.std.specs.declared.result.Result.TheVariants.{Err}
 use Rattle.dms_audfile.specs.Counting.{CountedAt}
 use Rattle.dms_audfile.specs.declared.fault.AudFault.{AudFault}
 use Rattle.dms_audfile.specs.declared.fault.AudFault.TheVariants.{Disk, Memory}
-use Rattle.dms_restore.specs.declared.choosing.OpenFault.TheVariants.{Audit}
+use Rattle.dms_opening.specs.declared.choosing.OpenFault.TheVariants.{Audit}
 use Rattle.dms_opening.specs.Plans.{IsPlainFault}
 
 same_fault : {T : Type 0} (fault e : AudFault) → IsErrOf {T = T} (Err (Audit fault)) (Audit e) → fault ≡ e

@@ -25,7 +25,7 @@ use Rattle.dms_history.proofs.Picks.{some_is}
 use Rattle.dms_running.specs.Telling.{Telling}
 use Rattle.dms_running.specs.Standing.{IsWhole}
 use Rattle.dms_running.specs.Points.{DescribedPoint, described_in, points_of}
-use Rattle.dms_restore.specs.Refusals.{IsOpening}
+use Rattle.dms_opening.specs.Refusals.{IsOpening}
 use Rattle.dms_wal.specs.Lifting.{last_blocks}
 use Rattle.dms_wal.specs.Marks.{number_from, last_number}
 use Rattle.dms_wal.proofs.Pointing.{IsTop, top_is}

@@ -10,3 +10,13 @@ pub mod Runs
 pub mod Callers
 pub mod Complete
 pub mod Trims
+pub mod Chosen
+pub mod Counted
+pub mod Describes
+pub mod GoneOn
+pub mod Judges
+pub mod Numbered
+pub mod Prepared
+pub mod Refused
+pub mod Started
+pub mod Standing

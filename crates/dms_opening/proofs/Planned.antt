@@ -24,24 +24,24 @@ use Rattle.dms_audfile.specs.declared.fault.AudFault.{AudFault}
 use Rattle.dms_audfile.specs.declared.fault.AudFault.TheVariants.{Disk, Damaged, Memory}
 use Rattle.dms_running.specs.FromDumps.{dump_in}
 use Rattle.dms_running.proofs.FromDumps.{audit_no_dump}
-use Rattle.dms_restore.specs.declared.choosing.Choice.{Choice}
-use Rattle.dms_restore.specs.declared.choosing.OpenFault.{OpenFault}
-use Rattle.dms_restore.specs.declared.choosing.OpenFault.TheVariants.{Audit}
+use Rattle.dms_opening.specs.declared.choosing.Choice.{Choice}
+use Rattle.dms_opening.specs.declared.choosing.OpenFault.{OpenFault}
+use Rattle.dms_opening.specs.declared.choosing.OpenFault.TheVariants.{Audit}
 use Rattle.dms_restore.specs.declared.schemas.SchemaSpan.{SchemaSpan}
 use Rattle.dms_restore.specs.declared.told.Told.{Told}
 use Rattle.dms_restore.specs.declared.trace.TrailTrace.{TrailTrace}
 use Rattle.dms_restore.specs.declared.tracing.TrailHistory.{TrailHistory}
-use Rattle.dms_restore.specs.Choices.{RefusesOpening, Chooses}
+use Rattle.dms_opening.specs.Choices.{RefusesOpening, Chooses}
 use Rattle.dms_restore.specs.Counts.{count_of}
 use Rattle.dms_restore.specs.LiveEntries.{events_at}
-use Rattle.dms_restore.specs.Refusals.{judge_pending, judge_last, IsOpening}
+use Rattle.dms_opening.specs.Refusals.{judge_pending, judge_last, IsOpening}
 use Rattle.dms_restore.specs.Scanned.{IsNoEntryOf}
 use Rattle.dms_restore.specs.SchemaSpans.{span_bytes}
 use Rattle.dms_restore.specs.Table.{IsTable}
 use Rattle.dms_restore.specs.Traces.{IsTraceOf}
 use Rattle.dms_restore.specs.Tracing.{IsTraced}
-use Rattle.dms_restore.proofs.Chosen.{or_none, at_none}
-use Rattle.dms_restore.proofs.Prepared.{HoldsPending, holds}
+use Rattle.dms_opening.proofs.Chosen.{or_none, at_none}
+use Rattle.dms_opening.proofs.Prepared.{HoldsPending, holds}
 use Rattle.dms_restore.proofs.Scans.{none_missing}
 use Rattle.dms_opening.specs.declared.plan.Plan.{Plan}
 use Rattle.dms_opening.specs.Plans.{IsTrailRead, Plans, HasNoDescriptionAt, IsPlainFault, RefusesPlan}

@@ -8,7 +8,7 @@ use Rattle.dms_history.specs.EntryEvents.{history_of, live_of}
 use Rattle.dms_history.specs.SchemaAt.{schema_at}
 use Rattle.dms_audfile.specs.TrailEntries.{trail_entries}
 use Rattle.dms_running.specs.Standing.{IsWhole}
-use Rattle.dms_restore.specs.declared.choosing.OpenFault.{OpenFault}
+use Rattle.dms_opening.specs.declared.choosing.OpenFault.{OpenFault}
 use Rattle.dms_restore.specs.Logging.{telling_of}
 use Rattle.dms_opening.specs.Plans.{IsPlainFault, RefusesPlan}
 

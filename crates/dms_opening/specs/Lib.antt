@@ -2,3 +2,8 @@ pub mod Plans
 pub mod Laws
 pub mod Openings
 pub mod Carrying
+pub mod Judged
+pub mod Refusals
+pub mod Choices
+pub mod PointCounts
+pub mod Starts

@@ -27,11 +27,11 @@ use Rattle.dms_running.specs.Telling.{Telling}
 use Rattle.dms_running.specs.Standing.{IsWhole}
 use Rattle.dms_running.specs.Points.{points_of, next_in}
 use Rattle.dms_running.specs.Running.{AllWritten}
-use Rattle.dms_restore.specs.declared.choosing.OpenFault.{OpenFault}
-use Rattle.dms_restore.specs.declared.choosing.OpenFault.TheVariants.{Audit}
-use Rattle.dms_restore.specs.declared.choosing.Choice.{Choice}
+use Rattle.dms_opening.specs.declared.choosing.OpenFault.{OpenFault}
+use Rattle.dms_opening.specs.declared.choosing.OpenFault.TheVariants.{Audit}
+use Rattle.dms_opening.specs.declared.choosing.Choice.{Choice}
 use Rattle.dms_restore.specs.Bodies.{bodies}
-use Rattle.dms_restore.specs.Choices.{Chooses}
+use Rattle.dms_opening.specs.Choices.{Chooses}
 use Rattle.dms_restore.specs.Counts.{count_of, file_counts}
 use Rattle.dms_restore.specs.Logging as logs
 use Rattle.dms_restore.specs.Logging.{LogView, telling_of, telling, state, waits, LogRuns, entries, points, durable, content}

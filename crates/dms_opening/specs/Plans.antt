@@ -11,13 +11,13 @@ use Rattle.dms_audfile.specs.TrailEntries.{trail_entries}
 use Rattle.dms_audfile.specs.declared.fault.AudFault.TheVariants as aud
 use Rattle.dms_audfile.specs.declared.place.EntryPlace.{EntryPlace}
 use Rattle.dms_running.specs.FromDumps.{NoDumpPending}
-use Rattle.dms_restore.specs.declared.choosing.OpenFault.{OpenFault}
-use Rattle.dms_restore.specs.declared.choosing.OpenFault.TheVariants.{Audit}
-use Rattle.dms_restore.specs.declared.choosing.Choice.{Choice}
+use Rattle.dms_opening.specs.declared.choosing.OpenFault.{OpenFault}
+use Rattle.dms_opening.specs.declared.choosing.OpenFault.TheVariants.{Audit}
+use Rattle.dms_opening.specs.declared.choosing.Choice.{Choice}
 use Rattle.dms_restore.specs.declared.trace.TrailTrace.{TrailTrace}
-use Rattle.dms_restore.specs.Choices.{RefusesOpening, Chooses}
+use Rattle.dms_opening.specs.Choices.{RefusesOpening, Chooses}
 use Rattle.dms_restore.specs.Counts.{count_of}
-use Rattle.dms_restore.specs.PointCounts.{AllAtMost}
+use Rattle.dms_opening.specs.PointCounts.{AllAtMost}
 use Rattle.dms_restore.specs.Scanned.{AreEntryPlaces}
 use Rattle.dms_restore.specs.Table.{AreBlocks, IsTable}
 use Rattle.dms_restore.specs.Traces.{IsTraceOf}

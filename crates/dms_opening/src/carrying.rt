@@ -10,10 +10,12 @@ ghost use Rattle.dms_wal.specs.Database.{view_of};
 ghost use Rattle.dms_opening.specs.Carrying.{IsReady, IsPlanned};
 ghost use Rattle.dms_opening.specs.Openings.{RunsFrom, Reopens, text_of, IsFullFault, MayHaveWritten};
 
+use crate::going_on::go_on;
 use crate::looking::Planned;
-use crate::{Opened, Plan};
+use crate::starting::start;
+use crate::{OpenFault, Opened, Plan};
 use dms_audfile::AudFault;
-use dms_restore::{Log, OpenFault, count_bytes};
+use dms_restore::{Log, count_bytes};
 use dms_site::Site;
 
 /// The site of a log. Makes no call of it.
@@ -59,13 +61,13 @@ pub(crate) fn carry_out<S: Site>(planned: Planned<S>) -> Result<Opened<S>, (Open
         counts,
         schema,
     } = plan;
-    let begun = match log.start(choice.begins, choice.point) {
+    let begun = match start(log, choice.begins, choice.point) {
         Ok(begun) => begun,
         Err((fault, log)) => return Err((OpenFault::Audit(fault), site_of(log))),
     };
     let mut bytes = [0u8; 1600];
     let used = count_bytes(&counts, &mut bytes);
-    match begun.go_on(&table, &schema, choice.point, next, &bytes[..used]) {
+    match go_on(begun, &table, &schema, choice.point, next, &bytes[..used]) {
         Ok(log) => Ok(Opened {
             log,
             schema,

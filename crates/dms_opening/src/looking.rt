@@ -9,9 +9,9 @@ ghost use Rattle.dms_opening.specs.Openings.{HasTrail, NamesStructures, RefusesF
 ghost use Rattle.dms_opening.specs.Plans.{IsTrailRead, Plans, RefusesPlan};
 ghost use Rattle.dms_opening.specs.Carrying.{IsReady};
 
-use crate::{Plan, prepare};
+use crate::{Found, OpenFault, Plan, Scanned, prepare};
 use dms_audfile::AudFault;
-use dms_restore::{Found, Log, OpenFault, Scanned};
+use dms_restore::Log;
 use dms_site::Site;
 use std::alloc::Global;
 

@@ -13,9 +13,10 @@ ghost use Rattle.dms_opening.specs.Openings.{NamesStructures, OpensAt, RunsFrom,
 
 use crate::carrying::{carry_out, site_of};
 use crate::looking::look;
+use crate::{Found, OpenFault};
 use dms_audfile::AudFault;
 use dms_base::Memory;
-use dms_restore::{Found, Log, OpenFault};
+use dms_restore::Log;
 use dms_site::Site;
 use dms_wal::{Running, Start};
 use std::alloc::Global;

@@ -12,15 +12,18 @@ ghost use Rattle.dms_audfile.specs.Counting.{CountedAt};
 ghost use Rattle.dms_audfile.specs.Reads.{OnlyReads};
 ghost use Rattle.dms_audfile.specs.TrailEntries.{trail_entries};
 ghost use Rattle.dms_restore.specs.Counts.{count_of};
-ghost use Rattle.dms_restore.specs.PointCounts.{AllAtMost};
-ghost use Rattle.dms_restore.specs.Refusals.{IsOpening};
+ghost use Rattle.dms_opening.specs.PointCounts.{AllAtMost};
+ghost use Rattle.dms_opening.specs.Refusals.{IsOpening};
 ghost use Rattle.dms_restore.specs.Table.{AreBlocks, IsTable};
 ghost use Rattle.dms_restore.specs.Tracing.{IsTraced};
 ghost use Rattle.dms_opening.specs.Plans.{IsTrailRead, CannotDescribe, HasNoDescriptionAt, IsPlainFault, Plans, FitsOpening, RefusesPlan};
 
+use crate::choosing::{Choice, OpenFault, choose};
+use crate::describing::{read_schema, schema_span};
+use crate::preparing::{opening_table, pending_counts};
 use dms_audfile::{AudFault, EntryPlace};
 use dms_history::laws::points_have_schemas;
-use dms_restore::{Choice, OpenFault, Told, TrailHistory, TrailTrace, read_schema};
+use dms_restore::{Told, TrailHistory, TrailTrace};
 use dms_site::Site;
 use std::alloc::Global;
 
@@ -75,7 +78,7 @@ fn read_description<S: Site>(
     ensures disk { CountedAt (IsErrOf result (OpenFault.Audit AudFault.Disk)) (S.disk_faults site.old) (S.disk_faults site.new) }
 {
     points_have_schemas();
-    let span = match trace.schema(point) {
+    let span = match schema_span(trace, point) {
         Some(span) => span,
         None => return Err(OpenFault::Audit(AudFault::Damaged(first, 0))),
     };
@@ -108,11 +111,11 @@ fn prepare_restore<S: Site>(
     ensures disk { CountedAt (IsErrOf result (OpenFault.Audit AudFault.Disk)) (S.disk_faults site.old) (S.disk_faults site.new) }
 {
     let mut history = history;
-    let table = match history.opening_table(alloc, choice) {
+    let table = match opening_table(&mut history, alloc, choice) {
         Ok(table) => table,
         Err(fault) => return Err(OpenFault::Audit(fault)),
     };
-    match history.pending_counts(alloc, site) {
+    match pending_counts(&history, alloc, site) {
         Ok(counts) => Ok((table, counts)),
         Err(fault) => Err(OpenFault::Audit(fault)),
     }
@@ -137,7 +140,7 @@ pub fn prepare<S: Site>(
     ensures same_site { S.same_site site.old site.new }
     ensures disk { CountedAt (IsErrOf result (OpenFault.Audit AudFault.Disk)) (S.disk_faults site.old) (S.disk_faults site.new) }
 {
-    let choice = match trace.history.choose(alloc, first) {
+    let choice = match choose(&trace.history, alloc, first) {
         Ok(choice) => choice,
         Err(fault) => return Err(fault),
     };

@@ -10,12 +10,7 @@ pub mod Endings
 pub mod Scanned
 pub mod LiveEntries
 pub mod Named
-pub mod Judged
 pub mod SchemaSpans
-pub mod Refusals
-pub mod Choices
-pub mod PointCounts
-pub mod Starts
 pub mod Traces
 pub mod Tracing
 pub mod BackOuts

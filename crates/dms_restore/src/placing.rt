@@ -36,7 +36,7 @@ pub fn place(live: &[LiveEntry], point: u64) -> Option<usize>
 }
 
 /// Whether an entry is a Control.
-pub(crate) fn is_control(entry: &LiveEntry) -> bool
+pub fn is_control(entry: &LiveEntry) -> bool
     ensures { (files : Files) → result ≡ is_control (event_at files entry.now) }
 {
     match entry {

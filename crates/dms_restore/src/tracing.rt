@@ -232,7 +232,7 @@ impl TrailHistory {
     }
 
     /// Adds the Begin of a restore: all live entries behind the place of its point are removed.
-    pub(crate) fn begin(&mut self, alloc: Global, point: u64, how: HowAt) -> Result<(), AllocError>
+    pub fn begin(&mut self, alloc: Global, point: u64, how: HowAt) -> Result<(), AllocError>
         ensures { OnOk result ((files : Files) (entries : List meaning.Entry) (kind : meaning.Kind) → MatchesHow how (how_of kind) → IsTraced files entries self.old
             → IsTraced files (entries ++ begin_restore point kind ∷ []) self.new) }
     {

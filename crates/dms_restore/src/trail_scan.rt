@@ -21,15 +21,15 @@ use std::alloc::Global;
 
 /// A trail that was scanned, and what its entries tell.
 #[derive(Drop)]
-pub(crate) struct TrailScan {
-    pub(crate) scan: Scan,
-    pub(crate) trace: TrailTrace,
+pub struct TrailScan {
+    pub scan: Scan,
+    pub trace: TrailTrace,
 }
 
 /// Scans the audit trail, and reads its entries.
 ///
 /// Nothing changes. Answers the first refusal of the trail, Disk where a call of the site failed, and Memory.
-pub(crate) fn scan_trail<S: Site>(alloc: Global, site: &mut S) -> Result<TrailScan, AudFault>
+pub fn scan_trail<S: Site>(alloc: Global, site: &mut S) -> Result<TrailScan, AudFault>
     ensures found { IfOk result (λ r. IsTrue S.tells → IsFound (S.files site.old) r.scan.first r.scan.places.items) }
     ensures writes { IfOk result (λ r. IsTrue S.tells → IsWrittenUpTo r.scan.reach.total r.scan.reach.tag r.scan.first r.scan.reach.file r.scan.reach.count (S.files site.old)) }
     ensures bounds { IfOk result (λ r. (10001 ≤ r.scan.first) × (r.scan.first ≤ r.scan.reach.file)) }

@@ -16,7 +16,7 @@ use Rattle.dms_running.specs.Standing.{IsWhole}
 use Rattle.dms_running.specs.Points.{DescribedPoint, described_in, points_of, next_in, schema_bytes}
 use Rattle.dms_site.specs.declared.site.Site.{Ghosts}
 use Rattle.dms_site.specs.Files.{Files, Left, stored_of}
-use Rattle.dms_restore.specs.declared.choosing.OpenFault.{OpenFault}
+use Rattle.dms_opening.specs.declared.choosing.OpenFault.{OpenFault}
 use Rattle.dms_restore.specs.Logging.{telling_of, telling, points}
 use Rattle.dms_wal.specs.Database.{view_of}
 use Rattle.dms_wal.specs.Marks.{last_number}

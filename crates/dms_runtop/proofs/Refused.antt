@@ -2,8 +2,8 @@
 use Rattle.std.proofs.Common.{ℕ, ◌≡◌, ◌≤◌, ◌<◌, ◌⊎◌, ◌∙◌, inl, inr, refl, sym, ap, subst, arith}
 use Rattle.dms_audfile.specs.Counting.{CountedAt}
 use Rattle.dms_audfile.specs.declared.fault.AudFault.TheVariants as aud
-use Rattle.dms_restore.specs.declared.choosing.OpenFault.{OpenFault}
-use Rattle.dms_restore.specs.declared.choosing.OpenFault.TheVariants.{Audit, NoSuchPoint, Voided, ByDump}
+use Rattle.dms_opening.specs.declared.choosing.OpenFault.{OpenFault}
+use Rattle.dms_opening.specs.declared.choosing.OpenFault.TheVariants.{Audit, NoSuchPoint, Voided, ByDump}
 use Rattle.dms_opening.specs.Openings.{MayHaveWritten, IsNoRefusal}
 use Rattle.dms_status.specs.declared.status.Status.{Status}
 use Rattle.dms_status.specs.declared.status.Status.TheVariants.{Ok, BadWords, SchemaRefused, NoDatabase, Needed, InputFault, Memory, Limit, Damaged, SayFault, DiskFault, Exists}

@@ -15,7 +15,7 @@ use Rattle.dms_site.specs.Files.{Files, Left, Same}
 use Rattle.dms_audfile.specs.TrailEntries.{trail_entries}
 use Rattle.dms_running.specs.Standing.{IsWhole}
 use Rattle.dms_running.specs.Points.{points_of, next_in}
-use Rattle.dms_restore.specs.declared.choosing.OpenFault.{OpenFault}
+use Rattle.dms_opening.specs.declared.choosing.OpenFault.{OpenFault}
 use Rattle.dms_restore.specs.Logging.{telling_of, telling, points}
 use Rattle.dms_wal.specs.Database.{view_of}
 use Rattle.dms_run.specs.States.{LivesEndWith}

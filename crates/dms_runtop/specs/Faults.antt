@@ -3,8 +3,8 @@ use Rattle.std.specs.Prelude.{ℕ, nat_lt, if◌then◌else◌}
 use Rattle.dms_audfile.specs.declared.fault.AudFault.TheVariants as aud
 use Rattle.dms_block.specs.declared.block_fault.BlockFault.{BlockFault}
 use Rattle.dms_block.specs.declared.block_fault.BlockFault.TheVariants as block
-use Rattle.dms_restore.specs.declared.choosing.OpenFault.{OpenFault}
-use Rattle.dms_restore.specs.declared.choosing.OpenFault.TheVariants.{Audit, NoSuchPoint, Voided, ByDump}
+use Rattle.dms_opening.specs.declared.choosing.OpenFault.{OpenFault}
+use Rattle.dms_opening.specs.declared.choosing.OpenFault.TheVariants.{Audit, NoSuchPoint, Voided, ByDump}
 use Rattle.dms_runner.specs.declared.run.RunFault.{RunFault}
 use Rattle.dms_runner.specs.declared.run.RunFault.TheVariants as run
 use Rattle.dms_status.specs.declared.status.LimitKind.TheVariants as limit

@@ -5,7 +5,7 @@ ghost use Rattle.dms_runtop.specs.Faults.{block_status, damaged_status, run_stat
 
 use dms_audfile::AudFault;
 use dms_block::BlockFault;
-use dms_restore::OpenFault;
+use dms_opening::OpenFault;
 use dms_runner::RunFault;
 use dms_status::{LimitKind, NeedFault, Status};
 

@@ -5,11 +5,11 @@ use Rattle.dms_opening.proofs.plan.read_description.Goals as goal
 
 pub returns-in-None-clause-only : goal.returns-in-None-clause-only
 returns-in-None-clause-only g c tells total r lives =
-    absurd (none_there c.points_have_schemas.ensures.lives total c.args.first (g.S.Site.files c.args.site.now) c.args.places.now c.args.trace.now c.args.point c.schema.result (sym c.in-None.is) c.schema.ensures r lives)
+    absurd (none_there c.points_have_schemas.ensures.lives total c.args.first (g.S.Site.files c.args.site.now) c.args.places.now c.args.trace.now c.args.point c.schema_span.result (sym c.in-None.is) c.schema_span.ensures r lives)
 
 pub returns-in-Ok-clause-bytes : goal.returns-in-Ok-clause-bytes
 returns-in-Ok-clause-bytes g c = one_if_ok c.fitting.result c.fitting.ensures.same (λ v same tells total r lives.
-    bytes_there total c.args.first (g.S.Site.files c.args.site.now) c.args.places.now c.args.trace.now c.args.point c.schema.result c.in-Some.span c.in-Ok.bytes.items c.in-Some.is c.schema.ensures
+    bytes_there total c.args.first (g.S.Site.files c.args.site.now) c.args.places.now c.args.trace.now c.args.point c.schema_span.result c.in-Some.span c.in-Ok.bytes.items c.in-Some.is c.schema_span.ensures
     (λ ps are there. c.in-Ok.ensures.bytes tells ps are there) r lives ∙ ap (λ (l : List ℕ). Some l) (sym same))
 
 pub returns-in-Ok-clause-only : goal.returns-in-Ok-clause-only
@@ -17,7 +17,7 @@ returns-in-Ok-clause-only g c = one_if_err c.fitting.result c.fitting.ensures.da
   damaged.0,
   record {
     bytes = c.in-Ok.bytes.items;
-    schema_is = bytes_there total c.args.first (g.S.Site.files c.args.site.now) c.args.places.now c.args.trace.now c.args.point c.schema.result c.in-Some.span c.in-Ok.bytes.items c.in-Some.is c.schema.ensures
+    schema_is = bytes_there total c.args.first (g.S.Site.files c.args.site.now) c.args.places.now c.args.trace.now c.args.point c.schema_span.result c.in-Some.span c.in-Ok.bytes.items c.in-Some.is c.schema_span.ensures
         (λ ps are there. c.in-Ok.ensures.bytes tells ps are there) r lives;
     none = damaged.1;
   },

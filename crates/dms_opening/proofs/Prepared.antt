@@ -1,0 +1,57 @@
+-- What an opening needs of a trail before its first write.
+use Rattle.std.proofs.Common.{ℕ, min, ◌≡◌, Bool, true, false, List, [], ◌∷◌, ◌++◌, length, take, Option, Some, None, refl, sym, ◌∙◌, ap, subst, arith}
+use Rattle.dms_site.specs.Files.{Files}
+use Rattle.dms_history.specs.Events.{begin, halt_load}
+use Rattle.dms_history.specs.Lists.{until_first}
+use Rattle.dms_history.specs.Places.{is_point}
+use Rattle.dms_history.specs.History.{Pending, History}
+use Rattle.dms_history.specs.Pick.{reached_count, count_at}
+use Rattle.dms_history.specs.Entries.{Entry, begin_restore, by_halt_load}
+use Rattle.dms_history.specs.EntryEvents.{history_of}
+use Rattle.dms_running.proofs.OneMore.{history_entry}
+use Rattle.dms_restore.specs.declared.live.LiveEntry.{LiveEntry}
+use Rattle.dms_restore.specs.declared.live.PendingAt.{PendingAt}
+use Rattle.dms_restore.specs.declared.tracing.TrailHistory.{TrailHistory}
+use Rattle.dms_restore.specs.LiveEntries.{events_at}
+use Rattle.dms_opening.specs.Refusals.{IsOpening}
+use Rattle.dms_opening.specs.Starts.{TracesPending}
+use Rattle.dms_restore.specs.Tracing.{IsPendingAt, MatchesPending, IsTraced}
+
+-- the entries of an opening with its Begin, where it begins a restore
+abbrev pub with_begin : List Entry → ℕ → List Entry
+with_begin entries point = entries ++ begin_restore point by_halt_load ∷ []
+
+pub pending_new : (entries : List Entry) (begins : Bool) (point : ℕ) (p : Pending) → begins ≡ true → IsOpening (history_of entries) begins point p → (history_of (with_begin entries point)).pending ≡ Some p
+pending_new entries begins point p new o =
+    ap (λ (h : History). h.pending) (history_entry entries (begin_restore point by_halt_load) (begin point halt_load) refl) ∙ ap (λ (q : Pending). Some q) (sym (o.new new).3)
+
+pub pending_old : (entries : List Entry) (begins : Bool) (point : ℕ) (p : Pending) → begins ≡ false → IsOpening (history_of entries) begins point p → (history_of entries).pending ≡ Some p
+pending_old entries begins point p old o = (o.goes_on old).0
+
+pub traces_new : (files : Files) (entries : List Entry) (begins : Bool) (point : ℕ) (h : TrailHistory) (p : Pending) → begins ≡ true → IsOpening (history_of entries) begins point p → IsTraced files (with_begin entries point) h → TracesPending files h p
+traces_new files entries begins point h p new o t = record { entries = with_begin entries point; traced = t; pending = pending_new entries begins point p new o }
+
+pub traces_old : (files : Files) (entries : List Entry) (begins : Bool) (point : ℕ) (h : TrailHistory) (p : Pending) → begins ≡ false → IsOpening (history_of entries) begins point p → IsTraced files entries h → TracesPending files h p
+traces_old files entries begins point h p old o t = record { entries = entries; traced = t; pending = pending_old entries begins point p old o }
+
+-- the pending restore as it is kept
+pub record HoldsPending (files : Files) (h : TrailHistory) (p : Pending) : Type 0 where
+  pub q : PendingAt
+  pub is : h.pending ≡ Some q
+  pub at : IsPendingAt files h.live.items h.removed.items q p
+
+pub holds : (files : Files) (entries : List Entry) (h : TrailHistory) (p : Pending) → IsTraced files entries h → (history_of entries).pending ≡ Some p → HoldsPending files h p
+holds files entries h p t is = go h.pending refl (subst (λ (o : Option Pending). MatchesPending files h.live.items h.removed.items h.pending o) is t.pending_matches)
+  where
+    go : (o : Option PendingAt) → h.pending ≡ o → MatchesPending files h.live.items h.removed.items o (Some p) → HoldsPending files h p
+    go None none m = absurd m
+    go (Some q) some m = record { q = q; is = some; at = m }
+
+-- the counts at its point
+pub counts_at_point : (files : Files) (h : TrailHistory) (p : Pending) (kept size f n : ℕ) (lent : List LiveEntry) → lent ≡ h.live.items → size ≡ length h.live.items → ((q : PendingAt) → h.pending ≡ Some q → kept ≡ min q.kept size) → TracesPending files h p
+    → n ≡ reached_count f 0 (events_at files (take kept lent)) → n ≡ count_at p.entries p.point f
+unfolding count_at
+counts_at_point files h p kept size f n lent same long least t is =
+    let held : HoldsPending files h p = holds files t.entries h p t.traced t.pending in
+    let all : kept ≡ held.q.kept = omega (arith, least held.q held.is, long, held.at.within) in
+    is ∙ (λ i. reached_count f 0 (events_at files (take (all i) (same i)))) ∙ ap (reached_count f 0) (sym held.at.front) ∙ ap (λ k. reached_count f 0 (until_first (is_point k) p.entries)) (sym held.at.point_is)

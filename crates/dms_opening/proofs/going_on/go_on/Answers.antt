@@ -1,0 +1,74 @@
+use Rattle.std.proofs.Common.{ℕ, ◌+◌, ◌<◌, ◌≡◌, inl, sym, ◌∙◌, ap, subst}
+use Rattle.dms_audfile.specs.TrailEntries.{trail_entries}
+use Rattle.dms_audfile.specs.declared.fault.AudFault.{AudFault}
+use Rattle.dms_audfile.specs.declared.fault.AudFault.TheVariants.{Disk, Full}
+use Rattle.dms_restore.specs.Logging.{LogView, view, telling_of}
+use Rattle.dms_restore.proofs.Results.{one_if_ok, one_if_err}
+use Rattle.dms_restore.proofs.Backed.{silent_on}
+use Rattle.dms_opening.proofs.GoneOn.{each_on, ends_by, opened}
+use Rattle.dms_opening.proofs.going_on.go_on.Goals as goal
+
+pub returns-in-Ok-clause-opened : goal.returns-in-Ok-clause-opened
+returns-in-Ok-clause-opened g c = one_if_ok c.finish.result c.finish.ensures.ended (λ l ended p tells m.
+    let a : LogView = view c.args.begun.log.end c.args.begun.log.first (g.S.Site.files c.args.begun.log.site) (g.S.Site.clock c.args.begun.log.site) in
+    let r = c.in-Ok.ensures in
+    opened p a _ c.args.table.now c.args.point c.args.next c.args.counts.now m (r.begun p tells m.begun m.table_is) (r.restored p tells m.begun m.table_is) (r.keeps p tells m.begun m.table_is) ((λ i. trail_entries (r.kind.0 i).total (r.kind.1 i) (g.S.Site.files c.in-Ok.restored.log.site)) ∙ r.entries p tells m.begun m.table_is) _ _
+    (ended p tells (ends_by p a _ c.args.table.now c.args.point c.args.next c.args.counts.now m (r.begun p tells m.begun m.table_is) (r.restored p tells m.begun m.table_is) (r.keeps p tells m.begun m.table_is))))
+
+pub returns-in-Ok-clause-moments : goal.returns-in-Ok-clause-moments
+returns-in-Ok-clause-moments g c = one_if_ok c.finish.result c.finish.ensures.moments (λ l leaves p tells m.
+    let a : LogView = view c.args.begun.log.end c.args.begun.log.first (g.S.Site.files c.args.begun.log.site) (g.S.Site.clock c.args.begun.log.site) in
+    let log = c.in-Ok.restored.log in
+    let b : LogView = view log.end log.first (g.S.Site.files log.site) (g.S.Site.clock log.site) in
+    let r = c.in-Ok.ensures in
+    let keeps = r.keeps p tells m.begun m.table_is in
+    each_on a b _ (λ i. telling_of (r.kind.0 i).total (r.kind.1 i)) keeps.points_same keeps.next_same (r.moments p tells m.begun m.table_is)
+    (leaves p tells (ends_by p a b c.args.table.now c.args.point c.args.next c.args.counts.now m (r.begun p tells m.begun m.table_is) (r.restored p tells m.begun m.table_is) keeps)))
+
+pub returns-in-Ok-clause-stopped : goal.returns-in-Ok-clause-stopped
+returns-in-Ok-clause-stopped g c = one_if_err c.finish.result c.finish.ensures.stopped (λ e leaves p tells m.
+    let a : LogView = view c.args.begun.log.end c.args.begun.log.first (g.S.Site.files c.args.begun.log.site) (g.S.Site.clock c.args.begun.log.site) in
+    let log = c.in-Ok.restored.log in
+    let b : LogView = view log.end log.first (g.S.Site.files log.site) (g.S.Site.clock log.site) in
+    let r = c.in-Ok.ensures in
+    let keeps = r.keeps p tells m.begun m.table_is in
+    each_on a b _ (λ i. telling_of (r.kind.0 i).total (r.kind.1 i)) keeps.points_same keeps.next_same (r.moments p tells m.begun m.table_is)
+    (leaves p tells (ends_by p a b c.args.table.now c.args.point c.args.next c.args.counts.now m (r.begun p tells m.begun m.table_is) (r.restored p tells m.begun m.table_is) keeps)))
+
+pub returns-in-Err-clause-stopped : goal.returns-in-Err-clause-stopped
+returns-in-Err-clause-stopped g c p tells m = c.in-Err.ensures.stopped p tells m.begun m.table_is
+
+pub returns-in-Err-clause-only : goal.returns-in-Err-clause-only
+returns-in-Err-clause-only g c p tells table = inl (c.in-Err.ensures.only p tells table)
+
+pub returns-in-Ok-clause-full : goal.returns-in-Ok-clause-full
+returns-in-Ok-clause-full g c = one_if_err c.finish.result c.finish.ensures.full (λ e full p tells table is.
+    let kind = c.in-Ok.ensures.kind in
+    let limit : c.in-Ok.restored.log.end.limit ≡ c.args.begun.log.end.limit = λ i. (kind.0 i).limit in
+    let was = full (is ∙ ap (λ k. Full k) (sym limit)) in
+    (was.0, subst (λ k. 10000 + k < e.1.end.file) limit was.1))
+
+pub returns-in-Err-clause-full : goal.returns-in-Err-clause-full
+returns-in-Err-clause-full g c p tells table is = absurd (not_both (c.in-Err.ensures.only p tells table) is)
+  where
+    not_both : {k : ℕ} {e : AudFault} → e ≡ Disk → e ≡ Full k → ⊥
+    not_both one two = absurd cc
+
+pub returns-in-Ok-clause-silent : goal.returns-in-Ok-clause-silent
+returns-in-Ok-clause-silent g c = one_if_ok c.finish.result c.finish.ensures.silent (λ l still p tells m.
+    let a : LogView = view c.args.begun.log.end c.args.begun.log.first (g.S.Site.files c.args.begun.log.site) (g.S.Site.clock c.args.begun.log.site) in
+    let log = c.in-Ok.restored.log in
+    let b : LogView = view log.end log.first (g.S.Site.files log.site) (g.S.Site.clock log.site) in
+    let r = c.in-Ok.ensures in
+    silent_on _ _ _ (r.silent p tells m.table_is) (still p tells (ends_by p a b c.args.table.now c.args.point c.args.next c.args.counts.now m (r.begun p tells m.begun m.table_is) (r.restored p tells m.begun m.table_is) (r.keeps p tells m.begun m.table_is))))
+
+pub returns-in-Ok-clause-silent_then : goal.returns-in-Ok-clause-silent_then
+returns-in-Ok-clause-silent_then g c = one_if_err c.finish.result c.finish.ensures.silent_then (λ e still p tells m.
+    let a : LogView = view c.args.begun.log.end c.args.begun.log.first (g.S.Site.files c.args.begun.log.site) (g.S.Site.clock c.args.begun.log.site) in
+    let log = c.in-Ok.restored.log in
+    let b : LogView = view log.end log.first (g.S.Site.files log.site) (g.S.Site.clock log.site) in
+    let r = c.in-Ok.ensures in
+    silent_on _ _ _ (r.silent p tells m.table_is) (still p tells (ends_by p a b c.args.table.now c.args.point c.args.next c.args.counts.now m (r.begun p tells m.begun m.table_is) (r.restored p tells m.begun m.table_is) (r.keeps p tells m.begun m.table_is))))
+
+pub returns-in-Err-clause-silent_then : goal.returns-in-Err-clause-silent_then
+returns-in-Err-clause-silent_then g c p tells m = c.in-Err.ensures.silent_then p tells m.table_is

@@ -1,0 +1,61 @@
+use Rattle.std.proofs.Common.{cond, [], ◌∷◌, ◌++◌, sym, ◌∙◌, ap}
+use Rattle.dms_history.specs.Entries.{begin_restore, by_halt_load}
+use Rattle.dms_history.proofs.Order.{append_none}
+use Rattle.dms_audfile.specs.TrailEntries.{trail_entries}
+use Rattle.dms_restore.proofs.Laid.{none_silent}
+use Rattle.dms_restore.specs.Logging.{LogView, view}
+use Rattle.dms_restore.proofs.Results.{one_if_ok, one_if_err}
+use Rattle.dms_opening.proofs.Started.{may_run, last_found, begun_new, keeps_new, leaves_new, begun_found, keeps_found, leaves_found, grown_none}
+use Rattle.dms_opening.proofs.starting.start.Goals as goal
+
+pub returns-then-begins-clause-begun : goal.returns-then-begins-clause-begun
+returns-then-begins-clause-begun g c = one_if_ok c.begin.result c.begin.ensures.begun (λ b begun p tells s.
+    let v : LogView = view c.args.log.end c.args.log.first (g.S.Site.files c.args.log.site) (g.S.Site.clock c.args.log.site) in
+    begun_new v c.args.begins c.args.point p s c.if-begins.true _ (begun tells (may_run v c.args.begins c.args.point p s c.if-begins.true) (last_found v c.args.begins c.args.point p s c.if-begins.true)))
+
+pub returns-then-begins-clause-keeps : goal.returns-then-begins-clause-keeps
+returns-then-begins-clause-keeps g c = one_if_ok c.begin.result c.begin.ensures.keeps (λ b keeps p tells s.
+    let v : LogView = view c.args.log.end c.args.log.first (g.S.Site.files c.args.log.site) (g.S.Site.clock c.args.log.site) in
+    keeps_new v c.args.begins c.args.point p s c.if-begins.true _ (keeps tells (may_run v c.args.begins c.args.point p s c.if-begins.true) (last_found v c.args.begins c.args.point p s c.if-begins.true)))
+
+pub returns-then-begins-clause-moments : goal.returns-then-begins-clause-moments
+returns-then-begins-clause-moments g c = one_if_ok c.begin.result c.begin.ensures.moments (λ b leaves p tells s.
+    let v : LogView = view c.args.log.end c.args.log.first (g.S.Site.files c.args.log.site) (g.S.Site.clock c.args.log.site) in
+    leaves_new v c.args.begins c.args.point p s _ (leaves tells (may_run v c.args.begins c.args.point p s c.if-begins.true) (last_found v c.args.begins c.args.point p s c.if-begins.true)))
+
+pub returns-then-begins-clause-stopped : goal.returns-then-begins-clause-stopped
+returns-then-begins-clause-stopped g c = one_if_err c.begin.result c.begin.ensures.stopped (λ e leaves p tells s.
+    let v : LogView = view c.args.log.end c.args.log.first (g.S.Site.files c.args.log.site) (g.S.Site.clock c.args.log.site) in
+    leaves_new v c.args.begins c.args.point p s _ (leaves tells (may_run v c.args.begins c.args.point p s c.if-begins.true) (last_found v c.args.begins c.args.point p s c.if-begins.true)))
+
+pub returns-else-begins-clause-begun : goal.returns-else-begins-clause-begun
+returns-else-begins-clause-begun g c p tells s =
+    let v : LogView = view c.args.log.end c.args.log.first (g.S.Site.files c.args.log.site) (g.S.Site.clock c.args.log.site) in
+    begun_found v c.args.begins c.args.point p s c.if-begins.false
+
+pub returns-else-begins-clause-keeps : goal.returns-else-begins-clause-keeps
+returns-else-begins-clause-keeps g c p tells s = keeps_found p (view c.args.log.end c.args.log.first (g.S.Site.files c.args.log.site) (g.S.Site.clock c.args.log.site))
+
+pub returns-else-begins-clause-moments : goal.returns-else-begins-clause-moments
+returns-else-begins-clause-moments g c p tells s = leaves_found (view c.args.log.end c.args.log.first (g.S.Site.files c.args.log.site) (g.S.Site.clock c.args.log.site))
+
+pub returns-else-begins-clause-grown : goal.returns-else-begins-clause-grown
+returns-else-begins-clause-grown g c tells start = grown_none c.args.log.end.total c.args.log.first (g.S.Site.files c.args.log.site)
+
+pub returns-then-begins-clause-sealed : goal.returns-then-begins-clause-sealed
+returns-then-begins-clause-sealed g c = one_if_ok c.begin.result c.begin.ensures.sealed (λ b sealed tells start.
+    sealed tells start ∙ ap (λ t. trail_entries c.args.log.end.total c.args.log.first (g.S.Site.files c.args.log.site) ++ cond t (begin_restore c.args.point by_halt_load ∷ []) []) (sym c.if-begins.true))
+
+pub returns-else-begins-clause-sealed : goal.returns-else-begins-clause-sealed
+returns-else-begins-clause-sealed g c tells start =
+    let entries = trail_entries c.args.log.end.total c.args.log.first (g.S.Site.files c.args.log.site) in
+    sym (append_none entries) ∙ ap (λ t. entries ++ cond t (begin_restore c.args.point by_halt_load ∷ []) []) (sym c.if-begins.false)
+
+pub returns-then-begins-clause-begins : goal.returns-then-begins-clause-begins
+returns-then-begins-clause-begins g c = one_if_err c.begin.result c.begin.ensures.only (λ e only. c.if-begins.true)
+
+pub returns-then-begins-clause-past : goal.returns-then-begins-clause-past
+returns-then-begins-clause-past g c = c.begin.ensures.past
+
+pub returns-else-begins-clause-silent : goal.returns-else-begins-clause-silent
+returns-else-begins-clause-silent g c tells start = none_silent _

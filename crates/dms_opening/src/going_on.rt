@@ -1,0 +1,59 @@
+//! A restore that is begun goes on to its Control.
+
+ghost use Rattle.std.specs.Prelude.{◌≡◌, ◌⊎◌, ◌+◌, ◌/◌, ◌<◌, ◌≤◌, length, IfOk, IfErr, IsTrue};
+ghost use Rattle.dms_moments.specs.Moments.{Steps};
+ghost use Rattle.dms_history.specs.History.{Pending};
+ghost use Rattle.dms_history.specs.Entries.{control_point};
+ghost use Rattle.dms_audrec.specs.Spelling.{IsEntry};
+ghost use Rattle.dms_audrec.specs.Reading.{counts_at};
+ghost use Rattle.dms_audfile.specs.Counting.{CountedAt};
+ghost use Rattle.dms_restore.specs.Logging.{view, PrintsNothing};
+ghost use Rattle.dms_restore.specs.Laying.{schema_control};
+ghost use Rattle.dms_restore.specs.Begins.{LeavesEach};
+ghost use Rattle.dms_opening.specs.Starts.{MayEnd, OpenedAt};
+ghost use Rattle.dms_restore.specs.Table.{AreBlocks, IsTable};
+
+use dms_audfile::AudFault;
+use dms_restore::{Begun, Log, Told};
+use dms_site::Site;
+
+/// Writes the blocks of the restore's point, and seals the description and the Control that end it.
+pub fn go_on<S: Site>(
+    begun: Begun<S>,
+    table: &[Told],
+    description: &[u8],
+    point: u64,
+    next: u64,
+    counts: &[u8],
+) -> Result<Log<S>, (AudFault, Log<S>)>
+    requires blocks { AreBlocks table.now }
+    requires some { 0 < length description.now }
+    requires few { length description.now ≤ 65535 }
+    requires control { IsEntry (control_point point next (counts_at (length counts.now / 8) counts.now)) }
+    requires size { length counts.now ≤ 1600 }
+    ensures opened { IfOk result (λ l. (p : Pending) → IsTrue S.tells → MayEnd p (view begun.log.end begun.log.first (S.files begun.log.site) (S.clock begun.log.site)) table.now point next counts.now
+        → OpenedAt p (view begun.log.end begun.log.first (S.files begun.log.site) (S.clock begun.log.site)) (view l.end l.first (S.files l.site) (S.clock l.site)) (schema_control description.now point next counts.now)) }
+    ensures moments { IfOk result (λ l. (p : Pending) → IsTrue S.tells → MayEnd p (view begun.log.end begun.log.first (S.files begun.log.site) (S.clock begun.log.site)) table.now point next counts.now
+        → LeavesEach (view begun.log.end begun.log.first (S.files begun.log.site) (S.clock begun.log.site)) (view l.end l.first (S.files l.site) (S.clock l.site))) }
+    ensures stopped { IfErr result (λ e. (p : Pending) → IsTrue S.tells → MayEnd p (view begun.log.end begun.log.first (S.files begun.log.site) (S.clock begun.log.site)) table.now point next counts.now
+        → LeavesEach (view begun.log.end begun.log.first (S.files begun.log.site) (S.clock begun.log.site)) (view e.1.end e.1.first (S.files e.1.site) (S.clock e.1.site))) }
+    ensures silent { IfOk result (λ l. (p : Pending) → IsTrue S.tells → MayEnd p (view begun.log.end begun.log.first (S.files begun.log.site) (S.clock begun.log.site)) table.now point next counts.now → Steps PrintsNothing (S.clock begun.log.site) (S.clock l.site)) }
+    ensures silent_then { IfErr result (λ e. (p : Pending) → IsTrue S.tells → MayEnd p (view begun.log.end begun.log.first (S.files begun.log.site) (S.clock begun.log.site)) table.now point next counts.now → Steps PrintsNothing (S.clock begun.log.site) (S.clock e.1.site)) }
+    ensures same { IfOk result (λ l. S.same_site begun.log.site l.site) }
+    ensures same_then { IfErr result (λ e. S.same_site begun.log.site e.1.site) }
+    ensures said { IfOk result (λ l. S.said l.site ≡ S.said begun.log.site) }
+    ensures said_then { IfErr result (λ e. S.said e.1.site ≡ S.said begun.log.site) }
+    ensures clean { IfOk result (λ l. S.disk_faults l.site ≡ S.disk_faults begun.log.site) }
+    ensures only { IfErr result (λ e. (p : Pending) → IsTrue S.tells → IsTable p.entries p.point (S.files begun.log.site) table.now → (e.0 ≡ AudFault.Disk) ⊎ (e.0 ≡ AudFault.Full begun.log.end.limit)) }
+    ensures full { IfErr result (λ e. (p : Pending) → IsTrue S.tells → IsTable p.entries p.point (S.files begun.log.site) table.now → e.0 ≡ AudFault.Full begun.log.end.limit
+        → (e.1.end.used ≡ 0) × (10000 + begun.log.end.limit < e.1.end.file)) }
+    ensures disk { IfErr result (λ e. CountedAt (e.0 ≡ AudFault.Disk) (S.disk_faults begun.log.site) (S.disk_faults e.1.site)) }
+    ensures say_faults { IfOk result (λ l. S.say_faults l.site ≡ S.say_faults begun.log.site) }
+    ensures say_faults_then { IfErr result (λ e. S.say_faults e.1.site ≡ S.say_faults begun.log.site) }
+    ensures kind { IfOk result (λ l. (l.end.total ≡ begun.log.end.total) × (l.end.tag ≡ begun.log.end.tag) × (l.end.limit ≡ begun.log.end.limit) × (l.first ≡ begun.log.first)) }
+{
+    match begun.restore(table) {
+        Ok(restored) => restored.finish(description, point, next, counts),
+        Err(fault) => Err(fault),
+    }
+}

@@ -1,0 +1,57 @@
+//! The start of an opening: a restore by halt/load is begun, or the pending one goes on.
+
+ghost use Rattle.std.specs.Prelude.{◌≡◌, ◌⊎◌, ◌++◌, [], ◌∷◌, true, if◌then◌else◌, length, IfOk, IfErr, IsTrue};
+ghost use Rattle.dms_moments.specs.Moments.{Steps};
+ghost use Rattle.dms_history.specs.History.{Pending};
+ghost use Rattle.dms_audfile.specs.Counting.{CountedAt};
+ghost use Rattle.dms_history.specs.Entries.{begin_restore, by_halt_load};
+ghost use Rattle.dms_audrec.specs.Spelling.{spelling};
+ghost use Rattle.dms_audfile.specs.Ends.{Grown, is_past};
+ghost use Rattle.dms_audfile.specs.TrailEntries.{trail_entries};
+ghost use Rattle.dms_restore.specs.Logging.{view, PrintsNothing};
+ghost use Rattle.dms_restore.specs.Laying.{IsAtStart};
+ghost use Rattle.dms_restore.specs.Begins.{BegunAt, LeavesEach};
+ghost use Rattle.dms_opening.specs.Starts.{MayOpen, BegunFrom};
+
+use dms_audfile::AudFault;
+use dms_audrec::How;
+use dms_restore::{Begun, Log};
+use dms_site::Site;
+
+/// Begins a restore by halt/load to the last point of a trail that was scanned, or goes on with the restore that is pending.
+///
+/// Going on makes no call of the site. Answers Disk where a call of the site failed, and else Full where the audit has no room for
+/// the Begin.
+pub fn start<S: Site>(log: Log<S>, begins: bool, point: u64) -> Result<Begun<S>, (AudFault, Log<S>)>
+    ensures begun { IfOk result (λ b. (p : Pending) → IsTrue S.tells → MayOpen (view log.end log.first (S.files log.site) (S.clock log.site)) begins point p
+        → BegunAt p (view b.log.end b.log.first (S.files b.log.site) (S.clock b.log.site))) }
+    ensures keeps { IfOk result (λ b. (p : Pending) → IsTrue S.tells → MayOpen (view log.end log.first (S.files log.site) (S.clock log.site)) begins point p
+        → BegunFrom p (view log.end log.first (S.files log.site) (S.clock log.site)) (view b.log.end b.log.first (S.files b.log.site) (S.clock b.log.site))) }
+    ensures sealed { IfOk result (λ b. IsTrue S.tells → IsAtStart log.end log.first (S.files log.site) (S.clock log.site)
+        → trail_entries log.end.total log.first (S.files b.log.site) ≡ trail_entries log.end.total log.first (S.files log.site) ++ (if begins then begin_restore point by_halt_load ∷ [] else [])) }
+    ensures grown { IfOk result (λ b. IsTrue S.tells → IsAtStart log.end log.first (S.files log.site) (S.clock log.site) → Grown log.end.total log.first (S.files log.site) (S.files b.log.site)) }
+    ensures moments { IfOk result (λ b. (p : Pending) → IsTrue S.tells → MayOpen (view log.end log.first (S.files log.site) (S.clock log.site)) begins point p
+        → LeavesEach (view log.end log.first (S.files log.site) (S.clock log.site)) (view b.log.end b.log.first (S.files b.log.site) (S.clock b.log.site))) }
+    ensures stopped { IfErr result (λ e. (p : Pending) → IsTrue S.tells → MayOpen (view log.end log.first (S.files log.site) (S.clock log.site)) begins point p
+        → LeavesEach (view log.end log.first (S.files log.site) (S.clock log.site)) (view e.1.end e.1.first (S.files e.1.site) (S.clock e.1.site))) }
+    ensures silent { IfOk result (λ b. IsTrue S.tells → IsAtStart log.end log.first (S.files log.site) (S.clock log.site) → Steps PrintsNothing (S.clock log.site) (S.clock b.log.site)) }
+    ensures silent_then { IfErr result (λ e. IsTrue S.tells → IsAtStart log.end log.first (S.files log.site) (S.clock log.site) → Steps PrintsNothing (S.clock log.site) (S.clock e.1.site)) }
+    ensures same { IfOk result (λ b. S.same_site log.site b.log.site) }
+    ensures same_then { IfErr result (λ e. S.same_site log.site e.1.site) }
+    ensures said { IfOk result (λ b. S.said b.log.site ≡ S.said log.site) }
+    ensures said_then { IfErr result (λ e. S.said e.1.site ≡ S.said log.site) }
+    ensures clean { IfOk result (λ b. S.disk_faults b.log.site ≡ S.disk_faults log.site) }
+    ensures only { IfErr result (λ e. (e.0 ≡ AudFault.Disk) ⊎ (e.0 ≡ AudFault.Full log.end.limit)) }
+    ensures begins { IfErr result (λ e. begins ≡ true) }
+    ensures past { IfErr result (λ e. e.0 ≡ AudFault.Full log.end.limit → is_past log.end (length (spelling (begin_restore point by_halt_load))) true ≡ true) }
+    ensures disk { IfErr result (λ e. CountedAt (e.0 ≡ AudFault.Disk) (S.disk_faults log.site) (S.disk_faults e.1.site)) }
+    ensures say_faults { IfOk result (λ b. S.say_faults b.log.site ≡ S.say_faults log.site) }
+    ensures say_faults_then { IfErr result (λ e. S.say_faults e.1.site ≡ S.say_faults log.site) }
+    ensures kind { IfOk result (λ b. (b.log.end.total ≡ log.end.total) × (b.log.end.tag ≡ log.end.tag) × (b.log.end.limit ≡ log.end.limit) × (b.log.first ≡ log.first)) }
+{
+    if begins {
+        log.begin(point, How::HaltLoad)
+    } else {
+        Ok(Begun { log })
+    }
+}

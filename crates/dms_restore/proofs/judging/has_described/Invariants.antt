@@ -1,9 +1,0 @@
-use Rattle.std.proofs.Common.{◌≡◌, false, take}
-use Rattle.dms_site.specs.Files.{Files}
-use Rattle.dms_history.specs.Lists.{has}
-use Rattle.dms_history.specs.Places.{is_described}
-use Rattle.dms_restore.specs.LiveEntries.{events_at}
-use Rattle.dms_restore.proofs.judging.has_described.Given as goal
-
-abbrev pub invariant-loop-entry : goal.invariant-loop-entry
-invariant-loop-entry l = (files : Files) → has is_described (events_at files (take l.entry-index l.live)) ≡ false
