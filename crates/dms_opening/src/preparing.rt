@@ -50,7 +50,11 @@ fn begin_where(history: &mut TrailHistory, alloc: Global, choice: &Choice) -> Re
 /// The table of the restore that an opening begins or goes on with. The Begin of one that it begins is added to what is kept.
 ///
 /// Answers Memory, and Damaged where an Image isn't of a block of a structure file, which is so of no trail that was scanned.
-pub fn opening_table(history: &mut TrailHistory, alloc: Global, choice: &Choice) -> Result<Vec<Told>, AudFault>
+pub fn opening_table(
+    history: &mut TrailHistory,
+    alloc: Global,
+    choice: &Choice,
+) -> Result<Vec<Told>, AudFault>
     ensures blocks { IfOk result (λ v. AreBlocks v.items) }
     ensures table { IfOk result (λ v. (files : Files) (entries : List meaning.Entry) (p : Pending) → IsTraced files entries history.old → IsOpening (history_of entries) choice.now.begins choice.now.point p
         → IsTable p.entries p.point files v.items) }
@@ -69,7 +73,11 @@ pub fn opening_table(history: &mut TrailHistory, alloc: Global, choice: &Choice)
 /// How many blocks each of the files 30,001 to 30,200 has at the point of the pending restore, in a table of 200 files.
 ///
 /// Nothing changes. Faults as those of `counts_after`; Damaged is answered of no trail that was scanned.
-pub fn pending_counts<S: Site>(history: &TrailHistory, alloc: Global, site: &mut S) -> Result<Vec<u32>, AudFault>
+pub fn pending_counts<S: Site>(
+    history: &TrailHistory,
+    alloc: Global,
+    site: &mut S,
+) -> Result<Vec<u32>, AudFault>
     ensures counts { IfOk result (λ v. IsTrue S.tells → (p : Pending) → TracesPending (S.files site.old) history.now p → (f : ℕ) → count_of v.items f ≡ count_at p.entries p.point f) }
     ensures size { IfOk result (λ v. length v.items ≡ 200) }
     ensures small { IfOk result (λ v. AllAtMost v.items) }

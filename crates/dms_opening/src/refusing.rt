@@ -64,7 +64,10 @@ fn judge_last(history: &TrailHistory) -> Option<(u64, PointFault)>
 
 /// The first refusal of an opening by its points, with the number of the point, or none: that of a restore that is pending, then
 /// that of the last point.
-pub fn judge_opening(history: &TrailHistory, alloc: Global) -> Result<Option<(u64, PointFault)>, AllocError>
+pub fn judge_opening(
+    history: &TrailHistory,
+    alloc: Global,
+) -> Result<Option<(u64, PointFault)>, AllocError>
     ensures { IfOk result (λ r. (files : Files) (entries : List meaning.Entry) → IsTraced files entries history.now → refusal_at r ≡ judge_opening (history_of entries) (next_of entries)) }
 {
     let at = match history.pending {
