@@ -20,3 +20,4 @@ pub mod Prepared
 pub mod Refused
 pub mod Started
 pub mod Standing
+pub mod Rooms

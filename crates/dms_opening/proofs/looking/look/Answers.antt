@@ -2,6 +2,7 @@ use Rattle.std.proofs.Common.{inl, refl}
 use Rattle.dms_restore.proofs.Results.{one_if_ok, two_if_ok, three_if_ok, one_if_err}
 use Rattle.dms_opening.proofs.Looks.{same_on, read_at, plans_as, trail_as, start_as, refused_as}
 use Rattle.dms_opening.proofs.OneTrail.{start_on, trail_of}
+use Rattle.dms_opening.proofs.Rooms.{scan_has_room, plan_has_room}
 use Rattle.dms_opening.proofs.looking.look.Goals as goal
 
 pub returns-in-Ok-clause-starts : goal.returns-in-Ok-clause-starts
@@ -30,3 +31,11 @@ returns-in-Ok-clause-moments_then g c = one_if_err c.plan_scanned.result c.plan_
 
 pub returns-in-Err-clause-refused : goal.returns-in-Err-clause-refused
 returns-in-Err-clause-refused g c tells = inl (_, refl, c.in-Err.ensures.refused tells)
+
+pub returns-in-Ok-clause-room : goal.returns-in-Ok-clause-room
+returns-in-Ok-clause-room g c = one_if_err c.plan_scanned.result c.plan_scanned.ensures.refused (λ e why tells full.
+    let s = c.in-Ok.ensures in
+    plan_has_room _ _ _ _ _ (why tells (read_at _ _ _ _ _ _ (s.files tells) (s.found tells) (s.places tells) (s.stays tells))) full)
+
+pub returns-in-Err-clause-room : goal.returns-in-Err-clause-room
+returns-in-Err-clause-room g c tells full = scan_has_room _ _ _ (c.in-Err.ensures.refused tells) full

@@ -50,3 +50,15 @@ returns-in-Ok-clause-complete g c = one_if_err c.carry_out.result c.carry_out.en
 
 pub returns-in-Err-clause-complete : goal.returns-in-Err-clause-complete
 returns-in-Err-clause-complete g c tells total first o = refuses_none total first _ _ o (c.in-Err.ensures.refused tells)
+
+pub returns-in-Ok-clause-full : goal.returns-in-Ok-clause-full
+returns-in-Ok-clause-full g c = one_if_err c.carry_out.result c.carry_out.ensures.full (λ e full tells is.
+    let l = c.in-Ok.ensures in record {
+      total = c.in-Ok.planned.log.end.total;
+      first = c.in-Ok.planned.log.first;
+      trail = l.trail tells;
+      full = full tells (is_planned g.S.Site c.args.found.site c.in-Ok.planned (l.files tells) (l.starts tells) (l.plans tells)) is;
+    })
+
+pub returns-in-Err-clause-full : goal.returns-in-Err-clause-full
+returns-in-Err-clause-full g c tells is = absurd (c.in-Err.ensures.room tells is)

@@ -1,0 +1,52 @@
+-- An opening that finds no room in its audit.
+use Rattle.std.proofs.Common.{ℕ, ◌-◌, ◌≡◌, inl, inr, sym, ◌∙◌, subst}
+use Rattle.dms_site.specs.Files.{Files}
+use Rattle.dms_audfile.specs.Reads.{Refuses}
+use Rattle.dms_audfile.specs.declared.fault.AudFault.{AudFault}
+use Rattle.dms_audfile.specs.declared.fault.AudFault.TheVariants as aud
+use Rattle.dms_opening.specs.declared.choosing.OpenFault.{OpenFault}
+use Rattle.dms_opening.specs.declared.choosing.OpenFault.TheVariants.{Audit, ByDump}
+use Rattle.dms_opening.specs.Choices.{IsOfPoint}
+use Rattle.dms_opening.specs.Refusals.{RefusedPoint}
+use Rattle.dms_opening.specs.Plans.{RefusesPlan}
+
+audit_is : (e f : AudFault) → Audit e ≡ Audit f → e ≡ f
+audit_is e f is = cc
+
+-- scanning is never refused so
+pub scan_has_room : (files : Files) (e : AudFault) (n : ℕ) → Refuses files e → Audit e ≡ Audit (aud.Full n) → ⊥
+scan_has_room files e n refuses full = subst (λ (f : AudFault). Refuses files f) (audit_is e (aud.Full n) full) refuses
+
+point_has_room : (first n : ℕ) (r : RefusedPoint) (fault : OpenFault) → IsOfPoint first r fault → fault ≡ Audit (aud.Full n) → ⊥
+point_has_room first n r fault is full = apart (subst (λ (f : OpenFault). IsOfPoint first r f) full is).1
+  where
+    apart : aud.Full n ≡ aud.Missing (first - 10001) → ⊥
+    apart e = absurd cc
+
+-- nor is a plan
+pub plan_has_room : (total first n : ℕ) (files : Files) (fault : OpenFault) → RefusesPlan total first files fault → fault ≡ Audit (aud.Full n) → ⊥
+plan_has_room total first n files fault refuses full = elim refuses [
+  | inl disk ↦ no_disk (sym disk ∙ full)
+  | inr rest ↦ elim rest [
+    | inl points ↦ elim points [
+      | inl memory ↦ no_memory (sym memory ∙ full)
+      | inr more ↦ elim more [
+        | inl dump ↦ no_dump dump.0 (sym dump.2 ∙ full)
+        | inr point ↦ point_has_room first n point.refused fault point.answered full
+      ]
+    ]
+    | inr none ↦ no_damage (sym none.0 ∙ full)
+  ]
+]
+  where
+    no_disk : Audit aud.Disk ≡ Audit (aud.Full n) → ⊥
+    no_disk e = absurd cc
+
+    no_memory : Audit aud.Memory ≡ Audit (aud.Full n) → ⊥
+    no_memory e = absurd cc
+
+    no_dump : (d : ℕ) → ByDump d ≡ Audit (aud.Full n) → ⊥
+    no_dump d e = absurd cc
+
+    no_damage : Audit (aud.Damaged first 0) ≡ Audit (aud.Full n) → ⊥
+    no_damage e = absurd cc
