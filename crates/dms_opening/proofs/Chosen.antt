@@ -92,8 +92,9 @@ dump_some files entries h q d some t is = let s = some_pending files entries h q
 pub refused_dump : (first next d : ℕ) (h : History) (o : Option ℕ) → o ≡ Some d → o ≡ dump_in h.pending → RefusesOpening first h next (ByDump d)
 refused_dump first next d h o some is = inr (inl (d, sym is ∙ some, refl))
 
-pub refused_point : (first point next : ℕ) (h : History) (fault : PointFault) (answer : OpenFault) (r : Option (ℕ × PointFault)) → r ≡ Some (point, fault) → refusal_at r ≡ judge_opening h next → PointIsRefused first point fault answer → RefusesOpening first h next answer
-refused_point first point next h fault answer r some is answered = inr (inr (record {
+pub refused_point : (first point next : ℕ) (h : History) (fault : PointFault) (answer : OpenFault) (o : Option ℕ) (r : Option (ℕ × PointFault)) → o ≡ None → o ≡ dump_in h.pending → r ≡ Some (point, fault) → refusal_at r ≡ judge_opening h next → PointIsRefused first point fault answer → RefusesOpening first h next answer
+refused_point first point next h fault answer o r none same some is answered = inr (inr (record {
+  no_dump = sym same ∙ none;
   refused = record { point = point; why = refusal_of fault };
   is = sym is ∙ ap refusal_at some;
   answered = answered;

@@ -21,13 +21,14 @@ IsOfPoint first r (ByDump d) = ⊥
 abbrev pub PointIsRefused : ℕ → ℕ → PointFault → OpenFault → Type 0
 PointIsRefused first point fault answer = IsOfPoint first (record { point = point; why = refusal_of fault }) answer
 
--- the first refusal by points is this one
+-- No restore by a dump is pending, and the first refusal by points is this one.
 pub record RefusedByPoint (first : ℕ) (h : History) (next : ℕ) (fault : OpenFault) : Type 0 where
+  pub no_dump : dump_in h.pending ≡ None
   pub refused : RefusedPoint
   pub is : judge_opening h next ≡ Some refused
   pub answered : IsOfPoint first refused fault
 
--- Memory was refused, a restore by a dump is pending, or a point can't be had.
+-- Memory was refused, a restore by a dump is pending, or none is and a point can't be had.
 abbrev pub RefusesOpening : ℕ → History → ℕ → OpenFault → Type 0
 RefusesOpening first h next fault = (fault ≡ Audit aud.Memory) ⊎ (((d : ℕ) × (dump_in h.pending ≡ Some d) × (fault ≡ ByDump d)) ⊎ RefusedByPoint first h next fault)
 
