@@ -41,17 +41,17 @@ use Rattle.dms_opening.proofs.GoneOn.{each_on}
 use Rattle.dms_wal.specs.Lifting.{last_blocks}
 use Rattle.dms_wal.specs.Marks.{last_number}
 use Rattle.dms_wal.proofs.Under.{under_control}
-use Rattle.dms_opening.specs.declared.plan.Plan.{Plan}
+use Rattle.dms_opening.specs.declared.plan.OpeningPlan.{OpeningPlan}
 use Rattle.dms_opening.specs.Plans.{Plans}
 use Rattle.dms_opening.specs.Openings.{begin_where_none, opening_entries, RunsFrom, MayHaveWritten, Reopens, text_of}
-use Rattle.dms_opening.specs.Carrying.{IsReady, IsPlanned}
+use Rattle.dms_opening.specs.Carrying.{IsFitPlan, IsPlanned}
 use Rattle.dms_opening.proofs.LastPoint.{last_is, left_is}
 
 none_not_some : {A : Type 0} (x : A) → None ≡ Some x → ⊥
 none_not_some x e = absurd cc
 
 -- By the plan of a trail that was scanned the restore is begun, or goes on: its Begin alone stands behind the entries that there were.
-pub record BeginsPlan (a : LogView) (plan : Plan) (b : LogView) : Type 0 where
+pub record BeginsPlan (a : LogView) (plan : OpeningPlan) (b : LogView) : Type 0 where
   pub planned : IsPlanned a plan
   pub total_same : b.end.total ≡ a.end.total
   pub first_same : b.first ≡ a.first
@@ -59,7 +59,7 @@ pub record BeginsPlan (a : LogView) (plan : Plan) (b : LogView) : Type 0 where
   pub sealed : trail_entries a.end.total a.first b.files ≡ trail_entries a.end.total a.first a.files ++ begin_where_none (history_of (trail_entries a.end.total a.first a.files)).pending plan.choice.point
 
 -- So it is where the files hold a database: the restore is to leave what it was to leave, and points and next number are the same.
-pub record BeginsWhole (a : LogView) (plan : Plan) (b : LogView) : Type 0 where
+pub record BeginsWhole (a : LogView) (plan : OpeningPlan) (b : LogView) : Type 0 where
   pub begins : BeginsPlan a plan b
   pub whole : IsWhole (telling a) a.files
   pub begun : BegunAt begins.planned.plans.chooses.restore b
@@ -70,7 +70,7 @@ pub begin_is : (h : History) (begins : Bool) (point : ℕ) (p : Pending) → IsO
 begin_is h true point p o = ap (λ (r : Option Pending). begin_where_none r point) (sym (o.new refl).0)
 begin_is h false point p o = ap (λ (r : Option Pending). begin_where_none r point) (sym (o.goes_on refl).0)
 
-pub count_table : (plan : Plan) → IsReady plan → IsCountTable plan.counts.items
+pub count_table : (plan : OpeningPlan) → IsFitPlan plan → IsCountTable plan.counts.items
 count_table plan ready = record { few = ready.counts.few; small = ready.counts.small }
 
 -- the bytes of the counts, by another name of their list
@@ -78,11 +78,11 @@ pub bytes_are : (counts said bytes : List ℕ) → said ≡ counts → bytes ≡
 bytes_are counts said bytes same is = is ∙ ap (λ (l : List ℕ). pair_bytes count_file count_blocks (file_counts 30001 l)) same
 
 -- what an opening may do
-pub may_open : (v : LogView) (plan : Plan) (s : IsPlanned v plan) → IsWhole (telling v) v.files → MayOpen v plan.choice.begins plan.choice.point s.plans.chooses.restore
+pub may_open : (v : LogView) (plan : OpeningPlan) (s : IsPlanned v plan) → IsWhole (telling v) v.files → MayOpen v plan.choice.begins plan.choice.point s.plans.chooses.restore
 may_open v plan s whole = record { start = s.start; whole = whole; opening = s.plans.chooses.is }
 
 -- the Begin of a plan is sealed
-module _ (a b : LogView) (plan : Plan) (s : IsPlanned a plan) (total : b.end.total ≡ a.end.total) (first : b.first ≡ a.first) (grown : Grown a.end.total a.first a.files b.files)
+module _ (a b : LogView) (plan : OpeningPlan) (s : IsPlanned a plan) (total : b.end.total ≡ a.end.total) (first : b.first ≡ a.first) (grown : Grown a.end.total a.first a.files b.files)
     (sealed : trail_entries a.end.total a.first b.files ≡ trail_entries a.end.total a.first a.files ++ cond plan.choice.begins (begin_restore plan.choice.point by_halt_load ∷ []) []) where
   abbrev pub begins_plan : BeginsPlan a plan b
   begins_plan = record {
@@ -97,10 +97,10 @@ module _ (a b : LogView) (plan : Plan) (s : IsPlanned a plan) (total : b.end.tot
   begins_whole whole begun keeps = record { begins = begins_plan; whole = whole; begun = begun; keeps = keeps }
 
 -- what was left up to the Begin, and then up to the end
-pub leaves_on : (a b : LogView) (plan : Plan) (later : Clock Left) → BeginsWhole a plan b → LeavesAll (telling a) (state a) b.clock → LeavesAll (telling b) (state b) later → LeavesAll (telling a) (state a) later
+pub leaves_on : (a b : LogView) (plan : OpeningPlan) (later : Clock Left) → BeginsWhole a plan b → LeavesAll (telling a) (state a) b.clock → LeavesAll (telling b) (state b) later → LeavesAll (telling a) (state a) later
 leaves_on a b plan later w first then = each_on a b later (λ i. telling_of (w.begins.total_same i) (w.begins.first_same i)) w.keeps.points_same w.keeps.next_same first then
 
-module _ (a b : LogView) (plan : Plan) (w : BeginsWhole a plan b) (ready : IsReady plan) (bytes : List ℕ) (is : bytes ≡ pair_bytes count_file count_blocks (file_counts 30001 plan.counts.items)) where
+module _ (a b : LogView) (plan : OpeningPlan) (w : BeginsWhole a plan b) (ready : IsFitPlan plan) (bytes : List ℕ) (is : bytes ≡ pair_bytes count_file count_blocks (file_counts 30001 plan.counts.items)) where
   abbrev plans : Plans a.end.total a.first a.files plan
   plans = w.begins.planned.plans
 

@@ -1,5 +1,5 @@
 pub mod Faults
-pub mod Planned
+pub mod OpeningPlans
 pub mod Completed
 pub mod LastPoint
 pub mod OneTrail

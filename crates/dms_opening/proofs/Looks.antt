@@ -17,10 +17,10 @@ use Rattle.dms_restore.specs.Scanned.{AreEntryPlaces}
 use Rattle.dms_restore.specs.Table.{AreBlocks}
 use Rattle.dms_restore.specs.declared.told.Told.{Told}
 use Rattle.dms_wal.specs.Marks.{IsDescription}
-use Rattle.dms_opening.specs.Carrying.{IsReady}
+use Rattle.dms_opening.specs.Carrying.{IsFitPlan}
 use Rattle.dms_restore.specs.Traces.{IsTraceOf}
-use Rattle.dms_opening.specs.declared.plan.Plan.{Plan}
-use Rattle.dms_opening.specs.Openings.{HasTrail, RefusesFiles}
+use Rattle.dms_opening.specs.declared.plan.OpeningPlan.{OpeningPlan}
+use Rattle.dms_opening.specs.Openings.{IsTrailFound, RefusesFiles}
 use Rattle.dms_opening.specs.Plans.{IsTrailRead, FitsOpening, Plans, RefusesPlan}
 
 -- one call that changes nothing after another
@@ -31,24 +31,24 @@ pub read_at : (total first : ℕ) (files now : Files) (ps : List EntryPlace) (tr
     → ((new : Files) → Grown total first files new → IsTraceOf new (trail_entries total first files) trace) → IsTrailRead total first now ps trace
 read_at total first files now ps trace same found placed stays = subst (λ (f : Files). IsTrailRead total first f ps trace) (sym same) (record { found = found; placed = placed; stays = stays })
 
-pub plans_as : (end last : AuditEnd) (first then : ℕ) (a b : Files) (plan : Plan) → last ≡ end → then ≡ first → a ≡ b → Plans end.total first a plan → Plans last.total then b plan
+pub plans_as : (end last : AuditEnd) (first then : ℕ) (a b : Files) (plan : OpeningPlan) → last ≡ end → then ≡ first → a ≡ b → Plans end.total first a plan → Plans last.total then b plan
 plans_as end last first then a b plan one two three p =
     subst (λ (e : AuditEnd). Plans e.total then b plan) (sym one) (subst (λ n. Plans end.total n b plan) (sym two) (subst (λ (f : Files). Plans end.total first f plan) three p))
 
-pub trail_as : (end last : AuditEnd) (first then : ℕ) (files : Files) → last ≡ end → then ≡ first → HasTrail end.total first files → HasTrail last.total then files
-trail_as end last first then files one two h = subst (λ (e : AuditEnd). HasTrail e.total then files) (sym one) (subst (λ n. HasTrail end.total n files) (sym two) h)
+pub trail_as : (end last : AuditEnd) (first then : ℕ) (files : Files) → last ≡ end → then ≡ first → IsTrailFound end.total first files → IsTrailFound last.total then files
+trail_as end last first then files one two h = subst (λ (e : AuditEnd). IsTrailFound e.total then files) (sym one) (subst (λ n. IsTrailFound end.total n files) (sym two) h)
 
 pub start_as : (end last : AuditEnd) (first then : ℕ) (files : Files) (clock : Clock Left) → last ≡ end → then ≡ first → IsAtStart end first files clock → IsAtStart last then files clock
 start_as end last first then files clock one two s = subst (λ (e : AuditEnd). IsAtStart e then files clock) (sym one) (subst (λ n. IsAtStart end n files clock) (sym two) s)
 
 -- a trail was found, and its plan is refused
-pub refused_as : (total first : ℕ) (files now : Files) (fault : OpenFault) → now ≡ files → HasTrail total first files → RefusesPlan total first now fault → RefusesFiles files fault
+pub refused_as : (total first : ℕ) (files now : Files) (fault : OpenFault) → now ≡ files → IsTrailFound total first files → RefusesPlan total first now fault → RefusesFiles files fault
 refused_as total first files now fault same trail why = inr (inl (record { total = total; first = first; trail = trail; why = subst (λ (f : Files). RefusesPlan total first f fault) same why }))
 
 -- its counts were cut
-module _ (total first : ℕ) (files : Files) (a b : Plan) (choice : b.choice ≡ a.choice) (next : b.next ≡ a.next) (table : b.table ≡ a.table) (schema : b.schema ≡ a.schema) (same : (f : ℕ) → count_of b.counts.items f ≡ count_of a.counts.items f) where
+module _ (total first : ℕ) (files : Files) (a b : OpeningPlan) (choice : b.choice ≡ a.choice) (next : b.next ≡ a.next) (table : b.table ≡ a.table) (schema : b.schema ≡ a.schema) (same : (f : ℕ) → count_of b.counts.items f ≡ count_of a.counts.items f) where
   pub cut_plans : Plans total first files a → Plans total first files b
-  cut_plans p = subst (λ (q : Plan). Plans total first files q) (λ i. record { choice = sym choice i; next = sym next i; table = sym table i; counts = b.counts; schema = sym schema i }) (record {
+  cut_plans p = subst (λ (q : OpeningPlan). Plans total first files q) (λ i. record { choice = sym choice i; next = sym next i; table = sym table i; counts = b.counts; schema = sym schema i }) (record {
     no_dump = p.no_dump;
     chooses = p.chooses;
     table_is = p.table_is;
@@ -57,7 +57,7 @@ module _ (total first : ℕ) (files : Files) (a b : Plan) (choice : b.choice ≡
     next_is = p.next_is;
   })
 
-  pub ready_of : FitsOpening a → length b.counts.items ≤ length a.counts.items → IsReady b
+  pub ready_of : FitsOpening a → length b.counts.items ≤ length a.counts.items → IsFitPlan b
   ready_of fit fewer = record {
     blocks = subst (λ (v : Vec Told). AreBlocks v.items) (sym table) fit.blocks;
     counts = record { few = omega (arith, fewer, fit.size); small = λ f. omega (arith, same f, fit.small f) };

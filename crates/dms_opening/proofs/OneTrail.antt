@@ -11,7 +11,7 @@ use Rattle.dms_audfile.specs.declared.audit_end.AuditEnd.{AuditEnd}
 use Rattle.dms_audfile.specs.declared.place.EntryPlace.{EntryPlace}
 use Rattle.dms_audfile.proofs.Followed.{fits_says}
 use Rattle.dms_restore.specs.Laying.{IsAtStart}
-use Rattle.dms_opening.specs.Openings.{HasTrail}
+use Rattle.dms_opening.specs.Openings.{IsTrailFound}
 
 not_both : (bytes : List ℕ) → bytes ≡ [] → 0 < length bytes → ⊥
 not_both bytes none some = omega (arith, ap length none, some)
@@ -36,10 +36,10 @@ found_first files f g ps qs one two =
     omega (arith, one.first_is, two.first_is, first_le files s.first s.last t.first t.last s.span t.span, first_le files t.first t.last s.first s.last t.span s.span)
 
 -- its first file and the number of blocks a file
-pub one_first : (t f u g : ℕ) (files : Files) → HasTrail t f files → HasTrail u g files → f ≡ g
+pub one_first : (t f u g : ℕ) (files : Files) → IsTrailFound t f files → IsTrailFound u g files → f ≡ g
 one_first t f u g files one two = found_first files f g one.places two.places one.found two.found
 
-pub one_total : (t f u g : ℕ) (files : Files) → HasTrail t f files → HasTrail u g files → t ≡ u
+pub one_total : (t f u g : ℕ) (files : Files) → IsTrailFound t f files → IsTrailFound u g files → t ≡ u
 one_total t f u g files one two =
     let same = one_first t f u g files one two in
     let a = fits_says (f - 10000) t (files f) (one.writes.fits f (omega arith) one.writes.order) in
@@ -72,7 +72,7 @@ start_on end first old new a b same steps s =
     let only : Only old b = λ x now. let y = steps.follows x now in ap (λ (z : Left). z.files) y.2 ∙ s.only y.0 y.1 in
     subst (λ (f : Files). IsAtStart end first f b) (sym same) (record { ends = ends; only = only })
 
-pub trail_of : (end : AuditEnd) (first : ℕ) (files now : Files) (clock : Clock Left) (ps : List EntryPlace) → now ≡ files → IsFound files first ps → IsAtStart end first now clock → HasTrail end.total first files
+pub trail_of : (end : AuditEnd) (first : ℕ) (files now : Files) (clock : Clock Left) (ps : List EntryPlace) → now ≡ files → IsFound files first ps → IsAtStart end first now clock → IsTrailFound end.total first files
 trail_of end first files now clock ps same found s =
     let e = subst (λ (f : Files). EndsAt end first [] f clock) same s.ends in
     record { places = ps; found = found; tag = end.tag; file = end.file; count = end.count; writes = e.writes }

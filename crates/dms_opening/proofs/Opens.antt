@@ -14,10 +14,10 @@ use Rattle.dms_opening.specs.declared.choosing.OpenFault.{OpenFault}
 use Rattle.dms_restore.specs.Laying.{IsAtStart}
 use Rattle.dms_restore.specs.Logging.{LogView, telling_of, telling}
 use Rattle.dms_wal.specs.Database.{view_of}
-use Rattle.dms_opening.specs.declared.looking.Planned.{Planned}
+use Rattle.dms_opening.specs.declared.looking.PlannedOpening.{PlannedOpening}
 use Rattle.dms_opening.specs.declared.opened.Opened.{Opened}
 use Rattle.dms_opening.specs.Carrying.{IsPlanned}
-use Rattle.dms_opening.specs.Openings.{HasTrail, NamesStructures, OpensAt, RunsFrom, Reopens, ReopensSince, text_of, RefusesFiles, MayHaveWritten}
+use Rattle.dms_opening.specs.Openings.{IsTrailFound, NamesStructures, OpensAt, RunsFrom, Reopens, ReopensSince, text_of, RefusesFiles, MayHaveWritten}
 use Rattle.dms_opening.specs.Plans.{Plans}
 use Rattle.dms_opening.proofs.OneTrail.{one_first, one_total, unchanged}
 
@@ -30,9 +30,9 @@ may_refuse files fault (inl disk) = inl (aud.Disk, disk, tt)
 may_refuse files fault (inr full) = inr (inr full)
 
 -- the plan of an opening is what it does
-module _ {S : Type 0} (files : Files) (p : Planned S) (o : Opened S) (total : o.log.end.total ≡ p.log.end.total) (first : o.log.first ≡ p.log.first)
+module _ {S : Type 0} (files : Files) (p : PlannedOpening S) (o : Opened S) (total : o.log.end.total ≡ p.log.end.total) (first : o.log.first ≡ p.log.first)
     (point : o.point ≡ p.plan.choice.point) (next : o.next ≡ p.plan.next) (schema : o.schema ≡ p.plan.schema) (counts : o.counts ≡ p.plan.counts) where
-  planned_opens : HasTrail p.log.end.total p.log.first files → Plans p.log.end.total p.log.first files p.plan → NamesStructures p.plan.schema.items p.plan.counts.items
+  planned_opens : IsTrailFound p.log.end.total p.log.first files → Plans p.log.end.total p.log.first files p.plan → NamesStructures p.plan.schema.items p.plan.counts.items
       → OpensAt p.log.end.total p.log.first files p.plan.choice.point p.plan.next p.plan.schema.items p.plan.counts.items
   planned_opens trail plans named = record {
     trail = trail;
@@ -46,7 +46,7 @@ module _ {S : Type 0} (files : Files) (p : Planned S) (o : Opened S) (total : o.
     named = named;
   }
 
-  pub opens_at : HasTrail p.log.end.total p.log.first files → Plans p.log.end.total p.log.first files p.plan → NamesStructures p.plan.schema.items p.plan.counts.items
+  pub opens_at : IsTrailFound p.log.end.total p.log.first files → Plans p.log.end.total p.log.first files p.plan → NamesStructures p.plan.schema.items p.plan.counts.items
       → OpensAt o.log.end.total o.log.first files o.point o.next o.schema.items o.counts.items
   opens_at trail plans named =
       subst (λ n. OpensAt n o.log.first files o.point o.next o.schema.items o.counts.items) (sym total)
@@ -64,7 +64,7 @@ module _ {S : Type 0} (files : Files) (p : Planned S) (o : Opened S) (total : o.
       (subst (λ (w : Vec ℕ). RunsFrom now p.plan.choice.point p.plan.next w.items o.counts.items v) (sym schema)
       (subst (λ (w : Vec ℕ). RunsFrom now p.plan.choice.point p.plan.next p.plan.schema.items w.items v) (sym counts) r))))
 
-module _ {S : Type 0} (g : Ghosts S) (site : S) (p : Planned S) (same : g.files p.log.site ≡ g.files site) where
+module _ {S : Type 0} (g : Ghosts S) (site : S) (p : PlannedOpening S) (same : g.files p.log.site ≡ g.files site) where
   -- what was looked at is planned
   pub is_planned : IsAtStart p.log.end p.log.first (g.files p.log.site) (g.clock p.log.site) → Plans p.log.end.total p.log.first (g.files site) p.plan → IsPlanned (view_of g p.log) p.plan
   is_planned starts plans = record { start = starts; plans = subst (λ (f : Files). Plans p.log.end.total p.log.first f p.plan) (sym same) plans }
@@ -76,7 +76,7 @@ module _ {S : Type 0} (g : Ghosts S) (site : S) (p : Planned S) (same : g.files 
 
   -- at every moment
   module _ (counts_now : (s : S) (t : ℕ) (x : Left) → t ≤ (g.clock s).now → Now (g.clock s) x → (g.clock s).left t x) (steps : Steps Same (g.clock site) (g.clock p.log.site)) (said : g.said p.log.site ≡ g.said site)
-      (trail : HasTrail p.log.end.total p.log.first (g.files site)) (later : S) where
+      (trail : IsTrailFound p.log.end.total p.log.first (g.files site)) (later : S) where
     pub since : (IsWhole (telling (view_of g p.log)) (g.files p.log.site) → Runs (g.clock p.log.site) (g.clock later) (Reopens (telling (view_of g p.log)) (g.files p.log.site) (text_of g p.log.site))) → ReopensSince g site later
     since run total first found whole =
         let one = one_total total first p.log.end.total p.log.first (g.files site) found trail in

@@ -41,7 +41,7 @@ use Rattle.dms_opening.specs.Plans.{IsPlainFault, RefusesPlan}
 use Rattle.dms_opening.specs.Laws.{LastIsDescribed}
 
 -- Scanning refuses nothing in these files: their trail begins with file `first`, and each of its files has so many blocks.
-pub record HasTrail (total first : ℕ) (files : Files) : Type 0 where
+pub record IsTrailFound (total first : ℕ) (files : Files) : Type 0 where
   pub places : List EntryPlace
   pub found : IsFound files first places
   pub tag : ℕ
@@ -59,7 +59,7 @@ pub record NamesStructures (schema counts : List ℕ) : Type 0 where
 -- Neither the trail nor a point of it is refused. The opening begins a restore by halt/load to the last point, or goes on with the one that
 -- is pending, and these are the restore's point, the next number, the description at the point, and how many blocks each file has there.
 pub record OpensAt (total first : ℕ) (files : Files) (point next : ℕ) (schema counts : List ℕ) : Type 0 where
-  pub trail : HasTrail total first files
+  pub trail : IsTrailFound total first files
   pub no_dump : NoDumpPending (trail_entries total first files)
   pub choice : Choice
   pub chooses : Chooses (history_of (trail_entries total first files)) (next_of (trail_entries total first files)) choice
@@ -111,7 +111,7 @@ module _ {S : Type 0} (g : Ghosts S) where
 
   -- Where the files of then held a database, each stop since then left what it could leave then, or all their points.
   abbrev pub ReopensSince : S → S → Type 0
-  ReopensSince a b = (total first : ℕ) → HasTrail total first (g.files a) → IsWhole (telling_of total first) (g.files a) → Runs (g.clock a) (g.clock b) (Reopens (telling_of total first) (g.files a) (text_of a))
+  ReopensSince a b = (total first : ℕ) → IsTrailFound total first (g.files a) → IsWhole (telling_of total first) (g.files a) → Runs (g.clock a) (g.clock b) (Reopens (telling_of total first) (g.files a) (text_of a))
 
 -- Blocks tell exactly the points of files, all of them durable, the content of the last one, and the next number.
 -- They weren't synced yet.
@@ -128,7 +128,7 @@ pub record TellsOpened (t : Telling) (files : Files) (next : ℕ) (h : Held) : T
 pub record RefusesTrail (files : Files) (fault : OpenFault) : Type 0 where
   pub total : ℕ
   pub first : ℕ
-  pub trail : HasTrail total first files
+  pub trail : IsTrailFound total first files
   pub why : RefusesPlan total first files fault
 
 -- the audit has no room up to file 9,999
@@ -144,7 +144,7 @@ RefusesFiles files fault = ((e : AudFault) × (fault ≡ Audit e) × Refuses fil
 pub record IsFullIn (files now : Files) : Type 0 where
   pub total : ℕ
   pub first : ℕ
-  pub trail : HasTrail total first files
+  pub trail : IsTrailFound total first files
   pub full : (g : ℕ) → first ≤ g → g ≤ 19999 → is_full total (now g) ≡ true
 
 -- A call of the site failed, or the audit had no room: the opening may have begun to write.
@@ -153,7 +153,7 @@ MayHaveWritten fault = (fault ≡ Audit aud.Disk) ⊎ IsFullFault fault
 
 -- These files hold a database, whose last point is live and described.
 pub record IsOpenable (total first : ℕ) (files : Files) : Type 0 where
-  pub trail : HasTrail total first files
+  pub trail : IsTrailFound total first files
   pub whole : IsWhole (telling_of total first) files
   pub described : LastIsDescribed (trail_entries total first files)
 

@@ -21,7 +21,7 @@ use Rattle.dms_opening.specs.PointCounts.{AllAtMost}
 use Rattle.dms_restore.specs.Scanned.{AreEntryPlaces}
 use Rattle.dms_restore.specs.Table.{AreBlocks, IsTable}
 use Rattle.dms_restore.specs.Traces.{IsTraceOf}
-use Rattle.dms_opening.specs.declared.plan.Plan.{Plan}
+use Rattle.dms_opening.specs.declared.plan.OpeningPlan.{OpeningPlan}
 
 -- The trail that begins with file `first` was scanned: these are the places of its entries, and this is what they tell, however it grows.
 pub record IsTrailRead (total first : ℕ) (files : Files) (places : List EntryPlace) (t : TrailTrace) : Type 0 where
@@ -31,7 +31,7 @@ pub record IsTrailRead (total first : ℕ) (files : Files) (places : List EntryP
 
 -- Nothing is refused, and this is what the opening does. For the restore that it begins or goes on with, the table is what the audit tells
 -- at the point, however the trail grows. The counts, the description and the next number are those there.
-pub record Plans (total first : ℕ) (files : Files) (plan : Plan) : Type 0 where
+pub record Plans (total first : ℕ) (files : Files) (plan : OpeningPlan) : Type 0 where
   pub no_dump : NoDumpPending (trail_entries total first files)
   pub chooses : Chooses (history_of (trail_entries total first files)) (next_of (trail_entries total first files)) plan.choice
   pub table_is : (new : Files) → Grown total first files new → IsTable chooses.restore.entries chooses.restore.point new plan.table.items
@@ -41,7 +41,7 @@ pub record Plans (total first : ℕ) (files : Files) (plan : Plan) : Type 0 wher
 
 -- The table is of blocks of structure files, the counts are those of 200 files, none with more blocks than may be, and the description has
 -- from 1 to 65,535 bytes.
-pub record FitsOpening (plan : Plan) : Type 0 where
+pub record FitsOpening (plan : OpeningPlan) : Type 0 where
   pub blocks : AreBlocks plan.table.items
   pub size : length plan.counts.items ≡ 200
   pub small : AllAtMost plan.counts.items

@@ -7,13 +7,13 @@ ghost use Rattle.dms_running.specs.Standing.{IsWhole};
 ghost use Rattle.dms_restore.specs.Logging.{telling};
 ghost use Rattle.dms_wal.specs.Closing.{IsFullTrail};
 ghost use Rattle.dms_wal.specs.Database.{view_of};
-ghost use Rattle.dms_opening.specs.Carrying.{IsReady, IsPlanned};
+ghost use Rattle.dms_opening.specs.Carrying.{IsFitPlan, IsPlanned};
 ghost use Rattle.dms_opening.specs.Openings.{RunsFrom, Reopens, text_of, IsFullFault, MayHaveWritten};
 
 use crate::going_on::go_on;
-use crate::looking::Planned;
+use crate::looking::PlannedOpening;
 use crate::starting::start;
-use crate::{OpenFault, Opened, Plan};
+use crate::{OpenFault, Opened, OpeningPlan};
 use dms_audfile::AudFault;
 use dms_restore::{Log, count_bytes};
 use dms_site::Site;
@@ -31,8 +31,8 @@ pub(crate) fn site_of<S: Site>(log: Log<S>) -> S
 }
 
 /// Begins the restore of a plan, or goes on with the pending one, writes its blocks, and ends it.
-pub(crate) fn carry_out<S: Site>(planned: Planned<S>) -> Result<Opened<S>, (OpenFault, S)>
-    requires ready { IsReady planned.plan }
+pub(crate) fn carry_out<S: Site>(planned: PlannedOpening<S>) -> Result<Opened<S>, (OpenFault, S)>
+    requires ready { IsFitPlan planned.plan }
     requires limit { planned.log.end.limit ≡ 9999 }
     ensures runs { IfOk result (λ o. IsTrue S.tells → IsPlanned (view_of S.Site planned.log) planned.plan → IsWhole (telling (view_of S.Site planned.log)) (S.files planned.log.site)
         → RunsFrom (S.files planned.log.site) planned.plan.choice.point planned.plan.next planned.plan.schema.items planned.plan.counts.items (view_of S.Site o.log)) }
@@ -53,8 +53,8 @@ pub(crate) fn carry_out<S: Site>(planned: Planned<S>) -> Result<Opened<S>, (Open
     ensures say_faults { IfOk result (λ o. S.say_faults o.log.site ≡ S.say_faults planned.log.site) }
     ensures say_faults_then { IfErr result (λ e. S.say_faults e.1 ≡ S.say_faults planned.log.site) }
 {
-    let Planned { log, plan } = planned;
-    let Plan {
+    let PlannedOpening { log, plan } = planned;
+    let OpeningPlan {
         choice,
         next,
         table,

@@ -4,7 +4,7 @@ ghost use Rattle.std.specs.Prelude.{◌≡◌, ◌≤◌, ◌<◌, ◌-◌, ℕ,
 ghost use Rattle.dms_restore.specs.Counts.{count_of};
 ghost use Rattle.dms_opening.specs.Openings.{NamesStructures};
 
-use crate::Plan;
+use crate::OpeningPlan;
 use dms_base::Memory;
 use dms_desc_bytes::{decode, spelling_law};
 use std::alloc::Global;
@@ -24,7 +24,7 @@ fn used_counts(counts: &[u32]) -> usize
     used
 }
 
-impl Plan {
+impl OpeningPlan {
     /// Leaves of the counts those of the structures of the description, and those of files behind them up to the last that has a block.
     /// Where the bytes are those of no description all are left.
     pub(crate) fn cut_counts(&mut self, alloc: Global) -> Result<(), Memory>

@@ -29,7 +29,7 @@ pub use numbers::last_point;
 pub use opened::{Opened, open};
 pub use opening::{log_of, resume_log};
 pub use pending::pending_table;
-pub use plan::{Plan, prepare};
+pub use plan::{OpeningPlan, prepare};
 pub use point_counts::counts_after;
 pub use preparing::{opening_table, pending_counts};
 pub use refusing::{judge, judge_opening};

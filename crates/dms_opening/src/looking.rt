@@ -5,30 +5,30 @@ ghost use Rattle.dms_moments.specs.Moments.{Steps};
 ghost use Rattle.dms_site.specs.Files.{Same};
 ghost use Rattle.dms_audfile.specs.Counting.{CountedAt};
 ghost use Rattle.dms_restore.specs.Laying.{IsAtStart};
-ghost use Rattle.dms_opening.specs.Openings.{HasTrail, NamesStructures, RefusesFiles, IsFullFault};
+ghost use Rattle.dms_opening.specs.Openings.{IsTrailFound, NamesStructures, RefusesFiles, IsFullFault};
 ghost use Rattle.dms_opening.specs.Plans.{IsTrailRead, Plans, RefusesPlan};
-ghost use Rattle.dms_opening.specs.Carrying.{IsReady};
+ghost use Rattle.dms_opening.specs.Carrying.{IsFitPlan};
 
-use crate::{Found, OpenFault, Plan, Scanned, prepare};
+use crate::{Found, OpenFault, OpeningPlan, Scanned, prepare};
 use dms_audfile::AudFault;
 use dms_restore::Log;
 use dms_site::Site;
 use std::alloc::Global;
 
 /// A database that was looked at, and what its opening does.
-pub(crate) struct Planned<S: Site> {
+pub(crate) struct PlannedOpening<S: Site> {
     pub(crate) log: Log<S>,
-    pub(crate) plan: Plan,
+    pub(crate) plan: OpeningPlan,
 }
 
 /// Plans the opening of a trail that was scanned. Nothing changes.
 pub(crate) fn plan_scanned<S: Site>(
     alloc: Global,
     scanned: Scanned<S>,
-) -> Result<Planned<S>, (OpenFault, S)>
+) -> Result<PlannedOpening<S>, (OpenFault, S)>
     requires low { 10001 ≤ scanned.log.first }
     ensures plans { IfOk result (λ p. IsTrue S.tells → IsTrailRead scanned.log.end.total scanned.log.first (S.files scanned.log.site) scanned.places.items scanned.trace → Plans scanned.log.end.total scanned.log.first (S.files scanned.log.site) p.plan) }
-    ensures ready { IfOk result (λ p. IsReady p.plan) }
+    ensures ready { IfOk result (λ p. IsFitPlan p.plan) }
     ensures named { IfOk result (λ p. NamesStructures p.plan.schema.items p.plan.counts.items) }
     ensures refused { IfErr result (λ e. IsTrue S.tells → IsTrailRead scanned.log.end.total scanned.log.first (S.files scanned.log.site) scanned.places.items scanned.trace → RefusesPlan scanned.log.end.total scanned.log.first (S.files scanned.log.site) e.0) }
     ensures kind { IfOk result (λ p. (p.log.end ≡ scanned.log.end) × (p.log.first ≡ scanned.log.first)) }
@@ -59,18 +59,21 @@ pub(crate) fn plan_scanned<S: Site>(
         Ok(()) => {}
         Err(_) => return Err((OpenFault::Audit(AudFault::Memory), site)),
     }
-    Ok(Planned {
+    Ok(PlannedOpening {
         log: Log { site, end, first },
         plan,
     })
 }
 
 /// Scans the trail of the files that were found, and plans their opening. Nothing changes.
-pub(crate) fn look<S: Site>(alloc: Global, found: Found<S>) -> Result<Planned<S>, (OpenFault, S)>
+pub(crate) fn look<S: Site>(
+    alloc: Global,
+    found: Found<S>,
+) -> Result<PlannedOpening<S>, (OpenFault, S)>
     ensures starts { IfOk result (λ p. IsTrue S.tells → IsAtStart p.log.end p.log.first (S.files p.log.site) (S.clock p.log.site)) }
-    ensures trail { IfOk result (λ p. IsTrue S.tells → HasTrail p.log.end.total p.log.first (S.files found.site)) }
+    ensures trail { IfOk result (λ p. IsTrue S.tells → IsTrailFound p.log.end.total p.log.first (S.files found.site)) }
     ensures plans { IfOk result (λ p. IsTrue S.tells → Plans p.log.end.total p.log.first (S.files found.site) p.plan) }
-    ensures ready { IfOk result (λ p. IsReady p.plan) }
+    ensures ready { IfOk result (λ p. IsFitPlan p.plan) }
     ensures named { IfOk result (λ p. NamesStructures p.plan.schema.items p.plan.counts.items) }
     ensures limit { IfOk result (λ p. p.log.end.limit ≡ 9999) }
     ensures refused { IfErr result (λ e. IsTrue S.tells → RefusesFiles (S.files found.site) e.0) }

@@ -29,7 +29,7 @@ use std::alloc::Global;
 
 /// What an opening does, and what it needs, before its first write.
 #[derive(Drop)]
-pub struct Plan {
+pub struct OpeningPlan {
     pub choice: Choice,
     /// The next number.
     pub next: u64,
@@ -131,7 +131,7 @@ pub fn prepare<S: Site>(
     first: u32,
     places: &[EntryPlace],
     trace: TrailTrace,
-) -> Result<Plan, OpenFault>
+) -> Result<OpeningPlan, OpenFault>
     requires { 10001 ≤ first }
     ensures plans { IfOk result (λ plan. IsTrue S.tells → (total : ℕ) → IsTrailRead total first (S.files site.old) places.now trace → Plans total first (S.files site.old) plan) }
     ensures fit { IfOk result FitsOpening }
@@ -150,7 +150,7 @@ pub fn prepare<S: Site>(
     };
     let next = trace.history.next;
     match prepare_restore(alloc, site, &choice, trace.history) {
-        Ok((table, counts)) => Ok(Plan {
+        Ok((table, counts)) => Ok(OpeningPlan {
             choice,
             next,
             table,

@@ -21,7 +21,7 @@ use Rattle.dms_restore.specs.Logging.{telling_of, telling, points}
 use Rattle.dms_wal.specs.Database.{view_of}
 use Rattle.dms_wal.specs.Marks.{last_number}
 use Rattle.dms_opening.specs.declared.opened.Opened.{Opened}
-use Rattle.dms_opening.specs.Openings.{HasTrail, IsNoRefusal, IsOpenable, OpensAt, ReopensSince, RunsFrom}
+use Rattle.dms_opening.specs.Openings.{IsTrailFound, IsNoRefusal, IsOpenable, OpensAt, ReopensSince, RunsFrom}
 use Rattle.dms_opening.proofs.Callers.{trail_is_one}
 use Rattle.dms_run.specs.States.{LivesEndWith}
 use Rattle.dms_runlaws.specs.RunStands.{StopsStand}

@@ -21,7 +21,7 @@ use Rattle.dms_wal.specs.Database.{view_of}
 use Rattle.dms_run.specs.States.{LivesEndWith}
 use Rattle.dms_opening.specs.declared.opened.Opened.{Opened}
 use Rattle.dms_opening.specs.Laws.{LastIsDescribed}
-use Rattle.dms_opening.specs.Openings.{HasTrail, IsOpenable, RunsFrom, RefusesFiles}
+use Rattle.dms_opening.specs.Openings.{IsTrailFound, IsOpenable, RunsFrom, RefusesFiles}
 use Rattle.dms_status.specs.declared.status.Status.{Status}
 use Rattle.dms_runtop.specs.Faults.{open_status}
 use Rattle.dms_runtop.specs.Over.{ScriptRuns, seen_site}
@@ -38,7 +38,7 @@ pub record DatabaseState : Type 0 where
 pub record HoldsState (files : Files) (s : DatabaseState) : Type 0 where
   pub total : ℕ
   pub first : ℕ
-  pub trail : HasTrail total first files
+  pub trail : IsTrailFound total first files
   pub whole : IsWhole (telling_of total first) files
   pub described : LastIsDescribed (trail_entries total first files)
   pub state : LivesEndWith s.desc (points_of (telling_of total first) files) s.point s.db

@@ -2,7 +2,7 @@ use Rattle.std.proofs.Common.{refl, sym, subst}
 use Rattle.dms_site.specs.Files.{Files}
 use Rattle.dms_audfile.specs.TrailEntries.{trail_entries}
 use Rattle.dms_restore.specs.Tracing.{IsTraced}
-use Rattle.dms_opening.proofs.Planned.{read_now, planned, refused_by, not_described, not_prepared}
+use Rattle.dms_opening.proofs.OpeningPlans.{read_now, planned, refused_by, not_described, not_prepared}
 use Rattle.dms_opening.proofs.plan.prepare.Goals as goal
 
 pub returns-in-Err-clause-refused : goal.returns-in-Err-clause-refused

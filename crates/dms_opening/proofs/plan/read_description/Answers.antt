@@ -1,6 +1,6 @@
 use Rattle.std.proofs.Common.{inl, inr, List, ℕ, Some, sym, ◌∙◌, ap}
 use Rattle.dms_restore.proofs.Results.{one_if_ok, one_if_err}
-use Rattle.dms_opening.proofs.Planned.{none_there, bytes_there, read_fault}
+use Rattle.dms_opening.proofs.OpeningPlans.{none_there, bytes_there, read_fault}
 use Rattle.dms_opening.proofs.plan.read_description.Goals as goal
 
 pub returns-in-None-clause-only : goal.returns-in-None-clause-only

@@ -43,7 +43,7 @@ use Rattle.dms_restore.specs.Tracing.{IsTraced}
 use Rattle.dms_opening.proofs.Chosen.{or_none, at_none}
 use Rattle.dms_opening.proofs.Prepared.{HoldsPending, holds}
 use Rattle.dms_restore.proofs.Scans.{none_missing}
-use Rattle.dms_opening.specs.declared.plan.Plan.{Plan}
+use Rattle.dms_opening.specs.declared.plan.OpeningPlan.{OpeningPlan}
 use Rattle.dms_opening.specs.Plans.{IsTrailRead, Plans, HasNoDescriptionAt, IsPlainFault, RefusesPlan}
 use Rattle.dms_opening.proofs.Faults.{plain_audit}
 
@@ -146,7 +146,7 @@ read_fault tells total first files places t fault is on r = elim is [
 
 -- ---- the plan
 
-pub planned : (total first : ℕ) (files : Files) (places : List EntryPlace) (t : TrailTrace) (choice : Choice) (next : ℕ) (table : List Told) (counts schema : List ℕ) (plan : Plan) → plan.choice ≡ choice → plan.next ≡ next → plan.table.items ≡ table → plan.counts.items ≡ counts → plan.schema.items ≡ schema
+pub planned : (total first : ℕ) (files : Files) (places : List EntryPlace) (t : TrailTrace) (choice : Choice) (next : ℕ) (table : List Told) (counts schema : List ℕ) (plan : OpeningPlan) → plan.choice ≡ choice → plan.next ≡ next → plan.table.items ≡ table → plan.counts.items ≡ counts → plan.schema.items ≡ schema
     → IsTrailRead total first files places t → next ≡ t.history.next → Chooses (history_of (trail_entries total first files)) (next_of (trail_entries total first files)) choice
     → ((new : Files) (entries : List Entry) (p : Pending) → IsTraced new entries t.history → IsOpening (history_of entries) choice.begins choice.point p → IsTable p.entries p.point new table)
     → ((entries : List Entry) (p : Pending) → IsTraced files entries t.history → IsOpening (history_of entries) choice.begins choice.point p → (f : ℕ) → count_of counts f ≡ count_at p.entries p.point f)

@@ -2,7 +2,7 @@ use Rattle.std.proofs.Common.{ℕ, ◌-◌, ◌<◌, ◌≤◌, List, get_or, le
 use Rattle.std.proofs.lemmas.List.{length-map}
 use Rattle.dms_desc.specs.Shape.{described, shape_of}
 use Rattle.dms_opening.proofs.Trims.{named_cut}
-use Rattle.dms_opening.proofs.plan.Plan.cut_counts.Goals as goal
+use Rattle.dms_opening.proofs.plan.OpeningPlan.cut_counts.Goals as goal
 
 pub returns-clause-named : goal.returns-clause-named
 returns-clause-named c =
