@@ -17,6 +17,14 @@ module _ {B : Type 0} {g : Ghosts B} where
   abbrev pub look : Overlay B g → ℕ → ℕ → Option (List ℕ)
   look o file b = slice_get (seen o file) b
 
+  -- what a change of a file's list asks for: who changes it may write to the file, there is room for blocks, and entries
+  -- have the list's width
+  pub record MayChange (o : Overlay B g) (file width : ℕ) : Type 0 where
+    pub sound : (under o).sound
+    pub owned : IsTrue ((under o).owns file)
+    pub room : seen_counts o file ≤ 1048576
+    pub wide : IsListWidth width
+
   -- what holds of the list of a file, where the content is told and the file's blocks are one
   abbrev pub IfList : Overlay B g → ℕ → ℕ → (List (List ℕ) → Type 0) → Type 0
   IfList o file width P = IsTrue (under o).told → (xs : List (List ℕ)) → list_in width (seen o file) ≡ Some xs → P xs

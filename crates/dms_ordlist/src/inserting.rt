@@ -9,7 +9,7 @@ ghost use Rattle.dms_ordlist.specs.ListWrites.{Taken};
 ghost use Rattle.dms_ordlist.specs.Lists.{has_entry, with_entry};
 ghost use Rattle.dms_ordlist.specs.Looks.{IfLook, ListOr};
 ghost use Rattle.dms_ordlist.specs.Places.{PlaceHolds};
-ghost use Rattle.dms_ordlist.specs.Seen.{IfList, IsListWidth, NoList, NotAt};
+ghost use Rattle.dms_ordlist.specs.Seen.{IfList, IsListWidth, MayChange, NoList, NotAt};
 ghost use Rattle.dms_ordlist.specs.SpellLaws.{AllWide};
 ghost use Rattle.dms_ordlist.specs.Written.{CountGrown};
 
@@ -170,10 +170,7 @@ pub fn insert<B: Blocks>(
     file: u32,
     entry: &[u8],
 ) -> Result<bool, BlockFault>
-    requires sound { (under over.old).sound }
-    requires owned { IsTrue ((under over.old).owns file) }
-    requires room { seen_counts over.old file ≤ 1048576 }
-    requires width { IsListWidth (length entry.now) }
+    requires may { MayChange over.old file (length entry.now) }
     ensures list { OnOk result (IfList over.old file (length entry.now) (λ xs. list_in (length entry.now) (seen over.new file) ≡ Some (with_entry entry.now xs))) }
     ensures answer { IfOk result (λ new. IfList over.old file (length entry.now) (λ xs. new ≡ not (has_entry entry.now xs))) }
     ensures still { IfOk result (λ new. new ≡ false → written over.new ≡ written over.old) }

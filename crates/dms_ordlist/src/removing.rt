@@ -6,7 +6,7 @@ ghost use Rattle.dms_ordlist.specs.ListRemoves.{LeafSpotFits, released};
 ghost use Rattle.dms_ordlist.specs.Lists.{has_entry, without};
 ghost use Rattle.dms_ordlist.specs.Looks.{IfLook};
 ghost use Rattle.dms_ordlist.specs.Places.{PlaceHolds};
-ghost use Rattle.dms_ordlist.specs.Seen.{IfList, IsListWidth, NoList};
+ghost use Rattle.dms_ordlist.specs.Seen.{IfList, IsListWidth, MayChange, NoList};
 
 use crate::looking::look;
 use crate::order::{lead, stands_at};
@@ -112,10 +112,7 @@ pub fn remove<B: Blocks>(
     file: u32,
     entry: &[u8],
 ) -> Result<bool, BlockFault>
-    requires sound { (under over.old).sound }
-    requires owned { IsTrue ((under over.old).owns file) }
-    requires room { seen_counts over.old file ≤ 1048576 }
-    requires width { IsListWidth (length entry.now) }
+    requires may { MayChange over.old file (length entry.now) }
     ensures list { OnOk result (IfList over.old file (length entry.now) (λ xs. list_in (length entry.now) (seen over.new file) ≡ Some (without entry.now xs))) }
     ensures answer { IfOk result (λ was. IfList over.old file (length entry.now) (λ xs. was ≡ has_entry entry.now xs)) }
     ensures still { IfOk result (λ was. was ≡ false → written over.new ≡ written over.old) }
