@@ -26,7 +26,7 @@ use Rattle.dms_opening.proofs.Callers.{trail_is_one}
 use Rattle.dms_run.specs.States.{LivesEndWith}
 use Rattle.dms_runlaws.specs.RunStands.{StopsStand}
 use Rattle.dms_status.specs.declared.status.Status.{Status}
-use Rattle.dms_runtop.specs.Command.{DatabaseState, HasRoom, HoldsState, HoldsTold, RunsCommand, RunsOpened, StandsOpened, StandsThroughout}
+use Rattle.dms_runtop.specs.Command.{DatabaseState, HasNumbersLeft, HoldsState, HoldsTold, RunsCommand, RunsOpened, StandsOpened, StandsThroughout}
 use Rattle.dms_runtop.specs.Faults.{open_status}
 use Rattle.dms_runtop.specs.Over.{ScriptRuns, seen_site}
 use Rattle.dms_runtop.proofs.Endings.{IsUndone}
@@ -104,7 +104,7 @@ module _ {S : Type 0} (g : Ghosts S) (old : S) (s : DatabaseState) where
   pub runs_entered : (o : Opened S) → OpensAt o.log.end.total o.log.first (g.files old) o.point o.next o.schema.items o.counts.items
       → (IsWhole (telling_of o.log.end.total o.log.first) (g.files old) → RunsFrom (g.files old) o.point o.next o.schema.items o.counts.items (view_of g o.log)) → ReopensSince g old o.log.site → g.said o.log.site ≡ g.said old
       → (known : Bool) (left left' : Option (List ℕ)) (status : Status) (new : S) → RunsOpened g o known left left' status new → IsTrue g.tells → IsTrue known
-      → (h : HoldsState (g.files old) s) → HasRoom (g.files old) s h → (all : List ℕ) → left ≡ Some all
+      → (h : HoldsState (g.files old) s) → HasNumbersLeft (g.files old) s h → (all : List ℕ) → left ≡ Some all
       → ScriptRuns (telling_of h.total h.first) s.desc (points_of (telling_of h.total h.first) (g.files old)) s.point s.db (next_in (telling_of h.total h.first) (g.files old)) all (seen_site g old) (seen_site g new) left' status
   runs_entered o opens runs since said known left left' status new ran told knows h room all is =
       let files : Files = g.files old in

@@ -49,8 +49,8 @@ abbrev pub HoldsTold : Option DatabaseState → Files → Type 0
 HoldsTold state files = (s : DatabaseState) → state ≡ Some s → HoldsState files s
 
 -- there is room for the numbers of a script
-abbrev pub HasRoom : (files : Files) (s : DatabaseState) → HoldsState files s → Type 0
-HasRoom files s h = next_in (telling_of h.total h.first) files + 1000003 < 2 ^ 64
+abbrev pub HasNumbersLeft : (files : Files) (s : DatabaseState) → HoldsState files s → Type 0
+HasNumbersLeft files s h = next_in (telling_of h.total h.first) files + 1000003 < 2 ^ 64
 
 module _ {S : Type 0} (g : Ghosts S) where
   -- The database that was opened stands, under the description whose bytes were found.
@@ -70,14 +70,14 @@ module _ {S : Type 0} (g : Ghosts S) where
   -- a run of the script over the database that the files of a site stand for
   abbrev pub RunsCommand : Option DatabaseState → S → S → Option (List ℕ) → Option (List ℕ) → Status → Type 0
   RunsCommand state old new left left' status =
-      IsTrue g.tells → (s : DatabaseState) → state ≡ Some s → (h : HoldsState (g.files old) s) → HasRoom (g.files old) s h → (all : List ℕ) → left ≡ Some all
+      IsTrue g.tells → (s : DatabaseState) → state ≡ Some s → (h : HoldsState (g.files old) s) → HasNumbersLeft (g.files old) s h → (all : List ℕ) → left ≡ Some all
       → ScriptRuns (telling_of h.total h.first) s.desc (points_of (telling_of h.total h.first) (g.files old)) s.point s.db (next_in (telling_of h.total h.first) (g.files old)) all (seen_site g old) (seen_site g new) left' status
 
   -- at every moment a stop leaves files that stand for the database of entry or of one quiet point, no earlier than the printed text tells, and each
   -- point up to it has its own state
   abbrev pub StandsThroughout : Option DatabaseState → S → S → Option (List ℕ) → Type 0
   StandsThroughout state old new left =
-      IsTrue g.tells → (s : DatabaseState) → state ≡ Some s → (h : HoldsState (g.files old) s) → HasRoom (g.files old) s h → IsStart s.desc s.db → s.point < next_in (telling_of h.total h.first) (g.files old) → (all : List ℕ) → left ≡ Some all
+      IsTrue g.tells → (s : DatabaseState) → state ≡ Some s → (h : HoldsState (g.files old) s) → HasNumbersLeft (g.files old) s h → IsStart s.desc s.db → s.point < next_in (telling_of h.total h.first) (g.files old) → (all : List ℕ) → left ≡ Some all
       → Runs (g.clock old) (g.clock new) (RunStands s.desc (seen_site g old).said (points_of (telling_of h.total h.first) (g.files old)) s.point s.db (next_in (telling_of h.total h.first) (g.files old))
       (answers_quiets s.desc s.db (next_in (telling_of h.total h.first) (g.files old)) (raw_lines all)))
 

@@ -59,8 +59,8 @@ abbrev pub OfNoSchema : Option (List ℕ) → Type 0 → Type 0
 OfNoSchema left P = (all : List ℕ) (e : SchemaFault) → left ≡ Some all → judged all ≡ Err e → P
 
 -- it holds of the input of `try`, and of the description of its schema
-abbrev pub OfScript : Option (List ℕ) → (Described → List ℕ → Type 0) → Type 0
-OfScript left P = (all : List ℕ) (d : Described) → left ≡ Some all → judged (schema_text all) ≡ Ok d → P d all
+abbrev pub OfTriedScript : Option (List ℕ) → (Described → List ℕ → Type 0) → Type 0
+OfTriedScript left P = (all : List ℕ) (d : Described) → left ≡ Some all → judged (schema_text all) ≡ Ok d → P d all
 
 -- it holds of an input of `try` whose schema is refused
 abbrev pub OfNoScript : Option (List ℕ) → (List ℕ → Type 0) → Type 0

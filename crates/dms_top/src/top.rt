@@ -18,7 +18,7 @@ ghost use Rattle.dms_top.specs.Schema.{schema_text as text_of};
 ghost use Rattle.dms_top.specs.State.{StandsNew, BecomesNew};
 ghost use Rattle.dms_top.specs.Answering.{Printed, PrintedPrefix, PrintedWhole, WithinLimits, PassesLimit, CutTry, try_events, try_text, script_of};
 ghost use Rattle.dms_status.specs.declared.status.LimitKind.{LimitKind as Kind};
-ghost use Rattle.dms_top.specs.Premises.{OnTry, OnCompile, OnInitialize, OnPrintAudit, OnOthers, OnReading, OnRun, OfInput, OfSchema, OfSealed, OfNoSchema, OfScript, OfNoScript};
+ghost use Rattle.dms_top.specs.Premises.{OnTry, OnCompile, OnInitialize, OnPrintAudit, OnOthers, OnReading, OnRun, OfInput, OfSchema, OfSealed, OfNoSchema, OfTriedScript, OfNoScript};
 ghost use Rattle.dms_audfile.specs.Counting.{CountedAt};
 ghost use Rattle.dms_runtop.specs.Command.{DatabaseState, HoldsTold, NeverRefuses, RefusesRun, RunsCommand, StandsThroughout};
 ghost use Rattle.dms_runtop.specs.Statuses.{IsOfRun, IsRefusal};
@@ -78,9 +78,9 @@ fn try_input<S: Site, I: Source>(alloc: Global, site: &mut S, input: &mut I) -> 
     ensures part { IsTrue S.tells_said → OfInput (I.left input.old) (λ all. PrintedPrefix (S.said site.old) (S.said site.new) (try_text all)) }
     ensures whole_answers { result ≡ Status.Memory → IsTrue S.tells_said → OfInput (I.left input.old) (λ all. PrintedWhole (S.said site.old) (S.said site.new) (try_events all)) }
     ensures silent { IsTrue S.tells_said → ComesUnsaid result → S.said site.new ≡ S.said site.old }
-    ensures within { result ≡ Status.Ok → OfScript (I.left input.old) (λ d all. WithinLimits d (script_of all)) }
-    ensures limit { (k : Kind) → result ≡ Status.Limit k → OfScript (I.left input.old) (λ d all. PassesLimit k d (script_of all) (told S.tells_said (S.said site.old)) (told S.tells_said (S.said site.new))) }
-    ensures input_cut { result ≡ Status.InputFault → OfScript (I.left input.old) (λ d all. CutTry d all (I.left input.new) (told S.tells_said (S.said site.old)) (told S.tells_said (S.said site.new))) }
+    ensures within { result ≡ Status.Ok → OfTriedScript (I.left input.old) (λ d all. WithinLimits d (script_of all)) }
+    ensures limit { (k : Kind) → result ≡ Status.Limit k → OfTriedScript (I.left input.old) (λ d all. PassesLimit k d (script_of all) (told S.tells_said (S.said site.old)) (told S.tells_said (S.said site.new))) }
+    ensures input_cut { result ≡ Status.InputFault → OfTriedScript (I.left input.old) (λ d all. CutTry d all (I.left input.new) (told S.tells_said (S.said site.old)) (told S.tells_said (S.said site.new))) }
     ensures input_cut_refused { result ≡ Status.InputFault → OfNoScript (I.left input.old) (λ all. CutText all (I.left input.new)) }
     ensures same_site { S.same_site site.old site.new }
     ensures same_source { I.same_source input.old input.new }
@@ -155,11 +155,11 @@ pub fn dms<S: Site, I: Source>(
     // at the statuses that come before the script nothing was printed
     ensures silent { OnTry words.now (IsTrue S.tells_said → ComesUnsaid result → S.said site.new ≡ S.said site.old) }
     // at status 0 the script keeps the limits
-    ensures within { OnTry words.now (result ≡ Status.Ok → OfScript (I.left input.old) (λ d all. WithinLimits d (script_of all))) }
+    ensures within { OnTry words.now (result ≡ Status.Ok → OfTriedScript (I.left input.old) (λ d all. WithinLimits d (script_of all))) }
     // at status 8 it passes that limit and none before, and what the lines before answer was printed
-    ensures limit { OnTry words.now ((k : Kind) → result ≡ Status.Limit k → OfScript (I.left input.old) (λ d all. PassesLimit k d (script_of all) (told S.tells_said (S.said site.old)) (told S.tells_said (S.said site.new)))) }
+    ensures limit { OnTry words.now ((k : Kind) → result ≡ Status.Limit k → OfTriedScript (I.left input.old) (λ d all. PassesLimit k d (script_of all) (told S.tells_said (S.said site.old)) (told S.tells_said (S.said site.new)))) }
     // at status 6 what the whole lines that were taken answer was printed
-    ensures input_cut { OnTry words.now (result ≡ Status.InputFault → OfScript (I.left input.old) (λ d all. CutTry d all (I.left input.new) (told S.tells_said (S.said site.old)) (told S.tells_said (S.said site.new)))) }
+    ensures input_cut { OnTry words.now (result ≡ Status.InputFault → OfTriedScript (I.left input.old) (λ d all. CutTry d all (I.left input.new) (told S.tells_said (S.said site.old)) (told S.tells_said (S.said site.new)))) }
     // at status 6 with a refused schema taking failed within its text
     ensures input_cut_refused { OnTry words.now (result ≡ Status.InputFault → OfNoScript (I.left input.old) (λ all. CutText all (I.left input.new))) }
     // status 11 is not of this command
