@@ -19,13 +19,13 @@ returns-then-count-gt1048576-clause-below g c =
     let long : 1048576 < seen_counts a c.file_of-file.result = omega (arith, c.count.ensures, c.if-count-gt1048576.true) in
     below_long c.args.structure (length c.args.entry.now) c.file_of-file.result (Damaged c.file_of-file.result 0) a c.file_of-file.ensures (g.met.B.Blocks.agrees a.below c.requires.usable.0) long
 
-pub remove-requires-clause-may : goal.remove-requires-clause-may
-remove-requires-clause-may g c = record {
-    sound = c.requires.usable.0;
-    owned = subst (λ f. IsTrue ((under c.args.self.now).owns f)) (sym c.file_of-file.ensures) c.requires.usable.1;
-    room = omega (arith, c.count.ensures, c.if-count-gt1048576.false);
-    wide = record { low = c.requires.width.0; most = c.requires.width.1 };
-  }
+pub remove-requires : goal.remove-requires
+remove-requires g c = record {
+  sound = c.requires.usable.0;
+  owned = subst (λ f. IsTrue ((under c.args.self.now).owns f)) (sym c.file_of-file.ensures) c.requires.usable.1;
+  room = omega (arith, c.count.ensures, c.if-count-gt1048576.false);
+  wide = record { low = c.requires.width.0; most = c.requires.width.1 };
+}
 
 pub returns-clause-answer : goal.returns-clause-answer
 returns-clause-answer g c = answer_of c.args.structure (length c.args.entry.now) c.file_of-file.result (λ (b : Bool) xs. b ≡ has_entry c.args.entry.now xs) c.remove.result c.args.self.now c.file_of-file.ensures c.remove.ensures.answer
