@@ -21,10 +21,12 @@ returns-then-count-gt1048576-clause-below g c =
 
 pub remove-requires : goal.remove-requires
 remove-requires g c = record {
-  sound = c.requires.usable.0;
-  owned = subst (λ f. IsTrue ((under c.args.self.now).owns f)) (sym c.file_of-file.ensures) c.requires.usable.1;
-  room = omega (arith, c.count.ensures, c.if-count-gt1048576.false);
-  wide = record { low = c.requires.width.0; most = c.requires.width.1 };
+  may = record {
+    sound = c.requires.usable.0;
+    owned = subst (λ f. IsTrue ((under c.args.self.now).owns f)) (sym c.file_of-file.ensures) c.requires.usable.1;
+    room = omega (arith, c.count.ensures, c.if-count-gt1048576.false);
+    wide = record { low = c.requires.width.0; most = c.requires.width.1 };
+  };
 }
 
 pub returns-clause-answer : goal.returns-clause-answer
