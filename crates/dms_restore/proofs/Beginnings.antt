@@ -70,6 +70,9 @@ begin_sealed total first m kind old new clock end same appends =
     subst (λ k. trail_entries k first new ≡ trail_entries k first old ++ begin_restore m kind ∷ []) same
     (appends.sealed ∙ ap (λ (l : List Entry). trail_entries end.total first old ++ l) (begin_taken m kind appends.some appends.plain))
 
+pub begin_ends : (end : AuditEnd) (first m : ℕ) (kind : Kind) (old new : Files) (clock : Clock Left) → Appends end first (begin_restore m kind ∷ []) old new clock → EndsAt end first [] new clock
+begin_ends end first m kind old new clock appends = subst (λ (l : List Entry). EndsAt end first l new clock) (none_waits [] m kind appends.some appends.plain) appends.ends
+
 module _ (a : LogView) (r : LogRuns a) (read : Reads a) (m : ℕ) (kind : Kind) (by_audit : ByAudit (how_of kind)) (at : LastIs a m) where
   abbrev pub the_begin : Entry
   the_begin = begin_restore m kind
@@ -111,6 +114,19 @@ module _ (a : LogView) (r : LogRuns a) (read : Reads a) (m : ℕ) (kind : Kind) 
 pub then_looks : (keeps : ℕ → ℕ → Type 0) (a b c : Clock Left) → Steps (Rewrites keeps) a b → Steps Same b c → Steps (Rewrites keeps) a c
 then_looks keeps a b c one two = steps_on one two (λ x y z was now step look. subst (λ (l : Left). Rewrites keeps x l) (sym look) step) (λ x y was step. step)
 
+-- the trail ends where it did
+pub ends_kept : (a : LogView) (w : List Entry) (keeps : ℕ → ℕ → Type 0) (files : Files) (clock : Clock Left) → EndsAt a.end a.first w a.files a.clock → Steps (Rewrites keeps) a.clock clock → Rewritten keeps a.files files
+    → EndsAt a.end a.first w files clock
+ends_kept a w keeps files clock ends steps written = record {
+  low = ends.low;
+  writes = writes_same a.end.total a.end.tag a.first a.end.file a.end.count a.files files ends.writes (λ g from upto. written.others g (omega (arith, upto, a.end.high)));
+  settled = λ g from upto x now.
+      let after = steps.follows x now in
+      after.2.files.others g (omega (arith, upto, a.end.high)) ∙ ends.settled g from upto after.0 after.1 ∙ sym (written.others g (omega (arith, upto, a.end.high)));
+  bytes = ends.bytes;
+  kind = ends.kind;
+}
+
 module _ (p : Pending) (a : LogView) (r : BegunAt p a) (read : Reads a) (table : List Told) (is : IsTable p.entries p.point a.files table) where
   abbrev pub tells_it : IsTelling (telling a)
   tells_it = is_telling a.end.total a.first (first_low a.end a.first (waits a.end) a.files a.clock r.ends)
@@ -123,15 +139,7 @@ module _ (p : Pending) (a : LogView) (r : BegunAt p a) (read : Reads a) (table :
     then_ = view a.end a.first files clock
 
     ends_still : Ends then_
-    ends_still = record {
-      low = r.ends.low;
-      writes = writes_same a.end.total a.end.tag a.first a.end.file a.end.count a.files files r.ends.writes (λ g from upto. written.others g (omega (arith, upto, a.end.high)));
-      settled = λ g from upto x now.
-          let after = steps.follows x now in
-          after.2.files.others g (omega (arith, upto, a.end.high)) ∙ r.ends.settled g from upto after.0 after.1 ∙ sym (written.others g (omega (arith, upto, a.end.high)));
-      bytes = r.ends.bytes;
-      kind = r.ends.kind;
-    }
+    ends_still = ends_kept a (waits a.end) (IsKept p.entries p.point) files clock r.ends steps written
 
     pub table_begun : BegunAt p then_
     table_begun = record { ends = ends_still; begun = restore_begun (telling a) tells_it p (state a) r.begun read (state then_) written r.begun.nothing steps }

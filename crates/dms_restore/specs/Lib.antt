@@ -7,6 +7,7 @@ pub mod Laying
 pub mod Counts
 pub mod Begins
 pub mod Endings
+pub mod Views
 pub mod Scanned
 pub mod LiveEntries
 pub mod Named

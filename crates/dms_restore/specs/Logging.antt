@@ -56,7 +56,11 @@ state v = record { waiting = waits v.end; files = v.files; clock = v.clock }
 abbrev pub Ends : LogView → Type 0
 Ends v = EndsAt v.end v.first (waits v.end) v.files v.clock
 
--- So it is, and the database runs.
+-- so it is, and no entry waits
+abbrev pub EndsSealed : LogView → Type 0
+EndsSealed v = EndsAt v.end v.first [] v.files v.clock
+
+-- The trail ends where it is said to, and the database runs.
 pub record LogRuns (v : LogView) : Type 0 where
   pub ends : Ends v
   pub runs : IsRunning (telling v) (state v)

@@ -1,14 +1,16 @@
 -- The live entries of a trail and its pending restore, as they are kept in memory.
-use Rattle.std.specs.Prelude.{ℕ, ◌≤◌, ◌≡◌, ◌⊎◌, if◌then◌else◌, Bool, List, [], ◌++◌, length, take, Option, Some, None}
+use Rattle.std.specs.Prelude.{ℕ, ◌≤◌, ◌≡◌, ◌⊎◌, if◌then◌else◌, Bool, List, [], ◌∷◌, ◌++◌, length, take, Option, Some, None}
 use Rattle.dms_site.specs.Files.{Files}
 use Rattle.dms_history.specs.Events.{Block, How, halt_load, back_out, roll_back, rebuild, reconstruct, change, control}
 use Rattle.dms_history.specs.Lists.{until_first, after_first}
 use Rattle.dms_history.specs.Places.{is_point}
 use Rattle.dms_history.specs.History.{Pending}
-use Rattle.dms_history.specs.Entries.{Entry, counts_in}
+use Rattle.dms_history.specs.Entries.{Entry, image, counts_in}
 use Rattle.dms_history.specs.declared.event.FileCount.{FileCount}
 use Rattle.dms_history.specs.Schemas.{no_parts, parts_from}
 use Rattle.dms_history.specs.EntryEvents.{history_of, live_of, next_of}
+use Rattle.dms_audfile.specs.AuditTrail.{entry_there}
+use Rattle.dms_audfile.specs.declared.place.EntryPlace.{EntryPlace}
 use Rattle.dms_restore.specs.declared.live.ImageAt.{ImageAt}
 use Rattle.dms_restore.specs.declared.live.ControlAt.{ControlAt}
 use Rattle.dms_restore.specs.declared.live.LiveEntry.{LiveEntry}
@@ -17,6 +19,7 @@ use Rattle.dms_restore.specs.declared.live.HowAt.{HowAt}
 use Rattle.dms_restore.specs.declared.live.HowAt.TheVariants.{HaltLoad, BackOut, Rollback, ByDump}
 use Rattle.dms_restore.specs.declared.live.PendingAt.{PendingAt}
 use Rattle.dms_restore.specs.declared.tracing.TrailHistory.{TrailHistory}
+use Rattle.dms_restore.specs.Scanned.{IsInAudit}
 use Rattle.dms_restore.specs.LiveEntries.{event_at, events_at, StandsWhole, AllStandWhole}
 
 -- it is this restore; of one by a dump its number is known
@@ -31,7 +34,11 @@ pub record StandsAsImage (files : Files) (i : ImageAt) (f b : ℕ) (before : Opt
   pub event_is : event_at files (Changed i) ≡ change f b before after
   pub whole : StandsWhole files (Changed i)
 
--- so does a Control
+-- Where such an Image is the entry at a place, it stands there whole.
+abbrev pub TellsImage : ImageAt → EntryPlace → ℕ → ℕ → Option Block → Type 0
+TellsImage i place f b before = (files : Files) (after : Block) → IsInAudit place → entry_there files place ≡ Some (image f b before after) → StandsAsImage files i f b before after
+
+-- a Control stands there whole
 pub record StandsAsControl (files : Files) (c : ControlAt) (point next : ℕ) (counts : List FileCount) (described : Bool) : Type 0 where
   pub event_is : event_at files (Controlled c) ≡ control point next (counts_in counts) described
   pub whole : StandsWhole files (Controlled c)
@@ -61,3 +68,7 @@ pub record IsTraced (files : Files) (entries : List Entry) (h : TrailHistory) : 
   pub next_is : next_of entries ≡ h.next
   pub live_whole : AllStandWhole files h.live.items
   pub removed_whole : AllStandWhole files h.removed.items
+
+-- so it has them with one more entry
+abbrev pub IsTracedOn : Files → List Entry → Entry → TrailHistory → TrailHistory → Type 0
+IsTracedOn files entries e old new = IsTraced files entries old → IsTraced files (entries ++ e ∷ []) new

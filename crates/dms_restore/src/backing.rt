@@ -1,7 +1,6 @@
 //! Going back to the last point, over a log that is lent.
 
 ghost use Rattle.std.specs.Prelude.{◌≡◌, ◌⊎◌, ◌+◌, ◌/◌, ◌<◌, ◌≤◌, ◌++◌, [], ◌∷◌, length, OnOk, IfOk, IfErr, IsErrOf, IsTrue};
-ghost use Rattle.dms_moments.specs.Moments.{Steps};
 ghost use Rattle.dms_history.specs.Events.{back_out};
 ghost use Rattle.dms_history.specs.History.{Pending};
 ghost use Rattle.dms_history.specs.Entries.{begin_restore, by_back_out, control_point};
@@ -9,12 +8,13 @@ ghost use Rattle.dms_audrec.specs.Spelling.{IsEntry};
 ghost use Rattle.dms_audrec.specs.Reading.{counts_at};
 ghost use Rattle.dms_audfile.specs.Counting.{CountedAt};
 ghost use Rattle.dms_audfile.specs.Ends.{Grown};
+ghost use Rattle.dms_restore.specs.Views.{view_of, StaysSilent, IsSameTrail};
 ghost use Rattle.dms_restore.specs.Logging as logs;
-ghost use Rattle.dms_restore.specs.Logging.{Ends, entries, waits, points, PrintsNothing, LogLeaves, LogRuns};
+ghost use Rattle.dms_restore.specs.Logging.{Ends, entries, waits, points, LogLeaves, LogRuns};
 ghost use Rattle.dms_restore.specs.Begins.{LastIs, begun_to, BegunAt, BeginsRestore, LeavesEach};
 ghost use Rattle.dms_restore.specs.Laying.{schema_control};
 ghost use Rattle.dms_restore.specs.Endings.{EndsBy, EndedAt};
-ghost use Rattle.dms_restore.specs.BackOuts.{back_entries, seen, StandsAll, GoesBackBy, WentBackTo, SealedAlone, FilesStay, ServesBehind, IsDiskOrMemory, IsBackFault};
+ghost use Rattle.dms_restore.specs.BackOuts.{back_entries, StandsAll, GoesBackBy, WentBackTo, SealedAlone, FilesStay, ServesBehind, IsDiskOrMemory, IsBackFault};
 ghost use Rattle.dms_restore.specs.Table.{AreBlocks, IsTable};
 
 use crate::laying::seal_control;
@@ -31,18 +31,18 @@ impl<S: Site> Log<S> {
     ///
     /// Answers Disk where a call of the site failed, and else Full where the audit has no room.
     fn begin_back(&mut self, point: u64) -> Result<(), AudFault>
-        requires runs { IsTrue S.tells → LogRuns (seen S.Site self.old) }
-        requires last { IsTrue S.tells → LastIs (seen S.Site self.old) point }
-        ensures begun { OnOk result (IsTrue S.tells → BegunAt (begun_to (seen S.Site self.old) point back_out) (seen S.Site self.new)) }
-        ensures keeps { OnOk result (IsTrue S.tells → BeginsRestore (seen S.Site self.old) (seen S.Site self.new) point back_out) }
-        ensures logs { OnOk result (IsTrue S.tells → entries (seen S.Site self.new) ≡ entries (seen S.Site self.old) ++ begin_restore point by_back_out ∷ []) }
+        requires runs { IsTrue S.tells → LogRuns (view_of S.Site self.old) }
+        requires last { IsTrue S.tells → LastIs (view_of S.Site self.old) point }
+        ensures begun { OnOk result (IsTrue S.tells → BegunAt (begun_to (view_of S.Site self.old) point back_out) (view_of S.Site self.new)) }
+        ensures keeps { OnOk result (IsTrue S.tells → BeginsRestore (view_of S.Site self.old) (view_of S.Site self.new) point back_out) }
+        ensures logs { OnOk result (IsTrue S.tells → entries (view_of S.Site self.new) ≡ entries (view_of S.Site self.old) ++ begin_restore point by_back_out ∷ []) }
         ensures grown { OnOk result (IsTrue S.tells → waits self.old.end ≡ [] → Grown self.old.end.total self.old.first (S.files self.old.site) (S.files self.new.site)) }
-        ensures moments { IsTrue S.tells → let a = seen S.Site self.old in LogLeaves a (seen S.Site self.new) (points a) (logs.next a) }
-        ensures silent { IsTrue S.tells → Steps PrintsNothing (S.clock self.old.site) (S.clock self.new.site) }
-        ensures kind { (self.new.end.total ≡ self.old.end.total) × (self.new.end.tag ≡ self.old.end.tag) × (self.new.end.limit ≡ self.old.end.limit) × (self.new.first ≡ self.old.first) }
+        ensures moments { IsTrue S.tells → let a = view_of S.Site self.old in LogLeaves a (view_of S.Site self.new) (points a) (logs.next a) }
+        ensures silent { IsTrue S.tells → StaysSilent S.Site self.old.site self.new.site }
+        ensures kind { IsSameTrail self.old self.new }
         ensures only { IfErr result (λ e. (e ≡ AudFault.Disk) ⊎ (e ≡ AudFault.Full self.old.end.limit)) }
         ensures full { IsErrOf result (AudFault.Full self.old.end.limit) → (self.new.end.used ≡ 0) × (10000 + self.old.end.limit < self.new.end.file) }
-        ensures ends { IsErrOf result (AudFault.Full self.old.end.limit) → IsTrue S.tells → Ends (seen S.Site self.new) }
+        ensures ends { IsErrOf result (AudFault.Full self.old.end.limit) → IsTrue S.tells → Ends (view_of S.Site self.new) }
         ensures said { S.said self.new.site ≡ S.said self.old.site }
         ensures same_site { S.same_site self.old.site self.new.site }
         ensures disk { CountedAt (IsErrOf result AudFault.Disk) (S.disk_faults self.old.site) (S.disk_faults self.new.site) }
@@ -57,12 +57,12 @@ impl<S: Site> Log<S> {
     /// Answers Disk where a call of the site failed. Memory comes only where fewer bytes stand at a place than are told.
     fn restore_told(&mut self, table: &[Told]) -> Result<(), AudFault>
         requires blocks { AreBlocks table.now }
-        ensures stands { OnOk result ((p : Pending) → IsTrue S.tells → BegunAt p (seen S.Site self.old) → IsTable p.entries p.point (S.files self.old.site) table.now
-            → StandsAll p (seen S.Site self.old) (seen S.Site self.new)) }
-        ensures moments { (p : Pending) → IsTrue S.tells → BegunAt p (seen S.Site self.old) → IsTable p.entries p.point (S.files self.old.site) table.now
-            → LeavesEach (seen S.Site self.old) (seen S.Site self.new) }
-        ensures silent { (p : Pending) → IsTrue S.tells → BegunAt p (seen S.Site self.old) → IsTable p.entries p.point (S.files self.old.site) table.now
-            → Steps PrintsNothing (S.clock self.old.site) (S.clock self.new.site) }
+        ensures stands { OnOk result ((p : Pending) → IsTrue S.tells → BegunAt p (view_of S.Site self.old) → IsTable p.entries p.point (S.files self.old.site) table.now
+            → StandsAll p (view_of S.Site self.old) (view_of S.Site self.new)) }
+        ensures moments { (p : Pending) → IsTrue S.tells → BegunAt p (view_of S.Site self.old) → IsTable p.entries p.point (S.files self.old.site) table.now
+            → LeavesEach (view_of S.Site self.old) (view_of S.Site self.new) }
+        ensures silent { (p : Pending) → IsTrue S.tells → BegunAt p (view_of S.Site self.old) → IsTable p.entries p.point (S.files self.old.site) table.now
+            → StaysSilent S.Site self.old.site self.new.site }
         ensures kind { (self.new.end ≡ self.old.end) × (self.new.first ≡ self.old.first) }
         ensures only { IfErr result IsDiskOrMemory }
         ensures memory { IsErrOf result AudFault.Memory → (p : Pending) → IsTrue S.tells → IsTable p.entries p.point (S.files self.old.site) table.now → ⊥ }
@@ -95,14 +95,14 @@ impl<S: Site> Log<S> {
         requires few { length description.now ≤ 65535 }
         requires control { IsEntry (control_point point next (counts_at (length counts.now / 8) counts.now)) }
         requires size { length counts.now ≤ 1600 }
-        ensures ended { OnOk result ((p : Pending) → IsTrue S.tells → EndsBy p (seen S.Site self.old) point next counts.now
-            → EndedAt p (seen S.Site self.old) (seen S.Site self.new) (schema_control description.now point next counts.now)) }
-        ensures moments { (p : Pending) → IsTrue S.tells → EndsBy p (seen S.Site self.old) point next counts.now → LeavesEach (seen S.Site self.old) (seen S.Site self.new) }
-        ensures silent { (p : Pending) → IsTrue S.tells → EndsBy p (seen S.Site self.old) point next counts.now → Steps PrintsNothing (S.clock self.old.site) (S.clock self.new.site) }
-        ensures kind { (self.new.end.total ≡ self.old.end.total) × (self.new.end.tag ≡ self.old.end.tag) × (self.new.end.limit ≡ self.old.end.limit) × (self.new.first ≡ self.old.first) }
+        ensures ended { OnOk result ((p : Pending) → IsTrue S.tells → EndsBy p (view_of S.Site self.old) point next counts.now
+            → EndedAt p (view_of S.Site self.old) (view_of S.Site self.new) (schema_control description.now point next counts.now)) }
+        ensures moments { (p : Pending) → IsTrue S.tells → EndsBy p (view_of S.Site self.old) point next counts.now → LeavesEach (view_of S.Site self.old) (view_of S.Site self.new) }
+        ensures silent { (p : Pending) → IsTrue S.tells → EndsBy p (view_of S.Site self.old) point next counts.now → StaysSilent S.Site self.old.site self.new.site }
+        ensures kind { IsSameTrail self.old self.new }
         ensures only { IfErr result (λ e. (e ≡ AudFault.Disk) ⊎ (e ≡ AudFault.Full self.old.end.limit)) }
         ensures full { IsErrOf result (AudFault.Full self.old.end.limit) → (self.new.end.used ≡ 0) × (10000 + self.old.end.limit < self.new.end.file) }
-        ensures ends { IsErrOf result (AudFault.Full self.old.end.limit) → (p : Pending) → IsTrue S.tells → EndsBy p (seen S.Site self.old) point next counts.now → Ends (seen S.Site self.new) }
+        ensures ends { IsErrOf result (AudFault.Full self.old.end.limit) → (p : Pending) → IsTrue S.tells → EndsBy p (view_of S.Site self.old) point next counts.now → Ends (view_of S.Site self.new) }
         ensures said { S.said self.new.site ≡ S.said self.old.site }
         ensures same_site { S.same_site self.old.site self.new.site }
         ensures disk { CountedAt (IsErrOf result AudFault.Disk) (S.disk_faults self.old.site) (S.disk_faults self.new.site) }
@@ -122,14 +122,14 @@ impl<S: Site> Log<S> {
     ///
     /// Answers Disk where a call of the site failed, and Memory.
     fn table_back(&mut self, alloc: Global, point: u64) -> Result<Vec<Told>, AudFault>
-        requires runs { IsTrue S.tells → LogRuns (seen S.Site self.old) }
+        requires runs { IsTrue S.tells → LogRuns (view_of S.Site self.old) }
         ensures blocks { IfOk result (λ v. AreBlocks v.items) }
-        ensures serves { IfOk result (λ v. IsTrue S.tells → ServesBehind (seen S.Site self.new) point v.items) }
-        ensures sealed { (IsErrOf result AudFault.Disk → ⊥) → IsTrue S.tells → SealedAlone (seen S.Site self.old) (seen S.Site self.new) }
-        ensures idle { self.old.end.used ≡ 0 → IsTrue S.tells → FilesStay (seen S.Site self.old) (seen S.Site self.new) }
-        ensures moments { IsTrue S.tells → let a = seen S.Site self.old in LogLeaves a (seen S.Site self.new) (points a) (logs.next a) }
-        ensures silent { IsTrue S.tells → Steps PrintsNothing (S.clock self.old.site) (S.clock self.new.site) }
-        ensures kind { (self.new.end.total ≡ self.old.end.total) × (self.new.end.tag ≡ self.old.end.tag) × (self.new.end.limit ≡ self.old.end.limit) × (self.new.first ≡ self.old.first) }
+        ensures serves { IfOk result (λ v. IsTrue S.tells → ServesBehind (view_of S.Site self.new) point v.items) }
+        ensures sealed { (IsErrOf result AudFault.Disk → ⊥) → IsTrue S.tells → SealedAlone (view_of S.Site self.old) (view_of S.Site self.new) }
+        ensures idle { self.old.end.used ≡ 0 → IsTrue S.tells → FilesStay (view_of S.Site self.old) (view_of S.Site self.new) }
+        ensures moments { IsTrue S.tells → let a = view_of S.Site self.old in LogLeaves a (view_of S.Site self.new) (points a) (logs.next a) }
+        ensures silent { IsTrue S.tells → StaysSilent S.Site self.old.site self.new.site }
+        ensures kind { IsSameTrail self.old self.new }
         ensures only { IfErr result IsDiskOrMemory }
         ensures said { S.said self.new.site ≡ S.said self.old.site }
         ensures same_site { S.same_site self.old.site self.new.site }
@@ -158,18 +158,18 @@ impl<S: Site> Log<S> {
         requires few { length description.now ≤ 65535 }
         requires control { IsEntry (control_point point next (counts_at (length counts.now / 8) counts.now)) }
         requires size { length counts.now ≤ 1600 }
-        requires runs { IsTrue S.tells → LogRuns (seen S.Site self.old) }
+        requires runs { IsTrue S.tells → LogRuns (view_of S.Site self.old) }
         requires nothing { IsTrue S.tells → waits self.old.end ≡ [] }
-        requires by { IsTrue S.tells → GoesBackBy (seen S.Site self.old) point next counts.now }
-        requires serves { IsTrue S.tells → ServesBehind (seen S.Site self.old) point table.now }
-        ensures back { OnOk result (IsTrue S.tells → WentBackTo point (seen S.Site self.old) (seen S.Site self.new) (back_entries point description.now next counts.now)) }
-        ensures moments { IsTrue S.tells → let a = seen S.Site self.old in LogLeaves a (seen S.Site self.new) (points a) (logs.next a) }
-        ensures silent { IsTrue S.tells → Steps PrintsNothing (S.clock self.old.site) (S.clock self.new.site) }
-        ensures kind { (self.new.end.total ≡ self.old.end.total) × (self.new.end.tag ≡ self.old.end.tag) × (self.new.end.limit ≡ self.old.end.limit) × (self.new.first ≡ self.old.first) }
+        requires by { IsTrue S.tells → GoesBackBy (view_of S.Site self.old) point next counts.now }
+        requires serves { IsTrue S.tells → ServesBehind (view_of S.Site self.old) point table.now }
+        ensures back { OnOk result (IsTrue S.tells → WentBackTo point (view_of S.Site self.old) (view_of S.Site self.new) (back_entries point description.now next counts.now)) }
+        ensures moments { IsTrue S.tells → let a = view_of S.Site self.old in LogLeaves a (view_of S.Site self.new) (points a) (logs.next a) }
+        ensures silent { IsTrue S.tells → StaysSilent S.Site self.old.site self.new.site }
+        ensures kind { IsSameTrail self.old self.new }
         ensures only { IfErr result (IsBackFault self.old.end.limit) }
         ensures memory { IsErrOf result AudFault.Memory → IsTrue S.tells → ⊥ }
         ensures full { IsErrOf result (AudFault.Full self.old.end.limit) → (self.new.end.used ≡ 0) × (10000 + self.old.end.limit < self.new.end.file) }
-        ensures ends { IsErrOf result (AudFault.Full self.old.end.limit) → IsTrue S.tells → Ends (seen S.Site self.new) }
+        ensures ends { IsErrOf result (AudFault.Full self.old.end.limit) → IsTrue S.tells → Ends (view_of S.Site self.new) }
         ensures said { S.said self.new.site ≡ S.said self.old.site }
         ensures same_site { S.same_site self.old.site self.new.site }
         ensures disk { CountedAt (IsErrOf result AudFault.Disk) (S.disk_faults self.old.site) (S.disk_faults self.new.site) }
@@ -204,17 +204,17 @@ impl<S: Site> Log<S> {
         requires few { length description.now ≤ 65535 }
         requires control { IsEntry (control_point point next (counts_at (length counts.now / 8) counts.now)) }
         requires size { length counts.now ≤ 1600 }
-        requires runs { IsTrue S.tells → LogRuns (seen S.Site self.old) }
-        requires by { IsTrue S.tells → GoesBackBy (seen S.Site self.old) point next counts.now }
-        ensures back { OnOk result (IsTrue S.tells → WentBackTo point (seen S.Site self.old) (seen S.Site self.new) (back_entries point description.now next counts.now)) }
-        ensures moments { IsTrue S.tells → let a = seen S.Site self.old in LogLeaves a (seen S.Site self.new) (points a) (logs.next a) }
-        ensures silent { IsTrue S.tells → Steps PrintsNothing (S.clock self.old.site) (S.clock self.new.site) }
-        ensures kind { (self.new.end.total ≡ self.old.end.total) × (self.new.end.tag ≡ self.old.end.tag) × (self.new.end.limit ≡ self.old.end.limit) × (self.new.first ≡ self.old.first) }
+        requires runs { IsTrue S.tells → LogRuns (view_of S.Site self.old) }
+        requires by { IsTrue S.tells → GoesBackBy (view_of S.Site self.old) point next counts.now }
+        ensures back { OnOk result (IsTrue S.tells → WentBackTo point (view_of S.Site self.old) (view_of S.Site self.new) (back_entries point description.now next counts.now)) }
+        ensures moments { IsTrue S.tells → let a = view_of S.Site self.old in LogLeaves a (view_of S.Site self.new) (points a) (logs.next a) }
+        ensures silent { IsTrue S.tells → StaysSilent S.Site self.old.site self.new.site }
+        ensures kind { IsSameTrail self.old self.new }
         ensures only { IfErr result (IsBackFault self.old.end.limit) }
-        ensures memory { IsErrOf result AudFault.Memory → IsTrue S.tells → SealedAlone (seen S.Site self.old) (seen S.Site self.new) }
-        ensures idle { IsErrOf result AudFault.Memory → self.old.end.used ≡ 0 → IsTrue S.tells → FilesStay (seen S.Site self.old) (seen S.Site self.new) }
+        ensures memory { IsErrOf result AudFault.Memory → IsTrue S.tells → SealedAlone (view_of S.Site self.old) (view_of S.Site self.new) }
+        ensures idle { IsErrOf result AudFault.Memory → self.old.end.used ≡ 0 → IsTrue S.tells → FilesStay (view_of S.Site self.old) (view_of S.Site self.new) }
         ensures full { IsErrOf result (AudFault.Full self.old.end.limit) → (self.new.end.used ≡ 0) × (10000 + self.old.end.limit < self.new.end.file) }
-        ensures ends { IsErrOf result (AudFault.Full self.old.end.limit) → IsTrue S.tells → Ends (seen S.Site self.new) }
+        ensures ends { IsErrOf result (AudFault.Full self.old.end.limit) → IsTrue S.tells → Ends (view_of S.Site self.new) }
         ensures said { S.said self.new.site ≡ S.said self.old.site }
         ensures same_site { S.same_site self.old.site self.new.site }
         ensures disk { CountedAt (IsErrOf result AudFault.Disk) (S.disk_faults self.old.site) (S.disk_faults self.new.site) }

@@ -1,16 +1,16 @@
 //! The Schema and Control that end a restore, or make a control point.
 
-ghost use Rattle.std.specs.Prelude.{◌≡◌, ◌⊎◌, ◌+◌, ◌/◌, ◌<◌, ◌≤◌, ℕ, length, OnOk, IfOk, IfErr, IsErrOf, IsTrue};
-ghost use Rattle.dms_moments.specs.Moments.{Runs, Steps};
+ghost use Rattle.std.specs.Prelude.{◌≡◌, ◌⊎◌, ◌+◌, ◌/◌, ◌<◌, ◌≤◌, length, OnOk, IfOk, IfErr, IsErrOf, IsTrue};
 ghost use Rattle.dms_history.specs.History.{Pending};
 ghost use Rattle.dms_history.specs.Entries.{control_point};
 ghost use Rattle.dms_audrec.specs.Spelling.{IsEntry};
 ghost use Rattle.dms_audrec.specs.Reading.{counts_at};
 ghost use Rattle.dms_audfile.specs.Counting.{CountedAt};
-ghost use Rattle.dms_restore.specs.Logging.{Ends, view, LogRuns, PrintsNothing};
+ghost use Rattle.dms_restore.specs.Views.{view_of, StaysSilent, BlocksStay, LogStarts, IsSameTrail};
+ghost use Rattle.dms_restore.specs.Logging.{Ends, LogRuns};
 ghost use Rattle.dms_restore.specs.Begins.{LeavesEach};
 ghost use Rattle.dms_restore.specs.Laying.{schema_control};
-ghost use Rattle.dms_restore.specs.Endings.{EndsBy, EndedAt, ControlBy, ControlledAt, KeepsBlocks};
+ghost use Rattle.dms_restore.specs.Endings.{EndsBy, EndedAt, ControlBy, ControlledAt};
 
 use crate::laying::seal_control;
 use crate::{Log, Restored};
@@ -30,16 +30,16 @@ impl<S: Site> Restored<S> {
         requires few { length description.now ≤ 65535 }
         requires control { IsEntry (control_point point next (counts_at (length counts.now / 8) counts.now)) }
         requires size { length counts.now ≤ 1600 }
-        ensures ended { IfOk result (λ l. (p : Pending) → IsTrue S.tells → EndsBy p (view self.log.end self.log.first (S.files self.log.site) (S.clock self.log.site)) point next counts.now
-            → EndedAt p (view self.log.end self.log.first (S.files self.log.site) (S.clock self.log.site)) (view l.end l.first (S.files l.site) (S.clock l.site)) (schema_control description.now point next counts.now)) }
-        ensures moments { IfOk result (λ l. (p : Pending) → IsTrue S.tells → EndsBy p (view self.log.end self.log.first (S.files self.log.site) (S.clock self.log.site)) point next counts.now
-            → LeavesEach (view self.log.end self.log.first (S.files self.log.site) (S.clock self.log.site)) (view l.end l.first (S.files l.site) (S.clock l.site))) }
-        ensures stopped { IfErr result (λ e. (p : Pending) → IsTrue S.tells → EndsBy p (view self.log.end self.log.first (S.files self.log.site) (S.clock self.log.site)) point next counts.now
-            → LeavesEach (view self.log.end self.log.first (S.files self.log.site) (S.clock self.log.site)) (view e.1.end e.1.first (S.files e.1.site) (S.clock e.1.site))) }
-        ensures blocks { IfOk result (λ l. (p : Pending) → IsTrue S.tells → EndsBy p (view self.log.end self.log.first (S.files self.log.site) (S.clock self.log.site)) point next counts.now → Runs (S.clock self.log.site) (S.clock l.site) (KeepsBlocks (S.files self.log.site))) }
-        ensures blocks_then { IfErr result (λ e. (p : Pending) → IsTrue S.tells → EndsBy p (view self.log.end self.log.first (S.files self.log.site) (S.clock self.log.site)) point next counts.now → Runs (S.clock self.log.site) (S.clock e.1.site) (KeepsBlocks (S.files self.log.site))) }
-        ensures silent { IfOk result (λ l. (p : Pending) → IsTrue S.tells → EndsBy p (view self.log.end self.log.first (S.files self.log.site) (S.clock self.log.site)) point next counts.now → Steps PrintsNothing (S.clock self.log.site) (S.clock l.site)) }
-        ensures silent_then { IfErr result (λ e. (p : Pending) → IsTrue S.tells → EndsBy p (view self.log.end self.log.first (S.files self.log.site) (S.clock self.log.site)) point next counts.now → Steps PrintsNothing (S.clock self.log.site) (S.clock e.1.site)) }
+        ensures ended { IfOk result (λ l. (p : Pending) → IsTrue S.tells → EndsBy p (view_of S.Site self.log) point next counts.now
+            → EndedAt p (view_of S.Site self.log) (view_of S.Site l) (schema_control description.now point next counts.now)) }
+        ensures moments { IfOk result (λ l. (p : Pending) → IsTrue S.tells → EndsBy p (view_of S.Site self.log) point next counts.now
+            → LeavesEach (view_of S.Site self.log) (view_of S.Site l)) }
+        ensures stopped { IfErr result (λ e. (p : Pending) → IsTrue S.tells → EndsBy p (view_of S.Site self.log) point next counts.now
+            → LeavesEach (view_of S.Site self.log) (view_of S.Site e.1)) }
+        ensures blocks { IfOk result (λ l. (p : Pending) → IsTrue S.tells → EndsBy p (view_of S.Site self.log) point next counts.now → BlocksStay S.Site self.log.site l.site) }
+        ensures blocks_then { IfErr result (λ e. (p : Pending) → IsTrue S.tells → EndsBy p (view_of S.Site self.log) point next counts.now → BlocksStay S.Site self.log.site e.1.site) }
+        ensures silent { IfOk result (λ l. (p : Pending) → IsTrue S.tells → EndsBy p (view_of S.Site self.log) point next counts.now → StaysSilent S.Site self.log.site l.site) }
+        ensures silent_then { IfErr result (λ e. (p : Pending) → IsTrue S.tells → EndsBy p (view_of S.Site self.log) point next counts.now → StaysSilent S.Site self.log.site e.1.site) }
         ensures same { IfOk result (λ l. S.same_site self.log.site l.site) }
         ensures same_then { IfErr result (λ e. S.same_site self.log.site e.1.site) }
         ensures said { IfOk result (λ l. S.said l.site ≡ S.said self.log.site) }
@@ -47,10 +47,11 @@ impl<S: Site> Restored<S> {
         ensures clean { IfOk result (λ l. S.disk_faults l.site ≡ S.disk_faults self.log.site) }
         ensures only { IfErr result (λ e. (e.0 ≡ AudFault.Disk) ⊎ (e.0 ≡ AudFault.Full self.log.end.limit)) }
         ensures full { IfErr result (λ e. e.0 ≡ AudFault.Full self.log.end.limit → (e.1.end.used ≡ 0) × (10000 + self.log.end.limit < e.1.end.file)) }
+        ensures ends { IfErr result (λ e. e.0 ≡ AudFault.Full self.log.end.limit → IsTrue S.tells → LogStarts (view_of S.Site self.log) → Ends (view_of S.Site e.1)) }
         ensures disk { IfErr result (λ e. CountedAt (e.0 ≡ AudFault.Disk) (S.disk_faults self.log.site) (S.disk_faults e.1.site)) }
         ensures say_faults { IfOk result (λ l. S.say_faults l.site ≡ S.say_faults self.log.site) }
         ensures say_faults_then { IfErr result (λ e. S.say_faults e.1.site ≡ S.say_faults self.log.site) }
-        ensures kind { IfOk result (λ l. (l.end.total ≡ self.log.end.total) × (l.end.tag ≡ self.log.end.tag) × (l.end.limit ≡ self.log.end.limit) × (l.first ≡ self.log.first)) }
+        ensures kind { IfOk result (λ l. IsSameTrail self.log l) }
     {
         let Restored { log } = self;
         let Log {
@@ -78,16 +79,16 @@ impl<S: Site> Log<S> {
         requires few { length description.now ≤ 65535 }
         requires control { IsEntry (control_point point next (counts_at (length counts.now / 8) counts.now)) }
         requires size { length counts.now ≤ 1600 }
-        requires runs { IsTrue S.tells → LogRuns (view self.old.end self.old.first (S.files self.old.site) (S.clock self.old.site)) }
-        requires by { IsTrue S.tells → ControlBy (view self.old.end self.old.first (S.files self.old.site) (S.clock self.old.site)) point next counts.now }
-        ensures controlled { OnOk result (IsTrue S.tells → ControlledAt (view self.old.end self.old.first (S.files self.old.site) (S.clock self.old.site)) (view self.new.end self.new.first (S.files self.new.site) (S.clock self.new.site)) (schema_control description.now point next counts.now)) }
-        ensures moments { IsTrue S.tells → LeavesEach (view self.old.end self.old.first (S.files self.old.site) (S.clock self.old.site)) (view self.new.end self.new.first (S.files self.new.site) (S.clock self.new.site)) }
-        ensures blocks { IsTrue S.tells → Runs (S.clock self.old.site) (S.clock self.new.site) (KeepsBlocks (S.files self.old.site)) }
-        ensures silent { IsTrue S.tells → Steps PrintsNothing (S.clock self.old.site) (S.clock self.new.site) }
-        ensures kind { (self.new.end.total ≡ self.old.end.total) × (self.new.end.tag ≡ self.old.end.tag) × (self.new.end.limit ≡ self.old.end.limit) × (self.new.first ≡ self.old.first) }
+        requires runs { IsTrue S.tells → LogRuns (view_of S.Site self.old) }
+        requires by { IsTrue S.tells → ControlBy (view_of S.Site self.old) point next counts.now }
+        ensures controlled { OnOk result (IsTrue S.tells → ControlledAt (view_of S.Site self.old) (view_of S.Site self.new) (schema_control description.now point next counts.now)) }
+        ensures moments { IsTrue S.tells → LeavesEach (view_of S.Site self.old) (view_of S.Site self.new) }
+        ensures blocks { IsTrue S.tells → BlocksStay S.Site self.old.site self.new.site }
+        ensures silent { IsTrue S.tells → StaysSilent S.Site self.old.site self.new.site }
+        ensures kind { IsSameTrail self.old self.new }
         ensures only { IfErr result (λ e. (e ≡ AudFault.Disk) ⊎ (e ≡ AudFault.Full self.old.end.limit)) }
         ensures full { IsErrOf result (AudFault.Full self.old.end.limit) → (self.new.end.used ≡ 0) × (10000 + self.old.end.limit < self.new.end.file) }
-        ensures ends { IsErrOf result (AudFault.Full self.old.end.limit) → IsTrue S.tells → Ends (view self.new.end self.new.first (S.files self.new.site) (S.clock self.new.site)) }
+        ensures ends { IsErrOf result (AudFault.Full self.old.end.limit) → IsTrue S.tells → Ends (view_of S.Site self.new) }
         ensures said { S.said self.new.site ≡ S.said self.old.site }
         ensures same_site { S.same_site self.old.site self.new.site }
         ensures disk { CountedAt (IsErrOf result AudFault.Disk) (S.disk_faults self.old.site) (S.disk_faults self.new.site) }

@@ -1,16 +1,17 @@
 //! A whole Schema and a Control, appended and sealed.
 
 ghost use Rattle.std.specs.Prelude.{◌≡◌, ◌⊎◌, ◌+◌, ◌*◌, ◌/◌, ◌<◌, ◌≤◌, ℕ, [], length, take, drop, OnOk, IfErr, IsErrOf, IsTrue};
-ghost use Rattle.dms_moments.specs.Moments.{Runs, Steps};
+ghost use Rattle.dms_moments.specs.Moments.{Runs};
 ghost use Rattle.dms_history.specs.Entries.{control_point};
 ghost use Rattle.dms_history.specs.Schemas.{schema_entries};
 ghost use Rattle.dms_audrec.specs.Spelling.{IsEntry};
 ghost use Rattle.dms_audrec.specs.Reading.{counts_at};
 ghost use Rattle.dms_audfile.specs.Counting.{CountedAt};
 ghost use Rattle.dms_audfile.specs.Ends.{EndsAt};
+ghost use Rattle.dms_restore.specs.Views.{StaysSilent};
 ghost use Rattle.dms_restore.specs.Bodies.{part_count, bodies};
 ghost use Rattle.dms_running.specs.Plans.{Planned};
-ghost use Rattle.dms_restore.specs.Logging.{telling_of, PrintsNothing};
+ghost use Rattle.dms_restore.specs.Logging.{telling_of};
 ghost use Rattle.dms_restore.specs.Laying.{schema_control, IsAtStart, LaysEnd, SealsSince};
 
 use dms_audfile::{AudFault, AuditEnd};
@@ -39,7 +40,7 @@ fn lay_parts<S: Site>(end: &mut AuditEnd, site: &mut S, description: &[u8]) -> R
     requires few { length description.now ≤ 65535 }
     ensures moments { (first : ℕ) → IsTrue S.tells → IsAtStart end.old first (S.files site.old) (S.clock site.old)
         → Runs (S.clock site.old) (S.clock site.new) (Planned (telling_of end.old.total first) (schema_entries (bodies description.now)) (S.files site.old)) }
-    ensures silent { (first : ℕ) → IsTrue S.tells → IsAtStart end.old first (S.files site.old) (S.clock site.old) → Steps PrintsNothing (S.clock site.old) (S.clock site.new) }
+    ensures silent { (first : ℕ) → IsTrue S.tells → IsAtStart end.old first (S.files site.old) (S.clock site.old) → StaysSilent S.Site site.old site.new }
     ensures laid { OnOk result ((first : ℕ) → IsTrue S.tells → IsAtStart end.old first (S.files site.old) (S.clock site.old)
         → LaysEnd end.old.total end.new first (schema_entries (bodies description.now)) (S.files site.old) (S.clock site.old) (S.files site.new) (S.clock site.new)) }
     ensures kind { (end.new.total ≡ end.old.total) × (end.new.tag ≡ end.old.tag) × (end.new.limit ≡ end.old.limit) }
@@ -76,7 +77,7 @@ pub(crate) fn seal_control<S: Site>(
     requires size { length counts.now ≤ 1600 }
     ensures moments { (first : ℕ) → IsTrue S.tells → IsAtStart end.old first (S.files site.old) (S.clock site.old)
         → Runs (S.clock site.old) (S.clock site.new) (Planned (telling_of end.old.total first) (schema_control description.now point next counts.now) (S.files site.old)) }
-    ensures silent { (first : ℕ) → IsTrue S.tells → IsAtStart end.old first (S.files site.old) (S.clock site.old) → Steps PrintsNothing (S.clock site.old) (S.clock site.new) }
+    ensures silent { (first : ℕ) → IsTrue S.tells → IsAtStart end.old first (S.files site.old) (S.clock site.old) → StaysSilent S.Site site.old site.new }
     ensures sealed { OnOk result ((first : ℕ) → IsTrue S.tells → IsAtStart end.old first (S.files site.old) (S.clock site.old)
         → SealsSince end.old.total end.new first (schema_control description.now point next counts.now) (S.files site.old) (S.files site.new) (S.clock site.new)) }
     ensures kind { (end.new.total ≡ end.old.total) × (end.new.tag ≡ end.old.tag) × (end.new.limit ≡ end.old.limit) }

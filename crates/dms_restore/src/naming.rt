@@ -7,8 +7,8 @@ ghost use Rattle.dms_history.specs.Events.{Block, Event};
 ghost use Rattle.dms_history.specs.Images.{is_at, or_else, last_after, first_before};
 ghost use Rattle.dms_restore.specs.declared.live.AuditSpot as spot;
 ghost use Rattle.dms_restore.specs.declared.live.LiveEntry.TheVariants.{Changed};
-ghost use Rattle.dms_restore.specs.LiveEntries.{event_at, events_at, before_in, after_in};
-ghost use Rattle.dms_restore.specs.Named.{spot_of, bytes_of, named, IsImageSpot, IsSpotAmong};
+ghost use Rattle.dms_restore.specs.LiveEntries.{event_at, events_at, before_in};
+ghost use Rattle.dms_restore.specs.Named.{spot_of, bytes_of, named, IsImageSpot, IsSpotAmong, named_after, named_before};
 
 use crate::{AuditSpot, ImageAt, LiveEntry};
 use std::alloc::AllocError;
@@ -19,7 +19,7 @@ fn note_after(
     spots: &mut BTreeMap<(u32, u32), Option<AuditSpot>>,
     image: &ImageAt,
 ) -> Result<(), AllocError>
-    ensures names { OnOk result ((files : Files) (f b : ℕ) → named files spots.new f b ≡ (if is_at f b image.now.file image.now.block then Some (Some (after_in files image.now)) else named files spots.old f b)) }
+    ensures names { OnOk result ((files : Files) (f b : ℕ) → named files spots.new f b ≡ named_after files spots.old image.now f b) }
     ensures from { OnOk result ((f b : ℕ) (s : spot.AuditSpot) → spot_of spots.new f b ≡ Some (Some s) → (spot_of spots.old f b ≡ Some (Some s)) ⊎ IsImageSpot (Changed image.now) f b s) }
 {
     let spot = AuditSpot {
@@ -51,7 +51,7 @@ fn note_before(
     image: &ImageAt,
 ) -> Result<(), AllocError>
     ensures from { OnOk result ((f b : ℕ) (s : spot.AuditSpot) → spot_of spots.new f b ≡ Some (Some s) → (spot_of spots.old f b ≡ Some (Some s)) ⊎ IsImageSpot (Changed image.now) f b s) }
-    ensures names { OnOk result ((files : Files) (f b : ℕ) → named files spots.new f b ≡ or_else (named files spots.old f b) (if is_at f b image.now.file image.now.block then Some (before_in files image.now) else None)) }
+    ensures names { OnOk result ((files : Files) (f b : ℕ) → named files spots.new f b ≡ named_before files spots.old image.now f b) }
 {
     let key = (image.file, image.block);
     if spots.contains_key(&key) {

@@ -1,8 +1,8 @@
 //! Writing the blocks that the audit tells.
 
-ghost use Rattle.std.specs.Prelude.{◌≡◌, ◌⊎◌, ◌+◌, ◌*◌, ◌^◌, ◌<◌, ◌≤◌, ℕ, List, length, Some, OnOk, IfErr, IsErrOf, IsTrue};
+ghost use Rattle.std.specs.Prelude.{◌≡◌, ◌⊎◌, ◌+◌, ◌*◌, ◌^◌, ◌<◌, ℕ, List, length, Some, OnOk, IfErr, IsErrOf, IsTrue};
 ghost use Rattle.dms_moments.specs.Moments.{Steps};
-ghost use Rattle.dms_site.specs.Files.{InFile, Torn, Only};
+ghost use Rattle.dms_site.specs.Files.{InFile, Torn};
 ghost use Rattle.dms_history.specs.Events.{Event};
 ghost use Rattle.dms_history.specs.Told.{told_block};
 ghost use Rattle.dms_audfile.specs.Counting.{CountedAt};

@@ -1,15 +1,11 @@
 //! The table of what the audit tells of each block at a point.
 
-ghost use Rattle.std.specs.Prelude.{◌≡◌, ◌⊎◌, ◌↔◌, ◌++◌, [], ◌∷◌, ℕ, List, Some, None, option_map, OnOk, IfOk, IfErr, IsTrue};
+ghost use Rattle.std.specs.Prelude.{◌≡◌, ◌⊎◌, ◌↔◌, ◌++◌, [], ◌∷◌, ℕ, Some, None, OnOk, IfOk, IfErr, IsTrue};
 ghost use Rattle.dms_site.specs.Files.{Files};
-ghost use Rattle.dms_history.specs.Events.{Event};
-ghost use Rattle.dms_history.specs.Lists.{until_first, after_first, after_last};
-ghost use Rattle.dms_history.specs.Places.{is_control, is_point};
-ghost use Rattle.dms_history.specs.Images.{or_else, last_after, first_before};
 ghost use Rattle.dms_restore.specs.declared.live.AuditSpot as spot;
-ghost use Rattle.dms_restore.specs.LiveEntries.{events_at, AllStandWhole};
-ghost use Rattle.dms_restore.specs.Named.{spot_of, named, AllFromSpots, IsSpotAmong, IsNoBlock, HasNoBlock};
-ghost use Rattle.dms_restore.specs.Table.{IsBlock, AreBlocks, IsAmong, IsTable};
+ghost use Rattle.dms_restore.specs.LiveEntries.{events_at};
+ghost use Rattle.dms_restore.specs.Named.{spot_of, named, AllFromSpots, IsSpotAmong, IsNoBlock, HasNoBlock, named_in, NamesNoBlock, IsTableOf};
+ghost use Rattle.dms_restore.specs.Table.{IsBlock, AreBlocks, IsAmong};
 
 use crate::naming::{note_redo, note_undo, take_first};
 use crate::placing::after_control;
@@ -55,7 +51,7 @@ fn list_told(
 ) -> Result<Vec<Told>, AudFault>
     ensures blocks { IfOk result (λ v. AreBlocks v.items) }
     ensures each { IfOk result (λ v. AllFromSpots spots v.items) }
-    ensures only { IfErr result (λ e. (e ≡ AudFault.Memory) ⊎ ((f : ℕ) × (b : ℕ) × (s : spot.AuditSpot) × (spot_of spots f b ≡ Some (Some s)) × (e ≡ AudFault.Damaged s.audit 0) × IsNoBlock f b s)) }
+    ensures only { IfErr result (λ e. (e ≡ AudFault.Memory) ⊎ NamesNoBlock spots e) }
     ensures all { IfOk result (λ v. (f b : ℕ) (s : spot.AuditSpot) → spot_of spots f b ≡ Some (Some s) → IsAmong f b v.items) }
 {
     let mut table = Vec::new(alloc);
@@ -79,7 +75,7 @@ fn spots_of(
     behind: &[LiveEntry],
 ) -> Result<BTreeMap<(u32, u32), Option<AuditSpot>>, AllocError>
     ensures from { IfOk result (λ m. (f b : ℕ) (s : spot.AuditSpot) → spot_of m f b ≡ Some (Some s) → IsSpotAmong front.now f b s ⊎ IsSpotAmong behind.now f b s) }
-    ensures names { IfOk result (λ m. (files : Files) (f b : ℕ) → named files m f b ≡ or_else (option_map (λ x. Some x) (last_after f b (after_last is_control (events_at files front.now)))) (first_before f b (events_at files behind.now))) }
+    ensures names { IfOk result (λ m. (files : Files) (f b : ℕ) → named files m f b ≡ named_in (events_at files front.now) (events_at files behind.now) f b) }
 {
     let mut spots = BTreeMap::new(alloc);
     note_redo(&mut spots, &front[after_control(front)..])?;
@@ -97,8 +93,7 @@ pub fn table_of(
     behind: &[LiveEntry],
 ) -> Result<Vec<Told>, AudFault>
     ensures blocks { IfOk result (λ v. AreBlocks v.items) }
-    ensures table { IfOk result (λ v. (files : Files) (live : List Event) (m : ℕ) → until_first (is_point m) live ≡ events_at files front.now → after_first (is_point m) live ≡ events_at files behind.now
-        → AllStandWhole files front.now → AllStandWhole files behind.now → IsTable live m files v.items) }
+    ensures table { IfOk result (λ v. IsTableOf front.now behind.now v.items) }
     ensures only { IfErr result (λ e. (e ≡ AudFault.Memory) ⊎ HasNoBlock front.now behind.now e) }
 {
     match spots_of(alloc, front, behind) {

@@ -3,21 +3,20 @@
 ghost use Rattle.std.specs.Prelude.{◌≡◌, ◌≤◌, ◌++◌, [], ◌∷◌, ◌+◌, ◌*◌, ◌/◌, ◌^◌, ◌<◌, ℕ, Option, List, Some, None, if◌then◌else◌, length, take, drop, OnOk, IfOk, ◌==◌, ◌&&◌};
 ghost use Rattle.std.specs.Option.{option_copied};
 ghost use Rattle.dms_site.specs.Files.{Files};
-ghost use Rattle.dms_history.specs.Events as events;
 ghost use Rattle.dms_history.specs.Events.{Block, control};
 ghost use Rattle.dms_history.specs.Lists.{until_first, after_first};
 ghost use Rattle.dms_history.specs.Places.{is_point};
 ghost use Rattle.dms_history.specs.declared.event.FileCount.{FileCount};
 ghost use Rattle.dms_history.specs.Entries as meaning;
-ghost use Rattle.dms_history.specs.Entries.{image, schema_part, quiet_point, control_point, begin_restore, how_of, counts_in};
+ghost use Rattle.dms_history.specs.Entries.{image, schema_part, quiet_point, control_point, begin_restore, how_of};
 ghost use Rattle.dms_history.specs.Schemas.{is_whole};
 ghost use Rattle.dms_audrec.specs.Reading.{counts_at};
 ghost use Rattle.dms_audrec.specs.Seen.{entry_seen, how_seen};
 ghost use Rattle.dms_audfile.specs.AuditTrail.{entry_there};
 ghost use Rattle.dms_restore.specs.declared.live.LiveEntry.TheVariants.{Controlled};
-ghost use Rattle.dms_restore.specs.LiveEntries.{event_at, events_at};
+ghost use Rattle.dms_restore.specs.LiveEntries.{events_at};
 ghost use Rattle.dms_restore.specs.Scanned.{IsInAudit};
-ghost use Rattle.dms_restore.specs.Tracing.{MatchesHow, StandsAsImage, StandsAsControl, IsTraced};
+ghost use Rattle.dms_restore.specs.Tracing.{MatchesHow, StandsAsImage, StandsAsControl, IsTraced, TellsImage, IsTracedOn};
 
 use crate::placing::place;
 use crate::{ControlAt, HowAt, ImageAt, LiveEntry, PendingAt};
@@ -52,7 +51,7 @@ fn start_of(place: &EntryPlace) -> u64
 
 /// The Image of a new block at a place.
 fn new_image(place: &EntryPlace, file: u32, block: u32) -> ImageAt
-    ensures { (files : Files) (after : Block) → IsInAudit place.now → entry_there files place.now ≡ Some (image file block None after) → StandsAsImage files result file block None after }
+    ensures { TellsImage result place.now file block None }
 {
     ImageAt {
         file,
@@ -65,7 +64,7 @@ fn new_image(place: &EntryPlace, file: u32, block: u32) -> ImageAt
 
 /// The Image of a block that isn't new, at a place.
 fn old_image(place: &EntryPlace, file: u32, block: u32) -> ImageAt
-    ensures { (files : Files) (before after : Block) → IsInAudit place.now → entry_there files place.now ≡ Some (image file block (Some before) after) → StandsAsImage files result file block (Some before) after }
+    ensures { (before : Block) → TellsImage result place.now file block (Some before) }
 {
     ImageAt {
         file,
@@ -78,7 +77,7 @@ fn old_image(place: &EntryPlace, file: u32, block: u32) -> ImageAt
 
 /// The Image of a block at a place.
 fn image_at(place: &EntryPlace, file: u32, block: u32, before: Option<&[u8]>) -> ImageAt
-    ensures { (files : Files) (after : Block) → IsInAudit place.now → entry_there files place.now ≡ Some (image file block (option_copied before.entry) after) → StandsAsImage files result file block (option_copied before.entry) after }
+    ensures { TellsImage result place.now file block (option_copied before.entry) }
 {
     match before {
         None => new_image(place, file, block),
@@ -180,15 +179,15 @@ impl TrailHistory {
 
     /// Adds an Image.
     fn add_image(&mut self, image: ImageAt) -> Result<(), AllocError>
-        ensures { OnOk result ((files : Files) (entries : List meaning.Entry) (f b : ℕ) (before : Option Block) (after : Block) → StandsAsImage files image f b before after → IsTraced files entries self.old
-            → IsTraced files (entries ++ meaning.image f b before after ∷ []) self.new) }
+        ensures { OnOk result ((files : Files) (entries : List meaning.Entry) (f b : ℕ) (before : Option Block) (after : Block) → StandsAsImage files image f b before after
+            → IsTracedOn files entries (meaning.image f b before after) self.old self.new) }
     {
         self.push(LiveEntry::Changed(image))
     }
 
     /// Adds a quiet point.
     fn add_quiet(&mut self, number: u64) -> Result<(), AllocError>
-        ensures { OnOk result ((files : Files) (entries : List meaning.Entry) → IsTraced files entries self.old → IsTraced files (entries ++ quiet_point number ∷ []) self.new) }
+        ensures { OnOk result ((files : Files) (entries : List meaning.Entry) → IsTracedOn files entries (quiet_point number) self.old self.new) }
     {
         self.push(LiveEntry::Quiet(number))?;
         self.next = self.next.max(number.saturating_add(1));
@@ -207,7 +206,7 @@ impl TrailHistory {
         requires { control.next < 2 ^ 64 }
         ensures { OnOk result ((files : Files) (entries : List meaning.Entry) (counts : List FileCount)
             → StandsAsControl files control control.point control.next counts (is_whole (record { read = self.old.read; all = self.old.all }))
-            → IsTraced files entries self.old → IsTraced files (entries ++ control_point control.point control.next counts ∷ []) self.new) }
+            → IsTracedOn files entries (control_point control.point control.next counts) self.old self.new) }
     {
         self.push(LiveEntry::Controlled(control))?;
         self.next = control.next;
@@ -217,7 +216,7 @@ impl TrailHistory {
 
     /// Adds a part of a Schema.
     fn add_part(&mut self, part: u16, parts: u16)
-        ensures { (files : Files) (entries : List meaning.Entry) (bytes : List ℕ) → IsTraced files entries self.old → IsTraced files (entries ++ schema_part part parts bytes ∷ []) self.new }
+        ensures { (files : Files) (entries : List meaning.Entry) (bytes : List ℕ) → IsTracedOn files entries (schema_part part parts bytes) self.old self.new }
     {
         if part == 1 {
             self.read = 1;
@@ -233,8 +232,7 @@ impl TrailHistory {
 
     /// Adds the Begin of a restore: all live entries behind the place of its point are removed.
     pub fn begin(&mut self, alloc: Global, point: u64, how: HowAt) -> Result<(), AllocError>
-        ensures { OnOk result ((files : Files) (entries : List meaning.Entry) (kind : meaning.Kind) → MatchesHow how (how_of kind) → IsTraced files entries self.old
-            → IsTraced files (entries ++ begin_restore point kind ∷ []) self.new) }
+        ensures { OnOk result ((files : Files) (entries : List meaning.Entry) (kind : meaning.Kind) → MatchesHow how (how_of kind) → IsTracedOn files entries (begin_restore point kind) self.old self.new) }
     {
         let kept = kept_by(&self.live, point);
         self.removed = behind(alloc, &self.live, kept.end)?;
@@ -257,8 +255,8 @@ impl TrailHistory {
         entry: &Entry<'_>,
         place: &EntryPlace,
     ) -> Result<(), AllocError>
-        ensures { OnOk result ((files : Files) (entries : List meaning.Entry) → IsInAudit place.now → entry_there files place.now ≡ Some (entry_seen entry.now) → IsTraced files entries self.old
-            → IsTraced files (entries ++ entry_seen entry.now ∷ []) self.new) }
+        ensures { OnOk result ((files : Files) (entries : List meaning.Entry) → IsInAudit place.now → entry_there files place.now ≡ Some (entry_seen entry.now)
+            → IsTracedOn files entries (entry_seen entry.now) self.old self.new) }
     {
         match *entry {
             Entry::Schema(part, parts, _) => {

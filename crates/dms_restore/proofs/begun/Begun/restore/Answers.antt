@@ -1,10 +1,11 @@
-use Rattle.std.proofs.Common.{refl, sym, subst}
+use Rattle.std.proofs.Common.{[], refl, sym, subst}
 use Rattle.dms_restore.proofs.Results.{is_fault, counted_fault, counted_call}
 use Rattle.dms_site.specs.Files.{Files, Only}
 use Rattle.dms_running.specs.Restoring.{IsKept, Rewritten}
 use Rattle.dms_restore.specs.Table.{AllStandAsTold}
+use Rattle.dms_restore.specs.Views.{view_of}
 use Rattle.dms_restore.proofs.Backed.{rewrites_silent}
-use Rattle.dms_restore.proofs.Beginnings.{then_looks, table_leave, table_begun, table_restored, table_keeps, table_entries}
+use Rattle.dms_restore.proofs.Beginnings.{ends_kept, then_looks, table_leave, table_begun, table_restored, table_keeps, table_entries}
 use Rattle.dms_restore.proofs.begun.Begun.restore.Goals as goal
 
 pub returns-in-Ok-clause-begun : goal.returns-in-Ok-clause-begun
@@ -65,3 +66,11 @@ returns-in-Err-clause-silent_then g c p tells is = rewrites_silent _ _ _ (c.writ
 
 pub returns-in-Err-sync-clause-silent_then : goal.returns-in-Err-sync-clause-silent_then
 returns-in-Err-sync-clause-silent_then g c p tells is = rewrites_silent _ _ _ (then_looks (IsKept p.entries p.point) _ _ _ (c.write_all.ensures.moments p.entries p.point tells is.each) c.sync.ensures.moments)
+
+pub returns-in-Ok-clause-stays : goal.returns-in-Ok-clause-stays
+returns-in-Ok-clause-stays g c p tells is ends = record {
+  ends = ends_kept (view_of g.S.Site c.args.self.log) [] (IsKept p.entries p.point) _ _ ends
+      (then_looks (IsKept p.entries p.point) _ _ _ (c.write_all.ensures.moments p.entries p.point tells is.each) c.sync.ensures.moments)
+      (subst (λ (l : Files). Rewritten (IsKept p.entries p.point) (g.S.Site.files c.args.self.log.site) l) (sym (c.sync.ensures.files tells)) (c.write_all.ensures.written p.entries p.point tells is.each));
+  only = subst (λ (l : Files). Only l (g.S.Site.clock c.sync.new.self)) (sym (c.sync.ensures.files tells)) (c.in-Ok.ensures.durable tells);
+}

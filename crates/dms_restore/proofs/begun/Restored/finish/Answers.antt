@@ -1,5 +1,6 @@
 use Rattle.std.proofs.Common.{Err, refl}
 use Rattle.dms_restore.proofs.Results.{counted_fault}
+use Rattle.dms_restore.proofs.Sealed.{ends_of}
 use Rattle.dms_restore.proofs.Endings.{end_starts, end_leave, ended, plan_blocks}
 use Rattle.dms_restore.proofs.begun.Restored.finish.Goals as goal
 
@@ -38,3 +39,6 @@ returns-in-Err-clause-silent_then g c p tells by = c.seal_control.ensures.silent
 
 pub returns-in-Err-clause-full : goal.returns-in-Err-clause-full
 returns-in-Err-clause-full g c full = c.in-Err.ensures.full (λ i. Err (full i))
+
+pub returns-in-Err-clause-ends : goal.returns-in-Err-clause-ends
+returns-in-Err-clause-ends g c full tells starts = ends_of c.seal_control.new.end c.args.self.log.first _ _ (c.in-Err.ensures.ends (λ i. Err (full i)) c.args.self.log.first tells starts)

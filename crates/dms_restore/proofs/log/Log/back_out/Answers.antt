@@ -1,6 +1,7 @@
 use Rattle.std.proofs.Common.{inr, sym, subst}
 use Rattle.dms_restore.specs.Logging.{telling_of}
-use Rattle.dms_restore.specs.BackOuts.{seen, ServesBehind}
+use Rattle.dms_restore.specs.Views.{view_of}
+use Rattle.dms_restore.specs.BackOuts.{ServesBehind}
 use Rattle.dms_restore.proofs.Results.{one_ok, is_fault}
 use Rattle.dms_restore.proofs.Backed.{silent_on, counted_on, back_full, never_full}
 use Rattle.dms_restore.proofs.Sealed.{goes_back_then, went_back_then, leaves_then, not_disk, ok_not_disk, full_of, back_limit}
@@ -25,19 +26,19 @@ pub go_back_by-requires-clause-nothing : goal.go_back_by-requires-clause-nothing
 go_back_by-requires-clause-nothing g c tells = (c.in-Ok.ensures.sealed (ok_not_disk _) tells).nothing
 
 pub go_back_by-requires-clause-by : goal.go_back_by-requires-clause-by
-go_back_by-requires-clause-by g c tells = goes_back_then (seen g.S.Site c.args.self.now) (seen g.S.Site c.table_back.new.self) (c.in-Ok.ensures.sealed (ok_not_disk _) tells) c.args.point c.args.next c.args.counts.now (c.requires.by tells)
+go_back_by-requires-clause-by g c tells = goes_back_then (view_of g.S.Site c.args.self.now) (view_of g.S.Site c.table_back.new.self) (c.in-Ok.ensures.sealed (ok_not_disk _) tells) c.args.point c.args.next c.args.counts.now (c.requires.by tells)
 
 pub go_back_by-requires-clause-serves : goal.go_back_by-requires-clause-serves
-go_back_by-requires-clause-serves g c tells = subst (ServesBehind (seen g.S.Site c.table_back.new.self) c.args.point) (sym c.deref.ensures.value) (c.in-Ok.ensures.serves tells)
+go_back_by-requires-clause-serves g c tells = subst (ServesBehind (view_of g.S.Site c.table_back.new.self) c.args.point) (sym c.deref.ensures.value) (c.in-Ok.ensures.serves tells)
 
 pub returns-clause-back : goal.returns-clause-back
 returns-clause-back g c = one_ok c.go_back_by.result c.go_back_by.ensures.back (λ back tells.
-    went_back_then (seen g.S.Site c.args.self.now) (seen g.S.Site c.table_back.new.self) (c.in-Ok.ensures.sealed (ok_not_disk _) tells) c.args.point _ _ (back tells))
+    went_back_then (view_of g.S.Site c.args.self.now) (view_of g.S.Site c.table_back.new.self) (c.in-Ok.ensures.sealed (ok_not_disk _) tells) c.args.point _ _ (back tells))
 
 pub returns-clause-moments : goal.returns-clause-moments
 returns-clause-moments g c tells =
-    leaves_then (seen g.S.Site c.args.self.now) (seen g.S.Site c.table_back.new.self) (c.in-Ok.ensures.sealed (ok_not_disk _) tells) (λ i. telling_of (c.table_back.ensures.kind.0 i) (c.table_back.ensures.kind.3 i))
-    (seen g.S.Site c.go_back_by.new.self) (c.table_back.ensures.moments tells) (c.go_back_by.ensures.moments tells)
+    leaves_then (view_of g.S.Site c.args.self.now) (view_of g.S.Site c.table_back.new.self) (c.in-Ok.ensures.sealed (ok_not_disk _) tells) (λ i. telling_of (c.table_back.ensures.kind.0 i) (c.table_back.ensures.kind.3 i))
+    (view_of g.S.Site c.go_back_by.new.self) (c.table_back.ensures.moments tells) (c.go_back_by.ensures.moments tells)
 
 pub returns-clause-silent : goal.returns-clause-silent
 returns-clause-silent g c tells = silent_on _ _ _ (c.table_back.ensures.silent tells) (c.go_back_by.ensures.silent tells)

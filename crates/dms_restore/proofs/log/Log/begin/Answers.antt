@@ -5,7 +5,8 @@ use Rattle.dms_audrec.specs.Seen.{how_seen}
 use Rattle.dms_restore.proofs.Sizes.{begin_size}
 use Rattle.dms_restore.proofs.Results.{counted_fault}
 use Rattle.dms_restore.proofs.Logs.{full_seals}
-use Rattle.dms_restore.proofs.Beginnings.{kind_is, begin_leave, begin_begun, begin_keeps, begin_sealed}
+use Rattle.dms_restore.proofs.Sealed.{ends_of}
+use Rattle.dms_restore.proofs.Beginnings.{kind_is, begin_leave, begin_begun, begin_keeps, begin_sealed, begin_ends}
 use Rattle.dms_restore.proofs.log.Log.begin.Goals as goal
 
 pub returns-in-Ok-clause-begun : goal.returns-in-Ok-clause-begun
@@ -59,3 +60,13 @@ returns-in-Ok-clause-silent g c tells start = steps_weaken (c.append.ensures.mom
 
 pub returns-in-Err-clause-silent_then : goal.returns-in-Err-clause-silent_then
 returns-in-Err-clause-silent_then g c tells start = steps_weaken (c.append.ensures.moments c.args.self.first [] tells tt start.ends) (λ x y now s. s.said)
+
+pub returns-in-Ok-clause-begins : goal.returns-in-Ok-clause-begins
+returns-in-Ok-clause-begins g c tells start =
+    begin_ends c.append.new.self c.args.self.first c.args.point (how_seen c.args.how) _ _ _ (c.in-Ok.ensures.appends c.args.self.first [] tells tt start.ends)
+
+pub returns-in-Err-clause-full : goal.returns-in-Err-clause-full
+returns-in-Err-clause-full g c full = c.in-Err.ensures.full (λ i. Err (full i))
+
+pub returns-in-Err-clause-ends : goal.returns-in-Err-clause-ends
+returns-in-Err-clause-ends g c full tells start = ends_of c.append.new.self c.args.self.first _ _ (c.in-Err.ensures.kept (λ i. Err (full i)) c.args.self.first [] tells start.ends).ends

@@ -1,7 +1,7 @@
 use Rattle.std.proofs.Common.{refl}
 use Rattle.dms_history.specs.Entries.{by_back_out}
 use Rattle.dms_restore.proofs.Results.{both_ok, one_ok}
-use Rattle.dms_restore.specs.BackOuts.{seen}
+use Rattle.dms_restore.specs.Views.{view_of}
 use Rattle.dms_restore.proofs.Sealed.{ends_of, begin_grown}
 use Rattle.dms_restore.proofs.Sizes.{begin_size}
 use Rattle.dms_restore.proofs.Backed.{begin_logs}
@@ -40,7 +40,7 @@ append-requires-clause-entry g c = (c.ranges.point.fits, tt)
 
 pub returns-clause-grown : goal.returns-clause-grown
 returns-clause-grown g c = one_ok c.append.result c.append.ensures.appends (λ appends tells nothing.
-    begin_grown (seen g.S.Site c.args.self.now) c.append.new.self _ _ _ c.append.ensures.kind.0 (c.requires.runs tells) nothing (λ first waiting plain ends. appends first waiting tells plain ends))
+    begin_grown (view_of g.S.Site c.args.self.now) c.append.new.self _ _ _ c.append.ensures.kind.0 (c.requires.runs tells) nothing (λ first waiting plain ends. appends first waiting tells plain ends))
 
 pub returns-clause-ends : goal.returns-clause-ends
 returns-clause-ends g c full tells =

@@ -4,7 +4,7 @@ use Rattle.dms_audfile.specs.declared.audit_end.AuditEnd.{AuditEnd}
 use Rattle.dms_restore.specs.Logging.{telling_of, telling}
 use Rattle.dms_history.specs.Events.{back_out}
 use Rattle.dms_restore.specs.Begins.{begun_to}
-use Rattle.dms_restore.specs.BackOuts.{seen}
+use Rattle.dms_restore.specs.Views.{view_of}
 use Rattle.dms_restore.proofs.Results.{one_ok, is_fault}
 use Rattle.dms_restore.proofs.Sealed.{same_error, never_memory, none_memory, full_of}
 use Rattle.dms_restore.proofs.Backed.{silent_on, then_each, back_points, back_next, back_ends, counted_on, back_fault, back_full, never_full}
@@ -19,11 +19,11 @@ returns-in-Err-restore_told-clause-only g c = inr c.in-Err-restore_told.ensures.
 
 pub returns-in-Err-restore_told-clause-moments : goal.returns-in-Err-restore_told-clause-moments
 returns-in-Err-restore_told-clause-moments g c tells =
-    let a = seen g.S.Site c.args.self.now in
-    let b = seen g.S.Site c.begin_back.new.self in
+    let a = view_of g.S.Site c.args.self.now in
+    let b = view_of g.S.Site c.begin_back.new.self in
     let keeps = c.in-Ok.ensures.keeps tells in
     let same : telling b ≡ telling a = λ i. telling_of (c.begin_back.ensures.kind.0 i) (c.begin_back.ensures.kind.3 i) in
-    then_each a b (seen g.S.Site c.restore_told.new.self) (c.requires.runs tells) (g.met.S.Site.may_stay c.args.self.now.site tells) same keeps.points_same keeps.next_same
+    then_each a b (view_of g.S.Site c.restore_told.new.self) (c.requires.runs tells) (g.met.S.Site.may_stay c.args.self.now.site tells) same keeps.points_same keeps.next_same
     (c.begin_back.ensures.moments tells) (c.restore_told.ensures.moments _ tells (c.in-Ok.ensures.begun tells) (c.requires.serves tells _ (c.in-Ok.ensures.grown tells (c.requires.nothing tells))))
 
 pub returns-in-Err-restore_told-clause-silent : goal.returns-in-Err-restore_told-clause-silent
@@ -34,9 +34,9 @@ returns-in-Err-restore_told-clause-disk g c = counted_on _ _ _ _ (c.in-Ok.ensure
 
 pub returns-clause-moments : goal.returns-clause-moments
 returns-clause-moments g c tells =
-    let a = seen g.S.Site c.args.self.now in
-    let b = seen g.S.Site c.begin_back.new.self in
-    let d = seen g.S.Site c.restore_told.new.self in
+    let a = view_of g.S.Site c.args.self.now in
+    let b = view_of g.S.Site c.begin_back.new.self in
+    let d = view_of g.S.Site c.restore_told.new.self in
     let runs = c.requires.runs tells in
     let read = g.met.S.Site.may_stay c.args.self.now.site tells in
     let by = c.requires.by tells in
@@ -44,28 +44,28 @@ returns-clause-moments g c tells =
     let stands = c.in-Ok-restore_told.ensures.stands _ tells (c.in-Ok.ensures.begun tells) (c.requires.serves tells _ (c.in-Ok.ensures.grown tells (c.requires.nothing tells))) in
     let one : telling b ≡ telling a = λ i. telling_of (c.begin_back.ensures.kind.0 i) (c.begin_back.ensures.kind.3 i) in
     let two : telling d ≡ telling b = λ i. telling_of ((c.restore_told.ensures.kind.0 i).total) (c.restore_told.ensures.kind.1 i) in
-    then_each a d (seen g.S.Site c.end_back.new.self) runs read (two ∙ one) (back_points a b d c.args.point c.args.next c.args.counts.now by keeps stands) (back_next a b d c.args.point c.args.next c.args.counts.now by keeps stands)
+    then_each a d (view_of g.S.Site c.end_back.new.self) runs read (two ∙ one) (back_points a b d c.args.point c.args.next c.args.counts.now by keeps stands) (back_next a b d c.args.point c.args.next c.args.counts.now by keeps stands)
     (then_each a b d runs read one keeps.points_same keeps.next_same (c.begin_back.ensures.moments tells) (c.restore_told.ensures.moments _ tells (c.in-Ok.ensures.begun tells) (c.requires.serves tells _ (c.in-Ok.ensures.grown tells (c.requires.nothing tells)))))
     (c.end_back.ensures.moments _ tells (back_ends a b d c.args.point c.args.next c.args.counts.now by keeps stands))
 
 pub returns-clause-silent : goal.returns-clause-silent
 returns-clause-silent g c tells =
-    let a = seen g.S.Site c.args.self.now in
-    let b = seen g.S.Site c.begin_back.new.self in
-    let d = seen g.S.Site c.restore_told.new.self in
+    let a = view_of g.S.Site c.args.self.now in
+    let b = view_of g.S.Site c.begin_back.new.self in
+    let d = view_of g.S.Site c.restore_told.new.self in
     let begun = c.in-Ok.ensures.begun tells in
     silent_on _ _ _ (silent_on _ _ _ (c.begin_back.ensures.silent tells) (c.restore_told.ensures.silent _ tells begun (c.requires.serves tells _ (c.in-Ok.ensures.grown tells (c.requires.nothing tells)))))
     (c.end_back.ensures.silent _ tells (back_ends a b d c.args.point c.args.next c.args.counts.now (c.requires.by tells) (c.in-Ok.ensures.keeps tells) (c.in-Ok-restore_told.ensures.stands _ tells begun (c.requires.serves tells _ (c.in-Ok.ensures.grown tells (c.requires.nothing tells))))))
 
 pub returns-clause-back : goal.returns-clause-back
 returns-clause-back g c = one_ok c.end_back.result c.end_back.ensures.ended (λ ended tells.
-    let a = seen g.S.Site c.args.self.now in
-    let b = seen g.S.Site c.begin_back.new.self in
-    let d = seen g.S.Site c.restore_told.new.self in
+    let a = view_of g.S.Site c.args.self.now in
+    let b = view_of g.S.Site c.begin_back.new.self in
+    let d = view_of g.S.Site c.restore_told.new.self in
     let by = c.requires.by tells in
     let keeps = c.in-Ok.ensures.keeps tells in
     let stands = c.in-Ok-restore_told.ensures.stands _ tells (c.in-Ok.ensures.begun tells) (c.requires.serves tells _ (c.in-Ok.ensures.grown tells (c.requires.nothing tells))) in
-    went_back a b d (seen g.S.Site c.end_back.new.self) c.args.point c.args.next c.args.counts.now _ _ by (c.in-Ok.ensures.logs tells) keeps stands (ended _ tells (back_ends a b d c.args.point c.args.next c.args.counts.now by keeps stands)))
+    went_back a b d (view_of g.S.Site c.end_back.new.self) c.args.point c.args.next c.args.counts.now _ _ by (c.in-Ok.ensures.logs tells) keeps stands (ended _ tells (back_ends a b d c.args.point c.args.next c.args.counts.now by keeps stands)))
 
 pub returns-clause-only : goal.returns-clause-only
 returns-clause-only g c = back_fault c.end_back.result _ _ (ap (λ (e : AuditEnd). e.limit) c.restore_told.ensures.kind.0 ∙ c.begin_back.ensures.kind.2) c.end_back.ensures.only
@@ -84,7 +84,7 @@ pub returns-in-Err-clause-memory : goal.returns-in-Err-clause-memory
 returns-in-Err-clause-memory g c memory tells = never_memory c.in-Err.fault _ c.in-Err.ensures.only memory
 
 pub returns-in-Err-restore_told-clause-memory : goal.returns-in-Err-restore_told-clause-memory
-returns-in-Err-restore_told-clause-memory g c memory tells = c.in-Err-restore_told.ensures.memory (λ i. Err (same_error _ _ memory i)) (begun_to (seen g.S.Site c.args.self.now) c.args.point back_out) tells (c.requires.serves tells _ (c.in-Ok.ensures.grown tells (c.requires.nothing tells)))
+returns-in-Err-restore_told-clause-memory g c memory tells = c.in-Err-restore_told.ensures.memory (λ i. Err (same_error _ _ memory i)) (begun_to (view_of g.S.Site c.args.self.now) c.args.point back_out) tells (c.requires.serves tells _ (c.in-Ok.ensures.grown tells (c.requires.nothing tells)))
 
 pub returns-clause-memory : goal.returns-clause-memory
 returns-clause-memory g c memory tells = none_memory c.end_back.result _ c.end_back.ensures.only memory
@@ -94,9 +94,9 @@ returns-in-Err-restore_told-clause-ends g c full = absurd (never_full c.in-Err-r
 
 pub returns-clause-ends : goal.returns-clause-ends
 returns-clause-ends g c full tells =
-    let a = seen g.S.Site c.args.self.now in
-    let b = seen g.S.Site c.begin_back.new.self in
-    let d = seen g.S.Site c.restore_told.new.self in
+    let a = view_of g.S.Site c.args.self.now in
+    let b = view_of g.S.Site c.begin_back.new.self in
+    let d = view_of g.S.Site c.restore_told.new.self in
     let stands = c.in-Ok-restore_told.ensures.stands _ tells (c.in-Ok.ensures.begun tells) (c.requires.serves tells _ (c.in-Ok.ensures.grown tells (c.requires.nothing tells))) in
     c.end_back.ensures.ends (full_of c.end_back.result _ _ (ap (λ (e : AuditEnd). e.limit) c.restore_told.ensures.kind.0 ∙ c.begin_back.ensures.kind.2) full) _ tells
     (back_ends a b d c.args.point c.args.next c.args.counts.now (c.requires.by tells) (c.in-Ok.ensures.keeps tells) stands)

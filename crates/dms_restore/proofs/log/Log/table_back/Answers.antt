@@ -1,7 +1,7 @@
 use Rattle.std.proofs.Common.{ap}
 use Rattle.dms_moments.specs.MomentLaws.{steps_weaken}
 use Rattle.dms_restore.specs.Logging.{view}
-use Rattle.dms_restore.specs.BackOuts.{seen}
+use Rattle.dms_restore.specs.Views.{view_of}
 use Rattle.dms_restore.proofs.Results.{one_if_ok}
 use Rattle.dms_restore.proofs.Backed.{counted_on}
 use Rattle.dms_restore.proofs.Sealed.{serves_on, sealed_looked, looked_leaves, stay_looked, stay_none, is_disk}
@@ -13,7 +13,7 @@ returns-in-Err-clause-sealed g c off tells = absurd (off (is_disk c.in-Err.fault
 pub returns-in-Err-clause-idle : goal.returns-in-Err-clause-idle
 returns-in-Err-clause-idle g c none tells =
     let same = (c.sync.ensures.idle none).1 in
-    stay_none (seen g.S.Site c.args.self.now) (seen g.S.Site c.sync.new.self) (ap g.S.Site.files same) (ap g.S.Site.clock same)
+    stay_none (view_of g.S.Site c.args.self.now) (view_of g.S.Site c.sync.new.self) (ap g.S.Site.files same) (ap g.S.Site.clock same)
 
 pub returns-clause-serves : goal.returns-clause-serves
 returns-clause-serves g c = one_if_ok c.point_told.result c.point_told.ensures.table (λ v table tells.
@@ -21,22 +21,22 @@ returns-clause-serves g c = one_if_ok c.point_told.result c.point_told.ensures.t
 
 pub returns-clause-sealed : goal.returns-clause-sealed
 returns-clause-sealed g c off tells =
-    sealed_looked (seen g.S.Site c.args.self.now) (seen g.S.Site c.sync.new.self) (c.in-Ok.ensures.runs tells) (c.in-Ok.ensures.same tells) (c.in-Ok.ensures.waits tells) (c.in-Ok.ensures.durable tells) (c.sync.ensures.steps tells)
+    sealed_looked (view_of g.S.Site c.args.self.now) (view_of g.S.Site c.sync.new.self) (c.in-Ok.ensures.runs tells) (c.in-Ok.ensures.same tells) (c.in-Ok.ensures.waits tells) (c.in-Ok.ensures.durable tells) (c.sync.ensures.steps tells)
     _ _ (c.point_told.ensures.reads.files_stay tells) c.point_told.ensures.reads.moments
 
 pub returns-clause-idle : goal.returns-clause-idle
 returns-clause-idle g c none tells =
     let same = (c.sync.ensures.idle none).1 in
-    stay_looked (seen g.S.Site c.args.self.now) _ (g.S.Site.files c.sync.new.self.site) (g.S.Site.clock c.sync.new.self.site) (ap g.S.Site.files same) (ap g.S.Site.clock same) (c.point_told.ensures.reads.files_stay tells) c.point_told.ensures.reads.moments
+    stay_looked (view_of g.S.Site c.args.self.now) _ (g.S.Site.files c.sync.new.self.site) (g.S.Site.clock c.sync.new.self.site) (ap g.S.Site.files same) (ap g.S.Site.clock same) (c.point_told.ensures.reads.files_stay tells) c.point_told.ensures.reads.moments
 
 pub returns-clause-moments : goal.returns-clause-moments
 returns-clause-moments g c tells =
-    looked_leaves (seen g.S.Site c.args.self.now) (seen g.S.Site c.sync.new.self) (c.in-Ok.ensures.runs tells) (c.in-Ok.ensures.same tells) (c.in-Ok.ensures.waits tells) (c.in-Ok.ensures.durable tells) (c.sync.ensures.steps tells)
+    looked_leaves (view_of g.S.Site c.args.self.now) (view_of g.S.Site c.sync.new.self) (c.in-Ok.ensures.runs tells) (c.in-Ok.ensures.same tells) (c.in-Ok.ensures.waits tells) (c.in-Ok.ensures.durable tells) (c.sync.ensures.steps tells)
     _ _ (c.point_told.ensures.reads.files_stay tells) c.point_told.ensures.reads.moments (c.requires.runs tells) (g.met.S.Site.may_stay c.args.self.now.site tells)
 
 pub returns-clause-silent : goal.returns-clause-silent
 returns-clause-silent g c tells =
-    steps_weaken (sealed_looked (seen g.S.Site c.args.self.now) (seen g.S.Site c.sync.new.self) (c.in-Ok.ensures.runs tells) (c.in-Ok.ensures.same tells) (c.in-Ok.ensures.waits tells) (c.in-Ok.ensures.durable tells) (c.sync.ensures.steps tells)
+    steps_weaken (sealed_looked (view_of g.S.Site c.args.self.now) (view_of g.S.Site c.sync.new.self) (c.in-Ok.ensures.runs tells) (c.in-Ok.ensures.same tells) (c.in-Ok.ensures.waits tells) (c.in-Ok.ensures.durable tells) (c.sync.ensures.steps tells)
     _ _ (c.point_told.ensures.reads.files_stay tells) c.point_told.ensures.reads.moments).steps (λ x y now s. s.said)
 
 pub returns-clause-disk : goal.returns-clause-disk
