@@ -27,7 +27,7 @@ use Rattle.dms_running.specs.Standing.{IsWhole}
 use Rattle.dms_running.specs.Points.{DescribedPoint, points_of, next_in, LeavesPointsPrefix}
 use Rattle.dms_running.specs.Begun.{LeavesAll, outcome_now}
 use Rattle.dms_opening.specs.declared.choosing.OpenFault.TheVariants.{Audit}
-use Rattle.dms_restore.specs.Bodies.{bodies}
+use Rattle.dms_audrec.specs.Bodies.{bodies}
 use Rattle.dms_restore.specs.Counts.{count_of, file_counts}
 use Rattle.dms_restore.specs.Laying.{schema_control}
 use Rattle.dms_restore.specs.Logging.{LogView, telling_of, telling, state, entries, points, content, PrintsNothing}

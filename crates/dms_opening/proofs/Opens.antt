@@ -13,7 +13,7 @@ use Rattle.dms_running.specs.Standing.{IsWhole}
 use Rattle.dms_opening.specs.declared.choosing.OpenFault.{OpenFault}
 use Rattle.dms_restore.specs.Laying.{IsAtStart}
 use Rattle.dms_restore.specs.Logging.{LogView, telling_of, telling}
-use Rattle.dms_wal.specs.Database.{view_of}
+use Rattle.dms_restore.specs.Views.{view_of}
 use Rattle.dms_opening.specs.declared.looking.PlannedOpening.{PlannedOpening}
 use Rattle.dms_opening.specs.declared.opened.Opened.{Opened}
 use Rattle.dms_opening.specs.Carrying.{IsPlanned}

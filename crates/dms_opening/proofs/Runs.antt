@@ -9,10 +9,12 @@ use Rattle.dms_history.specs.Events.{Content}
 use Rattle.dms_running.specs.Points.{DescribedPoint}
 use Rattle.dms_restore.specs.declared.log.Log.{Log}
 use Rattle.dms_restore.specs.Logging.{LogView, telling, points}
+use Rattle.dms_restore.specs.Views.{view_of}
+use Rattle.dms_restore.specs.Counts.{count_of}
 use Rattle.dms_wal.specs.declared.running.Running.{Running}
 use Rattle.dms_wal.specs.declared.running.Start.{Start}
-use Rattle.dms_wal.specs.Database.{held, view_of}
-use Rattle.dms_wal.specs.Lifting.{AreCounts, block_point, count_of}
+use Rattle.dms_wal.specs.Database.{held}
+use Rattle.dms_wal.specs.Lifting.{AreCounts, block_point}
 use Rattle.dms_wal.specs.Marks.{IsDescription, IsMarkOf}
 use Rattle.dms_wal.specs.Starting.{IsInBounds, StartsFrom}
 use Rattle.dms_wal.proofs.Reaching.{EndsAlike, reaching, held_alike}

@@ -5,8 +5,8 @@ ghost use Rattle.dms_moments.specs.Moments.{Runs};
 ghost use Rattle.dms_audfile.specs.Counting.{CountedAt};
 ghost use Rattle.dms_running.specs.Standing.{IsWhole};
 ghost use Rattle.dms_restore.specs.Logging.{telling};
+ghost use Rattle.dms_restore.specs.Views.{view_of};
 ghost use Rattle.dms_wal.specs.Closing.{IsFullTrail};
-ghost use Rattle.dms_wal.specs.Database.{view_of};
 ghost use Rattle.dms_opening.specs.Carrying.{IsFitPlan, IsPlanned};
 ghost use Rattle.dms_opening.specs.Openings.{RunsFrom, Reopens, text_of, IsFullFault, MayHaveWritten};
 

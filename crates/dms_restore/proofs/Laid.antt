@@ -11,7 +11,7 @@ use Rattle.dms_audfile.specs.BlockLaws.{AreNoBegins}
 use Rattle.dms_audfile.specs.TrailEntries.{trail_entries}
 use Rattle.dms_audfile.specs.Ends as ends
 use Rattle.dms_audfile.specs.Ends.{EndsAt, Appends}
-use Rattle.dms_restore.specs.Bodies.{bodies_of, part_count, bodies}
+use Rattle.dms_audrec.specs.Bodies.{bodies_of, part_count, bodies}
 use Rattle.dms_running.specs.Telling.{Telling}
 use Rattle.dms_running.specs.Sealing.{SealsSome, AreSealed, Settled}
 use Rattle.dms_running.specs.Running.{State}

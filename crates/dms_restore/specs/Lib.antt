@@ -2,7 +2,6 @@ pub mod Dumped
 pub mod Finding
 pub mod Logging
 pub mod Table
-pub mod Bodies
 pub mod Laying
 pub mod Counts
 pub mod Begins

@@ -9,7 +9,7 @@ ghost use Rattle.dms_audrec.specs.Reading.{counts_at};
 ghost use Rattle.dms_audfile.specs.Counting.{CountedAt};
 ghost use Rattle.dms_audfile.specs.Ends.{EndsAt};
 ghost use Rattle.dms_restore.specs.Views.{StaysSilent};
-ghost use Rattle.dms_restore.specs.Bodies.{part_count, bodies};
+ghost use Rattle.dms_audrec.specs.Bodies.{part_count, bodies};
 ghost use Rattle.dms_running.specs.Plans.{Planned};
 ghost use Rattle.dms_restore.specs.Logging.{telling_of};
 ghost use Rattle.dms_restore.specs.Laying.{schema_control, IsAtStart, LaysEnd, SealsSince};

@@ -20,8 +20,9 @@ use Rattle.dms_store.specs.Spelled.{spelled}
 use Rattle.dms_block.specs.Content.{Content}
 use Rattle.std.specs.Str.{bytes_eq}
 use Rattle.dms_restore.specs.Logging.{telling_of, telling, trail_of}
+use Rattle.dms_restore.specs.Views.{view_of}
 use Rattle.dms_wal.specs.declared.running.Running.{Running}
-use Rattle.dms_wal.specs.Database.{held, view_of}
+use Rattle.dms_wal.specs.Database.{held}
 use Rattle.dms_wal.specs.Lifting as wal
 use Rattle.dms_wal.specs.Lifting.{block_point}
 use Rattle.dms_wal.proofs.Lifts as walks

@@ -17,8 +17,9 @@ use Rattle.dms_site.specs.Files.{Files, Left}
 use Rattle.dms_store.specs.Lifted.{point_of, stop_of, lifted}
 use Rattle.dms_wal.specs.Lifting as wal
 use Rattle.dms_restore.specs.Logging.{telling_of, telling, trail_of}
+use Rattle.dms_restore.specs.Views.{view_of}
 use Rattle.dms_wal.specs.declared.running.Running.{Running}
-use Rattle.dms_wal.specs.Database.{held, view_of}
+use Rattle.dms_wal.specs.Database.{held}
 use Rattle.dms_wal.specs.Lifting.{block_point}
 use Rattle.dms_run.specs.States.{LivesEndWith, HasLive, told_live}
 use Rattle.dms_run.specs.State.{StateAt, StateOf, HasNext}

@@ -24,11 +24,12 @@ use Rattle.dms_running.specs.Telling.{Telling}
 use Rattle.dms_running.specs.Points.{DescribedPoint, points_of}
 use Rattle.dms_site.specs.declared.site.Site.{Ghosts}
 use Rattle.dms_restore.specs.Logging.{Trail, trail_of, telling_of, telling, points}
+use Rattle.dms_restore.specs.Views.{view_of}
 use Rattle.dms_store.specs.Lifted.{point_of, lifted}
 use Rattle.dms_storeverbs.specs.View.{StandsFor, View}
 use Rattle.dms_wal.specs.Controls.{KeepsPace}
 use Rattle.dms_wal.specs.declared.running.Running.{Running}
-use Rattle.dms_wal.specs.Database.{held, view_of, said_of}
+use Rattle.dms_wal.specs.Database.{held, said_of}
 use Rattle.dms_wal.proofs.Lifts.{told_same}
 use Rattle.dms_run.specs.Ending.{KeepsLimits}
 use Rattle.dms_run.specs.Files.{RunLeavesFiles}

@@ -8,7 +8,7 @@ use Rattle.dms_running.specs.Points.{points_of}
 use Rattle.dms_site.specs.declared.site.Site.{Ghosts}
 use Rattle.dms_site.specs.Files.{Files, Left, Same}
 use Rattle.dms_restore.specs.Logging.{LogView, view, telling}
-use Rattle.dms_wal.specs.Database.{view_of}
+use Rattle.dms_restore.specs.Views.{view_of}
 use Rattle.dms_wal.proofs.Stills.{runs_still}
 use Rattle.dms_opening.specs.declared.opened.Opened.{Opened}
 use Rattle.dms_opening.specs.Openings.{RunsFrom}

@@ -23,12 +23,13 @@ use Rattle.dms_running.specs.Points.{DescribedPoint, points_of}
 use Rattle.dms_site.specs.declared.site.Site.{Ghosts}
 use Rattle.dms_site.specs.Files.{Files, Left, Only}
 use Rattle.dms_restore.specs.Logging.{Trail, trail_of, telling_of, telling, points}
+use Rattle.dms_restore.specs.Views.{view_of}
 use Rattle.dms_store.specs.Lifted.{db_of, point_of, lifted, stop_of as store_stop}
 use Rattle.dms_store.specs.LiftedLaws as stores
 use Rattle.dms_store.specs.Spelled.{spelled}
 use Rattle.dms_wal.specs.declared.running.Running.{Running}
 use Rattle.dms_wal.specs.Closing.{LeavesUntil}
-use Rattle.dms_wal.specs.Database.{held, view_of, said_of}
+use Rattle.dms_wal.specs.Database.{held, said_of}
 use Rattle.dms_wal.specs.Lifting as wal
 use Rattle.dms_wal.proofs.Lifts as walks
 use Rattle.dms_run.specs.States.{EndsWith, LivesEndWith}

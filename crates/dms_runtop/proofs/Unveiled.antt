@@ -10,9 +10,10 @@ use Rattle.dms_running.specs.Telling.{Telling}
 use Rattle.dms_site.specs.declared.site.Site.{Ghosts}
 use Rattle.dms_site.specs.Files.{Files}
 use Rattle.dms_restore.specs.Logging.{telling_of, telling, points}
+use Rattle.dms_restore.specs.Views.{view_of}
 use Rattle.dms_store.specs.Lifted.{point_of}
 use Rattle.dms_wal.specs.declared.running.Running.{Running}
-use Rattle.dms_wal.specs.Database.{held, view_of}
+use Rattle.dms_wal.specs.Database.{held}
 use Rattle.dms_opening.specs.declared.opened.Opened.{Opened}
 use Rattle.dms_opening.specs.Openings.{RunsFrom, TellsOpened}
 use Rattle.dms_status.specs.declared.status.Status.{Status}

@@ -17,7 +17,7 @@ use Rattle.dms_running.specs.Standing.{IsWhole}
 use Rattle.dms_running.specs.Points.{points_of, next_in}
 use Rattle.dms_opening.specs.declared.choosing.OpenFault.{OpenFault}
 use Rattle.dms_restore.specs.Logging.{telling_of, telling, points}
-use Rattle.dms_wal.specs.Database.{view_of}
+use Rattle.dms_restore.specs.Views.{view_of}
 use Rattle.dms_run.specs.States.{LivesEndWith}
 use Rattle.dms_opening.specs.declared.opened.Opened.{Opened}
 use Rattle.dms_opening.specs.Laws.{LastIsDescribed}

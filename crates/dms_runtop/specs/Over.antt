@@ -11,9 +11,10 @@ use Rattle.dms_site.specs.Files.{Files, Left, Only}
 use Rattle.dms_running.specs.Telling.{Telling}
 use Rattle.dms_running.specs.Points.{DescribedPoint, points_of}
 use Rattle.dms_restore.specs.Logging.{telling_of, telling, points}
+use Rattle.dms_restore.specs.Views.{view_of}
 use Rattle.dms_wal.specs.declared.running.Running.{Running}
 use Rattle.dms_wal.specs.Closing.{LeavesUntil}
-use Rattle.dms_wal.specs.Database.{held, view_of}
+use Rattle.dms_wal.specs.Database.{held}
 use Rattle.dms_wal.specs.Lifting.{lifted}
 use Rattle.dms_store.specs.Lifted.{point_of}
 use Rattle.dms_store.specs.Spelled.{spelled}

@@ -13,8 +13,8 @@ use Rattle.dms_running.specs.Points.{DescribedPoint}
 use Rattle.dms_pool.specs.declared.pool.Pool.{Pool}
 use Rattle.dms_pool.specs.Calls.{IsEmpty}
 use Rattle.dms_audrec.specs.Spelling.{pair_bytes, count_file, count_blocks}
-use Rattle.dms_restore.specs.Counts.{file_counts}
-use Rattle.dms_restore.specs.Bodies.{bodies}
+use Rattle.dms_restore.specs.Counts.{file_counts, count_of}
+use Rattle.dms_audrec.specs.Bodies.{bodies}
 use Rattle.dms_restore.proofs.CountBytes.{counts_read, counts_told}
 use Rattle.dms_running.proofs.Appending.{points_enough}
 use Rattle.dms_running.proofs.Framed.{holds_none}
@@ -22,13 +22,14 @@ use Rattle.dms_restore.specs.declared.log.Log.{Log}
 use Rattle.dms_restore.specs.Logging as logs
 use Rattle.dms_restore.specs.Logging.{LogView, telling, state, points, durable, content, LogRuns, PrintsNothing, LogLeaves}
 use Rattle.dms_restore.specs.BackOuts.{WentBackTo, GoesBackBy, back_entries}
+use Rattle.dms_restore.specs.Views.{view_of}
 use Rattle.dms_restore.proofs.Logs as lemmas
 use Rattle.dms_restore.proofs.Logs.{Reads}
 use Rattle.dms_wal.specs.declared.running.Running.{Running}
-use Rattle.dms_wal.specs.Lifting.{AreCounts, count_of, last_blocks}
+use Rattle.dms_wal.specs.Lifting.{AreCounts, last_blocks}
 use Rattle.dms_wal.specs.BackOuts.{entries_back}
 use Rattle.dms_wal.specs.Marks.{IsMarkOf}
-use Rattle.dms_wal.specs.Database.{held, view_of, said_of, faults_of, uses_of, frames_of, IsUsable}
+use Rattle.dms_wal.specs.Database.{held, said_of, faults_of, uses_of, frames_of, IsUsable}
 use Rattle.dms_wal.proofs.Controlling.{count_table}
 use Rattle.dms_wal.proofs.Lifts.{passes_by, stays_by}
 use Rattle.dms_wal.proofs.Pointing.{last_is, mark_is}

@@ -12,7 +12,7 @@ use Rattle.dms_history.specs.Entries.{control_point}
 use Rattle.dms_history.specs.Schemas.{schema_entries}
 use Rattle.dms_audrec.specs.Spelling.{pair_bytes, count_file, count_blocks}
 use Rattle.dms_running.specs.Points.{DescribedPoint}
-use Rattle.dms_restore.specs.Bodies.{bodies}
+use Rattle.dms_audrec.specs.Bodies.{bodies}
 use Rattle.dms_pool.specs.declared.pool.Pool.{Pool}
 use Rattle.dms_pool.specs.Held.{is_dirty}
 use Rattle.dms_running.specs.Telling.{Telling}
@@ -25,6 +25,7 @@ use Rattle.dms_restore.specs.Begins.{LeavesEach}
 use Rattle.dms_restore.specs.Endings.{ControlBy, ControlledAt}
 use Rattle.dms_restore.specs.Logging as logs
 use Rattle.dms_restore.specs.Logging.{LogView, telling, state, entries, points, durable, content, LogRuns, PrintsNothing}
+use Rattle.dms_restore.specs.Views.{view_of}
 use Rattle.dms_restore.proofs.Logs.{Reads}
 use Rattle.dms_restore.proofs.Endings.{all_next}
 use Rattle.dms_restore.proofs.Callers.{each_leave}
@@ -33,7 +34,7 @@ use Rattle.dms_wal.specs.declared.running.Running.{Running}
 use Rattle.dms_wal.specs.Controls.{IsSettled, MakesControl, TellsSame}
 use Rattle.dms_wal.specs.Lifting.{AreCounts, last_blocks, block_point}
 use Rattle.dms_wal.specs.Marks.{IsMarkOf}
-use Rattle.dms_wal.specs.Database.{held, view_of, frames_of, GoesWith, IsUsable}
+use Rattle.dms_wal.specs.Database.{held, frames_of, GoesWith, IsUsable}
 use Rattle.dms_wal.proofs.Pooled.{clean_frames}
 use Rattle.dms_wal.proofs.Pointing.{last_is}
 use Rattle.dms_wal.proofs.Marked.{mark_on}

@@ -26,11 +26,13 @@ use Rattle.dms_running.proofs.Looking.{look_leaves}
 use Rattle.dms_restore.specs.declared.log.Log.{Log}
 use Rattle.dms_restore.specs.Logging as logs
 use Rattle.dms_restore.specs.Logging.{view, telling, state, points, content, PrintsNothing}
+use Rattle.dms_restore.specs.Views.{view_of}
+use Rattle.dms_restore.specs.Counts.{count_of}
 use Rattle.dms_restore.proofs.Writing.{filled_whole}
 use Rattle.dms_wal.specs.declared.running.Running.{Running}
-use Rattle.dms_wal.specs.Lifting.{count_of, owns_of}
+use Rattle.dms_wal.specs.Lifting.{owns_of}
 use Rattle.dms_wal.specs.Marks.{IsMarkOf}
-use Rattle.dms_wal.specs.Database.{view_of, frame_seen, frames_of, IsUsable}
+use Rattle.dms_wal.specs.Database.{frame_seen, frames_of, IsUsable}
 use Rattle.dms_wal.proofs.Pooled.{holds_like, frames_put, counted_put, frames_looked, counted_looked}
 use Rattle.dms_wal.proofs.Stills.{goes_still}
 use Rattle.dms_wal.proofs.Stepped.{in_table}

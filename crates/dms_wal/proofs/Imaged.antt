@@ -31,9 +31,9 @@ use Rattle.dms_restore.specs.Logging as logs
 use Rattle.dms_restore.specs.Logging.{LogView, telling, state, points, content, LogRuns, LogsImage}
 use Rattle.dms_restore.proofs.Logs.{Reads}
 use Rattle.dms_wal.specs.declared.running.Running.{Running}
-use Rattle.dms_wal.specs.Lifting.{count_of, owns_of}
+use Rattle.dms_wal.specs.Lifting.{owns_of}
 use Rattle.dms_wal.specs.Marks.{IsMarkOf}
-use Rattle.dms_wal.specs.Database.{view_of, frame_seen, frames_of, HoldsCounted, IsUsable}
+use Rattle.dms_wal.specs.Database.{frame_seen, frames_of, HoldsCounted, IsUsable}
 use Rattle.dms_wal.specs.Changing.{IsImaged, KeepsLog}
 use Rattle.dms_wal.specs.Writing.{WritesBack}
 use Rattle.dms_wal.proofs.Pooled.{holds_like, frames_put, frames_looked}
@@ -48,6 +48,8 @@ use Rattle.dms_block.specs.Faults.{Unbroken}
 use Rattle.dms_block.specs.Held.{Alters, Stays}
 use Rattle.dms_block.specs.HeldLaws.{used_none}
 use Rattle.dms_restore.specs.Logging.{PrintsNothing}
+use Rattle.dms_restore.specs.Views.{view_of}
+use Rattle.dms_restore.specs.Counts.{count_of}
 use Rattle.dms_wal.specs.Database.{held, faults_of, said_of, uses_of}
 use Rattle.dms_wal.proofs.Causes.{no_memory}
 use Rattle.dms_wal.proofs.Lifts.{passes_by, stays_by, surer}

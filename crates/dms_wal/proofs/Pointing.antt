@@ -22,9 +22,10 @@ use Rattle.dms_running.proofs.Appending.{now_runs}
 use Rattle.dms_restore.specs.Logging as logs
 use Rattle.dms_restore.specs.Logging.{LogView, telling, state, entries, points, here, content, LogRuns, LogsQuiet}
 use Rattle.dms_restore.specs.Begins.{LastIs}
+use Rattle.dms_restore.specs.Counts.{count_of}
 use Rattle.dms_restore.proofs.Logs as lemmas
 use Rattle.dms_restore.proofs.Logs.{Reads}
-use Rattle.dms_wal.specs.Lifting.{count_of, last_blocks}
+use Rattle.dms_wal.specs.Lifting.{last_blocks}
 use Rattle.dms_wal.proofs.Lifts.{last_here}
 use Rattle.dms_wal.specs.Marks.{IsMarkOf, number_from, last_number}
 

@@ -14,7 +14,7 @@ use Rattle.dms_history.proofs.Picks.{place_cases, some_is}
 use Rattle.dms_running.specs.Telling.{Telling}
 use Rattle.dms_running.specs.Running.{State}
 use Rattle.dms_running.specs.Frames.{Frame, Frames, FramesHold, HoldsOne, with_frame}
-use Rattle.dms_wal.specs.Lifting.{count_of}
+use Rattle.dms_restore.specs.Counts.{count_of}
 use Rattle.dms_wal.specs.Database.{frame_seen, frames_of, HoldsCounted}
 
 none_not_some : {A : Type 0} (x : A) → None ≡ Some x → ⊥

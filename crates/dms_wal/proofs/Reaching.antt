@@ -13,7 +13,7 @@ use Rattle.dms_history.specs.Events.{Content, block_in}
 use Rattle.dms_history.specs.EntryEvents.{history_of}
 use Rattle.dms_history.specs.Entries.{Entry, control_point}
 use Rattle.dms_history.specs.Schemas.{schema_entries}
-use Rattle.dms_restore.specs.Bodies.{bodies}
+use Rattle.dms_audrec.specs.Bodies.{bodies}
 use Rattle.dms_restore.specs.Counts.{file_counts}
 use Rattle.dms_history.proofs.Order.{append_none}
 use Rattle.dms_audfile.specs.declared.audit_end.AuditEnd.{AuditEnd}
@@ -29,6 +29,7 @@ use Rattle.dms_running.specs.Points.{DescribedPoint, points_of, next_in}
 use Rattle.dms_running.proofs.Appending.{now_runs}
 use Rattle.dms_restore.specs.Logging as logs
 use Rattle.dms_restore.specs.Logging.{waits, LogView, view, telling, state, entries, points, content, LogRuns}
+use Rattle.dms_restore.specs.Views.{view_of}
 use Rattle.dms_restore.proofs.Logs as lemmas
 use Rattle.dms_restore.proofs.Logs.{Reads}
 use Rattle.dms_restore.proofs.Endings.{all_points, all_next}
@@ -36,7 +37,7 @@ use Rattle.dms_pool.specs.declared.pool.Pool.{Pool}
 use Rattle.dms_wal.specs.declared.running.Running.{Running}
 use Rattle.dms_wal.specs.Closing.{entries_control, FilesStand, LeavesUntil}
 use Rattle.dms_wal.specs.Controls.{MakesControl}
-use Rattle.dms_wal.specs.Database.{held, view_of, GoesWith, IsUsable, frames_of}
+use Rattle.dms_wal.specs.Database.{held, GoesWith, IsUsable, frames_of}
 use Rattle.dms_wal.specs.Lifting.{block_point, last_blocks, lifted, point_under}
 use Rattle.dms_wal.specs.Marks.{IsMarkOf}
 use Rattle.dms_wal.proofs.Marked.{mark_on}

@@ -35,11 +35,12 @@ use Rattle.dms_running.proofs.Framed.{holds_given_up}
 use Rattle.dms_restore.specs.declared.log.Log.{Log}
 use Rattle.dms_restore.specs.Logging as logs
 use Rattle.dms_restore.specs.Logging.{LogView, telling, state, points, durable, content, waits, LogRuns, LogsNothing, IsNewestSealed, PrintsNothing}
+use Rattle.dms_restore.specs.Views.{view_of}
+use Rattle.dms_restore.specs.Counts.{count_of}
 use Rattle.dms_restore.proofs.Logs.{Reads}
 use Rattle.dms_wal.specs.declared.running.Running.{Running}
-use Rattle.dms_wal.specs.Lifting.{count_of}
 use Rattle.dms_wal.specs.Marks.{IsMarkOf}
-use Rattle.dms_wal.specs.Database.{view_of, frame_seen, frames_of, IsUsable}
+use Rattle.dms_wal.specs.Database.{frame_seen, frames_of, IsUsable}
 use Rattle.dms_wal.specs.Writing.{WritesBack}
 use Rattle.dms_wal.proofs.Pooled.{holds_like, frames_up, counted_up}
 use Rattle.dms_wal.proofs.Backs.{all_sized, holds_back}

@@ -18,8 +18,9 @@ use Rattle.dms_pool.specs.Held.{framed}
 use Rattle.dms_restore.specs.declared.log.Log.{Log}
 use Rattle.dms_restore.specs.Logging as logs
 use Rattle.dms_restore.specs.Logging.{telling, points, LogRuns, PrintsNothing}
+use Rattle.dms_restore.specs.Views.{view_of}
 use Rattle.dms_wal.specs.declared.running.Running.{Running}
-use Rattle.dms_wal.specs.Database.{held, view_of, uses_of, IsUsable}
+use Rattle.dms_wal.specs.Database.{held, uses_of, IsUsable}
 use Rattle.dms_wal.specs.Writing.{WritesBack}
 use Rattle.dms_wal.proofs.Stepped.{passes_step, stays_step}
 use Rattle.dms_wal.proofs.Roomed.{usable_back}

@@ -22,11 +22,12 @@ use Rattle.dms_running.proofs.Looking.{look_leaves}
 use Rattle.dms_restore.specs.declared.log.Log.{Log}
 use Rattle.dms_restore.specs.Logging as logs
 use Rattle.dms_restore.specs.Logging.{LogView, view, telling, state, waits, points, content, LogRuns, LogsNothing, PrintsNothing}
+use Rattle.dms_restore.specs.Views.{view_of}
 use Rattle.dms_restore.proofs.Logs.{Reads}
 use Rattle.dms_wal.specs.declared.running.Running.{Running}
 use Rattle.dms_wal.specs.Controls.{IsSettled}
 use Rattle.dms_wal.specs.Marks.{IsMarkOf}
-use Rattle.dms_wal.specs.Database.{held, view_of, frame_seen, frames_of, uses_of, IsUsable}
+use Rattle.dms_wal.specs.Database.{held, frame_seen, frames_of, uses_of, IsUsable}
 use Rattle.dms_wal.specs.Writing.{WritesBack}
 use Rattle.dms_wal.proofs.Pooled.{holds_like, frames_cleaned, counted_cleaned, clean_frames}
 use Rattle.dms_wal.proofs.Backs.{all_sized, holds_washed}

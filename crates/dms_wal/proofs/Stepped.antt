@@ -17,9 +17,10 @@ use Rattle.dms_pool.specs.declared.pool.Pool.{Pool}
 use Rattle.dms_restore.specs.declared.log.Log.{Log}
 use Rattle.dms_restore.specs.Logging as logs
 use Rattle.dms_restore.specs.Logging.{LogView, telling, points, durable, content, LogRuns, PrintsNothing}
+use Rattle.dms_restore.specs.Views.{view_of}
+use Rattle.dms_restore.specs.Counts.{count_of}
 use Rattle.dms_wal.specs.declared.running.Running.{Running}
-use Rattle.dms_wal.specs.Lifting.{count_of}
-use Rattle.dms_wal.specs.Database.{held, view_of, said_of, faults_of, uses_of, IsUsable}
+use Rattle.dms_wal.specs.Database.{held, said_of, faults_of, uses_of, IsUsable}
 use Rattle.dms_wal.specs.AgreeLaws.{text}
 use Rattle.dms_wal.proofs.Lifts.{passes_by, stays_by, surer}
 

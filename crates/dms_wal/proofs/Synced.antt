@@ -10,10 +10,11 @@ use Rattle.dms_running.specs.Points.{DescribedPoint}
 use Rattle.dms_restore.specs.declared.log.Log.{Log}
 use Rattle.dms_restore.specs.Logging as logs
 use Rattle.dms_restore.specs.Logging.{telling_of, telling, view, points, durable, here, LogRuns, PrintsNothing, LogsNothing, LogsQuiet}
+use Rattle.dms_restore.specs.Views.{view_of}
 use Rattle.dms_wal.specs.declared.running.Running.{Running}
 use Rattle.dms_wal.specs.Lifting.{AreCounts}
 use Rattle.dms_wal.specs.Marks.{IsMarkOf}
-use Rattle.dms_wal.specs.Database.{held, view_of, said_of, faults_of, uses_of, IsUsable}
+use Rattle.dms_wal.specs.Database.{held, said_of, faults_of, uses_of, IsUsable}
 use Rattle.dms_wal.proofs.Lifts.{passes_by, stays_by, surer}
 use Rattle.dms_wal.proofs.Stills.{goes_still, goes_sealed, goes_quiet}
 use Rattle.dms_wal.proofs.Pointed.{quiet_made, quiet_leaves, sync_made, say_leaves}

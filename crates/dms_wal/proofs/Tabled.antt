@@ -4,7 +4,8 @@ use Rattle.std.proofs.lemmas.Bool.{cases_lt, cases_eq}
 use Rattle.std.proofs.lemmas.Bool.Decides.{nat_tests}
 use Rattle.std.proofs.lemmas.List.{get_or-set_same, get_or-set_other}
 use Rattle.dms_block.specs.Content.{limit, raised}
-use Rattle.dms_wal.specs.Lifting.{count_of, owns_of, AreCounts}
+use Rattle.dms_restore.specs.Counts.{count_of}
+use Rattle.dms_wal.specs.Lifting.{owns_of, AreCounts}
 
 pub count_at : (l : List ℕ) (f : ℕ) → 30000 < f → count_of l f ≡ get_or l (f - 30001) 0
 count_at l f structure = grind (arith, nat_tests, structure)

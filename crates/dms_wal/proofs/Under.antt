@@ -12,7 +12,7 @@ use Rattle.dms_history.specs.SchemaAt.{schema_of, joined}
 use Rattle.dms_audfile.specs.declared.audit_end.AuditEnd.{AuditEnd}
 use Rattle.dms_running.specs.Points.{schema_bytes}
 use Rattle.dms_running.proofs.Described.{last_image, last_quiet, last_control}
-use Rattle.dms_restore.specs.Bodies.{bodies_of, part_count, bodies}
+use Rattle.dms_audrec.specs.Bodies.{bodies_of, part_count, bodies}
 use Rattle.dms_restore.specs.Counts.{file_counts}
 use Rattle.dms_restore.specs.Logging.{LogView, view, entries, here}
 use Rattle.dms_restore.proofs.Laid.{some_bodies}

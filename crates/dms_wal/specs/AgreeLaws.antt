@@ -15,11 +15,13 @@ use Rattle.dms_running.proofs.Appending.{now_leaves, points_enough}
 use Rattle.dms_restore.specs.declared.log.Log.{Log}
 use Rattle.dms_restore.specs.Logging as logs
 use Rattle.dms_restore.specs.Logging.{LogView, telling, state, points, durable, content, LogRuns}
+use Rattle.dms_restore.specs.Views.{view_of}
+use Rattle.dms_restore.specs.Counts.{count_of}
 use Rattle.dms_restore.proofs.Logs as lemmas
 use Rattle.dms_restore.proofs.Logs.{Reads}
 use Rattle.dms_wal.specs.declared.running.Running.{Running}
-use Rattle.dms_wal.specs.Lifting.{block_point, stop_of, count_of, held_of}
-use Rattle.dms_wal.specs.Database.{held, view_of, said_of, faults_of, uses_of, IsUsable}
+use Rattle.dms_wal.specs.Lifting.{block_point, stop_of, held_of}
+use Rattle.dms_wal.specs.Database.{held, said_of, faults_of, uses_of, IsUsable}
 
 map_take : (n : ℕ) (ps : List DescribedPoint) → map block_point (take n ps) ≡ take n (map block_point ps)
 map_take zero ps = refl

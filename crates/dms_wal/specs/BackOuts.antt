@@ -2,7 +2,7 @@
 use Rattle.std.specs.Prelude.{ℕ, List, [], ◌∷◌, ◌++◌}
 use Rattle.dms_history.specs.Entries.{Entry, begin_restore, by_back_out, control_point}
 use Rattle.dms_history.specs.Schemas.{schema_entries}
-use Rattle.dms_restore.specs.Bodies.{bodies}
+use Rattle.dms_audrec.specs.Bodies.{bodies}
 use Rattle.dms_restore.specs.Counts.{file_counts}
 
 -- one Begin, and then the whole Schema with its Control, which has the counts of the point

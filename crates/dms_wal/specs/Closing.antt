@@ -10,7 +10,7 @@ use Rattle.dms_history.specs.Schemas.{schema_entries}
 use Rattle.dms_history.specs.EntryEvents.{history_of}
 use Rattle.dms_audfile.specs.Gates.{is_full}
 use Rattle.dms_running.specs.Points.{points_of, next_in}
-use Rattle.dms_restore.specs.Bodies.{bodies}
+use Rattle.dms_audrec.specs.Bodies.{bodies}
 use Rattle.dms_restore.specs.Counts.{file_counts}
 use Rattle.dms_restore.specs.Logging as logs
 use Rattle.dms_restore.specs.Logging.{LogView, telling, entries, points}

@@ -4,7 +4,7 @@ use Rattle.dms_site.specs.Files.{Only}
 use Rattle.dms_block.specs.Held.{one_more}
 use Rattle.dms_history.specs.Entries.{control_point}
 use Rattle.dms_history.specs.Schemas.{schema_entries}
-use Rattle.dms_restore.specs.Bodies.{bodies}
+use Rattle.dms_audrec.specs.Bodies.{bodies}
 use Rattle.dms_running.specs.Running.{AllWritten}
 use Rattle.dms_restore.specs.Counts.{file_counts}
 use Rattle.dms_wal.specs.declared.running.Running.{Running}

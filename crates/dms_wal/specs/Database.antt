@@ -11,9 +11,11 @@ use Rattle.dms_pool.specs.Held.{frame_of}
 use Rattle.dms_running.specs.Frames.{Frame, Frames, FramesHold}
 use Rattle.dms_restore.specs.declared.log.Log.{Log}
 use Rattle.dms_restore.specs.Logging as logs
-use Rattle.dms_restore.specs.Logging.{LogView, view, telling, state, LogRuns, points, content}
+use Rattle.dms_restore.specs.Logging.{LogView, telling, state, LogRuns, points, content}
+use Rattle.dms_restore.specs.Views.{view_of}
+use Rattle.dms_restore.specs.Counts.{count_of}
 use Rattle.dms_wal.specs.declared.running.Running.{Running}
-use Rattle.dms_wal.specs.Lifting.{AreCounts, count_of, held_of}
+use Rattle.dms_wal.specs.Lifting.{AreCounts, held_of}
 use Rattle.dms_wal.specs.Marks.{AreMarks, IsAtMark, IsDescription, IsMarkOf, StandsUnder}
 
 -- a frame of the pool, as its bytes and whether they are to be written
@@ -37,10 +39,6 @@ abbrev pub HoldsCounted : Pool → List ℕ → Type 0
 HoldsCounted pool counts = (id : BlockId) (x : pools.BufferFrame) → frame_of id pool ≡ Some x → id.block < count_of counts id.file
 
 module _ {S : Type 0} (g : Ghosts S) where
-  -- a log over what its site tells
-  abbrev pub view_of : Log S → LogView
-  view_of log = view log.end log.first (g.files log.site) (g.clock log.site)
-
   -- the text so far, where the site tells it
   abbrev pub said_of : Log S → Option (List ℕ)
   said_of log = if g.tells_said then Some (g.said log.site) else None
@@ -53,10 +51,10 @@ module _ {S : Type 0} (g : Ghosts S) where
     pub table : AreCounts r.counts.items
     pub marked : AreMarks r.marks.items r.counts.items
     pub counted : HoldsCounted r.pool r.counts.items
-    pub under : IsTrue g.tells → StandsUnder (view_of r.log) r.schema.items
-    pub goes : IsTrue g.tells → GoesWith (view_of r.log) r.pool r.next r.counts.items
-    pub pointed : IsTrue g.tells → IsMarkOf (points (view_of r.log)) r.point r.marks.items
-    pub unchanged : r.changed ≡ false → IsTrue g.tells → IsAtMark (view_of r.log) r.counts.items r.marks.items
+    pub under : IsTrue g.tells → StandsUnder (view_of g r.log) r.schema.items
+    pub goes : IsTrue g.tells → GoesWith (view_of g r.log) r.pool r.next r.counts.items
+    pub pointed : IsTrue g.tells → IsMarkOf (points (view_of g r.log)) r.point r.marks.items
+    pub unchanged : r.changed ≡ false → IsTrue g.tells → IsAtMark (view_of g r.log) r.counts.items r.marks.items
 
   -- how often its calls failed
   abbrev pub faults_of : Running S → Faults
@@ -67,4 +65,4 @@ module _ {S : Type 0} (g : Ghosts S) where
 
   -- all that it tells of itself
   abbrev pub held : Running S → Held
-  held r = held_of g.tells (IsUsable r) (view_of r.log) r.schema.items r.next r.counts.items (said_of r.log) (faults_of r) (uses_of r)
+  held r = held_of g.tells (IsUsable r) (view_of g r.log) r.schema.items r.next r.counts.items (said_of r.log) (faults_of r) (uses_of r)

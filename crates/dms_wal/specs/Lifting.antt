@@ -1,5 +1,5 @@
 -- A log over its site as blocks tell it: points, stops, counts of blocks.
-use Rattle.std.specs.Prelude.{ℕ, ◌+◌, ◌-◌, ◌≤◌, ◌&&◌, Bool, List, [], ◌∷◌, if◌then◌else◌, map, length, nat_lt, nat_le, slice_index_or, IsTrue}
+use Rattle.std.specs.Prelude.{ℕ, ◌+◌, ◌≤◌, ◌&&◌, Bool, List, [], ◌∷◌, map, length, nat_lt, nat_le, IsTrue}
 use Rattle.std.specs.declared.option.Option.{Option}
 use Rattle.dms_moments.specs.Moments.{Clock, seen_as}
 use Rattle.dms_site.specs.Files.{Left}
@@ -9,6 +9,7 @@ use Rattle.dms_block.specs.Held.{Held, BlockPoint, BlockStop, Uses}
 use Rattle.dms_running.specs.Telling.{Telling}
 use Rattle.dms_running.specs.Standing.{IsWhole}
 use Rattle.dms_running.specs.Points.{DescribedPoint, points_of, next_in}
+use Rattle.dms_restore.specs.Counts.{count_of}
 use Rattle.dms_restore.specs.Logging.{LogView, telling, points, durable, here, content}
 
 -- a live point as blocks see it
@@ -30,10 +31,6 @@ lifted t clock = seen_as (stop_of t) clock
 abbrev pub last_blocks : Content → List DescribedPoint → Content
 last_blocks none [] = none
 last_blocks none (p ∷ ps) = last_blocks p.blocks ps
-
--- how many blocks a file has, by a table of the files 30,001 and on
-abbrev pub count_of : List ℕ → ℕ → ℕ
-count_of counts f = if nat_lt 30000 f then slice_index_or counts (f - 30001) 0 else 0
 
 -- the files of the table
 abbrev pub owns_of : List ℕ → ℕ → Bool

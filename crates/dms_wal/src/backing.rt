@@ -7,11 +7,12 @@ ghost use Rattle.dms_audfile.specs.Counting.{CountedAt};
 ghost use Rattle.dms_restore.specs.BackOuts.{FilesStay, IsBackFault, SealedAlone, WentBackTo};
 ghost use Rattle.dms_restore.specs.Logging as logs;
 ghost use Rattle.dms_restore.specs.Logging.{Ends, points, LogLeaves, LogRuns, PrintsNothing, trail_of};
+ghost use Rattle.dms_restore.specs.Views.{view_of};
 ghost use Rattle.dms_wal.specs.BackOuts.{entries_back};
 ghost use Rattle.dms_wal.specs.Controls.{KeepsPace};
 ghost use Rattle.dms_wal.specs.Lifting.{AreCounts};
 ghost use Rattle.dms_wal.specs.Marks.{IsDescription, IsMarkOf};
-ghost use Rattle.dms_wal.specs.Database.{held, view_of};
+ghost use Rattle.dms_wal.specs.Database.{held};
 ghost use Rattle.dms_wal.specs.Faults.{IsSeenInBack};
 
 use crate::Running;

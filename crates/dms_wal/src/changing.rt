@@ -7,9 +7,11 @@ ghost use Rattle.dms_moments.specs.Moments.{Steps};
 ghost use Rattle.dms_block.specs.Content.{changed, grown, limit, raised, FitsIn};
 ghost use Rattle.dms_block.specs.Held.{Alters, HasCauses, Looks};
 ghost use Rattle.dms_restore.specs.Logging.{entries, points, next, PrintsNothing, LogLeaves, trail_of};
-ghost use Rattle.dms_wal.specs.Lifting.{count_of, owns_of};
+ghost use Rattle.dms_restore.specs.Views.{view_of};
+ghost use Rattle.dms_restore.specs.Counts.{count_of};
+ghost use Rattle.dms_wal.specs.Lifting.{owns_of};
 ghost use Rattle.dms_wal.specs.Controls.{KeepsPace};
-ghost use Rattle.dms_wal.specs.Database.{held, view_of, HoldsCounted};
+ghost use Rattle.dms_wal.specs.Database.{held, HoldsCounted};
 ghost use Rattle.dms_wal.specs.Faults.{StandsFull};
 ghost use Rattle.dms_wal.specs.Changing.{DamagedOnly, HasChange, IsImaged, KeepsLog, LogsChanges, TellsOld};
 

@@ -7,8 +7,9 @@ ghost use Rattle.dms_site.specs.Files.{Only};
 ghost use Rattle.dms_block.specs.Held.{HasCauses, Looks, MadeDurable, MakesNoPoint, Used};
 ghost use Rattle.dms_pool.specs.Held.{is_dirty, to_write};
 ghost use Rattle.dms_restore.specs.Logging.{Ends, waits, points, next, LogLeaves, LogRuns, LogsNothing, PrintsNothing, trail_of};
+ghost use Rattle.dms_restore.specs.Views.{view_of};
 ghost use Rattle.dms_wal.specs.Controls.{IsSettled, KeepsFields, MakesControl, TellsSame};
-ghost use Rattle.dms_wal.specs.Database.{held, view_of};
+ghost use Rattle.dms_wal.specs.Database.{held};
 ghost use Rattle.dms_wal.specs.Faults.{StandsFull};
 
 use crate::Running;

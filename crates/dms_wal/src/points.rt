@@ -4,8 +4,9 @@ ghost use Rattle.std.specs.Prelude.{◌≡◌, ◌⊎◌, ◌≤◌, ◌<◌, �
 ghost use Rattle.dms_block.specs.Held.{HasCauses, HasNextNumber, IfTold, Lasts, Leaves, LeavesText, MadeDurable, MadeQuiet, MakesNoPoint, SameBlocks, Stays, Synced};
 ghost use Rattle.dms_block.specs.Texts.{Prints, PrintsPrefix};
 ghost use Rattle.dms_restore.specs.Logging.{LogsNothing, SealsWaiting};
+ghost use Rattle.dms_restore.specs.Views.{view_of};
 ghost use Rattle.dms_wal.specs.Controls.{is_due, is_due_at, KeepsFields, KeepsPace, MakesControl};
-ghost use Rattle.dms_wal.specs.Database.{held, view_of};
+ghost use Rattle.dms_wal.specs.Database.{held};
 ghost use Rattle.dms_wal.specs.Faults.{lacks_room, StandsFull};
 
 use crate::Running;

@@ -5,9 +5,10 @@ ghost use Rattle.dms_block.specs.Content.{block_in};
 ghost use Rattle.dms_block.specs.Held.{HasCauses, Looks, one_more};
 ghost use Rattle.dms_pool.specs.Held.{frame_of};
 ghost use Rattle.dms_restore.specs.Logging.{entries};
+ghost use Rattle.dms_restore.specs.Views.{view_of};
 ghost use Rattle.dms_wal.specs.Changing.{DamagedOnly};
 ghost use Rattle.dms_wal.specs.Controls.{KeepsPace};
-ghost use Rattle.dms_wal.specs.Database.{held, view_of};
+ghost use Rattle.dms_wal.specs.Database.{held};
 
 use crate::Running;
 use dms_block::{Block, BlockFault, BlockId};

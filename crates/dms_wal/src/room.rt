@@ -7,8 +7,9 @@ ghost use Rattle.dms_block.specs.Content.{block_in, limit};
 ghost use Rattle.dms_block.specs.Held.{HasCauses, Looks};
 ghost use Rattle.dms_pool.specs.Held.{frame_of};
 ghost use Rattle.dms_restore.specs.Logging.{entries, points, next, content, IsChangedBlock, PrintsNothing, LogLeaves, LogRuns, trail_of};
+ghost use Rattle.dms_restore.specs.Views.{view_of};
 ghost use Rattle.dms_wal.specs.Controls.{KeepsPace};
-ghost use Rattle.dms_wal.specs.Database.{held, view_of};
+ghost use Rattle.dms_wal.specs.Database.{held};
 ghost use Rattle.dms_wal.specs.Writing.{WritesBack};
 
 use crate::Running;

@@ -3,7 +3,8 @@
 ghost use Rattle.std.specs.Prelude.{◌≡◌, ◌<◌, IfErr, IfOk, IsTrue};
 ghost use Rattle.dms_block.specs.Held.{BlocksAgree};
 ghost use Rattle.dms_wal.specs.Lifting.{AreCounts};
-ghost use Rattle.dms_wal.specs.Database.{IsUsable, held, view_of};
+ghost use Rattle.dms_restore.specs.Views.{view_of};
+ghost use Rattle.dms_wal.specs.Database.{IsUsable, held};
 ghost use Rattle.dms_wal.specs.Starting.{IsInBounds, StartsFrom};
 
 use dms_base::Memory;

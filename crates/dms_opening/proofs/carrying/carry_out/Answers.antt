@@ -3,9 +3,9 @@ use Rattle.dms_moments.specs.Moments.{Runs}
 use Rattle.dms_restore.specs.Logging.{LogView, telling, telling_of}
 use Rattle.dms_restore.specs.Table.{IsTable}
 use Rattle.dms_restore.specs.declared.told.Told.{Told}
+use Rattle.dms_restore.specs.Views.{view_of}
 use Rattle.dms_restore.proofs.Backed.{silent_on}
 use Rattle.dms_restore.proofs.CountBytes.{counts_entry}
-use Rattle.dms_wal.specs.Database.{view_of}
 use Rattle.dms_opening.specs.Openings.{Reopens, text_of}
 use Rattle.dms_opening.proofs.Carries.{BeginsWhole, count_table, may_open, begins_whole, leaves_on, reopens_all, written_at, may_end, runs_from, bytes_are}
 use Rattle.dms_opening.proofs.carrying.carry_out.Goals as goal

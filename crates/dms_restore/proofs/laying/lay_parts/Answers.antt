@@ -1,7 +1,7 @@
 use Rattle.std.proofs.Common.{◌+◌, ◌/◌, ◌≤◌, ◌∙◌, List, length, refl, sym, subst, arith}
 use Rattle.dms_history.specs.Entries.{Entry}
 use Rattle.dms_moments.specs.Moments.{Runs}
-use Rattle.dms_restore.specs.Bodies.{bodies}
+use Rattle.dms_audrec.specs.Bodies.{bodies}
 use Rattle.dms_running.specs.Plans.{Planned}
 use Rattle.dms_restore.specs.Logging.{telling_of}
 use Rattle.dms_restore.specs.Laying.{LaysEnd}

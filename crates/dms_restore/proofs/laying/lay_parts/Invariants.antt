@@ -1,7 +1,7 @@
 use Rattle.std.proofs.Common.{◌≡◌, IsTrue, ℕ, take}
 use Rattle.dms_moments.specs.Moments.{Steps}
 use Rattle.dms_history.specs.Schemas.{schema_entries}
-use Rattle.dms_restore.specs.Bodies.{bodies}
+use Rattle.dms_audrec.specs.Bodies.{bodies}
 use Rattle.dms_restore.specs.Logging.{PrintsNothing}
 use Rattle.dms_restore.specs.Laying.{IsAtStart, LaysEnd}
 use Rattle.dms_restore.proofs.laying.lay_parts.Given as goal

@@ -1,7 +1,7 @@
 use Rattle.std.proofs.Common.{refl}
 use Rattle.dms_restore.proofs.CountBytes.{counts_entry, counts_few}
 use Rattle.dms_restore.proofs.Results.{one_ok}
-use Rattle.dms_wal.specs.Database.{view_of}
+use Rattle.dms_restore.specs.Views.{view_of}
 use Rattle.dms_wal.proofs.Controlling.{count_table}
 use Rattle.dms_wal.proofs.BackedOut.{back_by, back_counts}
 use Rattle.dms_wal.proofs.Limits.{by_with, sealed_from, sealed_to, went_from, went_to, leaves_with}

@@ -1,7 +1,7 @@
 use Rattle.dms_wal.proofs.Lifts.{told_same}
 use Rattle.std.proofs.Common.{refl, ◌∙◌}
 use Rattle.dms_restore.proofs.Results.{both_ok}
-use Rattle.dms_wal.specs.Database.{view_of}
+use Rattle.dms_restore.specs.Views.{view_of}
 use Rattle.dms_wal.proofs.Imaged.{keeps_back}
 use Rattle.dms_wal.proofs.Pooled.{failed_lacks, not_got}
 use Rattle.dms_wal.proofs.changing.keep.Goals as goal

@@ -2,7 +2,7 @@ use Rattle.std.proofs.Common.{arith}
 use Rattle.dms_wal.proofs.Backs.{writes_back}
 use Rattle.dms_wal.proofs.Roomed.{newest, then_leave, then_silent}
 use Rattle.dms_wal.proofs.Synced.{kind_is}
-use Rattle.dms_wal.specs.Database.{view_of}
+use Rattle.dms_restore.specs.Views.{view_of}
 use Rattle.dms_wal.proofs.room.write_back.Goals as goal
 
 pub returns-in-Ok-write-clause-back : goal.returns-in-Ok-write-clause-back

@@ -3,7 +3,8 @@ use Rattle.dms_block.specs.declared.change.Change.{Change}
 use Rattle.dms_block.specs.Changing.{fits_take, no_change_of}
 use Rattle.dms_block.specs.Held.{Held}
 use Rattle.dms_block.specs.HeldLaws.{alters_as}
-use Rattle.dms_wal.specs.Database.{held, view_of}
+use Rattle.dms_restore.specs.Views.{view_of}
+use Rattle.dms_wal.specs.Database.{held}
 use Rattle.dms_wal.proofs.Imaged.{usable_spent}
 use Rattle.dms_wal.specs.PaceLaws.{pace_none, pace_on}
 use Rattle.dms_wal.proofs.Logged.{logs_none, logs_more, logs_whole}

@@ -2,7 +2,8 @@ use Rattle.std.proofs.Common.{IsTrue, take}
 use Rattle.dms_block.specs.Held.{Held}
 use Rattle.dms_wal.specs.Changing.{LogsChanges}
 use Rattle.dms_wal.specs.Controls.{KeepsPace}
-use Rattle.dms_wal.specs.Database.{held, view_of}
+use Rattle.dms_restore.specs.Views.{view_of}
+use Rattle.dms_wal.specs.Database.{held}
 use Rattle.dms_wal.proofs.Made.{MadeChanges}
 use Rattle.dms_wal.proofs.running.Running.apply.Given as goal
 

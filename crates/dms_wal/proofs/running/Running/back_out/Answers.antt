@@ -1,8 +1,8 @@
 use Rattle.dms_wal.proofs.Lifts.{told_same}
 use Rattle.std.proofs.Common.{ℕ, ◌∙◌, true, false, List, subst, length, refl, ap}
 use Rattle.dms_restore.specs.BackOuts.{WentBackTo}
+use Rattle.dms_restore.specs.Views.{view_of}
 use Rattle.dms_wal.specs.BackOuts.{entries_back}
-use Rattle.dms_wal.specs.Database.{view_of}
 use Rattle.dms_wal.proofs.BackFaults.{caused_back, back_silent, back_only, back_full, back_memory}
 use Rattle.dms_wal.proofs.BackedOut.{passes_back, stays_back, marked_content}
 use Rattle.dms_wal.proofs.running.Running.back_out.Goals as goal

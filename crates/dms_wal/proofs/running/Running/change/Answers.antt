@@ -5,7 +5,7 @@ use Rattle.dms_wal.specs.Database.{held}
 use Rattle.dms_wal.proofs.Causes.{not_full}
 use Rattle.dms_restore.proofs.Results.{one_ok}
 use Rattle.dms_wal.proofs.Logged.{logs_from}
-use Rattle.dms_wal.specs.Database.{view_of}
+use Rattle.dms_restore.specs.Views.{view_of}
 use Rattle.dms_wal.proofs.running.Running.change.Goals as goal
 
 pub log_change-requires-clause-owned : goal.log_change-requires-clause-owned

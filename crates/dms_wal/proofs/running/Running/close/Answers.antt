@@ -5,8 +5,9 @@ use Rattle.dms_block.specs.Counts.{Faults}
 use Rattle.dms_audfile.specs.Counting.{CountedAt}
 use Rattle.dms_restore.proofs.Results.{one_if_ok, one_if_err}
 use Rattle.dms_wal.specs.Closing.{IsFullTrail, LeavesUntil, entries_control}
-use Rattle.dms_wal.specs.Database.{held, view_of}
+use Rattle.dms_wal.specs.Database.{held}
 use Rattle.dms_restore.specs.Logging.{telling}
+use Rattle.dms_restore.specs.Views.{view_of}
 use Rattle.dms_wal.specs.Lifting.{lifted}
 use Rattle.dms_wal.specs.PaceLaws.{pace_kind}
 use Rattle.dms_wal.proofs.Closed.{backs_counted, backs_only, clock_as, closed_back, closed_same, control_only, counted_then, full_trail, leaves_until, said_told, trail_as}

@@ -3,7 +3,7 @@ use Rattle.std.proofs.Common.{refl, sym, ◌∙◌, ap, subst}
 use Rattle.std.specs.declared.result.Result.TheVariants.{Err}
 use Rattle.dms_wal.proofs.Closed.{full_trail, said_told}
 use Rattle.dms_wal.specs.Closing.{IsFullTrail}
-use Rattle.dms_wal.specs.Database.{view_of}
+use Rattle.dms_restore.specs.Views.{view_of}
 use Rattle.dms_wal.proofs.Reaching.{closes_all, closes_leaves, usable_alike}
 use Rattle.dms_wal.proofs.running.Running.close_by_control.Goals as goal
 

@@ -4,7 +4,7 @@ use Rattle.std.specs.Option.{option_copied}
 use Rattle.std.proofs.Common.{inl}
 use Rattle.dms_history.specs.Replay.{TellsBefore}
 use Rattle.dms_restore.specs.Logging.{content}
-use Rattle.dms_wal.specs.Database.{view_of}
+use Rattle.dms_restore.specs.Views.{view_of}
 use Rattle.dms_wal.proofs.Causes.{disk_not_full, disk_or_full, full_left}
 use Rattle.dms_wal.proofs.Synced.{kind_is}
 use Rattle.dms_wal.proofs.Imaged.{alters_made, alters_failed, counted_more, imaged, usable_changed, with_same, then_left}

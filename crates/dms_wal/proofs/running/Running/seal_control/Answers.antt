@@ -4,10 +4,10 @@ use Rattle.dms_audrec.specs.Spelling.{pair_bytes, count_file, count_blocks}
 use Rattle.dms_restore.specs.Counts.{file_counts}
 use Rattle.dms_restore.specs.Laying.{schema_control}
 use Rattle.dms_restore.specs.Endings.{ControlledAt}
+use Rattle.dms_restore.specs.Views.{view_of}
 use Rattle.dms_restore.proofs.CountBytes.{counts_entry, counts_few}
 use Rattle.dms_wal.proofs.Causes.{full_left, full_seen, seen_only}
 use Rattle.dms_wal.proofs.Controlling.{control_by, control_leaves, control_made, count_table, makes_control}
-use Rattle.dms_wal.specs.Database.{view_of}
 use Rattle.dms_wal.proofs.Stepped.{passes_step}
 use Rattle.dms_wal.proofs.Synced.{kind_is}
 use Rattle.dms_wal.proofs.running.Running.seal_control.Goals as goal

@@ -3,8 +3,9 @@ use Rattle.std.specs.declared.result.Result.TheVariants.{Ok}
 use Rattle.dms_block.specs.Held.{Looks}
 use Rattle.dms_pool.specs.Held.{to_write}
 use Rattle.dms_restore.specs.Logging.{trail_of}
+use Rattle.dms_restore.specs.Views.{view_of}
 use Rattle.dms_wal.specs.Controls.{KeepsFields, TellsSame}
-use Rattle.dms_wal.specs.Database.{held, view_of, faults_of}
+use Rattle.dms_wal.specs.Database.{held, faults_of}
 use Rattle.dms_wal.proofs.running.Running.write_changed.Given as goal
 
 abbrev pub invariant-loop-id : goal.invariant-loop-id
