@@ -62,6 +62,7 @@ impl<S: Site> Log<S> {
         ensures say_faults { IfOk result (λ b. S.say_faults b.log.site ≡ S.say_faults self.site) }
         ensures say_faults_then { IfErr result (λ e. S.say_faults e.1.site ≡ S.say_faults self.site) }
         ensures kind { IfOk result (λ b. IsSameTrail self b.log) }
+        ensures kind_then { IfErr result (λ e. IsSameTrail self e.1) }
     {
         let Log {
             mut site,

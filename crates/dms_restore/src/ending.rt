@@ -52,6 +52,7 @@ impl<S: Site> Restored<S> {
         ensures say_faults { IfOk result (λ l. S.say_faults l.site ≡ S.say_faults self.log.site) }
         ensures say_faults_then { IfErr result (λ e. S.say_faults e.1.site ≡ S.say_faults self.log.site) }
         ensures kind { IfOk result (λ l. IsSameTrail self.log l) }
+        ensures kind_then { IfErr result (λ e. IsSameTrail self.log e.1) }
     {
         let Restored { log } = self;
         let Log {
