@@ -1,7 +1,7 @@
 -- A restore ends, or a control point is sealed.
-use Rattle.std.proofs.Common.{ℕ, min, ◌-◌, ◌/◌, ◌^◌, ◌<◌, ◌≡◌, true, List, [], ◌∷◌, ◌++◌, length, refl, sym, ◌∙◌, ap, subst, arith}
-use Rattle.dms_moments.specs.Moments.{Clock, Runs}
-use Rattle.dms_moments.specs.MomentLaws.{runs_weaken}
+use Rattle.std.proofs.Common.{ℕ, zero, suc, min, ◌-◌, ◌/◌, ◌^◌, ◌<◌, ◌≤◌, ◌≡◌, true, inl, inr, List, [], ◌∷◌, ◌++◌, append_assoc, length, take, refl, sym, ◌∙◌, ap, subst, arith}
+use Rattle.dms_moments.specs.Moments.{Clock, Now, Runs}
+use Rattle.dms_moments.specs.MomentLaws.{runs_since, runs_weaken}
 use Rattle.dms_site.specs.Files.{Files, Left, Only, stored_of}
 use Rattle.dms_history.specs.Events.{Event}
 use Rattle.dms_history.specs.History.{Pending, next_number}
@@ -21,7 +21,7 @@ use Rattle.dms_running.specs.Begun.{LeavesAll, IsSchemaControl}
 use Rattle.dms_running.proofs.Stopped.{blocks_same}
 use Rattle.dms_running.proofs.Ending.{end_leaves, end_runs, end_same, end_points}
 use Rattle.dms_running.proofs.Controlled.{control_leaves, control_runs, control_same, control_points}
-use Rattle.dms_restore.specs.Logging.{telling_of, waits, LogView, telling, state, Ends, LogRuns, entries, points, durable, next}
+use Rattle.dms_restore.specs.Logging.{telling_of, waits, LogView, telling, state, Ends, LogRuns, LogsPart, entries, points, durable, next}
 use Rattle.dms_restore.specs.Laying.{schema_control, IsAtStart, SealsSince}
 use Rattle.dms_restore.specs.Endings.{EndsBy, EndedAt, ControlBy, ControlledAt, KeepsBlocks}
 use Rattle.dms_restore.proofs.Trails.{is_telling, first_low, waits_is, ends_waiting}
@@ -70,6 +70,36 @@ all_next t s none = ap (λ (l : List Entry). next_of l) (ap (λ (l : List Entry)
 -- no structure file changes while a plan is appended and sealed
 pub plan_blocks : (t : Telling) (es : List Entry) (start : Files) (a b : Clock Left) → Runs a b (Planned t es start) → Runs a b (KeepsBlocks start)
 plan_blocks t es start a b runs = runs_weaken runs (λ x p. blocks_same x.files start p.above)
+
+-- of a plan the first so many entries are sealed, whatever was answered
+planned_part : (t : Telling) (es : List Entry) (start now : Files) (old new : Clock Left) → Only start old → ((k : ℕ) (x : Left) → k ≤ new.now → Now new x → new.left k x) → (x : Left) × Now new x × (x.files ≡ now) → Runs old new (Planned t es start)
+    → (some : ℕ) × (t.entries now ≡ t.entries start ++ take some es)
+planned_part t es start now old new only counts read runs = elim (runs_since runs read.0 (counts old.now read.0 runs.later read.1)) [
+  | inl was ↦ (0, ap t.entries (sym read.2 ∙ only read.0 was) ∙ sym (append_none (t.entries start)))
+  | inr p ↦ (p.some, ap t.entries (sym read.2) ∙ p.sealed)
+]
+
+-- and where nothing waits afterwards no more than these were logged
+pub part_logged : (a b : LogView) → b.end.total ≡ a.end.total → b.first ≡ a.first → (es : List Entry) → Only a.files a.clock → ((k : ℕ) (x : Left) → k ≤ b.clock.now → Now b.clock x → b.clock.left k x) → Reads b → waits a.end ≡ [] → waits b.end ≡ []
+    → Runs a.clock b.clock (Planned (telling a) es a.files) → LogsPart a b es
+part_logged a b kind start es only counts read none empty runs =
+    let p = planned_part (telling a) es a.files b.files a.clock b.clock only counts read runs in
+    record { some = p.0; entries_are = ap (λ (t : Telling). entries_now t (state b)) (λ i. telling_of (kind i) (start i)) ∙ then_entries (telling a) (state a) (state b) (take p.0 es) none empty p.1 }
+
+-- nothing was logged
+pub part_none : (a b : LogView) (es : List Entry) → entries b ≡ entries a → LogsPart a b es
+part_none a b es same = record { some = 0; entries_are = same ∙ sym (append_none (entries a)) }
+
+-- some entries were logged behind one that was
+pub part_behind : (a b c d : LogView) (e : Entry) (es : List Entry) → entries b ≡ entries a ++ e ∷ [] → entries c ≡ entries b → LogsPart c d es → LogsPart a d (e ∷ es)
+part_behind a b c d e es logged same p = record {
+  some = suc p.some;
+  entries_are = p.entries_are ∙ ap (λ (l : List Entry). l ++ take p.some es) (same ∙ logged) ∙ append_assoc (entries a) (e ∷ []) (take p.some es);
+}
+
+-- nothing was logged before
+pub part_from : (a b c : LogView) (es : List Entry) → entries b ≡ entries a → LogsPart b c es → LogsPart a c es
+part_from a b c es same p = record { some = p.some; entries_are = p.entries_are ∙ ap (λ (l : List Entry). l ++ take p.some es) same }
 
 module _ (a b : LogView) (kind : b.end.total ≡ a.end.total) (start : b.first ≡ a.first) (es : List Entry) (s : SealsSince a.end.total b.end a.first es a.files b.files b.clock) where
   same_telling : telling a ≡ telling b

@@ -97,7 +97,7 @@ lay_more t done rest start a b runs = runs_weaken runs (λ x p. planned_more t d
 
 -- ---- parts
 
-parts_length : (k all : ℕ) (bs : List (List ℕ)) → length (parts_of_schema k all bs) ≡ length bs
+pub parts_length : (k all : ℕ) (bs : List (List ℕ)) → length (parts_of_schema k all bs) ≡ length bs
 parts_length k all [] = refl
 parts_length k all (b ∷ bs) = ap suc (parts_length (k + 1) all bs)
 

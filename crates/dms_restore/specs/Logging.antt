@@ -1,5 +1,5 @@
 -- The end of an audit trail over its files, as a running database.
-use Rattle.std.specs.Prelude.{ℕ, ◌+◌, ◌≤◌, ◌==◌, ◌≡◌, List, [], ◌∷◌, ◌++◌, length, Option, Some, None}
+use Rattle.std.specs.Prelude.{ℕ, ◌+◌, ◌≤◌, ◌==◌, ◌≡◌, List, [], ◌∷◌, ◌++◌, length, take, Option, Some, None}
 use Rattle.dms_moments.specs.Moments.{Clock}
 use Rattle.dms_site.specs.Files.{Files, Left, stored_of}
 use Rattle.dms_history.specs.Events.{Block, Content}
@@ -146,3 +146,8 @@ pub record LogsWrite (a b : LogView) : Type 0 where
   pub next_same : next b ≡ next a
   pub content_same : content b ≡ content a
   pub durable_same : durable b ≡ durable a
+
+-- The first so many of these entries were logged, and nothing else.
+pub record LogsPart (a b : LogView) (es : List Entry) : Type 0 where
+  pub some : ℕ
+  pub entries_are : entries b ≡ entries a ++ take some es

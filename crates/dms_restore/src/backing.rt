@@ -10,7 +10,7 @@ ghost use Rattle.dms_audfile.specs.Counting.{CountedAt};
 ghost use Rattle.dms_audfile.specs.Ends.{Grown};
 ghost use Rattle.dms_restore.specs.Views.{view_of, StaysSilent, IsSameTrail};
 ghost use Rattle.dms_restore.specs.Logging as logs;
-ghost use Rattle.dms_restore.specs.Logging.{Ends, entries, waits, points, LogLeaves, LogRuns};
+ghost use Rattle.dms_restore.specs.Logging.{Ends, entries, waits, points, LogLeaves, LogRuns, LogsPart};
 ghost use Rattle.dms_restore.specs.Begins.{LastIs, begun_to, BegunAt, BeginsRestore, LeavesEach};
 ghost use Rattle.dms_restore.specs.Laying.{schema_control};
 ghost use Rattle.dms_restore.specs.Endings.{EndsBy, EndedAt};
@@ -43,6 +43,7 @@ impl<S: Site> Log<S> {
         ensures only { IfErr result (λ e. (e ≡ AudFault.Disk) ⊎ (e ≡ AudFault.Full self.old.end.limit)) }
         ensures full { IsErrOf result (AudFault.Full self.old.end.limit) → (self.new.end.used ≡ 0) × (10000 + self.old.end.limit < self.new.end.file) }
         ensures ends { IsErrOf result (AudFault.Full self.old.end.limit) → IsTrue S.tells → Ends (view_of S.Site self.new) }
+        ensures kept { IsErrOf result (AudFault.Full self.old.end.limit) → IsTrue S.tells → entries (view_of S.Site self.new) ≡ entries (view_of S.Site self.old) }
         ensures said { S.said self.new.site ≡ S.said self.old.site }
         ensures same_site { S.same_site self.old.site self.new.site }
         ensures disk { CountedAt (IsErrOf result AudFault.Disk) (S.disk_faults self.old.site) (S.disk_faults self.new.site) }
@@ -103,6 +104,8 @@ impl<S: Site> Log<S> {
         ensures only { IfErr result (λ e. (e ≡ AudFault.Disk) ⊎ (e ≡ AudFault.Full self.old.end.limit)) }
         ensures full { IsErrOf result (AudFault.Full self.old.end.limit) → (self.new.end.used ≡ 0) × (10000 + self.old.end.limit < self.new.end.file) }
         ensures ends { IsErrOf result (AudFault.Full self.old.end.limit) → (p : Pending) → IsTrue S.tells → EndsBy p (view_of S.Site self.old) point next counts.now → Ends (view_of S.Site self.new) }
+        ensures part { IsErrOf result (AudFault.Full self.old.end.limit) → (p : Pending) → IsTrue S.tells → EndsBy p (view_of S.Site self.old) point next counts.now
+            → LogsPart (view_of S.Site self.old) (view_of S.Site self.new) (schema_control description.now point next counts.now) }
         ensures said { S.said self.new.site ≡ S.said self.old.site }
         ensures same_site { S.same_site self.old.site self.new.site }
         ensures disk { CountedAt (IsErrOf result AudFault.Disk) (S.disk_faults self.old.site) (S.disk_faults self.new.site) }
@@ -170,6 +173,8 @@ impl<S: Site> Log<S> {
         ensures memory { IsErrOf result AudFault.Memory → IsTrue S.tells → ⊥ }
         ensures full { IsErrOf result (AudFault.Full self.old.end.limit) → (self.new.end.used ≡ 0) × (10000 + self.old.end.limit < self.new.end.file) }
         ensures ends { IsErrOf result (AudFault.Full self.old.end.limit) → IsTrue S.tells → Ends (view_of S.Site self.new) }
+        ensures part { IsErrOf result (AudFault.Full self.old.end.limit) → IsTrue S.tells
+            → LogsPart (view_of S.Site self.old) (view_of S.Site self.new) (back_entries point description.now next counts.now) }
         ensures said { S.said self.new.site ≡ S.said self.old.site }
         ensures same_site { S.same_site self.old.site self.new.site }
         ensures disk { CountedAt (IsErrOf result AudFault.Disk) (S.disk_faults self.old.site) (S.disk_faults self.new.site) }
@@ -215,6 +220,8 @@ impl<S: Site> Log<S> {
         ensures idle { IsErrOf result AudFault.Memory → self.old.end.used ≡ 0 → IsTrue S.tells → FilesStay (view_of S.Site self.old) (view_of S.Site self.new) }
         ensures full { IsErrOf result (AudFault.Full self.old.end.limit) → (self.new.end.used ≡ 0) × (10000 + self.old.end.limit < self.new.end.file) }
         ensures ends { IsErrOf result (AudFault.Full self.old.end.limit) → IsTrue S.tells → Ends (view_of S.Site self.new) }
+        ensures part { IsErrOf result (AudFault.Full self.old.end.limit) → IsTrue S.tells
+            → LogsPart (view_of S.Site self.old) (view_of S.Site self.new) (back_entries point description.now next counts.now) }
         ensures said { S.said self.new.site ≡ S.said self.old.site }
         ensures same_site { S.same_site self.old.site self.new.site }
         ensures disk { CountedAt (IsErrOf result AudFault.Disk) (S.disk_faults self.old.site) (S.disk_faults self.new.site) }

@@ -7,7 +7,7 @@ ghost use Rattle.dms_audrec.specs.Spelling.{IsEntry};
 ghost use Rattle.dms_audrec.specs.Reading.{counts_at};
 ghost use Rattle.dms_audfile.specs.Counting.{CountedAt};
 ghost use Rattle.dms_restore.specs.Views.{view_of, StaysSilent, BlocksStay, LogStarts, IsSameTrail};
-ghost use Rattle.dms_restore.specs.Logging.{Ends, LogRuns};
+ghost use Rattle.dms_restore.specs.Logging.{Ends, LogRuns, LogsPart};
 ghost use Rattle.dms_restore.specs.Begins.{LeavesEach};
 ghost use Rattle.dms_restore.specs.Laying.{schema_control};
 ghost use Rattle.dms_restore.specs.Endings.{EndsBy, EndedAt, ControlBy, ControlledAt};
@@ -69,6 +69,8 @@ impl<S: Site> Restored<S> {
 
 impl<S: Site> Log<S> {
     /// Seals the parts of the description and a Control of the last point, where all blocks are written and stable.
+    ///
+    /// Answers Disk where a call of the site failed, and else Full where the audit has no room: then the first of these entries are sealed.
     pub fn control(
         &mut self,
         description: &[u8],
@@ -90,6 +92,8 @@ impl<S: Site> Log<S> {
         ensures only { IfErr result (λ e. (e ≡ AudFault.Disk) ⊎ (e ≡ AudFault.Full self.old.end.limit)) }
         ensures full { IsErrOf result (AudFault.Full self.old.end.limit) → (self.new.end.used ≡ 0) × (10000 + self.old.end.limit < self.new.end.file) }
         ensures ends { IsErrOf result (AudFault.Full self.old.end.limit) → IsTrue S.tells → Ends (view_of S.Site self.new) }
+        ensures part { IsErrOf result (AudFault.Full self.old.end.limit) → IsTrue S.tells
+            → LogsPart (view_of S.Site self.old) (view_of S.Site self.new) (schema_control description.now point next counts.now) }
         ensures said { S.said self.new.site ≡ S.said self.old.site }
         ensures same_site { S.same_site self.old.site self.new.site }
         ensures disk { CountedAt (IsErrOf result AudFault.Disk) (S.disk_faults self.old.site) (S.disk_faults self.new.site) }

@@ -3,6 +3,7 @@ use Rattle.dms_restore.specs.Logging.{telling_of}
 use Rattle.dms_restore.specs.Views.{view_of}
 use Rattle.dms_restore.specs.BackOuts.{ServesBehind}
 use Rattle.dms_restore.proofs.Results.{one_ok, is_fault}
+use Rattle.dms_restore.proofs.Endings.{part_from}
 use Rattle.dms_restore.proofs.Backed.{silent_on, counted_on, back_full, never_full}
 use Rattle.dms_restore.proofs.Sealed.{goes_back_then, went_back_then, leaves_then, not_disk, ok_not_disk, full_of, back_limit}
 use Rattle.dms_restore.proofs.log.Log.back_out.Goals as goal
@@ -60,3 +61,11 @@ returns-clause-ends g c full tells = c.go_back_by.ensures.ends (full_of c.go_bac
 
 pub returns-clause-disk : goal.returns-clause-disk
 returns-clause-disk g c = counted_on _ _ _ _ (c.in-Ok.ensures.disk.clean (λ e. subst (λ r. is_fault r) (sym e) tt)) c.go_back_by.ensures.disk
+
+pub returns-in-Err-clause-part : goal.returns-in-Err-clause-part
+returns-in-Err-clause-part g c full = absurd (never_full c.in-Err.fault _ c.in-Err.ensures.only full)
+
+pub returns-clause-part : goal.returns-clause-part
+returns-clause-part g c full tells =
+    part_from (seen g.S.Site c.args.self.now) (seen g.S.Site c.table_back.new.self) (seen g.S.Site c.go_back_by.new.self) _ (c.in-Ok.ensures.sealed (ok_not_disk _) tells).same.entries_same
+    (c.go_back_by.ensures.part (full_of c.go_back_by.result _ _ c.table_back.ensures.kind.2 full) tells)

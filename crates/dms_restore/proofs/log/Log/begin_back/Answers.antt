@@ -5,7 +5,7 @@ use Rattle.dms_restore.specs.Views.{view_of}
 use Rattle.dms_restore.proofs.Sealed.{ends_of, begin_grown}
 use Rattle.dms_restore.proofs.Sizes.{begin_size}
 use Rattle.dms_restore.proofs.Backed.{begin_logs}
-use Rattle.dms_restore.proofs.Logs.{entry_silent}
+use Rattle.dms_restore.proofs.Logs.{entry_silent, full_seals}
 use Rattle.dms_restore.proofs.Beginnings.{begin_leave, begin_begun, begin_keeps}
 use Rattle.dms_restore.proofs.log.Log.begin_back.Goals as goal
 
@@ -45,3 +45,8 @@ returns-clause-grown g c = one_ok c.append.result c.append.ensures.appends (λ a
 pub returns-clause-ends : goal.returns-clause-ends
 returns-clause-ends g c full tells =
     ends_of c.append.new.self c.args.self.now.first _ _ (c.append.ensures.kept full c.args.self.now.first _ tells (c.requires.runs tells).ends).ends
+
+pub returns-clause-kept : goal.returns-clause-kept
+returns-clause-kept g c full tells =
+    (full_seals _ (c.requires.runs tells) (g.met.S.Site.may_stay c.args.self.now.site tells) _ c.append.ensures.kind.0 refl _
+    (λ first waiting plain ends. c.append.ensures.moments first waiting tells plain ends) (λ first waiting ends. c.append.ensures.kept full first waiting tells ends) (g.met.S.Site.may_stay c.append.new.site tells)).entries_same

@@ -1,7 +1,8 @@
-use Rattle.std.proofs.Common.{refl}
+use Rattle.std.proofs.Common.{[], refl}
 use Rattle.dms_restore.proofs.Results.{one_ok}
 use Rattle.dms_restore.proofs.Sealed.{ends_of}
-use Rattle.dms_restore.proofs.Endings.{end_starts, end_leave, ended}
+use Rattle.dms_restore.proofs.Endings.{end_starts, end_leave, ended, part_logged}
+use Rattle.dms_restore.proofs.Trails.{waits_is}
 use Rattle.dms_restore.proofs.log.Log.end_back.Goals as goal
 
 pub returns-clause-ended : goal.returns-clause-ended
@@ -24,3 +25,10 @@ pub returns-clause-ends : goal.returns-clause-ends
 returns-clause-ends g c full p tells by =
     let read = g.met.S.Site.may_stay c.args.self.now.site tells in
     ends_of c.seal_control.new.end c.args.self.now.first _ _ (c.seal_control.ensures.ends full c.args.self.now.first tells (end_starts p _ read c.args.description.now c.requires.some c.args.point c.args.next c.args.counts.now by))
+
+pub returns-clause-part : goal.returns-clause-part
+returns-clause-part g c full p tells by =
+    let m = g.met.S.Site in
+    let starts = end_starts p _ (m.may_stay c.args.self.now.site tells) c.args.description.now c.requires.some c.args.point c.args.next c.args.counts.now by in
+    part_logged _ _ c.seal_control.ensures.kind.0 refl _ by.restored.only (m.counts_now c.seal_control.new.site) (m.may_stay c.seal_control.new.site tells) by.begun.begun.nothing
+    (waits_is c.seal_control.new.end c.args.self.now.first [] _ _ (c.seal_control.ensures.ends full c.args.self.now.first tells starts)) (c.seal_control.ensures.moments c.args.self.now.first tells starts)
