@@ -108,6 +108,7 @@ impl<S: Site> Begun<S> {
         ensures say_faults { IfOk result (λ r. S.say_faults r.log.site ≡ S.say_faults self.log.site) }
         ensures say_faults_then { IfErr result (λ e. S.say_faults e.1.site ≡ S.say_faults self.log.site) }
         ensures kind { IfOk result (λ r. (r.log.end ≡ self.log.end) × (r.log.first ≡ self.log.first)) }
+        ensures kind_then { IfErr result (λ e. (e.1.end ≡ self.log.end) × (e.1.first ≡ self.log.first)) }
     {
         let Begun { log } = self;
         let Log {
