@@ -67,5 +67,5 @@ returns-in-Err-clause-part g c full = absurd (never_full c.in-Err.fault _ c.in-E
 
 pub returns-clause-part : goal.returns-clause-part
 returns-clause-part g c full tells =
-    part_from (seen g.S.Site c.args.self.now) (seen g.S.Site c.table_back.new.self) (seen g.S.Site c.go_back_by.new.self) _ (c.in-Ok.ensures.sealed (ok_not_disk _) tells).same.entries_same
+    part_from (view_of g.S.Site c.args.self.now) (view_of g.S.Site c.table_back.new.self) (view_of g.S.Site c.go_back_by.new.self) _ (c.in-Ok.ensures.sealed (ok_not_disk _) tells).same.entries_same
     (c.go_back_by.ensures.part (full_of c.go_back_by.result _ _ c.table_back.ensures.kind.2 full) tells)

@@ -103,17 +103,17 @@ returns-clause-ends g c full tells =
     (back_ends a b d c.args.point c.args.next c.args.counts.now (c.requires.by tells) (c.in-Ok.ensures.keeps tells) stands)
 
 pub returns-in-Err-clause-part : goal.returns-in-Err-clause-part
-returns-in-Err-clause-part g c full tells = part_none (seen g.S.Site c.args.self.now) (seen g.S.Site c.begin_back.new.self) _ (c.in-Err.ensures.kept (λ i. Err (same_error _ _ full i)) tells)
+returns-in-Err-clause-part g c full tells = part_none (view_of g.S.Site c.args.self.now) (view_of g.S.Site c.begin_back.new.self) _ (c.in-Err.ensures.kept (λ i. Err (same_error _ _ full i)) tells)
 
 pub returns-in-Err-restore_told-clause-part : goal.returns-in-Err-restore_told-clause-part
 returns-in-Err-restore_told-clause-part g c full = absurd (never_full c.in-Err-restore_told.fault _ c.in-Err-restore_told.ensures.only full)
 
 pub returns-clause-part : goal.returns-clause-part
 returns-clause-part g c full tells =
-    let a = seen g.S.Site c.args.self.now in
-    let b = seen g.S.Site c.begin_back.new.self in
-    let d = seen g.S.Site c.restore_told.new.self in
+    let a = view_of g.S.Site c.args.self.now in
+    let b = view_of g.S.Site c.begin_back.new.self in
+    let d = view_of g.S.Site c.restore_told.new.self in
     let stands = c.in-Ok-restore_told.ensures.stands _ tells (c.in-Ok.ensures.begun tells) (c.requires.serves tells _ (c.in-Ok.ensures.grown tells (c.requires.nothing tells))) in
-    part_behind a b d (seen g.S.Site c.end_back.new.self) _ _ (c.in-Ok.ensures.logs tells) stands.entries_same
+    part_behind a b d (view_of g.S.Site c.end_back.new.self) _ _ (c.in-Ok.ensures.logs tells) stands.entries_same
     (c.end_back.ensures.part (full_of c.end_back.result _ _ (ap (λ (e : AuditEnd). e.limit) c.restore_told.ensures.kind.0 ∙ c.begin_back.ensures.kind.2) full) _ tells
     (back_ends a b d c.args.point c.args.next c.args.counts.now (c.requires.by tells) (c.in-Ok.ensures.keeps tells) stands))
