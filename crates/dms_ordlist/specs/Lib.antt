@@ -3,6 +3,7 @@ pub mod Leads
 pub mod Linked
 pub mod LinkedLaws
 pub mod ListBlocks
+pub mod ListCalls
 pub mod ListChanges
 pub mod ListIn
 pub mod ListInLaws

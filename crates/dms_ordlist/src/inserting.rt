@@ -1,13 +1,11 @@
-ghost use Rattle.std.specs.Prelude.{◌≡◌, ◌≢◌, ◌+◌, ◌*◌, ◌/◌, ◌≤◌, ◌<◌, ℕ, List, [], ◌∷◌, IfOk, IfSome, OnErr, OnOk, IsErrOf, IsTrue, Some, false, length, take, drop, not, max};
-ghost use Rattle.dms_block.specs.Content.{laid};
+ghost use Rattle.std.specs.Prelude.{◌≡◌, ◌+◌, ◌*◌, ◌/◌, ◌≤◌, ◌<◌, ℕ, [], ◌∷◌, IfOk, IfSome, OnOk, IsErrOf, IsTrue, Some, false, length, not, max};
 ghost use Rattle.dms_block.specs.Held.{HasCausesOr};
-ghost use Rattle.dms_block.specs.View.{ReadsOverlay, WritesOverlay, seen, seen_counts, under, written};
-ghost use Rattle.dms_ordlist.specs.Linked.{front};
-ghost use Rattle.dms_ordlist.specs.ListBlocks.{free_in, head_bytes, leaf_bytes};
-ghost use Rattle.dms_ordlist.specs.ListIn.{Leaf, Spare, list_in};
-ghost use Rattle.dms_ordlist.specs.ListWrites.{Taken};
+ghost use Rattle.dms_block.specs.View.{WritesOverlay, seen, seen_counts, under, written};
+ghost use Rattle.dms_ordlist.specs.ListBlocks.{free_in};
+ghost use Rattle.dms_ordlist.specs.ListCalls.{BecomesList, IfEmpty, LeavesOthers, TakesBlock, laid_head, with_halves};
+ghost use Rattle.dms_ordlist.specs.ListIn.{list_in};
 ghost use Rattle.dms_ordlist.specs.Lists.{has_entry, with_entry};
-ghost use Rattle.dms_ordlist.specs.Looks.{IfLook, ListOr};
+ghost use Rattle.dms_ordlist.specs.Looks.{IfLook};
 ghost use Rattle.dms_ordlist.specs.Places.{PlaceHolds};
 ghost use Rattle.dms_ordlist.specs.Seen.{IfList, IsListWidth, MayChange, NoList, NotAt};
 ghost use Rattle.dms_ordlist.specs.SpellLaws.{AllWide};
@@ -44,10 +42,10 @@ fn begin<B: Blocks>(
     requires owned { IsTrue ((under over.old).owns file) }
     requires room { seen_counts over.old file ≤ 1048576 }
     requires width { IsListWidth (length entry.now) }
-    ensures list { OnOk result (IsTrue (under over.old).told → (fs : List Spare) → ListOr (length entry.now) (seen over.old file) [] fs → head.free ≡ front fs 0 → list_in (length entry.now) (seen over.new file) ≡ Some (entry.now ∷ [])) }
-    ensures others { OnOk result (IsTrue (under over.old).told → (other : ℕ) → other ≢ file → seen over.new other ≡ seen over.old other) }
+    ensures list { OnOk result (IfEmpty file (length entry.now) head.free over.old (list_in (length entry.now) (seen over.new file) ≡ Some (entry.now ∷ []))) }
+    ensures others { OnOk result (LeavesOthers file over.old over.new) }
     ensures grows { OnOk result (CountGrown file (seen_counts over.old) (seen_counts over.new)) }
-    ensures room { OnOk result (IsTrue (under over.old).told → (fs : List Spare) → ListOr (length entry.now) (seen over.old file) [] fs → head.free ≡ front fs 0 → seen_counts over.new file ≤ max (seen_counts over.old file) 2) }
+    ensures room { OnOk result (IfEmpty file (length entry.now) head.free over.old (seen_counts over.new file ≤ max (seen_counts over.old file) 2)) }
     ensures writes { WritesOverlay 1 2 result over.old over.new }
     ensures idle { (f b : ℕ) → IsErrOf result (BlockFault.Damaged f b) → written over.new ≡ written over.old }
     ensures causes { HasCausesOr (λ f b. (head.free ≡ 0 → ⊥) × NotAt free_in over.old file head.free f b) result (under over.old) (under over.new) }
@@ -79,9 +77,9 @@ fn split<B: Blocks>(
     requires wide { AllWide width leaf.entries.items }
     requires almost { length leaf.entries.items * width ≤ 1017 + width }
     requires there { number < seen_counts over.old file }
-    ensures seen { IfOk result (λ t. IsTrue (under over.old).told → seen over.new file ≡ laid number (leaf_bytes t.0 (take (length leaf.entries.items / 2) leaf.entries.items)) (laid t.0 (leaf_bytes leaf.next (drop (length leaf.entries.items / 2) leaf.entries.items)) (laid 0 (head_bytes head.first t.1) (seen over.old file)))) }
-    ensures taken { IfOk result (λ t. IsTrue (under over.old).told → (w : ℕ) (ls : List Leaf) (fs : List Spare) → ListOr w (seen over.old file) ls fs → head.free ≡ front fs 0 → Taken w (seen over.old file) (front ls 0) ls t.0 t.1) }
-    ensures others { OnOk result (IsTrue (under over.old).told → (other : ℕ) → other ≢ file → seen over.new other ≡ seen over.old other) }
+    ensures seen { IfOk result (λ t. IsTrue (under over.old).told → seen over.new file ≡ with_halves number t.0 leaf.next leaf.entries.items (laid_head head.first t.1 (seen over.old file))) }
+    ensures taken { IfOk result (λ t. TakesBlock file head.free over.old t.0 t.1) }
+    ensures others { OnOk result (LeavesOthers file over.old over.new) }
     ensures grows { OnOk result (CountGrown file (seen_counts over.old) (seen_counts over.new)) }
     ensures count { IfOk result (λ t. seen_counts over.new file ≡ max (seen_counts over.old file) (t.0 + 1)) }
     ensures writes { WritesOverlay 1 3 result over.old over.new }
@@ -121,10 +119,10 @@ fn insert_in<B: Blocks>(
     requires room { seen_counts over.old file ≤ 1048576 }
     requires width { IsListWidth (length entry.now) }
     requires holds { IfSome found.place (PlaceHolds (length entry.now) (seen_counts over.old file)) }
-    ensures list { OnOk result (IfLook over.old file entry.now found (λ xs. list_in (length entry.now) (seen over.old file) ≡ Some xs → list_in (length entry.now) (seen over.new file) ≡ Some (with_entry entry.now xs))) }
+    ensures list { OnOk result (IfLook over.old file entry.now found (λ xs. BecomesList file (length entry.now) over.old over.new xs (with_entry entry.now xs))) }
     ensures answer { IfOk result (λ new. IfLook over.old file entry.now found (λ xs. new ≡ not (has_entry entry.now xs))) }
     ensures still { IfOk result (λ new. new ≡ false → written over.new ≡ written over.old) }
-    ensures others { OnOk result (IsTrue (under over.old).told → (other : ℕ) → other ≢ file → seen over.new other ≡ seen over.old other) }
+    ensures others { OnOk result (LeavesOthers file over.old over.new) }
     ensures grows { OnOk result (CountGrown file (seen_counts over.old) (seen_counts over.new)) }
     ensures room { OnOk result (IfLook over.old file entry.now found (λ xs. seen_counts over.new file ≤ max (seen_counts over.old file) (2 + length xs))) }
     ensures writes { WritesOverlay 1 3 result over.old over.new }
@@ -174,7 +172,7 @@ pub fn insert<B: Blocks>(
     ensures list { OnOk result (IfList over.old file (length entry.now) (λ xs. list_in (length entry.now) (seen over.new file) ≡ Some (with_entry entry.now xs))) }
     ensures answer { IfOk result (λ new. IfList over.old file (length entry.now) (λ xs. new ≡ not (has_entry entry.now xs))) }
     ensures still { IfOk result (λ new. new ≡ false → written over.new ≡ written over.old) }
-    ensures others { OnOk result (IsTrue (under over.old).told → (other : ℕ) → other ≢ file → seen over.new other ≡ seen over.old other) }
+    ensures others { OnOk result (LeavesOthers file over.old over.new) }
     ensures grows { OnOk result (CountGrown file (seen_counts over.old) (seen_counts over.new)) }
     ensures room { OnOk result (IfList over.old file (length entry.now) (λ xs. seen_counts over.new file ≤ max (seen_counts over.old file) (2 + length xs))) }
     ensures writes { WritesOverlay (2 + seen_counts over.old file) 3 result over.old over.new }

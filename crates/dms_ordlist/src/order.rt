@@ -1,7 +1,7 @@
-ghost use Rattle.std.specs.Prelude.{◌≡◌, ◌≤◌, ◌<◌, length, slice_get};
+ghost use Rattle.std.specs.Prelude.{◌≡◌, ◌≤◌, length, slice_get};
 ghost use Rattle.dms_ordlist.specs.Leads.{at_is, lead};
-ghost use Rattle.dms_ordlist.specs.Lists.{is_under, is_same};
-ghost use Rattle.dms_ordlist.specs.ListBlocks.{before_first, is_rising};
+ghost use Rattle.dms_ordlist.specs.Lists.{is_under};
+ghost use Rattle.dms_ordlist.specs.ListBlocks.{is_rising};
 ghost use Rattle.std.specs.Ordering.{is_lt};
 ghost use Rattle.dms_ordlist.specs.Lists.{bytes_cmp};
 

@@ -1,6 +1,7 @@
-ghost use Rattle.std.specs.Prelude.{◌≡◌, ◌≢◌, ◌+◌, ◌≤◌, ◌<◌, ℕ, List, IfOk, IfSome, OnErr, OnOk, IsErrOf, IsTrue, Some, false, length};
+ghost use Rattle.std.specs.Prelude.{◌≡◌, ◌+◌, ◌≤◌, ◌<◌, ℕ, IfOk, IfSome, OnOk, IsErrOf, IsTrue, Some, false, length};
 ghost use Rattle.dms_block.specs.Held.{HasCausesOr};
-ghost use Rattle.dms_block.specs.View.{ReadsOverlay, WritesOverlay, seen, seen_counts, under, written};
+ghost use Rattle.dms_block.specs.View.{WritesOverlay, seen, seen_counts, under, written};
+ghost use Rattle.dms_ordlist.specs.ListCalls.{BecomesList, LeavesOthers};
 ghost use Rattle.dms_ordlist.specs.ListIn.{list_in};
 ghost use Rattle.dms_ordlist.specs.ListRemoves.{LeafSpotFits, released};
 ghost use Rattle.dms_ordlist.specs.Lists.{has_entry, without};
@@ -31,7 +32,7 @@ fn release<B: Blocks>(
     requires there { number < seen_counts over.old file }
     requires fits { IfSome before (LeafSpotFits (seen_counts over.old file)) }
     ensures seen { OnOk result (IsTrue (under over.old).told → seen over.new file ≡ released before head.first head.free number next (seen over.old file)) }
-    ensures others { OnOk result (IsTrue (under over.old).told → (other : ℕ) → other ≢ file → seen over.new other ≡ seen over.old other) }
+    ensures others { OnOk result (LeavesOthers file over.old over.new) }
     ensures counts { OnOk result (seen_counts over.new ≡ seen_counts over.old) }
     ensures writes { WritesOverlay 0 3 result over.old over.new }
     ensures idle { (f b : ℕ) → IsErrOf result (BlockFault.Damaged f b) → written over.new ≡ written over.old }
@@ -72,10 +73,10 @@ fn remove_in<B: Blocks>(
     requires room { seen_counts over.old file ≤ 1048576 }
     requires width { IsListWidth (length entry.now) }
     requires holds { IfSome found.place (PlaceHolds (length entry.now) (seen_counts over.old file)) }
-    ensures list { OnOk result (IfLook over.old file entry.now found (λ xs. list_in (length entry.now) (seen over.old file) ≡ Some xs → list_in (length entry.now) (seen over.new file) ≡ Some (without entry.now xs))) }
+    ensures list { OnOk result (IfLook over.old file entry.now found (λ xs. BecomesList file (length entry.now) over.old over.new xs (without entry.now xs))) }
     ensures answer { IfOk result (λ was. IfLook over.old file entry.now found (λ xs. was ≡ has_entry entry.now xs)) }
     ensures still { IfOk result (λ was. was ≡ false → written over.new ≡ written over.old) }
-    ensures others { OnOk result (IsTrue (under over.old).told → (other : ℕ) → other ≢ file → seen over.new other ≡ seen over.old other) }
+    ensures others { OnOk result (LeavesOthers file over.old over.new) }
     ensures counts { OnOk result (seen_counts over.new ≡ seen_counts over.old) }
     ensures writes { WritesOverlay 0 3 result over.old over.new }
     ensures idle { (f b : ℕ) → IsErrOf result (BlockFault.Damaged f b) → written over.new ≡ written over.old }
@@ -116,7 +117,7 @@ pub fn remove<B: Blocks>(
     ensures list { OnOk result (IfList over.old file (length entry.now) (λ xs. list_in (length entry.now) (seen over.new file) ≡ Some (without entry.now xs))) }
     ensures answer { IfOk result (λ was. IfList over.old file (length entry.now) (λ xs. was ≡ has_entry entry.now xs)) }
     ensures still { IfOk result (λ was. was ≡ false → written over.new ≡ written over.old) }
-    ensures others { OnOk result (IsTrue (under over.old).told → (other : ℕ) → other ≢ file → seen over.new other ≡ seen over.old other) }
+    ensures others { OnOk result (LeavesOthers file over.old over.new) }
     ensures counts { OnOk result (seen_counts over.new ≡ seen_counts over.old) }
     ensures writes { WritesOverlay (1 + seen_counts over.old file) 3 result over.old over.new }
     ensures idle { (f b : ℕ) → IsErrOf result (BlockFault.Damaged f b) → written over.new ≡ written over.old }

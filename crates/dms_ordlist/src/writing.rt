@@ -1,12 +1,9 @@
-ghost use Rattle.std.specs.Prelude.{◌≡◌, ◌+◌, ◌≤◌, ◌<◌, ℕ, List, IfOk, OnErr, OnOk, IsErrOf, IsTrue, length, max};
+ghost use Rattle.std.specs.Prelude.{◌≡◌, ◌+◌, ◌≤◌, ◌<◌, IfOk, OnErr, OnOk, IsErrOf, IsTrue, length, max};
 ghost use Rattle.dms_block.specs.Content.{limit, raised, with_block};
 ghost use Rattle.dms_block.specs.Held.{HasCausesOr};
 ghost use Rattle.dms_block.specs.View.{ReadsOverlay, seen, seen_counts, under, written};
-ghost use Rattle.dms_ordlist.specs.Linked.{front};
-ghost use Rattle.dms_ordlist.specs.ListBlocks.{free_in, head_bytes};
-ghost use Rattle.dms_ordlist.specs.ListIn.{Leaf, Spare};
-ghost use Rattle.dms_ordlist.specs.ListWrites.{Taken};
-ghost use Rattle.dms_ordlist.specs.Looks.{ListOr};
+ghost use Rattle.dms_ordlist.specs.ListBlocks.{free_in};
+ghost use Rattle.dms_ordlist.specs.ListCalls.{IfSeen, TakesBlock, with_head};
 ghost use Rattle.dms_ordlist.specs.Seen.{NotAt};
 
 use crate::reading::read_free;
@@ -22,7 +19,7 @@ pub fn next_free<B: Blocks>(
     head: ListHead,
 ) -> Result<(u32, u32), BlockFault>
     requires sound { (under over.old).sound }
-    ensures taken { IfOk result (λ t. IsTrue (under over.old).told → (w : ℕ) (ls : List Leaf) (fs : List Spare) → ListOr w (seen over.old file) ls fs → head.free ≡ front fs 0 → Taken w (seen over.old file) (front ls 0) ls t.0 t.1) }
+    ensures taken { IfOk result (λ t. TakesBlock file head.free over.old t.0 t.1) }
     ensures near { IfOk result (λ t. t.0 ≤ max (seen_counts over.old file) 1) }
     ensures reads { ReadsOverlay 1 result over.old over.new }
     ensures causes { HasCausesOr (λ f b. (head.free ≡ 0 → ⊥) × NotAt free_in over.old file head.free f b) result (under over.old) (under over.new) }
@@ -52,7 +49,7 @@ pub fn write_two<B: Blocks>(
     requires low { number < limit }
     requires near { number ≤ max (seen_counts over.old file) 1 }
     ensures below { over.new.below ≡ over.old.below }
-    ensures seen { OnOk result (IsTrue (under over.old).told → (under over.old).sound → seen over.new ≡ with_block (with_block (seen over.old) file 0 (head_bytes head.first head.free)) file number block.now.0) }
+    ensures seen { OnOk result (IfSeen over.old (seen over.new ≡ with_block (with_head file head.first head.free (seen over.old)) file number block.now.0)) }
     ensures counts { OnOk result (seen_counts over.new ≡ raised (raised (seen_counts over.old) file 0) file number) }
     ensures more { length (written over.new) ≤ length (written over.old) + 2 }
     ensures memory { OnErr result (IsErrOf result BlockFault.Memory) }
@@ -83,7 +80,7 @@ pub fn write_three<B: Blocks>(
     requires other_low { other < limit }
     requires other_there { other < seen_counts over.old file }
     ensures below { over.new.below ≡ over.old.below }
-    ensures seen { OnOk result (IsTrue (under over.old).told → (under over.old).sound → seen over.new ≡ with_block (with_block (with_block (seen over.old) file 0 (head_bytes head.first head.free)) file number block.now.0) file other changed.now.0) }
+    ensures seen { OnOk result (IfSeen over.old (seen over.new ≡ with_block (with_block (with_head file head.first head.free (seen over.old)) file number block.now.0) file other changed.now.0)) }
     ensures counts { OnOk result (seen_counts over.new ≡ raised (raised (raised (seen_counts over.old) file 0) file number) file other) }
     ensures more { length (written over.new) ≤ length (written over.old) + 3 }
     ensures memory { OnErr result (IsErrOf result BlockFault.Memory) }
