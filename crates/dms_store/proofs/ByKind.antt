@@ -1,7 +1,8 @@
 -- Looks at the members of a structure, by its kind.
-use Rattle.std.proofs.Common.{◌≡◌, ◌∙◌, ◌+◌, ◌<◌, ℕ, List, [], ◌∷◌, Bool, true, false, cond, Some, None, refl, sym, ap, subst, inl, arith}
+use Rattle.std.proofs.Common.{Bor, ◌≡◌, ◌∙◌, ◌+◌, ◌<◌, ℕ, List, [], ◌∷◌, Bool, true, false, cond, Some, None, refl, sym, ap, subst, inl, arith}
 use Rattle.std.specs.Prelude.{◌&&◌, ◌==◌, nat_lt}
 use Rattle.std.specs.List.{list_any}
+use Rattle.std.specs.Option.{option_copied, option_map}
 use Rattle.std.specs.declared.option.Option.{Option}
 use Rattle.std.specs.FinMap.{entries}
 use Rattle.std.proofs.lemmas.Bool.Decides.{nat_tests}
@@ -14,7 +15,8 @@ use Rattle.dms_desc.specs.declared.record.Record.{Record}
 use Rattle.dms_desc.specs.Kinds as kinds
 use Rattle.dms_desc.specs.Kinds.{over}
 use Rattle.dms_desc.specs.Lookups.{structure_of}
-use Rattle.dms_desc.specs.Shape.{Shape, Described}
+use Rattle.dms_desc.specs.Shape.{Shape, Described, shape_of}
+use Rattle.dms_desc.specs.declared.structure.Structure.{Structure}
 use Rattle.dms_desc.specs.Sorted.{first, last, sorted}
 use Rattle.dms_model.specs.declared.spot.Spot.{Spot}
 use Rattle.dms_model.specs.Db.{Place, SubsetEntry}
@@ -30,6 +32,10 @@ use Rattle.dms_store.specs.Noted.{tells_if}
 use Rattle.dms_store.specs.Serving.{IsServed}
 use Rattle.dms_store.specs.Spelled.{db_in, is_kept}
 use Rattle.dms_store.specs.Undamaged.{no_bad_slot}
+
+-- the shape of a structure that was looked up
+pub found_shape : {o : Option Shape} {found : Option (Bor Structure)} {s : Bor Structure} → option_map shape_of (option_copied found) ≡ o → found ≡ Some s → o ≡ Some (shape_of s.now)
+found_shape is at = sym is ∙ ap (λ (f : Option (Bor Structure)). option_map shape_of (option_copied f)) at
 
 both_true : (a b : Bool) → a ≡ true → b ≡ true → (a && b) ≡ true
 both_true true b h k = k
@@ -58,7 +64,7 @@ module _ (s : Shape) (owner : ℕ) (manual : (s.kind == 5) ≡ true) where
       ap (λ (es : List SubsetEntry). sorted (is_before s.parts) (spots_of s es owner (entries (db_in desc c).records))) (no_entries desc c)
       ∙ ap (sorted (is_before s.parts)) (none_belong (entries (db_in desc c).records))
 
-module _ (desc : Described) (path : ℕ) (s : Shape) (served : IsServed desc) (at : structure_of desc path ≡ Some s) where
+module _ {desc : Described} (path : ℕ) {s : Shape} (served : IsServed desc) (at : structure_of desc path ≡ Some s) where
   module _ (manual : kinds.is_manual s ≡ true) (told : Bool) (c : Content) (owner : ℕ) (bound : Bound) where
     none_first : None ≡ first_member desc (db_in desc c) path owner bound
     unfolding first_member

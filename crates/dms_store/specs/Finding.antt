@@ -22,13 +22,14 @@ use Rattle.dms_desc.specs.declared.structure.Item.{Item}
 use Rattle.dms_desc.specs.Lookups.{items_of, structure_of}
 use Rattle.dms_desc.specs.Shape.{Shape, Described}
 use Rattle.dms_layout.specs.declared.slot.Slot.{Slot}
+use Rattle.dms_layout.specs.declared.slot.SlotRead.{SlotRead}
 use Rattle.dms_layout.specs.Slots.{SlotFits}
 use Rattle.dms_desc.specs.Fitting.{values_fit}
 use Rattle.dms_model.specs.Fitting.{AreFitting, IsNumber, RecordFits, population_of}
 use Rattle.dms_model.specs.Valid.{OfItems, is_data_set}
 use Rattle.dms_sets.specs.Tests.{both_of}
-use Rattle.dms_slots.specs.Seen.{BadAt, BadIn, count_of}
-use Rattle.dms_slots.specs.SlotBlocks.{file_of, is_block, per_block, slot_at, slot_opt}
+use Rattle.dms_slots.specs.Seen.{BadAt, BadIn, blocks_of, count_of}
+use Rattle.dms_slots.specs.SlotBlocks.{file_of, is_block, per_block, slot_at, slot_opt, slots_of}
 use Rattle.dms_store.specs.Rows.{AreNumbered, get_in, rec_in, rec_opt}
 use Rattle.dms_store.specs.Serving.{IsServed, IsServedShape}
 use Rattle.dms_store.specs.Spelled.{db_in, file_in}
@@ -40,6 +41,10 @@ module _ {B : Type 0} {g : Ghosts B} where
 
   pub bad_slot : (desc : Described) (set : ℕ) (s : Shape) (at f b : ℕ) (o : Overlay B g) → structure_of desc set ≡ Some s → BadAt s at o f b → BadSlot desc set o f b
   bad_slot desc set s at f b o is bad = (s, is, bad.0)
+
+  -- what is read of the slots of a data set's file
+  abbrev pub seen_slots : Shape → Overlay B g → List SlotRead
+  seen_slots s o = slots_of s (blocks_of s o)
 
   -- how many slots may have a record: those of the file's blocks, up to POPULATION
   abbrev pub most_slots : Shape → Overlay B g → ℕ

@@ -26,7 +26,7 @@ use Rattle.dms_slots.specs.SlotBlocks.{block_of, file_of, per_block, slot_at, sl
 use Rattle.dms_store.specs.Finding.{number_at, served_at}
 use Rattle.dms_store.specs.PuttingAfter.{after_get, counted_none, counted_still, more, owned_none, owned_still, owner_more, slot_after, slot_links, with_record}
 use Rattle.dms_store.specs.PuttingCounts.{stand_linked}
-use Rattle.dms_store.specs.PuttingSlots.{SlotsFit, FileStands, FilesStand, ListsSpell, SlotStands, SpellsFiles, StandsFiles, spell_by, spelled_files, structure_here}
+use Rattle.dms_store.specs.PuttingSlots.{SlotsFit, FileStands, RecordsStand, ListsSpell, SlotStands, SpellsFiles, StandsFiles, spell_by, spelled_files, structure_here}
 use Rattle.dms_store.specs.PuttingSteps.{SlotChanged, step}
 use Rattle.dms_store.specs.Rows.{AreNumbered, rec_in, rec_opt}
 use Rattle.dms_store.specs.Serving.{IsServed}
@@ -104,7 +104,7 @@ module _ (desc : Described) (served : IsServed desc) (db : Db) (own : ℕ → �
       by true e = ap (λ (bs : List (List ℕ)). rec_opt (slot_at s bs n)) (sym (still t s is e))
       by false e = refl
 
-  pub stand_still : FilesStand desc db own c → FilesStand desc db own d
+  pub stand_still : RecordsStand desc db own c → RecordsStand desc db own d
   stand_still files = record {
     each = λ n s at is_set. subst (λ (bs : List (List ℕ)). FileStands desc db own s bs) (sym (still n s at is_set)) (files.each n s at is_set);
     records = λ t n low. files.records t n low ∙ rec_still t n (structure_of desc t) refl;
@@ -217,7 +217,7 @@ module _ (desc : Described) (served : IsServed desc) (db : Db) (c e d : Content)
   }
 
   module _ (held : o ≡ None → owner_stands db.records s.owner rec.owner ≡ true) (lists : ListsPut desc after set c e) (change : SlotChanged s number (slot_after s.items o rec) e d) where
-    slots_after : FilesStand desc after (owned_in desc db) d
+    slots_after : RecordsStand desc after (owned_in desc db) d
     slots_after =
         step desc served db after (owned_in desc db) (owned_in desc db) e d set number s (slot_after s.items o rec) may.at may.is_set may.low change
         (λ p. after_get db set number made p ∙ ap (λ (r : Record). cond (eq_by_cmp place_cmp p (set, number)) (Some r) (get db.records p)) (sym slot_rec)) others_stand (new_stands held)

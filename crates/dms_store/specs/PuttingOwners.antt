@@ -31,7 +31,7 @@ use Rattle.dms_store.specs.PuttingCounts.{of_opt}
 use Rattle.dms_store.specs.PuttingLaws.{MayStand, old_is}
 use Rattle.dms_store.specs.PuttingMany.{owned_few}
 use Rattle.dms_store.specs.PuttingMoved.{own_at, own_here, own_off, owed, owed_opt, owner_kept, owners_after, owners_are, raised}
-use Rattle.dms_store.specs.PuttingSlots.{SlotsFit, FilesStand, ListsSpell, OneFits, SlotStands, StandsFiles, spell_by}
+use Rattle.dms_store.specs.PuttingSlots.{SlotsFit, RecordsStand, ListsSpell, OneFits, SlotStands, StandsFiles, spell_by}
 use Rattle.dms_store.specs.PuttingSteps.{SlotChanged, slot_written, step}
 use Rattle.dms_store.specs.Rows.{rec_in, rec_opt}
 use Rattle.dms_store.specs.Serving.{IsServed}
@@ -104,7 +104,7 @@ module _ (desc : Described) (db : Db) (own : ℕ → ℕ → ℕ) (c d : Content
   new_stands : SlotStands desc db moved u m (record x { owned = k })
   new_stands = record { most = its_slot.most; owner = its_slot.owner; links = its_slot.links; counted = its_slot.counted; owned = sym (own_here own u.number m k) }
 
-  slots_after : FilesStand desc db moved d
+  slots_after : RecordsStand desc db moved d
   slots_after = step desc served db db own moved c d u.number m u (record x { owned = k }) at is_set low change same_get others_stand new_stands files.slots
 
   file_off : (n : ℕ) (t : Shape) → structure_of desc n ≡ Some t → is_data_set (Some t) ≡ false → file_in d t ≡ file_in c t

@@ -47,7 +47,7 @@ pub record FileStands (desc : Described) (db : Db) (own : ℕ → ℕ → ℕ) (
   pub slots : (n : ℕ) (slot : Slot) → 1 ≤ n → slot_at s bs n ≡ Used slot → SlotStands desc db own s n slot
 
 -- the files of all data sets have the records of a database
-pub record FilesStand (desc : Described) (db : Db) (own : ℕ → ℕ → ℕ) (c : Content) : Type 0 where
+pub record RecordsStand (desc : Described) (db : Db) (own : ℕ → ℕ → ℕ) (c : Content) : Type 0 where
   pub each : (n : ℕ) (s : Shape) → structure_of desc n ≡ Some s → is_data_set (Some s) ≡ true → FileStands desc db own s (file_in c s)
   pub records : (set n : ℕ) → 1 ≤ n → get db.records (set, n) ≡ rec_in c (structure_of desc set) n
   pub none : (set : ℕ) → get db.records (set, 0) ≡ None
@@ -68,7 +68,7 @@ SlotsFit desc c = (n : ℕ) → 1 ≤ n → n ≤ 200 → OneFits desc c n
 
 -- The files of a content have the records of a database, where these are the counts of what each record owns.
 pub record StandsFiles (desc : Described) (db : Db) (own : ℕ → ℕ → ℕ) (c : Content) : Type 0 where
-  pub slots : FilesStand desc db own c
+  pub slots : RecordsStand desc db own c
   pub lists : ListsSpell desc db c
   pub fit : SlotsFit desc c
   pub entries : db.entries ≡ []
@@ -160,7 +160,7 @@ none_in : (desc : Described) (c : Content) (t : ℕ) → get (db_in desc c).reco
 unfolding db_in
 none_in desc c t = get-from_entries places_total (rows_in c desc.structures) (t, 0) ∙ rows_none c t desc.structures
 
-files_stand : (desc : Described) (c : Content) → IsServed desc → is_spelled desc c ≡ true → FilesStand desc (db_in desc c) (owned_in desc (db_in desc c)) c
+files_stand : (desc : Described) (c : Content) → IsServed desc → is_spelled desc c ≡ true → RecordsStand desc (db_in desc c) (owned_in desc (db_in desc c)) c
 files_stand desc c served spelt = record {
   each = λ n s at is_set. file_stands desc c n s spelt at is_set;
   records = λ set n low. get_in desc c served.numbered set n low;
@@ -207,7 +207,7 @@ no_manual desc c = refl
 
 -- what the files of a content that spells a database are
 pub record SpellsFiles (desc : Described) (db : Db) (c : Content) : Type 0 where
-  pub slots : FilesStand desc db (owned_in desc db) c
+  pub slots : RecordsStand desc db (owned_in desc db) c
   pub lists : ListsSpell desc db c
   pub fit : SlotsFit desc c
   pub entries : db.entries ≡ []
@@ -247,7 +247,7 @@ module _ (desc : Described) (db : Db) (own : ℕ → ℕ → ℕ) (c : Content) 
       ∙ read_stands desc db s own (1 + i) (slot_at s (file_in c s) (1 + i)) (all_good s (file_in c s) (1 + i) (some_slots desc n s served at) file.blocks)
       (λ slot is. file.slots (1 + i) slot (omega arith) is) (owned (1 + i)))
 
-  file_again : (b k : Bool) (n : ℕ) (s : Shape) → is_data_set (Some s) ≡ b → is_kept s ≡ k → structure_of desc n ≡ Some s → FilesStand desc db own c → ListsSpell desc db c → ((m : ℕ) → own s.number m ≡ owned_in desc db s.number m) → file_spells desc db s (file_in c s) ≡ true
+  file_again : (b k : Bool) (n : ℕ) (s : Shape) → is_data_set (Some s) ≡ b → is_kept s ≡ k → structure_of desc n ≡ Some s → RecordsStand desc db own c → ListsSpell desc db c → ((m : ℕ) → own s.number m ≡ owned_in desc db s.number m) → file_spells desc db s (file_in c s) ≡ true
   file_again true k n s is_set is at slots lists owned =
       let bs = file_in c s in
       let list = is_list_of (list_in (entry_width (kinds_over desc s) s.parts) bs) (entries_of desc db s) in
@@ -265,14 +265,14 @@ module _ (desc : Described) (db : Db) (own : ℕ → ℕ → ℕ) (c : Content) 
       ap (λ b. cond b (list_all (is_block s) bs && slots_stand desc db s 1 (slots_of s bs)) (cond (is_kept s) list (has_none bs))) no_set ∙ ap (λ b. cond b list (has_none bs)) no_list
       ∙ lists.manual n s at no_set no_list
 
-  records_again : FilesStand desc db own c → (db_in desc c).records ≡ db.records
+  records_again : RecordsStand desc db own c → (db_in desc c).records ≡ db.records
   records_again slots = same_map places_total places_same _ _ (λ q. at q.0 q.1)
     where
       at : (set n : ℕ) → get (db_in desc c).records (set, n) ≡ get db.records (set, n)
       at set zero = none_in desc c set ∙ sym (slots.none set)
       at set (suc n) = get_in desc c served.numbered set (suc n) (omega arith) ∙ sym (slots.records set (suc n) (omega arith))
 
-  db_again : FilesStand desc db own c → db.entries ≡ [] → db_in desc c ≡ db
+  db_again : RecordsStand desc db own c → db.entries ≡ [] → db_in desc c ≡ db
   db_again slots none =
       let r = records_again slots in
       let e : (db_in desc c).entries ≡ db.entries = no_manual desc c ∙ sym none in
@@ -292,7 +292,7 @@ module _ (desc : Described) (db : Db) (own : ℕ → ℕ → ℕ) (c : Content) 
       there (Some s) is none = ap (λ x. is_some x || has_none (c (file_of n))) is
 
 -- Files that stand so spell the database.
-pub spelled_again : (desc : Described) (db : Db) (own : ℕ → ℕ → ℕ) (c : Content) → IsServed desc → FilesStand desc db own c → ((set n : ℕ) → 1 ≤ set → own set n ≡ owned_in desc db set n) → db.entries ≡ [] → ListsSpell desc db c → SlotsFit desc c
+pub spelled_again : (desc : Described) (db : Db) (own : ℕ → ℕ → ℕ) (c : Content) → IsServed desc → RecordsStand desc db own c → ((set n : ℕ) → 1 ≤ set → own set n ≡ owned_in desc db set n) → db.entries ≡ [] → ListsSpell desc db c → SlotsFit desc c
     → spelled desc c ≡ Some db
 unfolding is_spelled
 spelled_again desc db own c served slots owned none lists fit =

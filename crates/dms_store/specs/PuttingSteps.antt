@@ -17,7 +17,7 @@ use Rattle.dms_model.specs.Valid.{is_data_set}
 use Rattle.dms_slots.specs.FileWritten.{all_good, put_blocks, put_other, put_used, used_fine}
 use Rattle.dms_slots.specs.SlotBlocks.{MayPutSlot, block_of, file_of, is_block, slot_at, slot_put}
 use Rattle.dms_store.specs.Finding.{number_at, served_at}
-use Rattle.dms_store.specs.PuttingSlots.{FileStands, FilesStand, SlotStands, other_number, other_set, same_at, some_slots}
+use Rattle.dms_store.specs.PuttingSlots.{FileStands, RecordsStand, SlotStands, other_number, other_set, same_at, some_slots}
 use Rattle.dms_store.specs.Rows.{rec_in, rec_opt}
 use Rattle.dms_store.specs.Serving.{IsServed}
 use Rattle.dms_store.specs.Spelled.{file_in}
@@ -102,7 +102,7 @@ module _ (desc : Described) (served : IsServed desc) (db after : Db) (own moved 
   rec_is : (e : Content) (n : ℕ) → rec_in e (structure_of desc set) n ≡ rec_opt (slot_at s (file_in e s) n)
   rec_is e n = ap (λ o. rec_in e o n) at ∙ ap (λ b. cond b (rec_opt (slot_at s (file_in e s) n)) None) is_set
 
-  record_at : (t n : ℕ) → 1 ≤ n → FilesStand desc db own c → get after.records (t, n) ≡ rec_in d (structure_of desc t) n
+  record_at : (t n : ℕ) → 1 ≤ n → RecordsStand desc db own c → get after.records (t, n) ≡ rec_in d (structure_of desc t) n
   record_at t n one files = elim (cases_eq t set) [
     | inl same ↦ elim (cases_eq n number) [
       | inl number_same ↦
@@ -120,7 +120,7 @@ module _ (desc : Described) (served : IsServed desc) (db after : Db) (own moved 
   same_shape n t there e = some_shape s t (sym at ∙ ap (structure_of desc) (sym e) ∙ there)
 
   -- The files have the records with that one.
-  pub step : FilesStand desc db own c → FilesStand desc after moved d
+  pub step : RecordsStand desc db own c → RecordsStand desc after moved d
   step files = record {
     each = λ n t there data_set. elim (cases_eq n set) [
       | inl same ↦ subst (λ (x : Shape). FileStands desc after moved x (file_in d x)) (same_shape n t there same) (file_here (files.each set s at is_set))

@@ -7,9 +7,8 @@ ghost use Rattle.dms_layout.specs.Slots.{slot_width};
 ghost use Rattle.dms_model.specs.Fitting.{IsDataSet, SpotFits, population_of};
 ghost use Rattle.dms_model.specs.Members.{first_member, last_member};
 ghost use Rattle.dms_model.specs.Stores.{Tells};
-ghost use Rattle.dms_slots.specs.Seen.{BadIn, blocks_of};
-ghost use Rattle.dms_slots.specs.SlotBlocks.{slots_of};
-ghost use Rattle.dms_store.specs.Finding.{BadSlot, most_slots};
+ghost use Rattle.dms_slots.specs.Seen.{BadIn};
+ghost use Rattle.dms_store.specs.Finding.{BadSlot, most_slots, seen_slots};
 ghost use Rattle.dms_store.specs.Lifted.{IsUsable, db_of};
 ghost use Rattle.dms_store.specs.Scans.{IsRecordSpot, first_by, last_used, start_of, stop_of};
 
@@ -54,7 +53,7 @@ fn first_in<B: Blocks>(
     requires sound { (under over.old).sound }
     requires few { length s.now.items ≤ 60 }
     requires fits { slot_width s.now.items ≤ 1024 }
-    ensures found { IfOk result (λ o. IsTrue (under over.old).told → o ≡ first_by owner (start_of from.now) (take s.now.population (slots_of (shape_of s.now) (blocks_of (shape_of s.now) over.old)))) }
+    ensures found { IfOk result (λ o. IsTrue (under over.old).told → o ≡ first_by owner (start_of from.now) (take s.now.population (seen_slots (shape_of s.now) over.old))) }
     ensures fits { IfOk result (λ o. IfSome o (IsRecordSpot (shape_of s.now))) }
     ensures reads { ReadsOverlay s.now.population result over.old over.new }
     ensures causes { HasCausesOr (BadIn (shape_of s.now) over.old) result (under over.old) (under over.new) }
@@ -77,7 +76,7 @@ fn last_in<B: Blocks>(
     requires few { length s.now.items ≤ 60 }
     requires fits { slot_width s.now.items ≤ 1024 }
     ensures found { IfOk result (λ o. IsTrue (under over.old).told → o ≡ last_used owner 1
-        (take (min (stop_of to.now (most_slots (shape_of s.now) over.old)) (most_slots (shape_of s.now) over.old)) (slots_of (shape_of s.now) (blocks_of (shape_of s.now) over.old)))) }
+        (take (min (stop_of to.now (most_slots (shape_of s.now) over.old)) (most_slots (shape_of s.now) over.old)) (seen_slots (shape_of s.now) over.old))) }
     ensures fits { IfOk result (λ o. IfSome o (IsRecordSpot (shape_of s.now))) }
     ensures reads { ReadsOverlay s.now.population result over.old over.new }
     ensures causes { HasCausesOr (BadIn (shape_of s.now) over.old) result (under over.old) (under over.new) }

@@ -4,8 +4,8 @@ ghost use Rattle.dms_block.specs.View.{ReadsOverlay, under};
 ghost use Rattle.dms_desc.specs.Shape.{shape_of};
 ghost use Rattle.dms_layout.specs.Slots.{slot_width};
 ghost use Rattle.dms_slots.specs.Seen.{BadIn, blocks_of};
-ghost use Rattle.dms_slots.specs.SlotBlocks.{slot_at, slot_opt, slots_of};
-ghost use Rattle.dms_store.specs.Finding.{most_slots};
+ghost use Rattle.dms_slots.specs.SlotBlocks.{slot_at, slot_opt};
+ghost use Rattle.dms_store.specs.Finding.{most_slots, seen_slots};
 ghost use Rattle.dms_store.specs.Scans.{IsRecordSpot, first_used, last_used, owned_spot};
 
 use dms_block::{BlockFault, Blocks, Overlay};
@@ -78,7 +78,7 @@ pub fn next_used<B: Blocks>(
     requires sound { (under over.old).sound }
     requires few { length s.now.items ≤ 60 }
     requires fits { slot_width s.now.items ≤ 1024 }
-    ensures found { IfOk result (λ o. IsTrue (under over.old).told → o ≡ first_used owner (1 + from) (drop from (take s.now.population (slots_of (shape_of s.now) (blocks_of (shape_of s.now) over.old))))) }
+    ensures found { IfOk result (λ o. IsTrue (under over.old).told → o ≡ first_used owner (1 + from) (drop from (take s.now.population (seen_slots (shape_of s.now) over.old)))) }
     ensures fits { IfOk result (λ o. IfSome o (IsRecordSpot (shape_of s.now))) }
     ensures reads { ReadsOverlay s.now.population result over.old over.new }
     ensures causes { HasCausesOr (BadIn (shape_of s.now) over.old) result (under over.old) (under over.new) }
@@ -106,7 +106,7 @@ pub fn last_used<B: Blocks>(
     requires few { length s.now.items ≤ 60 }
     requires fits { slot_width s.now.items ≤ 1024 }
     requires within { stop ≤ most_slots (shape_of s.now) over.old }
-    ensures found { IfOk result (λ o. IsTrue (under over.old).told → o ≡ last_used owner 1 (take stop (slots_of (shape_of s.now) (blocks_of (shape_of s.now) over.old)))) }
+    ensures found { IfOk result (λ o. IsTrue (under over.old).told → o ≡ last_used owner 1 (take stop (seen_slots (shape_of s.now) over.old))) }
     ensures fits { IfOk result (λ o. IfSome o (IsRecordSpot (shape_of s.now))) }
     ensures reads { ReadsOverlay stop result over.old over.new }
     ensures causes { HasCausesOr (BadIn (shape_of s.now) over.old) result (under over.old) (under over.new) }

@@ -1,94 +1,63 @@
-use Rattle.std.proofs.Common.{Bor, ◌≡◌, ◌∙◌, ℕ, IfOk, IfSome, Option, Some, ap, refl, subst, sym}
-use Rattle.std.specs.Option.{option_copied, option_map}
+use Rattle.std.proofs.Common.{◌∙◌, ℕ, IfOk, IfSome, refl, subst, sym}
 use Rattle.dms_block.specs.Held.{HasCausesOr}
 use Rattle.dms_block.specs.HeldLaws.{causes_or_on, lasts_none, same_none}
 use Rattle.dms_block.specs.View.{ReadsOverlay, under}
-use Rattle.dms_desc.specs.Lookups.{structure_of}
-use Rattle.dms_desc.specs.Shape.{described, shape_of}
-use Rattle.dms_desc.specs.declared.structure.Structure.{Structure}
+use Rattle.dms_desc.specs.Shape.{described}
 use Rattle.dms_model.specs.Fitting.{MayStart, SpotFits}
 use Rattle.dms_model.specs.Members.{first_member}
 use Rattle.dms_model.specs.Stores.{Tells}
 use Rattle.dms_store.specs.Finding.{BadSlot}
 use Rattle.dms_store.specs.Lifted.{db_of}
 use Rattle.dms_store.specs.Listed.{BadPath}
-use Rattle.dms_store.proofs.ByKind.{first_manual, kept_here, kept_reads, number_is, set_here, set_reads, slots_path, there_is}
+use Rattle.dms_store.proofs.ByKind.{first_manual, found_shape, kept_here, kept_reads, number_is, set_here, set_reads, slots_path, there_is}
 use Rattle.dms_store.proofs.paths.first_from.Goals as goal
 
 pub first_record-requires-clause-path : goal.first_record-requires-clause-path
 first_record-requires-clause-path g c =
-    let desc = described c.args.desc.now in
-    let s = shape_of c.in-Some.s.now in
-    let at : structure_of desc c.args.path ≡ Some s = sym c.structure.ensures ∙ ap (λ (o : Option (Bor Structure)). option_map shape_of (option_copied o)) c.in-Some.is in
-    set_here desc c.args.path s c.requires.usable.serves.served at (sym c.is_data_set.ensures ∙ c.if-is_data_set.true)
+    set_here c.args.path c.requires.usable.serves.served (found_shape c.structure.ensures c.in-Some.is) (sym c.is_data_set.ensures ∙ c.if-is_data_set.true)
 
 pub returns-then-is_data_set-clause-reads : goal.returns-then-is_data_set-clause-reads
 returns-then-is_data_set-clause-reads g c =
-    let desc = described c.args.desc.now in
     let o = c.args.over.now in
-    let s = shape_of c.in-Some.s.now in
-    let at : structure_of desc c.args.path ≡ Some s = sym c.structure.ensures ∙ ap (λ (o : Option (Bor Structure)). option_map shape_of (option_copied o)) c.in-Some.is in
-    subst (λ (n : ℕ). ReadsOverlay n c.first_record.result o c.first_record.new.over) (set_reads desc c.args.path s c.requires.usable.serves.served at o (sym c.is_data_set.ensures ∙ c.if-is_data_set.true)) c.first_record.ensures.reads
+    subst (λ (n : ℕ). ReadsOverlay n c.first_record.result o c.first_record.new.over) (set_reads c.args.path c.requires.usable.serves.served (found_shape c.structure.ensures c.in-Some.is) o (sym c.is_data_set.ensures ∙ c.if-is_data_set.true)) c.first_record.ensures.reads
 
 pub returns-then-is_data_set-clause-causes : goal.returns-then-is_data_set-clause-causes
 returns-then-is_data_set-clause-causes g c =
     let desc = described c.args.desc.now in
     let o = c.args.over.now in
-    let s = shape_of c.in-Some.s.now in
-    let at : structure_of desc c.args.path ≡ Some s = sym c.structure.ensures ∙ ap (λ (o : Option (Bor Structure)). option_map shape_of (option_copied o)) c.in-Some.is in
     causes_or_on (BadSlot desc c.args.path o) (BadPath desc c.args.path o) c.first_record.result (under o) (under o) (under c.first_record.new.over)
-    (slots_path desc c.args.path s c.requires.usable.serves.served at o c.requires.usable (sym c.is_data_set.ensures ∙ c.if-is_data_set.true)) refl (lasts_none (under o)) (same_none (under o)) c.first_record.ensures.causes
+    (slots_path c.args.path c.requires.usable.serves.served (found_shape c.structure.ensures c.in-Some.is) o c.requires.usable (sym c.is_data_set.ensures ∙ c.if-is_data_set.true)) refl (lasts_none (under o)) (same_none (under o)) c.first_record.ensures.causes
 
 pub returns-then-is_manual-clause-found : goal.returns-then-is_manual-clause-found
 returns-then-is_manual-clause-found g c may =
-    let desc = described c.args.desc.now in
     let o = c.args.over.now in
-    let s = shape_of c.in-Some.s.now in
-    let at : structure_of desc c.args.path ≡ Some s = sym c.structure.ensures ∙ ap (λ (o : Option (Bor Structure)). option_map shape_of (option_copied o)) c.in-Some.is in
-    first_manual desc c.args.path s c.requires.usable.serves.served at (sym c.is_manual.ensures ∙ c.if-is_manual.true) (under o).told (under o).content c.args.owner c.args.from.now
+    first_manual c.args.path c.requires.usable.serves.served (found_shape c.structure.ensures c.in-Some.is) (sym c.is_manual.ensures ∙ c.if-is_manual.true) (under o).told (under o).content c.args.owner c.args.from.now
 
 pub first_listed-requires-clause-kept : goal.first_listed-requires-clause-kept
 first_listed-requires-clause-kept g c =
-    let desc = described c.args.desc.now in
-    let s = shape_of c.in-Some.s.now in
-    let at : structure_of desc c.args.path ≡ Some s = sym c.structure.ensures ∙ ap (λ (o : Option (Bor Structure)). option_map shape_of (option_copied o)) c.in-Some.is in
-    kept_here desc c.args.path s c.requires.usable.serves.served at (sym c.is_data_set.ensures ∙ c.if-is_data_set.false) (sym c.is_manual.ensures ∙ c.if-is_manual.false)
+    kept_here c.args.path c.requires.usable.serves.served (found_shape c.structure.ensures c.in-Some.is) (sym c.is_data_set.ensures ∙ c.if-is_data_set.false) (sym c.is_manual.ensures ∙ c.if-is_manual.false)
 
 pub first_listed-requires-clause-there : goal.first_listed-requires-clause-there
 first_listed-requires-clause-there g c =
-    let desc = described c.args.desc.now in
-    let s = shape_of c.in-Some.s.now in
-    let at : structure_of desc c.args.path ≡ Some s = sym c.structure.ensures ∙ ap (λ (o : Option (Bor Structure)). option_map shape_of (option_copied o)) c.in-Some.is in
-    there_is desc c.args.path s c.requires.usable.serves.served at
+    there_is c.args.path c.requires.usable.serves.served (found_shape c.structure.ensures c.in-Some.is)
 
 pub returns-else-is_manual-clause-found : goal.returns-else-is_manual-clause-found
 returns-else-is_manual-clause-found g c =
     let desc = described c.args.desc.now in
     let o = c.args.over.now in
-    let s = shape_of c.in-Some.s.now in
-    let at : structure_of desc c.args.path ≡ Some s = sym c.structure.ensures ∙ ap (λ (o : Option (Bor Structure)). option_map shape_of (option_copied o)) c.in-Some.is in
     subst (λ (n : ℕ). MayStart desc n c.args.owner c.args.from.now → Tells (db_of desc (under o).told (under o).content) c.first_listed.result (λ d. first_member desc d n c.args.owner c.args.from.now))
-    (number_is desc c.args.path s c.requires.usable.serves.served at) c.first_listed.ensures.found
+    (number_is c.args.path c.requires.usable.serves.served (found_shape c.structure.ensures c.in-Some.is)) c.first_listed.ensures.found
 
 pub returns-else-is_manual-clause-fits : goal.returns-else-is_manual-clause-fits
 returns-else-is_manual-clause-fits g c =
-    let desc = described c.args.desc.now in
-    let s = shape_of c.in-Some.s.now in
-    let at : structure_of desc c.args.path ≡ Some s = sym c.structure.ensures ∙ ap (λ (o : Option (Bor Structure)). option_map shape_of (option_copied o)) c.in-Some.is in
-    subst (λ (n : ℕ). IfOk c.first_listed.result (λ o. IfSome o (SpotFits desc n))) (number_is desc c.args.path s c.requires.usable.serves.served at) c.first_listed.ensures.fits
+    subst (λ (n : ℕ). IfOk c.first_listed.result (λ o. IfSome o (SpotFits (described c.args.desc.now) n))) (number_is c.args.path c.requires.usable.serves.served (found_shape c.structure.ensures c.in-Some.is)) c.first_listed.ensures.fits
 
 pub returns-else-is_manual-clause-reads : goal.returns-else-is_manual-clause-reads
 returns-else-is_manual-clause-reads g c =
-    let desc = described c.args.desc.now in
     let o = c.args.over.now in
-    let s = shape_of c.in-Some.s.now in
-    let at : structure_of desc c.args.path ≡ Some s = sym c.structure.ensures ∙ ap (λ (o : Option (Bor Structure)). option_map shape_of (option_copied o)) c.in-Some.is in
-    subst (λ (n : ℕ). ReadsOverlay n c.first_listed.result o c.first_listed.new.over) (kept_reads desc c.args.path s c.requires.usable.serves.served at o (sym c.is_data_set.ensures ∙ c.if-is_data_set.false)) c.first_listed.ensures.reads
+    subst (λ (n : ℕ). ReadsOverlay n c.first_listed.result o c.first_listed.new.over) (kept_reads c.args.path c.requires.usable.serves.served (found_shape c.structure.ensures c.in-Some.is) o (sym c.is_data_set.ensures ∙ c.if-is_data_set.false)) c.first_listed.ensures.reads
 
 pub returns-else-is_manual-clause-causes : goal.returns-else-is_manual-clause-causes
 returns-else-is_manual-clause-causes g c =
-    let desc = described c.args.desc.now in
     let o = c.args.over.now in
-    let s = shape_of c.in-Some.s.now in
-    let at : structure_of desc c.args.path ≡ Some s = sym c.structure.ensures ∙ ap (λ (o : Option (Bor Structure)). option_map shape_of (option_copied o)) c.in-Some.is in
-    subst (λ (n : ℕ). HasCausesOr (BadPath desc n o) c.first_listed.result (under o) (under c.first_listed.new.over)) (number_is desc c.args.path s c.requires.usable.serves.served at) c.first_listed.ensures.causes
+    subst (λ (n : ℕ). HasCausesOr (BadPath (described c.args.desc.now) n o) c.first_listed.result (under o) (under c.first_listed.new.over)) (number_is c.args.path c.requires.usable.serves.served (found_shape c.structure.ensures c.in-Some.is)) c.first_listed.ensures.causes
