@@ -38,4 +38,4 @@ returns-in-Ok-clause-room g c = one_if_err c.plan_scanned.result c.plan_scanned.
     plan_has_room _ _ _ _ _ (why tells (read_at _ _ _ _ _ _ (s.files tells) (s.found tells) (s.places tells) (s.stays tells))) full)
 
 pub returns-in-Err-clause-room : goal.returns-in-Err-clause-room
-returns-in-Err-clause-room g c tells full = scan_has_room _ _ _ (c.in-Err.ensures.refused tells) full
+returns-in-Err-clause-room g c tells full = scan_has_room (g.S.Site.files c.args.found.site) _ 9999 (c.in-Err.ensures.refused tells) full
