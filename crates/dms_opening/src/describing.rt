@@ -9,7 +9,7 @@ ghost use Rattle.dms_history.specs.EntryEvents.{live_of};
 ghost use Rattle.dms_history.specs.SchemaAt.{schema_at};
 ghost use Rattle.dms_audrec.specs.Seen.{entry_seen};
 ghost use Rattle.dms_audfile.specs.Counting.{CountedAt};
-ghost use Rattle.dms_audfile.specs.Reads.{OnlyReads};
+ghost use Rattle.dms_audfile.specs.Reads.{ReadsAlone};
 ghost use Rattle.dms_audfile.specs.Scanning.{Placed, place_in, entry_in};
 ghost use Rattle.dms_audfile.specs.AuditTrail.{AreThere, entry_there};
 ghost use Rattle.dms_audfile.specs.EntryReading.{IsCurrent};
@@ -69,7 +69,7 @@ fn read_part<S: Site>(
         → bytes.new.items ≡ bytes.old.items ++ part_bytes (e ∷ [])) }
     ensures only { IfErr result (λ e. (e ≡ AudFault.Disk) ⊎ ((e ≡ AudFault.Memory) ⊎ ((e ≡ AudFault.Damaged place.now.file place.now.block)
         × (IsTrue S.tells → IsCurrent reader.old (S.files site.old) → HasNoEntry (S.files site.old) place.now)))) }
-    ensures reads { OnlyReads S.tells (S.files site.old) (S.files site.new) (S.said site.old) (S.said site.new) (S.clock site.old) (S.clock site.new) (S.disk_faults site.old) (S.disk_faults site.new) (S.say_faults site.old) (S.say_faults site.new) }
+    ensures reads { ReadsAlone S.Site site.old site.new }
     ensures same_site { S.same_site site.old site.new }
     ensures disk { CountedAt (IsErrOf result AudFault.Disk) (S.disk_faults site.old) (S.disk_faults site.new) }
 {
@@ -94,7 +94,7 @@ fn read_parts<S: Site>(
 ) -> Result<Vec<u8>, AudFault>
     ensures bytes { IfOk result (λ v. IsTrue S.tells → (placed : List Placed) → parts.now ≡ map place_in placed → AreThere (S.files site.old) placed → v.items ≡ part_bytes (map entry_in placed)) }
     ensures only { IfErr result (λ e. (e ≡ AudFault.Disk) ⊎ ((e ≡ AudFault.Memory) ⊎ IsNoEntryOf S.tells (S.files site.old) parts.now e)) }
-    ensures reads { OnlyReads S.tells (S.files site.old) (S.files site.new) (S.said site.old) (S.said site.new) (S.clock site.old) (S.clock site.new) (S.disk_faults site.old) (S.disk_faults site.new) (S.say_faults site.old) (S.say_faults site.new) }
+    ensures reads { ReadsAlone S.Site site.old site.new }
     ensures same_site { S.same_site site.old site.new }
     ensures disk { CountedAt (IsErrOf result AudFault.Disk) (S.disk_faults site.old) (S.disk_faults site.new) }
 {
@@ -134,7 +134,7 @@ pub fn read_schema<S: Site>(
 ) -> Result<Vec<u8>, AudFault>
     ensures bytes { IfOk result (λ v. IsTrue S.tells → (placed : List Placed) → places.now ≡ map place_in placed → AreThere (S.files site.old) placed → span_bytes (map entry_in placed) (Some span.now) ≡ Some v.items) }
     ensures only { IfErr result (λ e. (e ≡ AudFault.Disk) ⊎ ((e ≡ AudFault.Memory) ⊎ IsNoEntryOf S.tells (S.files site.old) places.now e)) }
-    ensures reads { OnlyReads S.tells (S.files site.old) (S.files site.new) (S.said site.old) (S.said site.new) (S.clock site.old) (S.clock site.new) (S.disk_faults site.old) (S.disk_faults site.new) (S.say_faults site.old) (S.say_faults site.new) }
+    ensures reads { ReadsAlone S.Site site.old site.new }
     ensures same_site { S.same_site site.old site.new }
     ensures disk { CountedAt (IsErrOf result AudFault.Disk) (S.disk_faults site.old) (S.disk_faults site.new) }
 {

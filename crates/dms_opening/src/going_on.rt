@@ -31,14 +31,14 @@ pub fn go_on<S: Site>(
     requires few { length description.now ≤ 65535 }
     requires control { IsEntry (control_point point next (counts_at (length counts.now / 8) counts.now)) }
     requires size { length counts.now ≤ 1600 }
-    ensures opened { IfOk result (λ l. (p : Pending) → IsTrue S.tells → MayEnd p (view begun.log.end begun.log.first (S.files begun.log.site) (S.clock begun.log.site)) table.now point next counts.now
-        → OpenedAt p (view begun.log.end begun.log.first (S.files begun.log.site) (S.clock begun.log.site)) (view l.end l.first (S.files l.site) (S.clock l.site)) (schema_control description.now point next counts.now)) }
-    ensures moments { IfOk result (λ l. (p : Pending) → IsTrue S.tells → MayEnd p (view begun.log.end begun.log.first (S.files begun.log.site) (S.clock begun.log.site)) table.now point next counts.now
-        → LeavesEach (view begun.log.end begun.log.first (S.files begun.log.site) (S.clock begun.log.site)) (view l.end l.first (S.files l.site) (S.clock l.site))) }
-    ensures stopped { IfErr result (λ e. (p : Pending) → IsTrue S.tells → MayEnd p (view begun.log.end begun.log.first (S.files begun.log.site) (S.clock begun.log.site)) table.now point next counts.now
-        → LeavesEach (view begun.log.end begun.log.first (S.files begun.log.site) (S.clock begun.log.site)) (view e.1.end e.1.first (S.files e.1.site) (S.clock e.1.site))) }
-    ensures silent { IfOk result (λ l. (p : Pending) → IsTrue S.tells → MayEnd p (view begun.log.end begun.log.first (S.files begun.log.site) (S.clock begun.log.site)) table.now point next counts.now → Steps PrintsNothing (S.clock begun.log.site) (S.clock l.site)) }
-    ensures silent_then { IfErr result (λ e. (p : Pending) → IsTrue S.tells → MayEnd p (view begun.log.end begun.log.first (S.files begun.log.site) (S.clock begun.log.site)) table.now point next counts.now → Steps PrintsNothing (S.clock begun.log.site) (S.clock e.1.site)) }
+    ensures opened { IfOk result (λ l. (p : Pending) → IsTrue S.tells → MayEnd p (view_of S.Site begun.log) table.now point next counts.now
+        → OpenedAt p (view_of S.Site begun.log) (view_of S.Site l) (schema_control description.now point next counts.now)) }
+    ensures moments { IfOk result (λ l. (p : Pending) → IsTrue S.tells → MayEnd p (view_of S.Site begun.log) table.now point next counts.now
+        → LeavesEach (view_of S.Site begun.log) (view_of S.Site l)) }
+    ensures stopped { IfErr result (λ e. (p : Pending) → IsTrue S.tells → MayEnd p (view_of S.Site begun.log) table.now point next counts.now
+        → LeavesEach (view_of S.Site begun.log) (view_of S.Site e.1)) }
+    ensures silent { IfOk result (λ l. (p : Pending) → IsTrue S.tells → MayEnd p (view_of S.Site begun.log) table.now point next counts.now → Steps PrintsNothing (S.clock begun.log.site) (S.clock l.site)) }
+    ensures silent_then { IfErr result (λ e. (p : Pending) → IsTrue S.tells → MayEnd p (view_of S.Site begun.log) table.now point next counts.now → Steps PrintsNothing (S.clock begun.log.site) (S.clock e.1.site)) }
     ensures same { IfOk result (λ l. S.same_site begun.log.site l.site) }
     ensures same_then { IfErr result (λ e. S.same_site begun.log.site e.1.site) }
     ensures said { IfOk result (λ l. S.said l.site ≡ S.said begun.log.site) }

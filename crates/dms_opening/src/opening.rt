@@ -20,7 +20,7 @@ pub fn log_of<S: Site>(site: S, end: AuditEnd, first: u32) -> Log<S>
     ensures end { result.end ≡ end }
     ensures first { result.first ≡ first }
     ensures runs { IsTrue S.tells → IsAtStart end first (S.files site) (S.clock site) → IsWhole (telling_of end.total first) (S.files site)
-        → (history_of (trail_entries end.total first (S.files site))).pending ≡ None → LogRuns (view result.end result.first (S.files result.site) (S.clock result.site)) }
+        → (history_of (trail_entries end.total first (S.files site))).pending ≡ None → LogRuns (view_of S.Site result) }
 {
     Log { site, end, first }
 }
@@ -28,9 +28,9 @@ pub fn log_of<S: Site>(site: S, end: AuditEnd, first: u32) -> Log<S>
 /// Goes on with a restore by the audit that is pending.
 pub fn resume_log<S: Site>(log: Log<S>) -> Begun<S>
     ensures log { result.log ≡ log }
-    ensures begun { (p : Pending) → IsTrue S.tells → IsAtStart log.end log.first (S.files log.site) (S.clock log.site) → IsWhole (telling_of log.end.total log.first) (S.files log.site)
+    ensures begun { (p : Pending) → IsTrue S.tells → LogStarts (view_of S.Site log) → IsWhole (telling_of log.end.total log.first) (S.files log.site)
         → (history_of (trail_entries log.end.total log.first (S.files log.site))).pending ≡ Some p → ByAudit p.how
-        → BegunAt p (view result.log.end result.log.first (S.files result.log.site) (S.clock result.log.site)) }
+        → BegunAt p (view_of S.Site result.log) }
 {
     Begun { log }
 }

@@ -9,7 +9,7 @@ ghost use Rattle.dms_history.specs.Pick.{count_at};
 ghost use Rattle.dms_history.specs.Places.{IsLive};
 ghost use Rattle.dms_history.specs.SchemaAt.{schema_at};
 ghost use Rattle.dms_audfile.specs.Counting.{CountedAt};
-ghost use Rattle.dms_audfile.specs.Reads.{OnlyReads};
+ghost use Rattle.dms_audfile.specs.Reads.{ReadsAlone};
 ghost use Rattle.dms_audfile.specs.TrailEntries.{trail_entries};
 ghost use Rattle.dms_restore.specs.Counts.{count_of};
 ghost use Rattle.dms_opening.specs.PointCounts.{AllAtMost};
@@ -73,7 +73,7 @@ fn read_description<S: Site>(
     ensures few { IfOk result (λ v. length v.items ≤ 65535) }
     ensures only { IfErr result (λ e. IsTrue S.tells → (total : ℕ) → IsTrailRead total first (S.files site.old) places.now trace.now → IsLive (live_of (trail_entries total first (S.files site.old))) point
         → IsPlainFault e ⊎ ((e ≡ OpenFault.Audit (AudFault.Damaged first 0)) × HasNoDescriptionAt (trail_entries total first (S.files site.old)) point)) }
-    ensures reads { OnlyReads S.tells (S.files site.old) (S.files site.new) (S.said site.old) (S.said site.new) (S.clock site.old) (S.clock site.new) (S.disk_faults site.old) (S.disk_faults site.new) (S.say_faults site.old) (S.say_faults site.new) }
+    ensures reads { ReadsAlone S.Site site.old site.new }
     ensures same_site { S.same_site site.old site.new }
     ensures disk { CountedAt (IsErrOf result (OpenFault.Audit AudFault.Disk)) (S.disk_faults site.old) (S.disk_faults site.new) }
 {
@@ -106,7 +106,7 @@ fn prepare_restore<S: Site>(
     ensures small { IfOk result (λ x. AllAtMost x.1.items) }
     ensures only { IfErr result (λ e. IsTrue S.tells → (entries : List meaning.Entry) (p : Pending) → IsTraced (S.files site.old) entries history → IsOpening (history_of entries) choice.now.begins choice.now.point p
         → IsPlainFault e) }
-    ensures reads { OnlyReads S.tells (S.files site.old) (S.files site.new) (S.said site.old) (S.said site.new) (S.clock site.old) (S.clock site.new) (S.disk_faults site.old) (S.disk_faults site.new) (S.say_faults site.old) (S.say_faults site.new) }
+    ensures reads { ReadsAlone S.Site site.old site.new }
     ensures same_site { S.same_site site.old site.new }
     ensures disk { CountedAt (IsErrOf result (OpenFault.Audit AudFault.Disk)) (S.disk_faults site.old) (S.disk_faults site.new) }
 {
@@ -136,7 +136,7 @@ pub fn prepare<S: Site>(
     ensures plans { IfOk result (λ plan. IsTrue S.tells → (total : ℕ) → IsTrailRead total first (S.files site.old) places.now trace → Plans total first (S.files site.old) plan) }
     ensures fit { IfOk result FitsOpening }
     ensures refused { IfErr result (λ e. IsTrue S.tells → (total : ℕ) → IsTrailRead total first (S.files site.old) places.now trace → RefusesPlan total first (S.files site.old) e) }
-    ensures reads { OnlyReads S.tells (S.files site.old) (S.files site.new) (S.said site.old) (S.said site.new) (S.clock site.old) (S.clock site.new) (S.disk_faults site.old) (S.disk_faults site.new) (S.say_faults site.old) (S.say_faults site.new) }
+    ensures reads { ReadsAlone S.Site site.old site.new }
     ensures same_site { S.same_site site.old site.new }
     ensures disk { CountedAt (IsErrOf result (OpenFault.Audit AudFault.Disk)) (S.disk_faults site.old) (S.disk_faults site.new) }
 {

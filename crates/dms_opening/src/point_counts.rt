@@ -8,7 +8,7 @@ ghost use Rattle.dms_history.specs.Pick.{reached_count};
 ghost use Rattle.dms_audrec.specs.Reading.{counts_at};
 ghost use Rattle.dms_audrec.specs.Spelling.{counts_rise};
 ghost use Rattle.dms_audfile.specs.Counting.{CountedAt};
-ghost use Rattle.dms_audfile.specs.Reads.{OnlyReads};
+ghost use Rattle.dms_audfile.specs.Reads.{ReadsAlone};
 ghost use Rattle.dms_restore.specs.Counts.{count_of};
 ghost use Rattle.dms_opening.specs.PointCounts.{AllAtMost, HasNoCounts, HasNoCount, IsNoCount, IsNoCountAmong};
 ghost use Rattle.dms_restore.specs.LiveEntries.{event_at, events_at};
@@ -78,7 +78,7 @@ fn read_list<S: Site>(site: &mut S, control: &ControlAt, list: &mut [u8]) -> Res
     ensures bytes { IfOk result (λ whole. IsTrue whole → IsTrue S.tells → list.new ≡ range control.now.at (length list.old) (S.files site.old control.now.audit)) }
     ensures short { IfOk result (λ whole. whole ≡ false → IsTrue S.tells → length (range control.now.at (length list.old) (S.files site.old control.now.audit)) < length list.old) }
     ensures only { IfErr result (λ e. e ≡ AudFault.Disk) }
-    ensures reads { OnlyReads S.tells (S.files site.old) (S.files site.new) (S.said site.old) (S.said site.new) (S.clock site.old) (S.clock site.new) (S.disk_faults site.old) (S.disk_faults site.new) (S.say_faults site.old) (S.say_faults site.new) }
+    ensures reads { ReadsAlone S.Site site.old site.new }
     ensures same_site { S.same_site site.old site.new }
     ensures disk { CountedAt (IsErrOf result AudFault.Disk) (S.disk_faults site.old) (S.disk_faults site.new) }
 {
@@ -100,7 +100,7 @@ fn read_counts<S: Site>(
     ensures counts { OnOk result (IsTrue S.tells → (f : ℕ) → count_of counts.new f ≡ counts_in (counts_at (control.now.size / 8) (range control.now.at control.now.size (S.files site.old control.now.audit))) f) }
     ensures small { OnOk result (AllAtMost counts.new) }
     ensures only { IfErr result (λ e. (e ≡ AudFault.Disk) ⊎ ((e ≡ AudFault.Damaged control.now.audit 0) × HasNoCounts S.tells (S.files site.old) control.now)) }
-    ensures reads { OnlyReads S.tells (S.files site.old) (S.files site.new) (S.said site.old) (S.said site.new) (S.clock site.old) (S.clock site.new) (S.disk_faults site.old) (S.disk_faults site.new) (S.say_faults site.old) (S.say_faults site.new) }
+    ensures reads { ReadsAlone S.Site site.old site.new }
     ensures same_site { S.same_site site.old site.new }
     ensures disk { CountedAt (IsErrOf result AudFault.Disk) (S.disk_faults site.old) (S.disk_faults site.new) }
 {
@@ -144,7 +144,7 @@ fn count_entry<S: Site>(site: &mut S, entry: &LiveEntry, counts: &mut [u32]) -> 
     ensures counts { OnOk result (IsTrue S.tells → (f : ℕ) → count_of counts.new f ≡ reached_count f (count_of counts.old f) (event_at (S.files site.old) entry.now ∷ [])) }
     ensures small { OnOk result (AllAtMost counts.old → AllAtMost counts.new) }
     ensures only { IfErr result (λ e. (e ≡ AudFault.Disk) ⊎ IsNoCount S.tells (S.files site.old) entry.now e) }
-    ensures reads { OnlyReads S.tells (S.files site.old) (S.files site.new) (S.said site.old) (S.said site.new) (S.clock site.old) (S.clock site.new) (S.disk_faults site.old) (S.disk_faults site.new) (S.say_faults site.old) (S.say_faults site.new) }
+    ensures reads { ReadsAlone S.Site site.old site.new }
     ensures same_site { S.same_site site.old site.new }
     ensures disk { CountedAt (IsErrOf result AudFault.Disk) (S.disk_faults site.old) (S.disk_faults site.new) }
 {
@@ -181,7 +181,7 @@ fn count_all<S: Site>(site: &mut S, live: &[LiveEntry], counts: &mut [u32]) -> R
     ensures counts { OnOk result (IsTrue S.tells → (f : ℕ) → count_of counts.new f ≡ reached_count f (count_of counts.old f) (events_at (S.files site.old) live.now)) }
     ensures small { OnOk result (AllAtMost counts.old → AllAtMost counts.new) }
     ensures only { IfErr result (λ e. (e ≡ AudFault.Disk) ⊎ IsNoCountAmong S.tells (S.files site.old) live.now e) }
-    ensures reads { OnlyReads S.tells (S.files site.old) (S.files site.new) (S.said site.old) (S.said site.new) (S.clock site.old) (S.clock site.new) (S.disk_faults site.old) (S.disk_faults site.new) (S.say_faults site.old) (S.say_faults site.new) }
+    ensures reads { ReadsAlone S.Site site.old site.new }
     ensures same_site { S.same_site site.old site.new }
     ensures disk { CountedAt (IsErrOf result AudFault.Disk) (S.disk_faults site.old) (S.disk_faults site.new) }
 {
@@ -207,7 +207,7 @@ pub fn counts_after<S: Site>(
     ensures size { IfOk result (λ v. length v.items ≡ 200) }
     ensures small { IfOk result (λ v. AllAtMost v.items) }
     ensures only { IfErr result (λ e. (e ≡ AudFault.Disk) ⊎ ((e ≡ AudFault.Memory) ⊎ IsNoCountAmong S.tells (S.files site.old) live.now e)) }
-    ensures reads { OnlyReads S.tells (S.files site.old) (S.files site.new) (S.said site.old) (S.said site.new) (S.clock site.old) (S.clock site.new) (S.disk_faults site.old) (S.disk_faults site.new) (S.say_faults site.old) (S.say_faults site.new) }
+    ensures reads { ReadsAlone S.Site site.old site.new }
     ensures same_site { S.same_site site.old site.new }
     ensures disk { CountedAt (IsErrOf result AudFault.Disk) (S.disk_faults site.old) (S.disk_faults site.new) }
 {

@@ -7,7 +7,7 @@ ghost use Rattle.dms_history.specs.Pick.{count_at};
 ghost use Rattle.dms_history.specs.Entries as meaning;
 ghost use Rattle.dms_history.specs.EntryEvents.{history_of};
 ghost use Rattle.dms_audfile.specs.Counting.{CountedAt};
-ghost use Rattle.dms_audfile.specs.Reads.{OnlyReads};
+ghost use Rattle.dms_audfile.specs.Reads.{ReadsAlone};
 ghost use Rattle.dms_restore.specs.Counts.{count_of};
 ghost use Rattle.dms_opening.specs.PointCounts.{AllAtMost, IsNoCountAmong};
 ghost use Rattle.dms_opening.specs.Refusals.{IsOpening};
@@ -83,7 +83,7 @@ pub fn pending_counts<S: Site>(
     ensures small { IfOk result (λ v. AllAtMost v.items) }
     ensures only { IfErr result (λ e. (e ≡ AudFault.Disk) ⊎ ((e ≡ AudFault.Memory) ⊎ IsNoCountAmong S.tells (S.files site.old) history.now.live.items e)) }
     ensures scanned { IfErr result (λ e. IsTrue S.tells → (p : Pending) → TracesPending (S.files site.old) history.now p → (e ≡ AudFault.Disk) ⊎ (e ≡ AudFault.Memory)) }
-    ensures reads { OnlyReads S.tells (S.files site.old) (S.files site.new) (S.said site.old) (S.said site.new) (S.clock site.old) (S.clock site.new) (S.disk_faults site.old) (S.disk_faults site.new) (S.say_faults site.old) (S.say_faults site.new) }
+    ensures reads { ReadsAlone S.Site site.old site.new }
     ensures same_site { S.same_site site.old site.new }
     ensures disk { CountedAt (IsErrOf result AudFault.Disk) (S.disk_faults site.old) (S.disk_faults site.new) }
 {

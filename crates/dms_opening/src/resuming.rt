@@ -36,9 +36,9 @@ impl<S: Site> Scanned<S> {
     /// Makes no call of the site. Answers Memory, and Damaged where an Image isn't of a block of a structure file.
     pub fn resume(self, alloc: Global) -> Result<Resumed<S>, (AudFault, Scanned<S>)>
         ensures log { IfOk result (λ r. r.begun.log ≡ self.log) }
-        ensures begun { IfOk result (λ r. (p : Pending) → IsTrue S.tells → IsAtStart self.log.end self.log.first (S.files self.log.site) (S.clock self.log.site)
+        ensures begun { IfOk result (λ r. (p : Pending) → IsTrue S.tells → LogStarts (view_of S.Site self.log)
             → IsWhole (telling_of self.log.end.total self.log.first) (S.files self.log.site) → (history_of (trail_entries self.log.end.total self.log.first (S.files self.log.site))).pending ≡ Some p → ByAudit p.how
-            → BegunAt p (view r.begun.log.end r.begun.log.first (S.files r.begun.log.site) (S.clock r.begun.log.site))) }
+            → BegunAt p (view_of S.Site r.begun.log)) }
         ensures blocks { IfOk result (λ r. AreBlocks r.table.items) }
         ensures table { IfOk result (λ r. (files : Files) (entries : List meaning.Entry) (p : Pending) → IsTraced files entries self.trace.history → (history_of entries).pending ≡ Some p
             → IsTable p.entries p.point files r.table.items) }

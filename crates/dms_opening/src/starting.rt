@@ -23,19 +23,19 @@ use dms_site::Site;
 /// Going on makes no call of the site. Answers Disk where a call of the site failed, and else Full where the audit has no room for
 /// the Begin.
 pub fn start<S: Site>(log: Log<S>, begins: bool, point: u64) -> Result<Begun<S>, (AudFault, Log<S>)>
-    ensures begun { IfOk result (λ b. (p : Pending) → IsTrue S.tells → MayOpen (view log.end log.first (S.files log.site) (S.clock log.site)) begins point p
-        → BegunAt p (view b.log.end b.log.first (S.files b.log.site) (S.clock b.log.site))) }
-    ensures keeps { IfOk result (λ b. (p : Pending) → IsTrue S.tells → MayOpen (view log.end log.first (S.files log.site) (S.clock log.site)) begins point p
-        → BegunFrom p (view log.end log.first (S.files log.site) (S.clock log.site)) (view b.log.end b.log.first (S.files b.log.site) (S.clock b.log.site))) }
-    ensures sealed { IfOk result (λ b. IsTrue S.tells → IsAtStart log.end log.first (S.files log.site) (S.clock log.site)
+    ensures begun { IfOk result (λ b. (p : Pending) → IsTrue S.tells → MayOpen (view_of S.Site log) begins point p
+        → BegunAt p (view_of S.Site b.log)) }
+    ensures keeps { IfOk result (λ b. (p : Pending) → IsTrue S.tells → MayOpen (view_of S.Site log) begins point p
+        → BegunFrom p (view_of S.Site log) (view_of S.Site b.log)) }
+    ensures sealed { IfOk result (λ b. IsTrue S.tells → LogStarts (view_of S.Site log)
         → trail_entries log.end.total log.first (S.files b.log.site) ≡ trail_entries log.end.total log.first (S.files log.site) ++ (if begins then begin_restore point by_halt_load ∷ [] else [])) }
-    ensures grown { IfOk result (λ b. IsTrue S.tells → IsAtStart log.end log.first (S.files log.site) (S.clock log.site) → Grown log.end.total log.first (S.files log.site) (S.files b.log.site)) }
-    ensures moments { IfOk result (λ b. (p : Pending) → IsTrue S.tells → MayOpen (view log.end log.first (S.files log.site) (S.clock log.site)) begins point p
-        → LeavesEach (view log.end log.first (S.files log.site) (S.clock log.site)) (view b.log.end b.log.first (S.files b.log.site) (S.clock b.log.site))) }
-    ensures stopped { IfErr result (λ e. (p : Pending) → IsTrue S.tells → MayOpen (view log.end log.first (S.files log.site) (S.clock log.site)) begins point p
-        → LeavesEach (view log.end log.first (S.files log.site) (S.clock log.site)) (view e.1.end e.1.first (S.files e.1.site) (S.clock e.1.site))) }
-    ensures silent { IfOk result (λ b. IsTrue S.tells → IsAtStart log.end log.first (S.files log.site) (S.clock log.site) → Steps PrintsNothing (S.clock log.site) (S.clock b.log.site)) }
-    ensures silent_then { IfErr result (λ e. IsTrue S.tells → IsAtStart log.end log.first (S.files log.site) (S.clock log.site) → Steps PrintsNothing (S.clock log.site) (S.clock e.1.site)) }
+    ensures grown { IfOk result (λ b. IsTrue S.tells → LogStarts (view_of S.Site log) → Grown log.end.total log.first (S.files log.site) (S.files b.log.site)) }
+    ensures moments { IfOk result (λ b. (p : Pending) → IsTrue S.tells → MayOpen (view_of S.Site log) begins point p
+        → LeavesEach (view_of S.Site log) (view_of S.Site b.log)) }
+    ensures stopped { IfErr result (λ e. (p : Pending) → IsTrue S.tells → MayOpen (view_of S.Site log) begins point p
+        → LeavesEach (view_of S.Site log) (view_of S.Site e.1)) }
+    ensures silent { IfOk result (λ b. IsTrue S.tells → LogStarts (view_of S.Site log) → Steps PrintsNothing (S.clock log.site) (S.clock b.log.site)) }
+    ensures silent_then { IfErr result (λ e. IsTrue S.tells → LogStarts (view_of S.Site log) → Steps PrintsNothing (S.clock log.site) (S.clock e.1.site)) }
     ensures same { IfOk result (λ b. S.same_site log.site b.log.site) }
     ensures same_then { IfErr result (λ e. S.same_site log.site e.1.site) }
     ensures said { IfOk result (λ b. S.said b.log.site ≡ S.said log.site) }
