@@ -1,11 +1,14 @@
 -- An opening that finds no room in its audit.
-use Rattle.std.proofs.Common.{ℕ, ◌-◌, ◌≡◌, inl, inr, sym, ◌∙◌, subst}
+use Rattle.std.proofs.Common.{ℕ, ◌+◌, ◌-◌, ◌<◌, ◌≡◌, inl, inr, sym, ◌∙◌, ap, subst, arith}
 use Rattle.dms_site.specs.Files.{Files}
 use Rattle.dms_audfile.specs.Reads.{Refuses}
 use Rattle.dms_audfile.specs.declared.fault.AudFault.{AudFault}
 use Rattle.dms_audfile.specs.declared.fault.AudFault.TheVariants as aud
 use Rattle.dms_opening.specs.declared.choosing.OpenFault.{OpenFault}
 use Rattle.dms_opening.specs.declared.choosing.OpenFault.TheVariants.{Audit, ByDump}
+use Rattle.dms_restore.specs.Logging.{LogView, Ends}
+use Rattle.dms_wal.specs.Closing.{IsFullTrail}
+use Rattle.dms_wal.proofs.Closed.{full_trail}
 use Rattle.dms_opening.specs.Choices.{IsOfPoint}
 use Rattle.dms_opening.specs.Refusals.{RefusedPoint}
 use Rattle.dms_opening.specs.Plans.{RefusesPlan}
@@ -50,3 +53,12 @@ plan_has_room total first n files fault refuses full = elim refuses [
 
     no_damage : Audit (aud.Damaged first 0) ≡ Audit (aud.Full n) → ⊥
     no_damage e = absurd cc
+
+-- ---- where it finds none
+
+pub as_limit : (limit : ℕ) (e : AudFault) → limit ≡ 9999 → Audit e ≡ Audit (aud.Full 9999) → e ≡ aud.Full limit
+as_limit limit e is full = audit_is e (aud.Full 9999) full ∙ ap (λ n. aud.Full n) (sym is)
+
+-- the trail ends behind the last file that may be written
+pub full_by : (a b : LogView) (limit : ℕ) → limit ≡ 9999 → b.end.total ≡ a.end.total → b.first ≡ a.first → 10000 + limit < b.end.file → Ends b → IsFullTrail a b.files
+full_by a b limit is total first beyond ends = full_trail a b total first (omega (arith, beyond, is)) ends

@@ -1,13 +1,13 @@
 //! A restore that is begun goes on to its Control.
 
 ghost use Rattle.std.specs.Prelude.{◌≡◌, ◌⊎◌, ◌+◌, ◌/◌, ◌<◌, ◌≤◌, length, IfOk, IfErr, IsTrue};
-ghost use Rattle.dms_moments.specs.Moments.{Steps};
 ghost use Rattle.dms_history.specs.History.{Pending};
 ghost use Rattle.dms_history.specs.Entries.{control_point};
 ghost use Rattle.dms_audrec.specs.Spelling.{IsEntry};
 ghost use Rattle.dms_audrec.specs.Reading.{counts_at};
 ghost use Rattle.dms_audfile.specs.Counting.{CountedAt};
-ghost use Rattle.dms_restore.specs.Logging.{view, PrintsNothing};
+ghost use Rattle.dms_restore.specs.Logging.{Ends, EndsSealed};
+ghost use Rattle.dms_restore.specs.Views.{view_of, StaysSilent, IsSameTrail};
 ghost use Rattle.dms_restore.specs.Laying.{schema_control};
 ghost use Rattle.dms_restore.specs.Begins.{LeavesEach};
 ghost use Rattle.dms_opening.specs.Starts.{MayEnd, OpenedAt};
@@ -37,8 +37,8 @@ pub fn go_on<S: Site>(
         → LeavesEach (view_of S.Site begun.log) (view_of S.Site l)) }
     ensures stopped { IfErr result (λ e. (p : Pending) → IsTrue S.tells → MayEnd p (view_of S.Site begun.log) table.now point next counts.now
         → LeavesEach (view_of S.Site begun.log) (view_of S.Site e.1)) }
-    ensures silent { IfOk result (λ l. (p : Pending) → IsTrue S.tells → MayEnd p (view_of S.Site begun.log) table.now point next counts.now → Steps PrintsNothing (S.clock begun.log.site) (S.clock l.site)) }
-    ensures silent_then { IfErr result (λ e. (p : Pending) → IsTrue S.tells → MayEnd p (view_of S.Site begun.log) table.now point next counts.now → Steps PrintsNothing (S.clock begun.log.site) (S.clock e.1.site)) }
+    ensures silent { IfOk result (λ l. (p : Pending) → IsTrue S.tells → MayEnd p (view_of S.Site begun.log) table.now point next counts.now → StaysSilent S.Site begun.log.site l.site) }
+    ensures silent_then { IfErr result (λ e. (p : Pending) → IsTrue S.tells → MayEnd p (view_of S.Site begun.log) table.now point next counts.now → StaysSilent S.Site begun.log.site e.1.site) }
     ensures same { IfOk result (λ l. S.same_site begun.log.site l.site) }
     ensures same_then { IfErr result (λ e. S.same_site begun.log.site e.1.site) }
     ensures said { IfOk result (λ l. S.said l.site ≡ S.said begun.log.site) }
@@ -47,10 +47,13 @@ pub fn go_on<S: Site>(
     ensures only { IfErr result (λ e. (p : Pending) → IsTrue S.tells → IsTable p.entries p.point (S.files begun.log.site) table.now → (e.0 ≡ AudFault.Disk) ⊎ (e.0 ≡ AudFault.Full begun.log.end.limit)) }
     ensures full { IfErr result (λ e. (p : Pending) → IsTrue S.tells → IsTable p.entries p.point (S.files begun.log.site) table.now → e.0 ≡ AudFault.Full begun.log.end.limit
         → (e.1.end.used ≡ 0) × (10000 + begun.log.end.limit < e.1.end.file)) }
+    ensures ends { IfErr result (λ e. (p : Pending) → IsTrue S.tells → IsTable p.entries p.point (S.files begun.log.site) table.now → EndsSealed (view_of S.Site begun.log) → e.0 ≡ AudFault.Full begun.log.end.limit
+        → Ends (view_of S.Site e.1)) }
     ensures disk { IfErr result (λ e. CountedAt (e.0 ≡ AudFault.Disk) (S.disk_faults begun.log.site) (S.disk_faults e.1.site)) }
     ensures say_faults { IfOk result (λ l. S.say_faults l.site ≡ S.say_faults begun.log.site) }
     ensures say_faults_then { IfErr result (λ e. S.say_faults e.1.site ≡ S.say_faults begun.log.site) }
-    ensures kind { IfOk result (λ l. (l.end.total ≡ begun.log.end.total) × (l.end.tag ≡ begun.log.end.tag) × (l.end.limit ≡ begun.log.end.limit) × (l.first ≡ begun.log.first)) }
+    ensures kind { IfOk result (λ l. IsSameTrail begun.log l) }
+    ensures kind_then { IfErr result (λ e. IsSameTrail begun.log e.1) }
 {
     match begun.restore(table) {
         Ok(restored) => restored.finish(description, point, next, counts),

@@ -6,8 +6,9 @@ ghost use Rattle.dms_history.specs.EntryEvents.{history_of};
 ghost use Rattle.dms_audfile.specs.TrailEntries.{trail_entries};
 ghost use Rattle.dms_running.specs.Standing.{IsWhole};
 ghost use Rattle.dms_running.specs.Begun.{ByAudit};
-ghost use Rattle.dms_restore.specs.Logging.{telling_of, view, LogRuns};
+ghost use Rattle.dms_restore.specs.Logging.{telling_of, LogRuns};
 ghost use Rattle.dms_restore.specs.Laying.{IsAtStart};
+ghost use Rattle.dms_restore.specs.Views.{view_of, LogStarts};
 ghost use Rattle.dms_restore.specs.Begins.{BegunAt};
 
 use dms_audfile::AuditEnd;

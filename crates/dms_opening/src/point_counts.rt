@@ -1,7 +1,6 @@
 //! How many blocks each structure file has at a point.
 
-ghost use Rattle.std.specs.Prelude.{◌≡◌, ◌⊎◌, ◌≤◌, ◌/◌, ◌+◌, ◌<◌, ◌^◌, [], ◌∷◌, ℕ, length, take, drop, slice_index_or, false, OnOk, IfOk, IfErr, IsErrOf, IsTrue};
-ghost use Rattle.std.specs.Int.{w32, from_be_bytes};
+ghost use Rattle.std.specs.Prelude.{◌≡◌, ◌⊎◌, ◌≤◌, ◌/◌, ◌+◌, ◌<◌, ◌^◌, [], ◌∷◌, ℕ, length, drop, slice_index_or, false, OnOk, IfOk, IfErr, IsErrOf, IsTrue};
 ghost use Rattle.dms_site.specs.Files.{Files, range};
 ghost use Rattle.dms_history.specs.Entries.{counts_in};
 ghost use Rattle.dms_history.specs.Pick.{reached_count};
@@ -15,6 +14,7 @@ ghost use Rattle.dms_restore.specs.LiveEntries.{event_at, events_at};
 ghost use Rattle.dms_restore.specs.declared.live.LiveEntry.TheVariants.{Changed};
 
 use dms_audfile::AudFault;
+use dms_audrec::pair_at;
 use dms_restore::{ControlAt, ImageAt, LiveEntry, is_control};
 use dms_site::Site;
 use std::alloc::Global;
@@ -24,22 +24,6 @@ const LIST_BYTES: usize = 4096;
 
 /// No block of an audit file stands behind this position, which is 2 ^ 39.
 const MOST_PLACE: u64 = 549_755_813_888;
-
-/// The two numbers that the bytes begin with, and what follows.
-fn pair_at(bytes: &[u8]) -> (u32, u32, &[u8])
-    requires { 8 ≤ length bytes.now }
-    ensures one { result.0 ≡ from_be_bytes w32 (take 4 bytes.now) }
-    ensures two { result.1 ≡ from_be_bytes w32 (take 4 (drop 4 bytes.now)) }
-    ensures rest { result.2.now ≡ drop 8 bytes.now }
-{
-    let (front, rest) = bytes.split_at(4);
-    let (back, rest) = rest.split_at(4);
-    (
-        u32::from_be_bytes([front[0], front[1], front[2], front[3]]),
-        u32::from_be_bytes([back[0], back[1], back[2], back[3]]),
-        rest,
-    )
-}
 
 /// Makes all counts of a table 0.
 fn clear(counts: &mut [u32])

@@ -8,7 +8,7 @@ ghost use Rattle.dms_audfile.specs.Reads.{Refuses};
 ghost use Rattle.dms_audfile.specs.AuditTrail.{IsFound};
 ghost use Rattle.dms_audfile.specs.Ends.{Grown};
 ghost use Rattle.dms_audfile.specs.TrailEntries.{trail_entries};
-ghost use Rattle.dms_restore.specs.Laying.{IsAtStart};
+ghost use Rattle.dms_restore.specs.Views.{view_of, LogStarts};
 ghost use Rattle.dms_restore.specs.Scanned.{AreEntryPlaces};
 ghost use Rattle.dms_restore.specs.Traces.{IsTraceOf};
 
@@ -40,7 +40,7 @@ impl<S: Site> Found<S> {
     /// Nothing changes. Answers the first refusal of the trail, Disk where a call of the site failed, and Memory.
     pub fn scan(self, alloc: Global, limit: u32) -> Result<Scanned<S>, (AudFault, Found<S>)>
         requires { limit ≤ 9999 }
-        ensures starts { IfOk result (λ s. IsTrue S.tells → IsAtStart s.log.end s.log.first (S.files s.log.site) (S.clock s.log.site)) }
+        ensures starts { IfOk result (λ s. IsTrue S.tells → LogStarts (view_of S.Site s.log)) }
         ensures low { IfOk result (λ s. 10001 ≤ s.log.first) }
         ensures found { IfOk result (λ s. IsTrue S.tells → IsFound (S.files self.site) s.log.first s.places.items) }
         ensures places { IfOk result (λ s. IsTrue S.tells → AreEntryPlaces s.log.end.total s.log.first (S.files self.site) s.places.items) }

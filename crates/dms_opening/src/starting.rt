@@ -1,15 +1,13 @@
 //! The start of an opening: a restore by halt/load is begun, or the pending one goes on.
 
-ghost use Rattle.std.specs.Prelude.{◌≡◌, ◌⊎◌, ◌++◌, [], ◌∷◌, true, if◌then◌else◌, length, IfOk, IfErr, IsTrue};
-ghost use Rattle.dms_moments.specs.Moments.{Steps};
+ghost use Rattle.std.specs.Prelude.{◌≡◌, ◌⊎◌, ◌+◌, ◌<◌, [], ◌∷◌, true, if◌then◌else◌, length, IfOk, IfErr, IsTrue};
 ghost use Rattle.dms_history.specs.History.{Pending};
 ghost use Rattle.dms_audfile.specs.Counting.{CountedAt};
 ghost use Rattle.dms_history.specs.Entries.{begin_restore, by_halt_load};
 ghost use Rattle.dms_audrec.specs.Spelling.{spelling};
 ghost use Rattle.dms_audfile.specs.Ends.{Grown, is_past};
-ghost use Rattle.dms_audfile.specs.TrailEntries.{trail_entries};
-ghost use Rattle.dms_restore.specs.Logging.{view, PrintsNothing};
-ghost use Rattle.dms_restore.specs.Laying.{IsAtStart};
+ghost use Rattle.dms_restore.specs.Logging.{Ends, EndsSealed};
+ghost use Rattle.dms_restore.specs.Views.{view_of, StaysSilent, LogStarts, IsSameTrail, SealsBehind};
 ghost use Rattle.dms_restore.specs.Begins.{BegunAt, LeavesEach};
 ghost use Rattle.dms_opening.specs.Starts.{MayOpen, BegunFrom};
 
@@ -28,14 +26,15 @@ pub fn start<S: Site>(log: Log<S>, begins: bool, point: u64) -> Result<Begun<S>,
     ensures keeps { IfOk result (λ b. (p : Pending) → IsTrue S.tells → MayOpen (view_of S.Site log) begins point p
         → BegunFrom p (view_of S.Site log) (view_of S.Site b.log)) }
     ensures sealed { IfOk result (λ b. IsTrue S.tells → LogStarts (view_of S.Site log)
-        → trail_entries log.end.total log.first (S.files b.log.site) ≡ trail_entries log.end.total log.first (S.files log.site) ++ (if begins then begin_restore point by_halt_load ∷ [] else [])) }
+        → SealsBehind (view_of S.Site log) (view_of S.Site b.log) (if begins then begin_restore point by_halt_load ∷ [] else [])) }
+    ensures starts { IfOk result (λ b. IsTrue S.tells → LogStarts (view_of S.Site log) → EndsSealed (view_of S.Site b.log)) }
     ensures grown { IfOk result (λ b. IsTrue S.tells → LogStarts (view_of S.Site log) → Grown log.end.total log.first (S.files log.site) (S.files b.log.site)) }
     ensures moments { IfOk result (λ b. (p : Pending) → IsTrue S.tells → MayOpen (view_of S.Site log) begins point p
         → LeavesEach (view_of S.Site log) (view_of S.Site b.log)) }
     ensures stopped { IfErr result (λ e. (p : Pending) → IsTrue S.tells → MayOpen (view_of S.Site log) begins point p
         → LeavesEach (view_of S.Site log) (view_of S.Site e.1)) }
-    ensures silent { IfOk result (λ b. IsTrue S.tells → LogStarts (view_of S.Site log) → Steps PrintsNothing (S.clock log.site) (S.clock b.log.site)) }
-    ensures silent_then { IfErr result (λ e. IsTrue S.tells → LogStarts (view_of S.Site log) → Steps PrintsNothing (S.clock log.site) (S.clock e.1.site)) }
+    ensures silent { IfOk result (λ b. IsTrue S.tells → LogStarts (view_of S.Site log) → StaysSilent S.Site log.site b.log.site) }
+    ensures silent_then { IfErr result (λ e. IsTrue S.tells → LogStarts (view_of S.Site log) → StaysSilent S.Site log.site e.1.site) }
     ensures same { IfOk result (λ b. S.same_site log.site b.log.site) }
     ensures same_then { IfErr result (λ e. S.same_site log.site e.1.site) }
     ensures said { IfOk result (λ b. S.said b.log.site ≡ S.said log.site) }
@@ -44,10 +43,13 @@ pub fn start<S: Site>(log: Log<S>, begins: bool, point: u64) -> Result<Begun<S>,
     ensures only { IfErr result (λ e. (e.0 ≡ AudFault.Disk) ⊎ (e.0 ≡ AudFault.Full log.end.limit)) }
     ensures begins { IfErr result (λ e. begins ≡ true) }
     ensures past { IfErr result (λ e. e.0 ≡ AudFault.Full log.end.limit → is_past log.end (length (spelling (begin_restore point by_halt_load))) true ≡ true) }
+    ensures full { IfErr result (λ e. e.0 ≡ AudFault.Full log.end.limit → (e.1.end.used ≡ 0) × (10000 + log.end.limit < e.1.end.file)) }
+    ensures ends { IfErr result (λ e. e.0 ≡ AudFault.Full log.end.limit → IsTrue S.tells → LogStarts (view_of S.Site log) → Ends (view_of S.Site e.1)) }
     ensures disk { IfErr result (λ e. CountedAt (e.0 ≡ AudFault.Disk) (S.disk_faults log.site) (S.disk_faults e.1.site)) }
     ensures say_faults { IfOk result (λ b. S.say_faults b.log.site ≡ S.say_faults log.site) }
     ensures say_faults_then { IfErr result (λ e. S.say_faults e.1.site ≡ S.say_faults log.site) }
-    ensures kind { IfOk result (λ b. (b.log.end.total ≡ log.end.total) × (b.log.end.tag ≡ log.end.tag) × (b.log.end.limit ≡ log.end.limit) × (b.log.first ≡ log.first)) }
+    ensures kind { IfOk result (λ b. IsSameTrail log b.log) }
+    ensures kind_then { IfErr result (λ e. IsSameTrail log e.1) }
 {
     if begins {
         log.begin(point, How::HaltLoad)

@@ -6,7 +6,9 @@ use Rattle.dms_restore.specs.declared.told.Told.{Told}
 use Rattle.dms_restore.specs.Views.{view_of}
 use Rattle.dms_restore.proofs.Backed.{silent_on}
 use Rattle.dms_restore.proofs.CountBytes.{counts_entry}
+use Rattle.dms_wal.specs.Closing.{IsFullTrail}
 use Rattle.dms_opening.specs.Openings.{Reopens, text_of}
+use Rattle.dms_opening.proofs.Rooms.{as_limit, full_by}
 use Rattle.dms_opening.proofs.Carries.{BeginsWhole, count_table, may_open, begins_whole, leaves_on, reopens_all, written_at, may_end, runs_from, bytes_are}
 use Rattle.dms_opening.proofs.carrying.carry_out.Goals as goal
 
@@ -59,3 +61,22 @@ returns-clause-only g c tells s =
     written_at _ _ (r.kind.2 ∙ c.requires.limit)
     (c.in-Err-go_on.ensures.only s.plans.chooses.restore tells
     (subst (λ (l : List Told). IsTable s.plans.chooses.restore.entries s.plans.chooses.restore.point (g.S.Site.files c.in-Ok.begun.log.site) l) (sym c.deref-2.ensures.value) (s.plans.table_is _ (r.grown tells s.start))))
+
+pub returns-in-Err-clause-full : goal.returns-in-Err-clause-full
+returns-in-Err-clause-full g c tells s full =
+    let a : LogView = view_of g.S.Site c.args.planned.log in
+    let r = c.in-Err.ensures in
+    let is = as_limit _ _ c.requires.limit full in
+    subst (λ site. IsFullTrail a (g.S.Site.files site)) (sym c.site_of.ensures) (full_by a _ _ c.requires.limit r.kind_then.0 r.kind_then.3 (r.full is).1 (r.ends is tells s.start))
+
+pub returns-clause-full : goal.returns-clause-full
+returns-clause-full g c tells s full =
+    let a : LogView = view_of g.S.Site c.args.planned.log in
+    let r = c.in-Ok.ensures in
+    let n = c.in-Err-go_on.ensures in
+    let p = s.plans.chooses.restore in
+    let table = subst (λ (l : List Told). IsTable p.entries p.point (g.S.Site.files c.in-Ok.begun.log.site) l) (sym c.deref-2.ensures.value) (s.plans.table_is _ (r.grown tells s.start)) in
+    let limit = r.kind.2 ∙ c.requires.limit in
+    let is = as_limit _ _ limit full in
+    subst (λ site. IsFullTrail a (g.S.Site.files site)) (sym c.site_of-in-Err-go_on.ensures)
+    (full_by a _ _ limit (n.kind_then.0 ∙ r.kind.0) (n.kind_then.3 ∙ r.kind.3) (n.full p tells table is).1 (n.ends p tells table (r.starts tells s.start) is))

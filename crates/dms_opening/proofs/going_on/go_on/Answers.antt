@@ -72,3 +72,23 @@ returns-in-Ok-clause-silent_then g c = one_if_err c.finish.result c.finish.ensur
 
 pub returns-in-Err-clause-silent_then : goal.returns-in-Err-clause-silent_then
 returns-in-Err-clause-silent_then g c p tells m = c.in-Err.ensures.silent_then p tells m.table_is
+
+pub returns-in-Ok-clause-ends : goal.returns-in-Ok-clause-ends
+returns-in-Ok-clause-ends g c = one_if_err c.finish.result c.finish.ensures.ends (λ e ends p tells table sealed is.
+    let r = c.in-Ok.ensures in
+    let limit : c.in-Ok.restored.log.end.limit ≡ c.args.begun.log.end.limit = λ i. (r.kind.0 i).limit in
+    ends (is ∙ ap (λ k. Full k) (sym limit)) tells (r.stays p tells table sealed))
+
+pub returns-in-Err-clause-ends : goal.returns-in-Err-clause-ends
+returns-in-Err-clause-ends g c p tells table sealed is = absurd (not_both (c.in-Err.ensures.only p tells table) is)
+  where
+    not_both : {k : ℕ} {e : AudFault} → e ≡ Disk → e ≡ Full k → ⊥
+    not_both one two = absurd cc
+
+pub returns-in-Ok-clause-kind_then : goal.returns-in-Ok-clause-kind_then
+returns-in-Ok-clause-kind_then g c = one_if_err c.finish.result c.finish.ensures.kind_then (λ e kind.
+    let was = c.in-Ok.ensures.kind in
+    (kind.0 ∙ (λ i. (was.0 i).total), kind.1 ∙ (λ i. (was.0 i).tag), kind.2 ∙ (λ i. (was.0 i).limit), kind.3 ∙ was.1))
+
+pub returns-in-Err-clause-kind_then : goal.returns-in-Err-clause-kind_then
+returns-in-Err-clause-kind_then g c = let was = c.in-Err.ensures.kind_then in (λ i. (was.0 i).total, λ i. (was.0 i).tag, λ i. (was.0 i).limit, was.1)

@@ -59,3 +59,9 @@ returns-then-begins-clause-past g c = c.begin.ensures.past
 
 pub returns-else-begins-clause-silent : goal.returns-else-begins-clause-silent
 returns-else-begins-clause-silent g c tells start = none_silent _
+
+pub returns-else-begins-clause-starts : goal.returns-else-begins-clause-starts
+returns-else-begins-clause-starts g c tells start = start.ends
+
+pub returns-then-begins-clause-ends : goal.returns-then-begins-clause-ends
+returns-then-begins-clause-ends g c = c.begin.ensures.ends
