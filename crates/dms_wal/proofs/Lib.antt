@@ -24,3 +24,4 @@ pub mod Closed
 pub mod Limits
 pub mod BackFaults
 pub mod BackedOut
+pub mod Grown

@@ -10,7 +10,7 @@ use Rattle.dms_history.specs.Entries.{Entry, image}
 use Rattle.dms_history.proofs.Order.{append_none}
 use Rattle.dms_audfile.specs.declared.audit_end.AuditEnd.{AuditEnd}
 use Rattle.dms_restore.specs.Logging.{LogView, view, content, entries}
-use Rattle.dms_wal.specs.Changing.{AreImagesOf, LogsChanges}
+use Rattle.dms_wal.specs.Changing.{AreImagesOf, LogsChanges, LogsFirst}
 
 pub logs_none : (a : LogView) → LogsChanges a a []
 logs_none a = record { images = []; are = tt; entries_are = sym (append_none (entries a)) }
@@ -62,6 +62,10 @@ images_many c (x ∷ xs) (e ∷ es) are = ap suc (images_many (with_block c x.id
 
 pub logs_many : (a b : LogView) (xs : List Change) (l : LogsChanges a b xs) → length l.images ≡ length xs
 logs_many a b xs l = images_many (content a) xs l.images l.are
+
+-- the first so many were logged, and then nothing
+pub logs_first : (a b c : LogView) (i : ℕ) (xs : List Change) → LogsChanges a b (take i xs) → entries c ≡ entries b → LogsFirst a c xs
+logs_first a b c i xs l same = record { some = i; logs = record { images = l.images; are = l.are; entries_are = same ∙ l.entries_are } }
 
 -- the entries are the same in the same files
 pub entries_still : (end : AuditEnd) (first : ℕ) (files later : Files) (clock then_ : Clock Left) → later ≡ files → entries (view end first later then_) ≡ entries (view end first files clock)

@@ -1,5 +1,5 @@
 -- Changes were made, as far as a loop over all of them has come.
-use Rattle.std.proofs.Common.{ℕ, ◌+◌, ◌<◌, ◌≤◌, ◌≡◌, ◌∙◌, Bool, IsTrue, List, [], ◌∷◌, ◌++◌, length, take, get_or, refl, sym, ap, subst, arith}
+use Rattle.std.proofs.Common.{ℕ, ◌+◌, ◌<◌, ◌≤◌, ◌≡◌, ◌∙◌, Bool, IsTrue, List, [], ◌∷◌, ◌++◌, length, length-append, length-take, take, get_or, refl, sym, ap, subst, arith}
 use Rattle.std.proofs.lemmas.List.{take_all, take_more}
 use Rattle.std.specs.Prelude.{IsErrOf}
 use Rattle.std.specs.declared.result.Result.TheVariants.{Ok, Err}
@@ -15,54 +15,50 @@ use Rattle.dms_block.specs.HeldLaws.{passes_none, passes_on, stays_none, stays_o
 use Rattle.dms_wal.specs.Changing.{DamagedOnly}
 use Rattle.dms_wal.proofs.Stepped.{passes_sound, stays_sound}
 
--- these changes were made, and nothing else
+-- these changes were made, each of which counts, and nothing else
 pub record MadeChanges (xs : List Change) (a b : Held) : Type 0 where
   pub counts : b.counts ≡ grown xs a.counts
   pub content : IsTrue a.told → b.content ≡ changed xs a.content
   pub passes : MakesNoPoint a b
   pub stays : Stays a b
-  pub uses : Used 0 0 a.uses b.uses
+  pub uses : Used 0 (length xs) a.uses b.uses
   pub faults : b.faults ≡ a.faults
 
 pub made_none : (a : Held) → a.sound → MadeChanges [] a a
 made_none a sound = record { counts = refl; content = λ t. refl; passes = passes_none a; stays = stays_none a sound; uses = used_none 0 0 a.uses; faults = refl }
 
--- one change further
-pub made_push : (xs : List Change) (x : Change) (a b c : Held) → MadeChanges xs a b → c.counts ≡ raised b.counts x.id.file x.id.block → (IsTrue b.told → c.content ≡ with_block b.content x.id.file x.id.block x.block.0)
-    → Alters 0 0 (Ok (tt {0})) b c → c.faults ≡ b.faults → MadeChanges (xs ++ x ∷ []) a c
-made_push xs x a b c s counts content one faults = record {
+-- one change further, which is counted
+pub made_push : (xs : List Change) (x : Change) (a b c : Held) (sound : Type 0) (uses : Uses) → MadeChanges xs a b → c.counts ≡ raised b.counts x.id.file x.id.block → (IsTrue b.told → c.content ≡ with_block b.content x.id.file x.id.block x.block.0)
+    → Alters 0 0 (Ok (tt {0})) b c → c.faults ≡ b.faults → sound → Used 0 1 c.uses uses → MadeChanges (xs ++ x ∷ []) a (record c { sound = sound; uses = uses })
+made_push xs x a b c sound uses s counts content one faults usable used = record {
   counts = counts ∙ ap (λ (k : ℕ → ℕ). raised k x.id.file x.id.block) s.counts ∙ sym (grown_push xs x a.counts);
   content = λ t. content (told_after s.passes.lasts t) ∙ ap (λ (d : Content). with_block d x.id.file x.id.block x.block.0) (s.content t) ∙ sym (changed_push xs x a.content);
-  passes = passes_on s.passes s.stays one.passes;
-  stays = stays_on s.passes s.stays one.stays;
-  uses = used_on s.uses one.uses;
+  passes = passes_on (passes_on s.passes s.stays one.passes) (stays_on s.passes s.stays one.stays) (passes_sound c sound uses);
+  stays = stays_on (passes_on s.passes s.stays one.passes) (stays_on s.passes s.stays one.stays) (stays_sound c sound uses usable);
+  uses = used_more 0 (length (xs ++ x ∷ [])) (omega arith) (omega (arith, length-append xs (x ∷ []))) (used_on s.uses (used_on one.uses used));
   faults = faults ∙ s.faults;
 }
 
-pub made_more : (all items : List Change) (i : ℕ) (d : Change) → items ≡ all → i < length items → (a b c : Held) → MadeChanges (take i all) a b → c.counts ≡ raised b.counts (get_or items i d).id.file (get_or items i d).id.block
-    → (IsTrue b.told → c.content ≡ with_block b.content (get_or items i d).id.file (get_or items i d).id.block (get_or items i d).block.0) → Alters 0 0 (Ok (tt {0})) b c → c.faults ≡ b.faults → MadeChanges (take (i + 1) all) a c
-made_more all items i d is low a b c s counts content one faults =
+pub made_more : (all items : List Change) (i : ℕ) (d : Change) → items ≡ all → i < length items → (a b c : Held) (sound : Type 0) (uses : Uses) → MadeChanges (take i all) a b → c.counts ≡ raised b.counts (get_or items i d).id.file (get_or items i d).id.block
+    → (IsTrue b.told → c.content ≡ with_block b.content (get_or items i d).id.file (get_or items i d).id.block (get_or items i d).block.0) → Alters 0 0 (Ok (tt {0})) b c → c.faults ≡ b.faults → sound → Used 0 1 c.uses uses
+    → MadeChanges (take (i + 1) all) a (record c { sound = sound; uses = uses })
+made_more all items i d is low a b c sound uses s counts content one faults usable used =
     let x = get_or items i d in
     let longer : take (i + 1) all ≡ take i all ++ x ∷ [] = subst (λ l. take (i + 1) l ≡ take i l ++ x ∷ []) is (take_more items i d low) in
-    subst (λ (l : List Change). MadeChanges l a c) (sym longer) (made_push (take i all) x a b c s counts content one faults)
+    subst (λ (l : List Change). MadeChanges l a (record c { sound = sound; uses = uses })) (sym longer) (made_push (take i all) x a b c sound uses s counts content one faults usable used)
 
 -- the last one failed, and not by memory
-pub made_failed : (m : ℕ) (xs : List Change) (e : BlockFault) (a b c : Held) → MadeChanges xs a b → Alters {T = Unit {0}} 0 0 (Err e) b c → (IsErrOf {T = Unit {0}} (Err e) Memory → ⊥) → Alters {T = Unit {0}} 0 m (Err e) a c
-made_failed m xs e a b c s one off = record {
+pub made_failed : (i : ℕ) (all : List Change) (e : BlockFault) (a b c : Held) → MadeChanges (take i all) a b → Alters {T = Unit {0}} 0 0 (Err e) b c → (IsErrOf {T = Unit {0}} (Err e) Memory → ⊥) → Alters {T = Unit {0}} 0 (length all) (Err e) a c
+made_failed i all e a b c s one off = record {
   passes = passes_on s.passes s.stays one.passes;
   stays = unbroken_map {T = Unit {0}} (Err e) (λ p. stays_on s.passes s.stays p) one.stays;
   memory = λ is. absurd (off is);
-  uses = used_more 0 m (omega arith) (omega arith) (used_on s.uses one.uses);
+  uses = used_more 0 (length all) (omega arith) (omega (arith, length-take i all)) (used_on s.uses one.uses);
 }
 
--- all were made, and are counted
-pub made_all : (m : ℕ) (xs : List Change) (a b : Held) (sound : Type 0) (uses : Uses) → MadeChanges xs a b → sound → Used 0 m b.uses uses → Alters 0 m (Ok (tt {0})) a (record b { sound = sound; uses = uses })
-made_all m xs a b sound uses s usable used = record {
-  passes = passes_on s.passes s.stays (passes_sound b sound uses);
-  stays = stays_on s.passes s.stays (stays_sound b sound uses usable);
-  memory = λ e. absurd (cc e);
-  uses = used_more 0 m (omega arith) (omega arith) (used_on s.uses used);
-}
+-- all were made
+pub made_all : (xs : List Change) (a b : Held) → MadeChanges xs a b → Alters 0 (length xs) (Ok (tt {0})) a b
+made_all xs a b s = record { passes = s.passes; stays = s.stays; memory = λ e. absurd (cc e); uses = s.uses }
 
 -- a block of which no change was made was short before
 short_before : (xs : List Change) (a b : Held) (f n : ℕ) → MadeChanges xs a b → FitsIn xs a.owns a.counts → (IsTrue a.told → (g : ℕ) → a.counts g ≡ length (a.content g)) → NoneOf f n xs → IsShort b f n → IsShort a f n
@@ -108,3 +104,13 @@ module _ (all items : List Change) (i : ℕ) (d : Change) (is : items ≡ all) (
 -- the loop came to the end
 pub made_whole : (all items : List Change) (i : ℕ) → items ≡ all → length items ≤ i → (a b : Held) → MadeChanges (take i all) a b → MadeChanges all a b
 made_whole all items i is le a b s = subst (λ (l : List Change). MadeChanges l a b) (take_all i all (subst (λ (l : List Change). length l ≤ i) is le)) s
+
+-- one change further one more is taken
+pub longer_take : (all items : List Change) (i : ℕ) (d : Change) → items ≡ all → i < length items → length (take (i + 1) all) ≡ length (take i all) + 1
+longer_take all items i d is low =
+    let x = get_or items i d in
+    let longer : take (i + 1) all ≡ take i all ++ x ∷ [] = subst (λ l. take (i + 1) l ≡ take i l ++ x ∷ []) is (take_more items i d low) in
+    ap (λ (l : List Change). length l) longer ∙ length-append (take i all) (x ∷ [])
+
+pub whole_take : (all items : List Change) (i : ℕ) → items ≡ all → length items ≤ i → take i all ≡ all
+whole_take all items i is le = take_all i all (subst (λ (l : List Change). length l ≤ i) is le)

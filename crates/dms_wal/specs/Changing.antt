@@ -1,5 +1,5 @@
 -- A block whose Image was just logged.
-use Rattle.std.specs.Prelude.{ℕ, ◌≡◌, List, [], ◌∷◌, ◌++◌, true, Some, IsErrOf, IsTrue, option_map}
+use Rattle.std.specs.Prelude.{ℕ, ◌≡◌, List, [], ◌∷◌, ◌++◌, true, Some, IsErrOf, IsTrue, option_map, take}
 use Rattle.std.specs.declared.option.Option.{Option}
 use Rattle.std.specs.declared.result.Result.{Result}
 use Rattle.dms_block.specs.declared.block.Block.{Block}
@@ -61,3 +61,8 @@ pub record LogsChanges (a b : LogView) (xs : List Change) : Type 0 where
   pub images : List Entry
   pub are : AreImagesOf (content a) xs images
   pub entries_are : entries b ≡ entries a ++ images
+
+-- What was logged is the Images of the first so many of these changes alone.
+pub record LogsFirst (a b : LogView) (xs : List Change) : Type 0 where
+  pub some : ℕ
+  pub logs : LogsChanges a b (take some xs)

@@ -10,3 +10,4 @@ pub mod Closing
 pub mod BackOuts
 pub mod AgreeLaws
 pub mod PaceLaws
+pub mod Growing

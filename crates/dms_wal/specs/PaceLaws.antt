@@ -1,9 +1,11 @@
 -- Laws of what calls of a running database keep.
-use Rattle.std.proofs.Common.{refl, ◌∙◌}
+use Rattle.std.proofs.Common.{refl, ◌∙◌, arith}
 use Rattle.dms_restore.specs.Logging.{telling_of}
 use Rattle.std.specs.Prelude.{◌≡◌}
 use Rattle.dms_wal.specs.declared.running.Running.{Running}
 use Rattle.dms_wal.specs.Controls.{KeepsPace}
+use Rattle.dms_wal.specs.Growing.{GrowsBy, IsCounted}
+use Rattle.dms_site.specs.declared.site.Site.{Ghosts}
 
 pub pace_none : {S : Type 0} (a : Running S) → KeepsPace a a
 pace_none a = record { every = refl; limit = refl; total = refl; first = refl; schema = refl }
@@ -14,3 +16,21 @@ pace_on p q = record { every = q.every ∙ p.every; limit = q.limit ∙ p.limit;
 -- files tell it the same entries
 pub pace_kind : {S : Type 0} {a b : Running S} → KeepsPace a b → telling_of b.log.end.total b.log.first ≡ telling_of a.log.end.total a.log.first
 pace_kind p = λ i. telling_of (p.total i) (p.first i)
+
+module _ {S : Type 0} {g : Ghosts S} where
+  pub grows_none : (a : Running S) → GrowsBy g a a
+  grows_none a = record { every = refl; spent = omega arith; syncs = omega arith; outs = omega arith; disk = omega arith; grows = λ tells stayed counted. omega arith }
+
+  pub grows_on : {a b c : Running S} → GrowsBy g a b → GrowsBy g b c → GrowsBy g a c
+  grows_on {a} {b} {c} p q = record {
+    every = q.every ∙ p.every;
+    spent = omega (arith, p.spent, q.spent);
+    syncs = omega (arith, p.syncs, q.syncs);
+    outs = omega (arith, p.outs, q.outs);
+    disk = omega (arith, p.disk, q.disk);
+    grows = λ tells stayed counted.
+        let then : IsCounted b = record { spent = omega (arith, q.spent, counted.spent); syncs = omega (arith, q.syncs, counted.syncs); outs = omega (arith, q.outs, counted.outs) } in
+        let one = p.grows tells (omega (arith, q.disk, stayed.0), omega (arith, q.disk, stayed.1)) then in
+        let two = q.grows tells (omega (arith, p.disk, stayed.0), stayed.1) counted in
+        omega (arith, one, two);
+  }

@@ -14,6 +14,7 @@ ghost use Rattle.dms_wal.specs.Lifting.{AreCounts};
 ghost use Rattle.dms_wal.specs.Marks.{IsDescription, IsMarkOf};
 ghost use Rattle.dms_wal.specs.Database.{held};
 ghost use Rattle.dms_wal.specs.Faults.{IsSeenInBack};
+ghost use Rattle.dms_wal.specs.Growing.{GrowsBy, LogsAtMost};
 
 use crate::Running;
 use crate::closing::LAST_AUDIT_FILE;
@@ -58,6 +59,7 @@ fn go_back<S: Site>(
     ensures only { IfErr result (IsBackFault 9999) }
     ensures memory { IsErrOf result AudFault.Memory → IsTrue S.tells → SealedAlone (view_of S.Site log.old) (view_of S.Site log.new) }
     ensures idle { IsErrOf result AudFault.Memory → log.old.end.used ≡ 0 → IsTrue S.tells → FilesStay (view_of S.Site log.old) (view_of S.Site log.new) }
+    ensures few { (IsErrOf result AudFault.Disk → ⊥) → IsTrue S.tells → LogsAtMost 19 (view_of S.Site log.old) (view_of S.Site log.new) }
     ensures ends { IsErrOf result (AudFault.Full 9999) → IsTrue S.tells → Ends (view_of S.Site log.new) }
     ensures full { IsErrOf result (AudFault.Full 9999) → (log.new.end.used ≡ 0) × (19999 < log.new.end.file) }
     ensures said { S.said log.new.site ≡ S.said log.old.site }
@@ -99,8 +101,10 @@ impl<S: Site> Running<S> {
         ensures causes { HasCauses result (held S.Site self.old) (held S.Site self.new) }
         ensures silent { IsErrOf result BlockFault.Say → ⊥ }
         ensures broken { IfErr result (λ e. self.new.broken ≡ true) }
+        ensures grows { GrowsBy S.Site self.old self.new }
         ensures same { S.same_site self.old.log.site self.new.log.site }
     {
+        self.outs = self.outs.saturating_add(1);
         match go_back(
             &mut self.log,
             alloc,
@@ -118,7 +122,6 @@ impl<S: Site> Running<S> {
         self.pool.clear();
         copy_counts(&self.marks, &mut self.counts);
         self.changed = false;
-        self.outs = self.outs.saturating_add(1);
         Ok(())
     }
 }

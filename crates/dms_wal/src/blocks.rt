@@ -2,7 +2,8 @@
 
 ghost use Rattle.dms_wal.specs.Controls.{KeepsPace};
 ghost use Rattle.dms_wal.specs.Database.{held};
-ghost use Rattle.dms_wal.specs.PaceLaws.{pace_none, pace_on};
+ghost use Rattle.dms_wal.specs.Growing.{GrowsBy};
+ghost use Rattle.dms_wal.specs.PaceLaws.{grows_none, grows_on, pace_none, pace_on};
 ghost use Rattle.dms_wal.specs.AgreeLaws.{agrees};
 
 use crate::Running;
@@ -13,13 +14,13 @@ use std::alloc::Global;
 impl<S: Site> Blocks for Running<S> {
     ghost held = { λ r. held S.Site r };
 
-    ghost same_blocks = { λ a b. S.same_site a.log.site b.log.site × KeepsPace a b };
+    ghost same_blocks = { λ a b. S.same_site a.log.site b.log.site × KeepsPace a b × GrowsBy S.Site a b };
 
     ghost agrees = { λ r sound. agrees S.Site.may_stay S.Site.now_said r sound };
 
-    ghost same_again = { λ r. (S.Site.same_again r.log.site, pace_none r) };
+    ghost same_again = { λ r. (S.Site.same_again r.log.site, pace_none r, grows_none r) };
 
-    ghost same_then = { λ a b c one two. (S.Site.same_then a.log.site b.log.site c.log.site one.0 two.0, pace_on one.1 two.1) };
+    ghost same_then = { λ a b c one two. (S.Site.same_then a.log.site b.log.site c.log.site one.0 two.0, pace_on one.1 two.1, grows_on one.2 two.2) };
 
     fn count(&self, file: u32) -> u32 {
         Running::count(self, file)

@@ -13,7 +13,8 @@ ghost use Rattle.dms_wal.specs.Lifting.{owns_of};
 ghost use Rattle.dms_wal.specs.Controls.{KeepsPace};
 ghost use Rattle.dms_wal.specs.Database.{held, HoldsCounted};
 ghost use Rattle.dms_wal.specs.Faults.{StandsFull};
-ghost use Rattle.dms_wal.specs.Changing.{DamagedOnly, HasChange, IsImaged, KeepsLog, LogsChanges, TellsOld};
+ghost use Rattle.dms_wal.specs.Growing.{GrowsBy};
+ghost use Rattle.dms_wal.specs.Changing.{DamagedOnly, HasChange, IsImaged, KeepsLog, LogsChanges, LogsFirst, TellsOld};
 
 use crate::Running;
 use crate::faults::append_fault;
@@ -84,7 +85,8 @@ impl<S: Site> Running<S> {
     /// Makes all changes. Each is of a file that the object owns and of a block below 2,097,152, and each new block
     /// stands at its file's count, further new ones rising from there.
     ///
-    /// Each change is logged by one Image, and nothing else is logged. Answers Disk, Damaged, and Full where the audit has no room.
+    /// Each change is logged by one Image, and nothing else is logged. Answers Disk, Damaged, and Full where the audit has no room: then the
+    /// Images of the first changes are logged, each of which counts as a block that was changed.
     pub fn apply(&mut self, changes: &Changes) -> Result<(), BlockFault>
         requires sound { (held S.Site self.old).sound }
         requires fits { FitsIn changes.now.items.items (held S.Site self.old).owns (held S.Site self.old).counts }
@@ -99,17 +101,21 @@ impl<S: Site> Running<S> {
         ensures silent { IsErrOf result BlockFault.Say → ⊥ }
         ensures pace { KeepsPace self.old self.new }
         ensures broken { IfErr result (λ e. self.new.broken ≡ true) }
+        ensures part { IfErr result (λ e. (e ≡ BlockFault.Disk → ⊥) → IsTrue S.tells → LogsFirst (view_of S.Site self.old.log) (view_of S.Site self.new.log) changes.now.items.items) }
+        ensures grows { GrowsBy S.Site self.old self.new }
         ensures same { S.same_site self.old.log.site self.new.log.site }
     {
         let items = changes.as_slice();
-        let count = items.len() as u64;
+        let mut spent = self.spent;
         for change in items {
             match self.change(change) {
-                Ok(()) => {}
+                Ok(()) => {
+                    spent = spent.saturating_add(1);
+                    self.spent = spent;
+                }
                 Err(fault) => return Err(fault),
             }
         }
-        self.spent = self.spent.saturating_add(count);
         Ok(())
     }
 
@@ -130,6 +136,7 @@ impl<S: Site> Running<S> {
         ensures silent { IsErrOf result BlockFault.Say → ⊥ }
         ensures pace { KeepsPace self.old self.new }
         ensures broken { IfErr result (λ e. self.new.broken ≡ true) }
+        ensures kept { IfErr result (λ e. (e ≡ BlockFault.Disk → ⊥) → IsTrue S.tells → entries (view_of S.Site self.new.log) ≡ entries (view_of S.Site self.old.log)) }
         ensures same { S.same_site self.old.log.site self.new.log.site }
     {
         match self.before(change.id) {
@@ -151,6 +158,7 @@ impl<S: Site> Running<S> {
         ensures silent { IsErrOf result BlockFault.Say → ⊥ }
         ensures pace { KeepsPace self.old self.new }
         ensures broken { IfErr result (λ e. self.new.broken ≡ true) }
+        ensures kept { IfErr result (λ e. (e ≡ BlockFault.Disk → ⊥) → IsTrue S.tells → entries (view_of S.Site self.new.log) ≡ entries (view_of S.Site self.old.log)) }
         ensures same { S.same_site self.old.log.site self.new.log.site }
     {
         if let Some(block) = self.pool.get(id) {
@@ -187,6 +195,7 @@ impl<S: Site> Running<S> {
         ensures silent { IsErrOf result BlockFault.Say → ⊥ }
         ensures pace { KeepsPace self.old self.new }
         ensures broken { IfErr result (λ e. self.new.broken ≡ true) }
+        ensures kept { IfErr result (λ e. (e ≡ BlockFault.Disk → ⊥) → IsTrue S.tells → entries (view_of S.Site self.new.log) ≡ entries (view_of S.Site self.old.log)) }
         ensures same { S.same_site self.old.log.site self.new.log.site }
     {
         let id = change.id;

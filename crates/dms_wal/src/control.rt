@@ -11,6 +11,7 @@ ghost use Rattle.dms_restore.specs.Views.{view_of};
 ghost use Rattle.dms_wal.specs.Controls.{IsSettled, KeepsFields, MakesControl, TellsSame};
 ghost use Rattle.dms_wal.specs.Database.{held};
 ghost use Rattle.dms_wal.specs.Faults.{StandsFull};
+ghost use Rattle.dms_wal.specs.Growing.{LogsAtMost};
 
 use crate::Running;
 use crate::faults::append_fault;
@@ -145,6 +146,7 @@ impl<S: Site> Running<S> {
         ensures causes { HasCauses result (held S.Site self.old) (held S.Site self.new) }
         ensures silent { IsErrOf result BlockFault.Say → ⊥ }
         ensures broken { IfErr result (λ e. self.new.broken ≡ true) }
+        ensures few { (IsErrOf result BlockFault.Disk → ⊥) → IsTrue S.tells → LogsAtMost 18 (view_of S.Site self.old.log) (view_of S.Site self.new.log) }
         ensures same { S.same_site self.old.log.site self.new.log.site }
     {
         let mut room = [0u8; 1600];
@@ -182,6 +184,7 @@ impl<S: Site> Running<S> {
         ensures causes { HasCauses result (held S.Site self.old) (held S.Site self.new) }
         ensures silent { IsErrOf result BlockFault.Say → ⊥ }
         ensures broken { IfErr result (λ e. self.new.broken ≡ true) }
+        ensures few { (IsErrOf result BlockFault.Disk → ⊥) → IsTrue S.tells → LogsAtMost 18 (view_of S.Site self.old.log) (view_of S.Site self.new.log) }
         ensures same { S.same_site self.old.log.site self.new.log.site }
     {
         match self.settle() {

@@ -8,6 +8,7 @@ ghost use Rattle.dms_restore.specs.Views.{view_of};
 ghost use Rattle.dms_wal.specs.Controls.{is_due, is_due_at, KeepsFields, KeepsPace, MakesControl};
 ghost use Rattle.dms_wal.specs.Database.{held};
 ghost use Rattle.dms_wal.specs.Faults.{lacks_room, StandsFull};
+ghost use Rattle.dms_wal.specs.Growing.{GrowsBy};
 
 use crate::Running;
 use crate::faults::append_fault;
@@ -52,6 +53,7 @@ impl<S: Site> Running<S> {
         ensures silent { IsErrOf result BlockFault.Say → ⊥ }
         ensures pace { KeepsPace self.old self.new }
         ensures broken { IfErr result (λ e. self.new.broken ≡ true) }
+        ensures grows { GrowsBy S.Site self.old self.new }
         ensures same { S.same_site self.old.log.site self.new.log.site }
     {
         let number = self.next;
@@ -92,6 +94,7 @@ impl<S: Site> Running<S> {
         ensures causes { HasCauses result (held S.Site self.old) (held S.Site self.new) }
         ensures silent { IsErrOf result BlockFault.Say → ⊥ }
         ensures broken { IfErr result (λ e. self.new.broken ≡ true) }
+        ensures grows { GrowsBy S.Site self.old self.new }
         ensures same { S.same_site self.old.log.site self.new.log.site }
     {
         match self.seal() {
@@ -146,6 +149,7 @@ impl<S: Site> Running<S> {
         ensures pace { KeepsPace self.old self.new }
         ensures causes { HasCauses result (held S.Site self.old) (held S.Site self.new) }
         ensures broken { IfErr result (λ e. self.new.broken ≡ true) }
+        ensures grows { GrowsBy S.Site self.old self.new }
         ensures same { S.same_site self.old.log.site self.new.log.site }
     {
         match self.log.site.say(bytes) {

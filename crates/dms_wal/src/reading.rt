@@ -9,6 +9,7 @@ ghost use Rattle.dms_restore.specs.Views.{view_of};
 ghost use Rattle.dms_wal.specs.Changing.{DamagedOnly};
 ghost use Rattle.dms_wal.specs.Controls.{KeepsPace};
 ghost use Rattle.dms_wal.specs.Database.{held};
+ghost use Rattle.dms_wal.specs.Growing.{GrowsBy};
 
 use crate::Running;
 use dms_block::{Block, BlockFault, BlockId};
@@ -27,6 +28,7 @@ impl<S: Site> Running<S> {
         ensures silent { IsErrOf result BlockFault.Say → ⊥ }
         ensures pace { KeepsPace self.old self.new }
         ensures broken { IfErr result (λ e. self.new.broken ≡ true) }
+        ensures grows { GrowsBy S.Site self.old self.new }
         ensures same { S.same_site self.old.log.site self.new.log.site }
     {
         self.reads = self.reads.saturating_add(1);
@@ -48,6 +50,7 @@ impl<S: Site> Running<S> {
         ensures silent { IsErrOf result BlockFault.Say → ⊥ }
         ensures pace { KeepsPace self.old self.new }
         ensures broken { IfErr result (λ e. self.new.broken ≡ true) }
+        ensures logs { (IsErrOf result BlockFault.Disk → ⊥) → IsTrue S.tells → entries (view_of S.Site self.new.log) ≡ entries (view_of S.Site self.old.log) }
         ensures same { S.same_site self.old.log.site self.new.log.site }
     {
         match self.make_room() {

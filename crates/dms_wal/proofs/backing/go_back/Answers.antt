@@ -1,11 +1,13 @@
-use Rattle.std.proofs.Common.{refl}
+use Rattle.std.proofs.Common.{refl, take}
+use Rattle.dms_restore.specs.BackOuts.{back_entries}
 use Rattle.dms_restore.proofs.CountBytes.{counts_entry, counts_few}
 use Rattle.dms_restore.proofs.Results.{one_ok}
 use Rattle.dms_restore.specs.Views.{view_of}
 use Rattle.dms_wal.proofs.Controlling.{count_table}
 use Rattle.dms_wal.proofs.BackedOut.{back_by, back_counts}
 use Rattle.dms_wal.proofs.Limits.{by_with, sealed_from, sealed_to, went_from, went_to, leaves_with}
-use Rattle.dms_wal.proofs.Reaching.{ends_alike, runs_alike}
+use Rattle.dms_wal.proofs.Grown.{back_entries_few, back_few, some_alike}
+use Rattle.dms_wal.proofs.Reaching.{ends_alike, entries_alike, runs_alike}
 use Rattle.dms_wal.proofs.backing.go_back.Goals as goal
 
 pub back_out-done-requires-clause-runs : goal.back_out-done-requires-clause-runs
@@ -45,3 +47,12 @@ returns-clause-idle g c memory none tells = let stay = c.back_out-done.ensures.i
 
 pub returns-clause-ends : goal.returns-clause-ends
 returns-clause-ends g c full tells = ends_alike c.back_out-done.new.self.end _ (record { file = refl; total = refl; tag = refl; count = refl; used = refl; block = refl }) c.back_out-done.new.self.first _ _ (c.back_out-done.ensures.ends full tells)
+
+pub returns-clause-few : goal.returns-clause-few
+returns-clause-few g c off t =
+    let now = c.back_out-done.new.self in
+    let e = c.back_out-done.ensures in
+    let es = back_entries c.args.point c.args.schema.now c.args.next (take c.count_bytes-used.result c.count_bytes-used.new.into) in
+    some_alike 19 (view_of g.S.Site c.args.log.now) _ (view_of g.S.Site now) _ (entries_alike c.args.log.now.end _ (record { file = refl; total = refl; tag = refl; count = refl; used = refl; block = refl }) c.args.log.now.first (g.S.Site.files c.args.log.now.site) (g.S.Site.clock c.args.log.now.site))
+    (entries_alike now.end _ (record { file = refl; total = refl; tag = refl; count = refl; used = refl; block = refl }) now.first (g.S.Site.files now.site) (g.S.Site.clock now.site))
+    (back_few c.back_out-done.result c.args.point 9999 _ _ es (back_entries_few c.args.point c.args.schema.now c.args.next _ c.requires.described.1) e.only (one_ok c.back_out-done.result e.back (λ back. back t)) (λ full. e.part full t) (λ memory. e.memory memory t) off)

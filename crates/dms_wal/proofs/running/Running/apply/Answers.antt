@@ -1,4 +1,5 @@
-use Rattle.std.proofs.Common.{◌≡◌, take, length, List, refl, ap, arith}
+use Rattle.std.proofs.Common.{◌≡◌, take, length, List, get_or, refl, ap, arith}
+use Rattle.std.specs.declared.result.Result.TheVariants.{Ok, Err}
 use Rattle.dms_block.specs.declared.change.Change.{Change}
 use Rattle.dms_block.specs.Changing.{fits_take, no_change_of}
 use Rattle.dms_block.specs.Held.{Held}
@@ -6,13 +7,14 @@ use Rattle.dms_block.specs.HeldLaws.{alters_as}
 use Rattle.dms_restore.specs.Views.{view_of}
 use Rattle.dms_wal.specs.Database.{held}
 use Rattle.dms_wal.proofs.Imaged.{usable_spent}
-use Rattle.dms_wal.specs.PaceLaws.{pace_none, pace_on}
-use Rattle.dms_wal.proofs.Logged.{logs_none, logs_more, logs_whole}
-use Rattle.dms_wal.proofs.Made.{made_all, made_causes, made_failed, made_more, made_none, made_whole, next_apart, next_fits}
+use Rattle.dms_wal.specs.PaceLaws.{grows_none, grows_on, pace_none, pace_on}
+use Rattle.dms_wal.proofs.Grown.{change_more, disk_kept, grows_others, grows_still, not_disk}
+use Rattle.dms_wal.proofs.Logged.{logs_first, logs_none, logs_more, logs_whole}
+use Rattle.dms_wal.proofs.Made.{longer_take, made_all, made_causes, made_failed, made_more, made_none, made_whole, next_apart, next_fits, whole_take}
 use Rattle.dms_wal.proofs.running.Running.apply.Goals as goal
 
 pub loop-change-init : goal.loop-change-init
-loop-change-init g c = record { logs = λ t. logs_none (view_of g.S.Site c.args.self.now.log); pace = pace_none c.args.self.now; made = made_none (held g.S.Site c.args.self.now) c.requires.sound; same = g.met.S.Site.same_again c.args.self.now.log.site }
+loop-change-init g c = record { logs = λ t. logs_none (view_of g.S.Site c.args.self.now.log); pace = pace_none c.args.self.now; grows = grows_none c.args.self.now; spent = omega arith; counted = refl; made = made_none (held g.S.Site c.args.self.now) c.requires.sound; same = g.met.S.Site.same_again c.args.self.now.log.site }
 
 pub change-requires-clause-sound : goal.change-requires-clause-sound
 change-requires-clause-sound g c = c.loop-change.invariant.made.stays.sound
@@ -32,18 +34,43 @@ change-requires-clause-place g c =
 pub loop-change-preserved : goal.loop-change-preserved
 loop-change-preserved g c =
     let was = c.loop-change.invariant in
+    let all = c.args.changes.now.items.items in
+    let a = c.loop-change.self in
+    let b = c.change.new.self in
+    let made = alters_as tt c.in-Ok.ensures.alters in
+    let rose = c.saturating_add-spent.ensures in
     record {
-      made = made_more c.args.changes.now.items.items c.as_slice-items.result.now c.loop-change.change-index no_change_of c.as_slice-items.ensures c.loop-change-test.true (held g.S.Site c.args.self.now) (held g.S.Site c.loop-change.self) (held g.S.Site c.change.new.self) was.made
-          c.in-Ok.ensures.counts c.in-Ok.ensures.content (alters_as tt c.in-Ok.ensures.alters) c.in-Ok.ensures.causes;
-      logs = λ t. logs_more c.args.changes.now.items.items c.as_slice-items.result.now c.loop-change.change-index no_change_of c.as_slice-items.ensures c.loop-change-test.true (view_of g.S.Site c.args.self.now.log) (view_of g.S.Site c.loop-change.self.log) (view_of g.S.Site c.change.new.self.log)
+      made = made_more all c.as_slice-items.result.now c.loop-change.change-index no_change_of c.as_slice-items.ensures c.loop-change-test.true (held g.S.Site c.args.self.now) (held g.S.Site a) (held g.S.Site b) _ _ was.made
+          c.in-Ok.ensures.counts c.in-Ok.ensures.content made c.in-Ok.ensures.causes (usable_spent g.S.Site b _ made.stays.sound)
+          (record { not_fewer = omega arith; reads = omega arith; not_less = omega (arith, made.uses.spent, was.counted, rose); spent = omega (arith, made.uses.not_less, was.counted, rose); syncs = refl; outs = refl });
+      logs = λ t. logs_more all c.as_slice-items.result.now c.loop-change.change-index no_change_of c.as_slice-items.ensures c.loop-change-test.true (view_of g.S.Site c.args.self.now.log) (view_of g.S.Site a.log) (view_of g.S.Site b.log)
           (was.logs t) (was.made.content t) (c.in-Ok.ensures.logs t);
-      pace = pace_on was.pace c.change.ensures.pace;
-      same = g.met.S.Site.same_then c.args.self.now.log.site c.loop-change.self.log.site c.change.new.self.log.site was.same c.change.ensures.same;
+      pace = pace_on was.pace (let p = c.change.ensures.pace in record { every = p.every; limit = p.limit; total = p.total; first = p.first; schema = p.schema });
+      grows = grows_on was.grows (grows_others g.S.Site a _ c.change.ensures.pace.every (omega (arith, was.counted, rose)) (disk_kept {T = Unit {0}} (Ok tt) (held g.S.Site a) (held g.S.Site b) c.in-Ok.ensures.causes) made.uses.syncs made.uses.outs
+          (λ tells stayed counted. omega (arith, change_more g.S.Site a b _ c.in-Ok.ensures.logs tells, rose, was.counted, counted.spent)));
+      counted = refl;
+      spent = omega (arith, was.spent, rose, longer_take all c.as_slice-items.result.now c.loop-change.change-index no_change_of c.as_slice-items.ensures c.loop-change-test.true);
+      same = g.met.S.Site.same_then c.args.self.now.log.site a.log.site b.log.site was.same c.change.ensures.same;
     }
 
 pub returns-in-Err-clause-alters : goal.returns-in-Err-clause-alters
 returns-in-Err-clause-alters g c =
-    made_failed _ (take c.loop-change.change-index c.args.changes.now.items.items) c.in-Err.fault (held g.S.Site c.args.self.now) (held g.S.Site c.loop-change.self) (held g.S.Site c.change.new.self) c.loop-change.invariant.made c.in-Err.ensures.alters c.in-Err.ensures.memory
+    made_failed c.loop-change.change-index c.args.changes.now.items.items c.in-Err.fault (held g.S.Site c.args.self.now) (held g.S.Site c.loop-change.self) (held g.S.Site c.change.new.self) c.loop-change.invariant.made c.in-Err.ensures.alters c.in-Err.ensures.memory
+
+pub returns-in-Err-clause-grows : goal.returns-in-Err-clause-grows
+returns-in-Err-clause-grows g c =
+    let a = c.loop-change.self in
+    let b = c.change.new.self in
+    let uses = c.in-Err.ensures.alters.uses in
+    grows_on c.loop-change.invariant.grows (grows_still g.S.Site a b c.change.ensures.pace.every uses.not_less (disk_kept {T = Unit {0}} (Err c.in-Err.fault) (held g.S.Site a) (held g.S.Site b) c.in-Err.ensures.causes) uses.syncs uses.outs
+    (λ tells stayed. c.in-Err.ensures.kept (λ is. not_disk {T = Unit {0}} (Err c.in-Err.fault) (held g.S.Site a) (held g.S.Site b) c.in-Err.ensures.causes stayed (λ i. Err (is i))) tells))
+
+pub returns-in-Err-clause-part : goal.returns-in-Err-clause-part
+returns-in-Err-clause-part g c off t =
+    logs_first (view_of g.S.Site c.args.self.now.log) (view_of g.S.Site c.loop-change.self.log) (view_of g.S.Site c.change.new.self.log) c.loop-change.change-index c.args.changes.now.items.items (c.loop-change.invariant.logs t) (c.in-Err.ensures.kept off t)
+
+pub returns-clause-grows : goal.returns-clause-grows
+returns-clause-grows g c = c.loop-change.invariant.grows
 
 pub returns-in-Err-clause-causes : goal.returns-in-Err-clause-causes
 returns-in-Err-clause-causes g c =
@@ -65,18 +92,12 @@ returns-clause-content g c =
 
 pub returns-clause-alters : goal.returns-clause-alters
 returns-clause-alters g c =
-    let all = c.args.changes.now.items.items in
-    let made = made_whole all c.as_slice-items.result.now c.loop-change.change-index c.as_slice-items.ensures c.loop-change-test.false (held g.S.Site c.args.self.now) (held g.S.Site c.loop-change.self) c.loop-change.invariant.made in
-    let count : length c.as_slice-items.result.now ≡ length all = ap (λ (l : List Change). length l) c.as_slice-items.ensures in
-    made_all (length all) all (held g.S.Site c.args.self.now) (held g.S.Site c.loop-change.self) _ _ made (usable_spent g.S.Site c.loop-change.self _ made.stays.sound)
-    (record { not_fewer = omega arith; reads = omega arith; not_less = omega (arith, c.saturating_add-self.ensures, count); spent = omega (arith, c.saturating_add-self.ensures, count); syncs = refl; outs = refl })
+    made_all c.args.changes.now.items.items (held g.S.Site c.args.self.now) (held g.S.Site c.loop-change.self)
+    (made_whole c.args.changes.now.items.items c.as_slice-items.result.now c.loop-change.change-index c.as_slice-items.ensures c.loop-change-test.false (held g.S.Site c.args.self.now) (held g.S.Site c.loop-change.self) c.loop-change.invariant.made)
 
 pub returns-clause-spent : goal.returns-clause-spent
 returns-clause-spent g c =
-    let all = c.args.changes.now.items.items in
-    let made = made_whole all c.as_slice-items.result.now c.loop-change.change-index c.as_slice-items.ensures c.loop-change-test.false (held g.S.Site c.args.self.now) (held g.S.Site c.loop-change.self) c.loop-change.invariant.made in
-    let count : length c.as_slice-items.result.now ≡ length all = ap (λ (l : List Change). length l) c.as_slice-items.ensures in
-    omega (arith, c.saturating_add-self.ensures, count, made.uses.spent, made.uses.not_less)
+    omega (arith, c.loop-change.invariant.spent, c.loop-change.invariant.counted, ap (λ (l : List Change). length l) (whole_take c.args.changes.now.items.items c.as_slice-items.result.now c.loop-change.change-index c.as_slice-items.ensures c.loop-change-test.false))
 
 pub returns-clause-causes : goal.returns-clause-causes
 returns-clause-causes g c = c.loop-change.invariant.made.faults

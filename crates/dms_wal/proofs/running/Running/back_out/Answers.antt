@@ -1,9 +1,10 @@
 use Rattle.dms_wal.proofs.Lifts.{told_same}
-use Rattle.std.proofs.Common.{ℕ, ◌∙◌, true, false, List, subst, length, refl, ap}
+use Rattle.std.proofs.Common.{ℕ, ◌∙◌, true, false, List, subst, length, refl, ap, arith}
 use Rattle.dms_restore.specs.BackOuts.{WentBackTo}
 use Rattle.dms_restore.specs.Views.{view_of}
 use Rattle.dms_wal.specs.BackOuts.{entries_back}
 use Rattle.dms_wal.proofs.BackFaults.{caused_back, back_silent, back_only, back_full, back_memory}
+use Rattle.dms_wal.proofs.Grown.{grows_back, rose_not}
 use Rattle.dms_wal.proofs.BackedOut.{passes_back, stays_back, marked_content}
 use Rattle.dms_wal.proofs.running.Running.back_out.Goals as goal
 
@@ -11,7 +12,7 @@ pub returns-in-Err-clause-passes : goal.returns-in-Err-clause-passes
 returns-in-Err-clause-passes g c =
     let m = g.met.S.Site in
     let r = c.args.self.now in
-    passes_back g.S.Site m.may_stay m.now_said r c.requires c.go_back.new.log r.pool true r.changed _ r.outs r.counts (told_same c.go_back.ensures.kind) refl c.go_back.ensures.said c.go_back.ensures.moments c.go_back.ensures.silent
+    passes_back g.S.Site m.may_stay m.now_said r c.requires c.go_back.new.log r.pool true r.changed _ _ r.counts (told_same c.go_back.ensures.kind) refl c.go_back.ensures.said c.go_back.ensures.moments c.go_back.ensures.silent
 
 pub returns-in-Err-clause-causes : goal.returns-in-Err-clause-causes
 returns-in-Err-clause-causes g c = caused_back c.in-Err.fault c.back_fault.result 9999 _ _ c.in-Err.ensures.only c.back_fault.ensures c.in-Err.ensures.disk c.go_back.ensures.say_faults refl
@@ -61,3 +62,11 @@ returns-in-Err-clause-idle g c is = c.in-Err.ensures.idle (back_memory c.in-Err.
 
 pub returns-in-Err-clause-ends : goal.returns-in-Err-clause-ends
 returns-in-Err-clause-ends g c is = c.in-Err.ensures.ends (back_full c.in-Err.fault c.back_fault.result 9999 _ _ c.in-Err.ensures.only c.back_fault.ensures is)
+
+pub returns-in-Err-clause-grows : goal.returns-in-Err-clause-grows
+returns-in-Err-clause-grows g c =
+    grows_back g.S.Site c.args.self.now _ refl (omega arith) c.go_back.ensures.disk.later refl (omega (arith, c.saturating_add-self.ensures)) (omega (arith, c.saturating_add-self.ensures)) (λ tells stayed. c.go_back.ensures.few (λ is. rose_not _ _ (c.go_back.ensures.disk.failed is) stayed) tells)
+
+pub returns-clause-grows : goal.returns-clause-grows
+returns-clause-grows g c =
+    grows_back g.S.Site c.args.self.now _ refl (omega arith) c.go_back.ensures.disk.later refl (omega (arith, c.saturating_add-self.ensures)) (omega (arith, c.saturating_add-self.ensures)) (λ tells stayed. c.go_back.ensures.few (λ is. rose_not _ _ (c.go_back.ensures.disk.failed is) stayed) tells)

@@ -25,3 +25,9 @@ returns-in-Err-fetch-clause-memory g c e = c.in-Err-fetch.ensures.memory (cc e)
 
 pub returns-in-Ok-fetch-clause-logs : goal.returns-in-Ok-fetch-clause-logs
 returns-in-Ok-fetch-clause-logs g c t = c.fetch.ensures.logs t ∙ c.in-Ok.ensures.logs t
+
+pub returns-in-Err-clause-kept : goal.returns-in-Err-clause-kept
+returns-in-Err-clause-kept g c off = absurd (off c.in-Err.ensures.only)
+
+pub returns-in-Err-fetch-clause-kept : goal.returns-in-Err-fetch-clause-kept
+returns-in-Err-fetch-clause-kept g c off t = c.fetch.ensures.logs t ∙ c.in-Ok.ensures.logs t

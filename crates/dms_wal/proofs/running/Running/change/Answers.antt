@@ -1,9 +1,9 @@
-use Rattle.std.proofs.Common.{ℕ, Bool, IsTrue, Option, sym, subst}
+use Rattle.std.proofs.Common.{ℕ, Bool, IsTrue, Option, sym, ◌∙◌, subst}
 use Rattle.dms_block.specs.declared.block.Block.{Block}
 use Rattle.dms_block.specs.HeldLaws.{alters_on, causes_on}
 use Rattle.dms_wal.specs.Database.{held}
 use Rattle.dms_wal.proofs.Causes.{not_full}
-use Rattle.dms_restore.proofs.Results.{one_ok}
+use Rattle.dms_restore.proofs.Results.{one_if_err, one_ok}
 use Rattle.dms_wal.proofs.Logged.{logs_from}
 use Rattle.dms_restore.specs.Views.{view_of}
 use Rattle.dms_wal.proofs.running.Running.change.Goals as goal
@@ -23,3 +23,6 @@ returns-in-Err-clause-full g c n is = absurd (not_full (Option Block) (Unit {0})
 pub returns-in-Ok-clause-logs : goal.returns-in-Ok-clause-logs
 returns-in-Ok-clause-logs g c = one_ok c.log_change.result c.log_change.ensures.logs (λ logs t.
     logs_from (view_of g.S.Site c.args.self.now.log) (view_of g.S.Site c.before-2.new.self.log) (view_of g.S.Site c.log_change.new.self.log) _ (c.in-Ok.ensures.logs t) (c.in-Ok.ensures.looks.same.content t) (logs t))
+
+pub returns-in-Ok-clause-kept : goal.returns-in-Ok-clause-kept
+returns-in-Ok-clause-kept g c = one_if_err c.log_change.result c.log_change.ensures.kept (λ e kept off t. kept off t ∙ c.in-Ok.ensures.logs t)

@@ -2,7 +2,10 @@ use Rattle.std.proofs.Common.{sym, subst, ◌∙◌}
 use Rattle.dms_block.specs.HeldLaws.{causes_on, passes_on}
 use Rattle.dms_block.specs.Held.{Used, Uses}
 use Rattle.dms_restore.proofs.Results.{one_ok}
+use Rattle.std.specs.declared.result.Result.TheVariants.{Err}
+use Rattle.dms_restore.specs.Views.{view_of}
 use Rattle.dms_wal.specs.Database.{held}
+use Rattle.dms_wal.proofs.Grown.{some_from}
 use Rattle.dms_wal.proofs.Controlling.{durable_on, makes_on}
 use Rattle.dms_wal.proofs.Keeping.{keeps_on}
 use Rattle.dms_wal.proofs.running.Running.control.Goals as goal
@@ -29,3 +32,9 @@ returns-clause-causes g c = let l = c.in-Ok.ensures.looks in causes_on c.seal_co
 
 pub returns-clause-kind : goal.returns-clause-kind
 returns-clause-kind g c = c.seal_control.ensures.kind ∙ c.settle.ensures.kind
+
+pub returns-in-Err-clause-few : goal.returns-in-Err-clause-few
+returns-in-Err-clause-few g c off = absurd (off (λ i. Err (c.in-Err.ensures.only i)))
+
+pub returns-clause-few : goal.returns-clause-few
+returns-clause-few g c off t = some_from 18 (view_of g.S.Site c.args.self.now.log) (view_of g.S.Site c.settle.new.self.log) (view_of g.S.Site c.seal_control.new.self.log) (c.in-Ok.ensures.tells t).entries_same (c.seal_control.ensures.few off t)

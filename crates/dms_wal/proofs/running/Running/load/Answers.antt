@@ -1,7 +1,9 @@
-use Rattle.std.proofs.Common.{ℕ, ap, arith}
+use Rattle.std.proofs.Common.{ℕ, ◌∙◌, ap, arith}
 use Rattle.std.specs.declared.result.Result.TheVariants.{Err}
 use Rattle.dms_block.specs.declared.block.Block.{Block}
 use Rattle.dms_block.specs.HeldLaws.{causes_on, looks_as, looks_on}
+use Rattle.dms_restore.specs.Logging.{entries}
+use Rattle.dms_restore.specs.Views.{view_of}
 use Rattle.dms_wal.specs.Database.{held}
 use Rattle.dms_wal.proofs.running.Running.load.Goals as goal
 
@@ -20,3 +22,12 @@ returns-in-Err-fetch-clause-looks g c = looks_on _ c.in-Ok.ensures.looks c.in-Er
 pub returns-in-Err-fetch-clause-causes : goal.returns-in-Err-fetch-clause-causes
 returns-in-Err-fetch-clause-causes g c =
     causes_on {T = Block} (Err c.in-Err-fetch.fault) (held g.S.Site c.args.self.now) (held g.S.Site c.make_room.new.self) (held g.S.Site c.fetch.new.self) c.in-Ok.ensures.causes c.in-Ok.ensures.looks.passes.lasts c.in-Ok.ensures.looks.same c.in-Err-fetch.ensures.causes
+
+pub returns-in-Err-clause-logs : goal.returns-in-Err-clause-logs
+returns-in-Err-clause-logs g c off = absurd (off (λ i. Err (c.in-Err.ensures.only i)))
+
+pub returns-in-Ok-fetch-clause-logs : goal.returns-in-Ok-fetch-clause-logs
+returns-in-Ok-fetch-clause-logs g c off t = (λ i. entries (view_of g.S.Site (c.hold.ensures.log i))) ∙ c.fetch.ensures.logs t ∙ c.in-Ok.ensures.logs t
+
+pub returns-in-Err-fetch-clause-logs : goal.returns-in-Err-fetch-clause-logs
+returns-in-Err-fetch-clause-logs g c off t = c.fetch.ensures.logs t ∙ c.in-Ok.ensures.logs t

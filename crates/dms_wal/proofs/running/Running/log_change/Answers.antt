@@ -10,6 +10,7 @@ use Rattle.dms_wal.proofs.Synced.{kind_is}
 use Rattle.dms_wal.proofs.Imaged.{alters_made, alters_failed, counted_more, imaged, usable_changed, with_same, then_left}
 use Rattle.dms_wal.proofs.Roomed.{then_silent}
 use Rattle.dms_wal.proofs.Tabled.{raised_there}
+use Rattle.dms_wal.proofs.Grown.{kept_append}
 use Rattle.dms_wal.proofs.Logged.{logs_one}
 use Rattle.dms_wal.proofs.running.Running.log_change.Goals as goal
 
@@ -64,3 +65,9 @@ returns-in-Ok-keep-clause-logs g c t =
     logs_one (view_of g.S.Site c.args.self.now.log) (view_of g.S.Site c.keep.new.log) c.args.change.now (option_copied c.bytes_of.result)
     (subst (λ (o : Option (List ℕ)). TellsBefore c.args.change.now.id.block o (content (view_of g.S.Site c.args.self.now.log) c.args.change.now.id.file)) (sym c.bytes_of.ensures.bytes) (c.requires.before t))
     ((c.in-Ok-keep.ensures.kept t).entries_same ∙ (c.in-Ok.ensures.logs t).entries_are)
+
+pub returns-in-Err-clause-kept : goal.returns-in-Err-clause-kept
+returns-in-Err-clause-kept g c off t = kept_append c.in-Err.fault c.append_fault.result _ _ _ c.in-Err.ensures.only c.append_fault.ensures (λ full. (c.in-Err.ensures.kept full t).entries_same) off
+
+pub returns-in-Err-keep-clause-kept : goal.returns-in-Err-keep-clause-kept
+returns-in-Err-keep-clause-kept g c off = absurd (off c.in-Err-keep.ensures.only)

@@ -1,4 +1,6 @@
-use Rattle.std.proofs.Common.{false}
+use Rattle.std.proofs.Common.{false, refl, arith}
+use Rattle.dms_wal.proofs.Grown.{grows_still}
+use Rattle.dms_wal.proofs.Logged.{entries_still}
 use Rattle.dms_wal.proofs.Synced.{say_stays, say_left}
 use Rattle.dms_wal.proofs.running.Running.say.Goals as goal
 
@@ -16,3 +18,13 @@ pub returns-in-Err-clause-leaves : goal.returns-in-Err-clause-leaves
 returns-in-Err-clause-leaves g c =
     let m = g.met.S.Site in
     say_left g.S.Site m.may_stay m.now_said m.counts_now c.args.self.now c.requires c.say.new.self c.say.ensures.files c.args.bytes.now c.say.ensures.moments false
+
+pub returns-in-Ok-clause-grows : goal.returns-in-Ok-clause-grows
+returns-in-Ok-clause-grows g c =
+    let r = c.args.self.now in
+    grows_still g.S.Site r _ refl (omega arith) (omega (arith, c.say.ensures.disk_faults)) refl refl (λ tells stayed. entries_still r.log.end r.log.first _ _ (g.S.Site.clock r.log.site) (g.S.Site.clock c.say.new.self) (c.say.ensures.files tells))
+
+pub returns-in-Err-clause-grows : goal.returns-in-Err-clause-grows
+returns-in-Err-clause-grows g c =
+    let r = c.args.self.now in
+    grows_still g.S.Site r _ refl (omega arith) (omega (arith, c.say.ensures.disk_faults)) refl refl (λ tells stayed. entries_still r.log.end r.log.first _ _ (g.S.Site.clock r.log.site) (g.S.Site.clock c.say.new.self) (c.say.ensures.files tells))

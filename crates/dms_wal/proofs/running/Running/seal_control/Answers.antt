@@ -1,4 +1,4 @@
-use Rattle.std.proofs.Common.{ℕ, List, ◌∙◌, ap, refl, subst, take, arith}
+use Rattle.std.proofs.Common.{ℕ, List, ◌≤◌, ◌∙◌, ap, length, refl, sym, subst, take, arith}
 use Rattle.std.specs.declared.result.Result.TheVariants.{Err}
 use Rattle.dms_audrec.specs.Spelling.{pair_bytes, count_file, count_blocks}
 use Rattle.dms_restore.specs.Counts.{file_counts}
@@ -8,6 +8,7 @@ use Rattle.dms_restore.specs.Views.{view_of}
 use Rattle.dms_restore.proofs.CountBytes.{counts_entry, counts_few}
 use Rattle.dms_wal.proofs.Causes.{full_left, full_seen, seen_only}
 use Rattle.dms_wal.proofs.Controlling.{control_by, control_leaves, control_made, count_table, makes_control}
+use Rattle.dms_wal.proofs.Grown.{control_few, kept_append, some_part}
 use Rattle.dms_wal.proofs.Stepped.{passes_step}
 use Rattle.dms_wal.proofs.Synced.{kind_is}
 use Rattle.dms_wal.proofs.running.Running.seal_control.Goals as goal
@@ -54,3 +55,15 @@ returns-in-Err-clause-kind g c = λ i. record { total = c.control.ensures.kind.0
 pub returns-in-Err-clause-ends : goal.returns-in-Err-clause-ends
 returns-in-Err-clause-ends g c n is tells =
     let seen = full_seen c.in-Err.fault c.append_fault.result _ _ _ n c.in-Err.ensures.only c.append_fault.ensures is in c.in-Err.ensures.ends (λ i. Err (seen.1 i)) tells
+
+pub returns-in-Ok-clause-few : goal.returns-in-Ok-clause-few
+returns-in-Ok-clause-few g c off t = record {
+  more = _;
+  few = control_few _ _ (subst (λ (d : List ℕ). length d ≤ 65535) (sym c.deref-2.ensures.value) c.requires.sound.described.1);
+  entries_are = (c.in-Ok.ensures.controlled t).entries_are;
+}
+
+pub returns-in-Err-clause-few : goal.returns-in-Err-clause-few
+returns-in-Err-clause-few g c off t =
+    kept_append c.in-Err.fault c.append_fault.result _ _ _ c.in-Err.ensures.only c.append_fault.ensures
+    (λ full. some_part 18 _ _ _ (control_few _ _ (subst (λ (d : List ℕ). length d ≤ 65535) (sym c.deref-2.ensures.value) c.requires.sound.described.1)) (c.in-Err.ensures.part full t)) (λ is. off (λ i. Err (is i)))

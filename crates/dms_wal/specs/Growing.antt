@@ -1,0 +1,59 @@
+-- How the audit of a running database grows with what the database is used for.
+use Rattle.std.specs.Prelude.{ℕ, zero, suc, ◌+◌, ◌-◌, ◌*◌, ◌^◌, ◌<◌, ◌≤◌, ◌≡◌, Bool, true, false, IsTrue, if◌then◌else◌, List, [], ◌∷◌, ◌++◌, length}
+use Rattle.dms_site.specs.declared.site.Site.{Ghosts}
+use Rattle.dms_history.specs.Entries.{Entry, schema_part, image, byte_range, quiet_point, control_point, begin_restore}
+use Rattle.dms_restore.specs.Logging.{LogView, entries}
+use Rattle.dms_wal.specs.declared.running.Running.{Running}
+use Rattle.dms_wal.specs.Controls.{is_due_at}
+use Rattle.dms_restore.specs.Views.{view_of}
+
+-- every entry but a quiet point
+abbrev pub is_other : Entry → Bool
+is_other (schema_part part parts bytes) = true
+is_other (image f b before after) = true
+is_other (byte_range f b place bytes) = true
+is_other (quiet_point n) = false
+is_other (control_point n next counts) = true
+is_other (begin_restore n kind) = true
+
+-- how many of these entries are no quiet points
+abbrev pub others : List Entry → ℕ
+others [] = 0
+others (e ∷ es) = if is_other e then suc (others es) else others es
+
+-- At most so many entries were logged.
+pub record LogsAtMost (n : ℕ) (a b : LogView) : Type 0 where
+  pub more : List Entry
+  pub few : length more ≤ n
+  pub entries_are : entries b ≡ entries a ++ more
+
+-- how many of the first so many syncs a control point follows
+abbrev pub controls_among : ℕ → ℕ → ℕ
+controls_among every zero = 0
+controls_among every (suc n) = if is_due_at every (suc n) then suc (controls_among every n) else controls_among every n
+
+-- How many entries its uses account for, quiet points apart: one for each block that was changed, 18 for each control point, and 19 for each
+-- back-out.
+abbrev pub paid : {S : Type 0} → Running S → ℕ
+paid r = r.spent + 18 * controls_among r.every r.syncs + 19 * r.outs
+
+-- none of its uses stands at its type's end, where a count stands still
+pub record IsCounted {S : Type 0} (r : Running S) : Type 0 where
+  pub spent : r.spent < 2 ^ 64 - 1
+  pub syncs : r.syncs < 2 ^ 64 - 1
+  pub outs : r.outs < 2 ^ 64 - 1
+
+-- a count hasn't risen, and doesn't stand at its type's end
+abbrev pub HasStayed : ℕ → ℕ → Type 0
+HasStayed old new = (new ≤ old) × (new < 2 ^ 64 - 1)
+
+-- The uses of a running database only rise. Where no call of its site failed meanwhile, its audit grew by no more entries than its uses account
+-- for, quiet points apart.
+pub record GrowsBy {S : Type 0} (g : Ghosts S) (a b : Running S) : Type 0 where
+  pub every : b.every ≡ a.every
+  pub spent : a.spent ≤ b.spent
+  pub syncs : a.syncs ≤ b.syncs
+  pub outs : a.outs ≤ b.outs
+  pub disk : g.disk_faults a.log.site ≤ g.disk_faults b.log.site
+  pub grows : IsTrue g.tells → HasStayed (g.disk_faults a.log.site) (g.disk_faults b.log.site) → IsCounted b
+      → others (entries (view_of g b.log)) + paid a ≤ others (entries (view_of g a.log)) + paid b
