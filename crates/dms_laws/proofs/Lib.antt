@@ -5,7 +5,7 @@ mod Founds
 mod Holders
 pub mod Lists
 pub mod Locks
-mod Points
+pub mod Points
 pub mod Sound
 mod Stored
 pub mod Values

@@ -49,54 +49,12 @@ use Rattle.dms_restore.specs.Logging.{telling_of}
 use Rattle.dms_run.specs.State.{StateOf}
 use Rattle.dms_run.specs.States.{LivesEndWith}
 use Rattle.dms_runlaws.specs.Held.{StatesAreHeld}
+use Rattle.dms_runlaws.proofs.Lives.{ends_with}
 use Rattle.dms_runlaws.proofs.Fine.{AllFine, FineEvents, all_fine, live_is_fine, fine_behind, fine_until, fine_images, none_reached}
-
-true_not_false : true ≡ false → ⊥
-true_not_false e = absurd cc
 
 spelled_true : (b : Bool) (x db : Db) → some_if b x ≡ Some db → b ≡ true
 spelled_true true x db e = refl
 spelled_true false x db e = absurd cc
-
-or_cases : (a b : Bool) {A : Type 0} → (a ≡ true → A) → (b ≡ true → A) → (a || b) ≡ true → A
-or_cases true b one two on = one refl
-or_cases false b one two on = two on
-
-same_number : (a b : ℕ) → (a == b) ≡ true → a ≡ b
-same_number a b on = grind (arith, nat_tests, on)
-
--- the point of this number among some, and those behind it
-record AtNumber (ps : List LivePoint) (n : ℕ) : Type 0 where
-  front : List LivePoint
-  point : LivePoint
-  behind : List LivePoint
-  are : ps ≡ front ++ point ∷ behind
-  number : point.number ≡ n
-
-at_number : (ps : List LivePoint) (n : ℕ) → has (λ (m : ℕ). m == n) (numbers_of ps) ≡ true → AtNumber ps n
-at_number [] n on = absurd (true_not_false (sym on))
-at_number (p ∷ ps) n on = or_cases (p.number == n) (has (λ (m : ℕ). m == n) (numbers_of ps))
-    (λ is. record { front = []; point = p; behind = ps; are = refl; number = same_number p.number n is })
-    (λ more. let r = at_number ps n more in record { front = p ∷ r.front; point = r.point; behind = r.behind; are = ap (λ (l : List LivePoint). p ∷ l) r.are; number = r.number }) on
-
-above_next : (front : List LivePoint) (p q : LivePoint) (ps : List LivePoint) → Rises (numbers_of (front ++ p ∷ q ∷ ps)) → p.number < q.number
-above_next [] p q ps rises = rises.0.0
-above_next (x ∷ front) p q ps rises = above_next front p q ps rises.1
-
-live_one : (live : List Event) (counted : Stored) (front : List LivePoint) (p : LivePoint) (behind : List LivePoint) → AllLive live counted (front ++ p ∷ behind) → HasPoint live counted p.number p.blocks
-live_one live counted [] p behind all = all.0
-live_one live counted (x ∷ front) p behind all = live_one live counted front p behind all.1
-
-live_next : (live : List Event) (counted : Stored) (front : List LivePoint) (p q : LivePoint) (ps : List LivePoint) → AllLive live counted (front ++ p ∷ q ∷ ps) → HasPoint live counted q.number q.blocks
-live_next live counted [] p q ps all = all.1.0
-live_next live counted (x ∷ front) p q ps all = live_next live counted front p q ps all.1
-
--- no point stands behind one that none is above
-none_next : (live : List Event) (counted : Stored) (n : ℕ) → ((m : ℕ) → IsLive live m → m ≤ n) → (front : List LivePoint) (p : LivePoint) (behind : List LivePoint) → p.number ≡ n → Rises (numbers_of (front ++ p ∷ behind))
-    → AllLive live counted (front ++ p ∷ behind) → behind ≡ []
-none_next live counted n top front p [] number rises lives = refl
-none_next live counted n top front p (q ∷ ps) number rises lives =
-    absurd (omega (arith, above_next front p q ps rises, number, top q.number (live_next live counted front p q ps lives).lives))
 
 module _ (files : Files) (n : ℕ) (desc : Described) (db : Db) (s : StateOf files n desc db) where
   abbrev placed_trail : IsWritersTrail s.at_point.finds.trail.first s.at_point.finds.trail.last files
@@ -181,32 +139,13 @@ module _ (files : Files) (n : ℕ) (desc : Described) (db : Db) (s : StateOf fil
   whole = agrees_whole (telling_of total first) files found agrees (has_front (is_point n) is_described live lives.described)
       (λ p is. (pending_cuts (events all) p (alone_events all agrees.alone) is).lives n lives) images sized (subst NoDumpPending same s.at_point.no_dump)
 
-  abbrev bare : List LivePoint
-  bare = live_points live counted
-
-  listed : ListsPoints live counted bare
-  listed = points_listed live (next_of all) counted whole.stands.kept.numbered
-
   top : (m : ℕ) → IsLive live m → m ≤ n
   top m at =
       let l = (last_lives (history_of all) (next_of all) whole.stands.kept.numbered).points m at in
       omega (arith, l.not_above, some_is l.last n (sym l.is ∙ last))
 
   ends : LivesEndWith desc (points_of (telling_of total first) files) n db
-  ends =
-      let a = at_number bare n (listed.all n lives) in
-      let rises : Rises (numbers_of (a.front ++ a.point ∷ a.behind)) = subst (λ (l : List LivePoint). Rises (numbers_of l)) a.are listed.rises in
-      let all_live : AllLive live counted (a.front ++ a.point ∷ a.behind) = subst (AllLive live counted) a.are listed.lives in
-      let none = none_next live counted n top a.front a.point a.behind a.number rises all_live in
-      let h = live_one live counted a.front a.point a.behind all_live in
-      record {
-        before = map (described_in all) a.front;
-        point = described_in all a.point;
-        are = ap (map (described_in all)) (a.are ∙ ap (λ (l : List LivePoint). a.front ++ a.point ∷ l) none) ∙ map-append (described_in all) a.front (a.point ∷ []);
-        number = a.number;
-        schema = ap (λ (k : ℕ). schema_bytes (schema_at all k)) a.number ∙ ap schema_bytes described;
-        spells = ap (spelled desc) (sym h.same ∙ ap (λ (k : ℕ). blocks_at live counted k) a.number) ∙ spells;
-      }
+  ends = ends_with total first files whole n desc db lives described spells top
 
 pub held : StatesAreHeld
 held files n desc db s = record {

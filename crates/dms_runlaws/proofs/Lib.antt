@@ -1,3 +1,4 @@
+pub mod Lives
 pub mod NoLater
 pub mod Stands
 pub mod Fine

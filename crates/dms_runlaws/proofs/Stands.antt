@@ -1,11 +1,13 @@
 -- The files that a stop leaves are states.
-use Rattle.std.proofs.Common.{◌≡◌, ◌∙◌, ◌⊎◌, inl, inr, ⊎_elim, List, [], ◌∷◌, ◌++◌, sym, subst, ap, arith, append_assoc}
+use Rattle.std.proofs.Common.{ℕ, ◌<◌, ◌≡◌, ◌∙◌, ◌⊎◌, inl, inr, ⊎_elim, List, [], ◌∷◌, ◌++◌, sym, subst, ap, arith, append_assoc}
 use Rattle.std.specs.List.{AllByRecursion}
 use Rattle.dms_desc.specs.Shape.{Described}
 use Rattle.dms_model.specs.Points.{Quiet}
-use Rattle.dms_runner.specs.Answers.{last_quiet}
+use Rattle.dms_runner.specs.Answers.{answers_quiets, last_quiet}
 use Rattle.dms_running.specs.Points.{DescribedPoint, points_of, next_in}
 use Rattle.dms_restore.specs.Logging.{telling_of}
+use Rattle.dms_running.proofs.Wholes.{point_below}
+use Rattle.dms_scriptlaws.specs.Truths.{IsStart}
 use Rattle.dms_scriptlaws.proofs.Formed.{runnable}
 use Rattle.dms_scriptlaws.proofs.Scripts.{tells_true, stay_valid}
 use Rattle.dms_run.specs.States.{HasLive}
@@ -13,6 +15,7 @@ use Rattle.dms_run.specs.Stops.{last_quiet_number, IsOneOf}
 use Rattle.dms_run.proofs.Standing.{stands}
 use Rattle.dms_run.proofs.Words.{last_one}
 use Rattle.dms_runlaws.specs.RunStands.{StopsStand}
+use Rattle.dms_runlaws.proofs.Lives.{next_is_one, state_lives}
 use Rattle.dms_runlaws.proofs.NoLater.{RisesBy, rises_by, number_high, no_later}
 
 -- a point of entry is among all
@@ -40,26 +43,33 @@ of_all P q (x ∷ qs) all (inl is) = subst P (sym is) all.0
 of_all P q (x ∷ qs) all (inr more) = of_all P q qs all.1 more
 
 pub stand : StopsStand
-stand total first desc well db start entry points n next lines x low r =
-    let t = telling_of total first in
-    let scripts = runnable desc well in
-    let rises = rises_by next _ (stay_valid desc scripts db start next lines).numbers in
+stand files n desc db h start next has_next entry lines x r =
+    let t = telling_of h.total h.first in
+    let points = points_of t files in
+    let scripts = runnable desc h.formed in
+    let stay = stay_valid desc scripts db start next lines in
+    let rises = rises_by next _ stay.numbers in
+    let low : n < next = subst (λ (k : ℕ). n < k) (next_is_one h.total h.first next files h.whole has_next) (point_below t files n h.whole h.lives.found) in
     let point = last_quiet_number n r.made in
     let now = last_quiet db r.made in
+    let recovered : ((point ≡ n) × (now ≡ db)) ⊎ IsOneOf (point, now) (answers_quiets desc db next lines) =
+    subst (λ (l : List Quiet). ((point ≡ n) × (now ≡ db)) ⊎ IsOneOf (point, now) l) r.front_of (last_one n db r.made r.rest) in
     record {
       point = point;
       now = now;
-      state = stands.last total first x.files desc point now well r.whole r.state;
-      recovered = subst (λ (l : List Quiet). ((point ≡ n) × (now ≡ db)) ⊎ IsOneOf (point, now) l) r.front_of (last_one n db r.made r.rest);
+      state = (stands.last h.total h.first x.files desc point now h.formed r.whole r.state);
+      valid = ⊎_elim (λ same. subst (IsStart desc) (sym same.1) start) (λ one. of_all (λ (q : Quiet). IsStart desc q.1) (point, now) (answers_quiets desc db next lines) stay.valid one) recovered;
+      recovered = recovered;
       no_earlier = λ text printed is said. no_later _ next (tells_true desc scripts db start next lines) rises n r.made r.rest text printed x.said r.front_of (r.text text is) said;
-      keeps = λ d q formed h. stands.at total first x.files d q formed r.whole (subst (λ (l : List DescribedPoint). HasLive d l q) (sym r.kept) (has_more d points r.more q h));
-      each = λ q one le. stands.at total first x.files desc q well r.whole (
+      keeps = λ d m then a. stands.at h.total h.first x.files d (m, then) a.well_formed r.whole
+          (subst (λ (l : List DescribedPoint). HasLive d l (m, then)) (sym r.kept) (has_more d points r.more (m, then) (state_lives h.total h.first files h.whole m d then a)));
+      each = λ q one le. stands.at h.total h.first x.files desc q h.formed r.whole (
           elim (either_part q r.made r.rest (subst (λ (l : List Quiet). IsOneOf q l) (sym r.front_of) one)) [
             | inl made ↦ of_all (HasLive desc (points_of t x.files)) q r.made r.each made
             | inr behind ↦ absurd (omega (arith, le, number_high n next r.made r.rest q low (subst (RisesBy next) (sym r.front_of) rises) behind))
           ]
           );
       next_left = next_in t x.files;
-      has_next = stands.next total first x.files r.whole;
+      has_next = stands.next h.total h.first x.files r.whole;
       not_fallen = omega (arith, r.next_is);
     }

@@ -14,9 +14,9 @@ use Rattle.dms_audfile.specs.Sealing.{IsWrittenUpTo}
 use Rattle.dms_audfile.specs.TrailEntries.{trail_entries}
 use Rattle.dms_audfile.specs.declared.place.EntryPlace.{EntryPlace}
 use Rattle.dms_running.specs.Standing.{IsWhole}
-use Rattle.dms_running.specs.Points.{points_of}
+use Rattle.dms_running.specs.Points.{points_of, next_in}
 use Rattle.dms_restore.specs.Logging.{telling_of}
-use Rattle.dms_run.specs.State.{StateOf}
+use Rattle.dms_run.specs.State.{StateOf, HasNext}
 use Rattle.dms_run.specs.States.{LivesEndWith}
 
 -- The files hold a database, whose trail is one that scanning finds and a writer keeps. Their last point is live and has this number,
@@ -37,6 +37,10 @@ pub record HoldsLast (files : Files) (n : ℕ) (desc : Described) (db : Db) : Ty
   pub described : schema_at (trail_entries total first files) n ≡ Some (spelling desc)
   pub formed : IsWellFormed desc
 
--- So do files that stand for a state.
+-- Files that hold a database have one next number, which their trail tells.
+abbrev pub NextIsOne : Type 0
+NextIsOne = (total first next : ℕ) (files : Files) → IsWhole (telling_of total first) files → HasNext files next → next_in (telling_of total first) files ≡ next
+
+-- Files that stand for a state hold a database so.
 abbrev pub StatesAreHeld : Type 0
 StatesAreHeld = (files : Files) (n : ℕ) (desc : Described) (db : Db) → StateOf files n desc db → HoldsLast files n desc db

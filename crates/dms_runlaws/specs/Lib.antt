@@ -1,3 +1,3 @@
 pub mod Told
-pub mod RunStands
 pub mod Held
+pub mod RunStands

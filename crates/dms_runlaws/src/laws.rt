@@ -1,4 +1,4 @@
-ghost use Rattle.dms_runlaws.specs.Held.{StatesAreHeld};
+ghost use Rattle.dms_runlaws.specs.Held.{NextIsOne, StatesAreHeld};
 ghost use Rattle.dms_runlaws.specs.RunStands.{StopsStand};
 ghost use Rattle.dms_runlaws.specs.Told.{ScriptsTellNoLater};
 
@@ -8,12 +8,13 @@ pub fn told_law()
 {}
 
 /// The files that a stop within the run of a script leaves stand for the database of entry or of a quiet point, no earlier than the
-/// printed text tells, and each point up to it has its own state.
+/// printed text tells, and each point up to it has its own state. With that database another run may begin.
 pub fn stands_law()
     ensures { StopsStand }
 {}
 
-/// Files that stand for a state hold a database, whose last live point has that state.
+/// Files that stand for a state hold a database, whose last live point has that state; and files that hold one have one next number.
 pub fn held_law()
-    ensures { StatesAreHeld }
+    ensures state { StatesAreHeld }
+    ensures next { NextIsOne }
 {}

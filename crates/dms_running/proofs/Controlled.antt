@@ -1,7 +1,7 @@
 -- A whole Schema and its Control, in part or whole, at the end of a restore or of a database that runs.
 use Rattle.std.proofs.Common.{ℕ, ◌+◌, ◌≤◌, ◌<◌, ◌≡◌, inl, inr, Bool, true, List, [], ◌∷◌, ◌++◌, map, length, take, Some, refl, sym, ◌∙◌, ap, subst, arith, append_assoc}
 use Rattle.dms_moments.specs.Moments.{Clock, Runs}
-use Rattle.dms_site.specs.Files.{Files, Left, Only, stored_of}
+use Rattle.dms_site.specs.Files.{Left, Only, stored_of}
 use Rattle.dms_history.specs.Events.{Content, Stored, Event, control, block_in}
 use Rattle.dms_history.specs.Lists.{has}
 use Rattle.dms_history.specs.Places.{is_control, is_described, is_point}
@@ -33,7 +33,6 @@ use Rattle.dms_running.specs.FromDumps.{dump_in, NoDumpPending}
 use Rattle.dms_running.specs.Telling.{Telling, IsTelling}
 use Rattle.dms_running.specs.Standing.{Stands, MayRun}
 use Rattle.dms_running.specs.Points.{described_in, points_told, next_in}
-use Rattle.dms_running.specs.Sealing.{SealsSome, Appended, Settled}
 use Rattle.dms_running.specs.Running.{State, entries_now, content_now, points_now, IsRunning, IsAnOutcome, AllWritten}
 use Rattle.dms_running.specs.Begun.{LeavesAll, IsLast, IsSchemaControl}
 use Rattle.dms_running.proofs.Described.{parts_on, both_on, all_placed, described_on}

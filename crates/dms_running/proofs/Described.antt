@@ -1,5 +1,5 @@
 -- The Schemas at points while entries are appended.
-use Rattle.std.proofs.Common.{ℕ, ◌+◌, ◌≡◌, ◌||◌, inl, inr, Bool, true, false, cond, List, [], ◌∷◌, ◌++◌, map, length, Option, Some, refl, sym, ◌∙◌, ap, subst, append_assoc}
+use Rattle.std.proofs.Common.{ℕ, ◌+◌, ◌≡◌, ◌||◌, inl, inr, Bool, true, false, cond, List, [], ◌∷◌, ◌++◌, map, length, Option, Some, refl, sym, ◌∙◌, ap, append_assoc}
 use Rattle.dms_history.specs.Events.{Block, Stored, Event}
 use Rattle.dms_history.specs.Lists.{has, until_first}
 use Rattle.dms_history.specs.Places.{is_point, IsLive}
@@ -19,7 +19,7 @@ use Rattle.dms_history.proofs.Turns.{live_of_ranges, changes_until, changes_push
 use Rattle.dms_history.proofs.Schemas.{parts_append, cut_logged, live_of_entries, logged_append}
 use Rattle.dms_history.proofs.Cuts.{until_none}
 use Rattle.dms_history.proofs.SchemaReads.{each_schema, schema_stays, schema_of_new, live_has_schema}
-use Rattle.dms_running.specs.Points.{DescribedPoint, schema_bytes, described_in}
+use Rattle.dms_running.specs.Points.{schema_bytes, described_in}
 use Rattle.dms_running.specs.Running.{IsPlainEntry, AllPlain}
 
 true_not_false : true ≡ false → ⊥

@@ -1,7 +1,7 @@
 -- A restore ends: its Schema and Control are appended and sealed.
 use Rattle.std.proofs.Common.{ℕ, ◌≤◌, ◌<◌, ◌≡◌, Bool, true, List, [], ◌∷◌, ◌++◌, Some, sym, ◌∙◌, ap, subst, arith}
 use Rattle.dms_moments.specs.Moments.{Clock, Runs}
-use Rattle.dms_site.specs.Files.{Files, Left, Only, stored_of}
+use Rattle.dms_site.specs.Files.{Left, Only, stored_of}
 use Rattle.dms_history.specs.Events.{Content, Stored}
 use Rattle.dms_history.specs.Replay.{replay}
 use Rattle.dms_history.specs.Lists.{has}
@@ -21,7 +21,6 @@ use Rattle.dms_history.proofs.Keeping.{kept_ends}
 use Rattle.dms_running.specs.Telling.{Telling, IsTelling}
 use Rattle.dms_running.specs.Standing.{Stands, MayRun}
 use Rattle.dms_running.specs.Points.{points_told, points_of, next_in}
-use Rattle.dms_running.specs.Sealing.{SealsSome, Appended, Settled}
 use Rattle.dms_running.specs.Running.{State, entries_now, content_now, points_now, IsRunning, IsAnOutcome}
 use Rattle.dms_running.specs.Begun.{IsBegun, LeavesAll, IsRestored, outcome_now, IsSchemaControl}
 use Rattle.dms_running.proofs.FromDumps.{begun_no_dump}

@@ -1,8 +1,8 @@
 -- A call that only looks.
 use Rattle.std.proofs.Common.{ℕ, ◌≤◌, ◌≡◌, List, ◌++◌, take}
-use Rattle.dms_moments.specs.Moments.{Clock, Now, Runs, Steps}
+use Rattle.dms_moments.specs.Moments.{Clock, Now, Steps}
 use Rattle.dms_moments.specs.SeenLaws.{runs_looking, now_same}
-use Rattle.dms_site.specs.Files.{Files, Left, Same, stored_of}
+use Rattle.dms_site.specs.Files.{Left, Same, stored_of}
 use Rattle.dms_running.specs.Telling.{Telling}
 use Rattle.dms_running.specs.Standing.{MayRun}
 use Rattle.dms_running.specs.Points.{DescribedPoint}

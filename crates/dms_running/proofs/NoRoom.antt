@@ -1,17 +1,17 @@
 -- The audit has no room for one more entry: what waits was sealed. And a block whose newest Image is sealed.
-use Rattle.std.proofs.Common.{ℕ, ◌+◌, ◌≤◌, ◌<◌, ◌≡◌, inl, inr, List, [], ◌∷◌, ◌++◌, map, length, take, Some, None, refl, sym, ◌∙◌, ap, subst, arith}
+use Rattle.std.proofs.Common.{ℕ, ◌≡◌, inl, inr, List, [], ◌++◌, map, length, take, Some, refl, sym, ◌∙◌, ap, subst, arith}
 use Rattle.dms_moments.specs.Moments.{Now, Steps}
 use Rattle.dms_site.specs.Files.{Left, stored_of}
 use Rattle.dms_history.specs.Events.{Block, Content, Stored, Event, block_in}
 use Rattle.dms_history.specs.Lists.{until_last, after_last}
 use Rattle.dms_history.specs.Places.{is_control}
 use Rattle.dms_history.specs.Images.{or_else, last_after}
-use Rattle.dms_history.specs.Base.{opening, from_control}
+use Rattle.dms_history.specs.Base.{from_control}
 use Rattle.dms_history.specs.Pick.{Dumps}
 use Rattle.dms_history.specs.Points.{LivePoint}
 use Rattle.dms_history.specs.Entries.{Entry}
 use Rattle.dms_history.specs.EntryEvents.{live_of, next_of}
-use Rattle.dms_history.proofs.Picks.{option_cases, some_is, last_stands, last_append}
+use Rattle.dms_history.proofs.Picks.{option_cases, last_stands, last_append}
 use Rattle.dms_history.proofs.AtPoints.{split_last}
 use Rattle.dms_history.proofs.Order.{append_none}
 use Rattle.dms_history.proofs.Listed.{points_stay}

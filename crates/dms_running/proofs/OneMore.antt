@@ -1,6 +1,6 @@
 -- What one more entry makes of the history and the next number, and one more event of the images of a block.
 use Rattle.std.specs.Prelude.{if◌then◌else◌}
-use Rattle.std.proofs.Common.{ℕ, ◌+◌, ◌-◌, ◌^◌, min, max, ◌≡◌, Bool, true, false, cond, Option, Some, None, List, [], ◌∷◌, ◌++◌, refl, sym, ◌∙◌, ap, arith}
+use Rattle.std.proofs.Common.{ℕ, ◌+◌, ◌-◌, ◌^◌, min, max, ◌≡◌, Bool, true, false, cond, Option, Some, None, List, [], ◌∷◌, ◌++◌, refl, ◌∙◌, ap, arith}
 use Rattle.dms_history.specs.Events.{Block, Event, change, quiet, control, begin}
 use Rattle.dms_history.specs.History.{after_event, history, next_number}
 use Rattle.dms_history.specs.Images.{is_at, or_else, last_after, first_before}

@@ -1,9 +1,10 @@
 -- Files that hold a database, and agreement.
-use Rattle.std.proofs.Common.{◌≡◌, true, Some}
+use Rattle.std.proofs.Common.{ℕ, ◌<◌, ◌≡◌, inl, inr, true, false, Some, sym, ◌∙◌}
+use Rattle.std.proofs.lemmas.Bool.{cases_lt}
 use Rattle.dms_site.specs.Files.{Files, stored_of}
 use Rattle.dms_history.specs.Events.{Content}
 use Rattle.dms_history.specs.Lists.{has}
-use Rattle.dms_history.specs.Places.{is_described, IsLive}
+use Rattle.dms_history.specs.Places.{is_described, is_point, IsLive}
 use Rattle.dms_history.specs.History.{Pending}
 use Rattle.dms_history.specs.Kept.{content_told, Kept}
 use Rattle.dms_history.specs.Sizes.{AllSized, ImagesSized}
@@ -11,10 +12,12 @@ use Rattle.dms_history.specs.Base.{from_control}
 use Rattle.dms_history.specs.EntryEvents.{history_of, live_of, Agrees}
 use Rattle.dms_history.proofs.Keeping.{kept_agrees, agrees_kept}
 use Rattle.dms_history.proofs.Given.{described_control}
+use Rattle.dms_history.proofs.Running.{above_all}
 use Rattle.dms_history.proofs.Sizing.{sized_base}
 use Rattle.dms_running.specs.FromDumps.{NoDumpPending}
 use Rattle.dms_running.specs.Telling.{Telling}
 use Rattle.dms_running.specs.Standing.{IsWhole}
+use Rattle.dms_running.specs.Points.{next_in}
 use Rattle.dms_running.specs.Laws.{StandsAgrees, AgreesStands, RunsImage, RunsQuiet, RunsWrites, BeginKeepsAll}
 use Rattle.dms_running.proofs.MayRun.{may_image, content_image, may_quiet, content_quiet, may_write}
 use Rattle.dms_running.proofs.Beginning.{begin_stands, begin_points, begin_next}
@@ -25,6 +28,16 @@ stands_agrees first es dumps base stored s = kept_agrees first es dumps base sto
 -- so do files that hold a database
 pub whole_agrees : (t : Telling) (files : Files) → IsWhole t files → Agrees t.first (t.entries files) (t.dumps files) (stored_of files)
 whole_agrees t files w = stands_agrees t.first (t.entries files) (t.dumps files) w.base (stored_of files) w.stands
+
+-- a point that has its place in them is below the next number
+pub point_below : (t : Telling) (files : Files) (n : ℕ) → IsWhole t files → has (is_point n) (live_of (t.entries files)) ≡ true → n < next_in t files
+point_below t files n w found = elim (cases_lt n (next_in t files)) [
+  | inl less ↦ less
+  | inr not ↦ absurd (true_not_false (sym found ∙ above_all (live_of (t.entries files)) (next_in t files) n w.stands.kept.numbered not))
+]
+  where
+    true_not_false : true ≡ false → ⊥
+    true_not_false e = absurd cc
 
 pub agrees_stands : AgreesStands
 agrees_stands first es dumps stored agrees described lives images sized =

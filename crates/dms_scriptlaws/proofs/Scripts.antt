@@ -1,5 +1,5 @@
 -- The laws of scripts, from those of one step.
-use Rattle.std.proofs.Common.{ℕ, ◌≡◌, ◌-◌, List, [], ◌∷◌, subst, Some, None}
+use Rattle.std.proofs.Common.{ℕ, ◌≡◌, ◌-◌, List, [], ◌∷◌, sym, subst, Some, None}
 use Rattle.std.specs.List.{AllByRecursion}
 use Rattle.std.specs.Prelude.{slice_get}
 use Rattle.std.specs.declared.option.Option.{Option}
@@ -15,8 +15,8 @@ use Rattle.dms_desc.specs.Lookups.{structure_of, items_of}
 use Rattle.dms_model.specs.Points.{Quiet}
 use Rattle.dms_model.specs.Session.{Session, step}
 use Rattle.dms_model.specs.Spoken.{IsPlainLiteral}
-use Rattle.dms_model.specs.Valid.{IsValid}
 use Rattle.dms_laws.specs.Sound.{IsSound, NamesOuter}
+use Rattle.dms_laws.proofs.Points.{step_points}
 use Rattle.dms_laws.proofs.Sound.{stays_sound, empty_valid, empty_flat}
 use Rattle.dms_script.specs.declared.line.Line.{Line}
 use Rattle.dms_script.specs.declared.line.Line.TheVariants.{Verb as Spoken}
@@ -39,9 +39,14 @@ settings_plain : (items : List Item) (ts : List Setting) → AllByRecursion (λ 
 settings_plain items [] h = tt
 settings_plain items (t ∷ ts) h = (texts_of (slice_get items (t.item - 1)) t.literal h.0, settings_plain items ts h.1)
 
-last_valid : (desc : Described) (db : Db) (qs : List Quiet) → IsValid desc db → AllByRecursion (λ (q : Quiet). IsValid desc q.1) qs → IsValid desc (last_quiet db qs)
-last_valid desc db [] h all = h
-last_valid desc db (q ∷ qs) h all = last_valid desc q.1 qs all.0 all.1
+last_start : (desc : Described) (db : Db) (qs : List Quiet) → IsStart desc db → AllByRecursion (λ (q : Quiet). IsStart desc q.1) qs → IsStart desc (last_quiet db qs)
+last_start desc db [] h all = h
+last_start desc db (q ∷ qs) h all = last_start desc q.1 qs all.0 all.1
+
+-- quiet points that have this database
+start_points : (desc : Described) (db : Db) → IsStart desc db → (qs : List Quiet) → AllByRecursion (λ (q : Quiet). q.1 ≡ db) qs → AllByRecursion (λ (q : Quiet). IsStart desc q.1) qs
+start_points desc db start [] same = tt
+start_points desc db start (q ∷ qs) same = (subst (IsStart desc) (sym same.0) start, start_points desc db start qs same.1)
 
 module _ (desc : Described) (run : IsRunnable desc) where
   -- a session of a running script
@@ -70,37 +75,39 @@ module _ (desc : Described) (run : IsRunnable desc) where
   spoken_so : (l : Line) (name : List ℕ) (verb : Verb) → SpeaksWell desc l → l ≡ Spoken name verb → MaySay name verb
   spoken_so l name verb h e = let h' : SpeaksWell desc (Spoken name verb) = subst (SpeaksWell desc) e h in record { named = h'.0; outer = names_outer verb h'.1 }
 
-  abbrev ValidQuiet : Quiet → Type 0
-  ValidQuiet q = IsValid desc q.1
+  abbrev StartQuiet : Quiet → Type 0
+  StartQuiet q = IsStart desc q.1
 
-  speaks : Speaks desc Runs MaySay ValidQuiet
+  speaks : Speaks desc Runs MaySay StartQuiet
   speaks = record {
     keeps = λ s name verb v k. record {
       sound = (stays_sound desc run.made).keeps s name verb v.outer k.sound;
       named = (step_named desc run.names s name verb v.named k.named k.sound.areas).names;
     };
-    points = λ s name verb v k. (stays_sound desc run.made).points s name verb v.outer k.sound;
+    points = λ s name verb v k.
+        let after = (stays_sound desc run.made).keeps s name verb v.outer k.sound in
+        start_points desc (step desc s name verb).session.db (record { valid = after.db; flat = after.flat }) (step desc s name verb).quiets (step_points desc s name verb);
     reply = λ line s name verb v k. reply_none line name (step desc s name verb).reply (name_feed name v.named) (step_named desc run.names s name verb v.named k.named k.sound.areas).reply;
     bad = bad_none;
     waiting = λ line name verb v. unanswered_none line name (name_feed name v.named);
     spoken = λ raw name verb is. spoken_so (line_of desc raw) name verb (lines_speak_well desc run.order raw) is;
   }
 
-  run_true : (db : Db) → IsStart desc db → (first : ℕ) (lines : List (List ℕ)) → IsTrueRun first ValidQuiet (script_events desc db first lines)
-  run_true db start first lines = true_run desc Runs MaySay ValidQuiet speaks db first lines (record { sound = (stays_sound desc run.made).first db first start.valid start.flat; named = tt })
+  run_true : (db : Db) → IsStart desc db → (first : ℕ) (lines : List (List ℕ)) → IsTrueRun first StartQuiet (script_events desc db first lines)
+  run_true db start first lines = true_run desc Runs MaySay StartQuiet speaks db first lines (record { sound = (stays_sound desc run.made).first db first start.valid start.flat; named = tt })
 
 pub tells_true : (desc : Described) → IsRunnable desc → (db : Db) → IsStart desc db → (first : ℕ) (lines : List (List ℕ)) → TellsTrue desc db first lines
-tells_true desc run db start first lines = truthful first (ValidQuiet desc run) (script_events desc db first lines) (run_true desc run db start first lines)
+tells_true desc run db start first lines = truthful first (StartQuiet desc run) (script_events desc db first lines) (run_true desc run db start first lines)
 
 pub stops_told : (desc : Described) → IsRunnable desc → (db : Db) → IsStart desc db → (first : ℕ) (lines : List (List ℕ)) → StopsTold desc db first lines
-stops_told desc run db start first lines = leaves_told first (ValidQuiet desc run) (script_events desc db first lines) (run_true desc run db start first lines)
+stops_told desc run db start first lines = leaves_told first (StartQuiet desc run) (script_events desc db first lines) (run_true desc run db start first lines)
 
 pub stay_valid : (desc : Described) → IsRunnable desc → (db : Db) → IsStart desc db → (first : ℕ) (lines : List (List ℕ)) → StayValid desc db first lines
 stay_valid desc run db start first lines =
     let r = run_true desc run db start first lines in
     record {
       valid = r.points;
-      left = last_valid desc db (answers_quiets desc db first lines) start.valid r.points;
+      left = last_start desc db (answers_quiets desc db first lines) start r.points;
       numbers = numbered_rise first (answers_quiets desc db first lines) r.numbered;
     }
 

@@ -69,8 +69,9 @@ TellsTrue desc db first lines = IsTruthful (script_events desc db first lines)
 abbrev pub StopsTold : Described → Db → ℕ → List (List ℕ) → Type 0
 StopsTold desc db first lines = LeavesTold (script_events desc db first lines)
 
--- the quiet points that a script makes are valid databases, and their numbers rise one by one from the first number on
+-- a run may begin with the database of each quiet point that a script makes, and with the one that it leaves; the numbers of the quiet points rise one by
+-- one from the first number on
 pub record StayValid (desc : Described) (db : Db) (first : ℕ) (lines : List (List ℕ)) : Type 0 where
-  pub valid : AllByRecursion (λ (q : Quiet). IsValid desc q.1) (answers_quiets desc db first lines)
-  pub left : IsValid desc (left_by desc db first lines)
+  pub valid : AllByRecursion (λ (q : Quiet). IsStart desc q.1) (answers_quiets desc db first lines)
+  pub left : IsStart desc (left_by desc db first lines)
   pub numbers : RiseFrom first (answers_quiets desc db first lines)

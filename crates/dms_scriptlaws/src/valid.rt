@@ -21,8 +21,8 @@ pub fn verb_law()
     ensures { (desc : Described) → IsWellFormed desc → (line : List ℕ) (name : List ℕ) (verb : Verb) → line_of desc line ≡ Spoken name verb → IsVerbOf desc verb }
 {}
 
-/// The database of each quiet point of a script, and the one that it leaves, are valid where the first one is; their numbers
-/// rise one by one.
+/// The database of each quiet point of a script, and the one that it leaves, are such that a run may begin with them, where the first
+/// one is; their numbers rise one by one.
 pub fn quiets_law()
     ensures { (desc : Described) → IsRunnable desc → (db : Db) → IsStart desc db → (first : ℕ) (lines : List (List ℕ)) → StayValid desc db first lines }
 {}
