@@ -2,7 +2,7 @@
 use Rattle.std.proofs.Common.{ℕ, ◌-◌, ◌+◌, ◌^◌, ◌≤◌, ◌<◌, ◌≡◌, List, [], ◌∷◌, ◌++◌, map, length, take, refl, sym, ◌∙◌, ap, subst, arith, append_assoc, length-append, Option}
 use Rattle.std.proofs.lemmas.List.{map-append}
 use Rattle.dms_moments.specs.Moments.{Clock, Now, Steps}
-use Rattle.dms_site.specs.Files.{Left, stored_of}
+use Rattle.dms_site.specs.Files.{Files, Left, stored_of}
 use Rattle.dms_history.specs.Events.{Block, Content, Stored, Event, change, quiet}
 use Rattle.dms_history.specs.Replay.{TellsBefore, with_block}
 use Rattle.dms_history.specs.Base.{from_control, Sound}
@@ -16,7 +16,8 @@ use Rattle.dms_history.proofs.Order.{append_none, next_steps}
 use Rattle.dms_history.proofs.Sealed.{image_sealed, quiet_sealed}
 use Rattle.dms_history.proofs.Listed.{points_front, numbers_append}
 use Rattle.dms_running.specs.Telling.{Telling, IsTelling}
-use Rattle.dms_running.specs.Standing.{MayRun}
+use Rattle.dms_running.specs.FromDumps.{dump_in}
+use Rattle.dms_running.specs.Standing.{MayRun, IsWhole}
 use Rattle.dms_running.specs.Points.{DescribedPoint, described_in, points_told, points_of, LeavesPointsPrefix}
 use Rattle.dms_running.specs.Sealing.{SealsSome, Appended, AreSealed, Settled}
 use Rattle.dms_running.specs.Running.{State, entries_now, next_now, points_now, durable_now, here_now, content_now, IsPlainEntry, count_live, IsRunning, IsAnOutcome, LeavesPoints}
@@ -29,6 +30,14 @@ use Rattle.dms_running.proofs.Stopped.{more_points, blocks_same, joined, whole_r
 pub content_of : (t : Telling) (a : State) (xs : List Entry) (st : Stored) (d : Dumps) (base : Content) → entries_now t a ≡ xs → stored_of a.files ≡ st → MayRun t.first xs d base st → content_now t a ≡ content_told xs base
 content_of t a xs st d base is blocks m =
     (λ i. blocks_at (live_of (is i) ++ quiet (next_of (is i)) ∷ []) (blocks i) (next_of (is i))) ∙ content_at t.first xs d base st m
+
+-- the files of a database that runs hold it
+pub running_whole : (t : Telling) (a : State) → IsRunning t a → IsAnOutcome a → IsWhole t a.files
+running_whole t a r read =
+    let m : MayRun t.first (t.entries a.files) (t.dumps a.files) r.base (stored_of a.files) =
+    subst (λ (l : Files). MayRun t.first (t.entries a.files) (t.dumps l) r.base (stored_of l)) read.2
+    (subst (λ (l : List Entry). MayRun t.first l (t.dumps read.0.files) r.base (stored_of read.0.files)) (append_none (t.entries a.files)) (r.each 0 read.0 read.1)) in
+    record { found = subst t.found read.2 (r.found read.0 read.1); base = r.base; stands = m.stands; no_dump = ap dump_in m.none }
 
 -- ---- lists of points
 

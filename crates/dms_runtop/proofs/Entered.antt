@@ -1,10 +1,12 @@
 -- A run of the files that stand for a state, from the opening on.
-use Rattle.std.proofs.Common.{ℕ, ◌≡◌, ◌+◌, ◌<◌, ◌^◌, ◌∙◌, ◌⊎◌, inl, inr, Bool, IsTrue, List, [], ◌∷◌, ◌++◌, map, Option, Some, None, cond, refl, sym, ap, subst}
+use Rattle.std.proofs.Common.{ℕ, ◌≡◌, ◌∙◌, ◌⊎◌, inl, inr, Bool, IsTrue, List, [], ◌∷◌, ◌++◌, map, Option, Some, None, cond, refl, sym, ap, subst}
 use Rattle.std.specs.Prelude.{is_some}
 use Rattle.dms_desc.specs.Shape.{Described}
 use Rattle.dms_desc_bytes.specs.Spelling.{spelling}
 use Rattle.dms_feed.specs.Lines.{raw_lines}
+use Rattle.dms_runner.specs.Answers.{script_events}
 use Rattle.dms_model.specs.Db.{Db}
+use Rattle.dms_moments.specs.Moments.{Runs}
 use Rattle.dms_moments.specs.MomentLaws.{runs_weaken}
 use Rattle.dms_history.specs.EntryEvents.{live_of, history_of}
 use Rattle.dms_history.specs.Here.{here}
@@ -23,13 +25,17 @@ use Rattle.dms_wal.specs.Marks.{last_number}
 use Rattle.dms_opening.specs.declared.opened.Opened.{Opened}
 use Rattle.dms_opening.specs.Openings.{IsTrailFound, IsNoRefusal, IsOpenable, OpensAt, ReopensSince, RunsFrom}
 use Rattle.dms_opening.proofs.Callers.{trail_is_one}
+use Rattle.dms_run.specs.Files.{RunLeavesFiles}
+use Rattle.dms_run.specs.State.{HasNext}
 use Rattle.dms_run.specs.States.{LivesEndWith}
+use Rattle.dms_runlaws.specs.Held.{HoldsLast, NextIsOne, StatesAreHeld}
 use Rattle.dms_runlaws.specs.RunStands.{StopsStand}
 use Rattle.dms_status.specs.declared.status.Status.{Status}
-use Rattle.dms_runtop.specs.Command.{DatabaseState, HasNumbersLeft, HoldsState, HoldsTold, RunsCommand, RunsOpened, StandsOpened, StandsThroughout}
+use Rattle.dms_runtop.specs.Command.{DatabaseState, HasNumbersLeft, HoldsState, HoldsTold, RunsAlong, RunsCommand, RunsOpened, StandsOpened, StandsThroughout, StatesHold}
 use Rattle.dms_runtop.specs.Faults.{open_status}
 use Rattle.dms_runtop.specs.Over.{ScriptRuns, seen_site}
 use Rattle.dms_runtop.proofs.Endings.{IsUndone}
+use Rattle.dms_runtop.proofs.Holding.{trail_of}
 use Rattle.dms_runtop.proofs.Ran.{ran_nothing}
 use Rattle.dms_runtop.proofs.Since.{last_is, reopens_leaves, runs_since}
 
@@ -84,11 +90,6 @@ module _ {S : Type 0} (g : Ghosts S) (old : S) (s : DatabaseState) where
         let one = trail_is_one h.total h.first o.log.end.total o.log.first (g.files old) h.trail opens.trail in
         subst (λ k. P o.log.end.total k) one.1 (subst (λ k. P k h.first) one.0 p)
 
-    back_there : P o.log.end.total o.log.first → P h.total h.first
-    back_there p =
-        let one = trail_is_one h.total h.first o.log.end.total o.log.first (g.files old) h.trail opens.trail in
-        subst (λ k. P h.total k) (sym one.1) (subst (λ k. P k o.log.first) (sym one.0) p)
-
   state_here : (o : Opened S) → OpensAt o.log.end.total o.log.first (g.files old) o.point o.next o.schema.items o.counts.items → HoldsState (g.files old) s → LivesEndWith s.desc (points_of (telling (view_of g o.log)) (g.files old)) s.point s.db
   state_here o opens h = here_now (λ a b. LivesEndWith s.desc (points_of (telling_of a b) (g.files old)) s.point s.db) o opens h h.state
 
@@ -101,27 +102,29 @@ module _ {S : Type 0} (g : Ghosts S) (old : S) (s : DatabaseState) where
   opened_stands o opens runs h = stands_opened o opens (runs (whole_here o opens h)) h (state_here o opens h)
 
   -- the run, from the opening on
-  pub runs_entered : (o : Opened S) → OpensAt o.log.end.total o.log.first (g.files old) o.point o.next o.schema.items o.counts.items
+  pub runs_entered : NextIsOne → (o : Opened S) → OpensAt o.log.end.total o.log.first (g.files old) o.point o.next o.schema.items o.counts.items
       → (IsWhole (telling_of o.log.end.total o.log.first) (g.files old) → RunsFrom (g.files old) o.point o.next o.schema.items o.counts.items (view_of g o.log)) → ReopensSince g old o.log.site → g.said o.log.site ≡ g.said old
       → (known : Bool) (left left' : Option (List ℕ)) (status : Status) (new : S) → RunsOpened g o known left left' status new → IsTrue g.tells → IsTrue known
-      → (h : HoldsState (g.files old) s) → HasNumbersLeft (g.files old) s h → (all : List ℕ) → left ≡ Some all
-      → ScriptRuns (telling_of h.total h.first) s.desc (points_of (telling_of h.total h.first) (g.files old)) s.point s.db (next_in (telling_of h.total h.first) (g.files old)) all (seen_site g old) (seen_site g new) left' status
-  runs_entered o opens runs since said known left left' status new ran told knows h room all is =
+      → HoldsState (g.files old) s → (next : ℕ) → HasNext (g.files old) next → HasNumbersLeft next → (all : List ℕ) → left ≡ Some all → RunsAlong g s next all old new left' status
+  runs_entered one_next o opens runs since said known left left' status new ran told knows h next has_next room all is =
       let files : Files = g.files old in
       let t : Telling = telling_of o.log.end.total o.log.first in
       let ps : List DescribedPoint = points_of t files in
       let whole = whole_here o opens h in
       let state = state_here o opens h in
       let st = stands_opened o opens (runs whole) h state in
-      let space : next_in t files + 1000003 < 2 ^ 64 = here_now (λ a b. next_in (telling_of a b) files + 1000003 < 2 ^ 64) o opens h room in
-      let script : ScriptRuns t s.desc ps s.point s.db o.next all (seen_site g o.log.site) (seen_site g new) left' status =
-      ran told knows st s.point s.db all state (subst (λ m. m + 1000003 < 2 ^ 64) opens.next_is space) is in
-      let from_next : ScriptRuns t s.desc ps s.point s.db (next_in t files) all (seen_site g o.log.site) (seen_site g new) left' status =
-      subst (λ m. ScriptRuns t s.desc ps s.point s.db m all (seen_site g o.log.site) (seen_site g new) left' status) (sym opens.next_is) script in
-      let before = runs_weaken (since o.log.end.total o.log.first opens.trail whole) (reopens_leaves t files (seen_site g old).said s.desc s.point s.db state (raw_lines all)) in
-      back_there (λ a b. ScriptRuns (telling_of a b) s.desc (points_of (telling_of a b) files) s.point s.db (next_in (telling_of a b) files) all (seen_site g old) (seen_site g new) left' status) o opens h
-      (runs_since t s.desc ps s.point s.db (next_in t files) all (seen_site g old) (seen_site g o.log.site) (seen_site g new) left' status
-      (ap (λ (l : List ℕ). cond g.tells_said (Some l) None) said) before from_next)
+      let next_is : next_in t files ≡ next = one_next o.log.end.total o.log.first next files whole has_next in
+      let script : ScriptRuns t s.desc ps s.point s.db next all (seen_site g o.log.site) (seen_site g new) left' status =
+      subst (λ m. ScriptRuns t s.desc ps s.point s.db m all (seen_site g o.log.site) (seen_site g new) left' status) (sym opens.next_is ∙ next_is)
+      (ran told knows st s.point s.db all state (subst HasNumbersLeft (sym next_is ∙ opens.next_is) room) is) in
+      let before = runs_weaken (since o.log.end.total o.log.first opens.trail whole) (reopens_leaves t files (seen_site g old).said s.desc s.point s.db state next next_is (raw_lines all)) in
+      record {
+        total = o.log.end.total;
+        first = o.log.first;
+        trail = opens.trail;
+        runs = runs_since t s.desc ps s.point s.db next all (seen_site g old) (seen_site g o.log.site) (seen_site g new) left' status
+            (ap (λ (l : List ℕ). cond g.tells_said (Some l) None) said) before script;
+      }
 
   -- ---- it wasn't opened
 
@@ -133,16 +136,21 @@ module _ {S : Type 0} (g : Ghosts S) (old : S) (s : DatabaseState) where
   undone_open fault (inl (inr is)) = subst (λ (f : OpenFault). IsUndone (open_status f)) (sym is) tt
   undone_open fault (inr is) = subst (λ (f : OpenFault). IsUndone (open_status f)) (sym is) tt
 
-  pub runs_unopened : (fault : OpenFault) (new : S) → ((total first : ℕ) → IsOpenable total first (g.files old) → IsNoRefusal fault) → ReopensSince g old new → g.said new ≡ g.said old → (left' : Option (List ℕ))
-      → (h : HoldsState (g.files old) s) (all : List ℕ)
-      → ScriptRuns (telling_of h.total h.first) s.desc (points_of (telling_of h.total h.first) (g.files old)) s.point s.db (next_in (telling_of h.total h.first) (g.files old)) all (seen_site g old) (seen_site g new) left' (open_status fault)
-  runs_unopened fault new none since said left' h all =
+  pub runs_unopened : NextIsOne → (fault : OpenFault) (new : S) → ((total first : ℕ) → IsOpenable total first (g.files old) → IsNoRefusal fault) → ReopensSince g old new → g.said new ≡ g.said old → (left' : Option (List ℕ))
+      → HoldsState (g.files old) s → (next : ℕ) → HasNext (g.files old) next → (all : List ℕ) → RunsAlong g s next all old new left' (open_status fault)
+  runs_unopened one_next fault new none since said left' h next has_next all =
       let files : Files = g.files old in
       let t : Telling = telling_of h.total h.first in
-      ran_nothing t s.desc (points_of t files) s.point s.db (next_in t files) all (seen_site g old) (seen_site g new) left' (open_status fault)
-      (undone_open fault (none h.total h.first (openable h)))
-      (runs_weaken (since h.total h.first h.trail h.whole) (reopens_leaves t files (seen_site g old).said s.desc s.point s.db h.state (raw_lines all)))
-      (ap (λ (l : List ℕ). cond g.tells_said (Some l) None) said)
+      record {
+        total = h.total;
+        first = h.first;
+        trail = h.trail;
+        runs = ran_nothing t s.desc (points_of t files) s.point s.db next all (seen_site g old) (seen_site g new) left' (open_status fault)
+            (undone_open fault (none h.total h.first (openable h)))
+            (runs_weaken (since h.total h.first h.trail h.whole)
+            (reopens_leaves t files (seen_site g old).said s.desc s.point s.db h.state next (one_next h.total h.first next files h.whole has_next) (raw_lines all)))
+            (ap (λ (l : List ℕ). cond g.tells_said (Some l) None) said);
+      }
 
 -- ---- the command, where a state is told
 
@@ -151,29 +159,36 @@ some_told state s is = subst (λ (o : Option DatabaseState). IsTrue (is_some o))
 
 module _ {S : Type 0} (g : Ghosts S) (old : S) (state : Option DatabaseState) where
   -- what is told is known
-  pub opened_known : (o : Opened S) → OpensAt o.log.end.total o.log.first (g.files old) o.point o.next o.schema.items o.counts.items
+  pub opened_known : StatesHold → (o : Opened S) → OpensAt o.log.end.total o.log.first (g.files old) o.point o.next o.schema.items o.counts.items
       → (IsWhole (telling_of o.log.end.total o.log.first) (g.files old) → RunsFrom (g.files old) o.point o.next o.schema.items o.counts.items (view_of g o.log)) → IsTrue (is_some state) → HoldsTold state (g.files old) → StandsOpened g o
-  opened_known o opens runs = by_state state
+  opened_known hold o opens runs = by_state state
     where
       by_state : (told : Option DatabaseState) → IsTrue (is_some told) → HoldsTold told (g.files old) → StandsOpened g o
       by_state None knows holds = absurd (cc)
-      by_state (Some s) knows holds = opened_stands g old s o opens runs (holds s refl)
+      by_state (Some s) knows holds = opened_stands g old s o opens runs (hold (g.files old) s (holds s refl))
 
-  pub runs_found : (o : Opened S) → (IsTrue g.tells → OpensAt o.log.end.total o.log.first (g.files old) o.point o.next o.schema.items o.counts.items)
+  pub runs_found : StatesHold → NextIsOne → (IsTrue g.tells → HoldsTold state (g.files old)) → (o : Opened S) → (IsTrue g.tells → OpensAt o.log.end.total o.log.first (g.files old) o.point o.next o.schema.items o.counts.items)
       → (IsTrue g.tells → IsWhole (telling_of o.log.end.total o.log.first) (g.files old) → RunsFrom (g.files old) o.point o.next o.schema.items o.counts.items (view_of g o.log)) → (IsTrue g.tells → ReopensSince g old o.log.site) → g.said o.log.site ≡ g.said old
       → (left left' : Option (List ℕ)) (status : Status) (new : S) → RunsOpened g o (is_some state) left left' status new → RunsCommand g state old new left left' status
-  runs_found o opens runs since said left left' status new ran tells s is h room all held =
-      runs_entered g old s o (opens tells) (runs tells) (since tells) said (is_some state) left left' status new ran tells (some_told state s is) h room all held
+  runs_found hold one_next told o opens runs since said left left' status new ran tells s is next has_next room all held =
+      runs_entered g old s one_next o (opens tells) (runs tells) (since tells) said (is_some state) left left' status new ran tells (some_told state s is) (hold (g.files old) s (told tells s is)) next has_next room all held
 
-  pub runs_refused : (fault : OpenFault) (new : S) → (IsTrue g.tells → (total first : ℕ) → IsOpenable total first (g.files old) → IsNoRefusal fault) → (IsTrue g.tells → ReopensSince g old new) → g.said new ≡ g.said old
-      → (left left' : Option (List ℕ)) (status : Status) → status ≡ open_status fault → RunsCommand g state old new left left' status
-  runs_refused fault new none since said left left' status status_is tells s is h room all held =
-      subst (λ (x : Status). ScriptRuns (telling_of h.total h.first) s.desc (points_of (telling_of h.total h.first) (g.files old)) s.point s.db (next_in (telling_of h.total h.first) (g.files old)) all (seen_site g old) (seen_site g new) left' x) (sym status_is)
-      (runs_unopened g old s fault new (none tells) (since tells) said left' h all)
+  pub runs_refused : StatesHold → NextIsOne → (IsTrue g.tells → HoldsTold state (g.files old)) → (fault : OpenFault) (new : S) → (IsTrue g.tells → (total first : ℕ) → IsOpenable total first (g.files old) → IsNoRefusal fault)
+      → (IsTrue g.tells → ReopensSince g old new) → g.said new ≡ g.said old → (left left' : Option (List ℕ)) (status : Status) → status ≡ open_status fault → RunsCommand g state old new left left' status
+  runs_refused hold one_next told fault new none since said left left' status status_is tells s is next has_next room all held =
+      subst (λ (x : Status). RunsAlong g s next all old new left' x) (sym status_is)
+      (runs_unopened g old s one_next fault new (none tells) (since tells) said left' (hold (g.files old) s (told tells s is)) next has_next all)
 
   -- each stop leaves a state
-  pub stands_throughout : StopsStand → (left left' : Option (List ℕ)) (status : Status) (new : S) → RunsCommand g state old new left left' status → StandsThroughout g state old new left
-  stands_throughout law left left' status new ran tells s is h room start low all held =
-      let t : Telling = telling_of h.total h.first in
-      runs_weaken (ran tells s is h room all held).every_moment
-      (λ x l. law h.total h.first s.desc h.formed s.db start (seen_site g old).said (points_of t (g.files old)) s.point (next_in t (g.files old)) (raw_lines all) x low l)
+  pub stands_throughout : StatesAreHeld → StopsStand → (IsTrue g.tells → HoldsTold state (g.files old)) → (left left' : Option (List ℕ)) (status : Status) (new : S) → RunsCommand g state old new left left' status
+      → StandsThroughout g state old new left
+  stands_throughout held law told left left' status new ran tells s is start next has_next room all here =
+      let files : Files = g.files old in
+      let h : HoldsLast files s.point s.desc s.db = held files s.point s.desc s.db (told tells s is) in
+      let along : RunsAlong g s next all old new left' status = ran tells s is next has_next room all here in
+      let one = trail_is_one along.total along.first h.total h.first files along.trail (trail_of h) in
+      let each : Runs (g.clock old) (g.clock new) (λ x. RunLeavesFiles (telling_of h.total h.first) s.desc (seen_site g old).said (points_of (telling_of h.total h.first) files) s.point s.db next (script_events s.desc s.db next (raw_lines all)) x) =
+      subst (λ k. Runs (g.clock old) (g.clock new) (RunLeavesFiles (telling_of k h.first) s.desc (seen_site g old).said (points_of (telling_of k h.first) files) s.point s.db next (script_events s.desc s.db next (raw_lines all)))) one.0
+      (subst (λ k. Runs (g.clock old) (g.clock new) (RunLeavesFiles (telling_of along.total k) s.desc (seen_site g old).said (points_of (telling_of along.total k) files) s.point s.db next (script_events s.desc s.db next (raw_lines all)))) one.1
+      along.runs.every_moment) in
+      runs_weaken each (λ x l. law files s.point s.desc s.db h start next has_next (seen_site g old).said (raw_lines all) x l)

@@ -8,5 +8,6 @@ pub mod Since
 pub mod Engine
 pub mod Looked
 pub mod Unveiled
+pub mod Holding
 pub mod Entered
 pub mod Refused

@@ -37,21 +37,21 @@ first_event desc db next lines = first_of (script_run desc db next lines).events
 
 -- ---- the opening
 
-module _ (t : Telling) (files : Files) (said : Option (List ℕ)) (desc : Described) (n : ℕ) (db : Db) (state : LivesEndWith desc (points_of t files) n db) (lines : List (List ℕ)) where
+module _ (t : Telling) (files : Files) (said : Option (List ℕ)) (desc : Described) (n : ℕ) (db : Db) (state : LivesEndWith desc (points_of t files) n db) (next : ℕ) (next_is : next_in t files ≡ next) (lines : List (List ℕ)) where
   -- a stop within the opening left the database of entry, and no text
-  pub reopens_leaves : (x : Left) → Reopens t files said x → RunLeavesFiles t desc said (points_of t files) n db (next_in t files) (script_events desc db (next_in t files) lines) x
+  pub reopens_leaves : (x : Left) → Reopens t files said x → RunLeavesFiles t desc said (points_of t files) n db next (script_events desc db next lines) x
   reopens_leaves x r =
-      let f = first_event desc db (next_in t files) lines in
+      let f = first_event desc db next lines in
       record {
         made = [];
-        rest = quiets_of (script_events desc db (next_in t files) lines);
+        rest = quiets_of (script_events desc db next lines);
         front_of = refl;
         state = subst (λ (ps : List DescribedPoint). LivesEndWith desc ps n db) (sym r.points_same) state;
         more = [];
         kept = r.points_same ∙ sym (append-nil (points_of t files));
         are = refl;
         each = tt;
-        next_is = omega (arith, r.not_fallen);
+        next_is = omega (arith, next_is, r.not_fallen);
         text = λ b is. record { before = []; at = f.one; rest = f.rest; all = f.are; printed = 0; said_is = r.text b is ∙ sym (append-nil b); enough = omega arith };
         whole = r.whole;
       }

@@ -18,6 +18,7 @@ use Rattle.dms_running.specs.Points.{points_of, next_in}
 use Rattle.dms_opening.specs.declared.choosing.OpenFault.{OpenFault}
 use Rattle.dms_restore.specs.Logging.{telling_of, telling, points}
 use Rattle.dms_restore.specs.Views.{view_of}
+use Rattle.dms_run.specs.State.{StateOf, HasNext}
 use Rattle.dms_run.specs.States.{LivesEndWith}
 use Rattle.dms_opening.specs.declared.opened.Opened.{Opened}
 use Rattle.dms_opening.specs.Laws.{LastIsDescribed}
@@ -33,8 +34,16 @@ pub record DatabaseState : Type 0 where
   pub desc : Described
   pub db : Db
 
--- Files stand for this state: scanning refuses nothing, the entries agree with the dumps and blocks, and their last live point has that number. The last
--- whole live Schema before its place is that of the description, which is well-formed, and the blocks at the point spell the database.
+-- where a state is told, files stand for it
+abbrev pub HoldsTold : Option DatabaseState → Files → Type 0
+HoldsTold state files = (s : DatabaseState) → state ≡ Some s → StateOf files s.point s.desc s.db
+
+-- there is room for the numbers of a script, from the next number on
+abbrev pub HasNumbersLeft : ℕ → Type 0
+HasNumbersLeft next = next + 1000003 < 2 ^ 64
+
+-- Files that stand for this state hold a database, as an opening asks for it: their trail is found, and their last live point, which has that
+-- number and is described, is the last of their points.
 pub record HoldsState (files : Files) (s : DatabaseState) : Type 0 where
   pub total : ℕ
   pub first : ℕ
@@ -44,13 +53,8 @@ pub record HoldsState (files : Files) (s : DatabaseState) : Type 0 where
   pub state : LivesEndWith s.desc (points_of (telling_of total first) files) s.point s.db
   pub formed : IsWellFormed s.desc
 
--- where a state is told, files stand for it
-abbrev pub HoldsTold : Option DatabaseState → Files → Type 0
-HoldsTold state files = (s : DatabaseState) → state ≡ Some s → HoldsState files s
-
--- there is room for the numbers of a script
-abbrev pub HasNumbersLeft : (files : Files) (s : DatabaseState) → HoldsState files s → Type 0
-HasNumbersLeft files s h = next_in (telling_of h.total h.first) files + 1000003 < 2 ^ 64
+abbrev pub StatesHold : Type 0
+StatesHold = (files : Files) (s : DatabaseState) → StateOf files s.point s.desc s.db → HoldsState files s
 
 module _ {S : Type 0} (g : Ghosts S) where
   -- The database that was opened stands, under the description whose bytes were found.
@@ -67,19 +71,23 @@ module _ {S : Type 0} (g : Ghosts S) where
       IsTrue g.tells → IsTrue known → (st : StandsOpened o) (n : ℕ) (db : Db) (all : List ℕ) → LivesEndWith st.desc (points_of (telling (view_of g o.log)) st.files) n db → o.next + 1000003 < 2 ^ 64 → left ≡ Some all
       → ScriptRuns (telling (view_of g o.log)) st.desc (points_of (telling (view_of g o.log)) st.files) n db o.next all (seen_site g o.log.site) (seen_site g site) left' status
 
-  -- a run of the script over the database that the files of a site stand for
+  -- a run of the script over the database that the files of a site stand for, whose next number is this one, along their trail
+  pub record RunsAlong (s : DatabaseState) (next : ℕ) (all : List ℕ) (old new : S) (left' : Option (List ℕ)) (status : Status) : Type 0 where
+    pub total : ℕ
+    pub first : ℕ
+    pub trail : IsTrailFound total first (g.files old)
+    pub runs : ScriptRuns (telling_of total first) s.desc (points_of (telling_of total first) (g.files old)) s.point s.db next all (seen_site g old) (seen_site g new) left' status
+
   abbrev pub RunsCommand : Option DatabaseState → S → S → Option (List ℕ) → Option (List ℕ) → Status → Type 0
   RunsCommand state old new left left' status =
-      IsTrue g.tells → (s : DatabaseState) → state ≡ Some s → (h : HoldsState (g.files old) s) → HasNumbersLeft (g.files old) s h → (all : List ℕ) → left ≡ Some all
-      → ScriptRuns (telling_of h.total h.first) s.desc (points_of (telling_of h.total h.first) (g.files old)) s.point s.db (next_in (telling_of h.total h.first) (g.files old)) all (seen_site g old) (seen_site g new) left' status
+      IsTrue g.tells → (s : DatabaseState) → state ≡ Some s → (next : ℕ) → HasNext (g.files old) next → HasNumbersLeft next → (all : List ℕ) → left ≡ Some all → RunsAlong s next all old new left' status
 
-  -- at every moment a stop leaves files that stand for the database of entry or of one quiet point, no earlier than the printed text tells, and each
-  -- point up to it has its own state
+  -- Where a run may begin with the database, at every moment a stop leaves files that stand for it or for that of one quiet point, no earlier than the printed
+  -- text tells, and each point up to it has its own state. With that database, too, a run may begin.
   abbrev pub StandsThroughout : Option DatabaseState → S → S → Option (List ℕ) → Type 0
   StandsThroughout state old new left =
-      IsTrue g.tells → (s : DatabaseState) → state ≡ Some s → (h : HoldsState (g.files old) s) → HasNumbersLeft (g.files old) s h → IsStart s.desc s.db → s.point < next_in (telling_of h.total h.first) (g.files old) → (all : List ℕ) → left ≡ Some all
-      → Runs (g.clock old) (g.clock new) (RunStands s.desc (seen_site g old).said (points_of (telling_of h.total h.first) (g.files old)) s.point s.db (next_in (telling_of h.total h.first) (g.files old))
-      (answers_quiets s.desc s.db (next_in (telling_of h.total h.first) (g.files old)) (raw_lines all)))
+      IsTrue g.tells → (s : DatabaseState) → state ≡ Some s → IsStart s.desc s.db → (next : ℕ) → HasNext (g.files old) next → HasNumbersLeft next → (all : List ℕ) → left ≡ Some all
+      → Runs (g.clock old) (g.clock new) (RunStands (g.files old) s.desc (seen_site g old).said s.point s.db next (answers_quiets s.desc s.db next (raw_lines all)))
 
   -- files that hold a database, whose last point is live and described, are refused by nothing
   abbrev pub NeverRefuses : S → Status → Type 0

@@ -15,6 +15,7 @@ ghost use Rattle.dms_wal.specs.Marks.{IsDescription};
 use crate::describing::describe;
 use crate::ended::Ended;
 use crate::ending::status_of_open;
+use crate::laws::state_law;
 use crate::over::run_over;
 use crate::veil::{Knows, Veiled};
 use dms_desc::Description;
@@ -22,7 +23,7 @@ use dms_desc_bytes::{encode, spelling_law};
 use dms_descfile::FileFault;
 use dms_opening::{Found, Opened, open};
 use dms_restore::Log;
-use dms_runlaws::stands_law;
+use dms_runlaws::{held_law, stands_law};
 use dms_site::{Site, Source};
 use dms_status::Status;
 use dms_store::served_law;
@@ -206,6 +207,8 @@ fn run_found<S: Site, I: Source>(alloc: Global, site: S, source: &mut I) -> Ende
     ensures same { S.same_site site result.site }
     ensures same_source { I.same_source source.old source.new }
 {
+    held_law();
+    state_law();
     match open(alloc, Found { site }) {
         Ok(opened) => run_opened::<S, I, Brand>(alloc, opened, source),
         Err((fault, site)) => Ended {
@@ -217,7 +220,8 @@ fn run_found<S: Site, I: Source>(alloc: Global, site: S, source: &mut I) -> Ende
 
 /// `run`: opens the database by halt/load, runs the lines of the script and closes it.
 ///
-/// What is said of points, moments and text is said of each state that the files stand for at entry: a caller may tell it, and needn't.
+/// What is said of points, moments and text is said of each state that the files stand for at entry: a caller may tell it, and needn't. Each
+/// stop leaves files that stand for one again, so that what it tells of them is what another run asks for.
 pub fn run_command<S: Site, I: Source>(alloc: Global, site: &mut S, source: &mut I) -> Status
     ghost state: { Option DatabaseState }
     requires told { IsTrue S.tells → HoldsTold state (S.files site.old) }
@@ -233,6 +237,7 @@ pub fn run_command<S: Site, I: Source>(alloc: Global, site: &mut S, source: &mut
     ensures same_site { S.same_site site.old site.new }
     ensures same_source { I.same_source source.old source.new }
 {
+    held_law();
     stands_law();
     let ended = run_found(alloc, site, source);
     let status = ended.status;

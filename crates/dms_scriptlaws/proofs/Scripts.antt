@@ -1,5 +1,5 @@
 -- The laws of scripts, from those of one step.
-use Rattle.std.proofs.Common.{ℕ, ◌≡◌, ◌-◌, List, [], ◌∷◌, sym, subst, Some, None}
+use Rattle.std.proofs.Common.{ℕ, ◌≡◌, ◌+◌, ◌-◌, ◌∙◌, List, [], ◌∷◌, Bool, true, false, cond, length, refl, sym, subst, Some, None}
 use Rattle.std.specs.List.{AllByRecursion}
 use Rattle.std.specs.Prelude.{slice_get}
 use Rattle.std.specs.declared.option.Option.{Option}
@@ -13,7 +13,7 @@ use Rattle.dms_model.specs.declared.verb.Verb.TheVariants.{OpenUpdate, OpenInqui
 use Rattle.dms_model.specs.Db.{Db, empty_db}
 use Rattle.dms_desc.specs.Lookups.{structure_of, items_of}
 use Rattle.dms_model.specs.Points.{Quiet}
-use Rattle.dms_model.specs.Session.{Session, step}
+use Rattle.dms_model.specs.Session.{Session, step, fresh_session, someone_works}
 use Rattle.dms_model.specs.Spoken.{IsPlainLiteral}
 use Rattle.dms_laws.specs.Sound.{IsSound, NamesOuter}
 use Rattle.dms_laws.proofs.Points.{step_points}
@@ -24,12 +24,12 @@ use Rattle.dms_script.specs.Lines.{line_of}
 use Rattle.dms_script.specs.Spoken.{MaySetTo, NamesWhatIsThere, SpeaksWell}
 use Rattle.dms_script.proofs.Spoken.{lines_speak_well}
 use Rattle.dms_runner.proofs.LineVerbs.{outer_of}
-use Rattle.dms_runner.specs.Answers.{script_events, answers_quiets, last_quiet}
+use Rattle.dms_runner.specs.Answers.{script_events, script_run, answers_quiets, last_quiet}
 use Rattle.dms_scriptlaws.specs.Truths.{IsRunnable, IsStart, TellsTrue, StopsTold, StayValid}
 use Rattle.dms_scriptlaws.proofs.Feeds.{name_feed, reply_none, bad_none, unanswered_none}
 use Rattle.dms_scriptlaws.proofs.Prefixes.{truthful, leaves_told, numbered_rise}
 use Rattle.dms_scriptlaws.proofs.Named.{AreNamed, step_named}
-use Rattle.dms_scriptlaws.proofs.Speaking.{Speaks, IsTrueRun, true_run}
+use Rattle.dms_scriptlaws.proofs.Speaking.{Speaks, IsTrueRun, true_run, run_next}
 
 texts_of : (o : Option Item) (l : Literal) → MaySetTo o l → IsPlainLiteral l
 texts_of None l h = absurd h
@@ -93,14 +93,25 @@ module _ (desc : Described) (run : IsRunnable desc) where
     spoken = λ raw name verb is. spoken_so (line_of desc raw) name verb (lines_speak_well desc run.order raw) is;
   }
 
+  begins : (db : Db) → IsStart desc db → (first : ℕ) → Runs (fresh_session db first)
+  begins db start first = record { sound = (stays_sound desc run.made).first db first start.valid start.flat; named = tt }
+
   run_true : (db : Db) → IsStart desc db → (first : ℕ) (lines : List (List ℕ)) → IsTrueRun first StartQuiet (script_events desc db first lines)
-  run_true db start first lines = true_run desc Runs MaySay StartQuiet speaks db first lines (record { sound = (stays_sound desc run.made).first db first start.valid start.flat; named = tt })
+  run_true db start first lines = true_run desc Runs MaySay StartQuiet speaks db first lines (begins db start first)
+
+  next_after : (db : Db) → IsStart desc db → (first : ℕ) (lines : List (List ℕ)) → (script_run desc db first lines).going.session.next ≡ first + length (answers_quiets desc db first lines)
+  next_after db start first lines = run_next desc Runs MaySay StartQuiet speaks db first lines (begins db start first)
 
 pub tells_true : (desc : Described) → IsRunnable desc → (db : Db) → IsStart desc db → (first : ℕ) (lines : List (List ℕ)) → TellsTrue desc db first lines
 tells_true desc run db start first lines = truthful first (StartQuiet desc run) (script_events desc db first lines) (run_true desc run db start first lines)
 
 pub stops_told : (desc : Described) → IsRunnable desc → (db : Db) → IsStart desc db → (first : ℕ) (lines : List (List ℕ)) → StopsTold desc db first lines
 stops_told desc run db start first lines = leaves_told first (StartQuiet desc run) (script_events desc db first lines) (run_true desc run db start first lines)
+
+-- going back to the last quiet point uses up no number
+ended_next : (s : Session) (b : Bool) → (cond b (record s { db = s.mark }) s).next ≡ s.next
+ended_next s true = refl
+ended_next s false = refl
 
 pub stay_valid : (desc : Described) → IsRunnable desc → (db : Db) → IsStart desc db → (first : ℕ) (lines : List (List ℕ)) → StayValid desc db first lines
 stay_valid desc run db start first lines =
@@ -109,6 +120,7 @@ stay_valid desc run db start first lines =
       valid = r.points;
       left = last_start desc db (answers_quiets desc db first lines) start r.points;
       numbers = numbered_rise first (answers_quiets desc db first lines) r.numbered;
+      next = ended_next (script_run desc db first lines).going.session (someone_works (script_run desc db first lines).going.session.programs) ∙ next_after desc run db start first lines;
     }
 
 pub empty_start : (desc : Described) → IsStart desc empty_db

@@ -245,12 +245,20 @@ module _ (desc : Described) (K : Session → Type 0) (V : List ℕ → Verb → 
   back_tells : (s : Session) → K s → Tells s s (goes_back ∷ [])
   back_tells s k = record { clean = k; next = omega arith; numbered = tt; points = tt; honest = λ first count durable at within. (refl, (tt, tt)) }
 
-  pub true_run : (db : Db) (first : ℕ) (lines : List (List ℕ)) → K (fresh_session db first) → IsTrueRun first Q (script_events desc db first lines)
+  whole_run : (db : Db) (first : ℕ) (lines : List (List ℕ)) → K (fresh_session db first) → Tells (fresh_session db first) (script_run desc db first lines).going.session (script_events desc db first lines)
   unfolding script_events
-  true_run db first lines k =
+  whole_run db first lines k =
       let r = script_run desc db first lines in
       let f = run_leads (first_state db first) lines k tt in
       let s = r.going.session in
       let u = tells_on s s s _ _ (unanswered_tells s r.going.waiting f.tells.clean f.waiting) (back_tells s f.tells.clean) in
-      let all = tells_on (fresh_session db first) s s _ _ f.tells u in
+      tells_on (fresh_session db first) s s _ _ f.tells u
+
+  pub true_run : (db : Db) (first : ℕ) (lines : List (List ℕ)) → K (fresh_session db first) → IsTrueRun first Q (script_events desc db first lines)
+  true_run db first lines k =
+      let all = whole_run db first lines k in
       record { honest = all.honest first 0 0 (omega arith) (omega arith); numbered = all.numbered; points = all.points }
+
+  -- each quiet point uses up one number
+  pub run_next : (db : Db) (first : ℕ) (lines : List (List ℕ)) → K (fresh_session db first) → (script_run desc db first lines).going.session.next ≡ first + length (quiets_of (script_events desc db first lines))
+  run_next db first lines k = (whole_run db first lines k).next

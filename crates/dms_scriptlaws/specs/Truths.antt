@@ -1,5 +1,5 @@
 -- What a script tells, and when that is true.
-use Rattle.std.specs.Prelude.{ℕ, ◌≡◌, ◌≤◌, ◌⊎◌, ◌==◌, List, ◌∷◌, ◌++◌, Bool, IsTrue, Some, map, take, length}
+use Rattle.std.specs.Prelude.{ℕ, ◌≡◌, ◌≤◌, ◌+◌, ◌⊎◌, ◌==◌, List, ◌∷◌, ◌++◌, Bool, IsTrue, Some, map, take, length}
 use Rattle.std.specs.List.{list_any, range_with_len, AllByRecursion}
 use Rattle.dms_base.specs.Name.{IsName}
 use Rattle.dms_desc.specs.declared.structure.Item.{Item}
@@ -7,10 +7,11 @@ use Rattle.dms_desc.specs.Shape.{Shape, Described}
 use Rattle.dms_model.specs.Db.{Db}
 use Rattle.dms_desc.specs.Lookups.{structure_of}
 use Rattle.dms_model.specs.Points.{Point, Quiet, Stop}
+use Rattle.dms_model.specs.Session.{ended}
 use Rattle.dms_model.specs.Valid.{IsValid}
 use Rattle.dms_laws.specs.Made.{IsWellMade, OfAllItems}
 use Rattle.dms_laws.specs.Sound.{IsFlat}
-use Rattle.dms_runner.specs.Answers.{script_events, answers_quiets, left_by}
+use Rattle.dms_runner.specs.Answers.{script_events, script_run, answers_quiets, left_by}
 use Rattle.dms_runner.specs.EventLaws.{any}
 use Rattle.dms_runner.specs.Events.{RunEvent, CrashesWithin, text_of, quiets_of, durable_after}
 use Rattle.dms_script.specs.Spoken.{HasOrder}
@@ -70,8 +71,9 @@ abbrev pub StopsTold : Described → Db → ℕ → List (List ℕ) → Type 0
 StopsTold desc db first lines = LeavesTold (script_events desc db first lines)
 
 -- a run may begin with the database of each quiet point that a script makes, and with the one that it leaves; the numbers of the quiet points rise one by
--- one from the first number on
+-- one from the first number on, and the next one follows them
 pub record StayValid (desc : Described) (db : Db) (first : ℕ) (lines : List (List ℕ)) : Type 0 where
   pub valid : AllByRecursion (λ (q : Quiet). IsStart desc q.1) (answers_quiets desc db first lines)
   pub left : IsStart desc (left_by desc db first lines)
   pub numbers : RiseFrom first (answers_quiets desc db first lines)
+  pub next : (ended (script_run desc db first lines).going.session).next ≡ first + length (answers_quiets desc db first lines)

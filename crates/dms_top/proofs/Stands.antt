@@ -36,6 +36,7 @@ use Rattle.dms_creation.specs.Creation.{IsMade, Initializes}
 use Rattle.dms_creation.specs.FoundAgain.{MadeIsFound}
 use Rattle.dms_running.specs.FromDumps.{dump_in}
 use Rattle.dms_restore.specs.Dumped.{dumps_of}
+use Rattle.dms_scriptlaws.proofs.Scripts.{empty_start}
 use Rattle.dms_top.specs.State.{StandsNew, BecomesNew, MadeStands}
 
 -- ---- the counts of a new database
@@ -219,6 +220,7 @@ module _ (found : MadeIsFound) (sealed_control : ControlSealed) (first_agrees : 
             };
             last = ap (λ (l : List Event). last_point (history l)) events_are ∙ last_first n;
           };
+          valid = empty_start d;
           next = record { entries = first_entries d; finds = f; is = ap next_number events_are ∙ next_first n };
           tagged = record { entries = first_entries d; finds = f; is = made.trail.writes.tags f.trail.first f.trail.span.low (first_within f.trail.span) };
         }

@@ -15,6 +15,7 @@ use Rattle.dms_history.proofs.Picks.{some_is}
 use Rattle.dms_audfile.specs.Counting.{CountedAt, not_counted}
 use Rattle.dms_audfile.specs.Gates.{is_full}
 use Rattle.dms_running.specs.Telling.{Telling}
+use Rattle.dms_running.specs.Standing.{IsWhole}
 use Rattle.dms_running.specs.Points.{points_of, next_in}
 use Rattle.dms_restore.specs.Logging.{LogView, telling, content, entries, Ends}
 use Rattle.dms_restore.specs.BackOuts.{WentBackTo}
@@ -45,6 +46,7 @@ pub closed_back : (v b : LogView) (changed : Bool) (point : ℕ) (schema : List 
     → control ≡ entries_control point schema next marks → WentBackTo point v b (entries_back point schema next marks) → FilesStand b control (content b) files clock → IsClosed v changed point schema next marks files clock
 closed_back v b changed point schema next marks control files clock on same contents is w f =
     subst (λ c. IsClosed v c point schema next marks files clock) (sym on) (record {
+      whole = subst (λ (t : Telling). IsWhole t files) same f.whole;
       entries_are = ap (λ (t : Telling). t.entries files) (sym same) ∙ f.entries_are ∙ (λ i. w.entries_are i ++ is i) ∙ append_assoc (entries v) (entries_back point schema next marks) (entries_control point schema next marks);
       points_are = ap (λ (t : Telling). points_of t files) (sym same) ∙ f.points_are ∙ w.points_same;
       next_is = ap (λ (t : Telling). next_in t files) (sym same) ∙ f.next_is ∙ w.next_same;

@@ -26,7 +26,7 @@ use Rattle.dms_running.specs.Telling.{Telling}
 use Rattle.dms_running.specs.Running.{State, IsRunning, entries_now, content_now, points_now, next_now, durable_now, here_now}
 use Rattle.dms_running.specs.Frames.{FramesHold}
 use Rattle.dms_running.specs.Points.{DescribedPoint, points_of, next_in}
-use Rattle.dms_running.proofs.Appending.{now_runs}
+use Rattle.dms_running.proofs.Appending.{now_runs, running_whole}
 use Rattle.dms_restore.specs.Logging as logs
 use Rattle.dms_restore.specs.Logging.{waits, LogView, view, telling, state, entries, points, content, LogRuns}
 use Rattle.dms_restore.specs.Views.{view_of}
@@ -166,6 +166,7 @@ closes a v schema point next counts same ps nexts contents runs read m =
     let s = m.settled in
     let all : entries v ≡ (telling v).entries v.files = ap (λ (l : List Entry). (telling v).entries v.files ++ l) s.nothing ∙ append_none ((telling v).entries v.files) in
     record {
+      whole = subst (λ (t : Telling). IsWhole t v.files) same (running_whole (telling v) (state v) runs.runs read);
       entries_are = ap (λ (t : Telling). t.entries v.files) (sym same) ∙ sym all ∙ m.entries_are;
       points_are = ap (λ (t : Telling). points_of t v.files) (sym same) ∙ sym (all_points (telling v) (state v) s.nothing) ∙ ps;
       next_is = ap (λ (t : Telling). next_in t v.files) (sym same) ∙ sym (all_next (telling v) (state v) s.nothing) ∙ nexts;
@@ -178,6 +179,7 @@ closes a v schema point next counts same ps nexts contents runs read m =
 pub closes_alike : (a b v : LogView) (schema : List ℕ) (point next : ℕ) (counts : List ℕ) → telling b ≡ telling a → entries b ≡ entries a → points b ≡ points a → logs.next b ≡ logs.next a → content b ≡ content a
     → FilesStand b (entries_control point schema next counts) (content b) v.files v.clock → FilesStand a (entries_control point schema next counts) (content a) v.files v.clock
 closes_alike a b v schema point next counts same es ps nexts contents c = record {
+  whole = subst (λ (t : Telling). IsWhole t v.files) same c.whole;
   entries_are = ap (λ (t : Telling). t.entries v.files) (sym same) ∙ c.entries_are ∙ ap (λ (l : List Entry). l ++ (schema_entries (bodies schema) ++ control_point point next (file_counts 30001 counts) ∷ [])) es;
   points_are = ap (λ (t : Telling). points_of t v.files) (sym same) ∙ c.points_are ∙ ps;
   next_is = ap (λ (t : Telling). next_in t v.files) (sym same) ∙ c.next_is ∙ nexts;

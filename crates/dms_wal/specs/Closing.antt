@@ -9,6 +9,7 @@ use Rattle.dms_history.specs.Entries.{Entry, control_point}
 use Rattle.dms_history.specs.Schemas.{schema_entries}
 use Rattle.dms_history.specs.EntryEvents.{history_of}
 use Rattle.dms_audfile.specs.Gates.{is_full}
+use Rattle.dms_running.specs.Standing.{IsWhole}
 use Rattle.dms_running.specs.Points.{points_of, next_in}
 use Rattle.dms_audrec.specs.Bodies.{bodies}
 use Rattle.dms_restore.specs.Counts.{file_counts}
@@ -30,9 +31,10 @@ abbrev pub entries_closing : Bool → ℕ → List ℕ → ℕ → List ℕ → 
 entries_closing true point schema next marks = entries_back point schema next marks ++ entries_control point schema next marks
 entries_closing false point schema next marks = entries_control point schema next marks
 
--- These files hold all entries that there were and these behind them, all points and the next number. No restore is pending, each block of
--- this content stands, and a stop now leaves them.
+-- These files hold a database, with all entries that there were and these behind them, all points and the next number. No restore is pending, each
+-- block of this content stands, and a stop now leaves them.
 pub record FilesStand (v : LogView) (behind : List Entry) (blocks : Content) (files : Files) (clock : Clock Left) : Type 0 where
+  pub whole : IsWhole (telling v) files
   pub entries_are : (telling v).entries files ≡ entries v ++ behind
   pub points_are : points_of (telling v) files ≡ points v
   pub next_is : next_in (telling v) files ≡ logs.next v

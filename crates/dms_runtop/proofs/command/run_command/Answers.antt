@@ -9,4 +9,4 @@ returns-clause-ran g c =
     (subst (λ (x : MutBor g.row.S.Denot). RunsCommand g.S.Site g.state c.args.site.now x.now (g.I.Source.left c.args.source.now) (g.I.Source.left c.run_found-ended.new.source) c.run_found-ended.result.status) (sym c.into_site-site.ensures) c.run_found-ended.ensures.ran)
 
 pub returns-clause-stands : goal.returns-clause-stands
-returns-clause-stands g c = stands_throughout g.S.Site c.args.site.now g.state c.stands_law.ensures (g.I.Source.left c.args.source.now) (g.I.Source.left c.run_found-ended.new.source) c.run_found-ended.result.status _ (returns-clause-ran g c)
+returns-clause-stands g c = stands_throughout g.S.Site c.args.site.now g.state c.held_law.ensures.state c.stands_law.ensures c.requires.1.1 (g.I.Source.left c.args.source.now) (g.I.Source.left c.run_found-ended.new.source) c.run_found-ended.result.status _ (returns-clause-ran g c)
