@@ -10,11 +10,12 @@ use Rattle.dms_running.proofs.Wholes.{point_below}
 use Rattle.dms_scriptlaws.specs.Truths.{IsStart}
 use Rattle.dms_scriptlaws.proofs.Formed.{runnable}
 use Rattle.dms_scriptlaws.proofs.Scripts.{tells_true, stay_valid}
+use Rattle.dms_run.specs.State.{HasNext}
 use Rattle.dms_run.specs.States.{HasLive}
 use Rattle.dms_run.specs.Stops.{last_quiet_number, IsOneOf}
 use Rattle.dms_run.proofs.Standing.{stands}
 use Rattle.dms_run.proofs.Words.{last_one}
-use Rattle.dms_runlaws.specs.RunStands.{StopsStand}
+use Rattle.dms_runlaws.specs.RunStands.{EndsStand, StopsStand}
 use Rattle.dms_runlaws.proofs.Lives.{next_is_one, state_lives}
 use Rattle.dms_runlaws.proofs.NoLater.{RisesBy, rises_by, number_high, no_later}
 
@@ -72,4 +73,14 @@ stand files n desc db h start next has_next entry lines x r =
       next_left = next_in t x.files;
       has_next = stands.next h.total h.first x.files r.whole;
       not_fallen = omega (arith, r.next_is);
+    }
+
+pub end_stands : EndsStand
+end_stands total first files desc well n db start next lines whole state next_is =
+    let stay = stay_valid desc (runnable desc well) db start next lines in
+    let quiets = answers_quiets desc db next lines in
+    record {
+      state = stands.last total first files desc (last_quiet_number n quiets) (last_quiet db quiets) well whole state;
+      valid = stay.left;
+      has_next = subst (HasNext files) (next_is ∙ stay.next) (stands.next total first files whole);
     }

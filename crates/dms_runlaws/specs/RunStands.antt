@@ -1,18 +1,22 @@
 -- What a stop within a run leaves, as states that files stand for.
-use Rattle.std.specs.Prelude.{ℕ, ◌≡◌, ◌≤◌, ◌⊎◌, List, ◌++◌, Some}
+use Rattle.std.specs.Prelude.{ℕ, ◌≡◌, ◌≤◌, ◌+◌, ◌⊎◌, List, ◌++◌, length, Some}
 use Rattle.std.specs.declared.option.Option.{Option}
 use Rattle.dms_desc.specs.Shape.{Described}
+use Rattle.dms_desc_bytes.specs.WellFormed.{IsWellFormed}
 use Rattle.dms_model.specs.Db.{Db}
 use Rattle.dms_model.specs.Points.{Quiet}
-use Rattle.dms_runner.specs.Answers.{answers_quiets, script_events}
-use Rattle.dms_running.specs.Points.{points_of}
+use Rattle.dms_model.specs.Session.{ended}
+use Rattle.dms_runner.specs.Answers.{answers_quiets, last_quiet, left_by, script_events, script_run}
+use Rattle.dms_running.specs.Standing.{IsWhole}
+use Rattle.dms_running.specs.Points.{points_of, next_in}
 use Rattle.dms_site.specs.Files.{Files, Left}
 use Rattle.dms_restore.specs.Logging.{telling_of}
 use Rattle.dms_scriptlaws.specs.Told.{told}
 use Rattle.dms_scriptlaws.specs.Truths.{IsStart}
 use Rattle.dms_run.specs.Files.{RunLeavesFiles}
 use Rattle.dms_run.specs.State.{StateAt, StateOf, HasNext}
-use Rattle.dms_run.specs.Stops.{IsOneOf}
+use Rattle.dms_run.specs.States.{LivesEndWith}
+use Rattle.dms_run.specs.Stops.{IsOneOf, last_quiet_number}
 use Rattle.dms_runlaws.specs.Held.{HoldsLast}
 
 -- The files stand for the database of entry at point n, or for that of one of the quiet points, at a point that isn't below what the text tells
@@ -30,6 +34,19 @@ pub record RunStands (files : Files) (desc : Described) (entry : Option (List �
   pub next_left : ℕ
   pub has_next : HasNext x.files next_left
   pub not_fallen : next ≤ next_left
+
+-- The files stand for the database of the last of the quiet points, or for that of entry at point n where there is none, a run may begin with it, and
+-- the next number follows those of the quiet points.
+pub record LastStands (files : Files) (desc : Described) (n : ℕ) (db : Db) (next : ℕ) (quiets : List Quiet) : Type 0 where
+  pub state : StateOf files (last_quiet_number n quiets) desc (last_quiet db quiets)
+  pub valid : IsStart desc (last_quiet db quiets)
+  pub has_next : HasNext files (next + length quiets)
+
+-- So it is of files that hold what a script leaves that was carried out.
+abbrev pub EndsStand : Type 0
+EndsStand = (total first : ℕ) (files : Files) (desc : Described) → IsWellFormed desc → (n : ℕ) (db : Db) → IsStart desc db → (next : ℕ) (lines : List (List ℕ)) → IsWhole (telling_of total first) files
+    → LivesEndWith desc (points_of (telling_of total first) files) (last_quiet_number n (answers_quiets desc db next lines)) (left_by desc db next lines)
+    → next_in (telling_of total first) files ≡ (ended (script_run desc db next lines).going.session).next → LastStands files desc n db next (answers_quiets desc db next lines)
 
 -- So it is of the files that a stop within the run of a script leaves, which began with files that stand for this state and have this next number.
 abbrev pub StopsStand : Type 0

@@ -21,7 +21,8 @@ use Rattle.dms_runner.specs.declared.run.RunFault.TheVariants as run
 use Rattle.dms_runner.specs.declared.run.RunFault.TheVariants.{Block}
 use Rattle.dms_runner.proofs.Rooms.{next_law}
 use Rattle.dms_running.specs.Telling.{Telling}
-use Rattle.dms_running.specs.Points.{DescribedPoint, points_of}
+use Rattle.dms_running.specs.Standing.{IsWhole}
+use Rattle.dms_running.specs.Points.{DescribedPoint, points_of, next_in}
 use Rattle.dms_site.specs.declared.site.Site.{Ghosts}
 use Rattle.dms_restore.specs.Logging.{Trail, trail_of, telling_of, telling, points}
 use Rattle.dms_restore.specs.Views.{view_of}
@@ -101,11 +102,13 @@ module _ {S : Type 0} (g : Ghosts S) (d e e' : Described) (r r' : Running S) (sa
       closing_below g d trail r r' begins_trail keeps_trail ps b.points_are n db r.next events site
       (ends_under d e e' (held g r) (held g r') (held g r).whole entry n db r.next events same same' ends) b.tells room closes.leaves
 
-  files_end : (site : S) (status : Status) → ClosesOver g r' status site → (m : ℕ) (x : Db) → EndsWith (map (point_of e') (held g r').points) m x → status ≡ Ok → FilesEndWith t d m x (seen_site g site)
-  files_end site status closes m x ends ok =
+  files_end : (site : S) (status : Status) → ClosesOver g r' status site → (m : ℕ) (x : Db) → EndsWith (map (point_of e') (held g r').points) m x → (k : ℕ) → r'.next ≡ k → status ≡ Ok → FilesEndWith t d m x k (seen_site g site)
+  files_end site status closes m x ends k next_is ok =
       let told : telling (view_of g r'.log) ≡ t = told_same (keeps_trail ∙ begins_trail) in
       let are : points_of t (g.files site) ≡ points (view_of g r'.log) = ap (λ (k : Telling). points_of k (g.files site)) (sym told) ∙ closes.points_are ok b.tells in
       record {
+        whole = subst (λ (w : Telling). IsWhole w (g.files site)) told (closes.whole ok b.tells);
+        next_is = ap (λ (w : Telling). next_in w (g.files site)) (sym told) ∙ closes.next_is ok b.tells ∙ next_is;
         state = subst (λ (l : List DescribedPoint). LivesEndWith d l m x) (sym are) (closed_under d e' (points (view_of g r'.log)) m x same' ends);
         only = closes.only ok b.tells;
       }
@@ -136,7 +139,7 @@ module _ {S : Type 0} (g : Ghosts S) (d e e' : Described) (r r' : Running S) (sa
       let room : r'.next + 1 < 2 ^ 64 = room_after d db r.next r'.next (raw_lines all) b.room limits next_is in
       ran_closed t d ps n db r.next all (seen_site g r.log.site) (seen_site g site) left' status of
       (runs_on (moments_of leaves) (closing_of site status closes behind room) (λ x l. l))
-      (files_end site status closes (last_quiet_number n (quiets_of events)) (last_quiet db (quiets_of events)) ends)
+      (files_end site status closes (last_quiet_number n (quiets_of events)) (last_quiet db (quiets_of events)) ends (ended (script_run d db r.next (raw_lines all)).going.session).next next_is)
       (subst (λ (s : Option (List ℕ)). Prints entry s (answers_text d db r.next (raw_lines all))) (sym text) prints)
       (subst (λ (s : Option (List ℕ)). PrintsPrefix entry s (answers_text d db r.next (raw_lines all))) (sym text) part)
       (subst (λ (s : Option (List ℕ)). SaidWhole entry s events) (sym text) whole)

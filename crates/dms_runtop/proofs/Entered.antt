@@ -29,11 +29,11 @@ use Rattle.dms_run.specs.Files.{RunLeavesFiles}
 use Rattle.dms_run.specs.State.{HasNext}
 use Rattle.dms_run.specs.States.{LivesEndWith}
 use Rattle.dms_runlaws.specs.Held.{HoldsLast, NextIsOne, StatesAreHeld}
-use Rattle.dms_runlaws.specs.RunStands.{StopsStand}
+use Rattle.dms_runlaws.specs.RunStands.{EndsStand, StopsStand}
 use Rattle.dms_status.specs.declared.status.Status.{Status}
-use Rattle.dms_runtop.specs.Command.{DatabaseState, HasNumbersLeft, HoldsState, HoldsTold, RunsAlong, RunsCommand, RunsOpened, StandsOpened, StandsThroughout, StatesHold}
+use Rattle.dms_runtop.specs.Command.{DatabaseState, HasNumbersLeft, HoldsState, HoldsTold, RunsAlong, RunsCommand, RunsOpened, EndsInState, StandsOpened, StandsThroughout, StatesHold}
 use Rattle.dms_runtop.specs.Faults.{open_status}
-use Rattle.dms_runtop.specs.Over.{ScriptRuns, seen_site}
+use Rattle.dms_runtop.specs.Over.{ReachesFiles, ScriptRuns, seen_site}
 use Rattle.dms_runtop.proofs.Endings.{IsUndone}
 use Rattle.dms_runtop.proofs.Holding.{trail_of}
 use Rattle.dms_runtop.proofs.Ran.{ran_nothing}
@@ -192,3 +192,10 @@ module _ {S : Type 0} (g : Ghosts S) (old : S) (state : Option DatabaseState) wh
       (subst (λ k. Runs (g.clock old) (g.clock new) (RunLeavesFiles (telling_of along.total k) s.desc (seen_site g old).said (points_of (telling_of along.total k) files) s.point s.db next (script_events s.desc s.db next (raw_lines all)))) one.1
       along.runs.every_moment) in
       runs_weaken each (λ x l. law files s.point s.desc s.db h start next has_next (seen_site g old).said (raw_lines all) x l)
+
+  -- and so does the end
+  pub stands_at_end : EndsStand → (IsTrue g.tells → HoldsTold state (g.files old)) → (left left' : Option (List ℕ)) (status : Status) (new : S) → RunsCommand g state old new left left' status → EndsInState g state old new left status
+  stands_at_end law told left left' status new ran tells s is start next has_next room all here ok =
+      let along : RunsAlong g s next all old new left' status = ran tells s is next has_next room all here in
+      let ends : ReachesFiles (telling_of along.total along.first) s.desc s.point s.db next (raw_lines all) (seen_site g new) = along.runs.at_ok ok in
+      (law along.total along.first (g.files new) s.desc (told tells s is).at_point.well_formed s.point s.db start next (raw_lines all) ends.whole ends.state ends.next_is, ends.only)

@@ -41,7 +41,7 @@ use Rattle.dms_status.specs.declared.status.LimitKind.TheVariants.{AuditFile, Li
 use Rattle.dms_status.specs.declared.status.Status.{Status}
 use Rattle.dms_status.specs.declared.status.Status.TheVariants.{Ok, Limit, InputFault, Damaged}
 use Rattle.dms_runtop.specs.Faults.{run_status}
-use Rattle.dms_runtop.specs.Over.{FilesEndWith, PassesScript, ScriptRuns, SiteSeen}
+use Rattle.dms_runtop.specs.Over.{ReachesFiles, PassesScript, ScriptRuns, SiteSeen}
 use Rattle.dms_runtop.specs.Statuses.{IsOfAuditLimit, IsOfClosing}
 use Rattle.dms_runtop.proofs.Endings.{run_not_ok, run_input, run_damaged, run_lines_is, run_bytes_is, run_held_is, ok_not_limit, closing_input, closing_damaged, IsUndone, undone_ok, undone_limit, undone_input, undone_damaged}
 use Rattle.dms_run.specs.Files.{points_seen, stop_seen, RunLeavesFiles}
@@ -184,7 +184,7 @@ module _ (t : Telling) (d : Described) (ps : List DescribedPoint) (n : ℕ) (db 
 
   -- the script was carried out, and the database closed, or not closed
   pub ran_closed : (status : Status) → (status ≡ Ok) ⊎ IsOfClosing status → Runs a.clock b.clock (RunLeavesFiles t d a.said ps n db next events)
-      → (status ≡ Ok → FilesEndWith t d (last_quiet_number n (quiets_of events)) (last_quiet db (quiets_of events)) b)
+      → (status ≡ Ok → ReachesFiles t d n db next (raw_lines all) b)
       → Prints a.said b.said (answers_text d db next (raw_lines all)) → PrintsPrefix a.said b.said (answers_text d db next (raw_lines all)) → SaidWhole a.said b.said events
       → KeepsLimits d db next (raw_lines all) → ScriptRuns t d ps n db next all a b left' status
   ran_closed status of moments ends prints part whole limits = record {

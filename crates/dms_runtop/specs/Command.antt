@@ -4,14 +4,14 @@ use Rattle.std.specs.declared.option.Option.{Option}
 use Rattle.dms_moments.specs.Moments.{Runs, Steps}
 use Rattle.dms_feed.specs.Lines.{raw_lines}
 use Rattle.dms_runner.specs.Answers.{answers_quiets}
-use Rattle.dms_runlaws.specs.RunStands.{RunStands}
+use Rattle.dms_runlaws.specs.RunStands.{LastStands, RunStands}
 use Rattle.dms_scriptlaws.specs.Truths.{IsStart}
 use Rattle.dms_desc.specs.Shape.{Described}
 use Rattle.dms_desc_bytes.specs.Spelling.{spelling}
 use Rattle.dms_desc_bytes.specs.WellFormed.{IsWellFormed}
 use Rattle.dms_model.specs.Db.{Db}
 use Rattle.dms_site.specs.declared.site.Site.{Ghosts}
-use Rattle.dms_site.specs.Files.{Files, Left, Same}
+use Rattle.dms_site.specs.Files.{Files, Left, Only, Same}
 use Rattle.dms_audfile.specs.TrailEntries.{trail_entries}
 use Rattle.dms_running.specs.Standing.{IsWhole}
 use Rattle.dms_running.specs.Points.{points_of, next_in}
@@ -24,6 +24,7 @@ use Rattle.dms_opening.specs.declared.opened.Opened.{Opened}
 use Rattle.dms_opening.specs.Laws.{LastIsDescribed}
 use Rattle.dms_opening.specs.Openings.{IsTrailFound, IsOpenable, RunsFrom, RefusesFiles}
 use Rattle.dms_status.specs.declared.status.Status.{Status}
+use Rattle.dms_status.specs.declared.status.Status.TheVariants.{Ok}
 use Rattle.dms_runtop.specs.Faults.{open_status}
 use Rattle.dms_runtop.specs.Over.{ScriptRuns, seen_site}
 use Rattle.dms_runtop.specs.Statuses.{IsRefusal}
@@ -88,6 +89,13 @@ module _ {S : Type 0} (g : Ghosts S) where
   StandsThroughout state old new left =
       IsTrue g.tells → (s : DatabaseState) → state ≡ Some s → IsStart s.desc s.db → (next : ℕ) → HasNext (g.files old) next → HasNumbersLeft next → (all : List ℕ) → left ≡ Some all
       → Runs (g.clock old) (g.clock new) (RunStands (g.files old) s.desc (seen_site g old).said s.point s.db next (answers_quiets s.desc s.db next (raw_lines all)))
+
+  -- And at status 0 the files stand for the database of the last quiet point, or for that of entry, with which a run may begin, too. A stop leaves no
+  -- other files.
+  abbrev pub EndsInState : Option DatabaseState → S → S → Option (List ℕ) → Status → Type 0
+  EndsInState state old new left status =
+      IsTrue g.tells → (s : DatabaseState) → state ≡ Some s → IsStart s.desc s.db → (next : ℕ) → HasNext (g.files old) next → HasNumbersLeft next → (all : List ℕ) → left ≡ Some all → status ≡ Ok
+      → LastStands (g.files new) s.desc s.point s.db next (answers_quiets s.desc s.db next (raw_lines all)) × Only (g.files new) (g.clock new)
 
   -- files that hold a database, whose last point is live and described, are refused by nothing
   abbrev pub NeverRefuses : S → Status → Type 0

@@ -6,10 +6,12 @@ use Rattle.dms_block.specs.Texts.{Prints, PrintsPrefix}
 use Rattle.dms_desc.specs.Shape.{Described}
 use Rattle.dms_feed.specs.Lines.{raw_lines}
 use Rattle.dms_model.specs.Db.{Db}
+use Rattle.dms_model.specs.Session.{ended}
 use Rattle.dms_site.specs.declared.site.Site.{Ghosts}
 use Rattle.dms_site.specs.Files.{Files, Left, Only}
 use Rattle.dms_running.specs.Telling.{Telling}
-use Rattle.dms_running.specs.Points.{DescribedPoint, points_of}
+use Rattle.dms_running.specs.Standing.{IsWhole}
+use Rattle.dms_running.specs.Points.{DescribedPoint, points_of, next_in}
 use Rattle.dms_restore.specs.Logging.{telling_of, telling, points}
 use Rattle.dms_restore.specs.Views.{view_of}
 use Rattle.dms_wal.specs.declared.running.Running.{Running}
@@ -18,8 +20,8 @@ use Rattle.dms_wal.specs.Database.{held}
 use Rattle.dms_wal.specs.Lifting.{lifted}
 use Rattle.dms_store.specs.Lifted.{point_of}
 use Rattle.dms_store.specs.Spelled.{spelled}
-use Rattle.dms_runner.specs.Answers.{answers_text, last_quiet, script_events}
-use Rattle.dms_runner.specs.Events.{RunEvent, SaidWhole, quiets_of}
+use Rattle.dms_runner.specs.Answers.{answers_quiets, answers_text, left_by, script_events, script_run}
+use Rattle.dms_runner.specs.Events.{RunEvent, SaidWhole}
 use Rattle.dms_runner.specs.Running.{CutInput, PassesBytes, PassesLines, PassesWaiting}
 use Rattle.dms_run.specs.Ending.{KeepsLimits}
 use Rattle.dms_run.specs.Files.{points_seen, RunLeavesFiles}
@@ -39,9 +41,12 @@ pub record SiteSeen : Type 1 where
 abbrev pub seen_site : {S : Type 0} → Ghosts S → S → SiteSeen
 seen_site g site = record { files = g.files site; clock = g.clock site; said = if g.tells_said then Some (g.said site) else None }
 
--- The last point that files hold has this number, and its blocks spell this database. A stop leaves no other files.
-pub record FilesEndWith (t : Telling) (desc : Described) (n : ℕ) (db : Db) (s : SiteSeen) : Type 0 where
+-- Files hold a database, whose last point has this number, and whose blocks there spell this database. This is their next number, and a stop leaves
+-- no other files.
+pub record FilesEndWith (t : Telling) (desc : Described) (n : ℕ) (db : Db) (next : ℕ) (s : SiteSeen) : Type 0 where
+  pub whole : IsWhole t s.files
   pub state : LivesEndWith desc (points_of t s.files) n db
+  pub next_is : next_in t s.files ≡ next
   pub only : Only s.files s.clock
 
 -- The script passes this limit: what the whole lines before that place answer was printed. Of the audit's limit the script says nothing.
@@ -51,14 +56,19 @@ PassesScript Lines desc db first lines before after = PassesLines desc db first 
 PassesScript Bytes desc db first lines before after = PassesBytes desc db first lines before after
 PassesScript Held desc db first lines before after = PassesWaiting desc db first lines before after
 
+-- So the files of a database end that at point n was this one with this next number, where a script with these lines was carried out.
+abbrev pub ReachesFiles : Telling → Described → ℕ → Db → ℕ → List (List ℕ) → SiteSeen → Type 0
+ReachesFiles t desc n db next lines s =
+    FilesEndWith t desc (last_quiet_number n (answers_quiets desc db next lines)) (left_by desc db next lines) (ended (script_run desc db next lines).going.session).next s
+
 -- A run of the script that an input has, over a database that at point n is db, whose next number is this one. These were the points before the run,
 -- so the site was seen before it and behind it, so much of the input was left, and so the run ended.
 pub record ScriptRuns (t : Telling) (desc : Described) (ps : List DescribedPoint) (n : ℕ) (db : Db) (next : ℕ) (all : List ℕ) (a b : SiteSeen) (left' : Option (List ℕ)) (status : Status) : Type 0 where
   -- a stop at each moment left what a run leaves: the database of one quiet point, none before those that syncpoints made durable before what
   -- was printed last, and each point as it was
   pub every_moment : Runs a.clock b.clock (RunLeavesFiles t desc a.said ps n db next (script_events desc db next (raw_lines all)))
-  -- at status 0 the files end with the last quiet point, or with the point of entry
-  pub at_ok : status ≡ Ok → FilesEndWith t desc (last_quiet_number n (quiets_of (script_events desc db next (raw_lines all)))) (last_quiet db (quiets_of (script_events desc db next (raw_lines all)))) b
+  -- at status 0 the files end with the last quiet point, or with the point of entry, and the next number is that of the session
+  pub at_ok : status ≡ Ok → ReachesFiles t desc n db next (raw_lines all) b
   -- at status 0 exactly the answers were printed
   pub prints : status ≡ Ok → Prints a.said b.said (answers_text desc db next (raw_lines all))
   -- at each status a prefix of them
@@ -93,9 +103,11 @@ module _ {S : Type 0} (g : Ghosts S) where
       (total first : ℕ) (ps : List DescribedPoint) (n : ℕ) (db : Db) (all : List ℕ) → BeginsAt r total first ps desc n db → left ≡ Some all
       → ScriptRuns (telling_of total first) desc ps n db r.next all (seen_site g r.log.site) (seen_site g site) left' status
 
-  -- The database was closed: at status 0 the files hold all its points, and a stop leaves no other files. Until then each stop left the first so many
-  -- of its points, at least the durable ones, and no other text.
+  -- The database was closed: at status 0 the files hold it, with all its points and its next number, and a stop leaves no other files. Until then each
+  -- stop left the first so many of its points, at least the durable ones, and no other text.
   pub record ClosesOver (r : Running S) (status : Status) (site : S) : Type 0 where
     pub leaves : LeavesUntil (held g r) (lifted (telling (view_of g r.log)) (g.clock site))
     pub points_are : status ≡ Ok → IsTrue g.tells → points_of (telling (view_of g r.log)) (g.files site) ≡ points (view_of g r.log)
+    pub whole : status ≡ Ok → IsTrue g.tells → IsWhole (telling (view_of g r.log)) (g.files site)
+    pub next_is : status ≡ Ok → IsTrue g.tells → next_in (telling (view_of g r.log)) (g.files site) ≡ r.next
     pub only : status ≡ Ok → IsTrue g.tells → Only (g.files site) (g.clock site)

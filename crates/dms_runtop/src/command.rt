@@ -6,7 +6,7 @@ ghost use Rattle.dms_desc.specs.Shape.{described};
 ghost use Rattle.dms_desc_bytes.specs.Spelling.{spelling};
 ghost use Rattle.dms_desc_bytes.specs.WellFormed.{IsWellFormed};
 ghost use Rattle.dms_opening.specs.Openings.{NamesStructures};
-ghost use Rattle.dms_runtop.specs.Command.{DatabaseState, HoldsTold, NeverRefuses, StandsOpened, StandsThroughout, RunsCommand, RunsOpened, RefusesRun};
+ghost use Rattle.dms_runtop.specs.Command.{DatabaseState, HoldsTold, NeverRefuses, EndsInState, StandsOpened, StandsThroughout, RunsCommand, RunsOpened, RefusesRun};
 ghost use Rattle.dms_runtop.specs.Describing.{IsUnderSchema};
 ghost use Rattle.dms_runtop.specs.Statuses.{IsOfRun, IsOfScript, IsRefusal};
 ghost use Rattle.dms_wal.specs.Lifting.{AreCounts};
@@ -15,7 +15,7 @@ ghost use Rattle.dms_wal.specs.Marks.{IsDescription};
 use crate::describing::describe;
 use crate::ended::Ended;
 use crate::ending::status_of_open;
-use crate::laws::state_law;
+use crate::laws::states_law;
 use crate::over::run_over;
 use crate::veil::{Knows, Veiled};
 use dms_desc::Description;
@@ -208,7 +208,7 @@ fn run_found<S: Site, I: Source>(alloc: Global, site: S, source: &mut I) -> Ende
     ensures same_source { I.same_source source.old source.new }
 {
     held_law();
-    state_law();
+    states_law();
     match open(alloc, Found { site }) {
         Ok(opened) => run_opened::<S, I, Brand>(alloc, opened, source),
         Err((fault, site)) => Ended {
@@ -226,6 +226,7 @@ pub fn run_command<S: Site, I: Source>(alloc: Global, site: &mut S, source: &mut
     ghost state: { Option DatabaseState }
     requires told { IsTrue S.tells → HoldsTold state (S.files site.old) }
     ensures stands { StandsThroughout S.Site state site.old site.new (I.left source.old) }
+    ensures ends { EndsInState S.Site state site.old site.new (I.left source.old) result }
     ensures complete { NeverRefuses S.Site site.old result }
     ensures ran { RunsCommand S.Site state site.old site.new (I.left source.old) (I.left source.new) result }
     ensures refused { IsRefusal result → RefusesRun S.Site site.old site.new result }

@@ -5,7 +5,7 @@ ghost use Rattle.dms_runtop.specs.Command.{StatesHold};
 use dms_runlaws::held_law;
 
 /// Files that stand for a state hold a database that can be opened, whose last live point has that state.
-pub fn state_law()
+pub fn states_law()
     ensures { StatesHold }
 {
     held_law();

@@ -13,6 +13,6 @@ pub use command::run_command;
 pub use describing::describe;
 pub use ended::Ended;
 pub use ending::{status_of_block, status_of_open, status_of_run};
-pub use laws::state_law;
+pub use laws::states_law;
 pub use over::run_over;
 pub use veil::{Knows, Veiled};

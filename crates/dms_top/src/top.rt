@@ -20,7 +20,7 @@ ghost use Rattle.dms_top.specs.Answering.{Printed, PrintedPrefix, PrintedWhole, 
 ghost use Rattle.dms_status.specs.declared.status.LimitKind.{LimitKind as Kind};
 ghost use Rattle.dms_top.specs.Premises.{OnTry, OnCompile, OnInitialize, OnPrintAudit, OnOthers, OnReading, OnRun, OfInput, OfSchema, OfSealed, OfNoSchema, OfTriedScript, OfNoScript};
 ghost use Rattle.dms_audfile.specs.Counting.{CountedAt};
-ghost use Rattle.dms_runtop.specs.Command.{DatabaseState, HoldsTold, NeverRefuses, RefusesRun, RunsCommand, StandsThroughout};
+ghost use Rattle.dms_runtop.specs.Command.{DatabaseState, HoldsTold, NeverRefuses, RefusesRun, RunsCommand, EndsInState, StandsThroughout};
 ghost use Rattle.dms_runtop.specs.Statuses.{IsOfRun, IsRefusal};
 ghost use Rattle.dms_top.specs.Words.{IsTry, IsCompile, IsPrintAudit, IsRun, IsCommand, IsOfTry, IsOfCompile, IsPast, ComesUnsaid, IsUntouched};
 
@@ -259,8 +259,11 @@ pub fn dms<S: Site, I: Source>(
     // of the state that is told: at every moment a stop leaves the database of one quiet point, at status 0 the last one's, and exactly the answers or a
     // prefix of them were printed
     ensures run { OnRun words.now (RunsCommand S.Site state site.old site.new (I.left input.old) (I.left input.new) result) }
-    // where the database is valid too, each stop leaves files that stand for the database of entry or of one quiet point, no earlier than the printed text tells
+    // where a run may begin with that database, each stop leaves files that stand for it or for that of one quiet point, no earlier than the printed text
+    // tells, with which a run may begin again
     ensures run_stands { OnRun words.now (StandsThroughout S.Site state site.old site.new (I.left input.old)) }
+    // and at status 0 the files stand for the database of the last quiet point, or for that of entry
+    ensures run_ends { OnRun words.now (EndsInState S.Site state site.old site.new (I.left input.old) result) }
 {
     if is_try(words) {
         return try_input(alloc, site, input);

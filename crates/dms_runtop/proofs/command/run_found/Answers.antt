@@ -58,12 +58,12 @@ returns-in-Err-clause-input g c = not_counted _ _ _ (λ is. open_input c.in-Err.
 
 pub run_opened-requires-clause-known : goal.run_opened-requires-clause-known
 run_opened-requires-clause-known g c = λ tells knows.
-    opened_known g.S.Site c.args.site g.state c.state_law.ensures c.in-Ok.opened (c.in-Ok.ensures.opens tells) (c.in-Ok.ensures.runs tells) knows (c.requires.1.1 tells)
+    opened_known g.S.Site c.args.site g.state c.states_law.ensures c.in-Ok.opened (c.in-Ok.ensures.opens tells) (c.in-Ok.ensures.runs tells) knows (c.requires.1.1 tells)
 
 pub returns-in-Ok-clause-ran : goal.returns-in-Ok-clause-ran
 returns-in-Ok-clause-ran g c =
-    runs_found g.S.Site c.args.site g.state c.state_law.ensures c.held_law.ensures.next c.requires.1.1 c.in-Ok.opened c.in-Ok.ensures.opens c.in-Ok.ensures.runs c.in-Ok.ensures.moments c.in-Ok.ensures.said _ _ c.run_opened.result.status c.run_opened.result.site c.run_opened.ensures.ran
+    runs_found g.S.Site c.args.site g.state c.states_law.ensures c.held_law.ensures.next c.requires.1.1 c.in-Ok.opened c.in-Ok.ensures.opens c.in-Ok.ensures.runs c.in-Ok.ensures.moments c.in-Ok.ensures.said _ _ c.run_opened.result.status c.run_opened.result.site c.run_opened.ensures.ran
 
 pub returns-in-Err-clause-ran : goal.returns-in-Err-clause-ran
 returns-in-Err-clause-ran g c =
-    runs_refused g.S.Site c.args.site g.state c.state_law.ensures c.held_law.ensures.next c.requires.1.1 c.in-Err.fault c.in-Err.site c.in-Err.ensures.complete c.in-Err.ensures.stopped c.in-Err.ensures.said_then _ _ c.status_of_open.result c.status_of_open.ensures
+    runs_refused g.S.Site c.args.site g.state c.states_law.ensures c.held_law.ensures.next c.requires.1.1 c.in-Err.fault c.in-Err.site c.in-Err.ensures.complete c.in-Err.ensures.stopped c.in-Err.ensures.said_then _ _ c.status_of_open.result c.status_of_open.ensures

@@ -7,6 +7,8 @@ pub returns-in-Ok-clause-closes : goal.returns-in-Ok-clause-closes
 returns-in-Ok-clause-closes g c = record {
   leaves = c.in-Ok.ensures.leaves;
   points_are = λ ok tells. (c.in-Ok.ensures.closed tells).points_are;
+  whole = λ ok tells. (c.in-Ok.ensures.closed tells).whole;
+  next_is = λ ok tells. (c.in-Ok.ensures.closed tells).next_is ∙ sym (c.requires.goes tells).numbered;
   only = λ ok tells. (c.in-Ok.ensures.closed tells).only;
 }
 
@@ -14,5 +16,7 @@ pub returns-in-Err-clause-closes : goal.returns-in-Err-clause-closes
 returns-in-Err-clause-closes g c = record {
   leaves = c.in-Err.ensures.stopped;
   points_are = λ ok tells. absurd (run_not_ok (Block c.in-Err.fault) (sym c.status_of_block.ensures ∙ ok));
+  whole = λ ok tells. absurd (run_not_ok (Block c.in-Err.fault) (sym c.status_of_block.ensures ∙ ok));
+  next_is = λ ok tells. absurd (run_not_ok (Block c.in-Err.fault) (sym c.status_of_block.ensures ∙ ok));
   only = λ ok tells. absurd (run_not_ok (Block c.in-Err.fault) (sym c.status_of_block.ensures ∙ ok));
 }
