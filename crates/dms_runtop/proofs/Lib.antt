@@ -11,3 +11,7 @@ pub mod Unveiled
 pub mod Holding
 pub mod Entered
 pub mod Refused
+pub mod Gated
+pub mod Instead
+pub mod Guarding
+pub mod Fulls

@@ -48,7 +48,7 @@ module _ {S : Type 0} (g : Ghosts S) where
     spelled = st.spelled;
   }
 
-  said_seen : (a b : S) → g.said b ≡ g.said a → (seen_site g b).said ≡ (seen_site g a).said
+  pub said_seen : (a b : S) → g.said b ≡ g.said a → (seen_site g b).said ≡ (seen_site g a).said
   said_seen a b same = ap (λ (l : List ℕ). cond g.tells_said (Some l) None) same
 
   -- a run behind a call that only looked

@@ -136,7 +136,7 @@ module _ (t : Telling) (d : Described) (ps : List DescribedPoint) (n : ℕ) (db 
   abbrev events : List RunEvent
   events = script_events d db next (raw_lines all)
 
-  of_audit : (k : LimitKind) → IsOfAuditLimit k → PassesScript k d db next (raw_lines all) a.said b.said
+  pub of_audit : (k : LimitKind) → IsOfAuditLimit k → PassesScript k d db next (raw_lines all) a.said b.said
   of_audit (AuditFile f) is = tt
   of_audit Lines is = absurd is
   of_audit Bytes is = absurd is

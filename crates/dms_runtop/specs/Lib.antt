@@ -4,3 +4,6 @@ pub mod Statuses
 pub mod Over
 pub mod Describing
 pub mod Command
+pub mod Guard
+pub mod GuardLaws
+pub mod Full

@@ -8,6 +8,8 @@ ghost use Rattle.dms_desc_bytes.specs.WellFormed.{IsWellFormed};
 ghost use Rattle.dms_opening.specs.Openings.{NamesStructures};
 ghost use Rattle.dms_runtop.specs.Command.{DatabaseState, HoldsTold, NeverRefuses, EndsInState, StandsOpened, StandsThroughout, RunsCommand, RunsOpened, RefusesRun};
 ghost use Rattle.dms_runtop.specs.Describing.{IsUnderSchema};
+ghost use Rattle.dms_runtop.specs.Full.{HasNoRoom, PassesAtFull};
+ghost use Rattle.dms_runtop.specs.Guard.{StaysBeside};
 ghost use Rattle.dms_runtop.specs.Statuses.{IsOfRun, IsOfScript, IsRefusal};
 ghost use Rattle.dms_wal.specs.Lifting.{AreCounts};
 ghost use Rattle.dms_wal.specs.Marks.{IsDescription};
@@ -15,6 +17,8 @@ ghost use Rattle.dms_wal.specs.Marks.{IsDescription};
 use crate::describing::describe;
 use crate::ended::Ended;
 use crate::ending::status_of_open;
+use crate::full::status_of_full;
+use crate::guard::Guarded;
 use crate::laws::states_law;
 use crate::over::run_over;
 use crate::veil::{Knows, Veiled};
@@ -25,7 +29,7 @@ use dms_opening::{Found, Opened, open};
 use dms_restore::Log;
 use dms_runlaws::{held_law, stands_law};
 use dms_site::{Site, Source};
-use dms_status::Status;
+use dms_status::{LimitKind, Status};
 use dms_store::served_law;
 use std::alloc::Global;
 use std::marker::{Brand, PhantomData};
@@ -192,6 +196,38 @@ fn run_opened<S: Site, I: Source, K: Knows>(
     }
 }
 
+/// The same, and where the audit had no room that was confirmed by the file that its limit names.
+fn run_confirmed<S: Site, I: Source, K: Knows>(
+    alloc: Global,
+    opened: Opened<S>,
+    source: &mut I,
+) -> Ended<S>
+    requires table { AreCounts opened.counts.items }
+    requires named { NamesStructures opened.schema.items opened.counts.items }
+    requires known { IsTrue S.tells → IsTrue K.known → StandsOpened S.Site opened }
+    ensures ran { RunsOpened S.Site opened K.known (I.left source.old) (I.left source.new) result.status result.site }
+    ensures end { result.status ≡ Status.Ok → (all : List ℕ) → I.left source.old ≡ Some all → I.left source.new ≡ Some [] }
+    ensures statuses { (result.status ≡ Status.Ok) ⊎ IsOfScript result.status }
+    ensures passes { PassesAtFull S.Site opened.log.end.total opened.log.first result.status result.site }
+    ensures disk { CountedAt (result.status ≡ Status.DiskFault) (S.disk_faults opened.log.site) (S.disk_faults result.site) }
+    ensures say { CountedAt (result.status ≡ Status.SayFault) (S.say_faults opened.log.site) (S.say_faults result.site) }
+    ensures input { CountedAt (result.status ≡ Status.InputFault) (I.faults source.old) (I.faults source.new) }
+    ensures same { S.same_site opened.log.site result.site }
+    ensures same_source { I.same_source source.old source.new }
+{
+    let first = opened.log.first;
+    let total = opened.log.end.total;
+    let ended = run_opened::<S, I, K>(alloc, opened, source);
+    match ended.status {
+        Status::Limit(LimitKind::AuditFile(limit)) => {
+            let mut site = ended.into_site();
+            let status = status_of_full(&mut site, first, total, limit);
+            Ended { status, site }
+        }
+        _ => ended,
+    }
+}
+
 /// `run` over a site by value.
 fn run_found<S: Site, I: Source>(alloc: Global, site: S, source: &mut I) -> Ended<S>
     ghost state: { Option DatabaseState }
@@ -201,6 +237,7 @@ fn run_found<S: Site, I: Source>(alloc: Global, site: S, source: &mut I) -> Ende
     ensures refused { IsRefusal result.status → RefusesRun S.Site site result.site result.status }
     ensures end { result.status ≡ Status.Ok → (all : List ℕ) → I.left source.old ≡ Some all → I.left source.new ≡ Some [] }
     ensures statuses { IsOfRun result.status }
+    ensures full { HasNoRoom S.Site site result.site result.status }
     ensures disk { CountedAt (result.status ≡ Status.DiskFault) (S.disk_faults site) (S.disk_faults result.site) }
     ensures say { CountedAt (result.status ≡ Status.SayFault) (S.say_faults site) (S.say_faults result.site) }
     ensures input { CountedAt (result.status ≡ Status.InputFault) (I.faults source.old) (I.faults source.new) }
@@ -210,12 +247,42 @@ fn run_found<S: Site, I: Source>(alloc: Global, site: S, source: &mut I) -> Ende
     held_law();
     states_law();
     match open(alloc, Found { site }) {
-        Ok(opened) => run_opened::<S, I, Brand>(alloc, opened, source),
+        Ok(opened) => run_confirmed::<S, I, Brand>(alloc, opened, source),
         Err((fault, site)) => Ended {
             status: status_of_open(fault),
             site,
         },
     }
+}
+
+/// The same, over a site of which no other file than those that a run may write is written.
+fn run_guarded<S: Site, I: Source>(alloc: Global, site: S, source: &mut I) -> Ended<S>
+    ghost state: { Option DatabaseState }
+    requires told { IsTrue S.tells → HoldsTold state (S.files site) }
+    ensures complete { NeverRefuses S.Site site result.status }
+    ensures ran { RunsCommand S.Site state site result.site (I.left source.old) (I.left source.new) result.status }
+    ensures refused { IsRefusal result.status → RefusesRun S.Site site result.site result.status }
+    ensures end { result.status ≡ Status.Ok → (all : List ℕ) → I.left source.old ≡ Some all → I.left source.new ≡ Some [] }
+    ensures statuses { IsOfRun result.status }
+    ensures full { HasNoRoom S.Site site result.site result.status }
+    ensures disk { CountedAt (result.status ≡ Status.DiskFault) (S.disk_faults site) (S.disk_faults result.site) }
+    ensures say { CountedAt (result.status ≡ Status.SayFault) (S.say_faults site) (S.say_faults result.site) }
+    ensures input { CountedAt (result.status ≡ Status.InputFault) (I.faults source.old) (I.faults source.new) }
+    ensures same { S.same_site site result.site }
+    ensures beside { StaysBeside S.Site site result.site }
+    ensures same_source { I.same_source source.old source.new }
+{
+    let ended = run_found(alloc, Guarded { site, refused: 0 }, source);
+    let status = ended.status;
+    let Guarded { site, refused } = ended.into_site();
+    // No run comes to a call that is refused: nothing below writes such a file.
+    if refused > 0 {
+        return Ended {
+            status: Status::Memory,
+            site,
+        };
+    }
+    Ended { status, site }
 }
 
 /// `run`: opens the database by halt/load, runs the lines of the script and closes it.
@@ -232,6 +299,8 @@ pub fn run_command<S: Site, I: Source>(alloc: Global, site: &mut S, source: &mut
     ensures refused { IsRefusal result → RefusesRun S.Site site.old site.new result }
     ensures end { result ≡ Status.Ok → (all : List ℕ) → I.left source.old ≡ Some all → I.left source.new ≡ Some [] }
     ensures statuses { IsOfRun result }
+    ensures full { HasNoRoom S.Site site.old site.new result }
+    ensures beside { StaysBeside S.Site site.old site.new }
     ensures disk { CountedAt (result ≡ Status.DiskFault) (S.disk_faults site.old) (S.disk_faults site.new) }
     ensures say { CountedAt (result ≡ Status.SayFault) (S.say_faults site.old) (S.say_faults site.new) }
     ensures input { CountedAt (result ≡ Status.InputFault) (I.faults source.old) (I.faults source.new) }
@@ -240,7 +309,7 @@ pub fn run_command<S: Site, I: Source>(alloc: Global, site: &mut S, source: &mut
 {
     held_law();
     stands_law();
-    let ended = run_found(alloc, site, source);
+    let ended = run_guarded(alloc, site, source);
     let status = ended.status;
     let _site = ended.into_site();
     status

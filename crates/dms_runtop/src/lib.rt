@@ -6,6 +6,8 @@ mod describing;
 mod ended;
 mod ending;
 mod laws;
+mod full;
+mod guard;
 mod over;
 mod veil;
 
@@ -14,5 +16,6 @@ pub use describing::describe;
 pub use ended::Ended;
 pub use ending::{status_of_block, status_of_open, status_of_run};
 pub use laws::states_law;
+pub use guard::Guarded;
 pub use over::run_over;
 pub use veil::{Knows, Veiled};

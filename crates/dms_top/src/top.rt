@@ -21,6 +21,8 @@ ghost use Rattle.dms_status.specs.declared.status.LimitKind.{LimitKind as Kind};
 ghost use Rattle.dms_top.specs.Premises.{OnTry, OnCompile, OnInitialize, OnPrintAudit, OnOthers, OnReading, OnRun, OfInput, OfSchema, OfSealed, OfNoSchema, OfTriedScript, OfNoScript};
 ghost use Rattle.dms_audfile.specs.Counting.{CountedAt};
 ghost use Rattle.dms_runtop.specs.Command.{DatabaseState, HoldsTold, NeverRefuses, RefusesRun, RunsCommand, EndsInState, StandsThroughout};
+ghost use Rattle.dms_runtop.specs.Full.{HasNoRoom};
+ghost use Rattle.dms_runtop.specs.Guard.{StaysBeside};
 ghost use Rattle.dms_runtop.specs.Statuses.{IsOfRun, IsRefusal};
 ghost use Rattle.dms_top.specs.Words.{IsTry, IsCompile, IsPrintAudit, IsRun, IsCommand, IsOfTry, IsOfCompile, IsPast, ComesUnsaid, IsUntouched};
 
@@ -256,6 +258,10 @@ pub fn dms<S: Site, I: Source>(
     ensures run_refused { OnRun words.now (IsRefusal result → RefusesRun S.Site site.old site.new result) }
     // neither comes where the files hold a database, whose last point is live and described
     ensures run_complete { OnRun words.now (NeverRefuses S.Site site.old result) }
+    // status 8 of an audit file comes only where the trail of entry goes on behind that file: it begins behind it, or all gates of that file are open
+    ensures run_full { OnRun words.now (HasNoRoom S.Site site.old site.new result) }
+    // only audit files and structure files change: the description and the dumps read as they did, and each stop left them as one at entry could
+    ensures run_beside { OnRun words.now (StaysBeside S.Site site.old site.new) }
     // of the state that is told: at every moment a stop leaves the database of one quiet point, at status 0 the last one's, and exactly the answers or a
     // prefix of them were printed
     ensures run { OnRun words.now (RunsCommand S.Site state site.old site.new (I.left input.old) (I.left input.new) result) }

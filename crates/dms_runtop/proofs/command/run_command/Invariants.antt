@@ -1,4 +1,4 @@
 use Rattle.dms_runtop.proofs.command.run_command.Given as goal
 
-abbrev pub ghost-run_found : goal.ghost-run_found
-ghost-run_found g a = g.state
+abbrev pub ghost-run_guarded : goal.ghost-run_guarded
+ghost-run_guarded g a = g.state

@@ -5,26 +5,27 @@ use Rattle.dms_runtop.specs.Faults.{open_status}
 use Rattle.dms_runtop.specs.Statuses.{IsOfRun, IsRefusal}
 use Rattle.dms_runtop.proofs.Counted.{on_from, on_status}
 use Rattle.dms_runtop.proofs.Entered.{opened_known, runs_found, runs_refused}
+use Rattle.dms_runtop.proofs.Fulls.{full_entered, full_opening}
 use Rattle.dms_runtop.proofs.Refused.{not_written, no_refusal, script_no_refusal, of_run, open_of_run, counts_open, open_say, open_input, open_ok}
 use Rattle.dms_runtop.proofs.command.run_found.Goals as goal
 
 pub returns-in-Ok-clause-complete : goal.returns-in-Ok-clause-complete
-returns-in-Ok-clause-complete g c = λ tells total first openable refusal. script_no_refusal c.run_opened.result.status c.run_opened.ensures.statuses refusal
+returns-in-Ok-clause-complete g c = λ tells total first openable refusal. script_no_refusal c.run_confirmed.result.status c.run_confirmed.ensures.statuses refusal
 
 pub returns-in-Ok-clause-refused : goal.returns-in-Ok-clause-refused
-returns-in-Ok-clause-refused g c = λ refusal. absurd (script_no_refusal c.run_opened.result.status c.run_opened.ensures.statuses refusal)
+returns-in-Ok-clause-refused g c = λ refusal. absurd (script_no_refusal c.run_confirmed.result.status c.run_confirmed.ensures.statuses refusal)
 
 pub returns-in-Ok-clause-statuses : goal.returns-in-Ok-clause-statuses
-returns-in-Ok-clause-statuses g c = of_run c.run_opened.result.status c.run_opened.ensures.statuses
+returns-in-Ok-clause-statuses g c = of_run c.run_confirmed.result.status c.run_confirmed.ensures.statuses
 
 pub returns-in-Ok-clause-disk : goal.returns-in-Ok-clause-disk
-returns-in-Ok-clause-disk g c = on_from _ _ _ _ c.in-Ok.ensures.clean.0 c.run_opened.ensures.disk
+returns-in-Ok-clause-disk g c = on_from _ _ _ _ c.in-Ok.ensures.clean.0 c.run_confirmed.ensures.disk
 
 pub returns-in-Ok-clause-say : goal.returns-in-Ok-clause-say
-returns-in-Ok-clause-say g c = on_from _ _ _ _ c.in-Ok.ensures.clean.1 c.run_opened.ensures.say
+returns-in-Ok-clause-say g c = on_from _ _ _ _ c.in-Ok.ensures.clean.1 c.run_confirmed.ensures.say
 
 pub returns-in-Ok-clause-same : goal.returns-in-Ok-clause-same
-returns-in-Ok-clause-same g c = g.met.S.Site.same_then _ _ _ c.in-Ok.ensures.same c.run_opened.ensures.same
+returns-in-Ok-clause-same g c = g.met.S.Site.same_then _ _ _ c.in-Ok.ensures.same c.run_confirmed.ensures.same
 
 pub returns-in-Err-clause-complete : goal.returns-in-Err-clause-complete
 returns-in-Err-clause-complete g c = λ tells total first openable refusal.
@@ -56,14 +57,20 @@ returns-in-Err-clause-say g c = not_counted _ _ _ (λ is. open_say c.in-Err.faul
 pub returns-in-Err-clause-input : goal.returns-in-Err-clause-input
 returns-in-Err-clause-input g c = not_counted _ _ _ (λ is. open_input c.in-Err.fault (sym c.status_of_open.ensures ∙ is)) refl
 
-pub run_opened-requires-clause-known : goal.run_opened-requires-clause-known
-run_opened-requires-clause-known g c = λ tells knows.
+pub run_confirmed-requires-clause-known : goal.run_confirmed-requires-clause-known
+run_confirmed-requires-clause-known g c = λ tells knows.
     opened_known g.S.Site c.args.site g.state c.states_law.ensures c.in-Ok.opened (c.in-Ok.ensures.opens tells) (c.in-Ok.ensures.runs tells) knows (c.requires.1.1 tells)
 
 pub returns-in-Ok-clause-ran : goal.returns-in-Ok-clause-ran
 returns-in-Ok-clause-ran g c =
-    runs_found g.S.Site c.args.site g.state c.states_law.ensures c.held_law.ensures.next c.requires.1.1 c.in-Ok.opened c.in-Ok.ensures.opens c.in-Ok.ensures.runs c.in-Ok.ensures.moments c.in-Ok.ensures.said _ _ c.run_opened.result.status c.run_opened.result.site c.run_opened.ensures.ran
+    runs_found g.S.Site c.args.site g.state c.states_law.ensures c.held_law.ensures.next c.requires.1.1 c.in-Ok.opened c.in-Ok.ensures.opens c.in-Ok.ensures.runs c.in-Ok.ensures.moments c.in-Ok.ensures.said _ _ c.run_confirmed.result.status c.run_confirmed.result.site c.run_confirmed.ensures.ran
 
 pub returns-in-Err-clause-ran : goal.returns-in-Err-clause-ran
 returns-in-Err-clause-ran g c =
     runs_refused g.S.Site c.args.site g.state c.states_law.ensures c.held_law.ensures.next c.requires.1.1 c.in-Err.fault c.in-Err.site c.in-Err.ensures.complete c.in-Err.ensures.stopped c.in-Err.ensures.said_then _ _ c.status_of_open.result c.status_of_open.ensures
+
+pub returns-in-Ok-clause-full : goal.returns-in-Ok-clause-full
+returns-in-Ok-clause-full g c = full_entered g.S.Site c.args.site c.run_confirmed.result.site c.run_confirmed.result.status c.in-Ok.opened.log.end.total c.in-Ok.opened.log.first (λ tells. (c.in-Ok.ensures.opens tells).trail) c.run_confirmed.ensures.passes
+
+pub returns-in-Err-clause-full : goal.returns-in-Err-clause-full
+returns-in-Err-clause-full g c = full_opening g.S.Site c.args.site c.in-Err.site c.in-Err.fault c.status_of_open.result c.status_of_open.ensures c.in-Err.ensures.refused c.in-Err.ensures.full

@@ -209,3 +209,9 @@ returns-then-is_run-clause-run g c = λ is. c.run_command.ensures.ran
 
 pub returns-then-is_run-clause-run_stands : goal.returns-then-is_run-clause-run_stands
 returns-then-is_run-clause-run_stands g c = λ is. c.run_command.ensures.stands
+
+pub returns-then-is_run-clause-run_full : goal.returns-then-is_run-clause-run_full
+returns-then-is_run-clause-run_full g c = λ is. c.run_command.ensures.full
+
+pub returns-then-is_run-clause-run_beside : goal.returns-then-is_run-clause-run_beside
+returns-then-is_run-clause-run_beside g c = λ is. c.run_command.ensures.beside
