@@ -35,6 +35,7 @@ use Rattle.dms_opening.specs.Choices.{RefusesOpening, Chooses}
 use Rattle.dms_restore.specs.Counts.{count_of}
 use Rattle.dms_restore.specs.LiveEntries.{events_at}
 use Rattle.dms_opening.specs.Refusals.{judge_pending, judge_last, IsOpening}
+use Rattle.dms_opening.specs.Starts.{TracesOpening}
 use Rattle.dms_restore.specs.Scanned.{IsNoEntryOf}
 use Rattle.dms_restore.specs.SchemaSpans.{span_bytes}
 use Rattle.dms_restore.specs.Table.{IsTable}
@@ -148,8 +149,8 @@ read_fault tells total first files places t fault is on r = elim is [
 
 pub planned : (total first : ℕ) (files : Files) (places : List EntryPlace) (t : TrailTrace) (choice : Choice) (next : ℕ) (table : List Told) (counts schema : List ℕ) (plan : OpeningPlan) → plan.choice ≡ choice → plan.next ≡ next → plan.table.items ≡ table → plan.counts.items ≡ counts → plan.schema.items ≡ schema
     → IsTrailRead total first files places t → next ≡ t.history.next → Chooses (history_of (trail_entries total first files)) (next_of (trail_entries total first files)) choice
-    → ((new : Files) (entries : List Entry) (p : Pending) → IsTraced new entries t.history → IsOpening (history_of entries) choice.begins choice.point p → IsTable p.entries p.point new table)
-    → ((entries : List Entry) (p : Pending) → IsTraced files entries t.history → IsOpening (history_of entries) choice.begins choice.point p → (f : ℕ) → count_of counts f ≡ count_at p.entries p.point f)
+    → ((new : Files) (p : Pending) → TracesOpening new t.history choice p → IsTable p.entries p.point new table)
+    → ((p : Pending) → TracesOpening files t.history choice p → (f : ℕ) → count_of counts f ≡ count_at p.entries p.point f)
     → (IsLive (live_of (trail_entries total first files)) choice.point → schema_at (trail_entries total first files) choice.point ≡ Some schema) → Plans total first files plan
 planned total first files places t choice next table counts schema plan same_choice same_next same_table same_counts same_schema r next_is chooses told counted described =
     let entries = trail_entries total first files in
@@ -158,8 +159,8 @@ planned total first files places t choice next table counts schema plan same_cho
     record {
       no_dump = no_dump_in (history_of entries) (next_of entries) choice chooses;
       chooses = own;
-      table_is = λ new grown. subst (IsTable own.restore.entries own.restore.point new) (sym same_table) (told new entries own.restore (r.stays new grown).history (opens own));
-      counts_are = λ f. ap (λ (l : List ℕ). count_of l f) same_counts ∙ counted entries own.restore now.history (opens own) f;
+      table_is = λ new grown. subst (IsTable own.restore.entries own.restore.point new) (sym same_table) (told new own.restore (record { entries = entries; traced = (r.stays new grown).history; opening = opens own }));
+      counts_are = λ f. ap (λ (l : List ℕ). count_of l f) same_counts ∙ counted own.restore (record { entries = entries; traced = now.history; opening = opens own }) f;
       schema_is = ap (λ (c : Choice). schema_at entries c.point) same_choice ∙ described (chosen_lives files entries t.history (next_of entries) choice now.history chooses) ∙ ap (λ (l : List ℕ). Some l) (sym same_schema);
       next_is = now.history.next_is ∙ sym next_is ∙ sym same_next;
     }
@@ -188,6 +189,6 @@ not_described total first files places t choice e r chooses only =
 
 pub not_prepared : (total first : ℕ) (files : Files) (places : List EntryPlace) (t : TrailTrace) (choice : Choice) (e : OpenFault) → IsTrailRead total first files places t
     → Chooses (history_of (trail_entries total first files)) (next_of (trail_entries total first files)) choice
-    → ((entries : List Entry) (p : Pending) → IsTraced files entries t.history → IsOpening (history_of entries) choice.begins choice.point p → IsPlainFault e) → RefusesPlan total first files e
+    → ((p : Pending) → TracesOpening files t.history choice p → IsPlainFault e) → RefusesPlan total first files e
 not_prepared total first files places t choice e r chooses only =
-    plain_refusal total first files e (only (trail_entries total first files) chooses.restore (read_now total first files places t r).history chooses.is)
+    plain_refusal total first files e (only chooses.restore (record { entries = trail_entries total first files; traced = (read_now total first files places t r).history; opening = chooses.is }))

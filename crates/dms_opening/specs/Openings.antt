@@ -33,10 +33,12 @@ use Rattle.dms_opening.specs.declared.choosing.Choice.{Choice}
 use Rattle.dms_audrec.specs.Bodies.{bodies}
 use Rattle.dms_opening.specs.Choices.{Chooses}
 use Rattle.dms_restore.specs.Counts.{count_of, file_counts}
+use Rattle.dms_restore.specs.Views.{view_of}
 use Rattle.dms_restore.specs.Logging as logs
 use Rattle.dms_restore.specs.Logging.{LogView, telling_of, telling, state, waits, LogRuns, entries, points, durable, content}
 use Rattle.dms_wal.specs.Lifting.{block_point, last_blocks}
 use Rattle.dms_wal.specs.Marks.{IsMarkOf, StandsUnder}
+use Rattle.dms_opening.specs.declared.opened.Opened.{Opened}
 use Rattle.dms_opening.specs.Plans.{IsPlainFault, RefusesPlan}
 use Rattle.dms_opening.specs.Laws.{LastIsDescribed}
 
@@ -108,6 +110,10 @@ module _ {S : Type 0} (g : Ghosts S) where
   -- the text so far, where the site tells it
   abbrev pub text_of : S → Option (List ℕ)
   text_of site = if g.tells_said then Some (g.said site) else None
+
+  -- where these files held a database, what was opened runs from them
+  abbrev pub RunsWhere : Files → Opened S → Type 0
+  RunsWhere files o = IsWhole (telling (view_of g o.log)) files → RunsFrom files o.point o.next o.schema.items o.counts.items (view_of g o.log)
 
   -- Where the files of then held a database, each stop since then left what it could leave then, or all their points.
   abbrev pub ReopensSince : S → S → Type 0

@@ -1,5 +1,6 @@
 -- What an opening does, and what it needs, before its first write.
-use Rattle.std.specs.Prelude.{ℕ, ◌<◌, ◌≤◌, ◌≡◌, ◌⊎◌, List, length, Some, None}
+use Rattle.std.specs.Prelude.{ℕ, ◌<◌, ◌≤◌, ◌≡◌, ◌⊎◌, List, length, Some}
+use Rattle.dms_site.specs.declared.site.Site.{Ghosts}
 use Rattle.dms_site.specs.Files.{Files}
 use Rattle.dms_history.specs.Pick.{count_at}
 use Rattle.dms_history.specs.Entries.{Entry}
@@ -20,14 +21,19 @@ use Rattle.dms_restore.specs.Counts.{count_of}
 use Rattle.dms_opening.specs.PointCounts.{AllAtMost}
 use Rattle.dms_restore.specs.Scanned.{AreEntryPlaces}
 use Rattle.dms_restore.specs.Table.{AreBlocks, IsTable}
-use Rattle.dms_restore.specs.Traces.{IsTraceOf}
+use Rattle.dms_restore.specs.Traces.{StaysTraced}
 use Rattle.dms_opening.specs.declared.plan.OpeningPlan.{OpeningPlan}
+use Rattle.dms_opening.specs.declared.scanning.Scanned.{Scanned}
 
 -- The trail that begins with file `first` was scanned: these are the places of its entries, and this is what they tell, however it grows.
 pub record IsTrailRead (total first : ℕ) (files : Files) (places : List EntryPlace) (t : TrailTrace) : Type 0 where
   pub found : IsFound files first places
   pub placed : AreEntryPlaces total first files places
-  pub stays : (new : Files) → Grown total first files new → IsTraceOf new (trail_entries total first files) t
+  pub stays : StaysTraced total first files t
+
+-- so was a trail that was scanned
+abbrev pub IsScanRead : {S : Type 0} → Ghosts S → Scanned S → Type 0
+IsScanRead g s = IsTrailRead s.log.end.total s.log.first (g.files s.log.site) s.places.items s.trace
 
 -- Nothing is refused, and this is what the opening does. For the restore that it begins or goes on with, the table is what the audit tells
 -- at the point, however the trail grows. The counts, the description and the next number are those there.

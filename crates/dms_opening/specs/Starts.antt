@@ -19,6 +19,7 @@ use Rattle.dms_restore.specs.declared.tracing.TrailHistory.{TrailHistory}
 use Rattle.dms_restore.specs.Tracing.{IsTraced}
 use Rattle.dms_restore.specs.Table.{IsTable}
 use Rattle.dms_restore.specs.Laying.{IsAtStart}
+use Rattle.dms_opening.specs.declared.choosing.Choice.{Choice}
 use Rattle.dms_opening.specs.Refusals.{IsOpening}
 
 -- A trail was scanned, its files hold a database, and this is what an opening does.
@@ -59,3 +60,9 @@ pub record TracesPending (files : Files) (h : TrailHistory) (p : Pending) : Type
   pub entries : List Entry
   pub traced : IsTraced files entries h
   pub pending : (history_of entries).pending ≡ Some p
+
+-- What is kept in memory tells of some entries, and this is what an opening of them does, by this restore.
+pub record TracesOpening (files : Files) (h : TrailHistory) (c : Choice) (p : Pending) : Type 0 where
+  pub entries : List Entry
+  pub traced : IsTraced files entries h
+  pub opening : IsOpening (history_of entries) c.begins c.point p

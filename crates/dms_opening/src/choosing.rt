@@ -6,7 +6,7 @@ ghost use Rattle.dms_history.specs.Events.{How};
 ghost use Rattle.dms_history.specs.History.{History};
 ghost use Rattle.dms_history.specs.Entries as meaning;
 ghost use Rattle.dms_history.specs.EntryEvents.{history_of, next_of};
-ghost use Rattle.dms_running.specs.FromDumps.{dump_by, dump_in};
+ghost use Rattle.dms_running.specs.FromDumps.{dump_by, dump_in, NoDumpPending};
 ghost use Rattle.dms_opening.specs.Refusals.{judge_opening};
 ghost use Rattle.dms_opening.specs.Choices.{PointIsRefused, RefusesOpening, Chooses};
 ghost use Rattle.dms_restore.specs.Tracing.{MatchesHow, IsTraced};
@@ -87,7 +87,7 @@ fn pending_dump(history: &TrailHistory) -> Option<u16>
 
 /// What an opening does that isn't refused.
 fn choice_of(history: &TrailHistory) -> Choice
-    ensures { (files : Files) (entries : List meaning.Entry) → IsTraced files entries history.now → dump_in (history_of entries).pending ≡ None → judge_opening (history_of entries) (next_of entries) ≡ None
+    ensures { (files : Files) (entries : List meaning.Entry) → IsTraced files entries history.now → NoDumpPending entries → judge_opening (history_of entries) (next_of entries) ≡ None
         → Chooses (history_of entries) (next_of entries) result }
 {
     match history.pending {
@@ -103,7 +103,7 @@ fn choice_of(history: &TrailHistory) -> Choice
 }
 
 /// What an opening of a trail that begins with file `first` does, or its first refusal by the pending restore and the last point.
-pub fn choose(history: &TrailHistory, alloc: Global, first: u32) -> Result<Choice, OpenFault>
+pub(crate) fn choose(history: &TrailHistory, alloc: Global, first: u32) -> Result<Choice, OpenFault>
     requires { 10001 ≤ first }
     ensures chosen { IfOk result (λ c. (files : Files) (entries : List meaning.Entry) → IsTraced files entries history.now → Chooses (history_of entries) (next_of entries) c) }
     ensures refused { IfErr result (λ e. (files : Files) (entries : List meaning.Entry) → IsTraced files entries history.now → RefusesOpening first (history_of entries) (next_of entries) e) }

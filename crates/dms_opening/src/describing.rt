@@ -35,8 +35,9 @@ fn span_before(before: &[Option<SchemaSpan>], end: usize) -> Option<SchemaSpan>
 }
 
 /// Where the Schema at a point stands: the last whole live one before its place.
-pub fn schema_span(trace: &TrailTrace, point: u64) -> Option<SchemaSpan>
-    ensures { (files : Files) (entries : List meaning.Entry) → IsTraceOf files entries trace.now → has (is_point point) (live_of entries) ≡ true → span_bytes entries result ≡ schema_at entries point }
+pub(crate) fn schema_span(trace: &TrailTrace, point: u64) -> Option<SchemaSpan>
+    ensures { (files : Files) (entries : List meaning.Entry) → IsTraceOf files entries trace.now → has (is_point point) (live_of entries) ≡ true
+        → span_bytes entries result ≡ schema_at entries point }
 {
     match place(&trace.history.live, point) {
         None => None,
@@ -92,7 +93,8 @@ fn read_parts<S: Site>(
     site: &mut S,
     parts: &[EntryPlace],
 ) -> Result<Vec<u8>, AudFault>
-    ensures bytes { IfOk result (λ v. IsTrue S.tells → (placed : List Placed) → parts.now ≡ map place_in placed → AreThere (S.files site.old) placed → v.items ≡ part_bytes (map entry_in placed)) }
+    ensures bytes { IfOk result (λ v. IsTrue S.tells → (placed : List Placed) → parts.now ≡ map place_in placed → AreThere (S.files site.old) placed
+        → v.items ≡ part_bytes (map entry_in placed)) }
     ensures only { IfErr result (λ e. (e ≡ AudFault.Disk) ⊎ ((e ≡ AudFault.Memory) ⊎ IsNoEntryOf S.tells (S.files site.old) parts.now e)) }
     ensures reads { ReadsAlone S.Site site.old site.new }
     ensures same_site { S.same_site site.old site.new }
@@ -126,13 +128,14 @@ fn parts_of<'a>(places: &'a [EntryPlace], span: &SchemaSpan) -> &'a [EntryPlace]
 ///
 /// Nothing changes. Answers Disk where a call of the site failed, Memory, and Damaged where no entry stands at a place, which is so of no
 /// trail that was scanned.
-pub fn read_schema<S: Site>(
+pub(crate) fn read_schema<S: Site>(
     alloc: Global,
     site: &mut S,
     places: &[EntryPlace],
     span: &SchemaSpan,
 ) -> Result<Vec<u8>, AudFault>
-    ensures bytes { IfOk result (λ v. IsTrue S.tells → (placed : List Placed) → places.now ≡ map place_in placed → AreThere (S.files site.old) placed → span_bytes (map entry_in placed) (Some span.now) ≡ Some v.items) }
+    ensures bytes { IfOk result (λ v. IsTrue S.tells → (placed : List Placed) → places.now ≡ map place_in placed → AreThere (S.files site.old) placed
+        → span_bytes (map entry_in placed) (Some span.now) ≡ Some v.items) }
     ensures only { IfErr result (λ e. (e ≡ AudFault.Disk) ⊎ ((e ≡ AudFault.Memory) ⊎ IsNoEntryOf S.tells (S.files site.old) places.now e)) }
     ensures reads { ReadsAlone S.Site site.old site.new }
     ensures same_site { S.same_site site.old site.new }

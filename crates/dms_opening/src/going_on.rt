@@ -18,7 +18,7 @@ use dms_restore::{Begun, Log, Told};
 use dms_site::Site;
 
 /// Writes the blocks of the restore's point, and seals the description and the Control that end it.
-pub fn go_on<S: Site>(
+pub(crate) fn go_on<S: Site>(
     begun: Begun<S>,
     table: &[Told],
     description: &[u8],
@@ -44,11 +44,12 @@ pub fn go_on<S: Site>(
     ensures said { IfOk result (λ l. S.said l.site ≡ S.said begun.log.site) }
     ensures said_then { IfErr result (λ e. S.said e.1.site ≡ S.said begun.log.site) }
     ensures clean { IfOk result (λ l. S.disk_faults l.site ≡ S.disk_faults begun.log.site) }
-    ensures only { IfErr result (λ e. (p : Pending) → IsTrue S.tells → IsTable p.entries p.point (S.files begun.log.site) table.now → (e.0 ≡ AudFault.Disk) ⊎ (e.0 ≡ AudFault.Full begun.log.end.limit)) }
+    ensures only { IfErr result (λ e. (p : Pending) → IsTrue S.tells → IsTable p.entries p.point (S.files begun.log.site) table.now
+        → (e.0 ≡ AudFault.Disk) ⊎ (e.0 ≡ AudFault.Full begun.log.end.limit)) }
     ensures full { IfErr result (λ e. (p : Pending) → IsTrue S.tells → IsTable p.entries p.point (S.files begun.log.site) table.now → e.0 ≡ AudFault.Full begun.log.end.limit
         → (e.1.end.used ≡ 0) × (10000 + begun.log.end.limit < e.1.end.file)) }
-    ensures ends { IfErr result (λ e. (p : Pending) → IsTrue S.tells → IsTable p.entries p.point (S.files begun.log.site) table.now → EndsSealed (view_of S.Site begun.log) → e.0 ≡ AudFault.Full begun.log.end.limit
-        → Ends (view_of S.Site e.1)) }
+    ensures ends { IfErr result (λ e. (p : Pending) → IsTrue S.tells → IsTable p.entries p.point (S.files begun.log.site) table.now → EndsSealed (view_of S.Site begun.log)
+        → e.0 ≡ AudFault.Full begun.log.end.limit → Ends (view_of S.Site e.1)) }
     ensures disk { IfErr result (λ e. CountedAt (e.0 ≡ AudFault.Disk) (S.disk_faults begun.log.site) (S.disk_faults e.1.site)) }
     ensures say_faults { IfOk result (λ l. S.say_faults l.site ≡ S.say_faults begun.log.site) }
     ensures say_faults_then { IfErr result (λ e. S.say_faults e.1.site ≡ S.say_faults begun.log.site) }

@@ -12,7 +12,7 @@ use dms_restore::{LiveEntry, place};
 
 /// Why a point can't be had.
 #[derive(Clone, Copy, Debug, PartialEq, Eq)]
-pub enum PointFault {
+pub(crate) enum PointFault {
     /// Its number isn't below the next one.
     NoSuchPoint,
     /// It is below each live point.
@@ -45,7 +45,7 @@ fn has_described(live: &[LiveEntry]) -> bool
 }
 
 /// Whether a point is live: it has a place, and a Control directly after a whole Schema stands at or before that place.
-pub fn is_live(live: &[LiveEntry], point: u64) -> bool
+fn is_live(live: &[LiveEntry], point: u64) -> bool
     ensures { (files : Files) → result ≡ is_live (events_at files live.now) point }
 {
     match place(live, point) {
@@ -79,7 +79,7 @@ fn has_low(live: &[LiveEntry], point: u64) -> bool
 
 /// The refusal of a point over live entries and the next number, or none: it isn't below that number; it is below each live point; it is
 /// otherwise not live. Each answer comes exactly where `dms_history` says it.
-pub fn judge_point(live: &[LiveEntry], next: u64, point: u64) -> Option<PointFault>
+pub(crate) fn judge_point(live: &[LiveEntry], next: u64, point: u64) -> Option<PointFault>
     ensures { (files : Files) → refusal_seen result ≡ judge_point (events_at files live.now) next point }
 {
     if next <= point {

@@ -4,9 +4,9 @@ ghost use Rattle.std.specs.Prelude.{◌≡◌, ◌≤◌, IfOk, IfErr, IsTrue};
 ghost use Rattle.dms_moments.specs.Moments.{Steps};
 ghost use Rattle.dms_site.specs.Files.{Same};
 ghost use Rattle.dms_audfile.specs.Counting.{CountedAt};
-ghost use Rattle.dms_restore.specs.Laying.{IsAtStart};
+ghost use Rattle.dms_restore.specs.Views.{view_of, LogStarts};
 ghost use Rattle.dms_opening.specs.Openings.{IsTrailFound, NamesStructures, RefusesFiles, IsFullFault};
-ghost use Rattle.dms_opening.specs.Plans.{IsTrailRead, Plans, RefusesPlan};
+ghost use Rattle.dms_opening.specs.Plans.{IsScanRead, Plans, RefusesPlan};
 ghost use Rattle.dms_opening.specs.Carrying.{IsFitPlan};
 
 use crate::{Found, OpenFault, OpeningPlan, Scanned, prepare};
@@ -27,10 +27,10 @@ pub(crate) fn plan_scanned<S: Site>(
     scanned: Scanned<S>,
 ) -> Result<PlannedOpening<S>, (OpenFault, S)>
     requires low { 10001 ≤ scanned.log.first }
-    ensures plans { IfOk result (λ p. IsTrue S.tells → IsTrailRead scanned.log.end.total scanned.log.first (S.files scanned.log.site) scanned.places.items scanned.trace → Plans scanned.log.end.total scanned.log.first (S.files scanned.log.site) p.plan) }
+    ensures plans { IfOk result (λ p. IsTrue S.tells → IsScanRead S.Site scanned → Plans scanned.log.end.total scanned.log.first (S.files scanned.log.site) p.plan) }
     ensures ready { IfOk result (λ p. IsFitPlan p.plan) }
     ensures named { IfOk result (λ p. NamesStructures p.plan.schema.items p.plan.counts.items) }
-    ensures refused { IfErr result (λ e. IsTrue S.tells → IsTrailRead scanned.log.end.total scanned.log.first (S.files scanned.log.site) scanned.places.items scanned.trace → RefusesPlan scanned.log.end.total scanned.log.first (S.files scanned.log.site) e.0) }
+    ensures refused { IfErr result (λ e. IsTrue S.tells → IsScanRead S.Site scanned → RefusesPlan scanned.log.end.total scanned.log.first (S.files scanned.log.site) e.0) }
     ensures kind { IfOk result (λ p. (p.log.end ≡ scanned.log.end) × (p.log.first ≡ scanned.log.first)) }
     ensures files { IfOk result (λ p. IsTrue S.tells → S.files p.log.site ≡ S.files scanned.log.site) }
     ensures files_then { IfErr result (λ e. IsTrue S.tells → S.files e.1 ≡ S.files scanned.log.site) }
@@ -70,7 +70,7 @@ pub(crate) fn look<S: Site>(
     alloc: Global,
     found: Found<S>,
 ) -> Result<PlannedOpening<S>, (OpenFault, S)>
-    ensures starts { IfOk result (λ p. IsTrue S.tells → IsAtStart p.log.end p.log.first (S.files p.log.site) (S.clock p.log.site)) }
+    ensures starts { IfOk result (λ p. IsTrue S.tells → LogStarts (view_of S.Site p.log)) }
     ensures trail { IfOk result (λ p. IsTrue S.tells → IsTrailFound p.log.end.total p.log.first (S.files found.site)) }
     ensures plans { IfOk result (λ p. IsTrue S.tells → Plans p.log.end.total p.log.first (S.files found.site) p.plan) }
     ensures ready { IfOk result (λ p. IsFitPlan p.plan) }

@@ -4,13 +4,12 @@ ghost use Rattle.std.specs.Prelude.{◌≡◌, ℕ, false, ◌<◌, ◌≤◌, I
 ghost use Rattle.dms_moments.specs.Moments.{Steps};
 ghost use Rattle.dms_site.specs.Files.{Files, Same};
 ghost use Rattle.dms_audfile.specs.Counting.{CountedAt};
-ghost use Rattle.dms_running.specs.Standing.{IsWhole};
 ghost use Rattle.dms_restore.specs.Logging.{telling_of};
 ghost use Rattle.dms_restore.specs.Views.{view_of};
 ghost use Rattle.dms_wal.specs.Database.{IsUsable, held};
 ghost use Rattle.dms_wal.specs.Lifting.{AreCounts};
 ghost use Rattle.dms_wal.specs.Marks.{IsDescription};
-ghost use Rattle.dms_opening.specs.Openings.{NamesStructures, OpensAt, RunsFrom, ReopensSince, TellsOpened, RefusesFiles, IsFullFault, IsFullIn, MayHaveWritten, IsOpenable, IsNoRefusal};
+ghost use Rattle.dms_opening.specs.Openings.{NamesStructures, OpensAt, RunsFrom, RunsWhere, ReopensSince, TellsOpened, RefusesFiles, IsFullFault, IsFullIn, MayHaveWritten, IsOpenable, IsNoRefusal};
 
 use crate::carrying::{carry_out, site_of};
 use crate::looking::look;
@@ -42,7 +41,7 @@ pub struct Opened<S: Site> {
 /// audit has no room, and Memory, before anything is written.
 pub fn open<S: Site>(alloc: Global, found: Found<S>) -> Result<Opened<S>, (OpenFault, S)>
     ensures opens { IfOk result (λ o. IsTrue S.tells → OpensAt o.log.end.total o.log.first (S.files found.site) o.point o.next o.schema.items o.counts.items) }
-    ensures runs { IfOk result (λ o. IsTrue S.tells → IsWhole (telling_of o.log.end.total o.log.first) (S.files found.site) → RunsFrom (S.files found.site) o.point o.next o.schema.items o.counts.items (view_of S.Site o.log)) }
+    ensures runs { IfOk result (λ o. IsTrue S.tells → RunsWhere S.Site (S.files found.site) o) }
     ensures fit { IfOk result (λ o. IsDescription o.schema.items × AreCounts o.counts.items) }
     ensures named { IfOk result (λ o. NamesStructures o.schema.items o.counts.items) }
     ensures limit { IfOk result (λ o. o.log.end.limit ≡ 9999) }
@@ -85,7 +84,8 @@ impl<S: Site> Opened<S> {
         ensures tells { IfOk result (λ r. (files : Files) → RunsFrom files self.point self.next self.schema.items self.counts.items (view_of S.Site self.log)
             → TellsOpened (telling_of self.log.end.total self.log.first) files self.next (held S.Site r)) }
         ensures log { IfOk result (λ r. (r.log.site ≡ self.log.site) × (r.log.first ≡ self.log.first) × (r.log.end.total ≡ self.log.end.total) × (r.log.end.limit ≡ limit)) }
-        ensures kept { IfOk result (λ r. (r.schema ≡ self.schema) × (r.counts ≡ self.counts) × (r.next ≡ self.next) × (r.point ≡ self.point) × (r.every ≡ every) × (r.changed ≡ false) × (r.syncs ≡ 0)) }
+        ensures kept { IfOk result (λ r. (r.schema ≡ self.schema) × (r.counts ≡ self.counts) × (r.next ≡ self.next) × (r.point ≡ self.point)
+            × (r.every ≡ every) × (r.changed ≡ false) × (r.syncs ≡ 0)) }
         ensures site { IfErr result (λ e. e.1 ≡ self.log.site) }
     {
         let Opened {

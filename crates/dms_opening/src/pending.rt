@@ -1,14 +1,14 @@
 //! The table of the restore that is pending.
 
-ghost use Rattle.std.specs.Prelude.{◌≡◌, ◌⊎◌, List, Some, IfOk, IfErr};
+ghost use Rattle.std.specs.Prelude.{◌≡◌, ◌⊎◌, List, IfOk, IfErr};
 ghost use Rattle.dms_site.specs.Files.{Files};
 ghost use Rattle.dms_history.specs.History.{Pending};
 ghost use Rattle.dms_history.specs.Entries as meaning;
-ghost use Rattle.dms_history.specs.EntryEvents.{history_of};
 ghost use Rattle.dms_restore.specs.LiveEntries.{AllStandWhole};
 ghost use Rattle.dms_restore.specs.Named.{HasNoBlock};
 ghost use Rattle.dms_restore.specs.Table.{AreBlocks, IsTable};
 ghost use Rattle.dms_restore.specs.Tracing.{IsPendingAt, IsTraced};
+ghost use Rattle.dms_opening.specs.Starts.{TracesPending};
 
 use dms_audfile::AudFault;
 use dms_restore::{LiveEntry, PendingAt, Told, TrailHistory, table_of};
@@ -38,10 +38,9 @@ fn table_at(
 ///
 /// Reads no file. Answers Memory, and Damaged where an Image isn't of a block of a structure file, which is so of no trail that was
 /// scanned.
-pub fn pending_table(history: &TrailHistory, alloc: Global) -> Result<Vec<Told>, AudFault>
+pub(crate) fn pending_table(history: &TrailHistory, alloc: Global) -> Result<Vec<Told>, AudFault>
     ensures blocks { IfOk result (λ v. AreBlocks v.items) }
-    ensures table { IfOk result (λ v. (files : Files) (entries : List meaning.Entry) (p : Pending) → IsTraced files entries history.now → (history_of entries).pending ≡ Some p
-        → IsTable p.entries p.point files v.items) }
+    ensures table { IfOk result (λ v. (files : Files) (p : Pending) → TracesPending files history.now p → IsTable p.entries p.point files v.items) }
     ensures only { IfErr result (λ e. (e ≡ AudFault.Memory) ⊎ HasNoBlock history.now.live.items history.now.removed.items e) }
     ensures memory { IfErr result (λ e. (files : Files) (entries : List meaning.Entry) → IsTraced files entries history.now → e ≡ AudFault.Memory) }
 {

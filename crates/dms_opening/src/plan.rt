@@ -1,9 +1,8 @@
 //! What an opening does, and what it needs, before its first write.
 
-ghost use Rattle.std.specs.Prelude.{◌≡◌, ◌≤◌, ◌⊎◌, ℕ, List, Some, length, IfOk, IfErr, IsErrOf, IsTrue};
+ghost use Rattle.std.specs.Prelude.{◌≡◌, ◌≤◌, ◌⊎◌, ℕ, Some, length, IfOk, IfErr, IsErrOf, IsTrue};
 ghost use Rattle.dms_site.specs.Files.{Files};
-ghost use Rattle.dms_history.specs.Entries as meaning;
-ghost use Rattle.dms_history.specs.EntryEvents.{history_of, live_of};
+ghost use Rattle.dms_history.specs.EntryEvents.{live_of};
 ghost use Rattle.dms_history.specs.History.{Pending};
 ghost use Rattle.dms_history.specs.Pick.{count_at};
 ghost use Rattle.dms_history.specs.Places.{IsLive};
@@ -13,9 +12,8 @@ ghost use Rattle.dms_audfile.specs.Reads.{ReadsAlone};
 ghost use Rattle.dms_audfile.specs.TrailEntries.{trail_entries};
 ghost use Rattle.dms_restore.specs.Counts.{count_of};
 ghost use Rattle.dms_opening.specs.PointCounts.{AllAtMost};
-ghost use Rattle.dms_opening.specs.Refusals.{IsOpening};
+ghost use Rattle.dms_opening.specs.Starts.{TracesOpening};
 ghost use Rattle.dms_restore.specs.Table.{AreBlocks, IsTable};
-ghost use Rattle.dms_restore.specs.Tracing.{IsTraced};
 ghost use Rattle.dms_opening.specs.Plans.{IsTrailRead, CannotDescribe, HasNoDescriptionAt, IsPlainFault, Plans, FitsOpening, RefusesPlan};
 
 use crate::choosing::{Choice, OpenFault, choose};
@@ -67,12 +65,12 @@ fn read_description<S: Site>(
     trace: &TrailTrace,
     point: u64,
 ) -> Result<Vec<u8>, OpenFault>
-    ensures bytes { IfOk result (λ v. IsTrue S.tells → (total : ℕ) → IsTrailRead total first (S.files site.old) places.now trace.now → IsLive (live_of (trail_entries total first (S.files site.old))) point
-        → schema_at (trail_entries total first (S.files site.old)) point ≡ Some v.items) }
+    ensures bytes { IfOk result (λ v. IsTrue S.tells → (total : ℕ) → IsTrailRead total first (S.files site.old) places.now trace.now
+        → IsLive (live_of (trail_entries total first (S.files site.old))) point → schema_at (trail_entries total first (S.files site.old)) point ≡ Some v.items) }
     ensures some { IfOk result (λ v. 1 ≤ length v.items) }
     ensures few { IfOk result (λ v. length v.items ≤ 65535) }
-    ensures only { IfErr result (λ e. IsTrue S.tells → (total : ℕ) → IsTrailRead total first (S.files site.old) places.now trace.now → IsLive (live_of (trail_entries total first (S.files site.old))) point
-        → IsPlainFault e ⊎ ((e ≡ OpenFault.Audit (AudFault.Damaged first 0)) × HasNoDescriptionAt (trail_entries total first (S.files site.old)) point)) }
+    ensures only { IfErr result (λ e. IsTrue S.tells → (total : ℕ) → IsTrailRead total first (S.files site.old) places.now trace.now
+        → IsLive (live_of (trail_entries total first (S.files site.old))) point → IsPlainFault e ⊎ ((e ≡ OpenFault.Audit (AudFault.Damaged first 0)) × HasNoDescriptionAt (trail_entries total first (S.files site.old)) point)) }
     ensures reads { ReadsAlone S.Site site.old site.new }
     ensures same_site { S.same_site site.old site.new }
     ensures disk { CountedAt (IsErrOf result (OpenFault.Audit AudFault.Disk)) (S.disk_faults site.old) (S.disk_faults site.new) }
@@ -98,14 +96,12 @@ fn prepare_restore<S: Site>(
     history: TrailHistory,
 ) -> Result<(Vec<Told>, Vec<u32>), OpenFault>
     ensures blocks { IfOk result (λ x. AreBlocks x.0.items) }
-    ensures table { IfOk result (λ x. (files : Files) (entries : List meaning.Entry) (p : Pending) → IsTraced files entries history → IsOpening (history_of entries) choice.now.begins choice.now.point p
-        → IsTable p.entries p.point files x.0.items) }
-    ensures counts { IfOk result (λ x. IsTrue S.tells → (entries : List meaning.Entry) (p : Pending) → IsTraced (S.files site.old) entries history → IsOpening (history_of entries) choice.now.begins choice.now.point p
+    ensures table { IfOk result (λ x. (files : Files) (p : Pending) → TracesOpening files history choice.now p → IsTable p.entries p.point files x.0.items) }
+    ensures counts { IfOk result (λ x. IsTrue S.tells → (p : Pending) → TracesOpening (S.files site.old) history choice.now p
         → (f : ℕ) → count_of x.1.items f ≡ count_at p.entries p.point f) }
     ensures size { IfOk result (λ x. length x.1.items ≡ 200) }
     ensures small { IfOk result (λ x. AllAtMost x.1.items) }
-    ensures only { IfErr result (λ e. IsTrue S.tells → (entries : List meaning.Entry) (p : Pending) → IsTraced (S.files site.old) entries history → IsOpening (history_of entries) choice.now.begins choice.now.point p
-        → IsPlainFault e) }
+    ensures only { IfErr result (λ e. IsTrue S.tells → (p : Pending) → TracesOpening (S.files site.old) history choice.now p → IsPlainFault e) }
     ensures reads { ReadsAlone S.Site site.old site.new }
     ensures same_site { S.same_site site.old site.new }
     ensures disk { CountedAt (IsErrOf result (OpenFault.Audit AudFault.Disk)) (S.disk_faults site.old) (S.disk_faults site.new) }

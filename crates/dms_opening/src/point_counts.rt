@@ -81,7 +81,8 @@ fn read_counts<S: Site>(
     counts: &mut [u32],
 ) -> Result<(), AudFault>
     requires { length counts.old ≡ 200 }
-    ensures counts { OnOk result (IsTrue S.tells → (f : ℕ) → count_of counts.new f ≡ counts_in (counts_at (control.now.size / 8) (range control.now.at control.now.size (S.files site.old control.now.audit))) f) }
+    ensures counts { OnOk result (IsTrue S.tells → (f : ℕ)
+        → count_of counts.new f ≡ counts_in (counts_at (control.now.size / 8) (range control.now.at control.now.size (S.files site.old control.now.audit))) f) }
     ensures small { OnOk result (AllAtMost counts.new) }
     ensures only { IfErr result (λ e. (e ≡ AudFault.Disk) ⊎ ((e ≡ AudFault.Damaged control.now.audit 0) × HasNoCounts S.tells (S.files site.old) control.now)) }
     ensures reads { ReadsAlone S.Site site.old site.new }
@@ -182,7 +183,7 @@ fn count_all<S: Site>(site: &mut S, live: &[LiveEntry], counts: &mut [u32]) -> R
 ///
 /// Nothing changes. Answers Disk where a call of the site failed, Memory, and Damaged where an entry is an Image of no block of a
 /// structure file, or a Control whose list isn't one of counts of structure files.
-pub fn counts_after<S: Site>(
+pub(crate) fn counts_after<S: Site>(
     alloc: Global,
     site: &mut S,
     live: &[LiveEntry],

@@ -1,21 +1,17 @@
 //! What an opening needs of a trail before its first write.
 
-ghost use Rattle.std.specs.Prelude.{◌≡◌, ◌≤◌, ◌⊎◌, ℕ, List, Some, min, length, OnOk, IfOk, IfErr, IsErrOf, IsTrue};
+ghost use Rattle.std.specs.Prelude.{◌≡◌, ◌≤◌, ◌⊎◌, ℕ, Some, min, length, OnOk, IfOk, IfErr, IsErrOf, IsTrue};
 ghost use Rattle.dms_site.specs.Files.{Files};
 ghost use Rattle.dms_history.specs.History.{Pending};
 ghost use Rattle.dms_history.specs.Pick.{count_at};
-ghost use Rattle.dms_history.specs.Entries as meaning;
-ghost use Rattle.dms_history.specs.EntryEvents.{history_of};
 ghost use Rattle.dms_audfile.specs.Counting.{CountedAt};
 ghost use Rattle.dms_audfile.specs.Reads.{ReadsAlone};
 ghost use Rattle.dms_restore.specs.Counts.{count_of};
 ghost use Rattle.dms_opening.specs.PointCounts.{AllAtMost, IsNoCountAmong};
-ghost use Rattle.dms_opening.specs.Refusals.{IsOpening};
 ghost use Rattle.dms_restore.specs.declared.live.PendingAt as at;
 ghost use Rattle.dms_restore.specs.Named.{HasNoBlock};
-ghost use Rattle.dms_opening.specs.Starts.{TracesPending};
+ghost use Rattle.dms_opening.specs.Starts.{TracesPending, TracesOpening};
 ghost use Rattle.dms_restore.specs.Table.{AreBlocks, IsTable};
-ghost use Rattle.dms_restore.specs.Tracing.{IsTraced};
 
 use crate::choosing::Choice;
 use crate::pending::pending_table;
@@ -38,7 +34,7 @@ fn kept_of(pending: Option<PendingAt>, live: usize) -> usize
 
 /// Adds the Begin of a restore that an opening begins.
 fn begin_where(history: &mut TrailHistory, alloc: Global, choice: &Choice) -> Result<(), AllocError>
-    ensures { OnOk result ((files : Files) (entries : List meaning.Entry) (p : Pending) → IsTraced files entries history.old → IsOpening (history_of entries) choice.now.begins choice.now.point p → TracesPending files history.new p) }
+    ensures { OnOk result ((files : Files) (p : Pending) → TracesOpening files history.old choice.now p → TracesPending files history.new p) }
 {
     if choice.begins {
         history.begin(alloc, choice.point, HowAt::HaltLoad)
@@ -50,18 +46,16 @@ fn begin_where(history: &mut TrailHistory, alloc: Global, choice: &Choice) -> Re
 /// The table of the restore that an opening begins or goes on with. The Begin of one that it begins is added to what is kept.
 ///
 /// Answers Memory, and Damaged where an Image isn't of a block of a structure file, which is so of no trail that was scanned.
-pub fn opening_table(
+pub(crate) fn opening_table(
     history: &mut TrailHistory,
     alloc: Global,
     choice: &Choice,
 ) -> Result<Vec<Told>, AudFault>
     ensures blocks { IfOk result (λ v. AreBlocks v.items) }
-    ensures table { IfOk result (λ v. (files : Files) (entries : List meaning.Entry) (p : Pending) → IsTraced files entries history.old → IsOpening (history_of entries) choice.now.begins choice.now.point p
-        → IsTable p.entries p.point files v.items) }
-    ensures traces { OnOk result ((files : Files) (entries : List meaning.Entry) (p : Pending) → IsTraced files entries history.old → IsOpening (history_of entries) choice.now.begins choice.now.point p
-        → TracesPending files history.new p) }
+    ensures table { IfOk result (λ v. (files : Files) (p : Pending) → TracesOpening files history.old choice.now p → IsTable p.entries p.point files v.items) }
+    ensures traces { OnOk result ((files : Files) (p : Pending) → TracesOpening files history.old choice.now p → TracesPending files history.new p) }
     ensures only { IfErr result (λ e. (e ≡ AudFault.Memory) ⊎ HasNoBlock history.new.live.items history.new.removed.items e) }
-    ensures memory { IfErr result (λ e. (files : Files) (entries : List meaning.Entry) (p : Pending) → IsTraced files entries history.old → IsOpening (history_of entries) choice.now.begins choice.now.point p → e ≡ AudFault.Memory) }
+    ensures memory { IfErr result (λ e. (files : Files) (p : Pending) → TracesOpening files history.old choice.now p → e ≡ AudFault.Memory) }
 {
     match begin_where(history, alloc, choice) {
         Ok(()) => {}
@@ -73,7 +67,7 @@ pub fn opening_table(
 /// How many blocks each of the files 30,001 to 30,200 has at the point of the pending restore, in a table of 200 files.
 ///
 /// Nothing changes. Faults as those of `counts_after`; Damaged is answered of no trail that was scanned.
-pub fn pending_counts<S: Site>(
+pub(crate) fn pending_counts<S: Site>(
     history: &TrailHistory,
     alloc: Global,
     site: &mut S,

@@ -46,7 +46,7 @@ fn judge_pending(
 }
 
 /// The refusal of a point of the trail, or none.
-pub fn judge(history: &TrailHistory, point: u64) -> Option<PointFault>
+fn judge(history: &TrailHistory, point: u64) -> Option<PointFault>
     ensures { (files : Files) (entries : List meaning.Entry) → IsTraced files entries history.now → refusal_seen result ≡ judge_point (live_of entries) (next_of entries) point }
 {
     judge_point(&history.live, history.next, point)
@@ -54,7 +54,8 @@ pub fn judge(history: &TrailHistory, point: u64) -> Option<PointFault>
 
 /// The refusal of the last point, with its number.
 fn judge_last(history: &TrailHistory) -> Option<(u64, PointFault)>
-    ensures { (files : Files) (entries : List meaning.Entry) → IsTraced files entries history.now → refusal_at result ≡ judge_last (next_of entries) (live_of entries) (last_point (history_of entries)) }
+    ensures { (files : Files) (entries : List meaning.Entry) → IsTraced files entries history.now
+        → refusal_at result ≡ judge_last (next_of entries) (live_of entries) (last_point (history_of entries)) }
 {
     match last_point(history) {
         None => Some((0, PointFault::AuditMissing)),
@@ -64,7 +65,7 @@ fn judge_last(history: &TrailHistory) -> Option<(u64, PointFault)>
 
 /// The first refusal of an opening by its points, with the number of the point, or none: that of a restore that is pending, then
 /// that of the last point.
-pub fn judge_opening(
+pub(crate) fn judge_opening(
     history: &TrailHistory,
     alloc: Global,
 ) -> Result<Option<(u64, PointFault)>, AllocError>

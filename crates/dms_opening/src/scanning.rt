@@ -2,15 +2,14 @@
 
 ghost use Rattle.std.specs.Prelude.{◌≡◌, ◌≤◌, IfOk, IfErr, IsTrue};
 ghost use Rattle.dms_moments.specs.Moments.{Steps};
-ghost use Rattle.dms_site.specs.Files.{Files, Same};
+ghost use Rattle.dms_site.specs.Files.{Same};
 ghost use Rattle.dms_audfile.specs.Counting.{CountedAt};
 ghost use Rattle.dms_audfile.specs.Reads.{Refuses};
 ghost use Rattle.dms_audfile.specs.AuditTrail.{IsFound};
-ghost use Rattle.dms_audfile.specs.Ends.{Grown};
 ghost use Rattle.dms_audfile.specs.TrailEntries.{trail_entries};
 ghost use Rattle.dms_restore.specs.Views.{view_of, LogStarts};
 ghost use Rattle.dms_restore.specs.Scanned.{AreEntryPlaces};
-ghost use Rattle.dms_restore.specs.Traces.{IsTraceOf};
+ghost use Rattle.dms_restore.specs.Traces.{IsTraceOf, StaysTraced};
 
 use dms_audfile::laws::{entries_stand_at_their_places, what_is_found_are_the_entries};
 use dms_audfile::{AudFault, AuditEnd, EntryPlace};
@@ -45,7 +44,7 @@ impl<S: Site> Found<S> {
         ensures found { IfOk result (λ s. IsTrue S.tells → IsFound (S.files self.site) s.log.first s.places.items) }
         ensures places { IfOk result (λ s. IsTrue S.tells → AreEntryPlaces s.log.end.total s.log.first (S.files self.site) s.places.items) }
         ensures traced { IfOk result (λ s. IsTrue S.tells → IsTraceOf (S.files self.site) (trail_entries s.log.end.total s.log.first (S.files self.site)) s.trace) }
-        ensures stays { IfOk result (λ s. IsTrue S.tells → (new : Files) → Grown s.log.end.total s.log.first (S.files self.site) new → IsTraceOf new (trail_entries s.log.end.total s.log.first (S.files self.site)) s.trace) }
+        ensures stays { IfOk result (λ s. IsTrue S.tells → StaysTraced s.log.end.total s.log.first (S.files self.site) s.trace) }
         ensures limit { IfOk result (λ s. s.log.end.limit ≡ limit) }
         ensures refused { IfErr result (λ e. IsTrue S.tells → Refuses (S.files self.site) e.0) }
         ensures files { IfOk result (λ s. IsTrue S.tells → S.files s.log.site ≡ S.files self.site) }

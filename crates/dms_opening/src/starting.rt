@@ -20,7 +20,11 @@ use dms_site::Site;
 ///
 /// Going on makes no call of the site. Answers Disk where a call of the site failed, and else Full where the audit has no room for
 /// the Begin.
-pub fn start<S: Site>(log: Log<S>, begins: bool, point: u64) -> Result<Begun<S>, (AudFault, Log<S>)>
+pub(crate) fn start<S: Site>(
+    log: Log<S>,
+    begins: bool,
+    point: u64,
+) -> Result<Begun<S>, (AudFault, Log<S>)>
     ensures begun { IfOk result (λ b. (p : Pending) → IsTrue S.tells → MayOpen (view_of S.Site log) begins point p
         → BegunAt p (view_of S.Site b.log)) }
     ensures keeps { IfOk result (λ b. (p : Pending) → IsTrue S.tells → MayOpen (view_of S.Site log) begins point p

@@ -5,8 +5,8 @@ use Rattle.dms_restore.proofs.SpotParts.{lent_fault}
 use Rattle.dms_opening.proofs.pending.pending_table.Goals as goal
 
 pub returns-in-Some-clause-table : goal.returns-in-Some-clause-table
-returns-in-Some-clause-table c = one_if_ok c.table_at.result c.table_at.ensures.table (λ v table files entries p t is.
-    table_lent files entries c.args.history.now c.in-Some.at p _ _ v.items c.deref.ensures.value c.deref-in-Some.ensures.value (table files p) c.in-Some.is is t)
+returns-in-Some-clause-table c = one_if_ok c.table_at.result c.table_at.ensures.table (λ v table files p t.
+    table_lent files t.entries c.args.history.now c.in-Some.at p _ _ v.items c.deref.ensures.value c.deref-in-Some.ensures.value (table files p) c.in-Some.is t.pending t.traced)
 
 pub returns-in-Some-clause-only : goal.returns-in-Some-clause-only
 returns-in-Some-clause-only c = lent_fault c.table_at.result c.args.history.now.live.items c.args.history.now.removed.items _ _ c.deref.ensures.value c.deref-in-Some.ensures.value c.table_at.ensures.only

@@ -1,7 +1,7 @@
 use Rattle.std.proofs.Common.{refl, sym, subst}
 use Rattle.dms_site.specs.Files.{Files}
 use Rattle.dms_audfile.specs.TrailEntries.{trail_entries}
-use Rattle.dms_restore.specs.Tracing.{IsTraced}
+use Rattle.dms_opening.specs.Starts.{TracesOpening}
 use Rattle.dms_opening.proofs.OpeningPlans.{read_now, planned, refused_by, not_described, not_prepared}
 use Rattle.dms_opening.proofs.plan.prepare.Goals as goal
 
@@ -21,8 +21,8 @@ returns-in-Ok-prepare_restore-clause-plans g c tells total r =
     let entries = trail_entries total c.args.first files in
     planned total c.args.first files c.args.places.now c.args.trace c.in-Ok.choice c.args.trace.history.next c.in-Ok-prepare_restore.table.items c.in-Ok-prepare_restore.counts.items c.in-Ok-read_description.schema.items _ refl refl refl refl refl r refl
     (c.in-Ok.ensures.chosen files entries (read_now total c.args.first files c.args.places.now c.args.trace r).history)
-    (λ new es p t o. c.in-Ok-prepare_restore.ensures.table new es p t o)
-    (λ es p t o. c.in-Ok-prepare_restore.ensures.counts tells es p (subst (λ (f : Files). IsTraced f es c.args.trace.history) (sym (c.read_description.ensures.reads.files_stay tells)) t) o)
+    (λ new p t. c.in-Ok-prepare_restore.ensures.table new p t)
+    (λ p t. c.in-Ok-prepare_restore.ensures.counts tells p (subst (λ (f : Files). TracesOpening f c.args.trace.history c.in-Ok.choice p) (sym (c.read_description.ensures.reads.files_stay tells)) t))
     (λ lives. c.in-Ok-read_description.ensures.bytes tells total r lives)
 
 pub returns-clause-refused : goal.returns-clause-refused
@@ -31,4 +31,4 @@ returns-clause-refused g c tells total r =
     let entries = trail_entries total c.args.first files in
     not_prepared total c.args.first files c.args.places.now c.args.trace c.in-Ok.choice c.in-Err-prepare_restore.fault r
     (c.in-Ok.ensures.chosen files entries (read_now total c.args.first files c.args.places.now c.args.trace r).history)
-    (λ es p t o. c.in-Err-prepare_restore.ensures.only tells es p (subst (λ (f : Files). IsTraced f es c.args.trace.history) (sym (c.read_description.ensures.reads.files_stay tells)) t) o)
+    (λ p t. c.in-Err-prepare_restore.ensures.only tells p (subst (λ (f : Files). TracesOpening f c.args.trace.history c.in-Ok.choice p) (sym (c.read_description.ensures.reads.files_stay tells)) t))

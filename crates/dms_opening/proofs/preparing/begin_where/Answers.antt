@@ -5,8 +5,8 @@ use Rattle.dms_opening.proofs.Prepared.{traces_new, traces_old}
 use Rattle.dms_opening.proofs.preparing.begin_where.Goals as goal
 
 pub returns-then-choice : goal.returns-then-choice
-returns-then-choice c = one_ok c.begin.result c.begin.ensures (λ begin files entries p t o.
-    traces_new files entries c.args.choice.now.begins c.args.choice.now.point c.begin.new.self p c.if-choice.true o (begin files entries by_halt_load refl t))
+returns-then-choice c = one_ok c.begin.result c.begin.ensures (λ begin files p t.
+    traces_new files t.entries c.args.choice.now.begins c.args.choice.now.point c.begin.new.self p c.if-choice.true t.opening (begin files t.entries by_halt_load refl t.traced))
 
 pub returns-else-choice : goal.returns-else-choice
-returns-else-choice c files entries p t o = traces_old files entries c.args.choice.now.begins c.args.choice.now.point c.args.history.now p c.if-choice.false o t
+returns-else-choice c files p t = traces_old files t.entries c.args.choice.now.begins c.args.choice.now.point c.args.history.now p c.if-choice.false t.opening t.traced
