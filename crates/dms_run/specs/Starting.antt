@@ -7,11 +7,10 @@ use Rattle.dms_feed.specs.Feeds.{Remains}
 use Rattle.dms_feed.specs.Lines.{raw_lines}
 use Rattle.dms_model.specs.declared.store.Store.{Ghosts}
 use Rattle.dms_model.specs.Db.{Db}
-use Rattle.dms_model.specs.Session.{fresh_session, ended}
+use Rattle.dms_model.specs.Session.{fresh_session}
 use Rattle.dms_moments.specs.Moments.{Runs}
-use Rattle.dms_runner.specs.Answers.{answers_text, last_quiet, script_events, script_run}
+use Rattle.dms_runner.specs.Answers.{answers_text, last_quiet, script_events}
 use Rattle.dms_runner.specs.Events.{RunEvent, quiets_of, SaidWhole}
-use Rattle.dms_runner.specs.Running.{CutInput, PassesBytes, PassesLines, PassesWaiting}
 use Rattle.dms_storeverbs.specs.declared.engine.Engine.{Engine}
 use Rattle.dms_storeverbs.specs.View.{StandsFor, seen, view}
 use Rattle.dms_run.specs.States.{EndsWith}
@@ -50,20 +49,3 @@ module _ {St : Type 0} {g : Ghosts St} where
   -- whole answers were printed, and no part of one
   abbrev pub SaysWholeAnswers : Engine St g → Engine St g → Db → ℕ → List ℕ → Type 0
   SaysWholeAnswers old new db first all = SaidWhole (seen old).said (seen new).said (script_events (described old.desc) db first (raw_lines all))
-
-  -- the engine stands for the session at the end of the script
-  abbrev pub StandsAtEnd : Engine St g → Engine St g → Db → ℕ → List ℕ → Type 0
-  StandsAtEnd old new db first all = StandsFor (view new) (ended (script_run (described old.desc) db first (raw_lines all)).going.session)
-
-  -- the script passes a limit, or its input fails, and what the whole lines before that place answer was printed
-  abbrev pub StopsAtLines : Engine St g → Engine St g → Db → ℕ → List ℕ → Type 0
-  StopsAtLines old new db first all = PassesLines (described old.desc) db first (raw_lines all) (seen old).said (seen new).said
-
-  abbrev pub StopsAtBytes : Engine St g → Engine St g → Db → ℕ → List ℕ → Type 0
-  StopsAtBytes old new db first all = PassesBytes (described old.desc) db first (raw_lines all) (seen old).said (seen new).said
-
-  abbrev pub StopsAtWaiting : Engine St g → Engine St g → Db → ℕ → List ℕ → Type 0
-  StopsAtWaiting old new db first all = PassesWaiting (described old.desc) db first (raw_lines all) (seen old).said (seen new).said
-
-  abbrev pub StopsAtInput : Option (List ℕ) → Engine St g → Engine St g → Db → ℕ → List ℕ → Type 0
-  StopsAtInput left old new db first all = CutInput (described old.desc) db first all left (seen old).said (seen new).said

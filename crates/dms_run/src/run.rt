@@ -4,10 +4,10 @@ ghost use Rattle.dms_desc.specs.Shape.{described};
 ghost use Rattle.dms_feed.specs.Feeds.{Remains};
 ghost use Rattle.dms_feed.specs.Lines.{raw_lines};
 ghost use Rattle.dms_runner.specs.Blaming.{CutRun, LastsRun};
-ghost use Rattle.dms_runner.specs.Starting.{AtStart};
+ghost use Rattle.dms_runner.specs.Starting.{AtStart, StandsAtEnd, StopsAtBytes, StopsAtInput, StopsAtLines, StopsAtWaiting};
 ghost use Rattle.dms_storeverbs.specs.View.{seen};
 ghost use Rattle.dms_run.specs.Ending.{EndsLeave, KeepsLimits, StaysUndamaged};
-ghost use Rattle.dms_run.specs.Starting.{OfScript, ReachesEnd, SaysAll, SaysPrefix, SaysWholeAnswers, StandsAtEnd, StopsAtBytes, StopsAtInput, StopsAtLines, StopsAtWaiting, StopsLeave};
+ghost use Rattle.dms_run.specs.Starting.{OfScript, ReachesEnd, SaysAll, SaysPrefix, SaysWholeAnswers, StopsLeave};
 
 use dms_feed::Feed;
 use dms_model::Store;

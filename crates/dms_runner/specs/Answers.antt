@@ -62,13 +62,17 @@ first_try_effect desc g name verb o =
     if is_waits o.reply then put_to_wait g o.session (first_line g.line name verb true) (calls o ∷ []) (says (answer_text g.line name o.reply o.sync) ∷ [])
     else after_retries g.line (events_before (calls o ∷ says (answer_text g.line name o.reply o.sync) ∷ []) (retries (length g.waiting) desc o.session g.waiting))
 
+-- so a line of this program is tried
+abbrev pub tried_first : Described → RunState → List ℕ → Verb → LineEffect
+tried_first desc g name verb = first_try_effect desc g name verb (step desc g.session name verb)
+
 -- what a line leaves and does; g counts it already. A line whose program has a waiting line is held without a try
 abbrev pub line_effect : Described → RunState → Line → LineEffect
 line_effect desc g Empty = nothing_done g
 line_effect desc g (Bad place) = after_retries g.line (events_before (says (bad_text g.line place) ∷ []) (retries (length g.waiting) desc g.session g.waiting))
 line_effect desc g (Spoken name verb) =
     if has_line g.waiting name then put_to_wait g g.session (first_line g.line name verb false) [] []
-    else first_try_effect desc g name verb (step desc g.session name verb)
+    else tried_first desc g name verb
 
 unfoldable pub line_step : Described → RunState → List ℕ → LineEffect
 line_step desc g raw = line_effect desc (one_line_more g) (line_of desc (line_text raw))

@@ -1,16 +1,11 @@
 ghost use Rattle.std.specs.Prelude.{◌≡◌, ◌≤◌, ◌<◌, ◌+◌, ◌^◌, ◌++◌, [], ◌∷◌, take, ℕ, List, Bool, true, false, not, Some, None, IfOk, OnOk, IsErrOf, IsTrue, length, OnErr};
 ghost use Rattle.dms_desc.specs.Shape.{described};
-ghost use Rattle.dms_model.specs.Session.{Session, step, is_waits};
-ghost use Rattle.dms_storeverbs.specs.View.{EngineLasts, SameSession, StandsFor, seen, view};
-ghost use Rattle.dms_runner.specs.Events.{IsCutShort, PerformsPrefix};
-ghost use Rattle.dms_feed.specs.Lines.{line_text};
-ghost use Rattle.dms_model.specs.declared.verb.Verb.{Verb};
-ghost use Rattle.dms_script.specs.declared.line.Line.TheVariants.{Empty, Verb as Spoken, Bad};
-ghost use Rattle.dms_runner.specs.Answers.{RunState, MayTakeLine, line_step, line_effect, first_try_effect, one_line_more};
+ghost use Rattle.dms_storeverbs.specs.View.{EngineLasts, seen};
+ghost use Rattle.dms_script.specs.declared.line.Line.TheVariants.{Verb as Spoken, Bad};
+ghost use Rattle.dms_runner.specs.Answers.{tried_first};
 ghost use Rattle.dms_model.specs.Verbs.{IsVerbOf};
-ghost use Rattle.dms_runner.specs.Trying.{MatchesLine};
 ghost use Rattle.dms_runner.specs.Waiting.{AreVerbs};
-ghost use Rattle.dms_runner.specs.Starting.{AtSession, AtRunState, AtStart};
+ghost use Rattle.dms_runner.specs.Starting.{AtRawLine, AtRunState, LineTaken, PartHappened, effect_at, step_at};
 
 use crate::WaitingLine;
 use crate::retrying::{has_line, retry_all};
@@ -36,8 +31,8 @@ fn bad_line<St: Store>(
 ) -> Result<bool, BlockFault>
     requires sound { (seen engine.old).sound }
     requires verbs { AreVerbs (described engine.old.desc) waiting.old.items }
-    ensures lined { IfOk result (λ on. AtRunState engine.old waiting.old.items line (λ g. MatchesLine (line_effect (described engine.old.desc) g (Bad place)) on (view engine.new) waiting.new.items (seen engine.old) (seen engine.new))) }
-    ensures part { AtRunState engine.old waiting.old.items line (λ g. PerformsPrefix (IsCutShort result) (seen engine.old) (seen engine.new) (line_effect (described engine.old.desc) g (Bad place)).events) }
+    ensures lined { IfOk result (λ on. AtRunState engine.old waiting.old.items line (λ g. LineTaken engine.old engine.new waiting.new.items on (effect_at engine.old g (Bad place)))) }
+    ensures part { AtRunState engine.old waiting.old.items line (λ g. PartHappened result engine.old engine.new (effect_at engine.old g (Bad place)).events) }
     ensures verbs { OnOk result (AreVerbs (described engine.old.desc) waiting.new.items) }
     ensures lasts { EngineLasts result engine.old engine.new }
 {
@@ -59,8 +54,8 @@ fn first_try<St: Store>(
     requires sound { (seen engine.old).sound }
     requires verbs { AreVerbs (described engine.old.desc) waiting.old.items }
     requires verb { IsVerbOf (described engine.old.desc) verb }
-    ensures lined { IfOk result (λ on. AtRunState engine.old waiting.old.items line (λ g. MatchesLine (first_try_effect (described engine.old.desc) g name verb (step (described engine.old.desc) g.session name verb)) on (view engine.new) waiting.new.items (seen engine.old) (seen engine.new))) }
-    ensures part { AtRunState engine.old waiting.old.items line (λ g. PerformsPrefix (IsCutShort result) (seen engine.old) (seen engine.new) (first_try_effect (described engine.old.desc) g name verb (step (described engine.old.desc) g.session name verb)).events) }
+    ensures lined { IfOk result (λ on. AtRunState engine.old waiting.old.items line (λ g. LineTaken engine.old engine.new waiting.new.items on (tried_first (described engine.old.desc) g name verb))) }
+    ensures part { AtRunState engine.old waiting.old.items line (λ g. PartHappened result engine.old engine.new (tried_first (described engine.old.desc) g name verb).events) }
     ensures verbs { OnOk result (AreVerbs (described engine.old.desc) waiting.new.items) }
     ensures lasts { EngineLasts result engine.old engine.new }
 {
@@ -95,8 +90,8 @@ fn spoken_line<St: Store>(
     requires sound { (seen engine.old).sound }
     requires verbs { AreVerbs (described engine.old.desc) waiting.old.items }
     requires verb { IsVerbOf (described engine.old.desc) verb }
-    ensures lined { IfOk result (λ on. AtRunState engine.old waiting.old.items line (λ g. MatchesLine (line_effect (described engine.old.desc) g (Spoken name verb)) on (view engine.new) waiting.new.items (seen engine.old) (seen engine.new))) }
-    ensures part { AtRunState engine.old waiting.old.items line (λ g. PerformsPrefix (IsCutShort result) (seen engine.old) (seen engine.new) (line_effect (described engine.old.desc) g (Spoken name verb)).events) }
+    ensures lined { IfOk result (λ on. AtRunState engine.old waiting.old.items line (λ g. LineTaken engine.old engine.new waiting.new.items on (effect_at engine.old g (Spoken name verb)))) }
+    ensures part { AtRunState engine.old waiting.old.items line (λ g. PartHappened result engine.old engine.new (effect_at engine.old g (Spoken name verb)).events) }
     ensures verbs { OnOk result (AreVerbs (described engine.old.desc) waiting.new.items) }
     ensures lasts { EngineLasts result engine.old engine.new }
 {
@@ -126,8 +121,8 @@ pub fn take_line<St: Store>(
 ) -> Result<bool, BlockFault>
     requires sound { (seen engine.old).sound }
     requires verbs { AreVerbs (described engine.old.desc) waiting.old.items }
-    ensures lined { IfOk result (λ on. (g : RunState) (whole : List ℕ) → raw.now ≡ take 2003 whole → StandsFor (view engine.old) g.session → g.waiting ≡ waiting.old.items → g.line + 1 ≡ line → MayTakeLine g → MatchesLine (line_step (described engine.old.desc) g whole) on (view engine.new) waiting.new.items (seen engine.old) (seen engine.new)) }
-    ensures part { (g : RunState) (whole : List ℕ) → raw.now ≡ take 2003 whole → StandsFor (view engine.old) g.session → g.waiting ≡ waiting.old.items → g.line + 1 ≡ line → MayTakeLine g → PerformsPrefix (IsCutShort result) (seen engine.old) (seen engine.new) (line_step (described engine.old.desc) g whole).events }
+    ensures lined { IfOk result (λ on. AtRawLine engine.old waiting.old.items line raw.now (λ g whole. LineTaken engine.old engine.new waiting.new.items on (step_at engine.old g whole))) }
+    ensures part { AtRawLine engine.old waiting.old.items line raw.now (λ g whole. PartHappened result engine.old engine.new (step_at engine.old g whole).events) }
     ensures verbs { OnOk result (AreVerbs (described engine.old.desc) waiting.new.items) }
     ensures lasts { EngineLasts result engine.old engine.new }
 {

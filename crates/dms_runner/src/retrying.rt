@@ -1,14 +1,10 @@
 ghost use Rattle.std.specs.Prelude.{◌≡◌, ◌≤◌, ◌<◌, ◌+◌, ◌^◌, ◌++◌, [], ◌∷◌, ℕ, List, Bool, true, false, not, Some, None, IfOk, IfSome, OnOk, IsErrOf, length, IsTrue};
 ghost use Rattle.dms_desc.specs.Shape.{described};
-ghost use Rattle.dms_laws.specs.Exclusive.{IsExclusive};
-ghost use Rattle.dms_model.specs.Session.{Session, step, is_waits};
-ghost use Rattle.dms_storeverbs.specs.View.{EngineLasts, SameSession, StandsFor, seen, view};
-ghost use Rattle.dms_runner.specs.Events.{IsCutShort, PerformsPrefix};
+ghost use Rattle.dms_storeverbs.specs.View.{EngineLasts, seen};
 ghost use Rattle.std.specs.Prelude.{slice_get, take, slice_set};
 ghost use Rattle.dms_runner.specs.declared.waiting.WaitingLine.{WaitingLine as LineWaiting};
-ghost use Rattle.dms_runner.specs.Waiting.{AreVerbs, has_line, tries, said_to_wait, retry, retries};
-ghost use Rattle.dms_runner.specs.Trying.{PerformsRetry, PerformsTry, PerformsRetries};
-ghost use Rattle.dms_runner.specs.Starting.{AtSession, AtRunState, AtStart};
+ghost use Rattle.dms_runner.specs.Waiting.{AreVerbs, has_line, tries, said_to_wait, retry};
+ghost use Rattle.dms_runner.specs.Starting.{RetriesMade, AtRetries, AtSession, AtWaiting, LineTried, PartHappened, RetryMade, outcome_at, retries_at};
 
 use crate::WaitingLine;
 use crate::saying::try_line;
@@ -43,8 +39,8 @@ fn try_at<St: Store>(
     requires sound { (seen engine.old).sound }
     requires verbs { AreVerbs (described engine.old.desc) waiting.now }
     requires place { i < length waiting.now }
-    ensures tried { IfOk result (λ answered. (h : LineWaiting) → slice_get waiting.now i ≡ Some h → AtSession engine.old (λ s. PerformsTry (step (described engine.old.desc) s h.program h.verb) h answered (view engine.new) (seen engine.old) (seen engine.new))) }
-    ensures part { (h : LineWaiting) → slice_get waiting.now i ≡ Some h → AtSession engine.old (λ s. PerformsPrefix (IsCutShort result) (seen engine.old) (seen engine.new) (tries h (step (described engine.old.desc) s h.program h.verb))) }
+    ensures tried { IfOk result (λ answered. AtWaiting waiting.now i (λ h. AtSession engine.old (λ s. LineTried engine.old engine.new h answered (outcome_at engine.old s h)))) }
+    ensures part { AtWaiting waiting.now i (λ h. AtSession engine.old (λ s. PartHappened result engine.old engine.new (tries h (outcome_at engine.old s h)))) }
     ensures lasts { EngineLasts result engine.old engine.new }
 {
     try_line(alloc, engine, &waiting[i])
@@ -69,8 +65,8 @@ fn pass<St: Store>(
     requires verbs { AreVerbs (described engine.old.desc) waiting.old }
     ensures place { IfOk result (λ found. IfSome found (λ i. i < length waiting.new)) }
     ensures long { length waiting.new ≡ length waiting.old }
-    ensures passes { IfOk result (λ found. AtSession engine.old (λ s. PerformsRetry (retry (described engine.old.desc) s [] waiting.old) (view engine.new) waiting.new found (seen engine.old) (seen engine.new))) }
-    ensures part { AtSession engine.old (λ s. PerformsPrefix (IsCutShort result) (seen engine.old) (seen engine.new) (retry (described engine.old.desc) s [] waiting.old).events) }
+    ensures passes { IfOk result (λ found. AtSession engine.old (λ s. RetryMade engine.old engine.new waiting.new found (retry (described engine.old.desc) s [] waiting.old))) }
+    ensures part { AtSession engine.old (λ s. PartHappened result engine.old engine.new (retry (described engine.old.desc) s [] waiting.old).events) }
     ensures verbs { OnOk result (AreVerbs (described engine.old.desc) waiting.new) }
     ensures lasts { EngineLasts result engine.old engine.new }
 {
@@ -94,8 +90,8 @@ pub fn retry_all<St: Store>(
 ) -> Result<(), BlockFault>
     requires sound { (seen engine.old).sound }
     requires verbs { AreVerbs (described engine.old.desc) waiting.old.items }
-    ensures retries { OnOk result ((s : Session) → StandsFor (view engine.old) s → s.next + length waiting.old.items + 2 < 2 ^ 64 → IsExclusive s → PerformsRetries (retries (length waiting.old.items) (described engine.old.desc) s waiting.old.items) (view engine.new) waiting.new.items (seen engine.old) (seen engine.new)) }
-    ensures part { (s : Session) → StandsFor (view engine.old) s → s.next + length waiting.old.items + 2 < 2 ^ 64 → IsExclusive s → PerformsPrefix (IsCutShort result) (seen engine.old) (seen engine.new) (retries (length waiting.old.items) (described engine.old.desc) s waiting.old.items).events }
+    ensures retries { OnOk result (AtRetries engine.old waiting.old.items (λ s. RetriesMade engine.old engine.new waiting.new.items (retries_at engine.old s waiting.old.items))) }
+    ensures part { AtRetries engine.old waiting.old.items (λ s. PartHappened result engine.old engine.new (retries_at engine.old s waiting.old.items).events) }
     ensures verbs { OnOk result (AreVerbs (described engine.old.desc) waiting.new.items) }
     ensures lasts { EngineLasts result engine.old engine.new }
 {

@@ -3,17 +3,15 @@ ghost use Rattle.dms_block.specs.declared.block_fault.BlockFault.{BlockFault as 
 ghost use Rattle.dms_base.specs.Causes.{Rose};
 ghost use Rattle.dms_desc.specs.Shape.{described};
 ghost use Rattle.dms_feed.specs.Feeds.{Remains};
-ghost use Rattle.dms_feed.specs.Lines.{raw_lines, first_line};
+ghost use Rattle.dms_feed.specs.Lines.{first_line};
 ghost use Rattle.dms_feed.specs.Raws.{CutLine};
-ghost use Rattle.dms_model.specs.Db.{Db};
 ghost use Rattle.dms_block.specs.Texts.{Prints, PrintsPrefix};
-ghost use Rattle.dms_model.specs.Session.{Session, fresh_session, ended};
+ghost use Rattle.dms_model.specs.Session.{Session, ended};
 ghost use Rattle.dms_storeverbs.specs.View.{EngineLasts, SameSession, StandsFor, seen, view};
 ghost use Rattle.dms_runner.specs.Events.{text_of, IsCutShort, Performs, PerformsPrefix};
-ghost use Rattle.dms_runner.specs.Answers.{RunState, MayTakeLine, line_step, lines_run, unanswered_events, end_events, script_run, script_events, answers_text};
-ghost use Rattle.dms_runner.specs.Running.{TakesScriptLine, AnswersWhole, PassesLines, PassesBytes, PassesWaiting, CutInput};
+ghost use Rattle.dms_runner.specs.Answers.{unanswered_events, end_events};
 ghost use Rattle.dms_runner.specs.Waiting.{AreVerbs};
-ghost use Rattle.dms_runner.specs.Starting.{AtSession, AtRunState, AtStart};
+ghost use Rattle.dms_runner.specs.Starting.{AnswersAll, AtInput, AtStart, HeldTooMany, InputEnds, InputTaken, OnInput, RunPart, StandsAtEnd, StopsAtBytes, StopsAtInput, StopsAtLines, StopsAtWaiting, events_at, lines_at};
 ghost use Rattle.dms_runner.specs.Blaming.{CutRun, LastsRun};
 
 use crate::WaitingLine;
@@ -114,13 +112,14 @@ fn one_line<St: Store, I: Source>(
     requires verbs { AreVerbs (described engine.old.desc) waiting.old.items }
     requires room { room.old ≤ 2147483648 }
     requires line { line < 4294967295 }
-    ensures took { IfOk result (λ more. more ≡ true → (g : RunState) (all : List ℕ) → StandsFor (view engine.old) g.session → g.waiting ≡ waiting.old.items → g.line ≡ line → MayTakeLine g → Remains feed.old (I.left source.old) all → TakesScriptLine (described engine.old.desc) g all room.old room.new (view engine.new) waiting.new.items feed.new (I.left source.new) (seen engine.old) (seen engine.new)) }
-    ensures none { IfOk result (λ more. more ≡ false → (engine.new ≡ engine.old) × (waiting.new ≡ waiting.old) × ((all : List ℕ) → Remains feed.old (I.left source.old) all → (all ≡ []) × Remains feed.new (I.left source.new) [])) }
-    ensures part { (g : RunState) (all : List ℕ) → StandsFor (view engine.old) g.session → g.waiting ≡ waiting.old.items → g.line ≡ line → MayTakeLine g → Remains feed.old (I.left source.old) all → PerformsPrefix (CutRun result) (seen engine.old) (seen engine.new) (lines_run (described engine.old.desc) g (raw_lines all)).events }
-    ensures bytes { IsErrOf result RunFault.Bytes → ((seen engine.new).said ≡ (seen engine.old).said) × ((all : List ℕ) → Remains feed.old (I.left source.old) all → room.old < length (first_line all)) }
-    ensures full_list { IsErrOf result RunFault.Held → (g : RunState) (all : List ℕ) → StandsFor (view engine.old) g.session → g.waiting ≡ waiting.old.items → g.line ≡ line → MayTakeLine g → Remains feed.old (I.left source.old) all → Prints (seen engine.old).said (seen engine.new).said [] × (all ≢ []) × ((line_step (described engine.old.desc) g (first_line all)).full ≡ true) × (length (first_line all) ≤ room.old) }
+    ensures took { IfOk result (λ more. more ≡ true → AtInput engine.old waiting.old.items line feed.old (I.left source.old)
+        (λ g all. InputTaken engine.old engine.new g all room.old room.new waiting.new.items feed.new (I.left source.new))) }
+    ensures none { IfOk result (λ more. more ≡ false → (engine.new ≡ engine.old) × (waiting.new ≡ waiting.old) × InputEnds feed.old (I.left source.old) feed.new (I.left source.new)) }
+    ensures part { AtInput engine.old waiting.old.items line feed.old (I.left source.old) (λ g all. RunPart result engine.old engine.new (lines_at engine.old g all).events) }
+    ensures bytes { IsErrOf result RunFault.Bytes → ((seen engine.new).said ≡ (seen engine.old).said) × OnInput feed.old (I.left source.old) (λ all. room.old < length (first_line all)) }
+    ensures full_list { IsErrOf result RunFault.Held → AtInput engine.old waiting.old.items line feed.old (I.left source.old) (λ g all. HeldTooMany engine.old engine.new g all room.old) }
     ensures no_lines { IsErrOf result RunFault.Lines → ⊥ }
-    ensures failed { IsErrOf result RunFault.Input → ((seen engine.new).said ≡ (seen engine.old).said) × ((all : List ℕ) → Remains feed.old (I.left source.old) all → CutLine room.old (I.left source.new) all) }
+    ensures failed { IsErrOf result RunFault.Input → ((seen engine.new).said ≡ (seen engine.old).said) × OnInput feed.old (I.left source.old) (CutLine room.old (I.left source.new)) }
     ensures rest { OnOk result ((all : List ℕ) → Remains feed.old (I.left source.old) all → (rest : List ℕ) × Remains feed.new (I.left source.new) rest) }
     ensures verbs { OnOk result (AreVerbs (described engine.old.desc) waiting.new.items) }
     ensures lasts { LastsRun result engine.old engine.new }
@@ -180,14 +179,14 @@ pub fn run_lines<St: Store, I: Source>(
     source: &mut I,
 ) -> Result<(), RunFault>
     requires sound { (seen engine.old).sound }
-    ensures answers { OnOk result (AtStart engine.old feed.old (I.left source.old) (λ db first all. AnswersWhole (described engine.old.desc) db first (raw_lines all) (seen engine.old).said (seen engine.new).said)) }
-    ensures part { AtStart engine.old feed.old (I.left source.old) (λ db first all. PerformsPrefix (CutRun result) (seen engine.old) (seen engine.new) (script_events (described engine.old.desc) db first (raw_lines all))) }
-    ensures ran { OnOk result (AtStart engine.old feed.old (I.left source.old) (λ db first all. Performs (seen engine.old) (seen engine.new) (script_events (described engine.old.desc) db first (raw_lines all)))) }
-    ensures ended { OnOk result (AtStart engine.old feed.old (I.left source.old) (λ db first all. StandsFor (view engine.new) (ended (script_run (described engine.old.desc) db first (raw_lines all)).going.session))) }
-    ensures lines { IsErrOf result RunFault.Lines → AtStart engine.old feed.old (I.left source.old) (λ db first all. PassesLines (described engine.old.desc) db first (raw_lines all) (seen engine.old).said (seen engine.new).said) }
-    ensures bytes { IsErrOf result RunFault.Bytes → AtStart engine.old feed.old (I.left source.old) (λ db first all. PassesBytes (described engine.old.desc) db first (raw_lines all) (seen engine.old).said (seen engine.new).said) }
-    ensures full_list { IsErrOf result RunFault.Held → AtStart engine.old feed.old (I.left source.old) (λ db first all. PassesWaiting (described engine.old.desc) db first (raw_lines all) (seen engine.old).said (seen engine.new).said) }
-    ensures failed { IsErrOf result RunFault.Input → AtStart engine.old feed.old (I.left source.old) (λ db first all. CutInput (described engine.old.desc) db first all (I.left source.new) (seen engine.old).said (seen engine.new).said) }
+    ensures answers { OnOk result (AtStart engine.old feed.old (I.left source.old) (AnswersAll engine.old engine.new)) }
+    ensures part { AtStart engine.old feed.old (I.left source.old) (λ db first all. RunPart result engine.old engine.new (events_at engine.old db first all)) }
+    ensures ran { OnOk result (AtStart engine.old feed.old (I.left source.old) (λ db first all. Performs (seen engine.old) (seen engine.new) (events_at engine.old db first all))) }
+    ensures ended { OnOk result (AtStart engine.old feed.old (I.left source.old) (StandsAtEnd engine.old engine.new)) }
+    ensures lines { IsErrOf result RunFault.Lines → AtStart engine.old feed.old (I.left source.old) (StopsAtLines engine.old engine.new) }
+    ensures bytes { IsErrOf result RunFault.Bytes → AtStart engine.old feed.old (I.left source.old) (StopsAtBytes engine.old engine.new) }
+    ensures full_list { IsErrOf result RunFault.Held → AtStart engine.old feed.old (I.left source.old) (StopsAtWaiting engine.old engine.new) }
+    ensures failed { IsErrOf result RunFault.Input → AtStart engine.old feed.old (I.left source.old) (StopsAtInput (I.left source.new) engine.old engine.new) }
     ensures lasts { LastsRun result engine.old engine.new }
     ensures end { OnOk result ((all : List ℕ) → Remains feed.old (I.left source.old) all → Remains feed.new (I.left source.new) []) }
     ensures same_source { I.same_source source.old source.new }

@@ -1,13 +1,12 @@
 ghost use Rattle.std.specs.Prelude.{◌≡◌, ◌≤◌, ◌<◌, ◌+◌, ◌^◌, ◌++◌, [], ◌∷◌, ℕ, List, Bool, true, false, not, ◌&&◌, Some, None, IfOk, OnOk, IsErrOf, IsTrue, length};
 ghost use Rattle.dms_desc.specs.Shape.{described};
 ghost use Rattle.dms_block.specs.Texts.{Prints, PrintsPrefix};
-ghost use Rattle.dms_model.specs.Session.{Session, step, is_waits};
+ghost use Rattle.dms_model.specs.Session.{is_waits};
 ghost use Rattle.dms_model.specs.Verbs.{IsVerbOf};
-ghost use Rattle.dms_storeverbs.specs.View.{EngineLasts, SameSession, StandsFor, seen, view};
-ghost use Rattle.dms_runner.specs.Events.{says, IsCutShort, Performs, PerformsPrefix};
+ghost use Rattle.dms_storeverbs.specs.View.{EngineLasts, SameSession, seen};
+ghost use Rattle.dms_runner.specs.Events.{says, Performs};
 ghost use Rattle.dms_runner.specs.Waiting.{answer_text, said_of, tries, sync_text};
-ghost use Rattle.dms_runner.specs.Trying.{PerformsTry};
-ghost use Rattle.dms_runner.specs.Starting.{AtSession, AtRunState, AtStart};
+ghost use Rattle.dms_runner.specs.Starting.{AtSession, LineTried, PartHappened, outcome_at};
 
 use crate::WaitingLine;
 use dms_base::{Bytes, Memory, Name};
@@ -63,7 +62,7 @@ pub fn say_answer<St: Store>(
     ensures text { OnOk result (Prints (seen engine.old).said (seen engine.new).said (answer_text line program.now answer.now.reply answer.now.sync)) }
     ensures front { PrintsPrefix (seen engine.old).said (seen engine.new).said (answer_text line program.now answer.now.reply answer.now.sync) }
     ensures ran { OnOk result ((seen engine.old).next + 1 < 2 ^ 64 → Performs (seen engine.old) (seen engine.new) (says (answer_text line program.now answer.now.reply answer.now.sync) ∷ [])) }
-    ensures part { (seen engine.old).next + 1 < 2 ^ 64 → PerformsPrefix (IsCutShort result) (seen engine.old) (seen engine.new) (says (answer_text line program.now answer.now.reply answer.now.sync) ∷ []) }
+    ensures part { (seen engine.old).next + 1 < 2 ^ 64 → PartHappened result engine.old engine.new (says (answer_text line program.now answer.now.reply answer.now.sync) ∷ []) }
     ensures stands { OnOk result (SameSession engine.old engine.new) }
     ensures lasts { EngineLasts result engine.old engine.new }
 {
@@ -82,7 +81,7 @@ fn say_tried<St: Store>(
     ensures text { OnOk result (Prints (seen engine.old).said (seen engine.new).said (said_of waiting.now answer.now.reply answer.now.sync)) }
     ensures front { PrintsPrefix (seen engine.old).said (seen engine.new).said (said_of waiting.now answer.now.reply answer.now.sync) }
     ensures ran { OnOk result ((seen engine.old).next + 1 < 2 ^ 64 → Performs (seen engine.old) (seen engine.new) (says (said_of waiting.now answer.now.reply answer.now.sync) ∷ [])) }
-    ensures part { (seen engine.old).next + 1 < 2 ^ 64 → PerformsPrefix (IsCutShort result) (seen engine.old) (seen engine.new) (says (said_of waiting.now answer.now.reply answer.now.sync) ∷ []) }
+    ensures part { (seen engine.old).next + 1 < 2 ^ 64 → PartHappened result engine.old engine.new (says (said_of waiting.now answer.now.reply answer.now.sync) ∷ []) }
     ensures stands { OnOk result (SameSession engine.old engine.new) }
     ensures lasts { EngineLasts result engine.old engine.new }
 {
@@ -107,8 +106,8 @@ pub fn try_line<St: Store>(
 ) -> Result<bool, BlockFault>
     requires sound { (seen engine.old).sound }
     requires verb { IsVerbOf (described engine.old.desc) waiting.now.verb }
-    ensures tried { IfOk result (λ answered. AtSession engine.old (λ s. PerformsTry (step (described engine.old.desc) s waiting.now.program waiting.now.verb) waiting.now answered (view engine.new) (seen engine.old) (seen engine.new))) }
-    ensures part { AtSession engine.old (λ s. PerformsPrefix (IsCutShort result) (seen engine.old) (seen engine.new) (tries waiting.now (step (described engine.old.desc) s waiting.now.program waiting.now.verb))) }
+    ensures tried { IfOk result (λ answered. AtSession engine.old (λ s. LineTried engine.old engine.new waiting.now answered (outcome_at engine.old s waiting.now))) }
+    ensures part { AtSession engine.old (λ s. PartHappened result engine.old engine.new (tries waiting.now (outcome_at engine.old s waiting.now))) }
     ensures lasts { EngineLasts result engine.old engine.new }
 {
     let answer = engine.call(alloc, &waiting.program, &waiting.verb)?;
