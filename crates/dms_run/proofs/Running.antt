@@ -14,7 +14,7 @@ use Rattle.dms_model.specs.declared.store.Store.{Ghosts}
 use Rattle.dms_storeverbs.specs.declared.engine.Engine.{Engine}
 use Rattle.dms_storeverbs.specs.View.{seen}
 use Rattle.dms_runner.specs.Running.{AnswersWhole}
-use Rattle.dms_runner.specs.Starting.{AtStart}
+use Rattle.dms_runner.specs.Starting.{AtStart, EffortWithin, events_at}
 use Rattle.dms_run.specs.Starting.{OfScript, ReachesEnd, SaysAll}
 use Rattle.dms_runner.specs.Answers.{last_quiet, script_events}
 use Rattle.dms_runner.specs.Events.{RunEvent, quiets_of, CrashesWithin, Performs, PerformsPrefix}
@@ -41,3 +41,7 @@ module _ {St : Type 0} {g : Ghosts St} {T E : Type 0} (old new : Engine St g) (f
   pub says_all : (r : Result T E) → OnOk r (AtStart old feed left (λ db first all. AnswersWhole (described old.desc) db first (raw_lines all) (seen old).said (seen new).said)) → OnOk r (AtStart old feed left (SaysAll old new))
   says_all (Ok x) answers = λ db first all stands room remains. (answers db first all stands room remains).text
   says_all (Err e) answers = tt
+
+  pub takes_all : (r : Result T E) → OnOk r (AtStart old feed left (λ db first all. Performs (seen old) (seen new) (events_at old db first all))) → OnOk r (AtStart old feed left (EffortWithin old new))
+  takes_all (Ok x) ran = λ db first all stands room remains. (ran db first all stands room remains).effort
+  takes_all (Err e) ran = tt

@@ -4,7 +4,7 @@ ghost use Rattle.dms_desc.specs.Shape.{described};
 ghost use Rattle.dms_feed.specs.Feeds.{Remains};
 ghost use Rattle.dms_feed.specs.Lines.{raw_lines};
 ghost use Rattle.dms_runner.specs.Blaming.{CutRun, LastsRun};
-ghost use Rattle.dms_runner.specs.Starting.{AtStart, StandsAtEnd, StopsAtBytes, StopsAtInput, StopsAtLines, StopsAtWaiting};
+ghost use Rattle.dms_runner.specs.Starting.{AtStart, EffortOfPart, EffortWithin, StandsAtEnd, StopsAtBytes, StopsAtInput, StopsAtLines, StopsAtWaiting};
 ghost use Rattle.dms_storeverbs.specs.View.{seen};
 ghost use Rattle.dms_run.specs.Ending.{EndsLeave, KeepsLimits, StaysUndamaged};
 ghost use Rattle.dms_run.specs.Starting.{OfScript, ReachesEnd, SaysAll, SaysPrefix, SaysWholeAnswers, StopsLeave};
@@ -28,6 +28,8 @@ pub fn run_script<St: Store, I: Source>(
     ensures every_moment { OfScript engine.old feed.old (I.left source.old) (StopsLeave engine.old engine.new) }
     ensures at_ok { OnOk result (OfScript engine.old feed.old (I.left source.old) (ReachesEnd engine.new)) }
     ensures closes { OnOk result (OfScript engine.old feed.old (I.left source.old) (EndsLeave engine.old engine.new)) }
+    ensures effort { OnOk result (AtStart engine.old feed.old (I.left source.old) (EffortWithin engine.old engine.new)) }
+    ensures took { (CutRun result → ⊥) → AtStart engine.old feed.old (I.left source.old) (EffortOfPart engine.old engine.new) }
     ensures within { OnOk result (AtStart engine.old feed.old (I.left source.old) (λ db first all. KeepsLimits (described engine.old.desc) db first (raw_lines all))) }
     ensures undamaged { AtStart engine.old feed.old (I.left source.old) (λ db first all. StaysUndamaged engine.old engine.new) }
     ensures prints { OnOk result (AtStart engine.old feed.old (I.left source.old) (SaysAll engine.old engine.new)) }

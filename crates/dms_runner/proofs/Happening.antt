@@ -1,5 +1,5 @@
 -- Events, one behind another.
-use Rattle.std.specs.Prelude.{IsErrAnd, IsOkUnless, OnOk, ◌<◌, ◌^◌, nat_le}
+use Rattle.std.specs.Prelude.{IsErrAnd, IsOkUnless, OnOk, ◌<◌, ◌^◌, nat_le, not, ◌&&◌, is_some}
 use Rattle.std.specs.declared.result.Result.{Result}
 use Rattle.std.specs.declared.result.Result.TheVariants.{Ok, Err}
 use Rattle.dms_block.specs.declared.block_fault.BlockFault.{BlockFault}
@@ -7,7 +7,10 @@ use Rattle.dms_block.specs.declared.block_fault.BlockFault.TheVariants.{Disk, Me
 use Rattle.dms_block.specs.Counts.{Faults, CausedBy}
 use Rattle.dms_block.specs.Faults.{Undamaged}
 use Rattle.dms_model.specs.Programs.{Program, Wait}
-use Rattle.dms_model.specs.Seen.{Seen, IsMute, IsSilent, Keeps, SaysPart, StaysDurable}
+use Rattle.dms_model.specs.BackOut.{asks_back_out}
+use Rattle.dms_model.specs.declared.reply.Reply.{Reply}
+use Rattle.dms_model.specs.Seen.{Effort, GoesBack, Seen, IsMute, IsSilent, Keeps, SaysPart, StaysDurable}
+use Rattle.dms_storeverbs.specs.Costs.{Costs, block_limit, is_done, limit_if, stores, up_if}
 use Rattle.std.proofs.Common.{ℕ, ◌≡◌, ◌≤◌, ◌+◌, List, [], ◌∷◌, ◌++◌, length, take, map, Some, None, refl, sym, ◌∙◌, ap, subst, arith, append_assoc, length-append, Bool, true, false}
 use Rattle.std.specs.declared.option.Option.{Option}
 use Rattle.std.proofs.lemmas.List.{append-nil, map-append, length-map, take-append-le, take_all}
@@ -20,12 +23,12 @@ use Rattle.dms_model.specs.Points.{Files, Point, Quiet, Stop, LeavesPrefix, Text
 use Rattle.dms_block.specs.Texts.{Prints, PrintsPrefix}
 use Rattle.dms_desc.specs.Shape.{Described}
 use Rattle.dms_model.specs.declared.verb.Verb.{Verb}
-use Rattle.dms_model.specs.Session.{Session, Outcome, ended, step}
+use Rattle.dms_model.specs.Session.{Session, Outcome, ended, is_waits, step}
 use Rattle.dms_storeverbs.specs.Laws.{MakesWhereQuiet}
 use Rattle.dms_storeverbs.proofs.Quiet.{quiet_rule}
 use Rattle.dms_storeverbs.specs.View.{View, PerformsCall, PointsGrow, LeavesQuiets, StandsFor, view_of}
 use Rattle.dms_storeverbs.proofs.Calls.{lower, stays}
-use Rattle.dms_runner.specs.Events.{IsTold, RunEvent, calls, says, goes_back, text_of, quiets_of, durable_by, durable_after, CrashesFrom, IsCutShort, SaidWhole, Performs, PerformsPrefix}
+use Rattle.dms_runner.specs.Events.{IsTold, RunEvent, calls, says, goes_back, text_of, quiets_of, durable_by, durable_after, CrashesFrom, IsCutShort, SaidWhole, Performs, PerformsPrefix, Takes, TookPart, blocks_of, syncs_of, backs_of, may_store, one_if}
 use Rattle.dms_runner.proofs.Texts.{prints_none, prints_on, front_none, front_all, front_of_first, front_on}
 
 pub text_on : (x y : List RunEvent) → text_of (x ++ y) ≡ text_of x ++ text_of y
@@ -35,6 +38,29 @@ text_on (e ∷ x) y = ap (λ (t : List ℕ). e.text ++ t) (text_on x y) ∙ sym 
 pub quiets_on : (x y : List RunEvent) → quiets_of (x ++ y) ≡ quiets_of x ++ quiets_of y
 quiets_on [] y = refl
 quiets_on (e ∷ x) y = ap (λ (q : List Quiet). e.quiets ++ q) (quiets_on x y) ∙ sym (append_assoc e.quiets (quiets_of x) (quiets_of y))
+
+pub blocks_on : (desc : Described) (x y : List RunEvent) → blocks_of desc (x ++ y) ≡ blocks_of desc x + blocks_of desc y
+blocks_on desc [] y = omega arith
+blocks_on desc (e ∷ x) y = omega (arith, blocks_on desc x y)
+
+pub syncs_on : (x y : List RunEvent) → syncs_of (x ++ y) ≡ syncs_of x + syncs_of y
+syncs_on [] y = omega arith
+syncs_on (e ∷ x) y = omega (arith, syncs_on x y)
+
+pub backs_on : (x y : List RunEvent) → backs_of (x ++ y) ≡ backs_of x + backs_of y
+backs_on [] y = omega arith
+backs_on (e ∷ x) y = omega (arith, backs_on x y)
+
+-- nothing was done
+pub takes_still : (desc : Described) (x : List RunEvent) {a b : Effort} → b ≡ a → Takes desc x a b
+takes_still desc x {a} {b} same = record { spent = omega (arith, ap (λ (e : Effort). e.spent) same); syncs = omega (arith, ap (λ (e : Effort). e.syncs) same); outs = omega (arith, ap (λ (e : Effort). e.outs) same) }
+
+takes_on : (desc : Described) (x y : List RunEvent) {a b c : Effort} → Takes desc x a b → Takes desc y b c → Takes desc (x ++ y) a c
+takes_on desc x y p q = record {
+  spent = omega (arith, p.spent, q.spent, blocks_on desc x y);
+  syncs = omega (arith, p.syncs, q.syncs, syncs_on x y);
+  outs = omega (arith, p.outs, q.outs, backs_on x y);
+}
 
 count_on : (c d e : ℕ) (s : ℕ) (y : List RunEvent) → c + d ≡ e → durable_after e s y ≡ durable_after (c + d) s y
 count_on c d e s y same = ap (λ (n : ℕ). durable_after n s y) (sym same)
@@ -92,7 +118,7 @@ pub undamaged_by : {T : Type 0} (a b : Seen) (r : Result T BlockFault) → ((d :
 undamaged_by a b r u p t = damaged_same r a.faults b.faults (u t.db t.db_is) p
 
 pub ran_none : (a : Seen) → Performs a a []
-ran_none a = record { text = prints_none a.said a.said refl; tells = λ t. t; whole = λ files w. w; told = λ t. t; undamaged = λ t. refl; next = omega arith; grew = λ t. grew_none a.points; durable = λ t. omega arith; moments = λ t. runs_none a.clock (CrashesFrom a []) }
+ran_none a = record { text = prints_none a.said a.said refl; tells = λ t. t; whole = λ files w. w; told = λ t. t; undamaged = λ t. refl; next = omega arith; grew = λ t. grew_none a.points; durable = λ t. omega arith; moments = λ t. runs_none a.clock (CrashesFrom a []); desc = refl; effort = takes_still a.desc [] refl }
 
 -- a stop within the first events
 pub stopped_first : (a : Seen) (x y : List RunEvent) (stop : Stop) → CrashesFrom a x stop → CrashesFrom a (x ++ y) stop
@@ -127,6 +153,8 @@ ran_on a b c x y first next = record {
   grew = λ t. subst (λ (q : List Quiet). PointsGrow a.points q c.points) (sym (quiets_on x y)) (grew_on (first.grew t) (next.grew (told_on first t)));
   durable = λ t. omega (arith, durable_on (length a.points) a.durable x y, ap (λ (n : ℕ). durable_after n (durable_after (length a.points) a.durable x) y) (length_grew (first.grew t)), durable_low_at (length b.points) (durable_after (length a.points) a.durable x) b.durable y (first.durable t), next.durable (told_on first t));
   moments = λ t. runs_on (runs_weaken (first.moments t) (stopped_first a x y)) (next.moments (told_on first t)) (λ stop s. stopped_on a b x y stop t first s);
+  desc = next.desc ∙ first.desc;
+  effort = takes_on a.desc x y first.effort (subst (λ (d : Described). Takes d y b.effort c.effort) first.desc next.effort);
 }
 
 -- whole events
@@ -152,13 +180,53 @@ pub whole_on : (a b c : Option (List ℕ)) (x y : List RunEvent) → Prints a b 
 whole_on a b c x y first next =
     (length x + next.0, subst (λ (t : List ℕ). Prints a c t) (sym (ap text_of (take-append-add x y next.0) ∙ text_on x (take next.0 y))) (prints_on a b c (text_of x) (text_of (take next.0 y)) first next.1))
 
+-- what a part of the events takes
+
+took_by : (a b : Seen) (x : List RunEvent) (k : ℕ) → k ≤ length x → Prints a.said b.said (text_of (take k x)) → Takes a.desc (take k x) a.effort b.effort → TookPart a b x
+took_by a b x k within text t = record { k = k; within = within; text = text; spent = omega (arith, t.spent); syncs = omega (arith, t.syncs); outs = omega (arith, t.outs) }
+
+-- nothing was done, and nothing said
+took_none : (a b : Seen) (x : List RunEvent) → b.said ≡ a.said → b.effort ≡ a.effort → TookPart a b x
+took_none a b x said same = took_by a b x 0 (omega arith) (prints_none a.said b.said said) (takes_still a.desc [] same)
+
+took_all : (a b : Seen) (x : List RunEvent) → Prints a.said b.said (text_of x) → Takes a.desc x a.effort b.effort → TookPart a b x
+took_all a b x text t =
+    let all : x ≡ take (length x) x = sym (take_all (length x) x (omega arith)) in
+    took_by a b x (length x) (omega arith) (subst (λ (e : List RunEvent). Prints a.said b.said (text_of e)) all text) (subst (λ (e : List RunEvent). Takes a.desc e a.effort b.effort) all t)
+
+took_of_first : (a b : Seen) (x y : List RunEvent) → TookPart a b x → TookPart a b (x ++ y)
+took_of_first a b x y p =
+    let front : take p.k (x ++ y) ≡ take p.k x = take-append-le p.k x y p.within in
+    record {
+      k = p.k;
+      within = omega (arith, p.within, length-append x y);
+      text = subst (λ (e : List RunEvent). Prints a.said b.said (text_of e)) (sym front) p.text;
+      spent = omega (arith, p.spent, ap (λ (e : List RunEvent). blocks_of a.desc e) front);
+      syncs = omega (arith, p.syncs, ap (λ (e : List RunEvent). syncs_of e) front);
+      outs = omega (arith, p.outs, ap (λ (e : List RunEvent). backs_of e) front);
+    }
+
+took_on : (a b c : Seen) (x y : List RunEvent) → Performs a b x → TookPart b c y → TookPart a c (x ++ y)
+took_on a b c x y first next =
+    let front : take (length x + next.k) (x ++ y) ≡ x ++ take next.k y = take-append-add x y next.k in
+    let spent : c.effort.spent ≤ b.effort.spent + blocks_of a.desc (take next.k y) + limit_if true a.desc =
+    subst (λ (d : Described). c.effort.spent ≤ b.effort.spent + blocks_of d (take next.k y) + limit_if true d) first.desc next.spent in
+    record {
+      k = length x + next.k;
+      within = omega (arith, next.within, length-append x y);
+      text = subst (λ (t : List ℕ). Prints a.said c.said t) (sym (ap text_of front ∙ text_on x (take next.k y))) (prints_on a.said b.said c.said (text_of x) (text_of (take next.k y)) first.text next.text);
+      spent = omega (arith, first.effort.spent, spent, ap (λ (e : List RunEvent). blocks_of a.desc e) front, blocks_on a.desc x (take next.k y));
+      syncs = omega (arith, first.effort.syncs, next.syncs, ap (λ (e : List RunEvent). syncs_of e) front, syncs_on x (take next.k y));
+      outs = omega (arith, first.effort.outs, next.outs, ap (λ (e : List RunEvent). backs_of e) front, backs_on x (take next.k y));
+    }
+
 -- no event of them happened
 pub part_none : {cut : Type 0} (a : Seen) (x : List RunEvent) → PerformsPrefix cut a a x
-part_none a x = record { text = front_none a.said a.said (text_of x) refl; said_whole = λ uncut. whole_none a.said a.said x refl; undamaged = λ t. refl; moments = λ t. runs_none a.clock (CrashesFrom a x) }
+part_none a x = record { text = front_none a.said a.said (text_of x) refl; said_whole = λ uncut. whole_none a.said a.said x refl; undamaged = λ t. refl; moments = λ t. runs_none a.clock (CrashesFrom a x); took = λ uncut. took_none a a x refl refl }
 
 -- all of them happened
 pub part_all : {cut : Type 0} (a b : Seen) (x : List RunEvent) → Performs a b x → PerformsPrefix cut a b x
-part_all a b x ran = record { text = front_all a.said b.said (text_of x) ran.text; said_whole = λ uncut. whole_all a.said b.said x ran.text; undamaged = ran.undamaged; moments = ran.moments }
+part_all a b x ran = record { text = front_all a.said b.said (text_of x) ran.text; said_whole = λ uncut. whole_all a.said b.said x ran.text; undamaged = ran.undamaged; moments = ran.moments; took = λ uncut. took_all a b x ran.text ran.effort }
 
 -- a prefix of the first events is a prefix of all
 pub part_of_first : {cut : Type 0} (a b : Seen) (x y : List RunEvent) → PerformsPrefix cut a b x → PerformsPrefix cut a b (x ++ y)
@@ -167,6 +235,7 @@ part_of_first a b x y part = record {
   said_whole = λ uncut. whole_of_first a.said b.said x y (part.said_whole uncut);
   undamaged = part.undamaged;
   moments = λ t. runs_weaken (part.moments t) (stopped_first a x y);
+  took = λ uncut. took_of_first a b x y (part.took uncut);
 }
 
 -- events, and a prefix of those behind them
@@ -176,6 +245,7 @@ part_on a b c x y first next = record {
   said_whole = λ uncut. whole_on a.said b.said c.said x y first.text (next.said_whole uncut);
   undamaged = λ t. next.undamaged (first.told t) ∙ first.undamaged t;
   moments = λ t. runs_on (runs_weaken (first.moments t) (stopped_first a x y)) (next.moments (told_on first t)) (λ stop s. stopped_on a b x y stop t first s);
+  took = λ uncut. took_on a b c x y first (next.took uncut);
 }
 
 -- the same events, told otherwise
@@ -187,7 +257,7 @@ part_as {cut} a b x y is part = subst (λ (l : List RunEvent). PerformsPrefix cu
 
 -- where one is cut off the other is, too
 pub part_cut : {cut cut' : Type 0} (a b : Seen) (x : List RunEvent) → (cut → cut') → PerformsPrefix cut a b x → PerformsPrefix cut' a b x
-part_cut a b x f part = record { text = part.text; said_whole = λ uncut. part.said_whole (λ is. uncut (f is)); undamaged = part.undamaged; moments = part.moments }
+part_cut a b x f part = record { text = part.text; said_whole = λ uncut. part.said_whole (λ is. uncut (f is)); undamaged = part.undamaged; moments = part.moments; took = λ uncut. part.took (λ is. uncut (f is)) }
 
 -- the same fault, of whatever else would be answered
 pub cut_as : {T : Type 0} (r : Result T BlockFault) (f : BlockFault) → IsErrAnd r (λ x. x ≡ f) → f ≡ Say → IsCutShort r
@@ -211,8 +281,8 @@ stopped_says a x stop p = record {
   text = λ t is. let n = p.1 t is in (n.0, n.1 ∙ ap (λ (l : List ℕ). l ++ take n.0 x) (sym (append-nil t)));
 }
 
-pub ran_says : (a b : Seen) (x y : List ℕ) → x ≡ y → (a.tells → b.tells) → ((files : Files) → b.whole files → a.whole files) → Sound a b → Prints a.said b.said x → SaysPart a b x → Keeps a b → a.next + 1 < 2 ^ 64 → Performs a b (says y ∷ [])
-ran_says a b x y is tells whole undamaged text part keeps room = record {
+pub ran_says : (a b : Seen) (x y : List ℕ) → x ≡ y → (a.tells → b.tells) → ((files : Files) → b.whole files → a.whole files) → b.desc ≡ a.desc → b.effort ≡ a.effort → Sound a b → Prints a.said b.said x → SaysPart a b x → Keeps a b → a.next + 1 < 2 ^ 64 → Performs a b (says y ∷ [])
+ran_says a b x y is tells whole desc same undamaged text part keeps room = record {
   text = subst (λ (t : List ℕ). Prints a.said b.said t) (is ∙ sym (append-nil y)) text;
   tells = tells;
   whole = whole;
@@ -222,10 +292,13 @@ ran_says a b x y is tells whole undamaged text part keeps room = record {
   grew = λ t. record { more = []; is = (keeps.points t room).0 ∙ sym (append-nil a.points); spells = refl };
   durable = λ t. (keeps.points t room).1;
   moments = λ t. runs_weaken (part.leaves t room) (λ stop p. subst (λ (z : List ℕ). CrashesFrom a (says z ∷ []) stop) is (stopped_says a x stop p));
+  desc = desc;
+  effort = takes_still a.desc (says y ∷ []) same;
 }
 
-pub part_says : {cut : Type 0} (a b : Seen) (x y : List ℕ) → x ≡ y → Sound a b → SaysPart a b x → ((cut → ⊥) → Prints a.said b.said x) → a.next + 1 < 2 ^ 64 → PerformsPrefix cut a b (says y ∷ [])
-part_says a b x y is undamaged part whole room = record {
+pub part_says : {cut : Type 0} (a b : Seen) (x y : List ℕ) → x ≡ y → b.effort ≡ a.effort → Sound a b → SaysPart a b x → ((cut → ⊥) → Prints a.said b.said x) → a.next + 1 < 2 ^ 64 → PerformsPrefix cut a b (says y ∷ [])
+part_says a b x y is same undamaged part whole room = record {
+  took = λ uncut. took_all a b (says y ∷ []) (subst (λ (t : List ℕ). Prints a.said b.said t) (is ∙ sym (append-nil y)) (whole uncut)) (takes_still a.desc (says y ∷ []) same);
   said_whole = λ uncut. whole_all a.said b.said (says y ∷ []) (subst (λ (t : List ℕ). Prints a.said b.said t) (is ∙ sym (append-nil y)) (whole uncut));
   undamaged = undamaged;
   text = subst (λ (t : List ℕ). PrintsPrefix a.said b.said t) (is ∙ sym (append-nil y)) part.part;
@@ -234,7 +307,7 @@ part_says a b x y is undamaged part whole room = record {
 
 -- nothing to say
 pub ran_silent : (a : Seen) (x : List ℕ) → x ≡ [] → Performs a a (says x ∷ [])
-ran_silent a x is = subst (λ (t : List ℕ). Performs a a (says t ∷ [])) (sym is) (record { text = prints_none a.said a.said refl; tells = λ t. t; whole = λ files w. w; told = λ t. t; undamaged = λ t. refl; next = omega arith; grew = λ t. grew_none a.points; durable = λ t. omega arith; moments = λ t. runs_none a.clock (CrashesFrom a (says [] ∷ [])) })
+ran_silent a x is = subst (λ (t : List ℕ). Performs a a (says t ∷ [])) (sym is) (record { text = prints_none a.said a.said refl; tells = λ t. t; whole = λ files w. w; told = λ t. t; undamaged = λ t. refl; next = omega arith; grew = λ t. grew_none a.points; durable = λ t. omega arith; moments = λ t. runs_none a.clock (CrashesFrom a (says [] ∷ [])); desc = refl; effort = takes_still a.desc (says [] ∷ []) refl })
 
 -- calls
 
@@ -246,10 +319,10 @@ numbered false s o m = omega (arith, m.next, ap length m.quiets)
 pub step_numbers : (desc : Described) (s : Session) (name : List ℕ) (verb : Verb) → (step desc s name verb).session.next ≡ s.next + length (step desc s name verb).quiets
 step_numbers desc s name verb = numbered _ s (step desc s name verb) (quiet_rule desc s name verb)
 
-stopped_calls : (a : Seen) (o : Outcome) (stop : Stop) → LeavesQuiets a.whole a.durable a.points a.next o.quiets stop × TextIs a.said stop → CrashesFrom a (calls o ∷ []) stop
-stopped_calls a o stop p = record {
+stopped_calls : (a : Seen) (verb : Verb) (o : Outcome) (stop : Stop) → LeavesQuiets a.whole a.durable a.points a.next o.quiets stop × TextIs a.said stop → CrashesFrom a (calls verb o ∷ []) stop
+stopped_calls a verb o stop p = record {
   before = [];
-  at = calls o;
+  at = calls verb o;
   rest = [];
   all = refl;
   left = p.0;
@@ -260,8 +333,43 @@ covered_made : (sync : Option ℕ) (before all durable : ℕ) → before ≤ dur
 covered_made None before all durable later synced = later
 covered_made (Some n) before all durable later synced = omega (arith, synced n refl)
 
-pub ran_calls : (a b : Seen) {programs : List Program} {pending : Bool} {since : ℕ} {waits : List Wait} (o : Outcome) (answer : Answer) → (a.tells → b.tells) → ((files : Files) → b.whole files → a.whole files) → b.faults ≡ a.faults → IsMute a b → a.next + length o.quiets ≤ b.next → PerformsCall o a b (view_of b.db b.mark b.next programs pending since waits) (Ok answer) → Performs a b (calls o ∷ [])
-ran_calls a b o answer tells whole same mute next did = record {
+-- what a call takes by its answer
+spent_by : (s w : Bool) (desc : Described) (m n : ℕ) → n ≤ m + limit_if s desc → (w ≡ true → n ≤ m) → n ≤ m + (limit_if (s && not w) desc + 0)
+spent_by s true desc m n all none = omega (arith, none refl)
+spent_by true false desc m n all none = omega (arith, all)
+spent_by false false desc m n all none = omega (arith, all)
+
+up_by : (b : Bool) (m n : ℕ) → n ≡ up_if b m → n ≤ m + (one_if b + 0)
+up_by true m n is = omega (arith, is)
+up_by false m n is = omega (arith, is)
+
+call_takes : (desc : Described) (verb : Verb) (o : Outcome) (answer : Answer) {a b : Effort} → answer.reply ≡ o.reply → answer.sync ≡ o.sync → Costs (block_limit desc verb) (asks_back_out verb) (Ok answer) a b → (is_waits answer.reply ≡ true → b.spent ≤ a.spent)
+    → Takes desc (calls verb o ∷ []) a b
+unfolding may_store
+call_takes desc verb o answer {a} {b} reply sync costs idle = record {
+  spent = spent_by (stores verb) (is_waits o.reply) desc a.spent b.spent costs.spent (λ waits. idle (ap is_waits reply ∙ waits));
+  syncs = up_by (is_some o.sync) a.syncs b.syncs (costs.syncs ∙ ap (λ (s : Option ℕ). up_if (is_some s) a.syncs) sync);
+  outs = up_by (asks_back_out verb && is_done o.reply) a.outs b.outs (costs.outs ∙ ap (λ (r : Reply). up_if (asks_back_out verb && is_done r) a.outs) reply);
+}
+
+limit_low : (b : Bool) (desc : Described) → limit_if b desc ≤ limit_if true desc
+limit_low true desc = omega arith
+limit_low false desc = omega arith
+
+-- or of one that was under way
+took_call : (a b : Seen) (verb : Verb) (x : List RunEvent) (result : Result Answer BlockFault) → b.said ≡ a.said → Costs (block_limit a.desc verb) (asks_back_out verb) result a.effort b.effort → TookPart a b x
+took_call a b verb x result said costs = record {
+  k = 0;
+  within = omega arith;
+  text = prints_none a.said b.said said;
+  spent = omega (arith, costs.spent, limit_low (stores verb) a.desc);
+  syncs = omega (arith, costs.few_syncs.1);
+  outs = omega (arith, costs.few_outs.1);
+}
+
+pub ran_calls : (a b : Seen) {programs : List Program} {pending : Bool} {since : ℕ} {waits : List Wait} (verb : Verb) (o : Outcome) (answer : Answer) → (a.tells → b.tells) → ((files : Files) → b.whole files → a.whole files) → b.desc ≡ a.desc → Costs (block_limit a.desc verb) (asks_back_out verb) (Ok answer) a.effort b.effort → (is_waits answer.reply ≡ true → b.effort.spent ≤ a.effort.spent)
+    → b.faults ≡ a.faults → IsMute a b → a.next + length o.quiets ≤ b.next → PerformsCall o a b (view_of b.db b.mark b.next programs pending since waits) (Ok answer) → Performs a b (calls verb o ∷ [])
+ran_calls a b verb o answer tells whole desc costs idle same mute next did = record {
   text = prints_none a.said b.said mute.said;
   tells = tells;
   whole = whole;
@@ -270,15 +378,18 @@ ran_calls a b o answer tells whole same mute next did = record {
   next = omega (arith, next, ap length (append-nil o.quiets));
   grew = λ t. subst (λ (q : List Quiet). PointsGrow a.points q b.points) (sym (append-nil o.quiets)) (did.made t).grew;
   durable = λ t. covered_made o.sync a.durable (length a.points + length o.quiets) b.durable (did.made t).later (λ n is. (did.made t).synced n (did.answers.sync ∙ is) ∙ length_grew (did.made t).grew);
-  moments = λ t. runs_weaken (did.leaves t) (stopped_calls a o);
+  moments = λ t. runs_weaken (did.leaves t) (stopped_calls a verb o);
+  desc = desc;
+  effort = call_takes a.desc verb o answer did.answers.reply did.answers.sync costs idle;
 }
 
-pub part_calls : {cut : Type 0} (a b : Seen) (v : View) (o : Outcome) {result : Result Answer BlockFault} → CausedBy result a.faults b.faults → IsMute a b → PerformsCall o a b v result → PerformsPrefix cut a b (calls o ∷ [])
-part_calls a b v o {result} cause mute did = record {
-  said_whole = λ uncut. whole_none a.said b.said (calls o ∷ []) mute.said;
+pub part_calls : {cut : Type 0} (a b : Seen) (v : View) (verb : Verb) (o : Outcome) {result : Result Answer BlockFault} → Costs (block_limit a.desc verb) (asks_back_out verb) result a.effort b.effort → CausedBy result a.faults b.faults → IsMute a b → PerformsCall o a b v result → PerformsPrefix cut a b (calls verb o ∷ [])
+part_calls a b v verb o {result} costs cause mute did = record {
+  said_whole = λ uncut. whole_none a.said b.said (calls verb o ∷ []) mute.said;
+  took = λ uncut. took_call a b verb (calls verb o ∷ []) result mute.said costs;
   undamaged = λ t. damaged_same result a.faults b.faults did.undamaged cause;
   text = front_none a.said b.said [] mute.said;
-  moments = λ t. runs_weaken (did.leaves t) (stopped_calls a o);
+  moments = λ t. runs_weaken (did.leaves t) (stopped_calls a verb o);
 }
 
 -- the way back
@@ -293,8 +404,13 @@ stopped_back a stop p = record {
   text = λ t is. (0, p.1 t is ∙ sym (append-nil t) ∙ sym (append-nil (t ++ [])));
 }
 
-pub ran_back : (a b : Seen) → (a.tells → b.tells) → ((files : Files) → b.whole files → a.whole files) → (IsTold a → IsTold b) → Sound a b → IsSilent a b → StaysDurable a b → a.next + 1 < 2 ^ 64 → Performs a b (goes_back ∷ [])
-ran_back a b tells whole told undamaged silent points room = record {
+-- where nobody works nothing is done
+pub back_takes : {T : Type 0} (r : Result T BlockFault) (works : Bool) (desc : Described) {a b : Effort} → (works ≡ true → GoesBack r a b) → (works ≡ false → b ≡ a) → Takes desc (goes_back ∷ []) a b
+back_takes r true desc back stays = let p = back refl in record { spent = omega (arith, p.spent); syncs = omega (arith, p.syncs); outs = omega (arith, p.few.1) }
+back_takes r false desc back stays = takes_still desc (goes_back ∷ []) (stays refl)
+
+pub ran_back : (a b : Seen) → (a.tells → b.tells) → ((files : Files) → b.whole files → a.whole files) → b.desc ≡ a.desc → Takes a.desc (goes_back ∷ []) a.effort b.effort → (IsTold a → IsTold b) → Sound a b → IsSilent a b → StaysDurable a b → a.next + 1 < 2 ^ 64 → Performs a b (goes_back ∷ [])
+ran_back a b tells whole desc takes told undamaged silent points room = record {
   text = prints_none a.said b.said silent.said;
   tells = tells;
   whole = whole;
@@ -304,10 +420,13 @@ ran_back a b tells whole told undamaged silent points room = record {
   grew = λ t. record { more = []; is = (points t room).0 ∙ sym (append-nil a.points); spells = refl };
   durable = λ t. (points t room).1;
   moments = λ t. runs_weaken (silent.leaves t room) (stopped_back a);
+  desc = desc;
+  effort = takes;
 }
 
-pub part_back : {cut : Type 0} (a b : Seen) → Sound a b → IsSilent a b → a.next + 1 < 2 ^ 64 → PerformsPrefix cut a b (goes_back ∷ [])
-part_back a b undamaged silent room = record {
+pub part_back : {cut : Type 0} (a b : Seen) → Takes a.desc (goes_back ∷ []) a.effort b.effort → Sound a b → IsSilent a b → a.next + 1 < 2 ^ 64 → PerformsPrefix cut a b (goes_back ∷ [])
+part_back a b takes undamaged silent room = record {
+  took = λ uncut. record { k = 0; within = omega arith; text = prints_none a.said b.said silent.said; spent = omega (arith, takes.spent); syncs = omega (arith, takes.syncs); outs = omega (arith, takes.outs) };
   said_whole = λ uncut. whole_none a.said b.said (goes_back ∷ []) silent.said;
   undamaged = undamaged;
   text = front_none a.said b.said [] silent.said;

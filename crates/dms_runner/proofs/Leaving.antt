@@ -48,11 +48,11 @@ marked : (b : Bool) (s : Session) (o : Outcome) → MakesWhereQuiet b s o → o.
 marked true s o m = m.mark ∙ sym (ap (λ (q : List Quiet). last_quiet s.mark (q ++ [])) m.quiets)
 marked false s o m = m.mark ∙ sym (ap (λ (q : List Quiet). last_quiet s.mark (q ++ [])) m.quiets)
 
-follows_call : (desc : Described) (s : Session) (name : List ℕ) (verb : Verb) → Follows s (step desc s name verb).session (calls (step desc s name verb) ∷ [])
+follows_call : (desc : Described) (s : Session) (name : List ℕ) (verb : Verb) → Follows s (step desc s name verb).session (calls verb (step desc s name verb) ∷ [])
 follows_call desc s name verb = record { rests = rest_rule desc s name verb; mark = marked _ s (step desc s name verb) (quiet_rule desc s name verb) }
 
-follows_try : (desc : Described) (s : Session) (name : List ℕ) (verb : Verb) (x : List ℕ) → Follows s (step desc s name verb).session (calls (step desc s name verb) ∷ says x ∷ [])
-follows_try desc s name verb x = follows_on s _ _ (calls (step desc s name verb) ∷ []) (says x ∷ []) (follows_call desc s name verb) (follows_says _ x)
+follows_try : (desc : Described) (s : Session) (name : List ℕ) (verb : Verb) (x : List ℕ) → Follows s (step desc s name verb).session (calls verb (step desc s name verb) ∷ says x ∷ [])
+follows_try desc s name verb x = follows_on s _ _ (calls verb (step desc s name verb) ∷ []) (says x ∷ []) (follows_call desc s name verb) (follows_says _ x)
 
 -- retries
 
@@ -102,10 +102,10 @@ waiting_leads s t g h before said false p q = follows_on s t t before said p q
 tried_leads : (desc : Described) (g : RunState) (name : List ℕ) (verb : Verb) (b : Bool) → is_waits (step desc g.session name verb).reply ≡ b → Leads g.session (first_try_effect desc g name verb (step desc g.session name verb))
 tried_leads desc g name verb true waits =
     let o = step desc g.session name verb in
-    rw waits (waiting_leads g.session o.session g (first_line g.line name verb true) (calls o ∷ []) (says (answer_text g.line name o.reply o.sync) ∷ []) (nat_le 10000 (length g.waiting)) (follows_call desc g.session name verb) (follows_says o.session _))
+    rw waits (waiting_leads g.session o.session g (first_line g.line name verb true) (calls verb o ∷ []) (says (answer_text g.line name o.reply o.sync) ∷ []) (nat_le 10000 (length g.waiting)) (follows_call desc g.session name verb) (follows_says o.session _))
 tried_leads desc g name verb false waits =
     let o = step desc g.session name verb in
-    rw waits (follows_on g.session o.session _ (calls o ∷ says (answer_text g.line name o.reply o.sync) ∷ []) _ (follows_try desc g.session name verb (answer_text g.line name o.reply o.sync)) (retries_follow (length g.waiting) desc o.session g.waiting))
+    rw waits (follows_on g.session o.session _ (calls verb o ∷ says (answer_text g.line name o.reply o.sync) ∷ []) _ (follows_try desc g.session name verb (answer_text g.line name o.reply o.sync)) (retries_follow (length g.waiting) desc o.session g.waiting))
 
 spoken_leads : (desc : Described) (g : RunState) (l : Line) → Leads g.session (line_effect desc g l)
 spoken_leads desc g Empty = follows_none g.session

@@ -34,7 +34,7 @@ waiting_low g s h first_try_effect said false same = (omega (arith, same, length
 tried_low : (desc : Described) (g : RunState) (name : List ℕ) (verb : Verb) (b : Bool) → is_waits (step desc g.session name verb).reply ≡ b → LinedLow g (first_try_effect desc g name verb (step desc g.session name verb))
 tried_low desc g name verb true waits =
     let o = step desc g.session name verb in
-    rw waits (waiting_low g o.session (first_line g.line name verb true) (calls o ∷ []) (says (answer_text g.line name o.reply o.sync) ∷ []) (nat_le 10000 (length g.waiting)) (ap (λ (s : Session). s.next) ((step_small desc g.session name verb).waits waits)))
+    rw waits (waiting_low g o.session (first_line g.line name verb true) (calls verb o ∷ []) (says (answer_text g.line name o.reply o.sync) ∷ []) (nat_le 10000 (length g.waiting)) (ap (λ (s : Session). s.next) ((step_small desc g.session name verb).waits waits)))
 tried_low desc g name verb false waits =
     let o = step desc g.session name verb in
     rw waits (omega (arith, (step_small desc g.session name verb).high, retries_low (length g.waiting) desc o.session g.waiting), refl)
@@ -109,11 +109,11 @@ goes_full g s h first_try_effect said v waiting before after over stands same ra
     let e : nat_le 10000 (length g.waiting) ≡ true = grind (arith, nat_tests) in
     rw e (record { full = refl; session = stands; waiting_is = same; ran = ran })
 
-pub tried_waits : (desc : Described) (g : RunState) (name : List ℕ) (verb : Verb) (o : Outcome) → is_waits o.reply ≡ true → first_try_effect desc g name verb o ≡ put_to_wait g o.session (first_line g.line name verb true) (calls o ∷ []) (says (answer_text g.line name o.reply o.sync) ∷ [])
+pub tried_waits : (desc : Described) (g : RunState) (name : List ℕ) (verb : Verb) (o : Outcome) → is_waits o.reply ≡ true → first_try_effect desc g name verb o ≡ put_to_wait g o.session (first_line g.line name verb true) (calls verb o ∷ []) (says (answer_text g.line name o.reply o.sync) ∷ [])
 tried_waits desc g name verb o waits = rw waits refl
 
 pub tried_answered : (desc : Described) (g : RunState) (name : List ℕ) (verb : Verb) (o : Outcome) → is_waits o.reply ≡ false
-    → first_try_effect desc g name verb o ≡ after_retries g.line (events_before (calls o ∷ says (answer_text g.line name o.reply o.sync) ∷ []) (retries (length g.waiting) desc o.session g.waiting))
+    → first_try_effect desc g name verb o ≡ after_retries g.line (events_before (calls verb o ∷ says (answer_text g.line name o.reply o.sync) ∷ []) (retries (length g.waiting) desc o.session g.waiting))
 tried_answered desc g name verb o waits = rw waits refl
 
 pub spoken_waiting : (desc : Described) (g : RunState) (name : List ℕ) (verb : Verb) → has_line g.waiting name ≡ true → line_effect desc g (Spoken name verb) ≡ put_to_wait g g.session (first_line g.line name verb false) [] []
@@ -137,12 +137,12 @@ says_answer l m name r q s t a b c =
     ap (λ (n : ℕ). says (answer_text n name r s) ∷ []) a ∙ ap (λ (x : Reply). says (answer_text m name x s) ∷ []) b ∙ ap (λ (x : Option ℕ). says (answer_text m name q x) ∷ []) c
 
 -- a first try begins with its call
-pub tried_starts : (desc : Described) (g : RunState) (name : List ℕ) (verb : Verb) (o : Outcome) → (rest : List RunEvent) × ((first_try_effect desc g name verb o).events ≡ calls o ∷ rest)
+pub tried_starts : (desc : Described) (g : RunState) (name : List ℕ) (verb : Verb) (o : Outcome) → (rest : List RunEvent) × ((first_try_effect desc g name verb o).events ≡ calls verb o ∷ rest)
 tried_starts desc g name verb o = at (is_waits o.reply) (nat_le 10000 (length g.waiting))
   where
     at : (b c : Bool) → (rest : List RunEvent)
-        × ((cond b (cond c (record { going = record g { session = o.session }; events = calls o ∷ []; full = true }) (record { going = record { session = o.session; waiting = g.waiting ++ first_line g.line name verb true ∷ []; line = g.line }; events = calls o ∷ says (answer_text g.line name o.reply o.sync) ∷ []; full = false }))
-        (after_retries g.line (events_before (calls o ∷ says (answer_text g.line name o.reply o.sync) ∷ []) (retries (length g.waiting) desc o.session g.waiting)))).events ≡ calls o ∷ rest)
+        × ((cond b (cond c (record { going = record g { session = o.session }; events = calls verb o ∷ []; full = true }) (record { going = record { session = o.session; waiting = g.waiting ++ first_line g.line name verb true ∷ []; line = g.line }; events = calls verb o ∷ says (answer_text g.line name o.reply o.sync) ∷ []; full = false }))
+        (after_retries g.line (events_before (calls verb o ∷ says (answer_text g.line name o.reply o.sync) ∷ []) (retries (length g.waiting) desc o.session g.waiting)))).events ≡ calls verb o ∷ rest)
     at true true = (_, refl)
     at true false = (_, refl)
     at false c = (_, refl)
@@ -174,7 +174,7 @@ waiting_silent g s h first_try_effect said false none = λ full. absurd (cc)
 tried_silent : (desc : Described) (g : RunState) (name : List ℕ) (verb : Verb) (b : Bool) → is_waits (step desc g.session name verb).reply ≡ b → Silent (first_try_effect desc g name verb (step desc g.session name verb))
 tried_silent desc g name verb true waits =
     let o = step desc g.session name verb in
-    rw waits (waiting_silent g o.session (first_line g.line name verb true) (calls o ∷ []) (says (answer_text g.line name o.reply o.sync) ∷ []) (nat_le 10000 (length g.waiting)) refl)
+    rw waits (waiting_silent g o.session (first_line g.line name verb true) (calls verb o ∷ []) (says (answer_text g.line name o.reply o.sync) ∷ []) (nat_le 10000 (length g.waiting)) refl)
 tried_silent desc g name verb false waits = rw waits (λ full. absurd (cc))
 
 spoken_silent : (desc : Described) (g : RunState) (l : Line) → Silent (line_effect desc g l)

@@ -59,8 +59,8 @@ first_line line name verb printed = record { line = line; program = name; verb =
 -- a line was tried for the first time: it is held, or answered, and then the waiting lines are retried
 abbrev pub first_try_effect : Described → RunState → List ℕ → Verb → Outcome → LineEffect
 first_try_effect desc g name verb o =
-    if is_waits o.reply then put_to_wait g o.session (first_line g.line name verb true) (calls o ∷ []) (says (answer_text g.line name o.reply o.sync) ∷ [])
-    else after_retries g.line (events_before (calls o ∷ says (answer_text g.line name o.reply o.sync) ∷ []) (retries (length g.waiting) desc o.session g.waiting))
+    if is_waits o.reply then put_to_wait g o.session (first_line g.line name verb true) (calls verb o ∷ []) (says (answer_text g.line name o.reply o.sync) ∷ [])
+    else after_retries g.line (events_before (calls verb o ∷ says (answer_text g.line name o.reply o.sync) ∷ []) (retries (length g.waiting) desc o.session g.waiting))
 
 -- so a line of this program is tried
 abbrev pub tried_first : Described → RunState → List ℕ → Verb → LineEffect

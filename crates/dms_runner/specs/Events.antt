@@ -1,5 +1,5 @@
 -- What a run does, event by event, and what a stop on the way leaves.
-use Rattle.std.specs.Prelude.{ℕ, ◌≡◌, ◌≤◌, ◌+◌, List, [], ◌∷◌, ◌++◌, length, take, Some, None}
+use Rattle.std.specs.Prelude.{ℕ, ◌≡◌, ◌≤◌, ◌+◌, Bool, true, false, not, ◌&&◌, is_some, List, [], ◌∷◌, ◌++◌, length, take, Some, None}
 use Rattle.std.specs.declared.option.Option.{Option}
 use Rattle.std.specs.declared.result.Result.{Result}
 use Rattle.std.specs.declared.result.Result.TheVariants.{Ok, Err}
@@ -9,27 +9,39 @@ use Rattle.dms_moments.specs.Moments.{Runs}
 use Rattle.dms_model.specs.Points.{Files, Point, Quiet, Stop}
 use Rattle.dms_block.specs.Texts.{Prints, PrintsPrefix}
 use Rattle.dms_model.specs.Db.{Db}
-use Rattle.dms_model.specs.Seen.{Seen}
-use Rattle.dms_model.specs.Session.{Outcome}
+use Rattle.dms_desc.specs.Shape.{Described}
+use Rattle.dms_model.specs.BackOut.{asks_back_out}
+use Rattle.dms_model.specs.declared.reply.Reply.{Reply}
+use Rattle.dms_model.specs.declared.verb.Verb.{Verb}
+use Rattle.dms_model.specs.Seen.{Effort, Seen}
+use Rattle.dms_model.specs.Session.{Outcome, is_waits}
+use Rattle.dms_storeverbs.specs.Costs.{is_done, limit_if, stores}
 use Rattle.dms_storeverbs.specs.View.{PointsGrow, LeavesQuiets}
 
--- an event: the quiet points that are made in it, the syncpoint that it takes, and the bytes that are said
+-- an event: the quiet points that are made in it, the syncpoint that it takes, and the bytes that are said; whether a record may be stored
+-- in it, and whether the database goes back to the last quiet point
 pub record RunEvent : Type 0 where
   pub quiets : List Quiet
   pub sync : Option ℕ
   pub text : List ℕ
+  pub stores : Bool
+  pub backs : Bool
 
--- a verb is called; nothing is said yet
-abbrev pub calls : Outcome → RunEvent
-calls o = record { quiets = o.quiets; sync = o.sync; text = [] }
+-- a record may be stored: the verb may store one, and its line doesn't wait
+unfoldable pub may_store : Verb → Reply → Bool
+may_store verb reply = stores verb && not (is_waits reply)
+
+-- a verb is called; nothing is said yet. Only an ABORT that is done goes back
+abbrev pub calls : Verb → Outcome → RunEvent
+calls verb o = record { quiets = o.quiets; sync = o.sync; text = []; stores = may_store verb o.reply; backs = asks_back_out verb && is_done o.reply }
 
 -- bytes are said; no quiet point is made
 abbrev pub says : List ℕ → RunEvent
-says text = record { quiets = []; sync = None; text = text }
+says text = record { quiets = []; sync = None; text = text; stores = false; backs = false }
 
 -- the database goes back to the last quiet point: nothing is said, and no quiet point is made
 abbrev pub goes_back : RunEvent
-goes_back = record { quiets = []; sync = None; text = [] }
+goes_back = record { quiets = []; sync = None; text = []; stores = false; backs = true }
 
 -- all that is said
 abbrev pub text_of : List RunEvent → List ℕ
@@ -40,6 +52,30 @@ text_of (e ∷ es) = e.text ++ text_of es
 abbrev pub quiets_of : List RunEvent → List Quiet
 quiets_of [] = []
 quiets_of (e ∷ es) = e.quiets ++ quiets_of es
+
+-- how many blocks these events may change: 64 of each structure for each record
+abbrev pub blocks_of : Described → List RunEvent → ℕ
+blocks_of desc [] = 0
+blocks_of desc (e ∷ es) = limit_if e.stores desc + blocks_of desc es
+
+abbrev pub one_if : Bool → ℕ
+one_if true = 1
+one_if false = 0
+
+-- how many syncpoints they take, and how often the database goes back
+abbrev pub syncs_of : List RunEvent → ℕ
+syncs_of [] = 0
+syncs_of (e ∷ es) = one_if (is_some e.sync) + syncs_of es
+
+abbrev pub backs_of : List RunEvent → ℕ
+backs_of [] = 0
+backs_of (e ∷ es) = one_if e.backs + backs_of es
+
+-- No more was done than these events may take.
+pub record Takes (desc : Described) (events : List RunEvent) (old new : Effort) : Type 0 where
+  pub spent : new.spent ≤ old.spent + blocks_of desc events
+  pub syncs : new.syncs ≤ old.syncs + syncs_of events
+  pub outs : new.outs ≤ old.outs + backs_of events
 
 -- a syncpoint makes all quiet points durable
 abbrev pub durable_by : Option ℕ → ℕ → ℕ → ℕ
@@ -75,7 +111,7 @@ pub record IsTold (s : Seen) : Type 0 where
 
 -- these events happened: their text was said, their quiet points were made and have used up their numbers, at least those are
 -- durable that a syncpoint among them covers, and a stop on the way lies within them. Where the database is told it still is, and no
--- block was found damaged
+-- block was found damaged. No more was done than they may take
 pub record Performs (b a : Seen) (events : List RunEvent) : Type 0 where
   pub text : Prints b.said a.said (text_of events)
   pub tells : b.tells → a.tells
@@ -86,6 +122,8 @@ pub record Performs (b a : Seen) (events : List RunEvent) : Type 0 where
   pub grew : b.tells → PointsGrow b.points (quiets_of events) a.points
   pub durable : b.tells → durable_after (length b.points) b.durable events ≤ a.durable
   pub moments : b.tells → Runs b.clock a.clock (CrashesFrom b events)
+  pub desc : a.desc ≡ b.desc
+  pub effort : Takes b.desc events b.effort a.effort
 
 -- the answer is a fault of printing: the last text may have been cut off
 abbrev pub IsCutShort : {T : Type 0} → Result T BlockFault → Type 0
@@ -96,10 +134,21 @@ IsCutShort (Err f) = f ≡ Say
 abbrev pub SaidWhole : Option (List ℕ) → Option (List ℕ) → List RunEvent → Type 0
 SaidWhole old new events = (k : ℕ) × Prints old new (text_of (take k events))
 
+-- The text of the first so many events was said, and no more was done than these may take and one call that was under way: the blocks of one
+-- record, one sync and one way back.
+pub record TookPart (b a : Seen) (events : List RunEvent) : Type 0 where
+  pub k : ℕ
+  pub within : k ≤ length events
+  pub text : Prints b.said a.said (text_of (take k events))
+  pub spent : a.effort.spent ≤ b.effort.spent + blocks_of b.desc (take k events) + limit_if true b.desc
+  pub syncs : a.effort.syncs ≤ b.effort.syncs + syncs_of (take k events) + 1
+  pub outs : a.effort.outs ≤ b.effort.outs + backs_of (take k events) + 1
+
 -- a prefix of the text of these events was said, that of whole events where no text was cut off, and a stop on the way lies
--- within them. Of what stands afterwards it says nothing else
+-- within them. No more was done than that prefix may take. Of what stands afterwards it says nothing else
 pub record PerformsPrefix (cut : Type 0) (b a : Seen) (events : List RunEvent) : Type 0 where
   pub text : PrintsPrefix b.said a.said (text_of events)
   pub said_whole : (cut → ⊥) → SaidWhole b.said a.said events
   pub undamaged : IsTold b → a.faults.damaged ≡ b.faults.damaged
   pub moments : b.tells → Runs b.clock a.clock (CrashesFrom b events)
+  pub took : (cut → ⊥) → TookPart b a events

@@ -40,7 +40,7 @@ said_to_wait h = record h { printed = true }
 
 -- a try: the verb is called, and then something is said of it
 abbrev pub tries : WaitingLine → Outcome → List RunEvent
-tries h o = calls o ∷ says (tried_text h o) ∷ []
+tries h o = calls h.verb o ∷ says (tried_text h o) ∷ []
 
 -- what a retry leaves and does, and whether a line was answered
 pub record RetryEffect : Type 0 where

@@ -5,6 +5,7 @@ use Rattle.std.proofs.lemmas.Bool.Decides.{nat_tests}
 use Rattle.std.proofs.lemmas.List.{append_assoc, append-nil}
 use Rattle.std.proofs.lemmas.Slice.Eq.{bytes_eq-Decides}
 use Rattle.dms_model.specs.Points.{Quiet}
+use Rattle.dms_model.specs.declared.verb.Verb.{Verb}
 use Rattle.dms_model.specs.Session.{Session, Outcome}
 use Rattle.dms_script.specs.Replies.{syncpoint_text}
 use Rattle.dms_runner.specs.Events.{RunEvent, calls, says, quiets_of, durable_by, durable_after}
@@ -124,8 +125,8 @@ synced first count durable next quiets reply (Some n) at within none own =
     (closed_on [] reply _ none.closed (closed_line [] (codes "SYNCPOINT " ++ decimal n) line), safe_on first _ [] reply _ none.closed (none.safe first _) s)
 
 -- a try is honest: the call, and then what is said of it
-pub try_honest : (first count durable : ℕ) (s : Session) (o : Outcome) (reply : List ℕ) → s.next ≡ first + count → durable ≤ count → TellsNone reply → TakesOwn s o
-    → Honest first count durable (calls o ∷ says (reply ++ sync_text o.sync) ∷ [])
-try_honest first count durable s o reply at within none own =
+pub try_honest : (first count durable : ℕ) (s : Session) (verb : Verb) (o : Outcome) (reply : List ℕ) → s.next ≡ first + count → durable ≤ count → TellsNone reply → TakesOwn s o
+    → Honest first count durable (calls verb o ∷ says (reply ++ sync_text o.sync) ∷ [])
+try_honest first count durable s verb o reply at within none own =
     let t = synced first count durable s.next (length o.quiets) reply o.sync at within none own in
     (refl, (tt, (t.0, (t.1, tt))))

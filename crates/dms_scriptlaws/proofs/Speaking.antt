@@ -88,7 +88,7 @@ module _ (desc : Described) (K : Session → Type 0) (V : List ℕ → Verb → 
   tells_says : (s : Session) (x : List ℕ) → K s → TellsNone x → Tells s s (says x ∷ [])
   tells_says s x k none = record { clean = k; next = omega arith; numbered = tt; points = tt; honest = λ first count durable at within. (none.closed, (none.safe first durable, tt)) }
 
-  tells_call : (s : Session) (name : List ℕ) (verb : Verb) → K s → V name verb → Tells s (step desc s name verb).session (calls (step desc s name verb) ∷ [])
+  tells_call : (s : Session) (name : List ℕ) (verb : Verb) → K s → V name verb → Tells s (step desc s name verb).session (calls verb (step desc s name verb) ∷ [])
   tells_call s name verb k v =
       let o = step desc s name verb in
       record {
@@ -100,7 +100,7 @@ module _ (desc : Described) (K : Session → Type 0) (V : List ℕ → Verb → 
       }
 
   tells_answer : (s : Session) (line : ℕ) (name : List ℕ) (verb : Verb) → K s → V name verb
-      → Tells s (step desc s name verb).session (calls (step desc s name verb) ∷ says (answer_text line name (step desc s name verb).reply (step desc s name verb).sync) ∷ [])
+      → Tells s (step desc s name verb).session (calls verb (step desc s name verb) ∷ says (answer_text line name (step desc s name verb).reply (step desc s name verb).sync) ∷ [])
   unfolding answer_text
   tells_answer s line name verb k v =
       let o = step desc s name verb in
@@ -110,22 +110,22 @@ module _ (desc : Described) (K : Session → Type 0) (V : List ℕ → Verb → 
         next = c.next;
         numbered = c.numbered;
         points = c.points;
-        honest = λ first count durable at within. try_honest first count durable s o (reply_text line name o.reply) at within (p.reply line s name verb v k) (own_at _ s o (quiet_rule desc s name verb));
+        honest = λ first count durable at within. try_honest first count durable s verb o (reply_text line name o.reply) at within (p.reply line s name verb v k) (own_at _ s o (quiet_rule desc s name verb));
       }
 
-  tells_silent : (s : Session) (name : List ℕ) (verb : Verb) → K s → V name verb → Tells s (step desc s name verb).session (calls (step desc s name verb) ∷ says [] ∷ [])
+  tells_silent : (s : Session) (name : List ℕ) (verb : Verb) → K s → V name verb → Tells s (step desc s name verb).session (calls verb (step desc s name verb) ∷ says [] ∷ [])
   tells_silent s name verb k v =
       let c = tells_call s name verb k v in
       record { clean = c.clean; next = c.next; numbered = c.numbered; points = c.points; honest = λ first count durable at within. (refl, (tt, (refl, (tt, tt)))) }
 
-  tells_if : (b : Bool) (s t : Session) (o : Outcome) (x : List ℕ) → Tells s t (calls o ∷ says [] ∷ []) → Tells s t (calls o ∷ says x ∷ []) → Tells s t (calls o ∷ says (cond b [] x) ∷ [])
-  tells_if true s t o x f g = f
-  tells_if false s t o x f g = g
+  tells_if : (b : Bool) (s t : Session) (verb : Verb) (o : Outcome) (x : List ℕ) → Tells s t (calls verb o ∷ says [] ∷ []) → Tells s t (calls verb o ∷ says x ∷ []) → Tells s t (calls verb o ∷ says (cond b [] x) ∷ [])
+  tells_if true s t verb o x f g = f
+  tells_if false s t verb o x f g = g
 
   tells_try : (s : Session) (h : WaitingLine) → K s → V h.program h.verb → Tells s (step desc s h.program h.verb).session (tries h (step desc s h.program h.verb))
   tells_try s h k v =
       let o = step desc s h.program h.verb in
-      tells_if (is_waits o.reply && h.printed) s o.session o (answer_text h.line h.program o.reply o.sync) (tells_silent s h.program h.verb k v) (tells_answer s h.line h.program h.verb k v)
+      tells_if (is_waits o.reply && h.printed) s o.session h.verb o (answer_text h.line h.program o.reply o.sync) (tells_silent s h.program h.verb k v) (tells_answer s h.line h.program h.verb k v)
 
   -- the waiting lines can be read
   abbrev Spoke : List WaitingLine → Type 0
@@ -204,7 +204,7 @@ module _ (desc : Described) (K : Session → Type 0) (V : List ℕ → Verb → 
   tried_leads g name verb true waits k v a =
       let o = step desc g.session name verb in
       let same : o.session.next ≡ g.session.next = ap (λ (t : Session). t.next) ((step_small desc g.session name verb).waits waits) in
-      rw waits (waiting_leads g.session o.session g (first_line g.line name verb true) (calls o ∷ []) (says (answer_text g.line name o.reply o.sync) ∷ []) (nat_le 10000 (length g.waiting)) a v
+      rw waits (waiting_leads g.session o.session g (first_line g.line name verb true) (calls verb o ∷ []) (says (answer_text g.line name o.reply o.sync) ∷ []) (nat_le 10000 (length g.waiting)) a v
       (tells_call g.session name verb k v)
       (tells_says o.session _ (p.keeps g.session name verb v k) (plain_answer g.line name o.reply o.sync (p.reply g.line g.session name verb v k) (silent_wait g.session name verb same))))
   tried_leads g name verb false waits k v a =

@@ -124,6 +124,7 @@ impl<St: Store> Engine<St> {
         ensures step { (p : Program) → slice_get self.old.programs.items i ≡ Some p → Does self.old self.new result (λ s. store_step (described self.old.desc) i p s set) }
         ensures mute { IsMute (seen self.old) (seen self.new) }
         ensures costs { Costs (limit_if true (seen self.old).desc) false result (seen self.old).effort (seen self.new).effort }
+        ensures idle { IfOk result (λ a. is_waits a.reply ≡ true → (seen self.new).effort.spent ≤ (seen self.old).effort.spent) }
         ensures mute_fault { IsErrOf result BlockFault.Say → ⊥ }
         ensures lasts { EngineLasts result self.old self.new }
     {
@@ -154,6 +155,7 @@ impl<St: Store> Engine<St> {
         ensures step { (p : Program) → slice_get self.old.programs.items i ≡ Some p → Does self.old self.new result (λ s. begin_step (described self.old.desc) i p s audit) }
         ensures mute { IsMute (seen self.old) (seen self.new) }
         ensures costs { Costs (limit_if audit (seen self.old).desc) false result (seen self.old).effort (seen self.new).effort }
+        ensures idle { IfOk result (λ a. is_waits a.reply ≡ true → (seen self.new).effort.spent ≤ (seen self.old).effort.spent) }
         ensures mute_fault { IsErrOf result BlockFault.Say → ⊥ }
         ensures lasts { EngineLasts result self.old self.new }
     {

@@ -26,7 +26,7 @@ pub returns-in_err-answer-clause-part : goal.returns-in_err-answer-clause-part
 returns-in_err-answer-clause-part g c = λ now stands same line may.
     let o = step (described c.args.engine.now.desc) now.session c.args.name c.args.verb in
     let starts = tried_starts (described c.args.engine.now.desc) now c.args.name c.args.verb o in
-    part_as _ _ _ _ (sym starts.1) (part_of_first _ _ (calls o ∷ []) starts.0 (part_calls _ _ _ o c.call.ensures.lasts.causes.cause c.call.ensures.mute (c.call.ensures.step now.session stands (may_step may))))
+    part_as _ _ _ _ (sym starts.1) (part_of_first _ _ (calls c.args.verb o ∷ []) starts.0 (part_calls _ _ _ c.args.verb o c.call.ensures.costs c.call.ensures.lasts.causes.cause c.call.ensures.mute (c.call.ensures.step now.session stands (may_step may))))
 
 pub returns-in_err-say_answer-clause-part : goal.returns-in_err-say_answer-clause-part
 returns-in_err-say_answer-clause-part g c = λ now stands same line may.
@@ -34,10 +34,10 @@ returns-in_err-say_answer-clause-part g c = λ now stands same line may.
     let did = c.in_ok-answer.ensures.step now.session stands (may_step may) in
     let is = did.answers in
     let room' : (seen c.call.new.self).next + 1 < 2 ^ 64 = omega (arith, is.session.next, (step_small (described c.args.engine.now.desc) now.session c.args.name c.args.verb).high, may.room) in
-    let called = ran_calls _ _ o c.in_ok-answer.answer c.call.ensures.lasts.causes.tells c.call.ensures.lasts.causes.whole c.in_ok-answer.ensures.lasts.causes.cause c.call.ensures.mute (omega (arith, stands.next, is.session.next, step_numbers (described c.args.engine.now.desc) now.session c.args.name c.args.verb)) did in
+    let called = ran_calls _ _ c.args.verb o c.in_ok-answer.answer c.call.ensures.lasts.causes.tells c.call.ensures.lasts.causes.whole c.call.ensures.lasts.causes.desc c.in_ok-answer.ensures.costs c.in_ok-answer.ensures.idle c.in_ok-answer.ensures.lasts.causes.cause c.call.ensures.mute (omega (arith, stands.next, is.session.next, step_numbers (described c.args.engine.now.desc) now.session c.args.name c.args.verb)) did in
     let text = says_answer c.args.line now.line c.args.name c.in_ok-answer.answer.reply o.reply c.in_ok-answer.answer.sync o.sync (sym line) is.reply is.sync in
     let e = tried_answered (described c.args.engine.now.desc) now c.args.name c.args.verb o (ap is_waits (sym is.reply) ∙ sym c.is_waits.ensures ∙ c.if-not-is_waits.true) in
-    part_as _ _ _ _ (sym (ap (λ (l : LineEffect). l.events) e)) (part_of_first _ _ (calls o ∷ says (answer_text now.line c.args.name o.reply o.sync) ∷ []) _ (part_on _ _ _ (calls o ∷ []) _ called (part_as _ _ _ _ text (part_cut _ _ _ (cut_as _ _ c.from_residual-in_err-say_answer.ensures.1) (c.in_err-say_answer.ensures.part room')))))
+    part_as _ _ _ _ (sym (ap (λ (l : LineEffect). l.events) e)) (part_of_first _ _ (calls c.args.verb o ∷ says (answer_text now.line c.args.name o.reply o.sync) ∷ []) _ (part_on _ _ _ (calls c.args.verb o ∷ []) _ called (part_as _ _ _ _ text (part_cut _ _ _ (cut_as _ _ c.from_residual-in_err-say_answer.ensures.1) (c.in_err-say_answer.ensures.part room')))))
 
 pub returns-in_err-retry_all-clause-part : goal.returns-in_err-retry_all-clause-part
 returns-in_err-retry_all-clause-part g c = λ now stands same line may.
@@ -45,10 +45,10 @@ returns-in_err-retry_all-clause-part g c = λ now stands same line may.
     let did = c.in_ok-answer.ensures.step now.session stands (may_step may) in
     let is = did.answers in
     let room' : (seen c.call.new.self).next + 1 < 2 ^ 64 = omega (arith, is.session.next, (step_small (described c.args.engine.now.desc) now.session c.args.name c.args.verb).high, may.room) in
-    let called = ran_calls _ _ o c.in_ok-answer.answer c.call.ensures.lasts.causes.tells c.call.ensures.lasts.causes.whole c.in_ok-answer.ensures.lasts.causes.cause c.call.ensures.mute (omega (arith, stands.next, is.session.next, step_numbers (described c.args.engine.now.desc) now.session c.args.name c.args.verb)) did in
+    let called = ran_calls _ _ c.args.verb o c.in_ok-answer.answer c.call.ensures.lasts.causes.tells c.call.ensures.lasts.causes.whole c.call.ensures.lasts.causes.desc c.in_ok-answer.ensures.costs c.in_ok-answer.ensures.idle c.in_ok-answer.ensures.lasts.causes.cause c.call.ensures.mute (omega (arith, stands.next, is.session.next, step_numbers (described c.args.engine.now.desc) now.session c.args.name c.args.verb)) did in
     let text = says_answer c.args.line now.line c.args.name c.in_ok-answer.answer.reply o.reply c.in_ok-answer.answer.sync o.sync (sym line) is.reply is.sync in
     let e = tried_answered (described c.args.engine.now.desc) now c.args.name c.args.verb o (ap is_waits (sym is.reply) ∙ sym c.is_waits.ensures ∙ c.if-not-is_waits.true) in
-    part_as _ _ _ _ (sym (ap (λ (l : LineEffect). l.events) e)) (part_on _ _ _ (calls o ∷ says (answer_text now.line c.args.name o.reply o.sync) ∷ []) _ (ran_on _ _ _ (calls o ∷ []) (says (answer_text now.line c.args.name o.reply o.sync) ∷ []) called (ran_as _ _ _ _ text (c.in_ok-say_answer.ensures.ran room')))
+    part_as _ _ _ _ (sym (ap (λ (l : LineEffect). l.events) e)) (part_on _ _ _ (calls c.args.verb o ∷ says (answer_text now.line c.args.name o.reply o.sync) ∷ []) _ (ran_on _ _ _ (calls c.args.verb o ∷ []) (says (answer_text now.line c.args.name o.reply o.sync) ∷ []) called (ran_as _ _ _ _ text (c.in_ok-say_answer.ensures.ran room')))
     (retries_part_from _ _ o.session _ _ _ _ (ap described (c.say_answer.ensures.lasts.description ∙ c.call.ensures.lasts.description)) (sym same) (part_cut _ _ _ (cut_as _ _ c.from_residual-in_err-retry_all.ensures.1) (c.in_err-retry_all.ensures.part o.session (c.in_ok-say_answer.ensures.stands o.session is.session) (omega (arith, may.room, ap length same, (step_small (described c.args.engine.now.desc) now.session c.args.name c.args.verb).high)) (step_exclusive (described c.args.engine.now.desc) now.session c.args.name c.args.verb may.exclusive)))))
 
 pub returns-then-not-is_waits-clause-lined : goal.returns-then-not-is_waits-clause-lined
@@ -57,10 +57,10 @@ returns-then-not-is_waits-clause-lined g c = λ now stands same line may.
     let did = c.in_ok-answer.ensures.step now.session stands (may_step may) in
     let is = did.answers in
     let room' : (seen c.call.new.self).next + 1 < 2 ^ 64 = omega (arith, is.session.next, (step_small (described c.args.engine.now.desc) now.session c.args.name c.args.verb).high, may.room) in
-    let called = ran_calls _ _ o c.in_ok-answer.answer c.call.ensures.lasts.causes.tells c.call.ensures.lasts.causes.whole c.in_ok-answer.ensures.lasts.causes.cause c.call.ensures.mute (omega (arith, stands.next, is.session.next, step_numbers (described c.args.engine.now.desc) now.session c.args.name c.args.verb)) did in
+    let called = ran_calls _ _ c.args.verb o c.in_ok-answer.answer c.call.ensures.lasts.causes.tells c.call.ensures.lasts.causes.whole c.call.ensures.lasts.causes.desc c.in_ok-answer.ensures.costs c.in_ok-answer.ensures.idle c.in_ok-answer.ensures.lasts.causes.cause c.call.ensures.mute (omega (arith, stands.next, is.session.next, step_numbers (described c.args.engine.now.desc) now.session c.args.name c.args.verb)) did in
     let text = says_answer c.args.line now.line c.args.name c.in_ok-answer.answer.reply o.reply c.in_ok-answer.answer.sync o.sync (sym line) is.reply is.sync in
     let e = tried_answered (described c.args.engine.now.desc) now c.args.name c.args.verb o (ap is_waits (sym is.reply) ∙ sym c.is_waits.ensures ∙ c.if-not-is_waits.true) in
-    lined_as _ _ _ _ _ _ _ (sym e) (goes_retried _ now o.session (calls o ∷ says (answer_text now.line c.args.name o.reply o.sync) ∷ []) _ _ _ _ _ (ran_on _ _ _ (calls o ∷ []) (says (answer_text now.line c.args.name o.reply o.sync) ∷ []) called (ran_as _ _ _ _ text (c.in_ok-say_answer.ensures.ran room')))
+    lined_as _ _ _ _ _ _ _ (sym e) (goes_retried _ now o.session (calls c.args.verb o ∷ says (answer_text now.line c.args.name o.reply o.sync) ∷ []) _ _ _ _ _ (ran_on _ _ _ (calls c.args.verb o ∷ []) (says (answer_text now.line c.args.name o.reply o.sync) ∷ []) called (ran_as _ _ _ _ text (c.in_ok-say_answer.ensures.ran room')))
     (retries_from _ _ o.session _ _ _ _ _ _ (ap described (c.say_answer.ensures.lasts.description ∙ c.call.ensures.lasts.description)) (sym same) (c.in_ok-retry_all.ensures.retries o.session (c.in_ok-say_answer.ensures.stands o.session is.session) (omega (arith, may.room, ap length same, (step_small (described c.args.engine.now.desc) now.session c.args.name c.args.verb).high)) (step_exclusive (described c.args.engine.now.desc) now.session c.args.name c.args.verb may.exclusive))))
 
 pub returns-then-not-is_waits-clause-part : goal.returns-then-not-is_waits-clause-part
@@ -69,10 +69,10 @@ returns-then-not-is_waits-clause-part g c = λ now stands same line may.
     let did = c.in_ok-answer.ensures.step now.session stands (may_step may) in
     let is = did.answers in
     let room' : (seen c.call.new.self).next + 1 < 2 ^ 64 = omega (arith, is.session.next, (step_small (described c.args.engine.now.desc) now.session c.args.name c.args.verb).high, may.room) in
-    let called = ran_calls _ _ o c.in_ok-answer.answer c.call.ensures.lasts.causes.tells c.call.ensures.lasts.causes.whole c.in_ok-answer.ensures.lasts.causes.cause c.call.ensures.mute (omega (arith, stands.next, is.session.next, step_numbers (described c.args.engine.now.desc) now.session c.args.name c.args.verb)) did in
+    let called = ran_calls _ _ c.args.verb o c.in_ok-answer.answer c.call.ensures.lasts.causes.tells c.call.ensures.lasts.causes.whole c.call.ensures.lasts.causes.desc c.in_ok-answer.ensures.costs c.in_ok-answer.ensures.idle c.in_ok-answer.ensures.lasts.causes.cause c.call.ensures.mute (omega (arith, stands.next, is.session.next, step_numbers (described c.args.engine.now.desc) now.session c.args.name c.args.verb)) did in
     let text = says_answer c.args.line now.line c.args.name c.in_ok-answer.answer.reply o.reply c.in_ok-answer.answer.sync o.sync (sym line) is.reply is.sync in
     let e = tried_answered (described c.args.engine.now.desc) now c.args.name c.args.verb o (ap is_waits (sym is.reply) ∙ sym c.is_waits.ensures ∙ c.if-not-is_waits.true) in
-    part_as _ _ _ _ (sym (ap (λ (l : LineEffect). l.events) e)) (part_on _ _ _ (calls o ∷ says (answer_text now.line c.args.name o.reply o.sync) ∷ []) _ (ran_on _ _ _ (calls o ∷ []) (says (answer_text now.line c.args.name o.reply o.sync) ∷ []) called (ran_as _ _ _ _ text (c.in_ok-say_answer.ensures.ran room')))
+    part_as _ _ _ _ (sym (ap (λ (l : LineEffect). l.events) e)) (part_on _ _ _ (calls c.args.verb o ∷ says (answer_text now.line c.args.name o.reply o.sync) ∷ []) _ (ran_on _ _ _ (calls c.args.verb o ∷ []) (says (answer_text now.line c.args.name o.reply o.sync) ∷ []) called (ran_as _ _ _ _ text (c.in_ok-say_answer.ensures.ran room')))
     (retries_part_from _ _ o.session _ _ _ _ (ap described (c.say_answer.ensures.lasts.description ∙ c.call.ensures.lasts.description)) (sym same) (c.in_ok-retry_all.ensures.part o.session (c.in_ok-say_answer.ensures.stands o.session is.session) (omega (arith, may.room, ap length same, (step_small (described c.args.engine.now.desc) now.session c.args.name c.args.verb).high)) (step_exclusive (described c.args.engine.now.desc) now.session c.args.name c.args.verb may.exclusive))))
 
 pub returns-then-len-ge-WAITING_LINES-clause-lined : goal.returns-then-len-ge-WAITING_LINES-clause-lined
@@ -81,10 +81,10 @@ returns-then-len-ge-WAITING_LINES-clause-lined g c = λ now stands same line may
     let did = c.in_ok-answer.ensures.step now.session stands (may_step may) in
     let is = did.answers in
     let room' : (seen c.call.new.self).next + 1 < 2 ^ 64 = omega (arith, is.session.next, (step_small (described c.args.engine.now.desc) now.session c.args.name c.args.verb).high, may.room) in
-    let called = ran_calls _ _ o c.in_ok-answer.answer c.call.ensures.lasts.causes.tells c.call.ensures.lasts.causes.whole c.in_ok-answer.ensures.lasts.causes.cause c.call.ensures.mute (omega (arith, stands.next, is.session.next, step_numbers (described c.args.engine.now.desc) now.session c.args.name c.args.verb)) did in
+    let called = ran_calls _ _ c.args.verb o c.in_ok-answer.answer c.call.ensures.lasts.causes.tells c.call.ensures.lasts.causes.whole c.call.ensures.lasts.causes.desc c.in_ok-answer.ensures.costs c.in_ok-answer.ensures.idle c.in_ok-answer.ensures.lasts.causes.cause c.call.ensures.mute (omega (arith, stands.next, is.session.next, step_numbers (described c.args.engine.now.desc) now.session c.args.name c.args.verb)) did in
     let text = says_answer c.args.line now.line c.args.name c.in_ok-answer.answer.reply o.reply c.in_ok-answer.answer.sync o.sync (sym line) is.reply is.sync in
     let e = tried_waits (described c.args.engine.now.desc) now c.args.name c.args.verb o (ap is_waits (sym is.reply) ∙ sym c.is_waits.ensures ∙ c.if-not-is_waits.false) in
-    lined_as _ _ _ _ _ _ _ (sym e) (goes_full now o.session (first_line now.line c.args.name c.args.verb true) (calls o ∷ []) _ _ _ _ _ (omega (arith, ap length same, c.if-len-ge-WAITING_LINES.true, c.len.ensures, c.args.waiting.now.ok.0)) is.session (sym same) called)
+    lined_as _ _ _ _ _ _ _ (sym e) (goes_full now o.session (first_line now.line c.args.name c.args.verb true) (calls c.args.verb o ∷ []) _ _ _ _ _ (omega (arith, ap length same, c.if-len-ge-WAITING_LINES.true, c.len.ensures, c.args.waiting.now.ok.0)) is.session (sym same) called)
 
 pub returns-then-len-ge-WAITING_LINES-clause-part : goal.returns-then-len-ge-WAITING_LINES-clause-part
 returns-then-len-ge-WAITING_LINES-clause-part g c = λ now stands same line may.
@@ -92,7 +92,7 @@ returns-then-len-ge-WAITING_LINES-clause-part g c = λ now stands same line may.
     let did = c.in_ok-answer.ensures.step now.session stands (may_step may) in
     let is = did.answers in
     let room' : (seen c.call.new.self).next + 1 < 2 ^ 64 = omega (arith, is.session.next, (step_small (described c.args.engine.now.desc) now.session c.args.name c.args.verb).high, may.room) in
-    let called = ran_calls _ _ o c.in_ok-answer.answer c.call.ensures.lasts.causes.tells c.call.ensures.lasts.causes.whole c.in_ok-answer.ensures.lasts.causes.cause c.call.ensures.mute (omega (arith, stands.next, is.session.next, step_numbers (described c.args.engine.now.desc) now.session c.args.name c.args.verb)) did in
+    let called = ran_calls _ _ c.args.verb o c.in_ok-answer.answer c.call.ensures.lasts.causes.tells c.call.ensures.lasts.causes.whole c.call.ensures.lasts.causes.desc c.in_ok-answer.ensures.costs c.in_ok-answer.ensures.idle c.in_ok-answer.ensures.lasts.causes.cause c.call.ensures.mute (omega (arith, stands.next, is.session.next, step_numbers (described c.args.engine.now.desc) now.session c.args.name c.args.verb)) did in
     let text = says_answer c.args.line now.line c.args.name c.in_ok-answer.answer.reply o.reply c.in_ok-answer.answer.sync o.sync (sym line) is.reply is.sync in
     let e = tried_waits (described c.args.engine.now.desc) now c.args.name c.args.verb o (ap is_waits (sym is.reply) ∙ sym c.is_waits.ensures ∙ c.if-not-is_waits.false) in
     part_as _ _ _ _ (sym (ap (λ (l : LineEffect). l.events) e ∙ full_events now o.session _ _ _ (omega (arith, ap length same, c.if-len-ge-WAITING_LINES.true, c.len.ensures, c.args.waiting.now.ok.0)))) (part_all _ _ _ called)
@@ -103,11 +103,11 @@ returns-in_err-say_answer-2-clause-part g c = λ now stands same line may.
     let did = c.in_ok-answer.ensures.step now.session stands (may_step may) in
     let is = did.answers in
     let room' : (seen c.call.new.self).next + 1 < 2 ^ 64 = omega (arith, is.session.next, (step_small (described c.args.engine.now.desc) now.session c.args.name c.args.verb).high, may.room) in
-    let called = ran_calls _ _ o c.in_ok-answer.answer c.call.ensures.lasts.causes.tells c.call.ensures.lasts.causes.whole c.in_ok-answer.ensures.lasts.causes.cause c.call.ensures.mute (omega (arith, stands.next, is.session.next, step_numbers (described c.args.engine.now.desc) now.session c.args.name c.args.verb)) did in
+    let called = ran_calls _ _ c.args.verb o c.in_ok-answer.answer c.call.ensures.lasts.causes.tells c.call.ensures.lasts.causes.whole c.call.ensures.lasts.causes.desc c.in_ok-answer.ensures.costs c.in_ok-answer.ensures.idle c.in_ok-answer.ensures.lasts.causes.cause c.call.ensures.mute (omega (arith, stands.next, is.session.next, step_numbers (described c.args.engine.now.desc) now.session c.args.name c.args.verb)) did in
     let text = says_answer c.args.line now.line c.args.name c.in_ok-answer.answer.reply o.reply c.in_ok-answer.answer.sync o.sync (sym line) is.reply is.sync in
     let e = tried_waits (described c.args.engine.now.desc) now c.args.name c.args.verb o (ap is_waits (sym is.reply) ∙ sym c.is_waits.ensures ∙ c.if-not-is_waits.false) in
     let few : length now.waiting < 10000 = omega (arith, ap length same, c.if-len-ge-WAITING_LINES.false, c.len.ensures, c.args.waiting.now.ok.0) in
-    part_as _ _ _ _ (sym (ap (λ (l : LineEffect). l.events) e ∙ waiting_events now o.session _ _ _ few)) (part_on _ _ _ (calls o ∷ []) _ called (part_as _ _ _ _ text (part_cut _ _ _ (cut_as _ _ c.from_residual-in_err-say_answer-2.ensures.1) (c.in_err-say_answer-2.ensures.part room'))))
+    part_as _ _ _ _ (sym (ap (λ (l : LineEffect). l.events) e ∙ waiting_events now o.session _ _ _ few)) (part_on _ _ _ (calls c.args.verb o ∷ []) _ called (part_as _ _ _ _ text (part_cut _ _ _ (cut_as _ _ c.from_residual-in_err-say_answer-2.ensures.1) (c.in_err-say_answer-2.ensures.part room'))))
 
 pub returns-in_err-push-clause-part : goal.returns-in_err-push-clause-part
 returns-in_err-push-clause-part g c = λ now stands same line may.
@@ -115,11 +115,11 @@ returns-in_err-push-clause-part g c = λ now stands same line may.
     let did = c.in_ok-answer.ensures.step now.session stands (may_step may) in
     let is = did.answers in
     let room' : (seen c.call.new.self).next + 1 < 2 ^ 64 = omega (arith, is.session.next, (step_small (described c.args.engine.now.desc) now.session c.args.name c.args.verb).high, may.room) in
-    let called = ran_calls _ _ o c.in_ok-answer.answer c.call.ensures.lasts.causes.tells c.call.ensures.lasts.causes.whole c.in_ok-answer.ensures.lasts.causes.cause c.call.ensures.mute (omega (arith, stands.next, is.session.next, step_numbers (described c.args.engine.now.desc) now.session c.args.name c.args.verb)) did in
+    let called = ran_calls _ _ c.args.verb o c.in_ok-answer.answer c.call.ensures.lasts.causes.tells c.call.ensures.lasts.causes.whole c.call.ensures.lasts.causes.desc c.in_ok-answer.ensures.costs c.in_ok-answer.ensures.idle c.in_ok-answer.ensures.lasts.causes.cause c.call.ensures.mute (omega (arith, stands.next, is.session.next, step_numbers (described c.args.engine.now.desc) now.session c.args.name c.args.verb)) did in
     let text = says_answer c.args.line now.line c.args.name c.in_ok-answer.answer.reply o.reply c.in_ok-answer.answer.sync o.sync (sym line) is.reply is.sync in
     let e = tried_waits (described c.args.engine.now.desc) now c.args.name c.args.verb o (ap is_waits (sym is.reply) ∙ sym c.is_waits.ensures ∙ c.if-not-is_waits.false) in
     let few : length now.waiting < 10000 = omega (arith, ap length same, c.if-len-ge-WAITING_LINES.false, c.len.ensures, c.args.waiting.now.ok.0) in
-    part_as _ _ _ _ (sym (ap (λ (l : LineEffect). l.events) e ∙ waiting_events now o.session _ _ _ few)) (part_all _ _ _ (ran_on _ _ _ (calls o ∷ []) (says (answer_text now.line c.args.name o.reply o.sync) ∷ []) called (ran_as _ _ _ _ text (c.in_ok-say_answer-2.ensures.ran room'))))
+    part_as _ _ _ _ (sym (ap (λ (l : LineEffect). l.events) e ∙ waiting_events now o.session _ _ _ few)) (part_all _ _ _ (ran_on _ _ _ (calls c.args.verb o ∷ []) (says (answer_text now.line c.args.name o.reply o.sync) ∷ []) called (ran_as _ _ _ _ text (c.in_ok-say_answer-2.ensures.ran room'))))
 
 pub returns-clause-lined : goal.returns-clause-lined
 returns-clause-lined g c = λ now stands same line may.
@@ -127,12 +127,12 @@ returns-clause-lined g c = λ now stands same line may.
     let did = c.in_ok-answer.ensures.step now.session stands (may_step may) in
     let is = did.answers in
     let room' : (seen c.call.new.self).next + 1 < 2 ^ 64 = omega (arith, is.session.next, (step_small (described c.args.engine.now.desc) now.session c.args.name c.args.verb).high, may.room) in
-    let called = ran_calls _ _ o c.in_ok-answer.answer c.call.ensures.lasts.causes.tells c.call.ensures.lasts.causes.whole c.in_ok-answer.ensures.lasts.causes.cause c.call.ensures.mute (omega (arith, stands.next, is.session.next, step_numbers (described c.args.engine.now.desc) now.session c.args.name c.args.verb)) did in
+    let called = ran_calls _ _ c.args.verb o c.in_ok-answer.answer c.call.ensures.lasts.causes.tells c.call.ensures.lasts.causes.whole c.call.ensures.lasts.causes.desc c.in_ok-answer.ensures.costs c.in_ok-answer.ensures.idle c.in_ok-answer.ensures.lasts.causes.cause c.call.ensures.mute (omega (arith, stands.next, is.session.next, step_numbers (described c.args.engine.now.desc) now.session c.args.name c.args.verb)) did in
     let text = says_answer c.args.line now.line c.args.name c.in_ok-answer.answer.reply o.reply c.in_ok-answer.answer.sync o.sync (sym line) is.reply is.sync in
     let e = tried_waits (described c.args.engine.now.desc) now c.args.name c.args.verb o (ap is_waits (sym is.reply) ∙ sym c.is_waits.ensures ∙ c.if-not-is_waits.false) in
     let few : length now.waiting < 10000 = omega (arith, ap length same, c.if-len-ge-WAITING_LINES.false, c.len.ensures, c.args.waiting.now.ok.0) in
-    lined_as _ _ _ _ _ _ _ (sym e) (goes_waiting now o.session (first_line now.line c.args.name c.args.verb true) (calls o ∷ []) _ _ _ _ _ few (c.in_ok-say_answer-2.ensures.stands o.session is.session)
-    (c.in_ok-push.ensures.items ∙ ap (λ (n : ℕ). c.args.waiting.now.items ++ first_line n c.args.name c.args.verb true ∷ []) (sym line) ∙ ap (λ (l : List LineWaiting). l ++ first_line now.line c.args.name c.args.verb true ∷ []) (sym same)) (ran_on _ _ _ (calls o ∷ []) (says (answer_text now.line c.args.name o.reply o.sync) ∷ []) called (ran_as _ _ _ _ text (c.in_ok-say_answer-2.ensures.ran room'))))
+    lined_as _ _ _ _ _ _ _ (sym e) (goes_waiting now o.session (first_line now.line c.args.name c.args.verb true) (calls c.args.verb o ∷ []) _ _ _ _ _ few (c.in_ok-say_answer-2.ensures.stands o.session is.session)
+    (c.in_ok-push.ensures.items ∙ ap (λ (n : ℕ). c.args.waiting.now.items ++ first_line n c.args.name c.args.verb true ∷ []) (sym line) ∙ ap (λ (l : List LineWaiting). l ++ first_line now.line c.args.name c.args.verb true ∷ []) (sym same)) (ran_on _ _ _ (calls c.args.verb o ∷ []) (says (answer_text now.line c.args.name o.reply o.sync) ∷ []) called (ran_as _ _ _ _ text (c.in_ok-say_answer-2.ensures.ran room'))))
 
 pub returns-clause-part : goal.returns-clause-part
 returns-clause-part g c = λ now stands same line may.
@@ -140,8 +140,8 @@ returns-clause-part g c = λ now stands same line may.
     let did = c.in_ok-answer.ensures.step now.session stands (may_step may) in
     let is = did.answers in
     let room' : (seen c.call.new.self).next + 1 < 2 ^ 64 = omega (arith, is.session.next, (step_small (described c.args.engine.now.desc) now.session c.args.name c.args.verb).high, may.room) in
-    let called = ran_calls _ _ o c.in_ok-answer.answer c.call.ensures.lasts.causes.tells c.call.ensures.lasts.causes.whole c.in_ok-answer.ensures.lasts.causes.cause c.call.ensures.mute (omega (arith, stands.next, is.session.next, step_numbers (described c.args.engine.now.desc) now.session c.args.name c.args.verb)) did in
+    let called = ran_calls _ _ c.args.verb o c.in_ok-answer.answer c.call.ensures.lasts.causes.tells c.call.ensures.lasts.causes.whole c.call.ensures.lasts.causes.desc c.in_ok-answer.ensures.costs c.in_ok-answer.ensures.idle c.in_ok-answer.ensures.lasts.causes.cause c.call.ensures.mute (omega (arith, stands.next, is.session.next, step_numbers (described c.args.engine.now.desc) now.session c.args.name c.args.verb)) did in
     let text = says_answer c.args.line now.line c.args.name c.in_ok-answer.answer.reply o.reply c.in_ok-answer.answer.sync o.sync (sym line) is.reply is.sync in
     let e = tried_waits (described c.args.engine.now.desc) now c.args.name c.args.verb o (ap is_waits (sym is.reply) ∙ sym c.is_waits.ensures ∙ c.if-not-is_waits.false) in
     let few : length now.waiting < 10000 = omega (arith, ap length same, c.if-len-ge-WAITING_LINES.false, c.len.ensures, c.args.waiting.now.ok.0) in
-    part_as _ _ _ _ (sym (ap (λ (l : LineEffect). l.events) e ∙ waiting_events now o.session _ _ _ few)) (part_all _ _ _ (ran_on _ _ _ (calls o ∷ []) (says (answer_text now.line c.args.name o.reply o.sync) ∷ []) called (ran_as _ _ _ _ text (c.in_ok-say_answer-2.ensures.ran room'))))
+    part_as _ _ _ _ (sym (ap (λ (l : LineEffect). l.events) e ∙ waiting_events now o.session _ _ _ few)) (part_all _ _ _ (ran_on _ _ _ (calls c.args.verb o ∷ []) (says (answer_text now.line c.args.name o.reply o.sync) ∷ []) called (ran_as _ _ _ _ text (c.in_ok-say_answer-2.ensures.ran room'))))

@@ -12,7 +12,7 @@ use Rattle.dms_runner.proofs.saying.try_line.Goals as goal
 pub returns-in_err-answer-clause-part : goal.returns-in_err-answer-clause-part
 returns-in_err-answer-clause-part g c = λ s stands may.
     let o = step (described c.args.engine.now.desc) s c.args.waiting.now.program c.args.waiting.now.verb in
-    part_of_first _ _ (calls o ∷ []) _ (part_calls _ _ _ o c.call.ensures.lasts.causes.cause c.call.ensures.mute (c.call.ensures.step s stands may))
+    part_of_first _ _ (calls c.args.waiting.now.verb o ∷ []) _ (part_calls _ _ _ c.args.waiting.now.verb o c.call.ensures.costs c.call.ensures.lasts.causes.cause c.call.ensures.mute (c.call.ensures.step s stands may))
 
 pub returns-in_err-say_tried-clause-part : goal.returns-in_err-say_tried-clause-part
 returns-in_err-say_tried-clause-part g c = λ s stands may.
@@ -20,8 +20,8 @@ returns-in_err-say_tried-clause-part g c = λ s stands may.
     let did = c.in_ok-answer.ensures.step s stands may in
     let is = did.answers in
     let room' : (seen c.call.new.self).next + 1 < 2 ^ 64 = omega (arith, is.session.next, (step_small (described c.args.engine.now.desc) s c.args.waiting.now.program c.args.waiting.now.verb).high, may.room) in
-    let called = ran_calls _ _ o c.in_ok-answer.answer c.call.ensures.lasts.causes.tells c.call.ensures.lasts.causes.whole c.in_ok-answer.ensures.lasts.causes.cause c.call.ensures.mute (omega (arith, stands.next, is.session.next, step_numbers (described c.args.engine.now.desc) s c.args.waiting.now.program c.args.waiting.now.verb)) did in
-    part_on _ _ _ (calls o ∷ []) _ called (part_as _ _ _ _ (says_tried c.args.waiting.now o _ _ is.reply is.sync) (part_cut _ _ _ (cut_as _ _ c.from_residual-in_err-say_tried.ensures.1) (c.in_err-say_tried.ensures.part room')))
+    let called = ran_calls _ _ c.args.waiting.now.verb o c.in_ok-answer.answer c.call.ensures.lasts.causes.tells c.call.ensures.lasts.causes.whole c.call.ensures.lasts.causes.desc c.in_ok-answer.ensures.costs c.in_ok-answer.ensures.idle c.in_ok-answer.ensures.lasts.causes.cause c.call.ensures.mute (omega (arith, stands.next, is.session.next, step_numbers (described c.args.engine.now.desc) s c.args.waiting.now.program c.args.waiting.now.verb)) did in
+    part_on _ _ _ (calls c.args.waiting.now.verb o ∷ []) _ called (part_as _ _ _ _ (says_tried c.args.waiting.now o _ _ is.reply is.sync) (part_cut _ _ _ (cut_as _ _ c.from_residual-in_err-say_tried.ensures.1) (c.in_err-say_tried.ensures.part room')))
 
 pub returns-clause-tried : goal.returns-clause-tried
 returns-clause-tried g c = λ s stands may.
@@ -29,11 +29,11 @@ returns-clause-tried g c = λ s stands may.
     let did = c.in_ok-answer.ensures.step s stands may in
     let is = did.answers in
     let room' : (seen c.call.new.self).next + 1 < 2 ^ 64 = omega (arith, is.session.next, (step_small (described c.args.engine.now.desc) s c.args.waiting.now.program c.args.waiting.now.verb).high, may.room) in
-    let called = ran_calls _ _ o c.in_ok-answer.answer c.call.ensures.lasts.causes.tells c.call.ensures.lasts.causes.whole c.in_ok-answer.ensures.lasts.causes.cause c.call.ensures.mute (omega (arith, stands.next, is.session.next, step_numbers (described c.args.engine.now.desc) s c.args.waiting.now.program c.args.waiting.now.verb)) did in
+    let called = ran_calls _ _ c.args.waiting.now.verb o c.in_ok-answer.answer c.call.ensures.lasts.causes.tells c.call.ensures.lasts.causes.whole c.call.ensures.lasts.causes.desc c.in_ok-answer.ensures.costs c.in_ok-answer.ensures.idle c.in_ok-answer.ensures.lasts.causes.cause c.call.ensures.mute (omega (arith, stands.next, is.session.next, step_numbers (described c.args.engine.now.desc) s c.args.waiting.now.program c.args.waiting.now.verb)) did in
     record {
       answers = ap not (c.is_waits.ensures ∙ ap (λ (r : Reply). is_waits r) is.reply);
       session = c.in_ok-say_tried.ensures.stands o.session is.session;
-      ran = ran_on _ _ _ (calls o ∷ []) _ called (ran_as _ _ _ _ (says_tried c.args.waiting.now o _ _ is.reply is.sync) (c.in_ok-say_tried.ensures.ran room'));
+      ran = ran_on _ _ _ (calls c.args.waiting.now.verb o ∷ []) _ called (ran_as _ _ _ _ (says_tried c.args.waiting.now o _ _ is.reply is.sync) (c.in_ok-say_tried.ensures.ran room'));
     }
 
 pub returns-clause-part : goal.returns-clause-part
@@ -42,5 +42,5 @@ returns-clause-part g c = λ s stands may.
     let did = c.in_ok-answer.ensures.step s stands may in
     let is = did.answers in
     let room' : (seen c.call.new.self).next + 1 < 2 ^ 64 = omega (arith, is.session.next, (step_small (described c.args.engine.now.desc) s c.args.waiting.now.program c.args.waiting.now.verb).high, may.room) in
-    let called = ran_calls _ _ o c.in_ok-answer.answer c.call.ensures.lasts.causes.tells c.call.ensures.lasts.causes.whole c.in_ok-answer.ensures.lasts.causes.cause c.call.ensures.mute (omega (arith, stands.next, is.session.next, step_numbers (described c.args.engine.now.desc) s c.args.waiting.now.program c.args.waiting.now.verb)) did in
-    part_on _ _ _ (calls o ∷ []) _ called (part_as _ _ _ _ (says_tried c.args.waiting.now o _ _ is.reply is.sync) (c.in_ok-say_tried.ensures.part room'))
+    let called = ran_calls _ _ c.args.waiting.now.verb o c.in_ok-answer.answer c.call.ensures.lasts.causes.tells c.call.ensures.lasts.causes.whole c.call.ensures.lasts.causes.desc c.in_ok-answer.ensures.costs c.in_ok-answer.ensures.idle c.in_ok-answer.ensures.lasts.causes.cause c.call.ensures.mute (omega (arith, stands.next, is.session.next, step_numbers (described c.args.engine.now.desc) s c.args.waiting.now.program c.args.waiting.now.verb)) did in
+    part_on _ _ _ (calls c.args.waiting.now.verb o ∷ []) _ called (part_as _ _ _ _ (says_tried c.args.waiting.now o _ _ is.reply is.sync) (c.in_ok-say_tried.ensures.part room'))
