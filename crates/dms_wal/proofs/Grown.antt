@@ -4,6 +4,7 @@ use Rattle.std.specs.Prelude.{if◌then◌else◌, IfErr, IsErrOf, OnOk}
 use Rattle.std.specs.declared.result.Result.{Result}
 use Rattle.std.specs.declared.result.Result.TheVariants.{Ok, Err}
 use Rattle.dms_site.specs.declared.site.Site.{Ghosts}
+use Rattle.dms_site.specs.Files.{Files}
 use Rattle.dms_audfile.specs.Counting.{CountedAt}
 use Rattle.dms_audfile.specs.declared.fault.AudFault.{AudFault}
 use Rattle.dms_audfile.specs.declared.fault.AudFault.TheVariants as audit
@@ -14,7 +15,7 @@ use Rattle.dms_block.specs.Held.{Caused, HasCauses, Held, one_more}
 use Rattle.dms_history.specs.Entries.{Entry, schema_part, image, byte_range, quiet_point, control_point, begin_restore, by_back_out}
 use Rattle.dms_history.specs.Schemas.{schema_entries}
 use Rattle.dms_audrec.specs.Bodies.{bodies, part_count}
-use Rattle.dms_restore.specs.Logging.{LogView, LogsPart, LogsQuiet, entries}
+use Rattle.dms_restore.specs.Logging.{LogView, LogsPart, LogsQuiet, entries, telling, waits}
 use Rattle.dms_audrec.specs.Reading.{counts_at}
 use Rattle.dms_restore.specs.BackOuts.{back_entries, IsBackFault, SealedAlone, WentBackTo}
 use Rattle.dms_restore.proofs.Laid.{bodies_many, parts_length}
@@ -23,8 +24,8 @@ use Rattle.dms_wal.specs.Changing.{LogsChanges}
 use Rattle.dms_wal.specs.Controls.{is_due_at}
 use Rattle.dms_restore.specs.Views.{view_of}
 use Rattle.dms_wal.specs.Database.{held}
-use Rattle.dms_wal.specs.Faults.{IsSeenAs}
-use Rattle.dms_wal.specs.Growing.{others, controls_among, paid, GrowsBy, HasStayed, IsCounted, LogsAtMost}
+use Rattle.dms_wal.specs.Faults.{IsSeenAs, IsSeenInBack}
+use Rattle.dms_wal.specs.Growing.{others, controls_among, paid, FilesGrew, GivesGrown, GrowsBy, HasStayed, IsCounted, LogsAtMost}
 use Rattle.dms_wal.proofs.Logged.{logs_many}
 
 -- ---- entries that are no quiet points
@@ -128,6 +129,12 @@ pub kept_unless : {P : Type 0} (f : AudFault) (limit before now : ℕ) → (f �
 kept_unless f limit before now (inl at) counted kept stayed = absurd (rose_not before now (counted.failed (λ i. Err (at i))) stayed)
 kept_unless f limit before now (inr at) counted kept stayed = kept (λ i. Err (at i))
 
+pub which_error : {T E : Type 0} (fault e : E) → IsErrOf {T = T} (Err fault) e → fault ≡ e
+which_error fault e is = cc
+
+pub ok_never : {T : Type 0} {x : T} {e : BlockFault} → IsErrOf (Ok x) e → ⊥
+ok_never is = cc
+
 -- ---- syncs
 
 -- one more sync that is counted
@@ -214,3 +221,33 @@ pub change_more : {S : Type 0} (g : Ghosts S) (a b : Running S) (x : Change) →
 change_more g a b x logs tells =
     let l = logs tells in
     omega (arith, ap (λ (es : List Entry). others es) l.entries_are, others_on (entries (view_of g a.log)) l.images, others_few l.images, logs_many (view_of g a.log) (view_of g b.log) (x ∷ []) l)
+
+-- ---- files that are given back
+
+-- what files hold is all or a part of it
+pub files_few : (n : ℕ) (v a w : LogView) → entries a ≡ entries v → telling w ≡ telling v → LogsAtMost n a w → (files : Files) → files ≡ w.files → FilesGrew n v files
+files_few n v a w same kind l files is =
+    let part : others ((telling w).entries w.files) ≤ others (entries w) = omega (arith, others_on ((telling w).entries w.files) (waits w.end)) in
+    let here : others ((telling v).entries files) ≡ others ((telling w).entries w.files) = λ i. others ((sym kind i).entries (is i)) in
+    omega (arith, part, here, others_more n a w l, ap (λ (es : List Entry). others es) same)
+
+pub files_more : (m n : ℕ) (v : LogView) (files : Files) → m ≤ n → FilesGrew m v files → FilesGrew n v files
+files_more m n v files le few = omega (arith, le, few)
+
+pub gives_more : {S : Type 0} (g : Ghosts S) (m n : ℕ) (v : LogView) (r : Result S (BlockFault × S)) → m ≤ n → GivesGrown g m v r → GivesGrown g n v r
+gives_more g m n v (Ok s) le few = λ tells. files_more m n v (g.files s) le (few tells)
+gives_more g m n v (Err e) le few = λ off tells. files_more m n v (g.files e.1) le (few off tells)
+
+-- behind so many entries
+files_on : (m n : ℕ) (v w : LogView) (files : Files) → telling w ≡ telling v → LogsAtMost m v w → FilesGrew n w files → FilesGrew (m + n) v files
+files_on m n v w files kind l few =
+    let here : others ((telling v).entries files) ≡ others ((telling w).entries files) = λ i. others ((sym kind i).entries files) in
+    omega (arith, here, few, others_more m v w l)
+
+pub gives_on : {S : Type 0} (g : Ghosts S) (m n : ℕ) (v w : LogView) (r : Result S (BlockFault × S)) → telling w ≡ telling v → (IsTrue g.tells → LogsAtMost m v w) → GivesGrown g n w r → GivesGrown g (m + n) v r
+gives_on g m n v w (Ok s) kind l few = λ tells. files_on m n v w (g.files s) kind (l tells) (few tells)
+gives_on g m n v w (Err e) kind l few = λ off tells. files_on m n v w (g.files e.1) kind (l tells) (few off tells)
+
+-- a back-out that wasn't refused by the disk
+pub back_disk : {T U : Type 0} (f : AudFault) (e : BlockFault) (old new : ℕ) → IsSeenInBack f e old new → IsErrOf {T = T} (Err f) audit.Disk → IsErrOf {T = U} (Err e) Disk
+back_disk f e old new seen is = λ i. Err ((subst (λ (x : AudFault). IsSeenInBack x e old new) (which_error f audit.Disk is) seen).0 i)

@@ -1,8 +1,13 @@
 -- How the audit of a running database grows with what the database is used for.
 use Rattle.std.specs.Prelude.{ℕ, zero, suc, ◌+◌, ◌-◌, ◌*◌, ◌^◌, ◌<◌, ◌≤◌, ◌≡◌, Bool, true, false, IsTrue, if◌then◌else◌, List, [], ◌∷◌, ◌++◌, length}
+use Rattle.std.specs.declared.result.Result.{Result}
+use Rattle.std.specs.declared.result.Result.TheVariants.{Ok, Err}
 use Rattle.dms_site.specs.declared.site.Site.{Ghosts}
+use Rattle.dms_site.specs.Files.{Files}
+use Rattle.dms_block.specs.declared.block_fault.BlockFault.{BlockFault}
+use Rattle.dms_block.specs.declared.block_fault.BlockFault.TheVariants.{Disk}
 use Rattle.dms_history.specs.Entries.{Entry, schema_part, image, byte_range, quiet_point, control_point, begin_restore}
-use Rattle.dms_restore.specs.Logging.{LogView, entries}
+use Rattle.dms_restore.specs.Logging.{LogView, entries, telling}
 use Rattle.dms_wal.specs.declared.running.Running.{Running}
 use Rattle.dms_wal.specs.Controls.{is_due_at}
 use Rattle.dms_restore.specs.Views.{view_of}
@@ -57,3 +62,12 @@ pub record GrowsBy {S : Type 0} (g : Ghosts S) (a b : Running S) : Type 0 where
   pub disk : g.disk_faults a.log.site ≤ g.disk_faults b.log.site
   pub grows : IsTrue g.tells → HasStayed (g.disk_faults a.log.site) (g.disk_faults b.log.site) → IsCounted b
       → others (entries (view_of g b.log)) + paid a ≤ others (entries (view_of g a.log)) + paid b
+
+-- Files hold at most so many entries more than a log has, quiet points apart.
+abbrev pub FilesGrew : ℕ → LogView → Files → Type 0
+FilesGrew n v files = others ((telling v).entries files) ≤ others (entries v) + n
+
+-- So it is of the site that a call gives back, unless a call of the disk failed.
+abbrev pub GivesGrown : {S : Type 0} → Ghosts S → ℕ → LogView → Result S (BlockFault × S) → Type 0
+GivesGrown g n v (Ok s) = IsTrue g.tells → FilesGrew n v (g.files s)
+GivesGrown g n v (Err e) = (e.0 ≡ Disk → ⊥) → IsTrue g.tells → FilesGrew n v (g.files e.1)

@@ -101,6 +101,7 @@ impl<S: Site> Running<S> {
         ensures causes { HasCauses result (held S.Site self.old) (held S.Site self.new) }
         ensures silent { IsErrOf result BlockFault.Say → ⊥ }
         ensures broken { IfErr result (λ e. self.new.broken ≡ true) }
+        ensures few { (IsErrOf result BlockFault.Disk → ⊥) → IsTrue S.tells → LogsAtMost 19 (view_of S.Site self.old.log) (view_of S.Site self.new.log) }
         ensures grows { GrowsBy S.Site self.old self.new }
         ensures same { S.same_site self.old.log.site self.new.log.site }
     {

@@ -71,7 +71,7 @@ impl<S: Site> Running<S> {
         requires frames { 0 < frames }
         requires table { AreCounts start.counts.items }
         ensures usable { IfOk result (λ r. IsInBounds start → (IsTrue S.tells → StartsFrom (view_of S.Site log) start) → IsUsable S.Site r) }
-        ensures every { IfOk result (λ r. (r.every ≡ start.every) × (r.changed ≡ start.changed) × (r.syncs ≡ 0)) }
+        ensures every { IfOk result (λ r. (r.every ≡ start.every) × (r.changed ≡ start.changed) × (r.syncs ≡ 0) × (r.spent ≡ 0) × (r.outs ≡ 0)) }
         ensures kept { IfOk result (λ r. (r.schema ≡ start.schema) × (r.counts ≡ start.counts) × (r.marks ≡ start.marks) × (r.next ≡ start.next) × (r.point ≡ start.point)) }
         ensures log { IfOk result (λ r. r.log ≡ log) }
         ensures log_back { IfErr result (λ e. e.1 ≡ log) }

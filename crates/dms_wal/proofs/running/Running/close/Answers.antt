@@ -1,9 +1,10 @@
-use Rattle.std.proofs.Common.{◌≡◌, sym, ◌∙◌, ap, subst}
+use Rattle.std.proofs.Common.{◌≡◌, refl, sym, ◌∙◌, ap, subst, arith}
 use Rattle.std.specs.declared.result.Result.TheVariants.{Err}
 use Rattle.dms_block.specs.declared.block_fault.BlockFault.TheVariants.{Disk}
 use Rattle.dms_block.specs.Counts.{Faults}
 use Rattle.dms_audfile.specs.Counting.{CountedAt}
 use Rattle.dms_restore.proofs.Results.{one_if_ok, one_if_err}
+use Rattle.dms_wal.proofs.Grown.{files_few, files_more, gives_more, gives_on, ok_never, which_error}
 use Rattle.dms_wal.specs.Closing.{IsFullTrail, LeavesUntil, entries_control}
 use Rattle.dms_wal.specs.Database.{held}
 use Rattle.dms_restore.specs.Logging.{telling}
@@ -90,3 +91,16 @@ returns-in-Err-clause-say_faults g c =
 
 pub returns-in-Err-clause-said_then : goal.returns-in-Err-clause-said_then
 returns-in-Err-clause-said_then g c told = ap g.S.Site.said c.into_site.ensures ∙ said_told g.S.Site.tells_said _ _ c.back_out.ensures.passes.said told
+
+pub returns-then-not-self-clause-few : goal.returns-then-not-self-clause-few
+returns-then-not-self-clause-few g c = gives_more g.S.Site 18 37 (view_of g.S.Site c.args.self.log) c.close_by_control.result (omega arith) c.close_by_control.ensures.few
+
+pub returns-in-Ok-clause-few : goal.returns-in-Ok-clause-few
+returns-in-Ok-clause-few g c =
+    gives_on g.S.Site 19 18 (view_of g.S.Site c.args.self.log) (view_of g.S.Site c.back_out.new.self.log) c.close_by_control-in-Ok.result (pace_kind c.back_out.ensures.pace) (λ tells. c.in-Ok.ensures.few ok_never tells) c.close_by_control-in-Ok.ensures.few
+
+pub returns-in-Err-clause-few : goal.returns-in-Err-clause-few
+returns-in-Err-clause-few g c off tells =
+    let v = view_of g.S.Site c.args.self.log in
+    files_more 19 37 v (g.S.Site.files c.into_site.result) (omega arith)
+    (files_few 19 v v (view_of g.S.Site c.back_out.new.self.log) refl (pace_kind c.back_out.ensures.pace) (c.in-Err.ensures.few (λ is. off (which_error c.in-Err.fault Disk is)) tells) (g.S.Site.files c.into_site.result) (ap g.S.Site.files c.into_site.ensures))
