@@ -80,5 +80,11 @@ module _ {S : Type 0} (g : Ghosts S) where
       ran_instead _ _ _ _ _ _ _ (seen_site g o.log.site) (seen_site g x) (seen_site g y) left' s then unsaid undone (runs_looking (counts x) steps) (said_seen g x y said) (ran told knows st n db all state room is)
 
   pub command_instead : (state : Option DatabaseState) (old x : S) (left left' : Option (List ℕ)) (s then : Status) → (s ≡ SayFault → ⊥) → IsUndone then → RunsCommand g state old x left left' s → RunsCommand g state old x left left' then
-  command_instead state old x left left' s then unsaid undone ran told d is h room all held =
-      ran_instead _ _ _ _ _ _ _ (seen_site g old) (seen_site g x) (seen_site g x) left' s then unsaid undone (runs_none _ _) refl (ran told d is h room all held)
+  command_instead state old x left left' s then unsaid undone ran told d is next has room all held =
+      let r = ran told d is next has room all held in
+      record {
+        total = r.total;
+        first = r.first;
+        trail = r.trail;
+        runs = ran_instead _ _ _ _ _ _ _ (seen_site g old) (seen_site g x) (seen_site g x) left' s then unsaid undone (runs_none _ _) refl r.runs;
+      }
