@@ -1,6 +1,5 @@
 -- The failures of a site that was guarded.
-use Rattle.std.proofs.Common.{ℕ, ◌≡◌, ◌+◌, ◌<◌, ◌≤◌, ◌⊎◌, inl, inr, refl, subst, arith}
-use Rattle.dms_base.specs.Causes.{Rose}
+use Rattle.std.proofs.Common.{ℕ, ◌≡◌, ◌+◌, ◌<◌, ◌≤◌, ◌⊎◌, inl, inr, refl, arith}
 use Rattle.dms_audfile.specs.Counting.{CountedAt}
 use Rattle.dms_status.specs.declared.status.Status.{Status}
 use Rattle.dms_status.specs.declared.status.Status.TheVariants.{Ok, BadWords, SchemaRefused, NoDatabase, Needed, InputFault, Memory, Limit, Damaged, SayFault, DiskFault, Exists}
@@ -19,19 +18,10 @@ is_disk SayFault = inr (λ is. absurd cc)
 is_disk DiskFault = inl refl
 is_disk Exists = inr (λ is. absurd cc)
 
--- a call was refused: so the status is 5, and no other call failed
-pub refused_counts : (s : Status) (a b refused : ℕ) → a ≤ b → 0 < refused → CountedAt (s ≡ DiskFault) a (b + refused) → (s ≡ DiskFault) × (b ≡ a)
+-- A call was refused, and none before the run: so the status is 5, and no other call failed
+pub refused_counts : (s : Status) (a b refused : ℕ) → a ≤ b → 0 < refused → CountedAt (s ≡ DiskFault) (a + 0) (b + refused) → (s ≡ DiskFault) × (b ≡ a)
 refused_counts s a b refused later some c = by (is_disk s)
   where
     by : (s ≡ DiskFault) ⊎ (s ≡ DiskFault → ⊥) → (s ≡ DiskFault) × (b ≡ a)
     by (inl is) = (is, omega (arith, later, some, c.once))
     by (inr not) = absurd (omega (arith, later, some, c.clean not))
-
--- none was
-pub unrefused_counts : (P : Type 0) (a b refused : ℕ) → refused ≡ 0 → CountedAt P a (b + refused) → CountedAt P a b
-unrefused_counts P a b refused none c = record {
-  later = omega (arith, none, c.later);
-  failed = λ p. let f = c.failed p in let e : b + refused ≡ b = omega (arith, none) in subst (λ (n : ℕ). Rose a n) e f;
-  once = omega (arith, none, c.once);
-  clean = λ not. omega (arith, none, c.clean not);
-}
