@@ -1,5 +1,5 @@
 -- A stop behind the last event of a run lies within it.
-use Rattle.std.proofs.Common.{ℕ, ◌≡◌, ◌≤◌, ◌+◌, ◌∙◌, List, [], ◌∷◌, ◌++◌, length, take, Some, refl, sym, ap, subst, arith}
+use Rattle.std.proofs.Common.{ℕ, ◌≡◌, ◌≤◌, ◌+◌, ◌∙◌, List, [], ◌∷◌, ◌++◌, length, refl, sym, ap, subst, arith}
 use Rattle.std.specs.Prelude.{OnOk}
 use Rattle.std.specs.declared.option.Option.{Option}
 use Rattle.std.specs.declared.result.Result.{Result}
@@ -9,9 +9,9 @@ use Rattle.dms_desc.specs.Shape.{Described, described}
 use Rattle.dms_feed.specs.Lines.{raw_lines}
 use Rattle.dms_model.specs.Db.{Db}
 use Rattle.dms_model.specs.declared.store.Store.{Ghosts}
-use Rattle.dms_model.specs.Points.{Point, Quiet, Stop, LeavesPrefix, TextIs}
+use Rattle.dms_model.specs.Points.{Quiet, Stop, LeavesPrefix, TextIs}
 use Rattle.dms_model.specs.Seen.{Seen}
-use Rattle.dms_runner.specs.Answers.{script_run, script_events, unanswered_events, end_events}
+use Rattle.dms_runner.specs.Answers.{script_run, script_events, unanswered_events}
 use Rattle.dms_runner.specs.Events.{RunEvent, goes_back, text_of, quiets_of, durable_after, CrashesWithin, Performs}
 use Rattle.dms_runner.specs.Running.{AnswersWhole}
 use Rattle.dms_runner.specs.Starting.{AtStart}
@@ -20,7 +20,6 @@ use Rattle.dms_storeverbs.specs.declared.engine.Engine.{Engine}
 use Rattle.dms_storeverbs.specs.View.{PointsGrow, seen}
 use Rattle.dms_run.specs.Starting.{OfScript}
 use Rattle.dms_run.specs.States.{EndsWith}
-use Rattle.dms_run.specs.Stops.{RunLeaves}
 use Rattle.dms_run.specs.Ending.{EndsLeave, KeepsLimits}
 use Rattle.dms_run.proofs.Leaving.{stop_leaves}
 

@@ -30,7 +30,7 @@ use Rattle.dms_run.specs.States.{LivesEndWith, HasState, HasLive, told_live}
 use Rattle.dms_run.specs.Stops.{RunLeaves}
 use Rattle.dms_run.specs.Files.{points_seen, stop_seen, RunLeavesFiles, FilesLaw, FilesLeft}
 use Rattle.dms_run.proofs.Leaving.{stop_leaves}
-use Rattle.dms_run.proofs.Words.{as_bytes, blocks_seen, blocks_are, lives_seen, lives_are, point_spells}
+use Rattle.dms_run.proofs.Words.{blocks_seen, blocks_are, lives_seen, lives_are, point_spells}
 
 -- a live point as a store sees it, and back
 abbrev shown : Described → DescribedPoint → Point

@@ -26,7 +26,6 @@ use Rattle.dms_store.specs.Spelled.{spelled}
 use Rattle.dms_audfile.specs.TrailEntries.{trail_entries}
 use Rattle.dms_restore.specs.Dumped.{dumps_of}
 use Rattle.dms_restore.specs.Logging.{telling_of}
-use Rattle.dms_run.specs.States.{LivesEndWith}
 use Rattle.dms_run.specs.State.{StateAt}
 use Rattle.dms_run.specs.Files.{StandsLaw}
 

@@ -1,8 +1,6 @@
 -- Files that stand for a state hold a database.
-use Rattle.std.proofs.Common.{ℕ, ◌<◌, ◌≤◌, ◌≡◌, ◌==◌, ◌||◌, inl, inr, Bool, true, false, List, [], ◌∷◌, ◌++◌, map, length, Some, refl, sym, ◌∙◌, ap, subst, arith}
+use Rattle.std.proofs.Common.{ℕ, ◌≤◌, ◌≡◌, ◌==◌, inl, inr, Bool, true, false, List, ◌++◌, map, length, Some, refl, sym, ◌∙◌, ap, subst, arith}
 use Rattle.std.proofs.lemmas.Bool.{cases_lt}
-use Rattle.std.proofs.lemmas.Bool.Decides.{nat_tests}
-use Rattle.std.proofs.lemmas.List.{map-append}
 use Rattle.dms_desc.specs.Shape.{Described}
 use Rattle.dms_desc_bytes.specs.Spelling.{spelling}
 use Rattle.dms_site.specs.Files.{Files, stored_of}
@@ -10,12 +8,11 @@ use Rattle.dms_model.specs.Db.{Db}
 use Rattle.dms_store.specs.Spelled.{is_spelled, db_in, some_if, spelled}
 use Rattle.dms_store.specs.Files.{whole_at}
 use Rattle.dms_history.specs.Events.{Content, Stored, Event}
-use Rattle.dms_history.specs.Lists.{has, until_first, after_first}
+use Rattle.dms_history.specs.Lists.{until_first, after_first}
 use Rattle.dms_history.specs.Places.{is_described, is_point, IsLive}
 use Rattle.dms_history.specs.History.{last_point}
 use Rattle.dms_history.specs.Here.{here}
 use Rattle.dms_history.specs.Pick.{count_at, pick, blocks_at}
-use Rattle.dms_history.specs.Points.{LivePoint, live_points, numbers_of, HasPoint, AllLive, Rises, ListsPoints}
 use Rattle.dms_history.specs.Replay.{Chain, replay}
 use Rattle.dms_history.specs.Base.{opening, from_control}
 use Rattle.dms_history.specs.Kept.{content_told, Kept}
@@ -29,7 +26,6 @@ use Rattle.dms_history.proofs.Base.{parts, content_length}
 use Rattle.dms_history.proofs.Given.{at_point, live_from}
 use Rattle.dms_history.proofs.HalfDone.{has_front}
 use Rattle.dms_history.proofs.LastPending.{pending_cuts}
-use Rattle.dms_history.proofs.Listed.{points_listed}
 use Rattle.dms_history.proofs.Order.{last_lives}
 use Rattle.dms_history.proofs.Picks.{chain_split, some_is}
 use Rattle.dms_history.proofs.Sizing.{sized_base, sized_replay}
@@ -41,7 +37,7 @@ use Rattle.dms_audfile.proofs.Kept.{found_is_kept}
 use Rattle.dms_audfile.proofs.There.{entries_are_there}
 use Rattle.dms_running.specs.FromDumps.{NoDumpPending}
 use Rattle.dms_running.specs.Standing.{IsWhole}
-use Rattle.dms_running.specs.Points.{schema_bytes, described_in, points_of}
+use Rattle.dms_running.specs.Points.{points_of}
 use Rattle.dms_running.proofs.Wholes.{agrees_whole}
 use Rattle.dms_restore.specs.Dumped.{dumps_of}
 use Rattle.dms_restore.specs.Finding.{IsFoundFrom}

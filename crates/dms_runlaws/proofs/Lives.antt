@@ -18,14 +18,14 @@ use Rattle.dms_history.specs.EntryEvents.{history_of, live_of, next_of}
 use Rattle.dms_history.specs.SchemaAt.{schema_at}
 use Rattle.dms_history.proofs.Listed.{points_listed}
 use Rattle.dms_audfile.specs.ScanLaws.{IsFoundWith}
-use Rattle.dms_audfile.specs.Scanning.{Placed, entry_in, found}
+use Rattle.dms_audfile.specs.Scanning.{entry_in, found}
 use Rattle.dms_audfile.specs.TrailEntries.{trail_entries}
 use Rattle.dms_audfile.proofs.There.{is_one_trail}
 use Rattle.dms_running.specs.Standing.{IsWhole}
-use Rattle.dms_running.specs.Points.{schema_bytes, described_in, points_of, next_in}
+use Rattle.dms_running.specs.Points.{schema_bytes, described_in, points_of}
 use Rattle.dms_restore.specs.Dumped.{dumps_of}
 use Rattle.dms_restore.specs.Logging.{telling_of}
-use Rattle.dms_run.specs.State.{StateAt, HasNext}
+use Rattle.dms_run.specs.State.{StateAt}
 use Rattle.dms_run.specs.States.{LivesEndWith, HasLive}
 use Rattle.dms_runlaws.specs.Held.{NextIsOne}
 
