@@ -4,7 +4,7 @@ use Rattle.std.specs.Prelude.{IsErrOf}
 use Rattle.std.specs.declared.result.Result.TheVariants.{Err}
 use Rattle.dms_audfile.specs.Counting.{CountedAt}
 use Rattle.dms_audfile.specs.declared.fault.AudFault.{AudFault}
-use Rattle.dms_audfile.specs.declared.fault.AudFault.TheVariants.{Disk, Memory}
+use Rattle.dms_audfile.specs.declared.fault.AudFault.TheVariants.{Disk, Full, Memory}
 use Rattle.dms_opening.specs.declared.choosing.OpenFault.TheVariants.{Audit}
 use Rattle.dms_opening.specs.Plans.{IsPlainFault}
 
@@ -25,3 +25,6 @@ counted_audit fault before now c = record {
 
 pub plain_audit : (fault : AudFault) → (fault ≡ Disk) ⊎ (fault ≡ Memory) → IsPlainFault (Audit fault)
 plain_audit fault is = elim is [ inl disk ↦ inl (λ i. Audit (disk i)) | inr memory ↦ inr (λ i. Audit (memory i)) ]
+
+pub disk_no_full : {k : ℕ} {e : AudFault} → e ≡ Disk → e ≡ Full k → ⊥
+disk_no_full one two = absurd cc

@@ -21,3 +21,4 @@ pub mod Refused
 pub mod Started
 pub mod Standing
 pub mod Rooms
+pub mod Sealings

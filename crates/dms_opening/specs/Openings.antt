@@ -146,6 +146,12 @@ IsFullFault fault = fault ≡ Audit (aud.Full 9999)
 abbrev pub RefusesFiles : Files → OpenFault → Type 0
 RefusesFiles files fault = ((e : AudFault) × (fault ≡ Audit e) × Refuses files e) ⊎ (RefusesTrail files fault ⊎ IsFullFault fault)
 
+-- At most 19 entries were sealed behind those that there were: a Begin, 17 parts of a Schema and a Control.
+pub record SealsFew (total first : ℕ) (old new : Files) : Type 0 where
+  pub more : List Entry
+  pub few : length more ≤ 19
+  pub entries_are : trail_entries total first new ≡ trail_entries total first old ++ more
+
 -- Why the audit has no room: each file of the trail of these files, up to file 9,999, is full now.
 pub record IsFullIn (files now : Files) : Type 0 where
   pub total : ℕ

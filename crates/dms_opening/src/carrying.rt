@@ -8,7 +8,7 @@ ghost use Rattle.dms_restore.specs.Logging.{telling};
 ghost use Rattle.dms_restore.specs.Views.{view_of};
 ghost use Rattle.dms_wal.specs.Closing.{IsFullTrail};
 ghost use Rattle.dms_opening.specs.Carrying.{IsFitPlan, IsPlanned};
-ghost use Rattle.dms_opening.specs.Openings.{RunsFrom, Reopens, text_of, IsFullFault, MayHaveWritten};
+ghost use Rattle.dms_opening.specs.Openings.{RunsFrom, Reopens, text_of, IsFullFault, SealsFew, MayHaveWritten};
 
 use crate::going_on::go_on;
 use crate::looking::PlannedOpening;
@@ -42,6 +42,8 @@ pub(crate) fn carry_out<S: Site>(planned: PlannedOpening<S>) -> Result<Opened<S>
         → Runs (S.clock planned.log.site) (S.clock e.1) (Reopens (telling (view_of S.Site planned.log)) (S.files planned.log.site) (text_of S.Site planned.log.site))) }
     ensures only { IfErr result (λ e. IsTrue S.tells → IsPlanned (view_of S.Site planned.log) planned.plan → MayHaveWritten e.0) }
     ensures full { IfErr result (λ e. IsTrue S.tells → IsPlanned (view_of S.Site planned.log) planned.plan → IsFullFault e.0 → IsFullTrail (view_of S.Site planned.log) (S.files e.1)) }
+    ensures few { IfErr result (λ e. IsTrue S.tells → IsPlanned (view_of S.Site planned.log) planned.plan → IsWhole (telling (view_of S.Site planned.log)) (S.files planned.log.site) → IsFullFault e.0
+        → SealsFew planned.log.end.total planned.log.first (S.files planned.log.site) (S.files e.1)) }
     ensures plan { IfOk result (λ o. (o.point ≡ planned.plan.choice.point) × (o.next ≡ planned.plan.next) × (o.schema ≡ planned.plan.schema) × (o.counts ≡ planned.plan.counts)) }
     ensures kind { IfOk result (λ o. (o.log.end.total ≡ planned.log.end.total) × (o.log.end.limit ≡ planned.log.end.limit) × (o.log.first ≡ planned.log.first)) }
     ensures same { IfOk result (λ o. S.same_site planned.log.site o.log.site) }

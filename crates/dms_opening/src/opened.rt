@@ -4,12 +4,13 @@ ghost use Rattle.std.specs.Prelude.{◌≡◌, ℕ, false, ◌<◌, ◌≤◌, I
 ghost use Rattle.dms_moments.specs.Moments.{Steps};
 ghost use Rattle.dms_site.specs.Files.{Files, Same};
 ghost use Rattle.dms_audfile.specs.Counting.{CountedAt};
+ghost use Rattle.dms_running.specs.Standing.{IsWhole};
 ghost use Rattle.dms_restore.specs.Logging.{telling_of};
 ghost use Rattle.dms_restore.specs.Views.{view_of};
 ghost use Rattle.dms_wal.specs.Database.{IsUsable, held};
 ghost use Rattle.dms_wal.specs.Lifting.{AreCounts};
 ghost use Rattle.dms_wal.specs.Marks.{IsDescription};
-ghost use Rattle.dms_opening.specs.Openings.{NamesStructures, OpensAt, RunsFrom, RunsWhere, ReopensSince, TellsOpened, RefusesFiles, IsFullFault, IsFullIn, MayHaveWritten, IsOpenable, IsNoRefusal};
+ghost use Rattle.dms_opening.specs.Openings.{IsTrailFound, NamesStructures, OpensAt, RunsFrom, RunsWhere, ReopensSince, TellsOpened, RefusesFiles, IsFullFault, IsFullIn, SealsFew, MayHaveWritten, IsOpenable, IsNoRefusal};
 
 use crate::carrying::{carry_out, site_of};
 use crate::looking::look;
@@ -49,6 +50,8 @@ pub fn open<S: Site>(alloc: Global, found: Found<S>) -> Result<Opened<S>, (OpenF
     ensures stopped { IfErr result (λ e. IsTrue S.tells → ReopensSince S.Site found.site e.1) }
     ensures refused { IfErr result (λ e. IsTrue S.tells → RefusesFiles (S.files found.site) e.0) }
     ensures full { IfErr result (λ e. IsTrue S.tells → IsFullFault e.0 → IsFullIn (S.files found.site) (S.files e.1)) }
+    ensures few { IfErr result (λ e. IsTrue S.tells → IsFullFault e.0 → (total first : ℕ) → IsTrailFound total first (S.files found.site) → IsWhole (telling_of total first) (S.files found.site)
+        → SealsFew total first (S.files found.site) (S.files e.1)) }
     ensures complete { IfErr result (λ e. IsTrue S.tells → (total first : ℕ) → IsOpenable total first (S.files found.site) → IsNoRefusal e.0) }
     ensures files_then { IfErr result (λ e. IsTrue S.tells → (MayHaveWritten e.0 → ⊥) → S.files e.1 ≡ S.files found.site) }
     ensures moments_then { IfErr result (λ e. IsTrue S.tells → (MayHaveWritten e.0 → ⊥) → Steps Same (S.clock found.site) (S.clock e.1)) }

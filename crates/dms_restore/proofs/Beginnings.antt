@@ -22,6 +22,7 @@ use Rattle.dms_running.specs.Begun.{ByAudit, IsBegun, LeavesAll, outcome_now}
 use Rattle.dms_running.proofs.Beginning.{begin_goes, all_sealed, begun, begun_points, begun_next, begun_outcome}
 use Rattle.dms_running.proofs.Restored.{restore_leaves, restore_begun, restored_all, restored_points, restored_next, restored_outcome}
 use Rattle.dms_restore.specs.Logging.{waits, LogView, view, telling, state, Ends, LogRuns, points, next}
+use Rattle.dms_restore.specs.Parts.{SealsPart}
 use Rattle.dms_restore.specs.Begins.{LastIs, begun_to, BegunAt, BeginsRestore, RestoredAt, Restores}
 use Rattle.dms_restore.specs.declared.told.Told.{Told}
 use Rattle.dms_restore.specs.Table.{IsTable, AllStandAsTold}
@@ -69,6 +70,13 @@ pub begin_sealed : (total first m : ℕ) (kind : Kind) (old new : Files) (clock 
 begin_sealed total first m kind old new clock end same appends =
     subst (λ k. trail_entries k first new ≡ trail_entries k first old ++ begin_restore m kind ∷ []) same
     (appends.sealed ∙ ap (λ (l : List Entry). trail_entries end.total first old ++ l) (begin_taken m kind appends.some appends.plain))
+
+-- the first so many entries are sealed, whatever was answered
+pub sealed_part : (a b : LogView) (tag : ℕ) (es : List Entry) → Only a.files a.clock → Reads b → Steps (ends.Seals a.end.total tag a.first es) a.clock b.clock → SealsPart a b es
+sealed_part a b tag es only read steps =
+    let y = steps.follows read.0 read.1 in
+    let trail : Files → List Entry = trail_entries a.end.total a.first in
+    (y.2.some, ap trail (sym read.2) ∙ y.2.entries ∙ ap (λ f. trail f ++ take y.2.some es) (only y.0 y.1))
 
 pub begin_ends : (end : AuditEnd) (first m : ℕ) (kind : Kind) (old new : Files) (clock : Clock Left) → Appends end first (begin_restore m kind ∷ []) old new clock → EndsAt end first [] new clock
 begin_ends end first m kind old new clock appends = subst (λ (l : List Entry). EndsAt end first l new clock) (none_waits [] m kind appends.some appends.plain) appends.ends

@@ -72,7 +72,7 @@ pub plan_blocks : (t : Telling) (es : List Entry) (start : Files) (a b : Clock L
 plan_blocks t es start a b runs = runs_weaken runs (λ x p. blocks_same x.files start p.above)
 
 -- of a plan the first so many entries are sealed, whatever was answered
-planned_part : (t : Telling) (es : List Entry) (start now : Files) (old new : Clock Left) → Only start old → ((k : ℕ) (x : Left) → k ≤ new.now → Now new x → new.left k x) → (x : Left) × Now new x × (x.files ≡ now) → Runs old new (Planned t es start)
+pub planned_part : (t : Telling) (es : List Entry) (start now : Files) (old new : Clock Left) → Only start old → ((k : ℕ) (x : Left) → k ≤ new.now → Now new x → new.left k x) → (x : Left) × Now new x × (x.files ≡ now) → Runs old new (Planned t es start)
     → (some : ℕ) × (t.entries now ≡ t.entries start ++ take some es)
 planned_part t es start now old new only counts read runs = elim (runs_since runs read.0 (counts old.now read.0 runs.later read.1)) [
   | inl was ↦ (0, ap t.entries (sym read.2 ∙ only read.0 was) ∙ sym (append_none (t.entries start)))

@@ -14,3 +14,4 @@ pub mod SchemaSpans
 pub mod Traces
 pub mod Tracing
 pub mod BackOuts
+pub mod Parts

@@ -10,6 +10,7 @@ ghost use Rattle.dms_audfile.specs.Ends.{Grown, is_past};
 ghost use Rattle.dms_audfile.specs.TrailEntries.{trail_entries};
 ghost use Rattle.dms_running.specs.Begun.{ByAudit};
 ghost use Rattle.dms_restore.specs.Views.{view_of, StaysSilent, LogStarts, IsSameTrail, SealsBehind};
+ghost use Rattle.dms_restore.specs.Parts.{SealsPart};
 ghost use Rattle.dms_restore.specs.Logging.{LogRuns, points, next, SealsWaiting, LogLeaves, EndsSealed, Ends};
 ghost use Rattle.dms_restore.specs.Begins.{LastIs, begun_to, BegunAt, BeginsRestore, RestoredAt, Restores, LeavesEach};
 ghost use Rattle.dms_restore.specs.Table.{AreBlocks, IsTable};
@@ -58,6 +59,7 @@ impl<S: Site> Log<S> {
         ensures kept { IfErr result (λ e. e.0 ≡ AudFault.Full self.end.limit → IsTrue S.tells → LogRuns (view_of S.Site self) → SealsWaiting (view_of S.Site self) (view_of S.Site e.1)) }
         ensures full { IfErr result (λ e. e.0 ≡ AudFault.Full self.end.limit → (e.1.end.used ≡ 0) × (10000 + self.end.limit < e.1.end.file)) }
         ensures ends { IfErr result (λ e. e.0 ≡ AudFault.Full self.end.limit → IsTrue S.tells → LogStarts (view_of S.Site self) → Ends (view_of S.Site e.1)) }
+        ensures part { IfErr result (λ e. IsTrue S.tells → LogStarts (view_of S.Site self) → SealsPart (view_of S.Site self) (view_of S.Site e.1) (begin_restore point (how_seen how.entry) ∷ [])) }
         ensures disk { IfErr result (λ e. CountedAt (e.0 ≡ AudFault.Disk) (S.disk_faults self.site) (S.disk_faults e.1.site)) }
         ensures say_faults { IfOk result (λ b. S.say_faults b.log.site ≡ S.say_faults self.site) }
         ensures say_faults_then { IfErr result (λ e. S.say_faults e.1.site ≡ S.say_faults self.site) }

@@ -7,6 +7,7 @@ ghost use Rattle.dms_audrec.specs.Spelling.{IsEntry};
 ghost use Rattle.dms_audrec.specs.Reading.{counts_at};
 ghost use Rattle.dms_audfile.specs.Counting.{CountedAt};
 ghost use Rattle.dms_restore.specs.Views.{view_of, StaysSilent, BlocksStay, LogStarts, IsSameTrail};
+ghost use Rattle.dms_restore.specs.Parts.{SealsPart};
 ghost use Rattle.dms_restore.specs.Logging.{Ends, LogRuns, LogsPart};
 ghost use Rattle.dms_restore.specs.Begins.{LeavesEach};
 ghost use Rattle.dms_restore.specs.Laying.{schema_control};
@@ -48,6 +49,8 @@ impl<S: Site> Restored<S> {
         ensures only { IfErr result (λ e. (e.0 ≡ AudFault.Disk) ⊎ (e.0 ≡ AudFault.Full self.log.end.limit)) }
         ensures full { IfErr result (λ e. e.0 ≡ AudFault.Full self.log.end.limit → (e.1.end.used ≡ 0) × (10000 + self.log.end.limit < e.1.end.file)) }
         ensures ends { IfErr result (λ e. e.0 ≡ AudFault.Full self.log.end.limit → IsTrue S.tells → LogStarts (view_of S.Site self.log) → Ends (view_of S.Site e.1)) }
+        ensures part { IfErr result (λ e. IsTrue S.tells → LogStarts (view_of S.Site self.log)
+            → SealsPart (view_of S.Site self.log) (view_of S.Site e.1) (schema_control description.now point next counts.now)) }
         ensures disk { IfErr result (λ e. CountedAt (e.0 ≡ AudFault.Disk) (S.disk_faults self.log.site) (S.disk_faults e.1.site)) }
         ensures say_faults { IfOk result (λ l. S.say_faults l.site ≡ S.say_faults self.log.site) }
         ensures say_faults_then { IfErr result (λ e. S.say_faults e.1.site ≡ S.say_faults self.log.site) }

@@ -7,8 +7,9 @@ use Rattle.dms_restore.specs.Views.{view_of}
 use Rattle.dms_restore.proofs.Backed.{silent_on}
 use Rattle.dms_restore.proofs.CountBytes.{counts_entry}
 use Rattle.dms_wal.specs.Closing.{IsFullTrail}
-use Rattle.dms_opening.specs.Openings.{Reopens, text_of}
+use Rattle.dms_opening.specs.Openings.{Reopens, text_of, SealsFew}
 use Rattle.dms_opening.proofs.Rooms.{as_limit, full_by}
+use Rattle.dms_opening.proofs.Sealings.{few_begun, few_ended}
 use Rattle.dms_opening.proofs.Carries.{BeginsWhole, count_table, may_open, begins_whole, leaves_on, reopens_all, written_at, may_end, runs_from, bytes_are}
 use Rattle.dms_opening.proofs.carrying.carry_out.Goals as goal
 
@@ -80,3 +81,22 @@ returns-clause-full g c tells s full =
     let is = as_limit _ _ limit full in
     subst (λ site. IsFullTrail a (g.S.Site.files site)) (sym c.site_of-in-Err-go_on.ensures)
     (full_by a _ _ limit (n.kind_then.0 ∙ r.kind.0) (n.kind_then.3 ∙ r.kind.3) (n.full p tells table is).1 (n.ends p tells table (r.starts tells s.start) is))
+
+pub returns-in-Err-clause-few : goal.returns-in-Err-clause-few
+returns-in-Err-clause-few g c tells s whole full =
+    let a : LogView = view_of g.S.Site c.args.planned.log in
+    subst (λ site. SealsFew a.end.total a.first a.files (g.S.Site.files site)) (sym c.site_of.ensures)
+    (few_begun a (view_of g.S.Site c.in-Err.log) c.args.planned.plan.choice.point (c.in-Err.ensures.part tells s.start))
+
+pub returns-clause-few : goal.returns-clause-few
+returns-clause-few g c tells s whole full =
+    let a : LogView = view_of g.S.Site c.args.planned.log in
+    let b : LogView = view_of g.S.Site c.in-Ok.begun.log in
+    let plan = c.args.planned.plan in
+    let r = c.in-Ok.ensures in
+    let o = may_open a plan s whole in
+    let w : BeginsWhole a plan b = begins_whole a b plan s r.kind.0 r.kind.3 (r.grown tells s.start) (r.sealed tells s.start) whole (r.begun _ tells o) (r.keeps _ tells o) in
+    let e = may_end a b plan w c.requires.ready _ (bytes_are _ _ _ c.deref.ensures.value c.count_bytes-used.ensures.bytes) _ c.deref-2.ensures.value in
+    let is = as_limit _ _ (r.kind.2 ∙ c.requires.limit) full in
+    subst (λ site. SealsFew a.end.total a.first a.files (g.S.Site.files site)) (sym c.site_of-in-Err-go_on.ensures)
+    (few_ended a b (view_of g.S.Site c.in-Err-go_on.log) plan w c.requires.ready _ _ c.deref-3.ensures.value (c.in-Err-go_on.ensures.part _ tells e is))

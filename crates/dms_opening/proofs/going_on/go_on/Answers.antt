@@ -6,6 +6,8 @@ use Rattle.dms_restore.specs.Logging.{LogView, view, telling_of}
 use Rattle.dms_restore.proofs.Results.{one_if_ok, one_if_err}
 use Rattle.dms_restore.proofs.Backed.{silent_on}
 use Rattle.dms_opening.proofs.GoneOn.{each_on, ends_by, opened}
+use Rattle.dms_opening.proofs.Sealings.{ends_sealed, sealed_as}
+use Rattle.dms_opening.proofs.Faults.{disk_no_full}
 use Rattle.dms_opening.proofs.going_on.go_on.Goals as goal
 
 pub returns-in-Ok-clause-opened : goal.returns-in-Ok-clause-opened
@@ -49,10 +51,7 @@ returns-in-Ok-clause-full g c = one_if_err c.finish.result c.finish.ensures.full
     (was.0, subst (λ k. 10000 + k < e.1.end.file) limit was.1))
 
 pub returns-in-Err-clause-full : goal.returns-in-Err-clause-full
-returns-in-Err-clause-full g c p tells table is = absurd (not_both (c.in-Err.ensures.only p tells table) is)
-  where
-    not_both : {k : ℕ} {e : AudFault} → e ≡ Disk → e ≡ Full k → ⊥
-    not_both one two = absurd cc
+returns-in-Err-clause-full g c p tells table is = absurd (disk_no_full (c.in-Err.ensures.only p tells table) is)
 
 pub returns-in-Ok-clause-silent : goal.returns-in-Ok-clause-silent
 returns-in-Ok-clause-silent g c = one_if_ok c.finish.result c.finish.ensures.silent (λ l still p tells m.
@@ -80,10 +79,7 @@ returns-in-Ok-clause-ends g c = one_if_err c.finish.result c.finish.ensures.ends
     ends (is ∙ ap (λ k. Full k) (sym limit)) tells (r.stays p tells table sealed))
 
 pub returns-in-Err-clause-ends : goal.returns-in-Err-clause-ends
-returns-in-Err-clause-ends g c p tells table sealed is = absurd (not_both (c.in-Err.ensures.only p tells table) is)
-  where
-    not_both : {k : ℕ} {e : AudFault} → e ≡ Disk → e ≡ Full k → ⊥
-    not_both one two = absurd cc
+returns-in-Err-clause-ends g c p tells table sealed is = absurd (disk_no_full (c.in-Err.ensures.only p tells table) is)
 
 pub returns-in-Ok-clause-kind_then : goal.returns-in-Ok-clause-kind_then
 returns-in-Ok-clause-kind_then g c = one_if_err c.finish.result c.finish.ensures.kind_then (λ e kind.
@@ -92,3 +88,14 @@ returns-in-Ok-clause-kind_then g c = one_if_err c.finish.result c.finish.ensures
 
 pub returns-in-Err-clause-kind_then : goal.returns-in-Err-clause-kind_then
 returns-in-Err-clause-kind_then g c = let was = c.in-Err.ensures.kind_then in (λ i. (was.0 i).total, λ i. (was.0 i).tag, λ i. (was.0 i).limit, was.1)
+
+pub returns-in-Ok-clause-part : goal.returns-in-Ok-clause-part
+returns-in-Ok-clause-part g c = one_if_err c.finish.result c.finish.ensures.part (λ e part p tells m is.
+    let a : LogView = view c.args.begun.log.end c.args.begun.log.first (g.S.Site.files c.args.begun.log.site) (g.S.Site.clock c.args.begun.log.site) in
+    let log = c.in-Ok.restored.log in
+    let b : LogView = view log.end log.first (g.S.Site.files log.site) (g.S.Site.clock log.site) in
+    let r = c.in-Ok.ensures in
+    sealed_as a b (view e.1.end e.1.first (g.S.Site.files e.1.site) (g.S.Site.clock e.1.site)) _ (λ i. (r.kind.0 i).total) r.kind.1 (r.entries p tells m.begun m.table_is) (part tells (r.stays p tells m.table_is (ends_sealed p a m.begun))))
+
+pub returns-in-Err-clause-part : goal.returns-in-Err-clause-part
+returns-in-Err-clause-part g c p tells m is = absurd (disk_no_full (c.in-Err.ensures.only p tells m.table_is) is)

@@ -1,5 +1,5 @@
 use Rattle.dms_restore.proofs.Results.{one_if_ok, two_if_ok, three_if_ok, one_if_err}
-use Rattle.dms_opening.proofs.Opens.{may_refuse, opens_at, runs_at, is_planned, whole_at, since, since_none, counted_on}
+use Rattle.dms_opening.proofs.Opens.{may_refuse, opens_at, runs_at, is_planned, whole_at, since, since_none, counted_on, few_since}
 use Rattle.dms_opening.proofs.Complete.{refuses_none}
 use Rattle.dms_opening.proofs.opened.open.Goals as goal
 
@@ -62,3 +62,12 @@ returns-in-Ok-clause-full g c = one_if_err c.carry_out.result c.carry_out.ensure
 
 pub returns-in-Err-clause-full : goal.returns-in-Err-clause-full
 returns-in-Err-clause-full g c tells is = absurd (c.in-Err.ensures.room tells is)
+
+pub returns-in-Ok-clause-few : goal.returns-in-Ok-clause-few
+returns-in-Ok-clause-few g c = one_if_err c.carry_out.result c.carry_out.ensures.few (λ e few tells full total first found whole.
+    let l = c.in-Ok.ensures in
+    few_since g.S.Site c.args.found.site c.in-Ok.planned (l.files tells) (l.trail tells) _ total first found whole
+    (λ was. few tells (is_planned g.S.Site c.args.found.site c.in-Ok.planned (l.files tells) (l.starts tells) (l.plans tells)) was full))
+
+pub returns-in-Err-clause-few : goal.returns-in-Err-clause-few
+returns-in-Err-clause-few g c tells full = absurd (c.in-Err.ensures.room tells full)

@@ -65,3 +65,6 @@ returns-else-begins-clause-starts g c tells start = start.ends
 
 pub returns-then-begins-clause-ends : goal.returns-then-begins-clause-ends
 returns-then-begins-clause-ends g c = c.begin.ensures.ends
+
+pub returns-then-begins-clause-part : goal.returns-then-begins-clause-part
+returns-then-begins-clause-part g c = c.begin.ensures.part

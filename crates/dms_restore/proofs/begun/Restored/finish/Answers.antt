@@ -1,7 +1,7 @@
 use Rattle.std.proofs.Common.{Err, refl}
 use Rattle.dms_restore.proofs.Results.{counted_fault}
 use Rattle.dms_restore.proofs.Sealed.{ends_of}
-use Rattle.dms_restore.proofs.Endings.{end_starts, end_leave, ended, plan_blocks}
+use Rattle.dms_restore.proofs.Endings.{end_starts, end_leave, ended, plan_blocks, planned_part}
 use Rattle.dms_restore.proofs.begun.Restored.finish.Goals as goal
 
 pub returns-in-Ok-clause-ended : goal.returns-in-Ok-clause-ended
@@ -42,3 +42,8 @@ returns-in-Err-clause-full g c full = c.in-Err.ensures.full (λ i. Err (full i))
 
 pub returns-in-Err-clause-ends : goal.returns-in-Err-clause-ends
 returns-in-Err-clause-ends g c full tells starts = ends_of c.seal_control.new.end c.args.self.log.first _ _ (c.in-Err.ensures.ends (λ i. Err (full i)) c.args.self.log.first tells starts)
+
+pub returns-in-Err-clause-part : goal.returns-in-Err-clause-part
+returns-in-Err-clause-part g c tells start =
+    let m = g.met.S.Site in
+    planned_part _ _ _ _ _ _ start.only (m.counts_now c.seal_control.new.site) (m.may_stay c.seal_control.new.site tells) (c.seal_control.ensures.moments c.args.self.log.first tells start)

@@ -1,12 +1,14 @@
-use Rattle.std.proofs.Common.{Err, [], refl, subst}
+use Rattle.std.proofs.Common.{Err, [], ◌∷◌, refl, subst}
 use Rattle.dms_moments.specs.MomentLaws.{steps_weaken}
 use Rattle.dms_audfile.specs.Ends.{Grown}
+use Rattle.dms_history.specs.Entries.{begin_restore}
 use Rattle.dms_audrec.specs.Seen.{how_seen}
+use Rattle.dms_restore.specs.Logging.{LogView, view}
 use Rattle.dms_restore.proofs.Sizes.{begin_size}
 use Rattle.dms_restore.proofs.Results.{counted_fault}
 use Rattle.dms_restore.proofs.Logs.{full_seals}
 use Rattle.dms_restore.proofs.Sealed.{ends_of}
-use Rattle.dms_restore.proofs.Beginnings.{kind_is, begin_leave, begin_begun, begin_keeps, begin_sealed, begin_ends}
+use Rattle.dms_restore.proofs.Beginnings.{kind_is, begin_leave, begin_begun, begin_keeps, begin_sealed, begin_ends, sealed_part}
 use Rattle.dms_restore.proofs.log.Log.begin.Goals as goal
 
 pub returns-in-Ok-clause-begun : goal.returns-in-Ok-clause-begun
@@ -70,3 +72,10 @@ returns-in-Err-clause-full g c full = c.in-Err.ensures.full (λ i. Err (full i))
 
 pub returns-in-Err-clause-ends : goal.returns-in-Err-clause-ends
 returns-in-Err-clause-ends g c full tells start = ends_of c.append.new.self c.args.self.first _ _ (c.in-Err.ensures.kept (λ i. Err (full i)) c.args.self.first [] tells start.ends).ends
+
+pub returns-in-Err-clause-part : goal.returns-in-Err-clause-part
+returns-in-Err-clause-part g c tells start =
+    let log = c.args.self in
+    let a : LogView = view log.end log.first (g.S.Site.files log.site) (g.S.Site.clock log.site) in
+    let b : LogView = view c.append.new.self log.first (g.S.Site.files c.append.new.site) (g.S.Site.clock c.append.new.site) in
+    sealed_part a b _ (begin_restore c.args.point (how_seen c.args.how) ∷ []) start.only (g.met.S.Site.may_stay c.append.new.site tells) (c.append.ensures.moments log.first [] tells tt start.ends)
