@@ -1,6 +1,5 @@
 -- How few entries an opening seals.
-use Rattle.std.proofs.Common.{ℕ, ◌+◌, ◌/◌, ◌≤◌, ◌≡◌, List, [], ◌∷◌, ◌++◌, append_assoc, length, length-append, length-take, take, Option, Some, None, sym, ◌∙◌, ap, subst, arith}
-use Rattle.dms_site.specs.Files.{Files}
+use Rattle.std.proofs.Common.{ℕ, ◌/◌, ◌≤◌, ◌≡◌, List, [], ◌∷◌, ◌++◌, append_assoc, length, length-append, length-take, take, Option, Some, None, sym, ◌∙◌, ap, subst, arith}
 use Rattle.dms_history.specs.History.{Pending}
 use Rattle.dms_history.specs.Entries.{Entry, begin_restore, by_halt_load, control_point}
 use Rattle.dms_history.specs.EntryEvents.{history_of}

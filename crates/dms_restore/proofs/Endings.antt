@@ -1,5 +1,5 @@
 -- A restore ends, or a control point is sealed.
-use Rattle.std.proofs.Common.{ℕ, zero, suc, min, ◌-◌, ◌/◌, ◌^◌, ◌<◌, ◌≤◌, ◌≡◌, true, inl, inr, List, [], ◌∷◌, ◌++◌, append_assoc, length, take, refl, sym, ◌∙◌, ap, subst, arith}
+use Rattle.std.proofs.Common.{ℕ, suc, min, ◌-◌, ◌/◌, ◌^◌, ◌<◌, ◌≤◌, ◌≡◌, true, inl, inr, List, [], ◌∷◌, ◌++◌, append_assoc, length, take, refl, sym, ◌∙◌, ap, subst, arith}
 use Rattle.dms_moments.specs.Moments.{Clock, Now, Runs}
 use Rattle.dms_moments.specs.MomentLaws.{runs_since, runs_weaken}
 use Rattle.dms_site.specs.Files.{Files, Left, Only, stored_of}

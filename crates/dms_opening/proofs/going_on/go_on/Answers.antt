@@ -1,7 +1,6 @@
-use Rattle.std.proofs.Common.{ℕ, ◌+◌, ◌<◌, ◌≡◌, inl, sym, ◌∙◌, ap, subst}
+use Rattle.std.proofs.Common.{◌+◌, ◌<◌, ◌≡◌, inl, sym, ◌∙◌, ap, subst}
 use Rattle.dms_audfile.specs.TrailEntries.{trail_entries}
-use Rattle.dms_audfile.specs.declared.fault.AudFault.{AudFault}
-use Rattle.dms_audfile.specs.declared.fault.AudFault.TheVariants.{Disk, Full}
+use Rattle.dms_audfile.specs.declared.fault.AudFault.TheVariants.{Full}
 use Rattle.dms_restore.specs.Logging.{LogView, view, telling_of}
 use Rattle.dms_restore.proofs.Results.{one_if_ok, one_if_err}
 use Rattle.dms_restore.proofs.Backed.{silent_on}
