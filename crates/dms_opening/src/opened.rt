@@ -1,11 +1,11 @@
 //! A database is opened: from the files that were found to a database that runs.
 
-ghost use Rattle.std.specs.Prelude.{◌≡◌, ℕ, false, ◌<◌, ◌≤◌, IfOk, IfErr, IsTrue};
+ghost use Rattle.std.specs.Prelude.{◌≡◌, [], ℕ, false, ◌<◌, ◌≤◌, IfOk, IfErr, IsTrue};
 ghost use Rattle.dms_moments.specs.Moments.{Steps};
 ghost use Rattle.dms_site.specs.Files.{Files, Same};
 ghost use Rattle.dms_audfile.specs.Counting.{CountedAt};
 ghost use Rattle.dms_running.specs.Standing.{IsWhole};
-ghost use Rattle.dms_restore.specs.Logging.{telling_of};
+ghost use Rattle.dms_restore.specs.Logging.{telling_of, waits};
 ghost use Rattle.dms_restore.specs.Views.{view_of};
 ghost use Rattle.dms_wal.specs.Database.{IsUsable, held};
 ghost use Rattle.dms_wal.specs.Lifting.{AreCounts};
@@ -89,6 +89,7 @@ impl<S: Site> Opened<S> {
         ensures log { IfOk result (λ r. (r.log.site ≡ self.log.site) × (r.log.first ≡ self.log.first) × (r.log.end.total ≡ self.log.end.total) × (r.log.end.limit ≡ limit)) }
         ensures kept { IfOk result (λ r. (r.schema ≡ self.schema) × (r.counts ≡ self.counts) × (r.next ≡ self.next) × (r.point ≡ self.point)
             × (r.every ≡ every) × (r.changed ≡ false) × (r.syncs ≡ 0) × (r.spent ≡ 0) × (r.outs ≡ 0)) }
+        ensures nothing { IfOk result (λ r. waits self.log.end ≡ [] → waits r.log.end ≡ []) }
         ensures site { IfErr result (λ e. e.1 ≡ self.log.site) }
     {
         let Opened {
