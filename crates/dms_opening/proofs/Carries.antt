@@ -35,7 +35,7 @@ use Rattle.dms_restore.specs.Table.{IsTable}
 use Rattle.dms_restore.specs.declared.told.Told.{Told}
 use Rattle.dms_opening.specs.Refusals.{IsOpening}
 use Rattle.dms_restore.specs.Begins.{BegunAt}
-use Rattle.dms_opening.specs.Starts.{MayOpen, MayEnd, BegunFrom, OpenedAt}
+use Rattle.dms_opening.specs.Starts.{MayOpen, MayGoOn, BegunFrom, OpenedAt}
 use Rattle.dms_restore.proofs.CountBytes.{IsCountTable, counts_read, counts_told}
 use Rattle.dms_opening.proofs.GoneOn.{each_on}
 use Rattle.dms_wal.specs.Lifting.{last_blocks}
@@ -110,7 +110,7 @@ module _ (a b : LogView) (plan : OpeningPlan) (w : BeginsWhole a plan b) (ready 
   same : telling b ≡ telling a
   same = λ i. telling_of (w.begins.total_same i) (w.begins.first_same i)
 
-  pub may_end : (table : List Told) → table ≡ plan.table.items → MayEnd restore b table plan.choice.point plan.next bytes
+  pub may_end : (table : List Told) → table ≡ plan.table.items → MayGoOn restore b table plan.choice.point plan.next bytes
   may_end table listed = record {
     begun = w.begun;
     table_is = subst (λ (l : List Told). IsTable restore.entries restore.point b.files l) (sym listed) (plans.table_is b.files w.begins.grown);

@@ -16,7 +16,7 @@ use Rattle.dms_running.specs.Begun.{LeavesAll, outcome_now}
 use Rattle.dms_restore.specs.Logging.{LogView, telling, state}
 use Rattle.dms_restore.specs.Begins.{BegunAt, RestoredAt, Restores, LeavesEach}
 use Rattle.dms_restore.specs.Endings.{EndsBy, EndedAt}
-use Rattle.dms_opening.specs.Starts.{MayEnd, OpenedAt}
+use Rattle.dms_opening.specs.Starts.{MayGoOn, OpenedAt}
 use Rattle.dms_restore.specs.declared.told.Told.{Told}
 
 -- all points of one state are all points of another that has the same
@@ -35,7 +35,7 @@ outcome_size : (t : Telling) (p : Pending) (b : LogView) (f : ℕ) → length (o
 unfolding outcome
 outcome_size t p b f = content_length (count_at p.entries p.point) _ f
 
-module _ (p : Pending) (a b : LogView) (table : List Told) (point next : ℕ) (counts : List ℕ) (m : MayEnd p a table point next counts) (begun : BegunAt p b) (restored : RestoredAt p b) (keeps : Restores p a b) where
+module _ (p : Pending) (a b : LogView) (table : List Told) (point next : ℕ) (counts : List ℕ) (m : MayGoOn p a table point next counts) (begun : BegunAt p b) (restored : RestoredAt p b) (keeps : Restores p a b) where
   pub ends_by : EndsBy p b point next counts
   ends_by = record { begun = begun; restored = restored; point_is = m.point_is; next_is = m.next_is ∙ sym keeps.next_same; count = m.count }
 

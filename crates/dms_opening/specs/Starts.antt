@@ -35,7 +35,7 @@ pub record BegunFrom (p : Pending) (a b : LogView) : Type 0 where
   pub outcome_same : outcome_now (telling b) p (state b) ≡ outcome_now (telling a) p (state a)
 
 -- The restore is begun, the table is that of its point, and the Control is one of its point with the next number and the counts there.
-pub record MayEnd (p : Pending) (v : LogView) (table : List Told) (point next : ℕ) (counts : List ℕ) : Type 0 where
+pub record MayGoOn (p : Pending) (v : LogView) (table : List Told) (point next : ℕ) (counts : List ℕ) : Type 0 where
   pub begun : BegunAt p v
   pub table_is : IsTable p.entries p.point v.files table
   pub point_is : point ≡ p.point

@@ -11,7 +11,7 @@ ghost use Rattle.dms_restore.specs.Parts.{SealsPart};
 ghost use Rattle.dms_restore.specs.Views.{view_of, StaysSilent, IsSameTrail};
 ghost use Rattle.dms_restore.specs.Laying.{schema_control};
 ghost use Rattle.dms_restore.specs.Begins.{LeavesEach};
-ghost use Rattle.dms_opening.specs.Starts.{MayEnd, OpenedAt};
+ghost use Rattle.dms_opening.specs.Starts.{MayGoOn, OpenedAt};
 ghost use Rattle.dms_restore.specs.Table.{AreBlocks, IsTable};
 
 use dms_audfile::AudFault;
@@ -32,14 +32,14 @@ pub(crate) fn go_on<S: Site>(
     requires few { length description.now ≤ 65535 }
     requires control { IsEntry (control_point point next (counts_at (length counts.now / 8) counts.now)) }
     requires size { length counts.now ≤ 1600 }
-    ensures opened { IfOk result (λ l. (p : Pending) → IsTrue S.tells → MayEnd p (view_of S.Site begun.log) table.now point next counts.now
+    ensures opened { IfOk result (λ l. (p : Pending) → IsTrue S.tells → MayGoOn p (view_of S.Site begun.log) table.now point next counts.now
         → OpenedAt p (view_of S.Site begun.log) (view_of S.Site l) (schema_control description.now point next counts.now)) }
-    ensures moments { IfOk result (λ l. (p : Pending) → IsTrue S.tells → MayEnd p (view_of S.Site begun.log) table.now point next counts.now
+    ensures moments { IfOk result (λ l. (p : Pending) → IsTrue S.tells → MayGoOn p (view_of S.Site begun.log) table.now point next counts.now
         → LeavesEach (view_of S.Site begun.log) (view_of S.Site l)) }
-    ensures stopped { IfErr result (λ e. (p : Pending) → IsTrue S.tells → MayEnd p (view_of S.Site begun.log) table.now point next counts.now
+    ensures stopped { IfErr result (λ e. (p : Pending) → IsTrue S.tells → MayGoOn p (view_of S.Site begun.log) table.now point next counts.now
         → LeavesEach (view_of S.Site begun.log) (view_of S.Site e.1)) }
-    ensures silent { IfOk result (λ l. (p : Pending) → IsTrue S.tells → MayEnd p (view_of S.Site begun.log) table.now point next counts.now → StaysSilent S.Site begun.log.site l.site) }
-    ensures silent_then { IfErr result (λ e. (p : Pending) → IsTrue S.tells → MayEnd p (view_of S.Site begun.log) table.now point next counts.now → StaysSilent S.Site begun.log.site e.1.site) }
+    ensures silent { IfOk result (λ l. (p : Pending) → IsTrue S.tells → MayGoOn p (view_of S.Site begun.log) table.now point next counts.now → StaysSilent S.Site begun.log.site l.site) }
+    ensures silent_then { IfErr result (λ e. (p : Pending) → IsTrue S.tells → MayGoOn p (view_of S.Site begun.log) table.now point next counts.now → StaysSilent S.Site begun.log.site e.1.site) }
     ensures same { IfOk result (λ l. S.same_site begun.log.site l.site) }
     ensures same_then { IfErr result (λ e. S.same_site begun.log.site e.1.site) }
     ensures said { IfOk result (λ l. S.said l.site ≡ S.said begun.log.site) }
@@ -51,7 +51,7 @@ pub(crate) fn go_on<S: Site>(
         → (e.1.end.used ≡ 0) × (10000 + begun.log.end.limit < e.1.end.file)) }
     ensures ends { IfErr result (λ e. (p : Pending) → IsTrue S.tells → IsTable p.entries p.point (S.files begun.log.site) table.now → EndsSealed (view_of S.Site begun.log)
         → e.0 ≡ AudFault.Full begun.log.end.limit → Ends (view_of S.Site e.1)) }
-    ensures part { IfErr result (λ e. (p : Pending) → IsTrue S.tells → MayEnd p (view_of S.Site begun.log) table.now point next counts.now → e.0 ≡ AudFault.Full begun.log.end.limit
+    ensures part { IfErr result (λ e. (p : Pending) → IsTrue S.tells → MayGoOn p (view_of S.Site begun.log) table.now point next counts.now → e.0 ≡ AudFault.Full begun.log.end.limit
         → SealsPart (view_of S.Site begun.log) (view_of S.Site e.1) (schema_control description.now point next counts.now)) }
     ensures disk { IfErr result (λ e. CountedAt (e.0 ≡ AudFault.Disk) (S.disk_faults begun.log.site) (S.disk_faults e.1.site)) }
     ensures say_faults { IfOk result (λ l. S.say_faults l.site ≡ S.say_faults begun.log.site) }
