@@ -10,11 +10,12 @@ use Rattle.dms_feed.specs.Raws.{IsUnended}
 use Rattle.dms_model.specs.Db.{empty_db}
 use Rattle.dms_runner.specs.Answers.{script_run, script_events, answers_text}
 use Rattle.dms_runner.specs.Events.{RunEvent, text_of}
-use Rattle.dms_runner.specs.Running.{bytes_of, text_of_lines, PassesLines, PassesBytes, PassesWaiting}
+use Rattle.dms_runner.specs.Running.{bytes_of, text_of_lines, CutInput, PassesLines, PassesBytes, PassesWaiting}
 use Rattle.dms_status.specs.declared.status.SchemaFault.{SchemaFault}
 use Rattle.dms_status.specs.declared.status.LimitKind.{LimitKind}
 use Rattle.dms_status.specs.declared.status.LimitKind.TheVariants.{AuditFile, Lines, Bytes, Held}
 use Rattle.dms_top.specs.Judging.{judged}
+use Rattle.dms_top.specs.Premises.{OfTriedScript}
 use Rattle.dms_top.specs.Schema.{schema_text, script_part}
 
 -- the lines of the script of an input
@@ -70,6 +71,14 @@ PassesLimit Lines d lines before after = PassesLines d empty_db 1 lines before a
 PassesLimit Bytes d lines before after = PassesBytes d empty_db 1 lines before after
 PassesLimit Held d lines before after = PassesWaiting d empty_db 1 lines before after
 
+-- the same of the lines that an input has
+abbrev pub InputPasses : LimitKind → Described → Option (List ℕ) → Option (List ℕ) → List ℕ → Type 0
+InputPasses k d before after all = PassesLimit k d (raw_lines all) before after
+
+-- the same of the script of an input of `try`
+abbrev pub TryPasses : LimitKind → Option (List ℕ) → Option (List ℕ) → Option (List ℕ) → Type 0
+TryPasses k left before after = OfTriedScript left (λ d all. PassesLimit k d (script_of all) before after)
+
 -- taking from the input failed: so many whole lines of it were taken, and what those among them answer that are lines of
 -- the script, which keep the limits with that part, was printed, where the text is told; a part of the next line was taken too, without its line feed, and the rest of the input is left
 pub record CutTry (d : Described) (input : List ℕ) (left : Option (List ℕ)) (before after : Option (List ℕ)) : Type 0 where
@@ -86,3 +95,15 @@ pub record CutTry (d : Described) (input : List ℕ) (left : Option (List ℕ)) 
   pub last : length (script_part (take n (raw_lines input))) ≡ 1000000 → length part ≡ 0
   pub room : (script_run d empty_db 1 (script_part (take n (raw_lines input)))).full ≡ false
   pub text : Prints before after (text_of (script_run d empty_db 1 (script_part (take n (raw_lines input)))).events)
+
+-- so it is of an input of `try` whose schema is accepted
+abbrev pub TryIsCut : Option (List ℕ) → Option (List ℕ) → Option (List ℕ) → Option (List ℕ) → Type 0
+TryIsCut left left' before after = OfTriedScript left (λ d all. CutTry d all left' before after)
+
+-- taking from the input of these lines failed
+abbrev pub LinesCut : Described → Option (List ℕ) → Option (List ℕ) → Option (List ℕ) → List ℕ → Type 0
+LinesCut d left' before after all = CutInput d empty_db 1 all left' before after
+
+-- the text grew by that of the first so many of the events of these lines, each one whole
+abbrev pub PrintedWholeLines : List ℕ → List ℕ → Described → List ℕ → Type 0
+PrintedWholeLines before after d all = PrintedWhole before after (lines_events d all)

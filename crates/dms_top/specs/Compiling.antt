@@ -4,6 +4,7 @@ use Rattle.dms_moments.specs.Moments.{Clock, Now, Runs, Steps}
 use Rattle.dms_desc.specs.Shape.{Described}
 use Rattle.dms_descfile.specs.Becoming.{IsCreated}
 use Rattle.dms_descfile.specs.DescriptionFile.{sealed_file}
+use Rattle.dms_site.specs.declared.site.Site.{Ghosts}
 use Rattle.dms_site.specs.Files.{Files, Left, Same}
 use Rattle.dms_status.specs.declared.status.Status.{Status}
 use Rattle.dms_status.specs.declared.status.Status.TheVariants.{Ok, BadWords, SchemaRefused, NoDatabase, Needed, InputFault, Memory, Limit, Damaged, SayFault, DiskFault, Exists}
@@ -87,3 +88,7 @@ pub record FilesAndTextStay (files files' : Files) (said said' : List ℕ) (old 
   pub files_is : files' ≡ files
   pub said_is : said' ≡ said
   pub moments : Steps Same old new
+
+-- so it is between two times of a site
+abbrev pub SiteAndTextStay : {S : Type 0} → Ghosts S → S → S → Type 0
+SiteAndTextStay g a b = FilesAndTextStay (g.files a) (g.files b) (g.said a) (g.said b) (g.clock a) (g.clock b)

@@ -1,3 +1,4 @@
+pub mod SiteText
 pub mod Answering
 pub mod Auditing
 pub mod Compiling

@@ -7,7 +7,7 @@ ghost use Rattle.dms_moments.specs.Moments.{Steps};
 ghost use Rattle.dms_site.specs.Files.{Same, Only};
 ghost use Rattle.dms_status.specs.declared.status.LimitKind.{LimitKind as Kind};
 ghost use Rattle.dms_status.specs.declared.status.SchemaFault.{SchemaFault as Refusal};
-ghost use Rattle.dms_top.specs.Compiling.{compiled_text, SaysLine, IsSpoken, IsBefore, IsOfFile, CreatesSome, SaysSealed, FilesAndTextStay};
+ghost use Rattle.dms_top.specs.Compiling.{compiled_text, SaysLine, IsSpoken, IsBefore, IsOfFile, CreatesSome, SaysSealed, SiteAndTextStay};
 ghost use Rattle.dms_top.specs.Judging.{judged};
 ghost use Rattle.dms_top.specs.Premises.{OfInput, OfSchema, OfSealed, OfNoSchema};
 ghost use Rattle.dms_audfile.specs.Counting.{CountedAt};
@@ -80,7 +80,7 @@ fn create<S: Site>(alloc: Global, site: &mut S, desc: &Description) -> Status
     ensures creates { IsTrue S.tells → Creates (sealed_file (described desc.now)) (S.files site.old) (S.clock site.old) (S.clock site.new) }
     ensures stable { IsSpoken result → IsTrue S.tells → Only (S.files site.new) (S.clock site.new) }
     ensures says_sealed { IsTrue S.tells → SaysSealed (sealed_file (described desc.now)) (S.clock site.old) (S.clock site.new) }
-    ensures kept { IsTrue S.tells → OfSealed (S.files site.old) (λ d. FilesAndTextStay (S.files site.old) (S.files site.new) (S.said site.old) (S.said site.new) (S.clock site.old) (S.clock site.new)) }
+    ensures kept { IsTrue S.tells → OfSealed (S.files site.old) (λ d. SiteAndTextStay S.Site site.old site.new) }
     ensures same_site { S.same_site site.old site.new }
     ensures disk { CountedAt (result ≡ Status.DiskFault) (S.disk_faults site.old) (S.disk_faults site.new) }
     ensures say { CountedAt (result ≡ Status.SayFault) (S.say_faults site.old) (S.say_faults site.new) }
@@ -124,7 +124,7 @@ pub fn compile_input<S: Site, I: Source>(alloc: Global, site: &mut S, input: &mu
     ensures creates_some { IsTrue S.tells → CreatesSome (S.files site.old) (S.clock site.old) (S.clock site.new) }
     ensures stable { IsSpoken result → IsTrue S.tells → Only (S.files site.new) (S.clock site.new) }
     ensures says_sealed { IsTrue S.tells → OfSchema (I.left input.old) (λ d. SaysSealed (sealed_file d) (S.clock site.old) (S.clock site.new)) }
-    ensures kept { IsTrue S.tells → OfSealed (S.files site.old) (λ d. FilesAndTextStay (S.files site.old) (S.files site.new) (S.said site.old) (S.said site.new) (S.clock site.old) (S.clock site.new)) }
+    ensures kept { IsTrue S.tells → OfSealed (S.files site.old) (λ d. SiteAndTextStay S.Site site.old site.new) }
     ensures sealed_some { IsSpoken result → IsTrue S.tells → (d : Described) × IsSealed (S.files site.new 1) d }
     ensures same_site { S.same_site site.old site.new }
     ensures same_source { I.same_source input.old input.new }

@@ -5,7 +5,7 @@ ghost use Rattle.dms_moments.specs.Moments.{Steps};
 ghost use Rattle.dms_desc.specs.Shape.{Described};
 ghost use Rattle.dms_descfile.specs.DescriptionFile.{IsSealed, IsUnsealed};
 ghost use Rattle.dms_site.specs.Files.{Same, Only};
-ghost use Rattle.dms_creation.specs.Creation.{IsMade, Initializes};
+ghost use Rattle.dms_creation.specs.Creation.{IsMade, InitializesSite};
 ghost use Rattle.dms_top.specs.Compiling.{SaysLine, IsSpoken, IsBefore};
 ghost use Rattle.dms_top.specs.Premises.{OfSealed};
 ghost use Rattle.dms_top.specs.Initializing.{initialized_text, IsOfCreation};
@@ -20,7 +20,7 @@ use std::alloc::Global;
 #[tactic(auto, unfolding(crate::specs::Initializing::initialized_text))]
 pub fn initialize_database<S: Site>(alloc: Global, site: &mut S, tag: u64) -> Status
     ensures of_creation { IsOfCreation result }
-    ensures moments { IsTrue S.tells → OfSealed (S.files site.old) (λ d. Initializes tag d (S.files site.old) (S.clock site.old) (S.clock site.new)) }
+    ensures moments { IsTrue S.tells → OfSealed (S.files site.old) (λ d. InitializesSite S.Site tag d site.old site.new) }
     ensures stays { IsBefore result → Steps Same (S.clock site.old) (S.clock site.new) }
     ensures before { IsBefore result → IsTrue S.tells → S.files site.new ≡ S.files site.old }
     ensures made { IsSpoken result → IsTrue S.tells → OfSealed (S.files site.old) (λ d. IsMade tag d (S.files site.old) (S.files site.new)) }

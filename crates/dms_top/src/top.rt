@@ -5,18 +5,17 @@ ghost use Rattle.dms_descfile.specs.DescriptionFile.{sealed_file, IsSealed, IsUn
 ghost use Rattle.dms_moments.specs.Moments.{Steps};
 ghost use Rattle.dms_site.specs.Files.{Same, Only};
 ghost use Rattle.dms_audprint.specs.AuditText.{PrintsAudit, PrintsPart};
-ghost use Rattle.dms_creation.specs.Creation.{IsMade, Initializes};
+ghost use Rattle.dms_creation.specs.Creation.{IsMade, InitializesSite};
 ghost use Rattle.dms_top.specs.Auditing.{IsOfPrinting, JudgesTrail};
 ghost use Rattle.dms_top.specs.Initializing.{initialized_text, IsOfCreation};
 ghost use Rattle.dms_top.specs.Taking.{CutText};
 ghost use Rattle.dms_plain.specs.Speaking.{OnlySpeaks};
-ghost use Rattle.dms_plain.specs.Told.{told};
-ghost use Rattle.dms_top.specs.Compiling.{compiled_text, SaysLine, IsSpoken, IsBefore, CreatesSome, SaysSealed, FilesAndTextStay};
+ghost use Rattle.dms_top.specs.Compiling.{compiled_text, SaysLine, IsSpoken, IsBefore, CreatesSome, SaysSealed, SiteAndTextStay};
 ghost use Rattle.dms_status.specs.declared.status.SchemaFault.{SchemaFault as Refusal};
 ghost use Rattle.dms_top.specs.Judging.{judged};
 ghost use Rattle.dms_top.specs.Schema.{schema_text as text_of};
-ghost use Rattle.dms_top.specs.State.{StandsNew, BecomesNew};
-ghost use Rattle.dms_top.specs.Answering.{Printed, PrintedPrefix, PrintedWhole, WithinLimits, PassesLimit, CutTry, try_events, try_text, script_of};
+ghost use Rattle.dms_top.specs.State.{StandsNew, BecomesNewSite};
+ghost use Rattle.dms_top.specs.Answering.{Printed, PrintedPrefix, PrintedWhole, TryIsCut, TryPasses, WithinLimits, try_events, try_text, script_of};
 ghost use Rattle.dms_status.specs.declared.status.LimitKind.{LimitKind as Kind};
 ghost use Rattle.dms_top.specs.Premises.{OnTry, OnCompile, OnInitialize, OnPrintAudit, OnOthers, OnReading, OnRun, OfInput, OfSchema, OfSealed, OfNoSchema, OfTriedScript, OfNoScript};
 ghost use Rattle.dms_audfile.specs.Counting.{CountedAt};
@@ -24,6 +23,7 @@ ghost use Rattle.dms_runtop.specs.Command.{DatabaseState, HoldsTold, NeverRefuse
 ghost use Rattle.dms_runtop.specs.Full.{HasNoRoom};
 ghost use Rattle.dms_runtop.specs.Guard.{StaysBeside};
 ghost use Rattle.dms_runtop.specs.Statuses.{IsOfRun, IsRefusal};
+ghost use Rattle.dms_top.specs.SiteText.{text_told};
 ghost use Rattle.dms_top.specs.Words.{IsTry, IsCompile, IsPrintAudit, IsRun, IsCommand, IsOfTry, IsOfCompile, IsPast, ComesUnsaid, IsUntouched};
 
 use crate::audit_run::{is_print_audit, print_trail};
@@ -81,8 +81,8 @@ fn try_input<S: Site, I: Source>(alloc: Global, site: &mut S, input: &mut I) -> 
     ensures whole_answers { result ≡ Status.Memory → IsTrue S.tells_said → OfInput (I.left input.old) (λ all. PrintedWhole (S.said site.old) (S.said site.new) (try_events all)) }
     ensures silent { IsTrue S.tells_said → ComesUnsaid result → S.said site.new ≡ S.said site.old }
     ensures within { result ≡ Status.Ok → OfTriedScript (I.left input.old) (λ d all. WithinLimits d (script_of all)) }
-    ensures limit { (k : Kind) → result ≡ Status.Limit k → OfTriedScript (I.left input.old) (λ d all. PassesLimit k d (script_of all) (told S.tells_said (S.said site.old)) (told S.tells_said (S.said site.new))) }
-    ensures input_cut { result ≡ Status.InputFault → OfTriedScript (I.left input.old) (λ d all. CutTry d all (I.left input.new) (told S.tells_said (S.said site.old)) (told S.tells_said (S.said site.new))) }
+    ensures limit { (k : Kind) → result ≡ Status.Limit k → TryPasses k (I.left input.old) (text_told S.Site site.old) (text_told S.Site site.new) }
+    ensures input_cut { result ≡ Status.InputFault → TryIsCut (I.left input.old) (I.left input.new) (text_told S.Site site.old) (text_told S.Site site.new) }
     ensures input_cut_refused { result ≡ Status.InputFault → OfNoScript (I.left input.old) (λ all. CutText all (I.left input.new)) }
     ensures same_site { S.same_site site.old site.new }
     ensures same_source { I.same_source input.old input.new }
@@ -159,9 +159,9 @@ pub fn dms<S: Site, I: Source>(
     // at status 0 the script keeps the limits
     ensures within { OnTry words.now (result ≡ Status.Ok → OfTriedScript (I.left input.old) (λ d all. WithinLimits d (script_of all))) }
     // at status 8 it passes that limit and none before, and what the lines before answer was printed
-    ensures limit { OnTry words.now ((k : Kind) → result ≡ Status.Limit k → OfTriedScript (I.left input.old) (λ d all. PassesLimit k d (script_of all) (told S.tells_said (S.said site.old)) (told S.tells_said (S.said site.new)))) }
+    ensures limit { OnTry words.now ((k : Kind) → result ≡ Status.Limit k → TryPasses k (I.left input.old) (text_told S.Site site.old) (text_told S.Site site.new)) }
     // at status 6 what the whole lines that were taken answer was printed
-    ensures input_cut { OnTry words.now (result ≡ Status.InputFault → OfTriedScript (I.left input.old) (λ d all. CutTry d all (I.left input.new) (told S.tells_said (S.said site.old)) (told S.tells_said (S.said site.new)))) }
+    ensures input_cut { OnTry words.now (result ≡ Status.InputFault → TryIsCut (I.left input.old) (I.left input.new) (text_told S.Site site.old) (text_told S.Site site.new)) }
     // at status 6 with a refused schema taking failed within its text
     ensures input_cut_refused { OnTry words.now (result ≡ Status.InputFault → OfNoScript (I.left input.old) (λ all. CutText all (I.left input.new))) }
     // status 11 is not of this command
@@ -194,7 +194,7 @@ pub fn dms<S: Site, I: Source>(
     // whatever the input tells, the same with some description
     ensures creation_of_some { OnCompile words.now (IsTrue S.tells → CreatesSome (S.files site.old) (S.clock site.old) (S.clock site.new)) }
     // a sealed description at entry is not touched at any moment
-    ensures compile_kept { OnCompile words.now (IsTrue S.tells → OfSealed (S.files site.old) (λ d. FilesAndTextStay (S.files site.old) (S.files site.new) (S.said site.old) (S.said site.new) (S.clock site.old) (S.clock site.new))) }
+    ensures compile_kept { OnCompile words.now (IsTrue S.tells → OfSealed (S.files site.old) (λ d. SiteAndTextStay S.Site site.old site.new)) }
     // at status 0 file 1 is exactly the text's description
     ensures creation_at_ok { OnCompile words.now (IsSpoken result → IsTrue S.tells → OfSchema (I.left input.old) (λ d. S.files site.new 1 ≡ sealed_file d)) }
     // and it is sealed and well-formed
@@ -213,13 +213,13 @@ pub fn dms<S: Site, I: Source>(
     // only the statuses 0, 4 with no description, 5, 7, 10 and 11 come
     ensures initialize_statuses { OnInitialize words.now (λ tag. IsOfCreation result) }
     // of a sealed description a stop leaves what it could leave at entry, or there no database, or exactly the new one
-    ensures initialize_at_every_moment { OnInitialize words.now (λ tag. IsTrue S.tells → OfSealed (S.files site.old) (λ d. Initializes tag d (S.files site.old) (S.clock site.old) (S.clock site.new))) }
+    ensures initialize_at_every_moment { OnInitialize words.now (λ tag. IsTrue S.tells → OfSealed (S.files site.old) (λ d. InitializesSite S.Site tag d site.old site.new)) }
     // at status 0 it is exactly the new one
     ensures initialize_at_ok { OnInitialize words.now (λ tag. IsSpoken result → IsTrue S.tells → OfSealed (S.files site.old) (λ d. IsMade tag d (S.files site.old) (S.files site.new))) }
     // at status 0 the files stand for point 0 and the empty database, the next point is 1, and the trail has that tag
     ensures initialize_stands { OnInitialize words.now (λ tag. IsSpoken result → IsTrue S.tells → OfSealed (S.files site.old) (λ d. StandsNew tag d (S.files site.new))) }
     // a stop leaves what it could leave at entry, or no database, or files that stand so
-    ensures initialize_stands_at_every_moment { OnInitialize words.now (λ tag. IsTrue S.tells → OfSealed (S.files site.old) (λ d. BecomesNew tag d (S.files site.old) (S.clock site.old) (S.clock site.new))) }
+    ensures initialize_stands_at_every_moment { OnInitialize words.now (λ tag. IsTrue S.tells → OfSealed (S.files site.old) (λ d. BecomesNewSite S.Site tag d site.old site.new)) }
     // and a stop leaves no other
     ensures initialize_stable { OnInitialize words.now (λ tag. IsSpoken result → IsTrue S.tells → Only (S.files site.new) (S.clock site.new)) }
     // at status 0 exactly the line was printed, at 10 a prefix of it, else nothing

@@ -3,15 +3,13 @@ ghost use Rattle.dms_desc.specs.Shape.{described};
 ghost use Rattle.dms_desc_bytes.specs.WellFormed.{IsWellFormed};
 ghost use Rattle.dms_feed.specs.Feeds.{Remains};
 ghost use Rattle.dms_feed.specs.Lines.{raw_lines};
-ghost use Rattle.dms_model.specs.Db.{empty_db};
 ghost use Rattle.dms_plain.specs.Speaking.{OnlySpeaks};
-ghost use Rattle.dms_plain.specs.Told.{told};
 ghost use Rattle.dms_runner.specs.Blaming.{CutRun};
-ghost use Rattle.dms_runner.specs.Running.{CutInput};
-ghost use Rattle.dms_top.specs.Answering.{Printed, PrintedPrefix, PrintedWhole, WithinLimits, PassesLimit, lines_text, lines_events};
+ghost use Rattle.dms_top.specs.Answering.{InputPasses, LinesCut, Printed, PrintedPrefix, PrintedWholeLines, WithinLimits, lines_text};
 ghost use Rattle.dms_status.specs.declared.status.LimitKind.{LimitKind as Kind};
 ghost use Rattle.dms_top.specs.Premises.{OfRest};
 ghost use Rattle.dms_audfile.specs.Counting.{CountedAt};
+ghost use Rattle.dms_top.specs.SiteText.{text_told};
 ghost use Rattle.dms_top.specs.Words.{IsOfTry, ComesUnsaid};
 ghost use Rattle.dms_status.specs.declared.status.SchemaFault.{SchemaFault as Refusal};
 
@@ -91,9 +89,9 @@ pub fn try_lines<S: Site, I: Source>(
     ensures answers { result ≡ Status.Ok → IsTrue S.tells_said → OfRest feed.old (I.left source.old) (λ all. Printed (S.said site.old) (S.said site.new) (lines_text (described desc.now) all)) }
     ensures within { result ≡ Status.Ok → OfRest feed.old (I.left source.old) (λ all. WithinLimits (described desc.now) (raw_lines all)) }
     ensures part { IsTrue S.tells_said → OfRest feed.old (I.left source.old) (λ all. PrintedPrefix (S.said site.old) (S.said site.new) (lines_text (described desc.now) all)) }
-    ensures whole_answers { result ≡ Status.Memory → IsTrue S.tells_said → OfRest feed.old (I.left source.old) (λ all. PrintedWhole (S.said site.old) (S.said site.new) (lines_events (described desc.now) all)) }
-    ensures limit { (k : Kind) → result ≡ Status.Limit k → OfRest feed.old (I.left source.old) (λ all. PassesLimit k (described desc.now) (raw_lines all) (told S.tells_said (S.said site.old)) (told S.tells_said (S.said site.new))) }
-    ensures input_cut { result ≡ Status.InputFault → OfRest feed.old (I.left source.old) (λ all. CutInput (described desc.now) empty_db 1 all (I.left source.new) (told S.tells_said (S.said site.old)) (told S.tells_said (S.said site.new))) }
+    ensures whole_answers { result ≡ Status.Memory → IsTrue S.tells_said → OfRest feed.old (I.left source.old) (PrintedWholeLines (S.said site.old) (S.said site.new) (described desc.now)) }
+    ensures limit { (k : Kind) → result ≡ Status.Limit k → OfRest feed.old (I.left source.old) (InputPasses k (described desc.now) (text_told S.Site site.old) (text_told S.Site site.new)) }
+    ensures input_cut { result ≡ Status.InputFault → OfRest feed.old (I.left source.old) (LinesCut (described desc.now) (I.left source.new) (text_told S.Site site.old) (text_told S.Site site.new)) }
     ensures input { CountedAt (result ≡ Status.InputFault) (I.faults source.old) (I.faults source.new) }
     ensures disk { CountedAt (result ≡ Status.DiskFault) (S.disk_faults site.old) (S.disk_faults site.new) }
     ensures say { CountedAt (result ≡ Status.SayFault) (S.say_faults site.old) (S.say_faults site.new) }
