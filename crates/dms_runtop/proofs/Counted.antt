@@ -1,5 +1,5 @@
 -- How often calls have failed where a run ended so.
-use Rattle.std.proofs.Common.{ℕ, ◌≡◌, ◌∙◌, List, [], ◌∷◌, ◌++◌, Option, None, Some, refl, sym, ap, subst}
+use Rattle.std.proofs.Common.{ℕ, ◌≡◌, ◌∙◌, inl, inr, List, [], ◌∷◌, ◌++◌, Option, None, Some, refl, sym, ap, subst}
 use Rattle.std.specs.Io.KnownBytes.{prepend_known}
 use Rattle.std.specs.Prelude.{nat_lt}
 use Rattle.std.specs.declared.result.Result.{Result}
@@ -12,7 +12,7 @@ use Rattle.dms_runner.specs.declared.run.RunFault.{RunFault}
 use Rattle.dms_runner.specs.declared.run.RunFault.TheVariants as run
 use Rattle.dms_status.specs.declared.status.Status.{Status}
 use Rattle.dms_status.specs.declared.status.Status.TheVariants.{DiskFault, SayFault, Memory, Damaged}
-use Rattle.dms_runtop.specs.Faults.{run_status, damaged_status}
+use Rattle.dms_runtop.specs.Faults.{IsWithin, run_status, damaged_status}
 use Rattle.dms_runtop.proofs.Endings.{damage_is}
 
 not_disk : (f k : ℕ) → damaged_status f k ≡ DiskFault → ⊥
@@ -53,6 +53,37 @@ counts_say run.Lines a b p = not_counted _ a.say b.say (λ e. absurd cc) (same_s
 counts_say run.Bytes a b p = not_counted _ a.say b.say (λ e. absurd cc) (same_say a b p)
 counts_say run.Held a b p = not_counted _ a.say b.say (λ e. absurd cc) (same_say a b p)
 counts_say run.Memory a b p = not_counted _ a.say b.say (λ e. absurd cc) (same_say a b p)
+
+-- ---- of the audit's limit
+
+raised_same : (f : ℕ) (a b : Faults) → HasBlame (run.Block (block.Full f)) a b → (b.disk ≡ a.disk) × (b.say ≡ a.say)
+raised_same f a b p = (same_disk (record a { full = b.full }) b p.1, same_say (record a { full = b.full }) b p.1)
+
+pub within_disk : (last : ℕ) (fault then : RunFault) (a b : Faults) → IsWithin last fault then → HasBlame fault a b → CountedAt (run_status then ≡ DiskFault) a.disk b.disk
+within_disk last fault then a b (inl within) p = subst (λ (x : RunFault). CountedAt (run_status x ≡ DiskFault) a.disk b.disk) (sym within.0) (counts_disk fault a b p)
+within_disk last fault then a b (inr memory) p =
+    let raised = raised_same memory.1.0 a b (subst (λ (x : RunFault). HasBlame x a b) memory.1.1 p) in
+    subst (λ (x : RunFault). CountedAt (run_status x ≡ DiskFault) a.disk b.disk) (sym memory.0) (not_counted _ a.disk b.disk (λ e. absurd cc) raised.0)
+
+pub within_say : (last : ℕ) (fault then : RunFault) (a b : Faults) → IsWithin last fault then → HasBlame fault a b → CountedAt (run_status then ≡ SayFault) a.say b.say
+within_say last fault then a b (inl within) p = subst (λ (x : RunFault). CountedAt (run_status x ≡ SayFault) a.say b.say) (sym within.0) (counts_say fault a b p)
+within_say last fault then a b (inr memory) p =
+    let raised = raised_same memory.1.0 a b (subst (λ (x : RunFault). HasBlame x a b) memory.1.1 p) in
+    subst (λ (x : RunFault). CountedAt (run_status x ≡ SayFault) a.say b.say) (sym memory.0) (not_counted _ a.say b.say (λ e. absurd cc) raised.1)
+
+pub within_input : (last : ℕ) (fault then : RunFault) → IsWithin last fault then → then ≡ run.Input → fault ≡ run.Input
+within_input last fault then (inl within) is = sym within.0 ∙ is
+within_input last fault then (inr memory) is = absurd (memory_not_input (sym memory.0 ∙ is))
+  where
+    memory_not_input : run.Memory ≡ run.Input → ⊥
+    memory_not_input e = absurd cc
+
+pub input_within : (last : ℕ) (fault then : RunFault) → IsWithin last fault then → fault ≡ run.Input → then ≡ run.Input
+input_within last fault then (inl within) is = within.0 ∙ is
+input_within last fault then (inr memory) is = absurd (full_not_input memory.1.0 (sym memory.1.1 ∙ is))
+  where
+    full_not_input : (f : ℕ) → run.Block (block.Full f) ≡ run.Input → ⊥
+    full_not_input f e = absurd cc
 
 -- ---- from what is held
 

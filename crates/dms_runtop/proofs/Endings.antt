@@ -115,6 +115,18 @@ run_held_is run.Bytes e = absurd cc
 run_held_is run.Held e = refl
 run_held_is run.Memory e = absurd cc
 
+pub run_full_is : (fault : RunFault) (n : ℕ) → run_status fault ≡ Limit (limit.AuditFile n) → fault ≡ run.Block (block.Full n)
+run_full_is (run.Block block.Disk) n e = absurd cc
+run_full_is (run.Block block.Memory) n e = absurd cc
+run_full_is (run.Block (block.Full f)) n e = let same : f ≡ n = cc in ap (λ (k : ℕ). run.Block (block.Full k)) same
+run_full_is (run.Block (block.Damaged f k)) n e = absurd (damaged_not_limit f k (limit.AuditFile n) e)
+run_full_is (run.Block block.Say) n e = absurd cc
+run_full_is run.Input n e = absurd cc
+run_full_is run.Lines n e = absurd cc
+run_full_is run.Bytes n e = absurd cc
+run_full_is run.Held n e = absurd cc
+run_full_is run.Memory n e = absurd cc
+
 pub run_of_script : (fault : RunFault) → IsOfScript (run_status fault)
 run_of_script (run.Block block.Disk) = tt
 run_of_script (run.Block block.Memory) = tt

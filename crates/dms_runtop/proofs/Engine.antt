@@ -1,7 +1,8 @@
 -- A run of an engine over a running database, as a run of a script over its files.
-use Rattle.std.proofs.Common.{◌⊎◌, ℕ, ◌≡◌, ◌≤◌, ◌<◌, ◌+◌, ◌^◌, ◌∙◌, Bool, true, false, cond, IsTrue, List, [], ◌∷◌, map, length, Option, Some, None, refl, sym, ap, subst, arith}
+use Rattle.std.proofs.Common.{◌⊎◌, inl, inr, ℕ, ◌≡◌, ◌≤◌, ◌<◌, ◌+◌, ◌^◌, ◌∙◌, Bool, true, false, cond, IsTrue, List, [], ◌∷◌, map, length, Option, Some, None, refl, sym, ap, subst, arith}
 use Rattle.dms_base.specs.Causes.{Rose}
 use Rattle.dms_block.specs.Counts.{Faults}
+use Rattle.dms_block.specs.declared.block_fault.BlockFault.{BlockFault}
 use Rattle.dms_block.specs.declared.block_fault.BlockFault.TheVariants as block
 use Rattle.dms_block.specs.Texts.{Prints, PrintsPrefix}
 use Rattle.dms_desc.specs.Shape.{Described}
@@ -38,7 +39,7 @@ use Rattle.dms_run.specs.States.{EndsWith, LivesEndWith}
 use Rattle.dms_run.specs.Stops.{RunLeaves, last_quiet_number}
 use Rattle.dms_status.specs.declared.status.Status.{Status}
 use Rattle.dms_status.specs.declared.status.Status.TheVariants.{Ok, Memory}
-use Rattle.dms_runtop.specs.Faults.{run_status}
+use Rattle.dms_runtop.specs.Faults.{IsWithin, run_status}
 use Rattle.dms_runtop.specs.Over.{BeginsAt, ClosesOver, FilesEndWith, RunsOver, ScriptRuns, seen_site}
 use Rattle.dms_runtop.specs.Statuses.{IsOfClosing}
 use Rattle.dms_runtop.proofs.Ran.{moments_under, ends_under, closed_under, moments_below, closing_below, ran_nothing, ran_failed, ran_closed}
@@ -66,6 +67,26 @@ told_text false x y same = refl
 -- there is room for one more number at the end of a script
 pub room_after : (d : Described) (db : Db) (next now : ℕ) (lines : List (List ℕ)) → next + 1000003 < 2 ^ 64 → KeepsLimits d db next lines → now ≡ (ended (script_run d db next lines).going.session).next → now + 1 < 2 ^ 64
 room_after d db next now lines room keeps is = omega (arith, room, keeps.few, is, next_law d db next lines)
+
+-- ---- a fault that isn't another
+
+full_not_say : (f : ℕ) → Block (block.Full f) ≡ Block block.Say → ⊥
+full_not_say f is = absurd cc
+
+memory_not_block : (fault : BlockFault) → run.Memory ≡ Block fault → ⊥
+memory_not_block fault is = absurd cc
+
+memory_not_lines : run.Memory ≡ run.Lines → ⊥
+memory_not_lines is = absurd cc
+
+memory_not_bytes : run.Memory ≡ run.Bytes → ⊥
+memory_not_bytes is = absurd cc
+
+memory_not_held : run.Memory ≡ run.Held → ⊥
+memory_not_held is = absurd cc
+
+memory_not_input : run.Memory ≡ run.Input → ⊥
+memory_not_input is = absurd cc
 
 -- ---- a run
 
@@ -119,11 +140,24 @@ module _ {S : Type 0} (g : Ghosts S) (d e e' : Described) (r r' : Running S) (sa
       → PrintsPrefix entry (said_of g r'.log) (answers_text d db r.next (raw_lines all)) → ((fault ≡ Block block.Say → ⊥) → SaidWhole entry (said_of g r'.log) events)
       → (fault ≡ run.Lines → PassesLines d db r.next (raw_lines all) entry (said_of g r'.log)) → (fault ≡ run.Bytes → PassesBytes d db r.next (raw_lines all) entry (said_of g r'.log))
       → (fault ≡ run.Held → PassesWaiting d db r.next (raw_lines all) entry (said_of g r'.log)) → (fault ≡ run.Input → CutInput d db r.next all left' entry (said_of g r'.log))
-      → ((f k : ℕ) → fault ≡ Block (block.Damaged f k) → ⊥) → ScriptRuns t d ps n db r.next all (seen_site g r.log.site) (seen_site g site) left' status
-  failed_over left' fault status site status_is site_is leaves part whole lines bytes waits cut damaged =
+      → ((f k : ℕ) → fault ≡ Block (block.Damaged f k) → ⊥) → ((f : ℕ) → fault ≡ Block (block.Full f) → f ≡ r'.log.end.limit) → ScriptRuns t d ps n db r.next all (seen_site g r.log.site) (seen_site g site) left' status
+  failed_over left' fault status site status_is site_is leaves part whole lines bytes waits cut damaged full =
       subst (λ (x : Status). ScriptRuns t d ps n db r.next all (seen_site g r.log.site) (seen_site g site) left' x) (sym status_is)
       (subst (λ (x : S). ScriptRuns t d ps n db r.next all (seen_site g r.log.site) (seen_site g x) left' (run_status fault)) (sym site_is)
-      (ran_failed t d ps n db r.next all (seen_site g r.log.site) (seen_site g r'.log.site) left' fault (moments_of leaves) part whole lines bytes waits cut damaged))
+      (ran_failed t d ps n db r.next all (seen_site g r.log.site) (seen_site g r'.log.site) left' fault (moments_of leaves) part whole lines bytes waits cut damaged (λ f is. full f is ∙ pace.limit ∙ b.limit_is)))
+
+  -- the same, where a full audit at another file counted as want of memory
+  pub within_over : (left' : Option (List ℕ)) (last : ℕ) (fault then : RunFault) (status : Status) (site : S) → IsWithin last fault then → last ≡ r'.log.end.limit → status ≡ run_status then → site ≡ r'.log.site
+      → Runs (lifted e (held g r).clock) (lifted e' (held g r').clock) (RunLeaves (held g r).whole entry (map (point_of e) (held g r).points) n db r.next events)
+      → PrintsPrefix entry (said_of g r'.log) (answers_text d db r.next (raw_lines all)) → ((fault ≡ Block block.Say → ⊥) → SaidWhole entry (said_of g r'.log) events)
+      → (fault ≡ run.Lines → PassesLines d db r.next (raw_lines all) entry (said_of g r'.log)) → (fault ≡ run.Bytes → PassesBytes d db r.next (raw_lines all) entry (said_of g r'.log))
+      → (fault ≡ run.Held → PassesWaiting d db r.next (raw_lines all) entry (said_of g r'.log)) → (fault ≡ run.Input → CutInput d db r.next all left' entry (said_of g r'.log))
+      → ((f k : ℕ) → fault ≡ Block (block.Damaged f k) → ⊥) → ScriptRuns t d ps n db r.next all (seen_site g r.log.site) (seen_site g site) left' status
+  within_over left' last fault then status site (inl within) last_is status_is site_is leaves part whole lines bytes waits cut damaged =
+      failed_over left' fault status site (status_is ∙ ap run_status within.0) site_is leaves part whole lines bytes waits cut damaged (λ f is. within.1 f is ∙ last_is)
+  within_over left' last fault then status site (inr memory) last_is status_is site_is leaves part whole lines bytes waits cut damaged =
+      failed_over left' run.Memory status site (status_is ∙ ap run_status memory.0) site_is leaves part (λ unsaid. whole (λ is. full_not_say memory.1.0 (sym memory.1.1 ∙ is)))
+      (λ is. absurd (memory_not_lines is)) (λ is. absurd (memory_not_bytes is)) (λ is. absurd (memory_not_held is)) (λ is. absurd (memory_not_input is)) (λ f k is. memory_not_block (block.Damaged f k) is) (λ f is. absurd (memory_not_block (block.Full f) is))
 
   -- the script was carried out, and then the database closed
   pub closed_over : (left' : Option (List ℕ)) (status : Status) (site : S) → (status ≡ Ok) ⊎ IsOfClosing status → ClosesOver g r' status site → (IsTrue g.tells_said → g.said site ≡ g.said r'.log.site)

@@ -134,7 +134,7 @@ module _ {S : Type 0} (g : Ghosts S) (old : S) (s : DatabaseState) where
   undone_open : (fault : OpenFault) → IsNoRefusal fault → IsUndone (open_status fault)
   undone_open fault (inl (inl is)) = subst (λ (f : OpenFault). IsUndone (open_status f)) (sym is) tt
   undone_open fault (inl (inr is)) = subst (λ (f : OpenFault). IsUndone (open_status f)) (sym is) tt
-  undone_open fault (inr is) = subst (λ (f : OpenFault). IsUndone (open_status f)) (sym is) tt
+  undone_open fault (inr is) = subst (λ (f : OpenFault). IsUndone (open_status f)) (sym is) refl
 
   pub runs_unopened : NextIsOne → (fault : OpenFault) (new : S) → ((total first : ℕ) → IsOpenable total first (g.files old) → IsNoRefusal fault) → ReopensSince g old new → g.said new ≡ g.said old → (left' : Option (List ℕ))
       → HoldsState (g.files old) s → (next : ℕ) → HasNext (g.files old) next → (all : List ℕ) → RunsAlong g s next all old new left' (open_status fault)

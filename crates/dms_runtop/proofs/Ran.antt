@@ -43,7 +43,7 @@ use Rattle.dms_status.specs.declared.status.Status.TheVariants.{Ok, Limit, Input
 use Rattle.dms_runtop.specs.Faults.{run_status}
 use Rattle.dms_runtop.specs.Over.{ReachesFiles, PassesScript, ScriptRuns, SiteSeen}
 use Rattle.dms_runtop.specs.Statuses.{IsOfAuditLimit, IsOfClosing}
-use Rattle.dms_runtop.proofs.Endings.{run_not_ok, run_input, run_damaged, run_lines_is, run_bytes_is, run_held_is, ok_not_limit, closing_input, closing_damaged, IsUndone, undone_ok, undone_limit, undone_input, undone_damaged}
+use Rattle.dms_runtop.proofs.Endings.{run_not_ok, run_input, run_damaged, run_lines_is, run_bytes_is, run_held_is, run_full_is, ok_not_limit, closing_input, closing_damaged, IsUndone, undone_ok, undone_limit, undone_input, undone_damaged}
 use Rattle.dms_run.specs.Files.{points_seen, stop_seen, RunLeavesFiles}
 use Rattle.dms_run.proofs.Lowering.{files_left, leaves_files}
 use Rattle.dms_run.proofs.Words.{blocks_seen, blocks_are, lives_seen, lives_are}
@@ -137,7 +137,7 @@ module _ (t : Telling) (d : Described) (ps : List DescribedPoint) (n : ℕ) (db 
   events = script_events d db next (raw_lines all)
 
   pub of_audit : (k : LimitKind) → IsOfAuditLimit k → PassesScript k d db next (raw_lines all) a.said b.said
-  of_audit (AuditFile f) is = tt
+  of_audit (AuditFile f) is = inr is
   of_audit Lines is = absurd is
   of_audit Bytes is = absurd is
   of_audit limits.Held is = absurd is
@@ -161,26 +161,26 @@ module _ (t : Telling) (d : Described) (ps : List DescribedPoint) (n : ℕ) (db 
       → PrintsPrefix a.said b.said (answers_text d db next (raw_lines all)) → ((fault ≡ Block Say → ⊥) → SaidWhole a.said b.said events)
       → (fault ≡ run.Lines → PassesLines d db next (raw_lines all) a.said b.said) → (fault ≡ run.Bytes → PassesBytes d db next (raw_lines all) a.said b.said)
       → (fault ≡ run.Held → PassesWaiting d db next (raw_lines all) a.said b.said) → (fault ≡ run.Input → CutInput d db next all left' a.said b.said)
-      → ((f k : ℕ) → fault ≡ Block (block.Damaged f k) → ⊥) → ScriptRuns t d ps n db next all a b left' (run_status fault)
-  ran_failed fault moments part whole lines bytes waits cut damaged = record {
+      → ((f k : ℕ) → fault ≡ Block (block.Damaged f k) → ⊥) → ((f : ℕ) → fault ≡ Block (block.Full f) → f ≡ d.files) → ScriptRuns t d ps n db next all a b left' (run_status fault)
+  ran_failed fault moments part whole lines bytes waits cut damaged full = record {
     every_moment = moments;
     at_ok = λ is. absurd (run_not_ok fault is);
     prints = λ is. absurd (run_not_ok fault is);
     part = part;
     whole_answers = λ unsaid. whole (λ is. unsaid (ap run_status is));
     within = λ is. absurd (run_not_ok fault is);
-    limit = λ k is. passes fault k is lines bytes waits;
+    limit = λ k is. passes fault k is lines bytes waits full;
     input_cut = λ is. cut (run_input fault is);
     undamaged = λ f k is high. damaged f k (run_damaged fault f k is);
   }
     where
       passes : (fault : RunFault) (k : LimitKind) → run_status fault ≡ Limit k → (fault ≡ run.Lines → PassesLines d db next (raw_lines all) a.said b.said)
           → (fault ≡ run.Bytes → PassesBytes d db next (raw_lines all) a.said b.said) → (fault ≡ run.Held → PassesWaiting d db next (raw_lines all) a.said b.said)
-          → PassesScript k d db next (raw_lines all) a.said b.said
-      passes fault (AuditFile f) is lines bytes waits = tt
-      passes fault Lines is lines bytes waits = lines (run_lines_is fault is)
-      passes fault Bytes is lines bytes waits = bytes (run_bytes_is fault is)
-      passes fault limits.Held is lines bytes waits = waits (run_held_is fault is)
+          → ((f : ℕ) → fault ≡ Block (block.Full f) → f ≡ d.files) → PassesScript k d db next (raw_lines all) a.said b.said
+      passes fault (AuditFile f) is lines bytes waits full = inl (full f (run_full_is fault f is))
+      passes fault Lines is lines bytes waits full = lines (run_lines_is fault is)
+      passes fault Bytes is lines bytes waits full = bytes (run_bytes_is fault is)
+      passes fault limits.Held is lines bytes waits full = waits (run_held_is fault is)
 
   -- the script was carried out, and the database closed, or not closed
   pub ran_closed : (status : Status) → (status ≡ Ok) ⊎ IsOfClosing status → Runs a.clock b.clock (RunLeavesFiles t d a.said ps n db next events)

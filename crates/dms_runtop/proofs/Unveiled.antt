@@ -33,7 +33,7 @@ under_bytes g one o desc formed under bytes bytes_are st =
 module _ {S V : Type 0} (g : Ghosts S) (gv : Ghosts V) (of : V → S) (known : Bool) (tells : IsTrue g.tells → IsTrue known → IsTrue gv.tells) (seen : (v : V) → seen_site gv v ≡ seen_site g (of v))
     (one : (d e : Described) → IsWellFormed d → IsWellFormed e → spelling d ≡ spelling e → d ≡ e) (o : Opened S) (desc : Described) (formed : IsWellFormed desc) (under : IsUnderSchema o.schema.items desc)
     (bytes : List ℕ) (bytes_are : bytes ≡ spelling desc)
-    (r : Running V) (site_is : of r.log.site ≡ o.log.site) (total_is : r.log.end.total ≡ o.log.end.total) (first_is : r.log.first ≡ o.log.first) (next_is : r.next ≡ o.next)
+    (r : Running V) (site_is : of r.log.site ≡ o.log.site) (total_is : r.log.end.total ≡ o.log.end.total) (first_is : r.log.first ≡ o.log.first) (next_is : r.next ≡ o.next) (limit_is : r.log.end.limit ≡ desc.files)
     (opened : (files : Files) → RunsFrom files o.point o.next bytes o.counts.items (view_of g o.log) → TellsOpened (telling_of o.log.end.total o.log.first) files o.next (held gv r)) where
   abbrev t : Telling
   t = telling_of o.log.end.total o.log.first
@@ -48,6 +48,7 @@ module _ {S V : Type 0} (g : Ghosts S) (gv : Ghosts V) (of : V → S) (known : B
         tells = tells told knows;
         total_is = total_is;
         first_is = first_is;
+        limit_is = limit_is ∙ ap (λ (d : Described). d.files) (same_description one o.schema.items desc st.desc formed under st.formed st.spelled);
         points_are = ap (map (point_of st.desc)) to.points_are;
         state = state;
         spells = spells_last st.desc (points (view_of gv r.log)) (points_of t st.files) (held gv r).content n db state to.points_are to.content_is;

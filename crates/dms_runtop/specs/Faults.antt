@@ -1,5 +1,5 @@
 -- The status that each fault ends with.
-use Rattle.std.specs.Prelude.{ℕ, nat_lt, if◌then◌else◌}
+use Rattle.std.specs.Prelude.{ℕ, ◌≡◌, ◌⊎◌, nat_lt, if◌then◌else◌}
 use Rattle.dms_audfile.specs.declared.fault.AudFault.TheVariants as aud
 use Rattle.dms_block.specs.declared.block_fault.BlockFault.{BlockFault}
 use Rattle.dms_block.specs.declared.block_fault.BlockFault.TheVariants as block
@@ -32,6 +32,10 @@ run_status run.Lines = Limit limit.Lines
 run_status run.Bytes = Limit limit.Bytes
 run_status run.Held = Limit limit.Held
 run_status run.Memory = Memory
+
+-- A full audit is one at the last file that its limit allows; where another file were named, that counts as want of memory.
+abbrev pub IsWithin : ℕ → RunFault → RunFault → Type 0
+IsWithin last fault told = ((told ≡ fault) × ((f : ℕ) → fault ≡ run.Block (block.Full f) → f ≡ last)) ⊎ ((told ≡ run.Memory) × ((f : ℕ) × (fault ≡ run.Block (block.Full f))))
 
 -- of a fault of an opening
 abbrev pub open_status : OpenFault → Status

@@ -1,5 +1,5 @@
 -- A run of a script over a database that was opened.
-use Rattle.std.specs.Prelude.{ℕ, ◌≡◌, ◌+◌, ◌<◌, ◌^◌, List, length, map, Some, None, IsTrue, ⊤, if◌then◌else◌}
+use Rattle.std.specs.Prelude.{ℕ, ◌≡◌, ◌⊎◌, ◌+◌, ◌<◌, ◌^◌, List, length, map, Some, None, IsTrue, if◌then◌else◌}
 use Rattle.std.specs.declared.option.Option.{Option}
 use Rattle.dms_moments.specs.Moments.{Clock, Runs}
 use Rattle.dms_block.specs.Texts.{Prints, PrintsPrefix}
@@ -49,9 +49,10 @@ pub record FilesEndWith (t : Telling) (desc : Described) (n : ℕ) (db : Db) (ne
   pub next_is : next_in t s.files ≡ next
   pub only : Only s.files s.clock
 
--- The script passes this limit: what the whole lines before that place answer was printed. Of the audit's limit the script says nothing.
+-- The script passes this limit: what the whole lines before that place answer was printed. The audit may go on up to file FILES of the description for
+-- what a script changes, and up to file 9,999 where the database is opened and closed.
 abbrev pub PassesScript : LimitKind → Described → Db → ℕ → List (List ℕ) → Option (List ℕ) → Option (List ℕ) → Type 0
-PassesScript (AuditFile f) desc db first lines before after = ⊤
+PassesScript (AuditFile f) desc db first lines before after = (f ≡ desc.files) ⊎ (f ≡ 9999)
 PassesScript Lines desc db first lines before after = PassesLines desc db first lines before after
 PassesScript Bytes desc db first lines before after = PassesBytes desc db first lines before after
 PassesScript Held desc db first lines before after = PassesWaiting desc db first lines before after
@@ -86,11 +87,12 @@ pub record ScriptRuns (t : Telling) (desc : Described) (ps : List DescribedPoint
 
 module _ {S : Type 0} (g : Ghosts S) where
   -- A run of a script begins with this database: its site tells its files, its points are these, which end with database db at point n and are all
-  -- durable, its blocks spell that database, and there is room for the numbers of a script.
+  -- durable, its blocks spell that database, there is room for the numbers of a script, and its audit may go on up to file FILES.
   pub record BeginsAt (r : Running S) (total first : ℕ) (ps : List DescribedPoint) (desc : Described) (n : ℕ) (db : Db) : Type 0 where
     pub tells : IsTrue g.tells
     pub total_is : r.log.end.total ≡ total
     pub first_is : r.log.first ≡ first
+    pub limit_is : r.log.end.limit ≡ desc.files
     pub points_are : map (point_of desc) (held g r).points ≡ points_seen desc ps
     pub state : LivesEndWith desc ps n db
     pub spells : spelled desc (held g r).content ≡ Some db

@@ -1,5 +1,5 @@
 -- The statuses of a run, by where they come from.
-use Rattle.std.specs.Prelude.{ℕ, ◌<◌, ◌≤◌, ⊤}
+use Rattle.std.specs.Prelude.{ℕ, ◌≡◌, ◌<◌, ◌≤◌, ⊤}
 use Rattle.dms_status.specs.declared.status.NeedFault.{NeedFault}
 use Rattle.dms_status.specs.declared.status.NeedFault.TheVariants.{NoDescription, AuditMissing, AuditUnsealed, AuditForeign, NoSuchPoint, Voided, DumpPending}
 use Rattle.dms_status.specs.declared.status.LimitKind.{LimitKind}
@@ -7,9 +7,9 @@ use Rattle.dms_status.specs.declared.status.LimitKind.TheVariants.{AuditFile, Li
 use Rattle.dms_status.specs.declared.status.Status.{Status}
 use Rattle.dms_status.specs.declared.status.Status.TheVariants.{Ok, BadWords, SchemaRefused, NoDatabase, Needed, InputFault, Memory, Limit, Damaged, SayFault, DiskFault, Exists}
 
--- a limit of the audit
+-- the last audit file
 abbrev pub IsOfAuditLimit : LimitKind → Type 0
-IsOfAuditLimit (AuditFile f) = ⊤
+IsOfAuditLimit (AuditFile f) = f ≡ 9999
 IsOfAuditLimit Lines = ⊥
 IsOfAuditLimit Bytes = ⊥
 IsOfAuditLimit Held = ⊥

@@ -1,7 +1,7 @@
 //! The status that each fault ends with.
 
 ghost use Rattle.std.specs.Prelude.{◌≡◌};
-ghost use Rattle.dms_runtop.specs.Faults.{block_status, damaged_status, run_status, open_status};
+ghost use Rattle.dms_runtop.specs.Faults.{IsWithin, block_status, damaged_status, run_status, open_status};
 
 use dms_audfile::AudFault;
 use dms_block::BlockFault;
@@ -48,6 +48,16 @@ pub fn status_of_run(fault: RunFault) -> Status
         RunFault::Bytes => Status::Limit(LimitKind::Bytes),
         RunFault::Held => Status::Limit(LimitKind::Held),
         RunFault::Memory => Status::Memory,
+    }
+}
+
+/// The fault of a run whose audit may go on up to file `last`: where another file were named as full, that counts as want of memory.
+pub(crate) fn fault_within(fault: RunFault, last: u32) -> RunFault
+    ensures { IsWithin last fault result }
+{
+    match fault {
+        RunFault::Block(BlockFault::Full(file)) if file != last => RunFault::Memory,
+        _ => fault,
     }
 }
 

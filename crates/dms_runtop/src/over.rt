@@ -17,7 +17,7 @@ ghost use Rattle.dms_wal.specs.Database.{held};
 ghost use Rattle.dms_wal.specs.Lifting.{lifted};
 
 use crate::ended::Ended;
-use crate::ending::{status_of_block, status_of_run};
+use crate::ending::{fault_within, status_of_block, status_of_run};
 use dms_desc::Description;
 use dms_feed::Feed;
 use dms_run::run_script;
@@ -83,6 +83,7 @@ fn run_engine<S: Site, I: Source>(
         }
         Err(fault) => {
             let running = running_under(engine);
+            let fault = fault_within(fault, running.log.end.limit);
             Ended {
                 status: status_of_run(fault),
                 site: running.into_site(),

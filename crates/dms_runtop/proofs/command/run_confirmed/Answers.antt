@@ -1,17 +1,16 @@
-use Rattle.std.proofs.Common.{rules, ◌≡◌, ◌∙◌, ap, sym, subst}
+use Rattle.std.proofs.Common.{rules, ◌≡◌, ◌∙◌, ap, subst}
 use Rattle.dms_moments.specs.Moments.{Steps}
 use Rattle.dms_site.specs.Files.{Same}
 use Rattle.dms_status.specs.declared.status.LimitKind.TheVariants.{AuditFile}
 use Rattle.dms_status.specs.declared.status.Status.TheVariants.{Limit}
-use Rattle.dms_runtop.proofs.Instead.{full_not_say, full_undone, opened_instead}
+use Rattle.dms_runtop.proofs.Instead.{full_place, opened_instead}
 use Rattle.dms_runtop.proofs.command.run_confirmed.Goals as goal
 
 pub returns-in-Limit-AuditFile-clause-ran : goal.returns-in-Limit-AuditFile-clause-ran
 returns-in-Limit-AuditFile-clause-ran g c =
     let was : c.run_opened-ended.result.status ≡ Limit (AuditFile c.in-Limit-AuditFile.limit) = search rules in
     opened_instead g.S.Site g.met.S.Site.counts_now c.args.opened c.run_opened-ended.result.site c.status_of_full-status.new.site g.K.Knows.known _ _ c.run_opened-ended.result.status c.status_of_full-status.result
-    (λ say. full_not_say c.in-Limit-AuditFile.limit (sym was ∙ say))
-    (full_undone c.in-Limit-AuditFile.limit c.status_of_full-status.result c.status_of_full-status.ensures.kind)
+    (full_place c.in-Limit-AuditFile.limit c.run_opened-ended.result.status c.status_of_full-status.result was c.status_of_full-status.ensures.kind)
     (subst (λ x. Steps Same (g.S.Site.clock x) (g.S.Site.clock c.status_of_full-status.new.site)) c.into_site-site.ensures c.status_of_full-status.ensures.moments)
     (c.status_of_full-status.ensures.said ∙ ap g.S.Site.said c.into_site-site.ensures)
     c.run_opened-ended.ensures.ran

@@ -1,8 +1,8 @@
-use Rattle.std.proofs.Common.{◌≡◌, ◌<◌, ◌∙◌, sym, subst}
+use Rattle.std.proofs.Common.{◌<◌, sym, subst}
 use Rattle.dms_status.specs.declared.status.Status.TheVariants.{Memory}
 use Rattle.dms_runtop.specs.Command.{RunsCommand}
 use Rattle.dms_runtop.proofs.Guarding.{refused_counts}
-use Rattle.dms_runtop.proofs.Instead.{command_instead, disk_not_say}
+use Rattle.dms_runtop.proofs.Instead.{command_instead, refused_place}
 use Rattle.dms_runtop.proofs.command.run_guarded.Goals as goal
 
 pub returns-then-refused-gt0-clause-ran : goal.returns-then-refused-gt0-clause-ran
@@ -10,7 +10,7 @@ returns-then-refused-gt0-clause-ran g c =
     let ended = c.run_found-ended.ensures in
     let counted = refused_counts c.run_found-ended.result.status (g.S.Site.disk_faults c.args.site) (g.S.Site.disk_faults c.run_found-ended.result.site.site) c.run_found-ended.result.site.refused ended.same.counted
     (subst (λ x. 0 < x.refused) c.into_site-site.ensures c.if-refused-gt0.true) ended.disk in
-    command_instead g.S.Site g.state c.args.site c.into_site-site.result.site _ _ c.run_found-ended.result.status Memory (λ say. disk_not_say (sym counted.0 ∙ say)) tt
+    command_instead g.S.Site g.state c.args.site c.into_site-site.result.site _ _ c.run_found-ended.result.status Memory (refused_place c.run_found-ended.result.status counted.0)
     (subst (λ x. RunsCommand g.S.Site g.state c.args.site x.site (g.I.Source.left c.args.source.now) (g.I.Source.left c.run_found-ended.new.source) c.run_found-ended.result.status) (sym c.into_site-site.ensures)
     (λ tells s is next has room all held. let r = ended.ran tells s is next has room all held in record { total = r.total; first = r.first; trail = r.trail; runs = r.runs }))
 

@@ -6,13 +6,13 @@ use Rattle.dms_runner.specs.declared.run.RunFault.TheVariants.{Bytes, Held, Inpu
 use Rattle.dms_wal.specs.declared.running.Running.{Running}
 use Rattle.dms_runtop.specs.Faults.{run_status}
 use Rattle.dms_runtop.specs.Statuses.{IsOfScript}
-use Rattle.dms_runtop.proofs.Counted.{counts_disk, counts_say, left_nothing, held_nothing, on_upto, on_status, no_error, an_error, error_is}
+use Rattle.dms_runtop.proofs.Counted.{within_disk, within_say, within_input, input_within, left_nothing, held_nothing, on_upto, on_status, no_error, an_error, error_is}
 use Rattle.dms_runtop.proofs.Endings.{closing_say, closing_input, run_of_script, run_input}
 use Rattle.dms_desc.specs.Shape.{described}
 use Rattle.dms_run.specs.Starting.{BeginsWith}
 use Rattle.dms_runtop.specs.Over.{ClosesOver}
 use Rattle.dms_runtop.proofs.Ran.{db_under, state_under, all_durable}
-use Rattle.dms_runtop.proofs.Engine.{no_damage, failed_over, closed_over}
+use Rattle.dms_runtop.proofs.Engine.{no_damage, within_over, closed_over}
 use Rattle.dms_wal.specs.Database.{held}
 use Rattle.dms_runtop.proofs.over.run_engine.Goals as goal
 
@@ -59,8 +59,9 @@ returns-in-Err-clause-ran g c = λ total first ps n db all b left.
       state = state_under (described e.desc) (described e.store.desc) (held g.S.Site r) ps n db e.under b.points_are b.state;
       durable = all_durable (described e.store.desc) (held g.S.Site r) b.durable;
     } in
-    failed_over g.S.Site (described e.desc) (described e.store.desc) (described e'.store.desc) r r' e.under (c.in-Err.ensures.lasts.desc ∙ e.under) c.in-Err.ensures.lasts.same.1 total first ps n db all b
-    (g.I.Source.left c.run_script.new.source) c.in-Err.fault c.status_of_run.result c.into_site.result c.status_of_run.ensures
+    within_over g.S.Site (described e.desc) (described e.store.desc) (described e'.store.desc) r r' e.under (c.in-Err.ensures.lasts.desc ∙ e.under) c.in-Err.ensures.lasts.same.1 total first ps n db all b
+    (g.I.Source.left c.run_script.new.source) c.running_under-running-in-Err.result.log.end.limit c.in-Err.fault c.fault_within-fault.result c.status_of_run.result c.into_site.result c.fault_within-fault.ensures
+    (ap (λ (x : Running g.row.S.Denot). x.log.end.limit) c.running_under-running-in-Err.ensures) c.status_of_run.ensures
     (c.into_site.ensures ∙ ap (λ (x : Running g.row.S.Denot). x.log.site) c.running_under-running-in-Err.ensures)
     (c.in-Err.ensures.every_moment n db r.next all starts fed)
     (c.in-Err.ensures.part db r.next all stands b.room fed)
@@ -88,24 +89,24 @@ returns-in-Ok-clause-same g c =
     (subst (λ (r : Running g.row.S.Denot). g.S.Site.same_site r.log.site c.close_over.result.site) c.running_under-running.ensures c.close_over.ensures.same)
 
 pub returns-in-Err-clause-statuses : goal.returns-in-Err-clause-statuses
-returns-in-Err-clause-statuses g c = inr (subst IsOfScript (sym c.status_of_run.ensures) (run_of_script c.in-Err.fault))
+returns-in-Err-clause-statuses g c = inr (subst IsOfScript (sym c.status_of_run.ensures) (run_of_script c.fault_within-fault.result))
 
 pub returns-in-Err-clause-disk : goal.returns-in-Err-clause-disk
 returns-in-Err-clause-disk g c =
     on_status _ _ DiskFault _ _ c.status_of_run.ensures
     (on_upto _ _ _ _ (ap g.S.Site.disk_faults c.into_site.ensures ∙ ap (λ (r : Running g.row.S.Denot). g.S.Site.disk_faults r.log.site) c.running_under-running-in-Err.ensures)
-    (counts_disk c.in-Err.fault _ _ c.in-Err.ensures.lasts.cause))
+    (within_disk _ c.in-Err.fault c.fault_within-fault.result _ _ c.fault_within-fault.ensures c.in-Err.ensures.lasts.cause))
 
 pub returns-in-Err-clause-say : goal.returns-in-Err-clause-say
 returns-in-Err-clause-say g c =
     on_status _ _ SayFault _ _ c.status_of_run.ensures
     (on_upto _ _ _ _ (ap g.S.Site.say_faults c.into_site.ensures ∙ ap (λ (r : Running g.row.S.Denot). g.S.Site.say_faults r.log.site) c.running_under-running-in-Err.ensures)
-    (counts_say c.in-Err.fault _ _ c.in-Err.ensures.lasts.cause))
+    (within_say _ c.in-Err.fault c.fault_within-fault.result _ _ c.fault_within-fault.ensures c.in-Err.ensures.lasts.cause))
 
 pub returns-in-Err-clause-input : goal.returns-in-Err-clause-input
 returns-in-Err-clause-input g c = record {
   later = c.in-Err.ensures.taken;
-  failed = λ is. c.in-Err.ensures.input (an_error c.in-Err.fault Input (run_input c.in-Err.fault (sym c.status_of_run.ensures ∙ is)));
+  failed = λ is. c.in-Err.ensures.input (an_error c.in-Err.fault Input (within_input _ c.in-Err.fault c.fault_within-fault.result c.fault_within-fault.ensures (run_input c.fault_within-fault.result (sym c.status_of_run.ensures ∙ is))));
   once = c.in-Err.ensures.once;
-  clean = λ none. c.in-Err.ensures.clean (λ is. none (c.status_of_run.ensures ∙ ap run_status (error_is c.in-Err.fault Input is)));
+  clean = λ none. c.in-Err.ensures.clean (λ is. none (c.status_of_run.ensures ∙ ap run_status (input_within _ c.in-Err.fault c.fault_within-fault.result c.fault_within-fault.ensures (error_is c.in-Err.fault Input is))));
 }
